@@ -1,0 +1,3 @@
+pub mod BankRuns
+pub mod Openings
+pub mod Simulates

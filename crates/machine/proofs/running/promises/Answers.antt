@@ -1,0 +1,10 @@
+use Rattle.machine.proofs.running.promises.Goals as goal
+
+pub returns : goal.returns
+returns c = record {
+  rules = c.rules_are_kept.ensures _ c.requires.accepted;
+  states = λ some. c.states_connect.ensures _ c.requires.accepted some;
+  clear = λ w r. c.accepted_code_is_clear.ensures _ w c.requires.accepted r;
+  stays = λ w v n r e. c.accepted_code_stays_ready.ensures _ w v n c.requires.accepted r e;
+  bounded = c.requires.legal.bound;
+}

@@ -1,0 +1,4 @@
+pub mod BankRun
+pub mod BankStep
+pub mod Laws
+pub mod Twin

@@ -1,0 +1,13 @@
+//! The machine for accepted code: values without kinds in banks of their own, and no test of any instruction.
+//!
+//! `run` takes the checking machine's steps and meets no fault.
+#![tactic(auto)]
+
+pub mod banks;
+pub mod pile;
+mod step;
+mod running;
+
+pub use banks::Banks;
+pub use pile::{Pile, Row};
+pub use running::run;

@@ -1,0 +1,4 @@
+pub mod Runs
+pub mod Safety
+pub mod Stepping
+pub mod TagLists

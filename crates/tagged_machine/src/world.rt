@@ -1,0 +1,55 @@
+// What a run changes.
+#![tactic(auto)]
+
+ghost use Rattle.std.specs.Prelude.{◌≡◌, IfOk};
+ghost use Rattle.screen_lines.specs.State.{sent};
+ghost use Rattle.xcode.specs.Legal.{IsCode};
+ghost use Rattle.xcode.specs.Rules.{Accepted};
+
+use crate::laws::opening_is_ready;
+use crate::slots::Slots;
+use crate::stack::Stack;
+use screen_lines::Screen;
+use std::alloc::{AllocError, Global};
+use xcode::Code;
+
+/// The world of a run: the place of the next instruction, the slots, the stack of values with their kinds, and the
+/// screen.
+#[derive(Drop)]
+pub struct World {
+    pub place: usize,
+    pub slots: Slots,
+    pub stack: Stack,
+    pub screen: Screen,
+}
+
+impl World {
+    ghost use Rattle.tagged_machine.specs.Opening.{opening};
+    ghost use Rattle.tagged_machine.specs.Fits.{HasShape, IsReady};
+
+    /// The world from which a run of the code begins: place 0, all slots unset, nothing on the stack, and a blank
+    /// screen with the cursor before the first row. It takes the memory for slots and stack, so that only the screen
+    /// grows in a run. From this world accepted code may run.
+    pub fn opening(alloc: Global, code: &Code) -> Result<World, AllocError>
+        requires { IsCode code.now }
+        ensures opened { IfOk result (λ world. world ≡ opening code.now) }
+        ensures shaped { IfOk result (λ world. HasShape code.now world) }
+        ensures ready { IfOk result (λ world. Accepted code.now → IsReady code.now world) }
+    {
+        opening_is_ready();
+        Ok(World {
+            place: 0,
+            slots: Slots::new(alloc, code.slots as usize)?,
+            stack: Stack::new(alloc)?,
+            screen: Screen::new(alloc)?,
+        })
+    }
+
+    /// The bytes for printing, if the run ends here: the rows sent so far and those that are seen. The world stays as
+    /// it is.
+    pub fn finish(&self, alloc: Global) -> Result<Vec<u8>, AllocError>
+        ensures { IfOk result (λ bytes. bytes.items ≡ sent self.now.screen) }
+    {
+        self.screen.finish(alloc)
+    }
+}

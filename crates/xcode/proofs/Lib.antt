@@ -1,0 +1,4 @@
+pub mod AreaLists
+pub mod Keeping
+pub mod KindLists
+pub mod LegalProps

@@ -1,0 +1,9 @@
+-- What a refusal says.
+use Rattle.xcode.specs.declared.code.Code.{Code}
+use Rattle.xcode.specs.Rules.{FirstRefusal}
+use Rattle.xverify.specs.declared.verified.VerifyError.{VerifyError}
+use Rattle.xverify.specs.declared.verified.VerifyError.TheVariants.{Refused, NoMemory}
+
+abbrev pub Refuses : Code → VerifyError → Type 0
+Refuses code (Refused rule at) = FirstRefusal code rule at
+Refuses code NoMemory = Unit {0}

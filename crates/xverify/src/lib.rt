@@ -1,0 +1,13 @@
+//! The verifier of code files: `verify` says yes exactly where no rule fails at any place.
+//!
+//! The rules are definitions of the crate `xcode`; here they are tested place by place, each place once.
+#![tactic(auto)]
+
+mod flow;
+mod maps;
+mod rules;
+pub mod verified;
+mod verifying;
+
+pub use verified::{Verified, VerifyError};
+pub use verifying::verify;
