@@ -1,0 +1,5 @@
+pub mod Roll
+pub mod State
+pub mod Commands
+pub mod Shape
+pub mod Kept
