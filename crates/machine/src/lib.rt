@@ -5,8 +5,8 @@
 
 pub mod banks;
 pub mod pile;
-mod step;
 mod running;
+mod step;
 
 pub use banks::Banks;
 pub use pile::{Pile, Row};

@@ -79,9 +79,7 @@ fn print(banks: &mut Banks, kind: Kind) -> Result<(), AllocError>
             Ok(())
         }
         Kind::Logical => {
-            banks
-                .screen
-                .try_print(&shown_logical(*banks.truths.top()))?;
+            banks.screen.try_print(&shown_logical(*banks.truths.top()))?;
             let _ = banks.truths.pop();
             Ok(())
         }

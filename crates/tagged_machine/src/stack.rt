@@ -11,7 +11,6 @@ use std::alloc::{AllocError, Global};
 use std::marker::Model;
 use xvalue::{Kind, Value};
 
-
 /// The most values that any code's stack holds.
 pub const STACK_LIMIT: usize = 64;
 

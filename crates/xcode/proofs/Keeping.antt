@@ -103,10 +103,10 @@ area_self : (o : Option OpenArea) → same_area o o ≡ true
 area_self None = refl
 area_self (Some a) =
     and_true (a.table == a.table && same_number a.list a.list && a.order == a.order) (same_number a.filter a.filter)
-      (and_true (a.table == a.table && same_number a.list a.list) (a.order == a.order)
-        (and_true (a.table == a.table) (same_number a.list a.list) (eq_self a.table) (number_self a.list))
-        (eq_self a.order))
-      (number_self a.filter)
+    (and_true (a.table == a.table && same_number a.list a.list) (a.order == a.order)
+    (and_true (a.table == a.table) (same_number a.list a.list) (eq_self a.table) (number_self a.list))
+    (eq_self a.order))
+    (number_self a.filter)
 
 areas_self : (as' : List (Option OpenArea)) → same_areas as' as' ≡ true
 areas_self [] = refl

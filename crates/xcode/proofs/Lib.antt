@@ -1,4 +1,11 @@
 pub mod AreaLists
+pub mod CodeBytes
+pub mod CodeHeader
+pub mod CodeItems
+pub mod CodeLaws
+pub mod CodeParts
+pub mod CodeStates
 pub mod Keeping
 pub mod KindLists
 pub mod LegalProps
+pub mod Many

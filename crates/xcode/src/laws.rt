@@ -9,11 +9,9 @@ ghost use Rattle.xcode.specs.Rules.{Accepted};
 /// Accepted code keeps each rule at each place.
 pub fn rules_are_kept()
     ensures { (code : AnyCode) → Accepted code → KeepsRules code }
-{
-}
+{}
 
 /// In accepted code that isn't empty, the state at a place covers all that flows there.
 pub fn states_connect()
     ensures { (code : AnyCode) → Accepted code → 0 < length code.instructions → Connects code }
-{
-}
+{}

@@ -5,6 +5,15 @@
 #![tactic(auto)]
 
 pub mod code;
+mod codec_decode;
+mod codec_encode;
+mod codec_fields;
+mod codec_header;
+mod codec_items;
+mod codec_list;
+mod codec_parts;
+mod codec_states;
+pub mod fault;
 pub mod instr;
 pub mod items;
 pub mod kind_slots;
@@ -15,6 +24,10 @@ pub mod shape;
 pub mod state;
 
 pub use code::{Code, Filter, Map, Need, Proc};
+pub use codec_decode::{decode, one_file_each};
+pub use codec_encode::encode;
+pub use codec_list::list;
+pub use fault::CodeFault;
 pub use instr::Instr;
 pub use items::Items;
 pub use kind_slots::KindSlots;
@@ -22,3 +35,6 @@ pub use kind_stack::KindStack;
 pub use rule::Rule;
 pub use shape::{FieldShape, IndexShape, KeyPart, ListShape, Name, Shape, TableShape};
 pub use state::{AreaState, OpenArea, State};
+
+#[cfg(test)]
+mod codec_tests;

@@ -5,5 +5,5 @@ use Rattle.xverify.specs.declared.verified.VerifyError.{VerifyError}
 use Rattle.xverify.specs.declared.verified.VerifyError.TheVariants.{Refused, NoMemory}
 
 abbrev pub Refuses : Code → VerifyError → Type 0
-Refuses code (Refused rule at) = FirstRefusal code rule at
+Refuses code (Refused refused) = FirstRefusal code refused.rule refused.at
 Refuses code NoMemory = Unit {0}

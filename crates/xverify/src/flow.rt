@@ -43,7 +43,9 @@ pub fn flow(code: &Code, instr: Instr, state: &mut State) -> Result<(), AllocErr
     match instr {
         Instr::Constant(number) => {
             if (number as usize) < code.constants.len() {
-                state.stack.push(code.constants.get(number as usize).kind())?;
+                state
+                    .stack
+                    .push(code.constants.get(number as usize).kind())?;
             }
             Ok(())
         }

@@ -9,5 +9,5 @@ mod rules;
 pub mod verified;
 mod verifying;
 
-pub use verified::{Verified, VerifyError};
+pub use verified::{Refused, Verified, VerifyError};
 pub use verifying::verify;

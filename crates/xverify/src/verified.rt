@@ -7,6 +7,7 @@ ghost use Rattle.xcode.specs.Legal.{IsCode};
 ghost use Rattle.xcode.proofs.LegalProps.{IsConstant-prop, IsInstr-prop, RiseFrom-prop, MainIs-prop};
 ghost use Rattle.xcode.specs.Rules.{Accepted};
 
+use std::fmt;
 use xcode::{Code, Rule};
 
 /// A code that has a code file and that the verifier accepted.
@@ -17,10 +18,25 @@ pub struct Verified {
     pub ghost accepted: { Accepted code },
 }
 
-/// Why there is no answer of yes: a rule fails at a place, or memory ran out before that could be told.
+/// A rule that fails, and the place at which it does, counted from 0.
+#[derive(Clone, Copy, PartialEq, Eq, Debug)]
+pub struct Refused {
+    pub rule: Rule,
+    pub at: usize,
+}
+
+impl fmt::Display for Refused {
+    fn fmt<W: fmt::Write>(&self, f: &mut fmt::Formatter<W>) -> fmt::Result {
+        let rule = self.rule;
+        let at = self.at;
+        write!(f, "{rule:?} {at}")
+    }
+}
+
+/// Why there is no answer of yes: a rule fails, or memory ran out before that could be told.
 #[derive(Clone, Copy, PartialEq, Eq, Debug)]
 pub enum VerifyError {
-    Refused { rule: Rule, at: usize },
+    Refused(Refused),
     NoMemory,
 }
 

@@ -9,7 +9,7 @@ ghost use Rattle.xverify.specs.Verdict.{Refuses};
 
 use crate::flow::{flow, state_before};
 use crate::rules::refusal;
-use crate::verified::{Verified, VerifyError};
+use crate::verified::{Refused, Verified, VerifyError};
 use std::alloc::{AllocError, Global};
 use xcode::{Code, Rule, State};
 
@@ -52,7 +52,7 @@ pub fn verify(alloc: Global, code: Code) -> Result<Verified, VerifyError>
             return Err(VerifyError::NoMemory);
         };
         if let Some(rule) = finding.rule {
-            return Err(VerifyError::Refused { rule, at: place });
+            return Err(VerifyError::Refused(Refused { rule, at: place }));
         }
         incoming = finding.after;
     }

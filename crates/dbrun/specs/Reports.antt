@@ -1,0 +1,91 @@
+-- What a run of a code file reports.
+use Rattle.std.specs.Prelude.{◌≡◌, ◌<◌, ℕ, List, Bool, true, false, Option, Some, None, Ok, Err, length}
+use Rattle.screen_lines.specs.State.{sent}
+use Rattle.xcode.specs.declared.code.Code.{Code}
+use Rattle.xcode.specs.declared.fault.CodeFault.{CodeFault}
+use Rattle.xcode.specs.CodeFile.{CodeText}
+use Rattle.xcode.specs.CodeReading.{code_at}
+use Rattle.xcode.specs.Rules.{Accepted, FirstRefusal}
+use Rattle.tagged_machine.specs.declared.world.World.{World}
+use Rattle.tagged_machine.specs.declared.run.Outcome.{Outcome}
+use Rattle.tagged_machine.specs.Opening.{opening}
+use Rattle.tagged_machine.specs.Run.{Ran}
+use Rattle.machine.specs.declared.banks.Banks.{Banks}
+use Rattle.machine.specs.BankRun.{BankRan}
+use Rattle.dbrun.specs.declared.refusal.Fault.{Fault}
+use Rattle.dbrun.specs.declared.refusal.Fault.TheVariants.{Absent, TooLong, OfCode, OfRule}
+use Rattle.dbrun.specs.declared.refusal.Refusal.{Refusal}
+use Rattle.dbrun.specs.declared.refusal.Refusal.TheVariants.{Refused, Disk, Memory}
+use Rattle.xcode.specs.Listing.{lines_from}
+use Rattle.xverify.specs.declared.verified.Refused.{Refused as RefusedRule}
+use Rattle.dbrun.specs.Holding.{Rose}
+
+-- the checking machine ran the code from its opening, and the rows are what its last world sends
+pub record CheckedRun (code : Code) (budget : ℕ) (outcome : Outcome) (rows : List ℕ) : Type 0 where
+  pub last : World
+  pub ran : Ran code (opening code) budget outcome last
+  pub rows_are : rows ≡ sent last.screen
+
+-- the code is accepted, the machine without tags took the checking machine's steps from the opening, and the rows are
+-- what its last banks send
+pub record AcceptedRun (code : Code) (budget : ℕ) (outcome : Outcome) (rows : List ℕ) : Type 0 where
+  pub accepted : Accepted code
+  pub last : Banks
+  pub ran : BankRan code (opening code) budget outcome last
+  pub rows_are : rows ≡ sent last.screen
+
+abbrev pub RunIs : Bool → Code → ℕ → Outcome → List ℕ → Type 0
+RunIs true code budget outcome rows = CheckedRun code budget outcome rows
+RunIs false code budget outcome rows = AcceptedRun code budget outcome rows
+
+-- what the file may hold is the text of a code
+pub record IsCodeFile (holds : Option (List ℕ) → Type 0) (code : Code) : Type 0 where
+  pub bytes : List ℕ
+  pub held : holds (Some bytes)
+  pub text : CodeText bytes code
+
+-- a run of the code in the file
+pub record FileRun (holds : Option (List ℕ) → Type 0) (checked : Bool) (budget : ℕ) (outcome : Outcome) (rows : List ℕ) : Type 0 where
+  pub code : Code
+  pub file : IsCodeFile holds code
+  pub run : RunIs checked code budget outcome rows
+
+-- a file longer than 64 MiB, and one that is no code file by this fault
+pub record IsTooLong (holds : Option (List ℕ) → Type 0) : Type 0 where
+  pub bytes : List ℕ
+  pub held : holds (Some bytes)
+  pub long : 67108864 < length bytes
+
+pub record HasFault (holds : Option (List ℕ) → Type 0) (fault : CodeFault) : Type 0 where
+  pub bytes : List ℕ
+  pub held : holds (Some bytes)
+  pub faulty : code_at bytes ≡ Err fault
+
+-- a code file whose code is of some sort
+pub record HasCode (holds : Option (List ℕ) → Type 0) (sort : Code → Type 0) : Type 0 where
+  pub code : Code
+  pub file : IsCodeFile holds code
+  pub fits : sort code
+
+abbrev pub FaultIs : (Option (List ℕ) → Type 0) → Fault → Type 0
+FaultIs holds Absent = holds None
+FaultIs holds TooLong = IsTooLong holds
+FaultIs holds (OfCode fault) = HasFault holds fault
+FaultIs holds (OfRule refused) = HasCode holds (λ code. FirstRefusal code refused.rule refused.at)
+
+-- why there is no run: what is wrong with the file of that name, a device failure that was counted, or memory
+abbrev pub RefusalIs : (Option (List ℕ) → Type 0) → ℕ → ℕ → List ℕ → Refusal → Type 0
+RefusalIs holds before after name (Refused told fault) = (told.now ≡ name) × FaultIs holds fault
+RefusalIs holds before after name (Disk told) = (told.now ≡ name) × Rose before after
+RefusalIs holds before after name Memory = Unit {0}
+
+-- the code in the file is accepted, or this is its refusal
+abbrev pub Judged : (Option (List ℕ) → Type 0) → Option RefusedRule → Type 0
+Judged holds None = HasCode holds Accepted
+Judged holds (Some refused) = HasCode holds (λ code. FirstRefusal code refused.rule refused.at)
+
+-- these are the lines of the code in the file
+pub record Listed (holds : Option (List ℕ) → Type 0) (lines : List ℕ) : Type 0 where
+  pub code : Code
+  pub file : IsCodeFile holds code
+  pub lines_are : lines ≡ lines_from 0 code.instructions

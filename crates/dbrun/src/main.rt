@@ -1,0 +1,142 @@
+//! `dbrun`: verifies, runs and lists code files.
+//!
+//! What a command does with files stands in functions over the trait `Files`; here the words of the command line are
+//! carried out, and what they give is printed.
+#![tactic(auto)]
+
+mod files;
+mod folder;
+mod listing;
+mod memory_files;
+mod reading;
+mod refusal;
+mod running;
+mod status;
+#[cfg(test)]
+mod tests;
+mod words;
+
+use crate::folder::Folder;
+use crate::listing::{list_code, verify_file};
+use crate::refusal::Refusal;
+use crate::running::run_files;
+use crate::status::{Status, of_end, of_refusal};
+use crate::words::{Words, command, words_of};
+use clap::error::ErrorKind;
+use std::alloc::Global;
+use std::process::ExitCode;
+use std::rt::Runtime;
+use std::{env, io};
+use tagged_machine::{End, Outcome};
+
+/// Tells on standard error how a run ended. A standard error that fails changes nothing.
+fn tell_end(rt: &impl Runtime, outcome: Outcome) {
+    let steps = outcome.steps;
+    let _ = match outcome.end {
+        End::Finished => eprintln!(rt; "finished {steps}"),
+        End::Spent => eprintln!(rt; "spent {steps}"),
+        End::NoMemory => eprintln!(rt; "memory {steps}"),
+        End::Fault(kind, at) => eprintln!(rt; "fault {kind:?} {at} {steps}"),
+    };
+}
+
+/// Tells on standard error why a command isn't carried out.
+fn refuse(rt: &impl Runtime, refusal: Refusal<'_>) -> Status {
+    let _ = eprintln!(rt; "{refusal}");
+    of_refusal(&refusal)
+}
+
+fn run<R: Runtime<A = Global>>(rt: &R, checked: bool, name: &str, budget: u64) -> Status {
+    let mut folder = Folder::new(rt);
+    let report = run_files(rt.alloc(), &mut folder, checked, name, budget);
+    if rt.write_all(report.rows.as_slice()).is_err() {
+        return Status::Disk;
+    }
+    match report.result {
+        Ok(outcome) => {
+            tell_end(rt, outcome);
+            of_end(outcome.end)
+        }
+        Err(refusal) => refuse(rt, refusal),
+    }
+}
+
+fn verify<R: Runtime<A = Global>>(rt: &R, name: &str) -> Status {
+    let mut folder = Folder::new(rt);
+    let (written, status) = match verify_file(rt.alloc(), &mut folder, name) {
+        Ok(None) => (println!(rt; "accepted"), Status::Done),
+        Ok(Some(refused)) => (println!(rt; "refused {refused}"), Status::Refused),
+        Err(refusal) => return refuse(rt, refusal),
+    };
+    if written.is_err() {
+        return Status::Disk;
+    }
+    status
+}
+
+fn code<R: Runtime<A = Global>>(rt: &R, name: &str) -> Status {
+    let mut folder = Folder::new(rt);
+    match list_code(rt.alloc(), &mut folder, name) {
+        Ok(lines) => {
+            if rt.write_all(lines.as_slice()).is_err() {
+                return Status::Disk;
+            }
+            Status::Done
+        }
+        Err(refusal) => refuse(rt, refusal),
+    }
+}
+
+fn carry_out<R: Runtime<A = Global>>(rt: &R, words: Words<'_>) -> Status {
+    match words {
+        Words::Run { name, budget } => run(rt, false, name, budget),
+        Words::CheckRun { name, budget } => run(rt, true, name, budget),
+        Words::Verify { name } => verify(rt, name),
+        Words::Code { name } => code(rt, name),
+    }
+}
+
+/// Tells on standard error that memory was refused.
+fn no_memory(rt: &impl Runtime) -> Status {
+    refuse(rt, Refusal::Memory)
+}
+
+/// Tells on standard error what is wrong with the words.
+fn refuse_words(rt: &impl Runtime, error: &clap::Error) -> Status {
+    if error.kind() == ErrorKind::OutOfMemory {
+        return no_memory(rt);
+    }
+    let _ = eprint!(rt; "{error}");
+    Status::Words
+}
+
+/// Parses the words and carries them out.
+fn answer<R: Runtime<A = Global>>(rt: &R, arguments: &[String]) -> Status {
+    let Ok(command) = command(rt.alloc()) else {
+        return no_memory(rt);
+    };
+    match command.try_get_matches_from(arguments) {
+        Ok(matches) => match words_of(&matches) {
+            Some(words) => carry_out(rt, words),
+            None => Status::Words,
+        },
+        Err(error) => refuse_words(rt, &error),
+    }
+}
+
+fn arguments<R: Runtime<A = Global>>(rt: &R) -> io::Result<Vec<String>> {
+    let arguments = env::args(rt)?.collect(rt.alloc())?;
+    Ok(arguments)
+}
+
+fn main(rt: HostRuntime) -> ExitCode {
+    let status = match arguments(&rt) {
+        Ok(arguments) => answer(&rt, arguments.as_slice()),
+        Err(error) if error.kind() == io::ErrorKind::OutOfMemory => no_memory(&rt),
+        Err(error) => {
+            let _ = eprintln!(rt; "{error}");
+            Status::Words
+        }
+    };
+    ExitCode::from(status as u8)
+}

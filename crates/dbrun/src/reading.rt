@@ -1,0 +1,51 @@
+// Code files read.
+#![tactic(auto)]
+
+ghost use Rattle.std.specs.Prelude.{IfOk, IfErr};
+ghost use Rattle.xcode.specs.Legal.{IsCode};
+ghost use Rattle.dbrun.specs.Reports.{IsCodeFile, RefusalIs};
+
+use crate::files::{Files, ReadFault};
+use crate::refusal::{Fault, Refusal};
+use std::alloc::Global;
+use xcode::{Code, CodeFault, decode};
+
+/// The longest file that is read: 64 MiB.
+pub const FILE_LIMIT: usize = 67_108_864;
+
+/// The code in a file. Want of memory may be told before a fault that would have been found later.
+pub fn read_code<'a, F: Files>(
+    alloc: Global,
+    files: &mut F,
+    name: &'a str,
+) -> Result<Code, Refusal<'a>>
+    ensures found { IfOk result (λ code. IsCodeFile (F.holds files.old name.now) code) }
+    ensures legal { IfOk result IsCode }
+    ensures refused { IfErr result (RefusalIs (F.holds files.old name.now) (F.failed files.old) (F.failed files.new) name.now) }
+{
+    let bytes = match files.read(alloc, name, FILE_LIMIT) {
+        Ok(bytes) => bytes,
+        Err(ReadFault::Absent) => {
+            return Err(Refusal::Refused {
+                name,
+                fault: Fault::Absent,
+            });
+        }
+        Err(ReadFault::TooLong) => {
+            return Err(Refusal::Refused {
+                name,
+                fault: Fault::TooLong,
+            });
+        }
+        Err(ReadFault::Device) => return Err(Refusal::Disk { name }),
+        Err(ReadFault::Memory) => return Err(Refusal::Memory),
+    };
+    match decode(alloc, bytes.as_slice()) {
+        Ok(code) => Ok(code),
+        Err(CodeFault::Memory) => Err(Refusal::Memory),
+        Err(fault) => Err(Refusal::Refused {
+            name,
+            fault: Fault::OfCode(fault),
+        }),
+    }
+}

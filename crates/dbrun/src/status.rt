@@ -1,0 +1,43 @@
+// Exit statuses.
+#![tactic(auto)]
+
+use crate::refusal::Refusal;
+use tagged_machine::End;
+
+/// How the program exits.
+#[derive(Clone, Copy, PartialEq, Eq, Debug)]
+pub enum Status {
+    /// Finished, accepted or written.
+    Done = 0,
+    /// The words of the command line.
+    Words = 1,
+    /// A file was refused.
+    Refused = 2,
+    /// The budget was spent.
+    Spent = 3,
+    /// Memory was refused.
+    Memory = 5,
+    /// The device or standard output failed.
+    Disk = 6,
+    /// The checking machine met a fault.
+    Fault = 7,
+}
+
+/// The status of a run that came to this end.
+pub fn of_end(end: End) -> Status {
+    match end {
+        End::Finished => Status::Done,
+        End::Spent => Status::Spent,
+        End::NoMemory => Status::Memory,
+        End::Fault(_, _) => Status::Fault,
+    }
+}
+
+/// The status of a command that wasn't carried out.
+pub fn of_refusal(refusal: &Refusal<'_>) -> Status {
+    match refusal {
+        Refusal::Refused { .. } => Status::Refused,
+        Refusal::Disk { .. } => Status::Disk,
+        Refusal::Memory => Status::Memory,
+    }
+}

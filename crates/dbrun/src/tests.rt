@@ -1,0 +1,6 @@
+// Code files run whole, over files in memory.
+#![tactic(auto)]
+
+mod assembler;
+mod codes;
+mod three_rows;

@@ -1,0 +1,142 @@
+// Small codes by hand: what the checking machine and the verifier say of them.
+#![tactic(auto)]
+
+use super::assembler::{HandCode, HandMap, Parts, assembled};
+use crate::listing::verify_file;
+use crate::memory_files::{Entry, MemoryFiles};
+use crate::running::run_files;
+use std::test::Fail;
+use tagged_machine::{End, FaultKind, Outcome};
+use xcode::Rule;
+use xverify::Refused;
+
+const LOGICAL: u8 = 4;
+
+const TRUE: &[u8] = &[LOGICAL, 1];
+
+/// A code without maps, with the constant `.T.`.
+fn plain<'a>(stack_bound: u16, slots: u16, instructions: &'a [Parts]) -> HandCode<'a> {
+    HandCode {
+        stack_bound,
+        slots,
+        constants: &[TRUE],
+        maps: &[],
+        instructions,
+    }
+}
+
+#[test]
+fn meets_each_fault(rt: HostRuntime) -> Result<(), Fail> {
+    for (code, kind, at, steps) in [
+        (
+            plain(1, 1, &[(0x02, LOGICAL, 0, 0), (0x14, 0, 0, 0)]),
+            FaultKind::Unset,
+            0,
+            0,
+        ),
+        (
+            plain(0, 0, &[(0x01, 0, 0, 0), (0x14, 0, 0, 0)]),
+            FaultKind::StackOver,
+            0,
+            0,
+        ),
+        (
+            plain(1, 0, &[(0x10, 0, 0, 9), (0x14, 0, 0, 0)]),
+            FaultKind::BadJump,
+            0,
+            0,
+        ),
+        (
+            plain(1, 0, &[(0x05, LOGICAL, 0, 0), (0x14, 0, 0, 0)]),
+            FaultKind::EmptyStack,
+            0,
+            0,
+        ),
+        (
+            plain(1, 0, &[(0x01, 0, 7, 0), (0x14, 0, 0, 0)]),
+            FaultKind::BadField,
+            0,
+            0,
+        ),
+        (
+            plain(1, 0, &[(0x01, 0, 0, 0), (0x05, 2, 0, 0), (0x14, 0, 0, 0)]),
+            FaultKind::WrongKind,
+            1,
+            1,
+        ),
+    ] {
+        let bytes = assembled(rt.alloc(), &code)?;
+        let entries = [Entry {
+            name: "hand.xbc",
+            bytes: bytes.as_slice(),
+        }];
+        let mut files = MemoryFiles {
+            entries: &entries,
+            works: true,
+            failures: 0,
+        };
+        let report = run_files(rt.alloc(), &mut files, true, "hand.xbc", 100);
+        let end = End::Fault(kind, at);
+        assert_eq!(rt; report.result, Ok(Outcome { end, steps }), "for {kind:?}");
+    }
+    Ok(())
+}
+
+#[test]
+fn breaks_each_rule(rt: HostRuntime) -> Result<(), Fail> {
+    let mapped = HandCode {
+        maps: &[HandMap {
+            place: 2,
+            slots: &[],
+            stack: &[],
+        }],
+        ..plain(1, 0, &[(0x10, 0, 0, 2), (0x14, 0, 0, 0), (0x14, 0, 0, 0)])
+    };
+    for (code, rule, at) in [
+        (
+            plain(1, 1, &[(0x02, LOGICAL, 0, 0), (0x14, 0, 0, 0)]),
+            Rule::Unset,
+            0,
+        ),
+        (
+            plain(1, 0, &[(0x05, LOGICAL, 0, 0), (0x14, 0, 0, 0)]),
+            Rule::StackUnder,
+            0,
+        ),
+        (
+            plain(0, 0, &[(0x01, 0, 0, 0), (0x14, 0, 0, 0)]),
+            Rule::StackOver,
+            0,
+        ),
+        (
+            plain(1, 0, &[(0x01, 0, 0, 0), (0x14, 0, 0, 0)]),
+            Rule::StackNotEmpty,
+            1,
+        ),
+        (plain(1, 0, &[(0x10, 0, 0, 9)]), Rule::Jump, 0),
+        (mapped, Rule::Fall, 0),
+        (
+            plain(
+                1,
+                0,
+                &[(0x01, 0, 7, 0), (0x05, LOGICAL, 0, 0), (0x14, 0, 0, 0)],
+            ),
+            Rule::Constant,
+            0,
+        ),
+    ] {
+        let bytes = assembled(rt.alloc(), &code)?;
+        let entries = [Entry {
+            name: "hand.xbc",
+            bytes: bytes.as_slice(),
+        }];
+        let mut files = MemoryFiles {
+            entries: &entries,
+            works: true,
+            failures: 0,
+        };
+        let answer = verify_file(rt.alloc(), &mut files, "hand.xbc");
+        assert_eq!(rt; answer, Ok(Some(Refused { rule, at })), "for {rule:?}");
+    }
+    Ok(())
+}

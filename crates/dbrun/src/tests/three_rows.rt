@@ -1,0 +1,188 @@
+// The loop that prints three rows `A`, and the same with a load of the wrong kind.
+#![tactic(auto)]
+
+use super::assembler::{HandCode, HandMap, assembled};
+use crate::listing::{list_code, verify_file};
+use crate::memory_files::{Entry, MemoryFiles};
+use crate::refusal::{Fault, Refusal};
+use crate::running::run_files;
+use std::alloc::{AllocError, Global};
+use std::test::Fail;
+use tagged_machine::{End, FaultKind, Outcome};
+use xcode::{CodeFault, Rule};
+use xverify::Refused;
+
+/// A kind's number in the file.
+const TEXT: u8 = 2;
+
+const LOGICAL: u8 = 4;
+
+/// The loop; its load of slot 0 takes a value of this kind.
+fn three_rows(alloc: Global, kind: u8) -> Result<Vec<u8>, AllocError> {
+    let known = HandMap {
+        place: 4,
+        slots: &[LOGICAL, LOGICAL],
+        stack: &[],
+    };
+    assembled(
+        alloc,
+        &HandCode {
+            stack_bound: 1,
+            slots: 2,
+            constants: &[&[LOGICAL, 1], &[LOGICAL, 0], &[TEXT, 1, b'A']],
+            maps: &[known, HandMap { place: 14, ..known }],
+            instructions: &[
+                (0x01, 0, 0, 0),
+                (0x03, LOGICAL, 0, 0),
+                (0x01, 0, 0, 0),
+                (0x03, LOGICAL, 1, 0),
+                (0x40, 0, 0, 0),
+                (0x01, 0, 2, 0),
+                (0x41, TEXT, 0, 0),
+                (0x02, kind, 0, 0),
+                (0x11, 0, 0, 14),
+                (0x02, LOGICAL, 1, 0),
+                (0x03, LOGICAL, 0, 0),
+                (0x01, 0, 1, 0),
+                (0x03, LOGICAL, 1, 0),
+                (0x10, 0, 0, 4),
+                (0x14, 0, 0, 0),
+            ],
+        },
+    )
+}
+
+fn stored<'a>(entries: &'a [Entry<'a>]) -> MemoryFiles<'a> {
+    MemoryFiles {
+        entries,
+        works: true,
+        failures: 0,
+    }
+}
+
+/// The rows printed at each budget and the end, by both machines.
+#[test]
+fn spends_its_budget(rt: HostRuntime) -> Result<(), Fail> {
+    let bytes = three_rows(rt.alloc(), LOGICAL)?;
+    assert_eq!(rt; bytes.len(), 216);
+    let entries = [Entry {
+        name: "rows.xbc",
+        bytes: bytes.as_slice(),
+    }];
+    for (budget, end, rows) in [
+        (0, End::Spent, ""),
+        (29, End::Spent, "A\nA\nA\n"),
+        (30, End::Finished, "A\nA\nA\n"),
+        (1_000_000, End::Finished, "A\nA\nA\n"),
+    ] {
+        for checked in [true, false] {
+            let mut files = stored(&entries);
+            let report = run_files(rt.alloc(), &mut files, checked, "rows.xbc", budget);
+            let steps = budget.min(30);
+            assert_eq!(rt; report.result, Ok(Outcome { end, steps }), "at {budget}");
+            assert_eq!(rt; report.rows.as_slice(), rows.as_bytes(), "at {budget}");
+        }
+    }
+    Ok(())
+}
+
+/// Both machines end alike at every budget.
+#[test]
+fn machines_agree(rt: HostRuntime) -> Result<(), Fail> {
+    let bytes = three_rows(rt.alloc(), LOGICAL)?;
+    let entries = [Entry {
+        name: "rows.xbc",
+        bytes: bytes.as_slice(),
+    }];
+    for budget in 0..32 {
+        let mut files = stored(&entries);
+        let checked = run_files(rt.alloc(), &mut files, true, "rows.xbc", budget);
+        let run = run_files(rt.alloc(), &mut files, false, "rows.xbc", budget);
+        assert_eq!(rt; checked.result, run.result, "at {budget}");
+        assert_eq!(rt; checked.rows.as_slice(), run.rows.as_slice(), "at {budget}");
+    }
+    Ok(())
+}
+
+#[test]
+fn refuses_the_wrong_kind(rt: HostRuntime) -> Result<(), Fail> {
+    let right = three_rows(rt.alloc(), LOGICAL)?;
+    let wrong = three_rows(rt.alloc(), TEXT)?;
+    let entries = [
+        Entry {
+            name: "right.xbc",
+            bytes: right.as_slice(),
+        },
+        Entry {
+            name: "wrong.xbc",
+            bytes: wrong.as_slice(),
+        },
+    ];
+    let broken = Refused {
+        rule: Rule::Kind,
+        at: 7,
+    };
+    let mut files = stored(&entries);
+    assert_eq!(rt; verify_file(rt.alloc(), &mut files, "right.xbc"), Ok(None));
+    assert_eq!(rt;
+        verify_file(rt.alloc(), &mut files, "wrong.xbc"),
+        Ok(Some(broken))
+    );
+    let refused = Refusal::Refused {
+        name: "wrong.xbc",
+        fault: Fault::OfRule(broken),
+    };
+    let report = run_files(rt.alloc(), &mut files, false, "wrong.xbc", 100);
+    assert_eq!(rt; report.result, Err(refused));
+    assert_eq!(rt; report.rows.len(), 0);
+    let report = run_files(rt.alloc(), &mut files, true, "wrong.xbc", 100);
+    let end = End::Fault(FaultKind::WrongKind, 7);
+    assert_eq!(rt; report.result, Ok(Outcome { end, steps: 7 }));
+    assert_eq!(rt; report.rows.as_slice(), b"A\n".as_slice());
+    Ok(())
+}
+
+#[test]
+fn tells_why_not(rt: HostRuntime) -> Result<(), Fail> {
+    let bytes = three_rows(rt.alloc(), LOGICAL)?;
+    let cut = bytes.len().saturating_sub(1);
+    let entries = [Entry {
+        name: "cut.xbc",
+        bytes: &bytes.as_slice()[..cut],
+    }];
+    let mut files = stored(&entries);
+    let report = run_files(rt.alloc(), &mut files, true, "none.xbc", 30);
+    let absent = Refusal::Refused {
+        name: "none.xbc",
+        fault: Fault::Absent,
+    };
+    assert_eq!(rt; report.result, Err(absent));
+    let report = run_files(rt.alloc(), &mut files, true, "cut.xbc", 30);
+    let short = Refusal::Refused {
+        name: "cut.xbc",
+        fault: Fault::OfCode(CodeFault::Short),
+    };
+    assert_eq!(rt; report.result, Err(short));
+    files.works = false;
+    let report = run_files(rt.alloc(), &mut files, true, "cut.xbc", 30);
+    assert_eq!(rt; report.result, Err(Refusal::Disk { name: "cut.xbc" }));
+    assert_eq!(rt; files.failures, 1);
+    Ok(())
+}
+
+#[test]
+fn lists_a_jump(rt: HostRuntime) -> Result<(), Fail> {
+    let bytes = three_rows(rt.alloc(), LOGICAL)?;
+    let entries = [Entry {
+        name: "rows.xbc",
+        bytes: bytes.as_slice(),
+    }];
+    let mut files = stored(&entries);
+    let Ok(lines) = list_code(rt.alloc(), &mut files, "rows.xbc") else {
+        return Err("not listed".into());
+    };
+    let text = String::from_utf8(lines).ok().ok_or("no text")?;
+    assert!(rt; text.as_str().contains("    8 JUMPF 0 0 14\n"));
+    assert!(rt; text.as_str().starts_with("    0 CONST 0 0 0\n"));
+    Ok(())
+}

@@ -1,0 +1,12 @@
+pub mod PowerLemmas
+pub mod SignLemmas
+pub mod RoundLemmas
+pub mod DivisionLemmas
+pub mod QuotientLemmas
+pub mod RemainderLemmas
+pub mod TextLemmas
+pub mod ReadingLemmas
+pub mod LawLemmas
+pub mod OrderLemmas
+pub mod BackLemmas
+pub mod AsciiLemmas

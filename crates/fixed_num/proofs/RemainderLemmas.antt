@@ -1,0 +1,133 @@
+-- The remainder by sign and magnitude.
+use Rattle.std.proofs.Common.{◌≡◌, ℕ, zero, suc, ◌+◌, ◌-◌, ◌*◌, ◌/◌, ◌%◌, ◌^◌, ◌<◌, Bool, true, false, not, ◌≢◌, sym, ap, ◌∙◌, subst, max, ◌==◌, arith}
+use Rattle.std.specs.Prelude.{ℤ, pos, negsuc, neg_ℤ, ◌-ℤ◌, ◌*ℤ◌, unsigned_abs, if◌then◌else◌}
+use Rattle.std.proofs.Math.Nat.{div-add-mod', mod-lt, div-eq_of_lt, zero-mod}
+use Rattle.std.proofs.lemmas.Int.{ints}
+use Rattle.std.proofs.lemmas.Nat.{div-mul-add}
+use mathlib.Core.Bool.{beq}
+use Rattle.std.proofs.lemmas.Bool.{false≢true}
+use Rattle.std.proofs.lemmas.Bool.Decides.{nat_tests}
+use Rattle.fixed_num.specs.Number.{asterisk, finite, number, scaled, signed}
+use Rattle.fixed_num.specs.Arithmetic.{floored, floored_by, IsFloor, remainder_of, modulus_of}
+use Rattle.fixed_num.proofs.SignLemmas.{scaled_signed, abs_signed}
+
+-- one sign: the remainder of the magnitudes
+pub rest_same : (s : Bool) (p q : ℕ) → 0 < q → signed s (p % q) ≡ remainder_of (signed s p) (signed s q)
+rest_same s p zero h = absurd (omega arith)
+rest_same false p (suc q) h =
+    let e : p / suc q * suc q + p % suc q ≡ p = div-add-mod' p (suc q) in
+    omega (arith, ints)
+rest_same true zero (suc q) h =
+    let e : 0 % suc q ≡ 0 = zero-mod (suc q) in
+    let k : 0 / suc q ≡ 0 = div-eq_of_lt h in
+    rw (e, k) (omega (arith, ints))
+rest_same true (suc p) (suc q) h =
+    let e : suc p / suc q * suc q + suc p % suc q ≡ suc p = div-add-mod' (suc p) (suc q) in
+    omega (arith, ints)
+
+-- a divisor below zero: the quotient is rounded down, to `-k`
+rest_below : (p q k r : ℕ) → p / suc q + 1 ≡ k → suc p + r ≡ k * suc q → neg_ℤ (pos r) ≡ remainder_of (pos (suc p)) (negsuc q)
+rest_below p q k r is_k e =
+    let whole : negsuc q *ℤ floored (pos (suc p)) (negsuc q) ≡ pos (suc q * k) = ap (λ x. pos (suc q * x)) (let h : suc (p / suc q) ≡ k = omega arith in h) in
+    let f : neg_ℤ (pos r) ≡ pos (suc p) -ℤ pos (suc q * k) = omega (arith, ints) in
+    f ∙ ap (λ x. pos (suc p) -ℤ x) (sym whole)
+
+-- a dividend below zero: the quotient is rounded down, to `-k`
+rest_above : (p q k r : ℕ) → p / q + 1 ≡ k → suc p + r ≡ k * q → pos r ≡ remainder_of (negsuc p) (pos q)
+rest_above p q k r is_k e =
+    let whole : pos q *ℤ floored (negsuc p) (pos q) ≡ neg_ℤ (pos (q * k)) = ap (λ x. neg_ℤ (pos (q * x))) (let h : suc (p / q) ≡ k = omega arith in h) in
+    let f : pos r ≡ negsuc p -ℤ neg_ℤ (pos (q * k)) = omega (arith, ints) in
+    f ∙ ap (λ x. negsuc p -ℤ x) (sym whole)
+
+rest_none_below : (p q c : ℕ) → c * suc q ≡ suc p → pos 0 ≡ remainder_of (pos (suc p)) (negsuc q)
+rest_none_below p q zero e = absurd (omega arith)
+rest_none_below p q (suc c) e =
+    let g : p ≡ c * suc q + q = omega arith in
+    let k : p / suc q ≡ c = ap (λ x. x / suc q) g ∙ div-mul-add c (suc q) q (omega arith) in
+    rest_below p q (suc c) 0 (omega arith) (omega arith)
+
+rest_none_above : (p q c : ℕ) → c * suc q ≡ suc p → pos 0 ≡ remainder_of (negsuc p) (pos (suc q))
+rest_none_above p q zero e = absurd (omega arith)
+rest_none_above p q (suc c) e =
+    let g : p ≡ c * suc q + q = omega arith in
+    let k : p / suc q ≡ c = ap (λ x. x / suc q) g ∙ div-mul-add c (suc q) q (omega arith) in
+    rest_above p (suc q) (suc c) 0 (omega arith) (omega arith)
+
+-- other signs and no rest
+pub rest_none : (s : Bool) (p q : ℕ) → 0 < q → p % q ≡ 0 → signed (not s) (p % q) ≡ remainder_of (signed s p) (signed (not s) q)
+rest_none s p zero h none = absurd (omega arith)
+rest_none false zero (suc q) h none =
+    let e : 0 / suc q ≡ 0 = div-eq_of_lt h in
+    rw (none, e) (omega (arith, ints))
+rest_none false (suc p) (suc q) h none =
+    let e : suc p / suc q * suc q + suc p % suc q ≡ suc p = div-add-mod' (suc p) (suc q) in
+    ap (λ x. neg_ℤ (pos x)) none ∙ rest_none_below p q (suc p / suc q) (omega arith)
+rest_none true zero (suc q) h none =
+    let e : 0 / suc q ≡ 0 = div-eq_of_lt h in
+    rw (none, e) (omega (arith, ints))
+rest_none true (suc p) (suc q) h none =
+    let e : suc p / suc q * suc q + suc p % suc q ≡ suc p = div-add-mod' (suc p) (suc q) in
+    ap pos none ∙ rest_none_above p q (suc p / suc q) (omega arith)
+
+-- other signs and a rest
+pub rest_some : (s : Bool) (p q : ℕ) → 0 < q → p % q ≢ 0 → signed (not s) (q - p % q) ≡ remainder_of (signed s p) (signed (not s) q)
+rest_some s p zero h some = absurd (omega arith)
+rest_some false zero (suc q) h some = absurd (some (zero-mod (suc q)))
+rest_some false (suc p) (suc q) h some =
+    let e : suc p / suc q * suc q + suc p % suc q ≡ suc p = div-add-mod' (suc p) (suc q) in
+    let small : suc p % suc q < suc q = mod-lt (suc p) h in
+    let c = suc p / suc q in
+    let g : p ≡ c * suc q + (suc p % suc q - 1) = omega arith in
+    let k : p / suc q ≡ c = ap (λ x. x / suc q) g ∙ div-mul-add c (suc q) (suc p % suc q - 1) (omega arith) in
+    rest_below p q (c + 1) (suc q - suc p % suc q) (omega arith) (omega arith)
+rest_some true zero (suc q) h some = absurd (some (zero-mod (suc q)))
+rest_some true (suc p) (suc q) h some =
+    let e : suc p / suc q * suc q + suc p % suc q ≡ suc p = div-add-mod' (suc p) (suc q) in
+    let small : suc p % suc q < suc q = mod-lt (suc p) h in
+    let c = suc p / suc q in
+    let g : p ≡ c * suc q + (suc p % suc q - 1) = omega arith in
+    let k : p / suc q ≡ c = ap (λ x. x / suc q) g ∙ div-mul-add c (suc q) (suc p % suc q - 1) (omega arith) in
+    rest_above p (suc q) (c + 1) (suc q - suc p % suc q) (omega arith) (omega arith)
+
+-- what the code found, where the signs differ and a rest is left
+pub rest_differs : (s t : Bool) (p q : ℕ) → 0 < q → not (beq s t) ≡ true → p % q ≢ 0 → signed t (q - p % q) ≡ remainder_of (signed s p) (signed t q)
+rest_differs false false p q h differ some = absurd (false≢true differ)
+rest_differs false true p q h differ some = rest_some false p q h some
+rest_differs true false p q h differ some = rest_some true p q h some
+rest_differs true true p q h differ some = absurd (false≢true differ)
+
+-- and elsewhere
+pub rest_equal : (s t : Bool) (p q : ℕ) → 0 < q → not (beq s t) ≡ false → signed t (p % q) ≡ remainder_of (signed s p) (signed t q)
+rest_equal false false p q h equal = rest_same false p q h
+rest_equal false true p q h equal = absurd (false≢true (sym equal))
+rest_equal true false p q h equal = absurd (false≢true (sym equal))
+rest_equal true true p q h equal = rest_same true p q h
+
+pub rest_without : (s t : Bool) (p q : ℕ) → 0 < q → p % q ≡ 0 → signed t (p % q) ≡ remainder_of (signed s p) (signed t q)
+rest_without false false p q h none = rest_same false p q h
+rest_without false true p q h none = rest_none false p q h none
+rest_without true false p q h none = rest_none true p q h none
+rest_without true true p q h none = rest_same true p q h
+
+-- what the code found, as the number
+pub modulus_from : (s t : Bool) (m n d e k x y rest : ℕ) → 0 < n → k ≡ max d e → x ≡ m * 10 ^ (k - d) → y ≡ n * 10 ^ (k - e) → signed t rest ≡ remainder_of (signed s x) (signed t y) → number (signed t rest) k ≡ modulus_of (finite (signed s m) d) (finite (signed t n) e)
+modulus_from s t m n d e k x y rest positive is_k is_x is_y is_rest =
+    let not_zero : (unsigned_abs (signed t n) == 0) ≡ false = rw (abs_signed t n) (grind (arith, nat_tests)) in
+    let left : scaled (signed s m) (k - d) ≡ signed s x = scaled_signed s m (10 ^ (k - d)) ∙ ap (λ v. signed s v) (sym is_x) in
+    let right : scaled (signed t n) (k - e) ≡ signed t y = scaled_signed t n (10 ^ (k - e)) ∙ ap (λ v. signed t v) (sym is_y) in
+    let both : remainder_of (scaled (signed s m) (k - d)) (scaled (signed t n) (k - e)) ≡ signed t rest = ap (λ v. remainder_of v (scaled (signed t n) (k - e))) left ∙ ap (λ v. remainder_of (signed s x) v) right ∙ sym is_rest in
+    let P : Bool → Type 0 = λ b. number (signed t rest) k ≡ (if b then asterisk else number (remainder_of (scaled (signed s m) (k - d)) (scaled (signed t n) (k - e))) k) in
+    let Q : ℕ → Type 0 = λ v. number (signed t rest) k ≡ (if unsigned_abs (signed t n) == 0 then asterisk else number (remainder_of (scaled (signed s m) (v - d)) (scaled (signed t n) (v - e))) v) in
+    subst Q is_k (subst P (sym not_zero) (ap (λ v. number v k) (sym both)))
+
+-- the floor is at most the quotient, and above it less one
+pub floored_by-bounds : (p : ℤ) (q : ℕ) → 0 < q → IsFloor p q (floored_by p q)
+floored_by-bounds (pos p) q positive =
+    let e : p / q * q + p % q ≡ p = div-add-mod' p q in
+    let small : p % q < q = mod-lt p positive in
+    record { at_most = omega (arith, ints); greatest = omega (arith, ints) }
+floored_by-bounds (negsuc p) zero positive = absurd (omega arith)
+floored_by-bounds (negsuc p) (suc q) positive =
+    let e : p / suc q * suc q + p % suc q ≡ p = div-add-mod' p (suc q) in
+    let small : p % suc q < suc q = mod-lt p positive in
+    record { at_most = omega (arith, ints); greatest = omega (arith, ints) }

@@ -1,0 +1,7 @@
+pub mod Number
+pub mod Parts
+pub mod Rounding
+pub mod Arithmetic
+pub mod Order
+pub mod Text
+pub mod Reading

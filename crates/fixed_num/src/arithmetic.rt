@@ -1,0 +1,134 @@
+//! Sums, products and quotients.
+
+ghost use Rattle.std.specs.Prelude.{◌≡◌};
+ghost use Rattle.fixed_num.specs.Order.{compared, greater_of, lesser_of};
+ghost use Rattle.fixed_num.specs.Arithmetic.{sum_of, difference_of, negated, absolute, product_of, quotient_of, modulus_of};
+
+use crate::number::{MOST_DECIMALS, Num};
+use crate::powers::{power_of_ten, scaled};
+use crate::rounding::{divided, floored_rest, nearest};
+use std::cmp::Ordering;
+
+impl Num {
+    /// The sum, with the greater number of decimals.
+    pub fn add(self, other: Num) -> Num
+        ensures { result ≡ sum_of self other }
+    {
+        let (Some(a), Some(b)) = (self.fraction(), other.fraction()) else {
+            return Num::asterisk();
+        };
+        let decimals = a.decimals.max(b.decimals);
+        let left = scaled(a.numerator, decimals - a.decimals);
+        let right = scaled(b.numerator, decimals - b.decimals);
+        Num::from_fraction(left + right, decimals)
+    }
+
+    /// The difference, with the greater number of decimals.
+    pub fn sub(self, other: Num) -> Num
+        ensures { result ≡ difference_of self other }
+    {
+        self.add(other.neg())
+    }
+
+    /// The number with its sign turned.
+    pub fn neg(self) -> Num
+        ensures { result ≡ negated self }
+    {
+        match self.fraction() {
+            Some(a) => Num::from_fraction(-a.numerator, a.decimals),
+            None => self,
+        }
+    }
+
+    /// The number without its sign.
+    pub fn abs(self) -> Num
+        ensures { result ≡ absolute self }
+    {
+        match self.fraction() {
+            Some(a) => Num::from_fraction(a.numerator.abs(), a.decimals),
+            None => self,
+        }
+    }
+
+    /// The product, with the decimals of both, rounded to 15 where these are more.
+    pub fn mul(self, other: Num) -> Num
+        ensures { result ≡ product_of self other }
+    {
+        let (Some(a), Some(b)) = (self.parts(), other.parts()) else {
+            return Num::asterisk();
+        };
+        let negative = a.negative != b.negative;
+        let magnitude = u128::from(a.magnitude) * u128::from(b.magnitude);
+        let decimals = a.decimals + b.decimals;
+        if decimals <= MOST_DECIMALS {
+            return Num::from_magnitude(negative, magnitude, decimals);
+        }
+        let kept = nearest(magnitude, power_of_ten(decimals - MOST_DECIMALS));
+        Num::from_magnitude(negative, kept, MOST_DECIMALS)
+    }
+
+    /// The quotient, rounded to the greatest of both numbers of decimals and 2. By zero it is the asterisk value.
+    pub fn div(self, other: Num) -> Num
+        ensures { result ≡ quotient_of self other }
+    {
+        let (Some(a), Some(b)) = (self.parts(), other.parts()) else {
+            return Num::asterisk();
+        };
+        if b.magnitude == 0 {
+            return Num::asterisk();
+        }
+        let negative = a.negative != b.negative;
+        let decimals = a.decimals.max(b.decimals).max(2);
+        let places = decimals - a.decimals + b.decimals;
+        match divided(a.magnitude, places, b.magnitude) {
+            Some(magnitude) => Num::from_magnitude(negative, magnitude, decimals),
+            None => Num::asterisk(),
+        }
+    }
+
+    /// `self - other * floor(self / other)` with the greater number of decimals, which has the sign of `other`. By zero
+    /// it is the asterisk value.
+    pub fn modulo(self, other: Num) -> Num
+        ensures { result ≡ modulus_of self other }
+    {
+        let (Some(a), Some(b)) = (self.parts(), other.parts()) else {
+            return Num::asterisk();
+        };
+        if b.magnitude == 0 {
+            return Num::asterisk();
+        }
+        let decimals = a.decimals.max(b.decimals);
+        let dividend = u128::from(a.magnitude) * power_of_ten(decimals - a.decimals);
+        let divisor = u128::from(b.magnitude) * power_of_ten(decimals - b.decimals);
+        let rest = floored_rest(a.negative, dividend, b.negative, divisor);
+        Num::from_magnitude(b.negative, rest, decimals)
+    }
+
+    /// How the number compares with another by value. The asterisk value is above every number and equal to itself.
+    pub fn cmp(self, other: Num) -> Ordering
+        ensures { result ≡ compared self other }
+    {
+        match (self.fraction(), other.fraction()) {
+            (Some(a), Some(b)) => {
+                scaled(a.numerator, b.decimals).cmp(&scaled(b.numerator, a.decimals))
+            }
+            (Some(_), None) => Ordering::Less,
+            (None, Some(_)) => Ordering::Greater,
+            (None, None) => Ordering::Equal,
+        }
+    }
+
+    /// The greater of both by value, the first where they are equal.
+    pub fn max(self, other: Num) -> Num
+        ensures { result ≡ greater_of self other }
+    {
+        if self.cmp(other).is_lt() { other } else { self }
+    }
+
+    /// The lesser of both by value, the first where they are equal.
+    pub fn min(self, other: Num) -> Num
+        ensures { result ≡ lesser_of self other }
+    {
+        if self.cmp(other).is_gt() { other } else { self }
+    }
+}

@@ -1,0 +1,58 @@
+//! What follows from the definitions of numbers, for a reader who wants to trust them. Each function does nothing: its
+//! contract is the law.
+
+ghost use Rattle.std.specs.Prelude.{◌≡◌, ℕ, ◌+◌, ◌-◌, ◌<◌, ◌≤◌, ℤ, length};
+ghost use Rattle.std.specs.Cmp.{IsTotalOrder};
+ghost use Rattle.std.specs.Ordering.{int_cmp};
+ghost use Rattle.fixed_num.specs.Number.{Number, finite, scaled, IsInRange};
+ghost use Rattle.fixed_num.specs.Rounding.{nearest, rounded_to, IsNearest};
+ghost use Rattle.fixed_num.specs.Arithmetic.{sum_of, product_of, floored_by, IsFloor};
+ghost use Rattle.fixed_num.specs.Order.{compared};
+ghost use Rattle.fixed_num.specs.Text.{text_of, printed};
+ghost use Rattle.fixed_num.specs.Reading.{parsed};
+
+/// A sum is the same in both orders.
+pub fn sums_commute()
+    ensures { (x y : Number) → sum_of x y ≡ sum_of y x }
+{}
+
+/// A product is the same in both orders.
+pub fn products_commute()
+    ensures { (x y : Number) → product_of x y ≡ product_of y x }
+{}
+
+/// Rounding gives a nearest whole number, and of two as near the greater.
+pub fn rounds_to_the_nearest()
+    ensures { (p q : ℕ) → 0 < q → IsNearest p q (nearest p q) }
+{}
+
+/// The quotient of a remainder is the greatest whole number that isn't above.
+pub fn floors_are_below()
+    ensures { (p : ℤ) (q : ℕ) → 0 < q → IsFloor p q (floored_by p q) }
+{}
+
+/// Rounding twice to one place is rounding once.
+pub fn rounds_once()
+    ensures { (places : ℤ) (x : Number) → rounded_to places (rounded_to places x) ≡ rounded_to places x }
+{}
+
+/// The comparison is a total order.
+pub fn order_is_total()
+    ensures { IsTotalOrder compared }
+{}
+
+/// Numbers compare as the whole numbers that they are with any common number of decimals.
+pub fn order_is_by_value()
+    ensures { (m n : ℤ) (d e k : ℕ) → d ≤ k → e ≤ k →
+        compared (finite m d) (finite n e) ≡ int_cmp (scaled m (k - d)) (scaled n (k - e)) }
+{}
+
+/// A number's text is read as that number, with its decimals.
+pub fn text_reads_back()
+    ensures { (m : ℤ) (d : ℕ) → IsInRange (finite m d) → parsed (text_of (finite m d)) ≡ finite m d }
+{}
+
+/// A number that is printed fills its field.
+pub fn print_fills_its_field()
+    ensures { (width decimals : ℕ) (x : Number) → length (printed width decimals x) ≡ width }
+{}

@@ -1,0 +1,16 @@
+//! Decimal numbers of at most nineteen digits, of which at most fifteen stand after the point, and the asterisk
+//! value, which stands for a result that is none.
+#![tactic(auto)]
+
+mod arithmetic;
+pub mod laws;
+mod number;
+mod powers;
+mod reading;
+mod rounding;
+mod text;
+
+pub use number::{MOST_DECIMALS, Num, Parts};
+
+#[cfg(test)]
+mod tests;

@@ -1,0 +1,236 @@
+// The constants, procedures, maps and instructions of a code file.
+#![tactic(auto)]
+
+ghost use Rattle.std.specs.Prelude.{◌≡◌, is_none};
+ghost use Rattle.std.specs.List.{list_all};
+ghost use Rattle.xcode.specs.declared.fault.CodeFault.TheVariants.{Operation};
+ghost use Rattle.xcode.specs.CodeReading.{Gives, wanted, kind_if, many, text_at, truth_at, constant_at, procedure_there, map_there, is_main, procedure_at, map_at, instr_of, instr_at};
+
+use crate::code::{Map, Proc};
+use crate::codec_fields::{byte_of, four_of, two_of};
+use crate::codec_states::{behind_one_state, kind_of_number, state_of};
+use crate::fault::CodeFault;
+use crate::instr::Instr;
+use crate::state::State;
+use std::alloc::Global;
+use xvalue::{Kind, Value, text_of};
+
+#[tactic(auto, unfolding(crate::specs::CodeReading::text_at))]
+fn text_value(bytes: &[u8]) -> Result<(Value, &[u8]), CodeFault>
+    ensures { Gives (λ x. (x.0, x.1.now)) result (text_at bytes.now) }
+{
+    let (count, rest) = byte_of(bytes)?;
+    let count = count as usize;
+    if rest.len() < count {
+        return Err(CodeFault::Short);
+    }
+    if count > 254 {
+        return Err(CodeFault::Shape);
+    }
+    let (text, rest) = rest.split_at(count);
+    Ok((Value::Text(text_of(text)), rest))
+}
+
+#[tactic(auto, unfolding(crate::specs::CodeReading::truth_at))]
+fn truth_value(bytes: &[u8]) -> Result<(Value, &[u8]), CodeFault>
+    ensures { Gives (λ x. (x.0, x.1.now)) result (truth_at bytes.now) }
+{
+    let (byte, rest) = byte_of(bytes)?;
+    match byte {
+        0 => Ok((Value::Logical(false), rest)),
+        1 => Ok((Value::Logical(true), rest)),
+        _ => Err(CodeFault::Shape),
+    }
+}
+
+#[tactic(auto, unfolding(crate::specs::CodeReading::constant_at))]
+fn constant_of(bytes: &[u8]) -> Result<(Value, &[u8]), CodeFault>
+    ensures { Gives (λ x. (x.0, x.1.now)) result (constant_at bytes.now) }
+{
+    let (byte, rest) = byte_of(bytes)?;
+    match kind_of_number(CodeFault::Shape, byte)? {
+        Kind::Text => text_value(rest),
+        Kind::Logical => truth_value(rest),
+    }
+}
+
+/// So many constants, and the bytes behind them.
+pub fn constants_of(
+    alloc: Global,
+    count: u16,
+    bytes: &[u8],
+) -> Result<(Vec<Value>, &[u8]), CodeFault>
+    ensures { Gives (λ x. (x.0.items, x.1.now)) result (many constant_at count bytes.now) }
+{
+    let mut constants = Vec::new(alloc);
+    let mut rest = bytes;
+    for _ in 0..count {
+        let (constant, after) = constant_of(rest)?;
+        constants.push(constant)?;
+        rest = after;
+    }
+    Ok((constants, rest))
+}
+
+fn is_procedure_there(slots: u16, bytes: &[u8]) -> bool
+    ensures { result ≡ procedure_there slots bytes.now }
+{
+    if bytes.len() < 3 {
+        return false;
+    }
+    match behind_one_state(slots, &bytes[3..]) {
+        None => false,
+        Some(exit) => behind_one_state(slots, exit).is_some(),
+    }
+}
+
+fn is_map_there(slots: u16, bytes: &[u8]) -> bool
+    ensures { result ≡ map_there slots bytes.now }
+{
+    bytes.len() >= 2 && behind_one_state(slots, &bytes[2..]).is_some()
+}
+
+fn has_free_slots(state: &State) -> bool
+    ensures { result ≡ list_all is_none state.now.slots }
+{
+    state.slots.kinds().iter().all(|kind| kind.is_none())
+}
+
+fn is_main_procedure(entry: &State, exit: &State) -> bool
+    ensures { result ≡ is_main entry.now exit.now }
+{
+    entry.selected == 1 && has_free_slots(entry) && entry.stack.len() == 0 && exit.stack.len() == 0
+}
+
+/// The main procedure, and the bytes behind it.
+#[tactic(auto, unfolding(crate::specs::CodeReading::procedure_at))]
+pub fn procedure_of(
+    alloc: Global,
+    slots: u16,
+    bound: u16,
+    bytes: &[u8],
+) -> Result<(Proc, &[u8]), CodeFault>
+    ensures { Gives (λ x. (x.0, x.1.now)) result (procedure_at slots bound bytes.now) }
+{
+    if !is_procedure_there(slots, bytes) {
+        return Err(CodeFault::Short);
+    }
+    let (length, rest) = two_of(CodeFault::Short, bytes)?;
+    let (level, rest) = byte_of(rest)?;
+    if level > 20 {
+        return Err(CodeFault::Limit);
+    }
+    let (entry, rest) = state_of(alloc, slots, bound, rest)?;
+    let (exit, rest) = state_of(alloc, slots, bound, rest)?;
+    if !is_main_procedure(&entry, &exit) {
+        return Err(CodeFault::Shape);
+    }
+    let procedure = Proc {
+        length,
+        level,
+        entry,
+        exit,
+    };
+    Ok((procedure, rest))
+}
+
+#[tactic(auto, unfolding(crate::specs::CodeReading::map_at))]
+fn map_of(alloc: Global, slots: u16, bound: u16, bytes: &[u8]) -> Result<(Map, &[u8]), CodeFault>
+    ensures { Gives (λ x. (x.0, x.1.now)) result (map_at slots bound bytes.now) }
+{
+    if !is_map_there(slots, bytes) {
+        return Err(CodeFault::Short);
+    }
+    let (place, rest) = two_of(CodeFault::Short, bytes)?;
+    let (state, rest) = state_of(alloc, slots, bound, rest)?;
+    Ok((Map { place, state }, rest))
+}
+
+/// So many maps, and the bytes behind them.
+pub fn maps_of(
+    alloc: Global,
+    slots: u16,
+    bound: u16,
+    count: u16,
+    bytes: &[u8],
+) -> Result<(Vec<Map>, &[u8]), CodeFault>
+    ensures { Gives (λ x. (x.0.items, x.1.now)) result (many (map_at slots bound) count bytes.now) }
+{
+    let mut maps = Vec::new(alloc);
+    let mut rest = bytes;
+    for _ in 0..count {
+        let (map, after) = map_of(alloc, slots, bound, rest)?;
+        maps.push(map)?;
+        rest = after;
+    }
+    Ok((maps, rest))
+}
+
+/// An instruction that makes use of a kind, where the unused operands are 0.
+fn with_kind(byte: u8, unused: bool) -> Result<Kind, CodeFault>
+    ensures { Gives (λ x. x) result (kind_if byte unused) }
+{
+    let kind = kind_of_number(CodeFault::Operation, byte)?;
+    if !unused {
+        return Err(CodeFault::Operation);
+    }
+    Ok(kind)
+}
+
+/// This instruction, where the unused operands are 0.
+fn plain(instr: Instr, unused: bool) -> Result<Instr, CodeFault>
+    ensures { Gives (λ x. x) result (wanted Operation unused instr) }
+{
+    if !unused {
+        return Err(CodeFault::Operation);
+    }
+    Ok(instr)
+}
+
+#[tactic(auto, unfolding(crate::specs::CodeReading::instr_of))]
+fn instr_from(operation: u8, a: u8, b: u16, c: u32) -> Result<Instr, CodeFault>
+    ensures { Gives (λ x. x) result (instr_of operation a b c) }
+{
+    match operation {
+        0x01 => plain(Instr::Constant(b), a == 0 && c == 0),
+        0x02 => Ok(Instr::Load(with_kind(a, c == 0)?, b)),
+        0x03 => Ok(Instr::Store(with_kind(a, c == 0)?, b)),
+        0x04 => plain(Instr::Unset(b), a == 0 && c == 0),
+        0x05 => Ok(Instr::Discard(with_kind(a, b == 0 && c == 0)?)),
+        0x10 => plain(Instr::Jump(c), a == 0 && b == 0),
+        0x11 => plain(Instr::JumpFalse(c), a == 0 && b == 0),
+        0x14 => plain(Instr::End, a == 0 && b == 0 && c == 0),
+        0x40 => plain(Instr::NewLine, a == 0 && b == 0 && c == 0),
+        0x41 => Ok(Instr::Print(with_kind(a, b == 0 && c == 0)?)),
+        _ => Err(CodeFault::Operation),
+    }
+}
+
+#[tactic(auto, unfolding(crate::specs::CodeReading::instr_at))]
+fn instr_of_front(bytes: &[u8]) -> Result<(Instr, &[u8]), CodeFault>
+    ensures { Gives (λ x. (x.0, x.1.now)) result (instr_at bytes.now) }
+{
+    if bytes.len() < 8 {
+        return Err(CodeFault::Short);
+    }
+    let (operation, rest) = byte_of(bytes)?;
+    let (a, rest) = byte_of(rest)?;
+    let (b, rest) = two_of(CodeFault::Short, rest)?;
+    let (c, rest) = four_of(CodeFault::Short, rest)?;
+    let instr = instr_from(operation, a, b, c)?;
+    Ok((instr, rest))
+}
+
+/// So many instructions, and the bytes behind them.
+pub fn instrs_of(alloc: Global, count: u16, bytes: &[u8]) -> Result<(Vec<Instr>, &[u8]), CodeFault>
+    ensures { Gives (λ x. (x.0.items, x.1.now)) result (many instr_at count bytes.now) }
+{
+    let mut instrs = Vec::new(alloc);
+    let mut rest = bytes;
+    for _ in 0..count {
+        let (instr, after) = instr_of_front(rest)?;
+        instrs.push(instr)?;
+        rest = after;
+    }
+    Ok((instrs, rest))
+}

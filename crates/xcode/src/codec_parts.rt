@@ -1,0 +1,51 @@
+// The operation and the operands of an instruction.
+#![tactic(auto)]
+
+ghost use Rattle.std.specs.Prelude.{◌≡◌};
+ghost use Rattle.xcode.specs.CodeFile.{kind_number, parts_of};
+
+use crate::instr::Instr;
+use xvalue::Kind;
+
+/// An operation and its operands; one that it has no use for is 0.
+#[derive(Clone, Copy)]
+pub struct Parts {
+    pub operation: u8,
+    pub a: u8,
+    pub b: u16,
+    pub c: u32,
+}
+
+/// The number of a kind.
+pub fn number_of_kind(kind: Kind) -> u8
+    ensures { result ≡ kind_number kind }
+{
+    match kind {
+        Kind::Text => 2,
+        Kind::Logical => 4,
+    }
+}
+
+fn of_parts(operation: u8, a: u8, b: u16, c: u32) -> Parts
+    ensures { result ≡ record { operation = operation; a = a; b = b; c = c } }
+{
+    Parts { operation, a, b, c }
+}
+
+/// The instruction's operation and operands.
+pub fn parts_of_instr(instr: &Instr) -> Parts
+    ensures { result ≡ parts_of instr.now }
+{
+    match instr {
+        Instr::Constant(number) => of_parts(0x01, 0, *number, 0),
+        Instr::Load(kind, slot) => of_parts(0x02, number_of_kind(*kind), *slot, 0),
+        Instr::Store(kind, slot) => of_parts(0x03, number_of_kind(*kind), *slot, 0),
+        Instr::Unset(slot) => of_parts(0x04, 0, *slot, 0),
+        Instr::Discard(kind) => of_parts(0x05, number_of_kind(*kind), 0, 0),
+        Instr::Jump(place) => of_parts(0x10, 0, 0, *place),
+        Instr::JumpFalse(place) => of_parts(0x11, 0, 0, *place),
+        Instr::End => of_parts(0x14, 0, 0, 0),
+        Instr::NewLine => of_parts(0x40, 0, 0, 0),
+        Instr::Print(kind) => of_parts(0x41, number_of_kind(*kind), 0, 0),
+    }
+}
