@@ -1,5 +1,5 @@
 -- What a run of a code file reports.
-use Rattle.std.specs.Prelude.{◌≡◌, ◌<◌, ℕ, List, Bool, true, false, Option, Some, None, Ok, Err, length}
+use Rattle.std.specs.Prelude.{◌≡◌, ◌<◌, ℕ, List, Bool, true, false, Option, Some, None, Err, length}
 use Rattle.screen_lines.specs.State.{sent}
 use Rattle.xcode.specs.declared.code.Code.{Code}
 use Rattle.xcode.specs.declared.fault.CodeFault.{CodeFault}

@@ -1,5 +1,5 @@
 -- The banks follow the world over whole runs.
-use Rattle.std.proofs.Common.{◌≡◌, ℕ, suc, ◌+◌, ◌-◌, ◌<◌, ◌≤◌, Bool, true, false, ◌||◌, ◌&&◌, not, List, [], ◌∷◌, length, Option, Some, None, refl, sym, ap, ◌∙◌, subst, arith, cond, ◌⊎◌, inl, inr}
+use Rattle.std.proofs.Common.{◌≡◌, ℕ, suc, ◌+◌, ◌-◌, ◌<◌, ◌≤◌, Bool, true, false, ◌||◌, ◌&&◌, List, [], ◌∷◌, length, Option, Some, None, refl, sym, ap, ◌∙◌, subst, arith, cond, inl, inr}
 use Rattle.std.specs.Prelude.{nat_lt, nat_le, map, IsTrue}
 use Rattle.std.proofs.lemmas.Bool.Decides.{nat_tests}
 use Rattle.arrayvec.specs.ArrayVec.{ArrayVec}
@@ -15,14 +15,14 @@ use Rattle.xcode.specs.declared.instr.Instr.TheVariants.{Constant, Load, Store, 
 use Rattle.xcode.specs.Kinds.{clashes, slots_covered, slot_covered}
 use Rattle.xcode.specs.Signature.{is_end, grows}
 use Rattle.xcode.specs.States.{instr_at, flow, state_at}
-use Rattle.xcode.specs.Kept.{Covers, Leads, KeepsRules, Connects}
+use Rattle.xcode.specs.Kept.{Covers, Leads}
 use Rattle.tagged_machine.specs.declared.world.World.{World}
 use Rattle.tagged_machine.specs.declared.run.End.TheVariants.{Finished as EndFinished, Spent, NoMemory}
 use Rattle.tagged_machine.specs.declared.run.Stepped.TheVariants.{Went, Ended}
 use Rattle.tagged_machine.specs.Tags.{is_false_on_top}
 use Rattle.tagged_machine.specs.Faults.{fault_of, next_place, IsClear}
 use Rattle.tagged_machine.specs.Step.{Next, Finished, step_of, cost_of, effect}
-use Rattle.tagged_machine.specs.Fits.{SlotsFit, IsReady}
+use Rattle.tagged_machine.specs.Fits.{SlotsFit}
 use Rattle.tagged_machine.specs.Run.{Reaches, IsNoFault, after, next_world}
 use Rattle.machine.specs.declared.banks.Banks.{Banks}
 use Rattle.machine.specs.Twin.{texts_of, truths_of, TextAgrees, TruthAgrees, EachAgrees, Agrees, Twin}

@@ -1,16 +1,14 @@
 -- The banks of the opening stand for the checking machine's opening.
-use Rattle.std.proofs.Common.{◌≡◌, ℕ, zero, suc, List, [], ◌∷◌, length, Option, Some, None, refl, arith}
+use Rattle.std.proofs.Common.{◌≡◌, ℕ, zero, suc, List, [], ◌∷◌, length, Option, Some, None, arith}
 use Rattle.std.specs.Prelude.{replicate}
-use Rattle.std.proofs.lemmas.List.{length-replicate}
-use Rattle.arrayvec.specs.ArrayVec.{ArrayVec}
 use Rattle.xvalue.specs.declared.kind.Kind.{Kind}
 use Rattle.xvalue.specs.declared.value.Value.{Value}
 use Rattle.xcode.specs.declared.code.Code.{Code}
 use Rattle.xcode.specs.States.{state_at}
-use Rattle.tagged_machine.specs.Fits.{SlotFits, SlotsFit, IsReady}
+use Rattle.tagged_machine.specs.Fits.{SlotsFit, IsReady}
 use Rattle.tagged_machine.specs.Opening.{opening}
 use Rattle.machine.specs.declared.banks.Banks.{Banks}
-use Rattle.machine.specs.Twin.{TextAgrees, TruthAgrees, EachAgrees, Agrees, Twin}
+use Rattle.machine.specs.Twin.{TextAgrees, TruthAgrees, EachAgrees, Twin}
 
 -- where all slots are unset nothing is known of any, so that a bank may hold anything
 each_agrees : {T : Type 0} (P : Option Kind → Option Value → T → Type 0) → ((x : T) → P None None x) → (ks : List (Option Kind)) (n : ℕ) (xs : List T) → SlotsFit ks (replicate n None) → length xs ≡ n → EachAgrees P ks (replicate n None) xs

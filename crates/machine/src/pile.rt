@@ -32,13 +32,6 @@ impl<T> Pile<T> {
         })
     }
 
-    /// How many values there are.
-    pub fn len(&self) -> usize
-        ensures { result ≡ length self.now }
-    {
-        self.values.len()
-    }
-
     /// Takes the top value, which is there.
     pub fn pop(&mut self) -> T
         requires { 0 < length self.old }
@@ -95,13 +88,6 @@ impl<T> Row<T> {
         ensures { result ≡ values.items }
     {
         Row { values }
-    }
-
-    /// How many slots there are.
-    pub fn len(&self) -> usize
-        ensures { result ≡ length self.now }
-    {
-        self.values.len()
     }
 
     /// The slot's value; the slot is there.

@@ -1,5 +1,5 @@
 -- Accepted code meets no fault, and what is known of it stays true.
-use Rattle.std.proofs.Common.{◌≡◌, ℕ, zero, suc, ◌+◌, ◌-◌, ◌<◌, Bool, true, false, ◌||◌, ◌&&◌, not, List, [], ◌∷◌, ◌++◌, length, drop, Option, Some, None, refl, sym, ap, ◌∙◌, subst, arith, cond, length-append, length-drop, ◌⊎◌, inl, inr}
+use Rattle.std.proofs.Common.{◌≡◌, ℕ, zero, suc, ◌+◌, ◌<◌, Bool, true, false, ◌||◌, ◌&&◌, not, List, [], ◌∷◌, ◌++◌, length, drop, Option, Some, None, refl, sym, ap, ◌∙◌, subst, arith, cond, inl, inr}
 use Rattle.std.specs.Prelude.{slice_get, slice_set, nat_lt, nat_le, map, is_none, replicate, sum}
 use Rattle.std.proofs.lemmas.Bool.Decides.{nat_tests}
 use Rattle.std.proofs.lemmas.List.{length-map, length-replicate}
@@ -14,14 +14,14 @@ use Rattle.xcode.specs.declared.code.Code.{Code}
 use Rattle.xcode.specs.declared.instr.Instr.{Instr}
 use Rattle.xcode.specs.declared.instr.Instr.TheVariants.{Constant, Load, Store, Unset, Discard, Jump, JumpFalse, End, NewLine, Print}
 use Rattle.xcode.specs.Kinds.{clashes, same_kinds, slots_covered, slot_covered}
-use Rattle.xcode.specs.Signature.{takes, is_end, target_of, falls}
-use Rattle.xcode.specs.States.{instr_at, undeclared, pushes, kinds_of_constant, flow, map_at, state_at}
+use Rattle.xcode.specs.Signature.{is_end}
+use Rattle.xcode.specs.States.{instr_at, kinds_of_constant, flow, map_at, state_at}
 use Rattle.xcode.specs.Rules.{has_other, is_free, loads_other, loads_free, no_target, no_fall, Accepted}
 use Rattle.xcode.specs.Kept.{Kept, Covers, Leads, KeepsRules, Connects}
 use Rattle.screen_lines.specs.State.{printed}
 use Rattle.tagged_machine.specs.declared.world.World.{World}
 use Rattle.tagged_machine.specs.Tags.{is_false_on_top}
-use Rattle.tagged_machine.specs.Faults.{fault_of, has_other_kind, has_no_value, loads_other_kind, loads_unset, bad_jump, next_place, IsClear}
+use Rattle.tagged_machine.specs.Faults.{has_other_kind, has_no_value, loads_other_kind, loads_unset, bad_jump, next_place, IsClear}
 use Rattle.tagged_machine.specs.Step.{effect, with_top, with_constant, step_of, Next}
 use Rattle.tagged_machine.specs.Fits.{SlotFits, SlotsFit, Fits, HasShape, IsReady}
 use Rattle.xcode.specs.declared.code.Proc.{Proc}

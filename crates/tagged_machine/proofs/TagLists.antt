@@ -1,5 +1,5 @@
 -- Tests over two lists, as chains of iterators make them.
-use Rattle.std.proofs.Common.{◌≡◌, refl, ap, Bool, not, ◌||◌, List, [], ◌∷◌}
+use Rattle.std.proofs.Common.{◌≡◌, refl, ap, not, ◌||◌, List, [], ◌∷◌}
 use Rattle.std.specs.Prelude.{map}
 use Rattle.std.specs.List.{list_any, zip}
 use Rattle.xvalue.specs.declared.kind.Kind.{Kind}

@@ -1,5 +1,5 @@
 -- What acceptance means, place by place.
-use Rattle.std.proofs.Common.{◌≡◌, ℕ, zero, suc, ◌+◌, ◌<◌, Bool, true, false, ◌||◌, ◌&&◌, ◌==◌, not, List, [], ◌∷◌, length, Option, Some, None, refl, sym, ap, ◌∙◌, subst, arith, cond, add-one, ◌⊎◌, inl, inr, ⊎_elim}
+use Rattle.std.proofs.Common.{◌≡◌, ℕ, ◌+◌, ◌<◌, Bool, true, false, ◌||◌, ◌&&◌, ◌==◌, not, List, [], ◌∷◌, length, Option, Some, None, refl, subst, arith, cond, add-one, ⊎_elim}
 use Rattle.std.specs.Prelude.{nat_lt, nat_le, is_none}
 use Rattle.std.proofs.lemmas.Bool.Decides.{nat_tests}
 use Rattle.xvalue.specs.declared.kind.Kind.{Kind}
@@ -13,8 +13,8 @@ use Rattle.xcode.specs.declared.instr.Instr.TheVariants.{Constant, Load, Store, 
 use Rattle.xcode.specs.declared.rule.Rule.{Rule}
 use Rattle.xcode.specs.declared.rule.Rule.TheVariants.{Kind as RuleKind, Unset as RuleUnset, OtherTable, StackUnder, StackOver, StackNotEmpty, Jump as RuleJump, Fall, Constant as RuleConstant}
 use Rattle.xcode.specs.Areas.{same_number, same_area, same_areas}
-use Rattle.xcode.specs.Kinds.{clashes, kinds_covered, same_kinds, slot_covered, slots_covered}
-use Rattle.xcode.specs.Signature.{takes, adds, is_end, target_of, falls}
+use Rattle.xcode.specs.Kinds.{clashes, same_kinds, slot_covered, slots_covered}
+use Rattle.xcode.specs.Signature.{takes, target_of, falls}
 use Rattle.xcode.specs.States.{instr_at, undeclared, unknown, flow, map_at, or_state, incoming_at, entry_of, state_at}
 use Rattle.xcode.specs.Rules.{slots_fail, areas_fail, stack_fails, at_target, some_next, at_entry, loads_other, loads_free, height_after, leaves_values, no_target, no_fall, kind_fails, table_fails, empty_fails, refusal_of, refusal_at, Accepted}
 use Rattle.xcode.specs.Kept.{Kept, Covers, Leads, KeepsRules, Connects}

@@ -1,6 +1,6 @@
 -- Whether a code is legal is a plain fact, so that types can keep it.
-use Rattle.std.specs.Prelude.{◌≡◌, ◌<◌, ◌≤◌, ℕ, ◌+◌, List, [], ◌∷◌}
-use Rattle.std.specs.List.{AllByRecursion, AllByRecursion-prop}
+use Rattle.std.specs.Prelude.{ℕ, ◌+◌, List, [], ◌∷◌}
+use Rattle.std.specs.List.{AllByRecursion-prop}
 use Rattle.std.proofs.Props.{props}
 use Rattle.std.specs.Coded.{×_prop, Unit-prop, le_prop}
 use Rattle.xvalue.specs.declared.value.Value.{Value}
@@ -9,7 +9,7 @@ use Rattle.xcode.specs.declared.code.Map.{Map}
 use Rattle.xcode.specs.declared.code.Proc.{Proc}
 use Rattle.xcode.specs.declared.instr.Instr.{Instr}
 use Rattle.xcode.specs.declared.instr.Instr.TheVariants.{Constant, Load, Store, Unset, Discard, Jump, JumpFalse, End, NewLine, Print}
-use Rattle.xcode.specs.Legal.{IsConstant, IsInstr, RiseFrom, IsMain, MainIs}
+use Rattle.xcode.specs.Legal.{IsConstant, IsInstr, RiseFrom, MainIs}
 
 pub IsConstant-prop : (v : Value) → IsProp (IsConstant v)
 IsConstant-prop (Text text) = ×_prop le_prop (AllByRecursion-prop _ (λ _. le_prop) text.items)

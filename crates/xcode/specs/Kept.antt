@@ -1,13 +1,13 @@
 -- What holds where no rule fails, test by test, and where an instruction may lead.
-use Rattle.std.specs.Prelude.{◌≡◌, ◌<◌, ◌≤◌, ℕ, ◌+◌, Bool, true, false, ◌&&◌, ◌==◌, ◌⊎◌, Option, Some, None, nat_lt, length}
+use Rattle.std.specs.Prelude.{◌≡◌, ◌<◌, ℕ, ◌+◌, true, false, ◌&&◌, ◌==◌, ◌⊎◌, Some, nat_lt, length}
 use Rattle.xcode.specs.declared.state.State.{State}
 use Rattle.xcode.specs.declared.code.Code.{Code}
 use Rattle.xcode.specs.declared.instr.Instr.{Instr}
 use Rattle.xcode.specs.Areas.{same_areas}
 use Rattle.xcode.specs.Kinds.{clashes, same_kinds, slots_covered}
 use Rattle.xcode.specs.Signature.{takes, target_of, falls}
-use Rattle.xcode.specs.States.{instr_at, undeclared, flow, map_at, entry_of, state_at}
-use Rattle.xcode.specs.Rules.{Accepted, loads_other, loads_free, height_after, leaves_values, no_target, no_fall}
+use Rattle.xcode.specs.States.{instr_at, undeclared, flow, entry_of, state_at}
+use Rattle.xcode.specs.Rules.{loads_other, loads_free, height_after, leaves_values, no_target, no_fall}
 
 -- the tests of one instruction, which finds state s, that concern it alone
 pub record Kept (code : Code) (place : ℕ) (i : Instr) (s : State) : Type 0 where

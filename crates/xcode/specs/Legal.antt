@@ -1,7 +1,6 @@
 -- The codes that have a code file.
-use Rattle.std.specs.Prelude.{◌≡◌, ◌<◌, ◌≤◌, ℕ, ◌+◌, ◌^◌, List, [], ◌∷◌, Option, Some, None, length, map, replicate, sum}
+use Rattle.std.specs.Prelude.{◌≡◌, ◌<◌, ◌≤◌, ℕ, ◌+◌, ◌^◌, List, [], ◌∷◌, None, length, map, replicate, sum}
 use Rattle.std.specs.List.{AllByRecursion}
-use Rattle.xvalue.specs.declared.kind.Kind.{Kind}
 use Rattle.xvalue.specs.declared.value.Value.{Value}
 use Rattle.xvalue.specs.declared.value.Value.TheVariants.{Text, Logical}
 use Rattle.xcode.specs.declared.state.State.{State}

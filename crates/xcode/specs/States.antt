@@ -1,5 +1,5 @@
 -- What is known before each place of a code, and what an instruction makes of it.
-use Rattle.std.specs.Prelude.{ℕ, zero, suc, ◌+◌, List, [], ◌∷◌, ◌++◌, Bool, true, false, ◌||◌, if◌then◌else◌, nat_le, ◌==◌, Option, Some, None, length, drop, replicate, slice_get, slice_set, slice_index_or}
+use Rattle.std.specs.Prelude.{ℕ, zero, suc, List, [], ◌∷◌, ◌++◌, Bool, false, if◌then◌else◌, nat_le, ◌==◌, Option, Some, None, length, drop, slice_get, slice_set, slice_index_or}
 use Rattle.xvalue.specs.declared.kind.Kind.{Kind}
 use Rattle.xvalue.specs.declared.value.Value.{Value}
 use Rattle.xvalue.specs.Kinds.{kind_of}

@@ -2,7 +2,7 @@
 #![tactic(auto)]
 
 ghost use Rattle.std.specs.Prelude.{◌≡◌, ◌∷◌, []};
-ghost use Rattle.xcode.specs.Signature.{takes, adds, is_end, grows, target_of, falls};
+ghost use Rattle.xcode.specs.Signature.{takes, adds, is_end, target_of, falls};
 
 use xvalue::Kind;
 
@@ -70,16 +70,6 @@ impl Instr {
     {
         match self {
             Instr::End => true,
-            _ => false,
-        }
-    }
-
-    /// Whether it may take memory.
-    pub fn grows(&self) -> bool
-        ensures { result ≡ grows self.now }
-    {
-        match self {
-            Instr::NewLine | Instr::Print(_) => true,
             _ => false,
         }
     }

@@ -26,15 +26,6 @@ impl Model for KindStack {
 }
 
 impl KindStack {
-    /// No kinds.
-    pub fn new(alloc: Global) -> KindStack
-        ensures { result ≡ [] }
-    {
-        KindStack {
-            kinds: Vec::new(alloc),
-        }
-    }
-
     /// These kinds, the top last.
     pub fn of(kinds: Vec<Kind>) -> KindStack
         ensures { result ≡ reverse kinds.items }

@@ -2,6 +2,7 @@
 #![tactic(auto)]
 
 use super::assembler::{HandCode, HandMap, assembled};
+use crate::files::Files;
 use crate::listing::{list_code, verify_file};
 use crate::memory_files::{Entry, MemoryFiles};
 use crate::refusal::{Fault, Refusal};
@@ -166,7 +167,7 @@ fn tells_why_not(rt: HostRuntime) -> Result<(), Fail> {
     files.works = false;
     let report = run_files(rt.alloc(), &mut files, true, "cut.xbc", 30);
     assert_eq!(rt; report.result, Err(Refusal::Disk { name: "cut.xbc" }));
-    assert_eq!(rt; files.failures, 1);
+    assert_eq!(rt; files.failures(), 1);
     Ok(())
 }
 

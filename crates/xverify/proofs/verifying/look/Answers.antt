@@ -1,4 +1,4 @@
-use Rattle.std.proofs.Common.{refl, ap, ◌∙◌, arith, length, ◌<◌}
+use Rattle.std.proofs.Common.{ap, ◌∙◌}
 use Rattle.xcode.specs.States.{flow}
 use Rattle.xverify.proofs.Findings.{finds, got}
 use Rattle.xverify.proofs.verifying.look.Goals as goal

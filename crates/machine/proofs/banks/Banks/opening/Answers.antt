@@ -1,4 +1,4 @@
-use Rattle.std.proofs.Common.{◌≡◌, refl, ap, ◌∙◌, length}
+use Rattle.std.proofs.Common.{refl, ap, ◌∙◌, length}
 use Rattle.machine.proofs.Openings.{opens_twin}
 use Rattle.machine.proofs.banks.Banks.opening.Goals as goal
 
