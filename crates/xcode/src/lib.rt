@@ -33,7 +33,7 @@ pub use items::Items;
 pub use kind_slots::KindSlots;
 pub use kind_stack::KindStack;
 pub use rule::Rule;
-pub use shape::{FieldShape, IndexShape, KeyPart, ListShape, Name, Shape, TableShape};
+pub use shape::{FieldLetter, FieldShape, IndexShape, KeyPart, ListShape, Name, Shape, TableShape};
 pub use state::{AreaState, OpenArea, State};
 
 #[cfg(test)]

@@ -7,11 +7,20 @@ use arrayvec::ArrayVec;
 /// A name: up to ten capitals, digits and underscores, a letter first.
 pub type Name = ArrayVec<u8, 10>;
 
+/// What a field holds, by its letter: texts, numbers, dates or truth values.
+#[derive(Clone, Copy, PartialEq, Eq, Debug)]
+pub enum FieldLetter {
+    C,
+    N,
+    D,
+    L,
+}
+
 /// A field of a declared table.
 #[derive(Drop, Debug)]
 pub struct FieldShape {
     pub name: Name,
-    pub letter: u8,
+    pub letter: FieldLetter,
     pub width: u8,
     pub decimals: u8,
 }

@@ -1,0 +1,63 @@
+-- The laws of lists in order.
+use Rattle.std.proofs.Common.{◌≡◌, ℕ, true, false, not, List, reverse, refl, ap}
+use Rattle.std.specs.Ordering.{is_lt, nat_cmp, ordering_then}
+use Rattle.std.specs.List.{filter, Contains}
+use Rattle.ndx_tree.specs.Order.{IsStrictOrder, IsAscending, flip, first, below}
+use Rattle.ndx_tree.specs.Pairs.{Pair, is_before, key_before, pairs_from}
+use Rattle.ndx_tree.specs.Laws.{FindsNearest, MeetsEach, ChangesOne, PutsInOrder, ChangesRows}
+use Rattle.ndx_tree.proofs.Ordered.{IsAscending-reverse, flip_strict, IsAscending-inserted, IsAscending-filter, IsAscending-in_order, without-inserted, in_order-permutation, in_order-middle, in_order-replaced, without-middle, step_all, step_above}
+use Rattle.ndx_tree.proofs.PairOrder.{is_before_strict, key_before_down, not_true}
+use Rattle.ndx_tree.proofs.Members.{Contains-inserted, inserted-Contains, Contains-without, without-Contains, Contains-in_order, in_order-Contains}
+use Rattle.ndx_tree.proofs.Nearest.{IsLeastOf-reverse, IsLeastOf-map, filter-least, first-least, step_from}
+
+backward : IsStrictOrder (flip is_before)
+backward = flip_strict is_before is_before_strict
+
+-- what isn't below a key goes up along the order
+not_below_up : (key : List ℕ) (p q : Pair) → is_before p q ≡ true → not (key_before p.0 key) ≡ true → not (key_before q.0 key) ≡ true
+not_below_up key p q e f =
+    elim (key_before q.0 key) as (λ b. key_before q.0 key ≡ b → not b ≡ true) [
+      | true ↦ λ g. let h = key_before_down key p q e g in rw h at f
+      | false ↦ λ g. refl
+    ] refl
+
+pub finds_nearest : (pairs : List Pair) → IsAscending is_before pairs → FindsNearest pairs
+finds_nearest pairs a = record {
+  least = first-least is_before is_before_strict pairs a;
+  greatest = IsLeastOf-reverse (flip is_before) (λ _. Rattle.std.specs.Prelude.⊤) pairs (first (reverse pairs)) (first-least (flip is_before) backward (reverse pairs) (IsAscending-reverse is_before pairs a));
+  least_from = λ key. IsLeastOf-map is_before (λ (q : Pair). not (key_before q.0 key) ≡ true) (λ q. key_before q.0 key ≡ false) pairs (first (pairs_from key pairs)) (λ q e. not_true e) (λ q e. ap not e) (filter-least is_before is_before_strict (λ q. not (key_before q.0 key)) pairs a);
+  next = λ p. filter-least is_before is_before_strict (is_before p) pairs a;
+  previous = λ p. IsLeastOf-reverse (flip is_before) (λ q. is_before q p ≡ true) pairs (first (below is_before p pairs)) (filter-least (flip is_before) backward (flip is_before p) (reverse pairs) (IsAscending-reverse is_before pairs a));
+}
+
+pub meets_each : (pairs : List Pair) → IsAscending is_before pairs → MeetsEach pairs
+meets_each pairs a = record {
+  least = λ q e. step_all is_before is_before_strict pairs q a e;
+  least_from = λ key q e. step_from is_before is_before_strict (λ p. not (key_before p.0 key)) (not_below_up key) pairs q a e;
+  next = λ p q e. step_above is_before is_before_strict p pairs q a e;
+  greatest = λ q e. step_all (flip is_before) backward (reverse pairs) q (IsAscending-reverse is_before pairs a) e;
+  previous = λ p q e. step_above (flip is_before) backward p (reverse pairs) q (IsAscending-reverse is_before pairs a) e;
+}
+
+pub changes_one : (p : Pair) (pairs : List Pair) → IsAscending is_before pairs → ChangesOne p pairs
+changes_one p pairs a = record {
+  ordered_with = λ n. IsAscending-inserted is_before is_before_strict p pairs n a;
+  members_with = λ q. (Contains-inserted is_before p pairs q, inserted-Contains is_before p pairs q);
+  ordered_without = IsAscending-filter is_before _ pairs a;
+  members_without = λ q. (Contains-without is_before is_before_strict p pairs q, λ c. without-Contains is_before is_before_strict p pairs q c.0 c.1);
+  undone = λ n. without-inserted is_before is_before_strict p pairs n;
+}
+
+pub puts_in_order : (pairs : List Pair) → PutsInOrder pairs
+puts_in_order pairs = record {
+  ascending = λ d. IsAscending-in_order is_before is_before_strict pairs d;
+  members = λ q. (Contains-in_order is_before pairs q, in_order-Contains is_before pairs q);
+  any_order = λ others e. in_order-permutation is_before is_before_strict pairs others e;
+}
+
+pub changes_rows : (front : List Pair) (p : Pair) (back : List Pair) → ChangesRows front p back
+changes_rows front p back = record {
+  added = in_order-middle is_before is_before_strict front p back;
+  removed = λ n. without-middle is_before is_before_strict front p back n;
+  replaced = λ n q. in_order-replaced is_before is_before_strict front p q back n;
+}

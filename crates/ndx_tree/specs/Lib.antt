@@ -1,0 +1,5 @@
+pub mod Order
+pub mod Pairs
+pub mod KeyForm
+pub mod SortedList
+pub mod Laws
