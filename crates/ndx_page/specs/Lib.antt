@@ -1,0 +1,4 @@
+pub mod Numbers
+pub mod Layout
+pub mod HeadLayout
+pub mod PageLayout
