@@ -1,5 +1,6 @@
 -- What a run of a code file reports.
 use Rattle.std.specs.Prelude.{◌≡◌, ◌<◌, ℕ, List, Bool, true, false, Option, Some, None, Err, length}
+use Rattle.xvalue.specs.declared.day.DayParts.{DayParts}
 use Rattle.screen_lines.specs.State.{sent}
 use Rattle.xcode.specs.declared.code.Code.{Code}
 use Rattle.xcode.specs.declared.fault.CodeFault.{CodeFault}
@@ -20,23 +21,23 @@ use Rattle.xcode.specs.Listing.{lines_from}
 use Rattle.xverify.specs.declared.verified.Refused.{Refused as RefusedRule}
 use Rattle.dbrun.specs.Holding.{Rose}
 
--- the checking machine ran the code from its opening, and the rows are what its last world sends
-pub record CheckedRun (code : Code) (budget : ℕ) (outcome : Outcome) (rows : List ℕ) : Type 0 where
+-- the checking machine ran the code from its opening on this day, and the rows are what its last world sends
+pub record CheckedRun (code : Code) (budget : ℕ) (today : Option DayParts) (outcome : Outcome) (rows : List ℕ) : Type 0 where
   pub last : World
-  pub ran : Ran code (opening code) budget outcome last
+  pub ran : Ran code (opening code today) budget outcome last
   pub rows_are : rows ≡ sent last.screen
 
--- the code is accepted, the machine without tags took the checking machine's steps from the opening, and the rows are
--- what its last banks send
-pub record AcceptedRun (code : Code) (budget : ℕ) (outcome : Outcome) (rows : List ℕ) : Type 0 where
+-- the code is accepted, the machine without tags took the checking machine's steps from the opening on this day, and
+-- the rows are what its last banks send
+pub record AcceptedRun (code : Code) (budget : ℕ) (today : Option DayParts) (outcome : Outcome) (rows : List ℕ) : Type 0 where
   pub accepted : Accepted code
   pub last : Banks
-  pub ran : BankRan code (opening code) budget outcome last
+  pub ran : BankRan code (opening code today) budget outcome last
   pub rows_are : rows ≡ sent last.screen
 
-abbrev pub RunIs : Bool → Code → ℕ → Outcome → List ℕ → Type 0
-RunIs true code budget outcome rows = CheckedRun code budget outcome rows
-RunIs false code budget outcome rows = AcceptedRun code budget outcome rows
+abbrev pub RunIs : Bool → Code → ℕ → Option DayParts → Outcome → List ℕ → Type 0
+RunIs true code budget today outcome rows = CheckedRun code budget today outcome rows
+RunIs false code budget today outcome rows = AcceptedRun code budget today outcome rows
 
 -- what the file may hold is the text of a code
 pub record IsCodeFile (holds : Option (List ℕ) → Type 0) (code : Code) : Type 0 where
@@ -45,10 +46,10 @@ pub record IsCodeFile (holds : Option (List ℕ) → Type 0) (code : Code) : Typ
   pub text : CodeText bytes code
 
 -- a run of the code in the file
-pub record FileRun (holds : Option (List ℕ) → Type 0) (checked : Bool) (budget : ℕ) (outcome : Outcome) (rows : List ℕ) : Type 0 where
+pub record FileRun (holds : Option (List ℕ) → Type 0) (checked : Bool) (budget : ℕ) (today : Option DayParts) (outcome : Outcome) (rows : List ℕ) : Type 0 where
   pub code : Code
   pub file : IsCodeFile holds code
-  pub run : RunIs checked code budget outcome rows
+  pub run : RunIs checked code budget today outcome rows
 
 -- a file longer than 64 MiB, and one that is no code file by this fault
 pub record IsTooLong (holds : Option (List ℕ) → Type 0) : Type 0 where

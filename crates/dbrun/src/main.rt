@@ -21,13 +21,15 @@ use crate::listing::{list_code, verify_file};
 use crate::refusal::Refusal;
 use crate::running::run_files;
 use crate::status::{Status, of_end, of_refusal};
-use crate::words::{Words, command, words_of};
+use crate::words::{Words, WordsFault, command, words_of};
+use clap::Command;
 use clap::error::ErrorKind;
 use std::alloc::Global;
 use std::process::ExitCode;
 use std::rt::Runtime;
 use std::{env, io};
 use tagged_machine::{End, Outcome};
+use xvalue::Day;
 
 /// Tells on standard error how a run ended. A standard error that fails changes nothing.
 fn tell_end(rt: &impl Runtime, outcome: Outcome) {
@@ -46,9 +48,15 @@ fn refuse(rt: &impl Runtime, refusal: Refusal<'_>) -> Status {
     of_refusal(&refusal)
 }
 
-fn run<R: Runtime<A = Global>>(rt: &R, checked: bool, name: &str, budget: u64) -> Status {
+fn run<R: Runtime<A = Global>>(
+    rt: &R,
+    checked: bool,
+    name: &str,
+    budget: u64,
+    today: Day,
+) -> Status {
     let mut folder = Folder::new(rt);
-    let report = run_files(rt.alloc(), &mut folder, checked, name, budget);
+    let report = run_files(rt.alloc(), &mut folder, checked, name, budget, today);
     if rt.write_all(report.rows.as_slice()).is_err() {
         return Status::Disk;
     }
@@ -89,8 +97,16 @@ fn code<R: Runtime<A = Global>>(rt: &R, name: &str) -> Status {
 
 fn carry_out<R: Runtime<A = Global>>(rt: &R, words: Words<'_>) -> Status {
     match words {
-        Words::Run { name, budget } => run(rt, false, name, budget),
-        Words::CheckRun { name, budget } => run(rt, true, name, budget),
+        Words::Run {
+            name,
+            budget,
+            today,
+        } => run(rt, false, name, budget, today),
+        Words::CheckRun {
+            name,
+            budget,
+            today,
+        } => run(rt, true, name, budget, today),
         Words::Verify { name } => verify(rt, name),
         Words::Code { name } => code(rt, name),
     }
@@ -110,15 +126,30 @@ fn refuse_words(rt: &impl Runtime, error: &clap::Error) -> Status {
     Status::Words
 }
 
+/// What is wrong with words that the parser took.
+fn message(fault: WordsFault) -> &'static str {
+    match fault {
+        WordsFault::Today => "the day of --today is YYYY-MM-DD, in the years 1900 to 2155",
+        WordsFault::Missing => "a word is missing",
+    }
+}
+
+fn refuse_fault(rt: &impl Runtime, command: &mut Command<'_>, fault: WordsFault) -> Status {
+    match command.error(ErrorKind::ValueValidation, message(fault)) {
+        Ok(error) => refuse_words(rt, &error),
+        Err(_) => no_memory(rt),
+    }
+}
+
 /// Parses the words and carries them out.
 fn answer<R: Runtime<A = Global>>(rt: &R, arguments: &[String]) -> Status {
-    let Ok(command) = command(rt.alloc()) else {
+    let Ok(mut command) = command(rt.alloc()) else {
         return no_memory(rt);
     };
-    match command.try_get_matches_from(arguments) {
+    match command.try_get_matches_from_mut(arguments) {
         Ok(matches) => match words_of(&matches) {
-            Some(words) => carry_out(rt, words),
-            None => Status::Words,
+            Ok(words) => carry_out(rt, words),
+            Err(fault) => refuse_fault(rt, &mut command, fault),
         },
         Err(error) => refuse_words(rt, &error),
     }

@@ -13,6 +13,7 @@ use machine::{Banks, run};
 use std::alloc::{AllocError, Global};
 use tagged_machine::{Outcome, World, run_checked};
 use xcode::Code;
+use xvalue::Day;
 use xverify::{Refused, Verified, VerifyError, verify};
 
 /// A run that came to its end: what is printed, and the outcome.
@@ -31,21 +32,26 @@ pub struct Report<'a> {
 }
 
 /// Runs a code on the checking machine.
-fn run_any(alloc: Global, code: &Code, budget: u64) -> Result<Run, AllocError>
+fn run_any(alloc: Global, code: &Code, budget: u64, today: Day) -> Result<Run, AllocError>
     requires { IsCode code.now }
-    ensures { IfOk result (λ run. CheckedRun code.now budget run.outcome run.rows.items) }
+    ensures { IfOk result (λ run. CheckedRun code.now budget today run.outcome run.rows.items) }
 {
-    let mut world = World::opening(alloc, code)?;
+    let mut world = World::opening(alloc, code, today)?;
     let outcome = run_checked(code, &mut world, budget);
     let rows = world.finish(alloc)?;
     Ok(Run { rows, outcome })
 }
 
 /// Runs an accepted code on the machine without tags.
-fn run_verified(alloc: Global, verified: &Verified, budget: u64) -> Result<Run, AllocError>
-    ensures { IfOk result (λ run. AcceptedRun verified.now.code budget run.outcome run.rows.items) }
+fn run_verified(
+    alloc: Global,
+    verified: &Verified,
+    budget: u64,
+    today: Day,
+) -> Result<Run, AllocError>
+    ensures { IfOk result (λ run. AcceptedRun verified.now.code budget today run.outcome run.rows.items) }
 {
-    let mut banks = Banks::opening(alloc, verified)?;
+    let mut banks = Banks::opening(alloc, verified, today)?;
     let outcome = run(verified, &mut banks, budget);
     let rows = banks.finish(alloc)?;
     Ok(Run { rows, outcome })
@@ -69,19 +75,20 @@ fn run_of<'a, F: Files>(
     checked: bool,
     name: &'a str,
     budget: u64,
+    today: Day,
 ) -> Result<Run, Refusal<'a>>
-    ensures ran { IfOk result (λ run. FileRun (F.holds files.old name.now) checked budget run.outcome run.rows.items) }
+    ensures ran { IfOk result (λ run. FileRun (F.holds files.old name.now) checked budget today run.outcome run.rows.items) }
     ensures refused { IfErr result (RefusalIs (F.holds files.old name.now) (F.failed files.old) (F.failed files.new) name.now) }
 {
     let code = read_code(alloc, files, name)?;
     if checked {
-        return match run_any(alloc, &code, budget) {
+        return match run_any(alloc, &code, budget, today) {
             Ok(run) => Ok(run),
             Err(_) => Err(Refusal::Memory),
         };
     }
     match accept(alloc, code) {
-        Ok(Ok(verified)) => match run_verified(alloc, &verified, budget) {
+        Ok(Ok(verified)) => match run_verified(alloc, &verified, budget, today) {
             Ok(run) => Ok(run),
             Err(_) => Err(Refusal::Memory),
         },
@@ -93,7 +100,7 @@ fn run_of<'a, F: Files>(
     }
 }
 
-/// Runs the code in a file, within the budget: on the checking machine if `checked`, accepted or not, and else, if it
+/// Runs the code in a file on this day, within the budget: on the checking machine if `checked`, accepted or not, and else, if it
 /// is accepted, on the machine without tags. The rows are what the run sends; where there is a refusal there are none.
 /// No file changes.
 pub fn run_files<'a, F: Files>(
@@ -102,12 +109,13 @@ pub fn run_files<'a, F: Files>(
     checked: bool,
     name: &'a str,
     budget: u64,
+    today: Day,
 ) -> Report<'a>
-    ensures ran { IfOk result.result (λ outcome. FileRun (F.holds files.old name.now) checked budget outcome result.rows.items) }
+    ensures ran { IfOk result.result (λ outcome. FileRun (F.holds files.old name.now) checked budget today outcome result.rows.items) }
     ensures refused { IfErr result.result (RefusalIs (F.holds files.old name.now) (F.failed files.old) (F.failed files.new) name.now) }
     ensures no_rows { IfErr result.result (λ _. result.rows.items ≡ []) }
 {
-    match run_of(alloc, files, checked, name, budget) {
+    match run_of(alloc, files, checked, name, budget, today) {
         Ok(run) => Report {
             rows: run.rows,
             result: Ok(run.outcome),

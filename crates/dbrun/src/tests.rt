@@ -4,3 +4,4 @@
 mod assembler;
 mod codes;
 mod three_rows;
+mod values;

@@ -2,22 +2,48 @@
 #![tactic(auto)]
 
 use clap::{Arg, ArgMatches, Command, value_parser};
+use jiff::civil::Date;
 use std::alloc::{AllocError, Global};
+use xvalue::{Day, DayParts};
 
 /// How much a run may cost where the words don't say.
 const DEFAULT_BUDGET: u64 = 1_000_000;
+
+/// The day of a run where the words don't say.
+const DEFAULT_DAY: &str = "1985-01-01";
+
+/// Why words that the parser took don't say what to do.
+#[derive(Clone, Copy, Debug, PartialEq, Eq)]
+pub enum WordsFault {
+    /// The day of a run isn't one of the years 1900 to 2155, or isn't written as YYYY-MM-DD.
+    Today,
+    /// A word is missing.
+    Missing,
+}
 
 /// What the words ask for. A file is named as in the current folder.
 #[derive(Clone, Copy, Debug, PartialEq, Eq)]
 pub enum Words<'a> {
     /// Run an accepted code file.
-    Run { name: &'a str, budget: u64 },
+    Run {
+        name: &'a str,
+        budget: u64,
+        today: Day,
+    },
     /// Run any code file, with a test of each instruction.
-    CheckRun { name: &'a str, budget: u64 },
+    CheckRun {
+        name: &'a str,
+        budget: u64,
+        today: Day,
+    },
     /// Say whether a code file is accepted.
-    Verify { name: &'a str },
+    Verify {
+        name: &'a str,
+    },
     /// List a code file.
-    Code { name: &'a str },
+    Code {
+        name: &'a str,
+    },
 }
 
 fn code_argument<'a>(alloc: Global) -> Arg<'a> {
@@ -38,7 +64,11 @@ fn runner<'a>(alloc: Global, name: &'a str, about: &'a str) -> Result<Command<'a
         .value_name("N")
         .value_parser(value_parser!(u64))
         .help("The most that the run may cost, below 2^64 (1000000 if left out)");
-    reader(alloc, name, about)?.arg(budget)
+    let today = Arg::new(alloc, "today")
+        .long("today")
+        .value_name("YYYY-MM-DD")
+        .help("The day of the run, in the years 1900 to 2155 (1985-01-01 if left out)");
+    reader(alloc, name, about)?.arg(budget)?.arg(today)
 }
 
 /// The commands that `dbrun` knows.
@@ -61,21 +91,45 @@ fn budget_of(matches: &ArgMatches<'_>) -> u64 {
     matches.get_one::<u64>("budget").unwrap_or(DEFAULT_BUDGET)
 }
 
-/// What was parsed; none where a word that the parser asks for isn't there.
-pub fn words_of<'a>(matches: &ArgMatches<'a>) -> Option<Words<'a>> {
-    let (command, matches) = matches.subcommand()?;
-    let name = matches.get_str("CODE")?;
+/// The day that a word of the form YYYY-MM-DD names, if it is one of the years 1900 to 2155.
+pub fn today_of(word: &str) -> Option<Day> {
+    let bytes = word.as_bytes();
+    if bytes.len() != 10 || bytes[4] != b'-' || bytes[7] != b'-' {
+        return None;
+    }
+    let date = word.parse::<Date>().ok()?;
+    if date.year() < 1900 || date.year() > 2155 {
+        return None;
+    }
+    Day::from_parts(DayParts {
+        year: date.year() as u16,
+        month: date.month() as u8,
+        day: date.day() as u8,
+    })
+}
+
+fn day_of(matches: &ArgMatches<'_>) -> Result<Day, WordsFault> {
+    let word = matches.get_str("today").unwrap_or(DEFAULT_DAY);
+    today_of(word).ok_or(WordsFault::Today)
+}
+
+/// What was parsed, or why it says nothing to be done.
+pub fn words_of<'a>(matches: &ArgMatches<'a>) -> Result<Words<'a>, WordsFault> {
+    let (command, matches) = matches.subcommand().ok_or(WordsFault::Missing)?;
+    let name = matches.get_str("CODE").ok_or(WordsFault::Missing)?;
     match command {
-        "run" => Some(Words::Run {
+        "run" => Ok(Words::Run {
             name,
             budget: budget_of(matches),
+            today: day_of(matches)?,
         }),
-        "check-run" => Some(Words::CheckRun {
+        "check-run" => Ok(Words::CheckRun {
             name,
             budget: budget_of(matches),
+            today: day_of(matches)?,
         }),
-        "verify" => Some(Words::Verify { name }),
-        "code" => Some(Words::Code { name }),
-        _ => None,
+        "verify" => Ok(Words::Verify { name }),
+        "code" => Ok(Words::Code { name }),
+        _ => Err(WordsFault::Missing),
     }
 }

@@ -163,3 +163,10 @@ pub(crate) struct Fraction {
     pub(crate) numerator: i128,
     pub(crate) decimals: u8,
 }
+
+/// Zero, without decimals.
+impl Default for Num {
+    fn default() -> Num {
+        Num::from_whole(0)
+    }
+}

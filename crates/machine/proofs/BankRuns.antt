@@ -1,59 +1,51 @@
 -- The banks follow the world over whole runs.
-use Rattle.std.proofs.Common.{◌≡◌, ℕ, suc, ◌+◌, ◌-◌, ◌<◌, ◌≤◌, Bool, true, false, ◌||◌, ◌&&◌, List, [], ◌∷◌, length, Option, Some, None, refl, sym, ap, ◌∙◌, subst, arith, cond, inl, inr}
+use Rattle.std.proofs.Common.{◌≡◌, ℕ, suc, ◌+◌, ◌-◌, ◌<◌, ◌≤◌, Bool, true, false, ◌||◌, ◌&&◌, List, [], ◌∷◌, length, drop, Option, Some, None, refl, sym, ap, ◌∙◌, subst, arith, cond}
 use Rattle.std.specs.Prelude.{nat_lt, nat_le, map, IsTrue}
 use Rattle.std.proofs.lemmas.Bool.Decides.{nat_tests}
-use Rattle.arrayvec.specs.ArrayVec.{ArrayVec}
+use Rattle.std.proofs.lemmas.List.{length-drop, length-reverse}
 use Rattle.xvalue.specs.declared.kind.Kind.{Kind}
-use Rattle.xvalue.specs.declared.kind.Kind.TheVariants.{Text as OfText, Logical as OfLogical}
+use Rattle.xvalue.specs.declared.kind.Kind.TheVariants.{Logical as OfLogical}
 use Rattle.xvalue.specs.declared.value.Value.{Value}
-use Rattle.xvalue.specs.declared.value.Value.TheVariants.{Text, Logical}
+use Rattle.xvalue.specs.declared.value.Value.TheVariants.{Number, Text, Date, Logical}
 use Rattle.xvalue.specs.Kinds.{kind_of}
+use Rattle.xvalue.specs.Given.{Given, by_kind}
+use Rattle.xvalue.specs.Signature.{takes_of}
 use Rattle.xcode.specs.declared.state.State.{State}
 use Rattle.xcode.specs.declared.code.Code.{Code}
 use Rattle.xcode.specs.declared.instr.Instr.{Instr}
-use Rattle.xcode.specs.declared.instr.Instr.TheVariants.{Constant, Load, Store, Unset, Discard, Jump, JumpFalse, End, NewLine, Print}
+use Rattle.xcode.specs.declared.instr.Instr.TheVariants.{Constant, Load, Store, Unset, Discard, Function, Ask, Jump, JumpFalse, End, NewLine, Print, Set}
 use Rattle.xcode.specs.Kinds.{clashes, slots_covered, slot_covered}
 use Rattle.xcode.specs.Signature.{is_end, grows}
 use Rattle.xcode.specs.States.{instr_at, flow, state_at}
-use Rattle.xcode.specs.Kept.{Covers, Leads}
+use Rattle.xcode.specs.Kept.{Covers}
 use Rattle.tagged_machine.specs.declared.world.World.{World}
 use Rattle.tagged_machine.specs.declared.run.End.TheVariants.{Finished as EndFinished, Spent, NoMemory}
 use Rattle.tagged_machine.specs.declared.run.Stepped.TheVariants.{Went, Ended}
-use Rattle.tagged_machine.specs.Tags.{is_false_on_top}
 use Rattle.tagged_machine.specs.Faults.{fault_of, next_place, IsClear}
 use Rattle.tagged_machine.specs.Step.{Next, Finished, step_of, cost_of, effect}
 use Rattle.tagged_machine.specs.Fits.{SlotsFit}
-use Rattle.tagged_machine.specs.Run.{Reaches, IsNoFault, after, next_world}
+use Rattle.tagged_machine.specs.Run.{IsNoFault, after, next_world}
+use Rattle.machine.specs.declared.cells.Cell.{Cell}
 use Rattle.machine.specs.declared.banks.Banks.{Banks}
-use Rattle.machine.specs.Twin.{texts_of, truths_of, TextAgrees, TruthAgrees, EachAgrees, Agrees, Twin}
+use Rattle.machine.specs.Places.{held}
+use Rattle.machine.specs.Stacks.{HasRoom, HasTop, HasArguments, without}
+use Rattle.machine.specs.Twin.{SlotAgrees, SlotsAgree, Agrees, Twin}
 use Rattle.machine.specs.BankStep.{Needs, NeedsTruth, bank_effect}
 use Rattle.machine.specs.BankRun.{BankFits, Follows, BankRan}
 use Rattle.machine.specs.Laws.{Laws}
-use Rattle.machine.proofs.Simulates.{simulates, top_text, top_truth}
+use Rattle.machine.proofs.Picking.{few_picked, as_number, numbers_are, as_text, texts_are, as_date, dates_are, as_truth, truths_are}
+use Rattle.machine.proofs.Calls.{Same, rest_same, has_arguments}
+use Rattle.machine.proofs.Simulates.{simulates, top_tested, ready_of}
 
-or_false : (a b : Bool) → (a || b) ≡ false → (a ≡ false) × (b ≡ false)
-or_false true b e = absurd (cc)
-or_false false b e = (refl, e)
+-- ---- what an instruction needs is there
 
--- what an instruction needs is there
-
-few_texts : (vs : List Value) → length (texts_of vs) ≤ length vs
-few_texts [] = omega arith
-few_texts (Text t ∷ vs) = omega (arith, few_texts vs)
-few_texts (Logical t ∷ vs) = omega (arith, few_texts vs)
-
-few_truths : (vs : List Value) → length (truths_of vs) ≤ length vs
-few_truths [] = omega arith
-few_truths (Text t ∷ vs) = omega (arith, few_truths vs)
-few_truths (Logical t ∷ vs) = omega (arith, few_truths vs)
-
-as_long : {T : Type 0} (P : Option Kind → Option Value → T → Type 0) (ks : List (Option Kind)) (os : List (Option Value)) (xs : List T) → EachAgrees P ks os xs → length os ≡ length xs
-as_long P [] [] [] f = refl
-as_long P (k ∷ ks) (o ∷ os) (x ∷ xs) f = ap suc (as_long P ks os xs f.1)
-as_long P [] [] (x ∷ xs) f = absurd f
-as_long P [] (o ∷ os) xs f = absurd f
-as_long P (k ∷ ks) [] xs f = absurd f
-as_long P (k ∷ ks) (o ∷ os) [] f = absurd f
+as_long : (ks : List (Option Kind)) (os : List (Option Value)) (cs : List Cell) → SlotsAgree ks os cs → length os ≡ length cs
+as_long [] [] [] f = refl
+as_long (k ∷ ks) (o ∷ os) (x ∷ cs) f = ap suc (as_long ks os cs f.1)
+as_long [] [] (x ∷ cs) f = absurd f
+as_long [] (o ∷ os) cs f = absurd f
+as_long (k ∷ ks) [] cs f = absurd f
+as_long (k ∷ ks) (o ∷ os) [] f = absurd f
 
 not_past : (m n : ℕ) → nat_le m n ≡ false → n < m
 not_past m n e = grind (arith, nat_tests)
@@ -61,79 +53,88 @@ not_past m n e = grind (arith, nat_tests)
 not_over : (m n : ℕ) → nat_lt m n ≡ false → n ≤ m
 not_over m n e = grind (arith, nat_tests)
 
-text_there : (w : World) (b : Banks) → b.texts ≡ texts_of w.stack → clashes (OfText ∷ []) (map kind_of w.stack) ≡ false → nat_lt (length w.stack) 1 ≡ false → 0 < length b.texts
-text_there w b e x y = let p = top_text w.stack x y in rw (e, p.2) (omega arith)
+-- few values in all are few of each kind
+room_of : (values : List Value) → length values < 64 → HasRoom (by_kind values)
+room_of values h = (
+  omega (arith, h, ap length (numbers_are values), few_picked as_number values),
+  omega (arith, h, ap length (texts_are values), few_picked as_text values),
+  omega (arith, h, ap length (dates_are values), few_picked as_date values),
+  omega (arith, h, ap length (truths_are values), few_picked as_truth values),
+)
 
-truth_there : (w : World) (b : Banks) → b.truths ≡ truths_of w.stack → clashes (OfLogical ∷ []) (map kind_of w.stack) ≡ false → nat_lt (length w.stack) 1 ≡ false → 0 < length b.truths
-truth_there w b e x y = let p = top_truth w.stack x y in rw (e, p.2) (omega arith)
+room_here : (w : World) (b : Banks) → b.stacks ≡ by_kind w.stack → length w.stack < 64 → HasRoom b.stacks
+room_here w b e h = rw e (room_of w.stack h)
 
-clash_of : (w : World) (kind : Kind) → (clashes (kind ∷ []) (map kind_of w.stack) || false) ≡ false → clashes (kind ∷ []) (map kind_of w.stack) ≡ false
-clash_of w kind e = (or_false _ false e).0
+top_kind : (v : Value) (rest : List Value) → HasTop (kind_of v) (by_kind (v ∷ rest))
+top_kind (Number x) rest = omega arith
+top_kind (Text x) rest = omega arith
+top_kind (Date x) rest = omega arith
+top_kind (Logical x) rest = omega arith
 
-pub needs_met : (code : Code) (w : World) (i : Instr) (s : State) (b : Banks) → code.stack_bound ≤ 64 → length w.slots ≡ code.slots → IsClear code w i → Agrees s w b → Needs code.constants b i × NeedsTruth b i
-needs_met code w (Constant number) s b bounded q c a =
+top_here : Same → (w : World) (b : Banks) (kind : Kind) → b.stacks ≡ by_kind w.stack → (clashes (kind ∷ []) (map kind_of w.stack) || false) ≡ false → nat_lt (length w.stack) 1 ≡ false → HasTop kind b.stacks
+top_here same w b kind e x y =
+    let p = top_tested same kind w.stack x y in
+    subst (λ (all : Given). HasTop kind all) (sym (e ∙ ap by_kind p.2)) (subst (λ (k : Kind). HasTop k (by_kind (p.0 ∷ p.1))) p.3 (top_kind p.0 p.1))
+
+slot_here : (w : World) (s : State) (b : Banks) (slot : ℕ) → SlotsAgree s.slots w.slots b.slots → slot < length w.slots → slot < length b.slots
+slot_here w s b slot f h = omega (arith, h, as_long s.slots w.slots b.slots f)
+
+pub needs_met : Same → (code : Code) (w : World) (i : Instr) (s : State) (b : Banks) → code.stack_bound ≤ 64 → length w.slots ≡ code.slots → IsClear code w i → Agrees s w b → Needs code.constants b i × NeedsTruth b i
+needs_met same code w (Constant number) s b bounded q c a =
     let room = not_over code.stack_bound _ c.room in
-    let texts = ap length a.texts in let truths = ap length a.truths in
-    ((not_past _ _ c.declared, (omega (arith, room, bounded, few_texts w.stack, texts), omega (arith, room, bounded, few_truths w.stack, truths))), tt)
-needs_met code w (Load OfText slot) s b bounded q c a =
-    let room = not_over code.stack_bound _ c.room in let texts = ap length a.texts in let truths = ap length a.truths in
-    ((omega (arith, q, not_past _ _ c.declared, as_long TextAgrees s.slots w.slots b.text_slots a.text_slots), (omega (arith, room, bounded, few_texts w.stack, texts), omega (arith, room, bounded, few_truths w.stack, truths))), tt)
-needs_met code w (Load OfLogical slot) s b bounded q c a =
-    let room = not_over code.stack_bound _ c.room in let texts = ap length a.texts in let truths = ap length a.truths in
-    ((omega (arith, q, not_past _ _ c.declared, as_long TruthAgrees s.slots w.slots b.truth_slots a.truth_slots), (omega (arith, room, bounded, few_texts w.stack, texts), omega (arith, room, bounded, few_truths w.stack, truths))), tt)
-needs_met code w (Store OfText slot) s b bounded q c a =
-    ((omega (arith, q, not_past _ _ c.declared, as_long TextAgrees s.slots w.slots b.text_slots a.text_slots), text_there w b a.texts (clash_of w OfText c.kind) c.there), tt)
-needs_met code w (Store OfLogical slot) s b bounded q c a =
-    ((omega (arith, q, not_past _ _ c.declared, as_long TruthAgrees s.slots w.slots b.truth_slots a.truth_slots), truth_there w b a.truths (clash_of w OfLogical c.kind) c.there), tt)
-needs_met code w (Unset slot) s b bounded q c a = (tt, tt)
-needs_met code w (Discard OfText) s b bounded q c a = (text_there w b a.texts (clash_of w OfText c.kind) c.there, tt)
-needs_met code w (Discard OfLogical) s b bounded q c a = (truth_there w b a.truths (clash_of w OfLogical c.kind) c.there, tt)
-needs_met code w (Jump place) s b bounded q c a = (tt, tt)
-needs_met code w (JumpFalse place) s b bounded q c a = let t = truth_there w b a.truths (clash_of w OfLogical c.kind) c.there in (t, t)
-needs_met code w End s b bounded q c a = (tt, tt)
-needs_met code w NewLine s b bounded q c a = (tt, tt)
-needs_met code w (Print OfText) s b bounded q c a = (text_there w b a.texts (clash_of w OfText c.kind) c.there, tt)
-needs_met code w (Print OfLogical) s b bounded q c a = (truth_there w b a.truths (clash_of w OfLogical c.kind) c.there, tt)
+    ((not_past _ _ c.declared, room_here w b a.stacks (omega (arith, room, bounded))), tt)
+needs_met same code w (Load kind slot) s b bounded q c a =
+    let room = not_over code.stack_bound _ c.room in
+    ((slot_here w s b slot a.slots (omega (arith, q, not_past _ _ c.declared)), room_here w b a.stacks (omega (arith, room, bounded))), tt)
+needs_met same code w (Store kind slot) s b bounded q c a = ((slot_here w s b slot a.slots (omega (arith, q, not_past _ _ c.declared)), top_here same w b kind a.stacks c.kind c.there), tt)
+needs_met same code w (Unset slot) s b bounded q c a = (tt, tt)
+needs_met same code w (Discard kind) s b bounded q c a = (top_here same w b kind a.stacks c.kind c.there, tt)
+needs_met same code w (Function fun) s b bounded q c a =
+    let room = not_over code.stack_bound _ c.room in
+    let ready = ready_of w fun code c in
+    let left : without fun b.stacks ≡ by_kind (drop (length (takes_of fun)) w.stack) = ap (without fun) a.stacks ∙ rest_same same fun w.stack ready in
+    let few : length (drop (length (takes_of fun)) w.stack) < 64 = omega (arith, room, bounded, length-drop (length (takes_of fun)) w.stack, length-reverse (takes_of fun)) in
+    ((subst (HasArguments fun) (sym a.stacks) (has_arguments same fun w.stack ready), subst HasRoom (sym left) (room_of (drop (length (takes_of fun)) w.stack) few)), tt)
+needs_met same code w (Ask question) s b bounded q c a =
+    let room = not_over code.stack_bound _ c.room in
+    (room_here w b a.stacks (omega (arith, room, bounded)), tt)
+needs_met same code w (Jump place) s b bounded q c a = (tt, tt)
+needs_met same code w (JumpFalse place) s b bounded q c a = let t = top_here same w b OfLogical a.stacks c.kind c.there in (t, t)
+needs_met same code w End s b bounded q c a = (tt, tt)
+needs_met same code w NewLine s b bounded q c a = (tt, tt)
+needs_met same code w (Print kind) s b bounded q c a = (top_here same w b kind a.stacks c.kind c.there, tt)
+needs_met same code w (Set setting on) s b bounded q c a = (tt, tt)
 
--- a map that covers
+-- ---- a map that covers
 
-each_weaker : {T : Type 0} (P : Option Kind → Option Value → T → Type 0) → ((m k : Option Kind) (o : Option Value) (x : T) → slot_covered (m, k) ≡ true → P k o x → P m o x) → (ms ks : List (Option Kind)) (os : List (Option Value)) (xs : List T) → slots_covered ms ks ≡ true → EachAgrees P ks os xs → EachAgrees P ms os xs
-each_weaker P h [] [] os xs c f = f
-each_weaker P h [] (k ∷ ks) os xs c f = absurd (cc)
-each_weaker P h (m ∷ ms) [] os xs c f = absurd (cc)
-each_weaker P h (m ∷ ms) (k ∷ ks) (o ∷ os) (x ∷ xs) c f =
+slot_weaker : Same → (m k : Option Kind) (o : Option Value) (cell : Cell) → slot_covered (m, k) ≡ true → SlotAgrees k o cell → SlotAgrees m o cell
+slot_weaker same None k o cell c f = tt
+slot_weaker same (Some m) None o cell c f = absurd (cc)
+slot_weaker same (Some m) (Some k) o cell c f = f ∙ ap (λ (j : Kind). Some (held j cell)) (sym (same m k c))
+
+and_true : (a b : Bool) → (a && b) ≡ true → (a ≡ true) × (b ≡ true)
+and_true true b e = (refl, e)
+and_true false b e = absurd (cc)
+
+slots_weaker : Same → (ms ks : List (Option Kind)) (os : List (Option Value)) (cs : List Cell) → slots_covered ms ks ≡ true → SlotsAgree ks os cs → SlotsAgree ms os cs
+slots_weaker same [] [] os cs c f = f
+slots_weaker same [] (k ∷ ks) os cs c f = absurd (cc)
+slots_weaker same (m ∷ ms) [] os cs c f = absurd (cc)
+slots_weaker same (m ∷ ms) (k ∷ ks) (o ∷ os) (x ∷ cs) c f =
     let p = and_true (slot_covered (m, k)) (slots_covered ms ks) c in
-    (h m k o x p.0 f.0, each_weaker P h ms ks os xs p.1 f.1)
-  where
-    and_true : (a b : Bool) → (a && b) ≡ true → (a ≡ true) × (b ≡ true)
-    and_true true b e = (refl, e)
-    and_true false b e = absurd (cc)
-each_weaker P h (m ∷ ms) (k ∷ ks) [] xs c f = absurd f
-each_weaker P h (m ∷ ms) (k ∷ ks) (o ∷ os) [] c f = absurd f
-
-text_weaker : (m k : Option Kind) (o : Option Value) (x : ArrayVec ℕ) → slot_covered (m, k) ≡ true → TextAgrees k o x → TextAgrees m o x
-text_weaker None k o x c f = tt
-text_weaker (Some OfText) None o x c f = absurd (cc)
-text_weaker (Some OfText) (Some OfText) o x c f = f
-text_weaker (Some OfText) (Some OfLogical) o x c f = absurd (cc)
-text_weaker (Some OfLogical) k o x c f = tt
-
-truth_weaker : (m k : Option Kind) (o : Option Value) (x : Bool) → slot_covered (m, k) ≡ true → TruthAgrees k o x → TruthAgrees m o x
-truth_weaker None k o x c f = tt
-truth_weaker (Some OfLogical) None o x c f = absurd (cc)
-truth_weaker (Some OfLogical) (Some OfLogical) o x c f = f
-truth_weaker (Some OfLogical) (Some OfText) o x c f = absurd (cc)
-truth_weaker (Some OfText) k o x c f = tt
+    (slot_weaker same m k o x p.0 f.0, slots_weaker same ms ks os cs p.1 f.1)
+slots_weaker same (m ∷ ms) (k ∷ ks) [] cs c f = absurd f
+slots_weaker same (m ∷ ms) (k ∷ ks) (o ∷ os) [] c f = absurd f
 
 -- banks that agree with what is known agree with a state that covers it
-covers_agree : (m s : State) (w : World) (b : Banks) → Covers m s → Agrees s w b → Agrees m w b
-covers_agree m s w b c a = record {
+covers_agree : Same → (m s : State) (w : World) (b : Banks) → Covers m s → Agrees s w b → Agrees m w b
+covers_agree same m s w b c a = record {
   place = a.place;
   screen = a.screen;
-  texts = a.texts;
-  truths = a.truths;
-  text_slots = each_weaker TextAgrees text_weaker m.slots s.slots w.slots b.text_slots c.slots a.text_slots;
-  truth_slots = each_weaker TruthAgrees truth_weaker m.slots s.slots w.slots b.truth_slots c.slots a.truth_slots;
+  settings = a.settings;
+  today = a.today;
+  stacks = a.stacks;
+  slots = slots_weaker same m.slots s.slots w.slots b.slots c.slots a.slots;
 }
 
 some_place : (m n : ℕ) → m < n → 0 < n
@@ -144,25 +145,6 @@ slots_long [] [] f = refl
 slots_long [] (o ∷ os) f = absurd f
 slots_long (k ∷ ks) [] f = absurd f
 slots_long (k ∷ ks) (o ∷ os) f = ap suc (slots_long ks os f.1)
-
-no_fault : (code : Code) (w : World) (i : Instr) → IsClear code w i → fault_of code w i ≡ None
-no_fault code w i c = rw (c.kind, c.set, c.there, c.room, c.jump, c.declared) refl
-
-goes_to : (w : World) (i : Instr) → is_end i ≡ false → Leads i w.place (next_place w i)
-goes_to w (Constant number) e = inl (refl, refl)
-goes_to w (Load kind slot) e = inl (refl, refl)
-goes_to w (Store kind slot) e = inl (refl, refl)
-goes_to w (Unset slot) e = inl (refl, refl)
-goes_to w (Discard kind) e = inl (refl, refl)
-goes_to w (Jump place) e = inr refl
-goes_to w (JumpFalse place) e = either (is_false_on_top w.stack) refl
-  where
-    either : (b : Bool) → is_false_on_top w.stack ≡ b → Leads (JumpFalse place) w.place (next_place w (JumpFalse place))
-    either true h = inr (rw h refl)
-    either false h = inl (refl, rw h refl)
-goes_to w End e = absurd (cc)
-goes_to w NewLine e = inl (refl, refl)
-goes_to w (Print kind) e = inl (refl, refl)
 
 -- one step
 
@@ -183,15 +165,15 @@ twin_next code w b laws t e =
     let s = state_at code w.place in
     let c = laws.clear w t.ready in
     let q = slots_long s.slots w.slots t.ready.fits.slots ∙ t.ready.shape.slots in
-    let sim = simulates code w i s b q (laws.rules w.place t.ready.shape.place) c t.agrees in
-    let next = goes_on code w (no_fault code w i c) e in
+    let sim = simulates laws.same code w i s b q (laws.rules w.place t.ready.shape.place) c t.agrees in
+    let next = goes_on code w (laws.sound w i c) e in
     let v = effect code w i in
     let link = laws.states (some_place _ _ t.ready.shape.place) in
-    let there = link.leads w.place (next_place w i) t.ready.shape.place (goes_to w i e) in (
+    let there = link.leads w.place (next_place w i) t.ready.shape.place (laws.leads w i e) in (
       next,
       record {
         ready = laws.stays w v 1 t.ready (one_step code w v next);
-        agrees = covers_agree (state_at code (next_place w i)) (flow code i s) v (bank_effect code.constants b i) there.1 sim;
+        agrees = covers_agree laws.same (state_at code (next_place w i)) (flow code i s) v (bank_effect code.constants b i) there.1 sim;
       },
     )
 
@@ -203,20 +185,12 @@ pub record NeedsHere (code : Code) (b : Banks) : Type 0 where
 pub needs_here : (code : Code) (w : World) (b : Banks) → Laws code → Twin code w b → NeedsHere code b
 needs_here code w b laws t =
     let c = laws.clear w t.ready in
-    let n = needs_met code w (instr_at code w.place) (state_at code w.place) b laws.bounded t.ready.shape.slots c t.agrees in
+    let n = needs_met laws.same code w (instr_at code w.place) (state_at code w.place) b laws.bounded t.ready.shape.slots c t.agrees in
     record {
       place = rw t.agrees.place t.ready.shape.place;
       needs = subst (λ p. Needs code.constants b (instr_at code p)) (sym t.agrees.place) n.0;
       truth = subst (λ p. NeedsTruth b (instr_at code p)) (sym t.agrees.place) n.1;
     }
-
--- a step more
-reaches_next : (code : Code) (old w w' : World) (cost c : ℕ) → Reaches code old cost w → step_of code w ≡ Next w' → c ≡ cost_of code w → Reaches code old (cost + c) w'
-reaches_next code old w w' cost c r e same = record {
-  count = suc r.count;
-  reached = rw r.reached (ap next_world e);
-  cost_is = rw (r.reached, r.cost_is, same) refl;
-}
 
 cost_is_one : (code : Code) (w : World) → 1 ≡ cost_of code w
 unfolding cost_of
@@ -239,7 +213,7 @@ follow_next code old b b' cost left c laws f t =
     let same : bank_effect code.constants b (instr_at code w.place) ≡ b' = sym (ap (λ p. bank_effect code.constants b (instr_at code p)) t.twin.agrees.place) ∙ sym f.3 in
     record {
       world = v;
-      reached = reaches_next code old w v cost c t.reached n.0 (f.0 ∙ cost_is_one code w);
+      reached = laws.adds old w v cost c t.reached n.0 (f.0 ∙ cost_is_one code w);
       twin = subst (Twin code v) same n.1;
     }
 
@@ -250,7 +224,7 @@ pub ran_finished : (code : Code) (old : World) (b b' : Banks) (cost budget : ℕ
 ran_finished code old b b' cost budget laws le f t =
     let w = t.world in
     let over = rw t.twin.agrees.place at f.2 in
-    let end = ends code w (no_fault code w (instr_at code w.place) (laws.clear w t.twin.ready)) over in
+    let end = ends code w (laws.sound w (instr_at code w.place) (laws.clear w t.twin.ready)) over in
     let spent_is = t.reached.cost_is in
     record {
       count = t.reached.count;
@@ -282,7 +256,7 @@ ran_spent code old b b' cost budget laws le f t =
       twin = rw f.0 t.twin;
       steps = omega (arith, spent_is);
       within = le;
-      stops = (no_fault_here code w (no_fault code w (instr_at code w.place) (laws.clear w t.twin.ready)), rw (spent_is, ← cost_is_one code w) f.1);
+      stops = (no_fault_here code w (laws.sound w (instr_at code w.place) (laws.clear w t.twin.ready)), rw (spent_is, ← cost_is_one code w) f.1);
       no_fault = λ x. x;
     }
 
@@ -292,7 +266,7 @@ ran_short code old b b' cost budget laws le f t =
     let spent_is = t.reached.cost_is in
     let going = rw t.twin.agrees.place at f.2 in
     let grow : IsTrue (grows (instr_at code w.place)) = rw t.twin.agrees.place at f.3 in
-    let n = goes_on code w (no_fault code w (instr_at code w.place) (laws.clear w t.twin.ready)) going in
+    let n = goes_on code w (laws.sound w (instr_at code w.place) (laws.clear w t.twin.ready)) going in
     record {
       count = t.reached.count;
       last = w;

@@ -4,10 +4,12 @@
 #![tactic(auto)]
 
 pub mod banks;
-pub mod pile;
+pub mod cells;
 mod running;
+pub mod stacks;
 mod step;
 
 pub use banks::Banks;
-pub use pile::{Pile, Row};
+pub use cells::{Cell, Cells};
 pub use running::run;
+pub use stacks::Stacks;

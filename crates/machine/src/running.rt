@@ -10,11 +10,15 @@ ghost use Rattle.machine.specs.Laws.{Laws};
 
 use crate::banks::Banks;
 use crate::step::bank_step;
-use tagged_machine::laws::{accepted_code_is_clear, accepted_code_stays_ready};
+use tagged_machine::laws::{
+    accepted_code_is_clear, accepted_code_stays_ready, clear_instructions_have_no_fault,
+    instructions_lead_on, steps_add_up,
+};
 use tagged_machine::run::Stepped;
 use tagged_machine::{End, Outcome};
 use xcode::Code;
 use xcode::laws::{rules_are_kept, states_connect};
+use xvalue::laws::same_kinds_are_equal;
 use xverify::Verified;
 
 /// Runs accepted code from these banks until it ends, within the budget.
@@ -42,6 +46,10 @@ fn promises(_code: &Code)
     states_connect();
     accepted_code_is_clear();
     accepted_code_stays_ready();
+    clear_instructions_have_no_fault();
+    instructions_lead_on();
+    steps_add_up();
+    same_kinds_are_equal();
 }
 
 fn run_banks(code: &Code, banks: &mut Banks, budget: u64) -> Outcome

@@ -1,89 +1,69 @@
 // One step of the machine without tags: no instruction is tested.
 #![tactic(auto)]
 
-ghost use Rattle.std.specs.Prelude.{◌≡◌, ◌+◌, ◌<◌, ◌^◌, OnOk, OnErr, IsTrue, length};
+ghost use Rattle.std.specs.Prelude.{◌≡◌, ◌+◌, ◌<◌, ◌^◌, OnOk, OnErr, IsTrue, length, slice_get};
 ghost use Rattle.xcode.specs.Signature.{grows};
 ghost use Rattle.xcode.specs.States.{instr_at};
-ghost use Rattle.machine.specs.BankStep.{HasRoom, HasTop, HasSlot, Needs, NeedsTruth, pushed, loaded, stored, discarded, shown_top, bank_change, bank_place};
+ghost use Rattle.machine.specs.Stacks.{HasRoom, HasTop, HasArguments, without};
+ghost use Rattle.machine.specs.BankStep.{Needs, NeedsTruth, loaded, stored, bank_called, bank_answer, shown_top, bank_change, bank_place};
 ghost use Rattle.machine.specs.BankRun.{BankFits};
 
 use crate::banks::Banks;
 use std::alloc::AllocError;
 use tagged_machine::End;
 use tagged_machine::run::Stepped;
-use xcode::{Code, Instr};
-use xvalue::{Kind, Value, copy_of, shown_logical};
-
-fn push(banks: &mut Banks, value: &Value)
-    requires room { HasRoom banks.old }
-    ensures { banks.new ≡ pushed value.now banks.old }
-{
-    match value {
-        Value::Text(text) => banks.texts.push(copy_of(text)),
-        Value::Logical(truth) => banks.truths.push(*truth),
-    }
-}
+use xcode::{Code, Instr, Question};
+use xvalue::apply::apply;
+use xvalue::{Fun, Kind, Value};
 
 fn load(banks: &mut Banks, kind: Kind, slot: usize)
-    requires room { HasRoom banks.old }
-    requires slot { HasSlot kind slot banks.old }
-    ensures { banks.new ≡ loaded kind slot banks.old }
+    requires room { HasRoom banks.old.stacks }
+    requires slot { slot < length banks.old.slots }
+    ensures { banks.new ≡ loaded kind (slice_get banks.old.slots slot) banks.old }
 {
-    match kind {
-        Kind::Text => banks.texts.push(copy_of(banks.text_slots.get(slot))),
-        Kind::Logical => banks.truths.push(*banks.truth_slots.get(slot)),
-    }
+    let value = banks.slots.get(slot).value(kind);
+    banks.stacks.push(value);
 }
 
 fn store(banks: &mut Banks, kind: Kind, slot: usize)
-    requires top { HasTop kind banks.old }
-    requires slot { HasSlot kind slot banks.old }
-    ensures { banks.new ≡ stored kind slot banks.old }
+    requires top { HasTop kind banks.old.stacks }
+    requires slot { slot < length banks.old.slots }
+    ensures { banks.new ≡ stored kind slot (slice_get banks.old.slots slot) banks.old }
 {
-    match kind {
-        Kind::Text => {
-            let text = banks.texts.pop();
-            banks.text_slots.set(slot, text);
-        }
-        Kind::Logical => {
-            let truth = banks.truths.pop();
-            banks.truth_slots.set(slot, truth);
-        }
-    }
+    let value = banks.stacks.pop(kind);
+    banks.slots.set(slot, value);
 }
 
-fn discard(banks: &mut Banks, kind: Kind)
-    requires top { HasTop kind banks.old }
-    ensures { banks.new ≡ discarded kind banks.old }
+/// Takes the function's arguments off their stacks, and puts its result on the stack of its kind.
+fn call(banks: &mut Banks, fun: Fun)
+    requires there { HasArguments fun banks.old.stacks }
+    requires room { HasRoom (without fun banks.old.stacks) }
+    ensures { banks.new ≡ bank_called fun banks.old }
 {
-    match kind {
-        Kind::Text => {
-            let _ = banks.texts.pop();
-        }
-        Kind::Logical => {
-            let _ = banks.truths.pop();
-        }
+    let value = apply(fun, banks.settings, &banks.stacks.arguments(fun));
+    banks.stacks.drop_arguments(fun);
+    banks.stacks.push(value);
+}
+
+fn answer(banks: &Banks, question: Question) -> Value
+    ensures { result ≡ bank_answer question banks.now }
+{
+    match question {
+        Question::Today => Value::Date(banks.today),
     }
 }
 
 /// Shows the top value of this kind. Where memory is refused, the banks are as they were.
 fn print(banks: &mut Banks, kind: Kind) -> Result<(), AllocError>
-    requires top { HasTop kind banks.old }
+    requires top { HasTop kind banks.old.stacks }
     ensures ok { OnOk result (banks.new ≡ shown_top kind banks.old) }
     ensures err { OnErr result (banks.new ≡ banks.old) }
 {
-    match kind {
-        Kind::Text => {
-            banks.screen.try_print(banks.texts.top())?;
-            let _ = banks.texts.pop();
-            Ok(())
-        }
-        Kind::Logical => {
-            banks.screen.try_print(&shown_logical(*banks.truths.top()))?;
-            let _ = banks.truths.pop();
-            Ok(())
-        }
-    }
+    banks
+        .screen
+        .try_print(&banks.stacks.top(kind).shown(banks.settings))?;
+    let _ = banks.stacks.pop(kind);
+    Ok(())
 }
 
 /// What the instruction does, but for the place. Where memory is refused, the banks are as they were.
@@ -95,7 +75,9 @@ fn bank_change(code: &Code, banks: &mut Banks, instr: Instr) -> Result<(), Alloc
 {
     match instr {
         Instr::Constant(number) => {
-            push(banks, code.constants.get(number as usize));
+            banks
+                .stacks
+                .push(code.constants.get(number as usize).copied());
             Ok(())
         }
         Instr::Load(kind, slot) => {
@@ -107,11 +89,24 @@ fn bank_change(code: &Code, banks: &mut Banks, instr: Instr) -> Result<(), Alloc
             Ok(())
         }
         Instr::Discard(kind) => {
-            discard(banks, kind);
+            let _ = banks.stacks.pop(kind);
             Ok(())
         }
         Instr::JumpFalse(_) => {
-            discard(banks, Kind::Logical);
+            let _ = banks.stacks.pop(Kind::Logical);
+            Ok(())
+        }
+        Instr::Function(fun) => {
+            call(banks, fun);
+            Ok(())
+        }
+        Instr::Ask(question) => {
+            let value = answer(banks, question);
+            banks.stacks.push(value);
+            Ok(())
+        }
+        Instr::Set(setting, on) => {
+            banks.settings = banks.settings.with(setting, on);
             Ok(())
         }
         Instr::Unset(_) | Instr::Jump(_) | Instr::End => Ok(()),
@@ -129,7 +124,7 @@ fn bank_place(banks: &Banks, instr: Instr) -> usize
     match instr {
         Instr::Jump(place) => place as usize,
         Instr::JumpFalse(place) => {
-            if *banks.truths.top() {
+            if banks.stacks.truth() {
                 banks.place + 1
             } else {
                 place as usize

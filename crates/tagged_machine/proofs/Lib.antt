@@ -1,3 +1,4 @@
+pub mod PileLists
 pub mod Runs
 pub mod Safety
 pub mod Stepping

@@ -1,28 +1,36 @@
 -- Accepted code meets no fault, and what is known of it stays true.
 use Rattle.std.proofs.Common.{◌≡◌, ℕ, zero, suc, ◌+◌, ◌<◌, Bool, true, false, ◌||◌, ◌&&◌, not, List, [], ◌∷◌, ◌++◌, length, drop, Option, Some, None, refl, sym, ap, ◌∙◌, subst, arith, cond, inl, inr}
-use Rattle.std.specs.Prelude.{slice_get, slice_set, nat_lt, nat_le, map, is_none, replicate, sum}
+use Rattle.std.specs.Prelude.{slice_get, slice_set, nat_lt, nat_le, map, is_none, replicate, sum, reverse}
 use Rattle.std.proofs.lemmas.Bool.Decides.{nat_tests}
-use Rattle.std.proofs.lemmas.List.{length-map, length-replicate}
+use Rattle.std.proofs.lemmas.List.{length-map, length-replicate, length-reverse}
 use Rattle.std.proofs.lemmas.List.Sums.{sum_by-cons}
 use Rattle.xvalue.specs.declared.kind.Kind.{Kind}
-use Rattle.xvalue.specs.declared.kind.Kind.TheVariants.{Text as OfText, Logical as OfLogical}
+use Rattle.xvalue.specs.declared.kind.Kind.TheVariants.{Number as OfNumber, Text as OfText, Date as OfDate, Logical as OfLogical}
 use Rattle.xvalue.specs.declared.value.Value.{Value}
 use Rattle.xvalue.specs.Kinds.{kind_of, same_kind}
+use Rattle.xvalue.specs.declared.day.DayParts.{DayParts}
+use Rattle.xvalue.specs.declared.settings.Settings.{Settings}
+use Rattle.xvalue.specs.declared.fun.Fun.{Fun}
+use Rattle.xvalue.specs.Signature.{takes_of, gives_of}
+use Rattle.xvalue.specs.Given.{Given, by_kind}
+use Rattle.xvalue.specs.Functions.{applied}
+use Rattle.xcode.specs.declared.instr.Question.{Question}
+use Rattle.xcode.specs.declared.instr.Question.TheVariants.{Today}
 use Rattle.xvalue.specs.Shown.{shown}
 use Rattle.xcode.specs.declared.state.State.{State}
 use Rattle.xcode.specs.declared.code.Code.{Code}
 use Rattle.xcode.specs.declared.instr.Instr.{Instr}
-use Rattle.xcode.specs.declared.instr.Instr.TheVariants.{Constant, Load, Store, Unset, Discard, Jump, JumpFalse, End, NewLine, Print}
+use Rattle.xcode.specs.declared.instr.Instr.TheVariants.{Constant, Load, Store, Unset, Discard, Function, Ask, Jump, JumpFalse, End, NewLine, Print, Set}
 use Rattle.xcode.specs.Kinds.{clashes, same_kinds, slots_covered, slot_covered}
 use Rattle.xcode.specs.Signature.{is_end}
-use Rattle.xcode.specs.States.{instr_at, kinds_of_constant, flow, map_at, state_at}
+use Rattle.xcode.specs.States.{instr_at, kinds_of_constant, kind_asked, flow, map_at, state_at}
 use Rattle.xcode.specs.Rules.{has_other, is_free, loads_other, loads_free, no_target, no_fall, Accepted}
 use Rattle.xcode.specs.Kept.{Kept, Covers, Leads, KeepsRules, Connects}
 use Rattle.screen_lines.specs.State.{printed}
 use Rattle.tagged_machine.specs.declared.world.World.{World}
 use Rattle.tagged_machine.specs.Tags.{is_false_on_top}
 use Rattle.tagged_machine.specs.Faults.{has_other_kind, has_no_value, loads_other_kind, loads_unset, bad_jump, next_place, IsClear}
-use Rattle.tagged_machine.specs.Step.{effect, with_top, with_constant, step_of, Next}
+use Rattle.tagged_machine.specs.Step.{called, arguments_on, answer, effect, with_top, with_constant, step_of, Next}
 use Rattle.tagged_machine.specs.Fits.{SlotFits, SlotsFit, Fits, HasShape, IsReady}
 use Rattle.xcode.specs.declared.code.Proc.{Proc}
 use Rattle.xcode.specs.Legal.{IsProcedure, MainIs, places_of, IsCode}
@@ -60,9 +68,21 @@ set_fits (y ∷ ks) (x ∷ os) zero k o f g = (g, f.1)
 set_fits (y ∷ ks) (x ∷ os) (suc n) k o f g = (f.0, set_fits ks os n k o f.1 g)
 
 same_kind_is : (a b : Kind) → same_kind a b ≡ true → a ≡ b
+same_kind_is OfNumber OfNumber e = refl
+same_kind_is OfNumber OfText e = absurd (cc)
+same_kind_is OfNumber OfDate e = absurd (cc)
+same_kind_is OfNumber OfLogical e = absurd (cc)
+same_kind_is OfText OfNumber e = absurd (cc)
 same_kind_is OfText OfText e = refl
+same_kind_is OfText OfDate e = absurd (cc)
 same_kind_is OfText OfLogical e = absurd (cc)
+same_kind_is OfDate OfNumber e = absurd (cc)
+same_kind_is OfDate OfText e = absurd (cc)
+same_kind_is OfDate OfDate e = refl
+same_kind_is OfDate OfLogical e = absurd (cc)
+same_kind_is OfLogical OfNumber e = absurd (cc)
 same_kind_is OfLogical OfText e = absurd (cc)
+same_kind_is OfLogical OfDate e = absurd (cc)
 same_kind_is OfLogical OfLogical e = refl
 
 and_true : (a b : Bool) → (a && b) ≡ true → (a ≡ true) × (b ≡ true)
@@ -113,6 +133,9 @@ loads_clear w s (Load kind slot) f a b = loads_right kind s.slots w.slots slot f
 loads_clear w s (Store kind slot) f a b = (refl, refl)
 loads_clear w s (Unset slot) f a b = (refl, refl)
 loads_clear w s (Discard kind) f a b = (refl, refl)
+loads_clear w s (Function fun) f a b = (refl, refl)
+loads_clear w s (Ask question) f a b = (refl, refl)
+loads_clear w s (Set setting on) f a b = (refl, refl)
 loads_clear w s (Jump place) f a b = (refl, refl)
 loads_clear w s (JumpFalse place) f a b = (refl, refl)
 loads_clear w s End f a b = (refl, refl)
@@ -132,6 +155,9 @@ jump_clear code w (Load kind slot) a b = b
 jump_clear code w (Store kind slot) a b = b
 jump_clear code w (Unset slot) a b = b
 jump_clear code w (Discard kind) a b = b
+jump_clear code w (Function fun) a b = b
+jump_clear code w (Ask question) a b = b
+jump_clear code w (Set setting on) a b = b
 jump_clear code w (Jump place) a b = target_inside code place a
 jump_clear code w (JumpFalse place) a b = either (is_false_on_top w.stack) place (w.place + 1) (target_inside code place a) b
   where
@@ -184,49 +210,76 @@ stored_slots w [] kind slot ks e there fit = absurd (grind (arith, nat_tests))
 stored_slots w (v ∷ vs) kind slot ks e there fit =
     set_fits ks w.slots slot (Some kind) (Some v) fit (same_kind_is (kind_of v) kind (not_false _ (or_false _ _ e).0))
 
-pub flow_fits : (code : Code) (w : World) (i : Instr) (s : State) → length w.slots ≡ code.slots → Fits s w → IsClear code w i → Fits (flow code i s) (effect code w i)
-flow_fits code w (Constant number) s q f c = record {
+-- functions give values of their kinds, as the public law on them states it
+abbrev pub Results : Type 0
+Results = (fun : Fun) (settings : Settings) (given : Given) → kind_of (applied fun settings given) ≡ gives_of fun
+
+map_drop : (count : ℕ) (values : List Value) → map kind_of (drop count values) ≡ drop count (map kind_of values)
+map_drop zero values = refl
+map_drop (suc count) [] = refl
+map_drop (suc count) (value ∷ values) = map_drop count values
+
+same_drop : (m n : ℕ) (kinds : List Kind) → m ≡ n → drop m kinds ≡ drop n kinds
+same_drop m n kinds e = ap (λ (k : ℕ). drop k kinds) e
+
+called_kinds : Results → (fun : Fun) (w : World) (kinds : List Kind) → map kind_of w.stack ≡ kinds → map kind_of (called fun w).stack ≡ gives_of fun ∷ drop (length (reverse (takes_of fun))) kinds
+called_kinds results fun w kinds e =
+    let rest : map kind_of (drop (length (takes_of fun)) w.stack) ≡ drop (length (reverse (takes_of fun))) kinds =
+    map_drop (length (takes_of fun)) w.stack ∙ ap (drop (length (takes_of fun))) e ∙ same_drop _ _ kinds (sym (length-reverse (takes_of fun))) in
+    rw rest (ap (λ (k : Kind). k ∷ drop (length (reverse (takes_of fun))) kinds) (results fun w.settings (by_kind (arguments_on fun w.stack))))
+
+answer_kind : (question : Question) (w : World) → kind_of (answer question w) ≡ kind_asked question
+answer_kind Today w = refl
+
+pub flow_fits : Results → (code : Code) (w : World) (i : Instr) (s : State) → length w.slots ≡ code.slots → Fits s w → IsClear code w i → Fits (flow code i s) (effect code w i)
+flow_fits results code w (Constant number) s q f c = record {
   stack = constant_stack (slice_get code.constants number) w s.stack f.stack;
   slots = constant_slots (slice_get code.constants number) w s.slots f.slots;
 }
-flow_fits code w (Load kind slot) s q f c =
+flow_fits results code w (Load kind slot) s q f c =
     let l = loaded kind w.slots slot (rw q c.declared) (or_false (clashes [] (map kind_of w.stack)) (has_other_kind kind (slice_get w.slots slot)) c.kind).1 c.set in
     record {
       stack = rw l.1 (rw (l.2, f.stack) refl);
       slots = rw l.1 f.slots;
     }
-flow_fits code w (Store kind slot) s q f c = record {
+flow_fits results code w (Store kind slot) s q f c = record {
   stack = popped_kinds w w.stack (λ value values. record w { stack = values; slots = slice_set w.slots slot (Some value) }) (λ v r. refl) c.there ∙ ap (drop 1) f.stack;
   slots = stored_slots w w.stack kind slot s.slots (or_false (clashes (kind ∷ []) (map kind_of w.stack)) false c.kind).0 c.there f.slots;
 }
-flow_fits code w (Unset slot) s q f c = record {
+flow_fits results code w (Unset slot) s q f c = record {
   stack = f.stack;
   slots = set_fits s.slots w.slots slot None None f.slots tt;
 }
-flow_fits code w (Discard kind) s q f c = record {
+flow_fits results code w (Discard kind) s q f c = record {
   stack = popped_kinds w w.stack (λ value values. record w { stack = values }) (λ v r. refl) c.there ∙ ap (drop 1) f.stack;
   slots = popped_slots w w.stack (λ value values. record w { stack = values }) s.slots (λ v r. refl) f.slots;
 }
-flow_fits code w (Jump place) s q f c = record { stack = f.stack; slots = f.slots }
-flow_fits code w (JumpFalse place) s q f c = record {
+flow_fits results code w (Function fun) s q f c = record { stack = called_kinds results fun w s.stack f.stack; slots = f.slots }
+flow_fits results code w (Ask question) s q f c = record { stack = rw (answer_kind question w) (ap (λ (ks : List Kind). kind_asked question ∷ ks) f.stack); slots = f.slots }
+flow_fits results code w (Set setting on) s q f c = record { stack = f.stack; slots = f.slots }
+flow_fits results code w (Jump place) s q f c = record { stack = f.stack; slots = f.slots }
+flow_fits results code w (JumpFalse place) s q f c = record {
   stack = popped_kinds w w.stack (λ value values. record w { stack = values }) (λ v r. refl) c.there ∙ ap (drop 1) f.stack;
   slots = popped_slots w w.stack (λ value values. record w { stack = values }) s.slots (λ v r. refl) f.slots;
 }
-flow_fits code w End s q f c = record { stack = f.stack; slots = f.slots }
-flow_fits code w NewLine s q f c = record { stack = f.stack; slots = f.slots }
-flow_fits code w (Print kind) s q f c = record {
-  stack = popped_kinds w w.stack (λ value values. record w { stack = values; screen = printed (shown value) w.screen }) (λ v r. refl) c.there ∙ ap (drop 1) f.stack;
-  slots = popped_slots w w.stack (λ value values. record w { stack = values; screen = printed (shown value) w.screen }) s.slots (λ v r. refl) f.slots;
+flow_fits results code w End s q f c = record { stack = f.stack; slots = f.slots }
+flow_fits results code w NewLine s q f c = record { stack = f.stack; slots = f.slots }
+flow_fits results code w (Print kind) s q f c = record {
+  stack = popped_kinds w w.stack (λ value values. record w { stack = values; screen = printed (shown w.settings value) w.screen }) (λ v r. refl) c.there ∙ ap (drop 1) f.stack;
+  slots = popped_slots w w.stack (λ value values. record w { stack = values; screen = printed (shown w.settings value) w.screen }) s.slots (λ v r. refl) f.slots;
 }
 
 -- where it goes
 
-falls_to : (w : World) (i : Instr) → is_end i ≡ false → Leads i w.place (next_place w i)
+pub falls_to : (w : World) (i : Instr) → is_end i ≡ false → Leads i w.place (next_place w i)
 falls_to w (Constant number) e = inl (refl, refl)
 falls_to w (Load kind slot) e = inl (refl, refl)
 falls_to w (Store kind slot) e = inl (refl, refl)
 falls_to w (Unset slot) e = inl (refl, refl)
 falls_to w (Discard kind) e = inl (refl, refl)
+falls_to w (Function fun) e = inl (refl, refl)
+falls_to w (Ask question) e = inl (refl, refl)
+falls_to w (Set setting on) e = inl (refl, refl)
 falls_to w (Jump place) e = inr refl
 falls_to w (JumpFalse place) e = either (is_false_on_top w.stack) refl
   where
@@ -251,20 +304,20 @@ pub clear_here : Rules → (code : Code) (w : World) → Accepted code → IsRea
 clear_here rules code w ok r = clear code w (instr_at code w.place) (state_at code w.place) r.fits (rules code ok w.place r.shape.place)
 
 -- the world fits what is known of the place that it comes to
-step_fits : Rules → States → (code : Code) (w w' : World) → Accepted code → IsReady code w → step_of code w ≡ Next w' → Fits (state_at code w'.place) w'
-step_fits rules states code w w' ok r e =
+step_fits : Rules → States → Results → (code : Code) (w w' : World) → Accepted code → IsReady code w → step_of code w ≡ Next w' → Fits (state_at code w'.place) w'
+step_fits rules states results code w w' ok r e =
     let g = goes code w w' e in
     let i = instr_at code w.place in
     let s = state_at code w.place in
-    let h = flow_fits code w i s r.shape.slots r.fits (clear_here rules code w ok r) in
+    let h = flow_fits results code w i s r.shape.slots r.fits (clear_here rules code w ok r) in
     let link = states code ok (some_place _ _ r.shape.place) in
     let there = link.leads w.place (next_place w i) r.shape.place (falls_to w i g.goes_on) in
     subst (λ v. Fits (state_at code v.place) v) g.does (covers_fit (state_at code (next_place w i)) (flow code i s) (effect code w i) there.1 h)
 
-pub ready_on : Rules → States → (code : Code) (w w' : World) → Accepted code → IsReady code w → step_of code w ≡ Next w' → IsReady code w'
-ready_on rules states code w w' ok r e = record {
+pub ready_on : Rules → States → Results → (code : Code) (w w' : World) → Accepted code → IsReady code w → step_of code w ≡ Next w' → IsReady code w'
+ready_on rules states results code w w' ok r e = record {
   shape = shape_kept code w w' r.shape e;
-  fits = step_fits rules states code w w' ok r e;
+  fits = step_fits rules states results code w w' ok r e;
 }
 
 -- the opening fits what is known at the entry
@@ -283,10 +336,10 @@ some_places slots bound n (p ∷ procedures) m a e =
     let parts : p.length + sum (map (λ q. q.length) procedures) ≡ n = sym (sum_by-cons (λ k. k) p.length (map (λ q. q.length) procedures)) ∙ e in
     omega (arith, a.0.longer, parts)
 
-pub opens_ready : States → (code : Code) → IsCode code → Accepted code → IsReady code (opening code)
-opens_ready states code legal ok =
+pub opens_ready : States → (code : Code) (today : Option DayParts) → IsCode code → Accepted code → IsReady code (opening code today)
+opens_ready states code today legal ok =
     let some = some_places code.slots code.stack_bound (length code.instructions) code.procedures legal.main legal.procedures legal.whole in
     let entry = entry_blank code.slots code.stack_bound code.procedures legal.main legal.procedures in
-    let shape : HasShape code (opening code) = record { place = some; slots = length-replicate code.slots None; stack = omega arith } in
-    let begins : Fits (entry_of code) (opening code) = record { stack = entry.0; slots = rw entry.1 (unset_fits code.slots) } in
-    record { shape = shape; fits = covers_fit (state_at code 0) (entry_of code) (opening code) (states code ok some).enters begins }
+    let shape : HasShape code (opening code today) = record { place = some; slots = length-replicate code.slots None; stack = omega arith } in
+    let begins : Fits (entry_of code) (opening code today) = record { stack = entry.0; slots = rw entry.1 (unset_fits code.slots) } in
+    record { shape = shape; fits = covers_fit (state_at code 0) (entry_of code) (opening code today) (states code ok some).enters begins }

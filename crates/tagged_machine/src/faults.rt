@@ -2,10 +2,10 @@
 #![tactic(auto)]
 
 ghost use Rattle.std.specs.Prelude.{◌≡◌, ◌+◌, ◌<◌, ◌≤◌, ◌^◌, length};
-ghost use Rattle.xcode.specs.States.{undeclared};
 ghost use Rattle.tagged_machine.specs.Faults.{loads_other_kind, loads_unset, stack_over, next_place, bad_jump, fault_of};
 
 use crate::fault::FaultKind;
+use crate::stack::{clashes, has_false_on_top};
 use crate::world::World;
 use xcode::{Code, Instr};
 
@@ -38,8 +38,7 @@ fn stack_over(code: &Code, world: &World, instr: Instr) -> bool
     requires { length world.now.stack ≤ 64 }
     ensures { result ≡ stack_over code.now world.now instr }
 {
-    (code.stack_bound as usize)
-        < world.stack.len().saturating_sub(instr.takes().len()) + instr.adds()
+    (code.stack_bound as usize) < world.stack.len().saturating_sub(instr.taken()) + instr.adds()
 }
 
 /// Where the instruction goes next.
@@ -49,7 +48,7 @@ pub fn next_place(world: &World, instr: Instr) -> usize
 {
     match instr {
         Instr::Jump(place) => place as usize,
-        Instr::JumpFalse(place) if world.stack.is_false_on_top() => place as usize,
+        Instr::JumpFalse(place) if has_false_on_top(&world.stack) => place as usize,
         _ => world.place + 1,
     }
 }
@@ -61,34 +60,23 @@ fn bad_jump(code: &Code, world: &World, instr: Instr) -> bool
     !instr.is_end() && code.instructions.len() <= next_place(world, instr)
 }
 
-/// Whether an operand names nothing that is declared.
-fn undeclared(code: &Code, instr: Instr) -> bool
-    ensures { result ≡ undeclared code.now instr }
-{
-    match instr {
-        Instr::Constant(number) => code.constants.len() <= number as usize,
-        Instr::Load(_, slot) | Instr::Store(_, slot) | Instr::Unset(slot) => code.slots <= slot,
-        _ => false,
-    }
-}
-
 /// The first fault of the instruction, if it has one.
 pub fn fault(code: &Code, world: &World, instr: Instr) -> Option<FaultKind>
     requires place { world.now.place + 1 < 2 ^ 64 }
     requires stack { length world.now.stack ≤ 64 }
     ensures { result ≡ fault_of code.now world.now instr }
 {
-    if world.stack.clashes(instr.takes()) || loads_other_kind(world, instr) {
+    if clashes(&world.stack, instr.takes()) || loads_other_kind(world, instr) {
         Some(FaultKind::WrongKind)
     } else if loads_unset(world, instr) {
         Some(FaultKind::Unset)
-    } else if world.stack.len() < instr.takes().len() {
+    } else if world.stack.len() < instr.taken() {
         Some(FaultKind::EmptyStack)
     } else if stack_over(code, world, instr) {
         Some(FaultKind::StackOver)
     } else if bad_jump(code, world, instr) {
         Some(FaultKind::BadJump)
-    } else if undeclared(code, instr) {
+    } else if code.is_undeclared(instr) {
         Some(FaultKind::BadField)
     } else {
         None

@@ -7,6 +7,7 @@ mod cost;
 pub mod fault;
 mod faults;
 pub mod laws;
+pub mod pile;
 pub mod run;
 pub mod slots;
 pub mod stack;
@@ -14,6 +15,7 @@ mod step;
 pub mod world;
 
 pub use fault::FaultKind;
+pub use pile::{Pile, STACK_LIMIT};
 pub use run::{End, Outcome, run_checked};
 pub use slots::Slots;
 pub use stack::Stack;

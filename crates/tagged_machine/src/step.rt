@@ -5,7 +5,8 @@ ghost use Rattle.std.specs.Prelude.{◌≡◌, ◌+◌, ◌<◌, ◌≤◌, ◌^
 ghost use Rattle.xcode.specs.Legal.{IsCode};
 ghost use Rattle.xcode.specs.Signature.{grows};
 ghost use Rattle.tagged_machine.specs.Faults.{fault_of};
-ghost use Rattle.tagged_machine.specs.Step.{change, effect};
+ghost use Rattle.tagged_machine.specs.Step.{called, answer, change, effect};
+ghost use Rattle.xvalue.specs.Signature.{takes_of};
 ghost use Rattle.tagged_machine.specs.Fits.{HasShape};
 ghost use Rattle.tagged_machine.specs.Run.{StepFits};
 
@@ -14,9 +15,35 @@ use crate::faults::{fault, next_place};
 use crate::run::{End, Stepped};
 use crate::world::World;
 use std::alloc::AllocError;
-use xcode::{Code, Instr};
+use xcode::{Code, Instr, Question};
+use xvalue::apply::apply;
+use xvalue::laws::arguments_are_few;
+use xvalue::{Fun, Gathered, Value};
+
+/// Takes the function's arguments off the stack, and puts its result there.
+fn call(world: &mut World, fun: Fun)
+    requires there { length (takes_of fun) ≤ length world.old.stack }
+    requires room { length world.old.stack ≤ 64 }
+    requires some { 0 < length (takes_of fun) }
+    ensures { world.new ≡ called fun world.old }
+{
+    let count = fun.takes().len();
+    let gathered = Gathered::of(world.stack.top_values(count));
+    let value = apply(fun, world.settings, &gathered.arguments());
+    world.stack.drop_top(count);
+    world.stack.push(value);
+}
+
+fn answer(world: &World, question: Question) -> Value
+    ensures { result ≡ answer question world.now }
+{
+    match question {
+        Question::Today => Value::Date(world.today),
+    }
+}
 
 /// What an instruction that has no fault does, but for the place. Where memory is refused, the world is as it was.
+#[tactic(auto, using(crate::proofs::Stepping::function_there))]
 fn change(code: &Code, world: &mut World, instr: Instr) -> Result<(), AllocError>
     requires legal { IsCode code.now }
     requires shape { HasShape code.now world.old }
@@ -53,10 +80,26 @@ fn change(code: &Code, world: &mut World, instr: Instr) -> Result<(), AllocError
             let _ = world.stack.pop();
             Ok(())
         }
+        Instr::Function(fun) => {
+            arguments_are_few();
+            call(world, fun);
+            Ok(())
+        }
+        Instr::Ask(question) => {
+            let value = answer(world, question);
+            world.stack.push(value);
+            Ok(())
+        }
+        Instr::Set(setting, on) => {
+            world.settings = world.settings.with(setting, on);
+            Ok(())
+        }
         Instr::Jump(_) | Instr::End => Ok(()),
         Instr::NewLine => world.screen.try_new_line(),
         Instr::Print(_) => {
-            world.screen.try_print(&world.stack.top().shown())?;
+            world
+                .screen
+                .try_print(&world.stack.top().shown(world.settings))?;
             let _ = world.stack.pop();
             Ok(())
         }

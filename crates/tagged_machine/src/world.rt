@@ -12,27 +12,32 @@ use crate::stack::Stack;
 use screen_lines::Screen;
 use std::alloc::{AllocError, Global};
 use xcode::Code;
+use xvalue::{Day, Settings};
 
-/// The world of a run: the place of the next instruction, the slots, the stack of values with their kinds, and the
-/// screen.
+/// The world of a run: the place of the next instruction, the slots, the stack of values with their kinds, the screen,
+/// the settings and the day.
 #[derive(Drop)]
 pub struct World {
     pub place: usize,
     pub slots: Slots,
     pub stack: Stack,
     pub screen: Screen,
+    /// Which settings are on.
+    pub settings: Settings,
+    /// The day of the run.
+    pub today: Day,
 }
 
 impl World {
     ghost use Rattle.tagged_machine.specs.Opening.{opening};
     ghost use Rattle.tagged_machine.specs.Fits.{HasShape, IsReady};
 
-    /// The world from which a run of the code begins: place 0, all slots unset, nothing on the stack, and a blank
-    /// screen with the cursor before the first row. It takes the memory for slots and stack, so that only the screen
+    /// The world from which a run of the code begins on this day: place 0, all slots unset, nothing on the stack, a
+    /// blank screen with the cursor before the first row, and all settings off. It takes the memory for slots and stack, so that only the screen
     /// grows in a run. From this world accepted code may run.
-    pub fn opening(alloc: Global, code: &Code) -> Result<World, AllocError>
+    pub fn opening(alloc: Global, code: &Code, today: Day) -> Result<World, AllocError>
         requires { IsCode code.now }
-        ensures opened { IfOk result (λ world. world ≡ opening code.now) }
+        ensures opened { IfOk result (λ world. world ≡ opening code.now today) }
         ensures shaped { IfOk result (λ world. HasShape code.now world) }
         ensures ready { IfOk result (λ world. Accepted code.now → IsReady code.now world) }
     {
@@ -42,6 +47,8 @@ impl World {
             slots: Slots::new(alloc, code.slots as usize)?,
             stack: Stack::new(alloc)?,
             screen: Screen::new(alloc)?,
+            settings: Settings::off(),
+            today,
         })
     }
 

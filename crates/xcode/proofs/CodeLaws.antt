@@ -5,6 +5,7 @@ use Rattle.std.specs.List.{flat_map, AllByRecursion}
 use Rattle.std.proofs.lemmas.Bool.{eqb-true}
 use Rattle.std.proofs.lemmas.List.{append-nil, nil_from_length}
 use Rattle.xvalue.specs.declared.value.Value.{Value}
+use Rattle.xvalue.specs.Signature.{NumbersAgree}
 use Rattle.xcode.specs.declared.fault.CodeFault.{CodeFault}
 use Rattle.xcode.specs.declared.fault.CodeFault.TheVariants.{Shape as ShapeFault, Extra}
 use Rattle.xcode.specs.declared.codec_header.Header.{Header}
@@ -81,9 +82,9 @@ spelled h constants p maps instructions bytes b1 b2 b3 b4 b5 r t0 t1 t2 t3 t4 no
     t0.parts ∙ ap (λ (l : List ℕ). header_bytes h ++ l) e1
     ∙ ap (λ (l : List ℕ). l ++ (flat_map constant_text constants ++ (flat_map procedure_text (p ∷ []) ++ (flat_map map_text maps ++ flat_map instr_text instructions)))) (header_same h (length constants) (length maps) (length instructions) r.within r.constants_are r.maps_are r.instructions_are)
 
-pub code_takes : (bytes : List ℕ) (code : Code) → IsBytes bytes → code_at bytes ≡ Ok code → CodeText bytes code
+pub code_takes : NumbersAgree → (bytes : List ℕ) (code : Code) → IsBytes bytes → code_at bytes ≡ Ok code → CodeText bytes code
 unfolding code_at
-code_takes bytes code fits e =
+code_takes agree bytes code fits e =
     let a = bind_ok (header_at bytes) _ code e in
     let h = a.0.0 in
     let b = bind_ok (many constant_at h.constants a.0.1) _ code a.2 in
@@ -100,7 +101,7 @@ code_takes bytes code fits e =
     let t1 = many_takes constant_at constant_text IsConstant constant_takes h.constants a.0.1 b.0 t0.0.rest_fits b.1 in
     let t2 = procedure_takes h.slots h.stack_bound b.0.1 c.0 t1.0.rest_fits c.1 in
     let t3 = many_takes (map_at h.slots h.stack_bound) map_text (IsReadMap h.slots h.stack_bound) (map_takes h.slots h.stack_bound) h.maps c.0.1 d.0 t2.0.rest_fits d.1 in
-    let t4 = many_takes instr_at instr_text IsInstr instr_takes h.instructions d.0.1 i.0 t3.0.rest_fits i.1 in
+    let t4 = many_takes instr_at instr_text IsInstr (instr_takes agree) h.instructions d.0.1 i.0 t3.0.rest_fits i.1 in
     let nothing : i.0.1 ≡ [] = filled.1 ∙ risen.1 ∙ nil_from_length g.0 (eqb-true (length g.0) 0 ended.0) in
     let read : AreRead h b.0.0 c.0.0 d.0.0 i.0.0 = record {
       within = t0.1;
@@ -147,8 +148,8 @@ same_code : (code : Code) (tables : List TableShape) (indexes : List IndexShape)
     → record { stack_bound = code.stack_bound; slots = code.slots; shape = record { tables = tables; indexes = indexes }; lists = lists; constants = code.constants; filters = filters; procedures = procedures; maps = code.maps; instructions = code.instructions } ≡ code
 same_code code tables indexes lists filters procedures e f g h i = rw (← e, ← f, ← g, ← h, ← i) refl
 
-again_with : (code : Code) (p : Proc) → code.procedures ≡ p ∷ [] → IsCode code → code_at (code_text code) ≡ Ok code
-again_with code p is h =
+again_with : NumbersAgree → (code : Code) (p : Proc) → code.procedures ≡ p ∷ [] → IsCode code → code_at (code_text code) ≡ Ok code
+again_with agree code p is h =
     let procedure : IsProcedure code.slots code.stack_bound p = (subst (λ (ps : List Proc). AllByRecursion (IsProcedure code.slots code.stack_bound) ps) is h.procedures).0 in
     let main : IsMain code.slots p.entry = subst (λ (ps : List Proc). MainIs code.slots ps) is h.main in
     let places : p.length ≡ length code.instructions = omega (arith, sym (ap places_of is) ∙ h.whole) in
@@ -173,7 +174,7 @@ again_with code p is h =
     let text : code_text code ≡ header_bytes (header_of code) ++ b1 =
     ap (λ (l : List ℕ). header_text code ++ (flat_map constant_text code.constants ++ (l ++ b3))) (ap (flat_map procedure_text) is ∙ append-nil (procedure_text p)) in
     let instructions : many instr_at (length code.instructions) b4 ≡ Ok (code.instructions, []) =
-    ap (many instr_at (length code.instructions)) (sym (append-nil b4)) ∙ many_again instr_at instr_text IsInstr instr_again code.instructions [] h.instructions in
+    ap (many instr_at (length code.instructions)) (sym (append-nil b4)) ∙ many_again instr_at instr_text IsInstr (instr_again agree) code.instructions [] h.instructions in
     ap code_at text
     ∙ code_from code (header_of code) p (header_bytes (header_of code) ++ b1) b1 b2 b3 b4
     (header_again (header_of code) b1 within h.few_instructions)
@@ -183,22 +184,22 @@ again_with code p is h =
     instructions (does_fill (length code.instructions) p procedure.longer places) (does_rise 0 (length code.instructions) code.maps rising)
     ∙ ap (λ (c : Code). Ok c) (same_code code [] [] [] [] (p ∷ []) h.tables h.indexes h.lists h.filters is)
 
-one_procedure : (code : Code) (procedures : List Proc) → code.procedures ≡ procedures → length procedures ≡ 1 → IsCode code → code_at (code_text code) ≡ Ok code
-one_procedure code [] is one h = absurd (omega arith)
-one_procedure code (p ∷ []) is one h = again_with code p is h
-one_procedure code (p ∷ q ∷ procedures) is one h = absurd (omega arith)
+one_procedure : NumbersAgree → (code : Code) (procedures : List Proc) → code.procedures ≡ procedures → length procedures ≡ 1 → IsCode code → code_at (code_text code) ≡ Ok code
+one_procedure agree code [] is one h = absurd (omega arith)
+one_procedure agree code (p ∷ []) is one h = again_with agree code p is h
+one_procedure agree code (p ∷ q ∷ procedures) is one h = absurd (omega arith)
 
-pub code_again : (code : Code) → IsCode code → code_at (code_text code) ≡ Ok code
-code_again code h = one_procedure code code.procedures refl h.one h
+pub code_again : NumbersAgree → (code : Code) → IsCode code → code_at (code_text code) ≡ Ok code
+code_again agree code h = one_procedure agree code code.procedures refl h.one h
 
 -- ---- and so each code has one file, and each file one code
 
-pub is_found : (bytes : List ℕ) (r : Result Code CodeFault) → IsBytes bytes → Gives (λ (c : Code). c) r (code_at bytes) → IfOk r (λ code. CodeText bytes code)
-is_found bytes (Ok code) fits given = code_takes bytes code fits given
-is_found bytes (Err e) fits given = tt
+pub is_found : NumbersAgree → (bytes : List ℕ) (r : Result Code CodeFault) → IsBytes bytes → Gives (λ (c : Code). c) r (code_at bytes) → IfOk r (λ code. CodeText bytes code)
+is_found agree bytes (Ok code) fits given = code_takes agree bytes code fits given
+is_found agree bytes (Err e) fits given = tt
 
-pub one_code : (bytes : List ℕ) (c d : Code) → CodeText bytes c → CodeText bytes d → c ≡ d
-one_code bytes c d h k = ok_is c d (sym (code_again c h.legal) ∙ ap code_at (sym h.spelled ∙ k.spelled) ∙ code_again d k.legal)
+pub one_code : NumbersAgree → (bytes : List ℕ) (c d : Code) → CodeText bytes c → CodeText bytes d → c ≡ d
+one_code agree bytes c d h k = ok_is c d (sym (code_again agree c h.legal) ∙ ap code_at (sym h.spelled ∙ k.spelled) ∙ code_again agree d k.legal)
 
 pub one_text : (a b : List ℕ) (code : Code) → CodeText a code → CodeText b code → a ≡ b
 one_text a b code h k = h.spelled ∙ sym k.spelled

@@ -3,13 +3,13 @@ use Rattle.std.proofs.Common.{◌≡◌, ℕ, ◌+◌, ◌<◌, Bool, true, fals
 use Rattle.std.specs.Prelude.{nat_lt, nat_le, is_none}
 use Rattle.std.proofs.lemmas.Bool.Decides.{nat_tests}
 use Rattle.xvalue.specs.declared.kind.Kind.{Kind}
-use Rattle.xvalue.specs.declared.kind.Kind.TheVariants.{Text as OfText, Logical as OfLogical}
+use Rattle.xvalue.specs.declared.kind.Kind.TheVariants.{Number as OfNumber, Text as OfText, Date as OfDate, Logical as OfLogical}
 use Rattle.xvalue.specs.Kinds.{same_kind}
 use Rattle.xcode.specs.declared.state.State.{State}
 use Rattle.xcode.specs.declared.state.OpenArea.{OpenArea}
 use Rattle.xcode.specs.declared.code.Code.{Code}
 use Rattle.xcode.specs.declared.instr.Instr.{Instr}
-use Rattle.xcode.specs.declared.instr.Instr.TheVariants.{Constant, Load, Store, Unset, Discard, Jump, JumpFalse, End, NewLine, Print}
+use Rattle.xcode.specs.declared.instr.Instr.TheVariants.{Constant, Load, Store, Unset, Discard, Function, Ask, Jump, JumpFalse, End, NewLine, Print, Set}
 use Rattle.xcode.specs.declared.rule.Rule.{Rule}
 use Rattle.xcode.specs.declared.rule.Rule.TheVariants.{Kind as RuleKind, Unset as RuleUnset, OtherTable, StackUnder, StackOver, StackNotEmpty, Jump as RuleJump, Fall, Constant as RuleConstant}
 use Rattle.xcode.specs.Areas.{same_number, same_area, same_areas}
@@ -74,7 +74,9 @@ keeps_rules code ok place within = (passed_at code place ok within).kept
 -- a state covers itself
 
 same_kind_self : (k : Kind) → same_kind k k ≡ true
+same_kind_self OfNumber = refl
 same_kind_self OfText = refl
+same_kind_self OfDate = refl
 same_kind_self OfLogical = refl
 
 and_true : (a b : Bool) → a ≡ true → b ≡ true → (a && b) ≡ true
@@ -136,11 +138,14 @@ all_known code (Load kind slot) e = refl
 all_known code (Store kind slot) e = refl
 all_known code (Unset slot) e = refl
 all_known code (Discard kind) e = refl
+all_known code (Function fun) e = refl
+all_known code (Ask question) e = refl
 all_known code (Jump place) e = refl
 all_known code (JumpFalse place) e = refl
 all_known code End e = refl
 all_known code NewLine e = refl
 all_known code (Print kind) e = refl
+all_known code (Set setting on) e = refl
 
 falls_keeps : (b c : Bool) → (b && c) ≡ false → b ≡ true → c ≡ false
 falls_keeps true c e h = e

@@ -7,6 +7,9 @@ use Rattle.xvalue.specs.declared.kind.Kind.{Kind}
 use Rattle.xvalue.specs.Kinds.{same_kind}
 use Rattle.xcode.specs.Kinds.{clashes, other_kind, same_kinds, same_pair, kinds_covered, slot_covered, slots_covered}
 
+pub back_length : (kinds : List Kind) → length kinds ≡ length (reverse kinds)
+back_length kinds = sym (length-reverse kinds)
+
 pub any_other : (kinds there : List Kind) → list_any other_kind (zip there kinds) ≡ clashes kinds there
 any_other [] [] = refl
 any_other [] (top ∷ there) = refl

@@ -5,6 +5,7 @@ pub mod CodeItems
 pub mod CodeLaws
 pub mod CodeParts
 pub mod CodeStates
+pub mod CodeValues
 pub mod Keeping
 pub mod KindLists
 pub mod LegalProps

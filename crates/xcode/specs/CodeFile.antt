@@ -1,17 +1,24 @@
 -- The code file: the bytes of each code. Numbers are little-endian.
-use Rattle.std.specs.Prelude.{◌≡◌, ℕ, List, [], ◌∷◌, ◌++◌, length, map, replicate, reverse, Option, Some, None, Bool, true, false}
-use Rattle.std.specs.Int.{w16, w32, to_le_bytes}
+use Rattle.std.specs.Prelude.{◌≡◌, ℕ, suc, pos, negsuc, List, [], ◌∷◌, ◌++◌, length, map, replicate, reverse, Option, Some, None, Bool, true, false}
+use Rattle.std.specs.Int.{w16, w32, w64, to_le_bytes}
 use Rattle.std.specs.List.{flat_map}
 use Rattle.xvalue.specs.declared.kind.Kind.{Kind}
-use Rattle.xvalue.specs.declared.kind.Kind.TheVariants.{Text as OfText, Logical as OfLogical}
+use Rattle.xvalue.specs.declared.kind.Kind.TheVariants.{Number as OfNumber, Text as OfText, Date as OfDate, Logical as OfLogical}
+use Rattle.xvalue.specs.declared.day.DayParts.{DayParts}
+use Rattle.xvalue.specs.declared.settings.Setting.{Setting}
+use Rattle.xvalue.specs.declared.settings.Setting.TheVariants.{Exact, Deleted}
+use Rattle.xvalue.specs.Signature.{number_of}
+use Rattle.fixed_num.specs.Number.{Number as Decimal, asterisk, finite}
+use Rattle.xcode.specs.declared.instr.Question.{Question}
+use Rattle.xcode.specs.declared.instr.Question.TheVariants.{Today}
 use Rattle.xvalue.specs.declared.value.Value.{Value}
-use Rattle.xvalue.specs.declared.value.Value.TheVariants.{Text, Logical}
+use Rattle.xvalue.specs.declared.value.Value.TheVariants.{Number, Text, Date, Logical}
 use Rattle.xcode.specs.declared.state.State.{State}
 use Rattle.xcode.specs.declared.code.Map.{Map}
 use Rattle.xcode.specs.declared.code.Proc.{Proc}
 use Rattle.xcode.specs.declared.code.Code.{Code}
 use Rattle.xcode.specs.declared.instr.Instr.{Instr}
-use Rattle.xcode.specs.declared.instr.Instr.TheVariants.{Constant, Load, Store, Unset, Discard, Jump, JumpFalse, End, NewLine, Print}
+use Rattle.xcode.specs.declared.instr.Instr.TheVariants.{Constant, Load, Store, Unset, Discard, Function, Ask, Jump, JumpFalse, End, NewLine, Print, Set}
 use Rattle.xcode.specs.declared.codec_parts.Parts.{Parts}
 use Rattle.xcode.specs.Legal.{IsCode}
 
@@ -36,8 +43,19 @@ header_text code = magic ++ flat_map two (counts_of code)
 
 -- the kinds' numbers
 abbrev pub kind_number : Kind → ℕ
+kind_number OfNumber = 1
 kind_number OfText = 2
+kind_number OfDate = 3
 kind_number OfLogical = 4
+
+-- the settings' numbers, and those of what ASK asks for
+
+abbrev pub setting_number : Setting → ℕ
+setting_number Exact = 1
+setting_number Deleted = 2
+
+abbrev pub question_number : Question → ℕ
+question_number Today = 7
 
 -- a slot of which nothing is known is 0
 abbrev pub slot_number : Option Kind → ℕ
@@ -48,8 +66,22 @@ abbrev pub truth_number : Bool → ℕ
 truth_number false = 0
 truth_number true = 1
 
--- a constant's kind, and then: a text's length and bytes, or a truth value
+-- the decimals, 1 where the number is below zero, and its digits as a number of eight bytes; the asterisk value has no
+-- text
+abbrev pub number_text : Decimal → List ℕ
+number_text asterisk = []
+number_text (finite (pos m) d) = d ∷ 0 ∷ to_le_bytes w64 m
+number_text (finite (negsuc m) d) = d ∷ 1 ∷ to_le_bytes w64 (suc m)
+
+-- the year in two bytes, the month and the day; all 0 for the blank date
+abbrev pub date_text : Option DayParts → List ℕ
+date_text None = two 0 ++ (0 ∷ 0 ∷ [])
+date_text (Some parts) = two parts.year ++ (parts.month ∷ parts.day ∷ [])
+
+-- a constant's kind, and then: a number's parts, a text's length and bytes, a date's parts, or a truth value
 abbrev pub constant_text : Value → List ℕ
+constant_text (Number number) = kind_number OfNumber ∷ number_text number
+constant_text (Date day) = kind_number OfDate ∷ date_text day
 constant_text (Text text) = kind_number OfText ∷ length text.items ∷ text.items
 constant_text (Logical truth) = kind_number OfLogical ∷ truth_number truth ∷ []
 
@@ -70,11 +102,14 @@ parts_of (Load kind slot) = record { operation = 0x02; a = kind_number kind; b =
 parts_of (Store kind slot) = record { operation = 0x03; a = kind_number kind; b = slot; c = 0 }
 parts_of (Unset slot) = record { operation = 0x04; a = 0; b = slot; c = 0 }
 parts_of (Discard kind) = record { operation = 0x05; a = kind_number kind; b = 0; c = 0 }
+parts_of (Function fun) = record { operation = 0x08; a = number_of fun; b = 0; c = 0 }
+parts_of (Ask question) = record { operation = 0x09; a = question_number question; b = 0; c = 0 }
 parts_of (Jump place) = record { operation = 0x10; a = 0; b = 0; c = place }
 parts_of (JumpFalse place) = record { operation = 0x11; a = 0; b = 0; c = place }
 parts_of End = record { operation = 0x14; a = 0; b = 0; c = 0 }
 parts_of NewLine = record { operation = 0x40; a = 0; b = 0; c = 0 }
 parts_of (Print kind) = record { operation = 0x41; a = kind_number kind; b = 0; c = 0 }
+parts_of (Set setting on) = record { operation = 0x46; a = setting_number setting; b = truth_number on; c = 0 }
 
 -- eight bytes: the operation, a, b in two bytes and c in four
 abbrev pub parts_text : Parts → List ℕ

@@ -1,12 +1,21 @@
 -- Reading a code file from the front, with the first fault. An item's bytes are all there before the item is judged.
-use Rattle.std.specs.Prelude.{◌≡◌, ℕ, zero, suc, ◌+◌, ◌-◌, List, [], ◌∷◌, length, take, drop, replicate, reverse, Bool, true, false, ◌&&◌, ◌==◌, nat_lt, nat_le, if◌then◌else◌, Option, Some, None, is_none, Result, Ok, Err}
-use Rattle.std.specs.Int.{Width, w16, w32, byte_len, from_le_bytes}
+use Rattle.std.specs.Prelude.{◌≡◌, ℕ, zero, suc, ◌+◌, ◌-◌, List, [], ◌∷◌, length, take, drop, replicate, reverse, Bool, true, false, ◌&&◌, ◌||◌, ◌==◌, ◌^◌, pos, nat_lt, nat_le, if◌then◌else◌, Option, Some, None, is_none, Result, Ok, Err}
+use Rattle.std.specs.Int.{Width, w16, w32, w64, byte_len, from_le_bytes}
 use Rattle.std.specs.List.{list_all}
 use Rattle.std.specs.Option.{option_and_then}
 use Rattle.xvalue.specs.declared.kind.Kind.{Kind}
-use Rattle.xvalue.specs.declared.kind.Kind.TheVariants.{Text as OfText, Logical as OfLogical}
+use Rattle.xvalue.specs.declared.kind.Kind.TheVariants.{Number as OfNumber, Text as OfText, Date as OfDate, Logical as OfLogical}
+use Rattle.xvalue.specs.declared.day.DayParts.{DayParts}
+use Rattle.xvalue.specs.declared.fun.Fun.{Fun}
+use Rattle.xvalue.specs.declared.settings.Setting.{Setting}
+use Rattle.xvalue.specs.declared.settings.Setting.TheVariants.{Exact, Deleted}
+use Rattle.xvalue.specs.Signature.{numbered}
+use Rattle.jiff_core.specs.Calendar.{days_in_month}
+use Rattle.fixed_num.specs.Number.{finite, signed}
+use Rattle.xcode.specs.declared.instr.Question.{Question}
+use Rattle.xcode.specs.declared.instr.Question.TheVariants.{Today}
 use Rattle.xvalue.specs.declared.value.Value.{Value}
-use Rattle.xvalue.specs.declared.value.Value.TheVariants.{Text, Logical}
+use Rattle.xvalue.specs.declared.value.Value.TheVariants.{Number, Text, Date, Logical}
 use Rattle.xcode.specs.declared.fault.CodeFault.{CodeFault}
 use Rattle.xcode.specs.declared.fault.CodeFault.TheVariants.{Magic, Version, Short, Limit, Operation, Shape, Extra, Memory}
 use Rattle.xcode.specs.declared.state.State.{State}
@@ -15,7 +24,7 @@ use Rattle.xcode.specs.declared.code.Proc.{Proc}
 use Rattle.xcode.specs.declared.code.Code.{Code}
 use Rattle.xcode.specs.declared.codec_header.Header.{Header}
 use Rattle.xcode.specs.declared.instr.Instr.{Instr}
-use Rattle.xcode.specs.declared.instr.Instr.TheVariants.{Constant, Load, Store, Unset, Discard, Jump, JumpFalse, End, NewLine, Print}
+use Rattle.xcode.specs.declared.instr.Instr.TheVariants.{Constant, Load, Store, Unset, Discard, Function, Ask, Jump, JumpFalse, End, NewLine, Print, Set}
 
 infixl 10 ◌>>=◌
 abbrev pub ◌>>=◌ : {A B : Type 0} → Result A CodeFault → (A → Result B CodeFault) → Result B CodeFault
@@ -94,7 +103,39 @@ header_at bytes = do
 -- ---- constants
 
 abbrev pub kind_of_byte : CodeFault → ℕ → Result Kind CodeFault
-kind_of_byte fault byte = if byte == 2 then Ok OfText else (if byte == 4 then Ok OfLogical else Err fault)
+kind_of_byte fault byte =
+    if byte == 1 then Ok OfNumber else (
+    if byte == 2 then Ok OfText else (
+    if byte == 3 then Ok OfDate else (
+    if byte == 4 then Ok OfLogical else Err fault)))
+
+-- decimals, sign and digits of a number: in range, and zero without a sign
+abbrev pub is_number : ℕ → ℕ → ℕ → Bool
+is_number decimals sign magnitude = nat_le decimals 15 && nat_lt magnitude (10 ^ 19) && (sign == 0 || (sign == 1 && nat_lt 0 magnitude))
+
+unfoldable pub decimal_at : List ℕ → Result (Value × List ℕ) CodeFault
+decimal_at bytes = do
+  there ← wanted Short (nat_le 10 (length bytes)) bytes
+  decimals ← byte_at there
+  sign ← byte_at decimals.1
+  magnitude ← number_at Short w64 sign.1
+  wanted Shape (is_number decimals.0 sign.0 magnitude.0) (Number (finite (signed (sign.0 == 1) magnitude.0) decimals.0), magnitude.1)
+
+-- the calendar has the day, in the years 1 to 9999
+abbrev pub is_day : DayParts → Bool
+is_day parts = nat_le 1 parts.year && nat_le parts.year 9999 && nat_le 1 parts.month && nat_le parts.month 12 && nat_le 1 parts.day && nat_le parts.day (days_in_month (pos parts.year) parts.month)
+
+abbrev pub date_of : DayParts → Result (Option DayParts) CodeFault
+date_of parts = if parts.year == 0 && parts.month == 0 && parts.day == 0 then Ok None else wanted Shape (is_day parts) (Some parts)
+
+unfoldable pub date_at : List ℕ → Result (Value × List ℕ) CodeFault
+date_at bytes = do
+  there ← wanted Short (nat_le 4 (length bytes)) bytes
+  year ← number_at Short w16 there
+  month ← byte_at year.1
+  day ← byte_at month.1
+  date ← date_of (record { year = year.0; month = month.0; day = day.0 })
+  Ok (Date date, day.1)
 
 -- a text's length, so many bytes, of which there may be 254
 unfoldable pub text_at : List ℕ → Result (Value × List ℕ) CodeFault
@@ -110,7 +151,9 @@ truth_at bytes = do
 
 -- of a constant of another kind the kind's byte alone is read
 abbrev pub value_at : Kind → List ℕ → Result (Value × List ℕ) CodeFault
+value_at OfNumber bytes = decimal_at bytes
 value_at OfText bytes = text_at bytes
+value_at OfDate bytes = date_at bytes
 value_at OfLogical bytes = truth_at bytes
 
 unfoldable pub constant_at : List ℕ → Result (Value × List ℕ) CodeFault
@@ -211,8 +254,36 @@ map_at slots bound bytes = do
 
 -- an operand that an operation has no use for is 0
 
+abbrev pub operand : {A : Type 0} → Result A CodeFault → Bool → Result A CodeFault
+operand read unused = read >>= λ x. wanted Operation unused x
+
 abbrev pub kind_if : ℕ → Bool → Result Kind CodeFault
-kind_if byte unused = kind_of_byte Operation byte >>= λ kind. wanted Operation unused kind
+kind_if byte unused = operand (kind_of_byte Operation byte) unused
+
+abbrev pub known : {A : Type 0} → Option A → Result A CodeFault
+known None = Err Operation
+known (Some x) = Ok x
+
+abbrev pub fun_if : ℕ → Bool → Result Fun CodeFault
+fun_if byte unused = operand (known (numbered byte)) unused
+
+abbrev pub question_of_byte : ℕ → Result Question CodeFault
+question_of_byte byte = if byte == 7 then Ok Today else Err Operation
+
+abbrev pub question_if : ℕ → Bool → Result Question CodeFault
+question_if byte unused = operand (question_of_byte byte) unused
+
+abbrev pub setting_of_byte : ℕ → Result Setting CodeFault
+setting_of_byte byte = if byte == 1 then Ok Exact else (if byte == 2 then Ok Deleted else Err Operation)
+
+abbrev pub switch_of : ℕ → Result Bool CodeFault
+switch_of number = if number == 0 then Ok false else (if number == 1 then Ok true else Err Operation)
+
+abbrev pub setting_and_switch : ℕ → ℕ → Result (Setting × Bool) CodeFault
+setting_and_switch byte number = setting_of_byte byte >>= λ setting. (switch_of number >>= λ on. Ok (setting, on))
+
+abbrev pub switch_if : ℕ → ℕ → Bool → Result (Setting × Bool) CodeFault
+switch_if byte number unused = operand (setting_and_switch byte number) unused
 
 unfoldable pub instr_of : ℕ → ℕ → ℕ → ℕ → Result Instr CodeFault
 instr_of operation a b c =
@@ -221,11 +292,14 @@ instr_of operation a b c =
     if operation == 0x03 then (kind_if a (c == 0) >>= λ kind. Ok (Store kind b)) else (
     if operation == 0x04 then wanted Operation (a == 0 && c == 0) (Unset b) else (
     if operation == 0x05 then (kind_if a (b == 0 && c == 0) >>= λ kind. Ok (Discard kind)) else (
+    if operation == 0x08 then (fun_if a (b == 0 && c == 0) >>= λ fun. Ok (Function fun)) else (
+    if operation == 0x09 then (question_if a (b == 0 && c == 0) >>= λ question. Ok (Ask question)) else (
     if operation == 0x10 then wanted Operation (a == 0 && b == 0) (Jump c) else (
     if operation == 0x11 then wanted Operation (a == 0 && b == 0) (JumpFalse c) else (
     if operation == 0x14 then wanted Operation (a == 0 && b == 0 && c == 0) End else (
     if operation == 0x40 then wanted Operation (a == 0 && b == 0 && c == 0) NewLine else (
-    if operation == 0x41 then (kind_if a (b == 0 && c == 0) >>= λ kind. Ok (Print kind)) else Err Operation)))))))))
+    if operation == 0x41 then (kind_if a (b == 0 && c == 0) >>= λ kind. Ok (Print kind)) else (
+    if operation == 0x46 then (switch_if a b (c == 0) >>= λ setting. Ok (Set setting.0 setting.1)) else Err Operation))))))))))))
 
 unfoldable pub instr_at : List ℕ → Result (Instr × List ℕ) CodeFault
 instr_at bytes = do

@@ -1,17 +1,32 @@
 -- The codes that have a code file.
-use Rattle.std.specs.Prelude.{◌≡◌, ◌<◌, ◌≤◌, ℕ, ◌+◌, ◌^◌, List, [], ◌∷◌, None, length, map, replicate, sum}
+use Rattle.std.specs.Prelude.{◌≡◌, ◌<◌, ◌≤◌, ℕ, ◌+◌, ◌^◌, List, [], ◌∷◌, Option, Some, None, length, map, replicate, sum}
 use Rattle.std.specs.List.{AllByRecursion}
 use Rattle.xvalue.specs.declared.value.Value.{Value}
-use Rattle.xvalue.specs.declared.value.Value.TheVariants.{Text, Logical}
+use Rattle.xvalue.specs.declared.value.Value.TheVariants.{Number, Text, Date, Logical}
+use Rattle.xvalue.specs.declared.day.DayParts.{DayParts}
+use Rattle.xvalue.specs.Days.{IsDay}
+use Rattle.fixed_num.specs.Number.{Number as Decimal, asterisk, finite, IsInRange}
 use Rattle.xcode.specs.declared.state.State.{State}
 use Rattle.xcode.specs.declared.code.Map.{Map}
 use Rattle.xcode.specs.declared.code.Proc.{Proc}
 use Rattle.xcode.specs.declared.code.Code.{Code}
 use Rattle.xcode.specs.declared.instr.Instr.{Instr}
-use Rattle.xcode.specs.declared.instr.Instr.TheVariants.{Constant, Load, Store, Unset, Discard, Jump, JumpFalse, End, NewLine, Print}
+use Rattle.xcode.specs.declared.instr.Instr.TheVariants.{Constant, Load, Store, Unset, Discard, Function, Ask, Jump, JumpFalse, End, NewLine, Print, Set}
+
+-- a number other than the asterisk value, in the range of numbers
+abbrev pub IsWritten : Decimal → Type 0
+IsWritten asterisk = ⊥
+IsWritten (finite m d) = IsInRange (finite m d)
+
+-- the blank date, or a day of the calendar
+abbrev pub IsDate : Option DayParts → Type 0
+IsDate None = Unit {0}
+IsDate (Some parts) = IsDay parts
 
 -- a text has at most 254 bytes
 abbrev pub IsConstant : Value → Type 0
+IsConstant (Number number) = IsWritten number
+IsConstant (Date day) = IsDate day
 IsConstant (Text text) = (length text.items ≤ 254) × AllByRecursion (λ byte. byte < 256) text.items
 IsConstant (Logical truth) = Unit {0}
 
@@ -55,11 +70,14 @@ IsInstr (Load kind slot) = slot < 2 ^ 16
 IsInstr (Store kind slot) = slot < 2 ^ 16
 IsInstr (Unset slot) = slot < 2 ^ 16
 IsInstr (Discard kind) = Unit {0}
+IsInstr (Function fun) = Unit {0}
+IsInstr (Ask question) = Unit {0}
 IsInstr (Jump place) = place < 2 ^ 32
 IsInstr (JumpFalse place) = place < 2 ^ 32
 IsInstr End = Unit {0}
 IsInstr NewLine = Unit {0}
 IsInstr (Print kind) = Unit {0}
+IsInstr (Set setting on) = Unit {0}
 
 -- how many instructions the procedures' blocks have
 abbrev pub places_of : List Proc → ℕ

@@ -2,7 +2,7 @@
 use Rattle.std.specs.Prelude.{ℕ, ◌+◌, ◌-◌, List, [], ◌∷◌, ◌++◌, length, replicate, codes}
 use Rattle.std.specs.Fmt.{decimal}
 use Rattle.xcode.specs.declared.instr.Instr.{Instr}
-use Rattle.xcode.specs.declared.instr.Instr.TheVariants.{Constant, Load, Store, Unset, Discard, Jump, JumpFalse, End, NewLine, Print}
+use Rattle.xcode.specs.declared.instr.Instr.TheVariants.{Constant, Load, Store, Unset, Discard, Function, Ask, Jump, JumpFalse, End, NewLine, Print, Set}
 use Rattle.xcode.specs.declared.codec_parts.Parts.{Parts}
 use Rattle.xcode.specs.CodeFile.{parts_of}
 
@@ -12,11 +12,14 @@ name_of (Load kind slot) = codes "LOAD"
 name_of (Store kind slot) = codes "STORE"
 name_of (Unset slot) = codes "UNSET"
 name_of (Discard kind) = codes "DROP"
+name_of (Function fun) = codes "FUN"
+name_of (Ask question) = codes "ASK"
 name_of (Jump place) = codes "JUMP"
 name_of (JumpFalse place) = codes "JUMPF"
 name_of End = codes "END"
 name_of NewLine = codes "NEWLINE"
 name_of (Print kind) = codes "PRINT"
+name_of (Set setting on) = codes "SET"
 
 -- right in five places
 abbrev pub place_text : ℕ → List ℕ

@@ -1,14 +1,18 @@
 -- What is known before each place of a code, and what an instruction makes of it.
 use Rattle.std.specs.Prelude.{ℕ, zero, suc, List, [], ◌∷◌, ◌++◌, Bool, false, if◌then◌else◌, nat_le, ◌==◌, Option, Some, None, length, drop, slice_get, slice_set, slice_index_or}
 use Rattle.xvalue.specs.declared.kind.Kind.{Kind}
+use Rattle.xvalue.specs.declared.kind.Kind.TheVariants.{Date as OfDate}
 use Rattle.xvalue.specs.declared.value.Value.{Value}
 use Rattle.xvalue.specs.Kinds.{kind_of}
+use Rattle.xvalue.specs.Signature.{gives_of}
 use Rattle.xcode.specs.declared.state.State.{State}
 use Rattle.xcode.specs.declared.code.Map.{Map}
 use Rattle.xcode.specs.declared.code.Proc.{Proc}
 use Rattle.xcode.specs.declared.code.Code.{Code}
+use Rattle.xcode.specs.declared.instr.Question.{Question}
+use Rattle.xcode.specs.declared.instr.Question.TheVariants.{Today}
 use Rattle.xcode.specs.declared.instr.Instr.{Instr}
-use Rattle.xcode.specs.declared.instr.Instr.TheVariants.{Constant, Load, Store, Unset, End}
+use Rattle.xcode.specs.declared.instr.Instr.TheVariants.{Constant, Load, Store, Unset, Function, Ask, End}
 use Rattle.xcode.specs.Signature.{takes}
 
 -- the instruction at a place
@@ -28,9 +32,15 @@ abbrev pub kinds_of_constant : Option Value → List Kind
 kinds_of_constant None = []
 kinds_of_constant (Some value) = kind_of value ∷ []
 
+-- the kind of an answer
+abbrev pub kind_asked : Question → Kind
+kind_asked Today = OfDate
+
 abbrev pub pushes : Code → Instr → List Kind
 pushes code (Constant number) = kinds_of_constant (slice_get code.constants number)
 pushes code (Load kind slot) = kind ∷ []
+pushes code (Function fun) = gives_of fun ∷ []
+pushes code (Ask question) = kind_asked question ∷ []
 pushes code _ = []
 
 -- how many values of kinds that aren't known it puts there: that of a constant that isn't declared

@@ -1,6 +1,9 @@
 // The code that the machines run.
 #![tactic(auto)]
 
+ghost use Rattle.std.specs.Prelude.{◌≡◌};
+ghost use Rattle.xcode.specs.States.{undeclared};
+
 use crate::instr::Instr;
 use crate::items::Items;
 use crate::shape::{ListShape, Shape};
@@ -55,4 +58,17 @@ pub struct Code {
     /// By rising place.
     pub maps: Items<Map>,
     pub instructions: Items<Instr>,
+}
+
+impl Code {
+    /// Whether an operand of the instruction names nothing that is declared.
+    pub fn is_undeclared(&self, instr: Instr) -> bool
+        ensures { result ≡ undeclared self.now instr }
+    {
+        match instr {
+            Instr::Constant(number) => self.constants.len() <= number as usize,
+            Instr::Load(_, slot) | Instr::Store(_, slot) | Instr::Unset(slot) => self.slots <= slot,
+            _ => false,
+        }
+    }
 }

@@ -13,6 +13,7 @@ use crate::fault::CodeFault;
 use crate::items::Items;
 use crate::shape::Shape;
 use std::alloc::{AllocError, Global};
+use xvalue::laws::functions_have_their_numbers;
 
 /// Whether the procedures' blocks have an instruction at least, and together so many.
 fn do_blocks_fill(instructions: u16, procedures: &[Proc]) -> bool
@@ -103,6 +104,7 @@ pub fn decode(alloc: Global, bytes: &[u8]) -> Result<Code, CodeFault>
     // Which fault it is.
     ensures exact { Gives (λ x. x) result (code_at bytes.now) }
 {
+    functions_have_their_numbers();
     code_of(alloc, bytes)
 }
 
@@ -110,4 +112,6 @@ pub fn decode(alloc: Global, bytes: &[u8]) -> Result<Code, CodeFault>
 pub fn one_file_each()
     ensures text { (a b : List ℕ) (code : AnyCode) → CodeText a code → CodeText b code → a ≡ b }
     ensures code { (bytes : List ℕ) (a b : AnyCode) → CodeText bytes a → CodeText bytes b → a ≡ b }
-{}
+{
+    functions_have_their_numbers();
+}

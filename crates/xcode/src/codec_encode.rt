@@ -3,15 +3,16 @@
 
 ghost use Rattle.std.specs.Prelude.{◌≡◌, ◌<◌, ◌≤◌, ◌++◌, length, map, All, IfOk, OnOk};
 ghost use Rattle.std.specs.List.{flat_map};
-ghost use Rattle.xcode.specs.CodeFile.{two, slot_number, kind_number, constant_text, state_text, procedure_text, map_text, instr_text, header_text, code_text};
+ghost use Rattle.xcode.specs.CodeFile.{two, slot_number, kind_number, number_text, date_text, constant_text, state_text, procedure_text, map_text, instr_text, header_text, code_text};
 ghost use Rattle.xcode.specs.Legal.{IsCode};
 
 use crate::code::{Code, Map, Proc};
 use crate::codec_parts::{number_of_kind, parts_of_instr};
 use crate::instr::Instr;
 use crate::state::State;
+use fixed_num::Num;
 use std::alloc::{AllocError, Global};
-use xvalue::{Kind, Value};
+use xvalue::{Day, Kind, Value};
 
 fn put_two(out: &mut Vec<u8>, number: u16) -> Result<(), AllocError>
     ensures { OnOk result (out.new.items ≡ out.old.items ++ two number) }
@@ -19,10 +20,41 @@ fn put_two(out: &mut Vec<u8>, number: u16) -> Result<(), AllocError>
     out.extend_from_slice(&number.to_le_bytes())
 }
 
+fn put_number(out: &mut Vec<u8>, number: Num) -> Result<(), AllocError>
+    ensures { OnOk result (out.new.items ≡ out.old.items ++ number_text number) }
+{
+    let Some(parts) = number.parts() else {
+        return Ok(());
+    };
+    out.push(parts.decimals)?;
+    out.push(u8::from(parts.negative))?;
+    out.extend_from_slice(&parts.magnitude.to_le_bytes())
+}
+
+fn put_date(out: &mut Vec<u8>, day: Day) -> Result<(), AllocError>
+    ensures { OnOk result (out.new.items ≡ out.old.items ++ date_text day) }
+{
+    let Some(parts) = day.parts() else {
+        return out.extend_from_slice(&[0; 4]);
+    };
+    put_two(out, parts.year)?;
+    out.push(parts.month)?;
+    out.push(parts.day)?;
+    Ok(())
+}
+
 fn put_constant(out: &mut Vec<u8>, constant: &Value) -> Result<(), AllocError>
     ensures { OnOk result (out.new.items ≡ out.old.items ++ constant_text constant.now) }
 {
     match constant {
+        Value::Number(number) => {
+            out.push(number_of_kind(Kind::Number))?;
+            put_number(out, *number)
+        }
+        Value::Date(day) => {
+            out.push(number_of_kind(Kind::Date))?;
+            put_date(out, *day)
+        }
         Value::Text(text) => {
             out.push(number_of_kind(Kind::Text))?;
             out.push(text.len() as u8)?;

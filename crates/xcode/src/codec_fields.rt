@@ -2,7 +2,7 @@
 #![tactic(auto)]
 
 ghost use Rattle.std.specs.Prelude.{◌≡◌};
-ghost use Rattle.std.specs.Int.{w16, w32};
+ghost use Rattle.std.specs.Int.{w16, w32, w64};
 ghost use Rattle.xcode.specs.CodeReading.{Gives, byte_at, number_at};
 
 use crate::fault::CodeFault;
@@ -37,5 +37,19 @@ pub fn four_of(missing: CodeFault, bytes: &[u8]) -> Result<(u32, &[u8]), CodeFau
     }
     let (front, rest) = bytes.split_at(4);
     let number = u32::from_le_bytes([front[0], front[1], front[2], front[3]]);
+    Ok((number, rest))
+}
+
+/// The number in eight bytes at the front, and the bytes behind it; this fault where bytes are missing.
+pub fn eight_of(missing: CodeFault, bytes: &[u8]) -> Result<(u64, &[u8]), CodeFault>
+    ensures { Gives (λ x. (x.0, x.1.now)) result (number_at missing w64 bytes.now) }
+{
+    if bytes.len() < 8 {
+        return Err(missing);
+    }
+    let (front, rest) = bytes.split_at(8);
+    let number = u64::from_le_bytes([
+        front[0], front[1], front[2], front[3], front[4], front[5], front[6], front[7],
+    ]);
     Ok((number, rest))
 }

@@ -4,16 +4,67 @@
 ghost use Rattle.std.specs.Prelude.{◌≡◌, is_none};
 ghost use Rattle.std.specs.List.{list_all};
 ghost use Rattle.xcode.specs.declared.fault.CodeFault.TheVariants.{Operation};
-ghost use Rattle.xcode.specs.CodeReading.{Gives, wanted, kind_if, many, text_at, truth_at, constant_at, procedure_there, map_there, is_main, procedure_at, map_at, instr_of, instr_at};
+ghost use Rattle.xcode.specs.CodeReading.{Gives, wanted, kind_if, fun_if, question_of_byte, question_if, setting_of_byte, switch_of, switch_if, many, decimal_at, date_of, date_at, text_at, truth_at, constant_at, procedure_there, map_there, is_main, procedure_at, map_at, instr_of, instr_at};
 
 use crate::code::{Map, Proc};
-use crate::codec_fields::{byte_of, four_of, two_of};
+use crate::codec_fields::{byte_of, eight_of, four_of, two_of};
 use crate::codec_states::{behind_one_state, kind_of_number, state_of};
 use crate::fault::CodeFault;
-use crate::instr::Instr;
+use crate::instr::{Instr, Question};
 use crate::state::State;
+use fixed_num::{Num, Parts};
 use std::alloc::Global;
-use xvalue::{Kind, Value, text_of};
+use xvalue::{Day, DayParts, Fun, Kind, Setting, Value, text_of};
+
+#[tactic(auto, unfolding(crate::specs::CodeReading::decimal_at))]
+fn number_value(bytes: &[u8]) -> Result<(Value, &[u8]), CodeFault>
+    ensures { Gives (λ x. (x.0, x.1.now)) result (decimal_at bytes.now) }
+{
+    if bytes.len() < 10 {
+        return Err(CodeFault::Short);
+    }
+    let (decimals, rest) = byte_of(bytes)?;
+    let (sign, rest) = byte_of(rest)?;
+    let (magnitude, rest) = eight_of(CodeFault::Short, rest)?;
+    if sign > 1 {
+        return Err(CodeFault::Shape);
+    }
+    let parts = Parts {
+        negative: sign == 1,
+        magnitude,
+        decimals,
+    };
+    match Num::from_parts(parts) {
+        Some(number) => Ok((Value::Number(number), rest)),
+        None => Err(CodeFault::Shape),
+    }
+}
+
+fn day_of(parts: DayParts) -> Result<Day, CodeFault>
+    ensures { Gives (λ x. x) result (date_of parts) }
+{
+    if parts.year == 0 && parts.month == 0 && parts.day == 0 {
+        return Ok(Day::blank());
+    }
+    match Day::from_parts(parts) {
+        Some(day) => Ok(day),
+        None => Err(CodeFault::Shape),
+    }
+}
+
+#[tactic(auto, unfolding(crate::specs::CodeReading::date_at))]
+fn date_value(bytes: &[u8]) -> Result<(Value, &[u8]), CodeFault>
+    ensures { Gives (λ x. (x.0, x.1.now)) result (date_at bytes.now) }
+{
+    if bytes.len() < 4 {
+        return Err(CodeFault::Short);
+    }
+    let (year, rest) = two_of(CodeFault::Short, bytes)?;
+    let (month, rest) = byte_of(rest)?;
+    let (day, rest) = byte_of(rest)?;
+    let day = day_of(DayParts { year, month, day })?;
+    Ok((Value::Date(day), rest))
+}
 
 #[tactic(auto, unfolding(crate::specs::CodeReading::text_at))]
 fn text_value(bytes: &[u8]) -> Result<(Value, &[u8]), CodeFault>
@@ -49,6 +100,8 @@ fn constant_of(bytes: &[u8]) -> Result<(Value, &[u8]), CodeFault>
 {
     let (byte, rest) = byte_of(bytes)?;
     match kind_of_number(CodeFault::Shape, byte)? {
+        Kind::Number => number_value(rest),
+        Kind::Date => date_value(rest),
         Kind::Text => text_value(rest),
         Kind::Logical => truth_value(rest),
     }
@@ -177,6 +230,58 @@ fn with_kind(byte: u8, unused: bool) -> Result<Kind, CodeFault>
     Ok(kind)
 }
 
+/// An instruction that calls a function, where the unused operands are 0.
+fn with_fun(byte: u8, unused: bool) -> Result<Fun, CodeFault>
+    ensures { Gives (λ x. x) result (fun_if byte unused) }
+{
+    match Fun::numbered(byte) {
+        Some(fun) if unused => Ok(fun),
+        _ => Err(CodeFault::Operation),
+    }
+}
+
+/// An instruction that asks, where the unused operands are 0.
+fn with_question(byte: u8, unused: bool) -> Result<Question, CodeFault>
+    ensures { Gives (λ x. x) result (question_if byte unused) }
+{
+    match byte {
+        7 if unused => Ok(Question::Today),
+        _ => Err(CodeFault::Operation),
+    }
+}
+
+fn setting_of(byte: u8) -> Result<Setting, CodeFault>
+    ensures { Gives (λ x. x) result (setting_of_byte byte) }
+{
+    match byte {
+        1 => Ok(Setting::Exact),
+        2 => Ok(Setting::Deleted),
+        _ => Err(CodeFault::Operation),
+    }
+}
+
+fn is_on(number: u16) -> Result<bool, CodeFault>
+    ensures { Gives (λ x. x) result (switch_of number) }
+{
+    match number {
+        0 => Ok(false),
+        1 => Ok(true),
+        _ => Err(CodeFault::Operation),
+    }
+}
+
+/// An instruction that sets a setting, where the unused operand is 0.
+fn with_switch(byte: u8, number: u16, unused: bool) -> Result<(Setting, bool), CodeFault>
+    ensures { Gives (λ x. x) result (switch_if byte number unused) }
+{
+    let setting = setting_of(byte)?;
+    let on = is_on(number)?;
+    if !unused {
+        return Err(CodeFault::Operation);
+    }
+    Ok((setting, on))
+}
+
 /// This instruction, where the unused operands are 0.
 fn plain(instr: Instr, unused: bool) -> Result<Instr, CodeFault>
     ensures { Gives (λ x. x) result (wanted Operation unused instr) }
@@ -197,11 +302,17 @@ fn instr_from(operation: u8, a: u8, b: u16, c: u32) -> Result<Instr, CodeFault>
         0x03 => Ok(Instr::Store(with_kind(a, c == 0)?, b)),
         0x04 => plain(Instr::Unset(b), a == 0 && c == 0),
         0x05 => Ok(Instr::Discard(with_kind(a, b == 0 && c == 0)?)),
+        0x08 => Ok(Instr::Function(with_fun(a, b == 0 && c == 0)?)),
+        0x09 => Ok(Instr::Ask(with_question(a, b == 0 && c == 0)?)),
         0x10 => plain(Instr::Jump(c), a == 0 && b == 0),
         0x11 => plain(Instr::JumpFalse(c), a == 0 && b == 0),
         0x14 => plain(Instr::End, a == 0 && b == 0 && c == 0),
         0x40 => plain(Instr::NewLine, a == 0 && b == 0 && c == 0),
         0x41 => Ok(Instr::Print(with_kind(a, b == 0 && c == 0)?)),
+        0x46 => {
+            let (setting, on) = with_switch(a, b, c == 0)?;
+            Ok(Instr::Set(setting, on))
+        }
         _ => Err(CodeFault::Operation),
     }
 }

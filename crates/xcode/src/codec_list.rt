@@ -20,11 +20,14 @@ fn operation_name(instr: &Instr) -> &'static [u8]
         Instr::Store(_, _) => b"STORE",
         Instr::Unset(_) => b"UNSET",
         Instr::Discard(_) => b"DROP",
+        Instr::Function(_) => b"FUN",
+        Instr::Ask(_) => b"ASK",
         Instr::Jump(_) => b"JUMP",
         Instr::JumpFalse(_) => b"JUMPF",
         Instr::End => b"END",
         Instr::NewLine => b"NEWLINE",
         Instr::Print(_) => b"PRINT",
+        Instr::Set(_, _) => b"SET",
     }
 }
 

@@ -20,7 +20,9 @@ pub fn kind_of_number(fault: CodeFault, byte: u8) -> Result<Kind, CodeFault>
     ensures { Gives (λ x. x) result (kind_of_byte fault byte) }
 {
     match byte {
+        1 => Ok(Kind::Number),
         2 => Ok(Kind::Text),
+        3 => Ok(Kind::Date),
         4 => Ok(Kind::Logical),
         _ => Err(fault),
     }

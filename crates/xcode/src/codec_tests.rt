@@ -1,7 +1,8 @@
 use super::*;
+use fixed_num::Num;
 use std::alloc::{AllocError, Global};
 use std::test::Fail;
-use xvalue::{Kind, Value};
+use xvalue::{Day, DayParts, Fun, Kind, Setting, Value};
 
 const TEXT: u8 = 2;
 
@@ -169,11 +170,11 @@ fn changed_bytes_are_faults(rt: HostRuntime) -> Result<(), Fail> {
         (37, 1, CodeFault::Shape),
         (47, 4, CodeFault::Shape),
         (64, 14, CodeFault::Shape),
-        (77, 3, CodeFault::Shape),
+        (77, 5, CodeFault::Shape),
         (80, 15, CodeFault::Shape),
         (96, 6, CodeFault::Operation),
         (97, 4, CodeFault::Operation),
-        (105, 1, CodeFault::Operation),
+        (105, 5, CodeFault::Operation),
         (208, 0x13, CodeFault::Operation),
         (215, 1, CodeFault::Operation),
     ];
@@ -215,5 +216,160 @@ fn lists_the_instructions(rt: HostRuntime) -> Result<(), Fail> {
    14 END 0 0 0
 ";
     assert_eq!(rt; lines.as_slice(), wanted.as_slice());
+    Ok(())
+}
+
+/// One constant, given by its bytes, one instruction before the end, and no slots.
+fn small(alloc: Global, constant: &[u8], instr: (u8, u8, u16)) -> Result<Vec<u8>, AllocError> {
+    let mut file = Assembler::new(alloc);
+    file.header(&[1, 4, 0, 0, 0, 0, 1, 0, 1, 0, 2])?;
+    file.put(constant)?;
+    file.two(2)?;
+    file.put(&[0])?;
+    for _ in 0..2 {
+        file.put(&[1])?;
+        file.put(&[0; 11])?;
+    }
+    file.instr(instr.0, instr.1, instr.2, 0)?;
+    file.instr(0x14, 0, 0, 0)?;
+    let Assembler { bytes } = file;
+    Ok(bytes)
+}
+
+const ONE: &[u8] = &[1, 0, 0, 1, 0, 0, 0, 0, 0, 0, 0];
+
+/// The shown constant of a file that is read, and whether it is written again byte for byte.
+fn read_again(alloc: Global, file: &[u8]) -> Result<Option<Value>, AllocError> {
+    let Ok(code) = decode(alloc, file) else {
+        return Ok(None);
+    };
+    let again = encode(alloc, &code)?;
+    if again.as_slice() != file {
+        return Ok(None);
+    }
+    Ok(Some(code.constants.get(0).copied()))
+}
+
+#[test]
+fn reads_numbers(rt: HostRuntime) -> Result<(), Fail> {
+    let end = (0x40, 0, 0);
+    let half: &[u8] = &[1, 1, 1, 5, 0, 0, 0, 0, 0, 0, 0];
+    let file = small(rt.alloc(), half, end)?;
+    let Some(Value::Number(number)) = read_again(rt.alloc(), &file)? else {
+        return Err("no number".into());
+    };
+    assert_eq!(rt; number, Num::parse(b"-0.5"));
+    for (number, wrong) in [
+        (&[1, 16, 0, 5, 0, 0, 0, 0, 0, 0, 0], "sixteen decimals"),
+        (&[1, 0, 2, 5, 0, 0, 0, 0, 0, 0, 0], "a sign of 2"),
+        (&[1, 0, 1, 0, 0, 0, 0, 0, 0, 0, 0], "zero with a sign"),
+        (
+            &[1, 0, 0, 0, 0, 0xe8, 0x89, 0x04, 0x23, 0xc7, 0x8a],
+            "ten to the nineteenth",
+        ),
+    ] {
+        let file = small(rt.alloc(), number.as_slice(), end)?;
+        assert_eq!(rt;
+            fault_of(rt.alloc(), &file),
+            Some(CodeFault::Shape),
+            "{wrong}"
+        );
+    }
+    let most: &[u8] = &[1, 0, 0, 0xff, 0xff, 0xe7, 0x89, 0x04, 0x23, 0xc7, 0x8a];
+    let file = small(rt.alloc(), most, end)?;
+    assert_eq!(rt; fault_of(rt.alloc(), &file), None);
+    Ok(())
+}
+
+#[test]
+fn reads_dates(rt: HostRuntime) -> Result<(), Fail> {
+    let end = (0x40, 0, 0);
+    let leap = DayParts {
+        year: 1988,
+        month: 2,
+        day: 29,
+    };
+    for (date, parts) in [
+        (&[3, 0xc4, 0x07, 2, 29], Some(leap)),
+        (&[3, 0, 0, 0, 0], None),
+    ] {
+        let file = small(rt.alloc(), date.as_slice(), end)?;
+        let Some(Value::Date(day)) = read_again(rt.alloc(), &file)? else {
+            return Err("no date".into());
+        };
+        assert_eq!(rt; day.parts(), parts);
+    }
+    for date in [
+        &[3, 0xc5, 0x07, 2, 29],
+        &[3, 0, 0, 1, 1],
+        &[3, 0x10, 0x27, 1, 1],
+        &[3, 0xc4, 0x07, 13, 1],
+        &[3, 0xc4, 0x07, 12, 0],
+    ] {
+        let file = small(rt.alloc(), date.as_slice(), end)?;
+        assert_eq!(rt;
+            fault_of(rt.alloc(), &file),
+            Some(CodeFault::Shape),
+            "{date:?}"
+        );
+    }
+    let cut = small(rt.alloc(), &[3, 0xc4, 0x07, 2, 29], end)?;
+    assert_eq!(rt; fault_of(rt.alloc(), &cut[..30]), Some(CodeFault::Short));
+    Ok(())
+}
+
+#[test]
+fn reads_functions_questions_and_settings(rt: HostRuntime) -> Result<(), Fail> {
+    for (operands, instr) in [
+        ((0x08, 4, 0), Instr::Function(Fun::Div)),
+        ((0x08, 60, 0), Instr::Function(Fun::Cmonth)),
+        ((0x09, 7, 0), Instr::Ask(Question::Today)),
+        ((0x46, 1, 1), Instr::Set(Setting::Exact, true)),
+        ((0x46, 2, 0), Instr::Set(Setting::Deleted, false)),
+        ((0x41, 3, 0), Instr::Print(Kind::Date)),
+    ] {
+        let file = small(rt.alloc(), ONE, operands)?;
+        let code = decode(rt.alloc(), &file)?;
+        assert_eq!(rt; *code.instructions.get(0), instr);
+        assert_eq!(rt; encode(rt.alloc(), &code)?.as_slice(), file.as_slice());
+    }
+    for (operation, a, b) in [
+        (0x08, 0, 0),
+        (0x08, 61, 0),
+        (0x08, 4, 1),
+        (0x09, 0, 0),
+        (0x09, 8, 0),
+        (0x09, 7, 1),
+        (0x46, 0, 0),
+        (0x46, 3, 0),
+        (0x46, 1, 2),
+        (0x41, 5, 0),
+    ] {
+        let file = small(rt.alloc(), ONE, (operation, a, b))?;
+        let fault = fault_of(rt.alloc(), &file);
+        assert_eq!(rt; fault, Some(CodeFault::Operation), "{operation} {a} {b}");
+    }
+    Ok(())
+}
+
+#[test]
+fn lists_functions_questions_and_settings(rt: HostRuntime) -> Result<(), Fail> {
+    for (operands, line) in [
+        (
+            (0x08, 4, 0),
+            b"    0 FUN 4 0 0\n    1 END 0 0 0\n".as_slice(),
+        ),
+        (
+            (0x09, 7, 0),
+            b"    0 ASK 7 0 0\n    1 END 0 0 0\n".as_slice(),
+        ),
+        (
+            (0x46, 2, 1),
+            b"    0 SET 2 1 0\n    1 END 0 0 0\n".as_slice(),
+        ),
+    ] {
+        let code = decode(rt.alloc(), &small(rt.alloc(), ONE, operands)?)?;
+        assert_eq!(rt; list(rt.alloc(), &code)?.as_slice(), line);
+    }
     Ok(())
 }

@@ -64,10 +64,10 @@ impl KindStack {
         }
     }
 
-    /// Whether one of the kinds that are there, from the top, is another than wanted.
+    /// Whether one of the kinds that are there, from the top, is another than wanted; that of the top is wanted last.
     #[tactic(auto, using(crate::proofs::KindLists::any_other))]
     pub fn clashes(&self, wanted: &[Kind]) -> bool
-        ensures { result ≡ clashes wanted.now self.now }
+        ensures { result ≡ clashes (reverse wanted.now) self.now }
     {
         other_from_end(self.kinds.as_slice(), wanted)
     }
@@ -95,12 +95,12 @@ impl KindStack {
 }
 
 fn other_from_end(kinds: &[Kind], wanted: &[Kind]) -> bool
-    ensures { result ≡ list_any other_kind (zip (reverse kinds.now) wanted.now) }
+    ensures { result ≡ list_any other_kind (zip (reverse kinds.now) (reverse wanted.now)) }
 {
     kinds
         .iter()
         .rev()
-        .zip(wanted.iter())
+        .zip(wanted.iter().rev())
         .any(|(kind, want)| !kind.is(*want))
 }
 

@@ -28,7 +28,7 @@ pub use codec_decode::{decode, one_file_each};
 pub use codec_encode::encode;
 pub use codec_list::list;
 pub use fault::CodeFault;
-pub use instr::Instr;
+pub use instr::{Instr, Question};
 pub use items::Items;
 pub use kind_slots::KindSlots;
 pub use kind_stack::KindStack;

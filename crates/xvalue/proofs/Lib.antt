@@ -1,0 +1,5 @@
+pub mod Gathering
+pub mod Numbers
+pub mod TextLemmas
+pub mod CalendarLemmas
+pub mod OrderLemmas

@@ -1,2 +1,12 @@
+pub mod Blank
+pub mod Days
+pub mod Functions
+pub mod Given
 pub mod Kinds
+pub mod Setting
 pub mod Shown
+pub mod Signature
+pub mod Texts
+pub mod Calendar
+pub mod DateTexts
+pub mod Laws

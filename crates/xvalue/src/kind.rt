@@ -7,7 +7,9 @@ ghost use Rattle.xvalue.specs.Kinds.{same_kind};
 /// The kinds of values.
 #[derive(Clone, Copy, PartialEq, Eq, Debug)]
 pub enum Kind {
+    Number,
     Text,
+    Date,
     Logical,
 }
 
@@ -17,7 +19,9 @@ impl Kind {
         ensures { result ≡ same_kind self other }
     {
         match (self, other) {
+            (Kind::Number, Kind::Number) => true,
             (Kind::Text, Kind::Text) => true,
+            (Kind::Date, Kind::Date) => true,
             (Kind::Logical, Kind::Logical) => true,
             _ => false,
         }

@@ -1,13 +1,31 @@
-//! Values of command files: texts and truth values.
+//! Values of command files: numbers, texts, dates and truth values, and the functions on them.
 //!
-//! A kind is a case of `Kind` and a value a case of `Value`; what differs by kind (which values are of it, how it
-//! shows) stands here alone.
+//! A kind is a case of `Kind` and a value a case of `Value`; a function is a case of `Fun`, a line of its table in
+//! `specs/Signature.antt`, a line of its meaning in `specs/Functions.antt` and an arm of `apply`.
 #![tactic(auto)]
 
+pub mod apply;
+pub mod arguments;
+pub mod calendar;
+pub mod day;
+pub mod fun;
 pub mod kind;
+pub mod laws;
+pub mod settings;
+pub mod shown;
 pub mod text;
+pub mod texts;
 pub mod value;
 
+pub use arguments::{Arguments, Gathered, MOST_ARGUMENTS};
+pub use day::{Day, DayParts};
+pub use fun::{FUNS, Fun, signature};
 pub use kind::Kind;
+pub use settings::{Setting, Settings};
+pub use shown::{shown_day, shown_logical, shown_number};
 pub use text::{Text, copy_of, text_of};
-pub use value::{Value, shown_logical};
+pub use texts::{eq_text, less_text};
+pub use value::Value;
+
+#[cfg(test)]
+mod tests;

@@ -2,16 +2,23 @@
 #![tactic(auto)]
 
 ghost use Rattle.std.specs.Prelude.{◌≡◌};
+ghost use Rattle.xvalue.specs.Blank.{blank_of};
 ghost use Rattle.xvalue.specs.Kinds.{kind_of};
-ghost use Rattle.xvalue.specs.Shown.{shown, shown_logical};
+ghost use Rattle.xvalue.specs.Shown.{shown};
 
+use crate::day::Day;
 use crate::kind::Kind;
-use crate::text::{Text, copy_of, text_of};
+use crate::settings::Settings;
+use crate::shown::{shown_day, shown_logical, shown_number};
+use crate::text::{Text, copy_of};
+use fixed_num::Num;
 
 /// A value with its kind.
 #[derive(Drop, Debug)]
 pub enum Value {
+    Number(Num),
     Text(Text),
+    Date(Day),
     Logical(bool),
 }
 
@@ -21,7 +28,9 @@ impl Value {
         ensures { result ≡ kind_of self.now }
     {
         match self {
+            Value::Number(_) => Kind::Number,
             Value::Text(_) => Kind::Text,
+            Value::Date(_) => Kind::Date,
             Value::Logical(_) => Kind::Logical,
         }
     }
@@ -31,29 +40,34 @@ impl Value {
         ensures { result ≡ self.now }
     {
         match self {
+            Value::Number(number) => Value::Number(*number),
             Value::Text(text) => Value::Text(copy_of(text)),
+            Value::Date(day) => Value::Date(*day),
             Value::Logical(truth) => Value::Logical(*truth),
         }
     }
 
-    /// The value's text as the screen shows it. It takes no memory.
-    pub fn shown(&self) -> Text
-        ensures { result.items ≡ shown self.now }
+    /// The value of the kind that stands for nothing: 0, the empty text, the blank date or false.
+    pub fn blank(kind: Kind) -> Value
+        ensures { result ≡ blank_of kind }
     {
-        match self {
-            Value::Text(text) => copy_of(text),
-            Value::Logical(truth) => shown_logical(*truth),
+        match kind {
+            Kind::Number => Value::Number(Num::from_whole(0)),
+            Kind::Text => Value::Text(Text::new()),
+            Kind::Date => Value::Date(Day::blank()),
+            Kind::Logical => Value::Logical(false),
         }
     }
-}
 
-/// A truth value's text as the screen shows it: `.T.` or `.F.`.
-pub fn shown_logical(truth: bool) -> Text
-    ensures { result.items ≡ shown_logical truth }
-{
-    if truth {
-        text_of(b".T.")
-    } else {
-        text_of(b".F.")
+    /// The value's text as the screen shows it under the settings. It takes no memory.
+    pub fn shown(&self, settings: Settings) -> Text
+        ensures { result.items ≡ shown settings self.now }
+    {
+        match self {
+            Value::Number(number) => shown_number(*number),
+            Value::Text(text) => copy_of(text),
+            Value::Date(day) => shown_day(*day, settings),
+            Value::Logical(truth) => shown_logical(*truth),
+        }
     }
 }

@@ -2,22 +2,11 @@
 #![tactic(auto)]
 
 ghost use Rattle.std.specs.Prelude.{◌≡◌, OnOk, IfOk};
-ghost use Rattle.xcode.specs.States.{flow, undeclared, unknown, or_state, map_at};
+ghost use Rattle.xcode.specs.States.{flow, unknown, or_state, map_at};
 
 use crate::maps::map_at;
 use std::alloc::{AllocError, Global};
 use xcode::{Code, Instr, State};
-
-/// Whether an operand names nothing that is declared.
-pub fn undeclared(code: &Code, instr: Instr) -> bool
-    ensures { result ≡ undeclared code.now instr }
-{
-    match instr {
-        Instr::Constant(number) => code.constants.len() <= number as usize,
-        Instr::Load(_, slot) | Instr::Store(_, slot) | Instr::Unset(slot) => code.slots <= slot,
-        _ => false,
-    }
-}
 
 /// How many values of unknown kinds the instruction puts on the stack.
 pub fn unknown(code: &Code, instr: Instr) -> usize
@@ -39,7 +28,7 @@ pub fn unknown(code: &Code, instr: Instr) -> usize
 pub fn flow(code: &Code, instr: Instr, state: &mut State) -> Result<(), AllocError>
     ensures { OnOk result (state.new ≡ flow code.now instr state.old) }
 {
-    state.stack.drop_top(instr.takes().len());
+    state.stack.drop_top(instr.taken());
     match instr {
         Instr::Constant(number) => {
             if (number as usize) < code.constants.len() {
@@ -50,6 +39,8 @@ pub fn flow(code: &Code, instr: Instr, state: &mut State) -> Result<(), AllocErr
             Ok(())
         }
         Instr::Load(kind, _) => state.stack.push(kind),
+        Instr::Function(fun) => state.stack.push(fun.gives()),
+        Instr::Ask(question) => state.stack.push(question.kind()),
         Instr::Store(kind, slot) => {
             state.slots.set(slot as usize, Some(kind));
             Ok(())

@@ -5,7 +5,7 @@ ghost use Rattle.std.specs.Prelude.{◌≡◌, ◌+◌, ◌<◌, ◌^◌, length
 ghost use Rattle.xcode.specs.States.{map_at, entry_of};
 ghost use Rattle.xcode.specs.Rules.{slots_fail, areas_fail, stack_fails, at_entry, loads_other, loads_free, height_after, leaves_values, kind_fails, table_fails, empty_fails, no_target, no_fall, refusal_of};
 
-use crate::flow::{undeclared, unknown};
+use crate::flow::unknown;
 use crate::maps;
 use xcode::{Code, Instr, Rule, State};
 
@@ -39,7 +39,7 @@ fn height_after(height: usize, instr: Instr) -> usize
     requires { height + 1 < 2 ^ 64 }
     ensures { result ≡ height_after height instr }
 {
-    height.saturating_sub(instr.takes().len()) + instr.adds()
+    height.saturating_sub(instr.taken()) + instr.adds()
 }
 
 fn leaves_values(state: &State, instr: Instr) -> bool
@@ -120,7 +120,7 @@ pub fn refusal(
         Some(Rule::Unset)
     } else if table_fails(code, place, instr, after) {
         Some(Rule::OtherTable)
-    } else if state.stack.len() < instr.takes().len() {
+    } else if state.stack.len() < instr.taken() {
         Some(Rule::StackUnder)
     } else if (code.stack_bound as usize) < height_after(state.stack.len(), instr) {
         Some(Rule::StackOver)
@@ -130,7 +130,7 @@ pub fn refusal(
         Some(Rule::Jump)
     } else if no_fall(code, place, instr) {
         Some(Rule::Fall)
-    } else if undeclared(code, instr) {
+    } else if code.is_undeclared(instr) {
         Some(Rule::Constant)
     } else {
         None

@@ -8,6 +8,7 @@ use crate::running::run_files;
 use std::test::Fail;
 use tagged_machine::{End, FaultKind, Outcome};
 use xcode::Rule;
+use xvalue::Day;
 use xverify::Refused;
 
 const LOGICAL: u8 = 4;
@@ -75,7 +76,7 @@ fn meets_each_fault(rt: HostRuntime) -> Result<(), Fail> {
             works: true,
             failures: 0,
         };
-        let report = run_files(rt.alloc(), &mut files, true, "hand.xbc", 100);
+        let report = run_files(rt.alloc(), &mut files, true, "hand.xbc", 100, Day::blank());
         let end = End::Fault(kind, at);
         assert_eq!(rt; report.result, Ok(Outcome { end, steps }), "for {kind:?}");
     }

@@ -11,6 +11,7 @@ use std::alloc::{AllocError, Global};
 use std::test::Fail;
 use tagged_machine::{End, FaultKind, Outcome};
 use xcode::{CodeFault, Rule};
+use xvalue::Day;
 use xverify::Refused;
 
 /// A kind's number in the file.
@@ -78,7 +79,14 @@ fn spends_its_budget(rt: HostRuntime) -> Result<(), Fail> {
     ] {
         for checked in [true, false] {
             let mut files = stored(&entries);
-            let report = run_files(rt.alloc(), &mut files, checked, "rows.xbc", budget);
+            let report = run_files(
+                rt.alloc(),
+                &mut files,
+                checked,
+                "rows.xbc",
+                budget,
+                Day::blank(),
+            );
             let steps = budget.min(30);
             assert_eq!(rt; report.result, Ok(Outcome { end, steps }), "at {budget}");
             assert_eq!(rt; report.rows.as_slice(), rows.as_bytes(), "at {budget}");
@@ -97,8 +105,22 @@ fn machines_agree(rt: HostRuntime) -> Result<(), Fail> {
     }];
     for budget in 0..32 {
         let mut files = stored(&entries);
-        let checked = run_files(rt.alloc(), &mut files, true, "rows.xbc", budget);
-        let run = run_files(rt.alloc(), &mut files, false, "rows.xbc", budget);
+        let checked = run_files(
+            rt.alloc(),
+            &mut files,
+            true,
+            "rows.xbc",
+            budget,
+            Day::blank(),
+        );
+        let run = run_files(
+            rt.alloc(),
+            &mut files,
+            false,
+            "rows.xbc",
+            budget,
+            Day::blank(),
+        );
         assert_eq!(rt; checked.result, run.result, "at {budget}");
         assert_eq!(rt; checked.rows.as_slice(), run.rows.as_slice(), "at {budget}");
     }
@@ -133,10 +155,17 @@ fn refuses_the_wrong_kind(rt: HostRuntime) -> Result<(), Fail> {
         name: "wrong.xbc",
         fault: Fault::OfRule(broken),
     };
-    let report = run_files(rt.alloc(), &mut files, false, "wrong.xbc", 100);
+    let report = run_files(
+        rt.alloc(),
+        &mut files,
+        false,
+        "wrong.xbc",
+        100,
+        Day::blank(),
+    );
     assert_eq!(rt; report.result, Err(refused));
     assert_eq!(rt; report.rows.len(), 0);
-    let report = run_files(rt.alloc(), &mut files, true, "wrong.xbc", 100);
+    let report = run_files(rt.alloc(), &mut files, true, "wrong.xbc", 100, Day::blank());
     let end = End::Fault(FaultKind::WrongKind, 7);
     assert_eq!(rt; report.result, Ok(Outcome { end, steps: 7 }));
     assert_eq!(rt; report.rows.as_slice(), b"A\n".as_slice());
@@ -152,20 +181,20 @@ fn tells_why_not(rt: HostRuntime) -> Result<(), Fail> {
         bytes: &bytes.as_slice()[..cut],
     }];
     let mut files = stored(&entries);
-    let report = run_files(rt.alloc(), &mut files, true, "none.xbc", 30);
+    let report = run_files(rt.alloc(), &mut files, true, "none.xbc", 30, Day::blank());
     let absent = Refusal::Refused {
         name: "none.xbc",
         fault: Fault::Absent,
     };
     assert_eq!(rt; report.result, Err(absent));
-    let report = run_files(rt.alloc(), &mut files, true, "cut.xbc", 30);
+    let report = run_files(rt.alloc(), &mut files, true, "cut.xbc", 30, Day::blank());
     let short = Refusal::Refused {
         name: "cut.xbc",
         fault: Fault::OfCode(CodeFault::Short),
     };
     assert_eq!(rt; report.result, Err(short));
     files.works = false;
-    let report = run_files(rt.alloc(), &mut files, true, "cut.xbc", 30);
+    let report = run_files(rt.alloc(), &mut files, true, "cut.xbc", 30, Day::blank());
     assert_eq!(rt; report.result, Err(Refusal::Disk { name: "cut.xbc" }));
     assert_eq!(rt; files.failures(), 1);
     Ok(())

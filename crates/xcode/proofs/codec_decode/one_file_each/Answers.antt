@@ -5,4 +5,4 @@ pub returns-clause-text : goal.returns-clause-text
 returns-clause-text c = one_text
 
 pub returns-clause-code : goal.returns-clause-code
-returns-clause-code c = one_code
+returns-clause-code c = one_code c.functions_have_their_numbers.ensures

@@ -1,10 +1,13 @@
-// A stack and a row of one kind's values.
+// A stack with room for as many values as any code's stack holds.
 #![tactic(auto)]
 
-ghost use Rattle.std.specs.Prelude.{◌≡◌, ◌<◌, [], ◌∷◌, length, IfOk, slice_get, slice_set, Some};
+ghost use Rattle.std.specs.Prelude.{◌≡◌, ◌<◌, ◌≤◌, [], ◌∷◌, length, IfOk, reverse, take, drop, slice_get, Some};
 
 use std::alloc::{AllocError, Global};
 use std::marker::Model;
+
+/// The most values that any code's stack holds.
+pub const STACK_LIMIT: usize = 64;
 
 /// A stack with room for 64 values, seen as their list, the top first.
 #[derive(Drop)]
@@ -28,8 +31,32 @@ impl<T> Pile<T> {
         ensures { IfOk result (λ pile. pile ≡ []) }
     {
         Ok(Pile {
-            values: Vec::with_capacity(alloc, 64)?,
+            values: Vec::with_capacity(alloc, STACK_LIMIT)?,
         })
+    }
+
+    /// How many values there are.
+    pub fn len(&self) -> usize
+        ensures { result ≡ length self.now }
+    {
+        self.values.len()
+    }
+
+    /// The values, the top last.
+    pub fn values(&self) -> &[T]
+        ensures { reverse result.now ≡ self.now }
+    {
+        self.values.as_slice()
+    }
+
+    /// So many values from the top, which are there, the top last.
+    #[tactic(auto, using(crate::proofs::PileLists::behind))]
+    pub fn top_values(&self, count: usize) -> &[T]
+        requires { count ≤ length self.now }
+        ensures { result.now ≡ reverse (take count self.now) }
+    {
+        let (_, top) = self.values.as_slice().split_at(self.values.len() - count);
+        top
     }
 
     /// Takes the top value, which is there.
@@ -56,6 +83,14 @@ impl<T> Pile<T> {
 }
 
 impl<T: Drop> Pile<T> {
+    /// Takes so many values off the top, which are there.
+    pub fn drop_top(&mut self, count: usize)
+        requires { count ≤ length self.old }
+        ensures { self.new ≡ drop count self.old }
+    {
+        self.values.truncate(self.values.len() - count);
+    }
+
     /// Puts a value on top. It takes no memory.
     pub fn push(&mut self, value: T)
         requires { length self.old < 64 }
@@ -65,46 +100,5 @@ impl<T: Drop> Pile<T> {
             Ok(()) => {}
             Err(_) => unreachable!(),
         }
-    }
-}
-
-/// Values by slot, seen as their list.
-#[derive(Drop)]
-pub struct Row<T> {
-    values: Vec<T>,
-}
-
-impl<T> Model for Row<T> {
-    ghost use Rattle.std.specs.Prelude.{List};
-
-    ghost Value = { List T };
-
-    ghost view = { λ s. s.values.items };
-}
-
-impl<T> Row<T> {
-    /// These values, slot by slot.
-    pub fn of(values: Vec<T>) -> Row<T>
-        ensures { result ≡ values.items }
-    {
-        Row { values }
-    }
-
-    /// The slot's value; the slot is there.
-    pub fn get(&self, index: usize) -> &T
-        requires { index < length self.now }
-        ensures { slice_get self.now index ≡ Some result.now }
-    {
-        &self.values[index]
-    }
-}
-
-impl<T: Drop> Row<T> {
-    /// Puts a value into the slot, which is there. It takes no memory.
-    pub fn set(&mut self, index: usize, value: T)
-        requires { index < length self.old }
-        ensures { self.new ≡ slice_set self.old index value }
-    {
-        self.values[index] = value;
     }
 }

@@ -1,0 +1,115 @@
+-- The order of texts, and where a text first stands in another.
+use Rattle.std.proofs.Common.{◌≡◌, ℕ, zero, suc, ◌+◌, ◌<◌, ◌≤◌, true, false, List, [], ◌∷◌, ◌++◌, length, length-drop, drop, ◌==◌, refl, sym, ap, ◌∙◌, subst, arith, inl, inr}
+use Rattle.std.specs.Prelude.{Bool, nat_lt, if◌then◌else◌, ◌⊎◌, Option, Some, None, unwrap_or, is_some}
+use Rattle.std.proofs.lemmas.Bool.{cases_order, false≢true, eq-eqb, ne_eqb, lt-ltb, le-ltb}
+use Rattle.xvalue.specs.Texts.{first_or_blank, is_before, begins_with, first_place, further}
+
+pub is_before-self : (cs : List ℕ) → is_before cs cs ≡ false
+is_before-self [] = refl
+is_before-self (c ∷ cs) = ap (λ b. if b then is_before cs cs else nat_lt c c) (eq-eqb c c refl) ∙ is_before-self cs
+
+-- blanks at the end change nothing
+
+pub is_before-blank_first : (cs ds : List ℕ) → is_before (cs ++ 32 ∷ []) ds ≡ is_before cs ds
+is_before-blank_first [] [] = refl
+is_before-blank_first [] (d ∷ ds) = refl
+is_before-blank_first (c ∷ cs) [] = ap (λ b. if c == 32 then b else nat_lt c 32) (is_before-blank_first cs [])
+is_before-blank_first (c ∷ cs) (d ∷ ds) = ap (λ b. if c == d then b else nat_lt c d) (is_before-blank_first cs ds)
+
+pub is_before-blank_second : (cs ds : List ℕ) → is_before cs (ds ++ 32 ∷ []) ≡ is_before cs ds
+is_before-blank_second [] [] = refl
+is_before-blank_second [] (d ∷ ds) = ap (λ b. if 32 == d then b else nat_lt 32 d) (is_before-blank_second [] ds)
+is_before-blank_second (c ∷ cs) [] = refl
+is_before-blank_second (c ∷ cs) (d ∷ ds) = ap (λ b. if c == d then b else nat_lt c d) (is_before-blank_second cs ds)
+
+-- the first bytes decide, and where they are the same the texts behind them
+abbrev Decided : ℕ → ℕ → Bool → Type 0
+Decided x y behind = (x < y) ⊎ ((x ≡ y) × (behind ≡ true))
+
+decided : (x y : ℕ) (behind : Bool) → (if x == y then behind else nat_lt x y) ≡ true → Decided x y behind
+decided x y behind e =
+    elim (cases_order x y) [
+      | inl same ↦ inr (same, sym (ap (λ b. if b then behind else nat_lt x y) (eq-eqb x y same)) ∙ e)
+      | inr (inl less) ↦ inl less
+      | inr (inr more) ↦
+          let other : (x == y) ≡ false = ne_eqb x y (λ same. omega (arith, same, more)) in
+          let not_less : nat_lt x y ≡ false = le-ltb x y (omega (arith, more)) in
+          absurd (false≢true (sym not_less ∙ sym (ap (λ b. if b then behind else nat_lt x y) other) ∙ e))
+    ]
+
+decide : (x y : ℕ) (behind : Bool) → Decided x y behind → (if x == y then behind else nat_lt x y) ≡ true
+decide x y behind (inl less) = ap (λ b. if b then behind else nat_lt x y) (ne_eqb x y (λ same. omega (arith, same, less))) ∙ lt-ltb x y less
+decide x y behind (inr (same, e)) = ap (λ b. if b then behind else nat_lt x y) (eq-eqb x y same) ∙ e
+
+before_is : (cs ds : List ℕ) → is_before cs ds ≡ true → (0 < length cs + length ds) × Decided (first_or_blank cs) (first_or_blank ds) (is_before (drop 1 cs) (drop 1 ds))
+before_is [] [] e = absurd (false≢true e)
+before_is [] (d ∷ ds) e = (omega arith, decided 32 d (is_before [] ds) e)
+before_is (c ∷ cs) [] e = (omega arith, decided c 32 (is_before cs []) e)
+before_is (c ∷ cs) (d ∷ ds) e = (omega arith, decided c d (is_before cs ds) e)
+
+is_before-decide : (cs ds : List ℕ) → Decided (first_or_blank cs) (first_or_blank ds) (is_before (drop 1 cs) (drop 1 ds)) → is_before cs ds ≡ true
+is_before-decide [] [] (inl less) = absurd (omega (arith, less))
+is_before-decide [] [] (inr (same, e)) = e
+is_before-decide [] (d ∷ ds) h = decide 32 d (is_before [] ds) h
+is_before-decide (c ∷ cs) [] h = decide c 32 (is_before cs []) h
+is_before-decide (c ∷ cs) (d ∷ ds) h = decide c d (is_before cs ds) h
+
+-- by the number of bytes that are left
+goes_on : (n : ℕ) (cs ds es : List ℕ) → length cs + length ds + length es ≤ n → is_before cs ds ≡ true → is_before ds es ≡ true → is_before cs es ≡ true
+goes_on zero cs ds es few e f = absurd (omega (arith, few, (before_is cs ds e).0))
+goes_on (suc n) cs ds es few e f =
+    let a = before_is cs ds e in
+    let b = before_is ds es f in
+    let fewer : length (drop 1 cs) + length (drop 1 ds) + length (drop 1 es) ≤ n = omega (arith, few, a.0, length-drop 1 cs, length-drop 1 ds, length-drop 1 es) in
+    let go : (g : is_before (drop 1 cs) (drop 1 ds) ≡ true) (h : is_before (drop 1 ds) (drop 1 es) ≡ true) → is_before (drop 1 cs) (drop 1 es) ≡ true = goes_on n (drop 1 cs) (drop 1 ds) (drop 1 es) fewer in
+    is_before-decide cs es (both (first_or_blank cs) (first_or_blank ds) (first_or_blank es) _ _ _ go a.1 b.1)
+  where
+    both : (x y z : ℕ) (p q r : Bool) → (p ≡ true → q ≡ true → r ≡ true) → Decided x y p → Decided y z q → Decided x z r
+    both x y z p q r go (inl g) (inl h) = inl (omega (arith, g, h))
+    both x y z p q r go (inl g) (inr h) = inl (omega (arith, g, h.0))
+    both x y z p q r go (inr g) (inl h) = inl (omega (arith, g.0, h))
+    both x y z p q r go (inr g) (inr h) = inr (g.0 ∙ h.0, go g.1 h.1)
+
+pub is_before-goes_on : (cs ds es : List ℕ) → is_before cs ds ≡ true → is_before ds es ≡ true → is_before cs es ≡ true
+is_before-goes_on cs ds es e f = goes_on (length cs + length ds + length es) cs ds es (omega arith) e f
+
+-- places
+
+some_is : (m n : ℕ) → Some m ≡ Some n → m ≡ n
+some_is m n e = ap (λ (o : Option ℕ). unwrap_or o 0) e
+
+none_is : (n : ℕ) → None ≡ Some n → ⊥
+none_is n e = false≢true (ap is_some e)
+
+further_is : (o : Option ℕ) (n : ℕ) → further 1 o ≡ Some n → (m : ℕ) × (o ≡ Some m) × (n ≡ suc m)
+further_is None n e = absurd (none_is n e)
+further_is (Some m) n e = (m, refl, sym (some_is (1 + m) n e) ∙ (let h : 1 + m ≡ suc m = omega arith in h))
+
+either_place : (b : Bool) (o : Option ℕ) (n : ℕ) → (if b then Some 0 else o) ≡ Some n → ((b ≡ true) × (n ≡ 0)) ⊎ ((b ≡ false) × (o ≡ Some n))
+either_place true o n e = inl (refl, sym (some_is 0 n e))
+either_place false o n e = inr (refl, e)
+
+pub first_place-there : (part cs : List ℕ) (n : ℕ) → first_place part cs ≡ Some n → begins_with (drop n cs) part ≡ true
+first_place-there part [] n e =
+    elim (either_place (begins_with [] part) None n e) [
+      | inl w ↦ subst (λ k. begins_with (drop k []) part ≡ true) (sym w.1) w.0
+      | inr w ↦ absurd (none_is n w.1)
+    ]
+first_place-there part (c ∷ cs) n e =
+    elim (either_place (begins_with (c ∷ cs) part) (further 1 (first_place part cs)) n e) [
+      | inl w ↦ subst (λ k. begins_with (drop k (c ∷ cs)) part ≡ true) (sym w.1) w.0
+      | inr w ↦
+          let f = further_is (first_place part cs) n w.1 in
+          subst (λ k. begins_with (drop k (c ∷ cs)) part ≡ true) (sym f.2) (first_place-there part cs f.0 f.1)
+    ]
+
+pub first_place-least : (part cs : List ℕ) (n k : ℕ) → first_place part cs ≡ Some n → k < n → begins_with (drop k cs) part ≡ false
+first_place-least part [] n k e less =
+    elim (either_place (begins_with [] part) None n e) [ inl w ↦ absurd (omega (arith, less, w.1)) | inr w ↦ absurd (none_is n w.1) ]
+first_place-least part (c ∷ cs) n zero e less =
+    elim (either_place (begins_with (c ∷ cs) part) (further 1 (first_place part cs)) n e) [ inl w ↦ absurd (omega (arith, less, w.1)) | inr w ↦ w.0 ]
+first_place-least part (c ∷ cs) n (suc k) e less =
+    elim (either_place (begins_with (c ∷ cs) part) (further 1 (first_place part cs)) n e) [
+      | inl w ↦ absurd (omega (arith, less, w.1))
+      | inr w ↦ let f = further_is (first_place part cs) n w.1 in first_place-least part cs f.0 k f.1 (omega (arith, less, f.2))
+    ]

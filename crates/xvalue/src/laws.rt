@@ -1,0 +1,81 @@
+// What follows from the definitions of functions, texts and dates, for a reader who wants to trust them, and for the
+// crates above. Each function does nothing: its contract is the law.
+#![tactic(auto)]
+
+ghost use Rattle.std.specs.Prelude.{◌≡◌, ℕ, ℤ, ◌+ℤ◌, ◌≤◌, ◌<◌, ◌↔◌, ◌++◌, List, [], ◌∷◌, length, drop, true, false, Some};
+ghost use Rattle.xvalue.specs.declared.fun.Fun.{Fun as AnyFun};
+ghost use Rattle.xvalue.specs.declared.settings.Settings.{Settings as AnySettings};
+ghost use Rattle.xvalue.specs.declared.day.DayParts.{DayParts as Parts};
+ghost use Rattle.xvalue.specs.Given.{Given};
+ghost use Rattle.xvalue.specs.declared.kind.Kind.{Kind as AnyKind};
+ghost use Rattle.xvalue.specs.Kinds.{kind_of, same_kind};
+ghost use Rattle.xvalue.specs.Signature.{takes_of, gives_of, NumbersAgree};
+ghost use Rattle.xvalue.specs.Functions.{applied};
+ghost use Rattle.xvalue.specs.Days.{IsDay};
+ghost use Rattle.xvalue.specs.Calendar.{day_number, days_on};
+ghost use Rattle.xvalue.specs.Texts.{equal_texts, is_before, without_last_blanks, first_place, begins_with};
+ghost use Rattle.xvalue.specs.Laws.{HasShortText, LiesThere};
+
+/// Each function gives a value of the kind that its table says.
+pub fn results_have_their_kind()
+    ensures { (fun : AnyFun) (settings : AnySettings) (given : Given) → kind_of (applied fun settings given) ≡ gives_of fun }
+{}
+
+/// Each function takes an argument at least, and at most four.
+pub fn arguments_are_few()
+    ensures some { (fun : AnyFun) → 0 < length (takes_of fun) }
+    ensures few { (fun : AnyFun) → length (takes_of fun) ≤ 4 }
+{}
+
+/// No function gives a text of more than 254 bytes.
+pub fn texts_are_short()
+    ensures { (fun : AnyFun) (settings : AnySettings) (given : Given) → HasShortText (applied fun settings given) }
+{}
+
+/// The date so many days on is the day with the number that is so much greater, and blank where that is not a day's of
+/// the years 1 to 9999.
+pub fn days_go_by_number()
+    ensures { (days : ℤ) (parts : Parts) → IsDay parts → LiesThere (days_on days (Some parts)) (day_number parts +ℤ days) }
+{}
+
+/// With EXACT on two texts are equal where they are the same without the blanks at their ends.
+pub fn equals_exactly()
+    ensures { (cs ds : List ℕ) → (equal_texts true cs ds ≡ true) ↔ (without_last_blanks cs ≡ without_last_blanks ds) }
+{}
+
+/// With EXACT off a text equals those that it begins with.
+pub fn equals_what_it_begins_with()
+    ensures { (cs ds : List ℕ) → (equal_texts false cs ds ≡ true) ↔ ((rest : List ℕ) × (cs ≡ ds ++ rest)) }
+{}
+
+/// No text is before itself.
+pub fn order_is_strict()
+    ensures { (cs : List ℕ) → is_before cs cs ≡ false }
+{}
+
+/// What is before a text that is before another is before that one.
+pub fn order_goes_on()
+    ensures { (cs ds es : List ℕ) → is_before cs ds ≡ true → is_before ds es ≡ true → is_before cs es ≡ true }
+{}
+
+/// Blanks at the end of a text change nothing in the order.
+pub fn order_goes_on_with_blanks()
+    ensures first { (cs ds : List ℕ) → is_before (cs ++ 32 ∷ []) ds ≡ is_before cs ds }
+    ensures second { (cs ds : List ℕ) → is_before cs (ds ++ 32 ∷ []) ≡ is_before cs ds }
+{}
+
+/// The first place at which a text stands in another is the least one at which the rest begins with it.
+pub fn first_place_is_least()
+    ensures there { (part cs : List ℕ) (n : ℕ) → first_place part cs ≡ Some n → begins_with (drop n cs) part ≡ true }
+    ensures least { (part cs : List ℕ) (n k : ℕ) → first_place part cs ≡ Some n → k < n → begins_with (drop k cs) part ≡ false }
+{}
+
+/// Each function is the one of its number, and no other is.
+pub fn functions_have_their_numbers()
+    ensures { NumbersAgree }
+{}
+
+/// Kinds that are found the same are the same.
+pub fn same_kinds_are_equal()
+    ensures { (one other : AnyKind) → same_kind one other ≡ true → one ≡ other }
+{}

@@ -1,0 +1,300 @@
+// How texts compare, and what functions make of them. A text is lent as its bytes.
+#![tactic(auto)]
+
+ghost use Rattle.std.specs.Prelude.{◌≡◌, ◌+◌, ◌-◌, ◌≤◌, ◌++◌, min, length, take, drop, map, replicate, []};
+ghost use Rattle.std.specs.Char.{to_ascii_uppercase, to_ascii_lowercase, is_ascii_alphabetic, is_ascii_uppercase, is_ascii_lowercase};
+ghost use Rattle.fixed_num.specs.Reading.{without_blanks};
+ghost use Rattle.fixed_num.specs.Rounding.{whole_part};
+ghost use Rattle.fixed_num.specs.Text.{printed};
+ghost use Rattle.xvalue.specs.Texts.{fitting, without_last_blanks, equal_texts, first_or_blank, is_before, joined_moved, count_of, part_from, last_part, repeated, stuffed, first_place, place_number, first_is, first_byte, byte_text};
+
+use crate::text::{Text, text_of};
+use fixed_num::Num;
+
+/// The most bytes of a text.
+const MOST_BYTES: usize = 254;
+
+/// Whether two texts are equal: with `exact` on where they are the same but for the blanks at their ends, else where
+/// the first begins with the second.
+pub fn eq_text(left: &[u8], right: &[u8], exact: bool) -> bool
+    ensures { result ≡ equal_texts exact left.now right.now }
+{
+    if exact {
+        without_last_blanks(left) == without_last_blanks(right)
+    } else {
+        left.starts_with(right)
+    }
+}
+
+/// Whether the first text is before the second, by bytes, the shorter one going on with blanks.
+pub fn less_text(left: &[u8], right: &[u8]) -> bool
+    ensures { result ≡ is_before left.now right.now }
+{
+    let mut first = left;
+    let mut second = right;
+    while !first.is_empty() || !second.is_empty() {
+        let byte = first_or_blank(first);
+        let other = first_or_blank(second);
+        if byte != other {
+            return byte < other;
+        }
+        first = behind(first, 1);
+        second = behind(second, 1);
+    }
+    false
+}
+
+/// The first byte, or a blank where there is none.
+fn first_or_blank(bytes: &[u8]) -> u8
+    ensures { result ≡ first_or_blank bytes.now }
+{
+    match bytes {
+        [first, ..] => *first,
+        [] => b' ',
+    }
+}
+
+/// The first `count` bytes, or all.
+pub fn front(bytes: &[u8], count: usize) -> &[u8]
+    ensures { result.now ≡ take count bytes.now }
+{
+    &bytes[..count.min(bytes.len())]
+}
+
+/// The bytes behind the first `count`.
+pub fn behind(bytes: &[u8], count: usize) -> &[u8]
+    ensures { result.now ≡ drop count bytes.now }
+{
+    &bytes[count.min(bytes.len())..]
+}
+
+/// The last `count` bytes, or all.
+pub fn last_part(bytes: &[u8], count: usize) -> &[u8]
+    ensures { result.now ≡ last_part count bytes.now }
+{
+    behind(bytes, bytes.len().saturating_sub(count))
+}
+
+/// `count` bytes from a place on, or as many as there are. The place counts from 1; none where it is 0.
+pub fn part_from(bytes: &[u8], place: usize, count: usize) -> &[u8]
+    ensures { result.now ≡ part_from place count bytes.now }
+{
+    match place.checked_sub(1) {
+        Some(skipped) => front(behind(bytes, skipped), count),
+        None => &[],
+    }
+}
+
+/// The text without the blanks in front.
+pub fn without_blanks(bytes: &[u8]) -> &[u8]
+    ensures same { result.now ≡ without_blanks bytes.now }
+    ensures shorter { length result.now ≤ length bytes.now }
+{
+    let mut text = bytes;
+    while let [b' ', others @ ..] = text {
+        text = others;
+    }
+    text
+}
+
+/// The text without the blanks at its end.
+pub fn without_last_blanks(bytes: &[u8]) -> &[u8]
+    ensures same { result.now ≡ without_last_blanks bytes.now }
+    ensures shorter { length result.now ≤ length bytes.now }
+{
+    let mut text = bytes;
+    while let [others @ .., b' '] = text {
+        text = others;
+    }
+    text
+}
+
+/// The text of these bytes, cut where they are more than 254.
+pub fn fitted(bytes: &[u8]) -> Text
+    ensures { result.items ≡ fitting bytes.now }
+{
+    text_of(front(bytes, MOST_BYTES))
+}
+
+/// The texts one behind the other, cut at 254 bytes.
+pub fn joined(left: &[u8], right: &[u8]) -> Text
+    ensures { result.items ≡ fitting (left.now ++ right.now) }
+{
+    of_parts(left, right, &[])
+}
+
+/// The texts one behind the other, the blanks at the end of the first moved to the end of both, then cut at 254 bytes.
+pub fn joined_moved(left: &[u8], right: &[u8]) -> Text
+    ensures { result.items ≡ fitting (joined_moved left.now right.now) }
+{
+    let begin = without_last_blanks(left);
+    of_parts(begin, right, behind(left, begin.len()))
+}
+
+/// Three texts one behind the other, cut at 254 bytes.
+fn of_parts(first: &[u8], second: &[u8], third: &[u8]) -> Text
+    ensures { result.items ≡ fitting (first.now ++ second.now ++ third.now) }
+{
+    let mut text = Text::new();
+    append(&mut text, first);
+    append(&mut text, second);
+    append(&mut text, third);
+    text
+}
+
+/// Appends as many of these bytes as a text has room for.
+fn append(text: &mut Text, bytes: &[u8])
+    ensures { text.new.items ≡ fitting (text.old.items ++ bytes.now) }
+{
+    match text.try_extend_from_slice(front(bytes, text.remaining_capacity())) {
+        Ok(()) => (),
+        Err(_) => unreachable!(),
+    }
+}
+
+/// The text whose `count` bytes from a place on give way to others, cut at 254 bytes. The place counts from 1 and is
+/// brought into 1 to one past the end.
+pub fn stuffed(bytes: &[u8], place: usize, count: usize, others: &[u8]) -> Text
+    ensures { result.items ≡ fitting (stuffed place count others.now bytes.now) }
+{
+    let before = front(bytes, place.saturating_sub(1));
+    of_parts(before, others, behind(behind(bytes, before.len()), count))
+}
+
+/// A text so many times, cut at 254 bytes.
+pub fn repeated(bytes: &[u8], count: usize) -> Text
+    ensures { result.items ≡ fitting (repeated count bytes.now) }
+{
+    let mut text = Text::new();
+    for _ in 0..count.min(MOST_BYTES) {
+        append(&mut text, bytes);
+    }
+    text
+}
+
+/// So many blanks, at most 254.
+pub fn blanks(count: usize) -> Text
+    ensures { result.items ≡ fitting (replicate count 32) }
+{
+    text_of(front(&[b' '; MOST_BYTES], count))
+}
+
+/// The text with its ASCII letters as capitals, cut at 254 bytes.
+pub fn upper(bytes: &[u8]) -> Text
+    ensures { result.items ≡ fitting (map to_ascii_uppercase bytes.now) }
+{
+    let text = fitted(bytes);
+    let mut capitals = Text::new();
+    for byte in text.as_slice() {
+        capitals.push(byte.to_ascii_uppercase());
+    }
+    capitals
+}
+
+/// The text with its ASCII letters as small ones, cut at 254 bytes.
+pub fn lower(bytes: &[u8]) -> Text
+    ensures { result.items ≡ fitting (map to_ascii_lowercase bytes.now) }
+{
+    let text = fitted(bytes);
+    let mut small = Text::new();
+    for byte in text.as_slice() {
+        small.push(byte.to_ascii_lowercase());
+    }
+    small
+}
+
+/// How many bytes stand before the first place at which a text stands in another, or `None` where it doesn't.
+pub fn first_place(part: &[u8], bytes: &[u8]) -> Option<usize>
+    ensures value { result ≡ first_place part.now bytes.now }
+    ensures bound { place_number result ≤ length bytes.now + 1 }
+{
+    for place in 0..bytes.len() {
+        if behind(bytes, place).starts_with(part) {
+            return Some(place);
+        }
+    }
+    if part.is_empty() {
+        Some(bytes.len())
+    } else {
+        None
+    }
+}
+
+/// The first place at which a text stands in another, counted from 1, and 0 for none.
+pub fn place_of(part: &[u8], bytes: &[u8]) -> usize
+    ensures value { result ≡ place_number (first_place part.now bytes.now) }
+    ensures bound { result ≤ length bytes.now + 1 }
+{
+    match first_place(part, bytes) {
+        Some(before) => before + 1,
+        None => 0,
+    }
+}
+
+/// The first byte, 0 of the empty text.
+pub fn first_byte(bytes: &[u8]) -> u8
+    ensures { result ≡ first_byte bytes.now }
+{
+    match bytes {
+        [first, ..] => *first,
+        [] => 0,
+    }
+}
+
+/// Whether the first byte is an ASCII letter.
+pub fn begins_with_letter(bytes: &[u8]) -> bool
+    ensures { result ≡ first_is is_ascii_alphabetic bytes.now }
+{
+    match bytes {
+        [first, ..] => first.is_ascii_alphabetic(),
+        [] => false,
+    }
+}
+
+/// Whether the first byte is an ASCII capital.
+pub fn begins_with_capital(bytes: &[u8]) -> bool
+    ensures { result ≡ first_is is_ascii_uppercase bytes.now }
+{
+    match bytes {
+        [first, ..] => first.is_ascii_uppercase(),
+        [] => false,
+    }
+}
+
+/// Whether the first byte is a small ASCII letter.
+pub fn begins_with_small(bytes: &[u8]) -> bool
+    ensures { result ≡ first_is is_ascii_lowercase bytes.now }
+{
+    match bytes {
+        [first, ..] => first.is_ascii_lowercase(),
+        [] => false,
+    }
+}
+
+/// How many bytes a number asks for by its whole part: none where that is below zero.
+pub fn count_of(number: Num) -> usize
+    ensures { result ≡ count_of (whole_part number) }
+{
+    number.whole().max(0) as usize
+}
+
+/// The text of the byte that is a number's whole part, empty where there is no such byte.
+pub fn byte_text(number: Num) -> Text
+    ensures { result.items ≡ fitting (byte_text (whole_part number)) }
+{
+    match u8::try_from(number.whole()) {
+        Ok(byte) => text_of(&[byte]),
+        Err(_) => Text::new(),
+    }
+}
+
+/// A number right in so many places (at most 254) with so many decimals (at most 15); asterisks where it is longer, and
+/// of the asterisk value.
+pub fn printed(number: Num, width: usize, decimals: usize) -> Text
+    ensures { result.items ≡ fitting (printed (min width 254) (min decimals 15) number) }
+{
+    let width = width.min(MOST_BYTES);
+    let mut field = blanks(width);
+    number.print(width, decimals.min(15) as u8, field.as_mut_slice());
+    field
+}
