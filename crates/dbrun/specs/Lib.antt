@@ -1,3 +1,4 @@
 pub mod Holding
 pub mod InMemory
+pub mod Lines
 pub mod Reports

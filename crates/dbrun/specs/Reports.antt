@@ -1,5 +1,5 @@
 -- What a run of a code file reports.
-use Rattle.std.specs.Prelude.{◌≡◌, ◌<◌, ℕ, List, Bool, true, false, Option, Some, None, Err, length}
+use Rattle.std.specs.Prelude.{◌≡◌, ◌<◌, ◌≤◌, ℕ, List, Bool, true, false, Option, Some, None, Err, length}
 use Rattle.xvalue.specs.declared.day.DayParts.{DayParts}
 use Rattle.screen_lines.specs.State.{sent}
 use Rattle.xcode.specs.declared.code.Code.{Code}
@@ -14,12 +14,23 @@ use Rattle.tagged_machine.specs.Run.{Ran}
 use Rattle.machine.specs.declared.banks.Banks.{Banks}
 use Rattle.machine.specs.BankRun.{BankRan}
 use Rattle.dbrun.specs.declared.refusal.Fault.{Fault}
-use Rattle.dbrun.specs.declared.refusal.Fault.TheVariants.{Absent, TooLong, OfCode, OfRule}
+use Rattle.dbrun.specs.declared.refusal.Fault.TheVariants.{Absent, TooLong, OfCode, OfTable, OfIndex, OfRule}
 use Rattle.dbrun.specs.declared.refusal.Refusal.{Refusal}
 use Rattle.dbrun.specs.declared.refusal.Refusal.TheVariants.{Refused, Disk, Memory}
 use Rattle.xcode.specs.Listing.{lines_from}
 use Rattle.xverify.specs.declared.verified.Refused.{Refused as RefusedRule}
 use Rattle.dbrun.specs.Holding.{Rose}
+use Rattle.dbrun.specs.Lines.{table_lines, index_lines}
+use Rattle.dbf_file.specs.declared.fault.DbfFault.{DbfFault}
+use Rattle.dbf_file.specs.declared.stamp.Stamp.{Stamp}
+use Rattle.dbf_file.specs.Faults.{first_fault}
+use Rattle.dbf_file.specs.Rows.{Row}
+use Rattle.dbf_file.specs.Tables.{StructureState, DbfText}
+use Rattle.ndx_tree.specs.declared.fault.TreeFault.{TreeFault}
+use Rattle.ndx_tree.specs.IndexFile.{IsIndexFile}
+use Rattle.ndx_tree.specs.KeyForm.{KeyForm}
+use Rattle.ndx_tree.specs.Pairs.{Pair}
+use Rattle.ndx_tree.specs.Walk.{IsFirstFault}
 
 -- the checking machine ran the code from its opening on this day, and the rows are what its last world sends
 pub record CheckedRun (code : Code) (budget : ℕ) (today : Option DayParts) (outcome : Outcome) (rows : List ℕ) : Type 0 where
@@ -68,10 +79,23 @@ pub record HasCode (holds : Option (List ℕ) → Type 0) (sort : Code → Type 
   pub file : IsCodeFile holds code
   pub fits : sort code
 
+-- a file that is no table's by this fault, of at most a million rows, and one that is no index file by this fault
+pub record IsNoTable (holds : Option (List ℕ) → Type 0) (fault : DbfFault) : Type 0 where
+  pub bytes : List ℕ
+  pub held : holds (Some bytes)
+  pub faulty : first_fault 1000000 bytes ≡ Some fault
+
+pub record IsNoIndex (holds : Option (List ℕ) → Type 0) (fault : TreeFault) : Type 0 where
+  pub bytes : List ℕ
+  pub held : holds (Some bytes)
+  pub faulty : IsFirstFault bytes fault
+
 abbrev pub FaultIs : (Option (List ℕ) → Type 0) → Fault → Type 0
 FaultIs holds Absent = holds None
 FaultIs holds TooLong = IsTooLong holds
 FaultIs holds (OfCode fault) = HasFault holds fault
+FaultIs holds (OfTable fault) = IsNoTable holds fault
+FaultIs holds (OfIndex fault) = IsNoIndex holds fault
 FaultIs holds (OfRule refused) = HasCode holds (λ code. FirstRefusal code refused.rule refused.at)
 
 -- why there is no run: what is wrong with the file of that name, a device failure that was counted, or memory
@@ -90,3 +114,23 @@ pub record Listed (holds : Option (List ℕ) → Type 0) (lines : List ℕ) : Ty
   pub code : Code
   pub file : IsCodeFile holds code
   pub lines_are : lines ≡ lines_from 0 code.instructions
+
+-- these are the lines of the table in the file, which has at most a million rows
+pub record TableListed (holds : Option (List ℕ) → Type 0) (lines : List ℕ) : Type 0 where
+  pub bytes : List ℕ
+  pub structure : StructureState
+  pub rows : List Row
+  pub stamp : Stamp
+  pub held : holds (Some bytes)
+  pub text : DbfText structure rows stamp bytes
+  pub few : length rows ≤ 1000000
+  pub lines_are : lines ≡ table_lines structure.fields rows
+
+-- these are the lines of the index in the file
+pub record IndexListed (holds : Option (List ℕ) → Type 0) (lines : List ℕ) : Type 0 where
+  pub bytes : List ℕ
+  pub form : KeyForm
+  pub pairs : List Pair
+  pub held : holds (Some bytes)
+  pub file : IsIndexFile bytes form pairs
+  pub lines_are : lines ≡ index_lines form pairs

@@ -6,21 +6,26 @@
 
 mod files;
 mod folder;
+mod index_listing;
+mod lines;
 mod listing;
 mod memory_files;
 mod reading;
 mod refusal;
 mod running;
 mod status;
+mod table_listing;
 #[cfg(test)]
 mod tests;
 mod words;
 
 use crate::folder::Folder;
+use crate::index_listing::list_index;
 use crate::listing::{list_code, verify_file};
 use crate::refusal::Refusal;
 use crate::running::run_files;
 use crate::status::{Status, of_end, of_refusal};
+use crate::table_listing::list_table;
 use crate::words::{Words, WordsFault, command, words_of};
 use clap::Command;
 use clap::error::ErrorKind;
@@ -82,9 +87,9 @@ fn verify<R: Runtime<A = Global>>(rt: &R, name: &str) -> Status {
     status
 }
 
-fn code<R: Runtime<A = Global>>(rt: &R, name: &str) -> Status {
-    let mut folder = Folder::new(rt);
-    match list_code(rt.alloc(), &mut folder, name) {
+/// Prints the lines of a listing.
+fn print_lines<R: Runtime<A = Global>>(rt: &R, listed: Result<Vec<u8>, Refusal<'_>>) -> Status {
+    match listed {
         Ok(lines) => {
             if rt.write_all(lines.as_slice()).is_err() {
                 return Status::Disk;
@@ -93,6 +98,18 @@ fn code<R: Runtime<A = Global>>(rt: &R, name: &str) -> Status {
         }
         Err(refusal) => refuse(rt, refusal),
     }
+}
+
+fn code<R: Runtime<A = Global>>(rt: &R, name: &str) -> Status {
+    print_lines(rt, list_code(rt.alloc(), &mut Folder::new(rt), name))
+}
+
+fn list<R: Runtime<A = Global>>(rt: &R, name: &str) -> Status {
+    print_lines(rt, list_table(rt.alloc(), &mut Folder::new(rt), name))
+}
+
+fn index<R: Runtime<A = Global>>(rt: &R, name: &str) -> Status {
+    print_lines(rt, list_index(rt.alloc(), &mut Folder::new(rt), name))
 }
 
 fn carry_out<R: Runtime<A = Global>>(rt: &R, words: Words<'_>) -> Status {
@@ -109,6 +126,8 @@ fn carry_out<R: Runtime<A = Global>>(rt: &R, words: Words<'_>) -> Status {
         } => run(rt, true, name, budget, today),
         Words::Verify { name } => verify(rt, name),
         Words::Code { name } => code(rt, name),
+        Words::List { name } => list(rt, name),
+        Words::Index { name } => index(rt, name),
     }
 }
 

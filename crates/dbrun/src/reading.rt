@@ -1,7 +1,7 @@
 // Code files read.
 #![tactic(auto)]
 
-ghost use Rattle.std.specs.Prelude.{IfOk, IfErr};
+ghost use Rattle.std.specs.Prelude.{◌≤◌, Some, length, IfOk, IfErr};
 ghost use Rattle.xcode.specs.Legal.{IsCode};
 ghost use Rattle.dbrun.specs.Reports.{IsCodeFile, RefusalIs};
 
@@ -13,6 +13,31 @@ use xcode::{Code, CodeFault, decode};
 /// The longest file that is read: 64 MiB.
 pub const FILE_LIMIT: usize = 67_108_864;
 
+/// The bytes of a file of at most 64 MiB.
+pub fn read_bytes<'a, F: Files>(
+    alloc: Global,
+    files: &mut F,
+    name: &'a str,
+) -> Result<Vec<u8>, Refusal<'a>>
+    ensures held { IfOk result (λ bytes. F.holds files.old name.now (Some bytes.items)) }
+    ensures short { IfOk result (λ bytes. length bytes.items ≤ 67108864) }
+    ensures refused { IfErr result (RefusalIs (F.holds files.old name.now) (F.failed files.old) (F.failed files.new) name.now) }
+{
+    match files.read(alloc, name, FILE_LIMIT) {
+        Ok(bytes) => Ok(bytes),
+        Err(ReadFault::Absent) => Err(Refusal::Refused {
+            name,
+            fault: Fault::Absent,
+        }),
+        Err(ReadFault::TooLong) => Err(Refusal::Refused {
+            name,
+            fault: Fault::TooLong,
+        }),
+        Err(ReadFault::Device) => Err(Refusal::Disk { name }),
+        Err(ReadFault::Memory) => Err(Refusal::Memory),
+    }
+}
+
 /// The code in a file. Want of memory may be told before a fault that would have been found later.
 pub fn read_code<'a, F: Files>(
     alloc: Global,
@@ -23,23 +48,7 @@ pub fn read_code<'a, F: Files>(
     ensures legal { IfOk result IsCode }
     ensures refused { IfErr result (RefusalIs (F.holds files.old name.now) (F.failed files.old) (F.failed files.new) name.now) }
 {
-    let bytes = match files.read(alloc, name, FILE_LIMIT) {
-        Ok(bytes) => bytes,
-        Err(ReadFault::Absent) => {
-            return Err(Refusal::Refused {
-                name,
-                fault: Fault::Absent,
-            });
-        }
-        Err(ReadFault::TooLong) => {
-            return Err(Refusal::Refused {
-                name,
-                fault: Fault::TooLong,
-            });
-        }
-        Err(ReadFault::Device) => return Err(Refusal::Disk { name }),
-        Err(ReadFault::Memory) => return Err(Refusal::Memory),
-    };
+    let bytes = read_bytes(alloc, files, name)?;
     match decode(alloc, bytes.as_slice()) {
         Ok(code) => Ok(code),
         Err(CodeFault::Memory) => Err(Refusal::Memory),

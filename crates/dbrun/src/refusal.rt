@@ -1,6 +1,8 @@
 // Why a command isn't carried out.
 #![tactic(auto)]
 
+use dbf_file::DbfFault;
+use ndx_tree::TreeFault;
 use thiserror::Error;
 use xcode::CodeFault;
 use xverify::Refused;
@@ -17,6 +19,12 @@ pub enum Fault {
     /// It is no code file.
     #[error("{0}")]
     OfCode(CodeFault),
+    /// It is no table's file.
+    #[error("{0:?}")]
+    OfTable(DbfFault),
+    /// It is no index file.
+    #[error("{0:?}")]
+    OfIndex(TreeFault),
     /// Its code isn't accepted.
     #[error("{0}")]
     OfRule(Refused),

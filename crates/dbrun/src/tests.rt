@@ -3,5 +3,6 @@
 
 mod assembler;
 mod codes;
+mod listings;
 mod three_rows;
 mod values;

@@ -44,18 +44,30 @@ pub enum Words<'a> {
     Code {
         name: &'a str,
     },
+    /// List a table.
+    List {
+        name: &'a str,
+    },
+    /// List an index file.
+    Index {
+        name: &'a str,
+    },
 }
 
-fn code_argument<'a>(alloc: Global) -> Arg<'a> {
-    Arg::new(alloc, "CODE")
+/// The name of the word that names a file.
+const FILE: &str = "FILE";
+
+fn reader<'a>(
+    alloc: Global,
+    name: &'a str,
+    about: &'a str,
+    sort: &'a str,
+) -> Result<Command<'a>, AllocError> {
+    let file = Arg::new(alloc, FILE)
+        .value_name(sort)
         .required(true)
-        .help("The code file, in the current folder")
-}
-
-fn reader<'a>(alloc: Global, name: &'a str, about: &'a str) -> Result<Command<'a>, AllocError> {
-    Command::new(alloc, name)
-        .about(about)
-        .arg(code_argument(alloc))
+        .help("The file, in the current folder");
+    Command::new(alloc, name).about(about).arg(file)
 }
 
 fn runner<'a>(alloc: Global, name: &'a str, about: &'a str) -> Result<Command<'a>, AllocError> {
@@ -68,13 +80,15 @@ fn runner<'a>(alloc: Global, name: &'a str, about: &'a str) -> Result<Command<'a
         .long("today")
         .value_name("YYYY-MM-DD")
         .help("The day of the run, in the years 1900 to 2155 (1985-01-01 if left out)");
-    reader(alloc, name, about)?.arg(budget)?.arg(today)
+    reader(alloc, name, about, "CODE")?.arg(budget)?.arg(today)
 }
 
 /// The commands that `dbrun` knows.
 pub fn command<'a>(alloc: Global) -> Result<Command<'a>, AllocError> {
     Command::new(alloc, "dbrun")
-        .about("Verifies, runs and lists code files of dBASE III PLUS command files")
+        .about(
+            "Verifies and runs code files of dBASE III PLUS command files, and lists codes, tables and indexes",
+        )
         .subcommand_required(true)
         .arg_required_else_help(true)
         .subcommand(runner(alloc, "run", "Runs a code file that the verifier accepts")?)?
@@ -83,8 +97,15 @@ pub fn command<'a>(alloc: Global) -> Result<Command<'a>, AllocError> {
             "check-run",
             "Runs any code file, testing each instruction first",
         )?)?
-        .subcommand(reader(alloc, "verify", "Tells whether a code file is accepted")?)?
-        .subcommand(reader(alloc, "code", "Lists a code file")?)
+        .subcommand(reader(
+            alloc,
+            "verify",
+            "Tells whether a code file is accepted",
+            "CODE",
+        )?)?
+        .subcommand(reader(alloc, "code", "Lists a code file", "CODE")?)?
+        .subcommand(reader(alloc, "list", "Lists a table", "TABLE")?)?
+        .subcommand(reader(alloc, "index", "Lists an index file", "INDEX")?)
 }
 
 fn budget_of(matches: &ArgMatches<'_>) -> u64 {
@@ -116,7 +137,7 @@ fn day_of(matches: &ArgMatches<'_>) -> Result<Day, WordsFault> {
 /// What was parsed, or why it says nothing to be done.
 pub fn words_of<'a>(matches: &ArgMatches<'a>) -> Result<Words<'a>, WordsFault> {
     let (command, matches) = matches.subcommand().ok_or(WordsFault::Missing)?;
-    let name = matches.get_str("CODE").ok_or(WordsFault::Missing)?;
+    let name = matches.get_str(FILE).ok_or(WordsFault::Missing)?;
     match command {
         "run" => Ok(Words::Run {
             name,
@@ -130,6 +151,8 @@ pub fn words_of<'a>(matches: &ArgMatches<'a>) -> Result<Words<'a>, WordsFault> {
         }),
         "verify" => Ok(Words::Verify { name }),
         "code" => Ok(Words::Code { name }),
+        "list" => Ok(Words::List { name }),
+        "index" => Ok(Words::Index { name }),
         _ => Err(WordsFault::Missing),
     }
 }

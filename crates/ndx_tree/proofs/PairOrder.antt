@@ -1,5 +1,5 @@
 -- Pairs are in a strict order.
-use Rattle.std.proofs.Common.{◌≡◌, ℕ, Bool, true, false, not, List, refl, ap, ◌∙◌}
+use Rattle.std.proofs.Common.{◌≡◌, ℕ, Bool, true, false, not, List, refl, sym, ap, ◌∙◌}
 use Rattle.std.specs.declared.cmp.Ordering.{Ordering}
 use Rattle.std.specs.declared.cmp.Ordering.TheVariants.{Less, Equal, Greater}
 use Rattle.std.specs.Ordering.{is_lt, nat_cmp, ordering_reverse}
@@ -61,6 +61,16 @@ key_before_down k p q e f =
     elim (slice_cmp nat_cmp p.0 q.0) as (λ o. slice_cmp nat_cmp p.0 q.0 ≡ o → is_lt (slice_cmp nat_cmp p.0 k) ≡ true) [
       | Less ↦ λ g. ap is_lt (key_total.trans p.0 q.0 k g (is_lt-less _ f))
       | Equal ↦ λ g. ap is_lt (key_total.congr p.0 q.0 k g) ∙ f
+      | Greater ↦ λ g. let h = rw g at e in cc
+    ] refl
+
+-- and a key that is above a key goes up
+pub key_before_up : (k : List ℕ) (p q : Pair) → is_before p q ≡ true → key_before k p.0 ≡ true → key_before k q.0 ≡ true
+unfolding is_before key_before
+key_before_up k p q e f =
+    elim (slice_cmp nat_cmp p.0 q.0) as (λ o. slice_cmp nat_cmp p.0 q.0 ≡ o → is_lt (slice_cmp nat_cmp k q.0) ≡ true) [
+      | Less ↦ λ g. ap is_lt (key_total.trans k p.0 q.0 (is_lt-less _ f) g)
+      | Equal ↦ λ g. let same : p.0 ≡ q.0 = exact_bytes p.0 q.0 g in ap (λ (m : List ℕ). is_lt (slice_cmp nat_cmp k m)) (sym same) ∙ f
       | Greater ↦ λ g. let h = rw g at e in cc
     ] refl
 

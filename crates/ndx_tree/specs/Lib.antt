@@ -3,3 +3,12 @@ pub mod Pairs
 pub mod KeyForm
 pub mod SortedList
 pub mod Laws
+pub mod Rising
+pub mod Pages
+pub mod Falls
+pub mod Blanks
+pub mod Trees
+pub mod IndexFile
+pub mod Walk
+pub mod Reads
+pub mod Writes

@@ -75,6 +75,17 @@ impl Entry {
         self.key().cmp(key).then(self.number.cmp(&number)).is_lt()
     }
 
+    // Whether this entry comes before a key with a number, which may be one more than a record's.
+    #[tactic(auto, unfolding(crate::specs::Pairs::is_before))]
+    pub(crate) fn is_below(&self, key: &[u8], number: u64) -> bool
+        ensures { result ≡ is_before self.now (key.now, number) }
+    {
+        self.key()
+            .cmp(key)
+            .then(u64::from(self.number).cmp(&number))
+            .is_lt()
+    }
+
     /// Whether this entry comes after a key with a record number.
     #[tactic(auto, unfolding(crate::specs::Pairs::is_before))]
     pub fn is_after(&self, key: &[u8], number: u32) -> bool
@@ -89,5 +100,13 @@ impl Entry {
         ensures { result ≡ key_before self.now.0 key.now }
     {
         self.key().cmp(key).is_lt()
+    }
+
+    // Whether this entry's key comes after a key.
+    #[tactic(auto, unfolding(crate::specs::Pairs::key_before))]
+    pub(crate) fn has_key_after(&self, key: &[u8]) -> bool
+        ensures { result ≡ key_before key.now self.now.0 }
+    {
+        key.cmp(self.key()).is_lt()
     }
 }

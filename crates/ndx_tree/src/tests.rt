@@ -75,7 +75,7 @@ fn reserve<K: KeyList>(list: &mut K) -> Result<(), AllocError>
 }
 
 // Puts a pair in, in place of itself where it is there. Whether it could be put in.
-fn put<K: KeyList>(list: &mut K, key: &[u8], number: u32) -> Result<bool, AllocError> {
+pub(crate) fn put<K: KeyList>(list: &mut K, key: &[u8], number: u32) -> Result<bool, AllocError> {
     if key.len() != list.key_length() || number == 0 {
         return Ok(false);
     }
@@ -105,7 +105,7 @@ fn searches_agree<K: KeyList>(list: &mut K, plain: &Plain) -> bool {
 }
 
 // The number of the turn at which the list first answered otherwise than the plain list.
-fn first_difference<K: KeyList>(list: &mut K) -> Result<Option<usize>, AllocError> {
+pub(crate) fn first_difference<K: KeyList>(list: &mut K) -> Result<Option<usize>, AllocError> {
     let mut plain = Plain {
         has: [false; PAIRS],
     };

@@ -5,7 +5,7 @@ use Rattle.std.specs.Int.{w16, w64, to_le_bytes}
 use Rattle.std.proofs.lemmas.Bool.{eqb-true, leb-true, ltb-true, le-leb, lt-ltb}
 use Rattle.std.proofs.lemmas.List.{length-append}
 use Rattle.std.proofs.Math.Dec.{eqb-suc-zero}
-use Rattle.jiff_core.specs.Calendar.{days_in_month}
+use Rattle.xvalue.specs.Calendar.{month_length, is_day}
 use Rattle.fixed_num.specs.Number.{Number as Decimal, asterisk, finite, signed}
 use Rattle.xvalue.specs.declared.day.DayParts.{DayParts}
 use Rattle.xvalue.specs.declared.value.Value.{Value}
@@ -14,7 +14,7 @@ use Rattle.xvalue.specs.Days.{IsDay}
 use Rattle.xcode.specs.declared.fault.CodeFault.{CodeFault}
 use Rattle.xcode.specs.declared.fault.CodeFault.TheVariants.{Short, Shape}
 use Rattle.xcode.specs.CodeFile.{two, number_text, date_text, constant_text}
-use Rattle.xcode.specs.CodeReading.{wanted, byte_at, number_at, is_number, decimal_at, is_day, date_of, date_at}
+use Rattle.xcode.specs.CodeReading.{wanted, byte_at, number_at, is_number, decimal_at, date_of, date_at}
 use Rattle.xcode.specs.Legal.{IsWritten, IsDate, IsConstant}
 use Rattle.xcode.proofs.CodeBytes.{chosen, both_true, either_true, IsBytes, bind_ok, wanted_ok, ok_is, Takes, Takes-then, byte_takes, wide16, wide64, number_takes, number_again}
 
@@ -94,20 +94,22 @@ decimal_again (finite (negsuc m) d) rest h = decimal_read d 1 (suc m) rest h.0 (
 
 day_is : (p : DayParts) → is_day p ≡ true → IsDay p
 day_is p e =
-    let e5 = both_true _ (leb p.day (days_in_month (pos p.year) p.month)) e in
-    let e4 = both_true _ (leb 1 p.day) e5.0 in
-    let e3 = both_true _ (leb p.month 12) e4.0 in
-    let e2 = both_true _ (leb 1 p.month) e3.0 in
-    let e1 = both_true (leb 1 p.year) (leb p.year 9999) e2.0 in
+    let all = both_true (leb 1 p.year && leb p.year 9999) _ e in
+    let year = both_true (leb 1 p.year) (leb p.year 9999) all.0 in
+    let rest = both_true (leb 1 p.month && leb p.month 12) _ all.1 in
+    let month = both_true (leb 1 p.month) (leb p.month 12) rest.0 in
+    let day = both_true (leb 1 p.day) (leb p.day (month_length p)) rest.1 in
     record {
-      year = (leb-true 1 p.year e1.0, leb-true p.year 9999 e1.1);
-      month = (leb-true 1 p.month e2.1, leb-true p.month 12 e3.1);
-      day = (leb-true 1 p.day e4.1, leb-true p.day _ e5.1);
+      year = (leb-true 1 p.year year.0, leb-true p.year 9999 year.1);
+      month = (leb-true 1 p.month month.0, leb-true p.month 12 month.1);
+      day = (leb-true 1 p.day day.0, leb-true p.day _ day.1);
     }
 
 is_day_of : (p : DayParts) → IsDay p → is_day p ≡ true
 is_day_of p h =
-    and_from _ _ (and_from _ _ (and_from _ _ (and_from _ _ (and_from (leb 1 p.year) (leb p.year 9999) (le-leb _ _ h.year.0) (le-leb _ _ h.year.1)) (le-leb 1 p.month h.month.0)) (le-leb p.month 12 h.month.1)) (le-leb 1 p.day h.day.0)) (le-leb p.day _ h.day.1)
+    and_from _ _ (and_from (leb 1 p.year) (leb p.year 9999) (le-leb _ _ h.year.0) (le-leb _ _ h.year.1))
+    (and_from _ _ (and_from (leb 1 p.month) (leb p.month 12) (le-leb _ _ h.month.0) (le-leb _ _ h.month.1))
+    (and_from (leb 1 p.day) (leb p.day (month_length p)) (le-leb _ _ h.day.0) (le-leb _ _ h.day.1)))
 
 parts_text_same : (y m d y' m' d' : ℕ) → y ≡ y' → m ≡ m' → d ≡ d' → two y ++ (m ∷ d ∷ []) ≡ two y' ++ (m' ∷ d' ∷ [])
 parts_text_same y m d y' m' d' e f g = rw (e, f, g) refl

@@ -1,5 +1,5 @@
 -- Reading a code file from the front, with the first fault. An item's bytes are all there before the item is judged.
-use Rattle.std.specs.Prelude.{◌≡◌, ℕ, zero, suc, ◌+◌, ◌-◌, List, [], ◌∷◌, length, take, drop, replicate, reverse, Bool, true, false, ◌&&◌, ◌||◌, ◌==◌, ◌^◌, pos, nat_lt, nat_le, if◌then◌else◌, Option, Some, None, is_none, Result, Ok, Err}
+use Rattle.std.specs.Prelude.{◌≡◌, ℕ, zero, suc, ◌+◌, ◌-◌, List, [], ◌∷◌, length, take, drop, replicate, reverse, Bool, true, false, ◌&&◌, ◌||◌, ◌==◌, ◌^◌, nat_lt, nat_le, if◌then◌else◌, Option, Some, None, is_none, Result, Ok, Err}
 use Rattle.std.specs.Int.{Width, w16, w32, w64, byte_len, from_le_bytes}
 use Rattle.std.specs.List.{list_all}
 use Rattle.std.specs.Option.{option_and_then}
@@ -10,7 +10,7 @@ use Rattle.xvalue.specs.declared.fun.Fun.{Fun}
 use Rattle.xvalue.specs.declared.settings.Setting.{Setting}
 use Rattle.xvalue.specs.declared.settings.Setting.TheVariants.{Exact, Deleted}
 use Rattle.xvalue.specs.Signature.{numbered}
-use Rattle.jiff_core.specs.Calendar.{days_in_month}
+use Rattle.xvalue.specs.Calendar.{is_day}
 use Rattle.fixed_num.specs.Number.{finite, signed}
 use Rattle.xcode.specs.declared.instr.Question.{Question}
 use Rattle.xcode.specs.declared.instr.Question.TheVariants.{Today}
@@ -121,10 +121,7 @@ decimal_at bytes = do
   magnitude ← number_at Short w64 sign.1
   wanted Shape (is_number decimals.0 sign.0 magnitude.0) (Number (finite (signed (sign.0 == 1) magnitude.0) decimals.0), magnitude.1)
 
--- the calendar has the day, in the years 1 to 9999
-abbrev pub is_day : DayParts → Bool
-is_day parts = nat_le 1 parts.year && nat_le parts.year 9999 && nat_le 1 parts.month && nat_le parts.month 12 && nat_le 1 parts.day && nat_le parts.day (days_in_month (pos parts.year) parts.month)
-
+-- the blank date, or a day that the calendar has
 abbrev pub date_of : DayParts → Result (Option DayParts) CodeFault
 date_of parts = if parts.year == 0 && parts.month == 0 && parts.day == 0 then Ok None else wanted Shape (is_day parts) (Some parts)
 

@@ -2,12 +2,12 @@ use Rattle.std.proofs.Common.{subst}
 use Rattle.xcode.specs.CodeFile.{CodeText}
 use Rattle.dbrun.proofs.reading.read_code.Goals as goal
 
-pub returns-in-Ok-decode-clause-found : goal.returns-in-Ok-decode-clause-found
-returns-in-Ok-decode-clause-found g c = record {
-  bytes = c.in-Ok.bytes.items;
-  held = c.in-Ok.ensures.found.0;
-  text = subst (λ b. CodeText b c.in-Ok-decode.code) c.as_slice.ensures.value c.in-Ok-decode.ensures.found;
+pub returns-in-Ok-clause-found : goal.returns-in-Ok-clause-found
+returns-in-Ok-clause-found g c = record {
+  bytes = c.in_ok-bytes.bytes.items;
+  held = c.in_ok-bytes.ensures.held;
+  text = subst (λ b. CodeText b c.in-Ok.code) c.as_slice.ensures.value c.in-Ok.ensures.found;
 }
 
-pub returns-in-Ok-decode-clause-legal : goal.returns-in-Ok-decode-clause-legal
-returns-in-Ok-decode-clause-legal g c = c.in-Ok-decode.ensures.found.legal
+pub returns-in-Ok-clause-legal : goal.returns-in-Ok-clause-legal
+returns-in-Ok-clause-legal g c = c.in-Ok.ensures.found.legal

@@ -1,0 +1,11 @@
+pub mod Numbers
+pub mod Names
+pub mod Fields
+pub mod Descriptors
+pub mod Rows
+pub mod Tables
+pub mod Kept
+pub mod Faults
+pub mod Layouts
+pub mod Lending
+pub mod Values

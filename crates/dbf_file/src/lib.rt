@@ -1,0 +1,24 @@
+//! Table files (DBF): their structures and rows, read from bytes and written to bytes.
+#![tactic(auto)]
+
+mod descriptors;
+mod fault;
+mod field;
+pub mod laws;
+mod numbers;
+mod reading;
+mod stamp;
+mod structure;
+mod table;
+mod values;
+mod writing;
+
+pub use fault::DbfFault;
+pub use field::{Field, Letter, MAX_FIELDS, MAX_NAME, MAX_RECORD, are_fields};
+pub use stamp::Stamp;
+pub use structure::Structure;
+pub use table::{Table, read, write};
+pub use values::{put, value};
+
+#[cfg(test)]
+mod tests;

@@ -1,0 +1,202 @@
+//! What a field's text stands for.
+
+ghost use Rattle.std.specs.Prelude.{◌≡◌, ℕ, ◌+◌, ◌-◌, ◌/◌, ◌%◌, ◌<◌, ◌≤◌, ◌++◌, ◌==◌, pos, length, true, Some};
+ghost use Rattle.fixed_num.specs.Number.{finite};
+ghost use Rattle.fixed_num.specs.Reading.{are_digits, with_digits};
+ghost use Rattle.xvalue.specs.Kinds.{kind_of};
+ghost use Rattle.xvalue.specs.Calendar.{day_or_blank};
+ghost use Rattle.dbf_file.specs.Fields.{has_shape};
+ghost use Rattle.dbf_file.specs.Values.{kind_for, is_blank, number_in, day_in, is_yes, value_of, fitted_text, day_text, logical_text, text_for};
+
+use crate::field::{Field, Letter};
+use fixed_num::{Num, Parts};
+use xvalue::{Day, DayParts, Kind, Value, text_of};
+
+impl Letter {
+    /// The kind of the values of such a field.
+    pub fn kind(self) -> Kind
+        ensures { result ≡ kind_for self }
+    {
+        match self {
+            Letter::C => Kind::Text,
+            Letter::N => Kind::Number,
+            Letter::D => Kind::Date,
+            Letter::L => Kind::Logical,
+        }
+    }
+}
+
+/// Whether there are blanks alone.
+fn is_blank(text: &[u8]) -> bool
+    ensures { result ≡ is_blank text.now }
+{
+    text.iter().all(|byte| *byte == b' ')
+}
+
+/// The number 0 with so many decimals.
+fn zero_with(decimals: u8) -> Num
+    requires { decimals ≤ 15 }
+    ensures { result ≡ finite (pos 0) decimals }
+{
+    let parts = Parts {
+        negative: false,
+        magnitude: 0,
+        decimals,
+    };
+    match Num::from_parts(parts) {
+        Some(number) => number,
+        None => unreachable!(),
+    }
+}
+
+/// The number of a text in a field with these decimals.
+fn number_in(decimals: u8, text: &[u8]) -> Num
+    requires { decimals ≤ 15 }
+    ensures { result ≡ number_in decimals text.now }
+{
+    if is_blank(text) {
+        zero_with(decimals)
+    } else {
+        Num::parse(text)
+    }
+}
+
+/// Whether there are digits alone.
+fn are_digits(text: &[u8]) -> bool
+    ensures { result ≡ are_digits text.now }
+{
+    for byte in text {
+        if !byte.is_ascii_digit() {
+            return false;
+        }
+    }
+    true
+}
+
+/// The number of at most four digits.
+fn with_digits(digits: &[u8]) -> u16
+    requires digits { are_digits digits.now ≡ true }
+    requires few { length digits.now ≤ 4 }
+    ensures value { result ≡ with_digits 0 digits.now }
+    ensures short { length digits.now ≤ 2 → result < 100 }
+{
+    let mut number = 0;
+    for digit in digits {
+        number = number * 10 + u16::from(*digit - b'0');
+    }
+    number
+}
+
+/// The day of these parts, or the blank date where the calendar has none such.
+fn day_or_blank(parts: DayParts) -> Day
+    ensures { result ≡ day_or_blank parts }
+{
+    match Day::from_parts(parts) {
+        Some(day) => day,
+        None => Day::blank(),
+    }
+}
+
+/// The day of a text: four digits of the year, two of the month, two of the day.
+fn day_in(text: &[u8]) -> Day
+    ensures { result ≡ day_in text.now }
+{
+    if !are_digits(text) || text.len() != 8 {
+        return Day::blank();
+    }
+    let (year, others) = text.split_at(4);
+    let (month, day) = others.split_at(2);
+    day_or_blank(DayParts {
+        year: with_digits(year),
+        month: with_digits(month) as u8,
+        day: with_digits(day) as u8,
+    })
+}
+
+/// Whether this byte stands for true.
+fn is_yes(byte: u8) -> bool
+    ensures { result ≡ is_yes byte }
+{
+    byte == b'T' || byte == b't' || byte == b'Y' || byte == b'y'
+}
+
+/// The value of a text in a field, which has the field's width.
+#[tactic(auto, unfolding(crate::specs::Values::value_of))]
+pub fn value(field: &Field, text: &[u8]) -> Value
+    requires shape { has_shape field.now.letter field.now.width field.now.decimals ≡ true }
+    requires width { length text.now ≡ field.now.width }
+    ensures { result ≡ value_of field.now text.now }
+{
+    match field.letter {
+        Letter::C => Value::Text(text_of(text)),
+        Letter::N => Value::Number(number_in(field.decimals, text)),
+        Letter::D => Value::Date(day_in(text)),
+        Letter::L => Value::Logical(is_yes(text[0])),
+    }
+}
+
+/// Writes a text, cut or padded with blanks.
+fn put_text(text: &[u8], field: &mut [u8])
+    ensures { field.new ≡ fitted_text (length field.old) text.now }
+{
+    let kept = text.len().min(field.len());
+    let (front, behind) = field.split_at_mut(kept);
+    front.copy_from_slice(&text[..kept]);
+    behind.fill(b' ');
+}
+
+/// A digit of a number, by a power of ten.
+fn digit(number: u16, power: u16) -> u8
+    requires { 0 < power }
+    ensures { result ≡ 48 + number / power % 10 }
+{
+    b'0' + (number / power % 10) as u8
+}
+
+/// Writes a day: four digits of the year, two of the month, two of the day; blanks of the blank date.
+fn put_day(day: Day, field: &mut [u8])
+    requires { length field.old ≡ 8 }
+    ensures { field.new ≡ day_text day }
+{
+    let Some(parts) = day.parts() else {
+        field.fill(b' ');
+        return;
+    };
+    let month = u16::from(parts.month);
+    let day = u16::from(parts.day);
+    field.copy_from_slice(&[
+        digit(parts.year, 1000),
+        digit(parts.year, 100),
+        digit(parts.year, 10),
+        digit(parts.year, 1),
+        digit(month, 10),
+        digit(month, 1),
+        digit(day, 10),
+        digit(day, 1),
+    ]);
+}
+
+/// Writes a truth value: `T` or `F`.
+fn put_logical(truth: bool, field: &mut [u8])
+    requires { length field.old ≡ 1 }
+    ensures { field.new ≡ logical_text truth }
+{
+    field.copy_from_slice(&[if truth { b'T' } else { b'F' }]);
+}
+
+/// Writes the text of a value of the field's kind into a text of the field's width. A number is rounded to the field's
+/// decimals; where it doesn't fit, the text is all asterisks.
+#[tactic(auto, unfolding(crate::specs::Values::text_for))]
+pub fn put(field: &Field, value: &Value, text: &mut [u8])
+    requires shape { has_shape field.now.letter field.now.width field.now.decimals ≡ true }
+    requires width { length text.old ≡ field.now.width }
+    requires kind { kind_of value.now ≡ kind_for field.now.letter }
+    ensures { text.new ≡ text_for field.now value.now }
+{
+    match value {
+        Value::Number(number) => number.print(text.len(), field.decimals, text),
+        Value::Text(written) => put_text(written.as_slice(), text),
+        Value::Date(day) => put_day(*day, text),
+        Value::Logical(truth) => put_logical(*truth, text),
+    }
+}

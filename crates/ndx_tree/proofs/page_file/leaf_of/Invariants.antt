@@ -1,0 +1,12 @@
+use Rattle.std.proofs.Common.{◌≡◌, take, length}
+use Rattle.ndx_tree.specs.Order.{Each}
+use Rattle.ndx_tree.specs.IndexFile.{leaf_pairs}
+use Rattle.ndx_tree.proofs.page_file.leaf_of.Given as goal
+
+abbrev pub invariant-loop-entry : goal.invariant-loop-entry
+invariant-loop-entry l = record {
+  pairs : leaf_pairs l.page.entries.items ≡ take l.entry-index l.entries;
+  children : Each (λ e. e.child ≡ 0) l.page.entries.items;
+  last : l.page.last ≡ 0;
+  count : length l.page.entries.items ≡ l.entry-index;
+}

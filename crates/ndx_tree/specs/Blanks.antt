@@ -1,0 +1,22 @@
+-- Blank pages, which stand ready for splits.
+use Rattle.std.specs.Prelude.{◌≡◌, ℕ, ◌+◌, ◌/◌, ◌<◌, []}
+use Rattle.std.specs.Vec.{vec_capacity}
+use Rattle.ndx_tree.specs.Order.{Each}
+use Rattle.ndx_tree.specs.declared.page.Blank.{Blank}
+use Rattle.ndx_tree.specs.declared.page.Pool.{Pool}
+
+-- it has nothing, and room for the entries of two pages that are joined
+pub record IsBlank (most : ℕ) (b : Blank) : Type 0 where
+  pub no_entry : b.entries.items ≡ []
+  pub no_child : b.children.items ≡ []
+  pub entry_room : most + most / 2 + 1 < vec_capacity b.entries
+
+-- and for the children of two pages
+pub record IsInnerBlank (most : ℕ) (b : Blank) : Type 0 where
+  pub blank : IsBlank most b
+  pub child_room : most + most / 2 + 2 < vec_capacity b.children
+
+-- blank leaves, and blank inner pages
+pub record IsPool (most : ℕ) (pool : Pool) : Type 0 where
+  pub leaves : Each (IsBlank most) pool.leaves.items
+  pub inner : Each (IsInnerBlank most) pool.inner.items

@@ -1,0 +1,58 @@
+-- What stands in the bytes of an index file behind page 0 when pages have been written.
+use Rattle.std.specs.Prelude.{◌≡◌, ℕ, ◌+◌, ◌<◌, ◌≤◌, ◌⊎◌, Some, List, [], ◌∷◌, ◌++◌, length}
+use Rattle.ndx_page.specs.declared.page.Entry.{Entry}
+use Rattle.ndx_page.specs.declared.page.Page.{Page}
+use Rattle.ndx_page.specs.PageLayout.{IsPage}
+use Rattle.ndx_tree.specs.Order.{Each}
+use Rattle.ndx_tree.specs.Pairs.{Pair}
+use Rattle.ndx_tree.specs.Rising.{last_of}
+use Rattle.ndx_tree.specs.Pages.{PageView, joined}
+use Rattle.ndx_tree.specs.IndexFile.{Item, Listed, Between, listed, Link, AreBelow, IsBelow, AreFresh}
+
+-- each separator is the key of the last pair before it
+abbrev pub AreLast : List Pair → List Item → Type 0
+AreLast before [] = Unit {0}
+AreLast before (Listed p ∷ items) = AreLast (before ++ p ∷ []) items
+AreLast before (Between key ∷ items) = ((s : Pair) × (last_of before ≡ Some s) × (s.0 ≡ key)) × AreLast before items
+
+-- numbers that were given to pages after the first so many, up to a last
+abbrev pub AreGiven : ℕ → ℕ → List ℕ → Type 0
+AreGiven first last numbers = Each (λ n. (first < n) × (n ≤ last)) numbers
+
+-- and numbers that were not
+abbrev pub AreOthers : ℕ → ℕ → List ℕ → Type 0
+AreOthers first last numbers = Each (λ n. (n ≤ first) ⊎ (last < n)) numbers
+
+-- Behind page 0 and so many pages first, the page and those below it stand, up to the page n, which is the page itself.
+-- More may follow.
+pub record IsWritten (key_length first n : ℕ) (body : List ℕ) (view : PageView) : Type 0 where
+  pub reached : List ℕ
+  pub items : List Item
+  pub below : (front rest : List ℕ) (level : ℕ) → length front ≡ 512 → IsBelow key_length (front ++ (body ++ rest)) level (level + view.height) n reached items
+  pub given : AreGiven first n reached
+  pub fresh : (count : ℕ) (seen : List ℕ) → n < count → AreOthers first n seen → AreFresh count seen reached
+  pub pairs : listed items ≡ view.pairs
+  pub last : (before : List Pair) → AreLast before items
+
+-- the children that entries name, each with the entry's key behind it
+abbrev pub entry_links : List Entry → List Link
+entry_links [] = []
+entry_links (e ∷ es) = (e.child, Some e.key.items) ∷ entry_links es
+
+-- Children of one height stand there, and entries name them.
+pub record AreWritten (key_length height first n : ℕ) (body : List ℕ) (es : List Entry) (cs : List PageView) : Type 0 where
+  pub reached : List ℕ
+  pub items : List Item
+  pub below : (front rest : List ℕ) (level : ℕ) → length front ≡ 512 → AreBelow (IsBelow key_length (front ++ (body ++ rest)) level (level + height)) (entry_links es) reached items
+  pub given : AreGiven first n reached
+  pub fresh : (count : ℕ) (seen : List ℕ) → n < count → AreOthers first n seen → AreFresh count seen reached
+  pub pairs : listed items ≡ joined cs
+  pub last : (before : List Pair) → AreLast before items
+  pub entries : Each (λ e. (length e.key.items ≡ key_length) × (0 < e.child)) es
+
+-- the page stands at the end
+pub record IsAppended (key_length : ℕ) (old new : List ℕ) (page : Page) : Type 0 where
+  pub text : List ℕ
+  pub whole : length text ≡ 512
+  pub stands : IsPage key_length text page
+  pub items : new ≡ old ++ text

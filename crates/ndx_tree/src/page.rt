@@ -1,0 +1,543 @@
+//! Pages of the tree.
+//!
+//! A page is a leaf, whose entries are pairs, or an inner page, whose entries separate its children: each of them is
+//! the last pair of the child before it. So a search goes into one child alone, and what it looks for is there.
+
+ghost use Rattle.std.specs.Prelude.{◌≡◌, ◌+◌, ◌<◌, ◌≤◌, [], ◌++◌, ◌^◌, ◌/◌, length, IsTrue, ◌↔◌, Some, IfOk, OnOk, ℕ, ◌⊎◌, slice_index_or, slice_set, take};
+ghost use Rattle.std.specs.Vec.{vec_capacity, vec_len};
+ghost use Rattle.ndx_tree.specs.Order.{Each};
+ghost use Rattle.ndx_tree.specs.Rising.{place_of, IsAbsent, IsRising, last_of, first_from, last_below};
+ghost use Rattle.ndx_tree.specs.Pages.{PageView, Inserts, Removes, Joins, IsPage, IsChild, IsCut, IsMending, Mends, Divides};
+ghost use Rattle.ndx_tree.specs.Blanks.{IsBlank, IsInnerBlank, IsPool};
+ghost use Rattle.ndx_tree.specs.Pairs.{Pair};
+
+use crate::entry::Entry;
+use crate::lists::{move_all, move_tail, put};
+use std::alloc::{AllocError, Global};
+use std::marker::Model;
+use std::mem;
+
+/// A page: a leaf, whose entries are pairs, or an inner page, whose entries separate its children.
+#[derive(Debug, Drop)]
+pub struct Page {
+    most: usize,
+    pub(crate) entries: Vec<Entry>,
+    pub(crate) children: Vec<Page>,
+}
+
+impl Model for Page {
+    ghost use Rattle.std.specs.Prelude.{◌<◌, ◌≤◌, ◌+◌, ◌/◌, length};
+    ghost use Rattle.std.specs.Vec.{vec_capacity};
+    ghost use Rattle.ndx_tree.specs.Pages.{PageView, view_of, IsPage};
+    ghost use Rattle.ndx_tree.specs.Falls.{falls};
+
+    ghost Value = { PageView };
+
+    ghost view = { λ a. view_of a.most a.entries.items a.children.items };
+
+    ghost invariant = { λ a. IsPage a.most a.entries.items a.children.items × (length a.entries.items ≤ a.most) × (a.most + a.most / 2 + 1 < vec_capacity a.entries) × (0 < length a.children.items → a.most + a.most / 2 + 2 < vec_capacity a.children) };
+
+    ghost size = { λ d. d.height };
+
+    ghost size_decreases = { λ a h. falls a.most a.entries.items a.children.items h.0.framed };
+}
+
+/// A page that has room and nothing yet.
+#[derive(Debug, Drop)]
+pub struct Blank {
+    entries: Vec<Entry>,
+    children: Vec<Page>,
+}
+
+/// The pages that stand ready for splits. A leaf has no room for children.
+#[derive(Debug, Drop)]
+pub struct Pool {
+    leaves: Vec<Blank>,
+    inner: Vec<Blank>,
+}
+
+impl Page {
+    /// A leaf without entries.
+    pub fn leaf(most: usize, blank: Blank) -> Page
+        requires four { 4 ≤ most }
+        requires blank { IsBlank most blank }
+        ensures pairs { result.pairs ≡ [] }
+        ensures height { result.height ≡ 1 }
+        ensures most { result.most ≡ most }
+    {
+        let Blank { entries, children } = blank;
+        Page {
+            most,
+            entries,
+            children,
+        }
+    }
+
+    /// The most entries that the page may have.
+    pub fn most(&self) -> usize
+        ensures { result ≡ self.now.most }
+    {
+        self.most
+    }
+
+    /// How many pages stand one below another, from this page to a leaf.
+    pub fn height(&self) -> usize
+        requires { self.now.height < 2 ^ 32 }
+        ensures { result ≡ self.now.height }
+    {
+        match self.children.first() {
+            None => 1,
+            Some(child) => child.height() + 1,
+        }
+    }
+
+    /// How many entries the page itself has.
+    pub fn count(&self) -> usize
+        ensures { result ≡ self.now.count }
+    {
+        self.entries.len()
+    }
+
+    /// The first pair that does not stand before a key with a number. Each page that is looked at is counted.
+    pub fn first_from(&self, key: &[u8], number: u64, seen: &mut usize) -> Option<Entry>
+        requires fits { seen.old + self.now.height < 2 ^ 64 }
+        ensures found { result ≡ first_from (key.now, number) self.now.pairs }
+        ensures seen { seen.new ≤ seen.old + self.now.height }
+    {
+        let at = place(&self.entries, key, number);
+        *seen += 1;
+        if self.children.is_empty() {
+            if at < self.entries.len() {
+                return Some(self.entries[at].copied());
+            }
+            return None;
+        }
+        self.children[at].first_from(key, number, seen)
+    }
+
+    /// The last pair that stands before a key with a number. Each page that is looked at is counted.
+    pub fn last_below(&self, key: &[u8], number: u64, seen: &mut usize) -> Option<Entry>
+        requires fits { seen.old + self.now.height < 2 ^ 64 }
+        ensures found { result ≡ last_below (key.now, number) self.now.pairs }
+        ensures seen { seen.new ≤ seen.old + self.now.height }
+    {
+        let at = place(&self.entries, key, number);
+        *seen += 1;
+        if self.children.is_empty() {
+            return entry_before(&self.entries, at);
+        }
+        let below = self.children[at].last_below(key, number, seen);
+        if below.is_some() {
+            return below;
+        }
+        entry_before(&self.entries, at)
+    }
+
+    /// The last pair. Each page that is looked at is counted, up to the greatest number.
+    pub fn last_pair(&self, seen: &mut usize) -> Entry
+        requires { 0 < length self.now.pairs }
+        ensures found { last_of self.now.pairs ≡ Some result }
+        ensures seen { seen.new ≤ seen.old + self.now.height }
+    {
+        *seen = seen.saturating_add(1);
+        if self.children.is_empty() {
+            return self.entries[self.entries.len() - 1].copied();
+        }
+        self.children[self.children.len() - 1].last_pair(seen)
+    }
+
+    /// Takes a pair out, where it is there.
+    pub fn remove(&mut self, key: &[u8], number: u32) -> bool
+        requires { 1 < self.old.height → 0 < self.old.count }
+        ensures { Removes self.old (key.now, number) self.new result }
+    {
+        let at = place_of_pair(&self.entries, key, number);
+        if self.children.is_empty() {
+            if at == self.entries.len() {
+                return false;
+            }
+            if self.entries[at].is_after(key, number) {
+                return false;
+            }
+            self.entries.remove(at);
+            return true;
+        }
+        if !self.children[at].remove(key, number) {
+            return false;
+        }
+        refresh(&mut self.entries, &self.children, at);
+        mend(self.most, &mut self.entries, &mut self.children, at);
+        true
+    }
+
+    /// Takes in the page beside it. Where that is too much, the later half is split off again.
+    pub fn join(&mut self, separator: Entry, right: Page) -> Option<(Entry, Page)>
+        requires same_height { right.height ≡ self.old.height }
+        requires same_most { right.most ≡ self.old.most }
+        requires rising { IsRising (self.old.pairs ++ right.pairs) }
+        requires separator { last_of self.old.pairs ≡ Some separator }
+        requires enough { self.old.most / 2 ≤ self.old.count + right.count }
+        requires few { self.old.count + right.count ≤ self.old.most + self.old.most / 2 }
+        ensures { Joins self.old right self.new result }
+    {
+        let Page {
+            most: _,
+            entries: mut later,
+            children: mut later_children,
+        } = right;
+        if self.children.is_empty() {
+            move_all(&mut later, &mut self.entries);
+            if self.entries.len() <= self.most {
+                return None;
+            }
+            let blank = Blank {
+                entries: later,
+                children: later_children,
+            };
+            return Some(split_leaf(self.most, &mut self.entries, blank));
+        }
+        let end = self.entries.len();
+        put(&mut self.entries, end, separator);
+        move_all(&mut later, &mut self.entries);
+        move_all(&mut later_children, &mut self.children);
+        if self.entries.len() <= self.most {
+            return None;
+        }
+        let blank = Blank {
+            entries: later,
+            children: later_children,
+        };
+        Some(split_inner(self.most, &mut self.entries, &mut self.children, blank))
+    }
+
+    /// Whether it is an inner page with one child alone.
+    pub fn is_idle(&self) -> bool
+        requires { self.now.height < 2 ^ 32 }
+        ensures { IsTrue result ↔ ((1 < self.now.height) × (self.now.count ≡ 0)) }
+    {
+        self.height() > 1 && self.count() == 0
+    }
+
+    /// Becomes its one child.
+    pub fn lower(&mut self)
+        requires inner { 1 < self.old.height }
+        requires idle { self.old.count ≡ 0 }
+        ensures pairs { self.new.pairs ≡ self.old.pairs }
+        ensures height { self.old.height ≡ self.new.height + 1 }
+        ensures child { IsChild self.new.height self.old.most self.new }
+    {
+        let Some(child) = self.children.pop() else {
+            unreachable!()
+        };
+        *self = child;
+    }
+
+    /// Becomes a page above what the page was and a page beside it.
+    pub fn raise(&mut self, separator: Entry, right: Page, blank: Blank)
+        requires left { IsChild self.old.height self.old.most self.old }
+        requires right { IsChild self.old.height self.old.most right }
+        requires separator { last_of self.old.pairs ≡ Some separator }
+        requires rising { IsRising (self.old.pairs ++ right.pairs) }
+        requires blank { IsInnerBlank self.old.most blank }
+        ensures pairs { self.new.pairs ≡ self.old.pairs ++ right.pairs }
+        ensures height { self.new.height ≡ self.old.height + 1 }
+        ensures most { self.new.most ≡ self.old.most }
+        ensures count { self.new.count ≡ 1 }
+    {
+        let Blank { entries, children } = blank;
+        let left = Page {
+            most: self.most,
+            entries: mem::replace(&mut self.entries, entries),
+            children: mem::replace(&mut self.children, children),
+        };
+        put(&mut self.entries, 0, separator);
+        put(&mut self.children, 0, left);
+        put(&mut self.children, 1, right);
+    }
+
+    /// Puts a pair that is not there into its place. Where the page is then too full, its later half is split off.
+    pub fn insert(&mut self, entry: Entry, pool: &mut Pool) -> Option<(Entry, Page)>
+        requires absent { IsAbsent entry self.old.pairs }
+        requires leaf { 0 < vec_len pool.old.leaves }
+        requires room { self.old.height ≤ vec_len pool.old.inner + 1 }
+        requires pool { IsPool self.old.most pool.old }
+        ensures inserts { Inserts self.old entry self.new result }
+        ensures used { vec_len pool.old.inner + 1 ≤ vec_len pool.new.inner + self.old.height }
+        ensures pool { IsPool self.old.most pool.new }
+    {
+        let at = place_for(&self.entries, &entry);
+        if self.children.is_empty() {
+            put(&mut self.entries, at, entry);
+            if self.entries.len() <= self.most {
+                return None;
+            }
+            let blank = take_leaf(self.most, pool);
+            return Some(split_leaf(self.most, &mut self.entries, blank));
+        }
+        let (separator, right) = self.children[at].insert(entry, pool)?;
+        put(&mut self.entries, at, separator);
+        put(&mut self.children, at + 1, right);
+        if self.entries.len() <= self.most {
+            return None;
+        }
+        let blank = take_inner(self.most, pool);
+        Some(split_inner(self.most, &mut self.entries, &mut self.children, blank))
+    }
+}
+
+impl Blank {
+    /// A blank leaf, with room for the entries of two pages that are joined.
+    pub fn leaf(alloc: Global, most: usize) -> Result<Blank, AllocError>
+        requires { most < 1000 }
+        ensures { IfOk result (IsBlank most) }
+    {
+        Ok(Blank {
+            entries: Vec::with_capacity(alloc, most + most / 2 + 2)?,
+            children: Vec::new(alloc),
+        })
+    }
+
+    /// A blank inner page, with room for the children of two pages that are joined too.
+    pub fn inner(alloc: Global, most: usize) -> Result<Blank, AllocError>
+        requires { most < 1000 }
+        ensures { IfOk result (IsInnerBlank most) }
+    {
+        Ok(Blank {
+            entries: Vec::with_capacity(alloc, most + most / 2 + 2)?,
+            children: Vec::with_capacity(alloc, most + most / 2 + 3)?,
+        })
+    }
+}
+
+impl Pool {
+    /// No page stands ready.
+    pub fn new(alloc: Global) -> Pool
+        ensures leaves { result.leaves.items ≡ [] }
+        ensures inner { result.inner.items ≡ [] }
+    {
+        Pool {
+            leaves: Vec::new(alloc),
+            inner: Vec::new(alloc),
+        }
+    }
+
+    /// Adds blank pages until there are a leaf and as many inner pages as are wanted. Where memory is missing, those
+    /// that were added stay.
+    pub fn stock(&mut self, alloc: Global, most: usize, wanted: usize) -> Result<(), AllocError>
+        requires most { most < 1000 }
+        requires pool { IsPool most self.old }
+        ensures pool { IsPool most self.new }
+        ensures leaf { OnOk result (0 < vec_len self.new.leaves) }
+        ensures inner { OnOk result (wanted ≤ vec_len self.new.inner) }
+        ensures kept_leaves { vec_len self.old.leaves ≤ vec_len self.new.leaves }
+        ensures kept_inner { vec_len self.old.inner ≤ vec_len self.new.inner }
+    {
+        stock_leaf(alloc, most, &mut self.leaves)?;
+        stock_inner(alloc, most, wanted, &mut self.inner)
+    }
+}
+
+// Adds a blank leaf where there is none.
+fn stock_leaf(alloc: Global, most: usize, leaves: &mut Vec<Blank>) -> Result<(), AllocError>
+    requires most { most < 1000 }
+    requires blank { Each (IsBlank most) leaves.old.items }
+    ensures blank { Each (IsBlank most) leaves.new.items }
+    ensures enough { OnOk result (0 < vec_len leaves.new) }
+    ensures kept { vec_len leaves.old ≤ vec_len leaves.new }
+{
+    if leaves.is_empty() {
+        leaves.push(Blank::leaf(alloc, most)?)?;
+    }
+    Ok(())
+}
+
+// Adds blank inner pages until there are as many as are wanted.
+fn stock_inner(
+    alloc: Global,
+    most: usize,
+    wanted: usize,
+    inner: &mut Vec<Blank>,
+) -> Result<(), AllocError>
+    requires most { most < 1000 }
+    requires blank { Each (IsInnerBlank most) inner.old.items }
+    ensures blank { Each (IsInnerBlank most) inner.new.items }
+    ensures enough { OnOk result (wanted ≤ vec_len inner.new) }
+    ensures kept { vec_len inner.old ≤ vec_len inner.new }
+{
+    for _count in inner.len()..wanted {
+        inner.push(Blank::inner(alloc, most)?)?;
+    }
+    Ok(())
+}
+
+// Takes one of the blank leaves, of which there is one.
+fn take_leaf(most: usize, pool: &mut Pool) -> Blank
+    requires some { 0 < vec_len pool.old.leaves }
+    requires pool { IsPool most pool.old }
+    ensures blank { IsBlank most result }
+    ensures pool { IsPool most pool.new }
+    ensures inner { vec_len pool.new.inner ≡ vec_len pool.old.inner }
+{
+    let Some(blank) = pool.leaves.pop() else {
+        unreachable!()
+    };
+    blank
+}
+
+// Takes one of the blank inner pages, of which there is one.
+pub(crate) fn take_inner(most: usize, pool: &mut Pool) -> Blank
+    requires some { 0 < vec_len pool.old.inner }
+    requires pool { IsPool most pool.old }
+    ensures blank { IsInnerBlank most result }
+    ensures pool { IsPool most pool.new }
+    ensures one { vec_len pool.old.inner ≡ vec_len pool.new.inner + 1 }
+    ensures leaves { vec_len pool.new.leaves ≡ vec_len pool.old.leaves }
+{
+    let Some(blank) = pool.inner.pop() else {
+        unreachable!()
+    };
+    blank
+}
+
+// The entry before a place, if there is one.
+fn entry_before(entries: &[Entry], at: usize) -> Option<Entry>
+    requires { at ≤ length entries.now }
+    ensures { result ≡ last_of (take at entries.now) }
+{
+    if at == 0 {
+        return None;
+    }
+    Some(entries[at - 1].copied())
+}
+
+// Makes the separator after a child its last pair again.
+fn refresh(entries: &mut Vec<Entry>, children: &[Page], at: usize)
+    requires within { at < length children.now }
+    requires some { (d : PageView) → 0 < length (slice_index_or children.now at d).pairs }
+    requires cut { (d : PageView) (t : Pair) → last_of (slice_index_or children.now at d).pairs ≡ Some t → IsCut (slice_set entries.old.items at t) children.now }
+    ensures cut { IsCut entries.new.items children.now }
+    ensures len { vec_len entries.new ≡ vec_len entries.old }
+    ensures capacity { vec_capacity entries.old ≤ vec_capacity entries.new }
+{
+    let mut seen = 0;
+    let last = children[at].last_pair(&mut seen);
+    if at < entries.len() {
+        entries[at] = last;
+    }
+}
+
+// The first of the child at a place and a neighbour of it.
+fn first_of_two(at: usize, separators: usize) -> usize
+    requires some { 0 < separators }
+    requires within { at ≤ separators }
+    ensures within { result < separators }
+    ensures near { (result ≡ at) ⊎ (result + 1 ≡ at) }
+{
+    if at < separators { at } else { at - 1 }
+}
+
+// Joins a child that has too few entries with a neighbour.
+fn mend(most: usize, entries: &mut Vec<Entry>, children: &mut Vec<Page>, at: usize)
+    requires mending { (h : ℕ) × IsMending h most at entries.old.items children.old.items }
+    requires room { most < vec_capacity entries.old }
+    requires child_room { most + 1 < vec_capacity children.old }
+    ensures mends { Mends most entries.old.items children.old.items entries.new.items children.new.items }
+    ensures capacity { vec_capacity entries.old ≤ vec_capacity entries.new }
+    ensures child_capacity { vec_capacity children.old ≤ vec_capacity children.new }
+{
+    if children[at].count() >= most / 2 {
+        return;
+    }
+    let first = first_of_two(at, entries.len());
+    let right = children.remove(first + 1);
+    let separator = entries.remove(first);
+    let Some((separator, right)) = children[first].join(separator, right) else {
+        return;
+    };
+    put(entries, first, separator);
+    put(children, first + 1, right);
+}
+
+// Splits the later half off a leaf that has too many entries.
+fn split_leaf(most: usize, entries: &mut Vec<Entry>, blank: Blank) -> (Entry, Page)
+    requires parts { IsPage most entries.old.items [] }
+    requires too_many { most < vec_len entries.old }
+    requires below { vec_len entries.old ≤ most + most / 2 + 1 }
+    requires blank { IsBlank most blank }
+    ensures divides { Divides most entries.old.items [] entries.new.items [] result }
+    ensures capacity { vec_capacity entries.old ≤ vec_capacity entries.new }
+{
+    let Blank {
+        entries: mut later,
+        children,
+    } = blank;
+    let kept = entries.len() / 2;
+    move_tail(entries, kept, &mut later);
+    let separator = entries[kept - 1].copied();
+    let page = Page {
+        most,
+        entries: later,
+        children,
+    };
+    (separator, page)
+}
+
+// Splits the later half off an inner page that has too many entries. The entry between the halves separates them.
+fn split_inner(
+    most: usize,
+    entries: &mut Vec<Entry>,
+    children: &mut Vec<Page>,
+    blank: Blank,
+) -> (Entry, Page)
+    requires parts { IsPage most entries.old.items children.old.items }
+    requires inner { 0 < vec_len children.old }
+    requires too_many { most < vec_len entries.old }
+    requires below { vec_len entries.old ≤ most + most / 2 + 1 }
+    requires blank { IsInnerBlank most blank }
+    ensures divides { Divides most entries.old.items children.old.items entries.new.items children.new.items result }
+    ensures capacity { vec_capacity entries.old ≤ vec_capacity entries.new }
+    ensures child_capacity { vec_capacity children.old ≤ vec_capacity children.new }
+{
+    let Blank {
+        entries: mut later,
+        children: mut later_children,
+    } = blank;
+    let kept = entries.len() / 2;
+    let separator = entries[kept].copied();
+    move_tail(entries, kept + 1, &mut later);
+    move_tail(children, kept + 1, &mut later_children);
+    entries.truncate(kept);
+    let page = Page {
+        most,
+        entries: later,
+        children: later_children,
+    };
+    (separator, page)
+}
+
+// How many entries at the front stand before a key with a number.
+fn place(entries: &[Entry], key: &[u8], number: u64) -> usize
+    requires { IsRising entries.now }
+    ensures within { result ≤ length entries.now }
+    ensures value { result ≡ place_of (key.now, number) entries.now }
+{
+    entries.partition_point(|entry| entry.is_below(key, number))
+}
+
+// How many entries at the front stand before a pair.
+fn place_of_pair(entries: &[Entry], key: &[u8], number: u32) -> usize
+    requires { IsRising entries.now }
+    ensures within { result ≤ length entries.now }
+    ensures value { result ≡ place_of (key.now, number) entries.now }
+{
+    place(entries, key, u64::from(number))
+}
+
+// How many entries at the front stand before another entry.
+fn place_for(entries: &[Entry], entry: &Entry) -> usize
+    requires { IsRising entries.now }
+    ensures within { result ≤ length entries.now }
+    ensures value { result ≡ place_of entry.now entries.now }
+{
+    place_of_pair(entries, entry.key(), entry.number())
+}

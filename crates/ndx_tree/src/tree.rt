@@ -1,0 +1,227 @@
+//! A list of keys in a tree of pages.
+
+ghost use Rattle.std.specs.Prelude.{◌≡◌, ◌+◌, ◌*◌, ◌<◌, ◌≤◌, ◌^◌, ◌↔◌, length, IfOk, OnOk, Contains, []};
+ghost use Rattle.ndx_tree.specs.Order.{Each, IsDistinct, above, below, first, in_order};
+ghost use Rattle.ndx_tree.specs.Pairs.{is_before, pairs_from};
+ghost use Rattle.ndx_tree.specs.KeyForm.{IsKeyLength, IsPairOf};
+ghost use Rattle.ndx_tree.specs.Rising.{first_from};
+
+use crate::entry::Entry;
+use crate::key_list::KeyList;
+use crate::page::{Blank, Page, Pool, take_inner};
+use arrayvec::ArrayVec;
+use ndx_page::{MAX_TEXT, most_entries};
+use std::alloc::{AllocError, Global};
+use std::marker::Model;
+
+/// A list of keys in a tree of pages, as an index file holds it.
+///
+/// Each page but the root is at least half full, and the height is at most 20. A reservation is a set of blank pages
+/// that serves for the splits of any one insertion.
+#[derive(Debug, Drop)]
+pub struct NdxTree {
+    alloc: Global,
+    pub(crate) key_length: usize,
+    pub(crate) key_text: ArrayVec<u8, MAX_TEXT>,
+    pub(crate) root: Page,
+    pool: Pool,
+    reserved: usize,
+    count: usize,
+    seen: usize,
+}
+
+impl Model for NdxTree {
+    ghost use Rattle.std.specs.Prelude.{◌≡◌, ◌+◌, ◌<◌, ◌≤◌, ◌^◌, length};
+    ghost use Rattle.ndx_tree.specs.Blanks.{IsPool};
+    ghost use Rattle.ndx_tree.specs.Trees.{TreeView, IsTree};
+
+    ghost Value = { TreeView };
+
+    ghost view = { λ t. record { pairs = t.root.pairs; height = t.root.height; spare = t.reserved; seen = t.seen; form = record { key_length = t.key_length; key_text = t.key_text.items } } };
+
+    ghost invariant = { λ t. IsTree (record { key_length = t.key_length; key_text = t.key_text.items }) t.root t.pool t.reserved × (t.count ≡ length t.root.pairs) };
+}
+
+impl NdxTree {
+    /// A tree without pairs.
+    pub(crate) fn empty(
+        alloc: Global,
+        key_length: usize,
+        key_text: ArrayVec<u8, MAX_TEXT>,
+    ) -> Result<NdxTree, AllocError>
+        requires key_length { IsKeyLength key_length }
+        requires key_text { ¬ Contains key_text.items 0 }
+        ensures pairs { IfOk result (λ t. t.pairs ≡ []) }
+        ensures key_length { IfOk result (λ t. t.form.key_length ≡ key_length) }
+        ensures key_text { IfOk result (λ t. t.form.key_text ≡ key_text.items) }
+    {
+        let most = most_entries(key_length);
+        Ok(NdxTree {
+            alloc,
+            key_length,
+            key_text,
+            root: Page::leaf(most, Blank::leaf(alloc, most)?),
+            pool: Pool::new(alloc),
+            reserved: 0,
+            count: 0,
+            seen: 0,
+        })
+    }
+
+    /// How many pages stand one below another, from the root to a leaf.
+    pub fn height(&self) -> usize
+        ensures exact { result ≡ self.now.height }
+        ensures low { result ≤ 20 }
+    {
+        self.root.height()
+    }
+
+    /// How many pages the last search looked at.
+    pub fn pages_seen(&self) -> usize
+        ensures { result ≡ self.now.seen }
+    {
+        self.seen
+    }
+
+    /// The least pair that isn't before a key with a number.
+    fn search_from(&mut self, key: &[u8], number: u64) -> Option<Entry>
+        ensures found { result ≡ first_from (key.now, number) self.old.pairs }
+        ensures same { self.new ≡ record self.old { seen = self.new.seen } }
+        ensures seen { self.new.seen ≤ self.new.height }
+    {
+        self.seen = 0;
+        self.root.first_from(key, number, &mut self.seen)
+    }
+
+    /// The least pair whose key isn't below the key. A key that begins with the key isn't below it.
+    pub fn first_from(&mut self, key: &[u8]) -> Option<Entry>
+        ensures found { result ≡ first (pairs_from key.now self.old.pairs) }
+        ensures same { self.new ≡ record self.old { seen = self.new.seen } }
+        ensures seen { self.new.seen ≤ self.new.height }
+    {
+        self.search_from(key, 0)
+    }
+
+    /// The least pair above this one, which need not be in the list.
+    pub fn after(&mut self, key: &[u8], number: u32) -> Option<Entry>
+        ensures found { result ≡ first (above is_before (key.now, number) self.old.pairs) }
+        ensures same { self.new ≡ record self.old { seen = self.new.seen } }
+        ensures seen { self.new.seen ≤ self.new.height }
+    {
+        self.search_from(key, u64::from(number) + 1)
+    }
+
+    /// The greatest pair below this one, which need not be in the list.
+    pub fn before(&mut self, key: &[u8], number: u32) -> Option<Entry>
+        ensures found { result ≡ first (below is_before (key.now, number) self.old.pairs) }
+        ensures same { self.new ≡ record self.old { seen = self.new.seen } }
+        ensures seen { self.new.seen ≤ self.new.height }
+    {
+        self.seen = 0;
+        self.root.last_below(key, u64::from(number), &mut self.seen)
+    }
+
+    /// Adds pairs that aren't there, the last of them first.
+    pub(crate) fn fill(&mut self, mut entries: Vec<Entry>) -> Result<(), AllocError>
+        requires empty { self.old.pairs ≡ [] }
+        requires keys { Each (IsPairOf self.old.form.key_length) entries.items }
+        requires distinct { IsDistinct entries.items }
+        requires few { length entries.items < 2 ^ 32 }
+        ensures pairs { OnOk result (self.new.pairs ≡ in_order is_before entries.items) }
+        ensures form { self.new.form ≡ self.old.form }
+    {
+        while let Some(entry) = entries.pop() {
+            self.reserve_one()?;
+            self.insert(entry.key(), entry.number());
+        }
+        Ok(())
+    }
+}
+
+impl KeyList for NdxTree {
+    ghost pairs = { λ t. t.pairs };
+
+    ghost spare = { λ t. t.spare };
+
+    ghost form = { λ t. t.form };
+
+    fn rebuild(
+        alloc: Global,
+        key_length: usize,
+        key_text: &[u8],
+        entries: Vec<Entry>,
+    ) -> Result<Self, AllocError> {
+        let mut text = ArrayVec::new();
+        text.try_extend_from_slice(key_text).unwrap();
+        let mut tree = NdxTree::empty(alloc, key_length, text)?;
+        tree.fill(entries)?;
+        Ok(tree)
+    }
+
+    fn len(&self) -> usize {
+        self.count
+    }
+
+    fn key_length(&self) -> usize {
+        self.key_length
+    }
+
+    fn key_text(&self) -> &[u8] {
+        self.key_text.as_slice()
+    }
+
+    fn reserve_one(&mut self) -> Result<(), AllocError> {
+        if self.reserved > 0 {
+            return Ok(());
+        }
+        let wanted = self.root.height();
+        self.pool.stock(self.alloc, self.root.most(), wanted)?;
+        self.reserved = 1;
+        Ok(())
+    }
+
+    fn insert(&mut self, key: &[u8], number: u32) {
+        self.reserved -= 1;
+        self.count += 1;
+        let entry = Entry::new(key, number);
+        if let Some((separator, right)) = self.root.insert(entry, &mut self.pool) {
+            let blank = take_inner(self.root.most(), &mut self.pool);
+            self.root.raise(separator, right, blank);
+        }
+    }
+
+    fn remove(&mut self, key: &[u8], number: u32) -> bool {
+        if !self.root.remove(key, number) {
+            return false;
+        }
+        self.count -= 1;
+        if self.root.is_idle() {
+            self.root.lower();
+        }
+        true
+    }
+
+    fn first(&mut self) -> Option<Entry> {
+        self.search_from(b"", 0)
+    }
+
+    fn last(&mut self) -> Option<Entry> {
+        self.seen = 0;
+        if self.count == 0 {
+            return None;
+        }
+        Some(self.root.last_pair(&mut self.seen))
+    }
+
+    fn first_from(&mut self, key: &[u8]) -> Option<Entry> {
+        self.first_from(key)
+    }
+
+    fn after(&mut self, key: &[u8], number: u32) -> Option<Entry> {
+        self.after(key, number)
+    }
+
+    fn before(&mut self, key: &[u8], number: u32) -> Option<Entry> {
+        self.before(key, number)
+    }
+}
