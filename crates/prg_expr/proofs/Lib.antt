@@ -1,0 +1,15 @@
+pub mod Equations
+pub mod Turns
+pub mod Listing
+pub mod Grammar
+pub mod Sound
+pub mod Complete
+pub mod Front
+pub mod Bytes
+pub mod Finds
+pub mod Takes
+pub mod Lines
+pub mod Scan
+pub mod Read
+pub mod Longest
+pub mod Cuts

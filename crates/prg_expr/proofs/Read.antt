@@ -1,0 +1,102 @@
+-- Reading a text finds exactly what it spells.
+use Rattle.std.proofs.Common.{◌≡◌, ℕ, ◌≤◌, inl, inr, List, [], ◌∷◌, length, map, false, Option, Some, None, Result, Ok, Err, refl, sym, ap, ◌∙◌, subst}
+use Rattle.std.specs.Prelude.{IfOk, nat_lt, nat_le}
+use Rattle.std.proofs.lemmas.Bool.{le-ltb, ltb-false}
+use Rattle.prg_expr.specs.declared.fault.Fault.{Fault}
+use Rattle.prg_expr.specs.declared.fault.Fault.TheVariants as fault
+use Rattle.prg_expr.specs.declared.fault.Refusal.{Refusal}
+use Rattle.prg_expr.specs.declared.fault.Refusal.TheVariants as refusal
+use Rattle.prg_expr.specs.declared.tree.Expr.{Expr}
+use Rattle.prg_expr.specs.Faults.{rank, least, least_of}
+use Rattle.prg_expr.specs.Tree.{Tree, tree_of}
+use Rattle.prg_expr.specs.Word.{Word}
+use Rattle.prg_expr.specs.Lexicon.{Spot, spot, spot_word, spot_fault, clean, IsLine}
+use Rattle.prg_expr.specs.Reading.{Gives, parse}
+use Rattle.prg_expr.specs.Scanning.{scan}
+use Rattle.prg_expr.specs.Spelling.{Spells, OnFault, refuse, told_of, form_of, read}
+use Rattle.prg_expr.proofs.Sound.{bool_tells, parse_sound}
+use Rattle.prg_expr.proofs.Complete.{parse_complete}
+use Rattle.prg_expr.proofs.Lines.{scan_sound, scan_complete}
+
+-- nothing is told only where there is nothing
+least_none : (t f : Option Fault) → least t f ≡ None → (t ≡ None) × (f ≡ None)
+least_none None f h = (refl, h)
+least_none (Some a) None h = absurd cc
+least_none (Some a) (Some b) h = elim (bool_tells (nat_le (rank a) (rank b))) [
+  | inl y ↦ absurd (let g : least (Some a) (Some b) ≡ Some a = rw y refl in let k = sym g ∙ h in cc)
+  | inr n ↦ absurd (let g : least (Some a) (Some b) ≡ Some b = rw n refl in let k = sym g ∙ h in cc)
+]
+
+abbrev AllNone : List Spot → Type 0
+AllNone [] = Unit {0}
+AllNone (x ∷ xs) = (x.1 ≡ None) × AllNone xs
+
+all_none : (t : Option Fault) (spots : List Spot) → least_of t (map spot_fault spots) ≡ None → (t ≡ None) × AllNone spots
+all_none t [] h = (h, tt)
+all_none t (x ∷ xs) h = let a = all_none (least t x.1) xs h in let b = least_none t x.1 a.0 in (b.0, (b.1, a.1))
+
+cleaned : (spots : List Spot) → AllNone spots → spots ≡ map clean (map spot_word spots)
+cleaned [] a = refl
+cleaned (x ∷ xs) a = ap (λ (f : Option Fault). spot x.0 f ∷ xs) a.0 ∙ ap (λ (s : List Spot). clean x.0 ∷ s) (cleaned xs a.1)
+
+words_clean : (ws : List Word) → map spot_word (map clean ws) ≡ ws
+words_clean [] = refl
+words_clean (w ∷ ws) = ap (λ (l : List Word). w ∷ l) (words_clean ws)
+
+faults_clean : (ws : List Word) → least_of None (map spot_fault (map clean ws)) ≡ None
+faults_clean [] = refl
+faults_clean (w ∷ ws) = faults_clean ws
+
+-- a tree is told only where it was read and there is no other fault
+told_ok : (f : Option Fault) (r : Result Tree Fault) (e : Tree) → told_of f r ≡ Ok e → (f ≡ None) × (r ≡ Ok e)
+told_ok None (Ok x) e h = (refl, h)
+told_ok (Some g) (Ok x) e h = absurd cc
+told_ok f (Err g) e h = absurd (refused_err (least f (Some g)) g e h)
+  where
+    refused_err : (o : Option Fault) (g : Fault) (e : Tree) → refuse o (Err g) ≡ Ok e → ⊥
+    refused_err None g e h = absurd cc
+    refused_err (Some k) g e h = absurd cc
+
+form_ok : (text : List ℕ) (e : Tree) → form_of text ≡ Ok e → (length text ≤ 1024) × (parse (map spot_word (scan text)) ≡ Ok e)
+form_ok text e h = elim (bool_tells (nat_lt 1024 (length text))) [
+  | inl y ↦ absurd (let g : form_of text ≡ Err fault.TooLong = rw y refl in let k = sym g ∙ h in cc)
+  | inr n ↦ (ltb-false 1024 (length text) n, (let g : form_of text ≡ parse (map spot_word (scan text)) = rw n refl in sym g ∙ h))
+]
+
+read_sound : (text : List ℕ) (e : Tree) → read text ≡ Ok e → Spells e text
+unfolding read
+read_sound text e h =
+    let t = told_ok (least_of None (map spot_fault (scan text))) (form_of text) e h in
+    let f = form_ok text e t.1 in
+    let a = all_none None (scan text) t.0 in
+    let line = subst (λ (s : List Spot). IsLine s text) (cleaned (scan text) a.1) (scan_sound text) in
+    (map spot_word (scan text), f.0, line, parse_sound (map spot_word (scan text)) e f.1)
+
+form_on : (text : List ℕ) (e : Tree) (ws : List Word) → length text ≤ 1024 → map spot_word (scan text) ≡ ws → parse ws ≡ Ok e → form_of text ≡ Ok e
+form_on text e ws le w p = let n : nat_lt 1024 (length text) ≡ false = le-ltb 1024 (length text) le in rw (n, w) p
+
+pub read_complete : (text : List ℕ) (e : Tree) → Spells e text → read text ≡ Ok e
+unfolding read
+read_complete text e s =
+    let a = scan_complete (map clean s.0) text s.2 in
+    let w : map spot_word (scan text) ≡ s.0 = ap (map spot_word) a ∙ words_clean s.0 in
+    let f : least_of None (map spot_fault (scan text)) ≡ None = ap (λ (l : List Spot). least_of None (map spot_fault l)) a ∙ faults_clean s.0 in
+    let p = form_on text e s.0 s.1 w (parse_complete s.0 e s.3) in
+    ap (λ (o : Option Fault). told_of o (form_of text)) f ∙ ap (told_of None) p
+
+pub spelled : (text : List ℕ) (r : Result Expr Refusal) → Gives tree_of r (read text) → IfOk r (λ e. Spells (tree_of e) text)
+spelled text (Ok e) g = read_sound text (tree_of e) g
+spelled text (Err e) g = tt
+
+pub only : (text : List ℕ) (r : Result Expr Refusal) → Gives tree_of r (read text) → (e : Tree) → Spells e text → Gives tree_of r (Ok e)
+only text (Ok x) g e s = sym (read_complete text e s) ∙ g
+only text (Err refusal.Memory) g e s = tt
+only text (Err (refusal.Fault f)) g e s = sym (read_complete text e s) ∙ g
+
+pub refused : (text : List ℕ) (r : Result Expr Refusal) → Gives tree_of r (read text) → OnFault r ((e : Tree) → Spells e text → ⊥)
+refused text (Ok x) g = tt
+refused text (Err refusal.Memory) g = tt
+refused text (Err (refusal.Fault f)) g = λ e s. (let h = sym (read_complete text e s) ∙ g in absurd cc)
+
+pub one_tree : (text : List ℕ) (a b : Tree) → Spells a text → Spells b text → a ≡ b
+one_tree text a b s t = let h = sym (read_complete text a s) ∙ read_complete text b t in cc

@@ -1,0 +1,9 @@
+pub mod Faults
+pub mod Functions
+pub mod Tree
+pub mod Word
+pub mod Lexicon
+pub mod Scanning
+pub mod Grammar
+pub mod Reading
+pub mod Spelling

@@ -1,0 +1,419 @@
+//! Cutting a line into words.
+
+ghost use Rattle.std.specs.Prelude.{◌≡◌, ◌≤◌, ◌<◌, ◌∷◌, ◌^◌, ◌+◌, ◌-◌, ◌==◌, ℕ, List, length, not, IfOk, option_map};
+ghost use Rattle.std.specs.Char.{is_ascii_digit};
+ghost use Rattle.std.specs.List.{prefix_len};
+ghost use Rattle.prg_expr.specs.Word.{word_of};
+ghost use Rattle.prg_expr.specs.Lexicon as lexicon;
+ghost use Rattle.prg_expr.specs.Scanning as spec;
+ghost use Rattle.prg_expr.specs.Scanning.{seen, IsScan, IsWordsOf};
+ghost use Rattle.prg_expr.specs.Lexicon.{Spot, IsLine};
+
+use crate::fault::{Fault, least};
+use crate::token::{Line, Token};
+use crate::tree::{MOST_LETTERS, MOST_TEXT, Operator};
+use std::alloc::{AllocError, Global};
+
+/// The most digits of a number.
+const MOST_DIGITS: usize = 19;
+
+/// The most digits of a number behind its point.
+const MOST_DECIMALS: usize = 15;
+
+/// One word, its fault if it has one, and the bytes behind it.
+#[derive(Clone, Copy)]
+pub(crate) struct Scanned<'a> {
+    token: Token<'a>,
+    fault: Option<Fault>,
+    rest: &'a [u8],
+}
+
+fn is_name(b: u8) -> bool
+    ensures { result ≡ lexicon.is_name b }
+{
+    b.is_ascii_alphanumeric() || b == b'_'
+}
+
+fn is_blank(b: u8) -> bool
+    ensures { result ≡ lexicon.is_blank b }
+{
+    b == b' ' || b == b'\t'
+}
+
+fn is_quote(b: u8) -> bool
+    ensures { result ≡ lexicon.is_quote b }
+{
+    b == b'\'' || b == b'"' || b == b'['
+}
+
+/// The mark that ends a text which this mark begins.
+fn closing(b: u8) -> u8
+    ensures { result ≡ lexicon.closing b }
+{
+    if b == b'[' { b']' } else { b }
+}
+
+fn digits_len(bytes: &[u8]) -> usize
+    ensures value { result ≡ prefix_len is_ascii_digit bytes.now }
+    ensures within { result ≤ length bytes.now }
+{
+    bytes.iter().take_while(|b| b.is_ascii_digit()).count()
+}
+
+fn name_len(bytes: &[u8]) -> usize
+    ensures value { result ≡ prefix_len lexicon.is_name bytes.now }
+    ensures within { result ≤ length bytes.now }
+{
+    bytes.iter().take_while(|b| is_name(**b)).count()
+}
+
+fn text_len(close: u8, bytes: &[u8]) -> usize
+    ensures value { result ≡ prefix_len (λ c. not (c == close)) bytes.now }
+    ensures within { result ≤ length bytes.now }
+{
+    bytes.iter().take_while(|b| **b != close).count()
+}
+
+/// TooLong, where there are more than so many.
+fn over(most: usize, count: usize) -> Option<Fault>
+    ensures { result ≡ lexicon.over most count }
+{
+    if most < count {
+        Some(Fault::TooLong)
+    } else {
+        None
+    }
+}
+
+/// How many digits stand behind the point that the bytes begin with: none where they begin with no point.
+#[tactic(auto, unfolding(crate::specs::Lexicon::decimals))]
+fn decimals(bytes: &[u8]) -> usize
+    ensures value { result ≡ lexicon.decimals bytes.now }
+    ensures within { result ≤ length bytes.now - 1 }
+{
+    let Some((b, digits)) = bytes.split_first() else {
+        return 0;
+    };
+    if *b == b'.' { digits_len(digits) } else { 0 }
+}
+
+/// The fault of a number of so many digits before and behind the point.
+fn number_fault(whole: usize, fraction: usize) -> Option<Fault>
+    requires before { whole < 2 ^ 63 }
+    requires behind { fraction < 2 ^ 63 }
+    ensures { result ≡ lexicon.number_fault whole fraction }
+{
+    if MOST_DECIMALS < fraction || MOST_DIGITS < whole + fraction {
+        Some(Fault::Number)
+    } else {
+        None
+    }
+}
+
+/// The number at the front.
+#[tactic(auto, unfolding(crate::specs::Scanning::number_at))]
+fn number_at<'a>(bytes: &'a [u8]) -> Scanned<'a>
+    ensures { seen result ≡ spec.number_at bytes.now }
+{
+    let whole = digits_len(bytes);
+    let fraction = decimals(&bytes[whole..]);
+    let len = if fraction == 0 {
+        whole
+    } else {
+        whole + (1 + fraction)
+    };
+    let (number, rest) = bytes.split_at(len);
+    Scanned {
+        token: Token::Number(number),
+        fault: number_fault(whole, fraction),
+        rest,
+    }
+}
+
+/// The name at the front.
+#[tactic(auto, unfolding(crate::specs::Scanning::name_at))]
+fn name_at<'a>(bytes: &'a [u8]) -> Scanned<'a>
+    ensures { seen result ≡ spec.name_at bytes.now }
+{
+    let len = name_len(bytes);
+    let (name, rest) = bytes.split_at(len);
+    Scanned {
+        token: Token::Name(name),
+        fault: over(MOST_LETTERS, len),
+        rest,
+    }
+}
+
+/// The text, if a mark that ends it follows.
+fn text_end<'a>(text: &'a [u8], rest: &'a [u8]) -> Scanned<'a>
+    ensures { seen result ≡ spec.text_end text.now rest.now }
+{
+    let Some((_, behind)) = rest.split_first() else {
+        return Scanned {
+            token: Token::Text(text),
+            fault: Some(Fault::Text),
+            rest,
+        };
+    };
+    Scanned {
+        token: Token::Text(text),
+        fault: over(MOST_TEXT, text.len()),
+        rest: behind,
+    }
+}
+
+/// The text in front of this mark.
+#[tactic(auto, unfolding(crate::specs::Scanning::text_at))]
+fn text_at<'a>(close: u8, bytes: &'a [u8]) -> Scanned<'a>
+    ensures { seen result ≡ spec.text_at close bytes.now }
+{
+    let len = text_len(close, bytes);
+    let (text, rest) = bytes.split_at(len);
+    text_end(text, rest)
+}
+
+/// What is behind these small letters, in capitals or not.
+#[tactic(auto, unfolding(crate::specs::Lexicon::after_word))]
+fn after_word<'a>(word: &[u8], bytes: &'a [u8]) -> Option<&'a [u8]>
+    ensures found { option_map (λ x. x.now) result ≡ lexicon.after_word word.now bytes.now }
+{
+    let Some((letter, letters)) = word.split_first() else {
+        return Some(bytes);
+    };
+    let Some((b, rest)) = bytes.split_first() else {
+        return None;
+    };
+    if b.to_ascii_lowercase() == *letter {
+        after_word(letters, rest)
+    } else {
+        None
+    }
+}
+
+/// The word between points whose first point stands before these bytes.
+fn pointed_at<'a>(bytes: &'a [u8]) -> Scanned<'a>
+    ensures { seen result ≡ spec.pick lexicon.pointed bytes.now }
+{
+    if let Some(rest) = after_word(b"t.", bytes) {
+        return Scanned {
+            token: Token::Logical(true),
+            fault: None,
+            rest,
+        };
+    }
+    if let Some(rest) = after_word(b"y.", bytes) {
+        return Scanned {
+            token: Token::Logical(true),
+            fault: None,
+            rest,
+        };
+    }
+    if let Some(rest) = after_word(b"f.", bytes) {
+        return Scanned {
+            token: Token::Logical(false),
+            fault: None,
+            rest,
+        };
+    }
+    if let Some(rest) = after_word(b"n.", bytes) {
+        return Scanned {
+            token: Token::Logical(false),
+            fault: None,
+            rest,
+        };
+    }
+    if let Some(rest) = after_word(b"not.", bytes) {
+        return Scanned {
+            token: Token::Not,
+            fault: None,
+            rest,
+        };
+    }
+    if let Some(rest) = after_word(b"and.", bytes) {
+        return Scanned {
+            token: Token::Operator(Operator::And),
+            fault: None,
+            rest,
+        };
+    }
+    if let Some(rest) = after_word(b"or.", bytes) {
+        return Scanned {
+            token: Token::Operator(Operator::Or),
+            fault: None,
+            rest,
+        };
+    }
+    Scanned {
+        token: Token::Point,
+        fault: None,
+        rest: bytes,
+    }
+}
+
+/// Whether a digit begins the bytes.
+fn digit_first(bytes: &[u8]) -> bool
+    ensures { result ≡ lexicon.digit_first bytes.now }
+{
+    match bytes {
+        [] => false,
+        [b, ..] => b.is_ascii_digit(),
+    }
+}
+
+/// The word of two bytes.
+fn pair_of<'a>(b: u8, c: u8) -> Option<Token<'a>>
+    ensures { option_map word_of result ≡ lexicon.pair_in lexicon.pairs b c }
+{
+    if b == b'-' && c == b'>' {
+        return Some(Token::Arrow);
+    }
+    if b == b'<' && c == b'>' {
+        return Some(Token::Operator(Operator::NotEqual));
+    }
+    if b == b'<' && c == b'=' {
+        return Some(Token::Operator(Operator::AtMost));
+    }
+    if b == b'>' && c == b'=' {
+        return Some(Token::Operator(Operator::AtLeast));
+    }
+    if b == b'?' && c == b'?' {
+        return Some(Token::ShowOn);
+    }
+    None
+}
+
+/// The word of one byte.
+fn single_of<'a>(b: u8) -> Option<Token<'a>>
+    ensures { option_map word_of result ≡ lexicon.single_in lexicon.singles b }
+{
+    match b {
+        b'(' => Some(Token::Open),
+        b')' => Some(Token::Close),
+        b'*' => Some(Token::Operator(Operator::Times)),
+        b'+' => Some(Token::Operator(Operator::Plus)),
+        b',' => Some(Token::Comma),
+        b'-' => Some(Token::Operator(Operator::Minus)),
+        b'/' => Some(Token::Operator(Operator::Over)),
+        b'<' => Some(Token::Operator(Operator::Less)),
+        b'=' => Some(Token::Operator(Operator::Equal)),
+        b'>' => Some(Token::Operator(Operator::Greater)),
+        b'#' => Some(Token::Operator(Operator::NotEqual)),
+        b'$' => Some(Token::Operator(Operator::Contains)),
+        b'?' => Some(Token::Show),
+        b'@' => Some(Token::At),
+        _ => None,
+    }
+}
+
+/// The word of one byte that isn't the first of two which are a word.
+#[tactic(auto, unfolding(crate::specs::Scanning::single_at))]
+fn single_at<'a>(b: u8, rest: &'a [u8]) -> Scanned<'a>
+    ensures { seen result ≡ spec.single_at b rest.now }
+{
+    if let Some(token) = single_of(b) {
+        return Scanned {
+            token,
+            fault: None,
+            rest,
+        };
+    }
+    if b == b'&' {
+        return Scanned {
+            token: Token::Macro,
+            fault: Some(Fault::Macro),
+            rest,
+        };
+    }
+    Scanned {
+        token: Token::Faulty,
+        fault: Some(Fault::Character),
+        rest,
+    }
+}
+
+/// The word of one byte or two.
+#[tactic(auto, unfolding(crate::specs::Scanning::symbol_at))]
+fn symbol_at<'a>(b: u8, rest: &'a [u8]) -> Scanned<'a>
+    ensures { seen result ≡ spec.symbol_at b rest.now }
+{
+    let Some((c, behind)) = rest.split_first() else {
+        return single_at(b, rest);
+    };
+    if let Some(token) = pair_of(b, *c) {
+        return Scanned {
+            token,
+            fault: None,
+            rest: behind,
+        };
+    }
+    single_at(b, rest)
+}
+
+/// The word at the front, whose first byte is `b`.
+#[tactic(auto, unfolding(crate::specs::Scanning::word_at))]
+fn word_at<'a>(b: u8, rest: &'a [u8], bytes: &'a [u8]) -> Scanned<'a>
+    requires { bytes.now ≡ b ∷ rest.now }
+    ensures { seen result ≡ spec.word_at b rest.now }
+{
+    if b.is_ascii_digit() {
+        number_at(bytes)
+    } else if b.is_ascii_alphabetic() {
+        name_at(bytes)
+    } else if b == b'.' {
+        if digit_first(rest) {
+            number_at(bytes)
+        } else {
+            pointed_at(rest)
+        }
+    } else if is_quote(b) {
+        text_at(closing(b), rest)
+    } else {
+        symbol_at(b, rest)
+    }
+}
+
+/// Whether a comment begins with `b`.
+fn is_comment(b: u8, rest: &[u8]) -> bool
+    ensures { result ≡ lexicon.is_comment b rest.now }
+{
+    match rest {
+        [] => false,
+        [c, ..] => b == b'&' && *c == b'&',
+    }
+}
+
+/// The words of a line, read from left to right.
+pub(crate) fn cut<'a>(alloc: Global, line: &'a [u8]) -> Result<Line<'a>, AllocError>
+    ensures { IfOk result (IsScan line.now) }
+{
+    let mut words = Vec::new(alloc);
+    let mut fault = None;
+    let mut rest = line;
+    while let Some((b, after)) = rest.split_first() {
+        if is_blank(*b) {
+            rest = after;
+        } else if is_comment(*b, after) {
+            return Ok(Line { words, fault });
+        } else {
+            let found = word_at(*b, after, rest);
+            words.push(found.token)?;
+            fault = least(fault, found.fault);
+            rest = found.rest;
+        }
+    }
+    Ok(Line { words, fault })
+}
+
+/// The words of a line and the least of their faults. A tab outside texts is a blank, and `&&` outside texts begins
+/// a comment, which isn't looked at. Only want of memory is refused.
+pub fn words<'a>(alloc: Global, line: &'a [u8]) -> Result<Line<'a>, AllocError>
+    // Each word stands for its bytes, in order, with blanks between, and the fault told is the least of theirs.
+    ensures { IfOk result (IsWordsOf line.now) }
+{
+    cut(alloc, line)
+}
+
+/// The bytes of a line are words in one way only.
+pub fn one_line()
+    ensures { (line : List ℕ) (a b : List Spot) → IsLine a line → IsLine b line → a ≡ b }
+{}

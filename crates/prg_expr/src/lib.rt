@@ -1,0 +1,22 @@
+//! The words of a line of a command file, and the expressions that they spell.
+#![tactic(auto)]
+
+mod fault;
+mod function;
+mod lexer;
+mod names;
+mod parser;
+mod reading;
+#[cfg(test)]
+mod tests;
+mod token;
+mod tree;
+
+pub use fault::{Fault, Refusal};
+pub use function::{Function, one_function};
+pub use lexer::{one_line, words};
+pub use names::{is_word, name_of};
+pub use parser::expression;
+pub use reading::{expr, one_tree};
+pub use token::{Line, Token};
+pub use tree::{Expr, MOST_LETTERS, MOST_TEXT, Name, Operator, Prefix, Text};

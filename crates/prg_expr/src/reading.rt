@@ -1,0 +1,62 @@
+//! Reading an expression from a text.
+
+ghost use Rattle.std.specs.Prelude.{◌≡◌, ℕ, List, IfOk, Ok, Result};
+ghost use Rattle.prg_expr.specs.declared.fault.Fault.{Fault as AnyFault};
+ghost use Rattle.prg_expr.specs.Tree.{Tree, tree_of};
+ghost use Rattle.prg_expr.specs.Spelling.{Spells, read, told_of, OnFault};
+ghost use Rattle.prg_expr.specs.Reading.{Gives};
+
+use crate::fault::{Fault, Refusal, least};
+use crate::lexer::cut;
+use crate::parser::parse;
+use crate::tree::Expr;
+use std::alloc::Global;
+
+/// The most bytes of a line.
+const MOST_LINE: usize = 1024;
+
+/// What was read, or the least of its fault and another.
+fn told(fault: Option<Fault>, form: Result<Expr, Refusal>) -> Result<Expr, Refusal>
+    ensures { (read : Result Tree AnyFault) → Gives tree_of form read → Gives tree_of result (told_of fault read) }
+{
+    match form {
+        Ok(tree) => match fault {
+            None => Ok(tree),
+            Some(fault) => Err(Refusal::Fault(fault)),
+        },
+        Err(Refusal::Memory) => Err(Refusal::Memory),
+        Err(Refusal::Fault(found)) => match least(fault, Some(found)) {
+            None => Err(Refusal::Fault(found)),
+            Some(fault) => Err(Refusal::Fault(fault)),
+        },
+    }
+}
+
+#[tactic(auto, unfolding(crate::specs::Spelling::read))]
+fn read_all(alloc: Global, text: &[u8]) -> Result<Expr, Refusal>
+    ensures { Gives tree_of result (read text.now) }
+{
+    let line = cut(alloc, text)?;
+    if MOST_LINE < text.len() {
+        return told(line.fault, Err(Refusal::Fault(Fault::TooLong)));
+    }
+    told(line.fault, parse(alloc, &line.words))
+}
+
+/// The expression that a text spells. Told is the least of the faults of its words and of its form; of a text of more
+/// than 1,024 bytes, which is too long, only the words are judged.
+pub fn expr(alloc: Global, text: &[u8]) -> Result<Expr, Refusal>
+    // What is answered is what the text spells.
+    ensures spelled { IfOk result (λ e. Spells (tree_of e) text.now) }
+    // What the text spells is answered, unless memory runs out.
+    ensures only { (e : Tree) → Spells e text.now → Gives tree_of result (Ok e) }
+    // A text is refused for another cause than memory only where it spells nothing.
+    ensures refused { OnFault result ((e : Tree) → Spells e text.now → ⊥) }
+{
+    read_all(alloc, text)
+}
+
+/// A text spells at most one tree.
+pub fn one_tree()
+    ensures { (text : List ℕ) (a b : Tree) → Spells a text → Spells b text → a ≡ b }
+{}

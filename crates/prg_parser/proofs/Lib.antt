@@ -1,0 +1,4 @@
+pub mod JoinLemmas
+pub mod LineLemmas
+pub mod RangeLemmas
+pub mod VerdictLemmas

@@ -1,0 +1,155 @@
+-- The line that a fault names is a line of the file.
+
+use Rattle.std.proofs.Common.{◌≡◌, ℕ, suc, ◌+◌, ◌-◌, ◌<◌, ◌≤◌, List, [], ◌∷◌, ◌++◌, Option, Some, None, Bool, true, false, length, get_or, map, refl, sym, ◌∙◌, ap, subst, arith}
+use Rattle.std.specs.Prelude.{slice_get, option_map, if◌then◌else◌}
+use Rattle.std.specs.List.{All}
+use Rattle.std.proofs.lemmas.Option.{slice_get_within, get_or_from_slice_get}
+use Rattle.std.proofs.lemmas.List.Elements.{All-nil, All-cons, All-head, All-tail, All-weaker, All-push, All-take, All-get_or, All-map, All-same}
+use Rattle.prg_parser.specs.declared.fault.FaultKind.{FaultKind}
+use Rattle.prg_parser.specs.declared.fault.ParseFault.{ParseFault}
+use Rattle.prg_parser.specs.declared.blocks.Part.{Part}
+use Rattle.prg_parser.specs.declared.blocks.Place.{Place}
+use Rattle.prg_parser.specs.declared.blocks.Place.TheVariants.{InThen, InElse, BeforeCases, InCase, InOtherwise, InWhile, InScan}
+use Rattle.prg_parser.specs.declared.blocks.Role.{Role}
+use Rattle.prg_parser.specs.declared.blocks.Role.TheVariants.{Nothing, Plain, Leap, Procedure, If, Else, EndIf, DoCase, Case, Otherwise, EndCase, DoWhile, EndDo, Scan, EndScan}
+use Rattle.prg_parser.specs.declared.judging.Mark.{Mark}
+use Rattle.prg_parser.specs.declared.lines.JoinedLine.{JoinedLine}
+use Rattle.prg_parser.specs.Lines as lines
+use Rattle.prg_parser.specs.Lines.{Joined}
+use Rattle.prg_parser.specs.Joined.{joined_of}
+use Rattle.prg_parser.specs.Verdict as spec
+use Rattle.prg_parser.specs.Verdict.{IsLineOf, verdict}
+use Rattle.prg_parser.specs.Blocks as blocks
+use Rattle.prg_parser.specs.Blocks.{parts_after}
+
+-- the numbers of joined lines
+
+abbrev Numbered : ℕ → ℕ → Joined → Type 0
+Numbered n count j = (n ≤ j.first) × (j.first < n + count)
+
+later : (n count : ℕ) (j : Joined) → Numbered (n + 1) count j → Numbered n (suc count) j
+later n count j h = (omega (arith, h.0), omega (arith, h.1))
+
+glued-in : (n count : ℕ) (front : List ℕ) (others : List Joined) → All (Numbered n (suc count)) others → All (Numbered n (suc count)) (lines.glue n front others)
+glued-in n count front [] h = All-cons (Numbered n (suc count)) (record { first = n; text = front }) [] (omega arith, omega arith) (All-nil (Numbered n (suc count)))
+glued-in n count front (next ∷ others) h = All-cons (Numbered n (suc count)) (record { first = n; text = front ++ next.text }) others (omega arith, omega arith) (All-tail (Numbered n (suc count)) next others h)
+
+step-in : (n count : ℕ) (line : List ℕ) (o : Option (List ℕ)) (others : List Joined) → All (Numbered n (suc count)) others → All (Numbered n (suc count)) (lines.join_to n line o others)
+step-in n count line None others h = All-cons (Numbered n (suc count)) (record { first = n; text = line }) others (omega arith, omega arith) h
+step-in n count line (Some front) others h = glued-in n count front others h
+
+joined-in : (n : ℕ) (ls : List (List ℕ)) → All (Numbered n (length ls)) (lines.joined n ls)
+unfolding lines.joined
+joined-in n [] = All-nil (Numbered n 0)
+joined-in n (line ∷ others) =
+    let count : length (line ∷ others) ≡ suc (length others) = omega arith in
+    subst (λ (c : ℕ). All (Numbered n c) (lines.join_to n line (lines.continued line) (lines.joined (n + 1) others))) (sym count)
+    (step-in n (length others) line (lines.continued line) (lines.joined (n + 1) others)
+    (All-weaker (Numbered (n + 1) (length others)) (Numbered n (suc (length others))) (later n (length others)) (lines.joined (n + 1) others) (joined-in (n + 1) others)))
+
+numbered-line : (count line : ℕ) → (1 ≤ line) × (line < 1 + count) → IsLineOf count line
+numbered-line count line h = (h.0, omega (arith, h.1))
+
+firsts : (ls : List JoinedLine) → map (λ (j : Joined). j.first) (map joined_of ls) ≡ map (λ (l : JoinedLine). l.first) ls
+firsts [] = refl
+firsts (l ∷ ls) = ap (λ (ns : List ℕ). l.first ∷ ns) (firsts ls)
+
+-- parts of blocks
+
+abbrev InFile : ℕ → List Part → Type 0
+InFile count parts = All (λ part. IsLineOf count part.line) parts
+
+found-in : (count : ℕ) (parts : List Part) (k : ℕ) (part : Part) → InFile count parts → slice_get parts k ≡ Some part → IsLineOf count part.line
+found-in count parts k part h e =
+    let same : get_or parts k part ≡ part = get_or_from_slice_get parts k part part e in
+    subst (λ (p : Part). IsLineOf count p.line) same (All-get_or (λ (p : Part). IsLineOf count p.line) parts k part (slice_get_within parts k part e) h)
+
+divided-in : (count : ℕ) (parts : List Part) (place : Place) (o : Option Part) → InFile count parts → slice_get parts (length parts - 1) ≡ o → InFile count (blocks.divide_at parts o place)
+divided-in count parts place None h e = h
+divided-in count parts place (Some part) h e =
+    All-push (λ (p : Part). IsLineOf count p.line) (blocks.outer parts) (record { place = place; line = part.line })
+    (All-take (λ (p : Part). IsLineOf count p.line) (length parts - 1) parts h) (found-in count parts (length parts - 1) part h e)
+
+outer-in : (count : ℕ) (parts : List Part) → InFile count parts → InFile count (blocks.outer parts)
+outer-in count parts h = All-take (λ (p : Part). IsLineOf count p.line) (length parts - 1) parts h
+
+opened-in : (count line : ℕ) (parts : List Part) (place : Place) → InFile count parts → IsLineOf count line → InFile count (blocks.open_in parts line (Some place))
+opened-in count line parts place h l = All-push (λ (p : Part). IsLineOf count p.line) parts (record { place = place; line = line }) h l
+
+after-in : (count line : ℕ) (parts : List Part) (role : Role) → InFile count parts → IsLineOf count line → InFile count (parts_after parts line role)
+unfolding parts_after
+after-in count line parts Nothing h l = h
+after-in count line parts Plain h l = h
+after-in count line parts Leap h l = h
+after-in count line parts Procedure h l = All-nil (λ (p : Part). IsLineOf count p.line)
+after-in count line parts If h l = opened-in count line parts InThen h l
+after-in count line parts Else h l = divided-in count parts InElse (slice_get parts (length parts - 1)) h refl
+after-in count line parts EndIf h l = outer-in count parts h
+after-in count line parts DoCase h l = opened-in count line parts BeforeCases h l
+after-in count line parts Case h l = divided-in count parts InCase (slice_get parts (length parts - 1)) h refl
+after-in count line parts Otherwise h l = divided-in count parts InOtherwise (slice_get parts (length parts - 1)) h refl
+after-in count line parts EndCase h l = outer-in count parts h
+after-in count line parts DoWhile h l = opened-in count line parts InWhile h l
+after-in count line parts EndDo h l = outer-in count parts h
+after-in count line parts Scan h l = opened-in count line parts InScan h l
+after-in count line parts EndScan h l = outer-in count parts h
+
+abbrev LineIn : ℕ → Option ℕ → Type 0
+LineIn count None = Unit {0}
+LineIn count (Some line) = IsLineOf count line
+
+abbrev FaultIn : ℕ → Option ParseFault → Type 0
+FaultIn count None = Unit {0}
+FaultIn count (Some fault) = IsLineOf count fault.line
+
+opening-in : (count : ℕ) (parts : List Part) (o : Option Part) → InFile count parts → slice_get parts 0 ≡ o → LineIn count (option_map (λ (part : Part). part.line) o)
+opening-in count parts None h e = tt
+opening-in count parts (Some part) h e = found-in count parts 0 part h e
+
+earlier-in : (count : ℕ) (a b : Option ℕ) → LineIn count a → LineIn count b → LineIn count (spec.earlier a b)
+earlier-in count None b h g = g
+earlier-in count (Some line) b h g = h
+
+unended-in : (count : ℕ) (parts : List Part) (unended : Option ℕ) (x : Bool) → InFile count parts → LineIn count unended → LineIn count (if x then spec.earlier unended (spec.opening_line parts) else unended)
+unended-in count parts unended true h u = earlier-in count unended (spec.opening_line parts) u (opening-in count parts (slice_get parts 0) h refl)
+unended-in count parts unended false h u = u
+
+block-in : (count : ℕ) (o : Option ℕ) → LineIn count o → FaultIn count (option_map spec.block_at o)
+block-in count None h = tt
+block-in count (Some line) h = h
+
+or-in : (count line : ℕ) (o : Option FaultKind) (others : Option ParseFault) → IsLineOf count line → FaultIn count others → FaultIn count (spec.or_else o line others)
+or-in count line None others l h = h
+or-in count line (Some kind) others l h = l
+
+verdict-in : (count : ℕ) (parts : List Part) (unended : Option ℕ) (marks : List Mark) → InFile count parts → LineIn count unended → All (λ mark. IsLineOf count mark.line) marks → FaultIn count (verdict parts unended marks)
+unfolding verdict
+verdict-in count parts unended [] h u m = block-in count (spec.earlier unended (spec.opening_line parts)) (earlier-in count unended (spec.opening_line parts) u (opening-in count parts (slice_get parts 0) h refl))
+verdict-in count parts unended (mark ∷ others) h u m =
+    let l : IsLineOf count mark.line = All-head (λ (x : Mark). IsLineOf count x.line) mark others m in
+    or-in count mark.line (spec.wrong parts mark) (verdict (parts_after parts mark.line mark.role) (spec.unended_after parts unended mark) others) l
+    (verdict-in count (parts_after parts mark.line mark.role) (spec.unended_after parts unended mark) others
+    (after-in count mark.line parts mark.role h l)
+    (unended-in count parts unended (blocks.is_procedure mark.role) h u)
+    (All-tail (λ (x : Mark). IsLineOf count x.line) mark others m))
+
+-- from a list of numbers to the elements that they are of
+by_number : {X : Type 0} (P : ℕ → Type 0) (f : X → ℕ) (xs : List X) → All P (map f xs) → All (λ x. P (f x)) xs
+by_number P f [] h = All-nil (λ x. P (f x))
+by_number P f (x ∷ xs) h = All-cons (λ x. P (f x)) x xs (All-head P (f x) (map f xs) h) (by_number P f xs (All-tail P (f x) (map f xs) h))
+
+pub names_line : (bytes : List ℕ) (ls : List JoinedLine) (marks : List Mark) (fault : ParseFault)
+    → map joined_of ls ≡ lines.joined_lines bytes
+    → map (λ (m : Mark). m.line) marks ≡ map (λ (l : JoinedLine). l.first) ls
+    → verdict [] None marks ≡ Some fault
+    → IsLineOf (length (lines.lines (lines.before_end bytes))) fault.line
+names_line bytes ls marks fault j m v =
+    let count = length (lines.lines (lines.before_end bytes)) in
+    let all : All (λ (x : Joined). IsLineOf count x.first) (lines.joined_lines bytes) =
+    All-weaker (Numbered 1 count) (λ (x : Joined). IsLineOf count x.first) (λ x h. numbered-line count x.first h) (lines.joined_lines bytes) (joined-in 1 (lines.lines (lines.before_end bytes))) in
+    let numbers : All (IsLineOf count) (map (λ (x : Joined). x.first) (lines.joined_lines bytes)) = All-map (IsLineOf count) (λ (x : Joined). x.first) (lines.joined_lines bytes) all in
+    let same : map (λ (x : Mark). x.line) marks ≡ map (λ (x : Joined). x.first) (lines.joined_lines bytes) =
+    m ∙ sym (firsts ls) ∙ ap (map (λ (x : Joined). x.first)) j in
+    let marked : All (λ (x : Mark). IsLineOf count x.line) marks =
+    by_number (IsLineOf count) (λ (x : Mark). x.line) marks (All-same (IsLineOf count) (map (λ (x : Mark). x.line) marks) (map (λ (x : Joined). x.first) (lines.joined_lines bytes)) same numbers) in
+    subst (λ (o : Option ParseFault). FaultIn count o) v (verdict-in count [] None marks (All-nil (λ (p : Part). IsLineOf count p.line)) tt marked)

@@ -1,0 +1,5 @@
+pub mod Blocks
+pub mod Joined
+pub mod Kinds
+pub mod Lines
+pub mod Verdict

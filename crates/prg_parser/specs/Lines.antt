@@ -1,0 +1,73 @@
+-- The lines of a command file, and how they are joined.
+
+use Rattle.std.specs.Prelude.{ℕ, ◌+◌, ◌==◌, ◌&&◌, ◌||◌, not, Bool, false, List, [], ◌∷◌, ◌++◌, take, reverse, Option, Some, None, if◌then◌else◌}
+use Rattle.std.specs.List.{prefix_len}
+
+-- hex 1A ends the file: the bytes before the first one
+abbrev pub before_end : List ℕ → List ℕ
+before_end bytes = take (prefix_len (λ b. not (b == 26)) bytes) bytes
+
+abbrev pub begins_with_line_end : List ℕ → Bool
+begins_with_line_end [] = false
+begins_with_line_end (b ∷ rest) = b == 10
+
+-- a byte put in front of the first line
+abbrev pub put_in_front : ℕ → List (List ℕ) → List (List ℕ)
+put_in_front b [] = (b ∷ []) ∷ []
+put_in_front b (line ∷ others) = (b ∷ line) ∷ others
+
+-- the lines of a text: hex 0A ends a line, and a return just before it is no part of the line; nothing follows the last line end
+unfoldable pub lines : List ℕ → List (List ℕ)
+lines [] = []
+lines (b ∷ rest) =
+    if b == 10 then [] ∷ lines rest
+    else if b == 13 && begins_with_line_end rest then lines rest
+    else put_in_front b (lines rest)
+
+-- a line, seen from its end as well, without a return as its last byte
+abbrev pub strip_return : List ℕ → List ℕ → List ℕ
+strip_return line [] = line
+strip_return line (last ∷ others) = if last == 13 then reverse others else line
+
+unfoldable pub without_return : List ℕ → List ℕ
+without_return line = strip_return line (reverse line)
+
+abbrev pub is_blank : ℕ → Bool
+is_blank b = b == 32 || b == 9
+
+-- a text without the blanks and tabs in front
+unfoldable pub without_blanks : List ℕ → List ℕ
+without_blanks [] = []
+without_blanks (b ∷ rest) = if is_blank b then without_blanks rest else b ∷ rest
+
+-- what follows a semicolon in front, in the order from the end
+abbrev pub behind_semicolon : List ℕ → Option (List ℕ)
+behind_semicolon [] = None
+behind_semicolon (b ∷ rest) = if b == 59 then Some (reverse rest) else None
+
+-- what stands before the semicolon that is a line's last byte but blanks
+unfoldable pub continued : List ℕ → Option (List ℕ)
+continued line = behind_semicolon (without_blanks (reverse line))
+
+-- a joined line: the number of its first line, and its bytes
+pub record Joined : Type 0 where
+  pub first : ℕ
+  pub text : List ℕ
+
+-- a continued line put in front of what is joined behind it; behind the file's last line nothing is
+abbrev pub glue : ℕ → List ℕ → List Joined → List Joined
+glue n front [] = (record { first = n; text = front }) ∷ []
+glue n front (next ∷ others) = (record { first = n; text = front ++ next.text }) ∷ others
+
+abbrev pub join_to : ℕ → List ℕ → Option (List ℕ) → List Joined → List Joined
+join_to n line None others = (record { first = n; text = line }) ∷ others
+join_to n line (Some front) others = glue n front others
+
+-- lines, the first of which has the number n, each joined with those that continue it
+unfoldable pub joined : ℕ → List (List ℕ) → List Joined
+joined n [] = []
+joined n (line ∷ others) = join_to n line (continued line) (joined (n + 1) others)
+
+-- the joined lines of a file
+abbrev pub joined_lines : List ℕ → List Joined
+joined_lines bytes = joined 1 (lines (before_end bytes))

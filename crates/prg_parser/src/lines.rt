@@ -1,0 +1,150 @@
+//! Lines of a command file, and how they are joined.
+
+ghost use Rattle.std.specs.Prelude.{◌≡◌, ◌+◌, ◌<◌, ◌≤◌, ◌^◌, ◌==◌, ◌∷◌, not, length, map, reverse, option_map, IfOk};
+ghost use Rattle.std.specs.List.{prefix_len};
+ghost use Rattle.prg_parser.specs.Lines as spec;
+ghost use Rattle.prg_parser.specs.Joined.{joined_of};
+
+use std::alloc::{AllocError, Global};
+
+/// The byte that ends a file.
+const END_OF_FILE: u8 = 0x1a;
+
+/// A line of a command file with those that continue it.
+#[derive(Debug, Drop)]
+pub struct JoinedLine {
+    /// The number of its first line in the file, from 1.
+    pub first: usize,
+    /// Its bytes without line ends and without the `;` that continue it.
+    pub text: Vec<u8>,
+}
+
+/// How many bytes come before the one that ends the file.
+fn text_length(bytes: &[u8]) -> usize
+    ensures value { result ≡ prefix_len (λ b. not (b == 26)) bytes.now }
+    ensures within { result ≤ length bytes.now }
+{
+    bytes
+        .iter()
+        .take_while(|byte| **byte != END_OF_FILE)
+        .count()
+}
+
+/// The bytes before the one that ends the file.
+fn before_end(bytes: &[u8]) -> &[u8]
+    ensures { result.now ≡ spec.before_end bytes.now }
+{
+    &bytes[..text_length(bytes)]
+}
+
+/// The line without a return at its end.
+#[tactic(auto, unfolding(crate::specs::Lines::without_return))]
+fn without_return(line: &[u8]) -> &[u8]
+    ensures { result.now ≡ spec.without_return line.now }
+{
+    match line {
+        [text @ .., b'\r'] => text,
+        _ => line,
+    }
+}
+
+/// How many bytes come before the first line end.
+fn line_length(bytes: &[u8]) -> usize
+    ensures value { result ≡ prefix_len (λ b. not (b == 10)) bytes.now }
+    ensures within { result ≤ length bytes.now }
+{
+    bytes.iter().take_while(|byte| **byte != b'\n').count()
+}
+
+/// The first line, and the bytes behind its end.
+fn first_line(bytes: &[u8]) -> (&[u8], &[u8])
+    requires { 0 < length bytes.now }
+    ensures first { spec.lines bytes.now ≡ result.0.now ∷ spec.lines result.1.now }
+    ensures shorter { length result.1.now < length bytes.now }
+{
+    let (text, rest) = bytes.split_at(line_length(bytes));
+    match rest {
+        [] => (text, rest),
+        [_, behind @ ..] => (without_return(text), behind),
+    }
+}
+
+/// The line without the blanks and tabs at its end.
+#[tactic(auto, unfolding(crate::specs::Lines::without_blanks))]
+fn without_last_blanks(line: &[u8]) -> &[u8]
+    ensures { reverse result.now ≡ spec.without_blanks (reverse line.now) }
+{
+    let mut text = line;
+    while let [others @ .., b' ' | b'\t'] = text {
+        text = others;
+    }
+    text
+}
+
+/// What stands before the `;` that continues the line, if one does.
+#[tactic(auto, unfolding(crate::specs::Lines::continued))]
+fn continued(line: &[u8]) -> Option<&[u8]>
+    ensures { option_map (λ text. text.now) result ≡ spec.continued line.now }
+{
+    match without_last_blanks(line) {
+        [text @ .., b';'] => Some(text),
+        _ => None,
+    }
+}
+
+/// A joined line, the number of the line behind it, and the bytes behind it.
+#[derive(Debug, Drop)]
+struct Joining<'a> {
+    joined: JoinedLine,
+    line: usize,
+    rest: &'a [u8],
+}
+
+/// The first line, whose number is `first`, joined with those that continue it.
+fn join_line<'a>(alloc: Global, first: usize, bytes: &'a [u8]) -> Result<Joining<'a>, AllocError>
+    requires some { 0 < length bytes.now }
+    requires room { first + length bytes.now ≤ 2 ^ 63 }
+    ensures joined { IfOk result (λ found. spec.joined first (spec.lines bytes.now) ≡ joined_of found.joined ∷ spec.joined found.line (spec.lines found.rest.now)) }
+    ensures shorter { IfOk result (λ found. length found.rest.now < length bytes.now) }
+    ensures numbered { IfOk result (λ found. found.line + length found.rest.now ≤ first + length bytes.now) }
+{
+    let mut text = Vec::new(alloc);
+    let mut line = first;
+    let mut rest = bytes;
+    while !rest.is_empty() {
+        let (found, others) = first_line(rest);
+        line += 1;
+        rest = others;
+        let Some(front) = continued(found) else {
+            text.extend_from_slice(found)?;
+            return Ok(Joining {
+                joined: JoinedLine { first, text },
+                line,
+                rest,
+            });
+        };
+        text.extend_from_slice(front)?;
+    }
+    Ok(Joining {
+        joined: JoinedLine { first, text },
+        line,
+        rest,
+    })
+}
+
+/// The lines of a file, each joined with those that continue it.
+pub fn joined_lines(alloc: Global, bytes: &[u8]) -> Result<Vec<JoinedLine>, AllocError>
+    // They are what the definition makes of the whole file.
+    ensures { IfOk result (λ joined. map joined_of joined.items ≡ spec.joined_lines bytes.now) }
+{
+    let mut rest = before_end(bytes);
+    let mut joined = Vec::new(alloc);
+    let mut line = 1;
+    while !rest.is_empty() {
+        let found = join_line(alloc, line, rest)?;
+        joined.push(found.joined)?;
+        line = found.line;
+        rest = found.rest;
+    }
+    Ok(joined)
+}
