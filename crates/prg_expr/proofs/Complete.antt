@@ -1,5 +1,5 @@
 -- What the grammar has, reading finds.
-use Rattle.std.proofs.Common.{◌≡◌, ◌≢◌, ℕ, zero, suc, ◌<◌, ◌⊎◌, inl, inr, List, [], ◌∷◌, ◌++◌, length, true, Some, Ok, Err, refl, sym, ap, ◌∙◌, subst, arith, append_assoc, length-append}
+use Rattle.std.proofs.Common.{◌≡◌, ◌≢◌, ℕ, zero, suc, ◌<◌, ◌⊎◌, inl, inr, List, [], ◌∷◌, ◌++◌, length, take, true, Some, Ok, Err, refl, sym, ap, ◌∙◌, subst, arith, append_assoc, length-append}
 use Rattle.std.proofs.lemmas.List.{append-nil}
 use Rattle.prg_expr.specs.declared.fault.Fault.{Fault}
 use Rattle.prg_expr.specs.declared.function.Function.{Function}
@@ -150,7 +150,7 @@ opens d r s f ws i = rw i refl
 pub bare_calls : (d : ℕ) (s : List ℕ) (f : Function) (rest : List Word) → function_named s ≡ Some f → takes f 0 ≡ true → named (suc d) (inside (suc d)) s (word.Open ∷ word.Close ∷ rest) ≡ Ok (tree.Call f tree.None, rest)
 bare_calls d s f rest i t = opens (suc d) (inside (suc d)) s f (word.Close ∷ rest) i ∙ bare d (inside (suc d)) f rest ∙ call_on f tree.None rest t
 
-pub joins : (d : ℕ) (r : Reader) (a s : List ℕ) (rest : List Word) → named d r a (word.Arrow ∷ word.Name s ∷ rest) ≡ Ok (tree.Qualified a s, rest)
+pub joins : (d : ℕ) (r : Reader) (a s : List ℕ) (rest : List Word) → named d r a (word.Arrow ∷ word.Name s ∷ rest) ≡ Ok (tree.Qualified (take 10 a) (take 10 s), rest)
 unfolding named qualified_at
 joins d r a s rest = refl
 

@@ -1,5 +1,7 @@
--- The equations of `tree_of`, one for each variant.
-use Rattle.std.proofs.Common.{◌≡◌, ℕ, suc, List, [], ◌∷◌, length, Bool, Vec, Box, Global, refl, sym, ap, ◌∙◌}
+-- The equations of `tree_of`, one for each variant, and of a name that is cut.
+use Rattle.std.proofs.Common.{◌≡◌, ℕ, suc, List, [], ◌∷◌, length, take, map, Bool, Vec, Box, Global, refl, sym, ap, ◌∙◌}
+use Rattle.std.specs.Char.{to_ascii_uppercase}
+use Rattle.std.proofs.lemmas.List.{take-map}
 use Rattle.arrayvec.specs.ArrayVec.{ArrayVec}
 use Rattle.fixed_num.specs.Number.{Number as Decimal}
 use Rattle.prg_expr.specs.Tree.{Tree, tree_of, node_tree, trees_of, count}
@@ -39,3 +41,6 @@ count_trees [] = refl
 count_trees (e ∷ es) = ap suc (count_trees es)
 
 pub ruleset tree_equations = (tree_logical, tree_number, tree_text, tree_name, tree_qualified, tree_call, tree_prefixed, tree_binary)
+
+pub capitals_cut : (n : ℕ) (s : List ℕ) → take n (map to_ascii_uppercase s) ≡ map to_ascii_uppercase (take n s)
+capitals_cut n s = take-map to_ascii_uppercase n s

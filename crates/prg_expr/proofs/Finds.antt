@@ -54,11 +54,11 @@ decimal_read digits behind rest e p f s =
     (drop_over digits (46 ∷ (behind ++ rest)) (1 + k) (n + (1 + k)) refl ∙ drop_over (46 ∷ []) (behind ++ rest) k (1 + k) (omega arith) ∙ drop-append_seam behind rest)
 
 -- names
-name_is : (n : ℕ) (bytes front rest : List ℕ) → prefix_len is_name bytes ≡ n → take n bytes ≡ front → drop n bytes ≡ rest → name_at bytes ≡ found (Name (map to_ascii_uppercase (take 10 front))) (over 10 n) rest
+name_is : (n : ℕ) (bytes front rest : List ℕ) → prefix_len is_name bytes ≡ n → take n bytes ≡ front → drop n bytes ≡ rest → name_at bytes ≡ found (Name (map to_ascii_uppercase front)) (over 10 n) rest
 unfolding name_at
 name_is n bytes front rest p t d = rw (p, t, d) refl
 
-pub name_read : (letters rest : List ℕ) → Each is_name letters → Stops is_name rest → name_at (letters ++ rest) ≡ found (Name (map to_ascii_uppercase (take 10 letters))) (over 10 (length letters)) rest
+pub name_read : (letters rest : List ℕ) → Each is_name letters → Stops is_name rest → name_at (letters ++ rest) ≡ found (Name (map to_ascii_uppercase letters)) (over 10 (length letters)) rest
 name_read letters rest e s = name_is (length letters) (letters ++ rest) letters rest (prefix_is is_name letters rest e s) (take-append_seam letters rest) (drop-append_seam letters rest)
 
 -- texts

@@ -1,5 +1,5 @@
 -- What reading does at words that the grammar has.
-use Rattle.std.proofs.Common.{◌≡◌, ◌≢◌, ℕ, suc, ◌≤◌, ◌⊎◌, inl, inr, List, [], ◌∷◌, ◌++◌, length, true, false, Option, Some, None, Ok, refl, sym, ap, ◌∙◌, subst, arith, eq-eqb, eqb}
+use Rattle.std.proofs.Common.{◌≡◌, ◌≢◌, ℕ, suc, ◌≤◌, ◌⊎◌, inl, inr, List, [], ◌∷◌, ◌++◌, length, take, true, false, Option, Some, None, Ok, refl, sym, ap, ◌∙◌, subst, arith, eq-eqb, eqb}
 use Rattle.std.specs.Prelude.{◌==◌, if◌then◌else◌}
 use Rattle.std.proofs.lemmas.Bool.{ne_eqb}
 use Rattle.std.proofs.lemmas.Bool.Decides.{eqb_tells}
@@ -221,7 +221,7 @@ called_unclosed d r f (word.Open ∷ ws) p = refl
 called_unclosed d r f (word.Comma ∷ ws) p = refl
 called_unclosed d r f (word.Outside mk ∷ ws) p = refl
 
-pub named_free : (d : ℕ) (r : Reader) (s : List ℕ) (l : ℕ) (ws : List Word) → Free l ws → named d r s ws ≡ Ok (tree.Name s, ws)
+pub named_free : (d : ℕ) (r : Reader) (s : List ℕ) (l : ℕ) (ws : List Word) → Free l ws → named d r s ws ≡ Ok (tree.Name (take 10 s), ws)
 unfolding named
 named_free d r s l (word.Open ∷ ws) f = absurd f
 named_free d r s l (word.Arrow ∷ ws) f = absurd f

@@ -1,5 +1,5 @@
 -- Reading goes as far as an expression can.
-use Rattle.std.proofs.Common.{◌≡◌, ℕ, zero, suc, ◌≤◌, inl, inr, List, ◌∷◌, ◌++◌, length, Some, Result, Ok, Err, refl, sym, ap, ◌∙◌, subst, arith, append_assoc, length-append}
+use Rattle.std.proofs.Common.{◌≡◌, ℕ, zero, suc, ◌≤◌, inl, inr, List, ◌∷◌, ◌++◌, length, take, Some, Result, Ok, Err, refl, sym, ap, ◌∙◌, subst, arith, append_assoc, length-append}
 use Rattle.std.specs.Prelude.{IfOk}
 use Rattle.prg_expr.specs.declared.fault.Refusal.{Refusal}
 use Rattle.prg_expr.specs.declared.tree.Operator.{Operator}
@@ -147,7 +147,7 @@ goes (number {d} {n}) tail = one_word d (word.Number n) tail
 goes (text {d} {s}) tail = one_word d (word.Text s) tail
 goes (logical {d} {b}) tail = one_word d (word.Logical b) tail
 goes (name {d} {s}) tail = one_word d (word.Name s) tail
-goes (qualified {d} {a} {s}) tail = exactly _ (tree.Qualified a s) tail (named_at d a _ ∙ joins d (inside d) a s tail)
+goes (qualified {d} {a} {s}) tail = exactly _ (tree.Qualified (take 10 a) (take 10 s)) tail (named_at d a _ ∙ joins d (inside d) a s tail)
 goes (called_bare {d} {s} {f = g} i t) tail = exactly _ (tree.Call g tree.None) tail (named_at (suc d) s _ ∙ bare_calls d s g tail i t)
 goes (called {d} {s} {f = g} {es} {ws} i t a) tail =
     exactly _ (tree.Call g es) tail (named_at (suc d) s _ ∙ calls d s g es ws tail i t (unclosed_all a) (lists a tail _ (omega (arith, length-append ws (word.Close ∷ tail)))))

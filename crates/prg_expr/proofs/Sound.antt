@@ -1,5 +1,5 @@
 -- What reading finds, the grammar has.
-use Rattle.std.proofs.Common.{◌≡◌, ◌≢◌, ℕ, zero, suc, ◌<◌, ◌⊎◌, inl, inr, List, [], ◌∷◌, ◌++◌, length, Bool, true, false, Option, Some, None, Result, Ok, Err, refl, sym, ap, ◌∙◌, subst, arith, append_assoc, length-append, eqb}
+use Rattle.std.proofs.Common.{◌≡◌, ◌≢◌, ℕ, zero, suc, ◌<◌, ◌⊎◌, inl, inr, List, [], ◌∷◌, ◌++◌, length, take, Bool, true, false, Option, Some, None, Result, Ok, Err, refl, sym, ap, ◌∙◌, subst, arith, append_assoc, length-append, eqb}
 use Rattle.std.proofs.lemmas.List.{append-nil}
 use Rattle.std.proofs.lemmas.Bool.Decides.{eqb_tells}
 use Rattle.std.proofs.lemmas.Bool.{ne_eqb}
@@ -276,7 +276,7 @@ called_takes (suc d) r ins s f i (word.Outside mk ∷ ws) x h = call_takes (suc 
 
 qualified_takes : (d : ℕ) (a : List ℕ) (ws : List Word) (x : Tree × List Word) → qualified_at a ws ≡ Ok x → Takes d 0 (word.Name a ∷ word.Arrow ∷ ws) x
 unfolding qualified_at
-qualified_takes d a (word.Name t ∷ ws) x h = taken (tree.Qualified a t) (word.Name a ∷ word.Arrow ∷ word.Name t ∷ []) ws _ x qualified refl h
+qualified_takes d a (word.Name t ∷ ws) x h = taken (tree.Qualified (take 10 a) (take 10 t)) (word.Name a ∷ word.Arrow ∷ word.Name t ∷ []) ws _ x qualified refl h
 qualified_takes d a [] x h = absurd cc
 qualified_takes d a (word.Number n ∷ ws) x h = absurd cc
 qualified_takes d a (word.Text t ∷ ws) x h = absurd cc
@@ -296,16 +296,16 @@ named_takes d r ins s (word.Open ∷ ws) x h = elim (option_tells (function_name
   | inr f ↦ called_takes d r ins s f.0 f.1 ws x (sym (rw f.1 refl) ∙ h)
 ]
 named_takes d r ins s (word.Arrow ∷ ws) x h = qualified_takes d s ws x h
-named_takes d r ins s [] x h = taken (tree.Name s) (word.Name s ∷ []) [] _ x name refl h
-named_takes d r ins s (word.Number n ∷ ws) x h = taken (tree.Name s) (word.Name s ∷ []) (word.Number n ∷ ws) _ x name refl h
-named_takes d r ins s (word.Text t ∷ ws) x h = taken (tree.Name s) (word.Name s ∷ []) (word.Text t ∷ ws) _ x name refl h
-named_takes d r ins s (word.Logical b ∷ ws) x h = taken (tree.Name s) (word.Name s ∷ []) (word.Logical b ∷ ws) _ x name refl h
-named_takes d r ins s (word.Name t ∷ ws) x h = taken (tree.Name s) (word.Name s ∷ []) (word.Name t ∷ ws) _ x name refl h
-named_takes d r ins s (word.Not ∷ ws) x h = taken (tree.Name s) (word.Name s ∷ []) (word.Not ∷ ws) _ x name refl h
-named_takes d r ins s (word.Sign o ∷ ws) x h = taken (tree.Name s) (word.Name s ∷ []) (word.Sign o ∷ ws) _ x name refl h
-named_takes d r ins s (word.Close ∷ ws) x h = taken (tree.Name s) (word.Name s ∷ []) (word.Close ∷ ws) _ x name refl h
-named_takes d r ins s (word.Comma ∷ ws) x h = taken (tree.Name s) (word.Name s ∷ []) (word.Comma ∷ ws) _ x name refl h
-named_takes d r ins s (word.Outside mk ∷ ws) x h = taken (tree.Name s) (word.Name s ∷ []) (word.Outside mk ∷ ws) _ x name refl h
+named_takes d r ins s [] x h = taken (tree.Name (take 10 s)) (word.Name s ∷ []) [] _ x name refl h
+named_takes d r ins s (word.Number n ∷ ws) x h = taken (tree.Name (take 10 s)) (word.Name s ∷ []) (word.Number n ∷ ws) _ x name refl h
+named_takes d r ins s (word.Text t ∷ ws) x h = taken (tree.Name (take 10 s)) (word.Name s ∷ []) (word.Text t ∷ ws) _ x name refl h
+named_takes d r ins s (word.Logical b ∷ ws) x h = taken (tree.Name (take 10 s)) (word.Name s ∷ []) (word.Logical b ∷ ws) _ x name refl h
+named_takes d r ins s (word.Name t ∷ ws) x h = taken (tree.Name (take 10 s)) (word.Name s ∷ []) (word.Name t ∷ ws) _ x name refl h
+named_takes d r ins s (word.Not ∷ ws) x h = taken (tree.Name (take 10 s)) (word.Name s ∷ []) (word.Not ∷ ws) _ x name refl h
+named_takes d r ins s (word.Sign o ∷ ws) x h = taken (tree.Name (take 10 s)) (word.Name s ∷ []) (word.Sign o ∷ ws) _ x name refl h
+named_takes d r ins s (word.Close ∷ ws) x h = taken (tree.Name (take 10 s)) (word.Name s ∷ []) (word.Close ∷ ws) _ x name refl h
+named_takes d r ins s (word.Comma ∷ ws) x h = taken (tree.Name (take 10 s)) (word.Name s ∷ []) (word.Comma ∷ ws) _ x name refl h
+named_takes d r ins s (word.Outside mk ∷ ws) x h = taken (tree.Name (take 10 s)) (word.Name s ∷ []) (word.Outside mk ∷ ws) _ x name refl h
 
 operand_takes : (d : ℕ) (r : Reader) → IsInside d r → (ws : List Word) (x : Tree × List Word) → operand d r ws ≡ Ok x → Takes d 0 ws x
 unfolding operand

@@ -1,6 +1,6 @@
 -- The grammar of expressions on words, by levels from the tightest: 0 an operand, 1 signs, 2 a product, 3 a sum,
 -- 4 a comparison, 5 a negation, 6 a conjunction, 7 a disjunction.
-use Rattle.std.specs.Prelude.{◌≡◌, ◌≢◌, ◌<◌, ℕ, suc, List, [], ◌∷◌, ◌++◌, Bool, true, Option, Some, None}
+use Rattle.std.specs.Prelude.{◌≡◌, ◌≢◌, ◌<◌, ℕ, suc, List, [], ◌∷◌, ◌++◌, take, Bool, true, Option, Some, None}
 use Rattle.fixed_num.specs.Number.{Number as Decimal}
 use Rattle.prg_expr.specs.declared.tree.Operator.{Operator}
 use Rattle.prg_expr.specs.declared.tree.Operator.TheVariants.{Or, And, Equal, NotEqual, Less, Greater, AtMost, AtLeast, Contains, Plus, Minus, Times, Over}
@@ -49,9 +49,10 @@ mutual
     number : {d : ℕ} {n : Decimal} → Stands d 0 (tree.Number n) (word.Number n ∷ [])
     text : {d : ℕ} {s : List ℕ} → Stands d 0 (tree.Text s) (word.Text s ∷ [])
     logical : {d : ℕ} {b : Bool} → Stands d 0 (tree.Logical b) (word.Logical b ∷ [])
-    name : {d : ℕ} {s : List ℕ} → Stands d 0 (tree.Name s) (word.Name s ∷ [])
+    -- of a name the tree holds ten letters
+    name : {d : ℕ} {s : List ℕ} → Stands d 0 (tree.Name (take 10 s)) (word.Name s ∷ [])
     -- an alias and a name
-    qualified : {d : ℕ} {a s : List ℕ} → Stands d 0 (tree.Qualified a s) (word.Name a ∷ word.Arrow ∷ word.Name s ∷ [])
+    qualified : {d : ℕ} {a s : List ℕ} → Stands d 0 (tree.Qualified (take 10 a) (take 10 s)) (word.Name a ∷ word.Arrow ∷ word.Name s ∷ [])
     parentheses : {d : ℕ} {e : Tree} {ws : List Word} → Stands d 7 e ws → Stands (suc d) 0 e (word.Open ∷ (ws ++ word.Close ∷ []))
     -- what stands at a level stands at the next looser one
     looser : {d l : ℕ} {e : Tree} {ws : List Word} → Stands d l e ws → Stands d (suc l) e ws

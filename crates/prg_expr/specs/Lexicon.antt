@@ -116,7 +116,7 @@ pub data IsWord : Word → Option Fault → List ℕ → List ℕ → Type 0 whe
   decimal : (digits behind : List ℕ) {rest : List ℕ} → Each is_ascii_digit digits → 0 < length behind → Each is_ascii_digit behind → Stops is_ascii_digit rest
       → IsWord (Number (parsed (digits ++ 46 ∷ behind))) (number_fault (length digits) (length behind)) (digits ++ 46 ∷ behind) rest
   name : {b : ℕ} {others rest : List ℕ} → is_ascii_alphabetic b ≡ true → Each is_name others → Stops is_name rest
-      → IsWord (Name (map to_ascii_uppercase (take 10 (b ∷ others)))) (over 10 (length (b ∷ others))) (b ∷ others) rest
+      → IsWord (Name (map to_ascii_uppercase (b ∷ others))) (over 10 (length (b ∷ others))) (b ∷ others) rest
   -- A text ends at the first mark of its own kind.
   text : {b : ℕ} (s : List ℕ) {rest : List ℕ} → is_quote b ≡ true → Each (λ c. not (c == closing b)) s → IsWord (Text (take 254 s)) (over 254 (length s)) (b ∷ (s ++ closing b ∷ [])) rest
   unended : {b : ℕ} {s : List ℕ} → is_quote b ≡ true → Each (λ c. not (c == closing b)) s → IsWord (Text (take 254 s)) (Some fault.Text) (b ∷ s) []

@@ -1,5 +1,5 @@
 -- Reading words from left to right.
-use Rattle.std.specs.Prelude.{◌≡◌, ℕ, zero, suc, List, [], ◌∷◌, length, Option, Some, None, Bool, true, false, Result, Ok, Err, ◌==◌, if◌then◌else◌}
+use Rattle.std.specs.Prelude.{◌≡◌, ℕ, zero, suc, List, [], ◌∷◌, length, take, Option, Some, None, Bool, true, false, Result, Ok, Err, ◌==◌, if◌then◌else◌}
 use Rattle.prg_expr.specs.declared.fault.Fault.{Fault}
 use Rattle.prg_expr.specs.declared.fault.Fault.TheVariants as fault
 use Rattle.prg_expr.specs.declared.fault.Refusal.{Refusal}
@@ -98,16 +98,16 @@ called_at zero inside f ws = Err fault.TooDeep
 called_at (suc d) inside f (word.Close ∷ ws) = call_of f tree.None ws
 called_at (suc d) inside f ws = arguments (suc (length ws)) inside ws >>= λ x. call_of f x.0 x.1
 
--- behind an arrow
+-- behind an arrow; of a name the tree holds ten letters
 unfoldable pub qualified_at : List ℕ → Reader
-qualified_at a (word.Name s ∷ ws) = Ok (tree.Qualified a s, ws)
+qualified_at a (word.Name s ∷ ws) = Ok (tree.Qualified (take 10 a) (take 10 s), ws)
 qualified_at a ws = Err (wrong ws)
 
 -- behind a name
 unfoldable pub named : ℕ → Reader → List ℕ → Reader
 named d inside s (word.Open ∷ ws) = if_some (function_named s) (Err fault.Expression) (λ f. called_at d inside f ws)
 named d inside s (word.Arrow ∷ ws) = qualified_at s ws
-named d inside s ws = Ok (tree.Name s, ws)
+named d inside s ws = Ok (tree.Name (take 10 s), ws)
 
 unfoldable pub operand : ℕ → Reader → Reader
 operand d inside (word.Number n ∷ ws) = Ok (tree.Number n, ws)
@@ -132,6 +132,10 @@ inside (suc d) ws = reader d (inside d) 7 ws
 -- the expression at the front, with at most so many parentheses within each other
 abbrev pub level_at : ℕ → ℕ → Reader
 level_at d l = reader d (inside d) l
+
+-- what reading from left to right finds at the front of words: the tree and the words behind it, or which fault
+abbrev pub front : List Word → Read
+front = level_at max_depth 7
 
 abbrev pub whole : Tree → List Word → Result Tree Fault
 whole e [] = Ok e

@@ -35,7 +35,7 @@ unfoldable pub number_at : List ℕ → Found
 number_at bytes = let n = prefix_len is_ascii_digit bytes in let k = decimals (drop n bytes) in number_of n k (number_len n k) bytes
 
 unfoldable pub name_at : List ℕ → Found
-name_at bytes = let n = prefix_len is_name bytes in found (Name (map to_ascii_uppercase (take 10 (take n bytes)))) (over 10 n) (drop n bytes)
+name_at bytes = let n = prefix_len is_name bytes in found (Name (map to_ascii_uppercase (take n bytes))) (over 10 n) (drop n bytes)
 
 abbrev pub text_end : List ℕ → List ℕ → Found
 text_end s [] = found (Text (take 254 s)) (Some fault.Text) []

@@ -29,12 +29,12 @@ pub data Word : Type 0 where
   Comma : Word
   Outside : Mark → Word
 
--- A name counts in capitals. A name or a text that is too long stands for as much of it as may be.
+-- A name is all its letters, in capitals; the tree holds ten of them. A text that is too long stands for as much of it as may be.
 abbrev pub word_of : Token → Word
 word_of (token.Number s) = Number (parsed s.now)
 word_of (token.Text s) = Text (take 254 s.now)
 word_of (token.Logical b) = Logical b
-word_of (token.Name s) = Name (map to_ascii_uppercase (take 10 s.now))
+word_of (token.Name s) = Name (map to_ascii_uppercase s.now)
 word_of token.Not = Not
 word_of (token.Operator o) = Sign o
 word_of token.Arrow = Arrow

@@ -408,7 +408,9 @@ pub(crate) fn cut<'a>(alloc: Global, line: &'a [u8]) -> Result<Line<'a>, AllocEr
 /// a comment, which isn't looked at. Only want of memory is refused.
 pub fn words<'a>(alloc: Global, line: &'a [u8]) -> Result<Line<'a>, AllocError>
     // Each word stands for its bytes, in order, with blanks between, and the fault told is the least of theirs.
-    ensures { IfOk result (IsWordsOf line.now) }
+    ensures words { IfOk result (IsWordsOf line.now) }
+    // They are the ones that reading from left to right finds.
+    ensures scanned { IfOk result (IsScan line.now) }
 {
     cut(alloc, line)
 }

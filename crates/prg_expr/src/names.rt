@@ -19,8 +19,9 @@ pub(crate) fn front(bytes: &[u8], most: usize) -> &[u8]
 }
 
 /// The name that a word spells: its letters in capitals, ten of them where there are more.
+#[tactic(auto, using(crate::proofs::Equations::capitals_cut))]
 pub fn name_of(word: &[u8]) -> Name
-    ensures { result.items ≡ map to_ascii_uppercase (take 10 word.now) }
+    ensures { result.items ≡ take 10 (map to_ascii_uppercase word.now) }
 {
     let mut name = Name::new();
     let mut rest = front(word, MOST_LETTERS);

@@ -14,7 +14,7 @@ use crate::fault::{Fault, Refusal};
 use crate::function::{Function, function_named, takes};
 use crate::names::{front, name_of};
 use crate::token::Token;
-use crate::tree::{Expr, MOST_LETTERS, MOST_TEXT, Operator, Prefix, Text};
+use crate::tree::{Expr, MOST_TEXT, Operator, Prefix, Text};
 use fixed_num::Num;
 use std::alloc::Global;
 
@@ -173,7 +173,7 @@ fn qualified_at<'a>(
     alias: &[u8],
     tokens: &'a [Token<'a>],
 ) -> Result<(Expr, &'a [Token<'a>]), Refusal>
-    ensures gives { Gives (λ x. (tree_of x.0, words x.1.now)) result (spec.qualified_at (map to_ascii_uppercase (take 10 alias.now)) (words tokens.now)) }
+    ensures gives { Gives (λ x. (tree_of x.0, words x.1.now)) result (spec.qualified_at (map to_ascii_uppercase alias.now) (words tokens.now)) }
     ensures shorter { IfOk result (λ x. length x.1.now < length tokens.now) }
 {
     match tokens {
@@ -211,12 +211,12 @@ fn named<'a>(
     name: &[u8],
     tokens: &'a [Token<'a>],
 ) -> Result<(Expr, &'a [Token<'a>]), Refusal>
-    ensures gives { Gives (λ x. (tree_of x.0, words x.1.now)) result (spec.named depth (spec.inside depth) (map to_ascii_uppercase (take 10 name.now)) (words tokens.now)) }
+    ensures gives { Gives (λ x. (tree_of x.0, words x.1.now)) result (spec.named depth (spec.inside depth) (map to_ascii_uppercase name.now) (words tokens.now)) }
     ensures shorter { IfOk result (λ x. length x.1.now ≤ length tokens.now) }
 {
     match tokens {
         [Token::Open, rest @ ..] => {
-            let Some(function) = function_named(front(name, MOST_LETTERS)) else {
+            let Some(function) = function_named(name) else {
                 return Err(Refusal::Fault(Fault::Expression));
             };
             Ok(called(alloc, depth, function, rest)?)
@@ -398,12 +398,14 @@ fn loosest<'a>(alloc: Global, tokens: &'a [Token<'a>]) -> Result<(Expr, &'a [Tok
 
 /// The expression at the front of the words, as far as it goes, and the words behind it. Refused are words that
 /// begin no expression (Expression, and Macro where a `&` stands at the place of the fault), more than 32 parentheses
-/// within each other (TooDeep), and want of memory. The tree gets as deep as the words are many: hand in no more of
-/// them than a line has.
+/// within each other (TooDeep), and want of memory. Which fault it is, the clause `gives` tells. The tree gets as
+/// deep as the words are many: hand in no more of them than a line has.
 pub fn expression<'a>(
     alloc: Global,
     tokens: &'a [Token<'a>],
 ) -> Result<(Expr, &'a [Token<'a>]), Refusal>
+    // What is answered, a fault too, is what reading from left to right finds.
+    ensures gives { Gives (λ x. (tree_of x.0, words x.1.now)) result (spec.front (words tokens.now)) }
     // The words before the rest spell the tree.
     ensures stands { IfOk result (λ x. InFront (tree_of x.0) (words tokens.now) (words x.1.now)) }
     // No further words with them spell one.

@@ -13,10 +13,9 @@ use Rattle.prg_parser.specs.declared.blocks.Place.TheVariants.{InThen, InElse, B
 use Rattle.prg_parser.specs.declared.blocks.Role.{Role}
 use Rattle.prg_parser.specs.declared.blocks.Role.TheVariants.{Nothing, Plain, Leap, Procedure, If, Else, EndIf, DoCase, Case, Otherwise, EndCase, DoWhile, EndDo, Scan, EndScan}
 use Rattle.prg_parser.specs.declared.judging.Mark.{Mark}
-use Rattle.prg_parser.specs.declared.lines.JoinedLine.{JoinedLine}
 use Rattle.prg_parser.specs.Lines as lines
 use Rattle.prg_parser.specs.Lines.{Joined}
-use Rattle.prg_parser.specs.Joined.{joined_of}
+use Rattle.prg_parser.specs.Marks.{mark_of, marks}
 use Rattle.prg_parser.specs.Verdict as spec
 use Rattle.prg_parser.specs.Verdict.{IsLineOf, verdict}
 use Rattle.prg_parser.specs.Blocks as blocks
@@ -49,10 +48,6 @@ joined-in n (line ∷ others) =
 
 numbered-line : (count line : ℕ) → (1 ≤ line) × (line < 1 + count) → IsLineOf count line
 numbered-line count line h = (h.0, omega (arith, h.1))
-
-firsts : (ls : List JoinedLine) → map (λ (j : Joined). j.first) (map joined_of ls) ≡ map (λ (l : JoinedLine). l.first) ls
-firsts [] = refl
-firsts (l ∷ ls) = ap (λ (ns : List ℕ). l.first ∷ ns) (firsts ls)
 
 -- parts of blocks
 
@@ -138,18 +133,18 @@ by_number : {X : Type 0} (P : ℕ → Type 0) (f : X → ℕ) (xs : List X) → 
 by_number P f [] h = All-nil (λ x. P (f x))
 by_number P f (x ∷ xs) h = All-cons (λ x. P (f x)) x xs (All-head P (f x) (map f xs) h) (by_number P f xs (All-tail P (f x) (map f xs) h))
 
-pub names_line : (bytes : List ℕ) (ls : List JoinedLine) (marks : List Mark) (fault : ParseFault)
-    → map joined_of ls ≡ lines.joined_lines bytes
-    → map (λ (m : Mark). m.line) marks ≡ map (λ (l : JoinedLine). l.first) ls
-    → verdict [] None marks ≡ Some fault
-    → IsLineOf (length (lines.lines (lines.before_end bytes))) fault.line
-names_line bytes ls marks fault j m v =
+marked-lines : (ls : List Joined) → map (λ (m : Mark). m.line) (map mark_of ls) ≡ map (λ (j : Joined). j.first) ls
+unfolding mark_of
+marked-lines [] = refl
+marked-lines (j ∷ ls) = ap (λ (ns : List ℕ). j.first ∷ ns) (marked-lines ls)
+
+pub names_line : (bytes : List ℕ) (fault : ParseFault) → verdict [] None (marks bytes) ≡ Some fault → IsLineOf (length (lines.lines (lines.before_end bytes))) fault.line
+names_line bytes fault v =
     let count = length (lines.lines (lines.before_end bytes)) in
     let all : All (λ (x : Joined). IsLineOf count x.first) (lines.joined_lines bytes) =
     All-weaker (Numbered 1 count) (λ (x : Joined). IsLineOf count x.first) (λ x h. numbered-line count x.first h) (lines.joined_lines bytes) (joined-in 1 (lines.lines (lines.before_end bytes))) in
     let numbers : All (IsLineOf count) (map (λ (x : Joined). x.first) (lines.joined_lines bytes)) = All-map (IsLineOf count) (λ (x : Joined). x.first) (lines.joined_lines bytes) all in
-    let same : map (λ (x : Mark). x.line) marks ≡ map (λ (x : Joined). x.first) (lines.joined_lines bytes) =
-    m ∙ sym (firsts ls) ∙ ap (map (λ (x : Joined). x.first)) j in
-    let marked : All (λ (x : Mark). IsLineOf count x.line) marks =
-    by_number (IsLineOf count) (λ (x : Mark). x.line) marks (All-same (IsLineOf count) (map (λ (x : Mark). x.line) marks) (map (λ (x : Joined). x.first) (lines.joined_lines bytes)) same numbers) in
-    subst (λ (o : Option ParseFault). FaultIn count o) v (verdict-in count [] None marks (All-nil (λ (p : Part). IsLineOf count p.line)) tt marked)
+    let marked : All (λ (x : Mark). IsLineOf count x.line) (marks bytes) =
+    by_number (IsLineOf count) (λ (x : Mark). x.line) (marks bytes)
+    (All-same (IsLineOf count) (map (λ (x : Mark). x.line) (marks bytes)) (map (λ (x : Joined). x.first) (lines.joined_lines bytes)) (marked-lines (lines.joined_lines bytes)) numbers) in
+    subst (λ (o : Option ParseFault). FaultIn count o) v (verdict-in count [] None (marks bytes) (All-nil (λ (p : Part). IsLineOf count p.line)) tt marked)

@@ -1,6 +1,8 @@
 -- The order in which the faults of a line are told.
 
 use Rattle.std.specs.Prelude.{ℕ, nat_le, Option, Some, None, if◌then◌else◌}
+use Rattle.prg_expr.specs.declared.fault.Fault.{Fault}
+use Rattle.prg_expr.specs.declared.fault.Fault.TheVariants as expr
 use Rattle.prg_parser.specs.declared.fault.FaultKind.{FaultKind}
 use Rattle.prg_parser.specs.declared.fault.FaultKind.TheVariants.{Character, Text, Number, Word, Expression, Block, TooLong, TooDeep, Macro}
 
@@ -20,3 +22,13 @@ abbrev pub least_of : Option FaultKind → Option FaultKind → Option FaultKind
 least_of None found = found
 least_of (Some told) None = Some told
 least_of (Some told) (Some found) = if nat_le (rank_of told) (rank_of found) then Some told else Some found
+
+-- the kind of a fault of words or of an expression
+abbrev pub kind_of : Fault → FaultKind
+kind_of expr.Character = Character
+kind_of expr.Text = Text
+kind_of expr.Number = Number
+kind_of expr.Expression = Expression
+kind_of expr.TooLong = TooLong
+kind_of expr.TooDeep = TooDeep
+kind_of expr.Macro = Macro

@@ -1,6 +1,6 @@
 -- Which fault of a file is told.
 
-use Rattle.std.specs.Prelude.{ℕ, List, [], ◌∷◌, Option, Some, None, if◌then◌else◌, slice_get, option_map, ◌≤◌}
+use Rattle.std.specs.Prelude.{◌≡◌, ℕ, List, [], ◌∷◌, Option, Some, None, if◌then◌else◌, slice_get, option_map, ◌≤◌}
 use Rattle.prg_parser.specs.declared.fault.FaultKind.{FaultKind}
 use Rattle.prg_parser.specs.declared.fault.FaultKind.TheVariants.{Block}
 use Rattle.prg_parser.specs.declared.fault.ParseFault.{ParseFault}
@@ -49,3 +49,8 @@ unfoldable pub verdict : List Part → Option ℕ → List Mark → Option Parse
 verdict parts unended [] = option_map block_at (earlier unended (opening_line parts))
 verdict parts unended (mark ∷ others) =
     or_else (wrong parts mark) mark.line (verdict (parts_after parts mark.line mark.role) (unended_after parts unended mark) others)
+
+-- a refusal that is the fault which the definition tells, or want of memory
+abbrev pub Tells : Option ParseFault → Refusal → Type 0
+Tells told (Fault fault) = told ≡ Some fault
+Tells told Memory = Unit {0}

@@ -86,7 +86,7 @@ impl Builder {
     pub fn take(&mut self, line: usize, sentence: Sentence) -> Result<(), AllocError> {
         match sentence {
             Sentence::Nothing => Ok(()),
-            Sentence::Whole(form) => self.put(line, form),
+            Sentence::Whole(statement) => self.put(line, Form::Statement(statement)),
             Sentence::If(condition) => self.open(line, Open::Then { condition }),
             Sentence::DoCase => self.open(line, Open::Cases),
             Sentence::DoWhile(condition) => self.open(line, Open::While { condition }),
@@ -94,7 +94,9 @@ impl Builder {
             Sentence::Else => self.divide_if(line),
             Sentence::Case(condition) => self.next_case(line, Some(condition)),
             Sentence::Otherwise => self.next_case(line, None),
-            Sentence::End => self.end(line),
+            Sentence::EndIf | Sentence::EndCase | Sentence::EndDo | Sentence::EndScan => {
+                self.end(line)
+            }
             Sentence::Procedure(name) => self.start_procedure(line, name),
         }
     }

@@ -12,10 +12,42 @@ pub struct Command {
     pub form: Form,
 }
 
-/// What a command says, a case a form.
+/// What a command says.
 #[cycle(commands)]
 #[derive(Debug, Drop)]
 pub enum Form {
+    /// A command of one line.
+    Statement(Statement),
+    /// `IF condition`, up to the line of its `ENDIF`.
+    If {
+        condition: Expr,
+        then: Vec<Command>,
+        otherwise: Option<Branch>,
+        end: usize,
+    },
+    /// `DO CASE`, up to the line of its `ENDCASE`.
+    DoCase {
+        cases: Vec<Case>,
+        otherwise: Option<Branch>,
+        end: usize,
+    },
+    /// `DO WHILE condition`, up to the line of its `ENDDO`.
+    DoWhile {
+        condition: Expr,
+        body: Vec<Command>,
+        end: usize,
+    },
+    /// `SCAN [FOR condition]`, up to the line of its `ENDSCAN`.
+    Scan {
+        condition: Option<Expr>,
+        body: Vec<Command>,
+        end: usize,
+    },
+}
+
+/// A command of one line, a case a form.
+#[derive(Debug, Drop)]
+pub enum Statement {
     /// `? [list]`: a new line, then the values.
     Show {
         values: Vec<Expr>,
@@ -78,31 +110,6 @@ pub enum Form {
     /// `PARAMETERS variables`.
     Parameters {
         variables: Vec<Name>,
-    },
-    /// `IF condition`, up to the line of its `ENDIF`.
-    If {
-        condition: Expr,
-        then: Vec<Command>,
-        otherwise: Option<Branch>,
-        end: usize,
-    },
-    /// `DO CASE`, up to the line of its `ENDCASE`.
-    DoCase {
-        cases: Vec<Case>,
-        otherwise: Option<Branch>,
-        end: usize,
-    },
-    /// `DO WHILE condition`, up to the line of its `ENDDO`.
-    DoWhile {
-        condition: Expr,
-        body: Vec<Command>,
-        end: usize,
-    },
-    /// `SCAN [FOR condition]`, up to the line of its `ENDSCAN`.
-    Scan {
-        condition: Option<Expr>,
-        body: Vec<Command>,
-        end: usize,
     },
     /// `LOOP`.
     Loop,
@@ -248,7 +255,7 @@ pub enum Sentence {
     /// A line that says nothing.
     Nothing,
     /// A command of one line.
-    Whole(Form),
+    Whole(Statement),
     /// `IF condition`.
     If(Expr),
     /// `ELSE`.
@@ -263,8 +270,14 @@ pub enum Sentence {
     DoWhile(Expr),
     /// `SCAN [FOR condition]`.
     Scan(Option<Expr>),
-    /// The line that ends a block.
-    End,
+    /// `ENDIF`.
+    EndIf,
+    /// `ENDCASE`.
+    EndCase,
+    /// `ENDDO`.
+    EndDo,
+    /// `ENDSCAN`.
+    EndScan,
     /// `PROCEDURE name`.
     Procedure(Name),
 }

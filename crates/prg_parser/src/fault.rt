@@ -2,6 +2,7 @@
 
 ghost use Rattle.std.specs.Prelude.{◌≡◌};
 ghost use Rattle.prg_parser.specs.Kinds.{rank_of, least_of};
+ghost use Rattle.prg_parser.specs.Kinds as spec;
 ghost use Rattle.prg_parser.specs.declared.fault.Refusal.TheVariants.{Memory};
 
 use prg_expr::Fault;
@@ -65,7 +66,9 @@ impl<T: Drop> From<AllocFailed<T>> for Refusal {
 }
 
 /// The kind of a fault of words or of an expression.
-pub fn kind_of(fault: Fault) -> FaultKind {
+pub fn kind_of(fault: Fault) -> FaultKind
+    ensures { result ≡ spec.kind_of fault }
+{
     match fault {
         Fault::Character => FaultKind::Character,
         Fault::Text => FaultKind::Text,

@@ -16,7 +16,7 @@ mod tests;
 pub mod verb;
 
 pub use crate::command::{
-    Branch, Case, Command, Form, Move, Replacement, Selected, Sentence, Setting,
+    Branch, Case, Command, Form, Move, Replacement, Selected, Sentence, Setting, Statement,
 };
 pub use crate::fault::{FaultKind, ParseFault, Refusal};
 pub use crate::parsing::parse;

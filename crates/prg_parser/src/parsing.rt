@@ -1,10 +1,17 @@
 //! From the bytes of a command file to its tree.
 
-ghost use Rattle.std.specs.Prelude.{◌≡◌, length, map, IfOk, IfErr};
+ghost use Rattle.std.specs.Prelude.{◌≡◌, length, map, IfOk, IfErr, Result, option_map, if◌then◌else◌, None, []};
+ghost use Rattle.prg_expr.specs.Word.{words as tokens};
+ghost use Rattle.prg_parser.specs.Gives.{Gives};
+ghost use Rattle.prg_parser.specs.Joined.{joined_of};
+ghost use Rattle.prg_parser.specs.Kinds as kinds;
 ghost use Rattle.prg_parser.specs.Lines.{lines as line_list, before_end};
-ghost use Rattle.prg_parser.specs.Verdict.{NamesLine};
+ghost use Rattle.prg_parser.specs.Marks as spec;
+ghost use Rattle.prg_parser.specs.Saying.{Saying, saying_of};
+ghost use Rattle.prg_parser.specs.Verbs.{ignores_rest};
+ghost use Rattle.prg_parser.specs.Verdict.{NamesLine, Tells, verdict};
+ghost use Rattle.prg_parser.specs.declared.fault.FaultKind.{FaultKind as AnyKind};
 
-use crate::blocks::Role;
 use crate::builder::Builder;
 use crate::command::Sentence;
 use crate::fault::{FaultKind, Refusal, kind_of, least};
@@ -14,7 +21,7 @@ use crate::lines::{JoinedLine, joined_lines};
 use crate::program::Program;
 use crate::reader::{FormFault, Reader};
 use crate::verb::{Verb, verb_of};
-use prg_expr::{Token, words};
+use prg_expr::{Fault, Token, words};
 use std::alloc::{AllocError, Global};
 
 /// The most bytes of a joined line.
@@ -23,24 +30,10 @@ const MOST_BYTES: usize = 1024;
 /// The form of a line above so many bytes isn't read, since the tree could get too deep.
 const MOST_BYTES_READ: usize = 4096;
 
-/// Whether a line is a comment: its first word is `NOTE`, or its first byte but blanks is `*`.
-fn is_comment(line: &[u8]) -> bool {
-    let mut text = line;
-    while let [b' ' | b'\t', rest @ ..] = text {
-        text = rest;
-    }
-    match text {
-        [b'*', ..] => true,
-        [b'N' | b'n', b'O' | b'o', b'T' | b't', b'E' | b'e'] => true,
-        [b'N' | b'n', b'O' | b'o', b'T' | b't', b'E' | b'e', next, ..] => {
-            !(next.is_ascii_alphanumeric() || *next == b'_')
-        }
-        _ => false,
-    }
-}
-
 /// What is wrong with the length of a joined line.
-fn length_fault(text: &[u8]) -> Option<FaultKind> {
+fn length_fault(text: &[u8]) -> Option<FaultKind>
+    ensures { result ≡ spec.length_fault (length text.now) }
+{
     if text.len() > MOST_BYTES {
         Some(FaultKind::TooLong)
     } else {
@@ -56,67 +49,66 @@ struct ReadLine {
 }
 
 /// Reads what the words of a command say, the first ones apart.
+#[tactic(auto, unfolding(crate::specs::Marks::form))]
 fn read_form(
     alloc: Global,
     verb: Verb,
-    words: &[Token<'_>],
+    rest: &[Token<'_>],
     bytes: usize,
-) -> Result<Sentence, FormFault> {
+) -> Result<Sentence, FormFault>
+    ensures { Gives saying_of result (spec.form bytes (verb, tokens rest.now)) }
+{
     if bytes > MOST_BYTES_READ {
         return Err(FormFault::Kind(FaultKind::TooLong));
     }
     let mut reader = Reader {
         alloc,
-        words,
+        words: rest,
         behind_expression: false,
     };
     sentence(verb, &mut reader)
 }
 
-/// Reads a line that is no comment by itself, without the blocks around it.
-fn read_words(
-    alloc: Global,
-    line: &JoinedLine,
-    too_long: Option<FaultKind>,
-) -> Result<ReadLine, AllocError>
-    ensures { IfOk result (λ read. read.mark.line ≡ line.now.first) }
+/// The least fault of the words of a line, where they count.
+fn word_fault(verb: Verb, fault: Option<Fault>) -> Option<FaultKind>
+    ensures { result ≡ (if ignores_rest verb then None else option_map kinds.kind_of fault) }
 {
-    let found = words(alloc, &line.text)?;
-    let (verb, rest) = verb_of(&found.words);
-    let word_fault = if verb.ignores_rest() {
-        None
-    } else {
-        found.fault.map(kind_of)
-    };
-    let (sentence, form_fault) = match read_form(alloc, verb, rest, line.text.len()) {
-        Ok(sentence) => (sentence, None),
-        Err(FormFault::Kind(kind)) => (Sentence::Nothing, Some(kind)),
-        Err(FormFault::Memory) => return Err(AllocError),
-    };
-    let mark = Mark {
-        line: line.first,
-        role: verb.role(),
-        fault: least(least(word_fault, form_fault), too_long),
-    };
-    Ok(ReadLine { mark, sentence })
+    if verb.ignores_rest() {
+        return None;
+    }
+    match fault {
+        Some(fault) => Some(kind_of(fault)),
+        None => None,
+    }
+}
+
+/// What was read of a line's form, and its fault.
+fn told(form: Result<Sentence, FormFault>) -> Result<(Sentence, Option<FaultKind>), AllocError>
+    ensures { (read : Result Saying AnyKind) → Gives saying_of form read
+        → IfOk result (λ x. (saying_of x.0 ≡ spec.saying_in read) × (x.1 ≡ spec.fault_in read)) }
+{
+    match form {
+        Ok(sentence) => Ok((sentence, None)),
+        Err(FormFault::Kind(kind)) => Ok((Sentence::Nothing, Some(kind))),
+        Err(FormFault::Memory) => Err(AllocError),
+    }
 }
 
 /// Reads a line by itself, without the blocks around it.
+#[tactic(auto, unfolding(crate::specs::Marks::mark_of, crate::specs::Marks::saying_at))]
 fn read_line(alloc: Global, line: &JoinedLine) -> Result<ReadLine, AllocError>
-    ensures { IfOk result (λ read. read.mark.line ≡ line.now.first) }
+    ensures { IfOk result (λ read. (read.mark ≡ spec.mark_of (joined_of line.now)) × (saying_of read.sentence ≡ spec.saying_at (joined_of line.now))) }
 {
-    let too_long = length_fault(&line.text);
-    if is_comment(&line.text) {
-        return Ok(ReadLine {
-            mark: Mark {
-                line: line.first,
-                role: Role::Nothing,
-                fault: too_long,
-            },
-            sentence: Sentence::Nothing,
-        });
-    }
-    read_words(alloc, line, too_long)
+    let line_words = words(alloc, &line.text)?;
+    let found = verb_of(&line_words.words);
+    let word_fault = word_fault(found.verb, line_words.fault);
+    let (sentence, form_fault) = told(read_form(alloc, found.verb, found.rest, line.text.len()))?;
+    let mark = Mark {
+        line: line.first,
+        role: found.verb.role(),
+        fault: least(least(word_fault, form_fault), length_fault(&line.text)),
+    };
+    Ok(ReadLine { mark, sentence })
 }
 
 /// The lines of a file that were read.
@@ -128,7 +120,8 @@ struct ReadLines {
 
 /// Reads lines one by one.
 fn read_lines(alloc: Global, lines: &[JoinedLine]) -> Result<ReadLines, AllocError>
-    ensures { IfOk result (λ read. map (λ mark. mark.line) read.marks.items ≡ map (λ line. line.first) lines.now) }
+    ensures marks { IfOk result (λ read. read.marks.items ≡ map (λ line. spec.mark_of (joined_of line)) lines.now) }
+    ensures sayings { IfOk result (λ read. map saying_of read.sentences.items ≡ map (λ line. spec.saying_at (joined_of line)) lines.now) }
 {
     let mut marks = Vec::new(alloc);
     let mut sentences = Vec::new(alloc);
@@ -156,8 +149,12 @@ fn build(alloc: Global, marks: &[Mark], sentences: Vec<Sentence>) -> Result<Prog
 /// The fault of the file's first faulty line, and there the least kind, with the line's number from 1; of a joined line
 /// that of its first. Without any other fault, Block at the line of the first block that isn't ended. Want of memory.
 pub fn parse(alloc: Global, bytes: &[u8]) -> Result<Program, Refusal>
-    // A fault names a line of the file.
-    ensures { IfErr result (NamesLine (length (line_list (before_end bytes.now)))) }
+    // The fault is that of the first faulty line, and there the least kind.
+    ensures told { IfErr result (Tells (verdict [] None (spec.marks bytes.now))) }
+    // It names a line of the file.
+    ensures named { IfErr result (NamesLine (length (line_list (before_end bytes.now)))) }
+    // A program is answered only of a file without any fault.
+    ensures faultless { IfOk result (λ program. verdict [] None (spec.marks bytes.now) ≡ None) }
 {
     let lines = joined_lines(alloc, bytes)?;
     let ReadLines { marks, sentences } = read_lines(alloc, &lines)?;

@@ -1,7 +1,13 @@
 //! Reading the words of a command one after another.
 
-ghost use Rattle.std.specs.Prelude.{◌≡◌, ◌<◌, ◌≤◌, length, IfOk, OnOk, IsTrue};
-ghost use Rattle.prg_parser.specs.declared.reader.FormFault.TheVariants.{Memory};
+ghost use Rattle.std.specs.Prelude.{◌≡◌, ◌<◌, ◌≤◌, ◌-◌, suc, length, map, drop, IfOk, OnOk};
+ghost use Rattle.prg_expr.specs.Reading.{front};
+ghost use Rattle.prg_expr.specs.Tree.{tree_of};
+ghost use Rattle.prg_expr.specs.Word.{words};
+ghost use Rattle.prg_parser.specs.Act.{letters_of};
+ghost use Rattle.prg_parser.specs.Forms as spec;
+ghost use Rattle.prg_parser.specs.Gives.{at_of, Reads, Leads, Gives, Ends};
+ghost use Rattle.prg_parser.specs.declared.reader.FormFault.TheVariants.{Kind, Memory};
 
 use crate::fault::{FaultKind, kind_of};
 use fixed_num::Num;
@@ -37,10 +43,11 @@ impl<T: Drop> From<AllocFailed<T>> for FormFault {
 const WORD: FormFault = FormFault::Kind(FaultKind::Word);
 
 /// The longest expression at the front of the words, and how many words are behind it.
-fn expression_at(alloc: Global, words: &[Token<'_>]) -> Result<(Expr, usize), FormFault>
-    ensures { IfOk result (λ found. found.1 < length words.now) }
+fn expression_at(alloc: Global, tokens: &[Token<'_>]) -> Result<(Expr, usize), FormFault>
+    ensures gives { Gives (λ x. (tree_of x.0, drop (length tokens.now - x.1) (words tokens.now))) result (spec.kind_told (front (words tokens.now))) }
+    ensures shorter { IfOk result (λ x. x.1 < length tokens.now) }
 {
-    match expression(alloc, words) {
+    match expression(alloc, tokens) {
         Ok((found, rest)) => Ok((found, rest.len())),
         Err(Refusal::Fault(fault)) => Err(FormFault::Kind(kind_of(fault))),
         Err(Refusal::Memory) => Err(FormFault::Memory),
@@ -60,7 +67,10 @@ pub struct Reader<'a> {
 
 impl<'a> Reader<'a> {
     /// The fault where something else than a word of the command or the line's end stands.
-    fn unexpected(&self) -> FormFault {
+    #[tactic(auto, unfolding(crate::specs::Forms::unexpected_in))]
+    fn unexpected(&self) -> FormFault
+        ensures { result ≡ Kind (spec.unexpected (at_of self.now)) }
+    {
         match self.words {
             [] | [Token::Name(_), ..] => WORD,
             [Token::Macro, ..] => FormFault::Kind(FaultKind::Macro),
@@ -75,7 +85,10 @@ impl<'a> Reader<'a> {
     }
 
     /// The fault where a name or a number must stand, and none does.
-    fn no_constant(&self) -> FormFault {
+    #[tactic(auto, unfolding(crate::specs::Forms::no_constant))]
+    fn no_constant(&self) -> FormFault
+        ensures { result ≡ Kind (spec.no_constant (words self.now.words.now)) }
+    {
         match self.words {
             [Token::Macro, ..] => FormFault::Kind(FaultKind::Macro),
             _ => WORD,
@@ -83,8 +96,10 @@ impl<'a> Reader<'a> {
     }
 
     /// Reads the longest expression at the front.
+    #[tactic(auto, unfolding(crate::specs::Forms::expression))]
     pub fn expression(&mut self) -> Result<Expr, FormFault>
-        ensures { OnOk result (length self.new.words.now < length self.old.words.now) }
+        ensures reads { Reads tree_of result self.new (spec.expression (at_of self.old)) }
+        ensures shorter { OnOk result (length self.new.words.now < length self.old.words.now) }
     {
         let (found, left) = expression_at(self.alloc, self.words)?;
         self.words = &self.words[self.words.len() - left..];
@@ -93,8 +108,10 @@ impl<'a> Reader<'a> {
     }
 
     /// Reads a name.
+    #[tactic(auto, unfolding(crate::specs::Forms::name_in))]
     pub fn name(&mut self) -> Result<Name, FormFault>
-        ensures { OnOk result (length self.new.words.now < length self.old.words.now) }
+        ensures reads { Reads letters_of result self.new (spec.name (at_of self.old)) }
+        ensures shorter { OnOk result (length self.new.words.now < length self.old.words.now) }
     {
         match self.words {
             [Token::Name(word), rest @ ..] => {
@@ -107,8 +124,10 @@ impl<'a> Reader<'a> {
     }
 
     /// Reads a whole number below 2^16 that is written without a sign.
+    #[tactic(auto, unfolding(crate::specs::Forms::whole_number_in))]
     pub fn whole_number(&mut self) -> Result<u16, FormFault>
-        ensures { OnOk result (length self.new.words.now < length self.old.words.now) }
+        ensures reads { Reads (λ n. n) result self.new (spec.whole_number (at_of self.old)) }
+        ensures shorter { OnOk result (length self.new.words.now < length self.old.words.now) }
     {
         match self.words {
             [Token::Number(digits), rest @ ..] => {
@@ -122,12 +141,16 @@ impl<'a> Reader<'a> {
     }
 
     /// Whether a number stands in front.
-    pub fn is_at_number(&self) -> bool {
+    pub fn is_at_number(&self) -> bool
+        ensures { result ≡ spec.is_at_number (at_of self.now) }
+    {
         matches!(self.words, [Token::Number(_), ..])
     }
 
     /// Whether this word stands in front.
-    pub fn is_at(&self, whole: &[u8]) -> bool {
+    pub fn is_at(&self, whole: &[u8]) -> bool
+        ensures { result ≡ spec.is_at whole.now (at_of self.now) }
+    {
         match self.words {
             [Token::Name(word), ..] => is_word(*word, whole),
             _ => false,
@@ -135,13 +158,17 @@ impl<'a> Reader<'a> {
     }
 
     /// Whether all words are read.
-    pub fn is_at_end(&self) -> bool {
+    pub fn is_at_end(&self) -> bool
+        ensures { result ≡ spec.is_at_end (at_of self.now) }
+    {
         self.words.is_empty()
     }
 
     /// Reads this word if it stands in front, and answers whether it did.
+    #[tactic(auto, unfolding(crate::specs::Forms::takes_in))]
     pub fn takes(&mut self, whole: &[u8]) -> bool
-        ensures { length self.new.words.now ≤ length self.old.words.now }
+        ensures taken { spec.takes whole.now (at_of self.old) ≡ (result, at_of self.new) }
+        ensures no_longer { length self.new.words.now ≤ length self.old.words.now }
     {
         match self.words {
             [Token::Name(word), rest @ ..] => {
@@ -157,8 +184,10 @@ impl<'a> Reader<'a> {
     }
 
     /// Reads this word, which must stand in front.
+    #[tactic(auto, unfolding(crate::specs::Forms::clause))]
     pub fn clause(&mut self, whole: &[u8]) -> Result<(), FormFault>
-        ensures { length self.new.words.now ≤ length self.old.words.now }
+        ensures leads { Leads result self.new (spec.clause whole.now (at_of self.old)) }
+        ensures no_longer { length self.new.words.now ≤ length self.old.words.now }
     {
         if self.takes(whole) {
             Ok(())
@@ -168,8 +197,10 @@ impl<'a> Reader<'a> {
     }
 
     /// Reads a comma if it stands in front, and answers whether it did.
+    #[tactic(auto, unfolding(crate::specs::Forms::comma_in))]
     pub fn comma(&mut self) -> bool
-        ensures { length self.new.words.now ≤ length self.old.words.now }
+        ensures taken { spec.comma (at_of self.old) ≡ (result, at_of self.new) }
+        ensures no_longer { length self.new.words.now ≤ length self.old.words.now }
     {
         match self.words {
             [Token::Comma, rest @ ..] => {
@@ -182,8 +213,10 @@ impl<'a> Reader<'a> {
     }
 
     /// Reads the comma that must stand between two expressions.
+    #[tactic(auto, unfolding(crate::specs::Forms::comma_between))]
     pub fn comma_between(&mut self) -> Result<(), FormFault>
-        ensures { length self.new.words.now ≤ length self.old.words.now }
+        ensures leads { Leads result self.new (spec.comma_between (at_of self.old)) }
+        ensures no_longer { length self.new.words.now ≤ length self.old.words.now }
     {
         if self.comma() {
             Ok(())
@@ -195,8 +228,10 @@ impl<'a> Reader<'a> {
     }
 
     /// Reads the `=` of an assignment.
+    #[tactic(auto, unfolding(crate::specs::Forms::equal_in))]
     pub fn equal(&mut self) -> Result<(), FormFault>
-        ensures { length self.new.words.now ≤ length self.old.words.now }
+        ensures leads { Leads result self.new (spec.equal (at_of self.old)) }
+        ensures no_longer { length self.new.words.now ≤ length self.old.words.now }
     {
         match self.words {
             [Token::Operator(Operator::Equal), rest @ ..] => {
@@ -208,31 +243,55 @@ impl<'a> Reader<'a> {
     }
 
     /// Reads expressions with commas between, at least one.
-    pub fn expressions(&mut self) -> Result<Vec<Expr>, FormFault> {
-        let mut found = Vec::new(self.alloc);
+    #[tactic(auto, unfolding(crate::specs::Forms::several))]
+    pub fn expressions(&mut self) -> Result<Vec<Expr>, FormFault>
+        ensures { Reads (λ found. map tree_of found.items) result self.new (spec.expressions (at_of self.old)) }
+    {
         let first = self.expression()?;
+        let mut found = Vec::new(self.alloc);
         found.push(first)?;
+        self.more_expressions(found)
+    }
+
+    /// Reads further expressions, each behind a comma.
+    fn more_expressions(&mut self, found: Vec<Expr>) -> Result<Vec<Expr>, FormFault>
+        ensures { Reads (λ all. map tree_of all.items) result self.new (spec.more spec.expression (suc (length (words self.old.words.now))) (map tree_of found.items) (at_of self.old)) }
+    {
+        let mut all = found;
         while self.comma() {
             let next = self.expression()?;
-            found.push(next)?;
+            all.push(next)?;
         }
-        Ok(found)
+        Ok(all)
     }
 
     /// Reads names with commas between, at least one.
-    pub fn names(&mut self) -> Result<Vec<Name>, FormFault> {
-        let mut found = Vec::new(self.alloc);
+    #[tactic(auto, unfolding(crate::specs::Forms::several))]
+    pub fn names(&mut self) -> Result<Vec<Name>, FormFault>
+        ensures { Reads (λ found. map letters_of found.items) result self.new (spec.names (at_of self.old)) }
+    {
         let first = self.name()?;
+        let mut found = Vec::new(self.alloc);
         found.push(first)?;
+        self.more_names(found)
+    }
+
+    /// Reads further names, each behind a comma.
+    fn more_names(&mut self, found: Vec<Name>) -> Result<Vec<Name>, FormFault>
+        ensures { Reads (λ all. map letters_of all.items) result self.new (spec.more spec.name (suc (length (words self.old.words.now))) (map letters_of found.items) (at_of self.old)) }
+    {
+        let mut all = found;
         while self.comma() {
             let next = self.name()?;
-            found.push(next)?;
+            all.push(next)?;
         }
-        Ok(found)
+        Ok(all)
     }
 
     /// Nothing may be left.
-    pub fn end(&self) -> Result<(), FormFault> {
+    pub fn end(&self) -> Result<(), FormFault>
+        ensures { Ends result (at_of self.now) }
+    {
         if self.is_at_end() {
             Ok(())
         } else {
@@ -242,11 +301,13 @@ impl<'a> Reader<'a> {
 }
 
 /// The number, if it is whole and below 2^16.
-fn whole_of(number: Num) -> Result<u16, FormFault> {
+fn whole_of(number: Num) -> Result<u16, FormFault>
+    ensures { Gives (λ n. n) result (spec.whole_of number) }
+{
     let Some(parts) = number.parts() else {
         return Err(WORD);
     };
-    if parts.negative || parts.decimals != 0 {
+    if parts.decimals != 0 {
         return Err(WORD);
     }
     match u16::try_from(parts.magnitude) {

@@ -37,6 +37,14 @@ fn expect_shown(
 // A command in line 1, as it is shown.
 fn expect_form(rt: &impl Abort, alloc: Global, line: &[u8], form: &str) -> Result<(), AllocError> {
     let found = shown(alloc, line)?;
+    let wanted = format!(in alloc; "[Command {{ line: 1, form: Statement({form}) }}]")?;
+    assert_eq!(rt; found.as_str(), wanted.as_str());
+    Ok(())
+}
+
+// A block from line 1 on, as it is shown.
+fn expect_block(rt: &impl Abort, alloc: Global, file: &[u8], form: &str) -> Result<(), AllocError> {
+    let found = shown(alloc, file)?;
     let wanted = format!(in alloc; "[Command {{ line: 1, form: {form} }}]")?;
     assert_eq!(rt; found.as_str(), wanted.as_str());
     Ok(())
@@ -283,43 +291,43 @@ fn reads_commands_of_control(rt: HostRuntime) -> Result<(), Fail> {
     expect_form(&rt, alloc, b"RETURN", "Return")?;
     expect_form(&rt, alloc, b"QUIT", "Quit")?;
     expect_form(&rt, alloc, b"CANCEL", "Cancel")?;
-    expect_form(
+    expect_block(
         &rt,
         alloc,
         b"IF A\nREAD\nENDIF",
-        "If { condition: Name([65]), then: [Command { line: 2, form: Read }], otherwise: None, end: 3 }",
+        "If { condition: Name([65]), then: [Command { line: 2, form: Statement(Read) }], otherwise: None, end: 3 }",
     )?;
-    expect_form(
+    expect_block(
         &rt,
         alloc,
         b"IF A\nELSE\nREAD\nENDIF rest 'x",
-        "If { condition: Name([65]), then: [], otherwise: Some(Branch { line: 2, body: [Command { line: 3, form: Read }] }), end: 4 }",
+        "If { condition: Name([65]), then: [], otherwise: Some(Branch { line: 2, body: [Command { line: 3, form: Statement(Read) }] }), end: 4 }",
     )?;
-    expect_form(
+    expect_block(
         &rt,
         alloc,
         b"DO WHILE A\nLOOP\nEXIT\nENDDO",
-        "DoWhile { condition: Name([65]), body: [Command { line: 2, form: Loop }, Command { line: 3, form: Exit }], end: 4 }",
+        "DoWhile { condition: Name([65]), body: [Command { line: 2, form: Statement(Loop) }, Command { line: 3, form: Statement(Exit) }], end: 4 }",
     )?;
-    expect_form(
+    expect_block(
         &rt,
         alloc,
         b"SCAN\nENDSCAN",
         "Scan { condition: None, body: [], end: 2 }",
     )?;
-    expect_form(
+    expect_block(
         &rt,
         alloc,
         b"SCAN FOR A\nREAD\nENDSCAN",
-        "Scan { condition: Some(Name([65])), body: [Command { line: 2, form: Read }], end: 3 }",
+        "Scan { condition: Some(Name([65])), body: [Command { line: 2, form: Statement(Read) }], end: 3 }",
     )?;
-    expect_form(
+    expect_block(
         &rt,
         alloc,
         b"DO CASE\nSET TALK OFF\nCASE A\nREAD\nCASE B\nOTHERWISE\nZAP\nENDCASE",
-        "DoCase { cases: [Case { line: 3, condition: Name([65]), body: [Command { line: 4, form: Read }] }, Case { line: 5, condition: Name([66]), body: [] }], otherwise: Some(Branch { line: 6, body: [Command { line: 7, form: Zap }] }), end: 8 }",
+        "DoCase { cases: [Case { line: 3, condition: Name([65]), body: [Command { line: 4, form: Statement(Read) }] }, Case { line: 5, condition: Name([66]), body: [] }], otherwise: Some(Branch { line: 6, body: [Command { line: 7, form: Statement(Zap) }] }), end: 8 }",
     )?;
-    expect_form(
+    expect_block(
         &rt,
         alloc,
         b"DO CASE\nENDCASE",
@@ -338,7 +346,7 @@ fn keeps_procedures_and_names(rt: HostRuntime) -> Result<(), Fail> {
     let found = format!(in alloc; "{program:?}")?;
     assert_eq!(rt;
         found.as_str(),
-        "Program { name: [65], main: [Command { line: 1, form: Do { procedure: [80], arguments: [] } }], procedures: [Procedure { line: 2, name: [80], body: [Command { line: 3, form: Read }] }, Procedure { line: 4, name: [81], body: [] }] }"
+        "Program { name: [65], main: [Command { line: 1, form: Statement(Do { procedure: [80], arguments: [] }) }], procedures: [Procedure { line: 2, name: [80], body: [Command { line: 3, form: Statement(Read) }] }, Procedure { line: 4, name: [81], body: [] }] }"
     );
     Ok(())
 }
@@ -411,7 +419,7 @@ fn passes_over_what_means_nothing(rt: HostRuntime) -> Result<(), Fail> {
         &rt,
         alloc,
         b"NOTES = .T.",
-        "[Command { line: 1, form: Assign { variable: [78, 79, 84, 69, 83], value: Logical(true) } }]",
+        "[Command { line: 1, form: Statement(Assign { variable: [78, 79, 84, 69, 83], value: Logical(true) }) }]",
     )?;
     expect_shown(&rt, alloc, b"SET TAL OFF", "1 Word")?;
     expect_shown(&rt, alloc, b"SET PRINT ON", "1 Word")?;
@@ -439,7 +447,12 @@ fn counts_blocks_and_bytes(rt: HostRuntime) -> Result<(), Fail> {
     expect_shown(&rt, alloc, &file, "1 TooLong")?;
     let file = repeated(alloc, b" ", 512, b";\n")?;
     let file = repeated(alloc, &file, 2, b"\nREAD")?;
-    expect_shown(&rt, alloc, &file, "[Command { line: 4, form: Read }]")?;
+    expect_shown(
+        &rt,
+        alloc,
+        &file,
+        "[Command { line: 4, form: Statement(Read) }]",
+    )?;
     Ok(())
 }
 
@@ -462,7 +475,7 @@ fn counts_parentheses(rt: HostRuntime) -> Result<(), Fail> {
         &rt,
         alloc,
         b"? A->B, M->C",
-        "[Command { line: 1, form: Show { values: [Qualified([65], [66]), Qualified([77], [67])] } }]",
+        "[Command { line: 1, form: Statement(Show { values: [Qualified([65], [66]), Qualified([77], [67])] }) }]",
     )?;
     Ok(())
 }

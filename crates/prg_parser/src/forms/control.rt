@@ -1,28 +1,42 @@
 //! Commands that lead elsewhere.
 
-use crate::command::Form;
+ghost use Rattle.std.specs.Prelude.{option_map};
+ghost use Rattle.prg_expr.specs.Tree.{tree_of};
+ghost use Rattle.prg_parser.specs.Act.{act_of};
+ghost use Rattle.prg_parser.specs.Forms as spec;
+ghost use Rattle.prg_parser.specs.Gives.{at_of, Reads};
+
+use crate::command::Statement;
 use crate::reader::{FormFault, Reader};
 use prg_expr::Expr;
 
 /// `DO procedure [WITH arguments]`.
-pub fn call(reader: &mut Reader<'_>) -> Result<Form, FormFault> {
+#[tactic(auto, unfolding(crate::specs::Forms::call))]
+pub fn call(reader: &mut Reader<'_>) -> Result<Statement, FormFault>
+    ensures { Reads act_of result reader.new (spec.call (at_of reader.old)) }
+{
     let procedure = reader.name()?;
-    let arguments = if reader.takes(b"WITH") {
-        reader.expressions()?
-    } else {
-        Vec::new(reader.alloc)
-    };
-    Ok(Form::Do {
+    if reader.takes(b"WITH") {
+        let arguments = reader.expressions()?;
+        return Ok(Statement::Do {
+            procedure,
+            arguments,
+        });
+    }
+    Ok(Statement::Do {
         procedure,
-        arguments,
+        arguments: Vec::new(reader.alloc),
     })
 }
 
 /// The condition of `SCAN [FOR condition]`.
-pub fn scan_condition(reader: &mut Reader<'_>) -> Result<Option<Expr>, FormFault> {
+#[tactic(auto, unfolding(crate::specs::Forms::scan_condition))]
+pub fn scan_condition(reader: &mut Reader<'_>) -> Result<Option<Expr>, FormFault>
+    ensures { Reads (λ e. option_map tree_of e) result reader.new (spec.scan_condition (at_of reader.old)) }
+{
     if reader.takes(b"FOR") {
-        Ok(Some(reader.expression()?))
-    } else {
-        Ok(None)
+        let condition = reader.expression()?;
+        return Ok(Some(condition));
     }
+    Ok(None)
 }

@@ -1,7 +1,12 @@
 use Rattle.std.proofs.Common.{◌≡◌, map, take}
-use Rattle.prg_parser.specs.declared.judging.Mark.{Mark}
+use Rattle.prg_parser.specs.Joined.{joined_of}
+use Rattle.prg_parser.specs.Marks.{mark_of, saying_at}
+use Rattle.prg_parser.specs.Saying.{saying_of}
 use Rattle.prg_parser.specs.declared.lines.JoinedLine.{JoinedLine}
 use Rattle.prg_parser.proofs.parsing.read_lines.Given as goal
 
 abbrev pub invariant-loop-line : goal.invariant-loop-line
-invariant-loop-line l = map (λ (mark : Mark). mark.line) l.marks.items ≡ map (λ (line : JoinedLine). line.first) (take l.line-index l.lines)
+invariant-loop-line l = record {
+  marks : l.marks.items ≡ map (λ (line : JoinedLine). mark_of (joined_of line)) (take l.line-index l.lines);
+  sayings : map saying_of l.sentences.items ≡ map (λ (line : JoinedLine). saying_at (joined_of line)) (take l.line-index l.lines);
+}

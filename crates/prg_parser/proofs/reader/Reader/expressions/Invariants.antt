@@ -1,5 +1,0 @@
-use Rattle.std.proofs.Common.{length}
-use Rattle.prg_parser.proofs.reader.Reader.expressions.Given as goal
-
-abbrev pub decreases-loop-self : goal.decreases-loop-self
-decreases-loop-self l = length l.self.words.now
