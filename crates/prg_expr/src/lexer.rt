@@ -6,7 +6,7 @@ ghost use Rattle.std.specs.List.{prefix_len};
 ghost use Rattle.prg_expr.specs.Word.{word_of};
 ghost use Rattle.prg_expr.specs.Lexicon as lexicon;
 ghost use Rattle.prg_expr.specs.Scanning as spec;
-ghost use Rattle.prg_expr.specs.Scanning.{seen, IsScan, IsWordsOf};
+ghost use Rattle.prg_expr.specs.Scanning.{scan, seen, IsScan, IsWordsOf};
 ghost use Rattle.prg_expr.specs.Lexicon.{Spot, IsLine};
 
 use crate::fault::{Fault, least};
@@ -418,4 +418,9 @@ pub fn words<'a>(alloc: Global, line: &'a [u8]) -> Result<Line<'a>, AllocError>
 /// The bytes of a line are words in one way only.
 pub fn one_line()
     ensures { (line : List ℕ) (a b : List Spot) → IsLine a line → IsLine b line → a ≡ b }
+{}
+
+/// The words found by going through a line from left to right are the words that its bytes are.
+pub fn lines_are_cut()
+    ensures { (line : List ℕ) → IsLine (scan line) line }
 {}

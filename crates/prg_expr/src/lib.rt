@@ -14,9 +14,9 @@ mod tree;
 
 pub use fault::{Fault, Refusal};
 pub use function::{Function, one_function};
-pub use lexer::{one_line, words};
+pub use lexer::{lines_are_cut, one_line, words};
 pub use names::{is_word, name_of};
 pub use parser::expression;
-pub use reading::{expr, one_tree};
+pub use reading::{expr, expressions_are_read, one_tree};
 pub use token::{Line, Token};
 pub use tree::{Expr, MOST_LETTERS, MOST_TEXT, Name, Operator, Prefix, Text};

@@ -1,10 +1,12 @@
 //! Reading an expression from a text.
 
-ghost use Rattle.std.specs.Prelude.{◌≡◌, ℕ, List, IfOk, Ok, Result};
+ghost use Rattle.std.specs.Prelude.{◌≡◌, ◌++◌, ℕ, List, IfOk, Ok, Result};
 ghost use Rattle.prg_expr.specs.declared.fault.Fault.{Fault as AnyFault};
 ghost use Rattle.prg_expr.specs.Tree.{Tree, tree_of};
-ghost use Rattle.prg_expr.specs.Spelling.{Spells, read, told_of, OnFault};
-ghost use Rattle.prg_expr.specs.Reading.{Gives};
+ghost use Rattle.prg_expr.specs.Spelling.{Spells, InFront, read, told_of, OnFault};
+ghost use Rattle.prg_expr.specs.Grammar as grammar;
+ghost use Rattle.prg_expr.specs.Word.{Word};
+ghost use Rattle.prg_expr.specs.Reading.{Gives, front};
 
 use crate::fault::{Fault, Refusal, least};
 use crate::lexer::cut;
@@ -59,4 +61,12 @@ pub fn expr(alloc: Global, text: &[u8]) -> Result<Expr, Refusal>
 /// A text spells at most one tree.
 pub fn one_tree()
     ensures { (text : List ℕ) (a b : Tree) → Spells a text → Spells b text → a ≡ b }
+{}
+
+/// Reading words from left to right finds the expressions that words spell.
+pub fn expressions_are_read()
+    // What is found in front is spelled by the words up to the rest.
+    ensures sound { (ws rest : List Word) (e : Tree) → front ws ≡ Ok (e, rest) → InFront e ws rest }
+    // An expression behind which no word goes on with it is found.
+    ensures complete { (ws rest : List Word) (e : Tree) → grammar.Spells e ws → grammar.Free 7 rest → front (ws ++ rest) ≡ Ok (e, rest) }
 {}

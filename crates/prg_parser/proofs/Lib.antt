@@ -1,7 +1,13 @@
+pub mod BuildLemmas
+pub mod FormsSound
 pub mod JoinLemmas
+pub mod LayoutLemmas
 pub mod LineLemmas
 pub mod MarkLemmas
+pub mod PartsSound
 pub mod RangeLemmas
+pub mod SaysSound
 pub mod SeveralLemmas
 pub mod Sound
+pub mod TakingLemmas
 pub mod VerdictLemmas

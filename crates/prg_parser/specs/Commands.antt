@@ -13,7 +13,7 @@ use Rattle.prg_parser.specs.declared.verb.Verb.{Verb}
 use Rattle.prg_parser.specs.declared.verb.Verb.TheVariants as verb
 use Rattle.prg_parser.specs.Act.{Act, Letters, Change}
 use Rattle.prg_parser.specs.Act as act
-use Rattle.prg_parser.specs.Forms.{single, change, whole_of}
+use Rattle.prg_parser.specs.Forms.{single, change, whole_of, is_word_in}
 use Rattle.prg_parser.specs.Saying.{Saying}
 use Rattle.prg_parser.specs.Saying as saying
 
@@ -40,6 +40,10 @@ Mark mark P y ws = (rest : List Word) × P y rest × (ws ≡ mark ∷ rest)
 -- one phrase or another
 abbrev pub Either : {B : Type 0} → Phrase B → Phrase B → Phrase B
 Either P Q y ws = P y ws ⊎ Q y ws
+
+-- a phrase that doesn't begin with this word
+abbrev pub But : {B : Type 0} → List ℕ → Phrase B → Phrase B
+But whole P y ws = (is_word_in whole ws ≡ false) × P y ws
 
 -- a name, of at most ten letters where the line has no fault
 abbrev pub Name : Phrase Letters
@@ -82,8 +86,9 @@ Say row column =
 abbrev pub At : Phrase Act
 At = Then Spells (λ row. Mark word.Comma (Then Spells (λ column. Either (Get row column) (Say row column))))
 
+-- a text to be shown; TO is never its first word
 abbrev pub Prompt : Phrase (Option Tree)
-Prompt = Either (Is None) (Then Spells (λ e. Is (Some e)))
+Prompt = Either (Is None) (But (codes "TO") (Then Spells (λ e. Is (Some e))))
 
 abbrev pub Accept : Phrase Act
 Accept = Then Prompt (λ p. Key (codes "TO") (Then Name (λ v. Is (act.Accept p v))))
@@ -97,8 +102,9 @@ Assign = Then Name (λ v. Mark (word.Sign Equal) (Then Spells (λ e. Is (act.Ass
 abbrev pub Store : Phrase Act
 Store = Then Spells (λ e. Key (codes "TO") (Then Names (λ vs. Is (act.Store e vs))))
 
+-- ALL is no variable here
 abbrev pub Release : Phrase Act
-Release = Then Names (λ vs. Is (act.Release vs))
+Release = But (codes "ALL") (Then Names (λ vs. Is (act.Release vs)))
 
 abbrev pub Private : Phrase Act
 Private = Then Names (λ vs. Is (act.Private vs))

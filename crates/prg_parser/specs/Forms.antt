@@ -1,5 +1,5 @@
 -- Reading the words of a line from left to right: what it says, or what is wrong with it.
-use Rattle.std.specs.Prelude.{◌≡◌, ℕ, zero, suc, ◌+◌, ◌≤◌, List, [], ◌∷◌, ◌++◌, length, take, codes, Bool, true, false, ◌&&◌, not, nat_lt, nat_le, Option, Some, None, Result, Ok, Err, if◌then◌else◌, unsigned_abs, ◌==◌}
+use Rattle.std.specs.Prelude.{◌≡◌, ℕ, zero, suc, ◌+◌, ◌≤◌, List, [], ◌∷◌, ◌++◌, length, take, codes, Bool, true, false, ◌&&◌, ◌||◌, not, nat_lt, nat_le, Option, Some, None, Result, Ok, Err, if◌then◌else◌, unsigned_abs, ◌==◌}
 use Rattle.fixed_num.specs.Number.{Number as Decimal, asterisk, finite}
 use Rattle.prg_expr.specs.declared.fault.Fault.{Fault}
 use Rattle.prg_expr.specs.declared.fault.Fault.TheVariants as expr_fault
@@ -98,9 +98,14 @@ is_number ws = false
 abbrev pub is_at_number : At → Bool
 is_at_number a = is_number a.words
 
+abbrev pub is_it : List ℕ → Word → Bool
+is_it whole (word.Name s) = is_cut s whole
+is_it whole w = false
+
+-- whether the first word is this one of the command, perhaps cut
 abbrev pub is_word_in : List ℕ → List Word → Bool
-is_word_in whole (word.Name s ∷ ws) = is_cut s whole
-is_word_in whole ws = false
+is_word_in whole [] = false
+is_word_in whole (w ∷ ws) = is_it whole w
 
 abbrev pub is_at : List ℕ → At → Bool
 is_at whole a = is_word_in whole a.words
@@ -184,7 +189,7 @@ at_place a =
 
 -- a text to be shown, unless the line ends or goes on with TO
 unfoldable pub prompt : Reader (Option Tree)
-prompt a = if is_at (codes "TO") a then Ok (None, a) else (if is_at_end a then Ok (None, a) else (expression a >>= λ x. Ok (Some x.0, x.1)))
+prompt a = if is_at (codes "TO") a || is_at_end a then Ok (None, a) else (expression a >>= λ x. Ok (Some x.0, x.1))
 
 unfoldable pub accept : Reader Act
 accept a = prompt a >>= λ p. clause (codes "TO") p.1 >>= λ b. name b >>= λ v. Ok (act.Accept p.0 v.0, v.1)

@@ -71,3 +71,14 @@ procedure_lines p = line p.line (saying.Procedure p.name.items) ∷ body_lines p
 -- all lines of a program that say something, in their order
 abbrev pub program_lines : Program → Lines
 program_lines p = body_lines p.main.items ++ all_of (map procedure_lines p.procedures.items)
+
+-- what one line says; nothing of a line without meaning
+abbrev pub said : ℕ → Saying → Lines
+said n saying.Nothing = []
+said n s = line n s ∷ []
+
+-- what lines with these numbers say, one after another
+abbrev pub said_lines : List ℕ → List Saying → Lines
+said_lines [] says = []
+said_lines (n ∷ numbers) [] = []
+said_lines (n ∷ numbers) (s ∷ says) = said n s ++ said_lines numbers says

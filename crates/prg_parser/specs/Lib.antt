@@ -1,6 +1,7 @@
 pub mod Act
 pub mod Beginning
 pub mod Blocks
+pub mod Building
 pub mod Commands
 pub mod Forms
 pub mod Gives

@@ -7,7 +7,8 @@ ghost use Rattle.prg_parser.specs.Joined.{joined_of};
 ghost use Rattle.prg_parser.specs.Kinds as kinds;
 ghost use Rattle.prg_parser.specs.Lines.{lines as line_list, before_end};
 ghost use Rattle.prg_parser.specs.Marks as spec;
-ghost use Rattle.prg_parser.specs.Saying.{Saying, saying_of};
+ghost use Rattle.prg_parser.specs.Saying.{Saying, role_of, saying_of};
+ghost use Rattle.prg_parser.specs.Layout.{program_lines, said_lines};
 ghost use Rattle.prg_parser.specs.Verbs.{ignores_rest};
 ghost use Rattle.prg_parser.specs.Verdict.{NamesLine, Tells, verdict};
 ghost use Rattle.prg_parser.specs.declared.fault.FaultKind.{FaultKind as AnyKind};
@@ -134,10 +135,13 @@ fn read_lines(alloc: Global, lines: &[JoinedLine]) -> Result<ReadLines, AllocErr
 }
 
 /// The tree of lines that were judged to be without fault.
-fn build(alloc: Global, marks: &[Mark], sentences: Vec<Sentence>) -> Result<Program, AllocError> {
+fn build(alloc: Global, marks: &[Mark], sentences: Vec<Sentence>) -> Result<Program, AllocError>
+    ensures { verdict [] None marks.now ≡ None → map (λ mark. mark.role) marks.now ≡ map (λ s. role_of (saying_of s)) sentences.items
+        → IfOk result (λ p. program_lines p ≡ said_lines (map (λ mark. mark.line) marks.now) (map saying_of sentences.items)) }
+{
     let mut builder = Builder::new(alloc);
     for (mark, sentence) in marks.iter().zip(sentences) {
-        builder.take(mark.line, sentence)?;
+        builder = builder.take(mark.line, sentence)?;
     }
     builder.finish()
 }

@@ -97,10 +97,7 @@ fn say_get(
 fn prompt(reader: &mut Reader<'_>) -> Result<Option<Expr>, FormFault>
     ensures { Reads (λ e. option_map tree_of e) result reader.new (spec.prompt (at_of reader.old)) }
 {
-    if reader.is_at(b"TO") {
-        return Ok(None);
-    }
-    if reader.is_at_end() {
+    if reader.is_at(b"TO") || reader.is_at_end() {
         return Ok(None);
     }
     let prompt = reader.expression()?;
