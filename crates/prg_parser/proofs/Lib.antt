@@ -1,4 +1,5 @@
 pub mod BuildLemmas
+pub mod FileLemmas
 pub mod FormsSound
 pub mod JoinLemmas
 pub mod LayoutLemmas
@@ -6,6 +7,7 @@ pub mod LineLemmas
 pub mod MarkLemmas
 pub mod PartsSound
 pub mod RangeLemmas
+pub mod RoleLemmas
 pub mod SaysSound
 pub mod SeveralLemmas
 pub mod Sound

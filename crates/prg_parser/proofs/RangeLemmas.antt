@@ -133,7 +133,7 @@ by_number : {X : Type 0} (P : ℕ → Type 0) (f : X → ℕ) (xs : List X) → 
 by_number P f [] h = All-nil (λ x. P (f x))
 by_number P f (x ∷ xs) h = All-cons (λ x. P (f x)) x xs (All-head P (f x) (map f xs) h) (by_number P f xs (All-tail P (f x) (map f xs) h))
 
-marked-lines : (ls : List Joined) → map (λ (m : Mark). m.line) (map mark_of ls) ≡ map (λ (j : Joined). j.first) ls
+pub marked-lines : (ls : List Joined) → map (λ (m : Mark). m.line) (map mark_of ls) ≡ map (λ (j : Joined). j.first) ls
 unfolding mark_of
 marked-lines [] = refl
 marked-lines (j ∷ ls) = ap (λ (ns : List ℕ). j.first ∷ ns) (marked-lines ls)

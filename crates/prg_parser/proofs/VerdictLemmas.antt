@@ -57,3 +57,9 @@ pub no_fault : (own place : Option FaultKind) → least_of own place ≡ None �
 no_fault None place e = e
 no_fault (Some k) None e = refl
 no_fault (Some k) (Some l) e = absurd (some_told (nat_le (rank_of k) (rank_of l)) k l e)
+
+-- and none of its own
+pub own_fault : (own place : Option FaultKind) → least_of own place ≡ None → own ≡ None
+own_fault None place e = refl
+own_fault (Some k) None e = e
+own_fault (Some k) (Some l) e = absurd (some_told (nat_le (rank_of k) (rank_of l)) k l e)

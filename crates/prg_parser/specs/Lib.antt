@@ -3,6 +3,7 @@ pub mod Beginning
 pub mod Blocks
 pub mod Building
 pub mod Commands
+pub mod Files
 pub mod Forms
 pub mod Gives
 pub mod Joined

@@ -2,6 +2,7 @@
 
 ghost use Rattle.std.specs.Prelude.{◌≡◌, length, map, IfOk, IfErr, Result, option_map, if◌then◌else◌, None, []};
 ghost use Rattle.prg_expr.specs.Word.{words as tokens};
+ghost use Rattle.prg_parser.specs.Files.{IsProgramOf};
 ghost use Rattle.prg_parser.specs.Gives.{Gives};
 ghost use Rattle.prg_parser.specs.Joined.{joined_of};
 ghost use Rattle.prg_parser.specs.Kinds as kinds;
@@ -22,7 +23,7 @@ use crate::lines::{JoinedLine, joined_lines};
 use crate::program::Program;
 use crate::reader::{FormFault, Reader};
 use crate::verb::{Verb, verb_of};
-use prg_expr::{Fault, Token, words};
+use prg_expr::{Fault, Token, expressions_are_read, lines_are_cut, words};
 use std::alloc::{AllocError, Global};
 
 /// The most bytes of a joined line.
@@ -159,7 +160,11 @@ pub fn parse(alloc: Global, bytes: &[u8]) -> Result<Program, Refusal>
     ensures named { IfErr result (NamesLine (length (line_list (before_end bytes.now)))) }
     // A program is answered only of a file without any fault.
     ensures faultless { IfOk result (λ program. verdict [] None (spec.marks bytes.now) ≡ None) }
+    // Each line is spelled as the form of its command says, and the program is what the lines say.
+    ensures spelled { IfOk result (IsProgramOf bytes.now) }
 {
+    expressions_are_read();
+    lines_are_cut();
     let lines = joined_lines(alloc, bytes)?;
     let ReadLines { marks, sentences } = read_lines(alloc, &lines)?;
     match judge(&marks) {

@@ -4,7 +4,9 @@ use Rattle.prg_parser.specs.declared.fault.ParseFault.{ParseFault}
 use Rattle.prg_parser.specs.Joined.{joined_of}
 use Rattle.prg_parser.specs.Verdict.{verdict}
 use Rattle.prg_parser.proofs.RangeLemmas.{names_line}
-use Rattle.prg_parser.proofs.MarkLemmas.{all_marks}
+use Rattle.prg_parser.proofs.FileLemmas.{roles_agree, is_program}
+use Rattle.prg_parser.proofs.MarkLemmas.{all_marks, all_sayings}
+use Rattle.prg_parser.specs.Saying.{saying_of}
 use Rattle.prg_parser.proofs.parsing.parse.Goals as goal
 
 pub returns-in-Some-clause-told : goal.returns-in-Some-clause-told
@@ -19,3 +21,17 @@ pub returns-clause-faultless : goal.returns-clause-faultless
 returns-clause-faultless c =
     let same = all_marks c.args.bytes.now c.in_ok-lines.lines.items c.deref.result.now c.in_ok-marks.field-0.marks.items c.in_ok-lines.ensures c.deref.ensures.value c.in_ok-marks.ensures.marks in
     ap (λ (ms : List Mark). verdict [] None ms) (sym same ∙ sym c.deref-2.ensures.value) ∙ sym c.judge.ensures ∙ c.in-None.is
+
+pub returns-clause-spelled : goal.returns-clause-spelled
+returns-clause-spelled c =
+    let bytes = c.args.bytes.now in
+    let ls = c.in_ok-lines.lines.items in
+    let ms = c.in_ok-marks.field-0.marks.items in
+    let ss = c.in_ok-marks.field-0.sentences.items in
+    let law = c.expressions_are_read.ensures.sound in
+    let same = all_marks bytes ls c.deref.result.now ms c.in_ok-lines.ensures c.deref.ensures.value c.in_ok-marks.ensures.marks in
+    let says = all_sayings bytes ls c.deref.result.now (map saying_of ss) c.in_ok-lines.ensures c.deref.ensures.value c.in_ok-marks.ensures.sayings in
+    let none = returns-clause-faultless c in
+    let lent = c.deref-in-None.ensures.value ∙ same in
+    let built = c.in_ok-build-in-None.ensures (ap (λ (l : List Mark). verdict [] None l) lent ∙ none) (roles_agree law bytes c.deref-in-None.result.now ss lent says none) in
+    is_program law c.lines_are_cut.ensures bytes c.deref-in-None.result.now ss c.in_ok-build-in-None.field-0 lent says none built
