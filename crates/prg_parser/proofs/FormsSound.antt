@@ -107,7 +107,7 @@ pub century_sound : Law → Sound f.century (c.Key (codes "CENTURY") (c.Switch C
 unfolding f.century
 century_sound law = clause_sound (codes "CENTURY") (switch_sound law Century)
 
-pub set_switch_sound : Law → Sound f.set_switch (c.Either (c.Key (codes "EXACT") (c.Switch Exact)) (c.Either (c.Key (codes "DELETED") (c.Switch Deleted)) (c.Key (codes "CENTURY") (c.Switch Century))))
+pub set_switch_sound : Law → Sound f.set_switch (c.Where (codes "EXACT") (c.Switch Exact) (c.Where (codes "DELETED") (c.Switch Deleted) (c.Key (codes "CENTURY") (c.Switch Century))))
 unfolding f.set_switch
 set_switch_sound law = taken_sound (codes "EXACT") (switch_sound law Exact) (taken_sound (codes "DELETED") (switch_sound law Deleted) (century_sound law))
 

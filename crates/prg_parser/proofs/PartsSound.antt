@@ -20,7 +20,7 @@ use Rattle.prg_parser.specs.Forms as f
 use Rattle.prg_parser.specs.Forms.{At, at, Reader, Taken, on_taken, unexpected, is_at, is_at_end, is_nil, is_it, is_word_in, kind_told, ◌>>=◌}
 use Rattle.prg_parser.specs.Commands as c
 use Rattle.prg_parser.specs.Commands.{Phrase, Is, Then, Mark, But, Either, Name, Whole, Several, Expressions, Names, Prompt, SelectNumber}
-use Rattle.prg_parser.proofs.Sound.{Sound, Front, ok, fine, failed, taken, not_ok, ok_same, bind_ok, same_said, same_place, same_words, is_sound, then_sound, mark_sound, apart, not-taken, not-left, same-taken}
+use Rattle.prg_parser.proofs.Sound.{Sound, Front, ok, fine, failed, taken, not_ok, ok_same, bind_ok, same_said, same_place, same_words, but_front, is_sound, then_sound, mark_sound, apart, not-taken, not-left, same-taken}
 
 -- that reading finds what words spell, which the crate of expressions proves
 abbrev pub Law : Type 0
@@ -247,14 +247,6 @@ pub several_sound : {A : Type 0} {one : Reader A} {P : Phrase A} → Sound one P
 several_sound {A} {one} {P} first = record { reads = several_front one P first }
 
 -- a phrase that doesn't begin with a word
-
-not_in_front : (whole : List ℕ) (front rest : List Word) → is_word_in whole (front ++ rest) ≡ false → is_word_in whole front ≡ false
-not_in_front whole [] rest h = refl
-not_in_front whole (w ∷ ws) rest h = h
-
-but_front : {B : Type 0} (whole : List ℕ) (P : Phrase B) (y : B) (ws rest : List Word) → is_word_in whole ws ≡ false → Front (P y) ws rest → Front (But whole P y) ws rest
-but_front whole P y ws rest n p =
-    record { front = p.front; holds = (not_in_front whole p.front rest (ap (is_word_in whole) (sym p.splits) ∙ n), p.holds); splits = p.splits }
 
 refused_front : {B : Type 0} (whole : List ℕ) (r : Reader B) (P : Phrase B) → Sound r P → (x : Bool) (a : At) → is_word_in whole a.words ≡ x → (y : B) (d : At)
     → (if x then failed kind.Word else r a) ≡ Ok (y, d) → Front (But whole P y) a.words d.words

@@ -12,7 +12,7 @@ use Rattle.prg_parser.specs.Saying.{Saying, role_of}
 use Rattle.prg_parser.specs.Saying as saying
 use Rattle.prg_parser.specs.Verbs as verbs
 use Rattle.prg_parser.specs.Commands as c
-use Rattle.prg_parser.specs.Commands.{Phrase, Is, Then, Key, Mark, Either, But}
+use Rattle.prg_parser.specs.Commands.{Phrase, Is, Then, Key, Mark, Either, But, Where}
 
 -- a phrase that says no LOOP and no EXIT
 record Plain (P : Phrase Act) : Type 0 where
@@ -43,6 +43,9 @@ one_of P Q g h y ws (inr q) = h.plain y ws q
 either_plain : {P Q : Phrase Act} → Plain P → Plain Q → Plain (Either P Q)
 either_plain {P} {Q} g h = record { plain = one_of P Q g h }
 
+where_plain : (whole : List ℕ) {P Q : Phrase Act} → Plain P → Plain Q → Plain (Where whole P Q)
+where_plain whole {P} {Q} g h = either_plain (key_plain whole g) (but_plain whole h)
+
 number_plain : (n : ℕ) → Plain (c.SelectNumber n)
 number_plain n = record { plain = λ y ws p. ap role_said p.2.0 }
 
@@ -56,10 +59,10 @@ longer_plain verb.Unknown = impossible (λ y ws p. p)
 longer_plain verb.Macro = impossible (λ y ws p. p)
 longer_plain verb.Show = either_plain (is_plain (act.Show []) refl) (then_plain (λ es. is_plain (act.Show es) refl))
 longer_plain verb.ShowOn = then_plain (λ es. is_plain (act.ShowOn es) refl)
-longer_plain verb.At = then_plain (λ row. mark_plain _ (then_plain (λ column. either_plain (key_plain _ (then_plain (λ v. is_plain (act.Get row column v) refl))) (key_plain _ (then_plain (λ e. either_plain (key_plain _ (then_plain (λ v. is_plain (act.SayGet row column e v) refl))) (is_plain (act.Say row column e) refl)))))))
+longer_plain verb.At = then_plain (λ row. mark_plain _ (then_plain (λ column. where_plain _ (then_plain (λ v. is_plain (act.Get row column v) refl)) (key_plain _ (then_plain (λ e. where_plain _ (then_plain (λ v. is_plain (act.SayGet row column e v) refl)) (is_plain (act.Say row column e) refl)))))))
 longer_plain verb.Read = impossible (λ y ws p. p)
 longer_plain verb.Accept = then_plain (λ p. key_plain _ (then_plain (λ v. is_plain (act.Accept p v) refl)))
-longer_plain verb.Wait = then_plain (λ p. either_plain (key_plain _ (then_plain (λ v. is_plain (act.Wait p (Some v)) refl))) (is_plain (act.Wait p None) refl))
+longer_plain verb.Wait = then_plain (λ p. where_plain _ (then_plain (λ v. is_plain (act.Wait p (Some v)) refl)) (is_plain (act.Wait p None) refl))
 longer_plain verb.Clear = impossible (λ y ws p. p)
 longer_plain verb.Assign = then_plain (λ v. mark_plain _ (then_plain (λ e. is_plain (act.Assign v e) refl)))
 longer_plain verb.Store = then_plain (λ e. key_plain _ (then_plain (λ vs. is_plain (act.Store e vs) refl)))
@@ -80,15 +83,15 @@ longer_plain verb.EndScan = impossible (λ y ws p. p)
 longer_plain verb.Loop = impossible (λ y ws p. p)
 longer_plain verb.Exit = impossible (λ y ws p. p)
 longer_plain verb.Procedure = impossible (λ y ws p. p)
-longer_plain verb.Do = then_plain (λ p. either_plain (key_plain _ (then_plain (λ es. is_plain (act.Do p es) refl))) (is_plain (act.Do p []) refl))
+longer_plain verb.Do = then_plain (λ p. where_plain _ (then_plain (λ es. is_plain (act.Do p es) refl)) (is_plain (act.Do p []) refl))
 longer_plain verb.Return = impossible (λ y ws p. p)
 longer_plain verb.Quit = impossible (λ y ws p. p)
 longer_plain verb.Cancel = impossible (λ y ws p. p)
-longer_plain verb.Use = either_plain (is_plain act.Close refl) (then_plain (λ t. either_plain (key_plain _ (then_plain (λ is. is_plain (act.Use t is) refl))) (is_plain (act.Use t []) refl)))
+longer_plain verb.Use = either_plain (is_plain act.Close refl) (then_plain (λ t. where_plain _ (then_plain (λ is. is_plain (act.Use t is) refl)) (is_plain (act.Use t []) refl)))
 longer_plain verb.Select = either_plain (then_plain (λ n. number_plain n)) (then_plain (λ s. is_plain (act.Select (act.Named s)) refl))
-longer_plain verb.Close = either_plain (key_plain _ (is_plain act.CloseAll refl)) (key_plain _ (is_plain act.CloseAll refl))
-longer_plain verb.Set = either_plain (key_plain _ (key_plain _ (then_plain (λ n. is_plain (act.SetOrder n) refl)))) (either_plain (key_plain _ (key_plain _ (either_plain (is_plain (act.SetFilter None) refl) (then_plain (λ e. is_plain (act.SetFilter (Some e)) refl))))) (either_plain (key_plain _ (either_plain (key_plain _ (is_plain (act.Set Exact true) refl)) (key_plain _ (is_plain (act.Set Exact false) refl)))) (either_plain (key_plain _ (either_plain (key_plain _ (is_plain (act.Set Deleted true) refl)) (key_plain _ (is_plain (act.Set Deleted false) refl)))) (key_plain _ (either_plain (key_plain _ (is_plain (act.Set Century true) refl)) (key_plain _ (is_plain (act.Set Century false) refl)))))))
-longer_plain verb.Go = either_plain (key_plain _ (is_plain (act.Go act.Top) refl)) (either_plain (key_plain _ (is_plain (act.Go act.Bottom) refl)) (then_plain (λ e. is_plain (act.Go (act.Record e)) refl)))
+longer_plain verb.Close = where_plain _ (is_plain act.CloseAll refl) (key_plain _ (is_plain act.CloseAll refl))
+longer_plain verb.Set = where_plain _ (key_plain _ (then_plain (λ n. is_plain (act.SetOrder n) refl))) (where_plain _ (key_plain _ (either_plain (is_plain (act.SetFilter None) refl) (then_plain (λ e. is_plain (act.SetFilter (Some e)) refl)))) (where_plain _ (where_plain _ (is_plain (act.Set Exact true) refl) (key_plain _ (is_plain (act.Set Exact false) refl))) (where_plain _ (where_plain _ (is_plain (act.Set Deleted true) refl) (key_plain _ (is_plain (act.Set Deleted false) refl))) (key_plain _ (where_plain _ (is_plain (act.Set Century true) refl) (key_plain _ (is_plain (act.Set Century false) refl)))))))
+longer_plain verb.Go = where_plain _ (is_plain (act.Go act.Top) refl) (where_plain _ (is_plain (act.Go act.Bottom) refl) (then_plain (λ e. is_plain (act.Go (act.Record e)) refl)))
 longer_plain verb.Skip = either_plain (is_plain (act.Skip None) refl) (then_plain (λ e. is_plain (act.Skip (Some e)) refl))
 longer_plain verb.Seek = then_plain (λ e. is_plain (act.Seek e) refl)
 longer_plain verb.Append = key_plain _ (is_plain act.AppendBlank refl)

@@ -6,8 +6,8 @@ use Rattle.prg_expr.specs.Functions.{is_cut}
 use Rattle.prg_expr.specs.Word.{Word}
 use Rattle.prg_expr.specs.Word as word
 use Rattle.prg_parser.specs.declared.fault.FaultKind.{FaultKind}
-use Rattle.prg_parser.specs.Forms.{At, at, Read, Reader, Taken, on_taken, takes, takes_in, clause, unexpected, ◌>>=◌}
-use Rattle.prg_parser.specs.Commands.{Phrase, Is, Then, Key, Mark, Either}
+use Rattle.prg_parser.specs.Forms.{At, at, Read, Reader, Taken, on_taken, takes, takes_in, is_word_in, clause, unexpected, ◌>>=◌}
+use Rattle.prg_parser.specs.Commands.{Phrase, Is, Then, Key, Mark, Either, But, Where}
 
 -- words in front of a rest that are as they have to be
 pub record Front (P : List Word → Type 0) (ws rest : List Word) : Type 0 where
@@ -153,15 +153,45 @@ if_front r s P Q first second false a y d e = either_right P Q y a.words d.words
 pub if_sound : {B : Type 0} (test : At → Bool) {r s : Reader B} {P Q : Phrase B} → Sound r P → Sound s Q → Sound (λ a. if test a then r a else s a) (Either P Q)
 if_sound test {r} {s} {P} {Q} first second = record { reads = λ a y d h. if_front r s P Q first second (test a) a y d h }
 
-taken_front : {B : Type 0} (whole : List ℕ) (r s : Reader B) (P Q : Phrase B) → Sound r P → Sound s Q → (x : Bool) (a b : At) (y : B) (d : At)
-    → takes whole a ≡ taken x b → on_taken (taken x b) r s ≡ Ok (y, d) → Front (Either (Key whole P) Q y) a.words d.words
-taken_front whole r s P Q first second true a b y d t e =
-    either_left (Key whole P) Q y a.words d.words (key_front whole P y a.words b.words d.words (took-in whole a b a.words t) (first.reads b y d e))
-taken_front whole r s P Q first second false a b y d t e =
-    either_right (Key whole P) Q y a.words d.words
-    (subst (λ (ws : List Word). Front (Q y) ws d.words) (sym (same_words a b (stood-in whole a b a.words t))) (second.reads b y d e))
+-- a phrase that doesn't begin with a word
 
-pub taken_sound : {B : Type 0} (whole : List ℕ) {r s : Reader B} {P Q : Phrase B} → Sound r P → Sound s Q → Sound (λ a. on_taken (takes whole a) r s) (Either (Key whole P) Q)
+not_in_front : (whole : List ℕ) (front rest : List Word) → is_word_in whole (front ++ rest) ≡ false → is_word_in whole front ≡ false
+not_in_front whole [] rest h = refl
+not_in_front whole (w ∷ ws) rest h = h
+
+pub but_front : {B : Type 0} (whole : List ℕ) (P : Phrase B) (y : B) (ws rest : List Word) → is_word_in whole ws ≡ false → Front (P y) ws rest → Front (But whole P y) ws rest
+but_front whole P y ws rest n p =
+    record { front = p.front; holds = (not_in_front whole p.front rest (ap (is_word_in whole) (sym p.splits) ∙ n), p.holds); splits = p.splits }
+
+absent_name : (s whole : List ℕ) (a b : At) (ws : List Word) (x : Bool) → (if x then taken true (at ws false) else taken false a) ≡ taken false b → x ≡ false
+absent_name s whole a b ws true h = absurd (not-left (at ws false) b h)
+absent_name s whole a b ws false h = refl
+
+absent_in : (whole : List ℕ) (a b : At) (ws : List Word) → takes_in whole a ws ≡ taken false b → is_word_in whole ws ≡ false
+unfolding takes_in
+absent_in whole a b [] h = refl
+absent_in whole a b (word.Name s ∷ ws) h = absent_name s whole a b ws (is_cut s whole) h
+absent_in whole a b (word.Number n ∷ ws) h = refl
+absent_in whole a b (word.Text t ∷ ws) h = refl
+absent_in whole a b (word.Logical l ∷ ws) h = refl
+absent_in whole a b (word.Not ∷ ws) h = refl
+absent_in whole a b (word.Sign o ∷ ws) h = refl
+absent_in whole a b (word.Arrow ∷ ws) h = refl
+absent_in whole a b (word.Open ∷ ws) h = refl
+absent_in whole a b (word.Close ∷ ws) h = refl
+absent_in whole a b (word.Comma ∷ ws) h = refl
+absent_in whole a b (word.Outside m ∷ ws) h = refl
+
+taken_front : {B : Type 0} (whole : List ℕ) (r s : Reader B) (P Q : Phrase B) → Sound r P → Sound s Q → (x : Bool) (a b : At) (y : B) (d : At)
+    → takes whole a ≡ taken x b → on_taken (taken x b) r s ≡ Ok (y, d) → Front (Where whole P Q y) a.words d.words
+taken_front whole r s P Q first second true a b y d t e =
+    either_left (Key whole P) (But whole Q) y a.words d.words (key_front whole P y a.words b.words d.words (took-in whole a b a.words t) (first.reads b y d e))
+taken_front whole r s P Q first second false a b y d t e =
+    either_right (Key whole P) (But whole Q) y a.words d.words
+    (but_front whole Q y a.words d.words (absent_in whole a b a.words t)
+    (subst (λ (ws : List Word). Front (Q y) ws d.words) (sym (same_words a b (stood-in whole a b a.words t))) (second.reads b y d e)))
+
+pub taken_sound : {B : Type 0} (whole : List ℕ) {r s : Reader B} {P Q : Phrase B} → Sound r P → Sound s Q → Sound (λ a. on_taken (takes whole a) r s) (Where whole P Q)
 taken_sound whole {r} {s} {P} {Q} first second = record { reads = λ a y d h. taken_front whole r s P Q first second (takes whole a).0 a (takes whole a).1 y d refl h }
 
 -- a word that must stand in front

@@ -45,6 +45,10 @@ Either P Q y ws = P y ws ⊎ Q y ws
 abbrev pub But : {B : Type 0} → List ℕ → Phrase B → Phrase B
 But whole P y ws = (is_word_in whole ws ≡ false) × P y ws
 
+-- what follows this word, or a phrase that doesn't begin with it
+abbrev pub Where : {B : Type 0} → List ℕ → Phrase B → Phrase B → Phrase B
+Where whole P Q = Either (Key whole P) (But whole Q)
+
 -- a name, of at most ten letters where the line has no fault
 abbrev pub Name : Phrase Letters
 Name n ws = (s : List ℕ) × (n ≡ take 10 s) × (ws ≡ word.Name s ∷ [])
@@ -74,17 +78,14 @@ Show = Either (Is (act.Show [])) (Then Expressions (λ es. Is (act.Show es)))
 abbrev pub ShowOn : Phrase Act
 ShowOn = Then Expressions (λ es. Is (act.ShowOn es))
 
--- GET variable, and SAY value [GET variable], behind a place
-abbrev pub Get : Tree → Tree → Phrase Act
-Get row column = Key (codes "GET") (Then Name (λ v. Is (act.Get row column v)))
-
+-- SAY value [GET variable], behind a place
 abbrev pub Say : Tree → Tree → Phrase Act
 Say row column =
-    Key (codes "SAY") (Then Spells (λ e. Either (Key (codes "GET") (Then Name (λ v. Is (act.SayGet row column e v)))) (Is (act.Say row column e))))
+    Key (codes "SAY") (Then Spells (λ e. Where (codes "GET") (Then Name (λ v. Is (act.SayGet row column e v))) (Is (act.Say row column e))))
 
 -- @ row,column and what stands there
 abbrev pub At : Phrase Act
-At = Then Spells (λ row. Mark word.Comma (Then Spells (λ column. Either (Get row column) (Say row column))))
+At = Then Spells (λ row. Mark word.Comma (Then Spells (λ column. Where (codes "GET") (Then Name (λ v. Is (act.Get row column v))) (Say row column))))
 
 -- a text to be shown; TO is never its first word
 abbrev pub Prompt : Phrase (Option Tree)
@@ -94,7 +95,7 @@ abbrev pub Accept : Phrase Act
 Accept = Then Prompt (λ p. Key (codes "TO") (Then Name (λ v. Is (act.Accept p v))))
 
 abbrev pub Wait : Phrase Act
-Wait = Then Prompt (λ p. Either (Key (codes "TO") (Then Name (λ v. Is (act.Wait p (Some v))))) (Is (act.Wait p None)))
+Wait = Then Prompt (λ p. Where (codes "TO") (Then Name (λ v. Is (act.Wait p (Some v)))) (Is (act.Wait p None)))
 
 abbrev pub Assign : Phrase Act
 Assign = Then Name (λ v. Mark (word.Sign Equal) (Then Spells (λ e. Is (act.Assign v e))))
@@ -113,13 +114,13 @@ abbrev pub Parameters : Phrase Act
 Parameters = Then Names (λ vs. Is (act.Parameters vs))
 
 abbrev pub Do : Phrase Act
-Do = Then Name (λ p. Either (Key (codes "WITH") (Then Expressions (λ es. Is (act.Do p es)))) (Is (act.Do p [])))
+Do = Then Name (λ p. Where (codes "WITH") (Then Expressions (λ es. Is (act.Do p es))) (Is (act.Do p [])))
 
 abbrev pub ScanFor : Phrase (Option Tree)
-ScanFor = Either (Key (codes "FOR") (Then Spells (λ e. Is (Some e)))) (Is None)
+ScanFor = Where (codes "FOR") (Then Spells (λ e. Is (Some e))) (Is None)
 
 abbrev pub Use : Phrase Act
-Use = Either (Is act.Close) (Then Name (λ t. Either (Key (codes "INDEX") (Then Names (λ is. Is (act.Use t is)))) (Is (act.Use t []))))
+Use = Either (Is act.Close) (Then Name (λ t. Where (codes "INDEX") (Then Names (λ is. Is (act.Use t is))) (Is (act.Use t []))))
 
 -- a work area by its number, 1 to 10, or by a name
 abbrev pub SelectNumber : ℕ → Phrase Act
@@ -129,7 +130,7 @@ abbrev pub Select : Phrase Act
 Select = Either (Then Whole SelectNumber) (Then Name (λ s. Is (act.Select (act.Named s))))
 
 abbrev pub Close : Phrase Act
-Close = Either (Key (codes "ALL") (Is act.CloseAll)) (Key (codes "DATABASES") (Is act.CloseAll))
+Close = Where (codes "ALL") (Is act.CloseAll) (Key (codes "DATABASES") (Is act.CloseAll))
 
 abbrev pub Order : Phrase Act
 Order = Key (codes "TO") (Then Whole (λ n. Is (act.SetOrder n)))
@@ -138,15 +139,15 @@ abbrev pub Filter : Phrase Act
 Filter = Key (codes "TO") (Either (Is (act.SetFilter None)) (Then Spells (λ e. Is (act.SetFilter (Some e)))))
 
 abbrev pub Switch : Setting → Phrase Act
-Switch s = Either (Key (codes "ON") (Is (act.Set s true))) (Key (codes "OFF") (Is (act.Set s false)))
+Switch s = Where (codes "ON") (Is (act.Set s true)) (Key (codes "OFF") (Is (act.Set s false)))
 
 abbrev pub Set : Phrase Act
 Set =
-    Either (Key (codes "ORDER") Order) (Either (Key (codes "FILTER") Filter)
-    (Either (Key (codes "EXACT") (Switch Exact)) (Either (Key (codes "DELETED") (Switch Deleted)) (Key (codes "CENTURY") (Switch Century)))))
+    Where (codes "ORDER") Order (Where (codes "FILTER") Filter
+    (Where (codes "EXACT") (Switch Exact) (Where (codes "DELETED") (Switch Deleted) (Key (codes "CENTURY") (Switch Century)))))
 
 abbrev pub Go : Phrase Act
-Go = Either (Key (codes "TOP") (Is (act.Go act.Top))) (Either (Key (codes "BOTTOM") (Is (act.Go act.Bottom))) (Then Spells (λ e. Is (act.Go (act.Record e)))))
+Go = Where (codes "TOP") (Is (act.Go act.Top)) (Where (codes "BOTTOM") (Is (act.Go act.Bottom)) (Then Spells (λ e. Is (act.Go (act.Record e)))))
 
 abbrev pub Skip : Phrase Act
 Skip = Either (Is (act.Skip None)) (Then Spells (λ e. Is (act.Skip (Some e))))
