@@ -5,3 +5,4 @@ pub mod HeadLemmas
 pub mod EntryLemmas
 pub mod PageLemmas
 pub mod ReadLemmas
+pub mod PageOf

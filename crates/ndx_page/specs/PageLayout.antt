@@ -1,5 +1,5 @@
 -- A page of entries.
-use Rattle.std.specs.Prelude.{◌≡◌, ℕ, zero, suc, ◌+◌, ◌*◌, ◌<◌, ◌≤◌, ◌⊎◌, List, [], ◌∷◌, ◌++◌, length, take, drop, Bool, not, ◌&&◌, ◌||◌, ◌==◌, nat_lt, if◌then◌else◌, All}
+use Rattle.std.specs.Prelude.{◌≡◌, ℕ, zero, suc, ◌+◌, ◌*◌, ◌<◌, ◌≤◌, ◌⊎◌, List, [], ◌∷◌, ◌++◌, length, take, drop, Bool, not, ◌&&◌, ◌||◌, ◌==◌, nat_lt, if◌then◌else◌, Option, Some, None, find, is_none, All}
 use Rattle.std.specs.List.{list_any, flat_map}
 use Rattle.ndx_page.specs.declared.page.Entry.{Entry}
 use Rattle.ndx_page.specs.declared.page.Page.{Page}
@@ -67,6 +67,20 @@ has_page_fault key_length bytes Record = is_told_leaf bytes && list_any (λ e. e
 -- the order in which faults are told
 abbrev pub page_faults : List PageFault
 page_faults = Count ∷ Child ∷ Record ∷ []
+
+-- ---- the page that is told
+
+-- the page that stands in 512 bytes, or none where they have a fault
+unfoldable pub page_of : ℕ → List ℕ → Option Page
+page_of key_length bytes =
+    if is_none (find (has_page_fault key_length bytes) page_faults)
+    then Some (record { entries = record { items = told_entries key_length bytes }; last = if is_told_leaf bytes then 0 else told_last key_length bytes })
+    else None
+
+-- The page of 512 bytes is the one that stands in them.
+pub record PagesAreTold : Type 0 where
+  pub stands : (key_length : ℕ) (bytes : List ℕ) (page : Page) → length bytes ≡ 512 → page_of key_length bytes ≡ Some page → IsPage key_length bytes page
+  pub told : (key_length : ℕ) (bytes : List ℕ) (page : Page) → IsPage key_length bytes page → page_of key_length bytes ≡ Some page
 
 -- ---- as it is written
 

@@ -3,6 +3,7 @@
 
 mod head;
 mod head_bytes;
+pub mod laws;
 mod layout;
 mod numbers;
 mod page;

@@ -4,6 +4,7 @@ use Rattle.std.proofs.lemmas.Bool.{ltb-true, lt-ltb, ne_eqb}
 use Rattle.std.proofs.lemmas.List.{length-take, length-drop}
 use Rattle.std.proofs.Math.Nat.{mul-div-le}
 use Rattle.ndx_page.specs.declared.page.Page.{Page}
+use Rattle.ndx_page.specs.PageLayout.{PagesAreTold}
 use Rattle.ndx_tree.specs.IndexFile.{Item, Link, IsNode, AreBelow, IsBelow, AreFresh, is_barred, is_listed, page_at, page_count, IsTreeOf, IsIndexFile, AreInOrder, listed}
 use Rattle.ndx_tree.specs.KeyForm.{KeyForm}
 use Rattle.ndx_page.specs.declared.head.Head.{Head}
@@ -14,7 +15,6 @@ use Rattle.ndx_tree.proofs.Reading.{IsWalkFault, walk_told}
 use Rattle.ndx_tree.specs.Pairs.{Pair}
 use Rattle.ndx_tree.specs.Walk.{Seen, pages_of, walk, walk_file, unseen, IsFirstFault}
 use Rattle.ndx_tree.specs.declared.fault.TreeFault.{TreeFault}
-use Rattle.ndx_tree.proofs.PageOf.{page_of-stands, stands-page_of}
 use Rattle.ndx_tree.proofs.Exact.{IsUnder, walk_sound, walk_complete, fresh_front, fresh_back}
 
 -- a page in the file is 512 bytes
@@ -47,12 +47,12 @@ node_below : (R Q : ℕ → List ℕ → List Item → Type 0) (count : ℕ) →
 node_below R Q count h here page zero seen r i f a = a
 node_below R Q count h here page (suc last) seen r i f a = sides_below R Q count h _ seen r i f a
 
-pub under_below : (k : ℕ) (bytes : List ℕ) (level d n : ℕ) (seen r : List ℕ) (i : List Item) → AreFresh (page_count bytes) seen r → IsUnder (pages_of k bytes) level d n r i → IsBelow k bytes level d n r i
-under_below k bytes level zero n seen r i f a = absurd a
-under_below k bytes level (suc d) n seen r i f a =
+pub under_below : PagesAreTold → (k : ℕ) (bytes : List ℕ) (level d n : ℕ) (seen r : List ℕ) (i : List Item) → AreFresh (page_count bytes) seen r → IsUnder (pages_of k bytes) level d n r i → IsBelow k bytes level d n r i
+under_below laws k bytes level zero n seen r i f a = absurd a
+under_below laws k bytes level (suc d) n seen r i f a =
     let fresh : AreFresh (page_count bytes) seen (n ∷ a.1) = subst (AreFresh (page_count bytes) seen) a.3 f in
     let whole = length-page_at n bytes (fresh_within (page_count bytes) n seen fresh.0) in
-    (a.0, a.1, page_of-stands k (page_at n bytes) a.0 whole a.2, a.3, node_below (IsUnder (pages_of k bytes) level d) (IsBelow k bytes level d) (page_count bytes) (λ m seen r i f u. under_below k bytes level d m seen r i f u) (eqb d level) a.0 a.0.last (seen ++ n ∷ []) a.1 i fresh.1 a.4)
+    (a.0, a.1, laws.stands k (page_at n bytes) a.0 whole a.2, a.3, node_below (IsUnder (pages_of k bytes) level d) (IsBelow k bytes level d) (page_count bytes) (λ m seen r i f u. under_below laws k bytes level d m seen r i f u) (eqb d level) a.0 a.0.last (seen ++ n ∷ []) a.1 i fresh.1 a.4)
 
 sides_any : (R Q : ℕ → List ℕ → List Item → Type 0) → ((n : ℕ) (r : List ℕ) (i : List Item) → R n r i → Q n r i) → (cs : List Link) (r : List ℕ) (i : List Item) → AreBelow R cs r i → AreBelow Q cs r i
 sides_any R Q h [] r i a = a
@@ -62,22 +62,22 @@ node_any : (R Q : ℕ → List ℕ → List Item → Type 0) → ((n : ℕ) (r :
 node_any R Q h here page zero r i a = a
 node_any R Q h here page (suc last) r i a = sides_any R Q h _ r i a
 
-pub below_under : (k : ℕ) (bytes : List ℕ) (level d n : ℕ) (r : List ℕ) (i : List Item) → IsBelow k bytes level d n r i → IsUnder (pages_of k bytes) level d n r i
-below_under k bytes level zero n r i a = absurd a
-below_under k bytes level (suc d) n r i a =
-    (a.0, a.1, stands-page_of k (page_at n bytes) a.0 a.2, a.3, node_any (IsBelow k bytes level d) (IsUnder (pages_of k bytes) level d) (λ m r i u. below_under k bytes level d m r i u) (eqb d level) a.0 a.0.last a.1 i a.4)
+pub below_under : PagesAreTold → (k : ℕ) (bytes : List ℕ) (level d n : ℕ) (r : List ℕ) (i : List Item) → IsBelow k bytes level d n r i → IsUnder (pages_of k bytes) level d n r i
+below_under laws k bytes level zero n r i a = absurd a
+below_under laws k bytes level (suc d) n r i a =
+    (a.0, a.1, laws.told k (page_at n bytes) a.0 a.2, a.3, node_any (IsBelow k bytes level d) (IsUnder (pages_of k bytes) level d) (λ m r i u. below_under laws k bytes level d m r i u) (eqb d level) a.0 a.0.last a.1 i a.4)
 
 -- a walk that ends well has met a tree
-pub walked_tree : (k root : ℕ) (bytes : List ℕ) (t : Seen) (pairs : List Pair) → walk (pages_of k bytes) (page_count bytes) 20 root unseen ≡ Ok t → AreInOrder t.items → pairs ≡ listed t.items → IsTreeOf bytes k root pairs
-walked_tree k root bytes t pairs e order is =
+pub walked_tree : PagesAreTold → (k root : ℕ) (bytes : List ℕ) (t : Seen) (pairs : List Pair) → walk (pages_of k bytes) (page_count bytes) 20 root unseen ≡ Ok t → AreInOrder t.items → pairs ≡ listed t.items → IsTreeOf bytes k root pairs
+walked_tree laws k root bytes t pairs e order is =
     let a = walk_sound (pages_of k bytes) (page_count bytes) 20 root unseen t e in
     let met : t.items ≡ a.met = ap (λ (v : Seen). v.items) a.is in
-    record { level = a.level; reached = a.more; items = a.met; below = under_below k bytes a.level 20 root [] a.more a.met a.fresh a.below; fresh = a.fresh; order = subst AreInOrder met order; pairs_are = is ∙ ap listed met }
+    record { level = a.level; reached = a.more; items = a.met; below = under_below laws k bytes a.level 20 root [] a.more a.met a.fresh a.below; fresh = a.fresh; order = subst AreInOrder met order; pairs_are = is ∙ ap listed met }
 
 -- and a tree is what a walk meets
-pub tree_walked : (k root : ℕ) (bytes : List ℕ) (pairs : List Pair) → IsTreeOf bytes k root pairs → (t : Seen) × (walk (pages_of k bytes) (page_count bytes) 20 root unseen ≡ Ok t) × AreInOrder t.items × (pairs ≡ listed t.items)
-tree_walked k root bytes pairs t =
-    (record { reached = t.reached; items = t.items; level = Some t.level }, walk_complete (pages_of k bytes) (page_count bytes) t.level 20 root unseen t.reached t.items tt (below_under k bytes t.level 20 root t.reached t.items t.below) t.fresh, t.order, t.pairs_are)
+pub tree_walked : PagesAreTold → (k root : ℕ) (bytes : List ℕ) (pairs : List Pair) → IsTreeOf bytes k root pairs → (t : Seen) × (walk (pages_of k bytes) (page_count bytes) 20 root unseen ≡ Ok t) × AreInOrder t.items × (pairs ≡ listed t.items)
+tree_walked laws k root bytes pairs t =
+    (record { reached = t.reached; items = t.items; level = Some t.level }, walk_complete (pages_of k bytes) (page_count bytes) t.level 20 root unseen t.reached t.items tt (below_under laws k bytes t.level 20 root t.reached t.items t.below) t.fresh, t.order, t.pairs_are)
 
 -- ---- the whole file
 
@@ -96,11 +96,11 @@ pub record IsMet (bytes : List ℕ) (form : KeyForm) (pairs : List Pair) (head :
   pub key_length : head.length ≡ form.key_length
   pub key_text : head.text.items ≡ form.key_text
 
-pub index_walked : (bytes : List ℕ) (form : KeyForm) (pairs : List Pair) → IsIndexFile bytes form pairs → (head : Head) → ((h : Head) → IsHead bytes h → h ≡ head) → IsMet bytes form pairs head
+pub index_walked : PagesAreTold → (bytes : List ℕ) (form : KeyForm) (pairs : List Pair) → IsIndexFile bytes form pairs → (head : Head) → ((h : Head) → IsHead bytes h → h ≡ head) → IsMet bytes form pairs head
 unfolding walk_file
-index_walked bytes form pairs f head same =
+index_walked laws bytes form pairs f head same =
     let e = same f.head f.is_head in
-    let w = tree_walked f.head.length f.head.root bytes pairs f.tree in
+    let w = tree_walked laws f.head.length f.head.root bytes pairs f.tree in
     record {
       seen = w.0;
       walked = ap (λ (h : Head). walk (pages_of h.length bytes) (page_count bytes) 20 h.root unseen) (sym e) ∙ w.1;
@@ -110,9 +110,9 @@ index_walked bytes form pairs f head same =
       key_text = ap (λ (h : Head). h.text.items) (sym e) ∙ f.key_text;
     }
 
-pub walked_index : (bytes : List ℕ) (head : Head) (t : Seen) (form : KeyForm) (pairs : List Pair) → IsHead bytes head → walk_file head bytes ≡ Ok t → AreInOrder t.items → pairs ≡ listed t.items → head.length ≡ form.key_length → head.text.items ≡ form.key_text → IsIndexFile bytes form pairs
+pub walked_index : PagesAreTold → (bytes : List ℕ) (head : Head) (t : Seen) (form : KeyForm) (pairs : List Pair) → IsHead bytes head → walk_file head bytes ≡ Ok t → AreInOrder t.items → pairs ≡ listed t.items → head.length ≡ form.key_length → head.text.items ≡ form.key_text → IsIndexFile bytes form pairs
 unfolding walk_file
-walked_index bytes head t form pairs is w order p l x = record { head = head; is_head = is; key_length = l; key_text = x; tree = walked_tree head.length head.root bytes t pairs w order p }
+walked_index laws bytes head t form pairs is w order p l x = record { head = head; is_head = is; key_length = l; key_text = x; tree = walked_tree laws head.length head.root bytes t pairs w order p }
 
 file_told : (bytes : List ℕ) (head : Head) (f : TreeFault) → walk_file head bytes ≡ Err f → IsWalkFault f
 unfolding walk_file
@@ -131,19 +131,19 @@ first_fault bytes head fault is w = of fault w (file_told bytes head fault w)
     of faults.Memory e h = absurd h
 
 -- bytes with a fault are no index file
-pub fault_no_index : (bytes : List ℕ) (head : Head) (fault : TreeFault) → ((h : Head) → IsHead bytes h → h ≡ head) → walk_file head bytes ≡ Err fault → (form : KeyForm) (pairs : List Pair) → IsIndexFile bytes form pairs → ⊥
-fault_no_index bytes head fault same w form pairs f =
-    let m = index_walked bytes form pairs f head same in
+pub fault_no_index : PagesAreTold → (bytes : List ℕ) (head : Head) (fault : TreeFault) → ((h : Head) → IsHead bytes h → h ≡ head) → walk_file head bytes ≡ Err fault → (form : KeyForm) (pairs : List Pair) → IsIndexFile bytes form pairs → ⊥
+fault_no_index laws bytes head fault same w form pairs f =
+    let m = index_walked laws bytes form pairs f head same in
     not_both m.seen fault (sym m.walked ∙ w)
 
-pub order_no_index : (bytes : List ℕ) (head : Head) (t : Seen) → ((h : Head) → IsHead bytes h → h ≡ head) → walk_file head bytes ≡ Ok t → (AreInOrder t.items → ⊥) → (form : KeyForm) (pairs : List Pair) → IsIndexFile bytes form pairs → ⊥
-order_no_index bytes head t same w none form pairs f =
-    let m = index_walked bytes form pairs f head same in
+pub order_no_index : PagesAreTold → (bytes : List ℕ) (head : Head) (t : Seen) → ((h : Head) → IsHead bytes h → h ≡ head) → walk_file head bytes ≡ Ok t → (AreInOrder t.items → ⊥) → (form : KeyForm) (pairs : List Pair) → IsIndexFile bytes form pairs → ⊥
+order_no_index laws bytes head t same w none form pairs f =
+    let m = index_walked laws bytes form pairs f head same in
     none (subst (λ (s : Seen). AreInOrder s.items) (ok_same m.seen t (sym m.walked ∙ w)) m.order)
 
-pub same_list : (bytes : List ℕ) (head : Head) (t : Seen) → ((h : Head) → IsHead bytes h → h ≡ head) → walk_file head bytes ≡ Ok t → (form other : KeyForm) (pairs others : List Pair) → IsIndexFile bytes form pairs → others ≡ listed t.items → other.key_length ≡ head.length → other.key_text ≡ head.text.items → (other ≡ form) × (others ≡ pairs)
-same_list bytes head t same w form other pairs others f p l x =
-    let m = index_walked bytes form pairs f head same in (
+pub same_list : PagesAreTold → (bytes : List ℕ) (head : Head) (t : Seen) → ((h : Head) → IsHead bytes h → h ≡ head) → walk_file head bytes ≡ Ok t → (form other : KeyForm) (pairs others : List Pair) → IsIndexFile bytes form pairs → others ≡ listed t.items → other.key_length ≡ head.length → other.key_text ≡ head.text.items → (other ≡ form) × (others ≡ pairs)
+same_list laws bytes head t same w form other pairs others f p l x =
+    let m = index_walked laws bytes form pairs f head same in (
       ap (λ n. let k : KeyForm = record { key_length = n; key_text = other.key_text } in k) (l ∙ m.key_length) ∙ ap (λ (n : List ℕ). let k : KeyForm = record { key_length = form.key_length; key_text = n } in k) (x ∙ m.key_text),
       p ∙ ap (λ (s : Seen). listed s.items) (sym (ok_same m.seen t (sym m.walked ∙ w))) ∙ sym m.pairs_are,
     )

@@ -1,19 +1,12 @@
 -- A walk over the pages of an index file, and the first fault that it meets.
-use Rattle.std.specs.Prelude.{◌≡◌, ℕ, zero, suc, Bool, true, ◌==◌, if◌then◌else◌, cond, Option, Some, None, Result, Ok, Err, List, [], ◌∷◌, ◌++◌, find, is_none}
+use Rattle.std.specs.Prelude.{◌≡◌, ℕ, zero, suc, Bool, true, ◌==◌, cond, Option, Some, None, Result, Ok, Err, List, [], ◌∷◌, ◌++◌}
 use Rattle.ndx_page.specs.declared.head.Head.{Head}
 use Rattle.ndx_page.specs.declared.page.Page.{Page}
 use Rattle.ndx_page.specs.HeadLayout.{IsHead}
-use Rattle.ndx_page.specs.PageLayout.{has_page_fault, page_faults, told_entries, told_last, is_told_leaf}
+use Rattle.ndx_page.specs.PageLayout.{page_of}
 use Rattle.ndx_tree.specs.IndexFile.{Item, Link, all_listed, leaf_pairs, links, behind, is_barred, page_at, page_count, AreInOrder}
 use Rattle.ndx_tree.specs.declared.fault.TreeFault.{TreeFault}
 use Rattle.ndx_tree.specs.declared.fault.TreeFault.TheVariants as faults
-
--- the page that stands in 512 bytes, or none where they have a fault
-unfoldable pub page_of : ℕ → List ℕ → Option Page
-page_of key_length bytes =
-    if is_none (find (has_page_fault key_length bytes) page_faults)
-    then Some (record { entries = record { items = told_entries key_length bytes }; last = if is_told_leaf bytes then 0 else told_last key_length bytes })
-    else None
 
 -- the pages reached and the items met so far, and where the first leaf stood
 pub record Seen : Type 0 where

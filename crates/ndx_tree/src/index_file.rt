@@ -14,6 +14,7 @@ use crate::order::is_in_order;
 use crate::walk::walk_pages;
 use crate::{Entry, NdxTree, TreeFault};
 use arrayvec::ArrayVec;
+use ndx_page::laws::pages_are_told;
 use ndx_page::{Head, read_head, write_head};
 use std::alloc::{AllocError, Global};
 
@@ -46,6 +47,7 @@ impl NdxTree {
         // The first fault is told.
         ensures fault { IfErr result (IsFirstFault bytes.now) }
     {
+        pages_are_told();
         let Ok(head) = read_head(bytes) else {
             return Err(TreeFault::Head);
         };

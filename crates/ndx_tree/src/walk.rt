@@ -13,6 +13,7 @@ ghost use Rattle.ndx_tree.specs.Reads.{Shows, Marks, Gives, Opens, unset, AreKey
 
 use crate::{Entry, TreeFault};
 use arrayvec::ArrayVec;
+use ndx_page::laws::pages_are_told;
 use ndx_page::{Head, MAX_KEY, PAGE_SIZE, Page, read_page};
 use std::alloc::{AllocError, Global};
 
@@ -51,6 +52,7 @@ fn open_page(head: &Head, bytes: &[u8], number: u32, reached: &[bool]) -> Result
     ensures within { IfOk result (λ _. number < page_count bytes.now) }
     ensures free { IfOk result (λ _. (d : Bool) → slice_index_or reached.now number d ≡ false) }
 {
+    pages_are_told();
     let place = number as usize;
     if place == 0 || place >= reached.len() || reached[place] {
         return Err(TreeFault::Reach);

@@ -190,64 +190,43 @@ fn after_word<'a>(word: &[u8], bytes: &'a [u8]) -> Option<&'a [u8]>
     }
 }
 
+/// A word without a fault, and the bytes behind it.
+fn clean_at<'a>(token: Token<'a>, rest: &'a [u8]) -> Scanned<'a>
+    ensures { seen result ≡ spec.clean_at (word_of token.entry) rest.now }
+{
+    Scanned {
+        token,
+        fault: None,
+        rest,
+    }
+}
+
 /// The word between points whose first point stands before these bytes.
 fn pointed_at<'a>(bytes: &'a [u8]) -> Scanned<'a>
     ensures { seen result ≡ spec.pick lexicon.pointed bytes.now }
 {
     if let Some(rest) = after_word(b"t.", bytes) {
-        return Scanned {
-            token: Token::Logical(true),
-            fault: None,
-            rest,
-        };
+        return clean_at(Token::Logical(true), rest);
     }
     if let Some(rest) = after_word(b"y.", bytes) {
-        return Scanned {
-            token: Token::Logical(true),
-            fault: None,
-            rest,
-        };
+        return clean_at(Token::Logical(true), rest);
     }
     if let Some(rest) = after_word(b"f.", bytes) {
-        return Scanned {
-            token: Token::Logical(false),
-            fault: None,
-            rest,
-        };
+        return clean_at(Token::Logical(false), rest);
     }
     if let Some(rest) = after_word(b"n.", bytes) {
-        return Scanned {
-            token: Token::Logical(false),
-            fault: None,
-            rest,
-        };
+        return clean_at(Token::Logical(false), rest);
     }
     if let Some(rest) = after_word(b"not.", bytes) {
-        return Scanned {
-            token: Token::Not,
-            fault: None,
-            rest,
-        };
+        return clean_at(Token::Not, rest);
     }
     if let Some(rest) = after_word(b"and.", bytes) {
-        return Scanned {
-            token: Token::Operator(Operator::And),
-            fault: None,
-            rest,
-        };
+        return clean_at(Token::Operator(Operator::And), rest);
     }
     if let Some(rest) = after_word(b"or.", bytes) {
-        return Scanned {
-            token: Token::Operator(Operator::Or),
-            fault: None,
-            rest,
-        };
+        return clean_at(Token::Operator(Operator::Or), rest);
     }
-    Scanned {
-        token: Token::Point,
-        fault: None,
-        rest: bytes,
-    }
+    clean_at(Token::Point, bytes)
 }
 
 /// Whether a digit begins the bytes.

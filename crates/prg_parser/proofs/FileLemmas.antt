@@ -1,12 +1,12 @@
 -- Of a file without a fault each line says its part.
-use Rattle.std.proofs.Common.{◌≡◌, ℕ, ◌≤◌, List, [], ◌∷◌, Option, Some, None, Bool, true, false, Result, Ok, Err, length, map, refl, sym, ◌∙◌, ap, subst, arith}
+use Rattle.std.proofs.Common.{◌≡◌, ℕ, ◌≤◌, List, [], ◌∷◌, Option, Some, None, Bool, true, false, Result, Ok, Err, length, map, refl, sym, ◌∙◌, ap}
 use Rattle.std.specs.Prelude.{if◌then◌else◌, nat_lt, nat_le, option_map}
 use Rattle.std.specs.List.{All}
 use Rattle.std.proofs.lemmas.Bool.{ltb-false}
 use Rattle.std.proofs.lemmas.List.Elements.{All-nil, All-cons, All-head, All-tail}
 use Rattle.prg_expr.specs.declared.fault.Fault.{Fault}
 use Rattle.prg_expr.specs.Faults.{least, least_of as least_fault, rank}
-use Rattle.prg_expr.specs.Lexicon.{Spot, spot_word, spot_fault, IsLine}
+use Rattle.prg_expr.specs.Lexicon.{Spot, spot_fault, IsLine}
 use Rattle.prg_expr.specs.Scanning.{scan}
 use Rattle.prg_parser.specs.declared.blocks.Part.{Part}
 use Rattle.prg_parser.specs.declared.blocks.Role.{Role}
@@ -15,29 +15,25 @@ use Rattle.prg_parser.specs.declared.fault.FaultKind.{FaultKind}
 use Rattle.prg_parser.specs.declared.fault.FaultKind.TheVariants.{TooLong}
 use Rattle.prg_parser.specs.declared.fault.ParseFault.{ParseFault}
 use Rattle.prg_parser.specs.declared.judging.Mark.{Mark}
-use Rattle.prg_parser.specs.declared.lines.JoinedLine.{JoinedLine}
 use Rattle.prg_parser.specs.declared.program.Program.{Program}
 use Rattle.prg_parser.specs.declared.verb.Verb.{Verb}
 use Rattle.prg_parser.specs.Blocks.{parts_after, fault_of}
 use Rattle.prg_parser.specs.Commands.{Says}
 use Rattle.prg_parser.specs.Files.{Faultless, Counts, LineSays, SaysAll, IsProgramOf, numbers}
 use Rattle.prg_parser.specs.Forms.{At, at, sentence}
-use Rattle.prg_parser.specs.Joined.{joined_of}
 use Rattle.prg_parser.specs.Kinds.{least_of, kind_of}
 use Rattle.prg_parser.specs.Layout.{program_lines, said_lines}
 use Rattle.prg_parser.specs.Lines.{Joined, joined_lines}
 use Rattle.prg_parser.specs.Marks.{form, fault_in, saying_in, found_in, mark_of, saying_at, marks, word_fault, length_fault}
 use Rattle.prg_parser.specs.Saying.{Saying, role_of, saying_of}
-use Rattle.prg_parser.specs.Verbs as verbs
 use Rattle.prg_parser.specs.Verbs.{Found, ignores_rest}
 use Rattle.prg_parser.specs.Verdict as spec
 use Rattle.prg_parser.specs.Verdict.{verdict}
-use Rattle.prg_parser.proofs.MarkLemmas.{seen_as_joined}
 use Rattle.prg_parser.proofs.PartsSound.{Law}
 use Rattle.prg_parser.proofs.RangeLemmas.{marked-lines}
 use Rattle.prg_parser.proofs.RoleLemmas.{role_agrees}
 use Rattle.prg_parser.proofs.SaysSound.{says_sound}
-use Rattle.prg_parser.proofs.Sound.{fine, failed, not_ok, ok_same}
+use Rattle.prg_parser.proofs.Sound.{fine, failed, not_ok}
 use Rattle.prg_parser.proofs.VerdictLemmas.{no_fault, own_fault}
 
 -- that going through a line finds its words, which the crate of expressions proves

@@ -1,5 +1,5 @@
 -- Each reader of a form answers what the form's phrase says.
-use Rattle.std.proofs.Common.{◌≡◌, List, [], ◌∷◌, codes, true, false, Option, Some, None}
+use Rattle.std.proofs.Common.{[], codes, true, false, Some, None}
 use Rattle.prg_expr.specs.Grammar.{Spells}
 use Rattle.prg_expr.specs.Tree.{Tree}
 use Rattle.prg_parser.specs.declared.command.Setting.{Setting}

@@ -1,5 +1,5 @@
 -- The parts of forms: expressions, names, numbers, marks and lists.
-use Rattle.std.proofs.Common.{◌≡◌, ℕ, zero, suc, ◌≤◌, List, [], ◌∷◌, ◌++◌, length, take, Bool, true, false, Option, Some, None, Result, Ok, Err, refl, sym, ap, ◌∙◌, subst, append_assoc, inl, inr}
+use Rattle.std.proofs.Common.{◌≡◌, ℕ, zero, suc, List, [], ◌∷◌, ◌++◌, length, take, Bool, true, false, Option, None, Result, Ok, Err, refl, sym, ap, ◌∙◌, subst, append_assoc, inl, inr}
 use Rattle.std.specs.Prelude.{if◌then◌else◌, nat_le, ◌&&◌, ◌||◌}
 use Rattle.std.proofs.lemmas.Bool.{leb-true}
 use Rattle.std.proofs.lemmas.List.{append-nil}
@@ -20,7 +20,7 @@ use Rattle.prg_parser.specs.Forms as f
 use Rattle.prg_parser.specs.Forms.{At, at, Reader, Taken, on_taken, unexpected, is_at, is_at_end, is_nil, is_it, is_word_in, kind_told, ◌>>=◌}
 use Rattle.prg_parser.specs.Commands as c
 use Rattle.prg_parser.specs.Commands.{Phrase, Is, Then, Mark, But, Either, Name, Whole, Several, Expressions, Names, Prompt, SelectNumber}
-use Rattle.prg_parser.proofs.Sound.{Sound, Front, ok, fine, failed, taken, not_ok, ok_same, bind_ok, same_said, same_place, same_words, but_front, is_sound, then_sound, mark_sound, apart, not-taken, not-left, same-taken}
+use Rattle.prg_parser.proofs.Sound.{Sound, Front, ok, fine, failed, taken, not_ok, ok_same, bind_ok, same_said, same_place, same_words, but_front, is_sound, mark_sound, apart, not-taken, not-left, same-taken}
 
 -- that reading finds what words spell, which the crate of expressions proves
 abbrev pub Law : Type 0

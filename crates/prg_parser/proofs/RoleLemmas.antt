@@ -1,5 +1,5 @@
 -- What a line is to the blocks around it, by its command and by what it says: the same.
-use Rattle.std.proofs.Common.{◌≡◌, ℕ, List, [], ◌∷◌, ◌⊎◌, inl, inr, true, false, Option, Some, None, refl, sym, ap, ◌∙◌}
+use Rattle.std.proofs.Common.{◌≡◌, ℕ, List, [], ◌⊎◌, inl, inr, true, false, Some, None, refl, sym, ap, ◌∙◌}
 use Rattle.prg_expr.specs.Word.{Word}
 use Rattle.prg_parser.specs.declared.blocks.Role.{Role}
 use Rattle.prg_parser.specs.declared.blocks.Role.TheVariants as role

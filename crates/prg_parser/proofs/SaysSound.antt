@@ -1,5 +1,5 @@
 -- What a line is read to say is what its phrase says.
-use Rattle.std.proofs.Common.{◌≡◌, List, [], ◌∷◌, ◌++◌, Bool, true, false, Option, Some, None, Result, Ok, Err, refl, sym, ap, ◌∙◌, subst}
+use Rattle.std.proofs.Common.{◌≡◌, List, [], ◌∷◌, ◌++◌, Bool, true, false, Option, Some, None, Ok, refl, sym, ap, ◌∙◌, subst}
 use Rattle.std.specs.Prelude.{if◌then◌else◌}
 use Rattle.std.proofs.lemmas.List.{append-nil}
 use Rattle.prg_expr.specs.Word.{Word}
@@ -12,7 +12,7 @@ use Rattle.prg_parser.specs.Saying as saying
 use Rattle.prg_parser.specs.Forms as f
 use Rattle.prg_parser.specs.Forms.{At, is_nil, unexpected, ◌>>=◌}
 use Rattle.prg_parser.specs.Commands as c
-use Rattle.prg_parser.proofs.Sound.{Sound, Front, fine, failed, not_ok, ok_same, bind_ok, is_sound, then_sound, fails_sound, apart}
+use Rattle.prg_parser.proofs.Sound.{Sound, fine, failed, not_ok, ok_same, bind_ok, is_sound, then_sound, fails_sound, apart}
 use Rattle.prg_parser.proofs.PartsSound.{Law, expression_sound, name_sound}
 use Rattle.prg_parser.proofs.FormsSound as form
 

@@ -1,12 +1,11 @@
 -- What reading from left to right finds is what the grammar allows.
-use Rattle.std.proofs.Common.{◌≡◌, ℕ, zero, suc, ◌≤◌, ◌⊎◌, List, [], ◌∷◌, ◌++◌, length, take, Bool, true, false, Option, Some, None, Result, Ok, Err, refl, sym, ap, ◌∙◌, subst, append_assoc, arith, inl, inr}
+use Rattle.std.proofs.Common.{◌≡◌, ℕ, List, [], ◌∷◌, ◌++◌, Bool, true, false, Result, Ok, Err, refl, sym, ap, ◌∙◌, subst, append_assoc, inl, inr}
 use Rattle.std.specs.Prelude.{if◌then◌else◌}
-use Rattle.std.proofs.lemmas.List.{append-nil}
 use Rattle.prg_expr.specs.Functions.{is_cut}
 use Rattle.prg_expr.specs.Word.{Word}
 use Rattle.prg_expr.specs.Word as word
 use Rattle.prg_parser.specs.declared.fault.FaultKind.{FaultKind}
-use Rattle.prg_parser.specs.Forms.{At, at, Read, Reader, Taken, on_taken, takes, takes_in, is_word_in, clause, unexpected, ◌>>=◌}
+use Rattle.prg_parser.specs.Forms.{At, at, Reader, Taken, on_taken, takes, takes_in, is_word_in, clause, unexpected, ◌>>=◌}
 use Rattle.prg_parser.specs.Commands.{Phrase, Is, Then, Key, Mark, Either, But, Where}
 
 -- words in front of a rest that are as they have to be

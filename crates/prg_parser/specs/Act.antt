@@ -1,7 +1,6 @@
 -- A command of one line, without where it lies in memory.
 use Rattle.std.specs.Prelude.{ℕ, List, Bool, map, Option, option_map}
 use Rattle.prg_expr.specs.Tree.{Tree, tree_of}
-use Rattle.prg_expr.specs.declared.tree.Expr.{Expr}
 use Rattle.arrayvec.specs.ArrayVec.{ArrayVec}
 use Rattle.prg_parser.specs.declared.command.Setting.{Setting}
 use Rattle.prg_parser.specs.declared.command.Selected.{Selected}

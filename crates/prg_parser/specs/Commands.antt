@@ -1,5 +1,5 @@
 -- The form of each command on its words: a grammar, in which a phrase is a relation between what is said and all of its words.
-use Rattle.std.specs.Prelude.{◌≡◌, ◌≤◌, ◌⊎◌, ℕ, List, [], ◌∷◌, ◌++◌, take, codes, Bool, true, false, Option, Some, None, Result, Ok}
+use Rattle.std.specs.Prelude.{◌≡◌, ◌≤◌, ◌⊎◌, ℕ, List, [], ◌∷◌, ◌++◌, take, codes, true, false, Option, Some, None, Ok}
 use Rattle.fixed_num.specs.Number.{Number as Decimal}
 use Rattle.prg_expr.specs.declared.tree.Operator.TheVariants.{Equal}
 use Rattle.prg_expr.specs.Functions.{is_cut}

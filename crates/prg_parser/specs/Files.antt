@@ -1,5 +1,5 @@
 -- What a program is to the bytes of its file.
-use Rattle.std.specs.Prelude.{◌≡◌, ◌≤◌, ℕ, List, [], ◌∷◌, map, length, Bool, true, false, Option, None}
+use Rattle.std.specs.Prelude.{◌≡◌, ◌≤◌, ℕ, List, [], ◌∷◌, map, length, Bool, true, false, None}
 use Rattle.prg_expr.specs.Lexicon.{Spot, spot_word, spot_fault, IsLine}
 use Rattle.prg_parser.specs.declared.program.Program.{Program}
 use Rattle.prg_parser.specs.Commands.{Says}

@@ -1,8 +1,7 @@
 -- Reading the words of a line from left to right: what it says, or what is wrong with it.
-use Rattle.std.specs.Prelude.{◌≡◌, ℕ, zero, suc, ◌+◌, ◌≤◌, List, [], ◌∷◌, ◌++◌, length, take, codes, Bool, true, false, ◌&&◌, ◌||◌, not, nat_lt, nat_le, Option, Some, None, Result, Ok, Err, if◌then◌else◌, unsigned_abs, ◌==◌}
+use Rattle.std.specs.Prelude.{ℕ, zero, suc, List, [], ◌∷◌, ◌++◌, length, take, codes, Bool, true, false, ◌&&◌, ◌||◌, nat_lt, nat_le, Option, Some, None, Result, Ok, Err, if◌then◌else◌, unsigned_abs, ◌==◌}
 use Rattle.fixed_num.specs.Number.{Number as Decimal, asterisk, finite}
 use Rattle.prg_expr.specs.declared.fault.Fault.{Fault}
-use Rattle.prg_expr.specs.declared.fault.Fault.TheVariants as expr_fault
 use Rattle.prg_expr.specs.declared.tree.Operator.TheVariants.{Equal}
 use Rattle.prg_expr.specs.Functions.{is_cut}
 use Rattle.prg_expr.specs.Reading.{front}

@@ -1,5 +1,5 @@
 -- What each line of a file says by itself, and which fault it has.
-use Rattle.std.specs.Prelude.{◌≡◌, ℕ, false, List, map, length, nat_lt, Option, Some, None, Result, Ok, Err, option_map, if◌then◌else◌}
+use Rattle.std.specs.Prelude.{ℕ, false, List, map, length, nat_lt, Option, Some, None, Result, Ok, Err, option_map, if◌then◌else◌}
 use Rattle.prg_expr.specs.Faults.{least_of as least_fault}
 use Rattle.prg_expr.specs.Lexicon.{Spot, spot_word, spot_fault}
 use Rattle.prg_expr.specs.Scanning.{scan}

@@ -7,7 +7,6 @@ use Rattle.std.proofs.lemmas.Bool.{cases_lt}
 use Rattle.std.proofs.lemmas.List.{drop_more, take-append-le, take_all, take-replicate, take-map, drop_all, length-replicate}
 use Rattle.fixed_num.specs.Number.{Number}
 use Rattle.fixed_num.specs.Text.{printed}
-use Rattle.fixed_num.proofs.LawLemmas.{printed-fills}
 use Rattle.xvalue.specs.Shown.{in_ten_places}
 use Rattle.xvalue.specs.Texts.{fitting, begins_with, repeated, first_place, further}
 
@@ -121,11 +120,11 @@ refilled n old new e f =
     ap (λ rest. take n (new ++ rest)) (drop_all (length new) old (omega (arith, e, f))) ∙ ap (take n) (append-nil new) ∙ take_all n new (omega (arith, f))
 
 -- a number in a field of blanks
-pub field_filled : (n width d decimals : ℕ) (x : Number) (old new : List ℕ) → n ≡ min width 254 → d ≡ min decimals 15 → old ≡ fitting (replicate n 32) → new ≡ printed n d x → refill (length old) old new ≡ fitting (printed (min width 254) (min decimals 15) x)
-field_filled n width d decimals x old new e f g h =
-    let long : length (printed n d x) ≤ 254 = omega (arith, e, printed-fills n d x) in
+pub field_filled : ((width decimals : ℕ) (x : Number) → length (printed width decimals x) ≡ width) → (n width d decimals : ℕ) (x : Number) (old new : List ℕ) → n ≡ min width 254 → d ≡ min decimals 15 → old ≡ fitting (replicate n 32) → new ≡ printed n d x → refill (length old) old new ≡ fitting (printed (min width 254) (min decimals 15) x)
+field_filled fills n width d decimals x old new e f g h =
+    let long : length (printed n d x) ≤ 254 = omega (arith, e, fills n d x) in
     let room : length old ≡ n = field_length n width old e g in
-    refilled (length old) old new refl (ap length h ∙ printed-fills n d x ∙ sym room)
+    refilled (length old) old new refl (ap length h ∙ fills n d x ∙ sym room)
     ∙ h
     ∙ sym (take_all 254 (printed n d x) long)
     ∙ ap (λ k. fitting (printed k d x)) e

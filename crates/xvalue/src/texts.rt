@@ -10,6 +10,7 @@ ghost use Rattle.xvalue.specs.Texts.{fitting, without_last_blanks, equal_texts, 
 
 use crate::text::{Text, text_of};
 use fixed_num::Num;
+use fixed_num::laws::print_fills_its_field;
 
 /// The most bytes of a text.
 const MOST_BYTES: usize = 254;
@@ -293,6 +294,7 @@ pub fn byte_text(number: Num) -> Text
 pub fn printed(number: Num, width: usize, decimals: usize) -> Text
     ensures { result.items ≡ fitting (printed (min width 254) (min decimals 15) number) }
 {
+    print_fills_its_field();
     let width = width.min(MOST_BYTES);
     let mut field = blanks(width);
     number.print(width, decimals.min(15) as u8, field.as_mut_slice());

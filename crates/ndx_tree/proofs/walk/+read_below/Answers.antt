@@ -2,12 +2,12 @@ use Rattle.std.proofs.Common.{◌≡◌, ℕ, ◌-◌, ◌<◌, Bool, true, fals
 use Rattle.std.specs.Vec.{with_item}
 use Rattle.std.proofs.lemmas.Result.{err_from_is_err_and}
 use Rattle.ndx_page.specs.declared.page.Entry.{Entry}
-use Rattle.ndx_page.proofs.LayoutLemmas.{most_entries-bound}
 use Rattle.ndx_tree.specs.IndexFile.{page_count, links}
 use Rattle.ndx_tree.specs.Walk.{Seen, walk, pages_of, visit, walk_all, with_separator}
 use Rattle.ndx_tree.specs.Reads.{Shows, Marks, Gives, unset}
 use Rattle.ndx_tree.specs.declared.fault.TreeFault.{TreeFault}
 use Rattle.ndx_tree.specs.declared.walk.Found.{Found}
+use Rattle.ndx_tree.proofs.PageOf.{most_entries-bound}
 use Rattle.ndx_tree.proofs.Reading.{shows_reached, unset_set, leaf_fits, walk_refused, walk_opened, visit_inner, links_end, gives_last, left_step, left_fault}
 use Rattle.ndx_tree.proofs.walk.+read_below.Goals as goal
 

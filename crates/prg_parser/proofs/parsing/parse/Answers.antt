@@ -1,7 +1,5 @@
-use Rattle.std.proofs.Common.{◌≡◌, ◌∙◌, ap, sym, map, List, [], None, Option}
+use Rattle.std.proofs.Common.{◌∙◌, ap, sym, map, List, [], None}
 use Rattle.prg_parser.specs.declared.judging.Mark.{Mark}
-use Rattle.prg_parser.specs.declared.fault.ParseFault.{ParseFault}
-use Rattle.prg_parser.specs.Joined.{joined_of}
 use Rattle.prg_parser.specs.Verdict.{verdict}
 use Rattle.prg_parser.proofs.RangeLemmas.{names_line}
 use Rattle.prg_parser.proofs.FileLemmas.{roles_agree, is_program}

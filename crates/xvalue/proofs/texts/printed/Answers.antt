@@ -8,4 +8,4 @@ print-requires-clause-whole_field c =
 
 pub returns : goal.returns
 returns c =
-    field_filled c.min-width.result c.args.width c.min.result c.args.decimals c.args.number c.blanks-field.result.items c.print.new.field c.min-width.ensures c.min.ensures c.blanks-field.ensures c.print.ensures
+    field_filled c.print_fills_its_field.ensures c.min-width.result c.args.width c.min.result c.args.decimals c.args.number c.blanks-field.result.items c.print.new.field c.min-width.ensures c.min.ensures c.blanks-field.ensures c.print.ensures

@@ -2,7 +2,6 @@ use Rattle.std.proofs.Common.{◌≡◌, ◌∙◌, ◌+◌, ◌-◌, ◌≤◌,
 use Rattle.std.proofs.lemmas.Bool.{eqb-true, eqb-false}
 use Rattle.std.proofs.lemmas.List.{nil_from_length, append-nil, take_all}
 use Rattle.ndx_page.specs.declared.page.Entry.{Entry as FileEntry}
-use Rattle.ndx_page.proofs.LayoutLemmas.{most_entries-bound}
 use Rattle.ndx_tree.specs.Order.{Each}
 use Rattle.ndx_tree.specs.Pairs.{Pair}
 use Rattle.ndx_tree.specs.KeyForm.{IsPairOf}
@@ -11,6 +10,7 @@ use Rattle.ndx_tree.specs.Pages.{PageView, view_of, pairs_of, IsPage, joined, he
 use Rattle.ndx_tree.specs.Writes.{AreWritten, IsWritten}
 use Rattle.ndx_tree.proofs.Cut.{cut_length, cut_from, pairs_from}
 use Rattle.ndx_tree.proofs.Between.{take_next}
+use Rattle.ndx_tree.proofs.PageOf.{most_entries-bound}
 use Rattle.ndx_tree.proofs.Writing.{leaf_written, inner_written, none_written, child_written, child_at_place, inner_fits, leaf_page_fits}
 use Rattle.ndx_tree.proofs.page.Page.+write.Goals as goal
 

@@ -14,7 +14,7 @@ pub returns-in_err-found-clause-only : goal.returns-in_err-found-clause-only
 returns-in_err-found-clause-only c = λ form pairs f.
     let p = err_from_is_err_and c.from_residual.result c.from_residual.ensures.1 in
     let same = heads_same c.args.bytes.now c.read_head.result c.in-Ok.head c.read_head.ensures.only c.in-Ok.is in
-    rw (p.1, p.2) (⊎_elim (λ m. m) (λ w. absurd (fault_no_index c.args.bytes.now c.in-Ok.head c.in_err-found.field-0.0 same w form pairs f)) c.in_err-found.ensures.fault)
+    rw (p.1, p.2) (⊎_elim (λ m. m) (λ w. absurd (fault_no_index c.pages_are_told.ensures c.args.bytes.now c.in-Ok.head c.in_err-found.field-0.0 same w form pairs f)) c.in_err-found.ensures.fault)
 
 pub returns-in_err-found-clause-fault : goal.returns-in_err-found-clause-fault
 returns-in_err-found-clause-fault c =
@@ -35,7 +35,7 @@ returns-then-not-is_in_order-clause-only c = λ form pairs f.
     let shown = c.in_ok-found.ensures.met.2 in
     let same = heads_same c.args.bytes.now c.read_head.result c.in-Ok.head c.read_head.ensures.only c.in-Ok.is in
     let no : AreInOrder t.items → ⊥ = λ o. false≢true (sym c.if-not-is_in_order.true ∙ (c.is_in_order.ensures t.items shown.entries shown.separators).1 o) in
-    absurd (order_no_index c.args.bytes.now c.in-Ok.head t same walked no form pairs f)
+    absurd (order_no_index c.pages_are_told.ensures c.args.bytes.now c.in-Ok.head t same walked no form pairs f)
 
 pub returns-then-not-is_in_order-clause-fault : goal.returns-then-not-is_in_order-clause-fault
 returns-then-not-is_in_order-clause-fault c =
@@ -63,7 +63,7 @@ returns-clause-read c =
     let shown = c.in_ok-found.ensures.met.2 in
     let order : AreInOrder t.items = (c.is_in_order.ensures t.items shown.entries shown.separators).0 c.if-not-is_in_order.false in
     let e = c.in_ok-tree.ensures in
-    walked_index c.args.bytes.now c.in-Ok.head t _ _ c.in-Ok.ensures.read walked order (e.pairs ∙ shown.entries) (sym e.key_length) (sym e.key_text)
+    walked_index c.pages_are_told.ensures c.args.bytes.now c.in-Ok.head t _ _ c.in-Ok.ensures.read walked order (e.pairs ∙ shown.entries) (sym e.key_length) (sym e.key_text)
 
 pub returns-clause-only : goal.returns-clause-only
 returns-clause-only c = λ form pairs f.
@@ -72,4 +72,4 @@ returns-clause-only c = λ form pairs f.
     let shown = c.in_ok-found.ensures.met.2 in
     let same = heads_same c.args.bytes.now c.read_head.result c.in-Ok.head c.read_head.ensures.only c.in-Ok.is in
     let e = c.in_ok-tree.ensures in
-    same_list c.args.bytes.now c.in-Ok.head t same walked form _ pairs _ f (e.pairs ∙ shown.entries) e.key_length e.key_text
+    same_list c.pages_are_told.ensures c.args.bytes.now c.in-Ok.head t same walked form _ pairs _ f (e.pairs ∙ shown.entries) e.key_length e.key_text

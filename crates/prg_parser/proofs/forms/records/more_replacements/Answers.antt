@@ -1,8 +1,7 @@
-use Rattle.std.proofs.Common.{◌≡◌, ◌<◌, ◌≤◌, ◌∷◌, ◌++◌, [], ap, sym, ◌∙◌, map, List, subst}
+use Rattle.std.proofs.Common.{map, List, subst}
 use Rattle.std.proofs.lemmas.Result.{err_from_is_err_and}
 use Rattle.prg_parser.specs.Act.{Change, change_of}
-use Rattle.prg_expr.specs.Word.{words}
-use Rattle.prg_parser.specs.Forms.{replacement, comma}
+use Rattle.prg_parser.specs.Forms.{replacement}
 use Rattle.prg_parser.specs.Gives.{at_of}
 use Rattle.prg_parser.proofs.SeveralLemmas.{SoFar, starts, steps, ends, fails, seen_pushed, no_longer, shorter}
 use Rattle.prg_parser.proofs.forms.records.more_replacements.Goals as goal

@@ -1,4 +1,4 @@
-use Rattle.std.proofs.Common.{◌≡◌, ◌∙◌, ◌-◌, ap, length}
+use Rattle.std.proofs.Common.{◌-◌, length}
 use Rattle.prg_expr.specs.Tree.{tree_of}
 use Rattle.prg_parser.specs.Gives.{at_of}
 use Rattle.prg_parser.proofs.SeveralLemmas.{read_on, words_behind}

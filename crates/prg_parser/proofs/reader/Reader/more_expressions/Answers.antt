@@ -1,8 +1,7 @@
-use Rattle.std.proofs.Common.{◌≡◌, ◌<◌, ◌≤◌, ◌∷◌, ◌++◌, [], ap, sym, ◌∙◌, map, List, subst}
+use Rattle.std.proofs.Common.{map, List, subst}
 use Rattle.std.proofs.lemmas.Result.{err_from_is_err_and}
 use Rattle.prg_expr.specs.Tree.{Tree, tree_of}
-use Rattle.prg_expr.specs.Word.{words}
-use Rattle.prg_parser.specs.Forms.{expression, comma}
+use Rattle.prg_parser.specs.Forms.{expression}
 use Rattle.prg_parser.specs.Gives.{at_of}
 use Rattle.prg_parser.proofs.SeveralLemmas.{SoFar, starts, steps, ends, fails, seen_pushed, no_longer, shorter}
 use Rattle.prg_parser.proofs.reader.Reader.more_expressions.Goals as goal
