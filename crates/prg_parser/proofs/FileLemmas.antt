@@ -1,8 +1,8 @@
 -- Of a file without a fault each line says its part.
-use Rattle.std.proofs.Common.{◌≡◌, ℕ, ◌≤◌, List, [], ◌∷◌, Option, Some, None, Bool, true, false, Result, Ok, Err, length, map, refl, sym, ◌∙◌, ap}
+use Rattle.std.proofs.Common.{◌≡◌, ℕ, ◌≤◌, List, [], ◌∷◌, Option, Some, None, Bool, true, false, Result, Ok, Err, length, map, refl, sym, ◌∙◌, ap, arith, subst}
 use Rattle.std.specs.Prelude.{if◌then◌else◌, nat_lt, nat_le, option_map}
 use Rattle.std.specs.List.{All}
-use Rattle.std.proofs.lemmas.Bool.{ltb-false}
+use Rattle.std.proofs.lemmas.Bool.{ltb-false, le-ltb}
 use Rattle.std.proofs.lemmas.List.Elements.{All-nil, All-cons, All-head, All-tail}
 use Rattle.prg_expr.specs.declared.fault.Fault.{Fault}
 use Rattle.prg_expr.specs.Faults.{least, least_of as least_fault, rank}
@@ -19,7 +19,7 @@ use Rattle.prg_parser.specs.declared.program.Program.{Program}
 use Rattle.prg_parser.specs.declared.verb.Verb.{Verb}
 use Rattle.prg_parser.specs.Blocks.{parts_after, fault_of}
 use Rattle.prg_parser.specs.Commands.{Says}
-use Rattle.prg_parser.specs.Files.{Faultless, Counts, LineSays, SaysAll, IsProgramOf, numbers}
+use Rattle.prg_parser.specs.Files.{Faultless, Counts, LineSays, SaysAll, Fits, IsProgramOf, begun, numbers, plain_mark, plain_marks}
 use Rattle.prg_parser.specs.Forms.{At, at, sentence}
 use Rattle.prg_parser.specs.Kinds.{least_of, kind_of}
 use Rattle.prg_parser.specs.Layout.{program_lines, said_lines}
@@ -29,7 +29,9 @@ use Rattle.prg_parser.specs.Saying.{Saying, role_of, saying_of}
 use Rattle.prg_parser.specs.Verbs.{Found, ignores_rest}
 use Rattle.prg_parser.specs.Verdict as spec
 use Rattle.prg_parser.specs.Verdict.{verdict}
+use Rattle.prg_parser.proofs.PartsFull.{FoundLaw}
 use Rattle.prg_parser.proofs.PartsSound.{Law}
+use Rattle.prg_parser.proofs.SaysFull.{says_full}
 use Rattle.prg_parser.proofs.RangeLemmas.{marked-lines}
 use Rattle.prg_parser.proofs.RoleLemmas.{role_agrees}
 use Rattle.prg_parser.proofs.SaysSound.{says_sound}
@@ -133,6 +135,17 @@ line_says law cut j h =
       says = says_form law (length j.text) f (no_fault (word_fault f.0 spots) (fault_in (form (length j.text) f)) own);
     }
 
+line_same : (j : Joined) → (mark_of j).line ≡ j.first
+unfolding mark_of
+line_same j = refl
+
+abbrev mark_with_parts : ℕ → Role → Option FaultKind → Mark
+mark_with_parts n r k = record { line = n; role = r; fault = k }
+
+plain_by : (m : Mark) (j : Joined) (s : Saying) → m.line ≡ j.first → m.role ≡ role_of s → m.fault ≡ None → m ≡ plain_mark j s
+plain_by m j s e r f =
+    ap (λ (n : ℕ). mark_with_parts n m.role m.fault) e ∙ ap (λ (x : Role). mark_with_parts j.first x m.fault) r ∙ ap (λ (k : Option FaultKind). mark_with_parts j.first (role_of s) k) f
+
 role_same : Law → (j : Joined) → Clean (mark_of j) → (mark_of j).role ≡ role_of (saying_at j)
 unfolding mark_of saying_at
 role_same law j h =
@@ -161,12 +174,87 @@ pub roles_agree : Law → (bytes : List ℕ) (ms : List Mark) (ss : List Sentenc
 roles_agree law bytes ms ss m s h =
     ap (map (λ (x : Mark). x.role)) m ∙ roles_same law (joined_lines bytes) (clean_marks [] None (marks bytes) h) ∙ ap (map role_of) (sym s) ∙ roles_of ss
 
+plain_same : Law → (js : List Joined) → All Clean (map mark_of js) → map mark_of js ≡ plain_marks js (map saying_at js)
+plain_same law [] h = refl
+plain_same law (j ∷ js) h =
+    let clean = All-head Clean (mark_of j) (map mark_of js) h in
+    ap (λ (m : Mark). m ∷ map mark_of js) (plain_by (mark_of j) j (saying_at j) (line_same j) (role_same law j clean) clean)
+    ∙ ap (λ (ms : List Mark). plain_mark j (saying_at j) ∷ ms) (plain_same law js (All-tail Clean (mark_of j) (map mark_of js) h))
+
 pub is_program : Law → CutLaw → (bytes : List ℕ) (ms : List Mark) (ss : List Sentence) (p : Program) → ms ≡ marks bytes → map saying_of ss ≡ map saying_at (joined_lines bytes)
     → verdict [] None (marks bytes) ≡ None → program_lines p ≡ said_lines (map (λ (m : Mark). m.line) ms) (map saying_of ss) → IsProgramOf bytes p
 is_program law cut bytes ms ss p m s h e =
+    let clean = clean_marks [] None (marks bytes) h in
     record {
       sayings = map saying_at (joined_lines bytes);
-      said = says_all law cut (joined_lines bytes) (clean_marks [] None (marks bytes) h);
+      fits = record {
+        said = says_all law cut (joined_lines bytes) clean;
+        blocks = ap (λ (l : List Mark). verdict [] None l) (sym (plain_same law (joined_lines bytes) clean)) ∙ h;
+      };
       laid_out = e ∙ ap (λ (ns : List ℕ). said_lines ns (map saying_of ss)) (ap (map (λ (x : Mark). x.line)) m ∙ marked-lines (joined_lines bytes))
           ∙ ap (λ (says : List Saying). said_lines (numbers (joined_lines bytes)) says) s;
     }
+
+-- the other way
+
+-- that a line is words in one way only, which the crate of expressions proves
+abbrev pub OneLaw : Type 0
+OneLaw = (line : List ℕ) (a b : List Spot) → IsLine a line → IsLine b line → a ≡ b
+
+faultless_to : (spots : List Spot) → Faultless spots → least_fault None (map spot_fault spots) ≡ None
+faultless_to [] h = refl
+faultless_to (s ∷ spots) h = ap (λ (f : Option Fault). least_fault f (map spot_fault spots)) h.0 ∙ faultless_to spots h.1
+
+counted_to : (x : Bool) (spots : List Spot) → Counts x spots → (if x then None else option_map kind_of (least_fault None (map spot_fault spots))) ≡ None
+counted_to true spots h = refl
+counted_to false spots h = ap (option_map kind_of) (faultless_to spots h)
+
+form_read_to : (r : Result Saying FaultKind) (x : Bool) → x ≡ false → (if x then failed TooLong else r) ≡ r
+form_read_to r x e = ap (λ (z : Bool). if z then failed TooLong else r) e
+
+form_to : (n : ℕ) (f : Found) (s : Saying) → n ≤ 1024 → sentence f.0 (at f.1 false) ≡ fine s → form n f ≡ fine s
+unfolding form
+form_to n f s l h = form_read_to (sentence f.0 (at f.1 false)) (nat_lt 4096 n) (le-ltb 4096 n (omega (arith, l))) ∙ h
+
+short_to : (x : Bool) → x ≡ false → (if x then Some TooLong else None) ≡ None
+short_to x e = ap (λ (z : Bool). if z then Some TooLong else None) e
+
+none_of : (x y z : Option FaultKind) → x ≡ None → y ≡ None → z ≡ None → least_of (least_of x y) z ≡ None
+none_of x y z e h g = ap (λ (k : Option FaultKind). least_of (least_of k y) z) e ∙ ap (λ (k : Option FaultKind). least_of k z) h ∙ g
+
+pub line_found : FoundLaw → CutLaw → OneLaw → (j : Joined) (s : Saying) → LineSays s j.text → Clean (mark_of j) × (saying_at j ≡ s)
+unfolding mark_of saying_at
+line_found found cut one j s l =
+    let spots = scan j.text in
+    let f = found_in spots in
+    let same : l.spots ≡ spots = one j.text l.spots spots l.are_words (cut j.text) in
+    let says = subst (λ (ss : List Spot). Says (begun ss).0 s (begun ss).1) same l.says in
+    let counts = subst (λ (ss : List Spot). Counts (ignores_rest (begun ss).0) ss) same l.counts in
+    let read : form (length j.text) f ≡ fine s = form_to (length j.text) f s l.short (says_full found f.0 (at f.1 false) s says) in (
+      none_of (word_fault f.0 spots) (fault_in (form (length j.text) f)) (length_fault (length j.text)) (counted_to (ignores_rest f.0) spots counts) (ap fault_in read)
+          (short_to (nat_lt 1024 (length j.text)) (le-ltb 1024 (length j.text) l.short)),
+      ap saying_in read,
+    )
+
+all_found : FoundLaw → CutLaw → OneLaw → (says : List Saying) (js : List Joined) → SaysAll says js → All Clean (map mark_of js) × (map saying_at js ≡ says)
+all_found found cut one [] [] h = (All-nil Clean, refl)
+all_found found cut one [] (j ∷ js) h = absurd h
+all_found found cut one (s ∷ says) [] h = absurd h
+all_found found cut one (s ∷ says) (j ∷ js) h =
+    let l = line_found found cut one j s h.0 in
+    let r = all_found found cut one says js h.1 in
+    (All-cons Clean (mark_of j) (map mark_of js) l.0 r.0, ap (λ (x : Saying). x ∷ map saying_at js) l.1 ∙ ap (λ (xs : List Saying). s ∷ xs) r.1)
+
+-- a file that fits has no fault
+pub fits_faultless : Law → FoundLaw → CutLaw → OneLaw → (bytes : List ℕ) (says : List Saying) → Fits bytes says → verdict [] None (marks bytes) ≡ None
+fits_faultless law found cut one bytes says h =
+    let r = all_found found cut one says (joined_lines bytes) h.said in
+    ap (λ (l : List Mark). verdict [] None l) (plain_same law (joined_lines bytes) r.0 ∙ ap (plain_marks (joined_lines bytes)) r.1) ∙ h.blocks
+
+pub not_refused : Law → FoundLaw → CutLaw → OneLaw → (bytes : List ℕ) (fault : ParseFault) → verdict [] None (marks bytes) ≡ Some fault → (says : List Saying) → Fits bytes says → ⊥
+not_refused law found cut one bytes fault v says h = some_none fault (sym v ∙ fits_faultless law found cut one bytes says h)
+
+pub one_saying : FoundLaw → CutLaw → OneLaw → (text : List ℕ) (a b : Saying) → LineSays a text → LineSays b text → a ≡ b
+one_saying found cut one text a b p q =
+    let j : Joined = record { first = 1; text = text } in
+    sym (line_found found cut one j a p).1 ∙ (line_found found cut one j b q).1

@@ -1,13 +1,17 @@
 pub mod BuildLemmas
 pub mod FileLemmas
+pub mod FormsFull
 pub mod FormsSound
+pub mod Full
 pub mod JoinLemmas
 pub mod LayoutLemmas
 pub mod LineLemmas
 pub mod MarkLemmas
+pub mod PartsFull
 pub mod PartsSound
 pub mod RangeLemmas
 pub mod RoleLemmas
+pub mod SaysFull
 pub mod SaysSound
 pub mod SeveralLemmas
 pub mod Sound

@@ -1,11 +1,15 @@
 -- What a program is to the bytes of its file.
 use Rattle.std.specs.Prelude.{◌≡◌, ◌≤◌, ℕ, List, [], ◌∷◌, map, length, Bool, true, false, None}
 use Rattle.prg_expr.specs.Lexicon.{Spot, spot_word, spot_fault, IsLine}
+use Rattle.prg_parser.specs.declared.fault.Refusal.{Refusal}
+use Rattle.prg_parser.specs.declared.fault.Refusal.TheVariants.{Fault, Memory}
+use Rattle.prg_parser.specs.declared.judging.Mark.{Mark}
 use Rattle.prg_parser.specs.declared.program.Program.{Program}
 use Rattle.prg_parser.specs.Commands.{Says}
 use Rattle.prg_parser.specs.Layout.{program_lines, said_lines}
 use Rattle.prg_parser.specs.Lines.{Joined, joined_lines}
-use Rattle.prg_parser.specs.Saying.{Saying}
+use Rattle.prg_parser.specs.Saying.{Saying, role_of}
+use Rattle.prg_parser.specs.Verdict.{verdict}
 use Rattle.prg_parser.specs.Verbs.{Found, verb_of, ignores_rest}
 
 -- none of the words has a fault
@@ -42,9 +46,27 @@ SaysAll (s ∷ says) (line ∷ lines) = LineSays s line.text × SaysAll says lin
 abbrev pub numbers : List Joined → List ℕ
 numbers lines = map (λ line. line.first) lines
 
--- Each line of the file says something or nothing, and the program, laid out line by line, is what they say with their
--- numbers.
+-- the mark of a line without a fault of its own
+abbrev pub plain_mark : Joined → Saying → Mark
+plain_mark line s = record { line = line.first; role = role_of s; fault = None }
+
+abbrev pub plain_marks : List Joined → List Saying → List Mark
+plain_marks [] says = []
+plain_marks (line ∷ lines) [] = []
+plain_marks (line ∷ lines) (s ∷ says) = plain_mark line s ∷ plain_marks lines says
+
+-- Each line of the file says its part, and each stands where it may; no block is left open.
+pub record Fits (bytes : List ℕ) (sayings : List Saying) : Type 0 where
+  pub said : SaysAll sayings (joined_lines bytes)
+  pub blocks : verdict [] None (plain_marks (joined_lines bytes) sayings) ≡ None
+
+-- The program, laid out line by line, is what the lines of the file say, with their numbers.
 pub record IsProgramOf (bytes : List ℕ) (program : Program) : Type 0 where
   pub sayings : List Saying
-  pub said : SaysAll sayings (joined_lines bytes)
+  pub fits : Fits bytes sayings
   pub laid_out : program_lines program ≡ said_lines (numbers (joined_lines bytes)) sayings
+
+-- a refusal for another cause than memory
+abbrev pub OnFault : Refusal → Type 0 → Type 0
+OnFault (Fault fault) p = p
+OnFault Memory p = Unit {0}

@@ -19,7 +19,7 @@ pub use crate::command::{
     Branch, Case, Command, Form, Move, Replacement, Selected, Sentence, Setting, Statement,
 };
 pub use crate::fault::{FaultKind, ParseFault, Refusal};
-pub use crate::parsing::parse;
+pub use crate::parsing::{one_saying, parse};
 pub use crate::program::{Procedure, Program};
 pub use prg_expr::{
     Expr, Fault as ExprFault, Function, Name, Operator, Prefix, Refusal as ExprRefusal, Text, expr,

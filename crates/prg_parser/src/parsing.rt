@@ -1,8 +1,8 @@
 //! From the bytes of a command file to its tree.
 
-ghost use Rattle.std.specs.Prelude.{◌≡◌, length, map, IfOk, IfErr, Result, option_map, if◌then◌else◌, None, []};
+ghost use Rattle.std.specs.Prelude.{◌≡◌, ℕ, List, length, map, IfOk, IfErr, Result, option_map, if◌then◌else◌, None, []};
 ghost use Rattle.prg_expr.specs.Word.{words as tokens};
-ghost use Rattle.prg_parser.specs.Files.{IsProgramOf};
+ghost use Rattle.prg_parser.specs.Files.{IsProgramOf, Fits, OnFault, LineSays};
 ghost use Rattle.prg_parser.specs.Gives.{Gives};
 ghost use Rattle.prg_parser.specs.Joined.{joined_of};
 ghost use Rattle.prg_parser.specs.Kinds as kinds;
@@ -23,7 +23,7 @@ use crate::lines::{JoinedLine, joined_lines};
 use crate::program::Program;
 use crate::reader::{FormFault, Reader};
 use crate::verb::{Verb, verb_of};
-use prg_expr::{Fault, Token, expressions_are_read, lines_are_cut, words};
+use prg_expr::{Fault, Token, expressions_are_read, lines_are_cut, one_line, words};
 use std::alloc::{AllocError, Global};
 
 /// The most bytes of a joined line.
@@ -160,15 +160,27 @@ pub fn parse(alloc: Global, bytes: &[u8]) -> Result<Program, Refusal>
     ensures named { IfErr result (NamesLine (length (line_list (before_end bytes.now)))) }
     // A program is answered only of a file without any fault.
     ensures faultless { IfOk result (λ program. verdict [] None (spec.marks bytes.now) ≡ None) }
-    // Each line is spelled as the form of its command says, and the program is what the lines say.
+    // Each line is spelled as the form of its command says and stands where it may, and the program is what they say.
     ensures spelled { IfOk result (IsProgramOf bytes.now) }
+    // A file is refused for another cause than memory only where its lines don't all say something that fits.
+    ensures refused { IfErr result (λ refusal. OnFault refusal ((sayings : List Saying) → Fits bytes.now sayings → ⊥)) }
 {
     expressions_are_read();
     lines_are_cut();
+    one_line();
     let lines = joined_lines(alloc, bytes)?;
     let ReadLines { marks, sentences } = read_lines(alloc, &lines)?;
     match judge(&marks) {
         Some(fault) => Err(Refusal::Fault(fault)),
         None => Ok(build(alloc, &marks, sentences)?),
     }
+}
+
+/// A line says one thing at most.
+pub fn one_saying()
+    ensures { (text : List ℕ) (a b : Saying) → LineSays a text → LineSays b text → a ≡ b }
+{
+    expressions_are_read();
+    lines_are_cut();
+    one_line();
 }

@@ -2,7 +2,7 @@ use Rattle.std.proofs.Common.{◌∙◌, ap, sym, map, List, [], None}
 use Rattle.prg_parser.specs.declared.judging.Mark.{Mark}
 use Rattle.prg_parser.specs.Verdict.{verdict}
 use Rattle.prg_parser.proofs.RangeLemmas.{names_line}
-use Rattle.prg_parser.proofs.FileLemmas.{roles_agree, is_program}
+use Rattle.prg_parser.proofs.FileLemmas.{roles_agree, is_program, not_refused}
 use Rattle.prg_parser.proofs.MarkLemmas.{all_marks, all_sayings}
 use Rattle.prg_parser.specs.Saying.{saying_of}
 use Rattle.prg_parser.proofs.parsing.parse.Goals as goal
@@ -33,3 +33,7 @@ returns-clause-spelled c =
     let lent = c.deref-in-None.ensures.value ∙ same in
     let built = c.in_ok-build-in-None.ensures (ap (λ (l : List Mark). verdict [] None l) lent ∙ none) (roles_agree law bytes c.deref-in-None.result.now ss lent says none) in
     is_program law c.lines_are_cut.ensures bytes c.deref-in-None.result.now ss c.in_ok-build-in-None.field-0 lent says none built
+
+pub returns-in-Some-clause-refused : goal.returns-in-Some-clause-refused
+returns-in-Some-clause-refused c =
+    not_refused c.expressions_are_read.ensures.sound c.expressions_are_read.ensures.complete c.lines_are_cut.ensures c.one_line.ensures c.args.bytes.now c.in-Some.fault (returns-in-Some-clause-told c)
