@@ -182,8 +182,8 @@ plain_same law (j ∷ js) h =
     ∙ ap (λ (ms : List Mark). plain_mark j (saying_at j) ∷ ms) (plain_same law js (All-tail Clean (mark_of j) (map mark_of js) h))
 
 pub is_program : Law → CutLaw → (bytes : List ℕ) (ms : List Mark) (ss : List Sentence) (p : Program) → ms ≡ marks bytes → map saying_of ss ≡ map saying_at (joined_lines bytes)
-    → verdict [] None (marks bytes) ≡ None → program_lines p ≡ said_lines (map (λ (m : Mark). m.line) ms) (map saying_of ss) → IsProgramOf bytes p
-is_program law cut bytes ms ss p m s h e =
+    → verdict [] None (marks bytes) ≡ None → p.name.items ≡ [] → program_lines p ≡ said_lines (map (λ (m : Mark). m.line) ms) (map saying_of ss) → IsProgramOf bytes p
+is_program law cut bytes ms ss p m s h n e =
     let clean = clean_marks [] None (marks bytes) h in
     record {
       sayings = map saying_at (joined_lines bytes);
@@ -191,6 +191,7 @@ is_program law cut bytes ms ss p m s h e =
         said = says_all law cut (joined_lines bytes) clean;
         blocks = ap (λ (l : List Mark). verdict [] None l) (sym (plain_same law (joined_lines bytes) clean)) ∙ h;
       };
+      unnamed = n;
       laid_out = e ∙ ap (λ (ns : List ℕ). said_lines ns (map saying_of ss)) (ap (map (λ (x : Mark). x.line)) m ∙ marked-lines (joined_lines bytes))
           ∙ ap (λ (says : List Saying). said_lines (numbers (joined_lines bytes)) says) s;
     }

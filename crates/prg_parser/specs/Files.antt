@@ -60,10 +60,11 @@ pub record Fits (bytes : List ℕ) (sayings : List Saying) : Type 0 where
   pub said : SaysAll sayings (joined_lines bytes)
   pub blocks : verdict [] None (plain_marks (joined_lines bytes) sayings) ≡ None
 
--- The program, laid out line by line, is what the lines of the file say, with their numbers.
+-- The program, laid out line by line, is what the lines of the file say, with their numbers. It has no name yet.
 pub record IsProgramOf (bytes : List ℕ) (program : Program) : Type 0 where
   pub sayings : List Saying
   pub fits : Fits bytes sayings
+  pub unnamed : program.name.items ≡ []
   pub laid_out : program_lines program ≡ said_lines (numbers (joined_lines bytes)) sayings
 
 -- a refusal for another cause than memory

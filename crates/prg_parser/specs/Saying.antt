@@ -50,14 +50,6 @@ pub record Line : Type 0 where
 abbrev pub line : ℕ → Saying → Line
 line n s = record { number = n; saying = s }
 
--- whether a line says something
-abbrev pub says_something : Line → Bool
-says_something l = means l.saying
-  where
-    means : Saying → Bool
-    means Nothing = false
-    means _ = true
-
 -- what the saying is to the blocks around its line
 abbrev pub role_of : Saying → Role
 role_of Nothing = role.Nothing

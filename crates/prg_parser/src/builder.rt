@@ -335,7 +335,8 @@ impl Builder {
 
     /// The program behind the last line. Blocks that are open are given up.
     pub fn finish(self) -> Result<Program, AllocError>
-        ensures { built_parts self ≡ [] → IfOk result (λ p. program_lines p ≡ built_lines self) }
+        ensures lines { built_parts self ≡ [] → IfOk result (λ p. program_lines p ≡ built_lines self) }
+        ensures unnamed { IfOk result (λ p. p.name.items ≡ []) }
     {
         let Builder {
             alloc,
@@ -376,7 +377,8 @@ fn end_last(
 
 /// The program up to the end of the part that is being read, with the commands of that part.
 fn ended(alloc: Global, finished: Finished, body: Vec<Command>) -> Result<Program, AllocError>
-    ensures { IfOk result (λ p. program_lines p ≡ finished_lines finished ++ body_lines body.items) }
+    ensures lines { IfOk result (λ p. program_lines p ≡ finished_lines finished ++ body_lines body.items) }
+    ensures unnamed { IfOk result (λ p. p.name.items ≡ []) }
 {
     match finished {
         Finished::Nothing => Ok(Program {

@@ -137,8 +137,9 @@ fn read_lines(alloc: Global, lines: &[JoinedLine]) -> Result<ReadLines, AllocErr
 
 /// The tree of lines that were judged to be without fault.
 fn build(alloc: Global, marks: &[Mark], sentences: Vec<Sentence>) -> Result<Program, AllocError>
-    ensures { verdict [] None marks.now ≡ None → map (λ mark. mark.role) marks.now ≡ map (λ s. role_of (saying_of s)) sentences.items
+    ensures laid_out { verdict [] None marks.now ≡ None → map (λ mark. mark.role) marks.now ≡ map (λ s. role_of (saying_of s)) sentences.items
         → IfOk result (λ p. program_lines p ≡ said_lines (map (λ mark. mark.line) marks.now) (map saying_of sentences.items)) }
+    ensures unnamed { IfOk result (λ p. p.name.items ≡ []) }
 {
     let mut builder = Builder::new(alloc);
     for (mark, sentence) in marks.iter().zip(sentences) {

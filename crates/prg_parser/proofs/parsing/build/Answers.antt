@@ -20,9 +20,9 @@ loop-mark-preserved c = λ v e.
     (said_lines (map (λ (mark : Mark). mark.line) c.args.marks.now) (map saying_of c.args.sentences.items))
     t.0 t.1 (length_push c.loop-mark.yielded (c.in-Some.mark, c.in-Some.sentence)) (c.loop-mark.invariant v e) c.in_ok-builder.ensures
 
-pub returns : goal.returns
-returns c = λ v e.
+pub returns-clause-laid_out : goal.returns-clause-laid_out
+returns-clause-laid_out c = λ v e.
     let t = YieldsList-end (YieldsList-from_zip {s = c.into_iter-mark-iterator.result} (YieldsList-from_slice c.args.marks.now cc) (YieldsList-from_vec c.args.sentences.items (cc) (cc))) c.loop-mark.yielded c.loop-mark.mark-iterator c.loop-mark.yielded_by c.next.result c.next.new.self c.in-None.is c.next.ensures.steps in
     all_built c.loop-mark.builder (zip c.args.marks.now c.args.sentences.items) (length c.loop-mark.yielded)
     (said_lines (map (λ (mark : Mark). mark.line) c.args.marks.now) (map saying_of c.args.sentences.items))
-    c.finish.result t.1 (c.loop-mark.invariant v e) c.finish.ensures
+    c.finish.result t.1 (c.loop-mark.invariant v e) c.finish.ensures.lines

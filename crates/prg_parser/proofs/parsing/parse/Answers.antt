@@ -31,8 +31,8 @@ returns-clause-spelled c =
     let says = all_sayings bytes ls c.deref.result.now (map saying_of ss) c.in_ok-lines.ensures c.deref.ensures.value c.in_ok-marks.ensures.sayings in
     let none = returns-clause-faultless c in
     let lent = c.deref-in-None.ensures.value ∙ same in
-    let built = c.in_ok-build-in-None.ensures (ap (λ (l : List Mark). verdict [] None l) lent ∙ none) (roles_agree law bytes c.deref-in-None.result.now ss lent says none) in
-    is_program law c.lines_are_cut.ensures bytes c.deref-in-None.result.now ss c.in_ok-build-in-None.field-0 lent says none built
+    let built = c.in_ok-build-in-None.ensures.laid_out (ap (λ (l : List Mark). verdict [] None l) lent ∙ none) (roles_agree law bytes c.deref-in-None.result.now ss lent says none) in
+    is_program law c.lines_are_cut.ensures bytes c.deref-in-None.result.now ss c.in_ok-build-in-None.field-0 lent says none c.in_ok-build-in-None.ensures.unnamed built
 
 pub returns-in-Some-clause-refused : goal.returns-in-Some-clause-refused
 returns-in-Some-clause-refused c =

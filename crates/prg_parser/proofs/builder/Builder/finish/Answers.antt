@@ -2,5 +2,5 @@ use Rattle.prg_parser.proofs.BuildLemmas.{put_more}
 use Rattle.prg_parser.proofs.BuildLemmas as by
 use Rattle.prg_parser.proofs.builder.Builder.finish.Goals as goal
 
-pub returns : goal.returns
-returns c = λ e. by.all_finished c.args.self c.commands_of.result c.ended.result e c.commands_of.ensures c.ended.ensures
+pub returns-clause-lines : goal.returns-clause-lines
+returns-clause-lines c = λ e. by.all_finished c.args.self c.commands_of.result c.ended.result e c.commands_of.ensures c.ended.ensures.lines
