@@ -1,5 +1,5 @@
 -- What the lines of a file say.
-use Rattle.std.specs.Prelude.{ℕ, Option, Bool, true, false, option_map}
+use Rattle.std.specs.Prelude.{ℕ, Option, option_map}
 use Rattle.prg_expr.specs.Tree.{Tree, tree_of}
 use Rattle.prg_parser.specs.declared.command.Sentence.{Sentence}
 use Rattle.prg_parser.specs.declared.command.Sentence.TheVariants as sentence
