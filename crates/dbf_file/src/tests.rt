@@ -136,7 +136,7 @@ fn bytes_behind_the_last_row_are_dropped(rt: HostRuntime) -> Result<(), Fail> {
 }
 
 #[test]
-fn each_fault_is_told(rt: HostRuntime) -> Result<(), Fail> {
+fn faults_of_the_front_are_told(rt: HostRuntime) -> Result<(), Fail> {
     let alloc = rt.alloc();
     let file = seventy(rt.alloc())?;
     assert_eq!(rt; fault_of(rt.alloc(), b""), Some(DbfFault::Short));
@@ -160,6 +160,12 @@ fn each_fault_is_told(rt: HostRuntime) -> Result<(), Fail> {
         fault_of(alloc, with_byte(rt.alloc(), 8, 71)?.as_slice()),
         Some(DbfFault::HeaderLength)
     );
+    Ok(())
+}
+
+#[test]
+fn faults_of_fields_are_told(rt: HostRuntime) -> Result<(), Fail> {
+    let alloc = rt.alloc();
     assert_eq!(rt;
         fault_of(alloc, with_byte(rt.alloc(), 43, b'c')?.as_slice()),
         Some(DbfFault::FieldShape)
@@ -188,6 +194,13 @@ fn each_fault_is_told(rt: HostRuntime) -> Result<(), Fail> {
         fault_of(alloc, with_byte(rt.alloc(), 64, b'X')?.as_slice()),
         Some(DbfFault::NoEnd)
     );
+    Ok(())
+}
+
+#[test]
+fn faults_of_records_are_told(rt: HostRuntime) -> Result<(), Fail> {
+    let alloc = rt.alloc();
+    let file = seventy(rt.alloc())?;
     assert_eq!(rt;
         fault_of(alloc, with_byte(rt.alloc(), 10, 5)?.as_slice()),
         Some(DbfFault::RecordLength)

@@ -4,8 +4,8 @@
 ghost use Rattle.std.specs.Prelude.{◌≡◌, ◌+◌, ◌<◌, ◌^◌, OnOk, OnErr, IsTrue, length, slice_get};
 ghost use Rattle.xcode.specs.Signature.{grows};
 ghost use Rattle.xcode.specs.States.{instr_at};
-ghost use Rattle.machine.specs.Stacks.{HasRoom, HasTop, HasArguments, without};
-ghost use Rattle.machine.specs.BankStep.{Needs, NeedsTruth, loaded, stored, bank_called, bank_answer, shown_top, bank_change, bank_place};
+ghost use Rattle.machine.specs.Stacks.{HasRoom, HasTop, HasArguments, pushed, without};
+ghost use Rattle.machine.specs.BankStep.{Needs, NeedsTruth, pushed_constant, loaded, stored, bank_called, bank_answer, shown_top, bank_change, bank_place};
 ghost use Rattle.machine.specs.BankRun.{BankFits};
 
 use crate::banks::Banks;
@@ -15,6 +15,16 @@ use tagged_machine::run::Stepped;
 use xcode::{Code, Instr, Question};
 use xvalue::apply::apply;
 use xvalue::{Fun, Kind, Value};
+
+/// Puts the constant of this number on the stack of its kind.
+fn push_constant(code: &Code, banks: &mut Banks, number: usize)
+    requires there { number < length code.now.constants }
+    requires room { HasRoom banks.old.stacks }
+    ensures { banks.new ≡ pushed_constant (slice_get code.now.constants number) banks.old }
+{
+    let value = code.constants.get(number).copied();
+    banks.stacks.push(value);
+}
 
 fn load(banks: &mut Banks, kind: Kind, slot: usize)
     requires room { HasRoom banks.old.stacks }
@@ -53,6 +63,15 @@ fn answer(banks: &Banks, question: Question) -> Value
     }
 }
 
+/// Puts the answer on the stack of its kind.
+fn ask(banks: &mut Banks, question: Question)
+    requires { HasRoom banks.old.stacks }
+    ensures { banks.new ≡ record banks.old { stacks = pushed (bank_answer question banks.old) banks.old.stacks } }
+{
+    let value = answer(banks, question);
+    banks.stacks.push(value);
+}
+
 /// Shows the top value of this kind. Where memory is refused, the banks are as they were.
 fn print(banks: &mut Banks, kind: Kind) -> Result<(), AllocError>
     requires top { HasTop kind banks.old.stacks }
@@ -75,9 +94,7 @@ fn bank_change(code: &Code, banks: &mut Banks, instr: Instr) -> Result<(), Alloc
 {
     match instr {
         Instr::Constant(number) => {
-            banks
-                .stacks
-                .push(code.constants.get(number as usize).copied());
+            push_constant(code, banks, number as usize);
             Ok(())
         }
         Instr::Load(kind, slot) => {
@@ -101,8 +118,7 @@ fn bank_change(code: &Code, banks: &mut Banks, instr: Instr) -> Result<(), Alloc
             Ok(())
         }
         Instr::Ask(question) => {
-            let value = answer(banks, question);
-            banks.stacks.push(value);
+            ask(banks, question);
             Ok(())
         }
         Instr::Set(setting, on) => {

@@ -1,5 +1,5 @@
 -- Reading a text finds exactly what it spells.
-use Rattle.std.proofs.Common.{◌≡◌, ℕ, ◌≤◌, inl, inr, List, [], ◌∷◌, length, map, false, Option, Some, None, Result, Ok, Err, refl, sym, ap, ◌∙◌, subst}
+use Rattle.std.proofs.Common.{◌≡◌, ℕ, ◌≤◌, inl, inr, List, [], ◌∷◌, length, map, false, Option, Some, None, Result, Ok, Err, refl, sym, ap, ◌∙◌, subst, arith}
 use Rattle.std.specs.Prelude.{IfOk, nat_lt, nat_le}
 use Rattle.std.proofs.lemmas.Bool.{le-ltb, ltb-false}
 use Rattle.prg_expr.specs.declared.fault.Fault.{Fault}
@@ -13,7 +13,7 @@ use Rattle.prg_expr.specs.Word.{Word}
 use Rattle.prg_expr.specs.Lexicon.{Spot, spot, spot_word, spot_fault, clean, IsLine}
 use Rattle.prg_expr.specs.Reading.{Gives, parse}
 use Rattle.prg_expr.specs.Scanning.{scan}
-use Rattle.prg_expr.specs.Spelling.{Spells, OnFault, refuse, told_of, form_of, read}
+use Rattle.prg_expr.specs.Spelling.{Spells, OnFault, refuse, told_of, length_fault, form_of, fault_of, read}
 use Rattle.prg_expr.proofs.Sound.{bool_tells, parse_sound}
 use Rattle.prg_expr.proofs.Complete.{parse_complete}
 use Rattle.prg_expr.proofs.Lines.{scan_sound, scan_complete}
@@ -57,23 +57,32 @@ told_ok f (Err g) e h = absurd (refused_err (least f (Some g)) g e h)
     refused_err None g e h = absurd cc
     refused_err (Some k) g e h = absurd cc
 
-form_ok : (text : List ℕ) (e : Tree) → form_of text ≡ Ok e → (length text ≤ 1024) × (parse (map spot_word (scan text)) ≡ Ok e)
-form_ok text e h = elim (bool_tells (nat_lt 1024 (length text))) [
-  | inl y ↦ absurd (let g : form_of text ≡ Err fault.TooLong = rw y refl in let k = sym g ∙ h in cc)
-  | inr n ↦ (ltb-false 1024 (length text) n, (let g : form_of text ≡ parse (map spot_word (scan text)) = rw n refl in sym g ∙ h))
+short : (bytes : ℕ) → length_fault bytes ≡ None → bytes ≤ 1024
+short bytes h = elim (bool_tells (nat_lt 1024 bytes)) [
+  | inl y ↦ absurd (let g : length_fault bytes ≡ Some fault.TooLong = rw y refl in let k = sym g ∙ h in cc)
+  | inr n ↦ ltb-false 1024 bytes n
+]
+
+form_ok : (bytes : ℕ) (ws : List Word) (e : Tree) → form_of bytes ws ≡ Ok e → parse ws ≡ Ok e
+form_ok bytes ws e h = elim (bool_tells (nat_lt 4096 bytes)) [
+  | inl y ↦ absurd (let g : form_of bytes ws ≡ Err fault.TooLong = rw y refl in let k = sym g ∙ h in cc)
+  | inr n ↦ (let g : form_of bytes ws ≡ parse ws = rw n refl in sym g ∙ h)
 ]
 
 read_sound : (text : List ℕ) (e : Tree) → read text ≡ Ok e → Spells e text
 unfolding read
 read_sound text e h =
-    let t = told_ok (least_of None (map spot_fault (scan text))) (form_of text) e h in
-    let f = form_ok text e t.1 in
-    let a = all_none None (scan text) t.0 in
+    let t = told_ok (fault_of text) (form_of (length text) (map spot_word (scan text))) e h in
+    let f = least_none (least_of None (map spot_fault (scan text))) (length_fault (length text)) t.0 in
+    let a = all_none None (scan text) f.0 in
     let line = subst (λ (s : List Spot). IsLine s text) (cleaned (scan text) a.1) (scan_sound text) in
-    (map spot_word (scan text), f.0, line, parse_sound (map spot_word (scan text)) e f.1)
+    (map spot_word (scan text), short (length text) f.1, line, parse_sound (map spot_word (scan text)) e (form_ok (length text) (map spot_word (scan text)) e t.1))
 
-form_on : (text : List ℕ) (e : Tree) (ws : List Word) → length text ≤ 1024 → map spot_word (scan text) ≡ ws → parse ws ≡ Ok e → form_of text ≡ Ok e
-form_on text e ws le w p = let n : nat_lt 1024 (length text) ≡ false = le-ltb 1024 (length text) le in rw (n, w) p
+short_on : (bytes : ℕ) → bytes ≤ 1024 → length_fault bytes ≡ None
+short_on bytes le = let n : nat_lt 1024 bytes ≡ false = le-ltb 1024 bytes le in rw n refl
+
+form_on : (bytes : ℕ) (ws : List Word) (e : Tree) → bytes ≤ 1024 → parse ws ≡ Ok e → form_of bytes ws ≡ Ok e
+form_on bytes ws e le p = let n : nat_lt 4096 bytes ≡ false = le-ltb 4096 bytes (omega (arith, le)) in rw n p
 
 pub read_complete : (text : List ℕ) (e : Tree) → Spells e text → read text ≡ Ok e
 unfolding read
@@ -81,8 +90,12 @@ read_complete text e s =
     let a = scan_complete (map clean s.0) text s.2 in
     let w : map spot_word (scan text) ≡ s.0 = ap (map spot_word) a ∙ words_clean s.0 in
     let f : least_of None (map spot_fault (scan text)) ≡ None = ap (λ (l : List Spot). least_of None (map spot_fault l)) a ∙ faults_clean s.0 in
-    let p = form_on text e s.0 s.1 w (parse_complete s.0 e s.3) in
-    ap (λ (o : Option Fault). told_of o (form_of text)) f ∙ ap (told_of None) p
+    let p = form_on (length text) s.0 e s.1 (parse_complete s.0 e s.3) in
+    let form = form_of (length text) (map spot_word (scan text)) in
+    ap (λ (o : Option Fault). told_of (least o (length_fault (length text))) form) f
+    ∙ ap (λ (o : Option Fault). told_of o form) (short_on (length text) s.1)
+    ∙ ap (λ (ws : List Word). told_of None (form_of (length text) ws)) w
+    ∙ ap (told_of None) p
 
 pub spelled : (text : List ℕ) (r : Result Expr Refusal) → Gives tree_of r (read text) → IfOk r (λ e. Spells (tree_of e) text)
 spelled text (Ok e) g = read_sound text (tree_of e) g

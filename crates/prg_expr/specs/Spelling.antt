@@ -40,9 +40,18 @@ abbrev pub told_of : Option Fault → Result Tree Fault → Result Tree Fault
 told_of fault (Ok e) = refuse fault (Ok e)
 told_of fault (Err g) = refuse (least fault (Some g)) (Err g)
 
--- what reading finds, from left to right; of a text longer than a line only the words are judged
-abbrev pub form_of : List ℕ → Result Tree Fault
-form_of text = if nat_lt 1024 (length text) then Err fault.TooLong else parse (map spot_word (scan text))
+-- a text is no longer than a line
+abbrev pub length_fault : ℕ → Option Fault
+length_fault bytes = if nat_lt 1024 bytes then Some fault.TooLong else None
 
+-- What reading the words of a text of so many bytes finds. Above 4,096 bytes, where it is too long anyway, they aren't read.
+abbrev pub form_of : ℕ → List Word → Result Tree Fault
+form_of bytes ws = if nat_lt 4096 bytes then Err fault.TooLong else parse ws
+
+-- the least fault of a text's words and of its length
+abbrev pub fault_of : List ℕ → Option Fault
+fault_of text = least (least_of None (map spot_fault (scan text))) (length_fault (length text))
+
+-- what reading finds, from left to right
 unfoldable pub read : List ℕ → Result Tree Fault
-read text = told_of (least_of None (map spot_fault (scan text))) (form_of text)
+read text = told_of (fault_of text) (form_of (length text) (map spot_word (scan text)))

@@ -1,21 +1,47 @@
 //! Reading an expression from a text.
 
-ghost use Rattle.std.specs.Prelude.{◌≡◌, ◌++◌, ℕ, List, IfOk, Ok, Result};
+ghost use Rattle.std.specs.Prelude.{◌≡◌, ◌++◌, ℕ, List, IfOk, Ok, Result, length};
 ghost use Rattle.prg_expr.specs.declared.fault.Fault.{Fault as AnyFault};
 ghost use Rattle.prg_expr.specs.Tree.{Tree, tree_of};
 ghost use Rattle.prg_expr.specs.Spelling.{Spells, InFront, read, told_of, OnFault};
+ghost use Rattle.prg_expr.specs.Spelling as spec;
 ghost use Rattle.prg_expr.specs.Grammar as grammar;
-ghost use Rattle.prg_expr.specs.Word.{Word};
+ghost use Rattle.prg_expr.specs.Word.{Word, words};
 ghost use Rattle.prg_expr.specs.Reading.{Gives, front};
 
 use crate::fault::{Fault, Refusal, least};
 use crate::lexer::cut;
 use crate::parser::parse;
+use crate::token::Token;
 use crate::tree::Expr;
 use std::alloc::Global;
 
 /// The most bytes of a line.
 const MOST_LINE: usize = 1024;
+
+/// The form of a text above so many bytes isn't read, since the tree could get too deep.
+const MOST_READ: usize = 4096;
+
+/// What is wrong with the length of a text.
+fn length_fault(text: &[u8]) -> Option<Fault>
+    ensures { result ≡ spec.length_fault (length text.now) }
+{
+    if MOST_LINE < text.len() {
+        Some(Fault::TooLong)
+    } else {
+        None
+    }
+}
+
+/// Reads the form of a text of so many bytes.
+fn read_form(alloc: Global, tokens: &[Token<'_>], bytes: usize) -> Result<Expr, Refusal>
+    ensures { Gives tree_of result (spec.form_of bytes (words tokens.now)) }
+{
+    if MOST_READ < bytes {
+        return Err(Refusal::Fault(Fault::TooLong));
+    }
+    parse(alloc, tokens)
+}
 
 /// What was read, or the least of its fault and another.
 fn told(fault: Option<Fault>, form: Result<Expr, Refusal>) -> Result<Expr, Refusal>
@@ -39,14 +65,12 @@ fn read_all(alloc: Global, text: &[u8]) -> Result<Expr, Refusal>
     ensures { Gives tree_of result (read text.now) }
 {
     let line = cut(alloc, text)?;
-    if MOST_LINE < text.len() {
-        return told(line.fault, Err(Refusal::Fault(Fault::TooLong)));
-    }
-    told(line.fault, parse(alloc, &line.words))
+    let fault = least(line.fault, length_fault(text));
+    told(fault, read_form(alloc, &line.words, text.len()))
 }
 
-/// The expression that a text spells. Told is the least of the faults of its words and of its form; of a text of more
-/// than 1,024 bytes, which is too long, only the words are judged.
+/// The expression that a text spells. Told is the least of the faults of its words, of its form and of its length; the
+/// form of a text of more than 4,096 bytes, which is too long, isn't read.
 pub fn expr(alloc: Global, text: &[u8]) -> Result<Expr, Refusal>
     // What is answered is what the text spells.
     ensures spelled { IfOk result (λ e. Spells (tree_of e) text.now) }

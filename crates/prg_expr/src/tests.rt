@@ -1,5 +1,6 @@
 use crate::{Fault, Refusal, expr, expression, is_word, name_of, words};
 use std::alloc::{AllocError, Global};
+use std::process::Abort;
 use std::test::Fail;
 
 /// What a text is read as, in words.
@@ -16,6 +17,14 @@ fn fault_of(alloc: Global, text: &[u8]) -> Option<Fault> {
     }
 }
 
+/// Puts so many times a part behind a text.
+fn add_times(text: &mut Vec<u8>, times: usize, part: &[u8]) -> Result<(), AllocError> {
+    for _ in 0..times {
+        text.extend_from_slice(part)?;
+    }
+    Ok(())
+}
+
 /// So many times one text, then another, then so many times a third.
 fn nested(
     alloc: Global,
@@ -25,13 +34,9 @@ fn nested(
     close: &[u8],
 ) -> Result<Vec<u8>, AllocError> {
     let mut text = Vec::new(alloc);
-    for _ in 0..times {
-        text.extend_from_slice(open)?;
-    }
+    add_times(&mut text, times, open)?;
     text.extend_from_slice(inner)?;
-    for _ in 0..times {
-        text.extend_from_slice(close)?;
-    }
+    add_times(&mut text, times, close)?;
     Ok(text)
 }
 
@@ -124,10 +129,17 @@ fn operators(rt: HostRuntime) -> Result<(), Fail> {
     Ok(())
 }
 
+fn expect_calls(rt: &impl Abort, alloc: Global, pairs: &[(&[u8], &str)]) -> Result<(), Fail> {
+    for pair in pairs {
+        let found = shown(alloc, pair.0)?;
+        assert!(rt; found.as_str().starts_with(pair.1), "{found}");
+    }
+    Ok(())
+}
+
 #[test]
-fn functions(rt: HostRuntime) -> Result<(), Fail> {
-    let pairs: [(&[u8], &str); 46] = [
-        (b"IIF(L,1,2)", "Ok(Call(Iif, ["),
+fn functions_of_texts(rt: HostRuntime) -> Result<(), Fail> {
+    let pairs: [(&[u8], &str); 20] = [
         (b"len(T)", "Ok(Call(Len, ["),
         (b"SUBSTR(T,1,2)", "Ok(Call(Substr, ["),
         (b"Substr(T,1)", "Ok(Call(Substr, ["),
@@ -145,19 +157,34 @@ fn functions(rt: HostRuntime) -> Result<(), Fail> {
         (b"STUFF(T,1,2,T)", "Ok(Call(Stuff, ["),
         (b"ASC(T)", "Ok(Call(Asc, ["),
         (b"CHR(1)", "Ok(Call(Chr, ["),
+        (b"ISALPHA(T)", "Ok(Call(IsAlpha, ["),
+        (b"ISUPPER(T)", "Ok(Call(IsUpper, ["),
+        (b"ISLOWER(T)", "Ok(Call(IsLower, ["),
+    ];
+    expect_calls(&rt, rt.alloc(), &pairs)
+}
+
+#[test]
+fn functions_of_numbers(rt: HostRuntime) -> Result<(), Fail> {
+    let pairs: [(&[u8], &str); 11] = [
+        (b"IIF(L,1,2)", "Ok(Call(Iif, ["),
         (b"VAL(T)", "Ok(Call(Val, ["),
         (b"STR(1)", "Ok(Call(Str, ["),
         (b"STR(1,2)", "Ok(Call(Str, ["),
         (b"STR(1,2,3)", "Ok(Call(Str, ["),
-        (b"ISALPHA(T)", "Ok(Call(IsAlpha, ["),
-        (b"ISUPPER(T)", "Ok(Call(IsUpper, ["),
-        (b"ISLOWER(T)", "Ok(Call(IsLower, ["),
         (b"ABS(1)", "Ok(Call(Abs, ["),
         (b"INT(1)", "Ok(Call(Int, ["),
         (b"MOD(1,2)", "Ok(Call(Mod, ["),
         (b"ROUND(1,2)", "Ok(Call(Round, ["),
         (b"MAX(1,2)", "Ok(Call(Max, ["),
         (b"MIN(1,2)", "Ok(Call(Min, ["),
+    ];
+    expect_calls(&rt, rt.alloc(), &pairs)
+}
+
+#[test]
+fn functions_of_days_and_records(rt: HostRuntime) -> Result<(), Fail> {
+    let pairs: [(&[u8], &str); 15] = [
         (b"CTOD(T)", "Ok(Call(Ctod, ["),
         (b"DTOC(D)", "Ok(Call(Dtoc, ["),
         (b"DAY(D)", "Ok(Call(Day, ["),
@@ -174,16 +201,18 @@ fn functions(rt: HostRuntime) -> Result<(), Fail> {
         (b"DELETED()", "Ok(Call(Deleted, [])"),
         (b"DATE( )", "Ok(Call(Date, [])"),
     ];
-    for (text, wanted) in pairs {
-        let found = shown(rt.alloc(), text)?;
-        assert!(rt; found.as_str().starts_with(wanted), "{found}");
+    expect_calls(&rt, rt.alloc(), &pairs)
+}
+
+fn expect_faults(rt: &impl Abort, alloc: Global, pairs: &[(&[u8], Fault)]) {
+    for pair in pairs {
+        assert!(rt; fault_of(alloc, pair.0) == Some(pair.1), "{:?}", pair.0);
     }
-    Ok(())
 }
 
 #[test]
-fn faults(rt: HostRuntime) -> Result<(), Fail> {
-    let pairs: [(&[u8], Fault); 44] = [
+fn faults_of_words(rt: HostRuntime) -> Result<(), Fail> {
+    let pairs: [(&[u8], Fault); 12] = [
         (b"A % B", Fault::Character),
         (b"A ] B", Fault::Character),
         (b"{1}", Fault::Character),
@@ -196,6 +225,16 @@ fn faults(rt: HostRuntime) -> Result<(), Fail> {
         (b"12345678901234567890", Fault::Number),
         (b"0.1234567890123456", Fault::Number),
         (b"1 2 12345678901234567890", Fault::Number),
+    ];
+    expect_faults(&rt, rt.alloc(), &pairs);
+    assert!(rt; expr(rt.alloc(), b"1234567890123456789").is_ok());
+    assert!(rt; expr(rt.alloc(), b"1234.123456789012345").is_ok());
+    Ok(())
+}
+
+#[test]
+fn faults_of_forms(rt: HostRuntime) -> Result<(), Fail> {
+    let pairs: [(&[u8], Fault); 27] = [
         (b"", Fault::Expression),
         (b"X = = 3", Fault::Expression),
         (b"1.", Fault::Expression),
@@ -222,18 +261,22 @@ fn faults(rt: HostRuntime) -> Result<(), Fail> {
         (b"'A'->B", Fault::Expression),
         (b"? X", Fault::Expression),
         (b"X1234567890 = = 1", Fault::Expression),
+        (b"(1 2 &X", Fault::Expression),
+    ];
+    expect_faults(&rt, rt.alloc(), &pairs);
+    Ok(())
+}
+
+#[test]
+fn long_names_and_macros(rt: HostRuntime) -> Result<(), Fail> {
+    let pairs: [(&[u8], Fault); 5] = [
         (b"X1234567890", Fault::TooLong),
         (b"X1234567890 + &Y", Fault::TooLong),
         (b"&X", Fault::Macro),
         (b"A + &X +", Fault::Macro),
         (b"X &Y", Fault::Macro),
-        (b"(1 2 &X", Fault::Expression),
     ];
-    for (text, wanted) in pairs {
-        assert!(rt; fault_of(rt.alloc(), text) == Some(wanted), "{text:?}");
-    }
-    assert!(rt; expr(rt.alloc(), b"1234567890123456789").is_ok());
-    assert!(rt; expr(rt.alloc(), b"1234.123456789012345").is_ok());
+    expect_faults(&rt, rt.alloc(), &pairs);
     assert!(rt; expr(rt.alloc(), b"X123456789").is_ok());
     assert!(rt; expr(rt.alloc(), b"(1 + &X").is_err());
     Ok(())
@@ -263,11 +306,17 @@ fn limits(rt: HostRuntime) -> Result<(), Fail> {
     assert!(rt; expr(alloc, line.as_slice()).is_ok());
     let line = nested(alloc, 1024, b" ", b"1", b"")?;
     assert!(rt; fault_of(alloc, line.as_slice()) == Some(Fault::TooLong));
+    let line = nested(alloc, 1024, b" ", b"1 2", b"")?;
+    assert!(rt; fault_of(alloc, line.as_slice()) == Some(Fault::Expression));
+    let line = nested(alloc, 4096, b" ", b"1 2", b"")?;
+    assert!(rt; fault_of(alloc, line.as_slice()) == Some(Fault::TooLong));
+    let line = nested(alloc, 4096, b" ", b"!", b"")?;
+    assert!(rt; fault_of(alloc, line.as_slice()) == Some(Fault::Character));
     Ok(())
 }
 
 #[test]
-fn hostile(rt: HostRuntime) -> Result<(), Fail> {
+fn judges_every_byte(rt: HostRuntime) -> Result<(), Fail> {
     let alloc = rt.alloc();
     let begins: &[u8] = b" \t'\"[.&()*+,-/<=>#$?@";
     for b in 0..=255u8 {
@@ -277,6 +326,12 @@ fn hostile(rt: HostRuntime) -> Result<(), Fail> {
             "{b}"
         );
     }
+    Ok(())
+}
+
+#[test]
+fn answers_long_texts(rt: HostRuntime) -> Result<(), Fail> {
+    let alloc = rt.alloc();
     let signs = nested(alloc, 1023, b"-", b"X", b"")?;
     assert!(rt; expr(alloc, signs.as_slice()).is_ok());
     let sums = nested(alloc, 511, b"1+", b"1", b"")?;

@@ -4,9 +4,9 @@ use Rattle.std.specs.Prelude.{option_map, slice_get, if◌then◌else◌, not}
 use Rattle.std.proofs.lemmas.List.{append-nil, map-append}
 use Rattle.std.proofs.lemmas.Option.{slice_get-get_or}
 use Rattle.std.proofs.Math.Seq.{get_or-append_seam, take-append_seam}
-use Rattle.prg_parser.specs.declared.fault.FaultKind.{FaultKind}
-use Rattle.prg_parser.specs.declared.blocks.Role.{Role}
-use Rattle.prg_parser.specs.declared.blocks.Role.TheVariants as role
+use Rattle.prg_line.specs.declared.fault.FaultKind.{FaultKind}
+use Rattle.prg_line.specs.declared.role.Role.{Role}
+use Rattle.prg_line.specs.declared.role.Role.TheVariants as role
 use Rattle.prg_parser.specs.declared.blocks.Part.{Part}
 use Rattle.prg_parser.specs.declared.blocks.Place.{Place}
 use Rattle.prg_parser.specs.declared.blocks.Place.TheVariants as place
@@ -15,10 +15,10 @@ use Rattle.prg_parser.specs.declared.builder.Open.TheVariants as begun
 use Rattle.prg_parser.specs.declared.builder.OpenBlock.{OpenBlock}
 use Rattle.prg_parser.specs.declared.builder.Current.{Current}
 use Rattle.prg_parser.specs.declared.builder.Current.TheVariants.{Commands, DoCase}
-use Rattle.prg_parser.specs.Act.{Act, act_of}
-use Rattle.prg_parser.specs.Act as act
-use Rattle.prg_parser.specs.Saying.{Saying, Line, line, role_of, saying_of}
-use Rattle.prg_parser.specs.Saying as saying
+use Rattle.prg_line.specs.Act.{Act, act_of}
+use Rattle.prg_line.specs.Act as act
+use Rattle.prg_line.specs.Saying.{Saying, Line, line, role_of, saying_of}
+use Rattle.prg_line.specs.Saying as saying
 use Rattle.arrayvec.specs.ArrayVec.{ArrayVec}
 use Rattle.prg_parser.specs.declared.builder.Builder.{Builder}
 use Rattle.prg_parser.specs.declared.builder.Choice.{Choice}
@@ -27,11 +27,11 @@ use Rattle.prg_parser.specs.declared.builder.Finished.TheVariants.{Main}
 use Rattle.prg_parser.specs.declared.command.Command.{Command}
 use Rattle.prg_parser.specs.declared.command.Case.{Case}
 use Rattle.prg_parser.specs.declared.command.Form.{Form}
-use Rattle.prg_parser.specs.declared.command.Sentence.{Sentence}
-use Rattle.prg_parser.specs.declared.command.Sentence.TheVariants as sentence
+use Rattle.prg_line.specs.declared.statement.Sentence.{Sentence}
+use Rattle.prg_line.specs.declared.statement.Sentence.TheVariants as sentence
 use Rattle.prg_parser.specs.declared.program.Procedure.{Procedure}
 use Rattle.prg_parser.specs.declared.program.Program.{Program}
-use Rattle.prg_parser.specs.declared.command.Statement.{Statement as Single}
+use Rattle.prg_line.specs.declared.statement.Statement.{Statement as Single}
 use Rattle.prg_parser.specs.declared.command.Form.TheVariants.{Statement}
 use Rattle.prg_parser.specs.Layout.{Lines, all_of, body_lines, cases_lines, form_lines, procedure_lines, program_lines}
 use Rattle.prg_parser.proofs.LayoutLemmas.{form_statement}

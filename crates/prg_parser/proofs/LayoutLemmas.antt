@@ -3,11 +3,11 @@ use Rattle.std.proofs.Common.{◌≡◌, ℕ, [], ◌∷◌, ◌++◌, Option, S
 use Rattle.std.specs.Prelude.{option_map}
 use Rattle.prg_expr.specs.Tree.{tree_of}
 use Rattle.prg_expr.specs.declared.tree.Expr.{Expr}
-use Rattle.prg_parser.specs.Act.{act_of}
-use Rattle.prg_parser.specs.Saying.{Saying, line}
-use Rattle.prg_parser.specs.Saying as saying
+use Rattle.prg_line.specs.Act.{act_of}
+use Rattle.prg_line.specs.Saying.{Saying, line}
+use Rattle.prg_line.specs.Saying as saying
 use Rattle.prg_parser.specs.Layout.{Lines, part_of, form_step, branch_step, case_step, command_step, form_lines, branch_lines, case_lines, command_lines, body_lines, cases_lines}
-use Rattle.prg_parser.specs.declared.command.Statement.{Statement as Single}
+use Rattle.prg_line.specs.declared.statement.Statement.{Statement as Single}
 use Rattle.prg_parser.specs.declared.command.Command.{Command}
 use Rattle.prg_parser.specs.declared.command.Case.{Case}
 use Rattle.prg_parser.specs.declared.command.Branch.{Branch}

@@ -5,13 +5,13 @@ use Rattle.std.specs.Prelude.{slice_get, option_map, if◌then◌else◌}
 use Rattle.std.specs.List.{All}
 use Rattle.std.proofs.lemmas.Option.{slice_get_within, get_or_from_slice_get}
 use Rattle.std.proofs.lemmas.List.Elements.{All-nil, All-cons, All-head, All-tail, All-weaker, All-push, All-take, All-get_or, All-map, All-same}
-use Rattle.prg_parser.specs.declared.fault.FaultKind.{FaultKind}
+use Rattle.prg_line.specs.declared.fault.FaultKind.{FaultKind}
 use Rattle.prg_parser.specs.declared.fault.ParseFault.{ParseFault}
 use Rattle.prg_parser.specs.declared.blocks.Part.{Part}
 use Rattle.prg_parser.specs.declared.blocks.Place.{Place}
 use Rattle.prg_parser.specs.declared.blocks.Place.TheVariants.{InThen, InElse, BeforeCases, InCase, InOtherwise, InWhile, InScan}
-use Rattle.prg_parser.specs.declared.blocks.Role.{Role}
-use Rattle.prg_parser.specs.declared.blocks.Role.TheVariants.{Nothing, Plain, Leap, Procedure, If, Else, EndIf, DoCase, Case, Otherwise, EndCase, DoWhile, EndDo, Scan, EndScan}
+use Rattle.prg_line.specs.declared.role.Role.{Role}
+use Rattle.prg_line.specs.declared.role.Role.TheVariants.{Nothing, Plain, Leap, Procedure, If, Else, EndIf, DoCase, Case, Otherwise, EndCase, DoWhile, EndDo, Scan, EndScan}
 use Rattle.prg_parser.specs.declared.judging.Mark.{Mark}
 use Rattle.prg_parser.specs.Lines as lines
 use Rattle.prg_parser.specs.Lines.{Joined}
@@ -134,7 +134,6 @@ by_number P f [] h = All-nil (λ x. P (f x))
 by_number P f (x ∷ xs) h = All-cons (λ x. P (f x)) x xs (All-head P (f x) (map f xs) h) (by_number P f xs (All-tail P (f x) (map f xs) h))
 
 pub marked-lines : (ls : List Joined) → map (λ (m : Mark). m.line) (map mark_of ls) ≡ map (λ (j : Joined). j.first) ls
-unfolding mark_of
 marked-lines [] = refl
 marked-lines (j ∷ ls) = ap (λ (ns : List ℕ). j.first ∷ ns) (marked-lines ls)
 

@@ -3,19 +3,19 @@ use Rattle.std.proofs.Common.{◌≡◌, ℕ, ◌+◌, ◌<◌, List, [], ◌∷
 use Rattle.std.specs.Prelude.{option_map, if◌then◌else◌}
 use Rattle.std.specs.List.{zip}
 use Rattle.std.proofs.lemmas.List.{append-nil, drop_all}
-use Rattle.prg_parser.specs.declared.fault.FaultKind.{FaultKind}
+use Rattle.prg_line.specs.declared.fault.FaultKind.{FaultKind}
 use Rattle.prg_parser.specs.declared.fault.ParseFault.{ParseFault}
-use Rattle.prg_parser.specs.declared.blocks.Role.{Role}
+use Rattle.prg_line.specs.declared.role.Role.{Role}
 use Rattle.prg_parser.specs.declared.blocks.Part.{Part}
 use Rattle.prg_parser.specs.declared.judging.Mark.{Mark}
 use Rattle.prg_parser.specs.declared.builder.Builder.{Builder}
-use Rattle.prg_parser.specs.declared.command.Sentence.{Sentence}
+use Rattle.prg_line.specs.declared.statement.Sentence.{Sentence}
 use Rattle.prg_parser.specs.declared.program.Program.{Program}
 use Rattle.prg_parser.specs.Blocks.{fault_of, parts_after, is_procedure}
 use Rattle.prg_parser.specs.Building.{Took, built_lines, built_parts}
 use Rattle.prg_parser.specs.Layout.{said, said_lines}
 use Rattle.prg_parser.specs.Layout.{Lines, program_lines}
-use Rattle.prg_parser.specs.Saying.{Saying, role_of, saying_of}
+use Rattle.prg_line.specs.Saying.{Saying, role_of, saying_of}
 use Rattle.prg_parser.specs.Verdict as spec
 use Rattle.prg_parser.specs.Verdict.{verdict}
 use Rattle.prg_parser.proofs.VerdictLemmas.{no_fault, at-end}

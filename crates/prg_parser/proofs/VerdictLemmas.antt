@@ -2,14 +2,14 @@
 
 use Rattle.std.proofs.Common.{◌≡◌, ℕ, ◌+◌, ◌<◌, List, [], ◌∷◌, Option, Some, None, length, drop, get_or, refl, sym, ◌∙◌, ap, add-one, drop-cons, Bool, true, false}
 use Rattle.std.specs.Prelude.{option_map, nat_le, if◌then◌else◌}
-use Rattle.prg_parser.specs.declared.fault.FaultKind.{FaultKind}
+use Rattle.prg_line.specs.declared.fault.FaultKind.{FaultKind}
 use Rattle.prg_parser.specs.declared.fault.ParseFault.{ParseFault}
 use Rattle.prg_parser.specs.declared.blocks.Part.{Part}
 use Rattle.prg_parser.specs.declared.judging.Mark.{Mark}
 use Rattle.prg_parser.specs.Verdict as spec
 use Rattle.prg_parser.specs.Verdict.{verdict}
 use Rattle.prg_parser.specs.Blocks.{parts_after}
-use Rattle.prg_parser.specs.Kinds.{least_of, rank_of}
+use Rattle.prg_line.specs.Kinds.{least_of, rank_of}
 
 front-told : (parts : List Part) (unended : Option ℕ) (mark : Mark) (others : List Mark) (kind : FaultKind) → spec.wrong parts mark ≡ Some kind
     → verdict parts unended (mark ∷ others) ≡ Some (record { line = mark.line; kind = kind })

@@ -15,8 +15,8 @@ use Rattle.prg_parser.specs.declared.builder.Builder.{Builder}
 use Rattle.prg_parser.specs.declared.builder.Choice.{Choice}
 use Rattle.std.specs.Global.{Vec}
 use Rattle.prg_parser.specs.Blocks.{parts_after, innermost, divide_at}
-use Rattle.prg_parser.specs.Saying.{Saying, line, role_of}
-use Rattle.prg_parser.specs.Saying as saying
+use Rattle.prg_line.specs.Saying.{Saying, line, role_of}
+use Rattle.prg_line.specs.Saying as saying
 use Rattle.prg_parser.specs.Layout.{Lines, all_of, body_lines, cases_lines, procedure_lines, said}
 
 -- the lines of an open block that begins in this line, up to the one that begins its innermost part

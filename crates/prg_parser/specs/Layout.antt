@@ -9,9 +9,9 @@ use Rattle.prg_parser.specs.declared.command.Form.TheOpen.{Form-F, Command-F, Ca
 use Rattle.prg_parser.specs.declared.command.Form.TheFolds.{fold-Form, fold-Command, fold-Case, fold-Branch}
 use Rattle.prg_parser.specs.declared.program.Procedure.{Procedure}
 use Rattle.prg_parser.specs.declared.program.Program.{Program}
-use Rattle.prg_parser.specs.Act.{act_of}
-use Rattle.prg_parser.specs.Saying.{Saying, Line, line}
-use Rattle.prg_parser.specs.Saying as saying
+use Rattle.prg_line.specs.Act.{act_of}
+use Rattle.prg_line.specs.Saying.{Saying, Line, line}
+use Rattle.prg_line.specs.Saying as saying
 
 abbrev pub Lines : Type 0
 Lines = List Line

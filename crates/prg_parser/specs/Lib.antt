@@ -1,16 +1,8 @@
-pub mod Act
-pub mod Beginning
 pub mod Blocks
 pub mod Building
-pub mod Commands
 pub mod Files
-pub mod Forms
-pub mod Gives
 pub mod Joined
-pub mod Kinds
 pub mod Layout
 pub mod Lines
 pub mod Marks
-pub mod Saying
-pub mod Verbs
 pub mod Verdict

@@ -1,15 +1,15 @@
 -- Which fault of a file is told.
 
 use Rattle.std.specs.Prelude.{◌≡◌, ℕ, List, [], ◌∷◌, Option, Some, None, if◌then◌else◌, slice_get, option_map, ◌≤◌}
-use Rattle.prg_parser.specs.declared.fault.FaultKind.{FaultKind}
-use Rattle.prg_parser.specs.declared.fault.FaultKind.TheVariants.{Block}
+use Rattle.prg_line.specs.declared.fault.FaultKind.{FaultKind}
+use Rattle.prg_line.specs.declared.fault.FaultKind.TheVariants.{Block}
 use Rattle.prg_parser.specs.declared.fault.ParseFault.{ParseFault}
 use Rattle.prg_parser.specs.declared.fault.Refusal.{Refusal}
 use Rattle.prg_parser.specs.declared.fault.Refusal.TheVariants.{Fault, Memory}
 use Rattle.prg_parser.specs.declared.blocks.Part.{Part}
 use Rattle.prg_parser.specs.declared.judging.Mark.{Mark}
 use Rattle.prg_parser.specs.Blocks.{fault_of, parts_after, is_procedure}
-use Rattle.prg_parser.specs.Kinds.{least_of}
+use Rattle.prg_line.specs.Kinds.{least_of}
 
 -- a line of a file of so many
 abbrev pub IsLineOf : ℕ → ℕ → Type 0

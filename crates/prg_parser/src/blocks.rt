@@ -5,46 +5,11 @@ ghost use Rattle.std.specs.List.{list_any};
 ghost use Rattle.arrayvec.specs.ArrayVec.{array_vec_len};
 ghost use Rattle.prg_parser.specs.Blocks as spec;
 
-use crate::fault::FaultKind;
 use arrayvec::ArrayVec;
+use prg_line::{FaultKind, Role};
 
 /// The most blocks that may stand within each other.
 pub const MOST_BLOCKS: usize = 32;
-
-/// What a line is to the blocks around it.
-#[derive(Clone, Copy, Debug, PartialEq, Eq)]
-pub enum Role {
-    /// A line without meaning.
-    Nothing,
-    /// A command of one line.
-    Plain,
-    /// `LOOP` or `EXIT`.
-    Leap,
-    /// `PROCEDURE`, which begins without blocks.
-    Procedure,
-    /// `IF`.
-    If,
-    /// `ELSE`.
-    Else,
-    /// `ENDIF`.
-    EndIf,
-    /// `DO CASE`.
-    DoCase,
-    /// `CASE`.
-    Case,
-    /// `OTHERWISE`.
-    Otherwise,
-    /// `ENDCASE`.
-    EndCase,
-    /// `DO WHILE`.
-    DoWhile,
-    /// `ENDDO`.
-    EndDo,
-    /// `SCAN`.
-    Scan,
-    /// `ENDSCAN`.
-    EndScan,
-}
 
 /// The part of an open block in which the next line stands.
 #[derive(Clone, Copy, Debug, PartialEq, Eq, Default)]

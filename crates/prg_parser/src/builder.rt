@@ -7,14 +7,15 @@ ghost use Rattle.prg_parser.specs.Blocks.{divide_at, fault_of, innermost, is_pro
 ghost use Rattle.prg_parser.specs.Building.{IsChoice, Took, awaited, built_lines, built_parts, current_lines, ending, finished_lines, head_lines, is_ending, opens_lines, part_of_block, place_of};
 ghost use Rattle.prg_parser.specs.Layout.{said};
 ghost use Rattle.prg_parser.specs.Layout.{body_lines, branch_lines, cases_lines, command_lines, case_lines, form_lines, part_of, program_lines};
-ghost use Rattle.prg_parser.specs.Saying.{Saying, line as said_line, role_of, saying_of};
-ghost use Rattle.prg_parser.specs.Saying as saying;
+ghost use Rattle.prg_line.specs.Saying.{Saying, line as said_line, role_of, saying_of};
+ghost use Rattle.prg_line.specs.Saying as saying;
 ghost use Rattle.prg_parser.specs.declared.blocks.Place.{Place as Within};
 ghost use Rattle.prg_parser.specs.declared.blocks.Place.TheVariants as within;
 
-use crate::command::{Branch, Case, Command, Form, Sentence};
+use crate::command::{Branch, Case, Command, Form};
 use crate::program::{Procedure, Program};
 use prg_expr::{Expr, Name, Text};
+use prg_line::Sentence;
 use std::alloc::{AllocError, Global};
 
 /// What of an open block is known before its innermost part ends.

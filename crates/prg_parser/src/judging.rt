@@ -4,8 +4,9 @@ ghost use Rattle.std.specs.Prelude.{◌≡◌, None, Some, [], option_map};
 ghost use Rattle.prg_parser.specs.Verdict as spec;
 ghost use Rattle.prg_parser.specs.Blocks.{is_procedure};
 
-use crate::blocks::{Part, Parts, Role, block_fault, enter};
-use crate::fault::{FaultKind, ParseFault, least};
+use crate::blocks::{Part, Parts, block_fault, enter};
+use crate::fault::ParseFault;
+use prg_line::{FaultKind, Role, least};
 
 /// What of a line decides on its fault.
 #[derive(Clone, Copy, Debug, PartialEq, Eq)]

@@ -104,7 +104,7 @@ fn tells_the_least_fault(rt: HostRuntime) -> Result<(), Fail> {
 }
 
 #[test]
-fn reads_commands_of_the_screen(rt: HostRuntime) -> Result<(), Fail> {
+fn reads_commands_that_show(rt: HostRuntime) -> Result<(), Fail> {
     let alloc = rt.alloc();
     expect_form(&rt, alloc, b"?", "Show { values: [] }")?;
     expect_form(
@@ -132,6 +132,12 @@ fn reads_commands_of_the_screen(rt: HostRuntime) -> Result<(), Fail> {
         b"@ A,B SAY C GET D",
         "SayGet { row: Name([65]), column: Name([66]), value: Name([67]), variable: [68] }",
     )?;
+    Ok(())
+}
+
+#[test]
+fn reads_commands_that_ask(rt: HostRuntime) -> Result<(), Fail> {
+    let alloc = rt.alloc();
     expect_form(&rt, alloc, b"READ", "Read")?;
     expect_form(
         &rt,
@@ -214,6 +220,12 @@ fn reads_commands_of_areas(rt: HostRuntime) -> Result<(), Fail> {
     expect_form(&rt, alloc, b"SELECT B", "Select { area: Name([66]) }")?;
     expect_form(&rt, alloc, b"CLOSE ALL", "CloseAll")?;
     expect_form(&rt, alloc, b"CLOSE DATA", "CloseAll")?;
+    Ok(())
+}
+
+#[test]
+fn reads_settings(rt: HostRuntime) -> Result<(), Fail> {
+    let alloc = rt.alloc();
     expect_form(&rt, alloc, b"SET ORDER TO 2", "SetOrder { order: 2 }")?;
     expect_form(
         &rt,
@@ -279,7 +291,7 @@ fn reads_commands_of_records(rt: HostRuntime) -> Result<(), Fail> {
 }
 
 #[test]
-fn reads_commands_of_control(rt: HostRuntime) -> Result<(), Fail> {
+fn reads_calls(rt: HostRuntime) -> Result<(), Fail> {
     let alloc = rt.alloc();
     expect_form(&rt, alloc, b"DO P", "Do { procedure: [80], arguments: [] }")?;
     expect_form(
@@ -291,6 +303,12 @@ fn reads_commands_of_control(rt: HostRuntime) -> Result<(), Fail> {
     expect_form(&rt, alloc, b"RETURN", "Return")?;
     expect_form(&rt, alloc, b"QUIT", "Quit")?;
     expect_form(&rt, alloc, b"CANCEL", "Cancel")?;
+    Ok(())
+}
+
+#[test]
+fn reads_choices(rt: HostRuntime) -> Result<(), Fail> {
+    let alloc = rt.alloc();
     expect_block(
         &rt,
         alloc,
@@ -303,6 +321,12 @@ fn reads_commands_of_control(rt: HostRuntime) -> Result<(), Fail> {
         b"IF A\nELSE\nREAD\nENDIF rest 'x",
         "If { condition: Name([65]), then: [], otherwise: Some(Branch { line: 2, body: [Command { line: 3, form: Statement(Read) }] }), end: 4 }",
     )?;
+    Ok(())
+}
+
+#[test]
+fn reads_loops(rt: HostRuntime) -> Result<(), Fail> {
+    let alloc = rt.alloc();
     expect_block(
         &rt,
         alloc,
@@ -321,6 +345,12 @@ fn reads_commands_of_control(rt: HostRuntime) -> Result<(), Fail> {
         b"SCAN FOR A\nREAD\nENDSCAN",
         "Scan { condition: Some(Name([65])), body: [Command { line: 2, form: Statement(Read) }], end: 3 }",
     )?;
+    Ok(())
+}
+
+#[test]
+fn reads_cases(rt: HostRuntime) -> Result<(), Fail> {
+    let alloc = rt.alloc();
     expect_block(
         &rt,
         alloc,
@@ -459,16 +489,15 @@ fn counts_blocks_and_bytes(rt: HostRuntime) -> Result<(), Fail> {
 #[test]
 fn counts_parentheses(rt: HostRuntime) -> Result<(), Fail> {
     let alloc = rt.alloc();
-    let mut file = repeated(alloc, b"(", 32, b"A")?;
-    let ends = repeated(alloc, b")", 32, b"")?;
-    file.extend_from_slice(&ends)?;
-    let file = repeated(alloc, b"", 0, &file)?;
     let mut line = repeated(alloc, b"? ", 1, b"")?;
-    line.extend_from_slice(&file)?;
+    let opened = repeated(alloc, b"(", 32, b"A")?;
+    let closed = repeated(alloc, b")", 32, b"")?;
+    line.extend_from_slice(&opened)?;
+    line.extend_from_slice(&closed)?;
     expect_form(&rt, alloc, &line, "Show { values: [Name([65])] }")?;
-    let line = repeated(alloc, b"(", 33, b"")?;
     let mut deep = repeated(alloc, b"? ", 1, b"")?;
-    deep.extend_from_slice(&line)?;
+    let opened = repeated(alloc, b"(", 33, b"")?;
+    deep.extend_from_slice(&opened)?;
     expect_shown(&rt, alloc, &deep, "1 TooDeep")?;
     expect_shown(&rt, alloc, b"? (1 2 &X", "1 Expression")?;
     expect_shown(
@@ -481,17 +510,31 @@ fn counts_parentheses(rt: HostRuntime) -> Result<(), Fail> {
 }
 
 #[test]
-fn answers_hostile_files(rt: HostRuntime) -> Result<(), Fail> {
+fn answers_all_bytes(rt: HostRuntime) -> Result<(), Fail> {
     let alloc = rt.alloc();
     let mut all = Vec::new(alloc);
     for byte in 0..=255u8 {
         all.push(byte)?;
     }
     expect_shown(&rt, alloc, &all, "1 Character")?;
+    Ok(())
+}
+
+#[test]
+fn answers_each_byte(rt: HostRuntime) -> Result<(), Fail> {
+    let alloc = rt.alloc();
+    let begins: &[u8] = b"\t\n\x1a '\"[.&()*+,-/<=>#$?@;";
     for byte in 0..=255u8 {
-        let line = repeated(alloc, &[byte], 3, b"")?;
-        let _ = shown(alloc, &line)?;
+        let known = byte.is_ascii_alphanumeric() || begins.contains(&byte);
+        let found = shown(alloc, &[byte])?;
+        assert!(rt; (found.as_str() == "1 Character") != known, "{byte}");
     }
+    Ok(())
+}
+
+#[test]
+fn answers_hostile_files(rt: HostRuntime) -> Result<(), Fail> {
+    let alloc = rt.alloc();
     let file = repeated(alloc, b"? -", 100000, b"")?;
     expect_shown(&rt, alloc, &file, "1 TooLong")?;
     let file = repeated(alloc, b"(", 200000, b"")?;

@@ -1,11 +1,11 @@
 // One step of the checking machine.
 #![tactic(auto)]
 
-ghost use Rattle.std.specs.Prelude.{◌≡◌, ◌+◌, ◌<◌, ◌≤◌, ◌^◌, length, IsTrue, OnOk, OnErr, None};
+ghost use Rattle.std.specs.Prelude.{◌≡◌, ◌+◌, ◌<◌, ◌≤◌, ◌^◌, ◌∷◌, length, slice_get, IsTrue, false, OnOk, OnErr, None};
 ghost use Rattle.xcode.specs.Legal.{IsCode};
 ghost use Rattle.xcode.specs.Signature.{grows};
-ghost use Rattle.tagged_machine.specs.Faults.{fault_of};
-ghost use Rattle.tagged_machine.specs.Step.{called, answer, change, effect};
+ghost use Rattle.tagged_machine.specs.Faults.{fault_of, has_no_value};
+ghost use Rattle.tagged_machine.specs.Step.{with_constant, with_slot, stored, shown_top, called, answer, change, effect};
 ghost use Rattle.xvalue.specs.Signature.{takes_of};
 ghost use Rattle.tagged_machine.specs.Fits.{HasShape};
 ghost use Rattle.tagged_machine.specs.Run.{StepFits};
@@ -20,13 +20,49 @@ use xvalue::apply::apply;
 use xvalue::laws::arguments_are_few;
 use xvalue::{Fun, Gathered, Value};
 
+/// Puts the constant of this number on the stack.
+fn push_constant(code: &Code, world: &mut World, number: usize)
+    requires there { number < length code.now.constants }
+    requires room { length world.old.stack < 64 }
+    ensures { world.new ≡ with_constant (slice_get code.now.constants number) world.old }
+{
+    let value = code.constants.get(number).copied();
+    world.stack.push(value);
+}
+
+/// Puts what the slot holds on the stack.
+fn load(world: &mut World, slot: usize)
+    requires there { slot < length world.old.slots }
+    requires set { has_no_value (slice_get world.old.slots slot) ≡ false }
+    requires room { length world.old.stack < 64 }
+    ensures { world.new ≡ with_slot (slice_get world.old.slots slot) world.old }
+{
+    match world.slots.get(slot) {
+        Some(value) => {
+            let value = value.copied();
+            world.stack.push(value);
+        }
+        None => unreachable!(),
+    }
+}
+
+/// Takes the top value, and puts it into the slot.
+fn store(world: &mut World, slot: usize)
+    requires top { 0 < length world.old.stack }
+    requires there { slot < length world.old.slots }
+    ensures { world.new ≡ stored slot world.old }
+{
+    let value = world.stack.pop();
+    world.slots.set(slot, Some(value));
+}
+
 /// Takes the function's arguments off the stack, and puts its result there.
 fn call(world: &mut World, fun: Fun)
     requires there { length (takes_of fun) ≤ length world.old.stack }
     requires room { length world.old.stack ≤ 64 }
-    requires some { 0 < length (takes_of fun) }
     ensures { world.new ≡ called fun world.old }
 {
+    arguments_are_few();
     let count = fun.takes().len();
     let gathered = Gathered::of(world.stack.top_values(count));
     let value = apply(fun, world.settings, &gathered.arguments());
@@ -42,6 +78,28 @@ fn answer(world: &World, question: Question) -> Value
     }
 }
 
+/// Puts the answer on the stack.
+fn ask(world: &mut World, question: Question)
+    requires room { length world.old.stack < 64 }
+    ensures { world.new ≡ record world.old { stack = answer question world.old ∷ world.old.stack } }
+{
+    let value = answer(world, question);
+    world.stack.push(value);
+}
+
+/// Shows the top value, and takes it. Where memory is refused, the world is as it was.
+fn print(world: &mut World) -> Result<(), AllocError>
+    requires top { 0 < length world.old.stack }
+    ensures ok { OnOk result (world.new ≡ shown_top world.old) }
+    ensures err { OnErr result (world.new ≡ world.old) }
+{
+    world
+        .screen
+        .try_print(&world.stack.top().shown(world.settings))?;
+    let _ = world.stack.pop();
+    Ok(())
+}
+
 /// What an instruction that has no fault does, but for the place. Where memory is refused, the world is as it was.
 #[tactic(auto, using(crate::proofs::Stepping::function_there))]
 fn change(code: &Code, world: &mut World, instr: Instr) -> Result<(), AllocError>
@@ -54,22 +112,15 @@ fn change(code: &Code, world: &mut World, instr: Instr) -> Result<(), AllocError
 {
     match instr {
         Instr::Constant(number) => {
-            world
-                .stack
-                .push(code.constants.get(number as usize).copied());
+            push_constant(code, world, number as usize);
             Ok(())
         }
-        Instr::Load(_, slot) => match world.slots.get(slot as usize) {
-            Some(value) => {
-                let value = value.copied();
-                world.stack.push(value);
-                Ok(())
-            }
-            None => unreachable!(),
-        },
+        Instr::Load(_, slot) => {
+            load(world, slot as usize);
+            Ok(())
+        }
         Instr::Store(_, slot) => {
-            let value = world.stack.pop();
-            world.slots.set(slot as usize, Some(value));
+            store(world, slot as usize);
             Ok(())
         }
         Instr::Unset(slot) => {
@@ -81,13 +132,11 @@ fn change(code: &Code, world: &mut World, instr: Instr) -> Result<(), AllocError
             Ok(())
         }
         Instr::Function(fun) => {
-            arguments_are_few();
             call(world, fun);
             Ok(())
         }
         Instr::Ask(question) => {
-            let value = answer(world, question);
-            world.stack.push(value);
+            ask(world, question);
             Ok(())
         }
         Instr::Set(setting, on) => {
@@ -96,13 +145,7 @@ fn change(code: &Code, world: &mut World, instr: Instr) -> Result<(), AllocError
         }
         Instr::Jump(_) | Instr::End => Ok(()),
         Instr::NewLine => world.screen.try_new_line(),
-        Instr::Print(_) => {
-            world
-                .screen
-                .try_print(&world.stack.top().shown(world.settings))?;
-            let _ = world.stack.pop();
-            Ok(())
-        }
+        Instr::Print(_) => print(world),
     }
 }
 

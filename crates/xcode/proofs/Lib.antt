@@ -8,5 +8,4 @@ pub mod CodeStates
 pub mod CodeValues
 pub mod Keeping
 pub mod KindLists
-pub mod LegalProps
 pub mod Many

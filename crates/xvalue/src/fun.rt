@@ -233,55 +233,29 @@ impl Fun {
         ensures few { length result.now ≤ 4 }
         ensures some { 0 < length result.now }
     {
+        use Fun::*;
+
         match self {
-            Fun::Add
-            | Fun::Sub
-            | Fun::Mul
-            | Fun::Div
-            | Fun::NumberEq
-            | Fun::NumberLess
-            | Fun::NumberGreater
-            | Fun::Mod
-            | Fun::Round
-            | Fun::Max
-            | Fun::Min => &[Kind::Number, Kind::Number],
-            Fun::Neg | Fun::Space | Fun::Chr | Fun::Abs | Fun::Int => &[Kind::Number],
-            Fun::TextEq
-            | Fun::TextLess
-            | Fun::TextGreater
-            | Fun::Join
-            | Fun::JoinMoved
-            | Fun::In
-            | Fun::At => &[Kind::Text, Kind::Text],
-            Fun::DateEq | Fun::DateLess | Fun::DateGreater | Fun::DateDiff => &[
-                Kind::Date,
-                Kind::Date,
-            ],
-            Fun::Not => &[Kind::Logical],
-            Fun::And | Fun::Or => &[Kind::Logical, Kind::Logical],
-            Fun::DateAdd | Fun::DateSub => &[Kind::Date, Kind::Number],
-            Fun::IifNumber => &[Kind::Logical, Kind::Number, Kind::Number],
-            Fun::IifText => &[Kind::Logical, Kind::Text, Kind::Text],
-            Fun::IifDate => &[Kind::Logical, Kind::Date, Kind::Date],
-            Fun::IifLogical => &[Kind::Logical, Kind::Logical, Kind::Logical],
-            Fun::Len
-            | Fun::Trim
-            | Fun::Ltrim
-            | Fun::Upper
-            | Fun::Lower
-            | Fun::Asc
-            | Fun::Val
-            | Fun::IsAlpha
-            | Fun::IsUpper
-            | Fun::IsLower
-            | Fun::Ctod => &[Kind::Text],
-            Fun::Substr => &[Kind::Text, Kind::Number, Kind::Number],
-            Fun::Left | Fun::Right | Fun::Replicate => &[Kind::Text, Kind::Number],
-            Fun::Stuff => &[Kind::Text, Kind::Number, Kind::Number, Kind::Text],
-            Fun::Str => &[Kind::Number, Kind::Number, Kind::Number],
-            Fun::Dtoc | Fun::Day | Fun::Month | Fun::Year | Fun::Dow | Fun::Cdow | Fun::Cmonth => &[
-                Kind::Date,
-            ],
+            Add | Sub | Mul | Div | Mod | Round | Max | Min => &[Kind::Number, Kind::Number],
+            NumberEq | NumberLess | NumberGreater => &[Kind::Number, Kind::Number],
+            Neg | Abs | Int | Space | Chr => &[Kind::Number],
+            Str => &[Kind::Number, Kind::Number, Kind::Number],
+            Join | JoinMoved | At => &[Kind::Text, Kind::Text],
+            TextEq | TextLess | TextGreater | In => &[Kind::Text, Kind::Text],
+            Len | Trim | Ltrim | Upper | Lower | Asc | Val | Ctod => &[Kind::Text],
+            IsAlpha | IsUpper | IsLower => &[Kind::Text],
+            Left | Right | Replicate => &[Kind::Text, Kind::Number],
+            Substr => &[Kind::Text, Kind::Number, Kind::Number],
+            Stuff => &[Kind::Text, Kind::Number, Kind::Number, Kind::Text],
+            DateAdd | DateSub => &[Kind::Date, Kind::Number],
+            DateEq | DateLess | DateGreater | DateDiff => &[Kind::Date, Kind::Date],
+            Dtoc | Day | Month | Year | Dow | Cdow | Cmonth => &[Kind::Date],
+            Not => &[Kind::Logical],
+            And | Or => &[Kind::Logical, Kind::Logical],
+            IifNumber => &[Kind::Logical, Kind::Number, Kind::Number],
+            IifText => &[Kind::Logical, Kind::Text, Kind::Text],
+            IifDate => &[Kind::Logical, Kind::Date, Kind::Date],
+            IifLogical => &[Kind::Logical, Kind::Logical, Kind::Logical],
         }
     }
 
@@ -289,64 +263,23 @@ impl Fun {
     pub fn gives(self) -> Kind
         ensures { result ≡ gives_of self }
     {
+        use Fun::*;
+
         match self {
-            Fun::Add
-            | Fun::Sub
-            | Fun::Mul
-            | Fun::Div
-            | Fun::Neg
-            | Fun::DateDiff
-            | Fun::IifNumber
-            | Fun::Len
-            | Fun::At
-            | Fun::Asc
-            | Fun::Val
-            | Fun::Abs
-            | Fun::Int
-            | Fun::Mod
-            | Fun::Round
-            | Fun::Max
-            | Fun::Min
-            | Fun::Day
-            | Fun::Month
-            | Fun::Year
-            | Fun::Dow => Kind::Number,
-            Fun::NumberEq
-            | Fun::NumberLess
-            | Fun::NumberGreater
-            | Fun::TextEq
-            | Fun::TextLess
-            | Fun::TextGreater
-            | Fun::DateEq
-            | Fun::DateLess
-            | Fun::DateGreater
-            | Fun::Not
-            | Fun::And
-            | Fun::Or
-            | Fun::In
-            | Fun::IifLogical
-            | Fun::IsAlpha
-            | Fun::IsUpper
-            | Fun::IsLower => Kind::Logical,
-            Fun::Join
-            | Fun::JoinMoved
-            | Fun::IifText
-            | Fun::Substr
-            | Fun::Left
-            | Fun::Right
-            | Fun::Trim
-            | Fun::Ltrim
-            | Fun::Upper
-            | Fun::Lower
-            | Fun::Space
-            | Fun::Replicate
-            | Fun::Stuff
-            | Fun::Chr
-            | Fun::Str
-            | Fun::Dtoc
-            | Fun::Cdow
-            | Fun::Cmonth => Kind::Text,
-            Fun::DateAdd | Fun::DateSub | Fun::IifDate | Fun::Ctod => Kind::Date,
+            Add | Sub | Mul | Div | Mod | Round | Max | Min => Kind::Number,
+            Neg | Abs | Int | IifNumber => Kind::Number,
+            Len | At | Asc | Val => Kind::Number,
+            DateDiff | Day | Month | Year | Dow => Kind::Number,
+            Join | JoinMoved | Trim | Ltrim | Upper | Lower | IifText => Kind::Text,
+            Substr | Left | Right | Replicate | Stuff => Kind::Text,
+            Space | Chr | Str => Kind::Text,
+            Dtoc | Cdow | Cmonth => Kind::Text,
+            DateAdd | DateSub | Ctod | IifDate => Kind::Date,
+            NumberEq | NumberLess | NumberGreater => Kind::Logical,
+            TextEq | TextLess | TextGreater | In => Kind::Logical,
+            IsAlpha | IsUpper | IsLower => Kind::Logical,
+            DateEq | DateLess | DateGreater => Kind::Logical,
+            Not | And | Or | IifLogical => Kind::Logical,
         }
     }
 }

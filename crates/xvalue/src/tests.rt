@@ -264,6 +264,10 @@ fn makes_texts_of_numbers(rt: HostRuntime) {
         let values = [number(argument), number(width), number(decimals)];
         assert_eq!(rt; result_of(Fun::Str, &values).as_slice(), wanted.as_bytes());
     }
+}
+
+#[test]
+fn makes_blanks(rt: HostRuntime) {
     assert_eq!(rt;
         result_of(Fun::Space, &[number("3")]).as_slice(),
         "   ".as_bytes()
@@ -276,6 +280,10 @@ fn makes_texts_of_numbers(rt: HostRuntime) {
         result_of(Fun::Space, &[number("?")]).as_slice(),
         "".as_bytes()
     );
+}
+
+#[test]
+fn makes_texts_of_bytes(rt: HostRuntime) {
     assert_eq!(rt;
         result_of(Fun::Chr, &[number("65")]).as_slice(),
         "A".as_bytes()
@@ -435,7 +443,7 @@ fn reads_dates(rt: HostRuntime) {
 }
 
 #[test]
-fn chooses_and_decides(rt: HostRuntime) {
+fn decides(rt: HostRuntime) {
     for (first, second, negated, both, either) in [
         (true, true, ".F.", ".T.", ".T."),
         (true, false, ".F.", ".F.", ".T."),
@@ -447,6 +455,10 @@ fn chooses_and_decides(rt: HostRuntime) {
         assert_eq!(rt; result_of(Fun::And, &values).as_slice(), both.as_bytes());
         assert_eq!(rt; result_of(Fun::Or, &values).as_slice(), either.as_bytes());
     }
+}
+
+#[test]
+fn chooses(rt: HostRuntime) {
     for (truth, chosen_number, chosen_text, chosen_date, chosen_truth) in [
         (true, "1", "A", "01/02/85", ".F."),
         (false, "2", "B", "03/04/86", ".T."),
@@ -476,6 +488,10 @@ fn chooses_and_decides(rt: HostRuntime) {
             chosen_truth.as_bytes()
         );
     }
+}
+
+#[test]
+fn makes_dates_of_texts(rt: HostRuntime) {
     let date_of_text = result_of(Fun::Ctod, &[text("02/29/88")]);
     assert_eq!(rt; date_of_text.as_slice(), "02/29/88".as_bytes());
 }

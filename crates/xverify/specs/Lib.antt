@@ -1,1 +1,2 @@
+pub mod LegalProps
 pub mod Verdict

@@ -4,7 +4,7 @@
 ghost use Rattle.std.specs.Prelude.{◌≡◌};
 ghost use Rattle.std.proofs.Props.{props};
 ghost use Rattle.xcode.specs.Legal.{IsCode};
-ghost use Rattle.xcode.proofs.LegalProps.{IsConstant-prop, IsInstr-prop, RiseFrom-prop, MainIs-prop};
+ghost use Rattle.xverify.specs.LegalProps.{IsConstant-prop, IsInstr-prop, RiseFrom-prop, MainIs-prop};
 ghost use Rattle.xcode.specs.Rules.{Accepted};
 
 use std::fmt;

@@ -19,6 +19,12 @@ const TEXT: u8 = 2;
 
 const LOGICAL: u8 = 4;
 
+/// The rule that the load of the wrong kind breaks.
+const BROKEN: Refused = Refused {
+    rule: Rule::Kind,
+    at: 7,
+};
+
 /// The loop; its load of slot 0 takes a value of this kind.
 fn three_rows(alloc: Global, kind: u8) -> Result<Vec<u8>, AllocError> {
     let known = HandMap {
@@ -141,19 +147,27 @@ fn refuses_the_wrong_kind(rt: HostRuntime) -> Result<(), Fail> {
             bytes: wrong.as_slice(),
         },
     ];
-    let broken = Refused {
-        rule: Rule::Kind,
-        at: 7,
-    };
     let mut files = stored(&entries);
     assert_eq!(rt; verify_file(rt.alloc(), &mut files, "right.xbc"), Ok(None));
     assert_eq!(rt;
         verify_file(rt.alloc(), &mut files, "wrong.xbc"),
-        Ok(Some(broken))
+        Ok(Some(BROKEN))
     );
+    Ok(())
+}
+
+/// The machine without tags doesn't start, the checking machine meets the fault.
+#[test]
+fn runs_the_wrong_kind_only_checked(rt: HostRuntime) -> Result<(), Fail> {
+    let wrong = three_rows(rt.alloc(), TEXT)?;
+    let entries = [Entry {
+        name: "wrong.xbc",
+        bytes: wrong.as_slice(),
+    }];
+    let mut files = stored(&entries);
     let refused = Refusal::Refused {
         name: "wrong.xbc",
-        fault: Fault::OfRule(broken),
+        fault: Fault::OfRule(BROKEN),
     };
     let report = run_files(
         rt.alloc(),

@@ -1,14 +1,14 @@
 use Rattle.std.proofs.Common.{◌≡◌, ◌<◌, ap, ◌∙◌, sym, length, get_or, List, Option, ℕ, None, Some, [], arith}
 use Rattle.prg_parser.specs.declared.blocks.Part.{Part}
-use Rattle.prg_parser.specs.declared.blocks.Role.TheVariants.{Nothing}
+use Rattle.prg_line.specs.declared.role.Role.TheVariants.{Nothing}
 use Rattle.prg_parser.specs.declared.judging.Mark.{Mark}
-use Rattle.prg_parser.specs.declared.fault.FaultKind.{FaultKind}
+use Rattle.prg_line.specs.declared.fault.FaultKind.{FaultKind}
 use Rattle.std.specs.Prelude.{option_map}
 use Rattle.std.proofs.lemmas.List.{drop_all}
 use Rattle.prg_parser.specs.Verdict as spec
 use Rattle.prg_parser.specs.Verdict.{verdict}
 use Rattle.prg_parser.specs.Blocks.{fault_of}
-use Rattle.prg_parser.specs.Kinds.{least_of}
+use Rattle.prg_line.specs.Kinds.{least_of}
 use Rattle.prg_parser.proofs.VerdictLemmas.{told, passed, at-end}
 use Rattle.prg_parser.proofs.judging.judge.Goals as goal
 

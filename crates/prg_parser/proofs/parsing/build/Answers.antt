@@ -5,7 +5,7 @@ use Rattle.std.proofs.lemmas.Iterator.Adapters.{YieldsList-from_vec}
 use Rattle.std.proofs.lemmas.Iterator.Consumers.{YieldsList-turn, YieldsList-end}
 use Rattle.std.proofs.lemmas.List.{length_push}
 use Rattle.prg_parser.specs.Layout.{said_lines}
-use Rattle.prg_parser.specs.Saying.{saying_of}
+use Rattle.prg_line.specs.Saying.{saying_of}
 use Rattle.prg_parser.specs.declared.judging.Mark.{Mark}
 use Rattle.prg_parser.proofs.TakingLemmas.{ready_first, taken, all_built}
 use Rattle.prg_parser.proofs.parsing.build.Goals as goal

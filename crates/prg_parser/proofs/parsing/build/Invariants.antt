@@ -1,9 +1,9 @@
 use Rattle.std.proofs.Common.{◌≡◌, [], None, map, drop, length}
 use Rattle.std.specs.List.{zip}
 use Rattle.prg_parser.specs.Layout.{said_lines}
-use Rattle.prg_parser.specs.Saying.{role_of, saying_of}
+use Rattle.prg_line.specs.Saying.{role_of, saying_of}
 use Rattle.prg_parser.specs.Verdict.{verdict}
-use Rattle.prg_parser.specs.declared.command.Sentence.{Sentence}
+use Rattle.prg_line.specs.declared.statement.Sentence.{Sentence}
 use Rattle.prg_parser.specs.declared.judging.Mark.{Mark}
 use Rattle.prg_parser.proofs.TakingLemmas.{Ready}
 use Rattle.prg_parser.proofs.parsing.build.Given as goal

@@ -4,7 +4,7 @@ use Rattle.prg_parser.specs.Verdict.{verdict}
 use Rattle.prg_parser.proofs.RangeLemmas.{names_line}
 use Rattle.prg_parser.proofs.FileLemmas.{roles_agree, is_program, not_refused}
 use Rattle.prg_parser.proofs.MarkLemmas.{all_marks, all_sayings}
-use Rattle.prg_parser.specs.Saying.{saying_of}
+use Rattle.prg_line.specs.Saying.{saying_of}
 use Rattle.prg_parser.proofs.parsing.parse.Goals as goal
 
 pub returns-in-Some-clause-told : goal.returns-in-Some-clause-told
@@ -26,14 +26,14 @@ returns-clause-spelled c =
     let ls = c.in_ok-lines.lines.items in
     let ms = c.in_ok-marks.field-0.marks.items in
     let ss = c.in_ok-marks.field-0.sentences.items in
-    let law = c.expressions_are_read.ensures.sound in
+    let placed = c.lines_are_read.ensures.placed in
     let same = all_marks bytes ls c.deref.result.now ms c.in_ok-lines.ensures c.deref.ensures.value c.in_ok-marks.ensures.marks in
     let says = all_sayings bytes ls c.deref.result.now (map saying_of ss) c.in_ok-lines.ensures c.deref.ensures.value c.in_ok-marks.ensures.sayings in
     let none = returns-clause-faultless c in
     let lent = c.deref-in-None.ensures.value ∙ same in
-    let built = c.in_ok-build-in-None.ensures.laid_out (ap (λ (l : List Mark). verdict [] None l) lent ∙ none) (roles_agree law bytes c.deref-in-None.result.now ss lent says none) in
-    is_program law c.lines_are_cut.ensures bytes c.deref-in-None.result.now ss c.in_ok-build-in-None.field-0 lent says none c.in_ok-build-in-None.ensures.unnamed built
+    let built = c.in_ok-build-in-None.ensures.laid_out (ap (λ (l : List Mark). verdict [] None l) lent ∙ none) (roles_agree placed bytes c.deref-in-None.result.now ss lent says none) in
+    is_program c.lines_are_read.ensures.sound placed bytes c.deref-in-None.result.now ss c.in_ok-build-in-None.field-0 lent says none c.in_ok-build-in-None.ensures.unnamed built
 
 pub returns-in-Some-clause-refused : goal.returns-in-Some-clause-refused
 returns-in-Some-clause-refused c =
-    not_refused c.expressions_are_read.ensures.sound c.expressions_are_read.ensures.complete c.lines_are_cut.ensures c.one_line.ensures c.args.bytes.now c.in-Some.fault (returns-in-Some-clause-told c)
+    not_refused c.lines_are_read.ensures.placed c.lines_are_read.ensures.complete c.args.bytes.now c.in-Some.fault (returns-in-Some-clause-told c)

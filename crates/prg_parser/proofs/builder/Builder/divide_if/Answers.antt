@@ -1,17 +1,17 @@
 use Rattle.std.proofs.Common.{◌≡◌, ◌++◌, ◌∷◌, [], map, option_map}
 use Rattle.prg_parser.specs.Building.{awaited, built_parts, current_lines, finished_lines, head_lines, opens_lines, part_of_block}
 use Rattle.prg_parser.specs.Layout.{body_lines}
-use Rattle.prg_parser.specs.Saying.{Saying}
-use Rattle.prg_parser.specs.Saying.{line as said_line}
-use Rattle.prg_parser.specs.Saying.{role_of, saying_of}
-use Rattle.prg_parser.specs.Saying as saying
+use Rattle.prg_line.specs.Saying.{Saying}
+use Rattle.prg_line.specs.Saying.{line as said_line}
+use Rattle.prg_line.specs.Saying.{role_of, saying_of}
+use Rattle.prg_line.specs.Saying as saying
 use Rattle.prg_parser.proofs.BuildLemmas.{put_more}
 use Rattle.std.proofs.Common.{Option, refl, sym, ap, ◌∙◌, arith}
 use Rattle.std.proofs.lemmas.List.{nil_from_length}
 use Rattle.prg_parser.proofs.BuildLemmas as by
 use Rattle.prg_parser.specs.declared.blocks.Part.{Part}
 use Rattle.prg_parser.specs.declared.blocks.Place.TheVariants as within
-use Rattle.prg_parser.specs.declared.blocks.Role.TheVariants as role
+use Rattle.prg_line.specs.declared.role.Role.TheVariants as role
 use Rattle.prg_parser.specs.Building.{open_lines}
 use Rattle.prg_parser.specs.Blocks.{is_then}
 use Rattle.prg_parser.specs.declared.builder.OpenBlock.{OpenBlock}

@@ -1,0 +1,11 @@
+pub mod FormsFull
+pub mod FormsSound
+pub mod Full
+pub mod PartsFull
+pub mod PartsSound
+pub mod ReadLemmas
+pub mod RoleLemmas
+pub mod SaysFull
+pub mod SaysSound
+pub mod SeveralLemmas
+pub mod Sound

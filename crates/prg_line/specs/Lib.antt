@@ -1,0 +1,10 @@
+pub mod Act
+pub mod Beginning
+pub mod Commands
+pub mod Forms
+pub mod Gives
+pub mod Kinds
+pub mod LineSays
+pub mod OneLine
+pub mod Saying
+pub mod Verbs

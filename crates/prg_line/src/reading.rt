@@ -1,0 +1,139 @@
+//! What a line says, and which fault it has.
+
+ghost use Rattle.std.specs.Prelude.{◌≡◌, ℕ, List, length, IfOk, Result, option_map, if◌then◌else◌, None};
+ghost use Rattle.prg_expr.specs.Word.{words as tokens};
+ghost use Rattle.prg_line.specs.Gives.{Gives};
+ghost use Rattle.prg_line.specs.Kinds as kinds;
+ghost use Rattle.prg_line.specs.LineSays.{LineSays};
+ghost use Rattle.prg_line.specs.OneLine as spec;
+ghost use Rattle.prg_line.specs.Saying.{Saying, role_of, saying_of};
+ghost use Rattle.prg_line.specs.Verbs.{ignores_rest};
+ghost use Rattle.prg_line.specs.declared.fault.FaultKind.{FaultKind as AnyKind};
+
+use crate::fault::{FaultKind, kind_of, least};
+use crate::forms::sentence;
+use crate::reader::{FormFault, Reader};
+use crate::role::Role;
+use crate::statement::Sentence;
+use crate::verb::{Verb, verb_of};
+use prg_expr::{Fault, Token, expressions_are_read, lines_are_cut, one_line, words};
+use std::alloc::{AllocError, Global};
+
+/// The most bytes of a line.
+const MOST_BYTES: usize = 1024;
+
+/// The form of a line above so many bytes isn't read, since the tree could get too deep.
+const MOST_BYTES_READ: usize = 4096;
+
+/// What is wrong with the length of a line.
+fn length_fault(text: &[u8]) -> Option<FaultKind>
+    ensures { result ≡ spec.length_fault (length text.now) }
+{
+    if text.len() > MOST_BYTES {
+        Some(FaultKind::TooLong)
+    } else {
+        None
+    }
+}
+
+/// A line that was read by itself.
+#[derive(Debug, Drop)]
+pub struct ReadLine {
+    /// What it is to the blocks around it, also where it has a fault.
+    pub role: Role,
+    /// The least fault of its words, its form and its length.
+    pub fault: Option<FaultKind>,
+    /// What it says; nothing where its form has a fault.
+    pub sentence: Sentence,
+}
+
+/// Reads what the words of a command say, the first ones apart.
+#[tactic(auto, unfolding(crate::specs::OneLine::form))]
+fn read_form(
+    alloc: Global,
+    verb: Verb,
+    rest: &[Token<'_>],
+    bytes: usize,
+) -> Result<Sentence, FormFault>
+    ensures { Gives saying_of result (spec.form bytes (verb, tokens rest.now)) }
+{
+    if bytes > MOST_BYTES_READ {
+        return Err(FormFault::Kind(FaultKind::TooLong));
+    }
+    let mut reader = Reader {
+        alloc,
+        words: rest,
+        behind_expression: false,
+    };
+    sentence(verb, &mut reader)
+}
+
+/// The least fault of the words of a line, where they count.
+fn word_fault(verb: Verb, fault: Option<Fault>) -> Option<FaultKind>
+    ensures { result ≡ (if ignores_rest verb then None else option_map kinds.kind_of fault) }
+{
+    if verb.ignores_rest() {
+        return None;
+    }
+    match fault {
+        Some(fault) => Some(kind_of(fault)),
+        None => None,
+    }
+}
+
+/// What was read of a line's form, and its fault.
+fn told(form: Result<Sentence, FormFault>) -> Result<(Sentence, Option<FaultKind>), AllocError>
+    ensures { (read : Result Saying AnyKind) → Gives saying_of form read
+        → IfOk result (λ x. (saying_of x.0 ≡ spec.saying_in read) × (x.1 ≡ spec.fault_in read)) }
+{
+    match form {
+        Ok(sentence) => Ok((sentence, None)),
+        Err(FormFault::Kind(kind)) => Ok((Sentence::Nothing, Some(kind))),
+        Err(FormFault::Memory) => Err(AllocError),
+    }
+}
+
+/// Reads a line of these bytes by itself, without the blocks around it.
+///
+/// # Errors
+///
+/// Want of memory.
+#[tactic(auto, unfolding(crate::specs::OneLine::role_at, crate::specs::OneLine::fault_at, crate::specs::OneLine::saying_at))]
+pub fn read_line(alloc: Global, text: &[u8]) -> Result<ReadLine, AllocError>
+    // What the line is to the blocks around it.
+    ensures role { IfOk result (λ read. read.role ≡ spec.role_at text.now) }
+    // The least fault of its words, its form and its length.
+    ensures fault { IfOk result (λ read. read.fault ≡ spec.fault_at text.now) }
+    // What it says.
+    ensures saying { IfOk result (λ read. saying_of read.sentence ≡ spec.saying_at text.now) }
+{
+    let line = words(alloc, text)?;
+    let found = verb_of(&line.words);
+    let word_fault = word_fault(found.verb, line.fault);
+    let (sentence, form_fault) = told(read_form(alloc, found.verb, found.rest, text.len()))?;
+    Ok(ReadLine {
+        role: found.verb.role(),
+        fault: least(least(word_fault, form_fault), length_fault(text)),
+        sentence,
+    })
+}
+
+/// Reading a line from left to right finds what it says.
+pub fn lines_are_read()
+    // A line without a fault says what is read, and is to the blocks around it what that is.
+    ensures sound { (text : List ℕ) → spec.fault_at text ≡ None → LineSays (spec.saying_at text) text }
+    ensures placed { (text : List ℕ) → spec.fault_at text ≡ None → spec.role_at text ≡ role_of (spec.saying_at text) }
+    // A line that says something has no fault, and what it says is read.
+    ensures complete { (text : List ℕ) (s : Saying) → LineSays s text → (spec.fault_at text ≡ None) × (spec.saying_at text ≡ s) }
+{
+    expressions_are_read();
+    lines_are_cut();
+    one_line();
+}
+
+/// A line says one thing at most.
+pub fn one_saying()
+    ensures { (text : List ℕ) (a b : Saying) → LineSays a text → LineSays b text → a ≡ b }
+{
+    lines_are_read();
+}
