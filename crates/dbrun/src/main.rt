@@ -4,31 +4,16 @@
 //! carried out, and what they give is printed.
 #![tactic(auto)]
 
-mod files;
 mod folder;
-mod index_listing;
-mod lines;
-mod listing;
-mod memory_files;
-mod reading;
-mod refusal;
-mod running;
-mod status;
-mod table_listing;
-#[cfg(test)]
-mod tests;
 mod words;
 
 use crate::folder::Folder;
-use crate::index_listing::list_index;
-use crate::listing::{list_code, verify_file};
-use crate::refusal::Refusal;
-use crate::running::run_files;
-use crate::status::{Status, of_end, of_refusal};
-use crate::table_listing::list_table;
 use crate::words::{Words, WordsFault, command, words_of};
 use clap::Command;
 use clap::error::ErrorKind;
+use file_commands::{
+    Refusal, Status, list_code, list_index, list_table, of_end, of_refusal, run_files, verify_file,
+};
 use std::alloc::Global;
 use std::process::ExitCode;
 use std::rt::Runtime;

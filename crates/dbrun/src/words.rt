@@ -2,9 +2,9 @@
 #![tactic(auto)]
 
 use clap::{Arg, ArgMatches, Command, value_parser};
-use jiff::civil::Date;
+use file_commands::today_of;
 use std::alloc::{AllocError, Global};
-use xvalue::{Day, DayParts};
+use xvalue::Day;
 
 /// How much a run may cost where the words don't say.
 const DEFAULT_BUDGET: u64 = 1_000_000;
@@ -110,23 +110,6 @@ pub fn command<'a>(alloc: Global) -> Result<Command<'a>, AllocError> {
 
 fn budget_of(matches: &ArgMatches<'_>) -> u64 {
     matches.get_one::<u64>("budget").unwrap_or(DEFAULT_BUDGET)
-}
-
-/// The day that a word of the form YYYY-MM-DD names, if it is one of the years 1900 to 2155.
-pub fn today_of(word: &str) -> Option<Day> {
-    let bytes = word.as_bytes();
-    if bytes.len() != 10 || bytes[4] != b'-' || bytes[7] != b'-' {
-        return None;
-    }
-    let date = word.parse::<Date>().ok()?;
-    if date.year() < 1900 || date.year() > 2155 {
-        return None;
-    }
-    Day::from_parts(DayParts {
-        year: date.year() as u16,
-        month: date.month() as u8,
-        day: date.day() as u8,
-    })
 }
 
 fn day_of(matches: &ArgMatches<'_>) -> Result<Day, WordsFault> {

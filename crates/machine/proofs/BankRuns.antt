@@ -10,14 +10,14 @@ use Rattle.xvalue.specs.declared.value.Value.TheVariants.{Number, Text, Date, Lo
 use Rattle.xvalue.specs.Kinds.{kind_of}
 use Rattle.xvalue.specs.Given.{Given, by_kind}
 use Rattle.xvalue.specs.Signature.{takes_of}
-use Rattle.xcode.specs.declared.state.State.{State}
-use Rattle.xcode.specs.declared.code.Code.{Code}
-use Rattle.xcode.specs.declared.instr.Instr.{Instr}
-use Rattle.xcode.specs.declared.instr.Instr.TheVariants.{Constant, Load, Store, Unset, Discard, Function, Ask, Jump, JumpFalse, End, NewLine, Print, Set}
-use Rattle.xcode.specs.Kinds.{clashes, slots_covered, slot_covered}
-use Rattle.xcode.specs.Signature.{is_end, grows}
-use Rattle.xcode.specs.States.{instr_at, flow, state_at}
-use Rattle.xcode.specs.Kept.{Covers}
+use Rattle.code_model.specs.declared.state.State.{State}
+use Rattle.code_model.specs.declared.code.Code.{Code}
+use Rattle.code_model.specs.declared.instr.Instr.{Instr}
+use Rattle.code_model.specs.declared.instr.Instr.TheVariants.{Constant, Load, Store, Unset, Discard, Function, Ask, Jump, JumpFalse, End, NewLine, Print, Set}
+use Rattle.code_model.specs.Kinds.{clashes, slots_covered, slot_covered}
+use Rattle.code_model.specs.Signature.{is_end, grows}
+use Rattle.code_model.specs.States.{instr_at, flow, state_at}
+use Rattle.code_model.specs.Kept.{Covers}
 use Rattle.tagged_machine.specs.declared.world.World.{World}
 use Rattle.tagged_machine.specs.declared.run.End.TheVariants.{Finished as EndFinished, Spent, NoMemory}
 use Rattle.tagged_machine.specs.declared.run.Stepped.TheVariants.{Went, Ended}

@@ -5,8 +5,8 @@ use Rattle.xvalue.specs.declared.day.DayParts.{DayParts}
 use Rattle.xvalue.specs.declared.kind.Kind.{Kind}
 use Rattle.xvalue.specs.Given.{by_kind}
 use Rattle.xvalue.specs.Setting.{settings_off}
-use Rattle.xcode.specs.declared.code.Code.{Code}
-use Rattle.xcode.specs.States.{state_at}
+use Rattle.code_model.specs.declared.code.Code.{Code}
+use Rattle.code_model.specs.States.{state_at}
 use Rattle.screen_lines.specs.State.{blank_screen}
 use Rattle.tagged_machine.specs.Fits.{SlotsFit, IsReady}
 use Rattle.tagged_machine.specs.Opening.{opening}

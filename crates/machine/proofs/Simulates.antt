@@ -12,15 +12,15 @@ use Rattle.xvalue.specs.Given.{Given, by_kind}
 use Rattle.xvalue.specs.Setting.{with_setting}
 use Rattle.xvalue.specs.Signature.{takes_of}
 use Rattle.xvalue.specs.Functions.{applied}
-use Rattle.xcode.specs.declared.state.State.{State}
-use Rattle.xcode.specs.declared.code.Code.{Code}
-use Rattle.xcode.specs.declared.instr.Question.TheVariants.{Today}
-use Rattle.xcode.specs.declared.instr.Instr.{Instr}
-use Rattle.xcode.specs.declared.instr.Instr.TheVariants.{Constant, Load, Store, Unset, Discard, Function, Ask, Jump, JumpFalse, End, NewLine, Print, Set}
-use Rattle.xcode.specs.Kinds.{clashes}
-use Rattle.xcode.specs.States.{flow}
-use Rattle.xcode.specs.Rules.{has_other, is_free}
-use Rattle.xcode.specs.Kept.{Kept}
+use Rattle.code_model.specs.declared.state.State.{State}
+use Rattle.code_model.specs.declared.code.Code.{Code}
+use Rattle.code_model.specs.declared.instr.Question.TheVariants.{Today}
+use Rattle.code_model.specs.declared.instr.Instr.{Instr}
+use Rattle.code_model.specs.declared.instr.Instr.TheVariants.{Constant, Load, Store, Unset, Discard, Function, Ask, Jump, JumpFalse, End, NewLine, Print, Set}
+use Rattle.code_model.specs.Kinds.{clashes}
+use Rattle.code_model.specs.States.{flow}
+use Rattle.code_model.specs.Rules.{has_other, is_free}
+use Rattle.code_model.specs.Kept.{Kept}
 use Rattle.screen_lines.specs.State.{new_line}
 use Rattle.tagged_machine.specs.declared.world.World.{World}
 use Rattle.tagged_machine.specs.Tags.{is_false}

@@ -1,8 +1,8 @@
 -- Runs of the machine without tags, beside those of the checking machine.
 use Rattle.std.specs.Prelude.{◌≡◌, ◌<◌, ◌≤◌, ℕ, ◌+◌, ◌-◌, Some, true, false, IsTrue}
-use Rattle.xcode.specs.declared.code.Code.{Code}
-use Rattle.xcode.specs.Signature.{is_end, grows}
-use Rattle.xcode.specs.States.{instr_at}
+use Rattle.code_model.specs.declared.code.Code.{Code}
+use Rattle.code_model.specs.Signature.{is_end, grows}
+use Rattle.code_model.specs.States.{instr_at}
 use Rattle.tagged_machine.specs.declared.world.World.{World}
 use Rattle.tagged_machine.specs.declared.run.End.TheVariants.{Finished, Spent, NoMemory, Fault}
 use Rattle.tagged_machine.specs.declared.run.Stepped.{Stepped}

@@ -8,10 +8,10 @@ use Rattle.xvalue.specs.declared.fun.Fun.{Fun}
 use Rattle.xvalue.specs.Setting.{with_setting}
 use Rattle.xvalue.specs.Functions.{applied}
 use Rattle.xvalue.specs.Shown.{shown}
-use Rattle.xcode.specs.declared.instr.Question.{Question}
-use Rattle.xcode.specs.declared.instr.Question.TheVariants.{Today}
-use Rattle.xcode.specs.declared.instr.Instr.{Instr}
-use Rattle.xcode.specs.declared.instr.Instr.TheVariants.{Constant, Load, Store, Unset, Discard, Function, Ask, Jump, JumpFalse, End, NewLine, Print, Set}
+use Rattle.code_model.specs.declared.instr.Question.{Question}
+use Rattle.code_model.specs.declared.instr.Question.TheVariants.{Today}
+use Rattle.code_model.specs.declared.instr.Instr.{Instr}
+use Rattle.code_model.specs.declared.instr.Instr.TheVariants.{Constant, Load, Store, Unset, Discard, Function, Ask, Jump, JumpFalse, End, NewLine, Print, Set}
 use Rattle.screen_lines.specs.State.{new_line, printed}
 use Rattle.machine.specs.declared.cells.Cell.{Cell}
 use Rattle.machine.specs.declared.banks.Banks.{Banks}

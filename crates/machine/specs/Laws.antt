@@ -2,11 +2,11 @@
 use Rattle.std.specs.Prelude.{◌≡◌, ◌<◌, ◌≤◌, ℕ, ◌+◌, true, false, Some, None, length}
 use Rattle.xvalue.specs.declared.kind.Kind.{Kind}
 use Rattle.xvalue.specs.Kinds.{same_kind}
-use Rattle.xcode.specs.declared.instr.Instr.{Instr}
-use Rattle.xcode.specs.Signature.{is_end}
-use Rattle.xcode.specs.declared.code.Code.{Code}
-use Rattle.xcode.specs.States.{instr_at}
-use Rattle.xcode.specs.Kept.{KeepsRules, Connects, Leads}
+use Rattle.code_model.specs.declared.instr.Instr.{Instr}
+use Rattle.code_model.specs.Signature.{is_end}
+use Rattle.code_model.specs.declared.code.Code.{Code}
+use Rattle.code_model.specs.States.{instr_at}
+use Rattle.code_model.specs.Kept.{KeepsRules, Connects, Leads}
 use Rattle.tagged_machine.specs.declared.world.World.{World}
 use Rattle.tagged_machine.specs.Faults.{IsClear, fault_of, next_place}
 use Rattle.tagged_machine.specs.Step.{Next, step_of, cost_of}

@@ -1,8 +1,8 @@
 // Runs of the machine without tags.
 #![tactic(auto)]
 
-ghost use Rattle.xcode.specs.Legal.{IsCode};
-ghost use Rattle.xcode.specs.Rules.{Accepted};
+ghost use Rattle.code_model.specs.Legal.{IsCode};
+ghost use Rattle.code_model.specs.Rules.{Accepted};
 ghost use Rattle.tagged_machine.specs.declared.world.World.{World as AnyWorld};
 ghost use Rattle.machine.specs.Twin.{Twin};
 ghost use Rattle.machine.specs.BankRun.{BankRan};
@@ -16,8 +16,8 @@ use tagged_machine::laws::{
 };
 use tagged_machine::run::Stepped;
 use tagged_machine::{End, Outcome};
-use xcode::Code;
-use xcode::laws::{rules_are_kept, states_connect};
+use code_model::Code;
+use code_model::laws::{rules_are_kept, states_connect};
 use xvalue::laws::same_kinds_are_equal;
 use xverify::Verified;
 

@@ -2,8 +2,8 @@
 #![tactic(auto)]
 
 ghost use Rattle.std.specs.Prelude.{◌≡◌, ◌+◌, ◌<◌, ◌^◌, OnOk, OnErr, IsTrue, length, slice_get};
-ghost use Rattle.xcode.specs.Signature.{grows};
-ghost use Rattle.xcode.specs.States.{instr_at};
+ghost use Rattle.code_model.specs.Signature.{grows};
+ghost use Rattle.code_model.specs.States.{instr_at};
 ghost use Rattle.machine.specs.Stacks.{HasRoom, HasTop, HasArguments, pushed, without};
 ghost use Rattle.machine.specs.BankStep.{Needs, NeedsTruth, pushed_constant, loaded, stored, bank_called, bank_answer, shown_top, bank_change, bank_place};
 ghost use Rattle.machine.specs.BankRun.{BankFits};
@@ -12,7 +12,7 @@ use crate::banks::Banks;
 use std::alloc::AllocError;
 use tagged_machine::End;
 use tagged_machine::run::Stepped;
-use xcode::{Code, Instr, Question};
+use code_model::{Code, Instr, Question};
 use xvalue::apply::apply;
 use xvalue::{Fun, Kind, Value};
 

@@ -14,27 +14,27 @@ use Rattle.xvalue.specs.declared.fun.Fun.{Fun}
 use Rattle.xvalue.specs.Signature.{takes_of, gives_of}
 use Rattle.xvalue.specs.Given.{Given, by_kind}
 use Rattle.xvalue.specs.Functions.{applied}
-use Rattle.xcode.specs.declared.instr.Question.{Question}
-use Rattle.xcode.specs.declared.instr.Question.TheVariants.{Today}
+use Rattle.code_model.specs.declared.instr.Question.{Question}
+use Rattle.code_model.specs.declared.instr.Question.TheVariants.{Today}
 use Rattle.xvalue.specs.Shown.{shown}
-use Rattle.xcode.specs.declared.state.State.{State}
-use Rattle.xcode.specs.declared.code.Code.{Code}
-use Rattle.xcode.specs.declared.instr.Instr.{Instr}
-use Rattle.xcode.specs.declared.instr.Instr.TheVariants.{Constant, Load, Store, Unset, Discard, Function, Ask, Jump, JumpFalse, End, NewLine, Print, Set}
-use Rattle.xcode.specs.Kinds.{clashes, same_kinds, slots_covered, slot_covered}
-use Rattle.xcode.specs.Signature.{is_end}
-use Rattle.xcode.specs.States.{instr_at, kinds_of_constant, kind_asked, flow, map_at, state_at}
-use Rattle.xcode.specs.Rules.{has_other, is_free, loads_other, loads_free, no_target, no_fall, Accepted}
-use Rattle.xcode.specs.Kept.{Kept, Covers, Leads, KeepsRules, Connects}
+use Rattle.code_model.specs.declared.state.State.{State}
+use Rattle.code_model.specs.declared.code.Code.{Code}
+use Rattle.code_model.specs.declared.instr.Instr.{Instr}
+use Rattle.code_model.specs.declared.instr.Instr.TheVariants.{Constant, Load, Store, Unset, Discard, Function, Ask, Jump, JumpFalse, End, NewLine, Print, Set}
+use Rattle.code_model.specs.Kinds.{clashes, same_kinds, slots_covered, slot_covered}
+use Rattle.code_model.specs.Signature.{is_end}
+use Rattle.code_model.specs.States.{instr_at, kinds_of_constant, kind_asked, flow, map_at, state_at}
+use Rattle.code_model.specs.Rules.{has_other, is_free, loads_other, loads_free, no_target, no_fall, Accepted}
+use Rattle.code_model.specs.Kept.{Kept, Covers, Leads, KeepsRules, Connects}
 use Rattle.screen_lines.specs.State.{printed}
 use Rattle.tagged_machine.specs.declared.world.World.{World}
 use Rattle.tagged_machine.specs.Tags.{is_false_on_top}
 use Rattle.tagged_machine.specs.Faults.{has_other_kind, has_no_value, loads_other_kind, loads_unset, bad_jump, next_place, IsClear}
 use Rattle.tagged_machine.specs.Step.{called, arguments_on, answer, effect, with_top, with_constant, step_of, Next}
 use Rattle.tagged_machine.specs.Fits.{SlotFits, SlotsFit, Fits, HasShape, IsReady}
-use Rattle.xcode.specs.declared.code.Proc.{Proc}
-use Rattle.xcode.specs.Legal.{IsProcedure, MainIs, places_of, IsCode}
-use Rattle.xcode.specs.States.{entry_in, entry_of}
+use Rattle.code_model.specs.declared.code.Proc.{Proc}
+use Rattle.code_model.specs.Legal.{IsProcedure, MainIs, places_of, IsCode}
+use Rattle.code_model.specs.States.{entry_in, entry_of}
 use Rattle.std.specs.List.{AllByRecursion}
 use Rattle.tagged_machine.specs.Opening.{opening}
 use Rattle.tagged_machine.proofs.Stepping.{goes, shape_kept}

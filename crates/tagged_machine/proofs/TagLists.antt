@@ -5,7 +5,7 @@ use Rattle.std.specs.List.{list_any, zip}
 use Rattle.xvalue.specs.declared.kind.Kind.{Kind}
 use Rattle.xvalue.specs.declared.value.Value.{Value}
 use Rattle.xvalue.specs.Kinds.{kind_of, same_kind}
-use Rattle.xcode.specs.Kinds.{clashes}
+use Rattle.code_model.specs.Kinds.{clashes}
 use Rattle.tagged_machine.specs.Tags.{clash}
 
 pub any_clash : (kinds : List Kind) (values : List Value) → list_any clash (zip values kinds) ≡ clashes kinds (map kind_of values)

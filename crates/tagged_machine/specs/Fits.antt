@@ -3,9 +3,9 @@ use Rattle.std.specs.Prelude.{◌≡◌, ◌<◌, ◌≤◌, List, [], ◌∷◌
 use Rattle.xvalue.specs.declared.kind.Kind.{Kind}
 use Rattle.xvalue.specs.declared.value.Value.{Value}
 use Rattle.xvalue.specs.Kinds.{kind_of}
-use Rattle.xcode.specs.declared.code.Code.{Code}
-use Rattle.xcode.specs.declared.state.State.{State}
-use Rattle.xcode.specs.States.{state_at}
+use Rattle.code_model.specs.declared.code.Code.{Code}
+use Rattle.code_model.specs.declared.state.State.{State}
+use Rattle.code_model.specs.States.{state_at}
 use Rattle.tagged_machine.specs.declared.world.World.{World}
 
 -- the place stands in a procedure, the slots are the declared ones, and the stack is within the bound

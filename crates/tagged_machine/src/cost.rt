@@ -5,7 +5,7 @@ ghost use Rattle.std.specs.Prelude.{◌≡◌};
 ghost use Rattle.tagged_machine.specs.Step.{cost_of};
 
 use crate::world::World;
-use xcode::Code;
+use code_model::Code;
 
 /// The cost of the next instruction: 1.
 #[tactic(auto, unfolding(crate::specs::Step::cost_of))]

@@ -7,7 +7,7 @@ ghost use Rattle.tagged_machine.specs.Faults.{loads_other_kind, loads_unset, sta
 use crate::fault::FaultKind;
 use crate::stack::{clashes, has_false_on_top};
 use crate::world::World;
-use xcode::{Code, Instr};
+use code_model::{Code, Instr};
 
 fn loads_other_kind(world: &World, instr: Instr) -> bool
     ensures { result ≡ loads_other_kind world.now instr }

@@ -3,21 +3,21 @@
 
 ghost use Rattle.std.specs.Prelude.{◌≡◌, ℕ, ◌+◌, false, Option, Some, None};
 ghost use Rattle.xvalue.specs.declared.day.DayParts.{DayParts as Parts};
-ghost use Rattle.xcode.specs.declared.code.Code.{Code as AnyCode};
+ghost use Rattle.code_model.specs.declared.code.Code.{Code as AnyCode};
 ghost use Rattle.tagged_machine.specs.declared.world.World.{World as AnyWorld};
-ghost use Rattle.xcode.specs.Legal.{IsCode};
-ghost use Rattle.xcode.specs.Rules.{Accepted};
-ghost use Rattle.xcode.specs.States.{instr_at};
-ghost use Rattle.xcode.specs.declared.instr.Instr.{Instr as AnyInstr};
-ghost use Rattle.xcode.specs.Kept.{Leads};
-ghost use Rattle.xcode.specs.Signature.{is_end};
+ghost use Rattle.code_model.specs.Legal.{IsCode};
+ghost use Rattle.code_model.specs.Rules.{Accepted};
+ghost use Rattle.code_model.specs.States.{instr_at};
+ghost use Rattle.code_model.specs.declared.instr.Instr.{Instr as AnyInstr};
+ghost use Rattle.code_model.specs.Kept.{Leads};
+ghost use Rattle.code_model.specs.Signature.{is_end};
 ghost use Rattle.tagged_machine.specs.Faults.{IsClear, fault_of, next_place};
 ghost use Rattle.tagged_machine.specs.Step.{Next, step_of, cost_of};
 ghost use Rattle.tagged_machine.specs.Fits.{IsReady};
 ghost use Rattle.tagged_machine.specs.Opening.{opening};
 ghost use Rattle.tagged_machine.specs.Run.{Reaches, after};
 
-use xcode::laws::{rules_are_kept, states_connect};
+use code_model::laws::{rules_are_kept, states_connect};
 use xvalue::laws::results_have_their_kind;
 
 /// No instruction of accepted code has a fault in a world that fits what is known there: each test comes out well.

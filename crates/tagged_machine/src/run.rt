@@ -2,8 +2,8 @@
 #![tactic(auto)]
 
 ghost use Rattle.std.specs.Prelude.{◌≡◌};
-ghost use Rattle.xcode.specs.Legal.{IsCode};
-ghost use Rattle.xcode.specs.Rules.{Accepted};
+ghost use Rattle.code_model.specs.Legal.{IsCode};
+ghost use Rattle.code_model.specs.Rules.{Accepted};
 ghost use Rattle.tagged_machine.specs.Fits.{HasShape, IsReady};
 ghost use Rattle.tagged_machine.specs.Run.{Ran, IsFault};
 
@@ -12,7 +12,7 @@ use crate::fault::FaultKind;
 use crate::laws::{accepted_code_is_clear, accepted_code_stays_ready};
 use crate::step::step;
 use crate::world::World;
-use xcode::Code;
+use code_model::Code;
 
 /// How a run ends.
 #[derive(Clone, Copy, PartialEq, Eq, Debug)]

@@ -4,7 +4,7 @@
 ghost use Rattle.std.specs.Prelude.{◌≡◌, map, reverse};
 ghost use Rattle.std.specs.List.{list_any, zip};
 ghost use Rattle.tagged_machine.specs.Tags.{clash, is_false_on_top};
-ghost use Rattle.xcode.specs.Kinds.{clashes};
+ghost use Rattle.code_model.specs.Kinds.{clashes};
 ghost use Rattle.xvalue.specs.Kinds.{kind_of};
 
 use crate::pile::Pile;

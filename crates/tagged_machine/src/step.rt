@@ -2,8 +2,8 @@
 #![tactic(auto)]
 
 ghost use Rattle.std.specs.Prelude.{◌≡◌, ◌+◌, ◌<◌, ◌≤◌, ◌^◌, ◌∷◌, length, slice_get, IsTrue, false, OnOk, OnErr, None};
-ghost use Rattle.xcode.specs.Legal.{IsCode};
-ghost use Rattle.xcode.specs.Signature.{grows};
+ghost use Rattle.code_model.specs.Legal.{IsCode};
+ghost use Rattle.code_model.specs.Signature.{grows};
 ghost use Rattle.tagged_machine.specs.Faults.{fault_of, has_no_value};
 ghost use Rattle.tagged_machine.specs.Step.{with_constant, with_slot, stored, shown_top, called, answer, change, effect};
 ghost use Rattle.xvalue.specs.Signature.{takes_of};
@@ -15,7 +15,7 @@ use crate::faults::{fault, next_place};
 use crate::run::{End, Stepped};
 use crate::world::World;
 use std::alloc::AllocError;
-use xcode::{Code, Instr, Question};
+use code_model::{Code, Instr, Question};
 use xvalue::apply::apply;
 use xvalue::laws::arguments_are_few;
 use xvalue::{Fun, Gathered, Value};

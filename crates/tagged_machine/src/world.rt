@@ -3,15 +3,15 @@
 
 ghost use Rattle.std.specs.Prelude.{◌≡◌, IfOk};
 ghost use Rattle.screen_lines.specs.State.{sent};
-ghost use Rattle.xcode.specs.Legal.{IsCode};
-ghost use Rattle.xcode.specs.Rules.{Accepted};
+ghost use Rattle.code_model.specs.Legal.{IsCode};
+ghost use Rattle.code_model.specs.Rules.{Accepted};
 
 use crate::laws::opening_is_ready;
 use crate::slots::Slots;
 use crate::stack::Stack;
 use screen_lines::Screen;
 use std::alloc::{AllocError, Global};
-use xcode::Code;
+use code_model::Code;
 use xvalue::{Day, Settings};
 
 /// The world of a run: the place of the next instruction, the slots, the stack of values with their kinds, the screen,

@@ -7,11 +7,11 @@ use Rattle.std.proofs.lemmas.Bool.{eqb-true, eq-eqb, leb-true, le-leb, ltb-true,
 use Rattle.std.proofs.lemmas.List.{nil_from_length}
 use Rattle.xvalue.specs.declared.kind.Kind.{Kind}
 use Rattle.xcode.specs.declared.fault.CodeFault.TheVariants.{Short, Limit, Shape}
-use Rattle.xcode.specs.declared.code.Map.{Map}
-use Rattle.xcode.specs.declared.code.Proc.{Proc}
+use Rattle.code_model.specs.declared.code.Map.{Map}
+use Rattle.code_model.specs.declared.code.Proc.{Proc}
 use Rattle.xcode.specs.CodeFile.{two, state_text, procedure_text, map_text}
 use Rattle.xcode.specs.CodeReading.{wanted, byte_at, number_at, behind, behind_state, state_at, is_main, procedure_there, map_there, procedure_at, map_at, blocks_fill, maps_rise}
-use Rattle.xcode.specs.Legal.{IsState, IsMain, RiseFrom}
+use Rattle.code_model.specs.Legal.{IsState, IsMain, RiseFrom}
 use Rattle.xcode.proofs.CodeBytes.{IsBytes, bind_ok, wanted_ok, ok_is, Takes, Takes-then, byte_takes, wide16, number_takes, number_again}
 use Rattle.xcode.proofs.CodeStates.{behind_again, state_takes, state_again, state_there}
 

@@ -9,17 +9,17 @@ use Rattle.xvalue.specs.Signature.{NumbersAgree}
 use Rattle.xcode.specs.declared.fault.CodeFault.{CodeFault}
 use Rattle.xcode.specs.declared.fault.CodeFault.TheVariants.{Shape as ShapeFault, Extra}
 use Rattle.xcode.specs.declared.codec_header.Header.{Header}
-use Rattle.xcode.specs.declared.shape.TableShape.{TableShape}
-use Rattle.xcode.specs.declared.shape.IndexShape.{IndexShape}
-use Rattle.xcode.specs.declared.shape.ListShape.{ListShape}
-use Rattle.xcode.specs.declared.code.Filter.{Filter}
-use Rattle.xcode.specs.declared.code.Map.{Map}
-use Rattle.xcode.specs.declared.code.Proc.{Proc}
-use Rattle.xcode.specs.declared.code.Code.{Code}
-use Rattle.xcode.specs.declared.instr.Instr.{Instr}
+use Rattle.code_model.specs.declared.shape.TableShape.{TableShape}
+use Rattle.code_model.specs.declared.shape.IndexShape.{IndexShape}
+use Rattle.code_model.specs.declared.shape.ListShape.{ListShape}
+use Rattle.code_model.specs.declared.code.Filter.{Filter}
+use Rattle.code_model.specs.declared.code.Map.{Map}
+use Rattle.code_model.specs.declared.code.Proc.{Proc}
+use Rattle.code_model.specs.declared.code.Code.{Code}
+use Rattle.code_model.specs.declared.instr.Instr.{Instr}
 use Rattle.xcode.specs.CodeFile.{two, magic, header_text, constant_text, procedure_text, map_text, instr_text, code_text, CodeText}
 use Rattle.xcode.specs.CodeReading.{Gives, wanted, many, header_at, constant_at, procedure_at, map_at, instr_at, blocks_fill, maps_rise, code_with, code_at}
-use Rattle.xcode.specs.Legal.{IsConstant, IsProcedure, IsMain, MainIs, RiseFrom, IsInstr, places_of, IsCode}
+use Rattle.code_model.specs.Legal.{IsConstant, IsProcedure, IsMain, MainIs, RiseFrom, IsInstr, places_of, IsCode}
 use Rattle.xcode.proofs.CodeBytes.{IsBytes, bind_ok, wanted_ok, ok_is, Takes, many_takes, many_again}
 use Rattle.xcode.proofs.CodeParts.{constant_takes, constant_again, instr_takes, instr_again}
 use Rattle.xcode.proofs.CodeHeader.{header_bytes, IsWithin, header_takes, header_again}

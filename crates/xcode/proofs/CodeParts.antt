@@ -10,17 +10,17 @@ use Rattle.xvalue.specs.declared.fun.Fun.{Fun}
 use Rattle.xvalue.specs.declared.settings.Setting.{Setting}
 use Rattle.xvalue.specs.declared.settings.Setting.TheVariants.{Exact, Deleted}
 use Rattle.xvalue.specs.Signature.{number_of, numbered, NumbersAgree}
-use Rattle.xcode.specs.declared.instr.Question.{Question}
-use Rattle.xcode.specs.declared.instr.Question.TheVariants.{Today}
+use Rattle.code_model.specs.declared.instr.Question.{Question}
+use Rattle.code_model.specs.declared.instr.Question.TheVariants.{Today}
 use Rattle.xvalue.specs.declared.value.Value.{Value}
 use Rattle.xvalue.specs.declared.value.Value.TheVariants.{Number, Text, Date, Logical}
 use Rattle.xcode.specs.declared.fault.CodeFault.{CodeFault}
 use Rattle.xcode.specs.declared.fault.CodeFault.TheVariants.{Short, Operation, Shape}
-use Rattle.xcode.specs.declared.instr.Instr.{Instr}
-use Rattle.xcode.specs.declared.instr.Instr.TheVariants.{Constant, Load, Store, Unset, Discard, Function, Ask, Jump, JumpFalse, End, NewLine, Print, Set}
+use Rattle.code_model.specs.declared.instr.Instr.{Instr}
+use Rattle.code_model.specs.declared.instr.Instr.TheVariants.{Constant, Load, Store, Unset, Discard, Function, Ask, Jump, JumpFalse, End, NewLine, Print, Set}
 use Rattle.xcode.specs.CodeFile.{two, kind_number, setting_number, question_number, slot_number, truth_number, constant_text, parts_of, parts_text, instr_text}
 use Rattle.xcode.specs.CodeReading.{◌>>=◌, wanted, byte_at, number_at, kind_of_byte, slot_at, kind_at, text_at, truth_at, value_at, constant_at, operand, kind_if, known, question_of_byte, setting_of_byte, switch_of, setting_and_switch, instr_of, instr_at}
-use Rattle.xcode.specs.Legal.{IsConstant, IsInstr}
+use Rattle.code_model.specs.Legal.{IsConstant, IsInstr}
 use Rattle.xcode.proofs.CodeValues.{decimal_takes, decimal_again, date_takes, date_again}
 use Rattle.xcode.proofs.CodeBytes.{chosen, both_true, IsBytes, IsBytes-drop, IsBytes-take, each_byte, bind_ok, wanted_ok, ok_is, Takes, Takes-then, byte_takes, wide16, wide32, number_takes, number_again}
 

@@ -7,11 +7,11 @@ use Rattle.std.proofs.lemmas.List.{drop_at, take-append-drop, length-append, len
 use Rattle.std.proofs.lemmas.List.Concat.{flat_map_single}
 use Rattle.xvalue.specs.declared.kind.Kind.{Kind}
 use Rattle.xcode.specs.declared.fault.CodeFault.TheVariants.{Short, Shape}
-use Rattle.xcode.specs.declared.state.State.{State}
-use Rattle.xcode.specs.declared.state.OpenArea.{OpenArea}
+use Rattle.code_model.specs.declared.state.State.{State}
+use Rattle.code_model.specs.declared.state.OpenArea.{OpenArea}
 use Rattle.xcode.specs.CodeFile.{kind_number, slot_number, state_text}
 use Rattle.xcode.specs.CodeReading.{wanted, byte_at, many, slot_at, kind_at, behind, behind_areas, behind_stack, behind_state, areas_at, stack_at, state_at}
-use Rattle.xcode.specs.Legal.{IsState}
+use Rattle.code_model.specs.Legal.{IsState}
 use Rattle.xcode.proofs.CodeBytes.{IsBytes, IsBytes-drop, bind_ok, wanted_ok, ok_is, Takes, Takes-then, byte_takes, many_takes, many_again}
 use Rattle.xcode.proofs.CodeParts.{slot_takes, slot_again, kind_front_takes, kind_front_again}
 

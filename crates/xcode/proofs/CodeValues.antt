@@ -15,7 +15,7 @@ use Rattle.xcode.specs.declared.fault.CodeFault.{CodeFault}
 use Rattle.xcode.specs.declared.fault.CodeFault.TheVariants.{Short, Shape}
 use Rattle.xcode.specs.CodeFile.{two, number_text, date_text, constant_text}
 use Rattle.xcode.specs.CodeReading.{wanted, byte_at, number_at, is_number, decimal_at, date_of, date_at}
-use Rattle.xcode.specs.Legal.{IsWritten, IsDate, IsConstant}
+use Rattle.code_model.specs.Legal.{IsWritten, IsDate, IsConstant}
 use Rattle.xcode.proofs.CodeBytes.{chosen, both_true, either_true, IsBytes, bind_ok, wanted_ok, ok_is, Takes, Takes-then, byte_takes, wide16, wide64, number_takes, number_again}
 
 -- ---- numbers

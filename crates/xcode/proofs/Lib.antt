@@ -1,4 +1,3 @@
-pub mod AreaLists
 pub mod CodeBytes
 pub mod CodeHeader
 pub mod CodeItems
@@ -6,6 +5,4 @@ pub mod CodeLaws
 pub mod CodeParts
 pub mod CodeStates
 pub mod CodeValues
-pub mod Keeping
-pub mod KindLists
 pub mod Many

@@ -9,18 +9,18 @@ use Rattle.xvalue.specs.declared.settings.Setting.{Setting}
 use Rattle.xvalue.specs.declared.settings.Setting.TheVariants.{Exact, Deleted}
 use Rattle.xvalue.specs.Signature.{number_of}
 use Rattle.fixed_num.specs.Number.{Number as Decimal, asterisk, finite}
-use Rattle.xcode.specs.declared.instr.Question.{Question}
-use Rattle.xcode.specs.declared.instr.Question.TheVariants.{Today}
+use Rattle.code_model.specs.declared.instr.Question.{Question}
+use Rattle.code_model.specs.declared.instr.Question.TheVariants.{Today}
 use Rattle.xvalue.specs.declared.value.Value.{Value}
 use Rattle.xvalue.specs.declared.value.Value.TheVariants.{Number, Text, Date, Logical}
-use Rattle.xcode.specs.declared.state.State.{State}
-use Rattle.xcode.specs.declared.code.Map.{Map}
-use Rattle.xcode.specs.declared.code.Proc.{Proc}
-use Rattle.xcode.specs.declared.code.Code.{Code}
-use Rattle.xcode.specs.declared.instr.Instr.{Instr}
-use Rattle.xcode.specs.declared.instr.Instr.TheVariants.{Constant, Load, Store, Unset, Discard, Function, Ask, Jump, JumpFalse, End, NewLine, Print, Set}
+use Rattle.code_model.specs.declared.state.State.{State}
+use Rattle.code_model.specs.declared.code.Map.{Map}
+use Rattle.code_model.specs.declared.code.Proc.{Proc}
+use Rattle.code_model.specs.declared.code.Code.{Code}
+use Rattle.code_model.specs.declared.instr.Instr.{Instr}
+use Rattle.code_model.specs.declared.instr.Instr.TheVariants.{Constant, Load, Store, Unset, Discard, Function, Ask, Jump, JumpFalse, End, NewLine, Print, Set}
 use Rattle.xcode.specs.declared.codec_parts.Parts.{Parts}
-use Rattle.xcode.specs.Legal.{IsCode}
+use Rattle.code_model.specs.Legal.{IsCode}
 
 -- a number of two bytes
 abbrev pub two : ℕ → List ℕ

@@ -12,19 +12,19 @@ use Rattle.xvalue.specs.declared.settings.Setting.TheVariants.{Exact, Deleted}
 use Rattle.xvalue.specs.Signature.{numbered}
 use Rattle.xvalue.specs.Calendar.{is_day}
 use Rattle.fixed_num.specs.Number.{finite, signed}
-use Rattle.xcode.specs.declared.instr.Question.{Question}
-use Rattle.xcode.specs.declared.instr.Question.TheVariants.{Today}
+use Rattle.code_model.specs.declared.instr.Question.{Question}
+use Rattle.code_model.specs.declared.instr.Question.TheVariants.{Today}
 use Rattle.xvalue.specs.declared.value.Value.{Value}
 use Rattle.xvalue.specs.declared.value.Value.TheVariants.{Number, Text, Date, Logical}
 use Rattle.xcode.specs.declared.fault.CodeFault.{CodeFault}
 use Rattle.xcode.specs.declared.fault.CodeFault.TheVariants.{Magic, Version, Short, Limit, Operation, Shape, Extra, Memory}
-use Rattle.xcode.specs.declared.state.State.{State}
-use Rattle.xcode.specs.declared.code.Map.{Map}
-use Rattle.xcode.specs.declared.code.Proc.{Proc}
-use Rattle.xcode.specs.declared.code.Code.{Code}
+use Rattle.code_model.specs.declared.state.State.{State}
+use Rattle.code_model.specs.declared.code.Map.{Map}
+use Rattle.code_model.specs.declared.code.Proc.{Proc}
+use Rattle.code_model.specs.declared.code.Code.{Code}
 use Rattle.xcode.specs.declared.codec_header.Header.{Header}
-use Rattle.xcode.specs.declared.instr.Instr.{Instr}
-use Rattle.xcode.specs.declared.instr.Instr.TheVariants.{Constant, Load, Store, Unset, Discard, Function, Ask, Jump, JumpFalse, End, NewLine, Print, Set}
+use Rattle.code_model.specs.declared.instr.Instr.{Instr}
+use Rattle.code_model.specs.declared.instr.Instr.TheVariants.{Constant, Load, Store, Unset, Discard, Function, Ask, Jump, JumpFalse, End, NewLine, Print, Set}
 
 infixl 10 ◌>>=◌
 abbrev pub ◌>>=◌ : {A B : Type 0} → Result A CodeFault → (A → Result B CodeFault) → Result B CodeFault

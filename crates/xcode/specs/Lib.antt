@@ -1,10 +1,3 @@
-pub mod Areas
 pub mod CodeFile
 pub mod CodeReading
-pub mod Kept
-pub mod Kinds
-pub mod Legal
 pub mod Listing
-pub mod Rules
-pub mod Signature
-pub mod States

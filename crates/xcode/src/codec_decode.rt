@@ -4,14 +4,14 @@
 ghost use Rattle.std.specs.Prelude.{◌≡◌, ℕ, List, [], ◌∷◌, IfOk, Ok};
 ghost use Rattle.xcode.specs.CodeFile.{CodeText};
 ghost use Rattle.xcode.specs.CodeReading.{Gives, blocks_fill, maps_rise, code_at};
-ghost use Rattle.xcode.specs.declared.code.Code.{Code as AnyCode};
+ghost use Rattle.code_model.specs.declared.code.Code.{Code as AnyCode};
 
-use crate::code::{Code, Map, Proc};
 use crate::codec_header::header_of;
 use crate::codec_items::{constants_of, instrs_of, maps_of, procedure_of};
 use crate::fault::CodeFault;
-use crate::items::Items;
-use crate::shape::Shape;
+use code_model::code::{Code, Map, Proc};
+use code_model::items::Items;
+use code_model::shape::Shape;
 use std::alloc::{AllocError, Global};
 use xvalue::laws::functions_have_their_numbers;
 

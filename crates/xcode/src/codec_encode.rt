@@ -4,12 +4,12 @@
 ghost use Rattle.std.specs.Prelude.{◌≡◌, ◌<◌, ◌≤◌, ◌++◌, length, map, All, IfOk, OnOk};
 ghost use Rattle.std.specs.List.{flat_map};
 ghost use Rattle.xcode.specs.CodeFile.{two, slot_number, kind_number, number_text, date_text, constant_text, state_text, procedure_text, map_text, instr_text, header_text, code_text};
-ghost use Rattle.xcode.specs.Legal.{IsCode};
+ghost use Rattle.code_model.specs.Legal.{IsCode};
 
-use crate::code::{Code, Map, Proc};
 use crate::codec_parts::{number_of_kind, parts_of_instr};
-use crate::instr::Instr;
-use crate::state::State;
+use code_model::code::{Code, Map, Proc};
+use code_model::instr::Instr;
+use code_model::state::State;
 use fixed_num::Num;
 use std::alloc::{AllocError, Global};
 use xvalue::{Day, Kind, Value};

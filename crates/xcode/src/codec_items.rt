@@ -6,12 +6,12 @@ ghost use Rattle.std.specs.List.{list_all};
 ghost use Rattle.xcode.specs.declared.fault.CodeFault.TheVariants.{Operation};
 ghost use Rattle.xcode.specs.CodeReading.{Gives, wanted, kind_if, fun_if, question_of_byte, question_if, setting_of_byte, switch_of, switch_if, many, decimal_at, date_of, date_at, text_at, truth_at, constant_at, procedure_there, map_there, is_main, procedure_at, map_at, instr_of, instr_at};
 
-use crate::code::{Map, Proc};
 use crate::codec_fields::{byte_of, eight_of, four_of, two_of};
 use crate::codec_states::{behind_one_state, kind_of_number, state_of};
 use crate::fault::CodeFault;
-use crate::instr::{Instr, Question};
-use crate::state::State;
+use code_model::code::{Map, Proc};
+use code_model::instr::{Instr, Question};
+use code_model::state::State;
 use fixed_num::{Num, Parts};
 use std::alloc::Global;
 use xvalue::{Day, DayParts, Fun, Kind, Setting, Value, text_of};

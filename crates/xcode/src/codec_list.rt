@@ -5,9 +5,9 @@ ghost use Rattle.std.specs.Prelude.{◌≡◌, ◌++◌, ◌∷◌, IfOk, OnOk};
 ghost use Rattle.std.specs.Fmt.{decimal};
 ghost use Rattle.xcode.specs.Listing.{place_text, name_of, operands_text, line, lines_from};
 
-use crate::code::Code;
 use crate::codec_parts::{Parts, parts_of_instr};
-use crate::instr::Instr;
+use code_model::code::Code;
+use code_model::instr::Instr;
 use std::alloc::{AllocError, Global};
 
 /// The name of the instruction's operation.

@@ -4,7 +4,7 @@
 ghost use Rattle.std.specs.Prelude.{◌≡◌};
 ghost use Rattle.xcode.specs.CodeFile.{kind_number, setting_number, question_number, parts_of};
 
-use crate::instr::{Instr, Question};
+use code_model::instr::{Instr, Question};
 use xvalue::{Kind, Setting};
 
 /// An operation and its operands; one that it has no use for is 0.

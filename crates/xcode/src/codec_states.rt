@@ -8,10 +8,10 @@ ghost use Rattle.xcode.specs.CodeReading.{Gives, kind_of_byte, many, behind, beh
 
 use crate::codec_fields::byte_of;
 use crate::fault::CodeFault;
-use crate::items::Items;
-use crate::kind_slots::KindSlots;
-use crate::kind_stack::KindStack;
-use crate::state::State;
+use code_model::items::Items;
+use code_model::kind_slots::KindSlots;
+use code_model::kind_stack::KindStack;
+use code_model::state::State;
 use std::alloc::Global;
 use xvalue::Kind;
 

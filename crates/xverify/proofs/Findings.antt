@@ -1,13 +1,13 @@
 -- What the verifier finds at one place.
 use Rattle.std.proofs.Common.{◌≡◌, ℕ, zero, suc, ◌+◌, List, [], ◌∷◌, Option, Some, refl, ap, ◌∙◌, add-one}
 use Rattle.std.specs.Prelude.{slice_get, slice_index_or}
-use Rattle.xcode.specs.declared.instr.Instr.TheVariants.{End}
-use Rattle.xcode.specs.declared.code.Code.{Code}
-use Rattle.xcode.specs.declared.instr.Instr.{Instr}
-use Rattle.xcode.specs.declared.state.State.{State}
-use Rattle.xcode.specs.declared.rule.Rule.{Rule}
-use Rattle.xcode.specs.States.{instr_at, or_state, map_at, incoming_at, state_at, flow}
-use Rattle.xcode.specs.Rules.{refusal_of, refusal_at}
+use Rattle.code_model.specs.declared.instr.Instr.TheVariants.{End}
+use Rattle.code_model.specs.declared.code.Code.{Code}
+use Rattle.code_model.specs.declared.instr.Instr.{Instr}
+use Rattle.code_model.specs.declared.state.State.{State}
+use Rattle.code_model.specs.declared.rule.Rule.{Rule}
+use Rattle.code_model.specs.States.{instr_at, or_state, map_at, incoming_at, state_at, flow}
+use Rattle.code_model.specs.Rules.{refusal_of, refusal_at}
 
 pub finds : (code : Code) (place : ℕ) (instr : Instr) (incoming state after : State) (rule : Option Rule) → incoming ≡ incoming_at code place → state ≡ or_state (map_at code place) incoming → instr ≡ instr_at code place → after ≡ flow code instr state → rule ≡ refusal_of code place instr state after → (rule ≡ refusal_at code place) × (after ≡ incoming_at code (place + 1))
 unfolding refusal_at

@@ -9,12 +9,12 @@ use Rattle.xvalue.specs.declared.value.Value.TheVariants.{Number, Text, Date, Lo
 use Rattle.xvalue.specs.declared.day.DayParts.{DayParts}
 use Rattle.xvalue.specs.Days.{IsDay}
 use Rattle.fixed_num.specs.Number.{Number as Decimal, asterisk, finite}
-use Rattle.xcode.specs.declared.code.Map.{Map}
-use Rattle.xcode.specs.declared.code.Proc.{Proc}
-use Rattle.xcode.specs.declared.state.State.{State}
-use Rattle.xcode.specs.declared.instr.Instr.{Instr}
-use Rattle.xcode.specs.declared.instr.Instr.TheVariants.{Constant, Load, Store, Unset, Discard, Function, Ask, Jump, JumpFalse, End, NewLine, Print, Set}
-use Rattle.xcode.specs.Legal.{IsWritten, IsDate, IsConstant, IsInstr, RiseFrom, IsMain, MainIs}
+use Rattle.code_model.specs.declared.code.Map.{Map}
+use Rattle.code_model.specs.declared.code.Proc.{Proc}
+use Rattle.code_model.specs.declared.state.State.{State}
+use Rattle.code_model.specs.declared.instr.Instr.{Instr}
+use Rattle.code_model.specs.declared.instr.Instr.TheVariants.{Constant, Load, Store, Unset, Discard, Function, Ask, Jump, JumpFalse, End, NewLine, Print, Set}
+use Rattle.code_model.specs.Legal.{IsWritten, IsDate, IsConstant, IsInstr, RiseFrom, IsMain, MainIs}
 
 IsWritten-prop : (number : Decimal) → IsProp (IsWritten number)
 IsWritten-prop asterisk = λ x y. absurd x

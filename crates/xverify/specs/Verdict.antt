@@ -1,6 +1,6 @@
 -- What a refusal says.
-use Rattle.xcode.specs.declared.code.Code.{Code}
-use Rattle.xcode.specs.Rules.{FirstRefusal}
+use Rattle.code_model.specs.declared.code.Code.{Code}
+use Rattle.code_model.specs.Rules.{FirstRefusal}
 use Rattle.xverify.specs.declared.verified.VerifyError.{VerifyError}
 use Rattle.xverify.specs.declared.verified.VerifyError.TheVariants.{Refused, NoMemory}
 

@@ -2,11 +2,11 @@
 #![tactic(auto)]
 
 ghost use Rattle.std.specs.Prelude.{◌≡◌, OnOk, IfOk};
-ghost use Rattle.xcode.specs.States.{flow, unknown, or_state, map_at};
+ghost use Rattle.code_model.specs.States.{flow, unknown, or_state, map_at};
 
 use crate::maps::map_at;
 use std::alloc::{AllocError, Global};
-use xcode::{Code, Instr, State};
+use code_model::{Code, Instr, State};
 
 /// How many values of unknown kinds the instruction puts on the stack.
 pub fn unknown(code: &Code, instr: Instr) -> usize

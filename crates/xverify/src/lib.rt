@@ -1,6 +1,6 @@
 //! The verifier of code files: `verify` says yes exactly where no rule fails at any place.
 //!
-//! The rules are definitions of the crate `xcode`; here they are tested place by place, each place once.
+//! The rules are definitions of the crate `code_model`; here they are tested place by place, each place once.
 #![tactic(auto)]
 
 mod flow;

@@ -2,10 +2,10 @@
 #![tactic(auto)]
 
 ghost use Rattle.std.specs.Prelude.{◌≡◌, ◌+◌, ◌<◌, ◌^◌, MatchOption, None, Some};
-ghost use Rattle.xcode.specs.Rules.{slots_fail, areas_fail, stack_fails, some_next};
-ghost use Rattle.xcode.specs.States.{map_at};
+ghost use Rattle.code_model.specs.Rules.{slots_fail, areas_fail, stack_fails, some_next};
+ghost use Rattle.code_model.specs.States.{map_at};
 
-use xcode::{Code, Instr, State};
+use code_model::{Code, Instr, State};
 
 /// The map of a place.
 pub fn map_at(code: &Code, place: usize) -> Option<&State>

@@ -2,12 +2,12 @@
 #![tactic(auto)]
 
 ghost use Rattle.std.specs.Prelude.{◌≡◌, ◌+◌, ◌<◌, ◌^◌, length};
-ghost use Rattle.xcode.specs.States.{map_at, entry_of};
-ghost use Rattle.xcode.specs.Rules.{slots_fail, areas_fail, stack_fails, at_entry, loads_other, loads_free, height_after, leaves_values, kind_fails, table_fails, empty_fails, no_target, no_fall, refusal_of};
+ghost use Rattle.code_model.specs.States.{map_at, entry_of};
+ghost use Rattle.code_model.specs.Rules.{slots_fail, areas_fail, stack_fails, at_entry, loads_other, loads_free, height_after, leaves_values, kind_fails, table_fails, empty_fails, no_target, no_fall, refusal_of};
 
 use crate::flow::unknown;
 use crate::maps;
-use xcode::{Code, Instr, Rule, State};
+use code_model::{Code, Instr, Rule, State};
 
 fn loads_other(state: &State, instr: Instr) -> bool
     ensures { result ≡ loads_other state.now instr }
@@ -102,6 +102,7 @@ fn no_fall(code: &Code, place: usize, instr: Instr) -> bool
 }
 
 /// The first rule that fails at the place, if one fails.
+#[tactic(auto, unfolding(code_model::specs::Rules::refusal_of))]
 pub fn refusal(
     code: &Code,
     place: usize,

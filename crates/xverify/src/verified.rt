@@ -3,12 +3,12 @@
 
 ghost use Rattle.std.specs.Prelude.{◌≡◌};
 ghost use Rattle.std.proofs.Props.{props};
-ghost use Rattle.xcode.specs.Legal.{IsCode};
+ghost use Rattle.code_model.specs.Legal.{IsCode};
 ghost use Rattle.xverify.specs.LegalProps.{IsConstant-prop, IsInstr-prop, RiseFrom-prop, MainIs-prop};
-ghost use Rattle.xcode.specs.Rules.{Accepted};
+ghost use Rattle.code_model.specs.Rules.{Accepted};
 
 use std::fmt;
-use xcode::{Code, Rule};
+use code_model::{Code, Rule};
 
 /// A code that has a code file and that the verifier accepted.
 #[derive(Drop)]

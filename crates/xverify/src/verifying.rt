@@ -2,16 +2,16 @@
 #![tactic(auto)]
 
 ghost use Rattle.std.specs.Prelude.{◌≡◌, ◌+◌, ◌<◌, ◌^◌, length, IfOk, IfErr};
-ghost use Rattle.xcode.specs.Legal.{IsCode};
-ghost use Rattle.xcode.specs.Rules.{refusal_at};
-ghost use Rattle.xcode.specs.States.{incoming_at};
+ghost use Rattle.code_model.specs.Legal.{IsCode};
+ghost use Rattle.code_model.specs.Rules.{refusal_at};
+ghost use Rattle.code_model.specs.States.{incoming_at};
 ghost use Rattle.xverify.specs.Verdict.{Refuses};
 
 use crate::flow::{flow, state_before};
 use crate::rules::refusal;
 use crate::verified::{Refused, Verified, VerifyError};
 use std::alloc::{AllocError, Global};
-use xcode::{Code, Rule, State};
+use code_model::{Code, Rule, State};
 
 /// What the verifier finds at one place.
 #[derive(Drop)]

@@ -1,5 +1,5 @@
 use Rattle.std.proofs.Common.{◌≡◌, drop}
-use Rattle.xcode.specs.States.{map_in}
+use Rattle.code_model.specs.States.{map_in}
 use Rattle.xverify.proofs.maps.map_at.Given as goal
 
 abbrev pub invariant-loop-map : goal.invariant-loop-map

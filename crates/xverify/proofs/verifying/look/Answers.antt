@@ -1,5 +1,5 @@
 use Rattle.std.proofs.Common.{ap, ◌∙◌}
-use Rattle.xcode.specs.States.{flow}
+use Rattle.code_model.specs.States.{flow}
 use Rattle.xverify.proofs.Findings.{finds, got}
 use Rattle.xverify.proofs.verifying.look.Goals as goal
 

@@ -1,6 +1,6 @@
 use Rattle.std.proofs.Common.{◌≡◌, ℕ, ◌<◌, None}
-use Rattle.xcode.specs.States.{incoming_at}
-use Rattle.xcode.specs.Rules.{refusal_at}
+use Rattle.code_model.specs.States.{incoming_at}
+use Rattle.code_model.specs.Rules.{refusal_at}
 use Rattle.xverify.proofs.verifying.verify.Given as goal
 
 abbrev pub invariant-loop-place : goal.invariant-loop-place

@@ -1,0 +1,3 @@
+pub mod AreaLists
+pub mod Keeping
+pub mod KindLists

@@ -1,4 +1,0 @@
-pub mod Holding
-pub mod InMemory
-pub mod Lines
-pub mod Reports

@@ -1,0 +1,14 @@
+-- What files hold, and failures of their device.
+use Rattle.std.specs.Prelude.{◌≡◌, ◌<◌, ◌-◌, ◌^◌, ◌⊎◌, ◌↔◌, ℕ, List, Option}
+
+-- the count of failures rose, or was at its greatest
+abbrev pub Rose : ℕ → ℕ → Type 0
+Rose before after = (before < after) ⊎ (before ≡ 2 ^ 64 - 1)
+
+-- what files may hold, by name: a file's bytes, or that there is none
+abbrev pub Holds : Type 1
+Holds = List ℕ → Option (List ℕ) → Type 0
+
+-- the files hold what they held
+abbrev pub SameFiles : Holds → Holds → Type 0
+SameFiles before after = (name : List ℕ) (found : Option (List ℕ)) → before name found ↔ after name found

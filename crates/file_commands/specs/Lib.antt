@@ -1,0 +1,5 @@
+pub mod Holding
+pub mod InMemory
+pub mod Lines
+pub mod Refusals
+pub mod Reports

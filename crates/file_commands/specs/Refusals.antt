@@ -1,0 +1,90 @@
+-- Why a command isn't carried out. Each command tells faults of its own sort alone.
+use Rattle.std.specs.Prelude.{◌≡◌, ◌<◌, ℕ, List, Bool, true, false, Option, Some, None, Err, length}
+use Rattle.xcode.specs.declared.fault.CodeFault.{CodeFault}
+use Rattle.xcode.specs.CodeReading.{code_at}
+use Rattle.code_model.specs.Rules.{FirstRefusal}
+use Rattle.dbf_file.specs.declared.fault.DbfFault.{DbfFault}
+use Rattle.dbf_file.specs.Faults.{first_fault}
+use Rattle.ndx_tree.specs.declared.fault.TreeFault.{TreeFault}
+use Rattle.ndx_tree.specs.Walk.{IsFirstFault}
+use Rattle.file_commands.specs.declared.refusal.Fault.{Fault}
+use Rattle.file_commands.specs.declared.refusal.Fault.TheVariants.{Absent, TooLong, OfCode, OfTable, OfIndex, OfRule}
+use Rattle.file_commands.specs.declared.refusal.Refusal.{Refusal}
+use Rattle.file_commands.specs.declared.refusal.Refusal.TheVariants.{Refused, Disk, Memory}
+use Rattle.file_commands.specs.Holding.{Rose}
+use Rattle.file_commands.specs.Reports.{HasCode}
+
+-- a file longer than 64 MiB, and one that is no code file by this fault
+pub record IsTooLong (holds : Option (List ℕ) → Type 0) : Type 0 where
+  pub bytes : List ℕ
+  pub held : holds (Some bytes)
+  pub long : 67108864 < length bytes
+
+pub record HasFault (holds : Option (List ℕ) → Type 0) (fault : CodeFault) : Type 0 where
+  pub bytes : List ℕ
+  pub held : holds (Some bytes)
+  pub faulty : code_at bytes ≡ Err fault
+
+-- a file that is no table's by this fault, of at most a million rows, and one that is no index file by this fault
+pub record IsNoTable (holds : Option (List ℕ) → Type 0) (fault : DbfFault) : Type 0 where
+  pub bytes : List ℕ
+  pub held : holds (Some bytes)
+  pub faulty : first_fault 1000000 bytes ≡ Some fault
+
+pub record IsNoIndex (holds : Option (List ℕ) → Type 0) (fault : TreeFault) : Type 0 where
+  pub bytes : List ℕ
+  pub held : holds (Some bytes)
+  pub faulty : IsFirstFault bytes fault
+
+-- what may be told of any file
+abbrev pub FileFault : (Option (List ℕ) → Type 0) → Fault → Type 0
+FileFault holds Absent = holds None
+FileFault holds TooLong = IsTooLong holds
+FileFault holds (OfCode fault) = ⊥
+FileFault holds (OfTable fault) = ⊥
+FileFault holds (OfIndex fault) = ⊥
+FileFault holds (OfRule refused) = ⊥
+
+-- of a code file
+abbrev pub CodeFileFault : (Option (List ℕ) → Type 0) → Fault → Type 0
+CodeFileFault holds Absent = holds None
+CodeFileFault holds TooLong = IsTooLong holds
+CodeFileFault holds (OfCode fault) = HasFault holds fault
+CodeFileFault holds (OfTable fault) = ⊥
+CodeFileFault holds (OfIndex fault) = ⊥
+CodeFileFault holds (OfRule refused) = ⊥
+
+-- of a code file that is to be run: a rule that its code breaks is told only where the code has to be accepted
+abbrev pub RunFault : Bool → (Option (List ℕ) → Type 0) → Fault → Type 0
+RunFault checked holds Absent = holds None
+RunFault checked holds TooLong = IsTooLong holds
+RunFault checked holds (OfCode fault) = HasFault holds fault
+RunFault checked holds (OfTable fault) = ⊥
+RunFault checked holds (OfIndex fault) = ⊥
+RunFault true holds (OfRule refused) = ⊥
+RunFault false holds (OfRule refused) = HasCode holds (λ code. FirstRefusal code refused.rule refused.at)
+
+-- of a table's file
+abbrev pub TableFault : (Option (List ℕ) → Type 0) → Fault → Type 0
+TableFault holds Absent = holds None
+TableFault holds TooLong = IsTooLong holds
+TableFault holds (OfCode fault) = ⊥
+TableFault holds (OfTable fault) = IsNoTable holds fault
+TableFault holds (OfIndex fault) = ⊥
+TableFault holds (OfRule refused) = ⊥
+
+-- of an index file
+abbrev pub IndexFault : (Option (List ℕ) → Type 0) → Fault → Type 0
+IndexFault holds Absent = holds None
+IndexFault holds TooLong = IsTooLong holds
+IndexFault holds (OfCode fault) = ⊥
+IndexFault holds (OfTable fault) = ⊥
+IndexFault holds (OfIndex fault) = IsNoIndex holds fault
+IndexFault holds (OfRule refused) = ⊥
+
+-- why a command isn't carried out: a fault of the file of that name which the command may tell, a device failure that
+-- was counted, or memory
+abbrev pub RefusalIs : (Fault → Type 0) → ℕ → ℕ → List ℕ → Refusal → Type 0
+RefusalIs tells before after name (Refused told fault) = (told.now ≡ name) × tells fault
+RefusalIs tells before after name (Disk told) = (told.now ≡ name) × Rose before after
+RefusalIs tells before after name Memory = Unit {0}

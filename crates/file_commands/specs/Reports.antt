@@ -1,0 +1,89 @@
+-- What a run of a code file reports.
+use Rattle.std.specs.Prelude.{◌≡◌, ◌≤◌, ℕ, List, Bool, true, false, Option, Some, None, length}
+use Rattle.xvalue.specs.declared.day.DayParts.{DayParts}
+use Rattle.screen_lines.specs.State.{sent}
+use Rattle.code_model.specs.declared.code.Code.{Code}
+use Rattle.xcode.specs.CodeFile.{CodeText}
+use Rattle.code_model.specs.Rules.{Accepted, FirstRefusal}
+use Rattle.tagged_machine.specs.declared.world.World.{World}
+use Rattle.tagged_machine.specs.declared.run.Outcome.{Outcome}
+use Rattle.tagged_machine.specs.Opening.{opening}
+use Rattle.tagged_machine.specs.Run.{Ran}
+use Rattle.machine.specs.declared.banks.Banks.{Banks}
+use Rattle.machine.specs.BankRun.{BankRan}
+use Rattle.xcode.specs.Listing.{lines_from}
+use Rattle.xverify.specs.declared.verified.Refused.{Refused as RefusedRule}
+use Rattle.file_commands.specs.Lines.{table_lines, index_lines}
+use Rattle.dbf_file.specs.declared.stamp.Stamp.{Stamp}
+use Rattle.dbf_file.specs.Rows.{Row}
+use Rattle.dbf_file.specs.Tables.{StructureState, DbfText}
+use Rattle.ndx_tree.specs.IndexFile.{IsIndexFile}
+use Rattle.ndx_tree.specs.KeyForm.{KeyForm}
+use Rattle.ndx_tree.specs.Pairs.{Pair}
+
+-- the checking machine ran the code from its opening on this day, and the rows are what its last world sends
+pub record CheckedRun (code : Code) (budget : ℕ) (today : Option DayParts) (outcome : Outcome) (rows : List ℕ) : Type 0 where
+  pub last : World
+  pub ran : Ran code (opening code today) budget outcome last
+  pub rows_are : rows ≡ sent last.screen
+
+-- the code is accepted, the machine without tags took the checking machine's steps from the opening on this day, and
+-- the rows are what its last banks send
+pub record AcceptedRun (code : Code) (budget : ℕ) (today : Option DayParts) (outcome : Outcome) (rows : List ℕ) : Type 0 where
+  pub accepted : Accepted code
+  pub last : Banks
+  pub ran : BankRan code (opening code today) budget outcome last
+  pub rows_are : rows ≡ sent last.screen
+
+abbrev pub RunIs : Bool → Code → ℕ → Option DayParts → Outcome → List ℕ → Type 0
+RunIs true code budget today outcome rows = CheckedRun code budget today outcome rows
+RunIs false code budget today outcome rows = AcceptedRun code budget today outcome rows
+
+-- what the file may hold is the text of a code
+pub record IsCodeFile (holds : Option (List ℕ) → Type 0) (code : Code) : Type 0 where
+  pub bytes : List ℕ
+  pub held : holds (Some bytes)
+  pub text : CodeText bytes code
+
+-- a run of the code in the file
+pub record FileRun (holds : Option (List ℕ) → Type 0) (checked : Bool) (budget : ℕ) (today : Option DayParts) (outcome : Outcome) (rows : List ℕ) : Type 0 where
+  pub code : Code
+  pub file : IsCodeFile holds code
+  pub run : RunIs checked code budget today outcome rows
+
+-- a code file whose code is of some sort
+pub record HasCode (holds : Option (List ℕ) → Type 0) (sort : Code → Type 0) : Type 0 where
+  pub code : Code
+  pub file : IsCodeFile holds code
+  pub fits : sort code
+
+-- the code in the file is accepted, or this is its refusal
+abbrev pub Judged : (Option (List ℕ) → Type 0) → Option RefusedRule → Type 0
+Judged holds None = HasCode holds Accepted
+Judged holds (Some refused) = HasCode holds (λ code. FirstRefusal code refused.rule refused.at)
+
+-- these are the lines of the code in the file
+pub record Listed (holds : Option (List ℕ) → Type 0) (lines : List ℕ) : Type 0 where
+  pub code : Code
+  pub file : IsCodeFile holds code
+  pub lines_are : lines ≡ lines_from 0 code.instructions
+
+-- these are the lines of the table in the file, which has at most a million rows
+pub record TableListed (holds : Option (List ℕ) → Type 0) (lines : List ℕ) : Type 0 where
+  pub bytes : List ℕ
+  pub structure : StructureState
+  pub rows : List Row
+  pub stamp : Stamp
+  pub held : holds (Some bytes)
+  pub text : DbfText structure rows stamp bytes
+  pub few : length rows ≤ 1000000
+  pub lines_are : lines ≡ table_lines structure.fields rows
+
+-- these are the lines of the index in the file
+pub record IndexListed (holds : Option (List ℕ) → Type 0) (lines : List ℕ) : Type 0 where
+  pub bytes : List ℕ
+  pub form : KeyForm
+  pub pairs : List Pair
+  pub held : holds (Some bytes)
+  pub file : IsIndexFile bytes form pairs
+  pub lines_are : lines ≡ index_lines form pairs

@@ -1,0 +1,50 @@
+// What is told of code files without running them.
+#![tactic(auto)]
+
+ghost use Rattle.std.specs.Prelude.{◌≡◌, IfOk, IfErr};
+ghost use Rattle.file_commands.specs.Holding.{SameFiles};
+ghost use Rattle.file_commands.specs.Refusals.{RefusalIs, CodeFileFault};
+ghost use Rattle.file_commands.specs.Reports.{Listed, Judged};
+
+use crate::files::Files;
+use crate::reading::read_code;
+use crate::refusal::Refusal;
+use crate::running::accept;
+use std::alloc::Global;
+use xcode::list;
+use xverify::Refused;
+
+/// Whether the code in a file is accepted: none, or the least rule that fails at the least place where one does.
+pub fn verify_file<'a, F: Files>(
+    alloc: Global,
+    files: &mut F,
+    name: &'a str,
+) -> Result<Option<Refused>, Refusal<'a>>
+    ensures judged { IfOk result (Judged (F.holds files.old name.now)) }
+    ensures refused { IfErr result (RefusalIs (CodeFileFault (F.holds files.old name.now)) (F.failed files.old) (F.failed files.new) name.now) }
+    ensures kept { SameFiles (F.holds files.old) (F.holds files.new) }
+{
+    let code = read_code(alloc, files, name)?;
+    match accept(alloc, code) {
+        Ok(Ok(_)) => Ok(None),
+        Ok(Err(refused)) => Ok(Some(refused)),
+        Err(_) => Err(Refusal::Memory),
+    }
+}
+
+/// The listing of the code in a file, a line for each instruction.
+pub fn list_code<'a, F: Files>(
+    alloc: Global,
+    files: &mut F,
+    name: &'a str,
+) -> Result<Vec<u8>, Refusal<'a>>
+    ensures listed { IfOk result (λ lines. Listed (F.holds files.old name.now) lines.items) }
+    ensures refused { IfErr result (RefusalIs (CodeFileFault (F.holds files.old name.now)) (F.failed files.old) (F.failed files.new) name.now) }
+    ensures kept { SameFiles (F.holds files.old) (F.holds files.new) }
+{
+    let code = read_code(alloc, files, name)?;
+    match list(alloc, &code) {
+        Ok(lines) => Ok(lines),
+        Err(_) => Err(Refusal::Memory),
+    }
+}
