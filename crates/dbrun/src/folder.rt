@@ -1,6 +1,7 @@
 // Files of a folder of the disk.
 #![tactic(auto)]
 
+ghost use Rattle.std.specs.Prelude.{◌≡◌};
 ghost use Rattle.file_commands.specs.Holding.{Rose};
 
 use file_commands::{Files, ReadFault, read_within};

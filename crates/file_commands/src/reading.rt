@@ -9,8 +9,8 @@ ghost use Rattle.file_commands.specs.Reports.{IsCodeFile};
 
 use crate::files::{Files, ReadFault};
 use crate::refusal::{Fault, Refusal};
-use std::alloc::Global;
 use code_model::Code;
+use std::alloc::Global;
 use xcode::{CodeFault, decode};
 
 /// The longest file that is read: 64 MiB.

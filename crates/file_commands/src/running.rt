@@ -11,10 +11,10 @@ ghost use Rattle.file_commands.specs.Reports.{CheckedRun, AcceptedRun, RunIs, Fi
 use crate::files::Files;
 use crate::reading::read_code;
 use crate::refusal::{Fault, Refusal};
+use code_model::Code;
 use machine::{Banks, run};
 use std::alloc::{AllocError, Global};
 use tagged_machine::{Outcome, World, run_checked};
-use code_model::Code;
 use xvalue::Day;
 use xverify::{Refused, Verified, VerifyError, verify};
 

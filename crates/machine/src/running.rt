@@ -10,14 +10,14 @@ ghost use Rattle.machine.specs.Laws.{Laws};
 
 use crate::banks::Banks;
 use crate::step::bank_step;
+use code_model::Code;
+use code_model::laws::{rules_are_kept, states_connect};
 use tagged_machine::laws::{
     accepted_code_is_clear, accepted_code_stays_ready, clear_instructions_have_no_fault,
     instructions_lead_on, steps_add_up,
 };
 use tagged_machine::run::Stepped;
 use tagged_machine::{End, Outcome};
-use code_model::Code;
-use code_model::laws::{rules_are_kept, states_connect};
 use xvalue::laws::same_kinds_are_equal;
 use xverify::Verified;
 

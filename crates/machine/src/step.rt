@@ -9,10 +9,10 @@ ghost use Rattle.machine.specs.BankStep.{Needs, NeedsTruth, pushed_constant, loa
 ghost use Rattle.machine.specs.BankRun.{BankFits};
 
 use crate::banks::Banks;
+use code_model::{Code, Instr, Question};
 use std::alloc::AllocError;
 use tagged_machine::End;
 use tagged_machine::run::Stepped;
-use code_model::{Code, Instr, Question};
 use xvalue::apply::apply;
 use xvalue::{Fun, Kind, Value};
 

@@ -9,9 +9,9 @@ ghost use Rattle.code_model.specs.Rules.{Accepted};
 use crate::laws::opening_is_ready;
 use crate::slots::Slots;
 use crate::stack::Stack;
+use code_model::Code;
 use screen_lines::Screen;
 use std::alloc::{AllocError, Global};
-use code_model::Code;
 use xvalue::{Day, Settings};
 
 /// The world of a run: the place of the next instruction, the slots, the stack of values with their kinds, the screen,

@@ -5,8 +5,8 @@ ghost use Rattle.std.specs.Prelude.{◌≡◌, OnOk, IfOk};
 ghost use Rattle.code_model.specs.States.{flow, unknown, or_state, map_at};
 
 use crate::maps::map_at;
-use std::alloc::{AllocError, Global};
 use code_model::{Code, Instr, State};
+use std::alloc::{AllocError, Global};
 
 /// How many values of unknown kinds the instruction puts on the stack.
 pub fn unknown(code: &Code, instr: Instr) -> usize

@@ -7,8 +7,8 @@ ghost use Rattle.code_model.specs.Legal.{IsCode};
 ghost use Rattle.xverify.specs.LegalProps.{IsConstant-prop, IsInstr-prop, RiseFrom-prop, MainIs-prop};
 ghost use Rattle.code_model.specs.Rules.{Accepted};
 
-use std::fmt;
 use code_model::{Code, Rule};
+use std::fmt;
 
 /// A code that has a code file and that the verifier accepted.
 #[derive(Drop)]

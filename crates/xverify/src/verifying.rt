@@ -10,8 +10,8 @@ ghost use Rattle.xverify.specs.Verdict.{Refuses};
 use crate::flow::{flow, state_before};
 use crate::rules::refusal;
 use crate::verified::{Refused, Verified, VerifyError};
-use std::alloc::{AllocError, Global};
 use code_model::{Code, Rule, State};
+use std::alloc::{AllocError, Global};
 
 /// What the verifier finds at one place.
 #[derive(Drop)]
