@@ -3,3 +3,4 @@ pub mod Numbers
 pub mod TextLemmas
 pub mod CalendarLemmas
 pub mod OrderLemmas
+pub mod AnswerLemmas

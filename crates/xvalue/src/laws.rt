@@ -15,6 +15,8 @@ ghost use Rattle.xvalue.specs.Days.{IsDay};
 ghost use Rattle.xvalue.specs.Calendar.{day_number, days_on};
 ghost use Rattle.xvalue.specs.Texts.{equal_texts, is_before, without_last_blanks, first_place, begins_with};
 ghost use Rattle.xvalue.specs.Laws.{HasShortText, LiesThere};
+ghost use Rattle.xvalue.specs.declared.value.Value.{Value as AnyValue};
+ghost use Rattle.xvalue.specs.Answers.{answered, text_answered};
 
 /// Each function gives a value of the kind that its table says.
 pub fn results_have_their_kind()
@@ -78,4 +80,19 @@ pub fn functions_have_their_numbers()
 /// Kinds that are found the same are the same.
 pub fn same_kinds_are_equal()
     ensures { (one other : AnyKind) → same_kind one other ≡ true → one ≡ other }
+{}
+
+/// What a line leaves of a value is of the value's kind.
+pub fn answers_keep_the_kind()
+    ensures { (old : AnyValue) (line : List ℕ) → kind_of (answered old line) ≡ kind_of old }
+{}
+
+/// An empty line leaves the value.
+pub fn empty_lines_keep_the_value()
+    ensures { (old : AnyValue) → answered old [] ≡ old }
+{}
+
+/// What a line leaves of a text has the text's length.
+pub fn answers_keep_the_length()
+    ensures { (old line : List ℕ) → length (text_answered old line) ≡ length old }
 {}

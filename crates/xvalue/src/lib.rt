@@ -4,6 +4,7 @@
 //! `specs/Signature.antt`, a line of its meaning in `specs/Functions.antt` and an arm of `apply`.
 #![tactic(auto)]
 
+mod answer;
 pub mod apply;
 pub mod arguments;
 pub mod calendar;
@@ -17,6 +18,7 @@ pub mod text;
 pub mod texts;
 pub mod value;
 
+pub use answer::{answered_day, answered_logical, answered_number, answered_text};
 pub use arguments::{Arguments, Gathered, MOST_ARGUMENTS};
 pub use day::{Day, DayParts};
 pub use fun::{FUNS, Fun, signature};
