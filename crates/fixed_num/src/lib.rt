@@ -11,6 +11,3 @@ mod rounding;
 mod text;
 
 pub use number::{MOST_DECIMALS, Num, Parts};
-
-#[cfg(test)]
-mod tests;

@@ -1,10 +1,9 @@
 // Screens of command files, by the calls that their commands make.
 
-use crate::commands::{Command, obey, run};
-use crate::screen::Screen;
+use crate::making::text_made;
+use screen_lines::{Command, Screen, obey, run};
 use std::alloc::{AllocError, Global};
 use std::test::Fail;
-use xvalue::text_of;
 
 // The command once more where memory was refused.
 fn insist(screen: &mut Screen, command: &Command) -> Result<(), AllocError> {
@@ -37,12 +36,12 @@ fn counts_clears_and_goes_on(rt: HostRuntime) -> Result<(), Fail> {
         insist(&mut screen, &Command::NewLine)?;
         insist(
             &mut screen,
-            &Command::Print(text_of(&[tens, b'0' + number % 10])),
+            &Command::Print(text_made(&[tens, b'0' + number % 10])),
         )?;
     }
     insist(&mut screen, &Command::Clear)?;
     insist(&mut screen, &Command::NewLine)?;
-    insist(&mut screen, &Command::Print(text_of(b"Z")))?;
+    insist(&mut screen, &Command::Print(text_made(b"Z")))?;
     let bytes = finish_at_last(&screen, rt.alloc())?;
     assert_eq!(rt;
         bytes.as_slice(),
@@ -55,11 +54,11 @@ fn counts_clears_and_goes_on(rt: HostRuntime) -> Result<(), Fail> {
 #[test]
 fn prints_below_a_row_said(rt: HostRuntime) -> Result<(), Fail> {
     let mut screen = Screen::new(rt.alloc())?;
-    screen.say(2, 0, &text_of(b"         5"));
+    screen.say(2, 0, &text_made(b"         5"));
     screen.reserve()?;
     screen.new_line();
     screen.reserve()?;
-    screen.print(&text_of(b"         5"));
+    screen.print(&text_made(b"         5"));
     let bytes = screen.finish(rt.alloc())?;
     assert_eq!(rt;
         bytes.as_slice(),
@@ -72,9 +71,9 @@ fn prints_below_a_row_said(rt: HostRuntime) -> Result<(), Fail> {
 #[test]
 fn cuts_at_the_last_column(rt: HostRuntime) -> Result<(), Fail> {
     let mut screen = Screen::new(rt.alloc())?;
-    screen.say(25, 0, &text_of(b"X"));
-    screen.say(0, 78, &text_of(b"ABCD"));
-    screen.try_print(&text_of(b"E"))?;
+    screen.say(25, 0, &text_made(b"X"));
+    screen.say(0, 78, &text_made(b"ABCD"));
+    screen.try_print(&text_made(b"E"))?;
     let bytes = screen.finish(rt.alloc())?;
     assert_eq!(rt;
         bytes.as_slice(),
@@ -87,8 +86,8 @@ fn cuts_at_the_last_column(rt: HostRuntime) -> Result<(), Fail> {
 #[test]
 fn wraps_a_long_text_on_the_last_row(rt: HostRuntime) -> Result<(), Fail> {
     let mut screen = Screen::new(rt.alloc())?;
-    screen.say(24, 79, &text_of(b"-"));
-    screen.try_print(&text_of(&[b'A'; 254]))?;
+    screen.say(24, 79, &text_made(b"-"));
+    screen.try_print(&text_made(&[b'A'; 254]))?;
     screen.try_new_line()?;
     let bytes = screen.finish(rt.alloc())?;
     assert_eq!(rt; bytes.len(), 24 + 81 + 3 * 81 + 15);
@@ -105,19 +104,19 @@ fn wraps_a_long_text_on_the_last_row(rt: HostRuntime) -> Result<(), Fail> {
 #[test]
 fn says_on_after_the_cursor(rt: HostRuntime) -> Result<(), Fail> {
     let mut screen = Screen::new(rt.alloc())?;
-    screen.say_on(&text_of(b"before the first row"));
-    screen.say(0, 5, &text_of(b""));
-    screen.say_on(&text_of(b""));
-    screen.say(-1, 0, &text_of(b"above"));
-    screen.say(0, 80, &text_of(b"beside"));
-    screen.try_print(&text_of(b"Y"))?;
-    screen.say(3, 79, &text_of(b"Z"));
-    screen.say_on(&text_of(b"past the end"));
+    screen.say_on(&text_made(b"before the first row"));
+    screen.say(0, 5, &text_made(b""));
+    screen.say_on(&text_made(b""));
+    screen.say(-1, 0, &text_made(b"above"));
+    screen.say(0, 80, &text_made(b"beside"));
+    screen.try_print(&text_made(b"Y"))?;
+    screen.say(3, 79, &text_made(b"Z"));
+    screen.say_on(&text_made(b"past the end"));
     screen.clear()?;
-    screen.say_on(&text_of(b"before the first row"));
-    screen.try_print(&text_of(b""))?;
-    screen.say_on(&text_of(b"before the first row"));
-    screen.try_print(&text_of(b"\tA\x7fB \n"))?;
+    screen.say_on(&text_made(b"before the first row"));
+    screen.try_print(&text_made(b""))?;
+    screen.say_on(&text_made(b"before the first row"));
+    screen.try_print(&text_made(b"\tA\x7fB \n"))?;
     let bytes = screen.finish(rt.alloc())?;
     assert_eq!(rt; bytes.len(), 7 + 1 + 1 + 1 + 81 + 5);
     assert_eq!(rt; &bytes[..10], b"      Y\n\n\n".as_slice());
@@ -130,11 +129,11 @@ fn says_on_after_the_cursor(rt: HostRuntime) -> Result<(), Fail> {
 fn runs_commands(rt: HostRuntime) -> Result<(), Fail> {
     let commands = [
         Command::NewLine,
-        Command::Print(text_of(b"Name? ")),
+        Command::Print(text_made(b"Name? ")),
         Command::NewLine,
-        Command::Print(text_of(b"         0")),
+        Command::Print(text_made(b"         0")),
         Command::NewLine,
-        Command::Print(text_of(b"")),
+        Command::Print(text_made(b"")),
     ];
     let bytes = run(rt.alloc(), &commands)?;
     assert_eq!(rt; bytes.as_slice(), b"Name?\n         0\n".as_slice());
@@ -144,9 +143,9 @@ fn runs_commands(rt: HostRuntime) -> Result<(), Fail> {
             Command::Say {
                 row: 0,
                 column: 0,
-                text: text_of(b"AGE"),
+                text: text_made(b"AGE"),
             },
-            Command::SayOn(text_of(b"42")),
+            Command::SayOn(text_made(b"42")),
             Command::Clear,
         ],
     )?;

@@ -1,4 +1,6 @@
-use crate::{Num, Parts};
+// Numbers: read, computed, compared and printed.
+
+use fixed_num::{Num, Parts};
 use std::cmp::Ordering;
 use std::test::Fail;
 
