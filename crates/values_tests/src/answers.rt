@@ -22,7 +22,9 @@ fn takes_answers(rt: HostRuntime) {
         (date(""), "x", "  /  /  "),
     ] {
         assert_eq!(rt;
-            old.answered(line.as_bytes()).shown(Settings::off()).as_slice(),
+            old.answered(line.as_bytes())
+                .shown(Settings::off())
+                .as_slice(),
             wanted.as_bytes(),
             "{line}"
         );

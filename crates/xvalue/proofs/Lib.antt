@@ -4,3 +4,4 @@ pub mod TextLemmas
 pub mod CalendarLemmas
 pub mod OrderLemmas
 pub mod AnswerLemmas
+pub mod ReadLemmas
