@@ -1,7 +1,7 @@
 //! What follows from the definitions of numbers, for a reader who wants to trust them. Each function does nothing: its
 //! contract is the law.
 
-ghost use Rattle.std.specs.Prelude.{◌≡◌, ℕ, ◌+◌, ◌-◌, ◌%◌, ◌<◌, ◌≤◌, ℤ, pos, neg_ℤ, Bool, not, length};
+ghost use Rattle.std.specs.Prelude.{◌≡◌, ℕ, ◌+◌, ◌-◌, ◌%◌, ◌<◌, ◌≤◌, ℤ, pos, neg_ℤ, Bool, not, length, List};
 ghost use Rattle.std.specs.Cmp.{IsTotalOrder};
 ghost use Rattle.std.specs.Ordering.{int_cmp};
 ghost use Rattle.fixed_num.specs.Number.{Number, finite, scaled, signed, IsInRange};
@@ -9,7 +9,8 @@ ghost use Rattle.fixed_num.specs.Rounding.{nearest, rounded, rounded_to, IsNeare
 ghost use Rattle.fixed_num.specs.Arithmetic.{sum_of, product_of, floored_by, remainder_of, IsFloor};
 ghost use Rattle.fixed_num.specs.Order.{compared};
 ghost use Rattle.fixed_num.specs.Text.{text_of, printed};
-ghost use Rattle.fixed_num.specs.Reading.{parsed};
+ghost use Rattle.fixed_num.specs.Reading.{parsed, prefix_read, signed_read, without_blanks};
+ghost use Rattle.fixed_num.specs.Prefixes.{is_signed, IsOfLongest};
 
 /// A sum is the same in both orders.
 pub fn sums_commute()
@@ -65,6 +66,11 @@ pub fn order_is_by_value()
 /// A number's text is read as that number, with its decimals.
 pub fn text_reads_back()
     ensures { (m : ℤ) (d : ℕ) → IsInRange (finite m d) → parsed (text_of (finite m d)) ≡ finite m d }
+{}
+
+/// VAL takes the longest beginning that is a number, behind the blanks in front, and gives 0 where there is none.
+pub fn prefixes_are_longest()
+    ensures { (cs : List ℕ) → IsOfLongest is_signed signed_read (without_blanks cs) (prefix_read cs) }
 {}
 
 /// A number that is printed fills its field.
