@@ -10,3 +10,4 @@ pub mod LawLemmas
 pub mod OrderLemmas
 pub mod BackLemmas
 pub mod AsciiLemmas
+pub mod PrefixLemmas

@@ -1,5 +1,5 @@
 -- The remainder by sign and magnitude.
-use Rattle.std.proofs.Common.{◌≡◌, ℕ, zero, suc, ◌+◌, ◌-◌, ◌*◌, ◌/◌, ◌%◌, ◌^◌, ◌<◌, Bool, true, false, not, ◌≢◌, sym, ap, ◌∙◌, subst, max, ◌==◌, arith}
+use Rattle.std.proofs.Common.{◌≡◌, ℕ, zero, suc, ◌+◌, ◌-◌, ◌*◌, ◌/◌, ◌%◌, ◌^◌, ◌<◌, Bool, true, false, not, ◌≢◌, refl, sym, ap, ◌∙◌, subst, max, ◌==◌, arith}
 use Rattle.std.specs.Prelude.{ℤ, pos, negsuc, neg_ℤ, ◌-ℤ◌, ◌*ℤ◌, unsigned_abs, if◌then◌else◌}
 use Rattle.std.proofs.Math.Nat.{div-add-mod', mod-lt, div-eq_of_lt, zero-mod}
 use Rattle.std.proofs.lemmas.Int.{ints}
@@ -68,6 +68,13 @@ rest_none true zero (suc q) h none =
 rest_none true (suc p) (suc q) h none =
     let e : suc p / suc q * suc q + suc p % suc q ≡ suc p = div-add-mod' (suc p) (suc q) in
     ap pos none ∙ rest_none_above p q (suc p / suc q) (omega arith)
+
+signed_zero : (s : Bool) → signed s 0 ≡ pos 0
+signed_zero false = refl
+signed_zero true = refl
+
+pub rest_zero : (s : Bool) (p q : ℕ) → 0 < q → p % q ≡ 0 → remainder_of (signed s p) (signed (not s) q) ≡ pos 0
+rest_zero s p q h none = sym (rest_none s p q h none) ∙ ap (signed (not s)) none ∙ signed_zero (not s)
 
 -- other signs and a rest
 pub rest_some : (s : Bool) (p q : ℕ) → 0 < q → p % q ≢ 0 → signed (not s) (q - p % q) ≡ remainder_of (signed s p) (signed (not s) q)

@@ -5,3 +5,4 @@ pub mod Arithmetic
 pub mod Order
 pub mod Text
 pub mod Reading
+pub mod Prefixes

@@ -1,15 +1,16 @@
 //! What follows from the definitions of numbers, for a reader who wants to trust them. Each function does nothing: its
 //! contract is the law.
 
-ghost use Rattle.std.specs.Prelude.{◌≡◌, ℕ, ◌+◌, ◌-◌, ◌<◌, ◌≤◌, ℤ, length};
+ghost use Rattle.std.specs.Prelude.{◌≡◌, ℕ, ◌+◌, ◌-◌, ◌%◌, ◌<◌, ◌≤◌, ℤ, pos, neg_ℤ, Bool, not, length, List};
 ghost use Rattle.std.specs.Cmp.{IsTotalOrder};
 ghost use Rattle.std.specs.Ordering.{int_cmp};
-ghost use Rattle.fixed_num.specs.Number.{Number, finite, scaled, IsInRange};
-ghost use Rattle.fixed_num.specs.Rounding.{nearest, rounded_to, IsNearest};
-ghost use Rattle.fixed_num.specs.Arithmetic.{sum_of, product_of, floored_by, IsFloor};
+ghost use Rattle.fixed_num.specs.Number.{Number, finite, scaled, signed, IsInRange};
+ghost use Rattle.fixed_num.specs.Rounding.{nearest, rounded, rounded_to, IsNearest};
+ghost use Rattle.fixed_num.specs.Arithmetic.{sum_of, product_of, floored_by, remainder_of, IsFloor};
 ghost use Rattle.fixed_num.specs.Order.{compared};
 ghost use Rattle.fixed_num.specs.Text.{text_of, printed};
-ghost use Rattle.fixed_num.specs.Reading.{parsed};
+ghost use Rattle.fixed_num.specs.Reading.{parsed, prefix_read, signed_read, without_blanks};
+ghost use Rattle.fixed_num.specs.Prefixes.{is_signed, IsOfLongest};
 
 /// A sum is the same in both orders.
 pub fn sums_commute()
@@ -31,6 +32,21 @@ pub fn floors_are_below()
     ensures { (p : ℤ) (q : ℕ) → 0 < q → IsFloor p q (floored_by p q) }
 {}
 
+/// Below zero and by a divisor below zero the magnitude is rounded, and the quotient's sign stands before it.
+pub fn rounds_away_from_zero()
+    ensures below { (p q : ℕ) → 0 < q → rounded (neg_ℤ (pos p)) (pos q) ≡ neg_ℤ (pos (nearest p q)) }
+    ensures by_one_below { (p q : ℕ) → 0 < q → rounded (pos p) (neg_ℤ (pos q)) ≡ neg_ℤ (pos (nearest p q)) }
+    ensures both_below { (p q : ℕ) → 0 < q → rounded (neg_ℤ (pos p)) (neg_ℤ (pos q)) ≡ pos (nearest p q) }
+{}
+
+/// A remainder has the divisor's sign: of one sign it is the rest of the magnitudes, of two what that lacks of the
+/// divisor, and without a rest it is 0.
+pub fn remainders_have_the_divisors_sign()
+    ensures alike { (negative : Bool) (p q : ℕ) → 0 < q → remainder_of (signed negative p) (signed negative q) ≡ signed negative (p % q) }
+    ensures unlike { (negative : Bool) (p q : ℕ) → 0 < q → 0 < p % q → remainder_of (signed negative p) (signed (not negative) q) ≡ signed (not negative) (q - p % q) }
+    ensures none { (negative : Bool) (p q : ℕ) → 0 < q → p % q ≡ 0 → remainder_of (signed negative p) (signed (not negative) q) ≡ pos 0 }
+{}
+
 /// Rounding twice to one place is rounding once.
 pub fn rounds_once()
     ensures { (places : ℤ) (x : Number) → rounded_to places (rounded_to places x) ≡ rounded_to places x }
@@ -50,6 +66,11 @@ pub fn order_is_by_value()
 /// A number's text is read as that number, with its decimals.
 pub fn text_reads_back()
     ensures { (m : ℤ) (d : ℕ) → IsInRange (finite m d) → parsed (text_of (finite m d)) ≡ finite m d }
+{}
+
+/// VAL takes the longest beginning that is a number, behind the blanks in front, and gives 0 where there is none.
+pub fn prefixes_are_longest()
+    ensures { (cs : List ℕ) → IsOfLongest is_signed signed_read (without_blanks cs) (prefix_read cs) }
 {}
 
 /// A number that is printed fills its field.

@@ -11,6 +11,4 @@ mod rounding;
 mod text;
 
 pub use number::{MOST_DECIMALS, Num, Parts};
-
-#[cfg(test)]
-mod tests;
+pub use reading::{are_digits, without_blanks, without_last_blanks};

@@ -166,6 +166,8 @@ pub(crate) struct Fraction {
 
 /// Zero, without decimals.
 impl Default for Num {
+    ghost is_default = { λ n. n ≡ finite (pos 0) 0 };
+
     fn default() -> Num {
         Num::from_whole(0)
     }

@@ -39,8 +39,9 @@ impl Num {
 }
 
 /// The text without the blanks in front.
-fn without_blanks(bytes: &[u8]) -> &[u8]
-    ensures { result.now ≡ without_blanks bytes.now }
+pub fn without_blanks(bytes: &[u8]) -> &[u8]
+    ensures same { result.now ≡ without_blanks bytes.now }
+    ensures shorter { length result.now ≤ length bytes.now }
 {
     let mut text = bytes;
     while let [b' ', others @ ..] = text {
@@ -50,8 +51,9 @@ fn without_blanks(bytes: &[u8]) -> &[u8]
 }
 
 /// The text without the blanks at its end.
-fn without_last_blanks(bytes: &[u8]) -> &[u8]
-    ensures { result.now ≡ reverse (without_blanks (reverse bytes.now)) }
+pub fn without_last_blanks(bytes: &[u8]) -> &[u8]
+    ensures same { result.now ≡ reverse (without_blanks (reverse bytes.now)) }
+    ensures shorter { length result.now ≤ length bytes.now }
 {
     let mut text = bytes;
     while let [others @ .., b' '] = text {
@@ -155,7 +157,7 @@ fn digits_read(negative: bool, whole: &[u8], fraction: &[u8]) -> Num
 }
 
 /// Whether a text has digits alone.
-fn are_digits(text: &[u8]) -> bool
+pub fn are_digits(text: &[u8]) -> bool
     ensures { result ≡ are_digits text.now }
 {
     for byte in text {

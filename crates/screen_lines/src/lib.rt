@@ -4,14 +4,12 @@
 //! with LF. `Screen` is what a machine uses, `run` a whole list of commands, and `laws` what holds after every list.
 #![tactic(auto)]
 
-pub mod commands;
-pub mod cursor;
+mod commands;
+mod cursor;
 mod display;
 pub mod laws;
 mod rows;
-pub mod screen;
-#[cfg(test)]
-mod tests;
+mod screen;
 
 pub use commands::{Command, obey, run};
 pub use cursor::Cursor;

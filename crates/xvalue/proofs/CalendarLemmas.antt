@@ -1,7 +1,8 @@
 -- The days so many days on, by their numbers.
 use Rattle.std.proofs.Common.{◌≡◌, ℕ, zero, suc, ◌+◌, ◌-◌, ◌<◌, ◌≤◌, refl, sym, ap, ◌∙◌, subst, arith, inl, inr}
-use Rattle.std.specs.Prelude.{nat_lt, if◌then◌else◌, ℤ, pos, negsuc, ◌+ℤ◌, ◌-ℤ◌, ◌<ℤ◌, ◌≤ℤ◌, unsigned_abs, Option, Some, None, MatchOption}
+use Rattle.std.specs.Prelude.{Bool, true, false, ◌↔◌, ◌⊎◌, nat_lt, int_lt, if◌then◌else◌, ℤ, pos, negsuc, ◌+ℤ◌, ◌-ℤ◌, ◌<ℤ◌, ◌≤ℤ◌, unsigned_abs, Option, Some, None, MatchOption}
 use Rattle.std.proofs.lemmas.Bool.Decides.{leb_tells}
+use Rattle.std.proofs.lemmas.Int.{ints}
 use Rattle.jiff_core.specs.declared.civil.date.Date.{Date}
 use Rattle.jiff_core.specs.Calendar.{days_in_month, days_from_civil, IsEpochDay}
 use Rattle.jiff_core.specs.Date.{epoch_day, IsYmd}
@@ -10,8 +11,8 @@ use Rattle.jiff_core.proofs.CalendarLemmas.{days_in_month_bounds}
 use Rattle.jiff_core.proofs.DateLemmas.{IsEarlier, epoch_day_range, epoch_day-lt, cases_date, epoch_day_injective, epoch_day_same, days_from_civil-day, days_from_civil-next_month, days_from_civil-next_year, days_from_civil-max}
 use Rattle.xvalue.specs.declared.day.DayParts.{DayParts}
 use Rattle.xvalue.specs.Days.{IsDay, HasDay}
-use Rattle.xvalue.specs.Laws.{LiesThere}
-use Rattle.xvalue.specs.Calendar.{day_number, day_at, month_length, next_day, previous_day, stepped, steps, days_on}
+use Rattle.xvalue.specs.Laws.{LiesThere, IsSooner}
+use Rattle.xvalue.specs.Calendar.{day_number, day_at, is_earlier, month_length, next_day, previous_day, stepped, steps, days_on}
 
 -- a date with this number: a day with it, or none where the number is beyond
 abbrev pub Lies : (ℤ → Type 0) → Option DayParts → ℤ → Type 0
@@ -255,3 +256,54 @@ days_on-number (pos n) p h = lies_there_above _ _ (later_lies n p h)
 days_on-number (negsuc n) p h =
     let f : day_number p -ℤ pos (suc n) ≡ day_number p +ℤ negsuc n = omega (arith, signed_arith) in
     subst (LiesThere (steps previous_day (suc n) (Some p))) f (lies_there_below _ _ (earlier_lies (suc n) p h))
+
+-- days and their numbers
+
+pub number-injective : (p q : DayParts) → IsDay p → IsDay q → day_number p ≡ day_number q → p ≡ q
+number-injective p q h k e =
+    let same = epoch_day_injective (date_of p h) (date_of q k) e in
+    same_parts p q (pos_number p.year q.year same.0) same.1 same.2
+
+sooner_date : (p q : DayParts) (h : IsDay p) (k : IsDay q) → IsSooner p q → IsEarlier (date_of p h) (date_of q k)
+sooner_date p q h k (inl year) = inl (omega (arith, signed_arith, year))
+sooner_date p q h k (inr (year, rest)) = inr (ap pos year, rest)
+
+date_sooner : (p q : DayParts) (h : IsDay p) (k : IsDay q) → IsEarlier (date_of p h) (date_of q k) → IsSooner p q
+date_sooner p q h k (inl year) = let y : pos p.year <ℤ pos q.year = year in inl (omega (arith, signed_arith, y))
+date_sooner p q h k (inr (year, rest)) = inr (pos_number p.year q.year year, rest)
+
+number-lt : (p q : DayParts) → IsDay p → IsDay q → IsSooner p q → day_number p <ℤ day_number q
+number-lt p q h k s = epoch_day-lt (date_of p h) (date_of q k) (sooner_date p q h k s)
+
+lt-sooner : (p q : DayParts) → IsDay p → IsDay q → day_number p <ℤ day_number q → IsSooner p q
+lt-sooner p q h k less =
+    elim (cases_date (date_of p h) (date_of q k)) [
+      | inl lt ↦ date_sooner p q h k lt
+      | inr (inl gt) ↦
+          let later : day_number q <ℤ day_number p = epoch_day-lt (date_of q k) (date_of p h) gt in
+          absurd (omega (arith, signed_arith, less, later))
+      | inr (inr same) ↦
+          let e : day_number p ≡ day_number q = epoch_day_same (date_of p h) (date_of q k) same.0 same.1 same.2 in
+          absurd (omega (arith, signed_arith, less, e))
+    ]
+
+pub sooner-lt : (p q : DayParts) → IsDay p → IsDay q → (day_number p <ℤ day_number q) ↔ IsSooner p q
+sooner-lt p q h k = (lt-sooner p q h k, number-lt p q h k)
+
+lt_int : (x y : ℤ) → x <ℤ y → int_lt x y ≡ true
+lt_int x y less = by (int_lt x y) refl
+  where
+    by : (t : Bool) → int_lt x y ≡ t → int_lt x y ≡ true
+    by true e = e
+    by false e = absurd (omega (arith, ints, e, less))
+
+pub in_order : (a b : Option DayParts) → HasDay a → HasDay b → (is_earlier a b ≡ true) ⊎ ((a ≡ b) ⊎ (is_earlier b a ≡ true))
+in_order None None h k = inr (inl refl)
+in_order None (Some q) h k = inl refl
+in_order (Some p) None h k = inr (inr refl)
+in_order (Some p) (Some q) h k =
+    elim (cases_date (date_of p h) (date_of q k)) [
+      | inl lt ↦ inl (lt_int (day_number p) (day_number q) (epoch_day-lt (date_of p h) (date_of q k) lt))
+      | inr (inl gt) ↦ inr (inr (lt_int (day_number q) (day_number p) (epoch_day-lt (date_of q k) (date_of p h) gt)))
+      | inr (inr same) ↦ inr (inl (ap Some (same_parts p q (pos_number p.year q.year same.0) same.1 same.2)))
+    ]

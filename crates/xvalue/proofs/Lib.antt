@@ -3,3 +3,5 @@ pub mod Numbers
 pub mod TextLemmas
 pub mod CalendarLemmas
 pub mod OrderLemmas
+pub mod AnswerLemmas
+pub mod ReadLemmas

@@ -1,8 +1,11 @@
 -- The order of texts, and where a text first stands in another.
-use Rattle.std.proofs.Common.{◌≡◌, ℕ, zero, suc, ◌+◌, ◌<◌, ◌≤◌, true, false, List, [], ◌∷◌, ◌++◌, length, length-drop, drop, ◌==◌, refl, sym, ap, ◌∙◌, subst, arith, inl, inr}
+use Rattle.std.proofs.Common.{◌≡◌, ℕ, zero, suc, ◌+◌, ◌<◌, ◌≤◌, ◌↔◌, true, false, List, [], ◌∷◌, ◌++◌, length, length-drop, drop, reverse, replicate, append-nil, append_assoc, ◌==◌, refl, sym, ap, ◌∙◌, subst, arith, inl, inr}
 use Rattle.std.specs.Prelude.{Bool, nat_lt, if◌then◌else◌, ◌⊎◌, Option, Some, None, unwrap_or, is_some}
 use Rattle.std.proofs.lemmas.Bool.{cases_order, false≢true, eq-eqb, ne_eqb, lt-ltb, le-ltb}
-use Rattle.xvalue.specs.Texts.{first_or_blank, is_before, begins_with, first_place, further}
+use Rattle.std.proofs.Math.Seq.{drop-nil}
+use Rattle.std.proofs.lemmas.List.{reverse-append, reverse-reverse}
+use Rattle.fixed_num.specs.Reading.{without_blanks}
+use Rattle.xvalue.specs.Texts.{first_or_blank, is_before, without_last_blanks, begins_with, first_place, place_number, further}
 
 pub is_before-self : (cs : List ℕ) → is_before cs cs ≡ false
 is_before-self [] = refl
@@ -113,3 +116,103 @@ first_place-least part (c ∷ cs) n (suc k) e less =
       | inl w ↦ absurd (omega (arith, less, w.1))
       | inr w ↦ let f = further_is (first_place part cs) n w.1 in first_place-least part cs f.0 k f.1 (omega (arith, less, f.2))
     ]
+
+-- nowhere
+
+none_of : (b : Bool) (o : Option ℕ) → (if b then Some 0 else o) ≡ None → (b ≡ false) × (o ≡ None)
+none_of true o e = absurd (none_is 0 (sym e))
+none_of false o e = (refl, e)
+
+further_none : (o : Option ℕ) → further 1 o ≡ None → o ≡ None
+further_none None e = refl
+further_none (Some m) e = absurd (none_is (1 + m) (sym e))
+
+nowhere : (part cs : List ℕ) → first_place part cs ≡ None → (k : ℕ) → begins_with (drop k cs) part ≡ false
+nowhere part [] e k = ap (λ ds. begins_with ds part) (drop-nil k) ∙ (none_of (begins_with [] part) None e).0
+nowhere part (c ∷ cs) e zero = (none_of (begins_with (c ∷ cs) part) (further 1 (first_place part cs)) e).0
+nowhere part (c ∷ cs) e (suc k) =
+    nowhere part cs (further_none (first_place part cs) (none_of (begins_with (c ∷ cs) part) (further 1 (first_place part cs)) e).1) k
+
+none_found : (part cs : List ℕ) → ((k : ℕ) → begins_with (drop k cs) part ≡ false) → (o : Option ℕ) → first_place part cs ≡ o → o ≡ None
+none_found part cs h None e = refl
+none_found part cs h (Some n) e = absurd (false≢true (sym (h n) ∙ first_place-there part cs n e))
+
+pub nowhere-none : (part cs : List ℕ) → (first_place part cs ≡ None) ↔ ((k : ℕ) → begins_with (drop k cs) part ≡ false)
+nowhere-none part cs = (nowhere part cs, λ h. none_found part cs h (first_place part cs) refl)
+
+pub zero-none : (o : Option ℕ) → (place_number o ≡ 0) ↔ (o ≡ None)
+zero-none None = (λ e. refl, λ e. refl)
+zero-none (Some m) = (λ e. absurd (omega (arith, e)), λ e. absurd (none_is m (sym e)))
+
+pub false-none : (o : Option ℕ) → (is_some o ≡ false) ↔ (o ≡ None)
+false-none None = (λ e. refl, λ e. refl)
+false-none (Some m) = (λ e. absurd (false≢true (sym e)), λ e. absurd (none_is m (sym e)))
+
+-- texts neither of which is before the other
+
+undecided : (x y : ℕ) (p q : Bool) → (if x == y then p else nat_lt x y) ≡ false → (if y == x then q else nat_lt y x) ≡ false → (x ≡ y) × ((p ≡ false) × (q ≡ false))
+undecided x y p q e f =
+    elim (cases_order x y) [
+      | inl same ↦ (same, (sym (ap (λ b. if b then p else nat_lt x y) (eq-eqb x y same)) ∙ e, sym (ap (λ b. if b then q else nat_lt y x) (eq-eqb y x (sym same))) ∙ f))
+      | inr (inl less) ↦ absurd (false≢true (sym e ∙ decide x y p (inl less)))
+      | inr (inr more) ↦ absurd (false≢true (sym f ∙ decide y x q (inl more)))
+    ]
+
+-- both are the same with blanks behind them
+abbrev AreAlike : List ℕ → List ℕ → Type 0
+AreAlike cs ds = (n : ℕ) × ((k : ℕ) × (cs ++ replicate n 32 ≡ ds ++ replicate k 32))
+
+alike : (cs ds : List ℕ) → is_before cs ds ≡ false → is_before ds cs ≡ false → AreAlike cs ds
+alike [] [] e f = (0, (0, refl))
+alike [] (d ∷ ds) e f =
+    let u = undecided 32 d (is_before [] ds) (is_before ds []) e f in
+    let r = alike [] ds u.1.0 u.1.1 in
+    (suc r.0, (r.1.0, ap (λ x. x ∷ replicate r.0 32) u.0 ∙ ap (λ xs. d ∷ xs) r.1.1))
+alike (c ∷ cs) [] e f =
+    let u = undecided c 32 (is_before cs []) (is_before [] cs) e f in
+    let r = alike cs [] u.1.0 u.1.1 in
+    (r.0, (suc r.1.0, ap (λ x. x ∷ (cs ++ replicate r.0 32)) u.0 ∙ ap (λ xs. 32 ∷ xs) r.1.1))
+alike (c ∷ cs) (d ∷ ds) e f =
+    let u = undecided c d (is_before cs ds) (is_before ds cs) e f in
+    let r = alike cs ds u.1.0 u.1.1 in
+    (r.0, (r.1.0, ap (λ x. x ∷ (cs ++ replicate r.0 32)) u.0 ∙ ap (λ xs. d ∷ xs) r.1.1))
+
+one_blank : (cs : List ℕ) → without_last_blanks (cs ++ 32 ∷ []) ≡ without_last_blanks cs
+one_blank cs = ap (λ xs. reverse (without_blanks xs)) (reverse-append cs (32 ∷ []))
+
+more_blanks : (n : ℕ) (cs : List ℕ) → without_last_blanks (cs ++ replicate n 32) ≡ without_last_blanks cs
+more_blanks zero cs = ap without_last_blanks (append-nil cs)
+more_blanks (suc n) cs = ap without_last_blanks (sym (append_assoc cs (32 ∷ []) (replicate n 32))) ∙ more_blanks n (cs ++ 32 ∷ []) ∙ one_blank cs
+
+-- blanks taken off at the end change nothing in the order
+by_first : (x : ℕ) (xs ds : List ℕ) → is_before (reverse (without_blanks xs)) ds ≡ is_before (reverse xs) ds → is_before (reverse (without_blanks (x ∷ xs))) ds ≡ is_before (reverse (x ∷ xs)) ds
+by_first x xs ds r =
+    elim (cases_order x 32) [
+      | inl same ↦
+          ap (λ b. is_before (reverse (if b then without_blanks xs else x ∷ xs)) ds) (eq-eqb x 32 same)
+          ∙ r
+          ∙ sym (is_before-blank_first (reverse xs) ds)
+          ∙ ap (λ y. is_before (reverse xs ++ y ∷ []) ds) (sym same)
+          ∙ ap (λ ys. is_before ys ds) (sym (reverse-append (x ∷ []) xs))
+      | inr (inl less) ↦ other (ne_eqb x 32 (λ same. omega (arith, same, less)))
+      | inr (inr more) ↦ other (ne_eqb x 32 (λ same. omega (arith, same, more)))
+    ]
+  where
+    other : (x == 32) ≡ false → is_before (reverse (without_blanks (x ∷ xs))) ds ≡ is_before (reverse (x ∷ xs)) ds
+    other e = ap (λ b. is_before (reverse (if b then without_blanks xs else x ∷ xs)) ds) e
+
+reversed-first : (xs ds : List ℕ) → is_before (reverse (without_blanks xs)) ds ≡ is_before (reverse xs) ds
+reversed-first [] ds = refl
+reversed-first (x ∷ xs) ds = by_first x xs ds (reversed-first xs ds)
+
+trimmed-first : (cs ds : List ℕ) → is_before (without_last_blanks cs) ds ≡ is_before cs ds
+trimmed-first cs ds = reversed-first (reverse cs) ds ∙ ap (λ xs. is_before xs ds) (reverse-reverse cs)
+
+not_before : (cs ds : List ℕ) → without_last_blanks cs ≡ without_last_blanks ds → is_before cs ds ≡ false
+not_before cs ds e = sym (trimmed-first cs ds) ∙ ap (λ xs. is_before xs ds) e ∙ trimmed-first ds ds ∙ is_before-self ds
+
+pub neither-same : (cs ds : List ℕ) → ((is_before cs ds ≡ false) × (is_before ds cs ≡ false)) ↔ (without_last_blanks cs ≡ without_last_blanks ds)
+neither-same cs ds = (
+  λ h. let r = alike cs ds h.0 h.1 in sym (more_blanks r.0 cs) ∙ ap without_last_blanks r.1.1 ∙ more_blanks r.1.0 ds,
+  λ e. (not_before cs ds e, not_before ds cs (sym e)),
+)

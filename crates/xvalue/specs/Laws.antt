@@ -1,10 +1,19 @@
 -- What the laws say of results.
-use Rattle.std.specs.Prelude.{◌≡◌, ◌≤◌, length, ℤ, ◌<ℤ◌, ◌⊎◌, Option, Some, None}
+use Rattle.std.specs.Prelude.{◌≡◌, ◌<◌, ◌≤◌, List, [], ◌∷◌, length, take, Bool, if◌then◌else◌, ℤ, ◌<ℤ◌, ◌⊎◌, Option, Some, None, ℕ}
+use Rattle.arrayvec.specs.ArrayVec.{ArrayVec}
+use Rattle.fixed_num.specs.Number.{Number as Decimal}
+use Rattle.fixed_num.specs.Rounding.{whole_part}
+use Rattle.xvalue.specs.declared.settings.Settings.{Settings}
+use Rattle.xvalue.specs.declared.fun.Fun.{Fun}
+use Rattle.xvalue.specs.declared.fun.Fun.TheVariants.{Substr, Left, Right, Replicate, Stuff, DateAdd, DateSub, IifNumber, IifText, IifDate}
+use Rattle.xvalue.specs.Functions.{applied, text_value}
+use Rattle.xvalue.specs.Given.{by_kind}
+use Rattle.xvalue.specs.Texts.{count_of, part_from, last_part, repeated, stuffed}
 use Rattle.xvalue.specs.declared.value.Value.{Value}
 use Rattle.xvalue.specs.declared.value.Value.TheVariants.{Number, Text, Date, Logical}
 use Rattle.xvalue.specs.declared.day.DayParts.{DayParts}
 use Rattle.xvalue.specs.Days.{IsDay}
-use Rattle.xvalue.specs.Calendar.{day_number, day_at}
+use Rattle.xvalue.specs.Calendar.{day_number, day_at, date_plus, date_minus}
 
 -- a text of the value has at most 254 bytes
 abbrev pub HasShortText : Value → Type 0
@@ -18,3 +27,28 @@ HasShortText (Logical truth) = Unit {0}
 abbrev pub LiesThere : Option DayParts → ℤ → Type 0
 LiesThere None number = (number <ℤ day_number (day_at 1 1 1)) ⊎ (day_number (day_at 9999 12 31) <ℤ number)
 LiesThere (Some parts) number = IsDay parts × (day_number parts ≡ number)
+
+-- the first day is sooner in the calendar: by its year, in one year by its month, in one month by its day
+abbrev pub IsSooner : DayParts → DayParts → Type 0
+IsSooner p q = (p.year < q.year) ⊎ ((p.year ≡ q.year) × ((p.month < q.month) ⊎ ((p.month ≡ q.month) × (p.day < q.day))))
+
+-- what a function gives of its arguments in the order in which they are written
+abbrev pub of_written : Fun → Settings → List Value → Value
+of_written fun settings values = applied fun settings (by_kind values)
+
+-- how many a number argument says
+abbrev pub count_said : Decimal → ℕ
+count_said number = count_of (whole_part number)
+
+-- functions of several kinds, on their arguments as they are written
+pub record AreReadAsWritten (settings : Settings) : Type 0 where
+  pub stuff : (text others : ArrayVec ℕ) (place count : Decimal) → of_written Stuff settings (Text text ∷ Number place ∷ Number count ∷ Text others ∷ []) ≡ text_value (stuffed (count_said place) (count_said count) others.items text.items)
+  pub substr : (text : ArrayVec ℕ) (place count : Decimal) → of_written Substr settings (Text text ∷ Number place ∷ Number count ∷ []) ≡ text_value (part_from (count_said place) (count_said count) text.items)
+  pub left : (text : ArrayVec ℕ) (count : Decimal) → of_written Left settings (Text text ∷ Number count ∷ []) ≡ text_value (take (count_said count) text.items)
+  pub right : (text : ArrayVec ℕ) (count : Decimal) → of_written Right settings (Text text ∷ Number count ∷ []) ≡ text_value (last_part (count_said count) text.items)
+  pub replicated : (text : ArrayVec ℕ) (count : Decimal) → of_written Replicate settings (Text text ∷ Number count ∷ []) ≡ text_value (repeated (count_said count) text.items)
+  pub days_added : (date : Option DayParts) (days : Decimal) → of_written DateAdd settings (Date date ∷ Number days ∷ []) ≡ Date (date_plus date days)
+  pub days_taken : (date : Option DayParts) (days : Decimal) → of_written DateSub settings (Date date ∷ Number days ∷ []) ≡ Date (date_minus date days)
+  pub number_chosen : (truth : Bool) (x y : Decimal) → of_written IifNumber settings (Logical truth ∷ Number x ∷ Number y ∷ []) ≡ Number (if truth then x else y)
+  pub text_chosen : (truth : Bool) (x y : ArrayVec ℕ) → of_written IifText settings (Logical truth ∷ Text x ∷ Text y ∷ []) ≡ text_value (if truth then x.items else y.items)
+  pub date_chosen : (truth : Bool) (x y : Option DayParts) → of_written IifDate settings (Logical truth ∷ Date x ∷ Date y ∷ []) ≡ Date (if truth then x else y)

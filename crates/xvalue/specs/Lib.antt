@@ -10,3 +10,4 @@ pub mod Texts
 pub mod Calendar
 pub mod DateTexts
 pub mod Laws
+pub mod Answers

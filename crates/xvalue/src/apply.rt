@@ -16,7 +16,7 @@ use crate::shown::shown_day;
 use crate::text::Text;
 use crate::texts;
 use crate::value::Value;
-use fixed_num::Num;
+use fixed_num::{Num, without_blanks, without_last_blanks};
 
 /// What the function gives of the arguments under the settings. It takes no memory.
 pub fn apply(fun: Fun, settings: Settings, arguments: &Arguments<'_>) -> Value
@@ -80,8 +80,8 @@ fn text_of(fun: Fun, settings: Settings, arguments: &Arguments<'_>) -> Text
         )),
         Fun::Left => texts::fitted(texts::front(text, arguments.count(0))),
         Fun::Right => texts::fitted(texts::last_part(text, arguments.count(0))),
-        Fun::Trim => texts::fitted(texts::without_last_blanks(text)),
-        Fun::Ltrim => texts::fitted(texts::without_blanks(text)),
+        Fun::Trim => texts::fitted(without_last_blanks(text)),
+        Fun::Ltrim => texts::fitted(without_blanks(text)),
         Fun::Upper => texts::upper(text),
         Fun::Lower => texts::lower(text),
         Fun::Space => texts::blanks(arguments.count(0)),

@@ -9,8 +9,8 @@ ghost use Rattle.xvalue.specs.Calendar.{day_number, days_on, date_plus, date_min
 ghost use Rattle.xvalue.specs.DateTexts.{before_slash, after_slash, is_short, year_spelled, date_spelled, date_read};
 
 use crate::day::{Day, DayParts};
-use crate::texts::{behind, without_blanks, without_last_blanks};
-use fixed_num::Num;
+use crate::texts::behind;
+use fixed_num::{Num, are_digits, without_blanks, without_last_blanks};
 use jiff::ToSpan;
 use jiff::civil::{Date, Weekday, date};
 
@@ -299,18 +299,6 @@ fn year_spelled(digits: &[u8]) -> Option<u16>
         4 => Some(with_digits(digits)),
         _ => None,
     }
-}
-
-/// Whether there are digits alone.
-fn are_digits(text: &[u8]) -> bool
-    ensures { result ≡ are_digits text.now }
-{
-    for byte in text {
-        if !byte.is_ascii_digit() {
-            return false;
-        }
-    }
-    true
 }
 
 /// The number of at most four digits.

@@ -67,6 +67,8 @@ impl Day {
 
 /// The blank date.
 impl Default for Day {
+    ghost is_default = { λ d. d ≡ None };
+
     fn default() -> Day {
         Day::blank()
     }

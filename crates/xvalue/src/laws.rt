@@ -2,7 +2,7 @@
 // crates above. Each function does nothing: its contract is the law.
 #![tactic(auto)]
 
-ghost use Rattle.std.specs.Prelude.{◌≡◌, ℕ, ℤ, ◌+ℤ◌, ◌≤◌, ◌<◌, ◌↔◌, ◌++◌, List, [], ◌∷◌, length, drop, true, false, Some};
+ghost use Rattle.std.specs.Prelude.{◌≡◌, ℕ, ℤ, ◌+◌, ◌+ℤ◌, ◌<ℤ◌, ◌≤◌, ◌<◌, ◌↔◌, ◌⊎◌, ◌++◌, List, [], ◌∷◌, length, drop, true, false, Option, Some, None, is_some};
 ghost use Rattle.xvalue.specs.declared.fun.Fun.{Fun as AnyFun};
 ghost use Rattle.xvalue.specs.declared.settings.Settings.{Settings as AnySettings};
 ghost use Rattle.xvalue.specs.declared.day.DayParts.{DayParts as Parts};
@@ -11,10 +11,12 @@ ghost use Rattle.xvalue.specs.declared.kind.Kind.{Kind as AnyKind};
 ghost use Rattle.xvalue.specs.Kinds.{kind_of, same_kind};
 ghost use Rattle.xvalue.specs.Signature.{takes_of, gives_of, NumbersAgree};
 ghost use Rattle.xvalue.specs.Functions.{applied};
-ghost use Rattle.xvalue.specs.Days.{IsDay};
-ghost use Rattle.xvalue.specs.Calendar.{day_number, days_on};
-ghost use Rattle.xvalue.specs.Texts.{equal_texts, is_before, without_last_blanks, first_place, begins_with};
-ghost use Rattle.xvalue.specs.Laws.{HasShortText, LiesThere};
+ghost use Rattle.xvalue.specs.Days.{IsDay, HasDay};
+ghost use Rattle.xvalue.specs.Calendar.{day_number, days_on, is_day, same_date, is_earlier};
+ghost use Rattle.xvalue.specs.Texts.{equal_texts, is_before, without_last_blanks, first_place, place_number, begins_with, stuffed, part_from};
+ghost use Rattle.xvalue.specs.Laws.{HasShortText, LiesThere, IsSooner, AreReadAsWritten};
+ghost use Rattle.xvalue.specs.declared.value.Value.{Value as AnyValue};
+ghost use Rattle.xvalue.specs.Answers.{answered, text_answered};
 
 /// Each function gives a value of the kind that its table says.
 pub fn results_have_their_kind()
@@ -70,6 +72,46 @@ pub fn first_place_is_least()
     ensures least { (part cs : List ℕ) (n k : ℕ) → first_place part cs ≡ Some n → k < n → begins_with (drop k cs) part ≡ false }
 {}
 
+/// Of two texts neither is before the other where they are the same but for the blanks at their ends, and nowhere else.
+pub fn order_leaves_blanks_alone()
+    ensures { (cs ds : List ℕ) → ((is_before cs ds ≡ false) × (is_before ds cs ≡ false)) ↔ (without_last_blanks cs ≡ without_last_blanks ds) }
+{}
+
+/// A text stands at a place of another exactly where it has a first place: AT gives 0 and `$` false where the rest begins
+/// with it nowhere.
+pub fn nowhere_is_no_place()
+    ensures nowhere { (part cs : List ℕ) → (first_place part cs ≡ None) ↔ ((k : ℕ) → begins_with (drop k cs) part ≡ false) }
+    ensures zero { (part cs : List ℕ) → (place_number (first_place part cs) ≡ 0) ↔ (first_place part cs ≡ None) }
+    ensures inside { (part cs : List ℕ) → (is_some (first_place part cs) ≡ false) ↔ (first_place part cs ≡ None) }
+{}
+
+/// A day is its day number: days with one number are the same, and the sooner day has the lesser number.
+pub fn days_are_their_numbers()
+    ensures same { (p q : Parts) → IsDay p → IsDay q → day_number p ≡ day_number q → p ≡ q }
+    ensures sooner { (p q : Parts) → IsDay p → IsDay q → (day_number p <ℤ day_number q) ↔ IsSooner p q }
+{}
+
+/// Of two dates one is earlier than the other, or they are the same.
+pub fn dates_are_in_order()
+    ensures { (a b : Option Parts) → HasDay a → HasDay b → (is_earlier a b ≡ true) ⊎ ((a ≡ b) ⊎ (is_earlier b a ≡ true)) }
+{}
+
+/// The calendar's days are those that pass its test.
+pub fn days_are_tested()
+    ensures { (parts : Parts) → (is_day parts ≡ true) ↔ IsDay parts }
+{}
+
+/// Functions of several kinds take their arguments in the order in which they are written, whatever their kinds.
+pub fn arguments_are_read_as_written()
+    ensures { (settings : AnySettings) → AreReadAsWritten settings }
+{}
+
+/// SUBSTR takes a part out of a text, and STUFF puts another in its place.
+pub fn parts_are_taken_and_stuffed()
+    ensures taken { (front part rest : List ℕ) → part_from (length front + 1) (length part) (front ++ part ++ rest) ≡ part }
+    ensures stuffed { (front part rest others : List ℕ) → stuffed (length front + 1) (length part) others (front ++ part ++ rest) ≡ front ++ others ++ rest }
+{}
+
 /// Each function is the one of its number, and no other is.
 pub fn functions_have_their_numbers()
     ensures { NumbersAgree }
@@ -78,4 +120,19 @@ pub fn functions_have_their_numbers()
 /// Kinds that are found the same are the same.
 pub fn same_kinds_are_equal()
     ensures { (one other : AnyKind) → same_kind one other ≡ true → one ≡ other }
+{}
+
+/// What a line leaves of a value is of the value's kind.
+pub fn answers_keep_the_kind()
+    ensures { (old : AnyValue) (line : List ℕ) → kind_of (answered old line) ≡ kind_of old }
+{}
+
+/// An empty line leaves the value.
+pub fn empty_lines_keep_the_value()
+    ensures { (old : AnyValue) → answered old [] ≡ old }
+{}
+
+/// What a line leaves of a text has the text's length.
+pub fn answers_keep_the_length()
+    ensures { (old line : List ℕ) → length (text_answered old line) ≡ length old }
 {}

@@ -4,19 +4,21 @@
 //! `specs/Signature.antt`, a line of its meaning in `specs/Functions.antt` and an arm of `apply`.
 #![tactic(auto)]
 
+mod answer;
 pub mod apply;
-pub mod arguments;
-pub mod calendar;
-pub mod day;
-pub mod fun;
-pub mod kind;
+mod arguments;
+mod calendar;
+mod day;
+mod fun;
+mod kind;
 pub mod laws;
-pub mod settings;
-pub mod shown;
-pub mod text;
-pub mod texts;
-pub mod value;
+mod settings;
+mod shown;
+mod text;
+mod texts;
+mod value;
 
+pub use answer::{answered_day, answered_logical, answered_number, answered_text};
 pub use arguments::{Arguments, Gathered, MOST_ARGUMENTS};
 pub use day::{Day, DayParts};
 pub use fun::{FUNS, Fun, signature};
@@ -26,6 +28,3 @@ pub use shown::{shown_day, shown_logical, shown_number};
 pub use text::{Text, copy_of, text_of};
 pub use texts::{eq_text, less_text};
 pub use value::Value;
-
-#[cfg(test)]
-mod tests;

@@ -9,8 +9,8 @@ ghost use Rattle.fixed_num.specs.Text.{printed};
 ghost use Rattle.xvalue.specs.Texts.{fitting, without_last_blanks, equal_texts, first_or_blank, is_before, joined_moved, count_of, part_from, last_part, repeated, stuffed, first_place, place_number, first_is, first_byte, byte_text};
 
 use crate::text::{Text, text_of};
-use fixed_num::Num;
 use fixed_num::laws::print_fills_its_field;
+use fixed_num::{Num, without_last_blanks};
 
 /// The most bytes of a text.
 const MOST_BYTES: usize = 254;
@@ -84,30 +84,6 @@ pub fn part_from(bytes: &[u8], place: usize, count: usize) -> &[u8]
         Some(skipped) => front(behind(bytes, skipped), count),
         None => &[],
     }
-}
-
-/// The text without the blanks in front.
-pub fn without_blanks(bytes: &[u8]) -> &[u8]
-    ensures same { result.now ≡ without_blanks bytes.now }
-    ensures shorter { length result.now ≤ length bytes.now }
-{
-    let mut text = bytes;
-    while let [b' ', others @ ..] = text {
-        text = others;
-    }
-    text
-}
-
-/// The text without the blanks at its end.
-pub fn without_last_blanks(bytes: &[u8]) -> &[u8]
-    ensures same { result.now ≡ without_last_blanks bytes.now }
-    ensures shorter { length result.now ≤ length bytes.now }
-{
-    let mut text = bytes;
-    while let [others @ .., b' '] = text {
-        text = others;
-    }
-    text
 }
 
 /// The text of these bytes, cut where they are more than 254.

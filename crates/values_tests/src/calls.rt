@@ -1,0 +1,423 @@
+// Calls of functions.
+
+use crate::spelled::{Call, first_wrong, result_of, result_of_values, value_of};
+use xvalue::{Fun, Kind, Setting, Settings, Value, eq_text, less_text, signature};
+
+fn of_numbers() -> [Call; 34] {
+    [
+        (Fun::Add, "9999999999999999999|1", "**********"),
+        (Fun::Sub, "9999999999999999999|1", "9999999999999999998"),
+        (Fun::Add, "-9999999999999999999|1", "-9999999999999999998"),
+        (Fun::Sub, "-9999999999999999999|1", "**********"),
+        (Fun::Add, "1.50|-1.5", "0.00"),
+        (Fun::Sub, "1.50|-1.5", "3.00"),
+        (Fun::Add, "0.000000000000001|1", "1.000000000000001"),
+        (Fun::Sub, "0.000000000000001|1", "-0.999999999999999"),
+        (Fun::Add, "10000|0.000000000000001", "**********"),
+        (Fun::Sub, "10000|0.000000000000001", "9999.999999999999999"),
+        (Fun::Add, "**|1", "**********"),
+        (Fun::Sub, "**|1", "**********"),
+        (Fun::Mul, "1.25|1.25", "1.5625"),
+        (Fun::Mul, "0.00000001|0.00000005", "0.000000000000001"),
+        (Fun::Mul, "0.00000001|-0.00000005", "-0.000000000000001"),
+        (Fun::Mul, "0.00000001|0.00000004", "0.000000000000000"),
+        (
+            Fun::Mul,
+            "9999999999999999999|9999999999999999999",
+            "**********",
+        ),
+        (Fun::Mul, "-3|0.0", "0.0"),
+        (Fun::Mul, "2|?", "**********"),
+        (Fun::Div, "1|3", "0.33"),
+        (Fun::Div, "2|3", "0.67"),
+        (Fun::Div, "-2|3", "-0.67"),
+        (Fun::Div, "1|0.200", "5.000"),
+        (
+            Fun::Div,
+            "9999999999999999999|0.000000000000001",
+            "**********",
+        ),
+        (
+            Fun::Div,
+            "0.000000000000001|9999999999999999999",
+            "0.000000000000000",
+        ),
+        (
+            Fun::Div,
+            "0.000000000000001|0.000000000000003",
+            "0.333333333333333",
+        ),
+        (Fun::Div, "1|0", "**********"),
+        (Fun::Div, "0|0.00", "**********"),
+        (Fun::Mod, "7|-3", "-2"),
+        (Fun::Mod, "-7|3", "2"),
+        (Fun::Mod, "-7|-3", "-1"),
+        (Fun::Mod, "6|-3", "0"),
+        (Fun::Mod, "7.5|2", "1.5"),
+        (Fun::Mod, "-0.000000000000001|100000", "**********"),
+    ]
+}
+
+fn of_numbers_more() -> [Call; 34] {
+    [
+        (Fun::Mod, "1|0", "**********"),
+        (Fun::Round, "-1250|-2", "-1300"),
+        (Fun::Round, "1.5|3", "1.500"),
+        (Fun::Round, "12.345|2", "12.35"),
+        (Fun::Round, "-0.5|0", "-1"),
+        (Fun::Round, "-0.4|0", "0"),
+        (Fun::Round, "10000|15", "**********"),
+        (Fun::Round, "5000000000000000000|-99", "5000000000000000000"),
+        (Fun::Round, "499999999999999999|-18", "0"),
+        (Fun::Round, "9500000000000000000|-19", "**********"),
+        (Fun::Round, "x|2", "**********"),
+        (Fun::Add, "1.50|2", "3.50"),
+        (Fun::Sub, "1|1.5", "-0.5"),
+        (Fun::Round, "2.5|?", "3"),
+        (Fun::Max, "1.0|1", "1.0"),
+        (Fun::Max, "1|?", "**********"),
+        (Fun::Min, "1|1.0", "1"),
+        (Fun::Min, "1|?", "1"),
+        (Fun::Neg, "1.50", "-1.50"),
+        (Fun::Neg, "0", "0"),
+        (Fun::Abs, "-0.5", "0.5"),
+        (Fun::Int, "-1.9", "-1"),
+        (Fun::Int, "?", "**********"),
+        (Fun::NumberEq, "1.0|1", ".T."),
+        (Fun::NumberEq, "?|?", ".T."),
+        (Fun::NumberLess, "-1|0.5", ".T."),
+        (Fun::NumberLess, "1|1.0", ".F."),
+        (Fun::NumberGreater, "?|9999999999999999999", ".T."),
+        (Fun::NumberGreater, "1|2", ".F."),
+        (Fun::Int, "-2.9", "-2"),
+        (Fun::Int, "-0.9", "0"),
+        (Fun::Abs, "-2.9", "2.9"),
+        (Fun::Neg, "2.90", "-2.90"),
+        (Fun::Neg, "0.0", "0.0"),
+    ]
+}
+
+fn of_numbers_further() -> [Call; 28] {
+    [
+        (Fun::Neg, "*", "**********"),
+        (Fun::NumberLess, "-1.5|-1.25", ".T."),
+        (Fun::NumberLess, "1|*", ".T."),
+        (Fun::NumberEq, "*|*", ".T."),
+        (Fun::Min, "1.0|1", "1.0"),
+        (Fun::Max, "1|2", "2"),
+        (Fun::Min, "2|1", "1"),
+        (Fun::Str, "123.456|5|2", "*****"),
+        (Fun::Str, "12.345|5|2", "12.35"),
+        (Fun::Str, "-1|5|2", "-1.00"),
+        (Fun::Str, "0.5|5|0", "    1"),
+        (Fun::Str, "-0.4|5|0", "    0"),
+        (Fun::Str, "*|5|0", "*****"),
+        (Fun::Str, "0.123|5|4", "*****"),
+        (Fun::Str, "123.456|6|1", " 123.5"),
+        (Fun::Str, "12345|3|0", "***"),
+        (Fun::Str, "1.5|10|0", "         2"),
+        (Fun::Str, "1|?|0", ""),
+        (Fun::Str, "1|-1|0", ""),
+        (Fun::Str, "?|4|2", "****"),
+        (Fun::Str, "10000|30|15", "******************************"),
+        (Fun::Space, "3", "   "),
+        (Fun::Space, "-3", ""),
+        (Fun::Space, "?", ""),
+        (Fun::Chr, "65", "A"),
+        (Fun::Chr, "256", ""),
+        (Fun::Chr, "-1", ""),
+        (Fun::Chr, "?", "\0"),
+    ]
+}
+
+#[test]
+fn calls_of_numbers(rt: HostRuntime) {
+    let off = Settings::off();
+    assert_eq!(rt; first_wrong(off, of_numbers().as_slice()), None);
+    assert_eq!(rt; first_wrong(off, of_numbers_more().as_slice()), None);
+    assert_eq!(rt; first_wrong(off, of_numbers_further().as_slice()), None);
+}
+
+fn of_texts() -> [Call; 34] {
+    [
+        (Fun::TextEq, "ABC|AB", ".T."),
+        (Fun::TextEq, "AB|ABC", ".F."),
+        (Fun::TextEq, "AB|", ".T."),
+        (Fun::TextEq, "AB |AB", ".T."),
+        (Fun::TextGreater, "ABC|AB", ".T."),
+        (Fun::TextGreater, "AB|AB  ", ".F."),
+        (Fun::TextLess, "AB|ABC", ".T."),
+        (Fun::TextLess, "AB  |AB", ".F."),
+        (Fun::TextLess, "AB\t|AB", ".T."),
+        (Fun::TextLess, "Z|a", ".T."),
+        (Fun::In, "|ABC", ".T."),
+        (Fun::In, "BC|ABC", ".T."),
+        (Fun::In, "AC|ABC", ".F."),
+        (Fun::In, "A|", ".F."),
+        (Fun::Join, "AB  |C", "AB  C"),
+        (Fun::JoinMoved, "AB  |C", "ABC  "),
+        (Fun::JoinMoved, "  | ", "   "),
+        (Fun::At, "C|ABCABC", "3"),
+        (Fun::At, "ABCD|ABC", "0"),
+        (Fun::At, "|ABC", "1"),
+        (Fun::At, "|", "1"),
+        (Fun::Trim, " A B  ", " A B"),
+        (Fun::Trim, "   ", ""),
+        (Fun::Ltrim, "  A B ", "A B "),
+        (Fun::Upper, "aZ1\u{e9}", "AZ1\u{e9}"),
+        (Fun::Lower, "aZ1[", "az1["),
+        (Fun::Len, "ABC", "3"),
+        (Fun::Len, "", "0"),
+        (Fun::Asc, "AB", "65"),
+        (Fun::Asc, "", "0"),
+        (Fun::IsAlpha, "z1", ".T."),
+        (Fun::IsAlpha, "1z", ".F."),
+        (Fun::IsAlpha, "", ".F."),
+        (Fun::IsUpper, "Zz", ".T."),
+    ]
+}
+
+fn of_texts_more() -> [Call; 34] {
+    [
+        (Fun::IsUpper, "zZ", ".F."),
+        (Fun::IsLower, "zZ", ".T."),
+        (Fun::IsLower, "", ".F."),
+        (Fun::Val, "12.5.3", "12.5"),
+        (Fun::Val, "-.5", "-0.5"),
+        (Fun::Val, "  7.x", "7"),
+        (Fun::Val, "-", "0"),
+        (Fun::Val, ".", "0"),
+        (Fun::Val, "- 1", "0"),
+        (Fun::Val, "x1", "0"),
+        (Fun::Val, "12345.000000000000000", "**********"),
+        (Fun::Val, "7.", "7"),
+        (Fun::Val, "-.", "0"),
+        (Fun::Val, "", "0"),
+        (Fun::Val, "abc", "0"),
+        (Fun::Val, "+3e5", "3"),
+        (Fun::Val, "0.1234567890123456", "0.123456789012346"),
+        (Fun::Substr, "ABC|0|2", ""),
+        (Fun::Substr, "ABC|1|2", "AB"),
+        (Fun::Substr, "ABC|2|254", "BC"),
+        (Fun::Substr, "ABC|4|1", ""),
+        (Fun::Substr, "ABC|2|-1", ""),
+        (Fun::Substr, "ABC|2.9|1", "B"),
+        (Fun::Left, "ABC|2", "AB"),
+        (Fun::Left, "ABC|9", "ABC"),
+        (Fun::Left, "ABC|-1", ""),
+        (Fun::Right, "ABC|2", "BC"),
+        (Fun::Right, "ABC|9", "ABC"),
+        (Fun::Right, "ABC|0", ""),
+        (Fun::Replicate, "AB|3", "ABABAB"),
+        (Fun::Replicate, "AB|0", ""),
+        (Fun::Replicate, "|9999999999999999999", ""),
+        (Fun::Stuff, "ABCDE|2|3|x", "AxE"),
+        (Fun::Stuff, "ABC|9|1|x", "ABCx"),
+    ]
+}
+
+fn of_texts_further() -> [Call; 3] {
+    [
+        (Fun::Stuff, "ABC|0|1|x", "xBC"),
+        (Fun::Stuff, "ABC|2|-1|xy", "AxyBC"),
+        (Fun::Stuff, "ABC|1|99|", ""),
+    ]
+}
+
+#[test]
+fn calls_of_texts(rt: HostRuntime) {
+    let off = Settings::off();
+    assert_eq!(rt; first_wrong(off, of_texts().as_slice()), None);
+    assert_eq!(rt; first_wrong(off, of_texts_more().as_slice()), None);
+    assert_eq!(rt; first_wrong(off, of_texts_further().as_slice()), None);
+}
+
+fn of_dates() -> [Call; 34] {
+    [
+        (Fun::DateAdd, "02/29/88|366", "03/01/89"),
+        (Fun::DateAdd, "12/31/9999|1", "  /  /  "),
+        (Fun::DateAdd, "12/31/9999|-0.9", "12/31/99"),
+        (Fun::DateAdd, "01/01/0001|-1", "  /  /  "),
+        (Fun::DateAdd, "01/01/0001|3652058", "12/31/99"),
+        (Fun::DateAdd, "01/01/0001|3652059", "  /  /  "),
+        (Fun::DateAdd, "01/01/85|9999999999999999999", "  /  /  "),
+        (Fun::DateAdd, "01/01/85|?", "  /  /  "),
+        (Fun::DateAdd, "|1", "  /  /  "),
+        (Fun::DateSub, "03/01/1900|1", "02/28/00"),
+        (Fun::DateSub, "03/01/2000|1.9", "02/29/00"),
+        (Fun::DateSub, "01/01/0001|1", "  /  /  "),
+        (Fun::DateSub, "01/01/85|?", "  /  /  "),
+        (Fun::DateEq, "01/02/85|1/2/1985", ".T."),
+        (Fun::DateEq, "01/02/85|01/02/86", ".F."),
+        (Fun::DateEq, "|", ".T."),
+        (Fun::DateEq, "|01/02/85", ".F."),
+        (Fun::DateLess, "|01/01/0001", ".T."),
+        (Fun::DateLess, "|", ".F."),
+        (Fun::DateLess, "12/31/84|01/01/85", ".T."),
+        (Fun::DateGreater, "01/01/85|", ".T."),
+        (Fun::DateGreater, "01/01/85|01/01/85", ".F."),
+        (Fun::DateDiff, "03/01/88|02/28/88", "2"),
+        (Fun::DateDiff, "01/01/85|12/31/85", "-364"),
+        (Fun::DateDiff, "|12/31/85", "**********"),
+        (Fun::DateDiff, "12/31/85|", "**********"),
+        (Fun::Day, "03/01/89", "1"),
+        (Fun::Month, "03/01/89", "3"),
+        (Fun::Year, "03/01/89", "1989"),
+        (Fun::Dow, "03/01/89", "4"),
+        (Fun::Dow, "03/05/89", "1"),
+        (Fun::Cdow, "03/01/89", "Wednesday"),
+        (Fun::Cdow, "01/01/0001", "Monday"),
+        (Fun::Cdow, "03/05/89", "Sunday"),
+    ]
+}
+
+fn of_dates_more() -> [Call; 34] {
+    [
+        (Fun::Cmonth, "09/30/89", "September"),
+        (Fun::Cmonth, "12/31/9999", "December"),
+        (Fun::Dtoc, "1/2/0007", "01/02/07"),
+        (Fun::Dtoc, "", "  /  /  "),
+        (Fun::Day, "", "0"),
+        (Fun::Month, "", "0"),
+        (Fun::Year, "", "0"),
+        (Fun::Dow, "", "0"),
+        (Fun::Cdow, "", ""),
+        (Fun::Cmonth, "", ""),
+        (Fun::Ctod, "02/29/88", "02/29/88"),
+        (Fun::Ctod, "  1/2/85 ", "01/02/85"),
+        (Fun::Year, "02/29/88", "1988"),
+        (Fun::Year, "12/31/00", "1900"),
+        (Fun::Month, "12/31/00", "12"),
+        (Fun::Day, "12/31/00", "31"),
+        (Fun::Year, "1/2/0007", "7"),
+        (Fun::Month, "1/2/0007", "1"),
+        (Fun::Day, "1/2/0007", "2"),
+        (Fun::Year, "12/31/9999", "9999"),
+        (Fun::Ctod, "02/29/89", "  /  /  "),
+        (Fun::Ctod, "02/29/1900", "  /  /  "),
+        (Fun::Ctod, "13/01/85", "  /  /  "),
+        (Fun::Ctod, "00/01/85", "  /  /  "),
+        (Fun::Ctod, "01/32/85", "  /  /  "),
+        (Fun::Ctod, "01/01/003", "  /  /  "),
+        (Fun::Ctod, "01/01/0000", "  /  /  "),
+        (Fun::Ctod, "01/01", "  /  /  "),
+        (Fun::Ctod, "01/01/85/", "  /  /  "),
+        (Fun::Ctod, "1 /2/85", "  /  /  "),
+        (Fun::Ctod, "001/2/85", "  /  /  "),
+        (Fun::Ctod, "/2/85", "  /  /  "),
+        (Fun::Ctod, "  /  /  ", "  /  /  "),
+        (Fun::Ctod, "", "  /  /  "),
+    ]
+}
+
+fn of_dates_further() -> [Call; 2] {
+    [
+        (Fun::Ctod, "01-02-85", "  /  /  "),
+        (Fun::Ctod, "+1/2/85", "  /  /  "),
+    ]
+}
+
+#[test]
+fn calls_of_dates(rt: HostRuntime) {
+    let off = Settings::off();
+    assert_eq!(rt; first_wrong(off, of_dates().as_slice()), None);
+    assert_eq!(rt; first_wrong(off, of_dates_more().as_slice()), None);
+    assert_eq!(rt; first_wrong(off, of_dates_further().as_slice()), None);
+}
+
+fn of_truth_values() -> [Call; 18] {
+    [
+        (Fun::IifNumber, "T|1|2", "1"),
+        (Fun::IifText, "T|A|B", "A"),
+        (Fun::IifDate, "T|01/02/85|03/04/86", "01/02/85"),
+        (Fun::IifLogical, "T|F|T", ".F."),
+        (Fun::IifNumber, "F|1|2", "2"),
+        (Fun::IifText, "F|A|B", "B"),
+        (Fun::IifDate, "F|01/02/85|03/04/86", "03/04/86"),
+        (Fun::IifLogical, "F|F|T", ".T."),
+        (Fun::Not, "T", ".F."),
+        (Fun::And, "T|T", ".T."),
+        (Fun::Or, "T|T", ".T."),
+        (Fun::And, "T|F", ".F."),
+        (Fun::Or, "T|F", ".T."),
+        (Fun::Not, "F", ".T."),
+        (Fun::And, "F|T", ".F."),
+        (Fun::Or, "F|T", ".T."),
+        (Fun::And, "F|F", ".F."),
+        (Fun::Or, "F|F", ".F."),
+    ]
+}
+
+#[test]
+fn calls_of_truth_values(rt: HostRuntime) {
+    let off = Settings::off();
+    assert_eq!(rt; first_wrong(off, of_truth_values().as_slice()), None);
+}
+
+fn with_exact_on() -> [Call; 6] {
+    [
+        (Fun::TextEq, "AB |AB", ".T."),
+        (Fun::TextEq, "ABC|AB", ".F."),
+        (Fun::TextEq, "AB|", ".F."),
+        (Fun::TextEq, " AB|AB", ".F."),
+        (Fun::TextGreater, "ABC|AB", ".T."),
+        (Fun::TextLess, "AB|ABC", ".T."),
+    ]
+}
+
+#[test]
+fn compares_texts_exactly(rt: HostRuntime) {
+    let exact = Settings::off().with(Setting::Exact, true);
+    assert_eq!(rt; first_wrong(exact, with_exact_on().as_slice()), None);
+    assert!(rt; eq_text(b"AB  ", b"AB", true));
+    assert!(rt; less_text(b"AB", b"AC"));
+}
+
+/// Whether a result is as long as texts may be, and ends so.
+fn is_cut_after(fun: Fun, values: &[Value], end: &str) -> bool {
+    let result = result_of_values(Settings::off(), fun, values);
+    result.len() == 254 && result.as_slice().ends_with(end.as_bytes())
+}
+
+fn repeated(spelled: &str) -> Value {
+    Value::Text(result_of(Settings::off(), Fun::Replicate, spelled))
+}
+
+fn number(spelled: &str) -> Value {
+    value_of(Kind::Number, spelled)
+}
+
+fn text(spelled: &str) -> Value {
+    value_of(Kind::Text, spelled)
+}
+
+#[test]
+fn cuts_texts(rt: HostRuntime) {
+    let moved = [repeated("A|250"), text("    ")];
+    let moved = Value::Text(result_of_values(Settings::off(), Fun::Join, &moved));
+    assert!(rt; is_cut_after(Fun::Replicate, &[text("ABC"), number("100")], "BCAB"));
+    assert!(rt; is_cut_after(Fun::Space, &[number("9999999999999999999")], "  "));
+    assert!(rt; is_cut_after(Fun::Join, &[repeated("ABC|100"), text("Z")], "BCAB"));
+    assert!(rt; is_cut_after(Fun::JoinMoved, &[moved, text("BCDEF")], "ABCDE"));
+    assert!(rt; is_cut_after(Fun::Str, &[number("7"), number("300"), number("0")], " 7"));
+}
+
+#[test]
+fn cuts_what_is_put_into_texts(rt: HostRuntime) {
+    let values = [repeated("ABC|100"), number("254"), number("0"), text("XYZ")];
+    assert!(rt; is_cut_after(Fun::Stuff, &values, "BCAX"));
+    let byte = result_of(Settings::off(), Fun::Chr, "255.9");
+    assert_eq!(rt; byte.as_slice().first().copied(), Some(255));
+}
+
+#[test]
+fn knows_its_functions(rt: HostRuntime) {
+    assert!(rt; Fun::numbered(0) == None);
+    assert!(rt; Fun::numbered(4) == Some(Fun::Div));
+    assert!(rt; Fun::numbered(60) == Some(Fun::Cmonth));
+    assert!(rt; Fun::numbered(61) == None);
+    assert_eq!(rt; Fun::Stuff.number(), 39);
+    let (takes, gives) = signature(Fun::Stuff);
+    assert!(rt; takes == [Kind::Text, Kind::Number, Kind::Number, Kind::Text].as_slice());
+    assert!(rt; gives == Kind::Text);
+}
