@@ -1,4 +1,4 @@
-use crate::{Fault, Refusal, expr, expression, is_word, name_of, words};
+use crate::{FaultKind, FormFault, expr, expression, is_word, name_of, words};
 use std::alloc::{AllocError, Global};
 use std::process::Abort;
 use std::test::Fail;
@@ -10,9 +10,9 @@ fn shown(alloc: Global, text: &[u8]) -> Result<String, Fail> {
 }
 
 /// The fault of a text.
-fn fault_of(alloc: Global, text: &[u8]) -> Option<Fault> {
+fn fault_of(alloc: Global, text: &[u8]) -> Option<FaultKind> {
     match expr(alloc, text) {
-        Err(Refusal::Fault(fault)) => Some(fault),
+        Err(FormFault::Kind(fault)) => Some(fault),
         _ => None,
     }
 }
@@ -204,7 +204,7 @@ fn functions_of_days_and_records(rt: HostRuntime) -> Result<(), Fail> {
     expect_calls(&rt, rt.alloc(), &pairs)
 }
 
-fn expect_faults(rt: &impl Abort, alloc: Global, pairs: &[(&[u8], Fault)]) {
+fn expect_faults(rt: &impl Abort, alloc: Global, pairs: &[(&[u8], FaultKind)]) {
     for pair in pairs {
         assert!(rt; fault_of(alloc, pair.0) == Some(pair.1), "{:?}", pair.0);
     }
@@ -212,19 +212,19 @@ fn expect_faults(rt: &impl Abort, alloc: Global, pairs: &[(&[u8], Fault)]) {
 
 #[test]
 fn faults_of_words(rt: HostRuntime) -> Result<(), Fail> {
-    let pairs: [(&[u8], Fault); 12] = [
-        (b"A % B", Fault::Character),
-        (b"A ] B", Fault::Character),
-        (b"{1}", Fault::Character),
-        (b"A;B", Fault::Character),
-        (b"A\x80", Fault::Character),
-        (b"12345678901234567890 !", Fault::Character),
-        (b"'AB", Fault::Text),
-        (b"[AB'", Fault::Text),
-        (b"'AB\"", Fault::Text),
-        (b"12345678901234567890", Fault::Number),
-        (b"0.1234567890123456", Fault::Number),
-        (b"1 2 12345678901234567890", Fault::Number),
+    let pairs: [(&[u8], FaultKind); 12] = [
+        (b"A % B", FaultKind::Character),
+        (b"A ] B", FaultKind::Character),
+        (b"{1}", FaultKind::Character),
+        (b"A;B", FaultKind::Character),
+        (b"A\x80", FaultKind::Character),
+        (b"12345678901234567890 !", FaultKind::Character),
+        (b"'AB", FaultKind::Text),
+        (b"[AB'", FaultKind::Text),
+        (b"'AB\"", FaultKind::Text),
+        (b"12345678901234567890", FaultKind::Number),
+        (b"0.1234567890123456", FaultKind::Number),
+        (b"1 2 12345678901234567890", FaultKind::Number),
     ];
     expect_faults(&rt, rt.alloc(), &pairs);
     assert!(rt; expr(rt.alloc(), b"1234567890123456789").is_ok());
@@ -234,34 +234,34 @@ fn faults_of_words(rt: HostRuntime) -> Result<(), Fail> {
 
 #[test]
 fn faults_of_forms(rt: HostRuntime) -> Result<(), Fail> {
-    let pairs: [(&[u8], Fault); 27] = [
-        (b"", Fault::Expression),
-        (b"X = = 3", Fault::Expression),
-        (b"1.", Fault::Expression),
-        (b".X.", Fault::Expression),
-        (b"A = B = C", Fault::Expression),
-        (b"A = .NOT. B", Fault::Expression),
-        (b"A < = B", Fault::Expression),
-        (b"A - > B", Fault::Expression),
-        (b". AND . B", Fault::Expression),
-        (b"FOO(1)", Fault::Expression),
-        (b"SQRT(2)", Fault::Expression),
-        (b"LEN()", Fault::Expression),
-        (b"LEN(1,2)", Fault::Expression),
-        (b"SUBSTR('A')", Fault::Expression),
-        (b"SUB('A',1)", Fault::Expression),
-        (b"ROU(1,2)", Fault::Expression),
-        (b"EOF(1)", Fault::Expression),
-        (b"MAX(1,)", Fault::Expression),
-        (b"MAX(,1)", Fault::Expression),
-        (b"1 2", Fault::Expression),
-        (b"(1", Fault::Expression),
-        (b"1)", Fault::Expression),
-        (b"A->1", Fault::Expression),
-        (b"'A'->B", Fault::Expression),
-        (b"? X", Fault::Expression),
-        (b"X1234567890 = = 1", Fault::Expression),
-        (b"(1 2 &X", Fault::Expression),
+    let pairs: [(&[u8], FaultKind); 27] = [
+        (b"", FaultKind::Expression),
+        (b"X = = 3", FaultKind::Expression),
+        (b"1.", FaultKind::Expression),
+        (b".X.", FaultKind::Expression),
+        (b"A = B = C", FaultKind::Expression),
+        (b"A = .NOT. B", FaultKind::Expression),
+        (b"A < = B", FaultKind::Expression),
+        (b"A - > B", FaultKind::Expression),
+        (b". AND . B", FaultKind::Expression),
+        (b"FOO(1)", FaultKind::Expression),
+        (b"SQRT(2)", FaultKind::Expression),
+        (b"LEN()", FaultKind::Expression),
+        (b"LEN(1,2)", FaultKind::Expression),
+        (b"SUBSTR('A')", FaultKind::Expression),
+        (b"SUB('A',1)", FaultKind::Expression),
+        (b"ROU(1,2)", FaultKind::Expression),
+        (b"EOF(1)", FaultKind::Expression),
+        (b"MAX(1,)", FaultKind::Expression),
+        (b"MAX(,1)", FaultKind::Expression),
+        (b"1 2", FaultKind::Expression),
+        (b"(1", FaultKind::Expression),
+        (b"1)", FaultKind::Expression),
+        (b"A->1", FaultKind::Expression),
+        (b"'A'->B", FaultKind::Expression),
+        (b"? X", FaultKind::Expression),
+        (b"X1234567890 = = 1", FaultKind::Expression),
+        (b"(1 2 &X", FaultKind::Expression),
     ];
     expect_faults(&rt, rt.alloc(), &pairs);
     Ok(())
@@ -269,12 +269,12 @@ fn faults_of_forms(rt: HostRuntime) -> Result<(), Fail> {
 
 #[test]
 fn long_names_and_macros(rt: HostRuntime) -> Result<(), Fail> {
-    let pairs: [(&[u8], Fault); 5] = [
-        (b"X1234567890", Fault::TooLong),
-        (b"X1234567890 + &Y", Fault::TooLong),
-        (b"&X", Fault::Macro),
-        (b"A + &X +", Fault::Macro),
-        (b"X &Y", Fault::Macro),
+    let pairs: [(&[u8], FaultKind); 5] = [
+        (b"X1234567890", FaultKind::TooLong),
+        (b"X1234567890 + &Y", FaultKind::TooLong),
+        (b"&X", FaultKind::Macro),
+        (b"A + &X +", FaultKind::Macro),
+        (b"X &Y", FaultKind::Macro),
     ];
     expect_faults(&rt, rt.alloc(), &pairs);
     assert!(rt; expr(rt.alloc(), b"X123456789").is_ok());
@@ -288,30 +288,30 @@ fn limits(rt: HostRuntime) -> Result<(), Fail> {
     let deepest = nested(alloc, 32, b"(", b"1", b")")?;
     assert!(rt; expr(alloc, deepest.as_slice()).is_ok());
     let deeper = nested(alloc, 33, b"(", b"1", b")")?;
-    assert!(rt; fault_of(alloc, deeper.as_slice()) == Some(Fault::TooDeep));
+    assert!(rt; fault_of(alloc, deeper.as_slice()) == Some(FaultKind::TooDeep));
     let deepest = nested(alloc, 32, b"ABS(", b"1", b")")?;
     assert!(rt; expr(alloc, deepest.as_slice()).is_ok());
     let deeper = nested(alloc, 33, b"ABS(", b"1", b")")?;
-    assert!(rt; fault_of(alloc, deeper.as_slice()) == Some(Fault::TooDeep));
+    assert!(rt; fault_of(alloc, deeper.as_slice()) == Some(FaultKind::TooDeep));
     let deepest = nested(alloc, 31, b"(", b"EOF()", b")")?;
     assert!(rt; expr(alloc, deepest.as_slice()).is_ok());
     let deeper = nested(alloc, 32, b"(", b"EOF()", b")")?;
-    assert!(rt; fault_of(alloc, deeper.as_slice()) == Some(Fault::TooDeep));
+    assert!(rt; fault_of(alloc, deeper.as_slice()) == Some(FaultKind::TooDeep));
     let longest = nested(alloc, 127, b"a ", b"", b"")?;
     let text = nested(alloc, 1, b"'", longest.as_slice(), b"'")?;
     assert!(rt; expr(alloc, text.as_slice()).is_ok());
     let text = nested(alloc, 1, b"[a", longest.as_slice(), b"]")?;
-    assert!(rt; fault_of(alloc, text.as_slice()) == Some(Fault::TooLong));
+    assert!(rt; fault_of(alloc, text.as_slice()) == Some(FaultKind::TooLong));
     let line = nested(alloc, 1023, b" ", b"1", b"")?;
     assert!(rt; expr(alloc, line.as_slice()).is_ok());
     let line = nested(alloc, 1024, b" ", b"1", b"")?;
-    assert!(rt; fault_of(alloc, line.as_slice()) == Some(Fault::TooLong));
+    assert!(rt; fault_of(alloc, line.as_slice()) == Some(FaultKind::TooLong));
     let line = nested(alloc, 1024, b" ", b"1 2", b"")?;
-    assert!(rt; fault_of(alloc, line.as_slice()) == Some(Fault::Expression));
+    assert!(rt; fault_of(alloc, line.as_slice()) == Some(FaultKind::Expression));
     let line = nested(alloc, 4096, b" ", b"1 2", b"")?;
-    assert!(rt; fault_of(alloc, line.as_slice()) == Some(Fault::TooLong));
+    assert!(rt; fault_of(alloc, line.as_slice()) == Some(FaultKind::TooLong));
     let line = nested(alloc, 4096, b" ", b"!", b"")?;
-    assert!(rt; fault_of(alloc, line.as_slice()) == Some(Fault::Character));
+    assert!(rt; fault_of(alloc, line.as_slice()) == Some(FaultKind::Character));
     Ok(())
 }
 
@@ -322,7 +322,7 @@ fn judges_every_byte(rt: HostRuntime) -> Result<(), Fail> {
     for b in 0..=255u8 {
         let known = b.is_ascii_alphanumeric() || begins.contains(&b);
         assert!(rt;
-            (fault_of(alloc, &[b]) == Some(Fault::Character)) != known,
+            (fault_of(alloc, &[b]) == Some(FaultKind::Character)) != known,
             "{b}"
         );
     }
