@@ -123,6 +123,28 @@ ignores_rest verb.EndDo = true
 ignores_rest verb.EndScan = true
 ignores_rest _ = false
 
+-- whether the command has expressions among its words
+abbrev pub has_expressions : Verb → Bool
+has_expressions verb.Show = true
+has_expressions verb.ShowOn = true
+has_expressions verb.At = true
+has_expressions verb.Accept = true
+has_expressions verb.Wait = true
+has_expressions verb.Assign = true
+has_expressions verb.Store = true
+has_expressions verb.If = true
+has_expressions verb.Case = true
+has_expressions verb.DoWhile = true
+has_expressions verb.Scan = true
+has_expressions verb.Do = true
+has_expressions verb.Set = true
+has_expressions verb.Go = true
+has_expressions verb.Skip = true
+has_expressions verb.Seek = true
+has_expressions verb.Replace = true
+has_expressions verb.Index = true
+has_expressions _ = false
+
 -- what the line is to the blocks around it
 abbrev pub role_of : Verb → Role
 role_of verb.If = role.If

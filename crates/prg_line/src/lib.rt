@@ -1,7 +1,6 @@
 //! The lines of a command file, each by itself: which command its words begin, what it says, and which fault it has.
 #![tactic(auto)]
 
-mod fault;
 mod forms;
 mod reader;
 mod reading;
@@ -11,7 +10,7 @@ mod statement;
 mod tests;
 mod verb;
 
-pub use crate::fault::{FaultKind, least};
 pub use crate::reading::{ReadLine, lines_are_read, one_saying, read_line};
 pub use crate::role::Role;
 pub use crate::statement::{Move, Replacement, Selected, Sentence, Setting, Statement};
+pub use prg_expr::{FaultKind, least};

@@ -454,6 +454,33 @@ impl Verb {
         )
     }
 
+    /// Whether the command has expressions among its words.
+    pub fn has_expressions(self) -> bool
+        ensures { result ≡ spec.has_expressions self }
+    {
+        matches!(
+            self,
+            Verb::Show
+                | Verb::ShowOn
+                | Verb::At
+                | Verb::Accept
+                | Verb::Wait
+                | Verb::Assign
+                | Verb::Store
+                | Verb::If
+                | Verb::Case
+                | Verb::DoWhile
+                | Verb::Scan
+                | Verb::Do
+                | Verb::Set
+                | Verb::Go
+                | Verb::Skip
+                | Verb::Seek
+                | Verb::Replace
+                | Verb::Index
+        )
+    }
+
     /// What the line is to the blocks around it.
     pub fn role(self) -> Role
         ensures { result ≡ spec.role_of self }
