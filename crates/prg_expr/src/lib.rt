@@ -7,8 +7,6 @@ mod lexer;
 mod names;
 mod parser;
 mod reading;
-#[cfg(test)]
-mod tests;
 mod token;
 mod tree;
 

@@ -6,8 +6,6 @@ mod reader;
 mod reading;
 mod role;
 mod statement;
-#[cfg(test)]
-mod tests;
 mod verb;
 
 pub use crate::reading::{ReadLine, lines_are_read, one_saying, read_line};

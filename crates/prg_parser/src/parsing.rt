@@ -1,20 +1,21 @@
 //! From the bytes of a command file to its tree.
 
 ghost use Rattle.std.specs.Prelude.{◌≡◌, List, length, map, IfOk, IfErr, None, []};
+ghost use Rattle.prg_expr.specs.Faults.{OnFault, Tells};
 ghost use Rattle.prg_line.specs.OneLine.{saying_at};
 ghost use Rattle.prg_line.specs.Saying.{Saying, role_of, saying_of};
-ghost use Rattle.prg_parser.specs.Files.{IsProgramOf, Fits, OnFault};
+ghost use Rattle.prg_parser.specs.Files.{IsProgramOf, Fits};
 ghost use Rattle.prg_parser.specs.Joined.{joined_of};
 ghost use Rattle.prg_parser.specs.Layout.{program_lines, said_lines};
 ghost use Rattle.prg_parser.specs.Lines.{lines as line_list, before_end};
 ghost use Rattle.prg_parser.specs.Marks as spec;
-ghost use Rattle.prg_parser.specs.Verdict.{NamesLine, Tells, verdict};
+ghost use Rattle.prg_parser.specs.Verdict.{NamesLine, verdict};
 
 use crate::builder::Builder;
-use crate::fault::Refusal;
 use crate::judging::{Mark, judge};
 use crate::lines::{JoinedLine, joined_lines};
 use crate::program::Program;
+use prg_expr::Refusal;
 use prg_line::{ReadLine, Sentence, lines_are_read, read_line};
 use std::alloc::{AllocError, Global};
 
