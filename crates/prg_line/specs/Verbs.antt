@@ -1,5 +1,5 @@
 -- Which command the words of a line begin.
-use Rattle.std.specs.Prelude.{ℕ, List, [], ◌∷◌, Bool, true, false, ◌||◌, codes, Option, Some, None, if◌then◌else◌}
+use Rattle.std.specs.Prelude.{ℕ, List, [], ◌∷◌, ◌++◌, Bool, true, false, ◌||◌, codes, Option, Some, None, if◌then◌else◌}
 use Rattle.prg_expr.specs.Functions.{is_cut}
 use Rattle.prg_expr.specs.Word.{Word}
 use Rattle.prg_expr.specs.Word as word
@@ -44,6 +44,10 @@ abbrev pub of_changes : List Entry
 of_changes =
     (codes "REPLACE", verb.Replace) ∷ (codes "DELETE", verb.Delete) ∷ (codes "RECALL", verb.Recall) ∷ (codes "PACK", verb.Pack)
     ∷ (codes "ZAP", verb.Zap) ∷ (codes "REINDEX", verb.Reindex) ∷ (codes "INDEX", verb.Index) ∷ []
+
+-- all words that begin commands
+abbrev pub all_commands : List Entry
+all_commands = of_screen ++ (of_variables ++ (of_branches ++ (of_loops ++ (of_calls ++ (of_areas ++ (of_moves ++ of_changes))))))
 
 abbrev pub or_else : Option Verb → Option Verb → Option Verb
 or_else None other = other
