@@ -10,7 +10,7 @@ mod parsing;
 mod program;
 
 pub use crate::command::{Branch, Case, Command, Form};
-pub use crate::parsing::parse;
+pub use crate::parsing::{one_program, parse};
 pub use crate::program::{Procedure, Program};
 pub use prg_expr::{
     Expr, FaultKind, Function, Name, Operator, ParseFault, Prefix, Refusal, Text, expr,
