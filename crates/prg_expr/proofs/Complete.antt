@@ -1,7 +1,7 @@
 -- What the grammar has, reading finds.
 use Rattle.std.proofs.Common.{◌≡◌, ◌≢◌, ℕ, zero, suc, ◌<◌, ◌⊎◌, inl, inr, List, [], ◌∷◌, ◌++◌, length, take, true, Some, Ok, Err, refl, sym, ap, ◌∙◌, subst, arith, append_assoc, length-append}
 use Rattle.std.proofs.lemmas.List.{append-nil}
-use Rattle.prg_expr.specs.declared.fault.Fault.{Fault}
+use Rattle.prg_expr.specs.declared.fault.FaultKind.{FaultKind}
 use Rattle.prg_expr.specs.declared.function.Function.{Function}
 use Rattle.prg_expr.specs.declared.tree.Operator.{Operator}
 use Rattle.prg_expr.specs.declared.tree.Prefix.{Prefix}
@@ -15,7 +15,7 @@ use Rattle.prg_expr.specs.Reading.{Read, Reader, turns, chain, comparison, prefi
 use Rattle.prg_expr.proofs.Grammar.{free_less, no_operator, an_operator, Plain, plain_append, prefixes_plain, plain, some_at, prefix_levels, never_one, never_five, Unclosed, unclosed_append, unclosed_all, called_unclosed, named_free}
 use Rattle.prg_expr.proofs.Sound.{Shorter, shorter, operator_tells, reader_sound, stage_chain}
 
-result_tells : (r : Read) → ((x : Tree × List Word) × (r ≡ Ok x)) ⊎ ((f : Fault) × (r ≡ Err f))
+result_tells : (r : Read) → ((x : Tree × List Word) × (r ≡ Ok x)) ⊎ ((f : FaultKind) × (r ≡ Err f))
 result_tells (Ok x) = inl (x, refl)
 result_tells (Err f) = inr (f, refl)
 
@@ -111,7 +111,7 @@ compares_at : (d : ℕ) (o : Operator) (a b : Tree) (aw bw rest : List Word) →
     → level_at d 4 ((aw ++ word.Sign o ∷ bw) ++ rest) ≡ Ok (tree.Binary o a b, rest)
 compares_at d o a b aw bw rest level left right = ap (λ (r : Reader). r ((aw ++ word.Sign o ∷ bw) ++ rest)) (fourth d) ∙ compares (level_at d 3) o a b aw bw rest level left right
 
-pub closes : (d : ℕ) (e : Tree) (ws rest : List Word) → level_at d 7 (ws ++ (word.Close ∷ rest)) ≡ Ok (e, word.Close ∷ rest) → level_at (suc d) 0 ((word.Open ∷ (ws ++ word.Close ∷ [])) ++ rest) ≡ Ok (e, rest)
+pub closes : (d : ℕ) (e : Tree) (ws rest : List Word) → level_at d 7 (ws ++ (word.Close ∷ rest)) ≡ Ok (e, word.Close ∷ rest) → level_at (suc d) 0 ((word.Open ∷ (ws ++ word.Close ∷ [])) ++ rest) ≡ Ok (tree.Parentheses e, rest)
 unfolding reader operand inside close
 closes d e ws rest h = ap (λ ws. operand (suc d) (inside (suc d)) (word.Open ∷ ws)) (append_assoc ws (word.Close ∷ []) rest) ∙ rw h refl
 

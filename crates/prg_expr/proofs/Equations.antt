@@ -10,7 +10,7 @@ use Rattle.prg_expr.specs.declared.function.Function.{Function}
 use Rattle.prg_expr.specs.declared.tree.Operator.{Operator}
 use Rattle.prg_expr.specs.declared.tree.Prefix.{Prefix}
 use Rattle.prg_expr.specs.declared.tree.Expr.{Expr, Expr-F, fold-roll-Expr}
-use Rattle.prg_expr.specs.declared.tree.Expr.TheVariants.{Number, Text, Logical, Name, Qualified, Call, Prefixed, Binary, rolls-Number, rolls-Text, rolls-Logical, rolls-Name, rolls-Qualified, rolls-Call, rolls-Prefixed, rolls-Binary}
+use Rattle.prg_expr.specs.declared.tree.Expr.TheVariants.{Number, Text, Logical, Name, Qualified, Call, Parentheses, Prefixed, Binary, rolls-Number, rolls-Text, rolls-Logical, rolls-Name, rolls-Qualified, rolls-Call, rolls-Parentheses, rolls-Prefixed, rolls-Binary}
 
 pub tree_logical : (b : Bool) → tree_of (Logical b) ≡ tree.Logical b
 tree_logical b = ap tree_of (sym (rolls-Logical b)) ∙ fold-roll-Expr Tree node_tree (Expr-F.Logical b)
@@ -20,6 +20,9 @@ tree_number n = ap tree_of (sym (rolls-Number n)) ∙ fold-roll-Expr Tree node_t
 
 pub tree_call : (f : Function) (es : Vec Expr Global) → tree_of (Call f es) ≡ tree.Call f (trees_of es.items)
 tree_call f es = ap tree_of (sym (rolls-Call f es)) ∙ fold-roll-Expr Tree node_tree (Expr-F.Call f es)
+
+pub tree_parentheses : (b : Box Expr Global) → tree_of (Parentheses b) ≡ tree.Parentheses (tree_of b.value)
+tree_parentheses b = ap tree_of (sym (rolls-Parentheses b)) ∙ fold-roll-Expr Tree node_tree (Expr-F.Parentheses b)
 
 pub tree_prefixed : (p : Prefix) (b : Box Expr Global) → tree_of (Prefixed p b) ≡ tree.Prefixed p (tree_of b.value)
 tree_prefixed p b = ap tree_of (sym (rolls-Prefixed p b)) ∙ fold-roll-Expr Tree node_tree (Expr-F.Prefixed p b)
@@ -40,7 +43,7 @@ pub count_trees : (es : List Expr) → count (trees_of es) ≡ length es
 count_trees [] = refl
 count_trees (e ∷ es) = ap suc (count_trees es)
 
-pub ruleset tree_equations = (tree_logical, tree_number, tree_text, tree_name, tree_qualified, tree_call, tree_prefixed, tree_binary)
+pub ruleset tree_equations = (tree_logical, tree_number, tree_text, tree_name, tree_qualified, tree_call, tree_parentheses, tree_prefixed, tree_binary)
 
 pub capitals_cut : (n : ℕ) (s : List ℕ) → take n (map to_ascii_uppercase s) ≡ map to_ascii_uppercase (take n s)
 capitals_cut n s = take-map to_ascii_uppercase n s

@@ -1,7 +1,7 @@
 -- Arguments, as a loop reads them.
 use Rattle.std.proofs.Common.{◌≡◌, ℕ, zero, suc, ◌<◌, List, [], ◌∷◌, ◌++◌, length, Bool, true, false, Ok, Err, refl, sym, ap, ◌∙◌, arith}
-use Rattle.prg_expr.specs.declared.fault.Refusal.{Refusal}
-use Rattle.prg_expr.specs.declared.fault.Refusal.TheVariants as refusal
+use Rattle.prg_expr.specs.declared.fault.FormFault.{FormFault}
+use Rattle.prg_expr.specs.declared.fault.FormFault.TheVariants as form_fault
 use Rattle.prg_expr.specs.declared.tree.Expr.{Expr}
 use Rattle.prg_expr.specs.Tree.{Tree, Trees, None, More, tree_of, trees_of}
 use Rattle.prg_expr.specs.Word.{Word}
@@ -51,24 +51,24 @@ module _ (r : Reader) (total : Listing) (found : Trees) (rest : List Word) where
   steps e after others false so h g lt = let s = step_at so.0 e after others false so.1 h g in
       sym so.2 ∙ ap (with_front found) s.2
 
-  fails_as : (a b : Listing) (f : Refusal) → a ≡ b → Fails f a → Fails f b
-  fails_as a b refusal.Memory p h = tt
-  fails_as a b (refusal.Fault f) p h = sym p ∙ h
+  fails_as : (a b : Listing) (f : FormFault) → a ≡ b → Fails f a → Fails f b
+  fails_as a b form_fault.Memory p h = tt
+  fails_as a b (form_fault.Kind f) p h = sym p ∙ h
 
-  fails_at : (n : ℕ) (f : Refusal) → length rest < n → Fails f (r rest) → Fails f (with_front found (arguments n r rest))
+  fails_at : (n : ℕ) (f : FormFault) → length rest < n → Fails f (r rest) → Fails f (with_front found (arguments n r rest))
   unfolding arguments
   fails_at zero f lt h = absurd (omega arith)
-  fails_at (suc m) refusal.Memory lt h = tt
-  fails_at (suc m) (refusal.Fault f) lt h = rw h refl
+  fails_at (suc m) form_fault.Memory lt h = tt
+  fails_at (suc m) (form_fault.Kind f) lt h = rw h refl
 
-  pub fails : (f : Refusal) → SoFar r total true found rest → Fails f (r rest) → Fails f total
+  pub fails : (f : FormFault) → SoFar r total true found rest → Fails f (r rest) → Fails f total
   fails f so h = fails_as _ _ f so.2 (fails_at so.0 f so.1 h)
 
-  unparted_at : (n : ℕ) (f : Refusal) (e : Tree) (after : List Word) → length rest < n → r rest ≡ Ok (e, after) → Fails f (separator after) → Fails f (with_front found (arguments n r rest))
+  unparted_at : (n : ℕ) (f : FormFault) (e : Tree) (after : List Word) → length rest < n → r rest ≡ Ok (e, after) → Fails f (separator after) → Fails f (with_front found (arguments n r rest))
   unfolding arguments
   unparted_at zero f e after lt h g = absurd (omega arith)
-  unparted_at (suc m) refusal.Memory e after lt h g = tt
-  unparted_at (suc m) (refusal.Fault f) e after lt h g = rw (h, g) refl
+  unparted_at (suc m) form_fault.Memory e after lt h g = tt
+  unparted_at (suc m) (form_fault.Kind f) e after lt h g = rw (h, g) refl
 
-  pub unparted : (f : Refusal) (e : Tree) (after : List Word) → SoFar r total true found rest → r rest ≡ Ok (e, after) → Fails f (separator after) → Fails f total
+  pub unparted : (f : FormFault) (e : Tree) (after : List Word) → SoFar r total true found rest → r rest ≡ Ok (e, after) → Fails f (separator after) → Fails f total
   unparted f e after so h g = fails_as _ _ f so.2 (unparted_at so.0 f e after so.1 h g)

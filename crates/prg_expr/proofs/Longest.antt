@@ -1,7 +1,7 @@
 -- Reading goes as far as an expression can.
 use Rattle.std.proofs.Common.{◌≡◌, ℕ, zero, suc, ◌≤◌, inl, inr, List, ◌∷◌, ◌++◌, length, take, Some, Result, Ok, Err, refl, sym, ap, ◌∙◌, subst, arith, append_assoc, length-append}
 use Rattle.std.specs.Prelude.{IfOk}
-use Rattle.prg_expr.specs.declared.fault.Refusal.{Refusal}
+use Rattle.prg_expr.specs.declared.fault.FormFault.{FormFault}
 use Rattle.prg_expr.specs.declared.tree.Operator.{Operator}
 use Rattle.prg_expr.specs.declared.tree.Prefix.{Prefix}
 use Rattle.prg_expr.specs.Tree.{Tree}
@@ -151,7 +151,7 @@ goes (qualified {d} {a} {s}) tail = exactly _ (tree.Qualified (take 10 a) (take 
 goes (called_bare {d} {s} {f = g} i t) tail = exactly _ (tree.Call g tree.None) tail (named_at (suc d) s _ ∙ bare_calls d s g tail i t)
 goes (called {d} {s} {f = g} {es} {ws} i t a) tail =
     exactly _ (tree.Call g es) tail (named_at (suc d) s _ ∙ calls d s g es ws tail i t (unclosed_all a) (lists a tail _ (omega (arith, length-append ws (word.Close ∷ tail)))))
-goes (parentheses {d} {e} {ws} s) tail = exactly _ e tail (closes d e ws tail (complete s (word.Close ∷ tail) tt))
+goes (parentheses {d} {e} {ws} s) tail = exactly _ (tree.Parentheses e) tail (closes d e ws tail (complete s (word.Close ∷ tail) tt))
 goes (looser {d} {l} {e} {ws} s) tail = climbs d l ws tail (plain_append l ws tail (plain s)) (goes s tail)
 goes (grouped {d} {l} {o} {a} {b} {aw} {bw} p ne s r) tail =
     as_read _ _ tail (reader_chain d l (not_one o (suc l) p) ne (not_five o (suc l) p) ((aw ++ word.Sign o ∷ bw) ++ tail)) (one_more (level_at d l) (suc l) o a aw bw tail p (reader_shorter d l)
@@ -163,6 +163,6 @@ goes (prefixed {d} {l} {w} {p} {e} {ws} i v s) tail = on_level d l w p (ws ++ ta
 none_longer : (ws : List Word) (x : Tree × List Word) → level_at max_depth 7 ws ≡ Ok x → NoneLonger ws x.1
 none_longer ws x h = λ e front others s i. (goes s others).at x (ap (level_at max_depth 7) (sym i) ∙ h)
 
-pub longest : {X : Type 0} (view : X → Tree × List Word) (ws : List Word) (r : Result X Refusal) → Gives view r (level_at max_depth 7 ws) → IfOk r (λ x. NoneLonger ws (view x).1)
+pub longest : {X : Type 0} (view : X → Tree × List Word) (ws : List Word) (r : Result X FormFault) → Gives view r (level_at max_depth 7 ws) → IfOk r (λ x. NoneLonger ws (view x).1)
 longest view ws (Ok x) g = none_longer ws (view x) g
 longest view ws (Err e) g = tt

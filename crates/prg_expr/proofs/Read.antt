@@ -1,25 +1,27 @@
 -- Reading a text finds exactly what it spells.
 use Rattle.std.proofs.Common.{◌≡◌, ℕ, ◌≤◌, inl, inr, List, [], ◌∷◌, length, map, false, Option, Some, None, Result, Ok, Err, refl, sym, ap, ◌∙◌, subst, arith}
-use Rattle.std.specs.Prelude.{IfOk, nat_lt, nat_le}
+use Rattle.std.specs.Prelude.{IfErr, IfOk, nat_lt, nat_le}
+use Rattle.std.proofs.lemmas.List.{length-map}
 use Rattle.std.proofs.lemmas.Bool.{le-ltb, ltb-false}
-use Rattle.prg_expr.specs.declared.fault.Fault.{Fault}
-use Rattle.prg_expr.specs.declared.fault.Fault.TheVariants as fault
+use Rattle.prg_expr.specs.declared.fault.FaultKind.{FaultKind}
+use Rattle.prg_expr.specs.declared.fault.FaultKind.TheVariants as fault
+use Rattle.prg_expr.specs.declared.fault.ParseFault.{ParseFault}
 use Rattle.prg_expr.specs.declared.fault.Refusal.{Refusal}
 use Rattle.prg_expr.specs.declared.fault.Refusal.TheVariants as refusal
 use Rattle.prg_expr.specs.declared.tree.Expr.{Expr}
-use Rattle.prg_expr.specs.Faults.{rank, least, least_of}
+use Rattle.prg_expr.specs.Faults.{rank, least, least_of, length_fault, OnFault, Tells}
 use Rattle.prg_expr.specs.Tree.{Tree, tree_of}
 use Rattle.prg_expr.specs.Word.{Word}
 use Rattle.prg_expr.specs.Lexicon.{Spot, spot, spot_word, spot_fault, clean, IsLine}
-use Rattle.prg_expr.specs.Reading.{Gives, parse}
+use Rattle.prg_expr.specs.Reading.{parse}
 use Rattle.prg_expr.specs.Scanning.{scan}
-use Rattle.prg_expr.specs.Spelling.{Spells, OnFault, refuse, told_of, length_fault, form_of, fault_of, read}
+use Rattle.prg_expr.specs.Spelling.{Spells, refuse, told_of, form_of, fault_of, read, in_first_line, fault_told, Answered, Answers}
 use Rattle.prg_expr.proofs.Sound.{bool_tells, parse_sound}
 use Rattle.prg_expr.proofs.Complete.{parse_complete}
-use Rattle.prg_expr.proofs.Lines.{scan_sound, scan_complete}
+use Rattle.prg_expr.proofs.Lines.{scan_sound, scan_complete, few_spots}
 
 -- nothing is told only where there is nothing
-least_none : (t f : Option Fault) → least t f ≡ None → (t ≡ None) × (f ≡ None)
+least_none : (t f : Option FaultKind) → least t f ≡ None → (t ≡ None) × (f ≡ None)
 least_none None f h = (refl, h)
 least_none (Some a) None h = absurd cc
 least_none (Some a) (Some b) h = elim (bool_tells (nat_le (rank a) (rank b))) [
@@ -31,13 +33,13 @@ abbrev AllNone : List Spot → Type 0
 AllNone [] = Unit {0}
 AllNone (x ∷ xs) = (x.1 ≡ None) × AllNone xs
 
-all_none : (t : Option Fault) (spots : List Spot) → least_of t (map spot_fault spots) ≡ None → (t ≡ None) × AllNone spots
+all_none : (t : Option FaultKind) (spots : List Spot) → least_of t (map spot_fault spots) ≡ None → (t ≡ None) × AllNone spots
 all_none t [] h = (h, tt)
 all_none t (x ∷ xs) h = let a = all_none (least t x.1) xs h in let b = least_none t x.1 a.0 in (b.0, (b.1, a.1))
 
 cleaned : (spots : List Spot) → AllNone spots → spots ≡ map clean (map spot_word spots)
 cleaned [] a = refl
-cleaned (x ∷ xs) a = ap (λ (f : Option Fault). spot x.0 f ∷ xs) a.0 ∙ ap (λ (s : List Spot). clean x.0 ∷ s) (cleaned xs a.1)
+cleaned (x ∷ xs) a = ap (λ (f : Option FaultKind). spot x.0 f ∷ xs) a.0 ∙ ap (λ (s : List Spot). clean x.0 ∷ s) (cleaned xs a.1)
 
 words_clean : (ws : List Word) → map spot_word (map clean ws) ≡ ws
 words_clean [] = refl
@@ -48,12 +50,12 @@ faults_clean [] = refl
 faults_clean (w ∷ ws) = faults_clean ws
 
 -- a tree is told only where it was read and there is no other fault
-told_ok : (f : Option Fault) (r : Result Tree Fault) (e : Tree) → told_of f r ≡ Ok e → (f ≡ None) × (r ≡ Ok e)
+told_ok : (f : Option FaultKind) (r : Result Tree FaultKind) (e : Tree) → told_of f r ≡ Ok e → (f ≡ None) × (r ≡ Ok e)
 told_ok None (Ok x) e h = (refl, h)
 told_ok (Some g) (Ok x) e h = absurd cc
 told_ok f (Err g) e h = absurd (refused_err (least f (Some g)) g e h)
   where
-    refused_err : (o : Option Fault) (g : Fault) (e : Tree) → refuse o (Err g) ≡ Ok e → ⊥
+    refused_err : (o : Option FaultKind) (g : FaultKind) (e : Tree) → refuse o (Err g) ≡ Ok e → ⊥
     refused_err None g e h = absurd cc
     refused_err (Some k) g e h = absurd cc
 
@@ -63,26 +65,33 @@ short bytes h = elim (bool_tells (nat_lt 1024 bytes)) [
   | inr n ↦ ltb-false 1024 bytes n
 ]
 
-form_ok : (bytes : ℕ) (ws : List Word) (e : Tree) → form_of bytes ws ≡ Ok e → parse ws ≡ Ok e
-form_ok bytes ws e h = elim (bool_tells (nat_lt 4096 bytes)) [
-  | inl y ↦ absurd (let g : form_of bytes ws ≡ Err fault.TooLong = rw y refl in let k = sym g ∙ h in cc)
-  | inr n ↦ (let g : form_of bytes ws ≡ parse ws = rw n refl in sym g ∙ h)
+form_ok : (ws : List Word) (e : Tree) → form_of ws ≡ Ok e → parse ws ≡ Ok e
+form_ok ws e h = elim (bool_tells (nat_lt 4096 (length ws))) [
+  | inl y ↦ absurd (let g : form_of ws ≡ Err fault.TooLong = rw y refl in let k = sym g ∙ h in cc)
+  | inr n ↦ (let g : form_of ws ≡ parse ws = rw n refl in sym g ∙ h)
 ]
 
 read_sound : (text : List ℕ) (e : Tree) → read text ≡ Ok e → Spells e text
 unfolding read
 read_sound text e h =
-    let t = told_ok (fault_of text) (form_of (length text) (map spot_word (scan text))) e h in
+    let t = told_ok (fault_of text) (form_of (map spot_word (scan text))) e h in
     let f = least_none (least_of None (map spot_fault (scan text))) (length_fault (length text)) t.0 in
     let a = all_none None (scan text) f.0 in
     let line = subst (λ (s : List Spot). IsLine s text) (cleaned (scan text) a.1) (scan_sound text) in
-    (map spot_word (scan text), short (length text) f.1, line, parse_sound (map spot_word (scan text)) e (form_ok (length text) (map spot_word (scan text)) e t.1))
+    (map spot_word (scan text), short (length text) f.1, line, parse_sound (map spot_word (scan text)) e (form_ok (map spot_word (scan text)) e t.1))
 
 short_on : (bytes : ℕ) → bytes ≤ 1024 → length_fault bytes ≡ None
 short_on bytes le = let n : nat_lt 1024 bytes ≡ false = le-ltb 1024 bytes le in rw n refl
 
-form_on : (bytes : ℕ) (ws : List Word) (e : Tree) → bytes ≤ 1024 → parse ws ≡ Ok e → form_of bytes ws ≡ Ok e
-form_on bytes ws e le p = let n : nat_lt 4096 bytes ≡ false = le-ltb 4096 bytes (omega (arith, le)) in rw n p
+form_on : (ws : List Word) (e : Tree) → length ws ≤ 1024 → parse ws ≡ Ok e → form_of ws ≡ Ok e
+form_on ws e le p = let n : nat_lt 4096 (length ws) ≡ false = le-ltb 4096 (length ws) (omega (arith, le)) in rw n p
+
+-- clean words are as many as are found, no more than the bytes
+few_words : (text : List ℕ) (ws : List Word) → scan text ≡ map clean ws → length text ≤ 1024 → length ws ≤ 1024
+few_words text ws a le =
+    let m = few_spots text in
+    let e : length ws ≡ length (scan text) = sym (length-map ws clean) ∙ ap length (sym a) in
+    omega (arith, m, e, le)
 
 pub read_complete : (text : List ℕ) (e : Tree) → Spells e text → read text ≡ Ok e
 unfolding read
@@ -90,26 +99,34 @@ read_complete text e s =
     let a = scan_complete (map clean s.0) text s.2 in
     let w : map spot_word (scan text) ≡ s.0 = ap (map spot_word) a ∙ words_clean s.0 in
     let f : least_of None (map spot_fault (scan text)) ≡ None = ap (λ (l : List Spot). least_of None (map spot_fault l)) a ∙ faults_clean s.0 in
-    let p = form_on (length text) s.0 e s.1 (parse_complete s.0 e s.3) in
-    let form = form_of (length text) (map spot_word (scan text)) in
-    ap (λ (o : Option Fault). told_of (least o (length_fault (length text))) form) f
-    ∙ ap (λ (o : Option Fault). told_of o form) (short_on (length text) s.1)
-    ∙ ap (λ (ws : List Word). told_of None (form_of (length text) ws)) w
+    let p = form_on s.0 e (few_words text s.0 a s.1) (parse_complete s.0 e s.3) in
+    let form = form_of (map spot_word (scan text)) in
+    ap (λ (o : Option FaultKind). told_of (least o (length_fault (length text))) form) f
+    ∙ ap (λ (o : Option FaultKind). told_of o form) (short_on (length text) s.1)
+    ∙ ap (λ (ws : List Word). told_of None (form_of ws)) w
     ∙ ap (told_of None) p
 
-pub spelled : (text : List ℕ) (r : Result Expr Refusal) → Gives tree_of r (read text) → IfOk r (λ e. Spells (tree_of e) text)
+-- where a tree was read no fault is told
+unfaulted : (r : Result Tree FaultKind) (e : Tree) (f : ParseFault) → r ≡ Ok e → in_first_line r ≡ Some f → ⊥
+unfaulted r e f h t = let g : in_first_line r ≡ None = ap in_first_line h in let k = sym g ∙ t in absurd cc
+
+pub spelled : (text : List ℕ) (r : Result Expr Refusal) → Answers r (read text) → IfOk r (λ e. Spells (tree_of e) text)
 spelled text (Ok e) g = read_sound text (tree_of e) g
 spelled text (Err e) g = tt
 
-pub only : (text : List ℕ) (r : Result Expr Refusal) → Gives tree_of r (read text) → (e : Tree) → Spells e text → Gives tree_of r (Ok e)
-only text (Ok x) g e s = sym (read_complete text e s) ∙ g
+pub only : (text : List ℕ) (r : Result Expr Refusal) → Answers r (read text) → (e : Tree) → Spells e text → Answered e r
+only text (Ok x) g e s = (let h = sym g ∙ read_complete text e s in cc)
 only text (Err refusal.Memory) g e s = tt
-only text (Err (refusal.Fault f)) g e s = sym (read_complete text e s) ∙ g
+only text (Err (refusal.Fault f)) g e s = unfaulted (read text) e f (read_complete text e s) g
 
-pub refused : (text : List ℕ) (r : Result Expr Refusal) → Gives tree_of r (read text) → OnFault r ((e : Tree) → Spells e text → ⊥)
+pub refused : (text : List ℕ) (r : Result Expr Refusal) → Answers r (read text) → IfErr r (λ e. OnFault e ((e : Tree) → Spells e text → ⊥))
 refused text (Ok x) g = tt
 refused text (Err refusal.Memory) g = tt
-refused text (Err (refusal.Fault f)) g = λ e s. (let h = sym (read_complete text e s) ∙ g in absurd cc)
+refused text (Err (refusal.Fault f)) g = λ e s. unfaulted (read text) e f (read_complete text e s) g
+
+pub told : (text : List ℕ) (r : Result Expr Refusal) → Answers r (read text) → IfErr r (Tells (fault_told text))
+told text (Ok x) g = tt
+told text (Err e) g = g
 
 pub one_tree : (text : List ℕ) (a b : Tree) → Spells a text → Spells b text → a ≡ b
 one_tree text a b s t = let h = sym (read_complete text a s) ∙ read_complete text b t in cc

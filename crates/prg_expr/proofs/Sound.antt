@@ -3,8 +3,8 @@ use Rattle.std.proofs.Common.{◌≡◌, ◌≢◌, ℕ, zero, suc, ◌<◌, ◌
 use Rattle.std.proofs.lemmas.List.{append-nil}
 use Rattle.std.proofs.lemmas.Bool.Decides.{eqb_tells}
 use Rattle.std.proofs.lemmas.Bool.{ne_eqb}
-use Rattle.prg_expr.specs.declared.fault.Fault.{Fault}
-use Rattle.prg_expr.specs.declared.fault.Fault.TheVariants as fault
+use Rattle.prg_expr.specs.declared.fault.FaultKind.{FaultKind}
+use Rattle.prg_expr.specs.declared.fault.FaultKind.TheVariants as fault
 use Rattle.prg_expr.specs.declared.function.Function.{Function}
 use Rattle.prg_expr.specs.declared.tree.Operator.{Operator}
 use Rattle.prg_expr.specs.Functions.{function_named, takes}
@@ -16,7 +16,7 @@ use Rattle.prg_expr.specs.Grammar.{looseness, Stands, number, text, logical, nam
 use Rattle.prg_expr.specs.Reading.{Read, Reader, ◌>>=◌, if_some, operator_at, turns, chain, comparison, prefixes, close, separator, after_argument, arguments, call_of, called_at, qualified_at, named, operand, stage, reader, inside, level_at, whole, all_read, parse}
 use Rattle.prg_expr.proofs.Grammar.{prefix_tells}
 
-pub bind_ok : {A B : Type 0} → (r : Result A Fault) (f : A → Result B Fault) (y : B) → (r >>= f) ≡ Ok y → (x : A) × (r ≡ Ok x) × (f x ≡ Ok y)
+pub bind_ok : {A B : Type 0} → (r : Result A FaultKind) (f : A → Result B FaultKind) (y : B) → (r >>= f) ≡ Ok y → (x : A) × (r ≡ Ok x) × (f x ≡ Ok y)
 bind_ok (Ok x) f y h = (x, refl, h)
 bind_ok (Err e) f y h = absurd cc
 
@@ -135,7 +135,7 @@ module _ (d : ℕ) (next : Reader) where
         taken (tree.Prefixed p.0 b.0.0) (w ∷ t.front) b.0.1 (w ∷ ws) x (prefixed p.2 p.3 t.stands) (ap (λ ws. w ∷ ws) t.is) b.2)
   ]
 
-close_ok : (e : Tree) (ws : List Word) (x : Tree × List Word) → close e ws ≡ Ok x → (rest : List Word) × (ws ≡ word.Close ∷ rest) × (ok (e, rest) ≡ Ok x)
+close_ok : (e : Tree) (ws : List Word) (x : Tree × List Word) → close e ws ≡ Ok x → (rest : List Word) × (ws ≡ word.Close ∷ rest) × (ok (tree.Parentheses e, rest) ≡ Ok x)
 unfolding close
 close_ok e (word.Close ∷ ws) x h = (ws, refl, h)
 close_ok e [] x h = absurd cc
@@ -159,19 +159,19 @@ in_parentheses d r ins ws y x h g =
     let i = ins.at ws y h in
     let t = i.2 in
     let c = close_ok y.0 y.1 x g in
-    let s : Stands d 0 y.0 (word.Open ∷ (t.front ++ word.Close ∷ [])) = rw i.1 (parentheses t.stands) in
-    taken y.0 (word.Open ∷ (t.front ++ word.Close ∷ [])) c.0 (word.Open ∷ ws) x s (closed ws t.front y.1 c.0 t.is c.1) c.2
+    let s : Stands d 0 (tree.Parentheses y.0) (word.Open ∷ (t.front ++ word.Close ∷ [])) = rw i.1 (parentheses t.stands) in
+    taken (tree.Parentheses y.0) (word.Open ∷ (t.front ++ word.Close ∷ [])) c.0 (word.Open ∷ ws) x s (closed ws t.front y.1 c.0 t.is c.1) c.2
 
 abbrev flag : Bool → List Word → Bool × List Word
 flag b ws = (b, ws)
 
-abbrev ok_flag : Bool × List Word → Result (Bool × List Word) Fault
+abbrev ok_flag : Bool × List Word → Result (Bool × List Word) FaultKind
 ok_flag x = Ok x
 
 flag_same : (x y : Bool × List Word) → ok_flag x ≡ Ok y → x ≡ y
 flag_same x y h = cc
 
-abbrev all_ok' : Trees × List Word → Result (Trees × List Word) Fault
+abbrev all_ok' : Trees × List Word → Result (Trees × List Word) FaultKind
 all_ok' x = Ok x
 
 all_same : (x y : Trees × List Word) → all_ok' x ≡ Ok y → x ≡ y
@@ -242,7 +242,7 @@ call_ok : (f : Function) (es : Trees) (ws : List Word) (x : Tree × List Word) �
 unfolding call_of
 call_ok f es ws x h = elim (bool_tells (takes f (count es))) [
   | inl y ↦ (y, sym (rw y refl) ∙ h)
-  | inr n ↦ (let g : call_of f es ws ≡ Err Rattle.prg_expr.specs.declared.fault.Fault.TheVariants.Expression = rw n refl in absurd (let k = sym g ∙ h in cc))
+  | inr n ↦ (let g : call_of f es ws ≡ Err Rattle.prg_expr.specs.declared.fault.FaultKind.TheVariants.Expression = rw n refl in absurd (let k = sym g ∙ h in cc))
 ]
 
 call_takes : (d : ℕ) (r : Reader) → IsInside d r → (s : List ℕ) (f : Function) → function_named s ≡ Some f → (ws : List Word) (x : Tree × List Word) → (arguments (suc (length ws)) r ws >>= λ x. call_of f x.0 x.1) ≡ Ok x → Takes d 0 (word.Name s ∷ word.Open ∷ ws) x
@@ -292,7 +292,7 @@ qualified_takes d a (word.Outside mk ∷ ws) x h = absurd cc
 named_takes : (d : ℕ) (r : Reader) → IsInside d r → (s : List ℕ) (ws : List Word) (x : Tree × List Word) → named d r s ws ≡ Ok x → Takes d 0 (word.Name s ∷ ws) x
 unfolding named
 named_takes d r ins s (word.Open ∷ ws) x h = elim (option_tells (function_named s)) [
-  | inl none ↦ absurd (let g : named d r s (word.Open ∷ ws) ≡ Err Rattle.prg_expr.specs.declared.fault.Fault.TheVariants.Expression = rw none refl in let k = sym g ∙ h in cc)
+  | inl none ↦ absurd (let g : named d r s (word.Open ∷ ws) ≡ Err Rattle.prg_expr.specs.declared.fault.FaultKind.TheVariants.Expression = rw none refl in let k = sym g ∙ h in cc)
   | inr f ↦ called_takes d r ins s f.0 f.1 ws x (sym (rw f.1 refl) ∙ h)
 ]
 named_takes d r ins s (word.Arrow ∷ ws) x h = qualified_takes d s ws x h

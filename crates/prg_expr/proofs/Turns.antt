@@ -1,8 +1,8 @@
 -- A chain of operators of one level, as a loop reads it.
 use Rattle.std.proofs.Common.{◌≡◌, ℕ, zero, suc, ◌<◌, List, [], ◌∷◌, length, Some, None, Ok, refl, ap, ◌∙◌, arith}
 use Rattle.prg_expr.specs.declared.tree.Operator.{Operator}
-use Rattle.prg_expr.specs.declared.fault.Refusal.{Refusal}
-use Rattle.prg_expr.specs.declared.fault.Refusal.TheVariants as refusal
+use Rattle.prg_expr.specs.declared.fault.FormFault.{FormFault}
+use Rattle.prg_expr.specs.declared.fault.FormFault.TheVariants as form_fault
 use Rattle.prg_expr.specs.Tree.{Tree, Binary}
 use Rattle.prg_expr.specs.Word.{Word, words}
 use Rattle.prg_expr.specs.declared.token.Token.{Token}
@@ -19,10 +19,10 @@ module _ (next : Reader) (level : ℕ) (tokens : List Word) where
   unfolding chain
   starts left rest h = record { bound = suc (length rest); enough = omega arith; reads = rw h refl }
 
-  pub chain_fails : (e : Refusal) → Fails e (next tokens) → Fails e (chain next level tokens)
+  pub chain_fails : (e : FormFault) → Fails e (next tokens) → Fails e (chain next level tokens)
   unfolding chain
-  chain_fails refusal.Memory h = tt
-  chain_fails (refusal.Fault f) h = rw h refl
+  chain_fails form_fault.Memory h = tt
+  chain_fails (form_fault.Kind f) h = rw h refl
 
   ends_at : (bound : ℕ) (left : Tree) (rest : List Word) → length rest < bound → operator_at level rest ≡ None → turns bound next level left rest ≡ Ok (left, rest)
   unfolding turns
@@ -44,13 +44,13 @@ module _ (next : Reader) (level : ℕ) (tokens : List Word) where
       let s = steps_at so.bound left right rest after others o so.enough some h in
       record { bound = s.0; enough = omega (arith, s.1, so.enough); reads = so.reads ∙ s.2 }
 
-  fails_at : (e : Refusal) (bound : ℕ) (left : Tree) (rest after : List Word) (o : Operator) → length rest < bound → operator_at level rest ≡ Some (o, after) → Fails e (next after) → Fails e (turns bound next level left rest)
+  fails_at : (e : FormFault) (bound : ℕ) (left : Tree) (rest after : List Word) (o : Operator) → length rest < bound → operator_at level rest ≡ Some (o, after) → Fails e (next after) → Fails e (turns bound next level left rest)
   unfolding turns
   fails_at e zero left rest after o lt some h = absurd (omega arith)
-  fails_at refusal.Memory (suc n) left rest after o lt some h = tt
-  fails_at (refusal.Fault f) (suc n) left rest after o lt some h = rw (some, h) refl
+  fails_at form_fault.Memory (suc n) left rest after o lt some h = tt
+  fails_at (form_fault.Kind f) (suc n) left rest after o lt some h = rw (some, h) refl
 
-  pub fails : (e : Refusal) (left : Tree) (rest after : List Word) (o : Operator) → SoFar next level tokens left rest → operator_at level rest ≡ Some (o, after) → Fails e (next after) → Fails e (chain next level tokens)
+  pub fails : (e : FormFault) (left : Tree) (rest after : List Word) (o : Operator) → SoFar next level tokens left rest → operator_at level rest ≡ Some (o, after) → Fails e (next after) → Fails e (chain next level tokens)
   fails e left rest after o so some h = rw so.reads (fails_at e so.bound left rest after o so.enough some h)
 
 pub words_length : (ts : List Token) → length (words ts) ≡ length ts

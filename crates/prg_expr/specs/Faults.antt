@@ -1,25 +1,44 @@
 -- Which of a line's faults is told.
-use Rattle.std.specs.Prelude.{ℕ, List, [], ◌∷◌, Option, Some, None, nat_le, if◌then◌else◌}
-use Rattle.prg_expr.specs.declared.fault.Fault.{Fault}
-use Rattle.prg_expr.specs.declared.fault.Fault.TheVariants.{Character, Text, Number, Expression, TooLong, TooDeep, Macro}
+use Rattle.std.specs.Prelude.{◌≡◌, ℕ, List, [], ◌∷◌, Option, Some, None, nat_le, nat_lt, if◌then◌else◌}
+use Rattle.prg_expr.specs.declared.fault.FaultKind.{FaultKind}
+use Rattle.prg_expr.specs.declared.fault.FaultKind.TheVariants.{Character, Text, Number, Word, Expression, Block, TooLong, TooDeep, Macro}
+use Rattle.prg_expr.specs.declared.fault.ParseFault.{ParseFault}
+use Rattle.prg_expr.specs.declared.fault.Refusal.{Refusal}
+use Rattle.prg_expr.specs.declared.fault.Refusal.TheVariants.{Fault, Memory}
 
--- the order of the faults (the numbers between are those of faults of commands and of blocks)
-abbrev pub rank : Fault → ℕ
+-- the order of the kinds
+abbrev pub rank : FaultKind → ℕ
 rank Character = 1
 rank Text = 2
 rank Number = 3
+rank Word = 4
 rank Expression = 5
+rank Block = 6
 rank TooLong = 7
 rank TooDeep = 8
 rank Macro = 9
 
--- the lesser fault
-abbrev pub least : Option Fault → Option Fault → Option Fault
+-- the lesser of two faults, where there are any
+abbrev pub least : Option FaultKind → Option FaultKind → Option FaultKind
 least None found = found
 least (Some f) None = Some f
 least (Some f) (Some g) = if nat_le (rank f) (rank g) then Some f else Some g
 
 -- the least of a fault and of those of a list
-abbrev pub least_of : Option Fault → List (Option Fault) → Option Fault
+abbrev pub least_of : Option FaultKind → List (Option FaultKind) → Option FaultKind
 least_of told [] = told
 least_of told (found ∷ others) = least_of (least told found) others
+
+-- a line has at most 1,024 bytes
+abbrev pub length_fault : ℕ → Option FaultKind
+length_fault bytes = if nat_lt 1024 bytes then Some TooLong else None
+
+-- a refusal that is the fault which the definition tells, or want of memory
+abbrev pub Tells : Option ParseFault → Refusal → Type 0
+Tells told (Fault fault) = told ≡ Some fault
+Tells told Memory = Unit {0}
+
+-- a refusal for another cause than memory
+abbrev pub OnFault : Refusal → Type 0 → Type 0
+OnFault (Fault fault) p = p
+OnFault Memory p = Unit {0}

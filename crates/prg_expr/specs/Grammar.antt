@@ -53,7 +53,7 @@ mutual
     name : {d : ℕ} {s : List ℕ} → Stands d 0 (tree.Name (take 10 s)) (word.Name s ∷ [])
     -- an alias and a name
     qualified : {d : ℕ} {a s : List ℕ} → Stands d 0 (tree.Qualified (take 10 a) (take 10 s)) (word.Name a ∷ word.Arrow ∷ word.Name s ∷ [])
-    parentheses : {d : ℕ} {e : Tree} {ws : List Word} → Stands d 7 e ws → Stands (suc d) 0 e (word.Open ∷ (ws ++ word.Close ∷ []))
+    parentheses : {d : ℕ} {e : Tree} {ws : List Word} → Stands d 7 e ws → Stands (suc d) 0 (tree.Parentheses e) (word.Open ∷ (ws ++ word.Close ∷ []))
     -- what stands at a level stands at the next looser one
     looser : {d l : ℕ} {e : Tree} {ws : List Word} → Stands d l e ws → Stands d (suc l) e ws
     -- operators of one level group from the left; of comparisons there is one

@@ -1,9 +1,9 @@
 -- Reading words from left to right.
 use Rattle.std.specs.Prelude.{◌≡◌, ℕ, zero, suc, List, [], ◌∷◌, length, take, Option, Some, None, Bool, true, false, Result, Ok, Err, ◌==◌, if◌then◌else◌}
-use Rattle.prg_expr.specs.declared.fault.Fault.{Fault}
-use Rattle.prg_expr.specs.declared.fault.Fault.TheVariants as fault
-use Rattle.prg_expr.specs.declared.fault.Refusal.{Refusal}
-use Rattle.prg_expr.specs.declared.fault.Refusal.TheVariants as refusal
+use Rattle.prg_expr.specs.declared.fault.FaultKind.{FaultKind}
+use Rattle.prg_expr.specs.declared.fault.FaultKind.TheVariants as fault
+use Rattle.prg_expr.specs.declared.fault.FormFault.{FormFault}
+use Rattle.prg_expr.specs.declared.fault.FormFault.TheVariants as form_fault
 use Rattle.prg_expr.specs.declared.function.Function.{Function}
 use Rattle.prg_expr.specs.declared.tree.Operator.{Operator}
 use Rattle.prg_expr.specs.declared.tree.Prefix.{Prefix}
@@ -15,28 +15,28 @@ use Rattle.prg_expr.specs.Word as word
 use Rattle.prg_expr.specs.Grammar.{looseness, prefix_of, prefix_level, max_depth}
 
 infixl 10 ◌>>=◌
-abbrev pub ◌>>=◌ : {A B : Type 0} → Result A Fault → (A → Result B Fault) → Result B Fault
+abbrev pub ◌>>=◌ : {A B : Type 0} → Result A FaultKind → (A → Result B FaultKind) → Result B FaultKind
 (Ok x) >>= f = f x
 (Err e) >>= f = Err e
 
-abbrev pub Fails : {Y : Type 0} → Refusal → Result Y Fault → Type 0
-Fails refusal.Memory read = Unit {0}
-Fails (refusal.Fault f) read = read ≡ Err f
+abbrev pub Fails : {Y : Type 0} → FormFault → Result Y FaultKind → Type 0
+Fails form_fault.Memory read = Unit {0}
+Fails (form_fault.Kind f) read = read ≡ Err f
 
 -- what a function returned, seen by view, is what reading gives, unless memory ran out
-abbrev pub Gives : {X Y : Type 0} → (X → Y) → Result X Refusal → Result Y Fault → Type 0
+abbrev pub Gives : {X Y : Type 0} → (X → Y) → Result X FormFault → Result Y FaultKind → Type 0
 Gives view (Ok x) read = read ≡ Ok (view x)
 Gives view (Err e) read = Fails e read
 
 -- a tree and the words after it
 abbrev pub Read : Type 0
-Read = Result (Tree × List Word) Fault
+Read = Result (Tree × List Word) FaultKind
 
 abbrev pub Reader : Type 0
 Reader = List Word → Read
 
 -- the fault of words that don't go on as they have to: they aren't looked at from a macro on
-unfoldable pub wrong : List Word → Fault
+unfoldable pub wrong : List Word → FaultKind
 wrong (word.Outside word.Macro ∷ ws) = fault.Macro
 wrong _ = fault.Expression
 
@@ -67,16 +67,17 @@ unfoldable pub prefixes : Reader → ℕ → Reader
 prefixes next l [] = next []
 prefixes next l (w ∷ ws) = if_some (prefix_at l w) (next (w ∷ ws)) (λ p. prefixes next l ws >>= λ x. Ok (tree.Prefixed p x.0, x.1))
 
+-- behind an expression in parentheses
 unfoldable pub close : Tree → Reader
-close e (word.Close ∷ ws) = Ok (e, ws)
+close e (word.Close ∷ ws) = Ok (tree.Parentheses e, ws)
 close e ws = Err (wrong ws)
 
 -- arguments and the words after the parenthesis that ends them
 abbrev pub Listing : Type 0
-Listing = Result (Trees × List Word) Fault
+Listing = Result (Trees × List Word) FaultKind
 
 -- whether a comma follows, or else the parenthesis
-unfoldable pub separator : List Word → Result (Bool × List Word) Fault
+unfoldable pub separator : List Word → Result (Bool × List Word) FaultKind
 separator (word.Comma ∷ ws) = Ok (true, ws)
 separator (word.Close ∷ ws) = Ok (false, ws)
 separator ws = Err (wrong ws)
@@ -137,12 +138,12 @@ level_at d l = reader d (inside d) l
 abbrev pub front : List Word → Read
 front = level_at max_depth 7
 
-abbrev pub whole : Tree → List Word → Result Tree Fault
+abbrev pub whole : Tree → List Word → Result Tree FaultKind
 whole e [] = Ok e
 whole e (w ∷ ws) = Err (wrong (w ∷ ws))
 
-abbrev pub all_read : Tree × List Word → Result Tree Fault
+abbrev pub all_read : Tree × List Word → Result Tree FaultKind
 all_read x = whole x.0 x.1
 
-unfoldable pub parse : List Word → Result Tree Fault
+unfoldable pub parse : List Word → Result Tree FaultKind
 parse ws = level_at max_depth 7 ws >>= all_read

@@ -3,8 +3,8 @@ use Rattle.std.specs.Prelude.{◌≡◌, ◌+◌, ℕ, zero, suc, List, [], ◌�
 use Rattle.std.specs.Char.{is_ascii_digit, is_ascii_alphabetic, to_ascii_uppercase}
 use Rattle.std.specs.List.{prefix_len}
 use Rattle.fixed_num.specs.Reading.{parsed}
-use Rattle.prg_expr.specs.declared.fault.Fault.{Fault}
-use Rattle.prg_expr.specs.declared.fault.Fault.TheVariants as fault
+use Rattle.prg_expr.specs.declared.fault.FaultKind.{FaultKind}
+use Rattle.prg_expr.specs.declared.fault.FaultKind.TheVariants as fault
 use Rattle.prg_expr.specs.declared.lexer.Scanned.{Scanned}
 use Rattle.prg_expr.specs.declared.token.Line.{Line}
 use Rattle.prg_expr.specs.Faults.{least_of}
@@ -14,9 +14,9 @@ use Rattle.prg_expr.specs.Reading.{if_some}
 
 -- a word, its fault and the bytes behind it
 abbrev pub Found : Type 0
-Found = Word × Option Fault × List ℕ
+Found = Word × Option FaultKind × List ℕ
 
-abbrev pub found : Word → Option Fault → List ℕ → Found
+abbrev pub found : Word → Option FaultKind → List ℕ → Found
 found w f rest = (w, f, rest)
 
 abbrev pub seen : Scanned → Found

@@ -17,6 +17,8 @@ mutual
     -- the alias, then the name
     Qualified : List ℕ → List ℕ → Tree
     Call : Function → Trees → Tree
+    -- an expression in parentheses
+    Parentheses : Tree → Tree
     Prefixed : Prefix → Tree → Tree
     Binary : Operator → Tree → Tree → Tree
 
@@ -40,6 +42,7 @@ node_tree (Expr-F.Logical b) = Logical b
 node_tree (Expr-F.Name s) = Name s.items
 node_tree (Expr-F.Qualified a s) = Qualified a.items s.items
 node_tree (Expr-F.Call f es) = Call f (trees es.items)
+node_tree (Expr-F.Parentheses e) = Parentheses e.value
 node_tree (Expr-F.Prefixed p e) = Prefixed p e.value
 node_tree (Expr-F.Binary o a b) = Binary o a.value b.value
 

@@ -1,33 +1,50 @@
-//! What is wrong with a line, and why reading is refused.
+//! What is wrong with a line of a command file or with an expression, and why reading is refused.
 
-ghost use Rattle.std.specs.Prelude.{◌≡◌};
-ghost use Rattle.prg_expr.specs.declared.fault.Refusal.TheVariants.{Memory};
+ghost use Rattle.std.specs.Prelude.{◌≡◌, length};
+ghost use Rattle.prg_expr.specs.declared.fault.FormFault.TheVariants.{Memory};
+ghost use Rattle.prg_expr.specs.declared.fault.Refusal.TheVariants as refusal;
 ghost use Rattle.prg_expr.specs.Faults as faults;
 
 use std::alloc::{AllocError, AllocFailed};
 
-/// What is wrong with the words of a line or with an expression. Of a line's faults the one that stands first here
-/// is told.
+/// The most bytes of a line.
+pub const MOST_BYTES: usize = 1024;
+
+/// The form of more words isn't read, since its tree could get too deep. A line of so many words is too long anyway.
+pub const MOST_WORDS: usize = 4096;
+
+/// What is wrong with a line or with an expression. Of a line's faults the one that stands first here is told.
 #[derive(Clone, Copy, Debug, PartialEq, Eq)]
-pub enum Fault {
+pub enum FaultKind {
     /// A byte outside texts and comments that begins no word.
-    Character,
+    Character = 1,
     /// A text that doesn't end in its line.
-    Text,
+    Text = 2,
     /// A number of more than nineteen digits, or of more than fifteen behind the point.
-    Number,
+    Number = 3,
+    /// There is no such command or clause, a name is missing, or a word is left over.
+    Word = 4,
     /// No expression, or one that is wrong.
-    Expression,
+    Expression = 5,
+    /// A command stands where its block doesn't allow it, or a block isn't ended.
+    Block = 6,
     /// A name of more than ten letters, a text of more than 254 bytes, a line of more than 1,024.
-    TooLong,
-    /// A 33rd parenthesis within others.
-    TooDeep,
+    TooLong = 7,
+    /// A 33rd parenthesis or block within others.
+    TooDeep = 8,
     /// A `&` that begins no comment.
-    Macro,
+    Macro = 9,
+}
+
+/// The place of a kind in the order in which they are told, from 1.
+fn rank(kind: FaultKind) -> u8
+    ensures { result ≡ faults.rank kind }
+{
+    kind as u8
 }
 
 /// The fault of the two that is told: the lesser one.
-pub fn least(told: Option<Fault>, found: Option<Fault>) -> Option<Fault>
+pub fn least(told: Option<FaultKind>, found: Option<FaultKind>) -> Option<FaultKind>
     ensures { result ≡ faults.least told found }
 {
     let Some(first) = told else {
@@ -43,32 +60,62 @@ pub fn least(told: Option<Fault>, found: Option<Fault>) -> Option<Fault>
     }
 }
 
-/// The place of a fault in their order.
-fn rank(fault: Fault) -> u8
-    ensures { result ≡ faults.rank fault }
+/// What is wrong with the length of a line.
+pub fn length_fault(line: &[u8]) -> Option<FaultKind>
+    ensures { result ≡ faults.length_fault (length line.now) }
 {
-    match fault {
-        Fault::Character => 1,
-        Fault::Text => 2,
-        Fault::Number => 3,
-        Fault::Expression => 5,
-        Fault::TooLong => 7,
-        Fault::TooDeep => 8,
-        Fault::Macro => 9,
+    if MOST_BYTES < line.len() {
+        Some(FaultKind::TooLong)
+    } else {
+        None
     }
+}
+
+/// The fault that is told, and where it stands.
+#[derive(Clone, Copy, Debug, PartialEq, Eq)]
+pub struct ParseFault {
+    /// The line in the file, from 1; of a joined line its first one. An expression by itself is line 1.
+    pub line: usize,
+    /// What is wrong there.
+    pub kind: FaultKind,
+}
+
+/// Why words are no expression or command.
+#[derive(Clone, Copy, Debug, PartialEq, Eq)]
+pub enum FormFault {
+    /// What is wrong where the words stop being one.
+    Kind(FaultKind),
+    /// Memory ran out.
+    Memory,
 }
 
 /// Why there is no answer.
 #[derive(Clone, Copy, Debug, PartialEq, Eq)]
 pub enum Refusal {
+    /// What was to be read is faulty.
+    Fault(ParseFault),
     /// Memory ran out.
     Memory,
-    /// What was to be read is faulty.
-    Fault(Fault),
+}
+
+impl From<AllocError> for FormFault {
+    ghost from_gives = { λ _ e. e ≡ Memory };
+
+    fn from(_e: AllocError) -> FormFault {
+        FormFault::Memory
+    }
+}
+
+impl<T: Drop> From<AllocFailed<T>> for FormFault {
+    ghost from_gives = { λ _ e. e ≡ Memory };
+
+    fn from(_e: AllocFailed<T>) -> FormFault {
+        FormFault::Memory
+    }
 }
 
 impl From<AllocError> for Refusal {
-    ghost from_gives = { λ _ e. e ≡ Memory };
+    ghost from_gives = { λ _ e. e ≡ refusal.Memory };
 
     fn from(_e: AllocError) -> Refusal {
         Refusal::Memory
@@ -76,7 +123,7 @@ impl From<AllocError> for Refusal {
 }
 
 impl<T: Drop> From<AllocFailed<T>> for Refusal {
-    ghost from_gives = { λ _ e. e ≡ Memory };
+    ghost from_gives = { λ _ e. e ≡ refusal.Memory };
 
     fn from(_e: AllocFailed<T>) -> Refusal {
         Refusal::Memory

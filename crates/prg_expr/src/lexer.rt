@@ -9,7 +9,7 @@ ghost use Rattle.prg_expr.specs.Scanning as spec;
 ghost use Rattle.prg_expr.specs.Scanning.{scan, seen, IsScan, IsWordsOf};
 ghost use Rattle.prg_expr.specs.Lexicon.{Spot, IsLine};
 
-use crate::fault::{Fault, least};
+use crate::fault::{FaultKind, least};
 use crate::token::{Line, Token};
 use crate::tree::{MOST_LETTERS, MOST_TEXT, Operator};
 use std::alloc::{AllocError, Global};
@@ -24,7 +24,7 @@ const MOST_DECIMALS: usize = 15;
 #[derive(Clone, Copy)]
 pub(crate) struct Scanned<'a> {
     token: Token<'a>,
-    fault: Option<Fault>,
+    fault: Option<FaultKind>,
     rest: &'a [u8],
 }
 
@@ -75,11 +75,11 @@ fn text_len(close: u8, bytes: &[u8]) -> usize
 }
 
 /// TooLong, where there are more than so many.
-fn over(most: usize, count: usize) -> Option<Fault>
+fn over(most: usize, count: usize) -> Option<FaultKind>
     ensures { result ≡ lexicon.over most count }
 {
     if most < count {
-        Some(Fault::TooLong)
+        Some(FaultKind::TooLong)
     } else {
         None
     }
@@ -98,13 +98,13 @@ fn decimals(bytes: &[u8]) -> usize
 }
 
 /// The fault of a number of so many digits before and behind the point.
-fn number_fault(whole: usize, fraction: usize) -> Option<Fault>
+fn number_fault(whole: usize, fraction: usize) -> Option<FaultKind>
     requires before { whole < 2 ^ 63 }
     requires behind { fraction < 2 ^ 63 }
     ensures { result ≡ lexicon.number_fault whole fraction }
 {
     if MOST_DECIMALS < fraction || MOST_DIGITS < whole + fraction {
-        Some(Fault::Number)
+        Some(FaultKind::Number)
     } else {
         None
     }
@@ -151,7 +151,7 @@ fn text_end<'a>(text: &'a [u8], rest: &'a [u8]) -> Scanned<'a>
     let Some((_, behind)) = rest.split_first() else {
         return Scanned {
             token: Token::Text(text),
-            fault: Some(Fault::Text),
+            fault: Some(FaultKind::Text),
             rest,
         };
     };
@@ -299,13 +299,13 @@ fn single_at<'a>(b: u8, rest: &'a [u8]) -> Scanned<'a>
     if b == b'&' {
         return Scanned {
             token: Token::Macro,
-            fault: Some(Fault::Macro),
+            fault: Some(FaultKind::Macro),
             rest,
         };
     }
     Scanned {
         token: Token::Faulty,
-        fault: Some(Fault::Character),
+        fault: Some(FaultKind::Character),
         rest,
     }
 }
@@ -399,7 +399,8 @@ pub fn one_line()
     ensures { (line : List ℕ) (a b : List Spot) → IsLine a line → IsLine b line → a ≡ b }
 {}
 
-/// The words found by going through a line from left to right are the words that its bytes are.
+/// The words found by going through a line from left to right are the words that its bytes are, no more than these.
 pub fn lines_are_cut()
-    ensures { (line : List ℕ) → IsLine (scan line) line }
+    ensures cut { (line : List ℕ) → IsLine (scan line) line }
+    ensures few { (line : List ℕ) → length (scan line) ≤ length line }
 {}

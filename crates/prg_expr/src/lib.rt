@@ -7,12 +7,12 @@ mod lexer;
 mod names;
 mod parser;
 mod reading;
-#[cfg(test)]
-mod tests;
 mod token;
 mod tree;
 
-pub use fault::{Fault, Refusal};
+pub use fault::{
+    FaultKind, FormFault, MOST_BYTES, MOST_WORDS, ParseFault, Refusal, least, length_fault,
+};
 pub use function::{Function, one_function};
 pub use lexer::{lines_are_cut, one_line, words};
 pub use names::{is_word, name_of};

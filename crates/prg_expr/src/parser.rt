@@ -2,7 +2,7 @@
 
 ghost use Rattle.std.specs.Prelude.{◌≡◌, ◌-◌, ◌<◌, ◌≤◌, ◌++◌, length, IfOk, IfSome, List, Ok, map, option_map, suc, take};
 ghost use Rattle.std.specs.Char.{to_ascii_uppercase};
-ghost use Rattle.prg_expr.specs.declared.fault.Refusal.TheVariants as refusal;
+ghost use Rattle.prg_expr.specs.declared.fault.FormFault.TheVariants as form_fault;
 ghost use Rattle.prg_expr.specs.Tree.{Tree, tree_of, trees_of};
 ghost use Rattle.prg_expr.specs.Word.{Word, word_of, words};
 ghost use Rattle.prg_expr.specs.Grammar as grammar;
@@ -10,7 +10,7 @@ ghost use Rattle.prg_expr.specs.Reading as spec;
 ghost use Rattle.prg_expr.specs.Reading.{Gives};
 ghost use Rattle.prg_expr.specs.Spelling.{InFront, NoneLonger};
 
-use crate::fault::{Fault, Refusal};
+use crate::fault::{FaultKind, FormFault};
 use crate::function::{Function, function_named, takes};
 use crate::names::{front, name_of};
 use crate::token::Token;
@@ -87,12 +87,12 @@ fn prefix_at(level: u8, token: &Token) -> Option<Prefix>
 
 /// The refusal of words that don't go on as they have to.
 #[tactic(auto, unfolding(crate::specs::Reading::wrong))]
-fn wrong(tokens: &[Token]) -> Refusal
-    ensures { result ≡ refusal.Fault (spec.wrong (words tokens.now)) }
+fn wrong(tokens: &[Token]) -> FormFault
+    ensures { result ≡ form_fault.Kind (spec.wrong (words tokens.now)) }
 {
     match tokens {
-        [Token::Macro, ..] => Refusal::Fault(Fault::Macro),
-        _ => Refusal::Fault(Fault::Expression),
+        [Token::Macro, ..] => FormFault::Kind(FaultKind::Macro),
+        _ => FormFault::Kind(FaultKind::Expression),
     }
 }
 
@@ -114,21 +114,25 @@ fn operator_at<'a>(level: u8, tokens: &'a [Token<'a>]) -> Option<(Operator, &'a 
     }
 }
 
-/// The words after a closing parenthesis at the front.
-#[tactic(auto, unfolding(crate::specs::Reading::close))]
-fn close<'a>(inner: Expr, tokens: &'a [Token<'a>]) -> Result<(Expr, &'a [Token<'a>]), Refusal>
+/// The expression in parentheses, of which the closing one stands at the front, and the words after that.
+#[tactic(auto, using(crate::proofs::Equations::tree_equations), unfolding(crate::specs::Reading::close))]
+fn close<'a>(
+    alloc: Global,
+    inner: Expr,
+    tokens: &'a [Token<'a>],
+) -> Result<(Expr, &'a [Token<'a>]), FormFault>
     ensures gives { Gives (λ x. (tree_of x.0, words x.1.now)) result (spec.close (tree_of inner) (words tokens.now)) }
     ensures shorter { IfOk result (λ x. length x.1.now < length tokens.now) }
 {
     match tokens {
-        [Token::Close, rest @ ..] => Ok((inner, rest)),
+        [Token::Close, rest @ ..] => Ok((Expr::Parentheses(Box::new(alloc, inner)?), rest)),
         _ => Err(wrong(tokens)),
     }
 }
 
 /// Whether a comma is at the front, or else a closing parenthesis, and the words after it.
 #[tactic(auto, unfolding(crate::specs::Reading::separator))]
-fn separator<'a>(tokens: &'a [Token<'a>]) -> Result<(bool, &'a [Token<'a>]), Refusal>
+fn separator<'a>(tokens: &'a [Token<'a>]) -> Result<(bool, &'a [Token<'a>]), FormFault>
     ensures gives { Gives (λ x. (x.0, words x.1.now)) result (spec.separator (words tokens.now)) }
     ensures shorter { IfOk result (λ x. length x.1.now < length tokens.now) }
 {
@@ -156,14 +160,14 @@ fn call_of<'a>(
     function: Function,
     arguments: Vec<Expr>,
     rest: &'a [Token<'a>],
-) -> Result<(Expr, &'a [Token<'a>]), Refusal>
+) -> Result<(Expr, &'a [Token<'a>]), FormFault>
     ensures gives { Gives (λ x. (tree_of x.0, words x.1.now)) result (spec.call_of function (trees_of arguments.items) (words rest.now)) }
     ensures same { IfOk result (λ x. x.1.now ≡ rest.now) }
 {
     if takes(function, arguments.len()) {
         Ok((Expr::Call(function, arguments), rest))
     } else {
-        Err(Refusal::Fault(Fault::Expression))
+        Err(FormFault::Kind(FaultKind::Expression))
     }
 }
 
@@ -172,7 +176,7 @@ fn call_of<'a>(
 fn qualified_at<'a>(
     alias: &[u8],
     tokens: &'a [Token<'a>],
-) -> Result<(Expr, &'a [Token<'a>]), Refusal>
+) -> Result<(Expr, &'a [Token<'a>]), FormFault>
     ensures gives { Gives (λ x. (tree_of x.0, words x.1.now)) result (spec.qualified_at (map to_ascii_uppercase alias.now) (words tokens.now)) }
     ensures shorter { IfOk result (λ x. length x.1.now < length tokens.now) }
 {
@@ -192,12 +196,12 @@ fn inside<'a>(
     alloc: Global,
     depth: u8,
     tokens: &'a [Token<'a>],
-) -> Result<(Expr, &'a [Token<'a>]), Refusal>
+) -> Result<(Expr, &'a [Token<'a>]), FormFault>
     ensures gives { Gives (λ x. (tree_of x.0, words x.1.now)) result (spec.inside depth (words tokens.now)) }
     ensures shorter { IfOk result (λ x. length x.1.now < length tokens.now) }
 {
     if depth == 0 {
-        return Err(Refusal::Fault(Fault::TooDeep));
+        return Err(FormFault::Kind(FaultKind::TooDeep));
     }
     reader(alloc, depth - 1, LOOSEST, tokens)
 }
@@ -210,14 +214,14 @@ fn named<'a>(
     depth: u8,
     name: &[u8],
     tokens: &'a [Token<'a>],
-) -> Result<(Expr, &'a [Token<'a>]), Refusal>
+) -> Result<(Expr, &'a [Token<'a>]), FormFault>
     ensures gives { Gives (λ x. (tree_of x.0, words x.1.now)) result (spec.named depth (spec.inside depth) (map to_ascii_uppercase name.now) (words tokens.now)) }
     ensures shorter { IfOk result (λ x. length x.1.now ≤ length tokens.now) }
 {
     match tokens {
         [Token::Open, rest @ ..] => {
             let Some(function) = function_named(name) else {
-                return Err(Refusal::Fault(Fault::Expression));
+                return Err(FormFault::Kind(FaultKind::Expression));
             };
             Ok(called(alloc, depth, function, rest)?)
         }
@@ -234,12 +238,12 @@ fn called<'a>(
     depth: u8,
     function: Function,
     tokens: &'a [Token<'a>],
-) -> Result<(Expr, &'a [Token<'a>]), Refusal>
+) -> Result<(Expr, &'a [Token<'a>]), FormFault>
     ensures gives { Gives (λ x. (tree_of x.0, words x.1.now)) result (spec.called_at depth (spec.inside depth) function (words tokens.now)) }
     ensures shorter { IfOk result (λ x. length x.1.now ≤ length tokens.now) }
 {
     if depth == 0 {
-        return Err(Refusal::Fault(Fault::TooDeep));
+        return Err(FormFault::Kind(FaultKind::TooDeep));
     }
     match tokens {
         [Token::Close, rest @ ..] => Ok(call_of(function, Vec::new(alloc), rest)?),
@@ -256,7 +260,7 @@ fn arguments<'a>(
     alloc: Global,
     depth: u8,
     tokens: &'a [Token<'a>],
-) -> Result<(Vec<Expr>, &'a [Token<'a>]), Refusal>
+) -> Result<(Vec<Expr>, &'a [Token<'a>]), FormFault>
     ensures gives { Gives (λ x. (trees_of x.0.items, words x.1.now)) result (spec.arguments (suc (length (words tokens.now))) (spec.inside depth) (words tokens.now)) }
     ensures shorter { IfOk result (λ x. length x.1.now ≤ length tokens.now) }
 {
@@ -281,7 +285,7 @@ fn operand<'a>(
     alloc: Global,
     depth: u8,
     tokens: &'a [Token<'a>],
-) -> Result<(Expr, &'a [Token<'a>]), Refusal>
+) -> Result<(Expr, &'a [Token<'a>]), FormFault>
     ensures gives { Gives (λ x. (tree_of x.0, words x.1.now)) result (spec.operand depth (spec.inside depth) (words tokens.now)) }
     ensures shorter { IfOk result (λ x. length x.1.now < length tokens.now) }
 {
@@ -292,7 +296,7 @@ fn operand<'a>(
         [Token::Name(s), rest @ ..] => Ok(named(alloc, depth, *s, rest)?),
         [Token::Open, rest @ ..] => {
             let (inner, rest) = inside(alloc, depth, rest)?;
-            Ok(close(inner, rest)?)
+            Ok(close(alloc, inner, rest)?)
         }
         _ => Err(wrong(tokens)),
     }
@@ -306,7 +310,7 @@ fn chain<'a>(
     depth: u8,
     level: u8,
     tokens: &'a [Token<'a>],
-) -> Result<(Expr, &'a [Token<'a>]), Refusal>
+) -> Result<(Expr, &'a [Token<'a>]), FormFault>
     requires least { 0 < level }
     requires most { level ≤ 7 }
     ensures gives { Gives (λ x. (tree_of x.0, words x.1.now)) result (spec.chain (spec.level_at depth (level - 1)) level (words tokens.now)) }
@@ -328,7 +332,7 @@ fn comparison<'a>(
     alloc: Global,
     depth: u8,
     tokens: &'a [Token<'a>],
-) -> Result<(Expr, &'a [Token<'a>]), Refusal>
+) -> Result<(Expr, &'a [Token<'a>]), FormFault>
     ensures gives { Gives (λ x. (tree_of x.0, words x.1.now)) result (spec.comparison (spec.level_at depth 3) (words tokens.now)) }
     ensures shorter { IfOk result (λ x. length x.1.now < length tokens.now) }
 {
@@ -351,7 +355,7 @@ fn prefixes<'a>(
     depth: u8,
     level: u8,
     tokens: &'a [Token<'a>],
-) -> Result<(Expr, &'a [Token<'a>]), Refusal>
+) -> Result<(Expr, &'a [Token<'a>]), FormFault>
     requires least { 0 < level }
     requires most { level ≤ 7 }
     ensures gives { Gives (λ x. (tree_of x.0, words x.1.now)) result (spec.prefixes (spec.level_at depth (level - 1)) level (words tokens.now)) }
@@ -375,7 +379,7 @@ fn reader<'a>(
     depth: u8,
     level: u8,
     tokens: &'a [Token<'a>],
-) -> Result<(Expr, &'a [Token<'a>]), Refusal>
+) -> Result<(Expr, &'a [Token<'a>]), FormFault>
     requires { level ≤ 7 }
     ensures gives { Gives (λ x. (tree_of x.0, words x.1.now)) result (spec.level_at depth level (words tokens.now)) }
     ensures shorter { IfOk result (λ x. length x.1.now < length tokens.now) }
@@ -389,7 +393,7 @@ fn reader<'a>(
 }
 
 /// What the words begin with.
-fn loosest<'a>(alloc: Global, tokens: &'a [Token<'a>]) -> Result<(Expr, &'a [Token<'a>]), Refusal>
+fn loosest<'a>(alloc: Global, tokens: &'a [Token<'a>]) -> Result<(Expr, &'a [Token<'a>]), FormFault>
     ensures gives { Gives (λ x. (tree_of x.0, words x.1.now)) result (spec.level_at grammar.max_depth 7 (words tokens.now)) }
     ensures shorter { IfOk result (λ x. length x.1.now < length tokens.now) }
 {
@@ -403,7 +407,7 @@ fn loosest<'a>(alloc: Global, tokens: &'a [Token<'a>]) -> Result<(Expr, &'a [Tok
 pub fn expression<'a>(
     alloc: Global,
     tokens: &'a [Token<'a>],
-) -> Result<(Expr, &'a [Token<'a>]), Refusal>
+) -> Result<(Expr, &'a [Token<'a>]), FormFault>
     // What is answered, a fault too, is what reading from left to right finds.
     ensures gives { Gives (λ x. (tree_of x.0, words x.1.now)) result (spec.front (words tokens.now)) }
     // The words before the rest spell the tree.
@@ -420,7 +424,7 @@ pub fn expression<'a>(
 
 /// The expression that all of the words are.
 #[tactic(auto, unfolding(crate::specs::Reading::parse))]
-pub(crate) fn parse<'a>(alloc: Global, tokens: &'a [Token<'a>]) -> Result<Expr, Refusal>
+pub(crate) fn parse<'a>(alloc: Global, tokens: &'a [Token<'a>]) -> Result<Expr, FormFault>
     ensures { Gives tree_of result (spec.parse (words tokens.now)) }
 {
     let (tree, rest) = loosest(alloc, tokens)?;

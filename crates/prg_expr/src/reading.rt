@@ -1,85 +1,87 @@
 //! Reading an expression from a text.
 
-ghost use Rattle.std.specs.Prelude.{◌≡◌, ◌++◌, ℕ, List, IfOk, Ok, Result, length};
-ghost use Rattle.prg_expr.specs.declared.fault.Fault.{Fault as AnyFault};
+ghost use Rattle.std.specs.Prelude.{◌≡◌, ◌++◌, ℕ, List, IfErr, IfOk, Ok, Result};
+ghost use Rattle.prg_expr.specs.declared.fault.FaultKind.{FaultKind as AnyFault};
 ghost use Rattle.prg_expr.specs.Tree.{Tree, tree_of};
-ghost use Rattle.prg_expr.specs.Spelling.{Spells, InFront, read, told_of, OnFault};
+ghost use Rattle.prg_expr.specs.Spelling.{Answered, Answers, InFront, Spells, fault_told, read, told_of};
+ghost use Rattle.prg_expr.specs.Faults.{OnFault, Tells};
 ghost use Rattle.prg_expr.specs.Spelling as spec;
 ghost use Rattle.prg_expr.specs.Grammar as grammar;
 ghost use Rattle.prg_expr.specs.Word.{Word, words};
 ghost use Rattle.prg_expr.specs.Reading.{Gives, front};
 
-use crate::fault::{Fault, Refusal, least};
+use crate::fault::{FaultKind, FormFault, MOST_WORDS, ParseFault, Refusal, least, length_fault};
 use crate::lexer::cut;
 use crate::parser::parse;
 use crate::token::Token;
 use crate::tree::Expr;
 use std::alloc::Global;
 
-/// The most bytes of a line.
-const MOST_LINE: usize = 1024;
-
-/// The form of a text above so many bytes isn't read, since the tree could get too deep.
-const MOST_READ: usize = 4096;
-
-/// What is wrong with the length of a text.
-fn length_fault(text: &[u8]) -> Option<Fault>
-    ensures { result ≡ spec.length_fault (length text.now) }
+/// Reads the form of a text of these words.
+fn read_form(alloc: Global, tokens: &[Token<'_>]) -> Result<Expr, FormFault>
+    ensures { Gives tree_of result (spec.form_of (words tokens.now)) }
 {
-    if MOST_LINE < text.len() {
-        Some(Fault::TooLong)
-    } else {
-        None
-    }
-}
-
-/// Reads the form of a text of so many bytes.
-fn read_form(alloc: Global, tokens: &[Token<'_>], bytes: usize) -> Result<Expr, Refusal>
-    ensures { Gives tree_of result (spec.form_of bytes (words tokens.now)) }
-{
-    if MOST_READ < bytes {
-        return Err(Refusal::Fault(Fault::TooLong));
+    if MOST_WORDS < tokens.len() {
+        return Err(FormFault::Kind(FaultKind::TooLong));
     }
     parse(alloc, tokens)
 }
 
 /// What was read, or the least of its fault and another.
-fn told(fault: Option<Fault>, form: Result<Expr, Refusal>) -> Result<Expr, Refusal>
+fn told(fault: Option<FaultKind>, form: Result<Expr, FormFault>) -> Result<Expr, FormFault>
     ensures { (read : Result Tree AnyFault) → Gives tree_of form read → Gives tree_of result (told_of fault read) }
 {
     match form {
         Ok(tree) => match fault {
             None => Ok(tree),
-            Some(fault) => Err(Refusal::Fault(fault)),
+            Some(fault) => Err(FormFault::Kind(fault)),
         },
-        Err(Refusal::Memory) => Err(Refusal::Memory),
-        Err(Refusal::Fault(found)) => match least(fault, Some(found)) {
-            None => Err(Refusal::Fault(found)),
-            Some(fault) => Err(Refusal::Fault(fault)),
+        Err(FormFault::Memory) => Err(FormFault::Memory),
+        Err(FormFault::Kind(found)) => match least(fault, Some(found)) {
+            None => Err(FormFault::Kind(found)),
+            Some(fault) => Err(FormFault::Kind(fault)),
         },
     }
 }
 
+/// What a text is read as.
 #[tactic(auto, unfolding(crate::specs::Spelling::read))]
-fn read_all(alloc: Global, text: &[u8]) -> Result<Expr, Refusal>
+fn read_all(alloc: Global, text: &[u8]) -> Result<Expr, FormFault>
     ensures { Gives tree_of result (read text.now) }
 {
     let line = cut(alloc, text)?;
     let fault = least(line.fault, length_fault(text));
-    told(fault, read_form(alloc, &line.words, text.len()))
+    told(fault, read_form(alloc, &line.words))
 }
 
-/// The expression that a text spells. Told is the least of the faults of its words, of its form and of its length; the
-/// form of a text of more than 4,096 bytes, which is too long, isn't read.
+/// What was read of a text, which is one line.
+fn answered(form: Result<Expr, FormFault>) -> Result<Expr, Refusal>
+    ensures { (read : Result Tree AnyFault) → Gives tree_of form read → Answers result read }
+{
+    match form {
+        Ok(tree) => Ok(tree),
+        Err(FormFault::Memory) => Err(Refusal::Memory),
+        Err(FormFault::Kind(kind)) => Err(Refusal::Fault(ParseFault { line: 1, kind })),
+    }
+}
+
+/// The expression that a text spells.
+///
+/// # Errors
+///
+/// The least of the faults of its words, of its form and of its length, at line 1; the form of more than 4,096 words,
+/// which are too long, isn't read. Want of memory.
 pub fn expr(alloc: Global, text: &[u8]) -> Result<Expr, Refusal>
     // What is answered is what the text spells.
     ensures spelled { IfOk result (λ e. Spells (tree_of e) text.now) }
     // What the text spells is answered, unless memory runs out.
-    ensures only { (e : Tree) → Spells e text.now → Gives tree_of result (Ok e) }
+    ensures only { (e : Tree) → Spells e text.now → Answered e result }
     // A text is refused for another cause than memory only where it spells nothing.
-    ensures refused { OnFault result ((e : Tree) → Spells e text.now → ⊥) }
+    ensures refused { IfErr result (λ refusal. OnFault refusal ((e : Tree) → Spells e text.now → ⊥)) }
+    // The fault is the least one of the text.
+    ensures told { IfErr result (Tells (fault_told text.now)) }
 {
-    read_all(alloc, text)
+    answered(read_all(alloc, text))
 }
 
 /// A text spells at most one tree.

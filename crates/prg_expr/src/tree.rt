@@ -58,7 +58,7 @@ pub enum Prefix {
     Positive,
 }
 
-/// An expression. Parentheses leave no node.
+/// An expression. Parentheses are kept, since some commands tell `(X)` from `X`.
 #[derive(Debug, Drop)]
 pub enum Expr {
     Number(Num),
@@ -70,6 +70,8 @@ pub enum Expr {
     Qualified(Name, Name),
     /// A function with as many arguments as it takes.
     Call(Function, Vec<Expr>),
+    /// `( expression )`
+    Parentheses(Box<Expr>),
     Prefixed(Prefix, Box<Expr>),
     Binary(Operator, Box<Expr>, Box<Expr>),
 }

@@ -5,8 +5,8 @@ use Rattle.std.proofs.lemmas.List.{append-nil}
 use Rattle.prg_expr.specs.Functions.{is_cut}
 use Rattle.prg_expr.specs.Word.{Word}
 use Rattle.prg_expr.specs.Word as word
-use Rattle.prg_line.specs.declared.fault.FaultKind.{FaultKind}
-use Rattle.prg_line.specs.declared.fault.FaultKind.TheVariants as kind
+use Rattle.prg_expr.specs.declared.fault.FaultKind.{FaultKind}
+use Rattle.prg_expr.specs.declared.fault.FaultKind.TheVariants as kind
 use Rattle.prg_line.specs.Forms.{At, at, Reader, Taken, on_taken, takes, takes_in, is_at, is_at_end, is_nil, is_word_in, clause, unexpected, ◌>>=◌}
 use Rattle.prg_line.specs.Commands.{Phrase, Is, Then, Key, Mark, Either, But, Where}
 use Rattle.prg_line.proofs.Sound.{ok, fine, failed, taken}

@@ -1,3 +1,4 @@
+pub mod CommandWords
 pub mod FormsFull
 pub mod FormsSound
 pub mod Full

@@ -4,19 +4,18 @@ use Rattle.std.specs.Prelude.{if◌then◌else◌, ◌&&◌, ◌||◌, nat_le}
 use Rattle.std.proofs.lemmas.Bool.{le-leb}
 use Rattle.std.proofs.lemmas.List.{length-append}
 use Rattle.fixed_num.specs.Number.{Number as Decimal}
-use Rattle.prg_expr.specs.declared.fault.Fault.{Fault}
 use Rattle.prg_expr.specs.declared.tree.Operator.TheVariants.{Equal}
 use Rattle.prg_expr.specs.Grammar.{Spells, Free}
 use Rattle.prg_expr.specs.Reading.{front, reader, stage, chain, comparison, prefixes, operand, wrong}
-use Rattle.prg_expr.specs.declared.fault.Fault.TheVariants as expr_fault
 use Rattle.prg_expr.specs.Tree.{Tree}
 use Rattle.prg_expr.specs.Word.{Word}
 use Rattle.prg_expr.specs.Word as word
-use Rattle.prg_line.specs.declared.fault.FaultKind.TheVariants as kind
+use Rattle.prg_expr.specs.declared.fault.FaultKind.{FaultKind}
+use Rattle.prg_expr.specs.declared.fault.FaultKind.TheVariants as kind
 use Rattle.prg_line.specs.Act.{Act, Letters}
 use Rattle.prg_line.specs.Act as act
 use Rattle.prg_line.specs.Forms as f
-use Rattle.prg_line.specs.Forms.{At, at, Reader, Taken, on_taken, unexpected, is_at, is_at_end, is_nil, is_word_in, kind_told, ◌>>=◌}
+use Rattle.prg_line.specs.Forms.{At, at, Reader, Taken, on_taken, unexpected, is_at, is_at_end, is_nil, is_word_in, ◌>>=◌}
 use Rattle.prg_line.specs.Commands as c
 use Rattle.prg_line.specs.Commands.{Phrase, Is, Then, Key, Mark, But, Where, Either, Name, Whole, Several, SelectNumber}
 use Rattle.prg_line.proofs.Sound.{ok, fine, failed, taken, apart}
@@ -26,11 +25,11 @@ use Rattle.prg_line.proofs.Full.{Reaches, Full, Ended, Anything, Filled, bind_to
 abbrev pub FoundLaw : Type 0
 FoundLaw = (ws rest : List Word) (e : Tree) → Spells e ws → Free 7 rest → front (ws ++ rest) ≡ Ok (e, rest)
 
-abbrev good : Tree → List Word → Result (Tree × List Word) Fault
+abbrev good : Tree → List Word → Result (Tree × List Word) FaultKind
 good e rest = Ok (e, rest)
 
-told_to : (r s : Result (Tree × List Word) Fault) → r ≡ s → (kind_told r >>= λ x. ok x.0 (at x.1 true)) ≡ (kind_told s >>= λ x. ok x.0 (at x.1 true))
-told_to r s e = ap (λ (t : Result (Tree × List Word) Fault). kind_told t >>= λ x. ok x.0 (at x.1 true)) e
+told_to : (r s : Result (Tree × List Word) FaultKind) → r ≡ s → (r >>= λ x. ok x.0 (at x.1 true)) ≡ (s >>= λ x. ok x.0 (at x.1 true))
+told_to r s e = ap (λ (t : Result (Tree × List Word) FaultKind). t >>= λ x. ok x.0 (at x.1 true)) e
 
 expression_finds : FoundLaw → (a : At) (e : Tree) (ws rest : List Word) → Spells e ws → a.words ≡ ws ++ rest → Free 7 rest → Reaches f.expression a e rest
 unfolding f.expression
@@ -175,17 +174,17 @@ module _ {A : Type 0} (read : Reader A) (P : Phrase A) (F : List Word → Type 0
 
 -- what begins with an expression or a name isn't empty
 
-front_nothing : front [] ≡ Err expr_fault.Expression
+front_nothing : front [] ≡ Err kind.Expression
 unfolding reader stage chain comparison prefixes operand wrong
 front_nothing = refl
 
-abbrev bad : Fault → Result (Tree × List Word) Fault
+abbrev bad : FaultKind → Result (Tree × List Word) FaultKind
 bad e = Err e
 
-abbrev read_as : Tree × List Word → Result (Tree × List Word) Fault
+abbrev read_as : Tree × List Word → Result (Tree × List Word) FaultKind
 read_as x = Ok x
 
-not_read : (x : Tree × List Word) → bad expr_fault.Expression ≡ read_as x → ⊥
+not_read : (x : Tree × List Word) → bad kind.Expression ≡ read_as x → ⊥
 not_read x h = cc
 
 pub spells_filled : FoundLaw → Filled Spells

@@ -4,7 +4,6 @@ use Rattle.std.specs.Prelude.{if◌then◌else◌, nat_le, ◌&&◌, ◌||◌}
 use Rattle.std.proofs.lemmas.Bool.{leb-true}
 use Rattle.std.proofs.lemmas.List.{append-nil}
 use Rattle.fixed_num.specs.Number.{Number as Decimal}
-use Rattle.prg_expr.specs.declared.fault.Fault.{Fault}
 use Rattle.prg_expr.specs.declared.tree.Operator.TheVariants.{Or, And, Equal, NotEqual, Less, Greater, AtMost, AtLeast, Contains, Plus, Minus, Times, Over}
 use Rattle.prg_expr.specs.Grammar.{Spells}
 use Rattle.prg_expr.specs.Reading.{front}
@@ -12,12 +11,12 @@ use Rattle.prg_expr.specs.Spelling.{InFront}
 use Rattle.prg_expr.specs.Tree.{Tree}
 use Rattle.prg_expr.specs.Word.{Word}
 use Rattle.prg_expr.specs.Word as word
-use Rattle.prg_line.specs.declared.fault.FaultKind.{FaultKind}
-use Rattle.prg_line.specs.declared.fault.FaultKind.TheVariants as kind
+use Rattle.prg_expr.specs.declared.fault.FaultKind.{FaultKind}
+use Rattle.prg_expr.specs.declared.fault.FaultKind.TheVariants as kind
 use Rattle.prg_line.specs.Act.{Act, Letters}
 use Rattle.prg_line.specs.Act as act
 use Rattle.prg_line.specs.Forms as f
-use Rattle.prg_line.specs.Forms.{At, at, Reader, Taken, on_taken, unexpected, is_at, is_at_end, is_nil, is_it, is_word_in, kind_told, ◌>>=◌}
+use Rattle.prg_line.specs.Forms.{At, at, Reader, Taken, on_taken, unexpected, is_at, is_at_end, is_nil, is_it, is_word_in, ◌>>=◌}
 use Rattle.prg_line.specs.Commands as c
 use Rattle.prg_line.specs.Commands.{Phrase, Is, Then, Mark, But, Either, Name, Whole, Several, Expressions, Names, Prompt, SelectNumber}
 use Rattle.prg_line.proofs.Sound.{Sound, Front, ok, fine, failed, taken, not_ok, ok_same, bind_ok, same_said, same_place, same_words, but_front, is_sound, mark_sound, apart, not-taken, not-left, same-taken}
@@ -26,10 +25,10 @@ use Rattle.prg_line.proofs.Sound.{Sound, Front, ok, fine, failed, taken, not_ok,
 abbrev pub Law : Type 0
 Law = (ws rest : List Word) (e : Tree) → front ws ≡ Ok (e, rest) → InFront e ws rest
 
-abbrev told : Result (Tree × List Word) Fault → Result (Tree × At) FaultKind
-told r = kind_told r >>= λ x. Ok (x.0, at x.1 true)
+abbrev told : Result (Tree × List Word) FaultKind → Result (Tree × At) FaultKind
+told r = r >>= λ x. Ok (x.0, at x.1 true)
 
-expression_front : Law → (ws : List Word) (r : Result (Tree × List Word) Fault) → front ws ≡ r → (e : Tree) (b : At) → told r ≡ Ok (e, b) → Front (Spells e) ws b.words
+expression_front : Law → (ws : List Word) (r : Result (Tree × List Word) FaultKind) → front ws ≡ r → (e : Tree) (b : At) → told r ≡ Ok (e, b) → Front (Spells e) ws b.words
 expression_front law ws (Err k) i e b h = absurd (not_ok _ (e, b) h)
 expression_front law ws (Ok x) i e b h =
     let t = law ws x.1 x.0 i in

@@ -1,21 +1,20 @@
 -- Of a line without a fault the words say what is read, and the other way.
 use Rattle.std.proofs.Common.{◌≡◌, ℕ, ◌≤◌, List, [], ◌∷◌, Option, Some, None, Bool, true, false, Result, Ok, Err, length, map, refl, sym, ◌∙◌, ap, arith, subst}
-use Rattle.std.specs.Prelude.{if◌then◌else◌, nat_lt, nat_le, option_map}
+use Rattle.std.specs.Prelude.{if◌then◌else◌, nat_lt, nat_le, ◌&&◌}
+use Rattle.std.proofs.lemmas.List.{length-map}
 use Rattle.std.proofs.lemmas.Bool.{ltb-false, le-ltb}
-use Rattle.prg_expr.specs.declared.fault.Fault.{Fault}
-use Rattle.prg_expr.specs.Faults.{least, least_of as least_fault, rank}
-use Rattle.prg_expr.specs.Lexicon.{Spot, spot_fault, IsLine}
+use Rattle.prg_expr.specs.Faults.{least, least_of, length_fault, rank}
+use Rattle.prg_expr.specs.Lexicon.{Spot, spot_word, spot_fault, IsLine}
 use Rattle.prg_expr.specs.Scanning.{scan}
-use Rattle.prg_line.specs.declared.fault.FaultKind.{FaultKind}
-use Rattle.prg_line.specs.declared.fault.FaultKind.TheVariants.{TooLong}
+use Rattle.prg_expr.specs.declared.fault.FaultKind.{FaultKind}
+use Rattle.prg_expr.specs.declared.fault.FaultKind.TheVariants.{TooLong}
 use Rattle.prg_line.specs.declared.verb.Verb.{Verb}
 use Rattle.prg_line.specs.Commands.{Says}
 use Rattle.prg_line.specs.Forms.{At, at, sentence}
-use Rattle.prg_line.specs.Kinds.{least_of, kind_of, rank_of}
 use Rattle.prg_line.specs.LineSays.{Faultless, Counts, LineSays, begun}
-use Rattle.prg_line.specs.OneLine.{form, fault_in, saying_in, found_in, role_at, fault_at, saying_at, word_fault, length_fault}
+use Rattle.prg_line.specs.OneLine.{form, fault_in, saying_in, found_in, role_at, fault_at, saying_at, word_fault}
 use Rattle.prg_line.specs.Saying.{Saying, role_of}
-use Rattle.prg_line.specs.Verbs.{Found, ignores_rest}
+use Rattle.prg_line.specs.Verbs.{Found, ignores_rest, has_expressions}
 use Rattle.prg_line.proofs.PartsFull.{FoundLaw}
 use Rattle.prg_line.proofs.PartsSound.{Law}
 use Rattle.prg_line.proofs.SaysFull.{says_full}
@@ -30,7 +29,7 @@ CutLaw = (line : List ℕ) → IsLine (scan line) line
 some_kind : (x : FaultKind) → Some x ≡ None → ⊥
 some_kind x h = cc
 
-some_fault : (x : Fault) → Some x ≡ None → ⊥
+some_fault : (x : FaultKind) → Some x ≡ None → ⊥
 some_fault x h = cc
 
 some_told : (b : Bool) (k l : FaultKind) → (if b then Some k else Some l) ≡ None → ⊥
@@ -38,19 +37,19 @@ some_told true k l e = cc
 some_told false k l e = cc
 
 -- where neither of two faults is
-no_fault : (own place : Option FaultKind) → least_of own place ≡ None → place ≡ None
+no_fault : (own place : Option FaultKind) → least own place ≡ None → place ≡ None
 no_fault None place e = e
 no_fault (Some k) None e = refl
-no_fault (Some k) (Some l) e = absurd (some_told (nat_le (rank_of k) (rank_of l)) k l e)
+no_fault (Some k) (Some l) e = absurd (some_told (nat_le (rank k) (rank l)) k l e)
 
-own_fault : (own place : Option FaultKind) → least_of own place ≡ None → own ≡ None
+own_fault : (own place : Option FaultKind) → least own place ≡ None → own ≡ None
 own_fault None place e = refl
 own_fault (Some k) None e = e
-own_fault (Some k) (Some l) e = absurd (some_told (nat_le (rank_of k) (rank_of l)) k l e)
+own_fault (Some k) (Some l) e = absurd (some_told (nat_le (rank k) (rank l)) k l e)
 
 -- the words
 
-least_some : (k : Fault) (f : Option Fault) (g : Option Fault) → least (Some k) f ≡ g → g ≡ None → ⊥
+least_some : (k : FaultKind) (f : Option FaultKind) (g : Option FaultKind) → least (Some k) f ≡ g → g ≡ None → ⊥
 least_some k None g e h = some_fault k (e ∙ h)
 least_some k (Some l) g e h = chosen (nat_le (rank k) (rank l)) (e ∙ h)
   where
@@ -58,30 +57,26 @@ least_some k (Some l) g e h = chosen (nat_le (rank k) (rank l)) (e ∙ h)
     chosen true h = some_fault k h
     chosen false h = some_fault l h
 
-told_by : (k : Fault) (f : Option Fault) (fs : List (Option Fault)) → ((l : Fault) → least_fault (Some l) fs ≡ None → ⊥) → (g : Option Fault) → least (Some k) f ≡ g → least_fault g fs ≡ None → ⊥
+told_by : (k : FaultKind) (f : Option FaultKind) (fs : List (Option FaultKind)) → ((l : FaultKind) → least_of (Some l) fs ≡ None → ⊥) → (g : Option FaultKind) → least (Some k) f ≡ g → least_of g fs ≡ None → ⊥
 told_by k f fs again None e h = least_some k f None e refl
 told_by k f fs again (Some l) e h = again l h
 
-told_some : (k : Fault) (fs : List (Option Fault)) → least_fault (Some k) fs ≡ None → ⊥
+told_some : (k : FaultKind) (fs : List (Option FaultKind)) → least_of (Some k) fs ≡ None → ⊥
 told_some k [] h = some_fault k h
 told_some k (f ∷ fs) h = told_by k f fs (λ l g. told_some l fs g) (least (Some k) f) refl h
 
-faultless_by : (s : Spot) (spots : List Spot) → (least_fault None (map spot_fault spots) ≡ None → Faultless spots) → (f : Option Fault) → spot_fault s ≡ f → least_fault f (map spot_fault spots) ≡ None
+faultless_by : (s : Spot) (spots : List Spot) → (least_of None (map spot_fault spots) ≡ None → Faultless spots) → (f : Option FaultKind) → spot_fault s ≡ f → least_of f (map spot_fault spots) ≡ None
     → Faultless (s ∷ spots)
 faultless_by s spots again None e h = (e, again h)
 faultless_by s spots again (Some k) e h = absurd (told_some k (map spot_fault spots) h)
 
-faultless : (spots : List Spot) → least_fault None (map spot_fault spots) ≡ None → Faultless spots
+faultless : (spots : List Spot) → least_of None (map spot_fault spots) ≡ None → Faultless spots
 faultless [] h = tt
 faultless (s ∷ spots) h = faultless_by s spots (faultless spots) (spot_fault s) refl h
 
-no_kind : (o : Option Fault) → option_map kind_of o ≡ None → o ≡ None
-no_kind None h = refl
-no_kind (Some f) h = absurd (some_kind (kind_of f) h)
-
-counted : (x : Bool) (spots : List Spot) → (if x then None else option_map kind_of (least_fault None (map spot_fault spots))) ≡ None → Counts x spots
+counted : (x : Bool) (spots : List Spot) → (if x then None else least_of None (map spot_fault spots)) ≡ None → Counts x spots
 counted true spots h = tt
-counted false spots h = faultless spots (no_kind (least_fault None (map spot_fault spots)) h)
+counted false spots h = faultless spots h
 
 short : (n : ℕ) (x : Bool) → nat_lt 1024 n ≡ x → (if x then Some TooLong else None) ≡ None → n ≤ 1024
 short n true e h = absurd (some_kind TooLong h)
@@ -95,7 +90,7 @@ form_read v a s false h = h
 
 form_in : (n : ℕ) (f : Found) (s : Saying) → form n f ≡ fine s → sentence f.0 (at f.1 false) ≡ fine s
 unfolding form
-form_in n f s h = form_read f.0 (at f.1 false) s (nat_lt 4096 n) h
+form_in n f s h = form_read f.0 (at f.1 false) s (has_expressions f.0 && nat_lt 4096 n) h
 
 formed : (r : Result Saying FaultKind) → fault_in r ≡ None → r ≡ fine (saying_in r)
 formed (Ok s) h = refl
@@ -109,13 +104,13 @@ unfolding fault_at saying_at
 line_says law cut text h =
     let spots = scan text in
     let f = found_in spots in
-    let own = own_fault (least_of (word_fault f.0 spots) (fault_in (form (length text) f))) (length_fault (length text)) h in
+    let own = own_fault (least (word_fault f.0 spots) (fault_in (form (length (map spot_word (scan text))) f))) (length_fault (length text)) h in
     record {
       spots = spots;
       are_words = cut text;
-      short = short (length text) (nat_lt 1024 (length text)) refl (no_fault (least_of (word_fault f.0 spots) (fault_in (form (length text) f))) (length_fault (length text)) h);
-      counts = counted (ignores_rest f.0) spots (own_fault (word_fault f.0 spots) (fault_in (form (length text) f)) own);
-      says = says_form law (length text) f (no_fault (word_fault f.0 spots) (fault_in (form (length text) f)) own);
+      short = short (length text) (nat_lt 1024 (length text)) refl (no_fault (least (word_fault f.0 spots) (fault_in (form (length (map spot_word (scan text))) f))) (length_fault (length text)) h);
+      counts = counted (ignores_rest f.0) spots (own_fault (word_fault f.0 spots) (fault_in (form (length (map spot_word (scan text))) f)) own);
+      says = says_form law (length (map spot_word (scan text))) f (no_fault (word_fault f.0 spots) (fault_in (form (length (map spot_word (scan text))) f)) own);
     }
 
 pub line_placed : Law → (text : List ℕ) → fault_at text ≡ None → role_at text ≡ role_of (saying_at text)
@@ -123,8 +118,8 @@ unfolding fault_at role_at saying_at
 line_placed law text h =
     let spots = scan text in
     let f = found_in spots in
-    let own = own_fault (least_of (word_fault f.0 spots) (fault_in (form (length text) f))) (length_fault (length text)) h in
-    role_agrees f.0 (saying_in (form (length text) f)) f.1 (says_form law (length text) f (no_fault (word_fault f.0 spots) (fault_in (form (length text) f)) own))
+    let own = own_fault (least (word_fault f.0 spots) (fault_in (form (length (map spot_word (scan text))) f))) (length_fault (length text)) h in
+    role_agrees f.0 (saying_in (form (length (map spot_word (scan text))) f)) f.1 (says_form law (length (map spot_word (scan text))) f (no_fault (word_fault f.0 spots) (fault_in (form (length (map spot_word (scan text))) f)) own))
 
 -- the other way
 
@@ -132,37 +127,48 @@ line_placed law text h =
 abbrev pub OneLaw : Type 0
 OneLaw = (line : List ℕ) (a b : List Spot) → IsLine a line → IsLine b line → a ≡ b
 
-faultless_to : (spots : List Spot) → Faultless spots → least_fault None (map spot_fault spots) ≡ None
+faultless_to : (spots : List Spot) → Faultless spots → least_of None (map spot_fault spots) ≡ None
 faultless_to [] h = refl
-faultless_to (s ∷ spots) h = ap (λ (f : Option Fault). least_fault f (map spot_fault spots)) h.0 ∙ faultless_to spots h.1
+faultless_to (s ∷ spots) h = ap (λ (f : Option FaultKind). least_of f (map spot_fault spots)) h.0 ∙ faultless_to spots h.1
 
-counted_to : (x : Bool) (spots : List Spot) → Counts x spots → (if x then None else option_map kind_of (least_fault None (map spot_fault spots))) ≡ None
+counted_to : (x : Bool) (spots : List Spot) → Counts x spots → (if x then None else least_of None (map spot_fault spots)) ≡ None
 counted_to true spots h = refl
-counted_to false spots h = ap (option_map kind_of) (faultless_to spots h)
+counted_to false spots h = faultless_to spots h
 
 form_read_to : (r : Result Saying FaultKind) (x : Bool) → x ≡ false → (if x then failed TooLong else r) ≡ r
 form_read_to r x e = ap (λ (z : Bool). if z then failed TooLong else r) e
 
 form_to : (n : ℕ) (f : Found) (s : Saying) → n ≤ 1024 → sentence f.0 (at f.1 false) ≡ fine s → form n f ≡ fine s
 unfolding form
-form_to n f s l h = form_read_to (sentence f.0 (at f.1 false)) (nat_lt 4096 n) (le-ltb 4096 n (omega (arith, l))) ∙ h
+form_to n f s l h = form_read_to (sentence f.0 (at f.1 false)) (has_expressions f.0 && nat_lt 4096 n) (never (has_expressions f.0) (nat_lt 4096 n) (le-ltb 4096 n (omega (arith, l)))) ∙ h
+  where
+    never : (x y : Bool) → y ≡ false → (x && y) ≡ false
+    never true y e = e
+    never false y e = refl
+
+-- that the words found are no more than the bytes, which the crate of expressions proves
+abbrev pub FewLaw : Type 0
+FewLaw = (line : List ℕ) → length (scan line) ≤ length line
+
+few_words : (text : List ℕ) → length (scan text) ≤ length text → length text ≤ 1024 → length (map spot_word (scan text)) ≤ 1024
+few_words text few le = let m = length-map (scan text) spot_word in omega (arith, m, few, le)
 
 short_to : (x : Bool) → x ≡ false → (if x then Some TooLong else None) ≡ None
 short_to x e = ap (λ (z : Bool). if z then Some TooLong else None) e
 
-none_of : (x y z : Option FaultKind) → x ≡ None → y ≡ None → z ≡ None → least_of (least_of x y) z ≡ None
-none_of x y z e h g = ap (λ (k : Option FaultKind). least_of (least_of k y) z) e ∙ ap (λ (k : Option FaultKind). least_of k z) h ∙ g
+none_of : (x y z : Option FaultKind) → x ≡ None → y ≡ None → z ≡ None → least (least x y) z ≡ None
+none_of x y z e h g = ap (λ (k : Option FaultKind). least (least k y) z) e ∙ ap (λ (k : Option FaultKind). least k z) h ∙ g
 
-pub line_found : FoundLaw → CutLaw → OneLaw → (text : List ℕ) (s : Saying) → LineSays s text → (fault_at text ≡ None) × (saying_at text ≡ s)
+pub line_found : FoundLaw → CutLaw → FewLaw → OneLaw → (text : List ℕ) (s : Saying) → LineSays s text → (fault_at text ≡ None) × (saying_at text ≡ s)
 unfolding fault_at saying_at
-line_found found cut one text s l =
+line_found found cut few one text s l =
     let spots = scan text in
     let f = found_in spots in
     let same : l.spots ≡ spots = one text l.spots spots l.are_words (cut text) in
     let says = subst (λ (ss : List Spot). Says (begun ss).0 s (begun ss).1) same l.says in
     let counts = subst (λ (ss : List Spot). Counts (ignores_rest (begun ss).0) ss) same l.counts in
-    let read : form (length text) f ≡ fine s = form_to (length text) f s l.short (says_full found f.0 (at f.1 false) s says) in (
-      none_of (word_fault f.0 spots) (fault_in (form (length text) f)) (length_fault (length text)) (counted_to (ignores_rest f.0) spots counts) (ap fault_in read)
+    let read : form (length (map spot_word (scan text))) f ≡ fine s = form_to (length (map spot_word (scan text))) f s (few_words text (few text) l.short) (says_full found f.0 (at f.1 false) s says) in (
+      none_of (word_fault f.0 spots) (fault_in (form (length (map spot_word (scan text))) f)) (length_fault (length text)) (counted_to (ignores_rest f.0) spots counts) (ap fault_in read)
           (short_to (nat_lt 1024 (length text)) (le-ltb 1024 (length text) l.short)),
       ap saying_in read,
     )

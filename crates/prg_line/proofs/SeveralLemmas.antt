@@ -1,14 +1,14 @@
 -- One or more with commas between, as a loop reads them.
 use Rattle.std.proofs.Common.{◌≡◌, ℕ, zero, suc, ◌<◌, ◌≤◌, List, [], ◌∷◌, ◌++◌, length, take, drop, ◌-◌, map, true, false, Ok, refl, sym, ap, ◌∙◌, arith}
-use Rattle.std.proofs.lemmas.List.{drop-map, take_all, length-drop, map-append}
+use Rattle.std.proofs.lemmas.List.{drop-map, length-map, take_all, length-drop, map-append}
 use Rattle.prg_expr.specs.declared.token.Token.{Token}
-use Rattle.prg_expr.specs.Reading.{front}
+use Rattle.prg_expr.specs.Reading.{Fails, front}
 use Rattle.prg_expr.specs.Tree.{Tree}
 use Rattle.prg_expr.specs.Word.{Word, words, word_of}
-use Rattle.prg_line.specs.declared.reader.FormFault.{FormFault}
-use Rattle.prg_line.specs.declared.reader.FormFault.TheVariants.{Kind, Memory}
-use Rattle.prg_line.specs.Forms.{At, Reader, at, comma, more, expression, kind_told}
-use Rattle.prg_line.specs.Gives.{Fails}
+use Rattle.prg_expr.specs.declared.fault.FormFault.{FormFault}
+use Rattle.prg_expr.specs.declared.fault.FormFault.TheVariants.{Kind, Memory}
+use Rattle.prg_line.specs.Forms.{At, Reader, at, comma, more, expression}
+
 
 -- what was found so far goes on as from the start
 pub record SoFar {A : Type 0} (one : Reader A) (first : List A) (start : At) (found : List A) (a : At) : Type 0 where
@@ -55,7 +55,7 @@ words_length [] = refl
 words_length (t ∷ ts) = ap suc (words_length ts)
 
 -- an expression is read
-pub read_on : (a : At) (e : Tree) (rest others : List Word) → kind_told (front a.words) ≡ Ok (e, rest) → rest ≡ others → expression a ≡ Ok (e, at others true)
+pub read_on : (a : At) (e : Tree) (rest others : List Word) → front a.words ≡ Ok (e, rest) → rest ≡ others → expression a ≡ Ok (e, at others true)
 unfolding expression
 read_on a e rest others h same = rw (h, same) refl
 
@@ -71,3 +71,7 @@ shorter xs ys h = omega (arith, words_length xs, words_length ys, h)
 -- a list that was pushed to, seen by a function
 pub seen_pushed : {X Y : Type 0} (view : X → Y) (xs ys : List X) (x : X) → ys ≡ xs ++ x ∷ [] → map view xs ++ view x ∷ [] ≡ map view ys
 seen_pushed view xs ys x e = sym (map-append view xs (x ∷ [])) ∙ ap (map view) (sym e)
+
+-- words are as many as their tokens
+pub token_count : (ts : List Token) → length (words ts) ≡ length ts
+token_count ts = length-map ts word_of

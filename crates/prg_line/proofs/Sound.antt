@@ -4,7 +4,7 @@ use Rattle.std.specs.Prelude.{if◌then◌else◌}
 use Rattle.prg_expr.specs.Functions.{is_cut}
 use Rattle.prg_expr.specs.Word.{Word}
 use Rattle.prg_expr.specs.Word as word
-use Rattle.prg_line.specs.declared.fault.FaultKind.{FaultKind}
+use Rattle.prg_expr.specs.declared.fault.FaultKind.{FaultKind}
 use Rattle.prg_line.specs.Forms.{At, at, Reader, Taken, on_taken, takes, takes_in, is_word_in, clause, unexpected, ◌>>=◌}
 use Rattle.prg_line.specs.Commands.{Phrase, Is, Then, Key, Mark, Either, But, Where}
 

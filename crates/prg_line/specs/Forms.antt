@@ -1,20 +1,18 @@
 -- Reading the words of a line from left to right: what it says, or what is wrong with it.
 use Rattle.std.specs.Prelude.{ℕ, zero, suc, List, [], ◌∷◌, ◌++◌, length, take, codes, Bool, true, false, ◌&&◌, ◌||◌, nat_lt, nat_le, Option, Some, None, Result, Ok, Err, if◌then◌else◌, unsigned_abs, ◌==◌}
 use Rattle.fixed_num.specs.Number.{Number as Decimal, asterisk, finite}
-use Rattle.prg_expr.specs.declared.fault.Fault.{Fault}
 use Rattle.prg_expr.specs.declared.tree.Operator.TheVariants.{Equal}
 use Rattle.prg_expr.specs.Functions.{is_cut}
 use Rattle.prg_expr.specs.Reading.{front}
 use Rattle.prg_expr.specs.Tree.{Tree}
 use Rattle.prg_expr.specs.Word.{Word}
 use Rattle.prg_expr.specs.Word as word
-use Rattle.prg_line.specs.declared.fault.FaultKind.{FaultKind}
-use Rattle.prg_line.specs.declared.fault.FaultKind.TheVariants as kind
+use Rattle.prg_expr.specs.declared.fault.FaultKind.{FaultKind}
+use Rattle.prg_expr.specs.declared.fault.FaultKind.TheVariants as kind
 use Rattle.prg_line.specs.declared.statement.Setting.{Setting}
 use Rattle.prg_line.specs.declared.statement.Setting.TheVariants.{Exact, Deleted, Century}
 use Rattle.prg_line.specs.declared.verb.Verb.{Verb}
 use Rattle.prg_line.specs.declared.verb.Verb.TheVariants as verb
-use Rattle.prg_line.specs.Kinds.{kind_of}
 use Rattle.prg_line.specs.Act.{Act, Letters, Area, Goal, Change}
 use Rattle.prg_line.specs.Act as act
 use Rattle.prg_line.specs.Saying.{Saying}
@@ -62,14 +60,9 @@ unfoldable pub no_constant : List Word → FaultKind
 no_constant (word.Outside word.Macro ∷ ws) = kind.Macro
 no_constant ws = kind.Word
 
--- what was read, or the kind of its fault
-abbrev pub kind_told : {A : Type 0} → Result A Fault → Result A FaultKind
-kind_told (Ok x) = Ok x
-kind_told (Err f) = Err (kind_of f)
-
 -- the longest expression at the front
 unfoldable pub expression : Reader Tree
-expression a = kind_told (front a.words) >>= λ x. Ok (x.0, at x.1 true)
+expression a = front a.words >>= λ x. Ok (x.0, at x.1 true)
 
 unfoldable pub name_in : List Word → Read Letters
 name_in (word.Name s ∷ ws) = Ok (take 10 s, at ws false)

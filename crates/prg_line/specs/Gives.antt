@@ -1,19 +1,16 @@
 -- What a reader of words returned, beside what reading finds.
 use Rattle.std.specs.Prelude.{◌≡◌, Result, Ok, Err, true, false}
+use Rattle.prg_expr.specs.Reading.{Fails}
 use Rattle.prg_expr.specs.Word.{words}
-use Rattle.prg_line.specs.declared.fault.FaultKind.{FaultKind}
-use Rattle.prg_line.specs.declared.reader.FormFault.{FormFault}
-use Rattle.prg_line.specs.declared.reader.FormFault.TheVariants.{Kind, Memory}
+use Rattle.prg_expr.specs.declared.fault.FaultKind.{FaultKind}
+use Rattle.prg_expr.specs.declared.fault.FormFault.{FormFault}
+use Rattle.prg_expr.specs.declared.fault.FormFault.TheVariants.{Kind, Memory}
 use Rattle.prg_line.specs.declared.reader.Reader.{Reader}
 use Rattle.prg_line.specs.Forms.{At, Read, at, is_at_end, unexpected}
 
 -- where a reader stands
 abbrev pub at_of : Reader → At
 at_of r = at (words r.words.now) r.behind_expression
-
-abbrev pub Fails : {Y : Type 0} → FormFault → Result Y FaultKind → Type 0
-Fails Memory read = Unit {0}
-Fails (Kind kind) read = read ≡ Err kind
 
 -- what a function returned, seen by view, and where it left the reader are what reading gives, unless memory ran out
 abbrev pub Reads : {X Y : Type 0} → (X → Y) → Result X FormFault → Reader → Read Y → Type 0
@@ -24,11 +21,6 @@ Reads view (Err e) left read = Fails e read
 abbrev pub Leads : {X : Type 0} → Result X FormFault → Reader → Result At FaultKind → Type 0
 Leads (Ok x) left read = read ≡ Ok (at_of left)
 Leads (Err e) left read = Fails e read
-
--- the same where it doesn't matter how the reader is left
-abbrev pub Gives : {X Y : Type 0} → (X → Y) → Result X FormFault → Result Y FaultKind → Type 0
-Gives view (Ok x) read = read ≡ Ok (view x)
-Gives view (Err e) read = Fails e read
 
 -- nothing was left, or the fault is that of what stands there
 abbrev pub Ends : {X : Type 0} → Result X FormFault → At → Type 0

@@ -3,7 +3,6 @@ pub mod Beginning
 pub mod Commands
 pub mod Forms
 pub mod Gives
-pub mod Kinds
 pub mod LineSays
 pub mod OneLine
 pub mod Saying

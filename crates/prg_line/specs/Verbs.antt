@@ -1,5 +1,5 @@
 -- Which command the words of a line begin.
-use Rattle.std.specs.Prelude.{ℕ, List, [], ◌∷◌, Bool, true, false, ◌||◌, codes, Option, Some, None, if◌then◌else◌}
+use Rattle.std.specs.Prelude.{ℕ, List, [], ◌∷◌, ◌++◌, Bool, true, false, ◌||◌, codes, Option, Some, None, if◌then◌else◌}
 use Rattle.prg_expr.specs.Functions.{is_cut}
 use Rattle.prg_expr.specs.Word.{Word}
 use Rattle.prg_expr.specs.Word as word
@@ -44,6 +44,10 @@ abbrev pub of_changes : List Entry
 of_changes =
     (codes "REPLACE", verb.Replace) ∷ (codes "DELETE", verb.Delete) ∷ (codes "RECALL", verb.Recall) ∷ (codes "PACK", verb.Pack)
     ∷ (codes "ZAP", verb.Zap) ∷ (codes "REINDEX", verb.Reindex) ∷ (codes "INDEX", verb.Index) ∷ []
+
+-- all words that begin commands
+abbrev pub all_commands : List Entry
+all_commands = of_screen ++ (of_variables ++ (of_branches ++ (of_loops ++ (of_calls ++ (of_areas ++ (of_moves ++ of_changes))))))
 
 abbrev pub or_else : Option Verb → Option Verb → Option Verb
 or_else None other = other
@@ -122,6 +126,28 @@ ignores_rest verb.EndCase = true
 ignores_rest verb.EndDo = true
 ignores_rest verb.EndScan = true
 ignores_rest _ = false
+
+-- whether the command has expressions among its words
+abbrev pub has_expressions : Verb → Bool
+has_expressions verb.Show = true
+has_expressions verb.ShowOn = true
+has_expressions verb.At = true
+has_expressions verb.Accept = true
+has_expressions verb.Wait = true
+has_expressions verb.Assign = true
+has_expressions verb.Store = true
+has_expressions verb.If = true
+has_expressions verb.Case = true
+has_expressions verb.DoWhile = true
+has_expressions verb.Scan = true
+has_expressions verb.Do = true
+has_expressions verb.Set = true
+has_expressions verb.Go = true
+has_expressions verb.Skip = true
+has_expressions verb.Seek = true
+has_expressions verb.Replace = true
+has_expressions verb.Index = true
+has_expressions _ = false
 
 -- what the line is to the blocks around it
 abbrev pub role_of : Verb → Role

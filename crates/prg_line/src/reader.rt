@@ -1,56 +1,29 @@
 //! Reading the words of a command one after another.
 
 ghost use Rattle.std.specs.Prelude.{◌≡◌, ◌<◌, ◌≤◌, ◌-◌, suc, length, map, drop, IfOk, OnOk};
-ghost use Rattle.prg_expr.specs.Reading.{front};
+ghost use Rattle.prg_expr.specs.Reading.{Gives, front};
 ghost use Rattle.prg_expr.specs.Tree.{tree_of};
 ghost use Rattle.prg_expr.specs.Word.{words};
 ghost use Rattle.prg_line.specs.Act.{letters_of};
 ghost use Rattle.prg_line.specs.Forms as spec;
-ghost use Rattle.prg_line.specs.Gives.{at_of, Reads, Leads, Gives, Ends};
-ghost use Rattle.prg_line.specs.declared.reader.FormFault.TheVariants.{Kind, Memory};
+ghost use Rattle.prg_line.specs.Gives.{at_of, Reads, Leads, Ends};
+ghost use Rattle.prg_expr.specs.declared.fault.FormFault.TheVariants.{Kind};
 
-use crate::fault::{FaultKind, kind_of};
 use fixed_num::Num;
-use prg_expr::{Expr, Name, Operator, Refusal, Token, expression, is_word, name_of};
-use std::alloc::{AllocError, AllocFailed, Global};
-
-/// Why the words of a line are no command.
-#[derive(Clone, Copy, Debug, PartialEq, Eq)]
-pub enum FormFault {
-    /// What is wrong where the words stop being one.
-    Kind(FaultKind),
-    /// Memory ran out.
-    Memory,
-}
-
-impl From<AllocError> for FormFault {
-    ghost from_gives = { λ _ e. e ≡ Memory };
-
-    fn from(_e: AllocError) -> FormFault {
-        FormFault::Memory
-    }
-}
-
-impl<T: Drop> From<AllocFailed<T>> for FormFault {
-    ghost from_gives = { λ _ e. e ≡ Memory };
-
-    fn from(_e: AllocFailed<T>) -> FormFault {
-        FormFault::Memory
-    }
-}
+use prg_expr::{Expr, FaultKind, FormFault, Name, Operator, Token, expression, is_word, name_of};
+use std::alloc::Global;
 
 /// A word of a command is missing, or another one stands there.
 const WORD: FormFault = FormFault::Kind(FaultKind::Word);
 
 /// The longest expression at the front of the words, and how many words are behind it.
 fn expression_at(alloc: Global, tokens: &[Token<'_>]) -> Result<(Expr, usize), FormFault>
-    ensures gives { Gives (λ x. (tree_of x.0, drop (length tokens.now - x.1) (words tokens.now))) result (spec.kind_told (front (words tokens.now))) }
+    ensures gives { Gives (λ x. (tree_of x.0, drop (length tokens.now - x.1) (words tokens.now))) result (front (words tokens.now)) }
     ensures shorter { IfOk result (λ x. x.1 < length tokens.now) }
 {
     match expression(alloc, tokens) {
         Ok((found, rest)) => Ok((found, rest.len())),
-        Err(Refusal::Fault(fault)) => Err(FormFault::Kind(kind_of(fault))),
-        Err(Refusal::Memory) => Err(FormFault::Memory),
+        Err(fault) => Err(fault),
     }
 }
 

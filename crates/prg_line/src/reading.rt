@@ -1,40 +1,24 @@
 //! What a line says, and which fault it has.
 
-ghost use Rattle.std.specs.Prelude.{◌≡◌, ℕ, List, length, IfOk, Result, option_map, if◌then◌else◌, None};
-ghost use Rattle.prg_expr.specs.Word.{words as tokens};
-ghost use Rattle.prg_line.specs.Gives.{Gives};
-ghost use Rattle.prg_line.specs.Kinds as kinds;
+ghost use Rattle.std.specs.Prelude.{◌≡◌, ℕ, List, length, IfOk, Result, if◌then◌else◌, None};
+ghost use Rattle.prg_expr.specs.Reading.{Gives};
+ghost use Rattle.prg_expr.specs.Word.{words as tokens_of};
 ghost use Rattle.prg_line.specs.LineSays.{LineSays};
 ghost use Rattle.prg_line.specs.OneLine as spec;
 ghost use Rattle.prg_line.specs.Saying.{Saying, role_of, saying_of};
 ghost use Rattle.prg_line.specs.Verbs.{ignores_rest};
-ghost use Rattle.prg_line.specs.declared.fault.FaultKind.{FaultKind as AnyKind};
+ghost use Rattle.prg_expr.specs.declared.fault.FaultKind.{FaultKind as AnyKind};
 
-use crate::fault::{FaultKind, kind_of, least};
 use crate::forms::sentence;
-use crate::reader::{FormFault, Reader};
+use crate::reader::Reader;
 use crate::role::Role;
 use crate::statement::Sentence;
 use crate::verb::{Verb, verb_of};
-use prg_expr::{Fault, Token, expressions_are_read, lines_are_cut, one_line, words};
+use prg_expr::{
+    FaultKind, FormFault, MOST_WORDS, Token, expressions_are_read, least, length_fault,
+    lines_are_cut, one_line, words,
+};
 use std::alloc::{AllocError, Global};
-
-/// The most bytes of a line.
-const MOST_BYTES: usize = 1024;
-
-/// The form of a line above so many bytes isn't read, since the tree could get too deep.
-const MOST_BYTES_READ: usize = 4096;
-
-/// What is wrong with the length of a line.
-fn length_fault(text: &[u8]) -> Option<FaultKind>
-    ensures { result ≡ spec.length_fault (length text.now) }
-{
-    if text.len() > MOST_BYTES {
-        Some(FaultKind::TooLong)
-    } else {
-        None
-    }
-}
 
 /// A line that was read by itself.
 #[derive(Debug, Drop)]
@@ -47,17 +31,25 @@ pub struct ReadLine {
     pub sentence: Sentence,
 }
 
-/// Reads what the words of a command say, the first ones apart.
+/// How many words there are.
+#[tactic(auto, using(crate::proofs::SeveralLemmas::token_count))]
+fn count(tokens: &[Token<'_>]) -> usize
+    ensures { result ≡ length (tokens_of tokens.now) }
+{
+    tokens.len()
+}
+
+/// Reads what the words of a command say, the first ones apart, in a line of so many words.
 #[tactic(auto, unfolding(crate::specs::OneLine::form))]
 fn read_form(
     alloc: Global,
     verb: Verb,
     rest: &[Token<'_>],
-    bytes: usize,
+    count: usize,
 ) -> Result<Sentence, FormFault>
-    ensures { Gives saying_of result (spec.form bytes (verb, tokens rest.now)) }
+    ensures { Gives saying_of result (spec.form count (verb, tokens_of rest.now)) }
 {
-    if bytes > MOST_BYTES_READ {
+    if verb.has_expressions() && MOST_WORDS < count {
         return Err(FormFault::Kind(FaultKind::TooLong));
     }
     let mut reader = Reader {
@@ -69,16 +61,10 @@ fn read_form(
 }
 
 /// The least fault of the words of a line, where they count.
-fn word_fault(verb: Verb, fault: Option<Fault>) -> Option<FaultKind>
-    ensures { result ≡ (if ignores_rest verb then None else option_map kinds.kind_of fault) }
+fn word_fault(verb: Verb, fault: Option<FaultKind>) -> Option<FaultKind>
+    ensures { result ≡ (if ignores_rest verb then None else fault) }
 {
-    if verb.ignores_rest() {
-        return None;
-    }
-    match fault {
-        Some(fault) => Some(kind_of(fault)),
-        None => None,
-    }
+    if verb.ignores_rest() { None } else { fault }
 }
 
 /// What was read of a line's form, and its fault.
@@ -110,7 +96,12 @@ pub fn read_line(alloc: Global, text: &[u8]) -> Result<ReadLine, AllocError>
     let line = words(alloc, text)?;
     let found = verb_of(&line.words);
     let word_fault = word_fault(found.verb, line.fault);
-    let (sentence, form_fault) = told(read_form(alloc, found.verb, found.rest, text.len()))?;
+    let (sentence, form_fault) = told(read_form(
+        alloc,
+        found.verb,
+        found.rest,
+        count(&line.words),
+    ))?;
     Ok(ReadLine {
         role: found.verb.role(),
         fault: least(least(word_fault, form_fault), length_fault(text)),

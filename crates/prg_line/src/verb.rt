@@ -1,7 +1,9 @@
 //! The words that begin a command.
 
-ghost use Rattle.std.specs.Prelude.{◌≡◌, map};
+ghost use Rattle.std.specs.Prelude.{◌≡◌, ℕ, List, codes, false, map, true};
 ghost use Rattle.std.specs.Char.{to_ascii_uppercase};
+ghost use Rattle.prg_expr.specs.Functions.{is_cut};
+ghost use Rattle.prg_expr.specs.Lexicon.{Listed};
 ghost use Rattle.prg_expr.specs.Word.{words};
 ghost use Rattle.prg_line.specs.Verbs as spec;
 ghost use Rattle.prg_line.specs.Beginning.{found_of};
@@ -275,6 +277,12 @@ fn command_of(word: &[u8]) -> Verb
     }
 }
 
+/// Each command's word begins it, whole or cut, so that no word begins two; and none begins a comment.
+pub fn one_command()
+    ensures begins { (word : List ℕ) (x : spec.Entry) → Listed x spec.all_commands → is_cut word x.0 ≡ true → spec.command_of word ≡ x.1 }
+    ensures no_note { (word : List ℕ) (x : spec.Entry) → Listed x spec.all_commands → is_cut word x.0 ≡ true → is_cut word (codes "NOTE") ≡ false }
+{}
+
 /// Whether this word behind `SET` is one of the machine's looks.
 fn is_look(word: &[u8]) -> bool
     ensures { result ≡ spec.among spec.looks (map to_ascii_uppercase word.now) }
@@ -451,6 +459,33 @@ impl Verb {
         matches!(
             self,
             Verb::Ignored | Verb::EndIf | Verb::EndCase | Verb::EndDo | Verb::EndScan
+        )
+    }
+
+    /// Whether the command has expressions among its words.
+    pub fn has_expressions(self) -> bool
+        ensures { result ≡ spec.has_expressions self }
+    {
+        matches!(
+            self,
+            Verb::Show
+                | Verb::ShowOn
+                | Verb::At
+                | Verb::Accept
+                | Verb::Wait
+                | Verb::Assign
+                | Verb::Store
+                | Verb::If
+                | Verb::Case
+                | Verb::DoWhile
+                | Verb::Scan
+                | Verb::Do
+                | Verb::Set
+                | Verb::Go
+                | Verb::Skip
+                | Verb::Seek
+                | Verb::Replace
+                | Verb::Index
         )
     }
 

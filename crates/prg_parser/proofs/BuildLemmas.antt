@@ -4,7 +4,7 @@ use Rattle.std.specs.Prelude.{option_map, slice_get, if◌then◌else◌, not}
 use Rattle.std.proofs.lemmas.List.{append-nil, map-append}
 use Rattle.std.proofs.lemmas.Option.{slice_get-get_or}
 use Rattle.std.proofs.Math.Seq.{get_or-append_seam, take-append_seam}
-use Rattle.prg_line.specs.declared.fault.FaultKind.{FaultKind}
+use Rattle.prg_expr.specs.declared.fault.FaultKind.{FaultKind}
 use Rattle.prg_line.specs.declared.role.Role.{Role}
 use Rattle.prg_line.specs.declared.role.Role.TheVariants as role
 use Rattle.prg_parser.specs.declared.blocks.Part.{Part}
@@ -33,8 +33,8 @@ use Rattle.prg_parser.specs.declared.program.Procedure.{Procedure}
 use Rattle.prg_parser.specs.declared.program.Program.{Program}
 use Rattle.prg_line.specs.declared.statement.Statement.{Statement as Single}
 use Rattle.prg_parser.specs.declared.command.Form.TheVariants.{Statement}
-use Rattle.prg_parser.specs.Layout.{Lines, all_of, body_lines, cases_lines, form_lines, procedure_lines, program_lines}
-use Rattle.prg_parser.proofs.LayoutLemmas.{form_statement}
+use Rattle.prg_parser.specs.Layout.{Lines, all_of, body_lines, cases_lines, form_lines, procedure_lines, procedures_lines, program_lines}
+use Rattle.prg_parser.proofs.LayoutLemmas.{form_statement, procedures_more}
 use Rattle.prg_parser.specs.Blocks as spec
 use Rattle.prg_parser.specs.Blocks.{fault_of, parts_after, innermost, outer, may_stand}
 use Rattle.prg_parser.specs.Building.{IsChoice, Took, current_lines, finished_lines, open_lines, opens_lines, built_lines, built_parts, head_lines, ending, is_ending, place_of, part_of_block, awaited}
@@ -272,6 +272,10 @@ choice_ending saying.EndScan n e m = absurd cc
 choice_ending (saying.Procedure _) n e m = absurd cc
 
 -- one more at the end, with these lines
+-- the lines of a list, and of one more behind it
+pub put_by : {A : Type 0} (all : List A → Lines) (f : A → Lines) → ((xs : List A) (x : A) → all (xs ++ x ∷ []) ≡ all xs ++ f x) → (xs ys : List A) (x : A) (ls : Lines) → ys ≡ xs ++ x ∷ [] → f x ≡ ls → all ys ≡ all xs ++ ls
+put_by all f more xs ys x ls e l = ap all e ∙ more xs x ∙ ap (λ (behind : Lines). all xs ++ behind) l
+
 pub put_more : {A : Type 0} (f : A → Lines) (xs ys : List A) (x : A) (ls : Lines) → ys ≡ xs ++ x ∷ [] → f x ≡ ls → all_of (map f ys) ≡ all_of (map f xs) ++ ls
 put_more f xs ys x ls e l = ap (λ zs. all_of (map f zs)) e ∙ lines_more f xs x ∙ ap (λ more. all_of (map f xs) ++ more) l
 
@@ -416,10 +420,10 @@ regrouped_procedure m p l b = simp append_assoc
 
 pub procedure_ended : (f : Finished) (main : Vec Command Global) (procedures others : Vec Procedure Global) (n : ℕ) (name : ArrayVec ℕ) (body : Vec Command Global) → f ≡ Main main procedures n name
     → others.items ≡ procedures.items ++ (record { line = n; name = name; body = body }) ∷ []
-    → body_lines main.items ++ all_of (map procedure_lines others.items) ≡ finished_lines f ++ body_lines body.items
+    → body_lines main.items ++ procedures_lines others.items ≡ finished_lines f ++ body_lines body.items
 procedure_ended f main procedures others n name body i e =
-    ap (λ (ls : Lines). body_lines main.items ++ ls) (put_more procedure_lines procedures.items others.items (record { line = n; name = name; body = body }) (line n (saying.Procedure name.items) ∷ body_lines body.items) e refl)
-    ∙ regrouped_procedure (body_lines main.items) (all_of (map procedure_lines procedures.items)) (line n (saying.Procedure name.items) ∷ []) (body_lines body.items)
+    ap (λ (ls : Lines). body_lines main.items ++ ls) (put_by procedures_lines procedure_lines procedures_more procedures.items others.items (record { line = n; name = name; body = body }) (line n (saying.Procedure name.items) ∷ body_lines body.items) e refl)
+    ∙ regrouped_procedure (body_lines main.items) (procedures_lines procedures.items) (line n (saying.Procedure name.items) ∷ []) (body_lines body.items)
     ∙ ap (λ (g : Finished). finished_lines g ++ body_lines body.items) (sym i)
 
 pub all_finished : {E : Type 0} (b : Builder) (body : Vec Command Global) (r : Result Program E) → built_parts b ≡ [] → (awaited b.current ≡ [] → current_lines b.current ≡ body_lines body.items)

@@ -2,14 +2,14 @@
 use Rattle.std.proofs.Common.{◌≡◌, ℕ, List, [], ◌∷◌, Option, Some, None, map, refl, sym, ◌∙◌, ap}
 use Rattle.std.specs.List.{All}
 use Rattle.std.proofs.lemmas.List.Elements.{All-nil, All-cons, All-head, All-tail}
-use Rattle.prg_line.specs.declared.fault.FaultKind.{FaultKind}
+use Rattle.prg_expr.specs.declared.fault.FaultKind.{FaultKind}
 use Rattle.prg_line.specs.declared.role.Role.{Role}
 use Rattle.prg_line.specs.declared.statement.Sentence.{Sentence}
 use Rattle.prg_line.specs.LineSays.{LineSays}
 use Rattle.prg_line.specs.OneLine.{role_at, fault_at, saying_at}
 use Rattle.prg_line.specs.Saying.{Saying, role_of, saying_of}
 use Rattle.prg_parser.specs.declared.blocks.Part.{Part}
-use Rattle.prg_parser.specs.declared.fault.ParseFault.{ParseFault}
+use Rattle.prg_expr.specs.declared.fault.ParseFault.{ParseFault}
 use Rattle.prg_parser.specs.declared.judging.Mark.{Mark}
 use Rattle.prg_parser.specs.declared.program.Program.{Program}
 use Rattle.prg_parser.specs.Blocks.{parts_after, fault_of}

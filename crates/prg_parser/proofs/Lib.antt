@@ -4,6 +4,7 @@ pub mod JoinLemmas
 pub mod LayoutLemmas
 pub mod LineLemmas
 pub mod MarkLemmas
+pub mod OneProgram
 pub mod RangeLemmas
 pub mod TakingLemmas
 pub mod VerdictLemmas

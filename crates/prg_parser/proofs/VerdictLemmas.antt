@@ -2,14 +2,14 @@
 
 use Rattle.std.proofs.Common.{◌≡◌, ℕ, ◌+◌, ◌<◌, List, [], ◌∷◌, Option, Some, None, length, drop, get_or, refl, sym, ◌∙◌, ap, add-one, drop-cons, Bool, true, false}
 use Rattle.std.specs.Prelude.{option_map, nat_le, if◌then◌else◌}
-use Rattle.prg_line.specs.declared.fault.FaultKind.{FaultKind}
-use Rattle.prg_parser.specs.declared.fault.ParseFault.{ParseFault}
+use Rattle.prg_expr.specs.declared.fault.FaultKind.{FaultKind}
+use Rattle.prg_expr.specs.declared.fault.ParseFault.{ParseFault}
 use Rattle.prg_parser.specs.declared.blocks.Part.{Part}
 use Rattle.prg_parser.specs.declared.judging.Mark.{Mark}
 use Rattle.prg_parser.specs.Verdict as spec
 use Rattle.prg_parser.specs.Verdict.{verdict}
 use Rattle.prg_parser.specs.Blocks.{parts_after}
-use Rattle.prg_line.specs.Kinds.{least_of, rank_of}
+use Rattle.prg_expr.specs.Faults.{least, rank}
 
 front-told : (parts : List Part) (unended : Option ℕ) (mark : Mark) (others : List Mark) (kind : FaultKind) → spec.wrong parts mark ≡ Some kind
     → verdict parts unended (mark ∷ others) ≡ Some (record { line = mark.line; kind = kind })
@@ -53,13 +53,13 @@ some_told true k l e = cc
 some_told false k l e = cc
 
 -- where neither fault is, the place has none
-pub no_fault : (own place : Option FaultKind) → least_of own place ≡ None → place ≡ None
+pub no_fault : (own place : Option FaultKind) → least own place ≡ None → place ≡ None
 no_fault None place e = e
 no_fault (Some k) None e = refl
-no_fault (Some k) (Some l) e = absurd (some_told (nat_le (rank_of k) (rank_of l)) k l e)
+no_fault (Some k) (Some l) e = absurd (some_told (nat_le (rank k) (rank l)) k l e)
 
 -- and none of its own
-pub own_fault : (own place : Option FaultKind) → least_of own place ≡ None → own ≡ None
+pub own_fault : (own place : Option FaultKind) → least own place ≡ None → own ≡ None
 own_fault None place e = refl
 own_fault (Some k) None e = e
-own_fault (Some k) (Some l) e = absurd (some_told (nat_le (rank_of k) (rank_of l)) k l e)
+own_fault (Some k) (Some l) e = absurd (some_told (nat_le (rank k) (rank l)) k l e)

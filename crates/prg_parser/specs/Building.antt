@@ -17,7 +17,7 @@ use Rattle.std.specs.Global.{Vec}
 use Rattle.prg_parser.specs.Blocks.{parts_after, innermost, divide_at}
 use Rattle.prg_line.specs.Saying.{Saying, line, role_of}
 use Rattle.prg_line.specs.Saying as saying
-use Rattle.prg_parser.specs.Layout.{Lines, all_of, body_lines, cases_lines, procedure_lines, said}
+use Rattle.prg_parser.specs.Layout.{Lines, all_of, body_lines, cases_lines, procedures_lines, said}
 
 -- the lines of an open block that begins in this line, up to the one that begins its innermost part
 abbrev pub head_lines : ℕ → Open → Lines
@@ -67,7 +67,7 @@ current_lines (DoCase n before) = body_lines before.items ++ line n saying.DoCas
 -- the lines before the commands of the main part or of the procedure that is being read
 abbrev pub finished_lines : Finished → Lines
 finished_lines Nothing = []
-finished_lines (Main main procedures n name) = (body_lines main.items ++ all_of (map procedure_lines procedures.items)) ++ line n (saying.Procedure name.items) ∷ []
+finished_lines (Main main procedures n name) = (body_lines main.items ++ procedures_lines procedures.items) ++ line n (saying.Procedure name.items) ∷ []
 
 -- the lines that were taken so far
 abbrev pub built_lines : Builder → Lines

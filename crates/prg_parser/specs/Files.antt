@@ -2,8 +2,6 @@
 use Rattle.std.specs.Prelude.{◌≡◌, ℕ, List, [], ◌∷◌, map, None}
 use Rattle.prg_line.specs.LineSays.{LineSays}
 use Rattle.prg_line.specs.Saying.{Saying, role_of}
-use Rattle.prg_parser.specs.declared.fault.Refusal.{Refusal}
-use Rattle.prg_parser.specs.declared.fault.Refusal.TheVariants.{Fault, Memory}
 use Rattle.prg_parser.specs.declared.judging.Mark.{Mark}
 use Rattle.prg_parser.specs.declared.program.Program.{Program}
 use Rattle.prg_parser.specs.Layout.{program_lines, said_lines}
@@ -41,8 +39,3 @@ pub record IsProgramOf (bytes : List ℕ) (program : Program) : Type 0 where
   pub fits : Fits bytes sayings
   pub unnamed : program.name.items ≡ []
   pub laid_out : program_lines program ≡ said_lines (numbers (joined_lines bytes)) sayings
-
--- a refusal for another cause than memory
-abbrev pub OnFault : Refusal → Type 0 → Type 0
-OnFault (Fault fault) p = p
-OnFault Memory p = Unit {0}

@@ -1,15 +1,13 @@
 -- The lines of a program: a tree of commands laid out line by line.
-use Rattle.std.specs.Prelude.{ℕ, List, [], ◌∷◌, ◌++◌, map, Option, Some, None, option_map}
-use Rattle.prg_expr.specs.Tree.{tree_of}
+use Rattle.std.specs.Prelude.{ℕ, List, [], ◌∷◌, ◌++◌, map, Option}
 use Rattle.prg_parser.specs.declared.command.Command.{Command}
 use Rattle.prg_parser.specs.declared.command.Case.{Case}
 use Rattle.prg_parser.specs.declared.command.Branch.{Branch}
 use Rattle.prg_parser.specs.declared.command.Form.{Form}
-use Rattle.prg_parser.specs.declared.command.Form.TheOpen.{Form-F, Command-F, Case-F, Branch-F}
-use Rattle.prg_parser.specs.declared.command.Form.TheFolds.{fold-Form, fold-Command, fold-Case, fold-Branch}
 use Rattle.prg_parser.specs.declared.program.Procedure.{Procedure}
 use Rattle.prg_parser.specs.declared.program.Program.{Program}
-use Rattle.prg_line.specs.Act.{act_of}
+use Rattle.prg_parser.specs.Commands.{Cmd, Cmds, Cases, Part, ProcedureTree, ProgramTree, form_of, part_of, case_of, command_of, commands_of, cases_of, procedure_of, program_of}
+use Rattle.prg_parser.specs.Commands as tree
 use Rattle.prg_line.specs.Saying.{Saying, Line, line}
 use Rattle.prg_line.specs.Saying as saying
 
@@ -21,56 +19,69 @@ abbrev pub all_of : List Lines → Lines
 all_of [] = []
 all_of (ls ∷ others) = ls ++ all_of others
 
--- the lines of a part that begins with this word, if there is one
-abbrev pub part_of : Saying → Option (Saying → Lines) → Lines
-part_of word None = []
-part_of word (Some lines) = lines word
+abbrev mutual
+  -- the lines of a command
+  pub laid : Cmd → Lines
+  laid (tree.Single n s) = line n (saying.Whole s) ∷ []
+  laid (tree.If n e then otherwise end) = line n (saying.If e) ∷ (laid_in_turn then ++ (laid_part saying.Else otherwise ++ line end saying.EndIf ∷ []))
+  laid (tree.DoCase n cases otherwise end) = line n saying.DoCase ∷ (laid_cases cases ++ (laid_part saying.Otherwise otherwise ++ line end saying.EndCase ∷ []))
+  laid (tree.DoWhile n e body end) = line n (saying.DoWhile e) ∷ (laid_in_turn body ++ line end saying.EndDo ∷ [])
+  laid (tree.Scan n e body end) = line n (saying.Scan e) ∷ (laid_in_turn body ++ line end saying.EndScan ∷ [])
 
--- One layer, with the lines of each inner command in its place: a form's lines depend on the number of its first line,
--- a branch's on the word that begins it.
-abbrev pub form_step : Form-F (ℕ → Lines) (Saying → Lines) Lines Lines → ℕ → Lines
-form_step (Form-F.Statement s) n = line n (saying.Whole (act_of s)) ∷ []
-form_step (Form-F.If e then otherwise end) n = line n (saying.If (tree_of e)) ∷ (all_of then.items ++ (part_of saying.Else otherwise ++ line end saying.EndIf ∷ []))
-form_step (Form-F.DoCase cases otherwise end) n = line n saying.DoCase ∷ (all_of cases.items ++ (part_of saying.Otherwise otherwise ++ line end saying.EndCase ∷ []))
-form_step (Form-F.DoWhile e body end) n = line n (saying.DoWhile (tree_of e)) ∷ (all_of body.items ++ line end saying.EndDo ∷ [])
-form_step (Form-F.Scan e body end) n = line n (saying.Scan (option_map tree_of e)) ∷ (all_of body.items ++ line end saying.EndScan ∷ [])
+  -- the lines of commands one after another
+  pub laid_in_turn : Cmds → Lines
+  laid_in_turn tree.Done = []
+  laid_in_turn (tree.Then c cs) = laid c ++ laid_in_turn cs
 
-abbrev pub branch_step : Branch-F (ℕ → Lines) (Saying → Lines) Lines Lines → Saying → Lines
-branch_step b word = line b.line word ∷ all_of b.body.items
+  pub laid_cases : Cases → Lines
+  laid_cases tree.Neither = []
+  laid_cases (tree.When n e body others) = (line n (saying.Case e) ∷ laid_in_turn body) ++ laid_cases others
 
-abbrev pub case_step : Case-F (ℕ → Lines) (Saying → Lines) Lines Lines → Lines
-case_step c = line c.line (saying.Case (tree_of c.condition)) ∷ all_of c.body.items
+  -- the lines of a part that begins with this word, if there is one
+  pub laid_part : Saying → Part → Lines
+  laid_part word tree.Absent = []
+  laid_part word (tree.Otherwise n body) = line n word ∷ laid_in_turn body
 
-abbrev pub command_step : Command-F (ℕ → Lines) (Saying → Lines) Lines Lines → Lines
-command_step c = c.form c.line
+abbrev pub laid_procedure : ProcedureTree → Lines
+laid_procedure p = line p.line (saying.Procedure p.name) ∷ laid_in_turn p.body
 
--- the lines of a command whose first one has this number
+abbrev pub laid_procedures : List ProcedureTree → Lines
+laid_procedures ps = all_of (map laid_procedure ps)
+
+-- all lines of a program that say something, in their order
+abbrev pub laid_program : ProgramTree → Lines
+laid_program p = laid_in_turn p.main ++ laid_procedures p.procedures
+
+-- the lines of a form whose first one has this number
 abbrev pub form_lines : Form → ℕ → Lines
-form_lines = fold-Form (ℕ → Lines) (Saying → Lines) Lines Lines form_step branch_step case_step command_step
-
--- the lines of a branch that this word begins
-abbrev pub branch_lines : Branch → Saying → Lines
-branch_lines = fold-Branch (ℕ → Lines) (Saying → Lines) Lines Lines form_step branch_step case_step command_step
-
-abbrev pub case_lines : Case → Lines
-case_lines = fold-Case (ℕ → Lines) (Saying → Lines) Lines Lines form_step branch_step case_step command_step
+form_lines form n = laid (form_of form n)
 
 abbrev pub command_lines : Command → Lines
-command_lines = fold-Command (ℕ → Lines) (Saying → Lines) Lines Lines form_step branch_step case_step command_step
+command_lines command = laid (command_of command)
 
 -- the lines of commands one after another
 abbrev pub body_lines : List Command → Lines
-body_lines commands = all_of (map command_lines commands)
+body_lines commands = laid_in_turn (commands_of commands)
+
+-- the lines of a case before those of further ones
+abbrev pub case_lines : Case → Lines
+case_lines c = laid_cases (case_of c tree.Neither)
 
 abbrev pub cases_lines : List Case → Lines
-cases_lines cases = all_of (map case_lines cases)
+cases_lines cases = laid_cases (cases_of cases)
+
+-- the lines of a branch that this word begins, if there is one
+abbrev pub part_lines : Saying → Option Branch → Lines
+part_lines word branch = laid_part word (part_of branch)
 
 abbrev pub procedure_lines : Procedure → Lines
-procedure_lines p = line p.line (saying.Procedure p.name.items) ∷ body_lines p.body.items
+procedure_lines p = laid_procedure (procedure_of p)
 
--- all lines of a program that say something, in their order
+abbrev pub procedures_lines : List Procedure → Lines
+procedures_lines procedures = laid_procedures (map procedure_of procedures)
+
 abbrev pub program_lines : Program → Lines
-program_lines p = body_lines p.main.items ++ all_of (map procedure_lines p.procedures.items)
+program_lines p = laid_program (program_of p)
 
 -- what one line says; nothing of a line without meaning
 abbrev pub said : ℕ → Saying → Lines

@@ -1,5 +1,6 @@
 pub mod Blocks
 pub mod Building
+pub mod Commands
 pub mod Files
 pub mod Joined
 pub mod Layout

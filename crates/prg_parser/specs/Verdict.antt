@@ -1,15 +1,15 @@
 -- Which fault of a file is told.
 
 use Rattle.std.specs.Prelude.{◌≡◌, ℕ, List, [], ◌∷◌, Option, Some, None, if◌then◌else◌, slice_get, option_map, ◌≤◌}
-use Rattle.prg_line.specs.declared.fault.FaultKind.{FaultKind}
-use Rattle.prg_line.specs.declared.fault.FaultKind.TheVariants.{Block}
-use Rattle.prg_parser.specs.declared.fault.ParseFault.{ParseFault}
-use Rattle.prg_parser.specs.declared.fault.Refusal.{Refusal}
-use Rattle.prg_parser.specs.declared.fault.Refusal.TheVariants.{Fault, Memory}
+use Rattle.prg_expr.specs.declared.fault.FaultKind.{FaultKind}
+use Rattle.prg_expr.specs.declared.fault.FaultKind.TheVariants.{Block}
+use Rattle.prg_expr.specs.declared.fault.ParseFault.{ParseFault}
+use Rattle.prg_expr.specs.declared.fault.Refusal.{Refusal}
+use Rattle.prg_expr.specs.declared.fault.Refusal.TheVariants.{Fault, Memory}
 use Rattle.prg_parser.specs.declared.blocks.Part.{Part}
 use Rattle.prg_parser.specs.declared.judging.Mark.{Mark}
 use Rattle.prg_parser.specs.Blocks.{fault_of, parts_after, is_procedure}
-use Rattle.prg_line.specs.Kinds.{least_of}
+use Rattle.prg_expr.specs.Faults.{least}
 
 -- a line of a file of so many
 abbrev pub IsLineOf : ℕ → ℕ → Type 0
@@ -38,7 +38,7 @@ block_at line = record { line = line; kind = Block }
 
 -- what is wrong with a line: the least of its own fault and of that of its place
 abbrev pub wrong : List Part → Mark → Option FaultKind
-wrong parts mark = least_of mark.fault (fault_of parts mark.role)
+wrong parts mark = least mark.fault (fault_of parts mark.role)
 
 abbrev pub or_else : Option FaultKind → ℕ → Option ParseFault → Option ParseFault
 or_else (Some kind) line others = Some (record { line = line; kind = kind })
@@ -49,8 +49,3 @@ unfoldable pub verdict : List Part → Option ℕ → List Mark → Option Parse
 verdict parts unended [] = option_map block_at (earlier unended (opening_line parts))
 verdict parts unended (mark ∷ others) =
     or_else (wrong parts mark) mark.line (verdict (parts_after parts mark.line mark.role) (unended_after parts unended mark) others)
-
--- a refusal that is the fault which the definition tells, or want of memory
-abbrev pub Tells : Option ParseFault → Refusal → Type 0
-Tells told (Fault fault) = told ≡ Some fault
-Tells told Memory = Unit {0}

@@ -6,7 +6,8 @@ ghost use Rattle.arrayvec.specs.ArrayVec.{array_vec_len};
 ghost use Rattle.prg_parser.specs.Blocks as spec;
 
 use arrayvec::ArrayVec;
-use prg_line::{FaultKind, Role};
+use prg_expr::FaultKind;
+use prg_line::Role;
 
 /// The most blocks that may stand within each other.
 pub const MOST_BLOCKS: usize = 32;

@@ -6,7 +6,7 @@ ghost use Rattle.prg_expr.specs.Tree.{tree_of};
 ghost use Rattle.prg_parser.specs.Blocks.{divide_at, fault_of, innermost, is_procedure, may_stand, outer, takes_cases};
 ghost use Rattle.prg_parser.specs.Building.{IsChoice, Took, awaited, built_lines, built_parts, current_lines, ending, finished_lines, head_lines, is_ending, opens_lines, part_of_block, place_of};
 ghost use Rattle.prg_parser.specs.Layout.{said};
-ghost use Rattle.prg_parser.specs.Layout.{body_lines, branch_lines, cases_lines, command_lines, case_lines, form_lines, part_of, program_lines};
+ghost use Rattle.prg_parser.specs.Layout.{body_lines, cases_lines, command_lines, case_lines, form_lines, part_lines, program_lines};
 ghost use Rattle.prg_line.specs.Saying.{Saying, line as said_line, role_of, saying_of};
 ghost use Rattle.prg_line.specs.Saying as saying;
 ghost use Rattle.prg_parser.specs.declared.blocks.Place.{Place as Within};
@@ -545,7 +545,7 @@ fn cases_of(alloc: Global, head: Open, body: Vec<Command>) -> Result<Vec<Case>, 
 /// A `DO CASE` of these parts.
 #[tactic(auto, using(crate::proofs::LayoutLemmas::layouts))]
 fn case_of(cases: Vec<Case>, otherwise: Option<Branch>, end: usize) -> Form
-    ensures { (n : ℕ) → form_lines result n ≡ said_line n saying.DoCase ∷ (cases_lines cases.items ++ (part_of saying.Otherwise (option_map branch_lines otherwise) ++ said_line end saying.EndCase ∷ [])) }
+    ensures { (n : ℕ) → form_lines result n ≡ said_line n saying.DoCase ∷ (cases_lines cases.items ++ (part_lines saying.Otherwise otherwise ++ said_line end saying.EndCase ∷ [])) }
 {
     Form::DoCase {
         cases,
@@ -557,7 +557,7 @@ fn case_of(cases: Vec<Case>, otherwise: Option<Branch>, end: usize) -> Form
 /// An `IF` of these parts.
 #[tactic(auto, using(crate::proofs::LayoutLemmas::layouts))]
 fn if_of(condition: Expr, then: Vec<Command>, otherwise: Option<Branch>, end: usize) -> Form
-    ensures { (n : ℕ) → form_lines result n ≡ said_line n (saying.If (tree_of condition)) ∷ (body_lines then.items ++ (part_of saying.Else (option_map branch_lines otherwise) ++ said_line end saying.EndIf ∷ [])) }
+    ensures { (n : ℕ) → form_lines result n ≡ said_line n (saying.If (tree_of condition)) ∷ (body_lines then.items ++ (part_lines saying.Else otherwise ++ said_line end saying.EndIf ∷ [])) }
 {
     Form::If {
         condition,
@@ -570,7 +570,7 @@ fn if_of(condition: Expr, then: Vec<Command>, otherwise: Option<Branch>, end: us
 /// A branch of these parts.
 #[tactic(auto, using(crate::proofs::LayoutLemmas::layouts))]
 fn branch_of(line: usize, body: Vec<Command>) -> Branch
-    ensures { (s : Saying) → branch_lines result s ≡ said_line line s ∷ body_lines body.items }
+    ensures { (s : Saying) → part_lines s (Some result) ≡ said_line line s ∷ body_lines body.items }
 {
     Branch { line, body }
 }

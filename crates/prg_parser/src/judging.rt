@@ -5,8 +5,8 @@ ghost use Rattle.prg_parser.specs.Verdict as spec;
 ghost use Rattle.prg_parser.specs.Blocks.{is_procedure};
 
 use crate::blocks::{Part, Parts, block_fault, enter};
-use crate::fault::ParseFault;
-use prg_line::{FaultKind, Role, least};
+use prg_expr::{FaultKind, ParseFault, least};
+use prg_line::Role;
 
 /// What of a line decides on its fault.
 #[derive(Clone, Copy, Debug, PartialEq, Eq)]

@@ -1,21 +1,24 @@
 //! From the bytes of a command file to its tree.
 
-ghost use Rattle.std.specs.Prelude.{◌≡◌, List, length, map, IfOk, IfErr, None, []};
+ghost use Rattle.std.specs.Prelude.{◌≡◌, ℕ, List, length, map, IfOk, IfErr, None, []};
+ghost use Rattle.prg_expr.specs.Faults.{OnFault, Tells};
 ghost use Rattle.prg_line.specs.OneLine.{saying_at};
 ghost use Rattle.prg_line.specs.Saying.{Saying, role_of, saying_of};
-ghost use Rattle.prg_parser.specs.Files.{IsProgramOf, Fits, OnFault};
+ghost use Rattle.prg_parser.specs.Files.{IsProgramOf, Fits};
 ghost use Rattle.prg_parser.specs.Joined.{joined_of};
-ghost use Rattle.prg_parser.specs.Layout.{program_lines, said_lines};
+ghost use Rattle.prg_parser.specs.Commands.{ProgramTree, program_of};
+ghost use Rattle.prg_parser.specs.Layout.{laid_program, program_lines, said_lines};
+ghost use Rattle.prg_parser.specs.declared.program.Program.{Program as AnyProgram};
 ghost use Rattle.prg_parser.specs.Lines.{lines as line_list, before_end};
 ghost use Rattle.prg_parser.specs.Marks as spec;
-ghost use Rattle.prg_parser.specs.Verdict.{NamesLine, Tells, verdict};
+ghost use Rattle.prg_parser.specs.Verdict.{NamesLine, verdict};
 
 use crate::builder::Builder;
-use crate::fault::Refusal;
 use crate::judging::{Mark, judge};
 use crate::lines::{JoinedLine, joined_lines};
 use crate::program::Program;
-use prg_line::{ReadLine, Sentence, lines_are_read, read_line};
+use prg_expr::Refusal;
+use prg_line::{ReadLine, Sentence, lines_are_read, one_saying, read_line};
 use std::alloc::{AllocError, Global};
 
 /// The lines of a file that were read.
@@ -83,4 +86,14 @@ pub fn parse(alloc: Global, bytes: &[u8]) -> Result<Program, Refusal>
         Some(fault) => Err(Refusal::Fault(fault)),
         None => Ok(build(alloc, &marks, sentences)?),
     }
+}
+
+/// A file is one program at most.
+pub fn one_program()
+    // Programs of the same lines are the same tree.
+    ensures same { (a b : ProgramTree) → laid_program a ≡ laid_program b → a ≡ b }
+    // The programs that a file is are the same tree.
+    ensures one { (bytes : List ℕ) (a b : AnyProgram) → IsProgramOf bytes a → IsProgramOf bytes b → program_of a ≡ program_of b }
+{
+    one_saying();
 }

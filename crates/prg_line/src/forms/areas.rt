@@ -2,11 +2,12 @@
 
 ghost use Rattle.prg_line.specs.Act.{act_of};
 ghost use Rattle.prg_line.specs.Forms as spec;
-ghost use Rattle.prg_line.specs.Gives.{at_of, Reads, Gives};
+ghost use Rattle.prg_expr.specs.Reading.{Gives};
+ghost use Rattle.prg_line.specs.Gives.{at_of, Reads};
 
-use crate::fault::FaultKind;
-use crate::reader::{FormFault, Reader};
+use crate::reader::Reader;
 use crate::statement::{Selected, Setting, Statement};
+use prg_expr::{FaultKind, FormFault};
 
 /// The greatest number of a work area.
 const LAST_AREA: u16 = 10;

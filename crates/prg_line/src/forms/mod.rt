@@ -1,10 +1,11 @@
 //! The forms of the commands, a function each.
 
 ghost use Rattle.std.specs.Prelude.{◌≡◌, option_map};
+ghost use Rattle.prg_expr.specs.Reading.{Gives};
 ghost use Rattle.prg_line.specs.Act.{act_of};
 ghost use Rattle.prg_line.specs.Saying.{saying_of};
 ghost use Rattle.prg_line.specs.Forms as spec;
-ghost use Rattle.prg_line.specs.Gives.{at_of, Reads, Gives};
+ghost use Rattle.prg_line.specs.Gives.{at_of, Reads};
 
 mod areas;
 mod control;
@@ -12,10 +13,10 @@ mod records;
 mod screen;
 mod variables;
 
-use crate::fault::FaultKind;
-use crate::reader::{FormFault, Reader};
+use crate::reader::Reader;
 use crate::statement::{Sentence, Statement};
 use crate::verb::Verb;
+use prg_expr::{FaultKind, FormFault};
 
 /// A command that is one word.
 fn single(verb: Verb) -> Option<Statement>

@@ -6,8 +6,9 @@ ghost use Rattle.prg_line.specs.Act.{act_of, change_of};
 ghost use Rattle.prg_line.specs.Forms as spec;
 ghost use Rattle.prg_line.specs.Gives.{at_of, Reads};
 
-use crate::reader::{FormFault, Reader};
+use crate::reader::Reader;
 use crate::statement::{Move, Replacement, Statement};
+use prg_expr::FormFault;
 
 /// `GO TOP`, `GO BOTTOM` and `GO record`.
 #[tactic(auto, unfolding(crate::specs::Forms::go))]

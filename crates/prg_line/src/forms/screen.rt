@@ -6,9 +6,9 @@ ghost use Rattle.prg_line.specs.Act.{act_of};
 ghost use Rattle.prg_line.specs.Forms as spec;
 ghost use Rattle.prg_line.specs.Gives.{at_of, Reads};
 
-use crate::reader::{FormFault, Reader};
+use crate::reader::Reader;
 use crate::statement::Statement;
-use prg_expr::Expr;
+use prg_expr::{Expr, FormFault};
 
 /// `? [list]`.
 #[tactic(auto, unfolding(crate::specs::Forms::show))]

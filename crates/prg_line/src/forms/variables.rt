@@ -4,9 +4,9 @@ ghost use Rattle.prg_line.specs.Act.{act_of};
 ghost use Rattle.prg_line.specs.Forms as spec;
 ghost use Rattle.prg_line.specs.Gives.{at_of, Reads};
 
-use crate::fault::FaultKind;
-use crate::reader::{FormFault, Reader};
+use crate::reader::Reader;
 use crate::statement::Statement;
+use prg_expr::{FaultKind, FormFault};
 
 /// `variable = value`, of which no word is read yet.
 #[tactic(auto, unfolding(crate::specs::Forms::assign))]

@@ -1,0 +1,371 @@
+//! Expressions, their trees and their faults.
+
+use crate::texts::{Nest, nested};
+use prg_expr::{FaultKind, ParseFault, Refusal, expr, expression, is_word, name_of, words};
+use std::alloc::{AllocError, Global};
+use std::process::Abort;
+use std::test::Fail;
+
+/// How an expression is shown, or its fault.
+fn shown(alloc: Global, text: &[u8]) -> Result<String, AllocError> {
+    match expr(alloc, text) {
+        Ok(tree) => format!(in alloc; "{tree:?}"),
+        Err(Refusal::Fault(ParseFault { line, kind })) => format!(in alloc; "{line} {kind:?}"),
+        Err(Refusal::Memory) => String::from_str(alloc, "memory"),
+    }
+}
+
+/// The fault of a text.
+fn fault_of(alloc: Global, text: &[u8]) -> Option<FaultKind> {
+    match expr(alloc, text) {
+        Err(Refusal::Fault(ParseFault { line: 1, kind })) => Some(kind),
+        _ => None,
+    }
+}
+
+/// Each row has a text, `|`, and what its tree or fault is shown as, or how that begins.
+fn expect_rows(rt: &impl Abort, alloc: Global, table: &str) -> Result<(), Fail> {
+    for row in table.lines() {
+        let (text, wanted) = row.split_once('|').ok_or("no row")?;
+        let found = shown(alloc, text.as_bytes())?;
+        assert!(rt; found.as_str().starts_with(wanted), "{found}");
+    }
+    Ok(())
+}
+
+/// How operators group.
+fn trees() -> &'static str {
+    "\
+     A-B-C|Binary(Minus, Binary(Minus, Name([65]), Name([66])), Name([67]))\n\
+     (A-B)-C|Binary(Minus, Parentheses(Binary(Minus, Name([65]), Name([66]))), Name([67]))\n\
+     A-(B-C)|Binary(Minus, Name([65]), Parentheses(Binary(Minus, Name([66]), Name([67]))))\n\
+     A/B*C|Binary(Times, Binary(Over, Name([65]), Name([66])), Name([67]))\n\
+     A+B*C|Binary(Plus, Name([65]), Binary(Times, Name([66]), Name([67])))\n\
+     -A*B|Binary(Times, Prefixed(Negative, Name([65])), Name([66]))\n\
+     A--B|Binary(Minus, Name([65]), Prefixed(Negative, Name([66])))\n\
+     --A|Prefixed(Negative, Prefixed(Negative, Name([65])))\n\
+     A+B=C-D|Binary(Equal, Binary(Plus, Name([65]), Name([66])), Binary(Minus, Name([67]), Name([68])))\n\
+     A$B+C|Binary(Contains, Name([65]), Binary(Plus, Name([66]), Name([67])))\n\
+     .NOT. A=B|Prefixed(Not, Binary(Equal, Name([65]), Name([66])))\n\
+     .not. .not. A|Prefixed(Not, Prefixed(Not, Name([65])))\n\
+     .NOT. A .AND. B|Binary(And, Prefixed(Not, Name([65])), Name([66]))\n\
+     A.OR.B.AND.C|Binary(Or, Name([65]), Binary(And, Name([66]), Name([67])))\n\
+     A.AND.B.OR.C|Binary(Or, Binary(And, Name([65]), Name([66])), Name([67]))\n\
+     A.OR.B.OR.C|Binary(Or, Binary(Or, Name([65]), Name([66])), Name([67]))\n\
+     A.AND.B.AND.C|Binary(And, Binary(And, Name([65]), Name([66])), Name([67]))\n\
+     A\t+ \tb && a % comment '|Binary(Plus, Name([65]), Name([66]))\n\
+     max(A, B)-C|Binary(Minus, Call(Max, [Name([65]), Name([66])]), Name([67]))\n\
+     ((A))|Parentheses(Parentheses(Name([65])))\n\
+     A.or.B|Binary(Or, Name([65]), Name([66]))\n\
+     A .AND. B|Binary(And, Name([65]), Name([66]))\n\
+     A=B|Binary(Equal, Name([65]), Name([66]))\n\
+     A<>B|Binary(NotEqual, Name([65]), Name([66]))\n\
+     A#B|Binary(NotEqual, Name([65]), Name([66]))\n\
+     A<B|Binary(Less, Name([65]), Name([66]))\n\
+     A>B|Binary(Greater, Name([65]), Name([66]))\n\
+     A<=B|Binary(AtMost, Name([65]), Name([66]))\n\
+     A>=B|Binary(AtLeast, Name([65]), Name([66]))\n\
+     A$B|Binary(Contains, Name([65]), Name([66]))\n\
+     A+B|Binary(Plus, Name([65]), Name([66]))\n\
+     A-B|Binary(Minus, Name([65]), Name([66]))\n\
+     A*B|Binary(Times, Name([65]), Name([66]))\n\
+     A/B|Binary(Over, Name([65]), Name([66]))\n\
+     -a|Prefixed(Negative, Name([65]))\n\
+     +a|Prefixed(Positive, Name([65]))\n\
+     .Not.a|Prefixed(Not, Name([65]))\n\
+    "
+}
+
+#[test]
+fn groups(rt: HostRuntime) -> Result<(), Fail> {
+    expect_rows(&rt, rt.alloc(), trees())
+}
+
+/// Functions by their names, whole or cut.
+fn calls() -> &'static str {
+    "\
+     len(T)|Call(Len, [\n\
+     SUBSTR(T,1,2)|Call(Substr, [\n\
+     Substr(T,1)|Call(Substr, [\n\
+     LEFT(T,1)|Call(Left, [\n\
+     RIGHT(T,1)|Call(Right, [\n\
+     TRIM(T)|Call(Trim, [\n\
+     RTRIM(T)|Call(Trim, [\n\
+     LTRIM(T)|Call(Ltrim, [\n\
+     UPPER(T)|Call(Upper, [\n\
+     LOWER(T)|Call(Lower, [\n\
+     SPACE(1)|Call(Space, [\n\
+     REPLICATE(T,1)|Call(Replicate, [\n\
+     REPL(T,1)|Call(Replicate, [\n\
+     AT(T,T)|Call(At, [\n\
+     STUFF(T,1,2,T)|Call(Stuff, [\n\
+     ASC(T)|Call(Asc, [\n\
+     CHR(1)|Call(Chr, [\n\
+     ISALPHA(T)|Call(IsAlpha, [\n\
+     ISUPPER(T)|Call(IsUpper, [\n\
+     ISLOWER(T)|Call(IsLower, [\n\
+     IIF(L,1,2)|Call(Iif, [\n\
+     VAL(T)|Call(Val, [\n\
+     STR(1)|Call(Str, [\n\
+     STR(1,2)|Call(Str, [\n\
+     STR(1,2,3)|Call(Str, [\n\
+     ABS(1)|Call(Abs, [\n\
+     INT(1)|Call(Int, [\n\
+     MOD(1,2)|Call(Mod, [\n\
+     ROUND(1,2)|Call(Round, [\n\
+     MAX(1,2)|Call(Max, [\n\
+     MIN(1,2)|Call(Min, [\n\
+     CTOD(T)|Call(Ctod, [\n\
+     DTOC(D)|Call(Dtoc, [\n\
+     DAY(D)|Call(Day, [\n\
+     MONTH(D)|Call(Month, [\n\
+     YEAR(D)|Call(Year, [\n\
+     DOW(D)|Call(Dow, [\n\
+     CDOW(D)|Call(Cdow, [\n\
+     CMONTH(D)|Call(Cmonth, [\n\
+     RECNO()|Call(Recno, [])\n\
+     RECCOUNT()|Call(Reccount, [])\n\
+     EOF()|Call(Eof, [])\n\
+     BOF()|Call(Bof, [])\n\
+     FOUND()|Call(Found, [])\n\
+     DELETED()|Call(Deleted, [])\n\
+     DATE( )|Call(Date, [])\n\
+    "
+}
+
+#[test]
+fn functions(rt: HostRuntime) -> Result<(), Fail> {
+    expect_rows(&rt, rt.alloc(), calls())
+}
+
+/// Texts that spell nothing, and their faults.
+fn faults() -> &'static str {
+    "\
+     A % B|1 Character\n\
+     A ] B|1 Character\n\
+     {1}|1 Character\n\
+     A;B|1 Character\n\
+     12345678901234567890 !|1 Character\n\
+     'AB|1 Text\n\
+     [AB'|1 Text\n\
+     'AB\"|1 Text\n\
+     12345678901234567890|1 Number\n\
+     0.1234567890123456|1 Number\n\
+     1 2 12345678901234567890|1 Number\n\
+     X = = 3|1 Expression\n\
+     1.|1 Expression\n\
+     .X.|1 Expression\n\
+     A = B = C|1 Expression\n\
+     A = .NOT. B|1 Expression\n\
+     A < = B|1 Expression\n\
+     A - > B|1 Expression\n\
+     . AND . B|1 Expression\n\
+     FOO(1)|1 Expression\n\
+     SQRT(2)|1 Expression\n\
+     LEN()|1 Expression\n\
+     LEN(1,2)|1 Expression\n\
+     SUBSTR('A')|1 Expression\n\
+     SUB('A',1)|1 Expression\n\
+     ROU(1,2)|1 Expression\n\
+     EOF(1)|1 Expression\n\
+     MAX(1,)|1 Expression\n\
+     MAX(,1)|1 Expression\n\
+     1 2|1 Expression\n\
+     (1|1 Expression\n\
+     1)|1 Expression\n\
+     A->1|1 Expression\n\
+     'A'->B|1 Expression\n\
+     ? X|1 Expression\n\
+     X1234567890 = = 1|1 Expression\n\
+     (1 2 &X|1 Expression\n\
+     X1234567890|1 TooLong\n\
+     X1234567890 + &Y|1 TooLong\n\
+     &X|1 Macro\n\
+     A + &X +|1 Macro\n\
+     X &Y|1 Macro\n\
+    "
+}
+
+#[test]
+fn tells_faults(rt: HostRuntime) -> Result<(), Fail> {
+    expect_rows(&rt, rt.alloc(), faults())
+}
+
+/// Two spellings of one tree a row.
+fn sames() -> &'static str {
+    "\
+     .Y.|.T.\n\
+     .n.|.F.\n\
+     .t.|.T.\n\
+     .N.|.f.\n\
+     A<>B|A # B\n\
+     \"a'b\"|[a'b]\n\
+     1.AND.2|1 .AND. 2\n\
+     \"x y\"|[x y]\n\
+     'x y'|[x y]\n\
+     .5|0.5\n\
+     subs([A],1)|SUBSTR('A',1)\n\
+     rtri(a)|TRIM(A)\n\
+     m->total|M -> TOTAL\n\
+    "
+}
+
+#[test]
+fn same_tree(rt: HostRuntime) -> Result<(), Fail> {
+    for row in sames().lines() {
+        let (first, second) = row.split_once('|').ok_or("no row")?;
+        let first = shown(rt.alloc(), first.as_bytes())?;
+        let second = shown(rt.alloc(), second.as_bytes())?;
+        assert!(rt;
+            first.as_str() == second.as_str(),
+            "{first} is not {second}"
+        );
+    }
+    Ok(())
+}
+
+/// Whether each text, nested so, has this fault, or none.
+fn expect_nests(
+    rt: &impl Abort,
+    alloc: Global,
+    nests: &[(Nest<'_>, Option<FaultKind>)],
+) -> Result<(), Fail> {
+    for pair in nests {
+        let text = nested(alloc, &pair.0)?;
+        let times = pair.0.times;
+        assert!(rt; fault_of(alloc, &text) == pair.1, "{times}");
+    }
+    Ok(())
+}
+
+fn nest<'a>(open: &'a [u8], times: usize, inner: &'a [u8], close: &'a [u8]) -> Nest<'a> {
+    Nest {
+        front: b"",
+        open,
+        times,
+        inner,
+        close,
+    }
+}
+
+#[test]
+fn counts_parentheses(rt: HostRuntime) -> Result<(), Fail> {
+    let nests = [
+        (nest(b"(", 32, b"1", b")"), None),
+        (nest(b"(", 33, b"1", b")"), Some(FaultKind::TooDeep)),
+        (nest(b"ABS(", 32, b"1", b")"), None),
+        (nest(b"ABS(", 33, b"1", b")"), Some(FaultKind::TooDeep)),
+        (nest(b"(", 31, b"EOF()", b")"), None),
+        (nest(b"(", 32, b"EOF()", b")"), Some(FaultKind::TooDeep)),
+    ];
+    expect_nests(&rt, rt.alloc(), &nests)
+}
+
+#[test]
+fn counts_bytes(rt: HostRuntime) -> Result<(), Fail> {
+    let nests = [
+        (nest(b"X", 10, b"", b""), None),
+        (nest(b"X", 11, b"", b""), Some(FaultKind::TooLong)),
+        (nest(b" ", 1023, b"1", b""), None),
+        (nest(b" ", 1024, b"1", b""), Some(FaultKind::TooLong)),
+        (nest(b" ", 1024, b"1 2", b""), Some(FaultKind::Expression)),
+        (nest(b" ", 5000, b"1 2", b""), Some(FaultKind::Expression)),
+        (nest(b" ", 5000, b"!", b""), Some(FaultKind::Character)),
+        (nest(b"-", 1023, b"X", b""), None),
+        (nest(b"1+", 511, b"1", b""), None),
+        (nest(b"-", 100_000, b"X", b""), Some(FaultKind::TooLong)),
+    ];
+    expect_nests(&rt, rt.alloc(), &nests)
+}
+
+#[test]
+fn counts_bytes_of_texts(rt: HostRuntime) -> Result<(), Fail> {
+    let alloc = rt.alloc();
+    let inner = nested(alloc, &nest(b"a ", 127, b"", b""))?;
+    let text = nested(alloc, &nest(b"'", 1, &inner, b"'"))?;
+    assert!(rt; fault_of(alloc, &text).is_none());
+    let text = nested(alloc, &nest(b"[a", 1, &inner, b"]"))?;
+    assert!(rt; fault_of(alloc, &text) == Some(FaultKind::TooLong));
+    Ok(())
+}
+
+#[test]
+fn answers_long_texts(rt: HostRuntime) -> Result<(), Fail> {
+    for part in [b"(", b"-", b"'", b"1", b"X", b"&", b".", b" "] {
+        let text = nested(rt.alloc(), &nest(part, 100_000, b"", b""))?;
+        assert!(rt; expr(rt.alloc(), &text).is_err());
+    }
+    Ok(())
+}
+
+#[test]
+fn judges_every_byte(rt: HostRuntime) -> Result<(), Fail> {
+    let begins: &[u8] = b" \t'\"[.&()*+,-/<=>#$?@";
+    for b in 0..=255u8 {
+        let known = b.is_ascii_alphanumeric() || begins.contains(&b);
+        let is_strange = fault_of(rt.alloc(), &[b]) == Some(FaultKind::Character);
+        assert!(rt; is_strange != known, "{b}");
+    }
+    assert!(rt; fault_of(rt.alloc(), b"") == Some(FaultKind::Expression));
+    assert!(rt; fault_of(rt.alloc(), b"A\x80") == Some(FaultKind::Character));
+    Ok(())
+}
+
+/// The words of a line, as they are shown.
+fn words_shown(alloc: Global, line: &[u8]) -> Result<String, AllocError> {
+    let line = words(alloc, line)?;
+    format!(in alloc; "{line:?}")
+}
+
+/// Lines and their words.
+fn lines_of_words() -> &'static str {
+    "\
+     ?? X, @ && 'A|Line { words: [ShowOn, Name([88]), Comma, At], fault: None }\n\
+     ? &X|Line { words: [Show, Macro, Name([88])], fault: Some(Macro) }\n\
+     a->b<=1.5|Line { words: [Name([97]), Arrow, Name([98]), Operator(AtMost), Number([49, 46, 53])], fault: None }\n\
+     [a'b] %.t.|Line { words: [Text([97, 39, 98]), Faulty, Logical(true)], fault: Some(Character) }\n\
+     .(.|Line { words: [Point, Open, Point], fault: None }\n\
+     'a|Line { words: [Text([97])], fault: Some(Text) }\n\
+    "
+}
+
+#[test]
+fn words_of_lines(rt: HostRuntime) -> Result<(), Fail> {
+    for row in lines_of_words().lines() {
+        let (line, wanted) = row.split_once('|').ok_or("no row")?;
+        let found = words_shown(rt.alloc(), line.as_bytes())?;
+        assert!(rt; found.as_str() == wanted, "{found}");
+    }
+    Ok(())
+}
+
+/// How many words stand behind the expression at the front.
+fn words_behind(alloc: Global, line: &[u8]) -> Option<usize> {
+    let Ok(line) = words(alloc, line) else {
+        return None;
+    };
+    match expression(alloc, &line.words) {
+        Ok((_, rest)) => Some(rest.len()),
+        Err(_) => None,
+    }
+}
+
+#[test]
+fn front_of_words(rt: HostRuntime) -> Result<(), Fail> {
+    assert!(rt; words_behind(rt.alloc(), b"A = B = C") == Some(2));
+    assert!(rt; words_behind(rt.alloc(), b"A = B C") == Some(1));
+    Ok(())
+}
+
+#[test]
+fn names(rt: HostRuntime) -> Result<(), Fail> {
+    let name = name_of(b"abc_1");
+    assert!(rt; name.as_slice() == b"ABC_1".as_slice());
+    assert!(rt; is_word(b"repl", b"REPLACE"));
+    assert!(rt; is_word(b"REPLACE", b"REPLACE"));
+    assert!(rt; is_word(b"go", b"GO"));
+    assert!(rt; !is_word(b"rep", b"REPLACE"));
+    assert!(rt; !is_word(b"replacer", b"REPLACE"));
+    assert!(rt; !is_word(b"repla_", b"REPLACE"));
+    Ok(())
+}

@@ -1,0 +1,328 @@
+//! Command files, and the trees or faults that they give.
+
+use crate::texts::{Nest, bytes_of, nested};
+use prg_parser::{Form, Program, Refusal, Text, parse};
+use std::alloc::{AllocError, Global};
+use std::process::Abort;
+use std::test::Fail;
+
+/// The only command of a file, as it is shown.
+fn command_shown(alloc: Global, program: &Program) -> Result<String, AllocError> {
+    match program.main.as_slice() {
+        [] => String::from_str(alloc, "nothing"),
+        [command] => match &command.form {
+            Form::Statement(statement) => format!(in alloc; "{statement:?}"),
+            form => format!(in alloc; "{form:?}"),
+        },
+        _ => String::from_str(alloc, "several commands"),
+    }
+}
+
+/// The only command of a file as it is shown, or the file's fault.
+fn shown(alloc: Global, file: &[u8]) -> Result<String, AllocError> {
+    match parse(alloc, file) {
+        Ok(program) => command_shown(alloc, &program),
+        Err(Refusal::Fault(fault)) => {
+            let line = fault.line;
+            let kind = fault.kind;
+            format!(in alloc; "{line} {kind:?}")
+        }
+        Err(Refusal::Memory) => String::from_str(alloc, "memory"),
+    }
+}
+
+/// Each row has a file, in which `~` ends lines, `|`, and how its command or fault is shown.
+fn expect_rows(rt: &impl Abort, alloc: Global, table: &str) -> Result<(), Fail> {
+    for row in table.lines() {
+        let (example, wanted) = row.split_once('|').ok_or("no row")?;
+        let file = bytes_of(alloc, example)?;
+        let found = shown(alloc, &file)?;
+        assert!(rt; found.as_str() == wanted, "{found}");
+    }
+    Ok(())
+}
+
+/// The commands of one line.
+fn commands() -> &'static str {
+    "\
+     ?|Show { values: [] }\n\
+     ? A, .T.|Show { values: [Name([65]), Logical(true)] }\n\
+     ?? A|ShowOn { values: [Name([65])] }\n\
+     @ A,B SAY C|Say { row: Name([65]), column: Name([66]), value: Name([67]) }\n\
+     @ A,B GET C|Get { row: Name([65]), column: Name([66]), variable: [67] }\n\
+     @ A,B SAY C GET D|SayGet { row: Name([65]), column: Name([66]), value: Name([67]), variable: [68] }\n\
+     READ|Read\n\
+     ACCEPT TO V|Accept { prompt: None, variable: [86] }\n\
+     acce P to v|Accept { prompt: Some(Name([80])), variable: [86] }\n\
+     WAIT|Wait { prompt: None, variable: None }\n\
+     WAIT TO V|Wait { prompt: None, variable: Some([86]) }\n\
+     WAIT P|Wait { prompt: Some(Name([80])), variable: None }\n\
+     clea|Clear\n\
+     x = Y|Assign { variable: [88], value: Name([89]) }\n\
+     IF = Y|Assign { variable: [73, 70], value: Name([89]) }\n\
+     STORE Y TO A, B|Store { value: Name([89]), variables: [[65], [66]] }\n\
+     RELEASE A,B|Release { variables: [[65], [66]] }\n\
+     PRIV A|Private { variables: [[65]] }\n\
+     PARA A,B|Parameters { variables: [[65], [66]] }\n\
+     USE|Close\n\
+     USE T|Use { table: [84], indexes: [] }\n\
+     USE T INDEX A, B|Use { table: [84], indexes: [[65], [66]] }\n\
+     SELECT 10|Select { area: Number(10) }\n\
+     SELECT B|Select { area: Name([66]) }\n\
+     CLOSE ALL|CloseAll\n\
+     CLOSE DATA|CloseAll\n\
+     SET ORDER TO 2|SetOrder { order: 2 }\n\
+     SET FILTER TO|SetFilter { condition: None }\n\
+     SET FILT TO A|SetFilter { condition: Some(Name([65])) }\n\
+     SET EXACT ON|Set { setting: Exact, on: true }\n\
+     SET DELETED OFF|Set { setting: Deleted, on: false }\n\
+     SET CENTURY ON|Set { setting: Century, on: true }\n\
+     GO TOP|Go { to: Top }\n\
+     goto bott|Go { to: Bottom }\n\
+     GO A|Go { to: Record(Name([65])) }\n\
+     SKIP|Skip { rows: None }\n\
+     SKIP A|Skip { rows: Some(Name([65])) }\n\
+     SEEK A|Seek { key: Name([65]) }\n\
+     APPEND BLANK|AppendBlank\n\
+     REPLACE F WITH A, G WITH B|Replace { replacements: [Replacement { field: [70], value: Name([65]) }, Replacement { field: [71], value: Name([66]) }] }\n\
+     DELETE|Delete\n\
+     RECALL|Recall\n\
+     PACK|Pack\n\
+     ZAP|Zap\n\
+     REIN|Reindex\n\
+     INDEX ON A TO I|IndexOn { key: Name([65]), index: [73] }\n\
+     DO P|Do { procedure: [80], arguments: [] }\n\
+     DO P WITH A,B|Do { procedure: [80], arguments: [Name([65]), Name([66])] }\n\
+     RETURN|Return\n\
+     QUIT|Quit\n\
+     CANCEL|Cancel\n\
+     ? A, ; \t\r~  B\r~|Show { values: [Name([65]), Name([66])] }\n\
+     REA;~D;~;~|Read\n\
+     READ;|Read\n\
+     READ\x1aFOO|Read\n\
+     READ && the rest ;~'x' isn't read|Read\n\
+     DO P WITH (X), X|Do { procedure: [80], arguments: [Parentheses(Name([88])), Name([88])] }\n\
+     INDEX ON (K) TO I|IndexOn { key: Parentheses(Name([75])), index: [73] }\n\
+    "
+}
+
+#[test]
+fn reads_commands(rt: HostRuntime) -> Result<(), Fail> {
+    expect_rows(&rt, rt.alloc(), commands())
+}
+
+/// Blocks.
+fn blocks() -> &'static str {
+    "\
+     IF A~READ~ENDIF|If { condition: Name([65]), then: [Command { line: 2, form: Statement(Read) }], otherwise: None, end: 3 }\n\
+     IF A~ELSE~READ~ENDIF rest 'x|If { condition: Name([65]), then: [], otherwise: Some(Branch { line: 2, body: [Command { line: 3, form: Statement(Read) }] }), end: 4 }\n\
+     DO WHILE A~LOOP~EXIT~ENDDO|DoWhile { condition: Name([65]), body: [Command { line: 2, form: Statement(Loop) }, Command { line: 3, form: Statement(Exit) }], end: 4 }\n\
+     SCAN~ENDSCAN|Scan { condition: None, body: [], end: 2 }\n\
+     SCAN FOR A~READ~ENDSCAN|Scan { condition: Some(Name([65])), body: [Command { line: 2, form: Statement(Read) }], end: 3 }\n\
+     DO CASE~SET TALK OFF~CASE A~READ~CASE B~OTHERWISE~ZAP~ENDCASE|DoCase { cases: [Case { line: 3, condition: Name([65]), body: [Command { line: 4, form: Statement(Read) }] }, Case { line: 5, condition: Name([66]), body: [] }], otherwise: Some(Branch { line: 6, body: [Command { line: 7, form: Statement(Zap) }] }), end: 8 }\n\
+     DO CASE~ENDCASE|DoCase { cases: [], otherwise: None, end: 2 }\n\
+    "
+}
+
+#[test]
+fn reads_blocks(rt: HostRuntime) -> Result<(), Fail> {
+    expect_rows(&rt, rt.alloc(), blocks())
+}
+
+/// Files with a fault, and files that say nothing or little.
+fn faults() -> &'static str {
+    "\
+     X = = 3|1 Expression\n\
+     ? \"AB|1 Text\n\
+     ? 12345678901234567890|1 Number\n\
+     LOCATE FOR X|1 Word\n\
+     IF .T.|1 Block\n\
+     ? &X|1 Macro\n\
+     ? X % 2|1 Character\n\
+     X12345678901 = 1|1 TooLong\n\
+     FOO 12345678901234567890|1 Number\n\
+     FOO &X|1 Word\n\
+     X12345678901 = = 1|1 Expression\n\
+     ? &X +|1 Macro\n\
+     ? X &Y|1 Macro\n\
+     &X|1 Macro\n\
+     CASE &X|1 Block\n\
+     ? X Y|1 Word\n\
+     ? 1 2|1 Expression\n\
+     PACK 5|1 Word\n\
+     USE 5|1 Word\n\
+     SELECT 0|1 Word\n\
+     SELECT 11|1 Word\n\
+     DO|1 Word\n\
+     SET ORDER TO X|1 Word\n\
+     RELEASE ALL|1 Word\n\
+     STORE 1 TO M->V|1 Word\n\
+     WAIT TO|1 Word\n\
+     SEEK|1 Expression\n\
+     ? 1,|1 Expression\n\
+     @ 1 SAY 2|1 Word\n\
+     @ 1|1 Expression\n\
+     5 = 5|1 Word\n\
+     READ~ELSE|2 Block\n\
+     IF A~ELSE~ELSE~ENDIF|3 Block\n\
+     DO WHILE A~ENDIF|2 Block\n\
+     DO CASE~READ~ENDCASE|2 Block\n\
+     DO CASE~OTHERWISE~CASE A~ENDCASE|3 Block\n\
+     IF A~LOOP~ENDIF|2 Block\n\
+     SCAN~IF A~EXIT~ENDIF~ENDSCAN~EXIT|6 Block\n\
+     IF A~FOO|2 Word\n\
+     SCAN~IF A~PROCEDURE P~READ|1 Block\n\
+     IF A~PROCEDURE P~ENDIF|3 Block\n\
+     READ~DO WHILE A~IF A~ENDIF|2 Block\n\
+     * a comment ;~FOO~FOO|3 Word\n\
+     ?;~;~FOO FOO~READ|1 Word\n\
+     READ\r|1 Character\n\
+     READ~~~IF A;~|4 Block\n\
+     ? A;;~|1 Character\n\
+     ~ \t~* X~\tnote x~NOTE~Note = 3~  && X~SET TALK &X 'a~set dele%~|9 Character\n\
+     set deli to~SET PROC TO X~SET COLOR TO W/B;~%~SET SAFE OFF|nothing\n\
+     NOTES = .T.|Assign { variable: [78, 79, 84, 69, 83], value: Logical(true) }\n\
+     SET TAL OFF|1 Word\n\
+     SET PRINT ON|1 Word\n\
+    "
+}
+
+#[test]
+fn tells_faults(rt: HostRuntime) -> Result<(), Fail> {
+    expect_rows(&rt, rt.alloc(), faults())
+}
+
+/// Whether a file is a program, or its fault.
+fn verdict(alloc: Global, file: &[u8]) -> Result<String, AllocError> {
+    match parse(alloc, file) {
+        Ok(_) => String::from_str(alloc, "a program"),
+        Err(Refusal::Fault(fault)) => {
+            let line = fault.line;
+            let kind = fault.kind;
+            format!(in alloc; "{line} {kind:?}")
+        }
+        Err(Refusal::Memory) => String::from_str(alloc, "memory"),
+    }
+}
+
+/// Nested files, and the verdict on each.
+fn expect_nests(rt: &impl Abort, alloc: Global, nests: &[(Nest<'_>, &str)]) -> Result<(), Fail> {
+    for pair in nests {
+        let file = nested(alloc, &pair.0)?;
+        let found = verdict(alloc, &file)?;
+        assert!(rt; found.as_str() == pair.1, "{found}");
+    }
+    Ok(())
+}
+
+fn nest<'a>(
+    front: &'a [u8],
+    open: &'a [u8],
+    times: usize,
+    inner: &'a [u8],
+    close: &'a [u8],
+) -> Nest<'a> {
+    Nest {
+        front,
+        open,
+        times,
+        inner,
+        close,
+    }
+}
+
+#[test]
+fn counts_blocks_and_parentheses(rt: HostRuntime) -> Result<(), Fail> {
+    let nests = [
+        (nest(b"", b"IF A\n", 32, b"", b"ENDIF\n"), "a program"),
+        (nest(b"", b"IF A\n", 33, b"", b""), "33 TooDeep"),
+        (nest(b"", b"IF A\n", 32, b"DO CASE\n", b""), "33 TooDeep"),
+        (nest(b"? ", b"(", 32, b"A", b")"), "a program"),
+        (nest(b"? ", b"(", 33, b"", b""), "1 TooDeep"),
+        (
+            nest(b"", b"PROCEDURE P\n", 2000, b"IF A", b""),
+            "2001 Block",
+        ),
+    ];
+    expect_nests(&rt, rt.alloc(), &nests)
+}
+
+#[test]
+fn counts_bytes(rt: HostRuntime) -> Result<(), Fail> {
+    let nests = [
+        (nest(b"", b"", 0, b"", b""), "a program"),
+        (nest(b"", b" ", 1020, b"READ", b""), "a program"),
+        (nest(b"", b" ", 1021, b"READ", b""), "1 TooLong"),
+        (nest(b"", b" ", 1021, b"ELSE", b""), "1 Block"),
+        (nest(b"", b"*", 1025, b"", b""), "1 TooLong"),
+        (nest(b"? A", b" ", 509, b";\n", b" "), "a program"),
+        (nest(b"? A", b" ", 511, b";\n", b" "), "1 TooLong"),
+        (nest(b"", b";\n", 20000, b"", b""), "a program"),
+        (nest(b"", b"?;\n", 20000, b"", b""), "1 TooLong"),
+        (nest(b"?", b"-", 100_000, b"X", b""), "1 TooLong"),
+    ];
+    expect_nests(&rt, rt.alloc(), &nests)
+}
+
+/// However long a line is, a lesser fault of its form is told.
+#[test]
+fn judges_long_lines(rt: HostRuntime) -> Result<(), Fail> {
+    let nests = [
+        (nest(b"", b"FOO ", 1250, b"", b""), "1 Word"),
+        (nest(b"", b"READ;\n", 20000, b"", b""), "1 Word"),
+        (nest(b"", b"(", 200_000, b"", b""), "1 Word"),
+        (nest(b"?", b" ", 5000, b"1 2", b""), "1 Expression"),
+        (nest(b"PRIVATE ", b"A,", 5000, b"5", b""), "1 Word"),
+        (nest(b"PRIVATE ", b"A,", 5000, b"A", b""), "1 TooLong"),
+    ];
+    expect_nests(&rt, rt.alloc(), &nests)
+}
+
+/// The lines of the commands of the main part and of the procedures, and the procedures' names.
+fn places(alloc: Global, file: &[u8]) -> Result<String, AllocError> {
+    match parse(alloc, file) {
+        Ok(program) => {
+            let mut name = Text::new();
+            name.push(b'A');
+            let program = program.named(name);
+            format!(in alloc; "{program:?}")
+        }
+        Err(_) => String::from_str(alloc, "refused"),
+    }
+}
+
+#[test]
+fn keeps_procedures_and_names(rt: HostRuntime) -> Result<(), Fail> {
+    let found = places(rt.alloc(), b"DO P\nPROCEDURE P\nREAD\nproc q\n")?;
+    assert!(rt; found.as_str() == program_shown(), "{found}");
+    Ok(())
+}
+
+/// What that file is shown as.
+fn program_shown() -> &'static str {
+    "Program { name: [65], main: [Command { line: 1, form: Statement(Do { procedure: [80], arguments: [] }) }], procedures: [Procedure { line: 2, name: [80], body: [Command { line: 3, form: Statement(Read) }] }, Procedure { line: 4, name: [81], body: [] }] }"
+}
+
+#[test]
+fn answers_each_byte(rt: HostRuntime) -> Result<(), Fail> {
+    let begins: &[u8] = b"\t\n\x1a '\"[.&()*+,-/<=>#$?@;";
+    for byte in 0..=255u8 {
+        let known = byte.is_ascii_alphanumeric() || begins.contains(&byte);
+        let found = verdict(rt.alloc(), &[byte])?;
+        assert!(rt; (found.as_str() == "1 Character") != known, "{byte}");
+    }
+    Ok(())
+}
+
+#[test]
+fn answers_texts_of_each_byte(rt: HostRuntime) -> Result<(), Fail> {
+    let ends: &[u8] = b"\n\x1a'";
+    for byte in 0..=255u8 {
+        let found = verdict(rt.alloc(), &[b'?', b'\'', byte, b'\''])?;
+        assert!(rt;
+            (found.as_str() == "1 Text") == ends.contains(&byte),
+            "{byte}"
+        );
+    }
+    Ok(())
+}
