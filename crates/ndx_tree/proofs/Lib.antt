@@ -26,3 +26,4 @@ pub mod Writing
 pub mod TextPages
 pub mod HeadFront
 pub mod WholeFile
+pub mod Starts

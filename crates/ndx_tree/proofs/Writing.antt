@@ -38,7 +38,7 @@ AreLast-all before [] = tt
 AreLast-all before (p ∷ ps) = AreLast-all (before ++ p ∷ []) ps
 
 -- keys go up with the pairs
-not_below : (p q : Pair) → is_before p q ≡ true → key_before q.0 p.0 ≡ false
+pub not_below : (p q : Pair) → is_before p q ≡ true → key_before q.0 p.0 ≡ false
 not_below p q e = false_from_ne_true (key_before q.0 p.0) (λ g. false≢true (sym (before_asym p q e) ∙ orders_pairs.by_key q.0 p.0 q.1 p.1 g))
 
 not_itself : (p : Pair) → key_before p.0 p.0 ≡ false

@@ -4,7 +4,7 @@
 ghost use Rattle.std.specs.Prelude.{List};
 ghost use Rattle.ndx_tree.specs.Order.{IsAscending};
 ghost use Rattle.ndx_tree.specs.Pairs.{Pair, is_before};
-ghost use Rattle.ndx_tree.specs.Laws.{OrdersPairs, FindsNearest, MeetsEach, ChangesOne, PutsInOrder, ChangesRows};
+ghost use Rattle.ndx_tree.specs.Laws.{OrdersPairs, FindsNearest, MeetsEach, ChangesOne, PutsInOrder, ChangesRows, StandTogether};
 ghost use Rattle.ndx_tree.specs.IndexText.{HoldsOneList};
 
 use ndx_page::laws::{heads_are_told, pages_are_told};
@@ -29,7 +29,7 @@ pub fn changes_one()
     ensures { (p : Pair) (pairs : List Pair) → IsAscending is_before pairs → ChangesOne p pairs }
 {}
 
-/// Pairs put in order are the same pairs, and one list whatever order they came in.
+/// Pairs put in order are the same pairs, as often each, and one list whatever order they came in; pairs in order stay so.
 pub fn puts_in_order()
     ensures { (pairs : List Pair) → PutsInOrder pairs }
 {}
@@ -37,6 +37,12 @@ pub fn puts_in_order()
 /// Where one pair of a list is added, removed or replaced, so it is in the list put in order.
 pub fn changes_rows()
     ensures { (front : List Pair) (p : Pair) (back : List Pair) → ChangesRows front p back }
+{}
+
+/// In a list in order the pairs whose keys begin alike stand side by side, at the front of what a search for that beginning
+/// finds.
+pub fn stand_together()
+    ensures { (pairs : List Pair) → IsAscending is_before pairs → StandTogether pairs }
 {}
 
 /// Of bytes that are an index file, the list is known, and so is its keys' form.

@@ -1,6 +1,6 @@
 //! A list of keys in a tree of pages.
 
-ghost use Rattle.std.specs.Prelude.{◌≡◌, ◌+◌, ◌*◌, ◌<◌, ◌≤◌, ◌^◌, ◌↔◌, length, IfOk, OnOk, Contains, []};
+ghost use Rattle.std.specs.Prelude.{◌≡◌, ◌+◌, ◌*◌, ◌<◌, ◌≤◌, ◌^◌, ◌↔◌, length, reverse, IfOk, OnOk, Contains, []};
 ghost use Rattle.ndx_tree.specs.Order.{Each, IsDistinct, above, below, first, in_order};
 ghost use Rattle.ndx_tree.specs.Pairs.{is_before, pairs_from};
 ghost use Rattle.ndx_tree.specs.KeyForm.{IsKeyLength, IsPairOf};
@@ -91,6 +91,28 @@ impl NdxTree {
     {
         self.seen = 0;
         self.root.first_from(key, number, &mut self.seen)
+    }
+
+    /// The least pair.
+    pub fn first(&mut self) -> Option<Entry>
+        ensures found { result ≡ first self.old.pairs }
+        ensures same { self.new ≡ record self.old { seen = self.new.seen } }
+        ensures seen { self.new.seen ≤ self.new.height }
+    {
+        self.search_from(b"", 0)
+    }
+
+    /// The greatest pair.
+    pub fn last(&mut self) -> Option<Entry>
+        ensures found { result ≡ first (reverse self.old.pairs) }
+        ensures same { self.new ≡ record self.old { seen = self.new.seen } }
+        ensures seen { self.new.seen ≤ self.new.height }
+    {
+        self.seen = 0;
+        if self.count == 0 {
+            return None;
+        }
+        Some(self.root.last_pair(&mut self.seen))
     }
 
     /// The least pair whose key isn't below the key. A key that begins with the key isn't below it.
@@ -202,15 +224,11 @@ impl KeyList for NdxTree {
     }
 
     fn first(&mut self) -> Option<Entry> {
-        self.search_from(b"", 0)
+        self.first()
     }
 
     fn last(&mut self) -> Option<Entry> {
-        self.seen = 0;
-        if self.count == 0 {
-            return None;
-        }
-        Some(self.root.last_pair(&mut self.seen))
+        self.last()
     }
 
     fn first_from(&mut self, key: &[u8]) -> Option<Entry> {
