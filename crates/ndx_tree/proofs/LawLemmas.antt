@@ -1,5 +1,5 @@
 -- The laws of lists in order.
-use Rattle.std.proofs.Common.{◌≡◌, ◌∙◌, ℕ, suc, ◌+◌, true, false, not, cond, List, [], ◌∷◌, length, reverse, refl, ap, sym, subst, arith}
+use Rattle.std.proofs.Common.{◌≡◌, ℕ, suc, true, false, not, cond, List, [], ◌∷◌, reverse, refl, ap, sym, subst}
 use Rattle.std.specs.Ordering.{is_lt, nat_cmp, ordering_then}
 use Rattle.std.specs.List.{filter, Contains, insert}
 use Rattle.std.specs.List.Sorted.{IsPermutation}
@@ -7,8 +7,8 @@ use Rattle.std.proofs.lemmas.List.Sorted.{IsPermutation-refl, IsPermutation-tran
 use Rattle.ndx_tree.specs.Order.{IsStrictOrder, IsAscending, flip, first, below, inserted, in_order}
 use Rattle.ndx_tree.specs.Pairs.{Pair, is_before, key_before, pairs_from}
 use Rattle.ndx_tree.specs.Laws.{FindsNearest, MeetsEach, ChangesOne, PutsInOrder, ChangesRows}
-use Rattle.ndx_tree.proofs.Ordered.{IsAscending-reverse, flip_strict, IsAscending-inserted, IsAscending-filter, IsAscending-in_order, without-inserted, in_order-permutation, in_order-middle, in_order-replaced, without-middle, without-absent, inserted_first, Each-map, step_all, step_above}
-use Rattle.ndx_tree.proofs.Rises.{before_asym}
+use Rattle.ndx_tree.proofs.Ordered.{IsAscending-reverse, flip_strict, IsAscending-inserted, IsAscending-filter, IsAscending-in_order, without-inserted, in_order-permutation, in_order-middle, in_order-replaced, without-middle, without-absent, step_all, step_above}
+use Rattle.ndx_tree.proofs.Filling.{length-in_order, rising_in_order}
 use Rattle.ndx_tree.proofs.PairOrder.{is_before_strict, key_before_down, not_true}
 use Rattle.ndx_tree.proofs.Members.{Contains-inserted, inserted-Contains, Contains-without, without-Contains, Contains-in_order, in_order-Contains}
 use Rattle.ndx_tree.proofs.Nearest.{IsLeastOf-reverse, IsLeastOf-map, filter-least, first-least, step_from}
@@ -67,28 +67,13 @@ in_order-exchanged (x ∷ pairs) =
     let r = inserted_at x sorted in
     subst (IsPermutation (x ∷ pairs)) (sym r.1) (IsPermutation-trans (x ∷ pairs) (x ∷ sorted) (insert sorted r.0 x) (IsPermutation-cons x pairs sorted (in_order-exchanged pairs)) (IsPermutation-insert sorted r.0 x))
 
-length-inserted : (x : Pair) (ys : List Pair) → length (inserted is_before x ys) ≡ length ys + 1
-length-inserted x [] = refl
-length-inserted x (y ∷ ys) = elim (is_before y x) as (λ b. length (cond b (y ∷ inserted is_before x ys) (x ∷ y ∷ ys)) ≡ length (y ∷ ys) + 1) [
-  | true ↦ omega (arith, length-inserted x ys)
-  | false ↦ omega arith
-]
-
-length-in_order : (pairs : List Pair) → length (in_order is_before pairs) ≡ length pairs
-length-in_order [] = refl
-length-in_order (x ∷ pairs) = omega (arith, length-inserted x (in_order is_before pairs), length-in_order pairs)
-
-in_order-ascending : (pairs : List Pair) → IsAscending is_before pairs → in_order is_before pairs ≡ pairs
-in_order-ascending [] a = refl
-in_order-ascending (x ∷ pairs) a = ap (inserted is_before x) (in_order-ascending pairs a.1) ∙ inserted_first is_before is_before_strict x pairs (Each-map (λ y. is_before x y ≡ true) (λ y. is_before y x ≡ false) (λ y e. before_asym x y e) pairs a.0)
-
 pub puts_in_order : (pairs : List Pair) → PutsInOrder pairs
 puts_in_order pairs = record {
   ascending = λ d. IsAscending-in_order is_before is_before_strict pairs d;
   members = λ q. (Contains-in_order is_before pairs q, in_order-Contains is_before pairs q);
   permutation = in_order-exchanged pairs;
   count = length-in_order pairs;
-  same = λ a. in_order-ascending pairs a;
+  same = λ a. rising_in_order pairs a;
   any_order = λ others e. in_order-permutation is_before is_before_strict pairs others e;
 }
 

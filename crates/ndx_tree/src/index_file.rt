@@ -12,10 +12,10 @@ ghost use Rattle.ndx_tree.specs.Walk.{IsFirstFault};
 ghost use Rattle.ndx_tree.specs.declared.fault.TreeFault.TheVariants.{Memory};
 
 use crate::laws::holds_one_list;
+use crate::lists::held;
 use crate::order::is_in_order;
 use crate::walk::walk_pages;
 use crate::{Entry, NdxTree, TreeFault};
-use arrayvec::ArrayVec;
 use ndx_page::laws::pages_are_told;
 use ndx_page::{Head, read_head, write_head};
 use std::alloc::{AllocError, Global};
@@ -30,7 +30,7 @@ fn tree_of(alloc: Global, head: Head, entries: Vec<Entry>) -> Result<NdxTree, Al
     ensures key_text { IfOk result (λ tree. tree.form.key_text ≡ head.text.items) }
 {
     let mut tree = NdxTree::empty(alloc, head.length, head.text)?;
-    tree.fill(entries)?;
+    tree.fill(&entries)?;
     Ok(tree)
 }
 
@@ -96,12 +96,10 @@ fn head_of(key_length: usize, key_text: &[u8], root: u32, pages: u32) -> Head
     ensures root { result.root ≡ root }
     ensures pages { result.pages ≡ pages }
 {
-    let mut text = ArrayVec::new();
-    text.try_extend_from_slice(key_text).unwrap();
     Head {
         root,
         pages,
         length: key_length,
-        text,
+        text: held(key_text),
     }
 }

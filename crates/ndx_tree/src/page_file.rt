@@ -10,8 +10,8 @@ ghost use Rattle.ndx_tree.specs.IndexFile.{leaf_pairs};
 ghost use Rattle.ndx_tree.specs.Writes.{IsWritten, IsAppended, IsPageText};
 
 use crate::Entry;
+use crate::lists::held;
 use crate::page::Page;
-use crate::walk::held;
 use arrayvec::ArrayVec;
 use ndx_page::{Head, write_page};
 use std::alloc::AllocError;
