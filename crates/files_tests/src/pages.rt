@@ -4,8 +4,8 @@ ghost use Rattle.std.specs.Prelude.{◌≤◌, length};
 
 use arrayvec::ArrayVec;
 use ndx_page::{
-    Entry, Head, HeadFault, PAGE_SIZE, Page, PageFault, most_entries, read_head, read_page, write_head,
-    write_page,
+    Entry, Head, HeadFault, PAGE_SIZE, Page, PageFault, most_entries, read_head, read_page,
+    write_head, write_page,
 };
 use std::process::Abort;
 

@@ -6,7 +6,6 @@ use arrayvec::ArrayVec;
 use dbf_file::{DbfFault, Field, Letter, Stamp, Table, are_fields, put, read, value, write};
 use fixed_num::Num;
 use std::alloc::{AllocError, Global};
-use std::process::Abort;
 use std::test::Fail;
 use xvalue::{Day, DayParts, Kind, Settings, Value};
 
@@ -135,87 +134,44 @@ fn bytes_behind_the_last_row_are_dropped(rt: HostRuntime) -> Result<(), Fail> {
     Ok(())
 }
 
+/// A byte that is put at a place of the file, and the fault that is told then.
+fn faults_of_one_byte() -> [(usize, u8, DbfFault); 14] {
+    [
+        (0, 4, DbfFault::Version),
+        (0, 131, DbfFault::Version),
+        (8, 64, DbfFault::HeaderLength),
+        (8, 71, DbfFault::HeaderLength),
+        (43, b'c', DbfFault::FieldShape),
+        (43, b'M', DbfFault::FieldShape),
+        (48, 0, DbfFault::FieldShape),
+        (32, b'1', DbfFault::FieldShape),
+        (32, 0, DbfFault::FieldShape),
+        (32, 13, DbfFault::FieldShape),
+        (64, b'X', DbfFault::NoEnd),
+        (10, 5, DbfFault::RecordLength),
+        (4, 2, DbfFault::Truncated),
+        (66, b'x', DbfFault::RecordMark),
+    ]
+}
+
 #[test]
-fn faults_of_the_front_are_told(rt: HostRuntime) -> Result<(), Fail> {
-    let alloc = rt.alloc();
+fn a_fault_is_told(rt: HostRuntime) -> Result<(), Fail> {
+    for (place, byte, fault) in faults_of_one_byte() {
+        let file = with_byte(rt.alloc(), place, byte)?;
+        assert_eq!(rt; fault_of(rt.alloc(), file.as_slice()), Some(fault));
+    }
+    Ok(())
+}
+
+#[test]
+fn short_files_and_too_many_rows(rt: HostRuntime) -> Result<(), Fail> {
     let file = seventy(rt.alloc())?;
+    let front = file.get(..64).unwrap_or(b"");
     assert_eq!(rt; fault_of(rt.alloc(), b""), Some(DbfFault::Short));
-    assert_eq!(rt;
-        fault_of(rt.alloc(), file.get(..64).unwrap_or(b"")),
-        Some(DbfFault::Short)
-    );
-    assert_eq!(rt;
-        fault_of(alloc, with_byte(rt.alloc(), 0, 4)?.as_slice()),
-        Some(DbfFault::Version)
-    );
-    assert_eq!(rt;
-        fault_of(alloc, with_byte(rt.alloc(), 0, 131)?.as_slice()),
-        Some(DbfFault::Version)
-    );
-    assert_eq!(rt;
-        fault_of(alloc, with_byte(rt.alloc(), 8, 64)?.as_slice()),
-        Some(DbfFault::HeaderLength)
-    );
-    assert_eq!(rt;
-        fault_of(alloc, with_byte(rt.alloc(), 8, 71)?.as_slice()),
-        Some(DbfFault::HeaderLength)
-    );
-    Ok(())
-}
-
-#[test]
-fn faults_of_fields_are_told(rt: HostRuntime) -> Result<(), Fail> {
-    let alloc = rt.alloc();
-    assert_eq!(rt;
-        fault_of(alloc, with_byte(rt.alloc(), 43, b'c')?.as_slice()),
-        Some(DbfFault::FieldShape)
-    );
-    assert_eq!(rt;
-        fault_of(alloc, with_byte(rt.alloc(), 43, b'M')?.as_slice()),
-        Some(DbfFault::FieldShape)
-    );
-    assert_eq!(rt;
-        fault_of(alloc, with_byte(rt.alloc(), 48, 0)?.as_slice()),
-        Some(DbfFault::FieldShape)
-    );
-    assert_eq!(rt;
-        fault_of(alloc, with_byte(rt.alloc(), 32, b'1')?.as_slice()),
-        Some(DbfFault::FieldShape)
-    );
-    assert_eq!(rt;
-        fault_of(alloc, with_byte(rt.alloc(), 32, 0)?.as_slice()),
-        Some(DbfFault::FieldShape)
-    );
-    assert_eq!(rt;
-        fault_of(alloc, with_byte(rt.alloc(), 32, 13)?.as_slice()),
-        Some(DbfFault::FieldShape)
-    );
-    assert_eq!(rt;
-        fault_of(alloc, with_byte(rt.alloc(), 64, b'X')?.as_slice()),
-        Some(DbfFault::NoEnd)
-    );
-    Ok(())
-}
-
-#[test]
-fn faults_of_records_are_told(rt: HostRuntime) -> Result<(), Fail> {
-    let alloc = rt.alloc();
-    let file = seventy(rt.alloc())?;
-    assert_eq!(rt;
-        fault_of(alloc, with_byte(rt.alloc(), 10, 5)?.as_slice()),
-        Some(DbfFault::RecordLength)
-    );
+    assert_eq!(rt; fault_of(rt.alloc(), front), Some(DbfFault::Short));
     assert_eq!(rt;
         read(rt.alloc(), file.as_slice(), 0).err(),
         Some(DbfFault::TooMany)
-    );
-    assert_eq!(rt;
-        fault_of(alloc, with_byte(rt.alloc(), 4, 2)?.as_slice()),
-        Some(DbfFault::Truncated)
-    );
-    assert_eq!(rt;
-        fault_of(alloc, with_byte(rt.alloc(), 66, b'x')?.as_slice()),
-        Some(DbfFault::RecordMark)
     );
     Ok(())
 }
@@ -229,46 +185,29 @@ fn with_two(alloc: Global, first: (usize, u8), second: (usize, u8)) -> Result<Ve
     Ok(file)
 }
 
+/// Two bytes that are put at places of the file, and the fault that is told then, the first of two.
+fn faults_of_two_bytes() -> [((usize, u8), (usize, u8), DbfFault); 8] {
+    [
+        ((0, 4), (8, 64), DbfFault::Version),
+        ((8, 64), (43, b'c'), DbfFault::HeaderLength),
+        ((43, b'c'), (64, b'X'), DbfFault::FieldShape),
+        ((64, b'X'), (10, 5), DbfFault::NoEnd),
+        ((48, 0), (10, 5), DbfFault::FieldShape),
+        ((10, 5), (5, 9), DbfFault::RecordLength),
+        ((5, 9), (66, b'x'), DbfFault::TooMany),
+        ((4, 2), (66, b'x'), DbfFault::Truncated),
+    ]
+}
+
 #[test]
 fn of_two_faults_the_first_is_told(rt: HostRuntime) -> Result<(), Fail> {
-    let alloc = rt.alloc();
+    for (first, second, fault) in faults_of_two_bytes() {
+        let file = with_two(rt.alloc(), first, second)?;
+        assert_eq!(rt; fault_of(rt.alloc(), file.as_slice()), Some(fault));
+    }
     let short = with_two(rt.alloc(), (0, 4), (8, 64))?;
-    assert_eq!(rt;
-        fault_of(alloc, short.get(..64).unwrap_or(b"")),
-        Some(DbfFault::Short)
-    );
-    assert_eq!(rt; fault_of(alloc, short.as_slice()), Some(DbfFault::Version));
-    assert_eq!(rt;
-        fault_of(alloc, with_two(rt.alloc(), (8, 64), (43, b'c'))?.as_slice()),
-        Some(DbfFault::HeaderLength)
-    );
-    assert_eq!(rt;
-        fault_of(
-            alloc,
-            with_two(rt.alloc(), (43, b'c'), (64, b'X'))?.as_slice()
-        ),
-        Some(DbfFault::FieldShape)
-    );
-    assert_eq!(rt;
-        fault_of(alloc, with_two(rt.alloc(), (64, b'X'), (10, 5))?.as_slice()),
-        Some(DbfFault::NoEnd)
-    );
-    assert_eq!(rt;
-        fault_of(alloc, with_two(rt.alloc(), (48, 0), (10, 5))?.as_slice()),
-        Some(DbfFault::FieldShape)
-    );
-    assert_eq!(rt;
-        fault_of(alloc, with_two(rt.alloc(), (10, 5), (5, 9))?.as_slice()),
-        Some(DbfFault::RecordLength)
-    );
-    assert_eq!(rt;
-        fault_of(alloc, with_two(rt.alloc(), (5, 9), (66, b'x'))?.as_slice()),
-        Some(DbfFault::TooMany)
-    );
-    assert_eq!(rt;
-        fault_of(alloc, with_two(rt.alloc(), (4, 2), (66, b'x'))?.as_slice()),
-        Some(DbfFault::Truncated)
-    );
+    let front = short.get(..64).unwrap_or(b"");
+    assert_eq!(rt; fault_of(rt.alloc(), front), Some(DbfFault::Short));
     Ok(())
 }
 
@@ -309,15 +248,79 @@ fn put_where_it_suits(field: &Field, from: &Value, text: &mut [u8]) -> bool {
     }
 }
 
-/// The value of a text as the screen shows it.
-fn shows(rt: &impl Abort, field: &Field, text: &[u8], shown: &[u8]) {
-    assert!(rt; value(field, text).shown(Settings::off()).as_slice() == shown);
+/// Whether the value of a text is shown on the screen so.
+fn shows(field: &Field, text: &[u8], shown: &[u8]) -> bool {
+    value(field, text).shown(Settings::off()).as_slice() == shown
 }
 
-/// The text that a value is written as.
-fn writes(rt: &impl Abort, field: &Field, from: Value, text: &mut [u8], wanted: &[u8]) {
-    assert!(rt; put_where_it_suits(field, &from, text));
-    assert!(rt; *text == *wanted);
+/// Whether a value is written as a text of at most ten bytes, where other bytes stood.
+fn writes(field: &Field, from: &Value, wanted: &[u8]) -> bool {
+    let mut text = [b'X'; 10];
+    let width = wanted.len().min(10);
+    put_where_it_suits(field, from, &mut text[..width]) && &text[..width] == wanted
+}
+
+#[test]
+fn numbers_stand_right(rt: HostRuntime) {
+    let amount = field(b"AMT", Letter::N, 5, 2);
+    assert!(rt; shows(&amount, b"     ", b"      0.00"));
+    assert!(rt; shows(&amount, b"*****", b"**********"));
+    assert!(rt; shows(&amount, b"   12", b"        12"));
+    for (number, text) in [
+        (b"12.345 ", b"12.35"),
+        (b"123.456", b"*****"),
+        (b"-1     ", b"-1.00"),
+    ] {
+        assert!(rt; writes(&amount, &Value::Number(Num::parse(number)), text));
+    }
+}
+
+#[test]
+fn texts_are_cut_or_padded(rt: HostRuntime) {
+    let name = field(b"NAME", Letter::C, 3, 0);
+    assert!(rt; writes(&name, &Value::Text(xvalue::text_of(b"Anna")), b"Ann"));
+    assert!(rt; writes(&name, &Value::Text(xvalue::text_of(b"A")), b"A  "));
+    assert!(rt; shows(&name, b"A b", b"A b"));
+}
+
+/// A field that no table has holds values all the same.
+#[test]
+fn fields_of_any_shape(rt: HostRuntime) {
+    let born = field(b"BORN", Letter::D, 4, 0);
+    assert!(rt; writes(&born, &Value::Date(Day::blank()), b"    "));
+    assert!(rt; shows(&born, b"1988", b"  /  /  "));
+    let amount = field(b"AMT", Letter::N, 9, 40);
+    assert!(rt; writes(&amount, &Value::Number(Num::parse(b"7")), b"*********"));
+    let paid = field(b"PAID", Letter::L, 2, 0);
+    assert!(rt; writes(&paid, &Value::Logical(true), b"T "));
+    assert!(rt; shows(&paid, b"", b".F."));
+}
+
+#[test]
+fn days(rt: HostRuntime) {
+    let born = field(b"BORN", Letter::D, 8, 0);
+    assert!(rt; shows(&born, b"19880229", b"02/29/88"));
+    assert!(rt; shows(&born, b"19890229", b"  /  /  "));
+    assert!(rt; shows(&born, b"        ", b"  /  /  "));
+    let parts = DayParts {
+        year: 7,
+        month: 12,
+        day: 1,
+    };
+    let day = Day::from_parts(parts).expect(&rt, "a day");
+    assert!(rt; writes(&born, &Value::Date(day), b"00071201"));
+    assert!(rt; writes(&born, &Value::Date(Day::blank()), b"        "));
+}
+
+#[test]
+fn truth_values(rt: HostRuntime) {
+    let paid = field(b"PAID", Letter::L, 1, 0);
+    assert!(rt; shows(&paid, b"y", b".T."));
+    assert!(rt; shows(&paid, b"?", b".F."));
+    assert!(rt; writes(&paid, &Value::Logical(true), b"T"));
+    assert!(rt; writes(&paid, &Value::Logical(false), b"F"));
+    assert_eq!(rt; paid.letter.kind(), Kind::Logical);
+    assert_eq!(rt; paid.letter.code(), b'L');
 }
 
 #[test]
@@ -351,91 +354,6 @@ fn a_table_of_one_row(rt: HostRuntime) -> Result<(), Fail> {
     );
     let again = read(rt.alloc(), written.as_slice(), 1).expect(&rt, "a table");
     assert_eq!(rt; again.rows(), 1);
-    Ok(())
-}
-
-#[test]
-fn numbers_stand_right(rt: HostRuntime) -> Result<(), Fail> {
-    let amount = field(b"AMT", Letter::N, 5, 2);
-    shows(&rt, &amount, b"     ", b"      0.00");
-    shows(&rt, &amount, b"*****", b"**********");
-    shows(&rt, &amount, b"   12", b"        12");
-    let mut text = *b"     ";
-    writes(
-        &rt,
-        &amount,
-        Value::Number(Num::parse(b"12.345")),
-        &mut text,
-        b"12.35",
-    );
-    writes(
-        &rt,
-        &amount,
-        Value::Number(Num::parse(b"123.456")),
-        &mut text,
-        b"*****",
-    );
-    writes(
-        &rt,
-        &amount,
-        Value::Number(Num::parse(b"-1")),
-        &mut text,
-        b"-1.00",
-    );
-    Ok(())
-}
-
-#[test]
-fn texts_are_cut_or_padded(rt: HostRuntime) -> Result<(), Fail> {
-    let name = field(b"NAME", Letter::C, 3, 0);
-    let mut text = *b"   ";
-    writes(
-        &rt,
-        &name,
-        Value::Text(xvalue::text_of(b"Anna")),
-        &mut text,
-        b"Ann",
-    );
-    writes(
-        &rt,
-        &name,
-        Value::Text(xvalue::text_of(b"A")),
-        &mut text,
-        b"A  ",
-    );
-    shows(&rt, &name, b"A b", b"A b");
-    Ok(())
-}
-
-#[test]
-fn days_and_truth_values(rt: HostRuntime) -> Result<(), Fail> {
-    let born = field(b"BORN", Letter::D, 8, 0);
-    shows(&rt, &born, b"19880229", b"02/29/88");
-    shows(&rt, &born, b"19890229", b"  /  /  ");
-    shows(&rt, &born, b"        ", b"  /  /  ");
-    let mut text = *b"XXXXXXXX";
-    let day = Day::from_parts(DayParts {
-        year: 7,
-        month: 12,
-        day: 1,
-    })
-    .expect(&rt, "a day");
-    writes(&rt, &born, Value::Date(day), &mut text, b"00071201");
-    writes(
-        &rt,
-        &born,
-        Value::Date(Day::blank()),
-        &mut text,
-        b"        ",
-    );
-    let paid = field(b"PAID", Letter::L, 1, 0);
-    shows(&rt, &paid, b"y", b".T.");
-    shows(&rt, &paid, b"?", b".F.");
-    let mut truth = *b" ";
-    writes(&rt, &paid, Value::Logical(true), &mut truth, b"T");
-    writes(&rt, &paid, Value::Logical(false), &mut truth, b"F");
-    assert_eq!(rt; paid.letter.kind(), Kind::Logical);
-    assert_eq!(rt; paid.letter.code(), b'L');
     Ok(())
 }
 

@@ -1,5 +1,5 @@
-//! What follows from the definitions of lists in order and of index files. Each function does nothing: its contract is the law, which a
-//! caller gets by the call.
+//! What follows from the definitions of lists in order and of index files. Each function does nothing: its contract is
+//! the law, which a caller gets by the call.
 
 ghost use Rattle.std.specs.Prelude.{List};
 ghost use Rattle.ndx_tree.specs.Order.{IsAscending};

@@ -98,6 +98,7 @@ impl NdxTree {
     /// The least pair.
     pub fn first(&mut self) -> Option<Entry>
         ensures found { result ≡ first self.old.pairs }
+        ensures pairs { self.new.pairs ≡ self.old.pairs }
         ensures same { self.new ≡ record self.old { seen = self.new.seen } }
         ensures seen { self.new.seen ≤ self.new.height }
     {
@@ -107,6 +108,7 @@ impl NdxTree {
     /// The greatest pair.
     pub fn last(&mut self) -> Option<Entry>
         ensures found { result ≡ first (reverse self.old.pairs) }
+        ensures pairs { self.new.pairs ≡ self.old.pairs }
         ensures same { self.new ≡ record self.old { seen = self.new.seen } }
         ensures seen { self.new.seen ≤ self.new.height }
     {
