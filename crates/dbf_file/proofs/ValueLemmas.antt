@@ -1,7 +1,8 @@
 -- Values written and read.
-use Rattle.std.proofs.Common.{◌≡◌, ◌==◌, ℕ, zero, suc, ◌+◌, ◌-◌, ◌/◌, ◌%◌, ◌<◌, ◌≤◌, ℤ, pos, List, [], ◌∷◌, ◌++◌, length, get_or, Bool, true, false, ◌&&◌, cond, Option, Some, None, refl, sym, ap, ◌∙◌, arith, replicate, reverse, eq-eqb}
+use Rattle.std.proofs.Common.{◌≡◌, ◌==◌, ℕ, zero, suc, ◌+◌, ◌-◌, ◌/◌, ◌%◌, ◌<◌, ◌≤◌, ℤ, pos, List, [], ◌∷◌, ◌++◌, length, get_or, min, Bool, true, false, ◌&&◌, cond, Option, Some, None, refl, sym, ap, ◌∙◌, arith, replicate, reverse, take, eq-eqb, length-append}
 use Rattle.std.specs.List.{AllByRecursion}
 use Rattle.std.proofs.lemmas.Bool.{le-leb}
+use Rattle.std.proofs.lemmas.List.{take_all, length-take, length-replicate}
 use Rattle.fixed_num.specs.Number.{Number as Decimal, asterisk, finite, IsInRange}
 use Rattle.fixed_num.specs.Rounding.{rounded_at}
 use Rattle.fixed_num.specs.Reading.{parsed, signed_read, without_blanks, is_digit, are_digits, with_digits}
@@ -18,7 +19,7 @@ use Rattle.dbf_file.specs.declared.field.Field.{Field}
 use Rattle.dbf_file.specs.Fields.{has_shape, is_field, go_on, are_fields}
 use Rattle.dbf_file.specs.Rows.{Row, rows_in, rows_text, with_text}
 use Rattle.dbf_file.specs.Lending.{place_of, put_within, rows_left}
-use Rattle.dbf_file.specs.Values.{kind_for, is_blank, number_in, day_in, value_by, value_of, day_text, text_by, text_for, HasRoom, FitsField, kept_of}
+use Rattle.dbf_file.specs.Values.{kind_for, is_blank, is_yes, number_in, day_in, value_by, value_of, fitted_text, day_text, logical_text, text_by, text_for, HasRoom, FitsField, kept_of}
 use Rattle.dbf_file.specs.Tables.{TableState, row_widths}
 use Rattle.dbf_file.proofs.TableLemmas.{state}
 use Rattle.dbf_file.proofs.ChoiceLemmas.{both_true, true_both}
@@ -77,7 +78,7 @@ number_back width decimals x back room =
     let field : List ℕ = replicate (width - length text) 32 ++ text in
     let stands : at_right width text ≡ field = ap (λ (b : Bool). cond b field (replicate width 42)) (le-leb (length text) width room) in
     ap (number_in decimals) stands
-    ∙ ap (λ (b : Bool). cond b (finite (pos 0) decimals) (parsed field)) (blank_behind (width - length text) text ∙ never_blank x (is_blank text) back refl)
+    ∙ ap (λ (b : Bool). cond b (finite (pos 0) (min decimals 15)) (parsed field)) (blank_behind (width - length text) text ∙ never_blank x (is_blank text) back refl)
     ∙ read_right (width - length text) text ∙ back
 
 number_kept : (width decimals : ℕ) (x : Decimal) → ((m : ℤ) (d : ℕ) → IsInRange (finite m d) → parsed (text_of (finite m d)) ≡ finite m d) → IsInRange x → HasRoom width x → number_in decimals (in_field width x) ≡ x
@@ -122,27 +123,35 @@ day_back (Some parts) is =
     ∙ ap (λ c. read y m c) (two_read d (omega (arith, is.day.1, short)))
     ∙ ap (λ (b : Bool). cond b (Some parts) None) (day_good parts is)
 
+length-fitted : (width : ℕ) (text : List ℕ) → length (fitted_text width text) ≡ width
+length-fitted width text = length-append (take width text) (replicate (width - length text) 32) ∙ omega (arith, length-take width text, length-replicate {A = ℕ} (width - length text) 32)
+
+-- a day fills eight bytes
+whole_day : (day : Option DayParts) → fitted_text 8 (day_text day) ≡ day_text day
+whole_day None = refl
+whole_day (Some parts) = refl
+
 -- ---- values
 
 pub value_back : (law : (m : ℤ) (d : ℕ) → IsInRange (finite m d) → parsed (text_of (finite m d)) ≡ finite m d) (f : Field) (v : Value) (letter : Letter) →
     f.letter ≡ letter → kind_of v ≡ kind_for letter → FitsField f v → value_by letter f.decimals (text_by f.width f.decimals v) ≡ kept_of f v
 value_back law f (Number number) C same kind fits = cc
-value_back law f (Number number) N same kind fits = ap Number (number_kept f.width f.decimals (rounded_at (pos f.decimals) number) law fits.0 fits.1)
+value_back law f (Number number) N same kind fits = ap Number (number_kept f.width f.decimals (rounded_at (pos (min f.decimals 15)) number) law fits.0 fits.1)
 value_back law f (Number number) D same kind fits = cc
 value_back law f (Number number) L same kind fits = cc
-value_back law f (Text text) C same kind fits = refl
+value_back law f (Text text) C same kind fits = ap (λ (items : List ℕ). Text (record { items = items })) (take_all 254 (fitted_text f.width text.items) (omega (arith, length-fitted f.width text.items, fits)))
 value_back law f (Text text) N same kind fits = cc
 value_back law f (Text text) D same kind fits = cc
 value_back law f (Text text) L same kind fits = cc
 value_back law f (Date day) C same kind fits = cc
 value_back law f (Date day) N same kind fits = cc
-value_back law f (Date day) D same kind fits = ap Date (day_back day fits)
+value_back law f (Date day) D same kind fits = ap Date (ap day_in (ap (λ w. fitted_text w (day_text day)) fits.1 ∙ whole_day day) ∙ day_back day fits.0)
 value_back law f (Date day) L same kind fits = cc
 value_back law f (Logical truth) C same kind fits = cc
 value_back law f (Logical truth) N same kind fits = cc
 value_back law f (Logical truth) D same kind fits = cc
-value_back law f (Logical true) L same kind fits = refl
-value_back law f (Logical false) L same kind fits = refl
+value_back law f (Logical true) L same kind fits = ap (λ w. Logical (is_yes (get_or (fitted_text w (logical_text true)) 0 0))) fits
+value_back law f (Logical false) L same kind fits = ap (λ w. Logical (is_yes (get_or (fitted_text w (logical_text false)) 0 0))) fits
 
 pub read_back : (law : (m : ℤ) (d : ℕ) → IsInRange (finite m d) → parsed (text_of (finite m d)) ≡ finite m d) (f : Field) (v : Value) → kind_of v ≡ kind_for f.letter → FitsField f v → value_of f (text_for f v) ≡ kept_of f v
 unfolding value_of text_for

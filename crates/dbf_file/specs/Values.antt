@@ -1,5 +1,5 @@
 -- What a field's text stands for. The byte 32 is a blank, 84 and 116 are T and t, 89 and 121 are Y and y, 70 is F.
-use Rattle.std.specs.Prelude.{ℕ, ◌-◌, ◌≤◌, pos, Bool, ◌&&◌, ◌||◌, ◌==◌, nat_le, if◌then◌else◌, List, [], ◌∷◌, ◌++◌, length, take, drop, replicate, slice_index, Option, Some, None}
+use Rattle.std.specs.Prelude.{◌≡◌, ℕ, min, ◌-◌, ◌≤◌, pos, Bool, ◌&&◌, ◌||◌, ◌==◌, nat_le, if◌then◌else◌, List, [], ◌∷◌, ◌++◌, length, take, drop, replicate, slice_index, Option, Some, None}
 use Rattle.std.specs.List.{list_all}
 use Rattle.fixed_num.specs.Number.{Number as Decimal, asterisk, finite, IsInRange}
 use Rattle.fixed_num.specs.Rounding.{rounded_at}
@@ -29,9 +29,9 @@ kind_for L = OfLogical
 abbrev pub is_blank : List ℕ → Bool
 is_blank text = list_all (λ byte. byte == 32) text
 
--- a number's text; blanks alone are 0 with the field's decimals
+-- a number's text; blanks alone are 0 with the field's decimals, 15 at most
 abbrev pub number_in : ℕ → List ℕ → Decimal
-number_in decimals text = if is_blank text then finite (pos 0) decimals else parsed text
+number_in decimals text = if is_blank text then finite (pos 0) (min decimals 15) else parsed text
 
 -- four digits of the year, two of the month, two of the day; blank where that is no day
 abbrev pub day_in : List ℕ → Option DayParts
@@ -43,9 +43,9 @@ day_in text =
 abbrev pub is_yes : ℕ → Bool
 is_yes byte = (byte == 84 || byte == 116) || (byte == 89 || byte == 121)
 
--- the value of a text in a field of this letter and these decimals
+-- the value of a text in a field of this letter and these decimals; a text value has 254 bytes at most
 abbrev pub value_by : Letter → ℕ → List ℕ → Value
-value_by C decimals text = Text (record { items = text })
+value_by C decimals text = Text (record { items = take 254 text })
 value_by N decimals text = Number (number_in decimals text)
 value_by D decimals text = Date (day_in text)
 value_by L decimals text = Logical (is_yes (slice_index text 0))
@@ -68,11 +68,12 @@ abbrev pub logical_text : Bool → List ℕ
 logical_text truth = (if truth then 84 else 70) ∷ []
 
 -- the text of a value in a field of this width and these decimals
+-- numbers aside it is cut or padded
 abbrev pub text_by : ℕ → ℕ → Value → List ℕ
-text_by width decimals (Number number) = printed width decimals number
+text_by width decimals (Number number) = printed width (min decimals 15) number
 text_by width decimals (Text text) = fitted_text width text.items
-text_by width decimals (Date day) = day_text day
-text_by width decimals (Logical truth) = logical_text truth
+text_by width decimals (Date day) = fitted_text width (day_text day)
+text_by width decimals (Logical truth) = fitted_text width (logical_text truth)
 
 -- the text of a value in the field
 unfoldable pub text_for : Field → Value → List ℕ
@@ -85,16 +86,17 @@ abbrev pub HasRoom : ℕ → Decimal → Type 0
 HasRoom width asterisk = ⊥
 HasRoom width (finite m d) = length (text_of (finite m d)) ≤ width
 
--- The value fits the field: a number, rounded to the field's decimals, has room in it. A text is cut or padded in any case.
+-- The value fits the field: a number, rounded to the field's decimals, has room in it. A text is cut or padded in any case, and
+-- takes 254 bytes at most, a day eight, a truth value one.
 abbrev pub FitsField : Field → Value → Type 0
-FitsField f (Number number) = IsInRange (rounded_at (pos f.decimals) number) × HasRoom f.width (rounded_at (pos f.decimals) number)
-FitsField f (Text text) = Unit {0}
-FitsField f (Date day) = HasDay day
-FitsField f (Logical truth) = Unit {0}
+FitsField f (Number number) = IsInRange (rounded_at (pos (min f.decimals 15)) number) × HasRoom f.width (rounded_at (pos (min f.decimals 15)) number)
+FitsField f (Text text) = f.width ≤ 254
+FitsField f (Date day) = HasDay day × (f.width ≡ 8)
+FitsField f (Logical truth) = f.width ≡ 1
 
 -- what is read of the value's text: a number rounded to the field's decimals, a text cut or padded, any other value itself
 abbrev pub kept_of : Field → Value → Value
-kept_of f (Number number) = Number (rounded_at (pos f.decimals) number)
+kept_of f (Number number) = Number (rounded_at (pos (min f.decimals 15)) number)
 kept_of f (Text text) = Text (record { items = fitted_text f.width text.items })
 kept_of f (Date day) = Date day
 kept_of f (Logical truth) = Logical truth

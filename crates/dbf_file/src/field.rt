@@ -13,6 +13,9 @@ pub const MAX_FIELDS: usize = 128;
 /// The most bytes of a name.
 pub const MAX_NAME: usize = 10;
 
+/// The most digits behind a number's point.
+pub const MAX_DECIMALS: u8 = 15;
+
 /// The most bytes of a record: its mark and its fields.
 pub const MAX_RECORD: usize = 4000;
 

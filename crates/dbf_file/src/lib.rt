@@ -19,6 +19,3 @@ pub use stamp::Stamp;
 pub use structure::Structure;
 pub use table::{Table, read, write};
 pub use values::{put, value};
-
-#[cfg(test)]
-mod tests;

@@ -1,16 +1,18 @@
 //! What a field's text stands for.
 
-ghost use Rattle.std.specs.Prelude.{◌≡◌, ℕ, ◌+◌, ◌-◌, ◌/◌, ◌%◌, ◌<◌, ◌≤◌, ◌++◌, ◌==◌, pos, length, true, Some};
+ghost use Rattle.std.specs.Prelude.{◌≡◌, ℕ, ◌+◌, ◌-◌, ◌/◌, ◌%◌, ◌<◌, ◌≤◌, ◌++◌, ◌==◌, min, pos, length, take, slice_index, true, Some};
 ghost use Rattle.fixed_num.specs.Number.{finite};
 ghost use Rattle.fixed_num.specs.Reading.{are_digits, with_digits};
 ghost use Rattle.xvalue.specs.Kinds.{kind_of};
 ghost use Rattle.xvalue.specs.Calendar.{day_or_blank};
-ghost use Rattle.dbf_file.specs.Fields.{has_shape};
-ghost use Rattle.dbf_file.specs.Values.{kind_for, is_blank, number_in, day_in, is_yes, value_of, fitted_text, day_text, logical_text, text_for};
+ghost use Rattle.dbf_file.specs.Values.{kind_for, is_blank, number_in, day_in, is_yes, value_of, fitted_text, day_text as day_text_of, logical_text as logical_text_of, text_for};
 
-use crate::field::{Field, Letter};
+use crate::field::{Field, Letter, MAX_DECIMALS};
 use fixed_num::{Num, Parts};
-use xvalue::{Day, DayParts, Kind, Value, text_of};
+use xvalue::{Day, DayParts, Kind, Text, Value, text_of};
+
+/// The most bytes of a text value.
+const TEXT_BYTES: usize = 254;
 
 impl Letter {
     /// The kind of the values of such a field.
@@ -51,11 +53,10 @@ fn zero_with(decimals: u8) -> Num
 
 /// The number of a text in a field with these decimals.
 fn number_in(decimals: u8, text: &[u8]) -> Num
-    requires { decimals ≤ 15 }
     ensures { result ≡ number_in decimals text.now }
 {
     if is_blank(text) {
-        zero_with(decimals)
+        zero_with(decimals.min(MAX_DECIMALS))
     } else {
         Num::parse(text)
     }
@@ -120,18 +121,33 @@ fn is_yes(byte: u8) -> bool
     byte == b'T' || byte == b't' || byte == b'Y' || byte == b'y'
 }
 
-/// The value of a text in a field, which has the field's width.
+/// The text of the first bytes, as many as a text value may have.
+fn text_in(text: &[u8]) -> Text
+    ensures { result.items ≡ take 254 text.now }
+{
+    text_of(&text[..text.len().min(TEXT_BYTES)])
+}
+
+/// Whether the first byte stands for true.
+fn begins_with_yes(text: &[u8]) -> bool
+    ensures { result ≡ is_yes (slice_index text.now 0) }
+{
+    match text {
+        [first, ..] => is_yes(*first),
+        [] => false,
+    }
+}
+
+/// The value of a text in a field. Each text has one, whatever its length.
 #[tactic(auto, unfolding(crate::specs::Values::value_of))]
 pub fn value(field: &Field, text: &[u8]) -> Value
-    requires shape { has_shape field.now.letter field.now.width field.now.decimals ≡ true }
-    requires width { length text.now ≡ field.now.width }
     ensures { result ≡ value_of field.now text.now }
 {
     match field.letter {
-        Letter::C => Value::Text(text_of(text)),
+        Letter::C => Value::Text(text_in(text)),
         Letter::N => Value::Number(number_in(field.decimals, text)),
         Letter::D => Value::Date(day_in(text)),
-        Letter::L => Value::Logical(is_yes(text[0])),
+        Letter::L => Value::Logical(begins_with_yes(text)),
     }
 }
 
@@ -153,18 +169,16 @@ fn digit(number: u16, power: u16) -> u8
     b'0' + (number / power % 10) as u8
 }
 
-/// Writes a day: four digits of the year, two of the month, two of the day; blanks of the blank date.
-fn put_day(day: Day, field: &mut [u8])
-    requires { length field.old ≡ 8 }
-    ensures { field.new ≡ day_text day }
+/// A day as a text: four digits of the year, two of the month, two of the day; blanks of the blank date.
+fn day_text(day: Day) -> [u8; 8]
+    ensures { result ≡ day_text_of day }
 {
     let Some(parts) = day.parts() else {
-        field.fill(b' ');
-        return;
+        return *b"        ";
     };
     let month = u16::from(parts.month);
     let day = u16::from(parts.day);
-    field.copy_from_slice(&[
+    [
         digit(parts.year, 1000),
         digit(parts.year, 100),
         digit(parts.year, 10),
@@ -173,30 +187,30 @@ fn put_day(day: Day, field: &mut [u8])
         digit(month, 1),
         digit(day, 10),
         digit(day, 1),
-    ]);
+    ]
 }
 
-/// Writes a truth value: `T` or `F`.
-fn put_logical(truth: bool, field: &mut [u8])
-    requires { length field.old ≡ 1 }
-    ensures { field.new ≡ logical_text truth }
+/// A truth value as a text: `T` or `F`.
+fn logical_text(truth: bool) -> [u8; 1]
+    ensures { result ≡ logical_text_of truth }
 {
-    field.copy_from_slice(&[if truth { b'T' } else { b'F' }]);
+    [if truth { b'T' } else { b'F' }]
 }
 
 /// Writes the text of a value of the field's kind into a text of the field's width. A number is rounded to the field's
-/// decimals; where it doesn't fit, the text is all asterisks.
+/// decimals; where it doesn't fit, the text is all asterisks. Other values are cut or padded with blanks.
 #[tactic(auto, unfolding(crate::specs::Values::text_for))]
 pub fn put(field: &Field, value: &Value, text: &mut [u8])
-    requires shape { has_shape field.now.letter field.now.width field.now.decimals ≡ true }
     requires width { length text.old ≡ field.now.width }
     requires kind { kind_of value.now ≡ kind_for field.now.letter }
     ensures { text.new ≡ text_for field.now value.now }
 {
     match value {
-        Value::Number(number) => number.print(text.len(), field.decimals, text),
+        Value::Number(number) => {
+            number.print(text.len(), field.decimals.min(MAX_DECIMALS), text)
+        },
         Value::Text(written) => put_text(written.as_slice(), text),
-        Value::Date(day) => put_day(*day, text),
-        Value::Logical(truth) => put_logical(*truth, text),
+        Value::Date(day) => put_text(&day_text(*day), text),
+        Value::Logical(truth) => put_text(&logical_text(*truth), text),
     }
 }

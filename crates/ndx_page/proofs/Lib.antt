@@ -6,3 +6,4 @@ pub mod EntryLemmas
 pub mod PageLemmas
 pub mod ReadLemmas
 pub mod PageOf
+pub mod HeadOf

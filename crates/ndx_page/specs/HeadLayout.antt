@@ -41,3 +41,7 @@ head_text head = padded 512
     ++ number_text 2 head.length ++ number_text 2 (most_entries head.length)
     ++ number_text 2 0 ++ number_text 2 (entry_size head.length) ++ replicate 4 0
     ++ head.text.items)
+
+-- Bytes begin with one page 0 at most.
+abbrev pub HeadsAreTold : Type 0
+HeadsAreTold = (bytes : List ℕ) (a b : Head) → IsHead bytes a → IsHead bytes b → a ≡ b

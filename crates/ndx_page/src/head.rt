@@ -3,6 +3,7 @@
 ghost use Rattle.std.specs.Prelude.{◌≤◌, Contains};
 
 use arrayvec::ArrayVec;
+use thiserror::Error;
 
 /// The bytes of the longest key expression that page 0 has room for, its closing zero byte apart.
 pub const MAX_TEXT: usize = 487;
@@ -24,20 +25,27 @@ pub struct Head {
 }
 
 /// Why bytes begin with no page 0. Of several faults the first in this order is told.
-#[derive(Clone, Copy, Debug, PartialEq, Eq)]
+#[derive(Clone, Copy, Debug, PartialEq, Eq, Error)]
 pub enum HeadFault {
     /// There are fewer than 512 bytes.
+    #[error("Short")]
     Short,
     /// The key type isn't 0, text.
+    #[error("Kind")]
     Kind,
     /// The unique flag isn't 0.
+    #[error("Unique")]
     Unique,
     /// The key length isn't one of 1 to 100.
+    #[error("KeyLength")]
     KeyLength,
     /// The entry size isn't that of such keys.
+    #[error("EntrySize")]
     EntrySize,
     /// The most entries of a page isn't that of such keys.
+    #[error("PerPage")]
     PerPage,
     /// No zero byte ends the key expression within page 0.
+    #[error("Expression")]
     Expression,
 }

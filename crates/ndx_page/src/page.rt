@@ -2,6 +2,7 @@
 
 use crate::layout::{MAX_ENTRIES, MAX_KEY};
 use arrayvec::ArrayVec;
+use thiserror::Error;
 
 /// An entry of a page.
 #[derive(Debug, Default, PartialEq, Eq, Drop)]
@@ -24,12 +25,15 @@ pub struct Page {
 }
 
 /// Why 512 bytes are no page. Of several faults the first in this order is told.
-#[derive(Clone, Copy, Debug, PartialEq, Eq)]
+#[derive(Clone, Copy, Debug, PartialEq, Eq, Error)]
 pub enum PageFault {
     /// The count of entries is above the most.
+    #[error("Count")]
     Count,
     /// Some children are 0, and some are not.
+    #[error("Child")]
     Child,
     /// A leaf has an entry of record 0.
+    #[error("Record")]
     Record,
 }

@@ -9,7 +9,8 @@ use Rattle.ndx_tree.specs.IndexFile.{Item, Link, IsNode, AreBelow, IsBelow, AreF
 use Rattle.ndx_tree.specs.KeyForm.{KeyForm}
 use Rattle.ndx_page.specs.declared.head.Head.{Head}
 use Rattle.ndx_page.specs.declared.head.HeadFault.{HeadFault}
-use Rattle.ndx_page.specs.HeadLayout.{IsHead}
+use Rattle.ndx_page.specs.HeadLayout.{IsHead, HeadsAreTold}
+use Rattle.ndx_tree.specs.IndexText.{HoldsOneList}
 use Rattle.ndx_tree.specs.declared.fault.TreeFault.TheVariants as faults
 use Rattle.ndx_tree.proofs.Reading.{IsWalkFault, walk_told}
 use Rattle.ndx_tree.specs.Pairs.{Pair}
@@ -153,3 +154,12 @@ heads_same bytes r head only e h is = inside h head (sym (only h is) ∙ e)
   where
     inside : (a b : Head) → (let q : Result Head HeadFault = Ok a in q) ≡ Ok b → a ≡ b
     inside a b q = cc
+
+-- bytes hold one list at most
+pub one_list : PagesAreTold → HeadsAreTold → HoldsOneList
+one_list laws heads bytes form other pairs others f g =
+    let m = index_walked laws bytes form pairs f g.head (λ h is. heads bytes h g.head is g.is_head) in
+    let n = index_walked laws bytes other others g g.head (λ h is. heads bytes h g.head is g.is_head) in (
+      ap (λ x. let k : KeyForm = record { key_length = x; key_text = other.key_text } in k) (sym n.key_length ∙ m.key_length) ∙ ap (λ (x : List ℕ). let k : KeyForm = record { key_length = form.key_length; key_text = x } in k) (sym n.key_text ∙ m.key_text),
+      n.pairs_are ∙ ap (λ (s : Seen). listed s.items) (ok_same n.seen m.seen (sym n.walked ∙ m.walked)) ∙ sym m.pairs_are,
+    )

@@ -23,5 +23,7 @@ pub mod FileLemmas
 pub mod Reading
 pub mod Between
 pub mod Writing
+pub mod TextPages
 pub mod HeadFront
 pub mod WholeFile
+pub mod Starts

@@ -380,7 +380,7 @@ module _ {X : Type 0} (lt : X → X → Bool) (o : IsStrictOrder lt) where
   pub in_order-permutation : (xs ys : List X) → IsPermutation xs ys → in_order lt ys ≡ in_order lt xs
   in_order-permutation xs ys p = IsPermutation-keeps xs (λ l. in_order lt l ≡ in_order lt xs) refl (swap_keeps xs) ys p
 
-  inserted_first : (x : X) (ys : List X) → Each (λ y. lt y x ≡ false) ys → inserted lt x ys ≡ x ∷ ys
+  pub inserted_first : (x : X) (ys : List X) → Each (λ y. lt y x ≡ false) ys → inserted lt x ys ≡ x ∷ ys
   inserted_first x [] e = refl
   inserted_first x (y ∷ ys) e = rw e.0 refl
 

@@ -1,5 +1,5 @@
 -- Pages as they are written, children first.
-use Rattle.std.proofs.Common.{◌≡◌, ℕ, zero, suc, ◌+◌, ◌*◌, ◌<◌, ◌≤◌, ◌⊎◌, inl, inr, ⊎_elim, Bool, true, false, eqb, Option, Some, None, List, [], ◌∷◌, ◌++◌, length, take, drop, refl, ap, sym, ◌∙◌, subst, arith, append_assoc, length-append}
+use Rattle.std.proofs.Common.{◌≡◌, ℕ, zero, suc, ◌+◌, ◌*◌, ◌/◌, ◌<◌, ◌≤◌, ◌⊎◌, inl, inr, ⊎_elim, Bool, true, false, eqb, Option, Some, None, List, [], ◌∷◌, ◌++◌, length, take, drop, refl, ap, sym, ◌∙◌, subst, arith, append_assoc, length-append}
 use Rattle.std.proofs.lemmas.Bool.{eq-eqb, ne_eqb, lt-ltb, false≢true, false_from_ne_true}
 use Rattle.std.proofs.lemmas.List.{append-nil, take_at, drop_at}
 use Rattle.ndx_page.specs.declared.page.Entry.{Entry}
@@ -17,7 +17,8 @@ use Rattle.ndx_tree.specs.Pairs.{Pair, is_before, key_before}
 use Rattle.ndx_tree.specs.Rising.{IsRising, last_of}
 use Rattle.ndx_tree.specs.Pages.{PageView, joined, view_of, IsPage, IsChild}
 use Rattle.ndx_tree.specs.IndexFile.{Item, Listed, Between, listed, Link, links, behind, leaf_pairs, all_listed, AreBelow, IsNode, IsBelow, AreFresh, is_listed, page_at, AreBounds}
-use Rattle.ndx_tree.specs.Writes.{AreLast, AreGiven, AreOthers, IsWritten, AreWritten, entry_links, IsAppended}
+use Rattle.ndx_tree.specs.Writes.{AreLast, AreGiven, AreOthers, IsWritten, AreWritten, entry_links, IsAppended, IsLink}
+use Rattle.ndx_tree.specs.IndexText.{IsOwnPage}
 use Rattle.ndx_tree.proofs.Ordered.{Each-map, Each-append, Each-append_left, Each-append_right, Each-at}
 use Rattle.ndx_tree.proofs.KeyOrder.{orders_pairs}
 use Rattle.ndx_tree.proofs.PairOrder.{is_before_strict}
@@ -37,7 +38,7 @@ AreLast-all before [] = tt
 AreLast-all before (p ∷ ps) = AreLast-all (before ++ p ∷ []) ps
 
 -- keys go up with the pairs
-not_below : (p q : Pair) → is_before p q ≡ true → key_before q.0 p.0 ≡ false
+pub not_below : (p q : Pair) → is_before p q ≡ true → key_before q.0 p.0 ≡ false
 not_below p q e = false_from_ne_true (key_before q.0 p.0) (λ g. false≢true (sym (before_asym p q e) ∙ orders_pairs.by_key q.0 p.0 q.1 p.1 g))
 
 not_itself : (p : Pair) → key_before p.0 p.0 ≡ false
@@ -130,11 +131,11 @@ grown : (front old added new rest : List ℕ) → new ≡ old ++ added → front
 grown front old added new rest e = ap (λ (m : List ℕ). front ++ m) (sym (append_assoc old added rest) ∙ ap (λ (m : List ℕ). m ++ rest) (sym e))
 
 pub none_written : (k h first : ℕ) (body : List ℕ) → AreWritten k h first first body [] []
-none_written k h first body = record { reached = []; items = []; below = λ front rest level e. (refl, refl); given = tt; fresh = λ count seen l o. tt; pairs = refl; last = λ before. tt; entries = tt }
+none_written k h first body = record { reached = []; items = []; below = λ front rest level e. (refl, refl); given = tt; all = omega arith; fresh = λ count seen l o. tt; pairs = refl; last = λ before. tt; entries = tt }
 
 -- one child more, and the entry that names it
-pub child_written : (k h first mid n : ℕ) (old added new : List ℕ) (es : List Entry) (cs : List PageView) (c : PageView) (e : Entry) (s : Pair) → AreWritten k h first mid old es cs → IsWritten k mid n new c → new ≡ old ++ added → c.height ≡ h → first ≤ mid → mid < n → e.child ≡ n → length e.key.items ≡ k → last_of c.pairs ≡ Some s → s.0 ≡ e.key.items → AreWritten k h first n new (es ++ e ∷ []) (cs ++ c ∷ [])
-child_written k h first mid n old added new es cs c e s w v grows height le less child key last same = record {
+pub child_written : (k h first mid n : ℕ) (old added new : List ℕ) (es : List Entry) (cs : List PageView) (c : PageView) (e : Entry) (s : Pair) → AreWritten k h first mid old es cs → IsWritten k mid n new c → new ≡ old ++ added → c.height ≡ h → first ≤ mid → mid < n → e.child ≡ n → length e.key.items ≡ k → last_of c.pairs ≡ Some s → s.0 ≡ e.key.items → e.number ≡ 0 → AreWritten k h first n new (es ++ e ∷ []) (cs ++ c ∷ [])
+child_written k h first mid n old added new es cs c e s w v grows height le less child key last same plain = record {
   reached = w.reached ++ v.reached;
   items = w.items ++ (v.items ++ Between e.key.items ∷ []);
   below = λ front rest level whole.
@@ -143,10 +144,11 @@ child_written k h first mid n old added new es cs c e s w v grows height le less
       let one : R e.child v.reached v.items = subst (λ m. R m v.reached v.items) (sym child) (subst (λ x. IsBelow k (front ++ (new ++ rest)) level (level + x) n v.reached v.items) height (v.below front rest level whole)) in
       subst (λ (m : List Link). AreBelow R m (w.reached ++ v.reached) (w.items ++ (v.items ++ Between e.key.items ∷ []))) (sym (entry_links_more es e)) (AreBelow-append R (entry_links es) _ w.reached v.reached w.items _ others (one_below R (e.child, Some e.key.items) v.reached v.items one));
   given = Each-append (λ x. (first < x) × (x ≤ n)) w.reached v.reached (given_up first mid n w.reached (omega arith) w.given) (given_down first mid n v.reached le v.given);
+  all = omega (arith, w.all, v.all, length-append w.reached v.reached);
   fresh = fresh_both first mid n w.reached v.reached le (omega arith) w.given w.fresh v.fresh;
   pairs = listed_append w.items (v.items ++ Between e.key.items ∷ []) ∙ ap (λ (m : List Pair). listed w.items ++ m) (listed_append v.items (Between e.key.items ∷ []) ∙ append-nil (listed v.items)) ∙ ap (λ (m : List Pair). m ++ listed v.items) w.pairs ∙ ap (λ (m : List Pair). joined cs ++ m) v.pairs ∙ sym (joined_more cs c);
   last = λ before. AreLast-append before w.items (v.items ++ Between e.key.items ∷ []) (w.last before) (AreLast-append (before ++ listed w.items) v.items (Between e.key.items ∷ []) (v.last (before ++ listed w.items)) ((s, subst (λ (m : List Pair). last_of ((before ++ listed w.items) ++ m) ≡ Some s) (sym v.pairs) (last_back s (before ++ listed w.items) c.pairs last), same), tt));
-  entries = Each-append (λ x. (length x.key.items ≡ k) × (0 < x.child)) es (e ∷ []) w.entries ((key, omega (arith, child, less)), tt);
+  entries = Each-append (IsLink k) es (e ∷ []) w.entries ((key, omega (arith, child, less), plain), tt);
 }
 
 -- ---- the page itself
@@ -175,6 +177,7 @@ leaf_written k first old new page v a o last pairs height = record {
         subst (λ l. IsNode (IsBelow k (front ++ (new ++ rest)) level (level + 0)) (eqb (level + 0) level) page l [] (all_listed (leaf_pairs page.entries.items))) (sym last) (eq-eqb (level + 0) level (omega arith), refl, refl),
       );
   given = ((omega arith, omega arith), tt);
+  all = omega arith;
   fresh = fresh_page first first [] (omega arith) (λ count seen l others. tt);
   pairs = listed_all (leaf_pairs page.entries.items) ∙ pairs;
   last = λ before. AreLast-all before (leaf_pairs page.entries.items);
@@ -205,6 +208,7 @@ inner_written k h first mid n old added new whole cs c v page w x grows height l
         subst (λ l. IsNode R (eqb (level + h) level) page l (w.reached ++ x.reached) (w.items ++ x.items)) (sym last) node,
       );
   given = ((omega arith, omega arith), Each-append (λ y. (first < y) × (y ≤ n + 1)) w.reached x.reached (given_up first mid (n + 1) w.reached (omega arith) w.given) (given_up first n (n + 1) x.reached (omega arith) (given_down first mid n x.reached le x.given)));
+  all = omega (arith, w.all, x.all, length-append w.reached x.reached);
   fresh = fresh_page first n (w.reached ++ x.reached) (omega arith) (fresh_both first mid n w.reached x.reached le (omega arith) w.given w.fresh x.fresh);
   pairs = listed_append w.items x.items ∙ ap (λ (m : List Pair). m ++ listed x.items) w.pairs ∙ ap (λ (m : List Pair). joined cs ++ m) x.pairs ∙ sym (joined_more cs c) ∙ sym pairs;
   last = λ before. AreLast-append before w.items x.items (w.last before) (x.last (before ++ listed w.items));
@@ -241,6 +245,7 @@ pub record IsChildAt (k : ℕ) (now : PageView) (cs : List PageView) (es : List 
   pub more : joined (take (i + 1) cs) ≡ joined (take i cs) ++ c.pairs
   pub fits : length (joined (take i cs)) + length c.pairs ≤ length now.pairs
   pub two : 2 ≤ length c.pairs
+  pub half : now.most / 2 ≤ c.count
   pub separator : (s : Pair) → i < length es → s ≡ get_or es i s → (last_of c.pairs ≡ Some s) × IsPairOf k s
 
 pub child_at_place : (k most : ℕ) (now : PageView) (es : List Pair) (cs : List PageView) (i : ℕ) (c : PageView) → view_of most es cs ≡ now → IsPage most es cs → Each (IsPairOf k) now.pairs → i < length cs → c ≡ get_or cs i c → IsChildAt k now cs es i c
@@ -259,6 +264,7 @@ child_at_place k most now es (x ∷ cs) i c e p keys l is =
       more = more;
       fits = omega (arith, ap (λ (m : List Pair). length m) more, length-append (joined (take i (x ∷ cs))) c.pairs, joined_rest (x ∷ cs) (i + 1), ap (λ (m : List Pair). length m) pairs);
       two = omega (arith, one.filled, least_pairs_two x.height);
+      half = subst (λ m. m / 2 ≤ c.count) (ap (λ (v : PageView). v.most) e) one.half;
       separator = λ s within g.
           let last : last_of c.pairs ≡ Some s = ap (λ (v : PageView). last_of v.pairs) is ∙ cut_at i es (x ∷ cs) c s p.framed.0 within ∙ ap (λ (v : Pair). let o : Option Pair = Some v in o) (sym g) in
           (last, each_last_of (IsPairOf k) c.pairs s mine last);
@@ -269,11 +275,11 @@ child_at_place k most now es (x ∷ cs) i c e p keys l is =
 all_of : (P : Entry → Type 0) (es : List Entry) → Each P es → All P es
 all_of P es e = λ k d l. Each-at P es k d e l
 
-pub inner_fits : (k : ℕ) (page : Page) → Each (λ e. (length e.key.items ≡ k) × (0 < e.child)) page.entries.items → length page.entries.items ≤ most_entries k → 0 < page.last → FitsKeys k page
+pub inner_fits : (k : ℕ) (page : Page) → Each (IsLink k) page.entries.items → length page.entries.items ≤ most_entries k → 0 < page.last → FitsKeys k page
 inner_fits k page e most last = record {
   most = most;
-  keys = all_of (λ e. length e.key.items ≡ k) page.entries.items (Each-map (λ e. (length e.key.items ≡ k) × (0 < e.child)) (λ e. length e.key.items ≡ k) (λ e h. h.0) page.entries.items e);
-  kind = inr (all_of (λ e. 0 < e.child) page.entries.items (Each-map (λ e. (length e.key.items ≡ k) × (0 < e.child)) (λ e. 0 < e.child) (λ e h. h.1) page.entries.items e), last);
+  keys = all_of (λ e. length e.key.items ≡ k) page.entries.items (Each-map (IsLink k) (λ e. length e.key.items ≡ k) (λ e h. h.0) page.entries.items e);
+  kind = inr (all_of (λ e. 0 < e.child) page.entries.items (Each-map (IsLink k) (λ e. 0 < e.child) (λ e h. h.1) page.entries.items e), last);
 }
 
 pairs_each : (k : ℕ) (es : List Entry) → Each (IsPairOf k) (leaf_pairs es) → Each (λ e. (length e.key.items ≡ k) × (0 < e.number)) es
@@ -292,3 +298,9 @@ leaf_page_fits k page pairs children last most =
       keys = all_of (λ e. length e.key.items ≡ k) page.entries.items (Each-map (λ e. (length e.key.items ≡ k) × (0 < e.number)) (λ e. length e.key.items ≡ k) (λ e h. h.0) page.entries.items each);
       kind = inl (all_of (λ e. (e.child ≡ 0) × (0 < e.number)) page.entries.items (each_both (λ e. e.child ≡ 0) (λ e. 0 < e.number) page.entries.items children (Each-map (λ e. (length e.key.items ≡ k) × (0 < e.number)) (λ e. 0 < e.number) (λ e h. h.1) page.entries.items each)), last);
     }
+
+pub inner_own : (k : ℕ) (page : Page) → Each (IsLink k) page.entries.items → FitsKeys k page → IsOwnPage k page
+inner_own k page e fits = record { fits = fits; plain = λ _. Each-map (IsLink k) (λ e. e.number ≡ 0) (λ e h. h.2) page.entries.items e }
+
+pub leaf_own : (k : ℕ) (page : Page) → page.last ≡ 0 → FitsKeys k page → IsOwnPage k page
+leaf_own k page last fits = record { fits = fits; plain = λ some. absurd (omega (arith, some, last)) }

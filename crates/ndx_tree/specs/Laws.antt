@@ -1,5 +1,5 @@
 -- What follows from the definitions of lists in order: laws that moves and changes of indexes rest on.
-use Rattle.std.specs.Prelude.{◌≡◌, ℕ, ◌<◌, ◌⊎◌, ◌↔◌, Bool, true, false, Option, Some, List, ◌∷◌, ◌++◌, Contains, MatchOption, IsPermutation, reverse, ⊤}
+use Rattle.std.specs.Prelude.{◌≡◌, ℕ, ◌<◌, ◌⊎◌, ◌↔◌, Bool, true, false, not, ◌&&◌, ◌==◌, Option, Some, List, [], ◌∷◌, ◌++◌, length, filter, Contains, MatchOption, IsPermutation, reverse, ⊤}
 use Rattle.ndx_tree.specs.Order.{IsStrictOrder, Each, IsAscending, IsDistinct, flip, first, above, below, inserted, without, in_order}
 use Rattle.ndx_tree.specs.Pairs.{Pair, is_before, key_before, pairs_from}
 
@@ -46,15 +46,29 @@ pub record ChangesOne (p : Pair) (pairs : List Pair) : Type 0 where
   pub members_with : (q : Pair) → Contains (inserted is_before p pairs) q ↔ ((q ≡ p) ⊎ Contains pairs q)
   pub ordered_without : IsAscending is_before (without is_before p pairs)
   pub members_without : (q : Pair) → Contains (without is_before p pairs) q ↔ (Contains pairs q × (q ≡ p → ⊥))
+  pub absent : Each (λ q. q ≡ p → ⊥) pairs → without is_before p pairs ≡ pairs
   pub undone : Each (λ q. q ≡ p → ⊥) pairs → without is_before p (inserted is_before p pairs) ≡ pairs
 
 -- what putting pairs in order does, whatever order they come in, and how it goes with a change of one of them
 pub record PutsInOrder (pairs : List Pair) : Type 0 where
   pub ascending : IsDistinct pairs → IsAscending is_before (in_order is_before pairs)
   pub members : (q : Pair) → Contains (in_order is_before pairs) q ↔ Contains pairs q
+  pub permutation : IsPermutation pairs (in_order is_before pairs)
+  pub count : length (in_order is_before pairs) ≡ length pairs
+  pub same : IsAscending is_before pairs → in_order is_before pairs ≡ pairs
   pub any_order : (others : List Pair) → IsPermutation pairs others → in_order is_before others ≡ in_order is_before pairs
 
 pub record ChangesRows (front : List Pair) (p : Pair) (back : List Pair) : Type 0 where
   pub added : in_order is_before (front ++ p ∷ back) ≡ inserted is_before p (in_order is_before (front ++ back))
   pub removed : Each (λ q. q ≡ p → ⊥) (front ++ back) → without is_before p (in_order is_before (front ++ p ∷ back)) ≡ in_order is_before (front ++ back)
   pub replaced : Each (λ q. q ≡ p → ⊥) (front ++ back) → (q : Pair) → in_order is_before (front ++ q ∷ back) ≡ inserted is_before q (without is_before p (in_order is_before (front ++ p ∷ back)))
+
+-- whether a key begins with these bytes
+abbrev pub begins_with : List ℕ → List ℕ → Bool
+begins_with [] key = true
+begins_with (a ∷ start) [] = false
+begins_with (a ∷ start) (b ∷ key) = a == b && begins_with start key
+
+-- the pairs whose keys begin so stand side by side, at the front of those from there on
+abbrev pub StandTogether : List Pair → Type 0
+StandTogether pairs = (start : List ℕ) → pairs_from start pairs ≡ filter (λ p. begins_with start p.0) pairs ++ filter (λ p. not (begins_with start p.0)) (pairs_from start pairs)

@@ -9,6 +9,7 @@ pub mod Falls
 pub mod Blanks
 pub mod Trees
 pub mod IndexFile
+pub mod IndexText
 pub mod Walk
 pub mod Reads
 pub mod Writes

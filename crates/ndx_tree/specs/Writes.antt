@@ -2,11 +2,12 @@
 use Rattle.std.specs.Prelude.{◌≡◌, ℕ, ◌+◌, ◌<◌, ◌≤◌, ◌⊎◌, Some, List, [], ◌∷◌, ◌++◌, length}
 use Rattle.ndx_page.specs.declared.page.Entry.{Entry}
 use Rattle.ndx_page.specs.declared.page.Page.{Page}
-use Rattle.ndx_page.specs.PageLayout.{IsPage}
+use Rattle.ndx_page.specs.PageLayout.{IsPage, page_text}
 use Rattle.ndx_tree.specs.Order.{Each}
 use Rattle.ndx_tree.specs.Pairs.{Pair}
 use Rattle.ndx_tree.specs.Rising.{last_of}
 use Rattle.ndx_tree.specs.Pages.{PageView, joined}
+use Rattle.ndx_tree.specs.IndexText.{pages_text, IsOwnPage, IsHalfFull}
 use Rattle.ndx_tree.specs.IndexFile.{Item, Listed, Between, listed, Link, AreBelow, IsBelow, AreFresh}
 
 -- each separator is the key of the last pair before it
@@ -30,9 +31,14 @@ pub record IsWritten (key_length first n : ℕ) (body : List ℕ) (view : PageVi
   pub items : List Item
   pub below : (front rest : List ℕ) (level : ℕ) → length front ≡ 512 → IsBelow key_length (front ++ (body ++ rest)) level (level + view.height) n reached items
   pub given : AreGiven first n reached
+  pub all : length reached + first ≡ n
   pub fresh : (count : ℕ) (seen : List ℕ) → n < count → AreOthers first n seen → AreFresh count seen reached
   pub pairs : listed items ≡ view.pairs
   pub last : (before : List Pair) → AreLast before items
+
+-- an entry between children
+abbrev pub IsLink : ℕ → Entry → Type 0
+IsLink key_length e = (length e.key.items ≡ key_length) × (0 < e.child) × (e.number ≡ 0)
 
 -- the children that entries name, each with the entry's key behind it
 abbrev pub entry_links : List Entry → List Link
@@ -45,14 +51,34 @@ pub record AreWritten (key_length height first n : ℕ) (body : List ℕ) (es : 
   pub items : List Item
   pub below : (front rest : List ℕ) (level : ℕ) → length front ≡ 512 → AreBelow (IsBelow key_length (front ++ (body ++ rest)) level (level + height)) (entry_links es) reached items
   pub given : AreGiven first n reached
+  pub all : length reached + first ≡ n
   pub fresh : (count : ℕ) (seen : List ℕ) → n < count → AreOthers first n seen → AreFresh count seen reached
   pub pairs : listed items ≡ joined cs
   pub last : (before : List Pair) → AreLast before items
-  pub entries : Each (λ e. (length e.key.items ≡ key_length) × (0 < e.child)) es
+  pub entries : Each (IsLink key_length) es
 
 -- the page stands at the end
 pub record IsAppended (key_length : ℕ) (old new : List ℕ) (page : Page) : Type 0 where
   pub text : List ℕ
   pub whole : length text ≡ 512
+  pub is : text ≡ page_text key_length page
   pub stands : IsPage key_length text page
   pub items : new ≡ old ++ text
+
+-- Whole pages, all of them half full, stand behind `old`. The last of them has the number n.
+pub record ArePages (key_length first n : ℕ) (old new : List ℕ) : Type 0 where
+  pub pages : List Page
+  pub items : new ≡ old ++ pages_text key_length pages
+  pub count : first + length pages ≡ n
+  pub own : Each (IsOwnPage key_length) pages
+  pub half : Each (IsHalfFull key_length) pages
+
+-- So do a page with so many entries, as the last, and the pages below it.
+pub record IsPageText (key_length first n : ℕ) (old new : List ℕ) (entry_count : ℕ) : Type 0 where
+  pub pages : List Page
+  pub page : Page
+  pub items : new ≡ old ++ pages_text key_length (pages ++ page ∷ [])
+  pub count : first + length pages + 1 ≡ n
+  pub own : Each (IsOwnPage key_length) (pages ++ page ∷ [])
+  pub half : Each (IsHalfFull key_length) pages
+  pub entries : length page.entries.items ≡ entry_count

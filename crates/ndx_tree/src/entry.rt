@@ -3,6 +3,7 @@
 ghost use Rattle.std.specs.Prelude.{◌≡◌, ℕ, ◌+◌, ◌<◌, ◌≤◌, length};
 ghost use Rattle.ndx_tree.specs.Pairs.{is_before, key_before, pair_cmp};
 
+use crate::lists::held;
 use arrayvec::ArrayVec;
 use std::cmp::Ordering;
 use std::marker::Model;
@@ -31,9 +32,10 @@ impl Entry {
         requires { length key.now ≤ 100 }
         ensures { result ≡ (key.now, number) }
     {
-        let mut bytes = ArrayVec::new();
-        bytes.try_extend_from_slice(key).unwrap();
-        Entry { key: bytes, number }
+        Entry {
+            key: held(key),
+            number,
+        }
     }
 
     /// The key's bytes, at most 100.

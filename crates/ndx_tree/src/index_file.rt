@@ -6,14 +6,16 @@ ghost use Rattle.ndx_tree.specs.Pairs.{Pair};
 ghost use Rattle.ndx_tree.specs.Rising.{IsRising};
 ghost use Rattle.ndx_tree.specs.KeyForm.{KeyForm, IsKeyLength, IsPairOf};
 ghost use Rattle.ndx_tree.specs.IndexFile.{IsIndexFile, page_count};
+ghost use Rattle.ndx_tree.specs.IndexText.{IsIndexText};
 ghost use Rattle.ndx_page.specs.Numbers.{number_at};
 ghost use Rattle.ndx_tree.specs.Walk.{IsFirstFault};
 ghost use Rattle.ndx_tree.specs.declared.fault.TreeFault.TheVariants.{Memory};
 
+use crate::laws::holds_one_list;
+use crate::lists::held;
 use crate::order::is_in_order;
 use crate::walk::walk_pages;
 use crate::{Entry, NdxTree, TreeFault};
-use arrayvec::ArrayVec;
 use ndx_page::laws::pages_are_told;
 use ndx_page::{Head, read_head, write_head};
 use std::alloc::{AllocError, Global};
@@ -28,7 +30,7 @@ fn tree_of(alloc: Global, head: Head, entries: Vec<Entry>) -> Result<NdxTree, Al
     ensures key_text { IfOk result (λ tree. tree.form.key_text ≡ head.text.items) }
 {
     let mut tree = NdxTree::empty(alloc, head.length, head.text)?;
-    tree.fill(entries)?;
+    tree.fill(&entries)?;
     Ok(tree)
 }
 
@@ -64,9 +66,15 @@ impl NdxTree {
     /// Where memory is missing, the tree is as it was.
     pub fn write(&self, alloc: Global) -> Result<Vec<u8>, AllocError>
         ensures file { IfOk result (λ bytes. IsIndexFile bytes.items self.now.form self.now.pairs) }
+        // No other list stands in the bytes: that is what reading them gives.
+        ensures back { IfOk result (λ bytes. (form : KeyForm) (pairs : List Pair) → IsIndexFile bytes.items form pairs → (form ≡ self.now.form) × (pairs ≡ self.now.pairs)) }
+        // The bytes are page 0 and whole pages, each reached from the root, half full but for the root, and with 0 in
+        // each byte that has no meaning.
+        ensures text { IfOk result (λ bytes. IsIndexText bytes.items self.now.form self.now.pairs) }
         // Page 0 tells how many pages there are.
         ensures pages { IfOk result (λ bytes. number_at 4 4 bytes.items ≡ page_count bytes.items) }
     {
+        holds_one_list();
         let mut body = Vec::new(alloc);
         let plan = head_of(self.key_length, self.key_text.as_slice(), 0, 0);
         let root = self.root.write(&plan, 0, &mut body)?;
@@ -88,12 +96,10 @@ fn head_of(key_length: usize, key_text: &[u8], root: u32, pages: u32) -> Head
     ensures root { result.root ≡ root }
     ensures pages { result.pages ≡ pages }
 {
-    let mut text = ArrayVec::new();
-    text.try_extend_from_slice(key_text).unwrap();
     Head {
         root,
         pages,
         length: key_length,
-        text,
+        text: held(key_text),
     }
 }

@@ -23,8 +23,3 @@ pub use fault::TreeFault;
 pub use key_list::KeyList;
 pub use sorted_keys::SortedKeys;
 pub use tree::NdxTree;
-
-#[cfg(test)]
-mod tests;
-#[cfg(test)]
-mod tree_tests;

@@ -100,12 +100,11 @@ impl Page {
 
     /// The first pair that does not stand before a key with a number. Each page that is looked at is counted.
     pub fn first_from(&self, key: &[u8], number: u64, seen: &mut usize) -> Option<Entry>
-        requires fits { seen.old + self.now.height < 2 ^ 64 }
         ensures found { result ≡ first_from (key.now, number) self.now.pairs }
         ensures seen { seen.new ≤ seen.old + self.now.height }
     {
         let at = place(&self.entries, key, number);
-        *seen += 1;
+        look(seen);
         if self.children.is_empty() {
             if at < self.entries.len() {
                 return Some(self.entries[at].copied());
@@ -117,12 +116,11 @@ impl Page {
 
     /// The last pair that stands before a key with a number. Each page that is looked at is counted.
     pub fn last_below(&self, key: &[u8], number: u64, seen: &mut usize) -> Option<Entry>
-        requires fits { seen.old + self.now.height < 2 ^ 64 }
         ensures found { result ≡ last_below (key.now, number) self.now.pairs }
         ensures seen { seen.new ≤ seen.old + self.now.height }
     {
         let at = place(&self.entries, key, number);
-        *seen += 1;
+        look(seen);
         if self.children.is_empty() {
             return entry_before(&self.entries, at);
         }
@@ -133,13 +131,13 @@ impl Page {
         entry_before(&self.entries, at)
     }
 
-    /// The last pair. Each page that is looked at is counted, up to the greatest number.
+    /// The last pair. Each page that is looked at is counted.
     pub fn last_pair(&self, seen: &mut usize) -> Entry
         requires { 0 < length self.now.pairs }
         ensures found { last_of self.now.pairs ≡ Some result }
         ensures seen { seen.new ≤ seen.old + self.now.height }
     {
-        *seen = seen.saturating_add(1);
+        look(seen);
         if self.children.is_empty() {
             return self.entries[self.entries.len() - 1].copied();
         }
@@ -397,6 +395,13 @@ pub(crate) fn take_inner(most: usize, pool: &mut Pool) -> Blank
         unreachable!()
     };
     blank
+}
+
+// Counts a page that is looked at, up to the greatest number.
+fn look(seen: &mut usize)
+    ensures { seen.new ≤ seen.old + 1 }
+{
+    *seen = seen.saturating_add(1);
 }
 
 // The entry before a place, if there is one.

@@ -7,11 +7,11 @@ ghost use Rattle.ndx_page.specs.Layout.{most_entries};
 ghost use Rattle.ndx_tree.specs.Order.{Each};
 ghost use Rattle.ndx_tree.specs.KeyForm.{IsPairOf};
 ghost use Rattle.ndx_tree.specs.IndexFile.{leaf_pairs};
-ghost use Rattle.ndx_tree.specs.Writes.{IsWritten, IsAppended};
+ghost use Rattle.ndx_tree.specs.Writes.{IsWritten, IsAppended, IsPageText};
 
 use crate::Entry;
+use crate::lists::held;
 use crate::page::Page;
-use crate::walk::held;
 use arrayvec::ArrayVec;
 use ndx_page::{Head, write_page};
 use std::alloc::AllocError;
@@ -61,6 +61,7 @@ fn between(child: u32, key: &[u8]) -> ndx_page::Entry
     requires { length key.now ≤ 100 }
     ensures child { result.child ≡ child }
     ensures key { result.key.items ≡ key.now }
+    ensures number { result.number ≡ 0 }
 {
     ndx_page::Entry {
         child,
@@ -80,7 +81,7 @@ impl Page {
         requires next { pages + 1 < 2 ^ 32 }
         requires start { vec_len body.old ≡ pages * 512 }
         ensures written { IfOk result (λ n. IsWritten head.now.length pages n body.new.items self.now) }
-        ensures grows { IfOk result (λ _. (added : List ℕ) × (body.new.items ≡ body.old.items ++ added)) }
+        ensures text { IfOk result (λ n. IsPageText head.now.length pages n body.old.items body.new.items self.now.count) }
         ensures end { IfOk result (λ n. vec_len body.new ≡ n * 512) }
         ensures later { IfOk result (λ n. pages < n) }
         ensures few { IfOk result (λ n. 2 ≤ length self.now.pairs → n + 1 ≤ pages + length self.now.pairs) }

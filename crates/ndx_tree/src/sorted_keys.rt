@@ -5,6 +5,7 @@ ghost use Rattle.ndx_tree.specs.Order.{Each, IsAscending, above, below, inserted
 ghost use Rattle.ndx_tree.specs.Pairs.{is_before, pairs_from};
 ghost use Rattle.ndx_tree.specs.KeyForm.{IsKeyList};
 
+use crate::lists::held;
 use crate::{Entry, KeyList};
 use arrayvec::ArrayVec;
 use std::alloc::{AllocError, Global};
@@ -54,11 +55,9 @@ impl KeyList for SortedKeys {
         mut entries: Vec<Entry>,
     ) -> Result<Self, AllocError> {
         put_in_order(&mut entries);
-        let mut text = ArrayVec::new();
-        text.try_extend_from_slice(key_text).unwrap();
         Ok(SortedKeys {
             key_length,
-            key_text: text,
+            key_text: held(key_text),
             entries,
         })
     }
@@ -109,7 +108,7 @@ impl KeyList for SortedKeys {
 }
 
 // Puts entries in order.
-fn put_in_order(entries: &mut Vec<Entry>)
+pub(crate) fn put_in_order(entries: &mut Vec<Entry>)
     requires { IsDistinct entries.old.items }
     ensures pairs { entries.new.items ≡ in_order is_before entries.old.items }
 {

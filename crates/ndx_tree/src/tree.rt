@@ -1,6 +1,6 @@
 //! A list of keys in a tree of pages.
 
-ghost use Rattle.std.specs.Prelude.{◌≡◌, ◌+◌, ◌*◌, ◌<◌, ◌≤◌, ◌^◌, ◌↔◌, length, IfOk, OnOk, Contains, []};
+ghost use Rattle.std.specs.Prelude.{◌≡◌, ◌+◌, ◌*◌, ◌<◌, ◌≤◌, ◌^◌, ◌↔◌, length, reverse, IfOk, OnOk, Contains, []};
 ghost use Rattle.ndx_tree.specs.Order.{Each, IsDistinct, above, below, first, in_order};
 ghost use Rattle.ndx_tree.specs.Pairs.{is_before, pairs_from};
 ghost use Rattle.ndx_tree.specs.KeyForm.{IsKeyLength, IsPairOf};
@@ -8,7 +8,9 @@ ghost use Rattle.ndx_tree.specs.Rising.{first_from};
 
 use crate::entry::Entry;
 use crate::key_list::KeyList;
+use crate::lists::held;
 use crate::page::{Blank, Page, Pool, take_inner};
+use crate::sorted_keys::put_in_order;
 use arrayvec::ArrayVec;
 use ndx_page::{MAX_TEXT, most_entries};
 use std::alloc::{AllocError, Global};
@@ -93,6 +95,30 @@ impl NdxTree {
         self.root.first_from(key, number, &mut self.seen)
     }
 
+    /// The least pair.
+    pub fn first(&mut self) -> Option<Entry>
+        ensures found { result ≡ first self.old.pairs }
+        ensures pairs { self.new.pairs ≡ self.old.pairs }
+        ensures same { self.new ≡ record self.old { seen = self.new.seen } }
+        ensures seen { self.new.seen ≤ self.new.height }
+    {
+        self.search_from(b"", 0)
+    }
+
+    /// The greatest pair.
+    pub fn last(&mut self) -> Option<Entry>
+        ensures found { result ≡ first (reverse self.old.pairs) }
+        ensures pairs { self.new.pairs ≡ self.old.pairs }
+        ensures same { self.new ≡ record self.old { seen = self.new.seen } }
+        ensures seen { self.new.seen ≤ self.new.height }
+    {
+        self.seen = 0;
+        if self.count == 0 {
+            return None;
+        }
+        Some(self.root.last_pair(&mut self.seen))
+    }
+
     /// The least pair whose key isn't below the key. A key that begins with the key isn't below it.
     pub fn first_from(&mut self, key: &[u8]) -> Option<Entry>
         ensures found { result ≡ first (pairs_from key.now self.old.pairs) }
@@ -121,16 +147,16 @@ impl NdxTree {
         self.root.last_below(key, u64::from(number), &mut self.seen)
     }
 
-    /// Adds pairs that aren't there, the last of them first.
-    pub(crate) fn fill(&mut self, mut entries: Vec<Entry>) -> Result<(), AllocError>
+    /// Adds pairs to a tree without any. It is fastest where they are in order, since each then goes in at the end.
+    pub(crate) fn fill(&mut self, entries: &[Entry]) -> Result<(), AllocError>
         requires empty { self.old.pairs ≡ [] }
-        requires keys { Each (IsPairOf self.old.form.key_length) entries.items }
-        requires distinct { IsDistinct entries.items }
-        requires few { length entries.items < 2 ^ 32 }
-        ensures pairs { OnOk result (self.new.pairs ≡ in_order is_before entries.items) }
+        requires keys { Each (IsPairOf self.old.form.key_length) entries.now }
+        requires distinct { IsDistinct entries.now }
+        requires few { length entries.now < 2 ^ 32 }
+        ensures pairs { OnOk result (self.new.pairs ≡ in_order is_before entries.now) }
         ensures form { self.new.form ≡ self.old.form }
     {
-        while let Some(entry) = entries.pop() {
+        for entry in entries {
             self.reserve_one()?;
             self.insert(entry.key(), entry.number());
         }
@@ -149,12 +175,11 @@ impl KeyList for NdxTree {
         alloc: Global,
         key_length: usize,
         key_text: &[u8],
-        entries: Vec<Entry>,
+        mut entries: Vec<Entry>,
     ) -> Result<Self, AllocError> {
-        let mut text = ArrayVec::new();
-        text.try_extend_from_slice(key_text).unwrap();
-        let mut tree = NdxTree::empty(alloc, key_length, text)?;
-        tree.fill(entries)?;
+        put_in_order(&mut entries);
+        let mut tree = NdxTree::empty(alloc, key_length, held(key_text))?;
+        tree.fill(&entries)?;
         Ok(tree)
     }
 
@@ -202,15 +227,11 @@ impl KeyList for NdxTree {
     }
 
     fn first(&mut self) -> Option<Entry> {
-        self.search_from(b"", 0)
+        self.first()
     }
 
     fn last(&mut self) -> Option<Entry> {
-        self.seen = 0;
-        if self.count == 0 {
-            return None;
-        }
-        Some(self.root.last_pair(&mut self.seen))
+        self.last()
     }
 
     fn first_from(&mut self, key: &[u8]) -> Option<Entry> {

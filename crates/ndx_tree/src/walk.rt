@@ -11,6 +11,7 @@ ghost use Rattle.ndx_tree.specs.KeyForm.{IsPairOf};
 ghost use Rattle.ndx_tree.specs.declared.fault.TreeFault.{TreeFault as TheFault};
 ghost use Rattle.ndx_tree.specs.Reads.{Shows, Marks, Gives, Opens, unset, AreKeys};
 
+use crate::lists::held;
 use crate::{Entry, TreeFault};
 use arrayvec::ArrayVec;
 use ndx_page::laws::pages_are_told;
@@ -71,16 +72,6 @@ fn may_stand(level: usize, first: Option<usize>) -> bool
         None => true,
         Some(first) => level == first,
     }
-}
-
-// A key in place.
-pub(crate) fn held(key: &[u8]) -> ArrayVec<u8, MAX_KEY>
-    requires { length key.now ≤ 100 }
-    ensures { result.items ≡ key.now }
-{
-    let mut bytes = ArrayVec::new();
-    bytes.try_extend_from_slice(key).unwrap();
-    bytes
 }
 
 // Adds the pairs of a leaf's entries.

@@ -3,16 +3,12 @@ use Rattle.std.proofs.lemmas.Bool.{eqb-true, eqb-false}
 use Rattle.std.proofs.lemmas.List.{nil_from_length}
 use Rattle.ndx_tree.specs.Pairs.{Pair}
 use Rattle.ndx_tree.specs.Rising.{first_from, place_of, IsRising}
-use Rattle.ndx_tree.specs.Pages.{PageView, pairs_of, height_of, joined, IsChild}
-use Rattle.ndx_tree.proofs.Cut.{height_of-pos, pairs_from, cut_from}
+use Rattle.ndx_tree.specs.Pages.{PageView, pairs_of, joined, IsChild}
+use Rattle.ndx_tree.proofs.Cut.{pairs_from, cut_from}
 use Rattle.ndx_tree.proofs.Search.{first_at_place, none_at_place, first_in_child}
 use Rattle.ndx_tree.proofs.Cut.{entries_rising}
 use Rattle.ndx_tree.proofs.Take.{placed_child}
 use Rattle.ndx_tree.proofs.page.Page.+first_from.Goals as goal
-
-pub overflow_add-seen : goal.overflow_add-seen
-overflow_add-seen t c =
-    let h : height_of c.self.inside.children.items ≡ c.args.self.now.height = ap (λ (v : PageView). v.height) c.self.view_is in omega (arith, c.requires, height_of-pos c.self.inside.children.items)
 
 pub returns-then-at-len-clause-found : goal.returns-then-at-len-clause-found
 returns-then-at-len-clause-found t c =
@@ -44,7 +40,7 @@ first_from-requires t c =
     let is : c.index-2.result.now ≡ get_or c.self.inside.children.items c.place-at.result c.index-2.result.now = c.index-2.ensures in
     let one : IsChild child.2.0 c.self.inside.most c.index-2.result.now = subst (IsChild child.2.0 c.self.inside.most) (sym is) child.2.2 in
     let height : c.args.self.now.height ≡ c.index-2.result.now.height + 1 = sym (ap (λ (v : PageView). v.height) c.self.view_is) ∙ child.2.1 ∙ ap (λ k. k + 1) (sym one.level) in
-    omega (arith, height, c.requires)
+    omega (arith, height, c.decreases)
 
 pub returns-clause-found : goal.returns-clause-found
 returns-clause-found t c =
@@ -71,7 +67,7 @@ returns-clause-seen t c =
     let is : c.index-2.result.now ≡ get_or c.self.inside.children.items c.place-at.result c.index-2.result.now = c.index-2.ensures in
     let one : IsChild child.2.0 c.self.inside.most c.index-2.result.now = subst (IsChild child.2.0 c.self.inside.most) (sym is) child.2.2 in
     let height : c.args.self.now.height ≡ c.index-2.result.now.height + 1 = sym (ap (λ (v : PageView). v.height) c.self.view_is) ∙ child.2.1 ∙ ap (λ k. k + 1) (sym one.level) in
-    omega (arith, height, c.first_from.ensures)
+    omega (arith, height, c.first_from.ensures, c.look.ensures)
 
 pub place-at-requires : goal.place-at-requires
 place-at-requires t c = rw c.deref.ensures.value (entries_rising c.self.inside.most c.self.inside.entries.items c.self.inside.children.items c.self.invariant.0)

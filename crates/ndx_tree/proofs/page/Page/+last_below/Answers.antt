@@ -3,18 +3,14 @@ use Rattle.std.specs.Prelude.{is_some}
 use Rattle.std.proofs.lemmas.Bool.{eqb-false}
 use Rattle.ndx_tree.specs.Pairs.{Pair}
 use Rattle.ndx_tree.specs.Rising.{last_below, last_of, place_of, IsRising}
-use Rattle.ndx_tree.specs.Pages.{PageView, height_of, joined, view_of, IsPage, IsChild}
-use Rattle.ndx_tree.proofs.Cut.{height_of-pos, pairs_from, cut_from, entries_rising}
+use Rattle.ndx_tree.specs.Pages.{PageView, joined, view_of, IsPage, IsChild}
+use Rattle.ndx_tree.proofs.Cut.{pairs_from, cut_from, entries_rising}
 use Rattle.ndx_tree.proofs.Search.{below_in_child, below_at_place}
 use Rattle.ndx_tree.proofs.Take.{placed_child}
 use Rattle.ndx_tree.proofs.page.Page.+last_below.Goals as goal
 
 pub place-at-requires : goal.place-at-requires
 place-at-requires t c = rw c.deref.ensures.value (entries_rising c.self.inside.most c.self.inside.entries.items c.self.inside.children.items c.self.invariant.0)
-
-pub overflow_add-seen : goal.overflow_add-seen
-overflow_add-seen t c =
-    let h : height_of c.self.inside.children.items ≡ c.args.self.now.height = ap (λ (v : PageView). v.height) c.self.view_is in omega (arith, c.requires, height_of-pos c.self.inside.children.items)
 
 -- the child that the search goes into
 record IsInto (now : PageView) (m : ℕ) (es : List Pair) (cs : List PageView) (x : Pair) (at : ℕ) (d : PageView) : Type 0 where
@@ -58,7 +54,7 @@ last_below-below-requires t c =
     let some : 0 < length c.self.inside.children.items = omega (arith, eqb-false _ 0 (sym c.is_empty.ensures ∙ c.if-is_empty.false)) in
     let placed = rw c.deref.ensures.value at c.place-at.ensures.value in
     let q = into c.args.self.now c.self.inside.most c.self.inside.entries.items c.self.inside.children.items (c.args.key.now, c.args.number) c.place-at.result c.index.result.now c.self.view_is c.self.invariant.0 some placed c.index.ensures in
-    omega (arith, q.height, c.requires)
+    omega (arith, q.height, c.decreases)
 
 pub returns-then-is_some-clause-found : goal.returns-then-is_some-clause-found
 returns-then-is_some-clause-found t c =
@@ -72,7 +68,7 @@ returns-then-is_some-clause-seen t c =
     let some : 0 < length c.self.inside.children.items = omega (arith, eqb-false _ 0 (sym c.is_empty.ensures ∙ c.if-is_empty.false)) in
     let placed = rw c.deref.ensures.value at c.place-at.ensures.value in
     let q = into c.args.self.now c.self.inside.most c.self.inside.entries.items c.self.inside.children.items (c.args.key.now, c.args.number) c.place-at.result c.index.result.now c.self.view_is c.self.invariant.0 some placed c.index.ensures in
-    omega (arith, q.height, c.last_below-below.ensures.seen)
+    omega (arith, q.height, c.last_below-below.ensures.seen, c.look.ensures)
 
 pub returns-clause-found : goal.returns-clause-found
 returns-clause-found t c =
@@ -86,4 +82,4 @@ returns-clause-seen t c =
     let some : 0 < length c.self.inside.children.items = omega (arith, eqb-false _ 0 (sym c.is_empty.ensures ∙ c.if-is_empty.false)) in
     let placed = rw c.deref.ensures.value at c.place-at.ensures.value in
     let q = into c.args.self.now c.self.inside.most c.self.inside.entries.items c.self.inside.children.items (c.args.key.now, c.args.number) c.place-at.result c.index.result.now c.self.view_is c.self.invariant.0 some placed c.index.ensures in
-    omega (arith, q.height, c.last_below-below.ensures.seen)
+    omega (arith, q.height, c.last_below-below.ensures.seen, c.look.ensures)

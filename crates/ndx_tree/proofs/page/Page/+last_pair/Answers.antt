@@ -37,7 +37,7 @@ returns-clause-found t c =
 pub returns-then-is_empty-clause-seen : goal.returns-then-is_empty-clause-seen
 returns-then-is_empty-clause-seen t c =
     let h : height_of c.self.inside.children.items ≡ c.args.self.now.height = ap (λ (v : PageView). v.height) c.self.view_is in
-    omega (arith, height_of-pos c.self.inside.children.items, c.saturating_add.ensures)
+    omega (arith, height_of-pos c.self.inside.children.items, c.look.ensures)
 
 pub returns-clause-seen : goal.returns-clause-seen
 returns-clause-seen t c =
@@ -46,4 +46,4 @@ returns-clause-seen t c =
     let is : d ≡ get_or c.self.inside.children.items (length c.self.inside.children.items - 1) d = c.index-2.ensures ∙ ap (λ i. get_or c.self.inside.children.items (i - 1) d) (let e : c.len-2.result ≡ length c.self.inside.children.items = omega arith in e) in
     let last = last_child c.self.inside.most c.self.inside.entries.items c.self.inside.children.items d c.self.invariant.0 some in
     let height : c.args.self.now.height ≡ d.height + 1 = sym (ap (λ (v : PageView). v.height) c.self.view_is) ∙ last.2 ∙ ap (λ (v : PageView). v.height + 1) (sym is) in
-    omega (arith, height, c.last_pair.ensures.seen, c.saturating_add.ensures)
+    omega (arith, height, c.last_pair.ensures.seen, c.look.ensures)

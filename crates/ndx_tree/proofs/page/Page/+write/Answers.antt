@@ -1,17 +1,19 @@
-use Rattle.std.proofs.Common.{◌≡◌, ◌∙◌, ◌+◌, ◌-◌, ◌≤◌, ◌<◌, ◌++◌, ◌∷◌, [], ℕ, List, length, take, refl, sym, ap, subst, arith, length-append, append_assoc, lit<}
+use Rattle.std.proofs.Common.{◌≡◌, ◌∙◌, ◌+◌, ◌-◌, ◌/◌, ◌≤◌, ◌<◌, ◌++◌, ◌∷◌, [], ℕ, List, length, take, refl, sym, ap, subst, arith, length-append, lit<}
 use Rattle.std.proofs.lemmas.Bool.{eqb-true, eqb-false}
-use Rattle.std.proofs.lemmas.List.{nil_from_length, append-nil, take_all}
+use Rattle.std.proofs.lemmas.List.{nil_from_length, take_all}
 use Rattle.ndx_page.specs.declared.page.Entry.{Entry as FileEntry}
 use Rattle.ndx_tree.specs.Order.{Each}
 use Rattle.ndx_tree.specs.Pairs.{Pair}
 use Rattle.ndx_tree.specs.KeyForm.{IsPairOf}
 use Rattle.ndx_tree.specs.IndexFile.{leaf_pairs}
 use Rattle.ndx_tree.specs.Pages.{PageView, view_of, pairs_of, IsPage, joined, height_of}
-use Rattle.ndx_tree.specs.Writes.{AreWritten, IsWritten}
+use Rattle.ndx_tree.specs.Writes.{AreWritten, IsWritten, IsPageText}
 use Rattle.ndx_tree.proofs.Cut.{cut_length, cut_from, pairs_from}
 use Rattle.ndx_tree.proofs.Between.{take_next}
 use Rattle.ndx_tree.proofs.PageOf.{most_entries-bound}
-use Rattle.ndx_tree.proofs.Writing.{leaf_written, inner_written, none_written, child_written, child_at_place, inner_fits, leaf_page_fits}
+use Rattle.ndx_tree.proofs.Writing.{leaf_written, inner_written, none_written, child_written, child_at_place, inner_fits, leaf_page_fits, inner_own, leaf_own}
+use Rattle.ndx_tree.proofs.TextPages.{no_pages, more_pages, page_behind_pages}
+use Rattle.ndx_tree.specs.IndexText.{pages_text}
 use Rattle.ndx_tree.proofs.page.Page.+write.Goals as goal
 
 pub leaf_of-requires : goal.leaf_of-requires
@@ -38,6 +40,18 @@ returns-then-is_empty-clause-written t c =
     let height : c.args.self.now.height ≡ 1 = sym (ap (λ (v : PageView). v.height) c.self.view_is) ∙ ap height_of none in
     subst (λ n. IsWritten c.args.head.now.length c.args.pages n c.append_page.new.body.items c.args.self.now) (sym c.in_ok-own.ensures.number) (leaf_written c.args.head.now.length c.args.pages c.args.body.now.items c.append_page.new.body.items c.leaf_of.result c.args.self.now c.in_ok-own.ensures.text (omega (arith, c.requires.start)) c.leaf_of.ensures.last pairs height)
 
+pub returns-then-is_empty-clause-text : goal.returns-then-is_empty-clause-text
+returns-then-is_empty-clause-text t c =
+    let k = c.args.head.now.length in
+    let most = most_entries-bound k c.args.head.now.some_key in
+    let none : c.self.inside.children.items ≡ [] = nil_from_length _ (omega (arith, eqb-true _ 0 (sym c.is_empty.ensures ∙ c.if-is_empty.true))) in
+    let same : c.self.inside.most ≡ c.args.self.now.most = ap (λ (v : PageView). v.most) c.self.view_is in
+    let pairs : leaf_pairs c.leaf_of.result.entries.items ≡ c.args.self.now.pairs = c.leaf_of.ensures.pairs ∙ c.deref.ensures.value ∙ ap (pairs_of c.self.inside.entries.items) (sym none) ∙ ap (λ (v : PageView). v.pairs) c.self.view_is in
+    let fits = leaf_page_fits k c.leaf_of.result (subst (Each (IsPairOf k)) (sym pairs) c.requires.keys) c.leaf_of.ensures.children c.leaf_of.ensures.last (omega (arith, c.leaf_of.ensures.count, c.deref.ensures.len, c.self.invariant.1, c.requires.most, same)) in
+    let count : length c.leaf_of.result.entries.items ≡ c.args.self.now.count = c.leaf_of.ensures.count ∙ ap (λ (m : List Pair). length m) c.deref.ensures.value ∙ ap (λ (v : PageView). v.count) c.self.view_is in
+    subst (λ n. IsPageText k c.args.pages n c.args.body.now.items c.append_page.new.body.items c.args.self.now.count) (sym c.in_ok-own.ensures.number)
+    (page_behind_pages k c.args.pages c.args.pages c.args.self.now.count c.args.body.now.items c.args.body.now.items c.append_page.new.body.items c.leaf_of.result (no_pages k c.args.pages c.args.body.now.items) c.in_ok-own.ensures.text (leaf_own k c.leaf_of.result c.leaf_of.ensures.last fits) count)
+
 pub loop-at-init : goal.loop-at-init
 loop-at-init t c =
     let es = c.as_slice-entries.result.now in
@@ -48,7 +62,7 @@ loop-at-init t c =
     let more : length cs ≡ length es + 1 = cut_length es cs (cut_from c.self.inside.most es cs page.framed some) in
     record {
       written = subst (λ (m : List FileEntry). AreWritten c.args.head.now.length (c.args.self.now.height - 1) c.args.pages c.args.pages c.args.body.now.items m []) (sym c.new.ensures) (none_written c.args.head.now.length (c.args.self.now.height - 1) c.args.pages c.args.body.now.items);
-      grows = ([], sym (append-nil c.args.body.now.items));
+      text = no_pages c.args.head.now.length c.args.pages c.args.body.now.items;
       end = c.requires.start;
       later = omega arith;
       few = omega arith;
@@ -100,7 +114,7 @@ loop-at-preserved t c =
     let inv = c.loop-at.invariant in
     let d = c.index-children-at.result in
     let s = c.index-entries-at.result in
-    let g = c.in_ok-child.ensures.grows in
+    let g = c.in_ok-child.ensures.text in
     let sep = q.separator s (omega arith) c.index-entries-at.is in
     let key : s.0 ≡ c.between.result.key.items = sym (c.between.ensures.key ∙ c.key.ensures.value) in
     let fits : length c.between.result.key.items ≡ c.args.head.now.length = ap (λ (m : List ℕ). length m) (sym key) ∙ sep.1.0 in
@@ -108,8 +122,8 @@ loop-at-preserved t c =
     record {
       written = subst (λ (m : List FileEntry). AreWritten c.args.head.now.length (c.args.self.now.height - 1) c.args.pages c.in_ok-child.child c.write.new.body.items m (take (c.loop-at.at + 1) cs)) (sym c.push.ensures.items)
           (subst (λ (m : List PageView). AreWritten c.args.head.now.length (c.args.self.now.height - 1) c.args.pages c.in_ok-child.child c.write.new.body.items (c.loop-at.page.entries.items ++ c.between.result ∷ []) m) (sym next)
-          (child_written c.args.head.now.length (c.args.self.now.height - 1) c.args.pages c.loop-at.number c.in_ok-child.child c.loop-at.body.items g.0 c.write.new.body.items c.loop-at.page.entries.items (take c.loop-at.at cs) d c.between.result s inv.written c.in_ok-child.ensures.written g.1 (omega (arith, q.level)) inv.later c.in_ok-child.ensures.later c.between.ensures.child fits sep.0 key));
-      grows = (inv.grows.0 ++ g.0, g.1 ∙ ap (λ (m : List ℕ). m ++ g.0) inv.grows.1 ∙ append_assoc c.args.body.now.items inv.grows.0 g.0);
+          (child_written c.args.head.now.length (c.args.self.now.height - 1) c.args.pages c.loop-at.number c.in_ok-child.child c.loop-at.body.items (pages_text c.args.head.now.length (g.pages ++ g.page ∷ [])) c.write.new.body.items c.loop-at.page.entries.items (take c.loop-at.at cs) d c.between.result s inv.written c.in_ok-child.ensures.written g.items (omega (arith, q.level)) inv.later c.in_ok-child.ensures.later c.between.ensures.child fits sep.0 key c.between.ensures.number));
+      text = more_pages c.args.head.now.length c.args.pages c.loop-at.number c.in_ok-child.child d.count c.args.body.now.items c.loop-at.body.items c.write.new.body.items inv.text g (subst (λ m. m / 2 ≤ d.count) c.requires.most q.half);
       end = c.in_ok-child.ensures.end;
       later = omega (arith, inv.later, c.in_ok-child.ensures.later);
       few = omega (arith, inv.few, c.in_ok-child.ensures.few q.two, ap (λ (m : List Pair). length m) q.more, length-append (joined (take c.loop-at.at cs)) d.pairs);
@@ -185,15 +199,15 @@ returns-clause-written t c =
     let d = c.index-children-entries.result in
     let q = child_at_place c.args.head.now.length c.self.inside.most c.args.self.now es cs (length es) d view page c.requires.keys (omega (arith, more)) c.index-children-entries.is in
     let few : c.loop-at.number + length es ≤ c.args.pages + length (joined (take (length es) cs)) = subst (λ n. c.loop-at.number + n ≤ c.args.pages + length (joined (take n cs))) at inv.few in
-    let g = c.in_ok-page.ensures.grows in
+    let g = c.in_ok-page.ensures.text in
     let n = c.in_ok-page.field-0 in
     let written = subst (λ i. AreWritten c.args.head.now.length (c.args.self.now.height - 1) c.args.pages c.loop-at.number c.loop-at.body.items c.loop-at.page.entries.items (take i cs)) at inv.written in
     let pairs : c.args.self.now.pairs ≡ joined (take (length es) cs ++ d ∷ []) = sym (ap (λ (v : PageView). v.pairs) view) ∙ pairs_from es cs some ∙ ap joined (sym (take_all (length es + 1) cs (omega (arith, more))) ∙ take_next cs (length es) d (omega (arith, more)) c.index-children-entries.is) in
     subst (λ m. IsWritten c.args.head.now.length c.args.pages m c.append_page-2.new.body.items c.args.self.now) (sym c.in_ok-own-2.ensures.number)
-    (inner_written c.args.head.now.length (c.args.self.now.height - 1) c.args.pages c.loop-at.number n c.loop-at.body.items g.0 c.write-2.new.body.items c.append_page-2.new.body.items (take (length es) cs) d c.args.self.now _ written c.in_ok-page.ensures.written g.1 (omega (arith, q.level)) inv.later c.in_ok-page.ensures.later c.in_ok-own-2.ensures.text refl (omega (arith, c.in_ok-page.ensures.end)) (omega (arith, q.level)) pairs)
+    (inner_written c.args.head.now.length (c.args.self.now.height - 1) c.args.pages c.loop-at.number n c.loop-at.body.items (pages_text c.args.head.now.length (g.pages ++ g.page ∷ [])) c.write-2.new.body.items c.append_page-2.new.body.items (take (length es) cs) d c.args.self.now _ written c.in_ok-page.ensures.written g.items (omega (arith, q.level)) inv.later c.in_ok-page.ensures.later c.in_ok-own-2.ensures.text refl (omega (arith, c.in_ok-page.ensures.end)) (omega (arith, q.level)) pairs)
 
-pub returns-clause-grows : goal.returns-clause-grows
-returns-clause-grows t c =
+pub returns-clause-text : goal.returns-clause-text
+returns-clause-text t c =
     let es = c.as_slice-entries.result.now in
     let cs = c.as_slice-children.result.now in
     let some : 0 < length cs = omega (arith, c.as_slice-children.ensures.len, eqb-false _ 0 (sym c.is_empty.ensures ∙ c.if-is_empty.false)) in
@@ -205,9 +219,13 @@ returns-clause-grows t c =
     let d = c.index-children-entries.result in
     let q = child_at_place c.args.head.now.length c.self.inside.most c.args.self.now es cs (length es) d view page c.requires.keys (omega (arith, more)) c.index-children-entries.is in
     let few : c.loop-at.number + length es ≤ c.args.pages + length (joined (take (length es) cs)) = subst (λ n. c.loop-at.number + n ≤ c.args.pages + length (joined (take n cs))) at inv.few in
-    let g = c.in_ok-page.ensures.grows in
-    let a = c.in_ok-own-2.ensures.text in
-    (inv.grows.0 ++ (g.0 ++ a.text), a.items ∙ ap (λ (m : List ℕ). m ++ a.text) (g.1 ∙ ap (λ (m : List ℕ). m ++ g.0) inv.grows.1) ∙ append_assoc (c.args.body.now.items ++ inv.grows.0) g.0 a.text ∙ append_assoc c.args.body.now.items inv.grows.0 (g.0 ++ a.text))
+    let g = c.in_ok-page.ensures.text in
+    let k = c.args.head.now.length in
+    let same : c.self.inside.most ≡ c.args.self.now.most = ap (λ (v : PageView). v.most) c.self.view_is in
+    let all = more_pages k c.args.pages c.loop-at.number c.in_ok-page.field-0 d.count c.args.body.now.items c.loop-at.body.items c.write-2.new.body.items inv.text g (subst (λ m. m / 2 ≤ d.count) c.requires.most q.half) in
+    let count : c.args.self.now.count ≡ length es = sym (ap (λ (v : PageView). v.count) view) in
+    subst (λ n. IsPageText k c.args.pages n c.args.body.now.items c.append_page-2.new.body.items c.args.self.now.count) (sym c.in_ok-own-2.ensures.number)
+    (page_behind_pages k c.args.pages c.in_ok-page.field-0 c.args.self.now.count c.args.body.now.items c.write-2.new.body.items c.append_page-2.new.body.items _ all c.in_ok-own-2.ensures.text (inner_own k _ inv.written.entries (inner_fits k _ inv.written.entries (omega (arith, inv.count, at, c.as_slice-entries.ensures.len, c.self.invariant.1, c.requires.most, same)) (omega (arith, c.in_ok-page.ensures.later)))) (omega (arith, inv.count, at, count)))
 
 pub returns-clause-few : goal.returns-clause-few
 returns-clause-few t c =

@@ -1,7 +1,7 @@
-use Rattle.std.proofs.Common.{◌≡◌, ◌+◌, ◌-◌, ◌*◌, ◌≤◌, ◌++◌, ℕ, List, length, take}
+use Rattle.std.proofs.Common.{◌≡◌, ◌+◌, ◌-◌, ◌*◌, ◌≤◌, length, take}
 use Rattle.std.specs.Vec.{vec_len}
 use Rattle.ndx_tree.specs.Pages.{joined}
-use Rattle.ndx_tree.specs.Writes.{AreWritten}
+use Rattle.ndx_tree.specs.Writes.{AreWritten, ArePages}
 use Rattle.ndx_tree.proofs.page.Page.+write.Given as goal
 
 abbrev pub decreases-write : goal.decreases-write
@@ -10,7 +10,7 @@ decreases-write l = goal.size-write l
 abbrev pub invariant-loop-at : goal.invariant-loop-at
 invariant-loop-at l = record {
   written : AreWritten l.head.length (l.self.height - 1) l.pages l.number l.body.items l.page.entries.items (take l.at l.children);
-  grows : (added : List ℕ) × (l.body.items ≡ l.fn.body.items ++ added);
+  text : ArePages l.head.length l.pages l.number l.fn.body.items l.body.items;
   end : vec_len l.body ≡ l.number * 512;
   later : l.pages ≤ l.number;
   few : l.number + l.at ≤ l.pages + length (joined (take l.at l.children));

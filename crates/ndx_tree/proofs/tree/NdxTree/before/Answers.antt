@@ -1,14 +1,10 @@
-use Rattle.std.proofs.Common.{ap, ◌∙◌, arith}
+use Rattle.std.proofs.Common.{ap, ◌∙◌}
 use Rattle.ndx_tree.specs.Trees.{TreeView}
 use Rattle.ndx_tree.specs.Order.{first, below}
 use Rattle.ndx_tree.specs.Pairs.{Pair, is_before}
-use Rattle.ndx_tree.proofs.TreeLemmas.{tree_low}
 use Rattle.ndx_tree.specs.Rising.{last_below}
 use Rattle.ndx_tree.proofs.Search.{last_below_is}
 use Rattle.ndx_tree.proofs.tree.NdxTree.before.Goals as goal
-
-pub last_below-requires : goal.last_below-requires
-last_below-requires c = record { fits = omega (arith, tree_low _ _ _ _ c.self.invariant.0) }
 
 pub returns-clause-found : goal.returns-clause-found
 returns-clause-found c =

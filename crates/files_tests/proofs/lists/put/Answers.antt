@@ -1,0 +1,16 @@
+use Rattle.std.proofs.Common.{◌∙◌, not, ◌||◌, List, length, refl, ap, subst, arith}
+use Rattle.std.proofs.lemmas.List.Filters.{length-filter_both}
+use Rattle.std.specs.List.{Contains}
+use Rattle.ndx_tree.specs.Pairs.{Pair, is_before}
+use Rattle.files_tests.proofs.lists.put.Goals as goal
+
+pub reserve-requires : goal.reserve-requires
+reserve-requires g c =
+    let x : Pair = (c.args.key.now, c.args.number) in
+    let fewer = length-filter_both (λ y. is_before x y || is_before y x) (λ y. not (is_before x y || is_before y x)) (λ y. refl) _ in
+    omega (arith, fewer, ap (λ (m : List Pair). length m) c.remove.ensures.pairs, c.len.ensures.count)
+
+pub insert-requires-clause-absent : goal.insert-requires-clause-absent
+insert-requires-clause-absent g c there =
+    let x : Pair = (c.args.key.now, c.args.number) in
+    (((c.changes_one.ensures x _ c.len.ensures.sound.ordered).members_without x).0 (subst (λ l. Contains l x) (c.reserve.ensures.pairs ∙ c.remove.ensures.pairs) there)).1 refl

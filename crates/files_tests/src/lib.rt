@@ -1,0 +1,11 @@
+//! Tests of what the crates of tables and index files promise their callers.
+#![tactic(auto)]
+
+#[cfg(test)]
+mod lists;
+#[cfg(test)]
+mod pages;
+#[cfg(test)]
+mod tables;
+#[cfg(test)]
+mod trees;

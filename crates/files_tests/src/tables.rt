@@ -1,0 +1,398 @@
+// Files byte by byte, and the rules of fields.
+
+ghost use Rattle.std.specs.Prelude.{◌≡◌};
+
+use arrayvec::ArrayVec;
+use dbf_file::{DbfFault, Field, Letter, Stamp, Table, are_fields, put, read, value, write};
+use fixed_num::Num;
+use std::alloc::{AllocError, Global};
+use std::test::Fail;
+use xvalue::{Day, DayParts, Kind, Settings, Value};
+
+/// 9 May 1988.
+const STAMP: Stamp = Stamp {
+    year: 88,
+    month: 5,
+    day: 9,
+};
+
+/// A field, its name cut after ten bytes.
+fn field(name: &[u8], letter: Letter, width: u8, decimals: u8) -> Field
+    ensures letter { result.letter ≡ letter }
+    ensures width { result.width ≡ width }
+{
+    let mut made = ArrayVec::new();
+    for byte in name {
+        let _ = made.try_push(*byte);
+    }
+    Field {
+        name: made,
+        letter,
+        width,
+        decimals,
+    }
+}
+
+/// A descriptor, with other bytes where they have no meaning.
+fn push_descriptor(
+    file: &mut Vec<u8>,
+    name: &[u8],
+    letter: u8,
+    width: u8,
+    decimals: u8,
+) -> Result<(), AllocError> {
+    for place in 0..11 {
+        file.push(name.get(place).copied().unwrap_or(0))?;
+    }
+    file.extend_from_slice(&[letter, 1, 2, 3, 4, width, decimals])?;
+    file.extend_from_slice(&[9; 14])
+}
+
+/// The first 32 bytes of a file.
+fn push_front(
+    file: &mut Vec<u8>,
+    version: u8,
+    rows: u8,
+    header: u16,
+    size: u16,
+) -> Result<(), AllocError> {
+    let [header_low, header_high] = header.to_le_bytes();
+    let [size_low, size_high] = size.to_le_bytes();
+    file.extend_from_slice(&[
+        version,
+        88,
+        5,
+        9,
+        rows,
+        0,
+        0,
+        0,
+        header_low,
+        header_high,
+        size_low,
+        size_high,
+    ])?;
+    file.extend_from_slice(&[7; 20])
+}
+
+/// One field C 3, a header of 66 bytes, one live record, and no byte behind it: 70 bytes.
+fn seventy(alloc: Global) -> Result<Vec<u8>, AllocError> {
+    let mut file = Vec::new(alloc);
+    push_front(&mut file, 3, 1, 66, 4)?;
+    push_descriptor(&mut file, b"K", b'C', 3, 0)?;
+    file.extend_from_slice(b"\x0d\x55 abc")?;
+    Ok(file)
+}
+
+/// The fault of these bytes, within 1000 rows.
+fn fault_of(alloc: Global, bytes: &[u8]) -> Option<DbfFault> {
+    read(alloc, bytes, 1000).err()
+}
+
+/// The file with another byte at a place.
+fn with_byte(alloc: Global, place: usize, byte: u8) -> Result<Vec<u8>, AllocError> {
+    let mut file = seventy(alloc)?;
+    if let Some(there) = file.get_mut(place) {
+        *there = byte;
+    }
+    Ok(file)
+}
+
+#[test]
+fn seventy_bytes_are_a_table(rt: HostRuntime) -> Result<(), Fail> {
+    let file = seventy(rt.alloc())?;
+    assert_eq!(rt; file.len(), 70);
+    let table = read(rt.alloc(), file.as_slice(), 1).expect(&rt, "a table");
+    assert_eq!(rt; table.rows(), 1);
+    assert_eq!(rt; table.structure().fields().len(), 1);
+    assert!(rt; !table.mark(0));
+    assert!(rt; table.field(0, 0) == b"abc".as_slice());
+    Ok(())
+}
+
+#[test]
+fn a_byte_less_is_truncated(rt: HostRuntime) -> Result<(), Fail> {
+    let mut file = seventy(rt.alloc())?;
+    let _ = file.pop();
+    assert_eq!(rt;
+        fault_of(rt.alloc(), file.as_slice()),
+        Some(DbfFault::Truncated)
+    );
+    Ok(())
+}
+
+#[test]
+fn bytes_behind_the_last_row_are_dropped(rt: HostRuntime) -> Result<(), Fail> {
+    let mut file = seventy(rt.alloc())?;
+    file.extend_from_slice(b"\x1aXXXX")?;
+    assert_eq!(rt; file.len(), 75);
+    let table = read(rt.alloc(), file.as_slice(), 1000).expect(&rt, "a table");
+    let written = write(rt.alloc(), &table, STAMP)?;
+    assert_eq!(rt; written.len(), 71);
+    file.truncate(71);
+    assert!(rt; written.as_slice() == file.as_slice());
+    Ok(())
+}
+
+/// A byte that is put at a place of the file, and the fault that is told then.
+fn faults_of_one_byte() -> [(usize, u8, DbfFault); 14] {
+    [
+        (0, 4, DbfFault::Version),
+        (0, 131, DbfFault::Version),
+        (8, 64, DbfFault::HeaderLength),
+        (8, 71, DbfFault::HeaderLength),
+        (43, b'c', DbfFault::FieldShape),
+        (43, b'M', DbfFault::FieldShape),
+        (48, 0, DbfFault::FieldShape),
+        (32, b'1', DbfFault::FieldShape),
+        (32, 0, DbfFault::FieldShape),
+        (32, 13, DbfFault::FieldShape),
+        (64, b'X', DbfFault::NoEnd),
+        (10, 5, DbfFault::RecordLength),
+        (4, 2, DbfFault::Truncated),
+        (66, b'x', DbfFault::RecordMark),
+    ]
+}
+
+#[test]
+fn a_fault_is_told(rt: HostRuntime) -> Result<(), Fail> {
+    for (place, byte, fault) in faults_of_one_byte() {
+        let file = with_byte(rt.alloc(), place, byte)?;
+        assert_eq!(rt; fault_of(rt.alloc(), file.as_slice()), Some(fault));
+    }
+    Ok(())
+}
+
+#[test]
+fn short_files_and_too_many_rows(rt: HostRuntime) -> Result<(), Fail> {
+    let file = seventy(rt.alloc())?;
+    let front = file.get(..64).unwrap_or(b"");
+    assert_eq!(rt; fault_of(rt.alloc(), b""), Some(DbfFault::Short));
+    assert_eq!(rt; fault_of(rt.alloc(), front), Some(DbfFault::Short));
+    assert_eq!(rt;
+        read(rt.alloc(), file.as_slice(), 0).err(),
+        Some(DbfFault::TooMany)
+    );
+    Ok(())
+}
+
+/// The file with other bytes at two places.
+fn with_two(alloc: Global, first: (usize, u8), second: (usize, u8)) -> Result<Vec<u8>, AllocError> {
+    let mut file = with_byte(alloc, first.0, first.1)?;
+    if let Some(there) = file.get_mut(second.0) {
+        *there = second.1;
+    }
+    Ok(file)
+}
+
+/// Two bytes that are put at places of the file, and the fault that is told then, the first of two.
+fn faults_of_two_bytes() -> [((usize, u8), (usize, u8), DbfFault); 8] {
+    [
+        ((0, 4), (8, 64), DbfFault::Version),
+        ((8, 64), (43, b'c'), DbfFault::HeaderLength),
+        ((43, b'c'), (64, b'X'), DbfFault::FieldShape),
+        ((64, b'X'), (10, 5), DbfFault::NoEnd),
+        ((48, 0), (10, 5), DbfFault::FieldShape),
+        ((10, 5), (5, 9), DbfFault::RecordLength),
+        ((5, 9), (66, b'x'), DbfFault::TooMany),
+        ((4, 2), (66, b'x'), DbfFault::Truncated),
+    ]
+}
+
+#[test]
+fn of_two_faults_the_first_is_told(rt: HostRuntime) -> Result<(), Fail> {
+    for (first, second, fault) in faults_of_two_bytes() {
+        let file = with_two(rt.alloc(), first, second)?;
+        assert_eq!(rt; fault_of(rt.alloc(), file.as_slice()), Some(fault));
+    }
+    let short = with_two(rt.alloc(), (0, 4), (8, 64))?;
+    let front = short.get(..64).unwrap_or(b"");
+    assert_eq!(rt; fault_of(rt.alloc(), front), Some(DbfFault::Short));
+    Ok(())
+}
+
+#[test]
+fn a_name_comes_once(rt: HostRuntime) -> Result<(), Fail> {
+    let mut file = Vec::new(rt.alloc());
+    push_front(&mut file, 3, 0, 97, 3)?;
+    push_descriptor(&mut file, b"KEY", b'C', 1, 0)?;
+    push_descriptor(&mut file, b"Key", b'C', 1, 0)?;
+    file.push(13)?;
+    assert_eq!(rt;
+        fault_of(rt.alloc(), file.as_slice()),
+        Some(DbfFault::FieldShape)
+    );
+    Ok(())
+}
+
+#[test]
+fn marks_stay(rt: HostRuntime) -> Result<(), Fail> {
+    let file = with_byte(rt.alloc(), 66, b'*')?;
+    let mut table = read(rt.alloc(), file.as_slice(), 1000).expect(&rt, "a table");
+    assert_eq!(rt; table.rows(), 1);
+    assert!(rt; table.mark(0));
+    let written = write(rt.alloc(), &table, STAMP)?;
+    assert!(rt; written.get(..70) == Some(file.as_slice()));
+    table.set_mark(0, false);
+    assert!(rt; !table.mark(0));
+    Ok(())
+}
+
+/// Writes a value into a text, where the value and the text suit the field.
+fn put_where_it_suits(field: &Field, from: &Value, text: &mut [u8]) -> bool {
+    if text.len() == usize::from(field.width) && from.kind() == field.letter.kind() {
+        put(field, from, text);
+        true
+    } else {
+        false
+    }
+}
+
+/// Whether the value of a text is shown on the screen so.
+fn shows(field: &Field, text: &[u8], shown: &[u8]) -> bool {
+    value(field, text).shown(Settings::off()).as_slice() == shown
+}
+
+/// Whether a value is written as a text of at most ten bytes, where other bytes stood.
+fn writes(field: &Field, from: &Value, wanted: &[u8]) -> bool {
+    let mut text = [b'X'; 10];
+    let width = wanted.len().min(10);
+    put_where_it_suits(field, from, &mut text[..width]) && &text[..width] == wanted
+}
+
+#[test]
+fn numbers_stand_right(rt: HostRuntime) {
+    let amount = field(b"AMT", Letter::N, 5, 2);
+    assert!(rt; shows(&amount, b"     ", b"      0.00"));
+    assert!(rt; shows(&amount, b"*****", b"**********"));
+    assert!(rt; shows(&amount, b"   12", b"        12"));
+    for (number, text) in [
+        (b"12.345 ", b"12.35"),
+        (b"123.456", b"*****"),
+        (b"-1     ", b"-1.00"),
+    ] {
+        assert!(rt; writes(&amount, &Value::Number(Num::parse(number)), text));
+    }
+}
+
+#[test]
+fn texts_are_cut_or_padded(rt: HostRuntime) {
+    let name = field(b"NAME", Letter::C, 3, 0);
+    assert!(rt; writes(&name, &Value::Text(xvalue::text_of(b"Anna")), b"Ann"));
+    assert!(rt; writes(&name, &Value::Text(xvalue::text_of(b"A")), b"A  "));
+    assert!(rt; shows(&name, b"A b", b"A b"));
+}
+
+/// A field that no table has holds values all the same.
+#[test]
+fn fields_of_any_shape(rt: HostRuntime) {
+    let born = field(b"BORN", Letter::D, 4, 0);
+    assert!(rt; writes(&born, &Value::Date(Day::blank()), b"    "));
+    assert!(rt; shows(&born, b"1988", b"  /  /  "));
+    let amount = field(b"AMT", Letter::N, 9, 40);
+    assert!(rt; writes(&amount, &Value::Number(Num::parse(b"7")), b"*********"));
+    let paid = field(b"PAID", Letter::L, 2, 0);
+    assert!(rt; writes(&paid, &Value::Logical(true), b"T "));
+    assert!(rt; shows(&paid, b"", b".F."));
+}
+
+#[test]
+fn days(rt: HostRuntime) {
+    let born = field(b"BORN", Letter::D, 8, 0);
+    assert!(rt; shows(&born, b"19880229", b"02/29/88"));
+    assert!(rt; shows(&born, b"19890229", b"  /  /  "));
+    assert!(rt; shows(&born, b"        ", b"  /  /  "));
+    let parts = DayParts {
+        year: 7,
+        month: 12,
+        day: 1,
+    };
+    let day = Day::from_parts(parts).expect(&rt, "a day");
+    assert!(rt; writes(&born, &Value::Date(day), b"00071201"));
+    assert!(rt; writes(&born, &Value::Date(Day::blank()), b"        "));
+}
+
+#[test]
+fn truth_values(rt: HostRuntime) {
+    let paid = field(b"PAID", Letter::L, 1, 0);
+    assert!(rt; shows(&paid, b"y", b".T."));
+    assert!(rt; shows(&paid, b"?", b".F."));
+    assert!(rt; writes(&paid, &Value::Logical(true), b"T"));
+    assert!(rt; writes(&paid, &Value::Logical(false), b"F"));
+    assert_eq!(rt; paid.letter.kind(), Kind::Logical);
+    assert_eq!(rt; paid.letter.code(), b'L');
+}
+
+#[test]
+fn a_table_of_one_row(rt: HostRuntime) -> Result<(), Fail> {
+    let fields = [field(b"NAME", Letter::C, 10, 0)];
+    assert!(rt; are_fields(&fields));
+    let mut table = Table::empty(rt.alloc(), &fields)?;
+    table.reserve_row()?;
+    assert_eq!(rt; table.rows(), 0);
+    table.push_blank();
+    assert_eq!(rt; table.structure().fields().len(), 1);
+    table.put_at(0, 0, &Value::Text(xvalue::text_of(b"Ann")));
+    assert!(rt; table.value_at(0, 0).shown(Settings::off()).as_slice() == b"Ann       ".as_slice());
+    table.field_mut(0, 0).copy_from_slice(b"Bob       ");
+    assert_eq!(rt; table.rows(), 1);
+    assert!(rt; table.field(0, 0) == b"Bob       ".as_slice());
+    assert!(rt;
+        put_where_it_suits(
+            &fields[0],
+            &Value::Text(xvalue::text_of(b"Ann")),
+            table.field_mut(0, 0)
+        )
+    );
+    let written = write(rt.alloc(), &table, STAMP)?;
+    assert_eq!(rt; written.len(), 77);
+    assert!(rt;
+        written.get(65..) == Some(b"\x20\x41\x6e\x6e\x20\x20\x20\x20\x20\x20\x20\x1a".as_slice())
+    );
+    assert!(rt;
+        written.get(..12) == Some(b"\x03\x58\x05\x09\x01\x00\x00\x00\x41\x00\x0b\x00".as_slice())
+    );
+    let again = read(rt.alloc(), written.as_slice(), 1).expect(&rt, "a table");
+    assert_eq!(rt; again.rows(), 1);
+    Ok(())
+}
+
+#[test]
+fn stamps_have_years_from_1900_to_2155(rt: HostRuntime) -> Result<(), Fail> {
+    let day = |year| Day::from_parts(DayParts {
+        year,
+        month: 5,
+        day: 9,
+    })
+    .unwrap_or(Day::blank());
+    assert_eq!(rt; Stamp::of(day(1988)), Some(STAMP));
+    assert_eq!(rt; Stamp::of(day(1899)), None);
+    assert_eq!(rt;
+        Stamp::of(day(2155)),
+        Some(Stamp {
+            year: 255,
+            month: 5,
+            day: 9
+        })
+    );
+    assert_eq!(rt; Stamp::of(day(2156)), None);
+    assert_eq!(rt; Stamp::of(Day::blank()), None);
+    Ok(())
+}
+
+#[test]
+fn pack_keeps_the_unmarked_rows(rt: HostRuntime) -> Result<(), Fail> {
+    let mut file = Vec::new(rt.alloc());
+    push_front(&mut file, 3, 4, 65, 2)?;
+    push_descriptor(&mut file, b"K", b'C', 1, 0)?;
+    file.extend_from_slice(b"\x0d*a b*c d\x1a")?;
+    let mut table = read(rt.alloc(), file.as_slice(), 4).expect(&rt, "a table");
+    table.pack();
+    let written = write(rt.alloc(), &table, STAMP)?;
+    assert!(rt; written.get(65..) == Some(b" b d\x1a".as_slice()));
+    assert_eq!(rt; table.rows(), 2);
+    table.clear();
+    assert_eq!(rt; table.rows(), 0);
+    assert_eq!(rt; table.structure().head().len(), 53);
+    Ok(())
+}
