@@ -20,10 +20,10 @@ pub enum Fault {
     #[error("{0}")]
     OfCode(CodeFault),
     /// It is no table's file.
-    #[error("{0:?}")]
+    #[error("{0}")]
     OfTable(DbfFault),
     /// It is no index file.
-    #[error("{0:?}")]
+    #[error("{0}")]
     OfIndex(TreeFault),
     /// Its code isn't accepted.
     #[error("{0}")]

@@ -6,3 +6,5 @@
 mod code_files;
 #[cfg(test)]
 mod program;
+#[cfg(test)]
+mod reader;

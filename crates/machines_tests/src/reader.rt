@@ -1,0 +1,128 @@
+// Readers read to their end: short reads, interruptions, failures, and readers that never end.
+#![tactic(auto)]
+
+ghost use Rattle.std.specs.Prelude.{◌≤◌, length};
+
+use file_commands::{ReadFault, read_within};
+use std::alloc::Global;
+use std::io;
+use std::io::{ErrorKind, Read};
+use std::test::Fail;
+
+/// What a reader does at each of its reads.
+#[derive(Clone, Copy, Debug, PartialEq, Eq)]
+enum Turn {
+    /// Gives the byte, this often at the most, and less where less is asked for.
+    Gives(u8, usize),
+    /// Is interrupted.
+    Interrupted,
+    /// Fails.
+    Fails,
+}
+
+/// A reader that goes through its turns and then begins anew, or is at its end.
+#[derive(Drop)]
+struct Fake<'a> {
+    turns: &'a [Turn],
+    next: usize,
+    goes_on: bool,
+    given: usize,
+}
+
+impl<'a> Fake<'a> {
+    fn new(turns: &'a [Turn], goes_on: bool) -> Fake<'a> {
+        Fake {
+            turns,
+            next: 0,
+            goes_on,
+            given: 0,
+        }
+    }
+
+    fn turn(&mut self) -> Option<Turn> {
+        if self.next >= self.turns.len() {
+            if !self.goes_on {
+                return None;
+            }
+            self.next = 0;
+        }
+        let turn = self.turns.get(self.next).copied();
+        self.next = self.next.saturating_add(1);
+        turn
+    }
+}
+
+/// Fills the front of the buffer with the byte, and says how much of it.
+fn filled(buf: &mut [u8], byte: u8, count: usize) -> usize
+    ensures { result ≤ length buf.new }
+{
+    let mut done = 0;
+    for place in buf.iter_mut() {
+        if done >= count {
+            return done;
+        }
+        *place = byte;
+        done += 1;
+    }
+    done
+}
+
+impl Read for Fake<'_> {
+    fn read(&mut self, buf: &mut [u8]) -> io::Result<usize> {
+        match self.turn() {
+            None => Ok(0),
+            Some(Turn::Interrupted) => Err(io::Error::from(ErrorKind::Interrupted)),
+            Some(Turn::Fails) => Err(io::Error::from(ErrorKind::TimedOut)),
+            Some(Turn::Gives(byte, count)) => {
+                let count = filled(buf, byte, count);
+                self.given = self.given.saturating_add(count);
+                Ok(count)
+            }
+        }
+    }
+}
+
+/// What comes of reading at most four bytes: what was read, and how many bytes were asked of the reader.
+fn read_four(alloc: Global, turns: &[Turn], goes_on: bool) -> (Result<Vec<u8>, ReadFault>, usize) {
+    let mut reader = Fake::new(turns, goes_on);
+    let result = read_within(alloc, &mut reader, 4);
+    (result, reader.given)
+}
+
+#[test]
+fn short_and_interrupted_reads_give_all(rt: HostRuntime) -> Result<(), Fail> {
+    let turns = [
+        Turn::Gives(b'a', 1),
+        Turn::Interrupted,
+        Turn::Interrupted,
+        Turn::Gives(b'b', 3),
+    ];
+    let (result, given) = read_four(rt.alloc(), &turns, false);
+    let bytes = result.map_err(|_| "refused")?;
+    assert_eq!(rt; bytes.as_slice(), b"abbb".as_slice());
+    assert_eq!(rt; given, 4);
+    Ok(())
+}
+
+#[test]
+fn refusals_of_readers(rt: HostRuntime) -> Result<(), Fail> {
+    let cases: [(&[Turn], bool, ReadFault); 4] = [
+        (
+            &[Turn::Gives(b'a', 2), Turn::Fails],
+            false,
+            ReadFault::Device,
+        ),
+        (&[Turn::Interrupted], true, ReadFault::Device),
+        (&[Turn::Gives(b'a', 1)], true, ReadFault::TooLong),
+        (&[Turn::Gives(b'a', 4096)], false, ReadFault::TooLong),
+    ];
+    for (turns, goes_on, wanted) in cases {
+        let (result, given) = read_four(rt.alloc(), turns, goes_on);
+        match result {
+            Ok(_) => assert!(rt; false, "read to its end"),
+            Err(fault) => assert_eq!(rt; fault, wanted),
+        }
+        assert!(rt; given <= 5, "a byte above the limit at the most");
+    }
+    Ok(())
+}
