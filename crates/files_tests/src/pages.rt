@@ -141,17 +141,35 @@ fn head_expression(rt: HostRuntime) {
 }
 
 #[test]
-fn pages_both_ways(rt: HostRuntime) {
+fn leaves_both_ways(rt: HostRuntime) {
     let head = head_of(2);
     let leaf = page(entry(0, 3, b"AB"), entry(0, 7, b"CD"), 0);
+    assert_eq!(rt;
+        write_page(&head, &leaf).as_slice(),
+        plain_leaf().as_slice()
+    );
     assert_eq!(rt; read_page(&head, &plain_leaf()), Ok(leaf));
+    // The bytes at the place of the last child aren't tested in a leaf.
+    let mut bytes = plain_leaf();
+    bytes[28] = 9;
+    assert_eq!(rt; read_page(&head, &bytes).expect(&rt, "a leaf").last, 0);
+}
+
+#[test]
+fn inner_pages_both_ways(rt: HostRuntime) {
+    let head = head_of(2);
     let inner = page(entry(5, 0, b"AB"), entry(6, 0, b"CD"), 0x0102);
     assert_eq!(rt;
         write_page(&head, &inner).as_slice(),
         plain_inner().as_slice()
     );
     assert_eq!(rt; read_page(&head, &plain_inner()), Ok(inner));
-    // A page without entries has one child, or none.
+}
+
+// A page without entries has one child, or none.
+#[test]
+fn pages_without_entries(rt: HostRuntime) {
+    let head = head_of(2);
     let mut bytes = [0; PAGE_SIZE];
     for last in [0, 9] {
         bytes[4] = last;
@@ -159,10 +177,6 @@ fn pages_both_ways(rt: HostRuntime) {
         assert!(rt; empty.entries.is_empty());
         assert_eq!(rt; empty.last, u32::from(last));
     }
-    // The bytes at the place of the last child aren't tested in a leaf.
-    let mut bytes = plain_leaf();
-    bytes[28] = 9;
-    assert_eq!(rt; read_page(&head, &bytes).expect(&rt, "a leaf").last, 0);
 }
 
 #[test]

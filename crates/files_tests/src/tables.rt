@@ -2,8 +2,11 @@
 
 ghost use Rattle.std.specs.Prelude.{◌≡◌};
 
+use crate::bytes::set;
 use arrayvec::ArrayVec;
-use dbf_file::{DbfFault, Field, Letter, Stamp, Table, are_fields, put, read, value, write};
+use dbf_file::{
+    DbfFault, Field, Letter, MAX_NAME, Stamp, Table, are_fields, put, read, value, write,
+};
 use fixed_num::Num;
 use std::alloc::{AllocError, Global};
 use std::test::Fail;
@@ -16,17 +19,22 @@ const STAMP: Stamp = Stamp {
     day: 9,
 };
 
+/// The first ten bytes of a name.
+fn name_of(name: &[u8]) -> ArrayVec<u8, MAX_NAME> {
+    let mut made = ArrayVec::new();
+    for byte in name {
+        let _ = made.try_push(*byte);
+    }
+    made
+}
+
 /// A field, its name cut after ten bytes.
 fn field(name: &[u8], letter: Letter, width: u8, decimals: u8) -> Field
     ensures letter { result.letter ≡ letter }
     ensures width { result.width ≡ width }
 {
-    let mut made = ArrayVec::new();
-    for byte in name {
-        let _ = made.try_push(*byte);
-    }
     Field {
-        name: made,
+        name: name_of(name),
         letter,
         width,
         decimals,
@@ -92,9 +100,7 @@ fn fault_of(alloc: Global, bytes: &[u8]) -> Option<DbfFault> {
 /// The file with another byte at a place.
 fn with_byte(alloc: Global, place: usize, byte: u8) -> Result<Vec<u8>, AllocError> {
     let mut file = seventy(alloc)?;
-    if let Some(there) = file.get_mut(place) {
-        *there = byte;
-    }
+    set(&mut file, place, byte);
     Ok(file)
 }
 
@@ -178,10 +184,9 @@ fn short_files_and_too_many_rows(rt: HostRuntime) -> Result<(), Fail> {
 
 /// The file with other bytes at two places.
 fn with_two(alloc: Global, first: (usize, u8), second: (usize, u8)) -> Result<Vec<u8>, AllocError> {
+    let (place, byte) = second;
     let mut file = with_byte(alloc, first.0, first.1)?;
-    if let Some(there) = file.get_mut(second.0) {
-        *there = second.1;
-    }
+    set(&mut file, place, byte);
     Ok(file)
 }
 

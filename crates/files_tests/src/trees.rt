@@ -3,6 +3,7 @@
 
 ghost use Rattle.ndx_tree.specs.KeyForm.{IsKeyLength};
 
+use crate::bytes::set;
 use crate::lists::{first_difference, put};
 use ndx_tree::{Entry, KeyList, NdxTree, SortedKeys, TreeFault};
 use std::alloc::{AllocError, Global};
@@ -45,12 +46,6 @@ fn read(alloc: Global, bytes: &[u8]) -> Result<NdxTree, TreeFault> {
 
 fn fault_of(alloc: Global, bytes: &[u8]) -> Option<TreeFault> {
     read(alloc, bytes).err()
-}
-
-fn set(bytes: &mut [u8], place: usize, byte: u8) {
-    if let Some(old) = bytes.get_mut(place) {
-        *old = byte;
-    }
 }
 
 fn is_same(one: &Option<Entry>, other: &Option<Entry>) -> bool {
