@@ -1,367 +1,243 @@
 // Calls of functions.
 
-use crate::spelled::{Call, first_wrong, result_of, result_of_values, value_of};
+use crate::spelled::{Calls, first_wrong, result_of, result_of_values, value_of};
 use xvalue::{Fun, Kind, Setting, Settings, Value, eq_text, less_text, signature};
 
-fn of_numbers() -> [Call; 34] {
+fn of_numbers() -> [Calls; 35] {
     [
-        (Fun::Add, "9999999999999999999|1", "**********"),
-        (Fun::Sub, "9999999999999999999|1", "9999999999999999998"),
-        (Fun::Add, "-9999999999999999999|1", "-9999999999999999998"),
-        (Fun::Sub, "-9999999999999999999|1", "**********"),
-        (Fun::Add, "1.50|-1.5", "0.00"),
-        (Fun::Sub, "1.50|-1.5", "3.00"),
-        (Fun::Add, "0.000000000000001|1", "1.000000000000001"),
-        (Fun::Sub, "0.000000000000001|1", "-0.999999999999999"),
-        (Fun::Add, "10000|0.000000000000001", "**********"),
-        (Fun::Sub, "10000|0.000000000000001", "9999.999999999999999"),
-        (Fun::Add, "**|1", "**********"),
-        (Fun::Sub, "**|1", "**********"),
-        (Fun::Mul, "1.25|1.25", "1.5625"),
-        (Fun::Mul, "0.00000001|0.00000005", "0.000000000000001"),
-        (Fun::Mul, "0.00000001|-0.00000005", "-0.000000000000001"),
-        (Fun::Mul, "0.00000001|0.00000004", "0.000000000000000"),
+        (
+            Fun::Add,
+            "9999999999999999999|1=**********;-9999999999999999999|1=-9999999999999999998",
+        ),
+        (
+            Fun::Add,
+            "1.50|-1.5=0.00;0.000000000000001|1=1.000000000000001",
+        ),
+        (
+            Fun::Add,
+            "10000|0.000000000000001=**********;**|1=**********;1.50|2=3.50",
+        ),
+        (
+            Fun::Sub,
+            "9999999999999999999|1=9999999999999999998;-9999999999999999999|1=**********",
+        ),
+        (
+            Fun::Sub,
+            "1.50|-1.5=3.00;0.000000000000001|1=-0.999999999999999",
+        ),
+        (
+            Fun::Sub,
+            "10000|0.000000000000001=9999.999999999999999;**|1=**********;1|1.5=-0.5",
+        ),
         (
             Fun::Mul,
-            "9999999999999999999|9999999999999999999",
-            "**********",
+            "1.25|1.25=1.5625;0.00000001|0.00000005=0.000000000000001",
         ),
-        (Fun::Mul, "-3|0.0", "0.0"),
-        (Fun::Mul, "2|?", "**********"),
-        (Fun::Div, "1|3", "0.33"),
-        (Fun::Div, "2|3", "0.67"),
-        (Fun::Div, "-2|3", "-0.67"),
-        (Fun::Div, "1|0.200", "5.000"),
+        (Fun::Mul, "0.00000001|-0.00000005=-0.000000000000001"),
+        (Fun::Mul, "0.00000001|0.00000004=0.000000000000000"),
+        (
+            Fun::Mul,
+            "9999999999999999999|9999999999999999999=**********;-3|0.0=0.0;2|?=**********",
+        ),
+        (Fun::Div, "1|3=0.33;2|3=0.67;-2|3=-0.67;1|0.200=5.000"),
+        (Fun::Div, "9999999999999999999|0.000000000000001=**********"),
         (
             Fun::Div,
-            "9999999999999999999|0.000000000000001",
-            "**********",
-        ),
-        (
-            Fun::Div,
-            "0.000000000000001|9999999999999999999",
-            "0.000000000000000",
+            "0.000000000000001|9999999999999999999=0.000000000000000",
         ),
         (
             Fun::Div,
-            "0.000000000000001|0.000000000000003",
-            "0.333333333333333",
+            "0.000000000000001|0.000000000000003=0.333333333333333;1|0=**********",
         ),
-        (Fun::Div, "1|0", "**********"),
-        (Fun::Div, "0|0.00", "**********"),
-        (Fun::Mod, "7|-3", "-2"),
-        (Fun::Mod, "-7|3", "2"),
-        (Fun::Mod, "-7|-3", "-1"),
-        (Fun::Mod, "6|-3", "0"),
-        (Fun::Mod, "7.5|2", "1.5"),
-        (Fun::Mod, "-0.000000000000001|100000", "**********"),
-    ]
-}
-
-fn of_numbers_more() -> [Call; 34] {
-    [
-        (Fun::Mod, "1|0", "**********"),
-        (Fun::Round, "-1250|-2", "-1300"),
-        (Fun::Round, "1.5|3", "1.500"),
-        (Fun::Round, "12.345|2", "12.35"),
-        (Fun::Round, "-0.5|0", "-1"),
-        (Fun::Round, "-0.4|0", "0"),
-        (Fun::Round, "10000|15", "**********"),
-        (Fun::Round, "5000000000000000000|-99", "5000000000000000000"),
-        (Fun::Round, "499999999999999999|-18", "0"),
-        (Fun::Round, "9500000000000000000|-19", "**********"),
-        (Fun::Round, "x|2", "**********"),
-        (Fun::Add, "1.50|2", "3.50"),
-        (Fun::Sub, "1|1.5", "-0.5"),
-        (Fun::Round, "2.5|?", "3"),
-        (Fun::Max, "1.0|1", "1.0"),
-        (Fun::Max, "1|?", "**********"),
-        (Fun::Min, "1|1.0", "1"),
-        (Fun::Min, "1|?", "1"),
-        (Fun::Neg, "1.50", "-1.50"),
-        (Fun::Neg, "0", "0"),
-        (Fun::Abs, "-0.5", "0.5"),
-        (Fun::Int, "-1.9", "-1"),
-        (Fun::Int, "?", "**********"),
-        (Fun::NumberEq, "1.0|1", ".T."),
-        (Fun::NumberEq, "?|?", ".T."),
-        (Fun::NumberLess, "-1|0.5", ".T."),
-        (Fun::NumberLess, "1|1.0", ".F."),
-        (Fun::NumberGreater, "?|9999999999999999999", ".T."),
-        (Fun::NumberGreater, "1|2", ".F."),
-        (Fun::Int, "-2.9", "-2"),
-        (Fun::Int, "-0.9", "0"),
-        (Fun::Abs, "-2.9", "2.9"),
-        (Fun::Neg, "2.90", "-2.90"),
-        (Fun::Neg, "0.0", "0.0"),
-    ]
-}
-
-fn of_numbers_further() -> [Call; 28] {
-    [
-        (Fun::Neg, "*", "**********"),
-        (Fun::NumberLess, "-1.5|-1.25", ".T."),
-        (Fun::NumberLess, "1|*", ".T."),
-        (Fun::NumberEq, "*|*", ".T."),
-        (Fun::Min, "1.0|1", "1.0"),
-        (Fun::Max, "1|2", "2"),
-        (Fun::Min, "2|1", "1"),
-        (Fun::Str, "123.456|5|2", "*****"),
-        (Fun::Str, "12.345|5|2", "12.35"),
-        (Fun::Str, "-1|5|2", "-1.00"),
-        (Fun::Str, "0.5|5|0", "    1"),
-        (Fun::Str, "-0.4|5|0", "    0"),
-        (Fun::Str, "*|5|0", "*****"),
-        (Fun::Str, "0.123|5|4", "*****"),
-        (Fun::Str, "123.456|6|1", " 123.5"),
-        (Fun::Str, "12345|3|0", "***"),
-        (Fun::Str, "1.5|10|0", "         2"),
-        (Fun::Str, "1|?|0", ""),
-        (Fun::Str, "1|-1|0", ""),
-        (Fun::Str, "?|4|2", "****"),
-        (Fun::Str, "10000|30|15", "******************************"),
-        (Fun::Space, "3", "   "),
-        (Fun::Space, "-3", ""),
-        (Fun::Space, "?", ""),
-        (Fun::Chr, "65", "A"),
-        (Fun::Chr, "256", ""),
-        (Fun::Chr, "-1", ""),
-        (Fun::Chr, "?", "\0"),
+        (Fun::Div, "0|0.00=**********"),
+        (
+            Fun::Mod,
+            "7|-3=-2;-7|3=2;-7|-3=-1;6|-3=0;7.5|2=1.5;-0.000000000000001|100000=**********",
+        ),
+        (Fun::Mod, "1|0=**********"),
+        (
+            Fun::Round,
+            "-1250|-2=-1300;1.5|3=1.500;12.345|2=12.35;-0.5|0=-1;-0.4|0=0",
+        ),
+        (
+            Fun::Round,
+            "10000|15=**********;5000000000000000000|-99=5000000000000000000",
+        ),
+        (
+            Fun::Round,
+            "499999999999999999|-18=0;9500000000000000000|-19=**********;x|2=**********",
+        ),
+        (Fun::Round, "2.5|?=3"),
+        (Fun::Max, "1.0|1=1.0;1|?=**********;1|2=2"),
+        (Fun::Min, "1|1.0=1;1|?=1;1.0|1=1.0;2|1=1"),
+        (Fun::Neg, "1.50=-1.50;0=0;2.90=-2.90;0.0=0.0;*=**********"),
+        (Fun::Abs, "-0.5=0.5;-2.9=2.9"),
+        (Fun::Int, "-1.9=-1;?=**********;-2.9=-2;-0.9=0"),
+        (Fun::NumberEq, "1.0|1=.T.;?|?=.T.;*|*=.T."),
+        (
+            Fun::NumberLess,
+            "-1|0.5=.T.;1|1.0=.F.;-1.5|-1.25=.T.;1|*=.T.",
+        ),
+        (Fun::NumberGreater, "?|9999999999999999999=.T.;1|2=.F."),
+        (
+            Fun::Str,
+            "123.456|5|2=*****;12.345|5|2=12.35;-1|5|2=-1.00;0.5|5|0=    1;-0.4|5|0=    0",
+        ),
+        (
+            Fun::Str,
+            "*|5|0=*****;0.123|5|4=*****;123.456|6|1= 123.5;12345|3|0=***",
+        ),
+        (Fun::Str, "1.5|10|0=         2;1|?|0=;1|-1|0=;?|4|2=****"),
+        (Fun::Str, "10000|30|15=******************************"),
+        (Fun::Space, "3=   ;-3=;?="),
+        (Fun::Chr, "65=A;256=;-1=;?=\0"),
     ]
 }
 
 #[test]
 fn calls_of_numbers(rt: HostRuntime) {
-    let off = Settings::off();
-    assert_eq!(rt; first_wrong(off, of_numbers().as_slice()), None);
-    assert_eq!(rt; first_wrong(off, of_numbers_more().as_slice()), None);
-    assert_eq!(rt; first_wrong(off, of_numbers_further().as_slice()), None);
+    assert_eq!(rt; first_wrong(Settings::off(), of_numbers().as_slice()), None);
 }
 
-fn of_texts() -> [Call; 34] {
+fn of_texts() -> [Calls; 24] {
     [
-        (Fun::TextEq, "ABC|AB", ".T."),
-        (Fun::TextEq, "AB|ABC", ".F."),
-        (Fun::TextEq, "AB|", ".T."),
-        (Fun::TextEq, "AB |AB", ".T."),
-        (Fun::TextGreater, "ABC|AB", ".T."),
-        (Fun::TextGreater, "AB|AB  ", ".F."),
-        (Fun::TextLess, "AB|ABC", ".T."),
-        (Fun::TextLess, "AB  |AB", ".F."),
-        (Fun::TextLess, "AB\t|AB", ".T."),
-        (Fun::TextLess, "Z|a", ".T."),
-        (Fun::In, "|ABC", ".T."),
-        (Fun::In, "BC|ABC", ".T."),
-        (Fun::In, "AC|ABC", ".F."),
-        (Fun::In, "A|", ".F."),
-        (Fun::Join, "AB  |C", "AB  C"),
-        (Fun::JoinMoved, "AB  |C", "ABC  "),
-        (Fun::JoinMoved, "  | ", "   "),
-        (Fun::At, "C|ABCABC", "3"),
-        (Fun::At, "ABCD|ABC", "0"),
-        (Fun::At, "|ABC", "1"),
-        (Fun::At, "|", "1"),
-        (Fun::Trim, " A B  ", " A B"),
-        (Fun::Trim, "   ", ""),
-        (Fun::Ltrim, "  A B ", "A B "),
-        (Fun::Upper, "aZ1\u{e9}", "AZ1\u{e9}"),
-        (Fun::Lower, "aZ1[", "az1["),
-        (Fun::Len, "ABC", "3"),
-        (Fun::Len, "", "0"),
-        (Fun::Asc, "AB", "65"),
-        (Fun::Asc, "", "0"),
-        (Fun::IsAlpha, "z1", ".T."),
-        (Fun::IsAlpha, "1z", ".F."),
-        (Fun::IsAlpha, "", ".F."),
-        (Fun::IsUpper, "Zz", ".T."),
-    ]
-}
-
-fn of_texts_more() -> [Call; 34] {
-    [
-        (Fun::IsUpper, "zZ", ".F."),
-        (Fun::IsLower, "zZ", ".T."),
-        (Fun::IsLower, "", ".F."),
-        (Fun::Val, "12.5.3", "12.5"),
-        (Fun::Val, "-.5", "-0.5"),
-        (Fun::Val, "  7.x", "7"),
-        (Fun::Val, "-", "0"),
-        (Fun::Val, ".", "0"),
-        (Fun::Val, "- 1", "0"),
-        (Fun::Val, "x1", "0"),
-        (Fun::Val, "12345.000000000000000", "**********"),
-        (Fun::Val, "7.", "7"),
-        (Fun::Val, "-.", "0"),
-        (Fun::Val, "", "0"),
-        (Fun::Val, "abc", "0"),
-        (Fun::Val, "+3e5", "3"),
-        (Fun::Val, "0.1234567890123456", "0.123456789012346"),
-        (Fun::Substr, "ABC|0|2", ""),
-        (Fun::Substr, "ABC|1|2", "AB"),
-        (Fun::Substr, "ABC|2|254", "BC"),
-        (Fun::Substr, "ABC|4|1", ""),
-        (Fun::Substr, "ABC|2|-1", ""),
-        (Fun::Substr, "ABC|2.9|1", "B"),
-        (Fun::Left, "ABC|2", "AB"),
-        (Fun::Left, "ABC|9", "ABC"),
-        (Fun::Left, "ABC|-1", ""),
-        (Fun::Right, "ABC|2", "BC"),
-        (Fun::Right, "ABC|9", "ABC"),
-        (Fun::Right, "ABC|0", ""),
-        (Fun::Replicate, "AB|3", "ABABAB"),
-        (Fun::Replicate, "AB|0", ""),
-        (Fun::Replicate, "|9999999999999999999", ""),
-        (Fun::Stuff, "ABCDE|2|3|x", "AxE"),
-        (Fun::Stuff, "ABC|9|1|x", "ABCx"),
-    ]
-}
-
-fn of_texts_further() -> [Call; 3] {
-    [
-        (Fun::Stuff, "ABC|0|1|x", "xBC"),
-        (Fun::Stuff, "ABC|2|-1|xy", "AxyBC"),
-        (Fun::Stuff, "ABC|1|99|", ""),
+        (Fun::TextEq, "ABC|AB=.T.;AB|ABC=.F.;AB|=.T.;AB |AB=.T."),
+        (Fun::TextGreater, "ABC|AB=.T.;AB|AB  =.F."),
+        (Fun::TextLess, "AB|ABC=.T.;AB  |AB=.F.;AB\t|AB=.T.;Z|a=.T."),
+        (Fun::In, "|ABC=.T.;BC|ABC=.T.;AC|ABC=.F.;A|=.F."),
+        (Fun::Join, "AB  |C=AB  C"),
+        (Fun::JoinMoved, "AB  |C=ABC  ;  | =   "),
+        (Fun::At, "C|ABCABC=3;ABCD|ABC=0;|ABC=1;|=1"),
+        (Fun::Trim, " A B  = A B;   ="),
+        (Fun::Ltrim, "  A B =A B "),
+        (Fun::Upper, "aZ1\u{e9}=AZ1\u{e9}"),
+        (Fun::Lower, "aZ1[=az1["),
+        (Fun::Len, "ABC=3;=0"),
+        (Fun::Asc, "AB=65;=0"),
+        (Fun::IsAlpha, "z1=.T.;1z=.F.;=.F."),
+        (Fun::IsUpper, "Zz=.T.;zZ=.F."),
+        (Fun::IsLower, "zZ=.T.;=.F."),
+        (Fun::Val, "12.5.3=12.5;-.5=-0.5;  7.x=7;-=0;.=0;- 1=0;x1=0"),
+        (
+            Fun::Val,
+            "12345.000000000000000=**********;7.=7;-.=0;=0;abc=0;+3e5=3",
+        ),
+        (Fun::Val, "0.1234567890123456=0.123456789012346"),
+        (
+            Fun::Substr,
+            "ABC|0|2=;ABC|1|2=AB;ABC|2|254=BC;ABC|4|1=;ABC|2|-1=;ABC|2.9|1=B",
+        ),
+        (Fun::Left, "ABC|2=AB;ABC|9=ABC;ABC|-1="),
+        (Fun::Right, "ABC|2=BC;ABC|9=ABC;ABC|0="),
+        (Fun::Replicate, "AB|3=ABABAB;AB|0=;|9999999999999999999="),
+        (
+            Fun::Stuff,
+            "ABCDE|2|3|x=AxE;ABC|9|1|x=ABCx;ABC|0|1|x=xBC;ABC|2|-1|xy=AxyBC;ABC|1|99|=",
+        ),
     ]
 }
 
 #[test]
 fn calls_of_texts(rt: HostRuntime) {
-    let off = Settings::off();
-    assert_eq!(rt; first_wrong(off, of_texts().as_slice()), None);
-    assert_eq!(rt; first_wrong(off, of_texts_more().as_slice()), None);
-    assert_eq!(rt; first_wrong(off, of_texts_further().as_slice()), None);
+    assert_eq!(rt; first_wrong(Settings::off(), of_texts().as_slice()), None);
 }
 
-fn of_dates() -> [Call; 34] {
+fn of_dates() -> [Calls; 22] {
     [
-        (Fun::DateAdd, "02/29/88|366", "03/01/89"),
-        (Fun::DateAdd, "12/31/9999|1", "  /  /  "),
-        (Fun::DateAdd, "12/31/9999|-0.9", "12/31/99"),
-        (Fun::DateAdd, "01/01/0001|-1", "  /  /  "),
-        (Fun::DateAdd, "01/01/0001|3652058", "12/31/99"),
-        (Fun::DateAdd, "01/01/0001|3652059", "  /  /  "),
-        (Fun::DateAdd, "01/01/85|9999999999999999999", "  /  /  "),
-        (Fun::DateAdd, "01/01/85|?", "  /  /  "),
-        (Fun::DateAdd, "|1", "  /  /  "),
-        (Fun::DateSub, "03/01/1900|1", "02/28/00"),
-        (Fun::DateSub, "03/01/2000|1.9", "02/29/00"),
-        (Fun::DateSub, "01/01/0001|1", "  /  /  "),
-        (Fun::DateSub, "01/01/85|?", "  /  /  "),
-        (Fun::DateEq, "01/02/85|1/2/1985", ".T."),
-        (Fun::DateEq, "01/02/85|01/02/86", ".F."),
-        (Fun::DateEq, "|", ".T."),
-        (Fun::DateEq, "|01/02/85", ".F."),
-        (Fun::DateLess, "|01/01/0001", ".T."),
-        (Fun::DateLess, "|", ".F."),
-        (Fun::DateLess, "12/31/84|01/01/85", ".T."),
-        (Fun::DateGreater, "01/01/85|", ".T."),
-        (Fun::DateGreater, "01/01/85|01/01/85", ".F."),
-        (Fun::DateDiff, "03/01/88|02/28/88", "2"),
-        (Fun::DateDiff, "01/01/85|12/31/85", "-364"),
-        (Fun::DateDiff, "|12/31/85", "**********"),
-        (Fun::DateDiff, "12/31/85|", "**********"),
-        (Fun::Day, "03/01/89", "1"),
-        (Fun::Month, "03/01/89", "3"),
-        (Fun::Year, "03/01/89", "1989"),
-        (Fun::Dow, "03/01/89", "4"),
-        (Fun::Dow, "03/05/89", "1"),
-        (Fun::Cdow, "03/01/89", "Wednesday"),
-        (Fun::Cdow, "01/01/0001", "Monday"),
-        (Fun::Cdow, "03/05/89", "Sunday"),
-    ]
-}
-
-fn of_dates_more() -> [Call; 34] {
-    [
-        (Fun::Cmonth, "09/30/89", "September"),
-        (Fun::Cmonth, "12/31/9999", "December"),
-        (Fun::Dtoc, "1/2/0007", "01/02/07"),
-        (Fun::Dtoc, "", "  /  /  "),
-        (Fun::Day, "", "0"),
-        (Fun::Month, "", "0"),
-        (Fun::Year, "", "0"),
-        (Fun::Dow, "", "0"),
-        (Fun::Cdow, "", ""),
-        (Fun::Cmonth, "", ""),
-        (Fun::Ctod, "02/29/88", "02/29/88"),
-        (Fun::Ctod, "  1/2/85 ", "01/02/85"),
-        (Fun::Year, "02/29/88", "1988"),
-        (Fun::Year, "12/31/00", "1900"),
-        (Fun::Month, "12/31/00", "12"),
-        (Fun::Day, "12/31/00", "31"),
-        (Fun::Year, "1/2/0007", "7"),
-        (Fun::Month, "1/2/0007", "1"),
-        (Fun::Day, "1/2/0007", "2"),
-        (Fun::Year, "12/31/9999", "9999"),
-        (Fun::Ctod, "02/29/89", "  /  /  "),
-        (Fun::Ctod, "02/29/1900", "  /  /  "),
-        (Fun::Ctod, "13/01/85", "  /  /  "),
-        (Fun::Ctod, "00/01/85", "  /  /  "),
-        (Fun::Ctod, "01/32/85", "  /  /  "),
-        (Fun::Ctod, "01/01/003", "  /  /  "),
-        (Fun::Ctod, "01/01/0000", "  /  /  "),
-        (Fun::Ctod, "01/01", "  /  /  "),
-        (Fun::Ctod, "01/01/85/", "  /  /  "),
-        (Fun::Ctod, "1 /2/85", "  /  /  "),
-        (Fun::Ctod, "001/2/85", "  /  /  "),
-        (Fun::Ctod, "/2/85", "  /  /  "),
-        (Fun::Ctod, "  /  /  ", "  /  /  "),
-        (Fun::Ctod, "", "  /  /  "),
-    ]
-}
-
-fn of_dates_further() -> [Call; 2] {
-    [
-        (Fun::Ctod, "01-02-85", "  /  /  "),
-        (Fun::Ctod, "+1/2/85", "  /  /  "),
+        (
+            Fun::DateAdd,
+            "02/29/88|366=03/01/89;12/31/9999|1=  /  /  ;12/31/9999|-0.9=12/31/99",
+        ),
+        (
+            Fun::DateAdd,
+            "01/01/0001|-1=  /  /  ;01/01/0001|3652058=12/31/99;01/01/0001|3652059=  /  /  ",
+        ),
+        (
+            Fun::DateAdd,
+            "01/01/85|9999999999999999999=  /  /  ;01/01/85|?=  /  /  ;|1=  /  /  ",
+        ),
+        (
+            Fun::DateSub,
+            "03/01/1900|1=02/28/00;03/01/2000|1.9=02/29/00;01/01/0001|1=  /  /  ",
+        ),
+        (Fun::DateSub, "01/01/85|?=  /  /  "),
+        (
+            Fun::DateEq,
+            "01/02/85|1/2/1985=.T.;01/02/85|01/02/86=.F.;|=.T.;|01/02/85=.F.",
+        ),
+        (Fun::DateLess, "|01/01/0001=.T.;|=.F.;12/31/84|01/01/85=.T."),
+        (Fun::DateGreater, "01/01/85|=.T.;01/01/85|01/01/85=.F."),
+        (
+            Fun::DateDiff,
+            "03/01/88|02/28/88=2;01/01/85|12/31/85=-364;|12/31/85=**********",
+        ),
+        (Fun::DateDiff, "12/31/85|=**********"),
+        (Fun::Day, "03/01/89=1;=0;12/31/00=31;1/2/0007=2"),
+        (Fun::Month, "03/01/89=3;=0;12/31/00=12;1/2/0007=1"),
+        (
+            Fun::Year,
+            "03/01/89=1989;=0;02/29/88=1988;12/31/00=1900;1/2/0007=7;12/31/9999=9999",
+        ),
+        (Fun::Dow, "03/01/89=4;03/05/89=1;=0"),
+        (
+            Fun::Cdow,
+            "03/01/89=Wednesday;01/01/0001=Monday;03/05/89=Sunday;=",
+        ),
+        (Fun::Cmonth, "09/30/89=September;12/31/9999=December;="),
+        (Fun::Dtoc, "1/2/0007=01/02/07;=  /  /  "),
+        (
+            Fun::Ctod,
+            "02/29/88=02/29/88;  1/2/85 =01/02/85;02/29/89=  /  /  ;02/29/1900=  /  /  ",
+        ),
+        (
+            Fun::Ctod,
+            "13/01/85=  /  /  ;00/01/85=  /  /  ;01/32/85=  /  /  ;01/01/003=  /  /  ",
+        ),
+        (
+            Fun::Ctod,
+            "01/01/0000=  /  /  ;01/01=  /  /  ;01/01/85/=  /  /  ;1 /2/85=  /  /  ",
+        ),
+        (
+            Fun::Ctod,
+            "001/2/85=  /  /  ;/2/85=  /  /  ;  /  /  =  /  /  ;=  /  /  ;01-02-85=  /  /  ",
+        ),
+        (Fun::Ctod, "+1/2/85=  /  /  "),
     ]
 }
 
 #[test]
 fn calls_of_dates(rt: HostRuntime) {
-    let off = Settings::off();
-    assert_eq!(rt; first_wrong(off, of_dates().as_slice()), None);
-    assert_eq!(rt; first_wrong(off, of_dates_more().as_slice()), None);
-    assert_eq!(rt; first_wrong(off, of_dates_further().as_slice()), None);
+    assert_eq!(rt; first_wrong(Settings::off(), of_dates().as_slice()), None);
 }
 
-fn of_truth_values() -> [Call; 18] {
+fn of_truth_values() -> [Calls; 7] {
     [
-        (Fun::IifNumber, "T|1|2", "1"),
-        (Fun::IifText, "T|A|B", "A"),
-        (Fun::IifDate, "T|01/02/85|03/04/86", "01/02/85"),
-        (Fun::IifLogical, "T|F|T", ".F."),
-        (Fun::IifNumber, "F|1|2", "2"),
-        (Fun::IifText, "F|A|B", "B"),
-        (Fun::IifDate, "F|01/02/85|03/04/86", "03/04/86"),
-        (Fun::IifLogical, "F|F|T", ".T."),
-        (Fun::Not, "T", ".F."),
-        (Fun::And, "T|T", ".T."),
-        (Fun::Or, "T|T", ".T."),
-        (Fun::And, "T|F", ".F."),
-        (Fun::Or, "T|F", ".T."),
-        (Fun::Not, "F", ".T."),
-        (Fun::And, "F|T", ".F."),
-        (Fun::Or, "F|T", ".T."),
-        (Fun::And, "F|F", ".F."),
-        (Fun::Or, "F|F", ".F."),
+        (Fun::IifNumber, "T|1|2=1;F|1|2=2"),
+        (Fun::IifText, "T|A|B=A;F|A|B=B"),
+        (
+            Fun::IifDate,
+            "T|01/02/85|03/04/86=01/02/85;F|01/02/85|03/04/86=03/04/86",
+        ),
+        (Fun::IifLogical, "T|F|T=.F.;F|F|T=.T."),
+        (Fun::Not, "T=.F.;F=.T."),
+        (Fun::And, "T|T=.T.;T|F=.F.;F|T=.F.;F|F=.F."),
+        (Fun::Or, "T|T=.T.;T|F=.T.;F|T=.T.;F|F=.F."),
     ]
 }
 
 #[test]
 fn calls_of_truth_values(rt: HostRuntime) {
-    let off = Settings::off();
-    assert_eq!(rt; first_wrong(off, of_truth_values().as_slice()), None);
+    assert_eq!(rt;
+        first_wrong(Settings::off(), of_truth_values().as_slice()),
+        None
+    );
 }
 
-fn with_exact_on() -> [Call; 6] {
+fn with_exact_on() -> [Calls; 3] {
     [
-        (Fun::TextEq, "AB |AB", ".T."),
-        (Fun::TextEq, "ABC|AB", ".F."),
-        (Fun::TextEq, "AB|", ".F."),
-        (Fun::TextEq, " AB|AB", ".F."),
-        (Fun::TextGreater, "ABC|AB", ".T."),
-        (Fun::TextLess, "AB|ABC", ".T."),
+        (Fun::TextEq, "AB |AB=.T.;ABC|AB=.F.;AB|=.F.; AB|AB=.F."),
+        (Fun::TextGreater, "ABC|AB=.T."),
+        (Fun::TextLess, "AB|ABC=.T."),
     ]
 }
 

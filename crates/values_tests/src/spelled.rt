@@ -4,8 +4,8 @@ use fixed_num::Num;
 use xvalue::apply::apply;
 use xvalue::{Day, Fun, Gathered, Kind, MOST_ARGUMENTS, Settings, Text, Value};
 
-/// A function, its arguments with `|` between them, and its result as text.
-pub(crate) type Call = (Fun, &'static str, &'static str);
+/// Calls of a function with `;` between them, each its arguments with `|` between them, `=`, and its result as text.
+pub(crate) type Calls = (Fun, &'static str);
 
 /// The text of these bytes, of which examples have few.
 pub(crate) fn text_made(bytes: &[u8]) -> Text {
@@ -64,11 +64,23 @@ pub(crate) fn result_of(settings: Settings, fun: Fun, spelled: &str) -> Text {
     )
 }
 
-/// The place of the first call that doesn't give what is wanted.
-pub(crate) fn first_wrong(settings: Settings, calls: &[Call]) -> Option<usize> {
-    for (place, (fun, spelled, wanted)) in calls.iter().enumerate() {
-        if result_of(settings, *fun, *spelled).as_slice() != wanted.as_bytes() {
-            return Some(place);
+/// Whether a call gives what is wanted.
+fn is_right(settings: Settings, fun: Fun, call: &str) -> bool {
+    match call.split_once('=') {
+        Some((spelled, wanted)) => {
+            result_of(settings, fun, spelled).as_slice() == wanted.as_bytes()
+        }
+        None => false,
+    }
+}
+
+/// The first call that doesn't give what is wanted, by the place of its line and its place there.
+pub(crate) fn first_wrong(settings: Settings, lines: &[Calls]) -> Option<(usize, usize)> {
+    for (line, (fun, calls)) in lines.iter().enumerate() {
+        for (place, call) in calls.split(';').enumerate() {
+            if !is_right(settings, *fun, call) {
+                return Some((line, place));
+            }
         }
     }
     None

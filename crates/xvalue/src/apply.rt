@@ -23,16 +23,16 @@ pub fn apply(fun: Fun, settings: Settings, arguments: &Arguments<'_>) -> Value
     ensures { result ≡ applied fun settings (given arguments.now) }
 {
     match fun.gives() {
-        Kind::Number => Value::Number(number_of(fun, arguments)),
-        Kind::Text => Value::Text(text_of(fun, settings, arguments)),
-        Kind::Date => Value::Date(date_of(fun, arguments)),
-        Kind::Logical => Value::Logical(truth_of(fun, settings, arguments)),
+        Kind::Number => Value::Number(number_given(fun, arguments)),
+        Kind::Text => Value::Text(text_given(fun, settings, arguments)),
+        Kind::Date => Value::Date(date_given(fun, arguments)),
+        Kind::Logical => Value::Logical(truth_given(fun, settings, arguments)),
     }
 }
 
 /// The result of a function that gives a number.
 #[tactic(auto, unfolding(crate::specs::Functions::applied))]
-fn number_of(fun: Fun, arguments: &Arguments<'_>) -> Num
+fn number_given(fun: Fun, arguments: &Arguments<'_>) -> Num
     requires { gives_of fun ≡ Kind.Number }
     ensures { (settings : AnySettings) → Value.Number result ≡ applied fun settings (given arguments.now) }
 {
@@ -64,7 +64,7 @@ fn number_of(fun: Fun, arguments: &Arguments<'_>) -> Num
 
 /// The result of a function that gives a text.
 #[tactic(auto, unfolding(crate::specs::Functions::applied))]
-fn text_of(fun: Fun, settings: Settings, arguments: &Arguments<'_>) -> Text
+fn text_given(fun: Fun, settings: Settings, arguments: &Arguments<'_>) -> Text
     requires { gives_of fun ≡ Kind.Text }
     ensures { Value.Text result ≡ applied fun settings (given arguments.now) }
 {
@@ -72,16 +72,16 @@ fn text_of(fun: Fun, settings: Settings, arguments: &Arguments<'_>) -> Text
     match fun {
         Fun::Join => texts::joined(text, arguments.text(1)),
         Fun::JoinMoved => texts::joined_moved(text, arguments.text(1)),
-        Fun::IifText => texts::fitted(arguments.text(chosen(arguments, 0))),
-        Fun::Substr => texts::fitted(texts::part_from(
+        Fun::IifText => texts::fitting(arguments.text(chosen(arguments, 0))),
+        Fun::Substr => texts::fitting(texts::part_from(
             text,
             arguments.count(0),
             arguments.count(1),
         )),
-        Fun::Left => texts::fitted(texts::front(text, arguments.count(0))),
-        Fun::Right => texts::fitted(texts::last_part(text, arguments.count(0))),
-        Fun::Trim => texts::fitted(without_last_blanks(text)),
-        Fun::Ltrim => texts::fitted(without_blanks(text)),
+        Fun::Left => texts::fitting(texts::front(text, arguments.count(0))),
+        Fun::Right => texts::fitting(texts::last_part(text, arguments.count(0))),
+        Fun::Trim => texts::fitting(without_last_blanks(text)),
+        Fun::Ltrim => texts::fitting(without_blanks(text)),
         Fun::Upper => texts::upper(text),
         Fun::Lower => texts::lower(text),
         Fun::Space => texts::blanks(arguments.count(0)),
@@ -94,16 +94,16 @@ fn text_of(fun: Fun, settings: Settings, arguments: &Arguments<'_>) -> Text
         ),
         Fun::Chr => texts::byte_text(arguments.number(0)),
         Fun::Str => texts::printed(arguments.number(0), arguments.count(1), arguments.count(2)),
-        Fun::Dtoc => texts::fitted(shown_day(arguments.date(0), settings).as_slice()),
-        Fun::Cdow => texts::fitted(arguments.date(0).weekday_name()),
-        Fun::Cmonth => texts::fitted(arguments.date(0).month_name()),
+        Fun::Dtoc => texts::fitting(shown_day(arguments.date(0), settings).as_slice()),
+        Fun::Cdow => texts::fitting(arguments.date(0).weekday_name()),
+        Fun::Cmonth => texts::fitting(arguments.date(0).month_name()),
         _ => unreachable!(),
     }
 }
 
 /// The result of a function that gives a date.
 #[tactic(auto, unfolding(crate::specs::Functions::applied))]
-fn date_of(fun: Fun, arguments: &Arguments<'_>) -> Day
+fn date_given(fun: Fun, arguments: &Arguments<'_>) -> Day
     requires { gives_of fun ≡ Kind.Date }
     ensures { (settings : AnySettings) → Value.Date result ≡ applied fun settings (given arguments.now) }
 {
@@ -118,7 +118,7 @@ fn date_of(fun: Fun, arguments: &Arguments<'_>) -> Day
 
 /// The result of a function that gives a truth value.
 #[tactic(auto, unfolding(crate::specs::Functions::applied))]
-fn truth_of(fun: Fun, settings: Settings, arguments: &Arguments<'_>) -> bool
+fn truth_given(fun: Fun, settings: Settings, arguments: &Arguments<'_>) -> bool
     requires { gives_of fun ≡ Kind.Logical }
     ensures { Value.Logical result ≡ applied fun settings (given arguments.now) }
 {

@@ -78,7 +78,7 @@ impl Arguments<'_> {
     {
         match self.numbers.get(place) {
             Some(number) => *number,
-            None => Num::from_whole(0),
+            None => Num::default(),
         }
     }
 

@@ -87,7 +87,7 @@ pub fn part_from(bytes: &[u8], place: usize, count: usize) -> &[u8]
 }
 
 /// The text of these bytes, cut where they are more than 254.
-pub fn fitted(bytes: &[u8]) -> Text
+pub fn fitting(bytes: &[u8]) -> Text
     ensures { result.items ≡ fitting bytes.now }
 {
     text_of(front(bytes, MOST_BYTES))
@@ -160,7 +160,7 @@ pub fn blanks(count: usize) -> Text
 pub fn upper(bytes: &[u8]) -> Text
     ensures { result.items ≡ fitting (map to_ascii_uppercase bytes.now) }
 {
-    let text = fitted(bytes);
+    let text = fitting(bytes);
     let mut capitals = Text::new();
     for byte in text.as_slice() {
         capitals.push(byte.to_ascii_uppercase());
@@ -172,7 +172,7 @@ pub fn upper(bytes: &[u8]) -> Text
 pub fn lower(bytes: &[u8]) -> Text
     ensures { result.items ≡ fitting (map to_ascii_lowercase bytes.now) }
 {
-    let text = fitted(bytes);
+    let text = fitting(bytes);
     let mut small = Text::new();
     for byte in text.as_slice() {
         small.push(byte.to_ascii_lowercase());
