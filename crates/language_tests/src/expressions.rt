@@ -55,6 +55,9 @@ fn trees() -> &'static str {
      A.AND.B.AND.C|Binary(And, Binary(And, Name([65]), Name([66])), Name([67]))\n\
      A\t+ \tb && a % comment '|Binary(Plus, Name([65]), Name([66]))\n\
      max(A, B)-C|Binary(Minus, Call(Max, [Name([65]), Name([66])]), Name([67]))\n\
+     X123456789|Name([88, 49, 50, 51, 52, 53, 54, 55, 56, 57])\n\
+     1234567890123456789|Number(\n\
+     1234.123456789012345|Number(\n\
      ((A))|Parentheses(Parentheses(Name([65])))\n\
      A.or.B|Binary(Or, Name([65]), Name([66]))\n\
      A .AND. B|Binary(And, Name([65]), Name([66]))\n\
@@ -182,6 +185,7 @@ fn faults() -> &'static str {
      X1234567890 + &Y|1 TooLong\n\
      &X|1 Macro\n\
      A + &X +|1 Macro\n\
+     (1 + &X|1 Macro\n\
      X &Y|1 Macro\n\
     "
 }
