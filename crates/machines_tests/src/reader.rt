@@ -56,15 +56,9 @@ impl<'a> Fake<'a> {
 fn filled(buf: &mut [u8], byte: u8, count: usize) -> usize
     ensures { result ≤ length buf.new }
 {
-    let mut done = 0;
-    for place in buf.iter_mut() {
-        if done >= count {
-            return done;
-        }
-        *place = byte;
-        done += 1;
-    }
-    done
+    let count = count.min(buf.len());
+    buf[..count].fill(byte);
+    count
 }
 
 impl Read for Fake<'_> {
