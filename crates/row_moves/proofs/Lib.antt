@@ -1,0 +1,2 @@
+pub mod RecordOrder
+pub mod Steps
