@@ -8,11 +8,15 @@
 //! are, and no memory is taken. `specs/Moves.antt` says what each move is, on whole lists.
 #![tactic(auto)]
 
+mod key_search;
+mod keys;
 mod landed;
 mod moves;
+mod places;
 mod records;
 mod row_order;
 
+pub use key_search::seek;
 pub use landed::{Landed, Spent};
 pub use moves::{bottom, skip, top};
 pub use records::Records;

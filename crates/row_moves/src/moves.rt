@@ -1,11 +1,12 @@
 //! Moves over rows in an order.
 
-ghost use Rattle.std.specs.Prelude.{◌≡◌, ℕ, ◌≤◌, Bool, true, false, IfOk, None, is_none, ◌&&◌, if◌then◌else◌, option_map};
+ghost use Rattle.std.specs.Prelude.{◌≡◌, ℕ, ◌≤◌, Bool, true, false, IfOk, option_map};
 ghost use Rattle.ndx_tree.specs.Order.{IsAscending};
 ghost use Rattle.ndx_tree.specs.Pairs.{is_before};
 ghost use Rattle.row_moves.specs.Orders.{candidates, MayTry, Sees};
 ghost use Rattle.row_moves.specs.Moves.{IsMove, IsScan, end_of, hops, skipped};
 
+use crate::places::{copied, end_from, is_past, number_of};
 use crate::{Landed, RowOrder, Spent};
 use ndx_tree::Entry;
 use ndx_tree::laws::meets_each;
@@ -151,26 +152,6 @@ fn search<O: RowOrder, F: Fn(u32) -> bool>(
     Ok((None, cost))
 }
 
-// The same place again.
-fn copied(at: &Option<Entry>) -> Option<Entry>
-    ensures { result ≡ at.now }
-{
-    match at {
-        Some(entry) => Some(entry.copied()),
-        None => None,
-    }
-}
-
-// The record of a place.
-fn number_of(at: &Option<Entry>) -> Option<u32>
-    ensures { result ≡ option_map (λ p. p.1) at.now }
-{
-    match at {
-        Some(entry) => Some(entry.number()),
-        None => None,
-    }
-}
-
 // A place, as a move that sought nothing answers it.
 fn landed(at: &Option<Entry>, cost: u64, bof: bool) -> Landed
     ensures { result ≡ record { row = option_map (λ p. p.1) at.now; cost = cost; bof = bof; found = false } }
@@ -181,18 +162,4 @@ fn landed(at: &Option<Entry>, cost: u64, bof: bool) -> Landed
         bof,
         found: false,
     }
-}
-
-// Whether a move forward begins at the end of file.
-fn is_past(forward: bool, at: &Option<Entry>) -> bool
-    ensures { result ≡ (forward && is_none at.now) }
-{
-    forward && at.is_none()
-}
-
-// Where a move ends that finds no row: forward at the end of file, back where it came to.
-fn end_from(forward: bool, at: Option<Entry>) -> Option<Entry>
-    ensures { result ≡ (if forward then None else at) }
-{
-    if forward { None } else { at }
 }
