@@ -1,6 +1,6 @@
 -- Keys that begin with a text stand together, and keys of one length that equal a text but for blanks begin with it.
 use Rattle.std.proofs.Common.{◌≡◌, ℕ, zero, suc, ◌≤◌, Bool, true, false, not, ◌&&◌, cond, eqb, Option, Some, None, List, [], ◌∷◌, ◌++◌, length, get_or, drop, refl, sym, ap, ◌∙◌, subst, arith}
-use Rattle.std.specs.List.{filter, starts_with}
+use Rattle.std.specs.List.{filter, starts_with, Contains}
 use Rattle.std.specs.Prelude.{nat_eq}
 use Rattle.ndx_tree.specs.KeyForm.{IsPairOf}
 use Rattle.ndx_tree.specs.Laws.{MeetsEach, StandTogether, begins_with}
@@ -8,7 +8,7 @@ use Rattle.ndx_tree.specs.Order.{Each, above, first}
 use Rattle.ndx_tree.specs.Pairs.{Pair, is_before, pairs_from}
 use Rattle.row_moves.specs.Moves.{is_blank, is_same, matching}
 use Rattle.row_moves.specs.Seeking.{begun, begun_or_none, fitted, front_run, starting}
-use Rattle.row_moves.proofs.Steps.{Turn, turn_cons, filter_each, first_each}
+use Rattle.row_moves.proofs.Steps.{Turn, turn_cons, each_listed, filter_each, first_each}
 
 pub starts_is : (start key : List ℕ) → starts_with nat_eq key start ≡ begins_with start key
 starts_is [] [] = refl
@@ -31,8 +31,8 @@ starting_each P start None pairs e = run_each P start (pairs_from start pairs) (
 starting_each P start (Some p) pairs e = run_each P start (above is_before p pairs) (filter_each P (is_before p) pairs e)
 
 -- what holds of all pairs holds of the next whose key begins so
-pub begun_each : (P : Pair → Type 0) (start : List ℕ) (at : Option Pair) (pairs : List Pair) (q : Pair) → Each P pairs → Some q ≡ first (starting start at pairs) → P q
-begun_each P start at pairs q e f = first_each P (starting start at pairs) q (starting_each P start at pairs e) f
+pub begun_each : (P : Pair → Type 0) (start : List ℕ) (at : Option Pair) (pairs : List Pair) (q : Pair) → ((p : Pair) → Contains pairs p → P p) → Some q ≡ first (starting start at pairs) → P q
+begun_each P start at pairs q h f = first_each P (starting start at pairs) q (starting_each P start at pairs (each_listed P pairs h)) f
 
 -- the first of a run is the first of the list, and the run goes on
 run_step : (start : List ℕ) (pairs rest : List Pair) (q : Pair) → Some q ≡ first (front_run start pairs) → (first pairs ≡ Some q → pairs ≡ q ∷ rest) → front_run start pairs ≡ q ∷ front_run start rest

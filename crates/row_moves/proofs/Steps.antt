@@ -1,6 +1,6 @@
 -- Steps of a move along rows in order.
 use Rattle.std.proofs.Common.{◌≡◌, ℕ, zero, suc, ◌+◌, ◌-◌, ◌<◌, ◌≤◌, Bool, true, false, ◌&&◌, cond, Option, Some, None, List, [], ◌∷◌, ◌++◌, reverse, refl, sym, ap, subst, arith}
-use Rattle.std.specs.List.{filter}
+use Rattle.std.specs.List.{filter, Contains}
 use Rattle.std.specs.Option.{is_none, option_map}
 use Rattle.std.proofs.lemmas.List.{reverse-append}
 use Rattle.ndx_tree.specs.Laws.{MeetsEach}
@@ -32,9 +32,14 @@ pub first_each : (P : Pair → Type 0) (pairs : List Pair) (q : Pair) → Each P
 first_each P [] q e f = cc
 first_each P (p ∷ pairs) q e f = let same : p ≡ q = cc in subst P same e.0
 
--- what holds of all pairs holds of the next
-pub next_each : (P : Pair → Type 0) (forward : Bool) (at : Option Pair) (pairs : List Pair) (q : Pair) → Each P pairs → Some q ≡ first (candidates forward at pairs) → P q
-next_each P forward at pairs q e f = first_each P (candidates forward at pairs) q (candidates_each P forward at pairs e) f
+-- what holds of each listed pair holds of each
+pub each_listed : (P : Pair → Type 0) (pairs : List Pair) → ((p : Pair) → Contains pairs p → P p) → Each P pairs
+each_listed P [] h = tt
+each_listed P (p ∷ pairs) h = (h p (0, omega arith, refl), each_listed P pairs (λ q c. h q (suc c.0, omega (arith, c.1), c.2)))
+
+-- and of the next
+pub next_each : (P : Pair → Type 0) (forward : Bool) (at : Option Pair) (pairs : List Pair) (q : Pair) → ((p : Pair) → Contains pairs p → P p) → Some q ≡ first (candidates forward at pairs) → P q
+next_each P forward at pairs q h f = first_each P (candidates forward at pairs) q (candidates_each P forward at pairs (each_listed P pairs h)) f
 
 -- a step goes to the first candidate, and leaves the others
 step : (forward : Bool) (at : Option Pair) (pairs : List Pair) (q : Pair) → MeetsEach pairs → first (candidates forward at pairs) ≡ Some q → candidates forward at pairs ≡ q ∷ candidates forward (Some q) pairs

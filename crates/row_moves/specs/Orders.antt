@@ -1,6 +1,6 @@
 -- Rows in an order, as pairs of a key and a record.
-use Rattle.std.specs.Prelude.{◌≡◌, ℕ, zero, suc, ◌+◌, Bool, true, false, Option, Some, None, List, [], ◌∷◌, reverse}
-use Rattle.ndx_tree.specs.Order.{Each, above, below}
+use Rattle.std.specs.Prelude.{◌≡◌, ℕ, zero, suc, ◌+◌, Bool, true, false, Option, Some, None, List, [], ◌∷◌, Contains, reverse}
+use Rattle.ndx_tree.specs.Order.{above, below}
 use Rattle.ndx_tree.specs.Pairs.{Pair, is_before}
 
 -- the pair of a record in record order, which has no key; records count from 1
@@ -34,8 +34,8 @@ candidates false at pairs = behind at pairs
 
 -- a test of rows may be called at each listed record
 abbrev pub MayTry : {F : Type 0} → (F → ℕ → Type 0) → F → List Pair → Type 0
-MayTry may see pairs = Each (λ p. may see p.1) pairs
+MayTry may see pairs = (p : Pair) → Contains pairs p → may see p.1
 
 -- and answers there what is shown
 abbrev pub Sees : {F : Type 0} → (F → ℕ → Bool → Type 0) → F → List Pair → (ℕ → Bool) → Type 0
-Sees answers see pairs shown = Each (λ p. (r : Bool) → answers see p.1 r → r ≡ shown p.1) pairs
+Sees answers see pairs shown = (p : Pair) → Contains pairs p → (r : Bool) → answers see p.1 r → r ≡ shown p.1
