@@ -1,0 +1,3 @@
+pub mod RecordOrder
+pub mod Steps
+pub mod Seeking

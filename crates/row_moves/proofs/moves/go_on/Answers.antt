@@ -1,0 +1,86 @@
+use Rattle.std.proofs.Common.{◌≡◌, ℕ, ◌-◌, ◌⊎◌, inl, inr, Bool, true, false, not, ◌&&◌, Option, Some, None, List, sym, ap, ◌∙◌, refl, arith}
+use Rattle.std.specs.Option.{is_none, is_some}
+use Rattle.std.proofs.lemmas.Result.{err_from_is_err_and}
+use Rattle.ndx_tree.specs.Pairs.{Pair}
+use Rattle.row_moves.specs.Orders.{candidates, Sees}
+use Rattle.row_moves.specs.Moves.{first_shown, met, hop, hops, Landing}
+use Rattle.row_moves.proofs.Steps.{hops_past, hops_step, hop_on, hop_met, lands_at}
+use Rattle.row_moves.proofs.moves.go_on.Goals as goal
+use Rattle.row_moves.proofs.moves.go_on.Goals.{else-loop-left-test, then-loop-left-test+then-is_past}
+
+pub returns-in_err-next-clause-lands : goal.returns-in_err-next-clause-lands
+returns-in_err-next-clause-lands g c = λ shown sees.
+    let p = err_from_is_err_and c.from_residual.result c.from_residual.ensures.1 in
+    let forward = c.args.forward in
+    let at = c.loop-left.at in
+    let pairs : List Pair = (g.O.RowOrder.list c.args.order.now).pairs in
+    let inv = c.loop-left.invariant in
+    let scan = rw inv.same at c.in_err-next.ensures.scan in
+    let over = scan shown sees in
+    let step = hops_step shown forward c.loop-left.left at pairs (omega arith) (sym c.is_past.ensures ∙ c.if-is_past.false) in
+    let most = hop_met forward at (met shown (candidates forward at pairs)) (first_shown shown (candidates forward at pairs)) (λ q. hops shown forward (c.loop-left.left - 1) (Some q) pairs) in
+    rw p.1 (omega (arith, over, most, ap (λ (l : Landing). l.met) step, inv.met shown sees))
+
+none_of : (a : Option Pair) → is_some a ≡ false → a ≡ None
+none_of None e = refl
+none_of (Some p) e = cc
+
+not_none : (a : Option Pair) → is_some a ≡ true → is_none a ≡ false
+not_none None e = cc
+not_none (Some p) e = refl
+
+pub returns-then-is_none-clause-lands : goal.returns-then-is_none-clause-lands
+returns-then-is_none-clause-lands g c = λ shown sees.
+    let forward = c.args.forward in
+    let at = c.loop-left.at in
+    let pairs : List Pair = (g.O.RowOrder.list c.args.order.now).pairs in
+    let inv = c.loop-left.invariant in
+    let scan = rw inv.same at c.in_ok-next.ensures.scan in
+    let here = scan shown sees in
+    let step = hops_step shown forward c.loop-left.left at pairs (omega arith) (sym c.is_past.ensures ∙ c.if-is_past.false) in
+    let nothing = sym here.0 ∙ none_of c.in_ok-next.next c.if-is_none.ensures in
+    let last = step ∙ ap (λ a. hop forward at (met shown (candidates forward at pairs)) a (λ q. hops shown forward (c.loop-left.left - 1) (Some q) pairs)) nothing in
+    lands_at shown forward c.args.steps c.args.from pairs c.args.budget c.landed.result c.end_from.result c.in_ok-next.met (not forward) c.landed.ensures
+    (c.end_from.ensures ∙ sym (ap (λ (l : Landing). l.at) last) ∙ inv.at shown sees)
+    (omega (arith, here.1, ap (λ (l : Landing). l.met) last, inv.met shown sees))
+    here.2
+    (sym (ap (λ (l : Landing). l.bof) last) ∙ inv.bof shown sees)
+
+pub loop-left-preserved : goal.loop-left-preserved
+loop-left-preserved g c =
+    let forward = c.args.forward in
+    let at = c.loop-left.at in
+    let pairs : List Pair = (g.O.RowOrder.list c.args.order.now).pairs in
+    let inv = c.loop-left.invariant in
+    let scan = rw inv.same at c.in_ok-next.ensures.scan in
+    let on = λ (shown : ℕ → Bool) (sees : Sees (goal.F-post g) c.args.see.now pairs shown).
+    let here = scan shown sees in
+    hops_step shown forward c.loop-left.left at pairs (omega arith) (sym c.is_past.ensures ∙ c.if-is_past.false)
+    ∙ ap (λ a. hop forward at (met shown (candidates forward at pairs)) a (λ q. hops shown forward (c.loop-left.left - 1) (Some q) pairs)) (sym here.0)
+    ∙ hop_on shown forward (c.loop-left.left - 1) at pairs (met shown (candidates forward at pairs)) c.in_ok-next.next (not_none c.in_ok-next.next c.if-is_none.ensures) in
+    record {
+      same = c.in_ok-next.ensures.same ∙ inv.same;
+      in_budget = c.in_ok-next.ensures.in_budget;
+      at = λ shown sees. sym (ap (λ (l : Landing). l.at) (on shown sees)) ∙ inv.at shown sees;
+      bof = λ shown sees. sym (ap (λ (l : Landing). l.bof) (on shown sees)) ∙ inv.bof shown sees;
+      met = λ shown sees. omega (arith, (scan shown sees).1, ap (λ (l : Landing). l.met) (on shown sees), inv.met shown sees);
+    }
+
+-- where the loop ends, nothing is left to do
+done : (shown : ℕ → Bool) (forward : Bool) (n : ℕ) (at : Option Pair) (pairs : List Pair) → (n ≡ 0) ⊎ (forward && is_none at ≡ true) → hops shown forward n at pairs ≡ record { at = at; met = 0; bof = false; found = false }
+done shown forward n at pairs (inl e) = rw e refl
+done shown forward n None pairs (inr e) = hops_past shown forward n None pairs e
+done shown true n (Some p) pairs (inr e) = cc
+done shown false n (Some p) pairs (inr e) = cc
+
+pub returns-clause-lands : goal.returns-clause-lands
+returns-clause-lands g c = λ shown sees.
+    let pairs : List Pair = (g.O.RowOrder.list c.args.order.now).pairs in
+    let inv = c.loop-left.invariant in
+    let over : (c.loop-left.left ≡ 0) ⊎ (c.args.forward && is_none c.loop-left.at ≡ true) = elim c.loop-left-test.branch [ else-loop-left-test w ↦ inl (omega arith) | then-loop-left-test+then-is_past w ↦ inr (sym w.is_past.ensures ∙ w.if-is_past.true) ] in
+    let last = done shown c.args.forward c.loop-left.left c.loop-left.at pairs over in
+    lands_at shown c.args.forward c.args.steps c.args.from pairs c.args.budget c.landed-2.result c.loop-left.at c.loop-left.cost false c.landed-2.ensures
+    (sym (ap (λ (l : Landing). l.at) last) ∙ inv.at shown sees)
+    (omega (arith, ap (λ (l : Landing). l.met) last, inv.met shown sees))
+    inv.in_budget
+    (sym (ap (λ (l : Landing). l.bof) last) ∙ inv.bof shown sees)
