@@ -9,7 +9,6 @@ use Rattle.prg_expr.specs.declared.fault.FormFault.{FormFault}
 use Rattle.prg_expr.specs.declared.fault.FormFault.TheVariants.{Kind, Memory}
 use Rattle.prg_line.specs.Forms.{At, Reader, at, comma, more, expression}
 
-
 -- what was found so far goes on as from the start
 pub record SoFar {A : Type 0} (one : Reader A) (first : List A) (start : At) (found : List A) (a : At) : Type 0 where
   pub bound : ℕ

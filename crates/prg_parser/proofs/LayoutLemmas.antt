@@ -1,5 +1,5 @@
 -- The lines of a tree, one equation for each kind of command.
-use Rattle.std.proofs.Common.{◌≡◌, ℕ, List, [], ◌∷◌, ◌++◌, map, Option, Some, None, Vec, Global, refl, sym, ap, ◌∙◌, append_assoc}
+use Rattle.std.proofs.Common.{◌≡◌, ℕ, List, [], ◌∷◌, ◌++◌, Option, Some, None, Vec, Global, refl, sym, ap, ◌∙◌, append_assoc}
 use Rattle.std.specs.Prelude.{option_map}
 use Rattle.std.proofs.lemmas.List.{append-nil}
 use Rattle.prg_expr.specs.Tree.{Tree, tree_of}
@@ -7,7 +7,7 @@ use Rattle.prg_expr.specs.declared.tree.Expr.{Expr}
 use Rattle.prg_line.specs.Act.{act_of}
 use Rattle.prg_line.specs.Saying.{Saying, line}
 use Rattle.prg_line.specs.Saying as saying
-use Rattle.prg_parser.specs.Commands.{Cmd, Cmds, Cases, Neither, When, Part, form_node, branch_node, case_node, command_node, case_of, procedure_of}
+use Rattle.prg_parser.specs.Commands.{Cmd, Cmds, Cases, Neither, When, Part, form_node, branch_node, case_node, command_node, case_of}
 use Rattle.prg_parser.specs.Layout.{Lines, laid, laid_in_turn, laid_cases, laid_part, form_lines, part_lines, case_lines, command_lines, body_lines, cases_lines, procedure_lines, procedures_lines}
 use Rattle.prg_line.specs.declared.statement.Statement.{Statement as Single}
 use Rattle.prg_parser.specs.declared.command.Command.{Command}

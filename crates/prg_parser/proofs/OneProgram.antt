@@ -1,15 +1,12 @@
 -- Programs of the same lines are the same tree: each command ends where its own words say so, and what may follow commands
 -- begins none.
-use Rattle.std.proofs.Common.{◌≡◌, ℕ, List, [], ◌∷◌, ◌++◌, map, Bool, true, false, Option, refl, sym, ap, ◌∙◌, append_assoc}
-use Rattle.std.proofs.lemmas.List.{append-nil}
-use Rattle.prg_expr.specs.Tree.{Tree}
-use Rattle.prg_line.specs.Act.{Act}
+use Rattle.std.proofs.Common.{◌≡◌, ℕ, List, [], ◌∷◌, ◌++◌, Bool, true, false, refl, sym, ap, ◌∙◌, append_assoc}
 use Rattle.prg_line.specs.LineSays.{LineSays}
 use Rattle.prg_line.specs.Saying.{Saying, Line, line}
 use Rattle.prg_line.specs.Saying as saying
 use Rattle.prg_parser.specs.Commands.{Cmd, Cmds, Cases, Part, ProcedureTree, ProgramTree, Single, If, DoCase, DoWhile, Scan, Done, Then, Neither, When, Absent, Otherwise}
 use Rattle.prg_parser.specs.Files.{SaysAll}
-use Rattle.prg_parser.specs.Layout.{Lines, laid, laid_in_turn, laid_cases, laid_part, laid_procedure, laid_procedures, laid_program}
+use Rattle.prg_parser.specs.Layout.{Lines, laid, laid_in_turn, laid_cases, laid_part, laid_procedures, laid_program}
 use Rattle.prg_parser.specs.Lines.{Joined}
 
 -- whether a saying begins a command
@@ -112,8 +109,8 @@ mutual
       let number = p.number in
       let condition : e ≡ e' = (let i = p.saying in cc) in
       let q = same_commands body body' (laid_part saying.Else otherwise ++ (line end saying.EndIf ∷ r)) (laid_part saying.Else otherwise' ++ (line end' saying.EndIf ∷ s))
-          (stops_part saying.Else saying.EndIf otherwise end r refl refl) (stops_part saying.Else saying.EndIf otherwise' end' s refl refl)
-          (regroup (parts (laid_in_turn body) (laid_part saying.Else otherwise) (line end saying.EndIf ∷ []) r) (parts (laid_in_turn body') (laid_part saying.Else otherwise') (line end' saying.EndIf ∷ []) s) p.others) in
+      (stops_part saying.Else saying.EndIf otherwise end r refl refl) (stops_part saying.Else saying.EndIf otherwise' end' s refl refl)
+      (regroup (parts (laid_in_turn body) (laid_part saying.Else otherwise) (line end saying.EndIf ∷ []) r) (parts (laid_in_turn body') (laid_part saying.Else otherwise') (line end' saying.EndIf ∷ []) s) p.others) in
       let t = same_part saying.Else saying.EndIf (λ (i : saying.Else ≡ saying.EndIf). cc) refl otherwise otherwise' end end' r s q.rest in
       let u = parted end end' saying.EndIf saying.EndIf r s t.rest in
       let bodies = q.same in
@@ -129,9 +126,9 @@ mutual
       let p = parted n n' saying.DoCase saying.DoCase _ _ h in
       let number = p.number in
       let q = same_cases cases cases' (laid_part saying.Otherwise otherwise ++ (line end saying.EndCase ∷ r)) (laid_part saying.Otherwise otherwise' ++ (line end' saying.EndCase ∷ s))
-          (stops_part saying.Otherwise saying.EndCase otherwise end r refl refl) (stops_part saying.Otherwise saying.EndCase otherwise' end' s refl refl)
-          (no_case_part saying.Otherwise saying.EndCase otherwise end r refl refl) (no_case_part saying.Otherwise saying.EndCase otherwise' end' s refl refl)
-          (regroup (parts (laid_cases cases) (laid_part saying.Otherwise otherwise) (line end saying.EndCase ∷ []) r) (parts (laid_cases cases') (laid_part saying.Otherwise otherwise') (line end' saying.EndCase ∷ []) s) p.others) in
+      (stops_part saying.Otherwise saying.EndCase otherwise end r refl refl) (stops_part saying.Otherwise saying.EndCase otherwise' end' s refl refl)
+      (no_case_part saying.Otherwise saying.EndCase otherwise end r refl refl) (no_case_part saying.Otherwise saying.EndCase otherwise' end' s refl refl)
+      (regroup (parts (laid_cases cases) (laid_part saying.Otherwise otherwise) (line end saying.EndCase ∷ []) r) (parts (laid_cases cases') (laid_part saying.Otherwise otherwise') (line end' saying.EndCase ∷ []) s) p.others) in
       let t = same_part saying.Otherwise saying.EndCase (λ (i : saying.Otherwise ≡ saying.EndCase). cc) refl otherwise otherwise' end end' r s q.rest in
       let u = parted end end' saying.EndCase saying.EndCase r s t.rest in
       let chosen = q.same in
@@ -148,7 +145,7 @@ mutual
       let number = p.number in
       let condition : e ≡ e' = (let i = p.saying in cc) in
       let q = same_commands body body' (line end saying.EndDo ∷ r) (line end' saying.EndDo ∷ s) refl refl
-          (regroup (append_assoc (laid_in_turn body) (line end saying.EndDo ∷ []) r) (append_assoc (laid_in_turn body') (line end' saying.EndDo ∷ []) s) p.others) in
+      (regroup (append_assoc (laid_in_turn body) (line end saying.EndDo ∷ []) r) (append_assoc (laid_in_turn body') (line end' saying.EndDo ∷ []) s) p.others) in
       let u = parted end end' saying.EndDo saying.EndDo r s q.rest in
       let bodies = q.same in
       let ends = u.number in
@@ -163,7 +160,7 @@ mutual
       let number = p.number in
       let condition : e ≡ e' = (let i = p.saying in cc) in
       let q = same_commands body body' (line end saying.EndScan ∷ r) (line end' saying.EndScan ∷ s) refl refl
-          (regroup (append_assoc (laid_in_turn body) (line end saying.EndScan ∷ []) r) (append_assoc (laid_in_turn body') (line end' saying.EndScan ∷ []) s) p.others) in
+      (regroup (append_assoc (laid_in_turn body) (line end saying.EndScan ∷ []) r) (append_assoc (laid_in_turn body') (line end' saying.EndScan ∷ []) s) p.others) in
       let u = parted end end' saying.EndScan saying.EndScan r s q.rest in
       let bodies = q.same in
       let ends = u.number in
@@ -189,7 +186,7 @@ mutual
       let number = t.number in
       let condition : e ≡ e' = (let k = t.saying in cc) in
       let x = same_commands body body' (laid_cases others ++ r) (laid_cases others' ++ s) (stops_cases others r p) (stops_cases others' s q)
-          (regroup (append_assoc (laid_in_turn body) (laid_cases others) r) (append_assoc (laid_in_turn body') (laid_cases others') s) t.others) in
+      (regroup (append_assoc (laid_in_turn body) (laid_cases others) r) (append_assoc (laid_in_turn body') (laid_cases others') s) t.others) in
       let y = same_cases others others' r s p q i j x.rest in
       let bodies = x.same in
       let further = y.same in

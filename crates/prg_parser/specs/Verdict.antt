@@ -1,6 +1,6 @@
 -- Which fault of a file is told.
 
-use Rattle.std.specs.Prelude.{◌≡◌, ℕ, List, [], ◌∷◌, Option, Some, None, if◌then◌else◌, slice_get, option_map, ◌≤◌}
+use Rattle.std.specs.Prelude.{ℕ, List, [], ◌∷◌, Option, Some, None, if◌then◌else◌, slice_get, option_map, ◌≤◌}
 use Rattle.prg_expr.specs.declared.fault.FaultKind.{FaultKind}
 use Rattle.prg_expr.specs.declared.fault.FaultKind.TheVariants.{Block}
 use Rattle.prg_expr.specs.declared.fault.ParseFault.{ParseFault}
