@@ -1,5 +1,5 @@
 -- What an index lists, by the laws of lists in order.
-use Rattle.std.proofs.Common.{◌≡◌, ℕ, zero, suc, ◌+◌, ◌-◌, ◌<◌, ◌≤◌, inl, inr, Bool, true, false, List, [], ◌∷◌, ◌++◌, length, get_or, take, drop, set, refl, sym, ap, ◌∙◌, subst, arith, length-append}
+use Rattle.std.proofs.Common.{◌≡◌, ℕ, zero, suc, ◌+◌, ◌<◌, ◌≤◌, List, [], ◌∷◌, ◌++◌, length, get_or, take, drop, set, refl, sym, ap, ◌∙◌, subst, arith, add-one}
 use Rattle.std.specs.List.{Contains}
 use Rattle.dbf_file.specs.Rows.{Row, row_at, no_row}
 use Rattle.ndx_tree.specs.Order.{Each, IsAscending, IsDistinct, in_order, inserted, without}
@@ -170,3 +170,22 @@ index_lists order law parts rows = record {
   changed = λ r row lt. index_list-set law parts rows r lt row;
   out = λ r key lt. not_left law parts rows r lt order key;
 }
+
+-- ---- a list made row by row
+
+take-more : {X : Type 0} (xs : List X) (k : ℕ) (d : X) → k < length xs → take (suc k) xs ≡ take k xs ++ get_or xs k d ∷ []
+take-more [] k d within = absurd (omega arith)
+take-more (x ∷ xs) zero d within = refl
+take-more (x ∷ xs) (suc k) d within = ap (λ ys. x ∷ ys) (take-more xs k d (omega arith))
+
+pub pairs_more : (parts : List KeyPart) (rows : List Row) (r : ℕ) → r < length rows → row_pairs parts 1 (take (r + 1) rows) ≡ row_pairs parts 1 (take r rows) ++ row_pair parts rows r ∷ []
+unfolding row_pair
+pairs_more parts rows r lt =
+    ap (λ n. row_pairs parts 1 (take n rows)) (add-one r)
+    ∙ ap (row_pairs parts 1) (take-more rows r no_row lt)
+    ∙ row_pairs-append parts 1 (take r rows) (row_at rows r ∷ [])
+    ∙ ap (λ n. row_pairs parts 1 (take r rows) ++ (key_of parts (row_at rows r).texts, n) ∷ []) {x = 1 + length (take r rows)} {y = r + 1} (omega (arith, length_take rows r lt))
+
+pub listed_by : (parts : List KeyPart) (rows : List Row) (pairs entries : List Pair) → pairs ≡ in_order is_before entries → entries ≡ row_pairs parts 1 rows → pairs ≡ index_list parts rows
+unfolding index_list
+listed_by parts rows pairs entries e f = e ∙ ap (in_order is_before) f

@@ -1,5 +1,5 @@
 -- What an index lists, and what a change of the rows does to it.
-use Rattle.std.specs.Prelude.{◌≡◌, ℕ, ◌+◌, ◌<◌, ◌≤◌, ◌↔◌, List, [], ◌∷◌, ◌++◌, length, slice_index_or, slice_set, All, Contains}
+use Rattle.std.specs.Prelude.{◌≡◌, ℕ, ◌+◌, ◌<◌, ◌≤◌, List, [], ◌∷◌, ◌++◌, length, slice_index_or, slice_set, All, Contains}
 use Rattle.dbf_file.specs.Rows.{Row, row_at}
 use Rattle.dbf_file.specs.Tables.{StructureState, row_widths}
 use Rattle.ndx_tree.specs.KeyForm.{KeyForm}

@@ -9,7 +9,11 @@
 //! What follows of these lists from their definition is in `laws`.
 #![tactic(auto)]
 
+pub mod building;
+pub mod index;
 pub mod laws;
 pub mod parts;
 
+pub use building::build;
+pub use index::{Index, append, replace};
 pub use parts::{KeyPart, KeyParts};

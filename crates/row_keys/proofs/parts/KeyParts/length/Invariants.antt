@@ -1,4 +1,4 @@
-use Rattle.std.proofs.Common.{◌≡◌, ◌≤◌, ◌+◌, length}
+use Rattle.std.proofs.Common.{◌≡◌, ◌+◌, length}
 use Rattle.std.specs.List.{AllByRecursion}
 use Rattle.dbf_file.specs.Tables.{row_widths}
 use Rattle.row_keys.specs.Keys.{IsTextField, key_length}

@@ -1,4 +1,4 @@
-use Rattle.std.proofs.Common.{◌≡◌, ◌≤◌, ◌+◌, ◌++◌, length}
+use Rattle.std.proofs.Common.{◌≡◌, ◌+◌, ◌++◌, length}
 use Rattle.std.specs.List.{AllByRecursion}
 use Rattle.dbf_file.specs.Rows.{row_at}
 use Rattle.dbf_file.specs.Tables.{row_widths}
