@@ -1,7 +1,7 @@
 -- What an index lists, by the laws of lists in order.
-use Rattle.std.proofs.Common.{◌≡◌, ℕ, zero, suc, ◌+◌, ◌<◌, ◌≤◌, List, [], ◌∷◌, ◌++◌, length, get_or, take, drop, set, refl, sym, ap, ◌∙◌, subst, arith, add-one}
+use Rattle.std.proofs.Common.{◌≡◌, ℕ, zero, suc, ◌+◌, ◌<◌, ◌≤◌, Bool, List, [], ◌∷◌, ◌++◌, length, get_or, take, drop, set, refl, sym, ap, ◌∙◌, subst, arith, add-one}
 use Rattle.std.specs.List.{Contains}
-use Rattle.dbf_file.specs.Rows.{Row, row_at, no_row}
+use Rattle.dbf_file.specs.Rows.{Row, row_at, no_row, with_mark}
 use Rattle.ndx_tree.specs.Order.{Each, IsAscending, IsDistinct, in_order, inserted, without}
 use Rattle.ndx_tree.specs.Pairs.{Pair, is_before}
 use Rattle.ndx_tree.specs.Laws.{PutsInOrder, ChangesRows}
@@ -159,6 +159,17 @@ module _ (law : RowsLaw) (parts : List KeyPart) (rows : List Row) (i : ℕ) (lt 
       absent-Each (pairs_before ++ pairs_after) (key, i + 1) (apart key)
       (((order (pairs_before ++ pairs_after)).members (key, i + 1)).0 (subst (λ ps. Contains ps (key, i + 1)) gone there))
 
+-- rows with other marks have the same pairs
+row_pairs-set : (parts : List KeyPart) (n : ℕ) (rows : List Row) (r : ℕ) (row : Row) → row.texts ≡ (row_at rows r).texts → row_pairs parts n (set rows r row) ≡ row_pairs parts n rows
+row_pairs-set parts n [] zero row e = refl
+row_pairs-set parts n [] (suc r) row e = refl
+row_pairs-set parts n (x ∷ rows) zero row e = ap (λ ts. (key_of parts ts, n) ∷ row_pairs parts (n + 1) rows) e
+row_pairs-set parts n (x ∷ rows) (suc r) row e = ap (λ ps. (key_of parts x.texts, n) ∷ ps) (row_pairs-set parts (n + 1) rows r row e)
+
+index_list-marked : (parts : List KeyPart) (rows : List Row) (r : ℕ) (mark : Bool) → index_list parts (with_mark rows r mark) ≡ index_list parts rows
+unfolding index_list
+index_list-marked parts rows r mark = ap (in_order is_before) (row_pairs-set parts 1 rows r (record { marked = mark; texts = (row_at rows r).texts }) refl)
+
 -- all of it
 pub index_lists : OrderLaw → RowsLaw → (parts : List KeyPart) (rows : List Row) → IsIndexList parts rows
 index_lists order law parts rows = record {
@@ -168,6 +179,7 @@ index_lists order law parts rows = record {
   count = count order parts rows;
   added = index_list-push law parts rows;
   changed = λ r row lt. index_list-set law parts rows r lt row;
+  marked = index_list-marked parts rows;
   out = λ r key lt. not_left law parts rows r lt order key;
 }
 

@@ -1,6 +1,6 @@
 -- What an index lists, and what a change of the rows does to it.
-use Rattle.std.specs.Prelude.{◌≡◌, ℕ, ◌+◌, ◌<◌, ◌≤◌, List, [], ◌∷◌, ◌++◌, length, slice_index_or, slice_set, All, Contains}
-use Rattle.dbf_file.specs.Rows.{Row, row_at}
+use Rattle.std.specs.Prelude.{◌≡◌, ℕ, Bool, ◌+◌, ◌<◌, ◌≤◌, List, [], ◌∷◌, ◌++◌, length, slice_index_or, slice_set, All, Contains}
+use Rattle.dbf_file.specs.Rows.{Row, row_at, with_mark}
 use Rattle.dbf_file.specs.Tables.{StructureState, row_widths}
 use Rattle.ndx_tree.specs.KeyForm.{KeyForm}
 use Rattle.ndx_tree.specs.Order.{IsAscending, inserted, without, in_order}
@@ -35,6 +35,8 @@ pub record IsIndexList (parts : List KeyPart) (rows : List Row) : Type 0 where
   pub changed : (r : ℕ) (row : Row) → r < length rows → index_list parts (slice_set rows r row) ≡ inserted is_before (key_of parts row.texts, r + 1) (without is_before (row_pair parts rows r) (index_list parts rows))
   -- while it is out, no pair has its number
   pub out : (r : ℕ) (key : List ℕ) → r < length rows → Contains (without is_before (row_pair parts rows r) (index_list parts rows)) (key, r + 1) → ⊥
+  -- a mark doesn't count
+  pub marked : (r : ℕ) (mark : Bool) → index_list parts (with_mark rows r mark) ≡ index_list parts rows
 
 -- ---- indexes
 

@@ -1,20 +1,19 @@
 //! Indexes, and their changes with a table's rows.
 
-ghost use Rattle.std.specs.Prelude.{◌≡◌, ℕ, ◌+◌, ◌<◌, ◌≤◌, ◌^◌, ◌∷◌, [], ◌++◌, List, All, Contains, OnOk, OnErr, IfOk, length, slice_index};
+ghost use Rattle.std.specs.Prelude.{◌≡◌, ℕ, ◌+◌, ◌<◌, ◌≤◌, ◌^◌, ◌∷◌, [], ◌++◌, List, All, Contains, OnOk, OnErr, length, reverse, slice_index};
 ghost use Rattle.dbf_file.specs.Rows.{blank_row, with_text};
 ghost use Rattle.dbf_file.specs.Tables.{row_widths, letter_at, decimals_at};
 ghost use Rattle.dbf_file.specs.Values.{kind_for, text_by};
-ghost use Rattle.ndx_tree.specs.KeyForm.{IsKeyText, IsPairOf};
-ghost use Rattle.ndx_tree.specs.Order.{Each};
-ghost use Rattle.row_keys.specs.Keys.{IsKey, key_length};
-ghost use Rattle.row_keys.specs.Lists.{row_pairs, row_pair, IsIndexOf, IsExact, ChangedBy, IsSameIndex, IsAsBefore, HasAdded, HasRemoved, HaveRoom};
+ghost use Rattle.ndx_tree.specs.Order.{above, below, first};
+ghost use Rattle.ndx_tree.specs.Pairs.{is_before, pairs_from};
+ghost use Rattle.row_keys.specs.Lists.{row_pair, IsIndexOf, IsExact, ChangedBy, IsSameIndex, IsAsBefore, HasAdded, HasRemoved, HaveRoom};
 ghost use Rattle.xvalue.specs.Kinds.{kind_of};
 
 use crate::laws::index_lists;
 use crate::parts::KeyParts;
 use dbf_file::Table;
 use ndx_tree::{Entry, KeyList};
-use std::alloc::{AllocError, Global};
+use std::alloc::AllocError;
 use std::marker::Model;
 use xvalue::Value;
 
@@ -55,6 +54,53 @@ impl<K: KeyList> Index<K> {
         ensures spare { K.spare result.now ≡ self.now.spare }
     {
         &self.list
+    }
+
+    /// How many pairs there are.
+    pub fn len(&self) -> usize
+        ensures { result ≡ length self.now.pairs }
+    {
+        self.list.len()
+    }
+
+    /// The least pair.
+    pub fn first(&mut self) -> Option<Entry>
+        ensures found { result ≡ first self.old.pairs }
+        ensures same { self.new ≡ self.old }
+    {
+        self.list.first()
+    }
+
+    /// The greatest pair.
+    pub fn last(&mut self) -> Option<Entry>
+        ensures found { result ≡ first (reverse self.old.pairs) }
+        ensures same { self.new ≡ self.old }
+    {
+        self.list.last()
+    }
+
+    /// The least pair whose key isn't below the key.
+    pub fn first_from(&mut self, key: &[u8]) -> Option<Entry>
+        ensures found { result ≡ first (pairs_from key.now self.old.pairs) }
+        ensures same { self.new ≡ self.old }
+    {
+        self.list.first_from(key)
+    }
+
+    /// The least pair above this one, which need not be in the list.
+    pub fn after(&mut self, key: &[u8], number: u32) -> Option<Entry>
+        ensures found { result ≡ first (above is_before (key.now, number) self.old.pairs) }
+        ensures same { self.new ≡ self.old }
+    {
+        self.list.after(key, number)
+    }
+
+    /// The greatest pair below this one, which need not be in the list.
+    pub fn before(&mut self, key: &[u8], number: u32) -> Option<Entry>
+        ensures found { result ≡ first (below is_before (key.now, number) self.old.pairs) }
+        ensures same { self.new ≡ self.old }
+    {
+        self.list.before(key, number)
     }
 
     /// Makes room for one more pair.

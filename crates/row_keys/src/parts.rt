@@ -80,9 +80,9 @@ impl KeyParts {
         let fields = table.structure().fields();
         let mut length = 0;
         let mut rest = self.parts();
-        while let Some((part, others)) = rest.split_first() {
+        while let Some((part, more)) = rest.split_first() {
             length += usize::from(fields[part.field].width);
-            rest = others;
+            rest = more;
         }
         length
     }
