@@ -1,13 +1,16 @@
 -- What an index lists, by the laws of lists in order.
-use Rattle.std.proofs.Common.{◌≡◌, ℕ, zero, suc, ◌+◌, ◌<◌, ◌≤◌, Bool, List, [], ◌∷◌, ◌++◌, length, get_or, take, drop, set, refl, sym, ap, ◌∙◌, subst, arith, add-one}
+use Rattle.std.proofs.Common.{◌≡◌, ℕ, zero, suc, ◌+◌, ◌<◌, ◌≤◌, Bool, true, false, cond, List, [], ◌∷◌, ◌++◌, length, get_or, take, drop, set, refl, sym, ap, ◌∙◌, subst, arith}
 use Rattle.std.specs.List.{Contains}
+use Rattle.std.proofs.lemmas.List.Elements.{filter_more}
 use Rattle.dbf_file.specs.Rows.{Row, row_at, no_row, with_mark}
 use Rattle.ndx_tree.specs.Order.{Each, IsAscending, IsDistinct, in_order, inserted, without}
 use Rattle.ndx_tree.specs.Pairs.{Pair, is_before}
 use Rattle.ndx_tree.specs.Laws.{PutsInOrder, ChangesRows}
+use Rattle.row_keys.specs.declared.building.Kept.{Kept}
+use Rattle.row_keys.specs.declared.building.Kept.TheVariants.{Every, Nothing}
 use Rattle.row_keys.specs.declared.parts.KeyPart.{KeyPart}
 use Rattle.row_keys.specs.Keys.{key_of}
-use Rattle.row_keys.specs.Lists.{row_pairs, index_list, row_pair, IsIndexList}
+use Rattle.row_keys.specs.Lists.{row_pairs, index_list, row_pair, is_kept, kept_rows, IsIndexList}
 
 abbrev pub OrderLaw : Type 0
 OrderLaw = (pairs : List Pair) → PutsInOrder pairs
@@ -185,18 +188,31 @@ index_lists order law parts rows = record {
 
 -- ---- a list made row by row
 
-take-more : {X : Type 0} (xs : List X) (k : ℕ) (d : X) → k < length xs → take (suc k) xs ≡ take k xs ++ get_or xs k d ∷ []
-take-more [] k d within = absurd (omega arith)
-take-more (x ∷ xs) zero d within = refl
-take-more (x ∷ xs) (suc k) d within = ap (λ ys. x ∷ ys) (take-more xs k d (omega arith))
+kept_more : (kept : Kept) (rows : List Row) (r : ℕ) → r < length rows → kept_rows kept (take (r + 1) rows) ≡ kept_rows kept (take r rows) ++ cond (is_kept kept (row_at rows r)) (row_at rows r ∷ []) []
+kept_more kept rows r lt = filter_more (is_kept kept) rows r no_row lt
 
-pub pairs_more : (parts : List KeyPart) (rows : List Row) (r : ℕ) → r < length rows → row_pairs parts 1 (take (r + 1) rows) ≡ row_pairs parts 1 (take r rows) ++ row_pair parts rows r ∷ []
-unfolding row_pair
-pairs_more parts rows r lt =
-    ap (λ n. row_pairs parts 1 (take n rows)) (add-one r)
-    ∙ ap (row_pairs parts 1) (take-more rows r no_row lt)
-    ∙ row_pairs-append parts 1 (take r rows) (row_at rows r ∷ [])
-    ∙ ap (λ n. row_pairs parts 1 (take r rows) ++ (key_of parts (row_at rows r).texts, n) ∷ []) {x = 1 + length (take r rows)} {y = r + 1} (omega (arith, length_take rows r lt))
+-- a row that is kept has the next number
+pub pairs_more : (parts : List KeyPart) (kept : Kept) (rows : List Row) (r n : ℕ) → r < length rows → n ≡ length (row_pairs parts 1 (kept_rows kept (take r rows))) + 1
+    → row_pairs parts 1 (kept_rows kept (take (r + 1) rows)) ≡ row_pairs parts 1 (kept_rows kept (take r rows)) ++ cond (is_kept kept (row_at rows r)) ((key_of parts (row_at rows r).texts, n) ∷ []) []
+pairs_more parts kept rows r n lt count =
+    let before = kept_rows kept (take r rows) in
+    ap (row_pairs parts 1) (kept_more kept rows r lt)
+    ∙ row_pairs-append parts 1 before (cond (is_kept kept (row_at rows r)) (row_at rows r ∷ []) [])
+    ∙ elim (is_kept kept (row_at rows r)) as (λ b. row_pairs parts 1 before ++ row_pairs parts (1 + length before) (cond b (row_at rows r ∷ []) []) ≡ row_pairs parts 1 before ++ cond b ((key_of parts (row_at rows r).texts, n) ∷ []) []) [
+      | true ↦ ap (λ m. row_pairs parts 1 before ++ (key_of parts (row_at rows r).texts, m) ∷ []) {x = 1 + length before} {y = n} (omega (arith, count, length-row_pairs parts 1 before))
+      | false ↦ refl
+    ]
+
+pub each_push : (P : Pair → Type 0) (pairs : List Pair) (p : Pair) → Each P pairs → P p → Each P (pairs ++ p ∷ [])
+each_push P pairs p each here = Each-append P pairs (p ∷ []) each (here, tt)
+
+pub kept_all : (rows : List Row) → kept_rows Every rows ≡ rows
+kept_all [] = refl
+kept_all (row ∷ rows) = ap (λ rs. row ∷ rs) (kept_all rows)
+
+pub kept_nothing : (rows : List Row) → kept_rows Nothing rows ≡ []
+kept_nothing [] = refl
+kept_nothing (row ∷ rows) = kept_nothing rows
 
 pub listed_by : (parts : List KeyPart) (rows : List Row) (pairs entries : List Pair) → pairs ≡ in_order is_before entries → entries ≡ row_pairs parts 1 rows → pairs ≡ index_list parts rows
 unfolding index_list

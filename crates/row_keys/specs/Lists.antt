@@ -1,10 +1,12 @@
 -- What an index lists, and what a change of the rows does to it.
-use Rattle.std.specs.Prelude.{◌≡◌, ℕ, Bool, ◌+◌, ◌<◌, ◌≤◌, List, [], ◌∷◌, ◌++◌, length, slice_index_or, slice_set, All, Contains}
+use Rattle.std.specs.Prelude.{◌≡◌, ℕ, Bool, ◌+◌, ◌<◌, ◌≤◌, List, [], ◌∷◌, ◌++◌, length, slice_index_or, slice_set, All, Contains, filter, true, false, not}
 use Rattle.dbf_file.specs.Rows.{Row, row_at, with_mark}
 use Rattle.dbf_file.specs.Tables.{StructureState, row_widths}
-use Rattle.ndx_tree.specs.KeyForm.{KeyForm}
+use Rattle.ndx_tree.specs.KeyForm.{KeyForm, IsKeyText}
 use Rattle.ndx_tree.specs.Order.{IsAscending, inserted, without, in_order}
 use Rattle.ndx_tree.specs.Pairs.{Pair, is_before}
+use Rattle.row_keys.specs.declared.building.Kept.{Kept}
+use Rattle.row_keys.specs.declared.building.Kept.TheVariants.{Every, Unmarked, Nothing}
 use Rattle.row_keys.specs.declared.parts.KeyPart.{KeyPart}
 use Rattle.row_keys.specs.Keys.{IsKey, key_of, key_length}
 
@@ -20,6 +22,16 @@ index_list parts rows = in_order is_before (row_pairs parts 1 rows)
 -- the pair of row r, counted from 0
 unfoldable pub row_pair : List KeyPart → List Row → ℕ → Pair
 row_pair parts rows r = (key_of parts (row_at rows r).texts, r + 1)
+
+-- whether a row is kept
+abbrev pub is_kept : Kept → Row → Bool
+is_kept Every row = true
+is_kept Unmarked row = not row.marked
+is_kept Nothing row = false
+
+-- the rows that are kept, in their order
+abbrev pub kept_rows : Kept → List Row → List Row
+kept_rows kept rows = filter (is_kept kept) rows
 
 -- what follows of the list for every key and all rows
 pub record IsIndexList (parts : List KeyPart) (rows : List Row) : Type 0 where
@@ -52,6 +64,7 @@ pub record IndexState : Type 0 where
 pub record IsIndexOf (structure : StructureState) (index : IndexState) : Type 0 where
   pub key : IsKey structure index.parts
   pub length : index.form.key_length ≡ key_length index.parts (row_widths structure)
+  pub text : IsKeyText index.form.key_text
 
 -- it lists the rows
 pub record IsExact (structure : StructureState) (rows : List Row) (index : IndexState) : Type 0 where

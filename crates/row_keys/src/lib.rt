@@ -14,6 +14,6 @@ pub mod index;
 pub mod laws;
 pub mod parts;
 
-pub use building::build;
+pub use building::{build, clear, pack};
 pub use index::{Index, append, replace};
 pub use parts::{KeyPart, KeyParts};

@@ -49,6 +49,13 @@ impl KeyParts {
         KeyParts { parts: copy }
     }
 
+    /// The same key again.
+    pub fn copied(&self) -> Self
+        ensures { result ≡ self.now }
+    {
+        KeyParts::new(self.parts.as_slice())
+    }
+
     /// The parts, in their order.
     pub fn parts(&self) -> &[KeyPart]
         ensures { result.now ≡ self.now }
