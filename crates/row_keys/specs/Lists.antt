@@ -1,0 +1,102 @@
+-- What an index lists, and what a change of the rows does to it.
+use Rattle.std.specs.Prelude.{◌≡◌, ℕ, Bool, ◌+◌, ◌<◌, ◌≤◌, List, [], ◌∷◌, ◌++◌, length, slice_index_or, slice_set, All, Contains, filter, true, false, not}
+use Rattle.dbf_file.specs.Rows.{Row, row_at, with_mark}
+use Rattle.dbf_file.specs.Tables.{StructureState, row_widths}
+use Rattle.ndx_tree.specs.KeyForm.{KeyForm, IsKeyText}
+use Rattle.ndx_tree.specs.Order.{IsAscending, inserted, without, in_order}
+use Rattle.ndx_tree.specs.Pairs.{Pair, is_before}
+use Rattle.row_keys.specs.declared.building.Kept.{Kept}
+use Rattle.row_keys.specs.declared.building.Kept.TheVariants.{Every, Unmarked, Nothing}
+use Rattle.row_keys.specs.declared.parts.KeyPart.{KeyPart}
+use Rattle.row_keys.specs.Keys.{IsKey, key_of, key_length}
+
+-- the pair of each row, in the order of the records, the first of them with this number
+abbrev pub row_pairs : List KeyPart → ℕ → List Row → List Pair
+row_pairs parts n [] = []
+row_pairs parts n (row ∷ rows) = (key_of parts row.texts, n) ∷ row_pairs parts (n + 1) rows
+
+-- what an index over the rows lists: the pair of each, marked or not, in order
+unfoldable pub index_list : List KeyPart → List Row → List Pair
+index_list parts rows = in_order is_before (row_pairs parts 1 rows)
+
+-- the pair of row r, counted from 0
+unfoldable pub row_pair : List KeyPart → List Row → ℕ → Pair
+row_pair parts rows r = (key_of parts (row_at rows r).texts, r + 1)
+
+-- whether a row is kept
+abbrev pub is_kept : Kept → Row → Bool
+is_kept Every row = true
+is_kept Unmarked row = not row.marked
+is_kept Nothing row = false
+
+-- the rows that are kept, in their order
+abbrev pub kept_rows : Kept → List Row → List Row
+kept_rows kept rows = filter (is_kept kept) rows
+
+-- what follows of the list for every key and all rows
+pub record IsIndexList (parts : List KeyPart) (rows : List Row) : Type 0 where
+  -- keys rise, and records of one key
+  pub ordered : IsAscending is_before (index_list parts rows)
+  -- each row is listed, and nothing else
+  pub listed : (r : ℕ) → r < length rows → Contains (index_list parts rows) (row_pair parts rows r)
+  pub only : (key : List ℕ) (n : ℕ) → Contains (index_list parts rows) (key, n) → (r : ℕ) × (r < length rows) × ((key, n) ≡ row_pair parts rows r)
+  pub count : length (index_list parts rows) ≡ length rows
+  -- a row at the end goes in
+  pub added : (row : Row) → index_list parts (rows ++ row ∷ []) ≡ inserted is_before (key_of parts row.texts, length rows + 1) (index_list parts rows)
+  -- a row that changes goes out and in again
+  pub changed : (r : ℕ) (row : Row) → r < length rows → index_list parts (slice_set rows r row) ≡ inserted is_before (key_of parts row.texts, r + 1) (without is_before (row_pair parts rows r) (index_list parts rows))
+  -- while it is out, no pair has its number
+  pub out : (r : ℕ) (key : List ℕ) → r < length rows → Contains (without is_before (row_pair parts rows r) (index_list parts rows)) (key, r + 1) → ⊥
+  -- a mark doesn't count
+  pub marked : (r : ℕ) (mark : Bool) → index_list parts (with_mark rows r mark) ≡ index_list parts rows
+
+-- ---- indexes
+
+-- what callers see of an index: its key's parts, the pairs that it lists, what its keys look like, and for how many more pairs
+-- there is room
+pub record IndexState : Type 0 where
+  pub parts : List KeyPart
+  pub pairs : List Pair
+  pub form : KeyForm
+  pub spare : ℕ
+
+-- an index of a table of this structure
+pub record IsIndexOf (structure : StructureState) (index : IndexState) : Type 0 where
+  pub key : IsKey structure index.parts
+  pub length : index.form.key_length ≡ key_length index.parts (row_widths structure)
+  pub text : IsKeyText index.form.key_text
+
+-- it lists the rows
+pub record IsExact (structure : StructureState) (rows : List Row) (index : IndexState) : Type 0 where
+  pub sound : IsIndexOf structure index
+  pub pairs : index.pairs ≡ index_list index.parts rows
+
+-- each index has become one that stands so to what it was
+pub record ChangedBy (R : IndexState → IndexState → Type 0) (old new : List IndexState) : Type 0 where
+  pub count : length new ≡ length old
+  pub each : (i : ℕ) (d : IndexState) → i < length old → R (slice_index_or old i d) (slice_index_or new i d)
+
+-- keys are made as before
+pub record IsSameIndex (old new : IndexState) : Type 0 where
+  pub parts : new.parts ≡ old.parts
+  pub form : new.form ≡ old.form
+
+-- as it was, but for its room
+pub record IsAsBefore (old new : IndexState) : Type 0 where
+  pub same : IsSameIndex old new
+  pub pairs : new.pairs ≡ old.pairs
+
+-- the pair of row r put in
+pub record HasAdded (rows : List Row) (r : ℕ) (old new : IndexState) : Type 0 where
+  pub same : IsSameIndex old new
+  pub pairs : new.pairs ≡ inserted is_before (row_pair old.parts rows r) old.pairs
+
+-- the pair of row r taken out
+pub record HasRemoved (rows : List Row) (r : ℕ) (old new : IndexState) : Type 0 where
+  pub same : IsSameIndex old new
+  pub pairs : new.pairs ≡ without is_before (row_pair old.parts rows r) old.pairs
+  pub room : old.spare ≤ new.spare
+
+-- each index has room for one more pair
+abbrev pub HaveRoom : List IndexState → Type 0
+HaveRoom indexes = All (λ index. 0 < index.spare) indexes

@@ -1,0 +1,212 @@
+//! Indexes made anew from a table's rows.
+
+ghost use Rattle.std.specs.Prelude.{◌≡◌, ℕ, ◌+◌, ◌≤◌, ◌<◌, ◌∷◌, [], ◌++◌, if◌then◌else◌, All, IfOk, OnOk, OnErr, length};
+ghost use Rattle.dbf_file.specs.Rows.{row_at, unmarked};
+ghost use Rattle.dbf_file.specs.Tables.{row_widths};
+ghost use Rattle.ndx_tree.specs.KeyForm.{IsKeyText, IsPairOf};
+ghost use Rattle.ndx_tree.specs.Order.{Each};
+ghost use Rattle.row_keys.specs.Keys.{IsKey, key_of, key_length};
+ghost use Rattle.row_keys.specs.Lists.{row_pairs, is_kept, kept_rows, IsIndexOf, IsExact, IsSameIndex, ChangedBy};
+
+use crate::index::Index;
+use crate::parts::KeyParts;
+use dbf_file::Table;
+use ndx_tree::{Entry, KeyList};
+use std::alloc::{AllocError, Global};
+
+/// Which rows of a table are kept.
+#[derive(Clone, Copy, Debug, PartialEq, Eq)]
+enum Kept {
+    Every,
+    Unmarked,
+    Nothing,
+}
+
+/// Whether row `r`, counted from 0, is kept.
+fn keeps(kept: Kept, table: &Table, r: usize) -> bool
+    requires { r < length table.now.rows }
+    ensures { result ≡ is_kept kept (row_at table.now.rows r) }
+{
+    match kept {
+        Kept::Every => true,
+        Kept::Unmarked => !table.mark(r),
+        Kept::Nothing => false,
+    }
+}
+
+/// The key of row `r`, counted from 0, with a number.
+fn entry_of(table: &Table, key: &KeyParts, r: usize, number: u32) -> Entry
+    requires row { r < length table.now.rows }
+    requires number { 1 ≤ number }
+    requires key { IsKey table.now.structure key.now }
+    ensures pair { result ≡ (key_of key.now (row_at table.now.rows r).texts, number) }
+    ensures key { IsPairOf (key_length key.now (row_widths table.now.structure)) result }
+{
+    let text = key.row_key(table, r);
+    Entry::new(text.as_slice(), number)
+}
+
+/// Puts the key of row `r`, counted from 0, with the next number behind the others, if the row is kept.
+fn put_row(
+    entries: &mut Vec<Entry>,
+    table: &Table,
+    key: &KeyParts,
+    kept: Kept,
+    r: usize,
+) -> Result<(), AllocError>
+    requires row { r < length table.now.rows }
+    requires few { length entries.old.items < 1000000 }
+    requires key { IsKey table.now.structure key.now }
+    ensures pairs { OnOk result (entries.new.items ≡ entries.old.items
+        ++ (if is_kept kept (row_at table.now.rows r) then (key_of key.now (row_at table.now.rows r).texts, length entries.old.items + 1) ∷ [] else [])) }
+    ensures keys { OnOk result (Each (IsPairOf (key_length key.now (row_widths table.now.structure))) entries.old.items
+        → Each (IsPairOf (key_length key.now (row_widths table.now.structure))) entries.new.items) }
+    ensures few { OnOk result (length entries.new.items ≤ length entries.old.items + 1) }
+{
+    if !keeps(kept, table, r) {
+        return Ok(());
+    }
+    let number = entries.len() as u32 + 1;
+    entries.push(entry_of(table, key, r, number))?;
+    Ok(())
+}
+
+/// The pair of each row that is kept, numbered from 1 in the order of the records.
+fn entries_of(
+    alloc: Global,
+    table: &Table,
+    key: &KeyParts,
+    kept: Kept,
+) -> Result<Vec<Entry>, AllocError>
+    requires few { length table.now.rows ≤ 1000000 }
+    requires key { IsKey table.now.structure key.now }
+    ensures pairs { IfOk result (λ entries. entries.items ≡ row_pairs key.now 1 (kept_rows kept table.now.rows)) }
+    ensures keys { IfOk result (λ entries. Each (IsPairOf (key_length key.now (row_widths table.now.structure))) entries.items) }
+    ensures few { IfOk result (λ entries. length entries.items ≤ length table.now.rows) }
+{
+    let mut entries = Vec::new(alloc);
+    for r in 0..table.rows() {
+        put_row(&mut entries, table, key, kept, r)?;
+    }
+    Ok(entries)
+}
+
+/// An index of the rows that are kept.
+fn build_of<K: KeyList>(
+    alloc: Global,
+    table: &Table,
+    key: KeyParts,
+    key_text: &[u8],
+    kept: Kept,
+) -> Result<Index<K>, AllocError>
+    requires few { length table.now.rows ≤ 1000000 }
+    requires key { IsKey table.now.structure key }
+    requires key_text { IsKeyText key_text.now }
+    ensures exact { IfOk result (λ index. IsExact table.now.structure (kept_rows kept table.now.rows) index) }
+    ensures parts { IfOk result (λ index. index.parts ≡ key) }
+    ensures key_text { IfOk result (λ index. index.form.key_text ≡ key_text.now) }
+{
+    let length = key.length(table);
+    let entries = entries_of(alloc, table, &key, kept)?;
+    let list = K::rebuild(alloc, length, key_text, entries)?;
+    Ok(Index::new(key, list))
+}
+
+/// An index of a table made anew: it lists the rows. `key_text` (at most 100 bytes, none of them zero) says how the keys
+/// are made.
+pub fn build<K: KeyList>(
+    alloc: Global,
+    table: &Table,
+    key: KeyParts,
+    key_text: &[u8],
+) -> Result<Index<K>, AllocError>
+    requires few { length table.now.rows ≤ 1000000 }
+    requires key { IsKey table.now.structure key }
+    requires key_text { IsKeyText key_text.now }
+    ensures exact { IfOk result (λ index. IsExact table.now.structure table.now.rows index) }
+    ensures parts { IfOk result (λ index. index.parts ≡ key) }
+    ensures key_text { IfOk result (λ index. index.form.key_text ≡ key_text.now) }
+{
+    build_of(alloc, table, key, key_text, Kept::Every)
+}
+
+/// The indexes once more, of the rows that are kept.
+fn rebuild_all<K: KeyList>(
+    alloc: Global,
+    table: &Table,
+    indexes: &Vec<Index<K>>,
+    kept: Kept,
+) -> Result<Vec<Index<K>>, AllocError>
+    requires few { length table.now.rows ≤ 1000000 }
+    requires sound { All (IsIndexOf table.now.structure) indexes.now.items }
+    ensures same { IfOk result (λ fresh. ChangedBy IsSameIndex indexes.now.items fresh.items) }
+    ensures exact { IfOk result (λ fresh. All (IsExact table.now.structure (kept_rows kept table.now.rows)) fresh.items) }
+{
+    let mut fresh = Vec::with_capacity(alloc, indexes.len())?;
+    for index in indexes {
+        let made = rebuilt(alloc, table, index, kept)?;
+        fresh.push(made)?;
+    }
+    Ok(fresh)
+}
+
+/// The index once more, of the rows that are kept.
+fn rebuilt<K: KeyList>(
+    alloc: Global,
+    table: &Table,
+    index: &Index<K>,
+    kept: Kept,
+) -> Result<Index<K>, AllocError>
+    requires few { length table.now.rows ≤ 1000000 }
+    requires sound { IsIndexOf table.now.structure index.now }
+    ensures same { IfOk result (λ fresh. IsSameIndex index.now fresh) }
+    ensures exact { IfOk result (λ fresh. IsExact table.now.structure (kept_rows kept table.now.rows) fresh) }
+{
+    build_of(
+        alloc,
+        table,
+        index.key().copied(),
+        index.list().key_text(),
+        kept,
+    )
+}
+
+/// Removes the marked rows, and makes each index anew. Where memory is missing, rows and lists are as they were.
+pub fn pack<K: KeyList>(
+    alloc: Global,
+    table: &mut Table,
+    indexes: &mut Vec<Index<K>>,
+) -> Result<(), AllocError>
+    requires few { length table.old.rows ≤ 1000000 }
+    requires exact { All (IsExact table.old.structure table.old.rows) indexes.old.items }
+    ensures structure { table.new.structure ≡ table.old.structure }
+    ensures ok { OnOk result (table.new.rows ≡ unmarked table.old.rows) }
+    ensures err { OnErr result (table.new.rows ≡ table.old.rows) }
+    ensures same { ChangedBy IsSameIndex indexes.old.items indexes.new.items }
+    ensures exact { All (IsExact table.new.structure table.new.rows) indexes.new.items }
+{
+    let fresh = rebuild_all(alloc, table, indexes, Kept::Unmarked)?;
+    table.pack();
+    *indexes = fresh;
+    Ok(())
+}
+
+/// Removes every row, and empties each index. Where memory is missing, rows and lists are as they were.
+pub fn clear<K: KeyList>(
+    alloc: Global,
+    table: &mut Table,
+    indexes: &mut Vec<Index<K>>,
+) -> Result<(), AllocError>
+    requires few { length table.old.rows ≤ 1000000 }
+    requires exact { All (IsExact table.old.structure table.old.rows) indexes.old.items }
+    ensures structure { table.new.structure ≡ table.old.structure }
+    ensures ok { OnOk result (table.new.rows ≡ []) }
+    ensures err { OnErr result (table.new.rows ≡ table.old.rows) }
+    ensures same { ChangedBy IsSameIndex indexes.old.items indexes.new.items }
+    ensures exact { All (IsExact table.new.structure table.new.rows) indexes.new.items }
+{
+    let fresh = rebuild_all(alloc, table, indexes, Kept::Nothing)?;
+    table.clear();
+    *indexes = fresh;
+    Ok(())
+}
