@@ -83,6 +83,13 @@ impl KindStack {
         all_same(&map.kinds.as_slice()[..known], self.kinds.as_slice())
     }
 
+    /// Whether there is just one, of this kind.
+    pub fn is_one(&self, kind: Kind) -> bool
+        ensures { result ≡ same_kinds (kind ∷ []) self.now }
+    {
+        all_same(&[kind], self.kinds.as_slice())
+    }
+
     /// The same kinds once more.
     pub fn copied(&self, alloc: Global) -> Result<KindStack, AllocError>
         ensures { IfOk result (λ copy. copy ≡ self.now) }

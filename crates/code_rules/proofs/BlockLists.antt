@@ -57,8 +57,8 @@ absent (m ∷ maps) least places place e lt =
     let other : (m.place == place) ≡ false = unlike m.place place (omega arith) in
     let rest : map_in maps place ≡ None = absent maps (m.place + 1) places place a.1 (omega arith) in
     rw (other, rest) refl where
-  unlike : (x y : ℕ) → y < x → (x == y) ≡ false
-  unlike x y lt = grind (arith, nat_tests)
+      unlike : (x y : ℕ) → y < x → (x == y) ≡ false
+      unlike x y lt = grind (arith, nat_tests)
 
 pub found : (maps : List Map) (least places place at : ℕ) → maps_rise least places maps ≡ true
     → ((k : ℕ) (d : Map) → k < at → nat_lt (get_or maps k d).place place ≡ true) → ((k : ℕ) (d : Map) → at ≤ k → k < length maps → nat_lt (get_or maps k d).place place ≡ false)
@@ -67,6 +67,7 @@ found [] least places place at e front rest = refl
 found (m ∷ maps) least places place zero e front rest = here (m.place == place) refl where
   le : place ≤ m.place
   le = not_below m.place place (rest 0 m (omega arith) (omega arith))
+
   here : (b : Bool) → (m.place == place) ≡ b → cond b (Some m.state) (map_in maps place) ≡ cond b (Some m.state) None
   here true f = refl
   here false f = absent maps (m.place + 1) places place (both (nat_le least m.place && nat_lt m.place places) (maps_rise (m.place + 1) places maps) e).1 (differs m.place place f le) where
@@ -77,8 +78,8 @@ found (m ∷ maps) least places place (suc at) e front rest =
     let a = both (nat_le least m.place && nat_lt m.place places) (maps_rise (m.place + 1) places maps) e in
     let more : map_in maps place ≡ found_at place (slice_get maps at) = found maps (m.place + 1) places place at a.1 (λ k d lt. front (suc k) d (omega arith)) (λ k d ge lt. rest (suc k) d (omega arith) (omega arith)) in
     rw other more where
-  below : (x y : ℕ) → nat_lt x y ≡ true → (x == y) ≡ false
-  below x y lt = grind (arith, nat_tests)
+      below : (x y : ℕ) → nat_lt x y ≡ true → (x == y) ≡ false
+      below x y lt = grind (arith, nat_tests)
 
 -- maps that rise are parted by a place
 rise_at : (maps : List Map) (least places k : ℕ) (d : Map) → maps_rise least places maps ≡ true → k < length maps → least ≤ (get_or maps k d).place

@@ -77,7 +77,7 @@ abbrev pub begun : Code → Block → ℕ → State → State
 begun code block place left = if block.first == place then start_of code block.number else left
 
 unfoldable pub incoming_at : Code → ℕ → State
-incoming_at code zero = start_of code 0
+incoming_at code zero = start_of code (block_at code zero).number
 incoming_at code (suc place) = begun code (block_at code (suc place)) (suc place) (flow code (instr_at code place) (or_state (map_at code place) (incoming_at code place)))
 
 unfoldable pub state_at : Code → ℕ → State

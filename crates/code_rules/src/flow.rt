@@ -6,7 +6,9 @@ ghost use Rattle.code_rules.specs.Flow.{just_opened, ordered, filtered, indexed,
 
 use crate::kinds::gives;
 use crate::signature::{Signature, called};
-use code_items::{AreaInstr, AreaState, Code, Desk, Instr, KindSlots, OpenArea, RecordInstr, State, ValueInstr};
+use code_items::{
+    AreaInstr, AreaState, Code, Desk, Instr, KindSlots, OpenArea, RecordInstr, State, ValueInstr,
+};
 use std::alloc::{AllocError, Global};
 
 fn opened(table: u16, list: u32) -> AreaState
@@ -94,12 +96,7 @@ fn leave(code: &Code, instr: Instr, state: &mut State) -> Result<(), AllocError>
     }
 }
 
-fn leave_call(
-    alloc: Global,
-    code: &Code,
-    number: u16,
-    state: &mut State,
-) -> Result<(), AllocError>
+fn leave_call(alloc: Global, code: &Code, number: u16, state: &mut State) -> Result<(), AllocError>
     ensures { OnOk result (state.new ≡ exit_of (slice_get code.now.procedures number) state.old) }
 {
     match code.procedures.as_slice().get(usize::from(number)) {
@@ -113,12 +110,7 @@ fn leave_call(
 
 /// Turns what is known before the instruction into what is known behind it.
 #[tactic(auto, unfolding(crate::specs::Flow::flow))]
-pub fn flow(
-    alloc: Global,
-    code: &Code,
-    instr: Instr,
-    state: &mut State,
-) -> Result<(), AllocError>
+pub fn flow(alloc: Global, code: &Code, instr: Instr, state: &mut State) -> Result<(), AllocError>
     ensures { OnOk result (state.new ≡ flow_of code.now instr state.old) }
 {
     match called(instr) {

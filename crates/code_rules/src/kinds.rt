@@ -16,7 +16,12 @@ pub fn fields_at(declared: &Declared, area: Option<OpenArea>) -> &[Field]
     ensures { result.now ≡ fields_at_of declared.now area }
 {
     match area {
-        Some(area) => match declared.shape.tables.as_slice().get(usize::from(area.table)) {
+        Some(area) => match declared
+            .shape
+            .tables
+            .as_slice()
+            .get(usize::from(area.table))
+        {
             Some(table) => table.fields.as_slice(),
             None => &[],
         },
@@ -170,11 +175,7 @@ fn given_by_screen(instr: ScreenInstr) -> Option<Option<Kind>>
     }
 }
 
-fn given_by_records(
-    declared: &Declared,
-    desk: &Desk,
-    instr: RecordInstr,
-) -> Option<Option<Kind>>
+fn given_by_records(declared: &Declared, desk: &Desk, instr: RecordInstr) -> Option<Option<Kind>>
     ensures { result ≡ record_gives declared.now desk.now instr }
 {
     match instr {

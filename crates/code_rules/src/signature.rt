@@ -3,7 +3,9 @@
 ghost use Rattle.std.specs.Prelude.{◌≡◌};
 ghost use Rattle.code_rules.specs.Signature.{base, growing as growing_of, ending as ending_of, leaving as leaving_of, value_signature, flow_signature, screen_signature, area_signature, move_signature, record_signature, signature as signature_of, target_of, call_of, record_area, area_of};
 
-use code_items::{AreaInstr, Desk, FlowInstr, Instr, MoveInstr, RecordInstr, ScreenInstr, ValueInstr};
+use code_items::{
+    AreaInstr, Desk, FlowInstr, Instr, MoveInstr, RecordInstr, ScreenInstr, ValueInstr,
+};
 
 /// What the verifier and the machines must know of an instruction, whatever its kinds.
 #[derive(Clone, Copy, PartialEq, Eq, Debug)]
@@ -158,7 +160,9 @@ pub fn target(instr: Instr) -> Option<u32>
     ensures { result ≡ target_of instr }
 {
     match instr {
-        Instr::Flow(FlowInstr::Jump(place)) | Instr::Flow(FlowInstr::JumpFalse(place)) => Some(place),
+        Instr::Flow(FlowInstr::Jump(place)) | Instr::Flow(FlowInstr::JumpFalse(place)) => Some(
+            place,
+        ),
         _ => None,
     }
 }
@@ -188,7 +192,9 @@ pub fn area(desk: &Desk, instr: Instr) -> Option<u8>
     ensures { result ≡ area_of desk.now instr }
 {
     match instr {
-        Instr::Areas(AreaInstr::Order(_)) | Instr::Areas(AreaInstr::Filter(_)) => Some(desk.selected),
+        Instr::Areas(AreaInstr::Order(_)) | Instr::Areas(AreaInstr::Filter(_)) => Some(
+            desk.selected,
+        ),
         Instr::Moves(_) => Some(desk.selected),
         Instr::Records(instr) => of_record_area(desk.selected, instr),
         _ => None,

@@ -43,7 +43,8 @@ impl<T> Items<T> {
 
     /// Puts an item in the place of the one of this number, which is there.
     pub fn set(&mut self, number: usize, item: T)
-        where T: Drop
+    where
+        T: Drop,
         requires { number < length self.old }
         ensures { self.new ≡ slice_set self.old number item }
     {
