@@ -1,1 +1,2 @@
 pub mod BlockLists
+pub mod Keeping

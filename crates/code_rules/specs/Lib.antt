@@ -1,4 +1,5 @@
 pub mod Flow
+pub mod Kept
 pub mod Places
 pub mod Rules
 pub mod Signature
