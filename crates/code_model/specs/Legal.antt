@@ -5,6 +5,8 @@ use Rattle.xvalue.specs.declared.value.Value.{Value}
 use Rattle.xvalue.specs.declared.value.Value.TheVariants.{Number, Text, Date, Logical}
 use Rattle.xvalue.specs.declared.day.DayParts.{DayParts}
 use Rattle.xvalue.specs.Days.{IsDay}
+use Rattle.xvalue.specs.declared.settings.Setting.{Setting}
+use Rattle.xvalue.specs.declared.settings.Setting.TheVariants.{Exact, Deleted, Century}
 use Rattle.fixed_num.specs.Number.{Number as Decimal, asterisk, finite, IsInRange}
 use Rattle.code_model.specs.declared.state.State.{State}
 use Rattle.code_model.specs.declared.code.Map.{Map}
@@ -63,6 +65,12 @@ abbrev pub RiseFrom : ℕ → ℕ → List Map → Type 0
 RiseFrom least places [] = Unit {0}
 RiseFrom least places (map ∷ maps) = (least ≤ map.place) × (map.place < places) × RiseFrom (map.place + 1) places maps
 
+-- the settings that a code file of this version can say
+abbrev pub IsSaid : Setting → Type 0
+IsSaid Exact = Unit {0}
+IsSaid Deleted = Unit {0}
+IsSaid Century = ⊥
+
 -- operands that two, or a jump's four, bytes can hold
 abbrev pub IsInstr : Instr → Type 0
 IsInstr (Constant number) = number < 2 ^ 16
@@ -77,7 +85,7 @@ IsInstr (JumpFalse place) = place < 2 ^ 32
 IsInstr End = Unit {0}
 IsInstr NewLine = Unit {0}
 IsInstr (Print kind) = Unit {0}
-IsInstr (Set setting on) = Unit {0}
+IsInstr (Set setting on) = IsSaid setting
 
 -- how many instructions the procedures' blocks have
 abbrev pub places_of : List Proc → ℕ

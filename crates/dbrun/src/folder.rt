@@ -2,9 +2,9 @@
 #![tactic(auto)]
 
 ghost use Rattle.std.specs.Prelude.{◌≡◌};
-ghost use Rattle.file_commands.specs.Holding.{Rose};
+ghost use Rattle.file_access.specs.Holding.{Rose};
 
-use file_commands::{Files, ReadFault, read_within};
+use file_access::{Files, ReadFault, read_within};
 use std::alloc::Global;
 use std::fs;
 use std::io::ErrorKind;

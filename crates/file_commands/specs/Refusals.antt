@@ -11,7 +11,7 @@ use Rattle.file_commands.specs.declared.refusal.Fault.{Fault}
 use Rattle.file_commands.specs.declared.refusal.Fault.TheVariants.{Absent, TooLong, OfCode, OfTable, OfIndex, OfRule}
 use Rattle.file_commands.specs.declared.refusal.Refusal.{Refusal}
 use Rattle.file_commands.specs.declared.refusal.Refusal.TheVariants.{Refused, Disk, Memory}
-use Rattle.file_commands.specs.Holding.{Rose}
+use Rattle.file_access.specs.Holding.{Rose}
 use Rattle.file_commands.specs.Reports.{HasCode}
 
 -- a file longer than 64 MiB, and one that is no code file by this fault

@@ -4,14 +4,14 @@
 ghost use Rattle.std.specs.Prelude.{◌≡◌, ◌++◌, IfOk, IfErr, OnOk};
 ghost use Rattle.std.specs.List.{flat_map};
 ghost use Rattle.file_commands.specs.Lines.{in_seven_places, key_line, pair_line, index_lines};
-ghost use Rattle.file_commands.specs.Holding.{SameFiles};
+ghost use Rattle.file_access.specs.Holding.{SameFiles};
 ghost use Rattle.file_commands.specs.Refusals.{RefusalIs, IndexFault};
 ghost use Rattle.file_commands.specs.Reports.{IndexListed};
 
-use crate::files::Files;
 use crate::lines::{put_decimal, put_right};
 use crate::reading::read_bytes;
 use crate::refusal::{Fault, Refusal};
+use file_access::Files;
 use ndx_tree::laws::meets_each;
 use ndx_tree::{Entry, KeyList, NdxTree, TreeFault};
 use std::alloc::{AllocError, Global};

@@ -4,12 +4,9 @@
 //! functions serve a folder of the disk and files in memory.
 #![tactic(auto)]
 
-mod files;
 mod index_listing;
 mod lines;
 mod listing;
-mod memory_files;
-mod reader;
 mod reading;
 mod refusal;
 mod running;
@@ -17,13 +14,11 @@ mod status;
 mod table_listing;
 mod today;
 
-pub use crate::files::{Files, ReadFault};
 pub use crate::index_listing::list_index;
 pub use crate::listing::{list_code, verify_file};
-pub use crate::memory_files::{MemoryEntry, MemoryFiles};
-pub use crate::reader::read_within;
 pub use crate::refusal::{Fault, Refusal};
 pub use crate::running::{Report, run_files};
 pub use crate::status::{Status, of_end, of_refusal};
 pub use crate::table_listing::list_table;
 pub use crate::today::today_of;
+pub use file_access::{Files, MemoryEntry, MemoryFiles, ReadFault, read_within};

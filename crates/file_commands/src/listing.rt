@@ -2,14 +2,14 @@
 #![tactic(auto)]
 
 ghost use Rattle.std.specs.Prelude.{◌≡◌, IfOk, IfErr};
-ghost use Rattle.file_commands.specs.Holding.{SameFiles};
+ghost use Rattle.file_access.specs.Holding.{SameFiles};
 ghost use Rattle.file_commands.specs.Refusals.{RefusalIs, CodeFileFault};
 ghost use Rattle.file_commands.specs.Reports.{Listed, Judged};
 
-use crate::files::Files;
 use crate::reading::read_code;
 use crate::refusal::Refusal;
 use crate::running::accept;
+use file_access::Files;
 use std::alloc::Global;
 use xcode::list;
 use xverify::Refused;

@@ -3,13 +3,13 @@
 
 ghost use Rattle.std.specs.Prelude.{◌≤◌, Some, length, IfOk, IfErr};
 ghost use Rattle.code_model.specs.Legal.{IsCode};
-ghost use Rattle.file_commands.specs.Holding.{SameFiles};
+ghost use Rattle.file_access.specs.Holding.{SameFiles};
 ghost use Rattle.file_commands.specs.Refusals.{RefusalIs, CodeFileFault, FileFault};
 ghost use Rattle.file_commands.specs.Reports.{IsCodeFile};
 
-use crate::files::{Files, ReadFault};
 use crate::refusal::{Fault, Refusal};
 use code_model::Code;
+use file_access::{Files, ReadFault};
 use std::alloc::Global;
 use xcode::{CodeFault, decode};
 

@@ -4,14 +4,14 @@
 ghost use Rattle.std.specs.Prelude.{◌≡◌, [], IfOk, IfErr, MatchResult};
 ghost use Rattle.code_model.specs.Legal.{IsCode};
 ghost use Rattle.code_model.specs.Rules.{FirstRefusal};
-ghost use Rattle.file_commands.specs.Holding.{SameFiles};
+ghost use Rattle.file_access.specs.Holding.{SameFiles};
 ghost use Rattle.file_commands.specs.Refusals.{RefusalIs, RunFault};
 ghost use Rattle.file_commands.specs.Reports.{CheckedRun, AcceptedRun, RunIs, FileRun};
 
-use crate::files::Files;
 use crate::reading::read_code;
 use crate::refusal::{Fault, Refusal};
 use code_model::Code;
+use file_access::Files;
 use machine::{Banks, run};
 use std::alloc::{AllocError, Global};
 use tagged_machine::{Outcome, World, run_checked};

@@ -7,16 +7,16 @@ ghost use Rattle.dbf_file.specs.Fields.{has_shape};
 ghost use Rattle.dbf_file.specs.Rows.{row_at};
 ghost use Rattle.screen_lines.specs.Roll.{shown_byte};
 ghost use Rattle.file_commands.specs.Lines.{field_line, count_line, cell, cells, row_line, row_lines, table_lines};
-ghost use Rattle.file_commands.specs.Holding.{SameFiles};
+ghost use Rattle.file_access.specs.Holding.{SameFiles};
 ghost use Rattle.file_commands.specs.Refusals.{RefusalIs, TableFault};
 ghost use Rattle.file_commands.specs.Reports.{TableListed};
 
-use crate::files::Files;
 use crate::lines::{put_decimal, put_right};
 use crate::reading::read_bytes;
 use crate::refusal::{Fault, Refusal};
 use dbf_file::laws::{fields_are_good, fields_have_shapes};
 use dbf_file::{DbfFault, Field, Table, read, value};
+use file_access::Files;
 use std::alloc::{AllocError, Global};
 use xvalue::Settings;
 

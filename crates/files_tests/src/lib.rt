@@ -1,4 +1,4 @@
-//! Tests of what the crates of tables and index files promise their callers.
+//! Tests of what the crates of files, tables and index files promise their callers.
 #![tactic(auto)]
 
 #[cfg(test)]
@@ -7,6 +7,8 @@ mod bytes;
 mod lists;
 #[cfg(test)]
 mod pages;
+#[cfg(test)]
+mod reader;
 #[cfg(test)]
 mod tables;
 #[cfg(test)]

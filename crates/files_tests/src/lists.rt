@@ -39,7 +39,11 @@ impl Plain {
     }
 
     fn count(&self) -> usize {
-        self.has.iter().filter(|there| **there).count()
+        let mut count = 0usize;
+        for at in 0..PAIRS {
+            count = count.saturating_add(usize::from(self.has[at]));
+        }
+        count
     }
 }
 
@@ -90,20 +94,42 @@ pub(crate) fn put<K: KeyList>(list: &mut K, key: &[u8], number: u32) -> Result<b
     Ok(true)
 }
 
+// Whether the searches from a pair, there or not, answer as a scan of the plain list does.
+fn agrees_from<K: KeyList>(list: &mut K, plain: &Plain, at: usize) -> bool {
+    let key = key_of(at);
+    let number = record_of(at);
+    is_pair(&list.first_from(&key), plain.first_at_or_above(at / 3 * 3))
+        && is_pair(
+            &list.after(&key, number),
+            plain.first_at_or_above(at.saturating_add(1)),
+        )
+        && is_pair(&list.before(&key, number), plain.last_below(at))
+}
+
 // Each search answers as a scan of the plain list does, from every pair, there or not.
 fn searches_agree<K: KeyList>(list: &mut K, plain: &Plain) -> bool {
     let mut agree = list.len() == plain.count()
         && is_pair(&list.first(), plain.first_at_or_above(0))
         && is_pair(&list.last(), plain.last_below(PAIRS));
     for at in 0..PAIRS {
-        let key = key_of(at);
-        let number = record_of(at);
-        agree = agree
-            && is_pair(&list.first_from(&key), plain.first_at_or_above(at / 3 * 3))
-            && is_pair(&list.after(&key, number), plain.first_at_or_above(at + 1))
-            && is_pair(&list.before(&key, number), plain.last_below(at));
+        agree = agree && agrees_from(list, plain, at);
     }
     agree
+}
+
+// Takes a pair out or puts it in. Whether the list answered as the plain list does.
+fn turns<K: KeyList>(
+    list: &mut K,
+    plain: &Plain,
+    at: usize,
+    takes: bool,
+) -> Result<bool, AllocError> {
+    let key = key_of(at);
+    if takes {
+        Ok(at < PAIRS && list.remove(&key, record_of(at)) == plain.has[at])
+    } else {
+        put(list, &key, record_of(at))
+    }
 }
 
 // The number of the turn at which the list first answered otherwise than the plain list.
@@ -113,13 +139,8 @@ pub(crate) fn first_difference<K: KeyList>(list: &mut K) -> Result<Option<usize>
     };
     for turn in 0..200usize {
         let at = (turn * 8 + turn / 5) % PAIRS;
-        let key = key_of(at);
         let takes = turn % 3 == 2;
-        let agrees = if takes {
-            list.remove(&key, record_of(at)) == plain.has[at]
-        } else {
-            put(list, &key, record_of(at))?
-        };
+        let agrees = turns(list, &plain, at, takes)?;
         plain.has[at] = !takes;
         if !agrees || !searches_agree(list, &plain) {
             return Ok(Some(turn));
@@ -177,25 +198,26 @@ fn puts_pairs_in_order(rt: HostRuntime) -> Result<(), Fail> {
     Ok(())
 }
 
+// Three pairs: `A ` with record 1, `AB` with 2, `B ` with 3.
+fn three(alloc: Global) -> Result<SortedKeys, AllocError> {
+    let mut list = empty_list(alloc)?;
+    put(&mut list, b"A ", 1)?;
+    put(&mut list, b"AB", 2)?;
+    put(&mut list, b"B ", 3)?;
+    Ok(list)
+}
+
+pub(crate) fn has_number(entry: &Option<Entry>, number: u32) -> bool {
+    entry.as_ref().is_some_and(|entry| entry.number() == number)
+}
+
 // A key of another length may be searched for: what begins with it isn't below it.
 #[test]
 fn a_prefix_is_below(rt: HostRuntime) -> Result<(), Fail> {
-    let mut list = empty_list(rt.alloc())?;
-    assert!(rt;
-        put(&mut list, b"A ", 1)? && put(&mut list, b"AB", 2)? && put(&mut list, b"B ", 3)?
-    );
-    assert!(rt;
-        list.first_from(b"A")
-            .is_some_and(|entry| entry.number() == 1)
-    );
-    assert!(rt;
-        list.first_from(b"AB ")
-            .is_some_and(|entry| entry.number() == 3)
-    );
-    assert!(rt; list.after(b"A", 9).is_some_and(|entry| entry.number() == 1));
-    assert!(rt;
-        list.before(b"AB ", 1)
-            .is_some_and(|entry| entry.number() == 2)
-    );
+    let mut list = three(rt.alloc())?;
+    assert!(rt; has_number(&list.first_from(b"A"), 1));
+    assert!(rt; has_number(&list.first_from(b"AB "), 3));
+    assert!(rt; has_number(&list.after(b"A", 9), 1));
+    assert!(rt; has_number(&list.before(b"AB ", 1), 2));
     Ok(())
 }

@@ -2,12 +2,12 @@
 
 ghost use Rattle.std.specs.Prelude.{◌≤◌, length};
 
+use crate::bytes::set;
 use arrayvec::ArrayVec;
 use ndx_page::{
     Entry, Head, HeadFault, PAGE_SIZE, Page, PageFault, most_entries, read_head, read_page,
     write_head, write_page,
 };
-use std::process::Abort;
 
 /// Page 0 of an index on `NAME`, ten bytes wide: the root is page 1 of 2.
 fn plain_head() -> [u8; PAGE_SIZE] {
@@ -86,13 +86,9 @@ fn most_keys_of_a_page(rt: HostRuntime) {
 fn head_both_ways(rt: HostRuntime) {
     let bytes = plain_head();
     let head = read_head(&bytes).expect(&rt, "a head");
-    assert_eq!(rt; (head.root, head.pages, head.length), (1, 2, 10));
-    assert_eq!(rt; head.text.as_slice(), b"NAME".as_slice());
-    assert_eq!(rt; write_head(&head).as_slice(), bytes.as_slice());
-}
-
-fn assert_head(rt: &impl Abort, bytes: &[u8], want: HeadFault) {
-    assert_eq!(rt; read_head(bytes).err(), Some(want));
+    assert!(rt; (head.root, head.pages, head.length) == (1, 2, 10));
+    assert!(rt; head.text.as_slice() == b"NAME".as_slice());
+    assert!(rt; write_head(&head) == bytes);
 }
 
 /// Page 0 with this key expression and what stands behind it.
@@ -102,11 +98,9 @@ fn with_expression(expression: &[u8; 488]) -> [u8; PAGE_SIZE] {
     bytes
 }
 
-#[test]
-fn head_faults(rt: HostRuntime) {
-    let short = [0; PAGE_SIZE - 1];
-    assert_head(&rt, &short, HeadFault::Short);
-    let faults = [
+/// A place of page 0, the byte that is put there, and the fault that is told.
+fn faults_of_heads() -> [(usize, u8, HeadFault); 10] {
+    [
         (16, 1, HeadFault::Kind),
         (17, 1, HeadFault::Kind),
         (23, 1, HeadFault::Unique),
@@ -117,21 +111,38 @@ fn head_faults(rt: HostRuntime) {
         (19, 1, HeadFault::EntrySize),
         (14, 24, HeadFault::PerPage),
         (15, 1, HeadFault::PerPage),
-    ];
-    for (place, byte, fault) in faults {
+    ]
+}
+
+/// Whether page 0 has this fault.
+fn has_fault(bytes: &[u8], fault: HeadFault) -> bool {
+    read_head(bytes).err() == Some(fault)
+}
+
+/// The place of the first line of the table whose fault isn't told.
+fn first_untold_of_heads(lines: &[(usize, u8, HeadFault)]) -> Option<usize> {
+    for (line, (place, byte, fault)) in lines.iter().enumerate() {
         let mut bytes = plain_head();
-        assert!(rt; place < PAGE_SIZE);
-        bytes[place] = byte;
-        assert_head(&rt, &bytes, fault);
+        set(&mut bytes, *place, *byte);
+        if !has_fault(&bytes, *fault) {
+            return Some(line);
+        }
     }
+    None
+}
+
+#[test]
+fn head_faults(rt: HostRuntime) {
+    assert_eq!(rt; first_untold_of_heads(&faults_of_heads()), None);
+    assert!(rt; has_fault(&[0; PAGE_SIZE - 1], HeadFault::Short));
     // Of all faults but the first the second is told.
-    assert_head(&rt, &[1; PAGE_SIZE], HeadFault::Kind);
+    assert!(rt; has_fault(&[1; PAGE_SIZE], HeadFault::Kind));
 }
 
 #[test]
 fn head_expression(rt: HostRuntime) {
     let mut expression = [7; 488];
-    assert_head(&rt, &with_expression(&expression), HeadFault::Expression);
+    assert!(rt; has_fault(&with_expression(&expression), HeadFault::Expression));
     expression[487] = 0;
     let longest = read_head(&with_expression(&expression)).expect(&rt, "a head");
     assert_eq!(rt; longest.text.len(), 487);
@@ -140,30 +151,26 @@ fn head_expression(rt: HostRuntime) {
     assert!(rt; empty.text.is_empty());
 }
 
+/// Whether the page is written as these bytes, and read of them.
+fn is_page(page: Page, bytes: &[u8; PAGE_SIZE]) -> bool {
+    let head = head_of(2);
+    write_page(&head, &page) == *bytes && read_page(&head, bytes) == Ok(page)
+}
+
 #[test]
 fn leaves_both_ways(rt: HostRuntime) {
-    let head = head_of(2);
     let leaf = page(entry(0, 3, b"AB"), entry(0, 7, b"CD"), 0);
-    assert_eq!(rt;
-        write_page(&head, &leaf).as_slice(),
-        plain_leaf().as_slice()
-    );
-    assert_eq!(rt; read_page(&head, &plain_leaf()), Ok(leaf));
+    assert!(rt; is_page(leaf, &plain_leaf()));
     // The bytes at the place of the last child aren't tested in a leaf.
     let mut bytes = plain_leaf();
     bytes[28] = 9;
-    assert_eq!(rt; read_page(&head, &bytes).expect(&rt, "a leaf").last, 0);
+    assert!(rt; read_page(&head_of(2), &bytes).is_ok_and(|page| page.last == 0));
 }
 
 #[test]
 fn inner_pages_both_ways(rt: HostRuntime) {
-    let head = head_of(2);
     let inner = page(entry(5, 0, b"AB"), entry(6, 0, b"CD"), 0x0102);
-    assert_eq!(rt;
-        write_page(&head, &inner).as_slice(),
-        plain_inner().as_slice()
-    );
-    assert_eq!(rt; read_page(&head, &plain_inner()), Ok(inner));
+    assert!(rt; is_page(inner, &plain_inner()));
 }
 
 // A page without entries has one child, or none.
@@ -179,52 +186,86 @@ fn pages_without_entries(rt: HostRuntime) {
     }
 }
 
+/// The two bytes that are put at the places of a page, and the fault that is told.
+type Changed = ((usize, u8), (usize, u8), PageFault);
+
+fn faults_of_leaves() -> [Changed; 7] {
+    [
+        ((0, 43), (0, 43), PageFault::Count),
+        ((3, 1), (3, 1), PageFault::Count),
+        ((16, 1), (16, 1), PageFault::Child),
+        ((4, 1), (4, 1), PageFault::Child),
+        ((8, 0), (8, 0), PageFault::Record),
+        ((20, 0), (20, 0), PageFault::Record),
+        // A leaf with another child and record 0 has the first fault.
+        ((8, 0), (16, 1), PageFault::Child),
+    ]
+}
+
+fn faults_of_inner_pages() -> [Changed; 2] {
+    [
+        ((16, 0), (16, 0), PageFault::Child),
+        ((28, 0), (29, 0), PageFault::Child),
+    ]
+}
+
+/// The place of the first line of the table whose fault isn't told of the page.
+fn first_untold(page: &[u8; PAGE_SIZE], lines: &[Changed]) -> Option<usize> {
+    for (line, (first, second, fault)) in lines.iter().enumerate() {
+        let mut bytes = *page;
+        set(&mut bytes, first.0, first.1);
+        set(&mut bytes, second.0, second.1);
+        if read_page(&head_of(2), &bytes).err() != Some(*fault) {
+            return Some(line);
+        }
+    }
+    None
+}
+
 #[test]
 fn page_faults(rt: HostRuntime) {
+    assert_eq!(rt; first_untold(&plain_leaf(), &faults_of_leaves()), None);
+    assert_eq!(rt;
+        first_untold(&plain_inner(), &faults_of_inner_pages()),
+        None
+    );
+}
+
+/// Whether a page that is read of these bytes is read again of what is written of it.
+fn page_comes_back(bytes: &[u8; PAGE_SIZE]) -> bool {
     let head = head_of(2);
-    let leaf_faults = [
-        (0, 43, PageFault::Count),
-        (3, 1, PageFault::Count),
-        (16, 1, PageFault::Child),
-        (4, 1, PageFault::Child),
-        (8, 0, PageFault::Record),
-        (20, 0, PageFault::Record),
-    ];
-    for (place, byte, fault) in leaf_faults {
-        let mut bytes = plain_leaf();
-        assert!(rt; place < PAGE_SIZE);
-        bytes[place] = byte;
-        assert_eq!(rt; read_page(&head, &bytes).err(), Some(fault));
+    match read_page(&head, bytes) {
+        Ok(page) => read_page(&head, &write_page(&head, &page)) == Ok(page),
+        Err(_) => true,
     }
-    let mut bytes = plain_inner();
-    bytes[16] = 0;
-    assert_eq!(rt; read_page(&head, &bytes).err(), Some(PageFault::Child));
-    let mut bytes = plain_inner();
-    bytes[28..30].copy_from_slice(&[0, 0]);
-    assert_eq!(rt; read_page(&head, &bytes).err(), Some(PageFault::Child));
-    // A leaf with another child and record 0 has the first fault.
-    let mut bytes = plain_leaf();
-    bytes[8] = 0;
-    bytes[16] = 1;
-    assert_eq!(rt; read_page(&head, &bytes).err(), Some(PageFault::Child));
+}
+
+/// The same of page 0.
+fn head_comes_back(bytes: &[u8; PAGE_SIZE]) -> bool {
+    match read_head(bytes) {
+        Ok(head) => read_head(&write_head(&head)) == Ok(head),
+        Err(_) => true,
+    }
+}
+
+/// The page with one byte changed in the bits of `change`.
+fn with_bits(page: [u8; PAGE_SIZE], place: usize, change: u8) -> [u8; PAGE_SIZE] {
+    let mut bytes = page;
+    if let Some(byte) = bytes.get_mut(place) {
+        *byte ^= change;
+    }
+    bytes
 }
 
 #[test]
 fn each_byte_changed(rt: HostRuntime) {
-    let head = head_of(2);
     for place in 0..PAGE_SIZE {
         for change in [1, 0x80, 0xff] {
-            let mut bytes = plain_inner();
-            bytes[place] ^= change;
-            if let Ok(page) = read_page(&head, &bytes) {
-                let again = read_page(&head, &write_page(&head, &page));
-                assert_eq!(rt; again, Ok(page), "byte {place} by {change}");
-            }
+            assert!(rt; page_comes_back(&with_bits(plain_inner(), place, change)));
         }
-        let mut bytes = plain_head();
-        bytes[place] = !bytes[place];
-        if let Ok(head) = read_head(&bytes) {
-            assert_eq!(rt; read_head(&write_head(&head)), Ok(head), "byte {place}");
-        }
+        assert!(rt;
+            head_comes_back(&with_bits(plain_head(), place, 0xff)),
+            "byte {place}"
+        );
     }
 }

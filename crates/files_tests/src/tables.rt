@@ -1,6 +1,6 @@
 // Files byte by byte, and the rules of fields.
 
-ghost use Rattle.std.specs.Prelude.{◌≡◌};
+ghost use Rattle.std.specs.Prelude.{◌≡◌, ◌<◌, length, IsTrue};
 
 use crate::bytes::set;
 use arrayvec::ArrayVec;
@@ -97,6 +97,35 @@ fn fault_of(alloc: Global, bytes: &[u8]) -> Option<DbfFault> {
     read(alloc, bytes, 1000).err()
 }
 
+/// The table of these bytes, within so many rows.
+fn table_of(alloc: Global, bytes: &[u8], limit: usize) -> Option<Table> {
+    read(alloc, bytes, limit).ok()
+}
+
+/// The table's file.
+fn written(alloc: Global, table: &Table) -> Result<Vec<u8>, AllocError> {
+    write(alloc, table, STAMP)
+}
+
+/// Whether a row is marked, where the table has it.
+fn mark_of(table: &Table, r: usize) -> Option<bool> {
+    if r < table.rows() {
+        Some(table.mark(r))
+    } else {
+        None
+    }
+}
+
+/// Whether the field of a row is there and holds this text.
+fn holds(table: &Table, r: usize, f: usize, text: &[u8]) -> bool {
+    r < table.rows() && f < table.structure().fields().len() && table.field(r, f) == text
+}
+
+/// Whether the bytes from a place up to another are these.
+fn are(bytes: &[u8], from: usize, to: usize, wanted: &[u8]) -> bool {
+    bytes.get(from..to) == Some(wanted)
+}
+
 /// The file with another byte at a place.
 fn with_byte(alloc: Global, place: usize, byte: u8) -> Result<Vec<u8>, AllocError> {
     let mut file = seventy(alloc)?;
@@ -107,12 +136,10 @@ fn with_byte(alloc: Global, place: usize, byte: u8) -> Result<Vec<u8>, AllocErro
 #[test]
 fn seventy_bytes_are_a_table(rt: HostRuntime) -> Result<(), Fail> {
     let file = seventy(rt.alloc())?;
-    assert_eq!(rt; file.len(), 70);
-    let table = read(rt.alloc(), file.as_slice(), 1).expect(&rt, "a table");
-    assert_eq!(rt; table.rows(), 1);
-    assert_eq!(rt; table.structure().fields().len(), 1);
-    assert!(rt; !table.mark(0));
-    assert!(rt; table.field(0, 0) == b"abc".as_slice());
+    let table = table_of(rt.alloc(), file.as_slice(), 1).ok_or("no table")?;
+    assert!(rt; file.len() == 70 && table.rows() == 1);
+    assert!(rt; mark_of(&table, 0) == Some(false) && holds(&table, 0, 0, b"abc"));
+    assert!(rt; table.structure().fields().len() == 1);
     Ok(())
 }
 
@@ -127,16 +154,22 @@ fn a_byte_less_is_truncated(rt: HostRuntime) -> Result<(), Fail> {
     Ok(())
 }
 
+/// Whether bytes behind the last row are gone in the file that is written.
+fn drops_bytes_behind(alloc: Global) -> Result<bool, AllocError> {
+    let mut file = seventy(alloc)?;
+    file.extend_from_slice(b"\x1aXXXX")?;
+    match table_of(alloc, file.as_slice(), 1000) {
+        None => Ok(false),
+        Some(table) => {
+            let again = written(alloc, &table)?;
+            Ok(again.len() == 71 && file.get(..71) == Some(again.as_slice()))
+        }
+    }
+}
+
 #[test]
 fn bytes_behind_the_last_row_are_dropped(rt: HostRuntime) -> Result<(), Fail> {
-    let mut file = seventy(rt.alloc())?;
-    file.extend_from_slice(b"\x1aXXXX")?;
-    assert_eq!(rt; file.len(), 75);
-    let table = read(rt.alloc(), file.as_slice(), 1000).expect(&rt, "a table");
-    let written = write(rt.alloc(), &table, STAMP)?;
-    assert_eq!(rt; written.len(), 71);
-    file.truncate(71);
-    assert!(rt; written.as_slice() == file.as_slice());
+    assert!(rt; drops_bytes_behind(rt.alloc())?);
     Ok(())
 }
 
@@ -160,12 +193,23 @@ fn faults_of_one_byte() -> [(usize, u8, DbfFault); 14] {
     ]
 }
 
+/// The place of the first line of the table whose fault isn't told.
+fn first_untold(
+    alloc: Global,
+    faults: &[(usize, u8, DbfFault)],
+) -> Result<Option<usize>, AllocError> {
+    for (line, (place, byte, fault)) in faults.iter().enumerate() {
+        let file = with_byte(alloc, *place, *byte)?;
+        if fault_of(alloc, file.as_slice()) != Some(*fault) {
+            return Ok(Some(line));
+        }
+    }
+    Ok(None)
+}
+
 #[test]
 fn a_fault_is_told(rt: HostRuntime) -> Result<(), Fail> {
-    for (place, byte, fault) in faults_of_one_byte() {
-        let file = with_byte(rt.alloc(), place, byte)?;
-        assert_eq!(rt; fault_of(rt.alloc(), file.as_slice()), Some(fault));
-    }
+    assert_eq!(rt; first_untold(rt.alloc(), &faults_of_one_byte())?, None);
     Ok(())
 }
 
@@ -204,12 +248,26 @@ fn faults_of_two_bytes() -> [((usize, u8), (usize, u8), DbfFault); 8] {
     ]
 }
 
+/// The place of the first line of the table whose first fault isn't told.
+fn first_untold_of_two(
+    alloc: Global,
+    faults: &[((usize, u8), (usize, u8), DbfFault)],
+) -> Result<Option<usize>, AllocError> {
+    for (line, (first, second, fault)) in faults.iter().enumerate() {
+        let file = with_two(alloc, *first, *second)?;
+        if fault_of(alloc, file.as_slice()) != Some(*fault) {
+            return Ok(Some(line));
+        }
+    }
+    Ok(None)
+}
+
 #[test]
 fn of_two_faults_the_first_is_told(rt: HostRuntime) -> Result<(), Fail> {
-    for (first, second, fault) in faults_of_two_bytes() {
-        let file = with_two(rt.alloc(), first, second)?;
-        assert_eq!(rt; fault_of(rt.alloc(), file.as_slice()), Some(fault));
-    }
+    assert_eq!(rt;
+        first_untold_of_two(rt.alloc(), &faults_of_two_bytes())?,
+        None
+    );
     let short = with_two(rt.alloc(), (0, 4), (8, 64))?;
     let front = short.get(..64).unwrap_or(b"");
     assert_eq!(rt; fault_of(rt.alloc(), front), Some(DbfFault::Short));
@@ -230,16 +288,22 @@ fn a_name_comes_once(rt: HostRuntime) -> Result<(), Fail> {
     Ok(())
 }
 
+/// Takes a row's mark away, where the table has the row.
+fn unmark(table: &mut Table, r: usize) {
+    if r < table.rows() {
+        table.set_mark(r, false);
+    }
+}
+
 #[test]
 fn marks_stay(rt: HostRuntime) -> Result<(), Fail> {
     let file = with_byte(rt.alloc(), 66, b'*')?;
-    let mut table = read(rt.alloc(), file.as_slice(), 1000).expect(&rt, "a table");
-    assert_eq!(rt; table.rows(), 1);
-    assert!(rt; table.mark(0));
-    let written = write(rt.alloc(), &table, STAMP)?;
-    assert!(rt; written.get(..70) == Some(file.as_slice()));
-    table.set_mark(0, false);
-    assert!(rt; !table.mark(0));
+    let mut table = table_of(rt.alloc(), file.as_slice(), 1000).ok_or("no table")?;
+    assert!(rt; table.rows() == 1 && mark_of(&table, 0) == Some(true));
+    let again = written(rt.alloc(), &table)?;
+    assert!(rt; are(again.as_slice(), 0, 70, file.as_slice()));
+    unmark(&mut table, 0);
+    assert!(rt; mark_of(&table, 0) == Some(false));
     Ok(())
 }
 
@@ -283,8 +347,8 @@ fn numbers_stand_right(rt: HostRuntime) {
 #[test]
 fn texts_are_cut_or_padded(rt: HostRuntime) {
     let name = field(b"NAME", Letter::C, 3, 0);
-    assert!(rt; writes(&name, &Value::Text(xvalue::text_of(b"Anna")), b"Ann"));
-    assert!(rt; writes(&name, &Value::Text(xvalue::text_of(b"A")), b"A  "));
+    assert!(rt; writes(&name, &text_value(b"Anna"), b"Ann"));
+    assert!(rt; writes(&name, &text_value(b"A"), b"A  "));
     assert!(rt; shows(&name, b"A b", b"A b"));
 }
 
@@ -328,37 +392,102 @@ fn truth_values(rt: HostRuntime) {
     assert_eq!(rt; paid.letter.code(), b'L');
 }
 
+/// The field NAME C 10.
+fn name_field() -> Field {
+    field(b"NAME", Letter::C, 10, 0)
+}
+
+/// A table of that field without rows.
+fn no_rows(alloc: Global) -> Result<Option<Table>, AllocError> {
+    let fields = [name_field()];
+    if are_fields(&fields) {
+        Ok(Some(Table::empty(alloc, &fields)?))
+    } else {
+        Ok(None)
+    }
+}
+
+/// Appends a blank row where there are few.
+fn append(table: &mut Table) -> Result<bool, AllocError> {
+    if table.rows() > 1000 {
+        return Ok(false);
+    }
+    table.reserve_row()?;
+    table.push_blank();
+    Ok(true)
+}
+
+/// Whether the table has a row and a field.
+fn has_first(table: &Table) -> bool
+    ensures { IsTrue result → (0 < length table.now.rows) × (0 < length table.now.structure.fields) }
+{
+    table.rows() > 0 && !table.structure().fields().is_empty()
+}
+
+/// Writes a value into the first field of the first row, where it has the field's kind.
+fn put_first(table: &mut Table, from: &Value) -> bool {
+    if !has_first(table) || from.kind() != table.structure().fields()[0].letter.kind() {
+        return false;
+    }
+    table.put_at(0, 0, from);
+    true
+}
+
+/// Whether the value of the first field of the first row is shown so.
+fn first_shows(table: &Table, shown: &[u8]) -> bool {
+    has_first(table) && table.value_at(0, 0).shown(Settings::off()).as_slice() == shown
+}
+
+/// Writes a text of the field's length into the first field of the first row.
+fn write_first(table: &mut Table, text: &[u8]) -> bool {
+    if !has_first(table) {
+        return false;
+    }
+    let room = table.field_mut(0, 0);
+    if room.len() != text.len() {
+        return false;
+    }
+    room.copy_from_slice(text);
+    true
+}
+
+/// Writes a value as a field of the table's first row, by the field's own text.
+fn lend_first(table: &mut Table, from: &Value) -> bool {
+    has_first(table) && put_where_it_suits(&name_field(), from, table.field_mut(0, 0))
+}
+
+fn text_value(text: &[u8]) -> Value {
+    let mut bytes = xvalue::Text::new();
+    let _ = bytes.try_extend_from_slice(text);
+    Value::Text(bytes)
+}
+
+/// Whether a row is written as a value, as bytes and once more as a value.
+fn writes_a_row(table: &mut Table) -> bool {
+    put_first(table, &text_value(b"Ann"))
+        && first_shows(table, b"Ann       ")
+        && write_first(table, b"Bob       ")
+        && holds(table, 0, 0, b"Bob       ")
+        && lend_first(table, &text_value(b"Ann"))
+}
+
 #[test]
 fn a_table_of_one_row(rt: HostRuntime) -> Result<(), Fail> {
-    let fields = [field(b"NAME", Letter::C, 10, 0)];
-    assert!(rt; are_fields(&fields));
-    let mut table = Table::empty(rt.alloc(), &fields)?;
-    table.reserve_row()?;
-    assert_eq!(rt; table.rows(), 0);
-    table.push_blank();
-    assert_eq!(rt; table.structure().fields().len(), 1);
-    table.put_at(0, 0, &Value::Text(xvalue::text_of(b"Ann")));
-    assert!(rt; table.value_at(0, 0).shown(Settings::off()).as_slice() == b"Ann       ".as_slice());
-    table.field_mut(0, 0).copy_from_slice(b"Bob       ");
-    assert_eq!(rt; table.rows(), 1);
-    assert!(rt; table.field(0, 0) == b"Bob       ".as_slice());
+    let mut table = no_rows(rt.alloc())?.ok_or("no fields")?;
+    assert!(rt; table.rows() == 0 && table.structure().fields().len() == 1);
+    assert!(rt; append(&mut table)? && writes_a_row(&mut table) && table.rows() == 1);
+    let bytes = written(rt.alloc(), &table)?;
+    assert!(rt; bytes.len() == 77 && are(bytes.as_slice(), 65, 77, b" Ann       \x1a"));
     assert!(rt;
-        put_where_it_suits(
-            &fields[0],
-            &Value::Text(xvalue::text_of(b"Ann")),
-            table.field_mut(0, 0)
+        are(
+            bytes.as_slice(),
+            0,
+            12,
+            b"\x03\x58\x05\x09\x01\x00\x00\x00\x41\x00\x0b\x00"
         )
     );
-    let written = write(rt.alloc(), &table, STAMP)?;
-    assert_eq!(rt; written.len(), 77);
-    assert!(rt;
-        written.get(65..) == Some(b"\x20\x41\x6e\x6e\x20\x20\x20\x20\x20\x20\x20\x1a".as_slice())
-    );
-    assert!(rt;
-        written.get(..12) == Some(b"\x03\x58\x05\x09\x01\x00\x00\x00\x41\x00\x0b\x00".as_slice())
-    );
-    let again = read(rt.alloc(), written.as_slice(), 1).expect(&rt, "a table");
-    assert_eq!(rt; again.rows(), 1);
+    let again = table_of(rt.alloc(), bytes.as_slice(), 1).ok_or("no table")?;
+    assert!(rt; again.rows() == 1);
     Ok(())
 }
 
@@ -385,19 +514,24 @@ fn stamps_have_years_from_1900_to_2155(rt: HostRuntime) -> Result<(), Fail> {
     Ok(())
 }
 
-#[test]
-fn pack_keeps_the_unmarked_rows(rt: HostRuntime) -> Result<(), Fail> {
-    let mut file = Vec::new(rt.alloc());
+/// Four rows of one field K C 1, the first and the third marked.
+fn four_rows(alloc: Global) -> Result<Vec<u8>, AllocError> {
+    let mut file = Vec::new(alloc);
     push_front(&mut file, 3, 4, 65, 2)?;
     push_descriptor(&mut file, b"K", b'C', 1, 0)?;
     file.extend_from_slice(b"\x0d*a b*c d\x1a")?;
-    let mut table = read(rt.alloc(), file.as_slice(), 4).expect(&rt, "a table");
+    Ok(file)
+}
+
+#[test]
+fn pack_keeps_the_unmarked_rows(rt: HostRuntime) -> Result<(), Fail> {
+    let file = four_rows(rt.alloc())?;
+    let mut table = table_of(rt.alloc(), file.as_slice(), 4).ok_or("no table")?;
     table.pack();
-    let written = write(rt.alloc(), &table, STAMP)?;
-    assert!(rt; written.get(65..) == Some(b" b d\x1a".as_slice()));
-    assert_eq!(rt; table.rows(), 2);
+    let bytes = written(rt.alloc(), &table)?;
+    assert!(rt; bytes.len() == 70 && are(bytes.as_slice(), 65, 70, b" b d\x1a"));
+    assert!(rt; table.rows() == 2);
     table.clear();
-    assert_eq!(rt; table.rows(), 0);
-    assert_eq!(rt; table.structure().head().len(), 53);
+    assert!(rt; table.rows() == 0 && table.structure().head().len() == 53);
     Ok(())
 }

@@ -4,7 +4,7 @@
 ghost use Rattle.ndx_tree.specs.KeyForm.{IsKeyLength};
 
 use crate::bytes::set;
-use crate::lists::{first_difference, put};
+use crate::lists::{first_difference, has_number, put};
 use ndx_tree::{Entry, KeyList, NdxTree, SortedKeys, TreeFault};
 use std::alloc::{AllocError, Global};
 use std::test::Fail;
@@ -56,10 +56,6 @@ fn is_same(one: &Option<Entry>, other: &Option<Entry>) -> bool {
     }
 }
 
-fn has_number(entry: &Option<Entry>, number: u32) -> bool {
-    entry.as_ref().is_some_and(|entry| entry.number() == number)
-}
-
 // Whether two lists have the same pairs in the same order.
 fn have_same_pairs<K: KeyList>(tree: &mut NdxTree, list: &mut K) -> bool {
     let mut left = tree.first();
@@ -85,25 +81,71 @@ fn answers_as_a_plain_list(rt: HostRuntime) -> Result<(), Fail> {
     Ok(())
 }
 
+// Puts pairs of one key in. Whether all could be put in.
+fn put_all<K: KeyList>(list: &mut K, key: &[u8], numbers: &[u32]) -> Result<bool, AllocError> {
+    let mut all = true;
+    for number in numbers {
+        all = put(list, key, *number)? && all;
+    }
+    Ok(all)
+}
+
+// Whether from each record of one key the next one and the one before are found.
+fn are_neighbours(tree: &mut NdxTree, key: &[u8], numbers: &[u32]) -> bool {
+    let mut all = true;
+    for number in numbers {
+        let next = number.saturating_add(1);
+        all = all
+            && has_number(&tree.after(key, *number), next)
+            && has_number(&tree.before(key, next), *number);
+    }
+    all
+}
+
+// Whether each pair goes out once.
+fn go_out(tree: &mut NdxTree, key: &[u8], numbers: &[u32]) -> bool {
+    let mut all = true;
+    for number in numbers {
+        all = tree.remove(key, *number) && !tree.remove(key, *number) && all;
+    }
+    all
+}
+
+fn has_size(tree: &mut NdxTree, pairs: usize, height: usize) -> bool {
+    tree.len() == pairs && tree.height() == height
+}
+
+// A key of a hundred bytes, all the same.
+fn long_key() -> [u8; 100] {
+    [b'K'; 100]
+}
+
 #[test]
 fn grows_and_shrinks(rt: HostRuntime) -> Result<(), Fail> {
     let mut tree = empty_tree(rt.alloc(), 100)?;
-    let key = [b'K'; 100];
-    for number in [3, 1, 5, 2, 4] {
-        assert!(rt; put(&mut tree, &key, number)?);
-    }
-    assert_eq!(rt; (tree.len(), tree.height()), (5, 2));
+    let key = long_key();
+    assert!(rt; put_all(&mut tree, &key, &[3, 1, 5, 2, 4])? && has_size(&mut tree, 5, 2));
     assert!(rt; has_number(&tree.first(), 1) && has_number(&tree.last(), 5));
-    for number in 1..5 {
-        assert!(rt; has_number(&tree.after(&key, number), number + 1));
-        assert!(rt; has_number(&tree.before(&key, number + 1), number));
-    }
-    for number in [5, 2, 1, 4, 3] {
-        assert!(rt; tree.remove(&key, number));
-        assert!(rt; !tree.remove(&key, number));
-    }
-    assert_eq!(rt; (tree.len(), tree.height()), (0, 1));
+    assert!(rt; are_neighbours(&mut tree, &key, &[1, 2, 3, 4]));
+    assert!(rt; go_out(&mut tree, &key, &[5, 2, 1, 4, 3]) && has_size(&mut tree, 0, 1));
     Ok(())
+}
+
+// Whether a search found the record, and looked at so many pages.
+fn found_in(tree: &NdxTree, found: &Option<Entry>, number: u32, pages: usize) -> bool {
+    has_number(found, number) && tree.pages_seen() == pages
+}
+
+// Whether each search in the tree below looks at two pages.
+fn looks_at_two(tree: &mut NdxTree, key: &[u8]) -> bool {
+    let first = tree.first_from(b"SM");
+    let mut all = found_in(tree, &first, 1, 2);
+    let next = tree.after(key, 29);
+    all = all && found_in(tree, &next, 30, 2);
+    let before = tree.before(key, 2);
+    all = all && found_in(tree, &before, 1, 2);
+    let last = tree.last();
+    all && found_in(tree, &last, 30, 2)
 }
 
 #[test]
@@ -112,15 +154,7 @@ fn looks_at_one_page_a_level(rt: HostRuntime) -> Result<(), Fail> {
     for number in 1..31 {
         assert!(rt; put(&mut tree, b"SMITH     ", number)?);
     }
-    assert_eq!(rt; tree.height(), 2);
-    assert!(rt; has_number(&tree.first_from(b"SM"), 1));
-    assert_eq!(rt; tree.pages_seen(), 2);
-    assert!(rt; has_number(&tree.after(b"SMITH     ", 29), 30));
-    assert_eq!(rt; tree.pages_seen(), 2);
-    assert!(rt; has_number(&tree.before(b"SMITH     ", 2), 1));
-    assert_eq!(rt; tree.pages_seen(), 2);
-    assert!(rt; has_number(&tree.last(), 30));
-    assert_eq!(rt; tree.pages_seen(), 2);
+    assert!(rt; tree.height() == 2 && looks_at_two(&mut tree, b"SMITH     "));
     Ok(())
 }
 
@@ -177,17 +211,23 @@ fn compare(tree: &mut NdxTree, list: &mut SortedKeys) -> Result<(Option<u32>, us
     Ok((None, highest))
 }
 
+// Whether the tree, written and read again, has the pairs of the list.
+fn comes_back(alloc: Global, tree: &NdxTree, list: &mut SortedKeys) -> Result<bool, AllocError> {
+    let bytes = written(tree, alloc)?;
+    match read(alloc, &bytes) {
+        Err(_) => Ok(false),
+        Ok(mut again) => Ok(have_same_pairs(&mut again, list)),
+    }
+}
+
 #[test]
 fn answers_as_a_sorted_vector(rt: HostRuntime) -> Result<(), Fail> {
     let mut tree = empty_tree(rt.alloc(), 100)?;
     let mut list = empty_vector(rt.alloc(), 100)?;
     let (difference, highest) = compare(&mut tree, &mut list)?;
     assert_eq!(rt; difference, None);
-    assert!(rt; highest >= 4);
-    assert!(rt; have_same_pairs(&mut tree, &mut list));
-    let bytes = written(&tree, rt.alloc())?;
-    let mut again = read(rt.alloc(), &bytes).expect(&rt, "an index file");
-    assert!(rt; have_same_pairs(&mut again, &mut list));
+    assert!(rt; highest >= 4 && have_same_pairs(&mut tree, &mut list));
+    assert!(rt; comes_back(rt.alloc(), &tree, &mut list)?);
     Ok(())
 }
 
@@ -200,40 +240,61 @@ fn three(alloc: Global) -> Result<NdxTree, AllocError> {
     Ok(tree)
 }
 
-const HEAD: [u8; 26] = [
-    1, 0, 0, 0, 2, 0, 0, 0, 0, 0, 0, 0, 1, 0, 42, 0, 0, 0, 12, 0, 0, 0, 0, 0, b'K', 0,
-];
+fn head() -> [u8; 26] {
+    [
+        1, 0, 0, 0, 2, 0, 0, 0, 0, 0, 0, 0, 1, 0, 42, 0, 0, 0, 12, 0, 0, 0, 0, 0, b'K', 0,
+    ]
+}
 
-const LEAF: [u8; 44] = [
-    3, 0, 0, 0, 0, 0, 0, 0, 2, 0, 0, 0, b'B', 0, 0, 0, 0, 0, 0, 0, 3, 0, 0, 0, b'C', 0, 0, 0, 0, 0,
-    0, 0, 1, 0, 0, 0, b'Z', 0, 0, 0, 0, 0, 0, 0,
-];
+fn leaf() -> [u8; 44] {
+    [
+        3, 0, 0, 0, 0, 0, 0, 0, 2, 0, 0, 0, b'B', 0, 0, 0, 0, 0, 0, 0, 3, 0, 0, 0, b'C', 0, 0, 0,
+        0, 0, 0, 0, 1, 0, 0, 0, b'Z', 0, 0, 0, 0, 0, 0, 0,
+    ]
+}
+
+// Whether a page is these bytes and zeros.
+fn is_page(page: &[u8], front: &[u8]) -> bool {
+    page.strip_prefix(front)
+        .is_some_and(|rest| rest.iter().all(|byte| *byte == 0))
+}
+
+// Whether the bytes are the index file of the three rows.
+fn is_file_of_three(bytes: &[u8]) -> bool {
+    match bytes.split_at_checked(PAGE) {
+        Some((first, second)) => {
+            second.len() == PAGE && is_page(first, &head()) && is_page(second, &leaf())
+        }
+        None => false,
+    }
+}
+
+// Whether the bytes are read as the tree of the three rows.
+fn reads_as_three(alloc: Global, bytes: &[u8]) -> bool {
+    match read(alloc, bytes) {
+        Err(_) => false,
+        Ok(mut tree) => {
+            tree.key_length() == 1
+                && tree.key_text() == b"K".as_slice()
+                && has_size(&mut tree, 3, 1)
+                && has_number(&tree.first(), 2)
+                && has_number(&tree.last(), 1)
+        }
+    }
+}
 
 #[test]
 fn writes_an_index_of_three_rows(rt: HostRuntime) -> Result<(), Fail> {
     let tree = three(rt.alloc())?;
     let bytes = written(&tree, rt.alloc())?;
-    assert_eq!(rt; bytes.len(), 1024);
-    for (place, byte) in bytes.iter().enumerate() {
-        let want = if place < PAGE {
-            HEAD.get(place).copied().unwrap_or(0)
-        } else {
-            LEAF.get(place - PAGE).copied().unwrap_or(0)
-        };
-        assert_eq!(rt; *byte, want, "at {place}");
-    }
-    let mut again = read(rt.alloc(), &bytes).expect(&rt, "an index file");
-    assert_eq!(rt; (again.key_length(), again.len()), (1, 3));
-    assert_eq!(rt; again.key_text(), &b"K"[..]);
-    assert!(rt; has_number(&again.first(), 2) && has_number(&again.last(), 1));
+    assert!(rt; is_file_of_three(&bytes));
+    assert!(rt; reads_as_three(rt.alloc(), &bytes));
     Ok(())
 }
 
-#[test]
-fn tells_the_first_fault(rt: HostRuntime) -> Result<(), Fail> {
-    let tree = three(rt.alloc())?;
-    // places, the bytes that are put there, and what is told
-    let changes: [(&[(usize, u8)], TreeFault); 9] = [
+// Changes of that file, each a place and the byte that is put there, and what is told.
+fn changes() -> [(&'static [(usize, u8)], TreeFault); 9] {
+    [
         (&[(16, 1)], TreeFault::Head),
         (&[(0, 0)], TreeFault::Reach),
         (&[(0, 2)], TreeFault::Reach),
@@ -246,14 +307,40 @@ fn tells_the_first_fault(rt: HostRuntime) -> Result<(), Fail> {
         (&[(512, 1), (516, 9), (528, 0)], TreeFault::Page),
         (&[(524, b'D')], TreeFault::Order),
         (&[(536, b'B'), (532, 2)], TreeFault::Order),
-    ];
-    for (place, (edits, want)) in changes.iter().enumerate() {
-        let mut bytes = written(&tree, rt.alloc())?;
-        for (at, byte) in edits.iter() {
-            set(&mut bytes, *at, *byte);
-        }
-        assert_eq!(rt; fault_of(rt.alloc(), &bytes), Some(*want), "change {place}");
+    ]
+}
+
+// The file of the tree with these changes.
+fn changed(alloc: Global, tree: &NdxTree, edits: &[(usize, u8)]) -> Result<Vec<u8>, AllocError> {
+    let mut bytes = written(tree, alloc)?;
+    for (place, byte) in edits {
+        set(&mut bytes, *place, *byte);
     }
+    Ok(bytes)
+}
+
+// The place of the first line of the table whose fault isn't told.
+fn first_untold(
+    alloc: Global,
+    tree: &NdxTree,
+    changes: &[(&'static [(usize, u8)], TreeFault)],
+) -> Result<Option<usize>, AllocError> {
+    for (line, (edits, fault)) in changes.iter().enumerate() {
+        let bytes = changed(alloc, tree, edits)?;
+        if fault_of(alloc, &bytes) != Some(*fault) {
+            return Ok(Some(line));
+        }
+    }
+    Ok(None)
+}
+
+#[test]
+fn tells_the_first_fault(rt: HostRuntime) -> Result<(), Fail> {
+    let tree = three(rt.alloc())?;
+    assert_eq!(rt;
+        first_untold(rt.alloc(), &tree, changes().as_slice())?,
+        None
+    );
     Ok(())
 }
 
@@ -264,32 +351,32 @@ fn chain(alloc: Global, pages: u8) -> Result<Vec<u8>, AllocError> {
     }
 }
 
+// Appends a page of these bytes and zeros.
+fn push_page(file: &mut Vec<u8>, front: &[u8]) -> Result<(), AllocError> {
+    file.extend_from_slice(front)?;
+    for _rest in front.len()..PAGE {
+        file.push(0)?;
+    }
+    Ok(())
+}
+
 // A file of pages without entries, each the parent of the next, so many in all: the last is an empty leaf.
 fn chain_once(alloc: Global, pages: u8) -> Result<Vec<u8>, AllocError> {
     let mut bytes = Vec::new(alloc);
-    bytes.extend_from_slice(&HEAD)?;
-    for _rest in HEAD.len()..PAGE {
-        bytes.push(0)?;
-    }
+    push_page(&mut bytes, &head())?;
     for page in 1..pages {
-        bytes.extend_from_slice(&[0, 0, 0, 0, page + 1, 0, 0, 0])?;
-        for _rest in 8..PAGE {
-            bytes.push(0)?;
-        }
+        push_page(&mut bytes, &[0, 0, 0, 0, page + 1, 0, 0, 0])?;
     }
-    for _rest in 0..PAGE {
-        bytes.push(0)?;
-    }
+    push_page(&mut bytes, &[])?;
     Ok(bytes)
 }
 
 #[test]
 fn twenty_pages_deep(rt: HostRuntime) -> Result<(), Fail> {
     let bytes = chain(rt.alloc(), 20)?;
-    let tree = read(rt.alloc(), &bytes).expect(&rt, "an index file");
-    assert_eq!(rt; (tree.len(), tree.height()), (0, 1));
-    let bytes = chain(rt.alloc(), 21)?;
-    assert_eq!(rt; fault_of(rt.alloc(), &bytes), Some(TreeFault::Depth));
+    assert!(rt; read(rt.alloc(), &bytes).is_ok_and(|mut tree| has_size(&mut tree, 0, 1)));
+    let deeper = chain(rt.alloc(), 21)?;
+    assert!(rt; fault_of(rt.alloc(), &deeper) == Some(TreeFault::Depth));
     Ok(())
 }
 
@@ -305,47 +392,65 @@ fn is_free(place: usize) -> bool {
     }
 }
 
-#[test]
-fn every_byte_counts_or_is_free(rt: HostRuntime) -> Result<(), Fail> {
-    let mut tree = empty_tree(rt.alloc(), 100)?;
-    for number in 1..6 {
-        assert!(rt; put(&mut tree, &[b'K'; 100], number)?);
+// Whether the bytes are read as a tree of that key text and with those pairs.
+fn says_the_same(alloc: Global, bytes: &[u8], tree: &mut NdxTree) -> bool {
+    match read(alloc, bytes) {
+        Err(_) => false,
+        Ok(mut other) => {
+            other.key_text() == tree.key_text() && have_same_pairs(&mut other, tree)
+        }
     }
-    let mut bytes = written(&tree, rt.alloc())?;
-    assert_eq!(rt; bytes.len(), 4 * PAGE);
+}
+
+// The first byte of the file that says something and should not, or says nothing and should.
+fn first_wrong_byte(alloc: Global, bytes: &mut [u8], tree: &mut NdxTree) -> Option<usize> {
     for place in 0..bytes.len() {
         let old = bytes[place];
-        set(&mut bytes, place, old ^ 1);
-        let kept = match read(rt.alloc(), &bytes) {
-            Err(_) => false,
-            Ok(mut other) => {
-                other.key_text() == tree.key_text() && have_same_pairs(&mut other, &mut tree)
-            }
-        };
-        set(&mut bytes, place, old);
-        assert_eq!(rt; kept, is_free(place), "at {place}");
+        bytes[place] = old ^ 1;
+        let kept = says_the_same(alloc, bytes, tree);
+        bytes[place] = old;
+        if kept != is_free(place) {
+            return Some(place);
+        }
     }
-    Ok(())
+    None
+}
+
+// A tree of five records of one long key.
+fn five(alloc: Global) -> Result<NdxTree, AllocError> {
+    let mut tree = empty_tree(alloc, 100)?;
+    put_all(&mut tree, &long_key(), &[1, 2, 3, 4, 5])?;
+    Ok(tree)
 }
 
 #[test]
-fn cut_files(rt: HostRuntime) -> Result<(), Fail> {
-    let mut tree = empty_tree(rt.alloc(), 100)?;
-    for number in 1..6 {
-        assert!(rt; put(&mut tree, &[b'K'; 100], number)?);
-    }
-    let bytes = written(&tree, rt.alloc())?;
+fn every_byte_counts_or_is_free(rt: HostRuntime) -> Result<(), Fail> {
+    let mut tree = five(rt.alloc())?;
+    let mut bytes = written(&tree, rt.alloc())?;
+    assert!(rt; bytes.len() == 4 * PAGE);
+    assert_eq!(rt; first_wrong_byte(rt.alloc(), &mut bytes, &mut tree), None);
+    Ok(())
+}
+
+// The first length to which the file can be cut without the fault that is wanted.
+fn first_wrong_cut(alloc: Global, bytes: &[u8]) -> Option<usize> {
     for length in 0..bytes.len() {
         let want = if length < PAGE {
             TreeFault::Head
         } else {
             TreeFault::Reach
         };
-        assert_eq!(rt;
-            fault_of(rt.alloc(), &bytes[..length]),
-            Some(want),
-            "of {length}"
-        );
+        if fault_of(alloc, &bytes[..length]) != Some(want) {
+            return Some(length);
+        }
     }
+    None
+}
+
+#[test]
+fn cut_files(rt: HostRuntime) -> Result<(), Fail> {
+    let tree = five(rt.alloc())?;
+    let bytes = written(&tree, rt.alloc())?;
+    assert_eq!(rt; first_wrong_cut(rt.alloc(), &bytes), None);
     Ok(())
 }

@@ -6,5 +6,3 @@
 mod code_files;
 #[cfg(test)]
 mod program;
-#[cfg(test)]
-mod reader;

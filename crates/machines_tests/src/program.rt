@@ -1,8 +1,9 @@
 // Code files run whole, over files in memory.
 #![tactic(auto)]
 
-mod assembler;
+pub(crate) mod assembler;
 mod codes;
 mod listings;
-mod three_rows;
+mod stored;
+pub(crate) mod three_rows;
 mod values;

@@ -249,6 +249,32 @@ fn compares_texts_exactly(rt: HostRuntime) {
     assert!(rt; less_text(b"AB", b"AC"));
 }
 
+fn with_century_on() -> [Calls; 4] {
+    [
+        (
+            Fun::DateAdd,
+            "02/29/88|366=03/01/1989;12/31/9999|1=  /  /    ",
+        ),
+        (
+            Fun::Dtoc,
+            "1/2/0007=01/02/0007;12/31/9999=12/31/9999;=  /  /    ",
+        ),
+        (
+            Fun::Ctod,
+            "02/29/88=02/29/1988;12/31/2001=12/31/2001;x=  /  /    ",
+        ),
+        (Fun::Year, "03/01/89=1989"),
+    ]
+}
+
+#[test]
+fn shows_whole_years(rt: HostRuntime) {
+    let century = Settings::off().with(Setting::Century, true);
+    assert_eq!(rt; first_wrong(century, with_century_on().as_slice()), None);
+    let off = century.with(Setting::Century, false);
+    assert_eq!(rt; first_wrong(off, of_dates().as_slice()), None);
+}
+
 /// Whether a result is as long as texts may be, and ends so.
 fn is_cut_after(fun: Fun, values: &[Value], end: &str) -> bool {
     let result = result_of_values(Settings::off(), fun, values);

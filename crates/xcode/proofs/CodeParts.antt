@@ -8,7 +8,7 @@ use Rattle.xvalue.specs.declared.kind.Kind.{Kind}
 use Rattle.xvalue.specs.declared.kind.Kind.TheVariants.{Number as OfNumber, Text as OfText, Date as OfDate, Logical as OfLogical}
 use Rattle.xvalue.specs.declared.fun.Fun.{Fun}
 use Rattle.xvalue.specs.declared.settings.Setting.{Setting}
-use Rattle.xvalue.specs.declared.settings.Setting.TheVariants.{Exact, Deleted}
+use Rattle.xvalue.specs.declared.settings.Setting.TheVariants.{Exact, Deleted, Century}
 use Rattle.xvalue.specs.Signature.{number_of, numbered, NumbersAgree}
 use Rattle.code_model.specs.declared.instr.Question.{Question}
 use Rattle.code_model.specs.declared.instr.Question.TheVariants.{Today}
@@ -20,7 +20,7 @@ use Rattle.code_model.specs.declared.instr.Instr.{Instr}
 use Rattle.code_model.specs.declared.instr.Instr.TheVariants.{Constant, Load, Store, Unset, Discard, Function, Ask, Jump, JumpFalse, End, NewLine, Print, Set}
 use Rattle.xcode.specs.CodeFile.{two, kind_number, setting_number, question_number, slot_number, truth_number, constant_text, parts_of, parts_text, instr_text}
 use Rattle.xcode.specs.CodeReading.{◌>>=◌, wanted, byte_at, number_at, kind_of_byte, slot_at, kind_at, text_at, truth_at, value_at, constant_at, operand, kind_if, known, question_of_byte, setting_of_byte, switch_of, setting_and_switch, instr_of, instr_at}
-use Rattle.code_model.specs.Legal.{IsConstant, IsInstr}
+use Rattle.code_model.specs.Legal.{IsConstant, IsSaid, IsInstr}
 use Rattle.xcode.proofs.CodeValues.{decimal_takes, decimal_again, date_takes, date_again}
 use Rattle.xcode.proofs.CodeBytes.{chosen, both_true, IsBytes, IsBytes-drop, IsBytes-take, each_byte, bind_ok, wanted_ok, ok_is, Takes, Takes-then, byte_takes, wide16, wide32, number_takes, number_again}
 
@@ -230,12 +230,15 @@ question_takes byte question e =
       | inr h ↦ absurd (no_answer question h.1)
     ]
 
-setting_takes : (byte : ℕ) (setting : Setting) → setting_of_byte byte ≡ Ok setting → byte ≡ setting_number setting
+abbrev IsSettingOf : ℕ → Setting → Type 0
+IsSettingOf byte setting = (byte ≡ setting_number setting) × IsSaid setting
+
+setting_takes : (byte : ℕ) (setting : Setting) → setting_of_byte byte ≡ Ok setting → IsSettingOf byte setting
 setting_takes byte setting e =
     elim (chosen (eqb byte 1) (given Exact) (cond (eqb byte 2) (Ok Deleted) (Err Operation)) (Ok setting) e) [
-      | inl h ↦ eqb-true byte 1 h.0 ∙ ap setting_number (ok_is Exact setting h.1)
+      | inl h ↦ subst (IsSettingOf byte) (ok_is Exact setting h.1) (eqb-true byte 1 h.0, tt)
       | inr h ↦ elim (chosen (eqb byte 2) (given Deleted) (Err Operation) (Ok setting) h.1) [
-        | inl k ↦ eqb-true byte 2 k.0 ∙ ap setting_number (ok_is Deleted setting k.1)
+        | inl k ↦ subst (IsSettingOf byte) (ok_is Deleted setting k.1) (eqb-true byte 2 k.0, tt)
         | inr k ↦ absurd (no_answer setting k.1)
       ]
     ]
@@ -250,12 +253,12 @@ switch_takes number on e =
       ]
     ]
 
-both_take : (byte number : ℕ) (x : Setting × Bool) → setting_and_switch byte number ≡ Ok x → (byte ≡ setting_number x.0) × (number ≡ truth_number x.1)
+both_take : (byte number : ℕ) (x : Setting × Bool) → setting_and_switch byte number ≡ Ok x → IsSettingOf byte x.0 × (number ≡ truth_number x.1)
 both_take byte number x e =
     let s = bind_ok (setting_of_byte byte) _ x e in
     let t = bind_ok (switch_of number) _ x s.2 in
     let made : Setting × Bool = (s.0, t.0) in
-    subst (λ (y : Setting × Bool). (byte ≡ setting_number y.0) × (number ≡ truth_number y.1)) (ok_is made x t.2) (setting_takes byte s.0 s.1, switch_takes number t.0 t.1)
+    subst (λ (y : Setting × Bool). IsSettingOf byte y.0 × (number ≡ truth_number y.1)) (ok_is made x t.2) (setting_takes byte s.0 s.1, switch_takes number t.0 t.1)
 
 parts_same : (o a b c o' a' b' c' : ℕ) → o ≡ o' → a ≡ a' → b ≡ b' → c ≡ c' → parts_text (record { operation = o; a = a; b = b; c = c }) ≡ parts_text (record { operation = o'; a = a'; b = b'; c = c' })
 parts_same o a b c o' a' b' c' e f g h = rw (e, f, g, h) refl
@@ -290,7 +293,7 @@ instr_made agree operation a b c i b_fits c_fits =
     plain_made operation 0x14 a b c (eqb a 0 && eqb b 0 && eqb c 0) End i _ (λ o u. let z = zero_three a b c u in (parts_same operation a b c 0x14 0 0 0 o z.0 z.1 z.2, tt)) (
     plain_made operation 0x40 a b c (eqb a 0 && eqb b 0 && eqb c 0) NewLine i _ (λ o u. let z = zero_three a b c u in (parts_same operation a b c 0x40 0 0 0 o z.0 z.1 z.2, tt)) (
     with_kind_made operation 0x41 a b c (eqb b 0 && eqb c 0) (λ kind. Print kind) i _ (λ kind o k u. let z = zero_two b c u in (parts_same operation a b c 0x41 (kind_number kind) 0 0 o k z.0 z.1, tt)) (
-    with_operand_made operation 0x46 a b c (eqb c 0) (setting_and_switch a b) (λ x. Set x.0 x.1) i _ (λ x o r u. let t = both_take a b x r in (parts_same operation a b c 0x46 (setting_number x.0) (truth_number x.1) 0 o t.0 t.1 (eqb-true c 0 u), tt))
+    with_operand_made operation 0x46 a b c (eqb c 0) (setting_and_switch a b) (λ x. Set x.0 x.1) i _ (λ x o r u. let t = both_take a b x r in (parts_same operation a b c 0x46 (setting_number x.0) (truth_number x.1) 0 o t.0.0 t.1 (eqb-true c 0 u), t.0.1))
     (λ e. absurd (no_instr i e))))))))))))))
 
 pub instr_takes : NumbersAgree → (bytes : List ℕ) (x : Instr × List ℕ) → IsBytes bytes → instr_at bytes ≡ Ok x → Takes bytes (instr_text x.0) x.1 × IsInstr x.0
@@ -316,36 +319,37 @@ instr_takes agree bytes x fits e =
     let made : Instr × List ℕ = (i.0, c.0.1) in
     subst (λ (y : Instr × List ℕ). Takes bytes (instr_text y.0) y.1 × IsInstr y.0) (ok_is made x i.2) (subst (λ (l : List ℕ). Takes bytes l c.0.1) m.0 from_start, m.1)
 
-made_again : NumbersAgree → (i : Instr) → instr_of (parts_of i).operation (parts_of i).a (parts_of i).b (parts_of i).c ≡ Ok i
+made_again : NumbersAgree → (i : Instr) → IsInstr i → instr_of (parts_of i).operation (parts_of i).a (parts_of i).b (parts_of i).c ≡ Ok i
 unfolding instr_of
-made_again agree (Constant number) = refl
-made_again agree (Load OfNumber slot) = refl
-made_again agree (Load OfText slot) = refl
-made_again agree (Load OfDate slot) = refl
-made_again agree (Load OfLogical slot) = refl
-made_again agree (Store OfNumber slot) = refl
-made_again agree (Store OfText slot) = refl
-made_again agree (Store OfDate slot) = refl
-made_again agree (Store OfLogical slot) = refl
-made_again agree (Unset slot) = refl
-made_again agree (Discard OfNumber) = refl
-made_again agree (Discard OfText) = refl
-made_again agree (Discard OfDate) = refl
-made_again agree (Discard OfLogical) = refl
-made_again agree (Function fun) = rw (agree.found fun) refl
-made_again agree (Ask Today) = refl
-made_again agree (Jump place) = refl
-made_again agree (JumpFalse place) = refl
-made_again agree End = refl
-made_again agree NewLine = refl
-made_again agree (Print OfNumber) = refl
-made_again agree (Print OfText) = refl
-made_again agree (Print OfDate) = refl
-made_again agree (Print OfLogical) = refl
-made_again agree (Set Exact false) = refl
-made_again agree (Set Exact true) = refl
-made_again agree (Set Deleted false) = refl
-made_again agree (Set Deleted true) = refl
+made_again agree (Constant number) h = refl
+made_again agree (Load OfNumber slot) h = refl
+made_again agree (Load OfText slot) h = refl
+made_again agree (Load OfDate slot) h = refl
+made_again agree (Load OfLogical slot) h = refl
+made_again agree (Store OfNumber slot) h = refl
+made_again agree (Store OfText slot) h = refl
+made_again agree (Store OfDate slot) h = refl
+made_again agree (Store OfLogical slot) h = refl
+made_again agree (Unset slot) h = refl
+made_again agree (Discard OfNumber) h = refl
+made_again agree (Discard OfText) h = refl
+made_again agree (Discard OfDate) h = refl
+made_again agree (Discard OfLogical) h = refl
+made_again agree (Function fun) h = rw (agree.found fun) refl
+made_again agree (Ask Today) h = refl
+made_again agree (Jump place) h = refl
+made_again agree (JumpFalse place) h = refl
+made_again agree End h = refl
+made_again agree NewLine h = refl
+made_again agree (Print OfNumber) h = refl
+made_again agree (Print OfText) h = refl
+made_again agree (Print OfDate) h = refl
+made_again agree (Print OfLogical) h = refl
+made_again agree (Set Exact false) h = refl
+made_again agree (Set Exact true) h = refl
+made_again agree (Set Deleted false) h = refl
+made_again agree (Set Deleted true) h = refl
+made_again agree (Set Century on) h = absurd h
 
 numbers_fit : (i : Instr) → IsInstr i → ((parts_of i).b < 2 ^ 16) × ((parts_of i).c < 2 ^ 32)
 numbers_fit (Constant number) h = (h, omega arith)
@@ -373,4 +377,4 @@ instr_again agree i rest h =
     let b = (parts_of i).b in
     let c = (parts_of i).c in
     parts_again (parts_of i).operation (parts_of i).a b c i (two b ++ (to_le_bytes w32 c ++ rest)) (to_le_bytes w32 c ++ rest) rest
-    (number_again Short w16 (2 ^ 16) wide16 b (to_le_bytes w32 c ++ rest) n.0) (number_again Short w32 (2 ^ 32) wide32 c rest n.1) (le-leb _ _ (omega arith)) (made_again agree i)
+    (number_again Short w16 (2 ^ 16) wide16 b (to_le_bytes w32 c ++ rest) n.0) (number_again Short w32 (2 ^ 32) wide32 c rest n.1) (le-leb _ _ (omega arith)) (made_again agree i h)

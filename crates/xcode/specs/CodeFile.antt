@@ -6,7 +6,7 @@ use Rattle.xvalue.specs.declared.kind.Kind.{Kind}
 use Rattle.xvalue.specs.declared.kind.Kind.TheVariants.{Number as OfNumber, Text as OfText, Date as OfDate, Logical as OfLogical}
 use Rattle.xvalue.specs.declared.day.DayParts.{DayParts}
 use Rattle.xvalue.specs.declared.settings.Setting.{Setting}
-use Rattle.xvalue.specs.declared.settings.Setting.TheVariants.{Exact, Deleted}
+use Rattle.xvalue.specs.declared.settings.Setting.TheVariants.{Exact, Deleted, Century}
 use Rattle.xvalue.specs.Signature.{number_of}
 use Rattle.fixed_num.specs.Number.{Number as Decimal, asterisk, finite}
 use Rattle.code_model.specs.declared.instr.Question.{Question}
@@ -53,6 +53,7 @@ kind_number OfLogical = 4
 abbrev pub setting_number : Setting → ℕ
 setting_number Exact = 1
 setting_number Deleted = 2
+setting_number Century = 3
 
 abbrev pub question_number : Question → ℕ
 question_number Today = 7

@@ -34,6 +34,7 @@ fn number_of_setting(setting: Setting) -> u8
     match setting {
         Setting::Exact => 1,
         Setting::Deleted => 2,
+        Setting::Century => 3,
     }
 }
 

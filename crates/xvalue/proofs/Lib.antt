@@ -1,7 +1,8 @@
+pub mod AnswerLemmas
+pub mod CalendarLemmas
 pub mod Gathering
 pub mod Numbers
-pub mod TextLemmas
-pub mod CalendarLemmas
 pub mod OrderLemmas
-pub mod AnswerLemmas
 pub mod ReadLemmas
+pub mod ShownLemmas
+pub mod TextLemmas

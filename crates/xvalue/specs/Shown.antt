@@ -18,10 +18,19 @@ in_ten_places text = replicate (10 - length text) 32 ++ text
 unfoldable pub shown_number : Decimal → List ℕ
 shown_number number = in_ten_places (text_of number)
 
--- the month, the day and the last two digits of the year; blanks in their places of the blank date
+-- a year's four digits with CENTURY on, else its last two
+abbrev pub year_places : Bool → ℕ
+year_places true = 4
+year_places false = 2
+
+-- the month, the day and the year, with `/` between them
+abbrev pub day_text : List ℕ → List ℕ → List ℕ → List ℕ
+day_text month day year = month ++ 47 ∷ day ++ 47 ∷ year
+
+-- a day's two, two, and two or four digits; blanks in their places of the blank date
 unfoldable pub shown_day : Settings → Option DayParts → List ℕ
-shown_day settings None = codes "  /  /  "
-shown_day settings (Some parts) = last_digits 2 parts.month ++ 47 ∷ last_digits 2 parts.day ++ 47 ∷ last_digits 2 parts.year
+shown_day settings None = day_text (replicate 2 32) (replicate 2 32) (replicate (year_places settings.century) 32)
+shown_day settings (Some parts) = day_text (last_digits 2 parts.month) (last_digits 2 parts.day) (last_digits (year_places settings.century) parts.year)
 
 -- a value's bytes on the screen under the settings
 abbrev pub shown : Settings → Value → List ℕ

@@ -16,6 +16,7 @@ ghost use Rattle.xvalue.specs.Calendar.{day_number, days_on, is_day, same_date, 
 ghost use Rattle.xvalue.specs.Texts.{equal_texts, is_before, without_last_blanks, first_place, place_number, begins_with, stuffed, part_from};
 ghost use Rattle.xvalue.specs.Laws.{HasShortText, LiesThere, IsSooner, AreReadAsWritten};
 ghost use Rattle.xvalue.specs.declared.value.Value.{Value as AnyValue};
+ghost use Rattle.xvalue.specs.Shown.{shown_day};
 ghost use Rattle.xvalue.specs.Answers.{answered, text_answered};
 
 /// Each function gives a value of the kind that its table says.
@@ -120,6 +121,12 @@ pub fn functions_have_their_numbers()
 /// Kinds that are found the same are the same.
 pub fn same_kinds_are_equal()
     ensures { (one other : AnyKind) → same_kind one other ≡ true → one ≡ other }
+{}
+
+/// A date's text has eight bytes, and ten with CENTURY on, the blank date's too.
+pub fn dates_have_their_length()
+    ensures off { (settings : AnySettings) (date : Option Parts) → settings.century ≡ false → length (shown_day settings date) ≡ 8 }
+    ensures on { (settings : AnySettings) (date : Option Parts) → settings.century ≡ true → length (shown_day settings date) ≡ 10 }
 {}
 
 /// What a line leaves of a value is of the value's kind.

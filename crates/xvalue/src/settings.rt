@@ -11,6 +11,8 @@ pub enum Setting {
     Exact,
     /// Whether marked records are hidden.
     Deleted,
+    /// Whether dates show their year whole.
+    Century,
 }
 
 /// Which settings are on.
@@ -18,6 +20,7 @@ pub enum Setting {
 pub struct Settings {
     pub exact: bool,
     pub deleted: bool,
+    pub century: bool,
 }
 
 impl Settings {
@@ -28,6 +31,7 @@ impl Settings {
         Settings {
             exact: false,
             deleted: false,
+            century: false,
         }
     }
 
@@ -39,6 +43,10 @@ impl Settings {
             Setting::Exact => Settings { exact: on, ..self },
             Setting::Deleted => Settings {
                 deleted: on,
+                ..self
+            },
+            Setting::Century => Settings {
+                century: on,
                 ..self
             },
         }

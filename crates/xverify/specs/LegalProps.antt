@@ -8,13 +8,15 @@ use Rattle.xvalue.specs.declared.value.Value.{Value}
 use Rattle.xvalue.specs.declared.value.Value.TheVariants.{Number, Text, Date, Logical}
 use Rattle.xvalue.specs.declared.day.DayParts.{DayParts}
 use Rattle.xvalue.specs.Days.{IsDay}
+use Rattle.xvalue.specs.declared.settings.Setting.{Setting}
+use Rattle.xvalue.specs.declared.settings.Setting.TheVariants.{Exact, Deleted, Century}
 use Rattle.fixed_num.specs.Number.{Number as Decimal, asterisk, finite}
 use Rattle.code_model.specs.declared.code.Map.{Map}
 use Rattle.code_model.specs.declared.code.Proc.{Proc}
 use Rattle.code_model.specs.declared.state.State.{State}
 use Rattle.code_model.specs.declared.instr.Instr.{Instr}
 use Rattle.code_model.specs.declared.instr.Instr.TheVariants.{Constant, Load, Store, Unset, Discard, Function, Ask, Jump, JumpFalse, End, NewLine, Print, Set}
-use Rattle.code_model.specs.Legal.{IsWritten, IsDate, IsConstant, IsInstr, RiseFrom, IsMain, MainIs}
+use Rattle.code_model.specs.Legal.{IsWritten, IsDate, IsConstant, IsSaid, IsInstr, RiseFrom, IsMain, MainIs}
 
 IsWritten-prop : (number : Decimal) → IsProp (IsWritten number)
 IsWritten-prop asterisk = λ x y. absurd x
@@ -37,6 +39,11 @@ IsConstant-prop (Date day) = IsDate-prop day
 IsConstant-prop (Text text) = ×_prop le_prop (AllByRecursion-prop _ (λ _. le_prop) text.items)
 IsConstant-prop (Logical truth) = Unit-prop
 
+IsSaid-prop : (setting : Setting) → IsProp (IsSaid setting)
+IsSaid-prop Exact = Unit-prop
+IsSaid-prop Deleted = Unit-prop
+IsSaid-prop Century = λ x y. absurd x
+
 pub IsInstr-prop : (i : Instr) → IsProp (IsInstr i)
 IsInstr-prop (Constant number) = le_prop
 IsInstr-prop (Load kind slot) = le_prop
@@ -50,7 +57,7 @@ IsInstr-prop (JumpFalse place) = le_prop
 IsInstr-prop End = Unit-prop
 IsInstr-prop NewLine = Unit-prop
 IsInstr-prop (Print kind) = Unit-prop
-IsInstr-prop (Set setting on) = Unit-prop
+IsInstr-prop (Set setting on) = IsSaid-prop setting
 
 pub RiseFrom-prop : (least places : ℕ) (maps : List Map) → IsProp (RiseFrom least places maps)
 RiseFrom-prop least places [] = Unit-prop

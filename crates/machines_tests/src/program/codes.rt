@@ -2,10 +2,8 @@
 #![tactic(auto)]
 
 use super::assembler::{HandCode, HandMap, Parts, assembled};
-use file_commands::{MemoryEntry, MemoryFiles, run_files, verify_file};
-use std::alloc::Global;
-use std::process::Abort;
-use std::rt::Runtime;
+use super::stored::{run, verdict};
+use std::alloc::{AllocError, Global};
 use std::test::Fail;
 use tagged_machine::{End, FaultKind, Outcome};
 use xcode::Rule;
@@ -27,55 +25,30 @@ fn plain<'a>(stack_bound: u16, slots: u16, instructions: &'a [Parts]) -> HandCod
     }
 }
 
-/// The checking machine meets the fault in the code, at this place and after so many steps.
-fn meets<R: Runtime<A = Global> + Abort>(
-    rt: &R,
-    code: &HandCode<'_>,
-    kind: FaultKind,
-    at: usize,
-    steps: u64,
-) -> Result<(), Fail> {
-    let bytes = assembled(rt.alloc(), code)?;
-    let entries = [MemoryEntry {
-        name: "hand.xbc",
-        bytes: bytes.as_slice(),
-    }];
-    let mut files = MemoryFiles {
-        entries: &entries,
-        works: true,
-        failures: 0,
-    };
-    let report = run_files(rt.alloc(), &mut files, true, "hand.xbc", 100, Day::blank());
-    let end = End::Fault(kind, at);
-    assert_eq!(rt; report.result, Ok(Outcome { end, steps }), "for {kind:?}");
-    Ok(())
+/// A code, the fault that the checking machine meets in it, the place and the steps before it.
+type Faulty = (HandCode<'static>, FaultKind, usize, u64);
+
+/// Whether the checking machine meets the fault.
+fn meets(alloc: Global, faulty: &Faulty) -> Result<bool, AllocError> {
+    let (code, kind, at, steps) = faulty;
+    let bytes = assembled(alloc, code)?;
+    let report = run(alloc, &bytes, true, 100, Day::blank());
+    let end = End::Fault(*kind, *at);
+    Ok(report.result == Ok(Outcome { end, steps: *steps }))
 }
 
-/// The verifier refuses the code for the rule, at this place.
-fn breaks<R: Runtime<A = Global> + Abort>(
-    rt: &R,
-    code: &HandCode<'_>,
-    rule: Rule,
-    at: usize,
-) -> Result<(), Fail> {
-    let bytes = assembled(rt.alloc(), code)?;
-    let entries = [MemoryEntry {
-        name: "hand.xbc",
-        bytes: bytes.as_slice(),
-    }];
-    let mut files = MemoryFiles {
-        entries: &entries,
-        works: true,
-        failures: 0,
-    };
-    let answer = verify_file(rt.alloc(), &mut files, "hand.xbc");
-    assert_eq!(rt; answer, Ok(Some(Refused { rule, at })), "for {rule:?}");
-    Ok(())
+/// The place of the first line of the table whose fault isn't met.
+fn first_unmet(alloc: Global, lines: &[Faulty]) -> Result<Option<usize>, AllocError> {
+    for (line, faulty) in lines.iter().enumerate() {
+        if !meets(alloc, faulty)? {
+            return Ok(Some(line));
+        }
+    }
+    Ok(None)
 }
 
-#[test]
-fn meets_faults_of_slots_and_stack(rt: HostRuntime) -> Result<(), Fail> {
-    for (code, kind, at, steps) in [
+fn faults() -> [Faulty; 6] {
+    [
         (
             plain(1, 1, &[(0x02, LOGICAL, 0, 0), (0x14, 0, 0, 0)]),
             FaultKind::Unset,
@@ -100,15 +73,6 @@ fn meets_faults_of_slots_and_stack(rt: HostRuntime) -> Result<(), Fail> {
             1,
             1,
         ),
-    ] {
-        meets(&rt, &code, kind, at, steps)?;
-    }
-    Ok(())
-}
-
-#[test]
-fn meets_faults_of_jumps_and_constants(rt: HostRuntime) -> Result<(), Fail> {
-    for (code, kind, at, steps) in [
         (
             plain(1, 0, &[(0x10, 0, 0, 9), (0x14, 0, 0, 0)]),
             FaultKind::BadJump,
@@ -121,15 +85,41 @@ fn meets_faults_of_jumps_and_constants(rt: HostRuntime) -> Result<(), Fail> {
             0,
             0,
         ),
-    ] {
-        meets(&rt, &code, kind, at, steps)?;
-    }
-    Ok(())
+    ]
 }
 
 #[test]
-fn breaks_rules_of_slots_and_stack(rt: HostRuntime) -> Result<(), Fail> {
-    for (code, rule, at) in [
+fn meets_faults(rt: HostRuntime) -> Result<(), Fail> {
+    assert_eq!(rt; first_unmet(rt.alloc(), &faults())?, None);
+    Ok(())
+}
+
+/// A code, the rule that it breaks, and the place.
+type Broken = (HandCode<'static>, Rule, usize);
+
+/// Whether the verifier refuses the code for the rule.
+fn breaks(alloc: Global, broken: &Broken) -> Result<bool, AllocError> {
+    let (code, rule, at) = broken;
+    let bytes = assembled(alloc, code)?;
+    let refused = Refused {
+        rule: *rule,
+        at: *at,
+    };
+    Ok(verdict(alloc, &bytes) == Ok(Some(refused)))
+}
+
+/// The place of the first line of the table whose rule isn't told.
+fn first_unbroken(alloc: Global, lines: &[Broken]) -> Result<Option<usize>, AllocError> {
+    for (line, broken) in lines.iter().enumerate() {
+        if !breaks(alloc, broken)? {
+            return Ok(Some(line));
+        }
+    }
+    Ok(None)
+}
+
+fn rules() -> [Broken; 6] {
+    [
         (
             plain(1, 1, &[(0x02, LOGICAL, 0, 0), (0x14, 0, 0, 0)]),
             Rule::Unset,
@@ -150,25 +140,7 @@ fn breaks_rules_of_slots_and_stack(rt: HostRuntime) -> Result<(), Fail> {
             Rule::StackNotEmpty,
             1,
         ),
-    ] {
-        breaks(&rt, &code, rule, at)?;
-    }
-    Ok(())
-}
-
-#[test]
-fn breaks_rules_of_jumps_and_constants(rt: HostRuntime) -> Result<(), Fail> {
-    let mapped = HandCode {
-        maps: &[HandMap {
-            place: 2,
-            slots: &[],
-            stack: &[],
-        }],
-        ..plain(1, 0, &[(0x10, 0, 0, 2), (0x14, 0, 0, 0), (0x14, 0, 0, 0)])
-    };
-    for (code, rule, at) in [
         (plain(1, 0, &[(0x10, 0, 0, 9)]), Rule::Jump, 0),
-        (mapped, Rule::Fall, 0),
         (
             plain(
                 1,
@@ -178,8 +150,25 @@ fn breaks_rules_of_jumps_and_constants(rt: HostRuntime) -> Result<(), Fail> {
             Rule::Constant,
             0,
         ),
-    ] {
-        breaks(&rt, &code, rule, at)?;
-    }
+    ]
+}
+
+/// A jump over an end to a place with a map.
+fn mapped() -> Broken {
+    let code = HandCode {
+        maps: &[HandMap {
+            place: 2,
+            slots: &[],
+            stack: &[],
+        }],
+        ..plain(1, 0, &[(0x10, 0, 0, 2), (0x14, 0, 0, 0), (0x14, 0, 0, 0)])
+    };
+    (code, Rule::Fall, 0)
+}
+
+#[test]
+fn breaks_rules(rt: HostRuntime) -> Result<(), Fail> {
+    assert_eq!(rt; first_unbroken(rt.alloc(), &rules())?, None);
+    assert!(rt; breaks(rt.alloc(), &mapped())?);
     Ok(())
 }

@@ -1,8 +1,9 @@
 // Tables and indexes listed.
 #![tactic(auto)]
 
+use super::stored::stored;
 use dbf_file::DbfFault;
-use file_commands::{Fault, MemoryEntry, MemoryFiles, Refusal, list_index, list_table};
+use file_commands::{Fault, MemoryEntry, Refusal, list_index, list_table};
 use ndx_tree::TreeFault;
 use std::alloc::{AllocError, Global};
 use std::test::Fail;
@@ -28,6 +29,13 @@ fn put_descriptor(out: &mut Vec<u8>, field: HandField<'_>) -> Result<(), AllocEr
     put_zeros(out, 14)
 }
 
+/// The first 32 bytes of a table's file of this header length and so many records of this length.
+fn put_front(out: &mut Vec<u8>, header: u8, size: u8, records: usize) -> Result<(), AllocError> {
+    let count = (records & 0xff) as u8;
+    out.extend_from_slice(&[3, 85, 1, 1, count, 0, 0, 0, header, 0, size, 0])?;
+    put_zeros(out, 20)
+}
+
 /// A table's file of this header length, of these fields, and of records that each have this length.
 fn table(
     alloc: Global,
@@ -37,10 +45,7 @@ fn table(
     records: &[&[u8]],
 ) -> Result<Vec<u8>, AllocError> {
     let mut out = Vec::new(alloc);
-    out.extend_from_slice(&[3, 85, 1, 1])?;
-    out.extend_from_slice(&[(records.len() & 0xff) as u8, 0, 0, 0])?;
-    out.extend_from_slice(&[header, 0, size, 0])?;
-    put_zeros(&mut out, 20)?;
+    put_front(&mut out, header, size, records.len())?;
     for field in fields {
         put_descriptor(&mut out, *field)?;
     }
@@ -75,70 +80,58 @@ fn index(alloc: Global, page: &[u8]) -> Result<Vec<u8>, AllocError> {
     Ok(out)
 }
 
-fn stored<'a>(entries: &'a [MemoryEntry<'a>]) -> MemoryFiles<'a> {
-    MemoryFiles {
-        entries,
-        works: true,
-        failures: 0,
-    }
+const NAME: &str = "KI.NDX";
+
+/// What is listed of a table's file, or why it isn't.
+fn table_listed(alloc: Global, bytes: &[u8]) -> Result<Vec<u8>, Refusal<'static>> {
+    let entries = [MemoryEntry { name: NAME, bytes }];
+    list_table(alloc, &mut stored(&entries), NAME)
+}
+
+/// What is listed of an index file, or why it isn't.
+fn index_listed(alloc: Global, bytes: &[u8]) -> Result<Vec<u8>, Refusal<'static>> {
+    let entries = [MemoryEntry { name: NAME, bytes }];
+    list_index(alloc, &mut stored(&entries), NAME)
+}
+
+/// Whether these lines were listed.
+fn are_lines(answer: Result<Vec<u8>, Refusal<'_>>, lines: &[u8]) -> bool {
+    answer.is_ok_and(|listed| listed.as_slice() == lines)
+}
+
+/// Whether the file was refused for this fault.
+fn is_refused(answer: Result<Vec<u8>, Refusal<'_>>, fault: Fault) -> bool {
+    answer.err() == Some(Refusal::Refused { name: NAME, fault })
+}
+
+/// A table of one field NAME C 10, with a row.
+fn names(alloc: Global) -> Result<Vec<u8>, AllocError> {
+    table(alloc, 65, &[(b"NAME", b'C', 10, 0)], 11, &[b" Ann       "])
 }
 
 #[test]
 fn lists_a_table(rt: HostRuntime) -> Result<(), Fail> {
-    let fields: [HandField; 1] = [(b"NAME", b'C', 10, 0)];
-    let records: [&[u8]; 1] = [b" Ann       "];
-    let bytes = table(rt.alloc(), 65, &fields, 11, &records)?;
-    assert_eq!(rt; bytes.len(), 77);
-    let entries = [MemoryEntry {
-        name: "CUST.DBF",
-        bytes: bytes.as_slice(),
-    }];
-    let Ok(lines) = list_table(rt.alloc(), &mut stored(&entries), "CUST.DBF") else {
-        return Err("not listed".into());
-    };
+    let bytes = names(rt.alloc())?;
     let wanted = b"NAME C 10 0\nrecords 1\n      1   Ann       \n";
-    assert_eq!(rt; lines.as_slice(), wanted.as_slice());
+    assert!(rt; bytes.len() == 77 && are_lines(table_listed(rt.alloc(), &bytes), wanted));
     Ok(())
 }
 
-/// The second record has a byte too many, so the third has no mark.
+/// Three records, the first of them marked; with a byte too many in the second the third has no mark.
+fn records(second: &'static [u8]) -> [&'static [u8]; 3] {
+    [b"*A\x07\x7f12.3519880229y", second, b"                  "]
+}
+
 #[test]
 fn refuses_a_wrong_mark(rt: HostRuntime) -> Result<(), Fail> {
-    let records: [&[u8]; 3] = [
-        b"*A\x07\x7f12.3519880229y",
-        b"     *****19890229N",
-        b"                  ",
-    ];
-    let bytes = of_each_kind(rt.alloc(), &records)?;
-    let entries = [MemoryEntry {
-        name: "K.DBF",
-        bytes: bytes.as_slice(),
-    }];
-    let answer = list_table(rt.alloc(), &mut stored(&entries), "K.DBF");
-    let wrong = Refusal::Refused {
-        name: "K.DBF",
-        fault: Fault::OfTable(DbfFault::RecordMark),
-    };
-    assert_eq!(rt; answer.err(), Some(wrong));
+    let bytes = of_each_kind(rt.alloc(), &records(b"     *****19890229N"))?;
+    let fault = Fault::OfTable(DbfFault::RecordMark);
+    assert!(rt; is_refused(table_listed(rt.alloc(), &bytes), fault));
     Ok(())
 }
 
-#[test]
-fn lists_each_kind(rt: HostRuntime) -> Result<(), Fail> {
-    let records: [&[u8]; 3] = [
-        b"*A\x07\x7f12.3519880229y",
-        b"    *****19890229N",
-        b"                  ",
-    ];
-    let bytes = of_each_kind(rt.alloc(), &records)?;
-    let entries = [MemoryEntry {
-        name: "K.DBF",
-        bytes: bytes.as_slice(),
-    }];
-    let Ok(lines) = list_table(rt.alloc(), &mut stored(&entries), "K.DBF") else {
-        return Err("not listed".into());
-    };
-    let wanted = b"T C 3 0
+fn lines_of_each_kind() -> &'static [u8] {
+    b"T C 3 0
 N N 5 2
 D D 8 0
 L L 1 0
@@ -146,70 +139,67 @@ records 3
       1 * A        12.35 02/29/88 .T.
       2       **********   /  /   .F.
       3             0.00   /  /   .F.
-";
-    assert_eq!(rt; lines.as_slice(), wanted.as_slice());
+"
+}
+
+#[test]
+fn lists_each_kind(rt: HostRuntime) -> Result<(), Fail> {
+    let bytes = of_each_kind(rt.alloc(), &records(b"    *****19890229N"))?;
+    assert!(rt; are_lines(table_listed(rt.alloc(), &bytes), lines_of_each_kind()));
     Ok(())
+}
+
+/// A leaf of three entries.
+fn leaf() -> &'static [u8] {
+    b"\x03\0\0\0\0\0\0\0\x02\0\0\0B\0\0\0\0\0\0\0\x03\0\0\0C\0\0\0\0\0\0\0\x01\0\0\0Z\0\0\0"
+}
+
+/// A page that is its own child.
+fn own_child() -> &'static [u8] {
+    b"\x01\0\0\0\x01\0\0\0\0\0\0\0M\0\0\0\x01\0\0\0"
 }
 
 #[test]
 fn lists_an_index(rt: HostRuntime) -> Result<(), Fail> {
-    let page =
-        b"\x03\0\0\0\0\0\0\0\x02\0\0\0B\0\0\0\0\0\0\0\x03\0\0\0C\0\0\0\0\0\0\0\x01\0\0\0Z\0\0\0";
-    let bytes = index(rt.alloc(), page)?;
-    assert_eq!(rt; bytes.len(), 1024);
-    let entries = [MemoryEntry {
-        name: "KI.NDX",
-        bytes: bytes.as_slice(),
-    }];
-    let Ok(lines) = list_index(rt.alloc(), &mut stored(&entries), "KI.NDX") else {
-        return Err("not listed".into());
-    };
+    let bytes = index(rt.alloc(), leaf())?;
     let wanted = b"K 1\n      2 B\n      3 C\n      1 Z\n";
-    assert_eq!(rt; lines.as_slice(), wanted.as_slice());
+    assert!(rt; bytes.len() == 1024 && are_lines(index_listed(rt.alloc(), &bytes), wanted));
     Ok(())
+}
+
+/// Whether a file that isn't there is refused as absent.
+fn says_absent(alloc: Global) -> bool {
+    is_refused(list_index(alloc, &mut stored(&[]), NAME), Fault::Absent)
 }
 
 /// A page that is its own child, a file without a page 0, and no file.
 #[test]
 fn refuses_indexes(rt: HostRuntime) -> Result<(), Fail> {
-    let page = b"\x01\0\0\0\x01\0\0\0\0\0\0\0M\0\0\0\x01\0\0\0";
-    let bytes = index(rt.alloc(), page)?;
-    let entries = [
-        MemoryEntry {
-            name: "KI.NDX",
-            bytes: bytes.as_slice(),
-        },
-        MemoryEntry {
-            name: "CUT.NDX",
-            bytes: &[1, 2, 3],
-        },
-    ];
-    for (name, fault) in [
-        ("KI.NDX", Fault::OfIndex(TreeFault::Reach)),
-        ("CUT.NDX", Fault::OfIndex(TreeFault::Head)),
-        ("NO.NDX", Fault::Absent),
-    ] {
-        let answer = list_index(rt.alloc(), &mut stored(&entries), name);
-        assert_eq!(rt; answer.err(), Some(Refusal::Refused { name, fault }));
-    }
+    let bytes = index(rt.alloc(), own_child())?;
+    let cut = index_listed(rt.alloc(), &[1, 2, 3]);
+    assert!(rt;
+        is_refused(
+            index_listed(rt.alloc(), &bytes),
+            Fault::OfIndex(TreeFault::Reach)
+        )
+    );
+    assert!(rt; is_refused(cut, Fault::OfIndex(TreeFault::Head)));
+    assert!(rt; says_absent(rt.alloc()));
     Ok(())
+}
+
+/// Whether a refusal for the fault is told so.
+fn is_told(alloc: Global, fault: Fault, text: &str) -> Result<bool, AllocError> {
+    let refusal = Refusal::Refused { name: NAME, fault };
+    Ok(refusal.to_string(alloc)?.as_str() == text)
 }
 
 #[test]
 fn names_the_fault(rt: HostRuntime) -> Result<(), Fail> {
-    for (fault, text) in [
-        (Fault::OfIndex(TreeFault::Reach), "refused KI.NDX Reach"),
-        (
-            Fault::OfTable(DbfFault::FieldShape),
-            "refused KI.NDX FieldShape",
-        ),
-        (Fault::Absent, "refused KI.NDX Absent"),
-    ] {
-        let refusal = Refusal::Refused {
-            name: "KI.NDX",
-            fault,
-        };
-        assert_eq!(rt; refusal.to_string(rt.alloc())?.as_str(), text);
-    }
+    let fault = Fault::OfIndex(TreeFault::Reach);
+    assert!(rt; is_told(rt.alloc(), fault, "refused KI.NDX Reach")?);
+    let fault = Fault::OfTable(DbfFault::FieldShape);
+    assert!(rt; is_told(rt.alloc(), fault, "refused KI.NDX FieldShape")?);
+    assert!(rt; is_told(rt.alloc(), Fault::Absent, "refused KI.NDX Absent")?);
     Ok(())
 }

@@ -1,10 +1,9 @@
 // The loop that prints three rows `A`, and the same with a load of the wrong kind.
 #![tactic(auto)]
 
-use super::assembler::{HandCode, HandMap, assembled};
-use file_commands::{
-    Fault, Files, MemoryEntry, MemoryFiles, Refusal, list_code, run_files, verify_file,
-};
+use super::assembler::{HandCode, HandMap, Parts, assembled};
+use super::stored::{NAME, comes_to, entry, is_refused, run, run_alike, stored, verdict};
+use file_commands::{Fault, Files, Refusal, list_code, run_files};
 use std::alloc::{AllocError, Global};
 use std::test::Fail;
 use tagged_machine::{End, FaultKind, Outcome};
@@ -15,7 +14,7 @@ use xverify::Refused;
 /// A kind's number in the file.
 const TEXT: u8 = 2;
 
-const LOGICAL: u8 = 4;
+pub const LOGICAL: u8 = 4;
 
 /// The rule that the load of the wrong kind breaks.
 const BROKEN: Refused = Refused {
@@ -23,111 +22,84 @@ const BROKEN: Refused = Refused {
     at: 7,
 };
 
-/// The loop; its load of slot 0 takes a value of this kind.
-fn three_rows(alloc: Global, kind: u8) -> Result<Vec<u8>, AllocError> {
+/// The loop's instructions; its load of slot 0 takes a value of this kind.
+fn instructions(kind: u8) -> [Parts; 15] {
+    [
+        (0x01, 0, 0, 0),
+        (0x03, LOGICAL, 0, 0),
+        (0x01, 0, 0, 0),
+        (0x03, LOGICAL, 1, 0),
+        (0x40, 0, 0, 0),
+        (0x01, 0, 2, 0),
+        (0x41, TEXT, 0, 0),
+        (0x02, kind, 0, 0),
+        (0x11, 0, 0, 14),
+        (0x02, LOGICAL, 1, 0),
+        (0x03, LOGICAL, 0, 0),
+        (0x01, 0, 1, 0),
+        (0x03, LOGICAL, 1, 0),
+        (0x10, 0, 0, 4),
+        (0x14, 0, 0, 0),
+    ]
+}
+
+/// The file of the loop; its load of slot 0 takes a value of this kind.
+pub fn three_rows(alloc: Global, kind: u8) -> Result<Vec<u8>, AllocError> {
     let known = HandMap {
         place: 4,
         slots: &[LOGICAL, LOGICAL],
         stack: &[],
     };
-    assembled(
-        alloc,
-        &HandCode {
-            stack_bound: 1,
-            slots: 2,
-            constants: &[&[LOGICAL, 1], &[LOGICAL, 0], &[TEXT, 1, b'A']],
-            maps: &[known, HandMap { place: 14, ..known }],
-            instructions: &[
-                (0x01, 0, 0, 0),
-                (0x03, LOGICAL, 0, 0),
-                (0x01, 0, 0, 0),
-                (0x03, LOGICAL, 1, 0),
-                (0x40, 0, 0, 0),
-                (0x01, 0, 2, 0),
-                (0x41, TEXT, 0, 0),
-                (0x02, kind, 0, 0),
-                (0x11, 0, 0, 14),
-                (0x02, LOGICAL, 1, 0),
-                (0x03, LOGICAL, 0, 0),
-                (0x01, 0, 1, 0),
-                (0x03, LOGICAL, 1, 0),
-                (0x10, 0, 0, 4),
-                (0x14, 0, 0, 0),
-            ],
-        },
-    )
+    let code = HandCode {
+        stack_bound: 1,
+        slots: 2,
+        constants: &[&[LOGICAL, 1], &[LOGICAL, 0], &[TEXT, 1, b'A']],
+        maps: &[known, HandMap { place: 14, ..known }],
+        instructions: &instructions(kind),
+    };
+    assembled(alloc, &code)
 }
 
-fn stored<'a>(entries: &'a [MemoryEntry<'a>]) -> MemoryFiles<'a> {
-    MemoryFiles {
-        entries,
-        works: true,
-        failures: 0,
+/// The first budget at which a machine doesn't end and print as it should: three rows in thirty steps.
+fn first_wrong_budget(alloc: Global, bytes: &[u8], checked: bool) -> Option<u64> {
+    for (budget, end, rows) in budgets().as_slice() {
+        let report = run(alloc, bytes, checked, *budget, Day::blank());
+        let steps = (*budget).min(30);
+        if !comes_to(&report, Outcome { end: *end, steps }, rows.as_bytes()) {
+            return Some(*budget);
+        }
     }
+    None
 }
 
-/// The rows printed at each budget and the end, by both machines.
-#[test]
-fn spends_its_budget(rt: HostRuntime) -> Result<(), Fail> {
-    let bytes = three_rows(rt.alloc(), LOGICAL)?;
-    assert_eq!(rt; bytes.len(), 216);
-    let entries = [MemoryEntry {
-        name: "rows.xbc",
-        bytes: bytes.as_slice(),
-    }];
-    for (budget, end, rows) in [
+/// Budgets, the end at each, and the rows that are printed.
+fn budgets() -> [(u64, End, &'static str); 4] {
+    [
         (0, End::Spent, ""),
         (29, End::Spent, "A\nA\nA\n"),
         (30, End::Finished, "A\nA\nA\n"),
         (1_000_000, End::Finished, "A\nA\nA\n"),
-    ] {
-        for checked in [true, false] {
-            let mut files = stored(&entries);
-            let report = run_files(
-                rt.alloc(),
-                &mut files,
-                checked,
-                "rows.xbc",
-                budget,
-                Day::blank(),
-            );
-            let steps = budget.min(30);
-            assert_eq!(rt; report.result, Ok(Outcome { end, steps }), "at {budget}");
-            assert_eq!(rt; report.rows.as_slice(), rows.as_bytes(), "at {budget}");
-        }
-    }
+    ]
+}
+
+#[test]
+fn spends_its_budget(rt: HostRuntime) -> Result<(), Fail> {
+    let bytes = three_rows(rt.alloc(), LOGICAL)?;
+    assert!(rt; bytes.len() == 216);
+    assert_eq!(rt; first_wrong_budget(rt.alloc(), &bytes, true), None);
+    assert_eq!(rt; first_wrong_budget(rt.alloc(), &bytes, false), None);
     Ok(())
 }
 
-/// Both machines end alike at every budget.
+/// The first budget at which the machines end otherwise.
+fn first_unlike(alloc: Global, bytes: &[u8]) -> Option<u64> {
+    (0..32).find(|budget| !run_alike(alloc, bytes, *budget, Day::blank()))
+}
+
 #[test]
 fn machines_agree(rt: HostRuntime) -> Result<(), Fail> {
     let bytes = three_rows(rt.alloc(), LOGICAL)?;
-    let entries = [MemoryEntry {
-        name: "rows.xbc",
-        bytes: bytes.as_slice(),
-    }];
-    for budget in 0..32 {
-        let mut files = stored(&entries);
-        let checked = run_files(
-            rt.alloc(),
-            &mut files,
-            true,
-            "rows.xbc",
-            budget,
-            Day::blank(),
-        );
-        let run = run_files(
-            rt.alloc(),
-            &mut files,
-            false,
-            "rows.xbc",
-            budget,
-            Day::blank(),
-        );
-        assert_eq!(rt; checked.result, run.result, "at {budget}");
-        assert_eq!(rt; checked.rows.as_slice(), run.rows.as_slice(), "at {budget}");
-    }
+    assert_eq!(rt; first_unlike(rt.alloc(), &bytes), None);
     Ok(())
 }
 
@@ -135,22 +107,8 @@ fn machines_agree(rt: HostRuntime) -> Result<(), Fail> {
 fn refuses_the_wrong_kind(rt: HostRuntime) -> Result<(), Fail> {
     let right = three_rows(rt.alloc(), LOGICAL)?;
     let wrong = three_rows(rt.alloc(), TEXT)?;
-    let entries = [
-        MemoryEntry {
-            name: "right.xbc",
-            bytes: right.as_slice(),
-        },
-        MemoryEntry {
-            name: "wrong.xbc",
-            bytes: wrong.as_slice(),
-        },
-    ];
-    let mut files = stored(&entries);
-    assert_eq!(rt; verify_file(rt.alloc(), &mut files, "right.xbc"), Ok(None));
-    assert_eq!(rt;
-        verify_file(rt.alloc(), &mut files, "wrong.xbc"),
-        Ok(Some(BROKEN))
-    );
+    assert!(rt; verdict(rt.alloc(), &right) == Ok(None));
+    assert!(rt; verdict(rt.alloc(), &wrong) == Ok(Some(BROKEN)));
     Ok(())
 }
 
@@ -158,71 +116,63 @@ fn refuses_the_wrong_kind(rt: HostRuntime) -> Result<(), Fail> {
 #[test]
 fn runs_the_wrong_kind_only_checked(rt: HostRuntime) -> Result<(), Fail> {
     let wrong = three_rows(rt.alloc(), TEXT)?;
-    let entries = [MemoryEntry {
-        name: "wrong.xbc",
-        bytes: wrong.as_slice(),
-    }];
-    let mut files = stored(&entries);
-    let refused = Refusal::Refused {
-        name: "wrong.xbc",
-        fault: Fault::OfRule(BROKEN),
-    };
-    let report = run_files(
-        rt.alloc(),
-        &mut files,
-        false,
-        "wrong.xbc",
-        100,
-        Day::blank(),
-    );
-    assert_eq!(rt; report.result, Err(refused));
-    assert_eq!(rt; report.rows.len(), 0);
-    let report = run_files(rt.alloc(), &mut files, true, "wrong.xbc", 100, Day::blank());
+    let fault = Fault::OfRule(BROKEN);
+    let report = run(rt.alloc(), &wrong, false, 100, Day::blank());
+    assert!(rt; is_refused(&report, Refusal::Refused { name: NAME, fault }));
     let end = End::Fault(FaultKind::WrongKind, 7);
-    assert_eq!(rt; report.result, Ok(Outcome { end, steps: 7 }));
-    assert_eq!(rt; report.rows.as_slice(), b"A\n".as_slice());
+    let report = run(rt.alloc(), &wrong, true, 100, Day::blank());
+    assert!(rt; comes_to(&report, Outcome { end, steps: 7 }, b"A\n"));
     Ok(())
+}
+
+/// What is said of a file that isn't there.
+fn says_absent(alloc: Global) -> bool {
+    let refusal = Refusal::Refused {
+        name: "none.xbc",
+        fault: Fault::Absent,
+    };
+    let report = run_files(alloc, &mut stored(&[]), true, "none.xbc", 30, Day::blank());
+    is_refused(&report, refusal)
+}
+
+/// What is said of a file that is too short.
+fn says_short(alloc: Global, bytes: &[u8]) -> bool {
+    let refusal = Refusal::Refused {
+        name: NAME,
+        fault: Fault::OfCode(CodeFault::Short),
+    };
+    is_refused(&run(alloc, bytes, true, 30, Day::blank()), refusal)
+}
+
+/// What is said where the device fails, and that the failure is counted.
+fn says_disk(alloc: Global, bytes: &[u8]) -> bool {
+    let entries = [entry(bytes)];
+    let mut files = stored(&entries);
+    files.works = false;
+    let report = run_files(alloc, &mut files, true, NAME, 30, Day::blank());
+    files.failures() == 1 && is_refused(&report, Refusal::Disk { name: NAME })
 }
 
 #[test]
 fn tells_why_not(rt: HostRuntime) -> Result<(), Fail> {
-    let bytes = three_rows(rt.alloc(), LOGICAL)?;
-    let cut = bytes.len().saturating_sub(1);
-    let entries = [MemoryEntry {
-        name: "cut.xbc",
-        bytes: &bytes.as_slice()[..cut],
-    }];
-    let mut files = stored(&entries);
-    let report = run_files(rt.alloc(), &mut files, true, "none.xbc", 30, Day::blank());
-    let absent = Refusal::Refused {
-        name: "none.xbc",
-        fault: Fault::Absent,
-    };
-    assert_eq!(rt; report.result, Err(absent));
-    let report = run_files(rt.alloc(), &mut files, true, "cut.xbc", 30, Day::blank());
-    let short = Refusal::Refused {
-        name: "cut.xbc",
-        fault: Fault::OfCode(CodeFault::Short),
-    };
-    assert_eq!(rt; report.result, Err(short));
-    files.works = false;
-    let report = run_files(rt.alloc(), &mut files, true, "cut.xbc", 30, Day::blank());
-    assert_eq!(rt; report.result, Err(Refusal::Disk { name: "cut.xbc" }));
-    assert_eq!(rt; files.failures(), 1);
+    let mut bytes = three_rows(rt.alloc(), LOGICAL)?;
+    let _ = bytes.pop();
+    assert!(rt; says_absent(rt.alloc()));
+    assert!(rt; says_short(rt.alloc(), &bytes));
+    assert!(rt; says_disk(rt.alloc(), &bytes));
     Ok(())
+}
+
+/// The listing of a file, where it is one.
+fn listing(alloc: Global, bytes: &[u8]) -> Option<Vec<u8>> {
+    let entries = [entry(bytes)];
+    list_code(alloc, &mut stored(&entries), NAME).ok()
 }
 
 #[test]
 fn lists_a_jump(rt: HostRuntime) -> Result<(), Fail> {
     let bytes = three_rows(rt.alloc(), LOGICAL)?;
-    let entries = [MemoryEntry {
-        name: "rows.xbc",
-        bytes: bytes.as_slice(),
-    }];
-    let mut files = stored(&entries);
-    let Ok(lines) = list_code(rt.alloc(), &mut files, "rows.xbc") else {
-        return Err("not listed".into());
-    };
+    let lines = listing(rt.alloc(), &bytes).ok_or("not listed")?;
     let text = String::from_utf8(lines).ok().ok_or("no text")?;
     assert!(rt; text.as_str().contains("    8 JUMPF 0 0 14\n"));
     assert!(rt; text.as_str().starts_with("    0 CONST 0 0 0\n"));

@@ -2,10 +2,9 @@
 #![tactic(auto)]
 
 use super::assembler::{HandCode, Parts, assembled};
-use file_commands::{MemoryEntry, MemoryFiles, run_files, today_of};
-use std::alloc::Global;
-use std::process::Abort;
-use std::rt::Runtime;
+use super::stored::{comes_to, run, run_alike};
+use file_commands::today_of;
+use std::alloc::{AllocError, Global};
 use std::test::Fail;
 use tagged_machine::{End, Outcome};
 use xvalue::{Day, DayParts, Fun};
@@ -42,42 +41,37 @@ const LEAP_DAY: DayParts = DayParts {
     day: 29,
 };
 
-/// Both machines run the code, on this day, at each budget up to its steps: alike, and at its steps it finishes with
-/// the rows.
-fn ends_with<R: Runtime<A = Global> + Abort>(
-    rt: &R,
+/// Whether both machines run the file on this day within the budget alike: to its end with the rows, where the budget
+/// is all its steps, and else until the budget is spent.
+fn runs_to(alloc: Global, bytes: &[u8], today: Day, budget: u64, wanted: (&str, u64)) -> bool {
+    let (rows, steps) = wanted;
+    let report = run(alloc, bytes, true, budget, today);
+    if !run_alike(alloc, bytes, budget, today) {
+        return false;
+    }
+    if budget < steps {
+        let end = End::Spent;
+        return report.result == Ok(Outcome { end, steps: budget });
+    }
+    let end = End::Finished;
+    comes_to(&report, Outcome { end, steps }, rows.as_bytes())
+}
+
+/// Whether the code takes so many steps and then has sent the rows, on this day: at each budget up to its steps.
+fn ends_with(
+    alloc: Global,
     code: &HandCode<'_>,
     today: Day,
     rows: &str,
     steps: u64,
-) -> Result<(), Fail> {
-    let bytes = assembled(rt.alloc(), code)?;
-    let entries = [MemoryEntry {
-        name: "hand.xbc",
-        bytes: bytes.as_slice(),
-    }];
-    let mut files = MemoryFiles {
-        entries: &entries,
-        works: true,
-        failures: 0,
-    };
+) -> Result<bool, AllocError> {
+    let bytes = assembled(alloc, code)?;
     for budget in 0..=steps {
-        let checked = run_files(rt.alloc(), &mut files, true, "hand.xbc", budget, today);
-        let run = run_files(rt.alloc(), &mut files, false, "hand.xbc", budget, today);
-        let end = if budget < steps {
-            End::Spent
-        } else {
-            End::Finished
-        };
-        let outcome = Outcome { end, steps: budget };
-        assert_eq!(rt; checked.result, Ok(outcome), "at {budget}");
-        assert_eq!(rt; run.result, Ok(outcome), "at {budget}");
-        assert_eq!(rt; checked.rows.as_slice(), run.rows.as_slice(), "at {budget}");
-        if budget == steps {
-            assert_eq!(rt; run.rows.as_slice(), rows.as_bytes());
+        if !runs_to(alloc, &bytes, today, budget, (rows, steps)) {
+            return Ok(false);
         }
     }
-    Ok(())
+    Ok(true)
 }
 
 fn hand<'a>(constants: &'a [&'a [u8]], instructions: &'a [Parts]) -> HandCode<'a> {
@@ -94,38 +88,45 @@ fn call(fun: Fun) -> Parts {
     (FUNCTION, fun.number(), 0, 0)
 }
 
-#[test]
-fn divides(rt: HostRuntime) -> Result<(), Fail> {
-    let instructions = [
+fn division() -> [Parts; 6] {
+    [
         (CONSTANT, 0, 0, 0),
         (CONSTANT, 0, 1, 0),
         (FUNCTION, 4, 0, 0),
         (NEW_LINE, 0, 0, 0),
         (PRINT, NUMBER, 0, 0),
         (END, 0, 0, 0),
-    ];
-    let code = hand(&[ONE, THREE], &instructions);
-    ends_with(&rt, &code, Day::blank(), "      0.33\n", 6)
+    ]
 }
 
 #[test]
-fn asks_for_the_day(rt: HostRuntime) -> Result<(), Fail> {
-    let instructions = [
+fn divides(rt: HostRuntime) -> Result<(), Fail> {
+    let instructions = division();
+    let code = hand(&[ONE, THREE], &instructions);
+    assert!(rt; ends_with(rt.alloc(), &code, Day::blank(), "      0.33\n", 6)?);
+    Ok(())
+}
+
+fn question() -> [Parts; 4] {
+    [
         (NEW_LINE, 0, 0, 0),
         (ASK, 7, 0, 0),
         (PRINT, DATE, 0, 0),
         (END, 0, 0, 0),
-    ];
-    let today = Day::from_parts(LEAP_DAY).ok_or("no day")?;
-    ends_with(&rt, &hand(&[], &instructions), today, "02/29/88\n", 4)
+    ]
 }
 
-/// The day, and 366 days later.
 #[test]
-fn counts_days(rt: HostRuntime) -> Result<(), Fail> {
-    let days: &[u8] = &[NUMBER, 0, 0, 0x6e, 1, 0, 0, 0, 0, 0, 0];
-    let text = b"\x02\x0802/29/88";
-    let instructions = [
+fn asks_for_the_day(rt: HostRuntime) -> Result<(), Fail> {
+    let instructions = question();
+    let today = Day::from_parts(LEAP_DAY).ok_or("no day")?;
+    let code = hand(&[], &instructions);
+    assert!(rt; ends_with(rt.alloc(), &code, today, "02/29/88\n", 4)?);
+    Ok(())
+}
+
+fn counting() -> [Parts; 7] {
+    [
         (CONSTANT, 0, 0, 0),
         call(Fun::Ctod),
         (CONSTANT, 0, 1, 0),
@@ -133,50 +134,81 @@ fn counts_days(rt: HostRuntime) -> Result<(), Fail> {
         (NEW_LINE, 0, 0, 0),
         (PRINT, DATE, 0, 0),
         (END, 0, 0, 0),
-    ];
-    let constants = [text.as_slice(), days];
-    let code = hand(&constants, &instructions);
-    ends_with(&rt, &code, Day::blank(), "03/01/89\n", 7)
+    ]
 }
 
-/// Whether two texts are equal, with EXACT on or off, and DELETED on.
+/// The day, and 366 days later.
 #[test]
-fn settings_are_apart(rt: HostRuntime) -> Result<(), Fail> {
-    for (left, right, exact, row) in [
-        (
-            b"\x02\x03ABC".as_slice(),
-            b"\x02\x02AB".as_slice(),
-            0,
-            ".T.\n",
-        ),
+fn counts_days(rt: HostRuntime) -> Result<(), Fail> {
+    let days: &[u8] = &[NUMBER, 0, 0, 0x6e, 1, 0, 0, 0, 0, 0, 0];
+    let constants = [b"\x02\x0802/29/88".as_slice(), days];
+    let instructions = counting();
+    let code = hand(&constants, &instructions);
+    assert!(rt; ends_with(rt.alloc(), &code, Day::blank(), "03/01/89\n", 7)?);
+    Ok(())
+}
+
+/// Two texts compared, with EXACT on or off, and DELETED on.
+fn comparison(exact: u16) -> [Parts; 8] {
+    [
+        (SET, 1, exact, 0),
+        (SET, 2, 1, 0),
+        (CONSTANT, 0, 0, 0),
+        (CONSTANT, 0, 1, 0),
+        call(Fun::TextEq),
+        (NEW_LINE, 0, 0, 0),
+        (PRINT, LOGICAL, 0, 0),
+        (END, 0, 0, 0),
+    ]
+}
+
+/// Two texts as constants, whether EXACT is on, and what their comparison prints.
+type Compared = (&'static [u8], &'static [u8], u16, &'static str);
+
+fn compared() -> [Compared; 6] {
+    [
+        (b"\x02\x03ABC", b"\x02\x02AB", 0, ".T.\n"),
         (b"\x02\x03ABC", b"\x02\x02AB", 1, ".F.\n"),
         (b"\x02\x02AB", b"\x02\x03ABC", 0, ".F.\n"),
         (b"\x02\x03AB ", b"\x02\x02AB", 1, ".T.\n"),
         (b"\x02\x02AB", b"\x02\x00", 0, ".T.\n"),
         (b"\x02\x02AB", b"\x02\x00", 1, ".F.\n"),
-    ] {
-        let instructions = [
-            (SET, 1, exact, 0),
-            (SET, 2, 1, 0),
-            (CONSTANT, 0, 0, 0),
-            (CONSTANT, 0, 1, 0),
-            call(Fun::TextEq),
-            (NEW_LINE, 0, 0, 0),
-            (PRINT, LOGICAL, 0, 0),
-            (END, 0, 0, 0),
-        ];
-        let constants = [left, right];
-        let code = hand(&constants, &instructions);
-        ends_with(&rt, &code, Day::blank(), row, 8)?;
+    ]
+}
+
+/// Whether the comparison prints what it should.
+fn compares(alloc: Global, line: &Compared) -> Result<bool, AllocError> {
+    let (left, right, exact, row) = line;
+    let constants = [*left, *right];
+    let instructions = comparison(*exact);
+    ends_with(
+        alloc,
+        &hand(&constants, &instructions),
+        Day::blank(),
+        row,
+        8,
+    )
+}
+
+/// The place of the first line of the table that doesn't hold.
+fn first_wrong(alloc: Global, lines: &[Compared]) -> Result<Option<usize>, AllocError> {
+    for (place, line) in lines.iter().enumerate() {
+        if !compares(alloc, line)? {
+            return Ok(Some(place));
+        }
     }
+    Ok(None)
+}
+
+#[test]
+fn settings_are_apart(rt: HostRuntime) -> Result<(), Fail> {
+    assert_eq!(rt; first_wrong(rt.alloc(), &compared())?, None);
     Ok(())
 }
 
-/// Arguments of several kinds, the second kind twice.
-#[test]
-fn stuffs(rt: HostRuntime) -> Result<(), Fail> {
-    let two: &[u8] = &[NUMBER, 0, 0, 2, 0, 0, 0, 0, 0, 0, 0];
-    let instructions = [
+/// A call with arguments of several kinds, the second kind twice.
+fn stuffing() -> [Parts; 8] {
+    [
         (CONSTANT, 0, 0, 0),
         (CONSTANT, 0, 1, 0),
         (CONSTANT, 0, 2, 0),
@@ -185,40 +217,40 @@ fn stuffs(rt: HostRuntime) -> Result<(), Fail> {
         (NEW_LINE, 0, 0, 0),
         (PRINT, TEXT, 0, 0),
         (END, 0, 0, 0),
-    ];
-    let constants = [
-        b"\x02\x05ABCDE".as_slice(),
-        two,
+    ]
+}
+
+fn stuffed() -> [&'static [u8]; 4] {
+    [
+        b"\x02\x05ABCDE",
+        &[NUMBER, 0, 0, 2, 0, 0, 0, 0, 0, 0, 0],
         THREE,
-        b"\x02\x01x".as_slice(),
-    ];
+        b"\x02\x01x",
+    ]
+}
+
+#[test]
+fn stuffs(rt: HostRuntime) -> Result<(), Fail> {
+    let constants = stuffed();
+    let instructions = stuffing();
     let code = HandCode {
         stack_bound: 4,
         ..hand(&constants, &instructions)
     };
-    ends_with(&rt, &code, Day::blank(), "AxE\n", 8)
+    assert!(rt; ends_with(rt.alloc(), &code, Day::blank(), "AxE\n", 8)?);
+    Ok(())
 }
 
-#[test]
-fn reads_the_day_of_the_words(rt: HostRuntime) -> Result<(), Fail> {
-    for (word, parts) in [
-        ("1988-02-29", Some(LEAP_DAY)),
-        (
-            "1900-01-01",
-            Some(DayParts {
-                year: 1900,
-                month: 1,
-                day: 1,
-            }),
-        ),
-        (
-            "2155-12-31",
-            Some(DayParts {
-                year: 2155,
-                month: 12,
-                day: 31,
-            }),
-        ),
+fn parts(year: u16, month: u8, day: u8) -> DayParts {
+    DayParts { year, month, day }
+}
+
+/// Words of the command line, and the days that they name.
+fn words() -> [(&'static str, Option<DayParts>); 12] {
+    [
+        ("1988-02-29", Some(parts(1988, 2, 29))),
+        ("1900-01-01", Some(parts(1900, 1, 1))),
+        ("2155-12-31", Some(parts(2155, 12, 31))),
         ("1899-12-31", None),
         ("2156-01-01", None),
         ("1989-02-29", None),
@@ -228,9 +260,21 @@ fn reads_the_day_of_the_words(rt: HostRuntime) -> Result<(), Fail> {
         ("1988/02/29", None),
         ("1988-02-29T00", None),
         ("", None),
-    ] {
-        let day = today_of(word);
-        assert_eq!(rt; day.and_then(Day::parts), parts, "{word}");
+    ]
+}
+
+/// The first word that names another day.
+fn first_misread(words: &[(&'static str, Option<DayParts>)]) -> Option<usize> {
+    for (place, (word, parts)) in words.iter().enumerate() {
+        if today_of(word).and_then(Day::parts) != *parts {
+            return Some(place);
+        }
     }
+    None
+}
+
+#[test]
+fn reads_the_day_of_the_words(rt: HostRuntime) -> Result<(), Fail> {
+    assert_eq!(rt; first_misread(&words()), None);
     Ok(())
 }

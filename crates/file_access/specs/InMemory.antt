@@ -1,6 +1,6 @@
 -- Files in memory.
 use Rattle.std.specs.Prelude.{◌≡◌, ◌≢◌, ◌⊎◌, ℕ, List, [], ◌∷◌, Option, Some, None}
-use Rattle.file_commands.specs.declared.memory_files.MemoryEntry.{MemoryEntry}
+use Rattle.file_access.specs.declared.memory_files.MemoryEntry.{MemoryEntry}
 
 -- what the first file of the name holds, or none
 abbrev pub HoldsFile : List MemoryEntry → List ℕ → Option (List ℕ) → Type 0

@@ -2,7 +2,7 @@
 #![tactic(auto)]
 
 ghost use Rattle.std.specs.Prelude.{◌≡◌, ◌<◌, ◌≤◌, ◌+◌, ◌-◌, ◌^◌, ◌⊎◌, ℕ, List, Option, Some, None, length, IfOk, IsErrOf};
-ghost use Rattle.file_commands.specs.Holding.{Rose, SameFiles};
+ghost use Rattle.file_access.specs.Holding.{Rose, SameFiles};
 
 use std::alloc::Global;
 

@@ -1,6 +1,6 @@
 use Rattle.std.specs.Cmp.Lexicographic.{same_text, other_text}
-use Rattle.file_commands.proofs.Entries.{found_at, not_at}
-use Rattle.file_commands.proofs.memory_files.find.Goals as goal
+use Rattle.file_access.proofs.Entries.{found_at, not_at}
+use Rattle.file_access.proofs.memory_files.find.Goals as goal
 
 pub returns-then-eq : goal.returns-then-eq
 returns-then-eq c = c.loop-entry.invariant _ (found_at _ _ _ _ c.loop-entry-test.true (same_text _ _ c.if-eq.ensures))

@@ -3,7 +3,7 @@
 
 ghost use Rattle.std.specs.Prelude.{◌≤◌, length};
 
-use file_commands::{ReadFault, read_within};
+use file_access::{ReadFault, read_within};
 use std::alloc::Global;
 use std::io;
 use std::io::{ErrorKind, Read};

@@ -3,8 +3,8 @@
 
 ghost use Rattle.std.specs.Prelude.{◌≡◌, ◌<◌, ◌≤◌, ◌+◌, ◌-◌, ◌^◌, ◌⊎◌, ℕ, List, Option, Some, None, length, IfOk, IsErrOf};
 ghost use Rattle.std.specs.Option.{option_copied};
-ghost use Rattle.file_commands.specs.Holding.{Rose, SameFiles};
-ghost use Rattle.file_commands.specs.InMemory.{HoldsFile};
+ghost use Rattle.file_access.specs.Holding.{Rose, SameFiles};
+ghost use Rattle.file_access.specs.InMemory.{HoldsFile};
 
 use crate::files::{Files, ReadFault};
 use std::alloc::Global;
