@@ -1,1 +1,3 @@
 pub mod Loops
+pub mod Combine
+pub mod Numbers

@@ -92,3 +92,36 @@ several one (suc n) = do
 abbrev pub in_list : {A : Type 0} → Result (Vec A) Flaw → Judged (List A)
 in_list (Ok things) = Ok things.items
 in_list (Err flaw) = Err flaw
+
+-- ---- readers made of readers
+
+-- a thing that has no flaw
+abbrev pub sure : {A : Type 0} → Reader A → Reader (Judged A)
+sure r = do
+  x ← r
+  give (Ok x)
+
+-- one thing and another behind it
+abbrev pub pair_at : {A B : Type 0} → Reader (Judged A) → Reader (Judged B) → Reader (Judged (A × B))
+pair_at r s = do
+  first ← r
+  second ← s
+  give (both first second)
+
+-- what is made of a thing, which may be a flaw
+abbrev pub made_at : {A B : Type 0} → Reader (Judged A) → (A → Judged B) → Reader (Judged B)
+made_at r make = do
+  x ← r
+  give (judge x make)
+
+-- a byte that says how many follow, and those
+abbrev pub counted_at : {A : Type 0} → Reader (Judged A) → Reader (Judged (List A))
+counted_at one = do
+  count ← byte_at
+  several one count
+
+-- a byte that says what follows, and that
+abbrev pub by_byte : {A : Type 0} → (ℕ → Reader (Judged A)) → Reader (Judged A)
+by_byte choose = do
+  byte ← byte_at
+  choose byte
