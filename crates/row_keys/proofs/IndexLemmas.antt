@@ -8,8 +8,8 @@ use Rattle.dbf_file.specs.Tables.{StructureState, row_widths}
 use Rattle.ndx_tree.specs.KeyForm.{KeyForm, IsKeyText}
 use Rattle.ndx_tree.specs.Order.{inserted, without}
 use Rattle.ndx_tree.specs.Pairs.{Pair, is_before}
-use Rattle.row_keys.specs.declared.parts.KeyPart.{KeyPart}
-use Rattle.row_keys.specs.Keys.{IsKey, key_of, key_length}
+use Rattle.shape.specs.declared.parts.KeyPart.{KeyPart}
+use Rattle.shape.specs.Keys.{IsKey, key_of, key_length}
 use Rattle.row_keys.specs.Lists.{index_list, row_pair, IsIndexList, IndexState, IsIndexOf, IsExact, ChangedBy, IsSameIndex, IsAsBefore, HasAdded, HasRemoved}
 
 -- ---- along all indexes

@@ -8,8 +8,8 @@ use Rattle.ndx_tree.specs.Pairs.{Pair, is_before}
 use Rattle.ndx_tree.specs.Laws.{PutsInOrder, ChangesRows}
 use Rattle.row_keys.specs.declared.building.Kept.{Kept}
 use Rattle.row_keys.specs.declared.building.Kept.TheVariants.{Every, Nothing}
-use Rattle.row_keys.specs.declared.parts.KeyPart.{KeyPart}
-use Rattle.row_keys.specs.Keys.{key_of}
+use Rattle.shape.specs.declared.parts.KeyPart.{KeyPart}
+use Rattle.shape.specs.Keys.{key_of}
 use Rattle.row_keys.specs.Lists.{row_pairs, index_list, row_pair, is_kept, kept_rows, IsIndexList}
 
 abbrev pub OrderLaw : Type 0

@@ -7,8 +7,8 @@ use Rattle.ndx_tree.specs.Order.{IsAscending, inserted, without, in_order}
 use Rattle.ndx_tree.specs.Pairs.{Pair, is_before}
 use Rattle.row_keys.specs.declared.building.Kept.{Kept}
 use Rattle.row_keys.specs.declared.building.Kept.TheVariants.{Every, Unmarked, Nothing}
-use Rattle.row_keys.specs.declared.parts.KeyPart.{KeyPart}
-use Rattle.row_keys.specs.Keys.{IsKey, key_of, key_length}
+use Rattle.shape.specs.declared.parts.KeyPart.{KeyPart}
+use Rattle.shape.specs.Keys.{IsKey, key_of, key_length}
 
 -- the pair of each row, in the order of the records, the first of them with this number
 abbrev pub row_pairs : List KeyPart → ℕ → List Row → List Pair

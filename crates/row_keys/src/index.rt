@@ -10,9 +10,9 @@ ghost use Rattle.row_keys.specs.Lists.{row_pair, IsIndexOf, IsExact, ChangedBy, 
 ghost use Rattle.xvalue.specs.Kinds.{kind_of};
 
 use crate::laws::index_lists;
-use crate::parts::KeyParts;
 use dbf_file::Table;
 use ndx_tree::{Entry, KeyList};
+use shape::KeyParts;
 use std::alloc::AllocError;
 use std::marker::Model;
 use xvalue::Value;

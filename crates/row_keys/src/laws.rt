@@ -3,7 +3,7 @@
 ghost use Rattle.std.specs.Prelude.{List};
 ghost use Rattle.dbf_file.specs.Rows.{Row};
 ghost use Rattle.row_keys.specs.Lists.{IsIndexList};
-ghost use Rattle.row_keys.specs.declared.parts.KeyPart.{KeyPart as ThePart};
+ghost use Rattle.shape.specs.declared.parts.KeyPart.{KeyPart as ThePart};
 
 use ndx_tree::laws::{changes_rows, puts_in_order};
 

@@ -12,8 +12,7 @@
 pub mod building;
 pub mod index;
 pub mod laws;
-pub mod parts;
 
 pub use building::{build, clear, pack};
 pub use index::{Index, append, replace};
-pub use parts::{KeyPart, KeyParts};
+pub use shape::{KeyPart, KeyParts};

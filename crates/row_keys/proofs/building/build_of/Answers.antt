@@ -1,4 +1,4 @@
-use Rattle.std.proofs.Common.{◌≡◌, ◌<◌, ◌≤◌, ℕ, List, length, sym, ap, ◌∙◌, subst, arith}
+use Rattle.std.proofs.Common.{sym, ◌∙◌, subst, arith}
 use Rattle.ndx_tree.specs.KeyForm.{IsKeyText}
 use Rattle.ndx_tree.specs.Order.{IsDistinct}
 use Rattle.row_keys.specs.Lists.{IsExact, kept_rows}

@@ -1,6 +1,6 @@
-use Rattle.std.proofs.Common.{◌≡◌, ◌≤◌, ◌+◌, ◌++◌, ◌∷◌, [], cond, length, sym, ap, ◌∙◌, take, arith}
+use Rattle.std.proofs.Common.{◌+◌, ◌++◌, ◌∷◌, [], cond, length, sym, ap, ◌∙◌, arith}
 use Rattle.dbf_file.specs.Rows.{row_at}
-use Rattle.row_keys.specs.Keys.{key_of}
+use Rattle.shape.specs.Keys.{key_of}
 use Rattle.row_keys.specs.Lists.{is_kept}
 use Rattle.row_keys.proofs.ListLemmas.{pairs_more}
 use Rattle.row_keys.proofs.building.entries_of.Goals as goal

@@ -1,7 +1,7 @@
-use Rattle.std.proofs.Common.{◌≡◌, ◌<◌, ◌≤◌, ◌++◌, ◌∷◌, [], length, get_or, sym, subst, take, ◌+◌, arith, rules}
+use Rattle.std.proofs.Common.{◌≡◌, ◌++◌, ◌∷◌, [], get_or, sym, subst, take, ◌+◌, arith, rules}
 use Rattle.std.specs.List.{All, AllZip}
 use Rattle.std.proofs.lemmas.List.Elements.{all_zip_more, All-push}
-use Rattle.row_keys.specs.Lists.{IndexState, IsSameIndex, IsExact, kept_rows}
+use Rattle.row_keys.specs.Lists.{IsSameIndex, IsExact, kept_rows}
 use Rattle.row_keys.proofs.IndexLemmas.{changed_by}
 use Rattle.row_keys.proofs.building.rebuild_all.Goals as goal
 

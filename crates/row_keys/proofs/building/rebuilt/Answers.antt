@@ -1,6 +1,5 @@
-use Rattle.std.proofs.Common.{◌≡◌, sym, ap, ◌∙◌, subst}
-use Rattle.ndx_tree.specs.KeyForm.{KeyForm, IsKeyText}
-use Rattle.row_keys.specs.Keys.{IsKey}
+use Rattle.std.proofs.Common.{ap, ◌∙◌}
+use Rattle.ndx_tree.specs.KeyForm.{KeyForm}
 use Rattle.row_keys.specs.Lists.{kept_rows}
 use Rattle.row_keys.proofs.IndexLemmas.{rebuilt_same}
 use Rattle.row_keys.proofs.building.rebuilt.Goals as goal

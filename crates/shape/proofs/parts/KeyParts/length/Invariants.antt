@@ -1,8 +1,8 @@
 use Rattle.std.proofs.Common.{◌≡◌, ◌+◌, length}
 use Rattle.std.specs.List.{AllByRecursion}
 use Rattle.dbf_file.specs.Tables.{row_widths}
-use Rattle.row_keys.specs.Keys.{IsTextField, key_length}
-use Rattle.row_keys.proofs.parts.KeyParts.length.Given as goal
+use Rattle.shape.specs.Keys.{IsTextField, key_length}
+use Rattle.shape.proofs.parts.KeyParts.length.Given as goal
 
 abbrev pub invariant-loop-part : goal.invariant-loop-part
 invariant-loop-part l = record {

@@ -2,8 +2,8 @@ use Rattle.std.proofs.Common.{◌≡◌, ◌+◌, ◌++◌, length}
 use Rattle.std.specs.List.{AllByRecursion}
 use Rattle.dbf_file.specs.Rows.{row_at}
 use Rattle.dbf_file.specs.Tables.{row_widths}
-use Rattle.row_keys.specs.Keys.{IsTextField, key_of, key_length}
-use Rattle.row_keys.proofs.parts.KeyParts.row_key.Given as goal
+use Rattle.shape.specs.Keys.{IsTextField, key_of, key_length}
+use Rattle.shape.proofs.parts.KeyParts.row_key.Given as goal
 
 abbrev pub invariant-loop-part : goal.invariant-loop-part
 invariant-loop-part l = record {

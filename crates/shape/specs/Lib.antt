@@ -1,0 +1,6 @@
+pub mod Indexes
+pub mod Keys
+pub mod Lists
+pub mod Names
+pub mod Tables
+pub mod Whole

@@ -1,0 +1,23 @@
+//! What a code declares of files: its tables with their fields, its indexes with their keys, and lists of indexes that are
+//! opened together.
+//!
+//! Each declaration has a test of what is legal, by a definition of `specs/`: `TableShape::is_next`, `IndexShape::is_next`,
+//! `IndexList::is_list`, and for a whole shape `Shape::is_legal`. `KeyParts` makes a row's key.
+#![tactic(auto)]
+
+pub mod indexes;
+pub mod items;
+pub mod laws;
+pub mod lists;
+pub mod names;
+pub mod parts;
+pub mod tables;
+pub mod whole;
+
+pub use indexes::IndexShape;
+pub use items::Items;
+pub use lists::IndexList;
+pub use names::Name;
+pub use parts::{KeyPart, KeyParts};
+pub use tables::TableShape;
+pub use whole::Shape;
