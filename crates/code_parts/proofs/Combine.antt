@@ -62,8 +62,8 @@ both_ok {A} {B} (Ok a) (Ok b) x e = let same : (a, b) ≡ x = ok_is (a, b) x e i
 both_ok (Ok a) (Err f) x e = absurd cc
 both_ok (Err f) second x e = absurd cc
 
-pub pair_spells : {A B : Type 0} {r : Reader (Judged A)} {s : Reader (Judged B)} {t : A → List ℕ} {u : B → List ℕ} {P : A → Type 0} {Q : B → Type 0} → Spells r t P → Spells s u Q → Spells (pair_at r s) (λ p. t p.0 ++ u p.1) (λ p. P p.0 × Q p.1)
-pair_spells {A} {B} {r} {s} {t} {u} {P} {Q} first second = record {
+pub pair_spells : {A B : Type 0} {r : Reader (Judged A)} {s : Reader (Judged B)} {t : A → List ℕ} {u : B → List ℕ} {P G : A → Type 0} {Q H : B → Type 0} → Spells r t P G → Spells s u Q H → Spells (pair_at r s) (λ p. t p.0 ++ u p.1) (λ p. P p.0 × Q p.1) (λ p. G p.0 × H p.1)
+pair_spells {A} {B} {r} {s} {t} {u} {P} {G} {Q} {H} first second = record {
   again = λ p rest h. ap (pair_at r s) (append_assoc (t p.0) (u p.1) rest) ∙ rw (first.again p.0 (u p.1 ++ rest) h.0, second.again p.1 rest h.1) refl;
   takes = λ bytes rest p fit e.
   let a = behind_some (r bytes) (λ x. s >>= λ y. give (both x y)) (Ok p, rest) e in
@@ -84,11 +84,11 @@ judge_ok : {A B : Type 0} (first : Judged A) (make : A → Judged B) (y : B) →
 judge_ok (Ok x) make y e = (x, refl, e)
 judge_ok (Err f) make y e = absurd cc
 
-pub made_spells : {A B : Type 0} {r : Reader (Judged A)} {t : A → List ℕ} {P : A → Type 0} → Spells r t P → (make : A → Judged B) (u : B → List ℕ) (Q : B → Type 0)
-    → ((x : A) (y : B) → P x → make x ≡ Ok y → (t x ≡ u y) × Q y)
+pub made_spells : {A B : Type 0} {r : Reader (Judged A)} {t : A → List ℕ} {P G : A → Type 0} → Spells r t P G → (make : A → Judged B) (u : B → List ℕ) (Q H : B → Type 0)
+    → ((x : A) (y : B) → G x → make x ≡ Ok y → (t x ≡ u y) × H y)
     → ((y : B) → Q y → (x : A) × P x × (make x ≡ Ok y) × (u y ≡ t x))
-    → Spells (made_at r make) u Q
-made_spells {A} {B} {r} {t} {P} law make u Q back forth = record {
+    → Spells (made_at r make) u Q H
+made_spells {A} {B} {r} {t} {P} {G} law make u Q H back forth = record {
   again = λ y rest h.
   let x = forth y h in
   ap (λ (l : List ℕ). made_at r make (l ++ rest)) x.3 ∙ rw (law.again x.0 rest x.1, x.2) refl;
@@ -103,8 +103,8 @@ made_spells {A} {B} {r} {t} {P} law make u Q back forth = record {
   steady = steady_then law.steady (λ x. steady_give (judge x make));
 }
 
-pub flawed_spells : {X : Type 0} (f : Flaw) (t : X → List ℕ) (P : X → Type 0) → ((x : X) → P x → ⊥) → Spells (give (Err f)) t P
-flawed_spells {X} f t P none = record {
+pub flawed_spells : {X : Type 0} (f : Flaw) (t : X → List ℕ) (P G : X → Type 0) → ((x : X) → P x → ⊥) → Spells (give (Err f)) t P G
+flawed_spells {X} f t P G none = record {
   again = λ x rest h. absurd (none x h);
   takes = λ bytes rest x fit e. absurd (never x bytes rest e);
   steady = steady_give (Err f);
@@ -125,7 +125,7 @@ steady_byte = record { stays = λ bytes more rest x e. step bytes more rest x (b
   step : (bytes more rest : List ℕ) (x : ℕ) → bytes ≡ x ∷ rest → byte_at (bytes ++ more) ≡ Some (x, rest ++ more)
   step bytes more rest x e = rw e refl
 
-pub byte_spells : Spells (sure byte_at) (λ b. b ∷ []) (λ b. b < 256)
+pub byte_spells : Spells (sure byte_at) (λ b. b ∷ []) (λ b. Unit {0}) (λ b. b < 256)
 byte_spells = record {
   again = λ b rest h. refl;
   takes = λ bytes rest b fit e.
@@ -138,15 +138,14 @@ byte_spells = record {
   steady = steady_then steady_byte (λ x. steady_give (Ok x));
 }
 
-pub choice_spells : {X : Type 0} (choose : ℕ → Reader (Judged X)) (tag : X → ℕ) (t : X → List ℕ) (P : X → Type 0) → ((b : ℕ) → b < 256 → Spells (choose b) t (λ x. P x × (tag x ≡ b))) → ((b : ℕ) → IsSteady (choose b)) → ((x : X) → P x → tag x < 256)
-    → Spells (by_byte choose) (λ x. tag x ∷ t x) P
-choice_spells {X} choose tag t P each steady small = record {
-  again = λ x rest h. (each (tag x) (small x h)).again x rest (h, refl);
+pub choice_spells : {X : Type 0} (choose : ℕ → Reader (Judged X)) (tag : X → ℕ) (t : X → List ℕ) (P G : X → Type 0) → ((b : ℕ) → Spells (choose b) t (λ x. P x × (tag x ≡ b)) (λ x. G x × (tag x ≡ b)))
+    → Spells (by_byte choose) (λ x. tag x ∷ t x) P G
+choice_spells {X} choose tag t P G each = record {
+  again = λ x rest h. (each (tag x)).again x rest (h, refl);
   takes = λ bytes rest x fit e.
   let a = behind_some (byte_at bytes) choose (Ok x, rest) e in
   let is = byte_takes bytes a.0 a.1 in
-  let b_fits : a.0.0 < 256 = rw (ap (λ (l : List ℕ). get_or l 0 0) is) at (fit 0) in
-  let back = (each a.0.0 b_fits).takes a.0.1 rest x (are_left bytes (a.0.0 ∷ []) a.0.1 is fit) a.2 in
+  let back = (each a.0.0).takes a.0.1 rest x (are_left bytes (a.0.0 ∷ []) a.0.1 is fit) a.2 in
   (is ∙ ap (λ (n : ℕ). n ∷ a.0.1) (sym back.1.1) ∙ ap (λ (l : List ℕ). tag x ∷ l) back.0, back.1.0);
-  steady = steady_then steady_byte steady;
+  steady = steady_then steady_byte (λ b. (each b).steady);
 }

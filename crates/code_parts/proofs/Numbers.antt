@@ -78,7 +78,7 @@ steady_number w = record { stays = λ bytes more rest x e. more_behind bytes mor
       let still : ltb (length (bytes ++ more)) (byte_len w) ≡ false = le-ltb _ _ (omega (arith, length-append bytes more)) in
       rw (still, take-append-le (byte_len w) bytes more long, drop-append-le (byte_len w) bytes more long, h.1, h.0.rest_is) refl
 
-pub number_spells : (w : Width) (limit : ℕ) → IsWide w limit → Spells (sure (number_at w)) (to_le_bytes w) (λ n. n < limit)
+pub number_spells : (w : Width) (limit : ℕ) → IsWide w limit → Spells (sure (number_at w)) (to_le_bytes w) (λ n. n < limit) (λ n. n < limit)
 number_spells w limit wide = record {
   again = λ n rest lt.
   let len = wide.len n in
@@ -95,13 +95,13 @@ number_spells w limit wide = record {
   steady = steady_then (steady_number w) (λ x. steady_give (Ok x));
 }
 
-pub two_spells : Spells (sure (number_at w16)) (to_le_bytes w16) (λ n. n < 2 ^ 16)
+pub two_spells : Spells (sure (number_at w16)) (to_le_bytes w16) (λ n. n < 2 ^ 16) (λ n. n < 2 ^ 16)
 two_spells = number_spells w16 (2 ^ 16) wide16
 
-pub four_spells : Spells (sure (number_at w32)) (to_le_bytes w32) (λ n. n < 2 ^ 32)
+pub four_spells : Spells (sure (number_at w32)) (to_le_bytes w32) (λ n. n < 2 ^ 32) (λ n. n < 2 ^ 32)
 four_spells = number_spells w32 (2 ^ 32) wide32
 
-pub eight_spells : Spells (sure (number_at w64)) (to_le_bytes w64) (λ n. n < 2 ^ 64)
+pub eight_spells : Spells (sure (number_at w64)) (to_le_bytes w64) (λ n. n < 2 ^ 64) (λ n. n < 2 ^ 64)
 eight_spells = number_spells w64 (2 ^ 64) wide64
 
 -- ---- texts
@@ -115,7 +115,11 @@ steady_bytes n = record { stays = λ bytes more rest x e. more_behind bytes more
       let still : ltb (length (bytes ++ more)) n ≡ false = le-ltb _ _ (omega (arith, length-append bytes more)) in
       rw (still, take-append-le n bytes more long, drop-append-le n bytes more long, h.1, h.0.rest_is) refl
 
-pub text_spells : Spells (sure text_at) (λ xs. length xs ∷ xs) (λ xs. length xs < 256)
+each_byte : (bytes : List ℕ) → AreBytes bytes → AllByRecursion (λ byte. byte < 256) bytes
+each_byte [] fits = tt
+each_byte (b ∷ bytes) fits = (fits 0, each_byte bytes (λ i. fits (suc i)))
+
+pub text_spells : Spells (sure text_at) (λ xs. length xs ∷ xs) (λ xs. Unit {0}) (λ xs. (length xs < 256) × AllByRecursion (λ byte. byte < 256) xs)
 text_spells = record {
   again = λ xs rest h.
   let long : ltb (length (xs ++ rest)) (length xs) ≡ false = le-ltb _ _ (omega (arith, length-append xs rest)) in
@@ -130,7 +134,7 @@ text_spells = record {
   let n_is : b.0.0 ≡ length xs = counts b.0.0 b.0.1 xs f.0.long (f.1 ∙ is) in
   let small : b.0.0 < 256 = rw (ap (λ (l : List ℕ). get_or l 0 0) start) at (fit 0) in
   let parts : b.0.1 ≡ xs ++ rest = parts_of b.0.0 b.0.1 (take b.0.0 b.0.1) a.0.1 f.0 ∙ ap (λ (l : List ℕ). l ++ a.0.1) (f.1 ∙ is) ∙ ap (λ (l : List ℕ). xs ++ l) end.1 in
-  (start ∙ ap (λ (n : ℕ). n ∷ b.0.1) n_is ∙ ap (λ (l : List ℕ). length xs ∷ l) parts, subst (λ (n : ℕ). n < 256) n_is small);
+  (start ∙ ap (λ (n : ℕ). n ∷ b.0.1) n_is ∙ ap (λ (l : List ℕ). length xs ∷ l) parts, (subst (λ (n : ℕ). n < 256) n_is small, each_byte xs (subst (λ (l : List ℕ). AreBytes l) (f.1 ∙ is) (AreBytes-take b.0.0 b.0.1 (are_left bytes (b.0.0 ∷ []) b.0.1 start fit)))));
   steady = steady_then (steady_then steady_byte steady_bytes) (λ x. steady_give (Ok x));
 }
   where
@@ -149,20 +153,20 @@ unfolding several
 steady_several law zero = steady_give (Ok [])
 steady_several law (suc n) = steady_then law (λ first. steady_then (steady_several law n) (λ others. steady_give (put_before first others)))
 
-several_again : {A : Type 0} {one : Reader (Judged A)} {text : A → List ℕ} {P : A → Type 0} → Spells one text P → (xs : List A) (rest : List ℕ) → AllByRecursion P xs → several one (length xs) (flat_map text xs ++ rest) ≡ Some (Ok xs, rest)
+several_again : {A : Type 0} {one : Reader (Judged A)} {text : A → List ℕ} {P G : A → Type 0} → Spells one text P G → (xs : List A) (rest : List ℕ) → AllByRecursion P xs → several one (length xs) (flat_map text xs ++ rest) ≡ Some (Ok xs, rest)
 unfolding several
 several_again law [] rest h = refl
-several_again {A} {one} {text} {P} law (x ∷ xs) rest h =
+several_again {A} {one} {text} {P} {G} law (x ∷ xs) rest h =
     let regrouped : flat_map text (x ∷ xs) ++ rest ≡ text x ++ (flat_map text xs ++ rest) = append_assoc (text x) (flat_map text xs) rest in
     ap (several one (suc (length xs))) regrouped ∙ rw (law.again x (flat_map text xs ++ rest) h.0, several_again law xs rest h.1) refl
 
-several_takes : {A : Type 0} {one : Reader (Judged A)} {text : A → List ℕ} {P : A → Type 0} → Spells one text P → (n : ℕ) (bytes rest : List ℕ) (all : List A) → AreBytes bytes → several one n bytes ≡ Some (Ok all, rest) → (bytes ≡ flat_map text all ++ rest) × (length all ≡ n) × AllByRecursion P all
+several_takes : {A : Type 0} {one : Reader (Judged A)} {text : A → List ℕ} {P G : A → Type 0} → Spells one text P G → (n : ℕ) (bytes rest : List ℕ) (all : List A) → AreBytes bytes → several one n bytes ≡ Some (Ok all, rest) → (bytes ≡ flat_map text all ++ rest) × (length all ≡ n) × AllByRecursion G all
 unfolding several
-several_takes {A} {one} {text} {P} law zero bytes rest all fit e =
+several_takes {A} {one} {text} {P} {G} law zero bytes rest all fit e =
     let end = given (done []) (done all) bytes rest e in
     let none : [] ≡ all = ok_is [] all end.0 in
-    subst (λ (xs : List A). (bytes ≡ flat_map text xs ++ rest) × (length xs ≡ 0) × AllByRecursion P xs) none (end.1, refl, tt)
-several_takes {A} {one} {text} {P} law (suc n) bytes rest all fit e =
+    subst (λ (xs : List A). (bytes ≡ flat_map text xs ++ rest) × (length xs ≡ 0) × AllByRecursion G xs) none (end.1, refl, tt)
+several_takes {A} {one} {text} {P} {G} law (suc n) bytes rest all fit e =
     let a = behind_some (one bytes) (λ x. several one n >>= λ others. give (put_before x others)) (Ok all, rest) e in
     let b = behind_some (several one n a.0.1) (λ others. give (put_before a.0.0 others)) (Ok all, rest) a.2 in
     let end = given (put_before a.0.0 b.0.0) (Ok all) b.0.1 rest b.2 in
@@ -174,18 +178,18 @@ several_takes {A} {one} {text} {P} law (suc n) bytes rest all fit e =
     let front = law.takes bytes a.0.1 x fit first in
     let back = several_takes law n a.0.1 rest xs (are_left bytes (text x) a.0.1 front.0 fit) others in
     let whole : bytes ≡ flat_map text (x ∷ xs) ++ rest = front.0 ∙ ap (λ (l : List ℕ). text x ++ l) back.0 ∙ sym (append_assoc (text x) (flat_map text xs) rest) in
-    subst (λ (ys : List A). (bytes ≡ flat_map text ys ++ rest) × (length ys ≡ suc n) × AllByRecursion P ys) made.4 (whole, ap suc back.1, (front.1, back.2))
+    subst (λ (ys : List A). (bytes ≡ flat_map text ys ++ rest) × (length ys ≡ suc n) × AllByRecursion G ys) made.4 (whole, ap suc back.1, (front.1, back.2))
 
-pub several_spells : {A : Type 0} {one : Reader (Judged A)} {text : A → List ℕ} {P : A → Type 0} → Spells one text P → (n : ℕ) → Spells (several one n) (flat_map text) (λ xs. (length xs ≡ n) × AllByRecursion P xs)
-several_spells {A} {one} {text} {P} law n = record {
+pub several_spells : {A : Type 0} {one : Reader (Judged A)} {text : A → List ℕ} {P G : A → Type 0} → Spells one text P G → (n : ℕ) → Spells (several one n) (flat_map text) (λ xs. (length xs ≡ n) × AllByRecursion P xs) (λ xs. (length xs ≡ n) × AllByRecursion G xs)
+several_spells {A} {one} {text} {P} {G} law n = record {
   again = λ xs rest h. ap (λ (k : ℕ). several one k (flat_map text xs ++ rest)) (sym h.0) ∙ several_again law xs rest h.1;
   takes = λ bytes rest xs fit e. let is = several_takes law n bytes rest xs fit e in (is.0, (is.1, is.2));
   steady = steady_several law.steady n;
 }
 
-pub counted_spells : {A : Type 0} {one : Reader (Judged A)} {text : A → List ℕ} {P : A → Type 0} → Spells one text P → Spells (counted_at one) (λ xs. length xs ∷ flat_map text xs) (λ xs. (length xs < 256) × AllByRecursion P xs)
-counted_spells {A} {one} {text} {P} law = record {
-  again = λ xs rest h. several_again law xs rest h.1;
+pub counted_spells : {A : Type 0} {one : Reader (Judged A)} {text : A → List ℕ} {P G : A → Type 0} → Spells one text P G → Spells (counted_at one) (λ xs. length xs ∷ flat_map text xs) (λ xs. AllByRecursion P xs) (λ xs. (length xs < 256) × AllByRecursion G xs)
+counted_spells {A} {one} {text} {P} {G} law = record {
+  again = λ xs rest h. several_again law xs rest h;
   takes = λ bytes rest xs fit e.
   let a = behind_some (byte_at bytes) (several one) (Ok xs, rest) e in
   let start = byte_takes bytes a.0 a.1 in
