@@ -1,2 +1,4 @@
-pub mod Reading
+pub mod Items
 pub mod Laws
+pub mod Reading
+pub mod Texts

@@ -3,7 +3,11 @@
 
 mod fields;
 mod flaw;
+mod kinds;
 mod several;
+mod shapes;
 
 pub use flaw::{Flaw, Unread};
-pub use several::{Reads, read_several};
+pub use kinds::{Kinds, Slots};
+pub use several::{Reads, read_counted, read_several};
+pub use shapes::{Fields, Indexes, Lists, Parts, Tables};

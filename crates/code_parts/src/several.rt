@@ -2,8 +2,9 @@
 
 ghost use Rattle.std.specs.Prelude.{◌≡◌, IfOk, ℕ, List, Option, Result};
 ghost use Rattle.code_parts.specs.declared.flaw.Flaw.{Flaw as OneFlaw};
-ghost use Rattle.code_parts.specs.Reading.{Gives, several, in_list, joined};
+ghost use Rattle.code_parts.specs.Reading.{Gives, several, in_list, joined, counted_at};
 
+use crate::fields::byte_of;
 use crate::flaw::{Flaw, Unread};
 use std::alloc::{AllocError, Global};
 
@@ -52,4 +53,16 @@ pub fn read_several<'a, R: Reads>(
         rest = after;
     }
     Ok((things, rest))
+}
+
+/// A byte that says how many follow, those or the first flaw, and the bytes behind them all.
+pub fn read_counted<'a, R: Reads>(
+    alloc: Global,
+    reader: &R,
+    bytes: &'a [u8],
+) -> Result<(Result<Vec<R::Thing>, Flaw>, &'a [u8]), Unread>
+    ensures { Gives (λ x. (in_list x.0, x.1.now)) result (counted_at (R.at reader.now) bytes.now) }
+{
+    let (count, rest) = byte_of(bytes)?;
+    read_several(alloc, reader, usize::from(count), rest)
 }
