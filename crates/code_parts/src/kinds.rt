@@ -78,6 +78,7 @@ fn slot_from(byte: u8) -> Result<Option<Kind>, Flaw>
 }
 
 /// Kinds, by their numbers.
+#[derive(Clone, Copy)]
 pub struct Kinds;
 
 impl Reads for Kinds {
@@ -97,6 +98,7 @@ impl Reads for Kinds {
 }
 
 /// The kinds of slots, by their numbers, or 0 for none.
+#[derive(Clone, Copy)]
 pub struct Slots;
 
 impl Reads for Slots {

@@ -1,13 +1,21 @@
 //! The parts of a code file: readers and writers of bytes and numbers, of many of one item, and of each item.
 #![tactic(auto)]
 
+mod constants;
 mod fields;
+mod filters;
 mod flaw;
 mod kinds;
+mod procedures;
 mod several;
 mod shapes;
+mod states;
 
+pub use constants::Constants;
+pub use filters::{Filters, Needs};
 pub use flaw::{Flaw, Unread};
 pub use kinds::{Kinds, Slots};
+pub use procedures::{Maps, Procedures};
 pub use several::{Reads, read_counted, read_several};
 pub use shapes::{Fields, Indexes, Lists, Parts, Tables};
+pub use states::{Areas, States};

@@ -53,6 +53,7 @@ fn field_from(
 }
 
 /// Fields of tables.
+#[derive(Clone, Copy)]
 pub struct Fields;
 
 impl Reads for Fields {
@@ -89,6 +90,7 @@ fn table_from(
 }
 
 /// Tables.
+#[derive(Clone, Copy)]
 pub struct Tables;
 
 impl Reads for Tables {
@@ -118,6 +120,7 @@ fn part_from(field: u8, upper: u8) -> Result<KeyPart, Flaw>
 }
 
 /// Parts of keys.
+#[derive(Clone, Copy)]
 pub struct Parts;
 
 impl Reads for Parts {
@@ -157,6 +160,7 @@ fn index_from(
 }
 
 /// Indexes.
+#[derive(Clone, Copy)]
 pub struct Indexes;
 
 impl Reads for Indexes {
@@ -189,6 +193,7 @@ fn list_from(bytes: &[u8]) -> Result<IndexList, Flaw>
 }
 
 /// Lists of indexes.
+#[derive(Clone, Copy)]
 pub struct Lists;
 
 impl Reads for Lists {
