@@ -1,3 +1,4 @@
+pub mod Instructions
 pub mod Items
 pub mod Laws
 pub mod Reading
