@@ -1,3 +1,6 @@
-pub mod Loops
+pub mod Choices
 pub mod Combine
+pub mod Loops
 pub mod Numbers
+pub mod ShapeLaws
+pub mod ConstantLaws

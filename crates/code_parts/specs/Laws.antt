@@ -1,5 +1,13 @@
 -- What holds of the reader of an item whose texts are known.
-use Rattle.std.specs.Prelude.{◌≡◌, ◌<◌, ℕ, List, ◌++◌, slice_index, Option, Some, Result, Ok}
+use Rattle.std.specs.Prelude.{◌≡◌, ◌<◌, ◌≤◌, ℕ, List, ◌++◌, length, slice_index, Bool, true, false, ◌&&◌, ◌==◌, Option, Some, Result, Ok}
+use Rattle.std.specs.List.{AllByRecursion}
+use Rattle.arrayvec.specs.ArrayVec.{ArrayVec}
+use Rattle.dbf_file.specs.declared.field.Field.{Field}
+use Rattle.shape.specs.declared.tables.TableShape.{TableShape}
+use Rattle.shape.specs.declared.indexes.IndexShape.{IndexShape}
+use Rattle.shape.specs.declared.lists.IndexList.{IndexList}
+use Rattle.xvalue.specs.declared.value.Value.{Value}
+use Rattle.code_items.specs.Constants.{is_constant}
 use Rattle.code_parts.specs.Reading.{Reader, Judged}
 
 abbrev pub AreBytes : List ℕ → Type 0
@@ -16,3 +24,28 @@ pub record Spells {X : Type 0} (r : Reader (Judged X)) (text : X → List ℕ) (
   -- what is read was written
   pub takes : (bytes rest : List ℕ) (x : X) → AreBytes bytes → r bytes ≡ Some (Ok x, rest) → (bytes ≡ text x ++ rest) × IsRead x
   pub steady : IsSteady r
+
+-- ---- which items have texts that are read: those that their types can hold
+
+abbrev pub Any : {X : Type 0} → X → Type 0
+Any x = Unit {0}
+
+abbrev pub HasName : ArrayVec ℕ → Type 0
+HasName name = length name.items ≤ 10
+
+abbrev pub FieldFits : Field → Type 0
+FieldFits f = HasName f.name
+
+pub record TableFits (t : TableShape) : Type 0 where
+  pub name : HasName t.name
+  pub fields : AllByRecursion FieldFits t.fields
+
+pub record IndexFits (x : IndexShape) : Type 0 where
+  pub name : HasName x.name
+  pub few : length x.key ≤ 8
+
+abbrev pub ListFits : IndexList → Type 0
+ListFits l = length l.indexes.items ≤ 7
+
+abbrev pub IsLegalConstant : Value → Type 0
+IsLegalConstant value = is_constant value ≡ true
