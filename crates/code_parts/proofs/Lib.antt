@@ -4,3 +4,4 @@ pub mod Loops
 pub mod Numbers
 pub mod ShapeLaws
 pub mod ConstantLaws
+pub mod StateLaws

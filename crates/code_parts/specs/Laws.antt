@@ -1,5 +1,5 @@
 -- What holds of the reader of an item whose texts are known.
-use Rattle.std.specs.Prelude.{◌≡◌, ◌<◌, ◌≤◌, ℕ, List, ◌++◌, length, slice_index, Bool, true, false, ◌&&◌, ◌==◌, Option, Some, Result, Ok}
+use Rattle.std.specs.Prelude.{◌≡◌, ◌<◌, ◌≤◌, ℕ, List, ◌++◌, ◌+◌, ◌^◌, length, slice_index, Bool, true, false, ◌&&◌, ◌==◌, Option, Some, Result, Ok}
 use Rattle.std.specs.List.{AllByRecursion}
 use Rattle.arrayvec.specs.ArrayVec.{ArrayVec}
 use Rattle.dbf_file.specs.declared.field.Field.{Field}
@@ -8,6 +8,16 @@ use Rattle.shape.specs.declared.indexes.IndexShape.{IndexShape}
 use Rattle.shape.specs.declared.lists.IndexList.{IndexList}
 use Rattle.xvalue.specs.declared.value.Value.{Value}
 use Rattle.code_items.specs.Constants.{is_constant}
+use Rattle.code_items.specs.declared.declared.Version.{Version}
+use Rattle.code_items.specs.declared.declared.Filter.{Filter}
+use Rattle.code_items.specs.declared.desk.AreaState.{AreaState}
+use Rattle.code_items.specs.declared.desk.AreaState.TheVariants.{Closed, Open, Unsure}
+use Rattle.code_items.specs.declared.state.State.{State}
+use Rattle.code_items.specs.declared.code.Proc.{Proc}
+use Rattle.code_items.specs.declared.code.Map.{Map}
+use Rattle.code_items.specs.declared.instr.Instr.{Instr}
+use Rattle.code_items.specs.States.{may_be_unsure}
+use Rattle.code_items.specs.Instrs.{is_instr}
 use Rattle.code_parts.specs.Reading.{Reader, Judged}
 
 abbrev pub AreBytes : List ℕ → Type 0
@@ -49,3 +59,31 @@ ListFits l = length l.indexes.items ≤ 7
 
 abbrev pub IsLegalConstant : Value → Type 0
 IsLegalConstant value = is_constant value ≡ true
+
+pub record FilterFits (f : Filter) : Type 0 where
+  pub short : f.length < 2 ^ 16
+  pub few : length f.needs < 2 ^ 16
+
+-- where nothing may be unsure, 255 is a table's number; else it is none
+abbrev pub AreaFits : Version → AreaState → Type 0
+AreaFits version Closed = Unit {0}
+AreaFits version (Open a) = (a.table + 1 == 255 && may_be_unsure version) ≡ false
+AreaFits version Unsure = may_be_unsure version ≡ true
+
+pub record StateFits (version : Version) (slots : ℕ) (s : State) : Type 0 where
+  pub ten : length s.desk.areas ≡ 10
+  pub areas : AllByRecursion (AreaFits version) s.desk.areas
+  pub known : length s.slots ≡ slots
+
+pub record ProcedureFits (version : Version) (slots : ℕ) (p : Proc) : Type 0 where
+  pub short : p.length < 2 ^ 16
+  pub level : p.level ≤ 20
+  pub entry : StateFits version slots p.entry
+  pub exit : StateFits version slots p.exit
+
+pub record MapFits (version : Version) (slots : ℕ) (m : Map) : Type 0 where
+  pub place : m.place < 2 ^ 16
+  pub state : StateFits version slots m.state
+
+abbrev pub IsLegalInstr : Version → Instr → Type 0
+IsLegalInstr version i = is_instr version i ≡ true
