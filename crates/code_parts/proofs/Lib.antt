@@ -5,3 +5,4 @@ pub mod Numbers
 pub mod ShapeLaws
 pub mod ConstantLaws
 pub mod StateLaws
+pub mod InstrLaws

@@ -7,6 +7,7 @@ mod filters;
 mod flaw;
 mod instrs;
 mod kinds;
+pub mod laws;
 mod operands;
 mod procedures;
 mod several;
