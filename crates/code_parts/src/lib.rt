@@ -18,7 +18,7 @@ pub use constants::Constants;
 pub use filters::{Filters, Needs};
 pub use flaw::{Flaw, Unread};
 pub use instrs::Instrs;
-pub use kinds::{Kinds, Slots};
+pub use kinds::{Kinds, Slots, number_of_kind, number_of_slot};
 pub use operands::{Parts, parts_of_instr};
 pub use procedures::{Maps, Procedures};
 pub use several::{Reads, read_counted, read_several};
