@@ -1,5 +1,5 @@
 -- Tests along two lists, as chains of iterators make them.
-use Rattle.std.proofs.Common.{◌≡◌, ◌≢◌, ◌<◌, ◌≤◌, ◌-◌, ℕ, zero, suc, refl, ap, sym, ◌∙◌, Bool, true, false, not, ◌||◌, ◌&&◌, List, [], ◌∷◌, ◌++◌, ◌+◌, length, take, drop, arith}
+use Rattle.std.proofs.Common.{◌≡◌, ◌≢◌, ◌<◌, ◌≤◌, ◌-◌, ℕ, zero, suc, refl, ap, sym, ◌∙◌, Bool, true, false, not, ◌||◌, ◌&&◌, List, [], ◌∷◌, ◌++◌, ◌+◌, length, take, drop, set, replicate, arith}
 use Rattle.std.proofs.lemmas.List.{length-reverse, length-drop, take-append-drop, reverse-append}
 use Rattle.std.specs.Prelude.{reverse}
 use Rattle.std.specs.List.{list_any, list_all, zip}
@@ -69,3 +69,10 @@ covered_below n v there e =
 
 pub not_covered_below : (n : ℕ) (v : List Kind) (there : List Kind) → length v < n → kinds_covered n (reverse v) there ≡ false
 not_covered_below n v there e = covered_short n (reverse v) there (rw length-reverse e)
+
+-- a list that is filled from the front
+pub fill_next : {A : Type 0} (n : ℕ) (x : A) (xs : List A) → n < length xs → set (replicate n x ++ drop n xs) n x ≡ replicate (suc n) x ++ drop (suc n) xs
+fill_next zero x [] lt = absurd (omega arith)
+fill_next zero x (y ∷ xs) lt = refl
+fill_next (suc n) x [] lt = absurd (omega arith)
+fill_next (suc n) x (y ∷ xs) lt = ap (λ l. x ∷ l) (fill_next n x xs (omega arith))

@@ -1,5 +1,5 @@
 -- What is known of the work areas, and when a map covers it.
-use Rattle.std.specs.Prelude.{ℕ, zero, suc, Bool, true, false, ◌&&◌, ◌==◌, List, Option, Some, None, replicate, slice_get}
+use Rattle.std.specs.Prelude.{ℕ, zero, suc, Bool, true, false, ◌&&◌, ◌==◌, List, Option, Some, None, length, replicate, slice_get, slice_set}
 use Rattle.code_items.specs.declared.desk.OpenArea.{OpenArea}
 use Rattle.code_items.specs.declared.desk.AreaState.{AreaState}
 use Rattle.code_items.specs.declared.desk.AreaState.TheVariants.{Closed, Open, Unsure}
@@ -37,6 +37,18 @@ if_open (Some Unsure) = None
 abbrev pub open_at : Desk → ℕ → Option OpenArea
 open_at desk zero = None
 open_at desk (suc n) = if_open (slice_get desk.areas n)
+
+-- the selected area as told; as it was where none is selected
+abbrev pub put_at : ℕ → AreaState → List AreaState → List AreaState
+put_at zero area areas = areas
+put_at (suc n) area areas = slice_set areas n area
+
+abbrev pub with_selected : AreaState → Desk → Desk
+with_selected area desk = record desk { areas = put_at desk.selected area desk.areas }
+
+-- all areas closed and the first selected
+abbrev pub all_closed : Desk → Desk
+all_closed desk = record { selected = 1; areas = replicate (length desk.areas) Closed }
 
 -- ten closed areas, of which the first is selected
 abbrev pub closed_desk : Desk

@@ -1,6 +1,7 @@
 pub mod Constants
 pub mod Declarations
 pub mod Desks
+pub mod Facts
 pub mod Instrs
 pub mod Kinds
 pub mod Legal

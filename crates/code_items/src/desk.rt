@@ -2,7 +2,7 @@
 
 ghost use Rattle.std.specs.Prelude.{◌≡◌, IfOk};
 ghost use Rattle.std.specs.List.{list_all, zip};
-ghost use Rattle.code_items.specs.Desks.{same_area, area_covered, areas_covered, desk_covered, open_at};
+ghost use Rattle.code_items.specs.Desks.{same_area, area_covered, areas_covered, desk_covered, open_at, with_selected, all_closed};
 
 use shape::Items;
 use std::alloc::{AllocError, Global};
@@ -80,6 +80,32 @@ impl Desk {
         match self.areas.as_slice().get(usize::from(area - 1)) {
             Some(AreaState::Open(open)) => Some(*open),
             _ => None,
+        }
+    }
+
+    /// What is known of the selected work area from now on. Nothing changes where no work area is selected.
+    pub fn set_selected(&mut self, area: AreaState)
+        ensures { self.new ≡ with_selected area self.old }
+    {
+        if 1 <= self.selected && usize::from(self.selected) <= self.areas.len() {
+            self.areas.set(usize::from(self.selected - 1), area);
+        }
+    }
+
+    /// What is known of the selected work area, if it is open.
+    pub fn selected_area(&self) -> Option<OpenArea>
+        ensures { result ≡ open_at self.now self.now.selected }
+    {
+        self.open_at(self.selected)
+    }
+
+    /// All work areas are closed from now on, and the first is selected.
+    pub fn close_all(&mut self)
+        ensures { self.new ≡ all_closed self.old }
+    {
+        self.selected = 1;
+        for number in 0..self.areas.len() {
+            self.areas.set(number, AreaState::Closed);
         }
     }
 

@@ -15,6 +15,7 @@ pub mod instr;
 pub mod kind_slots;
 pub mod kind_stack;
 pub mod laid;
+pub mod laws;
 pub mod state;
 
 pub use code::{Code, Map, Proc};

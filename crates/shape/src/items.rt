@@ -1,6 +1,6 @@
 //! Items by number.
 
-ghost use Rattle.std.specs.Prelude.{◌≡◌, ◌<◌, length, slice_get, Some};
+ghost use Rattle.std.specs.Prelude.{◌≡◌, ◌<◌, length, slice_get, slice_set, Some};
 
 use std::marker::Model;
 
@@ -39,6 +39,15 @@ impl<T> Items<T> {
         ensures { slice_get self.now number ≡ Some result.now }
     {
         &self.values[number]
+    }
+
+    /// Puts an item in the place of the one of this number, which is there.
+    pub fn set(&mut self, number: usize, item: T)
+        where T: Drop
+        requires { number < length self.old }
+        ensures { self.new ≡ slice_set self.old number item }
+    {
+        self.values[number] = item;
     }
 
     /// All items, in their order.

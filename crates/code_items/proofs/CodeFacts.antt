@@ -1,0 +1,48 @@
+-- What is known of a legal code.
+use Rattle.std.proofs.Common.{◌≡◌, ◌≤◌, Bool, true, false, ◌&&◌, nat_le, List, [], ◌∷◌, length, refl, arith}
+use Rattle.std.specs.List.{list_all}
+use Rattle.std.proofs.lemmas.Bool.{leb-true}
+use Rattle.shape.specs.Whole.{is_shape}
+use Rattle.code_items.specs.declared.code.Proc.{Proc}
+use Rattle.code_items.specs.declared.code.Code.{Code}
+use Rattle.code_items.specs.Declarations.{are_declared, is_filter, lists_are_legal, constants_are_legal, filters_are_legal}
+use Rattle.code_items.specs.Instrs.{is_instr}
+use Rattle.code_items.specs.Legal.{is_procedure, begins_blank, is_map, places_of, blocks_of, blocks_fill, maps_rise, procedures_are_legal, maps_are_legal, instructions_are_legal, is_code, IsCode}
+use Rattle.code_items.specs.Facts.{Facts}
+
+both : (a b : Bool) → a && b ≡ true → (a ≡ true) × (b ≡ true)
+both true b e = (refl, e)
+both false b e = absurd (cc)
+
+some_there : (procedures : List Proc) → begins_blank procedures ≡ true → 1 ≤ length procedures
+some_there [] e = absurd (cc)
+some_there (p ∷ ps) e = omega arith
+
+pub facts : (code : Code) → IsCode code → Facts code
+unfolding is_code are_declared
+facts code e =
+    let a = both (are_declared code.declared && procedures_are_legal code && maps_are_legal code) (instructions_are_legal code) e in
+    let b = both (are_declared code.declared && procedures_are_legal code) (maps_are_legal code) a.0 in
+    let c = both (are_declared code.declared) (procedures_are_legal code) b.0 in
+    let d = both (nat_le code.declared.stack_bound 64 && nat_le code.declared.slots 256 && is_shape code.declared.shape && lists_are_legal code.declared && constants_are_legal code.declared) (filters_are_legal code.declared) c.0 in
+    let f = both (nat_le code.declared.stack_bound 64 && nat_le code.declared.slots 256 && is_shape code.declared.shape && lists_are_legal code.declared) (constants_are_legal code.declared) d.0 in
+    let g = both (nat_le code.declared.stack_bound 64 && nat_le code.declared.slots 256 && is_shape code.declared.shape) (lists_are_legal code.declared) f.0 in
+    let h = both (nat_le code.declared.stack_bound 64 && nat_le code.declared.slots 256) (is_shape code.declared.shape) g.0 in
+    let k = both (nat_le code.declared.stack_bound 64) (nat_le code.declared.slots 256) h.0 in
+    let l = both (nat_le (length code.declared.filters) 64) (list_all (is_filter (length code.declared.shape.tables) code.declared.slots) code.declared.filters) d.1 in
+    let m = both (nat_le (length code.procedures) 256 && list_all (is_procedure code.declared) code.procedures) (begins_blank code.procedures) c.1 in
+    let n = both (nat_le (length code.procedures) 256) (list_all (is_procedure code.declared) code.procedures) m.0 in
+    let o = both (nat_le (length code.maps) 4096 && list_all (is_map code.declared) code.maps) (maps_rise 0 (places_of code.procedures) code.maps) b.1 in
+    let p = both (nat_le 1 (length code.instructions) && nat_le (length code.instructions) 65535 && list_all (is_instr code.declared.version) code.instructions) (blocks_fill (length code.instructions) (blocks_of code.procedures code.declared.filters)) a.1 in
+    let q = both (nat_le 1 (length code.instructions) && nat_le (length code.instructions) 65535) (list_all (is_instr code.declared.version) code.instructions) p.0 in
+    let r = both (nat_le 1 (length code.instructions)) (nat_le (length code.instructions) 65535) q.0 in
+    record {
+      stack_bound = leb-true code.declared.stack_bound 64 k.0;
+      slots = leb-true code.declared.slots 256 k.1;
+      filters = leb-true (length code.declared.filters) 64 l.0;
+      some = some_there code.procedures m.1;
+      procedures = leb-true (length code.procedures) 256 n.0;
+      maps = o.1;
+      begun = leb-true 1 (length code.instructions) r.0;
+      instructions = leb-true (length code.instructions) 65535 r.1;
+    }

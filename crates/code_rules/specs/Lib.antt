@@ -1,0 +1,5 @@
+pub mod Flow
+pub mod Places
+pub mod Rules
+pub mod Signature
+pub mod Wants
