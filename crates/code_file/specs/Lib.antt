@@ -1,0 +1,3 @@
+pub mod CodeFile
+pub mod Decoding
+pub mod Listing
