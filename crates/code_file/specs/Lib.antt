@@ -1,3 +1,4 @@
 pub mod CodeFile
 pub mod Decoding
 pub mod Listing
+pub mod Laws
