@@ -1,5 +1,5 @@
 -- Lists of indexes that are opened together.
-use Rattle.std.specs.Prelude.{ℕ, Bool, true, false, not, ◌&&◌, ◌==◌, List, [], ◌∷◌, Option, Some, None, slice_get}
+use Rattle.std.specs.Prelude.{ℕ, Bool, true, false, not, ◌&&◌, ◌==◌, nat_le, length, List, [], ◌∷◌, Option, Some, None, slice_get}
 use Rattle.std.specs.List.{list_all, list_any}
 use Rattle.shape.specs.declared.indexes.IndexShape.{IndexShape}
 use Rattle.shape.specs.declared.lists.IndexList.{IndexList}
@@ -35,4 +35,4 @@ are_of_table indexes numbers (Some table) = list_all (is_index_of indexes table)
 
 -- one to seven different indexes, all of one table
 unfoldable pub is_list : List IndexShape → IndexList → Bool
-is_list indexes l = are_of_table indexes l.indexes.items (list_table indexes l)
+is_list indexes l = nat_le (length l.indexes.items) 7 && are_of_table indexes l.indexes.items (list_table indexes l)

@@ -2,7 +2,7 @@
 
 ghost use Rattle.std.specs.Prelude.{◌≡◌, ◌==◌};
 ghost use Rattle.std.specs.List.{list_all, list_any};
-ghost use Rattle.shape.specs.Lists.{is_index_of, list_table, numbers_differ, is_list as is_list_of};
+ghost use Rattle.shape.specs.Lists.{is_index_of, list_table, are_of_table, numbers_differ, is_list as is_list_of};
 
 use crate::indexes::IndexShape;
 use arrayvec::ArrayVec;
@@ -65,6 +65,12 @@ impl IndexList {
     #[tactic(auto, unfolding(crate::specs::Lists::is_list))]
     pub fn is_list(&self, indexes: &[IndexShape]) -> bool
         ensures { result ≡ is_list_of indexes.now self.now }
+    {
+        self.indexes.len() <= 7 && self.is_of_one_table(indexes)
+    }
+
+    fn is_of_one_table(&self, indexes: &[IndexShape]) -> bool
+        ensures { result ≡ are_of_table indexes.now self.now.indexes.items (list_table indexes.now self.now) }
     {
         match self.table(indexes) {
             Some(table) => are_of(indexes, table, &self.indexes) && differ(&self.indexes),

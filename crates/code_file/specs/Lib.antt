@@ -1,0 +1,4 @@
+pub mod CodeFile
+pub mod Decoding
+pub mod Listing
+pub mod Laws

@@ -1,0 +1,128 @@
+//! Reading a code file.
+
+ghost use Rattle.std.specs.Prelude.{◌≡◌, ◌≤◌, length};
+ghost use Rattle.code_file.specs.Decoding.{Gives, declared_at, body_at, is_laid as is_laid_code, whole_at, code_at};
+
+use crate::fault::CodeFault;
+use crate::header::{Counts, Header, header_of};
+use crate::judges::{Anything, Declaring, LegalFilters, LegalLists, NextIndexes, NextTables};
+use crate::sections::items_of;
+use code_items::code::{do_blocks_fill, do_maps_rise, places_of_blocks};
+use code_items::{Code, Declared, Items, Shape};
+use code_parts::{Constants, Filters, Indexes, Instrs, Lists, Maps, Procedures, States, Tables};
+use std::alloc::Global;
+
+/// What is declared, and the bytes behind it.
+#[tactic(auto, unfolding(crate::specs::Decoding::declared_at))]
+fn declared_of<'a>(
+    alloc: Global,
+    header: &Header,
+    bytes: &'a [u8],
+) -> Result<(Declared, &'a [u8]), CodeFault>
+    ensures { Gives (λ x. (x.0, x.1.now)) result (declared_at header.now bytes.now) }
+{
+    let counts = header.counts;
+    let (tables, rest) = items_of(alloc, &Tables, &NextTables, counts.tables, bytes)?;
+    let next = NextIndexes { tables: &tables };
+    let (indexes, rest) = items_of(alloc, &Indexes, &next, counts.indexes, rest)?;
+    let legal = LegalLists { indexes: &indexes };
+    let (lists, rest) = items_of(alloc, &Lists, &legal, counts.lists, rest)?;
+    let (constants, rest) = items_of(alloc, &Constants, &Anything, counts.constants, rest)?;
+    let legal = LegalFilters {
+        tables: tables.len(),
+        slots: counts.slots,
+    };
+    let (filters, rest) = items_of(alloc, &Filters, &legal, counts.filters, rest)?;
+    let declared = Declared {
+        version: header.version,
+        stack_bound: counts.stack_bound,
+        slots: counts.slots,
+        shape: Shape {
+            tables: Items::of(tables),
+            indexes: Items::of(indexes),
+        },
+        lists: Items::of(lists),
+        constants: Items::of(constants),
+        filters: Items::of(filters),
+    };
+    Ok((declared, rest))
+}
+
+/// The code that declares this, and the bytes behind it.
+#[tactic(auto, unfolding(crate::specs::Decoding::body_at))]
+fn body_of<'a>(
+    alloc: Global,
+    counts: &Counts,
+    declared: Declared,
+    bytes: &'a [u8],
+) -> Result<(Code, &'a [u8]), CodeFault>
+    ensures { Gives (λ x. (x.0, x.1.now)) result (body_at counts.now declared bytes.now) }
+{
+    let states = States {
+        version: declared.version,
+        slots: declared.slots,
+    };
+    let legal = Declaring {
+        declared: &declared,
+    };
+    let procedures = Procedures { states };
+    let (procedures, rest) = items_of(alloc, &procedures, &legal, counts.procedures, bytes)?;
+    let (maps, rest) = items_of(alloc, &Maps { states }, &legal, counts.maps, rest)?;
+    let instrs = Instrs {
+        version: declared.version,
+    };
+    let (instructions, rest) = items_of(alloc, &instrs, &Anything, counts.instructions, rest)?;
+    let code = Code {
+        declared,
+        procedures: Items::of(procedures),
+        maps: Items::of(maps),
+        instructions: Items::of(instructions),
+    };
+    Ok((code, rest))
+}
+
+#[tactic(auto, unfolding(crate::specs::Decoding::whole_at))]
+fn whole_of(alloc: Global, bytes: &[u8]) -> Result<(Code, &[u8]), CodeFault>
+    ensures { Gives (λ x. (x.0, x.1.now)) result (whole_at bytes.now) }
+{
+    let (header, rest) = header_of(alloc, bytes)?;
+    let (declared, rest) = declared_of(alloc, &header, rest)?;
+    let (code, rest) = body_of(alloc, &header.counts, declared, rest)?;
+    Ok((code, rest))
+}
+
+fn is_laid(code: &Code) -> bool
+    ensures { result ≡ is_laid_code code.now }
+{
+    let procedures = code.procedures.as_slice();
+    procedures.len() <= 256
+        && do_blocks_fill(
+            code.instructions.len(),
+            procedures,
+            code.declared.filters.as_slice(),
+        )
+        && do_maps_rise(places_of_blocks(procedures), code.maps.as_slice())
+}
+
+#[tactic(auto, unfolding(crate::specs::Decoding::code_at))]
+fn code_of(alloc: Global, bytes: &[u8]) -> Result<Code, CodeFault>
+    ensures { Gives (λ x. x) result (code_at bytes.now) }
+{
+    let (code, rest) = whole_of(alloc, bytes)?;
+    if !is_laid(&code) {
+        return Err(CodeFault::Shape);
+    }
+    if !rest.is_empty() {
+        return Err(CodeFault::Extra);
+    }
+    Ok(code)
+}
+
+/// The code whose file the bytes are. An error is the first fault from the front, and within one item the least; where
+/// memory is refused before that is found, it is `Memory`. Numbers that instructions name aren't judged.
+pub fn decode(alloc: Global, bytes: &[u8]) -> Result<Code, CodeFault>
+    // Which fault it is.
+    ensures exact { Gives (λ x. x) result (code_at bytes.now) }
+{
+    code_of(alloc, bytes)
+}

@@ -1,0 +1,155 @@
+//! The header of a code file.
+
+ghost use Rattle.std.specs.Prelude.{◌≡◌};
+ghost use Rattle.code_file.specs.Decoding.{Gives, within_limits, version_from as version_from_number, counts_at, magic_at, version_at, limited_at, header_at};
+
+use crate::fault::CodeFault;
+use crate::sections::item_of;
+use code_items::Version;
+use code_parts::{Flaw, Reads, Unread, four_of, two_of};
+use std::alloc::Global;
+
+/// `XBCF`, as a number.
+const MAGIC: u32 = 0x4643_4258;
+
+/// How much there is of everything.
+#[derive(Clone, Copy, Debug)]
+pub struct Counts {
+    pub stack_bound: u16,
+    pub slots: u16,
+    pub tables: u16,
+    pub indexes: u16,
+    pub lists: u16,
+    pub constants: u16,
+    pub filters: u16,
+    pub procedures: u16,
+    pub maps: u16,
+    pub instructions: u16,
+}
+
+/// The version, and how much there is of everything.
+#[derive(Clone, Copy, Debug)]
+pub struct Header {
+    pub version: Version,
+    pub counts: Counts,
+}
+
+/// Whether each number is within its limit.
+fn is_within_limits(c: &Counts) -> bool
+    ensures { result ≡ within_limits c.now }
+{
+    c.stack_bound <= 64
+        && c.slots <= 256
+        && c.tables <= 32
+        && c.indexes <= 64
+        && c.lists <= 64
+        && c.constants <= 4096
+        && c.filters <= 64
+        && 1 <= c.procedures
+        && c.procedures <= 256
+        && c.maps <= 4096
+        && 1 <= c.instructions
+}
+
+/// The counts of a header.
+#[derive(Clone, Copy)]
+struct AllCounts;
+
+impl Reads for AllCounts {
+    type Thing = Counts;
+
+    ghost at = { λ _. counts_at };
+
+    #[tactic(auto, unfolding(crate::specs::Decoding::counts_at))]
+    fn read<'a>(
+        &self,
+        _alloc: Global,
+        bytes: &'a [u8],
+    ) -> Result<(Result<Counts, Flaw>, &'a [u8]), Unread> {
+        let (stack_bound, rest) = two_of(bytes)?;
+        let (slots, rest) = two_of(rest)?;
+        let (tables, rest) = two_of(rest)?;
+        let (indexes, rest) = two_of(rest)?;
+        let (lists, rest) = two_of(rest)?;
+        let (constants, rest) = two_of(rest)?;
+        let (filters, rest) = two_of(rest)?;
+        let (procedures, rest) = two_of(rest)?;
+        let (maps, rest) = two_of(rest)?;
+        let (instructions, rest) = two_of(rest)?;
+        let counts = Counts {
+            stack_bound,
+            slots,
+            tables,
+            indexes,
+            lists,
+            constants,
+            filters,
+            procedures,
+            maps,
+            instructions,
+        };
+        Ok((Ok(counts), rest))
+    }
+}
+
+fn version_from(number: u16) -> Result<Version, CodeFault>
+    ensures { Gives (λ x. x) result (version_from_number number) }
+{
+    match number {
+        1 => Ok(Version::One),
+        2 => Ok(Version::Two),
+        _ => Err(CodeFault::Version),
+    }
+}
+
+#[tactic(auto, unfolding(crate::specs::Decoding::magic_at))]
+fn magic_of(bytes: &[u8]) -> Result<(u32, &[u8]), CodeFault>
+    ensures { Gives (λ x. (x.0, x.1.now)) result (magic_at bytes.now) }
+{
+    match four_of(bytes) {
+        Err(Unread::Short) => Err(CodeFault::Magic),
+        Err(Unread::Memory) => Err(CodeFault::Memory),
+        Ok((magic, rest)) => {
+            if magic != MAGIC {
+                return Err(CodeFault::Magic);
+            }
+            Ok((magic, rest))
+        }
+    }
+}
+
+#[tactic(auto, unfolding(crate::specs::Decoding::version_at))]
+fn version_of(bytes: &[u8]) -> Result<(Version, &[u8]), CodeFault>
+    ensures { Gives (λ x. (x.0, x.1.now)) result (version_at bytes.now) }
+{
+    match two_of(bytes) {
+        Err(Unread::Short) => Err(CodeFault::Version),
+        Err(Unread::Memory) => Err(CodeFault::Memory),
+        Ok((number, rest)) => {
+            let version = version_from(number)?;
+            Ok((version, rest))
+        }
+    }
+}
+
+#[tactic(auto, unfolding(crate::specs::Decoding::limited_at))]
+fn limited_of(alloc: Global, bytes: &[u8]) -> Result<(Counts, &[u8]), CodeFault>
+    ensures { Gives (λ x. (x.0, x.1.now)) result (limited_at bytes.now) }
+{
+    let (counts, rest) = item_of(alloc, &AllCounts, bytes)?;
+    if !is_within_limits(&counts) {
+        return Err(CodeFault::Limit);
+    }
+    Ok((counts, rest))
+}
+
+/// The header, and the bytes behind it.
+#[tactic(auto, unfolding(crate::specs::Decoding::header_at))]
+pub fn header_of(alloc: Global, bytes: &[u8]) -> Result<(Header, &[u8]), CodeFault>
+    ensures { Gives (λ x. (x.0, x.1.now)) result (header_at bytes.now) }
+{
+    let (_, rest) = magic_of(bytes)?;
+    let (version, rest) = version_of(rest)?;
+    let (counts, rest) = limited_of(alloc, rest)?;
+    Ok((Header { version, counts }, rest))
+}

@@ -1,0 +1,20 @@
+//! Code files: the codec between codes and their bytes, and the listing of a code.
+//!
+//! What a code is stands in `code_items`, whose types are passed on from here; the bytes of each item stand in `code_parts`.
+#![tactic(auto)]
+
+mod decoding;
+pub mod fault;
+pub mod header;
+mod judges;
+mod listing;
+mod sections;
+
+pub use code_items::{
+    AreaInstr, AreaState, Code, Declared, Desk, Filter, FlowInstr, IndexList, IndexShape, Instr,
+    Items, KeyPart, KeyParts, KindSlots, KindStack, Map, MoveInstr, Name, Need, OpenArea, Proc,
+    Question, RecordInstr, ScreenInstr, Setting, Shape, State, TableShape, ValueInstr, Version,
+};
+pub use decoding::decode;
+pub use fault::CodeFault;
+pub use listing::list;

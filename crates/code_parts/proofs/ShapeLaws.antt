@@ -1,0 +1,104 @@
+-- Laws of the readers of kinds, tables, indexes and lists.
+use Rattle.std.proofs.Common.{inl, inr, ◌≡◌, ℕ, ◌≤◌, Bool, true, false, eqb, leb, List, [], ◌∷◌, ◌++◌, length, Option, Some, None, Result, Ok, Err, refl, sym, ap, subst, ◌∙◌}
+use Rattle.std.specs.List.{AllByRecursion}
+use Rattle.std.proofs.lemmas.Bool.{eqb-true, leb-true, le-leb}
+use Rattle.arrayvec.specs.ArrayVec.{ArrayVec}
+use Rattle.xvalue.specs.declared.kind.Kind.{Kind}
+use Rattle.xvalue.specs.declared.kind.Kind.TheVariants.{Number as OfNumber, Text as OfText, Date as OfDate, Logical as OfLogical}
+use Rattle.dbf_file.specs.declared.field.Letter.{Letter}
+use Rattle.dbf_file.specs.declared.field.Field.{Field}
+use Rattle.dbf_file.specs.Fields.{code_of, letter_of}
+use Rattle.shape.specs.declared.tables.TableShape.{TableShape}
+use Rattle.shape.specs.declared.parts.KeyPart.{KeyPart}
+use Rattle.shape.specs.declared.indexes.IndexShape.{IndexShape}
+use Rattle.shape.specs.declared.lists.IndexList.{IndexList}
+use Rattle.code_parts.specs.declared.flaw.Flaw.TheVariants.{Shape}
+use Rattle.code_parts.specs.Reading.{Judged}
+use Rattle.code_parts.specs.Laws.{Spells, Any, HasName, FieldFits, TableFits, IndexFits, ListFits}
+use Rattle.code_parts.specs.Texts.{kind_number, slot_number, truth_number, kind_text, slot_text, name_text, field_text, table_text, part_text, index_text, list_text}
+use Rattle.code_parts.specs.Items.{wanted, there, kind_of_byte, kind_from, slot_from, truth_of_byte, kind_at, slot_at, name_from, name_at, field_from, field_at, table_at, part_from, part_at, index_from, index_at, list_from, list_at}
+use Rattle.code_parts.proofs.Combine.{done, ok_is, pair_spells, made_spells, byte_spells}
+use Rattle.code_parts.proofs.Numbers.{text_spells, counted_spells}
+use Rattle.code_parts.proofs.Choices.{all_any, chosen, wanted_ok, there_ok, kind_was, kind_is, truth_was, truth_is, letter_was, letter_is}
+
+pub kind_spells : Spells kind_at kind_text Any Any
+unfolding kind_at
+kind_spells = made_spells byte_spells kind_from kind_text Any Any
+    (λ b kind fit e.
+    let k = there_ok Shape (kind_of_byte b) (λ k. Ok k) kind e in
+    let same : k.0 ≡ kind = ok_is k.0 kind k.2 in
+    (ap (λ (n : ℕ). n ∷ []) (kind_was b k.0 k.1 ∙ ap kind_number same), tt))
+    (λ kind h. (kind_number kind, tt, rw (kind_is kind) refl, refl))
+
+slot_was : (b : ℕ) (slot : Option Kind) → slot_from b ≡ Ok slot → b ≡ slot_number slot
+slot_was b slot e =
+    elim (chosen (eqb b 0) (done None) (there Shape (kind_of_byte b) (λ k. Ok (Some k))) (Ok slot) e) [
+      | inl h ↦ eqb-true b 0 h.0 ∙ ap slot_number (ok_is None slot h.1)
+      | inr h ↦
+          let k = there_ok Shape (kind_of_byte b) (λ k. Ok (Some k)) slot h.1 in
+          kind_was b k.0 k.1 ∙ ap slot_number (ok_is (Some k.0) slot k.2)
+    ]
+
+slot_is : (slot : Option Kind) → slot_from (slot_number slot) ≡ Ok slot
+slot_is None = refl
+slot_is (Some OfNumber) = refl
+slot_is (Some OfText) = refl
+slot_is (Some OfDate) = refl
+slot_is (Some OfLogical) = refl
+
+pub slot_spells : Spells slot_at slot_text Any Any
+unfolding slot_at
+slot_spells = made_spells byte_spells slot_from slot_text Any Any
+    (λ b slot fit e. (ap (λ (n : ℕ). n ∷ []) (slot_was b slot e), tt))
+    (λ slot h. (slot_number slot, tt, slot_is slot, refl))
+
+name_spells : Spells name_at name_text HasName Any
+unfolding name_at
+name_spells = made_spells text_spells name_from name_text HasName Any
+    (λ bytes name fit e.
+    let made : ArrayVec ℕ = record { items = bytes } in
+    (ap name_text (wanted_ok Shape (leb (length bytes) 10) made name e).1, tt))
+    (λ name h. (name.items, tt, rw (le-leb (length name.items) 10 h) refl, refl))
+
+pub field_spells : Spells field_at field_text FieldFits Any
+unfolding field_at
+field_spells = made_spells (pair_spells name_spells (pair_spells byte_spells (pair_spells byte_spells byte_spells))) (λ p. field_from p.0 p.1.0 p.1.1.0 p.1.1.1) field_text FieldFits Any
+    (λ p f fit e.
+    let make = λ (l : Letter). let made : Field = record { name = p.0; letter = l; width = p.1.1.0; decimals = p.1.1.1 } in done made in
+    let l = there_ok Shape (letter_of p.1.0) make f e in
+    let made : Field = record { name = p.0; letter = l.0; width = p.1.1.0; decimals = p.1.1.1 } in
+    let text : name_text p.0 ++ (p.1.0 ∷ p.1.1.0 ∷ p.1.1.1 ∷ []) ≡ field_text made = ap (λ (n : ℕ). name_text p.0 ++ (n ∷ p.1.1.0 ∷ p.1.1.1 ∷ [])) (letter_was p.1.0 l.0 l.1) in
+    (text ∙ ap field_text (ok_is made f l.2), tt))
+    (λ f h. ((f.name, (code_of f.letter, (f.width, f.decimals))), (h, (tt, (tt, tt))), rw (letter_is f.letter) refl, refl))
+
+pub table_spells : Spells table_at table_text TableFits Any
+unfolding table_at
+table_spells = made_spells (pair_spells name_spells (counted_spells field_spells)) (λ p. Ok (record { name = p.0; fields = p.1 })) table_text TableFits Any
+    (λ p t fit e. let made : TableShape = record { name = p.0; fields = p.1 } in (ap table_text (ok_is made t e), tt))
+    (λ t h. ((t.name, t.fields), (h.name, h.fields), refl, refl))
+
+part_spells : Spells part_at part_text Any Any
+unfolding part_at
+part_spells = made_spells (pair_spells byte_spells byte_spells) (λ p. part_from p.0 p.1) part_text Any Any
+    (λ p part fit e.
+    let make = λ (upper : Bool). let made : KeyPart = record { field = p.0; upper = upper } in done made in
+    let u = there_ok Shape (truth_of_byte p.1) make part e in
+    let made : KeyPart = record { field = p.0; upper = u.0 } in
+    (ap (λ (n : ℕ). p.0 ∷ n ∷ []) (truth_was p.1 u.0 u.1) ∙ ap part_text (ok_is made part u.2), tt))
+    (λ part h. ((part.field, truth_number part.upper), (tt, tt), rw (truth_is part.upper) refl, refl))
+
+pub index_spells : Spells index_at index_text IndexFits Any
+unfolding index_at
+index_spells = made_spells (pair_spells name_spells (pair_spells byte_spells (counted_spells part_spells))) (λ p. index_from p.0 p.1.0 p.1.1) index_text IndexFits Any
+    (λ p x fit e.
+    let made : IndexShape = record { name = p.0; table = p.1.0; key = p.1.1 } in
+    (ap index_text (wanted_ok Shape (leb (length p.1.1) 8) made x e).1, tt))
+    (λ x h. ((x.name, (x.table, x.key)), (h.name, (tt, all_any x.key)), rw (le-leb (length x.key) 8 h.few) refl, refl))
+
+pub list_spells : Spells list_at list_text ListFits Any
+unfolding list_at
+list_spells = made_spells text_spells list_from list_text ListFits Any
+    (λ bytes l fit e.
+    let made : IndexList = record { indexes = record { items = bytes } } in
+    (ap list_text (wanted_ok Shape (leb (length bytes) 7) made l e).1, tt))
+    (λ l h. (l.indexes.items, tt, rw (le-leb (length l.indexes.items) 7 h) refl, refl))

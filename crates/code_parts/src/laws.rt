@@ -1,0 +1,37 @@
+//! What follows from the definitions of readers and texts. The functions do nothing: their contracts are the laws.
+
+ghost use Rattle.std.specs.Prelude.{ℕ};
+ghost use Rattle.code_items.specs.declared.declared.Version.{Version as AnyVersion};
+ghost use Rattle.code_parts.specs.Items.{table_at, index_at, list_at, constant_at, filter_at, procedure_at, map_at};
+ghost use Rattle.code_parts.specs.Instructions.{instr_at, instr_text};
+ghost use Rattle.code_parts.specs.Texts.{table_text, index_text, list_text, constant_text, filter_text, procedure_text, map_text};
+ghost use Rattle.code_parts.specs.Laws.{Spells, Any, TableFits, IndexFits, ListFits, IsLegalConstant, FilterFits, ProcedureFits, MapFits, IsLegalInstr};
+
+use xvalue::laws::functions_have_their_numbers;
+
+/// Tables, indexes and lists of indexes that their types can hold are read from their texts, and what is read of one stays
+/// where bytes are appended.
+pub fn declarations_are_spelled()
+    ensures tables { Spells table_at table_text TableFits Any }
+    ensures indexes { Spells index_at index_text IndexFits Any }
+    ensures lists { Spells list_at list_text ListFits Any }
+{}
+
+/// Legal constants, and filters that their types can hold, likewise; a constant that is read is legal.
+pub fn constants_and_filters_are_spelled()
+    ensures constants { Spells constant_at constant_text IsLegalConstant IsLegalConstant }
+    ensures filters { Spells filter_at filter_text FilterFits Any }
+{}
+
+/// Procedures and maps with states of a version of so many slots likewise.
+pub fn procedures_and_maps_are_spelled()
+    ensures procedures { (version : AnyVersion) (slots : ℕ) → Spells (procedure_at version slots) procedure_text (ProcedureFits version slots) Any }
+    ensures maps { (version : AnyVersion) (slots : ℕ) → Spells (map_at version slots) map_text (MapFits version slots) Any }
+{}
+
+/// Legal instructions of a version likewise; an instruction that is read is legal.
+pub fn instructions_are_spelled()
+    ensures { (version : AnyVersion) → Spells (instr_at version) instr_text (IsLegalInstr version) (IsLegalInstr version) }
+{
+    functions_have_their_numbers();
+}

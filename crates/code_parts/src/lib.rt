@@ -1,0 +1,27 @@
+//! The parts of a code file: readers and writers of bytes and numbers, of many of one item, and of each item.
+#![tactic(auto)]
+
+mod constants;
+mod fields;
+mod filters;
+mod flaw;
+mod instrs;
+mod kinds;
+pub mod laws;
+mod operands;
+mod procedures;
+mod several;
+mod shapes;
+mod states;
+
+pub use constants::Constants;
+pub use fields::{byte_of, eight_of, four_of, text_of, two_of};
+pub use filters::{Filters, Needs};
+pub use flaw::{Flaw, Unread};
+pub use instrs::Instrs;
+pub use kinds::{Kinds, Slots, number_of_kind, number_of_slot};
+pub use operands::{Parts, parts_of_instr};
+pub use procedures::{Maps, Procedures};
+pub use several::{Reads, read_counted, read_several};
+pub use shapes::{Fields, Indexes, Lists, Tables};
+pub use states::{Areas, States};
