@@ -4,18 +4,7 @@ ghost use Rattle.std.specs.Prelude.{◌≡◌};
 ghost use Rattle.code_items.specs.Instrs.{is_instr, is_of_values, is_of_flow, is_of_areas, is_of_records, is_two, is_four, is_area, may_set};
 
 use crate::declared::Version;
-use xvalue::{Fun, Kind};
-
-/// A setting that SET turns on or off.
-#[derive(Clone, Copy, PartialEq, Eq, Debug)]
-pub enum Setting {
-    /// Texts are equal as a whole alone.
-    Exact,
-    /// Marked records are hidden.
-    Deleted,
-    /// Dates are shown with four digits of the year. In codes of version two alone.
-    Century,
-}
+use xvalue::{Fun, Kind, Setting};
 
 /// What ASK asks of the selected work area.
 #[derive(Clone, Copy, PartialEq, Eq, Debug)]

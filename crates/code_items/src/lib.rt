@@ -22,9 +22,10 @@ pub use code::{Code, Map, Proc};
 pub use declared::{Declared, Filter, Need, Version};
 pub use desk::{AreaState, Desk, OpenArea};
 pub use instr::{
-    AreaInstr, FlowInstr, Instr, MoveInstr, Question, RecordInstr, ScreenInstr, Setting, ValueInstr,
+    AreaInstr, FlowInstr, Instr, MoveInstr, Question, RecordInstr, ScreenInstr, ValueInstr,
 };
 pub use kind_slots::KindSlots;
 pub use kind_stack::KindStack;
 pub use shape::{IndexList, IndexShape, Items, KeyPart, KeyParts, Name, Shape, TableShape};
 pub use state::State;
+pub use xvalue::Setting;

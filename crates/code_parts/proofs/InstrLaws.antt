@@ -6,8 +6,8 @@ use Rattle.std.proofs.lemmas.Bool.{eqb-true, ltb-true}
 use Rattle.xvalue.specs.declared.kind.Kind.{Kind}
 use Rattle.xvalue.specs.Signature.{number_of, numbered, NumbersAgree}
 use Rattle.code_items.specs.declared.declared.Version.{Version}
-use Rattle.code_items.specs.declared.instr.Setting.{Setting}
-use Rattle.code_items.specs.declared.instr.Setting.TheVariants.{Exact, Deleted, Century}
+use Rattle.xvalue.specs.declared.settings.Setting.{Setting}
+use Rattle.xvalue.specs.declared.settings.Setting.TheVariants.{Exact, Deleted, Century}
 use Rattle.code_items.specs.declared.instr.Question.{Question}
 use Rattle.code_items.specs.declared.instr.Question.TheVariants.{Recno, Reccount, Eof, Bof, Found, Deleted as IsDeleted}
 use Rattle.code_items.specs.declared.instr.ValueInstr.{ValueInstr}

@@ -1,1 +1,2 @@
 pub mod IndexPairs
+pub mod Plain

@@ -8,11 +8,10 @@ ghost use Rattle.file_commands.specs.Reports.{Listed, Judged};
 
 use crate::reading::read_code;
 use crate::refusal::Refusal;
-use crate::running::accept;
+use code_file::list;
+use code_verify::{Refused, VerifyError, verify};
 use file_access::Files;
 use std::alloc::Global;
-use xcode::list;
-use xverify::Refused;
 
 /// Whether the code in a file is accepted: none, or the least rule that fails at the least place where one does.
 pub fn verify_file<'a, F: Files>(
@@ -25,10 +24,10 @@ pub fn verify_file<'a, F: Files>(
     ensures kept { SameFiles (F.holds files.old) (F.holds files.new) }
 {
     let code = read_code(alloc, files, name)?;
-    match accept(alloc, code) {
-        Ok(Ok(_)) => Ok(None),
-        Ok(Err(refused)) => Ok(Some(refused)),
-        Err(_) => Err(Refusal::Memory),
+    match verify(alloc, code) {
+        Ok(_) => Ok(None),
+        Err(VerifyError::Refused(refused)) => Ok(Some(refused)),
+        Err(VerifyError::NoMemory) => Err(Refusal::Memory),
     }
 }
 

@@ -1,10 +1,10 @@
 // Why a command isn't carried out.
 #![tactic(auto)]
 
+use code_file::CodeFault;
 use dbf_file::DbfFault;
 use ndx_tree::TreeFault;
 use thiserror::Error;
-use xcode::CodeFault;
 use xverify::Refused;
 
 /// What is wrong with a file.
@@ -28,6 +28,10 @@ pub enum Fault {
     /// Its code isn't accepted.
     #[error("{0}")]
     OfRule(Refused),
+    /// It is a code's file, but of a code that the machines can't run yet: one with tables, lists, filters or calls, or with an
+    /// instruction that they don't know.
+    #[error("NotYet")]
+    NotYet,
 }
 
 /// Why a command isn't carried out: a file's fault, a failure of the device, or want of memory. A file is named as the

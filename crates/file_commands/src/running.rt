@@ -8,7 +8,7 @@ ghost use Rattle.file_access.specs.Holding.{SameFiles};
 ghost use Rattle.file_commands.specs.Refusals.{RefusalIs, RunFault};
 ghost use Rattle.file_commands.specs.Reports.{CheckedRun, AcceptedRun, RunIs, FileRun};
 
-use crate::reading::read_code;
+use crate::reading::read_plain;
 use crate::refusal::{Fault, Refusal};
 use code_model::Code;
 use file_access::Files;
@@ -60,7 +60,7 @@ fn run_verified(
 }
 
 /// The accepted code of a file, or the rule that it breaks.
-pub fn accept(alloc: Global, code: Code) -> Result<Result<Verified, Refused>, AllocError>
+fn accept(alloc: Global, code: Code) -> Result<Result<Verified, Refused>, AllocError>
     requires { IsCode code }
     ensures { IfOk result (λ answer. MatchResult answer (λ verified. verified.code ≡ code) (λ refused. FirstRefusal code refused.rule refused.at)) }
 {
@@ -83,7 +83,7 @@ fn run_of<'a, F: Files>(
     ensures refused { IfErr result (RefusalIs (RunFault checked (F.holds files.old name.now)) (F.failed files.old) (F.failed files.new) name.now) }
     ensures kept { SameFiles (F.holds files.old) (F.holds files.new) }
 {
-    let code = read_code(alloc, files, name)?;
+    let code = read_plain(alloc, files, name)?;
     if checked {
         return match run_any(alloc, &code, budget, today) {
             Ok(run) => Ok(run),

@@ -3,12 +3,12 @@
 
 use super::assembler::{HandCode, HandMap, Parts, assembled};
 use super::stored::{run, verdict};
+use code_rules::Rule;
+use code_verify::Refused;
 use std::alloc::{AllocError, Global};
 use std::test::Fail;
 use tagged_machine::{End, FaultKind, Outcome};
-use xcode::Rule;
 use xvalue::Day;
-use xverify::Refused;
 
 const LOGICAL: u8 = 4;
 

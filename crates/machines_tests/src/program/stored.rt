@@ -1,11 +1,11 @@
 // Files in memory, and what runs of one say.
 #![tactic(auto)]
 
+use code_verify::Refused;
 use file_commands::{MemoryEntry, MemoryFiles, Refusal, Report, run_files, verify_file};
 use std::alloc::Global;
 use tagged_machine::Outcome;
 use xvalue::Day;
-use xverify::Refused;
 
 /// The name of a file that stands alone.
 pub const NAME: &str = "hand.xbc";

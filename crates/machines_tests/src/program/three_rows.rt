@@ -3,13 +3,14 @@
 
 use super::assembler::{HandCode, HandMap, Parts, assembled};
 use super::stored::{NAME, comes_to, entry, is_refused, run, run_alike, stored, verdict};
+use code_file::CodeFault;
+use code_rules::Rule;
+use code_verify::Refused;
 use file_commands::{Fault, Files, Refusal, list_code, run_files};
 use std::alloc::{AllocError, Global};
 use std::test::Fail;
 use tagged_machine::{End, FaultKind, Outcome};
-use xcode::{CodeFault, Rule};
 use xvalue::Day;
-use xverify::Refused;
 
 /// A kind's number in the file.
 const TEXT: u8 = 2;
@@ -19,6 +20,12 @@ pub const LOGICAL: u8 = 4;
 /// The rule that the load of the wrong kind breaks.
 const BROKEN: Refused = Refused {
     rule: Rule::Kind,
+    at: 7,
+};
+
+/// The same as the verifier of plain codes tells it.
+const PLAIN_BROKEN: xverify::Refused = xverify::Refused {
+    rule: xcode::Rule::Kind,
     at: 7,
 };
 
@@ -116,7 +123,7 @@ fn refuses_the_wrong_kind(rt: HostRuntime) -> Result<(), Fail> {
 #[test]
 fn runs_the_wrong_kind_only_checked(rt: HostRuntime) -> Result<(), Fail> {
     let wrong = three_rows(rt.alloc(), TEXT)?;
-    let fault = Fault::OfRule(BROKEN);
+    let fault = Fault::OfRule(PLAIN_BROKEN);
     let report = run(rt.alloc(), &wrong, false, 100, Day::blank());
     assert!(rt; is_refused(&report, Refusal::Refused { name: NAME, fault }));
     let end = End::Fault(FaultKind::WrongKind, 7);
@@ -176,5 +183,56 @@ fn lists_a_jump(rt: HostRuntime) -> Result<(), Fail> {
     let text = String::from_utf8(lines).ok().ok_or("no text")?;
     assert!(rt; text.as_str().contains("    8 JUMPF 0 0 14\n"));
     assert!(rt; text.as_str().starts_with("    0 CONST 0 0 0\n"));
+    Ok(())
+}
+
+/// The verdict on the three rows as a file of this version, with byte 255 for the first work area of these maps.
+fn verdict_with(
+    alloc: Global,
+    version: u8,
+    areas: &[usize],
+) -> Result<Result<Option<Refused>, Refusal<'static>>, AllocError> {
+    let mut bytes = three_rows(alloc, LOGICAL)?;
+    for area in areas {
+        if let Some(byte) = bytes.get_mut(*area) {
+            *byte = 255;
+        }
+    }
+    if let Some(byte) = bytes.get_mut(4) {
+        *byte = version;
+    }
+    Ok(verdict(alloc, &bytes))
+}
+
+/// The places of the first work area's byte in both maps.
+const IN_MAPS: [usize; 2] = [67, 83];
+
+#[test]
+fn verifies_the_second_version(rt: HostRuntime) -> Result<(), Fail> {
+    let alloc = rt.alloc();
+    assert!(rt; verdict_with(alloc, 2, &[])? == Ok(None));
+    let refused = Refused {
+        rule: Rule::OtherTable,
+        at: 8,
+    };
+    assert!(rt; verdict_with(alloc, 2, &IN_MAPS[..1])? == Ok(Some(refused)));
+    assert!(rt; verdict_with(alloc, 2, &IN_MAPS)? == Ok(None));
+    let fault = Fault::OfCode(CodeFault::Shape);
+    assert!(rt; verdict_with(alloc, 1, &IN_MAPS)? == Err(Refusal::Refused { name: NAME, fault }));
+    Ok(())
+}
+
+#[test]
+fn runs_plain_codes_alone(rt: HostRuntime) -> Result<(), Fail> {
+    let mut bytes = three_rows(rt.alloc(), LOGICAL)?;
+    if let Some(byte) = bytes.get_mut(4) {
+        *byte = 2;
+    }
+    let refusal = Refusal::Refused {
+        name: NAME,
+        fault: Fault::NotYet,
+    };
+    assert!(rt; is_refused(&run(rt.alloc(), &bytes, true, 30, Day::blank()), refusal));
+    assert!(rt; is_refused(&run(rt.alloc(), &bytes, false, 30, Day::blank()), refusal));
     Ok(())
 }

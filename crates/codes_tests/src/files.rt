@@ -1,0 +1,129 @@
+// Code files of every item: written, read, cut and changed.
+
+use crate::hand::{Known, Plan, code_of};
+use code_file::{CodeFault, decode, encode};
+use code_items::Version;
+use std::alloc::{AllocError, Global};
+use std::test::Fail;
+
+/// A code with tables, indexes, lists, constants, a filter, two procedures and maps.
+fn whole(version: Version) -> Plan {
+    Plan {
+        version,
+        maps: &[(2, Known::Opened), (4, Known::TextInSlot)],
+        main: "OPEN 0 1; JUMP 2; CLOSEALL; END; END",
+        filter: "ROWFIELD 0; LOAD T 0; FUN 9",
+    }
+}
+
+/// The file of a plan's code; empty where the code has none.
+fn file_of(alloc: Global, plan: Plan) -> Result<Vec<u8>, AllocError> {
+    let code = code_of(alloc, plan)?;
+    if !code.is_legal() {
+        return Ok(Vec::new(alloc));
+    }
+    encode(alloc, &code)
+}
+
+fn fault_of(alloc: Global, bytes: &[u8]) -> Option<CodeFault> {
+    decode(alloc, bytes).err()
+}
+
+/// The fault of a file cut to so many bytes.
+fn fault_of_cut(length: usize) -> CodeFault {
+    if length < 4 {
+        return CodeFault::Magic;
+    }
+    if length < 6 {
+        return CodeFault::Version;
+    }
+    CodeFault::Short
+}
+
+/// The least length, up to that of the file, at which a cut isn't told as such.
+fn first_wrong_cut(alloc: Global, file: &[u8]) -> Option<usize> {
+    for length in 0..file.len() {
+        if fault_of(alloc, &file[..length]) != Some(fault_of_cut(length)) {
+            return Some(length);
+        }
+    }
+    None
+}
+
+#[test]
+fn files_read_back(rt: HostRuntime) -> Result<(), Fail> {
+    let alloc = rt.alloc();
+    for version in [Version::One, Version::Two] {
+        let file = file_of(alloc, whole(version))?;
+        assert!(rt; 26 < file.len());
+        match decode(alloc, file.as_slice()) {
+            Ok(code) => {
+                assert!(rt; code.is_legal());
+                let again = encode(alloc, &code)?;
+                assert!(rt; again.as_slice() == file.as_slice());
+            }
+            Err(_) => assert!(rt; false),
+        }
+    }
+    Ok(())
+}
+
+#[test]
+fn each_cut_is_short(rt: HostRuntime) -> Result<(), Fail> {
+    let alloc = rt.alloc();
+    let mut file = file_of(alloc, whole(Version::Two))?;
+    assert!(rt; first_wrong_cut(alloc, file.as_slice()).is_none());
+    file.push(0)?;
+    assert!(rt; fault_of(alloc, file.as_slice()) == Some(CodeFault::Extra));
+    Ok(())
+}
+
+/// The fault of a file with another byte at a place.
+fn fault_with(
+    alloc: Global,
+    version: Version,
+    place: usize,
+    byte: u8,
+) -> Result<Option<CodeFault>, AllocError> {
+    let mut file = file_of(alloc, whole(version))?;
+    if let Some(there) = file.get_mut(place) {
+        *there = byte;
+    }
+    Ok(fault_of(alloc, file.as_slice()))
+}
+
+/// The first place at which another byte isn't told as it should be; none if each is.
+fn first_untold(
+    alloc: Global,
+    rows: &[(usize, u8, Option<CodeFault>)],
+) -> Result<Option<usize>, AllocError> {
+    for (place, byte, wanted) in rows {
+        if fault_with(alloc, Version::Two, *place, *byte)? != *wanted {
+            return Ok(Some(*place));
+        }
+    }
+    Ok(None)
+}
+
+#[test]
+fn changed_bytes_are_told(rt: HostRuntime) -> Result<(), Fail> {
+    let rows = [
+        // The header: version, stack bound, slots, tables, procedures.
+        (0, b'Y', Some(CodeFault::Magic)),
+        (4, 3, Some(CodeFault::Version)),
+        (6, 65, Some(CodeFault::Limit)),
+        (9, 2, Some(CodeFault::Limit)),
+        (10, 33, Some(CodeFault::Limit)),
+        (20, 0, Some(CodeFault::Limit)),
+        // The first table's name, and its field's name, letter, width and decimals.
+        (27, b't', Some(CodeFault::Shape)),
+        (31, b'k', Some(CodeFault::Shape)),
+        (32, b'X', Some(CodeFault::Shape)),
+        (33, 0, Some(CodeFault::Shape)),
+        (34, 1, Some(CodeFault::Shape)),
+        // The second table's name is the first's.
+        (36, b'T', Some(CodeFault::Shape)),
+    ];
+    assert!(rt; first_untold(rt.alloc(), &rows)?.is_none());
+    Ok(())
+}
