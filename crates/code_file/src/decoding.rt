@@ -85,7 +85,7 @@ fn body_of<'a>(
 fn whole_of(alloc: Global, bytes: &[u8]) -> Result<(Code, &[u8]), CodeFault>
     ensures { Gives (λ x. (x.0, x.1.now)) result (whole_at bytes.now) }
 {
-    let (header, rest) = header_of(alloc, bytes)?;
+    let (header, rest) = header_of(bytes)?;
     let (declared, rest) = declared_of(alloc, &header, rest)?;
     let (code, rest) = body_of(alloc, &header.counts, declared, rest)?;
     Ok((code, rest))
