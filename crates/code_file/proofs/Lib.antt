@@ -1,3 +1,4 @@
 pub mod Loops
 pub mod PartLaws
 pub mod WholeLaws
+pub mod CodeLaws
