@@ -3,7 +3,6 @@ use Rattle.std.proofs.Common.{inl, inr, ◌≡◌, ℕ, zero, suc, ◌+◌, Bool
 use Rattle.std.specs.Prelude.{◌&&◌, ◌==◌, nat_le}
 use Rattle.std.specs.List.{flat_map, AllByRecursion, list_all}
 use Rattle.std.proofs.lemmas.Bool.{eqb-true, and_parts, and_from}
-use Rattle.std.proofs.lemmas.List.{append-nil}
 use Rattle.xvalue.specs.declared.value.Value.{Value}
 use Rattle.shape.specs.declared.tables.TableShape.{TableShape}
 use Rattle.shape.specs.declared.indexes.IndexShape.{IndexShape}
@@ -36,7 +35,7 @@ use Rattle.code_file.specs.Decoding.{Part, bind, checked, joint, shaped, items_a
 use Rattle.code_file.specs.CodeFile.{header_text, header_of, counts_of, declared_text, body_text, code_text, CodeText}
 use Rattle.code_file.specs.Laws.{Lasts, IsSpelled, go_on}
 use Rattle.code_file.proofs.PartLaws.{fine, bad, fine_is, bad_is, not_both, pair_is, bind_fine, bind_bad, checked_fine, still, joint_spelled, shaped_spelled, checked_spelled, items_spelled, AreItems}
-use Rattle.code_file.proofs.WholeLaws.{NumberLaws, HeaderFits, WithinLimits, header_spelled}
+use Rattle.code_file.proofs.WholeLaws.{NumberLaws, HeaderFits, CountsRead, header_spelled}
 
 -- the lower crate's laws of items
 pub record ItemLaws : Type 0 where
@@ -122,7 +121,7 @@ pub record WholeFits (code : Code) : Type 0 where
   pub body : BodyFits (counts_of code) code.declared code
 
 pub record WholeRead (code : Code) : Type 0 where
-  pub header : WithinLimits (counts_of code)
+  pub header : CountsRead (counts_of code)
   pub declared : DeclaredRead (header_of code) code.declared
   pub body : BodyRead (counts_of code) code.declared code
 
@@ -148,7 +147,7 @@ header_is h code d b =
     d.1.0.0 d.1.1.0.0 d.1.1.1.0.0 d.1.1.1.1.0.0 d.1.1.1.1.1.0
     b.1.0.0 b.1.1.0.0 b.1.1.1.0
 
-whole_was : (h : Header) (d : Declared) (code : Code) → WithinLimits h.counts → DeclaredRead h d → BodyRead h.counts d code → (header_text h ++ (declared_text d ++ body_text code) ≡ code_text code) × WholeRead code
+whole_was : (h : Header) (d : Declared) (code : Code) → CountsRead h.counts → DeclaredRead h d → BodyRead h.counts d code → (header_text h ++ (declared_text d ++ body_text code) ≡ code_text code) × WholeRead code
 unfolding code_text
 whole_was h d code within dr br =
     let same_d : d ≡ code.declared = ap (λ (c : Code). c.declared) br.0 in
@@ -156,7 +155,7 @@ whole_was h d code within dr br =
     let br' : BodyRead h.counts code.declared code = subst (λ (x : Declared). BodyRead h.counts x code) same_d br in
     let same_h : h ≡ header_of code = sym (header_is h code dr' br') in
     (text h d code same_h same_d, record {
-      header = subst (λ (x : Header). WithinLimits x.counts) same_h within;
+      header = subst (λ (x : Header). CountsRead x.counts) same_h within;
       declared = subst (λ (x : Header). DeclaredRead x code.declared) same_h dr';
       body = subst (λ (x : Header). BodyRead x.counts code.declared code) same_h br';
     })
@@ -164,7 +163,7 @@ whole_was h d code within dr br =
   text : (h : Header) (d : Declared) (code : Code) → h ≡ header_of code → d ≡ code.declared → header_text h ++ (declared_text d ++ body_text code) ≡ code_text code
   text h d code e f = ap (λ (x : Header). header_text x ++ (declared_text d ++ body_text code)) e ∙ ap (λ (x : Declared). header_text (header_of code) ++ (declared_text x ++ body_text code)) f
 
-whole_spelled : ItemLaws → IsSpelled whole_at code_text WholeFits WholeRead
+pub whole_spelled : ItemLaws → IsSpelled whole_at code_text WholeFits WholeRead
 unfolding whole_at code_text
 whole_spelled laws = shaped_spelled (joint_spelled (header_spelled laws.numbers) (λ h. joint_spelled (declared_spelled laws h) (body_spelled laws h.counts))) (λ p. p.1.1) code_text WholeFits WholeRead
     (λ x g. whole_was x.0 x.1.0 x.1.1 g.0 g.1.0 g.1.1)

@@ -2,3 +2,4 @@ pub mod Loops
 pub mod PartLaws
 pub mod WholeLaws
 pub mod CodeLaws
+pub mod FileLaws

@@ -69,19 +69,23 @@ number_spelled laws = there_spelled (number_at w16) laws.two Short (λ h. h)
 abbrev pub CountsFit : Counts → Type 0
 CountsFit c = Small c.stack_bound × (Small c.slots × (Small c.tables × (Small c.indexes × (Small c.lists × (Small c.constants × (Small c.filters × (Small c.procedures × (Small c.maps × Small c.instructions))))))))
 
-counts_spelled : NumberLaws → IsSpelled counts_at counts_text CountsFit Any
+counts_spelled : NumberLaws → IsSpelled counts_at counts_text CountsFit (λ c. Small c.instructions)
 unfolding counts_at
 counts_spelled laws =
     let n = number_spelled laws in
     shaped_spelled (joint_spelled n (λ _. joint_spelled n (λ _. joint_spelled n (λ _. joint_spelled n (λ _. joint_spelled n (λ _. joint_spelled n (λ _. joint_spelled n (λ _. joint_spelled n (λ _. joint_spelled n (λ _. n))))))))))
-    counts_from counts_text CountsFit Any
-    (λ x h. (refl, tt))
+    counts_from counts_text CountsFit (λ c. Small c.instructions)
+    (λ x h. (refl, h.1.1.1.1.1.1.1.1.1))
     (λ c h. ((c.stack_bound, (c.slots, (c.tables, (c.indexes, (c.lists, (c.constants, (c.filters, (c.procedures, (c.maps, c.instructions))))))))), h, refl, refl))
 
 abbrev pub WithinLimits : Counts → Type 0
 WithinLimits c = within_limits c ≡ true
 
-limited_spelled : NumberLaws → IsSpelled limited_at counts_text (λ c. CountsFit c × WithinLimits c) (λ c. Unit {0} × WithinLimits c)
+-- what is known of counts that were read
+abbrev pub CountsRead : Counts → Type 0
+CountsRead c = Small c.instructions × WithinLimits c
+
+limited_spelled : NumberLaws → IsSpelled limited_at counts_text (λ c. CountsFit c × WithinLimits c) CountsRead
 unfolding limited_at
 limited_spelled laws = checked_spelled (counts_spelled laws) Limit within_limits
 
@@ -116,8 +120,8 @@ pub record HeaderFits (h : Header) : Type 0 where
   pub fit : CountsFit h.counts
   pub within : WithinLimits h.counts
 
-pub header_spelled : NumberLaws → IsSpelled header_at header_text HeaderFits (λ h. WithinLimits h.counts)
+pub header_spelled : NumberLaws → IsSpelled header_at header_text HeaderFits (λ h. CountsRead h.counts)
 unfolding header_at
-header_spelled laws = shaped_spelled (joint_spelled (magic_spelled laws) (λ _. joint_spelled (version_spelled laws) (λ _. limited_spelled laws))) (λ p. record { version = p.1.0; counts = p.1.1 }) header_text HeaderFits (λ h. WithinLimits h.counts)
-    (λ x h. (ap (λ (n : ℕ). to_le_bytes w32 n ++ (two (version_number x.1.0) ++ counts_text x.1.1)) (eqb-true x.0 0x46434258 h.0.1), h.1.1.1))
+header_spelled laws = shaped_spelled (joint_spelled (magic_spelled laws) (λ _. joint_spelled (version_spelled laws) (λ _. limited_spelled laws))) (λ p. record { version = p.1.0; counts = p.1.1 }) header_text HeaderFits (λ h. CountsRead h.counts)
+    (λ x h. (ap (λ (n : ℕ). to_le_bytes w32 n ++ (two (version_number x.1.0) ++ counts_text x.1.1)) (eqb-true x.0 0x46434258 h.0.1), h.1.1))
     (λ y h. ((0x46434258, (y.version, y.counts)), ((omega arith, refl), (tt, (h.fit, h.within))), refl, refl))
