@@ -1,2 +1,5 @@
 pub mod Loops
 pub mod PartLaws
+pub mod WholeLaws
+pub mod CodeLaws
+pub mod FileLaws

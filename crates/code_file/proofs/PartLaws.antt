@@ -115,11 +115,11 @@ shaped_spelled {A} {B} {r} {t} {P} {G} law make v Q H back forth = made_spelled 
     (λ y h. let x = forth y h in (x.0, x.1, ap (λ (z : B). fine z) x.2, x.3))
 
 -- a part that is tested
-checked_fine : {A : Type 0} (fault : CodeFault) (b : Bool) (x y : A) → checked fault b x ≡ Ok y → (b ≡ true) × (x ≡ y)
+pub checked_fine : {A : Type 0} (fault : CodeFault) (b : Bool) (x y : A) → checked fault b x ≡ Ok y → (b ≡ true) × (x ≡ y)
 checked_fine fault true x y e = (refl, fine_is x y e)
 checked_fine fault false x y e = absurd cc
 
-still : {B : Type 0} (b : Bool) (fault f : CodeFault) (x y : B) → checked fault b x ≡ Err f → checked fault b y ≡ Err f
+pub still : {B : Type 0} (b : Bool) (fault f : CodeFault) (x y : B) → checked fault b x ≡ Err f → checked fault b y ≡ Err f
 still true fault f x y e = absurd (not_both x f e)
 still {B} false fault f x y e = ap (λ (g : CodeFault). bad {A = B} g) (bad_is {A = B} fault f e)
 

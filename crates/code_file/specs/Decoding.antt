@@ -21,7 +21,7 @@ use Rattle.code_items.specs.States.{is_blank}
 use Rattle.code_items.specs.Legal.{is_procedure, is_map, places_of, blocks_of, blocks_fill, maps_rise}
 use Rattle.code_parts.specs.declared.flaw.Flaw.{Flaw}
 use Rattle.code_parts.specs.declared.flaw.Flaw.TheVariants.{Limit as OfLimit, Operation as OfOperation, Shape as OfShape}
-use Rattle.code_parts.specs.Reading.{Front, Reader, Judged, number_at, sure, pair_at, made_at}
+use Rattle.code_parts.specs.Reading.{Front, Reader, Judged, number_at}
 use Rattle.code_parts.specs.Items.{table_at, index_at, list_at, constant_at, filter_at, procedure_at, map_at}
 use Rattle.code_parts.specs.Instructions.{instr_at}
 use Rattle.code_file.specs.declared.fault.CodeFault.{CodeFault}
@@ -93,11 +93,12 @@ within_limits c =
     && nat_le c.constants 4096 && nat_le c.filters 64 && nat_le 1 c.procedures && nat_le c.procedures 256
     && nat_le c.maps 4096 && nat_le 1 c.instructions
 
-abbrev pub number : Reader (Judged ℕ)
-number = sure (number_at w16)
+-- a number of two bytes
+unfoldable pub number_at_front : Part ℕ
+number_at_front bytes = there_or Short (number_at w16 bytes)
 
-abbrev pub counts_from : ℕ × (ℕ × (ℕ × (ℕ × (ℕ × (ℕ × (ℕ × (ℕ × (ℕ × ℕ)))))))) → Judged Counts
-counts_from p = Ok (record {
+abbrev pub counts_from : ℕ × (ℕ × (ℕ × (ℕ × (ℕ × (ℕ × (ℕ × (ℕ × (ℕ × ℕ)))))))) → Counts
+counts_from p = record {
   stack_bound = p.0;
   slots = p.1.0;
   tables = p.1.1.0;
@@ -108,10 +109,14 @@ counts_from p = Ok (record {
   procedures = p.1.1.1.1.1.1.1.0;
   maps = p.1.1.1.1.1.1.1.1.0;
   instructions = p.1.1.1.1.1.1.1.1.1;
-})
+}
 
-unfoldable pub counts_at : Reader (Judged Counts)
-counts_at = made_at (pair_at number (pair_at number (pair_at number (pair_at number (pair_at number (pair_at number (pair_at number (pair_at number (pair_at number number))))))))) counts_from
+-- one number more in front
+abbrev pub number_and : {A : Type 0} → Part A → Part (ℕ × A)
+number_and part = joint number_at_front (λ _. part)
+
+unfoldable pub counts_at : Part Counts
+counts_at = shaped (number_and (number_and (number_and (number_and (number_and (number_and (number_and (number_and (number_and number_at_front))))))))) counts_from
 
 abbrev pub version_from : ℕ → Result Version CodeFault
 version_from n = if n == 1 then Ok One else (if n == 2 then Ok Two else Err OtherVersion)
@@ -124,7 +129,7 @@ unfoldable pub version_at : Part Version
 version_at bytes = bind (there_or OtherVersion (number_at w16 bytes)) (λ x. bind (version_from x.0) (λ version. Ok (version, x.1)))
 
 unfoldable pub limited_at : Part Counts
-limited_at bytes = bind (told (counts_at bytes)) (λ x. checked Limit (within_limits x.0) x)
+limited_at bytes = bind (counts_at bytes) (λ x. checked Limit (within_limits x.0) x)
 
 -- `XBCF`, the version, and ten counts
 unfoldable pub header_at : Part Header

@@ -1,6 +1,9 @@
 //! Reading a code file.
 
-ghost use Rattle.std.specs.Prelude.{◌≡◌, ◌≤◌, length};
+ghost use Rattle.std.specs.Prelude.{◌≡◌, ◌++◌, ℕ, List, Err, IfOk};
+ghost use Rattle.code_file.specs.declared.fault.CodeFault.{CodeFault as AnyFault};
+ghost use Rattle.code_file.specs.CodeFile.{CodeText};
+ghost use Rattle.code_file.specs.Laws.{Lasts};
 ghost use Rattle.code_file.specs.Decoding.{Gives, declared_at, body_at, is_laid as is_laid_code, whole_at, code_at};
 
 use crate::fault::CodeFault;
@@ -9,6 +12,10 @@ use crate::judges::{Anything, Declaring, LegalFilters, LegalLists, NextIndexes, 
 use crate::sections::items_of;
 use code_items::code::{do_blocks_fill, do_maps_rise, places_of_blocks};
 use code_items::{Code, Declared, Items, Shape};
+use code_parts::laws::{
+    constants_and_filters_are_spelled, declarations_are_spelled, instructions_are_spelled,
+    numbers_are_spelled, procedures_and_maps_are_spelled,
+};
 use code_parts::{Constants, Filters, Indexes, Instrs, Lists, Maps, Procedures, States, Tables};
 use std::alloc::Global;
 
@@ -85,7 +92,7 @@ fn body_of<'a>(
 fn whole_of(alloc: Global, bytes: &[u8]) -> Result<(Code, &[u8]), CodeFault>
     ensures { Gives (λ x. (x.0, x.1.now)) result (whole_at bytes.now) }
 {
-    let (header, rest) = header_of(alloc, bytes)?;
+    let (header, rest) = header_of(bytes)?;
     let (declared, rest) = declared_of(alloc, &header, rest)?;
     let (code, rest) = body_of(alloc, &header.counts, declared, rest)?;
     Ok((code, rest))
@@ -121,8 +128,27 @@ fn code_of(alloc: Global, bytes: &[u8]) -> Result<Code, CodeFault>
 /// The code whose file the bytes are. An error is the first fault from the front, and within one item the least; where
 /// memory is refused before that is found, it is `Memory`. Numbers that instructions name aren't judged.
 pub fn decode(alloc: Global, bytes: &[u8]) -> Result<Code, CodeFault>
+    // The bytes are the file of the code that is read.
+    ensures found { IfOk result (λ code. CodeText bytes.now code) }
     // Which fault it is.
     ensures exact { Gives (λ x. x) result (code_at bytes.now) }
 {
+    numbers_are_spelled();
+    declarations_are_spelled();
+    constants_and_filters_are_spelled();
+    procedures_and_maps_are_spelled();
+    instructions_are_spelled();
     code_of(alloc, bytes)
+}
+
+/// A fault that is told of bytes that are there stays where bytes are appended: all but `Magic`, `Version`, `Short` and
+/// `Memory`.
+pub fn faults_stay()
+    ensures { (bytes more : List ℕ) (f : AnyFault) → Lasts f → code_at bytes ≡ Err f → code_at (bytes ++ more) ≡ Err f }
+{
+    numbers_are_spelled();
+    declarations_are_spelled();
+    constants_and_filters_are_spelled();
+    procedures_and_maps_are_spelled();
+    instructions_are_spelled();
 }

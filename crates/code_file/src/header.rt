@@ -1,13 +1,11 @@
 //! The header of a code file.
 
 ghost use Rattle.std.specs.Prelude.{◌≡◌};
-ghost use Rattle.code_file.specs.Decoding.{Gives, within_limits, version_from as version_from_number, counts_at, magic_at, version_at, limited_at, header_at};
+ghost use Rattle.code_file.specs.Decoding.{Gives, within_limits, number_at_front, version_from as version_from_number, counts_at, magic_at, version_at, limited_at, header_at};
 
 use crate::fault::CodeFault;
-use crate::sections::item_of;
 use code_items::Version;
-use code_parts::{Flaw, Reads, Unread, four_of, two_of};
-use std::alloc::Global;
+use code_parts::{Unread, four_of, two_of};
 
 /// `XBCF`, as a number.
 const MAGIC: u32 = 0x4643_4258;
@@ -51,45 +49,44 @@ fn is_within_limits(c: &Counts) -> bool
         && 1 <= c.instructions
 }
 
-/// The counts of a header.
-#[derive(Clone, Copy)]
-struct AllCounts;
-
-impl Reads for AllCounts {
-    type Thing = Counts;
-
-    ghost at = { λ _. counts_at };
-
-    #[tactic(auto, unfolding(crate::specs::Decoding::counts_at))]
-    fn read<'a>(
-        &self,
-        _alloc: Global,
-        bytes: &'a [u8],
-    ) -> Result<(Result<Counts, Flaw>, &'a [u8]), Unread> {
-        let (stack_bound, rest) = two_of(bytes)?;
-        let (slots, rest) = two_of(rest)?;
-        let (tables, rest) = two_of(rest)?;
-        let (indexes, rest) = two_of(rest)?;
-        let (lists, rest) = two_of(rest)?;
-        let (constants, rest) = two_of(rest)?;
-        let (filters, rest) = two_of(rest)?;
-        let (procedures, rest) = two_of(rest)?;
-        let (maps, rest) = two_of(rest)?;
-        let (instructions, rest) = two_of(rest)?;
-        let counts = Counts {
-            stack_bound,
-            slots,
-            tables,
-            indexes,
-            lists,
-            constants,
-            filters,
-            procedures,
-            maps,
-            instructions,
-        };
-        Ok((Ok(counts), rest))
+#[tactic(auto, unfolding(crate::specs::Decoding::number_at_front))]
+fn number_of(bytes: &[u8]) -> Result<(u16, &[u8]), CodeFault>
+    ensures { Gives (λ x. (x.0, x.1.now)) result (number_at_front bytes.now) }
+{
+    match two_of(bytes) {
+        Err(Unread::Short) => Err(CodeFault::Short),
+        Err(Unread::Memory) => Err(CodeFault::Memory),
+        Ok((number, rest)) => Ok((number, rest)),
     }
+}
+
+#[tactic(auto, unfolding(crate::specs::Decoding::counts_at))]
+fn counts_of(bytes: &[u8]) -> Result<(Counts, &[u8]), CodeFault>
+    ensures { Gives (λ x. (x.0, x.1.now)) result (counts_at bytes.now) }
+{
+    let (stack_bound, rest) = number_of(bytes)?;
+    let (slots, rest) = number_of(rest)?;
+    let (tables, rest) = number_of(rest)?;
+    let (indexes, rest) = number_of(rest)?;
+    let (lists, rest) = number_of(rest)?;
+    let (constants, rest) = number_of(rest)?;
+    let (filters, rest) = number_of(rest)?;
+    let (procedures, rest) = number_of(rest)?;
+    let (maps, rest) = number_of(rest)?;
+    let (instructions, rest) = number_of(rest)?;
+    let counts = Counts {
+        stack_bound,
+        slots,
+        tables,
+        indexes,
+        lists,
+        constants,
+        filters,
+        procedures,
+        maps,
+        instructions,
+    };
+    Ok((counts, rest))
 }
 
 fn version_from(number: u16) -> Result<Version, CodeFault>
@@ -133,10 +130,10 @@ fn version_of(bytes: &[u8]) -> Result<(Version, &[u8]), CodeFault>
 }
 
 #[tactic(auto, unfolding(crate::specs::Decoding::limited_at))]
-fn limited_of(alloc: Global, bytes: &[u8]) -> Result<(Counts, &[u8]), CodeFault>
+fn limited_of(bytes: &[u8]) -> Result<(Counts, &[u8]), CodeFault>
     ensures { Gives (λ x. (x.0, x.1.now)) result (limited_at bytes.now) }
 {
-    let (counts, rest) = item_of(alloc, &AllCounts, bytes)?;
+    let (counts, rest) = counts_of(bytes)?;
     if !is_within_limits(&counts) {
         return Err(CodeFault::Limit);
     }
@@ -145,11 +142,11 @@ fn limited_of(alloc: Global, bytes: &[u8]) -> Result<(Counts, &[u8]), CodeFault>
 
 /// The header, and the bytes behind it.
 #[tactic(auto, unfolding(crate::specs::Decoding::header_at))]
-pub fn header_of(alloc: Global, bytes: &[u8]) -> Result<(Header, &[u8]), CodeFault>
+pub fn header_of(bytes: &[u8]) -> Result<(Header, &[u8]), CodeFault>
     ensures { Gives (λ x. (x.0, x.1.now)) result (header_at bytes.now) }
 {
     let (_, rest) = magic_of(bytes)?;
     let (version, rest) = version_of(rest)?;
-    let (counts, rest) = limited_of(alloc, rest)?;
+    let (counts, rest) = limited_of(rest)?;
     Ok((Header { version, counts }, rest))
 }

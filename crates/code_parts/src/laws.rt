@@ -1,6 +1,8 @@
 //! What follows from the definitions of readers and texts. The functions do nothing: their contracts are the laws.
 
-ghost use Rattle.std.specs.Prelude.{ℕ};
+ghost use Rattle.std.specs.Prelude.{ℕ, ◌<◌, ◌^◌};
+ghost use Rattle.std.specs.Int.{w16, w32, to_le_bytes};
+ghost use Rattle.code_parts.specs.Reading.{number_at, sure};
 ghost use Rattle.code_items.specs.declared.declared.Version.{Version as AnyVersion};
 ghost use Rattle.code_parts.specs.Items.{table_at, index_at, list_at, constant_at, filter_at, procedure_at, map_at};
 ghost use Rattle.code_parts.specs.Instructions.{instr_at, instr_text};
@@ -8,6 +10,12 @@ ghost use Rattle.code_parts.specs.Texts.{table_text, index_text, list_text, cons
 ghost use Rattle.code_parts.specs.Laws.{Spells, Any, TableFits, IndexFits, ListFits, IsLegalConstant, FilterFits, ProcedureFits, MapFits, IsLegalInstr};
 
 use xvalue::laws::functions_have_their_numbers;
+
+/// Numbers that fit are read from their two or four bytes, and what is read of one fits and stays where bytes are appended.
+pub fn numbers_are_spelled()
+    ensures two { Spells (sure (number_at w16)) (to_le_bytes w16) (λ n. n < 2 ^ 16) (λ n. n < 2 ^ 16) }
+    ensures four { Spells (sure (number_at w32)) (to_le_bytes w32) (λ n. n < 2 ^ 32) (λ n. n < 2 ^ 32) }
+{}
 
 /// Tables, indexes and lists of indexes that their types can hold are read from their texts, and what is read of one stays
 /// where bytes are appended.
