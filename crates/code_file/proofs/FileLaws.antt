@@ -140,9 +140,9 @@ code_found laws bytes code fit e =
     let text : bytes ≡ code_text code = is.0 ∙ ap (λ (l : List ℕ). code_text a.0.0 ++ l) empty ∙ append-nil (code_text a.0.0) ∙ ap code_text same in
     record { legal = subst (λ (c : Code). is_code c ≡ true) same (code_legal a.0.0 is.1 laid.0); spelled = text }
   where
-  none : (l : List ℕ) → eqb (length l) 0 ≡ true → l ≡ []
-  none [] e = refl
-  none (x ∷ xs) e = absurd (let n : suc (length xs) ≡ 0 = eqb-true (suc (length xs)) 0 e in omega arith)
+    none : (l : List ℕ) → eqb (length l) 0 ≡ true → l ≡ []
+    none [] e = refl
+    none (x ∷ xs) e = absurd (let n : suc (length xs) ≡ 0 = eqb-true (suc (length xs)) 0 e in omega arith)
 
 -- ---- bytes behind others
 
@@ -162,6 +162,6 @@ faults_stay laws bytes more f lasts e =
       ])
     ]
   where
-  longer : (rest : List ℕ) (code : Code) → checked Extra (length rest == 0) code ≡ Err f → checked Extra (length (rest ++ more) == 0) code ≡ Err f
-  longer [] code h = absurd (not_both code f h)
-  longer (x ∷ xs) code h = rw (eqb-suc-zero (length (xs ++ more))) (rw (eqb-suc-zero (length xs)) at h)
+    longer : (rest : List ℕ) (code : Code) → checked Extra (length rest == 0) code ≡ Err f → checked Extra (length (rest ++ more) == 0) code ≡ Err f
+    longer [] code h = absurd (not_both code f h)
+    longer (x ∷ xs) code h = rw (eqb-suc-zero (length (xs ++ more))) (rw (eqb-suc-zero (length xs)) at h)

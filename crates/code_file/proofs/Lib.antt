@@ -3,3 +3,4 @@ pub mod PartLaws
 pub mod WholeLaws
 pub mod CodeLaws
 pub mod FileLaws
+pub mod LegalLaws
