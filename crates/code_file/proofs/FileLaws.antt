@@ -33,19 +33,19 @@ use Rattle.code_file.proofs.CodeLaws.{ItemLaws, WholeFits, WholeRead, whole_spel
 
 -- ---- the same tests in other words
 
-tables_same : (earlier ts : List TableShape) → tables_go_on earlier ts ≡ go_on is_next_table earlier ts
+pub tables_same : (earlier ts : List TableShape) → tables_go_on earlier ts ≡ go_on is_next_table earlier ts
 tables_same earlier [] = refl
 tables_same earlier (t ∷ ts) = ap (λ (b : Bool). is_next_table earlier t && b) (tables_same (earlier ++ t ∷ []) ts)
 
-indexes_same : (tables : List TableShape) (earlier xs : List IndexShape) → indexes_go_on tables earlier xs ≡ go_on (is_next_index tables) earlier xs
+pub indexes_same : (tables : List TableShape) (earlier xs : List IndexShape) → indexes_go_on tables earlier xs ≡ go_on (is_next_index tables) earlier xs
 indexes_same tables earlier [] = refl
 indexes_same tables earlier (x ∷ xs) = ap (λ (b : Bool). is_next_index tables earlier x && b) (indexes_same tables (earlier ++ x ∷ []) xs)
 
-each_same : {A : Type 0} (p : A → Bool) (earlier xs : List A) → list_all p xs ≡ go_on (λ (e : List A) (x : A). p x) earlier xs
+pub each_same : {A : Type 0} (p : A → Bool) (earlier xs : List A) → list_all p xs ≡ go_on (λ (e : List A) (x : A). p x) earlier xs
 each_same p earlier [] = refl
 each_same p earlier (x ∷ xs) = ap (λ (b : Bool). p x && b) (each_same p (earlier ++ x ∷ []) xs)
 
-further_same : (d : Declared) (q : Proc) (qs ps : List Proc) → list_all (is_procedure d) ps ≡ go_on (procedure_follows d) (q ∷ qs) ps
+pub further_same : (d : Declared) (q : Proc) (qs ps : List Proc) → list_all (is_procedure d) ps ≡ go_on (procedure_follows d) (q ∷ qs) ps
 further_same d q qs [] = refl
 further_same d q qs (p ∷ ps) = ap (λ (b : Bool). is_procedure d p && b) (further_same d q (qs ++ p ∷ []) ps)
 

@@ -87,17 +87,17 @@ lists_fit indexes (l ∷ ls) h = (leb-true (length l.indexes.items) 7 (first_tru
 
 -- ---- blocks
 
-abbrev UpTo : ℕ → ℕ → Type 0
+abbrev pub UpTo : ℕ → ℕ → Type 0
 UpTo bound n = n ≤ bound
 
 -- blocks at the front of others, and what is left behind them
-record Front (bound left : ℕ) (xs ys : List ℕ) : Type 0 where
-  each : AllByRecursion (UpTo bound) xs
-  behind : ℕ
-  fills : blocks_fill behind ys ≡ true
-  sum : behind + total xs ≡ left
+pub record Front (bound left : ℕ) (xs ys : List ℕ) : Type 0 where
+  pub each : AllByRecursion (UpTo bound) xs
+  pub behind : ℕ
+  pub fills : blocks_fill behind ys ≡ true
+  pub sum : behind + total xs ≡ left
 
-front_blocks : (bound left : ℕ) (xs ys : List ℕ) → left ≤ bound → blocks_fill left (xs ++ ys) ≡ true → Front bound left xs ys
+pub front_blocks : (bound left : ℕ) (xs ys : List ℕ) → left ≤ bound → blocks_fill left (xs ++ ys) ≡ true → Front bound left xs ys
 front_blocks bound left [] ys within h = record { each = tt; behind = left; fills = h; sum = omega arith }
 front_blocks bound left (n ∷ xs) ys within h =
     let a = and_parts (nat_le 1 n && nat_le n left) (blocks_fill (left - n) (xs ++ ys)) h in

@@ -4,3 +4,4 @@ pub mod WholeLaws
 pub mod CodeLaws
 pub mod FileLaws
 pub mod LegalLaws
+pub mod AgainLaws
