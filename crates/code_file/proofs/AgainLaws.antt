@@ -2,8 +2,9 @@
 use Rattle.std.proofs.Common.{◌≡◌, ℕ, zero, suc, ◌+◌, ◌^◌, ◌<◌, ◌≤◌, Bool, true, false, leb, List, [], ◌∷◌, ◌++◌, length, map, Result, Ok, Err, refl, sym, ap, subst, ◌∙◌, arith}
 use Rattle.std.specs.Prelude.{◌&&◌, ◌==◌, nat_le}
 use Rattle.std.specs.List.{AllByRecursion, list_all}
-use Rattle.std.proofs.lemmas.Bool.{leb-true, le-leb, and_parts, and_from}
+use Rattle.std.proofs.lemmas.Bool.{eqb-true, leb-true, le-leb, and_parts, and_from}
 use Rattle.std.proofs.lemmas.List.{append-nil}
+use Rattle.std.proofs.Math.Dec.{eqb-suc-zero}
 use Rattle.shape.specs.Tables.{tables_go_on}
 use Rattle.shape.specs.Indexes.{indexes_go_on}
 use Rattle.shape.specs.Lists.{is_list}
@@ -18,12 +19,13 @@ use Rattle.code_items.specs.States.{is_blank}
 use Rattle.code_items.specs.Legal.{is_procedure, is_map, total, places_of, blocks_of, blocks_fill, maps_rise, begins_blank, procedures_are_legal, maps_are_legal, instructions_are_legal, is_code}
 use Rattle.code_file.specs.declared.fault.CodeFault.TheVariants.{Shape, Extra}
 use Rattle.code_file.specs.Decoding.{bind, checked, within_limits, procedure_follows, is_laid, whole_at, code_at}
-use Rattle.code_file.specs.CodeFile.{header_of, counts_of, code_text}
-use Rattle.code_file.specs.Laws.{go_on}
-use Rattle.code_file.proofs.PartLaws.{fine}
+use Rattle.code_file.specs.declared.fault.CodeFault.{CodeFault}
+use Rattle.code_file.specs.CodeFile.{header_of, counts_of, code_text, CodeText}
+use Rattle.code_file.specs.Laws.{Lasts, IsSpelled, go_on}
+use Rattle.code_file.proofs.PartLaws.{fine, fine_is, not_both, pair_is, bind_fine, checked_fine}
 use Rattle.code_file.proofs.WholeLaws.{WithinLimits, CountsFit}
 use Rattle.code_file.proofs.CodeLaws.{ItemLaws, WholeFits, whole_spelled}
-use Rattle.code_file.proofs.FileLaws.{tables_same, indexes_same, each_same, further_same}
+use Rattle.code_file.proofs.FileLaws.{faults_stay, tables_same, indexes_same, each_same, further_same}
 use Rattle.code_file.proofs.LegalLaws.{Front, front_blocks, UpTo, tables_fit, indexes_fit, lists_fit, filters_fit, procedures_fit, maps_fit}
 
 passes : {A : Type 0} (p : A → Bool) (xs : List A) → list_all p xs ≡ true → AllByRecursion (λ (x : A). p x ≡ true) xs
@@ -111,12 +113,31 @@ small n bound low h = let le = leb-true n bound h in omega (arith, le, low)
 
 counts_fit : (code : Code) → Keeps code → CountsFit (counts_of code)
 counts_fit code k =
-    let d = k.declared in
-    (small code.declared.stack_bound 64 (omega arith) d.stack_bound, (small code.declared.slots 256 (omega arith) d.slots,
-    (small (length code.declared.shape.tables) 32 (omega arith) d.few_tables, (small (length code.declared.shape.indexes) 64 (omega arith) d.few_indexes,
-    (small (length code.declared.lists) 64 (omega arith) d.few_lists, (small (length code.declared.constants) 4096 (omega arith) d.few_constants,
-    (small (length code.declared.filters) 64 (omega arith) d.few_filters, (small (length code.procedures) 256 (omega arith) k.few_procedures,
-    (small (length code.maps) 4096 (omega arith) k.few_maps, small (length code.instructions) 65535 (omega arith) k.few_instructions)))))))))
+    let d = k.declared in (
+      small code.declared.stack_bound 64 (omega arith) d.stack_bound,
+      (
+        small code.declared.slots 256 (omega arith) d.slots,
+        (
+          small (length code.declared.shape.tables) 32 (omega arith) d.few_tables,
+          (
+            small (length code.declared.shape.indexes) 64 (omega arith) d.few_indexes,
+            (
+              small (length code.declared.lists) 64 (omega arith) d.few_lists,
+              (
+                small (length code.declared.constants) 4096 (omega arith) d.few_constants,
+                (
+                  small (length code.declared.filters) 64 (omega arith) d.few_filters,
+                  (
+                    small (length code.procedures) 256 (omega arith) k.few_procedures,
+                    (small (length code.maps) 4096 (omega arith) k.few_maps, small (length code.instructions) 65535 (omega arith) k.few_instructions),
+                  ),
+                ),
+              ),
+            ),
+          ),
+        ),
+      ),
+    )
 
 whole_fits : (code : Code) → Keeps code → WholeFits code
 whole_fits code k =
@@ -130,25 +151,43 @@ whole_fits code k =
     let places = places_few 65535 (length code.instructions) front.behind (places_of code.procedures) front.sum left in
     record {
       header = record { fit = counts_fit code k; within = within code k };
-      declared = (refl, (
-        (refl, sym (tables_same [] d.shape.tables) ∙ e.tables, tables_fit [] d.shape.tables e.tables), (
-        (refl, sym (indexes_same d.shape.tables [] d.shape.indexes) ∙ e.indexes, indexes_fit d.shape.tables [] d.shape.indexes e.indexes), (
-        (refl, sym (each_same (is_list d.shape.indexes) [] d.lists) ∙ e.lists, lists_fit d.shape.indexes d.lists e.lists), (
-        (refl, always_go [] d.constants, passes is_constant d.constants e.constants),
-        (refl, sym (each_same (is_filter (length d.shape.tables) d.slots) [] d.filters) ∙ e.filters, filters_fit (length d.shape.tables) d.slots d.filters slots e.filters back.each))))));
-      body = (refl, (
-        (refl, procedures_follow d code.procedures k.procedures k.blank, procedures_fit d code.procedures few k.procedures front.each), (
-        (refl, sym (each_same (is_map d) [] code.maps) ∙ k.maps, maps_fit d 0 (places_of code.procedures) code.maps few places k.maps k.rising),
-        (refl, always_go [] code.instructions, passes (is_instr d.version) code.instructions k.instructions))));
+      declared = (
+        refl,
+        (
+          (refl, sym (tables_same [] d.shape.tables) ∙ e.tables, tables_fit [] d.shape.tables e.tables),
+          (
+            (refl, sym (indexes_same d.shape.tables [] d.shape.indexes) ∙ e.indexes, indexes_fit d.shape.tables [] d.shape.indexes e.indexes),
+            (
+              (refl, sym (each_same (is_list d.shape.indexes) [] d.lists) ∙ e.lists, lists_fit d.shape.indexes d.lists e.lists),
+              (
+                (refl, always_go [] d.constants, passes is_constant d.constants e.constants),
+                (refl, sym (each_same (is_filter (length d.shape.tables) d.slots) [] d.filters) ∙ e.filters, filters_fit (length d.shape.tables) d.slots d.filters slots e.filters back.each),
+              ),
+            ),
+          ),
+        ),
+      );
+      body = (
+        refl,
+        (
+          (refl, procedures_follow d code.procedures k.procedures k.blank, procedures_fit d code.procedures few k.procedures front.each),
+          (
+            (refl, sym (each_same (is_map d) [] code.maps) ∙ k.maps, maps_fit d 0 (places_of code.procedures) code.maps few places k.maps k.rising),
+            (refl, always_go [] code.instructions, passes (is_instr d.version) code.instructions k.instructions),
+          ),
+        ),
+      );
     }
   where
-  behind_few : (bound left behind total : ℕ) → behind + total ≡ left → left ≤ bound → behind ≤ bound
-  behind_few bound left behind total e h = omega arith
-  places_few : (bound left behind total : ℕ) → behind + total ≡ left → left ≤ bound → total ≤ bound
-  places_few bound left behind total e h = omega arith
-  always_go : {A : Type 0} (earlier xs : List A) → go_on (λ (e : List A) (x : A). true) earlier xs ≡ true
-  always_go earlier [] = refl
-  always_go earlier (x ∷ xs) = always_go (earlier ++ x ∷ []) xs
+    behind_few : (bound left behind total : ℕ) → behind + total ≡ left → left ≤ bound → behind ≤ bound
+    behind_few bound left behind total e h = omega arith
+
+    places_few : (bound left behind total : ℕ) → behind + total ≡ left → left ≤ bound → total ≤ bound
+    places_few bound left behind total e h = omega arith
+
+    always_go : {A : Type 0} (earlier xs : List A) → go_on (λ (e : List A) (x : A). true) earlier xs ≡ true
+    always_go earlier [] = refl
+    always_go earlier (x ∷ xs) = always_go (earlier ++ x ∷ []) xs
 
 pub code_again : ItemLaws → (code : Code) → is_code code ≡ true → code_at (code_text code) ≡ Ok code
 unfolding code_at
@@ -157,3 +196,58 @@ code_again laws code h =
     let read : whole_at (code_text code) ≡ Ok (code, []) = ap whole_at (sym (append-nil (code_text code))) ∙ (whole_spelled laws).again code [] (whole_fits code k) in
     let laid : is_laid code ≡ true = and_from _ (maps_rise 0 (places_of code.procedures) code.maps) (and_from (nat_le (length code.procedures) 256) (blocks_fill (length code.instructions) (blocks_of code.procedures code.declared.filters)) k.few_procedures k.filled) k.rising in
     rw (read, laid) refl
+
+-- ---- one file each, bytes behind, and cut files
+
+pub code_only : ItemLaws → (bytes : List ℕ) (code : Code) → CodeText bytes code → code_at bytes ≡ Ok code
+code_only laws bytes code t = ap code_at t.spelled ∙ code_again laws code t.legal
+
+pub one_code : ItemLaws → (bytes : List ℕ) (a b : Code) → CodeText bytes a → CodeText bytes b → a ≡ b
+one_code laws bytes a b s t = fine_is a b (sym (code_only laws bytes a s) ∙ code_only laws bytes b t)
+
+whole_read : ItemLaws → (bytes more : List ℕ) (code : Code) → CodeText bytes code → whole_at (bytes ++ more) ≡ Ok (code, more)
+whole_read laws bytes more code t = ap (λ (l : List ℕ). whole_at (l ++ more)) t.spelled ∙ (whole_spelled laws).again code more (whole_fits code (keeps code t.legal))
+
+pub laid_of : (code : Code) → is_code code ≡ true → is_laid code ≡ true
+laid_of code h =
+    let k = keeps code h in
+    and_from _ (maps_rise 0 (places_of code.procedures) code.maps) (and_from (nat_le (length code.procedures) 256) (blocks_fill (length code.instructions) (blocks_of code.procedures code.declared.filters)) k.few_procedures k.filled) k.rising
+
+pub behind_extra : ItemLaws → (bytes more : List ℕ) (code : Code) → CodeText bytes code → 1 ≤ length more → code_at (bytes ++ more) ≡ Err Extra
+unfolding code_at
+behind_extra laws bytes more code t some =
+    let read = whole_read laws bytes more code t in
+    let laid = laid_of code t.legal in
+    rw (read, laid) (not_empty more some)
+  where
+    not_empty : (l : List ℕ) → 1 ≤ length l → checked Extra (length l == 0) code ≡ Err Extra
+    not_empty [] h = absurd (omega (arith, h))
+    not_empty (x ∷ xs) h = rw (eqb-suc-zero (length xs)) refl
+
+-- what decode read is what was read as a whole
+read_whole : (bytes : List ℕ) (code : Code) → code_at bytes ≡ Ok code → whole_at bytes ≡ Ok (code, [])
+unfolding code_at
+read_whole bytes code e =
+    let end = λ (y : Code × List ℕ). checked Extra (length y.1 == 0) y.0 in
+    let a = bind_fine (whole_at bytes) (λ x. bind (checked Shape (is_laid x.0) x) end) code e in
+    let b = bind_fine (checked Shape (is_laid a.0.0) a.0) end code a.2 in
+    let laid = checked_fine Shape (is_laid a.0.0) a.0 b.0 b.1 in
+    let last = checked_fine Extra (length b.0.1 == 0) b.0.0 code b.2 in
+    a.1 ∙ ap (λ (p : Code × List ℕ). fine p) laid.1 ∙ ap (λ (c : Code). fine (c, b.0.1)) last.1 ∙ ap (λ (l : List ℕ). fine (code, l)) (none b.0.1 last.0)
+  where
+    none : (l : List ℕ) → (length l == 0) ≡ true → l ≡ []
+    none [] e = refl
+    none (x ∷ xs) e = absurd (let n : suc (length xs) ≡ 0 = eqb-true (suc (length xs)) 0 e in omega arith)
+
+-- a file that is cut has a fault of missing bytes
+pub cut_short : ItemLaws → (front more : List ℕ) (code : Code) → CodeText (front ++ more) code → 1 ≤ length more → (f : CodeFault) × (code_at front ≡ Err f) × (Lasts f → ⊥)
+cut_short laws front more code t some = told_of (code_at front) refl
+  where
+    told_of : (r : Result Code CodeFault) → code_at front ≡ r → (f : CodeFault) × (code_at front ≡ Err f) × (Lasts f → ⊥)
+    told_of (Ok c) e =
+        let longer = (whole_spelled laws).stays front more [] c (read_whole front c e) in
+        let whole = whole_read laws (front ++ more) [] code t in
+        let same = pair_is c code more [] (sym longer ∙ ap whole_at (sym (append-nil (front ++ more))) ∙ whole) in
+        let len : length more ≡ 0 = ap (λ (l : List ℕ). length l) same.1 in
+        absurd (omega (arith, len, some))
+    told_of (Err f) e = (f, e, λ lasts. not_both code f (sym (code_only laws (front ++ more) code t) ∙ faults_stay laws front more f lasts e))
