@@ -153,15 +153,17 @@ whole_was h d code within dr br =
     let same_d : d ≡ code.declared = ap (λ (c : Code). c.declared) br.0 in
     let dr' : DeclaredRead h code.declared = subst (λ (x : Declared). DeclaredRead h x) same_d dr in
     let br' : BodyRead h.counts code.declared code = subst (λ (x : Declared). BodyRead h.counts x code) same_d br in
-    let same_h : h ≡ header_of code = sym (header_is h code dr' br') in
-    (text h d code same_h same_d, record {
-      header = subst (λ (x : Header). CountsRead x.counts) same_h within;
-      declared = subst (λ (x : Header). DeclaredRead x code.declared) same_h dr';
-      body = subst (λ (x : Header). BodyRead x.counts code.declared code) same_h br';
-    })
+    let same_h : h ≡ header_of code = sym (header_is h code dr' br') in (
+      text h d code same_h same_d,
+      record {
+        header = subst (λ (x : Header). CountsRead x.counts) same_h within;
+        declared = subst (λ (x : Header). DeclaredRead x code.declared) same_h dr';
+        body = subst (λ (x : Header). BodyRead x.counts code.declared code) same_h br';
+      },
+    )
   where
-  text : (h : Header) (d : Declared) (code : Code) → h ≡ header_of code → d ≡ code.declared → header_text h ++ (declared_text d ++ body_text code) ≡ code_text code
-  text h d code e f = ap (λ (x : Header). header_text x ++ (declared_text d ++ body_text code)) e ∙ ap (λ (x : Declared). header_text (header_of code) ++ (declared_text x ++ body_text code)) f
+    text : (h : Header) (d : Declared) (code : Code) → h ≡ header_of code → d ≡ code.declared → header_text h ++ (declared_text d ++ body_text code) ≡ code_text code
+    text h d code e f = ap (λ (x : Header). header_text x ++ (declared_text d ++ body_text code)) e ∙ ap (λ (x : Declared). header_text (header_of code) ++ (declared_text x ++ body_text code)) f
 
 pub whole_spelled : ItemLaws → IsSpelled whole_at code_text WholeFits WholeRead
 unfolding whole_at code_text

@@ -33,19 +33,19 @@ use Rattle.code_file.proofs.CodeLaws.{ItemLaws, WholeFits, WholeRead, whole_spel
 
 -- ---- the same tests in other words
 
-tables_same : (earlier ts : List TableShape) → tables_go_on earlier ts ≡ go_on is_next_table earlier ts
+pub tables_same : (earlier ts : List TableShape) → tables_go_on earlier ts ≡ go_on is_next_table earlier ts
 tables_same earlier [] = refl
 tables_same earlier (t ∷ ts) = ap (λ (b : Bool). is_next_table earlier t && b) (tables_same (earlier ++ t ∷ []) ts)
 
-indexes_same : (tables : List TableShape) (earlier xs : List IndexShape) → indexes_go_on tables earlier xs ≡ go_on (is_next_index tables) earlier xs
+pub indexes_same : (tables : List TableShape) (earlier xs : List IndexShape) → indexes_go_on tables earlier xs ≡ go_on (is_next_index tables) earlier xs
 indexes_same tables earlier [] = refl
 indexes_same tables earlier (x ∷ xs) = ap (λ (b : Bool). is_next_index tables earlier x && b) (indexes_same tables (earlier ++ x ∷ []) xs)
 
-each_same : {A : Type 0} (p : A → Bool) (earlier xs : List A) → list_all p xs ≡ go_on (λ (e : List A) (x : A). p x) earlier xs
+pub each_same : {A : Type 0} (p : A → Bool) (earlier xs : List A) → list_all p xs ≡ go_on (λ (e : List A) (x : A). p x) earlier xs
 each_same p earlier [] = refl
 each_same p earlier (x ∷ xs) = ap (λ (b : Bool). p x && b) (each_same p (earlier ++ x ∷ []) xs)
 
-further_same : (d : Declared) (q : Proc) (qs ps : List Proc) → list_all (is_procedure d) ps ≡ go_on (procedure_follows d) (q ∷ qs) ps
+pub further_same : (d : Declared) (q : Proc) (qs ps : List Proc) → list_all (is_procedure d) ps ≡ go_on (procedure_follows d) (q ∷ qs) ps
 further_same d q qs [] = refl
 further_same d q qs (p ∷ ps) = ap (λ (b : Bool). is_procedure d p && b) (further_same d q (qs ++ p ∷ []) ps)
 
@@ -140,9 +140,9 @@ code_found laws bytes code fit e =
     let text : bytes ≡ code_text code = is.0 ∙ ap (λ (l : List ℕ). code_text a.0.0 ++ l) empty ∙ append-nil (code_text a.0.0) ∙ ap code_text same in
     record { legal = subst (λ (c : Code). is_code c ≡ true) same (code_legal a.0.0 is.1 laid.0); spelled = text }
   where
-  none : (l : List ℕ) → eqb (length l) 0 ≡ true → l ≡ []
-  none [] e = refl
-  none (x ∷ xs) e = absurd (let n : suc (length xs) ≡ 0 = eqb-true (suc (length xs)) 0 e in omega arith)
+    none : (l : List ℕ) → eqb (length l) 0 ≡ true → l ≡ []
+    none [] e = refl
+    none (x ∷ xs) e = absurd (let n : suc (length xs) ≡ 0 = eqb-true (suc (length xs)) 0 e in omega arith)
 
 -- ---- bytes behind others
 
@@ -162,6 +162,6 @@ faults_stay laws bytes more f lasts e =
       ])
     ]
   where
-  longer : (rest : List ℕ) (code : Code) → checked Extra (length rest == 0) code ≡ Err f → checked Extra (length (rest ++ more) == 0) code ≡ Err f
-  longer [] code h = absurd (not_both code f h)
-  longer (x ∷ xs) code h = rw (eqb-suc-zero (length (xs ++ more))) (rw (eqb-suc-zero (length xs)) at h)
+    longer : (rest : List ℕ) (code : Code) → checked Extra (length rest == 0) code ≡ Err f → checked Extra (length (rest ++ more) == 0) code ≡ Err f
+    longer [] code h = absurd (not_both code f h)
+    longer (x ∷ xs) code h = rw (eqb-suc-zero (length (xs ++ more))) (rw (eqb-suc-zero (length xs)) at h)

@@ -3,3 +3,5 @@ pub mod PartLaws
 pub mod WholeLaws
 pub mod CodeLaws
 pub mod FileLaws
+pub mod LegalLaws
+pub mod AgainLaws

@@ -53,26 +53,26 @@ pub joint_spelled : {A B : Type 0} {r : Part A} {s : A → Part B} {t : A → Li
 joint_spelled {A} {B} {r} {s} {t} {u} {P} {G} {Q} {H} first second = record {
   again = λ p rest h. ap (joint r s) (append_assoc (t p.0) (u p.1) rest) ∙ rw (first.again p.0 (u p.1 ++ rest) h.0, (second p.0).again p.1 rest h.1) refl;
   takes = λ bytes rest p fit e.
-  let a = bind_fine (r bytes) (λ x. bind (s x.0 x.1) (λ y. Ok ((x.0, y.0), y.1))) (p, rest) e in
-  let b = bind_fine (s a.0.0 a.0.1) (λ y. Ok ((a.0.0, y.0), y.1)) (p, rest) a.2 in
-  let end = pair_is (a.0.0, b.0.0) p b.0.1 rest b.2 in
-  let front = first.takes bytes a.0.1 a.0.0 fit a.1 in
-  let back = (second a.0.0).takes a.0.1 b.0.1 b.0.0 (are_left bytes (t a.0.0) a.0.1 front.0 fit) b.1 in
-  let whole : bytes ≡ (t a.0.0 ++ u b.0.0) ++ b.0.1 = front.0 ∙ ap (λ (l : List ℕ). t a.0.0 ++ l) back.0 ∙ sym (append_assoc (t a.0.0) (u b.0.0) b.0.1) in
-  subst (λ (q : A × B). (bytes ≡ (t q.0 ++ u q.1) ++ rest) × (G q.0 × H q.0 q.1)) end.0 (subst (λ (l : List ℕ). bytes ≡ (t a.0.0 ++ u b.0.0) ++ l) end.1 whole, (front.1, back.1));
+      let a = bind_fine (r bytes) (λ x. bind (s x.0 x.1) (λ y. Ok ((x.0, y.0), y.1))) (p, rest) e in
+      let b = bind_fine (s a.0.0 a.0.1) (λ y. Ok ((a.0.0, y.0), y.1)) (p, rest) a.2 in
+      let end = pair_is (a.0.0, b.0.0) p b.0.1 rest b.2 in
+      let front = first.takes bytes a.0.1 a.0.0 fit a.1 in
+      let back = (second a.0.0).takes a.0.1 b.0.1 b.0.0 (are_left bytes (t a.0.0) a.0.1 front.0 fit) b.1 in
+      let whole : bytes ≡ (t a.0.0 ++ u b.0.0) ++ b.0.1 = front.0 ∙ ap (λ (l : List ℕ). t a.0.0 ++ l) back.0 ∙ sym (append_assoc (t a.0.0) (u b.0.0) b.0.1) in
+      subst (λ (q : A × B). (bytes ≡ (t q.0 ++ u q.1) ++ rest) × (G q.0 × H q.0 q.1)) end.0 (subst (λ (l : List ℕ). bytes ≡ (t a.0.0 ++ u b.0.0) ++ l) end.1 whole, (front.1, back.1));
   stays = λ bytes more rest p e.
-  let a = bind_fine (r bytes) (λ x. bind (s x.0 x.1) (λ y. Ok ((x.0, y.0), y.1))) (p, rest) e in
-  let b = bind_fine (s a.0.0 a.0.1) (λ y. Ok ((a.0.0, y.0), y.1)) (p, rest) a.2 in
-  let end = pair_is (a.0.0, b.0.0) p b.0.1 rest b.2 in
-  rw (first.stays bytes more a.0.1 a.0.0 a.1, (second a.0.0).stays a.0.1 more b.0.1 b.0.0 b.1) (ap (λ (q : A × B). fine (q, b.0.1 ++ more)) end.0 ∙ ap (λ (l : List ℕ). fine (p, l ++ more)) end.1);
+      let a = bind_fine (r bytes) (λ x. bind (s x.0 x.1) (λ y. Ok ((x.0, y.0), y.1))) (p, rest) e in
+      let b = bind_fine (s a.0.0 a.0.1) (λ y. Ok ((a.0.0, y.0), y.1)) (p, rest) a.2 in
+      let end = pair_is (a.0.0, b.0.0) p b.0.1 rest b.2 in
+      rw (first.stays bytes more a.0.1 a.0.0 a.1, (second a.0.0).stays a.0.1 more b.0.1 b.0.0 b.1) (ap (λ (q : A × B). fine (q, b.0.1 ++ more)) end.0 ∙ ap (λ (l : List ℕ). fine (p, l ++ more)) end.1);
   fails = λ bytes more f lasts e.
-  elim (bind_bad (r bytes) (λ x. bind (s x.0 x.1) (λ y. Ok ((x.0, y.0), y.1))) f e) [
-    | inl h ↦ rw (first.fails bytes more f lasts h) refl
-    | inr a ↦ rw (first.stays bytes more a.0.1 a.0.0 a.1) (elim (bind_bad (s a.0.0 a.0.1) (λ y. Ok ((a.0.0, y.0), y.1)) f a.2) [
-      | inl h ↦ rw ((second a.0.0).fails a.0.1 more f lasts h) refl
-      | inr b ↦ absurd (not_both ((a.0.0, b.0.0), b.0.1) f b.2)
-    ])
-  ];
+      elim (bind_bad (r bytes) (λ x. bind (s x.0 x.1) (λ y. Ok ((x.0, y.0), y.1))) f e) [
+        | inl h ↦ rw (first.fails bytes more f lasts h) refl
+        | inr a ↦ rw (first.stays bytes more a.0.1 a.0.0 a.1) (elim (bind_bad (s a.0.0 a.0.1) (λ y. Ok ((a.0.0, y.0), y.1)) f a.2) [
+          | inl h ↦ rw ((second a.0.0).fails a.0.1 more f lasts h) refl
+          | inr b ↦ absurd (not_both ((a.0.0, b.0.0), b.0.1) f b.2)
+        ])
+      ];
 }
 
 -- what is made of a part
@@ -82,28 +82,28 @@ pub made_spelled : {A B : Type 0} {r : Part A} {t : A → List ℕ} {P G : A →
     → IsSpelled (λ bytes. bind (r bytes) (λ x. bind (make x.0) (λ y. Ok (y, x.1)))) v Q H
 made_spelled {A} {B} {r} {t} {P} {G} law make v Q H back forth = record {
   again = λ y rest h.
-  let x = forth y h in
-  ap (λ (l : List ℕ). bind (r (l ++ rest)) (λ z. bind (make z.0) (λ w. Ok (w, z.1)))) x.3 ∙ rw (law.again x.0 rest x.1, x.2) refl;
+      let x = forth y h in
+      ap (λ (l : List ℕ). bind (r (l ++ rest)) (λ z. bind (make z.0) (λ w. Ok (w, z.1)))) x.3 ∙ rw (law.again x.0 rest x.1, x.2) refl;
   takes = λ bytes rest y fit e.
-  let a = bind_fine (r bytes) (λ x. bind (make x.0) (λ z. Ok (z, x.1))) (y, rest) e in
-  let b = bind_fine (make a.0.0) (λ z. Ok (z, a.0.1)) (y, rest) a.2 in
-  let end = pair_is b.0 y a.0.1 rest b.2 in
-  let front = law.takes bytes a.0.1 a.0.0 fit a.1 in
-  let is = back a.0.0 y front.1 (b.1 ∙ ap (λ (z : B). fine z) end.0) in
-  (front.0 ∙ ap (λ (l : List ℕ). l ++ a.0.1) is.0 ∙ ap (λ (l : List ℕ). v y ++ l) end.1, is.1);
+      let a = bind_fine (r bytes) (λ x. bind (make x.0) (λ z. Ok (z, x.1))) (y, rest) e in
+      let b = bind_fine (make a.0.0) (λ z. Ok (z, a.0.1)) (y, rest) a.2 in
+      let end = pair_is b.0 y a.0.1 rest b.2 in
+      let front = law.takes bytes a.0.1 a.0.0 fit a.1 in
+      let is = back a.0.0 y front.1 (b.1 ∙ ap (λ (z : B). fine z) end.0) in
+      (front.0 ∙ ap (λ (l : List ℕ). l ++ a.0.1) is.0 ∙ ap (λ (l : List ℕ). v y ++ l) end.1, is.1);
   stays = λ bytes more rest y e.
-  let a = bind_fine (r bytes) (λ x. bind (make x.0) (λ z. Ok (z, x.1))) (y, rest) e in
-  let b = bind_fine (make a.0.0) (λ z. Ok (z, a.0.1)) (y, rest) a.2 in
-  let end = pair_is b.0 y a.0.1 rest b.2 in
-  rw (law.stays bytes more a.0.1 a.0.0 a.1, b.1) (ap (λ (z : B). fine (z, a.0.1 ++ more)) end.0 ∙ ap (λ (l : List ℕ). fine (y, l ++ more)) end.1);
+      let a = bind_fine (r bytes) (λ x. bind (make x.0) (λ z. Ok (z, x.1))) (y, rest) e in
+      let b = bind_fine (make a.0.0) (λ z. Ok (z, a.0.1)) (y, rest) a.2 in
+      let end = pair_is b.0 y a.0.1 rest b.2 in
+      rw (law.stays bytes more a.0.1 a.0.0 a.1, b.1) (ap (λ (z : B). fine (z, a.0.1 ++ more)) end.0 ∙ ap (λ (l : List ℕ). fine (y, l ++ more)) end.1);
   fails = λ bytes more f lasts e.
-  elim (bind_bad (r bytes) (λ x. bind (make x.0) (λ z. Ok (z, x.1))) f e) [
-    | inl h ↦ rw (law.fails bytes more f lasts h) refl
-    | inr a ↦ rw (law.stays bytes more a.0.1 a.0.0 a.1) (elim (bind_bad (make a.0.0) (λ z. Ok (z, a.0.1)) f a.2) [
-      | inl h ↦ rw h refl
-      | inr b ↦ absurd (not_both (b.0, a.0.1) f b.2)
-    ])
-  ];
+      elim (bind_bad (r bytes) (λ x. bind (make x.0) (λ z. Ok (z, x.1))) f e) [
+        | inl h ↦ rw (law.fails bytes more f lasts h) refl
+        | inr a ↦ rw (law.stays bytes more a.0.1 a.0.0 a.1) (elim (bind_bad (make a.0.0) (λ z. Ok (z, a.0.1)) f a.2) [
+          | inl h ↦ rw h refl
+          | inr b ↦ absurd (not_both (b.0, a.0.1) f b.2)
+        ])
+      ];
 }
 
 pub shaped_spelled : {A B : Type 0} {r : Part A} {t : A → List ℕ} {P G : A → Type 0} → IsSpelled r t P G → (make : A → B) (v : B → List ℕ) (Q H : B → Type 0)
@@ -127,23 +127,24 @@ pub checked_spelled : {A : Type 0} {r : Part A} {t : A → List ℕ} {P G : A �
 checked_spelled {A} {r} {t} {P} {G} law fault test = record {
   again = λ x rest h. rw (law.again x rest h.0, h.1) refl;
   takes = λ bytes rest x fit e.
-  let a = bind_fine (r bytes) (λ x. checked fault (test x.0) x) (x, rest) e in
-  let c = checked_fine fault (test a.0.0) a.0 (x, rest) a.2 in
-  let one : r bytes ≡ Ok (x, rest) = a.1 ∙ ap (λ (p : A × List ℕ). fine p) c.1 in
-  let is = law.takes bytes rest x fit one in
-  (is.0, (is.1, ap (λ (p : A × List ℕ). test p.0) (sym c.1) ∙ c.0));
+      let a = bind_fine (r bytes) (λ x. checked fault (test x.0) x) (x, rest) e in
+      let c = checked_fine fault (test a.0.0) a.0 (x, rest) a.2 in
+      let one : r bytes ≡ Ok (x, rest) = a.1 ∙ ap (λ (p : A × List ℕ). fine p) c.1 in
+      let is = law.takes bytes rest x fit one in
+      (is.0, (is.1, ap (λ (p : A × List ℕ). test p.0) (sym c.1) ∙ c.0));
   stays = λ bytes more rest x e.
-  let a = bind_fine (r bytes) (λ x. checked fault (test x.0) x) (x, rest) e in
-  let c = checked_fine fault (test a.0.0) a.0 (x, rest) a.2 in
-  let one : r bytes ≡ Ok (x, rest) = a.1 ∙ ap (λ (p : A × List ℕ). fine p) c.1 in
-  let holds : test x ≡ true = ap (λ (p : A × List ℕ). test p.0) (sym c.1) ∙ c.0 in
-  rw (law.stays bytes more rest x one, holds) refl;
+      let a = bind_fine (r bytes) (λ x. checked fault (test x.0) x) (x, rest) e in
+      let c = checked_fine fault (test a.0.0) a.0 (x, rest) a.2 in
+      let one : r bytes ≡ Ok (x, rest) = a.1 ∙ ap (λ (p : A × List ℕ). fine p) c.1 in
+      let holds : test x ≡ true = ap (λ (p : A × List ℕ). test p.0) (sym c.1) ∙ c.0 in
+      rw (law.stays bytes more rest x one, holds) refl;
   fails = λ bytes more f lasts e.
-  elim (bind_bad (r bytes) (λ x. checked fault (test x.0) x) f e) [
-    | inl h ↦ rw (law.fails bytes more f lasts h) refl
-    | inr a ↦ rw (law.stays bytes more a.0.1 a.0.0 a.1) (still (test a.0.0) fault f a.0 (a.0.0, a.0.1 ++ more) a.2)
-  ];
+      elim (bind_bad (r bytes) (λ x. checked fault (test x.0) x) f e) [
+        | inl h ↦ rw (law.fails bytes more f lasts h) refl
+        | inr a ↦ rw (law.stays bytes more a.0.1 a.0.0 a.1) (still (test a.0.0) fault f a.0 (a.0.0, a.0.1 ++ more) a.2)
+      ];
 }
+
 -- ---- items
 
 pub told_spelled : {A : Type 0} {one : Reader (Judged A)} {t : A → List ℕ} {P G : A → Type 0} → Spells one t P G → IsSpelled (λ bytes. told (one bytes)) t P G
@@ -152,18 +153,19 @@ told_spelled {A} {one} {t} {P} {G} law = record {
   takes = λ bytes rest x fit e. law.takes bytes rest x fit (front_fine (one bytes) (x, rest) e);
   stays = λ bytes more rest x e. rw (law.steady.stays bytes more rest (Ok x) (front_fine (one bytes) (x, rest) e)) refl;
   fails = λ bytes more f lasts e.
-  let w = front_bad (one bytes) f lasts e in
-  rw (law.steady.stays bytes more w.1 (Err w.0) w.2) (ap (λ (g : CodeFault). bad g) w.3);
+      let w = front_bad (one bytes) f lasts e in
+      rw (law.steady.stays bytes more w.1 (Err w.0) w.2) (ap (λ (g : CodeFault). bad g) w.3);
 }
   where
-  front_fine : {B : Type 0} (front : Front (Judged B)) (x : B × List ℕ) → told front ≡ Ok x → front ≡ Some (Ok x.0, x.1)
-  front_fine None x e = absurd cc
-  front_fine {B} (Some (Ok y, rest)) x e = ap (λ (p : B × List ℕ). Some (Ok p.0, p.1)) (fine_is (y, rest) x e)
-  front_fine (Some (Err f, rest)) x e = absurd cc
-  front_bad : {B : Type 0} (front : Front (Judged B)) (e : CodeFault) → Lasts e → told front ≡ Err e → (f : Flaw) × (rest : List ℕ) × (front ≡ Some (Err f, rest)) × (fault_of f ≡ e)
-  front_bad {B} None e lasts h = absurd (subst Lasts (sym (bad_is {A = B × List ℕ} Short e h)) lasts)
-  front_bad (Some (Ok y, rest)) e lasts h = absurd (not_both (y, rest) e h)
-  front_bad {B} (Some (Err f, rest)) e lasts h = (f, rest, refl, bad_is {A = B × List ℕ} (fault_of f) e h)
+    front_fine : {B : Type 0} (front : Front (Judged B)) (x : B × List ℕ) → told front ≡ Ok x → front ≡ Some (Ok x.0, x.1)
+    front_fine None x e = absurd cc
+    front_fine {B} (Some (Ok y, rest)) x e = ap (λ (p : B × List ℕ). Some (Ok p.0, p.1)) (fine_is (y, rest) x e)
+    front_fine (Some (Err f, rest)) x e = absurd cc
+
+    front_bad : {B : Type 0} (front : Front (Judged B)) (e : CodeFault) → Lasts e → told front ≡ Err e → (f : Flaw) × (rest : List ℕ) × (front ≡ Some (Err f, rest)) × (fault_of f ≡ e)
+    front_bad {B} None e lasts h = absurd (subst Lasts (sym (bad_is {A = B × List ℕ} Short e h)) lasts)
+    front_bad (Some (Ok y, rest)) e lasts h = absurd (not_both (y, rest) e h)
+    front_bad {B} (Some (Err f, rest)) e lasts h = (f, rest, refl, bad_is {A = B × List ℕ} (fault_of f) e h)
 
 items_again : {A : Type 0} {one : Reader (Judged A)} {t : A → List ℕ} {P G : A → Type 0} → Spells one t P G → (follows : List A → A → Bool) (xs earlier : List A) (rest : List ℕ) → go_on follows earlier xs ≡ true → AllByRecursion P xs → items_at one follows (length xs) earlier (flat_map t xs ++ rest) ≡ Ok (earlier ++ xs, rest)
 unfolding items_at
@@ -241,8 +243,8 @@ pub items_spelled : {A : Type 0} {one : Reader (Judged A)} {t : A → List ℕ} 
 items_spelled {A} {one} {t} {P} {G} law follows n = record {
   again = λ xs rest h. ap (λ (k : ℕ). items_at one follows k [] (flat_map t xs ++ rest)) (sym h.0) ∙ items_again law follows xs [] rest h.1 h.2;
   takes = λ bytes rest xs fit e.
-  let r = items_take law follows n [] bytes rest xs fit e in
-  subst (λ (l : List A). (bytes ≡ flat_map t l ++ rest) × AreItems n follows G l) r.all_are (r.spelled, (r.count, r.legal, r.each));
+      let r = items_take law follows n [] bytes rest xs fit e in
+      subst (λ (l : List A). (bytes ≡ flat_map t l ++ rest) × AreItems n follows G l) r.all_are (r.spelled, (r.count, r.legal, r.each));
   stays = λ bytes more rest xs e. items_stay law follows n [] bytes more rest xs e;
   fails = λ bytes more f lasts e. items_fail law follows n [] bytes more f lasts e;
 }

@@ -99,12 +99,13 @@ magic_spelled laws = checked_spelled (there_spelled (number_at w32) laws.four Ma
 version_was : (n : ℕ) (v : Version) → version_from n ≡ Ok v → n ≡ version_number v
 version_was n v e = first (eqb n 1) refl e
   where
-  second : (b : Bool) → eqb n 2 ≡ b → cond b (Ok Two) (bad OtherVersion) ≡ Ok v → n ≡ version_number v
-  second true is e = eqb-true n 2 is ∙ ap version_number (fine_is Two v e)
-  second false is e = absurd cc
-  first : (b : Bool) → eqb n 1 ≡ b → cond b (Ok One) (cond (eqb n 2) (Ok Two) (bad OtherVersion)) ≡ Ok v → n ≡ version_number v
-  first true is e = eqb-true n 1 is ∙ ap version_number (fine_is One v e)
-  first false is e = second (eqb n 2) refl e
+    second : (b : Bool) → eqb n 2 ≡ b → cond b (Ok Two) (bad OtherVersion) ≡ Ok v → n ≡ version_number v
+    second true is e = eqb-true n 2 is ∙ ap version_number (fine_is Two v e)
+    second false is e = absurd cc
+
+    first : (b : Bool) → eqb n 1 ≡ b → cond b (Ok One) (cond (eqb n 2) (Ok Two) (bad OtherVersion)) ≡ Ok v → n ≡ version_number v
+    first true is e = eqb-true n 1 is ∙ ap version_number (fine_is One v e)
+    first false is e = second (eqb n 2) refl e
 
 version_is : (v : Version) → (Small (version_number v)) × (version_from (version_number v) ≡ Ok v)
 version_is One = (omega arith, refl)

@@ -1,6 +1,8 @@
 //! Reading a code file.
 
-ghost use Rattle.std.specs.Prelude.{◌≡◌, ◌++◌, ℕ, List, Err, IfOk};
+ghost use Rattle.std.specs.Prelude.{◌≡◌, ◌≤◌, ◌++◌, ℕ, List, length, Ok, Err, IfOk};
+ghost use Rattle.code_items.specs.declared.code.Code.{Code as AnyCode};
+ghost use Rattle.code_file.specs.declared.fault.CodeFault.TheVariants.{Extra};
 ghost use Rattle.code_file.specs.declared.fault.CodeFault.{CodeFault as AnyFault};
 ghost use Rattle.code_file.specs.CodeFile.{CodeText};
 ghost use Rattle.code_file.specs.Laws.{Lasts};
@@ -130,6 +132,8 @@ fn code_of(alloc: Global, bytes: &[u8]) -> Result<Code, CodeFault>
 pub fn decode(alloc: Global, bytes: &[u8]) -> Result<Code, CodeFault>
     // The bytes are the file of the code that is read.
     ensures found { IfOk result (λ code. CodeText bytes.now code) }
+    // A code's file is read as that code, unless memory runs out.
+    ensures only { (code : AnyCode) → CodeText bytes.now code → Gives (λ x. x) result (Ok code) }
     // Which fault it is.
     ensures exact { Gives (λ x. x) result (code_at bytes.now) }
 {
@@ -145,6 +149,30 @@ pub fn decode(alloc: Global, bytes: &[u8]) -> Result<Code, CodeFault>
 /// `Memory`.
 pub fn faults_stay()
     ensures { (bytes more : List ℕ) (f : AnyFault) → Lasts f → code_at bytes ≡ Err f → code_at (bytes ++ more) ≡ Err f }
+{
+    numbers_are_spelled();
+    declarations_are_spelled();
+    constants_and_filters_are_spelled();
+    procedures_and_maps_are_spelled();
+    instructions_are_spelled();
+}
+
+/// Each code has one file, and each file is that of one code.
+pub fn one_file_each()
+    ensures text { (a b : List ℕ) (code : AnyCode) → CodeText a code → CodeText b code → a ≡ b }
+    ensures code { (bytes : List ℕ) (a b : AnyCode) → CodeText bytes a → CodeText bytes b → a ≡ b }
+{
+    numbers_are_spelled();
+    declarations_are_spelled();
+    constants_and_filters_are_spelled();
+    procedures_and_maps_are_spelled();
+    instructions_are_spelled();
+}
+
+/// Bytes behind a code's file are `Extra`, and a file that is cut has a fault of missing bytes: `Magic`, `Version` or `Short`.
+pub fn files_end_where_they_end()
+    ensures behind { (bytes more : List ℕ) (code : AnyCode) → CodeText bytes code → 1 ≤ length more → code_at (bytes ++ more) ≡ Err Extra }
+    ensures cut { (front more : List ℕ) (code : AnyCode) → CodeText (front ++ more) code → 1 ≤ length more → (f : AnyFault) × (code_at front ≡ Err f) × (Lasts f → ⊥) }
 {
     numbers_are_spelled();
     declarations_are_spelled();

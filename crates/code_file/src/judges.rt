@@ -6,9 +6,7 @@ ghost use Rattle.shape.specs.Indexes.{is_next_index};
 ghost use Rattle.code_file.specs.Decoding.{always, list_follows, filter_follows, procedure_follows, map_follows};
 
 use crate::sections::Judges;
-use code_items::{
-    Declared, Filter, IndexList, IndexShape, Instr, Map, Proc, TableShape,
-};
+use code_items::{Declared, Filter, IndexList, IndexShape, Instr, Map, Proc, TableShape};
 use xvalue::Value;
 
 /// Anything may stand there.

@@ -15,6 +15,6 @@ pub use code_items::{
     Items, KeyPart, KeyParts, KindSlots, KindStack, Map, MoveInstr, Name, Need, OpenArea, Proc,
     Question, RecordInstr, ScreenInstr, Setting, Shape, State, TableShape, ValueInstr, Version,
 };
-pub use decoding::{decode, faults_stay};
+pub use decoding::{decode, faults_stay, files_end_where_they_end, one_file_each};
 pub use fault::CodeFault;
 pub use listing::list;

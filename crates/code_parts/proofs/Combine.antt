@@ -1,12 +1,8 @@
 -- Laws of readers made of readers.
-use Rattle.std.proofs.Common.{◌⊎◌, inl, inr, ◌≡◌, ℕ, zero, suc, ◌+◌, ◌^◌, ◌<◌, ◌≤◌, Bool, true, false, cond, ltb, List, [], ◌∷◌, ◌++◌, length, get_or, take, drop, Option, Some, None, Result, Ok, Err, refl, sym, ap, subst, ◌∙◌, append_assoc, arith}
-use Rattle.std.specs.List.{flat_map, AllByRecursion}
-use Rattle.std.specs.Int.{Width, w16, w32, w64, byte_len, from_le_bytes, to_le_bytes}
-use Rattle.std.proofs.lemmas.Bool.{ltb-false, le-ltb}
-use Rattle.std.proofs.lemmas.List.{take_at, drop_at, take-append-drop, length-append, length-take, get_or-take, get_or_past, take-append-le, drop-append-le, get_or-append-add}
-use Rattle.std.proofs.lemmas.Nat.{le_bytes_2, le_bytes_4, le_bytes_8, from_le_bytes-to_le_bytes_2, from_le_bytes-to_le_bytes_4, from_le_bytes-to_le_bytes_8}
+use Rattle.std.proofs.Common.{◌≡◌, ℕ, ◌+◌, ◌<◌, List, [], ◌∷◌, ◌++◌, length, get_or, Option, Some, None, Ok, Err, refl, sym, ap, ◌∙◌, append_assoc}
+use Rattle.std.proofs.lemmas.List.{get_or-append-add}
 use Rattle.code_parts.specs.declared.flaw.Flaw.{Flaw}
-use Rattle.code_parts.specs.Reading.{Front, Reader, ◌>>=◌, behind, give, byte_at, bytes_at, number_at, text_at, Judged, judge, both, put_before, several, sure, pair_at, made_at, counted_at, by_byte}
+use Rattle.code_parts.specs.Reading.{Front, Reader, ◌>>=◌, behind, give, byte_at, Judged, judge, both, sure, pair_at, made_at, by_byte}
 use Rattle.code_parts.specs.Laws.{AreBytes, IsSteady, Spells}
 
 -- ---- steady readers
@@ -19,10 +15,10 @@ behind_some None next y e = absurd cc
 pub steady_then : {A B : Type 0} {r : Reader A} {next : A → Reader B} → IsSteady r → ((a : A) → IsSteady (next a)) → IsSteady (r >>= next)
 steady_then {A} {B} {r} {next} first second = record {
   stays = λ bytes more rest y e.
-  let a = behind_some (r bytes) next (y, rest) e in
-  let here : r (bytes ++ more) ≡ Some (a.0.0, a.0.1 ++ more) = first.stays bytes more a.0.1 a.0.0 a.1 in
-  let there = (second a.0.0).stays a.0.1 more rest y a.2 in
-  ap (λ (front : Front A). behind front next) here ∙ there;
+      let a = behind_some (r bytes) next (y, rest) e in
+      let here : r (bytes ++ more) ≡ Some (a.0.0, a.0.1 ++ more) = first.stays bytes more a.0.1 a.0.0 a.1 in
+      let there = (second a.0.0).stays a.0.1 more rest y a.2 in
+      ap (λ (front : Front A). behind front next) here ∙ there;
 }
 
 abbrev pub some : {A : Type 0} → A → Option A
@@ -66,15 +62,15 @@ pub pair_spells : {A B : Type 0} {r : Reader (Judged A)} {s : Reader (Judged B)}
 pair_spells {A} {B} {r} {s} {t} {u} {P} {G} {Q} {H} first second = record {
   again = λ p rest h. ap (pair_at r s) (append_assoc (t p.0) (u p.1) rest) ∙ rw (first.again p.0 (u p.1 ++ rest) h.0, second.again p.1 rest h.1) refl;
   takes = λ bytes rest p fit e.
-  let a = behind_some (r bytes) (λ x. s >>= λ y. give (both x y)) (Ok p, rest) e in
-  let b = behind_some (s a.0.1) (λ y. give (both a.0.0 y)) (Ok p, rest) a.2 in
-  let end = given (both a.0.0 b.0.0) (Ok p) b.0.1 rest b.2 in
-  let made = both_ok a.0.0 b.0.0 p end.0 in
-  let one : r bytes ≡ Some (Ok p.0, a.0.1) = a.1 ∙ ap (λ (v : Judged A). Some (v, a.0.1)) made.0 in
-  let two : s a.0.1 ≡ Some (Ok p.1, rest) = b.1 ∙ ap (λ (v : Judged B). Some (v, b.0.1)) made.1 ∙ ap (λ (l : List ℕ). Some (Ok p.1, l)) end.1 in
-  let front = first.takes bytes a.0.1 p.0 fit one in
-  let back = second.takes a.0.1 rest p.1 (are_left bytes (t p.0) a.0.1 front.0 fit) two in
-  (front.0 ∙ ap (λ (l : List ℕ). t p.0 ++ l) back.0 ∙ sym (append_assoc (t p.0) (u p.1) rest), (front.1, back.1));
+      let a = behind_some (r bytes) (λ x. s >>= λ y. give (both x y)) (Ok p, rest) e in
+      let b = behind_some (s a.0.1) (λ y. give (both a.0.0 y)) (Ok p, rest) a.2 in
+      let end = given (both a.0.0 b.0.0) (Ok p) b.0.1 rest b.2 in
+      let made = both_ok a.0.0 b.0.0 p end.0 in
+      let one : r bytes ≡ Some (Ok p.0, a.0.1) = a.1 ∙ ap (λ (v : Judged A). Some (v, a.0.1)) made.0 in
+      let two : s a.0.1 ≡ Some (Ok p.1, rest) = b.1 ∙ ap (λ (v : Judged B). Some (v, b.0.1)) made.1 ∙ ap (λ (l : List ℕ). Some (Ok p.1, l)) end.1 in
+      let front = first.takes bytes a.0.1 p.0 fit one in
+      let back = second.takes a.0.1 rest p.1 (are_left bytes (t p.0) a.0.1 front.0 fit) two in
+      (front.0 ∙ ap (λ (l : List ℕ). t p.0 ++ l) back.0 ∙ sym (append_assoc (t p.0) (u p.1) rest), (front.1, back.1));
   steady = steady_then first.steady (λ x. steady_then second.steady (λ y. steady_give (both x y)));
 }
 
@@ -90,16 +86,16 @@ pub made_spells : {A B : Type 0} {r : Reader (Judged A)} {t : A → List ℕ} {P
     → Spells (made_at r make) u Q H
 made_spells {A} {B} {r} {t} {P} {G} law make u Q H back forth = record {
   again = λ y rest h.
-  let x = forth y h in
-  ap (λ (l : List ℕ). made_at r make (l ++ rest)) x.3 ∙ rw (law.again x.0 rest x.1, x.2) refl;
+      let x = forth y h in
+      ap (λ (l : List ℕ). made_at r make (l ++ rest)) x.3 ∙ rw (law.again x.0 rest x.1, x.2) refl;
   takes = λ bytes rest y fit e.
-  let a = behind_some (r bytes) (λ x. give (judge x make)) (Ok y, rest) e in
-  let end = given (judge a.0.0 make) (Ok y) a.0.1 rest a.2 in
-  let x = judge_ok a.0.0 make y end.0 in
-  let one : r bytes ≡ Some (Ok x.0, rest) = a.1 ∙ ap (λ (v : Judged A). Some (v, a.0.1)) x.1 ∙ ap (λ (l : List ℕ). Some (Ok x.0, l)) end.1 in
-  let front = law.takes bytes rest x.0 fit one in
-  let is = back x.0 y front.1 x.2 in
-  (front.0 ∙ ap (λ (l : List ℕ). l ++ rest) is.0, is.1);
+      let a = behind_some (r bytes) (λ x. give (judge x make)) (Ok y, rest) e in
+      let end = given (judge a.0.0 make) (Ok y) a.0.1 rest a.2 in
+      let x = judge_ok a.0.0 make y end.0 in
+      let one : r bytes ≡ Some (Ok x.0, rest) = a.1 ∙ ap (λ (v : Judged A). Some (v, a.0.1)) x.1 ∙ ap (λ (l : List ℕ). Some (Ok x.0, l)) end.1 in
+      let front = law.takes bytes rest x.0 fit one in
+      let is = back x.0 y front.1 x.2 in
+      (front.0 ∙ ap (λ (l : List ℕ). l ++ rest) is.0, is.1);
   steady = steady_then law.steady (λ x. steady_give (judge x make));
 }
 
@@ -110,8 +106,8 @@ flawed_spells {X} f t P G none = record {
   steady = steady_give (Err f);
 }
   where
-  never : (x : X) (bytes rest : List ℕ) → give {A = Judged X} (Err f) bytes ≡ Some (Ok x, rest) → ⊥
-  never x bytes rest e = let same : Err f ≡ done x = (given (Err f) (done x) bytes rest e).0 in cc
+    never : (x : X) (bytes rest : List ℕ) → give {A = Judged X} (Err f) bytes ≡ Some (Ok x, rest) → ⊥
+    never x bytes rest e = let same : Err f ≡ done x = (given (Err f) (done x) bytes rest e).0 in cc
 
 -- ---- a byte that says what follows
 
@@ -122,19 +118,19 @@ byte_takes (b ∷ bytes) x e = let same : (b, bytes) ≡ x = some_is (b, bytes) 
 pub steady_byte : IsSteady byte_at
 steady_byte = record { stays = λ bytes more rest x e. step bytes more rest x (byte_takes bytes (x, rest) e) }
   where
-  step : (bytes more rest : List ℕ) (x : ℕ) → bytes ≡ x ∷ rest → byte_at (bytes ++ more) ≡ Some (x, rest ++ more)
-  step bytes more rest x e = rw e refl
+    step : (bytes more rest : List ℕ) (x : ℕ) → bytes ≡ x ∷ rest → byte_at (bytes ++ more) ≡ Some (x, rest ++ more)
+    step bytes more rest x e = rw e refl
 
 pub byte_spells : Spells (sure byte_at) (λ b. b ∷ []) (λ b. Unit {0}) (λ b. b < 256)
 byte_spells = record {
   again = λ b rest h. refl;
   takes = λ bytes rest b fit e.
-  let a = behind_some (byte_at bytes) (λ x. give (Ok x)) (Ok b, rest) e in
-  let end = given (done a.0.0) (done b) a.0.1 rest a.2 in
-  let is = byte_takes bytes a.0 a.1 in
-  let first : a.0.0 ≡ b = ok_is a.0.0 b end.0 in
-  let whole : bytes ≡ b ∷ rest = is ∙ ap (λ (n : ℕ). n ∷ a.0.1) first ∙ ap (λ (l : List ℕ). b ∷ l) end.1 in
-  (whole, rw (ap (λ (l : List ℕ). get_or l 0 0) whole) at (fit 0));
+      let a = behind_some (byte_at bytes) (λ x. give (Ok x)) (Ok b, rest) e in
+      let end = given (done a.0.0) (done b) a.0.1 rest a.2 in
+      let is = byte_takes bytes a.0 a.1 in
+      let first : a.0.0 ≡ b = ok_is a.0.0 b end.0 in
+      let whole : bytes ≡ b ∷ rest = is ∙ ap (λ (n : ℕ). n ∷ a.0.1) first ∙ ap (λ (l : List ℕ). b ∷ l) end.1 in
+      (whole, rw (ap (λ (l : List ℕ). get_or l 0 0) whole) at (fit 0));
   steady = steady_then steady_byte (λ x. steady_give (Ok x));
 }
 
@@ -143,9 +139,9 @@ pub choice_spells : {X : Type 0} (choose : ℕ → Reader (Judged X)) (tag : X �
 choice_spells {X} choose tag t P G each = record {
   again = λ x rest h. (each (tag x)).again x rest (h, refl);
   takes = λ bytes rest x fit e.
-  let a = behind_some (byte_at bytes) choose (Ok x, rest) e in
-  let is = byte_takes bytes a.0 a.1 in
-  let back = (each a.0.0).takes a.0.1 rest x (are_left bytes (a.0.0 ∷ []) a.0.1 is fit) a.2 in
-  (is ∙ ap (λ (n : ℕ). n ∷ a.0.1) (sym back.1.1) ∙ ap (λ (l : List ℕ). tag x ∷ l) back.0, back.1.0);
+      let a = behind_some (byte_at bytes) choose (Ok x, rest) e in
+      let is = byte_takes bytes a.0 a.1 in
+      let back = (each a.0.0).takes a.0.1 rest x (are_left bytes (a.0.0 ∷ []) a.0.1 is fit) a.2 in
+      (is ∙ ap (λ (n : ℕ). n ∷ a.0.1) (sym back.1.1) ∙ ap (λ (l : List ℕ). tag x ∷ l) back.0, back.1.0);
   steady = steady_then steady_byte (λ b. (each b).steady);
 }

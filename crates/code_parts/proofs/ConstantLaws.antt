@@ -1,21 +1,20 @@
 -- Laws of the reader of constants.
-use Rattle.std.proofs.Common.{inl, inr, ◌≡◌, ℕ, zero, suc, pos, negsuc, ◌^◌, ◌<◌, ◌≤◌, Bool, true, false, eqb, leb, ltb, List, [], ◌∷◌, ◌++◌, length, Option, Some, None, Result, Ok, Err, refl, sym, ap, subst, ◌∙◌, arith}
+use Rattle.std.proofs.Common.{inl, inr, ◌≡◌, ℕ, zero, suc, pos, negsuc, ◌^◌, ◌<◌, ◌≤◌, Bool, true, false, eqb, leb, ltb, List, [], ◌∷◌, ◌++◌, length, Some, None, Ok, refl, sym, ap, subst, arith}
 use Rattle.std.specs.Prelude.{◌&&◌, ◌||◌}
-use Rattle.std.specs.Int.{w16, w64, to_le_bytes}
+use Rattle.std.specs.Int.{w64, to_le_bytes}
 use Rattle.std.specs.List.{AllByRecursion, list_all}
 use Rattle.std.proofs.lemmas.Bool.{eqb-true, leb-true, le-leb, ltb-true, lt-ltb}
 use Rattle.std.proofs.Math.Dec.{eqb-suc-zero}
-use Rattle.xvalue.specs.Calendar.{month_length, is_day}
-use Rattle.fixed_num.specs.Number.{Number as Decimal, asterisk, finite, signed}
+use Rattle.xvalue.specs.Calendar.{is_day}
+use Rattle.fixed_num.specs.Number.{asterisk, finite, signed}
 use Rattle.xvalue.specs.declared.day.DayParts.{DayParts}
 use Rattle.xvalue.specs.declared.value.Value.{Value}
 use Rattle.xvalue.specs.declared.value.Value.TheVariants.{Number, Text, Date, Logical}
-use Rattle.code_items.specs.Constants.{is_byte, is_decimal, is_date, is_text, is_constant}
+use Rattle.code_items.specs.Constants.{is_byte, is_decimal, is_constant}
 use Rattle.code_parts.specs.declared.flaw.Flaw.TheVariants.{Shape}
-use Rattle.code_parts.specs.Reading.{Judged, give}
 use Rattle.code_parts.specs.Laws.{Spells, IsLegalConstant}
-use Rattle.code_parts.specs.Texts.{two, kind_number, truth_number, kind_of_value, number_text, date_text, counted_text, value_text, constant_text}
-use Rattle.code_parts.specs.Items.{wanted, there, truth_of_byte, is_number, decimal_from, decimal_at, date_from, date_at, text_from, text_value_at, truth_from, truth_at, value_at, constant_at}
+use Rattle.code_parts.specs.Texts.{two, kind_number, truth_number, kind_of_value, number_text, counted_text, value_text, constant_text}
+use Rattle.code_parts.specs.Items.{wanted, truth_of_byte, is_number, decimal_from, decimal_at, date_from, date_at, text_from, text_value_at, truth_from, truth_at, value_at, constant_at}
 use Rattle.code_parts.proofs.Combine.{done, ok_is, pair_spells, made_spells, byte_spells, choice_spells, flawed_spells}
 use Rattle.code_parts.proofs.Numbers.{text_spells, two_spells, eight_spells}
 use Rattle.code_parts.proofs.Choices.{chosen, both_true, both_from, either_true, wanted_ok, there_ok, truth_was, truth_is, if_spells}

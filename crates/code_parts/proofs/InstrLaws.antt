@@ -1,14 +1,10 @@
 -- Laws of the reader of instructions.
-use Rattle.std.proofs.Common.{◌≡◌, ℕ, zero, suc, ◌^◌, ◌<◌, Bool, true, false, eqb, eq-eqb, ltb, List, [], ◌∷◌, ◌++◌, Option, Some, None, Result, Ok, refl, sym, ap, subst, ◌∙◌, arith}
+use Rattle.std.proofs.Common.{◌≡◌, ℕ, ◌^◌, ◌<◌, Bool, true, false, eqb, eq-eqb, Some, Ok, refl, subst, arith}
 use Rattle.std.specs.Prelude.{◌&&◌}
-use Rattle.std.specs.Int.{w16, w32, to_le_bytes}
 use Rattle.std.proofs.lemmas.Bool.{eqb-true, ltb-true}
-use Rattle.xvalue.specs.declared.kind.Kind.{Kind}
-use Rattle.xvalue.specs.Signature.{number_of, numbered, NumbersAgree}
+use Rattle.xvalue.specs.Signature.{number_of, NumbersAgree}
 use Rattle.code_items.specs.declared.declared.Version.{Version}
-use Rattle.xvalue.specs.declared.settings.Setting.{Setting}
 use Rattle.xvalue.specs.declared.settings.Setting.TheVariants.{Exact, Deleted, Century}
-use Rattle.code_items.specs.declared.instr.Question.{Question}
 use Rattle.code_items.specs.declared.instr.Question.TheVariants.{Recno, Reccount, Eof, Bof, Found, Deleted as IsDeleted}
 use Rattle.code_items.specs.declared.instr.ValueInstr.{ValueInstr}
 use Rattle.code_items.specs.declared.instr.ValueInstr.TheVariants.{Constant, Load, Store, Unset, Discard, Function, Today, Set}
@@ -27,10 +23,9 @@ use Rattle.code_items.specs.declared.instr.Instr.TheVariants.{Values, Flow, Scre
 use Rattle.code_items.specs.Instrs.{is_instr, is_two, is_four, is_area}
 use Rattle.code_parts.specs.declared.flaw.Flaw.TheVariants.{Operation}
 use Rattle.code_parts.specs.declared.operands.Parts.{Parts}
-use Rattle.code_parts.specs.Reading.{Judged}
 use Rattle.code_parts.specs.Laws.{Spells, IsLegalInstr}
-use Rattle.code_parts.specs.Texts.{two, kind_number, truth_number}
-use Rattle.code_parts.specs.Items.{wanted, there, kind_of_byte}
+use Rattle.code_parts.specs.Texts.{kind_number, truth_number}
+use Rattle.code_parts.specs.Items.{wanted}
 use Rattle.code_parts.specs.Instructions.{setting_number, question_number, of_parts, parts_of, parts_text, instr_text, low_instr, flow_instr, area_instr, record_instr, screen_instr, any_instr, same_parts, is_just, instr_from, instr_at}
 use Rattle.code_parts.proofs.Combine.{pair_spells, made_spells, byte_spells}
 use Rattle.code_parts.proofs.Numbers.{two_spells, four_spells}
@@ -43,8 +38,8 @@ parts_same p q e =
     let z = both_true (eqb p.operation q.operation) (eqb p.a q.a) y.0 in
     texts p.operation p.a p.b p.c q.operation q.a q.b q.c (eqb-true p.operation q.operation z.0) (eqb-true p.a q.a z.1) (eqb-true p.b q.b y.1) (eqb-true p.c q.c x.1)
   where
-  texts : (o a b c o' a' b' c' : ℕ) → o ≡ o' → a ≡ a' → b ≡ b' → c ≡ c' → parts_text (of_parts o a b c) ≡ parts_text (of_parts o' a' b' c')
-  texts o a b c o' a' b' c' e f g h = rw (e, f, g, h) refl
+    texts : (o a b c o' a' b' c' : ℕ) → o ≡ o' → a ≡ a' → b ≡ b' → c ≡ c' → parts_text (of_parts o a b c) ≡ parts_text (of_parts o' a' b' c')
+    texts o a b c o' a' b' c' e f g h = rw (e, f, g, h) refl
 
 same_again : (p : Parts) → same_parts p p ≡ true
 same_again p = rw (eq-eqb p.operation p.operation refl, eq-eqb p.a p.a refl, eq-eqb p.b p.b refl, eq-eqb p.c p.c refl) refl

@@ -1,10 +1,9 @@
 -- Reading one thing after the other, as a loop does.
-use Rattle.std.proofs.Common.{◌≡◌, ℕ, suc, ◌-◌, ◌+◌, ◌≤◌, ◌<◌, List, [], ◌∷◌, ◌++◌, Result, Ok, Err, Option, Some, None, refl, sym, ap, ◌∙◌, append_assoc, arith}
+use Rattle.std.proofs.Common.{◌≡◌, ℕ, suc, ◌-◌, ◌+◌, ◌≤◌, ◌<◌, List, [], ◌++◌, Ok, Err, Some, None, refl, sym, ap, ◌∙◌, append_assoc, arith}
 use Rattle.std.proofs.lemmas.List.{append-nil}
-use Rattle.code_parts.specs.declared.flaw.Flaw.{Flaw}
 use Rattle.code_parts.specs.declared.flaw.Unread.{Unread}
 use Rattle.code_parts.specs.declared.flaw.Unread.TheVariants.{Short, Memory}
-use Rattle.code_parts.specs.Reading.{Front, Reader, ◌>>=◌, behind, give, Fails, Judged, joined, put_before, several}
+use Rattle.code_parts.specs.Reading.{Front, Reader, behind, give, Fails, Judged, joined, put_before, several}
 
 -- things read so far, and further ones
 abbrev pub followed : {A : Type 0} → Judged (List A) → Judged (List A) → Judged (List A)
@@ -47,6 +46,6 @@ is_done {A} one front count i bytes total le so_far =
     let step : with_front front (several one (count - i) bytes) ≡ Some (followed front (Ok []), bytes) = rw k refl in
     sym so_far ∙ step ∙ ap (λ (xs : Judged (List A)). Some (xs, bytes)) (all_of front)
   where
-  all_of : (front : Judged (List A)) → followed front (Ok []) ≡ front
-  all_of (Ok xs) = ap (λ (ys : List A). Ok ys) (append-nil xs)
-  all_of (Err f) = refl
+    all_of : (front : Judged (List A)) → followed front (Ok []) ≡ front
+    all_of (Ok xs) = ap (λ (ys : List A). Ok ys) (append-nil xs)
+    all_of (Err f) = refl

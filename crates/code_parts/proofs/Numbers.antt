@@ -1,14 +1,13 @@
 -- Laws of the readers of numbers and texts, and of many things.
-use Rattle.std.proofs.Common.{◌≡◌, ℕ, zero, suc, ◌+◌, ◌^◌, ◌<◌, ◌≤◌, Bool, true, false, cond, ltb, List, [], ◌∷◌, ◌++◌, length, get_or, take, drop, Option, Some, None, Result, Ok, Err, refl, sym, ap, subst, ◌∙◌, append_assoc, arith}
+use Rattle.std.proofs.Common.{◌≡◌, ℕ, zero, suc, ◌^◌, ◌<◌, ◌≤◌, Bool, true, false, cond, ltb, List, [], ◌∷◌, ◌++◌, length, get_or, take, drop, Some, None, Ok, Err, refl, sym, ap, subst, ◌∙◌, append_assoc, arith}
 use Rattle.std.specs.List.{flat_map, AllByRecursion}
 use Rattle.std.specs.Int.{Width, w16, w32, w64, byte_len, from_le_bytes, to_le_bytes}
 use Rattle.std.proofs.lemmas.Bool.{cases_lt, ltb-false, le-ltb}
 use Rattle.std.proofs.lemmas.List.{take_at, drop_at, take-append-drop, length-append, length-take, get_or-take, get_or_past, take-append-le, drop-append-le}
 use Rattle.std.proofs.lemmas.Nat.{le_bytes_2, le_bytes_4, le_bytes_8, from_le_bytes-to_le_bytes_2, from_le_bytes-to_le_bytes_4, from_le_bytes-to_le_bytes_8}
-use Rattle.code_parts.specs.declared.flaw.Flaw.{Flaw}
-use Rattle.code_parts.specs.Reading.{Front, Reader, ◌>>=◌, behind, give, byte_at, bytes_at, number_at, text_at, Judged, judge, both, put_before, several, sure, pair_at, made_at, counted_at, by_byte}
+use Rattle.code_parts.specs.Reading.{Front, Reader, ◌>>=◌, give, byte_at, bytes_at, number_at, text_at, Judged, put_before, several, sure, counted_at}
 use Rattle.code_parts.specs.Laws.{AreBytes, IsSteady, Spells}
-use Rattle.code_parts.proofs.Combine.{some_is, ok_is, done, given, are_left, behind_some, byte_takes, steady_then, steady_give, steady_byte, byte_spells}
+use Rattle.code_parts.proofs.Combine.{ok_is, done, given, are_left, behind_some, byte_takes, steady_then, steady_give, steady_byte}
 use Rattle.std.proofs.Common.{inl, inr}
 
 -- ---- numbers
@@ -72,26 +71,26 @@ front_of {A} f n bytes rest x e =
 pub steady_number : (w : Width) → IsSteady (number_at w)
 steady_number w = record { stays = λ bytes more rest x e. more_behind bytes more rest x (front_of (from_le_bytes w) (byte_len w) bytes rest x e) }
   where
-  more_behind : (bytes more rest : List ℕ) (x : ℕ) → IsFront (byte_len w) bytes (take (byte_len w) bytes) rest × (from_le_bytes w (take (byte_len w) bytes) ≡ x) → number_at w (bytes ++ more) ≡ Some (x, rest ++ more)
-  more_behind bytes more rest x h =
-      let long : byte_len w ≤ length bytes = h.0.long in
-      let still : ltb (length (bytes ++ more)) (byte_len w) ≡ false = le-ltb _ _ (omega (arith, length-append bytes more)) in
-      rw (still, take-append-le (byte_len w) bytes more long, drop-append-le (byte_len w) bytes more long, h.1, h.0.rest_is) refl
+    more_behind : (bytes more rest : List ℕ) (x : ℕ) → IsFront (byte_len w) bytes (take (byte_len w) bytes) rest × (from_le_bytes w (take (byte_len w) bytes) ≡ x) → number_at w (bytes ++ more) ≡ Some (x, rest ++ more)
+    more_behind bytes more rest x h =
+        let long : byte_len w ≤ length bytes = h.0.long in
+        let still : ltb (length (bytes ++ more)) (byte_len w) ≡ false = le-ltb _ _ (omega (arith, length-append bytes more)) in
+        rw (still, take-append-le (byte_len w) bytes more long, drop-append-le (byte_len w) bytes more long, h.1, h.0.rest_is) refl
 
 pub number_spells : (w : Width) (limit : ℕ) → IsWide w limit → Spells (sure (number_at w)) (to_le_bytes w) (λ n. n < limit) (λ n. n < limit)
 number_spells w limit wide = record {
   again = λ n rest lt.
-  let len = wide.len n in
-  let long : ltb (length (to_le_bytes w n ++ rest)) (byte_len w) ≡ false = le-ltb _ _ (omega (arith, length-append (to_le_bytes w n) rest)) in
-  rw (long, take_at (to_le_bytes w n) rest (byte_len w) len, drop_at (to_le_bytes w n) rest (byte_len w) len, wide.again n lt) refl;
+      let len = wide.len n in
+      let long : ltb (length (to_le_bytes w n ++ rest)) (byte_len w) ≡ false = le-ltb _ _ (omega (arith, length-append (to_le_bytes w n) rest)) in
+      rw (long, take_at (to_le_bytes w n) rest (byte_len w) len, drop_at (to_le_bytes w n) rest (byte_len w) len, wide.again n lt) refl;
   takes = λ bytes rest n fit e.
-  let a = behind_some (number_at w bytes) (λ x. give (Ok x)) (Ok n, rest) e in
-  let end = given (done a.0.0) (done n) a.0.1 rest a.2 in
-  let is : a.0.0 ≡ n = ok_is a.0.0 n end.0 in
-  let f = front_of (from_le_bytes w) (byte_len w) bytes a.0.1 a.0.0 a.1 in
-  let text : to_le_bytes w n ≡ take (byte_len w) bytes = ap (to_le_bytes w) (sym (f.1 ∙ is)) ∙ wide.back (take (byte_len w) bytes) (omega (arith, length-take (byte_len w) bytes, f.0.long)) (AreBytes-take (byte_len w) bytes fit) in
-  let small : n < limit = subst (λ (m : ℕ). m < limit) (f.1 ∙ is) (wide.below (take (byte_len w) bytes) (AreBytes-take (byte_len w) bytes fit)) in
-  (parts_of (byte_len w) bytes (take (byte_len w) bytes) a.0.1 f.0 ∙ ap (λ (l : List ℕ). l ++ a.0.1) (sym text) ∙ ap (λ (l : List ℕ). to_le_bytes w n ++ l) end.1, small);
+      let a = behind_some (number_at w bytes) (λ x. give (Ok x)) (Ok n, rest) e in
+      let end = given (done a.0.0) (done n) a.0.1 rest a.2 in
+      let is : a.0.0 ≡ n = ok_is a.0.0 n end.0 in
+      let f = front_of (from_le_bytes w) (byte_len w) bytes a.0.1 a.0.0 a.1 in
+      let text : to_le_bytes w n ≡ take (byte_len w) bytes = ap (to_le_bytes w) (sym (f.1 ∙ is)) ∙ wide.back (take (byte_len w) bytes) (omega (arith, length-take (byte_len w) bytes, f.0.long)) (AreBytes-take (byte_len w) bytes fit) in
+      let small : n < limit = subst (λ (m : ℕ). m < limit) (f.1 ∙ is) (wide.below (take (byte_len w) bytes) (AreBytes-take (byte_len w) bytes fit)) in
+      (parts_of (byte_len w) bytes (take (byte_len w) bytes) a.0.1 f.0 ∙ ap (λ (l : List ℕ). l ++ a.0.1) (sym text) ∙ ap (λ (l : List ℕ). to_le_bytes w n ++ l) end.1, small);
   steady = steady_then (steady_number w) (λ x. steady_give (Ok x));
 }
 
@@ -109,11 +108,11 @@ eight_spells = number_spells w64 (2 ^ 64) wide64
 steady_bytes : (n : ℕ) → IsSteady (bytes_at n)
 steady_bytes n = record { stays = λ bytes more rest x e. more_behind bytes more rest x (front_of (λ (l : List ℕ). l) n bytes rest x e) }
   where
-  more_behind : (bytes more rest x : List ℕ) → IsFront n bytes (take n bytes) rest × (take n bytes ≡ x) → bytes_at n (bytes ++ more) ≡ Some (x, rest ++ more)
-  more_behind bytes more rest x h =
-      let long : n ≤ length bytes = h.0.long in
-      let still : ltb (length (bytes ++ more)) n ≡ false = le-ltb _ _ (omega (arith, length-append bytes more)) in
-      rw (still, take-append-le n bytes more long, drop-append-le n bytes more long, h.1, h.0.rest_is) refl
+    more_behind : (bytes more rest x : List ℕ) → IsFront n bytes (take n bytes) rest × (take n bytes ≡ x) → bytes_at n (bytes ++ more) ≡ Some (x, rest ++ more)
+    more_behind bytes more rest x h =
+        let long : n ≤ length bytes = h.0.long in
+        let still : ltb (length (bytes ++ more)) n ≡ false = le-ltb _ _ (omega (arith, length-append bytes more)) in
+        rw (still, take-append-le n bytes more long, drop-append-le n bytes more long, h.1, h.0.rest_is) refl
 
 each_byte : (bytes : List ℕ) → AreBytes bytes → AllByRecursion (λ byte. byte < 256) bytes
 each_byte [] fits = tt
@@ -122,24 +121,24 @@ each_byte (b ∷ bytes) fits = (fits 0, each_byte bytes (λ i. fits (suc i)))
 pub text_spells : Spells (sure text_at) (λ xs. length xs ∷ xs) (λ xs. Unit {0}) (λ xs. (length xs < 256) × AllByRecursion (λ byte. byte < 256) xs)
 text_spells = record {
   again = λ xs rest h.
-  let long : ltb (length (xs ++ rest)) (length xs) ≡ false = le-ltb _ _ (omega (arith, length-append xs rest)) in
-  rw (long, take_at xs rest (length xs) refl, drop_at xs rest (length xs) refl) refl;
+      let long : ltb (length (xs ++ rest)) (length xs) ≡ false = le-ltb _ _ (omega (arith, length-append xs rest)) in
+      rw (long, take_at xs rest (length xs) refl, drop_at xs rest (length xs) refl) refl;
   takes = λ bytes rest xs fit e.
-  let a = behind_some (text_at bytes) (λ x. give (Ok x)) (Ok xs, rest) e in
-  let end = given (done a.0.0) (done xs) a.0.1 rest a.2 in
-  let is : a.0.0 ≡ xs = ok_is a.0.0 xs end.0 in
-  let b = behind_some (byte_at bytes) bytes_at a.0 a.1 in
-  let start = byte_takes bytes b.0 b.1 in
-  let f = front_of (λ (l : List ℕ). l) b.0.0 b.0.1 a.0.1 a.0.0 b.2 in
-  let n_is : b.0.0 ≡ length xs = counts b.0.0 b.0.1 xs f.0.long (f.1 ∙ is) in
-  let small : b.0.0 < 256 = rw (ap (λ (l : List ℕ). get_or l 0 0) start) at (fit 0) in
-  let parts : b.0.1 ≡ xs ++ rest = parts_of b.0.0 b.0.1 (take b.0.0 b.0.1) a.0.1 f.0 ∙ ap (λ (l : List ℕ). l ++ a.0.1) (f.1 ∙ is) ∙ ap (λ (l : List ℕ). xs ++ l) end.1 in
-  (start ∙ ap (λ (n : ℕ). n ∷ b.0.1) n_is ∙ ap (λ (l : List ℕ). length xs ∷ l) parts, (subst (λ (n : ℕ). n < 256) n_is small, each_byte xs (subst (λ (l : List ℕ). AreBytes l) (f.1 ∙ is) (AreBytes-take b.0.0 b.0.1 (are_left bytes (b.0.0 ∷ []) b.0.1 start fit)))));
+      let a = behind_some (text_at bytes) (λ x. give (Ok x)) (Ok xs, rest) e in
+      let end = given (done a.0.0) (done xs) a.0.1 rest a.2 in
+      let is : a.0.0 ≡ xs = ok_is a.0.0 xs end.0 in
+      let b = behind_some (byte_at bytes) bytes_at a.0 a.1 in
+      let start = byte_takes bytes b.0 b.1 in
+      let f = front_of (λ (l : List ℕ). l) b.0.0 b.0.1 a.0.1 a.0.0 b.2 in
+      let n_is : b.0.0 ≡ length xs = counts b.0.0 b.0.1 xs f.0.long (f.1 ∙ is) in
+      let small : b.0.0 < 256 = rw (ap (λ (l : List ℕ). get_or l 0 0) start) at (fit 0) in
+      let parts : b.0.1 ≡ xs ++ rest = parts_of b.0.0 b.0.1 (take b.0.0 b.0.1) a.0.1 f.0 ∙ ap (λ (l : List ℕ). l ++ a.0.1) (f.1 ∙ is) ∙ ap (λ (l : List ℕ). xs ++ l) end.1 in
+      (start ∙ ap (λ (n : ℕ). n ∷ b.0.1) n_is ∙ ap (λ (l : List ℕ). length xs ∷ l) parts, (subst (λ (n : ℕ). n < 256) n_is small, each_byte xs (subst (λ (l : List ℕ). AreBytes l) (f.1 ∙ is) (AreBytes-take b.0.0 b.0.1 (are_left bytes (b.0.0 ∷ []) b.0.1 start fit)))));
   steady = steady_then (steady_then steady_byte steady_bytes) (λ x. steady_give (Ok x));
 }
   where
-  counts : (n : ℕ) (from xs : List ℕ) → n ≤ length from → take n from ≡ xs → n ≡ length xs
-  counts n from xs long e = let len : length (take n from) ≡ length xs = ap (λ (l : List ℕ). length l) e in omega (arith, length-take n from)
+    counts : (n : ℕ) (from xs : List ℕ) → n ≤ length from → take n from ≡ xs → n ≡ length xs
+    counts n from xs long e = let len : length (take n from) ≡ length xs = ap (λ (l : List ℕ). length l) e in omega (arith, length-take n from)
 
 -- ---- many things
 
@@ -191,10 +190,10 @@ pub counted_spells : {A : Type 0} {one : Reader (Judged A)} {text : A → List �
 counted_spells {A} {one} {text} {P} {G} law = record {
   again = λ xs rest h. several_again law xs rest h;
   takes = λ bytes rest xs fit e.
-  let a = behind_some (byte_at bytes) (several one) (Ok xs, rest) e in
-  let start = byte_takes bytes a.0 a.1 in
-  let small : a.0.0 < 256 = rw (ap (λ (l : List ℕ). get_or l 0 0) start) at (fit 0) in
-  let is = several_takes law a.0.0 a.0.1 rest xs (are_left bytes (a.0.0 ∷ []) a.0.1 start fit) a.2 in
-  (start ∙ ap (λ (n : ℕ). n ∷ a.0.1) (sym is.1) ∙ ap (λ (l : List ℕ). length xs ∷ l) is.0, (subst (λ (n : ℕ). n < 256) (sym is.1) small, is.2));
+      let a = behind_some (byte_at bytes) (several one) (Ok xs, rest) e in
+      let start = byte_takes bytes a.0 a.1 in
+      let small : a.0.0 < 256 = rw (ap (λ (l : List ℕ). get_or l 0 0) start) at (fit 0) in
+      let is = several_takes law a.0.0 a.0.1 rest xs (are_left bytes (a.0.0 ∷ []) a.0.1 start fit) a.2 in
+      (start ∙ ap (λ (n : ℕ). n ∷ a.0.1) (sym is.1) ∙ ap (λ (l : List ℕ). length xs ∷ l) is.0, (subst (λ (n : ℕ). n < 256) (sym is.1) small, is.2));
   steady = steady_then steady_byte (steady_several law.steady);
 }

@@ -1,7 +1,6 @@
 -- Laws of the readers of kinds, tables, indexes and lists.
-use Rattle.std.proofs.Common.{inl, inr, ◌≡◌, ℕ, ◌≤◌, Bool, true, false, eqb, leb, List, [], ◌∷◌, ◌++◌, length, Option, Some, None, Result, Ok, Err, refl, sym, ap, subst, ◌∙◌}
-use Rattle.std.specs.List.{AllByRecursion}
-use Rattle.std.proofs.lemmas.Bool.{eqb-true, leb-true, le-leb}
+use Rattle.std.proofs.Common.{inl, inr, ◌≡◌, ℕ, Bool, eqb, leb, [], ◌∷◌, ◌++◌, length, Option, Some, None, Ok, refl, ap, ◌∙◌}
+use Rattle.std.proofs.lemmas.Bool.{eqb-true, le-leb}
 use Rattle.arrayvec.specs.ArrayVec.{ArrayVec}
 use Rattle.xvalue.specs.declared.kind.Kind.{Kind}
 use Rattle.xvalue.specs.declared.kind.Kind.TheVariants.{Number as OfNumber, Text as OfText, Date as OfDate, Logical as OfLogical}
@@ -13,10 +12,9 @@ use Rattle.shape.specs.declared.parts.KeyPart.{KeyPart}
 use Rattle.shape.specs.declared.indexes.IndexShape.{IndexShape}
 use Rattle.shape.specs.declared.lists.IndexList.{IndexList}
 use Rattle.code_parts.specs.declared.flaw.Flaw.TheVariants.{Shape}
-use Rattle.code_parts.specs.Reading.{Judged}
 use Rattle.code_parts.specs.Laws.{Spells, Any, HasName, FieldFits, TableFits, IndexFits, ListFits}
 use Rattle.code_parts.specs.Texts.{kind_number, slot_number, truth_number, kind_text, slot_text, name_text, field_text, table_text, part_text, index_text, list_text}
-use Rattle.code_parts.specs.Items.{wanted, there, kind_of_byte, kind_from, slot_from, truth_of_byte, kind_at, slot_at, name_from, name_at, field_from, field_at, table_at, part_from, part_at, index_from, index_at, list_from, list_at}
+use Rattle.code_parts.specs.Items.{there, kind_of_byte, kind_from, slot_from, truth_of_byte, kind_at, slot_at, name_from, name_at, field_from, field_at, table_at, part_from, part_at, index_from, index_at, list_from, list_at}
 use Rattle.code_parts.proofs.Combine.{done, ok_is, pair_spells, made_spells, byte_spells}
 use Rattle.code_parts.proofs.Numbers.{text_spells, counted_spells}
 use Rattle.code_parts.proofs.Choices.{all_any, chosen, wanted_ok, there_ok, kind_was, kind_is, truth_was, truth_is, letter_was, letter_is}

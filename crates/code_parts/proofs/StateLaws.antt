@@ -1,16 +1,14 @@
 -- Laws of the readers of filters, states, procedures and maps.
-use Rattle.std.proofs.Common.{inl, inr, ◌≡◌, ℕ, zero, suc, ◌+◌, ◌-◌, ◌^◌, ◌<◌, ◌≤◌, Bool, true, false, eqb, leb, List, [], ◌∷◌, ◌++◌, length, reverse, Option, Some, None, Result, Ok, Err, refl, sym, ap, subst, ◌∙◌, append_assoc, arith}
+use Rattle.std.proofs.Common.{◌≡◌, ℕ, zero, suc, ◌+◌, ◌-◌, ◌^◌, ◌<◌, ◌≤◌, true, false, eqb, leb, List, [], ◌∷◌, ◌++◌, length, reverse, Option, Some, Ok, refl, sym, ap, subst, ◌∙◌, append_assoc, arith}
 use Rattle.std.specs.Prelude.{◌&&◌}
-use Rattle.std.specs.Int.{w16, to_le_bytes}
-use Rattle.std.specs.List.{flat_map, AllByRecursion}
-use Rattle.std.proofs.lemmas.Bool.{eqb-true, leb-true, le-leb}
+use Rattle.std.specs.Int.{w16}
+use Rattle.std.specs.List.{flat_map}
+use Rattle.std.proofs.lemmas.Bool.{eqb-true, le-leb}
 use Rattle.std.proofs.lemmas.List.{reverse-reverse, length-reverse}
-use Rattle.std.proofs.Math.Dec.{eqb-suc-zero}
 use Rattle.xvalue.specs.declared.kind.Kind.{Kind}
 use Rattle.code_items.specs.declared.declared.Version.{Version}
 use Rattle.code_items.specs.declared.declared.Need.{Need}
 use Rattle.code_items.specs.declared.declared.Filter.{Filter}
-use Rattle.code_items.specs.declared.desk.OpenArea.{OpenArea}
 use Rattle.code_items.specs.declared.desk.AreaState.{AreaState}
 use Rattle.code_items.specs.declared.desk.AreaState.TheVariants.{Closed, Open, Unsure}
 use Rattle.code_items.specs.declared.state.State.{State}
@@ -19,12 +17,12 @@ use Rattle.code_items.specs.declared.code.Map.{Map}
 use Rattle.code_items.specs.States.{may_be_unsure}
 use Rattle.code_parts.specs.declared.flaw.Flaw.TheVariants.{Shape, Limit}
 use Rattle.code_parts.specs.Reading.{Front, Reader, ◌>>=◌, behind, Judged, give, number_at, several, sure, byte_at, made_at}
-use Rattle.code_parts.specs.Laws.{AreBytes, IsSteady, Spells, Any, FilterFits, AreaFits, StateFits, ProcedureFits, MapFits}
+use Rattle.code_parts.specs.Laws.{Spells, Any, FilterFits, AreaFits, StateFits, ProcedureFits, MapFits}
 use Rattle.code_parts.specs.Texts.{two, kind_number, kind_text, slot_text, need_text, filter_text, area_number, open_text, area_text, state_text, procedure_text, map_text}
-use Rattle.code_parts.specs.Items.{wanted, there, kind_of_byte, need_from, need_at, needs_at, filter_at, open_from, open_at, area_behind, area_at, state_from, state_at, level_from, procedure_at, map_at}
-use Rattle.code_parts.proofs.Combine.{behind_some, given, are_left, done, ok_is, steady_then, steady_give, pair_spells, made_spells, byte_spells, choice_spells, flawed_spells}
+use Rattle.code_parts.specs.Items.{kind_of_byte, need_from, need_at, needs_at, filter_at, open_from, open_at, area_behind, area_at, state_from, state_at, level_from, procedure_at, map_at}
+use Rattle.code_parts.proofs.Combine.{behind_some, given, are_left, done, ok_is, steady_then, steady_give, pair_spells, made_spells, byte_spells, choice_spells}
 use Rattle.code_parts.proofs.Numbers.{steady_number, steady_several, several_spells, counted_spells, two_spells}
-use Rattle.code_parts.proofs.Choices.{all_any, chosen, both_true, wanted_ok, there_ok, kind_was, kind_is, if_spells}
+use Rattle.code_parts.proofs.Choices.{all_any, both_true, wanted_ok, there_ok, kind_was, kind_is, if_spells}
 use Rattle.code_parts.proofs.ShapeLaws.{kind_spells, slot_spells}
 
 -- ---- filters
@@ -56,15 +54,15 @@ needs_spells : Spells needs_at needs_text (λ needs. length needs < 2 ^ 16) Any
 unfolding needs_at
 needs_spells = record {
   again = λ needs rest h.
-  let count : number_at w16 (two (length needs) ++ (flat_map need_text needs ++ rest)) ≡ Some (length needs, flat_map need_text needs ++ rest) =
-  surely (number_at w16) (two (length needs) ++ (flat_map need_text needs ++ rest)) (flat_map need_text needs ++ rest) (length needs) (two_spells.again (length needs) (flat_map need_text needs ++ rest) h) in
-  let all : several need_at (length needs) (flat_map need_text needs ++ rest) ≡ Some (Ok needs, rest) = (several_spells need_spells (length needs)).again needs rest (refl, all_any needs) in
-  ap (number_at w16 >>= several need_at) (append_assoc (two (length needs)) (flat_map need_text needs) rest) ∙ ap (λ (front : Front ℕ). behind front (several need_at)) count ∙ all;
+      let count : number_at w16 (two (length needs) ++ (flat_map need_text needs ++ rest)) ≡ Some (length needs, flat_map need_text needs ++ rest) =
+      surely (number_at w16) (two (length needs) ++ (flat_map need_text needs ++ rest)) (flat_map need_text needs ++ rest) (length needs) (two_spells.again (length needs) (flat_map need_text needs ++ rest) h) in
+      let all : several need_at (length needs) (flat_map need_text needs ++ rest) ≡ Some (Ok needs, rest) = (several_spells need_spells (length needs)).again needs rest (refl, all_any needs) in
+      ap (number_at w16 >>= several need_at) (append_assoc (two (length needs)) (flat_map need_text needs) rest) ∙ ap (λ (front : Front ℕ). behind front (several need_at)) count ∙ all;
   takes = λ bytes rest needs fit e.
-  let a = behind_some (number_at w16 bytes) (several need_at) (Ok needs, rest) e in
-  let count = two_spells.takes bytes a.0.1 a.0.0 fit (and_surely (number_at w16) bytes a.0.1 a.0.0 a.1) in
-  let all = (several_spells need_spells a.0.0).takes a.0.1 rest needs (are_left bytes (two a.0.0) a.0.1 count.0 fit) a.2 in
-  (count.0 ∙ ap (λ (n : ℕ). two n ++ a.0.1) (sym all.1.0) ∙ ap (λ (l : List ℕ). two (length needs) ++ l) all.0 ∙ sym (append_assoc (two (length needs)) (flat_map need_text needs) rest), tt);
+      let a = behind_some (number_at w16 bytes) (several need_at) (Ok needs, rest) e in
+      let count = two_spells.takes bytes a.0.1 a.0.0 fit (and_surely (number_at w16) bytes a.0.1 a.0.0 a.1) in
+      let all = (several_spells need_spells a.0.0).takes a.0.1 rest needs (are_left bytes (two a.0.0) a.0.1 count.0 fit) a.2 in
+      (count.0 ∙ ap (λ (n : ℕ). two n ++ a.0.1) (sym all.1.0) ∙ ap (λ (l : List ℕ). two (length needs) ++ l) all.0 ∙ sym (append_assoc (two (length needs)) (flat_map need_text needs) rest), tt);
   steady = steady_then (steady_number w16) (steady_several need_spells.steady);
 }
 
@@ -84,32 +82,32 @@ closed_spells : (version : Version) → Spells (give (Ok Closed)) open_text (Num
 closed_spells version = record {
   again = λ area rest h. closed_again area rest h.1;
   takes = λ bytes rest area fit e.
-  let end = given (done Closed) (done area) bytes rest e in
-  subst (λ (x : AreaState). (bytes ≡ open_text x ++ rest) × (Unit {0} × (area_number x ≡ 0))) (ok_is Closed area end.0) (end.1, (tt, refl));
+      let end = given (done Closed) (done area) bytes rest e in
+      subst (λ (x : AreaState). (bytes ≡ open_text x ++ rest) × (Unit {0} × (area_number x ≡ 0))) (ok_is Closed area end.0) (end.1, (tt, refl));
   steady = steady_give (Ok Closed);
 }
   where
-  closed_again : (area : AreaState) (rest : List ℕ) → area_number area ≡ 0 → give {A = Judged AreaState} (Ok Closed) (open_text area ++ rest) ≡ Some (Ok area, rest)
-  closed_again Closed rest h = refl
-  closed_again (Open a) rest h = absurd (let e : a.table + 1 ≡ 0 = h in omega arith)
-  closed_again Unsure rest h = absurd (let e : 255 ≡ 0 = h in omega arith)
+    closed_again : (area : AreaState) (rest : List ℕ) → area_number area ≡ 0 → give {A = Judged AreaState} (Ok Closed) (open_text area ++ rest) ≡ Some (Ok area, rest)
+    closed_again Closed rest h = refl
+    closed_again (Open a) rest h = absurd (let e : a.table + 1 ≡ 0 = h in omega arith)
+    closed_again Unsure rest h = absurd (let e : 255 ≡ 0 = h in omega arith)
 
 unsure_spells : (version : Version) → may_be_unsure version ≡ true → Spells (give (Ok Unsure)) open_text (Numbered version 255) (λ area. Unit {0} × (area_number area ≡ 255))
 unsure_spells version may = record {
   again = λ area rest h. unsure_again area rest h;
   takes = λ bytes rest area fit e.
-  let end = given (done Unsure) (done area) bytes rest e in
-  subst (λ (x : AreaState). (bytes ≡ open_text x ++ rest) × (Unit {0} × (area_number x ≡ 255))) (ok_is Unsure area end.0) (end.1, (tt, refl));
+      let end = given (done Unsure) (done area) bytes rest e in
+      subst (λ (x : AreaState). (bytes ≡ open_text x ++ rest) × (Unit {0} × (area_number x ≡ 255))) (ok_is Unsure area end.0) (end.1, (tt, refl));
   steady = steady_give (Ok Unsure);
 }
   where
-  unsure_again : (area : AreaState) (rest : List ℕ) → Numbered version 255 area → give {A = Judged AreaState} (Ok Unsure) (open_text area ++ rest) ≡ Some (Ok area, rest)
-  unsure_again Closed rest h = absurd (let e : 0 ≡ 255 = h.1 in omega arith)
-  unsure_again (Open a) rest h = absurd (
-    let open_is : (eqb (a.table + 1) 255 && may_be_unsure version) ≡ false = h.0 in
-    let e : (eqb 255 255 && may_be_unsure version) ≡ false = subst (λ (n : ℕ). (eqb n 255 && may_be_unsure version) ≡ false) h.1 open_is in
-    let f : true ≡ false = rw may at e in cc)
-  unsure_again Unsure rest h = refl
+    unsure_again : (area : AreaState) (rest : List ℕ) → Numbered version 255 area → give {A = Judged AreaState} (Ok Unsure) (open_text area ++ rest) ≡ Some (Ok area, rest)
+    unsure_again Closed rest h = absurd (let e : 0 ≡ 255 = h.1 in omega arith)
+    unsure_again (Open a) rest h = absurd (
+        let open_is : (eqb (a.table + 1) 255 && may_be_unsure version) ≡ false = h.0 in
+        let e : (eqb 255 255 && may_be_unsure version) ≡ false = subst (λ (n : ℕ). (eqb n 255 && may_be_unsure version) ≡ false) h.1 open_is in
+        let f : true ≡ false = rw may at e in cc)
+    unsure_again Unsure rest h = refl
 
 -- what an open area of this number was read from
 abbrev FromParts : ℕ → AreaState → Type 0
@@ -123,19 +121,20 @@ open_spells version b some known = made_spells (pair_spells byte_spells (pair_sp
     subst (λ (x : AreaState). (p.0 ∷ p.1.0 ∷ p.1.1 ∷ [] ≡ open_text x) × (Unit {0} × (area_number x ≡ b))) (ok_is made area e) (refl, (tt, up b some)))
     (λ area h. parts_of_area area h)
   where
-  up : (n : ℕ) → eqb n 0 ≡ false → n - 1 + 1 ≡ n
-  up zero e = absurd cc
-  up (suc n) e = omega arith
-  parts_of_area : (area : AreaState) → Numbered version b area → FromParts b area
-  parts_of_area Closed h = absurd (let e : eqb b 0 ≡ true = rw (← h.1) refl in cc)
-  parts_of_area (Open a) h =
-      let table : b - 1 ≡ a.table = (let e : a.table + 1 ≡ b = h.1 in omega arith) in
-      let same : open_from b a.list a.order a.filter ≡ Open a = ap (λ (n : ℕ). Open (record { table = n; list = a.list; order = a.order; filter = a.filter })) table in
-      ((a.list, (a.order, a.filter)), (tt, (tt, tt)), ap (λ (x : AreaState). done x) same, refl)
-  parts_of_area Unsure h = absurd (
-    let e : (eqb 255 255 && may_be_unsure version) ≡ false = subst (λ (n : ℕ). (eqb n 255 && may_be_unsure version) ≡ false) (sym h.1) known in
-    let may : may_be_unsure version ≡ true = h.0 in
-    let f : true ≡ false = rw may at e in cc)
+    up : (n : ℕ) → eqb n 0 ≡ false → n - 1 + 1 ≡ n
+    up zero e = absurd cc
+    up (suc n) e = omega arith
+
+    parts_of_area : (area : AreaState) → Numbered version b area → FromParts b area
+    parts_of_area Closed h = absurd (let e : eqb b 0 ≡ true = rw (← h.1) refl in cc)
+    parts_of_area (Open a) h =
+        let table : b - 1 ≡ a.table = (let e : a.table + 1 ≡ b = h.1 in omega arith) in
+        let same : open_from b a.list a.order a.filter ≡ Open a = ap (λ (n : ℕ). Open (record { table = n; list = a.list; order = a.order; filter = a.filter })) table in
+        ((a.list, (a.order, a.filter)), (tt, (tt, tt)), ap (λ (x : AreaState). done x) same, refl)
+    parts_of_area Unsure h = absurd (
+        let e : (eqb 255 255 && may_be_unsure version) ≡ false = subst (λ (n : ℕ). (eqb n 255 && may_be_unsure version) ≡ false) (sym h.1) known in
+        let may : may_be_unsure version ≡ true = h.0 in
+        let f : true ≡ false = rw may at e in cc)
 
 area_spells : (version : Version) → Spells (area_at version) area_text (AreaFits version) Any
 unfolding area_at

@@ -1,9 +1,8 @@
 -- The bytes of instructions, and reading them.
-use Rattle.std.specs.Prelude.{◌≡◌, ℕ, List, ◌∷◌, ◌++◌, Bool, true, false, ◌&&◌, ◌==◌, nat_lt, if◌then◌else◌, Option, Some, None, option_map}
+use Rattle.std.specs.Prelude.{ℕ, List, ◌∷◌, ◌++◌, Bool, ◌&&◌, ◌==◌, nat_lt, if◌then◌else◌, Option, Some, None, option_map}
 use Rattle.std.specs.Option.{option_and_then}
 use Rattle.std.specs.Int.{w16, w32, to_le_bytes}
 use Rattle.xvalue.specs.declared.kind.Kind.{Kind}
-use Rattle.xvalue.specs.declared.fun.Fun.{Fun}
 use Rattle.xvalue.specs.Signature.{number_of, numbered}
 use Rattle.code_items.specs.declared.declared.Version.{Version}
 use Rattle.xvalue.specs.declared.settings.Setting.{Setting}

@@ -1,6 +1,6 @@
 -- Reading each item: what its bytes say, or its first flaw. What an item says of others, as a list of its indexes, isn't
 -- judged here.
-use Rattle.std.specs.Prelude.{◌≡◌, ℕ, ◌+◌, ◌-◌, ◌^◌, List, [], length, reverse, Bool, true, false, ◌&&◌, ◌||◌, ◌==◌, nat_lt, nat_le, if◌then◌else◌, Option, Some, None, Result, Ok, Err}
+use Rattle.std.specs.Prelude.{ℕ, ◌-◌, ◌^◌, List, length, reverse, Bool, true, false, ◌&&◌, ◌||◌, ◌==◌, nat_lt, nat_le, if◌then◌else◌, Option, Some, None, Ok, Err}
 use Rattle.std.specs.Int.{w16, w64}
 use Rattle.arrayvec.specs.ArrayVec.{ArrayVec}
 use Rattle.xvalue.specs.declared.kind.Kind.{Kind}
@@ -10,7 +10,6 @@ use Rattle.xvalue.specs.Calendar.{is_day}
 use Rattle.xvalue.specs.declared.value.Value.{Value}
 use Rattle.xvalue.specs.declared.value.Value.TheVariants.{Number, Text, Date, Logical}
 use Rattle.fixed_num.specs.Number.{finite, signed}
-use Rattle.dbf_file.specs.declared.field.Letter.{Letter}
 use Rattle.dbf_file.specs.declared.field.Field.{Field}
 use Rattle.dbf_file.specs.Fields.{letter_of}
 use Rattle.shape.specs.declared.tables.TableShape.{TableShape}
@@ -27,8 +26,8 @@ use Rattle.code_items.specs.declared.code.Proc.{Proc}
 use Rattle.code_items.specs.declared.code.Map.{Map}
 use Rattle.code_items.specs.States.{may_be_unsure}
 use Rattle.code_parts.specs.declared.flaw.Flaw.{Flaw}
-use Rattle.code_parts.specs.declared.flaw.Flaw.TheVariants.{Limit, Operation, Shape}
-use Rattle.code_parts.specs.Reading.{Reader, ◌>>=◌, give, byte_at, number_at, text_at, Judged, judge, both, several, sure, pair_at, made_at, counted_at, by_byte}
+use Rattle.code_parts.specs.declared.flaw.Flaw.TheVariants.{Limit, Shape}
+use Rattle.code_parts.specs.Reading.{Reader, ◌>>=◌, give, byte_at, number_at, text_at, Judged, several, sure, pair_at, made_at, counted_at, by_byte}
 
 -- this flaw, unless the test holds
 abbrev pub wanted : {A : Type 0} → Flaw → Bool → A → Judged A

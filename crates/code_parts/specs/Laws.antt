@@ -1,5 +1,5 @@
 -- What holds of the reader of an item whose texts are known.
-use Rattle.std.specs.Prelude.{◌≡◌, ◌<◌, ◌≤◌, ℕ, List, ◌++◌, ◌+◌, ◌^◌, length, slice_index, Bool, true, false, ◌&&◌, ◌==◌, Option, Some, Result, Ok}
+use Rattle.std.specs.Prelude.{◌≡◌, ◌<◌, ◌≤◌, ℕ, List, ◌++◌, ◌+◌, ◌^◌, length, slice_index, true, false, ◌&&◌, ◌==◌, Some, Ok}
 use Rattle.std.specs.List.{AllByRecursion}
 use Rattle.arrayvec.specs.ArrayVec.{ArrayVec}
 use Rattle.dbf_file.specs.declared.field.Field.{Field}

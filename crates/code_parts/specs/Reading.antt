@@ -1,5 +1,5 @@
 -- Reading at the front of bytes: what stands there and the bytes behind it, or none where bytes of it are missing.
-use Rattle.std.specs.Prelude.{◌≡◌, ℕ, zero, suc, List, [], ◌∷◌, ◌++◌, length, take, drop, Bool, nat_lt, if◌then◌else◌, Option, Some, None, Result, Ok, Err}
+use Rattle.std.specs.Prelude.{◌≡◌, ℕ, zero, suc, List, [], ◌∷◌, ◌++◌, length, take, drop, nat_lt, if◌then◌else◌, Option, Some, None, Result, Ok, Err}
 use Rattle.std.specs.Global.{Vec}
 use Rattle.std.specs.Int.{Width, byte_len, from_le_bytes}
 use Rattle.code_parts.specs.declared.flaw.Flaw.{Flaw}

@@ -43,10 +43,7 @@ impl Reads for Needs {
 }
 
 #[tactic(auto, unfolding(crate::specs::Items::needs_at))]
-fn needs_of(
-    alloc: Global,
-    bytes: &[u8],
-) -> Result<(Result<Vec<Need>, Flaw>, &[u8]), Unread>
+fn needs_of(alloc: Global, bytes: &[u8]) -> Result<(Result<Vec<Need>, Flaw>, &[u8]), Unread>
     ensures { Gives (λ x. (in_list x.0, x.1.now)) result (needs_at bytes.now) }
 {
     let (count, rest) = two_of(bytes)?;

@@ -10,8 +10,8 @@ use crate::kinds::kind_of_number;
 use crate::operands::{Parts, are_same, parts_of_instr};
 use crate::several::Reads;
 use code_items::{
-    AreaInstr, FlowInstr, Instr, MoveInstr, Question, RecordInstr, ScreenInstr, Setting, ValueInstr,
-    Version,
+    AreaInstr, FlowInstr, Instr, MoveInstr, Question, RecordInstr, ScreenInstr, Setting,
+    ValueInstr, Version,
 };
 use std::alloc::Global;
 use xvalue::Fun;

@@ -60,10 +60,7 @@ impl Reads for Procedures {
         let (level, rest) = byte_of(rest)?;
         let (entry, rest) = self.states.read(alloc, rest)?;
         let (exit, rest) = self.states.read(alloc, rest)?;
-        Ok((
-            procedure_from(length, level_from(level), entry, exit),
-            rest,
-        ))
+        Ok((procedure_from(length, level_from(level), entry, exit), rest))
     }
 }
 

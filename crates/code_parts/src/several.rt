@@ -16,12 +16,19 @@ pub trait Reads {
     ghost at: { Self → List ℕ → Option (Result Self.Thing OneFlaw × List ℕ) };
 
     /// The thing at the front, or its first flaw, and the bytes behind it. `Short` is told where bytes of it are missing.
-    fn read<'a>(&self, alloc: Global, bytes: &'a [u8]) -> Result<(Result<Self::Thing, Flaw>, &'a [u8]), Unread>
+    fn read<'a>(
+        &self,
+        alloc: Global,
+        bytes: &'a [u8],
+    ) -> Result<(Result<Self::Thing, Flaw>, &'a [u8]), Unread>
         ensures { Gives (λ x. (x.0, x.1.now)) result (at self.now bytes.now) };
 }
 
 /// The things so far with one more, or the first flaw.
-fn with_one<T: Drop>(things: Result<Vec<T>, Flaw>, one: Result<T, Flaw>) -> Result<Result<Vec<T>, Flaw>, AllocError>
+fn with_one<T: Drop>(
+    things: Result<Vec<T>, Flaw>,
+    one: Result<T, Flaw>,
+) -> Result<Result<Vec<T>, Flaw>, AllocError>
     ensures { IfOk result (λ all. in_list all ≡ joined (in_list things) one) }
 {
     match things {

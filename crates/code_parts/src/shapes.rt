@@ -32,12 +32,7 @@ fn name_of(bytes: &[u8]) -> Result<(Result<Name, Flaw>, &[u8]), Unread>
     Ok((name_from(text), rest))
 }
 
-fn field_from(
-    name: Result<Name, Flaw>,
-    letter: u8,
-    width: u8,
-    decimals: u8,
-) -> Result<Field, Flaw>
+fn field_from(name: Result<Name, Flaw>, letter: u8, width: u8, decimals: u8) -> Result<Field, Flaw>
     ensures { result ≡ judge (both name (both (Ok letter) (both (Ok width) (Ok decimals)))) (λ p. field_from_parts p.0 p.1.0 p.1.1.0 p.1.1.1) }
 {
     let name = name?;

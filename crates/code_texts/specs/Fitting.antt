@@ -1,5 +1,5 @@
 -- Items whose numbers fit their bytes.
-use Rattle.std.specs.Prelude.{ℕ, ◌<◌, length, All}
+use Rattle.std.specs.Prelude.{◌<◌, length, All}
 use Rattle.code_items.specs.declared.desk.AreaState.{AreaState}
 use Rattle.code_items.specs.declared.desk.AreaState.TheVariants.{Closed, Open, Unsure}
 use Rattle.code_items.specs.declared.state.State.{State}

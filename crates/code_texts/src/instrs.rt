@@ -5,9 +5,7 @@ ghost use Rattle.code_parts.specs.Instructions.{instr_text};
 ghost use Rattle.code_texts.specs.Names.{name_of_values, name_of_flow, name_of_screen, name_of_areas, name_of_moves, name_of_records, name_of};
 
 use crate::writing::Writes;
-use code_items::{
-    AreaInstr, FlowInstr, Instr, MoveInstr, RecordInstr, ScreenInstr, ValueInstr,
-};
+use code_items::{AreaInstr, FlowInstr, Instr, MoveInstr, RecordInstr, ScreenInstr, ValueInstr};
 use code_parts::parts_of_instr;
 use std::alloc::AllocError;
 
