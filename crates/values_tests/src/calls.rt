@@ -3,7 +3,7 @@
 use crate::spelled::{Calls, first_wrong, result_of, result_of_values, value_of};
 use xvalue::{Fun, Kind, Setting, Settings, Value, eq_text, less_text, signature};
 
-fn of_numbers() -> [Calls; 35] {
+fn of_sums() -> [Calls; 6] {
     [
         (
             Fun::Add,
@@ -29,6 +29,11 @@ fn of_numbers() -> [Calls; 35] {
             Fun::Sub,
             "10000|0.000000000000001=9999.999999999999999;**|1=**********;1|1.5=-0.5",
         ),
+    ]
+}
+
+fn of_products() -> [Calls; 9] {
+    [
         (
             Fun::Mul,
             "1.25|1.25=1.5625;0.00000001|0.00000005=0.000000000000001",
@@ -50,6 +55,11 @@ fn of_numbers() -> [Calls; 35] {
             "0.000000000000001|0.000000000000003=0.333333333333333;1|0=**********",
         ),
         (Fun::Div, "0|0.00=**********"),
+    ]
+}
+
+fn of_roundings() -> [Calls; 14] {
+    [
         (
             Fun::Mod,
             "7|-3=-2;-7|3=2;-7|-3=-1;6|-3=0;7.5|2=1.5;-0.000000000000001|100000=**********",
@@ -79,6 +89,11 @@ fn of_numbers() -> [Calls; 35] {
             "-1|0.5=.T.;1|1.0=.F.;-1.5|-1.25=.T.;1|*=.T.",
         ),
         (Fun::NumberGreater, "?|9999999999999999999=.T.;1|2=.F."),
+    ]
+}
+
+fn of_printed_numbers() -> [Calls; 6] {
+    [
         (
             Fun::Str,
             "123.456|5|2=*****;12.345|5|2=12.35;-1|5|2=-1.00;0.5|5|0=    1;-0.4|5|0=    0",
@@ -96,7 +111,19 @@ fn of_numbers() -> [Calls; 35] {
 
 #[test]
 fn calls_of_numbers(rt: HostRuntime) {
-    assert_eq!(rt; first_wrong(Settings::off(), of_numbers().as_slice()), None);
+    assert_eq!(rt; first_wrong(Settings::off(), of_sums().as_slice()), None);
+    assert_eq!(rt;
+        first_wrong(Settings::off(), of_products().as_slice()),
+        None
+    );
+    assert_eq!(rt;
+        first_wrong(Settings::off(), of_roundings().as_slice()),
+        None
+    );
+    assert_eq!(rt;
+        first_wrong(Settings::off(), of_printed_numbers().as_slice()),
+        None
+    );
 }
 
 fn of_texts() -> [Calls; 24] {
@@ -142,7 +169,7 @@ fn calls_of_texts(rt: HostRuntime) {
     assert_eq!(rt; first_wrong(Settings::off(), of_texts().as_slice()), None);
 }
 
-fn of_dates() -> [Calls; 22] {
+fn of_days() -> [Calls; 10] {
     [
         (
             Fun::DateAdd,
@@ -172,6 +199,11 @@ fn of_dates() -> [Calls; 22] {
             "03/01/88|02/28/88=2;01/01/85|12/31/85=-364;|12/31/85=**********",
         ),
         (Fun::DateDiff, "12/31/85|=**********"),
+    ]
+}
+
+fn of_dates() -> [Calls; 12] {
+    [
         (Fun::Day, "03/01/89=1;=0;12/31/00=31;1/2/0007=2"),
         (Fun::Month, "03/01/89=3;=0;12/31/00=12;1/2/0007=1"),
         (
@@ -207,6 +239,7 @@ fn of_dates() -> [Calls; 22] {
 
 #[test]
 fn calls_of_dates(rt: HostRuntime) {
+    assert_eq!(rt; first_wrong(Settings::off(), of_days().as_slice()), None);
     assert_eq!(rt; first_wrong(Settings::off(), of_dates().as_slice()), None);
 }
 
