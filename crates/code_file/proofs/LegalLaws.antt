@@ -108,7 +108,7 @@ front_blocks bound left (n ∷ xs) ys within h =
 
 -- ---- filters
 
-needs_few : (least slots : ℕ) (needs : List Need) → needs_rise least slots needs ≡ true → length needs ≤ slots - least
+pub needs_few : (least slots : ℕ) (needs : List Need) → needs_rise least slots needs ≡ true → length needs ≤ slots - least
 needs_few least slots [] h = omega arith
 needs_few least slots (n ∷ ns) h =
     let a = and_parts (nat_le least n.slot && nat_lt n.slot slots) (needs_rise (n.slot + 1) slots ns) h in
