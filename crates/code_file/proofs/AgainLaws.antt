@@ -1,5 +1,5 @@
 -- A code's file is read as that code.
-use Rattle.std.proofs.Common.{◌≡◌, ℕ, zero, suc, ◌+◌, ◌^◌, ◌<◌, ◌≤◌, Bool, true, false, leb, List, [], ◌∷◌, ◌++◌, length, map, Result, Ok, Err, refl, sym, ap, subst, ◌∙◌, arith}
+use Rattle.std.proofs.Common.{◌≡◌, ℕ, suc, ◌+◌, ◌^◌, ◌<◌, ◌≤◌, Bool, true, List, [], ◌∷◌, ◌++◌, length, map, Result, Ok, Err, refl, sym, ap, ◌∙◌, arith}
 use Rattle.std.specs.Prelude.{◌&&◌, ◌==◌, nat_le}
 use Rattle.std.specs.List.{AllByRecursion, list_all}
 use Rattle.std.proofs.lemmas.Bool.{eqb-true, leb-true, le-leb, and_parts, and_from}
@@ -18,15 +18,15 @@ use Rattle.code_items.specs.Instrs.{is_instr}
 use Rattle.code_items.specs.States.{is_blank}
 use Rattle.code_items.specs.Legal.{is_procedure, is_map, total, places_of, blocks_of, blocks_fill, maps_rise, begins_blank, procedures_are_legal, maps_are_legal, instructions_are_legal, is_code}
 use Rattle.code_file.specs.declared.fault.CodeFault.TheVariants.{Shape, Extra}
-use Rattle.code_file.specs.Decoding.{bind, checked, within_limits, procedure_follows, is_laid, whole_at, code_at}
+use Rattle.code_file.specs.Decoding.{bind, checked, procedure_follows, is_laid, whole_at, code_at}
 use Rattle.code_file.specs.declared.fault.CodeFault.{CodeFault}
-use Rattle.code_file.specs.CodeFile.{header_of, counts_of, code_text, CodeText}
-use Rattle.code_file.specs.Laws.{Lasts, IsSpelled, go_on}
+use Rattle.code_file.specs.CodeFile.{counts_of, code_text, CodeText}
+use Rattle.code_file.specs.Laws.{Lasts, go_on}
 use Rattle.code_file.proofs.PartLaws.{fine, fine_is, not_both, pair_is, bind_fine, checked_fine}
 use Rattle.code_file.proofs.WholeLaws.{WithinLimits, CountsFit}
 use Rattle.code_file.proofs.CodeLaws.{ItemLaws, WholeFits, whole_spelled}
 use Rattle.code_file.proofs.FileLaws.{faults_stay, tables_same, indexes_same, each_same, further_same}
-use Rattle.code_file.proofs.LegalLaws.{Front, front_blocks, UpTo, tables_fit, indexes_fit, lists_fit, filters_fit, procedures_fit, maps_fit}
+use Rattle.code_file.proofs.LegalLaws.{front_blocks, tables_fit, indexes_fit, lists_fit, filters_fit, procedures_fit, maps_fit}
 
 passes : {A : Type 0} (p : A → Bool) (xs : List A) → list_all p xs ≡ true → AllByRecursion (λ (x : A). p x ≡ true) xs
 passes p [] h = tt

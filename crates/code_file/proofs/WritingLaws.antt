@@ -1,13 +1,12 @@
 -- Numbers and counts of legal codes fit their bytes.
-use Rattle.std.proofs.Common.{◌⊎◌, inl, inr, ◌≡◌, ℕ, zero, suc, ◌+◌, ◌^◌, ◌<◌, ◌≤◌, Bool, true, false, eqb, leb, ltb, List, [], ◌∷◌, ◌++◌, length, Option, Some, None, refl, arith}
-use Rattle.std.specs.Prelude.{◌&&◌, ◌||◌, ◌==◌, nat_le, nat_lt, slice_get, All}
+use Rattle.std.proofs.Common.{◌⊎◌, inl, inr, ◌≡◌, ℕ, zero, suc, ◌^◌, ◌<◌, ◌≤◌, Bool, true, false, eqb, List, [], ◌∷◌, ◌++◌, length, Option, Some, None, refl, arith}
+use Rattle.std.specs.Prelude.{◌&&◌, ◌||◌, nat_le, nat_lt, slice_get, All}
 use Rattle.std.specs.List.{AllByRecursion, list_all}
 use Rattle.std.proofs.lemmas.Bool.{eqb-true, leb-true, ltb-true, and_parts}
 use Rattle.std.proofs.lemmas.List.Elements.{All-nil, All-cons}
 use Rattle.std.proofs.lemmas.Option.{slice_get_within}
 use Rattle.dbf_file.specs.Fields.{are_fields}
 use Rattle.shape.specs.declared.tables.TableShape.{TableShape}
-use Rattle.shape.specs.declared.indexes.IndexShape.{IndexShape}
 use Rattle.shape.specs.declared.lists.IndexList.{IndexList}
 use Rattle.shape.specs.Tables.{is_table, is_next_table, tables_go_on}
 use Rattle.code_items.specs.declared.declared.Filter.{Filter}
@@ -18,14 +17,14 @@ use Rattle.code_items.specs.declared.state.State.{State}
 use Rattle.code_items.specs.declared.code.Proc.{Proc}
 use Rattle.code_items.specs.declared.code.Map.{Map}
 use Rattle.code_items.specs.declared.code.Code.{Code}
-use Rattle.code_items.specs.Declarations.{is_filter, list_of, filter_of}
+use Rattle.code_items.specs.Declarations.{is_filter}
 use Rattle.code_items.specs.States.{lists_table, is_list_of, filters_table, is_filter_of, how_many, opened, is_area_state, is_desk, is_state}
 use Rattle.code_items.specs.Legal.{is_procedure, is_map, is_code}
 use Rattle.code_parts.specs.Laws.{ListFits}
 use Rattle.code_texts.specs.Fitting.{AreaFits, StateFits, ProcedureFits}
 use Rattle.code_file.specs.Writing.{Writable}
 use Rattle.code_file.proofs.LegalLaws.{needs_few, lists_fit}
-use Rattle.code_file.proofs.AgainLaws.{Declares, Keeps, keeps}
+use Rattle.code_file.proofs.AgainLaws.{keeps}
 
 first_true : (a b : Bool) → (a && b) ≡ true → a ≡ true
 first_true a b h = (and_parts a b h).0

@@ -1,7 +1,7 @@
 -- Codes whose numbers and counts fit their bytes.
-use Rattle.std.specs.Prelude.{ℕ, ◌<◌, ◌^◌, length, All}
+use Rattle.std.specs.Prelude.{◌<◌, ◌^◌, length, All}
 use Rattle.code_items.specs.declared.code.Code.{Code}
-use Rattle.code_texts.specs.Fitting.{AreaFits, StateFits, ProcedureFits}
+use Rattle.code_texts.specs.Fitting.{StateFits, ProcedureFits}
 
 pub record Writable (code : Code) : Type 0 where
   pub tables : length code.declared.shape.tables < 2 ^ 16
