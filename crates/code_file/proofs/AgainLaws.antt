@@ -1,5 +1,5 @@
 -- A code's file is read as that code.
-use Rattle.std.proofs.Common.{◌≡◌, ℕ, zero, suc, ◌+◌, ◌^◌, ◌<◌, ◌≤◌, Bool, true, false, leb, List, [], ◌∷◌, ◌++◌, length, map, Result, Ok, Err, refl, sym, ap, subst, ◌∙◌, arith}
+use Rattle.std.proofs.Common.{◌≡◌, ℕ, suc, ◌+◌, ◌^◌, ◌<◌, ◌≤◌, Bool, true, List, [], ◌∷◌, ◌++◌, length, map, Result, Ok, Err, refl, sym, ap, ◌∙◌, arith}
 use Rattle.std.specs.Prelude.{◌&&◌, ◌==◌, nat_le}
 use Rattle.std.specs.List.{AllByRecursion, list_all}
 use Rattle.std.proofs.lemmas.Bool.{eqb-true, leb-true, le-leb, and_parts, and_from}
@@ -18,34 +18,34 @@ use Rattle.code_items.specs.Instrs.{is_instr}
 use Rattle.code_items.specs.States.{is_blank}
 use Rattle.code_items.specs.Legal.{is_procedure, is_map, total, places_of, blocks_of, blocks_fill, maps_rise, begins_blank, procedures_are_legal, maps_are_legal, instructions_are_legal, is_code}
 use Rattle.code_file.specs.declared.fault.CodeFault.TheVariants.{Shape, Extra}
-use Rattle.code_file.specs.Decoding.{bind, checked, within_limits, procedure_follows, is_laid, whole_at, code_at}
+use Rattle.code_file.specs.Decoding.{bind, checked, procedure_follows, is_laid, whole_at, code_at}
 use Rattle.code_file.specs.declared.fault.CodeFault.{CodeFault}
-use Rattle.code_file.specs.CodeFile.{header_of, counts_of, code_text, CodeText}
-use Rattle.code_file.specs.Laws.{Lasts, IsSpelled, go_on}
+use Rattle.code_file.specs.CodeFile.{counts_of, code_text, CodeText}
+use Rattle.code_file.specs.Laws.{Lasts, go_on}
 use Rattle.code_file.proofs.PartLaws.{fine, fine_is, not_both, pair_is, bind_fine, checked_fine}
 use Rattle.code_file.proofs.WholeLaws.{WithinLimits, CountsFit}
 use Rattle.code_file.proofs.CodeLaws.{ItemLaws, WholeFits, whole_spelled}
 use Rattle.code_file.proofs.FileLaws.{faults_stay, tables_same, indexes_same, each_same, further_same}
-use Rattle.code_file.proofs.LegalLaws.{Front, front_blocks, UpTo, tables_fit, indexes_fit, lists_fit, filters_fit, procedures_fit, maps_fit}
+use Rattle.code_file.proofs.LegalLaws.{front_blocks, tables_fit, indexes_fit, lists_fit, filters_fit, procedures_fit, maps_fit}
 
 passes : {A : Type 0} (p : A → Bool) (xs : List A) → list_all p xs ≡ true → AllByRecursion (λ (x : A). p x ≡ true) xs
 passes p [] h = tt
 passes p (x ∷ xs) h = let a = and_parts (p x) (list_all p xs) h in (a.0, passes p xs a.1)
 
 -- what a legal code's declarations keep
-record Declares (d : Declared) : Type 0 where
-  stack_bound : nat_le d.stack_bound 64 ≡ true
-  slots : nat_le d.slots 256 ≡ true
-  few_tables : nat_le (length d.shape.tables) 32 ≡ true
-  few_indexes : nat_le (length d.shape.indexes) 64 ≡ true
-  tables : tables_go_on [] d.shape.tables ≡ true
-  indexes : indexes_go_on d.shape.tables [] d.shape.indexes ≡ true
-  few_lists : nat_le (length d.lists) 64 ≡ true
-  lists : list_all (is_list d.shape.indexes) d.lists ≡ true
-  few_constants : nat_le (length d.constants) 4096 ≡ true
-  constants : list_all is_constant d.constants ≡ true
-  few_filters : nat_le (length d.filters) 64 ≡ true
-  filters : list_all (is_filter (length d.shape.tables) d.slots) d.filters ≡ true
+pub record Declares (d : Declared) : Type 0 where
+  pub stack_bound : nat_le d.stack_bound 64 ≡ true
+  pub slots : nat_le d.slots 256 ≡ true
+  pub few_tables : nat_le (length d.shape.tables) 32 ≡ true
+  pub few_indexes : nat_le (length d.shape.indexes) 64 ≡ true
+  pub tables : tables_go_on [] d.shape.tables ≡ true
+  pub indexes : indexes_go_on d.shape.tables [] d.shape.indexes ≡ true
+  pub few_lists : nat_le (length d.lists) 64 ≡ true
+  pub lists : list_all (is_list d.shape.indexes) d.lists ≡ true
+  pub few_constants : nat_le (length d.constants) 4096 ≡ true
+  pub constants : list_all is_constant d.constants ≡ true
+  pub few_filters : nat_le (length d.filters) 64 ≡ true
+  pub filters : list_all (is_filter (length d.shape.tables) d.slots) d.filters ≡ true
 
 declares : (d : Declared) → are_declared d ≡ true → Declares d
 unfolding are_declared is_shape
@@ -64,20 +64,20 @@ declares d h =
     record { stack_bound = f.0; slots = f.1; few_tables = u.0; few_indexes = u.1; tables = t.1; indexes = s.1; few_lists = l.0; lists = l.1; few_constants = k.0; constants = k.1; few_filters = g.0; filters = g.1 }
 
 -- what a legal code keeps
-record Keeps (code : Code) : Type 0 where
-  declared : Declares code.declared
-  few_procedures : nat_le (length code.procedures) 256 ≡ true
-  procedures : list_all (is_procedure code.declared) code.procedures ≡ true
-  blank : begins_blank code.procedures ≡ true
-  few_maps : nat_le (length code.maps) 4096 ≡ true
-  maps : list_all (is_map code.declared) code.maps ≡ true
-  rising : maps_rise 0 (places_of code.procedures) code.maps ≡ true
-  some_instruction : nat_le 1 (length code.instructions) ≡ true
-  few_instructions : nat_le (length code.instructions) 65535 ≡ true
-  instructions : list_all (is_instr code.declared.version) code.instructions ≡ true
-  filled : blocks_fill (length code.instructions) (blocks_of code.procedures code.declared.filters) ≡ true
+pub record Keeps (code : Code) : Type 0 where
+  pub declared : Declares code.declared
+  pub few_procedures : nat_le (length code.procedures) 256 ≡ true
+  pub procedures : list_all (is_procedure code.declared) code.procedures ≡ true
+  pub blank : begins_blank code.procedures ≡ true
+  pub few_maps : nat_le (length code.maps) 4096 ≡ true
+  pub maps : list_all (is_map code.declared) code.maps ≡ true
+  pub rising : maps_rise 0 (places_of code.procedures) code.maps ≡ true
+  pub some_instruction : nat_le 1 (length code.instructions) ≡ true
+  pub few_instructions : nat_le (length code.instructions) 65535 ≡ true
+  pub instructions : list_all (is_instr code.declared.version) code.instructions ≡ true
+  pub filled : blocks_fill (length code.instructions) (blocks_of code.procedures code.declared.filters) ≡ true
 
-keeps : (code : Code) → is_code code ≡ true → Keeps code
+pub keeps : (code : Code) → is_code code ≡ true → Keeps code
 unfolding is_code
 keeps code h =
     let a = and_parts _ (instructions_are_legal code) h in

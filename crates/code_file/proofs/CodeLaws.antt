@@ -1,16 +1,11 @@
 -- Laws of what is declared, of procedures, maps and instructions, and of whole codes.
-use Rattle.std.proofs.Common.{inl, inr, ◌≡◌, ℕ, zero, suc, ◌+◌, Bool, true, false, eqb, leb, List, [], ◌∷◌, ◌++◌, length, Result, Ok, Err, refl, sym, ap, subst, ◌∙◌, append_assoc}
-use Rattle.std.specs.Prelude.{◌&&◌, ◌==◌, nat_le}
-use Rattle.std.specs.List.{flat_map, AllByRecursion, list_all}
-use Rattle.std.proofs.lemmas.Bool.{eqb-true, and_parts, and_from}
+use Rattle.std.proofs.Common.{◌≡◌, ℕ, List, ◌++◌, length, refl, sym, ap, subst, ◌∙◌}
 use Rattle.xvalue.specs.declared.value.Value.{Value}
 use Rattle.shape.specs.declared.tables.TableShape.{TableShape}
 use Rattle.shape.specs.declared.indexes.IndexShape.{IndexShape}
 use Rattle.shape.specs.declared.lists.IndexList.{IndexList}
-use Rattle.shape.specs.Tables.{is_next_table, tables_go_on}
-use Rattle.shape.specs.Indexes.{is_next_index, indexes_go_on}
-use Rattle.shape.specs.Lists.{is_list}
-use Rattle.shape.specs.Whole.{is_shape}
+use Rattle.shape.specs.Tables.{is_next_table}
+use Rattle.shape.specs.Indexes.{is_next_index}
 use Rattle.code_items.specs.declared.declared.Version.{Version}
 use Rattle.code_items.specs.declared.declared.Filter.{Filter}
 use Rattle.code_items.specs.declared.declared.Declared.{Declared}
@@ -18,23 +13,16 @@ use Rattle.code_items.specs.declared.code.Proc.{Proc}
 use Rattle.code_items.specs.declared.code.Map.{Map}
 use Rattle.code_items.specs.declared.code.Code.{Code}
 use Rattle.code_items.specs.declared.instr.Instr.{Instr}
-use Rattle.code_items.specs.Constants.{is_constant}
-use Rattle.code_items.specs.Declarations.{is_filter, lists_are_legal, constants_are_legal, filters_are_legal, are_declared}
-use Rattle.code_items.specs.Instrs.{is_instr}
-use Rattle.code_items.specs.States.{is_blank}
-use Rattle.code_items.specs.Legal.{is_procedure, is_map, places_of, blocks_of, blocks_fill, maps_rise, begins_blank, procedures_are_legal, maps_are_legal, instructions_are_legal, is_code}
-use Rattle.code_parts.specs.Laws.{AreBytes, Spells, Any, TableFits, IndexFits, ListFits, IsLegalConstant, FilterFits, ProcedureFits, MapFits, IsLegalInstr}
+use Rattle.code_parts.specs.Laws.{Spells, Any, TableFits, IndexFits, ListFits, IsLegalConstant, FilterFits, ProcedureFits, MapFits, IsLegalInstr}
 use Rattle.code_parts.specs.Texts.{table_text, index_text, list_text, constant_text, filter_text, procedure_text, map_text}
 use Rattle.code_parts.specs.Items.{table_at, index_at, list_at, constant_at, filter_at, procedure_at, map_at}
 use Rattle.code_parts.specs.Instructions.{instr_at, instr_text}
-use Rattle.code_file.specs.declared.fault.CodeFault.{CodeFault}
-use Rattle.code_file.specs.declared.fault.CodeFault.TheVariants.{Shape, Extra}
 use Rattle.code_file.specs.declared.header.Counts.{Counts}
 use Rattle.code_file.specs.declared.header.Header.{Header}
-use Rattle.code_file.specs.Decoding.{Part, bind, checked, joint, shaped, items_at, within_limits, header_at, always, list_follows, filter_follows, declared_from, declared_at, procedure_follows, map_follows, code_from, body_at, is_laid, whole_at, code_at}
-use Rattle.code_file.specs.CodeFile.{header_text, header_of, counts_of, declared_text, body_text, code_text, CodeText}
-use Rattle.code_file.specs.Laws.{Lasts, IsSpelled, go_on}
-use Rattle.code_file.proofs.PartLaws.{fine, bad, fine_is, bad_is, not_both, pair_is, bind_fine, bind_bad, checked_fine, still, joint_spelled, shaped_spelled, checked_spelled, items_spelled, AreItems}
+use Rattle.code_file.specs.Decoding.{always, list_follows, filter_follows, declared_from, declared_at, procedure_follows, map_follows, code_from, body_at, whole_at}
+use Rattle.code_file.specs.CodeFile.{header_text, header_of, counts_of, declared_text, body_text, code_text}
+use Rattle.code_file.specs.Laws.{IsSpelled}
+use Rattle.code_file.proofs.PartLaws.{joint_spelled, shaped_spelled, items_spelled, AreItems}
 use Rattle.code_file.proofs.WholeLaws.{NumberLaws, HeaderFits, CountsRead, header_spelled}
 
 -- the lower crate's laws of items

@@ -1,8 +1,8 @@
 -- Laws of code files: what is read is legal, and its file is the bytes.
-use Rattle.std.proofs.Common.{inl, inr, ◌≡◌, ℕ, zero, suc, ◌+◌, ◌^◌, ◌<◌, ◌≤◌, Bool, true, false, eqb, leb, List, [], ◌∷◌, ◌++◌, length, Result, Ok, Err, refl, sym, ap, subst, ◌∙◌, append_assoc, arith}
+use Rattle.std.proofs.Common.{inl, inr, ◌≡◌, ℕ, suc, Bool, true, eqb, List, [], ◌∷◌, ◌++◌, length, Result, Ok, Err, refl, ap, subst, ◌∙◌, arith}
 use Rattle.std.specs.Prelude.{◌&&◌, ◌==◌, nat_le}
 use Rattle.std.specs.List.{AllByRecursion, list_all}
-use Rattle.std.proofs.lemmas.Bool.{eqb-true, leb-true, le-leb, and_parts, and_from}
+use Rattle.std.proofs.lemmas.Bool.{eqb-true, le-leb, and_parts, and_from}
 use Rattle.std.proofs.lemmas.List.{append-nil}
 use Rattle.std.proofs.Math.Dec.{eqb-suc-zero}
 use Rattle.shape.specs.declared.tables.TableShape.{TableShape}
@@ -13,7 +13,6 @@ use Rattle.shape.specs.Lists.{is_list}
 use Rattle.shape.specs.Whole.{is_shape}
 use Rattle.code_items.specs.declared.declared.Declared.{Declared}
 use Rattle.code_items.specs.declared.code.Proc.{Proc}
-use Rattle.code_items.specs.declared.code.Map.{Map}
 use Rattle.code_items.specs.declared.code.Code.{Code}
 use Rattle.code_items.specs.Constants.{is_constant}
 use Rattle.code_items.specs.Declarations.{is_filter, lists_are_legal, constants_are_legal, filters_are_legal, are_declared}
@@ -24,12 +23,12 @@ use Rattle.code_parts.specs.Laws.{AreBytes}
 use Rattle.code_file.specs.declared.fault.CodeFault.{CodeFault}
 use Rattle.code_file.specs.declared.fault.CodeFault.TheVariants.{Shape, Extra}
 use Rattle.code_file.specs.declared.header.Counts.{Counts}
-use Rattle.code_file.specs.Decoding.{bind, checked, within_limits, list_follows, filter_follows, procedure_follows, map_follows, is_laid, whole_at, code_at}
-use Rattle.code_file.specs.CodeFile.{header_of, counts_of, code_text, CodeText}
-use Rattle.code_file.specs.Laws.{Lasts, IsSpelled, go_on}
-use Rattle.code_file.proofs.PartLaws.{fine, bad, fine_is, bad_is, not_both, bind_fine, bind_bad, checked_fine, still}
+use Rattle.code_file.specs.Decoding.{bind, checked, procedure_follows, is_laid, whole_at, code_at}
+use Rattle.code_file.specs.CodeFile.{counts_of, code_text, CodeText}
+use Rattle.code_file.specs.Laws.{Lasts, go_on}
+use Rattle.code_file.proofs.PartLaws.{not_both, bind_fine, bind_bad, checked_fine, still}
 use Rattle.code_file.proofs.WholeLaws.{WithinLimits}
-use Rattle.code_file.proofs.CodeLaws.{ItemLaws, WholeFits, WholeRead, whole_spelled}
+use Rattle.code_file.proofs.CodeLaws.{ItemLaws, WholeRead, whole_spelled}
 
 -- ---- the same tests in other words
 

@@ -1,13 +1,11 @@
 -- Legal codes fit their bytes, so that they are read from their files.
-use Rattle.std.proofs.Common.{inl, inr, ◌≡◌, ℕ, zero, suc, ◌+◌, ◌-◌, ◌^◌, ◌<◌, ◌≤◌, Bool, true, false, cond, eqb, leb, ltb, List, [], ◌∷◌, ◌++◌, length, map, Option, Some, None, Result, Ok, Err, refl, sym, ap, subst, ◌∙◌, append_assoc, arith}
-use Rattle.std.specs.Prelude.{◌&&◌, ◌||◌, ◌==◌, nat_le, nat_lt, slice_get, if◌then◌else◌}
+use Rattle.std.proofs.Common.{◌≡◌, ℕ, ◌+◌, ◌-◌, ◌<◌, ◌≤◌, Bool, true, false, eqb, List, [], ◌∷◌, ◌++◌, length, map, Option, Some, None, refl, arith}
+use Rattle.std.specs.Prelude.{◌&&◌, nat_le, nat_lt, slice_get}
 use Rattle.std.specs.List.{AllByRecursion, list_all}
-use Rattle.std.proofs.lemmas.Bool.{eqb-true, leb-true, ltb-true, le-leb, and_parts, and_from}
-use Rattle.std.proofs.lemmas.List.{append-nil}
-use Rattle.std.proofs.Math.Dec.{eqb-suc-zero}
+use Rattle.std.proofs.lemmas.Bool.{eqb-true, leb-true, ltb-true, and_parts}
 use Rattle.dbf_file.specs.declared.field.Field.{Field}
 use Rattle.dbf_file.specs.Names.{is_name}
-use Rattle.dbf_file.specs.Fields.{is_field, is_new, are_fields, has_shape, size_of, widths_of, go_on as fields_go_on}
+use Rattle.dbf_file.specs.Fields.{is_field, are_fields, go_on as fields_go_on}
 use Rattle.shape.specs.declared.parts.KeyPart.{KeyPart}
 use Rattle.shape.specs.declared.tables.TableShape.{TableShape}
 use Rattle.shape.specs.declared.indexes.IndexShape.{IndexShape}
@@ -15,9 +13,8 @@ use Rattle.shape.specs.declared.lists.IndexList.{IndexList}
 use Rattle.shape.specs.Names.{is_file_name}
 use Rattle.shape.specs.Keys.{is_key}
 use Rattle.shape.specs.Tables.{is_table, is_next_table, tables_go_on}
-use Rattle.shape.specs.Indexes.{fits_table, has_declared_key, is_index, is_next_index, indexes_go_on}
+use Rattle.shape.specs.Indexes.{fits_table, is_index, is_next_index, indexes_go_on}
 use Rattle.shape.specs.Lists.{is_list}
-use Rattle.code_items.specs.declared.declared.Version.{Version}
 use Rattle.code_items.specs.declared.declared.Need.{Need}
 use Rattle.code_items.specs.declared.declared.Filter.{Filter}
 use Rattle.code_items.specs.declared.declared.Declared.{Declared}
@@ -26,11 +23,10 @@ use Rattle.code_items.specs.declared.desk.AreaState.TheVariants.{Closed, Open, U
 use Rattle.code_items.specs.declared.state.State.{State}
 use Rattle.code_items.specs.declared.code.Proc.{Proc}
 use Rattle.code_items.specs.declared.code.Map.{Map}
-use Rattle.code_items.specs.declared.code.Code.{Code}
 use Rattle.code_items.specs.Declarations.{needs_rise, is_filter}
 use Rattle.code_items.specs.States.{may_be_unsure, is_area_state, is_desk, is_state}
-use Rattle.code_items.specs.Legal.{is_procedure, is_map, total, places_of, blocks_of, blocks_fill, maps_rise}
-use Rattle.code_parts.specs.Laws.{HasName, FieldFits, TableFits, IndexFits, ListFits, FilterFits, AreaFits, StateFits, ProcedureFits, MapFits}
+use Rattle.code_items.specs.Legal.{is_procedure, is_map, total, blocks_fill, maps_rise}
+use Rattle.code_parts.specs.Laws.{FieldFits, TableFits, IndexFits, ListFits, FilterFits, AreaFits, StateFits, ProcedureFits, MapFits}
 
 -- the first of tests joined is the outermost left
 first_true : (a b : Bool) → (a && b) ≡ true → a ≡ true
@@ -108,7 +104,7 @@ front_blocks bound left (n ∷ xs) ys within h =
 
 -- ---- filters
 
-needs_few : (least slots : ℕ) (needs : List Need) → needs_rise least slots needs ≡ true → length needs ≤ slots - least
+pub needs_few : (least slots : ℕ) (needs : List Need) → needs_rise least slots needs ≡ true → length needs ≤ slots - least
 needs_few least slots [] h = omega arith
 needs_few least slots (n ∷ ns) h =
     let a = and_parts (nat_le least n.slot && nat_lt n.slot slots) (needs_rise (n.slot + 1) slots ns) h in

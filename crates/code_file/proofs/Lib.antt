@@ -5,3 +5,4 @@ pub mod CodeLaws
 pub mod FileLaws
 pub mod LegalLaws
 pub mod AgainLaws
+pub mod WritingLaws

@@ -1,15 +1,14 @@
 -- Laws of parts made of parts.
-use Rattle.std.proofs.Common.{◌⊎◌, inl, inr, ◌≡◌, ℕ, zero, suc, ◌+◌, Bool, true, false, cond, List, [], ◌∷◌, ◌++◌, length, get_or, Option, Some, None, Result, Ok, Err, refl, sym, ap, subst, ◌∙◌, append_assoc, arith}
-use Rattle.std.specs.Prelude.{◌&&◌}
+use Rattle.std.proofs.Common.{◌⊎◌, inl, inr, ◌≡◌, ℕ, zero, suc, ◌+◌, Bool, true, false, List, [], ◌∷◌, ◌++◌, length, get_or, Some, None, Result, Ok, Err, refl, sym, ap, subst, ◌∙◌, append_assoc}
 use Rattle.std.specs.List.{flat_map, AllByRecursion}
 use Rattle.std.proofs.lemmas.List.{append-nil, get_or-append-add}
 use Rattle.std.proofs.lemmas.Bool.{and_parts, and_from}
 use Rattle.code_parts.specs.declared.flaw.Flaw.{Flaw}
-use Rattle.code_parts.specs.Reading.{Front, Reader, Judged, behind, give, sure}
+use Rattle.code_parts.specs.Reading.{Front, Reader, Judged}
 use Rattle.code_parts.specs.Laws.{AreBytes, Spells}
 use Rattle.code_file.specs.declared.fault.CodeFault.{CodeFault}
 use Rattle.code_file.specs.declared.fault.CodeFault.TheVariants.{Short, Shape}
-use Rattle.code_file.specs.Decoding.{Part, bind, checked, there_or, fault_of, told, joint, shaped, items_at}
+use Rattle.code_file.specs.Decoding.{Part, bind, checked, fault_of, told, joint, shaped, items_at}
 use Rattle.code_file.specs.Laws.{Lasts, IsSpelled, go_on}
 
 abbrev pub fine : {A : Type 0} → A → Result A CodeFault

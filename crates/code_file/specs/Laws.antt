@@ -1,5 +1,5 @@
 -- What holds of the readers of parts of a code file.
-use Rattle.std.specs.Prelude.{◌≡◌, List, [], ◌∷◌, ℕ, ◌++◌, Bool, true, ◌&&◌, Result, Ok, Err}
+use Rattle.std.specs.Prelude.{◌≡◌, List, [], ◌∷◌, ℕ, ◌++◌, Bool, true, ◌&&◌, Ok, Err}
 use Rattle.code_parts.specs.Laws.{AreBytes}
 use Rattle.code_file.specs.declared.fault.CodeFault.{CodeFault}
 use Rattle.code_file.specs.declared.fault.CodeFault.TheVariants.{Magic, Version, Short, Limit, Operation, Shape, Extra, Memory}

@@ -2,3 +2,4 @@ pub mod CodeFile
 pub mod Decoding
 pub mod Listing
 pub mod Laws
+pub mod Writing

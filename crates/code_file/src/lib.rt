@@ -4,6 +4,7 @@
 #![tactic(auto)]
 
 mod decoding;
+mod encoding;
 pub mod fault;
 pub mod header;
 mod judges;
@@ -16,5 +17,6 @@ pub use code_items::{
     Question, RecordInstr, ScreenInstr, Setting, Shape, State, TableShape, ValueInstr, Version,
 };
 pub use decoding::{decode, faults_stay, files_end_where_they_end, one_file_each};
+pub use encoding::encode;
 pub use fault::CodeFault;
 pub use listing::list;

@@ -1,4 +1,4 @@
-use Rattle.std.proofs.Common.{subst, Result, Ok, Err, List, ℕ, ◌≡◌, arith}
+use Rattle.std.proofs.Common.{subst, Result, Ok, Err, List, ℕ, arith}
 use Rattle.std.specs.Prelude.{IfOk}
 use Rattle.code_items.specs.declared.code.Code.{Code}
 use Rattle.code_file.specs.declared.fault.CodeFault.{CodeFault}

@@ -1,4 +1,3 @@
-use Rattle.std.proofs.Common.{sym, ◌∙◌}
 use Rattle.code_file.proofs.CodeLaws.{ItemLaws}
 use Rattle.code_file.proofs.AgainLaws.{behind_extra, cut_short}
 use Rattle.code_file.proofs.decoding.files_end_where_they_end.Goals as goal
