@@ -1,0 +1,3 @@
+pub mod SlotLemmas
+pub mod ChangeLemmas
+pub mod TryingLemmas

@@ -1,0 +1,4 @@
+pub mod Tried
+pub mod Marks
+pub mod Slots
+pub mod Tables

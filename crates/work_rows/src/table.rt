@@ -1,0 +1,161 @@
+//! A table with its declared indexes.
+
+ghost use Rattle.std.specs.Prelude.{◌≡◌, ℕ, ◌+◌, ◌-◌, ◌<◌, ◌≤◌, Bool, OnOk, OnErr, Some, None, [], length, is_none};
+ghost use Rattle.dbf_file.specs.Rows.{row_at};
+ghost use Rattle.dbf_file.specs.Tables.{letter_at, decimals_at};
+ghost use Rattle.dbf_file.specs.Values.{kind_for};
+ghost use Rattle.row_moves.specs.Moves.{IsMove, end_of, skipped, sought};
+ghost use Rattle.std.specs.Fn.{FnReturnsAt};
+ghost use Rattle.work_rows.specs.Marks.{mark_at, is_fresh};
+ghost use Rattle.work_rows.specs.Tables.{IsOrder, order_pairs, pair_at, appended, replaced, remarked};
+ghost use Rattle.work_rows.specs.Tried.{ShowsRows};
+ghost use Rattle.xvalue.specs.Kinds.{kind_of};
+
+use crate::changes;
+use row_keys::laws::index_lists;
+use crate::row::Row;
+use crate::slot::Slot;
+use crate::trying;
+use dbf_file::Table;
+use ndx_tree::KeyList;
+use row_moves::{Landed, Spent};
+use std::alloc::{AllocError, Global};
+use std::marker::Model;
+use xvalue::Value;
+
+/// A table with its declared indexes. Each index that isn't stale lists the rows.
+#[derive(Drop)]
+pub struct IndexedTable<K: KeyList> {
+    table: Table,
+    slots: Vec<Slot<K>>,
+}
+
+impl<K: KeyList> Model for IndexedTable<K> {
+    ghost use Rattle.std.specs.Prelude.{map};
+    ghost use Rattle.work_rows.specs.Slots.{mark_of};
+    ghost use Rattle.work_rows.specs.Tables.{IndexedState, IsIndexed};
+
+    ghost Value = { IndexedState };
+
+    ghost view = { λ t. record { structure = t.table.structure; rows = t.table.rows; marks = map mark_of t.slots.items } };
+
+    ghost invariant = { λ t. IsIndexed t.table.structure t.table.rows t.slots.items };
+}
+
+impl<K: KeyList> IndexedTable<K> {
+    /// A table of at most 1,000,000 rows, with no index.
+    pub fn new(alloc: Global, table: Table) -> Self
+        requires { length table.rows ≤ 1000000 }
+        ensures { result ≡ record { structure = table.structure; rows = table.rows; marks = [] } }
+    {
+        IndexedTable {
+            table,
+            slots: Vec::new(alloc),
+        }
+    }
+
+    /// The table.
+    pub fn table(&self) -> &Table
+        ensures structure { result.now.structure ≡ self.now.structure }
+        ensures rows { result.now.rows ≡ self.now.rows }
+    {
+        &self.table
+    }
+
+    /// How many records there are, at most 1,000,000.
+    pub fn count(&self) -> u32
+        ensures count { result ≡ length self.now.rows }
+        ensures few { length self.now.rows ≤ 1000000 }
+    {
+        self.table.rows() as u32
+    }
+
+    /// TOP or BOTTOM in an order: record order, or that of the index of this number.
+    pub fn go_to_end<F: Fn(&Row<'_>) -> bool>(
+        &mut self,
+        order: Option<u8>,
+        forward: bool,
+        see: &F,
+        budget: u64,
+    ) -> Result<Landed, Spent>
+        requires order { IsOrder order self.old }
+        requires callable { F.IsAlwaysCallable see.now }
+        ensures lands { (shown : ℕ → Bool) → ShowsRows (FnReturnsAt F.Fn) see.now self.old.structure self.old.rows shown
+            → IsMove (end_of shown forward (order_pairs order self.old)) budget result }
+        ensures same { self.new ≡ self.old }
+    {
+        trying::go_to_end(&self.table, &mut self.slots, order, forward, see, budget)
+    }
+
+    /// SKIP in an order: record order, or that of the index of this number; from a record or the end of file.
+    pub fn skip<F: Fn(&Row<'_>) -> bool>(
+        &mut self,
+        order: Option<u8>,
+        pointer: Option<u32>,
+        steps: i128,
+        see: &F,
+        budget: u64,
+    ) -> Result<Landed, Spent>
+        requires order { IsOrder order self.old }
+        requires callable { F.IsAlwaysCallable see.now }
+        ensures lands { (shown : ℕ → Bool) → ShowsRows (FnReturnsAt F.Fn) see.now self.old.structure self.old.rows shown
+            → IsMove (skipped shown steps (pair_at order self.old pointer) (order_pairs order self.old)) budget result }
+        ensures same { self.new ≡ self.old }
+    {
+        trying::skip(&self.table, &mut self.slots, order, pointer, steps, see, budget)
+    }
+
+    /// SEEK in the index of this number.
+    pub fn seek<F: Fn(&Row<'_>) -> bool>(
+        &mut self,
+        number: u8,
+        text: &[u8],
+        exact: bool,
+        see: &F,
+        budget: u64,
+    ) -> Result<Landed, Spent>
+        requires order { IsOrder (Some number) self.old }
+        requires callable { F.IsAlwaysCallable see.now }
+        ensures lands { (shown : ℕ → Bool) → ShowsRows (FnReturnsAt F.Fn) see.now self.old.structure self.old.rows shown
+            → IsMove (sought shown exact text.now (order_pairs (Some number) self.old)) budget result }
+        ensures same { self.new ≡ self.old }
+    {
+        trying::seek(&self.table, &mut self.slots, number, text, exact, see, budget)
+    }
+
+    /// Adds a blank row, which each open index follows; the others go stale. Where memory is missing, all is as it was.
+    pub fn append(&mut self, list: &[u8]) -> Result<(), AllocError>
+        requires { length self.old.rows < 1000000 }
+        ensures ok { OnOk result (self.new ≡ appended list.now self.old) }
+        ensures err { OnErr result (self.new ≡ self.old) }
+    {
+        changes::append(&mut self.table, &mut self.slots, list)
+    }
+
+    /// Writes a value of the field's kind into field `f` of row `r`, both counted from 0, which each open index follows; the
+    /// others go stale. Where memory is missing, all is as it was.
+    pub fn replace(
+        &mut self,
+        list: &[u8],
+        r: usize,
+        f: usize,
+        from: &Value,
+    ) -> Result<(), AllocError>
+        requires row { r < length self.old.rows }
+        requires field { f < length self.old.structure.fields }
+        requires kind { kind_of from.now ≡ kind_for (letter_at self.old.structure f) }
+        ensures ok { OnOk result (self.new ≡ replaced list.now r f from.now self.old) }
+        ensures err { OnErr result (self.new ≡ self.old) }
+    {
+        changes::replace(&mut self.table, &mut self.slots, list, r, f, from)
+    }
+
+    /// Marks row `r`, counted from 0, or takes its mark away. No index goes stale.
+    pub fn set_mark(&mut self, r: usize, marked: bool)
+        requires { r < length self.old.rows }
+        ensures { self.new ≡ remarked r marked self.old }
+    {
+        index_lists();
+        self.table.set_mark(r, marked);
+    }
+}
