@@ -1,3 +1,5 @@
 pub mod SlotLemmas
 pub mod ChangeLemmas
 pub mod TryingLemmas
+pub mod MakingLemmas
+pub mod PassLemmas

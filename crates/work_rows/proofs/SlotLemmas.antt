@@ -174,3 +174,20 @@ room_turned P items n b done lt fits i d less =
 pub on_err : {T E : Type 0} (r : Result T E) (P : Type 0) → P → OnErr r P
 on_err (Ok x) P p = tt
 on_err (Err e) P p = p
+
+pub turned_weaker : (R S : SlotState → SlotState → Type 0) → ((a b : SlotState) → R a b → S a b) → (old items : List SlotState) (n : ℕ) → Turned R old items n → Turned S old items n
+turned_weaker R S step old items n t = record { len = t.len; done = λ i d lt. step (get_or old i d) (get_or items i d) (t.done i d lt); left = t.left }
+
+pub along_chain : (R S T : SlotState → SlotState → Type 0) → ((a b c : SlotState) → R a b → S b c → T a c) → (old mid new : List SlotState) → Along R old mid → Along S mid new → Along T old new
+along_chain R S T step old mid new first second = record {
+  count = second.count ∙ first.count;
+  each = λ i d lt. step (get_or old i d) (get_or mid i d) (get_or new i d) (first.each i d lt) (second.each i d (omega (arith, first.count)));
+}
+
+pub along_same : (old new : List SlotState) → Along (λ a b. b ≡ a) old new → new ≡ old
+along_same [] [] along = refl
+along_same [] (y ∷ ys) along = absurd (omega (arith, along.count))
+along_same (x ∷ xs) [] along = absurd (omega (arith, along.count))
+along_same (x ∷ xs) (y ∷ ys) along =
+    let rest : ys ≡ xs = along_same xs ys (record { count = omega (arith, along.count); each = λ i d lt. along.each (suc i) d (omega arith) }) in
+    ap (λ z. z ∷ ys) (along.each 0 x (omega arith)) ∙ ap (λ zs. x ∷ zs) rest

@@ -2,3 +2,4 @@ pub mod Tried
 pub mod Marks
 pub mod Slots
 pub mod Tables
+pub mod Passes

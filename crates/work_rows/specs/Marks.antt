@@ -38,6 +38,10 @@ left_stale open_numbers marks = map (λ m. with_stale m (m.stale || not (is_amon
 abbrev pub made_fresh : List ℕ → List IndexMark → List IndexMark
 made_fresh numbers marks = map (λ m. with_stale m (m.stale && not (is_among numbers m.number))) marks
 
+-- these alone aren't stale
+abbrev pub only_fresh : List ℕ → List IndexMark → List IndexMark
+only_fresh numbers marks = map (λ m. with_stale m (not (is_among numbers m.number))) marks
+
 -- how many of these are stale
 abbrev pub count_stale : List ℕ → List IndexMark → ℕ
-count_stale numbers marks = length (filter (λ m. m.stale && is_among numbers m.number) marks)
+count_stale numbers marks = length (filter (λ n. not (is_fresh (mark_at marks n))) numbers)

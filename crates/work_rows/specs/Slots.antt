@@ -1,5 +1,5 @@
 -- A declared index with its list, and what changes do to it.
-use Rattle.std.specs.Prelude.{◌≡◌, ℕ, ◌<◌, Bool, true, not, IsTrue, Option, Some, None, List, length, is_none, is_some, slice_index_or, if◌then◌else◌, IfSome, IsSomeAnd, MatchBool, ⊤}
+use Rattle.std.specs.Prelude.{◌≡◌, ℕ, ◌<◌, Bool, true, not, IsTrue, Option, Some, None, List, length, is_none, is_some, slice_index_or, if◌then◌else◌, IfSome, IsSomeAnd, MatchBool, ⊤, ◌||◌, ◌&&◌}
 use Rattle.dbf_file.specs.Rows.{Row}
 use Rattle.dbf_file.specs.Tables.{StructureState}
 use Rattle.ndx_tree.specs.KeyForm.{KeyForm, IsKeyText}
@@ -68,3 +68,27 @@ left_by open_numbers slot = record { number = slot.number; parts = slot.parts; t
 pub record Along (R : SlotState → SlotState → Type 0) (old new : List SlotState) : Type 0 where
   pub count : length new ≡ length old
   pub each : (i : ℕ) (d : SlotState) → i < length old → R (slice_index_or old i d) (slice_index_or new i d)
+
+-- ---- lists made anew
+
+-- whether an index is to be made anew: one of these, and maybe only if it is stale
+abbrev pub is_wanted : List ℕ → Bool → SlotState → Bool
+is_wanted numbers only_stale slot = is_among numbers slot.number && (is_none slot.index || not only_stale)
+
+-- the same index with the same list, maybe with another put by
+pub record PutsBy (old new : SlotState) : Type 0 where
+  pub same : IsSameSlot old new
+  pub index : new.index ≡ old.index
+
+-- where it is wanted, a list of these rows is put by
+pub record Prepares (structure : StructureState) (rows : List Row) (numbers : List ℕ) (only_stale : Bool) (old new : SlotState) : Type 0 where
+  pub puts : PutsBy old new
+  pub fresh : MatchBool (is_wanted numbers only_stale old) (IsSomeAnd new.fresh (IsListed (IsExact structure rows) old.parts old.text)) (new.fresh ≡ None)
+
+-- the list that was put by in the place of the other, which else stays or is given up
+abbrev pub committed : Bool → SlotState → SlotState
+committed gives_up slot = record { number = slot.number; parts = slot.parts; text = slot.text; index = if is_some slot.fresh then slot.fresh else if gives_up then None else slot.index; fresh = None }
+
+-- with nothing put by
+abbrev pub discarded : SlotState → SlotState
+discarded slot = record { number = slot.number; parts = slot.parts; text = slot.text; index = slot.index; fresh = None }

@@ -4,10 +4,11 @@ use Rattle.dbf_file.specs.Rows.{Row, row_at, with_text, with_mark, blank_row, un
 use Rattle.dbf_file.specs.Tables.{StructureState, row_widths, letter_at, decimals_at}
 use Rattle.dbf_file.specs.Values.{text_by}
 use Rattle.ndx_tree.specs.Pairs.{Pair}
+use Rattle.shape.specs.declared.parts.KeyPart.{KeyPart}
 use Rattle.shape.specs.Keys.{key_of}
 use Rattle.row_keys.specs.Lists.{index_list}
 use Rattle.row_moves.specs.Orders.{record_order}
-use Rattle.work_rows.specs.Marks.{IndexMark, mark_at, is_fresh, parts_in, left_stale}
+use Rattle.work_rows.specs.Marks.{IndexMark, mark_at, is_fresh, parts_in, left_stale, only_fresh, made_fresh}
 use Rattle.work_rows.specs.Slots.{SlotState, IsSlot, mark_of}
 use Rattle.xvalue.specs.declared.value.Value.{Value}
 
@@ -32,10 +33,19 @@ abbrev pub IsOrder : Option ℕ → IndexedState → Type 0
 IsOrder None t = ⊤
 IsOrder (Some n) t = is_fresh (mark_at t.marks n) ≡ true
 
+-- rows in an order, by the keys of these indexes
+abbrev pub pairs_in : Option ℕ → List IndexMark → List Row → List Pair
+pairs_in None marks rows = record_order (length rows)
+pairs_in (Some n) marks rows = index_list (parts_in (mark_at marks n)) rows
+
 -- the rows in an order
 abbrev pub order_pairs : Option ℕ → IndexedState → List Pair
-order_pairs None t = record_order (length t.rows)
-order_pairs (Some n) t = index_list (parts_in (mark_at t.marks n)) t.rows
+order_pairs order t = pairs_in order t.marks t.rows
+
+-- how the keys of an order are made; those of record order have no parts
+abbrev pub order_parts : Option ℕ → List IndexMark → List KeyPart
+order_parts None marks = []
+order_parts (Some n) marks = parts_in (mark_at marks n)
 
 -- the key of record n in an order; in record order there is none
 abbrev pub order_key : Option ℕ → IndexedState → ℕ → List ℕ
@@ -68,10 +78,14 @@ replaced open_numbers r f from t = record {
 abbrev pub remarked : ℕ → Bool → IndexedState → IndexedState
 remarked r marked t = record { structure = t.structure; rows = with_mark t.rows r marked; marks = t.marks }
 
--- without the marked rows; closed indexes go stale
+-- without the marked rows; the open indexes alone aren't stale
 abbrev pub packed : List ℕ → IndexedState → IndexedState
-packed open_numbers t = record { structure = t.structure; rows = unmarked t.rows; marks = left_stale open_numbers t.marks }
+packed open_numbers t = record { structure = t.structure; rows = unmarked t.rows; marks = only_fresh open_numbers t.marks }
 
--- without rows; closed indexes go stale
+-- without rows; the open indexes alone aren't stale
 abbrev pub cleared : List ℕ → IndexedState → IndexedState
-cleared open_numbers t = record { structure = t.structure; rows = []; marks = left_stale open_numbers t.marks }
+cleared open_numbers t = record { structure = t.structure; rows = []; marks = only_fresh open_numbers t.marks }
+
+-- these indexes made anew
+abbrev pub remade : List ℕ → IndexedState → IndexedState
+remade numbers t = record { structure = t.structure; rows = t.rows; marks = made_fresh numbers t.marks }

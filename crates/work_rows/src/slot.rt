@@ -8,7 +8,7 @@ ghost use Rattle.row_keys.specs.Lists.{row_pair, kept_rows, IsExact, IsIndexOf, 
 ghost use Rattle.row_moves.specs.Orders.{MayTry, Sees};
 ghost use Rattle.row_moves.specs.Moves.{IsMove, end_of, skipped, sought};
 ghost use Rattle.work_rows.specs.Marks.{is_among as is_among_of};
-ghost use Rattle.work_rows.specs.Slots.{OnBoth, GoesBy, HasRoom, IsListed, IsSameSlot, left_by};
+ghost use Rattle.work_rows.specs.Slots.{GoesBy, HasRoom, PutsBy, Prepares, committed, discarded, left_by, is_wanted as is_wanted_of};
 
 use arrayvec::ArrayVec;
 use dbf_file::Table;
@@ -68,6 +68,13 @@ impl<K: KeyList> Slot<K> {
         ensures { result ≡ self.now.number }
     {
         self.number
+    }
+
+    /// How its keys are made.
+    pub(crate) fn key_parts(&self) -> KeyParts
+        ensures { result ≡ self.now.parts }
+    {
+        self.key.copied()
     }
 
     /// Whether its list is stale.
@@ -211,23 +218,30 @@ impl<K: KeyList> Slot<K> {
         }
     }
 
+    /// Whether the index is one of these, and, if only those are wanted, is stale.
+    fn is_wanted(&self, list: &[u8], only_stale: bool) -> bool
+        ensures { result ≡ is_wanted_of list.now only_stale self.now }
+    {
+        is_among(list, self.number) && (self.index.is_none() || !only_stale)
+    }
+
     /// Makes a list anew of the rows that are kept, and puts it by, if it is wanted.
     pub(crate) fn prepare(
         &mut self,
         alloc: Global,
         table: &Table,
-        wanted: bool,
+        list: &[u8],
+        only_stale: bool,
         kept: Kept,
     ) -> Result<(), AllocError>
         requires few { length table.now.rows ≤ 1000000 }
         requires key { IsKey table.now.structure self.old.parts }
         requires key_text { IsKeyText self.old.text }
         requires idle { self.old.fresh ≡ None }
-        ensures same { IsSameSlot self.old self.new }
-        ensures index { self.new.index ≡ self.old.index }
-        ensures ok { OnOk result (MatchBool wanted (IsSomeAnd self.new.fresh (IsListed (IsExact table.now.structure (kept_rows kept table.now.rows)) self.old.parts self.old.text)) (self.new.fresh ≡ None)) }
+        ensures puts { PutsBy self.old self.new }
+        ensures ok { OnOk result (Prepares table.now.structure (kept_rows kept table.now.rows) list.now only_stale self.old self.new) }
     {
-        if !wanted {
+        if !self.is_wanted(list, only_stale) {
             return Ok(());
         }
         let index = build_of(
@@ -243,13 +257,7 @@ impl<K: KeyList> Slot<K> {
 
     /// Puts what was put by in the list's place. Where nothing was, the list stays, or is given up.
     pub(crate) fn commit(&mut self, gives_up: bool)
-        ensures { self.new ≡ record {
-            number = self.old.number;
-            parts = self.old.parts;
-            text = self.old.text;
-            index = if is_some self.old.fresh then self.old.fresh else if gives_up then None else self.old.index;
-            fresh = None;
-        } }
+        ensures { self.new ≡ committed gives_up self.old }
     {
         match self.fresh.take() {
             Some(index) => self.index = Some(index),
@@ -263,7 +271,7 @@ impl<K: KeyList> Slot<K> {
 
     /// Gives up what was put by.
     pub(crate) fn discard(&mut self)
-        ensures { self.new ≡ record { number = self.old.number; parts = self.old.parts; text = self.old.text; index = self.old.index; fresh = None } }
+        ensures { self.new ≡ discarded self.old }
     {
         self.fresh = None;
     }

@@ -1,13 +1,14 @@
 //! The declared indexes of a table, all at once.
 
-ghost use Rattle.std.specs.Prelude.{◌≡◌, ℕ, ◌+◌, ◌<◌, ◌≤◌, ◌^◌, Bool, true, None, IfSome, OnOk, Contains, All, length, position, ◌==◌};
-ghost use Rattle.row_keys.specs.Lists.{row_pair, IsIndexOf, IsAsBefore, HasAdded, HasRemoved};
-ghost use Rattle.work_rows.specs.Slots.{Along, GoesBy, HasRoom, left_by};
+ghost use Rattle.std.specs.Prelude.{◌≡◌, ℕ, ◌+◌, ◌<◌, ◌≤◌, ◌^◌, Bool, true, None, IfSome, OnOk, OnErr, Contains, All, length, position, ◌==◌};
+ghost use Rattle.row_keys.specs.Lists.{kept_rows, row_pair, IsIndexOf, IsAsBefore, HasAdded, HasRemoved};
+ghost use Rattle.work_rows.specs.Slots.{Along, GoesBy, HasRoom, IsSlot, PutsBy, Prepares, committed, discarded, left_by};
 
 use crate::slot::Slot;
 use dbf_file::Table;
 use ndx_tree::KeyList;
-use std::alloc::AllocError;
+use row_keys::Kept;
+use std::alloc::{AllocError, Global};
 
 /// Makes room for one more pair in each open index.
 pub(crate) fn reserve_all<K: KeyList>(
@@ -57,4 +58,64 @@ pub(crate) fn remove_all<K: KeyList>(slots: &mut Vec<Slot<K>>, table: &Table, r:
     for slot in slots.iter_mut() {
         slot.remove_row(table, r);
     }
+}
+
+/// Makes a list anew of the rows that are kept for each index that is wanted, and puts it by.
+fn prepare_all<K: KeyList>(
+    alloc: Global,
+    slots: &mut Vec<Slot<K>>,
+    table: &Table,
+    list: &[u8],
+    only_stale: bool,
+    kept: Kept,
+) -> Result<(), AllocError>
+    requires few { length table.now.rows ≤ 1000000 }
+    requires exact { All (IsSlot table.now.structure table.now.rows) slots.old.items }
+    ensures puts { Along PutsBy slots.old.items slots.new.items }
+    ensures ok { OnOk result (Along (Prepares table.now.structure (kept_rows kept table.now.rows) list.now only_stale) slots.old.items slots.new.items) }
+{
+    for slot in slots.iter_mut() {
+        slot.prepare(alloc, table, list, only_stale, kept)?;
+    }
+    Ok(())
+}
+
+/// Puts what was put by in the lists' places. Where nothing was, a list stays, or is given up.
+pub(crate) fn commit_all<K: KeyList>(slots: &mut Vec<Slot<K>>, gives_up: bool)
+    ensures { Along (λ a b. b ≡ committed gives_up a) slots.old.items slots.new.items }
+{
+    for slot in slots.iter_mut() {
+        slot.commit(gives_up);
+    }
+}
+
+/// Gives up what was put by.
+fn discard_all<K: KeyList>(slots: &mut Vec<Slot<K>>)
+    ensures { Along (λ a b. b ≡ discarded a) slots.old.items slots.new.items }
+{
+    for slot in slots.iter_mut() {
+        slot.discard();
+    }
+}
+
+/// Makes a list anew of the rows that are kept for each index that is wanted, and puts it by. Where memory is missing,
+/// nothing is put by.
+pub(crate) fn make_all<K: KeyList>(
+    alloc: Global,
+    slots: &mut Vec<Slot<K>>,
+    table: &Table,
+    list: &[u8],
+    only_stale: bool,
+    kept: Kept,
+) -> Result<(), AllocError>
+    requires few { length table.now.rows ≤ 1000000 }
+    requires exact { All (IsSlot table.now.structure table.now.rows) slots.old.items }
+    ensures ok { OnOk result (Along (Prepares table.now.structure (kept_rows kept table.now.rows) list.now only_stale) slots.old.items slots.new.items) }
+    ensures err { OnErr result (slots.new.items ≡ slots.old.items) }
+{
+    let made = prepare_all(alloc, slots, table, list, only_stale, kept);
+    if made.is_err() {
+        discard_all(slots);
+    }
+    made
 }

@@ -1,13 +1,15 @@
 //! A table with its declared indexes.
 
-ghost use Rattle.std.specs.Prelude.{◌≡◌, ℕ, ◌+◌, ◌-◌, ◌<◌, ◌≤◌, Bool, OnOk, OnErr, Some, None, [], length, is_none};
+ghost use Rattle.std.specs.Prelude.{◌∷◌, ◌++◌, true, ◌≡◌, ℕ, ◌+◌, ◌-◌, ◌<◌, ◌≤◌, Bool, OnOk, OnErr, Some, None, [], length, is_none};
 ghost use Rattle.dbf_file.specs.Rows.{row_at};
 ghost use Rattle.dbf_file.specs.Tables.{letter_at, decimals_at};
 ghost use Rattle.dbf_file.specs.Values.{kind_for};
+ghost use Rattle.ndx_tree.specs.KeyForm.{IsKeyText};
+ghost use Rattle.shape.specs.Keys.{IsKey};
 ghost use Rattle.row_moves.specs.Moves.{IsMove, end_of, skipped, sought};
 ghost use Rattle.std.specs.Fn.{FnReturnsAt};
 ghost use Rattle.work_rows.specs.Marks.{mark_at, is_fresh};
-ghost use Rattle.work_rows.specs.Tables.{IsOrder, order_pairs, pair_at, appended, replaced, remarked};
+ghost use Rattle.work_rows.specs.Tables.{IsOrder, order_pairs, pair_at, appended, replaced, remarked, remade, packed, cleared};
 ghost use Rattle.work_rows.specs.Tried.{ShowsRows};
 ghost use Rattle.xvalue.specs.Kinds.{kind_of};
 
@@ -16,7 +18,9 @@ use row_keys::laws::index_lists;
 use crate::row::Row;
 use crate::slot::Slot;
 use crate::trying;
+use arrayvec::ArrayVec;
 use dbf_file::Table;
+use shape::KeyParts;
 use ndx_tree::KeyList;
 use row_moves::{Landed, Spent};
 use std::alloc::{AllocError, Global};
@@ -157,5 +161,55 @@ impl<K: KeyList> IndexedTable<K> {
     {
         index_lists();
         self.table.set_mark(r, marked);
+    }
+
+    /// Declares an index, which is stale.
+    pub fn declare(
+        &mut self,
+        number: u8,
+        key: KeyParts,
+        text: ArrayVec<u8, 100>,
+    ) -> Result<(), AllocError>
+        requires key { IsKey self.old.structure key }
+        requires text { IsKeyText text.items }
+        ensures ok { OnOk result (self.new ≡ record {
+          structure = self.old.structure;
+          rows = self.old.rows;
+          marks = self.old.marks ++ (record { number = number; parts = key; text = text.items; stale = true }) ∷ [];
+        }) }
+        ensures err { OnErr result (self.new ≡ self.old) }
+    {
+        self.slots.push(Slot::new(number, key, text, None))?;
+        Ok(())
+    }
+
+    /// Makes these indexes anew, or those of them that are stale. Where memory is missing, all is as it was.
+    pub fn remake(
+        &mut self,
+        alloc: Global,
+        list: &[u8],
+        only_stale: bool,
+    ) -> Result<(), AllocError>
+        ensures ok { OnOk result (self.new ≡ remade list.now self.old) }
+        ensures err { OnErr result (self.new ≡ self.old) }
+    {
+        changes::remake(alloc, &self.table, &mut self.slots, list, only_stale)
+    }
+
+    /// Removes the marked rows, and makes the open indexes anew; the others go stale. Where memory is missing, all is as it
+    /// was.
+    pub fn pack(&mut self, alloc: Global, list: &[u8]) -> Result<(), AllocError>
+        ensures ok { OnOk result (self.new ≡ packed list.now self.old) }
+        ensures err { OnErr result (self.new ≡ self.old) }
+    {
+        changes::pack(alloc, &mut self.table, &mut self.slots, list)
+    }
+
+    /// Removes every row, and makes the open indexes anew; the others go stale. Where memory is missing, all is as it was.
+    pub fn clear(&mut self, alloc: Global, list: &[u8]) -> Result<(), AllocError>
+        ensures ok { OnOk result (self.new ≡ cleared list.now self.old) }
+        ensures err { OnErr result (self.new ≡ self.old) }
+    {
+        changes::clear(alloc, &mut self.table, &mut self.slots, list)
     }
 }
