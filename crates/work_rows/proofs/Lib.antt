@@ -3,3 +3,4 @@ pub mod ChangeLemmas
 pub mod TryingLemmas
 pub mod MakingLemmas
 pub mod PassLemmas
+pub mod ClosingLemmas

@@ -1,6 +1,7 @@
 //! A table with its declared indexes.
 #![tactic(auto)]
 
+mod closing;
 mod keyed;
 pub mod refused;
 pub mod row;

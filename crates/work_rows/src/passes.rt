@@ -57,9 +57,10 @@ fn is_met(best: &Option<Entry>, entry: &Entry) -> bool
 
 /// How many rows are kept.
 #[tactic(auto, using(crate::proofs::PassLemmas::kept_more))]
-fn count_kept(table: &Table, kept: Kept) -> u32
+pub(crate) fn count_kept(table: &Table, kept: Kept) -> u32
     requires { length table.now.rows ≤ 1000000 }
-    ensures { result ≡ length (kept_rows kept table.now.rows) }
+    ensures value { result ≡ length (kept_rows kept table.now.rows) }
+    ensures few { result ≤ length table.now.rows }
 {
     let mut number = 0;
     for r in 0..table.rows() {

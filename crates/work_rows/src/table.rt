@@ -1,19 +1,26 @@
 //! A table with its declared indexes.
 
-ghost use Rattle.std.specs.Prelude.{◌∷◌, ◌++◌, true, ◌≡◌, ℕ, ◌+◌, ◌-◌, ◌<◌, ◌≤◌, Bool, OnOk, OnErr, Some, None, [], length, is_none};
-ghost use Rattle.dbf_file.specs.Rows.{row_at};
+ghost use Rattle.std.specs.Prelude.{◌∷◌, ◌++◌, ◌*◌, true, ◌≡◌, ℕ, ◌+◌, ◌-◌, ◌<◌, ◌≤◌, Bool, OnOk, OnErr, Some, None, [], length, is_none};
+ghost use Rattle.dbf_file.specs.Rows.{row_at, unmarked};
+ghost use Rattle.row_keys.specs.Lists.{kept_rows};
 ghost use Rattle.dbf_file.specs.Tables.{letter_at, decimals_at};
 ghost use Rattle.dbf_file.specs.Values.{kind_for};
 ghost use Rattle.ndx_tree.specs.KeyForm.{IsKeyText};
 ghost use Rattle.shape.specs.Keys.{IsKey};
 ghost use Rattle.row_moves.specs.Moves.{IsMove, end_of, skipped, sought};
 ghost use Rattle.std.specs.Fn.{FnReturnsAt};
-ghost use Rattle.work_rows.specs.Marks.{mark_at, is_fresh};
-ghost use Rattle.work_rows.specs.Tables.{IsOrder, order_pairs, pair_at, appended, replaced, remarked, remade, packed, cleared};
+ghost use Rattle.work_rows.specs.Marks.{mark_at, is_fresh, count_stale};
+ghost use Rattle.work_rows.specs.Tables.{IsOrder, order_pairs, pairs_in, pair_at, appended, replaced, remarked, remade, packed, cleared};
+ghost use Rattle.work_rows.specs.Passes.{behind, IsClosing};
 ghost use Rattle.work_rows.specs.Tried.{ShowsRows};
 ghost use Rattle.xvalue.specs.Kinds.{kind_of};
 
 use crate::changes;
+use crate::closing;
+use crate::keyed::{has_fresh, stale_in};
+use crate::passes::count_kept;
+use crate::refused::Refused;
+use row_keys::Kept;
 use row_keys::laws::index_lists;
 use crate::row::Row;
 use crate::slot::Slot;
@@ -184,7 +191,7 @@ impl<K: KeyList> IndexedTable<K> {
     }
 
     /// Makes these indexes anew, or those of them that are stale. Where memory is missing, all is as it was.
-    pub fn remake(
+    fn remake(
         &mut self,
         alloc: Global,
         list: &[u8],
@@ -198,7 +205,7 @@ impl<K: KeyList> IndexedTable<K> {
 
     /// Removes the marked rows, and makes the open indexes anew; the others go stale. Where memory is missing, all is as it
     /// was.
-    pub fn pack(&mut self, alloc: Global, list: &[u8]) -> Result<(), AllocError>
+    fn pack_rows(&mut self, alloc: Global, list: &[u8]) -> Result<(), AllocError>
         ensures ok { OnOk result (self.new ≡ packed list.now self.old) }
         ensures err { OnErr result (self.new ≡ self.old) }
     {
@@ -206,10 +213,169 @@ impl<K: KeyList> IndexedTable<K> {
     }
 
     /// Removes every row, and makes the open indexes anew; the others go stale. Where memory is missing, all is as it was.
-    pub fn clear(&mut self, alloc: Global, list: &[u8]) -> Result<(), AllocError>
+    fn clear_rows(&mut self, alloc: Global, list: &[u8]) -> Result<(), AllocError>
         ensures ok { OnOk result (self.new ≡ cleared list.now self.old) }
         ensures err { OnErr result (self.new ≡ self.old) }
     {
         changes::clear(alloc, &mut self.table, &mut self.slots, list)
+    }
+
+    /// TOP in an order among the rows that are kept, at a cost that is higher by a base.
+    fn judge<F: Fn(&Row<'_>) -> bool>(
+        &self,
+        order: Option<u8>,
+        kept: Kept,
+        see: &F,
+        base: u64,
+        budget: u64,
+    ) -> Result<Landed, Spent>
+        requires callable { F.IsAlwaysCallable see.now }
+        requires base { base ≤ 1000000000 }
+        ensures { (shown : ℕ → Bool) → ShowsRows (FnReturnsAt F.Fn) see.now self.now.structure (kept_rows kept self.now.rows) shown
+            → IsMove (behind base (end_of shown true (pairs_in order self.now.marks (kept_rows kept self.now.rows)))) budget result }
+    {
+        closing::judge(&self.table, &self.slots, order, kept, see, base, budget)
+    }
+
+    /// Makes these indexes anew, or those of them that are stale, and ends with TOP in an order.
+    fn remake_and_top<F: Fn(&Row<'_>) -> bool>(
+        &mut self,
+        alloc: Global,
+        list: &[u8],
+        only_stale: bool,
+        order: Option<u8>,
+        see: &F,
+        base: u64,
+        budget: u64,
+    ) -> Result<Landed, Refused>
+        requires callable { F.IsAlwaysCallable see.now }
+        requires base { base ≤ 1000000000 }
+        ensures lands { (shown : ℕ → Bool) → ShowsRows (FnReturnsAt F.Fn) see.now self.old.structure self.old.rows shown
+            → IsClosing (behind base (end_of shown true (order_pairs order self.old))) budget result }
+        ensures ok { OnOk result (self.new ≡ remade list.now self.old) }
+        ensures err { OnErr result (self.new ≡ self.old) }
+    {
+        let Ok(landed) = self.judge(order, Kept::Every, see, base, budget) else {
+            return Err(Refused::Spent);
+        };
+        match self.remake(alloc, list, only_stale) {
+            Ok(()) => Ok(landed),
+            Err(_) => Err(Refused::NoMemory),
+        }
+    }
+
+    /// PACK: removes the marked rows and makes the open indexes anew, at the cost of the rows that there were, and of those
+    /// that are kept for each open index; the others go stale. It ends with TOP in an order. Where it is refused, all is as
+    /// it was.
+    pub fn pack<F: Fn(&Row<'_>) -> bool>(
+        &mut self,
+        alloc: Global,
+        list: &[u8],
+        order: Option<u8>,
+        see: &F,
+        budget: u64,
+    ) -> Result<Landed, Refused>
+        requires callable { F.IsAlwaysCallable see.now }
+        requires few { length list.now ≤ 7 }
+        // The rows that the test is asked for are those that are kept, as they are numbered then.
+        ensures lands { (shown : ℕ → Bool) → ShowsRows (FnReturnsAt F.Fn) see.now self.old.structure (unmarked self.old.rows) shown
+            → IsClosing (behind (length self.old.rows + length (unmarked self.old.rows) * length list.now)
+                (end_of shown true (pairs_in order self.old.marks (unmarked self.old.rows)))) budget result }
+        ensures ok { OnOk result (self.new ≡ packed list.now self.old) }
+        ensures err { OnErr result (self.new ≡ self.old) }
+    {
+        let kept = count_kept(&self.table, Kept::Unmarked);
+        let base = u64::from(self.count()) + u64::from(kept) * list.len() as u64;
+        let Ok(landed) = self.judge(order, Kept::Unmarked, see, base, budget) else {
+            return Err(Refused::Spent);
+        };
+        match self.pack_rows(alloc, list) {
+            Ok(()) => Ok(landed),
+            Err(_) => Err(Refused::NoMemory),
+        }
+    }
+
+    /// ZAP: removes every row and makes the open indexes anew; the others go stale. The end of file is all that TOP can come
+    /// to. Where it is refused, all is as it was.
+    pub fn zap(
+        &mut self,
+        alloc: Global,
+        list: &[u8],
+        budget: u64,
+    ) -> Result<Landed, Refused>
+        ensures lands { (shown : ℕ → Bool) → IsClosing (end_of shown true []) budget result }
+        ensures ok { OnOk result (self.new ≡ cleared list.now self.old) }
+        ensures err { OnErr result (self.new ≡ self.old) }
+    {
+        if budget == 0 {
+            return Err(Refused::Spent);
+        }
+        match self.clear_rows(alloc, list) {
+            Ok(()) => Ok(Landed {
+                row: None,
+                cost: 1,
+                bof: true,
+                found: false,
+            }),
+            Err(_) => Err(Refused::NoMemory),
+        }
+    }
+
+    /// Opens indexes: those of them that are stale are made anew, each at the cost of the rows. It ends with TOP in an order.
+    /// Where it is refused, all is as it was.
+    pub fn open<F: Fn(&Row<'_>) -> bool>(
+        &mut self,
+        alloc: Global,
+        list: &[u8],
+        order: Option<u8>,
+        see: &F,
+        budget: u64,
+    ) -> Result<Landed, Refused>
+        requires callable { F.IsAlwaysCallable see.now }
+        requires few { length list.now ≤ 7 }
+        ensures lands { (shown : ℕ → Bool) → ShowsRows (FnReturnsAt F.Fn) see.now self.old.structure self.old.rows shown
+            → IsClosing (behind (length self.old.rows * count_stale list.now self.old.marks) (end_of shown true (order_pairs order self.old))) budget result }
+        ensures ok { OnOk result (self.new ≡ remade list.now self.old) }
+        ensures err { OnErr result (self.new ≡ self.old) }
+    {
+        let stale = self.stale_in(list) as u64;
+        let base = u64::from(self.count()) * stale;
+        self.remake_and_top(alloc, list, true, order, see, base, budget)
+    }
+
+    /// REINDEX: makes the open indexes anew, each at the cost of the rows. It ends with TOP in an order. Where it is refused,
+    /// all is as it was.
+    pub fn reindex<F: Fn(&Row<'_>) -> bool>(
+        &mut self,
+        alloc: Global,
+        list: &[u8],
+        order: Option<u8>,
+        see: &F,
+        budget: u64,
+    ) -> Result<Landed, Refused>
+        requires callable { F.IsAlwaysCallable see.now }
+        requires few { length list.now ≤ 7 }
+        ensures lands { (shown : ℕ → Bool) → ShowsRows (FnReturnsAt F.Fn) see.now self.old.structure self.old.rows shown
+            → IsClosing (behind (length self.old.rows * length list.now) (end_of shown true (order_pairs order self.old))) budget result }
+        ensures ok { OnOk result (self.new ≡ remade list.now self.old) }
+        ensures err { OnErr result (self.new ≡ self.old) }
+    {
+        let base = u64::from(self.count()) * list.len() as u64;
+        self.remake_and_top(alloc, list, false, order, see, base, budget)
+    }
+
+    /// How many of these indexes are stale.
+    fn stale_in(&self, list: &[u8]) -> usize
+        ensures value { result ≡ count_stale list.now self.now.marks }
+        ensures few { result ≤ length list.now }
+    {
+        stale_in(&self.slots, list)
+    }
+
+    /// Whether the index of this number is there and isn't stale.
+    pub fn has_fresh(&self, number: u8) -> bool
+        ensures { result ≡ is_fresh (mark_at self.now.marks number) }
+    {
+        has_fresh(&self.slots, number)
     }
 }
