@@ -1,14 +1,16 @@
 //! Declared indexes by their numbers.
 
-ghost use Rattle.std.specs.Prelude.{◌≡◌, ℕ, ◌≤◌, List, [], All, length, map};
+ghost use Rattle.std.specs.Prelude.{◌≡◌, ℕ, ◌≤◌, List, [], All, length, map, is_some, IfSome, slice_index_or};
 ghost use Rattle.dbf_file.specs.Rows.{Row as TheRow};
 ghost use Rattle.dbf_file.specs.Tables.{StructureState};
 ghost use Rattle.shape.specs.Keys.{IsKey};
+ghost use Rattle.row_keys.specs.Lists.{index_list};
 ghost use Rattle.work_rows.specs.Marks.{mark_at, is_fresh, parts_in, count_stale};
 ghost use Rattle.work_rows.specs.Slots.{IsSlot, mark_of};
 ghost use Rattle.work_rows.specs.Tables.{order_parts};
 
 use crate::slot::Slot;
+use dbf_file::Table;
 use ndx_tree::KeyList;
 use shape::KeyParts;
 
@@ -62,4 +64,22 @@ pub(crate) fn stale_in<K: KeyList>(slots: &Vec<Slot<K>>, list: &[u8]) -> usize
         rest = others;
     }
     stale
+}
+
+/// The list of the index of this number; none where it is stale, or there is no such index. It lists the rows.
+pub(crate) fn keys_at<'a, K: KeyList>(
+    table: &Table,
+    slots: &'a Vec<Slot<K>>,
+    number: u8,
+) -> Option<&'a K>
+    requires { All (IsSlot table.now.structure table.now.rows) slots.now.items }
+    ensures fresh { is_some result ≡ is_fresh (mark_at (map mark_of slots.now.items) number) }
+    ensures exact { IfSome result (λ keys. K.pairs keys.now ≡ index_list (parts_in (mark_at (map mark_of slots.now.items) number)) table.now.rows) }
+{
+    for (i, slot) in slots.iter().enumerate() {
+        if slot.number() == number {
+            return slot.keys();
+        }
+    }
+    None
 }

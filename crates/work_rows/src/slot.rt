@@ -70,6 +70,17 @@ impl<K: KeyList> Slot<K> {
         self.number
     }
 
+    /// The list, unless it is stale.
+    pub(crate) fn keys(&self) -> Option<&K>
+        ensures fresh { is_some result ≡ is_some self.now.index }
+        ensures same { IfSome result (λ keys. IfSome self.now.index (λ x. K.pairs keys.now ≡ x.pairs)) }
+    {
+        match &self.index {
+            Some(index) => Some(index.list()),
+            None => None,
+        }
+    }
+
     /// How its keys are made.
     pub(crate) fn key_parts(&self) -> KeyParts
         ensures { result ≡ self.now.parts }

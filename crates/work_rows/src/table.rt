@@ -1,15 +1,15 @@
 //! A table with its declared indexes.
 
-ghost use Rattle.std.specs.Prelude.{◌∷◌, ◌++◌, ◌*◌, true, ◌≡◌, ℕ, ◌+◌, ◌-◌, ◌<◌, ◌≤◌, Bool, OnOk, OnErr, Some, None, [], length, is_none};
+ghost use Rattle.std.specs.Prelude.{◌∷◌, ◌++◌, ◌*◌, true, ◌≡◌, ℕ, ◌+◌, ◌-◌, ◌<◌, ◌≤◌, Bool, OnOk, OnErr, Some, None, [], length, is_none, is_some, IfSome};
 ghost use Rattle.dbf_file.specs.Rows.{row_at, unmarked};
-ghost use Rattle.row_keys.specs.Lists.{kept_rows};
+ghost use Rattle.row_keys.specs.Lists.{index_list, kept_rows};
 ghost use Rattle.dbf_file.specs.Tables.{letter_at, decimals_at};
 ghost use Rattle.dbf_file.specs.Values.{kind_for};
 ghost use Rattle.ndx_tree.specs.KeyForm.{IsKeyText};
 ghost use Rattle.shape.specs.Keys.{IsKey};
 ghost use Rattle.row_moves.specs.Moves.{IsMove, end_of, skipped, sought};
 ghost use Rattle.std.specs.Fn.{FnReturnsAt};
-ghost use Rattle.work_rows.specs.Marks.{mark_at, is_fresh, count_stale};
+ghost use Rattle.work_rows.specs.Marks.{mark_at, is_fresh, parts_in, count_stale};
 ghost use Rattle.work_rows.specs.Tables.{IsOrder, order_pairs, pairs_in, pair_at, appended, replaced, remarked, remade, packed, cleared};
 ghost use Rattle.work_rows.specs.Passes.{behind, IsClosing};
 ghost use Rattle.work_rows.specs.Tried.{ShowsRows};
@@ -17,7 +17,7 @@ ghost use Rattle.xvalue.specs.Kinds.{kind_of};
 
 use crate::changes;
 use crate::closing;
-use crate::keyed::{has_fresh, stale_in};
+use crate::keyed::{has_fresh, keys_at, stale_in};
 use crate::passes::count_kept;
 use crate::refused::Refused;
 use row_keys::Kept;
@@ -377,5 +377,32 @@ impl<K: KeyList> IndexedTable<K> {
         ensures { result ≡ is_fresh (mark_at self.now.marks number) }
     {
         has_fresh(&self.slots, number)
+    }
+
+    /// INDEX ON: makes one index anew at the cost of the rows, whether it is stale or not. It ends with TOP in its order.
+    /// Where it is refused, all is as it was.
+    pub fn index_on<F: Fn(&Row<'_>) -> bool>(
+        &mut self,
+        alloc: Global,
+        number: u8,
+        see: &F,
+        budget: u64,
+    ) -> Result<Landed, Refused>
+        requires { F.IsAlwaysCallable see.now }
+        ensures lands { (shown : ℕ → Bool) → ShowsRows (FnReturnsAt F.Fn) see.now self.old.structure self.old.rows shown
+            → IsClosing (behind (length self.old.rows) (end_of shown true (order_pairs (Some number) self.old))) budget result }
+        ensures ok { OnOk result (self.new ≡ remade (number ∷ []) self.old) }
+        ensures err { OnErr result (self.new ≡ self.old) }
+    {
+        let base = u64::from(self.count());
+        self.remake_and_top(alloc, &[number], false, Some(number), see, base, budget)
+    }
+
+    /// The list of the index of this number; none where it is stale, or there is no such index. It lists the rows.
+    pub fn keys(&self, number: u8) -> Option<&K>
+        ensures fresh { is_some result ≡ is_fresh (mark_at self.now.marks number) }
+        ensures exact { IfSome result (λ keys. K.pairs keys.now ≡ index_list (parts_in (mark_at self.now.marks number)) self.now.rows) }
+    {
+        keys_at(&self.table, &self.slots, number)
     }
 }
