@@ -1,8 +1,11 @@
 -- Open indexes stay open.
-use Rattle.std.proofs.Common.{◌≡◌, ℕ, ◌<◌, ◌≤◌, Bool, true, false, not, ◌||◌, ◌&&◌, ◌==◌, Option, Some, None, List, [], ◌∷◌, length, get_or, map, cond, refl, sym, ap, ◌∙◌, subst, Result, Ok, Err}
+use Rattle.std.proofs.Common.{◌≡◌, ℕ, ◌<◌, ◌≤◌, Bool, true, false, not, ◌||◌, ◌&&◌, ◌==◌, Option, Some, None, List, [], ◌∷◌, length, get_or, map, cond, refl, sym, ap, ◌∙◌, subst, Result, Ok, Err, is_ok, ◌+◌}
 use Rattle.std.specs.Prelude.{OnOk, OnErr}
 use Rattle.work_rows.specs.Tables.{IndexedState}
-use Rattle.work_area.specs.Open.{IsOpen}
+use Rattle.row_moves.specs.declared.landed.Landed.{Landed}
+use Rattle.row_moves.specs.Moves.{Landing}
+use Rattle.work_rows.specs.declared.refused.Refused.{Refused}
+use Rattle.work_area.specs.Open.{OpenState, IsOpen, IsEnded, landed}
 use Rattle.std.specs.List.{All}
 use Rattle.std.proofs.lemmas.Bool.{eqb-true, eq-eqb}
 use Rattle.std.proofs.lemmas.List.Folds.{list_any_at}
@@ -40,3 +43,36 @@ open_left t u list numbers order same is_open e = record {
 pub either : {T E : Type 0} (r : Result T E) (P Q C : Type 0) → OnOk r P → OnErr r Q → (P → C) → (Q → C) → C
 either (Ok x) P Q C p q f g = f p
 either (Err e) P Q C p q f g = g q
+
+pub open_packed : (t u : IndexedState) (list numbers : List ℕ) (order : ℕ) → numbers ≡ list → IsOpen t list order → u.marks ≡ only_fresh numbers t.marks → IsOpen u list order
+open_packed t u list numbers order same is_open e = record {
+  few = is_open.few;
+  fresh = subst (λ ms. All (λ n. is_fresh (mark_at ms n) ≡ true) list) (sym (e ∙ ap (λ ns. only_fresh ns t.marks) same))
+      (λ k d lt.
+        let n = get_or list k d in
+        still_fresh (λ m. not (is_among list m.number)) t.marks n (λ m at s. ap (λ x. not (is_among list x)) at ∙ ap not (among list k d lt)) (is_open.fresh k d lt));
+  order_within = is_open.order_within;
+}
+
+pub open_remade : (t u : IndexedState) (list numbers : List ℕ) (order : ℕ) → IsOpen t list order → u.marks ≡ made_fresh numbers t.marks → IsOpen u list order
+open_remade t u list numbers order is_open e = record {
+  few = is_open.few;
+  fresh = subst (λ ms. All (λ n. is_fresh (mark_at ms n) ≡ true) list) (sym e)
+      (λ k d lt. still_fresh (λ m. m.stale && not (is_among numbers m.number)) t.marks (get_or list k d) (λ m at s. ap (λ b. b && not (is_among numbers m.number)) s) (is_open.fresh k d lt));
+  order_within = is_open.order_within;
+}
+
+-- a change of the table, and the move at its end
+pub ended_by : (ended : Result Landed Refused) (result : Result ℕ Refused) (old v changed new : OpenState) (landing : Landing) (budget : ℕ) → OnOk ended (v ≡ changed) → OnErr ended (v ≡ old) → is_ok result ≡ is_ok ended → IsEnded v v new landing budget result → IsEnded old changed new landing budget result
+ended_by (Ok x) (Ok cost) old v changed new landing budget e f s h = (h.0, h.1, h.2 ∙ ap (λ a. landed a landing) e)
+ended_by (Ok x) (Err r) old v changed new landing budget e f s h = cc
+ended_by (Err x) (Ok cost) old v changed new landing budget e f s h = cc
+ended_by (Err x) (Err r) old v changed new landing budget e f s h = (h.0, h.1 ∙ f)
+
+pub on_ok : {T E : Type 0} (r : Result T E) (P Q : Type 0) → (P → Q) → OnOk r P → OnOk r Q
+on_ok (Ok x) P Q f p = f p
+on_ok (Err e) P Q f p = tt
+
+pub on_err : {T E : Type 0} (r : Result T E) (P Q : Type 0) → (P → Q) → OnErr r P → OnErr r Q
+on_err (Ok x) P Q f p = tt
+on_err (Err e) P Q f p = f p

@@ -2,6 +2,8 @@
 use Rattle.std.specs.Prelude.{◌≡◌, ℕ, zero, suc, ◌+◌, ◌-◌, ◌<◌, ◌≤◌, Bool, true, false, Option, Some, None, Result, List, [], ◌∷◌, length, All, slice_get, option_map, MatchResult, nat_le, ◌&&◌, if◌then◌else◌}
 use Rattle.row_moves.specs.declared.landed.Spent.{Spent}
 use Rattle.row_moves.specs.Moves.{Landing}
+use Rattle.work_rows.specs.declared.refused.Refused.{Refused}
+use Rattle.work_rows.specs.Passes.{IsRefusal}
 use Rattle.work_rows.specs.Marks.{mark_at, is_fresh}
 use Rattle.work_rows.specs.Tables.{IndexedState, appended, replaced, remarked}
 use Rattle.xvalue.specs.declared.value.Value.{Value}
@@ -74,3 +76,9 @@ remarked_at a marked (Some r) = remarked r marked a.table
 -- DELETE and RECALL: the record that is pointed to is marked or not; at the end of file nothing changes
 abbrev pub remarked_here : Bool → OpenState → OpenState
 remarked_here marked a = with_table a (remarked_at a marked (place_in (length a.table.rows) a.pointer))
+
+-- a change that made this of the table in use, and ends with a move; one that is refused changes nothing
+abbrev pub IsEnded : OpenState → OpenState → OpenState → Landing → ℕ → Result ℕ Refused → Type 0
+IsEnded old changed new landing budget result = MatchResult result
+    (λ cost. (cost ≡ 1 + landing.met) × (cost ≤ budget) × (new ≡ landed changed landing))
+    (λ refused. IsRefusal landing budget refused × (new ≡ old))

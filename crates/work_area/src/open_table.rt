@@ -1,21 +1,23 @@
 //! A table in use.
 
-ghost use Rattle.std.specs.Prelude.{◌≡◌, ℕ, ◌+◌, ◌-◌, ◌<◌, ◌≤◌, Bool, true, false, Some, None, [], OnOk, OnErr, Err, ◌↔◌, length, is_none, unwrap_or, IfSome};
+ghost use Rattle.std.specs.Prelude.{◌≡◌, ℕ, ◌+◌, ◌-◌, ◌<◌, ◌≤◌, Bool, true, false, Some, None, [], OnOk, OnErr, Err, ◌↔◌, length, is_none, unwrap_or, IfSome, is_ok, ◌*◌};
 ghost use Rattle.std.specs.Fn.{FnReturnsAt};
 ghost use Rattle.dbf_file.specs.Tables.{letter_at};
 ghost use Rattle.dbf_file.specs.Values.{kind_for};
 ghost use Rattle.xvalue.specs.Kinds.{kind_of};
 ghost use Rattle.row_moves.specs.Moves.{Landing, IsMove, end_of, skipped, sought};
-ghost use Rattle.work_rows.specs.Tables.{IsOrder, order_pairs, pair_at};
+ghost use Rattle.work_rows.specs.Tables.{IsOrder, order_pairs, pairs_in, pair_at, packed, cleared, remade};
+ghost use Rattle.work_rows.specs.Passes.{behind, IsClosing};
+ghost use Rattle.dbf_file.specs.Rows.{unmarked};
 ghost use Rattle.work_rows.specs.Tried.{ShowsRows};
-ghost use Rattle.work_area.specs.Open.{IsMoved, order_index, gone_to, with_blank, place_in, replaced_here, remarked_here, within, within as within_of};
+ghost use Rattle.work_area.specs.Open.{IsMoved, IsEnded, with_table, order_index, gone_to, with_blank, place_in, replaced_here, remarked_here, within, within as within_of};
 
 use arrayvec::ArrayVec;
 use ndx_tree::KeyList;
 use row_moves::{Landed, Spent};
-use std::alloc::AllocError;
+use std::alloc::{AllocError, Global};
 use std::marker::Model;
-use work_rows::{IndexedTable, Row};
+use work_rows::{IndexedTable, Refused, Row};
 use xvalue::Value;
 
 /// A table in use: its open indexes, an order, a pointer, and the answers of BOF() and FOUND().
@@ -295,5 +297,62 @@ impl<K: KeyList> OpenTable<K> {
             Some(number) => number,
             None => self.table.count() + 1,
         }
+    }
+
+    /// Goes where the move at the end of a change led, and tells what the change cost; a change that was refused changes
+    /// nothing.
+    fn finish(&mut self, ended: Result<Landed, Refused>) -> Result<u64, Refused>
+        ensures ends { (landing : Landing) (budget : ℕ) → IsClosing landing budget ended → IsEnded self.old self.old self.new landing budget result }
+        ensures same { is_ok result ≡ is_ok ended }
+    {
+        match ended {
+            Ok(landed) => Ok(self.land(landed)),
+            Err(refused) => Err(refused),
+        }
+    }
+
+    /// PACK: removes the marked rows, and ends with TOP, for which the test is asked of the rows that are kept, as they are
+    /// numbered then. Where it is refused nothing changes.
+    pub fn pack<F: Fn(&Row<'_>) -> bool>(
+        &mut self,
+        alloc: Global,
+        see: F,
+        budget: u64,
+    ) -> Result<u64, Refused>
+        requires { F.IsAlwaysCallable see }
+        ensures { (shown : ℕ → Bool) → ShowsRows (FnReturnsAt F.Fn) see self.old.table.structure (unmarked self.old.table.rows) shown
+            → IsEnded self.old (with_table self.old (packed self.old.list self.old.table)) self.new
+                (behind (length self.old.table.rows + length (unmarked self.old.table.rows) * length self.old.list)
+                    (end_of shown true (pairs_in (order_index self.old.order self.old.list) self.old.table.marks (unmarked self.old.table.rows)))) budget result }
+    {
+        let order = self.order_index();
+        let ended = self.table.pack(alloc, self.list.as_slice(), order, &see, budget);
+        self.finish(ended)
+    }
+
+    /// ZAP: removes every row; TOP then comes to the end of file. Where it is refused nothing changes.
+    pub fn zap(&mut self, alloc: Global, budget: u64) -> Result<u64, Refused>
+        ensures { (shown : ℕ → Bool) → IsEnded self.old (with_table self.old (cleared self.old.list self.old.table)) self.new (end_of shown true []) budget result }
+    {
+        let ended = self.table.zap(alloc, self.list.as_slice(), budget);
+        self.finish(ended)
+    }
+
+    /// REINDEX: makes the open indexes anew, and ends with TOP. Where it is refused nothing changes.
+    pub fn reindex<F: Fn(&Row<'_>) -> bool>(
+        &mut self,
+        alloc: Global,
+        see: F,
+        budget: u64,
+    ) -> Result<u64, Refused>
+        requires { F.IsAlwaysCallable see }
+        ensures { (shown : ℕ → Bool) → ShowsRows (FnReturnsAt F.Fn) see self.old.table.structure self.old.table.rows shown
+            → IsEnded self.old (with_table self.old (remade self.old.list self.old.table)) self.new
+                (behind (length self.old.table.rows * length self.old.list)
+                    (end_of shown true (order_pairs (order_index self.old.order self.old.list) self.old.table))) budget result }
+    {
+        let order = self.order_index();
+        let ended = self.table.reindex(alloc, self.list.as_slice(), order, &see, budget);
+        self.finish(ended)
     }
 }
