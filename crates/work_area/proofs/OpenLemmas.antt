@@ -1,5 +1,5 @@
 -- Open indexes stay open.
-use Rattle.std.proofs.Common.{◌≡◌, ℕ, ◌<◌, ◌≤◌, Bool, true, false, not, ◌||◌, ◌&&◌, ◌==◌, Option, Some, None, List, [], ◌∷◌, length, get_or, map, cond, refl, sym, ap, ◌∙◌, subst, Result, Ok, Err, is_ok, ◌+◌}
+use Rattle.std.proofs.Common.{◌≡◌, ℕ, ◌<◌, ◌≤◌, Bool, true, false, not, ◌||◌, ◌&&◌, ◌==◌, Option, Some, None, List, [], ◌∷◌, length, get_or, map, cond, refl, sym, ap, ◌∙◌, subst, Result, Ok, Err, is_ok, is_some, ◌+◌}
 use Rattle.std.specs.Prelude.{OnOk, OnErr}
 use Rattle.work_rows.specs.Tables.{IndexedState}
 use Rattle.row_moves.specs.declared.landed.Landed.{Landed}
@@ -76,3 +76,25 @@ on_ok (Err e) P Q f p = tt
 pub on_err : {T E : Type 0} (r : Result T E) (P Q : Type 0) → (P → Q) → OnErr r P → OnErr r Q
 on_err (Ok x) P Q f p = tt
 on_err (Err e) P Q f p = f p
+
+made_step : (b other : Bool) (m : IndexMark) (rest others : Option IndexMark) → is_some (cond b (Some m) rest) ≡ true → (b ≡ true → other ≡ false) → (is_some rest ≡ true → is_fresh others ≡ true) → is_fresh (cond b (Some (with_stale m other)) others) ≡ true
+made_step true other m rest others h step more = ap not (step refl)
+made_step false other m rest others h step more = more h
+
+made_one : (f : IndexMark → Bool) (marks : List IndexMark) (n : ℕ) → ((m : IndexMark) → m.number ≡ n → f m ≡ false) → is_some (mark_at marks n) ≡ true → is_fresh (mark_at (map (λ m. with_stale m (f m)) marks) n) ≡ true
+made_one f [] n step h = h
+made_one f (m ∷ marks) n step h = made_step (m.number == n) (f m) m (mark_at marks n) (mark_at (map (λ m. with_stale m (f m)) marks) n) h (λ e. step m (eqb-true m.number n e)) (made_one f marks n step)
+
+and_false : (b : Bool) → (b && false) ≡ false
+and_false true = refl
+and_false false = refl
+
+-- indexes that were made anew are open
+pub open_made : (t u : IndexedState) (list : List ℕ) (order : ℕ) → length list ≤ 7 → order ≤ length list → All (λ n. is_some (mark_at t.marks n) ≡ true) list → u.marks ≡ made_fresh list t.marks → IsOpen u list order
+open_made t u list order few within declared e = record {
+  few = few;
+  fresh = subst (λ ms. All (λ n. is_fresh (mark_at ms n) ≡ true) list) (sym e)
+      (λ k d lt. made_one (λ m. m.stale && not (is_among list m.number)) t.marks (get_or list k d)
+        (λ m at. ap (λ x. m.stale && not (is_among list x)) at ∙ ap (λ b. m.stale && not b) (among list k d lt) ∙ and_false m.stale) (declared k d lt));
+  order_within = within;
+}

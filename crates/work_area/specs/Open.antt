@@ -5,7 +5,7 @@ use Rattle.row_moves.specs.Moves.{Landing}
 use Rattle.work_rows.specs.declared.refused.Refused.{Refused}
 use Rattle.work_rows.specs.Passes.{IsRefusal}
 use Rattle.work_rows.specs.Marks.{mark_at, is_fresh}
-use Rattle.work_rows.specs.Tables.{IndexedState, appended, replaced, remarked}
+use Rattle.work_rows.specs.Tables.{IndexedState, appended, replaced, remarked, remade}
 use Rattle.xvalue.specs.declared.value.Value.{Value}
 
 -- the table, the numbers of its open indexes, the order (0 is record order, 1 that of the first index), the record that is
@@ -82,3 +82,16 @@ abbrev pub IsEnded : OpenState → OpenState → OpenState → Landing → ℕ �
 IsEnded old changed new landing budget result = MatchResult result
     (λ cost. (cost ≡ 1 + landing.met) × (cost ≤ budget) × (new ≡ landed changed landing))
     (λ refused. IsRefusal landing budget refused × (new ≡ old))
+
+-- the order of a list that is opened: its first index, or record order where it is empty
+abbrev pub first_order : List ℕ → ℕ
+first_order [] = 0
+first_order (n ∷ list) = 1
+
+-- these indexes opened, and the stale ones of them made anew
+abbrev pub opened : List ℕ → OpenState → OpenState
+opened list a = record { table = remade list a.table; list = list; order = first_order list; pointer = a.pointer; bof = a.bof; found = a.found }
+
+-- no longer in use: no index is open, and nothing is pointed to
+abbrev pub closed : OpenState → OpenState
+closed a = record { table = a.table; list = []; order = 0; pointer = None; bof = false; found = false }

@@ -1,16 +1,17 @@
 //! A table in use.
 
-ghost use Rattle.std.specs.Prelude.{◌≡◌, ℕ, ◌+◌, ◌-◌, ◌<◌, ◌≤◌, Bool, true, false, Some, None, [], OnOk, OnErr, Err, ◌↔◌, length, is_none, unwrap_or, IfSome, is_ok, ◌*◌};
+ghost use Rattle.std.specs.Prelude.{◌≡◌, ℕ, ◌+◌, ◌-◌, ◌<◌, ◌≤◌, Bool, true, false, Some, None, [], OnOk, OnErr, Err, ◌↔◌, length, is_none, unwrap_or, IfSome, is_ok, is_some, slice_get, All, ◌*◌};
 ghost use Rattle.std.specs.Fn.{FnReturnsAt};
 ghost use Rattle.dbf_file.specs.Tables.{letter_at};
 ghost use Rattle.dbf_file.specs.Values.{kind_for};
 ghost use Rattle.xvalue.specs.Kinds.{kind_of};
 ghost use Rattle.row_moves.specs.Moves.{Landing, IsMove, end_of, skipped, sought};
 ghost use Rattle.work_rows.specs.Tables.{IsOrder, order_pairs, pairs_in, pair_at, packed, cleared, remade};
+ghost use Rattle.work_rows.specs.Marks.{mark_at, count_stale};
 ghost use Rattle.work_rows.specs.Passes.{behind, IsClosing};
 ghost use Rattle.dbf_file.specs.Rows.{unmarked};
 ghost use Rattle.work_rows.specs.Tried.{ShowsRows};
-ghost use Rattle.work_area.specs.Open.{IsMoved, IsEnded, with_table, order_index, gone_to, with_blank, place_in, replaced_here, remarked_here, within, within as within_of};
+ghost use Rattle.work_area.specs.Open.{IsMoved, IsEnded, opened, closed, first_order, with_table, order_index, gone_to, with_blank, place_in, replaced_here, remarked_here, within, within as within_of};
 
 use arrayvec::ArrayVec;
 use ndx_tree::KeyList;
@@ -355,4 +356,69 @@ impl<K: KeyList> OpenTable<K> {
         let ended = self.table.reindex(alloc, self.list.as_slice(), order, &see, budget);
         self.finish(ended)
     }
+
+    /// Takes the table out of use: it has no open index, no order and no record that is pointed to.
+    pub fn close(&mut self)
+        ensures { self.new ≡ closed self.old }
+    {
+        self.list = ArrayVec::new();
+        self.order = 0;
+        self.pointer = None;
+        self.bof = false;
+        self.found = false;
+    }
+
+    /// Opens indexes of the table in place of the open ones, makes the stale ones of them anew, and ends with TOP in the order
+    /// of the first, or in record order where there is none. Where it is refused nothing changes.
+    pub fn open<F: Fn(&Row<'_>) -> bool>(
+        &mut self,
+        alloc: Global,
+        list: &[u8],
+        see: F,
+        budget: u64,
+    ) -> Result<u64, Refused>
+        requires callable { F.IsAlwaysCallable see }
+        requires few { length list.now ≤ 7 }
+        requires declared { All (λ n. is_some (mark_at self.old.table.marks n) ≡ true) list.now }
+        ensures { (shown : ℕ → Bool) → ShowsRows (FnReturnsAt F.Fn) see self.old.table.structure self.old.table.rows shown
+            → IsEnded self.old (opened list.now self.old) self.new
+                (behind (length self.old.table.rows * count_stale list.now self.old.table.marks) (end_of shown true (order_pairs (slice_get list.now 0) self.old.table))) budget result }
+    {
+        match self.table.open(alloc, list, first_index(list), &see, budget) {
+            Ok(landed) => {
+                self.list = held(list);
+                self.order = order_of(list);
+                Ok(self.land(landed))
+            }
+            Err(refused) => Err(refused),
+        }
+    }
+}
+
+/// The first of some indexes.
+fn first_index(list: &[u8]) -> Option<u8>
+    ensures { result ≡ slice_get list.now 0 }
+{
+    list.first().copied()
+}
+
+/// The order of indexes that are opened: that of the first, or record order where there is none.
+fn order_of(list: &[u8]) -> u8
+    ensures value { result ≡ first_order list.now }
+    ensures within { result ≤ length list.now }
+{
+    match list {
+        [] => 0,
+        [_, ..] => 1,
+    }
+}
+
+/// At most seven numbers, held in place.
+fn held(list: &[u8]) -> ArrayVec<u8, 7>
+    requires { length list.now ≤ 7 }
+    ensures { result.items ≡ list.now }
+{
+    let mut copy = ArrayVec::new();
+    copy.try_extend_from_slice(list).unwrap();
+    copy
 }
