@@ -1,6 +1,6 @@
 //! A table in use.
 
-ghost use Rattle.std.specs.Prelude.{◌≡◌, ℕ, ◌+◌, ◌-◌, ◌<◌, ◌≤◌, Bool, true, false, Some, None, [], OnOk, OnErr, Err, ◌↔◌, length, is_none, unwrap_or, IfSome, is_ok, is_some, slice_get, All, ◌*◌};
+ghost use Rattle.std.specs.Prelude.{◌≡◌, ℕ, ◌+◌, ◌-◌, ◌<◌, ◌≤◌, Bool, true, false, Some, None, [], OnOk, OnErr, Err, ◌↔◌, length, is_none, unwrap_or, IfSome, is_ok, is_some, ◌∷◌, slice_get, All, ◌*◌};
 ghost use Rattle.std.specs.Fn.{FnReturnsAt};
 ghost use Rattle.dbf_file.specs.Tables.{letter_at};
 ghost use Rattle.dbf_file.specs.Values.{kind_for};
@@ -388,6 +388,31 @@ impl<K: KeyList> OpenTable<K> {
             Ok(landed) => {
                 self.list = held(list);
                 self.order = order_of(list);
+                Ok(self.land(landed))
+            }
+            Err(refused) => Err(refused),
+        }
+    }
+
+    /// INDEX ON: makes one index anew, whether it is stale or not, which alone is open then and gives the order, and ends with
+    /// TOP. Where it is refused nothing changes.
+    pub fn index_on<F: Fn(&Row<'_>) -> bool>(
+        &mut self,
+        alloc: Global,
+        number: u8,
+        see: F,
+        budget: u64,
+    ) -> Result<u64, Refused>
+        requires callable { F.IsAlwaysCallable see }
+        requires declared { is_some (mark_at self.old.table.marks number) ≡ true }
+        ensures { (shown : ℕ → Bool) → ShowsRows (FnReturnsAt F.Fn) see self.old.table.structure self.old.table.rows shown
+            → IsEnded self.old (opened (number ∷ []) self.old) self.new
+                (behind (length self.old.table.rows) (end_of shown true (order_pairs (Some number) self.old.table))) budget result }
+    {
+        match self.table.index_on(alloc, number, &see, budget) {
+            Ok(landed) => {
+                self.list = held(&[number]);
+                self.order = 1;
                 Ok(self.land(landed))
             }
             Err(refused) => Err(refused),
