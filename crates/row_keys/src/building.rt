@@ -9,9 +9,9 @@ ghost use Rattle.shape.specs.Keys.{IsKey, key_of, key_length};
 ghost use Rattle.row_keys.specs.Lists.{row_pairs, is_kept, kept_rows, IsIndexOf, IsExact, IsSameIndex, ChangedBy};
 
 use crate::index::Index;
-use shape::KeyParts;
 use dbf_file::Table;
 use ndx_tree::{Entry, KeyList};
+use shape::KeyParts;
 use std::alloc::{AllocError, Global};
 
 /// Which rows of a table are kept.

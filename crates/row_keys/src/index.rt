@@ -12,10 +12,10 @@ ghost use Rattle.row_moves.specs.Moves.{IsMove, end_of, skipped, sought};
 ghost use Rattle.xvalue.specs.Kinds.{kind_of};
 
 use crate::laws::index_lists;
-use shape::KeyParts;
 use dbf_file::Table;
 use ndx_tree::{Entry, KeyList};
 use row_moves::{Landed, Spent, bottom, seek, skip, top};
+use shape::KeyParts;
 use std::alloc::AllocError;
 use std::marker::Model;
 use xvalue::Value;

@@ -1,5 +1,5 @@
 -- Open indexes stay open.
-use Rattle.std.proofs.Common.{◌≡◌, ℕ, ◌<◌, ◌≤◌, Bool, true, false, not, ◌||◌, ◌&&◌, ◌==◌, Option, Some, None, List, [], ◌∷◌, length, get_or, map, cond, refl, sym, ap, ◌∙◌, subst, Result, Ok, Err, is_ok, is_some, ◌+◌}
+use Rattle.std.proofs.Common.{◌≡◌, ℕ, ◌<◌, ◌≤◌, Bool, true, false, not, ◌||◌, ◌&&◌, ◌==◌, Option, Some, List, [], ◌∷◌, length, get_or, map, cond, refl, sym, ap, ◌∙◌, subst, Result, Ok, Err, is_ok, is_some}
 use Rattle.std.specs.Prelude.{OnOk, OnErr}
 use Rattle.work_rows.specs.Tables.{IndexedState}
 use Rattle.row_moves.specs.declared.landed.Landed.{Landed}
@@ -49,8 +49,8 @@ open_packed t u list numbers order same is_open e = record {
   few = is_open.few;
   fresh = subst (λ ms. All (λ n. is_fresh (mark_at ms n) ≡ true) list) (sym (e ∙ ap (λ ns. only_fresh ns t.marks) same))
       (λ k d lt.
-        let n = get_or list k d in
-        still_fresh (λ m. not (is_among list m.number)) t.marks n (λ m at s. ap (λ x. not (is_among list x)) at ∙ ap not (among list k d lt)) (is_open.fresh k d lt));
+      let n = get_or list k d in
+      still_fresh (λ m. not (is_among list m.number)) t.marks n (λ m at s. ap (λ x. not (is_among list x)) at ∙ ap not (among list k d lt)) (is_open.fresh k d lt));
   order_within = is_open.order_within;
 }
 
@@ -95,6 +95,6 @@ open_made t u list order few within declared e = record {
   few = few;
   fresh = subst (λ ms. All (λ n. is_fresh (mark_at ms n) ≡ true) list) (sym e)
       (λ k d lt. made_one (λ m. m.stale && not (is_among list m.number)) t.marks (get_or list k d)
-        (λ m at. ap (λ x. m.stale && not (is_among list x)) at ∙ ap (λ b. m.stale && not b) (among list k d lt) ∙ and_false m.stale) (declared k d lt));
+      (λ m at. ap (λ x. m.stale && not (is_among list x)) at ∙ ap (λ b. m.stale && not b) (among list k d lt) ∙ and_false m.stale) (declared k d lt));
   order_within = within;
 }

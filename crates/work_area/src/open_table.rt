@@ -151,7 +151,12 @@ impl<K: KeyList> OpenTable<K> {
     }
 
     /// SKIP: so many rows on, or back where the number is below 0, and what it cost. Where the cost is above the budget nothing changes.
-    pub fn skip<F: Fn(&Row<'_>) -> bool>(&mut self, steps: i128, see: F, budget: u64) -> Result<u64, Spent>
+    pub fn skip<F: Fn(&Row<'_>) -> bool>(
+        &mut self,
+        steps: i128,
+        see: F,
+        budget: u64,
+    ) -> Result<u64, Spent>
         requires { F.IsAlwaysCallable see }
         ensures { (shown : ℕ → Bool) → ShowsRows (FnReturnsAt F.Fn) see self.old.table.structure self.old.table.rows shown
             → IsMoved self.old self.new (skipped shown steps (pair_at (order_index self.old.order self.old.list) self.old.table self.old.pointer) (order_pairs (order_index self.old.order self.old.list) self.old.table)) budget result }
@@ -323,11 +328,13 @@ impl<K: KeyList> OpenTable<K> {
         requires { F.IsAlwaysCallable see }
         ensures { (shown : ℕ → Bool) → ShowsRows (FnReturnsAt F.Fn) see self.old.table.structure (unmarked self.old.table.rows) shown
             → IsEnded self.old (with_table self.old (packed self.old.list self.old.table)) self.new
-                (behind (length self.old.table.rows + length (unmarked self.old.table.rows) * length self.old.list)
-                    (end_of shown true (pairs_in (order_index self.old.order self.old.list) self.old.table.marks (unmarked self.old.table.rows)))) budget result }
+            (behind (length self.old.table.rows + length (unmarked self.old.table.rows) * length self.old.list)
+            (end_of shown true (pairs_in (order_index self.old.order self.old.list) self.old.table.marks (unmarked self.old.table.rows)))) budget result }
     {
         let order = self.order_index();
-        let ended = self.table.pack(alloc, self.list.as_slice(), order, &see, budget);
+        let ended = self
+            .table
+            .pack(alloc, self.list.as_slice(), order, &see, budget);
         self.finish(ended)
     }
 
@@ -349,11 +356,13 @@ impl<K: KeyList> OpenTable<K> {
         requires { F.IsAlwaysCallable see }
         ensures { (shown : ℕ → Bool) → ShowsRows (FnReturnsAt F.Fn) see self.old.table.structure self.old.table.rows shown
             → IsEnded self.old (with_table self.old (remade self.old.list self.old.table)) self.new
-                (behind (length self.old.table.rows * length self.old.list)
-                    (end_of shown true (order_pairs (order_index self.old.order self.old.list) self.old.table))) budget result }
+            (behind (length self.old.table.rows * length self.old.list)
+            (end_of shown true (order_pairs (order_index self.old.order self.old.list) self.old.table))) budget result }
     {
         let order = self.order_index();
-        let ended = self.table.reindex(alloc, self.list.as_slice(), order, &see, budget);
+        let ended = self
+            .table
+            .reindex(alloc, self.list.as_slice(), order, &see, budget);
         self.finish(ended)
     }
 
@@ -382,9 +391,12 @@ impl<K: KeyList> OpenTable<K> {
         requires declared { All (λ n. is_some (mark_at self.old.table.marks n) ≡ true) list.now }
         ensures { (shown : ℕ → Bool) → ShowsRows (FnReturnsAt F.Fn) see self.old.table.structure self.old.table.rows shown
             → IsEnded self.old (opened list.now self.old) self.new
-                (behind (length self.old.table.rows * count_stale list.now self.old.table.marks) (end_of shown true (order_pairs (slice_get list.now 0) self.old.table))) budget result }
+            (behind (length self.old.table.rows * count_stale list.now self.old.table.marks) (end_of shown true (order_pairs (slice_get list.now 0) self.old.table))) budget result }
     {
-        match self.table.open(alloc, list, first_index(list), &see, budget) {
+        match self
+            .table
+            .open(alloc, list, first_index(list), &see, budget)
+        {
             Ok(landed) => {
                 self.list = held(list);
                 self.order = order_of(list);
@@ -407,7 +419,7 @@ impl<K: KeyList> OpenTable<K> {
         requires declared { is_some (mark_at self.old.table.marks number) ≡ true }
         ensures { (shown : ℕ → Bool) → ShowsRows (FnReturnsAt F.Fn) see self.old.table.structure self.old.table.rows shown
             → IsEnded self.old (opened (number ∷ []) self.old) self.new
-                (behind (length self.old.table.rows) (end_of shown true (order_pairs (Some number) self.old.table))) budget result }
+            (behind (length self.old.table.rows) (end_of shown true (order_pairs (Some number) self.old.table))) budget result }
     {
         match self.table.index_on(alloc, number, &see, budget) {
             Ok(landed) => {

@@ -1,15 +1,15 @@
 -- Changes of a table's rows, followed by its declared indexes.
-use Rattle.std.proofs.Common.{◌≡◌, ℕ, ◌+◌, ◌<◌, ◌≤◌, Bool, true, not, ◌||◌, Option, Some, None, List, [], ◌∷◌, ◌++◌, length, get_or, set, map, refl, sym, ap, ◌∙◌, subst, arith}
+use Rattle.std.proofs.Common.{◌≡◌, ℕ, ◌<◌, not, ◌||◌, List, [], ◌∷◌, ◌++◌, length, get_or, set, map, sym, ap, ◌∙◌, subst}
 use Rattle.std.specs.List.{All, Contains}
 use Rattle.std.specs.Prelude.{IfSome}
-use Rattle.dbf_file.specs.Rows.{Row, with_mark}
+use Rattle.dbf_file.specs.Rows.{Row}
 use Rattle.dbf_file.specs.Tables.{StructureState}
 use Rattle.shape.specs.declared.parts.KeyPart.{KeyPart}
-use Rattle.row_keys.specs.Lists.{IndexState, IsExact, IsSameIndex, IsAsBefore, HasAdded, HasRemoved, row_pair, index_list}
+use Rattle.row_keys.specs.Lists.{IsExact, IsAsBefore, HasAdded, HasRemoved, row_pair, index_list}
 use Rattle.row_keys.proofs.IndexLemmas.{IsWithout, ListLaw, exact_same, exact-absent, exact-added, exact-removed, without-absent, without-added}
-use Rattle.work_rows.specs.Marks.{left_stale, is_among, with_stale, IndexMark}
-use Rattle.work_rows.specs.Slots.{SlotState, mark_of, IsListed, IsSlotBy, IsSlot, GoesBy, Along, HasRoom, left_by}
-use Rattle.work_rows.proofs.SlotLemmas.{carry, slot_goes, left_slot, listed_some, goes_mark, same_along, map_along, left_mark, left_room, some_weaker}
+use Rattle.work_rows.specs.Marks.{left_stale, is_among, with_stale}
+use Rattle.work_rows.specs.Slots.{SlotState, mark_of, IsListed, IsSlotBy, IsSlot, GoesBy, Along, left_by}
+use Rattle.work_rows.proofs.SlotLemmas.{carry, slot_goes, left_slot, listed_some, goes_mark, same_along, map_along, left_mark, some_weaker}
 
 -- rooms are asked for, and then closed indexes are left
 pub left_exact : (s : StructureState) (rows : List Row) (numbers : List ℕ) (old mid left : List SlotState) → All (IsSlot s rows) old → Along (GoesBy IsAsBefore) old mid → Along (λ a b. b ≡ left_by numbers a) mid left → All (IsSlot s rows) left

@@ -1,12 +1,10 @@
 -- Record order as a list of keys that have no parts.
-use Rattle.std.proofs.Common.{◌≡◌, ℕ, ◌+◌, ◌≤◌, Option, Some, None, List, [], ◌∷◌, length, suc, refl, sym, ap, ◌∙◌, subst, arith}
+use Rattle.std.proofs.Common.{◌≡◌, ℕ, ◌+◌, Option, Some, None, List, [], ◌∷◌, length, refl, ap, ◌∙◌}
 use Rattle.dbf_file.specs.Rows.{Row}
-use Rattle.shape.specs.declared.parts.KeyPart.{KeyPart}
 use Rattle.ndx_tree.specs.Laws.{PutsInOrder}
-use Rattle.ndx_tree.specs.Order.{IsAscending, in_order}
+use Rattle.ndx_tree.specs.Order.{in_order}
 use Rattle.ndx_tree.specs.Pairs.{Pair, is_before}
 use Rattle.row_keys.specs.Lists.{index_list, row_pairs}
-use Rattle.row_moves.specs.Moves.{IsMove, Landing}
 use Rattle.row_moves.specs.Orders.{records_from, record_order}
 use Rattle.row_moves.proofs.RecordOrder.{ascending_records}
 use Rattle.work_rows.specs.Marks.{IndexMark}

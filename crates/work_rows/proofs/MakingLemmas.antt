@@ -1,5 +1,5 @@
 -- Lists of declared indexes made anew.
-use Rattle.std.proofs.Common.{◌≡◌, ℕ, ◌<◌, ◌≤◌, Bool, true, false, not, ◌||◌, ◌&&◌, Option, Some, None, List, [], ◌∷◌, length, filter, suc, get_or, map, cond, is_none, is_some, refl, sym, ap, ◌∙◌, subst, arith}
+use Rattle.std.proofs.Common.{◌≡◌, ℕ, ◌≤◌, Bool, true, false, not, ◌||◌, ◌&&◌, Option, Some, None, List, [], ◌∷◌, length, filter, suc, get_or, map, cond, is_none, is_some, refl, sym, ap, ◌∙◌, subst, arith}
 use Rattle.std.specs.List.{All}
 use Rattle.std.specs.Prelude.{IfSome, IsSomeAnd, MatchBool}
 use Rattle.dbf_file.specs.Rows.{Row}
@@ -8,9 +8,9 @@ use Rattle.ndx_tree.specs.KeyForm.{IsKeyText}
 use Rattle.shape.specs.Keys.{IsKey}
 use Rattle.row_keys.specs.declared.building.Kept.TheVariants.{Every, Nothing}
 use Rattle.row_keys.specs.Lists.{IndexState, IsExact, kept_rows}
-use Rattle.work_rows.specs.Marks.{IndexMark, is_among, with_stale, only_fresh, made_fresh}
-use Rattle.work_rows.specs.Slots.{SlotState, mark_of, IsListed, IsSlotBy, IsSlot, IsSameSlot, Along, is_wanted, PutsBy, Prepares, committed, discarded}
-use Rattle.work_rows.proofs.SlotLemmas.{carry, same_mark, map_along, along_chain, along_same}
+use Rattle.work_rows.specs.Marks.{IndexMark, is_among, with_stale}
+use Rattle.work_rows.specs.Slots.{SlotState, mark_of, IsListed, IsSlot, IsSameSlot, Along, is_wanted, PutsBy, Prepares, committed, discarded}
+use Rattle.work_rows.proofs.SlotLemmas.{same_mark, map_along, along_chain, along_same}
 
 pub same_slot : (a b : SlotState) → IsSameSlot a b → b.index ≡ a.index → b.fresh ≡ a.fresh → b ≡ a
 same_slot a b s e f = λ i. record { number = s.number i; parts = s.parts i; text = s.text i; index = e i; fresh = f i }
@@ -108,6 +108,6 @@ pub filter_shorter : {X : Type 0} (p : X → Bool) (xs : List X) → length (fil
 filter_shorter p [] = omega arith
 filter_shorter p (x ∷ xs) = shorter_step (p x) p x xs (filter_shorter p xs)
   where
-  shorter_step : {X : Type 0} (b : Bool) (p : X → Bool) (x : X) (xs : List X) → length (filter p xs) ≤ length xs → length (cond b (x ∷ filter p xs) (filter p xs)) ≤ suc (length xs)
-  shorter_step true p x xs le = omega arith
-  shorter_step false p x xs le = omega arith
+    shorter_step : {X : Type 0} (b : Bool) (p : X → Bool) (x : X) (xs : List X) → length (filter p xs) ≤ length xs → length (cond b (x ∷ filter p xs) (filter p xs)) ≤ suc (length xs)
+    shorter_step true p x xs le = omega arith
+    shorter_step false p x xs le = omega arith

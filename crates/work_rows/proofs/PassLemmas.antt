@@ -1,10 +1,10 @@
 -- TOP found by passes over rows.
-use Rattle.std.proofs.Common.{◌≡◌, ℕ, zero, suc, ◌+◌, ◌-◌, ◌<◌, ◌≤◌, Bool, true, false, not, Option, Some, None, List, [], ◌∷◌, ◌++◌, length, filter, get_or, take, cond, refl, sym, ap, ◌∙◌, subst, arith, append-nil}
+use Rattle.std.proofs.Common.{◌≡◌, ℕ, zero, suc, ◌+◌, ◌-◌, ◌<◌, Bool, true, false, not, Option, Some, None, List, [], ◌∷◌, ◌++◌, length, filter, take, cond, refl, sym, ap, ◌∙◌, subst, arith, append-nil}
 use Rattle.std.proofs.lemmas.Bool.{false≢true}
 use Rattle.std.proofs.lemmas.List.Elements.{filter_more}
 use Rattle.dbf_file.specs.Rows.{Row, row_at, no_row}
 use Rattle.dbf_file.specs.Tables.{StructureState}
-use Rattle.work_rows.specs.Tried.{TriedRow, tried}
+use Rattle.work_rows.specs.Tried.{tried}
 use Rattle.shape.specs.declared.parts.KeyPart.{KeyPart}
 use Rattle.shape.specs.Keys.{key_of}
 use Rattle.ndx_tree.specs.Order.{IsAscending, Each, inserted, IsStrictOrder}
@@ -95,9 +95,9 @@ pub first_inserted : IsStrictOrder is_before → (shown : ℕ → Bool) (p : Pai
 first_inserted order shown p [] asc = alone (shown p.1) p
 first_inserted order shown p (y ∷ ys) asc = put (first_inserted order shown p ys asc.1) (is_before y p) refl
   where
-  put : first_shown shown (inserted is_before p ys) ≡ with_tried (shown p.1) p (first_shown shown ys) → (b : Bool) → is_before y p ≡ b → first_shown shown (cond b (y ∷ inserted is_before p ys) (p ∷ y ∷ ys)) ≡ with_tried (shown p.1) p (first_shown shown (y ∷ ys))
-  put rest true e = further (shown y.1) (shown p.1) p y (first_shown shown (inserted is_before p ys)) (first_shown shown ys) e rest
-  put rest false e = in_front (shown p.1) p (first_shown shown (y ∷ ys)) (lesser_itself p (y ∷ ys) shown (e, each_after order p y ys e asc.0))
+    put : first_shown shown (inserted is_before p ys) ≡ with_tried (shown p.1) p (first_shown shown ys) → (b : Bool) → is_before y p ≡ b → first_shown shown (cond b (y ∷ inserted is_before p ys) (p ∷ y ∷ ys)) ≡ with_tried (shown p.1) p (first_shown shown (y ∷ ys))
+    put rest true e = further (shown y.1) (shown p.1) p y (first_shown shown (inserted is_before p ys)) (first_shown shown ys) e rest
+    put rest false e = in_front (shown p.1) p (first_shown shown (y ∷ ys)) (lesser_itself p (y ∷ ys) shown (e, each_after order p y ys e asc.0))
 
 -- ---- how many rows are met
 
@@ -113,17 +113,17 @@ pub met_count : IsStrictOrder is_before → (shown : ℕ → Bool) (pairs : List
 met_count order shown [] asc = refl
 met_count order shown (y ∷ ys) asc = count (met_count order shown ys asc.1) (shown y.1)
   where
-  count : met shown ys ≡ count_met (first_shown shown ys) ys → (b : Bool) → cond b 1 (met shown ys + 1) ≡ count_met (cond b (Some y) (first_shown shown ys)) (y ∷ ys)
-  count rest true = subst (λ b. 1 ≡ length (cond (not b) (y ∷ filter (is_met (Some y)) ys) (filter (is_met (Some y)) ys))) (sym (order.irrefl y)) (ap suc (sym (none_met y ys asc.0)))
-  count rest false = subst (λ b. met shown ys + 1 ≡ length (cond b (y ∷ filter (is_met (first_shown shown ys)) ys) (filter (is_met (first_shown shown ys)) ys))) (sym (met_first order shown y ys asc.0)) (omega (arith, rest))
+    count : met shown ys ≡ count_met (first_shown shown ys) ys → (b : Bool) → cond b 1 (met shown ys + 1) ≡ count_met (cond b (Some y) (first_shown shown ys)) (y ∷ ys)
+    count rest true = subst (λ b. 1 ≡ length (cond (not b) (y ∷ filter (is_met (Some y)) ys) (filter (is_met (Some y)) ys))) (sym (order.irrefl y)) (ap suc (sym (none_met y ys asc.0)))
+    count rest false = subst (λ b. met shown ys + 1 ≡ length (cond b (y ∷ filter (is_met (first_shown shown ys)) ys) (filter (is_met (first_shown shown ys)) ys))) (sym (met_first order shown y ys asc.0)) (omega (arith, rest))
 
 pub count_inserted : (f : Pair → Bool) (p : Pair) (pairs : List Pair) → length (filter f (inserted is_before p pairs)) ≡ length (filter f pairs) + cond (f p) 1 0
 count_inserted f p [] = one_more (f p) p []
 count_inserted f p (y ∷ ys) = put (count_inserted f p ys) (is_before y p)
   where
-  put : length (filter f (inserted is_before p ys)) ≡ length (filter f ys) + cond (f p) 1 0 → (b : Bool) → length (filter f (cond b (y ∷ inserted is_before p ys) (p ∷ y ∷ ys))) ≡ length (filter f (y ∷ ys)) + cond (f p) 1 0
-  put rest true = both_more (f y) y (filter f (inserted is_before p ys)) (filter f ys) (cond (f p) 1 0) rest
-  put rest false = one_more (f p) p (filter f (y ∷ ys))
+    put : length (filter f (inserted is_before p ys)) ≡ length (filter f ys) + cond (f p) 1 0 → (b : Bool) → length (filter f (cond b (y ∷ inserted is_before p ys) (p ∷ y ∷ ys))) ≡ length (filter f (y ∷ ys)) + cond (f p) 1 0
+    put rest true = both_more (f y) y (filter f (inserted is_before p ys)) (filter f ys) (cond (f p) 1 0) rest
+    put rest false = one_more (f p) p (filter f (y ∷ ys))
 
 -- ---- one row more
 

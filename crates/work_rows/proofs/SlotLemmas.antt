@@ -4,13 +4,12 @@ use Rattle.std.proofs.lemmas.List.{get_or-set_other, get_or-set_same, get_or_def
 use Rattle.std.proofs.Math.Seq.{take-length}
 use Rattle.std.specs.List.{All}
 use Rattle.std.specs.Prelude.{IfSome, OnErr}
-use Rattle.dbf_file.specs.Rows.{Row}
 use Rattle.dbf_file.specs.Tables.{StructureState}
 use Rattle.ndx_tree.specs.KeyForm.{KeyForm, IsKeyText}
 use Rattle.shape.specs.Keys.{IsKey}
-use Rattle.row_keys.specs.Lists.{IndexState, IsExact, IsSameIndex}
-use Rattle.work_rows.specs.Marks.{IndexMark, is_among, with_stale, left_stale}
-use Rattle.work_rows.specs.Slots.{SlotState, mark_of, IsListed, IsSlotBy, OnBoth, IsSameSlot, GoesBy, left_by, Along}
+use Rattle.row_keys.specs.Lists.{IndexState, IsSameIndex}
+use Rattle.work_rows.specs.Marks.{IndexMark, is_among, with_stale}
+use Rattle.work_rows.specs.Slots.{SlotState, mark_of, IsListed, IsSlotBy, OnBoth, GoesBy, left_by, Along}
 
 -- ---- along all indexes
 
@@ -159,8 +158,8 @@ pub ended_early : (R : SlotState → SlotState → Type 0) → ((a : SlotState) 
 ended_early R same old items n t = record {
   count = t.len;
   each = λ i d lt. elim (below_or i n) as (λ _. R (get_or old i d) (get_or items i d)) [
-    inl less ↦ t.done i d less
-  | inr le ↦ subst (R (get_or old i d)) (sym (t.left i d le (omega (arith, t.len)))) (same (get_or old i d))
+    | inl less ↦ t.done i d less
+    | inr le ↦ subst (R (get_or old i d)) (sym (t.left i d le (omega (arith, t.len)))) (same (get_or old i d))
   ];
 }
 

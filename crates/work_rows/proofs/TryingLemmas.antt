@@ -1,5 +1,5 @@
 -- Moves over lists that list the rows.
-use Rattle.std.proofs.Common.{◌≡◌, ℕ, zero, suc, ◌+◌, ◌-◌, ◌<◌, ◌≤◌, Bool, true, false, Option, Some, None, List, [], ◌∷◌, ◌++◌, length, get_or, is_none, refl, sym, ap, ◌∙◌, subst, arith}
+use Rattle.std.proofs.Common.{◌≡◌, ℕ, zero, suc, ◌+◌, ◌-◌, ◌<◌, ◌≤◌, Bool, true, false, Option, Some, None, List, [], ◌∷◌, ◌++◌, length, get_or, is_none, refl, sym, ap, ◌∙◌, arith}
 use Rattle.std.specs.List.{Contains}
 use Rattle.std.specs.Prelude.{IfSome}
 use Rattle.std.proofs.Math.ListN.{get_or-eq_default}
@@ -55,9 +55,9 @@ pub no_key : (parts : List KeyPart) → key_of parts [] ≡ []
 no_key [] = refl
 no_key (part ∷ parts) = ap (λ k. k ++ key_of parts []) (no_text part.upper) ∙ no_key parts
   where
-  no_text : (upper : Bool) → cased upper [] ≡ []
-  no_text true = refl
-  no_text false = refl
+    no_text : (upper : Bool) → cased upper [] ≡ []
+    no_text true = refl
+    no_text false = refl
 
 -- nor where there is no such record
 pub no_record : (parts : List KeyPart) (rows : List Row) (n : ℕ) → length rows ≤ n - 1 → key_of parts (row_at rows (n - 1)).texts ≡ []

@@ -1,5 +1,5 @@
 -- The declared indexes of a table, and which of them are stale.
-use Rattle.std.specs.Prelude.{◌≡◌, ℕ, Bool, true, false, not, ◌||◌, ◌&&◌, ◌==◌, Option, Some, None, List, [], map, filter, find, length}
+use Rattle.std.specs.Prelude.{ℕ, Bool, false, not, ◌||◌, ◌&&◌, ◌==◌, Option, Some, None, List, [], map, filter, find, length}
 use Rattle.std.specs.List.{list_any}
 use Rattle.shape.specs.declared.parts.KeyPart.{KeyPart}
 

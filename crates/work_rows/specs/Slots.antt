@@ -1,11 +1,11 @@
 -- A declared index with its list, and what changes do to it.
-use Rattle.std.specs.Prelude.{◌≡◌, ℕ, ◌<◌, Bool, true, not, IsTrue, Option, Some, None, List, length, is_none, is_some, slice_index_or, if◌then◌else◌, IfSome, IsSomeAnd, MatchBool, ⊤, ◌||◌, ◌&&◌}
+use Rattle.std.specs.Prelude.{◌≡◌, ℕ, ◌<◌, Bool, true, not, Option, Some, None, List, length, is_none, is_some, slice_index_or, if◌then◌else◌, IfSome, IsSomeAnd, MatchBool, ⊤, ◌||◌, ◌&&◌}
 use Rattle.dbf_file.specs.Rows.{Row}
 use Rattle.dbf_file.specs.Tables.{StructureState}
-use Rattle.ndx_tree.specs.KeyForm.{KeyForm, IsKeyText}
+use Rattle.ndx_tree.specs.KeyForm.{IsKeyText}
 use Rattle.shape.specs.declared.parts.KeyPart.{KeyPart}
 use Rattle.shape.specs.Keys.{IsKey}
-use Rattle.row_keys.specs.Lists.{IndexState, IsExact, IsSameIndex}
+use Rattle.row_keys.specs.Lists.{IndexState, IsExact}
 use Rattle.work_rows.specs.Marks.{IndexMark, is_among}
 
 -- its number, how keys are made and the text that says so; its list, none where it is stale; and a list made anew that is to

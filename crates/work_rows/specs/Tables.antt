@@ -1,7 +1,7 @@
 -- A table with its declared indexes: orders, and what the changes make of it.
-use Rattle.std.specs.Prelude.{◌≡◌, ℕ, ◌+◌, ◌-◌, ◌≤◌, Bool, true, Option, Some, None, List, [], ◌∷◌, ◌++◌, length, All, slice_index, map, ⊤, option_map}
+use Rattle.std.specs.Prelude.{◌≡◌, ℕ, ◌-◌, ◌≤◌, Bool, true, Option, Some, None, List, [], ◌∷◌, ◌++◌, length, All, slice_index, map, ⊤, option_map}
 use Rattle.dbf_file.specs.Rows.{Row, row_at, with_text, with_mark, blank_row, unmarked}
-use Rattle.dbf_file.specs.Tables.{StructureState, row_widths, letter_at, decimals_at}
+use Rattle.dbf_file.specs.Tables.{StructureState, row_widths, decimals_at}
 use Rattle.dbf_file.specs.Values.{text_by}
 use Rattle.ndx_tree.specs.Pairs.{Pair}
 use Rattle.shape.specs.declared.parts.KeyPart.{KeyPart}

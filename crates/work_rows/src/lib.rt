@@ -1,13 +1,13 @@
 //! A table with its declared indexes.
 #![tactic(auto)]
 
+mod changes;
 mod closing;
 mod keyed;
+mod passes;
 pub mod refused;
 pub mod row;
 mod slot;
-mod changes;
-mod passes;
 mod slots;
 mod table;
 mod trying;

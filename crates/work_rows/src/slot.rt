@@ -255,13 +255,7 @@ impl<K: KeyList> Slot<K> {
         if !self.is_wanted(list, only_stale) {
             return Ok(());
         }
-        let index = build_of(
-            alloc,
-            table,
-            self.key.copied(),
-            self.text.as_slice(),
-            kept,
-        )?;
+        let index = build_of(alloc, table, self.key.copied(), self.text.as_slice(), kept)?;
         self.fresh = Some(index);
         Ok(())
     }

@@ -15,21 +15,19 @@ ghost use Rattle.work_rows.specs.Passes.{behind, IsClosing};
 ghost use Rattle.work_rows.specs.Tried.{ShowsRows};
 ghost use Rattle.xvalue.specs.Kinds.{kind_of};
 
-use crate::changes;
-use crate::closing;
 use crate::keyed::{has_fresh, keys_at, stale_in};
 use crate::passes::count_kept;
 use crate::refused::Refused;
-use row_keys::Kept;
-use row_keys::laws::index_lists;
 use crate::row::Row;
 use crate::slot::Slot;
-use crate::trying;
+use crate::{changes, closing, trying};
 use arrayvec::ArrayVec;
 use dbf_file::Table;
-use shape::KeyParts;
 use ndx_tree::KeyList;
+use row_keys::Kept;
+use row_keys::laws::index_lists;
 use row_moves::{Landed, Spent};
+use shape::KeyParts;
 use std::alloc::{AllocError, Global};
 use std::marker::Model;
 use xvalue::Value;
@@ -113,7 +111,15 @@ impl<K: KeyList> IndexedTable<K> {
             → IsMove (skipped shown steps (pair_at order self.old pointer) (order_pairs order self.old)) budget result }
         ensures same { self.new ≡ self.old }
     {
-        trying::skip(&self.table, &mut self.slots, order, pointer, steps, see, budget)
+        trying::skip(
+            &self.table,
+            &mut self.slots,
+            order,
+            pointer,
+            steps,
+            see,
+            budget,
+        )
     }
 
     /// SEEK in the index of this number.
@@ -131,7 +137,15 @@ impl<K: KeyList> IndexedTable<K> {
             → IsMove (sought shown exact text.now (order_pairs (Some number) self.old)) budget result }
         ensures same { self.new ≡ self.old }
     {
-        trying::seek(&self.table, &mut self.slots, number, text, exact, see, budget)
+        trying::seek(
+            &self.table,
+            &mut self.slots,
+            number,
+            text,
+            exact,
+            see,
+            budget,
+        )
     }
 
     /// Adds a blank row, which each open index follows; the others go stale. Where memory is missing, all is as it was.
@@ -191,12 +205,7 @@ impl<K: KeyList> IndexedTable<K> {
     }
 
     /// Makes these indexes anew, or those of them that are stale. Where memory is missing, all is as it was.
-    fn remake(
-        &mut self,
-        alloc: Global,
-        list: &[u8],
-        only_stale: bool,
-    ) -> Result<(), AllocError>
+    fn remake(&mut self, alloc: Global, list: &[u8], only_stale: bool) -> Result<(), AllocError>
         ensures ok { OnOk result (self.new ≡ remade list.now self.old) }
         ensures err { OnErr result (self.new ≡ self.old) }
     {
@@ -280,7 +289,7 @@ impl<K: KeyList> IndexedTable<K> {
         // The rows that the test is asked for are those that are kept, as they are numbered then.
         ensures lands { (shown : ℕ → Bool) → ShowsRows (FnReturnsAt F.Fn) see.now self.old.structure (unmarked self.old.rows) shown
             → IsClosing (behind (length self.old.rows + length (unmarked self.old.rows) * length list.now)
-                (end_of shown true (pairs_in order self.old.marks (unmarked self.old.rows)))) budget result }
+            (end_of shown true (pairs_in order self.old.marks (unmarked self.old.rows)))) budget result }
         ensures ok { OnOk result (self.new ≡ packed list.now self.old) }
         ensures err { OnErr result (self.new ≡ self.old) }
     {
@@ -297,12 +306,7 @@ impl<K: KeyList> IndexedTable<K> {
 
     /// ZAP: removes every row and makes the open indexes anew; the others go stale. The end of file is all that TOP can come
     /// to. Where it is refused, all is as it was.
-    pub fn zap(
-        &mut self,
-        alloc: Global,
-        list: &[u8],
-        budget: u64,
-    ) -> Result<Landed, Refused>
+    pub fn zap(&mut self, alloc: Global, list: &[u8], budget: u64) -> Result<Landed, Refused>
         ensures lands { (shown : ℕ → Bool) → IsClosing (end_of shown true []) budget result }
         ensures ok { OnOk result (self.new ≡ cleared list.now self.old) }
         ensures err { OnErr result (self.new ≡ self.old) }

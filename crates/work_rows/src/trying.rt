@@ -27,12 +27,7 @@ fn shows<F: Fn(&Row<'_>) -> bool>(see: &F, table: &Table, number: u32) -> bool
     requires few { length table.now.rows ≤ 1000000 }
     ensures { (shown : ℕ → Bool) → ShowsRows (FnReturnsAt F.Fn) see.now table.now.structure table.now.rows shown → result ≡ shown number }
 {
-    see(&Row::new(
-        table,
-        number as usize - 1,
-        number,
-        table.rows() as u32,
-    ))
+    see(&Row::new(table, number as usize - 1, number, table.rows() as u32))
 }
 
 /// The place of the index of this number, which is there and isn't stale.
@@ -142,11 +137,7 @@ fn bare_entry(pointer: Option<u32>) -> Option<Entry>
 }
 
 /// The place of a record in the order of an index.
-fn keyed_entry<K: KeyList>(
-    slot: &Slot<K>,
-    table: &Table,
-    pointer: Option<u32>,
-) -> Option<Entry>
+fn keyed_entry<K: KeyList>(slot: &Slot<K>, table: &Table, pointer: Option<u32>) -> Option<Entry>
     requires { IsKey table.now.structure slot.now.parts }
     ensures { result ≡ option_map (λ n. (key_of slot.now.parts (row_at table.now.rows (n - 1)).texts, n)) pointer }
 {
@@ -225,7 +216,7 @@ pub(crate) fn skip<K: KeyList, F: Fn(&Row<'_>) -> bool>(
     requires callable { F.IsAlwaysCallable see.now }
     ensures lands { (shown : ℕ → Bool) → ShowsRows (FnReturnsAt F.Fn) see.now table.now.structure table.now.rows shown
         → IsMove (skipped shown steps (pair_at order (indexed table.now.structure table.now.rows slots.old.items) pointer)
-            (order_pairs order (indexed table.now.structure table.now.rows slots.old.items))) budget result }
+        (order_pairs order (indexed table.now.structure table.now.rows slots.old.items))) budget result }
     ensures same { slots.new.items ≡ slots.old.items }
 {
     match order {

@@ -1,9 +1,9 @@
-use Rattle.std.proofs.Common.{◌≡◌, ℕ, List, [], ◌∷◌, ◌++◌, length, sym, ap, ◌∙◌, subst, map}
+use Rattle.std.proofs.Common.{◌≡◌, ℕ, List, [], ◌∷◌, ◌++◌, length, sym, ap, ◌∙◌, subst}
 use Rattle.std.specs.List.{All, Contains}
 use Rattle.std.specs.Prelude.{IfSome}
 use Rattle.dbf_file.specs.Rows.{Row, blank_row}
 use Rattle.dbf_file.specs.Tables.{row_widths}
-use Rattle.row_keys.specs.Lists.{IndexState, HasAdded, IsAsBefore, row_pair}
+use Rattle.row_keys.specs.Lists.{HasAdded, IsAsBefore, row_pair}
 use Rattle.work_rows.specs.Slots.{SlotState, mark_of, IsSlot, GoesBy, Along}
 use Rattle.work_rows.proofs.SlotLemmas.{on_err, same_along, goes_mark}
 use Rattle.work_rows.proofs.ChangeLemmas.{left_exact, marks_left, append_absent, append_exact}

@@ -1,10 +1,9 @@
-use Rattle.std.proofs.Common.{◌≡◌, not, true, false, List, [], ◌∷◌, map, refl, sym, ap, ◌∙◌, subst, rules}
+use Rattle.std.proofs.Common.{◌≡◌, not, true, false, sym, ◌∙◌, subst}
 use Rattle.std.specs.List.{All}
-use Rattle.dbf_file.specs.Rows.{Row, unmarked}
 use Rattle.row_keys.specs.declared.building.Kept.TheVariants.{Nothing}
 use Rattle.row_keys.specs.Lists.{kept_rows}
 use Rattle.work_rows.specs.Marks.{IndexMark, is_among, with_stale}
-use Rattle.work_rows.specs.Slots.{SlotState, mark_of, IsSlot}
+use Rattle.work_rows.specs.Slots.{IsSlot}
 use Rattle.work_rows.proofs.MakingLemmas.{made_exact, made_marks, packed_mark, nothing_kept}
 use Rattle.work_rows.proofs.changes.clear.Goals as goal
 

@@ -1,10 +1,10 @@
-use Rattle.std.proofs.Common.{◌≡◌, not, true, false, List, [], ◌∷◌, map, length, ◌≤◌, refl, sym, ap, ◌∙◌, subst, rules}
+use Rattle.std.proofs.Common.{◌≡◌, not, true, false, List, length, ◌≤◌, sym, subst}
 use Rattle.std.specs.List.{All}
-use Rattle.dbf_file.specs.Rows.{Row, unmarked}
+use Rattle.dbf_file.specs.Rows.{Row}
 use Rattle.row_keys.specs.declared.building.Kept.TheVariants.{Unmarked}
 use Rattle.row_keys.specs.Lists.{kept_rows}
 use Rattle.work_rows.specs.Marks.{IndexMark, is_among, with_stale}
-use Rattle.work_rows.specs.Slots.{SlotState, mark_of, IsSlot}
+use Rattle.work_rows.specs.Slots.{IsSlot}
 use Rattle.work_rows.proofs.MakingLemmas.{made_exact, made_marks, packed_mark, filter_shorter}
 use Rattle.work_rows.proofs.changes.pack.Goals as goal
 

@@ -1,9 +1,9 @@
-use Rattle.std.proofs.Common.{◌≡◌, not, ◌&&◌, false, map, refl, sym, ap, ◌∙◌, subst}
+use Rattle.std.proofs.Common.{not, ◌&&◌, false, subst}
 use Rattle.std.specs.List.{All}
 use Rattle.row_keys.specs.declared.building.Kept.TheVariants.{Every}
 use Rattle.row_keys.specs.Lists.{kept_rows}
 use Rattle.work_rows.specs.Marks.{IndexMark, is_among, with_stale}
-use Rattle.work_rows.specs.Slots.{SlotState, mark_of, IsSlot}
+use Rattle.work_rows.specs.Slots.{IsSlot}
 use Rattle.work_rows.proofs.MakingLemmas.{made_exact, made_marks, every_kept, remade_mark}
 use Rattle.work_rows.proofs.changes.remake.Goals as goal
 

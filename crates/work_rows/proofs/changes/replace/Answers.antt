@@ -1,10 +1,10 @@
-use Rattle.std.proofs.Common.{◌≡◌, ℕ, List, [], ◌∷◌, ◌++◌, length, set, sym, ap, ◌∙◌, subst, map}
+use Rattle.std.proofs.Common.{◌≡◌, List, set, sym, ap, ◌∙◌, subst}
 use Rattle.std.specs.List.{All, Contains}
 use Rattle.std.specs.Prelude.{IfSome, slice_index}
 use Rattle.dbf_file.specs.Rows.{Row, row_at}
 use Rattle.dbf_file.specs.Tables.{TableState, row_widths, decimals_at}
 use Rattle.dbf_file.specs.Values.{text_by}
-use Rattle.row_keys.specs.Lists.{IndexState, HasAdded, HasRemoved, IsAsBefore, row_pair}
+use Rattle.row_keys.specs.Lists.{HasAdded, HasRemoved, IsAsBefore, row_pair}
 use Rattle.work_rows.specs.Slots.{SlotState, mark_of, IsSlot, GoesBy, Along}
 use Rattle.work_rows.proofs.SlotLemmas.{on_err, same_along, goes_mark}
 use Rattle.work_rows.proofs.ChangeLemmas.{left_exact, marks_left, replace_out, replace_absent, replace_exact}

@@ -1,4 +1,4 @@
-use Rattle.std.proofs.Common.{◌≡◌, true, length, map, sym, ap, ◌∙◌, subst, List}
+use Rattle.std.proofs.Common.{true, map, ap, ◌∙◌, subst, List}
 use Rattle.shape.specs.declared.parts.KeyPart.{KeyPart}
 use Rattle.row_keys.specs.Lists.{index_list, kept_rows}
 use Rattle.row_moves.specs.Moves.{IsMove, end_of}

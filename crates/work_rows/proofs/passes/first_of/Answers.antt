@@ -1,8 +1,7 @@
-use Rattle.std.proofs.Common.{◌≡◌, ℕ, ◌+◌, ◌≤◌, List, length, is_none, sym, ap, ◌∙◌, subst, arith, refl, rules}
+use Rattle.std.proofs.Common.{◌≡◌, is_none, sym, ap, ◌∙◌, arith, refl, rules}
 use Rattle.std.specs.Option.{option_map}
-use Rattle.ndx_tree.specs.Pairs.{Pair}
 use Rattle.row_keys.specs.Lists.{index_list, kept_rows}
-use Rattle.row_moves.specs.Moves.{first_shown, met}
+use Rattle.row_moves.specs.Moves.{met}
 use Rattle.work_rows.specs.Passes.{count_met}
 use Rattle.work_rows.proofs.PassLemmas.{met_count}
 use Rattle.work_rows.proofs.passes.first_of.Goals as goal

@@ -1,4 +1,4 @@
-use Rattle.std.proofs.Common.{◌≡◌, ℕ, ◌≤◌, length, take}
+use Rattle.std.proofs.Common.{◌≡◌, ◌≤◌, length, take}
 use Rattle.row_keys.specs.Lists.{kept_rows, index_list}
 use Rattle.work_rows.specs.Passes.{count_met}
 use Rattle.work_rows.proofs.passes.met_before.Given as goal

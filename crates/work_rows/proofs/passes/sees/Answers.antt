@@ -1,4 +1,3 @@
-use Rattle.std.proofs.Common.{◌≡◌}
 use Rattle.work_rows.proofs.passes.sees.Goals as goal
 
 pub returns : goal.returns

@@ -1,6 +1,4 @@
-use Rattle.std.proofs.Common.{◌≡◌, ◌+◌, ◌<◌, ◌≤◌, length, set, get_or, sym, ◌∙◌, subst, arith, rules, refl, None}
-use Rattle.ndx_tree.specs.KeyForm.{IsKeyText}
-use Rattle.shape.specs.Keys.{IsKey}
+use Rattle.std.proofs.Common.{◌≡◌, ◌+◌, ◌<◌, length, set, sym, subst, arith, rules, refl}
 use Rattle.row_keys.specs.Lists.{kept_rows}
 use Rattle.work_rows.specs.Slots.{SlotState, IsSlot, PutsBy, Prepares, Along}
 use Rattle.work_rows.proofs.SlotLemmas.{turned, turned_weaker, taken, ended, ended_early}

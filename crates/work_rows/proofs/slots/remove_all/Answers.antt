@@ -1,7 +1,6 @@
-use Rattle.std.proofs.Common.{◌≡◌, ◌+◌, ◌<◌, ◌≤◌, length, sym, ◌∙◌, subst, arith, rules}
-use Rattle.std.specs.List.{Contains}
+use Rattle.std.proofs.Common.{◌≡◌, ◌<◌, length, sym, subst, arith, rules}
 use Rattle.std.specs.Prelude.{IfSome}
-use Rattle.row_keys.specs.Lists.{HasRemoved, IsIndexOf, row_pair}
+use Rattle.row_keys.specs.Lists.{HasRemoved, IsIndexOf}
 use Rattle.work_rows.specs.Slots.{SlotState, GoesBy, Along}
 use Rattle.work_rows.proofs.SlotLemmas.{turned, taken, ended}
 use Rattle.work_rows.proofs.slots.remove_all.Goals as goal

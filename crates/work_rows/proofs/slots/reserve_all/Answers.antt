@@ -1,5 +1,4 @@
-use Rattle.std.proofs.Common.{◌≡◌, ◌+◌, ◌<◌, ◌≤◌, ◌++◌, length, set, sym, ◌∙◌, subst, arith, rules, refl}
-use Rattle.std.specs.Prelude.{IfSome}
+use Rattle.std.proofs.Common.{◌≡◌, ◌+◌, length, set, sym, subst, arith, rules, refl}
 use Rattle.row_keys.specs.Lists.{IndexState, IsAsBefore}
 use Rattle.work_rows.specs.Slots.{SlotState, GoesBy, HasRoom, Along}
 use Rattle.work_rows.proofs.SlotLemmas.{turned, taken, ended, ended_early, room_turned, both_same}

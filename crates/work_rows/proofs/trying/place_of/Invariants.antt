@@ -1,4 +1,4 @@
-use Rattle.std.proofs.Common.{◌≡◌, ℕ, drop, map}
+use Rattle.std.proofs.Common.{◌≡◌, drop, map}
 use Rattle.work_rows.specs.Marks.{mark_at}
 use Rattle.work_rows.specs.Slots.{mark_of}
 use Rattle.work_rows.proofs.trying.place_of.Given as goal

@@ -1,4 +1,4 @@
-use Rattle.std.proofs.Common.{◌≡◌, ℕ, ◌≤◌, length, sym, ap, ◌∙◌, subst, arith}
+use Rattle.std.proofs.Common.{sym, subst, arith}
 use Rattle.row_moves.specs.Orders.{record_order}
 use Rattle.row_moves.specs.Moves.{end_of, IsMove}
 use Rattle.work_rows.proofs.TryingLemmas.{in_records}

@@ -1,4 +1,4 @@
-use Rattle.std.proofs.Common.{◌≡◌, ℕ, ◌-◌, ap, ◌∙◌}
+use Rattle.std.proofs.Common.{ℕ, ◌-◌, ap, ◌∙◌}
 use Rattle.dbf_file.specs.Rows.{row_at}
 use Rattle.work_rows.specs.Tried.{TriedRow}
 use Rattle.work_rows.proofs.trying.shows.Goals as goal

@@ -1,14 +1,13 @@
-use Rattle.std.proofs.Common.{◌≡◌, ℕ, ℤ, ◌-◌, Option, Some, None, List, length, get_or, sym, ap, ◌∙◌, subst, to_z, of_z, rules}
+use Rattle.std.proofs.Common.{◌≡◌, ◌-◌, Option, Some, length, get_or, sym, ap, ◌∙◌, subst, rules}
 use Rattle.std.proofs.lemmas.Int.{to_z-of_z}
 use Rattle.std.specs.Int.{w128}
 use Rattle.std.specs.Option.{option_map}
 use Rattle.dbf_file.specs.Rows.{row_at}
-use Rattle.ndx_tree.specs.Pairs.{Pair}
 use Rattle.shape.specs.Keys.{key_of}
 use Rattle.row_keys.specs.Lists.{index_list}
 use Rattle.row_moves.specs.Orders.{record_order}
 use Rattle.row_moves.specs.Moves.{skipped, IsMove}
-use Rattle.work_rows.specs.Marks.{IndexMark, mark_at, parts_in}
+use Rattle.work_rows.specs.Marks.{IndexMark, parts_in}
 use Rattle.work_rows.specs.Slots.{SlotState, mark_of}
 use Rattle.work_rows.specs.Tables.{IndexedState, indexed, pair_at, order_pairs}
 use Rattle.work_rows.proofs.trying.skip.Goals as goal

@@ -1,6 +1,5 @@
-use Rattle.std.proofs.Common.{◌≡◌, ℕ, ◌≤◌, List, length, sym, ap, ◌∙◌, subst, arith}
+use Rattle.std.proofs.Common.{◌≡◌, subst}
 use Rattle.std.specs.List.{Contains}
-use Rattle.ndx_tree.specs.Pairs.{Pair}
 use Rattle.row_keys.specs.Lists.{IndexState, index_list}
 use Rattle.row_moves.specs.Moves.{sought, IsMove}
 use Rattle.work_rows.proofs.SlotLemmas.{some_weaker}

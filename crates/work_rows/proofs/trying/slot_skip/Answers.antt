@@ -1,8 +1,7 @@
-use Rattle.std.proofs.Common.{◌≡◌, ℕ, ◌≤◌, List, length, sym, ap, ◌∙◌, subst, arith, to_z, of_z}
+use Rattle.std.proofs.Common.{◌≡◌, subst}
 use Rattle.std.specs.List.{Contains}
 use Rattle.std.proofs.lemmas.Int.{to_z-of_z}
 use Rattle.std.specs.Int.{w128}
-use Rattle.ndx_tree.specs.Pairs.{Pair}
 use Rattle.row_keys.specs.Lists.{IndexState, index_list}
 use Rattle.row_moves.specs.Moves.{skipped, IsMove}
 use Rattle.work_rows.proofs.SlotLemmas.{some_weaker}

@@ -1,5 +1,4 @@
-use Rattle.std.proofs.Common.{◌≡◌, List, ℕ, ap}
-use Rattle.work_rows.specs.Marks.{left_stale}
+use Rattle.std.proofs.Common.{ap}
 use Rattle.work_rows.specs.Tables.{IndexedState, appended}
 use Rattle.work_area.proofs.OpenLemmas.{open_left}
 use Rattle.work_area.proofs.open_table.OpenTable.append.Goals as goal

@@ -1,9 +1,8 @@
-use Rattle.std.proofs.Common.{◌≡◌, ℕ, ◌+◌, ◌*◌, ◌≤◌, true, Option, Some, List, [], ◌∷◌, zero, suc, ◌<◌, length, is_some, sym, ap, ◌∙◌, subst, arith}
+use Rattle.std.proofs.Common.{◌≡◌, ℕ, true, Option, Some, List, [], ◌∷◌, zero, suc, length, is_some, sym, ap, ◌∙◌, subst, arith}
 use Rattle.std.specs.List.{All}
-use Rattle.std.specs.Prelude.{slice_get}
 use Rattle.std.specs.Fn.{FnReturnsAt}
 use Rattle.row_moves.specs.Moves.{Landing, Lands, end_of}
-use Rattle.work_rows.specs.Marks.{mark_at, count_stale}
+use Rattle.work_rows.specs.Marks.{mark_at}
 use Rattle.work_rows.specs.Passes.{behind, IsRefusal}
 use Rattle.work_rows.specs.Tables.{IndexedState, remade, order_pairs}
 use Rattle.work_rows.specs.Tried.{ShowsRows}
@@ -36,7 +35,7 @@ returns-in-Ok g c = λ shown sees.
     let lands = said in
     let made : c.index_on.new.self ≡ remade list now.table = c.in-Ok.ensures.ok ∙ ap (remade list) table in
     let there : c.land.new.self ≡ landed (opened list now) (landing (Some c.args.number)) = c.land.ensures.there
-        ∙ (λ i. record { table = made i; list = c.held-self-inside.ensures i; order = 1; pointer = lands.row i; bof = lands.bof i; found = lands.found i }) in
+    ∙ (λ i. record { table = made i; list = c.held-self-inside.ensures i; order = 1; pointer = lands.row i; bof = lands.bof i; found = lands.found i }) in
     (c.land.ensures.cost ∙ lands.cost, omega (arith, c.land.ensures.cost, lands.within), there)
 
 pub returns : goal.returns

@@ -1,4 +1,4 @@
-use Rattle.std.proofs.Common.{◌≡◌, ℕ, ◌+◌, ◌*◌, ◌≤◌, true, Option, List, length, is_some, sym, ap, ◌∙◌, subst, arith}
+use Rattle.std.proofs.Common.{◌≡◌, ℕ, ◌*◌, true, Option, length, is_some, sym, ap, ◌∙◌, subst, arith}
 use Rattle.std.specs.List.{All}
 use Rattle.std.specs.Prelude.{slice_get}
 use Rattle.std.specs.Fn.{FnReturnsAt}
@@ -31,7 +31,7 @@ returns-in-Ok g c = λ shown sees.
     let lands = subst (λ (o : Option ℕ). Lands (landing o) c.args.budget c.in-Ok.landed) c.first_index.ensures said in
     let made : c.open.new.self ≡ remade list now.table = c.in-Ok.ensures.ok ∙ ap (remade list) table in
     let there : c.land.new.self ≡ landed (opened list now) (landing (slice_get list 0)) = c.land.ensures.there
-        ∙ (λ i. record { table = made i; list = c.held-self-inside.ensures i; order = c.order_of-self-inside.ensures.value i; pointer = lands.row i; bof = lands.bof i; found = lands.found i }) in
+    ∙ (λ i. record { table = made i; list = c.held-self-inside.ensures i; order = c.order_of-self-inside.ensures.value i; pointer = lands.row i; bof = lands.bof i; found = lands.found i }) in
     (c.land.ensures.cost ∙ lands.cost, omega (arith, c.land.ensures.cost, lands.within), there)
 
 pub returns : goal.returns

@@ -1,11 +1,8 @@
-use Rattle.std.proofs.Common.{◌≡◌, ℕ, ◌+◌, ◌*◌, true, Option, List, [], length, sym, ap, ◌∙◌, subst}
-use Rattle.std.specs.Prelude.{OnOk, OnErr}
+use Rattle.std.proofs.Common.{◌≡◌, ℕ, ◌*◌, true, Option, List, length, sym, ap, ◌∙◌, subst}
 use Rattle.std.specs.Fn.{FnReturnsAt}
-use Rattle.dbf_file.specs.Rows.{unmarked}
 use Rattle.row_moves.specs.Moves.{Landing, end_of}
-use Rattle.work_rows.specs.Marks.{left_stale}
 use Rattle.work_rows.specs.Passes.{behind, IsClosing}
-use Rattle.work_rows.specs.Tables.{IndexedState, remade, order_pairs, pairs_in}
+use Rattle.work_rows.specs.Tables.{IndexedState, remade, order_pairs}
 use Rattle.work_rows.specs.Tried.{ShowsRows}
 use Rattle.work_area.specs.Open.{OpenState, IsOpen, with_table, order_index}
 use Rattle.work_area.proofs.OpenLemmas.{open_remade, either, ended_by, on_ok, on_err}

@@ -1,5 +1,4 @@
-use Rattle.std.proofs.Common.{◌≡◌, List, ℕ, ap, sym, subst}
-use Rattle.work_rows.specs.Marks.{left_stale}
+use Rattle.std.proofs.Common.{◌≡◌, ap, sym, subst}
 use Rattle.work_rows.specs.Tables.{IndexedState, replaced}
 use Rattle.work_area.specs.Open.{IsOpen}
 use Rattle.work_area.proofs.OpenLemmas.{open_left, either}

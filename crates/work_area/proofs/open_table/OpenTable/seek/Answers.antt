@@ -1,7 +1,7 @@
-use Rattle.std.proofs.Common.{◌≡◌, ℕ, true, false, Option, Some, sym, ap, ◌∙◌, subst}
+use Rattle.std.proofs.Common.{◌≡◌, ℕ, Option, Some, ap, ◌∙◌, subst}
 use Rattle.std.specs.Fn.{FnReturnsAt}
 use Rattle.row_moves.specs.Moves.{IsMove, sought}
-use Rattle.work_rows.specs.Tables.{IndexedState, order_pairs, pair_at}
+use Rattle.work_rows.specs.Tables.{IndexedState, order_pairs}
 use Rattle.work_rows.specs.Tried.{ShowsRows}
 use Rattle.work_area.specs.Open.{OpenState, IsMoved, order_index}
 use Rattle.work_area.proofs.open_table.OpenTable.seek.Goals as goal

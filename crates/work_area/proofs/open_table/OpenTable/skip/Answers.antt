@@ -1,8 +1,8 @@
-use Rattle.std.proofs.Common.{◌≡◌, ℕ, true, false, Option, sym, ap, ◌∙◌, subst, to_z, of_z}
+use Rattle.std.proofs.Common.{◌≡◌, ℕ, Option, ap, ◌∙◌, subst}
 use Rattle.std.proofs.lemmas.Int.{to_z-of_z}
 use Rattle.std.specs.Int.{w128}
 use Rattle.std.specs.Fn.{FnReturnsAt}
-use Rattle.row_moves.specs.Moves.{IsMove, end_of, skipped}
+use Rattle.row_moves.specs.Moves.{IsMove, skipped}
 use Rattle.work_rows.specs.Tables.{IndexedState, order_pairs, pair_at}
 use Rattle.work_rows.specs.Tried.{ShowsRows}
 use Rattle.work_area.specs.Open.{OpenState, IsMoved, order_index}

@@ -1,7 +1,7 @@
-use Rattle.std.proofs.Common.{◌≡◌, ℕ, true, false, Option, sym, ap, ◌∙◌, subst}
+use Rattle.std.proofs.Common.{◌≡◌, ℕ, true, Option, ap, ◌∙◌, subst}
 use Rattle.std.specs.Fn.{FnReturnsAt}
-use Rattle.row_moves.specs.Moves.{IsMove, end_of, skipped}
-use Rattle.work_rows.specs.Tables.{IndexedState, order_pairs, pair_at}
+use Rattle.row_moves.specs.Moves.{IsMove, end_of}
+use Rattle.work_rows.specs.Tables.{IndexedState, order_pairs}
 use Rattle.work_rows.specs.Tried.{ShowsRows}
 use Rattle.work_area.specs.Open.{OpenState, IsMoved, order_index}
 use Rattle.work_area.proofs.open_table.OpenTable.top.Goals as goal

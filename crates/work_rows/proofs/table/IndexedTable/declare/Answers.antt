@@ -3,7 +3,7 @@ use Rattle.std.specs.List.{All}
 use Rattle.std.proofs.lemmas.List.Elements.{All-push}
 use Rattle.shape.specs.Keys.{IsKey}
 use Rattle.work_rows.specs.Slots.{SlotState, IsSlot}
-use Rattle.work_rows.specs.Tables.{IsIndexed, IndexedState}
+use Rattle.work_rows.specs.Tables.{IndexedState}
 use Rattle.work_rows.proofs.table.IndexedTable.declare.Goals as goal
 
 pub invariant_of-self-2 : goal.invariant_of-self-2

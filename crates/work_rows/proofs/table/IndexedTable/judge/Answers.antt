@@ -10,5 +10,5 @@ use Rattle.work_rows.proofs.table.IndexedTable.judge.Goals as goal
 pub returns : goal.returns
 returns g c = λ shown.
     subst (λ (t : IndexedState). ShowsRows (FnReturnsAt g.F.Fn) c.args.see.now t.structure (kept_rows c.args.kept t.rows) shown
-        → IsMove (behind c.args.base (end_of shown true (pairs_in c.args.order t.marks (kept_rows c.args.kept t.rows)))) c.args.budget c.judge.result) c.self.view_is
+    → IsMove (behind c.args.base (end_of shown true (pairs_in c.args.order t.marks (kept_rows c.args.kept t.rows)))) c.args.budget c.judge.result) c.self.view_is
     (c.judge.ensures shown)

@@ -1,4 +1,4 @@
-use Rattle.std.proofs.Common.{◌+◌, ◌<◌, ◌≤◌, true, List, subst, arith}
+use Rattle.std.proofs.Common.{◌+◌, ◌<◌, true, List, subst, arith}
 use Rattle.std.specs.Fn.{FnReturnsAt}
 use Rattle.dbf_file.specs.Rows.{Row}
 use Rattle.row_moves.specs.Moves.{Lands, end_of, met}

@@ -1,7 +1,7 @@
-use Rattle.std.proofs.Common.{◌≡◌, ℕ, Some, sym, ap, subst}
+use Rattle.std.proofs.Common.{Some, subst}
 use Rattle.std.specs.Fn.{FnReturnsAt}
 use Rattle.row_moves.specs.Moves.{IsMove, sought}
-use Rattle.work_rows.specs.Tables.{IndexedState, indexed, order_pairs, pair_at}
+use Rattle.work_rows.specs.Tables.{IndexedState, order_pairs}
 use Rattle.work_rows.specs.Tried.{ShowsRows}
 use Rattle.work_rows.proofs.table.IndexedTable.seek.Goals as goal
 

@@ -1,7 +1,6 @@
-use Rattle.std.proofs.Common.{◌≡◌, ◌≤◌, length, sym, ap, ◌∙◌, subst}
+use Rattle.std.proofs.Common.{◌≡◌, ◌≤◌, sym, ap, subst}
 use Rattle.dbf_file.specs.Rows.{with_mark}
 use Rattle.dbf_file.specs.Tables.{TableState}
-use Rattle.row_keys.specs.Lists.{index_list}
 use Rattle.work_rows.specs.Slots.{IsSlot}
 use Rattle.work_rows.specs.Tables.{IsIndexed}
 use Rattle.std.proofs.lemmas.List.{length-set}

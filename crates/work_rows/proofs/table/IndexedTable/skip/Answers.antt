@@ -1,4 +1,4 @@
-use Rattle.std.proofs.Common.{◌≡◌, ℕ, Some, sym, ap, subst, to_z, of_z}
+use Rattle.std.proofs.Common.{subst}
 use Rattle.std.proofs.lemmas.Int.{to_z-of_z}
 use Rattle.std.specs.Int.{w128}
 use Rattle.std.specs.Fn.{FnReturnsAt}
