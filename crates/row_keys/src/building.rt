@@ -16,14 +16,17 @@ use std::alloc::{AllocError, Global};
 
 /// Which rows of a table are kept.
 #[derive(Clone, Copy, Debug, PartialEq, Eq)]
-enum Kept {
+pub enum Kept {
+    /// All of them.
     Every,
+    /// Those that aren't marked.
     Unmarked,
+    /// None.
     Nothing,
 }
 
 /// Whether row `r`, counted from 0, is kept.
-fn keeps(kept: Kept, table: &Table, r: usize) -> bool
+pub fn keeps(kept: Kept, table: &Table, r: usize) -> bool
     requires { r < length table.now.rows }
     ensures { result ≡ is_kept kept (row_at table.now.rows r) }
 {
@@ -91,8 +94,9 @@ fn entries_of(
     Ok(entries)
 }
 
-/// An index of the rows that are kept.
-fn build_of<K: KeyList>(
+/// An index made anew of the rows that are kept, numbered in their order: it lists them. `key_text` (at most 100 bytes, none
+/// of them zero) says how the keys are made.
+pub fn build_of<K: KeyList>(
     alloc: Global,
     table: &Table,
     key: KeyParts,

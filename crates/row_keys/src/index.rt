@@ -1,17 +1,20 @@
 //! Indexes, and their changes with a table's rows.
 
-ghost use Rattle.std.specs.Prelude.{◌≡◌, ℕ, ◌+◌, ◌<◌, ◌≤◌, ◌^◌, ◌∷◌, [], ◌++◌, List, All, Contains, OnOk, OnErr, length, reverse, slice_index};
+ghost use Rattle.std.specs.Prelude.{◌≡◌, ℕ, ◌+◌, ◌<◌, ◌≤◌, ◌^◌, ◌∷◌, [], ◌++◌, List, All, Contains, Bool, OnOk, OnErr, length, reverse, slice_index};
 ghost use Rattle.dbf_file.specs.Rows.{blank_row, with_text};
 ghost use Rattle.dbf_file.specs.Tables.{row_widths, letter_at, decimals_at};
 ghost use Rattle.dbf_file.specs.Values.{kind_for, text_by};
 ghost use Rattle.ndx_tree.specs.Order.{above, below, first};
 ghost use Rattle.ndx_tree.specs.Pairs.{is_before, pairs_from};
 ghost use Rattle.row_keys.specs.Lists.{row_pair, IsIndexOf, IsExact, ChangedBy, IsSameIndex, IsAsBefore, HasAdded, HasRemoved, HaveRoom};
+ghost use Rattle.row_moves.specs.Orders.{MayTry, Sees};
+ghost use Rattle.row_moves.specs.Moves.{IsMove, end_of, skipped, sought};
 ghost use Rattle.xvalue.specs.Kinds.{kind_of};
 
 use crate::laws::index_lists;
 use dbf_file::Table;
 use ndx_tree::{Entry, KeyList};
+use row_moves::{Landed, Spent, bottom, seek, skip, top};
 use shape::KeyParts;
 use std::alloc::AllocError;
 use std::marker::Model;
@@ -103,8 +106,59 @@ impl<K: KeyList> Index<K> {
         self.list.before(key, number)
     }
 
+    /// TOP or BOTTOM in the order of the keys.
+    pub fn go_to_end<F: Fn(u32) -> bool>(
+        &mut self,
+        forward: bool,
+        see: &F,
+        budget: u64,
+    ) -> Result<Landed, Spent>
+        requires { MayTry F.pre see.now self.old.pairs }
+        ensures lands { (shown : ℕ → Bool) → Sees F.post see.now self.old.pairs shown
+            → IsMove (end_of shown forward self.old.pairs) budget result }
+        ensures same { self.new ≡ self.old }
+    {
+        if forward {
+            top(&mut self.list, see, budget)
+        } else {
+            bottom(&mut self.list, see, budget)
+        }
+    }
+
+    /// SKIP in the order of the keys, from a pair or the end of file.
+    pub fn skip<F: Fn(u32) -> bool>(
+        &mut self,
+        from: Option<Entry>,
+        steps: i128,
+        see: &F,
+        budget: u64,
+    ) -> Result<Landed, Spent>
+        requires { MayTry F.pre see.now self.old.pairs }
+        ensures lands { (shown : ℕ → Bool) → Sees F.post see.now self.old.pairs shown
+            → IsMove (skipped shown steps from self.old.pairs) budget result }
+        ensures same { self.new ≡ self.old }
+    {
+        skip(&mut self.list, from, steps, see, budget)
+    }
+
+    /// SEEK among the keys.
+    pub fn seek<F: Fn(u32) -> bool>(
+        &mut self,
+        text: &[u8],
+        exact: bool,
+        see: &F,
+        budget: u64,
+    ) -> Result<Landed, Spent>
+        requires { MayTry F.pre see.now self.old.pairs }
+        ensures lands { (shown : ℕ → Bool) → Sees F.post see.now self.old.pairs shown
+            → IsMove (sought shown exact text.now self.old.pairs) budget result }
+        ensures same { self.new ≡ self.old }
+    {
+        seek(&mut self.list, text, exact, see, budget)
+    }
+
     /// Makes room for one more pair.
-    fn reserve_one(&mut self) -> Result<(), AllocError>
+    pub fn reserve_one(&mut self) -> Result<(), AllocError>
         requires { length self.old.pairs + 1 < 2 ^ 32 }
         ensures same { IsAsBefore self.old self.new }
         ensures ok { OnOk result (0 < self.new.spare) }
@@ -114,7 +168,7 @@ impl<K: KeyList> Index<K> {
 
     /// Puts in the pair of row `r`, counted from 0.
     #[tactic(auto, unfolding(crate::specs::Lists::row_pair))]
-    fn add_row(&mut self, table: &Table, r: usize)
+    pub fn add_row(&mut self, table: &Table, r: usize)
         requires row { r < length table.now.rows }
         requires few { r < 1000000 }
         requires index { IsIndexOf table.now.structure self.old }
@@ -128,7 +182,7 @@ impl<K: KeyList> Index<K> {
 
     /// Takes out the pair of row `r`, counted from 0.
     #[tactic(auto, unfolding(crate::specs::Lists::row_pair))]
-    fn remove_row(&mut self, table: &Table, r: usize)
+    pub fn remove_row(&mut self, table: &Table, r: usize)
         requires row { r < length table.now.rows }
         requires few { r < 1000000 }
         requires index { IsIndexOf table.now.structure self.old }

@@ -13,6 +13,6 @@ pub mod building;
 pub mod index;
 pub mod laws;
 
-pub use building::{build, clear, pack};
+pub use building::{Kept, build, build_of, clear, keeps, pack};
 pub use index::{Index, append, replace};
 pub use shape::{KeyPart, KeyParts};

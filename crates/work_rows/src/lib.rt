@@ -1,0 +1,17 @@
+//! A table with its declared indexes.
+#![tactic(auto)]
+
+mod changes;
+mod closing;
+mod keyed;
+mod passes;
+pub mod refused;
+pub mod row;
+mod slot;
+mod slots;
+mod table;
+mod trying;
+
+pub use refused::Refused;
+pub use row::Row;
+pub use table::IndexedTable;
