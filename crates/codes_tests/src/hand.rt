@@ -1,6 +1,6 @@
 // Codes made by hand: two tables T and U, each with one field K of five bytes; the indexes TI and TJ of T and UI of U; the lists
 // TI with TJ, UI, and TI; the constants true, A and 1; a filter of T that needs a text in slot 0; two slots; a main
-// procedure of level 1, and one of level 0 that returns.
+// procedure, and another one of level 0.
 
 use crate::spelled::instr_of;
 use arrayvec::ArrayVec;
@@ -36,6 +36,9 @@ pub(crate) struct Plan {
     pub(crate) version: Version,
     pub(crate) maps: &'static [(u16, Known)],
     pub(crate) main: &'static str,
+    /// The main procedure's level, and the block of the other one, which has level 0.
+    pub(crate) level: u8,
+    pub(crate) other: &'static str,
     pub(crate) filter: &'static str,
 }
 
@@ -208,13 +211,14 @@ pub(crate) fn code_of(alloc: Global, plan: Plan) -> Result<Code, AllocError> {
     let mut instrs = Vec::new(alloc);
     put_block(&mut instrs, plan.main)?;
     let main = instrs.len();
-    put_block(&mut instrs, "RETURN")?;
+    put_block(&mut instrs, plan.other)?;
     let behind = instrs.len();
     put_block(&mut instrs, plan.filter)?;
     let filter_length = instrs.len() - behind.min(instrs.len());
     let mut procedures = Vec::new(alloc);
-    procedures.push(procedure(alloc, main, 1)?)?;
-    procedures.push(procedure(alloc, 1, 0)?)?;
+    procedures.push(procedure(alloc, main, plan.level)?)?;
+    let other = behind - main.min(behind);
+    procedures.push(procedure(alloc, other, 0)?)?;
     Ok(Code {
         declared: declared(alloc, plan.version, filter_length)?,
         procedures: Items::of(procedures),

@@ -31,6 +31,8 @@ fn first_wrong(alloc: Global, rows: &[Row]) -> Result<usize, AllocError> {
             version: Version::Two,
             maps,
             main,
+            level: 1,
+            other: "RETURN",
             filter: FILTER,
         };
         if verdict(alloc, plan)?.as_str() != *wanted {
@@ -305,6 +307,8 @@ fn first_wrong_filter(
             version: Version::One,
             maps: &[],
             main: "END",
+            level: 1,
+            other: "RETURN",
             filter,
         };
         if verdict(alloc, plan)?.as_str() != *wanted {
@@ -343,6 +347,8 @@ fn codes_without_a_file(rt: HostRuntime) -> Result<(), Fail> {
         version: Version::One,
         maps: &[],
         main: "END",
+        level: 1,
+        other: "RETURN",
         filter: FILTER,
     };
     assert!(rt; verdict(alloc, plan)?.as_str() == "accepted");
@@ -368,5 +374,40 @@ fn codes_without_a_file(rt: HostRuntime) -> Result<(), Fail> {
     assert!(rt; verdict(alloc, falling)?.as_str() == "no code");
     let empty = Plan { filter: "", ..plan };
     assert!(rt; verdict(alloc, empty)?.as_str() == "no code");
+    Ok(())
+}
+
+/// The verdict on a main procedure of a level with another one.
+fn verdict_of_both(
+    alloc: Global,
+    level: u8,
+    main: &'static str,
+    other: &'static str,
+) -> Result<String, AllocError> {
+    let plan = Plan {
+        version: Version::One,
+        maps: &[],
+        main,
+        level,
+        other,
+        filter: FILTER,
+    };
+    verdict(alloc, plan)
+}
+
+#[test]
+fn levels_and_exits(rt: HostRuntime) -> Result<(), Fail> {
+    let alloc = rt.alloc();
+    assert!(rt; verdict_of_both(alloc, 1, "CALL 1; END", "RETURN")?.as_str() == "accepted");
+    assert!(rt;
+        verdict_of_both(alloc, 0, "CALL 1; END", "RETURN")?.as_str() == "refused CallLevel 0"
+    );
+    assert!(rt;
+        verdict_of_both(alloc, 0, "CALL 0; END", "RETURN")?.as_str() == "refused CallLevel 0"
+    );
+    assert!(rt; verdict_of_both(alloc, 0, "RETURN", "RETURN")?.as_str() == "accepted");
+    assert!(rt;
+        verdict_of_both(alloc, 1, "CALL 1; END", "OPEN 0 0; RETURN")?.as_str() == "refused Exit 3"
+    );
     Ok(())
 }
