@@ -1,5 +1,5 @@
-// Codes made by hand: two tables T and U, each with one field K of five bytes; the indexes TI and TJ of T and UI of U; the lists
-// TI with TJ, UI, and TI; the constants true, A and 1; a filter of T that needs a text in slot 0; two slots; a main
+// Codes made by hand: two tables T2 and U2, each with one field K of five bytes; the indexes TI and TJ of T2 and UI of U2; the
+// lists TI with TJ, UI, and TI; the constants true, A and 1; a filter of T2 that needs a text in slot 0; two slots; a main
 // procedure, and another one of level 0.
 
 use crate::spelled::instr_of;
@@ -20,7 +20,7 @@ pub(crate) enum Known {
     Nothing,
     /// A text on the stack.
     TextOnTop,
-    /// T open in area 1, with the first list and its first order.
+    /// T2 open in area 1, with the first list and its first order.
     Opened,
     /// Nothing of area 1.
     UnsureFirst,
