@@ -1,0 +1,4 @@
+pub mod PileLists
+pub mod Picking
+pub mod Calls
+pub mod Tops

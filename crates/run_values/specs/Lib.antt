@@ -1,0 +1,4 @@
+pub mod KindStacks
+pub mod Places
+pub mod Standing
+pub mod Tagged

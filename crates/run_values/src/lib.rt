@@ -1,0 +1,21 @@
+//! What a run keeps of values: slots and a stack, with tags that tell kinds and without.
+//!
+//! `Values` says what instructions ask of them; `Tagged` is the checking machine's body, `Untagged` that of the machine
+//! without tags. Both stand for the same lists of values with their kinds.
+#![tactic(auto)]
+
+pub mod cells;
+pub mod pile;
+pub mod slots;
+pub mod stacks;
+pub mod tagged;
+pub mod untagged;
+pub mod values;
+
+pub use cells::{Cell, Cells};
+pub use pile::{Pile, STACK_LIMIT};
+pub use slots::Slots;
+pub use stacks::Stacks;
+pub use tagged::Tagged;
+pub use untagged::Untagged;
+pub use values::Values;
