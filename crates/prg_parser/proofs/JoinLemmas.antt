@@ -1,16 +1,38 @@
 -- Lemmas on joined lines.
 
-use Rattle.std.proofs.Common.{◌≡◌, ℕ, ◌+◌, ◌<◌, List, [], ◌∷◌, ◌++◌, Option, Some, None, length, take, drop, refl, sym, ◌∙◌, ap, arith, append_assoc, Bool, true, ◌==◌, suc}
+use Rattle.std.proofs.Common.{◌≡◌, ℕ, ◌+◌, ◌<◌, List, [], ◌∷◌, ◌++◌, Option, Some, None, length, take, drop, refl, sym, ◌∙◌, ap, arith, append_assoc, Bool, true, false, ◌==◌, ◌&&◌, suc}
 use Rattle.std.proofs.lemmas.Bool.{eqb-true}
 use Rattle.std.proofs.lemmas.List.{append-nil}
-use Rattle.std.specs.List.{prefix_len}
 use Rattle.prg_parser.specs.Lines as spec
 use Rattle.prg_parser.specs.Lines.{Joined}
-use Rattle.prg_parser.proofs.LineLemmas.{is_other, first-ended, first-last, lines-none}
+use Rattle.text_lines.specs.Lines as files
 
-lines-some : (bytes rest : List ℕ) → rest ≡ drop (prefix_len is_other bytes) bytes → 0 < length bytes → (l : List ℕ) × (ls : List (List ℕ)) × (spec.lines bytes ≡ l ∷ ls)
-lines-some bytes [] e some = (take (prefix_len is_other bytes) bytes, spec.lines [], first-last bytes (take (prefix_len is_other bytes) bytes) some refl (sym e))
-lines-some bytes (c ∷ behind) e some = (spec.without_return (take (prefix_len is_other bytes) bytes), spec.lines behind, first-ended bytes (take (prefix_len is_other bytes) bytes) behind c refl (sym e))
+abbrev HasSome : List (List ℕ) → Type 0
+HasSome ls = (l : List ℕ) × (more : List (List ℕ)) × (ls ≡ l ∷ more)
+
+in_front : (b : ℕ) (ls : List (List ℕ)) → HasSome (files.put_in_front b ls)
+in_front b [] = (b ∷ [], [], refl)
+in_front b (l ∷ ls) = (b ∷ l, ls, refl)
+
+-- a byte begins a line or is a return before one's end
+lines-byte : (b : ℕ) (rest : List ℕ) (ended : Bool) (returned : Bool) → (b == 10) ≡ ended → (b == 13 && files.begins_with_line_end rest) ≡ returned → (returned ≡ true → HasSome (files.lines rest)) → HasSome (files.lines (b ∷ rest))
+unfolding files.lines
+lines-byte b rest true r e f behind = ([], files.lines rest, rw e refl)
+lines-byte b rest false true e f behind = let s = behind refl in (s.0, s.1, rw (e, f) s.2)
+lines-byte b rest false false e f behind = let s = in_front b (files.lines rest) in (s.0, s.1, rw (e, f) s.2)
+
+no_return : (b : ℕ) (x : Bool) → (x && files.begins_with_line_end []) ≡ true → HasSome (files.lines [])
+no_return b true h = absurd (cc)
+no_return b false h = absurd (cc)
+
+lines-some : (bytes : List ℕ) → 0 < length bytes → HasSome (files.lines bytes)
+lines-some [] some = absurd (omega (arith, some))
+lines-some (b ∷ []) some = lines-byte b [] (b == 10) (b == 13 && files.begins_with_line_end []) refl refl (no_return b (b == 13))
+lines-some (b ∷ c ∷ rest) some = lines-byte b (c ∷ rest) (b == 10) (b == 13 && files.begins_with_line_end (c ∷ rest)) refl refl (λ h. lines-some (c ∷ rest) (omega arith))
+
+lines-none : files.lines [] ≡ []
+unfolding files.lines
+lines-none = refl
 
 glue-nothing : (n : ℕ) (l : List ℕ) (o : Option (List ℕ)) (others : List Joined) → spec.glue n [] (spec.join_to n l o others) ≡ spec.join_to n l o others
 glue-nothing n l None others = refl
@@ -21,10 +43,10 @@ starts-with : (n : ℕ) (ls : List (List ℕ)) (l : List ℕ) (more : List (List
 unfolding spec.joined
 starts-with n ls l more e = rw (e) (glue-nothing n l (spec.continued l) (spec.joined (n + 1) more))
 
-pub starts : (n : ℕ) (bytes : List ℕ) → 0 < length bytes → spec.glue n [] (spec.joined n (spec.lines bytes)) ≡ spec.joined n (spec.lines bytes)
+pub starts : (n : ℕ) (bytes : List ℕ) → 0 < length bytes → spec.glue n [] (spec.joined n (files.lines bytes)) ≡ spec.joined n (files.lines bytes)
 starts n bytes some =
-    let split = lines-some bytes (drop (prefix_len is_other bytes) bytes) refl some in
-    starts-with n (spec.lines bytes) split.0 split.1 split.2
+    let split = lines-some bytes some in
+    starts-with n (files.lines bytes) split.0 split.1 split.2
 
 glue-glue : (first line : ℕ) (text front : List ℕ) (others : List Joined) → spec.glue first text (spec.glue line front others) ≡ spec.glue first (text ++ front) others
 glue-glue first line text front [] = refl
@@ -43,12 +65,12 @@ unfolding spec.joined
 ends first line text found ls all e a = rw (a, e) refl
 
 -- nothing follows the file's last line
-pub stops : (first line : ℕ) (text rest : List ℕ) → rest ≡ [] → spec.glue first text (spec.joined line (spec.lines rest)) ≡ (record { first = first; text = text }) ∷ spec.joined line (spec.lines rest)
+pub stops : (first line : ℕ) (text rest : List ℕ) → rest ≡ [] → spec.glue first text (spec.joined line (files.lines rest)) ≡ (record { first = first; text = text }) ∷ spec.joined line (files.lines rest)
 unfolding spec.joined
 stops first line text rest e = rw (e, lines-none) refl
 
 -- behind the last byte no line is left
-pub none_left : (line : ℕ) (rest : List ℕ) → rest ≡ [] → spec.joined line (spec.lines rest) ≡ []
+pub none_left : (line : ℕ) (rest : List ℕ) → rest ≡ [] → spec.joined line (files.lines rest) ≡ []
 unfolding spec.joined
 none_left line rest e = rw (e, lines-none) refl
 
@@ -60,5 +82,5 @@ pub is_nothing : (rest : List ℕ) (b : Bool) → b ≡ true → b ≡ (length r
 is_nothing [] b n e = refl
 is_nothing (x ∷ rest) b n e = let z : length (x ∷ rest) ≡ 0 = eqb-true (length (x ∷ rest)) 0 (sym e ∙ n) in absurd (too_long (length rest) z)
 
-pub all_joined : (done : List Joined) (line : ℕ) (rest : List ℕ) (all : List Joined) → done ++ spec.joined line (spec.lines rest) ≡ all → rest ≡ [] → done ≡ all
+pub all_joined : (done : List Joined) (line : ℕ) (rest : List ℕ) (all : List Joined) → done ++ spec.joined line (files.lines rest) ≡ all → rest ≡ [] → done ≡ all
 all_joined done line rest all e nothing = sym (append-nil done) ∙ ap (λ (l : List Joined). done ++ l) (sym (none_left line rest nothing)) ∙ e

@@ -2,7 +2,6 @@ pub mod BuildLemmas
 pub mod FileLemmas
 pub mod JoinLemmas
 pub mod LayoutLemmas
-pub mod LineLemmas
 pub mod MarkLemmas
 pub mod OneProgram
 pub mod RangeLemmas

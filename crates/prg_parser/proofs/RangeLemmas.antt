@@ -14,6 +14,7 @@ use Rattle.prg_line.specs.declared.role.Role.{Role}
 use Rattle.prg_line.specs.declared.role.Role.TheVariants.{Nothing, Plain, Leap, Procedure, If, Else, EndIf, DoCase, Case, Otherwise, EndCase, DoWhile, EndDo, Scan, EndScan}
 use Rattle.prg_parser.specs.declared.judging.Mark.{Mark}
 use Rattle.prg_parser.specs.Lines as lines
+use Rattle.text_lines.specs.Lines as text
 use Rattle.prg_parser.specs.Lines.{Joined}
 use Rattle.prg_parser.specs.Marks.{mark_of, marks}
 use Rattle.prg_parser.specs.Verdict as spec
@@ -137,11 +138,11 @@ pub marked-lines : (ls : List Joined) → map (λ (m : Mark). m.line) (map mark_
 marked-lines [] = refl
 marked-lines (j ∷ ls) = ap (λ (ns : List ℕ). j.first ∷ ns) (marked-lines ls)
 
-pub names_line : (bytes : List ℕ) (fault : ParseFault) → verdict [] None (marks bytes) ≡ Some fault → IsLineOf (length (lines.lines (lines.before_end bytes))) fault.line
+pub names_line : (bytes : List ℕ) (fault : ParseFault) → verdict [] None (marks bytes) ≡ Some fault → IsLineOf (length (text.lines (lines.before_end bytes))) fault.line
 names_line bytes fault v =
-    let count = length (lines.lines (lines.before_end bytes)) in
+    let count = length (text.lines (lines.before_end bytes)) in
     let all : All (λ (x : Joined). IsLineOf count x.first) (lines.joined_lines bytes) =
-    All-weaker (Numbered 1 count) (λ (x : Joined). IsLineOf count x.first) (λ x h. numbered-line count x.first h) (lines.joined_lines bytes) (joined-in 1 (lines.lines (lines.before_end bytes))) in
+    All-weaker (Numbered 1 count) (λ (x : Joined). IsLineOf count x.first) (λ x h. numbered-line count x.first h) (lines.joined_lines bytes) (joined-in 1 (text.lines (lines.before_end bytes))) in
     let numbers : All (IsLineOf count) (map (λ (x : Joined). x.first) (lines.joined_lines bytes)) = All-map (IsLineOf count) (λ (x : Joined). x.first) (lines.joined_lines bytes) all in
     let marked : All (λ (x : Mark). IsLineOf count x.line) (marks bytes) =
     by_number (IsLineOf count) (λ (x : Mark). x.line) (marks bytes)

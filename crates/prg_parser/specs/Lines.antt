@@ -1,36 +1,12 @@
 -- The lines of a command file, and how they are joined.
 
-use Rattle.std.specs.Prelude.{ℕ, ◌+◌, ◌==◌, ◌&&◌, ◌||◌, not, Bool, false, List, [], ◌∷◌, ◌++◌, take, reverse, Option, Some, None, if◌then◌else◌}
+use Rattle.std.specs.Prelude.{ℕ, ◌+◌, ◌==◌, ◌||◌, not, Bool, false, List, [], ◌∷◌, ◌++◌, take, reverse, Option, Some, None, if◌then◌else◌}
 use Rattle.std.specs.List.{prefix_len}
+use Rattle.text_lines.specs.Lines.{lines}
 
 -- hex 1A ends the file: the bytes before the first one
 abbrev pub before_end : List ℕ → List ℕ
 before_end bytes = take (prefix_len (λ b. not (b == 26)) bytes) bytes
-
-abbrev pub begins_with_line_end : List ℕ → Bool
-begins_with_line_end [] = false
-begins_with_line_end (b ∷ rest) = b == 10
-
--- a byte put in front of the first line
-abbrev pub put_in_front : ℕ → List (List ℕ) → List (List ℕ)
-put_in_front b [] = (b ∷ []) ∷ []
-put_in_front b (line ∷ others) = (b ∷ line) ∷ others
-
--- the lines of a text: hex 0A ends a line, and a return just before it is no part of the line; nothing follows the last line end
-unfoldable pub lines : List ℕ → List (List ℕ)
-lines [] = []
-lines (b ∷ rest) =
-    if b == 10 then [] ∷ lines rest
-    else if b == 13 && begins_with_line_end rest then lines rest
-    else put_in_front b (lines rest)
-
--- a line, seen from its end as well, without a return as its last byte
-abbrev pub strip_return : List ℕ → List ℕ → List ℕ
-strip_return line [] = line
-strip_return line (last ∷ others) = if last == 13 then reverse others else line
-
-unfoldable pub without_return : List ℕ → List ℕ
-without_return line = strip_return line (reverse line)
 
 abbrev pub is_blank : ℕ → Bool
 is_blank b = b == 32 || b == 9

@@ -3,9 +3,11 @@
 ghost use Rattle.std.specs.Prelude.{◌≡◌, ◌+◌, ◌<◌, ◌≤◌, ◌^◌, ◌==◌, ◌∷◌, not, length, map, reverse, option_map, IfOk};
 ghost use Rattle.std.specs.List.{prefix_len};
 ghost use Rattle.prg_parser.specs.Lines as spec;
+ghost use Rattle.text_lines.specs.Lines.{lines};
 ghost use Rattle.prg_parser.specs.Joined.{joined_of};
 
 use std::alloc::{AllocError, Global};
+use text_lines::first_line;
 
 /// The byte that ends a file.
 const END_OF_FILE: u8 = 0x1a;
@@ -35,38 +37,6 @@ fn before_end(bytes: &[u8]) -> &[u8]
     ensures { result.now ≡ spec.before_end bytes.now }
 {
     &bytes[..text_length(bytes)]
-}
-
-/// The line without a return at its end.
-#[tactic(auto, unfolding(crate::specs::Lines::without_return))]
-fn without_return(line: &[u8]) -> &[u8]
-    ensures { result.now ≡ spec.without_return line.now }
-{
-    match line {
-        [text @ .., b'\r'] => text,
-        _ => line,
-    }
-}
-
-/// How many bytes come before the first line end.
-fn line_length(bytes: &[u8]) -> usize
-    ensures value { result ≡ prefix_len (λ b. not (b == 10)) bytes.now }
-    ensures within { result ≤ length bytes.now }
-{
-    bytes.iter().take_while(|byte| **byte != b'\n').count()
-}
-
-/// The first line, and the bytes behind its end.
-fn first_line(bytes: &[u8]) -> (&[u8], &[u8])
-    requires { 0 < length bytes.now }
-    ensures first { spec.lines bytes.now ≡ result.0.now ∷ spec.lines result.1.now }
-    ensures shorter { length result.1.now < length bytes.now }
-{
-    let (text, rest) = bytes.split_at(line_length(bytes));
-    match rest {
-        [] => (text, rest),
-        [_, behind @ ..] => (without_return(text), behind),
-    }
 }
 
 /// The line without the blanks and tabs at its end.
@@ -104,7 +74,7 @@ struct Joining<'a> {
 fn join_line<'a>(alloc: Global, first: usize, bytes: &'a [u8]) -> Result<Joining<'a>, AllocError>
     requires some { 0 < length bytes.now }
     requires room { first + length bytes.now ≤ 2 ^ 63 }
-    ensures joined { IfOk result (λ found. spec.joined first (spec.lines bytes.now) ≡ joined_of found.joined ∷ spec.joined found.line (spec.lines found.rest.now)) }
+    ensures joined { IfOk result (λ found. spec.joined first (lines bytes.now) ≡ joined_of found.joined ∷ spec.joined found.line (lines found.rest.now)) }
     ensures shorter { IfOk result (λ found. length found.rest.now < length bytes.now) }
     ensures numbered { IfOk result (λ found. found.line + length found.rest.now ≤ first + length bytes.now) }
 {

@@ -9,7 +9,8 @@ ghost use Rattle.prg_parser.specs.Joined.{joined_of};
 ghost use Rattle.prg_parser.specs.Commands.{ProgramTree, program_of};
 ghost use Rattle.prg_parser.specs.Layout.{laid_program, program_lines, said_lines};
 ghost use Rattle.prg_parser.specs.declared.program.Program.{Program as AnyProgram};
-ghost use Rattle.prg_parser.specs.Lines.{lines as line_list, before_end};
+ghost use Rattle.prg_parser.specs.Lines.{before_end};
+ghost use Rattle.text_lines.specs.Lines.{lines as line_list};
 ghost use Rattle.prg_parser.specs.Marks as spec;
 ghost use Rattle.prg_parser.specs.Verdict.{NamesLine, verdict};
 

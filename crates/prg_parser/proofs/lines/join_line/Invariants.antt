@@ -1,10 +1,11 @@
 use Rattle.std.proofs.Common.{◌≡◌, ◌≤◌, ◌+◌, length}
 use Rattle.prg_parser.specs.Lines as spec
+use Rattle.text_lines.specs.Lines as text
 use Rattle.prg_parser.proofs.lines.join_line.Given as goal
 
 abbrev pub invariant-loop-rest : goal.invariant-loop-rest
 invariant-loop-rest l = record {
-  joined : spec.glue l.first l.text.items (spec.joined l.line (spec.lines l.rest)) ≡ spec.joined l.first (spec.lines l.bytes);
+  joined : spec.glue l.first l.text.items (spec.joined l.line (text.lines l.rest)) ≡ spec.joined l.first (text.lines l.bytes);
   within : length l.rest ≤ length l.bytes;
   numbered : l.line + length l.rest ≤ l.first + length l.bytes;
 }

@@ -1,7 +1,7 @@
 use Rattle.std.proofs.Common.{◌∙◌, ap, ◌∷◌, ◌-◌, take, drop, length, List, ℕ, sym}
-use Rattle.prg_parser.specs.Lines as spec
-use Rattle.prg_parser.proofs.LineLemmas.{first-of-one, first-of-two}
-use Rattle.prg_parser.proofs.lines.first_line.Goals as goal
+use Rattle.text_lines.specs.Lines as spec
+use Rattle.text_lines.proofs.LineLemmas.{first-of-one, first-of-two}
+use Rattle.text_lines.proofs.lines.first_line.Goals as goal
 
 pub returns-in-empty-clause-first : goal.returns-in-empty-clause-first
 returns-in-empty-clause-first c =

@@ -4,7 +4,7 @@ use Rattle.std.proofs.Common.{◌≡◌, ℕ, suc, ◌+◌, ◌-◌, ◌<◌, �
 use Rattle.std.specs.List.{prefix_len}
 use Rattle.std.proofs.lemmas.List.{take-append-drop, append-nil, reverse-append, length-reverse, take_all}
 use Rattle.std.proofs.lemmas.Bool.{eqb-true}
-use Rattle.prg_parser.specs.Lines as spec
+use Rattle.text_lines.specs.Lines as spec
 
 -- whether a line end is among the bytes
 abbrev pub has_end : List ℕ → Bool

@@ -1,0 +1,25 @@
+//! How runs end.
+
+use crate::fault::FaultKind;
+
+/// How a run ends.
+#[derive(Clone, Copy, PartialEq, Eq, Debug)]
+pub enum End {
+    /// The code came to its end.
+    Finished,
+    /// The next step costs more than is left of the budget.
+    Spent,
+    /// The next step adds a record to this table, counted from 0, which holds as many as it may.
+    Full(u16),
+    /// The next step wants memory that was refused.
+    NoMemory,
+    /// The next step has a fault, of this kind, at this place.
+    Fault(FaultKind, usize),
+}
+
+/// How a run ended, and what its steps cost together.
+#[derive(Clone, Copy, PartialEq, Eq, Debug)]
+pub struct Outcome {
+    pub end: End,
+    pub steps: u64,
+}
