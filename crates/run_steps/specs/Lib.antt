@@ -1,7 +1,9 @@
 pub mod Control
 pub mod Effects
+pub mod Executed
 pub mod Faults
 pub mod Filters
+pub mod Needs
 pub mod Run
 pub mod Shapes
 pub mod World

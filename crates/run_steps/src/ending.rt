@@ -23,3 +23,14 @@ pub struct Outcome {
     pub end: End,
     pub steps: u64,
 }
+
+/// Why an instruction was not carried out.
+#[derive(Clone, Copy, PartialEq, Eq, Debug)]
+pub enum Stop {
+    /// It costs more than is left.
+    Spent,
+    /// The table, counted from 0, holds as many records as it may.
+    Full(u16),
+    /// It wants memory that was refused.
+    NoMemory,
+}

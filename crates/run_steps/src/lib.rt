@@ -2,7 +2,11 @@
 #![tactic(auto)]
 
 pub mod ending;
+pub mod environment;
 pub mod fault;
+pub mod on_screen;
+pub mod on_values;
 
-pub use ending::{End, Outcome};
+pub use ending::{End, Outcome, Stop};
+pub use environment::Environment;
 pub use fault::FaultKind;

@@ -1,0 +1,130 @@
+//! What instructions change but for values and places.
+
+ghost use Rattle.std.specs.Prelude.{◌≡◌, OnOk, OnErr};
+ghost use Rattle.screen_lines.specs.State.{new_line, printed, said, said_on, cleared};
+ghost use Rattle.text_lines.specs.Lines.{next_line, lines_behind};
+ghost use Rattle.xvalue.specs.Setting.{with_setting};
+ghost use Rattle.xvalue.specs.Shown.{shown};
+ghost use Rattle.run_steps.specs.World.{with_store, with_screen, with_lines, with_settings};
+
+use ndx_tree::KeyList;
+use screen_lines::Screen;
+use std::alloc::AllocError;
+use std::marker::Model;
+use text_lines::TypedLines;
+use work_store::Store;
+use xvalue::{Day, Setting, Settings, Text, Value};
+
+/// The tables and work areas, the screen, the operator's lines that are left, the settings, and the day of the run.
+#[derive(Drop)]
+pub struct Environment<K: KeyList> {
+    pub(crate) store: Store<K>,
+    pub(crate) screen: Screen,
+    pub(crate) lines: TypedLines,
+    pub(crate) settings: Settings,
+    pub(crate) today: Day,
+}
+
+impl<K: KeyList> Model for Environment<K> {
+    ghost use Rattle.run_steps.specs.World.{EnvState};
+
+    ghost Value = { EnvState };
+
+    ghost view = { λ e. record { store = e.store; screen = e.screen; lines = e.lines; settings = e.settings; today = e.today } };
+}
+
+impl<K: KeyList> Environment<K> {
+    /// These, on this day, with all settings as told.
+    pub fn new(store: Store<K>, screen: Screen, lines: TypedLines, settings: Settings, today: Day) -> Self
+        ensures { result ≡ record { store = store; screen = screen; lines = lines; settings = settings; today = today } }
+    {
+        Environment {
+            store,
+            screen,
+            lines,
+            settings,
+            today,
+        }
+    }
+
+    /// The tables and work areas.
+    pub fn store(&self) -> &Store<K>
+        ensures { result.now ≡ self.now.store }
+    {
+        &self.store
+    }
+
+    /// The screen.
+    pub fn screen(&self) -> &Screen
+        ensures { result.now ≡ self.now.screen }
+    {
+        &self.screen
+    }
+
+    /// Which settings are on.
+    pub fn settings(&self) -> Settings
+        ensures { result ≡ self.now.settings }
+    {
+        self.settings
+    }
+
+    /// The day of the run.
+    pub fn today(&self) -> Day
+        ensures { result ≡ self.now.today }
+    {
+        self.today
+    }
+
+    /// A setting is on or off from now on.
+    pub(crate) fn set(&mut self, setting: Setting, on: bool)
+        ensures { self.new ≡ with_settings (with_setting setting on self.old.settings) self.old }
+    {
+        self.settings = self.settings.with(setting, on);
+    }
+
+    /// Begins a new line of the screen. Where memory is refused nothing changes.
+    pub(crate) fn new_line(&mut self) -> Result<(), AllocError>
+        ensures ok { OnOk result (self.new ≡ with_screen (new_line self.old.screen) self.old) }
+        ensures err { OnErr result (self.new ≡ self.old) }
+    {
+        self.screen.try_new_line()
+    }
+
+    /// Shows a value at the cursor. Where memory is refused nothing changes.
+    pub(crate) fn print(&mut self, value: &Value) -> Result<(), AllocError>
+        ensures ok { OnOk result (self.new ≡ with_screen (printed (shown self.old.settings value.now) self.old.screen) self.old) }
+        ensures err { OnErr result (self.new ≡ self.old) }
+    {
+        self.screen.try_print(&value.shown(self.settings))
+    }
+
+    /// Shows a value from this row and column on.
+    pub(crate) fn say(&mut self, row: i128, column: i128, value: &Value)
+        ensures { self.new ≡ with_screen (said row column (shown self.old.settings value.now) self.old.screen) self.old }
+    {
+        self.screen.say(row, column, &value.shown(self.settings));
+    }
+
+    /// Shows a value one column behind the cursor.
+    pub(crate) fn say_on(&mut self, value: &Value)
+        ensures { self.new ≡ with_screen (said_on (shown self.old.settings value.now) self.old.screen) self.old }
+    {
+        self.screen.say_on(&value.shown(self.settings));
+    }
+
+    /// Clears the screen. Where memory is refused nothing changes.
+    pub(crate) fn clear(&mut self) -> Result<(), AllocError>
+        ensures ok { OnOk result (self.new ≡ with_screen (cleared self.old.screen) self.old) }
+        ensures err { OnErr result (self.new ≡ self.old) }
+    {
+        self.screen.clear()
+    }
+
+    /// The operator's next line.
+    pub(crate) fn next_line(&mut self) -> Text
+        ensures line { result.items ≡ next_line self.old.lines }
+        ensures rest { self.new ≡ with_lines (lines_behind self.old.lines) self.old }
+    {
+        self.lines.next()
+    }
+}

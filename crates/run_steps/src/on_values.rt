@@ -1,0 +1,69 @@
+//! Instructions on values, slots and settings.
+
+ghost use Rattle.std.specs.Prelude.{◌≡◌, Some};
+ghost use Rattle.code_items.specs.declared.instr.Instr.TheVariants.{Values as OfValues};
+ghost use Rattle.run_values.specs.Tagged.{TaggedValues};
+ghost use Rattle.run_steps.specs.Effects.{whole_of, value_values, value_env};
+ghost use Rattle.run_steps.specs.Needs.{ValueNeeds};
+ghost use Rattle.run_steps.specs.Executed.{Executed};
+
+use crate::ending::Stop;
+use crate::environment::Environment;
+use code_items::Code;
+use code_items::instr::ValueInstr;
+use ndx_tree::KeyList;
+use run_values::Values;
+use xvalue::Value;
+
+/// The whole part of a number, 0 of the asterisk value.
+pub(crate) fn whole(value: &Value) -> i128
+    ensures { result ≡ whole_of (Some value.now) }
+{
+    match value {
+        Value::Number(number) => number.whole(),
+        _ => 0,
+    }
+}
+
+/// An instruction on values, slots and settings, which costs 1 and is never refused for another cause.
+fn change_values<V: Values, K: KeyList>(
+    code: &Code,
+    values: &mut V,
+    env: &mut Environment<K>,
+    instr: ValueInstr,
+)
+    requires { (t : TaggedValues) × (V.stands values.old t × ValueNeeds code.now instr t) }
+    ensures values { (t : TaggedValues) → V.stands values.old t → ValueNeeds code.now instr t → V.stands values.new (value_values code.now instr t env.old) }
+    ensures env { env.new ≡ value_env instr env.old }
+{
+    match instr {
+        ValueInstr::Constant(number) => {
+            values.push_copy(code.declared.constants.get(usize::from(number)));
+        }
+        ValueInstr::Load(kind, slot) => values.load(kind, usize::from(slot)),
+        ValueInstr::Store(kind, slot) => values.store(kind, usize::from(slot)),
+        ValueInstr::Unset(slot) => values.unset(usize::from(slot)),
+        ValueInstr::Discard(kind) => values.discard(kind),
+        ValueInstr::Function(fun) => values.call(fun, env.settings()),
+        ValueInstr::Today => values.push(Value::Date(env.today())),
+        ValueInstr::Set(setting, on) => env.set(setting, on),
+    }
+}
+
+/// Carries out an instruction on values, slots and settings.
+pub fn on_values<V: Values, K: KeyList>(
+    code: &Code,
+    values: &mut V,
+    env: &mut Environment<K>,
+    instr: ValueInstr,
+    left: u64,
+) -> Result<u64, Stop>
+    requires { (t : TaggedValues) × (V.stands values.old t × ValueNeeds code.now instr t) }
+    ensures { (t : TaggedValues) → V.stands values.old t → ValueNeeds code.now instr t → Executed code.now (OfValues instr) t env.old left result (V.stands values.new) env.new }
+{
+    if left == 0 {
+        return Err(Stop::Spent);
+    }
+    change_values(code, values, env, instr);
+    Ok(1)
+}
