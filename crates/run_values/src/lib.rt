@@ -6,6 +6,7 @@
 
 pub mod cells;
 pub mod pile;
+pub mod scratch;
 pub mod slots;
 pub mod stacks;
 pub mod tagged;
@@ -14,6 +15,7 @@ pub mod values;
 
 pub use cells::{Cell, Cells};
 pub use pile::{Pile, STACK_LIMIT};
+pub use scratch::Scratch;
 pub use slots::Slots;
 pub use stacks::Stacks;
 pub use tagged::Tagged;

@@ -22,6 +22,13 @@ pub enum Value {
     Logical(bool),
 }
 
+/// False, which stands in the unused places of arrays.
+impl Default for Value {
+    fn default() -> Value {
+        Value::Logical(false)
+    }
+}
+
 impl Value {
     /// The kind of the value.
     pub fn kind(&self) -> Kind
