@@ -1,5 +1,7 @@
 -- What is known of a legal code.
-use Rattle.std.proofs.Common.{◌≡◌, ◌≤◌, Bool, true, false, ◌&&◌, nat_le, List, [], ◌∷◌, length, refl, arith}
+use Rattle.std.proofs.Common.{◌≡◌, ℕ, ◌≤◌, ◌-◌, Bool, true, false, ◌&&◌, nat_le, List, [], ◌∷◌, ◌++◌, length, refl, arith}
+use Rattle.std.specs.Prelude.{map}
+use Rattle.shape.specs.Lists.{is_list}
 use Rattle.std.specs.List.{list_all}
 use Rattle.std.proofs.lemmas.Bool.{leb-true}
 use Rattle.shape.specs.Whole.{is_shape}
@@ -7,7 +9,7 @@ use Rattle.code_items.specs.declared.code.Proc.{Proc}
 use Rattle.code_items.specs.declared.code.Code.{Code}
 use Rattle.code_items.specs.Declarations.{are_declared, is_filter, lists_are_legal, constants_are_legal, filters_are_legal}
 use Rattle.code_items.specs.Instrs.{is_instr}
-use Rattle.code_items.specs.Legal.{is_procedure, begins_blank, is_map, places_of, blocks_of, blocks_fill, maps_rise, procedures_are_legal, maps_are_legal, instructions_are_legal, is_code, IsCode}
+use Rattle.code_items.specs.Legal.{total, is_procedure, begins_blank, is_map, places_of, blocks_of, blocks_fill, maps_rise, procedures_are_legal, maps_are_legal, instructions_are_legal, is_code, IsCode}
 use Rattle.code_items.specs.Facts.{Facts}
 
 both : (a b : Bool) → a && b ≡ true → (a ≡ true) × (b ≡ true)
@@ -17,6 +19,14 @@ both false b e = absurd (cc)
 some_there : (procedures : List Proc) → begins_blank procedures ≡ true → 1 ≤ length procedures
 some_there [] e = absurd (cc)
 some_there (p ∷ ps) e = omega arith
+
+-- blocks that fill some places have no more
+filled_within : (left : ℕ) (ns ms : List ℕ) → blocks_fill left (ns ++ ms) ≡ true → total ns ≤ left
+filled_within left [] ms e = omega arith
+filled_within left (n ∷ ns) ms e =
+    let a = both (nat_le 1 n && nat_le n left) (blocks_fill (left - n) (ns ++ ms)) e in
+    let b = both (nat_le 1 n) (nat_le n left) a.0 in
+    omega (arith, leb-true n left b.1, filled_within (left - n) ns ms a.1)
 
 pub facts : (code : Code) → IsCode code → Facts code
 unfolding is_code are_declared
@@ -33,8 +43,10 @@ facts code e =
     let m = both (nat_le (length code.procedures) 256 && list_all (is_procedure code.declared) code.procedures) (begins_blank code.procedures) c.1 in
     let n = both (nat_le (length code.procedures) 256) (list_all (is_procedure code.declared) code.procedures) m.0 in
     let o = both (nat_le (length code.maps) 4096 && list_all (is_map code.declared) code.maps) (maps_rise 0 (places_of code.procedures) code.maps) b.1 in
-    let p = both (nat_le 1 (length code.instructions) && nat_le (length code.instructions) 65535 && list_all (is_instr code.declared.version) code.instructions) (blocks_fill (length code.instructions) (blocks_of code.procedures code.declared.filters)) a.1 in
-    let q = both (nat_le 1 (length code.instructions) && nat_le (length code.instructions) 65535) (list_all (is_instr code.declared.version) code.instructions) p.0 in
+    let ls = both (nat_le (length code.declared.lists) 64) (list_all (is_list code.declared.shape.indexes) code.declared.lists) g.1 in
+    let w = both (nat_le 1 (length code.instructions) && nat_le (length code.instructions) 65535 && list_all (is_instr code.declared.version) code.instructions) (blocks_fill (length code.instructions) (blocks_of code.procedures code.declared.filters)) a.1 in
+    let p = both (nat_le 1 (length code.instructions) && nat_le (length code.instructions) 65535) (list_all (is_instr code.declared.version) code.instructions) w.0 in
+    let q = both (nat_le 1 (length code.instructions) && nat_le (length code.instructions) 65535) (list_all (is_instr code.declared.version) code.instructions) w.0 in
     let r = both (nat_le 1 (length code.instructions)) (nat_le (length code.instructions) 65535) q.0 in
     record {
       stack_bound = leb-true code.declared.stack_bound 64 k.0;
@@ -45,4 +57,8 @@ facts code e =
       maps = o.1;
       begun = leb-true 1 (length code.instructions) r.0;
       instructions = leb-true (length code.instructions) 65535 r.1;
+      places = filled_within (length code.instructions) (map (λ p. p.length) code.procedures) (map (λ f. f.length) code.declared.filters) w.1;
+      legal = p.1;
+      lists = ls.1;
+      shape = h.1;
     }

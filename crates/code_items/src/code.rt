@@ -85,7 +85,8 @@ fn are_instrs(version: Version, instrs: &[Instr]) -> bool
 /// How many places the procedures' blocks have.
 pub fn places_of_blocks(procedures: &[Proc]) -> usize
     requires { length procedures.now ≤ 256 }
-    ensures { result ≡ places_of procedures.now }
+    ensures value { result ≡ places_of procedures.now }
+    ensures few { result ≤ 16777216 }
 {
     let mut places = 0;
     let mut rest = procedures;

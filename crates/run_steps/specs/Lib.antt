@@ -6,4 +6,5 @@ pub mod Filters
 pub mod Needs
 pub mod Run
 pub mod Shapes
+pub mod Walking
 pub mod World

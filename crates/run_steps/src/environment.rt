@@ -1,12 +1,15 @@
 //! What instructions change but for values and places.
 
-ghost use Rattle.std.specs.Prelude.{◌≡◌, OnOk, OnErr};
+ghost use Rattle.std.specs.Prelude.{◌≡◌, OnOk, OnErr, IfSome, IsSome};
 ghost use Rattle.screen_lines.specs.State.{new_line, printed, said, said_on, cleared};
 ghost use Rattle.text_lines.specs.Lines.{next_line, lines_behind};
 ghost use Rattle.xvalue.specs.Setting.{with_setting};
 ghost use Rattle.xvalue.specs.Shown.{shown};
+ghost use Rattle.work_store.specs.Areas.{here, selected_use};
+ghost use Rattle.run_steps.specs.Effects.{filter_here};
 ghost use Rattle.run_steps.specs.World.{with_store, with_screen, with_lines, with_settings};
 
+use crate::filtering::Moment;
 use ndx_tree::KeyList;
 use screen_lines::Screen;
 use std::alloc::AllocError;
@@ -26,6 +29,8 @@ pub struct Environment<K: KeyList> {
 }
 
 impl<K: KeyList> Model for Environment<K> {
+    ghost use Rattle.work_store.specs.Areas.{here, selected_use};
+    ghost use Rattle.run_steps.specs.Effects.{filter_here};
     ghost use Rattle.run_steps.specs.World.{EnvState};
 
     ghost Value = { EnvState };
@@ -35,7 +40,13 @@ impl<K: KeyList> Model for Environment<K> {
 
 impl<K: KeyList> Environment<K> {
     /// These, on this day, with all settings as told.
-    pub fn new(store: Store<K>, screen: Screen, lines: TypedLines, settings: Settings, today: Day) -> Self
+    pub fn new(
+        store: Store<K>,
+        screen: Screen,
+        lines: TypedLines,
+        settings: Settings,
+        today: Day,
+    ) -> Self
         ensures { result ≡ record { store = store; screen = screen; lines = lines; settings = settings; today = today } }
     {
         Environment {
@@ -73,6 +84,37 @@ impl<K: KeyList> Environment<K> {
         ensures { result ≡ self.now.today }
     {
         self.today
+    }
+
+    /// What a filter may read besides slots and row.
+    pub(crate) fn moment(&self) -> Moment
+        ensures { result ≡ record { settings = self.now.settings; today = self.now.today } }
+    {
+        Moment {
+            settings: self.settings,
+            today: self.today,
+        }
+    }
+
+    /// The filter of the selected area, counted from 1; 0 where it has none.
+    pub(crate) fn filter_here(&self) -> u16
+        ensures { result ≡ filter_here self.now.store }
+    {
+        match self.store.use_of(self.store.selected()) {
+            Some(used) => used.filter,
+            None => 0,
+        }
+    }
+
+    /// The table of the selected area, which is open, counted from 0.
+    pub(crate) fn table_here(&self) -> u16
+        requires { IsSome (here self.now.store) }
+        ensures { IfSome (selected_use self.now.store) (λ u. result ≡ u.table) }
+    {
+        match self.store.use_of(self.store.selected()) {
+            Some(used) => used.table,
+            None => unreachable!(),
+        }
     }
 
     /// A setting is on or off from now on.

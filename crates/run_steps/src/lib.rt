@@ -4,6 +4,10 @@
 pub mod ending;
 pub mod environment;
 pub mod fault;
+pub mod filtering;
+pub mod on_areas;
+pub mod on_moves;
+pub mod on_records;
 pub mod on_screen;
 pub mod on_values;
 

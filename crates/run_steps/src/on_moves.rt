@@ -1,0 +1,199 @@
+//! Moves of the selected area's record pointer.
+
+ghost use Rattle.std.specs.Prelude.{◌≡◌, ℕ, Bool, Ok, Err, MatchResult, IfSome, IsSome};
+ghost use Rattle.std.specs.Fn.{FnReturnsAt};
+ghost use Rattle.work_store.specs.Areas.{here, change_here};
+ghost use Rattle.work_store.specs.Calls.{MovesHere, skip_of};
+ghost use Rattle.work_area.specs.Open.{gone};
+ghost use Rattle.work_rows.specs.Tried.{ShowsRows};
+ghost use Rattle.code_rules.specs.Signature.{move_signature};
+ghost use Rattle.code_items.specs.Legal.{IsCode};
+ghost use Rattle.code_items.specs.declared.instr.Instr.TheVariants.{Moves as OfMoves};
+ghost use Rattle.run_values.specs.Tagged.{TaggedValues, dropped};
+ghost use Rattle.run_steps.specs.Effects.{whole_of, text_of, record_number};
+ghost use Rattle.run_steps.specs.Executed.{Executed};
+ghost use Rattle.run_steps.specs.Filters.{viewing, shown_by, is_visible as visible};
+ghost use Rattle.run_steps.specs.Needs.{FilterNeeds, MoveNeeds, SeekNeeds, GivenNeeds, given_of};
+ghost use Rattle.run_steps.specs.Walking.{HasWalked, HasChanged};
+
+use crate::ending::Stop;
+use crate::environment::Environment;
+use crate::filtering::View;
+use crate::on_values::whole;
+use code_items::Code;
+use code_items::instr::MoveInstr;
+use ndx_tree::KeyList;
+use row_moves::Spent;
+use run_values::Values;
+use work_rows::Row;
+use work_store::Store;
+use xvalue::{Kind, Value};
+
+/// The whole part of a number; without one, 0.
+fn steps(given: &Option<Value>) -> i128
+    ensures { result ≡ whole_of given.now }
+{
+    match given {
+        Some(value) => whole(value),
+        None => 0,
+    }
+}
+
+/// The record of a number's whole part; no table has one below 0 or from 2^32 on.
+fn record_given(given: &Option<Value>) -> Option<u32>
+    ensures { result ≡ record_number (whole_of given.now) }
+{
+    let whole = steps(given);
+    if 0 <= whole && whole < 1 << 32 {
+        return Some(whole as u32);
+    }
+    None
+}
+
+/// The bytes of a text; without one, none.
+fn text(given: &Option<Value>) -> &[u8]
+    ensures { result.now ≡ text_of given.now }
+{
+    match given {
+        Some(Value::Text(text)) => text.as_slice(),
+        _ => &[],
+    }
+}
+
+/// What a move answers of its cost.
+fn settled(moved: Result<u64, Spent>) -> Result<u64, Stop>
+    ensures { MatchResult moved (λ cost. result ≡ Ok cost) (λ _. result ≡ Err Stop.Spent) }
+{
+    match moved {
+        Ok(cost) => Ok(cost),
+        Err(Spent) => Err(Stop::Spent),
+    }
+}
+
+/// Makes a move, given its operand, with a test of what is visible.
+fn walk<K: KeyList, F: Fn(&Row<'_>) -> bool>(
+    store: &mut Store<K>,
+    exact: bool,
+    instr: MoveInstr,
+    given: &Option<Value>,
+    see: F,
+    left: u64,
+) -> Result<u64, Stop>
+    requires open { IsSome (here store.old) }
+    requires order { SeekNeeds instr store.old }
+    requires callable { F.IsAlwaysCallable see }
+    ensures { IfSome (here store.old) (λ o. (shown : ℕ → Bool) → ShowsRows (FnReturnsAt F.Fn) see o.table.structure o.table.rows shown → HasWalked instr given.now exact store.old o shown left result store.new) }
+{
+    match instr {
+        MoveInstr::Top => settled(store.top(see, left)),
+        MoveInstr::Bottom => settled(store.bottom(see, left)),
+        MoveInstr::Skip => settled(skip(store, given, see, left)),
+        MoveInstr::Go => go(store, record_given(given), left),
+        MoveInstr::Seek => settled(store.seek(text(given), exact, see, left)),
+    }
+}
+
+/// SKIP, by the whole part of a number.
+fn skip<K: KeyList, F: Fn(&Row<'_>) -> bool>(
+    store: &mut Store<K>,
+    given: &Option<Value>,
+    see: F,
+    left: u64,
+) -> Result<u64, Spent>
+    requires open { IsSome (here store.old) }
+    requires callable { F.IsAlwaysCallable see }
+    ensures { MovesHere (FnReturnsAt F.Fn) see (skip_of (whole_of given.now)) store.old store.new left result }
+{
+    store.skip(steps(given), see, left)
+}
+
+/// GO, which meets no row.
+fn go<K: KeyList>(store: &mut Store<K>, number: Option<u32>, left: u64) -> Result<u64, Stop>
+    requires { IsSome (here store.old) }
+    ensures done { HasChanged (change_here (gone number) store.old) 0 store.old left result store.new }
+    ensures grows { ¬ (result ≡ Err Stop.NoMemory) }
+{
+    if left == 0 {
+        return Err(Stop::Spent);
+    }
+    store.go(number);
+    Ok(1)
+}
+
+/// The operand of a move, if it has one; it stays on the stack.
+fn operand<V: Values>(values: &V, instr: MoveInstr) -> Option<Value>
+    requires { (t : TaggedValues) × (V.stands values.now t × GivenNeeds instr t) }
+    ensures { (t : TaggedValues) → V.stands values.now t → GivenNeeds instr t → result ≡ given_of instr t }
+{
+    match instr {
+        MoveInstr::Top | MoveInstr::Bottom => None,
+        MoveInstr::Skip | MoveInstr::Go => Some(values.top(Kind::Number)),
+        MoveInstr::Seek => Some(values.top(Kind::Text)),
+    }
+}
+
+/// Takes the operand of a move off the stack, if it has one.
+fn take_operand<V: Values>(values: &mut V, instr: MoveInstr)
+    requires { (t : TaggedValues) × (V.stands values.old t × GivenNeeds instr t) }
+    ensures { (t : TaggedValues) → V.stands values.old t → GivenNeeds instr t → V.stands values.new (dropped (move_signature instr).taken t) }
+{
+    match instr {
+        MoveInstr::Top | MoveInstr::Bottom => {}
+        MoveInstr::Skip | MoveInstr::Go => values.discard(Kind::Number),
+        MoveInstr::Seek => values.discard(Kind::Text),
+    }
+}
+
+/// Makes a move among the rows that the filter shows.
+fn look_and_walk<V: Values, K: KeyList>(
+    view: &View<'_, V>,
+    store: &mut Store<K>,
+    instr: MoveInstr,
+    given: &Option<Value>,
+    left: u64,
+) -> Result<u64, Stop>
+    requires legal { IsCode view.now.code.now }
+    requires open { IsSome (here store.old) }
+    requires order { SeekNeeds instr store.old }
+    requires filter { (t : TaggedValues) × (V.stands view.now.values.now t × FilterNeeds view.now.code.now t view.now.filter) }
+    ensures { (t : TaggedValues) → V.stands view.now.values.now t → FilterNeeds view.now.code.now t view.now.filter
+        → IfSome (here store.old) (λ o. HasWalked instr given.now view.now.moment.settings.exact store.old o (shown_by view.now.code.now (viewing t view.now.moment) view.now.filter o.table.structure o.table.rows) left result store.new) }
+{
+    walk(
+        store,
+        view.moment.settings.exact,
+        instr,
+        given,
+        |row: &Row<'_>| -> bool
+            requires code { IsCode view.now.code.now }
+            requires filter { (t : TaggedValues) × (V.stands view.now.values.now t × FilterNeeds view.now.code.now t view.now.filter) }
+            ensures { (t : TaggedValues) → V.stands view.entry.now.values.now t → FilterNeeds view.entry.now.code.now t view.entry.now.filter
+                → result ≡ visible view.entry.now.code.now (viewing t view.entry.now.moment) view.entry.now.filter row.now }
+        { view.shows(row) },
+        left,
+    )
+}
+
+/// Carries out a move.
+pub fn on_moves<V: Values, K: KeyList>(
+    code: &Code,
+    values: &mut V,
+    env: &mut Environment<K>,
+    instr: MoveInstr,
+    left: u64,
+) -> Result<u64, Stop>
+    requires legal { IsCode code.now }
+    requires needs { (t : TaggedValues) × (V.stands values.old t × MoveNeeds code.now instr t env.old) }
+    ensures { (t : TaggedValues) → V.stands values.old t → MoveNeeds code.now instr t env.old → Executed code.now (OfMoves instr) t env.old left result (V.stands values.new) env.new }
+{
+    let given = operand(values, instr);
+    let view = View {
+        code,
+        values,
+        moment: env.moment(),
+        filter: env.filter_here(),
+    };
+    let cost = look_and_walk(&view, &mut env.store, instr, &given, left)?;
+    take_operand(values, instr);
+    Ok(cost)
+}

@@ -1,0 +1,242 @@
+//! Instructions on records.
+
+ghost use Rattle.std.specs.Prelude.{◌≡◌, ◌≤◌, ◌<◌, ◌∷◌, ℕ, Bool, List, [], Ok, Err, IsTrue, MatchResult, MatchBool, IfSome, IsSome, length, slice_get, unwrap_or};
+ghost use Rattle.std.specs.Fn.{FnReturnsAt};
+ghost use Rattle.dbf_file.specs.Rows.{Row as TheRow};
+ghost use Rattle.dbf_file.specs.Tables.{StructureState, letter_at};
+ghost use Rattle.dbf_file.specs.Values.{kind_for};
+ghost use Rattle.work_store.specs.Areas.{here};
+ghost use Rattle.code_items.specs.Legal.{IsCode};
+ghost use Rattle.code_items.specs.declared.instr.Instr.TheVariants.{Records as OfRecords};
+ghost use Rattle.code_items.specs.declared.instr.RecordInstr.TheVariants.{Append as OfAppend};
+ghost use Rattle.code_items.specs.declared.code.Code.{Code as AnyCode};
+ghost use Rattle.run_values.specs.Tagged.{TaggedValues};
+ghost use Rattle.run_steps.specs.Effects.{answer as answer_of, index_in, closing_store, closing_met, store_closed, closing_cost};
+ghost use Rattle.run_steps.specs.Executed.{Executed};
+ghost use Rattle.run_steps.specs.Filters.{viewing, shown_by, is_visible as visible};
+ghost use Rattle.run_steps.specs.Needs.{FilterNeeds, HasField, TakesField, RecordNeeds, ClosingNeeds, IsClosing, IsPlain};
+ghost use Rattle.run_steps.specs.Walking.{HasChanged, HasReplaced, ShowsAll};
+
+use crate::ending::Stop;
+use crate::environment::Environment;
+use crate::filtering::View;
+use crate::on_areas::{list_of, refused};
+use code_items::Code;
+use code_items::instr::{Question, RecordInstr};
+use ndx_tree::KeyList;
+use run_values::Values;
+use std::alloc::Global;
+use work_area::AppendError;
+use work_rows::Row;
+use work_store::Store;
+use xvalue::{Kind, Value};
+
+/// What a question answers of the selected area, which is open.
+fn answer<K: KeyList>(store: &Store<K>, question: Question) -> Value
+    requires { IsSome (here store.now) }
+    ensures { IfSome (here store.now) (λ o. result ≡ answer_of question o) }
+{
+    match question {
+        Question::Recno => Value::Number(store.recno().into()),
+        Question::Reccount => Value::Number(store.reccount().into()),
+        Question::Eof => Value::Logical(store.eof()),
+        Question::Bof => Value::Logical(store.bof()),
+        Question::Found => Value::Logical(store.found()),
+        Question::Deleted => Value::Logical(store.deleted()),
+    }
+}
+
+/// The kind of the values of a field of the selected area's table.
+fn kind_here<K: KeyList>(store: &Store<K>, field: u16) -> Kind
+    requires { HasField field (here store.now) }
+    ensures { IfSome (here store.now) (λ o. result ≡ kind_for (letter_at o.table.structure field)) }
+{
+    match store.use_of(store.selected()) {
+        Some(used) => {
+            let table = store.table(used.table);
+            table.structure().fields()[usize::from(field)].letter.kind()
+        }
+        None => unreachable!(),
+    }
+}
+
+/// The one index of a list.
+fn index_of(code: &Code, list: u16) -> u8
+    ensures { result ≡ index_in code.now.declared list }
+{
+    match list_of(code, u32::from(list)).first() {
+        Some(number) => *number,
+        None => 0,
+    }
+}
+
+/// APPEND to the selected area's table.
+fn append<V: Values, K: KeyList>(values: &V, env: &mut Environment<K>) -> Result<u64, Stop>
+    requires { IsSome (here env.old.store) }
+    ensures { (code : AnyCode) (t : TaggedValues) (left : ℕ) → 1 ≤ left → V.stands values.now t → Executed code (OfRecords OfAppend) t env.old left result (V.stands values.now) env.new }
+{
+    match env.store.append() {
+        Ok(()) => Ok(1),
+        Err(AppendError::Full) => Err(Stop::Full(env.table_here())),
+        Err(AppendError::NoMemory) => Err(Stop::NoMemory),
+    }
+}
+
+/// REPLACE: puts the value on top into a field of the current record, and takes it. Where memory is refused nothing changes.
+fn replace<V: Values, K: KeyList>(
+    values: &mut V,
+    store: &mut Store<K>,
+    field: u16,
+) -> Result<u64, Stop>
+    requires { (t : TaggedValues) × (V.stands values.old t × HasField field (here store.old) × IfSome (here store.old) (TakesField field t)) }
+    ensures { (t : TaggedValues) → V.stands values.old t → HasField field (here store.old) → IfSome (here store.old) (TakesField field t)
+        → HasReplaced field t store.old result (V.stands values.new) store.new }
+{
+    let kind = kind_here(store, field);
+    let value = values.top(kind);
+    match store.replace(usize::from(field), &value) {
+        Ok(()) => {
+            values.discard(kind);
+            Ok(1)
+        }
+        Err(_) => Err(Stop::NoMemory),
+    }
+}
+
+/// A change that ends with TOP, with a test of what is visible.
+fn close_with<K: KeyList, F: Fn(&Row<'_>) -> bool>(
+    alloc: Global,
+    code: &Code,
+    store: &mut Store<K>,
+    instr: RecordInstr,
+    see: F,
+    left: u64,
+) -> Result<u64, Stop>
+    requires open { IsSome (here store.old) }
+    requires needs { ClosingNeeds code.now instr store.old }
+    requires closes { IsClosing instr }
+    requires callable { F.IsAlwaysCallable see }
+    ensures { IfSome (here store.old) (λ o. (shown : StructureState → List TheRow → ℕ → Bool) → ShowsAll (FnReturnsAt F.Fn) see shown
+        → HasChanged (closing_store code.now.declared instr shown o store.old) (closing_met code.now.declared instr shown o) store.old left result store.new) }
+{
+    match instr {
+        RecordInstr::Pack => refused(store.pack(alloc, see, left)),
+        RecordInstr::Zap => refused(store.zap(alloc, left)),
+        RecordInstr::Reindex => refused(store.reindex(alloc, see, left)),
+        RecordInstr::Index(list) => refused(store.index_on(
+            alloc,
+            u32::from(list),
+            index_of(code, list),
+            see,
+            left,
+        )),
+        _ => unreachable!(),
+    }
+}
+
+/// A change that ends with TOP among the rows that the filter shows.
+fn look_and_close<V: Values, K: KeyList>(
+    alloc: Global,
+    view: &View<'_, V>,
+    store: &mut Store<K>,
+    instr: RecordInstr,
+    left: u64,
+) -> Result<u64, Stop>
+    requires legal { IsCode view.now.code.now }
+    requires open { IsSome (here store.old) }
+    requires needs { ClosingNeeds view.now.code.now instr store.old }
+    requires closes { IsClosing instr }
+    requires filter { (t : TaggedValues) × (V.stands view.now.values.now t × FilterNeeds view.now.code.now t view.now.filter) }
+    ensures { (t : TaggedValues) → V.stands view.now.values.now t → FilterNeeds view.now.code.now t view.now.filter
+        → IfSome (here store.old) (λ o. HasChanged (closing_store view.now.code.now.declared instr (shown_by view.now.code.now (viewing t view.now.moment) view.now.filter) o store.old)
+        (closing_met view.now.code.now.declared instr (shown_by view.now.code.now (viewing t view.now.moment) view.now.filter) o) store.old left result store.new) }
+{
+    close_with(
+        alloc,
+        view.code,
+        store,
+        instr,
+        |row: &Row<'_>| -> bool
+            requires code { IsCode view.now.code.now }
+            requires filter { (t : TaggedValues) × (V.stands view.now.values.now t × FilterNeeds view.now.code.now t view.now.filter) }
+            ensures { (t : TaggedValues) → V.stands view.entry.now.values.now t → FilterNeeds view.entry.now.code.now t view.entry.now.filter
+                → result ≡ visible view.entry.now.code.now (viewing t view.entry.now.moment) view.entry.now.filter row.now }
+        { view.shows(row) },
+        left,
+    )
+}
+
+/// A change that ends with TOP.
+fn close<V: Values, K: KeyList>(
+    alloc: Global,
+    code: &Code,
+    values: &V,
+    env: &mut Environment<K>,
+    instr: RecordInstr,
+    left: u64,
+) -> Result<u64, Stop>
+    requires legal { IsCode code.now }
+    requires closes { IsClosing instr }
+    requires needs { (t : TaggedValues) × (V.stands values.now t × RecordNeeds code.now instr t env.old) }
+    ensures { (t : TaggedValues) → V.stands values.now t → RecordNeeds code.now instr t env.old → Executed code.now (OfRecords instr) t env.old left result (V.stands values.now) env.new }
+{
+    let view = View {
+        code,
+        values,
+        moment: env.moment(),
+        filter: env.filter_here(),
+    };
+    look_and_close(alloc, &view, &mut env.store, instr, left)
+}
+
+/// Carries out an instruction on records.
+pub fn on_records<V: Values, K: KeyList>(
+    alloc: Global,
+    code: &Code,
+    values: &mut V,
+    env: &mut Environment<K>,
+    instr: RecordInstr,
+    left: u64,
+) -> Result<u64, Stop>
+    requires legal { IsCode code.now }
+    requires needs { (t : TaggedValues) × (V.stands values.old t × RecordNeeds code.now instr t env.old) }
+    ensures { (t : TaggedValues) → V.stands values.old t → RecordNeeds code.now instr t env.old → Executed code.now (OfRecords instr) t env.old left result (V.stands values.new) env.new }
+{
+    if closes(instr) {
+        return close(alloc, code, values, env, instr, left);
+    }
+    if left == 0 {
+        return Err(Stop::Spent);
+    }
+    match instr {
+        RecordInstr::Field { area, field } => {
+            values.push(env.store.field(area, usize::from(field)));
+            Ok(1)
+        }
+        RecordInstr::Ask(question) => {
+            values.push(answer(&env.store, question));
+            Ok(1)
+        }
+        RecordInstr::Append => append(values, env),
+        RecordInstr::Replace(field) => replace(values, &mut env.store, field),
+        RecordInstr::Delete => {
+            env.store.delete();
+            Ok(1)
+        }
+        RecordInstr::Recall => {
+            env.store.recall();
+            Ok(1)
+        }
+        _ => unreachable!(),
+    }
+}
+
+/// Whether an instruction ends with TOP.
+fn closes(instr: RecordInstr) -> bool
+    ensures { MatchBool result (IsClosing instr) (IsPlain instr) }
+{
+    match instr {
+        RecordInstr::Pack | RecordInstr::Zap | RecordInstr::Reindex | RecordInstr::Index(_) => true,
+        _ => false,
+    }
+}
