@@ -1,0 +1,192 @@
+//! A machine, whatever keeps its values and its tables' lists; and one instruction on it.
+
+ghost use Rattle.std.specs.Prelude.{◌≡◌, ◌<◌, ◌≤◌, length, take};
+ghost use Rattle.code_items.specs.Legal.{IsCode};
+ghost use Rattle.code_items.specs.declared.code.Code.{Code as AnyCode};
+ghost use Rattle.code_items.specs.declared.instr.Instr.TheVariants.{Flow as OfFlow};
+ghost use Rattle.run_values.specs.Tagged.{TaggedValues};
+ghost use Rattle.run_steps.specs.Control.{entry_place as entry_place_of, flow_place as flow_place_of, place_after as place_after_of, returns_after};
+ghost use Rattle.run_steps.specs.Executed.{Executed, Stepped};
+ghost use Rattle.run_steps.specs.Needs.{FlowNeeds, JumpNeeds, Needs, CallFits, IsReadyFor};
+ghost use Rattle.run_steps.specs.Run.{Stands};
+ghost use Rattle.run_steps.specs.World.{World, EnvState};
+
+use crate::ending::Stop;
+use crate::environment::Environment;
+use crate::on_areas::on_areas;
+use crate::on_moves::on_moves;
+use crate::on_records::on_records;
+use crate::on_screen::on_screen;
+use crate::on_values::on_values;
+use crate::returns::ReturnPlaces;
+use code_items::code::places_of_blocks;
+use code_items::instr::{FlowInstr, Instr};
+use code_items::laws::legal_codes;
+use code_items::{Code, Proc};
+use ndx_tree::KeyList;
+use run_values::Values;
+use std::alloc::Global;
+use xvalue::Kind;
+
+/// What a run changes: the place of the next instruction, return places, slots and stack, and the rest.
+#[derive(Drop)]
+pub struct Machine<V, K: KeyList> {
+    pub place: usize,
+    pub returns: ReturnPlaces,
+    pub values: V,
+    pub env: Environment<K>,
+}
+
+/// The first procedures, as many as there are.
+fn first_procedures(procedures: &[Proc], count: usize) -> &[Proc]
+    ensures value { result.now ≡ take count procedures.now }
+    ensures few { length result.now ≤ length procedures.now }
+{
+    &procedures[..count.min(procedures.len())]
+}
+
+/// Where the block of a procedure begins.
+fn entry_place(code: &Code, number: u16) -> usize
+    requires { IsCode code.now }
+    ensures { result ≡ entry_place_of code.now number }
+{
+    legal_codes();
+    places_of_blocks(first_procedures(code.procedures.as_slice(), usize::from(number)))
+}
+
+/// Where an instruction on the flow of control goes next.
+fn flow_place<V: Values>(
+    code: &Code,
+    instr: FlowInstr,
+    place: usize,
+    returns: &ReturnPlaces,
+    values: &V,
+) -> usize
+    requires legal { IsCode code.now }
+    requires place { place < 65536 }
+    requires needs { (t : TaggedValues) × (V.stands values.now t × FlowNeeds instr t) }
+    ensures { (t : TaggedValues) → V.stands values.now t → FlowNeeds instr t → result ≡ flow_place_of code.now instr place returns.now t }
+{
+    match instr {
+        FlowInstr::Jump(target) => target as usize,
+        FlowInstr::JumpFalse(target) => {
+            if values.truth() {
+                place + 1
+            } else {
+                target as usize
+            }
+        }
+        FlowInstr::Call(number) => entry_place(code, number),
+        FlowInstr::Return => returns.last_or(place),
+        FlowInstr::End => place,
+    }
+}
+
+/// Where an instruction goes next.
+pub fn place_after<V: Values>(
+    code: &Code,
+    instr: Instr,
+    place: usize,
+    returns: &ReturnPlaces,
+    values: &V,
+) -> usize
+    requires legal { IsCode code.now }
+    requires place { place < 65536 }
+    requires needs { (t : TaggedValues) × (V.stands values.now t × JumpNeeds instr t) }
+    ensures { (t : TaggedValues) → V.stands values.now t → JumpNeeds instr t → result ≡ place_after_of code.now instr place returns.now t }
+{
+    match instr {
+        Instr::Flow(instr) => flow_place(code, instr, place, returns, values),
+        _ => place + 1,
+    }
+}
+
+/// Carries out an instruction on the flow of control, as far as values go.
+fn on_flow<V: Values>(values: &mut V, instr: FlowInstr, left: u64) -> Result<u64, Stop>
+    requires { (t : TaggedValues) × (V.stands values.old t × FlowNeeds instr t) }
+    ensures { (code : AnyCode) (t : TaggedValues) (e : EnvState) → V.stands values.old t → FlowNeeds instr t → Executed code (OfFlow instr) t e left result (V.stands values.new) e }
+{
+    if left == 0 {
+        return Err(Stop::Spent);
+    }
+    if let FlowInstr::JumpFalse(_) = instr {
+        values.discard(Kind::Logical);
+    }
+    Ok(1)
+}
+
+/// Carries out an instruction on values and environment. Where it can't be paid, or memory or room is missing, both are as they
+/// were.
+fn carry_out<V: Values, K: KeyList>(
+    alloc: Global,
+    code: &Code,
+    values: &mut V,
+    env: &mut Environment<K>,
+    instr: Instr,
+    left: u64,
+) -> Result<u64, Stop>
+    requires legal { IsCode code.now }
+    requires needs { (t : TaggedValues) × (V.stands values.old t × Needs code.now instr t env.old) }
+    ensures { (t : TaggedValues) → V.stands values.old t → Needs code.now instr t env.old → Executed code.now instr t env.old left result (V.stands values.new) env.new }
+{
+    match instr {
+        Instr::Values(instr) => on_values(code, values, env, instr, left),
+        Instr::Flow(instr) => on_flow(values, instr, left),
+        Instr::Screen(instr) => on_screen(values, env, instr, left),
+        Instr::Areas(instr) => on_areas(alloc, code, values, env, instr, left),
+        Instr::Moves(instr) => on_moves(code, values, env, instr, left),
+        Instr::Records(instr) => on_records(alloc, code, values, env, instr, left),
+    }
+}
+
+/// Notes a call's return place, or takes that of a return away.
+fn turn(returns: &mut ReturnPlaces, place: usize, instr: Instr)
+    requires fits { CallFits instr returns.old }
+    requires place { place < 65536 }
+    ensures { returns.new ≡ returns_after instr place returns.old }
+{
+    match instr {
+        Instr::Flow(FlowInstr::Call(_)) => returns.push(place + 1),
+        Instr::Flow(FlowInstr::Return) => returns.pop(),
+        _ => {}
+    }
+}
+
+/// Carries out an instruction that doesn't finish the run. For each world that the machine stands for, it answers what the
+/// instruction costs there, and stands for the world after it; where it answers why not, the machine stands for what it stood
+/// for.
+pub fn execute<V: Values, K: KeyList>(
+    alloc: Global,
+    code: &Code,
+    machine: &mut Machine<V, K>,
+    instr: Instr,
+    left: u64,
+) -> Result<u64, Stop>
+    requires legal { IsCode code.now }
+    requires ready { (w : World) × (Stands (V.stands machine.old.values) machine.old.place machine.old.returns machine.old.env w × IsReadyFor code.now w instr) }
+    ensures { (w : World) → Stands (V.stands machine.old.values) machine.old.place machine.old.returns machine.old.env w → IsReadyFor code.now w instr
+        → Stepped code.now w instr left result (V.stands machine.new.values) machine.new.place machine.new.returns machine.new.env }
+{
+    let place = place_after(
+        code,
+        instr,
+        machine.place,
+        &machine.returns,
+        &machine.values,
+    );
+    match carry_out(
+        alloc,
+        code,
+        &mut machine.values,
+        &mut machine.env,
+        instr,
+        left,
+    ) {
+        Ok(cost) => {
+            turn(&mut machine.returns, machine.place, instr);
+            machine.place = place;
+            Ok(cost)
+        }
+        Err(stop) => Err(stop),
+    }
+}
