@@ -1,5 +1,8 @@
 //! How runs end.
 
+ghost use Rattle.std.specs.Prelude.{◌≡◌};
+ghost use Rattle.run_steps.specs.Run.{end_of};
+
 use crate::fault::FaultKind;
 
 /// How a run ends.
@@ -33,4 +36,17 @@ pub enum Stop {
     Full(u16),
     /// It wants memory that was refused.
     NoMemory,
+}
+
+impl Stop {
+    /// How a run ends that stops so.
+    pub fn end(self) -> End
+        ensures { result ≡ end_of self }
+    {
+        match self {
+            Stop::Spent => End::Spent,
+            Stop::Full(table) => End::Full(table),
+            Stop::NoMemory => End::NoMemory,
+        }
+    }
 }

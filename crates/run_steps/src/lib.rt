@@ -12,9 +12,11 @@ pub mod on_records;
 pub mod on_screen;
 pub mod on_values;
 pub mod returns;
+pub mod running;
 
 pub use ending::{End, Outcome, Stop};
 pub use environment::Environment;
 pub use fault::FaultKind;
 pub use machine::{Machine, execute};
 pub use returns::ReturnPlaces;
+pub use running::run;
