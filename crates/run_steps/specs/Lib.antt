@@ -4,6 +4,7 @@ pub mod Executed
 pub mod Faults
 pub mod Filters
 pub mod Needs
+pub mod Opening
 pub mod Run
 pub mod Safe
 pub mod Shapes

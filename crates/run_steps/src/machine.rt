@@ -1,6 +1,6 @@
 //! A machine, whatever keeps its values and its tables' lists; and one instruction on it.
 
-ghost use Rattle.std.specs.Prelude.{◌≡◌, ◌<◌, ◌≤◌, length, take};
+ghost use Rattle.std.specs.Prelude.{◌≡◌, ◌<◌, ◌≤◌, IfOk, length, take};
 ghost use Rattle.code_items.specs.Legal.{IsCode};
 ghost use Rattle.code_items.specs.declared.code.Code.{Code as AnyCode};
 ghost use Rattle.code_items.specs.declared.instr.Instr.TheVariants.{Flow as OfFlow};
@@ -8,7 +8,9 @@ ghost use Rattle.run_values.specs.Tagged.{TaggedValues};
 ghost use Rattle.run_steps.specs.Control.{entry_place as entry_place_of, flow_place as flow_place_of, place_after as place_after_of, returns_after};
 ghost use Rattle.run_steps.specs.Executed.{Executed, Stepped};
 ghost use Rattle.run_steps.specs.Needs.{FlowNeeds, JumpNeeds, Needs, CallFits, IsReadyFor};
+ghost use Rattle.run_steps.specs.Opening.{no_values, opening};
 ghost use Rattle.run_steps.specs.Run.{Stands};
+ghost use Rattle.screen_lines.specs.State.{sent};
 ghost use Rattle.run_steps.specs.World.{World, EnvState};
 
 use crate::ending::Stop;
@@ -25,8 +27,11 @@ use code_items::laws::legal_codes;
 use code_items::{Code, Proc};
 use ndx_tree::KeyList;
 use run_values::Values;
-use std::alloc::Global;
-use xvalue::Kind;
+use screen_lines::Screen;
+use std::alloc::{AllocError, Global};
+use text_lines::TypedLines;
+use work_store::Store;
+use xvalue::{Day, Kind, Settings};
 
 /// What a run changes: the place of the next instruction, return places, slots and stack, and the rest.
 #[derive(Drop)]
@@ -35,6 +40,44 @@ pub struct Machine<V, K: KeyList> {
     pub returns: ReturnPlaces,
     pub values: V,
     pub env: Environment<K>,
+}
+
+impl<V: Values, K: KeyList> Machine<V, K> {
+    /// The machine at the beginning of a run: at place 0, with these slots and stack, these tables with all areas closed, these
+    /// lines of the operator, a blank screen and all settings off, on this day.
+    pub fn opening(
+        alloc: Global,
+        values: V,
+        store: Store<K>,
+        lines: TypedLines,
+        today: Day,
+    ) -> Result<Self, AllocError>
+        ensures { (code : AnyCode) → V.stands values (no_values code)
+            → IfOk result (λ machine. Stands (V.stands machine.values) machine.place machine.returns machine.env (opening code store lines today)) }
+    {
+        let mut store = store;
+        store.close_all();
+        Ok(Machine {
+            place: 0,
+            returns: ReturnPlaces::new(),
+            values,
+            env: Environment::new(store, Screen::new(alloc)?, lines, Settings::off(), today),
+        })
+    }
+
+    /// The bytes for printing, if the run ends here: the rows sent so far and those that are seen. The machine stays as it is.
+    pub fn finish(&self, alloc: Global) -> Result<Vec<u8>, AllocError>
+        ensures { IfOk result (λ bytes. bytes.items ≡ sent self.now.env.screen) }
+    {
+        self.env.screen().finish(alloc)
+    }
+
+    /// The tables and work areas.
+    pub fn store(&self) -> &Store<K>
+        ensures { result.now ≡ self.now.env.store }
+    {
+        self.env.store()
+    }
 }
 
 /// The first procedures, as many as there are.
