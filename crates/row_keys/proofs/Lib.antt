@@ -1,2 +1,3 @@
 pub mod ListLemmas
 pub mod IndexLemmas
+pub mod ExactLemmas

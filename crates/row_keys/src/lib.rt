@@ -10,6 +10,7 @@
 #![tactic(auto)]
 
 pub mod building;
+pub mod exact;
 pub mod index;
 pub mod laws;
 

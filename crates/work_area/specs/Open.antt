@@ -1,5 +1,8 @@
 -- A table in use: its open indexes, order and pointer, and what moves and changes make of them.
-use Rattle.std.specs.Prelude.{◌≡◌, ℕ, zero, suc, ◌+◌, ◌-◌, ◌<◌, ◌≤◌, Bool, true, false, Option, Some, None, Result, List, [], ◌∷◌, length, All, slice_get, option_map, MatchResult, nat_le, ◌&&◌, if◌then◌else◌}
+use Rattle.std.specs.Prelude.{◌≡◌, ℕ, zero, suc, ◌+◌, ◌-◌, ◌<◌, ◌≤◌, Bool, true, false, Option, Some, None, Result, List, [], ◌∷◌, length, All, slice_get, slice_index_or, option_map, MatchResult, nat_le, ◌&&◌, if◌then◌else◌}
+use Rattle.dbf_file.specs.Rows.{Row, row_at, blank_row}
+use Rattle.dbf_file.specs.Tables.{row_widths, letter_at, decimals_at}
+use Rattle.dbf_file.specs.Values.{value_by}
 use Rattle.row_moves.specs.declared.landed.Spent.{Spent}
 use Rattle.row_moves.specs.Moves.{Landing}
 use Rattle.work_rows.specs.declared.refused.Refused.{Refused}
@@ -48,6 +51,10 @@ within count (Some n) = if nat_le 1 n && nat_le n count then Some n else None
 abbrev pub gone_to : OpenState → Option ℕ → OpenState
 gone_to a pointer = record { table = a.table; list = a.list; order = a.order; pointer = pointer; bof = false; found = false }
 
+-- to the record of a number, or the end of file where there is none
+abbrev pub gone : Option ℕ → OpenState → OpenState
+gone number a = gone_to a (within (length a.table.rows) number)
+
 -- APPEND: a blank row, which is pointed to
 abbrev pub with_blank : OpenState → OpenState
 with_blank a = record { table = appended a.list a.table; list = a.list; order = a.order; pointer = Some (length a.table.rows + 1); bof = false; found = false }
@@ -64,6 +71,26 @@ place_in count (Some n) = if nat_le 1 n && nat_le n count then Some (n - 1) else
 abbrev pub replaced_at : OpenState → ℕ → Value → Option ℕ → IndexedState
 replaced_at a f from None = a.table
 replaced_at a f from (Some r) = replaced a.list r f from a.table
+
+-- SET ORDER: another order
+abbrev pub reordered : ℕ → OpenState → OpenState
+reordered order a = record { table = a.table; list = a.list; order = order; pointer = a.pointer; bof = a.bof; found = a.found }
+
+abbrev pub row_there : List ℕ → List Row → Option ℕ → Row
+row_there widths rows None = blank_row widths
+row_there widths rows (Some r) = row_at rows r
+
+-- the record that is pointed to; at the end of file a blank row, which isn't marked
+abbrev pub current_row : OpenState → Row
+current_row a = row_there (row_widths a.table.structure) a.table.rows (place_in (length a.table.rows) a.pointer)
+
+-- DELETED()
+abbrev pub deleted_of : OpenState → Bool
+deleted_of a = (current_row a).marked
+
+-- the value of field f, counted from 0, of the record that is pointed to
+abbrev pub field_of : ℕ → OpenState → Value
+field_of f a = value_by (letter_at a.table.structure f) (decimals_at a.table.structure f) (slice_index_or (current_row a).texts f [])
 
 -- REPLACE: another value in a field of the record that is pointed to; at the end of file nothing changes
 abbrev pub replaced_here : ℕ → Value → OpenState → OpenState

@@ -1,9 +1,10 @@
 //! A table in use.
 
-ghost use Rattle.std.specs.Prelude.{◌≡◌, ℕ, ◌+◌, ◌-◌, ◌<◌, ◌≤◌, Bool, true, false, Some, None, [], OnOk, OnErr, Err, ◌↔◌, length, is_none, unwrap_or, IfSome, is_ok, is_some, ◌∷◌, slice_get, All, ◌*◌};
+ghost use Rattle.std.specs.Prelude.{◌≡◌, ℕ, ◌+◌, ◌-◌, ◌<◌, ◌≤◌, Bool, true, false, Some, None, [], OnOk, OnErr, Err, ◌↔◌, length, is_none, unwrap_or, IfSome, is_ok, is_some, ◌∷◌, slice_get, slice_index_or, All, ◌*◌};
 ghost use Rattle.std.specs.Fn.{FnReturnsAt};
-ghost use Rattle.dbf_file.specs.Tables.{letter_at};
-ghost use Rattle.dbf_file.specs.Values.{kind_for};
+ghost use Rattle.dbf_file.specs.Rows.{blank_row, row_at};
+ghost use Rattle.dbf_file.specs.Tables.{letter_at, decimals_at, row_widths};
+ghost use Rattle.dbf_file.specs.Values.{kind_for, value_by};
 ghost use Rattle.xvalue.specs.Kinds.{kind_of};
 ghost use Rattle.row_moves.specs.Moves.{Landing, IsMove, end_of, skipped, sought};
 ghost use Rattle.work_rows.specs.Tables.{IsOrder, order_pairs, pairs_in, pair_at, packed, cleared, remade};
@@ -11,9 +12,10 @@ ghost use Rattle.work_rows.specs.Marks.{mark_at, count_stale};
 ghost use Rattle.work_rows.specs.Passes.{behind, IsClosing};
 ghost use Rattle.dbf_file.specs.Rows.{unmarked};
 ghost use Rattle.work_rows.specs.Tried.{ShowsRows};
-ghost use Rattle.work_area.specs.Open.{IsMoved, IsEnded, opened, closed, first_order, with_table, order_index, gone_to, with_blank, place_in, replaced_here, remarked_here, within, within as within_of};
+ghost use Rattle.work_area.specs.Open.{IsMoved, IsEnded, opened, closed, first_order, with_table, order_index, gone_to, with_blank, place_in, replaced_here, remarked_here, reordered, deleted_of, field_of, within, within as within_of};
 
 use arrayvec::ArrayVec;
+use dbf_file::{Table, value};
 use ndx_tree::KeyList;
 use row_moves::{Landed, Spent};
 use std::alloc::{AllocError, Global};
@@ -102,7 +104,7 @@ impl<K: KeyList> OpenTable<K> {
     /// Sets the order: 0 is record order, 1 that of the first open index.
     pub fn set_order(&mut self, order: u8)
         requires { order ≤ length self.old.list }
-        ensures { self.new ≡ record { table = self.old.table; list = self.old.list; order = order; pointer = self.old.pointer; bof = self.old.bof; found = self.old.found } }
+        ensures { self.new ≡ reordered order self.old }
     {
         self.order = order;
     }
@@ -288,6 +290,43 @@ impl<K: KeyList> OpenTable<K> {
         self.found
     }
 
+    /// The order: 0 is record order, 1 that of the first open index.
+    pub fn order(&self) -> u8
+        ensures value { result ≡ self.now.order }
+        ensures within { result ≤ length self.now.list }
+    {
+        self.order
+    }
+
+    /// The numbers of the open indexes, at most seven.
+    pub fn list(&self) -> &[u8]
+        ensures value { result.now ≡ self.now.list }
+        ensures few { length self.now.list ≤ 7 }
+    {
+        self.list.as_slice()
+    }
+
+    /// DELETED(): whether the record that is pointed to is marked; false at the end of file.
+    pub fn deleted(&self) -> bool
+        ensures { result ≡ deleted_of self.now }
+    {
+        match self.place() {
+            Some(r) => self.table.table().mark(r),
+            None => false,
+        }
+    }
+
+    /// The value of field `f`, counted from 0, of the record that is pointed to; at the end of file that of a field of blanks.
+    pub fn field(&self, f: usize) -> Value
+        requires { f < length self.now.table.structure.fields }
+        ensures { result ≡ field_of f self.now }
+    {
+        match self.place() {
+            Some(r) => self.table.table().value_at(r, f),
+            None => blank_value(self.table.table(), f),
+        }
+    }
+
     /// RECCOUNT().
     pub fn reccount(&self) -> u32
         ensures { result ≡ length self.now.table.rows }
@@ -430,6 +469,16 @@ impl<K: KeyList> OpenTable<K> {
             Err(refused) => Err(refused),
         }
     }
+}
+
+/// The value of field `f`, counted from 0, of a row of blanks.
+#[tactic(auto, unfolding(dbf_file::specs::Values::value_of))]
+fn blank_value(table: &Table, f: usize) -> Value
+    requires { f < length table.now.structure.fields }
+    ensures { result ≡ value_by (letter_at table.now.structure f) (decimals_at table.now.structure f) (slice_index_or (blank_row (row_widths table.now.structure)).texts f []) }
+{
+    let field = &table.structure().fields()[f];
+    value(field, &[b' '; 255][..usize::from(field.width)])
 }
 
 /// The first of some indexes.

@@ -1,5 +1,5 @@
 -- A table with its declared indexes: orders, and what the changes make of it.
-use Rattle.std.specs.Prelude.{◌≡◌, ℕ, ◌-◌, ◌≤◌, Bool, true, Option, Some, None, List, [], ◌∷◌, ◌++◌, length, All, slice_index, map, ⊤, option_map}
+use Rattle.std.specs.Prelude.{◌≡◌, ℕ, ◌-◌, ◌≤◌, ◌↔◌, Bool, true, false, Option, Some, None, List, [], ◌∷◌, ◌++◌, length, All, slice_index, map, ⊤, option_map}
 use Rattle.dbf_file.specs.Rows.{Row, row_at, with_text, with_mark, blank_row, unmarked}
 use Rattle.dbf_file.specs.Tables.{StructureState, row_widths, decimals_at}
 use Rattle.dbf_file.specs.Values.{text_by}
@@ -8,7 +8,7 @@ use Rattle.shape.specs.declared.parts.KeyPart.{KeyPart}
 use Rattle.shape.specs.Keys.{key_of}
 use Rattle.row_keys.specs.Lists.{index_list}
 use Rattle.row_moves.specs.Orders.{record_order}
-use Rattle.work_rows.specs.Marks.{IndexMark, mark_at, is_fresh, parts_in, left_stale, only_fresh, made_fresh}
+use Rattle.work_rows.specs.Marks.{IndexMark, mark_at, is_fresh, with_stale, parts_in, left_stale, only_fresh, made_fresh}
 use Rattle.work_rows.specs.Slots.{SlotState, IsSlot, mark_of}
 use Rattle.xvalue.specs.declared.value.Value.{Value}
 
@@ -89,3 +89,9 @@ cleared open_numbers t = record { structure = t.structure; rows = []; marks = on
 -- these indexes made anew
 abbrev pub remade : List ℕ → IndexedState → IndexedState
 remade numbers t = record { structure = t.structure; rows = t.rows; marks = made_fresh numbers t.marks }
+
+-- a declared index more, with its mark; it isn't stale just where a fact holds
+pub record HasDeclared (Exact : Type 0) (mark : IndexMark) (old new : IndexedState) : Type 0 where
+  pub stale : Bool
+  pub added : new ≡ record { structure = old.structure; rows = old.rows; marks = old.marks ++ with_stale mark stale ∷ [] }
+  pub told : (stale ≡ false) ↔ Exact

@@ -50,6 +50,18 @@ pub(crate) fn has_fresh<K: KeyList>(slots: &Vec<Slot<K>>, number: u8) -> bool
     false
 }
 
+/// Whether there is an index of this number.
+pub(crate) fn has_slot<K: KeyList>(slots: &Vec<Slot<K>>, number: u8) -> bool
+    ensures { result ≡ is_some (mark_at (map mark_of slots.now.items) number) }
+{
+    for (i, slot) in slots.iter().enumerate() {
+        if slot.number() == number {
+            return true;
+        }
+    }
+    false
+}
+
 /// How many of these indexes are stale.
 pub(crate) fn stale_in<K: KeyList>(slots: &Vec<Slot<K>>, list: &[u8]) -> usize
     ensures value { result ≡ count_stale list.now (map mark_of slots.now.items) }

@@ -1,18 +1,20 @@
 //! A declared index of a table.
 
-ghost use Rattle.std.specs.Prelude.{◌≡◌, ℕ, ◌+◌, ◌<◌, ◌≤◌, ◌^◌, ◌-◌, Bool, true, false, None, Some, is_none, is_some, IfSome, OnOk, IfOk, MatchBool, IsSomeAnd, IsTrue, Contains, length, if◌then◌else◌};
-ghost use Rattle.ndx_tree.specs.KeyForm.{IsKeyText};
+ghost use Rattle.std.specs.Prelude.{◌≡◌, ℕ, ◌+◌, ◌<◌, ◌≤◌, ◌^◌, ◌-◌, ◌↔◌, Bool, true, false, None, Some, is_none, is_some, IfSome, OnOk, IfOk, MatchBool, IsSomeAnd, IsTrue, Contains, length, if◌then◌else◌};
+ghost use Rattle.ndx_tree.specs.KeyForm.{KeyForm, IsKeyText};
+ghost use Rattle.dbf_file.specs.Tables.{row_widths};
 ghost use Rattle.dbf_file.specs.Rows.{row_at};
-ghost use Rattle.shape.specs.Keys.{IsKey, key_of};
-ghost use Rattle.row_keys.specs.Lists.{row_pair, kept_rows, IsExact, IsIndexOf, IsAsBefore, HasAdded, HasRemoved};
+ghost use Rattle.shape.specs.Keys.{IsKey, key_of, key_length};
+ghost use Rattle.row_keys.specs.Lists.{index_list, row_pair, kept_rows, IsExact, IsIndexOf, IsAsBefore, HasAdded, HasRemoved};
 ghost use Rattle.row_moves.specs.Orders.{MayTry, Sees};
 ghost use Rattle.row_moves.specs.Moves.{IsMove, end_of, skipped, sought};
 ghost use Rattle.work_rows.specs.Marks.{is_among as is_among_of};
-ghost use Rattle.work_rows.specs.Slots.{GoesBy, HasRoom, PutsBy, Prepares, committed, discarded, left_by, is_wanted as is_wanted_of};
+ghost use Rattle.work_rows.specs.Slots.{IsSlot, GoesBy, HasRoom, PutsBy, Prepares, committed, discarded, left_by, is_wanted as is_wanted_of};
 
 use arrayvec::ArrayVec;
 use dbf_file::Table;
 use ndx_tree::{Entry, KeyList};
+use row_keys::exact::lists_rows;
 use row_keys::{Index, Kept, build_of};
 use row_moves::{Landed, Spent};
 use shape::KeyParts;
@@ -42,6 +44,52 @@ pub(crate) fn is_among(numbers: &[u8], number: u8) -> bool
     ensures { result ≡ is_among_of numbers.now number }
 {
     numbers.iter().any(|other| *other == number)
+}
+
+/// A list of the key's length, given up where it doesn't list just the rows.
+fn exact_list<K: KeyList>(table: &Table, key: &KeyParts, list: Option<K>) -> Option<K>
+    requires few { length table.now.rows ≤ 1000000 }
+    requires key { IsKey table.now.structure key.now }
+    ensures exact { IsTrue (is_some result) ↔ IsSomeAnd list (λ k. K.pairs k ≡ index_list key.now table.now.rows) }
+    ensures pairs { IfSome result (λ k. K.pairs k ≡ index_list key.now table.now.rows) }
+    ensures form { (form : KeyForm) → IfSome list (λ k. K.form k ≡ form) → IfSome result (λ k. K.form k ≡ form) }
+{
+    match list {
+        Some(mut keys) => {
+            if lists_rows(table, key, &mut keys) {
+                return Some(keys);
+            }
+            None
+        }
+        None => None,
+    }
+}
+
+/// A declared index with a list, or none; the list is given up where it doesn't list just the rows.
+pub(crate) fn slot_with<K: KeyList>(
+    table: &Table,
+    number: u8,
+    key: KeyParts,
+    text: ArrayVec<u8, 100>,
+    list: Option<K>,
+) -> Slot<K>
+    requires few { length table.now.rows ≤ 1000000 }
+    requires key { IsKey table.now.structure key }
+    requires key_text { IsKeyText text.items }
+    requires form { IfSome list (λ k. K.form k ≡ record { key_length = key_length key (row_widths table.now.structure); key_text = text.items }) }
+    ensures number { result.number ≡ number }
+    ensures parts { result.parts ≡ key }
+    ensures text { result.text ≡ text.items }
+    ensures sound { IsSlot table.now.structure table.now.rows result }
+    ensures exact { (is_none result.index ≡ false) ↔ IsSomeAnd list (λ k. K.pairs k ≡ index_list key table.now.rows) }
+{
+    match exact_list(table, &key, list) {
+        Some(keys) => {
+            let parts = key.copied();
+            Slot::new(number, key, text, Some(Index::new(parts, keys)))
+        }
+        None => Slot::new(number, key, text, None),
+    }
 }
 
 impl<K: KeyList> Slot<K> {

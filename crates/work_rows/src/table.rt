@@ -1,25 +1,25 @@
 //! A table with its declared indexes.
 
-ghost use Rattle.std.specs.Prelude.{◌∷◌, ◌++◌, ◌*◌, true, ◌≡◌, ℕ, ◌+◌, ◌-◌, ◌<◌, ◌≤◌, Bool, OnOk, OnErr, Some, None, [], length, is_none, is_some, IfSome};
+ghost use Rattle.std.specs.Prelude.{◌∷◌, ◌++◌, ◌*◌, true, ◌≡◌, ℕ, ◌+◌, ◌-◌, ◌<◌, ◌≤◌, Bool, OnOk, OnErr, Some, None, [], length, is_none, is_some, IfSome, IsSomeAnd};
 ghost use Rattle.dbf_file.specs.Rows.{row_at, unmarked};
 ghost use Rattle.row_keys.specs.Lists.{index_list, kept_rows};
-ghost use Rattle.dbf_file.specs.Tables.{letter_at, decimals_at};
+ghost use Rattle.dbf_file.specs.Tables.{letter_at, decimals_at, row_widths};
 ghost use Rattle.dbf_file.specs.Values.{kind_for};
 ghost use Rattle.ndx_tree.specs.KeyForm.{IsKeyText};
-ghost use Rattle.shape.specs.Keys.{IsKey};
+ghost use Rattle.shape.specs.Keys.{IsKey, key_length};
 ghost use Rattle.row_moves.specs.Moves.{IsMove, end_of, skipped, sought};
 ghost use Rattle.std.specs.Fn.{FnReturnsAt};
 ghost use Rattle.work_rows.specs.Marks.{mark_at, is_fresh, parts_in, count_stale};
-ghost use Rattle.work_rows.specs.Tables.{IsOrder, order_pairs, pairs_in, pair_at, appended, replaced, remarked, remade, packed, cleared};
+ghost use Rattle.work_rows.specs.Tables.{HasDeclared, IsOrder, order_pairs, pairs_in, pair_at, appended, replaced, remarked, remade, packed, cleared};
 ghost use Rattle.work_rows.specs.Passes.{behind, IsClosing};
 ghost use Rattle.work_rows.specs.Tried.{ShowsRows};
 ghost use Rattle.xvalue.specs.Kinds.{kind_of};
 
-use crate::keyed::{has_fresh, keys_at, stale_in};
+use crate::keyed::{has_fresh, has_slot, keys_at, stale_in};
 use crate::passes::count_kept;
 use crate::refused::Refused;
 use crate::row::Row;
-use crate::slot::Slot;
+use crate::slot::{Slot, slot_with};
 use crate::{changes, closing, trying};
 use arrayvec::ArrayVec;
 use dbf_file::Table;
@@ -204,6 +204,27 @@ impl<K: KeyList> IndexedTable<K> {
         Ok(())
     }
 
+    /// Declares an index with a list of its key, which isn't stale where the list lists just the rows; with none, or where it
+    /// lists others, it is stale. Where memory is missing, all is as it was.
+    pub fn declare_with(
+        &mut self,
+        number: u8,
+        key: KeyParts,
+        text: ArrayVec<u8, 100>,
+        list: Option<K>,
+    ) -> Result<(), AllocError>
+        requires key { IsKey self.old.structure key }
+        requires text { IsKeyText text.items }
+        requires form { IfSome list (λ k. K.form k ≡ record { key_length = key_length key (row_widths self.old.structure); key_text = text.items }) }
+        ensures ok { OnOk result (HasDeclared (IsSomeAnd list (λ k. K.pairs k ≡ index_list key self.old.rows))
+            (record { number = number; parts = key; text = text.items; stale = true }) self.old self.new) }
+        ensures err { OnErr result (self.new ≡ self.old) }
+    {
+        let slot = slot_with(&self.table, number, key, text, list);
+        self.slots.push(slot)?;
+        Ok(())
+    }
+
     /// Makes these indexes anew, or those of them that are stale. Where memory is missing, all is as it was.
     fn remake(&mut self, alloc: Global, list: &[u8], only_stale: bool) -> Result<(), AllocError>
         ensures ok { OnOk result (self.new ≡ remade list.now self.old) }
@@ -381,6 +402,13 @@ impl<K: KeyList> IndexedTable<K> {
         ensures { result ≡ is_fresh (mark_at self.now.marks number) }
     {
         has_fresh(&self.slots, number)
+    }
+
+    /// Whether the table has an index of this number.
+    pub fn has_index(&self, number: u8) -> bool
+        ensures { result ≡ is_some (mark_at self.now.marks number) }
+    {
+        has_slot(&self.slots, number)
     }
 
     /// INDEX ON: makes one index anew at the cost of the rows, whether it is stale or not. It ends with TOP in its order.

@@ -1,0 +1,11 @@
+//! The ten work areas over the declared tables.
+//!
+//! `Store` has each declared table with its indexes, the ten areas, and the selected one. A work area is closed, or holds a
+//! table, the list of indexes that was opened with it, and a filter.
+#![tactic(auto)]
+
+pub mod store;
+pub mod uses;
+
+pub use store::Store;
+pub use uses::Use;
