@@ -67,15 +67,15 @@ module _ (strict : IsStrictOrder is_before) where
       let inside : Each (Contains xs) ys = later x xs y ys hx.0 c.0 hy.0 c.1 in
       let rest : xs ≡ ys = same_lists xs ys hx.1 hy.1 inside (omega arith) in
       let here : x ≡ y = elim (in_cons x xs y c.0) as (λ _. x ≡ y) [
-          | inl e ↦ sym e
-          | inr e ↦ absurd (omega (arith, no_longer xs (y ∷ ys) hx.1 hy (e, inside)))
-        ] in
+        | inl e ↦ sym e
+        | inr e ↦ absurd (omega (arith, no_longer xs (y ∷ ys) hx.1 hy (e, inside)))
+      ] in
       ap (λ z. z ∷ xs) here ∙ ap (λ zs. y ∷ zs) rest
 
 pub lists_all : OrdersPairs → (parts : List KeyPart) (rows : List Row) (form : KeyForm) (pairs : List Pair) → IsIndexList parts rows → IsKeyList form pairs → length pairs ≡ length rows → ((r : ℕ) → r < length rows → Contains pairs (row_pair parts rows r)) → pairs ≡ index_list parts rows
 lists_all orders parts rows form pairs law sound count has =
     let each : Each (Contains pairs) (index_list parts rows) = each_from (Contains pairs) (index_list parts rows)
-        (λ p c. let w = law.only p.0 p.1 c in subst (Contains pairs) (sym w.2) (has w.0 w.1)) in
+    (λ p c. let w = law.only p.0 p.1 c in subst (Contains pairs) (sym w.2) (has w.0 w.1)) in
     same_lists orders.strict pairs (index_list parts rows) sound.ordered law.ordered each (omega (arith, count, law.count))
 
 pub lists_count : (parts : List KeyPart) (rows : List Row) (pairs : List Pair) → IsIndexList parts rows → (length pairs ≡ length rows → ⊥) → pairs ≡ index_list parts rows → ⊥

@@ -1,5 +1,5 @@
 -- The ten work areas over the declared tables. Areas count from 1, tables from 0.
-use Rattle.std.specs.Prelude.{◌≡◌, ℕ, ◌-◌, ◌<◌, ◌≤◌, Bool, false, ◌==◌, Option, Some, None, List, length, map, find, is_some, slice_get, slice_index_or, slice_set, if◌then◌else◌}
+use Rattle.std.specs.Prelude.{◌≡◌, ℕ, ◌-◌, ◌<◌, ◌≤◌, Bool, false, ◌==◌, Option, Some, None, List, length, map, find, is_some, slice_get, slice_index_or, slice_set, replicate, if◌then◌else◌}
 use Rattle.std.specs.List.{list_any}
 use Rattle.work_area.specs.Open.{OpenState, closed}
 use Rattle.work_rows.specs.Marks.{IndexMark, mark_at}
@@ -80,7 +80,7 @@ closed_other t (Some u) s = if u.table == t then s else closed_at u.table (table
 
 -- all areas closed, no table in use, and area 1 selected
 abbrev pub closed_all : StoreState → StoreState
-closed_all s = record { tables = map closed s.tables; areas = map (λ u. None) s.areas; selected = 1; limit = s.limit }
+closed_all s = record { tables = map closed s.tables; areas = replicate 10 None; selected = 1; limit = s.limit }
 
 abbrev pub holds : ℕ → Option Use → Bool
 holds t None = false

@@ -314,9 +314,13 @@ impl<K: KeyList> Store<K> {
             → HasEnded self.old self.new (indexed_here list) (opened (number ∷ []) o) (index_on_of number o shown) budget result) }
     {
         let t = self.place_here();
-        let cost = self.tables[t].index_on(alloc, number, see, budget)?;
-        self.note_list(list);
-        Ok(cost)
+        match self.tables[t].index_on(alloc, number, see, budget) {
+            Ok(cost) => {
+                self.note_list(list);
+                Ok(cost)
+            }
+            Err(refused) => Err(refused),
+        }
     }
 
     /// The selected area's list of indexes has this number.
@@ -368,24 +372,38 @@ impl<K: KeyList> Store<K> {
         ensures { IfSome (table_at self.old table) (λ o. (shown : ℕ → Bool) → ShowsRows (FnReturnsAt F.Fn) see o.table.structure o.table.rows shown
             → HasEnded self.old self.new (used_here table list) (opened indexes.now o) (open_of indexes.now o shown) budget result) }
     {
-        let cost = self.tables[usize::from(table)].open(alloc, indexes, see, budget)?;
-        self.hold(Use { table, list, filter: 0 });
-        Ok(cost)
+        match self.tables[usize::from(table)].open(alloc, indexes, see, budget) {
+            Ok(cost) => {
+                self.let_go(table);
+                self.hold(Use {
+                    table,
+                    list,
+                    filter: 0,
+                });
+                Ok(cost)
+            }
+            Err(refused) => Err(refused),
+        }
     }
 
-    /// The selected area holds this, in the place of what it held; another table that it held is closed.
-    fn hold(&mut self, held: Use)
-        requires table { held.table < length self.old.tables }
-        requires elsewhere { is_elsewhere self.old held.table ≡ false }
-        ensures { self.new ≡ with_use (closed_other held.table (selected_use self.old) self.old) self.old.selected (Some held) }
+    /// Takes the selected area's table out of use, unless it is this one.
+    fn let_go(&mut self, table: u16)
+        ensures { self.new ≡ closed_other table (selected_use self.old) self.old }
     {
-        let place = usize::from(self.selected) - 1;
-        if let Some(used) = self.areas[place] {
-            if used.table != held.table {
+        if let Some(used) = self.areas[usize::from(self.selected) - 1] {
+            if used.table != table {
                 self.tables[usize::from(used.table)].close();
             }
         }
-        self.areas[place] = Some(held);
+    }
+
+    /// The selected area holds this from now on.
+    fn hold(&mut self, held: Use)
+        requires table { held.table < length self.old.tables }
+        requires elsewhere { is_elsewhere self.old held.table ≡ false }
+        ensures { self.new ≡ with_use self.old self.old.selected (Some held) }
+    {
+        self.areas[usize::from(self.selected) - 1] = Some(held);
     }
 
     /// CLOSE: closes the selected area, which may be closed already.
@@ -506,7 +524,7 @@ impl<K: KeyList> Store<K> {
 fn close_tables<K: KeyList>(tables: &mut Vec<OpenTable<K>>)
     ensures { tables.new.items ≡ map closed tables.old.items }
 {
-    for table in tables.iter_mut() {
-        table.close();
+    for t in 0..tables.len() {
+        tables[t].close();
     }
 }

@@ -1,6 +1,10 @@
 use Rattle.std.proofs.Common.{◌≡◌, ℕ, Option, Some, List, true, false, refl, sym, ap, ◌∙◌, subst}
 use Rattle.std.specs.Fn.{FnReturnsAt}
-use Rattle.work_area.specs.Open.{OpenState}
+use Rattle.std.proofs.lemmas.Int.{to_z-of_z}
+use Rattle.std.specs.Int.{w128}
+use Rattle.std.specs.Prelude.{Bool}
+use Rattle.work_rows.specs.Tried.{ShowsRows}
+use Rattle.work_area.specs.Open.{OpenState, IsMoved}
 use Rattle.work_store.specs.Areas.{StoreState, with_table}
 use Rattle.work_store.specs.Calls.{skip_of}
 use Rattle.work_store.proofs.PlaceLemmas.{IsHere, stands, moved}
@@ -14,4 +18,5 @@ returns g c =
     let o : OpenState = c.index_mut.result.now in
     let there : IsHere now t o = stands inside now t o c.self.view_is c.requires.open c.place_here-t.ensures.place c.place_here-t.ensures.table c.place_here-t.ensures.within c.index_mut.ensures.value in
     let made = ap (λ (s : StoreState). with_table s t c.skip.new.self) c.self.view_is in
-    moved (FnReturnsAt g.F.Fn) c.args.see (skip_of c.args.steps) now _ t o c.skip.new.self c.args.budget c.skip.result there made c.skip.ensures
+    let said = subst (λ z. (shown : ℕ → Bool) → ShowsRows (FnReturnsAt g.F.Fn) c.args.see o.table.structure o.table.rows shown → IsMoved o c.skip.new.self (skip_of z o shown) c.args.budget c.skip.result) (to_z-of_z w128 c.args.steps c.ranges.steps) c.skip.ensures in
+    moved (FnReturnsAt g.F.Fn) c.args.see (skip_of c.args.steps) now _ t o c.skip.new.self c.args.budget c.skip.result there made said

@@ -1,0 +1,7 @@
+use Rattle.std.proofs.Common.{◌≡◌, ℕ, List, Option, None, map, replicate, refl, sym, ap, ◌∙◌}
+use Rattle.work_area.specs.Open.{OpenState, closed}
+use Rattle.work_store.specs.Areas.{StoreState, closed_all}
+use Rattle.work_store.proofs.store.Store.close_all.Goals as goal
+
+pub returns : goal.returns
+returns g c = ap (λ (ts : List OpenState). record { tables = ts; areas = replicate 10 None; selected = 1; limit = c.self.inside.limit }) c.close_tables.ensures ∙ ap closed_all c.self.view_is
