@@ -1,2 +1,3 @@
 pub mod PlaceLemmas
 pub mod AreaLemmas
+pub mod MakingLemmas

@@ -1,2 +1,3 @@
 pub mod Areas
 pub mod Calls
+pub mod Making

@@ -5,6 +5,7 @@
 #![tactic(auto)]
 
 pub mod store;
+mod tables;
 pub mod uses;
 
 pub use store::Store;

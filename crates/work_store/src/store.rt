@@ -1,6 +1,6 @@
 //! The ten work areas.
 
-ghost use Rattle.std.specs.Prelude.{◌≡◌, ◌≢◌, ℕ, ◌+◌, ◌-◌, ◌<◌, ◌≤◌, ◌↔◌, Bool, true, false, Option, Some, None, [], ◌∷◌, length, slice_get, is_some, is_none, unwrap_or, IfSome, IsSome, OnOk, OnErr, Err, Ok, All, MatchResult, map};
+ghost use Rattle.std.specs.Prelude.{◌≡◌, ◌≢◌, ℕ, ◌+◌, ◌-◌, ◌<◌, ◌≤◌, ◌↔◌, Bool, true, false, Option, Some, None, [], ◌∷◌, length, slice_get, is_some, is_none, unwrap_or, IfSome, IsSome, OnOk, OnErr, IfOk, Err, Ok, All, MatchResult, map};
 ghost use Rattle.std.specs.Fn.{FnReturnsAt};
 ghost use Rattle.dbf_file.specs.Tables.{letter_at};
 ghost use Rattle.dbf_file.specs.Values.{kind_for};
@@ -10,12 +10,17 @@ ghost use Rattle.work_rows.specs.Marks.{mark_at, is_fresh, parts_in};
 ghost use Rattle.work_rows.specs.Tried.{ShowsRows};
 ghost use Rattle.work_store.specs.Areas.{use_at, selected_use, table_at, area_table, here, with_table, with_use, with_selected, with_used, with_here, change_here, closed_here, closed_all, is_elsewhere, holds, index_table, mark_in, closed_other};
 ghost use Rattle.work_store.specs.Calls.{MovesHere, EndsHere, HasEnded, top_of, bottom_of, skip_of, seek_of, packed_rows, all_rows, packed_in, pack_of, zapped_in, reindexed_in, reindex_of, index_on_of, open_of, indexed_here, used_here, with_filter, with_list, zap_landing};
+ghost use Rattle.work_store.specs.Making.{AreOfShape, AreLists, IsNewStore, lists_just};
+ghost use Rattle.shape.specs.Whole.{is_shape};
 ghost use Rattle.xvalue.specs.Kinds.{kind_of};
 
+use crate::tables::{declare_all, unused_tables};
 use crate::uses::Use;
 use dbf_file::Table;
 use ndx_tree::KeyList;
 use row_moves::Spent;
+use shape::Shape;
+use shape::laws::legal_shapes_have_keys;
 use std::alloc::{AllocError, Global};
 use std::marker::Model;
 use work_area::{AppendError, OpenTable};
@@ -52,6 +57,33 @@ fn holds_table(held: &Option<Use>, table: u16) -> bool
 }
 
 impl<K: KeyList> Store<K> {
+    /// The tables of a shape, all areas closed, area 1 selected. `keys` has for each index of the shape, in their order, a list
+    /// of its key, or none; an index is stale unless its list has just the pairs of its table's rows. Each table has at most
+    /// `limit` records, and may have no more later, at most 1,000,000. Where memory is missing, what was handed in is given up.
+    pub fn new(
+        alloc: Global,
+        shape: &Shape,
+        tables: Vec<Table>,
+        keys: Vec<Option<K>>,
+        limit: u32,
+    ) -> Result<Self, AllocError>
+        requires legal { is_shape shape.now ≡ true }
+        requires few { limit ≤ 1000000 }
+        requires tables { AreOfShape shape.now limit tables.items }
+        requires lists { AreLists K.form shape.now keys.items }
+        ensures { IfOk result (IsNewStore (lists_just K.pairs keys.items) shape.now tables.items limit) }
+    {
+        legal_shapes_have_keys();
+        let mut made = unused_tables(alloc, tables)?;
+        declare_all(&mut made, shape, keys)?;
+        Ok(Store {
+            tables: made,
+            areas: [None; 10],
+            selected: 1,
+            limit,
+        })
+    }
+
     /// The selected area, 1 to 10.
     pub fn selected(&self) -> u8
         ensures value { result ≡ self.now.selected }

@@ -1,4 +1,4 @@
-use Rattle.std.proofs.Common.{◌≡◌, ℕ, ◌<◌, Option, Some, List, length, get_or, refl, sym, ap, ◌∙◌, subst}
+use Rattle.std.proofs.Common.{◌≡◌, ℕ, get_or, ap, ◌∙◌, subst}
 use Rattle.work_area.specs.Open.{OpenState, opened}
 use Rattle.work_store.specs.Areas.{StoreState, with_table}
 use Rattle.work_store.specs.Calls.{used_here, open_of}

@@ -1,0 +1,18 @@
+use Rattle.std.proofs.Common.{ℕ, List, refl}
+use Rattle.ndx_tree.specs.Pairs.{Pair}
+use Rattle.work_store.specs.Making.{lists_just}
+use Rattle.work_store.proofs.MakingLemmas.{first_ready, first_tables}
+use Rattle.work_store.proofs.store.Store.new.Goals as goal
+
+pub declare_all-requires-clause-ready : goal.declare_all-requires-clause-ready
+declare_all-requires-clause-ready g c = first_ready c.args.shape.now c.args.limit c.args.tables.items c.in_ok-made.made.items c.in_ok-made.ensures c.requires.tables
+
+pub returns : goal.returns
+returns g c =
+    let lists : ℕ → List Pair → Type 0 = lists_just g.K.KeyList.pairs c.args.keys.items in
+    record {
+      tables = c.in_ok-declare_all.ensures c.args.tables.items (first_tables lists c.args.tables.items c.in_ok-made.made.items c.in_ok-made.ensures);
+      areas = refl;
+      selected = refl;
+      limit = refl;
+    }
