@@ -1,6 +1,6 @@
 -- A store made of tables, and of lists for their indexes.
 use Rattle.std.proofs.Common.{◌≡◌, ◌≢◌, ℕ, zero, suc, ◌+◌, ◌<◌, ◌↔◌, ◌⊎◌, inl, inr, true, false, ◌==◌, Some, List, [], ◌∷◌, ◌++◌, length, get_or, set, map, take, add-one, refl, sym, ap, ◌∙◌, subst, arith}
-use Rattle.std.specs.Prelude.{slice_get, MatchBool}
+use Rattle.std.specs.Prelude.{◌&&◌, nat_le, slice_get, MatchBool}
 use Rattle.std.proofs.lemmas.Bool.{eqb-true, eq-eqb, false≢true}
 use Rattle.std.proofs.lemmas.List.{get_or-set_same, get_or-set_other, get_or-map, length-set, length-map}
 use Rattle.std.proofs.lemmas.Option.{slice_get-get_or, get_or_from_slice_get}
@@ -9,13 +9,17 @@ use Rattle.dbf_file.specs.Rows.{Row}
 use Rattle.dbf_file.specs.Tables.{StructureState, TableState}
 use Rattle.ndx_tree.specs.Pairs.{Pair}
 use Rattle.shape.specs.declared.indexes.IndexShape.{IndexShape}
+use Rattle.shape.specs.declared.tables.TableShape.{TableShape}
 use Rattle.shape.specs.declared.whole.Shape.{Shape}
-use Rattle.shape.specs.Keys.{key_text}
+use Rattle.shape.specs.declared.parts.KeyPart.{KeyPart}
+use Rattle.shape.specs.Keys.{key_text, is_text, holds_text, width_of, names_text, bytes_of, is_key}
+use Rattle.dbf_file.specs.Fields.{widths_of}
+use Rattle.std.specs.List.{list_all}
 use Rattle.row_keys.specs.Lists.{index_list}
 use Rattle.work_rows.specs.Marks.{IndexMark, with_stale}
 use Rattle.work_rows.specs.Tables.{IndexedState}
 use Rattle.work_area.specs.Open.{OpenState, with_table}
-use Rattle.work_store.specs.Making.{AreOfShape, AreReady, mark_for, Declares, IsMarkOf, FirstIs, AreMarks, IsNewTable, AreNewTables, unused}
+use Rattle.work_store.specs.Making.{IsAlike, AreAlike, AreOfShape, AreReady, mark_for, Declares, IsMarkOf, FirstIs, AreMarks, IsNewTable, AreNewTables, unused}
 
 -- ---- marks of the indexes so far
 
@@ -56,48 +60,45 @@ module _ (lists : ℕ → List Pair → Type 0) (fields : List Field) (rows : Li
 
 -- ---- one more index
 
-table_of : (lists : List Pair → Type 0) (n : ℕ) (x : IndexShape) (old new : List OpenState) (o : OpenState) (h : Declares lists n x old new) → slice_get old x.table ≡ Some o → h.fresh.table.structure ≡ o.table.structure
-table_of lists n x old new o h there = ap (λ (s : IndexedState). s.structure) (h.mark o there).added
-
-declared_here : (lists : ℕ → List Pair → Type 0) (xs : List IndexShape) (x : IndexShape) (t : ℕ) (table : TableState) (old new : List OpenState) (o : OpenState) (h : Declares (lists (length xs)) (length xs) x old new) → slice_get old x.table ≡ Some o → (x.table == t) ≡ true → IsNewTable lists xs t table o → IsNewTable lists (xs ++ x ∷ []) t table h.fresh
-declared_here lists xs x t table old new o h there here is =
-    let more = h.mark o there in
-    let mark : IndexMark = with_stale (mark_for (length xs) o.table.structure.fields x) more.stale in
-    let made : IsMarkOf lists table.structure.fields table.rows (length xs) x mark = record {
+declared_here : (shape : Shape) (lists : ℕ → List Pair → Type 0) (xs : List IndexShape) (x : IndexShape) (t : ℕ) (s : TableShape) (table : TableState) (old new : List OpenState) (o : OpenState) (h : Declares shape (lists (length xs)) (length xs) x old new) → slice_get old x.table ≡ Some o → slice_get shape.tables x.table ≡ Some s → (x.table == t) ≡ true → IsNewTable lists xs t s table o → IsNewTable lists (xs ++ x ∷ []) t s table h.fresh
+declared_here shape lists xs x t s table old new o h there of_table here is =
+    let more = h.mark o s there of_table in
+    let mark : IndexMark = with_stale (mark_for (length xs) s.fields x) more.stale in
+    let made : IsMarkOf lists s.fields table.rows (length xs) x mark = record {
       number = refl;
       parts = refl;
-      text = ap (λ (s : StructureState). key_text s.fields x.key) is.structure;
+      text = refl;
       fresh = subst (λ (rs : List Row). (more.stale ≡ false) ↔ lists (length xs) (index_list x.key rs)) is.rows more.told;
     } in
     record {
       structure = ap (λ (s : IndexedState). s.structure) more.added ∙ is.structure;
       rows = ap (λ (s : IndexedState). s.rows) more.added ∙ is.rows;
       unused = h.same o there ∙ ap (λ p. with_table p h.fresh.table) is.unused;
-      marks = subst (AreMarks lists table.structure.fields table.rows t 0 (xs ++ x ∷ [])) (sym (ap (λ (s : IndexedState). s.marks) more.added))
-          (marks_push lists table.structure.fields table.rows t 0 (length xs) xs x mark o.table.marks (omega arith) here made is.marks);
+      marks = subst (AreMarks lists s.fields table.rows t 0 (xs ++ x ∷ [])) (sym (ap (λ (s : IndexedState). s.marks) more.added))
+          (marks_push lists s.fields table.rows t 0 (length xs) xs x mark o.table.marks (omega arith) here made is.marks);
     }
 
-declared_other : (lists : ℕ → List Pair → Type 0) (xs : List IndexShape) (x : IndexShape) (t : ℕ) (table : TableState) (o : OpenState) → (x.table == t) ≡ false → IsNewTable lists xs t table o → IsNewTable lists (xs ++ x ∷ []) t table o
-declared_other lists xs x t table o other is = record {
+declared_other : (lists : ℕ → List Pair → Type 0) (xs : List IndexShape) (x : IndexShape) (t : ℕ) (s : TableShape) (table : TableState) (o : OpenState) → (x.table == t) ≡ false → IsNewTable lists xs t s table o → IsNewTable lists (xs ++ x ∷ []) t s table o
+declared_other lists xs x t s table o other is = record {
   structure = is.structure;
   rows = is.rows;
   unused = is.unused;
-  marks = marks_skip lists table.structure.fields table.rows t 0 xs x o.table.marks other is.marks;
+  marks = marks_skip lists s.fields table.rows t 0 xs x o.table.marks other is.marks;
 }
 
-one_more : (lists : ℕ → List Pair → Type 0) (xs : List IndexShape) (x : IndexShape) (tables : List TableState) (old new : List OpenState) → AreNewTables lists xs tables old → Declares (lists (length xs)) (length xs) x old new → AreNewTables lists (xs ++ x ∷ []) tables new
-one_more lists xs x tables old new made h = record {
+one_more : (shape : Shape) (lists : ℕ → List Pair → Type 0) (xs : List IndexShape) (x : IndexShape) (tables : List TableState) (old new : List OpenState) → AreNewTables shape lists xs tables old → Declares shape (lists (length xs)) (length xs) x old new → AreNewTables shape lists (xs ++ x ∷ []) tables new
+one_more shape lists xs x tables old new made h = record {
   count = ap (λ (os : List OpenState). length os) h.put ∙ length-set old x.table h.fresh ∙ made.count;
-  each = λ t d e lt.
+  each = λ t d e s lt is.
       let within : t < length old = omega (arith, made.count) in
-      (elim (x.table == t) as (λ b. (x.table == t) ≡ b → IsNewTable lists (xs ++ x ∷ []) t (get_or tables t d) (get_or new t e)) [
+      (elim (x.table == t) as (λ b. (x.table == t) ≡ b → IsNewTable lists (xs ++ x ∷ []) t s (get_or tables t d) (get_or new t e)) [
         | true ↦ λ f. (let same : x.table ≡ t = eqb-true x.table t f in
             let there : slice_get old x.table ≡ Some (get_or old t e) = ap (slice_get old) same ∙ slice_get-get_or old t e within in
-            let got : get_or new t e ≡ h.fresh = ap (λ (os : List OpenState). get_or os t e) h.put ∙ ap (λ k. get_or (set old k h.fresh) t e) same ∙ get_or-set_same old t h.fresh e within in
-            subst (IsNewTable lists (xs ++ x ∷ []) t (get_or tables t d)) (sym got) (declared_here lists xs x t (get_or tables t d) old new (get_or old t e) h there f (made.each t d e lt)))
+            let found : get_or new t e ≡ h.fresh = ap (λ (os : List OpenState). get_or os t e) h.put ∙ ap (λ k. get_or (set old k h.fresh) t e) same ∙ get_or-set_same old t h.fresh e within in
+            subst (IsNewTable lists (xs ++ x ∷ []) t s (get_or tables t d)) (sym found) (declared_here shape lists xs x t s (get_or tables t d) old new (get_or old t e) h there (ap (slice_get shape.tables) same ∙ is) f (made.each t d e s lt is)))
         | false ↦ λ f. (let differ : t ≢ x.table = λ g. false≢true (sym f ∙ eq-eqb x.table t (sym g)) in
-            let got : get_or new t e ≡ get_or old t e = ap (λ (os : List OpenState). get_or os t e) h.put ∙ get_or-set_other old x.table t h.fresh e differ in
-            subst (IsNewTable lists (xs ++ x ∷ []) t (get_or tables t d)) (sym got) (declared_other lists xs x t (get_or tables t d) (get_or old t e) f (made.each t d e lt)))
+            let found : get_or new t e ≡ get_or old t e = ap (λ (os : List OpenState). get_or os t e) h.put ∙ get_or-set_other old x.table t h.fresh e differ in
+            subst (IsNewTable lists (xs ++ x ∷ []) t s (get_or tables t d)) (sym found) (declared_other lists xs x t s (get_or tables t d) (get_or old t e) f (made.each t d e s lt is)))
       ]) refl;
 }
 
@@ -111,12 +112,12 @@ take_length [] n x e = absurd (cc)
 take_length (y ∷ xs) zero x e = refl
 take_length (y ∷ xs) (suc n) x e = ap suc (take_length xs n x e)
 
-pub index_declared : (lists : ℕ → List Pair → Type 0) (indexes : List IndexShape) (n : ℕ) (tables : List TableState) (old new : List OpenState) (x : IndexShape) → slice_get indexes n ≡ Some x → Declares (lists n) n x old new → AreNewTables lists (take n indexes) tables old → AreNewTables lists (take (n + 1) indexes) tables new
-index_declared lists indexes n tables old new x e h made =
+pub index_declared : (shape : Shape) (lists : ℕ → List Pair → Type 0) (indexes : List IndexShape) (n : ℕ) (tables : List TableState) (old new : List OpenState) (x : IndexShape) → slice_get indexes n ≡ Some x → Declares shape (lists n) n x old new → AreNewTables shape lists (take n indexes) tables old → AreNewTables shape lists (take (n + 1) indexes) tables new
+index_declared shape lists indexes n tables old new x e h made =
     let count : length (take n indexes) ≡ n = take_length indexes n x e in
     let next : take (n + 1) indexes ≡ take n indexes ++ x ∷ [] = ap (λ k. take k indexes) (add-one n) ∙ take_more indexes n x e in
-    subst (λ xs. AreNewTables lists xs tables new) (sym next)
-    (one_more lists (take n indexes) x tables old new made (subst (λ k. Declares (lists k) k x old new) (sym count) h))
+    subst (λ xs. AreNewTables shape lists xs tables new) (sym next)
+    (one_more shape lists (take n indexes) x tables old new made (subst (λ k. Declares shape (lists k) k x old new) (sym count) h))
 
 -- ---- tables that wait for their indexes
 
@@ -130,12 +131,13 @@ got (x ∷ xs) (suc k) y (suc t) o e = elim (got xs k y t o e) as (λ _. (slice_
   | inr f ↦ inr (ap suc f.0, f.1, f.2)
 ]
 
-pub still_ready : (lists : List Pair → Type 0) (n : ℕ) (x : IndexShape) (shape : Shape) (old new : List OpenState) → AreReady shape old → Declares lists n x old new → AreReady shape new
+pub still_ready : (lists : List Pair → Type 0) (n : ℕ) (x : IndexShape) (shape : Shape) (old new : List OpenState) → AreReady shape old → Declares shape lists n x old new → AreReady shape new
 still_ready lists n x shape old new ready h = record {
   count = ap (λ (os : List OpenState). length os) h.put ∙ length-set old x.table h.fresh ∙ ready.count;
-  fields = λ t o s there is. elim (got old x.table h.fresh t o (ap (λ (os : List OpenState). slice_get os t) (sym h.put) ∙ there)) as (λ _. o.table.structure.fields ≡ s.fields) [
+  fields = λ t o s there is. elim (got old x.table h.fresh t o (ap (λ (os : List OpenState). slice_get os t) (sym h.put) ∙ there)) as (λ _. AreAlike o.table.structure.fields s.fields) [
     | inl f ↦ ready.fields t o s f is
-    | inr f ↦ ap (λ (p : OpenState). p.table.structure.fields) f.1 ∙ ap (λ (st : StructureState). st.fields) (table_of lists n x old new f.2.0 h f.2.1) ∙ ready.fields x.table f.2.0 s f.2.1 (ap (slice_get shape.tables) (sym f.0) ∙ is)
+    | inr f ↦ (let at : slice_get shape.tables x.table ≡ Some s = ap (slice_get shape.tables) (sym f.0) ∙ is in
+        subst (λ (st : StructureState). AreAlike st.fields s.fields) (sym (ap (λ (p : OpenState). p.table.structure) f.1 ∙ ap (λ (i : IndexedState). i.structure) (h.mark f.2.0 s f.2.1 at).added)) (ready.fields x.table f.2.0 s f.2.1 at))
   ];
   unused = λ t o there. elim (got old x.table h.fresh t o (ap (λ (os : List OpenState). slice_get os t) (sym h.put) ∙ there)) as (λ _. o.list ≡ []) [
     | inl f ↦ ready.unused t o f
@@ -152,12 +154,57 @@ pub first_ready : (shape : Shape) (limit : ℕ) (tables : List TableState) (made
 first_ready shape limit tables made e of_shape = subst (AreReady shape) (sym e) (record {
   count = length-map tables unused ∙ of_shape.count;
   fields = λ t o s there is. (let w = map_got tables t o there in
-      ap (λ (p : OpenState). p.table.structure.fields) w.2 ∙ ap (λ (table : TableState). table.structure.fields) (sym (get_or_from_slice_get tables t w.0 w.0 w.1)) ∙ of_shape.fields t w.0 s is);
+      subst (λ (st : StructureState). AreAlike st.fields s.fields) (ap (λ (table : TableState). table.structure) (get_or_from_slice_get tables t w.0 w.0 w.1) ∙ ap (λ (p : OpenState). p.table.structure) (sym w.2)) (of_shape.fields t w.0 s is));
   unused = λ t o there. ap (λ (p : OpenState). p.list) (map_got tables t o there).2;
 })
 
-pub first_tables : (lists : ℕ → List Pair → Type 0) (tables : List TableState) (made : List OpenState) → made ≡ map unused tables → AreNewTables lists [] tables made
-first_tables lists tables made e = subst (AreNewTables lists [] tables) (sym e) (record {
+pub first_tables : (shape : Shape) (lists : ℕ → List Pair → Type 0) (tables : List TableState) (made : List OpenState) → made ≡ map unused tables → AreNewTables shape lists [] tables made
+first_tables shape lists tables made e = subst (AreNewTables shape lists [] tables) (sym e) (record {
   count = length-map tables unused;
-  each = λ t d f lt. subst (IsNewTable lists [] t (get_or tables t d)) (sym (get_or-map unused tables t d f lt)) (record { structure = refl; rows = refl; unused = refl; marks = refl });
+  each = λ t d f s lt is. subst (IsNewTable lists [] t s (get_or tables t d)) (sym (get_or-map unused tables t d f lt)) (record { structure = refl; rows = refl; unused = refl; marks = refl });
 })
+
+-- ---- fields that hold the same
+
+tail_alike : (f g : Field) (fields others : List Field) → AreAlike (f ∷ fields) (g ∷ others) → AreAlike fields others
+tail_alike f g fields others alike = record { count = omega (arith, alike.count); each = λ k d lt. alike.each (suc k) d (omega arith) }
+
+first_alike : (f g : Field) (fields others : List Field) → AreAlike (f ∷ fields) (g ∷ others) → IsAlike f g
+first_alike f g fields others alike = alike.each 0 f (omega arith)
+
+pub alike_widths : (fields others : List Field) → AreAlike fields others → widths_of fields ≡ widths_of others
+alike_widths [] [] alike = refl
+alike_widths [] (g ∷ others) alike = absurd (omega (arith, alike.count))
+alike_widths (f ∷ fields) [] alike = absurd (omega (arith, alike.count))
+alike_widths (f ∷ fields) (g ∷ others) alike = ap (λ w. w ∷ widths_of fields) (first_alike f g fields others alike).width ∙ ap (λ ws. g.width ∷ ws) (alike_widths fields others (tail_alike f g fields others alike))
+
+text_same : (fields others : List Field) (n : ℕ) → AreAlike fields others → is_text (slice_get fields n) ≡ is_text (slice_get others n)
+text_same [] [] n alike = refl
+text_same [] (g ∷ others) n alike = absurd (omega (arith, alike.count))
+text_same (f ∷ fields) [] n alike = absurd (omega (arith, alike.count))
+text_same (f ∷ fields) (g ∷ others) zero alike = ap holds_text (first_alike f g fields others alike).letter
+text_same (f ∷ fields) (g ∷ others) (suc n) alike = text_same fields others n (tail_alike f g fields others alike)
+
+width_same : (fields others : List Field) (n : ℕ) → AreAlike fields others → width_of (slice_get fields n) ≡ width_of (slice_get others n)
+width_same [] [] n alike = refl
+width_same [] (g ∷ others) n alike = absurd (omega (arith, alike.count))
+width_same (f ∷ fields) [] n alike = absurd (omega (arith, alike.count))
+width_same (f ∷ fields) (g ∷ others) zero alike = (first_alike f g fields others alike).width
+width_same (f ∷ fields) (g ∷ others) (suc n) alike = width_same fields others n (tail_alike f g fields others alike)
+
+names_same : (fields others : List Field) (parts : List KeyPart) → AreAlike fields others → list_all (names_text fields) parts ≡ list_all (names_text others) parts
+names_same fields others [] alike = refl
+names_same fields others (part ∷ parts) alike = ap (λ b. b && list_all (names_text fields) parts) (text_same fields others part.field alike) ∙ ap (λ b. names_text others part && b) (names_same fields others parts alike)
+
+bytes_same : (fields others : List Field) (parts : List KeyPart) → AreAlike fields others → bytes_of fields parts ≡ bytes_of others parts
+bytes_same fields others [] alike = refl
+bytes_same fields others (part ∷ parts) alike = ap (λ n. n + bytes_of fields parts) (width_same fields others part.field alike) ∙ ap (λ n. width_of (slice_get others part.field) + n) (bytes_same fields others parts alike)
+
+-- a key that fits fields fits others that hold the same
+pub key_same : (fields others : List Field) (parts : List KeyPart) → AreAlike fields others → is_key others parts ≡ true → is_key fields parts ≡ true
+unfolding is_key
+key_same fields others parts alike e =
+    let names : list_all (names_text fields) parts ≡ list_all (names_text others) parts = names_same fields others parts alike in
+    let bytes : bytes_of fields parts ≡ bytes_of others parts = bytes_same fields others parts alike in
+    ap (λ b. nat_le 1 (length parts) && nat_le (length parts) 8 && b && nat_le 1 (bytes_of fields parts) && nat_le (bytes_of fields parts) 100) names
+    ∙ ap (λ n. nat_le 1 (length parts) && nat_le (length parts) 8 && list_all (names_text others) parts && nat_le 1 n && nat_le n 100) bytes ∙ e

@@ -18,10 +18,20 @@ use Rattle.work_store.specs.Areas.{StoreState}
 
 -- ---- what a store is made of
 
--- the declared tables, of the declared fields, each with no more rows than the limit
+-- fields that hold the same: their names may differ
+pub record IsAlike (a b : Field) : Type 0 where
+  pub letter : a.letter ≡ b.letter
+  pub width : a.width ≡ b.width
+  pub decimals : a.decimals ≡ b.decimals
+
+pub record AreAlike (fields others : List Field) : Type 0 where
+  pub count : length fields ≡ length others
+  pub each : (k : ℕ) (d : Field) → k < length fields → IsAlike (slice_index_or fields k d) (slice_index_or others k d)
+
+-- the declared tables, with fields that hold what is declared, each with no more rows than the limit
 pub record AreOfShape (shape : Shape) (limit : ℕ) (tables : List TableState) : Type 0 where
   pub count : length tables ≡ length shape.tables
-  pub fields : (t : ℕ) (d : TableState) (s : TableShape) → slice_get shape.tables t ≡ Some s → (slice_index_or tables t d).structure.fields ≡ s.fields
+  pub fields : (t : ℕ) (d : TableState) (s : TableShape) → slice_get shape.tables t ≡ Some s → AreAlike (slice_index_or tables t d).structure.fields s.fields
   pub few : All (λ t. length t.rows ≤ limit) tables
 
 -- the length of an index's keys, and the text that says how they are made
@@ -37,10 +47,10 @@ pub record AreLists {X : Type 0} (form : X → KeyForm) (shape : Shape) (keys : 
 abbrev pub lists_just : {X : Type 0} → (X → List Pair) → List (Option X) → ℕ → List Pair → Type 0
 lists_just pairs keys n wanted = IsSomeAnd (slice_index_or keys n None) (λ k. pairs k ≡ wanted)
 
--- tables of the declared fields, with no open index
+-- tables with fields that hold what is declared, and no open index
 pub record AreReady (shape : Shape) (made : List OpenState) : Type 0 where
   pub count : length made ≡ length shape.tables
-  pub fields : (t : ℕ) (o : OpenState) (s : TableShape) → slice_get made t ≡ Some o → slice_get shape.tables t ≡ Some s → o.table.structure.fields ≡ s.fields
+  pub fields : (t : ℕ) (o : OpenState) (s : TableShape) → slice_get made t ≡ Some o → slice_get shape.tables t ≡ Some s → AreAlike o.table.structure.fields s.fields
   pub unused : (t : ℕ) (o : OpenState) → slice_get made t ≡ Some o → o.list ≡ []
 
 -- a table in no area, without indexes
@@ -52,11 +62,11 @@ abbrev pub mark_for : ℕ → List Field → IndexShape → IndexMark
 mark_for n fields x = record { number = n; parts = x.key; text = key_text fields x.key; stale = true }
 
 -- index n is declared of its table, and isn't stale where there is a list with the pairs of the rows
-pub record Declares (lists : List Pair → Type 0) (n : ℕ) (x : IndexShape) (old new : List OpenState) : Type 0 where
+pub record Declares (shape : Shape) (lists : List Pair → Type 0) (n : ℕ) (x : IndexShape) (old new : List OpenState) : Type 0 where
   pub fresh : OpenState
   pub put : new ≡ slice_set old x.table fresh
   pub same : (o : OpenState) → slice_get old x.table ≡ Some o → fresh ≡ with_table o fresh.table
-  pub mark : (o : OpenState) → slice_get old x.table ≡ Some o → HasDeclared (lists (index_list x.key o.table.rows)) (mark_for n o.table.structure.fields x) o.table fresh.table
+  pub mark : (o : OpenState) (s : TableShape) → slice_get old x.table ≡ Some o → slice_get shape.tables x.table ≡ Some s → HasDeclared (lists (index_list x.key o.table.rows)) (mark_for n s.fields x) o.table fresh.table
 
 -- ---- the store
 
@@ -80,19 +90,19 @@ AreMarks lists fields rows t n (x ∷ xs) marks = MatchBool (x.table == t)
     (AreMarks lists fields rows t (n + 1) xs marks)
 
 -- table t as it was handed in, in no area, with the marks of its indexes
-pub record IsNewTable (lists : ℕ → List Pair → Type 0) (indexes : List IndexShape) (t : ℕ) (table : TableState) (o : OpenState) : Type 0 where
+pub record IsNewTable (lists : ℕ → List Pair → Type 0) (indexes : List IndexShape) (t : ℕ) (s : TableShape) (table : TableState) (o : OpenState) : Type 0 where
   pub structure : o.table.structure ≡ table.structure
   pub rows : o.table.rows ≡ table.rows
   pub unused : o ≡ closed o
-  pub marks : AreMarks lists table.structure.fields table.rows t 0 indexes o.table.marks
+  pub marks : AreMarks lists s.fields table.rows t 0 indexes o.table.marks
 
-pub record AreNewTables (lists : ℕ → List Pair → Type 0) (indexes : List IndexShape) (tables : List TableState) (made : List OpenState) : Type 0 where
+pub record AreNewTables (shape : Shape) (lists : ℕ → List Pair → Type 0) (indexes : List IndexShape) (tables : List TableState) (made : List OpenState) : Type 0 where
   pub count : length made ≡ length tables
-  pub each : (t : ℕ) (d : TableState) (e : OpenState) → t < length tables → IsNewTable lists indexes t (slice_index_or tables t d) (slice_index_or made t e)
+  pub each : (t : ℕ) (d : TableState) (e : OpenState) (s : TableShape) → t < length tables → slice_get shape.tables t ≡ Some s → IsNewTable lists indexes t s (slice_index_or tables t d) (slice_index_or made t e)
 
 -- all areas closed, and area 1 selected
 pub record IsNewStore (lists : ℕ → List Pair → Type 0) (shape : Shape) (handed : List TableState) (most : ℕ) (s : StoreState) : Type 0 where
-  pub tables : AreNewTables lists shape.indexes handed s.tables
+  pub tables : AreNewTables shape lists shape.indexes handed s.tables
   pub areas : s.areas ≡ replicate 10 None
   pub selected : s.selected ≡ 1
   pub limit : s.limit ≡ most

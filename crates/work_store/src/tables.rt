@@ -9,7 +9,7 @@ ghost use Rattle.work_rows.specs.Tables.{HasDeclared};
 ghost use Rattle.shape.specs.declared.indexes.IndexShape.{IndexShape as TheIndex};
 ghost use Rattle.shape.specs.declared.tables.TableShape.{TableShape as TheTable};
 ghost use Rattle.dbf_file.specs.Tables.{TableState};
-ghost use Rattle.work_store.specs.Making.{AreLists, AreNewTables, AreReady, Declares, form_of, lists_just, mark_for, unused};
+ghost use Rattle.work_store.specs.Making.{AreAlike, AreLists, AreNewTables, AreReady, Declares, form_of, lists_just, mark_for, unused};
 
 use arrayvec::ArrayVec;
 use dbf_file::{Field, Table};
@@ -56,12 +56,12 @@ fn declare_of<K: KeyList>(
 ) -> Result<(), AllocError>
     requires key { HasKeyOf table.now index.now }
     requires few { n < 64 }
-    requires fields { made.old.table.structure.fields ≡ table.now.fields }
+    requires fields { AreAlike made.old.table.structure.fields table.now.fields }
     requires unused { made.old.list ≡ [] }
     requires form { IfSome list (λ k. K.form k ≡ form_of table.now index.now) }
     ensures table { made.new ≡ with_table made.old made.new.table }
     ensures ok { OnOk result (HasDeclared (IsSomeAnd list (λ k. K.pairs k ≡ index_list index.now.key made.old.table.rows))
-        (mark_for n made.old.table.structure.fields index.now) made.old.table made.new.table) }
+        (mark_for n table.now.fields index.now) made.old.table made.new.table) }
 {
     fitting_keys_are_keys();
     let text = spelled(&index.key, table.fields.as_slice());
@@ -80,7 +80,7 @@ fn declare<K: KeyList>(
     requires ready { AreReady shape.now made.old.items }
     requires form { (x : TheIndex) (s : TheTable) → slice_get shape.now.indexes n ≡ Some x → slice_get shape.now.tables x.table ≡ Some s
         → IfSome list (λ k. K.form k ≡ form_of s x) }
-    ensures { OnOk result (IfSome (slice_get shape.now.indexes n) (λ x. Declares (λ wanted. IsSomeAnd list (λ k. K.pairs k ≡ wanted)) n x made.old.items made.new.items)) }
+    ensures { OnOk result (IfSome (slice_get shape.now.indexes n) (λ x. Declares shape.now (λ wanted. IsSomeAnd list (λ k. K.pairs k ≡ wanted)) n x made.old.items made.new.items)) }
 {
     let index = shape.indexes.get(n);
     let t = usize::from(index.table);
@@ -96,8 +96,8 @@ pub(crate) fn declare_all<K: KeyList>(
     requires legal { IsLegal shape.now }
     requires ready { AreReady shape.now made.old.items }
     requires lists { AreLists K.form shape.now keys.items }
-    ensures { (tables : List TableState) → AreNewTables (lists_just K.pairs keys.items) [] tables made.old.items
-        → OnOk result (AreNewTables (lists_just K.pairs keys.items) shape.now.indexes tables made.new.items) }
+    ensures { (tables : List TableState) → AreNewTables shape.now (lists_just K.pairs keys.items) [] tables made.old.items
+        → OnOk result (AreNewTables shape.now (lists_just K.pairs keys.items) shape.now.indexes tables made.new.items) }
 {
     for n in 0..keys.len() {
         let list = keys[n].take();

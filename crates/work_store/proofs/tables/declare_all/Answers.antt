@@ -36,6 +36,6 @@ loop-n-preserved g c =
       ready = with_index indexes n _ (AreReady c.args.shape.now new) within c.in_ok-declare.ensures (λ x there h. still_ready _ n x c.args.shape.now old new c.loop-n.invariant.ready h);
       count = length-set c.loop-n.keys.items n c.take-list.new.self ∙ c.loop-n.invariant.count;
       later = λ k le. (let differ : k ≢ n = omega arith in get_or-set_other c.loop-n.keys.items n k c.take-list.new.self None differ ∙ c.loop-n.invariant.later k (omega arith));
-      made = λ tables first. with_index indexes n _ (AreNewTables lists (take (n + 1) indexes) tables new) within c.in_ok-declare.ensures
-          (λ x there h. index_declared lists indexes n tables old new x there (subst (λ o. Declares (λ wanted. IsSomeAnd o (λ k. g.K.KeyList.pairs k ≡ wanted)) n x old new) list h) (c.loop-n.invariant.made tables first));
+      made = λ tables first. with_index indexes n _ (AreNewTables c.args.shape.now lists (take (n + 1) indexes) tables new) within c.in_ok-declare.ensures
+          (λ x there h. index_declared c.args.shape.now lists indexes n tables old new x there (subst (λ o. Declares c.args.shape.now (λ wanted. IsSomeAnd o (λ k. g.K.KeyList.pairs k ≡ wanted)) n x old new) list h) (c.loop-n.invariant.made tables first));
     }

@@ -11,7 +11,7 @@ pub returns : goal.returns
 returns g c =
     let lists : ℕ → List Pair → Type 0 = lists_just g.K.KeyList.pairs c.args.keys.items in
     record {
-      tables = c.in_ok-declare_all.ensures c.args.tables.items (first_tables lists c.args.tables.items c.in_ok-made.made.items c.in_ok-made.ensures);
+      tables = c.in_ok-declare_all.ensures c.args.tables.items (first_tables c.args.shape.now lists c.args.tables.items c.in_ok-made.made.items c.in_ok-made.ensures);
       areas = refl;
       selected = refl;
       limit = refl;
