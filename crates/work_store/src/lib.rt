@@ -4,6 +4,7 @@
 //! table, the list of indexes that was opened with it, and a filter.
 #![tactic(auto)]
 
+pub mod handed;
 pub mod store;
 mod tables;
 pub mod uses;

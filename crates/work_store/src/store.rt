@@ -2,6 +2,7 @@
 
 ghost use Rattle.std.specs.Prelude.{◌≡◌, ◌≢◌, ℕ, ◌+◌, ◌-◌, ◌<◌, ◌≤◌, ◌↔◌, Bool, true, false, Option, Some, None, [], ◌∷◌, length, slice_get, is_some, is_none, unwrap_or, IfSome, IsSome, OnOk, OnErr, IfOk, Err, Ok, All, MatchResult, map};
 ghost use Rattle.std.specs.Fn.{FnReturnsAt};
+ghost use Rattle.std.specs.List.{list_all};
 ghost use Rattle.dbf_file.specs.Tables.{letter_at};
 ghost use Rattle.dbf_file.specs.Values.{kind_for};
 ghost use Rattle.row_keys.specs.Lists.{index_list};
@@ -24,7 +25,7 @@ use shape::laws::legal_shapes_have_keys;
 use std::alloc::{AllocError, Global};
 use std::marker::Model;
 use work_area::{AppendError, OpenTable};
-use work_rows::{Refused, Row};
+use work_rows::{IndexedTable, Refused, Row};
 use xvalue::Value;
 
 /// The declared tables, and ten work areas that hold them. A table is held by one area at a time.
@@ -399,7 +400,7 @@ impl<K: KeyList> Store<K> {
         requires table { table < length self.old.tables }
         requires elsewhere { is_elsewhere self.old table ≡ false }
         requires few { length indexes.now ≤ 7 }
-        requires declared { IfSome (table_at self.old table) (λ o. All (λ n. is_some (mark_at o.table.marks n) ≡ true) indexes.now) }
+        requires declared { IfSome (table_at self.old table) (λ o. list_all (λ n. is_some (mark_at o.table.marks n)) indexes.now ≡ true) }
         requires callable { F.IsAlwaysCallable see }
         ensures { IfSome (table_at self.old table) (λ o. (shown : ℕ → Bool) → ShowsRows (FnReturnsAt F.Fn) see o.table.structure o.table.rows shown
             → HasEnded self.old self.new (used_here table list) (opened indexes.now o) (open_of indexes.now o shown) budget result) }
@@ -466,6 +467,24 @@ impl<K: KeyList> Store<K> {
         ensures { IfSome (area_table self.now area) (λ o. (result ≡ o.order) × (result ≤ length o.list)) }
     {
         self.tables[self.place(area)].order()
+    }
+
+    /// The numbers of the open indexes of an open area, 1 to 10, at most seven.
+    pub fn list_of(&self, area: u8) -> &[u8]
+        requires first { 1 ≤ area }
+        requires last { area ≤ 10 }
+        requires open { IsSome (area_table self.now area) }
+        ensures { IfSome (area_table self.now area) (λ o. (result.now ≡ o.list) × (length o.list ≤ 7)) }
+    {
+        self.tables[self.place(area)].list()
+    }
+
+    /// Whether indexes, by their numbers counted from 0, are all declared of a table, counted from 0.
+    pub fn has_indexes(&self, table: u16, indexes: &[u8]) -> bool
+        requires { table < length self.now.tables }
+        ensures { IfSome (table_at self.now table) (λ o. result ≡ list_all (λ n. is_some (mark_at o.table.marks n)) indexes.now) }
+    {
+        has_all(self.tables[usize::from(table)].table(), indexes)
     }
 
     /// The value of field `f`, counted from 0, of the record that an open area, 1 to 10, points to; at the end of file that of a
@@ -559,4 +578,18 @@ fn close_tables<K: KeyList>(tables: &mut Vec<OpenTable<K>>)
     for t in 0..tables.len() {
         tables[t].close();
     }
+}
+
+/// Whether a table has indexes of all these numbers.
+fn has_all<K: KeyList>(table: &IndexedTable<K>, indexes: &[u8]) -> bool
+    ensures { result ≡ list_all (λ n. is_some (mark_at table.now.marks n)) indexes.now }
+{
+    let mut rest = indexes;
+    while let Some((number, others)) = rest.split_first() {
+        if !table.has_index(*number) {
+            return false;
+        }
+        rest = others;
+    }
+    true
 }
