@@ -12,7 +12,7 @@ use Rattle.shape.specs.declared.indexes.IndexShape.{IndexShape}
 use Rattle.shape.specs.declared.tables.TableShape.{TableShape}
 use Rattle.shape.specs.declared.whole.Shape.{Shape}
 use Rattle.shape.specs.declared.parts.KeyPart.{KeyPart}
-use Rattle.shape.specs.Keys.{key_text, is_text, holds_text, width_of, names_text, bytes_of, is_key}
+use Rattle.shape.specs.Keys.{is_text, holds_text, width_of, names_text, bytes_of, is_key}
 use Rattle.dbf_file.specs.Fields.{widths_of}
 use Rattle.std.specs.List.{list_all}
 use Rattle.row_keys.specs.Lists.{index_list}
@@ -121,7 +121,7 @@ index_declared shape lists indexes n tables old new x e h made =
 
 -- ---- tables that wait for their indexes
 
-got : (xs : List OpenState) (k : ℕ) (y : OpenState) (t : ℕ) (o : OpenState) → slice_get (set xs k y) t ≡ Some o → (slice_get xs t ≡ Some o) ⊎ ((t ≡ k) × (o ≡ y) × ((z : OpenState) × (slice_get xs k ≡ Some z)))
+pub got : (xs : List OpenState) (k : ℕ) (y : OpenState) (t : ℕ) (o : OpenState) → slice_get (set xs k y) t ≡ Some o → (slice_get xs t ≡ Some o) ⊎ ((t ≡ k) × (o ≡ y) × ((z : OpenState) × (slice_get xs k ≡ Some z)))
 got [] k y t o e = inl e
 got (x ∷ xs) zero y zero o e = inr (refl, (let same : o ≡ y = cc in same), (x, refl))
 got (x ∷ xs) zero y (suc t) o e = inl e

@@ -5,6 +5,7 @@
 #![tactic(auto)]
 
 pub mod handed;
+pub mod laws;
 pub mod store;
 mod tables;
 pub mod uses;

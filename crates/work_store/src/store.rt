@@ -12,6 +12,7 @@ ghost use Rattle.work_rows.specs.Tried.{ShowsRows};
 ghost use Rattle.work_store.specs.Areas.{use_at, selected_use, table_at, area_table, here, with_table, with_use, with_selected, with_used, with_here, change_here, closed_here, closed_all, is_elsewhere, holds, index_table, mark_in, closed_other};
 ghost use Rattle.work_store.specs.Calls.{MovesHere, EndsHere, HasEnded, top_of, bottom_of, skip_of, seek_of, packed_rows, all_rows, packed_in, pack_of, zapped_in, reindexed_in, reindex_of, index_on_of, open_of, indexed_here, used_here, with_filter, with_list, zap_landing};
 ghost use Rattle.work_store.specs.Making.{AreOfShape, AreLists, IsNewStore, lists_just};
+ghost use Rattle.work_store.specs.Shapes.{HasShape};
 ghost use Rattle.shape.specs.Whole.{is_shape};
 ghost use Rattle.xvalue.specs.Kinds.{kind_of};
 
@@ -72,7 +73,8 @@ impl<K: KeyList> Store<K> {
         requires few { limit ≤ 1000000 }
         requires tables { AreOfShape shape.now limit tables.items }
         requires lists { AreLists K.form shape.now keys.items }
-        ensures { IfOk result (IsNewStore (lists_just K.pairs keys.items) shape.now tables.items limit) }
+        ensures made { IfOk result (IsNewStore (lists_just K.pairs keys.items) shape.now tables.items limit) }
+        ensures shape { IfOk result (HasShape shape.now) }
     {
         legal_shapes_have_keys();
         let mut made = unused_tables(alloc, tables)?;

@@ -1,4 +1,4 @@
-use Rattle.std.proofs.Common.{◌≡◌, ℕ, zero, suc, ◌+◌, List, [], ◌∷◌, refl, sym, ap, ◌∙◌, subst}
+use Rattle.std.proofs.Common.{◌≡◌, ℕ, zero, suc, ◌+◌, List, [], ◌∷◌, refl, sym, ap, ◌∙◌}
 use Rattle.std.specs.Prelude.{slice_get, slice_index}
 use Rattle.std.proofs.lemmas.Bool.{false≢true}
 use Rattle.dbf_file.specs.declared.field.Field.{Field}
@@ -6,7 +6,6 @@ use Rattle.dbf_file.specs.Fields.{widths_of}
 use Rattle.ndx_tree.specs.KeyForm.{KeyForm}
 use Rattle.shape.specs.declared.parts.KeyPart.{KeyPart}
 use Rattle.shape.specs.Keys.{key_length, bytes_of, width_of, key_text}
-use Rattle.work_store.specs.Making.{form_of}
 use Rattle.work_store.proofs.handed.is_list_of.Goals as goal
 
 width_is : (fields : List Field) (n : ℕ) → width_of (slice_get fields n) ≡ slice_index (widths_of fields) n

@@ -1,11 +1,10 @@
-use Rattle.std.proofs.Common.{◌≡◌, ℕ, List, sym, ap, ◌∙◌, subst}
+use Rattle.std.proofs.Common.{◌≡◌, List, sym, ap, ◌∙◌, subst}
 use Rattle.std.specs.Prelude.{IfSome}
 use Rattle.dbf_file.specs.declared.field.Field.{Field}
 use Rattle.dbf_file.specs.Fields.{widths_of}
 use Rattle.ndx_tree.specs.KeyForm.{KeyForm}
 use Rattle.shape.specs.declared.parts.KeyPart.{KeyPart}
 use Rattle.shape.specs.Keys.{IsKey, key_length, key_text}
-use Rattle.work_store.specs.Making.{form_of}
 use Rattle.work_store.proofs.MakingLemmas.{key_same, alike_widths}
 use Rattle.work_store.proofs.tables.declare_of.Goals as goal
 
