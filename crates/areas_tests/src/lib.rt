@@ -2,4 +2,10 @@
 #![tactic(auto)]
 
 #[cfg(test)]
+mod areas;
+#[cfg(test)]
+mod made;
+#[cfg(test)]
 mod moves;
+#[cfg(test)]
+mod play;

@@ -140,7 +140,7 @@ fn first_wrong_seek<K: KeyList>(keys: &mut K, cases: &[Sought]) -> Option<usize>
 }
 
 // Puts a pair in. Whether it could be.
-fn put<K: KeyList>(list: &mut K, key: &[u8], number: u32) -> Result<bool, AllocError> {
+pub(crate) fn put<K: KeyList>(list: &mut K, key: &[u8], number: u32) -> Result<bool, AllocError> {
     if key.len() != list.key_length() || number == 0 {
         return Ok(false);
     }

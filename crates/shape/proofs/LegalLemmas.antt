@@ -1,9 +1,8 @@
 -- What follows for the tables and indexes of a shape that may be declared.
-use Rattle.std.proofs.Common.{◌≡◌, ◌≤◌, ◌<◌, ℕ, zero, suc, Bool, true, false, not, ◌&&◌, ◌==◌, nat_le, List, [], ◌∷◌, ◌++◌, Option, Some, None, length, get_or, cond, refl, sym, ap, ◌∙◌, subst, arith}
-use Rattle.std.specs.Prelude.{slice_get, codes, Contains}
+use Rattle.std.proofs.Common.{◌≡◌, ◌<◌, ℕ, zero, suc, Bool, true, false, not, ◌&&◌, ◌==◌, nat_le, List, [], ◌∷◌, ◌++◌, Option, Some, length, get_or, cond, refl, sym, ap, ◌∙◌, subst, arith}
+use Rattle.std.specs.Prelude.{slice_get, codes}
 use Rattle.std.specs.List.{list_all}
 use Rattle.std.proofs.lemmas.Bool.{leb-true, eqb-true, false≢true}
-use Rattle.std.proofs.lemmas.Option.{slice_get_within}
 use Rattle.dbf_file.specs.declared.field.Field.{Field}
 use Rattle.shape.specs.declared.indexes.IndexShape.{IndexShape}
 use Rattle.shape.specs.declared.tables.TableShape.{TableShape}
@@ -13,7 +12,7 @@ use Rattle.shape.specs.Indexes.{fits_table, has_declared_key, is_index, is_next_
 use Rattle.shape.specs.Keys.{is_key, name_of, part_spelled, more_spelled, key_text}
 use Rattle.shape.specs.Names.{is_capital_byte, is_capital_name, begins_with_capital}
 use Rattle.shape.specs.Tables.{is_table, is_next_table, tables_go_on}
-use Rattle.shape.specs.Whole.{is_shape, HasKeyOf, IsOfShape, IsLegal}
+use Rattle.shape.specs.Whole.{is_shape, IsLegal}
 
 both : (a b : Bool) → a && b ≡ true → (a ≡ true) × (b ≡ true)
 both true b e = (refl, e)

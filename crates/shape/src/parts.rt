@@ -85,6 +85,13 @@ impl KeyParts {
             && bytes_in(fields, parts) <= MAX_KEY
     }
 
+    /// How many bytes the key has over these fields; a part that names no field gives none.
+    pub fn bytes(&self, fields: &[Field]) -> usize
+        ensures { result ≡ bytes_of fields.now self.now }
+    {
+        bytes_in(fields, self.parts())
+    }
+
     /// How the key is spelled over these fields: their names joined by plus signs, in UPPER() where the text is taken in
     /// capitals.
     pub fn text(&self, fields: &[Field]) -> KeyText

@@ -1,13 +1,16 @@
 //! A table in use.
 
-ghost use Rattle.std.specs.Prelude.{◌≡◌, ℕ, ◌+◌, ◌-◌, ◌<◌, ◌≤◌, Bool, true, false, Some, None, [], OnOk, OnErr, Err, ◌↔◌, length, is_none, unwrap_or, IfSome, is_ok, is_some, ◌∷◌, slice_get, slice_index_or, All, ◌*◌};
+ghost use Rattle.std.specs.Prelude.{◌≡◌, ℕ, ◌+◌, ◌-◌, ◌<◌, ◌≤◌, Bool, true, false, Some, None, [], OnOk, OnErr, Err, ◌↔◌, length, is_none, unwrap_or, IfSome, IsSomeAnd, true, is_ok, is_some, ◌∷◌, slice_get, slice_index_or, All, ◌*◌};
 ghost use Rattle.std.specs.Fn.{FnReturnsAt};
 ghost use Rattle.dbf_file.specs.Rows.{blank_row, row_at};
 ghost use Rattle.dbf_file.specs.Tables.{letter_at, decimals_at, row_widths};
 ghost use Rattle.dbf_file.specs.Values.{kind_for, value_by};
 ghost use Rattle.xvalue.specs.Kinds.{kind_of};
+ghost use Rattle.ndx_tree.specs.KeyForm.{IsKeyText};
+ghost use Rattle.row_keys.specs.Lists.{index_list};
+ghost use Rattle.shape.specs.Keys.{IsKey, key_length};
 ghost use Rattle.row_moves.specs.Moves.{Landing, IsMove, end_of, skipped, sought};
-ghost use Rattle.work_rows.specs.Tables.{IsOrder, order_pairs, pairs_in, pair_at, packed, cleared, remade};
+ghost use Rattle.work_rows.specs.Tables.{HasDeclared, IsOrder, order_pairs, pairs_in, pair_at, packed, cleared, remade};
 ghost use Rattle.work_rows.specs.Marks.{mark_at, count_stale};
 ghost use Rattle.work_rows.specs.Passes.{behind, IsClosing};
 ghost use Rattle.dbf_file.specs.Rows.{unmarked};
@@ -18,6 +21,7 @@ use arrayvec::ArrayVec;
 use dbf_file::{Table, value};
 use ndx_tree::KeyList;
 use row_moves::{Landed, Spent};
+use shape::KeyParts;
 use std::alloc::{AllocError, Global};
 use std::marker::Model;
 use work_rows::{IndexedTable, Refused, Row};
@@ -81,6 +85,27 @@ impl<K: KeyList> OpenTable<K> {
             bof: false,
             found: false,
         }
+    }
+
+    /// Declares an index of the table, of which none is open, with a list of its key, which isn't stale where the list lists
+    /// just the rows; with none, or where it lists others, it is stale. Where memory is missing, all is as it was.
+    pub fn declare_with(
+        &mut self,
+        number: u8,
+        key: KeyParts,
+        text: ArrayVec<u8, 100>,
+        list: Option<K>,
+    ) -> Result<(), AllocError>
+        requires key { IsKey self.old.table.structure key }
+        requires text { IsKeyText text.items }
+        requires form { IfSome list (λ k. K.form k ≡ record { key_length = key_length key (row_widths self.old.table.structure); key_text = text.items }) }
+        requires unused { self.old.list ≡ [] }
+        ensures table { self.new ≡ with_table self.old self.new.table }
+        ensures ok { OnOk result (HasDeclared (IsSomeAnd list (λ k. K.pairs k ≡ index_list key self.old.table.rows))
+            (record { number = number; parts = key; text = text.items; stale = true }) self.old.table self.new.table) }
+        ensures err { OnErr result (self.new ≡ self.old) }
+    {
+        self.table.declare_with(number, key, text, list)
     }
 
     /// The table with its indexes.

@@ -1,5 +1,5 @@
 -- What becomes of the areas where one of them is closed, or holds another table.
-use Rattle.std.proofs.Common.{◌≡◌, ◌≢◌, ℕ, ◌+◌, ◌-◌, ◌<◌, ◌≤◌, Bool, true, false, not, ◌==◌, Option, Some, None, List, [], ◌∷◌, zero, suc, length, get_or, set, map, cond, refl, sym, ap, ◌∙◌, subst, arith, ◌⊎◌, inl, inr, ⊎_elim}
+use Rattle.std.proofs.Common.{◌≡◌, ◌≢◌, ℕ, ◌-◌, ◌<◌, ◌≤◌, Bool, true, false, ◌==◌, Option, Some, None, List, [], ◌∷◌, zero, suc, length, get_or, set, map, cond, refl, sym, ap, ◌∙◌, arith, ◌⊎◌, inl, inr, ⊎_elim}
 use Rattle.std.specs.List.{list_any}
 use Rattle.std.specs.Prelude.{slice_get}
 use Rattle.std.proofs.lemmas.Bool.{eqb-true, eq-eqb, false≢true, cases_lt}
@@ -8,7 +8,7 @@ use Rattle.std.proofs.lemmas.List.Folds.{list_any_at}
 use Rattle.std.proofs.Math.ListN.{get_or-eq_default}
 use Rattle.work_area.specs.Open.{OpenState, closed}
 use Rattle.work_store.specs.declared.uses.Use.{Use}
-use Rattle.work_store.specs.Areas.{IsStore, AreApart, holds, StoreState, selected_use, used_table, table_at, with_table, with_use, with_used, changed_found, closed_at, closed_other, closed_here}
+use Rattle.work_store.specs.Areas.{IsStore, holds, StoreState, selected_use, used_table, table_at, with_table, with_use, with_used, changed_found, closed_at, closed_other, closed_here}
 
 -- what an area holds where one area got something else
 at_set : (areas : List (Option Use)) (p a : ℕ) (x : Option Use) (u : Use) → p < length areas → get_or (set areas p x) a None ≡ Some u → ((a ≡ p) × (x ≡ Some u)) ⊎ ((a ≢ p) × (get_or areas a None ≡ Some u))

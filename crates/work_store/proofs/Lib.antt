@@ -1,2 +1,4 @@
 pub mod PlaceLemmas
 pub mod AreaLemmas
+pub mod MakingLemmas
+pub mod ShapeLemmas

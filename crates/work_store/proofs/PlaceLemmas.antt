@@ -1,13 +1,13 @@
 -- What becomes of the store where the selected area's table changes.
-use Rattle.std.proofs.Common.{◌≡◌, ℕ, ◌+◌, ◌<◌, ◌≤◌, Bool, true, false, Option, Some, None, Result, Ok, Err, List, [], ◌∷◌, zero, suc, length, get_or, set, cond, ◌==◌, is_some, refl, sym, ap, ◌∙◌, subst, arith}
-use Rattle.std.specs.Prelude.{slice_get, IfSome, IsSome, OnOk, OnErr}
+use Rattle.std.proofs.Common.{◌≡◌, ℕ, ◌<◌, Bool, true, false, Option, Some, None, Result, Ok, Err, List, [], ◌∷◌, zero, suc, length, get_or, set, cond, ◌==◌, refl, sym, ap, ◌∙◌, subst}
+use Rattle.std.specs.Prelude.{slice_get, IfSome, IsSome}
 use Rattle.std.proofs.lemmas.Option.{slice_get_read}
 use Rattle.dbf_file.specs.Rows.{Row}
 use Rattle.row_moves.specs.declared.landed.Spent.{Spent}
 use Rattle.row_moves.specs.Moves.{Landing}
 use Rattle.work_rows.specs.declared.refused.Refused.{Refused}
 use Rattle.work_rows.specs.Tried.{TriedRow, ShowsRows}
-use Rattle.work_area.specs.Open.{OpenState, IsMoved, IsEnded, landed, opened}
+use Rattle.work_area.specs.Open.{OpenState, IsMoved, IsEnded, opened}
 use Rattle.work_store.specs.declared.uses.Use.{Use}
 use Rattle.work_store.specs.Areas.{StoreState, selected_use, used_table, table_at, here, with_table, with_used, with_here, changed_found, change_here, with_use, closed_other, closed_at}
 use Rattle.work_store.specs.Calls.{HasMoved, MovesHere, HasEnded, EndsHere, with_list, indexed_here, used_here}

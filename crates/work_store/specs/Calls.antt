@@ -1,5 +1,5 @@
 -- What the moves and changes of the selected area's table do.
-use Rattle.std.specs.Prelude.{◌≡◌, ℕ, ◌+◌, ◌*◌, ◌<◌, ◌≤◌, Bool, true, false, Option, Some, None, List, [], ◌∷◌, length, slice_get, Result, MatchResult, IfSome, ℤ}
+use Rattle.std.specs.Prelude.{◌≡◌, ℕ, ◌+◌, ◌*◌, ◌<◌, ◌≤◌, Bool, true, false, Option, Some, None, List, length, slice_get, Result, MatchResult, IfSome, ℤ}
 use Rattle.dbf_file.specs.Rows.{Row, unmarked}
 use Rattle.row_moves.specs.declared.landed.Spent.{Spent}
 use Rattle.row_moves.specs.Moves.{Landing, end_of, skipped, sought}
@@ -8,7 +8,7 @@ use Rattle.work_rows.specs.Marks.{count_stale}
 use Rattle.work_rows.specs.Passes.{behind, IsRefusal}
 use Rattle.work_rows.specs.Tables.{order_pairs, pairs_in, pair_at, packed, cleared, remade}
 use Rattle.work_rows.specs.Tried.{TriedRow, ShowsRows}
-use Rattle.work_area.specs.Open.{OpenState, landed, order_index, opened, with_table as with_rows}
+use Rattle.work_area.specs.Open.{OpenState, landed, order_index, with_table as with_rows}
 use Rattle.work_store.specs.declared.uses.Use.{Use}
 use Rattle.work_store.specs.Areas.{StoreState, selected_use, here, with_here, with_use, with_table, closed_here}
 

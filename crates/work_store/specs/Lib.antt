@@ -1,2 +1,4 @@
 pub mod Areas
 pub mod Calls
+pub mod Making
+pub mod Shapes

@@ -4,7 +4,10 @@
 //! table, the list of indexes that was opened with it, and a filter.
 #![tactic(auto)]
 
+pub mod handed;
+pub mod laws;
 pub mod store;
+mod tables;
 pub mod uses;
 
 pub use store::Store;

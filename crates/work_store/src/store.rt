@@ -1,7 +1,8 @@
 //! The ten work areas.
 
-ghost use Rattle.std.specs.Prelude.{◌≡◌, ◌≢◌, ℕ, ◌+◌, ◌-◌, ◌<◌, ◌≤◌, ◌↔◌, Bool, true, false, Option, Some, None, [], ◌∷◌, length, slice_get, is_some, is_none, unwrap_or, IfSome, IsSome, OnOk, OnErr, Err, Ok, All, MatchResult, map};
+ghost use Rattle.std.specs.Prelude.{◌≡◌, ◌≢◌, ℕ, ◌+◌, ◌-◌, ◌<◌, ◌≤◌, ◌↔◌, Bool, true, false, Option, Some, None, [], ◌∷◌, length, slice_get, is_some, is_none, unwrap_or, IfSome, IsSome, OnOk, OnErr, IfOk, Err, Ok, All, MatchResult, map};
 ghost use Rattle.std.specs.Fn.{FnReturnsAt};
+ghost use Rattle.std.specs.List.{list_all};
 ghost use Rattle.dbf_file.specs.Tables.{letter_at};
 ghost use Rattle.dbf_file.specs.Values.{kind_for};
 ghost use Rattle.row_keys.specs.Lists.{index_list};
@@ -10,16 +11,22 @@ ghost use Rattle.work_rows.specs.Marks.{mark_at, is_fresh, parts_in};
 ghost use Rattle.work_rows.specs.Tried.{ShowsRows};
 ghost use Rattle.work_store.specs.Areas.{use_at, selected_use, table_at, area_table, here, with_table, with_use, with_selected, with_used, with_here, change_here, closed_here, closed_all, is_elsewhere, holds, index_table, mark_in, closed_other};
 ghost use Rattle.work_store.specs.Calls.{MovesHere, EndsHere, HasEnded, top_of, bottom_of, skip_of, seek_of, packed_rows, all_rows, packed_in, pack_of, zapped_in, reindexed_in, reindex_of, index_on_of, open_of, indexed_here, used_here, with_filter, with_list, zap_landing};
+ghost use Rattle.work_store.specs.Making.{AreOfShape, AreLists, IsNewStore, lists_just};
+ghost use Rattle.work_store.specs.Shapes.{HasShape};
+ghost use Rattle.shape.specs.Whole.{is_shape};
 ghost use Rattle.xvalue.specs.Kinds.{kind_of};
 
+use crate::tables::{declare_all, unused_tables};
 use crate::uses::Use;
 use dbf_file::Table;
 use ndx_tree::KeyList;
 use row_moves::Spent;
+use shape::Shape;
+use shape::laws::legal_shapes_have_keys;
 use std::alloc::{AllocError, Global};
 use std::marker::Model;
 use work_area::{AppendError, OpenTable};
-use work_rows::{Refused, Row};
+use work_rows::{IndexedTable, Refused, Row};
 use xvalue::Value;
 
 /// The declared tables, and ten work areas that hold them. A table is held by one area at a time.
@@ -52,6 +59,34 @@ fn holds_table(held: &Option<Use>, table: u16) -> bool
 }
 
 impl<K: KeyList> Store<K> {
+    /// The tables of a shape, all areas closed, area 1 selected. `keys` has for each index of the shape, in their order, a list
+    /// of its key, or none; an index is stale unless its list has just the pairs of its table's rows. Each table has at most
+    /// `limit` records, and may have no more later, at most 1,000,000. Where memory is missing, what was handed in is given up.
+    pub fn new(
+        alloc: Global,
+        shape: &Shape,
+        tables: Vec<Table>,
+        keys: Vec<Option<K>>,
+        limit: u32,
+    ) -> Result<Self, AllocError>
+        requires legal { is_shape shape.now ≡ true }
+        requires few { limit ≤ 1000000 }
+        requires tables { AreOfShape shape.now limit tables.items }
+        requires lists { AreLists K.form shape.now keys.items }
+        ensures made { IfOk result (IsNewStore (lists_just K.pairs keys.items) shape.now tables.items limit) }
+        ensures shape { IfOk result (HasShape shape.now) }
+    {
+        legal_shapes_have_keys();
+        let mut made = unused_tables(alloc, tables)?;
+        declare_all(&mut made, shape, keys)?;
+        Ok(Store {
+            tables: made,
+            areas: [None; 10],
+            selected: 1,
+            limit,
+        })
+    }
+
     /// The selected area, 1 to 10.
     pub fn selected(&self) -> u8
         ensures value { result ≡ self.now.selected }
@@ -367,7 +402,7 @@ impl<K: KeyList> Store<K> {
         requires table { table < length self.old.tables }
         requires elsewhere { is_elsewhere self.old table ≡ false }
         requires few { length indexes.now ≤ 7 }
-        requires declared { IfSome (table_at self.old table) (λ o. All (λ n. is_some (mark_at o.table.marks n) ≡ true) indexes.now) }
+        requires declared { IfSome (table_at self.old table) (λ o. list_all (λ n. is_some (mark_at o.table.marks n)) indexes.now ≡ true) }
         requires callable { F.IsAlwaysCallable see }
         ensures { IfSome (table_at self.old table) (λ o. (shown : ℕ → Bool) → ShowsRows (FnReturnsAt F.Fn) see o.table.structure o.table.rows shown
             → HasEnded self.old self.new (used_here table list) (opened indexes.now o) (open_of indexes.now o shown) budget result) }
@@ -434,6 +469,24 @@ impl<K: KeyList> Store<K> {
         ensures { IfSome (area_table self.now area) (λ o. (result ≡ o.order) × (result ≤ length o.list)) }
     {
         self.tables[self.place(area)].order()
+    }
+
+    /// The numbers of the open indexes of an open area, 1 to 10, at most seven.
+    pub fn list_of(&self, area: u8) -> &[u8]
+        requires first { 1 ≤ area }
+        requires last { area ≤ 10 }
+        requires open { IsSome (area_table self.now area) }
+        ensures { IfSome (area_table self.now area) (λ o. (result.now ≡ o.list) × (length o.list ≤ 7)) }
+    {
+        self.tables[self.place(area)].list()
+    }
+
+    /// Whether indexes, by their numbers counted from 0, are all declared of a table, counted from 0.
+    pub fn has_indexes(&self, table: u16, indexes: &[u8]) -> bool
+        requires { table < length self.now.tables }
+        ensures { IfSome (table_at self.now table) (λ o. result ≡ list_all (λ n. is_some (mark_at o.table.marks n)) indexes.now) }
+    {
+        has_all(self.tables[usize::from(table)].table(), indexes)
     }
 
     /// The value of field `f`, counted from 0, of the record that an open area, 1 to 10, points to; at the end of file that of a
@@ -527,4 +580,18 @@ fn close_tables<K: KeyList>(tables: &mut Vec<OpenTable<K>>)
     for t in 0..tables.len() {
         tables[t].close();
     }
+}
+
+/// Whether a table has indexes of all these numbers.
+fn has_all<K: KeyList>(table: &IndexedTable<K>, indexes: &[u8]) -> bool
+    ensures { result ≡ list_all (λ n. is_some (mark_at table.now.marks n)) indexes.now }
+{
+    let mut rest = indexes;
+    while let Some((number, others)) = rest.split_first() {
+        if !table.has_index(*number) {
+            return false;
+        }
+        rest = others;
+    }
+    true
 }

@@ -1,4 +1,4 @@
-use Rattle.std.proofs.Common.{◌≡◌, ℕ, ◌<◌, List, below_more, sym, ap, ◌∙◌, subst, arith, refl}
+use Rattle.std.proofs.Common.{List, below_more, sym, ◌∙◌, subst, arith, refl}
 use Rattle.std.specs.List.{Contains}
 use Rattle.std.proofs.lemmas.Bool.{false≢true}
 use Rattle.ndx_tree.specs.Pairs.{Pair}

@@ -1,8 +1,6 @@
-use Rattle.std.proofs.Common.{◌≡◌, ◌≤◌, ◌<◌, ℕ, List, [], length, map, take, replicate, get_or, refl, sym, ap, ◌∙◌, subst, arith}
+use Rattle.std.proofs.Common.{◌≡◌, ◌<◌, ℕ, List, [], length, map, replicate, get_or, refl, sym, ap, ◌∙◌, subst, arith}
 use Rattle.std.proofs.lemmas.List.{length-map, get_or-map, take-replicate}
-use Rattle.xvalue.specs.declared.value.Value.{Value}
 use Rattle.dbf_file.specs.declared.field.Field.{Field}
-use Rattle.dbf_file.specs.declared.field.Letter.{Letter}
 use Rattle.dbf_file.specs.declared.field.Letter.TheVariants.{C}
 use Rattle.dbf_file.specs.Tables.{StructureState, letter_at, decimals_at, row_widths}
 use Rattle.dbf_file.specs.Values.{value_of, value_by}

@@ -1,6 +1,6 @@
-use Rattle.std.proofs.Common.{◌≡◌, ◌+◌, ◌<◌, ◌≤◌, ℕ, List, suc, length, add-one, refl, sym, ap, ◌∙◌, subst, arith}
+use Rattle.std.proofs.Common.{◌≡◌, ◌+◌, ◌<◌, List, suc, length, add-one, sym, ap, ◌∙◌, subst, arith}
 use Rattle.std.specs.Prelude.{slice_set, slice_index_or}
-use Rattle.work_area.specs.Open.{OpenState, closed}
+use Rattle.work_area.specs.Open.{OpenState}
 use Rattle.work_store.proofs.AreaLemmas.{closed_front, front_none, front_length, front_more, front_all}
 use Rattle.work_store.proofs.store.close_tables.Goals as goal
 

@@ -1,7 +1,6 @@
-use Rattle.std.proofs.Common.{◌≡◌, ℤ, List, sym, ap, subst, to_z, of_z}
+use Rattle.std.proofs.Common.{sym, ap, subst}
 use Rattle.std.proofs.lemmas.Int.{to_z-of_z}
 use Rattle.std.specs.Int.{w128}
-use Rattle.ndx_tree.specs.Pairs.{Pair}
 use Rattle.row_keys.specs.Lists.{IndexState}
 use Rattle.row_moves.specs.Orders.{Sees}
 use Rattle.row_moves.specs.Moves.{skipped, IsMove}

@@ -1,13 +1,13 @@
-use Rattle.std.proofs.Common.{◌≡◌, ℕ, Bool, true, false, ◌∷◌, [], ◌++◌, List, is_none, map, refl, ◌↔◌, sym, ap, ◌∙◌, subst, rules}
+use Rattle.std.proofs.Common.{◌≡◌, false, ◌∷◌, [], ◌++◌, List, is_none, map, ◌↔◌, sym, ap, ◌∙◌, subst, rules}
 use Rattle.std.specs.List.{All}
 use Rattle.std.proofs.lemmas.List.{map-append}
 use Rattle.std.proofs.lemmas.List.Elements.{All-push}
 use Rattle.std.specs.Prelude.{IsSomeAnd}
 use Rattle.dbf_file.specs.Rows.{Row}
 use Rattle.row_keys.specs.Lists.{index_list}
-use Rattle.work_rows.specs.Marks.{IndexMark, with_stale}
+use Rattle.work_rows.specs.Marks.{IndexMark}
 use Rattle.work_rows.specs.Slots.{SlotState, IsSlot, mark_of}
-use Rattle.work_rows.specs.Tables.{IndexedState, indexed}
+use Rattle.work_rows.specs.Tables.{IndexedState}
 use Rattle.work_rows.proofs.table.IndexedTable.declare_with.Goals as goal
 
 pub invariant_of-self-2 : goal.invariant_of-self-2

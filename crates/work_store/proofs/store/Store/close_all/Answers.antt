@@ -1,6 +1,6 @@
-use Rattle.std.proofs.Common.{◌≡◌, ℕ, List, Option, None, map, replicate, refl, sym, ap, ◌∙◌}
-use Rattle.work_area.specs.Open.{OpenState, closed}
-use Rattle.work_store.specs.Areas.{StoreState, closed_all}
+use Rattle.std.proofs.Common.{List, None, replicate, ap, ◌∙◌}
+use Rattle.work_area.specs.Open.{OpenState}
+use Rattle.work_store.specs.Areas.{closed_all}
 use Rattle.work_store.proofs.store.Store.close_all.Goals as goal
 
 pub returns : goal.returns

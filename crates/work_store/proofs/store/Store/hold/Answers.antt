@@ -1,4 +1,4 @@
-use Rattle.std.proofs.Common.{◌≡◌, ◌-◌, ◌<◌, ℕ, Option, Some, false, length, refl, sym, ap, subst}
+use Rattle.std.proofs.Common.{◌≡◌, ◌-◌, ◌<◌, Some, false, length, refl, sym, subst}
 use Rattle.std.specs.Prelude.{slice_set}
 use Rattle.work_store.specs.declared.uses.Use.{Use}
 use Rattle.work_store.specs.Areas.{StoreState, IsStore, is_elsewhere}

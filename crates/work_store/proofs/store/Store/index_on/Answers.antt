@@ -1,4 +1,4 @@
-use Rattle.std.proofs.Common.{◌≡◌, ℕ, ◌<◌, Option, Some, List, [], ◌∷◌, length, refl, sym, ap, ◌∙◌, subst}
+use Rattle.std.proofs.Common.{[], ◌∷◌, sym, ap, ◌∙◌}
 use Rattle.work_area.specs.Open.{OpenState, opened}
 use Rattle.work_store.specs.Areas.{StoreState, with_table}
 use Rattle.work_store.specs.Calls.{indexed_here, index_on_of}

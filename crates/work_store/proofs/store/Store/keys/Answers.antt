@@ -1,4 +1,4 @@
-use Rattle.std.proofs.Common.{◌≡◌, ◌<◌, ℕ, zero, suc, Bool, true, Option, Some, List, [], ◌∷◌, length, get_or, drop, cond, is_some, refl, sym, ap, ◌∙◌, subst, arith}
+use Rattle.std.proofs.Common.{◌≡◌, ◌<◌, ℕ, zero, suc, Bool, true, Option, Some, List, [], ◌∷◌, length, get_or, drop, cond, is_some, sym, ap, ◌∙◌, subst, arith}
 use Rattle.std.specs.Prelude.{find, IfSome}
 use Rattle.row_keys.specs.Lists.{index_list}
 use Rattle.work_rows.specs.Marks.{mark_at, parts_in}

@@ -1,4 +1,4 @@
-use Rattle.std.proofs.Common.{◌≡◌, ℕ, Option, Some, List, true, false, refl, sym, ap, ◌∙◌, subst}
+use Rattle.std.proofs.Common.{ap}
 use Rattle.std.specs.Fn.{FnReturnsAt}
 use Rattle.work_area.specs.Open.{OpenState}
 use Rattle.work_store.specs.Areas.{StoreState, with_table}

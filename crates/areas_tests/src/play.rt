@@ -1,0 +1,407 @@
+// Calls of a store, each made where its conditions hold, and what they answer.
+
+ghost use Rattle.std.specs.Prelude.{◌≡◌, ◌<◌, ◌≤◌, IsTrue, IsSome, IfSome, true, length, is_some};
+ghost use Rattle.dbf_file.specs.Tables.{letter_at};
+ghost use Rattle.dbf_file.specs.Values.{kind_for};
+ghost use Rattle.work_rows.specs.Marks.{mark_at};
+ghost use Rattle.work_store.specs.Areas.{here};
+ghost use Rattle.xvalue.specs.Kinds.{kind_of};
+
+use dbf_file::Table;
+use ndx_tree::KeyList;
+use row_moves::Spent;
+use std::alloc::Global;
+use work_area::AppendError;
+use work_rows::{Refused, Row};
+use work_store::Store;
+use xvalue::{Text, Value};
+
+/// A call of a store: of a table by its number, of indexes by theirs, and texts into the first field.
+#[derive(Clone, Copy, Debug, PartialEq, Eq)]
+pub(crate) enum Call {
+    Use(u16, &'static [u8]),
+    Close,
+    CloseAll,
+    Select(u8),
+    Order(u8),
+    Filter(u16),
+    Top,
+    Bottom,
+    Skip(i128),
+    Go(u32),
+    Seek(&'static [u8], bool),
+    Append,
+    Write(&'static [u8]),
+    Delete,
+    Recall,
+    Pack,
+    Zap,
+    Reindex,
+    IndexOn(u8),
+}
+
+/// What a call answers.
+#[derive(Clone, Copy, Debug, PartialEq, Eq)]
+pub(crate) enum Answer {
+    Cost(u64),
+    Done,
+    Spent,
+    Full,
+    NoMemory,
+    /// Its conditions don't hold.
+    Misused,
+}
+
+/// Which rows are shown.
+#[derive(Clone, Copy)]
+pub(crate) enum Shows {
+    Every,
+    Unmarked,
+    Nothing,
+    From(u32),
+    /// All, where there are so many.
+    Of(u32),
+}
+
+fn sees(shows: Shows, row: &Row<'_>) -> bool {
+    match shows {
+        Shows::Every => true,
+        Shows::Unmarked => !row.marked(),
+        Shows::Nothing => false,
+        Shows::From(number) => row.number() >= number,
+        Shows::Of(count) => row.count() == count,
+    }
+}
+
+fn is_open<K: KeyList>(store: &Store<K>) -> bool
+    ensures { IsTrue result → IsSome (here store.now) }
+{
+    store.is_open(store.selected())
+}
+
+fn moved(answer: Result<u64, Spent>) -> Answer {
+    match answer {
+        Ok(cost) => Answer::Cost(cost),
+        Err(_) => Answer::Spent,
+    }
+}
+
+fn ended(answer: Result<u64, Refused>) -> Answer {
+    match answer {
+        Ok(cost) => Answer::Cost(cost),
+        Err(Refused::Spent) => Answer::Spent,
+        Err(Refused::NoMemory) => Answer::NoMemory,
+    }
+}
+
+fn use_table<K: KeyList>(
+    store: &mut Store<K>,
+    alloc: Global,
+    table: u16,
+    indexes: &[u8],
+    shows: Shows,
+    budget: u64,
+) -> Answer {
+    if usize::from(table) >= store.count() {
+        return Answer::Misused;
+    }
+    if store.is_elsewhere(table) || indexes.len() > 7 || !store.has_indexes(table, indexes) {
+        return Answer::Misused;
+    }
+    ended(store.open(
+        alloc,
+        table,
+        1,
+        indexes,
+        |row: &Row<'_>| sees(shows, row),
+        budget,
+    ))
+}
+
+fn select<K: KeyList>(store: &mut Store<K>, area: u8) -> Answer {
+    if area < 1 || area > 10 {
+        return Answer::Misused;
+    }
+    store.select(area);
+    Answer::Done
+}
+
+fn set_order<K: KeyList>(store: &mut Store<K>, order: u8) -> Answer {
+    if !is_open(store) {
+        return Answer::Misused;
+    }
+    if usize::from(order) > store.list_of(store.selected()).len() {
+        return Answer::Misused;
+    }
+    store.set_order(order);
+    Answer::Done
+}
+
+fn set_filter<K: KeyList>(store: &mut Store<K>, filter: u16) -> Answer {
+    if !is_open(store) {
+        return Answer::Misused;
+    }
+    if filter == 0 {
+        store.clear_filter();
+    } else {
+        store.set_filter(filter);
+    }
+    Answer::Done
+}
+
+fn go_to_end<K: KeyList>(store: &mut Store<K>, forward: bool, shows: Shows, budget: u64) -> Answer {
+    if !is_open(store) {
+        return Answer::Misused;
+    }
+    if forward {
+        return moved(store.top(|row: &Row<'_>| sees(shows, row), budget));
+    }
+    moved(store.bottom(|row: &Row<'_>| sees(shows, row), budget))
+}
+
+fn skip<K: KeyList>(store: &mut Store<K>, steps: i128, shows: Shows, budget: u64) -> Answer {
+    if !is_open(store) {
+        return Answer::Misused;
+    }
+    moved(store.skip(steps, |row: &Row<'_>| sees(shows, row), budget))
+}
+
+fn go<K: KeyList>(store: &mut Store<K>, number: u32) -> Answer {
+    if !is_open(store) {
+        return Answer::Misused;
+    }
+    store.go(Some(number));
+    Answer::Done
+}
+
+fn has_order<K: KeyList>(store: &Store<K>) -> bool
+    requires { IsSome (here store.now) }
+    ensures { IsTrue result → IfSome (here store.now) (λ o. 1 ≤ o.order) }
+{
+    store.order_of(store.selected()) >= 1
+}
+
+fn seek<K: KeyList>(
+    store: &mut Store<K>,
+    text: &[u8],
+    exact: bool,
+    shows: Shows,
+    budget: u64,
+) -> Answer {
+    if !is_open(store) {
+        return Answer::Misused;
+    }
+    if !has_order(store) {
+        return Answer::Misused;
+    }
+    moved(store.seek(text, exact, |row: &Row<'_>| sees(shows, row), budget))
+}
+
+fn append<K: KeyList>(store: &mut Store<K>) -> Answer {
+    if !is_open(store) {
+        return Answer::Misused;
+    }
+    match store.append() {
+        Ok(()) => Answer::Done,
+        Err(AppendError::Full) => Answer::Full,
+        Err(AppendError::NoMemory) => Answer::NoMemory,
+    }
+}
+
+// Whether the first field holds values of this kind.
+fn takes(table: &Table, value: &Value) -> bool
+    ensures there { IsTrue result → 0 < length table.now.structure.fields }
+    ensures kind { IsTrue result → kind_of value.now ≡ kind_for (letter_at table.now.structure 0) }
+{
+    match table.structure().fields() {
+        [field, ..] => field.letter.kind() == value.kind(),
+        [] => false,
+    }
+}
+
+fn takes_here<K: KeyList>(store: &Store<K>, value: &Value) -> bool
+    ensures there { IsTrue result → IfSome (here store.now) (λ o. 0 < length o.table.structure.fields) }
+    ensures kind { IsTrue result → IfSome (here store.now) (λ o. kind_of value.now ≡ kind_for (letter_at o.table.structure 0)) }
+{
+    match store.use_of(store.selected()) {
+        Some(used) => takes(store.table(used.table), value),
+        None => false,
+    }
+}
+
+fn text_value(text: &[u8]) -> Value {
+    let mut held = Text::new();
+    match held.try_extend_from_slice(text) {
+        Ok(()) => Value::Text(held),
+        Err(_) => Value::Logical(false),
+    }
+}
+
+fn write<K: KeyList>(store: &mut Store<K>, text: &[u8]) -> Answer {
+    let value = text_value(text);
+    if !is_open(store) {
+        return Answer::Misused;
+    }
+    if !takes_here(store, &value) {
+        return Answer::Misused;
+    }
+    match store.replace(0, &value) {
+        Ok(()) => Answer::Done,
+        Err(_) => Answer::NoMemory,
+    }
+}
+
+fn mark<K: KeyList>(store: &mut Store<K>, marked: bool) -> Answer {
+    if !is_open(store) {
+        return Answer::Misused;
+    }
+    if marked {
+        store.delete();
+    } else {
+        store.recall();
+    }
+    Answer::Done
+}
+
+fn pack<K: KeyList>(store: &mut Store<K>, alloc: Global, shows: Shows, budget: u64) -> Answer {
+    if !is_open(store) {
+        return Answer::Misused;
+    }
+    ended(store.pack(alloc, |row: &Row<'_>| sees(shows, row), budget))
+}
+
+fn zap<K: KeyList>(store: &mut Store<K>, alloc: Global, budget: u64) -> Answer {
+    if !is_open(store) {
+        return Answer::Misused;
+    }
+    ended(store.zap(alloc, budget))
+}
+
+fn reindex<K: KeyList>(store: &mut Store<K>, alloc: Global, shows: Shows, budget: u64) -> Answer {
+    if !is_open(store) {
+        return Answer::Misused;
+    }
+    ended(store.reindex(alloc, |row: &Row<'_>| sees(shows, row), budget))
+}
+
+fn has_index_here<K: KeyList>(store: &Store<K>, number: u8) -> bool
+    ensures { IsTrue result → IfSome (here store.now) (λ o. is_some (mark_at o.table.marks number) ≡ true) }
+{
+    match store.use_of(store.selected()) {
+        Some(used) => store.has_indexes(used.table, &[number]),
+        None => false,
+    }
+}
+
+fn index_on<K: KeyList>(
+    store: &mut Store<K>,
+    alloc: Global,
+    number: u8,
+    shows: Shows,
+    budget: u64,
+) -> Answer {
+    if !is_open(store) {
+        return Answer::Misused;
+    }
+    if !has_index_here(store, number) {
+        return Answer::Misused;
+    }
+    ended(store.index_on(alloc, 2, number, |row: &Row<'_>| sees(shows, row), budget))
+}
+
+// Calls that end with a move, and moves.
+fn play_costly<K: KeyList>(
+    store: &mut Store<K>,
+    alloc: Global,
+    call: Call,
+    shows: Shows,
+    budget: u64,
+) -> Answer {
+    match call {
+        Call::Use(table, indexes) => use_table(store, alloc, table, indexes, shows, budget),
+        Call::Top => go_to_end(store, true, shows, budget),
+        Call::Bottom => go_to_end(store, false, shows, budget),
+        Call::Skip(steps) => skip(store, steps, shows, budget),
+        Call::Seek(text, exact) => seek(store, text, exact, shows, budget),
+        Call::Pack => pack(store, alloc, shows, budget),
+        Call::Zap => zap(store, alloc, budget),
+        Call::Reindex => reindex(store, alloc, shows, budget),
+        Call::IndexOn(number) => index_on(store, alloc, number, shows, budget),
+        _ => Answer::Misused,
+    }
+}
+
+/// Makes a call.
+pub(crate) fn play<K: KeyList>(
+    store: &mut Store<K>,
+    alloc: Global,
+    call: Call,
+    shows: Shows,
+    budget: u64,
+) -> Answer {
+    match call {
+        Call::Close => {
+            store.close();
+            Answer::Done
+        }
+        Call::CloseAll => {
+            store.close_all();
+            Answer::Done
+        }
+        Call::Select(area) => select(store, area),
+        Call::Order(order) => set_order(store, order),
+        Call::Filter(filter) => set_filter(store, filter),
+        Call::Go(number) => go(store, number),
+        Call::Append => append(store),
+        Call::Write(text) => write(store, text),
+        Call::Delete => mark(store, true),
+        Call::Recall => mark(store, false),
+        _ => play_costly(store, alloc, call, shows, budget),
+    }
+}
+
+/// Where the selected area is: RECNO(), EOF(), BOF(), FOUND(), RECCOUNT() and DELETED(); none where it is closed.
+#[derive(Clone, Copy, Debug, PartialEq, Eq)]
+pub(crate) struct Place {
+    pub(crate) recno: u32,
+    pub(crate) eof: bool,
+    pub(crate) bof: bool,
+    pub(crate) found: bool,
+    pub(crate) reccount: u32,
+    pub(crate) deleted: bool,
+}
+
+/// Where the selected area is.
+pub(crate) fn place_of<K: KeyList>(store: &Store<K>) -> Option<Place> {
+    if !is_open(store) {
+        return None;
+    }
+    Some(Place {
+        recno: store.recno(),
+        eof: store.eof(),
+        bof: store.bof(),
+        found: store.found(),
+        reccount: store.reccount(),
+        deleted: store.deleted(),
+    })
+}
+
+/// The first field of the selected area's record; none where it is closed or no text.
+pub(crate) fn first_text<K: KeyList>(store: &Store<K>) -> Option<Text> {
+    if !is_open(store) {
+        return None;
+    }
+    if !has_field(store) {
+        return None;
+    }
+    match store.field(store.selected(), 0) {
+        Value::Text(text) => Some(text),
+        _ => None,
+    }
+}
+
+fn has_field<K: KeyList>(store: &Store<K>) -> bool
+    ensures { IsTrue result → IfSome (here store.now) (λ o. 0 < length o.table.structure.fields) }
+{
+    takes_here(store, &Value::Text(Text::new()))
+}

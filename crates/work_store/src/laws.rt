@@ -1,0 +1,16 @@
+//! What follows from the definitions. The functions do nothing: their contracts are the laws.
+
+ghost use Rattle.shape.specs.declared.whole.Shape.{Shape as TheShape};
+ghost use Rattle.work_area.specs.Open.{OpenState};
+ghost use Rattle.work_store.specs.Areas.{StoreState};
+ghost use Rattle.work_store.specs.Shapes.{KindsStay, ShapesStay};
+
+/// Each change of a table in use leaves its fields and its indexes, stale or not.
+pub fn tables_keep_their_kind()
+    ensures { (o : OpenState) → KindsStay o }
+{}
+
+/// A store keeps its shape through each change: tables that hold what is declared, and have the declared indexes.
+pub fn stores_keep_their_shape()
+    ensures { (shape : TheShape) (s : StoreState) → ShapesStay shape s }
+{}
