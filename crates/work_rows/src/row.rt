@@ -66,6 +66,13 @@ impl<'a> Row<'a> {
         self.table.mark(self.place)
     }
 
+    /// How many fields the row has.
+    pub fn fields(&self) -> usize
+        ensures { result ≡ length self.now.structure.fields }
+    {
+        self.table.structure().fields().len()
+    }
+
     /// The value of field `f`, counted from 0.
     pub fn value(&self, f: usize) -> Value
         requires { f < length self.now.structure.fields }
