@@ -1,3 +1,5 @@
+pub mod FlatLemmas
+pub mod Keyed
 pub mod Ordered
 pub mod PairOrder
 pub mod Sound

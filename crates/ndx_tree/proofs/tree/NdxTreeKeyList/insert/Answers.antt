@@ -1,4 +1,4 @@
-use Rattle.std.proofs.Common.{◌≡◌, ◌<◌, List, length, ap, sym, ◌∙◌, subst, refl, arith}
+use Rattle.std.proofs.Common.{◌≡◌, ◌<◌, List, ◌∷◌, ◌++◌, length, ap, sym, ◌∙◌, subst, refl, arith}
 use Rattle.std.specs.List.{Contains}
 use Rattle.ndx_tree.specs.Trees.{TreeView}
 use Rattle.ndx_tree.specs.Pairs.{Pair}
@@ -9,6 +9,10 @@ use Rattle.ndx_tree.specs.Rising.{IsAbsent}
 use Rattle.ndx_tree.proofs.Ordered.{Each-absent}
 use Rattle.ndx_tree.proofs.TreeLemmas.{tree_kept, tree_grown, split_rising}
 use Rattle.ndx_tree.proofs.Rises.{length-with_pair}
+use Rattle.ndx_tree.specs.Pairs.{is_before}
+use Rattle.ndx_tree.specs.Order.{Each}
+use Rattle.ndx_tree.proofs.Ordered.{Each-inserted, Each-append_left}
+use Rattle.ndx_tree.proofs.Keyed.{tree_keyed}
 use Rattle.ndx_tree.proofs.tree.NdxTreeKeyList.insert.Goals as goal
 
 pub insert-requires-clause-absent : goal.insert-requires-clause-absent
@@ -70,3 +74,22 @@ returns-in_default-clause-sound c =
     let i = c.in_default.ensures.inserts in
     let t = tree_kept _ c.self.inside.root c.insert.new.self c.self.inside.pool c.insert.new.pool _ (c.self.inside.reserved - 1) c.new-entry.result c.self.invariant.0 some refl fits absent i c.insert.ensures.pool in
     t.list
+
+pub insert-requires-clause-keyed : goal.insert-requires-clause-keyed
+insert-requires-clause-keyed c =
+    let x : Pair = (c.args.key.now, c.args.number) in
+    let e : c.new-entry.result ≡ x = c.new-entry.ensures in
+    let fits : IsPairOf c.self.inside.key_length c.new-entry.result = subst (λ (v : Pair). IsPairOf c.self.inside.key_length v) (sym e) (c.requires.key_length ∙ ap (λ (v : TreeView). v.form.key_length) (sym c.self.view_is), c.requires.number) in
+    let list = c.self.invariant.0.list in
+    tree_keyed c.self.inside.key_length c.self.inside.root.most (c.new-entry.result ∷ c.self.inside.root.pairs) c.self.invariant.0.most (fits, list.keys)
+
+pub raise-requires-clause-keyed : goal.raise-requires-clause-keyed
+raise-requires-clause-keyed c =
+    let x : Pair = (c.args.key.now, c.args.number) in
+    let e : c.new-entry.result ≡ x = c.new-entry.ensures in
+    let fits : IsPairOf c.self.inside.key_length c.new-entry.result = subst (λ (v : Pair). IsPairOf c.self.inside.key_length v) (sym e) (c.requires.key_length ∙ ap (λ (v : TreeView). v.form.key_length) (sym c.self.view_is), c.requires.number) in
+    let list = c.self.invariant.0.list in
+    let k = c.self.inside.key_length in
+    let i = c.in-Some.ensures.inserts in
+    let all : Each (IsPairOf k) (c.insert.new.self.pairs ++ c.in-Some.right.pairs) = subst (λ (m : List Pair). Each (IsPairOf k) m) (sym i.0) (Each-inserted is_before (IsPairOf k) c.new-entry.result c.self.inside.root.pairs fits list.keys) in
+    tree_keyed k c.insert.new.self.most c.insert.new.self.pairs (i.2.same_most ∙ c.self.invariant.0.most) (Each-append_left (IsPairOf k) c.insert.new.self.pairs c.in-Some.right.pairs all)
