@@ -2,14 +2,17 @@
 
 ghost use Rattle.std.specs.Prelude.{◌≡◌, ◌+◌, ◌*◌, ◌-◌, ◌^◌, ◌<◌, ◌≤◌, [], ◌++◌, ℕ, length, take, drop, insert, remove, slice_index_or, slice_set, IfOk};
 ghost use Rattle.std.specs.Vec.{vec_capacity, vec_len};
+ghost use Rattle.std.specs.Ordering.{nat_cmp};
+ghost use Rattle.std.specs.Cmp.Lexicographic.{slice_cmp};
 ghost use Rattle.byteorder.specs.Endian.{little_bytes, little_number};
 ghost use Rattle.ndx_tree.specs.Rising.{IsRising, place_of, last_of};
 ghost use Rattle.ndx_tree.specs.Pairs.{Pair, is_before};
-ghost use Rattle.ndx_tree.specs.Flat.{HaveKeys};
+ghost use Rattle.ndx_tree.specs.Flat.{HaveKeys, AreBytes};
 
 use crate::entry::Entry;
-use byteorder::{ByteOrder, LittleEndian};
+use byteorder::{BigEndian, ByteOrder, LittleEndian};
 use std::alloc::{AllocError, Global};
+use std::cmp::Ordering;
 use std::marker::Model;
 
 /// The bytes of a record number.
@@ -91,8 +94,7 @@ impl Entries {
         requires { at < length self.now.items }
         ensures { (d : Pair) → result ≡ is_before (slice_index_or self.now.items at d) (key.now, number) }
     {
-        self.key(at)
-            .cmp(key)
+        compare_keys(self.key(at), key)
             .then(u64::from(self.number(at)).cmp(&number))
             .is_lt()
     }
@@ -230,6 +232,29 @@ impl Entries {
         }
         Some(self.get(at - 1))
     }
+}
+
+// The same bytes, of which it is known that each is below 256.
+fn known(bytes: &[u8]) -> &[u8]
+    ensures same { result.now ≡ bytes.now }
+    ensures bytes { AreBytes bytes.now }
+{
+    bytes
+}
+
+// How two keys stand to each other. If their first eight bytes differ, these decide as one number.
+fn compare_keys(first: &[u8], second: &[u8]) -> Ordering
+    ensures { result ≡ slice_cmp nat_cmp first.now second.now }
+{
+    if first.len() < 8 || second.len() < 8 {
+        return first.cmp(second);
+    }
+    let front = BigEndian::read_u64(known(first));
+    let other = BigEndian::read_u64(known(second));
+    if front == other {
+        return first.cmp(second);
+    }
+    front.cmp(&other)
 }
 
 // So many bytes from a place on.

@@ -7,7 +7,7 @@ ghost use Rattle.std.specs.Prelude.{◌≡◌, ◌+◌, ◌<◌, ◌≤◌, [], 
 ghost use Rattle.std.specs.Vec.{vec_capacity, vec_len};
 ghost use Rattle.ndx_tree.specs.Order.{Each};
 ghost use Rattle.ndx_tree.specs.Rising.{IsAbsent, IsRising, last_of, first_from, last_below};
-ghost use Rattle.ndx_tree.specs.Pages.{PageView, joined, Inserts, Removes, Joins, IsPage, IsChild, IsCut, IsMending, Mends, Divides};
+ghost use Rattle.ndx_tree.specs.Pages.{PageView, joined, Inserts, InsertsInRoom, Removes, Joins, IsPage, IsChild, IsCut, IsMending, Mends, Divides};
 ghost use Rattle.ndx_tree.specs.Blanks.{IsBlank, IsInnerBlank, IsPool};
 ghost use Rattle.ndx_tree.specs.Pairs.{Pair};
 ghost use Rattle.ndx_tree.specs.Flat.{HaveKeys, AreKeyed, room_for};
@@ -272,6 +272,43 @@ impl Page {
         ensures used { vec_len pool.old.inner + 1 ≤ vec_len pool.new.inner + self.old.height }
         ensures pool { IsPool self.old.most pool.new }
     {
+        if self.insert_in_room(&entry) {
+            return None;
+        }
+        self.insert_by_splits(entry, pool)
+    }
+
+    /// Puts a pair that is not there into its leaf, where that has room for one more, and tells whether it did.
+    fn insert_in_room(&mut self, entry: &Entry) -> bool
+        requires absent { IsAbsent entry.now self.old.pairs }
+        requires keyed { AreKeyed self.old.most (entry.now ∷ self.old.pairs) }
+        ensures { InsertsInRoom self.old entry.now self.new result }
+    {
+        let at = self.entries.place_for(entry);
+        if self.children.is_empty() {
+            if self.entries.len() == self.most {
+                return false;
+            }
+            self.entries.put(at, entry);
+            return true;
+        }
+        if !self.children[at].insert_in_room(entry) {
+            return false;
+        }
+        true
+    }
+
+    /// The same, also where pages on the way become too full.
+    fn insert_by_splits(&mut self, entry: Entry, pool: &mut Pool) -> Option<(Entry, Page)>
+        requires absent { IsAbsent entry self.old.pairs }
+        requires keyed { AreKeyed self.old.most (entry ∷ self.old.pairs) }
+        requires leaf { 0 < vec_len pool.old.leaves }
+        requires room { self.old.height ≤ vec_len pool.old.inner + 1 }
+        requires pool { IsPool self.old.most pool.old }
+        ensures inserts { Inserts self.old entry self.new result }
+        ensures used { vec_len pool.old.inner + 1 ≤ vec_len pool.new.inner + self.old.height }
+        ensures pool { IsPool self.old.most pool.new }
+    {
         let at = self.entries.place_for(&entry);
         if self.children.is_empty() {
             self.entries.put(at, &entry);
@@ -281,7 +318,7 @@ impl Page {
             let blank = take_leaf(self.most, pool);
             return Some(split_leaf(self.most, &mut self.entries, blank));
         }
-        let (separator, right) = self.children[at].insert(entry, pool)?;
+        let (separator, right) = self.children[at].insert_by_splits(entry, pool)?;
         self.entries.put(at, &separator);
         put(&mut self.children, at + 1, right);
         if self.entries.len() <= self.most {
