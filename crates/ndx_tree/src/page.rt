@@ -261,25 +261,8 @@ impl Page {
         put(&mut self.children, 1, right);
     }
 
-    /// Puts a pair that is not there into its place. Where the page is then too full, its later half is split off.
-    pub fn insert(&mut self, entry: Entry, pool: &mut Pool) -> Option<(Entry, Page)>
-        requires absent { IsAbsent entry self.old.pairs }
-        requires keyed { AreKeyed self.old.most (entry ∷ self.old.pairs) }
-        requires leaf { 0 < vec_len pool.old.leaves }
-        requires room { self.old.height ≤ vec_len pool.old.inner + 1 }
-        requires pool { IsPool self.old.most pool.old }
-        ensures inserts { Inserts self.old entry self.new result }
-        ensures used { vec_len pool.old.inner + 1 ≤ vec_len pool.new.inner + self.old.height }
-        ensures pool { IsPool self.old.most pool.new }
-    {
-        if self.insert_in_room(&entry) {
-            return None;
-        }
-        self.insert_by_splits(entry, pool)
-    }
-
     /// Puts a pair that is not there into its leaf, where that has room for one more, and tells whether it did.
-    fn insert_in_room(&mut self, entry: &Entry) -> bool
+    pub fn insert_in_room(&mut self, entry: &Entry) -> bool
         requires absent { IsAbsent entry.now self.old.pairs }
         requires keyed { AreKeyed self.old.most (entry.now ∷ self.old.pairs) }
         ensures { InsertsInRoom self.old entry.now self.new result }
@@ -298,8 +281,8 @@ impl Page {
         true
     }
 
-    /// The same, also where pages on the way become too full.
-    fn insert_by_splits(&mut self, entry: Entry, pool: &mut Pool) -> Option<(Entry, Page)>
+    /// Puts a pair that is not there into its place. Where the page is then too full, its later half is split off.
+    pub fn insert_by_splits(&mut self, entry: Entry, pool: &mut Pool) -> Option<(Entry, Page)>
         requires absent { IsAbsent entry self.old.pairs }
         requires keyed { AreKeyed self.old.most (entry ∷ self.old.pairs) }
         requires leaf { 0 < vec_len pool.old.leaves }
