@@ -92,3 +92,15 @@ pub inner_joins : (l r : PageView) (most : ℕ) (es : List Pair) (cs : List Page
 inner_joins l r most es cs j enough few =
     let four : 4 ≤ l.most = subst (λ k. 4 ≤ k) j.same_most j.page.four in
     (j.pairs, subst (λ k. IsChild l.height k (view_of most es cs)) j.same_most (record { level = j.height; same_most = refl; half = subst (λ k. k / 2 ≤ length es) (sym j.same_most) (omega (arith, j.count)); full = few; filled = j.filled (omega (arith, j.count)); high = let g : 0 < height_of cs = height_pos cs in omega (arith, j.height) }))
+
+one_left : (rest : List PageView) (c child : PageView) → ◌≡◌ {A = List PageView} (c ∷ []) (rest ++ child ∷ []) → c ≡ child
+one_left [] c child e = cc
+one_left (r ∷ rest) c child e = absurd (omega (arith, ap (λ (m : List PageView). length m) e, length-append rest (child ∷ [])))
+
+-- the one child of a page without entries
+pub only_child : (now child v : PageView) (most : ℕ) (es : List Pair) (cs rest : List PageView) → view_of most es cs ≡ now → IsPage most es cs → 1 < now.height → now.count ≡ 0 → cs ≡ rest ++ child ∷ [] → v ≡ child → IsChild v.height now.most v
+only_child now child v most (s ∷ es) cs rest e p h n is same = absurd (omega (arith, ap (λ (w : PageView). w.count) e))
+only_child now child v most [] [] rest e p h n is same = absurd (omega (arith, ap (λ (w : PageView). w.height) e))
+only_child now child v most [] (c ∷ d ∷ cs) rest e p h n is same = absurd p.framed.0
+only_child now child v most [] (c ∷ []) rest e p h n is same =
+    subst (λ m. IsChild v.height m v) (ap (λ (w : PageView). w.most) e) (subst (λ (w : PageView). IsChild w.height most w) (one_left rest c child is ∙ sym same) p.framed.1.0)

@@ -1,3 +1,6 @@
+pub mod FlatLemmas
+pub mod KeyFront
+pub mod Keyed
 pub mod Ordered
 pub mod PairOrder
 pub mod Sound

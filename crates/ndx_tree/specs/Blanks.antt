@@ -1,7 +1,8 @@
 -- Blank pages, which stand ready for splits.
-use Rattle.std.specs.Prelude.{◌≡◌, ℕ, ◌+◌, ◌/◌, ◌<◌, []}
+use Rattle.std.specs.Prelude.{◌≡◌, ℕ, ◌+◌, ◌/◌, ◌<◌, ◌≤◌, []}
 use Rattle.std.specs.Vec.{vec_capacity}
 use Rattle.ndx_tree.specs.Order.{Each}
+use Rattle.ndx_tree.specs.Flat.{room_for}
 use Rattle.ndx_tree.specs.declared.page.Blank.{Blank}
 use Rattle.ndx_tree.specs.declared.page.Pool.{Pool}
 
@@ -9,7 +10,7 @@ use Rattle.ndx_tree.specs.declared.page.Pool.{Pool}
 pub record IsBlank (most : ℕ) (b : Blank) : Type 0 where
   pub no_entry : b.entries.items ≡ []
   pub no_child : b.children.items ≡ []
-  pub entry_room : most + most / 2 + 1 < vec_capacity b.entries
+  pub entry_room : room_for most ≤ b.entries.room
 
 -- and for the children of two pages
 pub record IsInnerBlank (most : ℕ) (b : Blank) : Type 0 where

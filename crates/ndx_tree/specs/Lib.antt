@@ -6,6 +6,7 @@ pub mod Laws
 pub mod Rising
 pub mod Pages
 pub mod Falls
+pub mod Flat
 pub mod Blanks
 pub mod Trees
 pub mod IndexFile

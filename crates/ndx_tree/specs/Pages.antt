@@ -77,6 +77,11 @@ abbrev pub Inserts : PageView → Pair → PageView → Option (Pair × PageView
 Inserts old x new None = (new.pairs ≡ with_pair x old.pairs) × (new.height ≡ old.height) × (new.most ≡ old.most) × (old.count ≤ new.count) × (new.count ≤ old.most)
 Inserts old x new (Some p) = (new.pairs ++ p.1.pairs ≡ with_pair x old.pairs) × (last_of new.pairs ≡ Some p.0) × IsChild old.height old.most new × IsChild old.height old.most p.1
 
+-- A page takes x where its leaf has room, and says whether it did.
+abbrev pub InsertsInRoom : PageView → Pair → PageView → Bool → Type 0
+InsertsInRoom old x new false = new ≡ old
+InsertsInRoom old x new true = (0 < old.height) × Inserts old x new None
+
 -- a page with the parts es and cs, which has too many, becomes one with es2 and cs2, a separator and a later page
 abbrev pub Divides : ℕ → List Pair → List PageView → List Pair → List PageView → Pair × PageView → Type 0
 Divides most es cs es2 cs2 p = (pairs_of es2 cs2 ++ p.1.pairs ≡ pairs_of es cs) × (last_of (pairs_of es2 cs2) ≡ Some p.0) × IsChild (height_of cs) most (view_of most es2 cs2) × IsChild (height_of cs) most p.1 × IsPage most es2 cs2

@@ -77,17 +77,6 @@ impl Entry {
         self.key().cmp(key).then(self.number.cmp(&number)).is_lt()
     }
 
-    // Whether this entry comes before a key with a number, which may be one more than a record's.
-    #[tactic(auto, unfolding(crate::specs::Pairs::is_before))]
-    pub(crate) fn is_below(&self, key: &[u8], number: u64) -> bool
-        ensures { result ≡ is_before self.now (key.now, number) }
-    {
-        self.key()
-            .cmp(key)
-            .then(u64::from(self.number).cmp(&number))
-            .is_lt()
-    }
-
     /// Whether this entry comes after a key with a record number.
     #[tactic(auto, unfolding(crate::specs::Pairs::is_before))]
     pub fn is_after(&self, key: &[u8], number: u32) -> bool

@@ -3,14 +3,16 @@
 //! A page is a leaf, whose entries are pairs, or an inner page, whose entries separate its children: each of them is
 //! the last pair of the child before it. So a search goes into one child alone, and what it looks for is there.
 
-ghost use Rattle.std.specs.Prelude.{◌≡◌, ◌+◌, ◌<◌, ◌≤◌, [], ◌++◌, ◌^◌, ◌/◌, length, IsTrue, ◌↔◌, Some, IfOk, OnOk, ℕ, ◌⊎◌, slice_index_or, slice_set, take};
+ghost use Rattle.std.specs.Prelude.{◌≡◌, ◌+◌, ◌<◌, ◌≤◌, [], ◌∷◌, ◌++◌, ◌*◌, ◌^◌, ◌/◌, length, IsTrue, ◌↔◌, Some, IfOk, OnOk, ℕ, ◌⊎◌, slice_index_or, slice_set, take};
 ghost use Rattle.std.specs.Vec.{vec_capacity, vec_len};
 ghost use Rattle.ndx_tree.specs.Order.{Each};
-ghost use Rattle.ndx_tree.specs.Rising.{place_of, IsAbsent, IsRising, last_of, first_from, last_below};
-ghost use Rattle.ndx_tree.specs.Pages.{PageView, Inserts, Removes, Joins, IsPage, IsChild, IsCut, IsMending, Mends, Divides};
+ghost use Rattle.ndx_tree.specs.Rising.{IsAbsent, IsRising, last_of, first_from, last_below};
+ghost use Rattle.ndx_tree.specs.Pages.{PageView, joined, Inserts, InsertsInRoom, Removes, Joins, IsPage, IsChild, IsCut, IsMending, Mends, Divides};
 ghost use Rattle.ndx_tree.specs.Blanks.{IsBlank, IsInnerBlank, IsPool};
 ghost use Rattle.ndx_tree.specs.Pairs.{Pair};
+ghost use Rattle.ndx_tree.specs.Flat.{HaveKeys, AreKeyed, room_for};
 
+use crate::entries::Entries;
 use crate::entry::Entry;
 use crate::lists::{move_all, move_tail, put};
 use std::alloc::{AllocError, Global};
@@ -21,7 +23,7 @@ use std::mem;
 #[derive(Debug, Drop)]
 pub struct Page {
     most: usize,
-    pub(crate) entries: Vec<Entry>,
+    pub(crate) entries: Entries,
     pub(crate) children: Vec<Page>,
 }
 
@@ -30,12 +32,13 @@ impl Model for Page {
     ghost use Rattle.std.specs.Vec.{vec_capacity};
     ghost use Rattle.ndx_tree.specs.Pages.{PageView, view_of, IsPage};
     ghost use Rattle.ndx_tree.specs.Falls.{falls};
+    ghost use Rattle.ndx_tree.specs.Flat.{room_for};
 
     ghost Value = { PageView };
 
     ghost view = { λ a. view_of a.most a.entries.items a.children.items };
 
-    ghost invariant = { λ a. IsPage a.most a.entries.items a.children.items × (length a.entries.items ≤ a.most) × (a.most + a.most / 2 + 1 < vec_capacity a.entries) × (0 < length a.children.items → a.most + a.most / 2 + 2 < vec_capacity a.children) };
+    ghost invariant = { λ a. IsPage a.most a.entries.items a.children.items × (length a.entries.items ≤ a.most) × (room_for a.most ≤ a.entries.room) × (0 < length a.children.items → a.most + a.most / 2 + 2 < vec_capacity a.children) };
 
     ghost size = { λ d. d.height };
 
@@ -45,7 +48,7 @@ impl Model for Page {
 /// A page that has room and nothing yet.
 #[derive(Debug, Drop)]
 pub struct Blank {
-    entries: Vec<Entry>,
+    entries: Entries,
     children: Vec<Page>,
 }
 
@@ -103,11 +106,11 @@ impl Page {
         ensures found { result ≡ first_from (key.now, number) self.now.pairs }
         ensures seen { seen.new ≤ seen.old + self.now.height }
     {
-        let at = place(&self.entries, key, number);
+        let at = self.entries.place(key, number);
         look(seen);
         if self.children.is_empty() {
             if at < self.entries.len() {
-                return Some(self.entries[at].copied());
+                return Some(self.entries.get(at));
             }
             return None;
         }
@@ -119,16 +122,16 @@ impl Page {
         ensures found { result ≡ last_below (key.now, number) self.now.pairs }
         ensures seen { seen.new ≤ seen.old + self.now.height }
     {
-        let at = place(&self.entries, key, number);
+        let at = self.entries.place(key, number);
         look(seen);
         if self.children.is_empty() {
-            return entry_before(&self.entries, at);
+            return self.entries.before(at);
         }
         let below = self.children[at].last_below(key, number, seen);
         if below.is_some() {
             return below;
         }
-        entry_before(&self.entries, at)
+        self.entries.before(at)
     }
 
     /// The last pair. Each page that is looked at is counted.
@@ -139,22 +142,23 @@ impl Page {
     {
         look(seen);
         if self.children.is_empty() {
-            return self.entries[self.entries.len() - 1].copied();
+            return self.entries.get(self.entries.len() - 1);
         }
         self.children[self.children.len() - 1].last_pair(seen)
     }
 
     /// Takes a pair out, where it is there.
     pub fn remove(&mut self, key: &[u8], number: u32) -> bool
-        requires { 1 < self.old.height → 0 < self.old.count }
+        requires inner { 1 < self.old.height → 0 < self.old.count }
+        requires keyed { AreKeyed self.old.most self.old.pairs }
         ensures { Removes self.old (key.now, number) self.new result }
     {
-        let at = place_of_pair(&self.entries, key, number);
+        let at = self.entries.place_of_pair(key, number);
         if self.children.is_empty() {
             if at == self.entries.len() {
                 return false;
             }
-            if self.entries[at].is_after(key, number) {
+            if self.entries.get(at).is_after(key, number) {
                 return false;
             }
             self.entries.remove(at);
@@ -174,6 +178,7 @@ impl Page {
         requires same_most { right.most ≡ self.old.most }
         requires rising { IsRising (self.old.pairs ++ right.pairs) }
         requires separator { last_of self.old.pairs ≡ Some separator }
+        requires keyed { AreKeyed self.old.most (self.old.pairs ++ right.pairs) }
         requires enough { self.old.most / 2 ≤ self.old.count + right.count }
         requires few { self.old.count + right.count ≤ self.old.most + self.old.most / 2 }
         ensures { Joins self.old right self.new result }
@@ -184,7 +189,8 @@ impl Page {
             children: mut later_children,
         } = right;
         if self.children.is_empty() {
-            move_all(&mut later, &mut self.entries);
+            later.copy_all(&mut self.entries);
+            later.truncate(0);
             if self.entries.len() <= self.most {
                 return None;
             }
@@ -195,8 +201,9 @@ impl Page {
             return Some(split_leaf(self.most, &mut self.entries, blank));
         }
         let end = self.entries.len();
-        put(&mut self.entries, end, separator);
-        move_all(&mut later, &mut self.entries);
+        self.entries.put(end, &separator);
+        later.copy_all(&mut self.entries);
+        later.truncate(0);
         move_all(&mut later_children, &mut self.children);
         if self.entries.len() <= self.most {
             return None;
@@ -236,6 +243,7 @@ impl Page {
         requires right { IsChild self.old.height self.old.most right }
         requires separator { last_of self.old.pairs ≡ Some separator }
         requires rising { IsRising (self.old.pairs ++ right.pairs) }
+        requires keyed { AreKeyed self.old.most self.old.pairs }
         requires blank { IsInnerBlank self.old.most blank }
         ensures pairs { self.new.pairs ≡ self.old.pairs ++ right.pairs }
         ensures height { self.new.height ≡ self.old.height + 1 }
@@ -248,14 +256,35 @@ impl Page {
             entries: mem::replace(&mut self.entries, entries),
             children: mem::replace(&mut self.children, children),
         };
-        put(&mut self.entries, 0, separator);
+        self.entries.put(0, &separator);
         put(&mut self.children, 0, left);
         put(&mut self.children, 1, right);
     }
 
+    /// Puts a pair that is not there into its leaf, where that has room for one more, and tells whether it did.
+    pub fn insert_in_room(&mut self, entry: &Entry) -> bool
+        requires absent { IsAbsent entry.now self.old.pairs }
+        requires keyed { AreKeyed self.old.most (entry.now ∷ self.old.pairs) }
+        ensures { InsertsInRoom self.old entry.now self.new result }
+    {
+        let at = self.entries.place_for(entry);
+        if self.children.is_empty() {
+            if self.entries.len() == self.most {
+                return false;
+            }
+            self.entries.put(at, entry);
+            return true;
+        }
+        if !self.children[at].insert_in_room(entry) {
+            return false;
+        }
+        true
+    }
+
     /// Puts a pair that is not there into its place. Where the page is then too full, its later half is split off.
-    pub fn insert(&mut self, entry: Entry, pool: &mut Pool) -> Option<(Entry, Page)>
+    pub fn insert_by_splits(&mut self, entry: Entry, pool: &mut Pool) -> Option<(Entry, Page)>
         requires absent { IsAbsent entry self.old.pairs }
+        requires keyed { AreKeyed self.old.most (entry ∷ self.old.pairs) }
         requires leaf { 0 < vec_len pool.old.leaves }
         requires room { self.old.height ≤ vec_len pool.old.inner + 1 }
         requires pool { IsPool self.old.most pool.old }
@@ -263,17 +292,17 @@ impl Page {
         ensures used { vec_len pool.old.inner + 1 ≤ vec_len pool.new.inner + self.old.height }
         ensures pool { IsPool self.old.most pool.new }
     {
-        let at = place_for(&self.entries, &entry);
+        let at = self.entries.place_for(&entry);
         if self.children.is_empty() {
-            put(&mut self.entries, at, entry);
+            self.entries.put(at, &entry);
             if self.entries.len() <= self.most {
                 return None;
             }
             let blank = take_leaf(self.most, pool);
             return Some(split_leaf(self.most, &mut self.entries, blank));
         }
-        let (separator, right) = self.children[at].insert(entry, pool)?;
-        put(&mut self.entries, at, separator);
+        let (separator, right) = self.children[at].insert_by_splits(entry, pool)?;
+        self.entries.put(at, &separator);
         put(&mut self.children, at + 1, right);
         if self.entries.len() <= self.most {
             return None;
@@ -286,22 +315,22 @@ impl Page {
 impl Blank {
     /// A blank leaf, with room for the entries of two pages that are joined.
     pub fn leaf(alloc: Global, most: usize) -> Result<Blank, AllocError>
-        requires { most < 1000 }
+        requires { (0 < most) × (most < 1000) }
         ensures { IfOk result (IsBlank most) }
     {
         Ok(Blank {
-            entries: Vec::with_capacity(alloc, most + most / 2 + 2)?,
+            entries: Entries::with_room(alloc, room_of(most))?,
             children: Vec::new(alloc),
         })
     }
 
     /// A blank inner page, with room for the children of two pages that are joined too.
     pub fn inner(alloc: Global, most: usize) -> Result<Blank, AllocError>
-        requires { most < 1000 }
+        requires { (0 < most) × (most < 1000) }
         ensures { IfOk result (IsInnerBlank most) }
     {
         Ok(Blank {
-            entries: Vec::with_capacity(alloc, most + most / 2 + 2)?,
+            entries: Entries::with_room(alloc, room_of(most))?,
             children: Vec::with_capacity(alloc, most + most / 2 + 3)?,
         })
     }
@@ -322,7 +351,7 @@ impl Pool {
     /// Adds blank pages until there are a leaf and as many inner pages as are wanted. Where memory is missing, those
     /// that were added stay.
     pub fn stock(&mut self, alloc: Global, most: usize, wanted: usize) -> Result<(), AllocError>
-        requires most { most < 1000 }
+        requires most { (0 < most) × (most < 1000) }
         requires pool { IsPool most self.old }
         ensures pool { IsPool most self.new }
         ensures leaf { OnOk result (0 < vec_len self.new.leaves) }
@@ -337,7 +366,7 @@ impl Pool {
 
 // Adds a blank leaf where there is none.
 fn stock_leaf(alloc: Global, most: usize, leaves: &mut Vec<Blank>) -> Result<(), AllocError>
-    requires most { most < 1000 }
+    requires most { (0 < most) × (most < 1000) }
     requires blank { Each (IsBlank most) leaves.old.items }
     ensures blank { Each (IsBlank most) leaves.new.items }
     ensures enough { OnOk result (0 < vec_len leaves.new) }
@@ -356,7 +385,7 @@ fn stock_inner(
     wanted: usize,
     inner: &mut Vec<Blank>,
 ) -> Result<(), AllocError>
-    requires most { most < 1000 }
+    requires most { (0 < most) × (most < 1000) }
     requires blank { Each (IsInnerBlank most) inner.old.items }
     ensures blank { Each (IsInnerBlank most) inner.new.items }
     ensures enough { OnOk result (wanted ≤ vec_len inner.new) }
@@ -397,6 +426,15 @@ pub(crate) fn take_inner(most: usize, pool: &mut Pool) -> Blank
     blank
 }
 
+// How many bytes the entries of one page may take, with those of a page that is joined.
+#[tactic(auto, unfolding(crate::specs::Flat::room_for))]
+fn room_of(most: usize) -> usize
+    requires { (0 < most) × (most < 1000) }
+    ensures { result ≡ room_for most }
+{
+    (most + most / 2 + 1) * (504 / most).saturating_sub(4)
+}
+
 // Counts a page that is looked at, up to the greatest number.
 fn look(seen: &mut usize)
     ensures { seen.new ≤ seen.old + 1 }
@@ -404,30 +442,20 @@ fn look(seen: &mut usize)
     *seen = seen.saturating_add(1);
 }
 
-// The entry before a place, if there is one.
-fn entry_before(entries: &[Entry], at: usize) -> Option<Entry>
-    requires { at ≤ length entries.now }
-    ensures { result ≡ last_of (take at entries.now) }
-{
-    if at == 0 {
-        return None;
-    }
-    Some(entries[at - 1].copied())
-}
-
 // Makes the separator after a child its last pair again.
-fn refresh(entries: &mut Vec<Entry>, children: &[Page], at: usize)
+fn refresh(entries: &mut Entries, children: &[Page], at: usize)
     requires within { at < length children.now }
+    requires alike { (k : ℕ) × HaveKeys k entries.old.items × HaveKeys k (joined children.now) × (length entries.old.items * (k + 4) ≤ entries.old.room) }
     requires some { (d : PageView) → 0 < length (slice_index_or children.now at d).pairs }
     requires cut { (d : PageView) (t : Pair) → last_of (slice_index_or children.now at d).pairs ≡ Some t → IsCut (slice_set entries.old.items at t) children.now }
     ensures cut { IsCut entries.new.items children.now }
-    ensures len { vec_len entries.new ≡ vec_len entries.old }
-    ensures capacity { vec_capacity entries.old ≤ vec_capacity entries.new }
+    ensures len { length entries.new.items ≡ length entries.old.items }
+    ensures room { entries.old.room ≤ entries.new.room }
 {
     let mut seen = 0;
     let last = children[at].last_pair(&mut seen);
     if at < entries.len() {
-        entries[at] = last;
+        entries.set(at, &last);
     }
 }
 
@@ -442,12 +470,13 @@ fn first_of_two(at: usize, separators: usize) -> usize
 }
 
 // Joins a child that has too few entries with a neighbour.
-fn mend(most: usize, entries: &mut Vec<Entry>, children: &mut Vec<Page>, at: usize)
+fn mend(most: usize, entries: &mut Entries, children: &mut Vec<Page>, at: usize)
     requires mending { (h : ℕ) × IsMending h most at entries.old.items children.old.items }
-    requires room { most < vec_capacity entries.old }
+    requires keyed { AreKeyed most (joined children.old.items) }
+    requires room { room_for most ≤ entries.old.room }
     requires child_room { most + 1 < vec_capacity children.old }
     ensures mends { Mends most entries.old.items children.old.items entries.new.items children.new.items }
-    ensures capacity { vec_capacity entries.old ≤ vec_capacity entries.new }
+    ensures room { entries.old.room ≤ entries.new.room }
     ensures child_capacity { vec_capacity children.old ≤ vec_capacity children.new }
 {
     if children[at].count() >= most / 2 {
@@ -455,30 +484,32 @@ fn mend(most: usize, entries: &mut Vec<Entry>, children: &mut Vec<Page>, at: usi
     }
     let first = first_of_two(at, entries.len());
     let right = children.remove(first + 1);
-    let separator = entries.remove(first);
+    let separator = entries.get(first);
+    entries.remove(first);
     let Some((separator, right)) = children[first].join(separator, right) else {
         return;
     };
-    put(entries, first, separator);
+    entries.put(first, &separator);
     put(children, first + 1, right);
 }
 
 // Splits the later half off a leaf that has too many entries.
-fn split_leaf(most: usize, entries: &mut Vec<Entry>, blank: Blank) -> (Entry, Page)
+fn split_leaf(most: usize, entries: &mut Entries, blank: Blank) -> (Entry, Page)
     requires parts { IsPage most entries.old.items [] }
-    requires too_many { most < vec_len entries.old }
-    requires below { vec_len entries.old ≤ most + most / 2 + 1 }
+    requires keyed { AreKeyed most entries.old.items }
+    requires too_many { most < length entries.old.items }
+    requires below { length entries.old.items ≤ most + most / 2 + 1 }
     requires blank { IsBlank most blank }
     ensures divides { Divides most entries.old.items [] entries.new.items [] result }
-    ensures capacity { vec_capacity entries.old ≤ vec_capacity entries.new }
+    ensures room { entries.old.room ≤ entries.new.room }
 {
     let Blank {
         entries: mut later,
         children,
     } = blank;
     let kept = entries.len() / 2;
-    move_tail(entries, kept, &mut later);
-    let separator = entries[kept - 1].copied();
+    entries.move_tail(kept, &mut later);
+    let separator = entries.get(kept - 1);
     let page = Page {
         most,
         entries: later,
@@ -490,17 +521,18 @@ fn split_leaf(most: usize, entries: &mut Vec<Entry>, blank: Blank) -> (Entry, Pa
 // Splits the later half off an inner page that has too many entries. The entry between the halves separates them.
 fn split_inner(
     most: usize,
-    entries: &mut Vec<Entry>,
+    entries: &mut Entries,
     children: &mut Vec<Page>,
     blank: Blank,
 ) -> (Entry, Page)
     requires parts { IsPage most entries.old.items children.old.items }
+    requires keyed { AreKeyed most entries.old.items }
     requires inner { 0 < vec_len children.old }
-    requires too_many { most < vec_len entries.old }
-    requires below { vec_len entries.old ≤ most + most / 2 + 1 }
+    requires too_many { most < length entries.old.items }
+    requires below { length entries.old.items ≤ most + most / 2 + 1 }
     requires blank { IsInnerBlank most blank }
     ensures divides { Divides most entries.old.items children.old.items entries.new.items children.new.items result }
-    ensures capacity { vec_capacity entries.old ≤ vec_capacity entries.new }
+    ensures room { entries.old.room ≤ entries.new.room }
     ensures child_capacity { vec_capacity children.old ≤ vec_capacity children.new }
 {
     let Blank {
@@ -508,8 +540,8 @@ fn split_inner(
         children: mut later_children,
     } = blank;
     let kept = entries.len() / 2;
-    let separator = entries[kept].copied();
-    move_tail(entries, kept + 1, &mut later);
+    let separator = entries.get(kept);
+    entries.move_tail(kept + 1, &mut later);
     move_tail(children, kept + 1, &mut later_children);
     entries.truncate(kept);
     let page = Page {
@@ -518,31 +550,4 @@ fn split_inner(
         children: later_children,
     };
     (separator, page)
-}
-
-// How many entries at the front stand before a key with a number.
-fn place(entries: &[Entry], key: &[u8], number: u64) -> usize
-    requires { IsRising entries.now }
-    ensures within { result ≤ length entries.now }
-    ensures value { result ≡ place_of (key.now, number) entries.now }
-{
-    entries.partition_point(|entry| entry.is_below(key, number))
-}
-
-// How many entries at the front stand before a pair.
-fn place_of_pair(entries: &[Entry], key: &[u8], number: u32) -> usize
-    requires { IsRising entries.now }
-    ensures within { result ≤ length entries.now }
-    ensures value { result ≡ place_of (key.now, number) entries.now }
-{
-    place(entries, key, u64::from(number))
-}
-
-// How many entries at the front stand before another entry.
-fn place_for(entries: &[Entry], entry: &Entry) -> usize
-    requires { IsRising entries.now }
-    ensures within { result ≤ length entries.now }
-    ensures value { result ≡ place_of entry.now entries.now }
-{
-    place_of_pair(entries, entry.key(), entry.number())
 }

@@ -9,7 +9,7 @@ ghost use Rattle.ndx_tree.specs.KeyForm.{IsPairOf};
 ghost use Rattle.ndx_tree.specs.IndexFile.{leaf_pairs};
 ghost use Rattle.ndx_tree.specs.Writes.{IsWritten, IsAppended, IsPageText};
 
-use crate::Entry;
+use crate::entries::Entries;
 use crate::lists::held;
 use crate::page::Page;
 use arrayvec::ArrayVec;
@@ -17,22 +17,22 @@ use ndx_page::{Head, write_page};
 use std::alloc::AllocError;
 
 // The leaf of these pairs, at most 42 of them.
-fn leaf_of(entries: &[Entry]) -> ndx_page::Page
-    requires { length entries.now ≤ 42 }
-    ensures pairs { leaf_pairs result.entries.items ≡ entries.now }
+fn leaf_of(entries: &Entries) -> ndx_page::Page
+    requires { length entries.now.items ≤ 42 }
+    ensures pairs { leaf_pairs result.entries.items ≡ entries.now.items }
     ensures children { Each (λ e. e.child ≡ 0) result.entries.items }
     ensures last { result.last ≡ 0 }
-    ensures count { length result.entries.items ≡ length entries.now }
+    ensures count { length result.entries.items ≡ length entries.now.items }
 {
     let mut page = ndx_page::Page {
         entries: ArrayVec::new(),
         last: 0,
     };
-    for entry in entries {
+    for at in 0..entries.len() {
         page.entries.push(ndx_page::Entry {
             child: 0,
-            number: entry.number(),
-            key: held(entry.key()),
+            number: entries.number(at),
+            key: held(entries.key(at)),
         });
     }
     page
@@ -91,16 +91,16 @@ impl Page {
             let own = append_page(head, &leaf_of(&self.entries), pages, body)?;
             return Ok(own);
         }
-        let entries = self.entries.as_slice();
+        let entries = &self.entries;
         let children = self.children.as_slice();
         let mut page = ndx_page::Page {
             entries: ArrayVec::new(),
             last: 0,
         };
         let mut number = pages;
-        for (at, entry) in entries.iter().enumerate() {
+        for at in 0..entries.len() {
             let child = children[at].write(head, number, body)?;
-            page.entries.push(between(child, entry.key()));
+            page.entries.push(between(child, entries.key(at)));
             number = child;
         }
         page.last = children[entries.len()].write(head, number, body)?;

@@ -1,10 +1,11 @@
 //! A list of keys in a tree of pages.
 
-ghost use Rattle.std.specs.Prelude.{◌≡◌, ◌+◌, ◌*◌, ◌<◌, ◌≤◌, ◌^◌, ◌↔◌, length, reverse, IfOk, OnOk, Contains, []};
+ghost use Rattle.std.specs.Prelude.{◌≡◌, ◌+◌, ◌*◌, ◌<◌, ◌≤◌, ◌^◌, ◌↔◌, length, reverse, IfOk, OnOk, Contains, [], ℕ, ◌-◌};
 ghost use Rattle.ndx_tree.specs.Order.{Each, IsDistinct, above, below, first, in_order};
 ghost use Rattle.ndx_tree.specs.Pairs.{is_before, pairs_from};
-ghost use Rattle.ndx_tree.specs.KeyForm.{IsKeyLength, IsPairOf};
-ghost use Rattle.ndx_tree.specs.Rising.{first_from};
+ghost use Rattle.ndx_tree.specs.KeyForm.{KeyForm, IsKeyLength, IsPairOf};
+ghost use Rattle.ndx_tree.specs.Trees.{IsTree};
+ghost use Rattle.ndx_tree.specs.Rising.{IsAbsent, first_from, with_pair};
 
 use crate::entry::Entry;
 use crate::key_list::KeyList;
@@ -164,6 +165,21 @@ impl NdxTree {
     }
 }
 
+// Puts a pair that is not there below a root, which becomes two pages and a root over them where it is too full. It
+// stands alone, since most insertions need no such room on the stack.
+#[inline(never)]
+fn grow(root: &mut Page, entry: Entry, pool: &mut Pool)
+    requires absent { IsAbsent entry root.old.pairs }
+    requires tree { (form : KeyForm) × (reserved : ℕ) × IsTree form root.old pool.old reserved × (0 < reserved) × IsPairOf form.key_length entry }
+    ensures tree { (form : KeyForm) (reserved : ℕ) → IsTree form root.old pool.old reserved → 0 < reserved → IsPairOf form.key_length entry → IsTree form root.new pool.new (reserved - 1) }
+    ensures pairs { root.new.pairs ≡ with_pair entry root.old.pairs }
+{
+    if let Some((separator, right)) = root.insert_by_splits(entry, pool) {
+        let blank = take_inner(root.most(), pool);
+        root.raise(separator, right, blank);
+    }
+}
+
 impl KeyList for NdxTree {
     ghost pairs = { λ t. t.pairs };
 
@@ -209,10 +225,10 @@ impl KeyList for NdxTree {
         self.reserved -= 1;
         self.count += 1;
         let entry = Entry::new(key, number);
-        if let Some((separator, right)) = self.root.insert(entry, &mut self.pool) {
-            let blank = take_inner(self.root.most(), &mut self.pool);
-            self.root.raise(separator, right, blank);
+        if self.root.insert_in_room(&entry) {
+            return;
         }
+        grow(&mut self.root, entry, &mut self.pool);
     }
 
     fn remove(&mut self, key: &[u8], number: u32) -> bool {

@@ -10,7 +10,7 @@ use Rattle.ndx_tree.proofs.Take.{placed_child}
 use Rattle.ndx_tree.proofs.page.Page.+last_below.Goals as goal
 
 pub place-at-requires : goal.place-at-requires
-place-at-requires t c = rw c.deref.ensures.value (entries_rising c.self.inside.most c.self.inside.entries.items c.self.inside.children.items c.self.invariant.0)
+place-at-requires t c = entries_rising c.self.inside.most c.self.inside.entries.items c.self.inside.children.items c.self.invariant.0
 
 -- the child that the search goes into
 record IsInto (now : PageView) (m : ℕ) (es : List Pair) (cs : List PageView) (x : Pair) (at : ℕ) (d : PageView) : Type 0 where
@@ -45,41 +45,41 @@ none_from (Some t) e = absurd cc
 pub index-requires : goal.index-requires
 index-requires t c =
     let some : 0 < length c.self.inside.children.items = omega (arith, eqb-false _ 0 (sym c.is_empty.ensures ∙ c.if-is_empty.false)) in
-    let placed = rw c.deref.ensures.value at c.place-at.ensures.value in
+    let placed = c.place-at.ensures.value in
     let child = placed_child c.self.inside.most c.self.inside.entries.items c.self.inside.children.items (c.args.key.now, c.args.number) c.place-at.result c.args.self.now c.self.invariant.0 some placed in
     omega (arith, child.0)
 
 pub last_below-below-requires : goal.last_below-below-requires
 last_below-below-requires t c =
     let some : 0 < length c.self.inside.children.items = omega (arith, eqb-false _ 0 (sym c.is_empty.ensures ∙ c.if-is_empty.false)) in
-    let placed = rw c.deref.ensures.value at c.place-at.ensures.value in
+    let placed = c.place-at.ensures.value in
     let q = into c.args.self.now c.self.inside.most c.self.inside.entries.items c.self.inside.children.items (c.args.key.now, c.args.number) c.place-at.result c.index.result.now c.self.view_is c.self.invariant.0 some placed c.index.ensures in
     omega (arith, q.height, c.decreases)
 
 pub returns-then-is_some-clause-found : goal.returns-then-is_some-clause-found
 returns-then-is_some-clause-found t c =
     let some : 0 < length c.self.inside.children.items = omega (arith, eqb-false _ 0 (sym c.is_empty.ensures ∙ c.if-is_empty.false)) in
-    let placed = rw c.deref.ensures.value at c.place-at.ensures.value in
+    let placed = c.place-at.ensures.value in
     let q = into c.args.self.now c.self.inside.most c.self.inside.entries.items c.self.inside.children.items (c.args.key.now, c.args.number) c.place-at.result c.index.result.now c.self.view_is c.self.invariant.0 some placed c.index.ensures in
     some_from c.last_below-below.result _ (sym c.is_some.ensures ∙ c.if-is_some.true) (λ v h. q.found v (sym c.last_below-below.ensures.found ∙ h))
 
 pub returns-then-is_some-clause-seen : goal.returns-then-is_some-clause-seen
 returns-then-is_some-clause-seen t c =
     let some : 0 < length c.self.inside.children.items = omega (arith, eqb-false _ 0 (sym c.is_empty.ensures ∙ c.if-is_empty.false)) in
-    let placed = rw c.deref.ensures.value at c.place-at.ensures.value in
+    let placed = c.place-at.ensures.value in
     let q = into c.args.self.now c.self.inside.most c.self.inside.entries.items c.self.inside.children.items (c.args.key.now, c.args.number) c.place-at.result c.index.result.now c.self.view_is c.self.invariant.0 some placed c.index.ensures in
     omega (arith, q.height, c.last_below-below.ensures.seen, c.look.ensures)
 
 pub returns-clause-found : goal.returns-clause-found
 returns-clause-found t c =
     let some : 0 < length c.self.inside.children.items = omega (arith, eqb-false _ 0 (sym c.is_empty.ensures ∙ c.if-is_empty.false)) in
-    let placed = rw c.deref.ensures.value at c.place-at.ensures.value in
+    let placed = c.place-at.ensures.value in
     let q = into c.args.self.now c.self.inside.most c.self.inside.entries.items c.self.inside.children.items (c.args.key.now, c.args.number) c.place-at.result c.index.result.now c.self.view_is c.self.invariant.0 some placed c.index.ensures in
-    c.entry_before-2.ensures ∙ ap (λ (m : List Pair). last_of (take c.place-at.result m)) c.deref-2.ensures.value ∙ sym (q.none (sym c.last_below-below.ensures.found ∙ none_from c.last_below-below.result (sym c.is_some.ensures ∙ c.if-is_some.false)))
+    c.before-2.ensures ∙ sym (q.none (sym c.last_below-below.ensures.found ∙ none_from c.last_below-below.result (sym c.is_some.ensures ∙ c.if-is_some.false)))
 
 pub returns-clause-seen : goal.returns-clause-seen
 returns-clause-seen t c =
     let some : 0 < length c.self.inside.children.items = omega (arith, eqb-false _ 0 (sym c.is_empty.ensures ∙ c.if-is_empty.false)) in
-    let placed = rw c.deref.ensures.value at c.place-at.ensures.value in
+    let placed = c.place-at.ensures.value in
     let q = into c.args.self.now c.self.inside.most c.self.inside.entries.items c.self.inside.children.items (c.args.key.now, c.args.number) c.place-at.result c.index.result.now c.self.view_is c.self.invariant.0 some placed c.index.ensures in
     omega (arith, q.height, c.last_below-below.ensures.seen, c.look.ensures)

@@ -1,6 +1,6 @@
-use Rattle.std.proofs.Common.{◌≡◌, ◌∙◌, ◌+◌, ◌-◌, ◌/◌, ◌≤◌, ◌<◌, ◌++◌, ◌∷◌, [], ℕ, List, length, take, refl, sym, ap, subst, arith, length-append, lit<}
+use Rattle.std.proofs.Common.{◌≡◌, ◌∙◌, ◌+◌, ◌-◌, ◌/◌, ◌≤◌, ◌<◌, ◌++◌, ◌∷◌, [], ℕ, List, length, take, get_or, refl, sym, ap, subst, arith, length-append, lit<}
 use Rattle.std.proofs.lemmas.Bool.{eqb-true, eqb-false}
-use Rattle.std.proofs.lemmas.List.{nil_from_length, take_all}
+use Rattle.std.proofs.lemmas.List.{nil_from_length, take_all, get_or_default}
 use Rattle.ndx_page.specs.declared.page.Entry.{Entry as FileEntry}
 use Rattle.ndx_tree.specs.Order.{Each}
 use Rattle.ndx_tree.specs.Pairs.{Pair}
@@ -16,27 +16,30 @@ use Rattle.ndx_tree.proofs.TextPages.{no_pages, more_pages, page_behind_pages}
 use Rattle.ndx_tree.specs.IndexText.{pages_text}
 use Rattle.ndx_tree.proofs.page.Page.+write.Goals as goal
 
+nothing : Pair
+nothing = ([], 0)
+
 pub leaf_of-requires : goal.leaf_of-requires
 leaf_of-requires t c =
     let most = most_entries-bound c.args.head.now.length c.args.head.now.some_key in
     let none : c.self.inside.children.items ≡ [] = nil_from_length _ (omega (arith, eqb-true _ 0 (sym c.is_empty.ensures ∙ c.if-is_empty.true))) in
     let same : c.self.inside.most ≡ c.args.self.now.most = ap (λ (v : PageView). v.most) c.self.view_is in
-    omega (arith, c.deref.ensures.len, c.self.invariant.1, c.requires.most, same)
+    omega (arith, c.self.invariant.1, c.requires.most, same)
 
 pub append_page-requires-clause-fits : goal.append_page-requires-clause-fits
 append_page-requires-clause-fits t c =
     let most = most_entries-bound c.args.head.now.length c.args.head.now.some_key in
     let none : c.self.inside.children.items ≡ [] = nil_from_length _ (omega (arith, eqb-true _ 0 (sym c.is_empty.ensures ∙ c.if-is_empty.true))) in
     let same : c.self.inside.most ≡ c.args.self.now.most = ap (λ (v : PageView). v.most) c.self.view_is in
-    let pairs : leaf_pairs c.leaf_of.result.entries.items ≡ c.args.self.now.pairs = c.leaf_of.ensures.pairs ∙ c.deref.ensures.value ∙ ap (pairs_of c.self.inside.entries.items) (sym none) ∙ ap (λ (v : PageView). v.pairs) c.self.view_is in
-    leaf_page_fits c.args.head.now.length c.leaf_of.result (subst (Each (IsPairOf c.args.head.now.length)) (sym pairs) c.requires.keys) c.leaf_of.ensures.children c.leaf_of.ensures.last (omega (arith, c.leaf_of.ensures.count, c.deref.ensures.len, c.self.invariant.1, c.requires.most, same))
+    let pairs : leaf_pairs c.leaf_of.result.entries.items ≡ c.args.self.now.pairs = c.leaf_of.ensures.pairs ∙ ap (pairs_of c.self.inside.entries.items) (sym none) ∙ ap (λ (v : PageView). v.pairs) c.self.view_is in
+    leaf_page_fits c.args.head.now.length c.leaf_of.result (subst (Each (IsPairOf c.args.head.now.length)) (sym pairs) c.requires.keys) c.leaf_of.ensures.children c.leaf_of.ensures.last (omega (arith, c.leaf_of.ensures.count, c.self.invariant.1, c.requires.most, same))
 
 pub returns-then-is_empty-clause-written : goal.returns-then-is_empty-clause-written
 returns-then-is_empty-clause-written t c =
     let most = most_entries-bound c.args.head.now.length c.args.head.now.some_key in
     let none : c.self.inside.children.items ≡ [] = nil_from_length _ (omega (arith, eqb-true _ 0 (sym c.is_empty.ensures ∙ c.if-is_empty.true))) in
     let same : c.self.inside.most ≡ c.args.self.now.most = ap (λ (v : PageView). v.most) c.self.view_is in
-    let pairs : leaf_pairs c.leaf_of.result.entries.items ≡ c.args.self.now.pairs = c.leaf_of.ensures.pairs ∙ c.deref.ensures.value ∙ ap (pairs_of c.self.inside.entries.items) (sym none) ∙ ap (λ (v : PageView). v.pairs) c.self.view_is in
+    let pairs : leaf_pairs c.leaf_of.result.entries.items ≡ c.args.self.now.pairs = c.leaf_of.ensures.pairs ∙ ap (pairs_of c.self.inside.entries.items) (sym none) ∙ ap (λ (v : PageView). v.pairs) c.self.view_is in
     let height : c.args.self.now.height ≡ 1 = sym (ap (λ (v : PageView). v.height) c.self.view_is) ∙ ap height_of none in
     subst (λ n. IsWritten c.args.head.now.length c.args.pages n c.append_page.new.body.items c.args.self.now) (sym c.in_ok-own.ensures.number) (leaf_written c.args.head.now.length c.args.pages c.args.body.now.items c.append_page.new.body.items c.leaf_of.result c.args.self.now c.in_ok-own.ensures.text (omega (arith, c.requires.start)) c.leaf_of.ensures.last pairs height)
 
@@ -46,19 +49,19 @@ returns-then-is_empty-clause-text t c =
     let most = most_entries-bound k c.args.head.now.some_key in
     let none : c.self.inside.children.items ≡ [] = nil_from_length _ (omega (arith, eqb-true _ 0 (sym c.is_empty.ensures ∙ c.if-is_empty.true))) in
     let same : c.self.inside.most ≡ c.args.self.now.most = ap (λ (v : PageView). v.most) c.self.view_is in
-    let pairs : leaf_pairs c.leaf_of.result.entries.items ≡ c.args.self.now.pairs = c.leaf_of.ensures.pairs ∙ c.deref.ensures.value ∙ ap (pairs_of c.self.inside.entries.items) (sym none) ∙ ap (λ (v : PageView). v.pairs) c.self.view_is in
-    let fits = leaf_page_fits k c.leaf_of.result (subst (Each (IsPairOf k)) (sym pairs) c.requires.keys) c.leaf_of.ensures.children c.leaf_of.ensures.last (omega (arith, c.leaf_of.ensures.count, c.deref.ensures.len, c.self.invariant.1, c.requires.most, same)) in
-    let count : length c.leaf_of.result.entries.items ≡ c.args.self.now.count = c.leaf_of.ensures.count ∙ ap (λ (m : List Pair). length m) c.deref.ensures.value ∙ ap (λ (v : PageView). v.count) c.self.view_is in
+    let pairs : leaf_pairs c.leaf_of.result.entries.items ≡ c.args.self.now.pairs = c.leaf_of.ensures.pairs ∙ ap (pairs_of c.self.inside.entries.items) (sym none) ∙ ap (λ (v : PageView). v.pairs) c.self.view_is in
+    let fits = leaf_page_fits k c.leaf_of.result (subst (Each (IsPairOf k)) (sym pairs) c.requires.keys) c.leaf_of.ensures.children c.leaf_of.ensures.last (omega (arith, c.leaf_of.ensures.count, c.self.invariant.1, c.requires.most, same)) in
+    let count : length c.leaf_of.result.entries.items ≡ c.args.self.now.count = c.leaf_of.ensures.count ∙ ap (λ (v : PageView). v.count) c.self.view_is in
     subst (λ n. IsPageText k c.args.pages n c.args.body.now.items c.append_page.new.body.items c.args.self.now.count) (sym c.in_ok-own.ensures.number)
     (page_behind_pages k c.args.pages c.args.pages c.args.self.now.count c.args.body.now.items c.args.body.now.items c.append_page.new.body.items c.leaf_of.result (no_pages k c.args.pages c.args.body.now.items) c.in_ok-own.ensures.text (leaf_own k c.leaf_of.result c.leaf_of.ensures.last fits) count)
 
 pub loop-at-init : goal.loop-at-init
 loop-at-init t c =
-    let es = c.as_slice-entries.result.now in
+    let es = c.self.inside.entries.items in
     let cs = c.as_slice-children.result.now in
     let some : 0 < length cs = omega (arith, c.as_slice-children.ensures.len, eqb-false _ 0 (sym c.is_empty.ensures ∙ c.if-is_empty.false)) in
-    let view : view_of c.self.inside.most es cs ≡ c.args.self.now = ap (λ (m : List Pair). view_of c.self.inside.most m cs) c.as_slice-entries.ensures.value ∙ ap (view_of c.self.inside.most c.self.inside.entries.items) c.as_slice-children.ensures.value ∙ c.self.view_is in
-    let page : IsPage c.self.inside.most es cs = subst (λ (m : List Pair). IsPage c.self.inside.most m cs) (sym c.as_slice-entries.ensures.value) (subst (IsPage c.self.inside.most c.self.inside.entries.items) (sym c.as_slice-children.ensures.value) c.self.invariant.0) in
+    let view : view_of c.self.inside.most es cs ≡ c.args.self.now = ap (view_of c.self.inside.most c.self.inside.entries.items) c.as_slice-children.ensures.value ∙ c.self.view_is in
+    let page : IsPage c.self.inside.most es cs = subst (IsPage c.self.inside.most c.self.inside.entries.items) (sym c.as_slice-children.ensures.value) c.self.invariant.0 in
     let more : length cs ≡ length es + 1 = cut_length es cs (cut_from c.self.inside.most es cs page.framed some) in
     record {
       written = subst (λ (m : List FileEntry). AreWritten c.args.head.now.length (c.args.self.now.height - 1) c.args.pages c.args.pages c.args.body.now.items m []) (sym c.new.ensures) (none_written c.args.head.now.length (c.args.self.now.height - 1) c.args.pages c.args.body.now.items);
@@ -71,52 +74,52 @@ loop-at-init t c =
 
 pub bounds-children-at : goal.bounds-children-at
 bounds-children-at t c =
-    let es = c.as_slice-entries.result.now in
+    let es = c.self.inside.entries.items in
     let cs = c.as_slice-children.result.now in
     let some : 0 < length cs = omega (arith, c.as_slice-children.ensures.len, eqb-false _ 0 (sym c.is_empty.ensures ∙ c.if-is_empty.false)) in
-    let view : view_of c.self.inside.most es cs ≡ c.args.self.now = ap (λ (m : List Pair). view_of c.self.inside.most m cs) c.as_slice-entries.ensures.value ∙ ap (view_of c.self.inside.most c.self.inside.entries.items) c.as_slice-children.ensures.value ∙ c.self.view_is in
-    let page : IsPage c.self.inside.most es cs = subst (λ (m : List Pair). IsPage c.self.inside.most m cs) (sym c.as_slice-entries.ensures.value) (subst (IsPage c.self.inside.most c.self.inside.entries.items) (sym c.as_slice-children.ensures.value) c.self.invariant.0) in
+    let view : view_of c.self.inside.most es cs ≡ c.args.self.now = ap (view_of c.self.inside.most c.self.inside.entries.items) c.as_slice-children.ensures.value ∙ c.self.view_is in
+    let page : IsPage c.self.inside.most es cs = subst (IsPage c.self.inside.most c.self.inside.entries.items) (sym c.as_slice-children.ensures.value) c.self.invariant.0 in
     let more : length cs ≡ length es + 1 = cut_length es cs (cut_from c.self.inside.most es cs page.framed some) in
     omega (arith, more)
 
 pub write-requires : goal.write-requires
 write-requires t c =
-    let es = c.as_slice-entries.result.now in
+    let es = c.self.inside.entries.items in
     let cs = c.as_slice-children.result.now in
     let some : 0 < length cs = omega (arith, c.as_slice-children.ensures.len, eqb-false _ 0 (sym c.is_empty.ensures ∙ c.if-is_empty.false)) in
-    let view : view_of c.self.inside.most es cs ≡ c.args.self.now = ap (λ (m : List Pair). view_of c.self.inside.most m cs) c.as_slice-entries.ensures.value ∙ ap (view_of c.self.inside.most c.self.inside.entries.items) c.as_slice-children.ensures.value ∙ c.self.view_is in
-    let page : IsPage c.self.inside.most es cs = subst (λ (m : List Pair). IsPage c.self.inside.most m cs) (sym c.as_slice-entries.ensures.value) (subst (IsPage c.self.inside.most c.self.inside.entries.items) (sym c.as_slice-children.ensures.value) c.self.invariant.0) in
+    let view : view_of c.self.inside.most es cs ≡ c.args.self.now = ap (view_of c.self.inside.most c.self.inside.entries.items) c.as_slice-children.ensures.value ∙ c.self.view_is in
+    let page : IsPage c.self.inside.most es cs = subst (IsPage c.self.inside.most c.self.inside.entries.items) (sym c.as_slice-children.ensures.value) c.self.invariant.0 in
     let more : length cs ≡ length es + 1 = cut_length es cs (cut_from c.self.inside.most es cs page.framed some) in
     let q = child_at_place c.args.head.now.length c.self.inside.most c.args.self.now es cs c.loop-at.at c.index-children-at.result view page c.requires.keys (omega (arith, more)) c.index-children-at.is in
     (omega (arith, c.decreases, q.level), (λ _. q.some, (q.most ∙ c.requires.most, (q.keys, (omega (arith, c.loop-at.invariant.few, q.fits, c.requires.room), (omega (arith, c.loop-at.invariant.few, q.fits, q.two, c.requires.room), c.loop-at.invariant.end))))))
 
 pub push-requires : goal.push-requires
 push-requires t c =
-    let es = c.as_slice-entries.result.now in
+    let es = c.self.inside.entries.items in
     let cs = c.as_slice-children.result.now in
     let some : 0 < length cs = omega (arith, c.as_slice-children.ensures.len, eqb-false _ 0 (sym c.is_empty.ensures ∙ c.if-is_empty.false)) in
-    let view : view_of c.self.inside.most es cs ≡ c.args.self.now = ap (λ (m : List Pair). view_of c.self.inside.most m cs) c.as_slice-entries.ensures.value ∙ ap (view_of c.self.inside.most c.self.inside.entries.items) c.as_slice-children.ensures.value ∙ c.self.view_is in
-    let page : IsPage c.self.inside.most es cs = subst (λ (m : List Pair). IsPage c.self.inside.most m cs) (sym c.as_slice-entries.ensures.value) (subst (IsPage c.self.inside.most c.self.inside.entries.items) (sym c.as_slice-children.ensures.value) c.self.invariant.0) in
+    let view : view_of c.self.inside.most es cs ≡ c.args.self.now = ap (view_of c.self.inside.most c.self.inside.entries.items) c.as_slice-children.ensures.value ∙ c.self.view_is in
+    let page : IsPage c.self.inside.most es cs = subst (IsPage c.self.inside.most c.self.inside.entries.items) (sym c.as_slice-children.ensures.value) c.self.invariant.0 in
     let more : length cs ≡ length es + 1 = cut_length es cs (cut_from c.self.inside.most es cs page.framed some) in
     let most = most_entries-bound c.args.head.now.length c.args.head.now.some_key in
     let same : c.self.inside.most ≡ c.args.self.now.most = ap (λ (v : PageView). v.most) c.self.view_is in
-    (lit< tt, omega (arith, c.loop-at.invariant.count, most, c.as_slice-entries.ensures.len, c.self.invariant.1, c.requires.most, same))
+    (lit< tt, omega (arith, c.loop-at.invariant.count, most, c.self.invariant.1, c.requires.most, same))
 
 pub loop-at-preserved : goal.loop-at-preserved
 loop-at-preserved t c =
-    let es = c.as_slice-entries.result.now in
+    let es = c.self.inside.entries.items in
     let cs = c.as_slice-children.result.now in
     let some : 0 < length cs = omega (arith, c.as_slice-children.ensures.len, eqb-false _ 0 (sym c.is_empty.ensures ∙ c.if-is_empty.false)) in
-    let view : view_of c.self.inside.most es cs ≡ c.args.self.now = ap (λ (m : List Pair). view_of c.self.inside.most m cs) c.as_slice-entries.ensures.value ∙ ap (view_of c.self.inside.most c.self.inside.entries.items) c.as_slice-children.ensures.value ∙ c.self.view_is in
-    let page : IsPage c.self.inside.most es cs = subst (λ (m : List Pair). IsPage c.self.inside.most m cs) (sym c.as_slice-entries.ensures.value) (subst (IsPage c.self.inside.most c.self.inside.entries.items) (sym c.as_slice-children.ensures.value) c.self.invariant.0) in
+    let view : view_of c.self.inside.most es cs ≡ c.args.self.now = ap (view_of c.self.inside.most c.self.inside.entries.items) c.as_slice-children.ensures.value ∙ c.self.view_is in
+    let page : IsPage c.self.inside.most es cs = subst (IsPage c.self.inside.most c.self.inside.entries.items) (sym c.as_slice-children.ensures.value) c.self.invariant.0 in
     let more : length cs ≡ length es + 1 = cut_length es cs (cut_from c.self.inside.most es cs page.framed some) in
     let q = child_at_place c.args.head.now.length c.self.inside.most c.args.self.now es cs c.loop-at.at c.index-children-at.result view page c.requires.keys (omega (arith, more)) c.index-children-at.is in
     let inv = c.loop-at.invariant in
     let d = c.index-children-at.result in
-    let s = c.index-entries-at.result in
+    let s = get_or es c.loop-at.at nothing in
     let g = c.in_ok-child.ensures.text in
-    let sep = q.separator s (omega arith) c.index-entries-at.is in
-    let key : s.0 ≡ c.between.result.key.items = sym (c.between.ensures.key ∙ c.key.ensures.value) in
+    let sep = q.separator s (omega arith) (get_or_default es c.loop-at.at nothing s (omega arith)) in
+    let key : s.0 ≡ c.between.result.key.items = sym (c.between.ensures.key ∙ c.key.ensures.value nothing) in
     let fits : length c.between.result.key.items ≡ c.args.head.now.length = ap (λ (m : List ℕ). length m) (sym key) ∙ sep.1.0 in
     let next : take (c.loop-at.at + 1) cs ≡ take c.loop-at.at cs ++ d ∷ [] = take_next cs c.loop-at.at d (omega (arith, more)) c.index-children-at.is in
     record {
@@ -130,94 +133,94 @@ loop-at-preserved t c =
       count = ap (λ (m : List FileEntry). length m) c.push.ensures.items ∙ length-append c.loop-at.page.entries.items (c.between.result ∷ []) ∙ omega (arith, inv.count);
     }
 
-pub bounds-children-entries : goal.bounds-children-entries
-bounds-children-entries t c =
-    let es = c.as_slice-entries.result.now in
+pub bounds-children-len : goal.bounds-children-len
+bounds-children-len t c =
+    let es = c.self.inside.entries.items in
     let cs = c.as_slice-children.result.now in
     let some : 0 < length cs = omega (arith, c.as_slice-children.ensures.len, eqb-false _ 0 (sym c.is_empty.ensures ∙ c.if-is_empty.false)) in
-    let view : view_of c.self.inside.most es cs ≡ c.args.self.now = ap (λ (m : List Pair). view_of c.self.inside.most m cs) c.as_slice-entries.ensures.value ∙ ap (view_of c.self.inside.most c.self.inside.entries.items) c.as_slice-children.ensures.value ∙ c.self.view_is in
-    let page : IsPage c.self.inside.most es cs = subst (λ (m : List Pair). IsPage c.self.inside.most m cs) (sym c.as_slice-entries.ensures.value) (subst (IsPage c.self.inside.most c.self.inside.entries.items) (sym c.as_slice-children.ensures.value) c.self.invariant.0) in
+    let view : view_of c.self.inside.most es cs ≡ c.args.self.now = ap (view_of c.self.inside.most c.self.inside.entries.items) c.as_slice-children.ensures.value ∙ c.self.view_is in
+    let page : IsPage c.self.inside.most es cs = subst (IsPage c.self.inside.most c.self.inside.entries.items) (sym c.as_slice-children.ensures.value) c.self.invariant.0 in
     let more : length cs ≡ length es + 1 = cut_length es cs (cut_from c.self.inside.most es cs page.framed some) in
     omega (arith, more)
 
 pub write-requires-2 : goal.write-requires-2
 write-requires-2 t c =
-    let es = c.as_slice-entries.result.now in
+    let es = c.self.inside.entries.items in
     let cs = c.as_slice-children.result.now in
     let some : 0 < length cs = omega (arith, c.as_slice-children.ensures.len, eqb-false _ 0 (sym c.is_empty.ensures ∙ c.if-is_empty.false)) in
-    let view : view_of c.self.inside.most es cs ≡ c.args.self.now = ap (λ (m : List Pair). view_of c.self.inside.most m cs) c.as_slice-entries.ensures.value ∙ ap (view_of c.self.inside.most c.self.inside.entries.items) c.as_slice-children.ensures.value ∙ c.self.view_is in
-    let page : IsPage c.self.inside.most es cs = subst (λ (m : List Pair). IsPage c.self.inside.most m cs) (sym c.as_slice-entries.ensures.value) (subst (IsPage c.self.inside.most c.self.inside.entries.items) (sym c.as_slice-children.ensures.value) c.self.invariant.0) in
+    let view : view_of c.self.inside.most es cs ≡ c.args.self.now = ap (view_of c.self.inside.most c.self.inside.entries.items) c.as_slice-children.ensures.value ∙ c.self.view_is in
+    let page : IsPage c.self.inside.most es cs = subst (IsPage c.self.inside.most c.self.inside.entries.items) (sym c.as_slice-children.ensures.value) c.self.invariant.0 in
     let more : length cs ≡ length es + 1 = cut_length es cs (cut_from c.self.inside.most es cs page.framed some) in
     let at : c.loop-at.at ≡ length es = omega arith in
     let inv = c.loop-at.invariant in
-    let d = c.index-children-entries.result in
-    let q = child_at_place c.args.head.now.length c.self.inside.most c.args.self.now es cs (length es) d view page c.requires.keys (omega (arith, more)) c.index-children-entries.is in
+    let d = c.index-children-len.result in
+    let q = child_at_place c.args.head.now.length c.self.inside.most c.args.self.now es cs (length es) d view page c.requires.keys (omega (arith, more)) (subst (λ i. c.index-children-len.result ≡ get_or cs i c.index-children-len.result) c.len.ensures c.index-children-len.is) in
     let few : c.loop-at.number + length es ≤ c.args.pages + length (joined (take (length es) cs)) = subst (λ n. c.loop-at.number + n ≤ c.args.pages + length (joined (take n cs))) at inv.few in
     (omega (arith, c.decreases, q.level), (λ _. q.some, (q.most ∙ c.requires.most, (q.keys, (omega (arith, few, q.fits, c.requires.room), (omega (arith, few, q.fits, q.two, c.requires.room), inv.end))))))
 
 pub append_page-requires-2-clause-room : goal.append_page-requires-2-clause-room
 append_page-requires-2-clause-room t c =
-    let es = c.as_slice-entries.result.now in
+    let es = c.self.inside.entries.items in
     let cs = c.as_slice-children.result.now in
     let some : 0 < length cs = omega (arith, c.as_slice-children.ensures.len, eqb-false _ 0 (sym c.is_empty.ensures ∙ c.if-is_empty.false)) in
-    let view : view_of c.self.inside.most es cs ≡ c.args.self.now = ap (λ (m : List Pair). view_of c.self.inside.most m cs) c.as_slice-entries.ensures.value ∙ ap (view_of c.self.inside.most c.self.inside.entries.items) c.as_slice-children.ensures.value ∙ c.self.view_is in
-    let page : IsPage c.self.inside.most es cs = subst (λ (m : List Pair). IsPage c.self.inside.most m cs) (sym c.as_slice-entries.ensures.value) (subst (IsPage c.self.inside.most c.self.inside.entries.items) (sym c.as_slice-children.ensures.value) c.self.invariant.0) in
+    let view : view_of c.self.inside.most es cs ≡ c.args.self.now = ap (view_of c.self.inside.most c.self.inside.entries.items) c.as_slice-children.ensures.value ∙ c.self.view_is in
+    let page : IsPage c.self.inside.most es cs = subst (IsPage c.self.inside.most c.self.inside.entries.items) (sym c.as_slice-children.ensures.value) c.self.invariant.0 in
     let more : length cs ≡ length es + 1 = cut_length es cs (cut_from c.self.inside.most es cs page.framed some) in
     let at : c.loop-at.at ≡ length es = omega arith in
     let inv = c.loop-at.invariant in
-    let d = c.index-children-entries.result in
-    let q = child_at_place c.args.head.now.length c.self.inside.most c.args.self.now es cs (length es) d view page c.requires.keys (omega (arith, more)) c.index-children-entries.is in
+    let d = c.index-children-len.result in
+    let q = child_at_place c.args.head.now.length c.self.inside.most c.args.self.now es cs (length es) d view page c.requires.keys (omega (arith, more)) (subst (λ i. c.index-children-len.result ≡ get_or cs i c.index-children-len.result) c.len.ensures c.index-children-len.is) in
     let few : c.loop-at.number + length es ≤ c.args.pages + length (joined (take (length es) cs)) = subst (λ n. c.loop-at.number + n ≤ c.args.pages + length (joined (take n cs))) at inv.few in
     omega (arith, few, q.fits, c.requires.room, c.in_ok-page.ensures.few q.two)
 
 pub append_page-requires-2-clause-fits : goal.append_page-requires-2-clause-fits
 append_page-requires-2-clause-fits t c =
-    let es = c.as_slice-entries.result.now in
+    let es = c.self.inside.entries.items in
     let cs = c.as_slice-children.result.now in
     let some : 0 < length cs = omega (arith, c.as_slice-children.ensures.len, eqb-false _ 0 (sym c.is_empty.ensures ∙ c.if-is_empty.false)) in
-    let view : view_of c.self.inside.most es cs ≡ c.args.self.now = ap (λ (m : List Pair). view_of c.self.inside.most m cs) c.as_slice-entries.ensures.value ∙ ap (view_of c.self.inside.most c.self.inside.entries.items) c.as_slice-children.ensures.value ∙ c.self.view_is in
-    let page : IsPage c.self.inside.most es cs = subst (λ (m : List Pair). IsPage c.self.inside.most m cs) (sym c.as_slice-entries.ensures.value) (subst (IsPage c.self.inside.most c.self.inside.entries.items) (sym c.as_slice-children.ensures.value) c.self.invariant.0) in
+    let view : view_of c.self.inside.most es cs ≡ c.args.self.now = ap (view_of c.self.inside.most c.self.inside.entries.items) c.as_slice-children.ensures.value ∙ c.self.view_is in
+    let page : IsPage c.self.inside.most es cs = subst (IsPage c.self.inside.most c.self.inside.entries.items) (sym c.as_slice-children.ensures.value) c.self.invariant.0 in
     let more : length cs ≡ length es + 1 = cut_length es cs (cut_from c.self.inside.most es cs page.framed some) in
     let at : c.loop-at.at ≡ length es = omega arith in
     let inv = c.loop-at.invariant in
-    let d = c.index-children-entries.result in
-    let q = child_at_place c.args.head.now.length c.self.inside.most c.args.self.now es cs (length es) d view page c.requires.keys (omega (arith, more)) c.index-children-entries.is in
+    let d = c.index-children-len.result in
+    let q = child_at_place c.args.head.now.length c.self.inside.most c.args.self.now es cs (length es) d view page c.requires.keys (omega (arith, more)) (subst (λ i. c.index-children-len.result ≡ get_or cs i c.index-children-len.result) c.len.ensures c.index-children-len.is) in
     let few : c.loop-at.number + length es ≤ c.args.pages + length (joined (take (length es) cs)) = subst (λ n. c.loop-at.number + n ≤ c.args.pages + length (joined (take n cs))) at inv.few in
     let same : c.self.inside.most ≡ c.args.self.now.most = ap (λ (v : PageView). v.most) c.self.view_is in
-    inner_fits c.args.head.now.length _ inv.written.entries (omega (arith, inv.count, at, c.as_slice-entries.ensures.len, c.self.invariant.1, c.requires.most, same)) (omega (arith, c.in_ok-page.ensures.later))
+    inner_fits c.args.head.now.length _ inv.written.entries (omega (arith, inv.count, at, c.self.invariant.1, c.requires.most, same)) (omega (arith, c.in_ok-page.ensures.later))
 
 pub returns-clause-written : goal.returns-clause-written
 returns-clause-written t c =
-    let es = c.as_slice-entries.result.now in
+    let es = c.self.inside.entries.items in
     let cs = c.as_slice-children.result.now in
     let some : 0 < length cs = omega (arith, c.as_slice-children.ensures.len, eqb-false _ 0 (sym c.is_empty.ensures ∙ c.if-is_empty.false)) in
-    let view : view_of c.self.inside.most es cs ≡ c.args.self.now = ap (λ (m : List Pair). view_of c.self.inside.most m cs) c.as_slice-entries.ensures.value ∙ ap (view_of c.self.inside.most c.self.inside.entries.items) c.as_slice-children.ensures.value ∙ c.self.view_is in
-    let page : IsPage c.self.inside.most es cs = subst (λ (m : List Pair). IsPage c.self.inside.most m cs) (sym c.as_slice-entries.ensures.value) (subst (IsPage c.self.inside.most c.self.inside.entries.items) (sym c.as_slice-children.ensures.value) c.self.invariant.0) in
+    let view : view_of c.self.inside.most es cs ≡ c.args.self.now = ap (view_of c.self.inside.most c.self.inside.entries.items) c.as_slice-children.ensures.value ∙ c.self.view_is in
+    let page : IsPage c.self.inside.most es cs = subst (IsPage c.self.inside.most c.self.inside.entries.items) (sym c.as_slice-children.ensures.value) c.self.invariant.0 in
     let more : length cs ≡ length es + 1 = cut_length es cs (cut_from c.self.inside.most es cs page.framed some) in
     let at : c.loop-at.at ≡ length es = omega arith in
     let inv = c.loop-at.invariant in
-    let d = c.index-children-entries.result in
-    let q = child_at_place c.args.head.now.length c.self.inside.most c.args.self.now es cs (length es) d view page c.requires.keys (omega (arith, more)) c.index-children-entries.is in
+    let d = c.index-children-len.result in
+    let q = child_at_place c.args.head.now.length c.self.inside.most c.args.self.now es cs (length es) d view page c.requires.keys (omega (arith, more)) (subst (λ i. c.index-children-len.result ≡ get_or cs i c.index-children-len.result) c.len.ensures c.index-children-len.is) in
     let few : c.loop-at.number + length es ≤ c.args.pages + length (joined (take (length es) cs)) = subst (λ n. c.loop-at.number + n ≤ c.args.pages + length (joined (take n cs))) at inv.few in
     let g = c.in_ok-page.ensures.text in
     let n = c.in_ok-page.field-0 in
     let written = subst (λ i. AreWritten c.args.head.now.length (c.args.self.now.height - 1) c.args.pages c.loop-at.number c.loop-at.body.items c.loop-at.page.entries.items (take i cs)) at inv.written in
-    let pairs : c.args.self.now.pairs ≡ joined (take (length es) cs ++ d ∷ []) = sym (ap (λ (v : PageView). v.pairs) view) ∙ pairs_from es cs some ∙ ap joined (sym (take_all (length es + 1) cs (omega (arith, more))) ∙ take_next cs (length es) d (omega (arith, more)) c.index-children-entries.is) in
+    let pairs : c.args.self.now.pairs ≡ joined (take (length es) cs ++ d ∷ []) = sym (ap (λ (v : PageView). v.pairs) view) ∙ pairs_from es cs some ∙ ap joined (sym (take_all (length es + 1) cs (omega (arith, more))) ∙ take_next cs (length es) d (omega (arith, more)) (subst (λ i. c.index-children-len.result ≡ get_or cs i c.index-children-len.result) c.len.ensures c.index-children-len.is)) in
     subst (λ m. IsWritten c.args.head.now.length c.args.pages m c.append_page-2.new.body.items c.args.self.now) (sym c.in_ok-own-2.ensures.number)
     (inner_written c.args.head.now.length (c.args.self.now.height - 1) c.args.pages c.loop-at.number n c.loop-at.body.items (pages_text c.args.head.now.length (g.pages ++ g.page ∷ [])) c.write-2.new.body.items c.append_page-2.new.body.items (take (length es) cs) d c.args.self.now _ written c.in_ok-page.ensures.written g.items (omega (arith, q.level)) inv.later c.in_ok-page.ensures.later c.in_ok-own-2.ensures.text refl (omega (arith, c.in_ok-page.ensures.end)) (omega (arith, q.level)) pairs)
 
 pub returns-clause-text : goal.returns-clause-text
 returns-clause-text t c =
-    let es = c.as_slice-entries.result.now in
+    let es = c.self.inside.entries.items in
     let cs = c.as_slice-children.result.now in
     let some : 0 < length cs = omega (arith, c.as_slice-children.ensures.len, eqb-false _ 0 (sym c.is_empty.ensures ∙ c.if-is_empty.false)) in
-    let view : view_of c.self.inside.most es cs ≡ c.args.self.now = ap (λ (m : List Pair). view_of c.self.inside.most m cs) c.as_slice-entries.ensures.value ∙ ap (view_of c.self.inside.most c.self.inside.entries.items) c.as_slice-children.ensures.value ∙ c.self.view_is in
-    let page : IsPage c.self.inside.most es cs = subst (λ (m : List Pair). IsPage c.self.inside.most m cs) (sym c.as_slice-entries.ensures.value) (subst (IsPage c.self.inside.most c.self.inside.entries.items) (sym c.as_slice-children.ensures.value) c.self.invariant.0) in
+    let view : view_of c.self.inside.most es cs ≡ c.args.self.now = ap (view_of c.self.inside.most c.self.inside.entries.items) c.as_slice-children.ensures.value ∙ c.self.view_is in
+    let page : IsPage c.self.inside.most es cs = subst (IsPage c.self.inside.most c.self.inside.entries.items) (sym c.as_slice-children.ensures.value) c.self.invariant.0 in
     let more : length cs ≡ length es + 1 = cut_length es cs (cut_from c.self.inside.most es cs page.framed some) in
     let at : c.loop-at.at ≡ length es = omega arith in
     let inv = c.loop-at.invariant in
-    let d = c.index-children-entries.result in
-    let q = child_at_place c.args.head.now.length c.self.inside.most c.args.self.now es cs (length es) d view page c.requires.keys (omega (arith, more)) c.index-children-entries.is in
+    let d = c.index-children-len.result in
+    let q = child_at_place c.args.head.now.length c.self.inside.most c.args.self.now es cs (length es) d view page c.requires.keys (omega (arith, more)) (subst (λ i. c.index-children-len.result ≡ get_or cs i c.index-children-len.result) c.len.ensures c.index-children-len.is) in
     let few : c.loop-at.number + length es ≤ c.args.pages + length (joined (take (length es) cs)) = subst (λ n. c.loop-at.number + n ≤ c.args.pages + length (joined (take n cs))) at inv.few in
     let g = c.in_ok-page.ensures.text in
     let k = c.args.head.now.length in
@@ -225,20 +228,20 @@ returns-clause-text t c =
     let all = more_pages k c.args.pages c.loop-at.number c.in_ok-page.field-0 d.count c.args.body.now.items c.loop-at.body.items c.write-2.new.body.items inv.text g (subst (λ m. m / 2 ≤ d.count) c.requires.most q.half) in
     let count : c.args.self.now.count ≡ length es = sym (ap (λ (v : PageView). v.count) view) in
     subst (λ n. IsPageText k c.args.pages n c.args.body.now.items c.append_page-2.new.body.items c.args.self.now.count) (sym c.in_ok-own-2.ensures.number)
-    (page_behind_pages k c.args.pages c.in_ok-page.field-0 c.args.self.now.count c.args.body.now.items c.write-2.new.body.items c.append_page-2.new.body.items _ all c.in_ok-own-2.ensures.text (inner_own k _ inv.written.entries (inner_fits k _ inv.written.entries (omega (arith, inv.count, at, c.as_slice-entries.ensures.len, c.self.invariant.1, c.requires.most, same)) (omega (arith, c.in_ok-page.ensures.later)))) (omega (arith, inv.count, at, count)))
+    (page_behind_pages k c.args.pages c.in_ok-page.field-0 c.args.self.now.count c.args.body.now.items c.write-2.new.body.items c.append_page-2.new.body.items _ all c.in_ok-own-2.ensures.text (inner_own k _ inv.written.entries (inner_fits k _ inv.written.entries (omega (arith, inv.count, at, c.self.invariant.1, c.requires.most, same)) (omega (arith, c.in_ok-page.ensures.later)))) (omega (arith, inv.count, at, count)))
 
 pub returns-clause-few : goal.returns-clause-few
 returns-clause-few t c =
-    let es = c.as_slice-entries.result.now in
+    let es = c.self.inside.entries.items in
     let cs = c.as_slice-children.result.now in
     let some : 0 < length cs = omega (arith, c.as_slice-children.ensures.len, eqb-false _ 0 (sym c.is_empty.ensures ∙ c.if-is_empty.false)) in
-    let view : view_of c.self.inside.most es cs ≡ c.args.self.now = ap (λ (m : List Pair). view_of c.self.inside.most m cs) c.as_slice-entries.ensures.value ∙ ap (view_of c.self.inside.most c.self.inside.entries.items) c.as_slice-children.ensures.value ∙ c.self.view_is in
-    let page : IsPage c.self.inside.most es cs = subst (λ (m : List Pair). IsPage c.self.inside.most m cs) (sym c.as_slice-entries.ensures.value) (subst (IsPage c.self.inside.most c.self.inside.entries.items) (sym c.as_slice-children.ensures.value) c.self.invariant.0) in
+    let view : view_of c.self.inside.most es cs ≡ c.args.self.now = ap (view_of c.self.inside.most c.self.inside.entries.items) c.as_slice-children.ensures.value ∙ c.self.view_is in
+    let page : IsPage c.self.inside.most es cs = subst (IsPage c.self.inside.most c.self.inside.entries.items) (sym c.as_slice-children.ensures.value) c.self.invariant.0 in
     let more : length cs ≡ length es + 1 = cut_length es cs (cut_from c.self.inside.most es cs page.framed some) in
     let at : c.loop-at.at ≡ length es = omega arith in
     let inv = c.loop-at.invariant in
-    let d = c.index-children-entries.result in
-    let q = child_at_place c.args.head.now.length c.self.inside.most c.args.self.now es cs (length es) d view page c.requires.keys (omega (arith, more)) c.index-children-entries.is in
+    let d = c.index-children-len.result in
+    let q = child_at_place c.args.head.now.length c.self.inside.most c.args.self.now es cs (length es) d view page c.requires.keys (omega (arith, more)) (subst (λ i. c.index-children-len.result ≡ get_or cs i c.index-children-len.result) c.len.ensures c.index-children-len.is) in
     let few : c.loop-at.number + length es ≤ c.args.pages + length (joined (take (length es) cs)) = subst (λ n. c.loop-at.number + n ≤ c.args.pages + length (joined (take n cs))) at inv.few in
     let count : c.args.self.now.count ≡ length es = sym (ap (λ (v : PageView). v.count) view) in
     let two : 0 < length es = subst (λ n. 0 < n) count (c.requires.inner (omega (arith, q.level, q.deep))) in
@@ -246,15 +249,15 @@ returns-clause-few t c =
 
 pub returns-clause-fits : goal.returns-clause-fits
 returns-clause-fits t c =
-    let es = c.as_slice-entries.result.now in
+    let es = c.self.inside.entries.items in
     let cs = c.as_slice-children.result.now in
     let some : 0 < length cs = omega (arith, c.as_slice-children.ensures.len, eqb-false _ 0 (sym c.is_empty.ensures ∙ c.if-is_empty.false)) in
-    let view : view_of c.self.inside.most es cs ≡ c.args.self.now = ap (λ (m : List Pair). view_of c.self.inside.most m cs) c.as_slice-entries.ensures.value ∙ ap (view_of c.self.inside.most c.self.inside.entries.items) c.as_slice-children.ensures.value ∙ c.self.view_is in
-    let page : IsPage c.self.inside.most es cs = subst (λ (m : List Pair). IsPage c.self.inside.most m cs) (sym c.as_slice-entries.ensures.value) (subst (IsPage c.self.inside.most c.self.inside.entries.items) (sym c.as_slice-children.ensures.value) c.self.invariant.0) in
+    let view : view_of c.self.inside.most es cs ≡ c.args.self.now = ap (view_of c.self.inside.most c.self.inside.entries.items) c.as_slice-children.ensures.value ∙ c.self.view_is in
+    let page : IsPage c.self.inside.most es cs = subst (IsPage c.self.inside.most c.self.inside.entries.items) (sym c.as_slice-children.ensures.value) c.self.invariant.0 in
     let more : length cs ≡ length es + 1 = cut_length es cs (cut_from c.self.inside.most es cs page.framed some) in
     let at : c.loop-at.at ≡ length es = omega arith in
     let inv = c.loop-at.invariant in
-    let d = c.index-children-entries.result in
-    let q = child_at_place c.args.head.now.length c.self.inside.most c.args.self.now es cs (length es) d view page c.requires.keys (omega (arith, more)) c.index-children-entries.is in
+    let d = c.index-children-len.result in
+    let q = child_at_place c.args.head.now.length c.self.inside.most c.args.self.now es cs (length es) d view page c.requires.keys (omega (arith, more)) (subst (λ i. c.index-children-len.result ≡ get_or cs i c.index-children-len.result) c.len.ensures c.index-children-len.is) in
     let few : c.loop-at.number + length es ≤ c.args.pages + length (joined (take (length es) cs)) = subst (λ n. c.loop-at.number + n ≤ c.args.pages + length (joined (take n cs))) at inv.few in
     omega (arith, few, q.fits, c.in_ok-page.ensures.few q.two, c.in_ok-own-2.ensures.number)

@@ -4,7 +4,7 @@ use Rattle.ndx_tree.specs.Pairs.{Pair}
 use Rattle.ndx_tree.proofs.tree.NdxTree.empty.Goals as goal
 
 pub leaf-requires : goal.leaf-requires
-leaf-requires c = omega (arith, c.most_entries-most.ensures, most_high c.args.key_length)
+leaf-requires c = (omega (arith, c.most_entries-most.ensures, most_low c.args.key_length c.requires.key_length.1), omega (arith, c.most_entries-most.ensures, most_high c.args.key_length))
 
 pub leaf-requires-2-clause-four : goal.leaf-requires-2-clause-four
 leaf-requires-2-clause-four c = omega (arith, c.most_entries-most.ensures, most_low c.args.key_length c.requires.key_length.1)

@@ -1,72 +1,124 @@
-use Rattle.std.proofs.Common.{◌≡◌, ◌<◌, List, length, ap, sym, ◌∙◌, subst, refl, arith}
+use Rattle.std.proofs.Common.{◌≡◌, ◌-◌, ◌<◌, None, List, ◌∷◌, length, ap, sym, ◌∙◌, subst, refl, arith}
 use Rattle.std.specs.List.{Contains}
-use Rattle.ndx_tree.specs.Trees.{TreeView}
+use Rattle.ndx_tree.specs.Trees.{TreeView, IsTree}
 use Rattle.ndx_tree.specs.Pairs.{Pair}
-use Rattle.ndx_tree.specs.KeyForm.{IsPairOf}
-use Rattle.std.proofs.Common.{◌-◌}
-use Rattle.ndx_tree.specs.Blanks.{IsPool}
-use Rattle.ndx_tree.specs.Rising.{IsAbsent}
+use Rattle.ndx_tree.specs.KeyForm.{KeyForm, IsPairOf}
+use Rattle.ndx_tree.specs.Pages.{PageView, Inserts, InsertsInRoom}
+use Rattle.ndx_tree.specs.Rising.{IsAbsent, with_pair}
 use Rattle.ndx_tree.proofs.Ordered.{Each-absent}
-use Rattle.ndx_tree.proofs.TreeLemmas.{tree_kept, tree_grown, split_rising}
+use Rattle.ndx_tree.proofs.Keyed.{tree_keyed}
+use Rattle.ndx_tree.proofs.TreeLemmas.{tree_kept}
 use Rattle.ndx_tree.proofs.Rises.{length-with_pair}
 use Rattle.ndx_tree.proofs.tree.NdxTreeKeyList.insert.Goals as goal
 
-pub insert-requires-clause-absent : goal.insert-requires-clause-absent
-insert-requires-clause-absent c =
+pub insert_in_room-requires-clause-absent : goal.insert_in_room-requires-clause-absent
+insert_in_room-requires-clause-absent c =
     let x : Pair = (c.args.key.now, c.args.number) in
     let e : c.new-entry.result ≡ x = c.new-entry.ensures in
-    let absent : IsAbsent c.new-entry.result c.self.inside.root.pairs = subst (λ (v : Pair). IsAbsent v c.self.inside.root.pairs) (sym e) (Each-absent c.self.inside.root.pairs x (λ there. c.requires.absent (subst (λ (v : TreeView). Contains v.pairs x) c.self.view_is there))) in
+    let root = c.self.inside.root in
+    let form : KeyForm = record { key_length = c.self.inside.key_length; key_text = c.self.inside.key_text.items } in
+    let tree : IsTree form root c.self.inside.pool c.self.inside.reserved = c.self.invariant.0 in
+    let absent : IsAbsent c.new-entry.result root.pairs = subst (λ (v : Pair). IsAbsent v root.pairs) (sym e) (Each-absent root.pairs x (λ there. c.requires.absent (subst (λ (v : TreeView). Contains v.pairs x) c.self.view_is there))) in
+    let fits : IsPairOf c.self.inside.key_length c.new-entry.result = subst (λ (v : Pair). IsPairOf c.self.inside.key_length v) (sym e) (c.requires.key_length ∙ ap (λ (v : TreeView). v.form.key_length) (sym c.self.view_is), c.requires.number) in
+    let some : 0 < c.self.inside.reserved = subst (λ (v : TreeView). 0 < v.spare) (sym c.self.view_is) c.requires.reserved in
     absent
 
-pub raise-requires-clause-rising : goal.raise-requires-clause-rising
-raise-requires-clause-rising c =
+pub insert_in_room-requires-clause-keyed : goal.insert_in_room-requires-clause-keyed
+insert_in_room-requires-clause-keyed c =
     let x : Pair = (c.args.key.now, c.args.number) in
     let e : c.new-entry.result ≡ x = c.new-entry.ensures in
-    let absent : IsAbsent c.new-entry.result c.self.inside.root.pairs = subst (λ (v : Pair). IsAbsent v c.self.inside.root.pairs) (sym e) (Each-absent c.self.inside.root.pairs x (λ there. c.requires.absent (subst (λ (v : TreeView). Contains v.pairs x) c.self.view_is there))) in
-    split_rising c.self.inside.root c.insert.new.self c.in-Some.right c.in-Some.separator c.new-entry.result c.self.invariant.0.top absent c.in-Some.ensures.inserts
+    let root = c.self.inside.root in
+    let form : KeyForm = record { key_length = c.self.inside.key_length; key_text = c.self.inside.key_text.items } in
+    let tree : IsTree form root c.self.inside.pool c.self.inside.reserved = c.self.invariant.0 in
+    let absent : IsAbsent c.new-entry.result root.pairs = subst (λ (v : Pair). IsAbsent v root.pairs) (sym e) (Each-absent root.pairs x (λ there. c.requires.absent (subst (λ (v : TreeView). Contains v.pairs x) c.self.view_is there))) in
+    let fits : IsPairOf c.self.inside.key_length c.new-entry.result = subst (λ (v : Pair). IsPairOf c.self.inside.key_length v) (sym e) (c.requires.key_length ∙ ap (λ (v : TreeView). v.form.key_length) (sym c.self.view_is), c.requires.number) in
+    let some : 0 < c.self.inside.reserved = subst (λ (v : TreeView). 0 < v.spare) (sym c.self.view_is) c.requires.reserved in
+    tree_keyed c.self.inside.key_length root.most (c.new-entry.result ∷ root.pairs) tree.most (fits, tree.list.keys)
 
 pub invariant_of-self : goal.invariant_of-self
 invariant_of-self c =
     let x : Pair = (c.args.key.now, c.args.number) in
     let e : c.new-entry.result ≡ x = c.new-entry.ensures in
-    let absent : IsAbsent c.new-entry.result c.self.inside.root.pairs = subst (λ (v : Pair). IsAbsent v c.self.inside.root.pairs) (sym e) (Each-absent c.self.inside.root.pairs x (λ there. c.requires.absent (subst (λ (v : TreeView). Contains v.pairs x) c.self.view_is there))) in
+    let root = c.self.inside.root in
+    let form : KeyForm = record { key_length = c.self.inside.key_length; key_text = c.self.inside.key_text.items } in
+    let tree : IsTree form root c.self.inside.pool c.self.inside.reserved = c.self.invariant.0 in
+    let absent : IsAbsent c.new-entry.result root.pairs = subst (λ (v : Pair). IsAbsent v root.pairs) (sym e) (Each-absent root.pairs x (λ there. c.requires.absent (subst (λ (v : TreeView). Contains v.pairs x) c.self.view_is there))) in
     let fits : IsPairOf c.self.inside.key_length c.new-entry.result = subst (λ (v : Pair). IsPairOf c.self.inside.key_length v) (sym e) (c.requires.key_length ∙ ap (λ (v : TreeView). v.form.key_length) (sym c.self.view_is), c.requires.number) in
     let some : 0 < c.self.inside.reserved = subst (λ (v : TreeView). 0 < v.spare) (sym c.self.view_is) c.requires.reserved in
-    let i = c.in-Some.ensures.inserts in
-    let whole = c.raise.ensures.pairs ∙ i.0 in
-    let t = tree_grown _ c.self.inside.root c.insert.new.self c.in-Some.right c.raise.new.self c.self.inside.pool c.take_inner-blank.new.pool _ (c.self.inside.reserved - 1) c.in-Some.separator c.new-entry.result c.self.invariant.0 some refl fits absent i c.raise.ensures.pairs c.raise.ensures.height c.raise.ensures.most c.raise.ensures.count (subst (λ m. IsPool m c.take_inner-blank.new.pool) c.most.ensures c.take_inner-blank.ensures.pool) in
-    (t, omega (arith, c.self.invariant.1, ap (λ (m : List Pair). length m) whole, length-with_pair c.new-entry.result c.self.inside.root.pairs))
+    let put : Inserts root c.new-entry.result c.insert_in_room.new.self None = (subst (λ b. InsertsInRoom root c.new-entry.result c.insert_in_room.new.self b) c.if-insert_in_room.true c.insert_in_room.ensures).1 in
+    let t = tree_kept form root c.insert_in_room.new.self c.self.inside.pool c.self.inside.pool c.self.inside.reserved (c.self.inside.reserved - 1) c.new-entry.result tree some refl fits absent put tree.stock in
+    (t, omega (arith, c.self.invariant.1, ap (λ (m : List Pair). length m) put.0, length-with_pair c.new-entry.result root.pairs))
 
-pub invariant_of-self-in_default : goal.invariant_of-self-in_default
-invariant_of-self-in_default c =
+pub returns-then-insert_in_room-clause-sound : goal.returns-then-insert_in_room-clause-sound
+returns-then-insert_in_room-clause-sound c =
     let x : Pair = (c.args.key.now, c.args.number) in
     let e : c.new-entry.result ≡ x = c.new-entry.ensures in
-    let absent : IsAbsent c.new-entry.result c.self.inside.root.pairs = subst (λ (v : Pair). IsAbsent v c.self.inside.root.pairs) (sym e) (Each-absent c.self.inside.root.pairs x (λ there. c.requires.absent (subst (λ (v : TreeView). Contains v.pairs x) c.self.view_is there))) in
+    let root = c.self.inside.root in
+    let form : KeyForm = record { key_length = c.self.inside.key_length; key_text = c.self.inside.key_text.items } in
+    let tree : IsTree form root c.self.inside.pool c.self.inside.reserved = c.self.invariant.0 in
+    let absent : IsAbsent c.new-entry.result root.pairs = subst (λ (v : Pair). IsAbsent v root.pairs) (sym e) (Each-absent root.pairs x (λ there. c.requires.absent (subst (λ (v : TreeView). Contains v.pairs x) c.self.view_is there))) in
     let fits : IsPairOf c.self.inside.key_length c.new-entry.result = subst (λ (v : Pair). IsPairOf c.self.inside.key_length v) (sym e) (c.requires.key_length ∙ ap (λ (v : TreeView). v.form.key_length) (sym c.self.view_is), c.requires.number) in
     let some : 0 < c.self.inside.reserved = subst (λ (v : TreeView). 0 < v.spare) (sym c.self.view_is) c.requires.reserved in
-    let i = c.in_default.ensures.inserts in
-    let t = tree_kept _ c.self.inside.root c.insert.new.self c.self.inside.pool c.insert.new.pool _ (c.self.inside.reserved - 1) c.new-entry.result c.self.invariant.0 some refl fits absent i c.insert.ensures.pool in
-    (t, omega (arith, c.self.invariant.1, ap (λ (m : List Pair). length m) i.0, length-with_pair c.new-entry.result c.self.inside.root.pairs))
-
-pub returns-in-Some-clause-sound : goal.returns-in-Some-clause-sound
-returns-in-Some-clause-sound c =
-    let x : Pair = (c.args.key.now, c.args.number) in
-    let e : c.new-entry.result ≡ x = c.new-entry.ensures in
-    let absent : IsAbsent c.new-entry.result c.self.inside.root.pairs = subst (λ (v : Pair). IsAbsent v c.self.inside.root.pairs) (sym e) (Each-absent c.self.inside.root.pairs x (λ there. c.requires.absent (subst (λ (v : TreeView). Contains v.pairs x) c.self.view_is there))) in
-    let fits : IsPairOf c.self.inside.key_length c.new-entry.result = subst (λ (v : Pair). IsPairOf c.self.inside.key_length v) (sym e) (c.requires.key_length ∙ ap (λ (v : TreeView). v.form.key_length) (sym c.self.view_is), c.requires.number) in
-    let some : 0 < c.self.inside.reserved = subst (λ (v : TreeView). 0 < v.spare) (sym c.self.view_is) c.requires.reserved in
-    let i = c.in-Some.ensures.inserts in
-    let whole = c.raise.ensures.pairs ∙ i.0 in
-    let t = tree_grown _ c.self.inside.root c.insert.new.self c.in-Some.right c.raise.new.self c.self.inside.pool c.take_inner-blank.new.pool _ (c.self.inside.reserved - 1) c.in-Some.separator c.new-entry.result c.self.invariant.0 some refl fits absent i c.raise.ensures.pairs c.raise.ensures.height c.raise.ensures.most c.raise.ensures.count (subst (λ m. IsPool m c.take_inner-blank.new.pool) c.most.ensures c.take_inner-blank.ensures.pool) in
+    let put : Inserts root c.new-entry.result c.insert_in_room.new.self None = (subst (λ b. InsertsInRoom root c.new-entry.result c.insert_in_room.new.self b) c.if-insert_in_room.true c.insert_in_room.ensures).1 in
+    let t = tree_kept form root c.insert_in_room.new.self c.self.inside.pool c.self.inside.pool c.self.inside.reserved (c.self.inside.reserved - 1) c.new-entry.result tree some refl fits absent put tree.stock in
     t.list
 
-pub returns-in_default-clause-sound : goal.returns-in_default-clause-sound
-returns-in_default-clause-sound c =
+pub grow-requires-clause-absent : goal.grow-requires-clause-absent
+grow-requires-clause-absent c =
     let x : Pair = (c.args.key.now, c.args.number) in
     let e : c.new-entry.result ≡ x = c.new-entry.ensures in
-    let absent : IsAbsent c.new-entry.result c.self.inside.root.pairs = subst (λ (v : Pair). IsAbsent v c.self.inside.root.pairs) (sym e) (Each-absent c.self.inside.root.pairs x (λ there. c.requires.absent (subst (λ (v : TreeView). Contains v.pairs x) c.self.view_is there))) in
+    let root = c.self.inside.root in
+    let form : KeyForm = record { key_length = c.self.inside.key_length; key_text = c.self.inside.key_text.items } in
+    let tree : IsTree form root c.self.inside.pool c.self.inside.reserved = c.self.invariant.0 in
+    let absent : IsAbsent c.new-entry.result root.pairs = subst (λ (v : Pair). IsAbsent v root.pairs) (sym e) (Each-absent root.pairs x (λ there. c.requires.absent (subst (λ (v : TreeView). Contains v.pairs x) c.self.view_is there))) in
     let fits : IsPairOf c.self.inside.key_length c.new-entry.result = subst (λ (v : Pair). IsPairOf c.self.inside.key_length v) (sym e) (c.requires.key_length ∙ ap (λ (v : TreeView). v.form.key_length) (sym c.self.view_is), c.requires.number) in
     let some : 0 < c.self.inside.reserved = subst (λ (v : TreeView). 0 < v.spare) (sym c.self.view_is) c.requires.reserved in
-    let i = c.in_default.ensures.inserts in
-    let t = tree_kept _ c.self.inside.root c.insert.new.self c.self.inside.pool c.insert.new.pool _ (c.self.inside.reserved - 1) c.new-entry.result c.self.invariant.0 some refl fits absent i c.insert.ensures.pool in
+    let same : c.insert_in_room.new.self ≡ root = subst (λ b. InsertsInRoom root c.new-entry.result c.insert_in_room.new.self b) c.if-insert_in_room.false c.insert_in_room.ensures in
+    let still : IsTree form c.insert_in_room.new.self c.self.inside.pool c.self.inside.reserved = subst (λ (v : PageView). IsTree form v c.self.inside.pool c.self.inside.reserved) (sym same) tree in
+    subst (λ (v : PageView). IsAbsent c.new-entry.result v.pairs) (sym same) absent
+
+pub grow-requires-clause-tree : goal.grow-requires-clause-tree
+grow-requires-clause-tree c =
+    let x : Pair = (c.args.key.now, c.args.number) in
+    let e : c.new-entry.result ≡ x = c.new-entry.ensures in
+    let root = c.self.inside.root in
+    let form : KeyForm = record { key_length = c.self.inside.key_length; key_text = c.self.inside.key_text.items } in
+    let tree : IsTree form root c.self.inside.pool c.self.inside.reserved = c.self.invariant.0 in
+    let absent : IsAbsent c.new-entry.result root.pairs = subst (λ (v : Pair). IsAbsent v root.pairs) (sym e) (Each-absent root.pairs x (λ there. c.requires.absent (subst (λ (v : TreeView). Contains v.pairs x) c.self.view_is there))) in
+    let fits : IsPairOf c.self.inside.key_length c.new-entry.result = subst (λ (v : Pair). IsPairOf c.self.inside.key_length v) (sym e) (c.requires.key_length ∙ ap (λ (v : TreeView). v.form.key_length) (sym c.self.view_is), c.requires.number) in
+    let some : 0 < c.self.inside.reserved = subst (λ (v : TreeView). 0 < v.spare) (sym c.self.view_is) c.requires.reserved in
+    let same : c.insert_in_room.new.self ≡ root = subst (λ b. InsertsInRoom root c.new-entry.result c.insert_in_room.new.self b) c.if-insert_in_room.false c.insert_in_room.ensures in
+    let still : IsTree form c.insert_in_room.new.self c.self.inside.pool c.self.inside.reserved = subst (λ (v : PageView). IsTree form v c.self.inside.pool c.self.inside.reserved) (sym same) tree in
+    (form, c.self.inside.reserved, still, some, fits)
+
+pub invariant_of-self-2 : goal.invariant_of-self-2
+invariant_of-self-2 c =
+    let x : Pair = (c.args.key.now, c.args.number) in
+    let e : c.new-entry.result ≡ x = c.new-entry.ensures in
+    let root = c.self.inside.root in
+    let form : KeyForm = record { key_length = c.self.inside.key_length; key_text = c.self.inside.key_text.items } in
+    let tree : IsTree form root c.self.inside.pool c.self.inside.reserved = c.self.invariant.0 in
+    let absent : IsAbsent c.new-entry.result root.pairs = subst (λ (v : Pair). IsAbsent v root.pairs) (sym e) (Each-absent root.pairs x (λ there. c.requires.absent (subst (λ (v : TreeView). Contains v.pairs x) c.self.view_is there))) in
+    let fits : IsPairOf c.self.inside.key_length c.new-entry.result = subst (λ (v : Pair). IsPairOf c.self.inside.key_length v) (sym e) (c.requires.key_length ∙ ap (λ (v : TreeView). v.form.key_length) (sym c.self.view_is), c.requires.number) in
+    let some : 0 < c.self.inside.reserved = subst (λ (v : TreeView). 0 < v.spare) (sym c.self.view_is) c.requires.reserved in
+    let same : c.insert_in_room.new.self ≡ root = subst (λ b. InsertsInRoom root c.new-entry.result c.insert_in_room.new.self b) c.if-insert_in_room.false c.insert_in_room.ensures in
+    let still : IsTree form c.insert_in_room.new.self c.self.inside.pool c.self.inside.reserved = subst (λ (v : PageView). IsTree form v c.self.inside.pool c.self.inside.reserved) (sym same) tree in
+    let t = c.grow.ensures.tree form c.self.inside.reserved still some fits in
+    let pairs : c.grow.new.root.pairs ≡ with_pair c.new-entry.result root.pairs = c.grow.ensures.pairs ∙ ap (λ (v : PageView). with_pair c.new-entry.result v.pairs) same in
+    (t, omega (arith, c.self.invariant.1, ap (λ (m : List Pair). length m) pairs, length-with_pair c.new-entry.result root.pairs))
+
+pub returns-clause-sound : goal.returns-clause-sound
+returns-clause-sound c =
+    let x : Pair = (c.args.key.now, c.args.number) in
+    let e : c.new-entry.result ≡ x = c.new-entry.ensures in
+    let root = c.self.inside.root in
+    let form : KeyForm = record { key_length = c.self.inside.key_length; key_text = c.self.inside.key_text.items } in
+    let tree : IsTree form root c.self.inside.pool c.self.inside.reserved = c.self.invariant.0 in
+    let absent : IsAbsent c.new-entry.result root.pairs = subst (λ (v : Pair). IsAbsent v root.pairs) (sym e) (Each-absent root.pairs x (λ there. c.requires.absent (subst (λ (v : TreeView). Contains v.pairs x) c.self.view_is there))) in
+    let fits : IsPairOf c.self.inside.key_length c.new-entry.result = subst (λ (v : Pair). IsPairOf c.self.inside.key_length v) (sym e) (c.requires.key_length ∙ ap (λ (v : TreeView). v.form.key_length) (sym c.self.view_is), c.requires.number) in
+    let some : 0 < c.self.inside.reserved = subst (λ (v : TreeView). 0 < v.spare) (sym c.self.view_is) c.requires.reserved in
+    let same : c.insert_in_room.new.self ≡ root = subst (λ b. InsertsInRoom root c.new-entry.result c.insert_in_room.new.self b) c.if-insert_in_room.false c.insert_in_room.ensures in
+    let still : IsTree form c.insert_in_room.new.self c.self.inside.pool c.self.inside.reserved = subst (λ (v : PageView). IsTree form v c.self.inside.pool c.self.inside.reserved) (sym same) tree in
+    let t = c.grow.ensures.tree form c.self.inside.reserved still some fits in
+    let pairs : c.grow.new.root.pairs ≡ with_pair c.new-entry.result root.pairs = c.grow.ensures.pairs ∙ ap (λ (v : PageView). with_pair c.new-entry.result v.pairs) same in
     t.list

@@ -7,6 +7,7 @@ use Rattle.std.proofs.lemmas.Bool.{cases_lt, false≢true}
 use Rattle.ndx_tree.specs.Order.{without}
 use Rattle.ndx_tree.specs.Pages.{Removes}
 use Rattle.ndx_tree.proofs.TreeLemmas.{tree_low, tree_lost, tree_lowered, is_out, is_not_in}
+use Rattle.ndx_tree.proofs.Keyed.{tree_keyed}
 use Rattle.ndx_tree.proofs.tree.NdxTreeKeyList.remove.Goals as goal
 
 pub returns-then-not-remove-clause-found : goal.returns-then-not-remove-clause-found
@@ -102,3 +103,6 @@ returns-else-is_idle-clause-sound c =
     let out = is_out _ c.self.inside.root c.remove.new.self _ _ x c.self.invariant.0 r in
     let t = tree_lost _ c.self.inside.root c.remove.new.self _ _ x c.self.invariant.0 r (λ h. ⊎_elim (λ k. k) (λ k. let zero : c.remove.new.self.count ≡ 0 = omega arith in absurd (false≢true (sym c.if-is_idle.false ∙ c.is_idle.ensures.1 (h, zero)))) (cases_lt 0 c.remove.new.self.count)) in
     t.list
+
+pub remove-requires-clause-keyed : goal.remove-requires-clause-keyed
+remove-requires-clause-keyed c = tree_keyed c.self.inside.key_length c.self.inside.root.most c.self.inside.root.pairs c.self.invariant.0.most c.self.invariant.0.list.keys
