@@ -13,4 +13,6 @@ mod screens;
 #[cfg(test)]
 mod spelled;
 #[cfg(test)]
+mod typed;
+#[cfg(test)]
 mod values;
