@@ -12,6 +12,16 @@ pub struct LaidOut {
     pub maps: Vec<(usize, State)>,
 }
 
+impl LaidOut {
+    /// Nothing yet.
+    pub fn new(alloc: Global) -> LaidOut {
+        LaidOut {
+            instrs: Vec::new(alloc),
+            maps: Vec::new(alloc),
+        }
+    }
+}
+
 /// How many instructions a piece has.
 fn size_of(draft: Draft, own: usize) -> usize {
     match draft {

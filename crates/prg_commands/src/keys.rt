@@ -77,7 +77,8 @@ pub fn index_on(
         return Err(CompileError::Fault(FaultKind::Name));
     };
     let area = opened(work)?;
-    if !is_of_table(shape.indexes.as_slice(), number, area.table) || !is_key_of(shape, number, key)
+    if !is_of_table(shape.indexes.as_slice(), number, area.table)
+        || !is_key_of(shape, number, key)
     {
         return Err(CompileError::Fault(FaultKind::Index));
     }
@@ -85,6 +86,5 @@ pub fn index_on(
     let mut indexes = ArrayVec::new();
     let _ = indexes.try_push(number);
     let list = out.lists.number(IndexList { indexes })?;
-    work.block
-        .put(Instr::Records(RecordInstr::Index(list)))
+    work.block.put(Instr::Records(RecordInstr::Index(list)))
 }

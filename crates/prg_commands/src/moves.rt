@@ -12,7 +12,10 @@ use xvalue::Kind;
 
 /// Filter where the area's filter needs a variable that isn't known to have its value.
 pub fn meets_filter(out: &Output, work: &Work, area: OpenArea) -> Result<(), CompileError> {
-    if out.filters.lacks(area.filter, work.block.state.slots.kinds()) {
+    if out
+        .filters
+        .lacks(area.filter, work.block.state.slots.kinds())
+    {
         return Err(CompileError::Fault(FaultKind::Filter));
     }
     Ok(())
@@ -65,7 +68,12 @@ pub fn skip(
 }
 
 /// `SEEK key`.
-pub fn seek(shape: &Shape, out: &mut Output, work: &mut Work, key: &Expr) -> Result<(), CompileError> {
+pub fn seek(
+    shape: &Shape,
+    out: &mut Output,
+    work: &mut Work,
+    key: &Expr,
+) -> Result<(), CompileError> {
     value_of_kind(shape, out, work, key, Kind::Text)?;
     if opened(work)?.order == 0 {
         return Err(CompileError::Fault(FaultKind::NoOrder));
@@ -80,7 +88,11 @@ pub fn put_record(work: &mut Work, instr: RecordInstr) -> Result<(), CompileErro
 }
 
 /// Puts a command on all records of the selected work area, which ends with a move.
-pub fn put_all_records(out: &Output, work: &mut Work, instr: RecordInstr) -> Result<(), CompileError> {
+pub fn put_all_records(
+    out: &Output,
+    work: &mut Work,
+    instr: RecordInstr,
+) -> Result<(), CompileError> {
     let area = opened(work)?;
     meets_filter(out, work, area)?;
     work.block.put(Instr::Records(instr))
