@@ -1,0 +1,11 @@
+//! Tests of the compiler, by its public calls: the code of each command, each fault, and whole programs.
+#![tactic(auto)]
+
+#[cfg(test)]
+mod forms;
+#[cfg(test)]
+mod faults;
+#[cfg(test)]
+mod procedures;
+#[cfg(test)]
+mod shown;
