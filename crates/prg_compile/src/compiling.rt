@@ -50,6 +50,7 @@ fn begun(alloc: Global) -> Result<Writer, AllocError> {
         work: empty_work(alloc)?,
         copies,
         active,
+        heads: Vec::new(alloc),
     })
 }
 

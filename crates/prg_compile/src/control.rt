@@ -283,15 +283,20 @@ fn repeat(
         return Err(w.faulty(line, FaultKind::Limit));
     }
     let mark = w.mark()?;
+    let entry = w.work.block.state.copied(w.alloc)?;
+    w.work.block.state = w.known_at_head(line)?;
+    let mut head = None;
     for _ in 0..MOST_ROUNDS {
         let wider = match while_true {
             Some(e) => while_round(s, w, room - 1, line, e, body, end)?,
             None => scan_round(s, w, room - 1, line, only_if, body, end)?,
         };
-        match wider {
-            Some(state) => w.give_up(&mark, state)?,
-            None => return Ok(()),
-        }
+        let Some(state) = wider else {
+            w.remember(line, &mark, entry, head)?;
+            return Ok(());
+        };
+        head = Some(state.copied(w.alloc)?);
+        w.give_up(&mark, state)?;
     }
     Err(w.faulty(end, FaultKind::Limit))
 }

@@ -2,9 +2,11 @@
 #![tactic(auto)]
 
 mod assembling;
+mod heads;
 mod shapes;
 mod writer;
 
 pub use assembling::assemble;
+pub use heads::LoopHead;
 pub use shapes::copy_of_shape;
 pub use writer::{Mark, ProcedureCopy, Source, Target, Writer, copy_of_state, parameters};

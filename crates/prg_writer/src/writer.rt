@@ -1,6 +1,7 @@
 //! The copies of procedures that are written, and what a round of a loop is given up to.
 
 use code_items::State;
+use crate::heads::LoopHead;
 use prg_code::{Block, CompileError, CompileRefusal, FaultKind, Names};
 use prg_commands::{Output, Work};
 use prg_line::Statement;
@@ -52,6 +53,8 @@ pub struct Writer {
     pub copies: Vec<ProcedureCopy>,
     /// The procedures that are being written, from the main one on.
     pub active: Vec<Target>,
+    /// What held at the heads of loops.
+    pub heads: Vec<LoopHead>,
 }
 
 /// How much was written at some time.
@@ -62,12 +65,12 @@ pub struct Mark {
     constants: usize,
     lists: usize,
     filters: usize,
-    slots: u16,
+    pub(crate) slots: u16,
     century: bool,
     copies: usize,
     own: usize,
     level: u8,
-    names: Names,
+    pub(crate) names: Names,
     exit: Option<State>,
 }
 
