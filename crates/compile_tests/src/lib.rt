@@ -6,6 +6,10 @@ mod forms;
 #[cfg(test)]
 mod faults;
 #[cfg(test)]
+mod limits;
+#[cfg(test)]
 mod procedures;
+#[cfg(test)]
+mod programs;
 #[cfg(test)]
 mod shown;

@@ -1,6 +1,7 @@
 // Programs in one line, and how their code is shown. The tables are AA with the fields K (text of 5), P (text of 3), N (number
-// of 5 with 2 decimals), D (date) and L (logical), and BB, CC and T with one field K (text of 5). The indexes are AK on K, AU
-// on UPPER(K) and AP on K+UPPER(P) of AA, BK on K of BB, and KI on K of T.
+// of 5 with 2 decimals), D (date) and L (logical); BB, CC and T with one field K (text of 5); CUST and P with NAME (text of 10),
+// BILL with AMT (number of 5 with 2 decimals), and CUST2 with CITY (text of 9). The indexes are AK on K, AU on UPPER(K) and AP
+// on K+UPPER(P) of AA, BK on K of BB, KI on K of T, and PN on NAME of P.
 
 use arrayvec::ArrayVec;
 use code_file::list;
@@ -44,13 +45,21 @@ fn wide_table(alloc: Global) -> Result<TableShape, AllocError> {
     })
 }
 
-fn table(alloc: Global, name: &[u8]) -> Result<TableShape, AllocError> {
+fn table(alloc: Global, name: &[u8], only: Field) -> Result<TableShape, AllocError> {
     let mut fields = Vec::new(alloc);
-    fields.push(field(b"K", Letter::C, 5, 0))?;
+    fields.push(only)?;
     Ok(TableShape {
         name: name_of(name),
         fields: Items::of(fields),
     })
+}
+
+fn put_more_tables(alloc: Global, tables: &mut Vec<TableShape>) -> Result<(), AllocError> {
+    tables.push(table(alloc, b"CUST", field(b"NAME", Letter::C, 10, 0))?)?;
+    tables.push(table(alloc, b"BILL", field(b"AMT", Letter::N, 5, 2))?)?;
+    tables.push(table(alloc, b"P", field(b"NAME", Letter::C, 10, 0))?)?;
+    tables.push(table(alloc, b"CUST2", field(b"CITY", Letter::C, 9, 0))?)?;
+    Ok(())
 }
 
 fn part(field: u8, upper: bool) -> KeyPart {
@@ -69,15 +78,17 @@ fn index(name: &[u8], table: u8, parts: &[KeyPart]) -> IndexShape {
 fn shape(alloc: Global) -> Result<Shape, AllocError> {
     let mut tables = Vec::new(alloc);
     tables.push(wide_table(alloc)?)?;
-    tables.push(table(alloc, b"BB")?)?;
-    tables.push(table(alloc, b"CC")?)?;
-    tables.push(table(alloc, b"T")?)?;
+    tables.push(table(alloc, b"BB", field(b"K", Letter::C, 5, 0))?)?;
+    tables.push(table(alloc, b"CC", field(b"K", Letter::C, 5, 0))?)?;
+    tables.push(table(alloc, b"T", field(b"K", Letter::C, 5, 0))?)?;
+    put_more_tables(alloc, &mut tables)?;
     let mut indexes = Vec::new(alloc);
     indexes.push(index(b"AK", 0, &[part(0, false)]))?;
     indexes.push(index(b"AU", 0, &[part(0, true)]))?;
     indexes.push(index(b"AP", 0, &[part(0, false), part(1, true)]))?;
     indexes.push(index(b"BK", 1, &[part(0, false)]))?;
     indexes.push(index(b"KI", 3, &[part(0, false)]))?;
+    indexes.push(index(b"PN", 6, &[part(0, false)]))?;
     Ok(Shape {
         tables: Items::of(tables),
         indexes: Items::of(indexes),
