@@ -5,6 +5,7 @@
 mod block;
 mod fault;
 mod filters;
+mod laws;
 mod lists;
 mod merging;
 mod names;
@@ -14,6 +15,7 @@ mod settled;
 pub use block::{Block, Draft, Label};
 pub use fault::{CompileError, CompileFault, CompileRefusal, FaultKind};
 pub use filters::{FilterBlock, Filters};
+pub use laws::ways_merge;
 pub use lists::Lists;
 pub use merging::{is_selection_same, is_state_same, merged};
 pub use names::{Binding, Names, copy_of_name};
