@@ -5,9 +5,7 @@
 
 use arrayvec::ArrayVec;
 use code_file::list;
-use code_items::{
-    IndexShape, Items, KeyPart, KeyParts, Name, Shape, TableShape, Version,
-};
+use code_items::{IndexShape, Items, KeyPart, KeyParts, Name, Shape, TableShape, Version};
 use code_verify::Verified;
 use dbf_file::{Field, Letter};
 use prg_compile::{CompileRefusal, compile};

@@ -1,5 +1,8 @@
 //! Operators by the kinds of their operands.
 
+ghost use Rattle.std.specs.Prelude.{◌≡◌};
+ghost use Rattle.prg_values.specs.Operators as spec;
+
 use prg_expr::{Operator, Prefix};
 use xvalue::{Fun, Kind};
 
@@ -11,7 +14,9 @@ pub struct Operation {
     pub swapped: bool,
 }
 
-fn plain(fun: Fun) -> Operation {
+fn plain(fun: Fun) -> Operation
+    ensures { result ≡ spec.plain fun }
+{
     Operation {
         fun,
         negated: false,
@@ -19,7 +24,9 @@ fn plain(fun: Fun) -> Operation {
     }
 }
 
-fn negated(fun: Fun) -> Operation {
+fn negated(fun: Fun) -> Operation
+    ensures { result ≡ spec.denied fun }
+{
     Operation {
         fun,
         negated: true,
@@ -27,33 +34,85 @@ fn negated(fun: Fun) -> Operation {
     }
 }
 
-/// The functions of equality, less and greater for values of this kind; logical values aren't compared.
-fn comparisons(kind: Kind) -> Option<(Fun, Fun, Fun)> {
+fn equality(kind: Kind) -> Option<Fun>
+    ensures { result ≡ spec.equality kind }
+{
     match kind {
-        Kind::Number => Some((Fun::NumberEq, Fun::NumberLess, Fun::NumberGreater)),
-        Kind::Text => Some((Fun::TextEq, Fun::TextLess, Fun::TextGreater)),
-        Kind::Date => Some((Fun::DateEq, Fun::DateLess, Fun::DateGreater)),
+        Kind::Number => Some(Fun::NumberEq),
+        Kind::Text => Some(Fun::TextEq),
+        Kind::Date => Some(Fun::DateEq),
         Kind::Logical => None,
     }
 }
 
-fn compared(operator: Operator, left: Kind, right: Kind) -> Option<Operation> {
-    if !left.is(right) {
-        return None;
+fn less(kind: Kind) -> Option<Fun>
+    ensures { result ≡ spec.less kind }
+{
+    match kind {
+        Kind::Number => Some(Fun::NumberLess),
+        Kind::Text => Some(Fun::TextLess),
+        Kind::Date => Some(Fun::DateLess),
+        Kind::Logical => None,
     }
-    let (equal, less, greater) = comparisons(left)?;
+}
+
+fn greater(kind: Kind) -> Option<Fun>
+    ensures { result ≡ spec.greater kind }
+{
+    match kind {
+        Kind::Number => Some(Fun::NumberGreater),
+        Kind::Text => Some(Fun::TextGreater),
+        Kind::Date => Some(Fun::DateGreater),
+        Kind::Logical => None,
+    }
+}
+
+fn plain_if(fun: Option<Fun>) -> Option<Operation>
+    ensures { result ≡ spec.if_some spec.plain fun }
+{
+    match fun {
+        Some(fun) => Some(plain(fun)),
+        None => None,
+    }
+}
+
+fn negated_if(fun: Option<Fun>) -> Option<Operation>
+    ensures { result ≡ spec.if_some spec.denied fun }
+{
+    match fun {
+        Some(fun) => Some(negated(fun)),
+        None => None,
+    }
+}
+
+/// What a comparison does between values of this kind; none of another operator.
+fn comparison(operator: Operator, kind: Kind) -> Option<Operation>
+    ensures { result ≡ spec.comparison operator kind }
+{
     match operator {
-        Operator::Equal => Some(plain(equal)),
-        Operator::NotEqual => Some(negated(equal)),
-        Operator::Less => Some(plain(less)),
-        Operator::Greater => Some(plain(greater)),
-        Operator::AtMost => Some(negated(greater)),
-        Operator::AtLeast => Some(negated(less)),
+        Operator::Equal => plain_if(equality(kind)),
+        Operator::NotEqual => negated_if(equality(kind)),
+        Operator::Less => plain_if(less(kind)),
+        Operator::Greater => plain_if(greater(kind)),
+        Operator::AtMost => negated_if(greater(kind)),
+        Operator::AtLeast => negated_if(less(kind)),
         _ => None,
     }
 }
 
-fn added(left: Kind, right: Kind) -> Option<Operation> {
+fn compared(operator: Operator, left: Kind, right: Kind) -> Option<Operation>
+    ensures { result ≡ spec.compared operator left right }
+{
+    if left.is(right) {
+        comparison(operator, left)
+    } else {
+        None
+    }
+}
+
+fn added(left: Kind, right: Kind) -> Option<Operation>
+    ensures { result ≡ spec.added left right }
+{
     match (left, right) {
         (Kind::Number, Kind::Number) => Some(plain(Fun::Add)),
         (Kind::Text, Kind::Text) => Some(plain(Fun::Join)),
@@ -67,7 +126,9 @@ fn added(left: Kind, right: Kind) -> Option<Operation> {
     }
 }
 
-fn subtracted(left: Kind, right: Kind) -> Option<Operation> {
+fn subtracted(left: Kind, right: Kind) -> Option<Operation>
+    ensures { result ≡ spec.subtracted left right }
+{
     match (left, right) {
         (Kind::Number, Kind::Number) => Some(plain(Fun::Sub)),
         (Kind::Text, Kind::Text) => Some(plain(Fun::JoinMoved)),
@@ -78,7 +139,9 @@ fn subtracted(left: Kind, right: Kind) -> Option<Operation> {
 }
 
 /// The function where both operands are of this kind.
-fn of_both(fun: Fun, kind: Kind, left: Kind, right: Kind) -> Option<Operation> {
+fn of_both(fun: Fun, kind: Kind, left: Kind, right: Kind) -> Option<Operation>
+    ensures { result ≡ spec.of_both fun kind left right }
+{
     if left.is(kind) && right.is(kind) {
         Some(plain(fun))
     } else {
@@ -87,7 +150,9 @@ fn of_both(fun: Fun, kind: Kind, left: Kind, right: Kind) -> Option<Operation> {
 }
 
 /// What the operator does between operands of these kinds; none where it takes other kinds.
-pub fn operated(operator: Operator, left: Kind, right: Kind) -> Option<Operation> {
+pub fn operated(operator: Operator, left: Kind, right: Kind) -> Option<Operation>
+    ensures { result ≡ spec.operated operator left right }
+{
     match operator {
         Operator::Or => of_both(Fun::Or, Kind::Logical, left, right),
         Operator::And => of_both(Fun::And, Kind::Logical, left, right),
@@ -101,7 +166,9 @@ pub fn operated(operator: Operator, left: Kind, right: Kind) -> Option<Operation
 }
 
 /// The kind that an operand of the prefix has, and so the whole.
-pub fn prefix_kind(prefix: Prefix) -> Kind {
+pub fn prefix_kind(prefix: Prefix) -> Kind
+    ensures { result ≡ spec.prefix_kind prefix }
+{
     match prefix {
         Prefix::Not => Kind::Logical,
         Prefix::Negative | Prefix::Positive => Kind::Number,
@@ -109,7 +176,9 @@ pub fn prefix_kind(prefix: Prefix) -> Kind {
 }
 
 /// The function of a prefix; a plus sign has none.
-pub fn prefix_fun(prefix: Prefix) -> Option<Fun> {
+pub fn prefix_fun(prefix: Prefix) -> Option<Fun>
+    ensures { result ≡ spec.prefix_fun prefix }
+{
     match prefix {
         Prefix::Not => Some(Fun::Not),
         Prefix::Negative => Some(Fun::Neg),
