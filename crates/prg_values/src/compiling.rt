@@ -138,6 +138,20 @@ fn emit_all(
 }
 
 #[cycle(emit)]
+fn emit_call(
+    code: &mut Vec<Instr>,
+    pool: &mut Pool,
+    scope: &Scope,
+    function: Function,
+    arguments: &[Expr],
+) -> Result<(), CompileError> {
+    let choice = choice_of(scope, function, arguments)?;
+    emit_all(code, pool, scope, arguments)?;
+    put_defaults(code, pool, function, arguments.len())?;
+    put_called(code, function, choice)
+}
+
+#[cycle(emit)]
 fn emit(
     code: &mut Vec<Instr>,
     pool: &mut Pool,
@@ -155,12 +169,7 @@ fn emit(
                 read_qualified(scope, alias.as_slice(), name.as_slice()),
             )
         }
-        Expr::Call(function, arguments) => {
-            let choice = choice_of(scope, *function, arguments)?;
-            emit_all(code, pool, scope, arguments)?;
-            put_defaults(code, pool, *function, arguments.len())?;
-            put_called(code, *function, choice)
-        }
+        Expr::Call(function, arguments) => emit_call(code, pool, scope, *function, arguments),
         Expr::Parentheses(inner) => emit(code, pool, scope, inner),
         Expr::Prefixed(prefix, operand) => {
             emit(code, pool, scope, operand)?;
