@@ -3,7 +3,7 @@
 ghost use Rattle.std.specs.Prelude.{◌≡◌, ◌<◌, length, IfOk};
 
 use crate::calling::{end_copy, last_line};
-use crate::control::commands;
+use crate::control::{Inside, commands};
 use crate::ends::end_procedure;
 use code_items::{Code, Shape};
 use code_verify::{Verified, VerifyError, verify};
@@ -58,7 +58,11 @@ fn begun(alloc: Global) -> Result<Writer, AllocError> {
 fn written(alloc: Global, s: &Source) -> Result<Writer, CompileRefusal> {
     let mut w = begun(alloc)?;
     let list = s.commands(MAIN);
-    commands(s, &mut w, None, ROOM, list)?;
+    let at = Inside {
+        leaps: None,
+        room: ROOM,
+    };
+    commands(s, &mut w, at, list, None)?;
     end_procedure(&mut w, last_line(list, 0))?;
     end_copy(&mut w, 0, empty_work(alloc)?);
     Ok(w)

@@ -2,6 +2,8 @@
 //!
 //! Each function is given how deep it may still go; what the parser makes and calls allow never asks for more.
 
+ghost use Rattle.std.specs.Prelude.{◌≡◌, ◌+◌, ◌<◌};
+
 use crate::calling::{
     begin_copy, copy_for, end_copy, hand_all_over, last_line, names_in, put_call, target_of,
 };
@@ -17,6 +19,53 @@ use xvalue::Fun;
 
 /// The most rounds of a loop: each one but the last loses what is known of a slot or a work area.
 const MOST_ROUNDS: u16 = 300;
+
+/// Where commands stand: in which loop, and how deep blocks and calls may still go.
+#[derive(Clone, Copy, Debug, PartialEq, Eq)]
+pub struct Inside {
+    pub leaps: Option<Leaps>,
+    pub room: u16,
+}
+
+/// The lines that open and end a block.
+#[derive(Clone, Copy, Debug, PartialEq, Eq)]
+struct Span {
+    first: usize,
+    end: usize,
+}
+
+/// When a loop goes on.
+#[derive(Clone, Copy)]
+enum Test<'a> {
+    /// DO WHILE: where the condition holds.
+    While(&'a Expr),
+    /// SCAN: where there is a row; the commands are for rows for which the condition holds, if there is one.
+    Rows(&'a Option<Expr>),
+}
+
+impl Inside {
+    /// One step deeper.
+    fn deeper(self) -> Inside
+        requires { 0 < self.room }
+        ensures { result.room + 1 ≡ self.room }
+    {
+        Inside {
+            leaps: self.leaps,
+            room: self.room - 1,
+        }
+    }
+
+    /// One step deeper, in this loop, or in none.
+    fn within(self, leaps: Option<Leaps>) -> Inside
+        requires { 0 < self.room }
+        ensures { result.room + 1 ≡ self.room }
+    {
+        Inside {
+            leaps,
+            room: self.room - 1,
+        }
+    }
+}
 
 /// A condition and a JUMPF to the label.
 fn put_condition(
@@ -91,54 +140,40 @@ fn put_scan_test(w: &mut Writer) -> Result<(), CompileError> {
         .put(Instr::Values(ValueInstr::Function(Fun::Not)))
 }
 
-/// Puts the commands up to the first one behind which nothing is reached.
+/// Puts the commands up to the first one behind which nothing is reached. Where they are a part of a block, Get in the line that
+/// ends it if a READ is awaited there.
 #[cycle(commands)]
 pub fn commands(
     s: &Source,
     w: &mut Writer,
-    leaps: Option<Leaps>,
-    room: u16,
+    at: Inside,
     list: &[Command],
+    end: Option<usize>,
 ) -> Result<(), CompileRefusal> {
     for command in list {
         if !w.work.block.reached {
             return Ok(());
         }
-        if room == 0 {
+        if at.room == 0 {
             return Err(w.faulty(command.line, FaultKind::Limit));
         }
-        put_command(s, w, leaps, room - 1, command)?;
+        put_command(s, w, at.deeper(), command)?;
     }
-    Ok(())
-}
-
-/// Puts the commands of a part of a block, which ends at this line. Get there where a READ is awaited.
-#[cycle(commands)]
-fn part(
-    s: &Source,
-    w: &mut Writer,
-    leaps: Option<Leaps>,
-    room: u16,
-    list: &[Command],
-    line: usize,
-) -> Result<(), CompileRefusal> {
-    if room == 0 {
-        return Err(w.faulty(line, FaultKind::Limit));
+    match end {
+        Some(line) => no_get_waits(w, line),
+        None => Ok(()),
     }
-    commands(s, w, leaps, room - 1, list)?;
-    no_get_waits(w, line)
 }
 
 #[cycle(commands)]
 fn put_command(
     s: &Source,
     w: &mut Writer,
-    leaps: Option<Leaps>,
-    room: u16,
+    at: Inside,
     command: &Command,
 ) -> Result<(), CompileRefusal> {
     let line = command.line;
-    if room == 0 {
+    if at.room == 0 {
         return Err(w.faulty(line, FaultKind::Limit));
     }
     match &command.form {
@@ -147,43 +182,73 @@ fn put_command(
                 procedure,
                 arguments,
             },
-        ) => call(s, w, room - 1, line, procedure, arguments),
-        Form::Statement(statement) => plain(s.shape, w, leaps, line, statement),
+        ) => call(s, w, at.deeper(), line, procedure, arguments),
+        Form::Statement(statement) => plain(s.shape, w, at.leaps, line, statement),
+        form => {
+            no_get_waits(w, line)?;
+            put_block(s, w, at.deeper(), line, form)
+        }
+    }
+}
+
+#[cycle(commands)]
+fn put_block(
+    s: &Source,
+    w: &mut Writer,
+    at: Inside,
+    line: usize,
+    form: &Form,
+) -> Result<(), CompileRefusal> {
+    if at.room == 0 {
+        return Err(w.faulty(line, FaultKind::Limit));
+    }
+    let inner = at.deeper();
+    let span = span_of(line, form);
+    match form {
+        Form::Statement(_) => Ok(()),
         Form::If {
             condition,
             then,
             otherwise,
-            end,
-        } => choose(
-            s,
-            w,
-            leaps,
-            room - 1,
-            line,
-            condition,
-            then,
-            otherwise,
-            *end,
-        ),
+            ..
+        } => { choose(s, w, inner, span, condition, then, otherwise) }
         Form::DoCase {
             cases,
             otherwise,
-            end,
-        } => choose_case(s, w, leaps, room - 1, line, cases, otherwise, *end),
+            ..
+        } => choose_case(s, w, inner, span, cases, otherwise),
         Form::DoWhile {
             condition,
             body,
-            end,
-        } => repeat(s, w, room - 1, line, Some(condition), None, body, *end),
+            ..
+        } => { repeat(s, w, inner, span, Test::While(condition), body) }
         Form::Scan {
             condition,
             body,
-            end,
-        } => {
-            no_get_waits(w, line)?;
+            ..
+        } => { repeat(s, w, inner, span, Test::Rows(condition), body) }
+    }
+}
+
+/// The lines of a block that begins in this line; of a command of one line this line.
+fn span_of(first: usize, form: &Form) -> Span {
+    let end = match form {
+        Form::Statement(_) => first,
+        Form::If { end, .. } => *end,
+        Form::DoCase { end, .. } => *end,
+        Form::DoWhile { end, .. } => *end,
+        Form::Scan { end, .. } => *end,
+    };
+    Span { first, end }
+}
+
+/// Goes to the first row, for a SCAN in this line; a DO WHILE begins with nothing.
+fn put_first_row(w: &mut Writer, line: usize, test: Test) -> Result<(), CompileRefusal> {
+    match test {
+        Test::While(_) => Ok(()),
+        Test::Rows(_) => {
             let result = put_top(&w.out, &mut w.work);
-            w.told(line, result)?;
-            repeat(s, w, room - 1, line, None, condition.as_ref(), body, *end)
+            w.told(line, result)
         }
     }
 }
@@ -193,28 +258,32 @@ fn put_command(
 fn choose(
     s: &Source,
     w: &mut Writer,
-    leaps: Option<Leaps>,
-    room: u16,
-    line: usize,
+    at: Inside,
+    span: Span,
     condition: &Expr,
     then: &[Command],
     otherwise: &Option<Branch>,
-    end: usize,
 ) -> Result<(), CompileRefusal> {
-    no_get_waits(w, line)?;
-    if room == 0 {
-        return Err(w.faulty(line, FaultKind::Limit));
+    let Span { first, end } = span;
+    if at.room == 0 {
+        return Err(w.faulty(first, FaultKind::Limit));
     }
-    let other = new_label(w, line)?;
-    put_condition(s, w, line, condition, other)?;
-    part(s, w, leaps, room - 1, then, next_line(&[], otherwise, end))?;
+    let other = new_label(w, first)?;
+    put_condition(s, w, first, condition, other)?;
+    commands(
+        s,
+        w,
+        at.deeper(),
+        then,
+        Some(next_line(&[], otherwise, end)),
+    )?;
     let Some(branch) = otherwise else {
         return place(w, end, other);
     };
     let out = new_label(w, end)?;
     jump(w, end, out)?;
     place(w, end, other)?;
-    part(s, w, leaps, room - 1, &branch.body, end)?;
+    commands(s, w, at.deeper(), &branch.body, Some(end))?;
     place(w, end, out)
 }
 
@@ -223,37 +292,29 @@ fn choose(
 fn choose_case(
     s: &Source,
     w: &mut Writer,
-    leaps: Option<Leaps>,
-    room: u16,
-    line: usize,
+    at: Inside,
+    span: Span,
     cases: &[Case],
     otherwise: &Option<Branch>,
-    end: usize,
 ) -> Result<(), CompileRefusal> {
-    no_get_waits(w, line)?;
-    if room == 0 {
-        return Err(w.faulty(line, FaultKind::Limit));
+    let Span { first, end } = span;
+    if at.room == 0 {
+        return Err(w.faulty(first, FaultKind::Limit));
     }
-    let out = new_label(w, line)?;
+    let out = new_label(w, first)?;
     for (number, case) in cases.iter().enumerate() {
         let others = behind(cases, number);
         let other = new_label(w, case.line)?;
         put_condition(s, w, case.line, &case.condition, other)?;
-        part(
-            s,
-            w,
-            leaps,
-            room - 1,
-            &case.body,
-            next_line(others, otherwise, end),
-        )?;
+        let next = next_line(others, otherwise, end);
+        commands(s, w, at.deeper(), &case.body, Some(next))?;
         if !others.is_empty() || otherwise.is_some() {
             jump(w, end, out)?;
         }
         place(w, end, other)?;
     }
     if let Some(branch) = otherwise {
-        part(s, w, leaps, room - 1, &branch.body, end)?;
+        commands(s, w, at.deeper(), &branch.body, Some(end))?;
     }
     place(w, end, out)
 }
@@ -266,33 +327,32 @@ fn behind(cases: &[Case], number: usize) -> &[Case] {
     }
 }
 
-/// DO WHILE with its condition, or SCAN with that of its FOR, round by round until what is known at its head holds.
+/// A loop, round by round until what is known at its head holds.
 #[cycle(commands)]
 fn repeat(
     s: &Source,
     w: &mut Writer,
-    room: u16,
-    line: usize,
-    while_true: Option<&Expr>,
-    only_if: Option<&Expr>,
+    at: Inside,
+    span: Span,
+    test: Test,
     body: &[Command],
-    end: usize,
 ) -> Result<(), CompileRefusal> {
-    no_get_waits(w, line)?;
-    if room == 0 {
-        return Err(w.faulty(line, FaultKind::Limit));
+    let Span { first, end } = span;
+    if at.room == 0 {
+        return Err(w.faulty(first, FaultKind::Limit));
     }
+    put_first_row(w, first, test)?;
     let mark = w.mark()?;
     let entry = w.work.block.state.copied(w.alloc)?;
-    w.work.block.state = w.known_at_head(line)?;
+    w.work.block.state = w.known_at_head(first)?;
     let mut head = None;
     for _ in 0..MOST_ROUNDS {
-        let wider = match while_true {
-            Some(e) => while_round(s, w, room - 1, line, e, body, end)?,
-            None => scan_round(s, w, room - 1, line, only_if, body, end)?,
+        let wider = match test {
+            Test::While(e) => while_round(s, w, at.deeper(), span, e, body)?,
+            Test::Rows(e) => scan_round(s, w, at.deeper(), span, e, body)?,
         };
         let Some(state) = wider else {
-            w.remember(line, &mark, entry, head)?;
+            w.remember(first, &mark, entry, head)?;
             return Ok(());
         };
         head = Some(state.copied(w.alloc)?);
@@ -306,21 +366,22 @@ fn repeat(
 fn while_round(
     s: &Source,
     w: &mut Writer,
-    room: u16,
-    line: usize,
+    at: Inside,
+    span: Span,
     e: &Expr,
     body: &[Command],
-    end: usize,
 ) -> Result<Option<State>, CompileRefusal> {
-    if room == 0 {
-        return Err(w.faulty(line, FaultKind::Limit));
+    let Span { first, end } = span;
+    if at.room == 0 {
+        return Err(w.faulty(first, FaultKind::Limit));
     }
     let head = w.work.block.state.copied(w.alloc)?;
-    let again = new_label(w, line)?;
-    let out = new_label(w, line)?;
-    place(w, line, again)?;
-    put_condition(s, w, line, e, out)?;
-    part(s, w, Some(Leaps { again, out }), room - 1, body, end)?;
+    let again = new_label(w, first)?;
+    let out = new_label(w, first)?;
+    place(w, first, again)?;
+    put_condition(s, w, first, e, out)?;
+    let inside = at.within(Some(Leaps { again, out }));
+    commands(s, w, inside, body, Some(end))?;
     jump(w, end, again)?;
     let wider = round_end(w, end, again, &head)?;
     if wider.is_none() {
@@ -334,28 +395,23 @@ fn while_round(
 fn scan_round(
     s: &Source,
     w: &mut Writer,
-    room: u16,
-    line: usize,
-    only_if: Option<&Expr>,
+    at: Inside,
+    span: Span,
+    only_if: &Option<Expr>,
     body: &[Command],
-    end: usize,
 ) -> Result<Option<State>, CompileRefusal> {
-    if room == 0 {
-        return Err(w.faulty(line, FaultKind::Limit));
+    let Span { first, end } = span;
+    if at.room == 0 {
+        return Err(w.faulty(first, FaultKind::Limit));
     }
     let head = w.work.block.state.copied(w.alloc)?;
-    let top = new_label(w, line)?;
-    let again = new_label(w, line)?;
-    let out = new_label(w, line)?;
-    place(w, line, top)?;
-    let result = put_scan_test(w);
-    w.told(line, result)?;
-    let result = w.work.block.jump_false(out);
-    w.told(line, result)?;
-    if let Some(e) = only_if {
-        put_condition(s, w, line, e, again)?;
-    }
-    part(s, w, Some(Leaps { again, out }), room - 1, body, end)?;
+    let top = new_label(w, first)?;
+    let again = new_label(w, first)?;
+    let out = new_label(w, first)?;
+    place(w, first, top)?;
+    put_row_test(s, w, first, only_if, again, out)?;
+    let inside = at.within(Some(Leaps { again, out }));
+    commands(s, w, inside, body, Some(end))?;
     place(w, end, again)?;
     put_next_row(w, end, top)?;
     let wider = round_end(w, end, top, &head)?;
@@ -363,6 +419,26 @@ fn scan_round(
         place(w, end, out)?;
     }
     Ok(wider)
+}
+
+/// Puts the test of a SCAN, which leads out where there is no row, and on to the next row where the condition of its FOR
+/// doesn't hold.
+fn put_row_test(
+    s: &Source,
+    w: &mut Writer,
+    line: usize,
+    only_if: &Option<Expr>,
+    again: usize,
+    out: usize,
+) -> Result<(), CompileRefusal> {
+    let result = put_scan_test(w);
+    w.told(line, result)?;
+    let result = w.work.block.jump_false(out);
+    w.told(line, result)?;
+    match only_if {
+        Some(e) => put_condition(s, w, line, e, again),
+        None => Ok(()),
+    }
 }
 
 /// Goes on to the next row and back to the top, where this is reached.
@@ -380,13 +456,13 @@ fn put_next_row(w: &mut Writer, end: usize, top: usize) -> Result<(), CompileRef
 fn call(
     s: &Source,
     w: &mut Writer,
-    room: u16,
+    at: Inside,
     line: usize,
     procedure: &Name,
     arguments: &[Expr],
 ) -> Result<(), CompileRefusal> {
     no_get_waits(w, line)?;
-    if room == 0 {
+    if at.room == 0 {
         return Err(w.faulty(line, FaultKind::Limit));
     }
     let result = target_of(s, w, procedure.as_slice(), arguments.len());
@@ -398,7 +474,7 @@ fn call(
     let names = w.told(line, result)?;
     let number = match copy_for(w, target, &names) {
         Some(number) => number,
-        None => write_copy(s, w, room - 1, line, target, names, handed.own)?,
+        None => write_copy(s, w, at.within(None), line, target, names, handed.own)?,
     };
     let result = put_call(w, number);
     w.told(line, result)
@@ -409,19 +485,19 @@ fn call(
 fn write_copy(
     s: &Source,
     w: &mut Writer,
-    room: u16,
+    at: Inside,
     line: usize,
     target: Target,
     names: Names,
     own: Vec<u8>,
 ) -> Result<usize, CompileRefusal> {
-    if room == 0 {
+    if at.room == 0 {
         return Err(w.faulty(line, FaultKind::Limit));
     }
     let result = begin_copy(w, target, names, own);
     let (number, before) = w.told(line, result)?;
     let (_, list) = parameters(s.commands(target));
-    commands(s, w, None, room - 1, list)?;
+    commands(s, w, at.deeper(), list, None)?;
     end_procedure(w, last_line(list, line))?;
     end_copy(w, number, before);
     Ok(number)
