@@ -63,7 +63,8 @@ fn change_area(instr: AreaInstr, desk: &mut Desk)
     }
 }
 
-fn change_desk(instr: Instr, desk: &mut Desk)
+/// Turns what is known of the work areas before the instruction, which calls no procedure, into what is known behind it.
+pub fn change_desk(instr: Instr, desk: &mut Desk)
     ensures { desk.new ≡ desk_after instr desk.old }
 {
     match instr {
@@ -73,7 +74,8 @@ fn change_desk(instr: Instr, desk: &mut Desk)
     }
 }
 
-fn change_slots(instr: Instr, slots: &mut KindSlots)
+/// Turns what is known of the slots before the instruction, which calls no procedure, into what is known behind it.
+pub fn change_slots(instr: Instr, slots: &mut KindSlots)
     ensures { slots.new ≡ slots_after_of instr slots.old }
 {
     match instr {

@@ -1,0 +1,15 @@
+//! Tests of the compiler, by its public calls: the code of each command, each fault, and whole programs.
+#![tactic(auto)]
+
+#[cfg(test)]
+mod faults;
+#[cfg(test)]
+mod forms;
+#[cfg(test)]
+mod limits;
+#[cfg(test)]
+mod procedures;
+#[cfg(test)]
+mod programs;
+#[cfg(test)]
+mod shown;

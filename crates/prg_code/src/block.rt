@@ -1,0 +1,217 @@
+//! A procedure's block that is being written.
+
+use crate::fault::{CompileError, FaultKind};
+use crate::merging::{is_selection_same, merged};
+use code_items::{AreaState, Desk, FlowInstr, Instr, Items, KindSlots, KindStack, State};
+use code_rules::Signature;
+use code_rules::flow::{change_desk, change_slots};
+use std::alloc::{AllocError, Global};
+
+/// The most values on the stack.
+const MOST_VALUES: usize = 64;
+
+/// The most slots.
+const MOST_SLOTS: usize = 256;
+
+/// A piece of a block.
+#[derive(Clone, Copy, Debug, PartialEq, Eq)]
+pub enum Draft {
+    /// An instruction that is no jump.
+    Instr(Instr),
+    /// JUMP to the label of this number.
+    Jump(usize),
+    /// JUMPF to the label of this number.
+    JumpFalse(usize),
+    /// The place of the label of this number.
+    Label(usize),
+    /// The procedure's variables lose their values, and it returns.
+    Return,
+}
+
+/// A place to which jumps may lead.
+#[derive(Drop)]
+pub struct Label {
+    /// What is known there, from all ways that lead there so far; none where none does.
+    pub state: Option<State>,
+    /// Whether a jump leads there.
+    pub jumped: bool,
+    /// Whether different work areas are selected on the ways.
+    pub split: bool,
+}
+
+/// A block: its pieces and labels, and what is known behind the last piece.
+#[derive(Drop)]
+pub struct Block {
+    alloc: Global,
+    pub drafts: Vec<Draft>,
+    pub labels: Vec<Label>,
+    /// What is known behind the last piece, if that is reached. It has 256 slots.
+    pub state: State,
+    /// Whether the place behind the last piece is reached.
+    pub reached: bool,
+    /// How many values are on the stack behind the last piece, and the most at any place.
+    depth: usize,
+    pub highest: usize,
+}
+
+/// Nothing known of 256 slots, all areas closed and the first selected.
+fn blank(alloc: Global) -> Result<State, AllocError> {
+    Ok(State {
+        desk: Desk {
+            selected: 1,
+            areas: Items::of(vec![in alloc; AreaState::Closed; 10]?),
+        },
+        slots: KindSlots::of(vec![in alloc; None; MOST_SLOTS]?),
+        stack: KindStack::of(Vec::new(alloc)),
+    })
+}
+
+impl Block {
+    /// An empty block of the main procedure.
+    pub fn main(alloc: Global) -> Result<Block, AllocError> {
+        Ok(Block::entered(alloc, blank(alloc)?))
+    }
+
+    /// An empty block, at whose beginning this is known.
+    pub fn entered(alloc: Global, state: State) -> Block {
+        Block {
+            alloc,
+            drafts: Vec::new(alloc),
+            labels: Vec::new(alloc),
+            state,
+            reached: true,
+            depth: 0,
+            highest: 0,
+        }
+    }
+
+    /// Adds an instruction that is no jump. Limit where the stack would be too high.
+    pub fn put(&mut self, instr: Instr) -> Result<(), CompileError> {
+        let signature = Signature::of(instr);
+        let left = self.depth.saturating_sub(signature.taken);
+        let depth = left.saturating_add(signature.adds);
+        if depth > MOST_VALUES {
+            return Err(CompileError::Fault(FaultKind::Limit));
+        }
+        self.drafts.push(Draft::Instr(instr))?;
+        self.depth = depth;
+        self.highest = self.highest.max(depth);
+        change_slots(instr, &mut self.state.slots);
+        change_desk(instr, &mut self.state.desk);
+        Ok(())
+    }
+
+    /// Adds instructions that are no jumps.
+    pub fn put_all(&mut self, instrs: &[Instr]) -> Result<(), CompileError> {
+        for instr in instrs {
+            self.put(*instr)?;
+        }
+        Ok(())
+    }
+
+    /// Ends the way: an END.
+    pub fn put_end(&mut self) -> Result<(), CompileError> {
+        self.drafts.push(Draft::Instr(Instr::Flow(FlowInstr::End)))?;
+        self.reached = false;
+        Ok(())
+    }
+
+    /// Ends the way: the procedure returns.
+    pub fn put_return(&mut self) -> Result<(), CompileError> {
+        self.drafts.push(Draft::Return)?;
+        self.reached = false;
+        Ok(())
+    }
+
+    /// A new label, which has no place yet.
+    pub fn new_label(&mut self) -> Result<usize, CompileError> {
+        let number = self.labels.len();
+        self.labels.push(Label {
+            state: None,
+            jumped: false,
+            split: false,
+        })?;
+        Ok(number)
+    }
+
+    /// A JUMP to the label, where the place is reached. It isn't reached afterwards.
+    pub fn jump(&mut self, label: usize) -> Result<(), CompileError> {
+        if !self.reached {
+            return Ok(());
+        }
+        self.drafts.push(Draft::Jump(label))?;
+        self.flow_to(label, true)?;
+        self.reached = false;
+        Ok(())
+    }
+
+    /// A JUMPF to the label, which takes the truth value on top.
+    pub fn jump_false(&mut self, label: usize) -> Result<(), CompileError> {
+        self.drafts.push(Draft::JumpFalse(label))?;
+        self.depth = self.depth.saturating_sub(1);
+        self.flow_to(label, true)?;
+        Ok(())
+    }
+
+    /// What is known here flows to the label.
+    fn flow_to(&mut self, label: usize, jumped: bool) -> Result<(), CompileError> {
+        let Some(there) = self.labels.get_mut(label) else {
+            return Ok(());
+        };
+        let state = flown(self.alloc, there.state.as_ref(), &self.state)?;
+        there.split = there.split || is_split(there.state.as_ref(), &self.state);
+        there.state = Some(state);
+        there.jumped = there.jumped || jumped;
+        Ok(())
+    }
+
+    /// The label stands here. Merge where ways meet here on which different areas are selected.
+    pub fn place(&mut self, label: usize) -> Result<(), CompileError> {
+        if self.reached {
+            self.flow_to(label, false)?;
+        }
+        self.drafts.push(Draft::Label(label))?;
+        let Some(there) = self.labels.get(label) else {
+            return Ok(());
+        };
+        if there.split {
+            return Err(CompileError::Fault(FaultKind::Merge));
+        }
+        if let Some(state) = &there.state {
+            self.state = state.copied(self.alloc)?;
+            self.reached = true;
+        }
+        Ok(())
+    }
+
+    /// Whether some way leads to the label so far.
+    pub fn is_met(&self, label: usize) -> bool {
+        match self.labels.get(label) {
+            Some(label) => label.state.is_some(),
+            None => false,
+        }
+    }
+
+    /// Leaves out the pieces and labels behind the first so many, and knows this.
+    pub fn cut(&mut self, drafts: usize, labels: usize, state: State) {
+        self.drafts.truncate(drafts);
+        self.labels.truncate(labels);
+        self.state = state;
+        self.reached = true;
+        self.depth = 0;
+    }
+}
+
+fn flown(alloc: Global, there: Option<&State>, state: &State) -> Result<State, AllocError> {
+    match there {
+        Some(there) => merged(alloc, there, state),
+        None => state.copied(alloc),
+    }
+}
+
+fn is_split(there: Option<&State>, state: &State) -> bool {
+    match there {
+        Some(there) => !is_selection_same(there, state),
+        None => false,
+    }
+}

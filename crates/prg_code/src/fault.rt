@@ -1,0 +1,134 @@
+//! Why command files are not compiled.
+
+ghost use Rattle.std.specs.Prelude.{◌≡◌};
+ghost use Rattle.prg_code.specs.declared.fault.CompileError.TheVariants as error;
+ghost use Rattle.prg_code.specs.declared.fault.CompileRefusal.TheVariants as refusal;
+
+use std::alloc::{AllocError, AllocFailed};
+use thiserror::Error;
+
+/// What is wrong with a command.
+#[derive(Clone, Copy, Debug, PartialEq, Eq, Error)]
+pub enum FaultKind {
+    /// A name of no field, variable, table, index or procedure.
+    #[error("Name")]
+    Name,
+    /// A value of another kind than is taken.
+    #[error("Kind")]
+    Kind,
+    /// A variable that may have no value.
+    #[error("Unset")]
+    Unset,
+    /// The work area needed isn't known to be open.
+    #[error("ClosedArea")]
+    ClosedArea,
+    /// The work area has no such order, or none to seek by.
+    #[error("NoOrder")]
+    NoOrder,
+    /// The table is or may be open in another work area.
+    #[error("OpenTwice")]
+    OpenTwice,
+    /// Ways meet on which different work areas are selected.
+    #[error("Merge")]
+    Merge,
+    /// A filter reads what it may not, or a move meets a filter whose variables aren't known to be set.
+    #[error("Filter")]
+    Filter,
+    /// A procedure is called that is being run.
+    #[error("Recursion")]
+    Recursion,
+    /// There are more copies of procedures than a code may have.
+    #[error("Copies")]
+    Copies,
+    /// The code would have more of something than it may.
+    #[error("Limit")]
+    Limit,
+    /// Arguments and parameters don't agree in number, or PARAMETERS stands where it may not.
+    #[error("Parameters")]
+    Parameters,
+    /// A command stands between a GET and its READ, or there is no READ.
+    #[error("Get")]
+    Get,
+    /// A key or a table isn't that of the declared index.
+    #[error("Index")]
+    Index,
+}
+
+/// A fault, and where it stands.
+#[derive(Clone, Copy, Debug, PartialEq, Eq)]
+pub struct CompileFault {
+    /// The number of the command file, counted from 0.
+    pub file: usize,
+    /// The line in that file, from 1; 0 where the code as a whole is too large.
+    pub line: usize,
+    /// What is wrong there.
+    pub kind: FaultKind,
+}
+
+/// Why a command isn't compiled.
+#[derive(Clone, Copy, Debug, PartialEq, Eq)]
+pub enum CompileError {
+    /// It is faulty.
+    Fault(FaultKind),
+    /// Memory ran out.
+    NoMemory,
+}
+
+/// Why there is no code.
+#[derive(Clone, Copy, Debug, PartialEq, Eq)]
+pub enum CompileRefusal {
+    /// A command is faulty.
+    Fault(CompileFault),
+    /// Memory ran out.
+    NoMemory,
+}
+
+impl CompileError {
+    /// The same of a command in this line of this file.
+    pub fn at(self, file: usize, line: usize) -> CompileRefusal {
+        match self {
+            CompileError::Fault(kind) => CompileRefusal::Fault(CompileFault { file, line, kind }),
+            CompileError::NoMemory => CompileRefusal::NoMemory,
+        }
+    }
+}
+
+impl From<FaultKind> for CompileError {
+    ghost from_gives = { λ k e. e ≡ error.Fault k };
+
+    fn from(kind: FaultKind) -> CompileError {
+        CompileError::Fault(kind)
+    }
+}
+
+impl From<AllocError> for CompileError {
+    ghost from_gives = { λ _ e. e ≡ error.NoMemory };
+
+    fn from(_error: AllocError) -> CompileError {
+        CompileError::NoMemory
+    }
+}
+
+impl<T: Drop> From<AllocFailed<T>> for CompileError {
+    ghost from_gives = { λ _ e. e ≡ error.NoMemory };
+
+    fn from(_error: AllocFailed<T>) -> CompileError {
+        CompileError::NoMemory
+    }
+}
+
+impl From<AllocError> for CompileRefusal {
+    ghost from_gives = { λ _ e. e ≡ refusal.NoMemory };
+
+    fn from(_error: AllocError) -> CompileRefusal {
+        CompileRefusal::NoMemory
+    }
+}
+
+impl<T: Drop> From<AllocFailed<T>> for CompileRefusal {
+    ghost from_gives = { λ _ e. e ≡ refusal.NoMemory };
+
+    fn from(_error: AllocFailed<T>) -> CompileRefusal {
+        CompileRefusal::NoMemory
+    }
+}

@@ -1,0 +1,23 @@
+//! Code that is being written: its constants, lists and filters, names and their slots, blocks with jumps whose places aren't
+//! known yet, and what is known where ways through a block meet.
+#![tactic(auto)]
+
+mod block;
+mod fault;
+mod filters;
+mod laws;
+mod lists;
+mod merging;
+mod names;
+mod pool;
+mod settled;
+
+pub use block::{Block, Draft, Label};
+pub use fault::{CompileError, CompileFault, CompileRefusal, FaultKind};
+pub use filters::{FilterBlock, Filters};
+pub use laws::ways_merge;
+pub use lists::Lists;
+pub use merging::{is_selection_same, is_state_same, merged};
+pub use names::{Binding, Names, copy_of_name};
+pub use pool::{MOST_CONSTANTS, Pool};
+pub use settled::{LaidOut, lay};

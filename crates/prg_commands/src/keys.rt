@@ -1,0 +1,90 @@
+//! Keys as declared, and INDEX.
+
+use crate::areas::{index_named, is_of_table, opened};
+use crate::moves::meets_filter;
+use crate::work::{Output, Work};
+use arrayvec::ArrayVec;
+use code_items::{IndexList, Instr, KeyPart, Name, RecordInstr, Shape};
+use dbf_file::Field;
+use prg_code::{CompileError, FaultKind};
+use prg_expr::{Expr, Function, Operator};
+
+fn is_field(fields: &[Field], number: u8, name: &[u8]) -> bool {
+    match fields.get(usize::from(number)) {
+        Some(field) => field.name.as_slice() == name,
+        None => false,
+    }
+}
+
+fn is_name(fields: &[Field], number: u8, e: &Expr) -> bool {
+    match e {
+        Expr::Name(name) => is_field(fields, number, name.as_slice()),
+        _ => false,
+    }
+}
+
+fn is_only_name(fields: &[Field], number: u8, arguments: &[Expr]) -> bool {
+    match arguments {
+        [e] => is_name(fields, number, e),
+        _ => false,
+    }
+}
+
+/// Whether the expression is the part of a key: its field, in UPPER() where capitals are taken.
+fn is_part(fields: &[Field], part: KeyPart, e: &Expr) -> bool {
+    match e {
+        Expr::Call(Function::Upper, arguments) => {
+            part.upper && is_only_name(fields, part.field, arguments)
+        }
+        _ => !part.upper && is_name(fields, part.field, e),
+    }
+}
+
+/// Whether the expression is the key of these parts, joined by plus signs.
+fn is_key(e: &Expr, fields: &[Field], parts: &[KeyPart]) -> bool {
+    match e {
+        Expr::Binary(Operator::Plus, left, right) => match parts.split_last() {
+            Some((last, others)) => is_part(fields, *last, right) && is_key(left, fields, others),
+            None => false,
+        },
+        _ => match parts {
+            [part] => is_part(fields, *part, e),
+            _ => false,
+        },
+    }
+}
+
+/// Whether the expression is the declared key of the index of this number.
+fn is_key_of(shape: &Shape, number: u8, e: &Expr) -> bool {
+    let Some(index) = shape.indexes.as_slice().get(usize::from(number)) else {
+        return false;
+    };
+    match shape.tables.as_slice().get(usize::from(index.table)) {
+        Some(table) => is_key(e, table.fields.as_slice(), index.key.parts()),
+        None => false,
+    }
+}
+
+/// `INDEX ON key TO index`.
+pub fn index_on(
+    shape: &Shape,
+    out: &mut Output,
+    work: &mut Work,
+    key: &Expr,
+    name: &Name,
+) -> Result<(), CompileError> {
+    let Some(number) = index_named(shape.indexes.as_slice(), name.as_slice()) else {
+        return Err(CompileError::Fault(FaultKind::Name));
+    };
+    let area = opened(work)?;
+    if !is_of_table(shape.indexes.as_slice(), number, area.table)
+        || !is_key_of(shape, number, key)
+    {
+        return Err(CompileError::Fault(FaultKind::Index));
+    }
+    meets_filter(out, work, area)?;
+    let mut indexes = ArrayVec::new();
+    let _ = indexes.try_push(number);
+    let list = out.lists.number(IndexList { indexes })?;
+    work.block.put(Instr::Records(RecordInstr::Index(list)))
+}

@@ -1,0 +1,17 @@
+//! Commands of one line: their code, but for LOOP and EXIT, the calls of procedures and the ends of ways.
+#![tactic(auto)]
+
+mod areas;
+mod keys;
+mod moves;
+mod screen;
+mod statement;
+mod values;
+mod variables;
+mod work;
+
+pub use moves::{put_skip_on, put_top};
+pub use statement::{may_stand_before_read, put_statement};
+pub use values::{condition, scope_of, value};
+pub use variables::{argument_slot, bound_slot, new_slot};
+pub use work::{Get, Output, Work};

@@ -1,0 +1,131 @@
+//! Moves, and commands on records.
+
+use crate::areas::opened;
+use crate::values::{demand, put_one, value, value_of_kind};
+use crate::work::{Output, Work};
+use code_items::{Instr, MoveInstr, OpenArea, RecordInstr, Shape};
+use prg_code::{CompileError, FaultKind};
+use prg_expr::Expr;
+use prg_line::{Move, Replacement};
+use prg_values::field_of;
+use xvalue::Kind;
+
+/// Filter where the area's filter needs a variable that isn't known to have its value.
+pub fn meets_filter(out: &Output, work: &Work, area: OpenArea) -> Result<(), CompileError> {
+    if out
+        .filters
+        .lacks(area.filter, work.block.state.slots.kinds())
+    {
+        return Err(CompileError::Fault(FaultKind::Filter));
+    }
+    Ok(())
+}
+
+/// Puts a move of the selected work area, whose operands are on the stack.
+fn put_move(out: &Output, work: &mut Work, instr: MoveInstr) -> Result<(), CompileError> {
+    let area = opened(work)?;
+    meets_filter(out, work, area)?;
+    work.block.put(Instr::Moves(instr))
+}
+
+/// Puts a move to the first visible row.
+pub fn put_top(out: &Output, work: &mut Work) -> Result<(), CompileError> {
+    put_move(out, work, MoveInstr::Top)
+}
+
+/// Puts a move to the next visible row.
+pub fn put_skip_on(out: &mut Output, work: &mut Work) -> Result<(), CompileError> {
+    put_one(out, work)?;
+    put_move(out, work, MoveInstr::Skip)
+}
+
+/// `GO`.
+pub fn go(shape: &Shape, out: &mut Output, work: &mut Work, to: &Move) -> Result<(), CompileError> {
+    match to {
+        Move::Top => put_move(out, work, MoveInstr::Top),
+        Move::Bottom => put_move(out, work, MoveInstr::Bottom),
+        Move::Record(e) => {
+            value_of_kind(shape, out, work, e, Kind::Number)?;
+            put_move(out, work, MoveInstr::Go)
+        }
+    }
+}
+
+/// `SKIP [rows]`.
+pub fn skip(
+    shape: &Shape,
+    out: &mut Output,
+    work: &mut Work,
+    rows: &Option<Expr>,
+) -> Result<(), CompileError> {
+    match rows {
+        Some(e) => {
+            value_of_kind(shape, out, work, e, Kind::Number)?;
+            put_move(out, work, MoveInstr::Skip)
+        }
+        None => put_skip_on(out, work),
+    }
+}
+
+/// `SEEK key`.
+pub fn seek(
+    shape: &Shape,
+    out: &mut Output,
+    work: &mut Work,
+    key: &Expr,
+) -> Result<(), CompileError> {
+    value_of_kind(shape, out, work, key, Kind::Text)?;
+    if opened(work)?.order == 0 {
+        return Err(CompileError::Fault(FaultKind::NoOrder));
+    }
+    put_move(out, work, MoveInstr::Seek)
+}
+
+/// Puts a command on the records of the selected work area that ends with no move.
+pub fn put_record(work: &mut Work, instr: RecordInstr) -> Result<(), CompileError> {
+    opened(work)?;
+    work.block.put(Instr::Records(instr))
+}
+
+/// Puts a command on all records of the selected work area, which ends with a move.
+pub fn put_all_records(
+    out: &Output,
+    work: &mut Work,
+    instr: RecordInstr,
+) -> Result<(), CompileError> {
+    let area = opened(work)?;
+    meets_filter(out, work, area)?;
+    work.block.put(Instr::Records(instr))
+}
+
+/// One `field WITH value`.
+fn replace_one(
+    shape: &Shape,
+    out: &mut Output,
+    work: &mut Work,
+    replacement: &Replacement,
+) -> Result<(), CompileError> {
+    let kind = value(shape, out, work, &replacement.value)?;
+    let area = opened(work)?;
+    match field_of(shape, area, replacement.field.as_slice()) {
+        Some(field) => {
+            demand(kind, field.kind)?;
+            work.block
+                .put(Instr::Records(RecordInstr::Replace(field.number)))
+        }
+        None => Err(CompileError::Fault(FaultKind::Name)),
+    }
+}
+
+/// `REPLACE field WITH value, ..`.
+pub fn replace(
+    shape: &Shape,
+    out: &mut Output,
+    work: &mut Work,
+    replacements: &[Replacement],
+) -> Result<(), CompileError> {
+    for replacement in replacements {
+        replace_one(shape, out, work, replacement)?;
+    }
+    Ok(())
+}

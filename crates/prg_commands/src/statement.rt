@@ -1,0 +1,150 @@
+//! Commands of one line.
+
+use crate::areas::{open_table, put_area, select, set_filter, set_order};
+use crate::keys::index_on;
+use crate::moves::{go, put_all_records, put_record, replace, seek, skip};
+use crate::screen::{accept, get, get_on, read, say, show, show_line, wait};
+use crate::values::put_screen;
+use crate::variables::{assign, hide, release, store};
+use crate::work::{Output, Work};
+use code_items::{AreaInstr, Instr, RecordInstr, ScreenInstr, Shape, ValueInstr};
+use prg_code::{CompileError, FaultKind};
+use prg_line::{Setting, Statement};
+
+/// Whether the command may stand between a GET and its READ, or is that READ.
+pub fn may_stand_before_read(statement: &Statement) -> bool {
+    matches!(
+        statement,
+        Statement::Show { .. }
+            | Statement::ShowOn { .. }
+            | Statement::Say { .. }
+            | Statement::Get { .. }
+            | Statement::SayGet { .. }
+            | Statement::Read
+    )
+}
+
+/// The setting as an instruction names it.
+fn setting_of(setting: Setting) -> xvalue::Setting {
+    match setting {
+        Setting::Exact => xvalue::Setting::Exact,
+        Setting::Deleted => xvalue::Setting::Deleted,
+        Setting::Century => xvalue::Setting::Century,
+    }
+}
+
+fn set(out: &mut Output, work: &mut Work, setting: Setting, on: bool) -> Result<(), CompileError> {
+    if matches!(setting, Setting::Century) {
+        out.century = true;
+    }
+    work.block
+        .put(Instr::Values(ValueInstr::Set(setting_of(setting), on)))
+}
+
+fn put_on_screen(
+    shape: &Shape,
+    out: &mut Output,
+    work: &mut Work,
+    line: usize,
+    statement: &Statement,
+) -> Result<(), CompileError> {
+    match statement {
+        Statement::Show { values } => show_line(shape, out, work, values),
+        Statement::ShowOn { values } => show(shape, out, work, values),
+        Statement::Say { row, column, value } => say(shape, out, work, row, column, value),
+        Statement::Get {
+            row,
+            column,
+            variable,
+        } => get(shape, out, work, line, row, column, variable),
+        Statement::SayGet {
+            row,
+            column,
+            value,
+            variable,
+        } => {
+            say(shape, out, work, row, column, value)?;
+            get_on(shape, work, line, variable)
+        }
+        Statement::Read => read(shape, work),
+        Statement::Accept { prompt, variable } => accept(shape, out, work, prompt, variable),
+        Statement::Wait { prompt, variable } => wait(shape, out, work, prompt, variable),
+        Statement::Clear => put_screen(work, ScreenInstr::Clear),
+        _ => Ok(()),
+    }
+}
+
+fn put_on_values(
+    shape: &Shape,
+    out: &mut Output,
+    work: &mut Work,
+    statement: &Statement,
+) -> Result<(), CompileError> {
+    match statement {
+        Statement::Assign { variable, value } => assign(shape, out, work, variable, value),
+        Statement::Store { value, variables } => store(shape, out, work, value, variables),
+        Statement::Release { variables } => release(work, variables),
+        Statement::Private { variables } => hide(work, variables),
+        Statement::Set { setting, on } => set(out, work, *setting, *on),
+        Statement::Parameters { .. } => Err(CompileError::Fault(FaultKind::Parameters)),
+        _ => Ok(()),
+    }
+}
+
+fn put_on_areas(
+    shape: &Shape,
+    out: &mut Output,
+    work: &mut Work,
+    statement: &Statement,
+) -> Result<(), CompileError> {
+    match statement {
+        Statement::Close => put_area(work, AreaInstr::Close),
+        Statement::Use { table, indexes } => open_table(shape, out, work, table, indexes),
+        Statement::Select { area } => select(shape, work, area),
+        Statement::CloseAll => put_area(work, AreaInstr::CloseAll),
+        Statement::SetOrder { order } => set_order(out, work, *order),
+        Statement::SetFilter { condition } => set_filter(shape, out, work, condition),
+        Statement::Go { to } => go(shape, out, work, to),
+        Statement::Skip { rows } => skip(shape, out, work, rows),
+        Statement::Seek { key } => seek(shape, out, work, key),
+        _ => Ok(()),
+    }
+}
+
+fn put_on_records(
+    shape: &Shape,
+    out: &mut Output,
+    work: &mut Work,
+    statement: &Statement,
+) -> Result<(), CompileError> {
+    match statement {
+        Statement::AppendBlank => put_record(work, RecordInstr::Append),
+        Statement::Replace { replacements } => replace(shape, out, work, replacements),
+        Statement::Delete => put_record(work, RecordInstr::Delete),
+        Statement::Recall => put_record(work, RecordInstr::Recall),
+        Statement::Pack => put_all_records(out, work, RecordInstr::Pack),
+        Statement::Zap => put_all_records(out, work, RecordInstr::Zap),
+        Statement::Reindex => put_all_records(out, work, RecordInstr::Reindex),
+        Statement::IndexOn { key, index } => index_on(shape, out, work, key, index),
+        _ => Ok(()),
+    }
+}
+
+/// Puts the code of a command of one line. LOOP, EXIT, DO, RETURN, QUIT and CANCEL have none here.
+///
+/// # Errors
+///
+/// The command's first fault: of its expressions in the order of their code, then of names, and then ClosedArea, NoOrder,
+/// OpenTwice, Index, Filter and Limit. Want of memory.
+pub fn put_statement(
+    shape: &Shape,
+    out: &mut Output,
+    work: &mut Work,
+    line: usize,
+    statement: &Statement,
+) -> Result<(), CompileError> {
+    put_on_screen(shape, out, work, line, statement)?;
+    put_on_values(shape, out, work, statement)?;
+    put_on_areas(shape, out, work, statement)?;
+    put_on_records(shape, out, work, statement)
+}

@@ -1,0 +1,256 @@
+//! Calls of procedures, but for writing a copy.
+
+use code_items::{FlowInstr, Instr, Name, State, ValueInstr};
+use prg_code::{Block, CompileError, FaultKind, Names, is_state_same};
+use prg_commands::{Work, argument_slot, new_slot, value};
+use prg_parser::{Command, Expr, Procedure, Program};
+use prg_writer::{ProcedureCopy, Source, Target, Writer, parameters};
+
+/// The most procedures of a code, copies counted.
+const MOST_COPIES: usize = 256;
+
+/// The most calls within one another.
+const MOST_CALLS: usize = 20;
+
+fn procedure_named(procedures: &[Procedure], name: &[u8]) -> Option<usize> {
+    for (number, procedure) in procedures.iter().enumerate() {
+        if procedure.name.as_slice() == name {
+            return Some(number);
+        }
+    }
+    None
+}
+
+fn procedure_in(programs: &[Program], name: &[u8]) -> Option<Target> {
+    for (file, program) in programs.iter().enumerate() {
+        let procedure = procedure_named(&program.procedures, name);
+        if procedure.is_some() {
+            return Some(Target { file, procedure });
+        }
+    }
+    None
+}
+
+fn file_named(programs: &[Program], name: &[u8]) -> Option<Target> {
+    for (file, program) in programs.iter().enumerate() {
+        if program.name.as_slice() == name {
+            return Some(Target {
+                file,
+                procedure: None,
+            });
+        }
+    }
+    None
+}
+
+/// What `DO name` runs: the first PROCEDURE of that name in the files, in their order, else the first file of that name.
+fn target_named(programs: &[Program], name: &[u8]) -> Result<Target, FaultKind> {
+    if let Some(target) = procedure_in(programs, name) {
+        return Ok(target);
+    }
+    match file_named(programs, name) {
+        Some(target) => Ok(target),
+        None => Err(FaultKind::Name),
+    }
+}
+
+fn is_active(active: &[Target], target: Target) -> bool {
+    active.iter().any(|other| *other == target)
+}
+
+/// What `DO name` runs with so many arguments: Name where nothing has the name, Recursion where it is being run, Parameters
+/// where it takes another number.
+pub fn target_of(
+    s: &Source,
+    w: &Writer,
+    name: &[u8],
+    arguments: usize,
+) -> Result<Target, CompileError> {
+    let target = target_named(s.programs, name)?;
+    if is_active(&w.active, target) {
+        return Err(CompileError::Fault(FaultKind::Recursion));
+    }
+    let (names, _) = parameters(s.commands(target));
+    if names.len() != arguments {
+        return Err(CompileError::Fault(FaultKind::Parameters));
+    }
+    Ok(target)
+}
+
+/// Arguments that are handed over: their slots in order, and those that are new.
+#[derive(Drop)]
+pub struct Handed {
+    pub slots: Vec<u8>,
+    pub own: Vec<u8>,
+}
+
+/// Hands an argument over, and gives its slot.
+fn hand_over(
+    s: &Source,
+    w: &mut Writer,
+    handed: &mut Handed,
+    e: &Expr,
+) -> Result<(), CompileError> {
+    if let Some(slot) = argument_slot(s.shape, &w.work, e)? {
+        handed.slots.push(slot)?;
+        return Ok(());
+    }
+    let kind = value(s.shape, &mut w.out, &mut w.work, e)?;
+    let slot = new_slot(&mut w.out)?;
+    w.work
+        .block
+        .put(Instr::Values(ValueInstr::Store(kind, u16::from(slot))))?;
+    handed.slots.push(slot)?;
+    handed.own.push(slot)?;
+    Ok(())
+}
+
+/// Hands the arguments over.
+pub fn hand_all_over(s: &Source, w: &mut Writer, es: &[Expr]) -> Result<Handed, CompileError> {
+    let mut handed = Handed {
+        slots: Vec::new(w.alloc),
+        own: Vec::new(w.alloc),
+    };
+    for e in es {
+        hand_over(s, w, &mut handed, e)?;
+    }
+    Ok(handed)
+}
+
+/// The variables that the called procedure sees: the caller's, and its parameters, which hide those of their names.
+pub fn names_in(w: &Writer, parameters: &[Name], slots: &[u8]) -> Result<Names, CompileError> {
+    let mut names = w.work.names.handed_on(w.alloc)?;
+    for (name, slot) in parameters.iter().zip(slots.iter()) {
+        names = names.without(w.alloc, name.as_slice())?;
+        names.add(name, *slot, true)?;
+    }
+    Ok(names)
+}
+
+fn is_copy(copy: &ProcedureCopy, target: Target, names: &Names, state: &State) -> bool {
+    copy.done
+        && copy.target == target
+        && is_state_same(&copy.entry, state)
+        && copy.names.is_same(names)
+}
+
+/// The copy of the procedure for these names and what is known here, if it is written.
+pub fn copy_for(w: &Writer, target: Target, names: &Names) -> Option<usize> {
+    for (number, copy) in w.copies.iter().enumerate() {
+        if is_copy(copy, target, names, &w.work.block.state) {
+            return Some(number);
+        }
+    }
+    None
+}
+
+/// Begins a copy with these names and what is known here: Copies where there are too many, Limit where there are too many
+/// calls within one another. Gives its number and the copy that was being written.
+pub fn begin_copy(
+    w: &mut Writer,
+    target: Target,
+    names: Names,
+    own: Vec<u8>,
+) -> Result<(usize, Work), CompileError> {
+    let number = w.copies.len();
+    if number >= MOST_COPIES {
+        return Err(CompileError::Fault(FaultKind::Copies));
+    }
+    if w.active.len() > MOST_CALLS {
+        return Err(CompileError::Fault(FaultKind::Limit));
+    }
+    let entry = w.work.block.state.copied(w.alloc)?;
+    let begun = w.work.block.state.copied(w.alloc)?;
+    let seen = names.copied(w.alloc)?;
+    w.copies.push(ProcedureCopy {
+        target,
+        names,
+        entry,
+        exit: None,
+        level: 0,
+        own: Vec::new(w.alloc),
+        block: Block::entered(w.alloc, begun.copied(w.alloc)?),
+        done: false,
+    })?;
+    let block = Block::entered(w.alloc, begun);
+    let mut work = Work::new(w.alloc, target.file, false, block, seen);
+    work.own = own;
+    w.active.push(target)?;
+    Ok((number, w.begin(work)))
+}
+
+/// What is known behind the procedure's RETURNs: its own slots have no value there.
+fn left(exit: Option<State>, own: &[u8]) -> Option<State> {
+    let mut exit = exit;
+    if let Some(state) = &mut exit {
+        for slot in own {
+            state.slots.set(usize::from(*slot), None);
+        }
+    }
+    exit
+}
+
+fn set_copy(copies: &mut Vec<ProcedureCopy>, number: usize, work: Work) {
+    let Work {
+        block,
+        own,
+        level,
+        exit,
+        ..
+    } = work;
+    let exit = left(exit, &own);
+    if let Some(copy) = copies.get_mut(number) {
+        copy.block = block;
+        copy.own = own;
+        copy.level = level;
+        copy.exit = exit;
+        copy.done = true;
+    }
+}
+
+/// Ends the copy of this number, and goes on with the one that was being written before.
+pub fn end_copy(w: &mut Writer, number: usize, before: Work) {
+    let work = w.begin(before);
+    let _ = w.active.pop();
+    set_copy(&mut w.copies, number, work);
+}
+
+/// What is known behind a call of the copy of this number: what it returns with; as before where it never returns.
+fn known_behind(w: &Writer, number: usize) -> Result<Option<State>, CompileError> {
+    match w.copies.get(number) {
+        Some(copy) => Ok(prg_writer::copy_of_state(w.alloc, &copy.exit)?),
+        None => Ok(None),
+    }
+}
+
+fn level_of(w: &Writer, number: usize) -> u8 {
+    match w.copies.get(number) {
+        Some(copy) => copy.level,
+        None => 0,
+    }
+}
+
+/// Puts the CALL. Limit where the calls within it are too many together with those around it.
+pub fn put_call(w: &mut Writer, number: usize) -> Result<(), CompileError> {
+    let level = level_of(w, number);
+    if w.active.len().saturating_add(usize::from(level)) > MOST_CALLS {
+        return Err(CompileError::Fault(FaultKind::Limit));
+    }
+    let Ok(procedure) = u16::try_from(number) else {
+        return Err(CompileError::Fault(FaultKind::Copies));
+    };
+    w.work.block.put(Instr::Flow(FlowInstr::Call(procedure)))?;
+    w.work.level = w.work.level.max(level.saturating_add(1));
+    if let Some(state) = known_behind(w, number)? {
+        w.work.block.state = state;
+    }
+    Ok(())
+}
+
+/// The line of the last command, or this line where there is none.
+pub fn last_line(commands: &[Command], line: usize) -> usize {
+    match commands.last() {
+        Some(command) => command.line,
+        None => line,
+    }
+}

@@ -1,0 +1,112 @@
+//! Where ways end: RETURN, QUIT and CANCEL, LOOP and EXIT, and the end of a procedure; and the commands of one line.
+
+use code_items::State;
+use prg_code::{CompileError, CompileRefusal, FaultKind, is_selection_same, merged};
+use prg_commands::{Work, may_stand_before_read, put_statement};
+use prg_line::Statement;
+use prg_writer::Writer;
+use shape::Shape;
+
+/// Where LOOP and EXIT of the innermost loop lead: the numbers of labels.
+#[derive(Clone, Copy, Debug, PartialEq, Eq)]
+pub struct Leaps {
+    pub again: usize,
+    pub out: usize,
+}
+
+/// What is known where the procedure returns, when it does so here too. Merge where another area is selected.
+fn exit_with(work: &Work) -> Result<State, CompileError> {
+    match &work.exit {
+        Some(exit) => {
+            if !is_selection_same(exit, &work.block.state) {
+                return Err(CompileError::Fault(FaultKind::Merge));
+            }
+            Ok(merged(work.alloc, exit, &work.block.state)?)
+        }
+        None => Ok(work.block.state.copied(work.alloc)?),
+    }
+}
+
+/// `RETURN`: in the main procedure an END.
+pub fn put_return(work: &mut Work) -> Result<(), CompileError> {
+    if work.is_main {
+        return work.block.put_end();
+    }
+    let exit = exit_with(work)?;
+    work.exit = Some(exit);
+    work.block.put_return()
+}
+
+fn leap(work: &mut Work, label: Option<usize>) -> Result<(), CompileError> {
+    match label {
+        Some(label) => work.block.jump(label),
+        None => Err(CompileError::Fault(FaultKind::Limit)),
+    }
+}
+
+fn again_of(leaps: Option<Leaps>) -> Option<usize> {
+    match leaps {
+        Some(leaps) => Some(leaps.again),
+        None => None,
+    }
+}
+
+fn out_of(leaps: Option<Leaps>) -> Option<usize> {
+    match leaps {
+        Some(leaps) => Some(leaps.out),
+        None => None,
+    }
+}
+
+fn put(
+    shape: &Shape,
+    w: &mut Writer,
+    leaps: Option<Leaps>,
+    line: usize,
+    statement: &Statement,
+) -> Result<(), CompileError> {
+    match statement {
+        Statement::Loop => leap(&mut w.work, again_of(leaps)),
+        Statement::Exit => leap(&mut w.work, out_of(leaps)),
+        Statement::Return => put_return(&mut w.work),
+        Statement::Quit | Statement::Cancel => w.work.block.put_end(),
+        _ => put_statement(shape, &mut w.out, &mut w.work, line, statement),
+    }
+}
+
+/// Puts the code of a command of one line that calls no procedure. Get where a READ is awaited and it may not stand.
+pub fn plain(
+    shape: &Shape,
+    w: &mut Writer,
+    leaps: Option<Leaps>,
+    line: usize,
+    statement: &Statement,
+) -> Result<(), CompileRefusal> {
+    if !may_stand_before_read(statement) {
+        no_get_waits(w, line)?;
+    }
+    let result = put(shape, w, leaps, line, statement);
+    w.told(line, result)
+}
+
+/// Get at this line where a READ is awaited.
+pub fn no_get_waits(w: &Writer, line: usize) -> Result<(), CompileRefusal> {
+    if w.work.gets.is_empty() {
+        Ok(())
+    } else {
+        Err(w.faulty(line, FaultKind::Get))
+    }
+}
+
+/// Ends a procedure whose last command stands in this line. Get where a READ is awaited, at the line of the last GET.
+pub fn end_procedure(w: &mut Writer, line: usize) -> Result<(), CompileRefusal> {
+    if let Some(get) = w.work.gets.last() {
+        let line = get.line;
+        return Err(w.faulty(line, FaultKind::Get));
+    }
+    if !w.work.block.reached {
+        return Ok(());
+    }
+    let result = put_return(&mut w.work);
+    w.told(line, result)
+}

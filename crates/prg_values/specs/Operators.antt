@@ -1,0 +1,104 @@
+-- What operators do, by the kinds of their operands.
+use Rattle.std.specs.Prelude.{true, false, ◌&&◌, if◌then◌else◌, Option, Some, None}
+use Rattle.xvalue.specs.declared.kind.Kind.{Kind}
+use Rattle.xvalue.specs.declared.kind.Kind.TheVariants.{Number, Text, Date, Logical}
+use Rattle.xvalue.specs.declared.fun.Fun.{Fun}
+use Rattle.xvalue.specs.declared.fun.Fun.TheVariants as fun
+use Rattle.xvalue.specs.Kinds.{same_kind}
+use Rattle.prg_expr.specs.declared.tree.Operator.{Operator}
+use Rattle.prg_expr.specs.declared.tree.Operator.TheVariants.{Or, And, Equal, NotEqual, Less, Greater, AtMost, AtLeast, Contains, Plus, Minus, Times, Over}
+use Rattle.prg_expr.specs.declared.tree.Prefix.{Prefix}
+use Rattle.prg_expr.specs.declared.tree.Prefix.TheVariants.{Not, Negative, Positive}
+use Rattle.prg_values.specs.declared.operators.Operation.{Operation}
+
+-- the function itself, the function denied, and the function of the operands in the other order
+abbrev pub plain : Fun → Operation
+plain f = record { fun = f; negated = false; swapped = false }
+
+abbrev pub denied : Fun → Operation
+denied f = record { fun = f; negated = true; swapped = false }
+
+abbrev pub turned : Fun → Operation
+turned f = record { fun = f; negated = false; swapped = true }
+
+-- two values of one kind are equal, the first is less, the first is greater; logical values aren't compared
+abbrev pub equality : Kind → Option Fun
+equality Number = Some fun.NumberEq
+equality Text = Some fun.TextEq
+equality Date = Some fun.DateEq
+equality Logical = None
+
+abbrev pub less : Kind → Option Fun
+less Number = Some fun.NumberLess
+less Text = Some fun.TextLess
+less Date = Some fun.DateLess
+less Logical = None
+
+abbrev pub greater : Kind → Option Fun
+greater Number = Some fun.NumberGreater
+greater Text = Some fun.TextGreater
+greater Date = Some fun.DateGreater
+greater Logical = None
+
+abbrev pub if_some : (Fun → Operation) → Option Fun → Option Operation
+if_some form None = None
+if_some form (Some f) = Some (form f)
+
+-- `<=` denies greater, `>=` denies less, `<>` denies equality
+abbrev pub comparison : Operator → Kind → Option Operation
+comparison Equal kind = if_some plain (equality kind)
+comparison NotEqual kind = if_some denied (equality kind)
+comparison Less kind = if_some plain (less kind)
+comparison Greater kind = if_some plain (greater kind)
+comparison AtMost kind = if_some denied (greater kind)
+comparison AtLeast kind = if_some denied (less kind)
+comparison _ kind = None
+
+abbrev pub compared : Operator → Kind → Kind → Option Operation
+compared operator left right = if same_kind left right then comparison operator left else None
+
+-- numbers, texts, and days with numbers in either order
+abbrev pub added : Kind → Kind → Option Operation
+added Number Number = Some (plain fun.Add)
+added Text Text = Some (plain fun.Join)
+added Date Number = Some (plain fun.DateAdd)
+added Number Date = Some (turned fun.DateAdd)
+added _ _ = None
+
+abbrev pub subtracted : Kind → Kind → Option Operation
+subtracted Number Number = Some (plain fun.Sub)
+subtracted Text Text = Some (plain fun.JoinMoved)
+subtracted Date Number = Some (plain fun.DateSub)
+subtracted Date Date = Some (plain fun.DateDiff)
+subtracted _ _ = None
+
+-- the function of two operands of this kind
+abbrev pub of_both : Fun → Kind → Kind → Kind → Option Operation
+of_both f kind left right = if same_kind left kind && same_kind right kind then Some (plain f) else None
+
+abbrev pub operated : Operator → Kind → Kind → Option Operation
+operated Or left right = of_both fun.Or Logical left right
+operated And left right = of_both fun.And Logical left right
+operated Contains left right = of_both fun.In Text left right
+operated Times left right = of_both fun.Mul Number left right
+operated Over left right = of_both fun.Div Number left right
+operated Plus left right = added left right
+operated Minus left right = subtracted left right
+operated Equal left right = compared Equal left right
+operated NotEqual left right = compared NotEqual left right
+operated Less left right = compared Less left right
+operated Greater left right = compared Greater left right
+operated AtMost left right = compared AtMost left right
+operated AtLeast left right = compared AtLeast left right
+
+-- `.NOT.` takes a logical value, signs take a number
+abbrev pub prefix_kind : Prefix → Kind
+prefix_kind Not = Logical
+prefix_kind Negative = Number
+prefix_kind Positive = Number
+
+-- a plus sign does nothing
+abbrev pub prefix_fun : Prefix → Option Fun
+prefix_fun Not = Some fun.Not
+prefix_fun Negative = Some fun.Neg
+prefix_fun Positive = None

@@ -1,0 +1,16 @@
+//! What names mean, the kinds of expressions, and their code.
+#![tactic(auto)]
+
+mod calls;
+mod compiling;
+mod kinds;
+mod operators;
+mod scope;
+
+pub use compiling::{Compiled, compile_expr, with_kind};
+pub use kinds::kind_of;
+pub use operators::{Operation, operated};
+pub use scope::{
+    FieldPlace, Reading, Scope, area_of_alias, field_of, read_name, read_qualified, selected_field,
+    table_named, variable_slot,
+};

@@ -1,0 +1,187 @@
+//! Operators by the kinds of their operands.
+
+ghost use Rattle.std.specs.Prelude.{◌≡◌};
+ghost use Rattle.prg_values.specs.Operators as spec;
+
+use prg_expr::{Operator, Prefix};
+use xvalue::{Fun, Kind};
+
+/// What an operator does: the function, whether its truth value is turned, and whether the right operand comes first.
+#[derive(Clone, Copy, Debug, PartialEq, Eq)]
+pub struct Operation {
+    pub fun: Fun,
+    pub negated: bool,
+    pub swapped: bool,
+}
+
+fn plain(fun: Fun) -> Operation
+    ensures { result ≡ spec.plain fun }
+{
+    Operation {
+        fun,
+        negated: false,
+        swapped: false,
+    }
+}
+
+fn negated(fun: Fun) -> Operation
+    ensures { result ≡ spec.denied fun }
+{
+    Operation {
+        fun,
+        negated: true,
+        swapped: false,
+    }
+}
+
+fn equality(kind: Kind) -> Option<Fun>
+    ensures { result ≡ spec.equality kind }
+{
+    match kind {
+        Kind::Number => Some(Fun::NumberEq),
+        Kind::Text => Some(Fun::TextEq),
+        Kind::Date => Some(Fun::DateEq),
+        Kind::Logical => None,
+    }
+}
+
+fn less(kind: Kind) -> Option<Fun>
+    ensures { result ≡ spec.less kind }
+{
+    match kind {
+        Kind::Number => Some(Fun::NumberLess),
+        Kind::Text => Some(Fun::TextLess),
+        Kind::Date => Some(Fun::DateLess),
+        Kind::Logical => None,
+    }
+}
+
+fn greater(kind: Kind) -> Option<Fun>
+    ensures { result ≡ spec.greater kind }
+{
+    match kind {
+        Kind::Number => Some(Fun::NumberGreater),
+        Kind::Text => Some(Fun::TextGreater),
+        Kind::Date => Some(Fun::DateGreater),
+        Kind::Logical => None,
+    }
+}
+
+fn plain_if(fun: Option<Fun>) -> Option<Operation>
+    ensures { result ≡ spec.if_some spec.plain fun }
+{
+    match fun {
+        Some(fun) => Some(plain(fun)),
+        None => None,
+    }
+}
+
+fn negated_if(fun: Option<Fun>) -> Option<Operation>
+    ensures { result ≡ spec.if_some spec.denied fun }
+{
+    match fun {
+        Some(fun) => Some(negated(fun)),
+        None => None,
+    }
+}
+
+/// What a comparison does between values of this kind; none of another operator.
+fn comparison(operator: Operator, kind: Kind) -> Option<Operation>
+    ensures { result ≡ spec.comparison operator kind }
+{
+    match operator {
+        Operator::Equal => plain_if(equality(kind)),
+        Operator::NotEqual => negated_if(equality(kind)),
+        Operator::Less => plain_if(less(kind)),
+        Operator::Greater => plain_if(greater(kind)),
+        Operator::AtMost => negated_if(greater(kind)),
+        Operator::AtLeast => negated_if(less(kind)),
+        _ => None,
+    }
+}
+
+fn compared(operator: Operator, left: Kind, right: Kind) -> Option<Operation>
+    ensures { result ≡ spec.compared operator left right }
+{
+    if left.is(right) {
+        comparison(operator, left)
+    } else {
+        None
+    }
+}
+
+fn added(left: Kind, right: Kind) -> Option<Operation>
+    ensures { result ≡ spec.added left right }
+{
+    match (left, right) {
+        (Kind::Number, Kind::Number) => Some(plain(Fun::Add)),
+        (Kind::Text, Kind::Text) => Some(plain(Fun::Join)),
+        (Kind::Date, Kind::Number) => Some(plain(Fun::DateAdd)),
+        (Kind::Number, Kind::Date) => Some(Operation {
+            fun: Fun::DateAdd,
+            negated: false,
+            swapped: true,
+        }),
+        _ => None,
+    }
+}
+
+fn subtracted(left: Kind, right: Kind) -> Option<Operation>
+    ensures { result ≡ spec.subtracted left right }
+{
+    match (left, right) {
+        (Kind::Number, Kind::Number) => Some(plain(Fun::Sub)),
+        (Kind::Text, Kind::Text) => Some(plain(Fun::JoinMoved)),
+        (Kind::Date, Kind::Number) => Some(plain(Fun::DateSub)),
+        (Kind::Date, Kind::Date) => Some(plain(Fun::DateDiff)),
+        _ => None,
+    }
+}
+
+/// The function where both operands are of this kind.
+fn of_both(fun: Fun, kind: Kind, left: Kind, right: Kind) -> Option<Operation>
+    ensures { result ≡ spec.of_both fun kind left right }
+{
+    if left.is(kind) && right.is(kind) {
+        Some(plain(fun))
+    } else {
+        None
+    }
+}
+
+/// What the operator does between operands of these kinds; none where it takes other kinds.
+pub fn operated(operator: Operator, left: Kind, right: Kind) -> Option<Operation>
+    ensures { result ≡ spec.operated operator left right }
+{
+    match operator {
+        Operator::Or => of_both(Fun::Or, Kind::Logical, left, right),
+        Operator::And => of_both(Fun::And, Kind::Logical, left, right),
+        Operator::Contains => of_both(Fun::In, Kind::Text, left, right),
+        Operator::Times => of_both(Fun::Mul, Kind::Number, left, right),
+        Operator::Over => of_both(Fun::Div, Kind::Number, left, right),
+        Operator::Plus => added(left, right),
+        Operator::Minus => subtracted(left, right),
+        _ => compared(operator, left, right),
+    }
+}
+
+/// The kind that an operand of the prefix has, and so the whole.
+pub fn prefix_kind(prefix: Prefix) -> Kind
+    ensures { result ≡ spec.prefix_kind prefix }
+{
+    match prefix {
+        Prefix::Not => Kind::Logical,
+        Prefix::Negative | Prefix::Positive => Kind::Number,
+    }
+}
+
+/// The function of a prefix; a plus sign has none.
+pub fn prefix_fun(prefix: Prefix) -> Option<Fun>
+    ensures { result ≡ spec.prefix_fun prefix }
+{
+    match prefix {
+        Prefix::Not => Some(Fun::Not),
+        Prefix::Negative => Some(Fun::Neg),
+        Prefix::Positive => None,
+    }
+}

@@ -1,0 +1,172 @@
+//! The copies of procedures that are written, and what a round of a loop is given up to.
+
+use code_items::State;
+use crate::heads::LoopHead;
+use prg_code::{Block, CompileError, CompileRefusal, FaultKind, Names};
+use prg_commands::{Output, Work};
+use prg_line::Statement;
+use prg_parser::{Command, Form, Program};
+use shape::Shape;
+use std::alloc::{AllocError, Global};
+use std::mem;
+
+/// What is compiled.
+#[derive(Clone, Copy)]
+pub struct Source<'a> {
+    pub programs: &'a [Program],
+    pub shape: &'a Shape,
+}
+
+/// A procedure by the number of its command file, and by its own number there, each from 0; or the part of the file before its
+/// first PROCEDURE.
+#[derive(Clone, Copy, Debug, PartialEq, Eq)]
+pub struct Target {
+    pub file: usize,
+    pub procedure: Option<usize>,
+}
+
+/// A copy of a procedure that is written.
+#[derive(Drop)]
+pub struct ProcedureCopy {
+    pub target: Target,
+    /// The variables that are seen where it begins.
+    pub names: Names,
+    /// What is known where it begins.
+    pub entry: State,
+    /// What is known where it returns, if it does.
+    pub exit: Option<State>,
+    pub level: u8,
+    /// The slots that are its own, rising.
+    pub own: Vec<u8>,
+    pub block: Block,
+    /// Whether all of it is written.
+    pub done: bool,
+}
+
+/// All that is written so far.
+#[derive(Drop)]
+pub struct Writer {
+    pub alloc: Global,
+    pub out: Output,
+    /// The copy that is being written.
+    pub work: Work,
+    pub copies: Vec<ProcedureCopy>,
+    /// The procedures that are being written, from the main one on.
+    pub active: Vec<Target>,
+    /// What held at the heads of loops.
+    pub heads: Vec<LoopHead>,
+}
+
+/// How much was written at some time.
+#[derive(Drop)]
+pub struct Mark {
+    drafts: usize,
+    labels: usize,
+    constants: usize,
+    lists: usize,
+    filters: usize,
+    pub(crate) slots: u16,
+    century: bool,
+    copies: usize,
+    own: usize,
+    level: u8,
+    pub(crate) names: Names,
+    exit: Option<State>,
+}
+
+pub fn copy_of_state(alloc: Global, state: &Option<State>) -> Result<Option<State>, AllocError> {
+    match state {
+        Some(state) => Ok(Some(state.copied(alloc)?)),
+        None => Ok(None),
+    }
+}
+
+impl Source<'_> {
+    /// The commands of a procedure; none where it isn't there.
+    pub fn commands(&self, target: Target) -> &[Command] {
+        match self.programs.get(target.file) {
+            Some(program) => match target.procedure {
+                Some(number) => match program.procedures.get(number) {
+                    Some(procedure) => procedure.body.as_slice(),
+                    None => &[],
+                },
+                None => program.main.as_slice(),
+            },
+            None => &[],
+        }
+    }
+}
+
+/// The parameters that a procedure's first command names, and the commands behind it.
+pub fn parameters(commands: &[Command]) -> (&[prg_parser::Name], &[Command]) {
+    match commands.split_first() {
+        Some((first, others)) => match &first.form {
+            Form::Statement(Statement::Parameters { variables }) => (variables.as_slice(), others),
+            _ => (&[], commands),
+        },
+        None => (&[], commands),
+    }
+}
+
+impl Writer {
+    /// How much is written.
+    pub fn mark(&self) -> Result<Mark, AllocError> {
+        Ok(Mark {
+            drafts: self.work.block.drafts.len(),
+            labels: self.work.block.labels.len(),
+            constants: self.out.pool.len(),
+            lists: self.out.lists.len(),
+            filters: self.out.filters.len(),
+            slots: self.out.slots,
+            century: self.out.century,
+            copies: self.copies.len(),
+            own: self.work.own.len(),
+            level: self.work.level,
+            names: self.work.names.copied(self.alloc)?,
+            exit: copy_of_state(self.alloc, &self.work.exit)?,
+        })
+    }
+
+    /// Gives up what was written since, and goes on with what is known now.
+    pub fn give_up(&mut self, mark: &Mark, state: State) -> Result<(), AllocError> {
+        self.work.block.cut(mark.drafts, mark.labels, state);
+        self.out.pool.cut(mark.constants);
+        self.out.lists.cut(mark.lists);
+        self.out.filters.cut(mark.filters);
+        self.out.slots = mark.slots;
+        self.out.century = mark.century;
+        self.copies.truncate(mark.copies);
+        self.work.own.truncate(mark.own);
+        self.work.level = mark.level;
+        self.work.names = mark.names.copied(self.alloc)?;
+        self.work.exit = copy_of_state(self.alloc, &mark.exit)?;
+        Ok(())
+    }
+
+    /// The refusal of a command in this line.
+    pub fn refused(&self, line: usize, error: CompileError) -> CompileRefusal {
+        error.at(self.work.file, line)
+    }
+
+    /// The refusal of a faulty command in this line.
+    pub fn faulty(&self, line: usize, kind: FaultKind) -> CompileRefusal {
+        CompileError::Fault(kind).at(self.work.file, line)
+    }
+
+    /// The same answer, with the line of the command where it is an error.
+    pub fn told<T: Drop>(
+        &self,
+        line: usize,
+        outcome: Result<T, CompileError>,
+    ) -> Result<T, CompileRefusal> {
+        match outcome {
+            Ok(answer) => Ok(answer),
+            Err(error) => Err(self.refused(line, error)),
+        }
+    }
+
+    /// Goes on with another copy, and gives the one that was being written.
+    pub fn begin(&mut self, work: Work) -> Work {
+        mem::replace(&mut self.work, work)
+    }
+}
