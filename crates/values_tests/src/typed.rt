@@ -19,7 +19,13 @@ fn gives(alloc: Global, bytes: &[u8], lines: &[&'static str]) -> Result<bool, Al
 #[test]
 fn lines_are_cut_at_line_ends(rt: HostRuntime) -> Result<(), Fail> {
     let bytes = b"ANN\r\n\nBOB\rX\nEND\r";
-    assert!(rt; gives(rt.alloc(), bytes.as_slice(), &["ANN", "", "BOB\rX", "END\r"])?);
+    assert!(rt;
+        gives(
+            rt.alloc(),
+            bytes.as_slice(),
+            &["ANN", "", "BOB\rX", "END\r"]
+        )?
+    );
     assert!(rt; gives(rt.alloc(), b"\r\nA".as_slice(), &["", "A"])?);
     assert!(rt; TypedLines::none(rt.alloc()).next().is_empty());
     Ok(())
