@@ -4,6 +4,8 @@
 #[cfg(test)]
 mod areas;
 #[cfg(test)]
+mod indexes;
+#[cfg(test)]
 mod made;
 #[cfg(test)]
 mod moves;
