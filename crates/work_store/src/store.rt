@@ -1,6 +1,6 @@
 //! The ten work areas.
 
-ghost use Rattle.std.specs.Prelude.{◌≡◌, ◌≢◌, ℕ, ◌+◌, ◌-◌, ◌<◌, ◌≤◌, ◌↔◌, Bool, true, false, Option, Some, None, [], ◌∷◌, length, slice_get, is_some, is_none, unwrap_or, IfSome, IsSome, OnOk, OnErr, IfOk, Err, Ok, All, MatchResult, map};
+ghost use Rattle.std.specs.Prelude.{◌≡◌, ℕ, ◌+◌, ◌-◌, ◌<◌, ◌≤◌, ◌↔◌, Bool, true, false, Some, [], ◌∷◌, length, is_some, is_none, unwrap_or, IfSome, IsSome, OnOk, OnErr, IfOk, Err, map};
 ghost use Rattle.std.specs.Fn.{FnReturnsAt};
 ghost use Rattle.std.specs.List.{list_all};
 ghost use Rattle.dbf_file.specs.Tables.{letter_at};
@@ -9,7 +9,7 @@ ghost use Rattle.row_keys.specs.Lists.{index_list};
 ghost use Rattle.work_area.specs.Open.{closed, with_blank, replaced_here, remarked_here, gone, reordered, field_of, deleted_of, opened};
 ghost use Rattle.work_rows.specs.Marks.{mark_at, is_fresh, parts_in};
 ghost use Rattle.work_rows.specs.Tried.{ShowsRows};
-ghost use Rattle.work_store.specs.Areas.{use_at, selected_use, table_at, area_table, here, with_table, with_use, with_selected, with_used, with_here, change_here, closed_here, closed_all, is_elsewhere, holds, index_table, mark_in, closed_other};
+ghost use Rattle.work_store.specs.Areas.{use_at, selected_use, table_at, area_table, here, with_use, with_selected, with_here, change_here, closed_here, closed_all, is_elsewhere, holds, index_table, mark_in, closed_other};
 ghost use Rattle.work_store.specs.Calls.{MovesHere, EndsHere, HasEnded, top_of, bottom_of, skip_of, seek_of, packed_rows, all_rows, packed_in, pack_of, zapped_in, reindexed_in, reindex_of, index_on_of, open_of, indexed_here, used_here, with_filter, with_list, zap_landing};
 ghost use Rattle.work_store.specs.Making.{AreOfShape, AreLists, IsNewStore, lists_just};
 ghost use Rattle.work_store.specs.Shapes.{HasShape};
