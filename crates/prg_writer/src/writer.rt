@@ -1,7 +1,7 @@
 //! The copies of procedures that are written, and what a round of a loop is given up to.
 
-use code_items::State;
 use crate::heads::LoopHead;
+use code_items::State;
 use prg_code::{Block, CompileError, CompileRefusal, FaultKind, Names};
 use prg_commands::{Output, Work};
 use prg_line::Statement;
