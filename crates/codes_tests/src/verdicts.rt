@@ -296,6 +296,49 @@ fn filters_and_operands(rt: HostRuntime) -> Result<(), Fail> {
     Ok(())
 }
 
+/// Codes in which two rules fail at one place: the lesser is told.
+#[test]
+fn of_two_rules_the_lesser_is_told(rt: HostRuntime) -> Result<(), Fail> {
+    let rows: &[Row] = &[
+        // Kind and ClosedArea, Unset and StackOver, ClosedArea and StackUnder.
+        (&[], "CONST 2; SEEK; END", "refused Kind 1"),
+        (
+            &[],
+            "CONST 1; CONST 1; CONST 1; CONST 1; LOAD T 0; END",
+            "refused Unset 4",
+        ),
+        (&[], "SKIP; END", "refused ClosedArea 0"),
+        // OtherTable and OpenTwice, OtherTable and StackNotEmpty, NoOrder and StackUnder.
+        (
+            &[],
+            "OPEN 0 0; SELECT 2; OPEN 0 2; END",
+            "refused OtherTable 2",
+        ),
+        (&[], "CONST 1; OPEN 0 2; END", "refused OtherTable 1"),
+        (&[], "OPEN 0 0; SEEK; END", "refused NoOrder 1"),
+        // OpenTwice and StackNotEmpty, OpenTwice and Constant, StackUnder and Fall.
+        (
+            &[],
+            "OPEN 0 0; SELECT 2; CONST 1; OPEN 0 0; END",
+            "refused OpenTwice 3",
+        ),
+        (
+            &[],
+            "OPEN 0 0; SELECT 2; OPEN 0 9; END",
+            "refused OpenTwice 2",
+        ),
+        (&[], "DROP T", "refused StackUnder 0"),
+        // StackNotEmpty and Exit, Fall and CallLevel, Fall and Exit, Filter and Constant.
+        (&[], "CONST 1; RETURN", "refused StackNotEmpty 1"),
+        (&[], "CALL 0", "refused Fall 0"),
+        (&[], "OPEN 0 0; RETURN; END", "refused Fall 1"),
+        (&[], "OPEN 0 0; ROWFIELD 9; END", "refused Filter 1"),
+    ];
+    let wrong = first_wrong(rt.alloc(), rows)?;
+    assert!(rt; wrong == 0);
+    Ok(())
+}
+
 /// Which of these filters' blocks, behind a main block of one instruction and a procedure of one, has another verdict than
 /// told; 0 for none.
 fn first_wrong_filter(
