@@ -1,0 +1,5 @@
+pub mod BlockPlaces
+pub mod Connecting
+pub mod Covering
+pub mod Giving
+pub mod Standing
