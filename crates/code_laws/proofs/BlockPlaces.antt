@@ -88,3 +88,18 @@ pub part : (ms : List ℕ) (k : ℕ) → k < length ms → total (take k ms) + g
 part [] k lt = absurd (omega arith)
 part (m ∷ ms) zero lt = omega arith
 part (m ∷ ms) (suc k) lt = omega (arith, part ms k (omega (arith, lt)))
+
+pub filled_within : (left : ℕ) (ns : List ℕ) → blocks_fill left ns ≡ true → total ns ≤ left
+filled_within left [] e = omega arith
+filled_within left (n ∷ ns) e =
+    let a = and_parts (nat_le 1 n && nat_le n left) (blocks_fill (left - n) ns) e in
+    let b = and_parts (nat_le 1 n) (nat_le n left) a.0 in
+    omega (arith, leb-true n left b.1, filled_within (left - n) ns a.1)
+
+-- so many of the second ones behind all of the first
+pub taken_both : (ms ns : List ℕ) (k m : ℕ) → m ≡ length ms + k → total (take m (ms ++ ns)) ≡ total ms + total (take k ns)
+taken_both [] ns k m e =
+    let f : m ≡ k = omega (arith, e) in
+    rw f (omega arith)
+taken_both (x ∷ ms) ns k zero e = absurd (omega (arith, e))
+taken_both (x ∷ ms) ns k (suc m) e = omega (arith, taken_both ms ns k m (omega (arith, e)))

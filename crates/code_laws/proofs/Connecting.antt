@@ -1,7 +1,7 @@
 -- From the rules at each place to what is known along the flow.
-use Rattle.std.proofs.Common.{◌≡◌, ◌≤◌, ◌<◌, ℕ, zero, suc, ◌+◌, Bool, true, false, not, ◌||◌, ◌&&◌, ◌==◌, length, Option, Some, None, refl, sym, ap, ◌∙◌, subst, arith}
+use Rattle.std.proofs.Common.{◌≡◌, ◌≤◌, ◌<◌, ℕ, ◌+◌, Bool, true, false, not, ◌||◌, ◌&&◌, ◌==◌, length, Option, Some, None, refl, sym, ap, ◌∙◌, subst, arith}
 use Rattle.std.specs.Prelude.{is_none, slice_get, nat_le, nat_lt}
-use Rattle.std.proofs.lemmas.Bool.{or_parts, not-false, not_from_false, leb-false, ltb-false, lt-leb, eq-eqb, ne_eqb}
+use Rattle.std.proofs.lemmas.Bool.{or_parts, not-false, not_from_false, leb-false, ltb-false, lt-leb, eq-eqb}
 use Rattle.code_items.specs.declared.code.Proc.{Proc}
 use Rattle.code_items.specs.declared.code.Code.{Code}
 use Rattle.code_items.specs.declared.state.State.{State}
@@ -10,12 +10,14 @@ use Rattle.code_items.specs.Facts.{Facts}
 use Rattle.code_items.specs.Legal.{IsCode}
 use Rattle.code_rules.specs.Signature.{signature, target_of, call_of}
 use Rattle.code_rules.specs.Wants.{gives, unknown}
-use Rattle.code_rules.specs.Places.{instr_at, block_at, map_at, start_of, or_state, incoming_at, state_at}
+use Rattle.code_rules.specs.Places.{instr_at, block_at, map_at, start_of, or_state, state_at}
 use Rattle.code_rules.specs.Kept.{Kept, KeepsRules}
 use Rattle.code_rules.specs.Rules.{Here, here_at, slots_fail, desk_fails, stack_fails, at_start, entry_in, entered, called_entry, some_next, if_some, no_procedure, leads_on, is_outside, is_filters, runs_over, not_below, level_of, not_covered, moves_blindly, is_rows, covers, returns as is_return, kind_fails, table_fails, empty_fails, fall_fails, filter_fails}
 use Rattle.code_laws.specs.Connects.{first_of, IsOfProcedures, Stands, Enters, left_at, Reaches, Calls, Connects}
 use Rattle.code_laws.proofs.Covering.{covers_from, covers_self}
+use Rattle.code_laws.proofs.Filtering.{filter_walks}
 use Rattle.code_laws.proofs.Giving.{gives_known, call_known}
+use Rattle.code_laws.proofs.States.{holds_on, state_first, state_mapped, next_state}
 use Rattle.code_laws.proofs.Standing.{stands, number_within, together, first_is}
 
 -- ---- small tests
@@ -29,10 +31,6 @@ three true a b c e = absurd (cc)
 three false true b c e = absurd (cc)
 three false false true c e = absurd (cc)
 three false false false true e = absurd (cc)
-
-holds_on : (b c : Bool) → (b && c) ≡ false → b ≡ true → c ≡ false
-holds_on true c e h = e
-holds_on false c e h = absurd (cc)
 
 and_not : (b c : Bool) → b ≡ true → c ≡ false → (b && not c) ≡ true
 and_not b c e f = rw (e, f) refl
@@ -48,37 +46,6 @@ covered (Some m) s a b c = covers_from m s (not-false _ a) (not-false _ b) (not-
 
 covered_by : (m s : State) → slots_fail (Some m) s ≡ false → desk_fails (Some m) s ≡ false → stack_fails 0 (Some m) s ≡ false → covers m s ≡ true
 covered_by m s a b c = covered (Some m) s a b c
-
--- ---- the states before the places of a block
-
-at_first : (code : Code) (place : ℕ) → (block_at code place).first ≡ place → incoming_at code place ≡ start_of code (block_at code place).number
-unfolding incoming_at
-at_first code zero e = refl
-at_first code (suc place) e = rw (eq-eqb (block_at code (suc place)).first (suc place) e) refl
-
-at_next : (code : Code) (place : ℕ) → (block_at code (suc place)).first ≤ place → incoming_at code (suc place) ≡ left_at code place
-unfolding incoming_at state_at
-at_next code place le = rw (ne_eqb (block_at code (suc place)).first (suc place) (λ e. absurd (omega (arith, le, e)))) refl
-
-state_first : (code : Code) (place : ℕ) → (block_at code place).first ≡ place → state_at code place ≡ or_state (map_at code place) (start_of code (block_at code place).number)
-unfolding state_at
-state_first code place e = ap (or_state (map_at code place)) (at_first code place e)
-
-state_next : (code : Code) (place : ℕ) → (block_at code (suc place)).first ≤ place → state_at code (suc place) ≡ or_state (map_at code (suc place)) (left_at code place)
-unfolding state_at
-state_next code place le = ap (or_state (map_at code (suc place))) (at_next code place le)
-
-same_state : (o : Option State) (a b : State) → is_none o ≡ false → or_state o a ≡ or_state o b
-same_state None a b e = absurd (cc)
-same_state (Some m) a b e = refl
-
-state_mapped : (code : Code) (place : ℕ) (s : State) → is_none (map_at code place) ≡ false → state_at code place ≡ or_state (map_at code place) s
-unfolding state_at
-state_mapped code place s e = same_state (map_at code place) (incoming_at code place) s e
-
-start_is : (code : Code) (n : ℕ) (p : Proc) → slice_get code.procedures n ≡ Some p → start_of code n ≡ p.entry
-unfolding start_of
-start_is code n p e = rw e refl
 
 -- ---- the rules at a place of a procedure
 
@@ -133,6 +100,10 @@ stack_rule code place s = stack_shown code (here_at code place) s.kept.empty s.k
 
 -- ---- where a procedure begins
 
+start_is : (code : Code) (n : ℕ) (p : Proc) → slice_get code.procedures n ≡ Some p → start_of code n ≡ p.entry
+unfolding start_of
+start_is code n p e = rw e refl
+
 starts_covered : (code : Code) (place : ℕ) → Shown code place → (block_at code place).first ≡ place → covers (state_at code place) (start_of code (block_at code place).number) ≡ true
 starts_covered code place s e =
     let t : ((block_at code place).first == place) ≡ true = eq-eqb (block_at code place).first place e in
@@ -153,9 +124,6 @@ enters code ok facts keeps n p e =
 
 -- ---- behind an instruction that goes on
 
-next_state : (code : Code) (place next : ℕ) → next ≡ place + 1 → (block_at code next).first ≤ place → state_at code next ≡ or_state (map_at code next) (left_at code place)
-next_state code place next e = subst (λ n. (block_at code n).first ≤ place → state_at code n ≡ or_state (map_at code n) (left_at code place)) (omega (arith, e)) (state_next code place)
-
 goes_on : (code : Code) (place : ℕ) → Shown code place → (signature (instr_at code place)).falls ≡ true → leads_on code (instr_at code place) ≡ true
 goes_on code place s f = and_not (signature (instr_at code place)).falls (if_some (no_procedure code) (call_of (instr_at code place))) f (call_known code (state_at code place).desk (instr_at code place) s.kept.declared)
 
@@ -164,11 +132,14 @@ not_run_over code h o e f =
     let r : runs_over code h ≡ false = holds_on (not (is_filters code h.block)) (runs_over code h) e (not_from_false (is_filters code h.block) o) in
     leb-false h.block.end (h.place + 1) (rw f at r)
 
+one_more : (first place : ℕ) → first ≤ place → first ≤ place + 1
+one_more first place le = omega arith
+
 falls : (code : Code) (place : ℕ) → Shown code place → (signature (instr_at code place)).falls ≡ true → Reaches code place (place + 1)
 falls code place s f =
     let on = goes_on code place s f in
     let to : place + 1 < (block_at code place).end = not_run_over code (here_at code place) s.outside s.kept.fall f in
-    let same = together code place (place + 1) (omega (arith, s.stands.from)) to in
+    let same = together code place (place + 1) (one_more (block_at code place).first place s.stands.from) to in
     let from : (block_at code (place + 1)).first ≤ place = subst (λ b. b.first ≤ place) (sym same) s.stands.from in
     let c : covers (or_state (map_at code (place + 1)) (left_at code place)) (left_at code place) ≡ true = covered (map_at code (place + 1)) (left_at code place)
     (holds_on _ _ (or_parts _ _ (slots_rule code place s).2).1 on)
@@ -241,5 +212,6 @@ connects code ok facts keeps = record {
   jumps = λ place next lt e. jumps code place next (shown code facts keeps place lt) e;
   calls = λ place n lt e. calls code place n (shown code facts keeps place lt) e;
   returns = λ place p lt r e. leaves code place p (shown code facts keeps place lt) r e;
+  filters = filter_walks code ok facts keeps;
   gives = λ place lt. (shown code facts keeps place lt).known;
 }

@@ -22,7 +22,7 @@ lengths procedures = map (λ p. p.length) procedures
 abbrev pub filter_lengths : List Filter → List ℕ
 filter_lengths filters = map (λ f. f.length) filters
 
-filled : (code : Code) → IsCode code → blocks_fill (length code.instructions) (lengths code.procedures ++ filter_lengths code.declared.filters) ≡ true
+pub filled : (code : Code) → IsCode code → blocks_fill (length code.instructions) (lengths code.procedures ++ filter_lengths code.declared.filters) ≡ true
 unfolding is_code
 filled code ok =
     let a = and_parts (are_declared code.declared && procedures_are_legal code && maps_are_legal code) (instructions_are_legal code) ok in

@@ -1,14 +1,17 @@
 -- What is known at a place covers all that flows there.
 use Rattle.std.specs.Prelude.{◌≡◌, ◌<◌, ◌≤◌, ℕ, ◌+◌, true, Some, take, slice_get}
+use Rattle.code_items.specs.declared.declared.Filter.{Filter}
 use Rattle.code_items.specs.declared.code.Proc.{Proc}
 use Rattle.code_items.specs.declared.code.Code.{Code}
 use Rattle.code_items.specs.declared.state.State.{State}
+use Rattle.code_items.specs.Declarations.{filter_of}
 use Rattle.code_items.specs.Legal.{places_of}
 use Rattle.code_rules.specs.Signature.{signature, target_of, call_of}
 use Rattle.code_rules.specs.Wants.{gives, unknown}
 use Rattle.code_rules.specs.Flow.{flow}
-use Rattle.code_rules.specs.Places.{instr_at, block_at, state_at}
+use Rattle.code_rules.specs.Places.{instr_at, block_at, filter_start, state_at}
 use Rattle.code_rules.specs.Rules.{covers, level_of, returns as is_return}
+use Rattle.code_laws.specs.FilterWalks.{filter_instrs, Walks}
 
 -- where the block of a procedure begins: behind those of the procedures before it
 abbrev pub first_of : Code → ℕ → ℕ
@@ -62,3 +65,4 @@ pub record Connects (code : Code) : Type 0 where
   pub returns : (place : ℕ) (p : Proc) → IsOfProcedures code place → is_return (instr_at code place) ≡ true
       → slice_get code.procedures (block_at code place).number ≡ Some p → covers p.exit (state_at code place) ≡ true
   pub gives : (place : ℕ) → IsOfProcedures code place → unknown (gives code.declared (state_at code place).desk (instr_at code place)) ≡ 0
+  pub filters : (number : ℕ) (f : Filter) → filter_of code.declared number ≡ Some f → Walks code (filter_start code.declared.slots f) (filter_instrs code number f)
