@@ -139,6 +139,7 @@ falls : (code : Code) (place : ℕ) → Shown code place → (signature (instr_a
 falls code place s f =
     let on = goes_on code place s f in
     let to : place + 1 < (block_at code place).end = not_run_over code (here_at code place) s.outside s.kept.fall f in
+    let within : IsOfProcedures code (place + 1) = omega (arith, to, s.stands.last) in
     let same = together code place (place + 1) (one_more (block_at code place).first place s.stands.from) to in
     let from : (block_at code (place + 1)).first ≤ place = subst (λ b. b.first ≤ place) (sym same) s.stands.from in
     let c : covers (or_state (map_at code (place + 1)) (left_at code place)) (left_at code place) ≡ true = covered (map_at code (place + 1)) (left_at code place)
@@ -147,7 +148,7 @@ falls code place s f =
     (holds_on _ _ (or_parts _ _ (stack_rule code place s).2).1 on) in
     record {
       same = same;
-      within = omega (arith, to, s.stands.last);
+      within = within;
       covered = subst (λ m. covers m (left_at code place) ≡ true) (sym (next_state code place (place + 1) refl from)) c;
     }
 
