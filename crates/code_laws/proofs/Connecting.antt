@@ -140,7 +140,8 @@ falls code place s f =
     let on = goes_on code place s f in
     let to : place + 1 < (block_at code place).end = not_run_over code (here_at code place) s.outside s.kept.fall f in
     let within : IsOfProcedures code (place + 1) = omega (arith, to, s.stands.last) in
-    let same = together code place (place + 1) (one_more (block_at code place).first place s.stands.from) to in
+    let later = one_more (block_at code place).first place s.stands.from in
+    let same = together code place (place + 1) later to in
     let from : (block_at code (place + 1)).first ≤ place = subst (λ b. b.first ≤ place) (sym same) s.stands.from in
     let c : covers (or_state (map_at code (place + 1)) (left_at code place)) (left_at code place) ≡ true = covered (map_at code (place + 1)) (left_at code place)
     (holds_on _ _ (or_parts _ _ (slots_rule code place s).2).1 on)
@@ -148,6 +149,8 @@ falls code place s f =
     (holds_on _ _ (or_parts _ _ (stack_rule code place s).2).1 on) in
     record {
       same = same;
+      from = later;
+      to = to;
       within = within;
       covered = subst (λ m. covers m (left_at code place) ≡ true) (sym (next_state code place (place + 1) refl from)) c;
     }
@@ -166,6 +169,8 @@ jumps code place next s e =
     (some_keeps (λ t. stack_fails 0 (map_at code t) (left_at code place)) _ next (or_parts _ _ (stack_rule code place s).2).0 e) in
     record {
       same = together code place next from to;
+      from = from;
+      to = to;
       within = omega (arith, to, s.stands.last);
       covered = subst (λ m. covers m (left_at code place) ≡ true) (sym (state_mapped code next (left_at code place) j.1)) c;
     }

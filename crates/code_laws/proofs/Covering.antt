@@ -76,7 +76,7 @@ along_on test each (x ∷ xs) (y ∷ ys) (z ∷ zs) e f =
     let b = and_parts (test (y, z)) (along test ys zs) f in
     and_from (test (x, z)) (along test xs zs) (each x y z a.0 b.0) (along_on test each xs ys zs a.1 b.1)
 
-kinds_same : (k l : Kind) → same_kind k l ≡ true → k ≡ l
+pub kinds_same : (k l : Kind) → same_kind k l ≡ true → k ≡ l
 kinds_same OfNumber OfNumber e = refl
 kinds_same OfNumber OfText e = absurd (cc)
 kinds_same OfNumber OfDate e = absurd (cc)

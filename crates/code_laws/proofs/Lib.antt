@@ -4,5 +4,6 @@ pub mod Covering
 pub mod FilterPlaces
 pub mod Filtering
 pub mod Giving
+pub mod NeedsMet
 pub mod Standing
 pub mod States

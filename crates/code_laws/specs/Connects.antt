@@ -46,6 +46,8 @@ left_at code place = flow code (instr_at code place) (state_at code place)
 -- the next place is in the same block, and what is known there covers what the instruction leaves
 pub record Reaches (code : Code) (place next : ℕ) : Type 0 where
   pub same : block_at code next ≡ block_at code place
+  pub from : (block_at code place).first ≤ next
+  pub to : next < (block_at code place).end
   pub within : IsOfProcedures code next
   pub covered : covers (state_at code next) (left_at code place) ≡ true
 

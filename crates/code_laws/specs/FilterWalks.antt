@@ -1,16 +1,19 @@
 -- A filter's block: one instruction behind the other, without a jump or a map.
-use Rattle.std.specs.Prelude.{◌≡◌, ℕ, ◌+◌, ◌-◌, true, false, List, [], ◌∷◌, length, map, take, drop, nat_lt}
+use Rattle.std.specs.Prelude.{◌≡◌, ℕ, ◌+◌, ◌-◌, true, false, List, [], ◌∷◌, Option, Some, length, map, take, drop, nat_lt}
+use Rattle.xvalue.specs.declared.kind.Kind.{Kind}
 use Rattle.xvalue.specs.declared.kind.Kind.TheVariants.{Logical as OfLogical}
 use Rattle.code_items.specs.declared.declared.Filter.{Filter}
 use Rattle.code_items.specs.declared.code.Code.{Code}
 use Rattle.code_items.specs.declared.state.State.{State}
 use Rattle.code_items.specs.declared.instr.Instr.{Instr}
+use Rattle.code_items.specs.Declarations.{filter_of}
 use Rattle.code_items.specs.Kinds.{clashes, same_kinds}
 use Rattle.code_items.specs.Legal.{total, places_of}
 use Rattle.code_rules.specs.Signature.{signature}
 use Rattle.code_rules.specs.Wants.{wants, gives, unknown}
 use Rattle.code_rules.specs.Flow.{flow, left_by}
-use Rattle.code_rules.specs.Rules.{filters, height_after, loads_other, loads_free, undeclared}
+use Rattle.code_rules.specs.Places.{filter_desk}
+use Rattle.code_rules.specs.Rules.{filter_lacks, filters, height_after, loads_other, loads_free, undeclared}
 
 -- where the block of a filter begins, counted from 1: behind the procedures' blocks and those of the filters before it
 abbrev pub filter_first : Code → ℕ → ℕ
@@ -36,3 +39,12 @@ pub record Steps (code : Code) (s : State) (i : Instr) : Type 0 where
 abbrev pub Walks : Code → State → List Instr → Type 0
 Walks code s [] = same_kinds (OfLogical ∷ []) s.stack ≡ true
 Walks code s (i ∷ instrs) = Steps code s i × Walks code (flow code i s) instrs
+
+-- what is known where a filter's block begins, with these slots in the place of just those that it needs
+abbrev pub filter_begun : Filter → List (Option Kind) → State
+filter_begun f slots = record { desk = filter_desk f.table; slots = slots; stack = [] }
+
+-- each filter's block can be walked with whatever slots meet its needs
+abbrev pub WalksWithNeeds : Code → Type 0
+WalksWithNeeds code = (number : ℕ) (f : Filter) → filter_of code.declared number ≡ Some f
+    → (slots : List (Option Kind)) → length slots ≡ code.declared.slots → filter_lacks slots (Some f) ≡ false → Walks code (filter_begun f slots) (filter_instrs code number f)

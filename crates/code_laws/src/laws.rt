@@ -5,6 +5,7 @@ ghost use Rattle.code_items.specs.declared.code.Code.{Code as AnyCode};
 ghost use Rattle.code_items.specs.declared.state.State.{State as AnyState};
 ghost use Rattle.code_items.specs.Legal.{IsCode};
 ghost use Rattle.code_laws.specs.Connects.{Connects};
+ghost use Rattle.code_laws.specs.FilterWalks.{WalksWithNeeds};
 ghost use Rattle.code_rules.specs.Rules.{covers, Accepted};
 
 use code_items::laws::legal_codes;
@@ -26,4 +27,11 @@ pub fn states_connect()
 {
     legal_codes();
     rules_are_kept();
+}
+
+/// In an accepted code each filter's block can be walked with whatever slots meet the filter's needs.
+pub fn filters_walk()
+    ensures { (code : AnyCode) → IsCode code → Accepted code → WalksWithNeeds code }
+{
+    states_connect();
 }
