@@ -1,0 +1,2 @@
+pub mod Connects
+pub mod FilterWalks
