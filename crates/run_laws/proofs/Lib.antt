@@ -1,0 +1,13 @@
+pub mod Clear
+pub mod Tests
+pub mod Known
+pub mod OnValues
+pub mod OnAreas
+pub mod OnMoves
+pub mod OnRecords
+pub mod Ready
+pub mod Stores
+pub mod Shaped
+pub mod Heights
+pub mod Changes
+pub mod Steps

@@ -1,0 +1,52 @@
+//! What the tests of an instruction say. The functions do nothing: their contracts are the laws.
+
+ghost use Rattle.std.specs.Prelude.{◌≡◌, true, false, None};
+ghost use Rattle.code_items.specs.declared.code.Code.{Code as AnyCode};
+ghost use Rattle.code_items.specs.declared.instr.Instr.{Instr as AnyInstr};
+ghost use Rattle.code_items.specs.Instrs.{is_instr};
+ghost use Rattle.code_items.specs.Legal.{IsCode};
+ghost use Rattle.code_rules.specs.Places.{instr_at};
+ghost use Rattle.run_steps.specs.Control.{effect, finishes};
+ghost use Rattle.run_steps.specs.Faults.{fault_of, IsClear};
+ghost use Rattle.run_steps.specs.Needs.{IsReadyFor};
+ghost use Rattle.run_steps.specs.Safe.{IsSafeHere};
+ghost use Rattle.run_steps.specs.Shapes.{HasShape};
+ghost use Rattle.run_steps.specs.World.{World};
+ghost use Rattle.work_store.specs.Areas.{AreApart};
+
+use code_items::laws::legal_codes;
+use work_store::laws::tables_keep_their_kind;
+use xvalue::laws::same_kinds_are_equal;
+
+/// An instruction has no fault where each of its tests comes out well, and nowhere else.
+pub fn faultless_instructions_are_clear()
+    ensures clear { (code : AnyCode) (w : World) (i : AnyInstr) → fault_of code w i ≡ None → IsClear code w i }
+    ensures faultless { (code : AnyCode) (w : World) (i : AnyInstr) → IsClear code w i → fault_of code w i ≡ None }
+{}
+
+/// In a world of a code's shape an instruction of the code whose tests come out well has all that it needs.
+pub fn clear_instructions_are_ready()
+    ensures { (code : AnyCode) (w : World) (i : AnyInstr) → IsCode code → HasShape code w → is_instr code.declared.version i ≡ true → IsClear code w i → IsReadyFor code w i }
+{
+    legal_codes();
+    same_kinds_are_equal();
+}
+
+/// So a world of a code's shape whose next instruction has no fault is one from which that instruction can be carried out.
+pub fn faultless_worlds_go_on()
+    ensures { (code : AnyCode) (w : World) → IsCode code → HasShape code w → fault_of code w (instr_at code w.place) ≡ None → IsSafeHere code w }
+{
+    legal_codes();
+    faultless_instructions_are_clear();
+    clear_instructions_are_ready();
+}
+
+/// A step that goes on keeps the code's shape where no two work areas hold one table, and leaves no two that do.
+pub fn steps_keep_the_shape()
+    ensures { (code : AnyCode) (w : World) (i : AnyInstr) → IsCode code → HasShape code w → AreApart w.env.store.areas → is_instr code.declared.version i ≡ true → IsClear code w i → finishes w i ≡ false
+        → HasShape code (effect code w i) × AreApart (effect code w i).env.store.areas }
+{
+    legal_codes();
+    same_kinds_are_equal();
+    tables_keep_their_kind();
+}
