@@ -1,0 +1,6 @@
+pub mod Clear
+pub mod Covered
+pub mod Desks
+pub mod Filters
+pub mod Jumps
+pub mod Loads
