@@ -166,7 +166,7 @@ filter_leaves d s n h o named other =
 area_leaves : (code : Code) (w : World) (i : AreaInstr) → Stay → IsSound code.declared w.env.store → (is_none (open_at (desk_of w.env.store) w.env.store.selected) ≡ false → OpenThere code.declared w.env.store w.env.store.selected) → IsClear code w (Areas i) → AreaNeeds code i w.env → IsSound code.declared (store_by_area code i w.env)
 area_leaves code w (Open t l) stay h is_open c needs = open_leaves code w t l stay h c needs
 area_leaves code w Close stay h is_open c needs = closes code.declared w.env.store stay h
-area_leaves code w CloseAll stay h is_open c needs = closes_all code.declared w.env.store stay h
+area_leaves code w CloseAll stay h is_open c needs = closes_all code.declared w.env.store stay h.count h.kinds
 area_leaves code w (Select a) stay h is_open c needs = selects code.declared w.env.store a h needs.0 needs.1
 area_leaves code w (Order n) stay h is_open c needs =
     let o = is_open c.area in

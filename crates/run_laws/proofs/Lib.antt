@@ -11,3 +11,4 @@ pub mod Shaped
 pub mod Heights
 pub mod Changes
 pub mod Steps
+pub mod Openings

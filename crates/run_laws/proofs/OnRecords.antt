@@ -5,12 +5,14 @@ use Rattle.std.specs.List.{list_all}
 use Rattle.std.proofs.lemmas.Bool.{leb-true, leb-false, and_parts, or_parts}
 use Rattle.xvalue.specs.declared.kind.Kind.{Kind}
 use Rattle.dbf_file.specs.declared.field.Field.{Field as TableField}
+use Rattle.dbf_file.specs.declared.field.Letter.{Letter}
 use Rattle.dbf_file.specs.declared.field.Letter.TheVariants.{C}
 use Rattle.dbf_file.specs.Tables.{letter_at}
 use Rattle.dbf_file.specs.Values.{kind_for}
 use Rattle.shape.specs.declared.tables.TableShape.{TableShape}
 use Rattle.work_rows.specs.Marks.{mark_at}
 use Rattle.work_area.specs.Open.{OpenState}
+use Rattle.work_store.specs.Making.{AreAlike}
 use Rattle.work_store.specs.Areas.{StoreState, area_table, here}
 use Rattle.code_items.specs.declared.code.Code.{Code}
 use Rattle.code_items.specs.declared.declared.Declared.{Declared}
@@ -36,22 +38,26 @@ use Rattle.run_laws.proofs.OnMoves.{walks}
 
 -- ---- fields
 
--- the fields of an open area's table are the declared ones
-fields_declared : (d : Declared) (s : StoreState) (a : ℕ) → StoreFits d s → (o : OpenThere d s a) → fields_in (slice_get d.shape.tables o.use_of.table) ≡ o.table.table.structure.fields
-fields_declared d s a fits o =
+alike_self : (fs : List TableField) → AreAlike fs fs
+alike_self fs = record { count = refl; each = λ k d lt. record { letter = refl; width = refl; decimals = refl } }
+
+-- the fields of an open area's table hold what the declared ones do
+fields_alike : (d : Declared) (s : StoreState) (a : ℕ) → StoreFits d s → (o : OpenThere d s a) → AreAlike o.table.table.structure.fields (fields_in (slice_get d.shape.tables o.use_of.table))
+fields_alike d s a fits o =
     let shape = is_there d.shape.tables o.use_of.table o.declared in
     let stands = fits.fields o.use_of.table (omega (arith, o.declared, fits.count)) in
     let by_table = subst (λ x. IfSome x (λ (p : OpenState). IfSome (slice_get d.shape.tables o.use_of.table) (λ (t : TableShape). p.table.structure.fields ≡ t.fields))) o.at stands in
     let same : o.table.table.structure.fields ≡ shape.0.fields = subst (λ x. IfSome x (λ (t : TableShape). o.table.table.structure.fields ≡ t.fields)) shape.1 by_table in
-    ap fields_in shape.1 ∙ sym same
+    subst (λ (fs : List TableField). AreAlike o.table.table.structure.fields fs) (same ∙ sym (ap fields_in shape.1)) (alike_self o.table.table.structure.fields)
 
-fields_known : (d : Declared) (s : StoreState) (a : ℕ) → StoreFits d s → (o : OpenThere d s a) → fields_at d (open_at (desk_of s) a) ≡ o.table.table.structure.fields
-fields_known d s a fits o = ap (fields_at d) o.known ∙ fields_declared d s a fits o
+fields_known : (d : Declared) (s : StoreState) (a : ℕ) → (o : OpenThere d s a) → fields_at d (open_at (desk_of s) a) ≡ fields_in (slice_get d.shape.tables o.use_of.table)
+fields_known d s a o = ap (fields_at d) o.known
 
 field_there : (d : Declared) (s : StoreState) (a f : ℕ) → StoreFits d s → (o : OpenThere d s a) → no_field d (desk_of s) a f ≡ false → f < length o.table.table.structure.fields
 field_there d s a f fits o e =
     let fails : nat_le (length (fields_in (slice_get d.shape.tables o.use_of.table))) f ≡ false = ap (if_open (λ b. nat_le (length (fields_at d (Some b))) f)) (sym o.known) ∙ e in
-    omega (arith, leb-false (length (fields_in (slice_get d.shape.tables o.use_of.table))) f fails, ap (λ (fs : List TableField). length fs) (fields_declared d s a fits o))
+    let alike = fields_alike d s a fits o in
+    omega (arith, leb-false (length (fields_in (slice_get d.shape.tables o.use_of.table))) f fails, alike.count)
 
 has_field : (s : StoreState) (f : ℕ) (x : Option OpenState) (o : OpenState) → x ≡ Some o → f < length o.table.structure.fields → HasField f x
 has_field s f x o e lt = subst (HasField f) (sym e) (refl, lt)
@@ -62,13 +68,25 @@ kind_there [] f lt = absurd (omega (arith, lt))
 kind_there (g ∷ fs) zero lt = refl
 kind_there (g ∷ fs) (suc f) lt = kind_there fs f (omega (arith, lt))
 
+letter_there : (fs : List TableField) (f : ℕ) (d : TableField) → f < length fs → slice_index_or (map (λ g. g.letter) fs) f C ≡ (slice_index_or fs f d).letter
+letter_there [] f d lt = absurd (omega (arith, lt))
+letter_there (g ∷ fs) zero d lt = refl
+letter_there (g ∷ fs) (suc f) d lt = letter_there fs f d (omega (arith, lt))
+
 replace_ready : Same → (code : Code) (w : World) → StoreFits code.declared w.env.store → (f : ℕ) → OpenThere code.declared w.env.store w.env.store.selected → IsClear code w (Records (Replace f)) → HasField f (here w.env.store) × IfSome (here w.env.store) (TakesField f w.values)
 replace_ready same code w fits f o c =
     let d = code.declared in
     let s = w.env.store in
     let lt = field_there d s s.selected f fits o (first_no (no_field d (desk_of s) s.selected f) false c.declared) in
+    let fs = fields_in (slice_get d.shape.tables o.use_of.table) in
+    let gs = o.table.table.structure.fields in
+    let alike = fields_alike d s s.selected fits o in
+    let within : f < length fs = omega (arith, lt, alike.count) in
+    let g = (is_there gs f lt).0 in
+    let each = alike.each f g lt in
+    let letters : slice_index_or (map (λ (h : TableField). h.letter) fs) f C ≡ letter_at o.table.table.structure f = letter_there fs f g within ∙ sym each.letter ∙ sym (letter_there gs f g lt) in
     let kind : field_kind d (desk_of s) s.selected f ≡ Some (kind_for (letter_at o.table.table.structure f)) =
-    ap (λ (fs : List TableField). kind_of_field (slice_get fs f)) (fields_known d s s.selected fits o) ∙ kind_there o.table.table.structure.fields f lt in
+    ap (λ (hs : List TableField). kind_of_field (slice_get hs f)) (fields_known d s s.selected o) ∙ kind_there fs f within ∙ ap (λ (l : Letter). Some (kind_for l)) letters in
     let clash : clashes (kind_for (letter_at o.table.table.structure f) ∷ []) (state_of w).stack ≡ false =
     ap (λ (k : Option Kind). clashes (if_known k) (state_of w).stack) (sym kind) ∙ first_no (clashes (if_known (field_kind d (desk_of s) s.selected f)) (state_of w).stack) false c.kind in (
       has_field s f (here s) o.table o.there lt,

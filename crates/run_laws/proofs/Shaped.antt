@@ -17,7 +17,7 @@ use Rattle.code_items.specs.States.{is_open, is_area_state, is_desk, is_state}
 use Rattle.run_steps.specs.World.{order_of, area_state, desk_of}
 use Rattle.run_steps.specs.Shapes.{StoreFits, ListStands}
 use Rattle.run_laws.proofs.Known.{area_by}
-use Rattle.run_laws.proofs.Stores.{IsSound}
+use Rattle.run_laws.proofs.Stores.{KindFits, IsSound}
 use Rattle.run_laws.proofs.Tests.{all_at, mapped_at}
 
 use_there : (areas : List (Option Use)) (n : ℕ) (u : Use) → slice_index_or areas n None ≡ Some u → slice_get areas n ≡ Some (Some u)
@@ -25,14 +25,17 @@ use_there [] n u e = absurd (cc)
 use_there (x ∷ areas) zero u e = ap (λ (y : Option Use). Some y) e
 use_there (x ∷ areas) (suc n) u e = use_there areas n u e
 
+pub kinds_from : (d : Declared) (s : StoreState) → StoreFits d s → (t : ℕ) (o : OpenState) → slice_get s.tables t ≡ Some o → KindFits d t o
+kinds_from d s fits t o at = record {
+  fields = subst (λ x. IfSome x (λ (p : OpenState). IfSome (slice_get d.shape.tables t) (λ (declared : TableShape). p.table.structure.fields ≡ declared.fields))) at (fits.fields t (slice_get_within s.tables t o at));
+  indexes = λ n x is same. subst (λ y. IfSome y (λ (p : OpenState). is_some (mark_at p.table.marks n) ≡ true)) (ap (slice_get s.tables) same ∙ at)
+      (subst (λ y. IfSome y (λ (x : IndexShape). IfSome (table_at s x.table) (λ (p : OpenState). is_some (mark_at p.table.marks n) ≡ true))) is (fits.indexes n));
+}
+
 pub sound_from : (d : Declared) (s : StoreState) → list_all (is_area_state d) (desk_of s).areas ≡ true → length (desk_of s).areas ≡ 10 → 1 ≤ s.selected → s.selected ≤ 10 → StoreFits d s → AreApart s.areas → IsSound d s
 sound_from d s all ten least most fits apart = record {
   count = fits.count;
-  kinds = λ t o at. record {
-    fields = subst (λ x. IfSome x (λ (p : OpenState). IfSome (slice_get d.shape.tables t) (λ (declared : TableShape). p.table.structure.fields ≡ declared.fields))) at (fits.fields t (slice_get_within s.tables t o at));
-    indexes = λ n x is same. subst (λ y. IfSome y (λ (p : OpenState). is_some (mark_at p.table.marks n) ≡ true)) (ap (slice_get s.tables) same ∙ at)
-        (subst (λ y. IfSome y (λ (x : IndexShape). IfSome (table_at s x.table) (λ (p : OpenState). is_some (mark_at p.table.marks n) ≡ true))) is (fits.indexes n));
-  };
+  kinds = kinds_from d s fits;
   held = λ n u e. (let same : suc n - 1 ≡ n = omega arith in
       let held : use_at s (suc n) ≡ Some u = ap (λ k. slice_index_or s.areas k None) same ∙ e in record {
         list = subst (λ x. IfSome x (λ (v : Use). IfSome (used_table s x) (ListStands d v))) held (fits.lists (suc n));

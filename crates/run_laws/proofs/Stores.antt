@@ -222,10 +222,11 @@ got_map [] t a e = absurd (cc)
 got_map (o ∷ tables) zero a e = (o, refl, (let same : a ≡ closed o = cc in same))
 got_map (o ∷ tables) (suc t) a e = got_map tables t a e
 
-pub closes_all : (d : Declared) (s : StoreState) → ((o : OpenState) → KindsStay o) → IsSound d s → IsSound d (closed_all s)
-closes_all d s stay h = record {
-  count = length-map s.tables closed ∙ h.count;
-  kinds = λ t a e. (let w = got_map s.tables t a e in subst (KindFits d t) (sym w.2) (kind_stays d t w.0 (closed w.0) (stay w.0).by_close (h.kinds t w.0 w.1)));
+-- all areas closed, whatever they held
+pub closes_all : (d : Declared) (s : StoreState) → ((o : OpenState) → KindsStay o) → length s.tables ≡ length d.shape.tables → ((t : ℕ) (o : OpenState) → slice_get s.tables t ≡ Some o → KindFits d t o) → IsSound d (closed_all s)
+closes_all d s stay count kinds = record {
+  count = length-map s.tables closed ∙ count;
+  kinds = λ t a e. (let w = got_map s.tables t a e in subst (KindFits d t) (sym w.2) (kind_stays d t w.0 (closed w.0) (stay w.0).by_close (kinds t w.0 w.1)));
   held = λ n u e. absurd (none_held 10 n u e);
   ten = refl;
   one = omega arith;

@@ -1,6 +1,6 @@
 //! What the tests of an instruction say. The functions do nothing: their contracts are the laws.
 
-ghost use Rattle.std.specs.Prelude.{◌≡◌, true, false, None};
+ghost use Rattle.std.specs.Prelude.{◌≡◌, ℕ, true, false, List, Option, None};
 ghost use Rattle.code_items.specs.declared.code.Code.{Code as AnyCode};
 ghost use Rattle.code_items.specs.declared.instr.Instr.{Instr as AnyInstr};
 ghost use Rattle.code_items.specs.Instrs.{is_instr};
@@ -9,10 +9,12 @@ ghost use Rattle.code_rules.specs.Places.{instr_at};
 ghost use Rattle.run_steps.specs.Control.{effect, finishes};
 ghost use Rattle.run_steps.specs.Faults.{fault_of, IsClear};
 ghost use Rattle.run_steps.specs.Needs.{IsReadyFor};
+ghost use Rattle.run_steps.specs.Opening.{opening};
 ghost use Rattle.run_steps.specs.Safe.{IsSafeHere};
-ghost use Rattle.run_steps.specs.Shapes.{HasShape};
+ghost use Rattle.run_steps.specs.Shapes.{HasShape, StoreFits};
 ghost use Rattle.run_steps.specs.World.{World};
-ghost use Rattle.work_store.specs.Areas.{AreApart};
+ghost use Rattle.work_store.specs.Areas.{AreApart, StoreState};
+ghost use Rattle.xvalue.specs.declared.day.DayParts.{DayParts};
 
 use code_items::laws::legal_codes;
 use work_store::laws::tables_keep_their_kind;
@@ -48,5 +50,15 @@ pub fn steps_keep_the_shape()
 {
     legal_codes();
     same_kinds_are_equal();
+    tables_keep_their_kind();
+}
+
+/// The world from which a run begins has the code's shape where the store fits what is declared, and no two work areas hold one
+/// table there.
+pub fn openings_have_the_shape()
+    ensures { (code : AnyCode) (store : StoreState) (lines : List (List ℕ)) (today : Option DayParts) → IsCode code → StoreFits code.declared store
+        → HasShape code (opening code store lines today) × AreApart (opening code store lines today).env.store.areas }
+{
+    legal_codes();
     tables_keep_their_kind();
 }
