@@ -1,14 +1,12 @@
 -- Where a step leads, the world fits what is known.
-use Rattle.std.proofs.Common.{◌≡◌, ◌≤◌, ◌<◌, ℕ, ◌+◌, Bool, true, false, ◌&&◌, List, [], ◌∷◌, ◌++◌, length, map, drop, Option, Some, None, refl, sym, ap, ◌∙◌, subst, arith}
-use Rattle.std.specs.Prelude.{nat_lt, slice_get}
+use Rattle.std.proofs.Common.{◌≡◌, ◌<◌, ℕ, ◌+◌, true, ◌&&◌, List, [], ◌∷◌, length, Some, refl, sym, subst}
 use Rattle.std.proofs.lemmas.Bool.{and_parts, and_from}
 use Rattle.xvalue.specs.declared.kind.Kind.{Kind}
 use Rattle.xvalue.specs.declared.kind.Kind.TheVariants.{Number as OfNumber, Text as OfText, Date as OfDate, Logical as OfLogical}
-use Rattle.xvalue.specs.Kinds.{kind_of, same_kind}
 use Rattle.code_items.specs.declared.code.Code.{Code}
 use Rattle.code_items.specs.declared.state.State.{State}
 use Rattle.code_items.specs.Desks.{desk_covered}
-use Rattle.code_items.specs.Kinds.{same_pair, same_kinds, slots_covered}
+use Rattle.code_items.specs.Kinds.{same_kinds, slots_covered}
 use Rattle.code_items.specs.declared.instr.ValueInstr.{ValueInstr}
 use Rattle.code_items.specs.declared.instr.FlowInstr.{FlowInstr}
 use Rattle.code_items.specs.declared.instr.FlowInstr.TheVariants.{Jump, JumpFalse, Call, Return, End}
@@ -21,9 +19,9 @@ use Rattle.code_rules.specs.Kept.{KeepsRules}
 use Rattle.code_rules.specs.Places.{instr_at, state_at}
 use Rattle.code_rules.specs.Rules.{covers, here_at}
 use Rattle.code_laws.specs.Connects.{IsOfProcedures, Connects}
-use Rattle.run_steps.specs.World.{World, state_of, desk_of, kind_held}
+use Rattle.run_steps.specs.World.{World, state_of, desk_of}
 use Rattle.run_steps.specs.Control.{entry_place, is_false, effect}
-use Rattle.run_steps.specs.Effects.{top, value_env, value_values, screen_env, screen_values}
+use Rattle.run_steps.specs.Effects.{top}
 use Rattle.fit_laws.specs.Fits.{Fits, IsFitting, leaves_areas}
 use Rattle.fit_laws.proofs.Clear.{Rules, rules, outside}
 use Rattle.fit_laws.proofs.Covered.{Covered, covered}

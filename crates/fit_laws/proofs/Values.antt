@@ -1,5 +1,5 @@
 -- What instructions on values and on the screen leave is true of the values afterwards.
-use Rattle.std.proofs.Common.{◌≡◌, ◌≤◌, ◌<◌, ℕ, zero, suc, ◌+◌, Bool, true, false, not, ◌||◌, ◌&&◌, List, [], ◌∷◌, ◌++◌, length, map, drop, Option, Some, None, refl, sym, ap, ◌∙◌, subst, arith}
+use Rattle.std.proofs.Common.{◌≡◌, ◌<◌, ℕ, zero, suc, true, false, not, List, [], ◌∷◌, ◌++◌, length, map, drop, Option, Some, None, refl, sym, ap, ◌∙◌, subst, arith}
 use Rattle.std.specs.Prelude.{nat_lt, nat_le, slice_get, slice_set}
 use Rattle.std.proofs.lemmas.Bool.{and_parts, and_from, or_parts, not-false, leb-false}
 use Rattle.std.proofs.lemmas.List.{length-map, drop-map}
@@ -7,7 +7,7 @@ use Rattle.text_lines.specs.Lines.{next_line}
 use Rattle.xvalue.specs.declared.kind.Kind.{Kind}
 use Rattle.xvalue.specs.declared.kind.Kind.TheVariants.{Number as OfNumber, Text as OfText, Date as OfDate, Logical as OfLogical}
 use Rattle.xvalue.specs.declared.value.Value.{Value}
-use Rattle.xvalue.specs.declared.value.Value.TheVariants.{Number, Text, Date, Logical}
+use Rattle.xvalue.specs.declared.value.Value.TheVariants.{Text, Date}
 use Rattle.xvalue.specs.declared.fun.Fun.{Fun}
 use Rattle.xvalue.specs.declared.settings.Settings.{Settings}
 use Rattle.xvalue.specs.Answers.{answered}
