@@ -65,7 +65,7 @@ calls_well w i h = some_below (call_of i) (length w.returns) h
 
 -- ---- the rules of an instruction of a procedure
 
-record Rules (code : Code) (m : State) (i : Instr) : Type 0 where
+pub record Rules (code : Code) (m : State) (i : Instr) : Type 0 where
   pub kind : clashes (wants code.declared m.desk i) m.stack ≡ false
   pub loads : LoadsWell m i
   pub known : IsKnown m.desk i
@@ -81,7 +81,7 @@ record Rules (code : Code) (m : State) (i : Instr) : Type 0 where
 filter_rule : (code : Code) (h : Here) → is_filters code h.block ≡ false → filter_fails code h ≡ false → (moves_blindly code.declared h.before h.instr || is_rows h.instr) ≡ false
 filter_rule code h e f = rw e at f
 
-rules : (code : Code) (h : Here) → is_filters code h.block ≡ false → Kept code h → Rules code h.before h.instr
+pub rules : (code : Code) (h : Here) → is_filters code h.block ≡ false → Kept code h → Rules code h.before h.instr
 rules code h o k =
     let a = or_parts (clashes (wants code.declared h.before.desk h.instr) h.before.stack || loads_other h.before h.instr) (some_slots_fail code h) k.kind in
     let b = or_parts (clashes (wants code.declared h.before.desk h.instr) h.before.stack) (loads_other h.before h.instr) a.0 in
@@ -133,7 +133,7 @@ passes code m s i walks ok c r =
 
 -- ---- the world
 
-outside : (code : Code) → Connects code → (place : ℕ) → IsOfProcedures code place → is_filters code (block_at code place) ≡ false
+pub outside : (code : Code) → Connects code → (place : ℕ) → IsOfProcedures code place → is_filters code (block_at code place) ≡ false
 outside code c place lt =
     let p = c.stands place lt in
     lt-leb (length code.procedures) (block_at code place).number (slice_get_within code.procedures (block_at code place).number p.procedure p.is)

@@ -34,7 +34,7 @@ kinds_same OfLogical OfText e = absurd (cc)
 kinds_same OfLogical OfDate e = absurd (cc)
 kinds_same OfLogical OfLogical e = refl
 
-joined : (k l : Kind) (ks ls : List Kind) → k ≡ l → ks ≡ ls → k ∷ ks ≡ l ∷ ls
+pub joined : (k l : Kind) (ks ls : List Kind) → k ≡ l → ks ≡ ls → k ∷ ks ≡ l ∷ ls
 joined k l ks ls e f = rw (e, f) refl
 
 stacks_same : (ks ls : List Kind) → same_kinds ks ls ≡ true → ks ≡ ls

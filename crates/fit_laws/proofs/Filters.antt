@@ -103,11 +103,11 @@ desk_legal : (d : Declared) (desk : Desk) → is_desk d desk ≡ true → list_a
 unfolding is_desk
 desk_legal d desk e = (and_parts (nat_le 1 desk.selected && nat_le desk.selected 10 && length desk.areas == 10) (list_all (is_area_state d) desk.areas) e).1
 
-record Legal (d : Declared) (s : State) : Type 0 where
+pub record Legal (d : Declared) (s : State) : Type 0 where
   pub area : if_open (λ x. not (is_open d x)) (selected_in s.desk) ≡ false
   pub slots : length s.slots ≡ d.slots
 
-legal : (d : Declared) (s : State) → is_state d s ≡ true → Legal d s
+pub legal : (d : Declared) (s : State) → is_state d s ≡ true → Legal d s
 unfolding is_state
 legal d s e =
     let p = and_parts (is_desk d s.desk && length s.slots == d.slots) (nat_le (length s.stack) d.stack_bound) e in

@@ -28,7 +28,7 @@ use Rattle.run_steps.specs.Effects.{top}
 use Rattle.run_steps.specs.Faults.{bad_jump}
 use Rattle.fit_laws.specs.Fits.{ReturnsWithin}
 
-value_falls : (i : ValueInstr) → (value_signature i).falls ≡ true
+pub value_falls : (i : ValueInstr) → (value_signature i).falls ≡ true
 value_falls (Constant n) = refl
 value_falls (Load k s) = refl
 value_falls (Store k s) = refl
@@ -38,7 +38,7 @@ value_falls (Function f) = refl
 value_falls Today = refl
 value_falls (Set x on) = refl
 
-screen_falls : (i : ScreenInstr) → (screen_signature i).falls ≡ true
+pub screen_falls : (i : ScreenInstr) → (screen_signature i).falls ≡ true
 screen_falls NewLine = refl
 screen_falls (Print k) = refl
 screen_falls (Say k) = refl
@@ -92,7 +92,7 @@ leads code c place lt = record {
 within : (code : Code) (w : World) (i : Instr) → IsOfProcedures code (next_place code w i) → bad_jump code w i ≡ false
 within code w i lt = and_right (not (finishes w i) && not (if_some (no_procedure code) (call_of i))) (nat_le (places_of code.procedures) (next_place code w i)) (lt-leb (places_of code.procedures) (next_place code w i) lt)
 
-either : (P : ℕ → Type 0) (b : Bool) (p q : ℕ) → P p → P q → P (if b then p else q)
+pub either : (P : ℕ → Type 0) (b : Bool) (p q : ℕ) → P p → P q → P (if b then p else q)
 either P true p q e f = e
 either P false p q e f = f
 
