@@ -1,4 +1,4 @@
-//! What the tests of an instruction say. The functions do nothing: their contracts are the laws.
+//! What the tests of an instruction say, what a step keeps, and how a run begins. The functions do nothing: their contracts are the laws.
 
 ghost use Rattle.std.specs.Prelude.{◌≡◌, ℕ, true, false, List, Option, None};
 ghost use Rattle.code_items.specs.declared.code.Code.{Code as AnyCode};
