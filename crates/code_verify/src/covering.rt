@@ -1,11 +1,10 @@
 //! Whether what flows into a place is covered there.
 
 ghost use Rattle.std.specs.Prelude.{◌≡◌};
-ghost use Rattle.code_rules.specs.Rules.{slots_fail as slots_fail_of, desk_fails as desk_fails_of, stack_fails as stack_fails_of, if_some, leads_on as leads_on_of, some_next, no_procedure, entered as entered_of, some_slots_fail as some_slots_fail_of, some_desk_fails as some_desk_fails_of, some_stack_fails as some_stack_fails_of};
+ghost use Rattle.code_rules.specs.Rules.{slots_fail as slots_fail_of, desk_fails as desk_fails_of, stack_fails as stack_fails_of, leads_on as leads_on_of, some_next, entered as entered_of, some_slots_fail as some_slots_fail_of, some_desk_fails as some_desk_fails_of, some_stack_fails as some_stack_fails_of};
 ghost use Rattle.std.specs.Option.{option_copied};
 ghost use Rattle.code_items.specs.Legal.{IsCode};
 ghost use Rattle.code_rules.specs.Places.{map_at as map_at_of};
-ghost use Rattle.code_rules.specs.Signature.{call_of};
 ghost use Rattle.code_rules.specs.Wants.{gives as gives_of, unknown as unknown_of};
 ghost use Rattle.code_verify.specs.Told.{told, IsPlace};
 
@@ -15,6 +14,7 @@ use code_rules::Signature;
 use code_rules::blocks::map_at;
 use code_rules::kinds::gives;
 use code_rules::signature::{called, target};
+use code_tests::operands::calls_none;
 
 fn slots_fail(code: &Code, place: usize, state: &State) -> bool
     requires { IsCode code.now }
@@ -42,20 +42,6 @@ fn stack_fails(code: &Code, unknown: usize, place: usize, state: &State) -> bool
 {
     match map_at(code, place) {
         Some(map) => !state.stack.is_covered_by(&map.stack, unknown),
-        None => false,
-    }
-}
-
-/// Whether it calls a procedure that isn't there.
-fn calls_none(code: &Code, instr: Instr) -> bool
-    ensures { result ≡ if_some (no_procedure code.now) (call_of instr) }
-{
-    match called(instr) {
-        Some(number) => code
-            .procedures
-            .as_slice()
-            .get(usize::from(number))
-            .is_none(),
         None => false,
     }
 }

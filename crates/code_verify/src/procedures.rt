@@ -3,18 +3,19 @@
 ghost use Rattle.std.specs.Prelude.{◌≡◌, slice_get};
 ghost use Rattle.std.specs.Option.{option_copied};
 ghost use Rattle.std.specs.List.{list_any};
-ghost use Rattle.code_rules.specs.Rules.{is_outside as is_outside_of, jump_fails as jump_fails_of, is_filters as is_filters_of, runs_over as runs_over_of, fall_fails as fall_fails_of, level_of as level_of_procedure, not_below, level_fails as level_fails_of, not_covered, value_filters as value_filters_of, question_filters as question_filters_of, covers as covers_of, exit_fails as exit_fails_of, lacks as lacks_of, filter_lacks as filter_lacks_of, moves_blindly as moves_blindly_of, is_rows as is_rows_of, filters as filters_of, is_truth as is_truth_of, ends_untrue as ends_untrue_of, filter_fails as filter_fails_of, returns as returns_of};
+ghost use Rattle.code_rules.specs.Rules.{is_outside as is_outside_of, jump_fails as jump_fails_of, is_filters as is_filters_of, runs_over as runs_over_of, fall_fails as fall_fails_of, level_of as level_of_procedure, not_below, level_fails as level_fails_of, not_covered, covers as covers_of, exit_fails as exit_fails_of, lacks as lacks_of, filter_lacks as filter_lacks_of, moves_blindly as moves_blindly_of, is_truth as is_truth_of, ends_untrue as ends_untrue_of, filter_fails as filter_fails_of, returns as returns_of};
 ghost use Rattle.code_verify.specs.Told.{told, IsPlace};
 
 use crate::covering::unknown;
 use crate::here::Here;
+use crate::stacks::kind_at;
 use code_items::declared::{Filter, Need};
-use code_items::{
-    Code, Declared, FlowInstr, Instr, KindStack, Question, RecordInstr, State, ValueInstr,
-};
+use code_items::{Code, Declared, FlowInstr, Instr, KindStack, State};
 use code_rules::Signature;
 use code_rules::blocks::{Block, map_at};
 use code_rules::signature::{called, target};
+use code_tests::filters::{filters, is_rows};
+use code_tests::slots::lacks as lacks_kind;
 use xvalue::Kind;
 
 fn is_outside(block: Block, place: usize) -> bool
@@ -127,11 +128,7 @@ pub fn exit_fails(h: &Here) -> bool
 fn lacks(slots: &[Option<Kind>], need: Need) -> bool
     ensures { result ≡ lacks_of slots.now need }
 {
-    match slots.get(usize::from(need.slot)) {
-        Some(Some(there)) => !there.is(need.kind),
-        Some(None) => true,
-        None => false,
-    }
+    lacks_kind(need.kind, kind_at(slots, usize::from(need.slot)))
 }
 
 fn lacks_some(slots: &[Option<Kind>], needs: &[Need]) -> bool
@@ -158,48 +155,6 @@ fn moves_blindly(declared: &Declared, state: &State, instr: Instr) -> bool
     match state.desk.selected_area() {
         Some(area) => filter_lacks(state.slots.kinds(), declared.filter(area.filter)),
         None => false,
-    }
-}
-
-fn is_rows(instr: Instr) -> bool
-    ensures { result ≡ is_rows_of instr }
-{
-    matches!(instr, Instr::Records(RecordInstr::RowField(_)))
-}
-
-fn value_filters(instr: ValueInstr) -> bool
-    ensures { result ≡ value_filters_of instr }
-{
-    match instr {
-        ValueInstr::Constant(_)
-        | ValueInstr::Load(_, _)
-        | ValueInstr::Function(_)
-        | ValueInstr::Today => true,
-        ValueInstr::Store(_, _)
-        | ValueInstr::Unset(_)
-        | ValueInstr::Discard(_)
-        | ValueInstr::Set(_, _) => false,
-    }
-}
-
-fn question_filters(question: Question) -> bool
-    ensures { result ≡ question_filters_of question }
-{
-    match question {
-        Question::Recno | Question::Reccount | Question::Deleted => true,
-        Question::Eof | Question::Bof | Question::Found => false,
-    }
-}
-
-/// Whether a filter's block may have the instruction.
-fn filters(instr: Instr) -> bool
-    ensures { result ≡ filters_of instr }
-{
-    match instr {
-        Instr::Values(instr) => value_filters(instr),
-        Instr::Records(RecordInstr::RowField(_)) => true,
-        Instr::Records(RecordInstr::Ask(question)) => question_filters(question),
-        _ => false,
     }
 }
 

@@ -4,12 +4,13 @@ ghost use Rattle.std.specs.Prelude.{◌≡◌};
 ghost use Rattle.code_rules.specs.Rules.{refusal_of};
 ghost use Rattle.code_verify.specs.Told.{told, IsPlace};
 
-use crate::desks::{closed_fails, opens_twice, order_fails, table_fails};
+use crate::desks::{closed_fails, table_fails};
 use crate::here::Here;
-use crate::operands::undeclared;
 use crate::procedures::{exit_fails, fall_fails, filter_fails, jump_fails, level_fails};
 use crate::stacks::{empty_fails, kind_fails, loads_free, over_fails, under_fails};
 use code_rules::Rule;
+use code_tests::desks::{opens_twice, order_fails};
+use code_tests::operands::undeclared;
 
 /// The first rule that fails at the place, if one fails.
 #[tactic(auto, unfolding(code_rules::specs::Rules::refusal_of))]

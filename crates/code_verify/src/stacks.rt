@@ -1,6 +1,6 @@
 //! Rules on the stack and the slots that an instruction finds.
 
-ghost use Rattle.std.specs.Prelude.{◌≡◌};
+ghost use Rattle.std.specs.Prelude.{◌≡◌, slice_get};
 ghost use Rattle.code_rules.specs.Rules.{loads_other as loads_other_of, loads_free as loads_free_of, under_fails as under_fails_of, over_fails as over_fails_of, leaves_values as leaves_values_of, kind_fails as kind_fails_of, empty_fails as empty_fails_of};
 ghost use Rattle.code_verify.specs.Told.{told, IsPlace};
 
@@ -9,16 +9,26 @@ use crate::here::Here;
 use code_items::{Instr, State, ValueInstr};
 use code_rules::Signature;
 use code_rules::kinds::wants;
+use code_tests::heights::{is_over, is_under};
+use code_tests::slots::{has_other, is_free};
+use xvalue::Kind;
+
+/// What is known of a slot, if it is there.
+pub fn kind_at(slots: &[Option<Kind>], slot: usize) -> Option<Option<Kind>>
+    ensures { result ≡ slice_get slots.now slot }
+{
+    match slots.get(slot) {
+        Some(kind) => Some(*kind),
+        None => None,
+    }
+}
 
 fn loads_other(state: &State, instr: Instr) -> bool
     ensures { result ≡ loads_other_of state.now instr }
 {
     match instr {
         Instr::Values(ValueInstr::Load(kind, slot)) => {
-            match state.slots.kinds().get(usize::from(slot)) {
-                Some(Some(there)) => !there.is(kind),
-                _ => false,
-            }
+            has_other(kind, kind_at(state.slots.kinds(), usize::from(slot)))
         }
         _ => false,
     }
@@ -29,9 +39,10 @@ pub fn loads_free(state: &State, instr: Instr) -> bool
     ensures { result ≡ loads_free_of state.now instr }
 {
     match instr {
-        Instr::Values(ValueInstr::Load(_, slot)) => {
-            matches!(state.slots.kinds().get(usize::from(slot)), Some(None))
-        }
+        Instr::Values(ValueInstr::Load(_, slot)) => is_free(kind_at(
+            state.slots.kinds(),
+            usize::from(slot),
+        )),
         _ => false,
     }
 }
@@ -52,16 +63,14 @@ pub fn kind_fails(h: &Here) -> bool
 pub fn under_fails(h: &Here) -> bool
     ensures { result ≡ under_fails_of (told h.now) }
 {
-    h.before.stack.len() < Signature::of(h.instr).taken
+    is_under(h.before.stack.len(), h.instr)
 }
 
 /// Whether the stack is higher than the bound afterwards.
 pub fn over_fails(h: &Here) -> bool
     ensures { result ≡ over_fails_of h.now.code.now (told h.now) }
 {
-    let signature = Signature::of(h.instr);
-    let left = h.before.stack.len().saturating_sub(signature.taken);
-    u128::from(h.code.declared.stack_bound) < left as u128 + signature.adds as u128
+    is_over(&h.code.declared, h.before.stack.len(), h.instr)
 }
 
 fn leaves_values(h: &Here) -> bool

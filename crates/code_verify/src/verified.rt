@@ -1,20 +1,30 @@
 //! Code that the verifier accepted, and why it may say no.
 
 ghost use Rattle.std.specs.Prelude.{◌≡◌};
-ghost use Rattle.std.proofs.Props.{props};
 ghost use Rattle.code_items.specs.Legal.{IsCode};
 ghost use Rattle.code_rules.specs.Rules.{Accepted};
 
 use code_items::Code;
 use code_rules::Rule;
 use std::fmt;
+use std::marker::Model;
 
-/// A code that has a code file and that the verifier accepted.
+/// A code that has a code file and that the verifier accepted. It is seen as that code.
 #[derive(Drop)]
 pub struct Verified {
-    pub code: Code,
-    pub ghost legal: { IsCode code },
-    pub ghost accepted: { Accepted code },
+    code: Code,
+}
+
+impl Model for Verified {
+    ghost use Rattle.code_items.specs.Legal.{IsCode};
+    ghost use Rattle.code_items.specs.declared.code.Code.{Code as AnyCode};
+    ghost use Rattle.code_rules.specs.Rules.{Accepted};
+
+    ghost Value = { AnyCode };
+
+    ghost view = { λ v. v.code };
+
+    ghost invariant = { λ v. IsCode v.code × Accepted v.code };
 }
 
 /// A rule that fails, and the place at which it does, counted from 0.
@@ -40,9 +50,18 @@ pub enum VerifyError {
 }
 
 impl Verified {
+    /// This code, which has a code file and is accepted.
+    pub(crate) fn of(code: Code) -> Verified
+        requires legal { IsCode code }
+        requires accepted { Accepted code }
+        ensures { result ≡ code }
+    {
+        Verified { code }
+    }
+
     /// The accepted code.
     pub fn code(&self) -> &Code
-        ensures same { result.now ≡ self.now.code }
+        ensures same { result.now ≡ self.now }
         ensures legal { IsCode result.now }
         ensures accepted { Accepted result.now }
     {

@@ -75,7 +75,7 @@ fn look(alloc: Global, code: &Code, place: usize, incoming: State) -> Result<Fin
 /// least rule that fails there; places are counted from 0. Want of memory may be told before a refusal.
 pub fn verify(alloc: Global, code: Code) -> Result<Verified, VerifyError>
     requires { IsCode code }
-    ensures yes { IfOk result (λ verified. verified.code ≡ code) }
+    ensures yes { IfOk result (λ verified. verified ≡ code) }
     ensures no { IfErr result (Refuses code) }
 {
     let first = block_at(&code, 0);
@@ -91,5 +91,5 @@ pub fn verify(alloc: Global, code: Code) -> Result<Verified, VerifyError>
         }
         incoming = finding.after;
     }
-    Ok(Verified { code })
+    Ok(Verified::of(code))
 }

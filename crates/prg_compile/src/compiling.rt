@@ -78,7 +78,7 @@ fn whole(kind: FaultKind) -> CompileRefusal {
 }
 
 fn accepted(alloc: Global, code: Code) -> Result<Verified, CompileRefusal>
-    ensures { IfOk result (λ verified. verified.code ≡ code) }
+    ensures { IfOk result (λ verified. verified ≡ code) }
 {
     if !code.is_legal() {
         return Err(whole(FaultKind::Limit));
@@ -102,7 +102,7 @@ pub fn compile(
     shape: &Shape,
 ) -> Result<Verified, CompileRefusal>
     requires programs { 0 < length programs.now }
-    ensures shape { IfOk result (λ verified. verified.code.declared.shape ≡ shape.now) }
+    ensures shape { IfOk result (λ verified. verified.declared.shape ≡ shape.now) }
 {
     let copy = copy_of_shape(alloc, shape)?;
     let Writer { out, copies, .. } = written(alloc, &Source { programs, shape })?;

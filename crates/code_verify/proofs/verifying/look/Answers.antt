@@ -1,8 +1,8 @@
-use Rattle.std.proofs.Common.{◌≡◌, ◌+◌, ◌<◌, ap, ◌∙◌, arith, rules, sym, subst}
+use Rattle.std.proofs.Common.{◌≡◌, ap, ◌∙◌, arith, rules, sym}
 use Rattle.code_rules.specs.Flow.{flow}
 use Rattle.code_rules.specs.Places.{block_at, start_of}
 use Rattle.code_rules.specs.Rules.{refusal_of}
-use Rattle.code_verify.proofs.Findings.{rule_found, next_found, start_found, got, seen}
+use Rattle.code_verify.proofs.Findings.{rule_found, next_found, start_found, got}
 use Rattle.code_verify.proofs.verifying.look.Goals as goal
 
 pub refusal-rule-requires : goal.refusal-rule-requires

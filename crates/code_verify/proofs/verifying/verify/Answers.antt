@@ -1,4 +1,4 @@
-use Rattle.std.proofs.Common.{◌≡◌, sym, ◌∙◌, ap, arith}
+use Rattle.std.proofs.Common.{sym, ◌∙◌, ap, arith}
 use Rattle.code_rules.specs.Places.{start_of}
 use Rattle.code_verify.proofs.Findings.{first_found}
 use Rattle.code_verify.proofs.verifying.verify.Goals as goal

@@ -1,6 +1,6 @@
-use Rattle.std.proofs.Common.{◌≡◌, ◌≤◌, ◌+◌, ◌^◌, length}
+use Rattle.std.proofs.Common.{◌≡◌, ◌≤◌, ◌+◌, length}
 use Rattle.code_rules.specs.Rules.{others_hold}
-use Rattle.code_verify.proofs.desks.others_hold.Given as goal
+use Rattle.code_tests.proofs.desks.others_hold.Given as goal
 
 abbrev pub invariant-loop-area : goal.invariant-loop-area
 invariant-loop-area l = record {

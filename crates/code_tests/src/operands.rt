@@ -1,11 +1,13 @@
 //! Whether an instruction names what is declared.
 
 ghost use Rattle.std.specs.Prelude.{◌≡◌};
-ghost use Rattle.code_rules.specs.Rules.{value_undeclared as value_undeclared_of, is_no_list as is_no_list_of, area_undeclared as area_undeclared_of, no_field as no_field_of, record_undeclared as record_undeclared_of, undeclared as undeclared_of};
+ghost use Rattle.code_rules.specs.Signature.{call_of};
+ghost use Rattle.code_rules.specs.Rules.{value_undeclared as value_undeclared_of, is_no_list as is_no_list_of, area_undeclared as area_undeclared_of, no_field as no_field_of, record_undeclared as record_undeclared_of, undeclared as undeclared_of, if_some, no_procedure};
 
 use crate::desks::has_table;
-use code_items::{AreaInstr, Code, Declared, Desk, FlowInstr, Instr, RecordInstr, ValueInstr};
+use code_items::{AreaInstr, Code, Declared, Desk, Instr, RecordInstr, ValueInstr};
 use code_rules::kinds::fields_at;
+use code_rules::signature::called;
 
 fn value_undeclared(declared: &Declared, instr: ValueInstr) -> bool
     ensures { result ≡ value_undeclared_of declared.now instr }
@@ -59,18 +61,27 @@ fn record_undeclared(declared: &Declared, desk: &Desk, instr: RecordInstr) -> bo
     }
 }
 
+/// Whether it calls a procedure that isn't there.
+pub fn calls_none(code: &Code, instr: Instr) -> bool
+    ensures { result ≡ if_some (no_procedure code.now) (call_of instr) }
+{
+    match called(instr) {
+        Some(number) => code
+            .procedures
+            .as_slice()
+            .get(usize::from(number))
+            .is_none(),
+        None => false,
+    }
+}
+
 /// Whether an operand names no declared constant, slot, table, list, filter, field or procedure.
 pub fn undeclared(code: &Code, desk: &Desk, instr: Instr) -> bool
     ensures { result ≡ undeclared_of code.now desk.now instr }
 {
     match instr {
         Instr::Values(instr) => value_undeclared(&code.declared, instr),
-        Instr::Flow(FlowInstr::Call(number)) => {
-            code.procedures
-                .as_slice()
-                .get(usize::from(number))
-                .is_none()
-        }
+        Instr::Flow(_) => calls_none(code, instr),
         Instr::Areas(instr) => area_undeclared(&code.declared, instr),
         Instr::Records(instr) => record_undeclared(&code.declared, desk, instr),
         _ => false,
