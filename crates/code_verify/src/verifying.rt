@@ -3,7 +3,7 @@
 ghost use Rattle.std.specs.Prelude.{◌≡◌, ◌+◌, ◌<◌, length, IfOk, IfErr};
 ghost use Rattle.code_items.specs.Legal.{IsCode};
 ghost use Rattle.code_rules.specs.Places.{block_at as block_at_of, map_at as map_at_of, or_state, begun as begun_at, incoming_at};
-ghost use Rattle.code_rules.specs.Rules.{refusal_at};
+ghost use Rattle.code_rules.specs.Rules.{refusal_at, Accepted};
 ghost use Rattle.code_verify.specs.Verdict.{Refuses};
 
 use crate::here::Here;
@@ -76,6 +76,7 @@ fn look(alloc: Global, code: &Code, place: usize, incoming: State) -> Result<Fin
 pub fn verify(alloc: Global, code: Code) -> Result<Verified, VerifyError>
     requires { IsCode code }
     ensures yes { IfOk result (λ verified. verified ≡ code) }
+    ensures accepted { IfOk result (λ _. Accepted code) }
     ensures no { IfErr result (Refuses code) }
 {
     let first = block_at(&code, 0);
