@@ -1,0 +1,3 @@
+pub mod Held
+pub mod Filled
+pub mod Worlds

@@ -1,0 +1,33 @@
+//! Room for the tests, taken once for a run.
+
+use crate::areas::TenAreas;
+use run_values::Pile;
+use std::alloc::{AllocError, Global};
+use xvalue::Kind;
+
+/// Room for the test of a filter's block: the work areas that it finds, and the kinds on its stack.
+#[derive(Drop)]
+pub struct BlockScratch {
+    pub areas: TenAreas,
+    pub kinds: Pile<Kind>,
+}
+
+/// Room for the tests of an instruction: the work areas as they are, and what the test of a filter needs.
+#[derive(Drop)]
+pub struct Scratch {
+    pub areas: TenAreas,
+    pub block: BlockScratch,
+}
+
+impl Scratch {
+    /// All the room that the tests of a run need.
+    pub fn new(alloc: Global) -> Result<Scratch, AllocError> {
+        Ok(Scratch {
+            areas: TenAreas::new(alloc)?,
+            block: BlockScratch {
+                areas: TenAreas::new(alloc)?,
+                kinds: Pile::new(alloc)?,
+            },
+        })
+    }
+}
