@@ -1,18 +1,14 @@
 -- What instructions on records leave of the values: a field's value has the kind that is declared.
-use Rattle.std.proofs.Common.{◌≡◌, ℕ, zero, suc, ◌<◌, true, false, List, [], ◌∷◌, ◌++◌, length, drop, Option, Some, refl, sym, ap, subst, ◌∙◌, arith}
-use Rattle.std.specs.Prelude.{map, nat_le, slice_get, slice_index_or, is_none, IfSome}
-use Rattle.std.proofs.lemmas.Bool.{leb-false}
+use Rattle.std.proofs.Common.{◌≡◌, ℕ, true, false, List, [], ◌∷◌, ◌++◌, drop, Option, Some, refl, sym, ap, subst, ◌∙◌}
+use Rattle.std.specs.Prelude.{slice_get, slice_index_or, is_none}
 use Rattle.xvalue.specs.declared.kind.Kind.{Kind}
 use Rattle.xvalue.specs.Kinds.{kind_of}
-use Rattle.dbf_file.specs.declared.field.Field.{Field as TableField}
 use Rattle.dbf_file.specs.declared.field.Letter.{Letter}
 use Rattle.dbf_file.specs.declared.field.Letter.TheVariants.{C, N, D, L}
 use Rattle.dbf_file.specs.Tables.{letter_at, decimals_at}
 use Rattle.dbf_file.specs.Values.{kind_for, value_by}
-use Rattle.shape.specs.declared.tables.TableShape.{TableShape}
 use Rattle.work_area.specs.Open.{OpenState, current_row, field_of}
 use Rattle.work_store.specs.Areas.{StoreState, area_table, here}
-use Rattle.work_store.specs.Making.{AreAlike}
 use Rattle.code_items.specs.declared.code.Code.{Code}
 use Rattle.code_items.specs.declared.declared.Declared.{Declared}
 use Rattle.code_items.specs.declared.desk.Desk.{Desk}
@@ -23,55 +19,21 @@ use Rattle.code_items.specs.declared.instr.Instr.TheVariants.{Records}
 use Rattle.code_items.specs.declared.instr.RecordInstr.{RecordInstr}
 use Rattle.code_items.specs.declared.instr.RecordInstr.TheVariants.{Field, RowField, Ask, Append, Replace, Delete, Recall, Pack, Zap, Reindex, Index}
 use Rattle.code_rules.specs.Signature.{record_signature}
-use Rattle.code_rules.specs.Wants.{fields_in, fields_at, kind_of_field, field_kind, kind_asked, record_gives, known}
-use Rattle.code_rules.specs.Rules.{no_field, if_open}
+use Rattle.code_rules.specs.Wants.{fields_at, kind_of_field, field_kind, kind_asked, record_gives, known}
+use Rattle.code_rules.specs.Rules.{no_field}
 use Rattle.run_values.specs.Tagged.{TaggedValues, pushed}
 use Rattle.run_steps.specs.World.{World, desk_of}
 use Rattle.run_steps.specs.Effects.{answer, on_table, record_values}
 use Rattle.run_steps.specs.Faults.{IsClear}
 use Rattle.run_steps.specs.Shapes.{StoreFits}
 use Rattle.run_laws.proofs.Known.{OpenThere}
-use Rattle.run_laws.proofs.Tests.{first_no, is_there}
+use Rattle.run_laws.proofs.OnRecords.{field_known}
+use Rattle.run_laws.proofs.Tests.{first_no}
 use Rattle.fit_laws.proofs.Covered.{Desks, opens}
 use Rattle.fit_laws.proofs.Desks.{IsKnown}
 use Rattle.fit_laws.proofs.Values.{Tells, push_told, drop_told}
 
 -- ---- the kind of a field
-
-alike_self : (fs : List TableField) → AreAlike fs fs
-alike_self fs = record { count = refl; each = λ k d lt. record { letter = refl; width = refl; decimals = refl } }
-
--- the fields of an open area's table hold what the declared ones do
-fields_alike : (d : Declared) (s : StoreState) (a : ℕ) → StoreFits d s → (o : OpenThere d s a) → AreAlike o.table.table.structure.fields (fields_in (slice_get d.shape.tables o.use_of.table))
-fields_alike d s a fits o =
-    let shape = is_there d.shape.tables o.use_of.table o.declared in
-    let stands = fits.fields o.use_of.table (omega (arith, o.declared, fits.count)) in
-    let by_table = subst (λ x. IfSome x (λ (p : OpenState). IfSome (slice_get d.shape.tables o.use_of.table) (λ (t : TableShape). p.table.structure.fields ≡ t.fields))) o.at stands in
-    let same : o.table.table.structure.fields ≡ shape.0.fields = subst (λ x. IfSome x (λ (t : TableShape). o.table.table.structure.fields ≡ t.fields)) shape.1 by_table in
-    subst (λ (fs : List TableField). AreAlike o.table.table.structure.fields fs) (same ∙ sym (ap fields_in shape.1)) (alike_self o.table.table.structure.fields)
-
-kind_there : (fs : List TableField) (f : ℕ) → f < length fs → kind_of_field (slice_get fs f) ≡ Some (kind_for (slice_index_or (map (λ g. g.letter) fs) f C))
-kind_there [] f lt = absurd (omega (arith, lt))
-kind_there (g ∷ fs) zero lt = refl
-kind_there (g ∷ fs) (suc f) lt = kind_there fs f (omega (arith, lt))
-
-letter_there : (fs : List TableField) (f : ℕ) (d : TableField) → f < length fs → slice_index_or (map (λ g. g.letter) fs) f C ≡ (slice_index_or fs f d).letter
-letter_there [] f d lt = absurd (omega (arith, lt))
-letter_there (g ∷ fs) zero d lt = refl
-letter_there (g ∷ fs) (suc f) d lt = letter_there fs f d (omega (arith, lt))
-
-field_known : (d : Declared) (s : StoreState) (a f : ℕ) → StoreFits d s → (o : OpenThere d s a) → no_field d (desk_of s) a f ≡ false → field_kind d (desk_of s) a f ≡ Some (kind_for (letter_at o.table.table.structure f))
-field_known d s a f fits o e =
-    let fs = fields_in (slice_get d.shape.tables o.use_of.table) in
-    let gs = o.table.table.structure.fields in
-    let fails : nat_le (length fs) f ≡ false = ap (if_open (λ b. nat_le (length (fields_at d (Some b))) f)) (sym o.known) ∙ e in
-    let within : f < length fs = leb-false (length fs) f fails in
-    let alike = fields_alike d s a fits o in
-    let lt : f < length gs = omega (arith, within, alike.count) in
-    let g = (is_there gs f lt).0 in
-    let each = alike.each f g lt in
-    let letters : slice_index_or (map (λ (h : TableField). h.letter) fs) f C ≡ letter_at o.table.table.structure f = letter_there fs f g within ∙ sym each.letter ∙ sym (letter_there gs f g lt) in
-    ap (λ (hs : List TableField). kind_of_field (slice_get hs f)) (ap (fields_at d) o.known) ∙ kind_there fs f within ∙ ap (λ (l : Letter). Some (kind_for l)) letters
 
 value_kind : (l : Letter) (decimals : ℕ) (text : List ℕ) → kind_of (value_by l decimals text) ≡ kind_for l
 value_kind C decimals text = refl
