@@ -19,7 +19,7 @@ use Rattle.code_laws.specs.Connects.{IsOfProcedures, Connects}
 use Rattle.code_laws.specs.FilterWalks.{WalksWithNeeds}
 use Rattle.run_steps.specs.World.{World, state_of}
 use Rattle.run_steps.specs.Faults.{wrong_kind, closed_area, empty_stack, stack_over, deep_call, bad_field, bad_filter, lists_other, filters_other, moves_badly, IsClear}
-use Rattle.fit_laws.specs.Fits.{HasRoom, IsFitting}
+use Rattle.fit_laws.specs.Fits.{HasRoom, ReturnsWithin, IsFitting}
 use Rattle.fit_laws.proofs.Covered.{Covered, covered, Desks}
 use Rattle.fit_laws.proofs.Desks.{IsKnown, known_too, wants_same, order_same, once, declared_same, record_other_same, area_other_same}
 use Rattle.fit_laws.proofs.Filters.{moves_well}
@@ -138,8 +138,8 @@ outside code c place lt =
     let p = c.stands place lt in
     lt-leb (length code.procedures) (block_at code place).number (slice_get_within code.procedures (block_at code place).number p.procedure p.is)
 
-pub is_clear : (code : Code) (w : World) → Connects code → WalksWithNeeds code → Kept code (here_at code w.place) → IsFitting code w → IsClear code w (instr_at code w.place)
-is_clear code w c walks k f =
+pub is_clear : (code : Code) (w : World) → Connects code → WalksWithNeeds code → Kept code (here_at code w.place) → IsFitting code w → HasRoom w (instr_at code w.place) → ReturnsWithin code w → IsClear code w (instr_at code w.place)
+is_clear code w c walks k f room returns =
     let r : Rules code (state_at code w.place) (instr_at code w.place) = rules code (here_at code w.place) (outside code c w.place f.shape.place) k in
     let p = passes code (state_at code w.place) (state_of w) (instr_at code w.place) walks f.shape.state (covered (state_at code w.place) (state_of w) f.fits) r in
     record {
@@ -148,10 +148,10 @@ is_clear code w c walks k f =
       area = p.area;
       there = p.there;
       room = p.room;
-      jump = jumps_within code c w f.shape.place f.returns;
+      jump = jumps_within code c w f.shape.place returns;
       order = p.order;
       once = p.once;
-      deep = calls_well w (instr_at code w.place) f.room;
+      deep = calls_well w (instr_at code w.place) room;
       declared = p.declared;
       filter = p.filter;
     }

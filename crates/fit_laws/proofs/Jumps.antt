@@ -47,7 +47,7 @@ screen_falls (Input k) = refl
 screen_falls Line = refl
 screen_falls Clear = refl
 
-area_falls : (i : AreaInstr) → (area_signature i).falls ≡ true
+pub area_falls : (i : AreaInstr) → (area_signature i).falls ≡ true
 area_falls (Open t l) = refl
 area_falls Close = refl
 area_falls CloseAll = refl
@@ -55,14 +55,14 @@ area_falls (Select a) = refl
 area_falls (Order n) = refl
 area_falls (Filter n) = refl
 
-move_falls : (i : MoveInstr) → (move_signature i).falls ≡ true
+pub move_falls : (i : MoveInstr) → (move_signature i).falls ≡ true
 move_falls Top = refl
 move_falls Bottom = refl
 move_falls Skip = refl
 move_falls Go = refl
 move_falls Seek = refl
 
-record_falls : (i : RecordInstr) → (record_signature i).falls ≡ true
+pub record_falls : (i : RecordInstr) → (record_signature i).falls ≡ true
 record_falls (Field a f) = refl
 record_falls (RowField f) = refl
 record_falls (Ask q) = refl

@@ -1,8 +1,14 @@
 pub mod Clear
 pub mod Covered
 pub mod Desks
+pub mod DesksAfter
+pub mod Fields
 pub mod Filters
 pub mod Jumps
 pub mod Going
 pub mod Loads
+pub mod Openings
+pub mod Returns
+pub mod Runs
+pub mod StoreDesks
 pub mod Values

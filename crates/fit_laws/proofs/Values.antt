@@ -67,7 +67,7 @@ holds code w (Set x on) l h e = tt
 
 -- ---- one change of values
 
-push_told : (slots : List (Option Kind)) (stack : List Kind) (t : TaggedValues) (k : Kind) (value : Value) → kind_of value ≡ k → Tells slots stack t → Tells slots (k ∷ stack) (pushed value t)
+pub push_told : (slots : List (Option Kind)) (stack : List Kind) (t : TaggedValues) (k : Kind) (value : Value) → kind_of value ≡ k → Tells slots stack t → Tells slots (k ∷ stack) (pushed value t)
 push_told slots stack t k value e h = record {
   slots_true = h.slots_true;
   stack_true = joined k (kind_of value) stack (map kind_of t.stack) (sym e) h.stack_true;

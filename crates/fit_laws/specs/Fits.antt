@@ -1,12 +1,10 @@
 -- Worlds that fit what is known at their place.
-use Rattle.std.specs.Prelude.{◌≡◌, ◌<◌, ℕ, true, Some, IfSome, length, slice_get, Bool, false}
+use Rattle.std.specs.Prelude.{◌≡◌, ◌<◌, ℕ, ◌+◌, true, List, [], ◌∷◌, Some, IfSome, length, slice_get}
+use Rattle.work_store.specs.Areas.{AreApart}
 use Rattle.code_items.specs.declared.code.Code.{Code}
-use Rattle.code_items.specs.declared.instr.FlowInstr.{FlowInstr}
-use Rattle.code_items.specs.declared.instr.FlowInstr.TheVariants.{Jump, JumpFalse, Call, Return, End}
 use Rattle.code_items.specs.declared.instr.Instr.{Instr}
-use Rattle.code_items.specs.declared.instr.Instr.TheVariants.{Values, Flow, Screen, Areas, Moves, Records}
 use Rattle.code_rules.specs.Signature.{call_of}
-use Rattle.code_rules.specs.Places.{instr_at, state_at}
+use Rattle.code_rules.specs.Places.{instr_at, block_at, state_at}
 use Rattle.code_rules.specs.Rules.{covers}
 use Rattle.code_laws.specs.Connects.{IsOfProcedures}
 use Rattle.run_steps.specs.World.{World, state_of}
@@ -16,6 +14,34 @@ use Rattle.run_steps.specs.Shapes.{HasShape}
 abbrev pub Fits : Code → World → Type 0
 Fits code w = covers (state_at code w.place) (state_of w) ≡ true
 
+-- ---- the places behind calls
+
+-- the number of the procedure in whose block a place stands
+abbrev pub procedure_at : Code → ℕ → ℕ
+procedure_at code place = (block_at code place).number
+
+-- a place right behind a call of a procedure, in a procedure
+pub record IsBehindCall (code : Code) (number next : ℕ) : Type 0 where
+  pub place : ℕ
+  pub behind : next ≡ place + 1
+  pub within : IsOfProcedures code place
+  pub calls : call_of (instr_at code place) ≡ Some number
+
+-- each of these places, the last call's first, stands right behind a call of the procedure that runs above it
+abbrev pub Awaits : Code → ℕ → List ℕ → Type 0
+Awaits code number [] = Unit {0}
+Awaits code number (next ∷ returns) = (call : IsBehindCall code number next) × Awaits code (procedure_at code call.place) returns
+
+-- ---- worlds
+
+-- a world of the code's shape whose work areas hold different tables, that fits what is known, and in which each procedure that
+-- runs was called from where it returns to
+pub record IsFitting (code : Code) (w : World) : Type 0 where
+  pub shape : HasShape code w
+  pub apart : AreApart w.env.store.areas
+  pub fits : Fits code w
+  pub awaits : Awaits code (procedure_at code w.place) w.returns
+
 -- a procedure can be called, if one is
 abbrev pub HasRoom : World → Instr → Type 0
 HasRoom w i = (n : ℕ) → call_of i ≡ Some n → length w.returns < 20
@@ -23,27 +49,3 @@ HasRoom w i = (n : ℕ) → call_of i ≡ Some n → length w.returns < 20
 -- the place behind the last call, if one hasn't returned, stands in a procedure
 abbrev pub ReturnsWithin : Code → World → Type 0
 ReturnsWithin code w = IfSome (slice_get w.returns 0) (IsOfProcedures code)
-
--- a world of the code's shape that fits what is known, and may call and return
-pub record IsFitting (code : Code) (w : World) : Type 0 where
-  pub shape : HasShape code w
-  pub fits : Fits code w
-  pub room : HasRoom w (instr_at code w.place)
-  pub returns : ReturnsWithin code w
-
--- jumps and calls
-abbrev pub flow_goes : FlowInstr → Bool
-flow_goes (Jump p) = true
-flow_goes (JumpFalse p) = true
-flow_goes (Call n) = true
-flow_goes Return = false
-flow_goes End = false
-
--- the instructions on values and on the screen, jumps and calls: they leave the work areas as they are
-abbrev pub leaves_areas : Instr → Bool
-leaves_areas (Values i) = true
-leaves_areas (Flow i) = flow_goes i
-leaves_areas (Screen i) = true
-leaves_areas (Areas i) = false
-leaves_areas (Moves i) = false
-leaves_areas (Records i) = false

@@ -38,17 +38,14 @@ use Rattle.run_laws.proofs.OnMoves.{walks}
 
 -- ---- fields
 
-alike_self : (fs : List TableField) → AreAlike fs fs
-alike_self fs = record { count = refl; each = λ k d lt. record { letter = refl; width = refl; decimals = refl } }
-
 -- the fields of an open area's table hold what the declared ones do
 fields_alike : (d : Declared) (s : StoreState) (a : ℕ) → StoreFits d s → (o : OpenThere d s a) → AreAlike o.table.table.structure.fields (fields_in (slice_get d.shape.tables o.use_of.table))
 fields_alike d s a fits o =
     let shape = is_there d.shape.tables o.use_of.table o.declared in
     let stands = fits.fields o.use_of.table (omega (arith, o.declared, fits.count)) in
-    let by_table = subst (λ x. IfSome x (λ (p : OpenState). IfSome (slice_get d.shape.tables o.use_of.table) (λ (t : TableShape). p.table.structure.fields ≡ t.fields))) o.at stands in
-    let same : o.table.table.structure.fields ≡ shape.0.fields = subst (λ x. IfSome x (λ (t : TableShape). o.table.table.structure.fields ≡ t.fields)) shape.1 by_table in
-    subst (λ (fs : List TableField). AreAlike o.table.table.structure.fields fs) (same ∙ sym (ap fields_in shape.1)) (alike_self o.table.table.structure.fields)
+    let by_table = subst (λ x. IfSome x (λ (p : OpenState). IfSome (slice_get d.shape.tables o.use_of.table) (λ (t : TableShape). AreAlike p.table.structure.fields t.fields))) o.at stands in
+    let alike : AreAlike o.table.table.structure.fields shape.0.fields = subst (λ x. IfSome x (λ (t : TableShape). AreAlike o.table.table.structure.fields t.fields)) shape.1 by_table in
+    subst (λ (fs : List TableField). AreAlike o.table.table.structure.fields fs) (sym (ap fields_in shape.1)) alike
 
 fields_known : (d : Declared) (s : StoreState) (a : ℕ) → (o : OpenThere d s a) → fields_at d (open_at (desk_of s) a) ≡ fields_in (slice_get d.shape.tables o.use_of.table)
 fields_known d s a o = ap (fields_at d) o.known
@@ -73,20 +70,26 @@ letter_there [] f d lt = absurd (omega (arith, lt))
 letter_there (g ∷ fs) zero d lt = refl
 letter_there (g ∷ fs) (suc f) d lt = letter_there fs f d (omega (arith, lt))
 
-replace_ready : Same → (code : Code) (w : World) → StoreFits code.declared w.env.store → (f : ℕ) → OpenThere code.declared w.env.store w.env.store.selected → IsClear code w (Records (Replace f)) → HasField f (here w.env.store) × IfSome (here w.env.store) (TakesField f w.values)
-replace_ready same code w fits f o c =
-    let d = code.declared in
-    let s = w.env.store in
-    let lt = field_there d s s.selected f fits o (first_no (no_field d (desk_of s) s.selected f) false c.declared) in
+-- the kind that is declared for a field of an open area's table
+pub field_known : (d : Declared) (s : StoreState) (a f : ℕ) → StoreFits d s → (o : OpenThere d s a) → no_field d (desk_of s) a f ≡ false → field_kind d (desk_of s) a f ≡ Some (kind_for (letter_at o.table.table.structure f))
+field_known d s a f fits o e =
+    let lt = field_there d s a f fits o e in
     let fs = fields_in (slice_get d.shape.tables o.use_of.table) in
     let gs = o.table.table.structure.fields in
-    let alike = fields_alike d s s.selected fits o in
+    let alike = fields_alike d s a fits o in
     let within : f < length fs = omega (arith, lt, alike.count) in
     let g = (is_there gs f lt).0 in
     let each = alike.each f g lt in
     let letters : slice_index_or (map (λ (h : TableField). h.letter) fs) f C ≡ letter_at o.table.table.structure f = letter_there fs f g within ∙ sym each.letter ∙ sym (letter_there gs f g lt) in
-    let kind : field_kind d (desk_of s) s.selected f ≡ Some (kind_for (letter_at o.table.table.structure f)) =
-    ap (λ (hs : List TableField). kind_of_field (slice_get hs f)) (fields_known d s s.selected o) ∙ kind_there fs f within ∙ ap (λ (l : Letter). Some (kind_for l)) letters in
+    ap (λ (hs : List TableField). kind_of_field (slice_get hs f)) (fields_known d s a o) ∙ kind_there fs f within ∙ ap (λ (l : Letter). Some (kind_for l)) letters
+
+replace_ready : Same → (code : Code) (w : World) → StoreFits code.declared w.env.store → (f : ℕ) → OpenThere code.declared w.env.store w.env.store.selected → IsClear code w (Records (Replace f)) → HasField f (here w.env.store) × IfSome (here w.env.store) (TakesField f w.values)
+replace_ready same code w fits f o c =
+    let d = code.declared in
+    let s = w.env.store in
+    let named = first_no (no_field d (desk_of s) s.selected f) false c.declared in
+    let lt = field_there d s s.selected f fits o named in
+    let kind = field_known d s s.selected f fits o named in
     let clash : clashes (kind_for (letter_at o.table.table.structure f) ∷ []) (state_of w).stack ≡ false =
     ap (λ (k : Option Kind). clashes (if_known k) (state_of w).stack) (sym kind) ∙ first_no (clashes (if_known (field_kind d (desk_of s) s.selected f)) (state_of w).stack) false c.kind in (
       has_field s f (here s) o.table o.there lt,

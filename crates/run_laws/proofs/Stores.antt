@@ -13,6 +13,7 @@ use Rattle.work_rows.specs.Marks.{IndexMark, mark_at}
 use Rattle.work_store.specs.declared.uses.Use.{Use}
 use Rattle.work_store.specs.Areas.{StoreState, AreApart, selected_use, used_table, here, holds, is_elsewhere, with_table, with_use, with_used, with_selected, changed_found, closed_here, closed_all}
 use Rattle.work_store.specs.Calls.{used_here}
+use Rattle.work_store.specs.Making.{AreAlike}
 use Rattle.work_store.specs.Shapes.{still, IsSameKind, KindsStay}
 use Rattle.code_items.specs.declared.declared.Declared.{Declared}
 use Rattle.code_items.specs.States.{is_list_of, is_filter_of, opened, is_open}
@@ -24,7 +25,7 @@ use Rattle.run_laws.proofs.Tests.{first_no, second_no, is_there}
 
 -- a table holds what is declared, and has its declared indexes
 pub record KindFits (d : Declared) (t : ℕ) (o : OpenState) : Type 0 where
-  pub fields : IfSome (slice_get d.shape.tables t) (λ (declared : TableShape). o.table.structure.fields ≡ declared.fields)
+  pub fields : IfSome (slice_get d.shape.tables t) (λ (declared : TableShape). AreAlike o.table.structure.fields declared.fields)
   pub indexes : (n : ℕ) (x : IndexShape) → slice_get d.shape.indexes n ≡ Some x → x.table ≡ t → is_some (mark_at o.table.marks n) ≡ true
 
 -- what an area holds, by the table that is there: the indexes of its list are open, and list, order and filter are legal
@@ -96,7 +97,7 @@ still_there n (m ∷ ms) = elim (m.number == n) as (λ b. is_some (cond b (Some 
 
 kind_stays : (d : Declared) (t : ℕ) (o p : OpenState) → IsSameKind o p → KindFits d t o → KindFits d t p
 kind_stays d t o p same h = record {
-  fields = subst (λ (st : StructureState). IfSome (slice_get d.shape.tables t) (λ (declared : TableShape). st.fields ≡ declared.fields)) (sym same.structure) h.fields;
+  fields = subst (λ (st : StructureState). IfSome (slice_get d.shape.tables t) (λ (declared : TableShape). AreAlike st.fields declared.fields)) (sym same.structure) h.fields;
   indexes = λ n x at is. sym (still_there n p.table.marks) ∙ ap (λ (ms : List IndexMark). is_some (mark_at ms n)) same.marks ∙ still_there n o.table.marks ∙ h.indexes n x at is;
 }
 

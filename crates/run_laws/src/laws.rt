@@ -1,7 +1,8 @@
 //! What the tests of an instruction say, what a step keeps, and how a run begins. The functions do nothing: their contracts are the laws.
 
-ghost use Rattle.std.specs.Prelude.{◌≡◌, ℕ, true, false, List, Option, None};
+ghost use Rattle.std.specs.Prelude.{◌≡◌, ℕ, true, false, List, Option, None, replicate};
 ghost use Rattle.code_items.specs.declared.code.Code.{Code as AnyCode};
+ghost use Rattle.code_items.specs.declared.declared.Declared.{Declared as AnyDeclared};
 ghost use Rattle.code_items.specs.declared.instr.Instr.{Instr as AnyInstr};
 ghost use Rattle.code_items.specs.Instrs.{is_instr};
 ghost use Rattle.code_items.specs.Legal.{IsCode};
@@ -14,10 +15,11 @@ ghost use Rattle.run_steps.specs.Safe.{IsSafeHere};
 ghost use Rattle.run_steps.specs.Shapes.{HasShape, StoreFits};
 ghost use Rattle.run_steps.specs.World.{World};
 ghost use Rattle.work_store.specs.Areas.{AreApart, StoreState};
+ghost use Rattle.work_store.specs.Shapes.{HasShape as StoreHasShape};
 ghost use Rattle.xvalue.specs.declared.day.DayParts.{DayParts};
 
 use code_items::laws::legal_codes;
-use work_store::laws::tables_keep_their_kind;
+use work_store::laws::{stores_keep_their_shape, tables_keep_their_kind};
 use xvalue::laws::same_kinds_are_equal;
 
 /// An instruction has no fault where each of its tests comes out well, and nowhere else.
@@ -61,4 +63,12 @@ pub fn openings_have_the_shape()
 {
     legal_codes();
     tables_keep_their_kind();
+}
+
+/// A store with the tables and indexes of a code's shape, as one that was made for it has, fits what is declared while all its work
+/// areas are closed.
+pub fn new_stores_fit()
+    ensures { (d : AnyDeclared) (store : StoreState) → StoreHasShape d.shape store → store.areas ≡ replicate 10 None → StoreFits d store }
+{
+    stores_keep_their_shape();
 }
