@@ -1,3 +1,4 @@
 pub mod Held
 pub mod Filled
 pub mod Worlds
+pub mod Turns

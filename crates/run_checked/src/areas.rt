@@ -2,7 +2,7 @@
 
 ghost use Rattle.std.specs.Prelude.{◌≡◌, ◌≤◌, IfOk, length};
 ghost use Rattle.code_rules.specs.Places.{filter_desk};
-ghost use Rattle.run_steps.specs.World.{area_state};
+ghost use Rattle.run_steps.specs.World.{area_state, desk_of};
 ghost use Rattle.work_store.specs.Areas.{use_at};
 
 use code_items::{AreaState, Desk, Items, OpenArea};
@@ -29,7 +29,7 @@ impl Model for TenAreas {
 }
 
 /// What an area, 1 to 10, holds, as tests see it.
-pub fn area_seen<K: KeyList>(store: &Store<K>, area: u8) -> AreaState
+fn area_seen<K: KeyList>(store: &Store<K>, area: u8) -> AreaState
     requires first { 1 ≤ area }
     requires last { area ≤ 10 }
     ensures { result ≡ area_state store.now.tables (use_at store.now area) }
@@ -62,6 +62,19 @@ impl TenAreas {
         ensures { result.now ≡ self.now }
     {
         &self.desk
+    }
+
+    /// Shows the areas of a store.
+    pub fn show<K: KeyList>(&mut self, store: &Store<K>)
+        requires { length store.now.areas ≡ 10 }
+        ensures { self.new ≡ desk_of store.now }
+    {
+        self.desk.selected = store.selected();
+        for number in 0..10 {
+            self.desk
+                .areas
+                .set(usize::from(number), area_seen(store, number + 1));
+        }
     }
 
     /// Shows area 1 with a table, counted from 0, without list, order and filter, and all others closed.

@@ -4,6 +4,7 @@
 
 pub mod areas;
 pub mod blocks;
+pub mod faults;
 pub mod kinds;
 pub mod operands;
 pub mod places;
