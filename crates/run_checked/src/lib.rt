@@ -1,5 +1,6 @@
-//! Tests of the checking machine over tables, before each instruction: kinds of values, heights, jumps, calls, operands, and
-//! whether a filter can be asked. Each says what the definition of its fault says of the world as it is, and takes no memory.
+//! The checking machine over tables: it runs any code that has a code file, accepted by the verifier or not. Before each
+//! instruction it tests for the eleven faults, in their order and before the budget; where there is none, the instruction is
+//! carried out as by the machine that tests nothing.
 #![tactic(auto)]
 
 pub mod areas;
@@ -8,5 +9,10 @@ pub mod faults;
 pub mod kinds;
 pub mod operands;
 pub mod places;
+pub mod running;
 pub mod scratch;
 pub mod soundness;
+pub mod world;
+
+pub use running::run_checked;
+pub use world::World;
