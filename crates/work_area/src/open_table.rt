@@ -11,7 +11,7 @@ ghost use Rattle.row_keys.specs.Lists.{index_list};
 ghost use Rattle.shape.specs.Keys.{IsKey, key_length};
 ghost use Rattle.row_moves.specs.Moves.{Landing, IsMove, end_of, skipped, sought};
 ghost use Rattle.work_rows.specs.Tables.{HasDeclared, IsOrder, order_pairs, pairs_in, pair_at, packed, cleared, remade};
-ghost use Rattle.work_rows.specs.Marks.{mark_at, count_stale};
+ghost use Rattle.work_rows.specs.Marks.{mark_at, count_stale, parts_in};
 ghost use Rattle.work_rows.specs.Passes.{behind, IsClosing};
 ghost use Rattle.dbf_file.specs.Rows.{unmarked};
 ghost use Rattle.work_rows.specs.Tried.{ShowsRows};
@@ -113,6 +113,17 @@ impl<K: KeyList> OpenTable<K> {
         ensures { result.now ≡ self.now.table }
     {
         &self.table
+    }
+
+    /// The list of an open index, by its place among the open ones, counted from 0. It is never stale, and lists the rows.
+    pub fn open_keys(&self, k: usize) -> &K
+        requires { k < length self.now.list }
+        ensures { IfSome (slice_get self.now.list k) (λ n. K.pairs result.now ≡ index_list (parts_in (mark_at self.now.table.marks n)) self.now.table.rows) }
+    {
+        match self.table.keys(self.list[k]) {
+            Some(keys) => keys,
+            None => unreachable!(),
+        }
     }
 
     /// The index of the order, none for record order.

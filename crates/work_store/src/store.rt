@@ -1,6 +1,6 @@
 //! The ten work areas.
 
-ghost use Rattle.std.specs.Prelude.{◌≡◌, ℕ, ◌+◌, ◌-◌, ◌<◌, ◌≤◌, ◌↔◌, Bool, true, false, Some, [], ◌∷◌, length, is_some, is_none, unwrap_or, IfSome, IsSome, OnOk, OnErr, IfOk, Err, map};
+ghost use Rattle.std.specs.Prelude.{◌≡◌, ℕ, ◌+◌, ◌-◌, ◌<◌, ◌≤◌, ◌↔◌, Bool, true, false, Some, [], ◌∷◌, length, slice_get, is_some, is_none, unwrap_or, IfSome, IsSome, OnOk, OnErr, IfOk, Err, map};
 ghost use Rattle.std.specs.Fn.{FnReturnsAt};
 ghost use Rattle.std.specs.List.{list_all};
 ghost use Rattle.dbf_file.specs.Tables.{letter_at};
@@ -556,6 +556,16 @@ impl<K: KeyList> Store<K> {
         ensures rows { IfSome (table_at self.now t) (λ o. result.now.rows ≡ o.table.rows) }
     {
         self.tables[usize::from(t)].table().table()
+    }
+
+    /// The list of an open index of a declared table, by its place among those that are open there, counted from 0. It is never
+    /// stale, and lists the table's rows.
+    pub fn open_keys(&self, t: u16, k: usize) -> &K
+        requires table { t < length self.now.tables }
+        requires open { IfSome (table_at self.now t) (λ o. k < length o.list) }
+        ensures { IfSome (table_at self.now t) (λ o. IfSome (slice_get o.list k) (λ n. K.pairs result.now ≡ index_list (parts_in (mark_at o.table.marks n)) o.table.rows)) }
+    {
+        self.tables[usize::from(t)].open_keys(k)
     }
 
     /// The list of a declared index by its number, counted from 0; none where it is stale, or there is no such index. It lists
