@@ -1,13 +1,13 @@
 // Files of a folder of the disk.
 #![tactic(auto)]
 
-ghost use Rattle.std.specs.Prelude.{◌≡◌};
+ghost use Rattle.std.specs.Prelude.{◌≡◌, ◌≤◌};
 ghost use Rattle.file_access.specs.Holding.{Rose};
 
-use file_access::{Files, ReadFault, read_within};
-use std::alloc::Global;
-use std::fs;
-use std::io::ErrorKind;
+use file_access::{Device, Files, ReadFault, read_within};
+use std::alloc::{Alloc, AllocError, Global};
+use std::fs::{self, OpenFile};
+use std::io::{self, ErrorKind, Write};
 use std::rt::Files as Disk;
 
 /// The files of the folder in which the program runs.
@@ -17,7 +17,27 @@ pub struct Folder<'a, R> {
     failures: u64,
 }
 
-impl<'a, R: Disk> Folder<'a, R> {
+/// The name of the file beside one, under which its new bytes are written first.
+fn beside(alloc: Global, name: &str) -> Result<String, AllocError> {
+    let mut path = name.to_string(alloc)?;
+    path.push_str(".new")?;
+    Ok(path)
+}
+
+/// Writes a whole file, down to the device.
+fn write_whole<R: Disk>(rt: &R, path: &str, bytes: &[u8]) -> io::Result<()> {
+    let mut file = fs::create(rt, path)?;
+    file.write_all(bytes)?;
+    file.sync_all()
+}
+
+/// Writes the new bytes of a file beside it, and puts them in its place only when they are all there.
+fn put<R: Disk>(rt: &R, path: &str, name: &str, bytes: &[u8]) -> io::Result<()> {
+    write_whole(rt, path, bytes)?;
+    fs::rename(rt, path, name)
+}
+
+impl<'a, R: Disk + Alloc<A = Global>> Folder<'a, R> {
     /// The folder, with no failure counted yet.
     pub fn new(rt: &'a R) -> Folder<'a, R> {
         Folder { rt, failures: 0 }
@@ -27,13 +47,14 @@ impl<'a, R: Disk> Folder<'a, R> {
     fn fail(&mut self) -> ReadFault
         ensures fault { result ≡ ReadFault.Device }
         ensures rose { Rose self.old.failures self.new.failures }
+        ensures counted { self.old.failures ≤ self.new.failures }
     {
         self.failures = self.failures.saturating_add(1);
         ReadFault::Device
     }
 }
 
-impl<R: Disk> Files for Folder<'_, R> {
+impl<R: Disk + Alloc<A = Global>> Files for Folder<'_, R> {
     ghost holds = { λ _ _ _. Unit {0} };
 
     ghost failed = { λ folder. folder.failures };
@@ -55,6 +76,19 @@ impl<R: Disk> Files for Folder<'_, R> {
             Err(ReadFault::TooLong) => Err(ReadFault::TooLong),
             Err(ReadFault::Memory) => Err(ReadFault::Memory),
         }
+    }
+
+    fn replace(&mut self, name: &str, bytes: &[u8]) -> Result<(), Device> {
+        let Ok(path) = beside(self.rt.alloc(), name) else {
+            self.fail();
+            return Err(Device);
+        };
+        if put(self.rt, path.as_str(), name, bytes).is_err() {
+            let _ = fs::remove_file(self.rt, path.as_str());
+            self.fail();
+            return Err(Device);
+        }
+        Ok(())
     }
 
     fn failures(&self) -> u64 {

@@ -1,4 +1,4 @@
-//! `dbrun`: verifies, runs and lists code files.
+//! `dbrun`: compiles command files, verifies, runs and lists code files, lists tables and indexes.
 //!
 //! What a command does with files stands in functions over the trait `Files`; here the words of the command line are
 //! carried out, and what they give is printed.
@@ -8,29 +8,21 @@ mod folder;
 mod words;
 
 use crate::folder::Folder;
-use crate::words::{Words, WordsFault, command, words_of};
-use clap::Command;
+use crate::words::{Words, WordsFault, command, sources_of, words_of};
 use clap::error::ErrorKind;
-use file_commands::{
-    Refusal, Status, list_code, list_index, list_table, of_end, of_refusal, run_files, verify_file,
-};
+use clap::{ArgMatches, Command};
+use compile_commands::{CompileFilesRefusal, CompileTold, CompileWords, compile_files};
+use file_access::{ReadFault, read_within};
+use file_commands::{Refusal, Status, list_code, list_index, list_table, of_refusal, verify_file};
+use run_commands::{Job, RecordLimit, Report, RunDay, run_files};
+use shape_files::ShapeRefusal;
 use std::alloc::Global;
 use std::process::ExitCode;
 use std::rt::Runtime;
 use std::{env, io};
-use tagged_machine::{End, Outcome};
-use xvalue::Day;
 
-/// Tells on standard error how a run ended. A standard error that fails changes nothing.
-fn tell_end(rt: &impl Runtime, outcome: Outcome) {
-    let steps = outcome.steps;
-    let _ = match outcome.end {
-        End::Finished => eprintln!(rt; "finished {steps}"),
-        End::Spent => eprintln!(rt; "spent {steps}"),
-        End::NoMemory => eprintln!(rt; "memory {steps}"),
-        End::Fault(kind, at) => eprintln!(rt; "fault {kind:?} {at} {steps}"),
-    };
-}
+/// The most bytes that an operator may type for a run: 1 MiB.
+const INPUT_LIMIT: usize = 1_048_576;
 
 /// Tells on standard error why a command isn't carried out.
 fn refuse(rt: &impl Runtime, refusal: Refusal<'_>) -> Status {
@@ -38,25 +30,101 @@ fn refuse(rt: &impl Runtime, refusal: Refusal<'_>) -> Status {
     of_refusal(&refusal)
 }
 
-fn run<R: Runtime<A = Global>>(
+/// All that the operator typed, or how the program exits where that can't be had.
+fn typed<R: Runtime<A = Global>>(rt: &R) -> Result<Vec<u8>, Status> {
+    let mut reader = rt.reader();
+    match read_within(rt.alloc(), &mut reader, INPUT_LIMIT) {
+        Ok(bytes) => Ok(bytes),
+        Err(ReadFault::TooLong) => {
+            let _ = eprintln!(rt; "refused - TooLong");
+            Err(Status::Refused)
+        }
+        Err(ReadFault::Memory) => Err(refuse(rt, Refusal::Memory)),
+        Err(_) => Err(refuse(rt, Refusal::Disk { name: "-" })),
+    }
+}
+
+/// How the program exits where files aren't compiled.
+fn of_compiling(refusal: &CompileFilesRefusal) -> Status {
+    match refusal {
+        CompileFilesRefusal::Declarations(ShapeRefusal::Refused(_)) => Status::Refused,
+        CompileFilesRefusal::Declarations(ShapeRefusal::Disk) => Status::Disk,
+        CompileFilesRefusal::Declarations(ShapeRefusal::TableDisk(_)) => Status::Disk,
+        CompileFilesRefusal::Declarations(ShapeRefusal::Memory) => Status::Memory,
+        CompileFilesRefusal::Source { .. } => Status::Refused,
+        CompileFilesRefusal::SourceDisk { .. } => Status::Disk,
+        CompileFilesRefusal::CodeDisk => Status::Disk,
+        CompileFilesRefusal::Memory => Status::Memory,
+    }
+}
+
+fn compile<'a, R: Runtime<A = Global>>(
     rt: &R,
-    checked: bool,
-    name: &str,
-    budget: u64,
-    today: Day,
-) -> Status {
+    decl: &'a str,
+    out: &'a str,
+    names: &'a [&'a str],
+) -> Result<Status, WordsFault> {
+    if names.is_empty() {
+        return Err(WordsFault::Missing);
+    }
     let mut folder = Folder::new(rt);
-    let report = run_files(rt.alloc(), &mut folder, checked, name, budget, today);
+    match compile_files(rt.alloc(), &mut folder, decl, out, names) {
+        Ok(()) => Ok(Status::Done),
+        Err(refusal) => {
+            let told = CompileTold {
+                refusal: &refusal,
+                words: CompileWords { decl, out, names },
+            };
+            let _ = eprintln!(rt; "{told}");
+            Ok(of_compiling(&refusal))
+        }
+    }
+}
+
+/// Prints the rows of a run, and then how it ended.
+fn report<R: Runtime<A = Global>>(rt: &R, name: &str, report: &Report) -> Status {
     if rt.write_all(report.rows.as_slice()).is_err() {
         return Status::Disk;
     }
-    match report.result {
-        Ok(outcome) => {
-            tell_end(rt, outcome);
-            of_end(outcome.end)
+    match &report.result {
+        Ok(ended) => {
+            let _ = eprintln!(rt; "{ended}");
+            ended.status()
         }
-        Err(refusal) => refuse(rt, refusal),
+        Err(refusal) => {
+            let told = refusal.told(name);
+            let _ = eprintln!(rt; "{told}");
+            refusal.status()
+        }
     }
+}
+
+/// What a run is asked for, but for what the operator types.
+#[derive(Clone, Copy)]
+struct Asked<'a> {
+    name: &'a str,
+    checked: bool,
+    budget: u64,
+    limit: RecordLimit,
+    day: RunDay,
+}
+
+fn run<R: Runtime<A = Global>>(rt: &R, asked: Asked<'_>) -> Status {
+    let input = match typed(rt) {
+        Ok(input) => input,
+        Err(status) => return status,
+    };
+    let job = Job {
+        name: asked.name,
+        checked: asked.checked,
+        budget: asked.budget,
+        limit: asked.limit,
+        day: asked.day,
+        input: input.as_slice(),
+    };
+    let mut folder = Folder::new(rt);
+    let done = run_files(rt.alloc(), &mut folder, &job);
+    report(rt, asked.name, &done)
 }
 
 fn verify<R: Runtime<A = Global>>(rt: &R, name: &str) -> Status {
@@ -97,22 +165,61 @@ fn index<R: Runtime<A = Global>>(rt: &R, name: &str) -> Status {
     print_lines(rt, list_index(rt.alloc(), &mut Folder::new(rt), name))
 }
 
-fn carry_out<R: Runtime<A = Global>>(rt: &R, words: Words<'_>) -> Status {
+fn carry_out<R: Runtime<A = Global>>(
+    rt: &R,
+    words: Words<'_>,
+    sources: &[&str],
+) -> Result<Status, WordsFault> {
     match words {
+        Words::Compile { decl, out } => compile(rt, decl, out, sources),
         Words::Run {
             name,
             budget,
-            today,
-        } => run(rt, false, name, budget, today),
+            limit,
+            day,
+        } => Ok(run(
+            rt,
+            Asked {
+                name,
+                checked: false,
+                budget,
+                limit,
+                day,
+            },
+        )),
         Words::CheckRun {
             name,
             budget,
-            today,
-        } => run(rt, true, name, budget, today),
-        Words::Verify { name } => verify(rt, name),
-        Words::Code { name } => code(rt, name),
-        Words::List { name } => list(rt, name),
-        Words::Index { name } => index(rt, name),
+            limit,
+            day,
+        } => Ok(run(
+            rt,
+            Asked {
+                name,
+                checked: true,
+                budget,
+                limit,
+                day,
+            },
+        )),
+        Words::Verify { name } => Ok(verify(rt, name)),
+        Words::Code { name } => Ok(code(rt, name)),
+        Words::List { name } => Ok(list(rt, name)),
+        Words::Index { name } => Ok(index(rt, name)),
+    }
+}
+
+/// Carries out what was parsed.
+fn carry_out_all<R: Runtime<A = Global>>(
+    rt: &R,
+    matches: &ArgMatches<'_>,
+) -> Result<Status, WordsFault> {
+    match words_of(matches) {
+        Ok(words) => match sources_of(matches) {
+            Some(sources) => carry_out(rt, words, sources),
+            None => carry_out(rt, words, &[]),
+        },
+        Err(fault) => Err(fault),
     }
 }
 
@@ -134,6 +241,7 @@ fn refuse_words(rt: &impl Runtime, error: &clap::Error) -> Status {
 fn message(fault: WordsFault) -> &'static str {
     match fault {
         WordsFault::Today => "the day of --today is YYYY-MM-DD, in the years 1900 to 2155",
+        WordsFault::Limit => "the number of --limit is one of 1 to 1000000",
         WordsFault::Missing => "a word is missing",
     }
 }
@@ -151,8 +259,8 @@ fn answer<R: Runtime<A = Global>>(rt: &R, arguments: &[String]) -> Status {
         return no_memory(rt);
     };
     match command.try_get_matches_from_mut(arguments) {
-        Ok(matches) => match words_of(&matches) {
-            Ok(words) => carry_out(rt, words),
+        Ok(matches) => match carry_out_all(rt, &matches) {
+            Ok(status) => status,
             Err(fault) => refuse_fault(rt, &mut command, fault),
         },
         Err(error) => refuse_words(rt, &error),

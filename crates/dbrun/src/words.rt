@@ -2,9 +2,8 @@
 #![tactic(auto)]
 
 use clap::{Arg, ArgMatches, Command, value_parser};
-use file_commands::today_of;
+use run_commands::{RecordLimit, RunDay};
 use std::alloc::{AllocError, Global};
-use xvalue::Day;
 
 /// How much a run may cost where the words don't say.
 const DEFAULT_BUDGET: u64 = 1_000_000;
@@ -13,28 +12,37 @@ const DEFAULT_BUDGET: u64 = 1_000_000;
 const DEFAULT_DAY: &str = "1985-01-01";
 
 /// Why words that the parser took don't say what to do.
-#[derive(Clone, Copy, Debug, PartialEq, Eq)]
+#[derive(Clone, Copy, Debug)]
 pub enum WordsFault {
     /// The day of a run isn't one of the years 1900 to 2155, or isn't written as YYYY-MM-DD.
     Today,
+    /// The most records of a table isn't one of 1 to 1,000,000.
+    Limit,
     /// A word is missing.
     Missing,
 }
 
 /// What the words ask for. A file is named as in the current folder.
-#[derive(Clone, Copy, Debug, PartialEq, Eq)]
+#[derive(Clone, Copy, Debug)]
 pub enum Words<'a> {
+    /// Compile command files, with these declarations, to this code file.
+    Compile {
+        decl: &'a str,
+        out: &'a str,
+    },
     /// Run an accepted code file.
     Run {
         name: &'a str,
         budget: u64,
-        today: Day,
+        limit: RecordLimit,
+        day: RunDay,
     },
     /// Run any code file, with a test of each instruction.
     CheckRun {
         name: &'a str,
         budget: u64,
-        today: Day,
+        limit: RecordLimit,
+        day: RunDay,
     },
     /// Say whether a code file is accepted.
     Verify {
@@ -54,8 +62,14 @@ pub enum Words<'a> {
     },
 }
 
-/// The name of the word that names a file.
+/// The words that name files.
 const FILE: &str = "FILE";
+
+const DECLARATIONS: &str = "DECL";
+
+const OUT: &str = "OUT";
+
+const SOURCES: &str = "MAIN";
 
 fn reader<'a>(
     alloc: Global,
@@ -76,27 +90,55 @@ fn runner<'a>(alloc: Global, name: &'a str, about: &'a str) -> Result<Command<'a
         .value_name("N")
         .value_parser(value_parser!(u64))
         .help("The most that the run may cost, below 2^64 (1000000 if left out)");
+    let limit = Arg::new(alloc, "limit")
+        .long("limit")
+        .value_name("N")
+        .value_parser(value_parser!(u32))
+        .help("The most records that a table may have, 1 to 1000000 (1000000 if left out)");
     let today = Arg::new(alloc, "today")
         .long("today")
         .value_name("YYYY-MM-DD")
         .help("The day of the run, in the years 1900 to 2155 (1985-01-01 if left out)");
-    reader(alloc, name, about, "CODE")?.arg(budget)?.arg(today)
+    reader(alloc, name, about, "CODE")?
+        .arg(budget)?
+        .arg(limit)?
+        .arg(today)
 }
 
-/// The commands that `dbrun` knows.
-pub fn command<'a>(alloc: Global) -> Result<Command<'a>, AllocError> {
-    Command::new(alloc, "dbrun")
-        .about(
-            "Verifies and runs code files of dBASE III PLUS command files, and lists codes, tables and indexes",
-        )
-        .subcommand_required(true)
-        .arg_required_else_help(true)
-        .subcommand(runner(alloc, "run", "Runs a code file that the verifier accepts")?)?
+fn compiler<'a>(alloc: Global) -> Result<Command<'a>, AllocError> {
+    let declarations = Arg::new(alloc, DECLARATIONS)
+        .required(true)
+        .help("The file that declares tables and indexes");
+    let out = Arg::new(alloc, OUT)
+        .required(true)
+        .help("The code file that is written");
+    let sources = Arg::new(alloc, SOURCES)
+        .required(true)
+        .num_args(1..)
+        .help("The command files, the main one first");
+    Command::new(alloc, "compile")
+        .about("Compiles command files to a code file")
+        .arg(declarations)?
+        .arg(out)?
+        .arg(sources)
+}
+
+fn with_runners<'a>(alloc: Global, command: Command<'a>) -> Result<Command<'a>, AllocError> {
+    command
+        .subcommand(runner(
+            alloc,
+            "run",
+            "Runs a code file that the verifier accepts, and saves its tables",
+        )?)?
         .subcommand(runner(
             alloc,
             "check-run",
-            "Runs any code file, testing each instruction first",
-        )?)?
+            "Runs any code file, testing each instruction first; saves nothing",
+        )?)
+}
+
+fn with_readers<'a>(alloc: Global, command: Command<'a>) -> Result<Command<'a>, AllocError> {
+    command
         .subcommand(reader(
             alloc,
             "verify",
@@ -108,34 +150,77 @@ pub fn command<'a>(alloc: Global) -> Result<Command<'a>, AllocError> {
         .subcommand(reader(alloc, "index", "Lists an index file", "INDEX")?)
 }
 
+/// The commands that `dbrun` knows.
+pub fn command<'a>(alloc: Global) -> Result<Command<'a>, AllocError> {
+    let command = Command::new(alloc, "dbrun")
+        .about(
+            "Compiles command files of dBASE III PLUS, verifies and runs the code over its tables, and lists codes, tables and indexes",
+        )
+        .subcommand_required(true)
+        .arg_required_else_help(true)
+        .subcommand(compiler(alloc)?)?;
+    let command = with_runners(alloc, command)?;
+    with_readers(alloc, command)
+}
+
 fn budget_of(matches: &ArgMatches<'_>) -> u64 {
     matches.get_one::<u64>("budget").unwrap_or(DEFAULT_BUDGET)
 }
 
-fn day_of(matches: &ArgMatches<'_>) -> Result<Day, WordsFault> {
+fn limit_of(matches: &ArgMatches<'_>) -> Result<RecordLimit, WordsFault> {
+    match matches.get_one::<u32>("limit") {
+        Some(records) => RecordLimit::of(records).ok_or(WordsFault::Limit),
+        None => Ok(RecordLimit::most()),
+    }
+}
+
+fn day_of(matches: &ArgMatches<'_>) -> Result<RunDay, WordsFault> {
     let word = matches.get_str("today").unwrap_or(DEFAULT_DAY);
-    today_of(word).ok_or(WordsFault::Today)
+    RunDay::named(word).ok_or(WordsFault::Today)
+}
+
+fn word_of<'a>(matches: &ArgMatches<'a>, id: &str) -> Result<&'a str, WordsFault> {
+    matches.get_str(id).ok_or(WordsFault::Missing)
+}
+
+/// The command files of the words that ask for compiling, the main one first.
+pub fn sources_of<'m, 'a: 'm>(matches: &'m ArgMatches<'a>) -> Option<&'m [&'a str]> {
+    let (_, matches) = matches.subcommand()?;
+    matches.get_raw(SOURCES)
 }
 
 /// What was parsed, or why it says nothing to be done.
 pub fn words_of<'a>(matches: &ArgMatches<'a>) -> Result<Words<'a>, WordsFault> {
     let (command, matches) = matches.subcommand().ok_or(WordsFault::Missing)?;
-    let name = matches.get_str(FILE).ok_or(WordsFault::Missing)?;
     match command {
+        "compile" => Ok(Words::Compile {
+            decl: word_of(matches, DECLARATIONS)?,
+            out: word_of(matches, OUT)?,
+        }),
         "run" => Ok(Words::Run {
-            name,
+            name: word_of(matches, FILE)?,
             budget: budget_of(matches),
-            today: day_of(matches)?,
+            limit: limit_of(matches)?,
+            day: day_of(matches)?,
         }),
         "check-run" => Ok(Words::CheckRun {
-            name,
+            name: word_of(matches, FILE)?,
             budget: budget_of(matches),
-            today: day_of(matches)?,
+            limit: limit_of(matches)?,
+            day: day_of(matches)?,
         }),
-        "verify" => Ok(Words::Verify { name }),
-        "code" => Ok(Words::Code { name }),
-        "list" => Ok(Words::List { name }),
-        "index" => Ok(Words::Index { name }),
+        "verify" => Ok(Words::Verify {
+            name: word_of(matches, FILE)?,
+        }),
+        "code" => Ok(Words::Code {
+            name: word_of(matches, FILE)?,
+        }),
+        "list" => Ok(Words::List {
+            name: word_of(matches, FILE)?,
+        }),
+        "index" => Ok(Words::Index {
+            name: word_of(matches, FILE)?,
+        }),
         _ => Err(WordsFault::Missing),
     }
 }

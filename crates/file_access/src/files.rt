@@ -1,8 +1,8 @@
 // Files by name.
 #![tactic(auto)]
 
-ghost use Rattle.std.specs.Prelude.{◌≡◌, ◌<◌, ◌≤◌, ◌+◌, ◌-◌, ◌^◌, ◌⊎◌, ℕ, List, Option, Some, None, length, IfOk, IsErrOf};
-ghost use Rattle.file_access.specs.Holding.{Rose, SameFiles};
+ghost use Rattle.std.specs.Prelude.{◌≡◌, ◌<◌, ◌≤◌, ◌+◌, ◌-◌, ◌^◌, ◌⊎◌, ℕ, List, Option, Some, None, length, IfOk, OnErr, OnOk, IsErrOf};
+ghost use Rattle.file_access.specs.Holding.{Rose, SameFiles, IsReplaced};
 
 use std::alloc::Global;
 
@@ -19,6 +19,10 @@ pub enum ReadFault {
     Memory,
 }
 
+/// The device failed: a file isn't replaced.
+#[derive(Clone, Copy, PartialEq, Eq, Debug)]
+pub struct Device;
+
 /// Files by name, of which nothing but this trait's calls is known to the rest of the program.
 pub trait Files {
     /// What the file of a name may hold: these bytes, or none where there is no such file. For files whose content a
@@ -29,13 +33,22 @@ pub trait Files {
     ghost failed: { Self → ℕ };
 
     /// Reads a file of at most so many bytes. `Device` is answered only where the count of device failures rose in
-    /// this call, or is at its greatest. No file changes: what the files may hold stays as it was.
+    /// this call, or is at its greatest; it never falls. No file changes: what the files may hold stays as it was.
     fn read(&mut self, alloc: Global, name: &str, limit: usize) -> Result<Vec<u8>, ReadFault>
         ensures found { IfOk result (λ bytes. holds self.old name.now (Some bytes.items) × (length bytes.items ≤ limit)) }
         ensures absent { IsErrOf result ReadFault.Absent → holds self.old name.now None }
         ensures long { IsErrOf result ReadFault.TooLong → (bytes : List ℕ) × holds self.old name.now (Some bytes) × (limit < length bytes) }
         ensures device { IsErrOf result ReadFault.Device → Rose (failed self.old) (failed self.new) }
+        ensures counted { failed self.old ≤ failed self.new }
         ensures kept { SameFiles (holds self.old) (holds self.new) };
+
+    /// Replaces a file by these bytes, or makes it, whole or not at all: on a refusal no file changes, and the count of
+    /// device failures rose in this call, or is at its greatest. That memory is refused is a failure of the device.
+    fn replace(&mut self, name: &str, bytes: &[u8]) -> Result<(), Device>
+        ensures replaced { OnOk result (IsReplaced (holds self.old) name.now bytes.now (holds self.new)) }
+        ensures device { OnErr result (Rose (failed self.old) (failed self.new)) }
+        ensures counted { failed self.old ≤ failed self.new }
+        ensures kept { OnErr result (SameFiles (holds self.old) (holds self.new)) };
 
     /// How often the device failed. At 2^64 - 1 the count stays.
     fn failures(&self) -> u64

@@ -8,6 +8,8 @@ mod files;
 mod memory_files;
 mod reader;
 
-pub use crate::files::{Files, ReadFault};
-pub use crate::memory_files::{MemoryEntry, MemoryFiles};
+pub use crate::files::{Device, Files, ReadFault};
+pub use crate::memory_files::{
+    MemoryEntry, MemoryFiles, WORKS_FOR_EVER, WrittenFile, files_in_memory_hold_one_thing,
+};
 pub use crate::reader::read_within;

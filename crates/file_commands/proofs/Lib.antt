@@ -1,2 +1,1 @@
 pub mod IndexPairs
-pub mod Plain

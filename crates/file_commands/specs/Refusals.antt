@@ -2,22 +2,15 @@
 use Rattle.std.specs.Prelude.{◌≡◌, ◌<◌, ℕ, List, Bool, true, false, Option, Some, None, Err, length}
 use Rattle.code_file.specs.declared.fault.CodeFault.{CodeFault}
 use Rattle.code_file.specs.Decoding.{code_at}
-use Rattle.code_file.specs.CodeFile.{CodeText}
-use Rattle.code_items.specs.declared.code.Code.{Code}
-use Rattle.xcode.specs.declared.fault.CodeFault.{CodeFault as PlainFault}
-use Rattle.xcode.specs.declared.fault.CodeFault.TheVariants.{Magic, Version, Short, Limit, Operation, Shape, Extra, Memory as PlainMemory}
-use Rattle.xcode.specs.CodeReading.{code_at as plain_at}
-use Rattle.code_model.specs.Rules.{FirstRefusal}
 use Rattle.dbf_file.specs.declared.fault.DbfFault.{DbfFault}
 use Rattle.dbf_file.specs.Faults.{first_fault}
 use Rattle.ndx_tree.specs.declared.fault.TreeFault.{TreeFault}
 use Rattle.ndx_tree.specs.Walk.{IsFirstFault}
 use Rattle.file_commands.specs.declared.refusal.Fault.{Fault}
-use Rattle.file_commands.specs.declared.refusal.Fault.TheVariants.{Absent, TooLong, OfCode, OfTable, OfIndex, OfRule, NotYet}
+use Rattle.file_commands.specs.declared.refusal.Fault.TheVariants.{Absent, TooLong, OfCode, OfTable, OfIndex}
 use Rattle.file_commands.specs.declared.refusal.Refusal.{Refusal}
 use Rattle.file_commands.specs.declared.refusal.Refusal.TheVariants.{Refused, Disk, Memory}
 use Rattle.file_access.specs.Holding.{Rose}
-use Rattle.file_commands.specs.Reports.{HasPlain}
 
 -- a file longer than 64 MiB, and one that is no code file by this fault
 pub record IsTooLong (holds : Option (List ℕ) → Type 0) : Type 0 where
@@ -41,37 +34,6 @@ pub record IsNoIndex (holds : Option (List ℕ) → Type 0) (fault : TreeFault) 
   pub held : holds (Some bytes)
   pub faulty : IsFirstFault bytes fault
 
-abbrev pub is_memory_fault : PlainFault → Bool
-is_memory_fault Magic = false
-is_memory_fault Version = false
-is_memory_fault Short = false
-is_memory_fault Limit = false
-is_memory_fault Operation = false
-is_memory_fault Shape = false
-is_memory_fault Extra = false
-is_memory_fault PlainMemory = true
-
--- bytes that are no plain code's file, of those that the machines can run, and a code file that isn't one
-abbrev pub IsNotPlain : List ℕ → Type 0
-IsNotPlain bytes = (fault : PlainFault) × (plain_at bytes ≡ Err fault)
-
-pub record IsNotYet (holds : Option (List ℕ) → Type 0) : Type 0 where
-  pub bytes : List ℕ
-  pub held : holds (Some bytes)
-  pub other : IsNotPlain bytes
-  pub code : Code
-  pub text : CodeText bytes code
-
--- what is told of bytes that are no plain code's file
-abbrev pub Untold : List ℕ → Fault → Type 0
-Untold bytes Absent = ⊥
-Untold bytes TooLong = ⊥
-Untold bytes (OfCode fault) = code_at bytes ≡ Err fault
-Untold bytes (OfTable fault) = ⊥
-Untold bytes (OfIndex fault) = ⊥
-Untold bytes (OfRule refused) = ⊥
-Untold bytes NotYet = (code : Code) × CodeText bytes code
-
 -- what may be told of any file
 abbrev pub FileFault : (Option (List ℕ) → Type 0) → Fault → Type 0
 FileFault holds Absent = holds None
@@ -79,8 +41,6 @@ FileFault holds TooLong = IsTooLong holds
 FileFault holds (OfCode fault) = ⊥
 FileFault holds (OfTable fault) = ⊥
 FileFault holds (OfIndex fault) = ⊥
-FileFault holds (OfRule refused) = ⊥
-FileFault holds NotYet = ⊥
 
 -- of a code file
 abbrev pub CodeFileFault : (Option (List ℕ) → Type 0) → Fault → Type 0
@@ -89,29 +49,6 @@ CodeFileFault holds TooLong = IsTooLong holds
 CodeFileFault holds (OfCode fault) = HasFault holds fault
 CodeFileFault holds (OfTable fault) = ⊥
 CodeFileFault holds (OfIndex fault) = ⊥
-CodeFileFault holds (OfRule refused) = ⊥
-CodeFileFault holds NotYet = ⊥
-
--- of a code file that is to be run, before its code is looked at
-abbrev pub PlainFileFault : (Option (List ℕ) → Type 0) → Fault → Type 0
-PlainFileFault holds Absent = holds None
-PlainFileFault holds TooLong = IsTooLong holds
-PlainFileFault holds (OfCode fault) = HasFault holds fault
-PlainFileFault holds (OfTable fault) = ⊥
-PlainFileFault holds (OfIndex fault) = ⊥
-PlainFileFault holds (OfRule refused) = ⊥
-PlainFileFault holds NotYet = IsNotYet holds
-
--- of a code file that is to be run: a rule that its code breaks is told only where the code has to be accepted
-abbrev pub RunFault : Bool → (Option (List ℕ) → Type 0) → Fault → Type 0
-RunFault checked holds Absent = holds None
-RunFault checked holds TooLong = IsTooLong holds
-RunFault checked holds (OfCode fault) = HasFault holds fault
-RunFault checked holds (OfTable fault) = ⊥
-RunFault checked holds (OfIndex fault) = ⊥
-RunFault true holds (OfRule refused) = ⊥
-RunFault false holds (OfRule refused) = HasPlain holds (λ code. FirstRefusal code refused.rule refused.at)
-RunFault checked holds NotYet = IsNotYet holds
 
 -- of a table's file
 abbrev pub TableFault : (Option (List ℕ) → Type 0) → Fault → Type 0
@@ -120,8 +57,6 @@ TableFault holds TooLong = IsTooLong holds
 TableFault holds (OfCode fault) = ⊥
 TableFault holds (OfTable fault) = IsNoTable holds fault
 TableFault holds (OfIndex fault) = ⊥
-TableFault holds (OfRule refused) = ⊥
-TableFault holds NotYet = ⊥
 
 -- of an index file
 abbrev pub IndexFault : (Option (List ℕ) → Type 0) → Fault → Type 0
@@ -130,8 +65,6 @@ IndexFault holds TooLong = IsTooLong holds
 IndexFault holds (OfCode fault) = ⊥
 IndexFault holds (OfTable fault) = ⊥
 IndexFault holds (OfIndex fault) = IsNoIndex holds fault
-IndexFault holds (OfRule refused) = ⊥
-IndexFault holds NotYet = ⊥
 
 -- why a command isn't carried out: a fault of the file of that name which the command may tell, a device failure that
 -- was counted, or memory

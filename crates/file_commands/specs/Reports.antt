@@ -1,19 +1,8 @@
--- What a run of a code file reports.
+-- What the reading commands report of a file.
 use Rattle.std.specs.Prelude.{◌≡◌, ◌≤◌, ℕ, List, Bool, true, false, Option, Some, None, length}
-use Rattle.xvalue.specs.declared.day.DayParts.{DayParts}
-use Rattle.screen_lines.specs.State.{sent}
 use Rattle.code_items.specs.declared.code.Code.{Code}
 use Rattle.code_file.specs.CodeFile.{CodeText}
 use Rattle.code_rules.specs.Rules.{Accepted, FirstRefusal}
-use Rattle.code_model.specs.declared.code.Code.{Code as PlainCode}
-use Rattle.xcode.specs.CodeFile.{CodeText as PlainText}
-use Rattle.code_model.specs.Rules.{Accepted as PlainAccepted}
-use Rattle.tagged_machine.specs.declared.world.World.{World}
-use Rattle.tagged_machine.specs.declared.run.Outcome.{Outcome}
-use Rattle.tagged_machine.specs.Opening.{opening}
-use Rattle.tagged_machine.specs.Run.{Ran}
-use Rattle.machine.specs.declared.banks.Banks.{Banks}
-use Rattle.machine.specs.BankRun.{BankRan}
 use Rattle.code_file.specs.Listing.{lines_from}
 use Rattle.code_verify.specs.declared.verified.Refused.{Refused as RefusedRule}
 use Rattle.file_commands.specs.Lines.{table_lines, index_lines}
@@ -24,52 +13,16 @@ use Rattle.ndx_tree.specs.IndexFile.{IsIndexFile}
 use Rattle.ndx_tree.specs.KeyForm.{KeyForm}
 use Rattle.ndx_tree.specs.Pairs.{Pair}
 
--- the checking machine ran the code from its opening on this day, and the rows are what its last world sends
-pub record CheckedRun (code : PlainCode) (budget : ℕ) (today : Option DayParts) (outcome : Outcome) (rows : List ℕ) : Type 0 where
-  pub last : World
-  pub ran : Ran code (opening code today) budget outcome last
-  pub rows_are : rows ≡ sent last.screen
-
--- the code is accepted, the machine without tags took the checking machine's steps from the opening on this day, and
--- the rows are what its last banks send
-pub record AcceptedRun (code : PlainCode) (budget : ℕ) (today : Option DayParts) (outcome : Outcome) (rows : List ℕ) : Type 0 where
-  pub accepted : PlainAccepted code
-  pub last : Banks
-  pub ran : BankRan code (opening code today) budget outcome last
-  pub rows_are : rows ≡ sent last.screen
-
-abbrev pub RunIs : Bool → PlainCode → ℕ → Option DayParts → Outcome → List ℕ → Type 0
-RunIs true code budget today outcome rows = CheckedRun code budget today outcome rows
-RunIs false code budget today outcome rows = AcceptedRun code budget today outcome rows
-
 -- what the file may hold is the text of a code
 pub record IsCodeFile (holds : Option (List ℕ) → Type 0) (code : Code) : Type 0 where
   pub bytes : List ℕ
   pub held : holds (Some bytes)
   pub text : CodeText bytes code
 
--- what the file may hold is the text of a plain code, which the machines can run: one without tables, lists, filters and calls
-pub record IsPlainFile (holds : Option (List ℕ) → Type 0) (code : PlainCode) : Type 0 where
-  pub bytes : List ℕ
-  pub held : holds (Some bytes)
-  pub text : PlainText bytes code
-
--- a run of the plain code in the file
-pub record FileRun (holds : Option (List ℕ) → Type 0) (checked : Bool) (budget : ℕ) (today : Option DayParts) (outcome : Outcome) (rows : List ℕ) : Type 0 where
-  pub code : PlainCode
-  pub file : IsPlainFile holds code
-  pub run : RunIs checked code budget today outcome rows
-
 -- a code file whose code is of some sort
 pub record HasCode (holds : Option (List ℕ) → Type 0) (sort : Code → Type 0) : Type 0 where
   pub code : Code
   pub file : IsCodeFile holds code
-  pub fits : sort code
-
--- a file of a plain code of some sort
-pub record HasPlain (holds : Option (List ℕ) → Type 0) (sort : PlainCode → Type 0) : Type 0 where
-  pub code : PlainCode
-  pub file : IsPlainFile holds code
   pub fits : sort code
 
 -- the code in the file is accepted, or this is its refusal

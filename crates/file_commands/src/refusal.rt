@@ -5,7 +5,6 @@ use code_file::CodeFault;
 use dbf_file::DbfFault;
 use ndx_tree::TreeFault;
 use thiserror::Error;
-use xverify::Refused;
 
 /// What is wrong with a file.
 #[derive(Clone, Copy, PartialEq, Eq, Debug, Error)]
@@ -25,13 +24,6 @@ pub enum Fault {
     /// It is no index file.
     #[error("{0}")]
     OfIndex(TreeFault),
-    /// Its code isn't accepted.
-    #[error("{0}")]
-    OfRule(Refused),
-    /// It is a code's file, but of a code that the machines can't run yet: one with tables, lists, filters or calls, or with an
-    /// instruction that they don't know.
-    #[error("NotYet")]
-    NotYet,
 }
 
 /// Why a command isn't carried out: a file's fault, a failure of the device, or want of memory. A file is named as the

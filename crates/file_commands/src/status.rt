@@ -2,7 +2,6 @@
 #![tactic(auto)]
 
 use crate::refusal::Refusal;
-use tagged_machine::End;
 
 /// How the program exits.
 #[derive(Clone, Copy, PartialEq, Eq, Debug)]
@@ -15,22 +14,14 @@ pub enum Status {
     Refused = 2,
     /// The budget was spent.
     Spent = 3,
+    /// A table holds as many records as it may.
+    Full = 4,
     /// Memory was refused.
     Memory = 5,
     /// The device or standard output failed.
     Disk = 6,
     /// The checking machine met a fault.
     Fault = 7,
-}
-
-/// The status of a run that came to this end.
-pub fn of_end(end: End) -> Status {
-    match end {
-        End::Finished => Status::Done,
-        End::Spent => Status::Spent,
-        End::NoMemory => Status::Memory,
-        End::Fault(_, _) => Status::Fault,
-    }
 }
 
 /// The status of a command that wasn't carried out.

@@ -1,5 +1,3 @@
-pub mod BankRuns
-pub mod Calls
-pub mod Openings
-pub mod Picking
-pub mod Simulates
+pub mod Costs
+pub mod Kept
+pub mod Runs

@@ -1,6 +1,2 @@
-pub mod BankRun
-pub mod BankStep
-pub mod Laws
-pub mod Places
-pub mod Stacks
-pub mod Twin
+pub mod Headline
+pub mod Twins

@@ -1,55 +1,79 @@
-// The banks: a stack and slots for each kind, without tags.
-#![tactic(auto)]
+//! The banks: a stack for each kind, slots with a place for each kind, and all else that a run changes.
 
-ghost use Rattle.std.specs.Prelude.{◌≡◌, IfOk};
+ghost use Rattle.std.specs.Prelude.{◌≡◌, ◌<◌, IfOk, IfSome, length, slice_get};
+ghost use Rattle.machine.specs.Twins.{Begins};
+ghost use Rattle.row_keys.specs.Lists.{index_list};
+ghost use Rattle.run_steps.specs.Opening.{opening as opening_of};
+ghost use Rattle.run_steps.specs.Shapes.{StoreFits};
 ghost use Rattle.screen_lines.specs.State.{sent};
-ghost use Rattle.tagged_machine.specs.Opening.{opening};
+ghost use Rattle.work_rows.specs.Marks.{mark_at, parts_in};
+ghost use Rattle.work_store.specs.Areas.{table_at};
 
-use crate::cells::Cells;
-use crate::stacks::Stacks;
-use screen_lines::Screen;
+use code_verify::Verified;
+use ndx_tree::KeyList;
+use run_steps::Machine;
+use run_values::Untagged;
 use std::alloc::{AllocError, Global};
-use tagged_machine::laws::opening_is_ready;
-use xvalue::{Day, Settings};
-use xverify::Verified;
+use std::marker::Model;
+use text_lines::TypedLines;
+use work_store::Store;
+use xvalue::Day;
 
-/// What a run of accepted code changes: the place of the next instruction, a stack and slots for each kind of value,
-/// the screen, the settings and the day.
+/// What a run of accepted code changes: values without tags, places, tables, screen, lines of the operator and settings.
 #[derive(Drop)]
-pub struct Banks {
-    pub place: usize,
-    pub stacks: Stacks,
-    pub slots: Cells,
-    pub screen: Screen,
-    pub settings: Settings,
-    pub today: Day,
+pub struct Banks<K: KeyList> {
+    pub(crate) machine: Machine<Untagged, K>,
 }
 
-impl Banks {
-    ghost use Rattle.machine.specs.Twin.{Twin};
+impl<K: KeyList> Model for Banks<K> {
+    ghost use Rattle.machine.specs.Twins.{BankState, banks_of};
 
-    /// The banks from which a run of the code begins on this day; they stand for the checking machine's opening. It
-    /// takes the memory for slots and stacks, so that only the screen grows in a run.
-    pub fn opening(alloc: Global, verified: &Verified, today: Day) -> Result<Banks, AllocError>
-        ensures { IfOk result (λ banks. Twin verified.now.code (opening verified.now.code today) banks) }
+    ghost Value = { BankState };
+
+    ghost view = { λ b. banks_of b.machine.place b.machine.returns b.machine.values b.machine.env };
+}
+
+impl<K: KeyList> Banks<K> {
+    /// The banks from which a run of the code begins: at place 0, with all slots unset and nothing on the stacks, these tables
+    /// with all areas closed, these lines of the operator, a blank screen and all settings off, on this day. They take the
+    /// memory for slots and stacks, so that values take none in a run.
+    pub fn opening(
+        alloc: Global,
+        verified: &Verified,
+        store: Store<K>,
+        today: Day,
+        lines: TypedLines,
+    ) -> Result<Self, AllocError>
+        requires { StoreFits verified.now.declared store }
+        ensures { IfOk result (Begins verified.now (opening_of verified.now store lines today)) }
     {
-        opening_is_ready();
-        let code = verified.code();
+        let values = Untagged::new(alloc, usize::from(verified.code().declared.slots))?;
         Ok(Banks {
-            place: 0,
-            stacks: Stacks::new(alloc)?,
-            slots: Cells::new(alloc, code.slots as usize)?,
-            screen: Screen::new(alloc)?,
-            settings: Settings::off(),
-            today,
+            machine: Machine::opening(alloc, values, store, lines, today)?,
         })
     }
 
-    /// The bytes for printing, if the run ends here: the rows sent so far and those that are seen. The banks stay as
-    /// they are.
-    pub fn finish(&self, alloc: Global) -> Result<Vec<u8>, AllocError>
-        ensures { IfOk result (λ bytes. bytes.items ≡ sent self.now.screen) }
+    /// The tables and work areas.
+    pub fn store(&self) -> &Store<K>
+        ensures { result.now ≡ self.now.env.store }
     {
-        self.screen.finish(alloc)
+        self.machine.store()
+    }
+
+    /// The list of an open index of a declared table, by its place among those that are open there, both counted from 0. At
+    /// whatever step a run has ended, it is never stale, and lists the keys of the table's rows in order.
+    pub fn open_keys(&self, table: u16, k: usize) -> &K
+        requires table { table < length self.now.env.store.tables }
+        requires open { IfSome (table_at self.now.env.store table) (λ o. k < length o.list) }
+        ensures { IfSome (table_at self.now.env.store table) (λ o. IfSome (slice_get o.list k) (λ n. K.pairs result.now ≡ index_list (parts_in (mark_at o.table.marks n)) o.table.rows)) }
+    {
+        self.machine.store().open_keys(table, k)
+    }
+
+    /// The bytes for printing, if the run ends here: the rows sent so far and those that are seen. The banks stay as they are.
+    pub fn finish(&self, alloc: Global) -> Result<Vec<u8>, AllocError>
+        ensures { IfOk result (λ bytes. bytes.items ≡ sent self.now.env.screen) }
+    {
+        self.machine.finish(alloc)
     }
 }

@@ -1,87 +1,64 @@
-// Runs of the machine without tags.
-#![tactic(auto)]
+//! Runs without a test.
 
-ghost use Rattle.code_model.specs.Legal.{IsCode};
-ghost use Rattle.code_model.specs.Rules.{Accepted};
-ghost use Rattle.tagged_machine.specs.declared.world.World.{World as AnyWorld};
-ghost use Rattle.machine.specs.Twin.{Twin};
-ghost use Rattle.machine.specs.BankRun.{BankRan};
-ghost use Rattle.machine.specs.Laws.{Laws};
+ghost use Rattle.code_items.specs.Legal.{IsCode};
+ghost use Rattle.code_rules.specs.Rules.{Accepted};
+ghost use Rattle.machine.specs.Headline.{Headline};
+ghost use Rattle.machine.specs.Twins.{Begins, Twin};
+ghost use Rattle.run_steps.specs.World.{World};
 
 use crate::banks::Banks;
-use crate::step::bank_step;
-use code_model::Code;
-use code_model::laws::{rules_are_kept, states_connect};
-use tagged_machine::laws::{
-    accepted_code_is_clear, accepted_code_stays_ready, clear_instructions_have_no_fault,
-    instructions_lead_on, steps_add_up,
+use code_items::Code;
+use code_verify::Verified;
+use fit_laws::laws::{
+    fitting_worlds_are_safe, fitting_worlds_keep_the_bounds, openings_fit, runs_keep_fitting,
 };
-use tagged_machine::run::Stepped;
-use tagged_machine::{End, Outcome};
-use xvalue::laws::same_kinds_are_equal;
-use xverify::Verified;
+use ndx_tree::KeyList;
+use run_steps::{Outcome, run as run_untested};
+use std::alloc::Global;
+use work_store::laws::{stores_keep_their_shape, tables_keep_their_kind};
 
-/// Runs accepted code from these banks until it ends, within the budget.
-///
-/// For every world of the checking machine that the banks stand for, the run takes the checking machine's steps from
-/// that world and meets no fault: it leads to banks that stand for the world after so many of its steps (the same
-/// screen, place and stack, and the same slots as far as they are known), the stack within the declared bound, and
-/// costs what those steps cost. It ends finished, spent or short of memory, just where the checking machine may end so;
-/// at the last two the banks stand for the world before the step that was not taken. Only a new line or a print may
-/// end for want of memory.
-pub fn run(verified: &Verified, banks: &mut Banks, budget: u64) -> Outcome
-    requires { (w : AnyWorld) × Twin verified.now.code w banks.old }
-    ensures { (w : AnyWorld) → Twin verified.now.code w banks.old → BankRan verified.now.code w budget result banks.new }
-{
-    run_banks(verified.code(), banks, budget)
-}
-
-/// What the crates below promise of the code.
-fn promises(_code: &Code)
-    requires legal { IsCode _code.now }
-    requires accepted { Accepted _code.now }
-    ensures { Laws _code.now }
-{
-    rules_are_kept();
-    states_connect();
-    accepted_code_is_clear();
-    accepted_code_stays_ready();
-    clear_instructions_have_no_fault();
-    instructions_lead_on();
-    steps_add_up();
-    same_kinds_are_equal();
-}
-
-fn run_banks(code: &Code, banks: &mut Banks, budget: u64) -> Outcome
+/// Runs an accepted code from banks that agree with a world in which the code may go on.
+fn go_on<K: KeyList>(alloc: Global, code: &Code, banks: &mut Banks<K>, budget: u64) -> Outcome
     requires legal { IsCode code.now }
     requires accepted { Accepted code.now }
-    requires twin { (w : AnyWorld) × Twin code.now w banks.old }
-    ensures { (w : AnyWorld) → Twin code.now w banks.old → BankRan code.now w budget result banks.new }
+    requires twin { (w : World) × Twin code.now w banks.old }
+    ensures { (w : World) → Twin code.now w banks.old → Headline code.now w budget result banks.new }
 {
-    promises(code);
-    let mut steps = 0;
-    loop {
-        match bank_step(code, banks, budget - steps) {
-            Stepped::Went(cost) => steps += cost,
-            Stepped::Ended(End::Finished) => {
-                return Outcome {
-                    end: End::Finished,
-                    steps: steps + 1,
-                };
-            }
-            Stepped::Ended(End::Spent) => {
-                return Outcome {
-                    end: End::Spent,
-                    steps,
-                };
-            }
-            Stepped::Ended(End::NoMemory) => {
-                return Outcome {
-                    end: End::NoMemory,
-                    steps,
-                };
-            }
-            Stepped::Ended(End::Fault(_, _)) => unreachable!(),
-        }
-    }
+    fitting_worlds_are_safe();
+    runs_keep_fitting();
+    fitting_worlds_keep_the_bounds();
+    stores_keep_their_shape();
+    tables_keep_their_kind();
+    run_untested(alloc, code, &mut banks.machine, budget)
+}
+
+/// Goes on with a run of accepted code until it ends, within a further budget, from banks that a run left, or any that agree with
+/// a world of the code's runs. For each such world it takes the checking machine's steps and meets no fault: the same screen,
+/// rows and pointers, within the declared stack and the budget. It ends finished, spent, with a full table, or short of memory;
+/// at the last three the banks agree with the world before the step that wasn't taken.
+pub fn resume<K: KeyList>(
+    alloc: Global,
+    verified: &Verified,
+    banks: &mut Banks<K>,
+    budget: u64,
+) -> Outcome
+    requires { (w : World) × Twin verified.now w banks.old }
+    ensures { (w : World) → Twin verified.now w banks.old → Headline verified.now w budget result banks.new }
+{
+    go_on(alloc, verified.code(), banks, budget)
+}
+
+/// Runs accepted code from its beginning until it ends, within the budget, over any tables of the declared structures, with any
+/// lines of the operator, on any day. It takes the checking machine's steps and meets no fault, as `resume` says.
+pub fn run<K: KeyList>(
+    alloc: Global,
+    verified: &Verified,
+    banks: &mut Banks<K>,
+    budget: u64,
+) -> Outcome
+    requires { (w : World) × Begins verified.now w banks.old }
+    ensures { (w : World) → Begins verified.now w banks.old → Headline verified.now w budget result banks.new }
+{
+    openings_fit();
+    go_on(alloc, verified.code(), banks, budget)
 }

@@ -1,11 +1,22 @@
-use Rattle.std.proofs.Common.{refl, ap, ◌∙◌}
+use Rattle.std.proofs.Common.{None, [], refl, ap, subst, ◌∙◌}
 use Rattle.std.specs.Prelude.{replicate}
-use Rattle.machine.specs.Places.{blank_cell}
-use Rattle.machine.proofs.Openings.{opens_twin}
+use Rattle.code_items.specs.declared.code.Code.{Code}
+use Rattle.run_values.specs.Standing.{IsByKind}
+use Rattle.run_steps.specs.Opening.{opening}
+use Rattle.machine.specs.Twins.{banks_of}
+use Rattle.machine.proofs.Runs.{agrees}
 use Rattle.machine.proofs.banks.Banks.opening.Goals as goal
 
 pub returns : goal.returns
-returns c =
-    let ready = c.opening_is_ready.ensures _ c.args.today c.args.verified.now.legal c.args.verified.now.accepted in
-    let slots = ap (λ k. replicate k.slots blank_cell) c.code-code.ensures.same in
-    opens_twin _ _ _ ready refl c.in_ok-new.ensures (c.in_ok-new-2.ensures ∙ slots) c.in_ok-new-3.ensures c.off.ensures refl
+returns g c =
+    let code = c.args.verified.now in
+    let m = c.in_ok-opening.field-0 in
+    let free = subst (λ n. IsByKind c.in_ok-values.values (record { slots = replicate n None; stack = [] })) (c.from.ensures ∙ ap (λ (k : Code). k.declared.slots) c.code.ensures.same) c.in_ok-values.ensures in
+    record {
+      store = c.args.store;
+      lines = c.args.lines;
+      today = c.args.today;
+      declared = c.requires;
+      opens = refl;
+      agrees = agrees (banks_of m.place m.returns m.values m.env) (opening code c.args.store c.args.lines c.args.today) (c.in_ok-opening.ensures code free);
+    }

@@ -1,3 +1,0 @@
-pub mod AreaLists
-pub mod Keeping
-pub mod KindLists

@@ -1,0 +1,40 @@
+-- Files that stay the same, counts of failures that rise, and what is told of them.
+use Rattle.std.proofs.Common.{◌≡◌, ◌<◌, ◌≤◌, ℕ, List, Some, None, length, inl, inr, sym, ap, ◌∙◌, subst, arith}
+use Rattle.file_access.specs.Holding.{Holds, Rose, SameFiles}
+use Rattle.compile_commands.specs.declared.refusal.CompileFilesRefusal.{CompileFilesRefusal}
+use Rattle.compile_commands.specs.declared.refusal.CompileFilesRefusal.TheVariants.{Declarations, Source, SourceDisk, CodeDisk, Memory}
+use Rattle.compile_commands.specs.declared.refusal.SourceFault.{SourceFault}
+use Rattle.compile_commands.specs.declared.refusal.SourceFault.TheVariants.{Absent, TooLong, Parse, Compile}
+use Rattle.compile_commands.specs.Compiling.{IsRead, name_at}
+use Rattle.compile_commands.specs.Refusals.{SourceFaultIs, SourceRefusalIs, SourcesRefusalIs}
+
+pub same_self : (a : Holds) → SameFiles a a
+same_self a name found = (λ h. h, λ h. h)
+
+pub same_then : (a b c : Holds) → SameFiles a b → SameFiles b c → SameFiles a c
+same_then a b c s t name found = (λ h. (t name found).0 ((s name found).0 h), λ h. (s name found).1 ((t name found).1 h))
+
+-- a count that rose later rose
+pub rose_later : (a b c : ℕ) → a ≤ b → b ≤ c → Rose b c → Rose a c
+rose_later a b c l m (inl r) = inl (omega (arith, l, m, r))
+rose_later a b c l m (inr r) = grind (arith, l, m, r)
+
+-- ---- command files
+
+pub read_before : (a b : Holds) (name : List ℕ) → SameFiles a b → IsRead (b name) → IsRead (a name)
+read_before a b name s r = record { bytes = r.bytes; held = (s name (Some r.bytes)).1 r.held; faultless = r.faultless }
+
+fault_before : (a b : Holds) (name : List ℕ) (fault : SourceFault) → SameFiles a b → SourceFaultIs (b name) fault → SourceFaultIs (a name) fault
+fault_before a b name Absent s f = (s name None).1 f
+fault_before a b name TooLong s f = record { bytes = f.bytes; held = (s name (Some f.bytes)).1 f.held; long = f.long }
+fault_before a b name (Parse line kind) s f = record { bytes = f.bytes; held = (s name (Some f.bytes)).1 f.held; told = f.told }
+fault_before a b name (Compile line _) s f = f
+
+-- what is told of one is told of all
+pub source_told : (r : CompileFilesRefusal) (a b : Holds) (names : List (List ℕ)) (name : List ℕ) (number k m n : ℕ) → SameFiles a b → name_at names number ≡ name → number < length names → k ≤ m → m ≤ n → SourceRefusalIs number (b name) m n r → SourcesRefusalIs a names k n r
+source_told (Declarations refusal) a b names name number k m n s e within l h t = t
+source_told (Source file fault) a b names name number k m n s e within l h t =
+    subst (λ x. SourceFaultIs (a x) fault) (sym e ∙ ap (λ x. name_at names x) (sym t.0)) (fault_before a b name fault s t.1)
+source_told (SourceDisk file) a b names name number k m n s e within l h t = (subst (λ x. x < length names) (sym t.0) within, rose_later k m n l h t.1)
+source_told CodeDisk a b names name number k m n s e within l h t = t
+source_told Memory a b names name number k m n s e within l h t = tt

@@ -1,0 +1,9 @@
+//! Command files compiled to a code file, for the tables and indexes that a declaration file declares.
+#![tactic(auto)]
+
+mod compiling;
+mod refusal;
+mod sources;
+
+pub use compiling::compile_files;
+pub use refusal::{CompileFilesRefusal, CompileTold, CompileWords, SourceFault};

@@ -1,0 +1,20 @@
+-- How the end of a run is told: a full table by its name.
+use Rattle.std.specs.Prelude.{◌≡◌, ℕ, List, [], Option, Some, None, slice_get}
+use Rattle.shape.specs.declared.tables.TableShape.{TableShape}
+use Rattle.shape.specs.declared.whole.Shape.{Shape}
+use Rattle.run_steps.specs.declared.ending.End.{End}
+use Rattle.run_steps.specs.declared.ending.End.TheVariants.{Finished as EndFinished, Spent as EndSpent, Full as EndFull, NoMemory as EndNoMemory, Fault as EndFault}
+use Rattle.run_commands.specs.declared.ending.How.{How}
+use Rattle.run_commands.specs.declared.ending.How.TheVariants.{Finished, Spent, Full, NoMemory, Fault}
+
+abbrev pub name_of : Option TableShape → List ℕ
+name_of None = []
+name_of (Some t) = t.name.items
+
+abbrev pub Tells : Shape → End → How → Type 0
+Tells shape EndFinished Finished = Unit {0}
+Tells shape EndSpent Spent = Unit {0}
+Tells shape (EndFull table) (Full name) = name.items ≡ name_of (slice_get shape.tables table)
+Tells shape EndNoMemory NoMemory = Unit {0}
+Tells shape (EndFault kind at) (Fault told place) = (told ≡ kind) × (place ≡ at)
+Tells shape _ _ = ⊥

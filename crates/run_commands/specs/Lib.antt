@@ -1,0 +1,5 @@
+pub mod Days
+pub mod Endings
+pub mod Parts
+pub mod Reports
+pub mod Runs

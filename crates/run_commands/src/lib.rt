@@ -1,0 +1,15 @@
+//! What `run` and `check-run` do with files: a code is read, its tables are loaded, it is run, and the tables are saved.
+//!
+//! Files are reached through the trait `Files`, so that the same functions serve a folder of the disk and files in memory.
+#![tactic(auto)]
+
+mod ending;
+mod job;
+mod machines;
+mod refusal;
+mod running;
+
+pub use crate::ending::{Ended, How};
+pub use crate::job::{Job, RecordLimit, RunDay};
+pub use crate::refusal::{RunRefusal, ToldRefusal};
+pub use crate::running::{Report, run_files};

@@ -1,0 +1,77 @@
+// Runs of codes over loaded tables.
+#![tactic(auto)]
+
+ghost use Rattle.std.specs.Prelude.{◌≡◌, IfOk};
+ghost use Rattle.code_items.specs.Legal.{IsCode};
+ghost use Rattle.run_steps.specs.Shapes.{StoreFits};
+ghost use Rattle.run_commands.specs.Runs.{IsRun, IsSoundRun};
+ghost use Rattle.text_lines.specs.Lines.{short_lines};
+
+use crate::job::Job;
+use code_items::Code;
+use code_verify::Verified;
+use machine::{Banks, run};
+use ndx_tree::NdxTree;
+use run_checked::{World, run_checked};
+use run_steps::Outcome;
+use std::alloc::{AllocError, Global};
+use text_lines::TypedLines;
+use work_store::Store;
+
+/// A run that came to its end: what is printed, and how it ended.
+#[derive(Drop)]
+pub(crate) struct Run {
+    pub rows: Vec<u8>,
+    pub outcome: Outcome,
+}
+
+/// A run of an accepted code that came to its end, with the tables that it left.
+#[derive(Drop)]
+pub(crate) struct AcceptedRun {
+    pub run: Run,
+    pub banks: Banks<NdxTree>,
+}
+
+fn typed(alloc: Global, bytes: &[u8]) -> Result<TypedLines, AllocError>
+    ensures { IfOk result (λ lines. lines ≡ short_lines bytes.now) }
+{
+    Ok(TypedLines::new(Vec::from_slice(alloc, bytes)?))
+}
+
+/// Runs a code, accepted or not, on the checking machine.
+pub(crate) fn run_any(
+    alloc: Global,
+    code: &Code,
+    store: Store<NdxTree>,
+    job: &Job<'_>,
+) -> Result<Run, AllocError>
+    requires legal { IsCode code.now }
+    requires fits { StoreFits code.now.declared store }
+    ensures { IfOk result (λ run. IsRun code.now store job.now run.outcome run.rows.items) }
+{
+    let lines = typed(alloc, job.input)?;
+    let mut world = World::opening(alloc, code, store, job.day.day(), lines)?;
+    let outcome = run_checked(alloc, code, &mut world, job.budget);
+    let rows = world.finish(alloc)?;
+    Ok(Run { rows, outcome })
+}
+
+/// Runs an accepted code on the machine without tags.
+pub(crate) fn run_accepted(
+    alloc: Global,
+    verified: &Verified,
+    store: Store<NdxTree>,
+    job: &Job<'_>,
+) -> Result<AcceptedRun, AllocError>
+    requires fits { StoreFits verified.now.declared store }
+    ensures { IfOk result (λ done. IsSoundRun verified.now store job.now done.run.outcome done.run.rows.items done.banks.env.store) }
+{
+    let lines = typed(alloc, job.input)?;
+    let mut banks = Banks::opening(alloc, verified, store, job.day.day(), lines)?;
+    let outcome = run(alloc, verified, &mut banks, job.budget);
+    let rows = banks.finish(alloc)?;
+    Ok(AcceptedRun {
+        run: Run { rows, outcome },
+        banks,
+    })
+}

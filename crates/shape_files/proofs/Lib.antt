@@ -1,0 +1,3 @@
+pub mod FileLemmas
+pub mod KeyLemmas
+pub mod ShapeLemmas

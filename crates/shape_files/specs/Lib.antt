@@ -1,0 +1,4 @@
+pub mod Keys
+pub mod Lines
+pub mod Refusals
+pub mod Shapes

@@ -1,0 +1,99 @@
+-- What a declaration file declares.
+use Rattle.std.specs.Prelude.{◌≡◌, ℕ, ◌≤◌, List, [], ◌∷◌, ◌++◌, Option, Some, length, map, slice_get, codes}
+use Rattle.std.specs.Char.{to_ascii_uppercase}
+use Rattle.dbf_file.specs.declared.field.Field.{Field}
+use Rattle.dbf_file.specs.declared.field.Letter.{Letter}
+use Rattle.dbf_file.specs.declared.stamp.Stamp.{Stamp}
+use Rattle.dbf_file.specs.Rows.{Row}
+use Rattle.dbf_file.specs.Tables.{StructureState, DbfText}
+use Rattle.file_access.specs.Holding.{Holds}
+use Rattle.shape.specs.declared.indexes.IndexShape.{IndexShape}
+use Rattle.shape.specs.declared.tables.TableShape.{TableShape}
+use Rattle.shape.specs.declared.whole.Shape.{Shape}
+use Rattle.text_lines.specs.Lines.{lines}
+use Rattle.shape_files.specs.declared.declarations.Declarations.{Declarations}
+use Rattle.shape_files.specs.Keys.{SpellsKey}
+use Rattle.shape_files.specs.Lines.{Said, Nothing, Table, Index, Other, said}
+
+-- the shape as far as it is declared
+abbrev pub shape_of : Declarations → Shape
+shape_of d = record { tables = d.tables.items; indexes = d.indexes.items }
+
+abbrev pub no_shape : Shape
+no_shape = record { tables = []; indexes = [] }
+
+abbrev pub with_table : Shape → TableShape → Shape
+with_table s t = record { tables = s.tables ++ t ∷ []; indexes = s.indexes }
+
+abbrev pub with_index : Shape → IndexShape → Shape
+with_index s x = record { tables = s.tables; indexes = s.indexes ++ x ∷ [] }
+
+-- ---- fields of a table's file
+
+abbrev pub file_name : List ℕ → List ℕ
+file_name name = name ++ codes ".DBF"
+
+abbrev pub plain : Field → List ℕ × Letter × ℕ × ℕ
+plain f = (f.name.items, f.letter, f.width, f.decimals)
+
+abbrev pub in_capitals : Field → List ℕ × Letter × ℕ × ℕ
+in_capitals f = (map to_ascii_uppercase f.name.items, f.letter, f.width, f.decimals)
+
+-- The bytes are the file of a table of at most a million rows that has these fields, with their names in capitals here.
+pub record IsTableOf (bytes : List ℕ) (fields : List Field) : Type 0 where
+  pub structure : StructureState
+  pub rows : List Row
+  pub stamp : Stamp
+  pub text : DbfText structure rows stamp bytes
+  pub few : length rows ≤ 1000000
+  pub same : map plain fields ≡ map in_capitals structure.fields
+
+-- the file may hold such a table in at most 64 MiB
+pub record HasFields (holds : Option (List ℕ) → Type 0) (fields : List Field) : Type 0 where
+  pub bytes : List ℕ
+  pub held : holds (Some bytes)
+  pub short : length bytes ≤ 67108864
+  pub table : IsTableOf bytes fields
+
+-- ---- what lines declare
+
+-- a table of that name, with the fields of the file of that name
+pub record DeclaresTable (holds : Holds) (name : List ℕ) (before after : Shape) : Type 0 where
+  pub table : TableShape
+  pub named : table.name.items ≡ name
+  pub file : HasFields (holds (file_name name)) table.fields
+  pub added : after ≡ with_table before table
+
+-- the table of that number has that name and those fields
+pub record NamesTable (tables : List TableShape) (number : ℕ) (name : List ℕ) (fields : List Field) : Type 0 where
+  pub of : TableShape
+  pub there : slice_get tables number ≡ Some of
+  pub named : of.name.items ≡ name
+  pub fields_are : of.fields ≡ fields
+
+-- an index of that name, of the declared table of that name, whose key is spelled so
+pub record DeclaresIndex (name table key : List ℕ) (before after : Shape) : Type 0 where
+  pub index : IndexShape
+  pub fields : List Field
+  pub named : index.name.items ≡ name
+  pub owner : NamesTable before.tables index.table table fields
+  pub spelled : SpellsKey fields key index.key
+  pub added : after ≡ with_index before index
+
+abbrev pub Declares : Holds → Said → Shape → Shape → Type 0
+Declares holds Nothing before after = after ≡ before
+Declares holds (Table name) before after = DeclaresTable holds name before after
+Declares holds (Index name table key) before after = DeclaresIndex name table key before after
+Declares holds Other before after = ⊥
+
+-- each line declares something behind what those before it declare
+abbrev pub Declare : Holds → List (List ℕ) → Shape → Shape → Type 0
+Declare holds [] before after = before ≡ after
+Declare holds (line ∷ others) before after = (next : Shape) × Declares holds (said line) before next × Declare holds others next after
+
+-- the file of that name may hold lines that declare the shape, each in its turn
+pub record IsDeclared (holds : Holds) (name : List ℕ) (shape : Shape) : Type 0 where
+  pub bytes : List ℕ
+  pub held : holds name (Some bytes)
+  pub short : length bytes ≤ 67108864
+  pub declared : Declare holds (lines bytes) no_shape shape

@@ -1,0 +1,157 @@
+//! Keys of declared indexes.
+
+ghost use Rattle.std.specs.Prelude.{◌≡◌, ◌<◌, ◌≤◌, ◌∷◌, ◌++◌, ℕ, List, length, map, slice_get, codes, IfErr, IfOk, IfSome, IsTrue, Some};
+ghost use Rattle.std.specs.Char.{to_ascii_uppercase};
+ghost use Rattle.prg_expr.specs.declared.tree.Operator.TheVariants.{Plus};
+ghost use Rattle.prg_expr.specs.Word.{Name as NameWord, Sign, Open as OpenWord, words as words_of};
+ghost use Rattle.shape.specs.Keys.{name_of as name_of_field};
+ghost use Rattle.shape_files.specs.Keys.{SpellsKey, key_words, part_words};
+ghost use Rattle.shape.specs.declared.whole.Shape.{Shape as AnyShape};
+ghost use Rattle.shape_files.specs.Lines.{Index};
+ghost use Rattle.shape_files.specs.Refusals.{LineRefusalIs};
+
+use crate::names::{is_word, number_of};
+use crate::refusal::{LineFault, LineRefusal};
+use arrayvec::ArrayVec;
+use dbf_file::Field;
+use prg_expr::{MOST_LETTERS, Operator, Token, name_of, words};
+use shape::{KeyPart, KeyParts, Name};
+use std::alloc::Global;
+
+/// The parts of a key, as they are read.
+type Parts = ArrayVec<KeyPart, 8>;
+
+/// A name in capitals, if it isn't too long.
+fn capitals(word: &[u8]) -> Option<Name>
+    ensures { IfSome result (λ name. name.items ≡ map to_ascii_uppercase word.now) }
+{
+    if MOST_LETTERS < word.len() {
+        return None;
+    }
+    Some(name_of(word))
+}
+
+/// Whether the word is UPPER, in any letter case.
+fn is_upper(word: &[u8]) -> bool
+    ensures { IsTrue result → map to_ascii_uppercase word.now ≡ codes "UPPER" }
+{
+    match capitals(word) {
+        Some(name) => is_word(&name, b"UPPER"),
+        None => false,
+    }
+}
+
+/// The number of the field of that name.
+#[tactic(auto, using(std::proofs::lemmas::Option::slice_get_read))]
+fn field_of(fields: &[Field], name: &[u8]) -> Option<u8>
+    ensures { IfSome result (λ n. name_of_field (slice_get fields.now n) ≡ name.now) }
+{
+    for (n, field) in fields.iter().enumerate() {
+        if is_word(&field.name, name) {
+            return number_of(n);
+        }
+    }
+    None
+}
+
+/// The part that is the field of that name in any letter case.
+fn part_of(fields: &[Field], word: &[u8], upper: bool) -> Option<KeyPart>
+    ensures named { IfSome result (λ part. name_of_field (slice_get fields.now part.field) ≡ map to_ascii_uppercase word.now) }
+    ensures upper { IfSome result (λ part. part.upper ≡ upper) }
+{
+    let name = capitals(word)?;
+    let field = field_of(fields, name.as_slice())?;
+    Some(KeyPart { field, upper })
+}
+
+/// The part behind UPPER and its parenthesis, and the words behind it.
+fn upper_part_at<'t>(
+    fields: &[Field],
+    tokens: &'t [Token<'t>],
+) -> Option<(KeyPart, &'t [Token<'t>])>
+    ensures part { IfSome result (λ x. NameWord (codes "UPPER") ∷ OpenWord ∷ words_of tokens.now ≡ part_words fields.now x.0 ++ words_of x.1.now) }
+    ensures shorter { IfSome result (λ x. length x.1.now < length tokens.now) }
+{
+    match tokens {
+        [Token::Name(word), Token::Close, rest @ ..] => {
+            let part = part_of(fields, word, true)?;
+            Some((part, rest))
+        }
+        _ => None,
+    }
+}
+
+/// The part in front, and the words behind it.
+fn part_at<'t>(fields: &[Field], tokens: &'t [Token<'t>]) -> Option<(KeyPart, &'t [Token<'t>])>
+    ensures part { IfSome result (λ x. words_of tokens.now ≡ part_words fields.now x.0 ++ words_of x.1.now) }
+    ensures shorter { IfSome result (λ x. length x.1.now < length tokens.now) }
+{
+    match tokens {
+        [Token::Name(word), Token::Open, rest @ ..] => {
+            if !is_upper(word) {
+                return None;
+            }
+            upper_part_at(fields, rest)
+        }
+        [Token::Name(word), rest @ ..] => {
+            let part = part_of(fields, word, false)?;
+            Some((part, rest))
+        }
+        _ => None,
+    }
+}
+
+fn is_plus(operator: Operator) -> bool
+    ensures { IsTrue result → operator ≡ Plus }
+{
+    matches!(operator, Operator::Plus)
+}
+
+/// The words behind a plus sign in front.
+fn behind_plus<'t>(tokens: &'t [Token<'t>]) -> Option<&'t [Token<'t>]>
+    ensures plus { IfSome result (λ rest. words_of tokens.now ≡ Sign Plus ∷ words_of rest.now) }
+    ensures shorter { IfSome result (λ rest. length rest.now < length tokens.now) }
+{
+    match tokens {
+        [Token::Operator(operator), rest @ ..] => {
+            if is_plus(*operator) { Some(rest) } else { None }
+        }
+        _ => None,
+    }
+}
+
+/// The parts that words spell.
+fn parts_of<'t>(fields: &[Field], tokens: &'t [Token<'t>]) -> Option<Parts>
+    ensures { IfSome result (λ parts. words_of tokens.now ≡ key_words fields.now parts.items) }
+{
+    let (first, mut rest) = part_at(fields, tokens)?;
+    let mut parts = Parts::new();
+    parts.push(first);
+    while let Some(others) = behind_plus(rest) {
+        let (part, behind) = part_at(fields, others)?;
+        if parts.is_full() {
+            return None;
+        }
+        parts.push(part);
+        rest = behind;
+    }
+    if !rest.is_empty() {
+        return None;
+    }
+    Some(parts)
+}
+
+/// The key that a text spells over these fields, whose names are in capitals.
+pub fn key_of(alloc: Global, fields: &[Field], text: &[u8]) -> Result<KeyParts, LineRefusal>
+    ensures spelled { IfOk result (SpellsKey fields.now text.now) }
+    ensures refused { (s : AnyShape) (name table says : List ℕ) (before after : ℕ) → IfErr result (LineRefusalIs s (Index name table says) before after) }
+{
+    let line = words(alloc, text)?;
+    if line.fault.is_some() {
+        return Err(LineRefusal::Fault(LineFault::Key));
+    }
+    match parts_of(fields, &line.words) {
+        Some(parts) => Ok(KeyParts::new(parts.as_slice())),
+        None => Err(LineRefusal::Fault(LineFault::Key)),
+    }
+}

@@ -1,0 +1,91 @@
+//! Fields of declared tables, from their files.
+
+ghost use Rattle.std.specs.Prelude.{◌≡◌, ◌≤◌, ℕ, List, Some, length, map, IfErr, IfOk};
+ghost use Rattle.file_access.specs.Holding.{SameFiles};
+ghost use Rattle.shape.specs.declared.whole.Shape.{Shape as AnyShape};
+ghost use Rattle.shape_files.specs.Lines.{Table};
+ghost use Rattle.shape_files.specs.Refusals.{LineRefusalIs};
+ghost use Rattle.shape_files.specs.Shapes.{HasFields, IsTableOf, file_name, in_capitals, plain};
+
+use crate::names::file_of;
+use crate::reading::FILE_LIMIT;
+use crate::refusal::{LineFault, LineRefusal};
+use dbf_file::{DbfFault, Field, read};
+use file_access::{Files, ReadFault};
+use prg_expr::name_of;
+use std::alloc::{AllocError, Global};
+
+/// The most rows of a table.
+const MOST_ROWS: usize = 1_000_000;
+
+/// The same field with its name in capitals.
+fn with_capitals(field: &Field) -> Field
+    ensures { plain result ≡ in_capitals field.now }
+{
+    Field {
+        name: name_of(field.name.as_slice()),
+        letter: field.letter,
+        width: field.width,
+        decimals: field.decimals,
+    }
+}
+
+/// The same fields with their names in capitals.
+fn fields_of(alloc: Global, fields: &[Field]) -> Result<Vec<Field>, AllocError>
+    ensures { IfOk result (λ copies. map plain copies.items ≡ map in_capitals fields.now) }
+{
+    let mut copies = Vec::with_capacity(alloc, fields.len())?;
+    for field in fields {
+        copies.push(with_capitals(field))?;
+    }
+    Ok(copies)
+}
+
+/// The bytes of the file of the table of that name.
+fn table_bytes<F: Files>(alloc: Global, files: &mut F, name: &[u8]) -> Result<Vec<u8>, LineRefusal>
+    ensures held { IfOk result (λ bytes. F.holds files.old (file_name name.now) (Some bytes.items)) }
+    ensures short { IfOk result (λ bytes. length bytes.items ≤ 67108864) }
+    ensures refused { (s : AnyShape) (says : List ℕ) → IfErr result (LineRefusalIs s (Table says) (F.failed files.old) (F.failed files.new)) }
+    ensures counted { F.failed files.old ≤ F.failed files.new }
+    ensures kept { SameFiles (F.holds files.old) (F.holds files.new) }
+{
+    let Some(file) = file_of(name) else {
+        return Err(LineRefusal::Fault(LineFault::Table));
+    };
+    match files.read(alloc, file.as_str(), FILE_LIMIT) {
+        Ok(bytes) => Ok(bytes),
+        Err(ReadFault::Device) => Err(LineRefusal::Disk(name_of(name))),
+        Err(ReadFault::Memory) => Err(LineRefusal::Memory),
+        Err(ReadFault::Absent) => Err(LineRefusal::Fault(LineFault::Table)),
+        Err(ReadFault::TooLong) => Err(LineRefusal::Fault(LineFault::Table)),
+    }
+}
+
+/// The fields of the table in a file, with their names in capitals.
+fn fields_in(alloc: Global, bytes: &[u8]) -> Result<Vec<Field>, LineRefusal>
+    ensures fields { IfOk result (λ fields. IsTableOf bytes.now fields.items) }
+    ensures refused { (s : AnyShape) (says : List ℕ) (before after : ℕ) → IfErr result (LineRefusalIs s (Table says) before after) }
+{
+    match read(alloc, bytes, MOST_ROWS) {
+        Ok(table) => Ok(fields_of(alloc, table.structure().fields())?),
+        Err(DbfFault::Memory) => Err(LineRefusal::Memory),
+        Err(_) => Err(LineRefusal::Fault(LineFault::Table)),
+    }
+}
+
+/// The fields of the table of that name, with their names in capitals.
+pub fn read_fields<F: Files>(
+    alloc: Global,
+    files: &mut F,
+    name: &[u8],
+) -> Result<Vec<Field>, LineRefusal>
+    ensures fields { IfOk result (λ fields. HasFields (F.holds files.old (file_name name.now)) fields.items) }
+    ensures refused { (s : AnyShape) (says : List ℕ) → IfErr result (LineRefusalIs s (Table says) (F.failed files.old) (F.failed files.new)) }
+    ensures counted { F.failed files.old ≤ F.failed files.new }
+    ensures kept { SameFiles (F.holds files.old) (F.holds files.new) }
+{
+    match table_bytes(alloc, files, name) {
+        Ok(bytes) => fields_in(alloc, bytes.as_slice()),
+        Err(refusal) => Err(refusal),
+    }
+}

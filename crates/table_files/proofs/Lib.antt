@@ -1,0 +1,4 @@
+pub mod FileLemmas
+pub mod LawLemmas
+pub mod ShapeLemmas
+pub mod WriteLemmas

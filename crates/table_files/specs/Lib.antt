@@ -1,0 +1,4 @@
+pub mod Loading
+pub mod Names
+pub mod Refusals
+pub mod Saving

@@ -1,7 +1,0 @@
-use Rattle.std.proofs.Common.{◌≡◌, ◌-◌}
-use Rattle.xcode.specs.CodeReading.{many, kind_at}
-use Rattle.xcode.proofs.Many.{with_front}
-use Rattle.xcode.proofs.codec_states.kinds_of.Given as goal
-
-abbrev pub invariant-loop : goal.invariant-loop
-invariant-loop l = with_front l.kinds.items (many kind_at (l.count - l.counter) l.rest) ≡ many kind_at l.count l.bytes

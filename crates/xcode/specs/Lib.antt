@@ -1,3 +1,0 @@
-pub mod CodeFile
-pub mod CodeReading
-pub mod Listing

@@ -1,2 +1,0 @@
-pub mod LegalProps
-pub mod Verdict

@@ -1,9 +1,0 @@
--- What a refusal says.
-use Rattle.code_model.specs.declared.code.Code.{Code}
-use Rattle.code_model.specs.Rules.{FirstRefusal}
-use Rattle.xverify.specs.declared.verified.VerifyError.{VerifyError}
-use Rattle.xverify.specs.declared.verified.VerifyError.TheVariants.{Refused, NoMemory}
-
-abbrev pub Refuses : Code → VerifyError → Type 0
-Refuses code (Refused refused) = FirstRefusal code refused.rule refused.at
-Refuses code NoMemory = Unit {0}
