@@ -140,7 +140,9 @@ def their_index(length, count):
 
 tables()
 for each in LENGTHS:
+    most = 504 // (8 + -(-each // 4) * 4)
     our_index(each, 200)
-    their_index(each, 40)
+    # (libxbase64 loses pages where it splits one that isn't a leaf, so its root alone stands above the leaves)
+    their_index(each, min(most * most // 2, 200))
 print("all tools agree" if failed == 0 else f"{failed} differences")
 sys.exit(1 if failed else 0)

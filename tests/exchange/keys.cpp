@@ -34,6 +34,7 @@ static int make(int length) {
         table.PutField(static_cast<xbShort>(0), line);
         if (table.AppendRecord() != 0) return 3;
     }
+    index.CloseIndex();
     table.CloseDatabase();
     return 0;
 }

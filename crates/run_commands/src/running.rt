@@ -151,11 +151,7 @@ fn run_code<F: Files>(
     full_run(alloc, files, &verified, job)
 }
 
-fn report_of<F: Files>(
-    alloc: Global,
-    files: &mut F,
-    job: &Job<'_>,
-) -> Result<Report, RunRefusal>
+fn report_of<F: Files>(alloc: Global, files: &mut F, job: &Job<'_>) -> Result<Report, RunRefusal>
     ensures done { IfOk result (λ report. IfOk report.result (λ ended. HasRun (F.holds files.old) (F.holds files.new) job.now ended report.rows.items)) }
     ensures stopped { IfOk result (λ report. IfErr report.result (λ refusal. SavingStopped (F.holds files.old) (F.holds files.new) job.now (Rose (F.failed files.old) (F.failed files.new)) refusal report.rows.items)) }
     ensures refused { IfErr result (RefusedBefore (F.holds files.old) job.now (Rose (F.failed files.old) (F.failed files.new))) }
