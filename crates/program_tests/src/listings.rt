@@ -2,20 +2,13 @@
 #![tactic(auto)]
 
 use super::stored::stored;
-use super::tables::{Column, table};
+use super::tables::{Column, put_zeros, table};
 use dbf_file::DbfFault;
 use file_access::MemoryEntry;
 use file_commands::{Fault, Refusal, list_index, list_table};
 use ndx_tree::TreeFault;
 use std::alloc::{AllocError, Global};
 use std::test::Fail;
-
-fn put_zeros(out: &mut Vec<u8>, count: usize) -> Result<(), AllocError> {
-    for _ in 0..count {
-        out.push(0)?;
-    }
-    Ok(())
-}
 
 /// A table's file of a field of each kind, and of these records.
 fn of_each_kind(alloc: Global, records: &[&[u8]]) -> Result<Vec<u8>, AllocError> {

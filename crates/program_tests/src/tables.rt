@@ -6,7 +6,8 @@ use std::alloc::{AllocError, Global};
 /// A field: its name, letter, width and decimals.
 pub type Column<'a> = (&'a [u8], u8, u8, u8);
 
-fn put_zeros(out: &mut Vec<u8>, count: usize) -> Result<(), AllocError> {
+/// So many zero bytes.
+pub fn put_zeros(out: &mut Vec<u8>, count: usize) -> Result<(), AllocError> {
     for _ in 0..count {
         out.push(0)?;
     }

@@ -1,7 +1,7 @@
 // What a run is asked for.
 #![tactic(auto)]
 
-ghost use Rattle.std.specs.Prelude.{◌≡◌, ◌≤◌, Some, IfSome};
+ghost use Rattle.std.specs.Prelude.{◌≡◌, ◌≤◌, Some, None, MatchOption, SomeIff};
 ghost use Rattle.dbf_file.specs.Values.{stamp_of};
 
 use dbf_file::Stamp;
@@ -30,12 +30,14 @@ impl Model for RunDay {
 }
 
 impl RunDay {
-    /// This day, if it is one of the years 1900 to 2155.
+    /// This day, if it is one of the years 1900 to 2155, which have a stamp.
     pub fn of(day: Day) -> Option<RunDay>
-        ensures { IfSome result (λ d. d ≡ day) }
+        ensures { MatchOption result (stamp_of day ≡ None) (λ d. d ≡ day) }
     {
-        Stamp::of(day)?;
-        Some(RunDay { day })
+        match Stamp::of(day) {
+            Some(_) => Some(RunDay { day }),
+            None => None,
+        }
     }
 
     /// The day that a word of the form YYYY-MM-DD names, if it is one of the years 1900 to 2155.
@@ -92,7 +94,7 @@ impl Model for RecordLimit {
 impl RecordLimit {
     /// This number of records, if it is one of 1 to 1,000,000.
     pub fn of(records: u32) -> Option<RecordLimit>
-        ensures { IfSome result (λ l. l ≡ records) }
+        ensures { SomeIff result ((1 ≤ records) × (records ≤ 1000000)) records }
     {
         if records < 1 || records > 1_000_000 {
             return None;
