@@ -1,7 +1,10 @@
 -- The declared indexes of a table, and which of them are stale.
 use Rattle.std.specs.Prelude.{ℕ, Bool, false, not, ◌||◌, ◌&&◌, ◌==◌, Option, Some, None, List, [], map, filter, find, length}
 use Rattle.std.specs.List.{list_any}
+use Rattle.dbf_file.specs.Tables.{StructureState, row_widths}
+use Rattle.ndx_tree.specs.KeyForm.{KeyForm}
 use Rattle.shape.specs.declared.parts.KeyPart.{KeyPart}
+use Rattle.shape.specs.Keys.{key_length}
 
 -- a declared index: its number, how a row's key is made, the text that says so, and whether it is stale
 pub record IndexMark : Type 0 where
@@ -26,6 +29,15 @@ is_fresh (Some m) = not m.stale
 abbrev pub parts_in : Option IndexMark → List KeyPart
 parts_in None = []
 parts_in (Some m) = m.parts
+
+-- the text that says so
+abbrev pub text_in : Option IndexMark → List ℕ
+text_in None = []
+text_in (Some m) = m.text
+
+-- what the keys of an index of a table of this structure look like: their length, and the text that says how they are made
+abbrev pub form_in : StructureState → Option IndexMark → KeyForm
+form_in structure mark = record { key_length = key_length (parts_in mark) (row_widths structure); key_text = text_in mark }
 
 abbrev pub with_stale : IndexMark → Bool → IndexMark
 with_stale m stale = record { number = m.number; parts = m.parts; text = m.text; stale = stale }

@@ -5,7 +5,7 @@ ghost use Rattle.dbf_file.specs.Rows.{Row as TheRow};
 ghost use Rattle.dbf_file.specs.Tables.{StructureState};
 ghost use Rattle.shape.specs.Keys.{IsKey};
 ghost use Rattle.row_keys.specs.Lists.{index_list};
-ghost use Rattle.work_rows.specs.Marks.{mark_at, is_fresh, parts_in, count_stale};
+ghost use Rattle.work_rows.specs.Marks.{mark_at, is_fresh, parts_in, form_in, count_stale};
 ghost use Rattle.work_rows.specs.Slots.{IsSlot, mark_of};
 ghost use Rattle.work_rows.specs.Tables.{order_parts};
 
@@ -78,7 +78,7 @@ pub(crate) fn stale_in<K: KeyList>(slots: &Vec<Slot<K>>, list: &[u8]) -> usize
     stale
 }
 
-/// The list of the index of this number; none where it is stale, or there is no such index. It lists the rows.
+/// The list of the index of this number; none where it is stale, or there is no such index. It lists the rows under the declared key.
 pub(crate) fn keys_at<'a, K: KeyList>(
     table: &Table,
     slots: &'a Vec<Slot<K>>,
@@ -87,6 +87,7 @@ pub(crate) fn keys_at<'a, K: KeyList>(
     requires { All (IsSlot table.now.structure table.now.rows) slots.now.items }
     ensures fresh { is_some result ≡ is_fresh (mark_at (map mark_of slots.now.items) number) }
     ensures exact { IfSome result (λ keys. K.pairs keys.now ≡ index_list (parts_in (mark_at (map mark_of slots.now.items) number)) table.now.rows) }
+    ensures form { IfSome result (λ keys. K.form keys.now ≡ form_in table.now.structure (mark_at (map mark_of slots.now.items) number)) }
 {
     for (i, slot) in slots.iter().enumerate() {
         if slot.number() == number {

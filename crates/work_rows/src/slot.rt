@@ -122,6 +122,7 @@ impl<K: KeyList> Slot<K> {
     pub(crate) fn keys(&self) -> Option<&K>
         ensures fresh { is_some result ≡ is_some self.now.index }
         ensures same { IfSome result (λ keys. IfSome self.now.index (λ x. K.pairs keys.now ≡ x.pairs)) }
+        ensures form { IfSome result (λ keys. IfSome self.now.index (λ x. K.form keys.now ≡ x.form)) }
     {
         match &self.index {
             Some(index) => Some(index.list()),

@@ -9,7 +9,7 @@ ghost use Rattle.ndx_tree.specs.KeyForm.{IsKeyText};
 ghost use Rattle.shape.specs.Keys.{IsKey, key_length};
 ghost use Rattle.row_moves.specs.Moves.{IsMove, end_of, skipped, sought};
 ghost use Rattle.std.specs.Fn.{FnReturnsAt};
-ghost use Rattle.work_rows.specs.Marks.{mark_at, is_fresh, parts_in, count_stale};
+ghost use Rattle.work_rows.specs.Marks.{mark_at, is_fresh, parts_in, form_in, count_stale};
 ghost use Rattle.work_rows.specs.Tables.{HasDeclared, IsOrder, order_pairs, pairs_in, pair_at, appended, replaced, remarked, remade, packed, cleared};
 ghost use Rattle.work_rows.specs.Passes.{behind, IsClosing};
 ghost use Rattle.work_rows.specs.Tried.{ShowsRows};
@@ -430,10 +430,12 @@ impl<K: KeyList> IndexedTable<K> {
         self.remake_and_top(alloc, &[number], false, Some(number), see, base, budget)
     }
 
-    /// The list of the index of this number; none where it is stale, or there is no such index. It lists the rows.
+    /// The list of the index of this number; none where it is stale, or there is no such index. It lists the rows under the declared
+    /// key.
     pub fn keys(&self, number: u8) -> Option<&K>
         ensures fresh { is_some result ≡ is_fresh (mark_at self.now.marks number) }
         ensures exact { IfSome result (λ keys. K.pairs keys.now ≡ index_list (parts_in (mark_at self.now.marks number)) self.now.rows) }
+        ensures form { IfSome result (λ keys. K.form keys.now ≡ form_in self.now.structure (mark_at self.now.marks number)) }
     {
         keys_at(&self.table, &self.slots, number)
     }
