@@ -4,6 +4,7 @@ use Rattle.std.specs.Prelude.{slice_get}
 use Rattle.std.specs.List.{AllByRecursion}
 use Rattle.std.proofs.lemmas.Option.{slice_get_within, get_or_from_slice_get}
 use Rattle.dbf_file.specs.declared.stamp.Stamp.{Stamp}
+use Rattle.dbf_file.specs.Rows.{Row}
 use Rattle.dbf_file.specs.Tables.{TableState, DbfText, dbf_text}
 use Rattle.file_access.specs.Holding.{Holds, HoldsOneThing}
 use Rattle.shape.specs.declared.indexes.IndexShape.{IndexShape}
@@ -12,6 +13,7 @@ use Rattle.shape.specs.declared.whole.Shape.{Shape}
 use Rattle.shape.specs.Whole.{is_shape}
 use Rattle.work_area.specs.Open.{OpenState}
 use Rattle.work_store.specs.Areas.{StoreState, table_at}
+use Rattle.work_store.specs.Making.{AreMarks, lists_just}
 use Rattle.table_files.specs.Loading.{IsTableOf, Loaded}
 use Rattle.table_files.specs.Names.{table_file, index_file}
 use Rattle.table_files.specs.Saving.{Write, IsReadable, table_writes, AreSaved, FindsSaved}
@@ -19,10 +21,10 @@ use Rattle.table_files.proofs.FileLemmas.{zip_count, zip_at}
 use Rattle.table_files.proofs.ShapeLemmas.{other_tables, other_kinds}
 use Rattle.table_files.proofs.WriteLemmas.{all_append, all_split, all_every, table_names, index_names}
 
-some_same : {A : Type 0} (x y : A) → Some x ≡ Some y → x ≡ y
+pub some_same : {A : Type 0} (x y : A) → Some x ≡ Some y → x ≡ y
 some_same x y e = cc
 
-get_taken : {A : Type 0} (xs : List A) (k t : ℕ) → t < k → slice_get (take k xs) t ≡ slice_get xs t
+pub get_taken : {A : Type 0} (xs : List A) (k t : ℕ) → t < k → slice_get (take k xs) t ≡ slice_get xs t
 get_taken xs zero t lt = absurd (omega (arith, lt))
 get_taken [] (suc k) t lt = refl
 get_taken (x ∷ xs) (suc k) zero lt = refl
@@ -68,6 +70,19 @@ found_at holds shape limit loaded t s l h here there =
       structure = ap (λ (o : OpenState). o.table.structure) (sym same) ∙ new.structure;
       rows = ap (λ (o : OpenState). o.table.rows) (sym same) ∙ new.rows;
     }
+
+-- the marks of its indexes
+pub marks_at : (holds : Holds) (shape : Shape) (limit : ℕ) (loaded : StoreState) (t : ℕ) (s : TableShape) (l : OpenState) (h : Loaded holds shape limit loaded) → slice_get shape.tables t ≡ Some s → table_at loaded t ≡ Some l
+    → AreMarks (lists_just (λ k. k.pairs) h.lists) s.fields l.table.rows t 0 shape.indexes l.table.marks
+marks_at holds shape limit loaded t s l h here there =
+    let d : TableState = record { structure = l.table.structure; rows = l.table.rows; spare = 0 } in
+    let count : length h.tables ≡ length shape.tables = zip_count (IsTableOf holds limit) shape.tables h.tables h.read in
+    let low : t < length shape.tables = slice_get_within shape.tables t s here in
+    let new = h.made.tables.each t d l s (omega (arith, count, low)) here in
+    let same : get_or loaded.tables t l ≡ l = get_or_from_slice_get loaded.tables t l l there in
+    let rows : (get_or h.tables t d).rows ≡ l.table.rows = sym new.rows ∙ ap (λ (o : OpenState). o.table.rows) same in
+    subst (λ (rs : List Row). AreMarks (lists_just (λ k. k.pairs) h.lists) s.fields rs t 0 shape.indexes l.table.marks) rows
+    (subst (λ (o : OpenState). AreMarks (lists_just (λ k. k.pairs) h.lists) s.fields (get_or h.tables t d).rows t 0 shape.indexes o.table.marks) same new.marks)
 
 pub finds_saved : (before after : Holds) (shape : Shape) (store loaded : StoreState) (stamp : Stamp) (k limit : ℕ) → HoldsOneThing after → is_shape shape ≡ true
     → AreSaved shape store stamp k before after → Loaded after shape limit loaded → FindsSaved before shape store k limit loaded

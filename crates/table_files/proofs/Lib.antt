@@ -1,4 +1,5 @@
 pub mod FileLemmas
 pub mod LawLemmas
+pub mod ListLemmas
 pub mod ShapeLemmas
 pub mod WriteLemmas

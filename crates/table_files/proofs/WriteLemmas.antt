@@ -19,7 +19,7 @@ use Rattle.shape.specs.declared.indexes.IndexShape.{IndexShape}
 use Rattle.shape.specs.declared.tables.TableShape.{TableShape}
 use Rattle.shape.specs.declared.whole.Shape.{Shape}
 use Rattle.work_area.specs.Open.{OpenState}
-use Rattle.work_rows.specs.Marks.{mark_at, is_fresh, parts_in}
+use Rattle.work_rows.specs.Marks.{mark_at, is_fresh, parts_in, form_in}
 use Rattle.work_store.specs.Areas.{StoreState, index_table, mark_in}
 use Rattle.table_files.specs.declared.refusal.FilesRefusal.{FilesRefusal}
 use Rattle.table_files.specs.declared.refusal.FilesRefusal.TheVariants.{Refused, Disk, Memory}
@@ -228,10 +228,12 @@ table_readable stamp os t structure rows there same_structure same_rows text h =
 -- ---- one more index
 
 fresh_text : (o : Option OpenState) (n : ℕ) (bytes : List ℕ) (form : KeyForm) (pairs : List Pair) → is_fresh (mark_in o n) ≡ true
-    → IfSome o (λ u. pairs ≡ index_list (parts_in (mark_at u.table.marks n)) u.table.rows) → IsIndexText bytes form pairs
-    → IsSomeAnd o (λ u. IsIndexText bytes form (index_list (parts_in (mark_at u.table.marks n)) u.table.rows))
-fresh_text None n bytes form pairs fresh same text = absurd (false≢true fresh)
-fresh_text (Some o) n bytes form pairs fresh same text = subst (λ (ps : List Pair). IsIndexText bytes form ps) same text
+    → IfSome o (λ u. pairs ≡ index_list (parts_in (mark_at u.table.marks n)) u.table.rows) → IfSome o (λ u. form ≡ form_in u.table.structure (mark_at u.table.marks n)) → IsIndexText bytes form pairs
+    → IsSomeAnd o (λ u. IsIndexText bytes (form_in u.table.structure (mark_at u.table.marks n)) (index_list (parts_in (mark_at u.table.marks n)) u.table.rows))
+fresh_text None n bytes form pairs fresh same formed text = absurd (false≢true fresh)
+fresh_text (Some o) n bytes form pairs fresh same formed text =
+    subst (λ (f : KeyForm). IsIndexText bytes f (index_list (parts_in (mark_at o.table.marks n)) o.table.rows)) formed
+    (subst (λ (ps : List Pair). IsIndexText bytes form ps) same text)
 
 pub copied_some : {T : Type 0} (o : Option (Bor T)) → is_some (option_copied o) ≡ is_some o
 copied_some None = refl
@@ -246,19 +248,20 @@ none_kept a b h name found = h.others name tt found
 
 pub list_saved : (before mid after : Holds) (shape : Shape) (store : StoreState) (n : ℕ) (x : IndexShape) (list : Option TreeView) → is_some list ≡ is_listed store n
     → IfSome list (λ k. IfSome (index_table store n) (λ o. k.pairs ≡ index_list (parts_in (mark_at o.table.marks n)) o.table.rows))
+    → IfSome list (λ k. IfSome (index_table store n) (λ o. k.form ≡ form_in o.table.structure (mark_at o.table.marks n)))
     → slice_get shape.indexes n ≡ Some x → AllByRecursion (λ y. index_file y ≢ index_file x) (take n shape.indexes)
     → ListsSaved shape store n before mid → ListSaved x list mid after → ListsSaved shape store (n + 1) before after
-list_saved before mid after shape store n x None listed exact here other h g = record {
+list_saved before mid after shape store n x None listed exact formed here other h g = record {
   writes = h.writes;
   are =
       subst (λ (xs : List IndexShape). AreIndexWrites store 0 xs h.writes) (sym (take_next shape.indexes n x here))
       (index_stale store 0 n (take n shape.indexes) x h.writes (count_taken shape.indexes n x here) (sym listed) h.are);
   replaced = replaced_kept before mid after h.writes h.replaced (none_kept mid after g);
 }
-list_saved before mid after shape store n x (Some k) listed exact here other h g = record {
+list_saved before mid after shape store n x (Some k) listed exact formed here other h g = record {
   writes = h.writes ++ (index_file x, g.0) ∷ [];
   are =
-      let written : IsIndexWrite store n x (index_file x, g.0) = record { name = refl; form = k.form; text = fresh_text (index_table store n) n g.0 k.form k.pairs (sym listed) exact g.1 } in
+      let written : IsIndexWrite store n x (index_file x, g.0) = record { name = refl; text = fresh_text (index_table store n) n g.0 k.form k.pairs (sym listed) exact formed g.1 } in
       subst (λ (xs : List IndexShape). AreIndexWrites store 0 xs (h.writes ++ (index_file x, g.0) ∷ [])) (sym (take_next shape.indexes n x here))
       (index_more store 0 n (take n shape.indexes) x h.writes (index_file x, g.0) (count_taken shape.indexes n x here) (sym listed) written h.are);
   replaced = replaced_more before mid after h.writes ((index_file x, g.0) ∷ []) h.replaced g.2

@@ -5,15 +5,15 @@ use Rattle.dbf_file.specs.declared.stamp.Stamp.{Stamp}
 use Rattle.dbf_file.specs.Tables.{TableState, DbfText, dbf_text}
 use Rattle.file_access.specs.Holding.{Holds}
 use Rattle.ndx_tree.specs.IndexText.{IsIndexText}
-use Rattle.ndx_tree.specs.KeyForm.{KeyForm}
 use Rattle.ndx_tree.specs.Trees.{TreeView}
 use Rattle.row_keys.specs.Lists.{index_list}
 use Rattle.shape.specs.declared.indexes.IndexShape.{IndexShape}
 use Rattle.shape.specs.declared.tables.TableShape.{TableShape}
 use Rattle.shape.specs.declared.whole.Shape.{Shape}
 use Rattle.work_area.specs.Open.{OpenState}
-use Rattle.work_rows.specs.Marks.{mark_at, is_fresh, parts_in}
+use Rattle.work_rows.specs.Marks.{mark_at, is_fresh, parts_in, form_in}
 use Rattle.work_store.specs.Areas.{StoreState, table_at, index_table, mark_in}
+use Rattle.work_store.specs.Making.{form_of}
 use Rattle.table_files.specs.declared.refusal.FilesRefusal.{FilesRefusal}
 use Rattle.table_files.specs.declared.refusal.FilesRefusal.TheVariants.{Refused, Disk, Memory}
 use Rattle.table_files.specs.Loading.{IsTableOf}
@@ -42,11 +42,10 @@ IsReadable stamp o = DbfText o.table.structure o.table.rows stamp (dbf_text o.ta
 
 -- ---- indexes
 
--- the file of index n, with the list of its table's rows
+-- the file of index n, with the list of its table's rows under the declared key
 pub record IsIndexWrite (store : StoreState) (n : ℕ) (x : IndexShape) (w : Write) : Type 0 where
   pub name : w.0 ≡ index_file x
-  pub form : KeyForm
-  pub text : IsSomeAnd (index_table store n) (λ o. IsIndexText w.1 form (index_list (parts_in (mark_at o.table.marks n)) o.table.rows))
+  pub text : IsSomeAnd (index_table store n) (λ o. IsIndexText w.1 (form_in o.table.structure (mark_at o.table.marks n)) (index_list (parts_in (mark_at o.table.marks n)) o.table.rows))
 
 -- a fact of the first, and one of the others
 abbrev pub FirstIs : (Write → Type 0) → (List Write → Type 0) → List Write → Type 0
@@ -136,3 +135,28 @@ pub record FindsSaved (before : Holds) (shape : Shape) (store : StoreState) (k l
       → (l.table.structure ≡ o.table.structure) × (l.table.rows ≡ o.table.rows)
   pub kept : (t : ℕ) (s : TableShape) (l : OpenState) → k ≤ t → slice_get shape.tables t ≡ Some s → table_at loaded t ≡ Some l
       → (table : TableState) × IsTableOf before limit s table × (l.table.structure ≡ table.structure) × (l.table.rows ≡ table.rows)
+
+-- ---- what files hold of indexes
+
+-- the file of an index of this table is that of the rows, under the declared key
+pub record IsListFile (holds : Holds) (s : TableShape) (x : IndexShape) (o : OpenState) : Type 0 where
+  pub bytes : List ℕ
+  pub held : holds (index_file x) (Some bytes)
+  pub text : IsIndexText bytes (form_of s x) (index_list x.key o.table.rows)
+
+-- index n, of table o that is declared as s, isn't stale, and its file is one of the first k
+pub record IsSaved (shape : Shape) (store : StoreState) (k n : ℕ) (x : IndexShape) (s : TableShape) (o : OpenState) : Type 0 where
+  pub within : length shape.tables + n < k
+  pub index : slice_get shape.indexes n ≡ Some x
+  pub declared : slice_get shape.tables x.table ≡ Some s
+  pub table : table_at store x.table ≡ Some o
+  pub fresh : is_fresh (mark_at o.table.marks n) ≡ true
+
+-- each such index has such a file
+abbrev pub HoldsLists : Holds → Shape → StoreState → ℕ → Type 0
+HoldsLists holds shape store k = (n : ℕ) (x : IndexShape) (s : TableShape) (o : OpenState) → IsSaved shape store k n x s o → IsListFile holds s x o
+
+-- each such index, of a table of no more rows than the limit, isn't stale where its file has at most 64 MiB
+abbrev pub FindsLists : Holds → Shape → StoreState → ℕ → ℕ → StoreState → Type 0
+FindsLists holds shape store k limit loaded = (n : ℕ) (x : IndexShape) (s : TableShape) (o l : OpenState) → IsSaved shape store k n x s o → length o.table.rows ≤ limit → table_at loaded x.table ≡ Some l
+    → (file : IsListFile holds s x o) → length file.bytes ≤ 67108864 → is_fresh (mark_at l.table.marks n) ≡ true

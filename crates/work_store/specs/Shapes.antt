@@ -5,12 +5,12 @@ use Rattle.shape.specs.declared.indexes.IndexShape.{IndexShape}
 use Rattle.shape.specs.declared.tables.TableShape.{TableShape}
 use Rattle.shape.specs.declared.whole.Shape.{Shape}
 use Rattle.xvalue.specs.declared.value.Value.{Value}
-use Rattle.work_rows.specs.Marks.{IndexMark, mark_at, with_stale}
+use Rattle.work_rows.specs.Marks.{IndexMark, mark_at, with_stale, parts_in, form_in}
 use Rattle.work_area.specs.Open.{OpenState, landed, opened, closed, reordered, gone, with_blank, replaced_here, remarked_here}
 use Rattle.work_store.specs.declared.uses.Use.{Use}
-use Rattle.work_store.specs.Areas.{StoreState, table_at, here, with_table, with_use, with_selected, with_here, change_here, closed_here, closed_all}
+use Rattle.work_store.specs.Areas.{StoreState, table_at, index_table, here, with_table, with_use, with_selected, with_here, change_here, closed_here, closed_all}
 use Rattle.work_store.specs.Calls.{packed_in, zapped_in, reindexed_in, indexed_here, used_here}
-use Rattle.work_store.specs.Making.{AreAlike, mark_for}
+use Rattle.work_store.specs.Making.{AreAlike, form_of, mark_for}
 
 -- a mark as if it were stale
 abbrev pub still : IndexMark → IndexMark
@@ -22,6 +22,8 @@ pub record HasShape (shape : Shape) (s : StoreState) : Type 0 where
   pub fields : (t : ℕ) (o : OpenState) (d : TableShape) → table_at s t ≡ Some o → slice_get shape.tables t ≡ Some d → AreAlike o.table.structure.fields d.fields
   pub indexes : (n : ℕ) (x : IndexShape) (o : OpenState) (d : TableShape) → slice_get shape.indexes n ≡ Some x → table_at s x.table ≡ Some o → slice_get shape.tables x.table ≡ Some d
       → mark_at (map still o.table.marks) n ≡ Some (mark_for n d.fields x)
+  -- only its own table has an index
+  pub alone : (n : ℕ) (x : IndexShape) (t : ℕ) (o : OpenState) → slice_get shape.indexes n ≡ Some x → table_at s t ≡ Some o → is_some (mark_at (map still o.table.marks) n) ≡ true → t ≡ x.table
 
 -- the same fields and indexes, stale or not
 pub record IsSameKind (o p : OpenState) : Type 0 where
@@ -57,3 +59,13 @@ pub record ShapesStay (shape : Shape) (s : StoreState) : Type 0 where
   -- the declared indexes are there
   pub declared : (n : ℕ) (x : IndexShape) (o : OpenState) (d : TableShape) → HasShape shape s → slice_get shape.indexes n ≡ Some x → table_at s x.table ≡ Some o → slice_get shape.tables x.table ≡ Some d
       → is_some (mark_at o.table.marks n) ≡ true
+
+-- index x of a shape, of number n, is found in its table o, declared as d, and has its declared key there
+pub record IsFoundIn (s : StoreState) (n : ℕ) (x : IndexShape) (d : TableShape) (o : OpenState) : Type 0 where
+  pub found : index_table s n ≡ Some o
+  pub parts : parts_in (mark_at o.table.marks n) ≡ x.key
+  pub form : form_in o.table.structure (mark_at o.table.marks n) ≡ form_of d x
+
+-- each declared index is found so
+abbrev pub AreFound : Shape → StoreState → Type 0
+AreFound shape s = (n : ℕ) (x : IndexShape) (o : OpenState) (d : TableShape) → slice_get shape.indexes n ≡ Some x → table_at s x.table ≡ Some o → slice_get shape.tables x.table ≡ Some d → IsFoundIn s n x d o

@@ -7,7 +7,7 @@ ghost use Rattle.dbf_file.specs.Tables.{letter_at};
 ghost use Rattle.dbf_file.specs.Values.{kind_for};
 ghost use Rattle.row_keys.specs.Lists.{index_list};
 ghost use Rattle.work_area.specs.Open.{closed, with_blank, replaced_here, remarked_here, gone, reordered, field_of, deleted_of, opened};
-ghost use Rattle.work_rows.specs.Marks.{mark_at, is_fresh, parts_in};
+ghost use Rattle.work_rows.specs.Marks.{mark_at, is_fresh, parts_in, form_in};
 ghost use Rattle.work_rows.specs.Tried.{ShowsRows};
 ghost use Rattle.work_store.specs.Areas.{use_at, selected_use, table_at, area_table, here, with_use, with_selected, with_here, change_here, closed_here, closed_all, is_elsewhere, holds, index_table, mark_in, closed_other};
 ghost use Rattle.work_store.specs.Calls.{MovesHere, EndsHere, HasEnded, top_of, bottom_of, skip_of, seek_of, packed_rows, all_rows, packed_in, pack_of, zapped_in, reindexed_in, reindex_of, index_on_of, open_of, indexed_here, used_here, with_filter, with_list, zap_landing};
@@ -569,10 +569,11 @@ impl<K: KeyList> Store<K> {
     }
 
     /// The list of a declared index by its number, counted from 0; none where it is stale, or there is no such index. It lists
-    /// the rows of its table.
+    /// the rows of its table under the declared key.
     pub fn keys(&self, number: u8) -> Option<&K>
         ensures fresh { is_some result ≡ is_fresh (mark_in (index_table self.now number) number) }
         ensures exact { IfSome result (λ keys. IfSome (index_table self.now number) (λ o. K.pairs keys.now ≡ index_list (parts_in (mark_at o.table.marks number)) o.table.rows)) }
+        ensures form { IfSome result (λ keys. IfSome (index_table self.now number) (λ o. K.form keys.now ≡ form_in o.table.structure (mark_at o.table.marks number))) }
     {
         for (t, table) in self.tables.iter().enumerate() {
             if table.table().has_index(number) {

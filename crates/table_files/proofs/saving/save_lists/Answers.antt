@@ -34,7 +34,7 @@ pub loop-n-preserved : goal.loop-n-preserved
 loop-n-preserved g c =
     let holds = g.F.Files.holds in (
       list_saved (holds c.args.files.now) (holds c.loop-n.files) (holds c.save_list.new.files) c.args.shape.now c.args.store.now c.loop-n.n c.get.result.now (option_copied c.keys.result)
-          (copied_some c.keys.result ∙ c.keys.ensures.fresh) (copied_fact c.keys.result _ c.keys.ensures.exact) c.get.ensures
+          (copied_some c.keys.result ∙ c.keys.ensures.fresh) (copied_fact c.keys.result _ c.keys.ensures.exact) (copied_fact c.keys.result _ c.keys.ensures.form) c.get.ensures
           (other_indexes c.args.shape.now c.requires c.loop-n.n c.get.result.now c.get.ensures) c.loop-n.invariant.0 c.in_ok-save_list.ensures.ok,
       omega (arith, c.loop-n.invariant.1, c.in_ok-save_list.ensures.counted),
     )
