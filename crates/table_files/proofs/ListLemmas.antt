@@ -1,5 +1,5 @@
 -- What files hold of indexes, and what a load finds of them.
-use Rattle.std.proofs.Common.{◌≡◌, ◌≢◌, ◌≤◌, ◌<◌, ◌+◌, ◌-◌, ℕ, zero, suc, Bool, true, false, not, ◌==◌, Option, Some, List, [], ◌∷◌, ◌++◌, length, take, cond, refl, sym, ap, ◌∙◌, subst, arith}
+use Rattle.std.proofs.Common.{◌≡◌, ◌≢◌, ◌<◌, ◌+◌, ◌-◌, ℕ, zero, suc, true, false, not, ◌==◌, Option, Some, List, [], ◌∷◌, length, take, cond, refl, sym, ap, ◌∙◌, subst, arith}
 use Rattle.std.proofs.lemmas.Bool.{eqb-true, eq-eqb}
 use Rattle.std.proofs.lemmas.Option.{slice_get_within}
 use Rattle.std.specs.Prelude.{slice_get, MatchBool, IsSomeAnd}
@@ -11,6 +11,7 @@ use Rattle.file_access.specs.Holding.{Holds, HoldsOneThing}
 use Rattle.ndx_tree.specs.IndexText.{IsIndexText}
 use Rattle.ndx_tree.specs.KeyForm.{KeyForm}
 use Rattle.ndx_tree.specs.Pairs.{Pair}
+use Rattle.ndx_tree.specs.Trees.{TreeView}
 use Rattle.row_keys.specs.Lists.{index_list}
 use Rattle.shape.specs.declared.indexes.IndexShape.{IndexShape}
 use Rattle.shape.specs.declared.parts.KeyPart.{KeyPart}
@@ -19,19 +20,19 @@ use Rattle.shape.specs.declared.whole.Shape.{Shape}
 use Rattle.shape.specs.Whole.{is_shape}
 use Rattle.work_area.specs.Open.{OpenState}
 use Rattle.work_rows.specs.Marks.{IndexMark, mark_at, is_fresh, parts_in, form_in}
-use Rattle.work_store.specs.Areas.{StoreState, table_at, index_table, mark_in}
-use Rattle.work_store.specs.Making.{AreMarks, FirstIs as FirstMark, IsMarkOf, form_of}
+use Rattle.work_store.specs.Areas.{StoreState, index_table, mark_in}
+use Rattle.work_store.specs.Making.{AreMarks, FirstIs as FirstMark, IsMarkOf, form_of, lists_just}
 use Rattle.work_store.specs.Shapes.{AreFound, IsFoundIn}
-use Rattle.table_files.specs.Loading.{FoundList, IsListOf, Loaded}
+use Rattle.table_files.specs.Loading.{FoundList, Loaded}
 use Rattle.table_files.specs.Names.{index_file}
-use Rattle.table_files.specs.Saving.{Write, table_writes, is_listed, FirstIs, IsIndexWrite, AreIndexWrites, AreSaved, IsListFile, IsSaved, HoldsLists, FindsLists}
+use Rattle.table_files.specs.Saving.{Write, table_writes, is_listed, FirstIs, IsIndexWrite, AreIndexWrites, AreSaved, HoldsLists, FindsLists}
 use Rattle.table_files.proofs.LawLemmas.{some_same, get_taken, marks_at, finds_saved}
 use Rattle.table_files.proofs.WriteLemmas.{all_split}
 
 -- ---- what was written of an index
 
 -- one of the writes is that of index m
-IsAmong : (Write → Type 0) → StoreState → ℕ → IndexShape → Type 0
+abbrev IsAmong : (Write → Type 0) → StoreState → ℕ → IndexShape → Type 0
 IsAmong P store m x = (w : Write) × IsIndexWrite store m x w × P w
 
 first_written : (P : Write → Type 0) (store : StoreState) (m : ℕ) (x : IndexShape) (Q : List Write → Type 0) (ws : List Write) → AllByRecursion P ws → FirstIs (IsIndexWrite store m x) Q ws → IsAmong P store m x
@@ -85,7 +86,7 @@ holds_lists before after shape store stamp k found h n x s o saved =
 -- ---- the mark of an index in a new store
 
 module _ (lists : ℕ → List Pair → Type 0) (fields : List Field) (rows : List Row) (t : ℕ) where
-  IsMarked : ℕ → IndexShape → List IndexMark → Type 0
+  abbrev IsMarked : ℕ → IndexShape → List IndexMark → Type 0
   IsMarked n x marks = (m : IndexMark) × (mark_at marks n ≡ Some m) × IsMarkOf lists fields rows n x m
 
   first_marked : (n : ℕ) (x : IndexShape) (Q : List IndexMark → Type 0) (marks : List IndexMark) → FirstMark (IsMarkOf lists fields rows n x) Q marks → IsMarked n x marks
@@ -124,6 +125,6 @@ finds_lists before after shape store loaded stamp k limit one legal h g n x s o 
     let list = g.listed.each n x s saved.index saved.declared in
     let same : list.found ≡ Some file.bytes = one (index_file x) list.found (Some file.bytes) list.held file.held in
     let just = (list.just (index_list x.key o.table.rows)).1 (subst (λ (f : Option (List ℕ)). FoundList f (form_of s x) (index_list x.key o.table.rows)) (sym same) (short, file.text.file)) in
-    let m = marked _ s.fields l.table.rows x.table 0 n n shape.indexes x l.table.marks (omega arith) saved.index refl (marks_at after shape limit loaded x.table s l g saved.declared there) in
-    let stale : m.0.stale ≡ false = m.2.fresh.1 (subst (λ (rs : List Row). IsSomeAnd _ (λ k. k.pairs ≡ index_list x.key rs)) (sym rows) just) in
+    let m = marked (lists_just (λ (k : TreeView). k.pairs) g.lists) s.fields l.table.rows x.table 0 n n shape.indexes x l.table.marks (omega arith) saved.index refl (marks_at after shape limit loaded x.table s l g saved.declared there) in
+    let stale : m.0.stale ≡ false = m.2.fresh.1 (subst (λ (rs : List Row). lists_just (λ (k : TreeView). k.pairs) g.lists n (index_list x.key rs)) (sym rows) just) in
     ap is_fresh m.1 ∙ ap not stale

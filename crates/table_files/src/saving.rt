@@ -118,7 +118,7 @@ fn save_lists<F: Files>(
 }
 
 /// Replaces the file of every declared table, in their order, and then of every declared index that isn't stale, by what the store
-/// holds. A table's file has this stamp. The files of stale indexes stay.
+/// holds. A table's file has this stamp; an index's lists the table's rows under the index's key. The files of stale indexes stay.
 ///
 /// # Errors
 /// `Disk` names the file at which the device failed. On a refusal the first files of that order are new, and the others as they were.
