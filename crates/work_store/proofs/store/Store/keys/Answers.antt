@@ -24,7 +24,7 @@ pub returns-then-has_index-clause-exact : goal.returns-then-has_index-clause-exa
 returns-then-has_index-clause-exact g c =
     let n : ℕ = c.args.number in
     let e = table_found c.args.self.now _ n c.deref-table-items.result.now c.loop-t.t c.table-item.result c.table.result.now c.has_index.result
-        c.deref-table-items.ensures.value c.self.view_is c.loop-t-test.true c.table-item.is c.table.ensures c.has_index.ensures c.if-has_index.true c.loop-t.invariant in
+    c.deref-table-items.ensures.value c.self.view_is c.loop-t-test.true c.table-item.is c.table.ensures c.has_index.ensures c.if-has_index.true c.loop-t.invariant in
     subst (λ (x : Option OpenState). IfSome c.keys.result (λ keys. IfSome x (λ a. g.K.KeyList.pairs keys.now ≡ index_list (parts_in (mark_at a.table.marks n)) a.table.rows))) (sym e)
     (subst (λ (t : IndexedState). IfSome c.keys.result (λ keys. g.K.KeyList.pairs keys.now ≡ index_list (parts_in (mark_at t.marks n)) t.rows)) c.table-then-has_index.ensures c.keys.ensures.exact)
 
@@ -32,6 +32,6 @@ pub returns-then-has_index-clause-form : goal.returns-then-has_index-clause-form
 returns-then-has_index-clause-form g c =
     let n : ℕ = c.args.number in
     let e = table_found c.args.self.now _ n c.deref-table-items.result.now c.loop-t.t c.table-item.result c.table.result.now c.has_index.result
-        c.deref-table-items.ensures.value c.self.view_is c.loop-t-test.true c.table-item.is c.table.ensures c.has_index.ensures c.if-has_index.true c.loop-t.invariant in
+    c.deref-table-items.ensures.value c.self.view_is c.loop-t-test.true c.table-item.is c.table.ensures c.has_index.ensures c.if-has_index.true c.loop-t.invariant in
     subst (λ (x : Option OpenState). IfSome c.keys.result (λ keys. IfSome x (λ a. g.K.KeyList.form keys.now ≡ form_in a.table.structure (mark_at a.table.marks n)))) (sym e)
     (subst (λ (t : IndexedState). IfSome c.keys.result (λ keys. g.K.KeyList.form keys.now ≡ form_in t.structure (mark_at t.marks n))) c.table-then-has_index.ensures c.keys.ensures.form)
