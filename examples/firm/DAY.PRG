@@ -1,66 +1,14 @@
-* The order desk: takes the orders of a day, then lists what is open, by customer and part.
-TOTAL = 0
-TAKEN = 0
+* A day of the firm: orders are entered and posted, then the lists are printed.
+SET TALK OFF
 SELECT 2
 USE CUST INDEX CUSTNO
 SELECT 3
 USE ORDERS INDEX ORDKEY
 SELECT 1
 USE STOCK INDEX PARTNO
-MORE = .T.
-DO WHILE MORE
-   ACCEPT "Customer: " TO WHO
-   IF LEN(TRIM(WHO)) = 0
-      MORE = .F.
-   ELSE
-      ACCEPT "Part: " TO WHAT
-      ACCEPT "Quantity: " TO MANY
-      DO TAKE WITH UPPER(TRIM(WHO)), UPPER(TRIM(WHAT)), VAL(MANY), TOTAL, TAKEN
-   ENDIF
-ENDDO
-? "Orders taken:", TAKEN
-? "Sum of the day:", TOTAL
-DO OPENLIST
+DO ENTRY
+DO POST
+DO REPORT
+DO REORDER WITH 5
+DO PRICES
 QUIT
-
-PROCEDURE TAKE
-* One order: the customer and the part must be known, and so many parts on hand.
-PARAMETERS WHO, WHAT, MANY, TOTAL, TAKEN
-SELECT CUST
-SEEK WHO
-KNOWN = FOUND()
-SELECT STOCK
-IF .NOT. KNOWN
-   ? "No customer " + WHO
-ELSE
-   SEEK WHAT
-   IF .NOT. FOUND()
-      ? "No part " + WHAT
-   ELSE
-      IF MANY < 1 .OR. MANY > ONHAND
-         ? "Not on hand: " + TRIM(TITLE)
-      ELSE
-         REPLACE ONHAND WITH ONHAND - MANY
-         TOTAL = TOTAL + MANY * PRICE
-         TAKEN = TAKEN + 1
-         SELECT ORDERS
-         APPEND BLANK
-         REPLACE NUMBER WITH RECNO(), CODE WITH WHO, PART WITH WHAT, QTY WITH MANY, DAY WITH DATE(), DONE WITH .F.
-         SELECT STOCK
-      ENDIF
-   ENDIF
-ENDIF
-RETURN
-
-PROCEDURE OPENLIST
-SELECT ORDERS
-? "Open orders"
-SCAN FOR .NOT. DONE
-   SELECT CUST
-   SEEK ORDERS->CODE
-   SELECT STOCK
-   SEEK ORDERS->PART
-   SELECT ORDERS
-   ? STR(NUMBER,4), CUST->NAME, STOCK->TITLE, STR(QTY,4), DAY
-ENDSCAN
-RETURN

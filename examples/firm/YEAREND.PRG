@@ -1,14 +1,10 @@
-* Once a year: orders that are done go, and stock that is used up is listed.
+* Once a year: orders that are done go, and those that are kept are listed.
 USE ORDERS INDEX ORDKEY
 SCAN FOR DONE
    DELETE
 ENDSCAN
 PACK
-? "Orders kept:", RECCOUNT()
-USE STOCK
-SET FILTER TO ONHAND < 5
-GO TOP
-DO WHILE .NOT. EOF()
-   ? "Few left:", TITLE, ONHAND
-   SKIP
-ENDDO
+? "Orders kept:", STR(RECCOUNT(),4)
+SCAN
+   ? STR(NUMBER,4), CODE, PART, STR(QTY,4), DAY
+ENDSCAN

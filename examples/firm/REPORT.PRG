@@ -1,0 +1,35 @@
+* The orders of the day, with a total for each customer and for all.
+?
+? "Orders of", DATE()
+ALL = 0
+SELECT CUST
+SCAN
+   DO ACCOUNT WITH CODE, ALL
+ENDSCAN
+? "All of the day  ", SPACE(4), STR(ALL,10,2)
+SELECT STOCK
+RETURN
+
+PROCEDURE ACCOUNT
+* One customer's orders and total.
+PARAMETERS WHO, ALL
+TOTAL = 0
+SELECT ORDERS
+SEEK WHO
+DO WHILE .NOT. EOF() .AND. CODE = WHO
+   IF DAY = DATE()
+      SELECT STOCK
+      SEEK ORDERS->PART
+      SELECT ORDERS
+      COST = QTY * STOCK->PRICE
+      ? "  " + STOCK->TITLE, STR(QTY,4), STR(COST,10,2)
+      TOTAL = TOTAL + COST
+   ENDIF
+   SKIP
+ENDDO
+SELECT CUST
+IF TOTAL > 0
+   ? NAME, SPACE(4), STR(TOTAL,10,2)
+ENDIF
+ALL = ALL + TOTAL
+RETURN
