@@ -62,6 +62,14 @@ pub enum Words<'a> {
     },
 }
 
+/// An example of the commands that belong together, and how they exit.
+const FURTHER: &str = "Example:
+  dbrun compile FIRM.DCL DAY.XBC DAY.PRG
+  dbrun run DAY.XBC < day.txt
+  dbrun list ORDERS.DBF
+
+Status: 0 finished, accepted, listed or written; 1 wrong words; 2 a refused file; 3 the budget is spent; 4 a table is full; 5 memory was refused; 6 the device or standard output failed; 7 a fault under check-run";
+
 /// The words that name files.
 const FILE: &str = "FILE";
 
@@ -76,15 +84,24 @@ fn reader<'a>(
     name: &'a str,
     about: &'a str,
     sort: &'a str,
+    example: &'a str,
 ) -> Result<Command<'a>, AllocError> {
     let file = Arg::new(alloc, FILE)
         .value_name(sort)
         .required(true)
         .help("The file, in the current folder");
-    Command::new(alloc, name).about(about).arg(file)
+    Command::new(alloc, name)
+        .about(about)
+        .after_help(example)
+        .arg(file)
 }
 
-fn runner<'a>(alloc: Global, name: &'a str, about: &'a str) -> Result<Command<'a>, AllocError> {
+fn runner<'a>(
+    alloc: Global,
+    name: &'a str,
+    about: &'a str,
+    example: &'a str,
+) -> Result<Command<'a>, AllocError> {
     let budget = Arg::new(alloc, "budget")
         .long("budget")
         .value_name("N")
@@ -99,7 +116,7 @@ fn runner<'a>(alloc: Global, name: &'a str, about: &'a str) -> Result<Command<'a
         .long("today")
         .value_name("YYYY-MM-DD")
         .help("The day of the run, in the years 1900 to 2155 (1985-01-01 if left out)");
-    reader(alloc, name, about, "CODE")?
+    reader(alloc, name, about, "CODE", example)?
         .arg(budget)?
         .arg(limit)?
         .arg(today)
@@ -118,6 +135,7 @@ fn compiler<'a>(alloc: Global) -> Result<Command<'a>, AllocError> {
         .help("The command files, the main one first");
     Command::new(alloc, "compile")
         .about("Compiles command files to a code file")
+        .after_help("Example: dbrun compile FIRM.DCL DAY.XBC DAY.PRG ENTRY.PRG")
         .arg(declarations)?
         .arg(out)?
         .arg(sources)
@@ -129,11 +147,13 @@ fn with_runners<'a>(alloc: Global, command: Command<'a>) -> Result<Command<'a>, 
             alloc,
             "run",
             "Runs a code file that the verifier accepts, and saves its tables",
+            "Example: dbrun run DAY.XBC --today 1985-01-15 < day.txt",
         )?)?
         .subcommand(runner(
             alloc,
             "check-run",
             "Runs any code file, testing each instruction first; saves nothing",
+            "Example: dbrun check-run DAY.XBC --budget 5000 < day.txt",
         )?)
 }
 
@@ -144,10 +164,29 @@ fn with_readers<'a>(alloc: Global, command: Command<'a>) -> Result<Command<'a>, 
             "verify",
             "Tells whether a code file is accepted",
             "CODE",
+            "Example: dbrun verify DAY.XBC",
         )?)?
-        .subcommand(reader(alloc, "code", "Lists a code file", "CODE")?)?
-        .subcommand(reader(alloc, "list", "Lists a table", "TABLE")?)?
-        .subcommand(reader(alloc, "index", "Lists an index file", "INDEX")?)
+        .subcommand(reader(
+            alloc,
+            "code",
+            "Lists a code file",
+            "CODE",
+            "Example: dbrun code DAY.XBC",
+        )?)?
+        .subcommand(reader(
+            alloc,
+            "list",
+            "Lists a table",
+            "TABLE",
+            "Example: dbrun list ORDERS.DBF",
+        )?)?
+        .subcommand(reader(
+            alloc,
+            "index",
+            "Lists an index file",
+            "INDEX",
+            "Example: dbrun index ORDKEY.NDX",
+        )?)
 }
 
 /// The commands that `dbrun` knows.
@@ -156,6 +195,7 @@ pub fn command<'a>(alloc: Global) -> Result<Command<'a>, AllocError> {
         .about(
             "Compiles command files of dBASE III PLUS, verifies and runs the code over its tables, and lists codes, tables and indexes",
         )
+        .after_help(FURTHER)
         .subcommand_required(true)
         .arg_required_else_help(true)
         .subcommand(compiler(alloc)?)?;
