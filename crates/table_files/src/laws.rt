@@ -29,8 +29,8 @@ pub fn saved_indexes_have_their_declared_keys<F: Files>()
     indexes_have_their_declared_keys();
 }
 
-/// A load after such a save finds none of these indexes stale, but where its file is above 64 MiB. That is so where each name holds one
-/// thing alone.
+/// A load after such a save finds none of these indexes stale, but where its file is above 64 MiB, or its table was saved with more rows
+/// than the load's limit. That is so where each name holds one thing alone.
 pub fn loads_find_saved_indexes<F: Files>()
     ensures { (before after : F) (shape : TheShape) (store loaded : StoreState) (stamp : TheStamp) (k limit : ℕ) → HoldsOneThing (F.holds after) → is_shape shape ≡ true
         → AreSaved shape store stamp k (F.holds before) (F.holds after) → Loaded (F.holds after) shape limit loaded → FindsLists (F.holds after) shape store k limit loaded }
