@@ -106,8 +106,8 @@ def sources():
     """Command files and declarations."""
     blocks = lambda count: "IF .T.\n" * count + "? 1\n" + "ENDIF\n" * count
     inside = lambda count: "? " + "(" * count + "1" + ")" * count + "\n"
-    line = lambda count: "? " + "1" + "+1" * ((count - 4) // 2) + " " * ((count - 3) % 2) + "\n"
-    for source, told in ((blocks(32), None), (blocks(33), "line 33 Nested"), (inside(32), None), (inside(33), "line 1 Nested"),
+    line = lambda count: "? 1" + "+1" * ((count - 3) // 2) + " " * ((count - 3) % 2) + "\n"
+    for source, told in ((blocks(32), None), (blocks(33), "line 33 TooDeep"), (inside(32), None), (inside(33), "line 1 TooDeep"),
                          (line(1024), None), (line(1025), "line 1 TooLong"), ("N" * 10 + " = 1\n", None),
                          ("N" * 11 + " = 1\n", "line 1 TooLong"), (f'? "{"x" * 254}"\n', None), (f'? "{"x" * 255}"\n', "line 1 TooLong")):
         yield {"D.DCL": b"", "M.PRG": source.encode()}, ["compile", "D.DCL", "M.XBC", "M.PRG"], told
