@@ -15,6 +15,7 @@ DBRUN = None
 PROGRAM = None
 # Places that one task tries, and the seconds that it may take.
 PLACES, SECONDS = 64, 300
+WITH_INDEX = ("a table with an index", "an index")
 
 EVERY_ITEM = Case(
     'X = 2\nUSE T INDEX KI\nSELECT 2\nUSE U INDEX UI, UJ\nSET FILTER TO N > X .AND. .NOT. DELETED()\n'
@@ -96,15 +97,14 @@ def sweep(work):
 
 def works(seed):
     """What is tried: a title, the files, the name of the changed one, and numbers; seed 0 tries all values."""
-    before, behind = of_case("a stale index is made anew")
+    with_index = of_case("a stale index is made anew")[1]
     chosen = {"SEED": seed}
-    with_index = {**before, "KI.NDX": behind["KI.NDX"]}
     customers = of_case("a customer is added")[1]
     with open(os.path.join(refused_memory.EXAMPLES, "three-rows.xbc"), "rb") as it:
         yield "the code of three rows", {"CODE": it.read()}, "CODE", chosen
     yield "a table of one record", customers, "CUST.DBF", chosen
-    yield "a table with an index", with_index, "T.DBF", chosen
-    yield "an index", with_index, "KI.NDX", chosen
+    yield WITH_INDEX[0], with_index, "T.DBF", chosen
+    yield WITH_INDEX[1], with_index, "KI.NDX", chosen
     yield "a code with tables", with_index, "CODE", chosen
     for version in (1, 2):
         yield f"a code with every item, version {version}", of_every_item(version), "CODE", chosen
@@ -114,7 +114,7 @@ def works(seed):
 
 def answers():
     """Each file that is cut, the command that reads it, and what is told at which lengths."""
-    before, behind = of_case("a customer is added")
+    _, behind = of_case("a customer is added")
     _, indexed = of_case("a stale index is made anew")
     with open(os.path.join(refused_memory.EXAMPLES, "three-rows.xbc"), "rb") as it:
         code = it.read()
@@ -155,7 +155,11 @@ def check(dbrun, program, jobs, seed):
             wrong += faults
             old = counts.get(title, [0] * len(numbers))
             counts[title] = [one + other for one, other in zip(old, numbers)]
-    for title, (*numbers,) in counts.items():
+    for title, numbers in counts.items():
+        if numbers and not numbers[0]:
+            wrong.append(f"{title}: no run")
+        if title in WITH_INDEX and not numbers[3]:
+            wrong.append(f"{title}: no index was loaded fresh")
         words = ("run", "not accepted", "refused", "with a fresh index")
         print(f"  {title}" + "".join(f", {number} {word}" for number, word in zip(numbers, words)))
     return wrong
