@@ -64,6 +64,15 @@ def record_of(width):
     return table([(f"F{number}", "C", wide, 0) for number, wide in enumerate(widths)], [b" " * width])
 
 
+def long_code(count, maps):
+    """A code file of one procedure that clears the screen again and again, with so many instructions and maps."""
+    state = bytes([1]) + bytes(11)
+    out = b"XBCF" + struct.pack("<11H", 1, 0, 0, 0, 0, 0, 0, 0, 1, maps, count)
+    out += struct.pack("<HB", count, 0) + 2 * state
+    out += b"".join(struct.pack("<H", place) + state for place in range(1, maps + 1))
+    return out + (b"\x45" + bytes(7)) * (count - 1) + b"\x14" + bytes(7)
+
+
 def tables():
     """Tables and indexes."""
     for count, told in ((128, None), (129, "FieldShape")):
@@ -90,6 +99,7 @@ def codes():
     yield {"C.XBC": header(10, 65535)}, ["verify", "C.XBC"], "Short"
     yield {"C.XBC": header(8, 0)}, ["verify", "C.XBC"], "Limit"
     yield {"C.XBC": header(10, 0)}, ["verify", "C.XBC"], "Limit"
+    yield {"C.XBC": long_code(65535, 4096)}, ["verify", "C.XBC"], None
     with open(os.path.join(EXAMPLES, "three-rows.xbc"), "rb") as it:
         code = it.read()
     for length, told in ((FILE_LIMIT, "Extra"), (FILE_LIMIT + 1, "TooLong")):
@@ -149,10 +159,13 @@ def of_rows(count):
 
 def measures(scale):
     """What is measured: a title, the file that counts, the other files, and the words, at a size."""
+    # A constant is sought among those that are there, of which a code has 4,096 at most: with few of them, time goes by the file.
     opened = {"D.DCL": b"TABLE T\nINDEX KI ON T KEY K\n", "M.PRG": b"USE T INDEX KI\n", "T.DBF": texts("K", 10, [])}
     rows = of_rows(20_000 * scale)
-    lines = "".join(f"X = {number % 4000}\n" for number in range(10_000 * scale)).encode()
+    lines = "".join(f"X = {number % 7}\n" for number in range(2_000 * scale)).encode()
     comments = b"* a line that says nothing\n" * (20_000 * scale)
+    code = long_code(4000 * scale, 256 * scale)
+    yield "verify", "C.XBC", {"C.XBC": code}, ["verify", "C.XBC"]
     yield "list of a table", "T.DBF", {"T.DBF": rows}, ["list", "T.DBF"]
     yield "run that makes an index", "T.DBF", {**opened, "T.DBF": rows}, ["run", "M.XBC"]
     yield "compile", "B.PRG", {"D.DCL": b"", "B.PRG": lines}, ["compile", "D.DCL", "M.XBC", "B.PRG"]
