@@ -1,2 +1,3 @@
+pub mod Bindings
 pub mod Pools
 pub mod Merging

@@ -1,8 +1,12 @@
 //! Variables' names and their slots.
 
+ghost use Rattle.std.specs.Prelude.{◌≡◌};
+ghost use Rattle.prg_code.specs.Bindings.{slot_named};
+
 use arrayvec::ArrayVec;
 use code_items::Name;
 use std::alloc::{AllocError, Global};
+use std::marker::Model;
 
 /// A variable's name, and its slot.
 #[derive(Drop, Debug)]
@@ -26,11 +30,24 @@ pub fn copy_of_name(name: &Name) -> Name {
     copy
 }
 
-fn find(bindings: &[Binding], name: &[u8]) -> Option<u8> {
-    for binding in bindings {
+impl Model for Names {
+    ghost use Rattle.std.specs.Prelude.{List};
+    ghost use Rattle.prg_code.specs.declared.names.Binding.{Binding as OneBinding};
+
+    ghost Value = { List OneBinding };
+
+    ghost view = { λ n. n.bindings.items };
+}
+
+fn find(bindings: &[Binding], name: &[u8]) -> Option<u8>
+    ensures { result ≡ slot_named bindings.now name.now }
+{
+    let mut rest = bindings;
+    while let Some((binding, others)) = rest.split_first() {
         if binding.name.as_slice() == name {
             return Some(binding.slot);
         }
+        rest = others;
     }
     None
 }
@@ -44,12 +61,16 @@ impl Names {
     }
 
     /// The slot of the variable of this name, if there is one.
-    pub fn slot(&self, name: &[u8]) -> Option<u8> {
+    pub fn slot(&self, name: &[u8]) -> Option<u8>
+        ensures { result ≡ slot_named self.now name.now }
+    {
         find(&self.bindings, name)
     }
 
     /// The variables.
-    pub fn bindings(&self) -> &[Binding] {
+    pub fn bindings(&self) -> &[Binding]
+        ensures { result.now ≡ self.now }
+    {
         self.bindings.as_slice()
     }
 

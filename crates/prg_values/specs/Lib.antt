@@ -1,1 +1,3 @@
 pub mod Operators
+pub mod Readings
+pub mod Written

@@ -1,5 +1,11 @@
 //! What names mean.
 
+ghost use Rattle.std.specs.Prelude.{◌≡◌};
+ghost use Rattle.std.specs.List.{list_any};
+ghost use Rattle.prg_values.specs.Readings as readings;
+ghost use Rattle.prg_values.specs.Readings.{scoped, Reads};
+ghost use Rattle.prg_code.specs.Bindings.{slot_named};
+
 use code_items::{
     AreaState, Desk, Instr, OpenArea, RecordInstr, Shape, State, TableShape, ValueInstr,
 };
@@ -31,20 +37,38 @@ pub struct FieldPlace {
     pub kind: Kind,
 }
 
-/// The field of this name among those of a table.
-fn field_named(fields: &[Field], name: &[u8]) -> Option<FieldPlace> {
-    let mut number = 0u16;
-    for field in fields {
-        if field.name.as_slice() == name {
+/// A field by its number, if an instruction can name it.
+fn field_place(number: usize, field: &Field) -> Option<FieldPlace>
+    ensures { result ≡ readings.place_of number field.now }
+{
+    match u16::try_from(number) {
+        Ok(number) => {
             let kind = field.letter.kind();
-            return Some(FieldPlace { number, kind });
+            Some(FieldPlace { number, kind })
         }
-        number = number.saturating_add(1);
+        Err(_) => None,
+    }
+}
+
+/// The field of this name among those of a table.
+fn field_named(fields: &[Field], name: &[u8]) -> Option<FieldPlace>
+    ensures { result ≡ readings.field_named fields.now name.now }
+{
+    let mut number = 0usize;
+    let mut rest = fields;
+    while let Some((field, others)) = rest.split_first() {
+        if field.name.as_slice() == name {
+            return field_place(number, field);
+        }
+        number += 1;
+        rest = others;
     }
     None
 }
 
-fn fields_of(shape: &Shape, area: OpenArea) -> &[Field] {
+fn fields_of(shape: &Shape, area: OpenArea) -> &[Field]
+    ensures { result.now ≡ readings.table_fields shape.now area.table }
+{
     match shape.tables.as_slice().get(usize::from(area.table)) {
         Some(table) => table.fields.as_slice(),
         None => &[],
@@ -52,16 +76,29 @@ fn fields_of(shape: &Shape, area: OpenArea) -> &[Field] {
 }
 
 /// The field of this name of the table that an open work area holds.
-pub fn field_of(shape: &Shape, area: OpenArea, name: &[u8]) -> Option<FieldPlace> {
+pub fn field_of(shape: &Shape, area: OpenArea, name: &[u8]) -> Option<FieldPlace>
+    ensures { result ≡ readings.field_in shape.now area name.now }
+{
     field_named(fields_of(shape, area), name)
 }
 
-fn has_field(table: &TableShape, name: &[u8]) -> bool {
+fn has_field(table: &TableShape, name: &[u8]) -> bool
+    ensures { result ≡ readings.has_field name.now table.now }
+{
     field_named(table.fields.as_slice(), name).is_some()
 }
 
+/// Whether a declared table has a field of this name.
+fn is_some_field(tables: &[TableShape], name: &[u8]) -> bool
+    ensures { result ≡ list_any (readings.has_field name.now) tables.now }
+{
+    tables.iter().any(|table| has_field(table, name))
+}
+
 /// What is known of the work area of this number, counted from 1.
-fn area_at(desk: &Desk, number: u8) -> AreaState {
+fn area_at(desk: &Desk, number: u8) -> AreaState
+    ensures { result ≡ readings.area_at desk.now number }
+{
     if number < 1 {
         return AreaState::Closed;
     }
@@ -72,7 +109,9 @@ fn area_at(desk: &Desk, number: u8) -> AreaState {
 }
 
 /// Reads a field of a work area; in a filter's condition only the row tried has fields.
-fn read_field(scope: &Scope, area: u8, field: FieldPlace) -> Result<Reading, FaultKind> {
+fn read_field(scope: &Scope, area: u8, field: FieldPlace) -> Result<Reading, FaultKind>
+    ensures { Reads result (readings.field_reading (scoped scope.now) area field) }
+{
     let FieldPlace { number, kind } = field;
     if !scope.in_filter {
         let instr = Instr::Records(RecordInstr::Field {
@@ -89,7 +128,9 @@ fn read_field(scope: &Scope, area: u8, field: FieldPlace) -> Result<Reading, Fau
 }
 
 /// The slot of a variable, which need not have a value: Name where there is no such variable.
-pub fn variable_slot(scope: &Scope, name: &[u8]) -> Result<u8, FaultKind> {
+pub fn variable_slot(scope: &Scope, name: &[u8]) -> Result<u8, FaultKind>
+    ensures { Reads result (slot_named (scoped scope.now).names name.now) }
+{
     match scope.names.slot(name) {
         Some(slot) => Ok(slot),
         None => Err(FaultKind::Name),
@@ -97,7 +138,9 @@ pub fn variable_slot(scope: &Scope, name: &[u8]) -> Result<u8, FaultKind> {
 }
 
 /// Reads a variable: Name where there is none of this name, Unset where it may have no value.
-fn read_variable(scope: &Scope, name: &[u8]) -> Result<Reading, FaultKind> {
+fn read_variable(scope: &Scope, name: &[u8]) -> Result<Reading, FaultKind>
+    ensures { Reads result (readings.variable (scoped scope.now) name.now) }
+{
     let slot = variable_slot(scope, name)?;
     match scope.state.slots.kinds().get(usize::from(slot)) {
         Some(Some(kind)) => {
@@ -111,15 +154,15 @@ fn read_variable(scope: &Scope, name: &[u8]) -> Result<Reading, FaultKind> {
 
 /// The field that a name without alias is, if it is one: that of the selected area's table. Where nothing is known of the
 /// selected area, the name of any declared table's field is ClosedArea.
-pub fn selected_field(scope: &Scope, name: &[u8]) -> Result<Option<FieldPlace>, FaultKind> {
+pub fn selected_field(scope: &Scope, name: &[u8]) -> Result<Option<FieldPlace>, FaultKind>
+    ensures { Reads result (readings.field_here (scoped scope.now) name.now) }
+{
     match area_at(&scope.state.desk, scope.state.desk.selected) {
         AreaState::Closed => Ok(None),
         AreaState::Open(area) => Ok(field_of(scope.shape, area, name)),
         AreaState::Unsure => {
-            for table in scope.shape.tables.as_slice() {
-                if has_field(table, name) {
-                    return Err(FaultKind::ClosedArea);
-                }
+            if is_some_field(scope.shape.tables.as_slice(), name) {
+                return Err(FaultKind::ClosedArea);
             }
             Ok(None)
         }
@@ -127,7 +170,10 @@ pub fn selected_field(scope: &Scope, name: &[u8]) -> Result<Option<FieldPlace>, 
 }
 
 /// Reads a name without alias: a field of the selected area's table, else a variable.
-pub fn read_name(scope: &Scope, name: &[u8]) -> Result<Reading, FaultKind> {
+#[tactic(auto, unfolding(crate::specs::Readings::read_name))]
+pub fn read_name(scope: &Scope, name: &[u8]) -> Result<Reading, FaultKind>
+    ensures { Reads result (readings.read_name (scoped scope.now) name.now) }
+{
     match selected_field(scope, name)? {
         Some(field) => read_field(scope, scope.state.desk.selected, field),
         None => read_variable(scope, name),
@@ -135,35 +181,73 @@ pub fn read_name(scope: &Scope, name: &[u8]) -> Result<Reading, FaultKind> {
 }
 
 /// The work area of a letter A to J, counted from 1.
-pub fn area_of_letter(alias: &[u8]) -> Option<u8> {
+pub fn area_of_letter(alias: &[u8]) -> Option<u8>
+    ensures { result ≡ readings.letter_area alias.now }
+{
     match alias {
         [letter] if b'A' <= *letter && *letter <= b'J' => Some(*letter - b'A' + 1),
         _ => None,
     }
 }
 
+/// A number, if an instruction can name a table by it.
+fn table_number(number: usize) -> Option<u16>
+    ensures { result ≡ readings.below 65536 number }
+{
+    match u16::try_from(number) {
+        Ok(number) => Some(number),
+        Err(_) => None,
+    }
+}
+
 /// The number of the declared table of this name, counted from 0.
-pub fn table_named(shape: &Shape, name: &[u8]) -> Option<u16> {
-    let mut number = 0u16;
-    for table in shape.tables.as_slice() {
+pub fn table_named(shape: &Shape, name: &[u8]) -> Option<u16>
+    ensures { result ≡ readings.table_named shape.now name.now }
+{
+    let mut number = 0usize;
+    let mut rest = shape.tables.as_slice();
+    while let Some((table, others)) = rest.split_first() {
         if table.name.as_slice() == name {
-            return Some(number);
+            return table_number(number);
         }
-        number = number.saturating_add(1);
+        number += 1;
+        rest = others;
     }
     None
 }
 
+/// A number, if an instruction can name a work area by it.
+fn area_number(number: usize) -> Option<u8>
+    ensures { result ≡ readings.below 256 number }
+{
+    match u8::try_from(number) {
+        Ok(number) => Some(number),
+        Err(_) => None,
+    }
+}
+
+fn is_of(table: u16, area: AreaState) -> bool
+    ensures { result ≡ readings.is_of table area }
+{
+    match area {
+        AreaState::Closed => false,
+        AreaState::Open(open) => open.table == table,
+        AreaState::Unsure => false,
+    }
+}
+
 /// The work area, counted from 1, that is known to hold the table.
-fn area_holding(areas: &[AreaState], table: u16) -> Option<u8> {
-    let mut number = 1u8;
-    for area in areas {
-        if let AreaState::Open(open) = area
-            && open.table == table
-        {
-            return Some(number);
+fn area_holding(areas: &[AreaState], table: u16) -> Option<u8>
+    ensures { result ≡ readings.holder_from 1 areas.now table }
+{
+    let mut before = 0usize;
+    let mut rest = areas;
+    while let Some((area, others)) = rest.split_first() {
+        before += 1;
+        if is_of(table, *area) {
+            return area_number(before);
         }
-        number = number.saturating_add(1);
+        rest = others;
     }
     None
 }
@@ -172,41 +256,66 @@ fn is_unsure(area: &AreaState) -> bool {
     matches!(area, AreaState::Unsure)
 }
 
+/// Why no work area is known to hold a declared table: one of which nothing is known may.
+fn not_held(areas: &[AreaState]) -> FaultKind {
+    if areas.iter().any(|area| is_unsure(area)) {
+        FaultKind::ClosedArea
+    } else {
+        FaultKind::Name
+    }
+}
+
 /// The work area of a table, by the table's name: Name where no table of this name is open, but ClosedArea where one is
 /// declared and nothing is known of some area.
-pub fn area_of_table(scope: &Scope, alias: &[u8]) -> Result<u8, FaultKind> {
+pub fn area_of_table(scope: &Scope, alias: &[u8]) -> Result<u8, FaultKind>
+    ensures { Reads result (readings.holder_of (scoped scope.now) (readings.table_named (scoped scope.now).shape alias.now)) }
+{
     let Some(table) = table_named(scope.shape, alias) else {
         return Err(FaultKind::Name);
     };
     let areas = scope.state.desk.areas.as_slice();
-    if let Some(area) = area_holding(areas, table) {
-        return Ok(area);
+    match area_holding(areas, table) {
+        Some(area) => Ok(area),
+        None => Err(not_held(areas)),
     }
-    if areas.iter().any(|area| is_unsure(area)) {
-        return Err(FaultKind::ClosedArea);
-    }
-    Err(FaultKind::Name)
 }
 
 /// The work area that an alias names, by its letter or its table.
-pub fn area_of_alias(scope: &Scope, alias: &[u8]) -> Result<u8, FaultKind> {
+pub fn area_of_alias(scope: &Scope, alias: &[u8]) -> Result<u8, FaultKind>
+    ensures { Reads result (readings.alias_area (scoped scope.now) alias.now) }
+{
     match area_of_letter(alias) {
         Some(area) => Ok(area),
         None => area_of_table(scope, alias),
     }
 }
 
-/// Reads a name behind an alias: the variable behind `M`, else the field of the alias's area.
-pub fn read_qualified(scope: &Scope, alias: &[u8], name: &[u8]) -> Result<Reading, FaultKind> {
-    if alias == b"M".as_slice() {
-        return read_variable(scope, name);
-    }
-    let number = area_of_alias(scope, alias)?;
-    let AreaState::Open(area) = area_at(&scope.state.desk, number) else {
+/// Reads a field of a work area of which this is known.
+fn read_of_area(
+    scope: &Scope,
+    name: &[u8],
+    number: u8,
+    area: AreaState,
+) -> Result<Reading, FaultKind>
+    ensures { Reads result (readings.field_of_area (scoped scope.now) name.now number area) }
+{
+    let AreaState::Open(area) = area else {
         return Err(FaultKind::ClosedArea);
     };
     match field_of(scope.shape, area, name) {
         Some(field) => read_field(scope, number, field),
         None => Err(FaultKind::Name),
     }
+}
+
+/// Reads a name behind an alias: the variable behind `M`, else the field of the alias's area.
+#[tactic(auto, unfolding(crate::specs::Readings::read_qualified))]
+pub fn read_qualified(scope: &Scope, alias: &[u8], name: &[u8]) -> Result<Reading, FaultKind>
+    ensures { Reads result (readings.read_qualified (scoped scope.now) alias.now name.now) }
+{
+    if alias == b"M".as_slice() {
+        return read_variable(scope, name);
+    }
+    let number = area_of_alias(scope, alias)?;
+    read_of_area(scope, name, number, area_at(&scope.state.desk, number))
 }
