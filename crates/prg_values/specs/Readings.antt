@@ -97,7 +97,7 @@ is_of table Unsure = false
 -- the first work area that is known to hold the table, where the first of these has this number
 abbrev pub holder_from : ℕ → List AreaState → ℕ → Option ℕ
 holder_from number [] table = None
-holder_from number (a ∷ as) table = if is_of table a then below 256 number else holder_from (number + 1) as table
+holder_from number (a ∷ others) table = if is_of table a then below 256 number else holder_from (number + 1) others table
 
 -- an alias of one letter A to J
 abbrev pub letter_area : List ℕ → Option ℕ

@@ -1,5 +1,5 @@
--- What is written for an expression, and the kind of its value.
-use Rattle.std.specs.Prelude.{◌≡◌, ℕ, zero, suc, Bool, true, false, ◌&&◌, List, [], ◌∷◌, ◌++◌, Option, Some, None, ◌×◌, length, slice_get, is_none, pos, if◌then◌else◌}
+-- The kind of an expression's value, and what is written for it.
+use Rattle.std.specs.Prelude.{◌≡◌, ℕ, zero, suc, Bool, true, false, ◌&&◌, List, [], ◌∷◌, ◌++◌, Option, Some, None, length, map, slice_get, is_none, pos, if◌then◌else◌}
 use Rattle.std.specs.List.{AllZip}
 use Rattle.fixed_num.specs.Number.{finite}
 use Rattle.xvalue.specs.declared.kind.Kind.{Kind}
@@ -8,9 +8,10 @@ use Rattle.xvalue.specs.declared.fun.Fun.{Fun}
 use Rattle.xvalue.specs.declared.fun.Fun.TheVariants as fun
 use Rattle.xvalue.specs.declared.value.Value.{Value}
 use Rattle.xvalue.specs.declared.value.Value.TheVariants as value
-use Rattle.xvalue.specs.Kinds.{same_kind}
+use Rattle.xvalue.specs.Kinds.{same_kind, kind_of}
 use Rattle.xvalue.specs.Signature.{takes_of, gives_of}
 use Rattle.code_items.specs.Desks.{open_at}
+use Rattle.code_items.specs.Kinds.{same_kinds}
 use Rattle.code_items.specs.declared.instr.Question.{Question}
 use Rattle.code_items.specs.declared.instr.Question.TheVariants.{Recno, Reccount, Eof, Bof, Found, Deleted}
 use Rattle.code_items.specs.declared.instr.ValueInstr.TheVariants as value_instr
@@ -21,69 +22,85 @@ use Rattle.prg_expr.specs.declared.function.Function.{Function}
 use Rattle.prg_expr.specs.declared.function.Function.TheVariants as function
 use Rattle.prg_expr.specs.declared.tree.Operator.{Operator}
 use Rattle.prg_expr.specs.declared.tree.Prefix.{Prefix}
-use Rattle.prg_expr.specs.Tree.{Tree, Trees}
+use Rattle.prg_expr.specs.Tree.{Tree, Trees, count}
 use Rattle.prg_expr.specs.Tree as tree
 use Rattle.prg_values.specs.declared.calls.Called.{Called}
 use Rattle.prg_values.specs.declared.calls.Called.TheVariants as called
 use Rattle.prg_values.specs.declared.operators.Operation.{Operation}
 use Rattle.prg_values.specs.declared.scope.Reading.{Reading}
+use Rattle.prg_code.specs.Pools.{Grows}
 use Rattle.prg_values.specs.Operators.{operated, prefix_kind, prefix_fun}
 use Rattle.prg_values.specs.Readings.{Scoped, on_some, read_name, read_qualified}
 
 -- ---- functions by name
 
--- what a function by name does
+-- what functions by name do: those of texts
+abbrev pub of_texts : Function → Option Fun
+of_texts function.Len = Some fun.Len
+of_texts function.Substr = Some fun.Substr
+of_texts function.Left = Some fun.Left
+of_texts function.Right = Some fun.Right
+of_texts function.Trim = Some fun.Trim
+of_texts function.Ltrim = Some fun.Ltrim
+of_texts function.Upper = Some fun.Upper
+of_texts function.Lower = Some fun.Lower
+of_texts function.Space = Some fun.Space
+of_texts function.Replicate = Some fun.Replicate
+of_texts function.At = Some fun.At
+of_texts function.Stuff = Some fun.Stuff
+of_texts function.Asc = Some fun.Asc
+of_texts function.Chr = Some fun.Chr
+of_texts function.Val = Some fun.Val
+of_texts function.Str = Some fun.Str
+of_texts function.IsAlpha = Some fun.IsAlpha
+of_texts function.IsUpper = Some fun.IsUpper
+of_texts function.IsLower = Some fun.IsLower
+of_texts _ = None
+
+-- those of numbers and dates
+abbrev pub of_numbers_and_dates : Function → Option Fun
+of_numbers_and_dates function.Abs = Some fun.Abs
+of_numbers_and_dates function.Int = Some fun.Int
+of_numbers_and_dates function.Mod = Some fun.Mod
+of_numbers_and_dates function.Round = Some fun.Round
+of_numbers_and_dates function.Max = Some fun.Max
+of_numbers_and_dates function.Min = Some fun.Min
+of_numbers_and_dates function.Ctod = Some fun.Ctod
+of_numbers_and_dates function.Dtoc = Some fun.Dtoc
+of_numbers_and_dates function.Day = Some fun.Day
+of_numbers_and_dates function.Month = Some fun.Month
+of_numbers_and_dates function.Year = Some fun.Year
+of_numbers_and_dates function.Dow = Some fun.Dow
+of_numbers_and_dates function.Cdow = Some fun.Cdow
+of_numbers_and_dates function.Cmonth = Some fun.Cmonth
+of_numbers_and_dates _ = None
+
+-- questions to the selected area
+abbrev pub question_of : Function → Option Question
+question_of function.Recno = Some Recno
+question_of function.Reccount = Some Reccount
+question_of function.Eof = Some Eof
+question_of function.Bof = Some Bof
+question_of function.Found = Some Found
+question_of function.Deleted = Some Deleted
+question_of _ = None
+
+-- DATE, and IIF
+abbrev pub otherwise : Function → Called
+otherwise function.Date = called.Today
+otherwise _ = called.Choice
+
 abbrev pub meaning : Function → Called
-meaning function.Iif = called.Choice
-meaning function.Len = called.Function fun.Len
-meaning function.Substr = called.Function fun.Substr
-meaning function.Left = called.Function fun.Left
-meaning function.Right = called.Function fun.Right
-meaning function.Trim = called.Function fun.Trim
-meaning function.Ltrim = called.Function fun.Ltrim
-meaning function.Upper = called.Function fun.Upper
-meaning function.Lower = called.Function fun.Lower
-meaning function.Space = called.Function fun.Space
-meaning function.Replicate = called.Function fun.Replicate
-meaning function.At = called.Function fun.At
-meaning function.Stuff = called.Function fun.Stuff
-meaning function.Asc = called.Function fun.Asc
-meaning function.Chr = called.Function fun.Chr
-meaning function.Val = called.Function fun.Val
-meaning function.Str = called.Function fun.Str
-meaning function.IsAlpha = called.Function fun.IsAlpha
-meaning function.IsUpper = called.Function fun.IsUpper
-meaning function.IsLower = called.Function fun.IsLower
-meaning function.Abs = called.Function fun.Abs
-meaning function.Int = called.Function fun.Int
-meaning function.Mod = called.Function fun.Mod
-meaning function.Round = called.Function fun.Round
-meaning function.Max = called.Function fun.Max
-meaning function.Min = called.Function fun.Min
-meaning function.Ctod = called.Function fun.Ctod
-meaning function.Dtoc = called.Function fun.Dtoc
-meaning function.Day = called.Function fun.Day
-meaning function.Month = called.Function fun.Month
-meaning function.Year = called.Function fun.Year
-meaning function.Dow = called.Function fun.Dow
-meaning function.Cdow = called.Function fun.Cdow
-meaning function.Cmonth = called.Function fun.Cmonth
-meaning function.Recno = called.Question Recno
-meaning function.Reccount = called.Question Reccount
-meaning function.Eof = called.Question Eof
-meaning function.Bof = called.Question Bof
-meaning function.Found = called.Question Found
-meaning function.Deleted = called.Question Deleted
-meaning function.Date = called.Today
+meaning f = on_some (of_texts f) (on_some (of_numbers_and_dates f) (on_some (question_of f) (otherwise f) called.Question) called.Function) called.Function
 
 abbrev pub whole : ℕ → Value
 whole n = value.Number (finite (pos n) 0)
 
 -- the values of arguments that are left out, behind so many that are there
 abbrev pub defaults : Function → ℕ → List Value
-defaults function.Substr 2 = whole 254 ∷ []
-defaults function.Str 1 = whole 10 ∷ whole 0 ∷ []
-defaults function.Str 2 = whole 0 ∷ []
+defaults function.Substr (suc (suc zero)) = whole 254 ∷ []
+defaults function.Str (suc zero) = whole 10 ∷ whole 0 ∷ []
+defaults function.Str (suc (suc zero)) = whole 0 ∷ []
 defaults _ n = []
 
 -- IIF by the kind of what it chooses from
@@ -98,9 +115,71 @@ abbrev pub choice : List Kind → Option Fun
 choice (kind.Logical ∷ one ∷ other ∷ []) = if same_kind one other then Some (choice_for one) else None
 choice _ = None
 
--- ---- what is written
+-- ---- kinds; None where there is a fault
 
--- a constant, or an instruction
+abbrev pub reading_kind : Option Reading → Option Kind
+reading_kind None = None
+reading_kind (Some r) = Some r.kind
+
+-- the kinds of arguments with those that are left out
+abbrev pub completed : Function → List Kind → List Kind
+completed f kinds = kinds ++ map kind_of (defaults f (length kinds))
+
+abbrev pub function_kind : Function → Fun → List Kind → Option Kind
+function_kind f g kinds = if same_kinds (takes_of g) (completed f kinds) then Some (gives_of g) else None
+
+-- a filter may ask for the row's number and mark, and how many there are
+abbrev pub may_ask : Bool → Question → Bool
+may_ask in_filter Recno = true
+may_ask in_filter Reccount = true
+may_ask in_filter Deleted = true
+may_ask true q = false
+may_ask false q = true
+
+abbrev pub answer_kind : Question → Kind
+answer_kind Recno = kind.Number
+answer_kind Reccount = kind.Number
+answer_kind _ = kind.Logical
+
+-- of the selected area, which is known to be open
+abbrev pub question_kind : Scoped → Question → Option Kind
+question_kind s q = if is_none (open_at s.state.desk s.state.desk.selected) then None else if may_ask s.in_filter q then Some (answer_kind q) else None
+
+-- what takes no arguments
+abbrev pub of_none : List Kind → Option Kind → Option Kind
+of_none [] kind = kind
+of_none (k ∷ ks) kind = None
+
+abbrev pub called_kind : Scoped → Function → Called → List Kind → Option Kind
+called_kind s f (called.Function g) kinds = function_kind f g kinds
+called_kind s f (called.Question q) kinds = of_none kinds (question_kind s q)
+called_kind s f called.Today kinds = of_none kinds (Some kind.Date)
+called_kind s f called.Choice kinds = on_some (choice kinds) None (λ g. Some (gives_of g))
+
+abbrev pub prefixed_kind : Prefix → Kind → Option Kind
+prefixed_kind p k = if same_kind k (prefix_kind p) then Some (prefix_kind p) else None
+
+abbrev pub operated_kind : Operator → Kind → Kind → Option Kind
+operated_kind o a b = on_some (operated o a b) None (λ operation. Some (gives_of operation.fun))
+
+abbrev mutual
+  pub kind_in : Scoped → Tree → Option Kind
+  kind_in s (tree.Number n) = Some kind.Number
+  kind_in s (tree.Text t) = Some kind.Text
+  kind_in s (tree.Logical b) = Some kind.Logical
+  kind_in s (tree.Name n) = reading_kind (read_name s n)
+  kind_in s (tree.Qualified a n) = reading_kind (read_qualified s a n)
+  kind_in s (tree.Call f es) = on_some (kinds_in s es) None (called_kind s f (meaning f))
+  kind_in s (tree.Parentheses e) = kind_in s e
+  kind_in s (tree.Prefixed p e) = on_some (kind_in s e) None (prefixed_kind p)
+  kind_in s (tree.Binary o a b) = on_some (kind_in s a) None (λ one. on_some (kind_in s b) None (operated_kind o one))
+
+  pub kinds_in : Scoped → Trees → Option (List Kind)
+  kinds_in s tree.None = Some []
+  kinds_in s (tree.More e es) = on_some (kind_in s e) None (λ k. on_some (kinds_in s es) None (λ ks. Some (k ∷ ks)))
+
+-- ---- what is written: constants and instructions
+
 pub data Piece : Type 0 where
   Constant : Value → Piece
   Does : Instr → Piece
@@ -113,99 +192,73 @@ IsPiece constants (Does j) i = i ≡ j
 abbrev pub calls : Fun → Piece
 calls f = Does (Values (value_instr.Function f))
 
--- the kind of a value, and what leaves it on top
-pub record Writing : Type 0 where
-  pub kind : Kind
-  pub pieces : List Piece
-
--- the kinds of arguments, and what leaves them on top, the last one uppermost
-pub record Writings : Type 0 where
-  pub kinds : List Kind
-  pub pieces : List Piece
-
-abbrev pub of_constant : Kind → Value → Option Writing
-of_constant k v = Some (record { kind = k; pieces = Constant v ∷ [] })
-
-abbrev pub of_reading : Option Reading → Option Writing
-of_reading None = None
-of_reading (Some r) = Some (record { kind = r.kind; pieces = Does r.instr ∷ [] })
+abbrev pub reading_pieces : Option Reading → List Piece
+reading_pieces None = []
+reading_pieces (Some r) = Does r.instr ∷ []
 
 abbrev pub constants : List Value → List Piece
-constants [] = []
-constants (v ∷ vs) = Constant v ∷ constants vs
+constants values = map Constant values
 
--- the kinds of the arguments that are there are the first ones that the function takes
-abbrev pub do_fit : List Kind → List Kind → Bool
-do_fit wanted [] = true
-do_fit [] (k ∷ ks) = false
-do_fit (w ∷ wanted) (k ∷ ks) = same_kind k w && do_fit wanted ks
+-- the function of IIF, where the kinds of its arguments are known
+abbrev pub chosen : Option (List Kind) → Option Fun
+chosen kinds = on_some kinds None choice
 
-abbrev pub with_function : Fun → List Value → Writings → Option Writing
-with_function f left_out w = if do_fit (takes_of f) w.kinds then Some (record { kind = gives_of f; pieces = (w.pieces ++ constants left_out) ++ calls f ∷ [] }) else None
-
--- a filter may ask for the row's number and mark, and how many there are
-abbrev pub may_ask : Bool → Question → Bool
-may_ask in_filter Recno = true
-may_ask in_filter Reccount = true
-may_ask in_filter Deleted = true
-may_ask true q = false
-may_ask false q = true
-
-abbrev pub kind_answered : Question → Kind
-kind_answered Recno = kind.Number
-kind_answered Reccount = kind.Number
-kind_answered _ = kind.Logical
-
--- of the selected area, which is known to be open
-abbrev pub with_question : Scoped → Question → Writings → Option Writing
-with_question s q w = if is_none (open_at s.state.desk s.state.desk.selected) then None
-    else if may_ask s.in_filter q then Some (record { kind = kind_answered q; pieces = w.pieces ++ Does (Records (record_instr.Ask q)) ∷ [] })
-    else None
-
-abbrev pub with_called : Scoped → Function → Called → Writings → Option Writing
-with_called s f (called.Function g) w = with_function g (defaults f (length w.kinds)) w
-with_called s f (called.Question q) w = with_question s q w
-with_called s f called.Today w = Some (record { kind = kind.Date; pieces = w.pieces ++ Does (Values value_instr.Today) ∷ [] })
-with_called s f called.Choice w = on_some (choice w.kinds) None (λ g. with_function g [] w)
+-- what stands behind the arguments of a function by name
+abbrev pub call_pieces : Called → Option Fun → List Piece
+call_pieces (called.Function g) choice = calls g ∷ []
+call_pieces (called.Question q) choice = Does (Records (record_instr.Ask q)) ∷ []
+call_pieces called.Today choice = Does (Values value_instr.Today) ∷ []
+call_pieces called.Choice None = []
+call_pieces called.Choice (Some g) = calls g ∷ []
 
 -- a plus sign does nothing
-abbrev pub with_prefix : Prefix → Writing → Option Writing
-with_prefix p w = if same_kind w.kind (prefix_kind p) then Some (record { kind = prefix_kind p; pieces = on_some (prefix_fun p) w.pieces (λ f. w.pieces ++ calls f ∷ []) }) else None
+abbrev pub prefix_pieces : Option Fun → List Piece
+prefix_pieces None = []
+prefix_pieces (Some f) = calls f ∷ []
 
 abbrev pub denial : Bool → List Piece
 denial true = calls fun.Not ∷ []
 denial false = []
 
--- the operands in the order that the function takes them, the function, and the denial
-abbrev pub with_operation : Operation → Writing → Writing → Writing
-with_operation o a b = record { kind = gives_of o.fun; pieces = ((if o.swapped then b.pieces ++ a.pieces else a.pieces ++ b.pieces) ++ calls o.fun ∷ []) ++ denial o.negated }
+abbrev pub operation_pieces : Operation → List Piece
+operation_pieces o = calls o.fun ∷ denial o.negated
 
-abbrev pub with_operator : Operator → Writing → Writing → Option Writing
-with_operator o a b = on_some (operated o a.kind b.kind) None (λ operation. Some (with_operation operation a b))
+abbrev pub turned : Bool → List Piece → List Piece → List Piece
+turned true a b = b ++ a
+turned false a b = a ++ b
 
-abbrev pub with_argument : Writing → Writings → Writings
-with_argument a w = record { kinds = a.kind ∷ w.kinds; pieces = a.pieces ++ w.pieces }
+-- what an operator does between operands of these kinds, if it is known
+abbrev pub operation_in : Operator → Option Kind → Option Kind → Option Operation
+operation_in o a b = on_some a None (λ one. on_some b None (operated o one))
 
--- None where the expression has a fault
-mutual
-  pub written : Scoped → Tree → Option Writing
-  written s (tree.Number n) = of_constant kind.Number (value.Number n)
-  written s (tree.Text t) = of_constant kind.Text (value.Text (record { items = t }))
-  written s (tree.Logical b) = of_constant kind.Logical (value.Logical b)
-  written s (tree.Name n) = of_reading (read_name s n)
-  written s (tree.Qualified a n) = of_reading (read_qualified s a n)
-  written s (tree.Call f es) = on_some (all_written s es) None (with_called s f (meaning f))
-  written s (tree.Parentheses e) = written s e
-  written s (tree.Prefixed p e) = on_some (written s e) None (with_prefix p)
-  written s (tree.Binary o a b) = on_some (written s a) None (λ one. on_some (written s b) None (with_operator o one))
+-- the operands in the order that the function takes them, and the function
+abbrev pub operator_pieces : Option Operation → List Piece → List Piece → List Piece
+operator_pieces None a b = []
+operator_pieces (Some o) a b = turned o.swapped a b ++ operation_pieces o
 
-  pub all_written : Scoped → Trees → Option Writings
-  all_written s tree.None = Some (record { kinds = []; pieces = [] })
-  all_written s (tree.More e es) = on_some (written s e) None (λ one. on_some (all_written s es) None (λ others. Some (with_argument one others)))
+abbrev mutual
+  pub pieces_in : Scoped → Tree → List Piece
+  pieces_in s (tree.Number n) = Constant (value.Number n) ∷ []
+  pieces_in s (tree.Text t) = Constant (value.Text (record { items = t })) ∷ []
+  pieces_in s (tree.Logical b) = Constant (value.Logical b) ∷ []
+  pieces_in s (tree.Name n) = reading_pieces (read_name s n)
+  pieces_in s (tree.Qualified a n) = reading_pieces (read_qualified s a n)
+  pieces_in s (tree.Call f es) = (all_pieces s es ++ constants (defaults f (count es))) ++ call_pieces (meaning f) (chosen (kinds_in s es))
+  pieces_in s (tree.Parentheses e) = pieces_in s e
+  pieces_in s (tree.Prefixed p e) = pieces_in s e ++ prefix_pieces (prefix_fun p)
+  pieces_in s (tree.Binary o a b) = operator_pieces (operation_in o (kind_in s a) (kind_in s b)) (pieces_in s a) (pieces_in s b)
 
--- the code is the expression's, with these constants
+  pub all_pieces : Scoped → Trees → List Piece
+  all_pieces s tree.None = []
+  all_pieces s (tree.More e es) = pieces_in s e ++ all_pieces s es
+
+-- these pieces are added to a code, with these constants
+pub record Emits (pieces : List Piece) (constants : List Value) (old new : List Instr) : Type 0 where
+  pub more : List Instr
+  pub joined : new ≡ old ++ more
+  pub are : AllZip (IsPiece constants) pieces more
+
+-- the code is the expression's, with these constants, and its value is of this kind
 pub record IsWritten (s : Scoped) (e : Tree) (kind : Kind) (constants : List Value) (code : List Instr) : Type 0 where
-  pub writing : Writing
-  pub is : written s e ≡ Some writing
-  pub kind_is : writing.kind ≡ kind
-  pub pieces : AllZip (IsPiece constants) writing.pieces code
+  pub kind_is : kind_in s e ≡ Some kind
+  pub pieces : AllZip (IsPiece constants) (pieces_in s e) code

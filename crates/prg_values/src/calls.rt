@@ -1,5 +1,12 @@
 //! Calls of functions by the kinds of their arguments.
 
+ghost use Rattle.std.specs.Prelude.{◌≡◌, ◌++◌, ◌≤◌, map, length};
+ghost use Rattle.code_items.specs.Kinds.{same_kinds};
+ghost use Rattle.xvalue.specs.Kinds.{kind_of};
+ghost use Rattle.prg_values.specs.Readings.{scoped, Reads};
+ghost use Rattle.prg_values.specs.Written as spec;
+
+use crate::arguments::Kinds;
 use crate::scope::Scope;
 use code_items::Question;
 use prg_code::FaultKind;
@@ -19,7 +26,9 @@ pub enum Called {
     Choice,
 }
 
-fn of_texts(function: Function) -> Option<Fun> {
+fn of_texts(function: Function) -> Option<Fun>
+    ensures { result ≡ spec.of_texts function }
+{
     match function {
         Function::Len => Some(Fun::Len),
         Function::Substr => Some(Fun::Substr),
@@ -44,7 +53,9 @@ fn of_texts(function: Function) -> Option<Fun> {
     }
 }
 
-fn of_numbers_and_dates(function: Function) -> Option<Fun> {
+fn of_numbers_and_dates(function: Function) -> Option<Fun>
+    ensures { result ≡ spec.of_numbers_and_dates function }
+{
     match function {
         Function::Abs => Some(Fun::Abs),
         Function::Int => Some(Fun::Int),
@@ -64,7 +75,9 @@ fn of_numbers_and_dates(function: Function) -> Option<Fun> {
     }
 }
 
-fn question(function: Function) -> Option<Question> {
+fn question(function: Function) -> Option<Question>
+    ensures { result ≡ spec.question_of function }
+{
     match function {
         Function::Recno => Some(Question::Recno),
         Function::Reccount => Some(Question::Reccount),
@@ -76,8 +89,20 @@ fn question(function: Function) -> Option<Question> {
     }
 }
 
+/// DATE, and IIF.
+fn otherwise(function: Function) -> Called
+    ensures { result ≡ spec.otherwise function }
+{
+    match function {
+        Function::Date => Called::Today,
+        _ => Called::Choice,
+    }
+}
+
 /// What the function does.
-pub fn meaning_of(function: Function) -> Called {
+pub fn meaning_of(function: Function) -> Called
+    ensures { result ≡ spec.meaning function }
+{
     if let Some(fun) = of_texts(function) {
         return Called::Function(fun);
     }
@@ -87,84 +112,125 @@ pub fn meaning_of(function: Function) -> Called {
     if let Some(question) = question(function) {
         return Called::Question(question);
     }
-    match function {
-        Function::Date => Called::Today,
-        _ => Called::Choice,
-    }
+    otherwise(function)
 }
 
-/// The kinds of up to four arguments.
-pub type Kinds = [Option<Kind>; 4];
-
-fn is_kind(kind: Option<Kind>, wanted: Kind) -> bool {
+/// The function of IIF for what it chooses from.
+fn choice_for(kind: Kind) -> Fun
+    ensures { result ≡ spec.choice_for kind }
+{
     match kind {
-        Some(kind) => kind.is(wanted),
-        None => false,
+        Kind::Number => Fun::IifNumber,
+        Kind::Text => Fun::IifText,
+        Kind::Date => Fun::IifDate,
+        Kind::Logical => Fun::IifLogical,
     }
 }
 
 /// The function of IIF for arguments of these kinds: a truth value, and two values of one kind.
-pub fn choice(kinds: Kinds) -> Option<Fun> {
-    let [Some(Kind::Logical), Some(one), Some(other), None] = kinds else {
+pub fn choice(kinds: &[Kind]) -> Option<Fun>
+    ensures { result ≡ spec.choice kinds.now }
+{
+    let [Kind::Logical, one, other] = kinds else {
         return None;
     };
-    if !one.is(other) {
-        return None;
-    }
-    match one {
-        Kind::Number => Some(Fun::IifNumber),
-        Kind::Text => Some(Fun::IifText),
-        Kind::Date => Some(Fun::IifDate),
-        Kind::Logical => Some(Fun::IifLogical),
+    if one.is(*other) {
+        Some(choice_for(*one))
+    } else {
+        None
     }
 }
 
-/// Whether the arguments that are there are of the kinds that the function takes.
-fn do_fit(wanted: &[Kind], kinds: &[Option<Kind>]) -> bool {
-    let mut number = 0usize;
-    for kind in kinds {
-        if let Some(kind) = kind
-            && !is_kind(wanted.get(number).copied(), *kind)
-        {
+/// The kinds of arguments with those that are left out.
+fn completed(function: Function, kinds: &mut Kinds)
+    ensures { kinds.new ≡ spec.completed function kinds.old }
+{
+    match function {
+        Function::Substr if kinds.len() == 2 => kinds.push(Kind::Number),
+        Function::Str if kinds.len() == 1 => {
+            kinds.push(Kind::Number);
+            kinds.push(Kind::Number);
+        }
+        Function::Str if kinds.len() == 2 => kinds.push(Kind::Number),
+        _ => {}
+    }
+}
+
+/// Whether both are the same kinds.
+fn are_same(wanted: &[Kind], kinds: &[Kind]) -> bool
+    ensures { result ≡ same_kinds wanted.now kinds.now }
+{
+    let mut rest = kinds;
+    let mut wants = wanted;
+    while let Some((want, later)) = wants.split_first() {
+        let Some((kind, others)) = rest.split_first() else {
+            return false;
+        };
+        if !want.is(*kind) {
             return false;
         }
-        number = number.saturating_add(1);
+        wants = later;
+        rest = others;
     }
-    true
+    rest.is_empty()
+}
+
+/// Whether an expression may ask this: in a filter only what a row that is tried can answer.
+fn may_ask(in_filter: bool, question: Question) -> bool
+    ensures { result ≡ spec.may_ask in_filter question }
+{
+    match question {
+        Question::Recno | Question::Reccount | Question::Deleted => true,
+        Question::Eof | Question::Bof | Question::Found => !in_filter,
+    }
+}
+
+fn answer_kind(question: Question) -> Kind
+    ensures { result ≡ spec.answer_kind question }
+{
+    match question {
+        Question::Recno | Question::Reccount => Kind::Number,
+        Question::Eof | Question::Bof | Question::Found | Question::Deleted => Kind::Logical,
+    }
 }
 
 /// The kind of a question's answer: ClosedArea where the selected area isn't known to be open, Filter where a filter may not
 /// ask it.
-fn asked(scope: &Scope, question: Question) -> Result<Kind, FaultKind> {
+fn asked(scope: &Scope, question: Question) -> Result<Kind, FaultKind>
+    ensures { Reads result (spec.question_kind (scoped scope.now) question) }
+{
     if scope.state.desk.selected_area().is_none() {
         return Err(FaultKind::ClosedArea);
     }
-    match question {
-        Question::Recno | Question::Reccount => Ok(Kind::Number),
-        Question::Deleted => Ok(Kind::Logical),
-        Question::Eof | Question::Bof | Question::Found => {
-            if scope.in_filter {
-                Err(FaultKind::Filter)
-            } else {
-                Ok(Kind::Logical)
-            }
-        }
+    if may_ask(scope.in_filter, question) {
+        Ok(answer_kind(question))
+    } else {
+        Err(FaultKind::Filter)
+    }
+}
+
+/// The kind that a function gives, if it takes arguments of these kinds, with those that are left out.
+fn function_kind(function: Function, fun: Fun, kinds: &mut Kinds) -> Result<Kind, FaultKind>
+    ensures { Reads result (spec.function_kind function fun kinds.old) }
+{
+    completed(function, kinds);
+    if are_same(fun.takes(), kinds.as_slice()) {
+        Ok(fun.gives())
+    } else {
+        Err(FaultKind::Kind)
     }
 }
 
 /// The kind of a call with arguments of these kinds.
-pub fn call_kind(scope: &Scope, function: Function, kinds: Kinds) -> Result<Kind, FaultKind> {
+pub fn call_kind(scope: &Scope, function: Function, kinds: &mut Kinds) -> Result<Kind, FaultKind>
+    ensures { Reads result (spec.called_kind (scoped scope.now) function (spec.meaning function) kinds.old) }
+{
     match meaning_of(function) {
-        Called::Function(fun) => {
-            if do_fit(fun.takes(), &kinds) {
-                Ok(fun.gives())
-            } else {
-                Err(FaultKind::Kind)
-            }
-        }
-        Called::Question(question) => asked(scope, question),
-        Called::Today => Ok(Kind::Date),
-        Called::Choice => match choice(kinds) {
+        Called::Function(fun) => function_kind(function, fun, kinds),
+        Called::Question(question) if kinds.len() == 0 => asked(scope, question),
+        Called::Today if kinds.len() == 0 => Ok(Kind::Date),
+        Called::Question(_) | Called::Today => Err(FaultKind::Kind),
+        Called::Choice => match choice(kinds.as_slice()) {
             Some(fun) => Ok(fun.gives()),
             None => Err(FaultKind::Kind),
         },

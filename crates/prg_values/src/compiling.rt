@@ -1,5 +1,16 @@
 //! The code of expressions.
 
+ghost use Rattle.std.specs.Prelude.{◌≡◌, List, [], ◌∷◌, ◌++◌, Option, Some, IfOk, OnOk, length};
+ghost use Rattle.xvalue.specs.declared.value.Value.{Value as Constant};
+ghost use Rattle.prg_code.specs.Pools.{Grows};
+ghost use Rattle.prg_expr.specs.Tree.{tree_of, trees_of};
+ghost use Rattle.xvalue.specs.declared.kind.Kind.{Kind as AnyKind};
+ghost use Rattle.prg_values.specs.declared.scope.Reading.{Reading as TheReading};
+ghost use Rattle.prg_values.specs.Operators.{prefix_fun as prefix_fun_of};
+ghost use Rattle.prg_values.specs.Readings.{scoped, Reads};
+ghost use Rattle.prg_values.specs.Written as spec;
+ghost use Rattle.prg_values.specs.Written.{Does, Emits, IsWritten};
+
 use crate::calls::{Called, choice, meaning_of};
 use crate::kinds::{kind_of, kinds_of};
 use crate::operators::{Operation, operated, prefix_fun};
@@ -18,32 +29,58 @@ pub struct Compiled {
     pub kind: Kind,
 }
 
-fn put(code: &mut Vec<Instr>, instr: Instr) -> Result<(), CompileError> {
+fn put(code: &mut Vec<Instr>, instr: Instr) -> Result<(), CompileError>
+    ensures { OnOk result ((constants : List Constant) → Emits (Does instr ∷ []) constants code.old.items code.new.items) }
+{
     code.push(instr)?;
     Ok(())
 }
 
-fn put_constant(code: &mut Vec<Instr>, pool: &mut Pool, value: Value) -> Result<(), CompileError> {
+fn put_constant(code: &mut Vec<Instr>, pool: &mut Pool, value: Value) -> Result<(), CompileError>
+    ensures ok { OnOk result (Emits (spec.Constant value ∷ []) pool.new code.old.items code.new.items) }
+    ensures grown { Grows pool.old pool.new }
+{
     let number = pool.number(value)?;
     put(code, Instr::Values(ValueInstr::Constant(number)))
 }
 
-fn put_whole(code: &mut Vec<Instr>, pool: &mut Pool, whole: i128) -> Result<(), CompileError> {
-    put_constant(code, pool, Value::Number(Num::from_whole(whole)))
+fn put_whole(code: &mut Vec<Instr>, pool: &mut Pool, whole: u32) -> Result<(), CompileError>
+    ensures ok { OnOk result (Emits (spec.Constant (spec.whole whole) ∷ []) pool.new code.old.items code.new.items) }
+    ensures grown { Grows pool.old pool.new }
+{
+    put_constant(code, pool, Value::Number(Num::from(whole)))
 }
 
-fn put_function(code: &mut Vec<Instr>, fun: Fun) -> Result<(), CompileError> {
+fn put_function(code: &mut Vec<Instr>, fun: Fun) -> Result<(), CompileError>
+    ensures { OnOk result ((constants : List Constant) → Emits (spec.calls fun ∷ []) constants code.old.items code.new.items) }
+{
     put(code, Instr::Values(ValueInstr::Function(fun)))
 }
 
 fn put_reading(
     code: &mut Vec<Instr>,
     reading: Result<Reading, FaultKind>,
-) -> Result<(), CompileError> {
+) -> Result<(), CompileError>
+    ensures { OnOk result ((found : Option TheReading) (constants : List Constant) → Reads reading found → Emits (spec.reading_pieces found) constants code.old.items code.new.items) }
+{
     match reading {
         Ok(reading) => put(code, reading.instr),
         Err(fault) => Err(CompileError::Fault(fault)),
     }
+}
+
+/// Two whole numbers, one behind the other.
+fn put_both(
+    code: &mut Vec<Instr>,
+    pool: &mut Pool,
+    one: u32,
+    other: u32,
+) -> Result<(), CompileError>
+    ensures ok { OnOk result (Emits (spec.Constant (spec.whole one) ∷ spec.Constant (spec.whole other) ∷ []) pool.new code.old.items code.new.items) }
+    ensures grown { Grows pool.old pool.new }
+{
+    put_whole(code, pool, one)?;
+    put_whole(code, pool, other)
 }
 
 /// The values of arguments that are left out.
@@ -52,13 +89,13 @@ fn put_defaults(
     pool: &mut Pool,
     function: Function,
     count: usize,
-) -> Result<(), CompileError> {
+) -> Result<(), CompileError>
+    ensures ok { OnOk result (Emits (spec.constants (spec.defaults function count)) pool.new code.old.items code.new.items) }
+    ensures grown { Grows pool.old pool.new }
+{
     match function {
         Function::Substr if count == 2 => put_whole(code, pool, 254),
-        Function::Str if count == 1 => {
-            put_whole(code, pool, 10)?;
-            put_whole(code, pool, 0)
-        }
+        Function::Str if count == 1 => put_both(code, pool, 10, 0),
         Function::Str if count == 2 => put_whole(code, pool, 0),
         _ => Ok(()),
     }
@@ -69,7 +106,9 @@ fn put_called(
     code: &mut Vec<Instr>,
     function: Function,
     choice: Option<Fun>,
-) -> Result<(), CompileError> {
+) -> Result<(), CompileError>
+    ensures { OnOk result ((constants : List Constant) → Emits (spec.call_pieces (spec.meaning function) choice) constants code.old.items code.new.items) }
+{
     match meaning_of(function) {
         Called::Function(fun) => put_function(code, fun),
         Called::Question(question) => put(code, Instr::Records(RecordInstr::Ask(question))),
@@ -81,16 +120,28 @@ fn put_called(
     }
 }
 
-/// The function of an operator, behind its operands.
-fn put_operation(code: &mut Vec<Instr>, operation: Operation) -> Result<(), CompileError> {
-    put_function(code, operation.fun)?;
-    if operation.negated {
-        put_function(code, Fun::Not)?;
+/// A denial, if there is one.
+fn put_denial(code: &mut Vec<Instr>, negated: bool) -> Result<(), CompileError>
+    ensures { OnOk result ((constants : List Constant) → Emits (spec.denial negated) constants code.old.items code.new.items) }
+{
+    if negated {
+        put_function(code, Fun::Not)
+    } else {
+        Ok(())
     }
-    Ok(())
 }
 
-fn put_prefix(code: &mut Vec<Instr>, fun: Option<Fun>) -> Result<(), CompileError> {
+/// The function of an operator, behind its operands.
+fn put_operation(code: &mut Vec<Instr>, operation: Operation) -> Result<(), CompileError>
+    ensures { OnOk result ((constants : List Constant) → Emits (spec.operation_pieces operation) constants code.old.items code.new.items) }
+{
+    put_function(code, operation.fun)?;
+    put_denial(code, operation.negated)
+}
+
+fn put_prefix(code: &mut Vec<Instr>, fun: Option<Fun>) -> Result<(), CompileError>
+    ensures { OnOk result ((constants : List Constant) → Emits (spec.prefix_pieces fun) constants code.old.items code.new.items) }
+{
     match fun {
         Some(fun) => put_function(code, fun),
         None => Ok(()),
@@ -103,7 +154,9 @@ fn operation_of(
     operator: prg_expr::Operator,
     left: &Expr,
     right: &Expr,
-) -> Result<Operation, CompileError> {
+) -> Result<Operation, CompileError>
+    ensures { IfOk result (λ operation. spec.operation_in operator (spec.kind_in (scoped scope.now) (tree_of left.now)) (spec.kind_in (scoped scope.now) (tree_of right.now)) ≡ Some operation) }
+{
     let left = kind_of(scope, left)?;
     let right = kind_of(scope, right)?;
     match operated(operator, left, right) {
@@ -117,9 +170,14 @@ fn choice_of(
     scope: &Scope,
     function: Function,
     arguments: &[Expr],
-) -> Result<Option<Fun>, CompileError> {
-    match function {
-        Function::Iif => Ok(choice(kinds_of(scope, arguments)?)),
+) -> Result<Option<Fun>, CompileError>
+    ensures { IfOk result (λ found. spec.call_pieces (spec.meaning function) found ≡ spec.call_pieces (spec.meaning function) (spec.chosen (spec.kinds_in (scoped scope.now) (trees_of arguments.now)))) }
+{
+    match meaning_of(function) {
+        Called::Choice => {
+            let kinds = kinds_of(scope, arguments)?;
+            Ok(choice(kinds.as_slice()))
+        }
         _ => Ok(None),
     }
 }
@@ -130,11 +188,17 @@ fn emit_all(
     pool: &mut Pool,
     scope: &Scope,
     es: &[Expr],
-) -> Result<(), CompileError> {
-    for e in es {
-        emit(code, pool, scope, e)?;
+) -> Result<(), CompileError>
+    ensures ok { OnOk result (Emits (spec.all_pieces (scoped scope.now) (trees_of es.now)) pool.new code.old.items code.new.items) }
+    ensures grown { Grows pool.old pool.new }
+{
+    match es.split_first() {
+        Some((e, others)) => {
+            emit(code, pool, scope, e)?;
+            emit_all(code, pool, scope, others)
+        }
+        None => Ok(()),
     }
-    Ok(())
 }
 
 #[cycle(emit)]
@@ -144,20 +208,96 @@ fn emit_call(
     scope: &Scope,
     function: Function,
     arguments: &[Expr],
-) -> Result<(), CompileError> {
+) -> Result<(), CompileError>
+    ensures ok { OnOk result (Emits ((spec.all_pieces (scoped scope.now) (trees_of arguments.now) ++ spec.constants (spec.defaults function (length arguments.now)))
+        ++ spec.call_pieces (spec.meaning function) (spec.chosen (spec.kinds_in (scoped scope.now) (trees_of arguments.now)))) pool.new code.old.items code.new.items) }
+    ensures grown { Grows pool.old pool.new }
+{
     let choice = choice_of(scope, function, arguments)?;
     emit_all(code, pool, scope, arguments)?;
     put_defaults(code, pool, function, arguments.len())?;
     put_called(code, function, choice)
 }
 
+/// Two operands, the first one first.
 #[cycle(emit)]
+fn emit_both(
+    code: &mut Vec<Instr>,
+    pool: &mut Pool,
+    scope: &Scope,
+    first: &Expr,
+    second: &Expr,
+) -> Result<(), CompileError>
+    ensures ok { OnOk result (Emits (spec.pieces_in (scoped scope.now) (tree_of first.now) ++ spec.pieces_in (scoped scope.now) (tree_of second.now)) pool.new code.old.items code.new.items) }
+    ensures grown { Grows pool.old pool.new }
+{
+    emit(code, pool, scope, first)?;
+    emit(code, pool, scope, second)
+}
+
+#[cycle(emit)]
+fn emit_operands(
+    code: &mut Vec<Instr>,
+    pool: &mut Pool,
+    scope: &Scope,
+    swapped: bool,
+    left: &Expr,
+    right: &Expr,
+) -> Result<(), CompileError>
+    ensures ok { OnOk result (Emits (spec.turned swapped (spec.pieces_in (scoped scope.now) (tree_of left.now)) (spec.pieces_in (scoped scope.now) (tree_of right.now))) pool.new code.old.items code.new.items) }
+    ensures grown { Grows pool.old pool.new }
+{
+    if swapped {
+        emit_both(code, pool, scope, right, left)
+    } else {
+        emit_both(code, pool, scope, left, right)
+    }
+}
+
+#[cycle(emit)]
+fn emit_prefixed(
+    code: &mut Vec<Instr>,
+    pool: &mut Pool,
+    scope: &Scope,
+    prefix: prg_expr::Prefix,
+    operand: &Expr,
+) -> Result<(), CompileError>
+    ensures ok { OnOk result (Emits (spec.pieces_in (scoped scope.now) (tree_of operand.now) ++ spec.prefix_pieces (prefix_fun_of prefix)) pool.new code.old.items code.new.items) }
+    ensures grown { Grows pool.old pool.new }
+{
+    emit(code, pool, scope, operand)?;
+    put_prefix(code, prefix_fun(prefix))
+}
+
+#[cycle(emit)]
+fn emit_binary(
+    code: &mut Vec<Instr>,
+    pool: &mut Pool,
+    scope: &Scope,
+    operator: prg_expr::Operator,
+    left: &Expr,
+    right: &Expr,
+) -> Result<(), CompileError>
+    ensures ok { OnOk result (Emits (spec.operator_pieces (spec.operation_in operator (spec.kind_in (scoped scope.now) (tree_of left.now)) (spec.kind_in (scoped scope.now) (tree_of right.now)))
+        (spec.pieces_in (scoped scope.now) (tree_of left.now)) (spec.pieces_in (scoped scope.now) (tree_of right.now))) pool.new code.old.items code.new.items) }
+    ensures grown { Grows pool.old pool.new }
+{
+    let operation = operation_of(scope, operator, left, right)?;
+    emit_operands(code, pool, scope, operation.swapped, left, right)?;
+    put_operation(code, operation)
+}
+
+#[cycle(emit)]
+#[tactic(auto, using(crate::proofs::Equations::tree_equations, crate::proofs::Equations::count_trees))]
 fn emit(
     code: &mut Vec<Instr>,
     pool: &mut Pool,
     scope: &Scope,
     e: &Expr,
-) -> Result<(), CompileError> {
+) -> Result<(), CompileError>
+    ensures ok { OnOk result (Emits (spec.pieces_in (scoped scope.now) (tree_of e.now)) pool.new code.old.items code.new.items) }
+    ensures grown { Grows pool.old pool.new }
+{
     match e {
         Expr::Number(number) => put_constant(code, pool, Value::Number(*number)),
         Expr::Text(text) => put_constant(code, pool, Value::Text(copy_of(text))),
@@ -171,21 +311,9 @@ fn emit(
         }
         Expr::Call(function, arguments) => emit_call(code, pool, scope, *function, arguments),
         Expr::Parentheses(inner) => emit(code, pool, scope, inner),
-        Expr::Prefixed(prefix, operand) => {
-            emit(code, pool, scope, operand)?;
-            put_prefix(code, prefix_fun(*prefix))
-        }
+        Expr::Prefixed(prefix, operand) => emit_prefixed(code, pool, scope, *prefix, operand),
         Expr::Binary(operator, left, right) => {
-            let operation = operation_of(scope, *operator, left, right)?;
-            if operation.swapped {
-                emit(code, pool, scope, right)?;
-                emit(code, pool, scope, left)?;
-                put_operation(code, operation)
-            } else {
-                emit(code, pool, scope, left)?;
-                emit(code, pool, scope, right)?;
-                put_operation(code, operation)
-            }
+            emit_binary(code, pool, scope, *operator, left, right)
         }
     }
 }
@@ -197,7 +325,10 @@ pub fn with_kind(
     e: &Expr,
     scope: &Scope,
     pool: &mut Pool,
-) -> Result<Compiled, CompileError> {
+) -> Result<Compiled, CompileError>
+    ensures ok { IfOk result (λ compiled. IsWritten (scoped scope.now) (tree_of e.now) compiled.kind pool.new compiled.code.items) }
+    ensures grown { Grows pool.old pool.new }
+{
     let kind = kind_of(scope, e)?;
     let mut code = Vec::new(alloc);
     emit(&mut code, pool, scope, e)?;
@@ -210,7 +341,10 @@ pub fn compile_expr(
     e: &Expr,
     scope: &Scope,
     pool: &mut Pool,
-) -> Result<Vec<Instr>, CompileError> {
+) -> Result<Vec<Instr>, CompileError>
+    ensures ok { IfOk result (λ code. (kind : AnyKind) × IsWritten (scoped scope.now) (tree_of e.now) kind pool.new code.items) }
+    ensures grown { Grows pool.old pool.new }
+{
     let Compiled { code, .. } = with_kind(alloc, e, scope, pool)?;
     Ok(code)
 }

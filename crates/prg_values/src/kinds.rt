@@ -1,20 +1,35 @@
 //! The kinds of expressions, and the first fault of one that has none.
 
-use crate::calls::{Kinds, call_kind};
+ghost use Rattle.std.specs.Prelude.{◌≡◌, Some, IfOk};
+ghost use Rattle.prg_expr.specs.Tree.{tree_of, trees_of};
+ghost use Rattle.prg_values.specs.Readings.{scoped, Reads, read_name as read_name_of, read_qualified as read_qualified_of};
+ghost use Rattle.prg_values.specs.Written as spec;
+
+use crate::arguments::{Kinds, MOST_ARGUMENTS};
+use crate::calls::call_kind;
 use crate::operators::{operated, prefix_kind};
 use crate::scope::{Reading, Scope, read_name, read_qualified};
 use prg_code::FaultKind;
 use prg_expr::{Expr, Operator, Prefix};
 use xvalue::Kind;
 
-fn reading_kind(reading: Result<Reading, FaultKind>) -> Result<Kind, FaultKind> {
-    match reading {
-        Ok(reading) => Ok(reading.kind),
-        Err(fault) => Err(fault),
-    }
+fn name_kind(scope: &Scope, name: &[u8]) -> Result<Kind, FaultKind>
+    ensures { Reads result (spec.reading_kind (read_name_of (scoped scope.now) name.now)) }
+{
+    let Reading { kind, .. } = read_name(scope, name)?;
+    Ok(kind)
 }
 
-fn prefixed_kind(prefix: Prefix, kind: Kind) -> Result<Kind, FaultKind> {
+fn qualified_kind(scope: &Scope, alias: &[u8], name: &[u8]) -> Result<Kind, FaultKind>
+    ensures { Reads result (spec.reading_kind (read_qualified_of (scoped scope.now) alias.now name.now)) }
+{
+    let Reading { kind, .. } = read_qualified(scope, alias, name)?;
+    Ok(kind)
+}
+
+fn prefixed_kind(prefix: Prefix, kind: Kind) -> Result<Kind, FaultKind>
+    ensures { Reads result (spec.prefixed_kind prefix kind) }
+{
     let wanted = prefix_kind(prefix);
     if kind.is(wanted) {
         Ok(wanted)
@@ -23,7 +38,9 @@ fn prefixed_kind(prefix: Prefix, kind: Kind) -> Result<Kind, FaultKind> {
     }
 }
 
-fn operated_kind(operator: Operator, left: Kind, right: Kind) -> Result<Kind, FaultKind> {
+fn operated_kind(operator: Operator, left: Kind, right: Kind) -> Result<Kind, FaultKind>
+    ensures { Reads result (spec.operated_kind operator left right) }
+{
     match operated(operator, left, right) {
         Some(operation) => Ok(operation.fun.gives()),
         None => Err(FaultKind::Kind),
@@ -33,18 +50,18 @@ fn operated_kind(operator: Operator, left: Kind, right: Kind) -> Result<Kind, Fa
 /// The kind of an expression, or its first fault in the order of its code: operands from the left, then the operator or
 /// function.
 #[cycle(kinds)]
-pub fn kind_of(scope: &Scope, e: &Expr) -> Result<Kind, FaultKind> {
+pub fn kind_of(scope: &Scope, e: &Expr) -> Result<Kind, FaultKind>
+    ensures { IfOk result (λ kind. spec.kind_in (scoped scope.now) (tree_of e.now) ≡ Some kind) }
+{
     match e {
         Expr::Number(_) => Ok(Kind::Number),
         Expr::Text(_) => Ok(Kind::Text),
         Expr::Logical(_) => Ok(Kind::Logical),
-        Expr::Name(name) => reading_kind(read_name(scope, name.as_slice())),
-        Expr::Qualified(alias, name) => {
-            reading_kind(read_qualified(scope, alias.as_slice(), name.as_slice()))
-        }
+        Expr::Name(name) => name_kind(scope, name.as_slice()),
+        Expr::Qualified(alias, name) => qualified_kind(scope, alias.as_slice(), name.as_slice()),
         Expr::Call(function, arguments) => {
-            let kinds = kinds_of(scope, arguments)?;
-            call_kind(scope, *function, kinds)
+            let mut kinds = kinds_of(scope, arguments)?;
+            call_kind(scope, *function, &mut kinds)
         }
         Expr::Parentheses(inner) => kind_of(scope, inner),
         Expr::Prefixed(prefix, operand) => {
@@ -59,18 +76,20 @@ pub fn kind_of(scope: &Scope, e: &Expr) -> Result<Kind, FaultKind> {
     }
 }
 
-/// The kinds of up to four expressions. Kind where there are more.
+/// The kinds of up to four expressions. Kind where there are more, which no function takes.
 #[cycle(kinds)]
-pub fn kinds_of(scope: &Scope, es: &[Expr]) -> Result<Kinds, FaultKind> {
-    let mut kinds = [None; 4];
-    let mut count = 0usize;
-    for e in es {
+pub fn kinds_of(scope: &Scope, es: &[Expr]) -> Result<Kinds, FaultKind>
+    ensures { IfOk result (λ kinds. spec.kinds_in (scoped scope.now) (trees_of es.now) ≡ Some kinds) }
+{
+    let mut kinds = Kinds::new();
+    let mut rest = es;
+    while let Some((e, others)) = rest.split_first() {
         let kind = kind_of(scope, e)?;
-        if count >= 4 {
+        if kinds.len() >= MOST_ARGUMENTS {
             return Err(FaultKind::Kind);
         }
-        kinds[count] = Some(kind);
-        count += 1;
+        kinds.push(kind);
+        rest = others;
     }
     Ok(kinds)
 }

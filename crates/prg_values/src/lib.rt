@@ -1,6 +1,7 @@
 //! What names mean, the kinds of expressions, and their code.
 #![tactic(auto)]
 
+mod arguments;
 mod calls;
 mod compiling;
 mod kinds;
