@@ -1,2 +1,3 @@
-pub mod Equations
 pub mod Emitting
+pub mod Equations
+pub mod KindLists

@@ -192,13 +192,10 @@ fn emit_all(
     ensures ok { OnOk result (Emits (spec.all_pieces (scoped scope.now) (trees_of es.now)) pool.new code.old.items code.new.items) }
     ensures grown { Grows pool.old pool.new }
 {
-    match es.split_first() {
-        Some((e, others)) => {
-            emit(code, pool, scope, e)?;
-            emit_all(code, pool, scope, others)
-        }
-        None => Ok(()),
+    for e in es {
+        emit(code, pool, scope, e)?;
     }
+    Ok(())
 }
 
 #[cycle(emit)]
@@ -219,41 +216,6 @@ fn emit_call(
     put_called(code, function, choice)
 }
 
-/// Two operands, the first one first.
-#[cycle(emit)]
-fn emit_both(
-    code: &mut Vec<Instr>,
-    pool: &mut Pool,
-    scope: &Scope,
-    first: &Expr,
-    second: &Expr,
-) -> Result<(), CompileError>
-    ensures ok { OnOk result (Emits (spec.pieces_in (scoped scope.now) (tree_of first.now) ++ spec.pieces_in (scoped scope.now) (tree_of second.now)) pool.new code.old.items code.new.items) }
-    ensures grown { Grows pool.old pool.new }
-{
-    emit(code, pool, scope, first)?;
-    emit(code, pool, scope, second)
-}
-
-#[cycle(emit)]
-fn emit_operands(
-    code: &mut Vec<Instr>,
-    pool: &mut Pool,
-    scope: &Scope,
-    swapped: bool,
-    left: &Expr,
-    right: &Expr,
-) -> Result<(), CompileError>
-    ensures ok { OnOk result (Emits (spec.turned swapped (spec.pieces_in (scoped scope.now) (tree_of left.now)) (spec.pieces_in (scoped scope.now) (tree_of right.now))) pool.new code.old.items code.new.items) }
-    ensures grown { Grows pool.old pool.new }
-{
-    if swapped {
-        emit_both(code, pool, scope, right, left)
-    } else {
-        emit_both(code, pool, scope, left, right)
-    }
-}
-
 #[cycle(emit)]
 fn emit_prefixed(
     code: &mut Vec<Instr>,
@@ -270,31 +232,8 @@ fn emit_prefixed(
 }
 
 #[cycle(emit)]
-fn emit_binary(
-    code: &mut Vec<Instr>,
-    pool: &mut Pool,
-    scope: &Scope,
-    operator: prg_expr::Operator,
-    left: &Expr,
-    right: &Expr,
-) -> Result<(), CompileError>
-    ensures ok { OnOk result (Emits (spec.operator_pieces (spec.operation_in operator (spec.kind_in (scoped scope.now) (tree_of left.now)) (spec.kind_in (scoped scope.now) (tree_of right.now)))
-        (spec.pieces_in (scoped scope.now) (tree_of left.now)) (spec.pieces_in (scoped scope.now) (tree_of right.now))) pool.new code.old.items code.new.items) }
-    ensures grown { Grows pool.old pool.new }
-{
-    let operation = operation_of(scope, operator, left, right)?;
-    emit_operands(code, pool, scope, operation.swapped, left, right)?;
-    put_operation(code, operation)
-}
-
-#[cycle(emit)]
 #[tactic(auto, using(crate::proofs::Equations::tree_equations, crate::proofs::Equations::count_trees))]
-fn emit(
-    code: &mut Vec<Instr>,
-    pool: &mut Pool,
-    scope: &Scope,
-    e: &Expr,
-) -> Result<(), CompileError>
+fn emit(code: &mut Vec<Instr>, pool: &mut Pool, scope: &Scope, e: &Expr) -> Result<(), CompileError>
     ensures ok { OnOk result (Emits (spec.pieces_in (scoped scope.now) (tree_of e.now)) pool.new code.old.items code.new.items) }
     ensures grown { Grows pool.old pool.new }
 {
@@ -313,7 +252,16 @@ fn emit(
         Expr::Parentheses(inner) => emit(code, pool, scope, inner),
         Expr::Prefixed(prefix, operand) => emit_prefixed(code, pool, scope, *prefix, operand),
         Expr::Binary(operator, left, right) => {
-            emit_binary(code, pool, scope, *operator, left, right)
+            let operation = operation_of(scope, *operator, left, right)?;
+            if operation.swapped {
+                emit(code, pool, scope, right)?;
+                emit(code, pool, scope, left)?;
+                put_operation(code, operation)
+            } else {
+                emit(code, pool, scope, left)?;
+                emit(code, pool, scope, right)?;
+                put_operation(code, operation)
+            }
         }
     }
 }

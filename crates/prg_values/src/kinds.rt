@@ -82,14 +82,12 @@ pub fn kinds_of(scope: &Scope, es: &[Expr]) -> Result<Kinds, FaultKind>
     ensures { IfOk result (λ kinds. spec.kinds_in (scoped scope.now) (trees_of es.now) ≡ Some kinds) }
 {
     let mut kinds = Kinds::new();
-    let mut rest = es;
-    while let Some((e, others)) = rest.split_first() {
+    for e in es {
         let kind = kind_of(scope, e)?;
         if kinds.len() >= MOST_ARGUMENTS {
             return Err(FaultKind::Kind);
         }
         kinds.push(kind);
-        rest = others;
     }
     Ok(kinds)
 }
