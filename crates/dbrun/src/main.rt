@@ -228,13 +228,24 @@ fn no_memory(rt: &impl Runtime) -> Status {
     refuse(rt, Refusal::Memory)
 }
 
-/// Tells on standard error what is wrong with the words.
-fn refuse_words(rt: &impl Runtime, error: &clap::Error) -> Status {
-    if error.kind() == ErrorKind::OutOfMemory {
-        return no_memory(rt);
+/// Prints the help that was asked for.
+fn print_help(rt: &impl Runtime, help: &clap::Error) -> Status {
+    match print!(rt; "{help}") {
+        Ok(()) => Status::Done,
+        Err(_) => Status::Disk,
     }
-    let _ = eprint!(rt; "{error}");
-    Status::Words
+}
+
+/// Tells on standard error what is wrong with the words, or prints the help where they ask for it.
+fn refuse_words(rt: &impl Runtime, error: &clap::Error) -> Status {
+    match error.kind() {
+        ErrorKind::OutOfMemory => no_memory(rt),
+        ErrorKind::DisplayHelp => print_help(rt, error),
+        _ => {
+            let _ = eprint!(rt; "{error}");
+            Status::Words
+        }
+    }
 }
 
 /// What is wrong with words that the parser took.
