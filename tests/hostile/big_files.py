@@ -7,6 +7,7 @@ wanted. The measures run at two sizes, of which one is twice the other: twice th
 import os
 import struct
 import subprocess
+import sys
 import tempfile
 import time
 
@@ -18,6 +19,14 @@ FILE_LIMIT, TYPED_LIMIT = 64 << 20, 1 << 20
 SECONDS = 600
 # A measure below this many seconds at its smaller size says nothing of time.
 LEAST = 0.2
+# Runs a program from a small process, since the memory of the process that starts it counts as its own.
+SPAWN = """
+import resource, subprocess, sys
+done = subprocess.run(sys.argv[2:], check=False)
+with open(sys.argv[1], "w", encoding="ascii") as it:
+    it.write(str(resource.getrusage(resource.RUSAGE_CHILDREN).ru_maxrss))
+sys.exit(done.returncode)
+"""
 
 
 def run(files, words, typed=b""):
@@ -31,13 +40,14 @@ def run(files, words, typed=b""):
             it.write(typed)
         begun = time.time()
         with open(paths[0], "rb") as given, open(paths[1], "wb") as told:
-            it = subprocess.Popen([DBRUN, *words], cwd=folder, stdin=given, stdout=subprocess.DEVNULL, stderr=told)
-            _, status, used = os.wait4(it.pid, 0)
-            it.returncode = os.waitstatus_to_exitcode(status)
+            spawn = [sys.executable, "-S", "-c", SPAWN, os.path.join(folder, ".used"), DBRUN, *words]
+            status = subprocess.run(spawn, cwd=folder, stdin=given, stdout=subprocess.DEVNULL, stderr=told, check=False).returncode
         seconds = time.time() - begun
+        with open(os.path.join(folder, ".used"), encoding="ascii") as used:
+            most = int(used.read())
         with open(paths[1], encoding="utf-8", errors="replace") as told:
             lines = told.read().splitlines()
-    return it.returncode, lines[-1] if lines else "", seconds, used.ru_maxrss
+    return status, lines[-1] if lines else "", seconds, most
 
 
 def padded(content, length):
