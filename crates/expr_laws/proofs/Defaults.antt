@@ -1,0 +1,59 @@
+-- Only functions of values have arguments that may be left out.
+use Rattle.std.proofs.Common.{◌≡◌, ℕ, Bool, true, false, [], refl}
+use Rattle.prg_expr.specs.declared.function.Function.{Function}
+use Rattle.prg_expr.specs.declared.function.Function.TheVariants as function
+use Rattle.prg_values.specs.declared.calls.Called.{Called}
+use Rattle.prg_values.specs.declared.calls.Called.TheVariants as called
+use Rattle.prg_values.specs.Written.{meaning, defaults}
+
+abbrev pub is_function : Called → Bool
+is_function (called.Function g) = true
+is_function (called.Question q) = false
+is_function called.Today = false
+is_function called.Choice = false
+
+not_so : {P : Type 0} → true ≡ false → P
+not_so e = absurd (cc)
+
+pub only_functions_fill : (f : Function) (n : ℕ) → is_function (meaning f) ≡ false → defaults f n ≡ []
+only_functions_fill function.Iif n e = refl
+only_functions_fill function.Len n e = not_so e
+only_functions_fill function.Substr n e = not_so e
+only_functions_fill function.Left n e = not_so e
+only_functions_fill function.Right n e = not_so e
+only_functions_fill function.Trim n e = not_so e
+only_functions_fill function.Ltrim n e = not_so e
+only_functions_fill function.Upper n e = not_so e
+only_functions_fill function.Lower n e = not_so e
+only_functions_fill function.Space n e = not_so e
+only_functions_fill function.Replicate n e = not_so e
+only_functions_fill function.At n e = not_so e
+only_functions_fill function.Stuff n e = not_so e
+only_functions_fill function.Asc n e = not_so e
+only_functions_fill function.Chr n e = not_so e
+only_functions_fill function.Val n e = not_so e
+only_functions_fill function.Str n e = not_so e
+only_functions_fill function.IsAlpha n e = not_so e
+only_functions_fill function.IsUpper n e = not_so e
+only_functions_fill function.IsLower n e = not_so e
+only_functions_fill function.Abs n e = not_so e
+only_functions_fill function.Int n e = not_so e
+only_functions_fill function.Mod n e = not_so e
+only_functions_fill function.Round n e = not_so e
+only_functions_fill function.Max n e = not_so e
+only_functions_fill function.Min n e = not_so e
+only_functions_fill function.Ctod n e = not_so e
+only_functions_fill function.Dtoc n e = not_so e
+only_functions_fill function.Day n e = not_so e
+only_functions_fill function.Month n e = not_so e
+only_functions_fill function.Year n e = not_so e
+only_functions_fill function.Dow n e = not_so e
+only_functions_fill function.Cdow n e = not_so e
+only_functions_fill function.Cmonth n e = not_so e
+only_functions_fill function.Recno n e = refl
+only_functions_fill function.Reccount n e = refl
+only_functions_fill function.Eof n e = refl
+only_functions_fill function.Bof n e = refl
+only_functions_fill function.Found n e = refl
+only_functions_fill function.Deleted n e = refl
+only_functions_fill function.Date n e = refl

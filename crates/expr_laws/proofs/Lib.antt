@@ -1,0 +1,14 @@
+pub mod Areas
+pub mod Blocks
+pub mod Conditions
+pub mod Defaults
+pub mod Machines
+pub mod Names
+pub mod Operands
+pub mod Options
+pub mod Readers
+pub mod Stacks
+pub mod Steps
+pub mod Told
+pub mod Trees
+pub mod Worlds

@@ -1,0 +1,29 @@
+-- What is there, and what is made of it.
+use Rattle.std.proofs.Common.{◌≡◌, Bool, true, false, Option, Some, None, refl}
+use Rattle.std.specs.Prelude.{if◌then◌else◌}
+use Rattle.prg_values.specs.Readings.{on_some}
+
+pub some_same : {A : Type 0} (a b : A) → Some a ≡ Some b → a ≡ b
+some_same a b e = cc
+
+pub none_some : {A : Type 0} (P : Type 0) (b : A) → None ≡ Some b → P
+none_some P b e = absurd (cc)
+
+-- it was there
+pub record Found {A B : Type 0} (x : Option A) (f : A → Option B) (b : B) : Type 0 where
+  pub a : A
+  pub there : x ≡ Some a
+  pub made : f a ≡ Some b
+
+pub found : {A B : Type 0} (x : Option A) (f : A → Option B) (b : B) → on_some x None f ≡ Some b → Found x f b
+found None f b e = none_some (Found None f b) b e
+found (Some a) f b e = record { a = a; there = refl; made = e }
+
+-- it passed the test
+pub record Passed {B : Type 0} (test : Bool) (x : Option B) (b : B) : Type 0 where
+  pub holds : test ≡ true
+  pub is : x ≡ Some b
+
+pub passed : {B : Type 0} (test : Bool) (x : Option B) (b : B) → (if test then x else None) ≡ Some b → Passed test x b
+passed true x b e = record { holds = refl; is = e }
+passed false x b e = none_some (Passed false x b) b e
