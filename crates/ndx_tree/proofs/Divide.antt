@@ -44,19 +44,19 @@ unfolding least_root
 least_root_two zero p = absurd (omega arith)
 least_root_two (suc h) p = rw add-one refl
 
-joined_append : (cs ds : List PageView) → joined (cs ++ ds) ≡ joined cs ++ joined ds
+pub joined_append : (cs ds : List PageView) → joined (cs ++ ds) ≡ joined cs ++ joined ds
 joined_append [] ds = refl
 joined_append (c ∷ cs) ds = ap (λ (m : List Pair). c.pairs ++ m) (joined_append cs ds) ∙ sym (append_assoc c.pairs (joined cs) (joined ds))
 
 joined_split : (i : ℕ) (cs : List PageView) → joined cs ≡ joined (take i cs) ++ joined (drop i cs)
 joined_split i cs = ap joined (sym (take-append-drop i cs)) ∙ joined_append (take i cs) (drop i cs)
 
-children_take : (h m i : ℕ) (cs : List PageView) → AreChildren h m cs → AreChildren h m (take i cs)
+pub children_take : (h m i : ℕ) (cs : List PageView) → AreChildren h m cs → AreChildren h m (take i cs)
 children_take h m zero cs a = tt
 children_take h m (suc i) [] a = tt
 children_take h m (suc i) (c ∷ cs) a = (a.0, children_take h m i cs a.1)
 
-children_drop : (h m i : ℕ) (cs : List PageView) → AreChildren h m cs → AreChildren h m (drop i cs)
+pub children_drop : (h m i : ℕ) (cs : List PageView) → AreChildren h m cs → AreChildren h m (drop i cs)
 children_drop h m zero cs a = a
 children_drop h m (suc i) [] a = tt
 children_drop h m (suc i) (c ∷ cs) a = children_drop h m i cs a.1

@@ -30,3 +30,4 @@ pub mod TextPages
 pub mod HeadFront
 pub mod WholeFile
 pub mod Starts
+pub mod Building

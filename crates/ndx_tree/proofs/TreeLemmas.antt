@@ -20,7 +20,7 @@ use Rattle.ndx_tree.proofs.Ordered.{Each-map, absent-Each, filter-all, differs, 
 use Rattle.ndx_tree.proofs.PairOrder.{is_before_strict}
 use Rattle.ndx_tree.proofs.Members.{Contains-here, Contains-later}
 use Rattle.ndx_tree.proofs.Sound.{IsKeyList-inserted, IsKeyList-without}
-use Rattle.ndx_tree.proofs.Divide.{least_root_one, least_root_pairs}
+use Rattle.ndx_tree.proofs.Divide.{least_root_pairs}
 use Rattle.ndx_tree.proofs.Rises.{rising_with_pair, length-with_pair}
 use Rattle.ndx_tree.proofs.Remove.{rising_without}
 
@@ -88,21 +88,18 @@ tree_low form root pool n t = root_low root.height (length root.pairs) t.top.tal
 pub tree_most : (form : KeyForm) (root : PageView) (pool : Pool) (n : ℕ) → IsTree form root pool n → (4 ≤ root.most) × (root.most ≤ 504)
 tree_most form root pool n t = (omega (arith, t.most, most_low form.key_length t.list.key_length.1), omega (arith, t.most, most_high form.key_length))
 
--- a leaf without pairs
-pub tree_empty : (form : KeyForm) (root : PageView) (pool : Pool) → IsKeyLength form.key_length → (Contains form.key_text 0 → ⊥) → root.pairs ≡ [] → root.height ≡ 1 → root.most ≡ most_entries form.key_length → pool.leaves.items ≡ [] → pool.inner.items ≡ [] → IsTree form root pool 0
-tree_empty form root pool fits text none one most leaves inner = record {
-  list = subst (IsKeyList form) (sym none) (record { key_length = fits; ordered = tt; keys = tt });
+-- a root over pairs that rise, with no page that stands ready
+pub tree_built : (form : KeyForm) (root : PageView) (pool : Pool) (pairs : List Pair) → IsKeyLength form.key_length → (Contains form.key_text 0 → ⊥) → Each (IsPairOf form.key_length) pairs → IsRising pairs → length pairs < 2 ^ 32 → IsRoot root → root.pairs ≡ pairs → root.most ≡ most_entries form.key_length → pool.leaves.items ≡ [] → pool.inner.items ≡ [] → IsTree form root pool 0
+tree_built form root pool pairs fits text keys rising few top is most leaves inner = record {
+  list = subst (IsKeyList form) (sym is) (record { key_length = fits; ordered = rising; keys = keys });
   text = text;
-  top = record { rising = subst IsRising (sym none) tt; tall = subst (λ h. least_root h ≤ length root.pairs) (sym one) (omega (arith, least_root_one)); inner = λ p. absurd (omega arith) };
+  top = top;
   most = most;
   stock = record { leaves = subst (Each (IsBlank root.most)) (sym leaves) tt; inner = subst (Each (IsInnerBlank root.most)) (sym inner) tt };
   one = omega arith;
   ready = λ p. absurd (omega arith);
-  few = lit_few (ap (λ (m : List Pair). length m) none);
+  few = subst (λ (m : List Pair). length m + 0 < 2 ^ 32) (sym is) (omega (arith, few));
 }
-  where
-    lit_few : length root.pairs ≡ 0 → length root.pairs + 0 < 2 ^ 32
-    lit_few e = omega (arith, e)
 
 -- a root that took a pair
 pub tree_kept : (form : KeyForm) (root new : PageView) (pool pool2 : Pool) (n m : ℕ) (x : Pair) → IsTree form root pool n → 0 < n → m ≡ n - 1 → IsPairOf form.key_length x → IsAbsent x root.pairs → Inserts root x new None → IsPool root.most pool2 → IsTree form new pool2 m

@@ -9,6 +9,7 @@ pub mod Falls
 pub mod Flat
 pub mod Blanks
 pub mod Trees
+pub mod Levels
 pub mod IndexFile
 pub mod IndexText
 pub mod Walk

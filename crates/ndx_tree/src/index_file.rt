@@ -29,9 +29,7 @@ fn tree_of(alloc: Global, head: Head, entries: Vec<Entry>) -> Result<NdxTree, Al
     ensures key_length { IfOk result (λ tree. tree.form.key_length ≡ head.length) }
     ensures key_text { IfOk result (λ tree. tree.form.key_text ≡ head.text.items) }
 {
-    let mut tree = NdxTree::empty(alloc, head.length, head.text)?;
-    tree.fill(&entries)?;
-    Ok(tree)
+    NdxTree::of_rising(alloc, head.length, head.text, &entries)
 }
 
 impl NdxTree {

@@ -5,6 +5,7 @@
 //! and `NdxTree` in a tree of pages, which it reads from an index file and writes to one.
 #![tactic(auto)]
 
+mod build;
 mod entries;
 pub mod entry;
 mod fault;

@@ -7,7 +7,7 @@ ghost use Rattle.std.specs.Prelude.{◌≡◌, ◌+◌, ◌<◌, ◌≤◌, [], 
 ghost use Rattle.std.specs.Vec.{vec_capacity, vec_len};
 ghost use Rattle.ndx_tree.specs.Order.{Each};
 ghost use Rattle.ndx_tree.specs.Rising.{IsAbsent, IsRising, last_of, first_from, last_below};
-ghost use Rattle.ndx_tree.specs.Pages.{PageView, joined, Inserts, InsertsInRoom, Removes, Joins, IsPage, IsChild, IsCut, IsMending, Mends, Divides};
+ghost use Rattle.ndx_tree.specs.Pages.{PageView, joined, view_of, Inserts, InsertsInRoom, Removes, Joins, IsPage, IsChild, IsCut, IsMending, Mends, Divides};
 ghost use Rattle.ndx_tree.specs.Blanks.{IsBlank, IsInnerBlank, IsPool};
 ghost use Rattle.ndx_tree.specs.Pairs.{Pair};
 ghost use Rattle.ndx_tree.specs.Flat.{HaveKeys, AreKeyed, room_for};
@@ -48,8 +48,8 @@ impl Model for Page {
 /// A page that has room and nothing yet.
 #[derive(Debug, Drop)]
 pub struct Blank {
-    entries: Entries,
-    children: Vec<Page>,
+    pub(crate) entries: Entries,
+    pub(crate) children: Vec<Page>,
 }
 
 /// The pages that stand ready for splits. A leaf has no room for children.
@@ -60,15 +60,14 @@ pub struct Pool {
 }
 
 impl Page {
-    /// A leaf without entries.
-    pub fn leaf(most: usize, blank: Blank) -> Page
-        requires four { 4 ≤ most }
-        requires blank { IsBlank most blank }
-        ensures pairs { result.pairs ≡ [] }
-        ensures height { result.height ≡ 1 }
-        ensures most { result.most ≡ most }
+    /// A page of these parts.
+    pub fn of_parts(most: usize, entries: Entries, children: Vec<Page>) -> Page
+        requires parts { IsPage most entries.items children.items }
+        requires full { length entries.items ≤ most }
+        requires room { room_for most ≤ entries.room }
+        requires child_room { 0 < vec_len children → most + most / 2 + 2 < vec_capacity children }
+        ensures { result ≡ view_of most entries.items children.items }
     {
-        let Blank { entries, children } = blank;
         Page {
             most,
             entries,

@@ -1,16 +1,17 @@
 //! A list of keys in a tree of pages.
 
-ghost use Rattle.std.specs.Prelude.{◌≡◌, ◌+◌, ◌*◌, ◌<◌, ◌≤◌, ◌^◌, ◌↔◌, length, reverse, IfOk, OnOk, Contains, [], ℕ, ◌-◌};
-ghost use Rattle.ndx_tree.specs.Order.{Each, IsDistinct, above, below, first, in_order};
+ghost use Rattle.std.specs.Prelude.{◌≡◌, ◌+◌, ◌*◌, ◌<◌, ◌≤◌, ◌^◌, ◌↔◌, length, reverse, IfOk, Contains, ℕ, ◌-◌};
+ghost use Rattle.ndx_tree.specs.Order.{Each, above, below, first};
 ghost use Rattle.ndx_tree.specs.Pairs.{is_before, pairs_from};
 ghost use Rattle.ndx_tree.specs.KeyForm.{KeyForm, IsKeyLength, IsPairOf};
 ghost use Rattle.ndx_tree.specs.Trees.{IsTree};
-ghost use Rattle.ndx_tree.specs.Rising.{IsAbsent, first_from, with_pair};
+ghost use Rattle.ndx_tree.specs.Rising.{IsAbsent, IsRising, first_from, with_pair};
 
+use crate::build::root_of;
 use crate::entry::Entry;
 use crate::key_list::KeyList;
 use crate::lists::held;
-use crate::page::{Blank, Page, Pool, take_inner};
+use crate::page::{Page, Pool, take_inner};
 use crate::sorted_keys::put_in_order;
 use arrayvec::ArrayVec;
 use ndx_page::{MAX_TEXT, most_entries};
@@ -46,27 +47,30 @@ impl Model for NdxTree {
 }
 
 impl NdxTree {
-    /// A tree without pairs.
-    pub(crate) fn empty(
+    /// The tree of fewer than 2^32 pairs that rise, made in time linear in their number.
+    pub(crate) fn of_rising(
         alloc: Global,
         key_length: usize,
         key_text: ArrayVec<u8, MAX_TEXT>,
+        entries: &[Entry],
     ) -> Result<NdxTree, AllocError>
         requires key_length { IsKeyLength key_length }
         requires key_text { ¬ Contains key_text.items 0 }
-        ensures pairs { IfOk result (λ t. t.pairs ≡ []) }
+        requires keys { Each (IsPairOf key_length) entries.now }
+        requires rising { IsRising entries.now }
+        requires few { length entries.now < 2 ^ 32 }
+        ensures pairs { IfOk result (λ t. t.pairs ≡ entries.now) }
         ensures key_length { IfOk result (λ t. t.form.key_length ≡ key_length) }
         ensures key_text { IfOk result (λ t. t.form.key_text ≡ key_text.items) }
     {
-        let most = most_entries(key_length);
         Ok(NdxTree {
             alloc,
             key_length,
             key_text,
-            root: Page::leaf(most, Blank::leaf(alloc, most)?),
+            root: root_of(alloc, most_entries(key_length), entries)?,
             pool: Pool::new(alloc),
             reserved: 0,
-            count: 0,
+            count: entries.len(),
             seen: 0,
         })
     }
@@ -147,22 +151,6 @@ impl NdxTree {
         self.seen = 0;
         self.root.last_below(key, u64::from(number), &mut self.seen)
     }
-
-    /// Adds pairs to a tree without any. It is fastest where they are in order, since each then goes in at the end.
-    pub(crate) fn fill(&mut self, entries: &[Entry]) -> Result<(), AllocError>
-        requires empty { self.old.pairs ≡ [] }
-        requires keys { Each (IsPairOf self.old.form.key_length) entries.now }
-        requires distinct { IsDistinct entries.now }
-        requires few { length entries.now < 2 ^ 32 }
-        ensures pairs { OnOk result (self.new.pairs ≡ in_order is_before entries.now) }
-        ensures form { self.new.form ≡ self.old.form }
-    {
-        for entry in entries {
-            self.reserve_one()?;
-            self.insert(entry.key(), entry.number());
-        }
-        Ok(())
-    }
 }
 
 // Puts a pair that is not there below a root, which becomes two pages and a root over them where it is too full. It
@@ -194,9 +182,7 @@ impl KeyList for NdxTree {
         mut entries: Vec<Entry>,
     ) -> Result<Self, AllocError> {
         put_in_order(&mut entries);
-        let mut tree = NdxTree::empty(alloc, key_length, held(key_text))?;
-        tree.fill(&entries)?;
-        Ok(tree)
+        NdxTree::of_rising(alloc, key_length, held(key_text), &entries)
     }
 
     fn len(&self) -> usize {

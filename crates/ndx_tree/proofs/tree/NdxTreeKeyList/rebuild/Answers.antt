@@ -1,25 +1,16 @@
-use Rattle.std.proofs.Common.{◌∙◌, sym, subst}
-use Rattle.ndx_tree.specs.Order.{Each}
-use Rattle.ndx_tree.specs.KeyForm.{IsPairOf}
+use Rattle.std.proofs.Common.{◌∙◌}
+use Rattle.std.proofs.lemmas.Result.{IfOk-weaker}
 use Rattle.ndx_tree.proofs.Filling.{sorted_again}
 use Rattle.ndx_tree.proofs.tree.NdxTreeKeyList.rebuild.Goals as goal
 
-pub fill-requires-clause-keys : goal.fill-requires-clause-keys
-fill-requires-clause-keys c =
-    let s = sorted_again c.args.key_length c.args.entries.items c.deref.result.now (c.deref.ensures.value ∙ c.put_in_order.ensures.pairs) c.requires.keys c.requires.distinct c.requires.few in
-    subst (λ n. Each (IsPairOf n) c.deref.result.now) (sym c.in_ok-tree.ensures.key_length) s.keys
+pub of_rising-requires-clause-keys : goal.of_rising-requires-clause-keys
+of_rising-requires-clause-keys c = (sorted_again c.args.key_length c.args.entries.items c.deref.result.now (c.deref.ensures.value ∙ c.put_in_order.ensures.pairs) c.requires.keys c.requires.distinct c.requires.few).keys
 
-pub fill-requires-clause-distinct : goal.fill-requires-clause-distinct
-fill-requires-clause-distinct c =
-    let s = sorted_again c.args.key_length c.args.entries.items c.deref.result.now (c.deref.ensures.value ∙ c.put_in_order.ensures.pairs) c.requires.keys c.requires.distinct c.requires.few in
-    s.distinct
+pub of_rising-requires-clause-rising : goal.of_rising-requires-clause-rising
+of_rising-requires-clause-rising c = (sorted_again c.args.key_length c.args.entries.items c.deref.result.now (c.deref.ensures.value ∙ c.put_in_order.ensures.pairs) c.requires.keys c.requires.distinct c.requires.few).rising
 
-pub fill-requires-clause-few : goal.fill-requires-clause-few
-fill-requires-clause-few c =
-    let s = sorted_again c.args.key_length c.args.entries.items c.deref.result.now (c.deref.ensures.value ∙ c.put_in_order.ensures.pairs) c.requires.keys c.requires.distinct c.requires.few in
-    s.few
+pub of_rising-requires-clause-few : goal.of_rising-requires-clause-few
+of_rising-requires-clause-few c = (sorted_again c.args.key_length c.args.entries.items c.deref.result.now (c.deref.ensures.value ∙ c.put_in_order.ensures.pairs) c.requires.keys c.requires.distinct c.requires.few).few
 
 pub returns-clause-pairs : goal.returns-clause-pairs
-returns-clause-pairs c =
-    let s = sorted_again c.args.key_length c.args.entries.items c.deref.result.now (c.deref.ensures.value ∙ c.put_in_order.ensures.pairs) c.requires.keys c.requires.distinct c.requires.few in
-    c.in_ok-fill.ensures.pairs ∙ s.same
+returns-clause-pairs c = IfOk-weaker c.of_rising.result _ _ (λ tree e. e ∙ (c.deref.ensures.value ∙ c.put_in_order.ensures.pairs)) c.of_rising.ensures.pairs

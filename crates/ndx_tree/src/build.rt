@@ -1,0 +1,183 @@
+//! A tree from pairs that rise, level by level.
+//!
+//! Each level's pages are made from the last to the first. Every page is full but two beside each other, which share
+//! what is left, so that each page but the root is at least half full.
+
+ghost use Rattle.std.specs.Prelude.{◌≡◌, ℕ, ◌+◌, ◌*◌, ◌-◌, ◌/◌, ◌<◌, ◌≤◌, [], length, take, drop, IfOk, OnOk};
+ghost use Rattle.std.specs.Vec.{vec_len};
+ghost use Rattle.ndx_tree.specs.Flat.{HaveKeys, AreKeyed};
+ghost use Rattle.ndx_tree.specs.Levels.{IsAbove};
+ghost use Rattle.ndx_tree.specs.Order.{Each};
+ghost use Rattle.ndx_tree.specs.Pages.{AreChildren, IsCut, joined, view_of};
+ghost use Rattle.ndx_tree.specs.Rising.{IsRising};
+ghost use Rattle.ndx_tree.specs.Trees.{IsRoot};
+
+use crate::entries::Entries;
+use crate::entry::Entry;
+use crate::lists::move_tail;
+use crate::page::{Blank, Page};
+use std::alloc::{AllocError, Global};
+
+// How many of those that are left one page gets: as many as it may have, or half of them, where the page after it would
+// get too few.
+fn share(left: usize, most: usize, least: usize) -> usize
+    requires some { 0 < least }
+    requires enough { least ≤ left }
+    requires half { 2 * least ≤ most + 1 }
+    requires bound { most < 1000 }
+    ensures least { least ≤ result }
+    ensures most { result ≤ most }
+    ensures within { result ≤ left }
+    ensures rest { result < left → result + least ≤ left }
+{
+    if left <= most {
+        return left;
+    }
+    if left >= most + least {
+        return most;
+    }
+    left / 2
+}
+
+// Puts entries into an empty row that has room.
+fn fill_row(row: &mut Entries, entries: &[Entry])
+    requires empty { row.old.items ≡ [] }
+    requires keyed { (k : ℕ) × HaveKeys k entries.now × (length entries.now * (k + 4) ≤ row.old.room) }
+    ensures items { row.new.items ≡ entries.now }
+    ensures room { row.old.room ≤ row.new.room }
+{
+    for entry in entries {
+        let end = row.len();
+        row.put(end, entry);
+    }
+}
+
+// A leaf of these entries.
+fn leaf_with(alloc: Global, most: usize, entries: &[Entry]) -> Result<Page, AllocError>
+    requires most { (4 ≤ most) × (most < 1000) }
+    requires rising { IsRising entries.now }
+    requires keyed { AreKeyed most entries.now }
+    requires full { length entries.now ≤ most }
+    ensures { IfOk result (λ page. page ≡ view_of most entries.now []) }
+{
+    let Blank {
+        entries: mut row,
+        children,
+    } = Blank::leaf(alloc, most)?;
+    fill_row(&mut row, entries);
+    Ok(Page::of_parts(most, row, children))
+}
+
+// The leaves of more entries than one page may have.
+fn leaves(alloc: Global, most: usize, entries: &[Entry]) -> Result<Vec<Page>, AllocError>
+    requires most { (4 ≤ most) × (most < 1000) }
+    requires rising { IsRising entries.now }
+    requires keyed { AreKeyed most entries.now }
+    requires more { most < length entries.now }
+    ensures level { IfOk result (λ row. AreChildren 1 most row.items) }
+    ensures pairs { IfOk result (λ row. joined row.items ≡ entries.now) }
+    ensures two { IfOk result (λ row. 1 < vec_len row) }
+{
+    let mut row = Vec::new(alloc);
+    let mut left = entries;
+    while !left.is_empty() {
+        let count = share(left.len(), most, most / 2);
+        let (front, last) = left.split_at(left.len() - count);
+        row.push(leaf_with(alloc, most, last)?)?;
+        left = front;
+    }
+    row.reverse();
+    Ok(row)
+}
+
+// Puts the last pair of each child but the last one into an empty row that has room.
+fn separate(row: &mut Entries, children: &[Page])
+    requires empty { row.old.items ≡ [] }
+    requires some { 0 < length children.now }
+    requires filled { Each (λ c. 0 < length c.pairs) children.now }
+    requires keyed { (k : ℕ) × HaveKeys k (joined children.now) × (length children.now * (k + 4) ≤ row.old.room) }
+    ensures cut { IsCut row.new.items children.now }
+    ensures room { row.old.room ≤ row.new.room }
+{
+    for at in 1..children.len() {
+        let mut seen = 0;
+        let last = children[at - 1].last_pair(&mut seen);
+        row.put(at - 1, &last);
+    }
+}
+
+// A page above the last so many of a row, which it takes out.
+fn parent(alloc: Global, most: usize, row: &mut Vec<Page>, count: usize) -> Result<Page, AllocError>
+    requires most { (4 ≤ most) × (most < 1000) }
+    requires level { (h : ℕ) × AreChildren h most row.old.items }
+    requires rising { IsRising (joined row.old.items) }
+    requires keyed { AreKeyed most (joined row.old.items) }
+    requires two { 1 < count }
+    requires full { count ≤ most + 1 }
+    requires within { count ≤ vec_len row.old }
+    ensures row { OnOk result (row.new.items ≡ take (vec_len row.old - count) row.old.items) }
+    ensures above { IfOk result (λ page. IsAbove most (drop (vec_len row.old - count) row.old.items) page) }
+{
+    let Blank {
+        mut entries,
+        mut children,
+    } = Blank::inner(alloc, most)?;
+    let kept = row.len() - count;
+    move_tail(row, kept, &mut children);
+    separate(&mut entries, &children);
+    Ok(Page::of_parts(most, entries, children))
+}
+
+// The pages above a row of more than one page may have below it.
+fn parents(alloc: Global, most: usize, mut row: Vec<Page>) -> Result<Vec<Page>, AllocError>
+    requires most { (4 ≤ most) × (most < 1000) }
+    requires level { (h : ℕ) × AreChildren h most row.items }
+    requires rising { IsRising (joined row.items) }
+    requires keyed { AreKeyed most (joined row.items) }
+    requires more { most + 1 < vec_len row }
+    ensures level { IfOk result (λ above. (h : ℕ) → AreChildren h most row.items → AreChildren (h + 1) most above.items) }
+    ensures pairs { IfOk result (λ above. joined above.items ≡ joined row.items) }
+    ensures two { IfOk result (λ above. 1 < vec_len above) }
+    ensures fewer { IfOk result (λ above. vec_len above < vec_len row) }
+{
+    let mut above = Vec::new(alloc);
+    while !row.is_empty() {
+        let count = share(row.len(), most + 1, most / 2 + 1);
+        above.push(parent(alloc, most, &mut row, count)?)?;
+    }
+    above.reverse();
+    Ok(above)
+}
+
+// The root above a row of pages.
+fn root_above(alloc: Global, most: usize, mut row: Vec<Page>) -> Result<Page, AllocError>
+    requires most { (4 ≤ most) × (most < 1000) }
+    requires level { (h : ℕ) × AreChildren h most row.items }
+    requires rising { IsRising (joined row.items) }
+    requires keyed { AreKeyed most (joined row.items) }
+    requires two { 1 < vec_len row }
+    ensures root { IfOk result IsRoot }
+    ensures pairs { IfOk result (λ root. root.pairs ≡ joined row.items) }
+    ensures most { IfOk result (λ root. root.most ≡ most) }
+{
+    if row.len() > most + 1 {
+        return root_above(alloc, most, parents(alloc, most, row)?);
+    }
+    let count = row.len();
+    parent(alloc, most, &mut row, count)
+}
+
+/// The root of a tree of entries that rise.
+pub(crate) fn root_of(alloc: Global, most: usize, entries: &[Entry]) -> Result<Page, AllocError>
+    requires most { (4 ≤ most) × (most < 1000) }
+    requires rising { IsRising entries.now }
+    requires keyed { AreKeyed most entries.now }
+    ensures root { IfOk result IsRoot }
+    ensures pairs { IfOk result (λ root. root.pairs ≡ entries.now) }
+    ensures most { IfOk result (λ root. root.most ≡ most) }
+{
+    if entries.len() <= most {
+        return leaf_with(alloc, most, entries);
+    }
+    root_above(alloc, most, leaves(alloc, most, entries)?)
+}
