@@ -1,7 +1,7 @@
 //! A tree from pairs that rise, level by level.
 //!
-//! Each level's pages are made from the last to the first. Every page is full but two beside each other, which share
-//! what is left, so that each page but the root is at least half full.
+//! Each level's pages are made from the last to the first, and are full. What is left at the front is one page, or two
+//! that share it, so that each page but the root is at least half full.
 
 ghost use Rattle.std.specs.Prelude.{◌≡◌, ℕ, ◌+◌, ◌*◌, ◌-◌, ◌/◌, ◌<◌, ◌≤◌, [], length, take, drop, IfOk, OnOk};
 ghost use Rattle.std.specs.Vec.{vec_len};
