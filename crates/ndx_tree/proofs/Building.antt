@@ -152,9 +152,6 @@ pub two_more : (made left left2 count most : ℕ) → (made ≡ 0 → most < lef
 two_more zero left left2 count most none full e = let more : most < left = none refl in omega arith
 two_more (suc made) left left2 count most none full e = omega arith
 
-pub two_at_last : (made left most : ℕ) → (made ≡ 0 → most < left) → 1 < made + left → left ≡ 0 → 1 < made
-two_at_last made left most none two e = omega arith
-
 -- children have pairs
 pub children_some : (h most : ℕ) (cs : List PageView) → AreChildren h most cs → Each (λ c. 0 < length c.pairs) cs
 children_some h most [] a = tt
