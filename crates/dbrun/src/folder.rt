@@ -4,18 +4,23 @@
 ghost use Rattle.std.specs.Prelude.{◌≡◌, ◌≤◌};
 ghost use Rattle.file_access.specs.Holding.{Rose};
 
+use crate::shown::Audience;
 use file_access::{Device, Files, ReadFault, read_within};
 use std::alloc::{Alloc, AllocError, Global};
 use std::fs::{self, OpenFile};
-use std::io::{self, ErrorKind, Write};
+use std::io::{self, Eprint, ErrorKind, Write};
 use std::rt::Files as Disk;
 
 /// The files of the folder in which the program runs.
 #[derive(Drop)]
 pub struct Folder<'a, R> {
     rt: &'a R,
+    audience: Audience,
     failures: u64,
 }
+
+/// The least bytes of a file whose reading or writing a person is told of: 8 MiB.
+const LONG: u64 = 8_388_608;
 
 /// The name of the file beside one, under which its new bytes are written first.
 fn beside(alloc: Global, name: &str) -> Result<String, AllocError> {
@@ -37,10 +42,21 @@ fn put<R: Disk>(rt: &R, path: &str, name: &str, bytes: &[u8]) -> io::Result<()> 
     fs::rename(rt, path, name)
 }
 
-impl<'a, R: Disk + Alloc<A = Global>> Folder<'a, R> {
-    /// The folder, with no failure counted yet.
-    pub fn new(rt: &'a R) -> Folder<'a, R> {
-        Folder { rt, failures: 0 }
+impl<'a, R: Disk + Eprint + Alloc<A = Global>> Folder<'a, R> {
+    /// The folder, with no failure counted yet. A person is told of long files while they are read and written.
+    pub fn new(rt: &'a R, audience: Audience) -> Folder<'a, R> {
+        Folder {
+            rt,
+            audience,
+            failures: 0,
+        }
+    }
+
+    /// Tells a person what goes on with a file of so many bytes, if they are many.
+    fn tell(&self, doing: &str, name: &str, size: u64) {
+        if self.audience == Audience::Person && size >= LONG {
+            let _ = eprintln!(self.rt; "{doing} {name}");
+        }
     }
 
     /// Counts a failure of the device.
@@ -54,7 +70,7 @@ impl<'a, R: Disk + Alloc<A = Global>> Folder<'a, R> {
     }
 }
 
-impl<R: Disk + Alloc<A = Global>> Files for Folder<'_, R> {
+impl<R: Disk + Eprint + Alloc<A = Global>> Files for Folder<'_, R> {
     ghost holds = { λ _ _ _. Unit {0} };
 
     ghost failed = { λ folder. folder.failures };
@@ -69,6 +85,9 @@ impl<R: Disk + Alloc<A = Global>> Files for Folder<'_, R> {
                 };
             }
         };
+        if let Ok(size) = file.metadata().map(|data| data.len()) {
+            self.tell("reading", name, size);
+        }
         match read_within(alloc, &mut file, limit) {
             Ok(bytes) => Ok(bytes),
             Err(ReadFault::Device) => Err(self.fail()),
@@ -83,6 +102,7 @@ impl<R: Disk + Alloc<A = Global>> Files for Folder<'_, R> {
             self.fail();
             return Err(Device);
         };
+        self.tell("writing", name, bytes.len() as u64);
         if put(self.rt, path.as_str(), name, bytes).is_err() {
             let _ = fs::remove_file(self.rt, path.as_str());
             self.fail();

@@ -5,15 +5,19 @@
 #![tactic(auto)]
 
 mod folder;
+mod shown;
 mod words;
 
 use crate::folder::Folder;
+use crate::shown::{Audience, Place, faulty_place, line_at};
 use crate::words::{Words, WordsFault, command, sources_of, words_of};
 use clap::error::ErrorKind;
 use clap::{ArgMatches, Command};
 use compile_commands::{CompileFilesRefusal, CompileTold, CompileWords, compile_files};
-use file_access::{ReadFault, read_within};
-use file_commands::{Refusal, Status, list_code, list_index, list_table, of_refusal, verify_file};
+use file_access::{Files, ReadFault, read_within};
+use file_commands::{
+    FILE_LIMIT, Refusal, Status, list_code, list_index, list_table, of_refusal, verify_file,
+};
 use run_commands::{Job, RecordLimit, Report, RunDay, run_files};
 use shape_files::ShapeRefusal;
 use std::alloc::Global;
@@ -58,8 +62,19 @@ fn of_compiling(refusal: &CompileFilesRefusal) -> Status {
     }
 }
 
+/// Shows a faulty line on standard error, where its file can still be read.
+fn show_faulty<R: Runtime<A = Global>>(rt: &R, place: Place<'_>) {
+    let mut folder = Folder::new(rt, Audience::Pipe);
+    if let Ok(bytes) = folder.read(rt.alloc(), place.file, FILE_LIMIT) {
+        if let Some(line) = line_at(bytes.as_slice(), place.line) {
+            let _ = eprintln!(rt; "  {line}");
+        }
+    }
+}
+
 fn compile<'a, R: Runtime<A = Global>>(
     rt: &R,
+    audience: Audience,
     decl: &'a str,
     out: &'a str,
     names: &'a [&'a str],
@@ -67,18 +82,21 @@ fn compile<'a, R: Runtime<A = Global>>(
     if names.is_empty() {
         return Err(WordsFault::Missing);
     }
-    let mut folder = Folder::new(rt);
-    match compile_files(rt.alloc(), &mut folder, decl, out, names) {
-        Ok(()) => Ok(Status::Done),
-        Err(refusal) => {
-            let told = CompileTold {
-                refusal: &refusal,
-                words: CompileWords { decl, out, names },
-            };
-            let _ = eprintln!(rt; "{told}");
-            Ok(of_compiling(&refusal))
-        }
+    let mut folder = Folder::new(rt, audience);
+    let refusal = match compile_files(rt.alloc(), &mut folder, decl, out, names) {
+        Ok(()) => return Ok(Status::Done),
+        Err(refusal) => refusal,
+    };
+    let words = CompileWords { decl, out, names };
+    let told = CompileTold {
+        refusal: &refusal,
+        words,
+    };
+    let _ = eprintln!(rt; "{told}");
+    if let (Audience::Person, Some(place)) = (audience, faulty_place(&refusal, words)) {
+        show_faulty(rt, place);
     }
+    Ok(of_compiling(&refusal))
 }
 
 /// Prints the rows of a run, and then how it ended.
@@ -109,7 +127,7 @@ struct Asked<'a> {
     day: RunDay,
 }
 
-fn run<R: Runtime<A = Global>>(rt: &R, asked: Asked<'_>) -> Status {
+fn run<R: Runtime<A = Global>>(rt: &R, audience: Audience, asked: Asked<'_>) -> Status {
     let input = match typed(rt) {
         Ok(input) => input,
         Err(status) => return status,
@@ -122,13 +140,13 @@ fn run<R: Runtime<A = Global>>(rt: &R, asked: Asked<'_>) -> Status {
         day: asked.day,
         input: input.as_slice(),
     };
-    let mut folder = Folder::new(rt);
+    let mut folder = Folder::new(rt, audience);
     let done = run_files(rt.alloc(), &mut folder, &job);
     report(rt, asked.name, &done)
 }
 
-fn verify<R: Runtime<A = Global>>(rt: &R, name: &str) -> Status {
-    let mut folder = Folder::new(rt);
+fn verify<R: Runtime<A = Global>>(rt: &R, audience: Audience, name: &str) -> Status {
+    let mut folder = Folder::new(rt, audience);
     let (written, status) = match verify_file(rt.alloc(), &mut folder, name) {
         Ok(None) => (println!(rt; "accepted"), Status::Done),
         Ok(Some(refused)) => (println!(rt; "refused {refused}"), Status::Refused),
@@ -153,25 +171,29 @@ fn print_lines<R: Runtime<A = Global>>(rt: &R, listed: Result<Vec<u8>, Refusal<'
     }
 }
 
-fn code<R: Runtime<A = Global>>(rt: &R, name: &str) -> Status {
-    print_lines(rt, list_code(rt.alloc(), &mut Folder::new(rt), name))
+fn code<R: Runtime<A = Global>>(rt: &R, audience: Audience, name: &str) -> Status {
+    let mut folder = Folder::new(rt, audience);
+    print_lines(rt, list_code(rt.alloc(), &mut folder, name))
 }
 
-fn list<R: Runtime<A = Global>>(rt: &R, name: &str) -> Status {
-    print_lines(rt, list_table(rt.alloc(), &mut Folder::new(rt), name))
+fn list<R: Runtime<A = Global>>(rt: &R, audience: Audience, name: &str) -> Status {
+    let mut folder = Folder::new(rt, audience);
+    print_lines(rt, list_table(rt.alloc(), &mut folder, name))
 }
 
-fn index<R: Runtime<A = Global>>(rt: &R, name: &str) -> Status {
-    print_lines(rt, list_index(rt.alloc(), &mut Folder::new(rt), name))
+fn index<R: Runtime<A = Global>>(rt: &R, audience: Audience, name: &str) -> Status {
+    let mut folder = Folder::new(rt, audience);
+    print_lines(rt, list_index(rt.alloc(), &mut folder, name))
 }
 
 fn carry_out<R: Runtime<A = Global>>(
     rt: &R,
+    audience: Audience,
     words: Words<'_>,
     sources: &[&str],
 ) -> Result<Status, WordsFault> {
     match words {
-        Words::Compile { decl, out } => compile(rt, decl, out, sources),
+        Words::Compile { decl, out } => compile(rt, audience, decl, out, sources),
         Words::Run {
             name,
             budget,
@@ -179,6 +201,7 @@ fn carry_out<R: Runtime<A = Global>>(
             day,
         } => Ok(run(
             rt,
+            audience,
             Asked {
                 name,
                 checked: false,
@@ -194,6 +217,7 @@ fn carry_out<R: Runtime<A = Global>>(
             day,
         } => Ok(run(
             rt,
+            audience,
             Asked {
                 name,
                 checked: true,
@@ -202,22 +226,23 @@ fn carry_out<R: Runtime<A = Global>>(
                 day,
             },
         )),
-        Words::Verify { name } => Ok(verify(rt, name)),
-        Words::Code { name } => Ok(code(rt, name)),
-        Words::List { name } => Ok(list(rt, name)),
-        Words::Index { name } => Ok(index(rt, name)),
+        Words::Verify { name } => Ok(verify(rt, audience, name)),
+        Words::Code { name } => Ok(code(rt, audience, name)),
+        Words::List { name } => Ok(list(rt, audience, name)),
+        Words::Index { name } => Ok(index(rt, audience, name)),
     }
 }
 
 /// Carries out what was parsed.
 fn carry_out_all<R: Runtime<A = Global>>(
     rt: &R,
+    audience: Audience,
     matches: &ArgMatches<'_>,
 ) -> Result<Status, WordsFault> {
     match words_of(matches) {
         Ok(words) => match sources_of(matches) {
-            Some(sources) => carry_out(rt, words, sources),
-            None => carry_out(rt, words, &[]),
+            Some(sources) => carry_out(rt, audience, words, sources),
+            None => carry_out(rt, audience, words, &[]),
         },
         Err(fault) => Err(fault),
     }
@@ -265,12 +290,12 @@ fn refuse_fault(rt: &impl Runtime, command: &mut Command<'_>, fault: WordsFault)
 }
 
 /// Parses the words and carries them out.
-fn answer<R: Runtime<A = Global>>(rt: &R, arguments: &[String]) -> Status {
+fn answer<R: Runtime<A = Global>>(rt: &R, audience: Audience, arguments: &[String]) -> Status {
     let Ok(mut command) = command(rt.alloc()) else {
         return no_memory(rt);
     };
     match command.try_get_matches_from_mut(arguments) {
-        Ok(matches) => match carry_out_all(rt, &matches) {
+        Ok(matches) => match carry_out_all(rt, audience, &matches) {
             Ok(status) => status,
             Err(fault) => refuse_fault(rt, &mut command, fault),
         },
@@ -284,8 +309,9 @@ fn arguments<R: Runtime<A = Global>>(rt: &R) -> io::Result<Vec<String>> {
 }
 
 fn main(rt: HostRuntime) -> ExitCode {
+    let audience = Audience::of(&rt.stderr());
     let status = match arguments(&rt) {
-        Ok(arguments) => answer(&rt, arguments.as_slice()),
+        Ok(arguments) => answer(&rt, audience, arguments.as_slice()),
         Err(error) if error.kind() == io::ErrorKind::OutOfMemory => no_memory(&rt),
         Err(error) => {
             let _ = eprintln!(rt; "{error}");

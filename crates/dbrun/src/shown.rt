@@ -1,0 +1,94 @@
+// What a person at a terminal is shown beside what the program says.
+#![tactic(auto)]
+
+use compile_commands::{CompileFilesRefusal, CompileWords, SourceFault};
+use shape_files::{DeclFault, ShapeRefusal};
+use std::fmt::{self, Display, Formatter, Write};
+use std::io::IsTerminal;
+
+/// Who reads standard error.
+#[derive(Clone, Copy, Debug, PartialEq, Eq)]
+pub enum Audience {
+    /// A person at a terminal, who is shown more.
+    Person,
+    /// A file or another program: not a byte more than what is documented.
+    Pipe,
+}
+
+impl Audience {
+    /// Who reads a stream.
+    pub fn of(stream: &impl IsTerminal) -> Audience {
+        if stream.is_terminal() {
+            Audience::Person
+        } else {
+            Audience::Pipe
+        }
+    }
+}
+
+/// A line of a file, counted from 1.
+#[derive(Clone, Copy, Debug)]
+pub struct Place<'a> {
+    pub file: &'a str,
+    pub line: usize,
+}
+
+/// Where a refusal found a line faulty, if it names one.
+pub fn faulty_place<'a>(
+    refusal: &CompileFilesRefusal,
+    words: CompileWords<'a>,
+) -> Option<Place<'a>> {
+    match refusal {
+        CompileFilesRefusal::Declarations(ShapeRefusal::Refused(DeclFault::Line { line, .. })) =>
+            Some(Place {
+                file: words.decl,
+                line: *line,
+            }),
+        CompileFilesRefusal::Source { file, fault } => {
+            let line = match fault {
+                SourceFault::Parse { line, .. } | SourceFault::Compile { line, .. } => *line,
+                SourceFault::Absent | SourceFault::TooLong => 0,
+            };
+            let file = words.names.get(*file)?;
+            Some(Place { file, line })
+        }
+        _ => None,
+    }
+}
+
+/// The most bytes of a line that are shown.
+const WIDTH: usize = 76;
+
+/// A line as it is shown: its first 76 bytes, of which those that aren't printed are question marks, so that no file can
+/// send a terminal what it obeys.
+#[derive(Clone, Copy, Debug)]
+pub struct Line<'a> {
+    bytes: &'a [u8],
+}
+
+/// The line of that number, if there is one. A line ends before a line feed, and before a carriage return there.
+pub fn line_at(bytes: &[u8], line: usize) -> Option<Line<'_>> {
+    let bytes = bytes
+        .split(|byte| *byte == b'\n')
+        .nth(line.checked_sub(1)?)?;
+    Some(Line {
+        bytes: bytes.strip_suffix(b"\r").unwrap_or(bytes),
+    })
+}
+
+impl Display for Line<'_> {
+    fn fmt<W: Write>(&self, f: &mut Formatter<W>) -> fmt::Result {
+        for byte in self.bytes.iter().take(WIDTH) {
+            let shown = match byte {
+                b'\t' => ' ',
+                b' '..=b'~' => char::from(*byte),
+                _ => '?',
+            };
+            f.write_char(shown)?;
+        }
+        if self.bytes.len() > WIDTH {
+            f.write_str(" ..")?;
+        }
+        Ok(())
+    }
+}
