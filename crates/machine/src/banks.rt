@@ -1,6 +1,6 @@
 //! The banks: a stack for each kind, slots with a place for each kind, and all else that a run changes.
 
-ghost use Rattle.std.specs.Prelude.{◌≡◌, ◌<◌, IfOk, IfSome, length, slice_get};
+ghost use Rattle.std.specs.Prelude.{◌≡◌, IfOk, IsSomeAnd, MatchOption, None, slice_get};
 ghost use Rattle.machine.specs.Twins.{Begins};
 ghost use Rattle.row_keys.specs.Lists.{index_list};
 ghost use Rattle.run_steps.specs.Opening.{opening as opening_of};
@@ -60,12 +60,11 @@ impl<K: KeyList> Banks<K> {
         self.machine.store()
     }
 
-    /// The list of an open index of a declared table, by its place among those that are open there, both counted from 0. At
-    /// whatever step a run has ended, it is never stale, and lists the keys of the table's rows in order.
-    pub fn open_keys(&self, table: u16, k: usize) -> &K
-        requires table { table < length self.now.env.store.tables }
-        requires open { IfSome (table_at self.now.env.store table) (λ o. k < length o.list) }
-        ensures { IfSome (table_at self.now.env.store table) (λ o. IfSome (slice_get o.list k) (λ n. K.pairs result.now ≡ index_list (parts_in (mark_at o.table.marks n)) o.table.rows)) }
+    /// The list of an open index of a declared table, by its place among those that are open there, both counted from 0; none where
+    /// there is no such table, or fewer are open. At whatever step a run has ended, it is never stale, and lists the keys of the
+    /// table's rows in order.
+    pub fn open_keys(&self, table: u16, k: usize) -> Option<&K>
+        ensures { MatchOption (table_at self.now.env.store table) (result ≡ None) (λ o. MatchOption (slice_get o.list k) (result ≡ None) (λ n. IsSomeAnd result (λ keys. K.pairs keys.now ≡ index_list (parts_in (mark_at o.table.marks n)) o.table.rows))) }
     {
         self.machine.store().open_keys(table, k)
     }

@@ -14,14 +14,33 @@ pub struct HandMap<'a> {
     pub stack: &'a [u8],
 }
 
-/// A code of one procedure: its stack bound, constants as they stand in the file, maps and instructions.
+/// How many instructions a procedure has, and its level of calls.
+pub type HandProcedure = (usize, u8);
+
+/// A code: its stack bound, tables and constants as they stand in the file, procedures, maps and instructions.
 #[derive(Clone, Copy, Debug)]
 pub struct HandCode<'a> {
     pub stack_bound: u16,
     pub slots: u16,
+    pub tables: &'a [&'a [u8]],
     pub constants: &'a [&'a [u8]],
+    /// None where the instructions are one procedure's, of level 0.
+    pub procedures: &'a [HandProcedure],
     pub maps: &'a [HandMap<'a>],
     pub instructions: &'a [Parts],
+}
+
+/// A code of one procedure without tables, constants and maps.
+pub fn plain<'a>(stack_bound: u16, slots: u16, instructions: &'a [Parts]) -> HandCode<'a> {
+    HandCode {
+        stack_bound,
+        slots,
+        tables: &[],
+        constants: &[],
+        procedures: &[],
+        maps: &[],
+        instructions,
+    }
 }
 
 fn put_two(out: &mut Vec<u8>, number: u16) -> Result<(), AllocError> {
@@ -43,12 +62,12 @@ fn put_header(out: &mut Vec<u8>, code: &HandCode<'_>) -> Result<(), AllocError> 
     put_two(out, code.stack_bound)?;
     put_two(out, code.slots)?;
     for count in [
-        0,
+        code.tables.len(),
         0,
         0,
         code.constants.len(),
         0,
-        1,
+        code.procedures.len().max(1),
         code.maps.len(),
         code.instructions.len(),
     ] {
@@ -57,22 +76,33 @@ fn put_header(out: &mut Vec<u8>, code: &HandCode<'_>) -> Result<(), AllocError> 
     Ok(())
 }
 
-fn put_procedure(out: &mut Vec<u8>, alloc: Global, code: &HandCode<'_>) -> Result<(), AllocError> {
+fn put_procedure(out: &mut Vec<u8>, free: &[u8], procedure: HandProcedure) -> Result<(), AllocError> {
+    let (length, level) = procedure;
+    put_two(out, (length & 0xffff) as u16)?;
+    out.push(level)?;
+    put_state(out, free, &[])?;
+    put_state(out, free, &[])
+}
+
+fn put_procedures(out: &mut Vec<u8>, alloc: Global, code: &HandCode<'_>) -> Result<(), AllocError> {
     let free = vec![in alloc; 0u8; code.slots as usize]?;
-    put_two(out, (code.instructions.len() & 0xffff) as u16)?;
-    out.push(0)?;
-    put_state(out, free.as_slice(), &[])?;
-    put_state(out, free.as_slice(), &[])
+    if code.procedures.is_empty() {
+        put_procedure(out, free.as_slice(), (code.instructions.len(), 0))?;
+    }
+    for procedure in code.procedures {
+        put_procedure(out, free.as_slice(), *procedure)?;
+    }
+    Ok(())
 }
 
 /// The file of a code.
 pub fn assembled(alloc: Global, code: &HandCode<'_>) -> Result<Vec<u8>, AllocError> {
     let mut out = Vec::new(alloc);
     put_header(&mut out, code)?;
-    for constant in code.constants {
-        out.extend_from_slice(constant)?;
+    for item in code.tables.iter().chain(code.constants) {
+        out.extend_from_slice(item)?;
     }
-    put_procedure(&mut out, alloc, code)?;
+    put_procedures(&mut out, alloc, code)?;
     for map in code.maps {
         put_two(&mut out, map.place)?;
         put_state(&mut out, map.slots, map.stack)?;

@@ -2,8 +2,11 @@
 #![tactic(auto)]
 
 use super::cases::{CODE, Case, compiled, entries, run_case};
-use super::moves::{filtered, first_smith, reopened, smiths};
-use super::records::{keys, letters, of_t, removed};
+use super::moves::{filtered, first_smith, reopened, shrinking, smiths};
+use super::records::{bill, customer, full, keys, letters, of_t, removed};
+use super::screens::{centuries, numbers, scrolling, texts_and_dates, typed};
+use super::second::{DATED_COST, dated, days, three_tables, unsure};
+use super::tables::table;
 use file_access::{MemoryEntry, MemoryFiles, WORKS_FOR_EVER};
 use run_commands::Report;
 use std::alloc::{AllocError, Global};
@@ -65,6 +68,86 @@ fn first_unlike(alloc: Global, case: &Case<'_>, cost: u64) -> Result<Option<u64>
         }
     }
     Ok(None)
+}
+
+/// The first case, by its place, and the first budget up to its whole cost at which the machines run it otherwise.
+fn first_unlike_of(
+    alloc: Global,
+    cases: &[Case<'_>],
+    costs: &[u64],
+) -> Result<Option<(usize, u64)>, AllocError> {
+    for (place, (case, cost)) in cases.iter().zip(costs).enumerate() {
+        if let Some(budget) = first_unlike(alloc, case, *cost)? {
+            return Ok(Some((place, budget)));
+        }
+    }
+    Ok(None)
+}
+
+#[test]
+fn what_is_printed(rt: HostRuntime) -> Result<(), Fail> {
+    let alloc = rt.alloc();
+    assert_eq!(rt; first_unlike_of(alloc, &numbers(), &[19, 11, 44])?, None);
+    assert_eq!(rt; first_unlike_of(alloc, &texts_and_dates(), &[24, 17])?, None);
+    assert_eq!(rt; first_unlike_of(alloc, &typed(), &[10, 13])?, None);
+    assert_eq!(rt; first_unlike_of(alloc, &centuries(), &[20])?, None);
+    assert_eq!(rt; first_unlike_of(alloc, &scrolling(), &[428])?, None);
+    Ok(())
+}
+
+#[test]
+fn added_records(rt: HostRuntime) -> Result<(), Fail> {
+    let bytes = table(rt.alloc(), &[(b"NAME", b'C', 10, 0)], &[])?;
+    let files = [MemoryEntry {
+        name: "CUST.DBF",
+        bytes: &bytes,
+    }];
+    assert_eq!(rt; first_unlike(rt.alloc(), &customer(&files), 12)?, None);
+    Ok(())
+}
+
+#[test]
+fn changed_records(rt: HostRuntime) -> Result<(), Fail> {
+    let bytes = table(rt.alloc(), &[(b"AMT", b'N', 5, 2)], &[b" 10.00"])?;
+    let files = [MemoryEntry {
+        name: "BILL.DBF",
+        bytes: &bytes,
+    }];
+    assert_eq!(rt; first_unlike(rt.alloc(), &bill(&files), 14)?, None);
+    Ok(())
+}
+
+/// A third record that costs 1 after three steps is the first that meets the full table.
+#[test]
+fn full_tables(rt: HostRuntime) -> Result<(), Fail> {
+    let bytes = keys(rt.alloc(), 1, &[])?;
+    let files = [of_t(&bytes)];
+    assert_eq!(rt; first_unlike(rt.alloc(), &full(&files), 4)?, None);
+    Ok(())
+}
+
+#[test]
+fn changed_keys(rt: HostRuntime) -> Result<(), Fail> {
+    let bytes = keys(rt.alloc(), 5, &[b"   998", b"   999"])?;
+    let files = [of_t(&bytes)];
+    assert_eq!(rt; first_unlike(rt.alloc(), &shrinking(&files), 200)?, None);
+    Ok(())
+}
+
+#[test]
+fn areas_of_which_nothing_is_known(rt: HostRuntime) -> Result<(), Fail> {
+    let bytes = keys(rt.alloc(), 1, &[b" A"])?;
+    let files = three_tables(&bytes);
+    assert_eq!(rt; first_unlike(rt.alloc(), &unsure(&files), 12)?, None);
+    Ok(())
+}
+
+#[test]
+fn filters_on_the_texts_of_dates(rt: HostRuntime) -> Result<(), Fail> {
+    let bytes = days(rt.alloc())?;
+    let files = [of_t(&bytes)];
+    assert_eq!(rt; first_unlike(rt.alloc(), &dated(&files), DATED_COST)?, None);
+    Ok(())
 }
 
 #[test]

@@ -22,6 +22,10 @@ mod records;
 #[cfg(test)]
 mod screens;
 #[cfg(test)]
+mod resumed;
+#[cfg(test)]
+mod second;
+#[cfg(test)]
 mod stored;
 #[cfg(test)]
 mod tables;

@@ -51,7 +51,7 @@ fn adds_a_customer(rt: HostRuntime) -> Result<(), Fail> {
 }
 
 /// A number that doesn't fit its field.
-fn bill<'a>(files: &'a [MemoryEntry<'a>]) -> Case<'a> {
+pub fn bill<'a>(files: &'a [MemoryEntry<'a>]) -> Case<'a> {
     Case {
         declarations: "TABLE BILL\n",
         files,
@@ -76,7 +76,7 @@ fn fills_a_field_with_asterisks(rt: HostRuntime) -> Result<(), Fail> {
 }
 
 /// A third record where two are the limit.
-fn full<'a>(files: &'a [MemoryEntry<'a>]) -> Case<'a> {
+pub fn full<'a>(files: &'a [MemoryEntry<'a>]) -> Case<'a> {
     Case {
         declarations: "TABLE T\n",
         files,

@@ -18,7 +18,7 @@ fn first_wrong<'a>(
     Ok(None)
 }
 
-fn numbers() -> [Case<'static>; 3] {
+pub fn numbers() -> [Case<'static>; 3] {
     [
         printing(
             "? 1/3, 2/3, -2/3\n",
@@ -44,7 +44,7 @@ fn prints_numbers(rt: HostRuntime) -> Result<(), Fail> {
     Ok(())
 }
 
-fn texts_and_dates() -> [Case<'static>; 2] {
+pub fn texts_and_dates() -> [Case<'static>; 2] {
     [
         printing(
             "? \"ABC\" = \"AB\", \"AB\" = \"ABC\", \"AB\" = \"\"\nSET EXACT ON\n? \"AB \" = \"AB\"\n",
@@ -65,7 +65,22 @@ fn prints_texts_and_dates(rt: HostRuntime) -> Result<(), Fail> {
     Ok(())
 }
 
-fn typed() -> [Case<'static>; 2] {
+/// Dates with the century and without it.
+pub fn centuries() -> [Case<'static>; 1] {
+    [printing(
+        "SET CENTURY ON\n? CTOD(\"02/29/88\") + 366, LEN(DTOC(CTOD(\"\")))\nSET CENTURY OFF\n? CTOD(\"12/31/2001\")\n",
+        "03/01/1989         10\n12/31/01\n",
+        "finished 20",
+    )]
+}
+
+#[test]
+fn prints_centuries(rt: HostRuntime) -> Result<(), Fail> {
+    assert_eq!(rt; first_wrong(rt.alloc(), &centuries())?, None);
+    Ok(())
+}
+
+pub fn typed() -> [Case<'static>; 2] {
     let get = printing(
         "X = 5\n@ 2,0 GET X\nREAD\n? X\n",
         "\n\n         5\n         5\n",
@@ -91,7 +106,7 @@ fn takes_lines(rt: HostRuntime) -> Result<(), Fail> {
 }
 
 /// Twenty-six rows on a screen of twenty-five, which is cleared then.
-fn scrolling() -> [Case<'static>; 1] {
+pub fn scrolling() -> [Case<'static>; 1] {
     [printing(
         "I = 1\nDO WHILE I <= 26\n? STR(I,2)\nI = I + 1\nENDDO\nCLEAR\n? \"Z\"\n",
         " 1\n 2\n 3\n 4\n 5\n 6\n 7\n 8\n 9\n10\n11\n12\n13\n14\n15\n16\n17\n18\n19\n20\n21\n22\n23\n24\n25\n26\nZ\n",

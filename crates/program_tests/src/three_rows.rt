@@ -1,7 +1,7 @@
 // The loop that prints three rows `A`, and the same with a load of the wrong kind.
 #![tactic(auto)]
 
-use super::assembler::{HandCode, HandMap, Parts, assembled};
+use super::assembler::{HandCode, HandMap, Parts, assembled, plain};
 use super::stored::{
     NAME, comes_to, day_of, entry, is_refused, job, run, run_alike, stored, verdict,
 };
@@ -54,12 +54,11 @@ pub fn three_rows(alloc: Global, kind: u8) -> Result<Vec<u8>, AllocError> {
         slots: &[LOGICAL, LOGICAL],
         stack: &[],
     };
+    let instructions = instructions(kind);
     let code = HandCode {
-        stack_bound: 1,
-        slots: 2,
         constants: &[&[LOGICAL, 1], &[LOGICAL, 0], &[TEXT, 1, b'A']],
         maps: &[known, HandMap { place: 14, ..known }],
-        instructions: &instructions(kind),
+        ..plain(1, 2, &instructions)
     };
     assembled(alloc, &code)
 }
@@ -203,12 +202,8 @@ fn lists_a_jump(rt: HostRuntime) -> Result<(), Fail> {
     Ok(())
 }
 
-/// The verdict on the three rows as a file of this version, with byte 255 for the first work area of these maps.
-fn verdict_with(
-    alloc: Global,
-    version: u8,
-    areas: &[usize],
-) -> Result<Result<Option<Refused>, Refusal<'static>>, AllocError> {
+/// The three rows as a file of this version, with byte 255 for the first work area of these maps.
+fn of_version(alloc: Global, version: u8, areas: &[usize]) -> Result<Vec<u8>, AllocError> {
     let mut bytes = three_rows(alloc, LOGICAL)?;
     for area in areas {
         if let Some(byte) = bytes.get_mut(*area) {
@@ -218,6 +213,16 @@ fn verdict_with(
     if let Some(byte) = bytes.get_mut(4) {
         *byte = version;
     }
+    Ok(bytes)
+}
+
+/// The verdict on such a file.
+fn verdict_with(
+    alloc: Global,
+    version: u8,
+    areas: &[usize],
+) -> Result<Result<Option<Refused>, Refusal<'static>>, AllocError> {
+    let bytes = of_version(alloc, version, areas)?;
     Ok(verdict(alloc, &bytes))
 }
 
@@ -239,14 +244,19 @@ fn verifies_the_second_version(rt: HostRuntime) -> Result<(), Fail> {
     Ok(())
 }
 
-/// The second version runs as the first does.
+/// The first budget at which a machine runs a file of the second version, with byte 255 for the first work area of these maps,
+/// otherwise than the first version.
+fn first_wrong_in_second(alloc: Global, areas: &[usize]) -> Result<Option<u64>, AllocError> {
+    let bytes = of_version(alloc, 2, areas)?;
+    let checked = first_wrong_budget(alloc, &bytes, true);
+    let untagged = first_wrong_budget(alloc, &bytes, false);
+    Ok(checked.or(untagged).or(first_unlike(alloc, &bytes)))
+}
+
+/// The second version runs as the first does, also where nothing is known of a work area.
 #[test]
 fn runs_the_second_version(rt: HostRuntime) -> Result<(), Fail> {
-    let mut bytes = three_rows(rt.alloc(), LOGICAL)?;
-    if let Some(byte) = bytes.get_mut(4) {
-        *byte = 2;
-    }
-    assert_eq!(rt; first_wrong_budget(rt.alloc(), &bytes, true), None);
-    assert_eq!(rt; first_wrong_budget(rt.alloc(), &bytes, false), None);
+    assert_eq!(rt; first_wrong_in_second(rt.alloc(), &[])?, None);
+    assert_eq!(rt; first_wrong_in_second(rt.alloc(), &IN_MAPS)?, None);
     Ok(())
 }

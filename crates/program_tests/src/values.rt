@@ -1,7 +1,7 @@
 // Small codes by hand over numbers, dates, settings and functions, by both machines.
 #![tactic(auto)]
 
-use super::assembler::{HandCode, Parts, assembled};
+use super::assembler::{HandCode, Parts, assembled, plain};
 use super::stored::{comes_to, day_of, ends, run_alike, run_on};
 use run_commands::{How, RunDay};
 use std::alloc::{AllocError, Global};
@@ -77,11 +77,8 @@ fn ends_so(alloc: Global, code: &HandCode<'_>, rows: &str, steps: u64) -> Result
 
 fn hand<'a>(constants: &'a [&'a [u8]], instructions: &'a [Parts]) -> HandCode<'a> {
     HandCode {
-        stack_bound: 2,
-        slots: 0,
         constants,
-        maps: &[],
-        instructions,
+        ..plain(2, 0, instructions)
     }
 }
 

@@ -1,6 +1,6 @@
 //! A table in use.
 
-ghost use Rattle.std.specs.Prelude.{◌≡◌, ℕ, ◌+◌, ◌-◌, ◌<◌, ◌≤◌, Bool, true, false, Some, None, [], OnOk, OnErr, Err, ◌↔◌, length, is_none, unwrap_or, IfSome, IsSomeAnd, true, is_ok, is_some, ◌∷◌, slice_get, slice_index_or, All, ◌*◌};
+ghost use Rattle.std.specs.Prelude.{◌≡◌, ℕ, ◌+◌, ◌-◌, ◌<◌, ◌≤◌, Bool, true, false, Some, None, [], OnOk, OnErr, Err, ◌↔◌, MatchOption, length, is_none, unwrap_or, IfSome, IsSomeAnd, true, is_ok, is_some, ◌∷◌, slice_get, slice_index_or, All, ◌*◌};
 ghost use Rattle.std.specs.Fn.{FnReturnsAt};
 ghost use Rattle.dbf_file.specs.Rows.{blank_row, row_at};
 ghost use Rattle.dbf_file.specs.Tables.{letter_at, decimals_at, row_widths};
@@ -115,14 +115,14 @@ impl<K: KeyList> OpenTable<K> {
         &self.table
     }
 
-    /// The list of an open index, by its place among the open ones, counted from 0. It is never stale, and lists the rows.
-    pub fn open_keys(&self, k: usize) -> &K
-        requires { k < length self.now.list }
-        ensures { IfSome (slice_get self.now.list k) (λ n. K.pairs result.now ≡ index_list (parts_in (mark_at self.now.table.marks n)) self.now.table.rows) }
+    /// The list of an open index, by its place among the open ones, counted from 0; none where fewer are open. It is never stale,
+    /// and lists the rows.
+    pub fn open_keys(&self, k: usize) -> Option<&K>
+        ensures { MatchOption (slice_get self.now.list k) (result ≡ None) (λ n. IsSomeAnd result (λ keys. K.pairs keys.now ≡ index_list (parts_in (mark_at self.now.table.marks n)) self.now.table.rows)) }
     {
-        match self.table.keys(self.list[k]) {
-            Some(keys) => keys,
-            None => unreachable!(),
+        match self.list.get(k) {
+            Some(number) => self.table.keys(*number),
+            None => None,
         }
     }
 

@@ -184,26 +184,6 @@ impl<K: KeyList> IndexedTable<K> {
         self.table.set_mark(r, marked);
     }
 
-    /// Declares an index, which is stale.
-    pub fn declare(
-        &mut self,
-        number: u8,
-        key: KeyParts,
-        text: ArrayVec<u8, 100>,
-    ) -> Result<(), AllocError>
-        requires key { IsKey self.old.structure key }
-        requires text { IsKeyText text.items }
-        ensures ok { OnOk result (self.new ≡ record {
-          structure = self.old.structure;
-          rows = self.old.rows;
-          marks = self.old.marks ++ (record { number = number; parts = key; text = text.items; stale = true }) ∷ [];
-        }) }
-        ensures err { OnErr result (self.new ≡ self.old) }
-    {
-        self.slots.push(Slot::new(number, key, text, None))?;
-        Ok(())
-    }
-
     /// Declares an index with a list of its key, which isn't stale where the list lists just the rows; with none, or where it
     /// lists others, it is stale. Where memory is missing, all is as it was.
     pub fn declare_with(

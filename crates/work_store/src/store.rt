@@ -1,6 +1,6 @@
 //! The ten work areas.
 
-ghost use Rattle.std.specs.Prelude.{◌≡◌, ℕ, ◌+◌, ◌-◌, ◌<◌, ◌≤◌, ◌↔◌, Bool, true, false, Some, [], ◌∷◌, length, slice_get, is_some, is_none, unwrap_or, IfSome, IsSome, OnOk, OnErr, IfOk, Err, map};
+ghost use Rattle.std.specs.Prelude.{◌≡◌, ℕ, ◌+◌, ◌-◌, ◌<◌, ◌≤◌, ◌↔◌, Bool, true, false, Some, [], ◌∷◌, length, slice_get, is_some, is_none, unwrap_or, IfSome, IsSome, IsSomeAnd, MatchOption, None, OnOk, OnErr, IfOk, Err, map};
 ghost use Rattle.std.specs.Fn.{FnReturnsAt};
 ghost use Rattle.std.specs.List.{list_all};
 ghost use Rattle.dbf_file.specs.Tables.{letter_at};
@@ -558,14 +558,15 @@ impl<K: KeyList> Store<K> {
         self.tables[usize::from(t)].table().table()
     }
 
-    /// The list of an open index of a declared table, by its place among those that are open there, counted from 0. It is never
-    /// stale, and lists the table's rows.
-    pub fn open_keys(&self, t: u16, k: usize) -> &K
-        requires table { t < length self.now.tables }
-        requires open { IfSome (table_at self.now t) (λ o. k < length o.list) }
-        ensures { IfSome (table_at self.now t) (λ o. IfSome (slice_get o.list k) (λ n. K.pairs result.now ≡ index_list (parts_in (mark_at o.table.marks n)) o.table.rows)) }
+    /// The list of an open index of a declared table, by its place among those that are open there, both counted from 0; none where
+    /// there is no such table, or fewer are open. It is never stale, and lists the table's rows.
+    pub fn open_keys(&self, t: u16, k: usize) -> Option<&K>
+        ensures { MatchOption (table_at self.now t) (result ≡ None) (λ o. MatchOption (slice_get o.list k) (result ≡ None) (λ n. IsSomeAnd result (λ keys. K.pairs keys.now ≡ index_list (parts_in (mark_at o.table.marks n)) o.table.rows))) }
     {
-        self.tables[usize::from(t)].open_keys(k)
+        match self.tables.get(usize::from(t)) {
+            Some(table) => table.open_keys(k),
+            None => None,
+        }
     }
 
     /// The list of a declared index by its number, counted from 0; none where it is stale, or there is no such index. It lists
