@@ -50,7 +50,7 @@ fn is_within_limits(c: &Counts) -> bool
 }
 
 #[tactic(auto, unfolding(crate::specs::Decoding::number_at_front))]
-fn number_of(bytes: &[u8]) -> Result<(u16, &[u8]), CodeFault>
+fn next_number(bytes: &[u8]) -> Result<(u16, &[u8]), CodeFault>
     ensures { Gives (λ x. (x.0, x.1.now)) result (number_at_front bytes.now) }
 {
     match two_of(bytes) {
@@ -64,16 +64,16 @@ fn number_of(bytes: &[u8]) -> Result<(u16, &[u8]), CodeFault>
 fn counts_of(bytes: &[u8]) -> Result<(Counts, &[u8]), CodeFault>
     ensures { Gives (λ x. (x.0, x.1.now)) result (counts_at bytes.now) }
 {
-    let (stack_bound, rest) = number_of(bytes)?;
-    let (slots, rest) = number_of(rest)?;
-    let (tables, rest) = number_of(rest)?;
-    let (indexes, rest) = number_of(rest)?;
-    let (lists, rest) = number_of(rest)?;
-    let (constants, rest) = number_of(rest)?;
-    let (filters, rest) = number_of(rest)?;
-    let (procedures, rest) = number_of(rest)?;
-    let (maps, rest) = number_of(rest)?;
-    let (instructions, rest) = number_of(rest)?;
+    let (stack_bound, rest) = next_number(bytes)?;
+    let (slots, rest) = next_number(rest)?;
+    let (tables, rest) = next_number(rest)?;
+    let (indexes, rest) = next_number(rest)?;
+    let (lists, rest) = next_number(rest)?;
+    let (constants, rest) = next_number(rest)?;
+    let (filters, rest) = next_number(rest)?;
+    let (procedures, rest) = next_number(rest)?;
+    let (maps, rest) = next_number(rest)?;
+    let (instructions, rest) = next_number(rest)?;
     let counts = Counts {
         stack_bound,
         slots,

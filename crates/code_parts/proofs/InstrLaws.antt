@@ -2,7 +2,7 @@
 use Rattle.std.proofs.Common.{◌≡◌, ℕ, ◌^◌, ◌<◌, Bool, true, false, eqb, eq-eqb, Some, Ok, refl, subst, arith}
 use Rattle.std.specs.Prelude.{◌&&◌}
 use Rattle.std.proofs.lemmas.Bool.{eqb-true, ltb-true}
-use Rattle.xvalue.specs.Signature.{number_of, NumbersAgree}
+use Rattle.xvalue.specs.Signature.{function_number, NumbersAgree}
 use Rattle.code_items.specs.declared.declared.Version.{Version}
 use Rattle.xvalue.specs.declared.settings.Setting.TheVariants.{Exact, Deleted, Century}
 use Rattle.code_items.specs.declared.instr.Question.TheVariants.{Recno, Reccount, Eof, Bof, Found, Deleted as IsDeleted}
@@ -155,7 +155,7 @@ values_fit version (Load kind slot) h = number_fits 0x02 (kind_number kind) slot
 values_fit version (Store kind slot) h = number_fits 0x03 (kind_number kind) slot h
 values_fit version (Unset slot) h = number_fits 0x04 0 slot h
 values_fit version (Discard kind) h = no_numbers 0x05 (kind_number kind)
-values_fit version (Function fun) h = no_numbers 0x08 (number_of fun)
+values_fit version (Function fun) h = no_numbers 0x08 (function_number fun)
 values_fit version Today h = no_numbers 0x09 7
 values_fit version (Set setting on) h = truth_fits 0x46 (setting_number setting) on
 

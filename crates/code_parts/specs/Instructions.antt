@@ -3,7 +3,7 @@ use Rattle.std.specs.Prelude.{ℕ, List, ◌∷◌, ◌++◌, Bool, ◌&&◌, �
 use Rattle.std.specs.Option.{option_and_then}
 use Rattle.std.specs.Int.{w16, w32, to_le_bytes}
 use Rattle.xvalue.specs.declared.kind.Kind.{Kind}
-use Rattle.xvalue.specs.Signature.{number_of, numbered}
+use Rattle.xvalue.specs.Signature.{function_number, numbered}
 use Rattle.code_items.specs.declared.declared.Version.{Version}
 use Rattle.xvalue.specs.declared.settings.Setting.{Setting}
 use Rattle.xvalue.specs.declared.settings.Setting.TheVariants.{Exact, Deleted, Century}
@@ -57,7 +57,7 @@ parts_of_values (Load kind slot) = of_parts 0x02 (kind_number kind) slot 0
 parts_of_values (Store kind slot) = of_parts 0x03 (kind_number kind) slot 0
 parts_of_values (Unset slot) = of_parts 0x04 0 slot 0
 parts_of_values (Discard kind) = of_parts 0x05 (kind_number kind) 0 0
-parts_of_values (Function fun) = of_parts 0x08 (number_of fun) 0 0
+parts_of_values (Function fun) = of_parts 0x08 (function_number fun) 0 0
 parts_of_values Today = of_parts 0x09 7 0 0
 parts_of_values (Set setting on) = of_parts 0x46 (setting_number setting) (truth_number on) 0
 

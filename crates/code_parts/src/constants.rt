@@ -4,7 +4,7 @@ ghost use Rattle.std.specs.Prelude.{◌≡◌};
 ghost use Rattle.code_parts.specs.Reading.{Gives};
 ghost use Rattle.code_parts.specs.Items.{decimal_from as decimal_from_parts, decimal_at, date_from as date_from_parts, date_at, text_from as text_from_bytes, text_value_at, truth_from as truth_from_byte, truth_at, value_at, constant_at};
 
-use crate::fields::{byte_of, eight_of, text_of, two_of};
+use crate::fields::{byte_of, eight_of, counted_text, two_of};
 use crate::flaw::{Flaw, Unread};
 use crate::kinds::truth_of_number;
 use crate::several::Reads;
@@ -67,14 +67,14 @@ fn text_from(bytes: &[u8]) -> Result<Value, Flaw>
     if bytes.len() > 254 {
         return Err(Flaw::Shape);
     }
-    Ok(Value::Text(xvalue::text_of(bytes)))
+    Ok(Value::Text(xvalue::text_from(bytes)))
 }
 
 #[tactic(auto, unfolding(crate::specs::Items::text_value_at))]
 fn text_value_of(bytes: &[u8]) -> Result<(Result<Value, Flaw>, &[u8]), Unread>
     ensures { Gives (λ x. (x.0, x.1.now)) result (text_value_at bytes.now) }
 {
-    let (text, rest) = text_of(bytes)?;
+    let (text, rest) = counted_text(bytes)?;
     Ok((text_from(text), rest))
 }
 

@@ -54,7 +54,7 @@ pub fn eight_of(bytes: &[u8]) -> Result<(u64, &[u8]), Unread>
 }
 
 /// A byte that says how many follow, those, and the bytes behind them.
-pub fn text_of(bytes: &[u8]) -> Result<(&[u8], &[u8]), Unread>
+pub fn counted_text(bytes: &[u8]) -> Result<(&[u8], &[u8]), Unread>
     ensures { Gives (λ x. (x.0.now, x.1.now)) result (text_at bytes.now) }
 {
     let (count, rest) = byte_of(bytes)?;

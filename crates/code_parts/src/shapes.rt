@@ -4,7 +4,7 @@ ghost use Rattle.std.specs.Prelude.{◌≡◌, Ok};
 ghost use Rattle.code_parts.specs.Reading.{Gives, judge, both, in_list};
 ghost use Rattle.code_parts.specs.Items.{name_from as name_from_bytes, name_at, field_from as field_from_parts, field_at, table_at, part_from as part_from_parts, part_at, index_from as index_from_parts, index_at, list_from as list_from_bytes, list_at};
 
-use crate::fields::{byte_of, text_of};
+use crate::fields::{byte_of, counted_text};
 use crate::flaw::{Flaw, Unread};
 use crate::kinds::truth_of_number;
 use crate::several::{Reads, read_counted};
@@ -28,7 +28,7 @@ fn name_from(bytes: &[u8]) -> Result<Name, Flaw>
 fn name_of(bytes: &[u8]) -> Result<(Result<Name, Flaw>, &[u8]), Unread>
     ensures { Gives (λ x. (x.0, x.1.now)) result (name_at bytes.now) }
 {
-    let (text, rest) = text_of(bytes)?;
+    let (text, rest) = counted_text(bytes)?;
     Ok((name_from(text), rest))
 }
 
@@ -202,7 +202,7 @@ impl Reads for Lists {
         _alloc: Global,
         bytes: &'a [u8],
     ) -> Result<(Result<IndexList, Flaw>, &'a [u8]), Unread> {
-        let (text, rest) = text_of(bytes)?;
+        let (text, rest) = counted_text(bytes)?;
         Ok((list_from(text), rest))
     }
 }

@@ -1,7 +1,7 @@
 -- Why files aren't compiled.
 use Rattle.std.specs.Prelude.{◌≡◌, ℕ, ◌<◌, List, [], Option, Some, None, length}
 use Rattle.file_access.specs.Holding.{Holds, Rose}
-use Rattle.prg_expr.specs.declared.fault.FaultKind.{FaultKind}
+use Rattle.prg_expr.specs.declared.fault.ParseFaultKind.{ParseFaultKind}
 use Rattle.prg_parser.specs.Marks.{marks}
 use Rattle.prg_parser.specs.Verdict.{verdict}
 use Rattle.shape_files.specs.Refusals.{IsTooLong, ShapeRefusalIs}
@@ -12,7 +12,7 @@ use Rattle.compile_commands.specs.declared.refusal.SourceFault.TheVariants.{Abse
 use Rattle.compile_commands.specs.Compiling.{name_at}
 
 -- the file may hold a command file whose first fault is this
-pub record HasFault (holds : Option (List ℕ) → Type 0) (line : ℕ) (kind : FaultKind) : Type 0 where
+pub record HasFault (holds : Option (List ℕ) → Type 0) (line : ℕ) (kind : ParseFaultKind) : Type 0 where
   pub bytes : List ℕ
   pub held : holds (Some bytes)
   pub told : verdict [] None (marks bytes) ≡ Some (record { line = line; kind = kind })

@@ -1,7 +1,7 @@
 //! Why files aren't compiled.
 
-use prg_compile::FaultKind as CompileKind;
-use prg_parser::FaultKind as ParseKind;
+use prg_compile::CompileFaultKind;
+use prg_parser::ParseFaultKind;
 use shape_files::{ShapeRefusal, file_of};
 use std::fmt;
 use thiserror::Error;
@@ -17,10 +17,10 @@ pub enum SourceFault {
     TooLong,
     /// A line of it can't be read, or a block isn't ended.
     #[error("line {line} {kind:?}")]
-    Parse { line: usize, kind: ParseKind },
+    Parse { line: usize, kind: ParseFaultKind },
     /// A command of it can't be compiled; line 0 where the code as a whole is too large.
     #[error("line {line} {kind}")]
-    Compile { line: usize, kind: CompileKind },
+    Compile { line: usize, kind: CompileFaultKind },
 }
 
 /// Why files aren't compiled. Command files go by their numbers, counted from 0.

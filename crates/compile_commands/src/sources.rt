@@ -7,7 +7,7 @@ ghost use Rattle.compile_commands.specs.Refusals.{SourceRefusalIs, SourcesRefusa
 
 use crate::refusal::{CompileFilesRefusal, SourceFault};
 use file_access::{Files, ReadFault};
-use prg_parser::{ParseFault, Program, Refusal, Text, parse};
+use prg_parser::{ParseFault, Program, ParseRefusal, Text, parse};
 use shape_files::FILE_LIMIT;
 use std::alloc::Global;
 
@@ -74,11 +74,11 @@ fn program_of<F: Files>(
     let bytes = source_bytes(alloc, files, name, file)?;
     match parse(alloc, bytes.as_slice()) {
         Ok(program) => Ok(program.named(program_name(name))),
-        Err(Refusal::Fault(ParseFault { line, kind })) => Err(CompileFilesRefusal::Source {
+        Err(ParseRefusal::Fault(ParseFault { line, kind })) => Err(CompileFilesRefusal::Source {
             file,
             fault: SourceFault::Parse { line, kind },
         }),
-        Err(Refusal::Memory) => Err(CompileFilesRefusal::Memory),
+        Err(ParseRefusal::Memory) => Err(CompileFilesRefusal::Memory),
     }
 }
 

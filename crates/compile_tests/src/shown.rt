@@ -9,7 +9,7 @@ use code_items::{IndexShape, Items, KeyPart, KeyParts, Name, Shape, TableShape, 
 use code_verify::Verified;
 use dbf_file::{Field, Letter};
 use prg_compile::{CompileRefusal, compile};
-use prg_parser::{Program, Refusal, parse};
+use prg_parser::{Program, ParseRefusal, parse};
 use std::alloc::{AllocError, Global};
 use std::process::Abort;
 use std::test::Fail;
@@ -116,12 +116,12 @@ fn programs_of(alloc: Global, row: &str) -> Result<Result<Vec<Program>, String>,
         let lines = lines_of(alloc, text)?;
         match parse(alloc, &lines) {
             Ok(program) => programs.push(named(program, name))?,
-            Err(Refusal::Fault(fault)) => {
+            Err(ParseRefusal::Fault(fault)) => {
                 let line = fault.line;
                 let kind = fault.kind;
                 return Ok(Err(format!(in alloc; "parse {line} {kind:?}")?));
             }
-            Err(Refusal::Memory) => return Ok(Err(String::from_str(alloc, "memory")?)),
+            Err(ParseRefusal::Memory) => return Ok(Err(String::from_str(alloc, "memory")?)),
         }
     }
     Ok(Ok(programs))

@@ -9,7 +9,7 @@ ghost use Rattle.dbf_file.specs.Values.{kind_for, is_blank, number_in, day_in, i
 
 use crate::field::{Field, Letter, MAX_DECIMALS};
 use fixed_num::{Num, Parts};
-use xvalue::{Day, DayParts, Kind, Text, Value, text_of};
+use xvalue::{Day, DayParts, Kind, Text, Value, text_from};
 
 /// The most bytes of a text value.
 const TEXT_BYTES: usize = 254;
@@ -125,7 +125,7 @@ fn is_yes(byte: u8) -> bool
 fn text_in(text: &[u8]) -> Text
     ensures { result.items ≡ take 254 text.now }
 {
-    text_of(&text[..text.len().min(TEXT_BYTES)])
+    text_from(&text[..text.len().min(TEXT_BYTES)])
 }
 
 /// Whether the first byte stands for true.

@@ -1,7 +1,7 @@
 //! Expressions, their trees and their faults.
 
 use crate::texts::{Nest, nested};
-use prg_expr::{FaultKind, ParseFault, Refusal, expr, expression, is_word, name_of, words};
+use prg_expr::{ParseFaultKind, ParseFault, ParseRefusal, expr, expression, is_word, name_of, words};
 use std::alloc::{AllocError, Global};
 use std::process::Abort;
 use std::test::Fail;
@@ -10,15 +10,15 @@ use std::test::Fail;
 fn shown(alloc: Global, text: &[u8]) -> Result<String, AllocError> {
     match expr(alloc, text) {
         Ok(tree) => format!(in alloc; "{tree:?}"),
-        Err(Refusal::Fault(ParseFault { line, kind })) => format!(in alloc; "{line} {kind:?}"),
-        Err(Refusal::Memory) => String::from_str(alloc, "memory"),
+        Err(ParseRefusal::Fault(ParseFault { line, kind })) => format!(in alloc; "{line} {kind:?}"),
+        Err(ParseRefusal::Memory) => String::from_str(alloc, "memory"),
     }
 }
 
 /// The fault of a text.
-fn fault_of(alloc: Global, text: &[u8]) -> Option<FaultKind> {
+fn fault_of(alloc: Global, text: &[u8]) -> Option<ParseFaultKind> {
     match expr(alloc, text) {
-        Err(Refusal::Fault(ParseFault { line: 1, kind })) => Some(kind),
+        Err(ParseRefusal::Fault(ParseFault { line: 1, kind })) => Some(kind),
         _ => None,
     }
 }
@@ -232,7 +232,7 @@ fn same_tree(rt: HostRuntime) -> Result<(), Fail> {
 fn expect_nests(
     rt: &impl Abort,
     alloc: Global,
-    nests: &[(Nest<'_>, Option<FaultKind>)],
+    nests: &[(Nest<'_>, Option<ParseFaultKind>)],
 ) -> Result<(), Fail> {
     for pair in nests {
         let text = nested(alloc, &pair.0)?;
@@ -256,11 +256,11 @@ fn nest<'a>(open: &'a [u8], times: usize, inner: &'a [u8], close: &'a [u8]) -> N
 fn counts_parentheses(rt: HostRuntime) -> Result<(), Fail> {
     let nests = [
         (nest(b"(", 32, b"1", b")"), None),
-        (nest(b"(", 33, b"1", b")"), Some(FaultKind::TooDeep)),
+        (nest(b"(", 33, b"1", b")"), Some(ParseFaultKind::TooDeep)),
         (nest(b"ABS(", 32, b"1", b")"), None),
-        (nest(b"ABS(", 33, b"1", b")"), Some(FaultKind::TooDeep)),
+        (nest(b"ABS(", 33, b"1", b")"), Some(ParseFaultKind::TooDeep)),
         (nest(b"(", 31, b"EOF()", b")"), None),
-        (nest(b"(", 32, b"EOF()", b")"), Some(FaultKind::TooDeep)),
+        (nest(b"(", 32, b"EOF()", b")"), Some(ParseFaultKind::TooDeep)),
     ];
     expect_nests(&rt, rt.alloc(), &nests)
 }
@@ -269,15 +269,15 @@ fn counts_parentheses(rt: HostRuntime) -> Result<(), Fail> {
 fn counts_bytes(rt: HostRuntime) -> Result<(), Fail> {
     let nests = [
         (nest(b"X", 10, b"", b""), None),
-        (nest(b"X", 11, b"", b""), Some(FaultKind::TooLong)),
+        (nest(b"X", 11, b"", b""), Some(ParseFaultKind::TooLong)),
         (nest(b" ", 1023, b"1", b""), None),
-        (nest(b" ", 1024, b"1", b""), Some(FaultKind::TooLong)),
-        (nest(b" ", 1024, b"1 2", b""), Some(FaultKind::Expression)),
-        (nest(b" ", 5000, b"1 2", b""), Some(FaultKind::Expression)),
-        (nest(b" ", 5000, b"!", b""), Some(FaultKind::Character)),
+        (nest(b" ", 1024, b"1", b""), Some(ParseFaultKind::TooLong)),
+        (nest(b" ", 1024, b"1 2", b""), Some(ParseFaultKind::Expression)),
+        (nest(b" ", 5000, b"1 2", b""), Some(ParseFaultKind::Expression)),
+        (nest(b" ", 5000, b"!", b""), Some(ParseFaultKind::Character)),
         (nest(b"-", 1023, b"X", b""), None),
         (nest(b"1+", 511, b"1", b""), None),
-        (nest(b"-", 100_000, b"X", b""), Some(FaultKind::TooLong)),
+        (nest(b"-", 100_000, b"X", b""), Some(ParseFaultKind::TooLong)),
     ];
     expect_nests(&rt, rt.alloc(), &nests)
 }
@@ -289,7 +289,7 @@ fn counts_bytes_of_texts(rt: HostRuntime) -> Result<(), Fail> {
     let text = nested(alloc, &nest(b"'", 1, &inner, b"'"))?;
     assert!(rt; fault_of(alloc, &text).is_none());
     let text = nested(alloc, &nest(b"[a", 1, &inner, b"]"))?;
-    assert!(rt; fault_of(alloc, &text) == Some(FaultKind::TooLong));
+    assert!(rt; fault_of(alloc, &text) == Some(ParseFaultKind::TooLong));
     Ok(())
 }
 
@@ -307,11 +307,11 @@ fn judges_every_byte(rt: HostRuntime) -> Result<(), Fail> {
     let begins: &[u8] = b" \t'\"[.&()*+,-/<=>#$?@";
     for b in 0..=255u8 {
         let known = b.is_ascii_alphanumeric() || begins.contains(&b);
-        let is_strange = fault_of(rt.alloc(), &[b]) == Some(FaultKind::Character);
+        let is_strange = fault_of(rt.alloc(), &[b]) == Some(ParseFaultKind::Character);
         assert!(rt; is_strange != known, "{b}");
     }
-    assert!(rt; fault_of(rt.alloc(), b"") == Some(FaultKind::Expression));
-    assert!(rt; fault_of(rt.alloc(), b"A\x80") == Some(FaultKind::Character));
+    assert!(rt; fault_of(rt.alloc(), b"") == Some(ParseFaultKind::Expression));
+    assert!(rt; fault_of(rt.alloc(), b"A\x80") == Some(ParseFaultKind::Character));
     Ok(())
 }
 

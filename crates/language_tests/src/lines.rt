@@ -1,6 +1,6 @@
 //! Lines by themselves, and what is read of them.
 
-use prg_line::{FaultKind, least, read_line};
+use prg_line::{ParseFaultKind, least, read_line};
 use std::alloc::{AllocError, Global};
 use std::test::Fail;
 
@@ -37,7 +37,7 @@ fn reads_lines(rt: HostRuntime) -> Result<(), Fail> {
 
 #[test]
 fn tells_the_lesser_fault(rt: HostRuntime) -> Result<(), Fail> {
-    let (word, text) = (Some(FaultKind::Word), Some(FaultKind::Text));
+    let (word, text) = (Some(ParseFaultKind::Word), Some(ParseFaultKind::Text));
     assert!(rt; least(None, None).is_none());
     assert!(rt; least(None, word) == word);
     assert!(rt; least(word, None) == word);

@@ -1,7 +1,7 @@
 //! Command files, and the trees or faults that they give.
 
 use crate::texts::{Nest, bytes_of, nested};
-use prg_parser::{Form, Program, Refusal, Text, parse};
+use prg_parser::{Form, Program, ParseRefusal, Text, parse};
 use std::alloc::{AllocError, Global};
 use std::process::Abort;
 use std::test::Fail;
@@ -22,12 +22,12 @@ fn command_shown(alloc: Global, program: &Program) -> Result<String, AllocError>
 fn shown(alloc: Global, file: &[u8]) -> Result<String, AllocError> {
     match parse(alloc, file) {
         Ok(program) => command_shown(alloc, &program),
-        Err(Refusal::Fault(fault)) => {
+        Err(ParseRefusal::Fault(fault)) => {
             let line = fault.line;
             let kind = fault.kind;
             format!(in alloc; "{line} {kind:?}")
         }
-        Err(Refusal::Memory) => String::from_str(alloc, "memory"),
+        Err(ParseRefusal::Memory) => String::from_str(alloc, "memory"),
     }
 }
 
@@ -196,12 +196,12 @@ fn tells_faults(rt: HostRuntime) -> Result<(), Fail> {
 fn verdict(alloc: Global, file: &[u8]) -> Result<String, AllocError> {
     match parse(alloc, file) {
         Ok(_) => String::from_str(alloc, "a program"),
-        Err(Refusal::Fault(fault)) => {
+        Err(ParseRefusal::Fault(fault)) => {
             let line = fault.line;
             let kind = fault.kind;
             format!(in alloc; "{line} {kind:?}")
         }
-        Err(Refusal::Memory) => String::from_str(alloc, "memory"),
+        Err(ParseRefusal::Memory) => String::from_str(alloc, "memory"),
     }
 }
 

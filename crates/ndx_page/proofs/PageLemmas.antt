@@ -3,7 +3,7 @@ use Rattle.std.proofs.Common.{◌≡◌, ◌∙◌, ℕ, suc, ◌+◌, ◌-◌, 
 use Rattle.std.proofs.lemmas.List.{length-take, take_min, take_all}
 use Rattle.std.specs.List.{flat_map}
 use Rattle.std.proofs.Math.Nat.{min_comm}
-use Rattle.ndx_page.specs.declared.page.Entry.{Entry}
+use Rattle.ndx_page.specs.declared.page.PageEntry.{PageEntry}
 use Rattle.ndx_page.specs.declared.page.Page.{Page}
 use Rattle.ndx_page.specs.Numbers.{number_at, number_text, padded}
 use Rattle.ndx_page.specs.Layout.{entry_size, most_entries}
@@ -17,25 +17,25 @@ pub page_written : (l shown : ℕ) (page : Page) → shown ≡ min (length page.
     padded 512 ((number_text 4 shown ++ flat_map (entry_text l) (take shown page.entries.items)) ++ number_text 4 page.last) ≡ page_text l page
 unfolding page_text
 page_written l shown page is_min =
-    let es : List Entry = page.entries.items in
+    let es : List PageEntry = page.entries.items in
     let most = most_entries l in
     let same : take shown es ≡ take most es = ap (λ (n : ℕ). take n es) (is_min ∙ min_comm (length es) most) ∙ take_min most es in
     let count : shown ≡ length (take most es) = is_min ∙ min_comm (length es) most ∙ sym (length-take most es) in
     ap (λ (n : ℕ). padded 512 ((number_text 4 n ++ flat_map (entry_text l) (take shown es)) ++ number_text 4 page.last)) count
-    ∙ ap (λ (shorter : List Entry). padded 512 ((number_text 4 (length (take most es)) ++ flat_map (entry_text l) shorter) ++ number_text 4 page.last)) same
+    ∙ ap (λ (shorter : List PageEntry). padded 512 ((number_text 4 (length (take most es)) ++ flat_map (entry_text l) shorter) ++ number_text 4 page.last)) same
 
 -- what is known of each entry, as a recursion
-are_fit : (l : ℕ) (es : List Entry) → ((k : ℕ) (d : Entry) → k < length es → HasNumbers (get_or es k d)) → All (λ e. length e.key.items ≡ l) es → AreFit l es
+are_fit : (l : ℕ) (es : List PageEntry) → ((k : ℕ) (d : PageEntry) → k < length es → HasNumbers (get_or es k d)) → All (λ e. length e.key.items ≡ l) es → AreFit l es
 are_fit l [] numbers keys = tt
 are_fit l (e ∷ es) numbers keys =
     (numbers 0 e (omega arith), keys 0 e (omega arith), are_fit l es (λ k d within. numbers (suc k) d (omega arith)) (λ k d within. keys (suc k) d (omega arith)))
 
 -- the page reads as it was written
-pub page_again : (l : ℕ) (page : Page) → 1 ≤ l → FitsKeys l page → ((k : ℕ) (d : Entry) → k < length page.entries.items → HasNumbers (get_or page.entries.items k d)) → page.last < 2 ^ 32 →
+pub page_again : (l : ℕ) (page : Page) → 1 ≤ l → FitsKeys l page → ((k : ℕ) (d : PageEntry) → k < length page.entries.items → HasNumbers (get_or page.entries.items k d)) → page.last < 2 ^ 32 →
     IsPage l (page_text l page) page
 unfolding page_text
 page_again l page some fits numbers last_fits =
-    let es : List Entry = page.entries.items in
+    let es : List PageEntry = page.entries.items in
     let shown = take (most_entries l) es in
     let all : shown ≡ es = take_all (most_entries l) es fits.most in
     let front : List ℕ = number_text 4 (length es) in
@@ -43,7 +43,7 @@ page_again l page some fits numbers last_fits =
     let end : List ℕ = number_text 4 page.last in
     let zeros : List ℕ = replicate (512 - length ((front ++ others) ++ end)) 0 in
     let bytes : List ℕ = page_text l page in
-    let whole : bytes ≡ padded 512 ((front ++ others) ++ end) = ap (λ (xs : List Entry). padded 512 ((number_text 4 (length xs) ++ flat_map (entry_text l) xs) ++ end)) all in
+    let whole : bytes ≡ padded 512 ((front ++ others) ++ end) = ap (λ (xs : List PageEntry). padded 512 ((number_text 4 (length xs) ++ flat_map (entry_text l) xs) ++ end)) all in
     let first : bytes ≡ [] ++ (front ++ (others ++ (end ++ zeros))) = whole ∙ simp append_assoc in
     let second : bytes ≡ front ++ (others ++ (end ++ zeros)) = whole ∙ simp append_assoc in
     let third : bytes ≡ (front ++ others) ++ (end ++ zeros) = whole ∙ simp append_assoc in

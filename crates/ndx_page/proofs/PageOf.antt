@@ -3,7 +3,7 @@ use Rattle.std.proofs.Common.{◌≡◌, ℕ, Bool, true, false, cond, not, ◌|
 use Rattle.std.specs.Prelude.{is_none, if◌then◌else◌, nat_lt}
 use Rattle.std.specs.List.{list_any}
 use Rattle.std.proofs.lemmas.Bool.{eqb-false, eq-eqb, ne_eqb, le-ltb, ltb-false, cases_eq}
-use Rattle.ndx_page.specs.declared.page.Entry.{Entry}
+use Rattle.ndx_page.specs.declared.page.PageEntry.{PageEntry}
 use Rattle.ndx_page.specs.declared.page.Page.{Page}
 use Rattle.ndx_page.specs.declared.page.PageFault.{PageFault}
 use Rattle.ndx_page.specs.Numbers.{number_at}
@@ -34,19 +34,19 @@ the_page : ℕ → List ℕ → Page
 the_page l bytes = record { entries = record { items = told_entries l bytes }; last = if is_told_leaf bytes then 0 else told_last l bytes }
 
 told_from : (l : ℕ) (bytes : List ℕ) → nat_lt (most_entries l) (number_at 4 0 bytes) ≡ false →
-    (if is_told_leaf bytes then list_any (λ (e : Entry). not (e.child == 0)) (told_entries l bytes) else (told_last l bytes == 0 || list_any (λ (e : Entry). e.child == 0) (told_entries l bytes))) ≡ false →
-    (is_told_leaf bytes && list_any (λ (e : Entry). e.number == 0) (told_entries l bytes)) ≡ false → Told l bytes (the_page l bytes)
+    (if is_told_leaf bytes then list_any (λ (e : PageEntry). not (e.child == 0)) (told_entries l bytes) else (told_last l bytes == 0 || list_any (λ (e : PageEntry). e.child == 0) (told_entries l bytes))) ≡ false →
+    (is_told_leaf bytes && list_any (λ (e : PageEntry). e.number == 0) (told_entries l bytes)) ≡ false → Told l bytes (the_page l bytes)
 unfolding the_page
 told_from l bytes count child number = record {
   entries = refl;
   most = ltb-false (most_entries l) (number_at 4 0 bytes) count;
   leaf = λ e. let leaf : is_told_leaf bytes ≡ true = eq-eqb (number_at 4 4 bytes) 0 e in (
-    subst (λ b. (if b then list_any (λ (e : Entry). not (e.child == 0)) (told_entries l bytes) else (told_last l bytes == 0 || list_any (λ (e : Entry). e.child == 0) (told_entries l bytes))) ≡ false) leaf child,
+    subst (λ b. (if b then list_any (λ (e : PageEntry). not (e.child == 0)) (told_entries l bytes) else (told_last l bytes == 0 || list_any (λ (e : PageEntry). e.child == 0) (told_entries l bytes))) ≡ false) leaf child,
     and_false _ _ leaf number,
     ap (λ b. if b then 0 else told_last l bytes) leaf,
   );
   inner = λ n. let inner : is_told_leaf bytes ≡ false = ne_eqb (number_at 4 4 bytes) 0 n in
-      let both = parts_false (told_last l bytes == 0) _ (subst (λ b. (if b then list_any (λ (e : Entry). not (e.child == 0)) (told_entries l bytes) else (told_last l bytes == 0 || list_any (λ (e : Entry). e.child == 0) (told_entries l bytes))) ≡ false) inner child) in
+      let both = parts_false (told_last l bytes == 0) _ (subst (λ b. (if b then list_any (λ (e : PageEntry). not (e.child == 0)) (told_entries l bytes) else (told_last l bytes == 0 || list_any (λ (e : PageEntry). e.child == 0) (told_entries l bytes))) ≡ false) inner child) in
       (both.1, sym (ap (λ b. if b then 0 else told_last l bytes) inner), eqb-false (told_last l bytes) 0 both.0);
 }
 

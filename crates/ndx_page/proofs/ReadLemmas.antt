@@ -5,7 +5,7 @@ use Rattle.std.proofs.lemmas.Bool.{eqb-false, ne_eqb, not-false}
 use Rattle.std.proofs.lemmas.List.{length-drop, length-take-le}
 use Rattle.std.proofs.lemmas.List.Elements.{All-nil, All-cons, All-head, All-tail}
 use Rattle.std.proofs.Math.Nat.{zero-mul, suc-mul}
-use Rattle.ndx_page.specs.declared.page.Entry.{Entry}
+use Rattle.ndx_page.specs.declared.page.PageEntry.{PageEntry}
 use Rattle.ndx_page.specs.declared.page.Page.{Page}
 use Rattle.ndx_page.specs.Numbers.{number_at}
 use Rattle.ndx_page.specs.Layout.{entry_size, most_entries}
@@ -34,17 +34,17 @@ or_false : (a b : Bool) → (a || b) ≡ false → (a ≡ false) × (b ≡ false
 or_false true b none = cc
 or_false false b none = (refl, none)
 
-All-both : (es : List Entry) → All (λ e. e.child ≡ 0) es → All (λ e. 0 < e.number) es → All (λ e. (e.child ≡ 0) × (0 < e.number)) es
+All-both : (es : List PageEntry) → All (λ e. e.child ≡ 0) es → All (λ e. 0 < e.number) es → All (λ e. (e.child ≡ 0) × (0 < e.number)) es
 All-both es children numbers = λ k d within. (children k d within, numbers k d within)
 
 -- a test that no entry passes
-none_passes : (p : Entry → Bool) (P : Entry → Type 0) → ((e : Entry) → p e ≡ false → P e) → (es : List Entry) → list_any p es ≡ false → All P es
+none_passes : (p : PageEntry → Bool) (P : PageEntry → Type 0) → ((e : PageEntry) → p e ≡ false → P e) → (es : List PageEntry) → list_any p es ≡ false → All P es
 none_passes p P means [] none = All-nil P
 none_passes p P means (e ∷ es) none =
     let parts = or_false (p e) (list_any p es) none in
     All-cons P e es (means e parts.0) (none_passes p P means es parts.1)
 
-none_pass : (p : Entry → Bool) (P : Entry → Type 0) → ((e : Entry) → P e → p e ≡ false) → (es : List Entry) → All P es → list_any p es ≡ false
+none_pass : (p : PageEntry → Bool) (P : PageEntry → Type 0) → ((e : PageEntry) → P e → p e ≡ false) → (es : List PageEntry) → All P es → list_any p es ≡ false
 none_pass p P means [] all = refl
 none_pass p P means (e ∷ es) all =
     let here = means e (All-head P e es all) in
@@ -59,12 +59,12 @@ pub record Told (l : ℕ) (bytes : List ℕ) (page : Page) : Type 0 where
   pub inner : (number_at 4 4 bytes ≡ 0 → ⊥) → (list_any (λ e. e.child == 0) (told_entries l bytes) ≡ false) × (told_last l bytes ≡ page.last) × (told_last l bytes ≡ 0 → ⊥)
 
 -- the child of the first entry is the first child
-first_child : (l n : ℕ) (bytes : List ℕ) (e : Entry) (es : List Entry) → entries_at l n 4 bytes ≡ e ∷ es → number_at 4 4 bytes ≡ e.child
+first_child : (l n : ℕ) (bytes : List ℕ) (e : PageEntry) (es : List PageEntry) → entries_at l n 4 bytes ≡ e ∷ es → number_at 4 4 bytes ≡ e.child
 unfolding entry_at entries_at
 first_child l zero bytes e es told = cc
 first_child l (suc n) bytes e es told =
     let same : entry_at l 4 bytes ≡ e = cc in
-    ap (λ (x : Entry). x.child) same
+    ap (λ (x : PageEntry). x.child) same
 
 -- without entries the first child is the last
 only_child : (l n : ℕ) (bytes : List ℕ) → n ≡ 0 → number_at 4 (4 + n * entry_size l) bytes ≡ number_at 4 4 bytes
@@ -72,18 +72,18 @@ only_child l n bytes none =
     ap (λ (k : ℕ). number_at 4 (4 + k * entry_size l) bytes) none ∙ ap (λ (k : ℕ). number_at 4 k bytes) (omega (arith, zero-mul (entry_size l)))
 
 -- the entry is one of a leaf, or of an inner page
-abbrev IsLeafEntry : Entry → Type 0
+abbrev IsLeafEntry : PageEntry → Type 0
 IsLeafEntry e = (e.child ≡ 0) × (0 < e.number)
 
-abbrev IsInnerEntry : Entry → Type 0
+abbrev IsInnerEntry : PageEntry → Type 0
 IsInnerEntry e = 0 < e.child
 
 -- which kind of page it is, by its first child
-record IsTold (l : ℕ) (bytes : List ℕ) (es : List Entry) (last : ℕ) : Type 0 where
+record IsTold (l : ℕ) (bytes : List ℕ) (es : List PageEntry) (last : ℕ) : Type 0 where
   pub leaf : number_at 4 4 bytes ≡ 0 → All IsLeafEntry es × (last ≡ 0)
   pub inner : (number_at 4 4 bytes ≡ 0 → ⊥) → All IsInnerEntry es × (number_at 4 (4 + length es * entry_size l) bytes ≡ last) × (0 < last)
 
-kind_told : (l : ℕ) (bytes : List ℕ) (es : List Entry) (last : ℕ) → entries_at l (length es) 4 bytes ≡ es →
+kind_told : (l : ℕ) (bytes : List ℕ) (es : List PageEntry) (last : ℕ) → entries_at l (length es) 4 bytes ≡ es →
     ((es ≡ []) ⊎ (0 < last) → number_at 4 (4 + length es * entry_size l) bytes ≡ last) →
     (All IsLeafEntry es × (last ≡ 0)) ⊎ (All IsInnerEntry es × (0 < last)) → IsTold l bytes es last
 kind_told l bytes [] last told last_is kind =
@@ -102,7 +102,7 @@ kind_told l bytes (e ∷ es) last told last_is (inr inner) =
     record { leaf = λ none. absurd (omega (arith, child, none, some)); inner = λ _. (inner.0, last_is (inr inner.1), inner.1) }
 
 -- and back
-kind_of : (l : ℕ) (bytes : List ℕ) (es : List Entry) (last first : ℕ) → number_at 4 4 bytes ≡ first → IsTold l bytes es last →
+kind_of : (l : ℕ) (bytes : List ℕ) (es : List PageEntry) (last first : ℕ) → number_at 4 4 bytes ≡ first → IsTold l bytes es last →
     ((es ≡ []) ⊎ (0 < last) → number_at 4 (4 + length es * entry_size l) bytes ≡ last) × ((All IsLeafEntry es × (last ≡ 0)) ⊎ (All IsInnerEntry es × (0 < last)))
 kind_of l bytes es last zero first_is told =
     let leaf = told.leaf first_is in
@@ -114,12 +114,12 @@ kind_of l bytes es last (suc k) first_is told =
 -- what stands in the bytes is told
 pub told_of : (l : ℕ) (bytes : List ℕ) (page : Page) → IsPage l bytes page → Told l bytes page
 told_of l bytes page is_page =
-    let es : List Entry = page.entries.items in
+    let es : List PageEntry = page.entries.items in
     let kind = kind_told l bytes es page.last is_page.entries is_page.last is_page.fits.kind in
     let count = is_page.count in
     let few = is_page.fits.most in
     let same : es ≡ told_entries l bytes = sym is_page.entries ∙ ap (λ (n : ℕ). entries_at l n 4 bytes) (sym count) in
-    let none : (p : Entry → Bool) → list_any p es ≡ false → list_any p (told_entries l bytes) ≡ false = λ p h. ap (list_any p) (sym same) ∙ h in
+    let none : (p : PageEntry → Bool) → list_any p es ≡ false → list_any p (told_entries l bytes) ≡ false = λ p h. ap (list_any p) (sym same) ∙ h in
     record {
       entries = same;
       most = omega (arith, count, few);
@@ -138,13 +138,13 @@ told_of l bytes page is_page =
 -- and what is told stands there
 pub page_told : (l : ℕ) (bytes : List ℕ) (page : Page) → length bytes ≡ 512 → Told l bytes page → IsPage l bytes page
 page_told l bytes page whole told =
-    let es : List Entry = page.entries.items in
+    let es : List PageEntry = page.entries.items in
     let n : ℕ = number_at 4 0 bytes in
     let count : n ≡ length es = sym (ap length told.entries ∙ length-entries_at l n 4 bytes) in
     let size = entries-size l n told.most in
     let keys = keys_told l n 4 bytes (omega (arith, size, whole)) in
     let most = told.most in
-    let back : (p : Entry → Bool) → list_any p (told_entries l bytes) ≡ false → list_any p es ≡ false = λ p h. ap (list_any p) told.entries ∙ h in
+    let back : (p : PageEntry → Bool) → list_any p (told_entries l bytes) ≡ false → list_any p es ≡ false = λ p h. ap (list_any p) told.entries ∙ h in
     let is_told : IsTold l bytes es page.last = record {
       leaf = λ first. let facts = told.leaf first in (
         All-both es
@@ -168,11 +168,11 @@ page_told l bytes page whole told =
 
 pub same_pages : (a b : Page) → a.entries.items ≡ b.entries.items → a.last ≡ b.last → a ≡ b
 same_pages a b same_entries same_last =
-    let made : List Entry → ℕ → Page = λ es last. record { entries = record { items = es }; last = last } in
-    ap (λ (es : List Entry). made es a.last) same_entries ∙ ap (made b.entries.items) same_last
+    let made : List PageEntry → ℕ → Page = λ es last. record { entries = record { items = es }; last = last } in
+    ap (λ (es : List PageEntry). made es a.last) same_entries ∙ ap (made b.entries.items) same_last
 
 -- what a test over the entries that were read says of those that are told
-pub told_test : (p : Entry → Bool) (l count : ℕ) (bytes : List ℕ) (entries shown : List Entry) (result : Bool) {answer : Bool} →
+pub told_test : (p : PageEntry → Bool) (l count : ℕ) (bytes : List ℕ) (entries shown : List PageEntry) (result : Bool) {answer : Bool} →
     entries ≡ entries_at l count 4 bytes → count ≡ number_at 4 0 bytes → shown ≡ entries → result ≡ list_any p shown → result ≡ answer → list_any p (told_entries l bytes) ≡ answer
 told_test p l count bytes entries shown result read counted same tested is_answer =
     sym (ap (list_any p) (same ∙ read ∙ ap (λ (n : ℕ). entries_at l n 4 bytes) counted)) ∙ sym tested ∙ is_answer

@@ -1,7 +1,7 @@
 -- A page of entries.
 use Rattle.std.specs.Prelude.{◌≡◌, ℕ, zero, suc, ◌+◌, ◌*◌, ◌<◌, ◌≤◌, ◌⊎◌, List, [], ◌∷◌, ◌++◌, length, take, drop, Bool, not, ◌&&◌, ◌||◌, ◌==◌, nat_lt, if◌then◌else◌, Option, Some, None, find, is_none, All}
 use Rattle.std.specs.List.{list_any, flat_map}
-use Rattle.ndx_page.specs.declared.page.Entry.{Entry}
+use Rattle.ndx_page.specs.declared.page.PageEntry.{PageEntry}
 use Rattle.ndx_page.specs.declared.page.Page.{Page}
 use Rattle.ndx_page.specs.declared.page.PageFault.{PageFault}
 use Rattle.ndx_page.specs.declared.page.PageFault.TheVariants.{Count, Child, Record}
@@ -27,11 +27,11 @@ pub record FitsKeys (key_length : ℕ) (page : Page) : Type 0 where
 -- ---- where they stand
 
 -- The entry from a place on: its child, its record, its key.
-unfoldable pub entry_at : ℕ → ℕ → List ℕ → Entry
+unfoldable pub entry_at : ℕ → ℕ → List ℕ → PageEntry
 entry_at key_length place bytes = record { child = number_at 4 place bytes; number = number_at 4 (place + 4) bytes; key = record { items = take key_length (drop (place + 8) bytes) } }
 
 -- so many entries, one behind the other
-unfoldable pub entries_at : ℕ → ℕ → ℕ → List ℕ → List Entry
+unfoldable pub entries_at : ℕ → ℕ → ℕ → List ℕ → List PageEntry
 entries_at key_length zero place bytes = []
 entries_at key_length (suc n) place bytes = entry_at key_length place bytes ∷ entries_at key_length n (place + entry_size key_length) bytes
 
@@ -45,7 +45,7 @@ pub record IsPage (key_length : ℕ) (bytes : List ℕ) (page : Page) : Type 0 w
 -- ---- faults
 
 -- as many entries as the count tells
-abbrev pub told_entries : ℕ → List ℕ → List Entry
+abbrev pub told_entries : ℕ → List ℕ → List PageEntry
 told_entries key_length bytes = entries_at key_length (number_at 4 0 bytes) 4 bytes
 
 -- and the child after them
@@ -85,7 +85,7 @@ pub record PagesAreTold : Type 0 where
 -- ---- as it is written
 
 -- an entry with the first bytes of its key, so many, and zeros up to the entry's size
-unfoldable pub entry_text : ℕ → Entry → List ℕ
+unfoldable pub entry_text : ℕ → PageEntry → List ℕ
 entry_text key_length e = padded (entry_size key_length) (number_text 4 e.child ++ number_text 4 e.number ++ take key_length e.key.items)
 
 -- the first entries, as many as there may be, and the last child; zeros stand in each other byte

@@ -44,7 +44,7 @@ fn end_of(bytes: &[u8]) -> Option<usize>
 }
 
 /// The key expression of these bytes.
-fn text_of(bytes: &[u8]) -> ArrayVec<u8, MAX_TEXT>
+fn key_text(bytes: &[u8]) -> ArrayVec<u8, MAX_TEXT>
     requires { length bytes.now ≤ 487 }
     ensures { result.items ≡ bytes.now }
 {
@@ -95,7 +95,7 @@ pub fn read_head(bytes: &[u8]) -> Result<Head, HeadFault>
         root: four_at(bytes, ROOT_PLACE),
         pages: four_at(bytes, PAGES_PLACE),
         length,
-        text: text_of(&expression[..end]),
+        text: key_text(&expression[..end]),
     })
 }
 

@@ -6,7 +6,7 @@ use thiserror::Error;
 
 /// An entry of a page.
 #[derive(Debug, Default, PartialEq, Eq, Drop)]
-pub struct Entry {
+pub struct PageEntry {
     /// The number of the page below and before this entry, 0 in a leaf.
     pub child: u32,
     /// The number of the table's record, from 1 on in a leaf; in an inner page nobody tests it.
@@ -19,7 +19,7 @@ pub struct Entry {
 #[derive(Debug, PartialEq, Eq, Drop)]
 pub struct Page {
     /// The entries in their order in the page.
-    pub entries: ArrayVec<Entry, MAX_ENTRIES>,
+    pub entries: ArrayVec<PageEntry, MAX_ENTRIES>,
     /// The child after the last entry, 0 in a leaf.
     pub last: u32,
 }

@@ -11,19 +11,19 @@ ghost use Rattle.ndx_page.specs.PageLayout.{FitsKeys, IsPage, entry_at, entries_
 use crate::head::Head;
 use crate::layout::{MAX_ENTRIES, PAGE_SIZE, entry_len, most_entries};
 use crate::numbers::{Sheet, append, append_four, append_zeros, four_at, whole_page};
-use crate::page::{Entry, Page, PageFault};
+use crate::page::{PageEntry, Page, PageFault};
 use arrayvec::ArrayVec;
 
 /// The entry that stands at `place`, with a key of `key_length` bytes.
 #[tactic(auto, unfolding(crate::specs::PageLayout::entry_at))]
-fn entry_of(key_length: usize, place: usize, bytes: &[u8]) -> Entry
+fn entry_of(key_length: usize, place: usize, bytes: &[u8]) -> PageEntry
     requires short { key_length ≤ 100 }
     requires room { place + 8 + key_length ≤ length bytes.now }
     ensures { result ≡ entry_at key_length place bytes.now }
 {
     let mut key = ArrayVec::new();
     match key.try_extend_from_slice(&bytes[place + 8..place + 8 + key_length]) {
-        Ok(()) => Entry {
+        Ok(()) => PageEntry {
             child: four_at(bytes, place),
             number: four_at(bytes, place + 4),
             key,
@@ -37,7 +37,7 @@ fn entries_of(
     key_length: usize,
     count: usize,
     bytes: &[u8; PAGE_SIZE],
-) -> ArrayVec<Entry, MAX_ENTRIES>
+) -> ArrayVec<PageEntry, MAX_ENTRIES>
     requires some { 1 ≤ key_length }
     requires short { key_length ≤ 100 }
     requires room { count ≤ most_of key_length }
@@ -52,21 +52,21 @@ fn entries_of(
 }
 
 /// Whether some entry has a child.
-fn any_child(entries: &[Entry]) -> bool
+fn any_child(entries: &[PageEntry]) -> bool
     ensures { result ≡ list_any (λ e. not (e.child == 0)) entries.now }
 {
     entries.iter().any(|entry| entry.child != 0)
 }
 
 /// Whether some entry has no child.
-fn any_childless(entries: &[Entry]) -> bool
+fn any_childless(entries: &[PageEntry]) -> bool
     ensures { result ≡ list_any (λ e. e.child == 0) entries.now }
 {
     entries.iter().any(|entry| entry.child == 0)
 }
 
 /// Whether some entry has no record.
-fn any_recordless(entries: &[Entry]) -> bool
+fn any_recordless(entries: &[PageEntry]) -> bool
     ensures { result ≡ list_any (λ e. e.number == 0) entries.now }
 {
     entries.iter().any(|entry| entry.number == 0)
@@ -106,7 +106,7 @@ pub fn read_page(head: &Head, bytes: &[u8; PAGE_SIZE]) -> Result<Page, PageFault
 }
 
 /// Writes an entry behind what is written: its numbers, the first bytes of its key, and zeros.
-fn append_entry(sheet: &mut Sheet, key_length: usize, entry: &Entry)
+fn append_entry(sheet: &mut Sheet, key_length: usize, entry: &PageEntry)
     requires short { key_length ≤ 100 }
     requires room { array_vec_len sheet.old + entry_size key_length ≤ 512 }
     ensures items { sheet.new.items ≡ sheet.old.items ++ entry_text key_length entry.now }

@@ -3,7 +3,7 @@ use Rattle.std.proofs.Common.{◌≡◌, ℕ, zero, suc, add-one, ◌+◌, ◌-�
 use Rattle.std.proofs.lemmas.Bool.{or_right, ne_eqb, eq-eqb, cases_eq}
 use Rattle.std.proofs.lemmas.List.{append-nil}
 use Rattle.ndx_page.specs.declared.page.Page.{Page}
-use Rattle.ndx_page.specs.declared.page.Entry.{Entry}
+use Rattle.ndx_page.specs.declared.page.PageEntry.{PageEntry}
 use Rattle.ndx_tree.specs.Order.{Each}
 use Rattle.ndx_tree.specs.KeyForm.{IsPairOf}
 use Rattle.ndx_tree.proofs.Ordered.{Each-append}
@@ -76,7 +76,7 @@ shows_reached k count old new s n h within bits level entries separators = recor
 }
 
 -- a leaf's pairs were met
-pub shows_leaf : (k count : ℕ) (old new : Found) (s : Seen) (d : ℕ) (es : List Entry) → Shows k count old s → new.reached.items ≡ old.reached.items → new.level ≡ Some d → new.entries.items ≡ old.entries.items ++ leaf_pairs es → new.separators.items ≡ old.separators.items → Each (IsPairOf k) new.entries.items → Shows k count new (record { reached = s.reached; items = s.items ++ all_listed (leaf_pairs es); level = Some d })
+pub shows_leaf : (k count : ℕ) (old new : Found) (s : Seen) (d : ℕ) (es : List PageEntry) → Shows k count old s → new.reached.items ≡ old.reached.items → new.level ≡ Some d → new.entries.items ≡ old.entries.items ++ leaf_pairs es → new.separators.items ≡ old.separators.items → Each (IsPairOf k) new.entries.items → Shows k count new (record { reached = s.reached; items = s.items ++ all_listed (leaf_pairs es); level = Some d })
 shows_leaf k count old new s d es h bits level entries separators fits = record {
   marked = subst (λ (m : List Bool). Marks count m s.reached) (sym bits) h.marked;
   level = level;
@@ -96,12 +96,12 @@ shows_separator k count old new s key h bits level entries separators = record {
 }
 
 -- the pairs of one entry more
-pub leaf_pairs_more : (es : List Entry) (i : ℕ) (e : Entry) → i < length es → e ≡ get_or es i e → leaf_pairs (take (i + 1) es) ≡ leaf_pairs (take i es) ++ (e.key.items, e.number) ∷ []
+pub leaf_pairs_more : (es : List PageEntry) (i : ℕ) (e : PageEntry) → i < length es → e ≡ get_or es i e → leaf_pairs (take (i + 1) es) ≡ leaf_pairs (take i es) ++ (e.key.items, e.number) ∷ []
 leaf_pairs_more es i e l g = ap (λ n. leaf_pairs (take n es)) (add-one i) ∙ more es i l g
   where
-    more : (es : List Entry) (i : ℕ) → i < length es → e ≡ get_or es i e → leaf_pairs (take (suc i) es) ≡ leaf_pairs (take i es) ++ (e.key.items, e.number) ∷ []
+    more : (es : List PageEntry) (i : ℕ) → i < length es → e ≡ get_or es i e → leaf_pairs (take (suc i) es) ≡ leaf_pairs (take i es) ++ (e.key.items, e.number) ∷ []
     more [] i l g = absurd (omega arith)
-    more (x ∷ es) zero l g = ap (λ (v : Entry). (v.key.items, v.number) ∷ []) (sym g)
+    more (x ∷ es) zero l g = ap (λ (v : PageEntry). (v.key.items, v.number) ∷ []) (sym g)
     more (x ∷ es) (suc i) l g = ap (λ (m : List Pair). (x.key.items, x.number) ∷ m) (more es i (omega arith) g)
 
 -- the leaf stood where it may, or not
@@ -117,7 +117,7 @@ leaf_refused k count d page f old new s e h = inr (ap (λ b. cond b (Ok (let t :
 
 -- ---- a page of the walk
 
-each_from : (P : Entry → Type 0) (Q : Pair → Type 0) → ((e : Entry) → P e → Q (e.key.items, e.number)) → (es : List Entry) → All P es → Each Q (leaf_pairs es)
+each_from : (P : PageEntry → Type 0) (Q : Pair → Type 0) → ((e : PageEntry) → P e → Q (e.key.items, e.number)) → (es : List PageEntry) → All P es → Each Q (leaf_pairs es)
 each_from P Q h [] a = tt
 each_from P Q h (e ∷ es) a = (h e (All-head P e es a), each_from P Q h es (All-tail P e es a))
 
@@ -155,15 +155,15 @@ pub visit_inner : (f : ℕ → Seen → Result Seen TreeFault) (d : ℕ) (page :
 visit_inner f d page zero s n = absurd (n refl)
 visit_inner f d page (suc last) s n = refl
 
-pub links_step : (es : List Entry) (i last : ℕ) (e : Entry) → i < length es → e ≡ get_or es i e → links (drop i es) last ≡ (let c : Link = (e.child, Some e.key.items) in c) ∷ links (drop (i + 1) es) last
+pub links_step : (es : List PageEntry) (i last : ℕ) (e : PageEntry) → i < length es → e ≡ get_or es i e → links (drop i es) last ≡ (let c : Link = (e.child, Some e.key.items) in c) ∷ links (drop (i + 1) es) last
 links_step es i last e l g = step es i l g ∙ ap (λ n. (let c : Link = (e.child, Some e.key.items) in c) ∷ links (drop n es) last) (sym (add-one i))
   where
-    step : (es : List Entry) (i : ℕ) → i < length es → e ≡ get_or es i e → links (drop i es) last ≡ (let c : Link = (e.child, Some e.key.items) in c) ∷ links (drop (suc i) es) last
+    step : (es : List PageEntry) (i : ℕ) → i < length es → e ≡ get_or es i e → links (drop i es) last ≡ (let c : Link = (e.child, Some e.key.items) in c) ∷ links (drop (suc i) es) last
     step [] i l g = absurd (omega arith)
-    step (x ∷ es) zero l g = ap (λ (v : Entry). (let c : Link = (v.child, Some v.key.items) in c) ∷ links es last) (sym g)
+    step (x ∷ es) zero l g = ap (λ (v : PageEntry). (let c : Link = (v.child, Some v.key.items) in c) ∷ links es last) (sym g)
     step (x ∷ es) (suc i) l g = step es i (omega arith) g
 
-pub links_end : (es : List Entry) (i last : ℕ) → length es ≤ i → links (drop i es) last ≡ (let c : Link = (last, None) in c) ∷ []
+pub links_end : (es : List PageEntry) (i last : ℕ) → length es ≤ i → links (drop i es) last ≡ (let c : Link = (last, None) in c) ∷ []
 links_end [] zero last l = refl
 links_end [] (suc i) last l = refl
 links_end (x ∷ es) zero last l = absurd (omega arith)
@@ -185,7 +185,7 @@ pub record IsLeft (k count : ℕ) (found : Found) (whole : Result Seen TreeFault
   pub rest : whole ≡ walk_all f cs now
 
 -- a child was walked, and its separator taken
-pub left_step : (k count : ℕ) (found mid new : Found) (whole : Result Seen TreeFault) (f : ℕ → Seen → Result Seen TreeFault) (es : List Entry) (i last : ℕ) (e : Entry) → i < length es → e ≡ get_or es i e → (l : IsLeft k count found whole f (links (drop i es) last)) → Gives k count (Ok tt) mid (f e.child l.now) → ((t : Seen) → Shows k count mid t → Shows k count new (with_separator (Some e.key.items) t)) → IsLeft k count new whole f (links (drop (i + 1) es) last)
+pub left_step : (k count : ℕ) (found mid new : Found) (whole : Result Seen TreeFault) (f : ℕ → Seen → Result Seen TreeFault) (es : List PageEntry) (i last : ℕ) (e : PageEntry) → i < length es → e ≡ get_or es i e → (l : IsLeft k count found whole f (links (drop i es) last)) → Gives k count (Ok tt) mid (f e.child l.now) → ((t : Seen) → Shows k count mid t → Shows k count new (with_separator (Some e.key.items) t)) → IsLeft k count new whole f (links (drop (i + 1) es) last)
 left_step k count found mid new whole f es i last e within is l g separator = record {
   now = with_separator (Some e.key.items) g.0;
   shown = separator g.0 g.2;
@@ -193,7 +193,7 @@ left_step k count found mid new whole f es i last e within is l g separator = re
 }
 
 -- a child's walk met a fault
-pub left_fault : (k count : ℕ) (found mid new : Found) (whole : Result Seen TreeFault) (f : ℕ → Seen → Result Seen TreeFault) (es : List Entry) (i last : ℕ) (e : Entry) (fault : TreeFault) → i < length es → e ≡ get_or es i e → (l : IsLeft k count found whole f (links (drop i es) last)) → Gives k count (Err fault) mid (f e.child l.now) → Gives k count (Err fault) new whole
+pub left_fault : (k count : ℕ) (found mid new : Found) (whole : Result Seen TreeFault) (f : ℕ → Seen → Result Seen TreeFault) (es : List PageEntry) (i last : ℕ) (e : PageEntry) (fault : TreeFault) → i < length es → e ≡ get_or es i e → (l : IsLeft k count found whole f (links (drop i es) last)) → Gives k count (Err fault) mid (f e.child l.now) → Gives k count (Err fault) new whole
 left_fault k count found mid new whole f es i last e fault within is l g =
     ⊎_elim (λ m. inl m) (λ r. inr (l.rest ∙ ap (λ (cs : List Link). walk_all f cs l.now) (links_step es i last e within is) ∙ ap (λ (o : Result Seen TreeFault). followed o (λ u. walk_all f (links (drop (i + 1) es) last) (with_separator (Some e.key.items) u))) r)) g
 
@@ -264,6 +264,6 @@ walk_told file count (suc d) n s g e =
       ])
     ]) e
 
-pub leaf_pairs_end : (es : List Entry) (e : Entry) → leaf_pairs (es ++ e ∷ []) ≡ leaf_pairs es ++ (e.key.items, e.number) ∷ []
+pub leaf_pairs_end : (es : List PageEntry) (e : PageEntry) → leaf_pairs (es ++ e ∷ []) ≡ leaf_pairs es ++ (e.key.items, e.number) ∷ []
 leaf_pairs_end [] e = refl
 leaf_pairs_end (x ∷ es) e = ap (λ (m : List Pair). (x.key.items, x.number) ∷ m) (leaf_pairs_end es e)

@@ -2,7 +2,7 @@
 use Rattle.std.proofs.Common.{◌≡◌, ℕ, zero, suc, ◌+◌, ◌*◌, ◌/◌, ◌<◌, ◌≤◌, ◌⊎◌, inl, inr, ⊎_elim, Bool, true, false, eqb, Option, Some, None, List, [], ◌∷◌, ◌++◌, length, take, drop, refl, ap, sym, ◌∙◌, subst, arith, append_assoc, length-append}
 use Rattle.std.proofs.lemmas.Bool.{eq-eqb, ne_eqb, lt-ltb, false≢true, false_from_ne_true}
 use Rattle.std.proofs.lemmas.List.{append-nil, take_at, drop_at}
-use Rattle.ndx_page.specs.declared.page.Entry.{Entry}
+use Rattle.ndx_page.specs.declared.page.PageEntry.{PageEntry}
 use Rattle.ndx_page.specs.declared.page.Page.{Page}
 use Rattle.ndx_page.specs.PageLayout.{IsPage as IsFilePage, FitsKeys}
 use Rattle.ndx_page.specs.Layout.{most_entries}
@@ -114,11 +114,11 @@ AreBelow-append R (c ∷ a) b r1 r2 i1 i2 p q = (
 one_below : (R : ℕ → List ℕ → List Item → Type 0) (c : Link) (r : List ℕ) (i : List Item) → R c.0 r i → AreBelow R (c ∷ []) r (i ++ behind c.1)
 one_below R c r i h = (r, [], i, [], sym (append-nil r), ap (λ (m : List Item). i ++ m) (sym (append-nil (behind c.1))), h, (refl, refl))
 
-links_are : (es : List Entry) (last : ℕ) → links es last ≡ entry_links es ++ (let c : Link = (last, None) in c) ∷ []
+links_are : (es : List PageEntry) (last : ℕ) → links es last ≡ entry_links es ++ (let c : Link = (last, None) in c) ∷ []
 links_are [] last = refl
 links_are (e ∷ es) last = ap (λ (m : List Link). (let c : Link = (e.child, Some e.key.items) in c) ∷ m) (links_are es last)
 
-entry_links_more : (es : List Entry) (e : Entry) → entry_links (es ++ e ∷ []) ≡ entry_links es ++ (let c : Link = (e.child, Some e.key.items) in c) ∷ []
+entry_links_more : (es : List PageEntry) (e : PageEntry) → entry_links (es ++ e ∷ []) ≡ entry_links es ++ (let c : Link = (e.child, Some e.key.items) in c) ∷ []
 entry_links_more [] e = refl
 entry_links_more (x ∷ es) e = ap (λ (m : List Link). (let c : Link = (x.child, Some x.key.items) in c) ∷ m) (entry_links_more es e)
 
@@ -134,7 +134,7 @@ pub none_written : (k h first : ℕ) (body : List ℕ) → AreWritten k h first 
 none_written k h first body = record { reached = []; items = []; below = λ front rest level e. (refl, refl); given = tt; all = omega arith; fresh = λ count seen l o. tt; pairs = refl; last = λ before. tt; entries = tt }
 
 -- one child more, and the entry that names it
-pub child_written : (k h first mid n : ℕ) (old added new : List ℕ) (es : List Entry) (cs : List PageView) (c : PageView) (e : Entry) (s : Pair) → AreWritten k h first mid old es cs → IsWritten k mid n new c → new ≡ old ++ added → c.height ≡ h → first ≤ mid → mid < n → e.child ≡ n → length e.key.items ≡ k → last_of c.pairs ≡ Some s → s.0 ≡ e.key.items → e.number ≡ 0 → AreWritten k h first n new (es ++ e ∷ []) (cs ++ c ∷ [])
+pub child_written : (k h first mid n : ℕ) (old added new : List ℕ) (es : List PageEntry) (cs : List PageView) (c : PageView) (e : PageEntry) (s : Pair) → AreWritten k h first mid old es cs → IsWritten k mid n new c → new ≡ old ++ added → c.height ≡ h → first ≤ mid → mid < n → e.child ≡ n → length e.key.items ≡ k → last_of c.pairs ≡ Some s → s.0 ≡ e.key.items → e.number ≡ 0 → AreWritten k h first n new (es ++ e ∷ []) (cs ++ c ∷ [])
 child_written k h first mid n old added new es cs c e s w v grows height le less child key last same plain = record {
   reached = w.reached ++ v.reached;
   items = w.items ++ (v.items ++ Between e.key.items ∷ []);
@@ -272,7 +272,7 @@ child_at_place k most now es (x ∷ cs) i c e p keys l is =
 
 -- ---- pages that fit their keys
 
-all_of : (P : Entry → Type 0) (es : List Entry) → Each P es → All P es
+all_of : (P : PageEntry → Type 0) (es : List PageEntry) → Each P es → All P es
 all_of P es e = λ k d l. Each-at P es k d e l
 
 pub inner_fits : (k : ℕ) (page : Page) → Each (IsLink k) page.entries.items → length page.entries.items ≤ most_entries k → 0 < page.last → FitsKeys k page
@@ -282,11 +282,11 @@ inner_fits k page e most last = record {
   kind = inr (all_of (λ e. 0 < e.child) page.entries.items (Each-map (IsLink k) (λ e. 0 < e.child) (λ e h. h.1) page.entries.items e), last);
 }
 
-pairs_each : (k : ℕ) (es : List Entry) → Each (IsPairOf k) (leaf_pairs es) → Each (λ e. (length e.key.items ≡ k) × (0 < e.number)) es
+pairs_each : (k : ℕ) (es : List PageEntry) → Each (IsPairOf k) (leaf_pairs es) → Each (λ e. (length e.key.items ≡ k) × (0 < e.number)) es
 pairs_each k [] e = tt
 pairs_each k (x ∷ es) e = ((e.0.0, omega (arith, e.0.1)), pairs_each k es e.1)
 
-each_both : (P Q : Entry → Type 0) (es : List Entry) → Each P es → Each Q es → Each (λ e. P e × Q e) es
+each_both : (P Q : PageEntry → Type 0) (es : List PageEntry) → Each P es → Each Q es → Each (λ e. P e × Q e) es
 each_both P Q [] e f = tt
 each_both P Q (x ∷ es) e f = ((e.0, f.0), each_both P Q es e.1 f.1)
 

@@ -1,7 +1,7 @@
 -- An index file: page 0, and a tree of pages.
 use Rattle.std.specs.Prelude.{◌≡◌, ℕ, zero, suc, ◌*◌, ◌/◌, Bool, true, false, not, ◌||◌, ◌==◌, nat_lt, Option, Some, None, List, [], ◌∷◌, ◌++◌, length, take, drop}
 use Rattle.ndx_page.specs.declared.head.Head.{Head}
-use Rattle.ndx_page.specs.declared.page.Entry.{Entry}
+use Rattle.ndx_page.specs.declared.page.PageEntry.{PageEntry}
 use Rattle.ndx_page.specs.declared.page.Page.{Page}
 use Rattle.ndx_page.specs.HeadLayout.{IsHead}
 use Rattle.ndx_page.specs.PageLayout.{IsPage}
@@ -31,7 +31,7 @@ listed (Listed p ∷ items) = p ∷ listed items
 listed (Between key ∷ items) = listed items
 
 -- the pairs of a leaf's entries
-abbrev pub leaf_pairs : List Entry → List Pair
+abbrev pub leaf_pairs : List PageEntry → List Pair
 leaf_pairs [] = []
 leaf_pairs (e ∷ es) = (e.key.items, e.number) ∷ leaf_pairs es
 
@@ -44,7 +44,7 @@ abbrev pub Link : Type 0
 Link = ℕ × Option (List ℕ)
 
 -- the children of an inner page
-abbrev pub links : List Entry → ℕ → List Link
+abbrev pub links : List PageEntry → ℕ → List Link
 links [] last = (last, None) ∷ []
 links (e ∷ es) last = (e.child, Some e.key.items) ∷ links es last
 

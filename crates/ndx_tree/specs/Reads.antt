@@ -1,7 +1,7 @@
 -- What the code's walk keeps, against what the walk of the definitions has seen.
 use Rattle.std.specs.Prelude.{◌≡◌, ℕ, suc, ◌<◌, ◌≤◌, ◌⊎◌, Bool, true, false, cond, Some, None, Result, Ok, Err, List, [], ◌∷◌, length, take, drop, get_or, All}
 use Rattle.ndx_page.specs.declared.page.Page.{Page}
-use Rattle.ndx_page.specs.declared.page.Entry.{Entry}
+use Rattle.ndx_page.specs.declared.page.PageEntry.{PageEntry}
 use Rattle.ndx_tree.specs.Order.{Each}
 use Rattle.ndx_tree.specs.KeyForm.{IsPairOf}
 use Rattle.ndx_tree.specs.Pairs.{Pair, key_before}
@@ -22,7 +22,7 @@ unset [] = 0
 unset (b ∷ bits) = cond b (unset bits) (suc (unset bits))
 
 -- keys that can be held in place
-abbrev pub AreKeys : List Entry → Type 0
+abbrev pub AreKeys : List PageEntry → Type 0
 AreKeys entries = All (λ e. length e.key.items ≤ 100) entries
 
 -- the separators, with how many pairs stand before each

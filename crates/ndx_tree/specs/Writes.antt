@@ -1,6 +1,6 @@
 -- What stands in the bytes of an index file behind page 0 when pages have been written.
 use Rattle.std.specs.Prelude.{◌≡◌, ℕ, ◌+◌, ◌<◌, ◌≤◌, ◌⊎◌, Some, List, [], ◌∷◌, ◌++◌, length}
-use Rattle.ndx_page.specs.declared.page.Entry.{Entry}
+use Rattle.ndx_page.specs.declared.page.PageEntry.{PageEntry}
 use Rattle.ndx_page.specs.declared.page.Page.{Page}
 use Rattle.ndx_page.specs.PageLayout.{IsPage, page_text}
 use Rattle.ndx_tree.specs.Order.{Each}
@@ -37,16 +37,16 @@ pub record IsWritten (key_length first n : ℕ) (body : List ℕ) (view : PageVi
   pub last : (before : List Pair) → AreLast before items
 
 -- an entry between children
-abbrev pub IsLink : ℕ → Entry → Type 0
+abbrev pub IsLink : ℕ → PageEntry → Type 0
 IsLink key_length e = (length e.key.items ≡ key_length) × (0 < e.child) × (e.number ≡ 0)
 
 -- the children that entries name, each with the entry's key behind it
-abbrev pub entry_links : List Entry → List Link
+abbrev pub entry_links : List PageEntry → List Link
 entry_links [] = []
 entry_links (e ∷ es) = (e.child, Some e.key.items) ∷ entry_links es
 
 -- Children of one height stand there, and entries name them.
-pub record AreWritten (key_length height first n : ℕ) (body : List ℕ) (es : List Entry) (cs : List PageView) : Type 0 where
+pub record AreWritten (key_length height first n : ℕ) (body : List ℕ) (es : List PageEntry) (cs : List PageView) : Type 0 where
   pub reached : List ℕ
   pub items : List Item
   pub below : (front rest : List ℕ) (level : ℕ) → length front ≡ 512 → AreBelow (IsBelow key_length (front ++ (body ++ rest)) level (level + height)) (entry_links es) reached items

@@ -15,7 +15,7 @@ ghost use Rattle.ndx_tree.specs.Trees.{IsRoot};
 use crate::entries::Entries;
 use crate::entry::Entry;
 use crate::lists::move_tail;
-use crate::page::{Blank, Page};
+use crate::page::{Blank, TreePage};
 use std::alloc::{AllocError, Global};
 
 // How many of those that are left one page gets: as many as it may have, or half of them, where the page after it would
@@ -53,7 +53,7 @@ fn fill_row(row: &mut Entries, entries: &[Entry])
 }
 
 // A leaf of these entries.
-fn leaf_with(alloc: Global, most: usize, entries: &[Entry]) -> Result<Page, AllocError>
+fn leaf_with(alloc: Global, most: usize, entries: &[Entry]) -> Result<TreePage, AllocError>
     requires most { (4 ≤ most) × (most < 1000) }
     requires rising { IsRising entries.now }
     requires keyed { AreKeyed most entries.now }
@@ -65,11 +65,11 @@ fn leaf_with(alloc: Global, most: usize, entries: &[Entry]) -> Result<Page, Allo
         children,
     } = Blank::leaf(alloc, most)?;
     fill_row(&mut row, entries);
-    Ok(Page::of_parts(most, row, children))
+    Ok(TreePage::of_parts(most, row, children))
 }
 
 // The leaves of more entries than one page may have.
-fn leaves(alloc: Global, most: usize, entries: &[Entry]) -> Result<Vec<Page>, AllocError>
+fn leaves(alloc: Global, most: usize, entries: &[Entry]) -> Result<Vec<TreePage>, AllocError>
     requires most { (4 ≤ most) × (most < 1000) }
     requires rising { IsRising entries.now }
     requires keyed { AreKeyed most entries.now }
@@ -91,7 +91,7 @@ fn leaves(alloc: Global, most: usize, entries: &[Entry]) -> Result<Vec<Page>, Al
 }
 
 // Puts the last pair of each child but the last one into an empty row that has room.
-fn separate(row: &mut Entries, children: &[Page])
+fn separate(row: &mut Entries, children: &[TreePage])
     requires empty { row.old.items ≡ [] }
     requires some { 0 < length children.now }
     requires filled { Each (λ c. 0 < length c.pairs) children.now }
@@ -107,7 +107,7 @@ fn separate(row: &mut Entries, children: &[Page])
 }
 
 // A page above the last so many of a row, which it takes out.
-fn parent(alloc: Global, most: usize, row: &mut Vec<Page>, count: usize) -> Result<Page, AllocError>
+fn parent(alloc: Global, most: usize, row: &mut Vec<TreePage>, count: usize) -> Result<TreePage, AllocError>
     requires most { (4 ≤ most) × (most < 1000) }
     requires level { (h : ℕ) × AreChildren h most row.old.items }
     requires rising { IsRising (joined row.old.items) }
@@ -125,11 +125,11 @@ fn parent(alloc: Global, most: usize, row: &mut Vec<Page>, count: usize) -> Resu
     let kept = row.len() - count;
     move_tail(row, kept, &mut children);
     separate(&mut entries, &children);
-    Ok(Page::of_parts(most, entries, children))
+    Ok(TreePage::of_parts(most, entries, children))
 }
 
 // The pages above a row of more than one page may have below it.
-fn parents(alloc: Global, most: usize, mut row: Vec<Page>) -> Result<Vec<Page>, AllocError>
+fn parents(alloc: Global, most: usize, mut row: Vec<TreePage>) -> Result<Vec<TreePage>, AllocError>
     requires most { (4 ≤ most) × (most < 1000) }
     requires level { (h : ℕ) × AreChildren h most row.items }
     requires rising { IsRising (joined row.items) }
@@ -150,7 +150,7 @@ fn parents(alloc: Global, most: usize, mut row: Vec<Page>) -> Result<Vec<Page>, 
 }
 
 // The root above a row of pages.
-fn root_above(alloc: Global, most: usize, mut row: Vec<Page>) -> Result<Page, AllocError>
+fn root_above(alloc: Global, most: usize, mut row: Vec<TreePage>) -> Result<TreePage, AllocError>
     requires most { (4 ≤ most) × (most < 1000) }
     requires level { (h : ℕ) × AreChildren h most row.items }
     requires rising { IsRising (joined row.items) }
@@ -168,7 +168,7 @@ fn root_above(alloc: Global, most: usize, mut row: Vec<Page>) -> Result<Page, Al
 }
 
 /// The root of a tree of entries that rise.
-pub(crate) fn root_of(alloc: Global, most: usize, entries: &[Entry]) -> Result<Page, AllocError>
+pub(crate) fn root_of(alloc: Global, most: usize, entries: &[Entry]) -> Result<TreePage, AllocError>
     requires most { (4 ≤ most) × (most < 1000) }
     requires rising { IsRising entries.now }
     requires keyed { AreKeyed most entries.now }

@@ -21,13 +21,13 @@ use std::mem;
 
 /// A page: a leaf, whose entries are pairs, or an inner page, whose entries separate its children.
 #[derive(Debug, Drop)]
-pub struct Page {
+pub struct TreePage {
     most: usize,
     pub(crate) entries: Entries,
-    pub(crate) children: Vec<Page>,
+    pub(crate) children: Vec<TreePage>,
 }
 
-impl Model for Page {
+impl Model for TreePage {
     ghost use Rattle.std.specs.Prelude.{◌<◌, ◌≤◌, ◌+◌, ◌/◌, length};
     ghost use Rattle.std.specs.Vec.{vec_capacity};
     ghost use Rattle.ndx_tree.specs.Pages.{PageView, view_of, IsPage};
@@ -49,7 +49,7 @@ impl Model for Page {
 #[derive(Debug, Drop)]
 pub struct Blank {
     pub(crate) entries: Entries,
-    pub(crate) children: Vec<Page>,
+    pub(crate) children: Vec<TreePage>,
 }
 
 /// The pages that stand ready for splits. A leaf has no room for children.
@@ -59,16 +59,16 @@ pub struct Pool {
     inner: Vec<Blank>,
 }
 
-impl Page {
+impl TreePage {
     /// A page of these parts.
-    pub fn of_parts(most: usize, entries: Entries, children: Vec<Page>) -> Page
+    pub fn of_parts(most: usize, entries: Entries, children: Vec<TreePage>) -> TreePage
         requires parts { IsPage most entries.items children.items }
         requires full { length entries.items ≤ most }
         requires room { room_for most ≤ entries.room }
         requires child_room { 0 < vec_len children → most + most / 2 + 2 < vec_capacity children }
         ensures { result ≡ view_of most entries.items children.items }
     {
-        Page {
+        TreePage {
             most,
             entries,
             children,
@@ -172,7 +172,7 @@ impl Page {
     }
 
     /// Takes in the page beside it. Where that is too much, the later half is split off again.
-    pub fn join(&mut self, separator: Entry, right: Page) -> Option<(Entry, Page)>
+    pub fn join(&mut self, separator: Entry, right: TreePage) -> Option<(Entry, TreePage)>
         requires same_height { right.height ≡ self.old.height }
         requires same_most { right.most ≡ self.old.most }
         requires rising { IsRising (self.old.pairs ++ right.pairs) }
@@ -182,7 +182,7 @@ impl Page {
         requires few { self.old.count + right.count ≤ self.old.most + self.old.most / 2 }
         ensures { Joins self.old right self.new result }
     {
-        let Page {
+        let TreePage {
             most: _,
             entries: mut later,
             children: mut later_children,
@@ -237,7 +237,7 @@ impl Page {
     }
 
     /// Becomes a page above what the page was and a page beside it.
-    pub fn raise(&mut self, separator: Entry, right: Page, blank: Blank)
+    pub fn raise(&mut self, separator: Entry, right: TreePage, blank: Blank)
         requires left { IsChild self.old.height self.old.most self.old }
         requires right { IsChild self.old.height self.old.most right }
         requires separator { last_of self.old.pairs ≡ Some separator }
@@ -250,7 +250,7 @@ impl Page {
         ensures count { self.new.count ≡ 1 }
     {
         let Blank { entries, children } = blank;
-        let left = Page {
+        let left = TreePage {
             most: self.most,
             entries: mem::replace(&mut self.entries, entries),
             children: mem::replace(&mut self.children, children),
@@ -281,7 +281,7 @@ impl Page {
     }
 
     /// Puts a pair that is not there into its place. Where the page is then too full, its later half is split off.
-    pub fn insert_by_splits(&mut self, entry: Entry, pool: &mut Pool) -> Option<(Entry, Page)>
+    pub fn insert_by_splits(&mut self, entry: Entry, pool: &mut Pool) -> Option<(Entry, TreePage)>
         requires absent { IsAbsent entry self.old.pairs }
         requires keyed { AreKeyed self.old.most (entry ∷ self.old.pairs) }
         requires leaf { 0 < vec_len pool.old.leaves }
@@ -442,7 +442,7 @@ fn look(seen: &mut usize)
 }
 
 // Makes the separator after a child its last pair again.
-fn refresh(entries: &mut Entries, children: &[Page], at: usize)
+fn refresh(entries: &mut Entries, children: &[TreePage], at: usize)
     requires within { at < length children.now }
     requires alike { (k : ℕ) × HaveKeys k entries.old.items × HaveKeys k (joined children.now) × (length entries.old.items * (k + 4) ≤ entries.old.room) }
     requires some { (d : PageView) → 0 < length (slice_index_or children.now at d).pairs }
@@ -469,7 +469,7 @@ fn first_of_two(at: usize, separators: usize) -> usize
 }
 
 // Joins a child that has too few entries with a neighbour.
-fn mend(most: usize, entries: &mut Entries, children: &mut Vec<Page>, at: usize)
+fn mend(most: usize, entries: &mut Entries, children: &mut Vec<TreePage>, at: usize)
     requires mending { (h : ℕ) × IsMending h most at entries.old.items children.old.items }
     requires keyed { AreKeyed most (joined children.old.items) }
     requires room { room_for most ≤ entries.old.room }
@@ -493,7 +493,7 @@ fn mend(most: usize, entries: &mut Entries, children: &mut Vec<Page>, at: usize)
 }
 
 // Splits the later half off a leaf that has too many entries.
-fn split_leaf(most: usize, entries: &mut Entries, blank: Blank) -> (Entry, Page)
+fn split_leaf(most: usize, entries: &mut Entries, blank: Blank) -> (Entry, TreePage)
     requires parts { IsPage most entries.old.items [] }
     requires keyed { AreKeyed most entries.old.items }
     requires too_many { most < length entries.old.items }
@@ -509,7 +509,7 @@ fn split_leaf(most: usize, entries: &mut Entries, blank: Blank) -> (Entry, Page)
     let kept = entries.len() / 2;
     entries.move_tail(kept, &mut later);
     let separator = entries.get(kept - 1);
-    let page = Page {
+    let page = TreePage {
         most,
         entries: later,
         children,
@@ -521,9 +521,9 @@ fn split_leaf(most: usize, entries: &mut Entries, blank: Blank) -> (Entry, Page)
 fn split_inner(
     most: usize,
     entries: &mut Entries,
-    children: &mut Vec<Page>,
+    children: &mut Vec<TreePage>,
     blank: Blank,
-) -> (Entry, Page)
+) -> (Entry, TreePage)
     requires parts { IsPage most entries.old.items children.old.items }
     requires keyed { AreKeyed most entries.old.items }
     requires inner { 0 < vec_len children.old }
@@ -543,7 +543,7 @@ fn split_inner(
     entries.move_tail(kept + 1, &mut later);
     move_tail(children, kept + 1, &mut later_children);
     entries.truncate(kept);
-    let page = Page {
+    let page = TreePage {
         most,
         entries: later,
         children: later_children,

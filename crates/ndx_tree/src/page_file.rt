@@ -11,7 +11,7 @@ ghost use Rattle.ndx_tree.specs.Writes.{IsWritten, IsAppended, IsPageText};
 
 use crate::entries::Entries;
 use crate::lists::held;
-use crate::page::Page;
+use crate::page::TreePage;
 use arrayvec::ArrayVec;
 use ndx_page::{Head, write_page};
 use std::alloc::AllocError;
@@ -29,7 +29,7 @@ fn leaf_of(entries: &Entries) -> ndx_page::Page
         last: 0,
     };
     for at in 0..entries.len() {
-        page.entries.push(ndx_page::Entry {
+        page.entries.push(ndx_page::PageEntry {
             child: 0,
             number: entries.number(at),
             key: held(entries.key(at)),
@@ -57,20 +57,20 @@ fn append_page(
 }
 
 // The key between a child that was written and the next.
-fn between(child: u32, key: &[u8]) -> ndx_page::Entry
+fn between(child: u32, key: &[u8]) -> ndx_page::PageEntry
     requires { length key.now ≤ 100 }
     ensures child { result.child ≡ child }
     ensures key { result.key.items ≡ key.now }
     ensures number { result.number ≡ 0 }
 {
-    ndx_page::Entry {
+    ndx_page::PageEntry {
         child,
         number: 0,
         key: held(key),
     }
 }
 
-impl Page {
+impl TreePage {
     /// Writes the page behind what is below it, in a file of this head that has so many pages behind page 0. The
     /// answer is the page's number, which is how many there are then.
     pub fn write(&self, head: &Head, pages: u32, body: &mut Vec<u8>) -> Result<u32, AllocError>

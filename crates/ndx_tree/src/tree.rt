@@ -11,7 +11,7 @@ use crate::build::root_of;
 use crate::entry::Entry;
 use crate::key_list::KeyList;
 use crate::lists::held;
-use crate::page::{Page, Pool, take_inner};
+use crate::page::{Pool, TreePage, take_inner};
 use crate::sorted_keys::put_in_order;
 use arrayvec::ArrayVec;
 use ndx_page::{MAX_TEXT, most_entries};
@@ -27,7 +27,7 @@ pub struct NdxTree {
     alloc: Global,
     pub(crate) key_length: usize,
     pub(crate) key_text: ArrayVec<u8, MAX_TEXT>,
-    pub(crate) root: Page,
+    pub(crate) root: TreePage,
     pool: Pool,
     reserved: usize,
     count: usize,
@@ -156,7 +156,7 @@ impl NdxTree {
 // Puts a pair that is not there below a root, which becomes two pages and a root over them where it is too full. It
 // stands alone, since most insertions need no such room on the stack.
 #[inline(never)]
-fn grow(root: &mut Page, entry: Entry, pool: &mut Pool)
+fn grow(root: &mut TreePage, entry: Entry, pool: &mut Pool)
     requires absent { IsAbsent entry root.old.pairs }
     requires tree { (form : KeyForm) × (reserved : ℕ) × IsTree form root.old pool.old reserved × (0 < reserved) × IsPairOf form.key_length entry }
     ensures tree { (form : KeyForm) (reserved : ℕ) → IsTree form root.old pool.old reserved → 0 < reserved → IsPairOf form.key_length entry → IsTree form root.new pool.new (reserved - 1) }

@@ -75,7 +75,7 @@ fn may_stand(level: usize, first: Option<usize>) -> bool
 }
 
 // Adds the pairs of a leaf's entries.
-fn add_pairs(entries: &[ndx_page::Entry], pairs: &mut Vec<Entry>) -> Result<(), AllocError>
+fn add_pairs(entries: &[ndx_page::PageEntry], pairs: &mut Vec<Entry>) -> Result<(), AllocError>
     requires { AreKeys entries.now }
     ensures items { OnOk result (pairs.new.items ≡ pairs.old.items ++ leaf_pairs entries.now) }
     ensures few { vec_len pairs.new ≤ vec_len pairs.old + length entries.now }

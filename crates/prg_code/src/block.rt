@@ -1,6 +1,6 @@
 //! A procedure's block that is being written.
 
-use crate::fault::{CompileError, FaultKind};
+use crate::fault::{CompileError, CompileFaultKind};
 use crate::merging::{is_selection_same, merged};
 use code_items::{AreaState, Desk, FlowInstr, Instr, Items, KindSlots, KindStack, State};
 use code_rules::Signature;
@@ -91,7 +91,7 @@ impl Block {
         let left = self.depth.saturating_sub(signature.taken);
         let depth = left.saturating_add(signature.adds);
         if depth > MOST_VALUES {
-            return Err(CompileError::Fault(FaultKind::Limit));
+            return Err(CompileError::Fault(CompileFaultKind::Limit));
         }
         self.drafts.push(Draft::Instr(instr))?;
         self.depth = depth;
@@ -175,7 +175,7 @@ impl Block {
             return Ok(());
         };
         if there.split {
-            return Err(CompileError::Fault(FaultKind::Merge));
+            return Err(CompileError::Fault(CompileFaultKind::Merge));
         }
         if let Some(state) = &there.state {
             self.state = state.copied(self.alloc)?;

@@ -9,7 +9,7 @@ use thiserror::Error;
 
 /// What is wrong with a command.
 #[derive(Clone, Copy, Debug, PartialEq, Eq, Error)]
-pub enum FaultKind {
+pub enum CompileFaultKind {
     /// A name of no field, variable, table, index or procedure.
     #[error("Name")]
     Name,
@@ -62,14 +62,14 @@ pub struct CompileFault {
     /// The line in that file, from 1; 0 where the code as a whole is too large.
     pub line: usize,
     /// What is wrong there.
-    pub kind: FaultKind,
+    pub kind: CompileFaultKind,
 }
 
 /// Why a command isn't compiled.
 #[derive(Clone, Copy, Debug, PartialEq, Eq)]
 pub enum CompileError {
     /// It is faulty.
-    Fault(FaultKind),
+    Fault(CompileFaultKind),
     /// Memory ran out.
     NoMemory,
 }
@@ -93,10 +93,10 @@ impl CompileError {
     }
 }
 
-impl From<FaultKind> for CompileError {
+impl From<CompileFaultKind> for CompileError {
     ghost from_gives = { λ k e. e ≡ error.Fault k };
 
-    fn from(kind: FaultKind) -> CompileError {
+    fn from(kind: CompileFaultKind) -> CompileError {
         CompileError::Fault(kind)
     }
 }

@@ -1,6 +1,6 @@
 //! Filters by number.
 
-use crate::fault::{CompileError, FaultKind};
+use crate::fault::{CompileError, CompileFaultKind};
 use code_items::{Instr, Need};
 use std::alloc::Global;
 use xvalue::Kind;
@@ -60,7 +60,7 @@ impl Filters {
         }
         let number = self.filters.len();
         if number >= MOST_FILTERS {
-            return Err(CompileError::Fault(FaultKind::Limit));
+            return Err(CompileError::Fault(CompileFaultKind::Limit));
         }
         self.filters.push(filter)?;
         numbered(number)
@@ -97,6 +97,6 @@ impl Filters {
 fn numbered(place: usize) -> Result<u16, CompileError> {
     match u16::try_from(place) {
         Ok(place) if place < u16::MAX => Ok(place + 1),
-        _ => Err(CompileError::Fault(FaultKind::Limit)),
+        _ => Err(CompileError::Fault(CompileFaultKind::Limit)),
     }
 }

@@ -1,6 +1,6 @@
 //! Lists of indexes by number.
 
-use crate::fault::{CompileError, FaultKind};
+use crate::fault::{CompileError, CompileFaultKind};
 use code_items::IndexList;
 use std::alloc::Global;
 
@@ -37,7 +37,7 @@ impl Lists {
         }
         let number = self.lists.len();
         if number >= MOST_LISTS {
-            return Err(CompileError::Fault(FaultKind::Limit));
+            return Err(CompileError::Fault(CompileFaultKind::Limit));
         }
         self.lists.push(list)?;
         numbered(number)
@@ -74,6 +74,6 @@ impl Lists {
 fn numbered(place: usize) -> Result<u16, CompileError> {
     match u16::try_from(place) {
         Ok(place) if place < u16::MAX => Ok(place + 1),
-        _ => Err(CompileError::Fault(FaultKind::Limit)),
+        _ => Err(CompileError::Fault(CompileFaultKind::Limit)),
     }
 }

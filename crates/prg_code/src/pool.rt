@@ -3,7 +3,7 @@
 ghost use Rattle.std.specs.Prelude.{◌≡◌, [], true, Some, IfOk, IfSome, IfNone, slice_get, take, length};
 ghost use Rattle.prg_code.specs.Pools.{Grows, Holds};
 
-use crate::fault::{CompileError, FaultKind};
+use crate::fault::{CompileError, CompileFaultKind};
 use std::alloc::Global;
 use std::marker::Model;
 use xvalue::Value;
@@ -77,7 +77,7 @@ impl Pool {
         }
         let number = self.values.len();
         if number >= MOST_CONSTANTS {
-            return Err(CompileError::Fault(FaultKind::Limit));
+            return Err(CompileError::Fault(CompileFaultKind::Limit));
         }
         self.values.push(value)?;
         numbered(number)
@@ -110,6 +110,6 @@ fn numbered(number: usize) -> Result<u16, CompileError>
 {
     match u16::try_from(number) {
         Ok(number) => Ok(number),
-        Err(_) => Err(CompileError::Fault(FaultKind::Limit)),
+        Err(_) => Err(CompileError::Fault(CompileFaultKind::Limit)),
     }
 }

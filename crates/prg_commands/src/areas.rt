@@ -7,7 +7,7 @@ use code_items::{
     AreaInstr, AreaState, IndexList, IndexShape, Instr, Name, Need, OpenArea, Shape, ValueInstr,
 };
 use code_rules::Signature;
-use prg_code::{CompileError, FaultKind, FilterBlock};
+use prg_code::{CompileError, CompileFaultKind, FilterBlock};
 use prg_expr::Expr;
 use prg_line::Selected;
 use prg_values::{Compiled, Scope, area_of_alias, table_named, with_kind};
@@ -20,7 +20,7 @@ const MOST_VALUES: usize = 64;
 pub fn opened(work: &Work) -> Result<OpenArea, CompileError> {
     match work.block.state.desk.selected_area() {
         Some(area) => Ok(area),
-        None => Err(CompileError::Fault(FaultKind::ClosedArea)),
+        None => Err(CompileError::Fault(CompileFaultKind::ClosedArea)),
     }
 }
 
@@ -54,15 +54,15 @@ fn list_of(shape: &Shape, table: u16, names: &[Name]) -> Result<IndexList, Compi
     let mut indexes = ArrayVec::new();
     for name in names {
         let Some(number) = index_named(shape.indexes.as_slice(), name.as_slice()) else {
-            return Err(CompileError::Fault(FaultKind::Name));
+            return Err(CompileError::Fault(CompileFaultKind::Name));
         };
         if !is_of_table(shape.indexes.as_slice(), number, table)
             || indexes.as_slice().contains(&number)
         {
-            return Err(CompileError::Fault(FaultKind::Index));
+            return Err(CompileError::Fault(CompileFaultKind::Index));
         }
         if indexes.try_push(number).is_err() {
-            return Err(CompileError::Fault(FaultKind::Limit));
+            return Err(CompileError::Fault(CompileFaultKind::Limit));
         }
     }
     Ok(IndexList { indexes })
@@ -97,12 +97,12 @@ pub fn open_table(
     indexes: &[Name],
 ) -> Result<(), CompileError> {
     let Some(table) = table_named(shape, name.as_slice()) else {
-        return Err(CompileError::Fault(FaultKind::Name));
+        return Err(CompileError::Fault(CompileFaultKind::Name));
     };
     let list = list_of(shape, table, indexes)?;
     let desk = &work.block.state.desk;
     if is_held(desk.areas.as_slice(), desk.selected, table) {
-        return Err(CompileError::Fault(FaultKind::OpenTwice));
+        return Err(CompileError::Fault(CompileFaultKind::OpenTwice));
     }
     let list = if indexes.is_empty() {
         0
@@ -133,7 +133,7 @@ pub fn select(shape: &Shape, work: &mut Work, area: &Selected) -> Result<(), Com
 pub fn set_order(out: &Output, work: &mut Work, order: u16) -> Result<(), CompileError> {
     let area = opened(work)?;
     if out.lists.opened(area.list) < usize::from(order) {
-        return Err(CompileError::Fault(FaultKind::NoOrder));
+        return Err(CompileError::Fault(CompileFaultKind::NoOrder));
     }
     put_area(work, AreaInstr::Order(order))
 }
@@ -201,12 +201,12 @@ fn filter_number(
     let block = filter_code(shape, out, work, e)?;
     let height = height(&block);
     if height > MOST_VALUES {
-        return Err(CompileError::Fault(FaultKind::Limit));
+        return Err(CompileError::Fault(CompileFaultKind::Limit));
     }
     out.highest = out.highest.max(height);
     let needs = needs_of(work, &block)?;
     let Ok(table) = u8::try_from(table) else {
-        return Err(CompileError::Fault(FaultKind::Limit));
+        return Err(CompileError::Fault(CompileFaultKind::Limit));
     };
     out.filters.number(FilterBlock {
         table,

@@ -6,7 +6,7 @@ use crate::work::{Output, Work};
 use arrayvec::ArrayVec;
 use code_items::{IndexList, Instr, KeyPart, Name, RecordInstr, Shape};
 use dbf_file::Field;
-use prg_code::{CompileError, FaultKind};
+use prg_code::{CompileError, CompileFaultKind};
 use prg_expr::{Expr, Function, Operator};
 
 fn is_field(fields: &[Field], number: u8, name: &[u8]) -> bool {
@@ -74,13 +74,13 @@ pub fn index_on(
     name: &Name,
 ) -> Result<(), CompileError> {
     let Some(number) = index_named(shape.indexes.as_slice(), name.as_slice()) else {
-        return Err(CompileError::Fault(FaultKind::Name));
+        return Err(CompileError::Fault(CompileFaultKind::Name));
     };
     let area = opened(work)?;
     if !is_of_table(shape.indexes.as_slice(), number, area.table)
         || !is_key_of(shape, number, key)
     {
-        return Err(CompileError::Fault(FaultKind::Index));
+        return Err(CompileError::Fault(CompileFaultKind::Index));
     }
     meets_filter(out, work, area)?;
     let mut indexes = ArrayVec::new();

@@ -4,7 +4,7 @@ use crate::areas::opened;
 use crate::values::{demand, put_one, value, value_of_kind};
 use crate::work::{Output, Work};
 use code_items::{Instr, MoveInstr, OpenArea, RecordInstr, Shape};
-use prg_code::{CompileError, FaultKind};
+use prg_code::{CompileError, CompileFaultKind};
 use prg_expr::Expr;
 use prg_line::{Move, Replacement};
 use prg_values::field_of;
@@ -16,7 +16,7 @@ pub fn meets_filter(out: &Output, work: &Work, area: OpenArea) -> Result<(), Com
         .filters
         .lacks(area.filter, work.block.state.slots.kinds())
     {
-        return Err(CompileError::Fault(FaultKind::Filter));
+        return Err(CompileError::Fault(CompileFaultKind::Filter));
     }
     Ok(())
 }
@@ -76,7 +76,7 @@ pub fn seek(
 ) -> Result<(), CompileError> {
     value_of_kind(shape, out, work, key, Kind::Text)?;
     if opened(work)?.order == 0 {
-        return Err(CompileError::Fault(FaultKind::NoOrder));
+        return Err(CompileError::Fault(CompileFaultKind::NoOrder));
     }
     put_move(out, work, MoveInstr::Seek)
 }
@@ -113,7 +113,7 @@ fn replace_one(
             work.block
                 .put(Instr::Records(RecordInstr::Replace(field.number)))
         }
-        None => Err(CompileError::Fault(FaultKind::Name)),
+        None => Err(CompileError::Fault(CompileFaultKind::Name)),
     }
 }
 

@@ -7,9 +7,9 @@ use crate::screen::{accept, get, get_on, read, say, show, show_line, wait};
 use crate::values::put_screen;
 use crate::variables::{assign, hide, release, store};
 use crate::work::{Output, Work};
-use code_items::{AreaInstr, Instr, RecordInstr, ScreenInstr, Shape, ValueInstr};
-use prg_code::{CompileError, FaultKind};
-use prg_line::{Setting, Statement};
+use code_items::{AreaInstr, Instr, RecordInstr, ScreenInstr, Setting, Shape, ValueInstr};
+use prg_code::{CompileError, CompileFaultKind};
+use prg_line::{Statement, Toggle};
 
 /// Whether the command may stand between a GET and its READ, or is that READ.
 pub fn may_stand_before_read(statement: &Statement) -> bool {
@@ -25,20 +25,20 @@ pub fn may_stand_before_read(statement: &Statement) -> bool {
 }
 
 /// The setting as an instruction names it.
-fn setting_of(setting: Setting) -> xvalue::Setting {
-    match setting {
-        Setting::Exact => xvalue::Setting::Exact,
-        Setting::Deleted => xvalue::Setting::Deleted,
-        Setting::Century => xvalue::Setting::Century,
+fn setting_of(toggle: Toggle) -> Setting {
+    match toggle {
+        Toggle::Exact => Setting::Exact,
+        Toggle::Deleted => Setting::Deleted,
+        Toggle::Century => Setting::Century,
     }
 }
 
-fn set(out: &mut Output, work: &mut Work, setting: Setting, on: bool) -> Result<(), CompileError> {
-    if matches!(setting, Setting::Century) {
+fn set(out: &mut Output, work: &mut Work, toggle: Toggle, on: bool) -> Result<(), CompileError> {
+    if toggle == Toggle::Century {
         out.century = true;
     }
     work.block
-        .put(Instr::Values(ValueInstr::Set(setting_of(setting), on)))
+        .put(Instr::Values(ValueInstr::Set(setting_of(toggle), on)))
 }
 
 fn put_on_screen(
@@ -86,7 +86,7 @@ fn put_on_values(
         Statement::Release { variables } => release(work, variables),
         Statement::Private { variables } => hide(work, variables),
         Statement::Set { setting, on } => set(out, work, *setting, *on),
-        Statement::Parameters { .. } => Err(CompileError::Fault(FaultKind::Parameters)),
+        Statement::Parameters { .. } => Err(CompileError::Fault(CompileFaultKind::Parameters)),
         _ => Ok(()),
     }
 }

@@ -3,7 +3,7 @@
 use crate::work::{Output, Work};
 use code_items::{Instr, ScreenInstr, Shape, ValueInstr};
 use fixed_num::Num;
-use prg_code::{CompileError, FaultKind};
+use prg_code::{CompileError, CompileFaultKind};
 use prg_expr::Expr;
 use prg_values::{Compiled, Reading, Scope, with_kind};
 use xvalue::{Kind, Text, Value};
@@ -45,7 +45,7 @@ pub fn demand(kind: Kind, wanted: Kind) -> Result<(), CompileError> {
     if kind.is(wanted) {
         Ok(())
     } else {
-        Err(CompileError::Fault(FaultKind::Kind))
+        Err(CompileError::Fault(CompileFaultKind::Kind))
     }
 }
 

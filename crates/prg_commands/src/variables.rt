@@ -3,7 +3,7 @@
 use crate::values::{scope_of, value};
 use crate::work::{Output, Work};
 use code_items::{Instr, Name, Shape, ValueInstr};
-use prg_code::{CompileError, FaultKind};
+use prg_code::{CompileError, CompileFaultKind};
 use prg_expr::Expr;
 use prg_values::{selected_field, variable_slot};
 use xvalue::Kind;
@@ -15,14 +15,14 @@ const MOST_SLOTS: u16 = 256;
 pub fn new_slot(out: &mut Output) -> Result<u8, CompileError> {
     let slot = out.slots;
     if slot >= MOST_SLOTS {
-        return Err(CompileError::Fault(FaultKind::Limit));
+        return Err(CompileError::Fault(CompileFaultKind::Limit));
     }
     match u8::try_from(slot) {
         Ok(number) => {
             out.slots = slot + 1;
             Ok(number)
         }
-        Err(_) => Err(CompileError::Fault(FaultKind::Limit)),
+        Err(_) => Err(CompileError::Fault(CompileFaultKind::Limit)),
     }
 }
 
@@ -88,7 +88,7 @@ pub fn store(
 pub fn release(work: &mut Work, names: &[Name]) -> Result<(), CompileError> {
     for name in names {
         let Some(slot) = work.names.slot(name.as_slice()) else {
-            return Err(CompileError::Fault(FaultKind::Name));
+            return Err(CompileError::Fault(CompileFaultKind::Name));
         };
         work.block
             .put(Instr::Values(ValueInstr::Unset(u16::from(slot))))?;
@@ -109,7 +109,7 @@ pub fn hide(work: &mut Work, names: &[Name]) -> Result<(), CompileError> {
 
 /// The slot of an argument that is handed over by reference: a name alone that is no field, or one behind `M->`. None of any
 /// other expression, which is handed over by value.
-pub fn argument_slot(shape: &Shape, work: &Work, e: &Expr) -> Result<Option<u8>, FaultKind> {
+pub fn argument_slot(shape: &Shape, work: &Work, e: &Expr) -> Result<Option<u8>, CompileFaultKind> {
     let scope = scope_of(shape, work);
     match e {
         Expr::Name(name) => match selected_field(&scope, name.as_slice())? {

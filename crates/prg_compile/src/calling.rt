@@ -1,7 +1,7 @@
 //! Calls of procedures, but for writing a copy.
 
 use code_items::{FlowInstr, Instr, Name, State, ValueInstr};
-use prg_code::{Block, CompileError, FaultKind, Names, is_state_same};
+use prg_code::{Block, CompileError, CompileFaultKind, Names, is_state_same};
 use prg_commands::{Work, argument_slot, new_slot, value};
 use prg_parser::{Command, Expr, Procedure, Program};
 use prg_writer::{ProcedureCopy, Source, Target, Writer, parameters};
@@ -44,13 +44,13 @@ fn file_named(programs: &[Program], name: &[u8]) -> Option<Target> {
 }
 
 /// What `DO name` runs: the first PROCEDURE of that name in the files, in their order, else the first file of that name.
-fn target_named(programs: &[Program], name: &[u8]) -> Result<Target, FaultKind> {
+fn target_named(programs: &[Program], name: &[u8]) -> Result<Target, CompileFaultKind> {
     if let Some(target) = procedure_in(programs, name) {
         return Ok(target);
     }
     match file_named(programs, name) {
         Some(target) => Ok(target),
-        None => Err(FaultKind::Name),
+        None => Err(CompileFaultKind::Name),
     }
 }
 
@@ -68,11 +68,11 @@ pub fn target_of(
 ) -> Result<Target, CompileError> {
     let target = target_named(s.programs, name)?;
     if is_active(&w.active, target) {
-        return Err(CompileError::Fault(FaultKind::Recursion));
+        return Err(CompileError::Fault(CompileFaultKind::Recursion));
     }
     let (names, _) = parameters(s.commands(target));
     if names.len() != arguments {
-        return Err(CompileError::Fault(FaultKind::Parameters));
+        return Err(CompileError::Fault(CompileFaultKind::Parameters));
     }
     Ok(target)
 }
@@ -154,10 +154,10 @@ pub fn begin_copy(
 ) -> Result<(usize, Work), CompileError> {
     let number = w.copies.len();
     if number >= MOST_COPIES {
-        return Err(CompileError::Fault(FaultKind::Copies));
+        return Err(CompileError::Fault(CompileFaultKind::Copies));
     }
     if w.active.len() > MOST_CALLS {
-        return Err(CompileError::Fault(FaultKind::Limit));
+        return Err(CompileError::Fault(CompileFaultKind::Limit));
     }
     let entry = w.work.block.state.copied(w.alloc)?;
     let begun = w.work.block.state.copied(w.alloc)?;
@@ -234,10 +234,10 @@ fn level_of(w: &Writer, number: usize) -> u8 {
 pub fn put_call(w: &mut Writer, number: usize) -> Result<(), CompileError> {
     let level = level_of(w, number);
     if w.active.len().saturating_add(usize::from(level)) > MOST_CALLS {
-        return Err(CompileError::Fault(FaultKind::Limit));
+        return Err(CompileError::Fault(CompileFaultKind::Limit));
     }
     let Ok(procedure) = u16::try_from(number) else {
-        return Err(CompileError::Fault(FaultKind::Copies));
+        return Err(CompileError::Fault(CompileFaultKind::Copies));
     };
     w.work.block.put(Instr::Flow(FlowInstr::Call(procedure)))?;
     w.work.level = w.work.level.max(level.saturating_add(1));

@@ -7,7 +7,7 @@ use crate::control::{Inside, commands};
 use crate::ends::end_procedure;
 use code_items::{Code, Shape};
 use code_verify::{Verified, VerifyError, verify};
-use prg_code::{Block, CompileError, CompileFault, CompileRefusal, FaultKind, Names};
+use prg_code::{Block, CompileError, CompileFault, CompileRefusal, CompileFaultKind, Names};
 use prg_commands::{Output, Work};
 use prg_parser::Program;
 use prg_writer::{ProcedureCopy, Source, Target, Writer, assemble, copy_of_shape};
@@ -69,7 +69,7 @@ fn written(alloc: Global, s: &Source) -> Result<Writer, CompileRefusal> {
 }
 
 /// Why the code as a whole is refused.
-fn whole(kind: FaultKind) -> CompileRefusal {
+fn whole(kind: CompileFaultKind) -> CompileRefusal {
     CompileRefusal::Fault(CompileFault {
         file: 0,
         line: 0,
@@ -81,11 +81,11 @@ fn accepted(alloc: Global, code: Code) -> Result<Verified, CompileRefusal>
     ensures { IfOk result (λ verified. verified ≡ code) }
 {
     if !code.is_legal() {
-        return Err(whole(FaultKind::Limit));
+        return Err(whole(CompileFaultKind::Limit));
     }
     match verify(alloc, code) {
         Ok(verified) => Ok(verified),
-        Err(VerifyError::Refused(_)) => Err(whole(FaultKind::Limit)),
+        Err(VerifyError::Refused(_)) => Err(whole(CompileFaultKind::Limit)),
         Err(VerifyError::NoMemory) => Err(CompileRefusal::NoMemory),
     }
 }

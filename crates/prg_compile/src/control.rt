@@ -9,7 +9,7 @@ use crate::calling::{
 };
 use crate::ends::{Leaps, end_procedure, no_get_waits, plain};
 use code_items::{Instr, Question, RecordInstr, State, ValueInstr};
-use prg_code::{CompileError, CompileRefusal, FaultKind, Names, is_state_same};
+use prg_code::{CompileError, CompileRefusal, CompileFaultKind, Names, is_state_same};
 use prg_commands::{condition, put_skip_on, put_top};
 use prg_expr::Expr;
 use prg_line::Statement;
@@ -119,7 +119,7 @@ fn round_end(
         return Ok(None);
     };
     if label.split {
-        return Err(w.faulty(end, FaultKind::Merge));
+        return Err(w.faulty(end, CompileFaultKind::Merge));
     }
     match &label.state {
         Some(state) if !is_state_same(state, head) => Ok(Some(state.copied(w.alloc)?)),
@@ -130,7 +130,7 @@ fn round_end(
 /// Puts the test of a SCAN: whether there is a row.
 fn put_scan_test(w: &mut Writer) -> Result<(), CompileError> {
     if w.work.block.state.desk.selected_area().is_none() {
-        return Err(CompileError::Fault(FaultKind::ClosedArea));
+        return Err(CompileError::Fault(CompileFaultKind::ClosedArea));
     }
     w.work
         .block
@@ -155,7 +155,7 @@ pub fn commands(
             return Ok(());
         }
         if at.room == 0 {
-            return Err(w.faulty(command.line, FaultKind::Limit));
+            return Err(w.faulty(command.line, CompileFaultKind::Limit));
         }
         put_command(s, w, at.deeper(), command)?;
     }
@@ -174,7 +174,7 @@ fn put_command(
 ) -> Result<(), CompileRefusal> {
     let line = command.line;
     if at.room == 0 {
-        return Err(w.faulty(line, FaultKind::Limit));
+        return Err(w.faulty(line, CompileFaultKind::Limit));
     }
     match &command.form {
         Form::Statement(
@@ -200,7 +200,7 @@ fn put_block(
     form: &Form,
 ) -> Result<(), CompileRefusal> {
     if at.room == 0 {
-        return Err(w.faulty(line, FaultKind::Limit));
+        return Err(w.faulty(line, CompileFaultKind::Limit));
     }
     let inner = at.deeper();
     let span = span_of(line, form);
@@ -266,7 +266,7 @@ fn choose(
 ) -> Result<(), CompileRefusal> {
     let Span { first, end } = span;
     if at.room == 0 {
-        return Err(w.faulty(first, FaultKind::Limit));
+        return Err(w.faulty(first, CompileFaultKind::Limit));
     }
     let other = new_label(w, first)?;
     put_condition(s, w, first, condition, other)?;
@@ -299,7 +299,7 @@ fn choose_case(
 ) -> Result<(), CompileRefusal> {
     let Span { first, end } = span;
     if at.room == 0 {
-        return Err(w.faulty(first, FaultKind::Limit));
+        return Err(w.faulty(first, CompileFaultKind::Limit));
     }
     let out = new_label(w, first)?;
     for (number, case) in cases.iter().enumerate() {
@@ -339,7 +339,7 @@ fn repeat(
 ) -> Result<(), CompileRefusal> {
     let Span { first, end } = span;
     if at.room == 0 {
-        return Err(w.faulty(first, FaultKind::Limit));
+        return Err(w.faulty(first, CompileFaultKind::Limit));
     }
     put_first_row(w, first, test)?;
     let mark = w.mark()?;
@@ -358,7 +358,7 @@ fn repeat(
         head = Some(state.copied(w.alloc)?);
         w.give_up(&mark, state)?;
     }
-    Err(w.faulty(end, FaultKind::Limit))
+    Err(w.faulty(end, CompileFaultKind::Limit))
 }
 
 /// A round of a DO WHILE. Gives what is known at its head by its ways back, where that is less than what was.
@@ -373,7 +373,7 @@ fn while_round(
 ) -> Result<Option<State>, CompileRefusal> {
     let Span { first, end } = span;
     if at.room == 0 {
-        return Err(w.faulty(first, FaultKind::Limit));
+        return Err(w.faulty(first, CompileFaultKind::Limit));
     }
     let head = w.work.block.state.copied(w.alloc)?;
     let again = new_label(w, first)?;
@@ -402,7 +402,7 @@ fn scan_round(
 ) -> Result<Option<State>, CompileRefusal> {
     let Span { first, end } = span;
     if at.room == 0 {
-        return Err(w.faulty(first, FaultKind::Limit));
+        return Err(w.faulty(first, CompileFaultKind::Limit));
     }
     let head = w.work.block.state.copied(w.alloc)?;
     let top = new_label(w, first)?;
@@ -463,7 +463,7 @@ fn call(
 ) -> Result<(), CompileRefusal> {
     no_get_waits(w, line)?;
     if at.room == 0 {
-        return Err(w.faulty(line, FaultKind::Limit));
+        return Err(w.faulty(line, CompileFaultKind::Limit));
     }
     let result = target_of(s, w, procedure.as_slice(), arguments.len());
     let target = w.told(line, result)?;
@@ -492,7 +492,7 @@ fn write_copy(
     own: Vec<u8>,
 ) -> Result<usize, CompileRefusal> {
     if at.room == 0 {
-        return Err(w.faulty(line, FaultKind::Limit));
+        return Err(w.faulty(line, CompileFaultKind::Limit));
     }
     let result = begin_copy(w, target, names, own);
     let (number, before) = w.told(line, result)?;

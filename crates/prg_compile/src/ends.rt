@@ -1,7 +1,7 @@
 //! Where ways end: RETURN, QUIT and CANCEL, LOOP and EXIT, and the end of a procedure; and the commands of one line.
 
 use code_items::State;
-use prg_code::{CompileError, CompileRefusal, FaultKind, is_selection_same, merged};
+use prg_code::{CompileError, CompileRefusal, CompileFaultKind, is_selection_same, merged};
 use prg_commands::{Work, may_stand_before_read, put_statement};
 use prg_line::Statement;
 use prg_writer::Writer;
@@ -19,7 +19,7 @@ fn exit_with(work: &Work) -> Result<State, CompileError> {
     match &work.exit {
         Some(exit) => {
             if !is_selection_same(exit, &work.block.state) {
-                return Err(CompileError::Fault(FaultKind::Merge));
+                return Err(CompileError::Fault(CompileFaultKind::Merge));
             }
             Ok(merged(work.alloc, exit, &work.block.state)?)
         }
@@ -40,7 +40,7 @@ pub fn put_return(work: &mut Work) -> Result<(), CompileError> {
 fn leap(work: &mut Work, label: Option<usize>) -> Result<(), CompileError> {
     match label {
         Some(label) => work.block.jump(label),
-        None => Err(CompileError::Fault(FaultKind::Limit)),
+        None => Err(CompileError::Fault(CompileFaultKind::Limit)),
     }
 }
 
@@ -94,7 +94,7 @@ pub fn no_get_waits(w: &Writer, line: usize) -> Result<(), CompileRefusal> {
     if w.work.gets.is_empty() {
         Ok(())
     } else {
-        Err(w.faulty(line, FaultKind::Get))
+        Err(w.faulty(line, CompileFaultKind::Get))
     }
 }
 
@@ -102,7 +102,7 @@ pub fn no_get_waits(w: &Writer, line: usize) -> Result<(), CompileRefusal> {
 pub fn end_procedure(w: &mut Writer, line: usize) -> Result<(), CompileRefusal> {
     if let Some(get) = w.work.gets.last() {
         let line = get.line;
-        return Err(w.faulty(line, FaultKind::Get));
+        return Err(w.faulty(line, CompileFaultKind::Get));
     }
     if !w.work.block.reached {
         return Ok(());

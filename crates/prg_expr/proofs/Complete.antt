@@ -1,7 +1,7 @@
 -- What the grammar has, reading finds.
 use Rattle.std.proofs.Common.{◌≡◌, ◌≢◌, ℕ, zero, suc, ◌<◌, ◌⊎◌, inl, inr, List, [], ◌∷◌, ◌++◌, length, take, true, Some, Ok, Err, refl, sym, ap, ◌∙◌, subst, arith, append_assoc, length-append}
 use Rattle.std.proofs.lemmas.List.{append-nil}
-use Rattle.prg_expr.specs.declared.fault.FaultKind.{FaultKind}
+use Rattle.prg_expr.specs.declared.fault.ParseFaultKind.{ParseFaultKind}
 use Rattle.prg_expr.specs.declared.function.Function.{Function}
 use Rattle.prg_expr.specs.declared.tree.Operator.{Operator}
 use Rattle.prg_expr.specs.declared.tree.Prefix.{Prefix}
@@ -15,7 +15,7 @@ use Rattle.prg_expr.specs.Reading.{Read, Reader, turns, chain, comparison, prefi
 use Rattle.prg_expr.proofs.Grammar.{free_less, no_operator, an_operator, Plain, plain_append, prefixes_plain, plain, some_at, prefix_levels, never_one, never_five, Unclosed, unclosed_append, unclosed_all, called_unclosed, named_free}
 use Rattle.prg_expr.proofs.Sound.{Shorter, shorter, operator_tells, reader_sound, stage_chain}
 
-result_tells : (r : Read) → ((x : Tree × List Word) × (r ≡ Ok x)) ⊎ ((f : FaultKind) × (r ≡ Err f))
+result_tells : (r : Read) → ((x : Tree × List Word) × (r ≡ Ok x)) ⊎ ((f : ParseFaultKind) × (r ≡ Err f))
 result_tells (Ok x) = inl (x, refl)
 result_tells (Err f) = inr (f, refl)
 

@@ -8,7 +8,7 @@ use Rattle.std.proofs.Math.Seq.{take-append_seam, drop-append_seam}
 use Rattle.std.proofs.lemmas.List.{append-nil}
 use Rattle.std.proofs.lemmas.Bool.Decides.{nat_tests}
 use Rattle.std.proofs.lemmas.Bool.{ne_eqb}
-use Rattle.prg_expr.specs.declared.fault.FaultKind.TheVariants as fault
+use Rattle.prg_expr.specs.declared.fault.ParseFaultKind.TheVariants as fault
 use Rattle.prg_expr.specs.Word.{Word, Number, Text, Name, Outside, Point, Macro, Faulty}
 use Rattle.prg_expr.specs.Lexicon.{is_name, is_blank, is_quote, digit_first, decimals, singles, single_in, pairs, pair_in, pointed, Listed, NoneInFront, Each, Stops, Alone, over, number_fault}
 use Rattle.prg_expr.specs.Scanning.{found, clean_at, number_len, number_at, name_at, text_end, text_at, pick, single_at, symbol_at, word_at}

@@ -9,7 +9,7 @@ use Rattle.std.specs.declared.alloc.AllocError.{AllocError}
 use Rattle.std.specs.Prelude.{IfOk}
 use Rattle.prg_expr.specs.declared.token.Line.{Line}
 use Rattle.prg_expr.specs.Scanning.{IsScan, IsWordsOf}
-use Rattle.prg_expr.specs.declared.fault.FaultKind.{FaultKind}
+use Rattle.prg_expr.specs.declared.fault.ParseFaultKind.{ParseFaultKind}
 use Rattle.prg_expr.specs.Word.{Word}
 use Rattle.prg_expr.specs.Lexicon.{is_blank, is_quote, is_comment, digit_first, closing, singles, single_in, pairs, pair_in, pointed, Each, Stops, IsWord, whole, decimal, name, text, unended, behind_point, lone_point, pair, single, macro, strange, Spot, spot, IsLine, nothing, comment, blank, word}
 use Rattle.prg_expr.specs.Scanning.{found, number_at, name_at, text_at, pick, symbol_at, word_at, with_word, spots_at, scan}
@@ -48,7 +48,7 @@ no_comment b [] h = refl
 no_comment b (c ∷ bytes) h = rw h refl
 
 -- the first byte of a word is no blank and begins no comment, and what is read there is the word
-record Begins (w : Word) (f : Option FaultKind) (front rest : List ℕ) : Type 0 where
+record Begins (w : Word) (f : Option ParseFaultKind) (front rest : List ℕ) : Type 0 where
   first : ℕ
   others : List ℕ
   is : front ≡ first ∷ others
@@ -88,7 +88,7 @@ singles_other = (record { no_blank = refl; no_digit = refl; no_letter = refl; no
 pairs_other : EachPair Other pairs
 pairs_other = (record { no_blank = refl; no_digit = refl; no_letter = refl; no_point = refl; no_quote = refl; no_macro = refl }, (record { no_blank = refl; no_digit = refl; no_letter = refl; no_point = refl; no_quote = refl; no_macro = refl }, (record { no_blank = refl; no_digit = refl; no_letter = refl; no_point = refl; no_quote = refl; no_macro = refl }, (record { no_blank = refl; no_digit = refl; no_letter = refl; no_point = refl; no_quote = refl; no_macro = refl }, (record { no_blank = refl; no_digit = refl; no_letter = refl; no_point = refl; no_quote = refl; no_macro = refl }, tt)))))
 
-symbol_begins : (b : ℕ) (others rest : List ℕ) (w : Word) (f : Option FaultKind) → Other b → symbol_at b (others ++ rest) ≡ found w f rest → Begins w f (b ∷ others) rest
+symbol_begins : (b : ℕ) (others rest : List ℕ) (w : Word) (f : Option ParseFaultKind) → Other b → symbol_at b (others ++ rest) ≡ found w f rest → Begins w f (b ∷ others) rest
 symbol_begins b others rest w f o h = record {
   first = b;
   others = others;
@@ -126,7 +126,7 @@ macro_word : (bytes : List ℕ) → word_at 38 bytes ≡ symbol_at 38 bytes
 unfolding word_at
 macro_word bytes = refl
 
-quote_begins : (b : ℕ) (s rest : List ℕ) (w : Word) (f : Option FaultKind) → is_quote b ≡ true → text_at (closing b) (s ++ rest) ≡ found w f rest → Begins w f (b ∷ s) rest
+quote_begins : (b : ℕ) (s rest : List ℕ) (w : Word) (f : Option ParseFaultKind) → is_quote b ≡ true → text_at (closing b) (s ++ rest) ≡ found w f rest → Begins w f (b ∷ s) rest
 quote_begins b s rest w f q h = let p = quote_plain b q in record {
   first = b;
   others = s;
@@ -136,7 +136,7 @@ quote_begins b s rest w f q h = let p = quote_plain b q in record {
   read = quote_word b (s ++ rest) q ∙ h;
 }
 
-digit_begins : (b : ℕ) (ds rest : List ℕ) (w : Word) (f : Option FaultKind) → is_ascii_digit b ≡ true → number_at (b ∷ (ds ++ rest)) ≡ found w f rest → Begins w f (b ∷ ds) rest
+digit_begins : (b : ℕ) (ds rest : List ℕ) (w : Word) (f : Option ParseFaultKind) → is_ascii_digit b ≡ true → number_at (b ∷ (ds ++ rest)) ≡ found w f rest → Begins w f (b ∷ ds) rest
 digit_begins b ds rest w f d h = record {
   first = b;
   others = ds;
@@ -146,14 +146,14 @@ digit_begins b ds rest w f d h = record {
   read = digit_word b (ds ++ rest) d ∙ h;
 }
 
-point_begins : (behind rest : List ℕ) (w : Word) (f : Option FaultKind) → word_at 46 (behind ++ rest) ≡ found w f rest → Begins w f (46 ∷ behind) rest
+point_begins : (behind rest : List ℕ) (w : Word) (f : Option ParseFaultKind) → word_at 46 (behind ++ rest) ≡ found w f rest → Begins w f (46 ∷ behind) rest
 point_begins behind rest w f h = record { first = 46; others = behind; is = refl; not_blank = refl; not_comment = no_comment 46 (behind ++ rest) refl; read = h }
 
 some_digit : (behind rest : List ℕ) → 0 < length behind → Each is_ascii_digit behind → digit_first (behind ++ rest) ≡ true
 some_digit [] rest p e = absurd (omega (arith, p))
 some_digit (b ∷ behind) rest p e = e.0
 
-begins : {w : Word} {f : Option FaultKind} {front rest : List ℕ} → IsWord w f front rest → Begins w f front rest
+begins : {w : Word} {f : Option ParseFaultKind} {front rest : List ℕ} → IsWord w f front rest → Begins w f front rest
 begins (whole {digits = []} p e s z) = absurd (omega (arith, p))
 begins (whole {digits = b ∷ ds} {rest} p e s z) = digit_begins b ds rest _ _ e.0 (whole_read (b ∷ ds) rest e s z)
 begins (decimal [] behind {rest} e p f s) = point_begins behind rest _ _ (point_digit (behind ++ rest) (some_digit behind rest p f) ∙ decimal_read [] behind rest e p f s)
@@ -236,13 +236,13 @@ comment_by : (n : ℕ) (bytes : List ℕ) → length (38 ∷ 38 ∷ bytes) ≤ n
 comment_by zero bytes le = absurd (omega arith)
 comment_by (suc n) bytes le = comment_on n 38 (38 ∷ bytes) refl refl
 
-word_from : (n : ℕ) (w : Word) (f : Option FaultKind) (spots : List Spot) (b : ℕ) (others rest : List ℕ) → is_blank b ≡ false → is_comment b (others ++ rest) ≡ false → word_at b (others ++ rest) ≡ found w f rest
+word_from : (n : ℕ) (w : Word) (f : Option ParseFaultKind) (spots : List Spot) (b : ℕ) (others rest : List ℕ) → is_blank b ≡ false → is_comment b (others ++ rest) ≡ false → word_at b (others ++ rest) ≡ found w f rest
     → length (b ∷ (others ++ rest)) ≤ n → ((m : ℕ) → length rest ≤ m → spots_at m rest ≡ spots) → spots_at n (b ∷ (others ++ rest)) ≡ spot w f ∷ spots
 word_from zero w f spots b others rest h c r le go = absurd (omega arith)
 word_from (suc n) w f spots b others rest h c r le go =
     word_on n b (others ++ rest) h c ∙ ap (with_word (spots_at n)) r ∙ ap (λ (s : List Spot). spot w f ∷ s) (go n (omega (arith, length-append others rest)))
 
-word_by : (n : ℕ) (w : Word) (f : Option FaultKind) (spots : List Spot) (front rest : List ℕ) → Begins w f front rest → length (front ++ rest) ≤ n → ((m : ℕ) → length rest ≤ m → spots_at m rest ≡ spots) → spots_at n (front ++ rest) ≡ spot w f ∷ spots
+word_by : (n : ℕ) (w : Word) (f : Option ParseFaultKind) (spots : List Spot) (front rest : List ℕ) → Begins w f front rest → length (front ++ rest) ≤ n → ((m : ℕ) → length rest ≤ m → spots_at m rest ≡ spots) → spots_at n (front ++ rest) ≡ spot w f ∷ spots
 word_by n w f spots front rest g le go =
     subst (λ front. spots_at n (front ++ rest) ≡ spot w f ∷ spots) (sym g.is) (word_from n w f spots g.first g.others rest g.not_blank g.not_comment g.read (let len = ap (λ (front : List ℕ). length (front ++ rest)) g.is in omega (arith, len, le)) go)
 

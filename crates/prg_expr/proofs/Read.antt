@@ -3,11 +3,11 @@ use Rattle.std.proofs.Common.{◌≡◌, ℕ, ◌≤◌, inl, inr, List, [], ◌
 use Rattle.std.specs.Prelude.{IfErr, IfOk, nat_lt, nat_le}
 use Rattle.std.proofs.lemmas.List.{length-map}
 use Rattle.std.proofs.lemmas.Bool.{le-ltb, ltb-false}
-use Rattle.prg_expr.specs.declared.fault.FaultKind.{FaultKind}
-use Rattle.prg_expr.specs.declared.fault.FaultKind.TheVariants as fault
+use Rattle.prg_expr.specs.declared.fault.ParseFaultKind.{ParseFaultKind}
+use Rattle.prg_expr.specs.declared.fault.ParseFaultKind.TheVariants as fault
 use Rattle.prg_expr.specs.declared.fault.ParseFault.{ParseFault}
-use Rattle.prg_expr.specs.declared.fault.Refusal.{Refusal}
-use Rattle.prg_expr.specs.declared.fault.Refusal.TheVariants as refusal
+use Rattle.prg_expr.specs.declared.fault.ParseRefusal.{ParseRefusal}
+use Rattle.prg_expr.specs.declared.fault.ParseRefusal.TheVariants as refusal
 use Rattle.prg_expr.specs.declared.tree.Expr.{Expr}
 use Rattle.prg_expr.specs.Faults.{rank, least, least_of, length_fault, OnFault, Tells}
 use Rattle.prg_expr.specs.Tree.{Tree, tree_of}
@@ -21,7 +21,7 @@ use Rattle.prg_expr.proofs.Complete.{parse_complete}
 use Rattle.prg_expr.proofs.Lines.{scan_sound, scan_complete, few_spots}
 
 -- nothing is told only where there is nothing
-least_none : (t f : Option FaultKind) → least t f ≡ None → (t ≡ None) × (f ≡ None)
+least_none : (t f : Option ParseFaultKind) → least t f ≡ None → (t ≡ None) × (f ≡ None)
 least_none None f h = (refl, h)
 least_none (Some a) None h = absurd cc
 least_none (Some a) (Some b) h = elim (bool_tells (nat_le (rank a) (rank b))) [
@@ -33,13 +33,13 @@ abbrev AllNone : List Spot → Type 0
 AllNone [] = Unit {0}
 AllNone (x ∷ xs) = (x.1 ≡ None) × AllNone xs
 
-all_none : (t : Option FaultKind) (spots : List Spot) → least_of t (map spot_fault spots) ≡ None → (t ≡ None) × AllNone spots
+all_none : (t : Option ParseFaultKind) (spots : List Spot) → least_of t (map spot_fault spots) ≡ None → (t ≡ None) × AllNone spots
 all_none t [] h = (h, tt)
 all_none t (x ∷ xs) h = let a = all_none (least t x.1) xs h in let b = least_none t x.1 a.0 in (b.0, (b.1, a.1))
 
 cleaned : (spots : List Spot) → AllNone spots → spots ≡ map clean (map spot_word spots)
 cleaned [] a = refl
-cleaned (x ∷ xs) a = ap (λ (f : Option FaultKind). spot x.0 f ∷ xs) a.0 ∙ ap (λ (s : List Spot). clean x.0 ∷ s) (cleaned xs a.1)
+cleaned (x ∷ xs) a = ap (λ (f : Option ParseFaultKind). spot x.0 f ∷ xs) a.0 ∙ ap (λ (s : List Spot). clean x.0 ∷ s) (cleaned xs a.1)
 
 words_clean : (ws : List Word) → map spot_word (map clean ws) ≡ ws
 words_clean [] = refl
@@ -50,12 +50,12 @@ faults_clean [] = refl
 faults_clean (w ∷ ws) = faults_clean ws
 
 -- a tree is told only where it was read and there is no other fault
-told_ok : (f : Option FaultKind) (r : Result Tree FaultKind) (e : Tree) → told_of f r ≡ Ok e → (f ≡ None) × (r ≡ Ok e)
+told_ok : (f : Option ParseFaultKind) (r : Result Tree ParseFaultKind) (e : Tree) → told_of f r ≡ Ok e → (f ≡ None) × (r ≡ Ok e)
 told_ok None (Ok x) e h = (refl, h)
 told_ok (Some g) (Ok x) e h = absurd cc
 told_ok f (Err g) e h = absurd (refused_err (least f (Some g)) g e h)
   where
-    refused_err : (o : Option FaultKind) (g : FaultKind) (e : Tree) → refuse o (Err g) ≡ Ok e → ⊥
+    refused_err : (o : Option ParseFaultKind) (g : ParseFaultKind) (e : Tree) → refuse o (Err g) ≡ Ok e → ⊥
     refused_err None g e h = absurd cc
     refused_err (Some k) g e h = absurd cc
 
@@ -101,30 +101,30 @@ read_complete text e s =
     let f : least_of None (map spot_fault (scan text)) ≡ None = ap (λ (l : List Spot). least_of None (map spot_fault l)) a ∙ faults_clean s.0 in
     let p = form_on s.0 e (few_words text s.0 a s.1) (parse_complete s.0 e s.3) in
     let form = form_of (map spot_word (scan text)) in
-    ap (λ (o : Option FaultKind). told_of (least o (length_fault (length text))) form) f
-    ∙ ap (λ (o : Option FaultKind). told_of o form) (short_on (length text) s.1)
+    ap (λ (o : Option ParseFaultKind). told_of (least o (length_fault (length text))) form) f
+    ∙ ap (λ (o : Option ParseFaultKind). told_of o form) (short_on (length text) s.1)
     ∙ ap (λ (ws : List Word). told_of None (form_of ws)) w
     ∙ ap (told_of None) p
 
 -- where a tree was read no fault is told
-unfaulted : (r : Result Tree FaultKind) (e : Tree) (f : ParseFault) → r ≡ Ok e → in_first_line r ≡ Some f → ⊥
+unfaulted : (r : Result Tree ParseFaultKind) (e : Tree) (f : ParseFault) → r ≡ Ok e → in_first_line r ≡ Some f → ⊥
 unfaulted r e f h t = let g : in_first_line r ≡ None = ap in_first_line h in let k = sym g ∙ t in absurd cc
 
-pub spelled : (text : List ℕ) (r : Result Expr Refusal) → Answers r (read text) → IfOk r (λ e. Spells (tree_of e) text)
+pub spelled : (text : List ℕ) (r : Result Expr ParseRefusal) → Answers r (read text) → IfOk r (λ e. Spells (tree_of e) text)
 spelled text (Ok e) g = read_sound text (tree_of e) g
 spelled text (Err e) g = tt
 
-pub only : (text : List ℕ) (r : Result Expr Refusal) → Answers r (read text) → (e : Tree) → Spells e text → Answered e r
+pub only : (text : List ℕ) (r : Result Expr ParseRefusal) → Answers r (read text) → (e : Tree) → Spells e text → Answered e r
 only text (Ok x) g e s = (let h = sym g ∙ read_complete text e s in cc)
 only text (Err refusal.Memory) g e s = tt
 only text (Err (refusal.Fault f)) g e s = unfaulted (read text) e f (read_complete text e s) g
 
-pub refused : (text : List ℕ) (r : Result Expr Refusal) → Answers r (read text) → IfErr r (λ e. OnFault e ((e : Tree) → Spells e text → ⊥))
+pub refused : (text : List ℕ) (r : Result Expr ParseRefusal) → Answers r (read text) → IfErr r (λ e. OnFault e ((e : Tree) → Spells e text → ⊥))
 refused text (Ok x) g = tt
 refused text (Err refusal.Memory) g = tt
 refused text (Err (refusal.Fault f)) g = λ e s. unfaulted (read text) e f (read_complete text e s) g
 
-pub told : (text : List ℕ) (r : Result Expr Refusal) → Answers r (read text) → IfErr r (Tells (fault_told text))
+pub told : (text : List ℕ) (r : Result Expr ParseRefusal) → Answers r (read text) → IfErr r (Tells (fault_told text))
 told text (Ok x) g = tt
 told text (Err e) g = g
 

@@ -1,7 +1,7 @@
 -- Scanning, as a loop does it.
 use Rattle.std.proofs.Common.{◌≡◌, ℕ, zero, suc, ◌≤◌, List, [], ◌∷◌, ◌++◌, length, map, true, false, Option, None, refl, sym, ap, ◌∙◌, arith, append_assoc}
 use Rattle.std.proofs.lemmas.List.{append-nil, map_push}
-use Rattle.prg_expr.specs.declared.fault.FaultKind.{FaultKind}
+use Rattle.prg_expr.specs.declared.fault.ParseFaultKind.{ParseFaultKind}
 use Rattle.prg_expr.specs.declared.token.Line.{Line}
 use Rattle.prg_expr.specs.Faults.{least, least_of}
 use Rattle.prg_expr.specs.Word.{Word, words}
@@ -10,7 +10,7 @@ use Rattle.prg_expr.specs.Scanning.{Found, found, with_word, word_at, spots_at, 
 use Rattle.prg_expr.proofs.Takes.{word_shorter}
 use Rattle.prg_expr.proofs.Lines.{nothing_on, blank_on, comment_on, word_on}
 
-pub record SoFar (text : List ℕ) (ws : List Word) (told : Option FaultKind) (rest : List ℕ) : Type 0 where
+pub record SoFar (text : List ℕ) (ws : List Word) (told : Option ParseFaultKind) (rest : List ℕ) : Type 0 where
   pub front : List Spot
   pub bound : ℕ
   pub enough : length rest ≤ bound
@@ -22,7 +22,7 @@ pub starts : (text : List ℕ) → SoFar text [] None text
 unfolding scan
 starts text = record { front = []; bound = length text; enough = omega arith; tokens = refl; faults = refl; reads = refl }
 
-least_push : (t : Option FaultKind) (fs : List (Option FaultKind)) (f : Option FaultKind) → least_of t (fs ++ f ∷ []) ≡ least (least_of t fs) f
+least_push : (t : Option ParseFaultKind) (fs : List (Option ParseFaultKind)) (f : Option ParseFaultKind) → least_of t (fs ++ f ∷ []) ≡ least (least_of t fs) f
 least_push t [] f = refl
 least_push t (g ∷ fs) f = least_push (least t g) fs f
 
@@ -30,7 +30,7 @@ some_bound : (b : ℕ) (rest : List ℕ) (n : ℕ) → length (b ∷ rest) ≤ n
 some_bound b rest zero le = absurd (omega arith)
 some_bound b rest (suc m) le = (m, refl)
 
-module _ (text : List ℕ) (ws : List Word) (told : Option FaultKind) where
+module _ (text : List ℕ) (ws : List Word) (told : Option ParseFaultKind) where
   pub skips : (b : ℕ) (rest : List ℕ) → SoFar text ws told (b ∷ rest) → is_blank b ≡ true → SoFar text ws told rest
   skips b rest so h =
       let n = some_bound b rest so.bound so.enough in
@@ -43,7 +43,7 @@ module _ (text : List ℕ) (ws : List Word) (told : Option FaultKind) where
         reads = ap (λ (s : List Spot). so.front ++ s) (sym (blank_on n.0 b rest h)) ∙ ap (λ k. so.front ++ spots_at k (b ∷ rest)) (sym n.1) ∙ so.reads;
       }
 
-  pub takes : (b : ℕ) (rest : List ℕ) (w : Word) (f : Option FaultKind) (after : List ℕ) → SoFar text ws told (b ∷ rest) → is_blank b ≡ false → is_comment b rest ≡ false → found w f after ≡ word_at b rest → SoFar text (ws ++ w ∷ []) (least told f) after
+  pub takes : (b : ℕ) (rest : List ℕ) (w : Word) (f : Option ParseFaultKind) (after : List ℕ) → SoFar text ws told (b ∷ rest) → is_blank b ≡ false → is_comment b rest ≡ false → found w f after ≡ word_at b rest → SoFar text (ws ++ w ∷ []) (least told f) after
   takes b rest w f after so h c r =
       let n = some_bound b rest so.bound so.enough in
       let lt = word_shorter b rest h c in
@@ -53,7 +53,7 @@ module _ (text : List ℕ) (ws : List Word) (told : Option FaultKind) where
         bound = n.0;
         enough = omega (arith, so.enough, n.1, lt, len);
         tokens = ap (λ (l : List Word). l ++ w ∷ []) so.tokens ∙ sym (map_push spot_word so.front (spot w f));
-        faults = ap (λ (t : Option FaultKind). least t f) so.faults ∙ sym (least_push None (map spot_fault so.front) f) ∙ ap (least_of None) (sym (map_push spot_fault so.front (spot w f)));
+        faults = ap (λ (t : Option ParseFaultKind). least t f) so.faults ∙ sym (least_push None (map spot_fault so.front) f) ∙ ap (least_of None) (sym (map_push spot_fault so.front (spot w f)));
         reads = append_assoc so.front (spot w f ∷ []) (spots_at n.0 after) ∙ ap (λ (x : Found). so.front ++ with_word (spots_at n.0) x) r ∙ ap (λ (s : List Spot). so.front ++ s) (sym (word_on n.0 b rest h c)) ∙ ap (λ k. so.front ++ spots_at k (b ∷ rest)) (sym n.1) ∙ so.reads;
       }
 

@@ -3,8 +3,8 @@ use Rattle.std.proofs.Common.{◌≡◌, ◌≢◌, ℕ, zero, suc, ◌<◌, ◌
 use Rattle.std.proofs.lemmas.List.{append-nil}
 use Rattle.std.proofs.lemmas.Bool.Decides.{eqb_tells}
 use Rattle.std.proofs.lemmas.Bool.{ne_eqb}
-use Rattle.prg_expr.specs.declared.fault.FaultKind.{FaultKind}
-use Rattle.prg_expr.specs.declared.fault.FaultKind.TheVariants as fault
+use Rattle.prg_expr.specs.declared.fault.ParseFaultKind.{ParseFaultKind}
+use Rattle.prg_expr.specs.declared.fault.ParseFaultKind.TheVariants as fault
 use Rattle.prg_expr.specs.declared.function.Function.{Function}
 use Rattle.prg_expr.specs.declared.tree.Operator.{Operator}
 use Rattle.prg_expr.specs.Functions.{function_named, takes}
@@ -16,7 +16,7 @@ use Rattle.prg_expr.specs.Grammar.{looseness, Stands, number, text, logical, nam
 use Rattle.prg_expr.specs.Reading.{Read, Reader, ◌>>=◌, if_some, operator_at, turns, chain, comparison, prefixes, close, separator, after_argument, arguments, call_of, called_at, qualified_at, named, operand, stage, reader, inside, level_at, whole, all_read, parse}
 use Rattle.prg_expr.proofs.Grammar.{prefix_tells}
 
-pub bind_ok : {A B : Type 0} → (r : Result A FaultKind) (f : A → Result B FaultKind) (y : B) → (r >>= f) ≡ Ok y → (x : A) × (r ≡ Ok x) × (f x ≡ Ok y)
+pub bind_ok : {A B : Type 0} → (r : Result A ParseFaultKind) (f : A → Result B ParseFaultKind) (y : B) → (r >>= f) ≡ Ok y → (x : A) × (r ≡ Ok x) × (f x ≡ Ok y)
 bind_ok (Ok x) f y h = (x, refl, h)
 bind_ok (Err e) f y h = absurd cc
 
@@ -165,13 +165,13 @@ in_parentheses d r ins ws y x h g =
 abbrev flag : Bool → List Word → Bool × List Word
 flag b ws = (b, ws)
 
-abbrev ok_flag : Bool × List Word → Result (Bool × List Word) FaultKind
+abbrev ok_flag : Bool × List Word → Result (Bool × List Word) ParseFaultKind
 ok_flag x = Ok x
 
 flag_same : (x y : Bool × List Word) → ok_flag x ≡ Ok y → x ≡ y
 flag_same x y h = cc
 
-abbrev all_ok' : Trees × List Word → Result (Trees × List Word) FaultKind
+abbrev all_ok' : Trees × List Word → Result (Trees × List Word) ParseFaultKind
 all_ok' x = Ok x
 
 all_same : (x y : Trees × List Word) → all_ok' x ≡ Ok y → x ≡ y
@@ -242,7 +242,7 @@ call_ok : (f : Function) (es : Trees) (ws : List Word) (x : Tree × List Word) �
 unfolding call_of
 call_ok f es ws x h = elim (bool_tells (takes f (count es))) [
   | inl y ↦ (y, sym (rw y refl) ∙ h)
-  | inr n ↦ (let g : call_of f es ws ≡ Err Rattle.prg_expr.specs.declared.fault.FaultKind.TheVariants.Expression = rw n refl in absurd (let k = sym g ∙ h in cc))
+  | inr n ↦ (let g : call_of f es ws ≡ Err Rattle.prg_expr.specs.declared.fault.ParseFaultKind.TheVariants.Expression = rw n refl in absurd (let k = sym g ∙ h in cc))
 ]
 
 call_takes : (d : ℕ) (r : Reader) → IsInside d r → (s : List ℕ) (f : Function) → function_named s ≡ Some f → (ws : List Word) (x : Tree × List Word) → (arguments (suc (length ws)) r ws >>= λ x. call_of f x.0 x.1) ≡ Ok x → Takes d 0 (word.Name s ∷ word.Open ∷ ws) x
@@ -292,7 +292,7 @@ qualified_takes d a (word.Outside mk ∷ ws) x h = absurd cc
 named_takes : (d : ℕ) (r : Reader) → IsInside d r → (s : List ℕ) (ws : List Word) (x : Tree × List Word) → named d r s ws ≡ Ok x → Takes d 0 (word.Name s ∷ ws) x
 unfolding named
 named_takes d r ins s (word.Open ∷ ws) x h = elim (option_tells (function_named s)) [
-  | inl none ↦ absurd (let g : named d r s (word.Open ∷ ws) ≡ Err Rattle.prg_expr.specs.declared.fault.FaultKind.TheVariants.Expression = rw none refl in let k = sym g ∙ h in cc)
+  | inl none ↦ absurd (let g : named d r s (word.Open ∷ ws) ≡ Err Rattle.prg_expr.specs.declared.fault.ParseFaultKind.TheVariants.Expression = rw none refl in let k = sym g ∙ h in cc)
   | inr f ↦ called_takes d r ins s f.0 f.1 ws x (sym (rw f.1 refl) ∙ h)
 ]
 named_takes d r ins s (word.Arrow ∷ ws) x h = qualified_takes d s ws x h

@@ -7,8 +7,8 @@ use Rattle.std.specs.Int.{is_in_range}
 use Rattle.std.proofs.lemmas.List.{take-append-drop, append-nil}
 use Rattle.std.proofs.lemmas.List.Folds.{length-prefix_len}
 use Rattle.std.proofs.lemmas.Bool.Decides.{eqb_tells}
-use Rattle.prg_expr.specs.declared.fault.FaultKind.{FaultKind}
-use Rattle.prg_expr.specs.declared.fault.FaultKind.TheVariants as fault
+use Rattle.prg_expr.specs.declared.fault.ParseFaultKind.{ParseFaultKind}
+use Rattle.prg_expr.specs.declared.fault.ParseFaultKind.TheVariants as fault
 use Rattle.prg_expr.specs.Word.{Word, Number, Text, Name, Outside, Point, Macro, Faulty}
 use Rattle.prg_expr.specs.Lexicon.{is_name, is_blank, is_quote, is_comment, digit_first, decimals, closing, singles, single_in, pairs, pair_in, pointed, after_word, Listed, NoneInFront, Each, Stops, Alone, Strange, IsWord, whole, decimal, name, text, unended, behind_point, lone_point, pair, single, macro, strange}
 use Rattle.prg_expr.specs.Scanning.{Found, found, clean_at, number_at, name_at, text_at, pick, symbol_at, word_at}
@@ -22,7 +22,7 @@ pub record Takes (bytes : List ℕ) (x : Found) : Type 0 where
   pub spelled : IsWord x.0 x.1 front x.2
   pub is : bytes ≡ front ++ x.2
 
-taken : (bytes front rest : List ℕ) (w : Word) (f : Option FaultKind) (x : Found) → IsWord w f front rest → bytes ≡ front ++ rest → x ≡ found w f rest → Takes bytes x
+taken : (bytes front rest : List ℕ) (w : Word) (f : Option ParseFaultKind) (x : Found) → IsWord w f front rest → bytes ≡ front ++ rest → x ≡ found w f rest → Takes bytes x
 taken bytes front rest w f x s i e = subst (λ (x : Found). Takes bytes x) (sym e) (record { front = front; spelled = s; is = i })
 
 -- the digits behind a point, if there are any
@@ -193,7 +193,7 @@ module _ (b : ℕ) (bytes : List ℕ) where
     ])
   ]
 
-some_bytes : {w : Word} {f : Option FaultKind} {front rest : List ℕ} → IsWord w f front rest → 0 < length front
+some_bytes : {w : Word} {f : Option ParseFaultKind} {front rest : List ℕ} → IsWord w f front rest → 0 < length front
 some_bytes (whole p e s z) = p
 some_bytes (decimal digits behind e p f s) = omega (arith, length-append digits (46 ∷ behind))
 some_bytes (name p e s) = omega arith

@@ -3,8 +3,8 @@ use Rattle.std.specs.Prelude.{◌≡◌, ◌<◌, ◌⊎◌, ◌+◌, ℕ, List,
 use Rattle.std.specs.Char.{is_ascii_digit, is_ascii_alphabetic, is_ascii_alphanumeric, to_ascii_lowercase, to_ascii_uppercase}
 use Rattle.std.specs.List.{prefix_len}
 use Rattle.fixed_num.specs.Reading.{parsed}
-use Rattle.prg_expr.specs.declared.fault.FaultKind.{FaultKind}
-use Rattle.prg_expr.specs.declared.fault.FaultKind.TheVariants as fault
+use Rattle.prg_expr.specs.declared.fault.ParseFaultKind.{ParseFaultKind}
+use Rattle.prg_expr.specs.declared.fault.ParseFaultKind.TheVariants as fault
 use Rattle.prg_expr.specs.declared.tree.Operator.TheVariants.{Or, And, Equal, NotEqual, Less, Greater, AtMost, AtLeast, Contains, Plus, Minus, Times, Over}
 use Rattle.prg_expr.specs.Word.{Word, Number, Text, Logical, Name, Not, Sign, Arrow, Open, Close, Comma, Outside, Show, ShowOn, At, Point, Macro, Faulty}
 
@@ -101,15 +101,15 @@ pub record Strange (b : ℕ) : Type 0 where
   pub no_symbol : single_in singles b ≡ None
 
 -- a name or a text longer than it may be
-abbrev pub over : ℕ → ℕ → Option FaultKind
+abbrev pub over : ℕ → ℕ → Option ParseFaultKind
 over most n = if nat_lt most n then Some fault.TooLong else None
 
 -- a number of more than 19 digits, or of more than 15 behind its point
-abbrev pub number_fault : ℕ → ℕ → Option FaultKind
+abbrev pub number_fault : ℕ → ℕ → Option ParseFaultKind
 number_fault whole fraction = if nat_lt 15 fraction || nat_lt 19 (whole + fraction) then Some fault.Number else None
 
 -- `IsWord w fault bytes rest`: the bytes are the word w where the rest follows them, and the fault is what is wrong with it.
-pub data IsWord : Word → Option FaultKind → List ℕ → List ℕ → Type 0 where
+pub data IsWord : Word → Option ParseFaultKind → List ℕ → List ℕ → Type 0 where
   -- A number goes on as far as it can: its digits, then a point and digits if there are any.
   whole : {digits rest : List ℕ} → 0 < length digits → Each is_ascii_digit digits → Stops is_ascii_digit rest → decimals rest ≡ 0
       → IsWord (Number (parsed digits)) (number_fault (length digits) 0) digits rest
@@ -129,15 +129,15 @@ pub data IsWord : Word → Option FaultKind → List ℕ → List ℕ → Type 0
 
 -- a word and its fault
 abbrev pub Spot : Type 0
-Spot = Word × Option FaultKind
+Spot = Word × Option ParseFaultKind
 
-abbrev pub spot : Word → Option FaultKind → Spot
+abbrev pub spot : Word → Option ParseFaultKind → Spot
 spot w f = (w, f)
 
 abbrev pub spot_word : Spot → Word
 spot_word x = x.0
 
-abbrev pub spot_fault : Spot → Option FaultKind
+abbrev pub spot_fault : Spot → Option ParseFaultKind
 spot_fault x = x.1
 
 -- `IsLine spots bytes`: the bytes are these words in turn, with blanks between them or not, perhaps a comment at the end.
@@ -145,7 +145,7 @@ pub data IsLine : List Spot → List ℕ → Type 0 where
   nothing : IsLine [] []
   comment : {bytes : List ℕ} → IsLine [] (38 ∷ 38 ∷ bytes)
   blank : {b : ℕ} {spots : List Spot} {bytes : List ℕ} → is_blank b ≡ true → IsLine spots bytes → IsLine spots (b ∷ bytes)
-  word : {w : Word} {f : Option FaultKind} {spots : List Spot} {bytes rest : List ℕ} → IsWord w f bytes rest → IsLine spots rest → IsLine (spot w f ∷ spots) (bytes ++ rest)
+  word : {w : Word} {f : Option ParseFaultKind} {spots : List Spot} {bytes rest : List ℕ} → IsWord w f bytes rest → IsLine spots rest → IsLine (spot w f ∷ spots) (bytes ++ rest)
 
 -- a word without a fault
 abbrev pub clean : Word → Spot

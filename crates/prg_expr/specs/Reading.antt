@@ -1,7 +1,7 @@
 -- Reading words from left to right.
 use Rattle.std.specs.Prelude.{◌≡◌, ℕ, zero, suc, List, [], ◌∷◌, length, take, Option, Some, None, Bool, true, false, Result, Ok, Err, ◌==◌, if◌then◌else◌}
-use Rattle.prg_expr.specs.declared.fault.FaultKind.{FaultKind}
-use Rattle.prg_expr.specs.declared.fault.FaultKind.TheVariants as fault
+use Rattle.prg_expr.specs.declared.fault.ParseFaultKind.{ParseFaultKind}
+use Rattle.prg_expr.specs.declared.fault.ParseFaultKind.TheVariants as fault
 use Rattle.prg_expr.specs.declared.fault.FormFault.{FormFault}
 use Rattle.prg_expr.specs.declared.fault.FormFault.TheVariants as form_fault
 use Rattle.prg_expr.specs.declared.function.Function.{Function}
@@ -15,28 +15,28 @@ use Rattle.prg_expr.specs.Word as word
 use Rattle.prg_expr.specs.Grammar.{looseness, prefix_of, prefix_level, max_depth}
 
 infixl 10 ◌>>=◌
-abbrev pub ◌>>=◌ : {A B : Type 0} → Result A FaultKind → (A → Result B FaultKind) → Result B FaultKind
+abbrev pub ◌>>=◌ : {A B : Type 0} → Result A ParseFaultKind → (A → Result B ParseFaultKind) → Result B ParseFaultKind
 (Ok x) >>= f = f x
 (Err e) >>= f = Err e
 
-abbrev pub Fails : {Y : Type 0} → FormFault → Result Y FaultKind → Type 0
+abbrev pub Fails : {Y : Type 0} → FormFault → Result Y ParseFaultKind → Type 0
 Fails form_fault.Memory read = Unit {0}
 Fails (form_fault.Kind f) read = read ≡ Err f
 
 -- what a function returned, seen by view, is what reading gives, unless memory ran out
-abbrev pub Gives : {X Y : Type 0} → (X → Y) → Result X FormFault → Result Y FaultKind → Type 0
+abbrev pub Gives : {X Y : Type 0} → (X → Y) → Result X FormFault → Result Y ParseFaultKind → Type 0
 Gives view (Ok x) read = read ≡ Ok (view x)
 Gives view (Err e) read = Fails e read
 
 -- a tree and the words after it
 abbrev pub Read : Type 0
-Read = Result (Tree × List Word) FaultKind
+Read = Result (Tree × List Word) ParseFaultKind
 
 abbrev pub Reader : Type 0
 Reader = List Word → Read
 
 -- the fault of words that don't go on as they have to: they aren't looked at from a macro on
-unfoldable pub wrong : List Word → FaultKind
+unfoldable pub wrong : List Word → ParseFaultKind
 wrong (word.Outside word.Macro ∷ ws) = fault.Macro
 wrong _ = fault.Expression
 
@@ -74,10 +74,10 @@ close e ws = Err (wrong ws)
 
 -- arguments and the words after the parenthesis that ends them
 abbrev pub Listing : Type 0
-Listing = Result (Trees × List Word) FaultKind
+Listing = Result (Trees × List Word) ParseFaultKind
 
 -- whether a comma follows, or else the parenthesis
-unfoldable pub separator : List Word → Result (Bool × List Word) FaultKind
+unfoldable pub separator : List Word → Result (Bool × List Word) ParseFaultKind
 separator (word.Comma ∷ ws) = Ok (true, ws)
 separator (word.Close ∷ ws) = Ok (false, ws)
 separator ws = Err (wrong ws)
@@ -138,12 +138,12 @@ level_at d l = reader d (inside d) l
 abbrev pub front : List Word → Read
 front = level_at max_depth 7
 
-abbrev pub whole : Tree → List Word → Result Tree FaultKind
+abbrev pub whole : Tree → List Word → Result Tree ParseFaultKind
 whole e [] = Ok e
 whole e (w ∷ ws) = Err (wrong (w ∷ ws))
 
-abbrev pub all_read : Tree × List Word → Result Tree FaultKind
+abbrev pub all_read : Tree × List Word → Result Tree ParseFaultKind
 all_read x = whole x.0 x.1
 
-unfoldable pub parse : List Word → Result Tree FaultKind
+unfoldable pub parse : List Word → Result Tree ParseFaultKind
 parse ws = level_at max_depth 7 ws >>= all_read

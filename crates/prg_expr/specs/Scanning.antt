@@ -3,8 +3,8 @@ use Rattle.std.specs.Prelude.{◌≡◌, ◌+◌, ℕ, zero, suc, List, [], ◌�
 use Rattle.std.specs.Char.{is_ascii_digit, is_ascii_alphabetic, to_ascii_uppercase}
 use Rattle.std.specs.List.{prefix_len}
 use Rattle.fixed_num.specs.Reading.{parsed}
-use Rattle.prg_expr.specs.declared.fault.FaultKind.{FaultKind}
-use Rattle.prg_expr.specs.declared.fault.FaultKind.TheVariants as fault
+use Rattle.prg_expr.specs.declared.fault.ParseFaultKind.{ParseFaultKind}
+use Rattle.prg_expr.specs.declared.fault.ParseFaultKind.TheVariants as fault
 use Rattle.prg_expr.specs.declared.lexer.Scanned.{Scanned}
 use Rattle.prg_expr.specs.declared.token.Line.{Line}
 use Rattle.prg_expr.specs.Faults.{least_of}
@@ -14,9 +14,9 @@ use Rattle.prg_expr.specs.Reading.{if_some}
 
 -- a word, its fault and the bytes behind it
 abbrev pub Found : Type 0
-Found = Word × Option FaultKind × List ℕ
+Found = Word × Option ParseFaultKind × List ℕ
 
-abbrev pub found : Word → Option FaultKind → List ℕ → Found
+abbrev pub found : Word → Option ParseFaultKind → List ℕ → Found
 found w f rest = (w, f, rest)
 
 abbrev pub seen : Scanned → Found
@@ -28,11 +28,11 @@ clean_at w rest = found w None rest
 abbrev pub number_len : ℕ → ℕ → ℕ
 number_len n k = if k == 0 then n else n + (1 + k)
 
-abbrev pub number_of : ℕ → ℕ → ℕ → List ℕ → Found
-number_of n k len bytes = found (Number (parsed (take len bytes))) (number_fault n k) (drop len bytes)
+abbrev pub number_found : ℕ → ℕ → ℕ → List ℕ → Found
+number_found n k len bytes = found (Number (parsed (take len bytes))) (number_fault n k) (drop len bytes)
 
 unfoldable pub number_at : List ℕ → Found
-number_at bytes = let n = prefix_len is_ascii_digit bytes in let k = decimals (drop n bytes) in number_of n k (number_len n k) bytes
+number_at bytes = let n = prefix_len is_ascii_digit bytes in let k = decimals (drop n bytes) in number_found n k (number_len n k) bytes
 
 unfoldable pub name_at : List ℕ → Found
 name_at bytes = let n = prefix_len is_name bytes in found (Name (map to_ascii_uppercase (take n bytes))) (over 10 n) (drop n bytes)

@@ -2,7 +2,7 @@
 
 ghost use Rattle.std.specs.Prelude.{◌≡◌, length};
 ghost use Rattle.prg_expr.specs.declared.fault.FormFault.TheVariants.{Memory};
-ghost use Rattle.prg_expr.specs.declared.fault.Refusal.TheVariants as refusal;
+ghost use Rattle.prg_expr.specs.declared.fault.ParseRefusal.TheVariants as refusal;
 ghost use Rattle.prg_expr.specs.Faults as faults;
 
 use std::alloc::{AllocError, AllocFailed};
@@ -15,7 +15,7 @@ pub const MOST_WORDS: usize = 4096;
 
 /// What is wrong with a line or with an expression. Of a line's faults the one that stands first here is told.
 #[derive(Clone, Copy, Debug, PartialEq, Eq)]
-pub enum FaultKind {
+pub enum ParseFaultKind {
     /// A byte outside texts and comments that begins no word.
     Character = 1,
     /// A text that doesn't end in its line.
@@ -37,14 +37,14 @@ pub enum FaultKind {
 }
 
 /// The place of a kind in the order in which they are told, from 1.
-fn rank(kind: FaultKind) -> u8
+fn rank(kind: ParseFaultKind) -> u8
     ensures { result ≡ faults.rank kind }
 {
     kind as u8
 }
 
 /// The fault of the two that is told: the lesser one.
-pub fn least(told: Option<FaultKind>, found: Option<FaultKind>) -> Option<FaultKind>
+pub fn least(told: Option<ParseFaultKind>, found: Option<ParseFaultKind>) -> Option<ParseFaultKind>
     ensures { result ≡ faults.least told found }
 {
     let Some(first) = told else {
@@ -61,11 +61,11 @@ pub fn least(told: Option<FaultKind>, found: Option<FaultKind>) -> Option<FaultK
 }
 
 /// What is wrong with the length of a line.
-pub fn length_fault(line: &[u8]) -> Option<FaultKind>
+pub fn length_fault(line: &[u8]) -> Option<ParseFaultKind>
     ensures { result ≡ faults.length_fault (length line.now) }
 {
     if MOST_BYTES < line.len() {
-        Some(FaultKind::TooLong)
+        Some(ParseFaultKind::TooLong)
     } else {
         None
     }
@@ -77,21 +77,21 @@ pub struct ParseFault {
     /// The line in the file, from 1; of a joined line its first one. An expression by itself is line 1.
     pub line: usize,
     /// What is wrong there.
-    pub kind: FaultKind,
+    pub kind: ParseFaultKind,
 }
 
 /// Why words are no expression or command.
 #[derive(Clone, Copy, Debug, PartialEq, Eq)]
 pub enum FormFault {
     /// What is wrong where the words stop being one.
-    Kind(FaultKind),
+    Kind(ParseFaultKind),
     /// Memory ran out.
     Memory,
 }
 
 /// Why there is no answer.
 #[derive(Clone, Copy, Debug, PartialEq, Eq)]
-pub enum Refusal {
+pub enum ParseRefusal {
     /// What was to be read is faulty.
     Fault(ParseFault),
     /// Memory ran out.
@@ -114,18 +114,18 @@ impl<T: Drop> From<AllocFailed<T>> for FormFault {
     }
 }
 
-impl From<AllocError> for Refusal {
+impl From<AllocError> for ParseRefusal {
     ghost from_gives = { λ _ e. e ≡ refusal.Memory };
 
-    fn from(_e: AllocError) -> Refusal {
-        Refusal::Memory
+    fn from(_e: AllocError) -> ParseRefusal {
+        ParseRefusal::Memory
     }
 }
 
-impl<T: Drop> From<AllocFailed<T>> for Refusal {
+impl<T: Drop> From<AllocFailed<T>> for ParseRefusal {
     ghost from_gives = { λ _ e. e ≡ refusal.Memory };
 
-    fn from(_e: AllocFailed<T>) -> Refusal {
-        Refusal::Memory
+    fn from(_e: AllocFailed<T>) -> ParseRefusal {
+        ParseRefusal::Memory
     }
 }

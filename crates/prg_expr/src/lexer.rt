@@ -9,7 +9,7 @@ ghost use Rattle.prg_expr.specs.Scanning as spec;
 ghost use Rattle.prg_expr.specs.Scanning.{scan, seen, IsScan, IsWordsOf};
 ghost use Rattle.prg_expr.specs.Lexicon.{Spot, IsLine};
 
-use crate::fault::{FaultKind, least};
+use crate::fault::{ParseFaultKind, least};
 use crate::token::{Line, Token};
 use crate::tree::{MOST_LETTERS, MOST_TEXT, Operator};
 use std::alloc::{AllocError, Global};
@@ -24,7 +24,7 @@ const MOST_DECIMALS: usize = 15;
 #[derive(Clone, Copy)]
 pub(crate) struct Scanned<'a> {
     token: Token<'a>,
-    fault: Option<FaultKind>,
+    fault: Option<ParseFaultKind>,
     rest: &'a [u8],
 }
 
@@ -75,11 +75,11 @@ fn text_len(close: u8, bytes: &[u8]) -> usize
 }
 
 /// TooLong, where there are more than so many.
-fn over(most: usize, count: usize) -> Option<FaultKind>
+fn over(most: usize, count: usize) -> Option<ParseFaultKind>
     ensures { result ≡ lexicon.over most count }
 {
     if most < count {
-        Some(FaultKind::TooLong)
+        Some(ParseFaultKind::TooLong)
     } else {
         None
     }
@@ -98,13 +98,13 @@ fn decimals(bytes: &[u8]) -> usize
 }
 
 /// The fault of a number of so many digits before and behind the point.
-fn number_fault(whole: usize, fraction: usize) -> Option<FaultKind>
+fn number_fault(whole: usize, fraction: usize) -> Option<ParseFaultKind>
     requires before { whole < 2 ^ 63 }
     requires behind { fraction < 2 ^ 63 }
     ensures { result ≡ lexicon.number_fault whole fraction }
 {
     if MOST_DECIMALS < fraction || MOST_DIGITS < whole + fraction {
-        Some(FaultKind::Number)
+        Some(ParseFaultKind::Number)
     } else {
         None
     }
@@ -151,7 +151,7 @@ fn text_end<'a>(text: &'a [u8], rest: &'a [u8]) -> Scanned<'a>
     let Some((_, behind)) = rest.split_first() else {
         return Scanned {
             token: Token::Text(text),
-            fault: Some(FaultKind::Text),
+            fault: Some(ParseFaultKind::Text),
             rest,
         };
     };
@@ -299,13 +299,13 @@ fn single_at<'a>(b: u8, rest: &'a [u8]) -> Scanned<'a>
     if b == b'&' {
         return Scanned {
             token: Token::Macro,
-            fault: Some(FaultKind::Macro),
+            fault: Some(ParseFaultKind::Macro),
             rest,
         };
     }
     Scanned {
         token: Token::Faulty,
-        fault: Some(FaultKind::Character),
+        fault: Some(ParseFaultKind::Character),
         rest,
     }
 }

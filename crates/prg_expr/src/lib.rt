@@ -11,7 +11,7 @@ mod token;
 mod tree;
 
 pub use fault::{
-    FaultKind, FormFault, MOST_BYTES, MOST_WORDS, ParseFault, Refusal, least, length_fault,
+    ParseFaultKind, FormFault, MOST_BYTES, MOST_WORDS, ParseFault, ParseRefusal, least, length_fault,
 };
 pub use function::{Function, one_function};
 pub use lexer::{lines_are_cut, one_line, words};

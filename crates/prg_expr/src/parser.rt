@@ -10,7 +10,7 @@ ghost use Rattle.prg_expr.specs.Reading as spec;
 ghost use Rattle.prg_expr.specs.Reading.{Gives};
 ghost use Rattle.prg_expr.specs.Spelling.{InFront, NoneLonger};
 
-use crate::fault::{FaultKind, FormFault};
+use crate::fault::{ParseFaultKind, FormFault};
 use crate::function::{Function, function_named, takes};
 use crate::names::{front, name_of};
 use crate::token::Token;
@@ -91,8 +91,8 @@ fn wrong(tokens: &[Token]) -> FormFault
     ensures { result ≡ form_fault.Kind (spec.wrong (words tokens.now)) }
 {
     match tokens {
-        [Token::Macro, ..] => FormFault::Kind(FaultKind::Macro),
-        _ => FormFault::Kind(FaultKind::Expression),
+        [Token::Macro, ..] => FormFault::Kind(ParseFaultKind::Macro),
+        _ => FormFault::Kind(ParseFaultKind::Expression),
     }
 }
 
@@ -144,7 +144,7 @@ fn separator<'a>(tokens: &'a [Token<'a>]) -> Result<(bool, &'a [Token<'a>]), For
 }
 
 /// The text of a word: its bytes, 254 of them where there are more.
-fn text_of(bytes: &[u8]) -> Text
+fn cut_text(bytes: &[u8]) -> Text
     ensures { result.items ≡ take 254 bytes.now }
 {
     let mut text = Text::new();
@@ -167,7 +167,7 @@ fn call_of<'a>(
     if takes(function, arguments.len()) {
         Ok((Expr::Call(function, arguments), rest))
     } else {
-        Err(FormFault::Kind(FaultKind::Expression))
+        Err(FormFault::Kind(ParseFaultKind::Expression))
     }
 }
 
@@ -201,7 +201,7 @@ fn inside<'a>(
     ensures shorter { IfOk result (λ x. length x.1.now < length tokens.now) }
 {
     if depth == 0 {
-        return Err(FormFault::Kind(FaultKind::TooDeep));
+        return Err(FormFault::Kind(ParseFaultKind::TooDeep));
     }
     reader(alloc, depth - 1, LOOSEST, tokens)
 }
@@ -221,7 +221,7 @@ fn named<'a>(
     match tokens {
         [Token::Open, rest @ ..] => {
             let Some(function) = function_named(name) else {
-                return Err(FormFault::Kind(FaultKind::Expression));
+                return Err(FormFault::Kind(ParseFaultKind::Expression));
             };
             Ok(called(alloc, depth, function, rest)?)
         }
@@ -243,7 +243,7 @@ fn called<'a>(
     ensures shorter { IfOk result (λ x. length x.1.now ≤ length tokens.now) }
 {
     if depth == 0 {
-        return Err(FormFault::Kind(FaultKind::TooDeep));
+        return Err(FormFault::Kind(ParseFaultKind::TooDeep));
     }
     match tokens {
         [Token::Close, rest @ ..] => Ok(call_of(function, Vec::new(alloc), rest)?),
@@ -292,7 +292,7 @@ fn operand<'a>(
     match tokens {
         [Token::Logical(b), rest @ ..] => Ok((Expr::Logical(*b), rest)),
         [Token::Number(digits), rest @ ..] => Ok((Expr::Number(Num::parse(*digits)), rest)),
-        [Token::Text(s), rest @ ..] => Ok((Expr::Text(text_of(*s)), rest)),
+        [Token::Text(s), rest @ ..] => Ok((Expr::Text(cut_text(*s)), rest)),
         [Token::Name(s), rest @ ..] => Ok(named(alloc, depth, *s, rest)?),
         [Token::Open, rest @ ..] => {
             let (inner, rest) = inside(alloc, depth, rest)?;

@@ -1,7 +1,7 @@
 //! Reading an expression from a text.
 
 ghost use Rattle.std.specs.Prelude.{◌≡◌, ◌++◌, ℕ, List, IfErr, IfOk, Ok, Result};
-ghost use Rattle.prg_expr.specs.declared.fault.FaultKind.{FaultKind as AnyFault};
+ghost use Rattle.prg_expr.specs.declared.fault.ParseFaultKind.{ParseFaultKind as AnyFault};
 ghost use Rattle.prg_expr.specs.Tree.{Tree, tree_of};
 ghost use Rattle.prg_expr.specs.Spelling.{Answered, Answers, InFront, Spells, fault_told, read, told_of};
 ghost use Rattle.prg_expr.specs.Faults.{OnFault, Tells};
@@ -10,7 +10,7 @@ ghost use Rattle.prg_expr.specs.Grammar as grammar;
 ghost use Rattle.prg_expr.specs.Word.{Word, words};
 ghost use Rattle.prg_expr.specs.Reading.{Gives, front};
 
-use crate::fault::{FaultKind, FormFault, MOST_WORDS, ParseFault, Refusal, least, length_fault};
+use crate::fault::{ParseFaultKind, FormFault, MOST_WORDS, ParseFault, ParseRefusal, least, length_fault};
 use crate::lexer::cut;
 use crate::parser::parse;
 use crate::token::Token;
@@ -22,13 +22,13 @@ fn read_form(alloc: Global, tokens: &[Token<'_>]) -> Result<Expr, FormFault>
     ensures { Gives tree_of result (spec.form_of (words tokens.now)) }
 {
     if MOST_WORDS < tokens.len() {
-        return Err(FormFault::Kind(FaultKind::TooLong));
+        return Err(FormFault::Kind(ParseFaultKind::TooLong));
     }
     parse(alloc, tokens)
 }
 
 /// What was read, or the least of its fault and another.
-fn told(fault: Option<FaultKind>, form: Result<Expr, FormFault>) -> Result<Expr, FormFault>
+fn told(fault: Option<ParseFaultKind>, form: Result<Expr, FormFault>) -> Result<Expr, FormFault>
     ensures { (read : Result Tree AnyFault) → Gives tree_of form read → Gives tree_of result (told_of fault read) }
 {
     match form {
@@ -55,13 +55,13 @@ fn read_all(alloc: Global, text: &[u8]) -> Result<Expr, FormFault>
 }
 
 /// What was read of a text, which is one line.
-fn answered(form: Result<Expr, FormFault>) -> Result<Expr, Refusal>
+fn answered(form: Result<Expr, FormFault>) -> Result<Expr, ParseRefusal>
     ensures { (read : Result Tree AnyFault) → Gives tree_of form read → Answers result read }
 {
     match form {
         Ok(tree) => Ok(tree),
-        Err(FormFault::Memory) => Err(Refusal::Memory),
-        Err(FormFault::Kind(kind)) => Err(Refusal::Fault(ParseFault { line: 1, kind })),
+        Err(FormFault::Memory) => Err(ParseRefusal::Memory),
+        Err(FormFault::Kind(kind)) => Err(ParseRefusal::Fault(ParseFault { line: 1, kind })),
     }
 }
 
@@ -71,7 +71,7 @@ fn answered(form: Result<Expr, FormFault>) -> Result<Expr, Refusal>
 ///
 /// The least of the faults of its words, of its form and of its length, at line 1; the form of more than 4,096 words,
 /// which are too long, isn't read. Want of memory.
-pub fn expr(alloc: Global, text: &[u8]) -> Result<Expr, Refusal>
+pub fn expr(alloc: Global, text: &[u8]) -> Result<Expr, ParseRefusal>
     // What is answered is what the text spells.
     ensures spelled { IfOk result (λ e. Spells (tree_of e) text.now) }
     // What the text spells is answered, unless memory runs out.

@@ -1,6 +1,6 @@
 //! The words of a line.
 
-use crate::fault::FaultKind;
+use crate::fault::ParseFaultKind;
 use crate::tree::Operator;
 
 /// A word of a line, which borrows the bytes of a name or a text.
@@ -40,5 +40,5 @@ pub struct Line<'a> {
     /// The words in order, also the faulty ones, up to a comment.
     pub words: Vec<Token<'a>>,
     /// Character, Text, Number, TooLong or Macro, the first of these that a word has.
-    pub fault: Option<FaultKind>,
+    pub fault: Option<ParseFaultKind>,
 }

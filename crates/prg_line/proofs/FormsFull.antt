@@ -2,8 +2,8 @@
 use Rattle.std.proofs.Common.{[], codes, true, false, Some, None}
 use Rattle.prg_expr.specs.Grammar.{Spells, Free}
 use Rattle.prg_expr.specs.Tree.{Tree}
-use Rattle.prg_line.specs.declared.statement.Setting.{Setting}
-use Rattle.prg_line.specs.declared.statement.Setting.TheVariants.{Exact, Deleted, Century}
+use Rattle.prg_line.specs.declared.statement.Toggle.{Toggle}
+use Rattle.prg_line.specs.declared.statement.Toggle.TheVariants.{Exact, Deleted, Century}
 use Rattle.prg_line.specs.Act.{Act, Letters}
 use Rattle.prg_line.specs.Act as act
 use Rattle.prg_line.specs.Forms as f
@@ -100,7 +100,7 @@ pub filter_full : FoundLaw → Full f.filter c.Filter Ended
 unfolding f.filter
 filter_full law = key_full (codes "TO") (end_full (act.SetFilter None) (then_filled (spells_filled law)) (both_full (expression_full law) (λ e. is_full (act.SetFilter (Some e))) (λ e. is_begins free_open)))
 
-pub switch_full : FoundLaw → (s : Setting) → Full (f.switch s) (c.Switch s) Ended
+pub switch_full : FoundLaw → (s : Toggle) → Full (f.switch s) (c.Switch s) Ended
 unfolding f.switch
 switch_full law s = where_full (codes "ON") (is_full (act.Set s true)) (key_full (codes "OFF") (is_full (act.Set s false)))
 

@@ -2,8 +2,8 @@
 use Rattle.std.proofs.Common.{[], codes, true, false, Some, None}
 use Rattle.prg_expr.specs.Grammar.{Spells}
 use Rattle.prg_expr.specs.Tree.{Tree}
-use Rattle.prg_line.specs.declared.statement.Setting.{Setting}
-use Rattle.prg_line.specs.declared.statement.Setting.TheVariants.{Exact, Deleted, Century}
+use Rattle.prg_line.specs.declared.statement.Toggle.{Toggle}
+use Rattle.prg_line.specs.declared.statement.Toggle.TheVariants.{Exact, Deleted, Century}
 use Rattle.prg_line.specs.Act as act
 use Rattle.prg_line.specs.Forms as f
 use Rattle.prg_line.specs.Forms.{change, is_at_end, is_at_number}
@@ -99,7 +99,7 @@ pub filter_sound : Law → Sound f.filter c.Filter
 unfolding f.filter
 filter_sound law = clause_sound (codes "TO") (if_sound is_at_end (is_sound (act.SetFilter None)) (then_sound (expression_sound law) (λ e. is_sound (act.SetFilter (Some e)))))
 
-pub switch_sound : Law → (s : Setting) → Sound (f.switch s) (c.Switch s)
+pub switch_sound : Law → (s : Toggle) → Sound (f.switch s) (c.Switch s)
 unfolding f.switch
 switch_sound law s = taken_sound (codes "ON") (is_sound (act.Set s true)) (clause_sound (codes "OFF") (is_sound (act.Set s false)))
 

@@ -5,8 +5,8 @@ use Rattle.std.proofs.lemmas.List.{append-nil}
 use Rattle.prg_expr.specs.Functions.{is_cut}
 use Rattle.prg_expr.specs.Word.{Word}
 use Rattle.prg_expr.specs.Word as word
-use Rattle.prg_expr.specs.declared.fault.FaultKind.{FaultKind}
-use Rattle.prg_expr.specs.declared.fault.FaultKind.TheVariants as kind
+use Rattle.prg_expr.specs.declared.fault.ParseFaultKind.{ParseFaultKind}
+use Rattle.prg_expr.specs.declared.fault.ParseFaultKind.TheVariants as kind
 use Rattle.prg_line.specs.Forms.{At, at, Reader, Taken, on_taken, takes, takes_in, is_at, is_at_end, is_nil, is_word_in, clause, unexpected, ◌>>=◌}
 use Rattle.prg_line.specs.Commands.{Phrase, Is, Then, Key, Mark, Either, But, Where}
 use Rattle.prg_line.proofs.Sound.{ok, fine, failed, taken}
@@ -25,8 +25,8 @@ pub record Full {A : Type 0} (r : Reader A) (P : Phrase A) (F : List Word → Ty
 abbrev pub Ended : List Word → Type 0
 Ended rest = rest ≡ []
 
-pub bind_to : {A B : Type 0} (m : Result A FaultKind) (f : A → Result B FaultKind) (x : A) (y : B) → m ≡ fine x → f x ≡ fine y → (m >>= f) ≡ fine y
-bind_to m f x y e h = ap (λ (n : Result _ FaultKind). n >>= f) e ∙ h
+pub bind_to : {A B : Type 0} (m : Result A ParseFaultKind) (f : A → Result B ParseFaultKind) (x : A) (y : B) → m ≡ fine x → f x ≡ fine y → (m >>= f) ≡ fine y
+bind_to m f x y e h = ap (λ (n : Result _ ParseFaultKind). n >>= f) e ∙ h
 
 pub is_full : {A : Type 0} (x : A) {F : List Word → Type 0} → Full (ok x) (Is x) F
 is_full x = record { finds = λ a y front rest p e f. record { place = a; reads = ap (λ z. fine (z, a)) (sym p.0); left = e ∙ ap (λ (l : List Word). l ++ rest) p.1 } }
@@ -85,7 +85,7 @@ key_finds whole r P G behind a y front rest (s, others, h, p, e) w g =
 pub key_full : {B : Type 0} (whole : List ℕ) {r : Reader B} {P : Phrase B} {G : List Word → Type 0} → Full r P G → Full (λ a. clause whole a >>= r) (Key whole P) G
 key_full whole {r} {P} {G} behind = record { finds = key_finds whole r P G behind }
 
-pub taken_to : {B : Type 0} (r s : Reader B) (t u : Taken) (x : Result (B × At) FaultKind) → t ≡ u → on_taken u r s ≡ x → on_taken t r s ≡ x
+pub taken_to : {B : Type 0} (r s : Reader B) (t u : Taken) (x : Result (B × At) ParseFaultKind) → t ≡ u → on_taken u r s ≡ x → on_taken t r s ≡ x
 taken_to r s t u x e h = ap (λ (v : Taken). on_taken v r s) e ∙ h
 
 where_finds : {B : Type 0} (whole : List ℕ) (r s : Reader B) (P Q : Phrase B) → Full r P Ended → Full s Q Ended → (a : At) (y : B) (front rest : List Word) → Where whole P Q y front → a.words ≡ front ++ rest → rest ≡ []
@@ -104,7 +104,7 @@ where_full whole {r} {s} {P} {Q} first second = record { finds = where_finds who
 
 -- the line's end
 
-pub test_to : {B : Type 0} (x y : Bool) (r s t : Result (B × At) FaultKind) → x ≡ y → (if y then r else s) ≡ t → (if x then r else s) ≡ t
+pub test_to : {B : Type 0} (x y : Bool) (r s t : Result (B × At) ParseFaultKind) → x ≡ y → (if y then r else s) ≡ t → (if x then r else s) ≡ t
 test_to x y r s t e h = ap (λ (z : Bool). if z then r else s) e ∙ h
 
 -- a phrase of one word at least
@@ -138,7 +138,7 @@ refused_full whole {r} {P} first = record { finds = refused_finds whole r P firs
 abbrev pub Anything : List Word → Type 0
 Anything rest = Unit {0}
 
-pub mark_finds : {B : Type 0} (w : Word) (step : At → Result At FaultKind) (r : Reader B) (P : Phrase B) (G : List Word → Type 0) → ((a : At) (ws : List Word) → a.words ≡ w ∷ ws → (b : At) × (step a ≡ fine b) × (b.words ≡ ws))
+pub mark_finds : {B : Type 0} (w : Word) (step : At → Result At ParseFaultKind) (r : Reader B) (P : Phrase B) (G : List Word → Type 0) → ((a : At) (ws : List Word) → a.words ≡ w ∷ ws → (b : At) × (step a ≡ fine b) × (b.words ≡ ws))
     → Full r P G → (a : At) (y : B) (front rest : List Word) → Mark w P y front → a.words ≡ front ++ rest → G rest → Reaches (λ a. step a >>= r) a y rest
 mark_finds w step r P G one behind a y front rest (others, p, e) v g =
     let s = one a (others ++ rest) (v ∙ ap (λ (l : List Word). l ++ rest) e) in

@@ -10,8 +10,8 @@ use Rattle.prg_expr.specs.Reading.{front, reader, stage, chain, comparison, pref
 use Rattle.prg_expr.specs.Tree.{Tree}
 use Rattle.prg_expr.specs.Word.{Word}
 use Rattle.prg_expr.specs.Word as word
-use Rattle.prg_expr.specs.declared.fault.FaultKind.{FaultKind}
-use Rattle.prg_expr.specs.declared.fault.FaultKind.TheVariants as kind
+use Rattle.prg_expr.specs.declared.fault.ParseFaultKind.{ParseFaultKind}
+use Rattle.prg_expr.specs.declared.fault.ParseFaultKind.TheVariants as kind
 use Rattle.prg_line.specs.Act.{Act, Letters}
 use Rattle.prg_line.specs.Act as act
 use Rattle.prg_line.specs.Forms as f
@@ -25,11 +25,11 @@ use Rattle.prg_line.proofs.Full.{Reaches, Full, Ended, Anything, Filled, bind_to
 abbrev pub FoundLaw : Type 0
 FoundLaw = (ws rest : List Word) (e : Tree) → Spells e ws → Free 7 rest → front (ws ++ rest) ≡ Ok (e, rest)
 
-abbrev good : Tree → List Word → Result (Tree × List Word) FaultKind
+abbrev good : Tree → List Word → Result (Tree × List Word) ParseFaultKind
 good e rest = Ok (e, rest)
 
-told_to : (r s : Result (Tree × List Word) FaultKind) → r ≡ s → (r >>= λ x. ok x.0 (at x.1 true)) ≡ (s >>= λ x. ok x.0 (at x.1 true))
-told_to r s e = ap (λ (t : Result (Tree × List Word) FaultKind). t >>= λ x. ok x.0 (at x.1 true)) e
+told_to : (r s : Result (Tree × List Word) ParseFaultKind) → r ≡ s → (r >>= λ x. ok x.0 (at x.1 true)) ≡ (s >>= λ x. ok x.0 (at x.1 true))
+told_to r s e = ap (λ (t : Result (Tree × List Word) ParseFaultKind). t >>= λ x. ok x.0 (at x.1 true)) e
 
 expression_finds : FoundLaw → (a : At) (e : Tree) (ws rest : List Word) → Spells e ws → a.words ≡ ws ++ rest → Free 7 rest → Reaches f.expression a e rest
 unfolding f.expression
@@ -178,10 +178,10 @@ front_nothing : front [] ≡ Err kind.Expression
 unfolding reader stage chain comparison prefixes operand wrong
 front_nothing = refl
 
-abbrev bad : FaultKind → Result (Tree × List Word) FaultKind
+abbrev bad : ParseFaultKind → Result (Tree × List Word) ParseFaultKind
 bad e = Err e
 
-abbrev read_as : Tree × List Word → Result (Tree × List Word) FaultKind
+abbrev read_as : Tree × List Word → Result (Tree × List Word) ParseFaultKind
 read_as x = Ok x
 
 not_read : (x : Tree × List Word) → bad kind.Expression ≡ read_as x → ⊥

@@ -11,8 +11,8 @@ use Rattle.prg_expr.specs.Spelling.{InFront}
 use Rattle.prg_expr.specs.Tree.{Tree}
 use Rattle.prg_expr.specs.Word.{Word}
 use Rattle.prg_expr.specs.Word as word
-use Rattle.prg_expr.specs.declared.fault.FaultKind.{FaultKind}
-use Rattle.prg_expr.specs.declared.fault.FaultKind.TheVariants as kind
+use Rattle.prg_expr.specs.declared.fault.ParseFaultKind.{ParseFaultKind}
+use Rattle.prg_expr.specs.declared.fault.ParseFaultKind.TheVariants as kind
 use Rattle.prg_line.specs.Act.{Act, Letters}
 use Rattle.prg_line.specs.Act as act
 use Rattle.prg_line.specs.Forms as f
@@ -25,10 +25,10 @@ use Rattle.prg_line.proofs.Sound.{Sound, Front, ok, fine, failed, taken, not_ok,
 abbrev pub Law : Type 0
 Law = (ws rest : List Word) (e : Tree) → front ws ≡ Ok (e, rest) → InFront e ws rest
 
-abbrev told : Result (Tree × List Word) FaultKind → Result (Tree × At) FaultKind
+abbrev told : Result (Tree × List Word) ParseFaultKind → Result (Tree × At) ParseFaultKind
 told r = r >>= λ x. Ok (x.0, at x.1 true)
 
-expression_front : Law → (ws : List Word) (r : Result (Tree × List Word) FaultKind) → front ws ≡ r → (e : Tree) (b : At) → told r ≡ Ok (e, b) → Front (Spells e) ws b.words
+expression_front : Law → (ws : List Word) (r : Result (Tree × List Word) ParseFaultKind) → front ws ≡ r → (e : Tree) (b : At) → told r ≡ Ok (e, b) → Front (Spells e) ws b.words
 expression_front law ws (Err k) i e b h = absurd (not_ok _ (e, b) h)
 expression_front law ws (Ok x) i e b h =
     let t = law ws x.1 x.0 i in

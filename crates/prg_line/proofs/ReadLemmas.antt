@@ -6,8 +6,8 @@ use Rattle.std.proofs.lemmas.Bool.{ltb-false, le-ltb}
 use Rattle.prg_expr.specs.Faults.{least, least_of, length_fault, rank}
 use Rattle.prg_expr.specs.Lexicon.{Spot, spot_word, spot_fault, IsLine}
 use Rattle.prg_expr.specs.Scanning.{scan}
-use Rattle.prg_expr.specs.declared.fault.FaultKind.{FaultKind}
-use Rattle.prg_expr.specs.declared.fault.FaultKind.TheVariants.{TooLong}
+use Rattle.prg_expr.specs.declared.fault.ParseFaultKind.{ParseFaultKind}
+use Rattle.prg_expr.specs.declared.fault.ParseFaultKind.TheVariants.{TooLong}
 use Rattle.prg_line.specs.declared.verb.Verb.{Verb}
 use Rattle.prg_line.specs.Commands.{Says}
 use Rattle.prg_line.specs.Forms.{At, at, sentence}
@@ -26,30 +26,30 @@ use Rattle.prg_line.proofs.Sound.{fine, failed, not_ok}
 abbrev pub CutLaw : Type 0
 CutLaw = (line : List ℕ) → IsLine (scan line) line
 
-some_kind : (x : FaultKind) → Some x ≡ None → ⊥
+some_kind : (x : ParseFaultKind) → Some x ≡ None → ⊥
 some_kind x h = cc
 
-some_fault : (x : FaultKind) → Some x ≡ None → ⊥
+some_fault : (x : ParseFaultKind) → Some x ≡ None → ⊥
 some_fault x h = cc
 
-some_told : (b : Bool) (k l : FaultKind) → (if b then Some k else Some l) ≡ None → ⊥
+some_told : (b : Bool) (k l : ParseFaultKind) → (if b then Some k else Some l) ≡ None → ⊥
 some_told true k l e = cc
 some_told false k l e = cc
 
 -- where neither of two faults is
-no_fault : (own place : Option FaultKind) → least own place ≡ None → place ≡ None
+no_fault : (own place : Option ParseFaultKind) → least own place ≡ None → place ≡ None
 no_fault None place e = e
 no_fault (Some k) None e = refl
 no_fault (Some k) (Some l) e = absurd (some_told (nat_le (rank k) (rank l)) k l e)
 
-own_fault : (own place : Option FaultKind) → least own place ≡ None → own ≡ None
+own_fault : (own place : Option ParseFaultKind) → least own place ≡ None → own ≡ None
 own_fault None place e = refl
 own_fault (Some k) None e = e
 own_fault (Some k) (Some l) e = absurd (some_told (nat_le (rank k) (rank l)) k l e)
 
 -- the words
 
-least_some : (k : FaultKind) (f : Option FaultKind) (g : Option FaultKind) → least (Some k) f ≡ g → g ≡ None → ⊥
+least_some : (k : ParseFaultKind) (f : Option ParseFaultKind) (g : Option ParseFaultKind) → least (Some k) f ≡ g → g ≡ None → ⊥
 least_some k None g e h = some_fault k (e ∙ h)
 least_some k (Some l) g e h = chosen (nat_le (rank k) (rank l)) (e ∙ h)
   where
@@ -57,15 +57,15 @@ least_some k (Some l) g e h = chosen (nat_le (rank k) (rank l)) (e ∙ h)
     chosen true h = some_fault k h
     chosen false h = some_fault l h
 
-told_by : (k : FaultKind) (f : Option FaultKind) (fs : List (Option FaultKind)) → ((l : FaultKind) → least_of (Some l) fs ≡ None → ⊥) → (g : Option FaultKind) → least (Some k) f ≡ g → least_of g fs ≡ None → ⊥
+told_by : (k : ParseFaultKind) (f : Option ParseFaultKind) (fs : List (Option ParseFaultKind)) → ((l : ParseFaultKind) → least_of (Some l) fs ≡ None → ⊥) → (g : Option ParseFaultKind) → least (Some k) f ≡ g → least_of g fs ≡ None → ⊥
 told_by k f fs again None e h = least_some k f None e refl
 told_by k f fs again (Some l) e h = again l h
 
-told_some : (k : FaultKind) (fs : List (Option FaultKind)) → least_of (Some k) fs ≡ None → ⊥
+told_some : (k : ParseFaultKind) (fs : List (Option ParseFaultKind)) → least_of (Some k) fs ≡ None → ⊥
 told_some k [] h = some_fault k h
 told_some k (f ∷ fs) h = told_by k f fs (λ l g. told_some l fs g) (least (Some k) f) refl h
 
-faultless_by : (s : Spot) (spots : List Spot) → (least_of None (map spot_fault spots) ≡ None → Faultless spots) → (f : Option FaultKind) → spot_fault s ≡ f → least_of f (map spot_fault spots) ≡ None
+faultless_by : (s : Spot) (spots : List Spot) → (least_of None (map spot_fault spots) ≡ None → Faultless spots) → (f : Option ParseFaultKind) → spot_fault s ≡ f → least_of f (map spot_fault spots) ≡ None
     → Faultless (s ∷ spots)
 faultless_by s spots again None e h = (e, again h)
 faultless_by s spots again (Some k) e h = absurd (told_some k (map spot_fault spots) h)
@@ -92,7 +92,7 @@ form_in : (n : ℕ) (f : Found) (s : Saying) → form n f ≡ fine s → sentenc
 unfolding form
 form_in n f s h = form_read f.0 (at f.1 false) s (has_expressions f.0 && nat_lt 4096 n) h
 
-formed : (r : Result Saying FaultKind) → fault_in r ≡ None → r ≡ fine (saying_in r)
+formed : (r : Result Saying ParseFaultKind) → fault_in r ≡ None → r ≡ fine (saying_in r)
 formed (Ok s) h = refl
 formed (Err k) h = absurd (some_kind k h)
 
@@ -129,13 +129,13 @@ OneLaw = (line : List ℕ) (a b : List Spot) → IsLine a line → IsLine b line
 
 faultless_to : (spots : List Spot) → Faultless spots → least_of None (map spot_fault spots) ≡ None
 faultless_to [] h = refl
-faultless_to (s ∷ spots) h = ap (λ (f : Option FaultKind). least_of f (map spot_fault spots)) h.0 ∙ faultless_to spots h.1
+faultless_to (s ∷ spots) h = ap (λ (f : Option ParseFaultKind). least_of f (map spot_fault spots)) h.0 ∙ faultless_to spots h.1
 
 counted_to : (x : Bool) (spots : List Spot) → Counts x spots → (if x then None else least_of None (map spot_fault spots)) ≡ None
 counted_to true spots h = refl
 counted_to false spots h = faultless_to spots h
 
-form_read_to : (r : Result Saying FaultKind) (x : Bool) → x ≡ false → (if x then failed TooLong else r) ≡ r
+form_read_to : (r : Result Saying ParseFaultKind) (x : Bool) → x ≡ false → (if x then failed TooLong else r) ≡ r
 form_read_to r x e = ap (λ (z : Bool). if z then failed TooLong else r) e
 
 form_to : (n : ℕ) (f : Found) (s : Saying) → n ≤ 1024 → sentence f.0 (at f.1 false) ≡ fine s → form n f ≡ fine s
@@ -156,8 +156,8 @@ few_words text few le = let m = length-map (scan text) spot_word in omega (arith
 short_to : (x : Bool) → x ≡ false → (if x then Some TooLong else None) ≡ None
 short_to x e = ap (λ (z : Bool). if z then Some TooLong else None) e
 
-none_of : (x y z : Option FaultKind) → x ≡ None → y ≡ None → z ≡ None → least (least x y) z ≡ None
-none_of x y z e h g = ap (λ (k : Option FaultKind). least (least k y) z) e ∙ ap (λ (k : Option FaultKind). least k z) h ∙ g
+none_of : (x y z : Option ParseFaultKind) → x ≡ None → y ≡ None → z ≡ None → least (least x y) z ≡ None
+none_of x y z e h g = ap (λ (k : Option ParseFaultKind). least (least k y) z) e ∙ ap (λ (k : Option ParseFaultKind). least k z) h ∙ g
 
 pub line_found : FoundLaw → CutLaw → FewLaw → OneLaw → (text : List ℕ) (s : Saying) → LineSays s text → (fault_at text ≡ None) × (saying_at text ≡ s)
 unfolding fault_at saying_at

@@ -3,7 +3,7 @@ use Rattle.std.proofs.Common.{◌≡◌, ℕ, List, [], ◌⊎◌, inl, inr, tru
 use Rattle.prg_expr.specs.Word.{Word}
 use Rattle.prg_line.specs.declared.role.Role.{Role}
 use Rattle.prg_line.specs.declared.role.Role.TheVariants as role
-use Rattle.prg_line.specs.declared.statement.Setting.TheVariants.{Exact, Deleted, Century}
+use Rattle.prg_line.specs.declared.statement.Toggle.TheVariants.{Exact, Deleted, Century}
 use Rattle.prg_line.specs.declared.verb.Verb.{Verb}
 use Rattle.prg_line.specs.declared.verb.Verb.TheVariants as verb
 use Rattle.prg_line.specs.Act.{Act}

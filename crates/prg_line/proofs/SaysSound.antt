@@ -3,7 +3,7 @@ use Rattle.std.proofs.Common.{◌≡◌, List, [], ◌∷◌, ◌++◌, Bool, tr
 use Rattle.std.specs.Prelude.{if◌then◌else◌}
 use Rattle.std.proofs.lemmas.List.{append-nil}
 use Rattle.prg_expr.specs.Word.{Word}
-use Rattle.prg_expr.specs.declared.fault.FaultKind.TheVariants as kind
+use Rattle.prg_expr.specs.declared.fault.ParseFaultKind.TheVariants as kind
 use Rattle.prg_line.specs.declared.verb.Verb.{Verb}
 use Rattle.prg_line.specs.declared.verb.Verb.TheVariants as verb
 use Rattle.prg_line.specs.Act.{Act}

@@ -4,7 +4,7 @@ use Rattle.std.specs.Prelude.{if◌then◌else◌}
 use Rattle.prg_expr.specs.Functions.{is_cut}
 use Rattle.prg_expr.specs.Word.{Word}
 use Rattle.prg_expr.specs.Word as word
-use Rattle.prg_expr.specs.declared.fault.FaultKind.{FaultKind}
+use Rattle.prg_expr.specs.declared.fault.ParseFaultKind.{ParseFaultKind}
 use Rattle.prg_line.specs.Forms.{At, at, Reader, Taken, on_taken, takes, takes_in, is_word_in, clause, unexpected, ◌>>=◌}
 use Rattle.prg_line.specs.Commands.{Phrase, Is, Then, Key, Mark, Either, But, Where}
 
@@ -22,19 +22,19 @@ pub record Sound {A : Type 0} (r : Reader A) (P : Phrase A) : Type 0 where
 abbrev pub ok : {A : Type 0} → A → Reader A
 ok x a = Ok (x, a)
 
-abbrev pub fine : {A : Type 0} → A → Result A FaultKind
+abbrev pub fine : {A : Type 0} → A → Result A ParseFaultKind
 fine x = Ok x
 
-abbrev pub failed : {A : Type 0} → FaultKind → Result A FaultKind
+abbrev pub failed : {A : Type 0} → ParseFaultKind → Result A ParseFaultKind
 failed e = Err e
 
 abbrev pub taken : Bool → At → Taken
 taken x a = (x, a)
 
-pub not_ok : {B : Type 0} (e : FaultKind) (y : B) → failed e ≡ fine y → ⊥
+pub not_ok : {B : Type 0} (e : ParseFaultKind) (y : B) → failed e ≡ fine y → ⊥
 not_ok e y h = cc
 
-pub bind_ok : {A B : Type 0} (m : Result A FaultKind) (f : A → Result B FaultKind) (y : B) → (m >>= f) ≡ Ok y → (x : A) × (m ≡ Ok x) × (f x ≡ Ok y)
+pub bind_ok : {A B : Type 0} (m : Result A ParseFaultKind) (f : A → Result B ParseFaultKind) (y : B) → (m >>= f) ≡ Ok y → (x : A) × (m ≡ Ok x) × (f x ≡ Ok y)
 bind_ok (Ok x) f y h = (x, refl, h)
 bind_ok (Err e) f y h = absurd (not_ok e y h)
 
@@ -82,7 +82,7 @@ pub then_sound : {A B : Type 0} {r : Reader A} {f : A → Reader B} {P : Phrase 
 then_sound {r} {f} {P} {Q} first second = record { reads = then_front r f P Q first second }
 
 -- a step that reads one word
-mark_front : {B : Type 0} (w : Word) (step : At → Result At FaultKind) (r : Reader B) (P : Phrase B)
+mark_front : {B : Type 0} (w : Word) (step : At → Result At ParseFaultKind) (r : Reader B) (P : Phrase B)
     → ((a b : At) → step a ≡ Ok b → a.words ≡ w ∷ b.words) → Sound r P → (a : At) (y : B) (d : At) → (step a >>= r) ≡ Ok (y, d) → Front (Mark w P y) a.words d.words
 mark_front w step r P one behind a y d h =
     let b = bind_ok (step a) r (y, d) h in
@@ -211,10 +211,10 @@ clause_front whole r P behind a y d h =
 pub clause_sound : {B : Type 0} (whole : List ℕ) {r : Reader B} {P : Phrase B} → Sound r P → Sound (λ a. clause whole a >>= r) (Key whole P)
 clause_sound whole {r} {P} behind = record { reads = clause_front whole r P behind }
 
-pub mark_sound : {B : Type 0} (w : Word) (step : At → Result At FaultKind) → ((a b : At) → step a ≡ Ok b → a.words ≡ w ∷ b.words) → {r : Reader B} {P : Phrase B} → Sound r P
+pub mark_sound : {B : Type 0} (w : Word) (step : At → Result At ParseFaultKind) → ((a b : At) → step a ≡ Ok b → a.words ≡ w ∷ b.words) → {r : Reader B} {P : Phrase B} → Sound r P
     → Sound (λ a. step a >>= r) (Mark w P)
 mark_sound w step one {r} {P} behind = record { reads = mark_front w step r P one behind }
 
 -- a reader that refuses all
-pub fails_sound : {B : Type 0} (k : FaultKind) (P : Phrase B) → Sound (λ a. failed k) P
+pub fails_sound : {B : Type 0} (k : ParseFaultKind) (P : Phrase B) → Sound (λ a. failed k) P
 fails_sound k P = record { reads = λ a y d h. absurd (not_ok k (y, d) h) }

@@ -2,7 +2,7 @@
 use Rattle.std.specs.Prelude.{ℕ, List, Bool, map, Option, option_map}
 use Rattle.prg_expr.specs.Tree.{Tree, tree_of}
 use Rattle.arrayvec.specs.ArrayVec.{ArrayVec}
-use Rattle.prg_line.specs.declared.statement.Setting.{Setting}
+use Rattle.prg_line.specs.declared.statement.Toggle.{Toggle}
 use Rattle.prg_line.specs.declared.statement.Selected.{Selected}
 use Rattle.prg_line.specs.declared.statement.Selected.TheVariants as selected
 use Rattle.prg_line.specs.declared.statement.Move.{Move}
@@ -58,7 +58,7 @@ pub data Act : Type 0 where
   CloseAll : Act
   SetOrder : ℕ → Act
   SetFilter : Option Tree → Act
-  Set : Setting → Bool → Act
+  Set : Toggle → Bool → Act
   Go : Goal → Act
   Skip : Option Tree → Act
   Seek : Tree → Act

@@ -7,8 +7,8 @@ use Rattle.prg_expr.specs.Grammar.{Spells}
 use Rattle.prg_expr.specs.Tree.{Tree}
 use Rattle.prg_expr.specs.Word.{Word}
 use Rattle.prg_expr.specs.Word as word
-use Rattle.prg_line.specs.declared.statement.Setting.{Setting}
-use Rattle.prg_line.specs.declared.statement.Setting.TheVariants.{Exact, Deleted, Century}
+use Rattle.prg_line.specs.declared.statement.Toggle.{Toggle}
+use Rattle.prg_line.specs.declared.statement.Toggle.TheVariants.{Exact, Deleted, Century}
 use Rattle.prg_line.specs.declared.verb.Verb.{Verb}
 use Rattle.prg_line.specs.declared.verb.Verb.TheVariants as verb
 use Rattle.prg_line.specs.Act.{Act, Letters, Change}
@@ -138,7 +138,7 @@ Order = Key (codes "TO") (Then Whole (λ n. Is (act.SetOrder n)))
 abbrev pub Filter : Phrase Act
 Filter = Key (codes "TO") (Either (Is (act.SetFilter None)) (Then Spells (λ e. Is (act.SetFilter (Some e)))))
 
-abbrev pub Switch : Setting → Phrase Act
+abbrev pub Switch : Toggle → Phrase Act
 Switch s = Where (codes "ON") (Is (act.Set s true)) (Key (codes "OFF") (Is (act.Set s false)))
 
 abbrev pub Set : Phrase Act

@@ -7,10 +7,10 @@ use Rattle.prg_expr.specs.Reading.{front}
 use Rattle.prg_expr.specs.Tree.{Tree}
 use Rattle.prg_expr.specs.Word.{Word}
 use Rattle.prg_expr.specs.Word as word
-use Rattle.prg_expr.specs.declared.fault.FaultKind.{FaultKind}
-use Rattle.prg_expr.specs.declared.fault.FaultKind.TheVariants as kind
-use Rattle.prg_line.specs.declared.statement.Setting.{Setting}
-use Rattle.prg_line.specs.declared.statement.Setting.TheVariants.{Exact, Deleted, Century}
+use Rattle.prg_expr.specs.declared.fault.ParseFaultKind.{ParseFaultKind}
+use Rattle.prg_expr.specs.declared.fault.ParseFaultKind.TheVariants as kind
+use Rattle.prg_line.specs.declared.statement.Toggle.{Toggle}
+use Rattle.prg_line.specs.declared.statement.Toggle.TheVariants.{Exact, Deleted, Century}
 use Rattle.prg_line.specs.declared.verb.Verb.{Verb}
 use Rattle.prg_line.specs.declared.verb.Verb.TheVariants as verb
 use Rattle.prg_line.specs.Act.{Act, Letters, Area, Goal, Change}
@@ -28,13 +28,13 @@ at ws b = record { words = ws; behind = b }
 
 -- what was read, and where reading goes on
 abbrev pub Read : Type 0 → Type 0
-Read A = Result (A × At) FaultKind
+Read A = Result (A × At) ParseFaultKind
 
 abbrev pub Reader : Type 0 → Type 0
 Reader A = At → Read A
 
 infixl 10 ◌>>=◌
-abbrev pub ◌>>=◌ : {A B : Type 0} → Result A FaultKind → (A → Result B FaultKind) → Result B FaultKind
+abbrev pub ◌>>=◌ : {A B : Type 0} → Result A ParseFaultKind → (A → Result B ParseFaultKind) → Result B ParseFaultKind
 (Ok x) >>= f = f x
 (Err e) >>= f = Err e
 
@@ -46,17 +46,17 @@ abbrev pub is_at_end : At → Bool
 is_at_end a = is_nil a.words
 
 -- the fault of what stands where only a clause or the line's end may: what can't be a clause is taken for more of the expression before it
-unfoldable pub unexpected_in : Bool → List Word → FaultKind
+unfoldable pub unexpected_in : Bool → List Word → ParseFaultKind
 unexpected_in behind [] = kind.Word
 unexpected_in behind (word.Name s ∷ ws) = kind.Word
 unexpected_in behind (word.Outside word.Macro ∷ ws) = kind.Macro
 unexpected_in behind ws = if behind then kind.Expression else kind.Word
 
-abbrev pub unexpected : At → FaultKind
+abbrev pub unexpected : At → ParseFaultKind
 unexpected a = unexpected_in a.behind a.words
 
 -- the fault where a name or a number must stand
-unfoldable pub no_constant : List Word → FaultKind
+unfoldable pub no_constant : List Word → ParseFaultKind
 no_constant (word.Outside word.Macro ∷ ws) = kind.Macro
 no_constant ws = kind.Word
 
@@ -72,7 +72,7 @@ abbrev pub name : Reader Letters
 name a = name_in a.words
 
 -- a number that is whole and below 2^16 (the number of a word has no sign)
-abbrev pub whole_of : Decimal → Result ℕ FaultKind
+abbrev pub whole_of : Decimal → Result ℕ ParseFaultKind
 whole_of asterisk = Err kind.Word
 whole_of (finite m d) = if d == 0 && nat_lt (unsigned_abs m) 65536 then Ok (unsigned_abs m) else Err kind.Word
 
@@ -118,7 +118,7 @@ abbrev pub on_taken : {B : Type 0} → Taken → (At → B) → (At → B) → B
 on_taken t there absent = if t.0 then there t.1 else absent t.1
 
 -- a word of the command, which must stand in front
-unfoldable pub clause : List ℕ → At → Result At FaultKind
+unfoldable pub clause : List ℕ → At → Result At ParseFaultKind
 clause whole a = on_taken (takes whole a) (λ b. Ok b) (λ b. Err (unexpected b))
 
 unfoldable pub comma_in : At → List Word → Taken
@@ -129,15 +129,15 @@ abbrev pub comma : At → Taken
 comma a = comma_in a a.words
 
 -- the comma that must stand between two expressions
-unfoldable pub comma_between : At → Result At FaultKind
+unfoldable pub comma_between : At → Result At ParseFaultKind
 comma_between a = on_taken (comma a) (λ b. Ok b) (λ b. if is_at_end b then Err kind.Expression else Err (unexpected b))
 
-unfoldable pub equal_in : At → List Word → Result At FaultKind
+unfoldable pub equal_in : At → List Word → Result At ParseFaultKind
 equal_in a (word.Sign Equal ∷ ws) = Ok (at ws a.behind)
 equal_in a ws = Err (unexpected a)
 
 -- the equal sign of an assignment
-abbrev pub equal : At → Result At FaultKind
+abbrev pub equal : At → Result At ParseFaultKind
 equal a = equal_in a a.words
 
 -- further ones, each behind a comma; the number bounds how many
@@ -222,7 +222,7 @@ use_table a =
     else (name a >>= λ t. on_taken (takes (codes "INDEX") t.1) (λ b. names b >>= λ is. Ok (act.Use t.0 is.0, is.1)) (λ b. Ok (act.Use t.0 [], b)))
 
 -- work areas have the numbers 1 to 10
-abbrev pub area_number : ℕ → Result ℕ FaultKind
+abbrev pub area_number : ℕ → Result ℕ ParseFaultKind
 area_number n = if nat_le 1 n && nat_le n 10 then Ok n else Err kind.Word
 
 unfoldable pub select : Reader Act
@@ -239,7 +239,7 @@ order a = clause (codes "TO") a >>= λ b. whole_number b >>= λ n. Ok (act.SetOr
 unfoldable pub filter : Reader Act
 filter a = clause (codes "TO") a >>= λ b. if is_at_end b then Ok (act.SetFilter None, b) else (expression b >>= λ x. Ok (act.SetFilter (Some x.0), x.1))
 
-unfoldable pub switch : Setting → Reader Act
+unfoldable pub switch : Toggle → Reader Act
 switch s a = on_taken (takes (codes "ON") a) (λ b. Ok (act.Set s true, b)) (λ b. clause (codes "OFF") b >>= λ c. Ok (act.Set s false, c))
 
 unfoldable pub century : Reader Act
@@ -345,15 +345,15 @@ block_line verb.Procedure a = name a >>= λ s. Ok (saying.Procedure s.0, s.1)
 block_line v a = whole v a
 
 -- nothing may be left of the line
-unfoldable pub ended : Saying × At → Result Saying FaultKind
+unfoldable pub ended : Saying × At → Result Saying ParseFaultKind
 ended x = if is_at_end x.1 then Ok x.0 else Err (unexpected x.1)
 
 -- a line of which all words are read
-abbrev pub read_whole : Verb → At → Result Saying FaultKind
+abbrev pub read_whole : Verb → At → Result Saying ParseFaultKind
 read_whole v a = block_line v a >>= ended
 
 -- what a line says, of which the first words are read; what follows the word that ends a block isn't looked at
-unfoldable pub sentence : Verb → At → Result Saying FaultKind
+unfoldable pub sentence : Verb → At → Result Saying ParseFaultKind
 sentence verb.Nothing a = Ok saying.Nothing
 sentence verb.Ignored a = Ok saying.Nothing
 sentence verb.EndIf a = Ok saying.EndIf

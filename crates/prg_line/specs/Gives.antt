@@ -2,7 +2,7 @@
 use Rattle.std.specs.Prelude.{◌≡◌, Result, Ok, Err, true, false}
 use Rattle.prg_expr.specs.Reading.{Fails}
 use Rattle.prg_expr.specs.Word.{words}
-use Rattle.prg_expr.specs.declared.fault.FaultKind.{FaultKind}
+use Rattle.prg_expr.specs.declared.fault.ParseFaultKind.{ParseFaultKind}
 use Rattle.prg_expr.specs.declared.fault.FormFault.{FormFault}
 use Rattle.prg_expr.specs.declared.fault.FormFault.TheVariants.{Kind, Memory}
 use Rattle.prg_line.specs.declared.reader.Reader.{Reader}
@@ -18,7 +18,7 @@ Reads view (Ok x) left read = read ≡ Ok (view x, at_of left)
 Reads view (Err e) left read = Fails e read
 
 -- the same of a function that returns nothing but where it left the reader
-abbrev pub Leads : {X : Type 0} → Result X FormFault → Reader → Result At FaultKind → Type 0
+abbrev pub Leads : {X : Type 0} → Result X FormFault → Reader → Result At ParseFaultKind → Type 0
 Leads (Ok x) left read = read ≡ Ok (at_of left)
 Leads (Err e) left read = Fails e read
 

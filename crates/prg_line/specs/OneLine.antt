@@ -3,8 +3,8 @@ use Rattle.std.specs.Prelude.{ℕ, false, List, map, length, nat_lt, Option, Som
 use Rattle.prg_expr.specs.Faults.{least, least_of, length_fault}
 use Rattle.prg_expr.specs.Lexicon.{Spot, spot_word, spot_fault}
 use Rattle.prg_expr.specs.Scanning.{scan}
-use Rattle.prg_expr.specs.declared.fault.FaultKind.{FaultKind}
-use Rattle.prg_expr.specs.declared.fault.FaultKind.TheVariants as kind
+use Rattle.prg_expr.specs.declared.fault.ParseFaultKind.{ParseFaultKind}
+use Rattle.prg_expr.specs.declared.fault.ParseFaultKind.TheVariants as kind
 use Rattle.prg_line.specs.declared.role.Role.{Role}
 use Rattle.prg_line.specs.declared.verb.Verb.{Verb}
 use Rattle.prg_line.specs.Forms.{sentence, at}
@@ -12,25 +12,25 @@ use Rattle.prg_line.specs.Saying.{Saying, Nothing}
 use Rattle.prg_line.specs.Verbs.{Found, verb_of, role_of, ignores_rest, has_expressions}
 
 -- the least fault of the words, where they count
-abbrev pub word_fault : Verb → List Spot → Option FaultKind
+abbrev pub word_fault : Verb → List Spot → Option ParseFaultKind
 word_fault v spots = if ignores_rest v then None else least_of None (map spot_fault spots)
 
 -- What the words behind the first ones say. Of a line of more than 4,096 words, which is too long anyway, a command with
 -- expressions isn't read.
-unfoldable pub form : ℕ → Found → Result Saying FaultKind
+unfoldable pub form : ℕ → Found → Result Saying ParseFaultKind
 form count f = if has_expressions f.0 && nat_lt 4096 count then Err kind.TooLong else sentence f.0 (at f.1 false)
 
-abbrev pub fault_in : Result Saying FaultKind → Option FaultKind
+abbrev pub fault_in : Result Saying ParseFaultKind → Option ParseFaultKind
 fault_in (Ok s) = None
 fault_in (Err k) = Some k
 
 -- a line with a fault says nothing
-abbrev pub saying_in : Result Saying FaultKind → Saying
+abbrev pub saying_in : Result Saying ParseFaultKind → Saying
 saying_in (Ok s) = s
 saying_in (Err k) = Nothing
 
 -- the least fault of a line of so many bytes, with these words, the first of which begin this command
-abbrev pub fault_with : ℕ → List Spot → Found → Option FaultKind
+abbrev pub fault_with : ℕ → List Spot → Found → Option ParseFaultKind
 fault_with bytes spots f = least (least (word_fault f.0 spots) (fault_in (form (length (map spot_word spots)) f))) (length_fault bytes)
 
 abbrev pub found_in : List Spot → Found
@@ -41,7 +41,7 @@ unfoldable pub role_at : List ℕ → Role
 role_at text = role_of (found_in (scan text)).0
 
 -- the least fault of its words, its form and its length
-unfoldable pub fault_at : List ℕ → Option FaultKind
+unfoldable pub fault_at : List ℕ → Option ParseFaultKind
 fault_at text = fault_with (length text) (scan text) (found_in (scan text))
 
 -- what it says

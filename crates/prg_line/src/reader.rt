@@ -10,11 +10,11 @@ ghost use Rattle.prg_line.specs.Gives.{at_of, Reads, Leads, Ends};
 ghost use Rattle.prg_expr.specs.declared.fault.FormFault.TheVariants.{Kind};
 
 use fixed_num::Num;
-use prg_expr::{Expr, FaultKind, FormFault, Name, Operator, Token, expression, is_word, name_of};
+use prg_expr::{Expr, ParseFaultKind, FormFault, Name, Operator, Token, expression, is_word, name_of};
 use std::alloc::Global;
 
 /// A word of a command is missing, or another one stands there.
-const WORD: FormFault = FormFault::Kind(FaultKind::Word);
+const WORD: FormFault = FormFault::Kind(ParseFaultKind::Word);
 
 /// The longest expression at the front of the words, and how many words are behind it.
 fn expression_at(alloc: Global, tokens: &[Token<'_>]) -> Result<(Expr, usize), FormFault>
@@ -46,10 +46,10 @@ impl<'a> Reader<'a> {
     {
         match self.words {
             [] | [Token::Name(_), ..] => WORD,
-            [Token::Macro, ..] => FormFault::Kind(FaultKind::Macro),
+            [Token::Macro, ..] => FormFault::Kind(ParseFaultKind::Macro),
             _ => {
                 if self.behind_expression {
-                    FormFault::Kind(FaultKind::Expression)
+                    FormFault::Kind(ParseFaultKind::Expression)
                 } else {
                     WORD
                 }
@@ -63,7 +63,7 @@ impl<'a> Reader<'a> {
         ensures { result ≡ Kind (spec.no_constant (words self.now.words.now)) }
     {
         match self.words {
-            [Token::Macro, ..] => FormFault::Kind(FaultKind::Macro),
+            [Token::Macro, ..] => FormFault::Kind(ParseFaultKind::Macro),
             _ => WORD,
         }
     }
@@ -194,7 +194,7 @@ impl<'a> Reader<'a> {
         if self.comma() {
             Ok(())
         } else if self.is_at_end() {
-            Err(FormFault::Kind(FaultKind::Expression))
+            Err(FormFault::Kind(ParseFaultKind::Expression))
         } else {
             Err(self.unexpected())
         }

@@ -7,7 +7,7 @@ ghost use Rattle.prg_line.specs.LineSays.{LineSays};
 ghost use Rattle.prg_line.specs.OneLine as spec;
 ghost use Rattle.prg_line.specs.Saying.{Saying, role_of, saying_of};
 ghost use Rattle.prg_line.specs.Verbs.{ignores_rest};
-ghost use Rattle.prg_expr.specs.declared.fault.FaultKind.{FaultKind as AnyKind};
+ghost use Rattle.prg_expr.specs.declared.fault.ParseFaultKind.{ParseFaultKind as AnyKind};
 
 use crate::forms::sentence;
 use crate::reader::Reader;
@@ -15,7 +15,7 @@ use crate::role::Role;
 use crate::statement::Sentence;
 use crate::verb::{Verb, verb_of};
 use prg_expr::{
-    FaultKind, FormFault, MOST_WORDS, Token, expressions_are_read, least, length_fault,
+    ParseFaultKind, FormFault, MOST_WORDS, Token, expressions_are_read, least, length_fault,
     lines_are_cut, one_line, words,
 };
 use std::alloc::{AllocError, Global};
@@ -26,7 +26,7 @@ pub struct ReadLine {
     /// What it is to the blocks around it, also where it has a fault.
     pub role: Role,
     /// The least fault of its words, its form and its length.
-    pub fault: Option<FaultKind>,
+    pub fault: Option<ParseFaultKind>,
     /// What it says; nothing where its form has a fault.
     pub sentence: Sentence,
 }
@@ -50,7 +50,7 @@ fn read_form(
     ensures { Gives saying_of result (spec.form count (verb, tokens_of rest.now)) }
 {
     if verb.has_expressions() && MOST_WORDS < count {
-        return Err(FormFault::Kind(FaultKind::TooLong));
+        return Err(FormFault::Kind(ParseFaultKind::TooLong));
     }
     let mut reader = Reader {
         alloc,
@@ -61,14 +61,14 @@ fn read_form(
 }
 
 /// The least fault of the words of a line, where they count.
-fn word_fault(verb: Verb, fault: Option<FaultKind>) -> Option<FaultKind>
+fn word_fault(verb: Verb, fault: Option<ParseFaultKind>) -> Option<ParseFaultKind>
     ensures { result ≡ (if ignores_rest verb then None else fault) }
 {
     if verb.ignores_rest() { None } else { fault }
 }
 
 /// What was read of a line's form, and its fault.
-fn told(form: Result<Sentence, FormFault>) -> Result<(Sentence, Option<FaultKind>), AllocError>
+fn told(form: Result<Sentence, FormFault>) -> Result<(Sentence, Option<ParseFaultKind>), AllocError>
     ensures { (read : Result Saying AnyKind) → Gives saying_of form read
         → IfOk result (λ x. (saying_of x.0 ≡ spec.saying_in read) × (x.1 ≡ spec.fault_in read)) }
 {

@@ -106,7 +106,7 @@ pub enum Statement {
     },
     /// `SET EXACT`, `SET DELETED` or `SET CENTURY`, `ON` or `OFF`.
     Set {
-        setting: Setting,
+        setting: Toggle,
         on: bool,
     },
     /// `GO` or `GOTO`.
@@ -155,7 +155,7 @@ pub enum Selected {
 
 /// What `SET` switches on and off.
 #[derive(Clone, Copy, Debug, PartialEq, Eq)]
-pub enum Setting {
+pub enum Toggle {
     /// Texts are equal only whole.
     Exact,
     /// Marked records are hidden.

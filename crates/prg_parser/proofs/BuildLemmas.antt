@@ -4,7 +4,7 @@ use Rattle.std.specs.Prelude.{option_map, slice_get, if◌then◌else◌, not}
 use Rattle.std.proofs.lemmas.List.{append-nil, map-append}
 use Rattle.std.proofs.lemmas.Option.{slice_get-get_or}
 use Rattle.std.proofs.Math.Seq.{get_or-append_seam, take-append_seam}
-use Rattle.prg_expr.specs.declared.fault.FaultKind.{FaultKind}
+use Rattle.prg_expr.specs.declared.fault.ParseFaultKind.{ParseFaultKind}
 use Rattle.prg_line.specs.declared.role.Role.{Role}
 use Rattle.prg_line.specs.declared.role.Role.TheVariants as role
 use Rattle.prg_parser.specs.declared.blocks.Part.{Part}
@@ -61,7 +61,7 @@ outer_last ps p =
 place_at : List Part → Option Place
 place_at ps = option_map (λ part. part.place) (innermost ps)
 
-passes : (b : Bool) (k : FaultKind) (o : Option FaultKind) → (if not b then Some k else o) ≡ None → b ≡ true
+passes : (b : Bool) (k : ParseFaultKind) (o : Option ParseFaultKind) → (if not b then Some k else o) ≡ None → b ≡ true
 passes true k o e = refl
 passes false k o e = cc
 

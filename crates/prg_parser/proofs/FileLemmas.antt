@@ -2,7 +2,7 @@
 use Rattle.std.proofs.Common.{◌≡◌, ℕ, List, [], ◌∷◌, Option, Some, None, map, refl, sym, ◌∙◌, ap}
 use Rattle.std.specs.List.{All}
 use Rattle.std.proofs.lemmas.List.Elements.{All-nil, All-cons, All-head, All-tail}
-use Rattle.prg_expr.specs.declared.fault.FaultKind.{FaultKind}
+use Rattle.prg_expr.specs.declared.fault.ParseFaultKind.{ParseFaultKind}
 use Rattle.prg_line.specs.declared.role.Role.{Role}
 use Rattle.prg_line.specs.declared.statement.Sentence.{Sentence}
 use Rattle.prg_line.specs.LineSays.{LineSays}
@@ -44,7 +44,7 @@ Clean mark = mark.fault ≡ None
 some_none : (x : ParseFault) → Some x ≡ None → ⊥
 some_none x h = cc
 
-neither : (o : Option FaultKind) (line : ℕ) (others : Option ParseFault) → spec.or_else o line others ≡ None → (o ≡ None) × (others ≡ None)
+neither : (o : Option ParseFaultKind) (line : ℕ) (others : Option ParseFault) → spec.or_else o line others ≡ None → (o ≡ None) × (others ≡ None)
 neither None line others h = (refl, h)
 neither (Some k) line others h = absurd (some_none (record { line = line; kind = k }) h)
 
@@ -55,11 +55,11 @@ clean_marks parts unended (m ∷ ms) h =
     let s = neither (spec.wrong parts m) m.line (verdict (parts_after parts m.line m.role) (spec.unended_after parts unended m) ms) h in
     All-cons Clean m ms (own_fault m.fault (fault_of parts m.role) s.0) (clean_marks (parts_after parts m.line m.role) (spec.unended_after parts unended m) ms s.1)
 
-abbrev mark_with_parts : ℕ → Role → Option FaultKind → Mark
+abbrev mark_with_parts : ℕ → Role → Option ParseFaultKind → Mark
 mark_with_parts n r k = record { line = n; role = r; fault = k }
 
 plain_by : (j : Joined) (s : Saying) → role_at j.text ≡ role_of s → fault_at j.text ≡ None → mark_of j ≡ plain_mark j s
-plain_by j s r f = ap (λ (x : Role). mark_with_parts j.first x (fault_at j.text)) r ∙ ap (λ (k : Option FaultKind). mark_with_parts j.first (role_of s) k) f
+plain_by j s r f = ap (λ (x : Role). mark_with_parts j.first x (fault_at j.text)) r ∙ ap (λ (k : Option ParseFaultKind). mark_with_parts j.first (role_of s) k) f
 
 says_all : SoundLaw → (js : List Joined) → All Clean (map mark_of js) → SaysAll (map says_at js) js
 says_all sound [] h = tt

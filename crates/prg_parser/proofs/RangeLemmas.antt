@@ -5,7 +5,7 @@ use Rattle.std.specs.Prelude.{slice_get, option_map, if◌then◌else◌}
 use Rattle.std.specs.List.{All}
 use Rattle.std.proofs.lemmas.Option.{slice_get_within, get_or_from_slice_get}
 use Rattle.std.proofs.lemmas.List.Elements.{All-nil, All-cons, All-head, All-tail, All-weaker, All-push, All-take, All-get_or, All-map, All-same}
-use Rattle.prg_expr.specs.declared.fault.FaultKind.{FaultKind}
+use Rattle.prg_expr.specs.declared.fault.ParseFaultKind.{ParseFaultKind}
 use Rattle.prg_expr.specs.declared.fault.ParseFault.{ParseFault}
 use Rattle.prg_parser.specs.declared.blocks.Part.{Part}
 use Rattle.prg_parser.specs.declared.blocks.Place.{Place}
@@ -114,7 +114,7 @@ block-in : (count : ℕ) (o : Option ℕ) → LineIn count o → FaultIn count (
 block-in count None h = tt
 block-in count (Some line) h = h
 
-or-in : (count line : ℕ) (o : Option FaultKind) (others : Option ParseFault) → IsLineOf count line → FaultIn count others → FaultIn count (spec.or_else o line others)
+or-in : (count line : ℕ) (o : Option ParseFaultKind) (others : Option ParseFault) → IsLineOf count line → FaultIn count others → FaultIn count (spec.or_else o line others)
 or-in count line None others l h = h
 or-in count line (Some kind) others l h = l
 

@@ -3,7 +3,7 @@ use Rattle.std.proofs.Common.{◌≡◌, ℕ, ◌+◌, ◌<◌, List, [], ◌∷
 use Rattle.std.specs.Prelude.{option_map, if◌then◌else◌}
 use Rattle.std.specs.List.{zip}
 use Rattle.std.proofs.lemmas.List.{append-nil, drop_all}
-use Rattle.prg_expr.specs.declared.fault.FaultKind.{FaultKind}
+use Rattle.prg_expr.specs.declared.fault.ParseFaultKind.{ParseFaultKind}
 use Rattle.prg_expr.specs.declared.fault.ParseFault.{ParseFault}
 use Rattle.prg_line.specs.declared.role.Role.{Role}
 use Rattle.prg_parser.specs.declared.blocks.Part.{Part}
@@ -39,7 +39,7 @@ pub record Ready (b : Builder) (left : Pairs) (whole : Lines) : Type 0 where
   pub roles : map (λ (p : Mark × Sentence). p.0.role) left ≡ map (λ (p : Mark × Sentence). role_of (saying_of p.1)) left
   pub lines : built_lines b ++ said_lines (numbers_of left) (sayings_of left) ≡ whole
 
-no_or_else : (o : Option FaultKind) (n : ℕ) (others : Option ParseFault) → spec.or_else o n others ≡ None → (o ≡ None) × (others ≡ None)
+no_or_else : (o : Option ParseFaultKind) (n : ℕ) (others : Option ParseFault) → spec.or_else o n others ≡ None → (o ≡ None) × (others ≡ None)
 no_or_else None n others e = (refl, e)
 no_or_else (Some k) n others e = cc
 

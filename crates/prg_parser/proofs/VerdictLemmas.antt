@@ -2,7 +2,7 @@
 
 use Rattle.std.proofs.Common.{◌≡◌, ℕ, ◌+◌, ◌<◌, List, [], ◌∷◌, Option, Some, None, length, drop, get_or, refl, sym, ◌∙◌, ap, add-one, drop-cons, Bool, true, false}
 use Rattle.std.specs.Prelude.{option_map, nat_le, if◌then◌else◌}
-use Rattle.prg_expr.specs.declared.fault.FaultKind.{FaultKind}
+use Rattle.prg_expr.specs.declared.fault.ParseFaultKind.{ParseFaultKind}
 use Rattle.prg_expr.specs.declared.fault.ParseFault.{ParseFault}
 use Rattle.prg_parser.specs.declared.blocks.Part.{Part}
 use Rattle.prg_parser.specs.declared.judging.Mark.{Mark}
@@ -11,7 +11,7 @@ use Rattle.prg_parser.specs.Verdict.{verdict}
 use Rattle.prg_parser.specs.Blocks.{parts_after}
 use Rattle.prg_expr.specs.Faults.{least, rank}
 
-front-told : (parts : List Part) (unended : Option ℕ) (mark : Mark) (others : List Mark) (kind : FaultKind) → spec.wrong parts mark ≡ Some kind
+front-told : (parts : List Part) (unended : Option ℕ) (mark : Mark) (others : List Mark) (kind : ParseFaultKind) → spec.wrong parts mark ≡ Some kind
     → verdict parts unended (mark ∷ others) ≡ Some (record { line = mark.line; kind = kind })
 unfolding verdict
 front-told parts unended mark others kind e = rw (e) refl
@@ -29,7 +29,7 @@ split : (marks : List Mark) (i : ℕ) (d : Mark) → i < length marks → get_or
 split marks i d below = rw (add-one, drop-cons marks i d) refl
 
 -- a line with a fault
-pub told : (parts : List Part) (unended : Option ℕ) (marks : List Mark) (i : ℕ) (d : Mark) (kind : FaultKind) (whole : Option ParseFault) → i < length marks
+pub told : (parts : List Part) (unended : Option ℕ) (marks : List Mark) (i : ℕ) (d : Mark) (kind : ParseFaultKind) (whole : Option ParseFault) → i < length marks
     → spec.wrong parts (get_or marks i d) ≡ Some kind → verdict parts unended (drop i marks) ≡ whole
     → Some (record { line = (get_or marks i d).line; kind = kind }) ≡ whole
 told parts unended marks i d kind whole below e h =
@@ -48,18 +48,18 @@ passed parts next unended after marks i d whole below e n a h =
     ∙ ap (verdict parts unended) (split marks i d below)
     ∙ h
 
-some_told : (b : Bool) (k l : FaultKind) → (if b then Some k else Some l) ≡ None → ⊥
+some_told : (b : Bool) (k l : ParseFaultKind) → (if b then Some k else Some l) ≡ None → ⊥
 some_told true k l e = cc
 some_told false k l e = cc
 
 -- where neither fault is, the place has none
-pub no_fault : (own place : Option FaultKind) → least own place ≡ None → place ≡ None
+pub no_fault : (own place : Option ParseFaultKind) → least own place ≡ None → place ≡ None
 no_fault None place e = e
 no_fault (Some k) None e = refl
 no_fault (Some k) (Some l) e = absurd (some_told (nat_le (rank k) (rank l)) k l e)
 
 -- and none of its own
-pub own_fault : (own place : Option FaultKind) → least own place ≡ None → own ≡ None
+pub own_fault : (own place : Option ParseFaultKind) → least own place ≡ None → own ≡ None
 own_fault None place e = refl
 own_fault (Some k) None e = e
 own_fault (Some k) (Some l) e = absurd (some_told (nat_le (rank k) (rank l)) k l e)

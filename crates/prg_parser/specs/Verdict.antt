@@ -1,11 +1,11 @@
 -- Which fault of a file is told.
 
 use Rattle.std.specs.Prelude.{ℕ, List, [], ◌∷◌, Option, Some, None, if◌then◌else◌, slice_get, option_map, ◌≤◌}
-use Rattle.prg_expr.specs.declared.fault.FaultKind.{FaultKind}
-use Rattle.prg_expr.specs.declared.fault.FaultKind.TheVariants.{Block}
+use Rattle.prg_expr.specs.declared.fault.ParseFaultKind.{ParseFaultKind}
+use Rattle.prg_expr.specs.declared.fault.ParseFaultKind.TheVariants.{Block}
 use Rattle.prg_expr.specs.declared.fault.ParseFault.{ParseFault}
-use Rattle.prg_expr.specs.declared.fault.Refusal.{Refusal}
-use Rattle.prg_expr.specs.declared.fault.Refusal.TheVariants.{Fault, Memory}
+use Rattle.prg_expr.specs.declared.fault.ParseRefusal.{ParseRefusal}
+use Rattle.prg_expr.specs.declared.fault.ParseRefusal.TheVariants.{Fault, Memory}
 use Rattle.prg_parser.specs.declared.blocks.Part.{Part}
 use Rattle.prg_parser.specs.declared.judging.Mark.{Mark}
 use Rattle.prg_parser.specs.Blocks.{fault_of, parts_after, is_procedure}
@@ -16,7 +16,7 @@ abbrev pub IsLineOf : ℕ → ℕ → Type 0
 IsLineOf count line = (1 ≤ line) × (line ≤ count)
 
 -- a refusal that names a line of the file, where it is a fault
-abbrev pub NamesLine : ℕ → Refusal → Type 0
+abbrev pub NamesLine : ℕ → ParseRefusal → Type 0
 NamesLine count (Fault fault) = IsLineOf count fault.line
 NamesLine count Memory = Unit {0}
 
@@ -37,10 +37,10 @@ abbrev pub block_at : ℕ → ParseFault
 block_at line = record { line = line; kind = Block }
 
 -- what is wrong with a line: the least of its own fault and of that of its place
-abbrev pub wrong : List Part → Mark → Option FaultKind
+abbrev pub wrong : List Part → Mark → Option ParseFaultKind
 wrong parts mark = least mark.fault (fault_of parts mark.role)
 
-abbrev pub or_else : Option FaultKind → ℕ → Option ParseFault → Option ParseFault
+abbrev pub or_else : Option ParseFaultKind → ℕ → Option ParseFault → Option ParseFault
 or_else (Some kind) line others = Some (record { line = line; kind = kind })
 or_else None line others = others
 

@@ -6,7 +6,7 @@ ghost use Rattle.arrayvec.specs.ArrayVec.{array_vec_len};
 ghost use Rattle.prg_parser.specs.Blocks as spec;
 
 use arrayvec::ArrayVec;
-use prg_expr::FaultKind;
+use prg_expr::ParseFaultKind;
 use prg_line::Role;
 
 /// The most blocks that may stand within each other.
@@ -112,17 +112,17 @@ fn innermost(parts: &[Part]) -> Option<Place>
 /// What is wrong with a line where these blocks are open, from the outermost on: Block where it doesn't fit its place,
 /// TooDeep where it opens a 33rd block.
 #[tactic(auto, unfolding(crate::specs::Blocks::fault_of))]
-pub fn block_fault(parts: &[Part], role: Role) -> Option<FaultKind>
+pub fn block_fault(parts: &[Part], role: Role) -> Option<ParseFaultKind>
     ensures { result ≡ spec.fault_of parts.now role }
 {
     if !may_stand(role, innermost(parts)) {
-        return Some(FaultKind::Block);
+        return Some(ParseFaultKind::Block);
     }
     if is_leap(role) && !is_in_loop(parts) {
-        return Some(FaultKind::Block);
+        return Some(ParseFaultKind::Block);
     }
     if opened(role).is_some() && parts.len() >= MOST_BLOCKS {
-        return Some(FaultKind::TooDeep);
+        return Some(ParseFaultKind::TooDeep);
     }
     None
 }

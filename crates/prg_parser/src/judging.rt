@@ -5,7 +5,7 @@ ghost use Rattle.prg_parser.specs.Verdict as spec;
 ghost use Rattle.prg_parser.specs.Blocks.{is_procedure};
 
 use crate::blocks::{Part, Parts, block_fault, enter};
-use prg_expr::{FaultKind, ParseFault, least};
+use prg_expr::{ParseFaultKind, ParseFault, least};
 use prg_line::Role;
 
 /// What of a line decides on its fault.
@@ -16,7 +16,7 @@ pub struct Mark {
     /// What it is to the blocks around it.
     pub role: Role,
     /// The least fault of its length, its words and its form.
-    pub fault: Option<FaultKind>,
+    pub fault: Option<ParseFaultKind>,
 }
 
 /// The line that opened the outermost open block.
@@ -64,7 +64,7 @@ fn left_open(line: Option<usize>) -> Option<ParseFault>
     match line {
         Some(line) => Some(ParseFault {
             line,
-            kind: FaultKind::Block,
+            kind: ParseFaultKind::Block,
         }),
         None => None,
     }

@@ -18,7 +18,7 @@ use crate::builder::Builder;
 use crate::judging::{Mark, judge};
 use crate::lines::{JoinedLine, joined_lines};
 use crate::program::Program;
-use prg_expr::Refusal;
+use prg_expr::ParseRefusal;
 use prg_line::{ReadLine, Sentence, lines_are_read, one_saying, read_line};
 use std::alloc::{AllocError, Global};
 
@@ -68,7 +68,7 @@ fn build(alloc: Global, marks: &[Mark], sentences: Vec<Sentence>) -> Result<Prog
 ///
 /// The fault of the file's first faulty line, and there the least kind, with the line's number from 1; of a joined line
 /// that of its first. Without any other fault, Block at the line of the first block that isn't ended. Want of memory.
-pub fn parse(alloc: Global, bytes: &[u8]) -> Result<Program, Refusal>
+pub fn parse(alloc: Global, bytes: &[u8]) -> Result<Program, ParseRefusal>
     // The fault is that of the first faulty line, and there the least kind.
     ensures told { IfErr result (Tells (verdict [] None (spec.marks bytes.now))) }
     // It names a line of the file.
@@ -84,7 +84,7 @@ pub fn parse(alloc: Global, bytes: &[u8]) -> Result<Program, Refusal>
     let lines = joined_lines(alloc, bytes)?;
     let ReadLines { marks, sentences } = read_lines(alloc, &lines)?;
     match judge(&marks) {
-        Some(fault) => Err(Refusal::Fault(fault)),
+        Some(fault) => Err(ParseRefusal::Fault(fault)),
         None => Ok(build(alloc, &marks, sentences)?),
     }
 }

@@ -15,7 +15,7 @@ use Rattle.code_items.specs.declared.state.State.{State}
 use Rattle.code_items.specs.declared.instr.ValueInstr.TheVariants.{Load}
 use Rattle.code_items.specs.declared.instr.RecordInstr.TheVariants as record_instr
 use Rattle.code_items.specs.declared.instr.Instr.TheVariants.{Values, Records}
-use Rattle.prg_code.specs.declared.fault.FaultKind.{FaultKind}
+use Rattle.prg_code.specs.declared.fault.CompileFaultKind.{CompileFaultKind}
 use Rattle.prg_code.specs.declared.names.Binding.{Binding}
 use Rattle.prg_code.specs.Bindings.{slot_named}
 use Rattle.prg_values.specs.declared.scope.Scope.{Scope}
@@ -38,7 +38,7 @@ on_some None b f = b
 on_some (Some a) b f = f a
 
 -- what was found is the definition's, and there is none of it where nothing was found
-abbrev pub Reads : {A : Type 0} → Result A FaultKind → Option A → Type 0
+abbrev pub Reads : {A : Type 0} → Result A CompileFaultKind → Option A → Type 0
 Reads (Ok a) found = found ≡ Some a
 Reads (Err fault) found = found ≡ None
 

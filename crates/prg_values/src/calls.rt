@@ -9,7 +9,7 @@ ghost use Rattle.prg_values.specs.Written as spec;
 use crate::arguments::Kinds;
 use crate::scope::Scope;
 use code_items::Question;
-use prg_code::FaultKind;
+use prg_code::CompileFaultKind;
 use prg_expr::Function;
 use xvalue::{Fun, Kind};
 
@@ -196,43 +196,43 @@ fn answer_kind(question: Question) -> Kind
 
 /// The kind of a question's answer: ClosedArea where the selected area isn't known to be open, Filter where a filter may not
 /// ask it.
-fn asked(scope: &Scope, question: Question) -> Result<Kind, FaultKind>
+fn asked(scope: &Scope, question: Question) -> Result<Kind, CompileFaultKind>
     ensures { Reads result (spec.question_kind (scoped scope.now) question) }
 {
     if scope.state.desk.selected_area().is_none() {
-        return Err(FaultKind::ClosedArea);
+        return Err(CompileFaultKind::ClosedArea);
     }
     if may_ask(scope.in_filter, question) {
         Ok(answer_kind(question))
     } else {
-        Err(FaultKind::Filter)
+        Err(CompileFaultKind::Filter)
     }
 }
 
 /// The kind that a function gives, if it takes arguments of these kinds, with those that are left out.
-fn function_kind(function: Function, fun: Fun, kinds: &mut Kinds) -> Result<Kind, FaultKind>
+fn function_kind(function: Function, fun: Fun, kinds: &mut Kinds) -> Result<Kind, CompileFaultKind>
     ensures { Reads result (spec.function_kind function fun kinds.old) }
 {
     completed(function, kinds);
     if are_same(fun.takes(), kinds.as_slice()) {
         Ok(fun.gives())
     } else {
-        Err(FaultKind::Kind)
+        Err(CompileFaultKind::Kind)
     }
 }
 
 /// The kind of a call with arguments of these kinds.
-pub fn call_kind(scope: &Scope, function: Function, kinds: &mut Kinds) -> Result<Kind, FaultKind>
+pub fn call_kind(scope: &Scope, function: Function, kinds: &mut Kinds) -> Result<Kind, CompileFaultKind>
     ensures { Reads result (spec.called_kind (scoped scope.now) function (spec.meaning function) kinds.old) }
 {
     match meaning_of(function) {
         Called::Function(fun) => function_kind(function, fun, kinds),
         Called::Question(question) if kinds.len() == 0 => asked(scope, question),
         Called::Today if kinds.len() == 0 => Ok(Kind::Date),
-        Called::Question(_) | Called::Today => Err(FaultKind::Kind),
+        Called::Question(_) | Called::Today => Err(CompileFaultKind::Kind),
         Called::Choice => match choice(kinds.as_slice()) {
             Some(fun) => Ok(fun.gives()),
-            None => Err(FaultKind::Kind),
+            None => Err(CompileFaultKind::Kind),
         },
     }
 }

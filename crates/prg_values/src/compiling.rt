@@ -17,7 +17,7 @@ use crate::operators::{Operation, operated, prefix_fun};
 use crate::scope::{Reading, Scope, read_name, read_qualified};
 use code_items::{Instr, RecordInstr, ValueInstr};
 use fixed_num::Num;
-use prg_code::{CompileError, FaultKind, Pool};
+use prg_code::{CompileError, CompileFaultKind, Pool};
 use prg_expr::{Expr, Function};
 use std::alloc::Global;
 use xvalue::{Fun, Kind, Value, copy_of};
@@ -59,7 +59,7 @@ fn put_function(code: &mut Vec<Instr>, fun: Fun) -> Result<(), CompileError>
 
 fn put_reading(
     code: &mut Vec<Instr>,
-    reading: Result<Reading, FaultKind>,
+    reading: Result<Reading, CompileFaultKind>,
 ) -> Result<(), CompileError>
     ensures { OnOk result ((found : Option TheReading) (constants : List Constant) → Reads reading found → Emits (spec.reading_pieces found) constants code.old.items code.new.items) }
 {
@@ -115,7 +115,7 @@ fn put_called(
         Called::Today => put(code, Instr::Values(ValueInstr::Today)),
         Called::Choice => match choice {
             Some(fun) => put_function(code, fun),
-            None => Err(CompileError::Fault(FaultKind::Kind)),
+            None => Err(CompileError::Fault(CompileFaultKind::Kind)),
         },
     }
 }
@@ -161,7 +161,7 @@ fn operation_of(
     let right = kind_of(scope, right)?;
     match operated(operator, left, right) {
         Some(operation) => Ok(operation),
-        None => Err(CompileError::Fault(FaultKind::Kind)),
+        None => Err(CompileError::Fault(CompileFaultKind::Kind)),
     }
 }
 

@@ -9,48 +9,48 @@ use crate::arguments::{Kinds, MOST_ARGUMENTS};
 use crate::calls::call_kind;
 use crate::operators::{operated, prefix_kind};
 use crate::scope::{Reading, Scope, read_name, read_qualified};
-use prg_code::FaultKind;
+use prg_code::CompileFaultKind;
 use prg_expr::{Expr, Operator, Prefix};
 use xvalue::Kind;
 
-fn name_kind(scope: &Scope, name: &[u8]) -> Result<Kind, FaultKind>
+fn name_kind(scope: &Scope, name: &[u8]) -> Result<Kind, CompileFaultKind>
     ensures { Reads result (spec.reading_kind (read_name_of (scoped scope.now) name.now)) }
 {
     let Reading { kind, .. } = read_name(scope, name)?;
     Ok(kind)
 }
 
-fn qualified_kind(scope: &Scope, alias: &[u8], name: &[u8]) -> Result<Kind, FaultKind>
+fn qualified_kind(scope: &Scope, alias: &[u8], name: &[u8]) -> Result<Kind, CompileFaultKind>
     ensures { Reads result (spec.reading_kind (read_qualified_of (scoped scope.now) alias.now name.now)) }
 {
     let Reading { kind, .. } = read_qualified(scope, alias, name)?;
     Ok(kind)
 }
 
-fn prefixed_kind(prefix: Prefix, kind: Kind) -> Result<Kind, FaultKind>
+fn prefixed_kind(prefix: Prefix, kind: Kind) -> Result<Kind, CompileFaultKind>
     ensures { Reads result (spec.prefixed_kind prefix kind) }
 {
     let wanted = prefix_kind(prefix);
     if kind.is(wanted) {
         Ok(wanted)
     } else {
-        Err(FaultKind::Kind)
+        Err(CompileFaultKind::Kind)
     }
 }
 
-fn operated_kind(operator: Operator, left: Kind, right: Kind) -> Result<Kind, FaultKind>
+fn operated_kind(operator: Operator, left: Kind, right: Kind) -> Result<Kind, CompileFaultKind>
     ensures { Reads result (spec.operated_kind operator left right) }
 {
     match operated(operator, left, right) {
         Some(operation) => Ok(operation.fun.gives()),
-        None => Err(FaultKind::Kind),
+        None => Err(CompileFaultKind::Kind),
     }
 }
 
 /// The kind of an expression, or its first fault in the order of its code: operands from the left, then the operator or
 /// function.
 #[cycle(kinds)]
-pub fn kind_of(scope: &Scope, e: &Expr) -> Result<Kind, FaultKind>
+pub fn kind_of(scope: &Scope, e: &Expr) -> Result<Kind, CompileFaultKind>
     ensures { IfOk result (λ kind. spec.kind_in (scoped scope.now) (tree_of e.now) ≡ Some kind) }
 {
     match e {
@@ -78,14 +78,14 @@ pub fn kind_of(scope: &Scope, e: &Expr) -> Result<Kind, FaultKind>
 
 /// The kinds of up to four expressions. Kind where there are more, which no function takes.
 #[cycle(kinds)]
-pub fn kinds_of(scope: &Scope, es: &[Expr]) -> Result<Kinds, FaultKind>
+pub fn kinds_of(scope: &Scope, es: &[Expr]) -> Result<Kinds, CompileFaultKind>
     ensures { IfOk result (λ kinds. spec.kinds_in (scoped scope.now) (trees_of es.now) ≡ Some kinds) }
 {
     let mut kinds = Kinds::new();
     for e in es {
         let kind = kind_of(scope, e)?;
         if kinds.len() >= MOST_ARGUMENTS {
-            return Err(FaultKind::Kind);
+            return Err(CompileFaultKind::Kind);
         }
         kinds.push(kind);
     }

@@ -10,7 +10,7 @@ use code_items::{
     AreaState, Desk, Instr, OpenArea, RecordInstr, Shape, State, TableShape, ValueInstr,
 };
 use dbf_file::Field;
-use prg_code::{FaultKind, Names};
+use prg_code::{CompileFaultKind, Names};
 use xvalue::Kind;
 
 /// What an expression's names are looked up in: the declared tables, what is known, the variables' slots, and whether the
@@ -109,7 +109,7 @@ fn area_at(desk: &Desk, number: u8) -> AreaState
 }
 
 /// Reads a field of a work area; in a filter's condition only the row tried has fields.
-fn read_field(scope: &Scope, area: u8, field: FieldPlace) -> Result<Reading, FaultKind>
+fn read_field(scope: &Scope, area: u8, field: FieldPlace) -> Result<Reading, CompileFaultKind>
     ensures { Reads result (readings.field_reading (scoped scope.now) area field) }
 {
     let FieldPlace { number, kind } = field;
@@ -124,21 +124,21 @@ fn read_field(scope: &Scope, area: u8, field: FieldPlace) -> Result<Reading, Fau
         let instr = Instr::Records(RecordInstr::RowField(number));
         return Ok(Reading { instr, kind });
     }
-    Err(FaultKind::Filter)
+    Err(CompileFaultKind::Filter)
 }
 
 /// The slot of a variable, which need not have a value: Name where there is no such variable.
-pub fn variable_slot(scope: &Scope, name: &[u8]) -> Result<u8, FaultKind>
+pub fn variable_slot(scope: &Scope, name: &[u8]) -> Result<u8, CompileFaultKind>
     ensures { Reads result (slot_named (scoped scope.now).names name.now) }
 {
     match scope.names.slot(name) {
         Some(slot) => Ok(slot),
-        None => Err(FaultKind::Name),
+        None => Err(CompileFaultKind::Name),
     }
 }
 
 /// Reads a variable: Name where there is none of this name, Unset where it may have no value.
-fn read_variable(scope: &Scope, name: &[u8]) -> Result<Reading, FaultKind>
+fn read_variable(scope: &Scope, name: &[u8]) -> Result<Reading, CompileFaultKind>
     ensures { Reads result (readings.variable (scoped scope.now) name.now) }
 {
     let slot = variable_slot(scope, name)?;
@@ -148,13 +148,13 @@ fn read_variable(scope: &Scope, name: &[u8]) -> Result<Reading, FaultKind>
             let instr = Instr::Values(ValueInstr::Load(kind, u16::from(slot)));
             Ok(Reading { instr, kind })
         }
-        _ => Err(FaultKind::Unset),
+        _ => Err(CompileFaultKind::Unset),
     }
 }
 
 /// The field that a name without alias is, if it is one: that of the selected area's table. Where nothing is known of the
 /// selected area, the name of any declared table's field is ClosedArea.
-pub fn selected_field(scope: &Scope, name: &[u8]) -> Result<Option<FieldPlace>, FaultKind>
+pub fn selected_field(scope: &Scope, name: &[u8]) -> Result<Option<FieldPlace>, CompileFaultKind>
     ensures { Reads result (readings.field_here (scoped scope.now) name.now) }
 {
     match area_at(&scope.state.desk, scope.state.desk.selected) {
@@ -162,7 +162,7 @@ pub fn selected_field(scope: &Scope, name: &[u8]) -> Result<Option<FieldPlace>, 
         AreaState::Open(area) => Ok(field_of(scope.shape, area, name)),
         AreaState::Unsure => {
             if is_some_field(scope.shape.tables.as_slice(), name) {
-                return Err(FaultKind::ClosedArea);
+                return Err(CompileFaultKind::ClosedArea);
             }
             Ok(None)
         }
@@ -171,7 +171,7 @@ pub fn selected_field(scope: &Scope, name: &[u8]) -> Result<Option<FieldPlace>, 
 
 /// Reads a name without alias: a field of the selected area's table, else a variable.
 #[tactic(auto, unfolding(crate::specs::Readings::read_name))]
-pub fn read_name(scope: &Scope, name: &[u8]) -> Result<Reading, FaultKind>
+pub fn read_name(scope: &Scope, name: &[u8]) -> Result<Reading, CompileFaultKind>
     ensures { Reads result (readings.read_name (scoped scope.now) name.now) }
 {
     match selected_field(scope, name)? {
@@ -257,21 +257,21 @@ fn is_unsure(area: &AreaState) -> bool {
 }
 
 /// Why no work area is known to hold a declared table: one of which nothing is known may.
-fn not_held(areas: &[AreaState]) -> FaultKind {
+fn not_held(areas: &[AreaState]) -> CompileFaultKind {
     if areas.iter().any(|area| is_unsure(area)) {
-        FaultKind::ClosedArea
+        CompileFaultKind::ClosedArea
     } else {
-        FaultKind::Name
+        CompileFaultKind::Name
     }
 }
 
 /// The work area of a table, by the table's name: Name where no table of this name is open, but ClosedArea where one is
 /// declared and nothing is known of some area.
-pub fn area_of_table(scope: &Scope, alias: &[u8]) -> Result<u8, FaultKind>
+pub fn area_of_table(scope: &Scope, alias: &[u8]) -> Result<u8, CompileFaultKind>
     ensures { Reads result (readings.holder_of (scoped scope.now) (readings.table_named (scoped scope.now).shape alias.now)) }
 {
     let Some(table) = table_named(scope.shape, alias) else {
-        return Err(FaultKind::Name);
+        return Err(CompileFaultKind::Name);
     };
     let areas = scope.state.desk.areas.as_slice();
     match area_holding(areas, table) {
@@ -281,7 +281,7 @@ pub fn area_of_table(scope: &Scope, alias: &[u8]) -> Result<u8, FaultKind>
 }
 
 /// The work area that an alias names, by its letter or its table.
-pub fn area_of_alias(scope: &Scope, alias: &[u8]) -> Result<u8, FaultKind>
+pub fn area_of_alias(scope: &Scope, alias: &[u8]) -> Result<u8, CompileFaultKind>
     ensures { Reads result (readings.alias_area (scoped scope.now) alias.now) }
 {
     match area_of_letter(alias) {
@@ -296,21 +296,21 @@ fn read_of_area(
     name: &[u8],
     number: u8,
     area: AreaState,
-) -> Result<Reading, FaultKind>
+) -> Result<Reading, CompileFaultKind>
     ensures { Reads result (readings.field_of_area (scoped scope.now) name.now number area) }
 {
     let AreaState::Open(area) = area else {
-        return Err(FaultKind::ClosedArea);
+        return Err(CompileFaultKind::ClosedArea);
     };
     match field_of(scope.shape, area, name) {
         Some(field) => read_field(scope, number, field),
-        None => Err(FaultKind::Name),
+        None => Err(CompileFaultKind::Name),
     }
 }
 
 /// Reads a name behind an alias: the variable behind `M`, else the field of the alias's area.
 #[tactic(auto, unfolding(crate::specs::Readings::read_qualified))]
-pub fn read_qualified(scope: &Scope, alias: &[u8], name: &[u8]) -> Result<Reading, FaultKind>
+pub fn read_qualified(scope: &Scope, alias: &[u8], name: &[u8]) -> Result<Reading, CompileFaultKind>
     ensures { Reads result (readings.read_qualified (scoped scope.now) alias.now name.now) }
 {
     if alias == b"M".as_slice() {

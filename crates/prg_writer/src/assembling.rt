@@ -7,7 +7,7 @@ use code_items::{
     AreaState, Code, Declared, Desk, Filter, Instr, Items, KindSlots, KindStack, Map, Proc, Shape,
     State, Version,
 };
-use prg_code::{CompileError, FaultKind, FilterBlock, LaidOut, lay};
+use prg_code::{CompileError, CompileFaultKind, FilterBlock, LaidOut, lay};
 use prg_commands::Output;
 use std::alloc::{AllocError, Global};
 use xvalue::Kind;
@@ -37,7 +37,7 @@ fn trimmed(alloc: Global, state: &State, slots: usize) -> Result<State, AllocErr
 fn two_bytes(number: usize) -> Result<u16, CompileError> {
     match u16::try_from(number) {
         Ok(number) => Ok(number),
-        Err(_) => Err(CompileError::Fault(FaultKind::Limit)),
+        Err(_) => Err(CompileError::Fault(CompileFaultKind::Limit)),
     }
 }
 
@@ -108,7 +108,7 @@ fn trimmed_maps(
     slots: usize,
 ) -> Result<Vec<Map>, CompileError> {
     if maps.len() > MOST_MAPS {
-        return Err(CompileError::Fault(FaultKind::Limit));
+        return Err(CompileError::Fault(CompileFaultKind::Limit));
     }
     let mut trims = Vec::new(alloc);
     for (place, state) in maps {
@@ -182,7 +182,7 @@ pub fn assemble(
     } = out;
     let filters = lay_filters(alloc, &mut instrs, filters.into_filters())?;
     if instrs.len() > MOST_INSTRUCTIONS {
-        return Err(CompileError::Fault(FaultKind::Limit));
+        return Err(CompileError::Fault(CompileFaultKind::Limit));
     }
     let maps = trimmed_maps(alloc, &maps, usize::from(slots))?;
     Ok(Code {

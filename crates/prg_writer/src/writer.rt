@@ -2,7 +2,7 @@
 
 use crate::heads::LoopHead;
 use code_items::State;
-use prg_code::{Block, CompileError, CompileRefusal, FaultKind, Names};
+use prg_code::{Block, CompileError, CompileRefusal, CompileFaultKind, Names};
 use prg_commands::{Output, Work};
 use prg_line::Statement;
 use prg_parser::{Command, Form, Program};
@@ -149,7 +149,7 @@ impl Writer {
     }
 
     /// The refusal of a faulty command in this line.
-    pub fn faulty(&self, line: usize, kind: FaultKind) -> CompileRefusal {
+    pub fn faulty(&self, line: usize, kind: CompileFaultKind) -> CompileRefusal {
         CompileError::Fault(kind).at(self.work.file, line)
     }
 

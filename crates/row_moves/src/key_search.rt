@@ -9,7 +9,7 @@ ghost use Rattle.row_moves.specs.Moves.{IsMove, IsScan, matching, sought};
 ghost use Rattle.row_moves.specs.Seeking.{begun, begun_or_none, starting};
 
 use crate::keys::{fitted, is_blank_behind};
-use crate::places::number_of;
+use crate::places::record_of;
 use crate::{Landed, Spent};
 use ndx_tree::laws::{meets_each, stand_together};
 use ndx_tree::{Entry, KeyList};
@@ -36,7 +36,7 @@ pub fn seek<K: KeyList, F: Fn(u32) -> bool>(
     }
     let (at, cost) = seek_matching(keys, text, exact, see, budget)?;
     Ok(Landed {
-        row: number_of(&at),
+        row: record_of(&at),
         cost,
         bof: false,
         found: at.is_some(),

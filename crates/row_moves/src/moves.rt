@@ -6,7 +6,7 @@ ghost use Rattle.ndx_tree.specs.Pairs.{is_before};
 ghost use Rattle.row_moves.specs.Orders.{candidates, MayTry, Sees};
 ghost use Rattle.row_moves.specs.Moves.{IsMove, IsScan, end_of, hops, skipped};
 
-use crate::places::{copied, end_from, is_past, number_of};
+use crate::places::{copied, end_from, is_past, record_of};
 use crate::{Landed, RowOrder, Spent};
 use ndx_tree::Entry;
 use ndx_tree::laws::meets_each;
@@ -76,7 +76,7 @@ fn go_to_end<O: RowOrder, F: Fn(u32) -> bool>(
     }
     let (at, cost) = search(order, forward, &None, see, 1, budget)?;
     Ok(Landed {
-        row: number_of(&at),
+        row: record_of(&at),
         cost,
         bof: at.is_none(),
         found: false,
@@ -157,7 +157,7 @@ fn landed(at: &Option<Entry>, cost: u64, bof: bool) -> Landed
     ensures { result ≡ record { row = option_map (λ p. p.1) at.now; cost = cost; bof = bof; found = false } }
 {
     Landed {
-        row: number_of(at),
+        row: record_of(at),
         cost,
         bof,
         found: false,

@@ -15,7 +15,7 @@ pub(crate) fn copied(at: &Option<Entry>) -> Option<Entry>
 }
 
 /// The record of a place.
-pub(crate) fn number_of(at: &Option<Entry>) -> Option<u32>
+pub(crate) fn record_of(at: &Option<Entry>) -> Option<u32>
     ensures { result ≡ option_map (λ p. p.1) at.now }
 {
     match at {

@@ -10,7 +10,7 @@ ghost use Rattle.code_rules.specs.Signature.{move_signature};
 ghost use Rattle.code_items.specs.Legal.{IsCode};
 ghost use Rattle.code_items.specs.declared.instr.Instr.TheVariants.{Moves as OfMoves};
 ghost use Rattle.run_values.specs.Tagged.{TaggedValues, dropped};
-ghost use Rattle.run_steps.specs.Effects.{whole_of, text_of, record_number};
+ghost use Rattle.run_steps.specs.Effects.{whole_of, given_text, record_number};
 ghost use Rattle.run_steps.specs.Executed.{Executed};
 ghost use Rattle.run_steps.specs.Filters.{viewing, shown_by, is_visible as visible};
 ghost use Rattle.run_steps.specs.Needs.{FilterNeeds, MoveNeeds, SeekNeeds, GivenNeeds, given_of};
@@ -52,7 +52,7 @@ fn record_given(given: &Option<Value>) -> Option<u32>
 
 /// The bytes of a text; without one, none.
 fn text(given: &Option<Value>) -> &[u8]
-    ensures { result.now ≡ text_of given.now }
+    ensures { result.now ≡ given_text given.now }
 {
     match given {
         Some(Value::Text(text)) => text.as_slice(),

@@ -6,7 +6,7 @@ ghost use Rattle.shape_files.specs.Lines.{Index, Table};
 ghost use Rattle.shape_files.specs.Refusals.{LineRefusalIs};
 ghost use Rattle.shape_files.specs.Shapes.{NamesTable, no_shape, shape_of, with_index, with_table};
 
-use crate::names::{is_word, name_in, number_of};
+use crate::names::{is_word, name_in, as_byte};
 use crate::refusal::{LineFault, LineRefusal};
 use dbf_file::Field;
 use shape::{IndexShape, Items, Name, Shape, TableShape};
@@ -32,7 +32,7 @@ fn table_of<'t>(tables: &'t [TableShape], name: &[u8]) -> Option<(u8, &'t [Field
 {
     for (t, table) in tables.iter().enumerate() {
         if is_word(&table.name, name) {
-            let number = number_of(t)?;
+            let number = as_byte(t)?;
             return Some((number, table.fields.as_slice()));
         }
     }

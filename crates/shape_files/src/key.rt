@@ -10,7 +10,7 @@ ghost use Rattle.shape.specs.declared.whole.Shape.{Shape as AnyShape};
 ghost use Rattle.shape_files.specs.Lines.{Index};
 ghost use Rattle.shape_files.specs.Refusals.{LineRefusalIs};
 
-use crate::names::{is_word, number_of};
+use crate::names::{is_word, as_byte};
 use crate::refusal::{LineFault, LineRefusal};
 use arrayvec::ArrayVec;
 use dbf_file::Field;
@@ -48,7 +48,7 @@ fn field_of(fields: &[Field], name: &[u8]) -> Option<u8>
 {
     for (n, field) in fields.iter().enumerate() {
         if is_word(&field.name, name) {
-            return number_of(n);
+            return as_byte(n);
         }
     }
     None

@@ -65,7 +65,7 @@ pub fn is_word(name: &Name, word: &[u8]) -> bool
 }
 
 /// The number in a byte, if it fits.
-pub fn number_of(number: usize) -> Option<u8>
+pub fn as_byte(number: usize) -> Option<u8>
     ensures { IfSome result (λ byte. byte ≡ number) }
 {
     if 255 < number {

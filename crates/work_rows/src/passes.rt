@@ -189,7 +189,7 @@ pub(crate) fn first_of<F: Fn(&Row<'_>) -> bool>(
         return Err(Spent);
     }
     Ok(Landed {
-        row: number_of(&best),
+        row: record_of(&best),
         cost,
         bof: best.is_none(),
         found: false,
@@ -197,7 +197,7 @@ pub(crate) fn first_of<F: Fn(&Row<'_>) -> bool>(
 }
 
 /// The record of a place.
-fn number_of(at: &Option<Entry>) -> Option<u32>
+fn record_of(at: &Option<Entry>) -> Option<u32>
     ensures { result ≡ option_map (λ p. p.1) at.now }
 {
     match at {

@@ -3,21 +3,21 @@ use Rattle.std.specs.Prelude.{◌≡◌, ℕ, zero, suc, ◌+◌, List, [], ◌�
 use Rattle.std.proofs.Common.{Option, Some, None, arith, ◌∙◌, subst}
 use Rattle.xvalue.specs.declared.fun.Fun.{Fun}
 use Rattle.xvalue.specs.declared.fun.Fun.TheVariants.{Add, Sub, Mul, Div, Neg, NumberEq, NumberLess, NumberGreater, TextEq, TextLess, TextGreater, DateEq, DateLess, DateGreater, Not, And, Or, Join, JoinMoved, In, DateAdd, DateSub, DateDiff, IifNumber, IifText, IifDate, IifLogical, Len, Substr, Left, Right, Trim, Ltrim, Upper, Lower, Space, Replicate, At, Stuff, Asc, Chr, Val, Str, IsAlpha, IsUpper, IsLower, Abs, Int, Mod, Round, Max, Min, Ctod, Dtoc, Day, Month, Year, Dow, Cdow, Cmonth}
-use Rattle.xvalue.specs.Signature.{number_of, all_functions, numbered, NumbersAgree}
+use Rattle.xvalue.specs.Signature.{function_number, all_functions, numbered, NumbersAgree}
 
 -- numbers that rise by one from a first one
 abbrev pub Rise : ℕ → List Fun → Type 0
 Rise n [] = Unit {0}
-Rise n (fun ∷ funs) = (number_of fun ≡ n) × Rise (suc n) funs
+Rise n (fun ∷ funs) = (function_number fun ≡ n) × Rise (suc n) funs
 
-pub rising : (n : ℕ) (funs : List Fun) → Rise n funs → (k : ℕ) → IfSome (slice_get funs k) (λ f. number_of f ≡ n + k)
+pub rising : (n : ℕ) (funs : List Fun) → Rise n funs → (k : ℕ) → IfSome (slice_get funs k) (λ f. function_number f ≡ n + k)
 rising n [] r k = tt
 rising n (fun ∷ funs) r zero = r.0 ∙ omega arith
 rising n (fun ∷ funs) r (suc k) =
     let e : suc n + k ≡ n + suc k = omega arith in
-    subst (λ m. IfSome (slice_get funs k) (λ f. number_of f ≡ m)) e (rising (suc n) funs r.1 k)
+    subst (λ m. IfSome (slice_get funs k) (λ f. function_number f ≡ m)) e (rising (suc n) funs r.1 k)
 
-each : (f : Fun) → numbered (number_of f) ≡ Some f
+each : (f : Fun) → numbered (function_number f) ≡ Some f
 each Add = refl
 each Sub = refl
 each Mul = refl
@@ -89,10 +89,10 @@ if_some : {A : Type 0} (P : A → Type 0) (r : Option A) (x : A) → IfSome r P 
 if_some P None x h e = absurd cc
 if_some P (Some y) x h e = subst P (some_same y x e) h
 
-same : (number : ℕ) (fun : Fun) → numbered number ≡ Some fun → number ≡ number_of fun
+same : (number : ℕ) (fun : Fun) → numbered number ≡ Some fun → number ≡ function_number fun
 same zero fun e = absurd cc
 same (suc index) fun e =
-    let is : number_of fun ≡ 1 + index = if_some (λ f. number_of f ≡ 1 + index) (slice_get all_functions index) fun (rising 1 all_functions rises index) e in
+    let is : function_number fun ≡ 1 + index = if_some (λ f. function_number f ≡ 1 + index) (slice_get all_functions index) fun (rising 1 all_functions rises index) e in
     omega (arith, is)
 
 pub agree : NumbersAgree

@@ -77,8 +77,8 @@ entry_of Dow = entry 58 (Date ∷ []) Number
 entry_of Cdow = entry 59 (Date ∷ []) Text
 entry_of Cmonth = entry 60 (Date ∷ []) Text
 
-abbrev pub number_of : Fun → ℕ
-number_of fun = (entry_of fun).number
+abbrev pub function_number : Fun → ℕ
+function_number fun = (entry_of fun).number
 
 -- the kinds of its arguments, in their order
 abbrev pub takes_of : Fun → List Kind
@@ -99,5 +99,5 @@ numbered (suc index) = slice_get all_functions index
 
 -- each function is the one of its number, and no other is
 pub record NumbersAgree : Type 0 where
-  pub found : (fun : Fun) → numbered (number_of fun) ≡ Some fun
-  pub same : (number : ℕ) (fun : Fun) → numbered number ≡ Some fun → number ≡ number_of fun
+  pub found : (fun : Fun) → numbered (function_number fun) ≡ Some fun
+  pub same : (number : ℕ) (fun : Fun) → numbered number ≡ Some fun → number ≡ function_number fun

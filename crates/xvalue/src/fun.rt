@@ -2,7 +2,7 @@
 #![tactic(auto)]
 
 ghost use Rattle.std.specs.Prelude.{◌≡◌, ◌<◌, ◌≤◌, length, slice_get};
-ghost use Rattle.xvalue.specs.Signature.{number_of, takes_of, gives_of, numbered};
+ghost use Rattle.xvalue.specs.Signature.{function_number, takes_of, gives_of, numbered};
 
 use crate::kind::Kind;
 
@@ -212,7 +212,7 @@ fn nth(funs: &[Fun], index: usize) -> Option<Fun>
 impl Fun {
     /// The function's number in code files, from 1.
     pub fn number(self) -> u8
-        ensures { result ≡ number_of self }
+        ensures { result ≡ function_number self }
     {
         self as u8 + 1
     }

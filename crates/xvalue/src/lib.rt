@@ -25,6 +25,6 @@ pub use fun::{FUNS, Fun, signature};
 pub use kind::Kind;
 pub use settings::{Setting, Settings};
 pub use shown::{shown_day, shown_logical, shown_number};
-pub use text::{Text, copy_of, text_of};
+pub use text::{Text, copy_of, text_from};
 pub use texts::{eq_text, less_text};
 pub use value::Value;

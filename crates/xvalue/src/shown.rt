@@ -8,7 +8,7 @@ ghost use Rattle.xvalue.specs.Shown.{shown_number, shown_day, shown_logical};
 
 use crate::day::Day;
 use crate::settings::Settings;
-use crate::text::{Text, text_of};
+use crate::text::{Text, text_from};
 use crate::texts::{blanks, joined};
 use fixed_num::Num;
 
@@ -17,9 +17,9 @@ pub fn shown_logical(truth: bool) -> Text
     ensures { result.items ≡ shown_logical truth }
 {
     if truth {
-        text_of(b".T.")
+        text_from(b".T.")
     } else {
-        text_of(b".F.")
+        text_from(b".F.")
     }
 }
 
@@ -53,12 +53,12 @@ fn without_century(day: Day) -> Text
     ensures { (settings : AnySettings) → settings.century ≡ false → result.items ≡ shown_day settings day }
 {
     let Some(parts) = day.parts() else {
-        return text_of(b"  /  /  ");
+        return text_from(b"  /  /  ");
     };
     let [month_ten, month] = two_digits(u16::from(parts.month));
     let [day_ten, day] = two_digits(u16::from(parts.day));
     let [year_ten, year] = two_digits(parts.year);
-    text_of(&[month_ten, month, b'/', day_ten, day, b'/', year_ten, year])
+    text_from(&[month_ten, month, b'/', day_ten, day, b'/', year_ten, year])
 }
 
 /// A date's text with its year whole.
@@ -67,12 +67,12 @@ fn with_century(day: Day) -> Text
     ensures { (settings : AnySettings) → settings.century ≡ true → result.items ≡ shown_day settings day }
 {
     let Some(parts) = day.parts() else {
-        return text_of(b"  /  /    ");
+        return text_from(b"  /  /    ");
     };
     let [month_ten, month] = two_digits(u16::from(parts.month));
     let [day_ten, day] = two_digits(u16::from(parts.day));
     let [a, b, c, d] = four_digits(parts.year);
-    text_of(&[month_ten, month, b'/', day_ten, day, b'/', a, b, c, d])
+    text_from(&[month_ten, month, b'/', day_ten, day, b'/', a, b, c, d])
 }
 
 /// The last two digits of a number.

@@ -20,7 +20,7 @@ pub fn copy_of(text: &Text) -> Text
 }
 
 /// The text of these bytes.
-pub fn text_of(bytes: &[u8]) -> Text
+pub fn text_from(bytes: &[u8]) -> Text
     requires { length bytes.now ≤ 254 }
     ensures { result.items ≡ bytes.now }
 {

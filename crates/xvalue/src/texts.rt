@@ -8,7 +8,7 @@ ghost use Rattle.fixed_num.specs.Rounding.{whole_part};
 ghost use Rattle.fixed_num.specs.Text.{printed};
 ghost use Rattle.xvalue.specs.Texts.{fitting, without_last_blanks, equal_texts, first_or_blank, is_before, joined_moved, count_of, part_from, last_part, repeated, stuffed, first_place, place_number, first_is, first_byte, byte_text};
 
-use crate::text::{Text, text_of};
+use crate::text::{Text, text_from};
 use fixed_num::laws::print_fills_its_field;
 use fixed_num::{Num, without_last_blanks};
 
@@ -90,7 +90,7 @@ pub fn part_from(bytes: &[u8], place: usize, count: usize) -> &[u8]
 pub fn fitting(bytes: &[u8]) -> Text
     ensures { result.items ≡ fitting bytes.now }
 {
-    text_of(front(bytes, MOST_BYTES))
+    text_from(front(bytes, MOST_BYTES))
 }
 
 /// The texts one behind the other, cut at 254 bytes.
@@ -153,7 +153,7 @@ pub fn repeated(bytes: &[u8], count: usize) -> Text
 pub fn blanks(count: usize) -> Text
     ensures { result.items ≡ fitting (replicate count 32) }
 {
-    text_of(front(&[b' '; MOST_BYTES], count))
+    text_from(front(&[b' '; MOST_BYTES], count))
 }
 
 /// The text with its ASCII letters as capitals, cut at 254 bytes.
@@ -260,7 +260,7 @@ pub fn byte_text(number: Num) -> Text
     ensures { result.items ≡ fitting (byte_text (whole_part number)) }
 {
     match u8::try_from(number.whole()) {
-        Ok(byte) => text_of(&[byte]),
+        Ok(byte) => text_from(&[byte]),
         Err(_) => Text::new(),
     }
 }

@@ -6,8 +6,8 @@ ghost use Rattle.prg_expr.specs.Reading.{Gives};
 ghost use Rattle.prg_line.specs.Gives.{at_of, Reads};
 
 use crate::reader::Reader;
-use crate::statement::{Selected, Setting, Statement};
-use prg_expr::{FaultKind, FormFault};
+use crate::statement::{Selected, Toggle, Statement};
+use prg_expr::{ParseFaultKind, FormFault};
 
 /// The greatest number of a work area.
 const LAST_AREA: u16 = 10;
@@ -56,7 +56,7 @@ fn area_number(number: u16) -> Result<u8, FormFault>
     if 1 <= number && number <= LAST_AREA {
         Ok(number as u8)
     } else {
-        Err(FormFault::Kind(FaultKind::Word))
+        Err(FormFault::Kind(ParseFaultKind::Word))
     }
 }
 
@@ -117,10 +117,10 @@ fn set_switch(reader: &mut Reader<'_>) -> Result<Statement, FormFault>
     ensures { Reads act_of result reader.new (spec.set_switch (at_of reader.old)) }
 {
     if reader.takes(b"EXACT") {
-        return switch(Setting::Exact, reader);
+        return switch(Toggle::Exact, reader);
     }
     if reader.takes(b"DELETED") {
-        return switch(Setting::Deleted, reader);
+        return switch(Toggle::Deleted, reader);
     }
     century(reader)
 }
@@ -131,12 +131,12 @@ fn century(reader: &mut Reader<'_>) -> Result<Statement, FormFault>
     ensures { Reads act_of result reader.new (spec.century (at_of reader.old)) }
 {
     reader.clause(b"CENTURY")?;
-    switch(Setting::Century, reader)
+    switch(Toggle::Century, reader)
 }
 
 /// `ON` or `OFF`.
 #[tactic(auto, unfolding(crate::specs::Forms::switch))]
-fn switch(setting: Setting, reader: &mut Reader<'_>) -> Result<Statement, FormFault>
+fn switch(setting: Toggle, reader: &mut Reader<'_>) -> Result<Statement, FormFault>
     ensures { Reads act_of result reader.new (spec.switch setting (at_of reader.old)) }
 {
     if reader.takes(b"ON") {

@@ -16,7 +16,7 @@ mod variables;
 use crate::reader::Reader;
 use crate::statement::{Sentence, Statement};
 use crate::verb::Verb;
-use prg_expr::{FaultKind, FormFault};
+use prg_expr::{ParseFaultKind, FormFault};
 
 /// A command that is one word.
 fn single(verb: Verb) -> Option<Statement>
@@ -66,7 +66,7 @@ fn phrase(verb: Verb, reader: &mut Reader<'_>) -> Result<Statement, FormFault>
         Verb::Append => records::append(reader),
         Verb::Replace => records::replace(reader),
         Verb::Index => records::index(reader),
-        _ => Err(FormFault::Kind(FaultKind::Word)),
+        _ => Err(FormFault::Kind(ParseFaultKind::Word)),
     }
 }
 
@@ -128,7 +128,7 @@ pub fn sentence(verb: Verb, reader: &mut Reader<'_>) -> Result<Sentence, FormFau
         Verb::EndCase => Ok(Sentence::EndCase),
         Verb::EndDo => Ok(Sentence::EndDo),
         Verb::EndScan => Ok(Sentence::EndScan),
-        Verb::Macro => Err(FormFault::Kind(FaultKind::Macro)),
+        Verb::Macro => Err(FormFault::Kind(ParseFaultKind::Macro)),
         _ => read_whole(verb, reader),
     }
 }

@@ -6,7 +6,7 @@ ghost use Rattle.prg_line.specs.Gives.{at_of, Reads};
 
 use crate::reader::Reader;
 use crate::statement::Statement;
-use prg_expr::{FaultKind, FormFault};
+use prg_expr::{ParseFaultKind, FormFault};
 
 /// `variable = value`, of which no word is read yet.
 #[tactic(auto, unfolding(crate::specs::Forms::assign))]
@@ -36,7 +36,7 @@ pub fn release(reader: &mut Reader<'_>) -> Result<Statement, FormFault>
     ensures { Reads act_of result reader.new (spec.release (at_of reader.old)) }
 {
     if reader.is_at(b"ALL") {
-        return Err(FormFault::Kind(FaultKind::Word));
+        return Err(FormFault::Kind(ParseFaultKind::Word));
     }
     let variables = reader.names()?;
     Ok(Statement::Release { variables })

@@ -6,4 +6,4 @@ use Rattle.dbf_file.proofs.values.text_in.Goals as goal
 pub returns : goal.returns
 returns c =
     let text = c.args.text.now in
-    c.text_of.ensures ∙ ap (λ (n : ℕ). take n text) (c.min.ensures ∙ min_comm (length text) 254) ∙ take_min 254 text
+    c.text_from.ensures ∙ ap (λ (n : ℕ). take n text) (c.min.ensures ∙ min_comm (length text) 254) ∙ take_min 254 text

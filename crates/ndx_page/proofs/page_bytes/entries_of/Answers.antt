@@ -1,5 +1,5 @@
 use Rattle.std.proofs.Common.{◌∙◌, ap, List, [], ℕ, ◌+◌, ◌-◌, ◌*◌, ◌≤◌, ◌∷◌, ◌++◌, length, arith}
-use Rattle.ndx_page.specs.declared.page.Entry.{Entry}
+use Rattle.ndx_page.specs.declared.page.PageEntry.{PageEntry}
 use Rattle.ndx_page.specs.Layout.{entry_size, most_entries}
 use Rattle.ndx_page.specs.PageLayout.{entry_at, entries_at}
 use Rattle.ndx_page.proofs.LayoutLemmas.{next-size, most_entries-bound}
@@ -43,9 +43,9 @@ loop-index-preserved c =
     let es = c.loop-index.entries.items in
     let more = entries_more l c.args.count index bytes es _ c.loop-index-test.true c.loop-index.invariant.left in
     let entry = c.entry_of.ensures ∙ ap (λ (size : ℕ). entry_at l (4 + index * size) bytes) c.entry_len-size.ensures in
-    let pushed = c.push.ensures.items ∙ ap (λ (e : Entry). es ++ e ∷ []) entry in
+    let pushed = c.push.ensures.items ∙ ap (λ (e : PageEntry). es ++ e ∷ []) entry in
     record {
-      left = ap (λ (xs : List Entry). xs ++ entries_at l (c.args.count - (index + 1)) (4 + (index + 1) * entry_size l) bytes) pushed ∙ more;
+      left = ap (λ (xs : List PageEntry). xs ++ entries_at l (c.args.count - (index + 1)) (4 + (index + 1) * entry_size l) bytes) pushed ∙ more;
       count = c.push.ensures.len ∙ ap (λ (n : ℕ). n + 1) c.loop-index.invariant.count;
     }
 

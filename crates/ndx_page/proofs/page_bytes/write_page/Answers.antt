@@ -4,7 +4,7 @@ use Rattle.std.specs.List.{flat_map}
 use Rattle.ndx_page.specs.Numbers.{number_text, padded}
 use Rattle.std.proofs.lemmas.Grind.{common_steps}
 use Rattle.std.proofs.Math.Nat.{add-mul}
-use Rattle.ndx_page.specs.declared.page.Entry.{Entry}
+use Rattle.ndx_page.specs.declared.page.PageEntry.{PageEntry}
 use Rattle.ndx_page.specs.PageLayout.{IsPage, entry_text}
 use Rattle.ndx_page.proofs.EntryLemmas.{HasNumbers}
 use Rattle.ndx_page.proofs.PageLemmas.{page_written, page_again}
@@ -31,7 +31,7 @@ append_four-requires-2 c =
 pub loop-entry-preserved : goal.loop-entry-preserved
 loop-entry-preserved c = record {
   written = grind (arith, common_steps);
-  numbers = below_more (λ k. (e : Entry) → HasNumbers (get_or _ k e)) _ c.loop-entry.invariant.numbers (λ e.
+  numbers = below_more (λ k. (e : PageEntry) → HasNumbers (get_or _ k e)) _ c.loop-entry.invariant.numbers (λ e.
       let here = c.entry-item.is ∙ get_or_default _ c.loop-entry.entry-index _ e c.loop-entry-test.true in
       subst HasNumbers here (record { child = c.append_entry.ensures.fits.0; number = c.append_entry.ensures.fits.1 }));
   room = grind (arith, add-mul);
@@ -46,7 +46,7 @@ returns-clause-exact c =
     let text = entry_text c.args.head.now.length in
     let front : c.append_four.new.sheet.items ≡ number_text 4 c.min-shown.result = c.append_four.ensures.items ∙ ap (λ (xs : List ℕ). xs ++ number_text 4 c.min-shown.result) c.new-sheet.ensures in
     let sheet = c.append_four-2.ensures.items ∙ ap (λ (xs : List ℕ). xs ++ number_text 4 c.args.page.now.last)
-    (c.loop-entry.invariant.written ∙ ap (λ (es : List Entry). c.append_four.new.sheet.items ++ flat_map text es) (all ∙ same)
+    (c.loop-entry.invariant.written ∙ ap (λ (es : List PageEntry). c.append_four.new.sheet.items ++ flat_map text es) (all ∙ same)
     ∙ ap (λ (xs : List ℕ). xs ++ flat_map text (take c.min-shown.result c.args.page.now.entries.items)) front) in
     c.whole_page.ensures ∙ ap (padded 512) sheet ∙ written
 
@@ -57,7 +57,7 @@ returns-clause-reads c = λ fits.
     let shown : count ≤ c.min-shown.result = search (rules, c.len.ensures.value, most) in
     let same : take c.min-shown.result c.deref.result.now ≡ c.args.page.now.entries.items = ap (take c.min-shown.result) c.deref.ensures.0 ∙ take_all c.min-shown.result c.args.page.now.entries.items shown in
     let passed = ap length same in
-    let numbers : (k : ℕ) (d : Entry) → k < count → HasNumbers (get_or c.args.page.now.entries.items k d) =
-    λ k d within. subst (λ (es : List Entry). HasNumbers (get_or es k d)) same (c.loop-entry.invariant.numbers k (omega (arith, passed, c.loop-entry-test.false)) d) in
+    let numbers : (k : ℕ) (d : PageEntry) → k < count → HasNumbers (get_or c.args.page.now.entries.items k d) =
+    λ k d within. subst (λ (es : List PageEntry). HasNumbers (get_or es k d)) same (c.loop-entry.invariant.numbers k (omega (arith, passed, c.loop-entry-test.false)) d) in
     let reads = page_again c.args.head.now.length c.args.page.now c.args.head.now.some_key fits numbers c.append_four-2.ensures.fits in
     subst (λ (bytes : List ℕ). IsPage c.args.head.now.length bytes c.args.page.now) (sym (returns-clause-exact c)) reads

@@ -1,7 +1,7 @@
 use Rattle.std.proofs.Common.{◌≡◌, ℕ, ◌-◌, ◌<◌, Bool, true, false, List, [], ◌∷◌, ◌++◌, Some, Result, inr, length, set, length-set, get_or, refl, ap, sym, ◌∙◌, subst, arith}
 use Rattle.std.specs.Vec.{with_item}
 use Rattle.std.proofs.lemmas.Result.{err_from_is_err_and}
-use Rattle.ndx_page.specs.declared.page.Entry.{Entry}
+use Rattle.ndx_page.specs.declared.page.PageEntry.{PageEntry}
 use Rattle.ndx_tree.specs.IndexFile.{page_count, links}
 use Rattle.ndx_tree.specs.Walk.{Seen, walk, pages_of, visit, walk_all, with_separator}
 use Rattle.ndx_tree.specs.Reads.{Shows, Marks, Gives, unset}
@@ -38,7 +38,7 @@ loop-entry-init t c =
       left = λ s h. record {
         now = (let u : Seen = record { reached = s.reached ++ c.args.number ∷ []; items = s.items; level = s.level } in u);
         shown = (shows_reached c.args.head.now.length (page_count c.args.bytes.now) c.args.found.now (let x : Found = record { reached = with_item c.args.found.now.reached c.args.number true; level = c.args.found.now.level; entries = c.args.found.now.entries; separators = c.args.found.now.separators } in x) s c.args.number h within refl refl refl refl);
-        rest = walk_opened c.args.head.now.length c.args.bytes.now c.args.left c.args.number s c.in_ok-page.page (omega arith) (c.in_ok-page.ensures.opens s.reached (subst (λ (m : List Bool). Marks (page_count c.args.bytes.now) m s.reached) (sym c.deref.ensures.value) h.marked)) ∙ visit_inner (walk (pages_of c.args.head.now.length c.args.bytes.now) (page_count c.args.bytes.now) (c.args.left - 1)) (c.args.left - 1) c.in_ok-page.page c.in_ok-page.page.last (let u : Seen = record { reached = s.reached ++ c.args.number ∷ []; items = s.items; level = s.level } in u) c.if-last-eq0.false ∙ ap (λ (es : List Entry). walk_all (walk (pages_of c.args.head.now.length c.args.bytes.now) (page_count c.args.bytes.now) (c.args.left - 1)) (links es c.in_ok-page.page.last) (let u : Seen = record { reached = s.reached ++ c.args.number ∷ []; items = s.items; level = s.level } in u)) (sym c.as_slice-entry-items.ensures.value);
+        rest = walk_opened c.args.head.now.length c.args.bytes.now c.args.left c.args.number s c.in_ok-page.page (omega arith) (c.in_ok-page.ensures.opens s.reached (subst (λ (m : List Bool). Marks (page_count c.args.bytes.now) m s.reached) (sym c.deref.ensures.value) h.marked)) ∙ visit_inner (walk (pages_of c.args.head.now.length c.args.bytes.now) (page_count c.args.bytes.now) (c.args.left - 1)) (c.args.left - 1) c.in_ok-page.page c.in_ok-page.page.last (let u : Seen = record { reached = s.reached ++ c.args.number ∷ []; items = s.items; level = s.level } in u) c.if-last-eq0.false ∙ ap (λ (es : List PageEntry). walk_all (walk (pages_of c.args.head.now.length c.args.bytes.now) (page_count c.args.bytes.now) (c.args.left - 1)) (links es c.in_ok-page.page.last) (let u : Seen = record { reached = s.reached ++ c.args.number ∷ []; items = s.items; level = s.level } in u)) (sym c.as_slice-entry-items.ensures.value);
       };
       bits = length-set c.args.found.now.reached.items c.args.number true ∙ c.requires.bits;
       few = omega (arith, once);

@@ -2,7 +2,7 @@ use Rattle.std.proofs.Common.{◌≡◌, ◌<◌, ap, ◌∙◌, sym, length, ge
 use Rattle.prg_parser.specs.declared.blocks.Part.{Part}
 use Rattle.prg_line.specs.declared.role.Role.TheVariants.{Nothing}
 use Rattle.prg_parser.specs.declared.judging.Mark.{Mark}
-use Rattle.prg_expr.specs.declared.fault.FaultKind.{FaultKind}
+use Rattle.prg_expr.specs.declared.fault.ParseFaultKind.{ParseFaultKind}
 use Rattle.std.specs.Prelude.{option_map}
 use Rattle.std.proofs.lemmas.List.{drop_all}
 use Rattle.prg_parser.specs.Verdict as spec
@@ -21,7 +21,7 @@ returns-in-Some c =
     let place : c.block_fault.result ≡ fault_of c.loop-mark.parts.items (get_or marks i d).role =
     c.block_fault.ensures ∙ ap (λ (p : List Part). fault_of p (get_or marks i d).role) c.deref.ensures.0 in
     let wrong : spec.wrong c.loop-mark.parts.items (get_or marks i d) ≡ Some c.in-Some.kind =
-    ap (λ (o : Option FaultKind). least (get_or marks i d).fault o) (sym place) ∙ sym c.least.ensures ∙ c.in-Some.is in
+    ap (λ (o : Option ParseFaultKind). least (get_or marks i d).fault o) (sym place) ∙ sym c.least.ensures ∙ c.in-Some.is in
     told c.loop-mark.parts.items c.loop-mark.unended marks i d c.in-Some.kind (verdict [] None marks) below wrong c.loop-mark.invariant
 
 pub loop-mark-preserved : goal.loop-mark-preserved
@@ -33,7 +33,7 @@ loop-mark-preserved c =
     let place : c.block_fault.result ≡ fault_of c.loop-mark.parts.items (get_or marks i d).role =
     c.block_fault.ensures ∙ ap (λ (p : List Part). fault_of p (get_or marks i d).role) c.deref.ensures.0 in
     let wrong : spec.wrong c.loop-mark.parts.items (get_or marks i d) ≡ None =
-    ap (λ (o : Option FaultKind). least (get_or marks i d).fault o) (sym place) ∙ sym c.least.ensures ∙ c.in_default.is in
+    ap (λ (o : Option ParseFaultKind). least (get_or marks i d).fault o) (sym place) ∙ sym c.least.ensures ∙ c.in_default.is in
     let after : c.unended_after-unended.result ≡ spec.unended_after c.loop-mark.parts.items c.loop-mark.unended (get_or marks i d) =
     c.unended_after-unended.ensures ∙ ap (λ (p : List Part). spec.unended_after p c.loop-mark.unended (get_or marks i d)) c.deref-in-loop-mark.ensures.0 in
     passed c.loop-mark.parts.items c.enter.new.parts.items c.loop-mark.unended c.unended_after-unended.result marks i d (verdict [] None marks)

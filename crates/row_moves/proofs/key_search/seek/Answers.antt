@@ -6,7 +6,7 @@ pub returns-clause-lands : goal.returns-clause-lands
 returns-clause-lands g c = λ shown sees.
     let scan = c.in_ok-at.ensures.scan shown sees in
     record {
-      row = c.number_of.ensures ∙ ap (option_map (λ p. p.1)) scan.0;
+      row = c.record_of.ensures ∙ ap (option_map (λ p. p.1)) scan.0;
       cost = scan.1;
       within = scan.2;
       bof = refl;

@@ -22,7 +22,7 @@ returns g c = λ shown sees.
     let passed : c.met_before.result ≡ met shown list = c.met_before.ensures.met ∙ ap (λ b. count_met b list) best ∙ sym (met_count c.orders_pairs.ensures.strict shown list (c.index_lists.ensures c.args.key.now rows).ordered) in
     let ends : c.is_none.result ≡ is_none c.first_place-best.result = search rules in
     record {
-      row = c.number_of.ensures ∙ ap (option_map (λ p. p.1)) best;
+      row = c.record_of.ensures ∙ ap (option_map (λ p. p.1)) best;
       cost = omega (arith, passed);
       within = omega arith;
       bof = ends ∙ ap is_none best;

@@ -3,4 +3,4 @@ use Rattle.xvalue.proofs.TextLemmas.{blanks_fitting}
 use Rattle.xvalue.proofs.texts.blanks.Goals as goal
 
 pub returns : goal.returns
-returns c = c.text_of.ensures ∙ c.front.ensures ∙ blanks_fitting c.args.count
+returns c = c.text_from.ensures ∙ c.front.ensures ∙ blanks_fitting c.args.count

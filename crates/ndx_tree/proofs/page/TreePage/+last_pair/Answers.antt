@@ -6,7 +6,7 @@ use Rattle.ndx_tree.specs.Rising.{last_of}
 use Rattle.ndx_tree.specs.Pages.{PageView, pairs_of, height_of}
 use Rattle.ndx_tree.proofs.Cut.{height_of-pos}
 use Rattle.ndx_tree.proofs.Remove.{last_index, last_child}
-use Rattle.ndx_tree.proofs.page.Page.+last_pair.Goals as goal
+use Rattle.ndx_tree.proofs.page.TreePage.+last_pair.Goals as goal
 
 pub returns-then-is_empty-clause-found : goal.returns-then-is_empty-clause-found
 returns-then-is_empty-clause-found t c =

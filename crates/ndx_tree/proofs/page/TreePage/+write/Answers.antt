@@ -1,7 +1,7 @@
 use Rattle.std.proofs.Common.{◌≡◌, ◌∙◌, ◌+◌, ◌-◌, ◌/◌, ◌≤◌, ◌<◌, ◌++◌, ◌∷◌, [], ℕ, List, length, take, get_or, refl, sym, ap, subst, arith, length-append, lit<}
 use Rattle.std.proofs.lemmas.Bool.{eqb-true, eqb-false}
 use Rattle.std.proofs.lemmas.List.{nil_from_length, take_all, get_or_default}
-use Rattle.ndx_page.specs.declared.page.Entry.{Entry as FileEntry}
+use Rattle.ndx_page.specs.declared.page.PageEntry.{PageEntry}
 use Rattle.ndx_tree.specs.Order.{Each}
 use Rattle.ndx_tree.specs.Pairs.{Pair}
 use Rattle.ndx_tree.specs.KeyForm.{IsPairOf}
@@ -14,7 +14,7 @@ use Rattle.ndx_tree.proofs.PageOf.{most_entries-bound}
 use Rattle.ndx_tree.proofs.Writing.{leaf_written, inner_written, none_written, child_written, child_at_place, inner_fits, leaf_page_fits, inner_own, leaf_own}
 use Rattle.ndx_tree.proofs.TextPages.{no_pages, more_pages, page_behind_pages}
 use Rattle.ndx_tree.specs.IndexText.{pages_text}
-use Rattle.ndx_tree.proofs.page.Page.+write.Goals as goal
+use Rattle.ndx_tree.proofs.page.TreePage.+write.Goals as goal
 
 nothing : Pair
 nothing = ([], 0)
@@ -64,12 +64,12 @@ loop-at-init t c =
     let page : IsPage c.self.inside.most es cs = subst (IsPage c.self.inside.most c.self.inside.entries.items) (sym c.as_slice-children.ensures.value) c.self.invariant.0 in
     let more : length cs ≡ length es + 1 = cut_length es cs (cut_from c.self.inside.most es cs page.framed some) in
     record {
-      written = subst (λ (m : List FileEntry). AreWritten c.args.head.now.length (c.args.self.now.height - 1) c.args.pages c.args.pages c.args.body.now.items m []) (sym c.new.ensures) (none_written c.args.head.now.length (c.args.self.now.height - 1) c.args.pages c.args.body.now.items);
+      written = subst (λ (m : List PageEntry). AreWritten c.args.head.now.length (c.args.self.now.height - 1) c.args.pages c.args.pages c.args.body.now.items m []) (sym c.new.ensures) (none_written c.args.head.now.length (c.args.self.now.height - 1) c.args.pages c.args.body.now.items);
       text = no_pages c.args.head.now.length c.args.pages c.args.body.now.items;
       end = c.requires.start;
       later = omega arith;
       few = omega arith;
-      count = ap (λ (m : List FileEntry). length m) c.new.ensures;
+      count = ap (λ (m : List PageEntry). length m) c.new.ensures;
     }
 
 pub bounds-children-at : goal.bounds-children-at
@@ -123,14 +123,14 @@ loop-at-preserved t c =
     let fits : length c.between.result.key.items ≡ c.args.head.now.length = ap (λ (m : List ℕ). length m) (sym key) ∙ sep.1.0 in
     let next : take (c.loop-at.at + 1) cs ≡ take c.loop-at.at cs ++ d ∷ [] = take_next cs c.loop-at.at d (omega (arith, more)) c.index-children-at.is in
     record {
-      written = subst (λ (m : List FileEntry). AreWritten c.args.head.now.length (c.args.self.now.height - 1) c.args.pages c.in_ok-child.child c.write.new.body.items m (take (c.loop-at.at + 1) cs)) (sym c.push.ensures.items)
+      written = subst (λ (m : List PageEntry). AreWritten c.args.head.now.length (c.args.self.now.height - 1) c.args.pages c.in_ok-child.child c.write.new.body.items m (take (c.loop-at.at + 1) cs)) (sym c.push.ensures.items)
           (subst (λ (m : List PageView). AreWritten c.args.head.now.length (c.args.self.now.height - 1) c.args.pages c.in_ok-child.child c.write.new.body.items (c.loop-at.page.entries.items ++ c.between.result ∷ []) m) (sym next)
           (child_written c.args.head.now.length (c.args.self.now.height - 1) c.args.pages c.loop-at.number c.in_ok-child.child c.loop-at.body.items (pages_text c.args.head.now.length (g.pages ++ g.page ∷ [])) c.write.new.body.items c.loop-at.page.entries.items (take c.loop-at.at cs) d c.between.result s inv.written c.in_ok-child.ensures.written g.items (omega (arith, q.level)) inv.later c.in_ok-child.ensures.later c.between.ensures.child fits sep.0 key c.between.ensures.number));
       text = more_pages c.args.head.now.length c.args.pages c.loop-at.number c.in_ok-child.child d.count c.args.body.now.items c.loop-at.body.items c.write.new.body.items inv.text g (subst (λ m. m / 2 ≤ d.count) c.requires.most q.half);
       end = c.in_ok-child.ensures.end;
       later = omega (arith, inv.later, c.in_ok-child.ensures.later);
       few = omega (arith, inv.few, c.in_ok-child.ensures.few q.two, ap (λ (m : List Pair). length m) q.more, length-append (joined (take c.loop-at.at cs)) d.pairs);
-      count = ap (λ (m : List FileEntry). length m) c.push.ensures.items ∙ length-append c.loop-at.page.entries.items (c.between.result ∷ []) ∙ omega (arith, inv.count);
+      count = ap (λ (m : List PageEntry). length m) c.push.ensures.items ∙ length-append c.loop-at.page.entries.items (c.between.result ∷ []) ∙ omega (arith, inv.count);
     }
 
 pub bounds-children-len : goal.bounds-children-len

@@ -2,7 +2,7 @@ use Rattle.std.proofs.Common.{◌≡◌, ◌+◌, ◌-◌, ◌*◌, ◌≤◌, l
 use Rattle.std.specs.Vec.{vec_len}
 use Rattle.ndx_tree.specs.Pages.{joined}
 use Rattle.ndx_tree.specs.Writes.{AreWritten, ArePages}
-use Rattle.ndx_tree.proofs.page.Page.+write.Given as goal
+use Rattle.ndx_tree.proofs.page.TreePage.+write.Given as goal
 
 abbrev pub decreases-write : goal.decreases-write
 decreases-write l = goal.size-write l

@@ -10,7 +10,7 @@ use Rattle.std.proofs.lemmas.List.Edits.{length-insert}
 use Rattle.ndx_tree.specs.Flat.{HaveKeys}
 use Rattle.ndx_tree.proofs.Ordered.{Each-append, Each-append_left, Each-append_right}
 use Rattle.ndx_tree.proofs.Keyed.{page_keyed, last_keyed, put_keyed, entries_room, most_is}
-use Rattle.ndx_tree.proofs.page.Page.join.Goals as goal
+use Rattle.ndx_tree.proofs.page.TreePage.join.Goals as goal
 
 pub returns-then-len-self : goal.returns-then-len-self
 returns-then-len-self c =

@@ -7,7 +7,7 @@ use Rattle.ndx_tree.specs.Pages.{PageView, IsPage, Inserts, InsertsInRoom, view_
 use Rattle.ndx_tree.proofs.Cut.{entries_rising, height_of-pos}
 use Rattle.ndx_tree.proofs.Take.{leaf_takes, placed_child, child_grows, done_inserts, absent_within, child_ready}
 use Rattle.ndx_tree.proofs.Keyed.{below_keyed, entries_room, most_is}
-use Rattle.ndx_tree.proofs.page.Page.+insert_in_room.Goals as goal
+use Rattle.ndx_tree.proofs.page.TreePage.+insert_in_room.Goals as goal
 
 pub invariant_of-self : goal.invariant_of-self
 invariant_of-self t c =

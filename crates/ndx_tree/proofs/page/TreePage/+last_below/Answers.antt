@@ -7,7 +7,7 @@ use Rattle.ndx_tree.specs.Pages.{PageView, joined, view_of, IsPage, IsChild}
 use Rattle.ndx_tree.proofs.Cut.{pairs_from, cut_from, entries_rising}
 use Rattle.ndx_tree.proofs.Search.{below_in_child, below_at_place}
 use Rattle.ndx_tree.proofs.Take.{placed_child}
-use Rattle.ndx_tree.proofs.page.Page.+last_below.Goals as goal
+use Rattle.ndx_tree.proofs.page.TreePage.+last_below.Goals as goal
 
 pub place-at-requires : goal.place-at-requires
 place-at-requires t c = entries_rising c.self.inside.most c.self.inside.entries.items c.self.inside.children.items c.self.invariant.0

@@ -1,6 +1,6 @@
 use Rattle.ndx_tree.specs.Pages.{view_of}
 use Rattle.ndx_tree.proofs.Join.{only_child}
-use Rattle.ndx_tree.proofs.page.Page.lower.Goals as goal
+use Rattle.ndx_tree.proofs.page.TreePage.lower.Goals as goal
 
 pub returns-clause-child : goal.returns-clause-child
 returns-clause-child c =

@@ -11,7 +11,7 @@ use Rattle.ndx_tree.proofs.Lose.{leaf_loses, losing_child, child_keeps, child_lo
 use Rattle.ndx_tree.specs.Flat.{HaveKeys}
 use Rattle.ndx_tree.proofs.Keyed.{page_keyed, below_keyed, all_keyed, lost_keyed, entries_room, most_is}
 use Rattle.std.proofs.lemmas.List.Edits.{length-remove}
-use Rattle.ndx_tree.proofs.page.Page.+remove.Goals as goal
+use Rattle.ndx_tree.proofs.page.TreePage.+remove.Goals as goal
 
 pub returns-then-at-len : goal.returns-then-at-len
 returns-then-at-len t c =

@@ -2,7 +2,7 @@ use Rattle.std.proofs.Common.{◌≡◌, ◌+◌, ◌*◌, ◌≤◌, List, leng
 use Rattle.ndx_tree.specs.Pairs.{Pair}
 use Rattle.ndx_tree.specs.Flat.{FlatView}
 use Rattle.ndx_tree.proofs.Keyed.{entries_room, last_keyed, most_is}
-use Rattle.ndx_tree.proofs.page.Page.raise.Goals as goal
+use Rattle.ndx_tree.proofs.page.TreePage.raise.Goals as goal
 
 pub put-requires-clause-room : goal.put-requires-clause-room
 put-requires-clause-room c =

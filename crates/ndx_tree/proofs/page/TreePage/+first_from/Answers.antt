@@ -8,7 +8,7 @@ use Rattle.ndx_tree.proofs.Cut.{pairs_from, cut_from}
 use Rattle.ndx_tree.proofs.Search.{first_at_place, none_at_place, first_in_child}
 use Rattle.ndx_tree.proofs.Cut.{entries_rising}
 use Rattle.ndx_tree.proofs.Take.{placed_child}
-use Rattle.ndx_tree.proofs.page.Page.+first_from.Goals as goal
+use Rattle.ndx_tree.proofs.page.TreePage.+first_from.Goals as goal
 
 pub returns-then-at-len-clause-found : goal.returns-then-at-len-clause-found
 returns-then-at-len-clause-found t c =
