@@ -15,7 +15,7 @@ mod shapes;
 mod states;
 
 pub use constants::Constants;
-pub use fields::{byte_of, eight_of, four_of, counted_text, two_of};
+pub use fields::{byte_of, counted_text, eight_of, four_of, two_of};
 pub use filters::{Filters, Needs};
 pub use flaw::{Flaw, Unread};
 pub use instrs::Instrs;

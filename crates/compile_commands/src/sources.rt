@@ -7,7 +7,7 @@ ghost use Rattle.compile_commands.specs.Refusals.{SourceRefusalIs, SourcesRefusa
 
 use crate::refusal::{CompileFilesRefusal, SourceFault};
 use file_access::{Files, ReadFault};
-use prg_parser::{ParseFault, Program, ParseRefusal, Text, parse};
+use prg_parser::{ParseFault, ParseRefusal, Program, Text, parse};
 use shape_files::FILE_LIMIT;
 use std::alloc::Global;
 

@@ -9,7 +9,7 @@ use code_items::{IndexShape, Items, KeyPart, KeyParts, Name, Shape, TableShape, 
 use code_verify::Verified;
 use dbf_file::{Field, Letter};
 use prg_compile::{CompileRefusal, compile};
-use prg_parser::{Program, ParseRefusal, parse};
+use prg_parser::{ParseRefusal, Program, parse};
 use std::alloc::{AllocError, Global};
 use std::process::Abort;
 use std::test::Fail;

@@ -1,7 +1,9 @@
 //! Expressions, their trees and their faults.
 
 use crate::texts::{Nest, nested};
-use prg_expr::{ParseFaultKind, ParseFault, ParseRefusal, expr, expression, is_word, name_of, words};
+use prg_expr::{
+    ParseFault, ParseFaultKind, ParseRefusal, expr, expression, is_word, name_of, words,
+};
 use std::alloc::{AllocError, Global};
 use std::process::Abort;
 use std::test::Fail;
@@ -260,7 +262,10 @@ fn counts_parentheses(rt: HostRuntime) -> Result<(), Fail> {
         (nest(b"ABS(", 32, b"1", b")"), None),
         (nest(b"ABS(", 33, b"1", b")"), Some(ParseFaultKind::TooDeep)),
         (nest(b"(", 31, b"EOF()", b")"), None),
-        (nest(b"(", 32, b"EOF()", b")"), Some(ParseFaultKind::TooDeep)),
+        (
+            nest(b"(", 32, b"EOF()", b")"),
+            Some(ParseFaultKind::TooDeep),
+        ),
     ];
     expect_nests(&rt, rt.alloc(), &nests)
 }
@@ -272,12 +277,21 @@ fn counts_bytes(rt: HostRuntime) -> Result<(), Fail> {
         (nest(b"X", 11, b"", b""), Some(ParseFaultKind::TooLong)),
         (nest(b" ", 1023, b"1", b""), None),
         (nest(b" ", 1024, b"1", b""), Some(ParseFaultKind::TooLong)),
-        (nest(b" ", 1024, b"1 2", b""), Some(ParseFaultKind::Expression)),
-        (nest(b" ", 5000, b"1 2", b""), Some(ParseFaultKind::Expression)),
+        (
+            nest(b" ", 1024, b"1 2", b""),
+            Some(ParseFaultKind::Expression),
+        ),
+        (
+            nest(b" ", 5000, b"1 2", b""),
+            Some(ParseFaultKind::Expression),
+        ),
         (nest(b" ", 5000, b"!", b""), Some(ParseFaultKind::Character)),
         (nest(b"-", 1023, b"X", b""), None),
         (nest(b"1+", 511, b"1", b""), None),
-        (nest(b"-", 100_000, b"X", b""), Some(ParseFaultKind::TooLong)),
+        (
+            nest(b"-", 100_000, b"X", b""),
+            Some(ParseFaultKind::TooLong),
+        ),
     ];
     expect_nests(&rt, rt.alloc(), &nests)
 }

@@ -1,7 +1,7 @@
 //! Command files, and the trees or faults that they give.
 
 use crate::texts::{Nest, bytes_of, nested};
-use prg_parser::{Form, Program, ParseRefusal, Text, parse};
+use prg_parser::{Form, ParseRefusal, Program, Text, parse};
 use std::alloc::{AllocError, Global};
 use std::process::Abort;
 use std::test::Fail;

@@ -11,7 +11,7 @@ ghost use Rattle.ndx_page.specs.PageLayout.{FitsKeys, IsPage, entry_at, entries_
 use crate::head::Head;
 use crate::layout::{MAX_ENTRIES, PAGE_SIZE, entry_len, most_entries};
 use crate::numbers::{Sheet, append, append_four, append_zeros, four_at, whole_page};
-use crate::page::{PageEntry, Page, PageFault};
+use crate::page::{Page, PageEntry, PageFault};
 use arrayvec::ArrayVec;
 
 /// The entry that stands at `place`, with a key of `key_length` bytes.

@@ -98,7 +98,7 @@ all_sound f R count h c cs s t e =
     let a = h c.0 s m.0 m.1 in
     record { level = a.level; can = a.can; all = add_child (R a.level) count s m.0 t c cs a.level a.more a.met a.below a.fresh a.is (all_known f R count h cs (with_separator c.1 m.0) t a.level (ap (λ (v : Seen). v.level) a.is) m.2) }
 
-links_some : (f : ℕ → Seen → Result Seen TreeFault) (R : ℕ → ℕ → List ℕ → List Item → Type 0) (count : ℕ) → ((n : ℕ) (s t : Seen) → f n s ≡ Ok t → Adds R count s n t) → (es : List Rattle.ndx_page.specs.declared.page.PageEntry.Entry) (last : ℕ) (s t : Seen) → walk_all f (links es last) s ≡ Ok t → AddSome R count s (links es last) t
+links_some : (f : ℕ → Seen → Result Seen TreeFault) (R : ℕ → ℕ → List ℕ → List Item → Type 0) (count : ℕ) → ((n : ℕ) (s t : Seen) → f n s ≡ Ok t → Adds R count s n t) → (es : List Rattle.ndx_page.specs.declared.page.PageEntry.PageEntry) (last : ℕ) (s t : Seen) → walk_all f (links es last) s ≡ Ok t → AddSome R count s (links es last) t
 links_some f R count h [] last s t e = all_sound f R count h (last, None) [] s t e
 links_some f R count h (x ∷ es) last s t e = all_sound f R count h (x.child, Some x.key.items) (links es last) s t e
 
@@ -164,7 +164,7 @@ known_complete f R count level h [] s r i k a q = ap (λ (v : Seen). let o : Res
 known_complete f R count level h (c ∷ cs) s r i k a q =
     child_first f R count level h c cs s r a.0 a.1 i a.2 a.3 (subst (CanBe level) (sym k) refl) a.4 a.5 a.6 q (λ m l fresh. known_complete f R count level h cs m a.1 a.3 l a.7 fresh)
 
-links_complete : (f : ℕ → Seen → Result Seen TreeFault) (R : ℕ → List ℕ → List Item → Type 0) (count level : ℕ) → ((n : ℕ) (s : Seen) (r : List ℕ) (i : List Item) → CanBe level s.level → R n r i → AreFresh count s.reached r → f n s ≡ Ok (seen_of (s.reached ++ r) (s.items ++ i) (Some level))) → (es : List Rattle.ndx_page.specs.declared.page.PageEntry.Entry) (last : ℕ) (s : Seen) (r : List ℕ) (i : List Item) → CanBe level s.level → AreBelow R (links es last) r i → AreFresh count s.reached r → walk_all f (links es last) s ≡ Ok (seen_of (s.reached ++ r) (s.items ++ i) (Some level))
+links_complete : (f : ℕ → Seen → Result Seen TreeFault) (R : ℕ → List ℕ → List Item → Type 0) (count level : ℕ) → ((n : ℕ) (s : Seen) (r : List ℕ) (i : List Item) → CanBe level s.level → R n r i → AreFresh count s.reached r → f n s ≡ Ok (seen_of (s.reached ++ r) (s.items ++ i) (Some level))) → (es : List Rattle.ndx_page.specs.declared.page.PageEntry.PageEntry) (last : ℕ) (s : Seen) (r : List ℕ) (i : List Item) → CanBe level s.level → AreBelow R (links es last) r i → AreFresh count s.reached r → walk_all f (links es last) s ≡ Ok (seen_of (s.reached ++ r) (s.items ++ i) (Some level))
 links_complete f R count level h [] last s r i can a q =
     child_first f R count level h (last, None) [] s r a.0 a.1 i a.2 a.3 can a.4 a.5 a.6 q (λ m l fresh. known_complete f R count level h [] m a.1 a.3 l a.7 fresh)
 links_complete f R count level h (x ∷ es) last s r i can a q =

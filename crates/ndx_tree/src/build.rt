@@ -107,7 +107,12 @@ fn separate(row: &mut Entries, children: &[TreePage])
 }
 
 // A page above the last so many of a row, which it takes out.
-fn parent(alloc: Global, most: usize, row: &mut Vec<TreePage>, count: usize) -> Result<TreePage, AllocError>
+fn parent(
+    alloc: Global,
+    most: usize,
+    row: &mut Vec<TreePage>,
+    count: usize,
+) -> Result<TreePage, AllocError>
     requires most { (4 ≤ most) × (most < 1000) }
     requires level { (h : ℕ) × AreChildren h most row.old.items }
     requires rising { IsRising (joined row.old.items) }

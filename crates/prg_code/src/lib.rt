@@ -13,7 +13,7 @@ mod pool;
 mod settled;
 
 pub use block::{Block, Draft, Label};
-pub use fault::{CompileError, CompileFault, CompileRefusal, CompileFaultKind};
+pub use fault::{CompileError, CompileFault, CompileFaultKind, CompileRefusal};
 pub use filters::{FilterBlock, Filters};
 pub use laws::ways_merge;
 pub use lists::Lists;

@@ -7,7 +7,7 @@ use crate::control::{Inside, commands};
 use crate::ends::end_procedure;
 use code_items::{Code, Shape};
 use code_verify::{Verified, VerifyError, verify};
-use prg_code::{Block, CompileError, CompileFault, CompileRefusal, CompileFaultKind, Names};
+use prg_code::{Block, CompileError, CompileFault, CompileFaultKind, CompileRefusal, Names};
 use prg_commands::{Output, Work};
 use prg_parser::Program;
 use prg_writer::{ProcedureCopy, Source, Target, Writer, assemble, copy_of_shape};

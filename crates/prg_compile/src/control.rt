@@ -9,7 +9,7 @@ use crate::calling::{
 };
 use crate::ends::{Leaps, end_procedure, no_get_waits, plain};
 use code_items::{Instr, Question, RecordInstr, State, ValueInstr};
-use prg_code::{CompileError, CompileRefusal, CompileFaultKind, Names, is_state_same};
+use prg_code::{CompileError, CompileFaultKind, CompileRefusal, Names, is_state_same};
 use prg_commands::{condition, put_skip_on, put_top};
 use prg_expr::Expr;
 use prg_line::Statement;

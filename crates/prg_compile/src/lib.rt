@@ -11,4 +11,4 @@ mod control;
 mod ends;
 
 pub use compiling::compile;
-pub use prg_code::{CompileFault, CompileRefusal, CompileFaultKind};
+pub use prg_code::{CompileFault, CompileFaultKind, CompileRefusal};

@@ -11,7 +11,8 @@ mod token;
 mod tree;
 
 pub use fault::{
-    ParseFaultKind, FormFault, MOST_BYTES, MOST_WORDS, ParseFault, ParseRefusal, least, length_fault,
+    FormFault, MOST_BYTES, MOST_WORDS, ParseFault, ParseFaultKind, ParseRefusal, least,
+    length_fault,
 };
 pub use function::{Function, one_function};
 pub use lexer::{lines_are_cut, one_line, words};

@@ -10,7 +10,7 @@ ghost use Rattle.prg_expr.specs.Reading as spec;
 ghost use Rattle.prg_expr.specs.Reading.{Gives};
 ghost use Rattle.prg_expr.specs.Spelling.{InFront, NoneLonger};
 
-use crate::fault::{ParseFaultKind, FormFault};
+use crate::fault::{FormFault, ParseFaultKind};
 use crate::function::{Function, function_named, takes};
 use crate::names::{front, name_of};
 use crate::token::Token;

@@ -10,7 +10,9 @@ ghost use Rattle.prg_expr.specs.Grammar as grammar;
 ghost use Rattle.prg_expr.specs.Word.{Word, words};
 ghost use Rattle.prg_expr.specs.Reading.{Gives, front};
 
-use crate::fault::{ParseFaultKind, FormFault, MOST_WORDS, ParseFault, ParseRefusal, least, length_fault};
+use crate::fault::{
+    FormFault, MOST_WORDS, ParseFault, ParseFaultKind, ParseRefusal, least, length_fault,
+};
 use crate::lexer::cut;
 use crate::parser::parse;
 use crate::token::Token;

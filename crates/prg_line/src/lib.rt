@@ -10,6 +10,6 @@ mod verb;
 
 pub use crate::reading::{ReadLine, lines_are_read, one_saying, read_line};
 pub use crate::role::Role;
-pub use crate::statement::{Move, Replacement, Selected, Sentence, Toggle, Statement};
+pub use crate::statement::{Move, Replacement, Selected, Sentence, Statement, Toggle};
 pub use crate::verb::one_command;
 pub use prg_expr::{ParseFaultKind, least};

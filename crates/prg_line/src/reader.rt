@@ -10,7 +10,9 @@ ghost use Rattle.prg_line.specs.Gives.{at_of, Reads, Leads, Ends};
 ghost use Rattle.prg_expr.specs.declared.fault.FormFault.TheVariants.{Kind};
 
 use fixed_num::Num;
-use prg_expr::{Expr, ParseFaultKind, FormFault, Name, Operator, Token, expression, is_word, name_of};
+use prg_expr::{
+    Expr, FormFault, Name, Operator, ParseFaultKind, Token, expression, is_word, name_of,
+};
 use std::alloc::Global;
 
 /// A word of a command is missing, or another one stands there.

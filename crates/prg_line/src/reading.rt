@@ -15,7 +15,7 @@ use crate::role::Role;
 use crate::statement::Sentence;
 use crate::verb::{Verb, verb_of};
 use prg_expr::{
-    ParseFaultKind, FormFault, MOST_WORDS, Token, expressions_are_read, least, length_fault,
+    FormFault, MOST_WORDS, ParseFaultKind, Token, expressions_are_read, least, length_fault,
     lines_are_cut, one_line, words,
 };
 use std::alloc::{AllocError, Global};

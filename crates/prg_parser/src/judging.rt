@@ -5,7 +5,7 @@ ghost use Rattle.prg_parser.specs.Verdict as spec;
 ghost use Rattle.prg_parser.specs.Blocks.{is_procedure};
 
 use crate::blocks::{Part, Parts, block_fault, enter};
-use prg_expr::{ParseFaultKind, ParseFault, least};
+use prg_expr::{ParseFault, ParseFaultKind, least};
 use prg_line::Role;
 
 /// What of a line decides on its fault.

@@ -13,6 +13,6 @@ pub use crate::command::{Branch, Case, Command, Form};
 pub use crate::parsing::{one_program, parse};
 pub use crate::program::{Procedure, Program};
 pub use prg_expr::{
-    Expr, ParseFaultKind, Function, Name, Operator, ParseFault, Prefix, ParseRefusal, Text, expr,
+    Expr, Function, Name, Operator, ParseFault, ParseFaultKind, ParseRefusal, Prefix, Text, expr,
 };
-pub use prg_line::{Move, Replacement, Selected, Toggle, Statement, one_saying};
+pub use prg_line::{Move, Replacement, Selected, Statement, Toggle, one_saying};

@@ -222,7 +222,11 @@ fn function_kind(function: Function, fun: Fun, kinds: &mut Kinds) -> Result<Kind
 }
 
 /// The kind of a call with arguments of these kinds.
-pub fn call_kind(scope: &Scope, function: Function, kinds: &mut Kinds) -> Result<Kind, CompileFaultKind>
+pub fn call_kind(
+    scope: &Scope,
+    function: Function,
+    kinds: &mut Kinds,
+) -> Result<Kind, CompileFaultKind>
     ensures { Reads result (spec.called_kind (scoped scope.now) function (spec.meaning function) kinds.old) }
 {
     match meaning_of(function) {

@@ -76,7 +76,11 @@ fn put_header(out: &mut Vec<u8>, code: &HandCode<'_>) -> Result<(), AllocError> 
     Ok(())
 }
 
-fn put_procedure(out: &mut Vec<u8>, free: &[u8], procedure: HandProcedure) -> Result<(), AllocError> {
+fn put_procedure(
+    out: &mut Vec<u8>,
+    free: &[u8],
+    procedure: HandProcedure,
+) -> Result<(), AllocError> {
     let (length, level) = procedure;
     put_two(out, (length & 0xffff) as u16)?;
     out.push(level)?;

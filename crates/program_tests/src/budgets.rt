@@ -88,7 +88,10 @@ fn first_unlike_of(
 fn what_is_printed(rt: HostRuntime) -> Result<(), Fail> {
     let alloc = rt.alloc();
     assert_eq!(rt; first_unlike_of(alloc, &numbers(), &[19, 11, 44])?, None);
-    assert_eq!(rt; first_unlike_of(alloc, &texts_and_dates(), &[24, 17])?, None);
+    assert_eq!(rt;
+        first_unlike_of(alloc, &texts_and_dates(), &[24, 17])?,
+        None
+    );
     assert_eq!(rt; first_unlike_of(alloc, &typed(), &[10, 13])?, None);
     assert_eq!(rt; first_unlike_of(alloc, &centuries(), &[20])?, None);
     assert_eq!(rt; first_unlike_of(alloc, &scrolling(), &[428])?, None);

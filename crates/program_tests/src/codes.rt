@@ -53,7 +53,11 @@ fn end_of(alloc: Global, code: &HandCode<'_>) -> Result<Option<Ended>, AllocErro
     let Some(job) = job(NAME, true, 100) else {
         return Ok(None);
     };
-    Ok(run_files(alloc, &mut stored(alloc, &entries), &job).result.ok())
+    Ok(
+        run_files(alloc, &mut stored(alloc, &entries), &job)
+            .result
+            .ok(),
+    )
 }
 
 /// A code, the fault that the checking machine meets in it, the place and the steps before it.
@@ -150,7 +154,16 @@ fn faults_of_areas() -> [Faulty; 5] {
 fn two_faults() -> [Faulty; 6] {
     [
         (
-            plain(1, 1, &[(0x01, 0, 0, 0), (0x03, LOGICAL, 0, 0), (0x01, 0, 0, 0), (0x02, 2, 0, 0)]),
+            plain(
+                1,
+                1,
+                &[
+                    (0x01, 0, 0, 0),
+                    (0x03, LOGICAL, 0, 0),
+                    (0x01, 0, 0, 0),
+                    (0x02, 2, 0, 0),
+                ],
+            ),
             FaultKind::WrongKind,
             3,
             3,

@@ -20,9 +20,9 @@ mod moves;
 #[cfg(test)]
 mod records;
 #[cfg(test)]
-mod screens;
-#[cfg(test)]
 mod resumed;
+#[cfg(test)]
+mod screens;
 #[cfg(test)]
 mod second;
 #[cfg(test)]

@@ -167,7 +167,13 @@ fn full_again(rt: HostRuntime) -> Result<(), Fail> {
     let parts = parts_of(rt.alloc(), entries.as_slice(), &case, 100, 100).ok_or("no run")?;
     let (full, steps) = (End::Full(0), 3);
     assert!(rt; parts.before == Outcome { end: full, steps });
-    assert!(rt; parts.after == Outcome { end: full, steps: 0 });
+    assert!(rt;
+        parts.after
+            == Outcome {
+                end: full,
+                steps: 0
+            }
+    );
     let store = parts.banks.store();
     assert!(rt; store.is_open(1) && !store.is_open(2));
     Ok(())

@@ -6,7 +6,7 @@ ghost use Rattle.shape_files.specs.Lines.{Index, Table};
 ghost use Rattle.shape_files.specs.Refusals.{LineRefusalIs};
 ghost use Rattle.shape_files.specs.Shapes.{NamesTable, no_shape, shape_of, with_index, with_table};
 
-use crate::names::{is_word, name_in, as_byte};
+use crate::names::{as_byte, is_word, name_in};
 use crate::refusal::{LineFault, LineRefusal};
 use dbf_file::Field;
 use shape::{IndexShape, Items, Name, Shape, TableShape};

@@ -10,7 +10,7 @@ ghost use Rattle.shape.specs.declared.whole.Shape.{Shape as AnyShape};
 ghost use Rattle.shape_files.specs.Lines.{Index};
 ghost use Rattle.shape_files.specs.Refusals.{LineRefusalIs};
 
-use crate::names::{is_word, as_byte};
+use crate::names::{as_byte, is_word};
 use crate::refusal::{LineFault, LineRefusal};
 use arrayvec::ArrayVec;
 use dbf_file::Field;

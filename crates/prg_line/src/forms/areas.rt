@@ -6,8 +6,8 @@ ghost use Rattle.prg_expr.specs.Reading.{Gives};
 ghost use Rattle.prg_line.specs.Gives.{at_of, Reads};
 
 use crate::reader::Reader;
-use crate::statement::{Selected, Toggle, Statement};
-use prg_expr::{ParseFaultKind, FormFault};
+use crate::statement::{Selected, Statement, Toggle};
+use prg_expr::{FormFault, ParseFaultKind};
 
 /// The greatest number of a work area.
 const LAST_AREA: u16 = 10;

@@ -16,7 +16,7 @@ mod variables;
 use crate::reader::Reader;
 use crate::statement::{Sentence, Statement};
 use crate::verb::Verb;
-use prg_expr::{ParseFaultKind, FormFault};
+use prg_expr::{FormFault, ParseFaultKind};
 
 /// A command that is one word.
 fn single(verb: Verb) -> Option<Statement>

@@ -6,7 +6,7 @@ ghost use Rattle.prg_line.specs.Gives.{at_of, Reads};
 
 use crate::reader::Reader;
 use crate::statement::Statement;
-use prg_expr::{ParseFaultKind, FormFault};
+use prg_expr::{FormFault, ParseFaultKind};
 
 /// `variable = value`, of which no word is read yet.
 #[tactic(auto, unfolding(crate::specs::Forms::assign))]
