@@ -5,7 +5,7 @@ ghost use Rattle.std.specs.Prelude.{◌≤◌, length};
 use crate::bytes::set;
 use arrayvec::ArrayVec;
 use ndx_page::{
-    Entry, Head, HeadFault, PAGE_SIZE, Page, PageFault, most_entries, read_head, read_page,
+    Head, HeadFault, PAGE_SIZE, Page, PageEntry, PageFault, most_entries, read_head, read_page,
     write_head, write_page,
 };
 
@@ -57,17 +57,17 @@ fn plain_inner() -> [u8; PAGE_SIZE] {
     bytes
 }
 
-fn entry(child: u32, number: u32, key: &[u8; 2]) -> Entry {
+fn entry(child: u32, number: u32, key: &[u8; 2]) -> PageEntry {
     let mut bytes = ArrayVec::new();
     let _ = bytes.try_extend_from_slice(key);
-    Entry {
+    PageEntry {
         child,
         number,
         key: bytes,
     }
 }
 
-fn page(first: Entry, second: Entry, last: u32) -> Page {
+fn page(first: PageEntry, second: PageEntry, last: u32) -> Page {
     let mut entries = ArrayVec::new();
     entries.push(first);
     entries.push(second);
