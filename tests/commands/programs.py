@@ -234,7 +234,7 @@ class Maker:
     def __init__(self, random):
         self.random, self.made = random, tables()
         self.areas, self.selected = [None] * 10, 0
-        self.loops, self.counters, self.in_filter, self.in_procedure = 0, 0, False, False
+        self.loops, self.counters, self.in_filter = 0, 0, False
         for table in self.made.values():
             table.rows = [Row([self.cell(column) for column in table.columns], random.random() < 0.15)
                           for _ in range(random.choice((0, 1, 4, 7, 9)))]
@@ -266,14 +266,12 @@ class Maker:
         """Names that mean a value of this kind here: variables, and fields of the selected table in front of them."""
         area = self.here()
         columns = {column.name: KINDS[column.letter] for column in area.table.columns} if area else {}
-        if self.in_procedure:
-            columns = {}
         variables = [name for name in NAMES[kind] if columns.get(name, kind) == kind]
         return variables + [name for name, its in columns.items() if its == kind]
 
     def named(self, kind):
         others = [area for area in self.areas if area and area is not self.here()]
-        if others and not self.in_filter and not self.in_procedure and self.one_in(6):
+        if others and not self.in_filter and self.one_in(6):
             table = self.random.choice(others).table
             found = [column.name for column in table.columns if KINDS[column.letter] == kind]
             if found:
@@ -288,7 +286,7 @@ class Maker:
     def count(self, depth):
         area = self.here()
         if depth == 0 or self.one_in(4):
-            if area and not self.in_procedure and self.one_in(4):
+            if area and self.one_in(4):
                 return self.asked(("RECNO", "RECCOUNT"))
             fresh = Num(self.random.randrange(0, 400), self.pick(0, 0, 0, 1, 2))
             return ("is", fresh) if self.one_in(2) else self.named(COUNT)
@@ -320,7 +318,7 @@ class Maker:
             lambda: ("call", self.pick("TRIM", "LTRIM", "UPPER", "LOWER"), [t()]),
             lambda: ("call", "SPACE", [small]),
             lambda: ("call", "STUFF", [t(), small, small, t()]),
-            lambda: ("call", "STR", [n()] + [[], [whole(6)], [whole(7), whole(2)]][self.random.randrange(3)]),
+            lambda: ("call", "STR", [n()] + [("is", whole(it)) for it in self.pick([], [6], [7, 2])]),
             lambda: ("call", "IIF", [self.truth(depth - 1), t(), t()]),
             lambda: ("call", self.pick("DTOC", "CDOW", "CMONTH"), [self.date(depth - 1)]),
         ))()
@@ -341,7 +339,7 @@ class Maker:
     def truth(self, depth):
         area = self.here()
         if depth == 0 or self.one_in(5):
-            if area and not self.in_procedure and self.one_in(3):
+            if area and self.one_in(3):
                 return self.asked(("DELETED",) if self.in_filter else ("DELETED", "EOF", "BOF", "FOUND"))
             return ("is", self.pick(True, False)) if self.one_in(2) else self.named(TRUTH)
         n, t, l = lambda: self.count(depth - 1), lambda: self.letters(depth - 1), lambda: self.truth(depth - 1)
@@ -356,16 +354,7 @@ class Maker:
         ))()
 
     def of_kind(self, kind, depth=2):
-        e = {COUNT: self.count, TEXT: self.letters, TRUTH: self.truth, DATE: self.date}[kind](depth)
-        return self.with_parts(e)
-
-    def with_parts(self, e):
-        """Numbers that stand bare among a call's arguments become words."""
-        if e[0] == "call":
-            return ("call", e[1], [self.with_parts(("is", it)) if isinstance(it, Num) else self.with_parts(it) for it in e[2]])
-        if e[0] == "both":
-            return ("both", e[1], self.with_parts(e[2]), self.with_parts(e[3]))
-        return ("one", e[1], self.with_parts(e[2])) if e[0] == "one" else e
+        return {COUNT: self.count, TEXT: self.letters, TRUTH: self.truth, DATE: self.date}[kind](depth)
 
     # ---- commands
 
@@ -538,10 +527,8 @@ class Maker:
 
     def turn(self):
         """A procedure of a number and a text, which it may change."""
-        self.in_procedure = True
         body = [("assign", "P1", ("both", self.pick("+", "-"), ("name", "P1"), ("is", whole(self.random.randrange(5))))),
                 ("assign", "P2", ("call", "LEFT", [("both", "+", ("name", "P2"), ("is", self.word())), ("is", whole(6))]))]
-        self.in_procedure = False
         self.random.shuffle(body)
         stop = ("if", ("both", ">", ("name", "P1"), ("is", whole(50))), [("leave", "RETURN")], None)
         return ["P1", "P2"], body[:1] + [stop] + body[1:] + [("show", True, [("name", "P1"), ("name", "P2")])]

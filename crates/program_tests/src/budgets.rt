@@ -5,7 +5,7 @@ use super::cases::{CODE, Case, compiled, entries, run_case};
 use super::moves::{filtered, first_smith, reopened, shrinking, smiths};
 use super::records::{bill, customer, full, keys, letters, of_t, removed};
 use super::screens::{centuries, numbers, scrolling, texts_and_dates, typed};
-use super::second::{DATED_COST, dated, days, three_tables, unsure};
+use super::second::{dated, days, three_tables, unsure};
 use super::tables::table;
 use file_access::{MemoryEntry, MemoryFiles, WORKS_FOR_EVER};
 use run_commands::Report;
@@ -149,7 +149,7 @@ fn areas_of_which_nothing_is_known(rt: HostRuntime) -> Result<(), Fail> {
 fn filters_on_the_texts_of_dates(rt: HostRuntime) -> Result<(), Fail> {
     let bytes = days(rt.alloc())?;
     let files = [of_t(&bytes)];
-    assert_eq!(rt; first_unlike(rt.alloc(), &dated(&files), DATED_COST)?, None);
+    assert_eq!(rt; first_unlike(rt.alloc(), &dated(&files), 28)?, None);
     Ok(())
 }
 

@@ -15,10 +15,12 @@ const LOGICAL: u8 = 4;
 
 const TRUE: &[u8] = &[LOGICAL, 1];
 
-/// OPEN of the first table, TOP, CALL of the first procedure, RETURN and END.
+/// OPEN of the first table, TOP, SEEK, CALL of the first procedure, RETURN and END.
 const OPEN: Parts = (0x20, 0, 0, 0);
 
 const TOP: Parts = (0x26, 0, 0, 0);
+
+const SEEK: Parts = (0x2a, 0, 0, 0);
 
 const CALL: Parts = (0x12, 0, 0, 0);
 
@@ -150,24 +152,16 @@ fn faults_of_areas() -> [Faulty; 5] {
     ]
 }
 
-/// Instructions with two faults, of which the first in the order of faults is told.
-fn two_faults() -> [Faulty; 6] {
+/// Instructions on values with two faults, of which the first in the order of faults is told.
+fn two_faults_of_values() -> [Faulty; 3] {
+    let loading: &[Parts] = &[
+        (0x01, 0, 0, 0),
+        (0x03, LOGICAL, 0, 0),
+        (0x01, 0, 0, 0),
+        (0x02, 2, 0, 0),
+    ];
     [
-        (
-            plain(
-                1,
-                1,
-                &[
-                    (0x01, 0, 0, 0),
-                    (0x03, LOGICAL, 0, 0),
-                    (0x01, 0, 0, 0),
-                    (0x02, 2, 0, 0),
-                ],
-            ),
-            FaultKind::WrongKind,
-            3,
-            3,
-        ),
+        (plain(1, 1, loading), FaultKind::WrongKind, 3, 3),
         (
             plain(0, 1, &[(0x02, LOGICAL, 0, 0), LAST]),
             FaultKind::Unset,
@@ -175,23 +169,19 @@ fn two_faults() -> [Faulty; 6] {
             0,
         ),
         (
-            tabled(0, &[(0x2a, 0, 0, 0), LAST]),
-            FaultKind::ClosedArea,
-            0,
-            0,
-        ),
-        (
-            tabled(0, &[OPEN, (0x2a, 0, 0, 0), LAST]),
-            FaultKind::EmptyStack,
-            1,
-            1,
-        ),
-        (
             plain(0, 0, &[(0x01, 0, 7, 0), LAST]),
             FaultKind::StackOver,
             0,
             0,
         ),
+    ]
+}
+
+/// The same of instructions on work areas.
+fn two_faults_of_areas() -> [Faulty; 3] {
+    [
+        (tabled(0, &[SEEK, LAST]), FaultKind::ClosedArea, 0, 0),
+        (tabled(0, &[OPEN, SEEK, LAST]), FaultKind::EmptyStack, 1, 1),
         (
             tabled(0, &[OPEN, (0x23, 2, 0, 0), (0x20, 0, 0, 9), LAST]),
             FaultKind::OpenTwice,
@@ -205,7 +195,8 @@ fn two_faults() -> [Faulty; 6] {
 fn meets_faults(rt: HostRuntime) -> Result<(), Fail> {
     assert_eq!(rt; first_unmet(rt.alloc(), &faults())?, None);
     assert_eq!(rt; first_unmet(rt.alloc(), &faults_of_areas())?, None);
-    assert_eq!(rt; first_unmet(rt.alloc(), &two_faults())?, None);
+    assert_eq!(rt; first_unmet(rt.alloc(), &two_faults_of_values())?, None);
+    assert_eq!(rt; first_unmet(rt.alloc(), &two_faults_of_areas())?, None);
     Ok(())
 }
 

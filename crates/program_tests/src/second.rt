@@ -47,9 +47,6 @@ pub fn dated<'a>(files: &'a [MemoryEntry<'a>]) -> Case<'a> {
     }
 }
 
-/// What its run costs.
-pub const DATED_COST: u64 = 28;
-
 /// Two records with the first two days of 1985.
 pub fn days(alloc: Global) -> Result<Vec<u8>, AllocError> {
     table(alloc, &[(b"D", b'D', 8, 0)], &[b" 19850101", b" 19850102"])
