@@ -1,18 +1,14 @@
--- A list that has the pair of each row, and no more pairs than rows, lists the rows.
-use Rattle.std.proofs.Common.{◌≡◌, ℕ, zero, suc, ◌+◌, ◌<◌, ◌≤◌, true, false, ◌↔◌, ◌⊎◌, inl, inr, Option, Some, None, List, [], ◌∷◌, length, get_or, cond, eqb, ltb, refl, sym, ap, ◌∙◌, subst, arith}
+-- A list of as many pairs as rows, each of which is a row's, lists the rows.
+use Rattle.std.proofs.Common.{◌≡◌, ℕ, zero, suc, ◌+◌, ◌<◌, ◌≤◌, true, ◌↔◌, ◌⊎◌, inl, inr, Option, Some, None, List, [], ◌∷◌, ◌++◌, length, get_or, refl, sym, ap, ◌∙◌, subst, arith}
 use Rattle.std.specs.List.{Contains}
-use Rattle.std.specs.Ordering.{is_lt, nat_cmp, ordering_then, ordering_reverse}
-use Rattle.std.specs.declared.cmp.Ordering.TheVariants.{Less, Equal, Greater}
-use Rattle.std.specs.Cmp.Lexicographic.{slice_cmp}
-use Rattle.std.proofs.lemmas.Bool.{false≢true, ltb-true}
-use Rattle.std.proofs.lemmas.Cmp.{nat_list_cmp_total}
-use Rattle.dbf_file.specs.Rows.{Row}
-use Rattle.ndx_tree.specs.KeyForm.{KeyForm, IsKeyList}
-use Rattle.ndx_tree.specs.Laws.{OrdersPairs, FindsNearest, IsLeastOf}
+use Rattle.std.proofs.lemmas.Bool.{false≢true}
+use Rattle.dbf_file.specs.Rows.{Row, row_at}
+use Rattle.ndx_tree.specs.Laws.{OrdersPairs, MeetsEach}
 use Rattle.ndx_tree.specs.Order.{Each, IsAscending, IsStrictOrder, above, first}
 use Rattle.ndx_tree.specs.Pairs.{Pair, is_before}
 use Rattle.row_keys.specs.Lists.{index_list, row_pair, IsIndexList}
 use Rattle.shape.specs.declared.parts.KeyPart.{KeyPart}
+use Rattle.shape.specs.Keys.{key_of}
 
 in_cons_at : (x : Pair) (xs : List Pair) (p : Pair) (k : ℕ) → k < length (x ∷ xs) → get_or (x ∷ xs) k p ≡ p → (p ≡ x) ⊎ Contains xs p
 in_cons_at x xs p zero lt e = inl (sym e)
@@ -28,10 +24,6 @@ each_at P (x ∷ xs) h (suc k) p lt e = each_at P xs h.1 k p (omega arith) e
 
 each_in : (P : Pair → Type 0) (xs : List Pair) → Each P xs → (p : Pair) → Contains xs p → P p
 each_in P xs h p c = each_at P xs h c.0 p c.1 c.2
-
-each_from : (P : Pair → Type 0) (ys : List Pair) → ((p : Pair) → Contains ys p → P p) → Each P ys
-each_from P [] f = tt
-each_from P (y ∷ ys) f = (f y (0, omega arith, refl), each_from P ys (λ p c. f p (suc c.0, omega (arith, c.1), c.2)))
 
 module _ (strict : IsStrictOrder is_before) where
   never : (x y : Pair) → is_before x y ≡ true → is_before y x ≡ true → ⊥
@@ -71,47 +63,101 @@ module _ (strict : IsStrictOrder is_before) where
       ] in
       ap (λ z. z ∷ xs) here ∙ ap (λ zs. y ∷ zs) rest
 
-pub lists_all : OrdersPairs → (parts : List KeyPart) (rows : List Row) (form : KeyForm) (pairs : List Pair) → IsIndexList parts rows → IsKeyList form pairs → length pairs ≡ length rows → ((r : ℕ) → r < length rows → Contains pairs (row_pair parts rows r)) → pairs ≡ index_list parts rows
-lists_all orders parts rows form pairs law sound count has =
-    let each : Each (Contains pairs) (index_list parts rows) = each_from (Contains pairs) (index_list parts rows)
-    (λ p c. let w = law.only p.0 p.1 c in subst (Contains pairs) (sym w.2) (has w.0 w.1)) in
-    same_lists orders.strict pairs (index_list parts rows) sound.ordered law.ordered each (omega (arith, count, law.count))
+-- a list of as many pairs as rows, all of them pairs of rows, lists the rows
+pub lists_all : OrdersPairs → (parts : List KeyPart) (rows : List Row) (pairs : List Pair) → IsIndexList parts rows → IsAscending is_before pairs → length pairs ≡ length rows → Each (Contains (index_list parts rows)) pairs → pairs ≡ index_list parts rows
+lists_all orders parts rows pairs law ordered count each = sym (same_lists orders.strict (index_list parts rows) pairs law.ordered ordered each (omega (arith, count, law.count)))
 
 pub lists_count : (parts : List KeyPart) (rows : List Row) (pairs : List Pair) → IsIndexList parts rows → (length pairs ≡ length rows → ⊥) → pairs ≡ index_list parts rows → ⊥
 lists_count parts rows pairs law differ e = differ (ap (λ (ps : List Pair). length ps) e ∙ law.count)
 
-pub lists_each : (parts : List KeyPart) (rows : List Row) (pairs : List Pair) (r : ℕ) → IsIndexList parts rows → r < length rows → (Contains pairs (row_pair parts rows r) → ⊥) → pairs ≡ index_list parts rows → ⊥
-lists_each parts rows pairs r law lt absent e = absent (subst (λ (ps : List Pair). Contains ps (row_pair parts rows r)) (sym e) (law.listed r lt))
+-- ---- a walk along the list
 
--- ---- the pair after the number before
+-- so many pairs were met, all of them in another list, and next is the first of those that are left
+pub record Walked (index pairs : List Pair) (k : ℕ) (next : Option Pair) : Type 0 where
+  pub met : List Pair
+  pub left : List Pair
+  pub whole : pairs ≡ met ++ left
+  pub here : next ≡ first left
+  pub on : (q : Pair) → next ≡ Some q → left ≡ q ∷ above is_before q pairs
+  pub each : Each (Contains index) met
+  pub count : length met ≡ k
 
-lt_is : (a b : ℕ) → is_lt (nat_cmp a b) ≡ ltb a b
-lt_is a b = elim (ltb a b) as (λ t. is_lt (cond t Less (cond (eqb a b) Equal Greater)) ≡ t) [ true ↦ refl | false ↦ elim (eqb a b) as (λ t. is_lt (cond t Equal Greater) ≡ false) [ true ↦ refl | false ↦ refl ] ]
+pub walk_starts : (index pairs : List Pair) (next : Option Pair) → MeetsEach pairs → next ≡ first pairs → Walked index pairs 0 next
+walk_starts index pairs next meets e = record { met = []; left = pairs; whole = refl; here = e; on = λ q f. meets.least q (sym e ∙ f); each = tt; count = refl }
 
-next_number : (m n : ℕ) → is_lt (nat_cmp m n) ≡ true → is_lt (nat_cmp n (m + 1)) ≡ true → ⊥
-next_number m n e f = omega (arith, ltb-true m n (sym (lt_is m n) ∙ e), ltb-true n (m + 1) (sym (lt_is n (m + 1)) ∙ f))
+each_more : (P : Pair → Type 0) (xs : List Pair) (q : Pair) → Each P xs → P q → Each P (xs ++ q ∷ [])
+each_more P [] q h p = (p, tt)
+each_more P (x ∷ xs) q h p = (h.0, each_more P xs q h.1 p)
 
--- no pair stands between a number and the next
-pub between : (key : List ℕ) (n : ℕ) (q : Pair) → is_before (key, n) q ≡ true → is_before q (key, n + 1) ≡ true → ⊥
-unfolding is_before
-between key n q = elim (slice_cmp nat_cmp key q.0) as (λ o. slice_cmp nat_cmp key q.0 ≡ o → is_lt (ordering_then o (nat_cmp n q.1)) ≡ true → is_lt (ordering_then (slice_cmp nat_cmp q.0 key) (nat_cmp q.1 (n + 1))) ≡ true → ⊥) [
-  | Less ↦ λ e f g. (let r : slice_cmp nat_cmp q.0 key ≡ Greater = nat_list_cmp_total.antisymm q.0 key ∙ ap ordering_reverse e in false≢true (rw r at g))
-  | Equal ↦ λ e f g. (let r : slice_cmp nat_cmp q.0 key ≡ Equal = nat_list_cmp_total.antisymm q.0 key ∙ ap ordering_reverse e in next_number n q.1 f (rw r at g))
-  | Greater ↦ λ e f g. false≢true f
-] refl
+one_more : (xs : List Pair) (q : Pair) (ys : List Pair) → xs ++ q ∷ ys ≡ (xs ++ q ∷ []) ++ ys
+one_more [] q ys = refl
+one_more (x ∷ xs) q ys = ap (λ zs. x ∷ zs) (one_more xs q ys)
 
-found_at : (pairs : List Pair) (key : List ℕ) (n : ℕ) (found : Option Pair) → OrdersPairs → IsLeastOf is_before (λ q. is_before (key, n) q ≡ true) pairs found → Contains pairs (key, n + 1) → found ≡ Some (key, n + 1)
-found_at pairs key n None orders least there = absurd (each_in (λ y. is_before (key, n) y ≡ true → ⊥) pairs least (key, n + 1) there (orders.by_record key n (n + 1) (omega arith)))
-found_at pairs key n (Some q) orders least there =
-    let up : is_before (key, n + 1) q ≡ false = each_in (λ y. is_before (key, n) y ≡ true → is_before y q ≡ false) pairs least.least (key, n + 1) there (orders.by_record key n (n + 1) (omega arith)) in
-    let down : is_before q (key, n + 1) ≡ false = elim (is_before q (key, n + 1)) as (λ b. is_before q (key, n + 1) ≡ b → b ≡ false) [ true ↦ λ e. absurd (between key n q least.fits e) | false ↦ λ e. refl ] refl in
-    ap Some (orders.strict.total q (key, n + 1) down up)
+one_longer : (xs : List Pair) (q : Pair) → length (xs ++ q ∷ []) ≡ length xs + 1
+one_longer [] q = refl
+one_longer (x ∷ xs) q = omega (arith, one_longer xs q)
 
--- the nearest pair after a number is that of the next number, just where that is listed
-pub next_found : (pairs : List Pair) (key : List ℕ) (n : ℕ) (found : Option Pair) → OrdersPairs → FindsNearest pairs → found ≡ first (above is_before (key, n) pairs) → (found ≡ Some (key, n + 1)) ↔ Contains pairs (key, n + 1)
-next_found pairs key n found orders finds e =
-    let least : IsLeastOf is_before (λ q. is_before (key, n) q ≡ true) pairs found = subst (IsLeastOf is_before (λ q. is_before (key, n) q ≡ true) pairs) (sym e) (finds.next (key, n)) in
-    (λ f. (subst (IsLeastOf is_before (λ q. is_before (key, n) q ≡ true) pairs) f least).there, found_at pairs key n found orders least)
+pub walk_goes : (index pairs : List Pair) (k : ℕ) (q : Pair) (next : Option Pair) → MeetsEach pairs → Walked index pairs k (Some q) → Contains index q → next ≡ first (above is_before q pairs) → Walked index pairs (k + 1) next
+walk_goes index pairs k q next meets w there e = record {
+  met = w.met ++ q ∷ [];
+  left = above is_before q pairs;
+  whole = w.whole ∙ ap (λ zs. w.met ++ zs) (w.on q refl) ∙ one_more w.met q (above is_before q pairs);
+  here = e;
+  on = λ p f. meets.next q p (sym e ∙ f);
+  each = each_more (Contains index) w.met q w.each there;
+  count = omega (arith, one_longer w.met q, w.count);
+}
+
+there_between : (xs : List Pair) (q : Pair) (ys : List Pair) → Contains (xs ++ q ∷ ys) q
+there_between [] q ys = (0, omega arith, refl)
+there_between (x ∷ xs) q ys = let c = there_between xs q ys in (suc c.0, omega (arith, c.1), c.2)
+
+-- what is next is in the list
+pub next_is_there : (index pairs : List Pair) (k : ℕ) (q : Pair) → Walked index pairs k (Some q) → Contains pairs q
+next_is_there index pairs k q w = subst (λ (ps : List Pair). Contains ps q) (sym (w.whole ∙ ap (λ zs. w.met ++ zs) (w.on q refl))) (there_between w.met q (above is_before q pairs))
+
+length_both : (xs ys : List Pair) → length (xs ++ ys) ≡ length xs + length ys
+length_both [] ys = omega arith
+length_both (x ∷ xs) ys = omega (arith, length_both xs ys)
+
+none_first : (xs : List Pair) → None ≡ first xs → length xs ≡ 0
+none_first [] e = refl
+none_first (x ∷ xs) e = absurd (subst (λ (o : Option Pair). elim o as (λ _. Type 0) [ None ↦ Unit {0} | Some q ↦ ⊥ ]) e tt)
+
+-- the walk ends at the end of the list
+pub walk_ends : (index pairs : List Pair) (k : ℕ) → Walked index pairs k None → k < length pairs → ⊥
+walk_ends index pairs k w lt = omega (arith, lt, w.count, none_first w.left w.here, length_both w.met w.left, ap (λ (ps : List Pair). length ps) w.whole)
+
+each_whole : (P : Pair → Type 0) (xs ys : List Pair) → Each P xs → length ys ≡ 0 → Each P (xs ++ ys)
+each_whole P [] [] h e = tt
+each_whole P [] (y ∷ ys) h e = absurd (omega (arith, e))
+each_whole P (x ∷ xs) ys h e = (h.0, each_whole P xs ys h.1 e)
+
+-- and has met each pair where it met as many as there are
+pub walk_met_all : (index pairs : List Pair) (k : ℕ) (next : Option Pair) → Walked index pairs k next → length pairs ≤ k → Each (Contains index) pairs
+walk_met_all index pairs k next w le =
+    let e : length w.left ≡ 0 = omega (arith, le, w.count, length_both w.met w.left, ap (λ (ps : List Pair). length ps) w.whole) in
+    subst (λ (ps : List Pair). Each (Contains index) ps) (sym w.whole) (each_whole (Contains index) w.met w.left w.each e)
+
+-- ---- one pair
+
+-- a pair with the number of a row is one of the index where it has that row's key
+pub is_pair_of : (parts : List KeyPart) (rows : List Row) (p : Pair) (r : ℕ) → IsIndexList parts rows → r < length rows → p.1 ≡ r + 1 → (p.0 ≡ key_of parts (row_at rows r).texts) ↔ Contains (index_list parts rows) p
+unfolding row_pair
+is_pair_of parts rows (key, n) r law lt e = (
+  (λ f. subst (λ (q : Pair). Contains (index_list parts rows) q) (sym (ap (λ (z : List ℕ). (z, n)) f ∙ ap (λ (z : ℕ). (key_of parts (row_at rows r).texts, z)) e)) (law.listed r lt)),
+  (λ c. let w = law.only key n c in
+      let same : w.0 ≡ r = omega (arith, e, ap (λ (q : Pair). q.1) w.2) in
+      ap (λ (q : Pair). q.0) w.2 ∙ ap (λ (z : ℕ). key_of parts (row_at rows z).texts) same),
+)
+
+-- and none with another number is
+pub is_no_pair : (parts : List KeyPart) (rows : List Row) (p : Pair) → IsIndexList parts rows → (p.1 ≡ 0) ⊎ (length rows < p.1) → Contains (index_list parts rows) p → ⊥
+unfolding row_pair
+is_no_pair parts rows (key, n) law out c =
+    let w = law.only key n c in
+    let number : n ≡ w.0 + 1 = ap (λ (q : Pair). q.1) w.2 in
+    elim out as (λ _. ⊥) [ inl e ↦ omega (arith, e, number) | inr lt ↦ omega (arith, lt, number, w.1) ]
 
 pub iff_trans : {A B C : Type 0} → (A ↔ B) → (B ↔ C) → A ↔ C
 iff_trans f g = (λ a. g.0 (f.0 a), λ c. f.1 (g.1 c))

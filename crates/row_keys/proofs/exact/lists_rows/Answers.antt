@@ -1,29 +1,23 @@
-use Rattle.std.proofs.Common.{List, below_more, sym, ◌∙◌, subst, arith, refl}
-use Rattle.std.specs.List.{Contains}
-use Rattle.std.proofs.lemmas.Bool.{false≢true}
-use Rattle.ndx_tree.specs.Pairs.{Pair}
-use Rattle.row_keys.specs.Lists.{row_pair}
-use Rattle.row_keys.proofs.ExactLemmas.{lists_all, lists_each}
+use Rattle.std.proofs.Common.{◌≡◌, ◌≤◌, ℕ, Option, List, length, sym, ◌∙◌, ap, subst, arith, refl}
+use Rattle.ndx_tree.specs.Order.{above, first}
+use Rattle.ndx_tree.specs.Pairs.{Pair, is_before}
+use Rattle.row_keys.specs.Lists.{index_list}
+use Rattle.row_keys.proofs.ExactLemmas.{Walked, lists_all, walk_goes, walk_met_all}
 use Rattle.row_keys.proofs.exact.lists_rows.Goals as goal
 
-pub returns-then-not-has_row-clause-exact : goal.returns-then-not-has_row-clause-exact
-returns-then-not-has_row-clause-exact g c =
-    let rows = c.args.table.now.rows in
-    let key = c.args.key.now in
+pub loop-met-preserved : goal.loop-met-preserved
+loop-met-preserved g c =
     let pairs : List Pair = g.K.KeyList.pairs c.args.list.now in
-    let r = c.loop-r.r in
-    let absent = λ (there : Contains pairs (row_pair key rows r)). false≢true (sym c.if-not-has_row.true ∙ c.has_row.ensures.found.1 (subst (λ (ps : List Pair). Contains ps (row_pair key rows r)) (sym c.loop-r.invariant.pairs) there)) in
-    (λ f. absurd (false≢true f), λ e. absurd (lists_each key rows pairs r (c.index_lists.ensures key rows) (omega arith) absent e))
-
-pub loop-r-preserved : goal.loop-r-preserved
-loop-r-preserved g c =
-    let rows = c.args.table.now.rows in
-    let key = c.args.key.now in
-    let pairs : List Pair = g.K.KeyList.pairs c.args.list.now in
+    let there : List Pair = g.K.KeyList.pairs c.loop-met.list in
+    let index : List Pair = index_list c.args.key.now c.args.table.now.rows in
+    let q : Pair = c.in-Some.entry in
+    let walked = subst (λ (o : Option Pair). Walked index pairs c.loop-met.met o) c.in-Some.is c.loop-met.invariant.walked in
+    let found : c.after-next.result ≡ first (above is_before q pairs) =
+    c.after-next.ensures.found ∙ ap (λ (k : List ℕ). first (above is_before (k, c.number.result) there)) c.key.ensures.value ∙ ap (λ (n : ℕ). first (above is_before (q.0, n) there)) c.number.ensures ∙ ap (λ (ps : List Pair). first (above is_before q ps)) c.loop-met.invariant.pairs in
     record {
-      pairs = c.has_row.ensures.pairs ∙ c.loop-r.invariant.pairs;
-      form = c.has_row.ensures.form ∙ c.loop-r.invariant.form;
-      listed = below_more (λ k. Contains pairs (row_pair key rows k)) c.loop-r.r c.loop-r.invariant.listed (subst (λ (ps : List Pair). Contains ps (row_pair key rows c.loop-r.r)) c.loop-r.invariant.pairs (c.has_row.ensures.found.0 c.if-not-has_row.false));
+      pairs = c.after-next.ensures.pairs ∙ c.loop-met.invariant.pairs;
+      form = c.after-next.ensures.form ∙ c.loop-met.invariant.form;
+      walked = walk_goes index pairs c.loop-met.met q c.after-next.result (c.meets_each.ensures pairs c.len.ensures.sound.ordered) walked (c.is_row.ensures.0 c.if-not-is_row.false) found;
     }
 
 pub returns-clause-exact : goal.returns-clause-exact
@@ -31,4 +25,6 @@ returns-clause-exact g c =
     let rows = c.args.table.now.rows in
     let key = c.args.key.now in
     let pairs : List Pair = g.K.KeyList.pairs c.args.list.now in
-    (λ f. lists_all c.orders_pairs.ensures key rows (g.K.KeyList.form c.args.list.now) pairs (c.index_lists.ensures key rows) c.len.ensures.sound (sym c.len.ensures.count ∙ c.if-len-rows.false ∙ c.rows.ensures.count) (λ r lt. c.loop-r.invariant.listed r (omega arith)), λ e. refl)
+    let count : length pairs ≡ length rows = sym c.len.ensures.count ∙ c.if-len-rows.false ∙ c.rows.ensures.count in
+    let all : length pairs ≤ c.loop-met.met = omega (arith, count, c.loop-met-test.false, c.rows-met-end.ensures.count) in
+    (λ f. lists_all c.orders_pairs.ensures key rows pairs (c.index_lists.ensures key rows) c.len.ensures.sound.ordered count (walk_met_all (index_list key rows) pairs c.loop-met.met c.loop-met.next c.loop-met.invariant.walked all), λ e. refl)
