@@ -450,6 +450,8 @@ class Maker:
 
     def call(self):
         """The first parameter is a number, the second a text; a variable alone is handed over itself."""
+        if not self.has_procedure:
+            return self.show()
         first = ("name", "N1") if self.one_in(2) else ("both", "+", ("alias", "M", "N2"), ("is", whole(1)))
         second = ("name", "T1") if self.one_in(2) else ("is", self.word())
         return ("do", "TURN", [first, second])
@@ -534,6 +536,8 @@ class Maker:
         return ["P1", "P2"], body[:1] + [stop] + body[1:] + [("show", True, [("name", "P1"), ("name", "P2")])]
 
     def program(self):
+        """Every second program has a procedure; where there is none, the compiler judges the layout of the whole file."""
+        self.has_procedure = self.one_in(2)
         begin = [("assign", name, ("is", whole(1))) for name in NAMES[COUNT]]
         begin += [("assign", name, ("is", "Ab")) for name in NAMES[TEXT]]
         begin += [("assign", name, ("is", True)) for name in NAMES[TRUTH]]
@@ -544,7 +548,7 @@ class Maker:
             if self.here() and self.one_in(3):
                 body += [self.move(), self.look()]
         last = [("show", True, [("alias", "M", name) for kind in NAMES for name in NAMES[kind]])]
-        return begin + body + last, {"TURN": self.turn()}
+        return begin + body + last, {"TURN": self.turn()} if self.has_procedure else {}
 
 
 def source(commands, procedures):

@@ -15,4 +15,4 @@ pub mod verified;
 mod verifying;
 
 pub use verified::{Refused, Verified, VerifyError};
-pub use verifying::verify;
+pub use verifying::{begun, verify};

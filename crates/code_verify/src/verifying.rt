@@ -34,8 +34,8 @@ fn before<'a>(code: &'a Code, place: usize, incoming: &'a State) -> &'a State
     }
 }
 
-/// What is known before a place but for its map, given what the place before leaves.
-fn begun(alloc: Global, code: &Code, place: usize, left: State) -> Result<State, AllocError>
+/// What is known before a place of a legal code but for its map, given what the place before leaves.
+pub fn begun(alloc: Global, code: &Code, place: usize, left: State) -> Result<State, AllocError>
     requires { IsCode code.now }
     ensures { IfOk result (λ state. state ≡ begun_at code.now (block_at_of code.now place) place left) }
 {

@@ -6,6 +6,8 @@ mod faults;
 #[cfg(test)]
 mod forms;
 #[cfg(test)]
+mod layout;
+#[cfg(test)]
 mod limits;
 #[cfg(test)]
 mod procedures;

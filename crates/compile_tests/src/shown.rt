@@ -15,7 +15,7 @@ use std::process::Abort;
 use std::test::Fail;
 use xvalue::Text;
 
-fn name_of(text: &[u8]) -> Name {
+pub(crate) fn name_of(text: &[u8]) -> Name {
     let mut name = ArrayVec::new();
     let _ = name.try_extend_from_slice(text);
     name
@@ -109,7 +109,10 @@ fn named(program: Program, name: &str) -> Program {
 }
 
 /// The files of a row: the main one, and behind `{NAME}` each further one; or how the fault of one is shown.
-fn programs_of(alloc: Global, row: &str) -> Result<Result<Vec<Program>, String>, AllocError> {
+pub(crate) fn programs_of(
+    alloc: Global,
+    row: &str,
+) -> Result<Result<Vec<Program>, String>, AllocError> {
     let mut programs = Vec::new(alloc);
     for file in row.split('{') {
         let (name, text) = file.split_once('}').unwrap_or(("MAIN", file));
@@ -169,6 +172,20 @@ fn compiled(alloc: Global, programs: &[Program]) -> Result<String, AllocError> {
             format!(in alloc; "{file} {line} {kind:?}")
         }
         Err(CompileRefusal::NoMemory) => String::from_str(alloc, "memory"),
+    }
+}
+
+/// The code of a row, if it has one.
+pub(crate) fn code_of(alloc: Global, row: &str) -> Result<Option<Verified>, AllocError> {
+    let Ok(programs) = programs_of(alloc, row)? else {
+        return Ok(None);
+    };
+    if programs.is_empty() {
+        return Ok(None);
+    }
+    match compile(alloc, &programs, &shape(alloc)?) {
+        Ok(verified) => Ok(Some(verified)),
+        Err(_) => Ok(None),
     }
 }
 

@@ -19,5 +19,5 @@ pub use laws::ways_merge;
 pub use lists::Lists;
 pub use merging::{is_selection_same, is_state_same, merged};
 pub use names::{Binding, Names, copy_of_name};
-pub use pool::{MOST_CONSTANTS, Pool};
+pub use pool::{MOST_CONSTANTS, Pool, is_same_constant};
 pub use settled::{LaidOut, lay};

@@ -18,7 +18,7 @@ pub struct Pool {
 }
 
 /// Whether two constants are written by the same bytes: 1 and 1.0 are not.
-fn is_same(one: &Value, two: &Value) -> bool
+pub fn is_same_constant(one: &Value, two: &Value) -> bool
     ensures same { result ≡ true → one.now ≡ two.now }
     ensures found { one.now ≡ two.now → result ≡ true }
 {
@@ -37,7 +37,7 @@ fn position(values: &[Value], value: &Value) -> Option<usize>
     ensures absent { IfNone result (Holds values.now value.now → ⊥) }
 {
     for (number, known) in values.iter().enumerate() {
-        if is_same(known, value) {
+        if is_same_constant(known, value) {
             return Some(number);
         }
     }

@@ -1,6 +1,8 @@
 //! The whole compiler.
 
 ghost use Rattle.std.specs.Prelude.{◌≡◌, ◌<◌, length, IfOk};
+ghost use Rattle.code_items.specs.Legal.{IsCode};
+ghost use Rattle.prg_compile.specs.Alone.{IsLaidAlone};
 
 use crate::calling::{end_copy, last_line};
 use crate::control::{Inside, commands};
@@ -9,6 +11,7 @@ use code_items::{Code, Shape};
 use code_verify::{Verified, VerifyError, verify};
 use prg_code::{Block, CompileError, CompileFault, CompileFaultKind, CompileRefusal, Names};
 use prg_commands::{Output, Work};
+use prg_laid::{LayoutFault, judge};
 use prg_parser::Program;
 use prg_writer::{ProcedureCopy, Source, Target, Writer, assemble, copy_of_shape};
 use std::alloc::{AllocError, Global};
@@ -54,8 +57,15 @@ fn begun(alloc: Global) -> Result<Writer, AllocError> {
     })
 }
 
+/// All that is written, and the variables of the main procedure.
+#[derive(Drop)]
+struct WrittenCode {
+    writer: Writer,
+    names: Names,
+}
+
 /// Writes all that is reached from the main procedure on.
-fn written(alloc: Global, s: &Source) -> Result<Writer, CompileRefusal> {
+fn written(alloc: Global, s: &Source) -> Result<WrittenCode, CompileRefusal> {
     let mut w = begun(alloc)?;
     let list = s.commands(MAIN);
     let at = Inside {
@@ -64,8 +74,9 @@ fn written(alloc: Global, s: &Source) -> Result<Writer, CompileRefusal> {
     };
     commands(s, &mut w, at, list, None)?;
     end_procedure(&mut w, last_line(list, 0))?;
+    let names = w.work.names.copied(alloc)?;
     end_copy(&mut w, 0, empty_work(alloc)?);
-    Ok(w)
+    Ok(WrittenCode { writer: w, names })
 }
 
 /// Why the code as a whole is refused.
@@ -77,12 +88,42 @@ fn whole(kind: CompileFaultKind) -> CompileRefusal {
     })
 }
 
-fn accepted(alloc: Global, code: Code) -> Result<Verified, CompileRefusal>
-    ensures { IfOk result (λ verified. verified ≡ code) }
+/// Limit where a single file without procedures isn't laid out in the code as its commands say, which no file is known to be.
+fn judged(
+    alloc: Global,
+    code: &Code,
+    programs: &[Program],
+    names: &Names,
+) -> Result<(), CompileRefusal>
+    requires { IsCode code.now }
+    ensures { IfOk result (λ _. IsLaidAlone code.now programs.now) }
+{
+    let [program] = programs else {
+        return Ok(());
+    };
+    if !program.procedures.is_empty() {
+        return Ok(());
+    }
+    match judge(alloc, code, names, &program.main) {
+        Ok(()) => Ok(()),
+        Err(LayoutFault::Otherwise) => Err(whole(CompileFaultKind::Limit)),
+        Err(LayoutFault::NoMemory) => Err(CompileRefusal::NoMemory),
+    }
+}
+
+fn accepted(
+    alloc: Global,
+    code: Code,
+    programs: &[Program],
+    names: &Names,
+) -> Result<Verified, CompileRefusal>
+    ensures same { IfOk result (λ verified. verified ≡ code) }
+    ensures laid { IfOk result (λ verified. IsLaidAlone verified programs.now) }
 {
     if !code.is_legal() {
         return Err(whole(CompileFaultKind::Limit));
     }
+    judged(alloc, &code, programs, names)?;
     match verify(alloc, code) {
         Ok(verified) => Ok(verified),
         Err(VerifyError::Refused(_)) => Err(whole(CompileFaultKind::Limit)),
@@ -91,7 +132,7 @@ fn accepted(alloc: Global, code: Code) -> Result<Verified, CompileRefusal>
 }
 
 /// The code of command files for tables and indexes of this shape; the first file is the main one. The code is accepted by
-/// the verifier.
+/// the verifier, and a single file without procedures is laid out in it as its commands say.
 ///
 /// # Errors
 ///
@@ -102,12 +143,16 @@ pub fn compile(
     shape: &Shape,
 ) -> Result<Verified, CompileRefusal>
     requires programs { 0 < length programs.now }
+    // The code is for the tables and indexes that are declared.
     ensures shape { IfOk result (λ verified. verified.declared.shape ≡ shape.now) }
+    // A single file without procedures is laid out as its commands say.
+    ensures laid { IfOk result (λ verified. IsLaidAlone verified programs.now) }
 {
     let copy = copy_of_shape(alloc, shape)?;
-    let Writer { out, copies, .. } = written(alloc, &Source { programs, shape })?;
+    let WrittenCode { writer, names } = written(alloc, &Source { programs, shape })?;
+    let Writer { out, copies, .. } = writer;
     match assemble(alloc, copy, out, &copies) {
-        Ok(code) => accepted(alloc, code),
+        Ok(code) => accepted(alloc, code, programs, &names),
         Err(error) => Err(error.at(0, 0)),
     }
 }

@@ -1,3 +1,4 @@
 pub mod Emitting
 pub mod Equations
 pub mod KindLists
+pub mod Placing

@@ -149,7 +149,7 @@ fn put_prefix(code: &mut Vec<Instr>, fun: Option<Fun>) -> Result<(), CompileErro
 }
 
 /// What an operator does between these operands.
-fn operation_of(
+pub fn operation_of(
     scope: &Scope,
     operator: prg_expr::Operator,
     left: &Expr,
@@ -166,7 +166,7 @@ fn operation_of(
 }
 
 /// The function of IIF with these arguments, if the function is IIF.
-fn choice_of(
+pub fn choice_of(
     scope: &Scope,
     function: Function,
     arguments: &[Expr],

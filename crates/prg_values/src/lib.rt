@@ -6,7 +6,9 @@ mod calls;
 mod compiling;
 mod kinds;
 mod operators;
+mod sameness;
 mod scope;
+mod standing;
 
 pub use compiling::{Compiled, compile_expr, with_kind};
 pub use kinds::kind_of;
@@ -15,3 +17,4 @@ pub use scope::{
     FieldPlace, Reading, Scope, area_of_alias, field_of, read_name, read_qualified, selected_field,
     table_named, variable_slot,
 };
+pub use standing::{Finished, Given, behind, behind_constant, given_at};

@@ -1,0 +1,106 @@
+// Codes that are judged beside commands: those that they were compiled from, and others.
+
+use crate::shown::{code_of, name_of, programs_of};
+use code_verify::Verified;
+use prg_code::Names;
+use prg_laid::{LayoutFault, judge};
+use prg_parser::Program;
+use std::alloc::{AllocError, Global};
+use std::process::Abort;
+use std::test::Fail;
+
+/// The variables of a row, each a letter, in slots from 0 on.
+fn names_of(alloc: Global, letters: &str) -> Result<Names, AllocError> {
+    let mut names = Names::new(alloc);
+    let mut slot = 0u8;
+    for letter in letters.as_bytes() {
+        names.add(&name_of(&[*letter]), slot, true)?;
+        slot = slot.saturating_add(1);
+    }
+    Ok(names)
+}
+
+fn said_of(
+    alloc: Global,
+    verified: &Verified,
+    programs: &[Program],
+    names: &Names,
+) -> Result<&'static str, AllocError> {
+    let code = verified.code();
+    let [program] = programs else {
+        return Ok("no program");
+    };
+    if !code.is_legal() {
+        return Ok("not legal");
+    }
+    match judge(alloc, code, names, &program.main) {
+        Ok(()) => Ok("laid"),
+        Err(LayoutFault::Otherwise) => Ok("otherwise"),
+        Err(LayoutFault::NoMemory) => Ok("memory"),
+    }
+}
+
+/// What the judge says of the code of the first program beside the commands of the second one.
+fn judged(
+    alloc: Global,
+    first: &str,
+    second: &str,
+    letters: &str,
+) -> Result<&'static str, AllocError> {
+    let Some(verified) = code_of(alloc, first)? else {
+        return Ok("no code");
+    };
+    match programs_of(alloc, second)? {
+        Ok(programs) => said_of(alloc, &verified, &programs, &names_of(alloc, letters)?),
+        Err(_) => Ok("no commands"),
+    }
+}
+
+/// Each row has a program, `|`, another one, `|`, letters of variables, `|`, and what is said.
+fn expect(rt: &impl Abort, alloc: Global, table: &str) -> Result<(), Fail> {
+    for row in table.lines() {
+        let (first, rest) = row.split_once('|').ok_or("no row")?;
+        let (second, rest) = rest.split_once('|').ok_or("no row")?;
+        let (letters, wanted) = rest.split_once('|').ok_or("no row")?;
+        let found = judged(alloc, first, second, letters)?;
+        assert!(rt; found == wanted, "{row}: {found}");
+    }
+    Ok(())
+}
+
+#[test]
+fn codes_of_their_commands(rt: HostRuntime) -> Result<(), Fail> {
+    expect(
+        &rt,
+        rt.alloc(),
+        "X = 1^? X|X = 1^? X|X|laid
+IF .T.^? 1^ELSE^? 2^ENDIF|IF .T.^? 1^ELSE^? 2^ENDIF||laid
+DO WHILE .T.^LOOP^ENDDO|DO WHILE .T.^LOOP^ENDDO||laid
+USE AA^SCAN FOR N > 1^LOOP^ENDSCAN|USE AA^SCAN FOR N > 1^LOOP^ENDSCAN||laid
+USE AA^SET FILTER TO N > 1|USE AA^SET FILTER TO N > 1||laid
+X = 1^@ 1, 1 GET X^READ|X = 1^@ 1, 1 GET X^READ|X|laid
+RETURN^? 1|RETURN^? 2||laid",
+    )
+}
+
+#[test]
+fn codes_of_other_commands(rt: HostRuntime) -> Result<(), Fail> {
+    expect(
+        &rt,
+        rt.alloc(),
+        "X = 1^? X|X = 1|X|otherwise
+X = 1|X = 1^? X|X|otherwise
+X = 1|X = 1||otherwise
+X = 1^Y = 2|Y = 1^X = 2|XY|otherwise
+IF .T.^? 1^ELSE^? 2^ENDIF|IF .T.^? 2^ELSE^? 1^ENDIF||otherwise
+IF .T.^? 1^ENDIF^? 2|IF .T.^? 1^? 2^ENDIF||otherwise
+DO WHILE .T.^EXIT^ENDDO|DO WHILE .T.^LOOP^ENDDO||otherwise
+? 1 - 2|? 2 - 1||otherwise
+? 1 <= 2|? 1 < 2||otherwise
+? STR(1)|? STR(1, 10, 1)||otherwise
+USE AA^DELETE|USE AA^RECALL||otherwise
+USE AA^SET FILTER TO N > 1|USE AA^SET FILTER TO N > 2||otherwise
+USE AA INDEX AK|USE AA INDEX AU||otherwise
+DO P^PROCEDURE P^? 1|DO P||otherwise",
+    )
+}

@@ -1,0 +1,30 @@
+-- What is told of what was found.
+use Rattle.std.proofs.Common.{◌≡◌, ℕ, List, [], ◌∷◌, ◌++◌, map, Option, Some, None, Result, Ok, Err, IfSome, IfOk, Bool, true, false, sym, subst, ap, ◌∙◌, refl}
+use Rattle.std.specs.Prelude.{is_some, option_map}
+use Rattle.prg_line.specs.Act.{Act}
+use Rattle.prg_parser.specs.Commands.{Cmd, Single}
+use Rattle.prg_laid.specs.Acts.{is_end}
+use Rattle.prg_laid.specs.Choices.{Finishes}
+use Rattle.prg_laid.specs.Commands.{Laid, ends}
+use Rattle.prg_laid.specs.Layout.{Laying}
+use Rattle.prg_laid.specs.declared.way.Leaps.{Leaps}
+use Rattle.prg_laid.specs.declared.way.Way.{Way}
+
+pub on_found : {A : Type 0} {P Q : A → Type 0} (r : Option A) → ((b : A) → P b → Q b) → IfSome r P → IfSome r Q
+on_found None f h = tt
+on_found (Some b) f h = f b h
+
+pub is_some_map : {A B : Type 0} (f : A → B) (o : Option A) → is_some (option_map f o) ≡ is_some o
+is_some_map f None = refl
+is_some_map f (Some a) = refl
+
+pub on_done : {A E : Type 0} {P Q : A → Type 0} (r : Result A E) → ((b : A) → P b → Q b) → IfOk r P → IfOk r Q
+on_done (Ok b) f h = f b h
+on_done (Err e) f h = tt
+
+-- the way that was made is the one that was meant
+pub way_as : {f : Laying} {l : Option Leaps} {gets : List (List ℕ)} {a : ℕ} {x : Cmd} {r w : Way} → r ≡ w → Laid f l gets a x w → Laid f l gets a x r
+way_as {f} {l} {gets} {a} {x} {r} {w} e h = subst (λ r. Laid f l gets a x r) (sym e) h
+
+pub finishes : (f : Laying) (l : Option Leaps) (a : ℕ) (act : Act) (w : Way) → is_end act ≡ true → Finishes f a w → (n : ℕ) → Laid f l [] a (Single n act) w
+finishes f l a act w is h n = way_as h.2 (ends is h.1)

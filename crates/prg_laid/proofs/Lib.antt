@@ -1,0 +1,4 @@
+pub mod Equations
+pub mod Finding
+pub mod Knowing
+pub mod Steps

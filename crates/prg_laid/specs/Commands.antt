@@ -1,0 +1,178 @@
+-- When a finished code is laid out as commands say: each command's instructions stand behind those of the one before, each jump
+-- leads to the place where the part begins that the command's form names, and what can't be reached makes no code.
+use Rattle.std.specs.Prelude.{◌≡◌, ℕ, suc, ◌+◌, Bool, true, false, ◌&&◌, ◌||◌, ◌==◌, not, List, [], ◌∷◌, Option, Some, None, slice_get, is_some, length}
+use Rattle.std.specs.List.{list_any}
+use Rattle.xvalue.specs.declared.kind.Kind.TheVariants as kind
+use Rattle.xvalue.specs.declared.fun.Fun.TheVariants.{Not}
+use Rattle.code_items.specs.declared.code.Code.{Code}
+use Rattle.code_items.specs.declared.code.Proc.{Proc}
+use Rattle.code_items.specs.declared.state.State.{State}
+use Rattle.code_items.specs.declared.instr.Question.TheVariants.{Eof}
+use Rattle.code_items.specs.declared.instr.ValueInstr.TheVariants.{Function}
+use Rattle.code_items.specs.declared.instr.FlowInstr.TheVariants.{Jump, JumpFalse, End}
+use Rattle.code_items.specs.declared.instr.MoveInstr.TheVariants.{Top, Skip}
+use Rattle.code_items.specs.declared.instr.RecordInstr.TheVariants.{Ask}
+use Rattle.code_items.specs.declared.instr.Instr.TheVariants.{Values, Flow, Moves, Records}
+use Rattle.code_rules.specs.Places.{state_at, block_at}
+use Rattle.code_rules.specs.declared.blocks.Block.{Block}
+use Rattle.prg_expr.specs.Tree.{Tree}
+use Rattle.prg_line.specs.Act.{Act, Letters, Loop, Exit}
+use Rattle.prg_parser.specs.Commands.{Cmd, Cmds, Cases, Part, Single, If, DoCase, DoWhile, Scan, Done, Then, Neither, When, Absent, Otherwise}
+use Rattle.prg_code.specs.declared.names.Binding.{Binding}
+use Rattle.prg_values.specs.Written.{whole as whole_number}
+use Rattle.prg_values.specs.Placed.{Stands}
+use Rattle.prg_laid.specs.declared.way.Leaps.{Leaps}
+use Rattle.prg_laid.specs.declared.way.Way.{Way}
+use Rattle.prg_laid.specs.Layout.{Laying, Gives}
+use Rattle.prg_laid.specs.Acts.{Does, Puts, is_end, is_none_waiting, may_wait, waiting}
+
+-- a command that ends at a place, and one whose end isn't reached
+abbrev pub to : ℕ → Way
+to place = record { place = place; on = true; again = false }
+
+abbrev pub stopped : ℕ → Bool → Way
+stopped place again = record { place = place; on = false; again = again }
+
+-- one way after another
+abbrev pub then_way : Way → Way → Way
+then_way v w = record { place = w.place; on = w.on; again = v.again || w.again }
+
+-- either of two ways
+abbrev pub either_way : Way → Way → Way
+either_way v w = record { place = w.place; on = v.on || w.on; again = v.again || w.again }
+
+-- a part that goes on at `out` where its end is reached
+abbrev pub Goes : Laying → ℕ → Bool → ℕ → ℕ → Type 0
+Goes f a false out b = b ≡ a
+Goes f a true out b = Stands f.text a (Flow (Jump out)) b
+
+-- a part of a choice goes on behind the choice, which the last one without ELSE or OTHERWISE does by itself
+abbrev pub Follows : Laying → Bool → ℕ → Bool → ℕ → ℕ → Type 0
+Follows f true a on out b = b ≡ a
+Follows f false a on out b = Goes f a on out b
+
+-- a condition, and where it leads if it doesn't hold
+abbrev pub Tests : Laying → ℕ → Tree → ℕ → ℕ → Type 0
+Tests f a e out b = (t : ℕ) × Gives f a e kind.Logical t × Stands f.text t (Flow (JumpFalse out)) b
+
+-- the condition of FOR
+abbrev pub Chooses : Laying → ℕ → Option Tree → ℕ → ℕ → Type 0
+Chooses f a None next b = b ≡ a
+Chooses f a (Some e) next b = Tests f a e next b
+
+-- whether there is a row
+abbrev pub HasRow : Laying → ℕ → ℕ → ℕ → Type 0
+HasRow f a out b = (m : ℕ) × (n : ℕ) × Stands f.text a (Records (Ask Eof)) m × Stands f.text m (Values (Function Not)) n × Stands f.text n (Flow (JumpFalse out)) b
+
+-- the next row of a SCAN and the way back, where they are reached
+abbrev pub Advances : Laying → ℕ → Bool → ℕ → ℕ → Type 0
+Advances f a false top b = b ≡ a
+Advances f a true top b = (m : ℕ) × (n : ℕ) × Puts f a (whole_number 1) m × Stands f.text m (Moves Skip) n × Stands f.text n (Flow (Jump top)) b
+
+-- they stand where LOOP leads
+abbrev pub Meets : Bool → ℕ → ℕ → Type 0
+Meets false a next = Unit {0}
+Meets true a next = a ≡ next
+
+-- whether nothing of a choice follows
+abbrev pub is_last : Cases → Part → Bool
+is_last Neither Absent = true
+is_last Neither (Otherwise n cs) = false
+is_last (When n e cs more) part = false
+
+-- whether a command may stand where these GETs wait for their READ
+abbrev pub may_stand : List Letters → Act → Bool
+may_stand gets act = may_wait act || is_none_waiting gets
+
+-- the GETs that wait behind a command
+abbrev pub waiting_behind : List Letters → Cmd → List Letters
+waiting_behind gets (Single n act) = waiting gets act
+waiting_behind gets _ = gets
+
+abbrev pub loop_act : Act
+loop_act = Loop
+
+abbrev pub exit_act : Act
+exit_act = Exit
+
+mutual
+  -- a command in a loop whose LOOP and EXIT lead there, or in none, where these GETs wait
+  pub data Laid (f : Laying) : Option Leaps → List Letters → ℕ → Cmd → Way → Type 0 where
+    does : {l : Option Leaps} {gets : List Letters} {a b n : ℕ} {act : Act} → may_stand gets act ≡ true → Does f gets a act b → Laid f l gets a (Single n act) (to b)
+    loops : {t : Leaps} {a b n : ℕ} → Stands f.text a (Flow (Jump t.again)) b → Laid f (Some t) [] a (Single n Loop) (stopped b true)
+    exits : {t : Leaps} {a b n : ℕ} → Stands f.text a (Flow (Jump t.out)) b → Laid f (Some t) [] a (Single n Exit) (stopped b false)
+    ends : {l : Option Leaps} {a b n : ℕ} {act : Act} → is_end act ≡ true → Stands f.text a (Flow End) b → Laid f l [] a (Single n act) (stopped b false)
+    -- IF is a choice of one case
+    chosen : {l : Option Leaps} {a n end : ℕ} {e : Tree} {cs : Cmds} {part : Part} {w : Way} → LaidCases f l w.place a (When n e cs Neither) part w → Laid f l [] a (If n e cs part end) w
+    cases : {l : Option Leaps} {a n end : ℕ} {cs : Cases} {part : Part} {w : Way} → LaidCases f l w.place a cs part w → Laid f l [] a (DoCase n cs part end) w
+    while : {l : Option Leaps} {a m b n end : ℕ} {e : Tree} {body : Cmds} {w : Way}
+        → Tests f a e b m → LaidAll f (Some (record { again = a; out = b })) [] m body w → Goes f w.place w.on a b
+        → Laid f l [] a (DoWhile n e body end) (to b)
+    scan : {l : Option Leaps} {a top r m b next n end : ℕ} {only_if : Option Tree} {body : Cmds} {w : Way}
+        → Stands f.text a (Moves Top) top → HasRow f top b r → Chooses f r only_if next m
+        → LaidAll f (Some (record { again = next; out = b })) [] m body w
+        → Meets (w.on || (w.again || is_some only_if)) w.place next → Advances f w.place (w.on || (w.again || is_some only_if)) top b
+        → Laid f l [] a (Scan n only_if body end) (to b)
+
+  -- commands one after another; those behind one whose end isn't reached make no code
+  pub data LaidAll (f : Laying) : Option Leaps → List Letters → ℕ → Cmds → Way → Type 0 where
+    done : {l : Option Leaps} {a : ℕ} → LaidAll f l [] a Done (to a)
+    more : {l : Option Leaps} {gets : List Letters} {a : ℕ} {c : Cmd} {cs : Cmds} {v w : Way} → Laid f l gets a c v → v.on ≡ true → LaidAll f l (waiting_behind gets c) v.place cs w → LaidAll f l gets a (Then c cs) (then_way v w)
+    cut : {l : Option Leaps} {gets : List Letters} {a : ℕ} {c : Cmd} {cs : Cmds} {v : Way} → Laid f l gets a c v → v.on ≡ false → LaidAll f l gets a (Then c cs) v
+
+  -- what is done otherwise
+  pub data LaidPart (f : Laying) : Option Leaps → ℕ → Part → Way → Type 0 where
+    absent : {l : Option Leaps} {a : ℕ} → LaidPart f l a Absent (to a)
+    otherwise : {l : Option Leaps} {a n : ℕ} {cs : Cmds} {w : Way} → LaidAll f l [] a cs w → LaidPart f l a (Otherwise n cs) w
+
+  -- cases, which go on at `out`
+  pub data LaidCases (f : Laying) : Option Leaps → ℕ → ℕ → Cases → Part → Way → Type 0 where
+    neither : {l : Option Leaps} {out a : ℕ} {part : Part} {w : Way} → LaidPart f l a part w → LaidCases f l out a Neither part w
+    when : {l : Option Leaps} {out a m next n : ℕ} {e : Tree} {cs : Cmds} {others : Cases} {part : Part} {v w : Way}
+        → Tests f a e next m → LaidAll f l [] m cs v → Follows f (is_last others part) v.place v.on out next → LaidCases f l out next others part w
+        → LaidCases f l out a (When n e cs others) part (either_way v w)
+
+-- ---- the whole
+
+-- END where the end is reached
+abbrev pub Closes : Laying → ℕ → Bool → ℕ → Type 0
+Closes f a false b = b ≡ a
+Closes f a true b = Stands f.text a (Flow End) b
+
+abbrev pub has_slot : ℕ → Binding → Bool
+has_slot slot b = b.slot == slot
+
+-- different variables have different slots
+abbrev pub slots_differ : List Binding → Bool
+slots_differ [] = true
+slots_differ (b ∷ bs) = not (list_any (has_slot b.slot) bs) && slots_differ bs
+
+-- what is known before places of the code
+abbrev pub AreKnown : Code → List State → Type 0
+AreKnown code known = (place : ℕ) (s : State) → slice_get known place ≡ Some s → s ≡ state_at code place
+
+-- the filters' blocks
+abbrev pub IsFilterBlock : Code → ℕ → Block → Type 0
+IsFilterBlock code n b = (b ≡ block_at code b.first) × (b.number ≡ length code.procedures + n)
+
+abbrev pub AreFilters : Code → List Block → Type 0
+AreFilters code filters = (n : ℕ) (b : Block) → slice_get filters n ≡ Some b → IsFilterBlock code n b
+
+-- commands from the first place on, and END up to this length where their end is reached
+abbrev pub IsWhole : Laying → Cmds → ℕ → Type 0
+IsWhole f cs length = (way : Way) × LaidAll f None [] 0 cs way × Closes f way.place way.on length
+
+-- what is known of a code with these slots of its variables
+abbrev pub laying_of : Code → List Binding → List State → List Block → Laying
+laying_of code names known filters = record { text = record { instrs = code.instructions; constants = code.declared.constants }; declared = code.declared; names = names; known = known; filters = filters }
+
+-- the main procedure of the code is laid out as the commands say, with these slots of the variables
+pub record IsLaid (code : Code) (names : List Binding) (cs : Cmds) : Type 0 where
+  pub known : List State
+  pub are_known : AreKnown code known
+  pub filters : List Block
+  pub are_filters : AreFilters code filters
+  pub slots : slots_differ names ≡ true
+  pub main : Proc
+  pub first : slice_get code.procedures 0 ≡ Some main
+  pub whole : IsWhole (laying_of code names known filters) cs main.length

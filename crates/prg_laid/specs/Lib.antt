@@ -1,0 +1,4 @@
+pub mod Acts
+pub mod Choices
+pub mod Commands
+pub mod Layout

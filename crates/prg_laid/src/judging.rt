@@ -1,0 +1,194 @@
+//! Whether the whole of a code is laid out as commands say.
+
+ghost use Rattle.std.specs.Prelude.{◌≡◌, ◌+◌, ◌<◌, true, length, slice_get, Some, IfOk, IfSome};
+ghost use Rattle.std.specs.List.{list_any};
+ghost use Rattle.code_items.specs.Legal.{IsCode};
+ghost use Rattle.code_rules.specs.Places.{instr_at, state_at, incoming_at, or_state, block_at as block_at_of, map_at as map_at_of};
+ghost use Rattle.prg_laid.specs.Commands as spec;
+ghost use Rattle.prg_laid.specs.Layout.{laying};
+ghost use Rattle.prg_parser.specs.Commands.{commands_of};
+
+use crate::control::way_of;
+use crate::fault::LayoutFault;
+use crate::layout::{Layout, after};
+use crate::way::Way;
+use code_items::code::places_of_blocks;
+use code_items::laws::legal_codes;
+use code_items::{Code, FlowInstr, Instr, Proc, State};
+use code_rules::blocks::{Block, block_at, map_at, start_of};
+use code_rules::flow::flow;
+use code_verify::begun;
+use prg_code::{Binding, Names};
+use prg_parser::Command;
+use prg_values::Finished;
+use std::alloc::{AllocError, Global};
+
+fn instr_of(code: &Code, place: usize) -> Instr
+    ensures { result ≡ instr_at code.now place }
+{
+    match code.instructions.as_slice().get(place) {
+        Some(instr) => *instr,
+        None => Instr::Flow(FlowInstr::End),
+    }
+}
+
+/// What is known before a place, given what flows into it.
+fn settled(alloc: Global, code: &Code, place: usize, incoming: State) -> Result<State, AllocError>
+    requires { IsCode code.now }
+    ensures { IfOk result (λ state. state ≡ or_state (map_at_of code.now place) incoming) }
+{
+    match map_at(code, place) {
+        Some(state) => state.copied(alloc),
+        None => Ok(incoming),
+    }
+}
+
+/// What flows into the next place, where this is known before a place that is one of the first so many.
+fn flowing(
+    alloc: Global,
+    code: &Code,
+    count: usize,
+    place: usize,
+    state: &State,
+) -> Result<State, AllocError>
+    requires legal { IsCode code.now }
+    requires known { state.now ≡ state_at code.now place }
+    requires within { place < count }
+    ensures { IfOk result (λ incoming. incoming ≡ incoming_at code.now (place + 1)) }
+{
+    let mut after = state.copied(alloc)?;
+    flow(alloc, code, instr_of(code, place), &mut after)?;
+    begun(alloc, code, place + 1, after)
+}
+
+/// What is known before each of the first so many places.
+fn known_places(alloc: Global, code: &Code, count: usize) -> Result<Vec<State>, AllocError>
+    requires { IsCode code.now }
+    ensures { IfOk result (λ known. spec.AreKnown code.now known.items) }
+{
+    let mut known = Vec::new(alloc);
+    let mut incoming = start_of(alloc, code, block_at(code, 0).number)?;
+    for place in 0..count {
+        let state = settled(alloc, code, place, incoming)?;
+        incoming = flowing(alloc, code, count, place, &state)?;
+        known.push(state)?;
+    }
+    Ok(known)
+}
+
+/// Whether the block, which the place is in, begins there and is that of the filter of this number, counted from 0.
+fn is_filter_block(code: &Code, place: usize, number: usize, block: Block) -> bool
+    requires { block ≡ block_at_of code.now place }
+    ensures { result ≡ true → spec.IsFilterBlock code.now number block }
+{
+    let procedures = code.procedures.len();
+    block.first == place && block.number >= procedures && block.number - procedures == number
+}
+
+/// The blocks of the filters.
+fn filter_blocks(alloc: Global, code: &Code) -> Result<Vec<Block>, LayoutFault>
+    requires { IsCode code.now }
+    ensures { IfOk result (λ filters. spec.AreFilters code.now filters.items) }
+{
+    legal_codes();
+    let mut filters = Vec::new(alloc);
+    let mut first = places_of_blocks(code.procedures.as_slice());
+    for number in 0..code.declared.filters.len() {
+        let block = block_at(code, first);
+        if !is_filter_block(code, first, number, block) {
+            return Err(LayoutFault::Otherwise);
+        }
+        first = block.end;
+        filters.push(block)?;
+    }
+    Ok(filters)
+}
+
+fn has_slot(slot: u8, binding: &Binding) -> bool
+    ensures { result ≡ spec.has_slot slot binding.now }
+{
+    binding.slot == slot
+}
+
+fn is_taken(slot: u8, bindings: &[Binding]) -> bool
+    ensures { result ≡ list_any (spec.has_slot slot) bindings.now }
+{
+    bindings.iter().any(|binding| has_slot(slot, binding))
+}
+
+/// Whether no two variables have one slot.
+fn do_slots_differ(bindings: &[Binding]) -> bool
+    ensures { result ≡ spec.slots_differ bindings.now }
+{
+    let mut rest = bindings;
+    while let Some((binding, others)) = rest.split_first() {
+        if is_taken(binding.slot, others) {
+            return false;
+        }
+        rest = others;
+    }
+    true
+}
+
+/// Whether the way ends at the length, with END where its end is reached.
+fn is_closed(l: &Layout, way: Way, length: usize) -> bool
+    ensures { result ≡ true → spec.Closes (laying l.now) way.place way.on length }
+{
+    if !way.on {
+        return way.place == length;
+    }
+    match after(l, way.place, Instr::Flow(FlowInstr::End)) {
+        Some(end) => end == length,
+        None => false,
+    }
+}
+
+fn is_whole(l: &Layout, list: &[Command], length: usize) -> Result<(), LayoutFault>
+    ensures { IfOk result (λ _. spec.IsWhole (laying l.now) (commands_of list.now) length) }
+{
+    let way = way_of(l, list)?;
+    if is_closed(l, way, length) {
+        Ok(())
+    } else {
+        Err(LayoutFault::Otherwise)
+    }
+}
+
+/// The main procedure.
+fn main_of(code: &Code) -> Option<&Proc>
+    ensures { IfSome result (λ main. slice_get code.now.procedures 0 ≡ Some main.now) }
+{
+    code.procedures.as_slice().get(0)
+}
+
+/// Says yes where the main procedure of a legal code is laid out as the commands say, its variables in these slots.
+///
+/// # Errors
+///
+/// `Otherwise` where it isn't, and where the commands call procedures or have parameters. Want of memory.
+pub fn judge(alloc: Global, code: &Code, names: &Names, list: &[Command]) -> Result<(), LayoutFault>
+    requires { IsCode code.now }
+    ensures { IfOk result (λ _. spec.IsLaid code.now names.now (commands_of list.now)) }
+{
+    let Some(main) = main_of(code) else {
+        return Err(LayoutFault::Otherwise);
+    };
+    if !do_slots_differ(names.bindings()) {
+        return Err(LayoutFault::Otherwise);
+    }
+    let length = usize::from(main.length);
+    let known = known_places(alloc, code, length)?;
+    let filters = filter_blocks(alloc, code)?;
+    let layout = Layout {
+        alloc,
+        text: Finished {
+            instrs: code.instructions.as_slice(),
+            constants: code.declared.constants.as_slice(),
+        },
+        declared: &code.declared,
+        names,
+        known: &known,
+        filters: &filters,
+    };
+    is_whole(&layout, list, length)
+}

@@ -1,0 +1,17 @@
+//! Whether finished code is laid out as commands say: each command's instructions stand behind those of the command before, and
+//! each jump leads to the part that the command's form names.
+#![tactic(auto)]
+
+mod areas;
+mod control;
+mod fault;
+mod judging;
+mod layout;
+mod records;
+mod screen;
+mod statement;
+mod variables;
+mod way;
+
+pub use crate::fault::LayoutFault;
+pub use crate::judging::judge;
