@@ -1,15 +1,15 @@
 -- The tree of each command, and that of a list of commands or cases behind its first one.
-use Rattle.std.proofs.Common.{◌≡◌, ℕ, suc, ◌+◌, ◌<◌, List, [], ◌∷◌, drop, get_or, length, map, option_map, Vec, Global, Option, Some, None, sym, ap, ◌∙◌, add-one}
+use Rattle.std.proofs.Common.{◌≡◌, ℕ, suc, ◌+◌, ◌<◌, List, drop, get_or, length, option_map, Vec, Global, Option, Some, None, sym, ap, ◌∙◌, add-one}
 use Rattle.std.proofs.Math.Seq.{drop-cons}
 use Rattle.prg_expr.specs.Tree.{tree_of}
 use Rattle.prg_expr.specs.declared.tree.Expr.{Expr}
 use Rattle.prg_line.specs.Act.{act_of}
 use Rattle.prg_line.specs.declared.statement.Statement.{Statement as Line}
-use Rattle.prg_parser.specs.Commands.{Cmd, Cmds, Cases, Part, Single, If, DoCase, DoWhile, Scan, Then, When, Otherwise, form_node, branch_node, case_node, command_node, form_of, command_of, case_of, branch_of, commands_of, cases_of, part_of}
+use Rattle.prg_parser.specs.Commands.{Cmd, Cases, Part, Single, If, DoCase, DoWhile, Scan, Then, When, Otherwise, form_node, branch_node, case_node, command_node, form_of, command_of, case_of, branch_of, commands_of, cases_of, part_of}
 use Rattle.prg_parser.specs.declared.command.Branch.{Branch}
 use Rattle.prg_parser.specs.declared.command.Case.{Case}
 use Rattle.prg_parser.specs.declared.command.Command.{Command}
-use Rattle.prg_parser.specs.declared.command.Form.{Form, Form-F, fold-roll-Form}
+use Rattle.prg_parser.specs.declared.command.Form.{Form-F, fold-roll-Form}
 use Rattle.prg_parser.specs.declared.command.Form.TheFolds.{fold_out-Command, fold_out-Case, fold_out-Branch}
 use Rattle.prg_parser.specs.declared.command.Form.TheVariants as form
 use Rattle.prg_parser.specs.declared.command.Form.TheViews.{out-Case, out-Branch}

@@ -1,5 +1,5 @@
 -- What is told of what was found.
-use Rattle.std.proofs.Common.{◌≡◌, ℕ, List, [], ◌∷◌, ◌++◌, map, Option, Some, None, Result, Ok, Err, IfSome, IfOk, Bool, true, false, sym, subst, ap, ◌∙◌, refl}
+use Rattle.std.proofs.Common.{◌≡◌, ℕ, List, [], Option, Some, None, Result, Ok, Err, IfSome, IfOk, true, sym, subst, refl}
 use Rattle.std.specs.Prelude.{is_some, option_map}
 use Rattle.prg_line.specs.Act.{Act}
 use Rattle.prg_parser.specs.Commands.{Cmd, Single}

@@ -1,20 +1,20 @@
 -- What was looked at is laid.
-use Rattle.std.proofs.Common.{◌≡◌, ℕ, suc, ◌+◌, ◌<◌, ◌≤◌, drop, get_or, length, List, [], ◌∷◌, map, option_map, Option, Some, None, Bool, true, false, nat_eq, sym, ap, ◌∙◌, subst, refl, add-one, arith, inl, inr, ◌⊎◌}
+use Rattle.std.proofs.Common.{◌≡◌, ℕ, suc, ◌+◌, ◌<◌, ◌≤◌, drop, get_or, length, List, [], ◌∷◌, Option, Some, None, Bool, true, false, nat_eq, sym, ap, ◌∙◌, subst, refl, arith, inl, inr, ◌⊎◌}
 use Rattle.std.proofs.Math.Seq.{drop-cons}
 use Rattle.std.proofs.Math.Nat.{eq-or-lt_of_le}
 use Rattle.std.proofs.lemmas.Bool.Decides.{nat_tests}
 use Rattle.std.proofs.lemmas.List.{drop_all}
-use Rattle.std.specs.Prelude.{◌||◌, ◌&&◌, is_none, is_some, not}
+use Rattle.std.specs.Prelude.{◌||◌, ◌&&◌, is_some, not}
 use Rattle.prg_expr.specs.Tree.{Tree, tree_of}
 use Rattle.prg_line.specs.Act.{Letters}
-use Rattle.prg_parser.specs.Commands.{Cmd, Cmds, Cases, Part, If, DoCase, DoWhile, Scan, Then, When, Neither, Absent, Otherwise, command_of, commands_of, cases_of, part_of, case_of, branch_of}
+use Rattle.prg_parser.specs.Commands.{Cmds, Cases, Part, If, DoCase, DoWhile, Scan, Then, When, Neither, Absent, Otherwise, command_of, commands_of, cases_of, part_of}
 use Rattle.prg_parser.specs.declared.command.Branch.{Branch}
 use Rattle.prg_parser.specs.declared.command.Case.{Case}
 use Rattle.prg_parser.specs.declared.command.Command.{Command}
 use Rattle.prg_parser.specs.declared.command.Form.TheViews.{out-Case, out-Branch}
 use Rattle.prg_laid.specs.Acts.{is_none_waiting}
 use Rattle.prg_laid.specs.Choices.{Told, Looked, Chains, ComesBack, is_absent}
-use Rattle.prg_laid.specs.Commands.{Laid, LaidAll, LaidCases, LaidPart, chosen, cases, more, cut, done, when, otherwise, absent, neither, then_way, either_way, to, Follows, Goes, Tests, Chooses, HasRow, Meets, Advances, while, scan, is_last, waiting_behind}
+use Rattle.prg_laid.specs.Commands.{Laid, LaidAll, LaidCases, LaidPart, chosen, cases, more, cut, done, when, otherwise, neither, then_way, either_way, to, Follows, Goes, Tests, Chooses, HasRow, Advances, while, scan, is_last, waiting_behind}
 use Rattle.prg_laid.specs.Layout.{Laying}
 use Rattle.prg_laid.specs.declared.control.ChoicePart.{ChoicePart}
 use Rattle.prg_laid.specs.declared.control.Test.{Test}

@@ -1,5 +1,5 @@
 -- What stands in a code for each command of one line, from a place up to another.
-use Rattle.std.specs.Prelude.{◌≡◌, ℕ, zero, suc, ◌+◌, Bool, true, false, ◌||◌, List, [], ◌∷◌, ◌++◌, map, Option, Some, None, slice_get, codes}
+use Rattle.std.specs.Prelude.{◌≡◌, ℕ, ◌+◌, Bool, true, false, List, [], ◌∷◌, ◌++◌, map, Option, Some, None, slice_get, codes}
 use Rattle.std.specs.Borrow.{Bor}
 use Rattle.std.specs.List.{AllZip}
 use Rattle.std.specs.Str.{bytes_eq}
@@ -17,7 +17,6 @@ use Rattle.code_items.specs.Desks.{open_at}
 use Rattle.code_items.specs.declared.declared.Filter.{Filter as FilterItem}
 use Rattle.code_items.specs.declared.desk.OpenArea.{OpenArea}
 use Rattle.code_items.specs.declared.state.State.{State}
-use Rattle.code_items.specs.declared.instr.Question.TheVariants.{Eof}
 use Rattle.code_items.specs.declared.instr.ValueInstr.{ValueInstr}
 use Rattle.code_items.specs.declared.instr.ValueInstr.TheVariants as value_instr
 use Rattle.code_items.specs.declared.instr.ScreenInstr.{ScreenInstr}
@@ -42,7 +41,7 @@ use Rattle.prg_values.specs.declared.scope.Reading.{Reading}
 use Rattle.prg_values.specs.Readings.{alias_area, field_here, table_named}
 use Rattle.prg_values.specs.Written.{Constant, whole}
 use Rattle.prg_values.specs.Placed.{Stands, StandAll, Leaves}
-use Rattle.prg_laid.specs.Layout.{Laying, Gives, Knows, Means, Reads, scope_in}
+use Rattle.prg_laid.specs.Layout.{Laying, Gives, Knows, Reads, scope_in}
 
 -- an instruction that puts a constant on the stack
 abbrev pub Puts : Laying → ℕ → Value → ℕ → Type 0

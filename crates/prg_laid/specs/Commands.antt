@@ -1,6 +1,6 @@
 -- When a finished code is laid out as commands say: each command's instructions stand behind those of the one before, each jump
 -- leads to the place where the part begins that the command's form names, and what can't be reached makes no code.
-use Rattle.std.specs.Prelude.{◌≡◌, ℕ, suc, ◌+◌, Bool, true, false, ◌&&◌, ◌||◌, ◌==◌, not, List, [], ◌∷◌, Option, Some, None, slice_get, is_some, length}
+use Rattle.std.specs.Prelude.{◌≡◌, ℕ, ◌+◌, Bool, true, false, ◌&&◌, ◌||◌, ◌==◌, not, List, [], ◌∷◌, Option, Some, None, slice_get, is_some, length}
 use Rattle.std.specs.List.{list_any}
 use Rattle.xvalue.specs.declared.kind.Kind.TheVariants as kind
 use Rattle.xvalue.specs.declared.fun.Fun.TheVariants.{Not}

@@ -1,9 +1,8 @@
 -- A finished code with what is known of it, and what stands in it from a place up to another.
-use Rattle.std.specs.Prelude.{◌≡◌, ℕ, Bool, true, false, List, Some, slice_get}
+use Rattle.std.specs.Prelude.{◌≡◌, ℕ, Bool, false, List, Some, slice_get}
 use Rattle.xvalue.specs.declared.kind.Kind.{Kind}
 use Rattle.code_items.specs.declared.declared.Declared.{Declared}
 use Rattle.code_items.specs.declared.state.State.{State}
-use Rattle.code_items.specs.declared.instr.Instr.{Instr}
 use Rattle.code_rules.specs.declared.blocks.Block.{Block}
 use Rattle.prg_expr.specs.Tree.{Tree}
 use Rattle.prg_code.specs.declared.names.Binding.{Binding}

@@ -1,4 +1,4 @@
-use Rattle.std.proofs.Common.{ℕ, map, length}
+use Rattle.std.proofs.Common.{map, length}
 use Rattle.std.specs.List.{AllZip}
 use Rattle.prg_laid.specs.Acts as acts
 use Rattle.prg_laid.specs.Layout.{laying}

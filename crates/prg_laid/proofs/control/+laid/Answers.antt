@@ -1,4 +1,4 @@
-use Rattle.std.proofs.Common.{rules, ◌≡◌, ℕ, [], List, Option, Some, None, sym, ap, ◌∙◌, subst, option_map}
+use Rattle.std.proofs.Common.{rules, [], Option, sym, ap, ◌∙◌, subst, option_map}
 use Rattle.prg_expr.specs.Tree.{tree_of}
 use Rattle.prg_parser.specs.Commands.{Cmd, Part, commands_of, cases_of, part_of, form_of}
 use Rattle.prg_parser.specs.declared.command.Branch.{Branch}
@@ -6,7 +6,7 @@ use Rattle.prg_laid.specs.Acts.{names_of}
 use Rattle.prg_laid.specs.Commands.{Laid, LaidAll, LaidPart, absent, either_way}
 use Rattle.prg_laid.specs.Layout.{laying}
 use Rattle.prg_laid.specs.declared.way.Way.{Way}
-use Rattle.prg_laid.proofs.Equations.{form_if, form_do_case, form_do_while, form_scan}
+use Rattle.prg_laid.proofs.Equations.{form_if, form_do_case, form_scan}
 use Rattle.prg_laid.proofs.Finding.{is_some_map, on_done, way_as}
 use Rattle.prg_laid.proofs.Steps.{turn, all_done, if_laid, case_laid, case_turn, cases_done, otherwise_laid, while_laid, scan_laid}
 use Rattle.prg_laid.proofs.control.+laid.Goals as goal

@@ -1,4 +1,4 @@
-use Rattle.std.proofs.Common.{◌≡◌, ◌+◌, ◌++◌, ◌∷◌, [], List, length, sym, subst, ap, ◌∙◌, rules, arith, length-append}
+use Rattle.std.proofs.Common.{List, length, sym, subst, ap, ◌∙◌, rules}
 use Rattle.code_rules.specs.declared.blocks.Block.{Block}
 use Rattle.prg_laid.specs.Commands.{AreFilters, IsFilterBlock}
 use Rattle.prg_laid.proofs.Knowing.{one_longer, one_more}

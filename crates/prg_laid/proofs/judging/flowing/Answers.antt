@@ -1,4 +1,4 @@
-use Rattle.std.proofs.Common.{◌≡◌, ◌+◌, ap, ◌∙◌}
+use Rattle.std.proofs.Common.{◌+◌, ap, ◌∙◌}
 use Rattle.code_rules.specs.Flow.{flow}
 use Rattle.code_rules.specs.Places.{begun, block_at, instr_at}
 use Rattle.prg_laid.proofs.Finding.{on_done}

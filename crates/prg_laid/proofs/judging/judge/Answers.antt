@@ -1,4 +1,4 @@
-use Rattle.std.proofs.Common.{◌≡◌, sym, rules}
+use Rattle.std.proofs.Common.{rules}
 use Rattle.prg_parser.specs.Commands.{commands_of}
 use Rattle.prg_laid.proofs.Finding.{on_done}
 use Rattle.prg_laid.proofs.Knowing.{whole_as}

@@ -1,4 +1,4 @@
-use Rattle.std.proofs.Common.{◌≡◌, ℕ, ◌+◌, ◌++◌, ◌∷◌, [], List, length, sym, subst, ap, ◌∙◌, rules}
+use Rattle.std.proofs.Common.{◌≡◌, ℕ, List, length, sym, subst, ap, ◌∙◌}
 use Rattle.code_items.specs.declared.state.State.{State}
 use Rattle.code_rules.specs.Places.{start_of, state_at, or_state, map_at}
 use Rattle.prg_laid.specs.Commands.{AreKnown}
