@@ -15,8 +15,8 @@ use Rattle.code_items.specs.declared.code.Code.{Code}
 use Rattle.code_items.specs.declared.instr.Instr.{Instr}
 use Rattle.code_parts.specs.Laws.{Spells, Any, TableFits, IndexFits, ListFits, IsLegalConstant, FilterFits, ProcedureFits, MapFits, IsLegalInstr}
 use Rattle.code_parts.specs.Texts.{table_text, index_text, list_text, constant_text, filter_text, procedure_text, map_text}
-use Rattle.code_parts.specs.Items.{table_at, index_at, list_at, constant_at, filter_at, procedure_at, map_at}
-use Rattle.code_parts.specs.Instructions.{instr_at, instr_text}
+use Rattle.code_parts.specs.Items.{table_at, index_at, list_at, constant_at, filter_at, procedure_at, map_read_at}
+use Rattle.code_parts.specs.Instructions.{instr_read_at, instr_text}
 use Rattle.code_file.specs.declared.header.Counts.{Counts}
 use Rattle.code_file.specs.declared.header.Header.{Header}
 use Rattle.code_file.specs.Decoding.{always, list_follows, filter_follows, declared_from, declared_at, procedure_follows, map_follows, code_from, body_at, whole_at}
@@ -34,8 +34,8 @@ pub record ItemLaws : Type 0 where
   pub constants : Spells constant_at constant_text IsLegalConstant IsLegalConstant
   pub filters : Spells filter_at filter_text FilterFits Any
   pub procedures : (version : Version) (slots : ℕ) → Spells (procedure_at version slots) procedure_text (ProcedureFits version slots) Any
-  pub maps : (version : Version) (slots : ℕ) → Spells (map_at version slots) map_text (MapFits version slots) Any
-  pub instructions : (version : Version) → Spells (instr_at version) instr_text (IsLegalInstr version) (IsLegalInstr version)
+  pub maps : (version : Version) (slots : ℕ) → Spells (map_read_at version slots) map_text (MapFits version slots) Any
+  pub instructions : (version : Version) → Spells (instr_read_at version) instr_text (IsLegalInstr version) (IsLegalInstr version)
 
 -- ---- what is declared
 

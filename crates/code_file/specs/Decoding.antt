@@ -22,8 +22,8 @@ use Rattle.code_items.specs.Legal.{is_procedure, is_map, places_of, blocks_of, b
 use Rattle.code_parts.specs.declared.flaw.Flaw.{Flaw}
 use Rattle.code_parts.specs.declared.flaw.Flaw.TheVariants.{Limit as OfLimit, Operation as OfOperation, Shape as OfShape}
 use Rattle.code_parts.specs.Reading.{Front, Reader, Judged, number_at}
-use Rattle.code_parts.specs.Items.{table_at, index_at, list_at, constant_at, filter_at, procedure_at, map_at}
-use Rattle.code_parts.specs.Instructions.{instr_at}
+use Rattle.code_parts.specs.Items.{table_at, index_at, list_at, constant_at, filter_at, procedure_at, map_read_at}
+use Rattle.code_parts.specs.Instructions.{instr_read_at}
 use Rattle.code_file.specs.declared.fault.CodeFault.{CodeFault}
 use Rattle.code_file.specs.declared.fault.CodeFault.TheVariants.{Magic, Version as OtherVersion, Short, Limit, Operation, Shape, Extra, Memory}
 use Rattle.code_file.specs.declared.header.Counts.{Counts}
@@ -181,8 +181,8 @@ code_from d p = record { declared = d; procedures = p.0; maps = p.1.0; instructi
 unfoldable pub body_at : Counts → Declared → Part Code
 body_at c d = shaped (
     joint (items_at (procedure_at d.version d.slots) (procedure_follows d) c.procedures []) (λ procedures.
-    joint (items_at (map_at d.version d.slots) (map_follows d) c.maps []) (λ maps.
-    items_at (instr_at d.version) always c.instructions []))) (code_from d)
+    joint (items_at (map_read_at d.version d.slots) (map_follows d) c.maps []) (λ maps.
+    items_at (instr_read_at d.version) always c.instructions []))) (code_from d)
 
 -- ---- the whole file
 

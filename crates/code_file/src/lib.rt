@@ -5,8 +5,8 @@
 
 mod decoding;
 mod encoding;
-pub mod fault;
-pub mod header;
+mod fault;
+mod header;
 mod judges;
 mod listing;
 mod sections;

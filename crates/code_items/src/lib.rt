@@ -8,15 +8,15 @@
 #![tactic(auto)]
 
 pub mod code;
-pub mod constants;
+mod constants;
 pub mod declared;
-pub mod desk;
+mod desk;
 pub mod instr;
-pub mod kind_slots;
-pub mod kind_stack;
-pub mod laid;
+mod kind_slots;
+mod kind_stack;
+mod laid;
 pub mod laws;
-pub mod state;
+mod state;
 
 pub use code::{Code, Map, Proc};
 pub use declared::{Declared, Filter, Need, Version};

@@ -26,7 +26,7 @@ use Rattle.code_parts.specs.declared.operands.Parts.{Parts}
 use Rattle.code_parts.specs.Laws.{Spells, IsLegalInstr}
 use Rattle.code_parts.specs.Texts.{kind_number, truth_number}
 use Rattle.code_parts.specs.Items.{wanted}
-use Rattle.code_parts.specs.Instructions.{setting_number, question_number, of_parts, parts_of, parts_text, instr_text, low_instr, flow_instr, area_instr, record_instr, screen_instr, any_instr, same_parts, is_just, instr_from, instr_at}
+use Rattle.code_parts.specs.Instructions.{setting_number, question_number, of_parts, parts_of, parts_text, instr_text, low_instr, flow_instr, area_instr, record_instr, screen_instr, any_instr, same_parts, is_just, instr_from, instr_read_at}
 use Rattle.code_parts.proofs.Combine.{pair_spells, made_spells, byte_spells}
 use Rattle.code_parts.proofs.Numbers.{two_spells, four_spells}
 use Rattle.code_parts.proofs.Choices.{both_true, both_from, wanted_ok, there_ok, kind_is}
@@ -224,8 +224,8 @@ was_made version p i e =
     let both = both_true (is_instr version j.0) (same_parts p (parts_of j.0)) w.0 in
     subst (λ (k : Instr). (parts_text p ≡ instr_text k) × IsLegalInstr version k) w.1 (parts_same p (parts_of j.0) both.1, both.0)
 
-pub instr_spells : NumbersAgree → (version : Version) → Spells (instr_at version) instr_text (IsLegalInstr version) (IsLegalInstr version)
-unfolding instr_at
+pub instr_spells : NumbersAgree → (version : Version) → Spells (instr_read_at version) instr_text (IsLegalInstr version) (IsLegalInstr version)
+unfolding instr_read_at
 instr_spells agree version = made_spells (pair_spells byte_spells (pair_spells byte_spells (pair_spells two_spells four_spells))) (λ p. instr_from version (of_parts p.0 p.1.0 p.1.1.0 p.1.1.1)) instr_text (IsLegalInstr version) (IsLegalInstr version)
     (λ p i h e. was_made version (of_parts p.0 p.1.0 p.1.1.0 p.1.1.1) i e)
     (λ i h. (((parts_of i).operation, ((parts_of i).a, ((parts_of i).b, (parts_of i).c))), (tt, (tt, fit version i h)), made_of agree version i h, refl))

@@ -19,7 +19,7 @@ use Rattle.code_parts.specs.declared.flaw.Flaw.TheVariants.{Shape, Limit}
 use Rattle.code_parts.specs.Reading.{Front, Reader, ◌>>=◌, behind, Judged, give, number_at, several, sure, byte_at, made_at}
 use Rattle.code_parts.specs.Laws.{Spells, Any, FilterFits, AreaFits, StateFits, ProcedureFits, MapFits}
 use Rattle.code_parts.specs.Texts.{two, kind_number, kind_text, slot_text, need_text, filter_text, area_number, open_text, area_text, state_text, procedure_text, map_text}
-use Rattle.code_parts.specs.Items.{kind_of_byte, need_from, need_at, needs_at, filter_at, open_from, open_at, area_behind, area_at, state_from, state_at, level_from, procedure_at, map_at}
+use Rattle.code_parts.specs.Items.{kind_of_byte, need_from, need_at, needs_at, filter_at, open_from, open_at, area_behind, area_at, state_from, state_read_at, level_from, procedure_at, map_read_at}
 use Rattle.code_parts.proofs.Combine.{behind_some, given, are_left, done, ok_is, steady_then, steady_give, pair_spells, made_spells, byte_spells, choice_spells}
 use Rattle.code_parts.proofs.Numbers.{steady_number, steady_several, several_spells, counted_spells, two_spells}
 use Rattle.code_parts.proofs.Choices.{all_any, both_true, wanted_ok, there_ok, kind_was, kind_is, if_spells}
@@ -153,8 +153,8 @@ state_again s = rw (reverse-reverse s.stack) refl
 state_spelled : (selected : ℕ) (areas : List AreaState) (slots : List (Option Kind)) (kinds : List Kind) → selected ∷ (flat_map area_text areas ++ (flat_map slot_text slots ++ (length kinds ∷ flat_map kind_text kinds))) ≡ state_text (state_from selected areas slots kinds)
 state_spelled selected areas slots kinds = rw (length-reverse kinds, reverse-reverse kinds) refl
 
-state_spells : (version : Version) (slots : ℕ) → Spells (state_at version slots) state_text (StateFits version slots) Any
-unfolding state_at
+state_spells : (version : Version) (slots : ℕ) → Spells (state_read_at version slots) state_text (StateFits version slots) Any
+unfolding state_read_at
 state_spells version slots = made_spells (pair_spells byte_spells (pair_spells (several_spells (area_spells version) 10) (pair_spells (several_spells slot_spells slots) (counted_spells kind_spells)))) (λ p. Ok (state_from p.0 p.1.0 p.1.1.0 p.1.1.1)) state_text (StateFits version slots) Any
     (λ p s fit e. (state_spelled p.0 p.1.0 p.1.1.0 p.1.1.1 ∙ ap state_text (ok_is (state_from p.0 p.1.0 p.1.1.0 p.1.1.1) s e), tt))
     (λ s h. ((s.desk.selected, (s.desk.areas, (s.slots, reverse s.stack))), (tt, ((h.ten, h.areas), ((h.known, all_any s.slots), all_any (reverse s.stack)))), ap (λ (x : State). done x) (state_again s), sym (state_spelled s.desk.selected s.desk.areas s.slots (reverse s.stack) ∙ ap state_text (state_again s))))
@@ -170,8 +170,8 @@ procedure_spells version slots = made_spells (pair_spells two_spells (pair_spell
     (λ p x fit e. let made : Proc = record { length = p.0; level = p.1.0; entry = p.1.1.0; exit = p.1.1.1 } in (ap procedure_text (ok_is made x e), tt))
     (λ x h. ((x.length, (x.level, (x.entry, x.exit))), (h.short, (h.level, (h.entry, h.exit))), refl, refl))
 
-pub map_spells : (version : Version) (slots : ℕ) → Spells (map_at version slots) map_text (MapFits version slots) Any
-unfolding map_at
+pub map_spells : (version : Version) (slots : ℕ) → Spells (map_read_at version slots) map_text (MapFits version slots) Any
+unfolding map_read_at
 map_spells version slots = made_spells (pair_spells two_spells (state_spells version slots)) (λ p. Ok (record { place = p.0; state = p.1 })) map_text (MapFits version slots) Any
     (λ p m fit e. let made : Map = record { place = p.0; state = p.1 } in (ap map_text (ok_is made m e), tt))
     (λ m h. ((m.place, m.state), (h.place, h.state), refl, refl))

@@ -222,5 +222,5 @@ is_just version p i = is_instr version i && same_parts p (parts_of i)
 unfoldable pub instr_from : Version → Parts → Judged Instr
 instr_from version p = there Operation (any_instr p) (λ i. wanted Operation (is_just version p i) i)
 
-unfoldable pub instr_at : Version → Reader (Judged Instr)
-instr_at version = made_at (pair_at (sure byte_at) (pair_at (sure byte_at) (pair_at (sure (number_at w16)) (sure (number_at w32))))) (λ p. instr_from version (of_parts p.0 p.1.0 p.1.1.0 p.1.1.1))
+unfoldable pub instr_read_at : Version → Reader (Judged Instr)
+instr_read_at version = made_at (pair_at (sure byte_at) (pair_at (sure byte_at) (pair_at (sure (number_at w16)) (sure (number_at w32))))) (λ p. instr_from version (of_parts p.0 p.1.0 p.1.1.0 p.1.1.1))

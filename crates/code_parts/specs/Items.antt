@@ -177,14 +177,14 @@ abbrev pub state_from : ℕ → List AreaState → List (Option Kind) → List K
 state_from selected areas slots kinds = record { desk = record { selected = selected; areas = areas }; slots = slots; stack = reverse kinds }
 
 -- the top of the stack stands last
-unfoldable pub state_at : Version → ℕ → Reader (Judged State)
-state_at version slots = made_at (pair_at (sure byte_at) (pair_at (several (area_at version) 10) (pair_at (several slot_at slots) (counted_at kind_at)))) (λ p. Ok (state_from p.0 p.1.0 p.1.1.0 p.1.1.1))
+unfoldable pub state_read_at : Version → ℕ → Reader (Judged State)
+state_read_at version slots = made_at (pair_at (sure byte_at) (pair_at (several (area_at version) 10) (pair_at (several slot_at slots) (counted_at kind_at)))) (λ p. Ok (state_from p.0 p.1.0 p.1.1.0 p.1.1.1))
 
 abbrev pub level_from : ℕ → Judged ℕ
 level_from level = wanted Limit (nat_le level 20) level
 
 unfoldable pub procedure_at : Version → ℕ → Reader (Judged Proc)
-procedure_at version slots = made_at (pair_at (sure (number_at w16)) (pair_at (made_at (sure byte_at) level_from) (pair_at (state_at version slots) (state_at version slots)))) (λ p. Ok (record { length = p.0; level = p.1.0; entry = p.1.1.0; exit = p.1.1.1 }))
+procedure_at version slots = made_at (pair_at (sure (number_at w16)) (pair_at (made_at (sure byte_at) level_from) (pair_at (state_read_at version slots) (state_read_at version slots)))) (λ p. Ok (record { length = p.0; level = p.1.0; entry = p.1.1.0; exit = p.1.1.1 }))
 
-unfoldable pub map_at : Version → ℕ → Reader (Judged Map)
-map_at version slots = made_at (pair_at (sure (number_at w16)) (state_at version slots)) (λ p. Ok (record { place = p.0; state = p.1 }))
+unfoldable pub map_read_at : Version → ℕ → Reader (Judged Map)
+map_read_at version slots = made_at (pair_at (sure (number_at w16)) (state_read_at version slots)) (λ p. Ok (record { place = p.0; state = p.1 }))

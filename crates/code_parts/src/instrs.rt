@@ -2,7 +2,7 @@
 
 ghost use Rattle.std.specs.Prelude.{◌≡◌};
 ghost use Rattle.code_parts.specs.Items.{truth_of_byte};
-ghost use Rattle.code_parts.specs.Instructions.{setting_of_byte, question_of_byte, asked as asked_by, set_to as set_by, low_instr as low_instr_of, flow_instr as flow_instr_of, area_instr as area_instr_of, record_instr as record_instr_of, screen_instr as screen_instr_of, any_instr as any_instr_of, instr_from as instr_from_parts, instr_at};
+ghost use Rattle.code_parts.specs.Instructions.{setting_of_byte, question_of_byte, asked as asked_by, set_to as set_by, low_instr as low_instr_of, flow_instr as flow_instr_of, area_instr as area_instr_of, record_instr as record_instr_of, screen_instr as screen_instr_of, any_instr as any_instr_of, instr_from as instr_from_parts, instr_read_at};
 
 use crate::fields::{byte_of, four_of, two_of};
 use crate::flaw::{Flaw, Unread};
@@ -205,9 +205,9 @@ pub struct Instrs {
 impl Reads for Instrs {
     type Thing = Instr;
 
-    ghost at = { λ s. instr_at s.version };
+    ghost at = { λ s. instr_read_at s.version };
 
-    #[tactic(auto, unfolding(crate::specs::Instructions::instr_at))]
+    #[tactic(auto, unfolding(crate::specs::Instructions::instr_read_at))]
     fn read<'a>(
         &self,
         _alloc: Global,

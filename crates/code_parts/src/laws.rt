@@ -4,8 +4,8 @@ ghost use Rattle.std.specs.Prelude.{ℕ, ◌<◌, ◌^◌};
 ghost use Rattle.std.specs.Int.{w16, w32, to_le_bytes};
 ghost use Rattle.code_parts.specs.Reading.{number_at, sure};
 ghost use Rattle.code_items.specs.declared.declared.Version.{Version as AnyVersion};
-ghost use Rattle.code_parts.specs.Items.{table_at, index_at, list_at, constant_at, filter_at, procedure_at, map_at};
-ghost use Rattle.code_parts.specs.Instructions.{instr_at, instr_text};
+ghost use Rattle.code_parts.specs.Items.{table_at, index_at, list_at, constant_at, filter_at, procedure_at, map_read_at};
+ghost use Rattle.code_parts.specs.Instructions.{instr_read_at, instr_text};
 ghost use Rattle.code_parts.specs.Texts.{table_text, index_text, list_text, constant_text, filter_text, procedure_text, map_text};
 ghost use Rattle.code_parts.specs.Laws.{Spells, Any, TableFits, IndexFits, ListFits, IsLegalConstant, FilterFits, ProcedureFits, MapFits, IsLegalInstr};
 
@@ -34,12 +34,12 @@ pub fn constants_and_filters_are_spelled()
 /// Procedures and maps with states of a version of so many slots likewise.
 pub fn procedures_and_maps_are_spelled()
     ensures procedures { (version : AnyVersion) (slots : ℕ) → Spells (procedure_at version slots) procedure_text (ProcedureFits version slots) Any }
-    ensures maps { (version : AnyVersion) (slots : ℕ) → Spells (map_at version slots) map_text (MapFits version slots) Any }
+    ensures maps { (version : AnyVersion) (slots : ℕ) → Spells (map_read_at version slots) map_text (MapFits version slots) Any }
 {}
 
 /// Legal instructions of a version likewise; an instruction that is read is legal.
 pub fn instructions_are_spelled()
-    ensures { (version : AnyVersion) → Spells (instr_at version) instr_text (IsLegalInstr version) (IsLegalInstr version) }
+    ensures { (version : AnyVersion) → Spells (instr_read_at version) instr_text (IsLegalInstr version) (IsLegalInstr version) }
 {
     functions_have_their_numbers();
 }

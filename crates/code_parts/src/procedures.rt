@@ -2,7 +2,7 @@
 
 ghost use Rattle.std.specs.Prelude.{◌≡◌, Ok};
 ghost use Rattle.code_parts.specs.Reading.{judge, both};
-ghost use Rattle.code_parts.specs.Items.{level_from as level_from_byte, procedure_at, map_at};
+ghost use Rattle.code_parts.specs.Items.{level_from as level_from_byte, procedure_at, map_read_at};
 
 use crate::fields::{byte_of, two_of};
 use crate::flaw::{Flaw, Unread};
@@ -80,9 +80,9 @@ pub struct Maps {
 impl Reads for Maps {
     type Thing = Map;
 
-    ghost at = { λ s. map_at s.states.version s.states.slots };
+    ghost at = { λ s. map_read_at s.states.version s.states.slots };
 
-    #[tactic(auto, unfolding(crate::specs::Items::map_at))]
+    #[tactic(auto, unfolding(crate::specs::Items::map_read_at))]
     fn read<'a>(
         &self,
         alloc: Global,

@@ -3,7 +3,7 @@
 ghost use Rattle.std.specs.Prelude.{◌≡◌, ◌<◌, Ok};
 ghost use Rattle.code_items.specs.States.{may_be_unsure as may_be_unsure_in};
 ghost use Rattle.code_parts.specs.Reading.{Gives, judge, both, in_list};
-ghost use Rattle.code_parts.specs.Items.{open_from as open_from_parts, open_at, area_at, state_from as state_from_parts, state_at};
+ghost use Rattle.code_parts.specs.Items.{open_from as open_from_parts, open_at, area_at, state_from as state_from_parts, state_read_at};
 
 use crate::fields::byte_of;
 use crate::flaw::{Flaw, Unread};
@@ -105,9 +105,9 @@ pub struct States {
 impl Reads for States {
     type Thing = State;
 
-    ghost at = { λ s. state_at s.version s.slots };
+    ghost at = { λ s. state_read_at s.version s.slots };
 
-    #[tactic(auto, unfolding(crate::specs::Items::state_at))]
+    #[tactic(auto, unfolding(crate::specs::Items::state_read_at))]
     fn read<'a>(
         &self,
         alloc: Global,

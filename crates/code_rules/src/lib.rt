@@ -9,7 +9,7 @@ pub mod blocks;
 pub mod flow;
 pub mod kinds;
 pub mod laws;
-pub mod rule;
+mod rule;
 pub mod signature;
 
 pub use rule::Rule;

@@ -11,7 +11,7 @@ mod here;
 mod procedures;
 mod rules;
 mod stacks;
-pub mod verified;
+mod verified;
 mod verifying;
 
 pub use verified::{Refused, Verified, VerifyError};

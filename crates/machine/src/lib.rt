@@ -3,8 +3,8 @@
 //! `run` takes the checking machine's steps and meets no fault; `resume` goes on where a run ended.
 #![tactic(auto)]
 
-pub mod banks;
-pub mod running;
+mod banks;
+mod running;
 
 pub use banks::Banks;
 pub use running::{resume, run};

@@ -7,16 +7,16 @@
 
 mod build;
 mod entries;
-pub mod entry;
+mod entry;
 mod fault;
 mod index_file;
-pub mod key_list;
+mod key_list;
 pub mod laws;
 mod lists;
 mod order;
 mod page;
 mod page_file;
-pub mod sorted_keys;
+mod sorted_keys;
 mod tree;
 mod walk;
 

@@ -9,9 +9,9 @@
 //! What follows of these lists from their definition is in `laws`.
 #![tactic(auto)]
 
-pub mod building;
+mod building;
 pub mod exact;
-pub mod index;
+mod index;
 pub mod laws;
 
 pub use building::{Kept, build, build_of, clear, keeps, pack};

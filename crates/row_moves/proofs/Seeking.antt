@@ -7,7 +7,7 @@ use Rattle.ndx_tree.specs.Laws.{MeetsEach, StandTogether, begins_with}
 use Rattle.ndx_tree.specs.Order.{Each, above, first}
 use Rattle.ndx_tree.specs.Pairs.{Pair, is_before, pairs_from}
 use Rattle.row_moves.specs.Moves.{is_blank, is_same, matching}
-use Rattle.row_moves.specs.Seeking.{begun, begun_or_none, fitted, front_run, starting}
+use Rattle.row_moves.specs.Seeking.{begun, begun_or_none, cut_or_filled, front_run, starting}
 use Rattle.row_moves.proofs.Steps.{Turn, turn_cons, each_listed, filter_each, first_each}
 
 pub starts_is : (start key : List ℕ) → starts_with nat_eq key start ≡ begins_with start key
@@ -76,11 +76,11 @@ starting_all start pairs t =
 
 -- ---- EXACT
 
-pub fitted_more : (n : ℕ) (text : List ℕ) → fitted (suc n) text ≡ fitted n text ++ get_or text n 32 ∷ []
-fitted_more zero [] = refl
-fitted_more zero (b ∷ text) = refl
-fitted_more (suc n) [] = ap (λ (bs : List ℕ). 32 ∷ bs) (fitted_more n [])
-fitted_more (suc n) (b ∷ text) = ap (λ (bs : List ℕ). b ∷ bs) (fitted_more n text)
+pub cut_or_filled_more : (n : ℕ) (text : List ℕ) → cut_or_filled (suc n) text ≡ cut_or_filled n text ++ get_or text n 32 ∷ []
+cut_or_filled_more zero [] = refl
+cut_or_filled_more zero (b ∷ text) = refl
+cut_or_filled_more (suc n) [] = ap (λ (bs : List ℕ). 32 ∷ bs) (cut_or_filled_more n [])
+cut_or_filled_more (suc n) (b ∷ text) = ap (λ (bs : List ℕ). b ∷ bs) (cut_or_filled_more n text)
 
 pub drop_all : (xs : List ℕ) (n : ℕ) → length xs ≤ n → drop n xs ≡ []
 drop_all [] zero le = refl
@@ -96,32 +96,32 @@ and_apart : (a b d : Bool) → (a && (b && d)) ≡ ((a && b) && d)
 and_apart true b d = refl
 and_apart false b d = refl
 
-blank_fitted : (key : List ℕ) → is_blank key ≡ begins_with (fitted (length key) []) key
-blank_fitted [] = refl
-blank_fitted (b ∷ key) = ap (λ t. eqb 32 b && t) (blank_fitted key)
+blank_cut_or_filled : (key : List ℕ) → is_blank key ≡ begins_with (cut_or_filled (length key) []) key
+blank_cut_or_filled [] = refl
+blank_cut_or_filled (b ∷ key) = ap (λ t. eqb 32 b && t) (blank_cut_or_filled key)
 
--- a key is the text but for blanks where it begins with the text, fitted to its length, and the text goes on blank
-same_fitted : (text key : List ℕ) → is_same text key ≡ (begins_with (fitted (length key) text) key && is_blank (drop (length key) text))
-same_fitted [] key = blank_fitted key ∙ and_true (begins_with (fitted (length key) []) key) ∙ ap (λ (bs : List ℕ). begins_with (fitted (length key) []) key && is_blank bs) (sym (drop_all [] (length key) (omega arith)))
-same_fitted (a ∷ text) [] = refl
-same_fitted (a ∷ text) (b ∷ key) = ap (λ t. eqb a b && t) (same_fitted text key) ∙ and_apart (eqb a b) (begins_with (fitted (length key) text) key) (is_blank (drop (length key) text))
+-- a key is the text but for blanks where it begins with the text, cut or filled to its length, and the text goes on blank
+same_cut_or_filled : (text key : List ℕ) → is_same text key ≡ (begins_with (cut_or_filled (length key) text) key && is_blank (drop (length key) text))
+same_cut_or_filled [] key = blank_cut_or_filled key ∙ and_true (begins_with (cut_or_filled (length key) []) key) ∙ ap (λ (bs : List ℕ). begins_with (cut_or_filled (length key) []) key && is_blank bs) (sym (drop_all [] (length key) (omega arith)))
+same_cut_or_filled (a ∷ text) [] = refl
+same_cut_or_filled (a ∷ text) (b ∷ key) = ap (λ t. eqb a b && t) (same_cut_or_filled text key) ∙ and_apart (eqb a b) (begins_with (cut_or_filled (length key) text) key) (is_blank (drop (length key) text))
 
-matching_each : (n : ℕ) (text : List ℕ) (pairs : List Pair) → Each (IsPairOf n) pairs → (b : Bool) → is_blank (drop n text) ≡ b → matching true text pairs ≡ cond b (begun (fitted n text) pairs) []
+matching_each : (n : ℕ) (text : List ℕ) (pairs : List Pair) → Each (IsPairOf n) pairs → (b : Bool) → is_blank (drop n text) ≡ b → matching true text pairs ≡ cond b (begun (cut_or_filled n text) pairs) []
 matching_each n text [] e true t = refl
 matching_each n text [] e false t = refl
 matching_each n text (p ∷ pairs) e true t =
-    let one : is_same text p.0 ≡ begins_with (fitted n text) p.0 = same_fitted text p.0 ∙ ap (λ k. begins_with (fitted k text) p.0 && is_blank (drop k text)) e.0.0 ∙ ap (λ b. begins_with (fitted n text) p.0 && b) t ∙ sym (and_true (begins_with (fitted n text) p.0)) in
+    let one : is_same text p.0 ≡ begins_with (cut_or_filled n text) p.0 = same_cut_or_filled text p.0 ∙ ap (λ k. begins_with (cut_or_filled k text) p.0 && is_blank (drop k text)) e.0.0 ∙ ap (λ b. begins_with (cut_or_filled n text) p.0 && b) t ∙ sym (and_true (begins_with (cut_or_filled n text) p.0)) in
     rw (one, matching_each n text pairs e.1 true t) refl
 matching_each n text (p ∷ pairs) e false t =
-    let one : is_same text p.0 ≡ false = same_fitted text p.0 ∙ ap (λ k. begins_with (fitted k text) p.0 && is_blank (drop k text)) e.0.0 ∙ ap (λ b. begins_with (fitted n text) p.0 && b) t ∙ and_false (begins_with (fitted n text) p.0) in
+    let one : is_same text p.0 ≡ false = same_cut_or_filled text p.0 ∙ ap (λ k. begins_with (cut_or_filled k text) p.0 && is_blank (drop k text)) e.0.0 ∙ ap (λ b. begins_with (cut_or_filled n text) p.0 && b) t ∙ and_false (begins_with (cut_or_filled n text) p.0) in
     rw one (matching_each n text pairs e.1 false t)
   where
     and_false : (a : Bool) → (a && false) ≡ false
     and_false true = refl
     and_false false = refl
 
-pub matching_fitted : (n : ℕ) (text : List ℕ) (pairs : List Pair) → Each (IsPairOf n) pairs → is_blank (drop n text) ≡ true → matching true text pairs ≡ begun (fitted n text) pairs
-matching_fitted n text pairs e t = matching_each n text pairs e true t
+pub matching_cut_or_filled : (n : ℕ) (text : List ℕ) (pairs : List Pair) → Each (IsPairOf n) pairs → is_blank (drop n text) ≡ true → matching true text pairs ≡ begun (cut_or_filled n text) pairs
+matching_cut_or_filled n text pairs e t = matching_each n text pairs e true t
 
 pub matching_none : (n : ℕ) (text : List ℕ) (pairs : List Pair) → Each (IsPairOf n) pairs → is_blank (drop n text) ≡ false → matching true text pairs ≡ []
 matching_none n text pairs e t = matching_each n text pairs e false t

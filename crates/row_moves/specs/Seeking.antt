@@ -5,10 +5,10 @@ use Rattle.ndx_tree.specs.Order.{above}
 use Rattle.ndx_tree.specs.Pairs.{Pair, is_before, pairs_from}
 
 -- a text cut to a length, or with blanks behind it up to that length
-abbrev pub fitted : ℕ → List ℕ → List ℕ
-fitted zero text = []
-fitted (suc n) [] = 32 ∷ fitted n []
-fitted (suc n) (b ∷ text) = b ∷ fitted n text
+abbrev pub cut_or_filled : ℕ → List ℕ → List ℕ
+cut_or_filled zero text = []
+cut_or_filled (suc n) [] = 32 ∷ cut_or_filled n []
+cut_or_filled (suc n) (b ∷ text) = b ∷ cut_or_filled n text
 
 -- a pair whose key begins so
 abbrev pub begun_or_none : List ℕ → Option Pair → Option Pair

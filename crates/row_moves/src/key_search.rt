@@ -8,7 +8,7 @@ ghost use Rattle.row_moves.specs.Orders.{MayTry, Sees};
 ghost use Rattle.row_moves.specs.Moves.{IsMove, IsScan, matching, sought};
 ghost use Rattle.row_moves.specs.Seeking.{begun, begun_or_none, starting};
 
-use crate::keys::{fitted, is_blank_behind};
+use crate::keys::{cut_or_filled, is_blank_behind};
 use crate::places::record_of;
 use crate::{Landed, Spent};
 use ndx_tree::laws::{meets_each, stand_together};
@@ -67,7 +67,7 @@ fn seek_matching<K: KeyList, F: Fn(u32) -> bool>(
     if !is_blank_behind(text, length) {
         return Ok((None, 1));
     }
-    seek_start(keys, fitted(text, length).as_slice(), see, budget)
+    seek_start(keys, cut_or_filled(text, length).as_slice(), see, budget)
 }
 
 // The first shown row whose key begins so. The rows met count to the cost, which is one before.

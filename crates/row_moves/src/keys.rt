@@ -2,14 +2,14 @@
 
 ghost use Rattle.std.specs.Prelude.{◌≡◌, ℕ, ◌≤◌, drop, slice_index_or};
 ghost use Rattle.row_moves.specs.Moves.{is_blank};
-ghost use Rattle.row_moves.specs.Seeking.{fitted};
+ghost use Rattle.row_moves.specs.Seeking.{cut_or_filled};
 
 use arrayvec::ArrayVec;
 
 /// The text cut to a length, or with blanks behind it up to that length.
-pub(crate) fn fitted(text: &[u8], length: usize) -> ArrayVec<u8, 100>
+pub(crate) fn cut_or_filled(text: &[u8], length: usize) -> ArrayVec<u8, 100>
     requires { length ≤ 100 }
-    ensures { result.items ≡ fitted length text.now }
+    ensures { result.items ≡ cut_or_filled length text.now }
 {
     let mut key = ArrayVec::new();
     for place in 0..length {

@@ -3,16 +3,16 @@
 //! carried out as by the machine that tests nothing.
 #![tactic(auto)]
 
-pub mod areas;
-pub mod blocks;
-pub mod faults;
-pub mod kinds;
-pub mod operands;
-pub mod places;
-pub mod running;
-pub mod scratch;
-pub mod soundness;
-pub mod world;
+mod areas;
+mod blocks;
+mod faults;
+mod kinds;
+mod operands;
+mod places;
+mod running;
+mod scratch;
+mod soundness;
+mod world;
 
 pub use running::run_checked;
 pub use world::World;

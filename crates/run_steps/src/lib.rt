@@ -1,17 +1,17 @@
 //! Steps of a run over tables: the world, what each instruction makes of it, and both machines' way through a code.
 #![tactic(auto)]
 
-pub mod ending;
-pub mod environment;
-pub mod fault;
-pub mod filtering;
-pub mod machine;
-pub mod on_areas;
-pub mod on_moves;
-pub mod on_records;
-pub mod on_screen;
-pub mod on_values;
-pub mod returns;
+mod ending;
+mod environment;
+mod fault;
+mod filtering;
+mod machine;
+mod on_areas;
+mod on_moves;
+mod on_records;
+mod on_screen;
+mod on_values;
+mod returns;
 pub mod running;
 
 pub use ending::{End, Outcome, Stop};

@@ -4,14 +4,14 @@
 //! without tags. Both stand for the same lists of values with their kinds.
 #![tactic(auto)]
 
-pub mod cells;
-pub mod pile;
-pub mod scratch;
-pub mod slots;
-pub mod stacks;
-pub mod tagged;
-pub mod untagged;
-pub mod values;
+mod cells;
+mod pile;
+mod scratch;
+mod slots;
+mod stacks;
+mod tagged;
+mod untagged;
+mod values;
 
 pub use cells::{Cell, Cells};
 pub use pile::{Pile, STACK_LIMIT};

@@ -5,14 +5,14 @@
 //! `IndexList::is_list`, and for a whole shape `Shape::is_legal`. `KeyParts` makes a row's key.
 #![tactic(auto)]
 
-pub mod indexes;
-pub mod items;
+mod indexes;
+mod items;
 pub mod laws;
-pub mod lists;
-pub mod names;
-pub mod parts;
-pub mod tables;
-pub mod whole;
+mod lists;
+mod names;
+mod parts;
+mod tables;
+mod whole;
 
 pub use indexes::IndexShape;
 pub use items::Items;

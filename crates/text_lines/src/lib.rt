@@ -1,8 +1,8 @@
 //! Lines of texts, and the lines that an operator typed.
 #![tactic(auto)]
 
-pub mod lines;
-pub mod typed;
+mod lines;
+mod typed;
 
 pub use lines::first_line;
 pub use typed::TypedLines;

@@ -1,6 +1,6 @@
 //! Tables in use in work areas.
 #![tactic(auto)]
 
-pub mod open_table;
+mod open_table;
 
 pub use open_table::{AppendError, OpenTable};

@@ -6,9 +6,9 @@
 
 pub mod handed;
 pub mod laws;
-pub mod store;
+mod store;
 mod tables;
-pub mod uses;
+mod uses;
 
 pub use store::Store;
 pub use uses::Use;

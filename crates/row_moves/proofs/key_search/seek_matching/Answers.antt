@@ -1,8 +1,8 @@
 use Rattle.std.proofs.Common.{◌∙◌, ◌+◌, List, sym, ap, subst, drop}
 use Rattle.ndx_tree.specs.Pairs.{Pair}
 use Rattle.row_moves.specs.Moves.{IsScan, first_shown, is_blank, matching, met}
-use Rattle.row_moves.specs.Seeking.{begun, fitted}
-use Rattle.row_moves.proofs.Seeking.{matching_fitted, matching_none}
+use Rattle.row_moves.specs.Seeking.{begun, cut_or_filled}
+use Rattle.row_moves.proofs.Seeking.{matching_cut_or_filled, matching_none}
 use Rattle.row_moves.proofs.key_search.seek_matching.Goals as goal
 
 pub returns-then-not-exact-clause-scan : goal.returns-then-not-exact-clause-scan
@@ -23,6 +23,6 @@ returns-clause-scan g c = λ shown sees.
     let pairs : List Pair = g.K.KeyList.pairs c.args.keys.now in
     let length = (g.K.KeyList.form c.args.keys.now).key_length in
     let more = ap (λ n. is_blank (drop n c.args.text.now)) (sym c.key_length-length.ensures) ∙ sym c.is_blank_behind.ensures ∙ c.if-not-is_blank_behind.false in
-    let all = ap (λ b. matching b c.args.text.now pairs) c.if-not-exact.false ∙ matching_fitted length c.args.text.now pairs c.requires.sound.keys more in
-    let key = c.as_slice.ensures.value ∙ c.fitted.ensures ∙ ap (λ n. fitted n c.args.text.now) c.key_length-length.ensures in
+    let all = ap (λ b. matching b c.args.text.now pairs) c.if-not-exact.false ∙ matching_cut_or_filled length c.args.text.now pairs c.requires.sound.keys more in
+    let key = c.as_slice.ensures.value ∙ c.cut_or_filled.ensures ∙ ap (λ n. cut_or_filled n c.args.text.now) c.key_length-length.ensures in
     subst (λ ps. IsScan shown ps 1 c.args.budget c.seek_start-2.result) (ap (λ bs. begun bs pairs) key ∙ sym all) (c.seek_start-2.ensures.scan shown sees)
