@@ -30,9 +30,9 @@ pub fn apply(fun: Fun, settings: Settings, arguments: &Arguments<'_>) -> Value
     }
 }
 
-/// The result of a function that gives a number.
+/// The result of a function that gives a number. It takes no memory.
 #[tactic(auto, unfolding(crate::specs::Functions::applied))]
-fn number_given(fun: Fun, arguments: &Arguments<'_>) -> Num
+pub fn number_given(fun: Fun, arguments: &Arguments<'_>) -> Num
     requires { gives_of fun ≡ Kind.Number }
     ensures { (settings : AnySettings) → Value.Number result ≡ applied fun settings (given arguments.now) }
 {
@@ -62,9 +62,9 @@ fn number_given(fun: Fun, arguments: &Arguments<'_>) -> Num
     }
 }
 
-/// The result of a function that gives a text.
+/// The result of a function that gives a text, under the settings. It takes no memory.
 #[tactic(auto, unfolding(crate::specs::Functions::applied))]
-fn text_given(fun: Fun, settings: Settings, arguments: &Arguments<'_>) -> Text
+pub fn text_given(fun: Fun, settings: Settings, arguments: &Arguments<'_>) -> Text
     requires { gives_of fun ≡ Kind.Text }
     ensures { Value.Text result ≡ applied fun settings (given arguments.now) }
 {
@@ -101,9 +101,9 @@ fn text_given(fun: Fun, settings: Settings, arguments: &Arguments<'_>) -> Text
     }
 }
 
-/// The result of a function that gives a date.
+/// The result of a function that gives a date. It takes no memory.
 #[tactic(auto, unfolding(crate::specs::Functions::applied))]
-fn date_given(fun: Fun, arguments: &Arguments<'_>) -> Day
+pub fn date_given(fun: Fun, arguments: &Arguments<'_>) -> Day
     requires { gives_of fun ≡ Kind.Date }
     ensures { (settings : AnySettings) → Value.Date result ≡ applied fun settings (given arguments.now) }
 {
@@ -116,9 +116,9 @@ fn date_given(fun: Fun, arguments: &Arguments<'_>) -> Day
     }
 }
 
-/// The result of a function that gives a truth value.
+/// The result of a function that gives a truth value, under the settings. It takes no memory.
 #[tactic(auto, unfolding(crate::specs::Functions::applied))]
-fn truth_given(fun: Fun, settings: Settings, arguments: &Arguments<'_>) -> bool
+pub fn truth_given(fun: Fun, settings: Settings, arguments: &Arguments<'_>) -> bool
     requires { gives_of fun ≡ Kind.Logical }
     ensures { Value.Logical result ≡ applied fun settings (given arguments.now) }
 {
