@@ -1,8 +1,9 @@
 //! Instructions on values, slots and settings.
 
-ghost use Rattle.std.specs.Prelude.{◌≡◌, Some};
+ghost use Rattle.std.specs.Prelude.{◌≡◌, ◌<◌, length, Some};
 ghost use Rattle.code_items.specs.declared.instr.Instr.TheVariants.{Values as OfValues};
-ghost use Rattle.run_values.specs.Tagged.{TaggedValues};
+ghost use Rattle.run_values.specs.Tagged.{TaggedValues, pushed};
+ghost use Rattle.xvalue.specs.declared.value.Value.TheVariants.{Date};
 ghost use Rattle.run_steps.specs.Effects.{whole_of, value_values, value_env};
 ghost use Rattle.run_steps.specs.Needs.{ValueNeeds};
 ghost use Rattle.run_steps.specs.Executed.{Executed};
@@ -13,7 +14,7 @@ use code_items::Code;
 use code_items::instr::ValueInstr;
 use ndx_tree::KeyList;
 use run_values::Values;
-use xvalue::Value;
+use xvalue::{Day, Value};
 
 /// The whole part of a number, 0 of the asterisk value.
 pub(crate) fn whole(value: &Value) -> i128
@@ -23,6 +24,14 @@ pub(crate) fn whole(value: &Value) -> i128
         Value::Number(number) => number.whole(),
         _ => 0,
     }
+}
+
+/// Puts a day on the stack. (Apart from the others, since a function's locals are zeroed on entry, and a value is large.)
+fn push_day<V: Values>(values: &mut V, day: Day)
+    requires { (t : TaggedValues) × (V.stands values.old t × (length t.stack < 64)) }
+    ensures { (t : TaggedValues) → V.stands values.old t → V.stands values.new (pushed (Date day) t) }
+{
+    values.push(Value::Date(day));
 }
 
 /// An instruction on values, slots and settings, which costs 1 and is never refused for another cause.
@@ -45,7 +54,7 @@ fn change_values<V: Values, K: KeyList>(
         ValueInstr::Unset(slot) => values.unset(usize::from(slot)),
         ValueInstr::Discard(kind) => values.discard(kind),
         ValueInstr::Function(fun) => values.call(fun, env.settings()),
-        ValueInstr::Today => values.push(Value::Date(env.today())),
+        ValueInstr::Today => push_day(values, env.today()),
         ValueInstr::Set(setting, on) => env.set(setting, on),
     }
 }
