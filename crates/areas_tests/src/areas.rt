@@ -2,7 +2,8 @@
 
 use crate::made::{list_of, plain_store, shape_of, store_of, table_of};
 use crate::play::{Answer, Call, Place, Shows, first_text, place_of, play};
-use ndx_tree::{KeyList, NdxTree, SortedKeys};
+use key_lists::{KeyList, SortedKeys};
+use ndx_tree::NdxTree;
 use shape::Shape;
 use std::alloc::{AllocError, Global};
 use std::test::Fail;

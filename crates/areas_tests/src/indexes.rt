@@ -9,7 +9,8 @@ ghost use Rattle.xvalue.specs.Kinds.{kind_of};
 
 use crate::made::table_of;
 use dbf_file::Table;
-use ndx_tree::{Entry, KeyList, NdxTree, SortedKeys};
+use key_lists::{Entry, KeyList, SortedKeys};
+use ndx_tree::NdxTree;
 use row_keys::{Index, Kept, KeyPart, KeyParts, append, build, clear, keeps, pack, replace};
 use shape::laws::fitting_keys_are_keys;
 use std::alloc::{AllocError, Global};

@@ -7,7 +7,7 @@ ghost use Rattle.xvalue.specs.Kinds.{kind_of};
 
 use arrayvec::ArrayVec;
 use dbf_file::{Field, Letter, Table, are_fields};
-use ndx_tree::KeyList;
+use key_lists::KeyList;
 use shape::{IndexShape, Items, KeyPart, KeyParts, Name, Shape, TableShape};
 use std::alloc::{AllocError, Global};
 use work_store::Store;

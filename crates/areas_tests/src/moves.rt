@@ -1,7 +1,8 @@
 // Moves in record order and by lists of keys of both kinds. Each answer comes at just its cost, and is refused below it.
 
-use ndx_tree::laws::changes_one;
-use ndx_tree::{Entry, KeyList, NdxTree, SortedKeys};
+use key_lists::laws::changes_one;
+use key_lists::{Entry, KeyList, SortedKeys};
+use ndx_tree::NdxTree;
 use row_moves::{Landed, Records, RowOrder, Spent, bottom, seek, skip, top};
 use std::alloc::{AllocError, Global};
 use std::test::Fail;

@@ -8,7 +8,7 @@ ghost use Rattle.work_store.specs.Areas.{here};
 ghost use Rattle.xvalue.specs.Kinds.{kind_of};
 
 use dbf_file::Table;
-use ndx_tree::KeyList;
+use key_lists::KeyList;
 use row_moves::Spent;
 use std::alloc::Global;
 use work_area::AppendError;

@@ -2,9 +2,9 @@
 use Rattle.std.proofs.Common.{◌≡◌, ℕ, ◌<◌, ◌+◌, List, [], ◌∷◌, ◌++◌, length, Option, Some, None, refl, sym, ap, ◌∙◌, append_assoc, arith}
 use Rattle.std.specs.Prelude.{true}
 use Rattle.std.specs.List.{flat_map}
-use Rattle.ndx_tree.specs.Order.{above, first}
-use Rattle.ndx_tree.specs.Pairs.{Pair, is_before}
-use Rattle.ndx_tree.specs.Laws.{MeetsEach}
+use Rattle.key_lists.specs.Order.{above, first}
+use Rattle.key_lists.specs.Pairs.{Pair, is_before}
+use Rattle.key_lists.specs.Laws.{MeetsEach}
 use Rattle.file_commands.specs.Lines.{pair_line}
 
 -- the pairs that the walk has still to meet

@@ -6,8 +6,8 @@ use Rattle.dbf_file.specs.declared.field.Field.{Field}
 use Rattle.dbf_file.specs.Fields.{code_of}
 use Rattle.dbf_file.specs.Rows.{Row}
 use Rattle.dbf_file.specs.Values.{value_of}
-use Rattle.ndx_tree.specs.KeyForm.{KeyForm}
-use Rattle.ndx_tree.specs.Pairs.{Pair}
+use Rattle.key_lists.specs.KeyForm.{KeyForm}
+use Rattle.key_lists.specs.Pairs.{Pair}
 use Rattle.screen_lines.specs.Roll.{shown_byte}
 use Rattle.xvalue.specs.Setting.{settings_off}
 use Rattle.xvalue.specs.Shown.{shown}

@@ -10,8 +10,8 @@ use Rattle.dbf_file.specs.declared.stamp.Stamp.{Stamp}
 use Rattle.dbf_file.specs.Rows.{Row}
 use Rattle.dbf_file.specs.Tables.{StructureState, DbfText}
 use Rattle.ndx_tree.specs.IndexFile.{IsIndexFile}
-use Rattle.ndx_tree.specs.KeyForm.{KeyForm}
-use Rattle.ndx_tree.specs.Pairs.{Pair}
+use Rattle.key_lists.specs.KeyForm.{KeyForm}
+use Rattle.key_lists.specs.Pairs.{Pair}
 
 -- what the file may hold is the text of a code
 pub record IsCodeFile (holds : Option (List ℕ) → Type 0) (code : Code) : Type 0 where

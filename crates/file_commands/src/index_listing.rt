@@ -12,8 +12,9 @@ use crate::lines::{put_decimal, put_right};
 use crate::reading::read_bytes;
 use crate::refusal::{Fault, Refusal};
 use file_access::Files;
-use ndx_tree::laws::meets_each;
-use ndx_tree::{Entry, KeyList, NdxTree, TreeFault};
+use key_lists::laws::meets_each;
+use key_lists::{Entry, KeyList};
+use ndx_tree::{NdxTree, TreeFault};
 use std::alloc::{AllocError, Global};
 
 #[tactic(auto, unfolding(crate::specs::Lines::key_line))]

@@ -3,8 +3,8 @@
 
 ghost use Rattle.std.specs.Prelude.{◌≡◌, ◌<◌, ◌≤◌, ◌+◌, ◌^◌, [], ◌∷◌, length, OnOk, IfOk};
 
-use ndx_tree::laws::changes_one;
-use ndx_tree::{Entry, KeyList, SortedKeys};
+use key_lists::laws::changes_one;
+use key_lists::{Entry, KeyList, SortedKeys};
 use std::alloc::{AllocError, Global};
 use std::test::Fail;
 

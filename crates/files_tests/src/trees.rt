@@ -1,11 +1,12 @@
 // Trees of pages beside sorted vectors, and index files byte for byte. Each call that takes memory is tried again where
 // it is refused, so that these tests also run with any one allocation refused.
 
-ghost use Rattle.ndx_tree.specs.KeyForm.{IsKeyLength};
+ghost use Rattle.key_lists.specs.KeyForm.{IsKeyLength};
 
 use crate::bytes::set;
 use crate::lists::{first_difference, has_number, put};
-use ndx_tree::{Entry, KeyList, NdxTree, SortedKeys, TreeFault};
+use key_lists::{Entry, KeyList, SortedKeys};
+use ndx_tree::{NdxTree, TreeFault};
 use std::alloc::{AllocError, Global};
 use std::test::Fail;
 

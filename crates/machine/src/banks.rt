@@ -10,7 +10,7 @@ ghost use Rattle.work_rows.specs.Marks.{mark_at, parts_in};
 ghost use Rattle.work_store.specs.Areas.{table_at};
 
 use code_verify::Verified;
-use ndx_tree::KeyList;
+use key_lists::KeyList;
 use run_steps::Machine;
 use run_values::Untagged;
 use std::alloc::{AllocError, Global};

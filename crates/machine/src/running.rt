@@ -12,7 +12,7 @@ use code_verify::Verified;
 use fit_laws::laws::{
     fitting_worlds_are_safe, fitting_worlds_keep_the_bounds, openings_fit, runs_keep_fitting,
 };
-use ndx_tree::KeyList;
+use key_lists::KeyList;
 use run_steps::{Outcome, run as run_untested};
 use std::alloc::Global;
 use work_store::laws::{stores_keep_their_shape, tables_keep_their_kind};

@@ -2,18 +2,18 @@
 use Rattle.std.proofs.Common.{◌≡◌, ℕ, zero, suc, add-one, ◌+◌, ◌-◌, ◌<◌, ◌≤◌, Bool, true, false, Some, List, [], ◌∷◌, ◌++◌, length, take, drop, get_or, refl, ap, sym, ◌∙◌, subst, arith, ⊎_elim, append_assoc, length-append}
 use Rattle.std.proofs.lemmas.Bool.{false_from_ne_true, false≢true, cases_lt}
 use Rattle.std.proofs.lemmas.List.{get_or_default, get_or-take, length-take-le}
-use Rattle.ndx_tree.specs.Order.{Each}
-use Rattle.ndx_tree.specs.Pairs.{Pair, is_before, key_before}
-use Rattle.ndx_tree.specs.Rising.{IsRising, AllBefore, last_of}
+use Rattle.key_lists.specs.Order.{Each}
+use Rattle.key_lists.specs.Pairs.{Pair, is_before, key_before}
+use Rattle.key_lists.specs.Rising.{IsRising, AllBefore, last_of}
 use Rattle.ndx_tree.specs.IndexFile.{Item, Listed, Between, listed, AreBounds, AreInOrder}
 use Rattle.ndx_tree.specs.Reads.{IsBetween, AreInside, marks}
 use Rattle.ndx_tree.specs.declared.walk.Separator.{Separator}
-use Rattle.ndx_tree.proofs.Ordered.{Each-map, Each-at, Each-append, ascending_at, IsAscending-append, Each-take, Each-drop}
-use Rattle.ndx_tree.proofs.PairOrder.{key_before_down, key_before_up, not_true}
+use Rattle.key_lists.proofs.Ordered.{Each-map, Each-at, Each-append, ascending_at, IsAscending-append, Each-take, Each-drop}
+use Rattle.key_lists.proofs.PairOrder.{key_before_down, key_before_up, not_true}
 use Rattle.std.proofs.Common.{not}
 use Rattle.std.specs.Bool.{IsTrue}
 use Rattle.std.specs.Prelude.{◌↔◌}
-use Rattle.ndx_tree.proofs.Rises.{rising_before_last, last_of_take}
+use Rattle.key_lists.proofs.Rises.{rising_before_last, last_of_take}
 
 -- the list up to a place, and one pair more
 take_more : {X : Type 0} (l : List X) (i : ℕ) (d : X) → i < length l → take (suc i) l ≡ take i l ++ get_or l i d ∷ []

@@ -1,6 +1,6 @@
 -- Lists of which each element has a property: their ends.
 use Rattle.std.proofs.Common.{List, [], ◌∷◌, ◌++◌}
-use Rattle.ndx_tree.specs.Order.{Each}
+use Rattle.key_lists.specs.Order.{Each}
 
 -- the last element, and those before it
 pub each_last : {X : Type 0} (P : X → Type 0) (xs : List X) (x : X) → Each P (xs ++ x ∷ []) → Each P xs × P x

@@ -2,15 +2,15 @@
 use Rattle.std.proofs.Common.{◌≡◌, Some, ℕ, zero, suc, ◌+◌, ◌-◌, ◌*◌, ◌<◌, ◌≤◌, ◌/◌, List, [], ◌∷◌, ◌++◌, length, take, drop, reverse, get_or, refl, ap, sym, ◌∙◌, subst, arith, append_assoc}
 use Rattle.std.proofs.Math.Nat.{mul-le-mul_left, mul-le-mul_right, le_trans}
 use Rattle.std.proofs.lemmas.List.{reverse-append, take-append-drop, length-take, length-drop}
-use Rattle.ndx_tree.specs.Order.{Each}
-use Rattle.ndx_tree.specs.Pairs.{Pair}
+use Rattle.key_lists.specs.Order.{Each}
+use Rattle.key_lists.specs.Pairs.{Pair}
 use Rattle.ndx_tree.specs.Flat.{HaveKeys, AreKeyed}
-use Rattle.ndx_tree.specs.Rising.{IsRising, last_of}
+use Rattle.key_lists.specs.Rising.{IsRising, last_of}
 use Rattle.ndx_tree.specs.Levels.{IsAbove}
 use Rattle.ndx_tree.specs.Trees.{IsRoot}
 use Rattle.ndx_tree.specs.Pages.{PageView, joined, view_of, IsCut, IsChild, AreChildren, IsPage, least_pairs, least_root}
-use Rattle.ndx_tree.proofs.Ordered.{Each-append_left, Each-append_right}
-use Rattle.ndx_tree.proofs.Rises.{rising_front, rising_back}
+use Rattle.key_lists.proofs.Ordered.{Each-append_left, Each-append_right}
+use Rattle.key_lists.proofs.Rises.{rising_front, rising_back}
 use Rattle.ndx_tree.proofs.Cut.{cut_length, framed_from, height_from, pairs_from}
 use Rattle.ndx_tree.proofs.Divide.{least_pairs_one, least_root_one, least_root_two, least_pairs_two, joined_append, children_drop, joined_length, filled_from}
 

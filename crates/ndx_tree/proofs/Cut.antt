@@ -1,11 +1,11 @@
 -- Facts on separators and children.
 use Rattle.std.proofs.Common.{◌≡◌, Some, ℕ, zero, suc, ◌+◌, ◌<◌, ◌≤◌, true, false, cond, List, [], ◌∷◌, ◌++◌, length, take, drop, set, get_or, refl, ap, sym, ◌∙◌, subst, arith, append_assoc}
 use Rattle.std.proofs.lemmas.List.{append-nil}
-use Rattle.ndx_tree.specs.Pairs.{Pair, is_before}
-use Rattle.ndx_tree.specs.Rising.{AllAfter, IsRising, with_pair, IsAbsent, place_of, last_of}
+use Rattle.key_lists.specs.Pairs.{Pair, is_before}
+use Rattle.key_lists.specs.Rising.{AllAfter, IsRising, with_pair, IsAbsent, place_of, last_of}
 use Rattle.ndx_tree.specs.Pages.{PageView, joined, pairs_of, height_of, IsCut, IsChild, AreChildren, IsFramed, IsPage}
-use Rattle.ndx_tree.proofs.Rises.{after_trans, with_pair_right, with_pair_left, other_way, absent_front, absent_back, rising_front, rising_back, last_some, last_with, rising_after_last, rising_before_last, after_last, absent_last}
-use Rattle.ndx_tree.proofs.Ordered.{Each-append_left, Each-append_right}
+use Rattle.key_lists.proofs.Rises.{after_trans, with_pair_right, with_pair_left, other_way, absent_front, absent_back, rising_front, rising_back, last_some, last_with, rising_after_last, rising_before_last, after_last, absent_last}
+use Rattle.key_lists.proofs.Ordered.{Each-append_left, Each-append_right}
 
 pub cut_length : (ss : List Pair) (cs : List PageView) → IsCut ss cs → length cs ≡ length ss + 1
 cut_length [] [] h = absurd h

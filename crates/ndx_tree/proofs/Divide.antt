@@ -2,10 +2,10 @@
 use Rattle.std.proofs.Common.{◌≡◌, Some, mul-suc, ℕ, zero, suc, add-one, ◌+◌, ◌-◌, ◌*◌, ◌<◌, ◌≤◌, ◌/◌, List, [], ◌∷◌, ◌++◌, length, take, drop, get_or, refl, ap, sym, ◌∙◌, subst, arith, append_assoc, length-append}
 use Rattle.std.proofs.Math.Nat.{mul-le-mul_left}
 use Rattle.std.proofs.lemmas.List.{get_or-take, take-take, append-nil, take-append-drop, length-take, length-drop}
-use Rattle.ndx_tree.specs.Pairs.{Pair}
-use Rattle.ndx_tree.specs.Rising.{IsRising, last_of}
+use Rattle.key_lists.specs.Pairs.{Pair}
+use Rattle.key_lists.specs.Rising.{IsRising, last_of}
 use Rattle.ndx_tree.specs.Pages.{PageView, joined, pairs_of, height_of, view_of, IsCut, AreChildren, IsPage, Divides, least_pairs, least_root}
-use Rattle.ndx_tree.proofs.Rises.{rising_front, rising_back, last_back, last_of_take}
+use Rattle.key_lists.proofs.Rises.{rising_front, rising_back, last_back, last_of_take}
 use Rattle.ndx_tree.proofs.Cut.{cut_length, framed_from, height_from, pairs_from}
 
 pub least_pairs_one : least_pairs 1 ≡ 2

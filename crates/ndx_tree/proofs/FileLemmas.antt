@@ -6,14 +6,14 @@ use Rattle.std.proofs.Math.Nat.{mul-div-le}
 use Rattle.ndx_page.specs.declared.page.Page.{Page}
 use Rattle.ndx_page.specs.PageLayout.{PagesAreTold}
 use Rattle.ndx_tree.specs.IndexFile.{Item, Link, IsNode, AreBelow, IsBelow, AreFresh, is_barred, is_listed, page_at, page_count, IsTreeOf, IsIndexFile, AreInOrder, listed}
-use Rattle.ndx_tree.specs.KeyForm.{KeyForm}
+use Rattle.key_lists.specs.KeyForm.{KeyForm}
 use Rattle.ndx_page.specs.declared.head.Head.{Head}
 use Rattle.ndx_page.specs.declared.head.HeadFault.{HeadFault}
 use Rattle.ndx_page.specs.HeadLayout.{IsHead, HeadsAreTold}
 use Rattle.ndx_tree.specs.IndexText.{HoldsOneList}
 use Rattle.ndx_tree.specs.declared.fault.TreeFault.TheVariants as faults
 use Rattle.ndx_tree.proofs.Reading.{IsWalkFault, walk_told}
-use Rattle.ndx_tree.specs.Pairs.{Pair}
+use Rattle.key_lists.specs.Pairs.{Pair}
 use Rattle.ndx_tree.specs.Walk.{Seen, pages_of, walk, walk_file, unseen, IsFirstFault}
 use Rattle.ndx_tree.specs.declared.fault.TreeFault.{TreeFault}
 use Rattle.ndx_tree.proofs.Exact.{IsUnder, walk_sound, walk_complete, fresh_front, fresh_back}

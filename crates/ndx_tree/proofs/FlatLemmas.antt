@@ -5,10 +5,10 @@ use Rattle.std.proofs.Math.Nat.{add-mul, one-mul, mul-le-mul_right}
 use Rattle.std.specs.List.{insert, remove}
 use Rattle.byteorder.specs.Numbers.{little_number-reads_back, little_from-append, length-bytes_low_first}
 use Rattle.byteorder.specs.Endian.{little_number, little_bytes}
-use Rattle.ndx_tree.specs.Pairs.{Pair, is_before}
-use Rattle.ndx_tree.specs.Rising.{IsRising, place_of}
-use Rattle.ndx_tree.proofs.Ordered.{Each-at}
-use Rattle.ndx_tree.proofs.PairOrder.{is_before_strict}
+use Rattle.key_lists.specs.Pairs.{Pair, is_before}
+use Rattle.key_lists.specs.Rising.{IsRising, place_of}
+use Rattle.key_lists.proofs.Ordered.{Each-at}
+use Rattle.key_lists.proofs.PairOrder.{is_before_strict}
 use Rattle.ndx_tree.specs.Flat.{pairs_in, HaveKeys}
 
 -- ---- places

@@ -1,7 +1,7 @@
 -- Two pages side by side become one or are parted anew.
 use Rattle.std.proofs.Common.{◌≡◌, ℕ, Some, None, ◌+◌, ◌<◌, ◌≤◌, ◌/◌, List, [], ◌∷◌, ◌++◌, length, refl, ap, sym, ◌∙◌, subst, arith, append_assoc, length-append}
-use Rattle.ndx_tree.specs.Pairs.{Pair}
-use Rattle.ndx_tree.specs.Rising.{IsRising, last_of}
+use Rattle.key_lists.specs.Pairs.{Pair}
+use Rattle.key_lists.specs.Rising.{IsRising, last_of}
 use Rattle.ndx_tree.specs.Pages.{PageView, joined, pairs_of, height_of, view_of, IsCut, IsChild, AreChildren, IsPage, Joins, Divides, least_pairs}
 use Rattle.ndx_tree.proofs.Cut.{cut_length, framed_from}
 use Rattle.ndx_tree.proofs.Divide.{least_pairs_one, filled_from}

@@ -4,13 +4,13 @@ use Rattle.std.proofs.Math.Nat.{le_refl, le-div_iff_mul-le, mul-le-mul, mul-le-m
 use Rattle.std.proofs.lemmas.List.{take-append-drop}
 use Rattle.std.specs.List.{insert, remove}
 use Rattle.ndx_page.specs.Layout.{entry_size, most_entries}
-use Rattle.ndx_tree.specs.Order.{Each}
-use Rattle.ndx_tree.specs.KeyForm.{IsPairOf}
-use Rattle.ndx_tree.specs.Pairs.{Pair, is_before}
-use Rattle.ndx_tree.specs.Rising.{last_of, with_pair, without_pair}
+use Rattle.key_lists.specs.Order.{Each}
+use Rattle.key_lists.specs.KeyForm.{IsPairOf}
+use Rattle.key_lists.specs.Pairs.{Pair, is_before}
+use Rattle.key_lists.specs.Rising.{last_of, with_pair, without_pair}
 use Rattle.ndx_tree.specs.Pages.{PageView, joined, pairs_of, view_of, IsCut, IsPage, Removes}
 use Rattle.ndx_tree.specs.Flat.{HaveKeys, AreKeyed, room_for}
-use Rattle.ndx_tree.proofs.Ordered.{Each-append, Each-inserted, Each-append_left, Each-append_right}
+use Rattle.key_lists.proofs.Ordered.{Each-append, Each-inserted, Each-append_left, Each-append_right}
 
 pub last_keyed : (k : ℕ) (l : List Pair) (s : Pair) → HaveKeys k l → last_of l ≡ Some s → length s.0 ≡ k
 last_keyed k [] s a e = cc

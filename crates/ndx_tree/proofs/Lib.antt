@@ -1,14 +1,6 @@
 pub mod FlatLemmas
 pub mod KeyFront
 pub mod Keyed
-pub mod Ordered
-pub mod PairOrder
-pub mod Sound
-pub mod Members
-pub mod Nearest
-pub mod LawLemmas
-pub mod KeyOrder
-pub mod Rises
 pub mod Cut
 pub mod Divide
 pub mod BlankLemmas
@@ -19,7 +11,6 @@ pub mod Remove
 pub mod Join
 pub mod Mend
 pub mod Lose
-pub mod Filling
 pub mod PageOf
 pub mod Exact
 pub mod FileLemmas
@@ -29,5 +20,4 @@ pub mod Writing
 pub mod TextPages
 pub mod HeadFront
 pub mod WholeFile
-pub mod Starts
 pub mod Building

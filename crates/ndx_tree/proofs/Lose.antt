@@ -3,8 +3,8 @@ use Rattle.std.proofs.Common.{◌≡◌, ℕ, zero, suc, true, false, Some, ◌+
 use Rattle.std.proofs.lemmas.List.{append-nil, get_or-set_same, set-get_or}
 use Rattle.std.proofs.lemmas.List.Edits.{length-remove}
 use Rattle.std.proofs.Math.Nat.{mul-le-mul_left}
-use Rattle.ndx_tree.specs.Pairs.{Pair, is_before}
-use Rattle.ndx_tree.specs.Rising.{IsRising, last_of, has, without_pair, place_of}
+use Rattle.key_lists.specs.Pairs.{Pair, is_before}
+use Rattle.key_lists.specs.Rising.{IsRising, last_of, has, without_pair, place_of}
 use Rattle.ndx_tree.specs.Pages.{PageView, joined, pairs_of, height_of, view_of, IsCut, IsChild, AreChildren, IsPage, IsWell, IsLight, Removes, IsMending, Mends, least_pairs, least_root}
 use Rattle.ndx_tree.proofs.Cut.{cut_length, pairs_from, cut_from}
 use Rattle.ndx_tree.proofs.Divide.{least_root_one, least_root_two, joined_length, least_pairs_one, least_pairs_pos, filled_from}

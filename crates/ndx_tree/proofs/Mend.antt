@@ -3,10 +3,10 @@ use Rattle.std.proofs.Common.{◌≡◌, ℕ, zero, suc, add-one, Some, None, �
 use Rattle.std.proofs.lemmas.Bool.{cases_eq}
 use Rattle.std.proofs.lemmas.List.{length-take, length-drop, get_or_default}
 use Rattle.std.proofs.lemmas.List.Edits.{get_or-remove_below}
-use Rattle.ndx_tree.specs.Pairs.{Pair}
-use Rattle.ndx_tree.specs.Rising.{IsRising, last_of}
+use Rattle.key_lists.specs.Pairs.{Pair}
+use Rattle.key_lists.specs.Rising.{IsRising, last_of}
 use Rattle.ndx_tree.specs.Pages.{PageView, joined, pairs_of, height_of, IsCut, IsChild, IsLight, AreBut, AreApart, Joins, IsMending, Mends, least_pairs, least_root}
-use Rattle.ndx_tree.proofs.Rises.{rising_front, rising_back}
+use Rattle.key_lists.proofs.Rises.{rising_front, rising_back}
 use Rattle.ndx_tree.proofs.Cut.{cut_length, framed_from, height_from, pairs_from, children_insert}
 use Rattle.ndx_tree.proofs.Divide.{least_pairs_pos, least_root_pairs}
 use Rattle.ndx_tree.proofs.Remove.{but_fix, but_other, apart_left, apart_right, merged, merged_children, merged_length, merged_cut, merged_pairs, reparted, reparted_cut, reparted_pairs, cut_out}

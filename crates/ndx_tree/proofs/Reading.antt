@@ -4,10 +4,10 @@ use Rattle.std.proofs.lemmas.Bool.{or_right, ne_eqb, eq-eqb, cases_eq}
 use Rattle.std.proofs.lemmas.List.{append-nil}
 use Rattle.ndx_page.specs.declared.page.Page.{Page}
 use Rattle.ndx_page.specs.declared.page.PageEntry.{PageEntry}
-use Rattle.ndx_tree.specs.Order.{Each}
-use Rattle.ndx_tree.specs.KeyForm.{IsPairOf}
-use Rattle.ndx_tree.proofs.Ordered.{Each-append}
-use Rattle.ndx_tree.specs.Pairs.{Pair}
+use Rattle.key_lists.specs.Order.{Each}
+use Rattle.key_lists.specs.KeyForm.{IsPairOf}
+use Rattle.key_lists.proofs.Ordered.{Each-append}
+use Rattle.key_lists.specs.Pairs.{Pair}
 use Rattle.ndx_tree.specs.IndexFile.{Item, Listed, Between, listed, is_listed, is_barred, page_count, all_listed, leaf_pairs, Link, links}
 use Rattle.ndx_tree.specs.Walk.{Seen, with_separator, is_level, visit, walk_all, followed, open_page, walk, pages_of, unseen}
 use Rattle.std.proofs.Common.{replicate}

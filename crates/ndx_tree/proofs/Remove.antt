@@ -2,10 +2,10 @@
 use Rattle.std.proofs.Common.{◌≡◌, ℕ, zero, suc, true, false, cond, Some, ◌+◌, ◌-◌, ◌<◌, ◌≤◌, List, [], ◌∷◌, ◌++◌, length, take, drop, set, get_or, refl, ap, sym, ◌∙◌, subst, arith, append_assoc, length-append}
 use Rattle.std.proofs.lemmas.Bool.{cond_both}
 use Rattle.std.proofs.lemmas.List.{append-nil, take_all}
-use Rattle.ndx_tree.specs.Pairs.{Pair, is_before}
-use Rattle.ndx_tree.specs.Rising.{AllBefore, AllAfter, IsRising, place_of, last_of, has, without_pair}
+use Rattle.key_lists.specs.Pairs.{Pair, is_before}
+use Rattle.key_lists.specs.Rising.{AllBefore, AllAfter, IsRising, place_of, last_of, has, without_pair}
 use Rattle.ndx_tree.specs.Pages.{PageView, joined, pairs_of, height_of, IsCut, IsChild, AreChildren, IsPage, AreBut, AreApart}
-use Rattle.ndx_tree.proofs.Rises.{rising_front, rising_back, rising_before_last, last_back, last_some, last_rest, last_of_take}
+use Rattle.key_lists.proofs.Rises.{rising_front, rising_back, rising_before_last, last_back, last_some, last_rest, last_of_take}
 use Rattle.ndx_tree.proofs.Cut.{cut_length}
 use Rattle.ndx_tree.proofs.Divide.{least_pairs_pos}
 

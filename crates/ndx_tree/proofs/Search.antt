@@ -7,13 +7,13 @@ use Rattle.std.specs.List.{filter}
 use Rattle.std.specs.declared.cmp.Ordering.TheVariants.{Less, Equal, Greater}
 use Rattle.std.specs.Ordering.{is_lt, nat_cmp, ordering_then, ordering_reverse}
 use Rattle.std.specs.Cmp.Lexicographic.{slice_cmp}
-use Rattle.ndx_tree.specs.Order.{Each, first, above, below}
-use Rattle.ndx_tree.specs.Pairs.{key_before, pairs_from}
-use Rattle.ndx_tree.proofs.Ordered.{Each-map, below-parted}
-use Rattle.ndx_tree.specs.Pairs.{Pair, is_before}
-use Rattle.ndx_tree.specs.Rising.{AllBefore, IsRising, place_of, last_of, first_from, last_below}
+use Rattle.key_lists.specs.Order.{Each, first, above, below}
+use Rattle.key_lists.specs.Pairs.{key_before, pairs_from}
+use Rattle.key_lists.proofs.Ordered.{Each-map, below-parted}
+use Rattle.key_lists.specs.Pairs.{Pair, is_before}
+use Rattle.key_lists.specs.Rising.{AllBefore, IsRising, place_of, last_of, first_from, last_below}
 use Rattle.ndx_tree.specs.Pages.{PageView, joined, IsCut}
-use Rattle.ndx_tree.proofs.Rises.{last_back, last_only, before_trans, rising_front, rising_back, rising_before_last}
+use Rattle.key_lists.proofs.Rises.{last_back, last_only, before_trans, rising_front, rising_back, rising_before_last}
 
 pub first_at_place : (x : Pair) (l : List Pair) (d : Pair) → place_of x l < length l → first_from x l ≡ Some (get_or l (place_of x l) d)
 first_at_place x [] d p = absurd (omega arith)

@@ -1,9 +1,9 @@
 -- A page takes an entry.
 use Rattle.std.proofs.Common.{◌≡◌, ℕ, suc, add-one, ◌+◌, ◌<◌, ◌≤◌, List, [], ◌∷◌, ◌++◌, Some, None, length, take, drop, set, get_or, refl, ap, sym, ◌∙◌, subst, arith, length-append, length-set}
-use Rattle.ndx_tree.specs.Pairs.{Pair}
-use Rattle.ndx_tree.specs.Rising.{IsRising, with_pair, IsAbsent, place_of}
+use Rattle.key_lists.specs.Pairs.{Pair}
+use Rattle.key_lists.specs.Rising.{IsRising, with_pair, IsAbsent, place_of}
 use Rattle.ndx_tree.specs.Pages.{PageView, joined, pairs_of, height_of, view_of, IsCut, IsChild, AreChildren, IsPage, Inserts, Divides}
-use Rattle.ndx_tree.proofs.Rises.{put_at_place, place_of-le, rising_with_pair, length-with_pair}
+use Rattle.key_lists.proofs.Rises.{put_at_place, place_of-le, rising_with_pair, length-with_pair}
 use Rattle.ndx_tree.proofs.Cut.{cut_length, absent_child, grown_pairs, grown_cut, parted_pairs, parted_cut, child_at, children_set, children_insert, framed_from, height_from, pairs_from}
 use Rattle.ndx_tree.proofs.Divide.{least_pairs_pos}
 

@@ -6,7 +6,7 @@ use Rattle.ndx_page.specs.Layout.{most_entries}
 use Rattle.ndx_page.specs.PageLayout.{page_text}
 use Rattle.ndx_tree.specs.IndexText.{pages_text, IsOwnPage, IsHalfFull}
 use Rattle.ndx_tree.specs.Writes.{ArePages, IsPageText, IsAppended}
-use Rattle.ndx_tree.proofs.Ordered.{Each-append}
+use Rattle.key_lists.proofs.Ordered.{Each-append}
 
 pages_text-append : (k : ℕ) (a b : List Page) → pages_text k (a ++ b) ≡ pages_text k a ++ pages_text k b
 pages_text-append k [] b = refl

@@ -1,8 +1,8 @@
 -- The height of a tree.
 use Rattle.std.proofs.Common.{◌≡◌, true, List, ◌++◌, Some, None, length, length-append, ap, sym, subst, ◌∙◌, lit≤, ℕ, zero, suc, add-one, ◌+◌, ◌*◌, ◌^◌, ◌<◌, ◌≤◌, ⊎_elim, arith, refl}
 use Rattle.std.proofs.lemmas.Bool.{cases_lt}
-use Rattle.ndx_tree.specs.Pairs.{Pair, is_before}
-use Rattle.ndx_tree.specs.Rising.{IsRising, IsAbsent, with_pair, without_pair}
+use Rattle.key_lists.specs.Pairs.{Pair, is_before}
+use Rattle.key_lists.specs.Rising.{IsRising, IsAbsent, with_pair, without_pair}
 use Rattle.ndx_tree.specs.Pages.{PageView, least_root, least_pairs, IsChild, Inserts, Removes}
 use Rattle.ndx_tree.specs.Trees.{IsRoot, IsTree}
 use Rattle.std.specs.List.{Contains}
@@ -11,17 +11,17 @@ use Rattle.std.proofs.Common.{false, cond, [], ◌∷◌, ◌-◌, ◌||◌}
 use Rattle.std.proofs.lemmas.Bool.{false≢true, or_left, or_right}
 use Rattle.std.proofs.Math.Nat.{le-div_iff_mul-le, div-le_self}
 use Rattle.ndx_page.specs.Layout.{entry_size, most_entries}
-use Rattle.ndx_tree.specs.Order.{Each, without}
-use Rattle.ndx_tree.specs.Rising.{has}
-use Rattle.ndx_tree.specs.KeyForm.{KeyForm, IsKeyList, IsKeyLength, IsPairOf}
+use Rattle.key_lists.specs.Order.{Each, without}
+use Rattle.key_lists.specs.Rising.{has}
+use Rattle.key_lists.specs.KeyForm.{KeyForm, IsKeyList, IsKeyLength, IsPairOf}
 use Rattle.ndx_tree.specs.Blanks.{IsPool, IsBlank, IsInnerBlank}
 use Rattle.ndx_tree.specs.declared.page.Pool.{Pool}
-use Rattle.ndx_tree.proofs.Ordered.{Each-map, absent-Each, filter-all, differs, without-absent}
-use Rattle.ndx_tree.proofs.PairOrder.{is_before_strict}
-use Rattle.ndx_tree.proofs.Members.{Contains-here, Contains-later}
-use Rattle.ndx_tree.proofs.Sound.{IsKeyList-inserted, IsKeyList-without}
+use Rattle.key_lists.proofs.Ordered.{Each-map, absent-Each, filter-all, differs, without-absent}
+use Rattle.key_lists.proofs.PairOrder.{is_before_strict}
+use Rattle.key_lists.proofs.Members.{Contains-here, Contains-later}
+use Rattle.key_lists.proofs.Sound.{IsKeyList-inserted, IsKeyList-without}
 use Rattle.ndx_tree.proofs.Divide.{least_root_pairs}
-use Rattle.ndx_tree.proofs.Rises.{rising_with_pair, length-with_pair}
+use Rattle.key_lists.proofs.Rises.{rising_with_pair, length-with_pair}
 use Rattle.ndx_tree.proofs.Remove.{rising_without}
 
 least_pairs_step : (h : ℕ) → least_pairs h ≤ least_pairs (suc h)

@@ -4,14 +4,14 @@ use Rattle.std.proofs.lemmas.List.{append-nil}
 use Rattle.ndx_page.specs.declared.head.Head.{Head}
 use Rattle.ndx_page.specs.Numbers.{number_at}
 use Rattle.ndx_page.specs.HeadLayout.{IsHead, head_text}
-use Rattle.ndx_tree.specs.KeyForm.{KeyForm}
-use Rattle.ndx_tree.specs.Rising.{IsRising}
+use Rattle.key_lists.specs.KeyForm.{KeyForm}
+use Rattle.key_lists.specs.Rising.{IsRising}
 use Rattle.ndx_tree.specs.Pages.{PageView}
 use Rattle.ndx_tree.specs.Trees.{IsTree}
 use Rattle.ndx_tree.specs.declared.page.Pool.{Pool}
 use Rattle.ndx_tree.specs.IndexFile.{IsIndexFile, IsBelow, page_count}
 use Rattle.ndx_tree.specs.Writes.{IsWritten, IsPageText}
-use Rattle.ndx_tree.specs.Order.{Each}
+use Rattle.key_lists.specs.Order.{Each}
 use Rattle.ndx_tree.specs.IndexText.{IsIndexText, IsOwnPage, IsHalfFull, pages_text}
 use Rattle.ndx_tree.proofs.TreeLemmas.{tree_low}
 use Rattle.ndx_tree.proofs.HeadFront.{head_front, four_front}

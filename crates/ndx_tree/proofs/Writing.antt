@@ -7,22 +7,23 @@ use Rattle.ndx_page.specs.declared.page.Page.{Page}
 use Rattle.ndx_page.specs.PageLayout.{IsPage as IsFilePage, FitsKeys}
 use Rattle.ndx_page.specs.Layout.{most_entries}
 use Rattle.std.proofs.Common.{get_or, All}
-use Rattle.ndx_tree.specs.KeyForm.{IsPairOf}
+use Rattle.key_lists.specs.KeyForm.{IsPairOf}
 use Rattle.ndx_tree.proofs.Cut.{child_at}
 use Rattle.ndx_tree.proofs.Mend.{cut_at}
 use Rattle.ndx_tree.proofs.Divide.{least_pairs_two}
 use Rattle.ndx_tree.proofs.Between.{take_next}
-use Rattle.ndx_tree.specs.Order.{Each}
-use Rattle.ndx_tree.specs.Pairs.{Pair, is_before, key_before}
-use Rattle.ndx_tree.specs.Rising.{IsRising, last_of}
+use Rattle.key_lists.specs.Order.{Each}
+use Rattle.key_lists.specs.Pairs.{Pair, is_before, key_before}
+use Rattle.key_lists.specs.Rising.{IsRising, last_of}
 use Rattle.ndx_tree.specs.Pages.{PageView, joined, view_of, IsPage, IsChild}
 use Rattle.ndx_tree.specs.IndexFile.{Item, Listed, Between, listed, Link, links, behind, leaf_pairs, all_listed, AreBelow, IsNode, IsBelow, AreFresh, is_listed, page_at, AreBounds}
 use Rattle.ndx_tree.specs.Writes.{AreLast, AreGiven, AreOthers, IsWritten, AreWritten, entry_links, IsAppended, IsLink}
 use Rattle.ndx_tree.specs.IndexText.{IsOwnPage}
-use Rattle.ndx_tree.proofs.Ordered.{Each-map, Each-append, Each-append_left, Each-append_right, Each-at}
-use Rattle.ndx_tree.proofs.KeyOrder.{orders_pairs}
-use Rattle.ndx_tree.proofs.PairOrder.{is_before_strict}
-use Rattle.ndx_tree.proofs.Rises.{before_asym, rising_after_last, rising_front, after_last, last_back}
+use Rattle.key_lists.proofs.Ordered.{Each-map, Each-append, Each-append_left, Each-append_right, Each-at}
+use Rattle.key_lists.proofs.KeyOrder.{orders_pairs}
+use Rattle.key_lists.proofs.Starts.{not_below}
+use Rattle.key_lists.proofs.PairOrder.{is_before_strict}
+use Rattle.key_lists.proofs.Rises.{before_asym, rising_after_last, rising_front, after_last, last_back}
 use Rattle.ndx_tree.proofs.Reading.{listed_append, listed_all}
 use Rattle.ndx_tree.proofs.Exact.{fresh_append}
 
@@ -36,10 +37,6 @@ AreLast-append before (Between key ∷ a) b p q = (p.0, AreLast-append before a 
 AreLast-all : (before ps : List Pair) → AreLast before (all_listed ps)
 AreLast-all before [] = tt
 AreLast-all before (p ∷ ps) = AreLast-all (before ++ p ∷ []) ps
-
--- keys go up with the pairs
-pub not_below : (p q : Pair) → is_before p q ≡ true → key_before q.0 p.0 ≡ false
-not_below p q e = false_from_ne_true (key_before q.0 p.0) (λ g. false≢true (sym (before_asym p q e) ∙ orders_pairs.by_key q.0 p.0 q.1 p.1 g))
 
 not_itself : (p : Pair) → key_before p.0 p.0 ≡ false
 not_itself p = false_from_ne_true (key_before p.0 p.0) (λ g. false≢true (sym (is_before_strict.irrefl p) ∙ orders_pairs.by_key p.0 p.0 p.1 p.1 g))

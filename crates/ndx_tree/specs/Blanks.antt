@@ -1,7 +1,7 @@
 -- Blank pages, which stand ready for splits.
 use Rattle.std.specs.Prelude.{◌≡◌, ℕ, ◌+◌, ◌/◌, ◌<◌, ◌≤◌, []}
 use Rattle.std.specs.Vec.{vec_capacity}
-use Rattle.ndx_tree.specs.Order.{Each}
+use Rattle.key_lists.specs.Order.{Each}
 use Rattle.ndx_tree.specs.Flat.{room_for}
 use Rattle.ndx_tree.specs.declared.page.Blank.{Blank}
 use Rattle.ndx_tree.specs.declared.page.Pool.{Pool}

@@ -4,7 +4,7 @@ use Rattle.std.proofs.Common.{subst, sym, zero-le, max}
 use Rattle.std.proofs.Math.Nat.{max-le, le_refl}
 use denote.Param.Weighed.{most}
 use Rattle.ndx_tree.specs.Pages.{PageView, AreChildren, IsFramed, height_of}
-use Rattle.ndx_tree.specs.Pairs.{Pair}
+use Rattle.key_lists.specs.Pairs.{Pair}
 
 most_le : (h m : ℕ) (cs : List PageView) → AreChildren h m cs → most (λ c. c.height + 1) cs ≤ h + 1
 most_le h m [] a = zero-le

@@ -1,8 +1,8 @@
 -- Pairs in a row of bytes.
 use Rattle.std.specs.Prelude.{◌≡◌, ℕ, zero, suc, ◌+◌, ◌*◌, ◌-◌, ◌/◌, ◌<◌, ◌≤◌, List, [], ◌∷◌, length, take, drop, slice_index}
 use Rattle.byteorder.specs.Endian.{little_number}
-use Rattle.ndx_tree.specs.Order.{Each}
-use Rattle.ndx_tree.specs.Pairs.{Pair}
+use Rattle.key_lists.specs.Order.{Each}
+use Rattle.key_lists.specs.Pairs.{Pair}
 
 -- each is a byte
 abbrev pub AreBytes : List ℕ → Type 0

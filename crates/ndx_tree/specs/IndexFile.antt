@@ -5,9 +5,9 @@ use Rattle.ndx_page.specs.declared.page.PageEntry.{PageEntry}
 use Rattle.ndx_page.specs.declared.page.Page.{Page}
 use Rattle.ndx_page.specs.HeadLayout.{IsHead}
 use Rattle.ndx_page.specs.PageLayout.{IsPage}
-use Rattle.ndx_tree.specs.Order.{Each, IsAscending}
-use Rattle.ndx_tree.specs.Pairs.{Pair, is_before, key_before}
-use Rattle.ndx_tree.specs.KeyForm.{KeyForm}
+use Rattle.key_lists.specs.Order.{Each, IsAscending}
+use Rattle.key_lists.specs.Pairs.{Pair, is_before, key_before}
+use Rattle.key_lists.specs.KeyForm.{KeyForm}
 
 -- how many whole pages the bytes are
 abbrev pub page_count : List ℕ → ℕ

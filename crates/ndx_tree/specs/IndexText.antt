@@ -5,9 +5,9 @@ use Rattle.ndx_page.specs.declared.page.Page.{Page}
 use Rattle.ndx_page.specs.HeadLayout.{head_text}
 use Rattle.ndx_page.specs.Layout.{most_entries}
 use Rattle.ndx_page.specs.PageLayout.{FitsKeys, page_text}
-use Rattle.ndx_tree.specs.Order.{Each}
-use Rattle.ndx_tree.specs.Pairs.{Pair}
-use Rattle.ndx_tree.specs.KeyForm.{KeyForm}
+use Rattle.key_lists.specs.Order.{Each}
+use Rattle.key_lists.specs.Pairs.{Pair}
+use Rattle.key_lists.specs.KeyForm.{KeyForm}
 use Rattle.ndx_tree.specs.IndexFile.{IsIndexFile}
 
 -- the texts of pages, one behind the other

@@ -1,6 +1,6 @@
 -- A page above others.
 use Rattle.std.specs.Prelude.{◌≡◌, ℕ, ◌+◌, List, length}
-use Rattle.ndx_tree.specs.Rising.{IsRising}
+use Rattle.key_lists.specs.Rising.{IsRising}
 use Rattle.ndx_tree.specs.Pages.{PageView, joined, height_of}
 
 -- it has the pairs of these, is one higher, and has an entry between each two of them

@@ -1,9 +1,3 @@
-pub mod Order
-pub mod Pairs
-pub mod KeyForm
-pub mod SortedList
-pub mod Laws
-pub mod Rising
 pub mod Pages
 pub mod Falls
 pub mod Flat

@@ -1,7 +1,7 @@
 -- What a page of the tree is seen as, and what holds of it.
 use Rattle.std.specs.Prelude.{◌≡◌, ℕ, zero, suc, ◌+◌, ◌*◌, ◌/◌, ◌<◌, ◌≤◌, Bool, true, false, List, [], ◌∷◌, ◌++◌, length, drop, get_or, Option, Some, None}
-use Rattle.ndx_tree.specs.Pairs.{Pair}
-use Rattle.ndx_tree.specs.Rising.{last_of, IsRising, with_pair, has, without_pair}
+use Rattle.key_lists.specs.Pairs.{Pair}
+use Rattle.key_lists.specs.Rising.{last_of, IsRising, with_pair, has, without_pair}
 
 -- a page by the pairs in its leaves, its height, its own entries and the most entries that one may have
 pub record PageView : Type 0 where

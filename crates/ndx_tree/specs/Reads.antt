@@ -2,9 +2,9 @@
 use Rattle.std.specs.Prelude.{◌≡◌, ℕ, suc, ◌<◌, ◌≤◌, ◌⊎◌, Bool, true, false, cond, Some, None, Result, Ok, Err, List, [], ◌∷◌, length, take, drop, get_or, All}
 use Rattle.ndx_page.specs.declared.page.Page.{Page}
 use Rattle.ndx_page.specs.declared.page.PageEntry.{PageEntry}
-use Rattle.ndx_tree.specs.Order.{Each}
-use Rattle.ndx_tree.specs.KeyForm.{IsPairOf}
-use Rattle.ndx_tree.specs.Pairs.{Pair, key_before}
+use Rattle.key_lists.specs.Order.{Each}
+use Rattle.key_lists.specs.KeyForm.{IsPairOf}
+use Rattle.key_lists.specs.Pairs.{Pair, key_before}
 use Rattle.ndx_tree.specs.IndexFile.{Item, Listed, Between, listed, is_listed, is_barred, page_count}
 use Rattle.ndx_tree.specs.Walk.{Seen, pages_of}
 use Rattle.ndx_tree.specs.declared.fault.TreeFault.{TreeFault}

@@ -2,10 +2,10 @@
 use Rattle.std.specs.Prelude.{◌≡◌, ℕ, ◌+◌, ◌<◌, ◌≤◌, ◌^◌, List, Contains, length}
 use Rattle.std.specs.Vec.{vec_len}
 use Rattle.ndx_page.specs.Layout.{most_entries}
-use Rattle.ndx_tree.specs.Pairs.{Pair}
-use Rattle.ndx_tree.specs.KeyForm.{KeyForm, IsKeyList}
+use Rattle.key_lists.specs.Pairs.{Pair}
+use Rattle.key_lists.specs.KeyForm.{KeyForm, IsKeyList}
 use Rattle.ndx_tree.specs.Pages.{PageView, least_root}
-use Rattle.ndx_tree.specs.Rising.{IsRising}
+use Rattle.key_lists.specs.Rising.{IsRising}
 use Rattle.ndx_tree.specs.Blanks.{IsPool}
 use Rattle.ndx_tree.specs.declared.page.Pool.{Pool}
 

@@ -3,9 +3,9 @@ use Rattle.std.specs.Prelude.{◌≡◌, ℕ, ◌+◌, ◌<◌, ◌≤◌, ◌�
 use Rattle.ndx_page.specs.declared.page.PageEntry.{PageEntry}
 use Rattle.ndx_page.specs.declared.page.Page.{Page}
 use Rattle.ndx_page.specs.PageLayout.{IsPage, page_text}
-use Rattle.ndx_tree.specs.Order.{Each}
-use Rattle.ndx_tree.specs.Pairs.{Pair}
-use Rattle.ndx_tree.specs.Rising.{last_of}
+use Rattle.key_lists.specs.Order.{Each}
+use Rattle.key_lists.specs.Pairs.{Pair}
+use Rattle.key_lists.specs.Rising.{last_of}
 use Rattle.ndx_tree.specs.Pages.{PageView, joined}
 use Rattle.ndx_tree.specs.IndexText.{pages_text, IsOwnPage, IsHalfFull}
 use Rattle.ndx_tree.specs.IndexFile.{Item, Listed, Between, listed, Link, AreBelow, IsBelow, AreFresh}

@@ -5,12 +5,12 @@ ghost use Rattle.std.specs.Vec.{vec_capacity, vec_len};
 ghost use Rattle.std.specs.Ordering.{nat_cmp};
 ghost use Rattle.std.specs.Cmp.Lexicographic.{slice_cmp};
 ghost use Rattle.byteorder.specs.Endian.{little_bytes, little_number};
-ghost use Rattle.ndx_tree.specs.Rising.{IsRising, place_of, last_of};
-ghost use Rattle.ndx_tree.specs.Pairs.{Pair, is_before};
+ghost use Rattle.key_lists.specs.Rising.{IsRising, place_of, last_of};
+ghost use Rattle.key_lists.specs.Pairs.{Pair, is_before};
 ghost use Rattle.ndx_tree.specs.Flat.{HaveKeys, AreBytes};
 
-use crate::entry::Entry;
 use byteorder::{BigEndian, ByteOrder, LittleEndian};
+use key_lists::Entry;
 use std::alloc::{AllocError, Global};
 use std::cmp::Ordering;
 use std::marker::Model;
@@ -89,7 +89,7 @@ impl Entries {
     }
 
     /// Whether the entry at a place comes before a key with a number, which may be one more than a record's.
-    #[tactic(auto, unfolding(crate::specs::Pairs::is_before))]
+    #[tactic(auto, unfolding(key_lists::specs::Pairs::is_before))]
     pub fn is_below(&self, at: usize, key: &[u8], number: u64) -> bool
         requires { at < length self.now.items }
         ensures { (d : Pair) → result ≡ is_before (slice_index_or self.now.items at d) (key.now, number) }

@@ -1,10 +1,10 @@
 //! A tree from the bytes of an index file.
 
 ghost use Rattle.std.specs.Prelude.{◌≡◌, ◌<◌, ◌≤◌, ◌^◌, List, Contains, length, IfOk, IfErr, MatchResult};
-ghost use Rattle.ndx_tree.specs.Order.{Each};
-ghost use Rattle.ndx_tree.specs.Pairs.{Pair};
-ghost use Rattle.ndx_tree.specs.Rising.{IsRising};
-ghost use Rattle.ndx_tree.specs.KeyForm.{KeyForm, IsKeyLength, IsPairOf};
+ghost use Rattle.key_lists.specs.Order.{Each};
+ghost use Rattle.key_lists.specs.Pairs.{Pair};
+ghost use Rattle.key_lists.specs.Rising.{IsRising};
+ghost use Rattle.key_lists.specs.KeyForm.{KeyForm, IsKeyLength, IsPairOf};
 ghost use Rattle.ndx_tree.specs.IndexFile.{IsIndexFile, page_count};
 ghost use Rattle.ndx_tree.specs.IndexText.{IsIndexText};
 ghost use Rattle.ndx_page.specs.Numbers.{number_at};
@@ -12,10 +12,10 @@ ghost use Rattle.ndx_tree.specs.Walk.{IsFirstFault};
 ghost use Rattle.ndx_tree.specs.declared.fault.TreeFault.TheVariants.{Memory};
 
 use crate::laws::holds_one_list;
-use crate::lists::held;
 use crate::order::is_in_order;
 use crate::walk::walk_pages;
-use crate::{Entry, NdxTree, TreeFault};
+use crate::{NdxTree, TreeFault};
+use key_lists::{Entry, held};
 use ndx_page::laws::pages_are_told;
 use ndx_page::{Head, read_head, write_head};
 use std::alloc::{AllocError, Global};

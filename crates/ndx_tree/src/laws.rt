@@ -1,49 +1,9 @@
-//! What follows from the definitions of lists in order and of index files. Each function does nothing: its contract is
-//! the law, which a caller gets by the call.
+//! What follows from the definitions of index files. Each function does nothing: its contract is the law, which a caller
+//! gets by the call.
 
-ghost use Rattle.std.specs.Prelude.{List};
-ghost use Rattle.ndx_tree.specs.Order.{IsAscending};
-ghost use Rattle.ndx_tree.specs.Pairs.{Pair, is_before};
-ghost use Rattle.ndx_tree.specs.Laws.{OrdersPairs, FindsNearest, MeetsEach, ChangesOne, PutsInOrder, ChangesRows, StandTogether};
 ghost use Rattle.ndx_tree.specs.IndexText.{HoldsOneList};
 
 use ndx_page::laws::{heads_are_told, pages_are_told};
-
-/// Pairs are ordered by the first different byte of their keys, a prefix being below, and equal keys by record.
-pub fn orders_pairs()
-    ensures { OrdersPairs }
-{}
-
-/// In a list in order each search answers the least or greatest pair that it is to find.
-pub fn finds_nearest()
-    ensures { (pairs : List Pair) → IsAscending is_before pairs → FindsNearest pairs }
-{}
-
-/// Steps by `after` and `before` meet each pair once, in order.
-pub fn meets_each()
-    ensures { (pairs : List Pair) → IsAscending is_before pairs → MeetsEach pairs }
-{}
-
-/// A pair that is put in or taken out leaves the others, in order.
-pub fn changes_one()
-    ensures { (p : Pair) (pairs : List Pair) → IsAscending is_before pairs → ChangesOne p pairs }
-{}
-
-/// Pairs put in order are the same pairs, as often each, and one list whatever order they came in; pairs in order stay so.
-pub fn puts_in_order()
-    ensures { (pairs : List Pair) → PutsInOrder pairs }
-{}
-
-/// Where one pair of a list is added, removed or replaced, so it is in the list put in order.
-pub fn changes_rows()
-    ensures { (front : List Pair) (p : Pair) (back : List Pair) → ChangesRows front p back }
-{}
-
-/// In a list in order the pairs whose keys begin alike stand side by side, at the front of what a search for that beginning
-/// finds.
-pub fn stand_together()
-    ensures { (pairs : List Pair) → IsAscending is_before pairs → StandTogether pairs }
-{}
 
 /// Of bytes that are an index file, the list is known, and so is its keys' form.
 pub fn holds_one_list()

@@ -1,19 +1,7 @@
-//! Vectors that have room, and so take no memory when items come in, and bytes held in place.
+//! Vectors that have room, and so take no memory when items come in.
 
 ghost use Rattle.std.specs.Prelude.{◌≡◌, ◌+◌, ◌<◌, ◌≤◌, [], ◌++◌, take, drop, insert, length};
 ghost use Rattle.std.specs.Vec.{vec_capacity, vec_len};
-
-use arrayvec::ArrayVec;
-
-// The bytes, held in place.
-pub(crate) fn held<const N: usize>(bytes: &[u8]) -> ArrayVec<u8, N>
-    requires { length bytes.now ≤ N }
-    ensures { result.items ≡ bytes.now }
-{
-    let mut copy = ArrayVec::new();
-    copy.try_extend_from_slice(bytes).unwrap();
-    copy
-}
 
 // Puts an item at a place of a list that has room.
 pub(crate) fn put<T: Drop>(items: &mut Vec<T>, at: usize, item: T)

@@ -1,14 +1,14 @@
 //! Whether what a walk met is in order.
 
 ghost use Rattle.std.specs.Prelude.{◌≡◌, ◌≤◌, ◌↔◌, false, length, take, drop, List, IsTrue};
-ghost use Rattle.ndx_tree.specs.Pairs.{key_before};
-ghost use Rattle.ndx_tree.specs.Order.{Each};
-ghost use Rattle.ndx_tree.specs.Rising.{IsRising};
+ghost use Rattle.key_lists.specs.Pairs.{key_before};
+ghost use Rattle.key_lists.specs.Order.{Each};
+ghost use Rattle.key_lists.specs.Rising.{IsRising};
 ghost use Rattle.ndx_tree.specs.Reads.{IsBetween, AreInside, marks};
 ghost use Rattle.ndx_tree.specs.IndexFile.{AreInOrder, listed, Item};
 
-use crate::Entry;
 use crate::walk::{Found, Separator};
+use key_lists::Entry;
 
 // Whether each entry stands before the next.
 fn is_rising(entries: &[Entry]) -> bool

@@ -5,16 +5,16 @@
 
 ghost use Rattle.std.specs.Prelude.{◌≡◌, ◌+◌, ◌<◌, ◌≤◌, [], ◌∷◌, ◌++◌, ◌*◌, ◌^◌, ◌/◌, length, IsTrue, ◌↔◌, Some, IfOk, OnOk, ℕ, ◌⊎◌, slice_index_or, slice_set, take};
 ghost use Rattle.std.specs.Vec.{vec_capacity, vec_len};
-ghost use Rattle.ndx_tree.specs.Order.{Each};
-ghost use Rattle.ndx_tree.specs.Rising.{IsAbsent, IsRising, last_of, first_from, last_below};
+ghost use Rattle.key_lists.specs.Order.{Each};
+ghost use Rattle.key_lists.specs.Rising.{IsAbsent, IsRising, last_of, first_from, last_below};
 ghost use Rattle.ndx_tree.specs.Pages.{PageView, joined, view_of, Inserts, InsertsInRoom, Removes, Joins, IsPage, IsChild, IsCut, IsMending, Mends, Divides};
 ghost use Rattle.ndx_tree.specs.Blanks.{IsBlank, IsInnerBlank, IsPool};
-ghost use Rattle.ndx_tree.specs.Pairs.{Pair};
+ghost use Rattle.key_lists.specs.Pairs.{Pair};
 ghost use Rattle.ndx_tree.specs.Flat.{HaveKeys, AreKeyed, room_for};
 
 use crate::entries::Entries;
-use crate::entry::Entry;
 use crate::lists::{move_all, move_tail, put};
+use key_lists::Entry;
 use std::alloc::{AllocError, Global};
 use std::marker::Model;
 use std::mem;

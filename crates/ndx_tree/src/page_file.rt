@@ -4,15 +4,15 @@ ghost use Rattle.std.specs.Prelude.{◌≡◌, ◌+◌, ◌*◌, ◌<◌, ◌≤
 ghost use Rattle.std.specs.Vec.{vec_len};
 ghost use Rattle.ndx_page.specs.PageLayout.{FitsKeys};
 ghost use Rattle.ndx_page.specs.Layout.{most_entries};
-ghost use Rattle.ndx_tree.specs.Order.{Each};
-ghost use Rattle.ndx_tree.specs.KeyForm.{IsPairOf};
+ghost use Rattle.key_lists.specs.Order.{Each};
+ghost use Rattle.key_lists.specs.KeyForm.{IsPairOf};
 ghost use Rattle.ndx_tree.specs.IndexFile.{leaf_pairs};
 ghost use Rattle.ndx_tree.specs.Writes.{IsWritten, IsAppended, IsPageText};
 
 use crate::entries::Entries;
-use crate::lists::held;
 use crate::page::TreePage;
 use arrayvec::ArrayVec;
+use key_lists::held;
 use ndx_page::{Head, write_page};
 use std::alloc::AllocError;
 

@@ -1,19 +1,16 @@
 //! A list of keys in a tree of pages.
 
 ghost use Rattle.std.specs.Prelude.{◌≡◌, ◌+◌, ◌*◌, ◌<◌, ◌≤◌, ◌^◌, ◌↔◌, length, reverse, IfOk, Contains, ℕ, ◌-◌};
-ghost use Rattle.ndx_tree.specs.Order.{Each, above, below, first};
-ghost use Rattle.ndx_tree.specs.Pairs.{is_before, pairs_from};
-ghost use Rattle.ndx_tree.specs.KeyForm.{KeyForm, IsKeyLength, IsPairOf};
+ghost use Rattle.key_lists.specs.Order.{Each, above, below, first};
+ghost use Rattle.key_lists.specs.Pairs.{is_before, pairs_from};
+ghost use Rattle.key_lists.specs.KeyForm.{KeyForm, IsKeyLength, IsPairOf};
 ghost use Rattle.ndx_tree.specs.Trees.{IsTree};
-ghost use Rattle.ndx_tree.specs.Rising.{IsAbsent, IsRising, first_from, with_pair};
+ghost use Rattle.key_lists.specs.Rising.{IsAbsent, IsRising, first_from, with_pair};
 
 use crate::build::root_of;
-use crate::entry::Entry;
-use crate::key_list::KeyList;
-use crate::lists::held;
 use crate::page::{Pool, TreePage, take_inner};
-use crate::sorted_keys::put_in_order;
 use arrayvec::ArrayVec;
+use key_lists::{Entry, KeyList, held, put_in_order};
 use ndx_page::{MAX_TEXT, most_entries};
 use std::alloc::{AllocError, Global};
 use std::marker::Model;

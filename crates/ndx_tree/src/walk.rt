@@ -6,14 +6,14 @@ ghost use Rattle.ndx_page.specs.PageLayout.{FitsKeys};
 ghost use Rattle.std.specs.Vec.{vec_len};
 ghost use Rattle.ndx_tree.specs.IndexFile.{page_at, page_count, leaf_pairs};
 ghost use Rattle.ndx_tree.specs.Walk.{Seen, walk, pages_of, is_level, with_separator, visit, walk_file};
-ghost use Rattle.ndx_tree.specs.Order.{Each};
-ghost use Rattle.ndx_tree.specs.KeyForm.{IsPairOf};
+ghost use Rattle.key_lists.specs.Order.{Each};
+ghost use Rattle.key_lists.specs.KeyForm.{IsPairOf};
 ghost use Rattle.ndx_tree.specs.declared.fault.TreeFault.{TreeFault as TheFault};
 ghost use Rattle.ndx_tree.specs.Reads.{Shows, Marks, Gives, Opens, unset, AreKeys};
 
-use crate::lists::held;
-use crate::{Entry, TreeFault};
+use crate::TreeFault;
 use arrayvec::ArrayVec;
+use key_lists::{Entry, held};
 use ndx_page::laws::pages_are_told;
 use ndx_page::{Head, MAX_KEY, PAGE_SIZE, Page, read_page};
 use std::alloc::{AllocError, Global};

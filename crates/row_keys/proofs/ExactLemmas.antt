@@ -3,9 +3,9 @@ use Rattle.std.proofs.Common.{◌≡◌, ℕ, zero, suc, ◌+◌, ◌<◌, ◌�
 use Rattle.std.specs.List.{Contains}
 use Rattle.std.proofs.lemmas.Bool.{false≢true}
 use Rattle.dbf_file.specs.Rows.{Row, row_at}
-use Rattle.ndx_tree.specs.Laws.{OrdersPairs, MeetsEach}
-use Rattle.ndx_tree.specs.Order.{Each, IsAscending, IsStrictOrder, above, first}
-use Rattle.ndx_tree.specs.Pairs.{Pair, is_before}
+use Rattle.key_lists.specs.Laws.{OrdersPairs, MeetsEach}
+use Rattle.key_lists.specs.Order.{Each, IsAscending, IsStrictOrder, above, first}
+use Rattle.key_lists.specs.Pairs.{Pair, is_before}
 use Rattle.row_keys.specs.Lists.{index_list, row_pair, IsIndexList}
 use Rattle.shape.specs.declared.parts.KeyPart.{KeyPart}
 use Rattle.shape.specs.Keys.{key_of}

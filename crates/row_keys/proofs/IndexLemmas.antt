@@ -5,9 +5,9 @@ use Rattle.std.specs.Prelude.{IfOk}
 use Rattle.std.proofs.lemmas.List.Elements.{AllZip-get_or, length_all_zip}
 use Rattle.dbf_file.specs.Rows.{Row, row_at}
 use Rattle.dbf_file.specs.Tables.{StructureState, row_widths}
-use Rattle.ndx_tree.specs.KeyForm.{KeyForm, IsKeyText}
-use Rattle.ndx_tree.specs.Order.{inserted, without}
-use Rattle.ndx_tree.specs.Pairs.{Pair, is_before}
+use Rattle.key_lists.specs.KeyForm.{KeyForm, IsKeyText}
+use Rattle.key_lists.specs.Order.{inserted, without}
+use Rattle.key_lists.specs.Pairs.{Pair, is_before}
 use Rattle.shape.specs.declared.parts.KeyPart.{KeyPart}
 use Rattle.shape.specs.Keys.{IsKey, key_of, key_length}
 use Rattle.row_keys.specs.Lists.{index_list, row_pair, IsIndexList, IndexState, IsIndexOf, IsExact, ChangedBy, IsSameIndex, IsAsBefore, HasAdded, HasRemoved}

@@ -3,9 +3,9 @@ use Rattle.std.proofs.Common.{◌≡◌, ℕ, zero, suc, ◌+◌, ◌<◌, ◌�
 use Rattle.std.specs.List.{Contains}
 use Rattle.std.proofs.lemmas.List.Elements.{filter_more}
 use Rattle.dbf_file.specs.Rows.{Row, row_at, no_row, with_mark}
-use Rattle.ndx_tree.specs.Order.{Each, IsAscending, IsDistinct, in_order, inserted, without}
-use Rattle.ndx_tree.specs.Pairs.{Pair, is_before}
-use Rattle.ndx_tree.specs.Laws.{PutsInOrder, ChangesRows}
+use Rattle.key_lists.specs.Order.{Each, IsAscending, IsDistinct, in_order, inserted, without}
+use Rattle.key_lists.specs.Pairs.{Pair, is_before}
+use Rattle.key_lists.specs.Laws.{PutsInOrder, ChangesRows}
 use Rattle.row_keys.specs.declared.building.Kept.{Kept}
 use Rattle.row_keys.specs.declared.building.Kept.TheVariants.{Every, Nothing}
 use Rattle.shape.specs.declared.parts.KeyPart.{KeyPart}

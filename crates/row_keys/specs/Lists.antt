@@ -2,9 +2,9 @@
 use Rattle.std.specs.Prelude.{◌≡◌, ℕ, Bool, ◌+◌, ◌<◌, ◌≤◌, List, [], ◌∷◌, ◌++◌, length, slice_index_or, slice_set, All, Contains, filter, true, false, not}
 use Rattle.dbf_file.specs.Rows.{Row, row_at, with_mark}
 use Rattle.dbf_file.specs.Tables.{StructureState, row_widths}
-use Rattle.ndx_tree.specs.KeyForm.{KeyForm, IsKeyText}
-use Rattle.ndx_tree.specs.Order.{IsAscending, inserted, without, in_order}
-use Rattle.ndx_tree.specs.Pairs.{Pair, is_before}
+use Rattle.key_lists.specs.KeyForm.{KeyForm, IsKeyText}
+use Rattle.key_lists.specs.Order.{IsAscending, inserted, without, in_order}
+use Rattle.key_lists.specs.Pairs.{Pair, is_before}
 use Rattle.row_keys.specs.declared.building.Kept.{Kept}
 use Rattle.row_keys.specs.declared.building.Kept.TheVariants.{Every, Unmarked, Nothing}
 use Rattle.shape.specs.declared.parts.KeyPart.{KeyPart}

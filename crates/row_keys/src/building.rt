@@ -3,14 +3,14 @@
 ghost use Rattle.std.specs.Prelude.{◌≡◌, ℕ, ◌+◌, ◌≤◌, ◌<◌, ◌∷◌, [], ◌++◌, if◌then◌else◌, All, IfOk, OnOk, OnErr, length};
 ghost use Rattle.dbf_file.specs.Rows.{row_at, unmarked};
 ghost use Rattle.dbf_file.specs.Tables.{row_widths};
-ghost use Rattle.ndx_tree.specs.KeyForm.{IsKeyText, IsPairOf};
-ghost use Rattle.ndx_tree.specs.Order.{Each};
+ghost use Rattle.key_lists.specs.KeyForm.{IsKeyText, IsPairOf};
+ghost use Rattle.key_lists.specs.Order.{Each};
 ghost use Rattle.shape.specs.Keys.{IsKey, key_of, key_length};
 ghost use Rattle.row_keys.specs.Lists.{row_pairs, is_kept, kept_rows, IsIndexOf, IsExact, IsSameIndex, ChangedBy};
 
 use crate::index::Index;
 use dbf_file::Table;
-use ndx_tree::{Entry, KeyList};
+use key_lists::{Entry, KeyList};
 use shape::KeyParts;
 use std::alloc::{AllocError, Global};
 

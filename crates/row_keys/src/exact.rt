@@ -7,8 +7,8 @@ ghost use Rattle.shape.specs.Keys.{IsKey, key_of};
 
 use crate::laws::index_lists;
 use dbf_file::Table;
-use ndx_tree::laws::{meets_each, orders_pairs};
-use ndx_tree::{Entry, KeyList};
+use key_lists::laws::{meets_each, orders_pairs};
+use key_lists::{Entry, KeyList};
 use shape::KeyParts;
 
 /// Whether a key is the key of row `r`, counted from 0.

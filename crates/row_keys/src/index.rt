@@ -4,8 +4,8 @@ ghost use Rattle.std.specs.Prelude.{◌≡◌, ℕ, ◌+◌, ◌<◌, ◌≤◌,
 ghost use Rattle.dbf_file.specs.Rows.{blank_row, with_text};
 ghost use Rattle.dbf_file.specs.Tables.{row_widths, letter_at, decimals_at};
 ghost use Rattle.dbf_file.specs.Values.{kind_for, text_by};
-ghost use Rattle.ndx_tree.specs.Order.{above, below, first};
-ghost use Rattle.ndx_tree.specs.Pairs.{is_before, pairs_from};
+ghost use Rattle.key_lists.specs.Order.{above, below, first};
+ghost use Rattle.key_lists.specs.Pairs.{is_before, pairs_from};
 ghost use Rattle.row_keys.specs.Lists.{row_pair, IsIndexOf, IsExact, ChangedBy, IsSameIndex, IsAsBefore, HasAdded, HasRemoved, HaveRoom};
 ghost use Rattle.row_moves.specs.Orders.{MayTry, Sees};
 ghost use Rattle.row_moves.specs.Moves.{IsMove, end_of, skipped, sought};
@@ -13,7 +13,7 @@ ghost use Rattle.xvalue.specs.Kinds.{kind_of};
 
 use crate::laws::index_lists;
 use dbf_file::Table;
-use ndx_tree::{Entry, KeyList};
+use key_lists::{Entry, KeyList};
 use row_moves::{Landed, Spent, bottom, seek, skip, top};
 use shape::KeyParts;
 use std::alloc::AllocError;

@@ -5,7 +5,7 @@ ghost use Rattle.dbf_file.specs.Rows.{Row};
 ghost use Rattle.row_keys.specs.Lists.{IsIndexList};
 ghost use Rattle.shape.specs.declared.parts.KeyPart.{KeyPart as ThePart};
 
-use ndx_tree::laws::{changes_rows, puts_in_order};
+use key_lists::laws::{changes_rows, puts_in_order};
 
 /// The list of an index has each row once, in order; a row that is added goes in, and one that changes goes out and in
 /// again.

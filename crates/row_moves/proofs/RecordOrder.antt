@@ -4,8 +4,8 @@ use Rattle.std.proofs.lemmas.Bool.{lt-ltb, le-ltb, cases_lt, ne_eqb, false≢tru
 use Rattle.std.proofs.lemmas.Bool.Decides.{nat_tests}
 use Rattle.std.proofs.lemmas.List.{reverse-append}
 use Rattle.std.specs.Bool.{◌==◌}
-use Rattle.ndx_tree.specs.Order.{Each, first, above, below, IsAscending}
-use Rattle.ndx_tree.specs.Pairs.{Pair, is_before}
+use Rattle.key_lists.specs.Order.{Each, first, above, below, IsAscending}
+use Rattle.key_lists.specs.Pairs.{Pair, is_before}
 use Rattle.row_moves.specs.Orders.{records_from, record_order, record_pair}
 
 pub before_numbers : (m n : ℕ) → is_before ([], m) ([], n) ≡ nat_lt m n

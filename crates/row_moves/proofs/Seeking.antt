@@ -2,10 +2,10 @@
 use Rattle.std.proofs.Common.{◌≡◌, ℕ, zero, suc, ◌≤◌, Bool, true, false, not, ◌&&◌, cond, eqb, Option, Some, None, List, [], ◌∷◌, ◌++◌, length, get_or, drop, refl, sym, ap, ◌∙◌, subst, arith}
 use Rattle.std.specs.List.{filter, starts_with, Contains}
 use Rattle.std.specs.Prelude.{nat_eq}
-use Rattle.ndx_tree.specs.KeyForm.{IsPairOf}
-use Rattle.ndx_tree.specs.Laws.{MeetsEach, StandTogether, begins_with}
-use Rattle.ndx_tree.specs.Order.{Each, above, first}
-use Rattle.ndx_tree.specs.Pairs.{Pair, is_before, pairs_from}
+use Rattle.key_lists.specs.KeyForm.{IsPairOf}
+use Rattle.key_lists.specs.Laws.{MeetsEach, StandTogether, begins_with}
+use Rattle.key_lists.specs.Order.{Each, above, first}
+use Rattle.key_lists.specs.Pairs.{Pair, is_before, pairs_from}
 use Rattle.row_moves.specs.Moves.{is_blank, is_same, matching}
 use Rattle.row_moves.specs.Seeking.{begun, begun_or_none, cut_or_filled, front_run, starting}
 use Rattle.row_moves.proofs.Steps.{Turn, turn_cons, each_listed, filter_each, first_each}

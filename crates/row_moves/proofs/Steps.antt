@@ -3,9 +3,9 @@ use Rattle.std.proofs.Common.{◌≡◌, ℕ, zero, suc, ◌+◌, ◌-◌, ◌<�
 use Rattle.std.specs.List.{filter, Contains}
 use Rattle.std.specs.Option.{is_none, option_map}
 use Rattle.std.proofs.lemmas.List.{reverse-append}
-use Rattle.ndx_tree.specs.Laws.{MeetsEach}
-use Rattle.ndx_tree.specs.Order.{Each, first, flip}
-use Rattle.ndx_tree.specs.Pairs.{Pair, is_before}
+use Rattle.key_lists.specs.Laws.{MeetsEach}
+use Rattle.key_lists.specs.Order.{Each, first, flip}
+use Rattle.key_lists.specs.Pairs.{Pair, is_before}
 use Rattle.row_moves.specs.Orders.{candidates}
 use Rattle.row_moves.specs.declared.landed.Landed.{Landed}
 use Rattle.row_moves.specs.Moves.{first_shown, met, hop, hops, Landing, Lands}

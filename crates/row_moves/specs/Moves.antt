@@ -1,7 +1,7 @@
 -- Moves over rows in an order: where each leads, and how many rows it meets.
 use Rattle.std.specs.Prelude.{◌≡◌, ℕ, zero, suc, not, ◌&&◌, ◌==◌, ◌+◌, ◌≤◌, ◌<◌, ℤ, pos, negsuc, Bool, true, false, List, [], ◌∷◌, filter, Option, Some, None, Result, find, if◌then◌else◌, option_map, is_none, is_some, MatchResult}
-use Rattle.ndx_tree.specs.Laws.{begins_with}
-use Rattle.ndx_tree.specs.Pairs.{Pair}
+use Rattle.key_lists.specs.Laws.{begins_with}
+use Rattle.key_lists.specs.Pairs.{Pair}
 use Rattle.row_moves.specs.declared.landed.Landed.{Landed}
 use Rattle.row_moves.specs.declared.landed.Spent.{Spent}
 use Rattle.row_moves.specs.Orders.{candidates}

@@ -1,7 +1,7 @@
 -- Rows in an order, as pairs of a key and a record.
 use Rattle.std.specs.Prelude.{◌≡◌, ℕ, zero, suc, ◌+◌, Bool, true, false, Option, Some, None, List, [], ◌∷◌, Contains, reverse}
-use Rattle.ndx_tree.specs.Order.{above, below}
-use Rattle.ndx_tree.specs.Pairs.{Pair, is_before}
+use Rattle.key_lists.specs.Order.{above, below}
+use Rattle.key_lists.specs.Pairs.{Pair, is_before}
 
 -- the pair of a record in record order, which has no key; records count from 1
 abbrev pub record_pair : ℕ → Option Pair

@@ -1,8 +1,8 @@
 -- Keys that begin with a text.
 use Rattle.std.specs.Prelude.{ℕ, zero, suc, Option, Some, None, List, [], ◌∷◌, filter, if◌then◌else◌}
-use Rattle.ndx_tree.specs.Laws.{begins_with}
-use Rattle.ndx_tree.specs.Order.{above}
-use Rattle.ndx_tree.specs.Pairs.{Pair, is_before, pairs_from}
+use Rattle.key_lists.specs.Laws.{begins_with}
+use Rattle.key_lists.specs.Order.{above}
+use Rattle.key_lists.specs.Pairs.{Pair, is_before, pairs_from}
 
 -- a text cut to a length, or with blanks behind it up to that length
 abbrev pub cut_or_filled : ℕ → List ℕ → List ℕ

@@ -1,9 +1,9 @@
 //! SEEK over a list of keys.
 
 ghost use Rattle.std.specs.Prelude.{◌≡◌, ℕ, ◌≤◌, Bool};
-ghost use Rattle.ndx_tree.specs.KeyForm.{IsKeyList};
-ghost use Rattle.ndx_tree.specs.Order.{IsAscending, first};
-ghost use Rattle.ndx_tree.specs.Pairs.{is_before};
+ghost use Rattle.key_lists.specs.KeyForm.{IsKeyList};
+ghost use Rattle.key_lists.specs.Order.{IsAscending, first};
+ghost use Rattle.key_lists.specs.Pairs.{is_before};
 ghost use Rattle.row_moves.specs.Orders.{MayTry, Sees};
 ghost use Rattle.row_moves.specs.Moves.{IsMove, IsScan, matching, sought};
 ghost use Rattle.row_moves.specs.Seeking.{begun, begun_or_none, starting};
@@ -11,8 +11,8 @@ ghost use Rattle.row_moves.specs.Seeking.{begun, begun_or_none, starting};
 use crate::keys::{cut_or_filled, is_blank_behind};
 use crate::places::record_of;
 use crate::{Landed, Spent};
-use ndx_tree::laws::{meets_each, stand_together};
-use ndx_tree::{Entry, KeyList};
+use key_lists::laws::{meets_each, stand_together};
+use key_lists::{Entry, KeyList};
 
 /// SEEK: the first shown row whose key matches the text, or the end of file. With EXACT on a key matches that is the text
 /// but for blanks at the end of either, with EXACT off one that begins with the text.

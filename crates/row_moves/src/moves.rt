@@ -1,15 +1,15 @@
 //! Moves over rows in an order.
 
 ghost use Rattle.std.specs.Prelude.{◌≡◌, ℕ, ◌≤◌, Bool, true, false, IfOk, option_map};
-ghost use Rattle.ndx_tree.specs.Order.{IsAscending};
-ghost use Rattle.ndx_tree.specs.Pairs.{is_before};
+ghost use Rattle.key_lists.specs.Order.{IsAscending};
+ghost use Rattle.key_lists.specs.Pairs.{is_before};
 ghost use Rattle.row_moves.specs.Orders.{candidates, MayTry, Sees};
 ghost use Rattle.row_moves.specs.Moves.{IsMove, IsScan, end_of, hops, skipped};
 
 use crate::places::{copied, end_from, is_past, record_of};
 use crate::{Landed, RowOrder, Spent};
-use ndx_tree::Entry;
-use ndx_tree::laws::meets_each;
+use key_lists::Entry;
+use key_lists::laws::meets_each;
 
 /// TOP: the first shown row, or the end of file.
 pub fn top<O: RowOrder, F: Fn(u32) -> bool>(

@@ -2,7 +2,7 @@
 
 ghost use Rattle.std.specs.Prelude.{◌≡◌, option_map, is_none, ◌&&◌, if◌then◌else◌, None};
 
-use ndx_tree::Entry;
+use key_lists::Entry;
 
 /// The same place again.
 pub(crate) fn copied(at: &Option<Entry>) -> Option<Entry>

@@ -1,12 +1,12 @@
 //! Record order.
 
 ghost use Rattle.std.specs.Prelude.{◌≡◌, ◌<◌};
-ghost use Rattle.ndx_tree.specs.Order.{above, below, first};
-ghost use Rattle.ndx_tree.specs.Pairs.{is_before};
+ghost use Rattle.key_lists.specs.Order.{above, below, first};
+ghost use Rattle.key_lists.specs.Pairs.{is_before};
 ghost use Rattle.row_moves.specs.Orders.{record_order, record_pair};
 
 use crate::RowOrder;
-use ndx_tree::Entry;
+use key_lists::Entry;
 
 /// The records 1 to a count, in their own order.
 #[derive(Debug, Clone, Copy)]

@@ -1,12 +1,12 @@
 //! Rows in an order, whatever keeps it.
 
 ghost use Rattle.std.specs.Prelude.{◌≡◌, length};
-ghost use Rattle.ndx_tree.specs.Order.{IsAscending, first};
-ghost use Rattle.ndx_tree.specs.Pairs.{is_before};
-ghost use Rattle.ndx_tree.specs.SortedList.{SortedList};
+ghost use Rattle.key_lists.specs.Order.{IsAscending, first};
+ghost use Rattle.key_lists.specs.Pairs.{is_before};
+ghost use Rattle.key_lists.specs.SortedList.{SortedList};
 ghost use Rattle.row_moves.specs.Orders.{candidates};
 
-use ndx_tree::{Entry, KeyList};
+use key_lists::{Entry, KeyList};
 
 /// Rows in an order.
 pub trait RowOrder {

@@ -6,7 +6,7 @@ ghost use Rattle.run_steps.specs.World.{area_state, desk_of};
 ghost use Rattle.work_store.specs.Areas.{use_at};
 
 use code_items::{AreaState, Desk, Items, OpenArea};
-use ndx_tree::KeyList;
+use key_lists::KeyList;
 use std::alloc::{AllocError, Global};
 use std::marker::Model;
 use work_store::Store;

@@ -11,7 +11,7 @@ use crate::scratch::{BlockScratch, Scratch};
 use crate::soundness::bad_filter;
 use code_items::{Code, Desk, Instr};
 use code_tests::desks::{is_closed, opens_twice, order_fails};
-use ndx_tree::KeyList;
+use key_lists::KeyList;
 use run_steps::{FaultKind, Machine};
 use run_values::Tagged;
 

@@ -12,7 +12,7 @@ use crate::scratch::Scratch;
 use crate::world::World;
 use code_items::Code;
 use code_items::laws::legal_codes;
-use ndx_tree::KeyList;
+use key_lists::KeyList;
 use run_laws::laws::{
     faultless_instructions_are_clear, faultless_worlds_go_on, steps_keep_the_shape,
 };

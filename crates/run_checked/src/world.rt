@@ -9,7 +9,7 @@ ghost use Rattle.work_store.specs.Areas.{AreApart};
 
 use crate::scratch::Scratch;
 use code_items::Code;
-use ndx_tree::KeyList;
+use key_lists::KeyList;
 use run_laws::laws::openings_have_the_shape;
 use run_steps::Machine;
 use run_values::Tagged;

@@ -10,7 +10,7 @@ ghost use Rattle.run_steps.specs.Effects.{filter_here};
 ghost use Rattle.run_steps.specs.World.{with_store, with_screen, with_lines, with_settings};
 
 use crate::filtering::Moment;
-use ndx_tree::KeyList;
+use key_lists::KeyList;
 use screen_lines::Screen;
 use std::alloc::AllocError;
 use std::marker::Model;

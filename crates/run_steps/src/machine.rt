@@ -25,7 +25,7 @@ use code_items::code::places_of_blocks;
 use code_items::instr::{FlowInstr, Instr};
 use code_items::laws::legal_codes;
 use code_items::{Code, Proc};
-use ndx_tree::KeyList;
+use key_lists::KeyList;
 use run_values::Values;
 use screen_lines::Screen;
 use std::alloc::{AllocError, Global};

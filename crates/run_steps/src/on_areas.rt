@@ -18,7 +18,7 @@ use crate::ending::Stop;
 use crate::environment::Environment;
 use code_items::Code;
 use code_items::instr::AreaInstr;
-use ndx_tree::KeyList;
+use key_lists::KeyList;
 use run_values::Values;
 use std::alloc::Global;
 use work_rows::{Refused, Row};

@@ -22,7 +22,7 @@ use crate::filtering::View;
 use crate::on_values::whole;
 use code_items::Code;
 use code_items::instr::MoveInstr;
-use ndx_tree::KeyList;
+use key_lists::KeyList;
 use row_moves::Spent;
 use run_values::Values;
 use work_rows::Row;

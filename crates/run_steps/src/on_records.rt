@@ -23,7 +23,7 @@ use crate::filtering::View;
 use crate::on_areas::{list_of, refused};
 use code_items::Code;
 use code_items::instr::{Question, RecordInstr};
-use ndx_tree::KeyList;
+use key_lists::KeyList;
 use run_values::Values;
 use std::alloc::Global;
 use work_area::AppendError;

@@ -14,7 +14,7 @@ use crate::ending::Stop;
 use crate::environment::Environment;
 use crate::on_values::whole;
 use code_items::instr::ScreenInstr;
-use ndx_tree::KeyList;
+use key_lists::KeyList;
 use run_values::Values;
 use std::alloc::AllocError;
 use xvalue::{Kind, Value};

@@ -12,7 +12,7 @@ use crate::ending::Stop;
 use crate::environment::Environment;
 use code_items::Code;
 use code_items::instr::ValueInstr;
-use ndx_tree::KeyList;
+use key_lists::KeyList;
 use run_values::Values;
 use xvalue::{Day, Value};
 

@@ -9,8 +9,8 @@ use Rattle.dbf_file.specs.declared.stamp.Stamp.{Stamp}
 use Rattle.dbf_file.specs.Rows.{Row}
 use Rattle.file_access.specs.Holding.{Holds, HoldsOneThing}
 use Rattle.ndx_tree.specs.IndexText.{IsIndexText}
-use Rattle.ndx_tree.specs.KeyForm.{KeyForm}
-use Rattle.ndx_tree.specs.Pairs.{Pair}
+use Rattle.key_lists.specs.KeyForm.{KeyForm}
+use Rattle.key_lists.specs.Pairs.{Pair}
 use Rattle.ndx_tree.specs.Trees.{TreeView}
 use Rattle.row_keys.specs.Lists.{index_list}
 use Rattle.shape.specs.declared.indexes.IndexShape.{IndexShape}

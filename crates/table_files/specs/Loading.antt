@@ -8,8 +8,8 @@ use Rattle.dbf_file.specs.Rows.{Row}
 use Rattle.dbf_file.specs.Tables.{StructureState, TableState, DbfText}
 use Rattle.file_access.specs.Holding.{Holds}
 use Rattle.ndx_tree.specs.IndexFile.{IsIndexFile}
-use Rattle.ndx_tree.specs.KeyForm.{KeyForm}
-use Rattle.ndx_tree.specs.Pairs.{Pair}
+use Rattle.key_lists.specs.KeyForm.{KeyForm}
+use Rattle.key_lists.specs.Pairs.{Pair}
 use Rattle.ndx_tree.specs.Trees.{TreeView}
 use Rattle.shape.specs.declared.indexes.IndexShape.{IndexShape}
 use Rattle.shape.specs.declared.tables.TableShape.{TableShape}

@@ -3,7 +3,7 @@
 ghost use Rattle.std.specs.Prelude.{◌≡◌, ◌≤◌, ◌↔◌, true, List, Contains, length, IfOk, IfErr, IfSome, IsSomeAnd, IsTrue};
 ghost use Rattle.file_access.specs.Holding.{Rose, SameFiles};
 ghost use Rattle.ndx_tree.specs.IndexFile.{IsIndexFile};
-ghost use Rattle.ndx_tree.specs.Pairs.{Pair};
+ghost use Rattle.key_lists.specs.Pairs.{Pair};
 ghost use Rattle.shape.specs.Names.{is_file_name};
 ghost use Rattle.shape.specs.Whole.{is_shape};
 ghost use Rattle.work_store.specs.Making.{form_of};

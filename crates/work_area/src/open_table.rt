@@ -6,7 +6,7 @@ ghost use Rattle.dbf_file.specs.Rows.{blank_row, row_at};
 ghost use Rattle.dbf_file.specs.Tables.{letter_at, decimals_at, row_widths};
 ghost use Rattle.dbf_file.specs.Values.{kind_for, value_by};
 ghost use Rattle.xvalue.specs.Kinds.{kind_of};
-ghost use Rattle.ndx_tree.specs.KeyForm.{IsKeyText};
+ghost use Rattle.key_lists.specs.KeyForm.{IsKeyText};
 ghost use Rattle.row_keys.specs.Lists.{index_list};
 ghost use Rattle.shape.specs.Keys.{IsKey, key_length};
 ghost use Rattle.row_moves.specs.Moves.{Landing, IsMove, end_of, skipped, sought};
@@ -19,7 +19,7 @@ ghost use Rattle.work_area.specs.Open.{IsMoved, IsEnded, opened, closed, first_o
 
 use arrayvec::ArrayVec;
 use dbf_file::{Table, value};
-use ndx_tree::KeyList;
+use key_lists::KeyList;
 use row_moves::{Landed, Spent};
 use shape::KeyParts;
 use std::alloc::{AllocError, Global};

@@ -1,9 +1,9 @@
 -- Record order as a list of keys that have no parts.
 use Rattle.std.proofs.Common.{◌≡◌, ℕ, ◌+◌, Option, Some, None, List, [], ◌∷◌, length, refl, ap, ◌∙◌}
 use Rattle.dbf_file.specs.Rows.{Row}
-use Rattle.ndx_tree.specs.Laws.{PutsInOrder}
-use Rattle.ndx_tree.specs.Order.{in_order}
-use Rattle.ndx_tree.specs.Pairs.{Pair, is_before}
+use Rattle.key_lists.specs.Laws.{PutsInOrder}
+use Rattle.key_lists.specs.Order.{in_order}
+use Rattle.key_lists.specs.Pairs.{Pair, is_before}
 use Rattle.row_keys.specs.Lists.{index_list, row_pairs}
 use Rattle.row_moves.specs.Orders.{records_from, record_order}
 use Rattle.row_moves.proofs.RecordOrder.{ascending_records}

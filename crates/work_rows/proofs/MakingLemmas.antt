@@ -4,7 +4,7 @@ use Rattle.std.specs.List.{All}
 use Rattle.std.specs.Prelude.{IfSome, IsSomeAnd, MatchBool}
 use Rattle.dbf_file.specs.Rows.{Row}
 use Rattle.dbf_file.specs.Tables.{StructureState}
-use Rattle.ndx_tree.specs.KeyForm.{IsKeyText}
+use Rattle.key_lists.specs.KeyForm.{IsKeyText}
 use Rattle.shape.specs.Keys.{IsKey}
 use Rattle.row_keys.specs.declared.building.Kept.TheVariants.{Every, Nothing}
 use Rattle.row_keys.specs.Lists.{IndexState, IsExact, kept_rows}

@@ -7,8 +7,8 @@ use Rattle.dbf_file.specs.Tables.{StructureState}
 use Rattle.work_rows.specs.Tried.{tried}
 use Rattle.shape.specs.declared.parts.KeyPart.{KeyPart}
 use Rattle.shape.specs.Keys.{key_of}
-use Rattle.ndx_tree.specs.Order.{IsAscending, Each, inserted, IsStrictOrder}
-use Rattle.ndx_tree.specs.Pairs.{Pair, is_before}
+use Rattle.key_lists.specs.Order.{IsAscending, Each, inserted, IsStrictOrder}
+use Rattle.key_lists.specs.Pairs.{Pair, is_before}
 use Rattle.row_keys.specs.declared.building.Kept.{Kept}
 use Rattle.row_keys.specs.Lists.{index_list, is_kept, kept_rows}
 use Rattle.row_keys.proofs.IndexLemmas.{ListLaw}

@@ -5,7 +5,7 @@ use Rattle.std.proofs.Math.Seq.{take-length}
 use Rattle.std.specs.List.{All}
 use Rattle.std.specs.Prelude.{IfSome, OnErr}
 use Rattle.dbf_file.specs.Tables.{StructureState}
-use Rattle.ndx_tree.specs.KeyForm.{KeyForm, IsKeyText}
+use Rattle.key_lists.specs.KeyForm.{KeyForm, IsKeyText}
 use Rattle.shape.specs.Keys.{IsKey}
 use Rattle.row_keys.specs.Lists.{IndexState, IsSameIndex}
 use Rattle.work_rows.specs.Marks.{IndexMark, is_among, with_stale}

@@ -5,7 +5,7 @@ use Rattle.std.specs.Prelude.{IfSome}
 use Rattle.std.proofs.Math.ListN.{get_or-eq_default}
 use Rattle.dbf_file.specs.Rows.{Row, row_at, no_row}
 use Rattle.dbf_file.specs.Tables.{StructureState}
-use Rattle.ndx_tree.specs.Pairs.{Pair}
+use Rattle.key_lists.specs.Pairs.{Pair}
 use Rattle.shape.specs.declared.parts.KeyPart.{KeyPart}
 use Rattle.shape.specs.Keys.{key_of, cased}
 use Rattle.row_keys.specs.Lists.{IndexState, IsExact, index_list, row_pair}

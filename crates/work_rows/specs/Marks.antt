@@ -2,7 +2,7 @@
 use Rattle.std.specs.Prelude.{ℕ, Bool, false, not, ◌||◌, ◌&&◌, ◌==◌, Option, Some, None, List, [], map, filter, find, length}
 use Rattle.std.specs.List.{list_any}
 use Rattle.dbf_file.specs.Tables.{StructureState, row_widths}
-use Rattle.ndx_tree.specs.KeyForm.{KeyForm}
+use Rattle.key_lists.specs.KeyForm.{KeyForm}
 use Rattle.shape.specs.declared.parts.KeyPart.{KeyPart}
 use Rattle.shape.specs.Keys.{key_length}
 

@@ -1,6 +1,6 @@
 -- TOP found by passes over rows in record order, where there is no list of them.
 use Rattle.std.specs.Prelude.{ℕ, ◌+◌, ◌<◌, ◌≤◌, Bool, true, not, Result, MatchResult, Option, Some, None, List, filter, length, if◌then◌else◌}
-use Rattle.ndx_tree.specs.Pairs.{Pair, is_before}
+use Rattle.key_lists.specs.Pairs.{Pair, is_before}
 use Rattle.row_moves.specs.declared.landed.Landed.{Landed}
 use Rattle.row_moves.specs.Moves.{Landing, Lands}
 use Rattle.work_rows.specs.declared.refused.Refused.{Refused}

@@ -2,7 +2,7 @@
 use Rattle.std.specs.Prelude.{◌≡◌, ℕ, ◌<◌, Bool, true, not, Option, Some, None, List, length, is_none, is_some, slice_index_or, if◌then◌else◌, IfSome, IsSomeAnd, MatchBool, ⊤, ◌||◌, ◌&&◌}
 use Rattle.dbf_file.specs.Rows.{Row}
 use Rattle.dbf_file.specs.Tables.{StructureState}
-use Rattle.ndx_tree.specs.KeyForm.{IsKeyText}
+use Rattle.key_lists.specs.KeyForm.{IsKeyText}
 use Rattle.shape.specs.declared.parts.KeyPart.{KeyPart}
 use Rattle.shape.specs.Keys.{IsKey}
 use Rattle.row_keys.specs.Lists.{IndexState, IsExact}

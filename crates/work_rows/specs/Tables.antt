@@ -3,7 +3,7 @@ use Rattle.std.specs.Prelude.{◌≡◌, ℕ, ◌-◌, ◌≤◌, ◌↔◌, Boo
 use Rattle.dbf_file.specs.Rows.{Row, row_at, with_text, with_mark, blank_row, unmarked}
 use Rattle.dbf_file.specs.Tables.{StructureState, row_widths, decimals_at}
 use Rattle.dbf_file.specs.Values.{text_by}
-use Rattle.ndx_tree.specs.Pairs.{Pair}
+use Rattle.key_lists.specs.Pairs.{Pair}
 use Rattle.shape.specs.declared.parts.KeyPart.{KeyPart}
 use Rattle.shape.specs.Keys.{key_of}
 use Rattle.row_keys.specs.Lists.{index_list}

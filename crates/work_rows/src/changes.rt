@@ -11,7 +11,7 @@ ghost use Rattle.xvalue.specs.Kinds.{kind_of};
 use crate::slot::Slot;
 use crate::slots::{add_all, commit_all, leave_all, make_all, remove_all, reserve_all};
 use dbf_file::Table;
-use ndx_tree::KeyList;
+use key_lists::KeyList;
 use row_keys::Kept;
 use row_keys::laws::index_lists;
 use std::alloc::{AllocError, Global};

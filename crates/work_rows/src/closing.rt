@@ -14,8 +14,8 @@ use crate::passes::first_of;
 use crate::row::Row;
 use crate::slot::Slot;
 use dbf_file::Table;
-use ndx_tree::KeyList;
-use ndx_tree::laws::puts_in_order;
+use key_lists::KeyList;
+use key_lists::laws::puts_in_order;
 use row_keys::Kept;
 use row_moves::{Landed, Spent};
 

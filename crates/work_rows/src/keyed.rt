@@ -11,7 +11,7 @@ ghost use Rattle.work_rows.specs.Tables.{order_parts};
 
 use crate::slot::Slot;
 use dbf_file::Table;
-use ndx_tree::KeyList;
+use key_lists::KeyList;
 use shape::KeyParts;
 
 /// How the keys of the index of this number are made; without such an index of no parts.

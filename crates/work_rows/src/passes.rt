@@ -11,8 +11,8 @@ ghost use Rattle.work_rows.specs.Tried.{ShowsRows};
 
 use crate::row::Row;
 use dbf_file::Table;
-use ndx_tree::Entry;
-use ndx_tree::laws::orders_pairs;
+use key_lists::Entry;
+use key_lists::laws::orders_pairs;
 use row_keys::laws::index_lists;
 use row_keys::{Kept, keeps};
 use row_moves::{Landed, Spent};

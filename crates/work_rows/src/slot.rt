@@ -1,7 +1,7 @@
 //! A declared index of a table.
 
 ghost use Rattle.std.specs.Prelude.{◌≡◌, ℕ, ◌+◌, ◌<◌, ◌≤◌, ◌^◌, ◌-◌, ◌↔◌, Bool, true, false, None, Some, is_none, is_some, IfSome, OnOk, IfOk, MatchBool, IsSomeAnd, IsTrue, Contains, length, if◌then◌else◌};
-ghost use Rattle.ndx_tree.specs.KeyForm.{KeyForm, IsKeyText};
+ghost use Rattle.key_lists.specs.KeyForm.{KeyForm, IsKeyText};
 ghost use Rattle.dbf_file.specs.Tables.{row_widths};
 ghost use Rattle.dbf_file.specs.Rows.{row_at};
 ghost use Rattle.shape.specs.Keys.{IsKey, key_of, key_length};
@@ -13,7 +13,7 @@ ghost use Rattle.work_rows.specs.Slots.{IsSlot, GoesBy, HasRoom, PutsBy, Prepare
 
 use arrayvec::ArrayVec;
 use dbf_file::Table;
-use ndx_tree::{Entry, KeyList};
+use key_lists::{Entry, KeyList};
 use row_keys::exact::lists_rows;
 use row_keys::{Index, Kept, build_of};
 use row_moves::{Landed, Spent};

@@ -6,7 +6,7 @@ ghost use Rattle.work_rows.specs.Slots.{Along, GoesBy, HasRoom, IsSlot, PutsBy, 
 
 use crate::slot::Slot;
 use dbf_file::Table;
-use ndx_tree::KeyList;
+use key_lists::KeyList;
 use row_keys::Kept;
 use std::alloc::{AllocError, Global};
 

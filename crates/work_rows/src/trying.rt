@@ -15,7 +15,7 @@ ghost use Rattle.work_rows.specs.Tried.{ShowsRows};
 use crate::row::Row;
 use crate::slot::Slot;
 use dbf_file::Table;
-use ndx_tree::{Entry, KeyList};
+use key_lists::{Entry, KeyList};
 use row_keys::laws::index_lists;
 use row_moves::{Landed, Records, Spent, bottom, skip as skip_in, top};
 

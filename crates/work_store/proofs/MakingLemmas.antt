@@ -7,7 +7,7 @@ use Rattle.std.proofs.lemmas.Option.{slice_get-get_or, get_or_from_slice_get}
 use Rattle.dbf_file.specs.declared.field.Field.{Field}
 use Rattle.dbf_file.specs.Rows.{Row}
 use Rattle.dbf_file.specs.Tables.{StructureState, TableState}
-use Rattle.ndx_tree.specs.Pairs.{Pair}
+use Rattle.key_lists.specs.Pairs.{Pair}
 use Rattle.shape.specs.declared.indexes.IndexShape.{IndexShape}
 use Rattle.shape.specs.declared.tables.TableShape.{TableShape}
 use Rattle.shape.specs.declared.whole.Shape.{Shape}

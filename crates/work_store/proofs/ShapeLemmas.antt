@@ -8,7 +8,7 @@ use Rattle.dbf_file.specs.declared.field.Field.{Field}
 use Rattle.dbf_file.specs.Rows.{Row}
 use Rattle.dbf_file.specs.Fields.{widths_of}
 use Rattle.dbf_file.specs.Tables.{StructureState, TableState, row_widths}
-use Rattle.ndx_tree.specs.Pairs.{Pair}
+use Rattle.key_lists.specs.Pairs.{Pair}
 use Rattle.shape.specs.declared.indexes.IndexShape.{IndexShape}
 use Rattle.shape.specs.declared.tables.TableShape.{TableShape}
 use Rattle.shape.specs.declared.whole.Shape.{Shape}

@@ -6,7 +6,7 @@ ghost use Rattle.shape.specs.declared.tables.TableShape.{TableShape as TheTable}
 ghost use Rattle.work_store.specs.Making.{IsAlike, AreAlike, AreOfShape, AreLists, form_of};
 
 use dbf_file::{Field, Table};
-use ndx_tree::KeyList;
+use key_lists::KeyList;
 use shape::{IndexShape, Shape, TableShape};
 
 /// Whether two fields hold the same.

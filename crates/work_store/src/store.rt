@@ -19,7 +19,7 @@ ghost use Rattle.xvalue.specs.Kinds.{kind_of};
 use crate::tables::{declare_all, unused_tables};
 use crate::uses::Use;
 use dbf_file::Table;
-use ndx_tree::KeyList;
+use key_lists::KeyList;
 use row_moves::Spent;
 use shape::Shape;
 use shape::laws::legal_shapes_have_keys;

@@ -13,7 +13,7 @@ ghost use Rattle.work_store.specs.Making.{AreAlike, AreLists, AreNewTables, AreR
 
 use arrayvec::ArrayVec;
 use dbf_file::{Field, Table};
-use ndx_tree::KeyList;
+use key_lists::KeyList;
 use shape::laws::fitting_keys_are_keys;
 use shape::{IndexShape, KeyParts, Shape, TableShape};
 use std::alloc::{AllocError, Global};

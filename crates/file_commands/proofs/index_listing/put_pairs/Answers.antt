@@ -1,8 +1,8 @@
 -- By the law that a walk meets each pair in turn.
 use Rattle.std.proofs.Common.{◌≡◌, ◌++◌, refl, ap, subst, ◌∙◌}
 use Rattle.std.specs.List.{flat_map}
-use Rattle.ndx_tree.specs.Order.{above}
-use Rattle.ndx_tree.specs.Pairs.{is_before}
+use Rattle.key_lists.specs.Order.{above}
+use Rattle.key_lists.specs.Pairs.{is_before}
 use Rattle.file_commands.specs.Lines.{pair_line}
 use Rattle.file_commands.proofs.IndexPairs.{left, begins, goes_on, written, found_of}
 use Rattle.file_commands.proofs.index_listing.put_pairs.Goals as goal

@@ -1,6 +1,6 @@
 use Rattle.std.proofs.Common.{◌≡◌, ◌++◌, length}
 use Rattle.std.specs.List.{flat_map}
-use Rattle.ndx_tree.specs.Laws.{MeetsEach}
+use Rattle.key_lists.specs.Laws.{MeetsEach}
 use Rattle.file_commands.specs.Lines.{pair_line}
 use Rattle.file_commands.proofs.IndexPairs.{left}
 use Rattle.file_commands.proofs.index_listing.put_pairs.Given as goal

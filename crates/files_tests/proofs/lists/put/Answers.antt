@@ -1,8 +1,8 @@
 use Rattle.std.proofs.Common.{◌≡◌, ◌≤◌, ◌∙◌, not, ◌||◌, List, length, refl, ap, subst, arith}
 use Rattle.std.proofs.lemmas.List.Filters.{length-filter_both}
 use Rattle.std.specs.List.{Contains}
-use Rattle.ndx_tree.specs.Order.{without}
-use Rattle.ndx_tree.specs.Pairs.{Pair, is_before}
+use Rattle.key_lists.specs.Order.{without}
+use Rattle.key_lists.specs.Pairs.{Pair, is_before}
 use Rattle.files_tests.proofs.lists.put.Goals as goal
 
 -- no pair comes in where one is taken out

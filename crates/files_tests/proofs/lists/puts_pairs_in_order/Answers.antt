@@ -1,7 +1,7 @@
 use Rattle.std.proofs.Common.{◌≡◌, ℕ, List, [], ◌∷◌, length, ◌<◌, ap, refl, arith, sym, subst, lit<, ◌^◌}
-use Rattle.ndx_tree.specs.Order.{Each, IsDistinct}
-use Rattle.ndx_tree.specs.Pairs.{Pair}
-use Rattle.ndx_tree.specs.KeyForm.{IsPairOf}
+use Rattle.key_lists.specs.Order.{Each, IsDistinct}
+use Rattle.key_lists.specs.Pairs.{Pair}
+use Rattle.key_lists.specs.KeyForm.{IsPairOf}
 use Rattle.files_tests.proofs.lists.puts_pairs_in_order.Goals as goal
 
 -- the four entries of the test

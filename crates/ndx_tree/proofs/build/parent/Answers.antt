@@ -2,7 +2,7 @@ use Rattle.std.proofs.Common.{◌≡◌, ◌-◌, ◌<◌, List, length, drop, s
 use Rattle.std.specs.Vec.{vec_len}
 use Rattle.ndx_tree.specs.Flat.{HaveKeys}
 use Rattle.ndx_tree.specs.Levels.{IsAbove}
-use Rattle.ndx_tree.specs.Order.{Each}
+use Rattle.key_lists.specs.Order.{Each}
 use Rattle.ndx_tree.specs.Pages.{PageView, IsCut, joined}
 use Rattle.ndx_tree.proofs.Cut.{cut_length}
 use Rattle.ndx_tree.proofs.Keyed.{entries_room}

@@ -1,6 +1,6 @@
 use Rattle.std.proofs.Common.{◌≡◌, ◌+◌, ◌-◌, ◌*◌, ◌≤◌, Some, length, get_or, subst, sym, ◌∙◌, arith}
 use Rattle.ndx_tree.specs.Flat.{HaveKeys}
-use Rattle.ndx_tree.specs.Rising.{last_of}
+use Rattle.key_lists.specs.Rising.{last_of}
 use Rattle.ndx_tree.specs.Pages.{PageView}
 use Rattle.ndx_tree.proofs.Keyed.{last_keyed, cut_keyed, child_keyed}
 use Rattle.ndx_tree.proofs.Building.{cut_more, front_keyed, room_more, separators, insert_end}

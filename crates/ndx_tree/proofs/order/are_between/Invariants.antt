@@ -1,5 +1,5 @@
 use Rattle.std.proofs.Common.{take}
-use Rattle.ndx_tree.specs.Order.{Each}
+use Rattle.key_lists.specs.Order.{Each}
 use Rattle.ndx_tree.specs.Reads.{IsBetween}
 use Rattle.ndx_tree.proofs.order.are_between.Given as goal
 

@@ -1,9 +1,9 @@
 use Rattle.std.proofs.Common.{List, subst}
 use Rattle.std.specs.Bool.{IsTrue}
 use Rattle.std.specs.Prelude.{◌↔◌}
-use Rattle.ndx_tree.specs.Order.{Each}
-use Rattle.ndx_tree.specs.Pairs.{Pair}
-use Rattle.ndx_tree.specs.Rising.{IsRising}
+use Rattle.key_lists.specs.Order.{Each}
+use Rattle.key_lists.specs.Pairs.{Pair}
+use Rattle.key_lists.specs.Rising.{IsRising}
 use Rattle.ndx_tree.specs.Reads.{IsBetween}
 use Rattle.ndx_tree.specs.declared.walk.Separator.{Separator}
 use Rattle.ndx_tree.proofs.Between.{in_order_from, in_order_to}

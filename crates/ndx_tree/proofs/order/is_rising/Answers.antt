@@ -1,8 +1,8 @@
 use Rattle.std.proofs.Common.{◌≡◌, ◌∙◌, sym, ap, arith}
 use Rattle.std.specs.Ordering.{is_lt}
 use Rattle.std.proofs.lemmas.Bool.{false≢true}
-use Rattle.ndx_tree.specs.Pairs.{is_before}
-use Rattle.ndx_tree.proofs.PairOrder.{is_before_is}
+use Rattle.key_lists.specs.Pairs.{is_before}
+use Rattle.key_lists.proofs.PairOrder.{is_before_is}
 use Rattle.ndx_tree.proofs.Between.{rising_step, rising_there}
 use Rattle.ndx_tree.proofs.order.is_rising.Goals as goal
 

@@ -1,5 +1,5 @@
 use Rattle.std.proofs.Common.{take, ◌<◌}
-use Rattle.ndx_tree.specs.Rising.{IsRising}
+use Rattle.key_lists.specs.Rising.{IsRising}
 use Rattle.ndx_tree.proofs.order.is_rising.Given as goal
 
 abbrev pub invariant-loop-index : goal.invariant-loop-index

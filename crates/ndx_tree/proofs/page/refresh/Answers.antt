@@ -1,8 +1,8 @@
 use Rattle.std.proofs.Common.{◌≡◌, ◌+◌, ◌*◌, Some, subst, sym, arith, length, ◌≤◌, List}
 use Rattle.std.proofs.lemmas.List.{set_past}
-use Rattle.ndx_tree.specs.Pairs.{Pair}
+use Rattle.key_lists.specs.Pairs.{Pair}
 use Rattle.ndx_tree.specs.Pages.{PageView, IsCut}
-use Rattle.ndx_tree.specs.Rising.{last_of}
+use Rattle.key_lists.specs.Rising.{last_of}
 use Rattle.ndx_tree.specs.Flat.{HaveKeys}
 use Rattle.ndx_tree.proofs.Keyed.{last_keyed, child_keyed}
 use Rattle.ndx_tree.proofs.page.refresh.Goals as goal

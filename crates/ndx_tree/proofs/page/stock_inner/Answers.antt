@@ -1,5 +1,5 @@
 use Rattle.std.proofs.Common.{subst, sym, arith}
-use Rattle.ndx_tree.specs.Order.{Each}
+use Rattle.key_lists.specs.Order.{Each}
 use Rattle.ndx_tree.specs.Blanks.{IsInnerBlank}
 use Rattle.ndx_tree.proofs.BlankLemmas.{each_more}
 use Rattle.ndx_tree.proofs.page.stock_inner.Goals as goal

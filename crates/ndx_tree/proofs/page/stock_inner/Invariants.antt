@@ -1,6 +1,6 @@
 use Rattle.std.proofs.Common.{◌≤◌}
 use Rattle.std.specs.Vec.{vec_len}
-use Rattle.ndx_tree.specs.Order.{Each}
+use Rattle.key_lists.specs.Order.{Each}
 use Rattle.ndx_tree.specs.Blanks.{IsInnerBlank}
 use Rattle.ndx_tree.proofs.page.stock_inner.Given as goal
 

@@ -1,8 +1,8 @@
 use Rattle.std.proofs.Common.{◌≡◌, ◌∙◌, ◌∷◌, ◌++◌, [], ℕ, List, length, get_or, sym, ap, subst, refl, arith, length-append}
 use Rattle.std.proofs.lemmas.List.{get_or_default}
 use Rattle.ndx_page.specs.declared.page.PageEntry.{PageEntry}
-use Rattle.ndx_tree.specs.Pairs.{Pair}
-use Rattle.ndx_tree.specs.Order.{Each}
+use Rattle.key_lists.specs.Pairs.{Pair}
+use Rattle.key_lists.specs.Order.{Each}
 use Rattle.ndx_tree.specs.IndexFile.{leaf_pairs}
 use Rattle.ndx_tree.proofs.BlankLemmas.{each_more}
 use Rattle.ndx_tree.proofs.Between.{take_next}

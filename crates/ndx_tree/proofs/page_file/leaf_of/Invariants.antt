@@ -1,5 +1,5 @@
 use Rattle.std.proofs.Common.{◌≡◌, take, length}
-use Rattle.ndx_tree.specs.Order.{Each}
+use Rattle.key_lists.specs.Order.{Each}
 use Rattle.ndx_tree.specs.IndexFile.{leaf_pairs}
 use Rattle.ndx_tree.proofs.page_file.leaf_of.Given as goal
 

@@ -1,9 +1,9 @@
 use Rattle.std.proofs.Common.{◌-◌, ◌∷◌, ◌++◌, List, refl, sym, ◌∙◌, subst}
-use Rattle.ndx_tree.specs.Pairs.{Pair, is_before}
-use Rattle.ndx_tree.specs.Order.{Each}
-use Rattle.ndx_tree.specs.KeyForm.{IsPairOf}
+use Rattle.key_lists.specs.Pairs.{Pair, is_before}
+use Rattle.key_lists.specs.Order.{Each}
+use Rattle.key_lists.specs.KeyForm.{IsPairOf}
 use Rattle.ndx_tree.specs.Blanks.{IsPool}
-use Rattle.ndx_tree.proofs.Ordered.{Each-inserted, Each-append_left}
+use Rattle.key_lists.proofs.Ordered.{Each-inserted, Each-append_left}
 use Rattle.ndx_tree.proofs.Keyed.{tree_keyed}
 use Rattle.ndx_tree.proofs.TreeLemmas.{tree_kept, tree_grown, split_rising}
 use Rattle.ndx_tree.proofs.tree.grow.Goals as goal

@@ -1,5 +1,5 @@
 use Rattle.std.proofs.Common.{◌≡◌, ◌∙◌, ◌∷◌, ◌++◌, [], List, ℕ, sym, ap, arith, append_assoc}
-use Rattle.ndx_tree.specs.Pairs.{Pair}
+use Rattle.key_lists.specs.Pairs.{Pair}
 use Rattle.ndx_tree.proofs.Reading.{leaf_pairs_more}
 use Rattle.ndx_tree.proofs.walk.add_pairs.Goals as goal
 

@@ -1,6 +1,6 @@
 use Rattle.std.proofs.Common.{sym, ◌∙◌, subst, arith}
-use Rattle.ndx_tree.specs.KeyForm.{IsKeyText}
-use Rattle.ndx_tree.specs.Order.{IsDistinct}
+use Rattle.key_lists.specs.KeyForm.{IsKeyText}
+use Rattle.key_lists.specs.Order.{IsDistinct}
 use Rattle.row_keys.specs.Lists.{IsExact, kept_rows}
 use Rattle.row_keys.proofs.ListLemmas.{IsDistinct-row_pairs, listed_by}
 use Rattle.row_keys.proofs.building.build_of.Goals as goal

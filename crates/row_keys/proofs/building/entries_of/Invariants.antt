@@ -1,7 +1,7 @@
 use Rattle.std.proofs.Common.{◌≡◌, ◌≤◌, length, take}
 use Rattle.dbf_file.specs.Tables.{row_widths}
-use Rattle.ndx_tree.specs.KeyForm.{IsPairOf}
-use Rattle.ndx_tree.specs.Order.{Each}
+use Rattle.key_lists.specs.KeyForm.{IsPairOf}
+use Rattle.key_lists.specs.Order.{Each}
 use Rattle.shape.specs.Keys.{key_length}
 use Rattle.row_keys.specs.Lists.{row_pairs, kept_rows}
 use Rattle.row_keys.proofs.building.entries_of.Given as goal

@@ -1,7 +1,7 @@
 use Rattle.std.proofs.Common.{◌≡◌, ◌++◌, ◌∷◌, [], sym, subst, rules}
 use Rattle.dbf_file.specs.Tables.{row_widths}
-use Rattle.ndx_tree.specs.KeyForm.{IsPairOf}
-use Rattle.ndx_tree.specs.Order.{Each}
+use Rattle.key_lists.specs.KeyForm.{IsPairOf}
+use Rattle.key_lists.specs.Order.{Each}
 use Rattle.shape.specs.Keys.{key_length}
 use Rattle.row_keys.proofs.ListLemmas.{each_push}
 use Rattle.row_keys.proofs.building.put_row.Goals as goal

@@ -1,5 +1,5 @@
 use Rattle.std.proofs.Common.{ap, ◌∙◌}
-use Rattle.ndx_tree.specs.KeyForm.{KeyForm}
+use Rattle.key_lists.specs.KeyForm.{KeyForm}
 use Rattle.row_keys.specs.Lists.{kept_rows}
 use Rattle.row_keys.proofs.IndexLemmas.{rebuilt_same}
 use Rattle.row_keys.proofs.building.rebuilt.Goals as goal

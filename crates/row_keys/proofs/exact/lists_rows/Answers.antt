@@ -1,6 +1,6 @@
 use Rattle.std.proofs.Common.{◌≡◌, ◌≤◌, ℕ, Option, List, length, sym, ◌∙◌, ap, subst, arith, refl}
-use Rattle.ndx_tree.specs.Order.{above, first}
-use Rattle.ndx_tree.specs.Pairs.{Pair, is_before}
+use Rattle.key_lists.specs.Order.{above, first}
+use Rattle.key_lists.specs.Pairs.{Pair, is_before}
 use Rattle.row_keys.specs.Lists.{index_list}
 use Rattle.row_keys.proofs.ExactLemmas.{Walked, lists_all, walk_goes, walk_met_all}
 use Rattle.row_keys.proofs.exact.lists_rows.Goals as goal

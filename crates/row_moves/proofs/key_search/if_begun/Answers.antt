@@ -1,7 +1,7 @@
 use Rattle.std.proofs.Common.{◌≡◌, ◌∙◌, Bool, true, false, cond, Some, None, List, ℕ, Option, sym, ap}
 use Rattle.std.specs.List.{starts_with}
 use Rattle.std.specs.Prelude.{nat_eq}
-use Rattle.ndx_tree.specs.Pairs.{Pair}
+use Rattle.key_lists.specs.Pairs.{Pair}
 use Rattle.row_moves.specs.Seeking.{begun_or_none}
 use Rattle.row_moves.proofs.Seeking.{starts_is}
 use Rattle.row_moves.proofs.key_search.if_begun.Goals as goal

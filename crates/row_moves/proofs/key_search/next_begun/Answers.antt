@@ -1,6 +1,6 @@
 use Rattle.std.proofs.Common.{◌∙◌, ap}
-use Rattle.ndx_tree.specs.Order.{above}
-use Rattle.ndx_tree.specs.Pairs.{is_before, pairs_from}
+use Rattle.key_lists.specs.Order.{above}
+use Rattle.key_lists.specs.Pairs.{is_before, pairs_from}
 use Rattle.row_moves.specs.Seeking.{begun_or_none}
 use Rattle.row_moves.proofs.Seeking.{first_run}
 use Rattle.row_moves.proofs.key_search.next_begun.Goals as goal

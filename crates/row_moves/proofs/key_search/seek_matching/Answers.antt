@@ -1,5 +1,5 @@
 use Rattle.std.proofs.Common.{◌∙◌, ◌+◌, List, sym, ap, subst, drop}
-use Rattle.ndx_tree.specs.Pairs.{Pair}
+use Rattle.key_lists.specs.Pairs.{Pair}
 use Rattle.row_moves.specs.Moves.{IsScan, first_shown, is_blank, matching, met}
 use Rattle.row_moves.specs.Seeking.{begun, cut_or_filled}
 use Rattle.row_moves.proofs.Seeking.{matching_cut_or_filled, matching_none}

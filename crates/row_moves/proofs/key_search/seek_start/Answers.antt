@@ -1,5 +1,5 @@
 use Rattle.std.proofs.Common.{◌≡◌, ℕ, ◌+◌, Bool, true, List, sym, ap, ◌∙◌, refl, arith, of_calls}
-use Rattle.ndx_tree.specs.Pairs.{Pair}
+use Rattle.key_lists.specs.Pairs.{Pair}
 use Rattle.row_moves.specs.Orders.{Sees}
 use Rattle.row_moves.specs.Moves.{first_shown, met}
 use Rattle.row_moves.proofs.Steps.{at_end}

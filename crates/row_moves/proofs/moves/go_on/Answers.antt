@@ -1,7 +1,7 @@
 use Rattle.std.proofs.Common.{◌≡◌, ℕ, ◌-◌, ◌⊎◌, inl, inr, Bool, true, false, not, ◌&&◌, Option, Some, None, List, sym, ap, ◌∙◌, refl, arith}
 use Rattle.std.specs.Option.{is_none, is_some}
 use Rattle.std.proofs.lemmas.Result.{err_from_is_err_and}
-use Rattle.ndx_tree.specs.Pairs.{Pair}
+use Rattle.key_lists.specs.Pairs.{Pair}
 use Rattle.row_moves.specs.Orders.{candidates, Sees}
 use Rattle.row_moves.specs.Moves.{first_shown, met, hop, hops, Landing}
 use Rattle.row_moves.proofs.Steps.{hops_past, hops_step, hop_on, hop_met, lands_at}

@@ -1,8 +1,8 @@
 use Rattle.std.proofs.Common.{◌≡◌, List, subst, refl}
 use Rattle.std.proofs.lemmas.Bool.{false≢true}
 use Rattle.ndx_tree.specs.IndexFile.{IsIndexFile}
-use Rattle.ndx_tree.specs.KeyForm.{KeyForm}
-use Rattle.ndx_tree.specs.Pairs.{Pair}
+use Rattle.key_lists.specs.KeyForm.{KeyForm}
+use Rattle.key_lists.specs.Pairs.{Pair}
 use Rattle.work_store.specs.Making.{form_of}
 use Rattle.table_files.proofs.lists.list_in.Goals as goal
 

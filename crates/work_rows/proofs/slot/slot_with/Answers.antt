@@ -1,7 +1,7 @@
 use Rattle.std.proofs.Common.{◌≡◌, ℕ, Some, None, List, refl, sym, ap, ◌∙◌, subst}
 use Rattle.dbf_file.specs.Rows.{Row}
 use Rattle.dbf_file.specs.Tables.{StructureState, row_widths}
-use Rattle.ndx_tree.specs.KeyForm.{KeyForm, IsKeyText}
+use Rattle.key_lists.specs.KeyForm.{KeyForm, IsKeyText}
 use Rattle.shape.specs.declared.parts.KeyPart.{KeyPart}
 use Rattle.shape.specs.Keys.{IsKey, key_length}
 use Rattle.row_keys.specs.Lists.{IndexState, index_list}

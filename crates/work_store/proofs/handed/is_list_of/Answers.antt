@@ -3,7 +3,7 @@ use Rattle.std.specs.Prelude.{slice_get, slice_index}
 use Rattle.std.proofs.lemmas.Bool.{false≢true}
 use Rattle.dbf_file.specs.declared.field.Field.{Field}
 use Rattle.dbf_file.specs.Fields.{widths_of}
-use Rattle.ndx_tree.specs.KeyForm.{KeyForm}
+use Rattle.key_lists.specs.KeyForm.{KeyForm}
 use Rattle.shape.specs.declared.parts.KeyPart.{KeyPart}
 use Rattle.shape.specs.Keys.{key_length, bytes_of, width_of, key_text}
 use Rattle.work_store.proofs.handed.is_list_of.Goals as goal

@@ -1,7 +1,7 @@
 use Rattle.std.proofs.Common.{◌≡◌, ◌≢◌, ℕ, zero, suc, ◌+◌, ◌<◌, Option, Some, None, List, [], ◌∷◌, length, get_or, take, refl, sym, ◌∙◌, subst, arith}
 use Rattle.std.specs.Prelude.{slice_get, IfSome, IsSomeAnd}
 use Rattle.std.proofs.lemmas.List.{get_or_default, get_or-set_other, length-set}
-use Rattle.ndx_tree.specs.Pairs.{Pair}
+use Rattle.key_lists.specs.Pairs.{Pair}
 use Rattle.shape.specs.declared.indexes.IndexShape.{IndexShape}
 use Rattle.work_area.specs.Open.{OpenState}
 use Rattle.work_store.specs.Making.{AreNewTables, AreReady, Declares, form_of, lists_just}

@@ -2,7 +2,7 @@ use Rattle.std.proofs.Common.{◌≡◌, List, sym, ap, ◌∙◌, subst}
 use Rattle.std.specs.Prelude.{IfSome}
 use Rattle.dbf_file.specs.declared.field.Field.{Field}
 use Rattle.dbf_file.specs.Fields.{widths_of}
-use Rattle.ndx_tree.specs.KeyForm.{KeyForm}
+use Rattle.key_lists.specs.KeyForm.{KeyForm}
 use Rattle.shape.specs.declared.parts.KeyPart.{KeyPart}
 use Rattle.shape.specs.Keys.{IsKey, key_length, key_text}
 use Rattle.work_store.proofs.MakingLemmas.{key_same, alike_widths}

@@ -1,7 +1,7 @@
 use Rattle.std.proofs.Common.{◌≡◌, ◌-◌, suc, Some, take, sym, ap, ◌∙◌, arith}
-use Rattle.ndx_tree.specs.Pairs.{Pair}
-use Rattle.ndx_tree.specs.Rising.{last_of}
-use Rattle.ndx_tree.proofs.Rises.{last_of_take}
+use Rattle.key_lists.specs.Pairs.{Pair}
+use Rattle.key_lists.specs.Rising.{last_of}
+use Rattle.key_lists.proofs.Rises.{last_of_take}
 use Rattle.ndx_tree.proofs.entries.Entries.before.Goals as goal
 
 pub returns : goal.returns

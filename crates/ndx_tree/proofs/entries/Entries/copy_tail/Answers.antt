@@ -1,7 +1,7 @@
 use Rattle.std.proofs.Common.{◌≡◌, ◌+◌, ◌*◌, ◌-◌, ◌≤◌, ℕ, List, ◌++◌, length, drop, refl, sym, ap, subst, ◌∙◌, arith, length-drop}
 use Rattle.std.proofs.lemmas.List.{drop_all}
 use Rattle.std.proofs.Math.Nat.{add-mul}
-use Rattle.ndx_tree.specs.Pairs.{Pair}
+use Rattle.key_lists.specs.Pairs.{Pair}
 use Rattle.ndx_tree.specs.Flat.{FlatView, HaveKeys, pairs_in}
 use Rattle.ndx_tree.proofs.FlatLemmas.{length-pairs_in, place_at_most, places_apart, key_length_is, adopted, length-added, pairs_added, with_nothing}
 use Rattle.ndx_tree.proofs.entries.Entries.copy_tail.Goals as goal

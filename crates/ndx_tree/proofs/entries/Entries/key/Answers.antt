@@ -1,5 +1,5 @@
 use Rattle.std.proofs.Common.{◌≡◌, ◌+◌, ◌*◌, ℕ, List, length, take, drop, get_or, sym, ap, ◌∙◌, arith}
-use Rattle.ndx_tree.specs.Pairs.{Pair}
+use Rattle.key_lists.specs.Pairs.{Pair}
 use Rattle.ndx_tree.specs.Flat.{FlatView, pairs_in}
 use Rattle.ndx_tree.proofs.FlatLemmas.{length-pairs_in, place_within, key_at}
 use Rattle.ndx_tree.proofs.entries.Entries.key.Goals as goal

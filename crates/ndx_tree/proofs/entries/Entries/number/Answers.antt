@@ -1,6 +1,6 @@
 use Rattle.std.proofs.Common.{◌≡◌, ◌+◌, ◌*◌, ℕ, List, length, drop, get_or, sym, ap, ◌∙◌, arith}
 use Rattle.byteorder.specs.Endian.{little_number}
-use Rattle.ndx_tree.specs.Pairs.{Pair}
+use Rattle.key_lists.specs.Pairs.{Pair}
 use Rattle.ndx_tree.specs.Flat.{FlatView, pairs_in}
 use Rattle.ndx_tree.proofs.FlatLemmas.{length-pairs_in, place_within, number_at}
 use Rattle.ndx_tree.proofs.entries.Entries.number.Goals as goal

@@ -1,6 +1,6 @@
 use Rattle.std.proofs.Common.{◌+◌, ◌-◌, ◌/◌, sym, ◌∙◌, arith}
-use Rattle.ndx_tree.specs.Pairs.{Pair}
-use Rattle.ndx_tree.proofs.Rises.{place_of-le}
+use Rattle.key_lists.specs.Pairs.{Pair}
+use Rattle.key_lists.proofs.Rises.{place_of-le}
 use Rattle.ndx_tree.proofs.FlatLemmas.{place_past, place_not_past}
 use Rattle.ndx_tree.proofs.entries.Entries.place.Goals as goal
 

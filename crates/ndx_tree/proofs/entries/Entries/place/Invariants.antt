@@ -1,5 +1,5 @@
 use Rattle.std.proofs.Common.{◌≤◌, ◌-◌, length}
-use Rattle.ndx_tree.specs.Rising.{place_of}
+use Rattle.key_lists.specs.Rising.{place_of}
 use Rattle.ndx_tree.proofs.entries.Entries.place.Given as goal
 
 -- the place stands between the two bounds

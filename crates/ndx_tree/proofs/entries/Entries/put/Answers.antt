@@ -1,7 +1,7 @@
 use Rattle.std.proofs.Common.{◌≡◌, ◌+◌, ◌*◌, ◌≤◌, ℕ, List, ◌++◌, length, take, drop, refl, sym, ap, subst, ◌∙◌, arith}
 use Rattle.std.specs.List.{insert}
 use Rattle.byteorder.specs.Endian.{little_bytes}
-use Rattle.ndx_tree.specs.Pairs.{Pair}
+use Rattle.key_lists.specs.Pairs.{Pair}
 use Rattle.ndx_tree.specs.Flat.{FlatView, HaveKeys, pairs_in}
 use Rattle.ndx_tree.proofs.FlatLemmas.{length-pairs_in, place_at_most, next_place, adopted, length-put, pairs_put}
 use Rattle.ndx_tree.proofs.entries.Entries.put.Goals as goal

@@ -1,6 +1,6 @@
 use Rattle.std.proofs.Common.{◌≡◌, List, length, sym, ap, ◌∙◌, arith}
 use Rattle.std.specs.List.{remove}
-use Rattle.ndx_tree.specs.Pairs.{Pair}
+use Rattle.key_lists.specs.Pairs.{Pair}
 use Rattle.ndx_tree.specs.Flat.{FlatView, pairs_in}
 use Rattle.ndx_tree.proofs.FlatLemmas.{length-pairs_in, place_within, length-taken, pairs_taken}
 use Rattle.ndx_tree.proofs.entries.Entries.remove.Goals as goal

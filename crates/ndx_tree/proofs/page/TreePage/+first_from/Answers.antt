@@ -1,8 +1,8 @@
 use Rattle.std.proofs.Common.{◌≡◌, ◌+◌, ◌<◌, ◌≤◌, [], Some, length, get_or, refl, ap, sym, ◌∙◌, subst, arith}
 use Rattle.std.proofs.lemmas.Bool.{eqb-true, eqb-false}
 use Rattle.std.proofs.lemmas.List.{nil_from_length}
-use Rattle.ndx_tree.specs.Pairs.{Pair}
-use Rattle.ndx_tree.specs.Rising.{first_from, place_of, IsRising}
+use Rattle.key_lists.specs.Pairs.{Pair}
+use Rattle.key_lists.specs.Rising.{first_from, place_of, IsRising}
 use Rattle.ndx_tree.specs.Pages.{PageView, pairs_of, joined, IsChild}
 use Rattle.ndx_tree.proofs.Cut.{pairs_from, cut_from}
 use Rattle.ndx_tree.proofs.Search.{first_at_place, none_at_place, first_in_child}

@@ -2,7 +2,7 @@ use Rattle.std.proofs.Common.{◌≡◌, ◌+◌, ◌*◌, ◌<◌, ◌≤◌, L
 use Rattle.std.proofs.lemmas.Bool.{eqb-true, eqb-false}
 use Rattle.std.proofs.lemmas.List.{nil_from_length, set-get_or}
 use Rattle.std.proofs.lemmas.List.Edits.{length-insert}
-use Rattle.ndx_tree.specs.Pairs.{Pair}
+use Rattle.key_lists.specs.Pairs.{Pair}
 use Rattle.ndx_tree.specs.Pages.{PageView, IsPage, Inserts, InsertsInRoom, view_of}
 use Rattle.ndx_tree.proofs.Cut.{entries_rising, height_of-pos}
 use Rattle.ndx_tree.proofs.Take.{leaf_takes, placed_child, child_grows, done_inserts, absent_within, child_ready}

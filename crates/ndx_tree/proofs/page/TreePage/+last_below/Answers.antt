@@ -1,8 +1,8 @@
 use Rattle.std.proofs.Common.{◌≡◌, ℕ, ◌+◌, ◌<◌, List, Some, None, length, take, get_or, refl, ap, sym, ◌∙◌, subst, arith, true, false, Option}
 use Rattle.std.specs.Prelude.{is_some}
 use Rattle.std.proofs.lemmas.Bool.{eqb-false}
-use Rattle.ndx_tree.specs.Pairs.{Pair}
-use Rattle.ndx_tree.specs.Rising.{last_below, last_of, place_of, IsRising}
+use Rattle.key_lists.specs.Pairs.{Pair}
+use Rattle.key_lists.specs.Rising.{last_below, last_of, place_of, IsRising}
 use Rattle.ndx_tree.specs.Pages.{PageView, joined, view_of, IsPage, IsChild}
 use Rattle.ndx_tree.proofs.Cut.{pairs_from, cut_from, entries_rising}
 use Rattle.ndx_tree.proofs.Search.{below_in_child, below_at_place}

@@ -1,8 +1,8 @@
 use Rattle.std.proofs.Common.{◌≡◌, ◌+◌, ◌-◌, ◌<◌, List, [], Some, length, get_or, ap, sym, ◌∙◌, subst, arith}
 use Rattle.std.proofs.lemmas.Bool.{eqb-true, eqb-false}
 use Rattle.std.proofs.lemmas.List.{nil_from_length}
-use Rattle.ndx_tree.specs.Pairs.{Pair}
-use Rattle.ndx_tree.specs.Rising.{last_of}
+use Rattle.key_lists.specs.Pairs.{Pair}
+use Rattle.key_lists.specs.Rising.{last_of}
 use Rattle.ndx_tree.specs.Pages.{PageView, pairs_of, height_of}
 use Rattle.ndx_tree.proofs.Cut.{height_of-pos}
 use Rattle.ndx_tree.proofs.Remove.{last_index, last_child}

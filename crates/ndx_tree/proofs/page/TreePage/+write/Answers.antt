@@ -2,9 +2,9 @@ use Rattle.std.proofs.Common.{◌≡◌, ◌∙◌, ◌+◌, ◌-◌, ◌/◌, �
 use Rattle.std.proofs.lemmas.Bool.{eqb-true, eqb-false}
 use Rattle.std.proofs.lemmas.List.{nil_from_length, take_all, get_or_default}
 use Rattle.ndx_page.specs.declared.page.PageEntry.{PageEntry}
-use Rattle.ndx_tree.specs.Order.{Each}
-use Rattle.ndx_tree.specs.Pairs.{Pair}
-use Rattle.ndx_tree.specs.KeyForm.{IsPairOf}
+use Rattle.key_lists.specs.Order.{Each}
+use Rattle.key_lists.specs.Pairs.{Pair}
+use Rattle.key_lists.specs.KeyForm.{IsPairOf}
 use Rattle.ndx_tree.specs.IndexFile.{leaf_pairs}
 use Rattle.ndx_tree.specs.Pages.{PageView, view_of, pairs_of, IsPage, joined, height_of}
 use Rattle.ndx_tree.specs.Writes.{AreWritten, IsWritten, IsPageText}

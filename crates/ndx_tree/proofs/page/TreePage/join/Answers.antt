@@ -3,12 +3,12 @@ use Rattle.std.proofs.lemmas.Bool.{eqb-true, eqb-false}
 use Rattle.std.proofs.lemmas.List.{nil_from_length}
 use Rattle.std.proofs.lemmas.List.Edits.{insert_end}
 use Rattle.std.specs.List.{insert}
-use Rattle.ndx_tree.specs.Pairs.{Pair}
+use Rattle.key_lists.specs.Pairs.{Pair}
 use Rattle.ndx_tree.specs.Pages.{PageView}
 use Rattle.ndx_tree.proofs.Join.{leaf_joins, inner_joined, inner_joins, joins_split, IsJoined}
 use Rattle.std.proofs.lemmas.List.Edits.{length-insert}
 use Rattle.ndx_tree.specs.Flat.{HaveKeys}
-use Rattle.ndx_tree.proofs.Ordered.{Each-append, Each-append_left, Each-append_right}
+use Rattle.key_lists.proofs.Ordered.{Each-append, Each-append_left, Each-append_right}
 use Rattle.ndx_tree.proofs.Keyed.{page_keyed, last_keyed, put_keyed, entries_room, most_is}
 use Rattle.ndx_tree.proofs.page.TreePage.join.Goals as goal
 

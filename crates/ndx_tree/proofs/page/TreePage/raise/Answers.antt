@@ -1,5 +1,5 @@
 use Rattle.std.proofs.Common.{◌≡◌, ◌+◌, ◌*◌, ◌≤◌, List, length, subst, sym, ap, arith}
-use Rattle.ndx_tree.specs.Pairs.{Pair}
+use Rattle.key_lists.specs.Pairs.{Pair}
 use Rattle.ndx_tree.specs.Flat.{FlatView}
 use Rattle.ndx_tree.proofs.Keyed.{entries_room, last_keyed, most_is}
 use Rattle.ndx_tree.proofs.page.TreePage.raise.Goals as goal

@@ -1,6 +1,6 @@
 use Rattle.std.proofs.Common.{◌+◌, ap, ◌∙◌}
-use Rattle.ndx_tree.specs.Pairs.{Pair}
-use Rattle.ndx_tree.specs.Rising.{first_from}
+use Rattle.key_lists.specs.Pairs.{Pair}
+use Rattle.key_lists.specs.Rising.{first_from}
 use Rattle.ndx_tree.proofs.Search.{from_next}
 use Rattle.ndx_tree.proofs.tree.NdxTree.after.Goals as goal
 

@@ -1,8 +1,8 @@
 use Rattle.std.proofs.Common.{ap, ◌∙◌}
 use Rattle.ndx_tree.specs.Trees.{TreeView}
-use Rattle.ndx_tree.specs.Order.{first, below}
-use Rattle.ndx_tree.specs.Pairs.{Pair, is_before}
-use Rattle.ndx_tree.specs.Rising.{last_below}
+use Rattle.key_lists.specs.Order.{first, below}
+use Rattle.key_lists.specs.Pairs.{Pair, is_before}
+use Rattle.key_lists.specs.Rising.{last_below}
 use Rattle.ndx_tree.proofs.Search.{last_below_is}
 use Rattle.ndx_tree.proofs.tree.NdxTree.before.Goals as goal
 

@@ -1,7 +1,7 @@
 use Rattle.std.proofs.Common.{ap, sym, ◌∙◌}
 use Rattle.std.proofs.Common.{reverse}
 use Rattle.ndx_tree.specs.Trees.{TreeView}
-use Rattle.ndx_tree.specs.Order.{first}
+use Rattle.key_lists.specs.Order.{first}
 use Rattle.ndx_tree.proofs.Search.{last_reverse}
 use Rattle.ndx_tree.proofs.tree.NdxTree.last.Goals as goal
 

@@ -1,7 +1,7 @@
 use Rattle.std.proofs.Common.{◌∙◌, List, ⊎_elim, sym, subst, length}
 use Rattle.std.proofs.lemmas.Bool.{false≢true}
-use Rattle.ndx_tree.specs.Pairs.{Pair}
-use Rattle.ndx_tree.specs.Rising.{IsRising}
+use Rattle.key_lists.specs.Pairs.{Pair}
+use Rattle.key_lists.specs.Rising.{IsRising}
 use Rattle.ndx_tree.specs.IndexFile.{AreInOrder}
 use Rattle.ndx_tree.specs.Reads.{AreInside, marks}
 use Rattle.ndx_tree.specs.declared.walk.Separator.{Separator}

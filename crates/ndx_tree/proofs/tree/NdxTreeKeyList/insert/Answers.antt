@@ -1,14 +1,14 @@
 use Rattle.std.proofs.Common.{◌≡◌, ◌-◌, ◌<◌, None, List, ◌∷◌, length, ap, sym, ◌∙◌, subst, refl, arith}
 use Rattle.std.specs.List.{Contains}
 use Rattle.ndx_tree.specs.Trees.{TreeView, IsTree}
-use Rattle.ndx_tree.specs.Pairs.{Pair}
-use Rattle.ndx_tree.specs.KeyForm.{KeyForm, IsPairOf}
+use Rattle.key_lists.specs.Pairs.{Pair}
+use Rattle.key_lists.specs.KeyForm.{KeyForm, IsPairOf}
 use Rattle.ndx_tree.specs.Pages.{PageView, Inserts, InsertsInRoom}
-use Rattle.ndx_tree.specs.Rising.{IsAbsent, with_pair}
-use Rattle.ndx_tree.proofs.Ordered.{Each-absent}
+use Rattle.key_lists.specs.Rising.{IsAbsent, with_pair}
+use Rattle.key_lists.proofs.Ordered.{Each-absent}
 use Rattle.ndx_tree.proofs.Keyed.{tree_keyed}
 use Rattle.ndx_tree.proofs.TreeLemmas.{tree_kept}
-use Rattle.ndx_tree.proofs.Rises.{length-with_pair}
+use Rattle.key_lists.proofs.Rises.{length-with_pair}
 use Rattle.ndx_tree.proofs.tree.NdxTreeKeyList.insert.Goals as goal
 
 pub insert_in_room-requires-clause-absent : goal.insert_in_room-requires-clause-absent

@@ -1,6 +1,6 @@
 use Rattle.std.proofs.Common.{◌∙◌}
 use Rattle.std.proofs.lemmas.Result.{IfOk-weaker}
-use Rattle.ndx_tree.proofs.Filling.{sorted_again}
+use Rattle.key_lists.proofs.Filling.{sorted_again}
 use Rattle.ndx_tree.proofs.tree.NdxTreeKeyList.rebuild.Goals as goal
 
 pub of_rising-requires-clause-keys : goal.of_rising-requires-clause-keys

@@ -1,10 +1,10 @@
 use Rattle.std.proofs.Common.{◌≡◌, List, true, false, length, ap, sym, ◌∙◌, subst, refl, arith}
 use Rattle.std.specs.List.{Contains}
 use Rattle.ndx_tree.specs.Trees.{TreeView}
-use Rattle.ndx_tree.specs.Pairs.{Pair, is_before}
+use Rattle.key_lists.specs.Pairs.{Pair, is_before}
 use Rattle.std.proofs.Common.{⊎_elim}
 use Rattle.std.proofs.lemmas.Bool.{cases_lt, false≢true}
-use Rattle.ndx_tree.specs.Order.{without}
+use Rattle.key_lists.specs.Order.{without}
 use Rattle.ndx_tree.specs.Pages.{Removes}
 use Rattle.ndx_tree.proofs.TreeLemmas.{tree_low, tree_lost, tree_lowered, is_out, is_not_in}
 use Rattle.ndx_tree.proofs.Keyed.{tree_keyed}

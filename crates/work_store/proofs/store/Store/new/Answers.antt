@@ -1,5 +1,5 @@
 use Rattle.std.proofs.Common.{None, replicate, ℕ, List, refl}
-use Rattle.ndx_tree.specs.Pairs.{Pair}
+use Rattle.key_lists.specs.Pairs.{Pair}
 use Rattle.work_store.specs.Areas.{StoreState}
 use Rattle.work_store.specs.Making.{lists_just, IsNewStore}
 use Rattle.work_store.proofs.ShapeLemmas.{starts}

@@ -1,0 +1,10 @@
+pub mod Ordered
+pub mod PairOrder
+pub mod Sound
+pub mod Members
+pub mod Nearest
+pub mod LawLemmas
+pub mod KeyOrder
+pub mod Rises
+pub mod Filling
+pub mod Starts

@@ -1,0 +1,6 @@
+pub mod Order
+pub mod Pairs
+pub mod KeyForm
+pub mod SortedList
+pub mod Laws
+pub mod Rising

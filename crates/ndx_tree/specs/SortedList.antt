@@ -1,9 +1,0 @@
-use Rattle.std.specs.Prelude.{ℕ, List}
-use Rattle.ndx_tree.specs.KeyForm.{KeyForm}
-use Rattle.ndx_tree.specs.Pairs.{Pair}
-
--- what callers see of a sorted list of keys: its pairs in order, for how many more there is room, and its keys' form
-pub record SortedList : Type 0 where
-  pub pairs : List Pair
-  pub spare : ℕ
-  pub form : KeyForm
