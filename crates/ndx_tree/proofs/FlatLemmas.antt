@@ -207,3 +207,10 @@ put_again (y ∷ xs) (suc at) x l = ap (λ (r : List Pair). y ∷ r) (put_again 
 pub with_nothing : (xs ys : List Pair) → ys ≡ [] → xs ≡ xs ++ ys
 with_nothing [] ys e = sym e
 with_nothing (x ∷ xs) ys e = ap (λ (r : List Pair). x ∷ r) (with_nothing xs ys e)
+
+-- the last of a row and the others
+pub last_apart : (l front : List Pair) (x : Pair) (n : ℕ) → n + 1 ≡ length l → x ≡ get_or l n x → front ≡ take n l → l ≡ front ++ x ∷ []
+last_apart [] front x n e g f = absurd (omega arith)
+last_apart (y ∷ []) front x zero e g f = rw (f, g) refl
+last_apart (y ∷ z ∷ l) front x zero e g f = absurd (omega arith)
+last_apart (y ∷ l) front x (suc n) e g f = rw f (ap (λ (m : List Pair). y ∷ m) (last_apart l (take n l) x n (omega arith) g refl))

@@ -37,8 +37,8 @@ pub parted_keyed : (k : ℕ) (old left right : List Pair) (x s : Pair) → HaveK
 parted_keyed k old left right x s a b e last =
     last_keyed k left s (Each-append_left (λ p. length p.0 ≡ k) left right (subst (λ (m : List Pair). HaveKeys k m) (sym e) (Each-inserted is_before (λ p. length p.0 ≡ k) x old b a))) last
 
--- so many entries have room in a page, as a page that is joined with another needs it
-pub entries_room : (most k n room : ℕ) → 0 < most → (k + 8) * most ≤ 504 → n ≤ most + most / 2 + 1 → room_for most ≤ room → n * (k + 4) ≤ room
+-- so many entries have room in a page, and one more
+pub entries_room : (most k n room : ℕ) → 0 < most → (k + 8) * most ≤ 504 → n ≤ most + 1 → room_for most ≤ room → n * (k + 4) ≤ room
 unfolding room_for
 entries_room most k n room some fits few enough =
     let size : k + 8 ≤ 504 / most = (le-div_iff_mul-le {k = most} {x = k + 8} {y = 504} some).1 fits in
@@ -46,7 +46,7 @@ entries_room most k n room some fits few enough =
     omega (arith, mul-le-mul few one, enough)
 
 -- the later entries of a page that is parted
-pub later_room : (most k n at room : ℕ) → 0 < most → (k + 8) * most ≤ 504 → n ≤ most + most / 2 + 1 → room_for most ≤ room → (n - at) * (k + 4) ≤ room
+pub later_room : (most k n at room : ℕ) → 0 < most → (k + 8) * most ≤ 504 → n ≤ most + 1 → room_for most ≤ room → (n - at) * (k + 4) ≤ room
 later_room most k n at room some fits few enough = entries_room most k (n - at) room some fits (omega arith) enough
 
 -- ---- from a page's pairs to its parts

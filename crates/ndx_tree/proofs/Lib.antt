@@ -8,6 +8,7 @@ pub mod Take
 pub mod TreeLemmas
 pub mod Search
 pub mod Remove
+pub mod Moved
 pub mod Join
 pub mod Mend
 pub mod Lose

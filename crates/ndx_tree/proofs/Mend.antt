@@ -1,11 +1,11 @@
 -- A child that has too few entries is joined with a neighbour.
-use Rattle.std.proofs.Common.{◌≡◌, ℕ, zero, suc, add-one, Some, None, ◌+◌, ◌<◌, ◌≤◌, ◌/◌, ◌⊎◌, ⊎_elim, List, [], ◌∷◌, ◌++◌, length, take, drop, set, get_or, refl, ap, sym, ◌∙◌, subst, arith, append_assoc, length-append}
+use Rattle.std.proofs.Common.{◌≡◌, ℕ, zero, suc, add-one, Some, None, ◌+◌, ◌<◌, ◌≤◌, ◌/◌, ◌⊎◌, inl, inr, ⊎_elim, List, [], ◌∷◌, ◌++◌, length, take, drop, set, get_or, refl, ap, sym, ◌∙◌, subst, arith, append_assoc, length-append}
 use Rattle.std.proofs.lemmas.Bool.{cases_eq}
 use Rattle.std.proofs.lemmas.List.{length-take, length-drop, get_or_default}
 use Rattle.std.proofs.lemmas.List.Edits.{get_or-remove_below}
 use Rattle.key_lists.specs.Pairs.{Pair}
 use Rattle.key_lists.specs.Rising.{IsRising, last_of}
-use Rattle.ndx_tree.specs.Pages.{PageView, joined, pairs_of, height_of, IsCut, IsChild, IsLight, AreBut, AreApart, Joins, IsMending, Mends, least_pairs, least_root}
+use Rattle.ndx_tree.specs.Pages.{PageView, joined, pairs_of, height_of, IsCut, IsChild, IsLight, IsUneven, AreBut, AreApart, Joins, IsMending, Mends, least_pairs, least_root}
 use Rattle.key_lists.proofs.Rises.{rising_front, rising_back}
 use Rattle.ndx_tree.proofs.Cut.{cut_length, framed_from, height_from, pairs_from, children_insert}
 use Rattle.ndx_tree.proofs.Divide.{least_pairs_pos, least_root_pairs}
@@ -42,20 +42,19 @@ pub record AreTwo (h m : ℕ) (l r : PageView) (s : Pair) : Type 0 where
   pub r_most : r.most ≡ m
   pub rising : IsRising (l.pairs ++ r.pairs)
   pub separator : last_of l.pairs ≡ Some s
-  pub enough : m / 2 ≤ l.count + r.count
-  pub few : l.count + r.count ≤ m + m / 2
+  pub uneven : IsUneven m l.count r.count
 
 pub are_two : (h m at first : ℕ) (es : List Pair) (cs : List PageView) (d : PageView) (e : Pair) → IsMending h m at es cs → (get_or cs at d).count < m / 2 → first < length es → (first ≡ at) ⊎ (first + 1 ≡ at) → AreTwo h m (get_or cs first d) (get_or cs (suc first) d) (get_or es first e)
 are_two h m at first es cs d e w short p near =
     let n : length cs ≡ length es + 1 = cut_length es cs w.cut in
     let l = light_at h m at es cs first d w (omega arith) in
     let r = light_at h m at es cs (suc first) d w (omega arith) in
-    let counts : (m / 2 ≤ (get_or cs first d).count + (get_or cs (suc first) d).count) × ((get_or cs first d).count + (get_or cs (suc first) d).count ≤ m + m / 2) =
+    let light : ((get_or cs first d).count < m / 2) ⊎ ((get_or cs (suc first) d).count < m / 2) =
     ⊎_elim
-    (λ q. let o = but_other h m at (suc first) cs d w.but (omega arith) (λ x. omega arith) in let s = subst (λ k. (get_or cs k d).count < m / 2) (sym q) short in (omega (arith, o.half), omega (arith, o.full)))
-    (λ q. let o = but_other h m at first cs d w.but (omega arith) (λ x. omega arith) in let s = subst (λ k. (get_or cs k d).count < m / 2) (sym q ∙ add-one first) short in (omega (arith, o.half), omega (arith, o.full)))
+    (λ q. inl (subst (λ k. (get_or cs k d).count < m / 2) (sym q) short))
+    (λ q. inr (subst (λ k. (get_or cs k d).count < m / 2) (sym q ∙ add-one first) short))
     near in
-    record { l_height = l.level; r_height = r.level; l_most = l.same_most; r_most = r.same_most; rising = rising_two first cs d w.rising (omega arith); separator = cut_at first es cs d e w.cut p; enough = counts.0; few = counts.1 }
+    record { l_height = l.level; r_height = r.level; l_most = l.same_most; r_most = r.same_most; rising = rising_two first cs d w.rising (omega arith); separator = cut_at first es cs d e w.cut p; uneven = record { low = l.half; high = r.half; full_low = l.full; full_high = r.full; light = light } }
 
 apart : (h m at first : ℕ) (es : List Pair) (cs : List PageView) → IsMending h m at es cs → suc first < length cs → (first ≡ at) ⊎ (first + 1 ≡ at) → AreApart h m first cs
 apart h m at first es cs w p near = ⊎_elim (λ q. apart_left h m first cs (subst (λ k. AreBut h m k cs) (sym q) w.but) p) (λ q. apart_right h m first cs (subst (λ k. AreBut h m k cs) (sym q ∙ add-one first) w.but) p) near

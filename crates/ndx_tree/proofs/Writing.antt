@@ -23,7 +23,7 @@ use Rattle.key_lists.proofs.Ordered.{Each-map, Each-append, Each-append_left, Ea
 use Rattle.key_lists.proofs.KeyOrder.{orders_pairs}
 use Rattle.key_lists.proofs.Starts.{not_below}
 use Rattle.key_lists.proofs.PairOrder.{is_before_strict}
-use Rattle.key_lists.proofs.Rises.{before_asym, rising_after_last, rising_front, after_last, last_back}
+use Rattle.key_lists.proofs.Rises.{rising_after_last, rising_front, after_last, last_back}
 use Rattle.ndx_tree.proofs.Reading.{listed_append, listed_all}
 use Rattle.ndx_tree.proofs.Exact.{fresh_append}
 

@@ -33,6 +33,6 @@ pub record AreKeyed (most : ℕ) (pairs : List Pair) : Type 0 where
   pub fits : (key_length + 8) * most ≤ 504
   pub keys : HaveKeys key_length pairs
 
--- the bytes for the longest pairs of which so many fit into a page, for half as many and one more
+-- the bytes for the longest pairs of which so many fit into a page, and for one more
 unfoldable pub room_for : ℕ → ℕ
-room_for most = (most + most / 2 + 1) * (504 / most - 4)
+room_for most = (most + 1) * (504 / most - 4)

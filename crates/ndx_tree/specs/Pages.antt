@@ -1,5 +1,5 @@
 -- What a page of the tree is seen as, and what holds of it.
-use Rattle.std.specs.Prelude.{◌≡◌, ℕ, zero, suc, ◌+◌, ◌*◌, ◌/◌, ◌<◌, ◌≤◌, Bool, true, false, List, [], ◌∷◌, ◌++◌, length, drop, get_or, Option, Some, None}
+use Rattle.std.specs.Prelude.{◌≡◌, ℕ, zero, suc, ◌+◌, ◌*◌, ◌/◌, ◌<◌, ◌≤◌, ◌⊎◌, Bool, true, false, List, [], ◌∷◌, ◌++◌, length, drop, get_or, Option, Some, None}
 use Rattle.key_lists.specs.Pairs.{Pair}
 use Rattle.key_lists.specs.Rising.{last_of, IsRising, with_pair, has, without_pair}
 
@@ -101,6 +101,18 @@ pub record IsWell (v : PageView) : Type 0 where
 abbrev pub Removes : PageView → Pair → PageView → Bool → Type 0
 Removes old x new false = (has x old.pairs ≡ false) × (new ≡ old)
 Removes old x new true = (has x old.pairs ≡ true) × (new.pairs ≡ without_pair x old.pairs) × (new.height ≡ old.height) × (new.most ≡ old.most) × (old.count ≤ new.count + 1) × (new.count ≤ old.count) × IsWell new
+
+-- Of two pages side by side with so many entries, one has one less than half.
+pub record IsUneven (most l r : ℕ) : Type 0 where
+  pub low : most / 2 ≤ l + 1
+  pub high : most / 2 ≤ r + 1
+  pub full_low : l ≤ most
+  pub full_high : r ≤ most
+  pub light : (l < most / 2) ⊎ (r < most / 2)
+
+-- An entry moves over to the page that has less: from so many entries in the first to so many.
+abbrev pub Evens : ℕ → ℕ → ℕ → Type 0
+Evens l r l2 = ((l < r) × (l2 ≡ l + 1)) ⊎ ((r ≤ l) × (l2 + 1 ≡ l))
 
 -- Two pages side by side become one, or are parted anew.
 abbrev pub Joins : PageView → PageView → PageView → Option (Pair × PageView) → Type 0

@@ -1,6 +1,6 @@
 //! Entries side by side in one row of bytes.
 
-ghost use Rattle.std.specs.Prelude.{◌≡◌, ◌+◌, ◌*◌, ◌-◌, ◌^◌, ◌<◌, ◌≤◌, [], ◌++◌, ℕ, length, take, drop, insert, remove, slice_index_or, slice_set, IfOk};
+ghost use Rattle.std.specs.Prelude.{◌≡◌, ◌+◌, ◌*◌, ◌-◌, ◌^◌, ◌<◌, ◌≤◌, [], ◌∷◌, ◌++◌, ℕ, length, take, drop, insert, remove, slice_index_or, slice_set, IfOk};
 ghost use Rattle.std.specs.Vec.{vec_capacity, vec_len};
 ghost use Rattle.std.specs.Ordering.{nat_cmp};
 ghost use Rattle.std.specs.Cmp.Lexicographic.{slice_cmp};
@@ -150,6 +150,17 @@ impl Entries {
         self.count += 1;
     }
 
+    /// Puts an entry at the end, in room that is there.
+    pub fn push(&mut self, entry: &Entry)
+        requires alike { HaveKeys (length entry.now.0) self.old.items }
+        requires room { (length self.old.items + 1) * (length entry.now.0 + 4) ≤ self.old.room }
+        ensures items { self.new.items ≡ self.old.items ++ entry.now ∷ [] }
+        ensures room { self.old.room ≤ self.new.room }
+    {
+        let end = self.len();
+        self.put(end, entry);
+    }
+
     /// Takes out the entry at a place.
     pub fn remove(&mut self, at: usize)
         requires { at < length self.old.items }
@@ -159,6 +170,29 @@ impl Entries {
         let size = self.key_length + NUMBER_SIZE;
         take_bytes(&mut self.bytes, at * size, size);
         self.count -= 1;
+    }
+
+    /// Takes out the first entry.
+    pub fn take_first(&mut self) -> Entry
+        requires { 0 < length self.old.items }
+        ensures items { self.old.items ≡ result ∷ self.new.items }
+        ensures room { self.old.room ≤ self.new.room }
+    {
+        let first = self.get(0);
+        self.remove(0);
+        first
+    }
+
+    /// Takes out the last entry.
+    pub fn take_last(&mut self) -> Entry
+        requires { 0 < length self.old.items }
+        ensures items { self.old.items ≡ self.new.items ++ result ∷ [] }
+        ensures room { self.old.room ≤ self.new.room }
+    {
+        let end = self.len() - 1;
+        let last = self.get(end);
+        self.truncate(end);
+        last
     }
 
     /// Keeps so many entries at the front.

@@ -7,7 +7,7 @@ ghost use Rattle.std.specs.Prelude.{◌≡◌, ◌+◌, ◌<◌, ◌≤◌, [], 
 ghost use Rattle.std.specs.Vec.{vec_capacity, vec_len};
 ghost use Rattle.key_lists.specs.Order.{Each};
 ghost use Rattle.key_lists.specs.Rising.{IsAbsent, IsRising, last_of, first_from, last_below};
-ghost use Rattle.ndx_tree.specs.Pages.{PageView, joined, view_of, Inserts, InsertsInRoom, Removes, Joins, IsPage, IsChild, IsCut, IsMending, Mends, Divides};
+ghost use Rattle.ndx_tree.specs.Pages.{PageView, joined, view_of, Inserts, InsertsInRoom, Removes, Joins, IsPage, IsChild, IsCut, IsMending, IsUneven, Evens, Mends, Divides};
 ghost use Rattle.ndx_tree.specs.Blanks.{IsBlank, IsInnerBlank, IsPool};
 ghost use Rattle.key_lists.specs.Pairs.{Pair};
 ghost use Rattle.ndx_tree.specs.Flat.{HaveKeys, AreKeyed, room_for};
@@ -28,7 +28,7 @@ pub struct TreePage {
 }
 
 impl Model for TreePage {
-    ghost use Rattle.std.specs.Prelude.{◌<◌, ◌≤◌, ◌+◌, ◌/◌, length};
+    ghost use Rattle.std.specs.Prelude.{◌<◌, ◌≤◌, ◌+◌, length};
     ghost use Rattle.std.specs.Vec.{vec_capacity};
     ghost use Rattle.ndx_tree.specs.Pages.{PageView, view_of, IsPage};
     ghost use Rattle.ndx_tree.specs.Falls.{falls};
@@ -38,7 +38,7 @@ impl Model for TreePage {
 
     ghost view = { λ a. view_of a.most a.entries.items a.children.items };
 
-    ghost invariant = { λ a. IsPage a.most a.entries.items a.children.items × (length a.entries.items ≤ a.most) × (room_for a.most ≤ a.entries.room) × (0 < length a.children.items → a.most + a.most / 2 + 2 < vec_capacity a.children) };
+    ghost invariant = { λ a. IsPage a.most a.entries.items a.children.items × (length a.entries.items ≤ a.most) × (room_for a.most ≤ a.entries.room) × (0 < length a.children.items → a.most + 1 < vec_capacity a.children) };
 
     ghost size = { λ d. d.height };
 
@@ -65,7 +65,7 @@ impl TreePage {
         requires parts { IsPage most entries.items children.items }
         requires full { length entries.items ≤ most }
         requires room { room_for most ≤ entries.room }
-        requires child_room { 0 < vec_len children → most + most / 2 + 2 < vec_capacity children }
+        requires child_room { 0 < vec_len children → most + 1 < vec_capacity children }
         ensures { result ≡ view_of most entries.items children.items }
     {
         TreePage {
@@ -171,15 +171,15 @@ impl TreePage {
         true
     }
 
-    /// Takes in the page beside it. Where that is too much, the later half is split off again.
+    /// Takes in the page beside it, where one page may have the entries of both. Else an entry moves over to the one that
+    /// has less.
     pub fn join(&mut self, separator: Entry, right: TreePage) -> Option<(Entry, TreePage)>
         requires same_height { right.height ≡ self.old.height }
         requires same_most { right.most ≡ self.old.most }
         requires rising { IsRising (self.old.pairs ++ right.pairs) }
         requires separator { last_of self.old.pairs ≡ Some separator }
         requires keyed { AreKeyed self.old.most (self.old.pairs ++ right.pairs) }
-        requires enough { self.old.most / 2 ≤ self.old.count + right.count }
-        requires few { self.old.count + right.count ≤ self.old.most + self.old.most / 2 }
+        requires uneven { IsUneven self.old.most self.old.count right.count }
         ensures { Joins self.old right self.new result }
     {
         let TreePage {
@@ -187,31 +187,39 @@ impl TreePage {
             entries: mut later,
             children: mut later_children,
         } = right;
+        let both = self.entries.len() + later.len();
         if self.children.is_empty() {
-            later.copy_all(&mut self.entries);
-            later.truncate(0);
-            if self.entries.len() <= self.most {
+            if both <= self.most {
+                later.copy_all(&mut self.entries);
                 return None;
             }
-            let blank = Blank {
+            let last = even_leaves(&mut self.entries, &mut later);
+            let page = TreePage {
+                most: self.most,
                 entries: later,
                 children: later_children,
             };
-            return Some(split_leaf(self.most, &mut self.entries, blank));
+            return Some((last, page));
         }
-        let end = self.entries.len();
-        self.entries.put(end, &separator);
-        later.copy_all(&mut self.entries);
-        later.truncate(0);
-        move_all(&mut later_children, &mut self.children);
-        if self.entries.len() <= self.most {
+        if both < self.most {
+            self.entries.push(&separator);
+            later.copy_all(&mut self.entries);
+            move_all(&mut later_children, &mut self.children);
             return None;
         }
-        let blank = Blank {
+        let last = even_inner(
+            &separator,
+            &mut self.entries,
+            &mut self.children,
+            &mut later,
+            &mut later_children,
+        );
+        let page = TreePage {
+            most: self.most,
             entries: later,
             children: later_children,
         };
-        Some(split_inner(self.most, &mut self.entries, &mut self.children, blank))
+        Some((last, page))
     }
 
     /// Whether it is an inner page with one child alone.
@@ -312,7 +320,7 @@ impl TreePage {
 }
 
 impl Blank {
-    /// A blank leaf, with room for the entries of two pages that are joined.
+    /// A blank leaf, with room for the entries of a page that has one too many.
     pub fn leaf(alloc: Global, most: usize) -> Result<Blank, AllocError>
         requires { (0 < most) × (most < 1000) }
         ensures { IfOk result (IsBlank most) }
@@ -323,14 +331,14 @@ impl Blank {
         })
     }
 
-    /// A blank inner page, with room for the children of two pages that are joined too.
+    /// A blank inner page, with room for the children of one too.
     pub fn inner(alloc: Global, most: usize) -> Result<Blank, AllocError>
         requires { (0 < most) × (most < 1000) }
         ensures { IfOk result (IsInnerBlank most) }
     {
         Ok(Blank {
             entries: Entries::with_room(alloc, room_of(most))?,
-            children: Vec::with_capacity(alloc, most + most / 2 + 3)?,
+            children: Vec::with_capacity(alloc, most + 2)?,
         })
     }
 }
@@ -425,13 +433,13 @@ pub(crate) fn take_inner(most: usize, pool: &mut Pool) -> Blank
     blank
 }
 
-// How many bytes the entries of one page may take, with those of a page that is joined.
+// How many bytes the entries of one page may take, with one too many.
 #[tactic(auto, unfolding(crate::specs::Flat::room_for))]
 fn room_of(most: usize) -> usize
     requires { (0 < most) × (most < 1000) }
     ensures { result ≡ room_for most }
 {
-    (most + most / 2 + 1) * (504 / most).saturating_sub(4)
+    (most + 1) * (504 / most).saturating_sub(4)
 }
 
 // Counts a page that is looked at, up to the greatest number.
@@ -492,12 +500,70 @@ fn mend(most: usize, entries: &mut Entries, children: &mut Vec<TreePage>, at: us
     put(children, first + 1, right);
 }
 
+// Moves an entry from the leaf that has more to the one beside it, and answers the first one's last.
+fn even_leaves(low: &mut Entries, high: &mut Entries) -> Entry
+    requires keyed { (k : ℕ) × HaveKeys k low.old.items × HaveKeys k high.old.items × ((length low.old.items + 1) * (k + 4) ≤ low.old.room) × ((length high.old.items + 1) * (k + 4) ≤ high.old.room) }
+    requires some { 2 < length low.old.items + length high.old.items }
+    ensures whole { low.new.items ++ high.new.items ≡ low.old.items ++ high.old.items }
+    ensures last { last_of low.new.items ≡ Some result }
+    ensures evens { Evens (length low.old.items) (length high.old.items) (length low.new.items) }
+    ensures low_room { low.old.room ≤ low.new.room }
+    ensures high_room { high.old.room ≤ high.new.room }
+{
+    if low.len() < high.len() {
+        let first = high.take_first();
+        low.push(&first);
+        return first;
+    }
+    let last = low.take_last();
+    high.put(0, &last);
+    low.get(low.len() - 1)
+}
+
+// Moves an entry and a child from the inner page that has more to the one beside it, through the separator, and answers the
+// new separator.
+fn even_inner(
+    separator: &Entry,
+    low: &mut Entries,
+    left: &mut Vec<TreePage>,
+    high: &mut Entries,
+    right: &mut Vec<TreePage>,
+) -> Entry
+    requires keyed { (k : ℕ) × HaveKeys k low.old.items × HaveKeys k high.old.items × (length separator.now.0 ≡ k) × ((length low.old.items + 1) * (k + 4) ≤ low.old.room) × ((length high.old.items + 1) * (k + 4) ≤ high.old.room) }
+    requires some { 0 < length low.old.items + length high.old.items }
+    requires left { vec_len left.old ≡ length low.old.items + 1 }
+    requires right { vec_len right.old ≡ length high.old.items + 1 }
+    requires left_room { vec_len left.old < vec_capacity left.old }
+    requires right_room { vec_len right.old < vec_capacity right.old }
+    ensures whole { low.new.items ++ result ∷ high.new.items ≡ low.old.items ++ separator.now ∷ high.old.items }
+    ensures children { left.new.items ++ right.new.items ≡ left.old.items ++ right.old.items }
+    ensures more { vec_len left.new ≡ length low.new.items + 1 }
+    ensures evens { Evens (length low.old.items) (length high.old.items) (length low.new.items) }
+    ensures low_room { low.old.room ≤ low.new.room }
+    ensures high_room { high.old.room ≤ high.new.room }
+    ensures left_capacity { vec_capacity left.old ≤ vec_capacity left.new }
+    ensures right_capacity { vec_capacity right.old ≤ vec_capacity right.new }
+{
+    if low.len() < high.len() {
+        low.push(separator);
+        let end = left.len();
+        put(left, end, right.remove(0));
+        return high.take_first();
+    }
+    high.put(0, separator);
+    let Some(child) = left.pop() else {
+        unreachable!()
+    };
+    put(right, 0, child);
+    low.take_last()
+}
+
 // Splits the later half off a leaf that has too many entries.
 fn split_leaf(most: usize, entries: &mut Entries, blank: Blank) -> (Entry, TreePage)
     requires parts { IsPage most entries.old.items [] }
     requires keyed { AreKeyed most entries.old.items }
     requires too_many { most < length entries.old.items }
-    requires below { length entries.old.items ≤ most + most / 2 + 1 }
+    requires below { length entries.old.items ≤ most + 1 }
     requires blank { IsBlank most blank }
     ensures divides { Divides most entries.old.items [] entries.new.items [] result }
     ensures room { entries.old.room ≤ entries.new.room }
@@ -528,7 +594,7 @@ fn split_inner(
     requires keyed { AreKeyed most entries.old.items }
     requires inner { 0 < vec_len children.old }
     requires too_many { most < length entries.old.items }
-    requires below { length entries.old.items ≤ most + most / 2 + 1 }
+    requires below { length entries.old.items ≤ most + 1 }
     requires blank { IsInnerBlank most blank }
     ensures divides { Divides most entries.old.items children.old.items entries.new.items children.new.items result }
     ensures room { entries.old.room ≤ entries.new.room }

@@ -1,5 +1,5 @@
 use Rattle.std.proofs.Common.{◌≡◌, suc, List, ◌++◌, ap, ◌+◌, ◌*◌, ◌/◌, ◌<◌, ◌≤◌, length, get_or, sym, ◌∙◌, subst, arith}
-use Rattle.ndx_tree.specs.Pages.{PageView}
+use Rattle.ndx_tree.specs.Pages.{PageView, IsUneven}
 use Rattle.ndx_tree.proofs.Cut.{cut_length}
 use Rattle.ndx_tree.proofs.Mend.{mend_none, here, here_one, here_two, IsHere}
 use Rattle.std.proofs.lemmas.List.Edits.{length-remove}
@@ -76,8 +76,8 @@ join-requires-clause-separator c =
     let q : IsHere h c.args.most c.args.children.now.items c.first_of_two-first.result c.remove-right.new.self.items c.index_mut.result.now c.remove-right.result c.get-separator.result d = here h c.args.most c.args.at c.first_of_two-first.result c.args.entries.now.items c.args.children.now.items c.remove-right.new.self.items d c.index_mut.result.now c.remove-right.result c.get-separator.result w light place c.first_of_two-first.ensures.near c.remove-right.ensures.items c.index_mut.ensures.value c.remove-right.ensures.value (c.get-separator.ensures c.get-separator.result) in
     q.two.separator
 
-pub join-requires-clause-enough : goal.join-requires-clause-enough
-join-requires-clause-enough c =
+pub join-requires-clause-uneven : goal.join-requires-clause-uneven
+join-requires-clause-uneven c =
     let h = c.requires.mending.0 in
     let w = c.requires.mending.1 in
     let d = c.index.result.now in
@@ -85,18 +85,7 @@ join-requires-clause-enough c =
     let light : (get_or c.args.children.now.items c.args.at d).count < c.args.most / 2 = subst (λ (v : PageView). v.count < c.args.most / 2) c.index.ensures (omega arith) in
     let place : c.first_of_two-first.result < length c.args.entries.now.items = omega arith in
     let q : IsHere h c.args.most c.args.children.now.items c.first_of_two-first.result c.remove-right.new.self.items c.index_mut.result.now c.remove-right.result c.get-separator.result d = here h c.args.most c.args.at c.first_of_two-first.result c.args.entries.now.items c.args.children.now.items c.remove-right.new.self.items d c.index_mut.result.now c.remove-right.result c.get-separator.result w light place c.first_of_two-first.ensures.near c.remove-right.ensures.items c.index_mut.ensures.value c.remove-right.ensures.value (c.get-separator.ensures c.get-separator.result) in
-    subst (λ k. k / 2 ≤ c.index_mut.result.now.count + c.remove-right.result.count) (sym q.two.l_most) q.two.enough
-
-pub join-requires-clause-few : goal.join-requires-clause-few
-join-requires-clause-few c =
-    let h = c.requires.mending.0 in
-    let w = c.requires.mending.1 in
-    let d = c.index.result.now in
-    let n : length c.args.children.now.items ≡ length c.args.entries.now.items + 1 = cut_length c.args.entries.now.items c.args.children.now.items w.cut in
-    let light : (get_or c.args.children.now.items c.args.at d).count < c.args.most / 2 = subst (λ (v : PageView). v.count < c.args.most / 2) c.index.ensures (omega arith) in
-    let place : c.first_of_two-first.result < length c.args.entries.now.items = omega arith in
-    let q : IsHere h c.args.most c.args.children.now.items c.first_of_two-first.result c.remove-right.new.self.items c.index_mut.result.now c.remove-right.result c.get-separator.result d = here h c.args.most c.args.at c.first_of_two-first.result c.args.entries.now.items c.args.children.now.items c.remove-right.new.self.items d c.index_mut.result.now c.remove-right.result c.get-separator.result w light place c.first_of_two-first.ensures.near c.remove-right.ensures.items c.index_mut.ensures.value c.remove-right.ensures.value (c.get-separator.ensures c.get-separator.result) in
-    subst (λ k. c.index_mut.result.now.count + c.remove-right.result.count ≤ k + k / 2) (sym q.two.l_most) q.two.few
+    subst (λ k. IsUneven k c.index_mut.result.now.count c.remove-right.result.count) (sym q.two.l_most) q.two.uneven
 
 pub returns-in_default-clause-mends : goal.returns-in_default-clause-mends
 returns-in_default-clause-mends c =
