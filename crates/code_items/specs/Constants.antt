@@ -3,8 +3,8 @@ use Rattle.std.specs.Prelude.{ℕ, ◌^◌, Bool, true, false, ◌&&◌, nat_lt,
 use Rattle.std.specs.List.{list_all}
 use Rattle.xvalue.specs.declared.value.Value.{Value}
 use Rattle.xvalue.specs.declared.value.Value.TheVariants.{Number, Text, Date, Logical}
-use Rattle.xvalue.specs.declared.day.DayParts.{DayParts}
-use Rattle.xvalue.specs.Calendar.{is_day}
+use Rattle.calendar.specs.declared.day.DayParts.{DayParts}
+use Rattle.calendar.specs.Calendar.{is_day}
 use Rattle.fixed_num.specs.Number.{Number as Decimal, asterisk, finite}
 
 -- a number other than the asterisk value, in the range of numbers

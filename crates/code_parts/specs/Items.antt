@@ -5,8 +5,8 @@ use Rattle.std.specs.Int.{w16, w64}
 use Rattle.arrayvec.specs.ArrayVec.{ArrayVec}
 use Rattle.xvalue.specs.declared.kind.Kind.{Kind}
 use Rattle.xvalue.specs.declared.kind.Kind.TheVariants.{Number as OfNumber, Text as OfText, Date as OfDate, Logical as OfLogical}
-use Rattle.xvalue.specs.declared.day.DayParts.{DayParts}
-use Rattle.xvalue.specs.Calendar.{is_day}
+use Rattle.calendar.specs.declared.day.DayParts.{DayParts}
+use Rattle.calendar.specs.Calendar.{is_day}
 use Rattle.xvalue.specs.declared.value.Value.{Value}
 use Rattle.xvalue.specs.declared.value.Value.TheVariants.{Number, Text, Date, Logical}
 use Rattle.fixed_num.specs.Number.{finite, signed}

@@ -5,7 +5,7 @@ use Rattle.std.specs.List.{flat_map}
 use Rattle.arrayvec.specs.ArrayVec.{ArrayVec}
 use Rattle.xvalue.specs.declared.kind.Kind.{Kind}
 use Rattle.xvalue.specs.declared.kind.Kind.TheVariants.{Number as OfNumber, Text as OfText, Date as OfDate, Logical as OfLogical}
-use Rattle.xvalue.specs.declared.day.DayParts.{DayParts}
+use Rattle.calendar.specs.declared.day.DayParts.{DayParts}
 use Rattle.xvalue.specs.declared.value.Value.{Value}
 use Rattle.xvalue.specs.declared.value.Value.TheVariants.{Number, Text, Date, Logical}
 use Rattle.fixed_num.specs.Number.{Number as Decimal, asterisk, finite}

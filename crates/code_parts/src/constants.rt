@@ -8,9 +8,10 @@ use crate::fields::{byte_of, counted_text, eight_of, two_of};
 use crate::flaw::{Flaw, Unread};
 use crate::kinds::truth_of_number;
 use crate::several::Reads;
+use calendar::{Day, DayParts};
 use fixed_num::{Num, Parts};
 use std::alloc::Global;
-use xvalue::{Day, DayParts, Value};
+use xvalue::Value;
 
 fn decimal_from(decimals: u8, sign: u8, magnitude: u64) -> Result<Value, Flaw>
     ensures { result ≡ decimal_from_parts decimals sign magnitude }

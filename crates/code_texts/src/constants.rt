@@ -5,11 +5,12 @@ ghost use Rattle.code_parts.specs.Texts.{number_text, date_text, constant_text, 
 
 use crate::shapes::put_counted;
 use crate::writing::{Writes, put_all, put_two};
+use calendar::Day;
 use code_items::{Filter, Need};
 use code_parts::number_of_kind;
 use fixed_num::Num;
 use std::alloc::AllocError;
-use xvalue::{Day, Value};
+use xvalue::Value;
 
 fn put_number(out: &mut Vec<u8>, number: Num) -> Result<(), AllocError>
     ensures { OnOk result (out.new.items ≡ out.old.items ++ number_text number) }

@@ -7,12 +7,12 @@ use Rattle.fixed_num.specs.Number.{Number as Decimal, asterisk, finite, IsInRang
 use Rattle.fixed_num.specs.Rounding.{rounded_at}
 use Rattle.fixed_num.specs.Reading.{parsed, signed_read, without_blanks, is_digit, are_digits, with_digits}
 use Rattle.fixed_num.specs.Text.{last_digits, whole_digits, text_of, at_right, in_field}
-use Rattle.xvalue.specs.declared.day.DayParts.{DayParts}
+use Rattle.calendar.specs.declared.day.DayParts.{DayParts}
 use Rattle.xvalue.specs.declared.value.Value.{Value}
 use Rattle.xvalue.specs.declared.value.Value.TheVariants.{Number, Text, Date, Logical}
 use Rattle.xvalue.specs.Kinds.{kind_of}
-use Rattle.xvalue.specs.Days.{IsDay, HasDay}
-use Rattle.xvalue.specs.Calendar.{day_at, is_day, day_or_blank, month_length}
+use Rattle.calendar.specs.Days.{IsDay, HasDay}
+use Rattle.calendar.specs.Calendar.{day_at, is_day, day_or_blank, month_length}
 use Rattle.dbf_file.specs.declared.field.Letter.{Letter}
 use Rattle.dbf_file.specs.declared.field.Letter.TheVariants.{C, N, D, L}
 use Rattle.dbf_file.specs.declared.field.Field.{Field}

@@ -5,13 +5,13 @@ use Rattle.fixed_num.specs.Number.{Number as Decimal, asterisk, finite, IsInRang
 use Rattle.fixed_num.specs.Rounding.{rounded_at}
 use Rattle.fixed_num.specs.Reading.{parsed, are_digits, with_digits}
 use Rattle.fixed_num.specs.Text.{last_digits, text_of, printed}
-use Rattle.xvalue.specs.declared.day.DayParts.{DayParts}
+use Rattle.calendar.specs.declared.day.DayParts.{DayParts}
 use Rattle.xvalue.specs.declared.kind.Kind.{Kind}
 use Rattle.xvalue.specs.declared.kind.Kind.TheVariants.{Number as OfNumber, Text as OfText, Date as OfDate, Logical as OfLogical}
 use Rattle.xvalue.specs.declared.value.Value.{Value}
 use Rattle.xvalue.specs.declared.value.Value.TheVariants.{Number, Text, Date, Logical}
-use Rattle.xvalue.specs.Days.{HasDay}
-use Rattle.xvalue.specs.Calendar.{day_at, day_or_blank}
+use Rattle.calendar.specs.Days.{HasDay}
+use Rattle.calendar.specs.Calendar.{day_at, day_or_blank}
 use Rattle.dbf_file.specs.declared.field.Letter.{Letter}
 use Rattle.dbf_file.specs.declared.field.Letter.TheVariants.{C, N, D, L}
 use Rattle.dbf_file.specs.declared.field.Field.{Field}

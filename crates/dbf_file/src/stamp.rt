@@ -3,7 +3,7 @@
 ghost use Rattle.std.specs.Prelude.{◌≡◌};
 ghost use Rattle.dbf_file.specs.Values.{stamp_of};
 
-use xvalue::Day;
+use calendar::Day;
 
 /// The day of a table's last update, as three bytes of the file.
 #[derive(Clone, Copy, Debug, PartialEq, Eq)]

@@ -4,12 +4,13 @@ ghost use Rattle.std.specs.Prelude.{◌≡◌, ℕ, ◌+◌, ◌-◌, ◌/◌, �
 ghost use Rattle.fixed_num.specs.Number.{finite};
 ghost use Rattle.fixed_num.specs.Reading.{are_digits, with_digits};
 ghost use Rattle.xvalue.specs.Kinds.{kind_of};
-ghost use Rattle.xvalue.specs.Calendar.{day_or_blank};
+ghost use Rattle.calendar.specs.Calendar.{day_or_blank};
 ghost use Rattle.dbf_file.specs.Values.{kind_for, is_blank, number_in, day_in, is_yes, value_of, fitted_text, day_text as day_text_of, logical_text as logical_text_of, text_for};
 
 use crate::field::{Field, Letter, MAX_DECIMALS};
+use calendar::{Day, DayParts};
 use fixed_num::{Num, Parts};
-use xvalue::{Day, DayParts, Kind, Text, Value, text_from};
+use xvalue::{Kind, Text, Value, text_from};
 
 /// The most bytes of a text value.
 const TEXT_BYTES: usize = 254;

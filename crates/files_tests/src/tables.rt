@@ -4,13 +4,14 @@ ghost use Rattle.std.specs.Prelude.{◌≡◌, ◌<◌, length, IsTrue};
 
 use crate::bytes::set;
 use arrayvec::ArrayVec;
+use calendar::{Day, DayParts};
 use dbf_file::{
     DbfFault, Field, Letter, MAX_NAME, Stamp, Table, are_fields, put, read, value, write,
 };
 use fixed_num::Num;
 use std::alloc::{AllocError, Global};
 use std::test::Fail;
-use xvalue::{Day, DayParts, Kind, Settings, Value};
+use xvalue::{Kind, Settings, Value};
 
 /// 9 May 1988.
 const STAMP: Stamp = Stamp {

@@ -3,7 +3,7 @@ use Rattle.std.proofs.Common.{◌≡◌, ℕ, zero, suc, true, ◌&&◌, ◌==�
 use Rattle.std.specs.Prelude.{is_none, map, replicate, slice_get, take}
 use Rattle.std.specs.List.{list_all}
 use Rattle.std.proofs.lemmas.Bool.{and_parts, and_from, eqb-true}
-use Rattle.xvalue.specs.declared.day.DayParts.{DayParts}
+use Rattle.calendar.specs.declared.day.DayParts.{DayParts}
 use Rattle.xvalue.specs.declared.kind.Kind.{Kind}
 use Rattle.work_area.specs.Open.{OpenState}
 use Rattle.work_store.specs.Areas.{StoreState, closed_all}

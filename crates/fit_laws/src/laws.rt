@@ -17,7 +17,7 @@ ghost use Rattle.run_steps.specs.Safe.{IsSafe, IsSafeHere};
 ghost use Rattle.run_steps.specs.Shapes.{StoreFits};
 ghost use Rattle.run_steps.specs.World.{World as AnyWorld};
 ghost use Rattle.work_store.specs.Areas.{StoreState};
-ghost use Rattle.xvalue.specs.declared.day.DayParts.{DayParts};
+ghost use Rattle.calendar.specs.declared.day.DayParts.{DayParts};
 
 use code_items::laws::legal_codes;
 use code_laws::laws::{covers_goes_on, filters_walk, states_connect};

@@ -1,7 +1,7 @@
 -- A run of the machine without tags beside that of the checking machine.
 use Rattle.std.proofs.Common.{◌≡◌, ◌≤◌, ℕ, List, Bool, true, false, Option, Some, length, sym, subst, arith, if◌then◌else◌}
 use Rattle.shape.specs.declared.whole.Shape.{Shape}
-use Rattle.xvalue.specs.declared.day.DayParts.{DayParts}
+use Rattle.calendar.specs.declared.day.DayParts.{DayParts}
 use Rattle.work_store.specs.Areas.{StoreState}
 use Rattle.work_store.specs.Shapes.{HasShape}
 use Rattle.code_items.specs.declared.code.Code.{Code}

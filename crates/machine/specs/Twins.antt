@@ -1,6 +1,6 @@
 -- What the machine without tags holds, and which worlds of the checking machine it stands for.
 use Rattle.std.specs.Prelude.{◌≡◌, ℕ, List, Option}
-use Rattle.xvalue.specs.declared.day.DayParts.{DayParts}
+use Rattle.calendar.specs.declared.day.DayParts.{DayParts}
 use Rattle.work_store.specs.Areas.{StoreState}
 use Rattle.code_items.specs.declared.code.Code.{Code}
 use Rattle.run_values.specs.declared.untagged.Untagged.{Untagged}

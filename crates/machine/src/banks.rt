@@ -9,6 +9,7 @@ ghost use Rattle.screen_lines.specs.State.{sent};
 ghost use Rattle.work_rows.specs.Marks.{mark_at, parts_in};
 ghost use Rattle.work_store.specs.Areas.{table_at};
 
+use calendar::Day;
 use code_verify::Verified;
 use key_lists::KeyList;
 use run_steps::Machine;
@@ -17,7 +18,6 @@ use std::alloc::{AllocError, Global};
 use std::marker::Model;
 use text_lines::TypedLines;
 use work_store::Store;
-use xvalue::Day;
 
 /// What a run of accepted code changes: values without tags, places, tables, screen, lines of the operator and settings.
 #[derive(Drop)]

@@ -3,10 +3,11 @@
 
 use super::assembler::{HandCode, Parts, assembled, plain};
 use super::stored::{comes_to, day_of, ends, run_alike, run_on};
+use calendar::DayParts;
 use run_commands::{How, RunDay};
 use std::alloc::{AllocError, Global};
 use std::test::Fail;
-use xvalue::{DayParts, Fun};
+use xvalue::Fun;
 
 const NUMBER: u8 = 1;
 

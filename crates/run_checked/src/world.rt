@@ -8,6 +8,7 @@ ghost use Rattle.screen_lines.specs.State.{sent};
 ghost use Rattle.work_store.specs.Areas.{AreApart};
 
 use crate::scratch::Scratch;
+use calendar::Day;
 use code_items::Code;
 use key_lists::KeyList;
 use run_laws::laws::openings_have_the_shape;
@@ -17,7 +18,6 @@ use std::alloc::{AllocError, Global};
 use std::marker::Model;
 use text_lines::TypedLines;
 use work_store::Store;
-use xvalue::Day;
 
 /// The world of a run that is tested before each instruction: values that keep their kinds, and room for the tests.
 #[derive(Drop)]

@@ -1,6 +1,6 @@
 -- Runs of both machines as runs of a job.
 use Rattle.std.proofs.Common.{◌≡◌, ◌∙◌, ap, subst, ℕ, List, Option}
-use Rattle.xvalue.specs.declared.day.DayParts.{DayParts}
+use Rattle.calendar.specs.declared.day.DayParts.{DayParts}
 use Rattle.code_items.specs.declared.code.Code.{Code}
 use Rattle.machine.specs.Headline.{Headline}
 use Rattle.machine.specs.Twins.{BankState}

@@ -4,10 +4,10 @@
 ghost use Rattle.std.specs.Prelude.{◌≡◌, ◌≤◌, Some, None, MatchOption, SomeIff};
 ghost use Rattle.dbf_file.specs.Values.{stamp_of};
 
+use calendar::{Day, DayParts};
 use dbf_file::Stamp;
 use jiff::civil::Date;
 use std::marker::Model;
-use xvalue::{Day, DayParts};
 
 /// The day of a run: one that a table's file can be stamped with, of the years 1900 to 2155. It is seen as that day.
 #[derive(Clone, Copy, PartialEq, Eq, Debug)]
@@ -17,7 +17,7 @@ pub struct RunDay {
 
 impl Model for RunDay {
     ghost use Rattle.std.specs.Prelude.{Option};
-    ghost use Rattle.xvalue.specs.declared.day.DayParts.{DayParts as Parts};
+    ghost use Rattle.calendar.specs.declared.day.DayParts.{DayParts as Parts};
     ghost use Rattle.run_commands.specs.Days.{HasStamp};
 
     ghost Value = { Option Parts };

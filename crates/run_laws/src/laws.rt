@@ -16,7 +16,7 @@ ghost use Rattle.run_steps.specs.Shapes.{HasShape, StoreFits};
 ghost use Rattle.run_steps.specs.World.{World};
 ghost use Rattle.work_store.specs.Areas.{AreApart, StoreState};
 ghost use Rattle.work_store.specs.Shapes.{HasShape as StoreHasShape};
-ghost use Rattle.xvalue.specs.declared.day.DayParts.{DayParts};
+ghost use Rattle.calendar.specs.declared.day.DayParts.{DayParts};
 
 use code_items::laws::legal_codes;
 use work_store::laws::{stores_keep_their_shape, tables_keep_their_kind};

@@ -10,13 +10,14 @@ ghost use Rattle.run_steps.specs.Effects.{filter_here};
 ghost use Rattle.run_steps.specs.World.{with_store, with_screen, with_lines, with_settings};
 
 use crate::filtering::Moment;
+use calendar::Day;
 use key_lists::KeyList;
 use screen_lines::Screen;
 use std::alloc::AllocError;
 use std::marker::Model;
 use text_lines::TypedLines;
 use work_store::Store;
-use xvalue::{Day, Setting, Settings, Text, Value};
+use xvalue::{Setting, Settings, Text, Value};
 
 /// The tables and work areas, the screen, the operator's lines that are left, the settings, and the day of the run.
 #[derive(Drop)]

@@ -21,6 +21,7 @@ use crate::on_records::on_records;
 use crate::on_screen::on_screen;
 use crate::on_values::on_values;
 use crate::returns::ReturnPlaces;
+use calendar::Day;
 use code_items::code::places_of_blocks;
 use code_items::instr::{FlowInstr, Instr};
 use code_items::laws::legal_codes;
@@ -31,7 +32,7 @@ use screen_lines::Screen;
 use std::alloc::{AllocError, Global};
 use text_lines::TypedLines;
 use work_store::Store;
-use xvalue::{Day, Kind, Settings};
+use xvalue::{Kind, Settings};
 
 /// What a run changes: the place of the next instruction, return places, slots and stack, and the rest.
 #[derive(Drop)]

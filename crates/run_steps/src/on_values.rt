@@ -10,11 +10,12 @@ ghost use Rattle.run_steps.specs.Executed.{Executed};
 
 use crate::ending::Stop;
 use crate::environment::Environment;
+use calendar::Day;
 use code_items::Code;
 use code_items::instr::ValueInstr;
 use key_lists::KeyList;
 use run_values::Values;
-use xvalue::{Day, Value};
+use xvalue::Value;
 
 /// The whole part of a number, 0 of the asterisk value.
 pub(crate) fn whole(value: &Value) -> i128

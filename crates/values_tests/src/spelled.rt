@@ -1,8 +1,9 @@
 // Values as examples spell them, and what functions give of them.
 
+use calendar::Day;
 use fixed_num::Num;
 use xvalue::apply::apply;
-use xvalue::{Day, Fun, Gathered, Kind, MOST_ARGUMENTS, Settings, Text, Value};
+use xvalue::{Fun, Gathered, Kind, MOST_ARGUMENTS, Settings, Text, Value};
 
 /// Calls of a function with `;` between them, each its arguments with `|` between them, `=`, and its result as text.
 pub(crate) type Calls = (Fun, &'static str);

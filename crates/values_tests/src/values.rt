@@ -1,7 +1,8 @@
 // Values as the screen shows them, and days of their parts.
 
 use crate::spelled::value_of;
-use xvalue::{Day, DayParts, Kind, Settings, Value};
+use calendar::{Day, DayParts};
+use xvalue::{Kind, Settings, Value};
 
 fn shown_values() -> [(Kind, &'static str, &'static str); 9] {
     [

@@ -1,5 +1,4 @@
 pub mod AnswerLemmas
-pub mod CalendarLemmas
 pub mod Gathering
 pub mod Numbers
 pub mod OrderLemmas

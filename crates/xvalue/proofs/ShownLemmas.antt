@@ -1,6 +1,6 @@
 -- How long dates' texts are.
 use Rattle.std.proofs.Common.{◌≡◌, length, true, false, Option, Some, None, refl}
-use Rattle.xvalue.specs.declared.day.DayParts.{DayParts}
+use Rattle.calendar.specs.declared.day.DayParts.{DayParts}
 use Rattle.xvalue.specs.declared.settings.Settings.{Settings}
 use Rattle.xvalue.specs.Shown.{shown_day}
 

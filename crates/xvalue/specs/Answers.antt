@@ -2,10 +2,10 @@
 use Rattle.std.specs.Prelude.{ℕ, ◌-◌, Bool, true, false, ◌||◌, List, [], ◌∷◌, ◌++◌, length, take, replicate, ◌==◌, if◌then◌else◌, Option, Some, None}
 use Rattle.fixed_num.specs.Number.{Number as Decimal, asterisk, finite}
 use Rattle.fixed_num.specs.Reading.{parsed}
-use Rattle.xvalue.specs.declared.day.DayParts.{DayParts}
+use Rattle.calendar.specs.declared.day.DayParts.{DayParts}
 use Rattle.xvalue.specs.declared.value.Value.{Value}
 use Rattle.xvalue.specs.declared.value.Value.TheVariants.{Number, Text, Date, Logical}
-use Rattle.xvalue.specs.DateTexts.{date_read}
+use Rattle.calendar.specs.DateTexts.{date_read}
 
 -- a text cut to a length, or with blanks behind it up to that length
 abbrev pub at_length : ℕ → List ℕ → List ℕ

@@ -8,7 +8,7 @@ use Rattle.fixed_num.specs.Rounding.{rounded_to, whole_part, cut}
 use Rattle.fixed_num.specs.Order.{compared, greater_of, lesser_of}
 use Rattle.fixed_num.specs.Reading.{without_blanks, prefix_read}
 use Rattle.fixed_num.specs.Text.{printed}
-use Rattle.xvalue.specs.declared.day.DayParts.{DayParts}
+use Rattle.calendar.specs.declared.day.DayParts.{DayParts}
 use Rattle.xvalue.specs.declared.value.Value.{Value}
 use Rattle.xvalue.specs.declared.value.Value.TheVariants.{Number, Text, Date, Logical}
 use Rattle.xvalue.specs.declared.settings.Settings.{Settings}
@@ -16,8 +16,8 @@ use Rattle.xvalue.specs.declared.fun.Fun.{Fun}
 use Rattle.xvalue.specs.declared.fun.Fun.TheVariants.{Add, Sub, Mul, Div, Neg, NumberEq, NumberLess, NumberGreater, TextEq, TextLess, TextGreater, DateEq, DateLess, DateGreater, Not, And, Or, Join, JoinMoved, In, DateAdd, DateSub, DateDiff, IifNumber, IifText, IifDate, IifLogical, Len, Substr, Left, Right, Trim, Ltrim, Upper, Lower, Space, Replicate, At, Stuff, Asc, Chr, Val, Str, IsAlpha, IsUpper, IsLower, Abs, Int, Mod, Round, Max, Min, Ctod, Dtoc, Day, Month, Year, Dow, Cdow, Cmonth}
 use Rattle.xvalue.specs.Given.{Given}
 use Rattle.xvalue.specs.Texts.{fitting, without_last_blanks, equal_texts, is_before, joined_moved, count_of, part_from, last_part, repeated, stuffed, first_place, place_number, first_is, first_byte, byte_text}
-use Rattle.xvalue.specs.Calendar.{date_plus, date_minus, days_between, same_date, is_earlier, day_of, month_of, year_of, weekday_of, weekday_name_of, month_name_of}
-use Rattle.xvalue.specs.DateTexts.{date_read}
+use Rattle.calendar.specs.Calendar.{date_plus, date_minus, days_between, same_date, is_earlier, day_of, month_of, year_of, weekday_of, weekday_name_of, month_name_of}
+use Rattle.calendar.specs.DateTexts.{date_read}
 use Rattle.xvalue.specs.Shown.{shown_day}
 
 -- the arguments of a kind; where there is none, what stands for nothing

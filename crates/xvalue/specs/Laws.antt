@@ -1,5 +1,5 @@
 -- What the laws say of results.
-use Rattle.std.specs.Prelude.{◌≡◌, ◌<◌, ◌≤◌, List, [], ◌∷◌, length, take, Bool, if◌then◌else◌, ℤ, ◌<ℤ◌, ◌⊎◌, Option, Some, None, ℕ}
+use Rattle.std.specs.Prelude.{◌≡◌, ◌≤◌, List, [], ◌∷◌, length, take, Bool, if◌then◌else◌, Option, ℕ}
 use Rattle.arrayvec.specs.ArrayVec.{ArrayVec}
 use Rattle.fixed_num.specs.Number.{Number as Decimal}
 use Rattle.fixed_num.specs.Rounding.{whole_part}
@@ -11,9 +11,8 @@ use Rattle.xvalue.specs.Given.{by_kind}
 use Rattle.xvalue.specs.Texts.{count_of, part_from, last_part, repeated, stuffed}
 use Rattle.xvalue.specs.declared.value.Value.{Value}
 use Rattle.xvalue.specs.declared.value.Value.TheVariants.{Number, Text, Date, Logical}
-use Rattle.xvalue.specs.declared.day.DayParts.{DayParts}
-use Rattle.xvalue.specs.Days.{IsDay}
-use Rattle.xvalue.specs.Calendar.{day_number, day_at, date_plus, date_minus}
+use Rattle.calendar.specs.declared.day.DayParts.{DayParts}
+use Rattle.calendar.specs.Calendar.{date_plus, date_minus}
 
 -- a text of the value has at most 254 bytes
 abbrev pub HasShortText : Value → Type 0
@@ -21,16 +20,6 @@ HasShortText (Number number) = Unit {0}
 HasShortText (Text text) = length text.items ≤ 254
 HasShortText (Date day) = Unit {0}
 HasShortText (Logical truth) = Unit {0}
-
--- the date is the day with the number, or blank where the number is less than that of 1 January 1 or greater than that
--- of 31 December 9999
-abbrev pub LiesThere : Option DayParts → ℤ → Type 0
-LiesThere None number = (number <ℤ day_number (day_at 1 1 1)) ⊎ (day_number (day_at 9999 12 31) <ℤ number)
-LiesThere (Some parts) number = IsDay parts × (day_number parts ≡ number)
-
--- the first day is sooner in the calendar: by its year, in one year by its month, in one month by its day
-abbrev pub IsSooner : DayParts → DayParts → Type 0
-IsSooner p q = (p.year < q.year) ⊎ ((p.year ≡ q.year) × ((p.month < q.month) ⊎ ((p.month ≡ q.month) × (p.day < q.day))))
 
 -- what a function gives of its arguments in the order in which they are written
 abbrev pub of_written : Fun → Settings → List Value → Value

@@ -1,5 +1,4 @@
 pub mod Blank
-pub mod Days
 pub mod Functions
 pub mod Given
 pub mod Kinds
@@ -7,7 +6,5 @@ pub mod Setting
 pub mod Shown
 pub mod Signature
 pub mod Texts
-pub mod Calendar
-pub mod DateTexts
 pub mod Laws
 pub mod Answers

@@ -5,10 +5,10 @@
 ghost use Rattle.std.specs.Prelude.{◌≡◌, ◌≤◌};
 ghost use Rattle.xvalue.specs.Answers.{at_length, text_answered, number_answered, date_answered, truth_answered, answered};
 
-use crate::day::Day;
 use crate::text::{Text, copy_of};
 use crate::texts::{blanks, front, joined};
 use crate::value::Value;
+use calendar::Day;
 use fixed_num::Num;
 
 impl Value {
@@ -26,7 +26,7 @@ impl Value {
 }
 
 /// The line cut, or padded with blanks, to the old text's length.
-pub fn answered_text(old: &Text, line: &[u8]) -> Text
+fn answered_text(old: &Text, line: &[u8]) -> Text
     ensures { result.items ≡ text_answered old.now.items line.now }
 {
     if line.is_empty() {
@@ -36,7 +36,7 @@ pub fn answered_text(old: &Text, line: &[u8]) -> Text
 }
 
 /// The number that the line is read as, the old one where that is the asterisk value. Blanks are read as 0.
-pub fn answered_number(old: Num, line: &[u8]) -> Num
+fn answered_number(old: Num, line: &[u8]) -> Num
     ensures { result ≡ number_answered old line.now }
 {
     if line.is_empty() {
@@ -47,7 +47,7 @@ pub fn answered_number(old: Num, line: &[u8]) -> Num
 }
 
 /// The day that the line spells, the old date where it spells none.
-pub fn answered_day(old: Day, line: &[u8]) -> Day
+fn answered_day(old: Day, line: &[u8]) -> Day
     ensures { result ≡ date_answered old line.now }
 {
     if line.is_empty() {
@@ -61,7 +61,7 @@ pub fn answered_day(old: Day, line: &[u8]) -> Day
 }
 
 /// The truth value that the line's first byte says, in either case of T and Y or F and N; the old one where it says none.
-pub fn answered_logical(old: bool, line: &[u8]) -> bool
+fn answered_logical(old: bool, line: &[u8]) -> bool
     ensures { result ≡ truth_answered old line.now }
 {
     match line {

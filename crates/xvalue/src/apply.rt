@@ -8,7 +8,6 @@ ghost use Rattle.xvalue.specs.Functions.{applied, truth_at};
 ghost use Rattle.xvalue.specs.Signature.{gives_of};
 
 use crate::arguments::Arguments;
-use crate::day::Day;
 use crate::fun::Fun;
 use crate::kind::Kind;
 use crate::settings::Settings;
@@ -16,6 +15,7 @@ use crate::shown::shown_day;
 use crate::text::Text;
 use crate::texts;
 use crate::value::Value;
+use calendar::Day;
 use fixed_num::{Num, without_blanks, without_last_blanks};
 
 /// What the function gives of the arguments under the settings. It takes no memory.

@@ -4,11 +4,11 @@
 ghost use Rattle.std.specs.Prelude.{◌≡◌, ◌≤◌, length};
 ghost use Rattle.xvalue.specs.Given.{by_kind, given, gathered};
 
-use crate::day::Day;
 use crate::text::{Text, copy_of};
 use crate::texts::count_of;
 use crate::value::Value;
 use arrayvec::ArrayVec;
+use calendar::Day;
 use fixed_num::Num;
 
 /// The most arguments of a function.

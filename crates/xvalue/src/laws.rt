@@ -1,20 +1,18 @@
-// What follows from the definitions of functions, texts and dates, for a reader who wants to trust them, and for the
+// What follows from the definitions of functions, texts and values, for a reader who wants to trust them, and for the
 // crates above. Each function does nothing: its contract is the law.
 #![tactic(auto)]
 
-ghost use Rattle.std.specs.Prelude.{◌≡◌, ℕ, ℤ, ◌+◌, ◌+ℤ◌, ◌<ℤ◌, ◌≤◌, ◌<◌, ◌↔◌, ◌⊎◌, ◌++◌, List, [], ◌∷◌, length, drop, true, false, Option, Some, None, is_some};
+ghost use Rattle.std.specs.Prelude.{◌≡◌, ℕ, ◌+◌, ◌≤◌, ◌<◌, ◌↔◌, ◌++◌, List, [], ◌∷◌, length, drop, true, false, Option, Some, None, is_some};
 ghost use Rattle.xvalue.specs.declared.fun.Fun.{Fun as AnyFun};
 ghost use Rattle.xvalue.specs.declared.settings.Settings.{Settings as AnySettings};
-ghost use Rattle.xvalue.specs.declared.day.DayParts.{DayParts as Parts};
+ghost use Rattle.calendar.specs.declared.day.DayParts.{DayParts as Parts};
 ghost use Rattle.xvalue.specs.Given.{Given};
 ghost use Rattle.xvalue.specs.declared.kind.Kind.{Kind as AnyKind};
 ghost use Rattle.xvalue.specs.Kinds.{kind_of, same_kind};
 ghost use Rattle.xvalue.specs.Signature.{takes_of, gives_of, NumbersAgree};
 ghost use Rattle.xvalue.specs.Functions.{applied};
-ghost use Rattle.xvalue.specs.Days.{IsDay, HasDay};
-ghost use Rattle.xvalue.specs.Calendar.{day_number, days_on, is_day, same_date, is_earlier};
 ghost use Rattle.xvalue.specs.Texts.{equal_texts, is_before, without_last_blanks, first_place, place_number, begins_with, stuffed, part_from};
-ghost use Rattle.xvalue.specs.Laws.{HasShortText, LiesThere, IsSooner, AreReadAsWritten};
+ghost use Rattle.xvalue.specs.Laws.{HasShortText, AreReadAsWritten};
 ghost use Rattle.xvalue.specs.declared.value.Value.{Value as AnyValue};
 ghost use Rattle.xvalue.specs.Shown.{shown_day};
 ghost use Rattle.xvalue.specs.Answers.{answered, text_answered};
@@ -33,12 +31,6 @@ pub fn arguments_are_few()
 /// No function gives a text of more than 254 bytes.
 pub fn texts_are_short()
     ensures { (fun : AnyFun) (settings : AnySettings) (given : Given) → HasShortText (applied fun settings given) }
-{}
-
-/// The date so many days on is the day with the number that is so much greater, and blank where that is not a day's of
-/// the years 1 to 9999.
-pub fn days_go_by_number()
-    ensures { (days : ℤ) (parts : Parts) → IsDay parts → LiesThere (days_on days (Some parts)) (day_number parts +ℤ days) }
 {}
 
 /// With EXACT on two texts are equal where they are the same without the blanks at their ends.
@@ -84,22 +76,6 @@ pub fn nowhere_is_no_place()
     ensures nowhere { (part cs : List ℕ) → (first_place part cs ≡ None) ↔ ((k : ℕ) → begins_with (drop k cs) part ≡ false) }
     ensures zero { (part cs : List ℕ) → (place_number (first_place part cs) ≡ 0) ↔ (first_place part cs ≡ None) }
     ensures inside { (part cs : List ℕ) → (is_some (first_place part cs) ≡ false) ↔ (first_place part cs ≡ None) }
-{}
-
-/// A day is its day number: days with one number are the same, and the sooner day has the lesser number.
-pub fn days_are_their_numbers()
-    ensures same { (p q : Parts) → IsDay p → IsDay q → day_number p ≡ day_number q → p ≡ q }
-    ensures sooner { (p q : Parts) → IsDay p → IsDay q → (day_number p <ℤ day_number q) ↔ IsSooner p q }
-{}
-
-/// Of two dates one is earlier than the other, or they are the same.
-pub fn dates_are_in_order()
-    ensures { (a b : Option Parts) → HasDay a → HasDay b → (is_earlier a b ≡ true) ⊎ ((a ≡ b) ⊎ (is_earlier b a ≡ true)) }
-{}
-
-/// The calendar's days are those that pass its test.
-pub fn days_are_tested()
-    ensures { (parts : Parts) → (is_day parts ≡ true) ↔ IsDay parts }
 {}
 
 /// Functions of several kinds take their arguments in the order in which they are written, whatever their kinds.

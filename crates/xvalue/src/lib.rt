@@ -7,8 +7,6 @@
 mod answer;
 pub mod apply;
 mod arguments;
-mod calendar;
-mod day;
 mod fun;
 mod kind;
 pub mod laws;
@@ -18,13 +16,11 @@ mod text;
 mod texts;
 mod value;
 
-pub use answer::{answered_day, answered_logical, answered_number, answered_text};
 pub use arguments::{Arguments, Gathered, MOST_ARGUMENTS};
-pub use day::{Day, DayParts};
 pub use fun::{FUNS, Fun, signature};
 pub use kind::Kind;
 pub use settings::{Setting, Settings};
-pub use shown::{shown_day, shown_logical, shown_number};
+pub use shown::shown_day;
 pub use text::{Text, copy_of, text_from};
 pub use texts::{eq_text, less_text};
 pub use value::Value;

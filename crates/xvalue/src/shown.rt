@@ -6,14 +6,14 @@ ghost use Rattle.xvalue.specs.declared.settings.Settings.{Settings as AnySetting
 ghost use Rattle.fixed_num.specs.Text.{last_digits};
 ghost use Rattle.xvalue.specs.Shown.{shown_number, shown_day, shown_logical};
 
-use crate::day::Day;
 use crate::settings::Settings;
 use crate::text::{Text, text_from};
 use crate::texts::{blanks, joined};
+use calendar::Day;
 use fixed_num::Num;
 
 /// A truth value's text as the screen shows it: `.T.` or `.F.`.
-pub fn shown_logical(truth: bool) -> Text
+pub(crate) fn shown_logical(truth: bool) -> Text
     ensures { result.items ≡ shown_logical truth }
 {
     if truth {
@@ -25,7 +25,7 @@ pub fn shown_logical(truth: bool) -> Text
 
 /// A number's text as the screen shows it: right in ten places, or whole where it is longer.
 #[tactic(auto, unfolding(crate::specs::Shown::shown_number))]
-pub fn shown_number(number: Num) -> Text
+pub(crate) fn shown_number(number: Num) -> Text
     ensures { result.items ≡ shown_number number }
 {
     let digits = number.text();

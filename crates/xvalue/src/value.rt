@@ -6,11 +6,11 @@ ghost use Rattle.xvalue.specs.Blank.{blank_of};
 ghost use Rattle.xvalue.specs.Kinds.{kind_of};
 ghost use Rattle.xvalue.specs.Shown.{shown};
 
-use crate::day::Day;
 use crate::kind::Kind;
 use crate::settings::Settings;
 use crate::shown::{shown_day, shown_logical, shown_number};
 use crate::text::{Text, copy_of};
+use calendar::Day;
 use fixed_num::Num;
 
 /// A value with its kind.

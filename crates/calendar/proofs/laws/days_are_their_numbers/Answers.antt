@@ -1,5 +1,5 @@
-use Rattle.xvalue.proofs.CalendarLemmas.{number-injective, sooner-lt}
-use Rattle.xvalue.proofs.laws.days_are_their_numbers.Goals as goal
+use Rattle.calendar.proofs.CalendarLemmas.{number-injective, sooner-lt}
+use Rattle.calendar.proofs.laws.days_are_their_numbers.Goals as goal
 
 pub returns-clause-same : goal.returns-clause-same
 returns-clause-same c p q h k e = number-injective p q h k e

@@ -3,7 +3,7 @@ use Rattle.std.specs.Prelude.{ℕ, zero, suc, ◌+◌, ◌-◌, ◌%◌, Bool, t
 use Rattle.jiff_core.specs.Calendar.{days_in_month, days_from_civil, weekday_number}
 use Rattle.fixed_num.specs.Number.{Number as Decimal, asterisk, finite}
 use Rattle.fixed_num.specs.Rounding.{whole_part}
-use Rattle.xvalue.specs.declared.day.DayParts.{DayParts}
+use Rattle.calendar.specs.declared.day.DayParts.{DayParts}
 
 -- the number of a day: 0 for 1 January 1970, and one more for each day after
 abbrev pub day_number : DayParts → ℤ

@@ -2,7 +2,7 @@
 #![tactic(auto)]
 
 ghost use Rattle.std.specs.Prelude.{◌≡◌, Some, None, SomeIff, IfSome};
-ghost use Rattle.xvalue.specs.Days.{IsDay};
+ghost use Rattle.calendar.specs.Days.{IsDay};
 
 use jiff::civil::Date;
 use std::marker::Model;
@@ -23,8 +23,8 @@ pub struct Day {
 
 impl Model for Day {
     ghost use Rattle.std.specs.Prelude.{Option};
-    ghost use Rattle.xvalue.specs.declared.day.DayParts.{DayParts as Parts};
-    ghost use Rattle.xvalue.specs.Days.{HasDay};
+    ghost use Rattle.calendar.specs.declared.day.DayParts.{DayParts as Parts};
+    ghost use Rattle.calendar.specs.Days.{HasDay};
 
     ghost Value = { Option Parts };
 

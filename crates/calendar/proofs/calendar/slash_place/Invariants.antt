@@ -1,6 +1,6 @@
 use Rattle.std.proofs.Common.{◌≡◌, ◌++◌, take, drop}
-use Rattle.xvalue.specs.DateTexts.{before_slash, after_slash}
-use Rattle.xvalue.proofs.calendar.slash_place.Given as goal
+use Rattle.calendar.specs.DateTexts.{before_slash, after_slash}
+use Rattle.calendar.proofs.calendar.slash_place.Given as goal
 
 abbrev pub invariant-loop-place : goal.invariant-loop-place
 invariant-loop-place l =

@@ -9,10 +9,10 @@ use Rattle.jiff_core.specs.Date.{epoch_day, IsYmd}
 use Rattle.jiff_core.proofs.SignedLemmas.{signed_arith, unsigned_abs-parts, one_part}
 use Rattle.jiff_core.proofs.CalendarLemmas.{days_in_month_bounds}
 use Rattle.jiff_core.proofs.DateLemmas.{IsEarlier, epoch_day_range, epoch_day-lt, cases_date, epoch_day_injective, epoch_day_same, days_from_civil-day, days_from_civil-next_month, days_from_civil-next_year, days_from_civil-max}
-use Rattle.xvalue.specs.declared.day.DayParts.{DayParts}
-use Rattle.xvalue.specs.Days.{IsDay, HasDay}
-use Rattle.xvalue.specs.Laws.{LiesThere, IsSooner}
-use Rattle.xvalue.specs.Calendar.{day_number, day_at, is_earlier, month_length, next_day, previous_day, stepped, steps, days_on}
+use Rattle.calendar.specs.declared.day.DayParts.{DayParts}
+use Rattle.calendar.specs.Days.{IsDay, HasDay}
+use Rattle.calendar.specs.Laws.{LiesThere, IsSooner}
+use Rattle.calendar.specs.Calendar.{day_number, day_at, is_earlier, month_length, next_day, previous_day, stepped, steps, days_on}
 
 -- a date with this number: a day with it, or none where the number is beyond
 abbrev pub Lies : (ℤ → Type 0) → Option DayParts → ℤ → Type 0

@@ -4,12 +4,11 @@
 ghost use Rattle.std.specs.Prelude.{◌≡◌, ◌+◌, ◌≤◌, ◌<◌, ◌↔◌, ◌+ℤ◌, ◌<ℤ◌, ◌++◌, length, take, drop, pos, neg_ℤ, unsigned_abs, MatchOption, IsOk, IfOk, true};
 ghost use Rattle.jiff.specs.Words.{epoch_day, weekday_of, IsEpochDay, IsBetween, IsYmd, monday_zero};
 ghost use Rattle.fixed_num.specs.Reading.{trimmed, are_digits, with_digits};
-ghost use Rattle.xvalue.specs.Days.{IsDay, HasDay};
-ghost use Rattle.xvalue.specs.Calendar.{day_number, days_on, date_plus, date_minus, days_between, same_date, is_earlier, day_of, month_of, year_of, weekday, weekday_of as weekday_number_of, weekday_name_of, month_name_of, day_or_blank};
-ghost use Rattle.xvalue.specs.DateTexts.{before_slash, after_slash, is_short, year_spelled, date_spelled, date_read};
+ghost use Rattle.calendar.specs.Days.{IsDay, HasDay};
+ghost use Rattle.calendar.specs.Calendar.{day_number, days_on, date_plus, date_minus, days_between, same_date, is_earlier, day_of, month_of, year_of, weekday, weekday_of as weekday_number_of, weekday_name_of, month_name_of, day_or_blank};
+ghost use Rattle.calendar.specs.DateTexts.{before_slash, after_slash, is_short, year_spelled, date_spelled, date_read};
 
 use crate::day::{Day, DayParts};
-use crate::texts::behind;
 use fixed_num::{Num, are_digits, without_blanks, without_last_blanks};
 use jiff::ToSpan;
 use jiff::civil::{Date, Weekday, date};
@@ -243,6 +242,13 @@ fn weekday(parts: DayParts) -> Weekday
     ensures { monday_zero result ≡ weekday parts }
 {
     library_date(parts).weekday()
+}
+
+/// The bytes behind the first `count`.
+fn behind(bytes: &[u8], count: usize) -> &[u8]
+    ensures { result.now ≡ drop count bytes.now }
+{
+    &bytes[count.min(bytes.len())..]
 }
 
 /// Where the first `/` stands, or the length of a text without one.

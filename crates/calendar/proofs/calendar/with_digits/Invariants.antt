@@ -1,6 +1,6 @@
 use Rattle.std.proofs.Common.{◌≡◌, ◌<◌, ◌^◌, drop, true}
 use Rattle.fixed_num.specs.Reading.{with_digits, are_digits}
-use Rattle.xvalue.proofs.calendar.with_digits.Given as goal
+use Rattle.calendar.proofs.calendar.with_digits.Given as goal
 
 abbrev pub invariant-loop-digit : goal.invariant-loop-digit
 invariant-loop-digit l = record {

@@ -2,7 +2,7 @@ use Rattle.std.proofs.Common.{FitsSigned, w64, ◌∙◌}
 use Rattle.std.proofs.lemmas.Result.{IfOk-weaker}
 use Rattle.jiff.proofs.SpanFacts.{date_add-days, can_add-days}
 use Rattle.std.proofs.lemmas.Int.{to_z-of_z}
-use Rattle.xvalue.proofs.calendar.date_after.Goals as goal
+use Rattle.calendar.proofs.calendar.date_after.Goals as goal
 
 pub returns-clause-value : goal.returns-clause-value
 returns-clause-value c =

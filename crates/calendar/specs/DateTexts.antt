@@ -1,8 +1,8 @@
 -- Dates that texts spell. The byte 47 is `/`.
 use Rattle.std.specs.Prelude.{ℕ, ◌+◌, Bool, ◌&&◌, List, [], ◌∷◌, length, ◌==◌, nat_le, if◌then◌else◌, Option, Some, None}
 use Rattle.fixed_num.specs.Reading.{trimmed, are_digits, with_digits}
-use Rattle.xvalue.specs.declared.day.DayParts.{DayParts}
-use Rattle.xvalue.specs.Calendar.{day_at, day_or_blank}
+use Rattle.calendar.specs.declared.day.DayParts.{DayParts}
+use Rattle.calendar.specs.Calendar.{day_at, day_or_blank}
 
 -- what stands before the first `/`, the whole text where there is none
 abbrev pub before_slash : List ℕ → List ℕ

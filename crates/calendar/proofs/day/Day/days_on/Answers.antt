@@ -5,10 +5,10 @@ use Rattle.std.proofs.lemmas.Int.{to_z-of_z}
 use Rattle.std.proofs.lemmas.Bool.{false≢true}
 use Rattle.jiff_core.proofs.SignedLemmas.{signed_arith, unsigned_abs-parts}
 use Rattle.jiff.specs.Words.{IsEpochDay, epoch_day}
-use Rattle.xvalue.specs.Days.{IsDay}
-use Rattle.xvalue.specs.Calendar.{days_on}
-use Rattle.xvalue.proofs.CalendarLemmas.{on_held, none_on, far_on, blank_on}
-use Rattle.xvalue.proofs.day.Day.days_on.Goals as goal
+use Rattle.calendar.specs.Days.{IsDay}
+use Rattle.calendar.specs.Calendar.{days_on}
+use Rattle.calendar.proofs.CalendarLemmas.{on_held, none_on, far_on, blank_on}
+use Rattle.calendar.proofs.day.Day.days_on.Goals as goal
 
 -- a number of days that is near goes through the casts
 near : (days : ℤ) (abs : ℕ) → FitsSigned w128 days → abs ≡ unsigned_abs (to_z w128 (of_z w128 days)) → abs ≤ 7_304_483 → to_z w64 (of_z w64 (to_z w128 (of_z w128 days))) ≡ days

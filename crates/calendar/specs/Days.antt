@@ -2,7 +2,7 @@
 use Rattle.std.specs.Prelude.{pos, Option, Some, None}
 use Rattle.std.specs.Int.{IsInRange}
 use Rattle.jiff_core.specs.Calendar.{days_in_month}
-use Rattle.xvalue.specs.declared.day.DayParts.{DayParts}
+use Rattle.calendar.specs.declared.day.DayParts.{DayParts}
 
 -- the calendar has the day, in the years 1 to 9999
 pub record IsDay (parts : DayParts) : Type 0 where

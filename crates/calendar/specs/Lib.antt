@@ -1,0 +1,4 @@
+pub mod Days
+pub mod Calendar
+pub mod DateTexts
+pub mod Laws

@@ -1,0 +1,85 @@
+//! A stack of texts with room for as many as any code's stack holds.
+
+ghost use Rattle.std.specs.Prelude.{◌≡◌, ◌<◌, ◌≤◌, [], ◌∷◌, length, IfOk, reverse, take, drop, slice_get, Some, ℕ};
+ghost use Rattle.arrayvec.specs.ArrayVec.{ArrayVec as Held};
+
+use crate::pile::STACK_LIMIT;
+use std::alloc::{AllocError, Global};
+use std::marker::Model;
+use xvalue::Text;
+
+/// A stack with room for 64 texts, seen as their list, the top first. The room is of texts that are there all the time, so that
+/// a text that is put on it is copied no further than it goes.
+#[derive(Drop)]
+pub struct TextPile {
+    texts: Vec<Text>,
+    count: usize,
+}
+
+impl Model for TextPile {
+    ghost use Rattle.std.specs.Prelude.{List, ℕ, reverse, take, length, ◌≡◌, ◌≤◌};
+    ghost use Rattle.arrayvec.specs.ArrayVec.{ArrayVec as Held};
+
+    ghost Value = { List (Held ℕ) };
+
+    ghost view = { λ s. reverse (take s.count s.texts.items) };
+
+    ghost invariant = { λ s. (length s.texts.items ≡ 64) × (s.count ≤ 64) };
+}
+
+impl TextPile {
+    /// No texts, and room for 64.
+    pub fn new(alloc: Global) -> Result<TextPile, AllocError>
+        ensures { IfOk result (λ pile. pile ≡ []) }
+    {
+        let mut texts = Vec::with_capacity(alloc, STACK_LIMIT)?;
+        for _ in 0..STACK_LIMIT {
+            texts.push(Text::new())?;
+        }
+        Ok(TextPile { texts, count: 0 })
+    }
+
+    /// So many texts from the top, which are there, the top last.
+    pub fn top_values(&self, count: usize) -> &[Text]
+        requires { count ≤ length self.now }
+        ensures { result.now ≡ reverse (take count self.now) }
+    {
+        &self.texts[self.count - count..self.count]
+    }
+
+    /// The top text, which is there.
+    pub fn top(&self) -> &Text
+        requires { 0 < length self.now }
+        ensures { slice_get self.now 0 ≡ Some result.now }
+    {
+        &self.texts[self.count - 1]
+    }
+
+    /// Takes so many texts off the top, which are there.
+    pub fn drop_top(&mut self, count: usize)
+        requires { count ≤ length self.old }
+        ensures { self.new ≡ drop count self.old }
+    {
+        self.count -= count;
+    }
+
+    /// Puts the same text once more on top. It takes no memory.
+    pub fn push(&mut self, text: &Text)
+        requires { length self.old < 64 }
+        ensures { self.new ≡ text.now ∷ self.old }
+    {
+        copy_into(text, &mut self.texts[self.count]);
+        self.count += 1;
+    }
+}
+
+/// Makes a text the same as another one.
+pub(crate) fn copy_into(text: &Text, copy: &mut Text)
+    ensures { copy.new ≡ text.now }
+{
+    copy.clear();
+    match copy.try_extend_from_slice(text.as_slice()) {
+        Ok(()) => {}
+        Err(_) => unreachable!(),
+    }
+}

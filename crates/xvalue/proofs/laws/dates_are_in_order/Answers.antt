@@ -1,5 +1,0 @@
-use Rattle.xvalue.proofs.CalendarLemmas.{in_order}
-use Rattle.xvalue.proofs.laws.dates_are_in_order.Goals as goal
-
-pub returns : goal.returns
-returns c a b h k = in_order a b h k
