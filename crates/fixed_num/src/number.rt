@@ -14,12 +14,12 @@ pub const MOST_DECIMALS: u8 = 15;
 /// What a number other than the asterisk value is made of: `magnitude / 10^decimals`, below zero where `negative`.
 #[derive(Clone, Copy, PartialEq, Eq, Debug)]
 pub struct Parts {
-    /// Whether the number is below zero.
-    pub negative: bool,
     /// The digits as a whole number, below 10^19.
     pub magnitude: u64,
     /// How many of the digits stand after the point, at most 15.
     pub decimals: u8,
+    /// Whether the number is below zero.
+    pub negative: bool,
 }
 
 /// A number: the asterisk value, or a whole number of at most 19 digits over a power of ten.

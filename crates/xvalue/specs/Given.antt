@@ -48,6 +48,10 @@ truths_in (Logical truth ∷ values) = truth ∷ truths_in values
 abbrev pub by_kind : List Value → Given
 by_kind values = record { numbers = numbers_in values; texts = texts_in values; dates = dates_in values; truths = truths_in values }
 
+-- two numbers alone
+abbrev pub two_numbers : Decimal → Decimal → Given
+two_numbers first second = record { numbers = first ∷ second ∷ []; texts = []; dates = []; truths = [] }
+
 -- what the arguments of a call lend
 abbrev pub given : Arguments → Given
 given arguments = record { numbers = arguments.numbers.now; texts = arguments.texts.now; dates = arguments.dates.now; truths = arguments.truths.now }

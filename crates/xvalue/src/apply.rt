@@ -1,11 +1,11 @@
 // The functions on their arguments.
 #![tactic(auto)]
 
-ghost use Rattle.std.specs.Prelude.{◌≡◌, ◌+◌, ◌≤◌, if◌then◌else◌};
+ghost use Rattle.std.specs.Prelude.{◌≡◌, ◌+◌, ◌≤◌, if◌then◌else◌, ◌∷◌, []};
 ghost use Rattle.xvalue.specs.declared.settings.Settings.{Settings as AnySettings};
-ghost use Rattle.xvalue.specs.Given.{given};
+ghost use Rattle.xvalue.specs.Given.{given, two_numbers};
 ghost use Rattle.xvalue.specs.Functions.{applied, truth_at};
-ghost use Rattle.xvalue.specs.Signature.{gives_of};
+ghost use Rattle.xvalue.specs.Signature.{takes_of, gives_of};
 
 use crate::arguments::Arguments;
 use crate::fun::Fun;
@@ -30,6 +30,43 @@ pub fn apply(fun: Fun, settings: Settings, arguments: &Arguments<'_>) -> Value
     }
 }
 
+/// The result of a function that gives a number of two numbers. It takes no memory.
+#[inline]
+#[tactic(auto, unfolding(crate::specs::Functions::applied))]
+pub fn number_of_two(fun: Fun, first: Num, second: Num) -> Num
+    requires takes { takes_of fun ≡ Kind.Number ∷ Kind.Number ∷ [] }
+    requires gives { gives_of fun ≡ Kind.Number }
+    ensures { (settings : AnySettings) → Value.Number result ≡ applied fun settings (two_numbers first second) }
+{
+    match fun {
+        Fun::Add => first.add(second),
+        Fun::Sub => first.sub(second),
+        Fun::Mul => first.mul(second),
+        Fun::Div => first.div(second),
+        Fun::Mod => first.modulo(second),
+        Fun::Round => first.round(second.whole()),
+        Fun::Max => first.max(second),
+        Fun::Min => first.min(second),
+        _ => unreachable!(),
+    }
+}
+
+/// The result of a function that compares two numbers.
+#[inline]
+#[tactic(auto, unfolding(crate::specs::Functions::applied))]
+pub fn truth_of_two(fun: Fun, first: Num, second: Num) -> bool
+    requires takes { takes_of fun ≡ Kind.Number ∷ Kind.Number ∷ [] }
+    requires gives { gives_of fun ≡ Kind.Logical }
+    ensures { (settings : AnySettings) → Value.Logical result ≡ applied fun settings (two_numbers first second) }
+{
+    match fun {
+        Fun::NumberEq => first.cmp(second).is_eq(),
+        Fun::NumberLess => first.cmp(second).is_lt(),
+        Fun::NumberGreater => first.cmp(second).is_gt(),
+        _ => unreachable!(),
+    }
+}
+
 /// The result of a function that gives a number. It takes no memory.
 #[tactic(auto, unfolding(crate::specs::Functions::applied))]
 pub fn number_given(fun: Fun, arguments: &Arguments<'_>) -> Num
@@ -37,10 +74,9 @@ pub fn number_given(fun: Fun, arguments: &Arguments<'_>) -> Num
     ensures { (settings : AnySettings) → Value.Number result ≡ applied fun settings (given arguments.now) }
 {
     match fun {
-        Fun::Add => arguments.number(0).add(arguments.number(1)),
-        Fun::Sub => arguments.number(0).sub(arguments.number(1)),
-        Fun::Mul => arguments.number(0).mul(arguments.number(1)),
-        Fun::Div => arguments.number(0).div(arguments.number(1)),
+        Fun::Add | Fun::Sub | Fun::Mul | Fun::Div | Fun::Mod | Fun::Round | Fun::Max | Fun::Min => {
+            number_of_two(fun, arguments.number(0), arguments.number(1))
+        }
         Fun::Neg => arguments.number(0).neg(),
         Fun::DateDiff => arguments.date(0).days_since(arguments.date(1)),
         Fun::IifNumber => arguments.number(chosen(arguments, 0)),
@@ -50,10 +86,6 @@ pub fn number_given(fun: Fun, arguments: &Arguments<'_>) -> Num
         Fun::Val => Num::parse_prefix(arguments.text(0)),
         Fun::Abs => arguments.number(0).abs(),
         Fun::Int => arguments.number(0).int(),
-        Fun::Mod => arguments.number(0).modulo(arguments.number(1)),
-        Fun::Round => arguments.number(0).round(arguments.number(1).whole()),
-        Fun::Max => arguments.number(0).max(arguments.number(1)),
-        Fun::Min => arguments.number(0).min(arguments.number(1)),
         Fun::Day => Num::from(u32::from(arguments.date(0).day())),
         Fun::Month => Num::from(u32::from(arguments.date(0).month())),
         Fun::Year => Num::from(u32::from(arguments.date(0).year())),
@@ -123,9 +155,9 @@ pub fn truth_given(fun: Fun, settings: Settings, arguments: &Arguments<'_>) -> b
     ensures { Value.Logical result ≡ applied fun settings (given arguments.now) }
 {
     match fun {
-        Fun::NumberEq => arguments.number(0).cmp(arguments.number(1)).is_eq(),
-        Fun::NumberLess => arguments.number(0).cmp(arguments.number(1)).is_lt(),
-        Fun::NumberGreater => arguments.number(0).cmp(arguments.number(1)).is_gt(),
+        Fun::NumberEq | Fun::NumberLess | Fun::NumberGreater => {
+            truth_of_two(fun, arguments.number(0), arguments.number(1))
+        }
         Fun::TextEq => texts::eq_text(arguments.text(0), arguments.text(1), settings.exact),
         Fun::TextLess => texts::less_text(arguments.text(0), arguments.text(1)),
         Fun::TextGreater => texts::less_text(arguments.text(1), arguments.text(0)),
