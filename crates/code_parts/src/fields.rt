@@ -40,7 +40,7 @@ pub fn four_of(bytes: &[u8]) -> Result<(u32, &[u8]), Unread>
 }
 
 /// The number in eight bytes at the front, and the bytes behind it.
-pub fn eight_of(bytes: &[u8]) -> Result<(u64, &[u8]), Unread>
+pub(crate) fn eight_of(bytes: &[u8]) -> Result<(u64, &[u8]), Unread>
     ensures { Gives (λ x. (x.0, x.1.now)) result (number_at w64 bytes.now) }
 {
     if bytes.len() < 8 {

@@ -44,7 +44,7 @@ fn with_one<T: Drop>(
 }
 
 /// So many things, or the first flaw, and the bytes behind them all. `Short` is told where bytes of one are missing.
-pub fn read_several<'a, R: Reads>(
+pub(crate) fn read_several<'a, R: Reads>(
     alloc: Global,
     reader: &R,
     count: usize,
@@ -63,7 +63,7 @@ pub fn read_several<'a, R: Reads>(
 }
 
 /// A byte that says how many follow, those or the first flaw, and the bytes behind them all.
-pub fn read_counted<'a, R: Reads>(
+pub(crate) fn read_counted<'a, R: Reads>(
     alloc: Global,
     reader: &R,
     bytes: &'a [u8],

@@ -8,7 +8,7 @@ ghost use Rattle.dbf_file.specs.Fields.{code_of, letter_of, has_shape, is_field,
 use arrayvec::ArrayVec;
 
 /// The most fields of a table.
-pub const MAX_FIELDS: usize = 128;
+pub(crate) const MAX_FIELDS: usize = 128;
 
 /// The most bytes of a name.
 pub const MAX_NAME: usize = 10;
@@ -17,7 +17,7 @@ pub const MAX_NAME: usize = 10;
 pub const MAX_DECIMALS: u8 = 15;
 
 /// The most bytes of a record: its mark and its fields.
-pub const MAX_RECORD: usize = 4000;
+pub(crate) const MAX_RECORD: usize = 4000;
 
 /// The letter of a field: what its text stands for.
 #[derive(Clone, Copy, Debug, Default, PartialEq, Eq)]

@@ -14,7 +14,7 @@ mod values;
 mod writing;
 
 pub use fault::DbfFault;
-pub use field::{Field, Letter, MAX_FIELDS, MAX_NAME, MAX_RECORD, are_fields};
+pub use field::{Field, Letter, MAX_NAME, are_fields};
 pub use stamp::Stamp;
 pub use structure::Structure;
 pub use table::{Table, read, write};

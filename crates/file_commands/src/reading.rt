@@ -16,7 +16,7 @@ use std::alloc::Global;
 pub const FILE_LIMIT: usize = 67_108_864;
 
 /// The bytes of a file of at most 64 MiB.
-pub fn read_bytes<'a, F: Files>(
+pub(crate) fn read_bytes<'a, F: Files>(
     alloc: Global,
     files: &mut F,
     name: &'a str,

@@ -10,7 +10,7 @@ pub const PAGE_SIZE: usize = 512;
 pub const MAX_KEY: usize = 100;
 
 /// The entries of the fullest page, one of short keys.
-pub const MAX_ENTRIES: usize = 42;
+pub(crate) const MAX_ENTRIES: usize = 42;
 
 /// The bytes of an entry: two numbers of four bytes, and the key up to the next multiple of four.
 pub(crate) fn entry_len(key_length: usize) -> usize

@@ -11,6 +11,6 @@ mod page_bytes;
 
 pub use head::{Head, HeadFault, MAX_TEXT};
 pub use head_bytes::{read_head, write_head};
-pub use layout::{MAX_ENTRIES, MAX_KEY, PAGE_SIZE, most_entries};
+pub use layout::{MAX_KEY, PAGE_SIZE, most_entries};
 pub use page::{Page, PageEntry, PageFault};
 pub use page_bytes::{read_page, write_page};

@@ -24,7 +24,7 @@ pub fn opened(work: &Work) -> Result<OpenArea, CompileError> {
     }
 }
 
-pub fn put_area(work: &mut Work, instr: AreaInstr) -> Result<(), CompileError> {
+pub(crate) fn put_area(work: &mut Work, instr: AreaInstr) -> Result<(), CompileError> {
     work.block.put(Instr::Areas(instr))
 }
 

@@ -89,7 +89,7 @@ pub fn put_text(out: &mut Output, work: &mut Work, bytes: &[u8]) -> Result<(), C
     put_constant(out, work, Value::Text(text))
 }
 
-pub fn put_screen(work: &mut Work, instr: ScreenInstr) -> Result<(), CompileError> {
+pub(crate) fn put_screen(work: &mut Work, instr: ScreenInstr) -> Result<(), CompileError> {
     work.block.put(Instr::Screen(instr))
 }
 

@@ -27,7 +27,11 @@ pub fn new_slot(out: &mut Output) -> Result<u8, CompileError> {
 }
 
 /// The slot of a variable that is set: a new one of the procedure's own where there is no such variable.
-pub fn bound_slot(out: &mut Output, work: &mut Work, name: &Name) -> Result<u8, CompileError> {
+pub(crate) fn bound_slot(
+    out: &mut Output,
+    work: &mut Work,
+    name: &Name,
+) -> Result<u8, CompileError> {
     if let Some(slot) = work.names.slot(name.as_slice()) {
         return Ok(slot);
     }
