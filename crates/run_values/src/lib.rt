@@ -10,6 +10,7 @@ mod scratch;
 mod slots;
 mod stacks;
 mod tagged;
+mod text_pile;
 mod untagged;
 mod values;
 

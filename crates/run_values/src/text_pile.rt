@@ -39,12 +39,21 @@ impl TextPile {
         Ok(TextPile { texts, count: 0 })
     }
 
+    /// The texts, the top last.
+    fn held(&self) -> &[Text]
+        ensures { reverse result.now ≡ self.now }
+    {
+        self.texts.as_slice().split_at(self.count).0
+    }
+
     /// So many texts from the top, which are there, the top last.
+    #[tactic(auto, using(crate::proofs::PileLists::top_held))]
     pub fn top_values(&self, count: usize) -> &[Text]
         requires { count ≤ length self.now }
         ensures { result.now ≡ reverse (take count self.now) }
     {
-        &self.texts[self.count - count..self.count]
+        let (_, top) = self.held().split_at(self.count - count);
+        top
     }
 
     /// The top text, which is there.
@@ -52,10 +61,14 @@ impl TextPile {
         requires { 0 < length self.now }
         ensures { slice_get self.now 0 ≡ Some result.now }
     {
-        &self.texts[self.count - 1]
+        match self.held().last() {
+            Some(text) => text,
+            None => unreachable!(),
+        }
     }
 
     /// Takes so many texts off the top, which are there.
+    #[tactic(auto, using(crate::proofs::PileLists::below_held))]
     pub fn drop_top(&mut self, count: usize)
         requires { count ≤ length self.old }
         ensures { self.new ≡ drop count self.old }
@@ -64,6 +77,7 @@ impl TextPile {
     }
 
     /// Puts the same text once more on top. It takes no memory.
+    #[tactic(auto, using(crate::proofs::PileLists::one_held))]
     pub fn push(&mut self, text: &Text)
         requires { length self.old < 64 }
         ensures { self.new ≡ text.now ∷ self.old }
