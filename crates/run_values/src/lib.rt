@@ -4,6 +4,7 @@
 //! without tags. Both stand for the same lists of values with their kinds.
 #![tactic(auto)]
 
+mod calling;
 mod cells;
 mod pile;
 mod scratch;

@@ -5,13 +5,13 @@ ghost use Rattle.xvalue.specs.declared.value.Value.{Value as AnyValue};
 ghost use Rattle.run_values.specs.Standing.{IsTagged};
 ghost use Rattle.run_values.specs.Tagged.{TaggedValues};
 
+use crate::calling::result_of;
 use crate::pile::Pile;
 use crate::slots::Slots;
 use crate::values::Values;
 use std::alloc::{AllocError, Global};
-use xvalue::apply::apply;
 use xvalue::laws::arguments_are_few;
-use xvalue::{Fun, Gathered, Kind, Settings, Value};
+use xvalue::{Fun, Kind, Settings, Value};
 
 /// Slots and a stack of values with their kinds.
 #[derive(Drop)]
@@ -90,8 +90,7 @@ impl Values for Tagged {
     fn call(&mut self, fun: Fun, settings: Settings) {
         arguments_are_few();
         let count = fun.takes().len();
-        let gathered = Gathered::of(self.stack.top_values(count));
-        let value = apply(fun, settings, &gathered.arguments());
+        let value = result_of(fun, settings, self.stack.top_values(count));
         self.stack.drop_top(count);
         self.stack.push(value);
     }
