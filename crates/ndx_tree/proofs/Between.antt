@@ -142,3 +142,25 @@ right_test l n key a answer r within g e = (
 
 pub take_next : {X : Type 0} (l : List X) (i : ℕ) (x : X) → i < length l → x ≡ get_or l i x → take (i + 1) l ≡ take i l ++ x ∷ []
 take_next l i x within is = ap (λ n. take n l) (add-one i) ∙ take_more l i x within ∙ ap (λ y. take i l ++ y ∷ []) (sym is)
+
+-- ---- the same, where the pairs stand in a row, of which a key and a number are read
+
+any_pair : Pair
+any_pair = ([], 0)
+
+row_test : (l : List Pair) (i : ℕ) (key : List ℕ) (number : ℕ) (answer : Bool) → ((d : Pair) → key ≡ (get_or l i d).0) → ((d : Pair) → number ≡ (get_or l i d).1) → ((d : Pair) → answer ≡ is_before (get_or l (i - 1) d) (let x : Pair = (key, number) in x)) → answer ≡ is_before (get_or l (i - 1) any_pair) (get_or l i any_pair)
+row_test l i key number answer a b e = e any_pair ∙ ap (λ (m : List ℕ). is_before (get_or l (i - 1) any_pair) (let x : Pair = (m, number) in x)) (a any_pair) ∙ ap (λ n. is_before (get_or l (i - 1) any_pair) (let x : Pair = ((get_or l i any_pair).0, n) in x)) (b any_pair)
+
+pub row_step : (l : List Pair) (i : ℕ) (key : List ℕ) (number : ℕ) (answer : Bool) → 0 < i → i < length l → ((d : Pair) → key ≡ (get_or l i d).0) → ((d : Pair) → number ≡ (get_or l i d).1) → ((d : Pair) → answer ≡ is_before (get_or l (i - 1) d) (let x : Pair = (key, number) in x)) → IsRising (take i l) → answer ≡ true → IsRising (take (i + 1) l)
+row_step l i key number answer some within a b e r is =
+    rising_step l i (get_or l (i - 1) any_pair) (get_or l i any_pair) some within (get_or_default l (i - 1) any_pair _ (omega arith)) (get_or_default l i any_pair _ within) r (sym (row_test l i key number answer a b e) ∙ is)
+
+pub row_there : (l : List Pair) (i : ℕ) (key : List ℕ) (number : ℕ) (answer : Bool) → 0 < i → i < length l → ((d : Pair) → key ≡ (get_or l i d).0) → ((d : Pair) → number ≡ (get_or l i d).1) → ((d : Pair) → answer ≡ is_before (get_or l (i - 1) d) (let x : Pair = (key, number) in x)) → IsRising l → answer ≡ true
+row_there l i key number answer some within a b e r =
+    row_test l i key number answer a b e ∙ rising_there l i (get_or l (i - 1) any_pair) (get_or l i any_pair) some within (get_or_default l (i - 1) any_pair _ (omega arith)) (get_or_default l i any_pair _ within) r
+
+pub left_row_test : (l : List Pair) (n : ℕ) (key other : List ℕ) (answer : Bool) → IsRising l → 0 < n → n ≤ length l → ((d : Pair) → other ≡ (get_or l (n - 1) d).0) → answer ≡ key_before key other → IsTrue (not answer) ↔ Each (λ p. key_before key p.0 ≡ false) (take n l)
+left_row_test l n key other answer r some within g e = left_test l n key (get_or l (n - 1) any_pair) answer r some within (get_or_default l (n - 1) any_pair _ (omega arith)) (e ∙ ap (key_before key) (g any_pair))
+
+pub right_row_test : (l : List Pair) (n : ℕ) (key other : List ℕ) (answer : Bool) → IsRising l → n < length l → ((d : Pair) → other ≡ (get_or l n d).0) → answer ≡ key_before other key → IsTrue (not answer) ↔ Each (λ p. key_before p.0 key ≡ false) (drop n l)
+right_row_test l n key other answer r within g e = right_test l n key (get_or l n any_pair) answer r within (get_or_default l n any_pair _ within) (e ∙ ap (λ (m : List ℕ). key_before m key) (g any_pair))

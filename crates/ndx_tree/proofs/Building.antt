@@ -1,7 +1,7 @@
 -- Levels of pages, made from the last to the first.
 use Rattle.std.proofs.Common.{◌≡◌, Some, ℕ, zero, suc, ◌+◌, ◌-◌, ◌*◌, ◌<◌, ◌≤◌, ◌/◌, List, [], ◌∷◌, ◌++◌, length, take, drop, reverse, get_or, refl, ap, sym, ◌∙◌, subst, arith, append_assoc}
 use Rattle.std.proofs.Math.Nat.{mul-le-mul_left, mul-le-mul_right, le_trans}
-use Rattle.std.proofs.lemmas.List.{reverse-append, take-append-drop, length-take, length-drop}
+use Rattle.std.proofs.lemmas.List.{reverse-append, take-append-drop, length-take, length-drop, take-take, drop-take, take_all, append-nil}
 use Rattle.key_lists.specs.Order.{Each}
 use Rattle.key_lists.specs.Pairs.{Pair}
 use Rattle.ndx_tree.specs.Flat.{HaveKeys, AreKeyed}
@@ -35,6 +35,29 @@ is_piece most n all left rest front last e f l r k =
       keyed = record { key_length = k.key_length; fits = k.fits; keys = Each-append_left (λ p. length p.0 ≡ k.key_length) last rest (Each-append_right (λ p. length p.0 ≡ k.key_length) front (last ++ rest) keys) };
       whole = whole;
     }
+
+pub piece_of : (most : ℕ) (all rest : List Pair) (left count n : ℕ) → n + count ≡ left → take left all ++ rest ≡ all → IsRising all → AreKeyed most all → IsPiece most all rest (take n all) (take count (drop n all))
+piece_of most all rest left count n sum e r k =
+    let front : take n all ≡ take n (take left all) = sym (take-take n left all (omega arith)) in
+    let last : take count (drop n all) ≡ drop n (take left all) = sym (drop-take n count all) ∙ ap (λ i. drop n (take i all)) sum in
+    is_piece most n all (take left all) rest (take n all) (take count (drop n all)) e front last r k
+
+pub part_length : (at count : ℕ) (l : List Pair) → at + count ≤ length l → length (take count (drop at l)) ≡ count
+part_length at count l e = length-take count (drop at l) ∙ omega (arith, length-drop at l)
+
+-- before any leaf was made
+pub all_whole : (l : List Pair) (n : ℕ) (row : List PageView) → n ≡ length l → row ≡ [] → take n l ++ joined (reverse row) ≡ l
+all_whole l n row e f = ap (λ (m : List PageView). take n l ++ joined (reverse m)) f ∙ append-nil (take n l) ∙ take_all n l (omega (arith, e))
+
+pub none_made : (most : ℕ) (row : List PageView) → row ≡ [] → AreChildren 1 most (reverse row)
+none_made most row e = rw e tt
+
+-- a leaf of a part of rising pairs
+pub leaf_page : (most at count : ℕ) (l es : List Pair) (cs : List PageView) → IsRising l → 4 ≤ most → es ≡ take count (drop at l) → cs ≡ [] → IsPage most es cs
+leaf_page most at count l es cs r four e f =
+    let behind : IsRising (drop at l) = rising_back (take at l) (drop at l) (subst IsRising (sym (take-append-drop at l)) r) in
+    let part : IsRising (take count (drop at l)) = rising_front (take count (drop at l)) (drop count (drop at l)) (subst IsRising (sym (take-append-drop count (drop at l))) behind) in
+    rw (e, f) (record { rising = part; framed = tt; four = four })
 
 -- a leaf that is half full
 pub leaf_child : (most : ℕ) (es : List Pair) (page : PageView) → page ≡ view_of most es [] → 4 ≤ most → most / 2 ≤ length es → length es ≤ most → IsChild 1 most page

@@ -1,6 +1,6 @@
 -- Pairs in a row of bytes, and what becomes of them when bytes are put in or taken out.
 use Rattle.std.proofs.Common.{◌≡◌, true, false, cond, set, ℕ, zero, suc, ◌+◌, ◌*◌, ◌-◌, ◌^◌, ◌<◌, ◌≤◌, List, [], ◌∷◌, ◌++◌, length, get_or, take, drop, refl, sym, ap, subst, ◌∙◌, arith, length-drop, length-append}
-use Rattle.std.proofs.lemmas.List.{drop-drop, take_at, drop_at, length-take-le, take-append-le, drop-append-le, take-append-drop}
+use Rattle.std.proofs.lemmas.List.{drop-drop, take_at, drop_at, length-take-le, take-append-le, drop-append-le, take-append-drop, append-nil}
 use Rattle.std.proofs.Math.Nat.{add-mul, one-mul, mul-le-mul_right}
 use Rattle.std.specs.List.{insert, remove}
 use Rattle.byteorder.specs.Numbers.{little_number-reads_back, little_from-append, length-bytes_low_first}
@@ -153,15 +153,39 @@ pairs_cut k kept n b whole l =
 pub length-cut : (k kept n : ℕ) (b : List ℕ) → length b ≡ n * (k + 4) → kept ≤ n → length (take (kept * (k + 4)) b) ≡ kept * (k + 4)
 length-cut k kept n b whole l = length-take-le (kept * (k + 4)) b (place_at_most k kept n b whole l)
 
-pub pairs_added : (k at n m : ℕ) (b to b2 : List ℕ) → at ≤ n → length to ≡ m * (k + 4) → b2 ≡ to ++ drop (at * (k + 4)) b → pairs_in k (m + (n - at)) b2 ≡ pairs_in k m to ++ drop at (pairs_in k n b)
-pairs_added k at n m b to b2 l whole is =
-    let all : n ≡ at + (n - at) = omega arith in
-    ap (pairs_in k (m + (n - at))) is ∙ pairs_joined k m (n - at) to (drop (at * (k + 4)) b) whole
-    ∙ ap (λ (r : List Pair). pairs_in k m to ++ r) (sym (drop-pairs k at (n - at) b) ∙ ap (λ j. drop at (pairs_in k j b)) (sym all))
+pub no_pairs : (k : ℕ) (b : List ℕ) → pairs_in k 0 b ≡ []
+unfolding pairs_in
+no_pairs k b = refl
 
-pub length-added : (k at n m : ℕ) (b to b2 : List ℕ) → at ≤ n → length b ≡ n * (k + 4) → length to ≡ m * (k + 4) → b2 ≡ to ++ drop (at * (k + 4)) b → length b2 ≡ (m + (n - at)) * (k + 4)
-length-added k at n m b to b2 l from whole is =
-    omega (arith, ap (λ (r : List ℕ). length r) is, length-append to (drop (at * (k + 4)) b), length-drop (at * (k + 4)) b, places_apart k at n l, add-mul m (n - at) (k + 4), from, whole)
+pub pairs_pushed : (k n x : ℕ) (key b b2 : List ℕ) → length key ≡ k → x < 2 ^ 32 → length b ≡ n * (k + 4) → b2 ≡ b ++ (key ++ little_bytes 4 x) → pairs_in k (n + 1) b2 ≡ pairs_in k n b ++ (key, x) ∷ []
+pairs_pushed k n x key b b2 e fits whole is =
+    let rest : key ++ little_bytes 4 x ≡ key ++ (little_bytes 4 x ++ []) = ap (λ (m : List ℕ). key ++ m) (sym (append-nil (little_bytes 4 x))) in
+    ap (pairs_in k (n + 1)) is ∙ pairs_joined k n 1 b (key ++ little_bytes 4 x) whole
+    ∙ ap (λ (r : List Pair). pairs_in k n b ++ r) (ap (pairs_in k 1) rest ∙ pairs_one k 0 x key [] e fits ∙ ap (λ (m : List Pair). (key, x) ∷ m) (no_pairs k []))
+
+pub length-pushed : (k n x : ℕ) (key b b2 : List ℕ) → length key ≡ k → length b ≡ n * (k + 4) → b2 ≡ b ++ (key ++ little_bytes 4 x) → length b2 ≡ (n + 1) * (k + 4)
+length-pushed k n x key b b2 e whole is =
+    omega (arith, ap (λ (r : List ℕ). length r) is, length-append b (key ++ little_bytes 4 x), length-append key (little_bytes 4 x), length-bytes_low_first 0 4 x, next_place k n, e, whole)
+
+-- so many pairs from a place on
+pub part_at_most : (k at size n : ℕ) (b : List ℕ) → length b ≡ n * (k + 4) → at + size ≤ n → at * (k + 4) + size * (k + 4) ≤ length b
+part_at_most k at size n b whole l = omega (arith, add-mul at size (k + 4), mul-le-mul_right (k + 4) l, whole)
+
+pub part_length : (k at size n : ℕ) (b : List ℕ) → length b ≡ n * (k + 4) → at + size ≤ n → length (take (size * (k + 4)) (drop (at * (k + 4)) b)) ≡ size * (k + 4)
+part_length k at size n b whole l = length-take-le (size * (k + 4)) (drop (at * (k + 4)) b) (omega (arith, part_at_most k at size n b whole l, length-drop (at * (k + 4)) b))
+
+pub pairs_copied : (k at size n m : ℕ) (b to b2 : List ℕ) → at + size ≤ n → length b ≡ n * (k + 4) → length to ≡ m * (k + 4) → b2 ≡ to ++ take (size * (k + 4)) (drop (at * (k + 4)) b) → pairs_in k (m + size) b2 ≡ pairs_in k m to ++ take size (drop at (pairs_in k n b))
+pairs_copied k at size n m b to b2 l from whole is =
+    let rest : List ℕ = drop (at * (k + 4)) b in
+    let all : n ≡ at + (size + (n - (at + size))) = omega arith in
+    let inside : size * (k + 4) ≤ length rest = omega (arith, part_at_most k at size n b from l, length-drop (at * (k + 4)) b) in
+    let behind : drop at (pairs_in k n b) ≡ pairs_in k (size + (n - (at + size))) rest = ap (λ j. drop at (pairs_in k j b)) all ∙ drop-pairs k at (size + (n - (at + size))) b in
+    let here : pairs_in k size (take (size * (k + 4)) rest) ≡ take size (drop at (pairs_in k n b)) = sym (pairs_before k size rest inside) ∙ sym (take-pairs k size (n - (at + size)) rest) ∙ ap (take size) (sym behind) in
+    ap (pairs_in k (m + size)) is ∙ pairs_joined k m size to (take (size * (k + 4)) rest) whole ∙ ap (λ (r : List Pair). pairs_in k m to ++ r) here
+
+pub length-copied : (k at size n m : ℕ) (b to b2 : List ℕ) → at + size ≤ n → length b ≡ n * (k + 4) → length to ≡ m * (k + 4) → b2 ≡ to ++ take (size * (k + 4)) (drop (at * (k + 4)) b) → length b2 ≡ (m + size) * (k + 4)
+length-copied k at size n m b to b2 l from whole is =
+    omega (arith, ap (λ (r : List ℕ). length r) is, length-append to (take (size * (k + 4)) (drop (at * (k + 4)) b)), part_length k at size n b from l, add-mul m size (k + 4), whole)
 
 -- ---- the keys' length
 
@@ -175,10 +199,6 @@ pub adopted : (k j n : ℕ) (b : List ℕ) → length b ≡ n * (k + 4) → Have
 unfolding pairs_in
 adopted k j zero b whole keys = (omega (arith, whole), refl)
 adopted k j (suc n) b whole keys = let e = key_length_is k j (suc n) b whole (omega arith) keys in (subst (λ i. length b ≡ suc n * (i + 4)) e whole, ap (λ i. pairs_in i (suc n) b) (sym e))
-
-pub no_pairs : (k : ℕ) (b : List ℕ) → pairs_in k 0 b ≡ []
-unfolding pairs_in
-no_pairs k b = refl
 
 -- ---- a search by halving
 
@@ -207,6 +227,9 @@ put_again (y ∷ xs) (suc at) x l = ap (λ (r : List Pair). y ∷ r) (put_again 
 pub with_nothing : (xs ys : List Pair) → ys ≡ [] → xs ≡ xs ++ ys
 with_nothing [] ys e = sym e
 with_nothing (x ∷ xs) ys e = ap (λ (r : List Pair). x ∷ r) (with_nothing xs ys e)
+
+pub with_none : (xs ys : List Pair) (at size : ℕ) → size ≡ 0 → xs ≡ xs ++ take size (drop at ys)
+with_none xs ys at size e = with_nothing xs (take size (drop at ys)) (ap (λ n. take n (drop at ys)) e)
 
 -- the last of a row and the others
 pub last_apart : (l front : List Pair) (x : Pair) (n : ℕ) → n + 1 ≡ length l → x ≡ get_or l n x → front ≡ take n l → l ≡ front ++ x ∷ []

@@ -11,7 +11,8 @@ use Rattle.key_lists.specs.Pairs.{Pair}
 use Rattle.ndx_tree.specs.IndexFile.{Item, Listed, Between, listed, is_listed, is_barred, page_count, all_listed, leaf_pairs, Link, links}
 use Rattle.ndx_tree.specs.Walk.{Seen, with_separator, is_level, visit, walk_all, followed, open_page, walk, pages_of, unseen}
 use Rattle.std.proofs.Common.{replicate}
-use Rattle.ndx_tree.specs.Reads.{Shows, Marks, Gives, Opens, AreKeys, unset, marks}
+use Rattle.ndx_tree.specs.Flat.{HaveKeys}
+use Rattle.ndx_tree.specs.Reads.{Shows, Marks, Gives, Opens, unset, marks}
 use Rattle.std.proofs.Common.{All}
 use Rattle.std.proofs.lemmas.List.Elements.{All-head, All-tail}
 use Rattle.ndx_page.specs.PageLayout.{FitsKeys}
@@ -129,8 +130,19 @@ leaf_fits k page fits last =
     (λ inner. absurd (omega (arith, inner.1)))
     fits.kind
 
-pub keys_short : (k : ℕ) (page : Page) → k ≤ 100 → FitsKeys k page → AreKeys page.entries.items
-keys_short k page short fits = λ j d l. omega (arith, fits.keys j d l)
+-- and so have the keys of any page
+pub leaf_keys : (k : ℕ) (page : Page) → FitsKeys k page → HaveKeys k (leaf_pairs page.entries.items)
+leaf_keys k page fits = each_from (λ e. length e.key.items ≡ k) (λ p. length p.0 ≡ k) (λ e p. p) page.entries.items fits.keys
+
+pub leaf_key : (k : ℕ) (es : List PageEntry) (i : ℕ) (e : PageEntry) → HaveKeys k (leaf_pairs es) → i < length es → e ≡ get_or es i e → length e.key.items ≡ k
+leaf_key k [] i e a l g = absurd (omega arith)
+leaf_key k (x ∷ es) zero e a l g = ap (λ (v : PageEntry). length v.key.items) g ∙ a.0
+leaf_key k (x ∷ es) (suc i) e a l g = leaf_key k es i e a.1 (omega arith) g
+
+pub leaf_front : (k : ℕ) (es : List PageEntry) (i : ℕ) → HaveKeys k (leaf_pairs es) → HaveKeys k (leaf_pairs (take i es))
+leaf_front k es zero a = tt
+leaf_front k [] (suc i) a = tt
+leaf_front k (x ∷ es) (suc i) a = (a.0, leaf_front k es i a.1)
 
 -- what could not be opened
 pub walk_refused : (k : ℕ) (bytes : List ℕ) (left n : ℕ) (s : Seen) (fault : TreeFault) → Opens k bytes n s.reached (Err fault) → walk (pages_of k bytes) (page_count bytes) left n s ≡ Err fault

@@ -1,7 +1,6 @@
 -- What the code's walk keeps, against what the walk of the definitions has seen.
-use Rattle.std.specs.Prelude.{◌≡◌, ℕ, suc, ◌<◌, ◌≤◌, ◌⊎◌, Bool, true, false, cond, Some, None, Result, Ok, Err, List, [], ◌∷◌, length, take, drop, get_or, All}
+use Rattle.std.specs.Prelude.{◌≡◌, ℕ, suc, ◌<◌, ◌≤◌, ◌⊎◌, Bool, true, false, cond, Some, None, Result, Ok, Err, List, [], ◌∷◌, take, drop, get_or}
 use Rattle.ndx_page.specs.declared.page.Page.{Page}
-use Rattle.ndx_page.specs.declared.page.PageEntry.{PageEntry}
 use Rattle.key_lists.specs.Order.{Each}
 use Rattle.key_lists.specs.KeyForm.{IsPairOf}
 use Rattle.key_lists.specs.Pairs.{Pair, key_before}
@@ -20,10 +19,6 @@ Marks count bits reached = (n : ℕ) (d : Bool) → n < count → get_or bits n 
 abbrev pub unset : List Bool → ℕ
 unset [] = 0
 unset (b ∷ bits) = cond b (unset bits) (suc (unset bits))
-
--- keys that can be held in place
-abbrev pub AreKeys : List PageEntry → Type 0
-AreKeys entries = All (λ e. length e.key.items ≤ 100) entries
 
 -- the separators, with how many pairs stand before each
 abbrev pub marks : ℕ → List Item → List Separator

@@ -3,7 +3,7 @@
 //! Each level's pages are made from the last to the first, and are full. What is left at the front is one page, or two
 //! that share it, so that each page but the root is at least half full.
 
-ghost use Rattle.std.specs.Prelude.{◌≡◌, ℕ, ◌+◌, ◌*◌, ◌-◌, ◌/◌, ◌<◌, ◌≤◌, [], length, take, drop, IfOk, OnOk};
+ghost use Rattle.std.specs.Prelude.{◌≡◌, ℕ, ◌+◌, ◌*◌, ◌-◌, ◌/◌, ◌^◌, ◌<◌, ◌≤◌, [], length, take, drop, IfOk, OnOk};
 ghost use Rattle.std.specs.Vec.{vec_len};
 ghost use Rattle.ndx_tree.specs.Flat.{HaveKeys, AreKeyed};
 ghost use Rattle.ndx_tree.specs.Levels.{IsAbove};
@@ -52,39 +52,61 @@ fn fill_row(row: &mut Entries, entries: &[Entry])
     }
 }
 
-// A leaf of these entries.
-fn leaf_with(alloc: Global, most: usize, entries: &[Entry]) -> Result<TreePage, AllocError>
+/// Entries whose keys have one length, side by side in a row.
+pub(crate) fn row_of(
+    alloc: Global,
+    key_length: usize,
+    entries: &[Entry],
+) -> Result<Entries, AllocError>
+    requires short { key_length ≤ 100 }
+    requires few { length entries.now < 2 ^ 32 }
+    requires keys { HaveKeys key_length entries.now }
+    ensures { IfOk result (λ row. row.items ≡ entries.now) }
+{
+    let mut row = Entries::with_room(alloc, entries.len() * (key_length + 4))?;
+    fill_row(&mut row, entries);
+    Ok(row)
+}
+
+// A leaf of so many entries from a place on.
+fn leaf_with(
+    alloc: Global,
+    most: usize,
+    entries: &Entries,
+    at: usize,
+    count: usize,
+) -> Result<TreePage, AllocError>
     requires most { (4 ≤ most) × (most < 1000) }
-    requires rising { IsRising entries.now }
-    requires keyed { AreKeyed most entries.now }
-    requires full { length entries.now ≤ most }
-    ensures { IfOk result (λ page. page ≡ view_of most entries.now []) }
+    requires within { at + count ≤ length entries.now.items }
+    requires rising { IsRising entries.now.items }
+    requires keyed { AreKeyed most entries.now.items }
+    requires full { count ≤ most }
+    ensures { IfOk result (λ page. page ≡ view_of most (take count (drop at entries.now.items)) []) }
 {
     let Blank {
         entries: mut row,
         children,
     } = Blank::leaf(alloc, most)?;
-    fill_row(&mut row, entries);
+    entries.copy_part(at, count, &mut row);
     Ok(TreePage::of_parts(most, row, children))
 }
 
 // The leaves of more entries than one page may have.
-fn leaves(alloc: Global, most: usize, entries: &[Entry]) -> Result<Vec<TreePage>, AllocError>
+fn leaves(alloc: Global, most: usize, entries: &Entries) -> Result<Vec<TreePage>, AllocError>
     requires most { (4 ≤ most) × (most < 1000) }
-    requires rising { IsRising entries.now }
-    requires keyed { AreKeyed most entries.now }
-    requires more { most < length entries.now }
+    requires rising { IsRising entries.now.items }
+    requires keyed { AreKeyed most entries.now.items }
+    requires more { most < length entries.now.items }
     ensures level { IfOk result (λ row. AreChildren 1 most row.items) }
-    ensures pairs { IfOk result (λ row. joined row.items ≡ entries.now) }
+    ensures pairs { IfOk result (λ row. joined row.items ≡ entries.now.items) }
     ensures two { IfOk result (λ row. 1 < vec_len row) }
 {
     let mut row = Vec::new(alloc);
-    let mut left = entries;
-    while !left.is_empty() {
-        let count = share(left.len(), most, most / 2);
-        let (front, last) = left.split_at(left.len() - count);
-        row.push(leaf_with(alloc, most, last)?)?;
-        left = front;
+    let mut left = entries.len();
+    while left > 0 {
+        let count = share(left, most, most / 2);
+        left -= count;
+        row.push(leaf_with(alloc, most, entries, left, count)?)?;
     }
     row.reverse();
     Ok(row)
@@ -173,16 +195,16 @@ fn root_above(alloc: Global, most: usize, mut row: Vec<TreePage>) -> Result<Tree
 }
 
 /// The root of a tree of entries that rise.
-pub(crate) fn root_of(alloc: Global, most: usize, entries: &[Entry]) -> Result<TreePage, AllocError>
+pub(crate) fn root_of(alloc: Global, most: usize, entries: &Entries) -> Result<TreePage, AllocError>
     requires most { (4 ≤ most) × (most < 1000) }
-    requires rising { IsRising entries.now }
-    requires keyed { AreKeyed most entries.now }
+    requires rising { IsRising entries.now.items }
+    requires keyed { AreKeyed most entries.now.items }
     ensures root { IfOk result IsRoot }
-    ensures pairs { IfOk result (λ root. root.pairs ≡ entries.now) }
+    ensures pairs { IfOk result (λ root. root.pairs ≡ entries.now.items) }
     ensures most { IfOk result (λ root. root.most ≡ most) }
 {
     if entries.len() <= most {
-        return leaf_with(alloc, most, entries);
+        return leaf_with(alloc, most, entries, 0, entries.len());
     }
     root_above(alloc, most, leaves(alloc, most, entries)?)
 }

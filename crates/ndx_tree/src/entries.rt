@@ -1,12 +1,12 @@
 //! Entries side by side in one row of bytes.
 
-ghost use Rattle.std.specs.Prelude.{◌≡◌, ◌+◌, ◌*◌, ◌-◌, ◌^◌, ◌<◌, ◌≤◌, [], ◌∷◌, ◌++◌, ℕ, length, take, drop, insert, remove, slice_index_or, slice_set, IfOk};
+ghost use Rattle.std.specs.Prelude.{◌≡◌, ◌+◌, ◌*◌, ◌-◌, ◌^◌, ◌<◌, ◌≤◌, [], ◌∷◌, ◌++◌, ℕ, length, take, drop, insert, remove, slice_index_or, slice_set, IfOk, OnOk, OnErr};
 ghost use Rattle.std.specs.Vec.{vec_capacity, vec_len};
 ghost use Rattle.std.specs.Ordering.{nat_cmp};
 ghost use Rattle.std.specs.Cmp.Lexicographic.{slice_cmp};
 ghost use Rattle.byteorder.specs.Endian.{little_bytes, little_number};
 ghost use Rattle.key_lists.specs.Rising.{IsRising, place_of, last_of};
-ghost use Rattle.key_lists.specs.Pairs.{Pair, is_before};
+ghost use Rattle.key_lists.specs.Pairs.{Pair, is_before, key_before};
 ghost use Rattle.ndx_tree.specs.Flat.{HaveKeys, AreBytes};
 
 use byteorder::{BigEndian, ByteOrder, LittleEndian};
@@ -136,6 +136,21 @@ impl Entries {
         self.place_of_pair(entry.key(), entry.number())
     }
 
+    /// Puts a key with a number at a place, in room that is there.
+    pub fn put_pair(&mut self, at: usize, key: &[u8], number: u32)
+        requires within { at ≤ length self.old.items }
+        requires short { length key.now ≤ 100 }
+        requires alike { HaveKeys (length key.now) self.old.items }
+        requires room { (length self.old.items + 1) * (length key.now + 4) ≤ self.old.room }
+        ensures items { self.new.items ≡ insert self.old.items at (key.now, number) }
+        ensures room { self.old.room ≤ self.new.room }
+    {
+        self.key_length = key.len();
+        let start = at * (self.key_length + NUMBER_SIZE);
+        put_bytes(&mut self.bytes, start, key, number);
+        self.count += 1;
+    }
+
     /// Puts an entry at a place, in room that is there.
     pub fn put(&mut self, at: usize, entry: &Entry)
         requires within { at ≤ length self.old.items }
@@ -144,10 +159,21 @@ impl Entries {
         ensures items { self.new.items ≡ insert self.old.items at entry.now }
         ensures room { self.old.room ≤ self.new.room }
     {
-        self.key_length = entry.key().len();
-        let start = at * (self.key_length + NUMBER_SIZE);
-        put_bytes(&mut self.bytes, start, entry.key(), entry.number());
+        self.put_pair(at, entry.key(), entry.number());
+    }
+
+    /// Adds a key with a number at the end. Where memory is missing, the entries stay.
+    pub fn add(&mut self, key: &[u8], number: u32) -> Result<(), AllocError>
+        requires short { length key.now ≤ 100 }
+        requires alike { HaveKeys (length key.now) self.old.items }
+        ensures items { OnOk result (self.new.items ≡ self.old.items ++ (key.now, number) ∷ []) }
+        ensures kept { OnErr result (self.new.items ≡ self.old.items) }
+    {
+        self.bytes.reserve(key.len() + NUMBER_SIZE)?;
+        self.key_length = key.len();
+        add_pair(&mut self.bytes, key, number);
         self.count += 1;
+        Ok(())
     }
 
     /// Puts an entry at the end, in room that is there.
@@ -217,6 +243,22 @@ impl Entries {
         self.put(at, entry);
     }
 
+    /// Copies so many entries from a place on to the end of others, in room that is there.
+    pub fn copy_part(&self, at: usize, size: usize, to: &mut Entries)
+        requires within { at + size ≤ length self.now.items }
+        requires alike { (k : ℕ) × HaveKeys k self.now.items × HaveKeys k to.old.items × ((length to.old.items + size) * (k + 4) ≤ to.old.room) }
+        ensures items { to.new.items ≡ to.old.items ++ take size (drop at self.now.items) }
+        ensures room { to.old.room ≤ to.new.room }
+    {
+        if size == 0 {
+            return;
+        }
+        to.key_length = self.key_length;
+        let one = self.key_length + NUMBER_SIZE;
+        add_bytes(&mut to.bytes, part(&self.bytes, at * one, size * one));
+        to.count += size;
+    }
+
     /// Copies the entries from a place on to the end of others, in room that is there.
     pub fn copy_tail(&self, at: usize, to: &mut Entries)
         requires within { at ≤ length self.now.items }
@@ -224,13 +266,7 @@ impl Entries {
         ensures items { to.new.items ≡ to.old.items ++ drop at self.now.items }
         ensures room { to.old.room ≤ to.new.room }
     {
-        if at == self.count {
-            return;
-        }
-        to.key_length = self.key_length;
-        let start = at * (self.key_length + NUMBER_SIZE);
-        add_bytes(&mut to.bytes, rest(&self.bytes, start));
-        to.count += self.count - at;
+        self.copy_part(at, self.len() - at, to);
     }
 
     /// Moves the entries from a place on to an empty row that has room.
@@ -291,6 +327,14 @@ fn compare_keys(first: &[u8], second: &[u8]) -> Ordering
     front.cmp(&other)
 }
 
+/// Whether a key comes before another.
+#[tactic(auto, unfolding(key_lists::specs::Pairs::key_before))]
+pub(crate) fn is_key_before(key: &[u8], other: &[u8]) -> bool
+    ensures { result ≡ key_before key.now other.now }
+{
+    compare_keys(key, other).is_lt()
+}
+
 // So many bytes from a place on.
 fn part(bytes: &[u8], start: usize, size: usize) -> &[u8]
     requires { start + size ≤ length bytes.now }
@@ -326,6 +370,19 @@ fn add_bytes(bytes: &mut Vec<u8>, more: &[u8])
     };
 }
 
+// Adds a key and a number at the end, in room that is there.
+fn add_pair(bytes: &mut Vec<u8>, key: &[u8], number: u32)
+    requires { vec_len bytes.old + (length key.now + 4) ≤ vec_capacity bytes.old }
+    ensures bytes { bytes.new.items ≡ bytes.old.items ++ (key.now ++ little_bytes 4 number) }
+    ensures capacity { vec_capacity bytes.old ≤ vec_capacity bytes.new }
+    ensures fits { number < 2 ^ 32 }
+{
+    let mut last = [0; 4];
+    LittleEndian::write_u32(&mut last, number);
+    add_bytes(bytes, key);
+    add_bytes(bytes, &last);
+}
+
 // Puts a key and a number at a place, in room that is there.
 fn put_bytes(bytes: &mut Vec<u8>, start: usize, key: &[u8], number: u32)
     requires within { start ≤ vec_len bytes.old }
@@ -335,10 +392,7 @@ fn put_bytes(bytes: &mut Vec<u8>, start: usize, key: &[u8], number: u32)
     ensures capacity { vec_capacity bytes.old ≤ vec_capacity bytes.new }
     ensures fits { number < 2 ^ 32 }
 {
-    let mut last = [0; 4];
-    LittleEndian::write_u32(&mut last, number);
-    add_bytes(bytes, key);
-    add_bytes(bytes, &last);
+    add_pair(bytes, key, number);
     bytes
         .slice_mut(start..)
         .rotate_right(key.len() + NUMBER_SIZE);

@@ -7,15 +7,16 @@ ghost use Rattle.key_lists.specs.Rising.{IsRising};
 ghost use Rattle.ndx_tree.specs.Reads.{IsBetween, AreInside, marks};
 ghost use Rattle.ndx_tree.specs.IndexFile.{AreInOrder, listed, Item};
 
+use crate::entries::{Entries, is_key_before};
 use crate::walk::{Found, Separator};
-use key_lists::Entry;
 
 // Whether each entry stands before the next.
-fn is_rising(entries: &[Entry]) -> bool
-    ensures { IsTrue result ↔ IsRising entries.now }
+fn is_rising(entries: &Entries) -> bool
+    ensures { IsTrue result ↔ IsRising entries.now.items }
 {
     for index in 1..entries.len() {
-        if !entries[index - 1].compare(&entries[index]).is_lt() {
+        let number = u64::from(entries.number(index));
+        if !entries.is_below(index - 1, entries.key(index), number) {
             return false;
         }
     }
@@ -23,43 +24,43 @@ fn is_rising(entries: &[Entry]) -> bool
 }
 
 // Whether a key is no less than the keys before a place.
-fn bounds_left(entries: &[Entry], place: usize, key: &[u8]) -> bool
-    requires rising { IsRising entries.now }
-    requires inside { place ≤ length entries.now }
-    ensures { IsTrue result ↔ Each (λ p. key_before key.now p.0 ≡ false) (take place entries.now) }
+fn bounds_left(entries: &Entries, place: usize, key: &[u8]) -> bool
+    requires rising { IsRising entries.now.items }
+    requires inside { place ≤ length entries.now.items }
+    ensures { IsTrue result ↔ Each (λ p. key_before key.now p.0 ≡ false) (take place entries.now.items) }
 {
     if place == 0 {
         return true;
     }
-    !entries[place - 1].has_key_after(key)
+    !is_key_before(key, entries.key(place - 1))
 }
 
 // Whether a key is no greater than the keys from a place on.
-fn bounds_right(entries: &[Entry], place: usize, key: &[u8]) -> bool
-    requires { IsRising entries.now }
-    ensures { IsTrue result ↔ Each (λ p. key_before p.0 key.now ≡ false) (drop place entries.now) }
+fn bounds_right(entries: &Entries, place: usize, key: &[u8]) -> bool
+    requires { IsRising entries.now.items }
+    ensures { IsTrue result ↔ Each (λ p. key_before p.0 key.now ≡ false) (drop place entries.now.items) }
 {
     if place >= entries.len() {
         return true;
     }
-    !entries[place].has_key_before(key)
+    !is_key_before(entries.key(place), key)
 }
 
 // Whether a separator stands between the keys on its two sides.
-fn is_between(entries: &[Entry], separator: &Separator) -> bool
-    requires rising { IsRising entries.now }
-    requires inside { separator.now.place ≤ length entries.now }
-    ensures { IsTrue result ↔ IsBetween entries.now separator.now }
+fn is_between(entries: &Entries, separator: &Separator) -> bool
+    requires rising { IsRising entries.now.items }
+    requires inside { separator.now.place ≤ length entries.now.items }
+    ensures { IsTrue result ↔ IsBetween entries.now.items separator.now }
 {
     let key = separator.key.as_slice();
     bounds_left(entries, separator.place, key) && bounds_right(entries, separator.place, key)
 }
 
 // Whether all separators are.
-fn are_between(entries: &[Entry], separators: &[Separator]) -> bool
-    requires rising { IsRising entries.now }
-    requires inside { AreInside (length entries.now) separators.now }
-    ensures { IsTrue result ↔ Each (IsBetween entries.now) separators.now }
+fn are_between(entries: &Entries, separators: &[Separator]) -> bool
+    requires rising { IsRising entries.now.items }
+    requires inside { AreInside (length entries.now.items) separators.now }
+    ensures { IsTrue result ↔ Each (IsBetween entries.now.items) separators.now }
 {
     for separator in separators {
         if !is_between(entries, separator) {

@@ -269,20 +269,21 @@ impl TreePage {
     }
 
     /// Puts a pair that is not there into its leaf, where that has room for one more, and tells whether it did.
-    pub fn insert_in_room(&mut self, entry: &Entry) -> bool
-        requires absent { IsAbsent entry.now self.old.pairs }
-        requires keyed { AreKeyed self.old.most (entry.now ∷ self.old.pairs) }
-        ensures { InsertsInRoom self.old entry.now self.new result }
+    pub fn insert_in_room(&mut self, key: &[u8], number: u32) -> bool
+        requires short { length key.now ≤ 100 }
+        requires absent { IsAbsent (key.now, number) self.old.pairs }
+        requires keyed { AreKeyed self.old.most ((key.now, number) ∷ self.old.pairs) }
+        ensures { InsertsInRoom self.old (key.now, number) self.new result }
     {
-        let at = self.entries.place_for(entry);
+        let at = self.entries.place_of_pair(key, number);
         if self.children.is_empty() {
             if self.entries.len() == self.most {
                 return false;
             }
-            self.entries.put(at, entry);
+            self.entries.put_pair(at, key, number);
             return true;
         }
-        if !self.children[at].insert_in_room(entry) {
+        if !self.children[at].insert_in_room(key, number) {
             return false;
         }
         true

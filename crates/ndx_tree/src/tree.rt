@@ -7,7 +7,8 @@ ghost use Rattle.key_lists.specs.KeyForm.{KeyForm, IsKeyLength, IsPairOf};
 ghost use Rattle.ndx_tree.specs.Trees.{IsTree};
 ghost use Rattle.key_lists.specs.Rising.{IsAbsent, IsRising, first_from, with_pair};
 
-use crate::build::root_of;
+use crate::build::{root_of, row_of};
+use crate::entries::Entries;
 use crate::page::{Pool, TreePage, take_inner};
 use arrayvec::ArrayVec;
 use key_lists::{Entry, KeyList, held, put_in_order};
@@ -49,14 +50,14 @@ impl NdxTree {
         alloc: Global,
         key_length: usize,
         key_text: ArrayVec<u8, MAX_TEXT>,
-        entries: &[Entry],
+        entries: &Entries,
     ) -> Result<NdxTree, AllocError>
         requires key_length { IsKeyLength key_length }
         requires key_text { ¬ Contains key_text.items 0 }
-        requires keys { Each (IsPairOf key_length) entries.now }
-        requires rising { IsRising entries.now }
-        requires few { length entries.now < 2 ^ 32 }
-        ensures pairs { IfOk result (λ t. t.pairs ≡ entries.now) }
+        requires keys { Each (IsPairOf key_length) entries.now.items }
+        requires rising { IsRising entries.now.items }
+        requires few { length entries.now.items < 2 ^ 32 }
+        ensures pairs { IfOk result (λ t. t.pairs ≡ entries.now.items) }
         ensures key_length { IfOk result (λ t. t.form.key_length ≡ key_length) }
         ensures key_text { IfOk result (λ t. t.form.key_text ≡ key_text.items) }
     {
@@ -179,7 +180,9 @@ impl KeyList for NdxTree {
         mut entries: Vec<Entry>,
     ) -> Result<Self, AllocError> {
         put_in_order(&mut entries);
-        NdxTree::of_rising(alloc, key_length, held(key_text), &entries)
+        let row = row_of(alloc, key_length, &entries)?;
+        drop(entries);
+        NdxTree::of_rising(alloc, key_length, held(key_text), &row)
     }
 
     fn len(&self) -> usize {
@@ -207,11 +210,10 @@ impl KeyList for NdxTree {
     fn insert(&mut self, key: &[u8], number: u32) {
         self.reserved -= 1;
         self.count += 1;
-        let entry = Entry::new(key, number);
-        if self.root.insert_in_room(&entry) {
+        if self.root.insert_in_room(key, number) {
             return;
         }
-        grow(&mut self.root, entry, &mut self.pool);
+        grow(&mut self.root, Entry::new(key, number), &mut self.pool);
     }
 
     fn remove(&mut self, key: &[u8], number: u32) -> bool {

@@ -3,17 +3,18 @@
 ghost use Rattle.std.specs.Prelude.{◌≡◌, ℕ, ◌+◌, ◌*◌, ◌<◌, ◌≤◌, ◌++◌, List, Some, Result, Bool, false, length, replicate, slice_index_or, Ok, Err, None, [], ◌⊎◌, ◌^◌, IfOk, IfErr, OnOk};
 ghost use Rattle.ndx_tree.specs.declared.fault.TreeFault.TheVariants.{Memory};
 ghost use Rattle.ndx_page.specs.PageLayout.{FitsKeys};
-ghost use Rattle.std.specs.Vec.{vec_len};
+ghost use Rattle.ndx_tree.specs.Flat.{HaveKeys};
 ghost use Rattle.ndx_tree.specs.IndexFile.{page_at, page_count, leaf_pairs};
 ghost use Rattle.ndx_tree.specs.Walk.{Seen, walk, pages_of, is_level, with_separator, visit, walk_file};
 ghost use Rattle.key_lists.specs.Order.{Each};
 ghost use Rattle.key_lists.specs.KeyForm.{IsPairOf};
 ghost use Rattle.ndx_tree.specs.declared.fault.TreeFault.{TreeFault as TheFault};
-ghost use Rattle.ndx_tree.specs.Reads.{Shows, Marks, Gives, Opens, unset, AreKeys};
+ghost use Rattle.ndx_tree.specs.Reads.{Shows, Marks, Gives, Opens, unset};
 
 use crate::TreeFault;
+use crate::entries::Entries;
 use arrayvec::ArrayVec;
-use key_lists::{Entry, held};
+use key_lists::held;
 use ndx_page::laws::pages_are_told;
 use ndx_page::{Head, MAX_KEY, PAGE_SIZE, Page, read_page};
 use std::alloc::{AllocError, Global};
@@ -25,12 +26,13 @@ pub(crate) struct Separator {
     pub(crate) key: ArrayVec<u8, MAX_KEY>,
 }
 
-/// What a walk has met: which pages were reached, where the first leaf stood, and the pairs and separators in order.
+/// What a walk has met: which pages were reached, where the first leaf stood, and the pairs and separators in order. The
+/// pairs stand side by side in one row.
 #[derive(Debug, Drop)]
 pub(crate) struct Found {
     pub(crate) reached: Vec<bool>,
     pub(crate) level: Option<usize>,
-    pub(crate) entries: Vec<Entry>,
+    pub(crate) entries: Entries,
     pub(crate) separators: Vec<Separator>,
 }
 
@@ -75,23 +77,24 @@ fn may_stand(level: usize, first: Option<usize>) -> bool
 }
 
 // Adds the pairs of a leaf's entries.
-fn add_pairs(entries: &[ndx_page::PageEntry], pairs: &mut Vec<Entry>) -> Result<(), AllocError>
-    requires { AreKeys entries.now }
+fn add_pairs(entries: &[ndx_page::PageEntry], pairs: &mut Entries) -> Result<(), AllocError>
+    requires alike { (k : ℕ) × (k ≤ 100) × HaveKeys k pairs.old.items × HaveKeys k (leaf_pairs entries.now) }
     ensures items { OnOk result (pairs.new.items ≡ pairs.old.items ++ leaf_pairs entries.now) }
-    ensures few { vec_len pairs.new ≤ vec_len pairs.old + length entries.now }
+    ensures few { length pairs.new.items ≤ length pairs.old.items + length entries.now }
 {
     for entry in entries {
-        pairs.push(Entry::new(entry.key.as_slice(), entry.number))?;
+        pairs.add(entry.key.as_slice(), entry.number)?;
     }
     Ok(())
 }
 
 // Takes in a leaf that stands at a level.
 fn take_leaf(level: usize, page: &Page, found: &mut Found) -> Result<(), TreeFault>
-    requires keys { AreKeys page.now.entries.items }
+    requires alike { (k : ℕ) × (k ≤ 100) × HaveKeys k found.old.entries.items × HaveKeys k (leaf_pairs page.now.entries.items) }
     ensures leaf { (k count : ℕ) (s : Seen) (f : ℕ → Seen → Result Seen TheFault) → Each (IsPairOf k) (leaf_pairs page.now.entries.items) → Shows k count found.old s → Gives k count result found.new (visit f level page.now 0 s) }
     ensures bits { found.new.reached.items ≡ found.old.reached.items }
-    ensures few { vec_len found.new.entries ≤ vec_len found.old.entries + length page.now.entries.items }
+    ensures alike { (k : ℕ) → HaveKeys k found.old.entries.items → HaveKeys k (leaf_pairs page.now.entries.items) → OnOk result (HaveKeys k found.new.entries.items) }
+    ensures few { length found.new.entries.items ≤ length found.old.entries.items + length page.now.entries.items }
 {
     if !may_stand(level, found.level) {
         return Err(TreeFault::Depth);
@@ -106,7 +109,7 @@ fn take_separator(key: &[u8], found: &mut Found) -> Result<(), AllocError>
     requires { length key.now ≤ 100 }
     ensures shown { (k count : ℕ) (s : Seen) → Shows k count found.old s → OnOk result (Shows k count found.new (with_separator (Some key.now) s)) }
     ensures bits { found.new.reached.items ≡ found.old.reached.items }
-    ensures entries { vec_len found.new.entries ≡ vec_len found.old.entries }
+    ensures entries { found.new.entries.items ≡ found.old.entries.items }
 {
     let place = found.entries.len();
     found.separators.push(Separator {
@@ -125,9 +128,11 @@ fn read_below(
     found: &mut Found,
 ) -> Result<(), TreeFault>
     requires bits { length found.old.reached.items ≡ page_count bytes.now }
+    requires alike { HaveKeys head.now.length found.old.entries.items }
     ensures walked { (s : Seen) → Shows head.now.length (page_count bytes.now) found.old s → Gives head.now.length (page_count bytes.now) result found.new (walk (pages_of head.now.length bytes.now) (page_count bytes.now) left number s) }
     ensures bits { length found.new.reached.items ≡ page_count bytes.now }
-    ensures few { vec_len found.new.entries + 42 * unset found.new.reached.items ≤ vec_len found.old.entries + 42 * unset found.old.reached.items }
+    ensures alike { OnOk result (HaveKeys head.now.length found.new.entries.items) }
+    ensures few { length found.new.entries.items + 42 * unset found.new.reached.items ≤ length found.old.entries.items + 42 * unset found.old.reached.items }
 {
     let page = open_page(head, bytes, number, &found.reached)?;
     if left == 0 {
@@ -156,7 +161,7 @@ impl Found {
         Ok(Found {
             reached: vec![in alloc; false; pages]?,
             level: None,
-            entries: Vec::new(alloc),
+            entries: Entries::with_room(alloc, 0)?,
             separators: Vec::new(alloc),
         })
     }

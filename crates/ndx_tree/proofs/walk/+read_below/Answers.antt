@@ -4,11 +4,13 @@ use Rattle.std.proofs.lemmas.Result.{err_from_is_err_and}
 use Rattle.ndx_page.specs.declared.page.PageEntry.{PageEntry}
 use Rattle.ndx_tree.specs.IndexFile.{page_count, links}
 use Rattle.ndx_tree.specs.Walk.{Seen, walk, pages_of, visit, walk_all, with_separator}
+use Rattle.key_lists.specs.Pairs.{Pair}
+use Rattle.ndx_tree.specs.Flat.{HaveKeys}
 use Rattle.ndx_tree.specs.Reads.{Shows, Marks, Gives, unset}
 use Rattle.ndx_tree.specs.declared.fault.TreeFault.{TreeFault}
 use Rattle.ndx_tree.specs.declared.walk.Found.{Found}
 use Rattle.ndx_tree.proofs.PageOf.{most_entries-bound}
-use Rattle.ndx_tree.proofs.Reading.{shows_reached, unset_set, leaf_fits, walk_refused, walk_opened, visit_inner, links_end, gives_last, left_step, left_fault}
+use Rattle.ndx_tree.proofs.Reading.{shows_reached, unset_set, leaf_fits, leaf_keys, walk_refused, walk_opened, visit_inner, links_end, gives_last, left_step, left_fault}
 use Rattle.ndx_tree.proofs.walk.+read_below.Goals as goal
 
 pub returns-in_err-page-clause-walked : goal.returns-in_err-page-clause-walked
@@ -41,6 +43,7 @@ loop-entry-init t c =
         rest = walk_opened c.args.head.now.length c.args.bytes.now c.args.left c.args.number s c.in_ok-page.page (omega arith) (c.in_ok-page.ensures.opens s.reached (subst (λ (m : List Bool). Marks (page_count c.args.bytes.now) m s.reached) (sym c.deref.ensures.value) h.marked)) ∙ visit_inner (walk (pages_of c.args.head.now.length c.args.bytes.now) (page_count c.args.bytes.now) (c.args.left - 1)) (c.args.left - 1) c.in_ok-page.page c.in_ok-page.page.last (let u : Seen = record { reached = s.reached ++ c.args.number ∷ []; items = s.items; level = s.level } in u) c.if-last-eq0.false ∙ ap (λ (es : List PageEntry). walk_all (walk (pages_of c.args.head.now.length c.args.bytes.now) (page_count c.args.bytes.now) (c.args.left - 1)) (links es c.in_ok-page.page.last) (let u : Seen = record { reached = s.reached ++ c.args.number ∷ []; items = s.items; level = s.level } in u)) (sym c.as_slice-entry-items.ensures.value);
       };
       bits = length-set c.args.found.now.reached.items c.args.number true ∙ c.requires.bits;
+      alike = c.requires.alike;
       few = omega (arith, once);
     }
 
@@ -59,9 +62,10 @@ loop-entry-preserved t c =
           left_step c.args.head.now.length (page_count c.args.bytes.now) c.loop-entry.found c.read_below.new.found c.take_separator.new.found (walk (pages_of c.args.head.now.length c.args.bytes.now) (page_count c.args.bytes.now) c.args.left c.args.number s) (walk (pages_of c.args.head.now.length c.args.bytes.now) (page_count c.args.bytes.now) (c.args.left - 1)) c.as_slice-entry-items.result.now c.loop-entry.entry-index c.in_ok-page.page.last c.entry-item.result (omega arith) c.entry-item.is l (c.in_ok-read_below.ensures.walked l.now l.shown)
           (λ u shown. subst (λ (m : List ℕ). Shows c.args.head.now.length (page_count c.args.bytes.now) c.take_separator.new.found (with_separator (Some m) u)) c.as_slice.ensures.value (c.in_ok-take_separator.ensures.shown c.args.head.now.length (page_count c.args.bytes.now) u shown));
       bits = ap (λ (v : List Bool). length v) c.take_separator.ensures.bits ∙ c.read_below.ensures.bits;
+      alike = subst (λ (m : List Pair). HaveKeys c.args.head.now.length m) (sym c.take_separator.ensures.entries) c.in_ok-read_below.ensures.alike;
       few =
           let same : unset c.take_separator.new.found.reached.items ≡ unset c.read_below.new.found.reached.items = ap unset c.take_separator.ensures.bits in
-          let entries = c.take_separator.ensures.entries in
+          let entries : length c.take_separator.new.found.entries.items ≡ length c.read_below.new.found.entries.items = ap (λ (m : List Pair). length m) c.take_separator.ensures.entries in
           omega (arith, same, entries, c.read_below.ensures.few, c.loop-entry.invariant.few);
     }
 
@@ -71,3 +75,9 @@ returns-clause-walked t c =
     let l = c.loop-entry.invariant.left s h in
     let rest = l.rest ∙ ap (λ cs. walk_all (walk (pages_of c.args.head.now.length c.args.bytes.now) (page_count c.args.bytes.now) (c.args.left - 1)) cs l.now) (links_end c.as_slice-entry-items.result.now c.loop-entry.entry-index c.in_ok-page.page.last (omega arith)) in
     subst (λ (r : Result Seen TreeFault). Gives c.args.head.now.length (page_count c.args.bytes.now) c.read_below-2.result c.read_below-2.new.found r) (sym rest) (gives_last c.args.head.now.length (page_count c.args.bytes.now) c.read_below-2.result c.read_below-2.new.found (walk (pages_of c.args.head.now.length c.args.bytes.now) (page_count c.args.bytes.now) (c.args.left - 1)) c.in_ok-page.page.last l.now (c.read_below-2.ensures.walked l.now l.shown))
+
+pub take_leaf-requires : goal.take_leaf-requires
+take_leaf-requires t c = record { alike = (c.args.head.now.length, c.args.head.now.short_key, c.requires.alike, leaf_keys c.args.head.now.length c.in_ok-page.page c.in_ok-page.ensures.fits) }
+
+pub returns-then-last-eq0-clause-alike : goal.returns-then-last-eq0-clause-alike
+returns-then-last-eq0-clause-alike t c = c.take_leaf.ensures.alike c.args.head.now.length c.requires.alike (leaf_keys c.args.head.now.length c.in_ok-page.page c.in_ok-page.ensures.fits)

@@ -1,5 +1,5 @@
 use Rattle.std.proofs.Common.{◌≡◌, ◌+◌, ◌-◌, ◌*◌, ◌≤◌, length, drop}
-use Rattle.std.specs.Vec.{vec_len}
+use Rattle.ndx_tree.specs.Flat.{HaveKeys}
 use Rattle.ndx_tree.specs.IndexFile.{page_count, links}
 use Rattle.ndx_tree.specs.Walk.{Seen, walk, pages_of}
 use Rattle.ndx_tree.specs.Reads.{Shows, unset}
@@ -14,5 +14,6 @@ abbrev pub invariant-loop-entry : goal.invariant-loop-entry
 invariant-loop-entry l = record {
   left : (s : Seen) → Shows l.head.length (page_count l.bytes) l.fn.found s → IsLeft l.head.length (page_count l.bytes) l.found (walk (pages_of l.head.length l.bytes) (page_count l.bytes) l.left l.number s) (walk (pages_of l.head.length l.bytes) (page_count l.bytes) (l.left - 1)) (links (drop l.entry-index l.entry-items) l.last);
   bits : length l.found.reached.items ≡ page_count l.bytes;
-  few : vec_len l.found.entries + 42 * unset l.found.reached.items ≤ vec_len l.fn.found.entries + 42 * unset l.fn.found.reached.items;
+  alike : HaveKeys l.head.length l.found.entries.items;
+  few : length l.found.entries.items + 42 * unset l.found.reached.items ≤ length l.fn.found.entries.items + 42 * unset l.fn.found.reached.items;
 }

@@ -1,7 +1,8 @@
-use Rattle.std.proofs.Common.{◌≡◌, ◌∙◌, List, length, ap, arith}
+use Rattle.std.proofs.Common.{◌≡◌, ◌∙◌, List, length, sym, ap, subst, arith}
 use Rattle.std.proofs.lemmas.Result.{err_from_is_err_and}
 use Rattle.std.proofs.Math.Nat.{mul-div-le}
 use Rattle.key_lists.specs.Pairs.{Pair}
+use Rattle.ndx_tree.specs.Flat.{HaveKeys}
 use Rattle.ndx_tree.specs.IndexFile.{page_count}
 use Rattle.ndx_tree.specs.Reads.{unset}
 use Rattle.ndx_tree.specs.Walk.{unseen, walk_file}
@@ -28,3 +29,6 @@ returns-clause-few c =
     let whole = mul-div-le (length c.args.bytes.now) 512 in
     let none : length c.in_ok-found.found.entries.items ≡ 0 = ap (λ (m : List Pair). length m) e.entries in
     omega (arith, c.in_ok-read_below.ensures.few, bits, whole, none)
+
+pub read_below-requires-clause-alike : goal.read_below-requires-clause-alike
+read_below-requires-clause-alike c = subst (λ (m : List Pair). HaveKeys c.args.head.now.length m) (sym c.in_ok-found.ensures.entries) tt

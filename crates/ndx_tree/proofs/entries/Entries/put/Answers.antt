@@ -1,67 +1,15 @@
-use Rattle.std.proofs.Common.{◌≡◌, ◌+◌, ◌*◌, ◌≤◌, ℕ, List, ◌++◌, length, take, drop, refl, sym, ap, subst, ◌∙◌, arith}
-use Rattle.std.specs.List.{insert}
-use Rattle.byteorder.specs.Endian.{little_bytes}
-use Rattle.key_lists.specs.Pairs.{Pair}
-use Rattle.ndx_tree.specs.Flat.{FlatView, HaveKeys, pairs_in}
-use Rattle.ndx_tree.proofs.FlatLemmas.{length-pairs_in, place_at_most, next_place, adopted, length-put, pairs_put}
+use Rattle.std.proofs.Common.{◌+◌, ◌*◌, ◌≤◌, ℕ, List, length, refl, sym, subst, ◌∙◌}
+use Rattle.ndx_tree.specs.Flat.{HaveKeys}
 use Rattle.ndx_tree.proofs.entries.Entries.put.Goals as goal
 
-pub put_bytes-requires-clause-within : goal.put_bytes-requires-clause-within
-put_bytes-requires-clause-within c =
-    let k = c.self.inside.key_length in
-    let n = c.self.inside.count in
-    let b = c.self.inside.bytes.items in
-    let items : pairs_in k n b ≡ c.args.self.now.items = ap (λ (v : FlatView). v.items) c.self.view_is in
-    let count : n ≡ length c.args.self.now.items = sym (length-pairs_in k n b) ∙ ap (λ (m : List Pair). length m) items in
-    let j = length c.key.result.now in
-    let same : length c.args.entry.now.0 ≡ j = ap (λ (r : List ℕ). length r) (sym c.key.ensures.value) in
-    let again : length c.key-2.result.now ≡ j = ap (λ (r : List ℕ). length r) (c.key-2.ensures.value ∙ sym c.key.ensures.value) in
-    let keys : HaveKeys j (pairs_in k n b) = subst (λ (m : List Pair). HaveKeys j m) (sym items) (subst (λ i. HaveKeys i c.args.self.now.items) same c.requires.alike) in
-    let a = adopted k j n b c.self.invariant.whole keys in
-    let at : c.args.at ≤ n = omega (arith, count, c.requires.within) in
-    omega (arith, place_at_most j c.args.at n b a.0 at, c.self.inside.bytes.small, c.self.inside.bytes.ok.0, c.self.inside.bytes.ok.1)
+pub put_pair-requires-clause-short : goal.put_pair-requires-clause-short
+put_pair-requires-clause-short c = subst (λ (m : List ℕ). length m ≤ 100) (sym c.key.ensures.value) c.key.ensures.bound
 
-pub put_bytes-requires-clause-room : goal.put_bytes-requires-clause-room
-put_bytes-requires-clause-room c =
-    let k = c.self.inside.key_length in
-    let n = c.self.inside.count in
-    let b = c.self.inside.bytes.items in
-    let items : pairs_in k n b ≡ c.args.self.now.items = ap (λ (v : FlatView). v.items) c.self.view_is in
-    let count : n ≡ length c.args.self.now.items = sym (length-pairs_in k n b) ∙ ap (λ (m : List Pair). length m) items in
-    let j = length c.key.result.now in
-    let same : length c.args.entry.now.0 ≡ j = ap (λ (r : List ℕ). length r) (sym c.key.ensures.value) in
-    let again : length c.key-2.result.now ≡ j = ap (λ (r : List ℕ). length r) (c.key-2.ensures.value ∙ sym c.key.ensures.value) in
-    let keys : HaveKeys j (pairs_in k n b) = subst (λ (m : List Pair). HaveKeys j m) (sym items) (subst (λ i. HaveKeys i c.args.self.now.items) same c.requires.alike) in
-    let a = adopted k j n b c.self.invariant.whole keys in
-    let at : c.args.at ≤ n = omega (arith, count, c.requires.within) in
-    let room : (n + 1) * (j + 4) ≤ c.args.self.now.room = subst (λ i. (i + 1) * (j + 4) ≤ c.args.self.now.room) (sym count) (subst (λ i. (length c.args.self.now.items + 1) * (i + 4) ≤ c.args.self.now.room) same c.requires.room) in omega (arith, room, again, next_place j n, a.0, ap (λ (v : FlatView). v.room) c.self.view_is, c.self.inside.bytes.small, c.self.inside.bytes.ok.0, c.self.inside.bytes.ok.1)
+pub put_pair-requires-clause-alike : goal.put_pair-requires-clause-alike
+put_pair-requires-clause-alike c = subst (λ (m : List ℕ). HaveKeys (length m) c.args.self.now.items) (sym c.key.ensures.value) c.requires.alike
 
-pub invariant_of-self : goal.invariant_of-self
-invariant_of-self c =
-    let k = c.self.inside.key_length in
-    let n = c.self.inside.count in
-    let b = c.self.inside.bytes.items in
-    let items : pairs_in k n b ≡ c.args.self.now.items = ap (λ (v : FlatView). v.items) c.self.view_is in
-    let count : n ≡ length c.args.self.now.items = sym (length-pairs_in k n b) ∙ ap (λ (m : List Pair). length m) items in
-    let j = length c.key.result.now in
-    let same : length c.args.entry.now.0 ≡ j = ap (λ (r : List ℕ). length r) (sym c.key.ensures.value) in
-    let again : length c.key-2.result.now ≡ j = ap (λ (r : List ℕ). length r) (c.key-2.ensures.value ∙ sym c.key.ensures.value) in
-    let keys : HaveKeys j (pairs_in k n b) = subst (λ (m : List Pair). HaveKeys j m) (sym items) (subst (λ i. HaveKeys i c.args.self.now.items) same c.requires.alike) in
-    let a = adopted k j n b c.self.invariant.whole keys in
-    let at : c.args.at ≤ n = omega (arith, count, c.requires.within) in
-    let bytes : c.put_bytes.new.bytes.items ≡ take (c.args.at * (j + 4)) b ++ (c.key-2.result.now ++ (little_bytes 4 c.number.result ++ drop (c.args.at * (j + 4)) b)) = c.put_bytes.ensures.bytes in record { whole = length-put j c.args.at n c.number.result c.key-2.result.now b _ again a.0 at bytes; short = subst (λ i. i ≤ 100) same c.key.ensures.bound }
+pub put_pair-requires-clause-room : goal.put_pair-requires-clause-room
+put_pair-requires-clause-room c = subst (λ (m : List ℕ). (length c.args.self.now.items + 1) * (length m + 4) ≤ c.args.self.now.room) (sym c.key.ensures.value) c.requires.room
 
 pub returns-clause-items : goal.returns-clause-items
-returns-clause-items c =
-    let k = c.self.inside.key_length in
-    let n = c.self.inside.count in
-    let b = c.self.inside.bytes.items in
-    let items : pairs_in k n b ≡ c.args.self.now.items = ap (λ (v : FlatView). v.items) c.self.view_is in
-    let count : n ≡ length c.args.self.now.items = sym (length-pairs_in k n b) ∙ ap (λ (m : List Pair). length m) items in
-    let j = length c.key.result.now in
-    let same : length c.args.entry.now.0 ≡ j = ap (λ (r : List ℕ). length r) (sym c.key.ensures.value) in
-    let again : length c.key-2.result.now ≡ j = ap (λ (r : List ℕ). length r) (c.key-2.ensures.value ∙ sym c.key.ensures.value) in
-    let keys : HaveKeys j (pairs_in k n b) = subst (λ (m : List Pair). HaveKeys j m) (sym items) (subst (λ i. HaveKeys i c.args.self.now.items) same c.requires.alike) in
-    let a = adopted k j n b c.self.invariant.whole keys in
-    let at : c.args.at ≤ n = omega (arith, count, c.requires.within) in
-    let bytes : c.put_bytes.new.bytes.items ≡ take (c.args.at * (j + 4)) b ++ (c.key-2.result.now ++ (little_bytes 4 c.number.result ++ drop (c.args.at * (j + 4)) b)) = c.put_bytes.ensures.bytes in pairs_put j c.args.at n c.number.result c.key-2.result.now b _ again c.put_bytes.ensures.fits a.0 at bytes ∙ ap (λ (m : List Pair). insert m c.args.at (c.key-2.result.now, c.number.result)) (a.1 ∙ items) ∙ rw (c.key-2.ensures.value, c.number.ensures) refl
+returns-clause-items c = c.put_pair.ensures.items ∙ rw (c.key.ensures.value, c.number.ensures) refl
