@@ -92,12 +92,4 @@ impl Entry {
     {
         self.key().cmp(key).is_lt()
     }
-
-    /// Whether this entry's key comes after a key.
-    #[tactic(auto, unfolding(crate::specs::Pairs::key_before))]
-    pub fn has_key_after(&self, key: &[u8]) -> bool
-        ensures { result ≡ key_before key.now self.now.0 }
-    {
-        key.cmp(self.key()).is_lt()
-    }
 }
