@@ -1,4 +1,5 @@
 pub mod FlatLemmas
+pub mod MovedBytes
 pub mod KeyFront
 pub mod Keyed
 pub mod Cut

@@ -383,6 +383,29 @@ fn add_pair(bytes: &mut Vec<u8>, key: &[u8], number: u32)
     add_bytes(bytes, &last);
 }
 
+// Moves the bytes between two places up by so many, over as many that stand behind them.
+fn move_up(bytes: &mut Vec<u8>, start: usize, end: usize, size: usize)
+    requires order { start ≤ end }
+    requires behind { vec_len bytes.old ≡ end + size }
+    ensures bytes { bytes.new.items ≡ take (start + size) bytes.old.items ++ take (end - start) (drop start bytes.old.items) }
+    ensures len { vec_len bytes.new ≡ vec_len bytes.old }
+    ensures capacity { vec_capacity bytes.old ≤ vec_capacity bytes.new }
+{
+    bytes.copy_within(start..end, start + size);
+}
+
+// Writes bytes over those from a place on.
+fn write_at(bytes: &mut Vec<u8>, start: usize, part: &[u8])
+    requires { start + length part.now ≤ vec_len bytes.old }
+    ensures bytes { bytes.new.items ≡ take start bytes.old.items ++ (part.now ++ drop (start + length part.now) bytes.old.items) }
+    ensures len { vec_len bytes.new ≡ vec_len bytes.old }
+    ensures capacity { vec_capacity bytes.old ≤ vec_capacity bytes.new }
+{
+    bytes
+        .slice_mut(start..start + part.len())
+        .copy_from_slice(part);
+}
+
 // Puts a key and a number at a place, in room that is there.
 fn put_bytes(bytes: &mut Vec<u8>, start: usize, key: &[u8], number: u32)
     requires within { start ≤ vec_len bytes.old }
@@ -392,10 +415,13 @@ fn put_bytes(bytes: &mut Vec<u8>, start: usize, key: &[u8], number: u32)
     ensures capacity { vec_capacity bytes.old ≤ vec_capacity bytes.new }
     ensures fits { number < 2 ^ 32 }
 {
+    let end = bytes.len();
     add_pair(bytes, key, number);
-    bytes
-        .slice_mut(start..)
-        .rotate_right(key.len() + NUMBER_SIZE);
+    move_up(bytes, start, end, key.len() + NUMBER_SIZE);
+    let mut last = [0; 4];
+    LittleEndian::write_u32(&mut last, number);
+    write_at(bytes, start, key);
+    write_at(bytes, start + key.len(), &last);
 }
 
 // Takes out so many bytes at a place.
@@ -404,7 +430,7 @@ fn take_bytes(bytes: &mut Vec<u8>, start: usize, size: usize)
     ensures bytes { bytes.new.items ≡ take start bytes.old.items ++ drop (start + size) bytes.old.items }
     ensures capacity { vec_capacity bytes.old ≤ vec_capacity bytes.new }
 {
-    let left = bytes.len() - size;
-    bytes.slice_mut(start..).rotate_left(size);
-    bytes.truncate(left);
+    let end = bytes.len();
+    bytes.copy_within(start + size..end, start);
+    bytes.truncate(end - size);
 }
