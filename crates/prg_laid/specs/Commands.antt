@@ -16,15 +16,15 @@ use Rattle.code_items.specs.declared.instr.Instr.TheVariants.{Values, Flow, Move
 use Rattle.code_rules.specs.Places.{state_at, block_at}
 use Rattle.code_rules.specs.declared.blocks.Block.{Block}
 use Rattle.prg_expr.specs.Tree.{Tree}
-use Rattle.prg_line.specs.Act.{Act, Letters, Loop, Exit}
+use Rattle.prg_line.specs.Act.{Act, Letters, Loop, Exit, Return, Quit, Cancel}
 use Rattle.prg_parser.specs.Commands.{Cmd, Cmds, Cases, Part, Single, If, DoCase, DoWhile, Scan, Done, Then, Neither, When, Absent, Otherwise}
 use Rattle.prg_code.specs.declared.names.Binding.{Binding}
 use Rattle.prg_values.specs.Written.{whole as whole_number}
 use Rattle.prg_values.specs.Placed.{Stands}
+use Rattle.laid_lines.specs.Acts.{Does, Puts, may_stand, waiting}
+use Rattle.laid_lines.specs.Layout.{Laying, Gives}
 use Rattle.prg_laid.specs.declared.way.Leaps.{Leaps}
 use Rattle.prg_laid.specs.declared.way.Way.{Way}
-use Rattle.prg_laid.specs.Layout.{Laying, Gives}
-use Rattle.prg_laid.specs.Acts.{Does, Puts, is_end, is_none_waiting, may_wait, waiting}
 
 -- a command that ends at a place, and one whose end isn't reached
 abbrev pub to : ℕ → Way
@@ -80,10 +80,6 @@ is_last Neither Absent = true
 is_last Neither (Otherwise n cs) = false
 is_last (When n e cs more) part = false
 
--- whether a command may stand where these GETs wait for their READ
-abbrev pub may_stand : List Letters → Act → Bool
-may_stand gets act = may_wait act || is_none_waiting gets
-
 -- the GETs that wait behind a command
 abbrev pub waiting_behind : List Letters → Cmd → List Letters
 waiting_behind gets (Single n act) = waiting gets act
@@ -94,6 +90,13 @@ loop_act = Loop
 
 abbrev pub exit_act : Act
 exit_act = Exit
+
+-- the commands that end the run: in the main procedure a RETURN is one of them
+abbrev pub is_end : Act → Bool
+is_end Return = true
+is_end Quit = true
+is_end Cancel = true
+is_end _ = false
 
 mutual
   -- a command in a loop whose LOOP and EXIT lead there, or in none, where these GETs wait

@@ -1,4 +1,2 @@
-pub mod Acts
 pub mod Choices
 pub mod Commands
-pub mod Layout

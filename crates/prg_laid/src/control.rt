@@ -4,23 +4,23 @@ ghost use Rattle.std.specs.Prelude.{◌≡◌, ◌||◌, ◌&&◌, ◌+◌, ◌<
 ghost use Rattle.code_items.specs.declared.instr.FlowInstr.TheVariants.{Jump, JumpFalse, End};
 ghost use Rattle.code_items.specs.declared.instr.Instr.TheVariants.{Flow};
 ghost use Rattle.prg_expr.specs.Tree.{tree_of};
-ghost use Rattle.prg_laid.specs.Acts as acts;
+ghost use Rattle.laid_lines.specs.Acts as acts;
 ghost use Rattle.prg_laid.specs.Choices as choices;
 ghost use Rattle.prg_laid.specs.Commands as spec;
-ghost use Rattle.prg_laid.specs.Layout.{laying};
+ghost use Rattle.laid_lines.specs.Layout.{laying};
 ghost use Rattle.prg_laid.specs.declared.way.Leaps.{Leaps as Looped};
 ghost use Rattle.prg_line.specs.Act.{act_of};
 ghost use Rattle.prg_parser.specs.Commands.{Single, If, DoCase, DoWhile, Scan, form_of, command_of, commands_of, cases_of, part_of};
 ghost use Rattle.prg_values.specs.Placed.{Stands};
 
 use crate::fault::LayoutFault;
-use crate::layout::{Layout, after, given_as, puts_one};
-use crate::statement::{does, may_stand, none_wait, wait_behind};
 use crate::way::{Leaps, Way};
 use code_items::{FlowInstr, Instr, MoveInstr, Name, Question, RecordInstr, ValueInstr};
+use laid_lines::{Layout, after, does, given_as, may_stand, none_wait, puts_one, wait_behind};
 use prg_expr::Expr;
 use prg_line::Statement;
 use prg_parser::{Branch, Case, Command, Form};
+use std::alloc::AllocError;
 use xvalue::{Fun, Kind};
 
 /// How many instructions lead from the end of a SCAN's commands back to its test.
@@ -292,7 +292,7 @@ fn single(
 }
 
 /// The GETs that wait behind the command, which isn't a block while GETs wait.
-fn wait_on<'a>(gets: &mut Vec<&'a Name>, command: &'a Command) -> Result<(), LayoutFault>
+fn wait_on<'a>(gets: &mut Vec<&'a Name>, command: &'a Command) -> Result<(), AllocError>
     ensures { OnOk result (acts.names_of gets.new.items ≡ spec.waiting_behind (acts.names_of gets.old.items) (command_of command.now)) }
 {
     match &command.form {
