@@ -194,12 +194,7 @@ impl TreePage {
                 return None;
             }
             let last = even_leaves(&mut self.entries, &mut later);
-            let page = TreePage {
-                most: self.most,
-                entries: later,
-                children: later_children,
-            };
-            return Some((last, page));
+            return Some((last, TreePage::of_parts(self.most, later, later_children)));
         }
         if both < self.most {
             self.entries.push(&separator);
@@ -214,12 +209,7 @@ impl TreePage {
             &mut later,
             &mut later_children,
         );
-        let page = TreePage {
-            most: self.most,
-            entries: later,
-            children: later_children,
-        };
-        Some((last, page))
+        Some((last, TreePage::of_parts(self.most, later, later_children)))
     }
 
     /// Whether it is an inner page with one child alone.

@@ -1,9 +1,9 @@
-use Rattle.std.proofs.Common.{◌≡◌, ◌+◌, ◌*◌, ◌/◌, ◌<◌, ◌≤◌, List, [], ◌∷◌, ◌++◌, length, ap, sym, ◌∙◌, subst, arith, append_assoc, length-append}
+use Rattle.std.proofs.Common.{◌≡◌, Some, ◌+◌, ◌*◌, ◌/◌, ◌<◌, ◌≤◌, List, [], ◌∷◌, ◌++◌, length, ap, sym, ◌∙◌, subst, arith, append_assoc, length-append}
 use Rattle.std.proofs.lemmas.Bool.{eqb-true, eqb-false}
 use Rattle.std.proofs.lemmas.List.{nil_from_length}
 use Rattle.key_lists.specs.Pairs.{Pair}
 use Rattle.ndx_tree.specs.Flat.{HaveKeys}
-use Rattle.ndx_tree.specs.Pages.{PageView}
+use Rattle.ndx_tree.specs.Pages.{PageView, Joins, view_of}
 use Rattle.ndx_tree.proofs.Keyed.{most_is}
 use Rattle.ndx_tree.proofs.Join.{leaf_joins, inner_joined, inner_joins, IsJoined, beside, page_children, other_children, uneven_enough, leaf_evened, leaf_childless, inner_evened, pushed_keyed}
 use Rattle.ndx_tree.proofs.page.TreePage.join.Goals as goal
@@ -53,8 +53,8 @@ even_leaves-last-requires-clause-keyed c =
     let b = beside l r m rm es fs cs ds c.args.separator c.self.inside.entries.room c.right.inside.entries.room c.self.view_is c.right.view_is c.self.invariant.0 c.right.invariant.0 c.self.invariant.2 c.right.invariant.2 c.requires.same_most c.requires.keyed c.requires.separator in
     (b.k, b.keys, b.others, b.here (length es + 1) (omega (arith, c.self.invariant.1)), b.there (length fs + 1) (subst (λ i. length fs + 1 ≤ i + 1) b.same (omega (arith, c.right.invariant.1))))
 
-pub invariant_of-page : goal.invariant_of-page
-invariant_of-page c =
+pub of_parts-requires-clause-parts : goal.of_parts-requires-clause-parts
+of_parts-requires-clause-parts c =
     let l = c.args.self.now in
     let r = c.args.right in
     let m = c.self.inside.most in
@@ -68,7 +68,58 @@ invariant_of-page c =
     let here : c.len.result ≡ length es = c.len.ensures in
     let there : c.len-2.result ≡ length fs = c.len-2.ensures in
     let e = leaf_evened l r m rm es fs c.even_leaves-last.new.low.items c.even_leaves-last.new.high.items cs ds c.even_leaves-last.result c.self.view_is c.right.view_is none c.self.invariant.0 c.right.invariant.0 c.requires.same_height c.requires.rising c.requires.uneven (omega arith) c.even_leaves-last.ensures.whole c.even_leaves-last.ensures.last c.even_leaves-last.ensures.evens in
-    (e.later, e.later_full, omega (arith, b.all, c.even_leaves-last.ensures.high_room), λ n. absurd (omega (arith, n, ap (λ (x : List PageView). length x) (leaf_childless l r m rm es fs cs ds c.self.view_is c.right.view_is none c.right.invariant.0 c.requires.same_height))))
+    e.later
+
+pub of_parts-requires-clause-full : goal.of_parts-requires-clause-full
+of_parts-requires-clause-full c =
+    let l = c.args.self.now in
+    let r = c.args.right in
+    let m = c.self.inside.most in
+    let rm = c.right.inside.most in
+    let es = c.self.inside.entries.items in
+    let fs = c.right.inside.entries.items in
+    let cs = c.self.inside.children.items in
+    let ds = c.right.inside.children.items in
+    let b = beside l r m rm es fs cs ds c.args.separator c.self.inside.entries.room c.right.inside.entries.room c.self.view_is c.right.view_is c.self.invariant.0 c.right.invariant.0 c.self.invariant.2 c.right.invariant.2 c.requires.same_most c.requires.keyed c.requires.separator in
+    let none : cs ≡ [] = nil_from_length _ (omega (arith, eqb-true _ 0 (sym c.is_empty.ensures ∙ c.if-is_empty.true))) in
+    let here : c.len.result ≡ length es = c.len.ensures in
+    let there : c.len-2.result ≡ length fs = c.len-2.ensures in
+    let e = leaf_evened l r m rm es fs c.even_leaves-last.new.low.items c.even_leaves-last.new.high.items cs ds c.even_leaves-last.result c.self.view_is c.right.view_is none c.self.invariant.0 c.right.invariant.0 c.requires.same_height c.requires.rising c.requires.uneven (omega arith) c.even_leaves-last.ensures.whole c.even_leaves-last.ensures.last c.even_leaves-last.ensures.evens in
+    e.later_full
+
+pub of_parts-requires-clause-room : goal.of_parts-requires-clause-room
+of_parts-requires-clause-room c =
+    let l = c.args.self.now in
+    let r = c.args.right in
+    let m = c.self.inside.most in
+    let rm = c.right.inside.most in
+    let es = c.self.inside.entries.items in
+    let fs = c.right.inside.entries.items in
+    let cs = c.self.inside.children.items in
+    let ds = c.right.inside.children.items in
+    let b = beside l r m rm es fs cs ds c.args.separator c.self.inside.entries.room c.right.inside.entries.room c.self.view_is c.right.view_is c.self.invariant.0 c.right.invariant.0 c.self.invariant.2 c.right.invariant.2 c.requires.same_most c.requires.keyed c.requires.separator in
+    let none : cs ≡ [] = nil_from_length _ (omega (arith, eqb-true _ 0 (sym c.is_empty.ensures ∙ c.if-is_empty.true))) in
+    let here : c.len.result ≡ length es = c.len.ensures in
+    let there : c.len-2.result ≡ length fs = c.len-2.ensures in
+    let e = leaf_evened l r m rm es fs c.even_leaves-last.new.low.items c.even_leaves-last.new.high.items cs ds c.even_leaves-last.result c.self.view_is c.right.view_is none c.self.invariant.0 c.right.invariant.0 c.requires.same_height c.requires.rising c.requires.uneven (omega arith) c.even_leaves-last.ensures.whole c.even_leaves-last.ensures.last c.even_leaves-last.ensures.evens in
+    omega (arith, b.all, c.even_leaves-last.ensures.high_room)
+
+pub of_parts-requires-clause-child_room : goal.of_parts-requires-clause-child_room
+of_parts-requires-clause-child_room c =
+    let l = c.args.self.now in
+    let r = c.args.right in
+    let m = c.self.inside.most in
+    let rm = c.right.inside.most in
+    let es = c.self.inside.entries.items in
+    let fs = c.right.inside.entries.items in
+    let cs = c.self.inside.children.items in
+    let ds = c.right.inside.children.items in
+    let b = beside l r m rm es fs cs ds c.args.separator c.self.inside.entries.room c.right.inside.entries.room c.self.view_is c.right.view_is c.self.invariant.0 c.right.invariant.0 c.self.invariant.2 c.right.invariant.2 c.requires.same_most c.requires.keyed c.requires.separator in
+    let none : cs ≡ [] = nil_from_length _ (omega (arith, eqb-true _ 0 (sym c.is_empty.ensures ∙ c.if-is_empty.true))) in
+    let here : c.len.result ≡ length es = c.len.ensures in
+    let there : c.len-2.result ≡ length fs = c.len-2.ensures in
+    let e = leaf_evened l r m rm es fs c.even_leaves-last.new.low.items c.even_leaves-last.new.high.items cs ds c.even_leaves-last.result c.self.view_is c.right.view_is none c.self.invariant.0 c.right.invariant.0 c.requires.same_height c.requires.rising c.requires.uneven (omega arith) c.even_leaves-last.ensures.whole c.even_leaves-last.ensures.last c.even_leaves-last.ensures.evens in
+    λ n. absurd (omega (arith, n, ap (λ (x : List PageView). length x) (leaf_childless l r m rm es fs cs ds c.self.view_is c.right.view_is none c.right.invariant.0 c.requires.same_height)))
 
 pub invariant_of-self-then-is_empty : goal.invariant_of-self-then-is_empty
 invariant_of-self-then-is_empty c =
@@ -100,7 +151,7 @@ returns-then-is_empty c =
     let here : c.len.result ≡ length es = c.len.ensures in
     let there : c.len-2.result ≡ length fs = c.len-2.ensures in
     let e = leaf_evened l r m rm es fs c.even_leaves-last.new.low.items c.even_leaves-last.new.high.items cs ds c.even_leaves-last.result c.self.view_is c.right.view_is none c.self.invariant.0 c.right.invariant.0 c.requires.same_height c.requires.rising c.requires.uneven (omega arith) c.even_leaves-last.ensures.whole c.even_leaves-last.ensures.last c.even_leaves-last.ensures.evens in
-    e.joins
+    subst (λ (v : PageView). Joins l r (view_of m c.even_leaves-last.new.low.items cs) (Some (c.even_leaves-last.result, v))) (sym c.of_parts.ensures) e.joins
 
 pub push-requires-clause-alike : goal.push-requires-clause-alike
 push-requires-clause-alike c =
@@ -271,8 +322,8 @@ even_inner-last-requires-clause-right_room c =
     let others : length ds ≡ length fs + 1 = other_children l r m rm es fs cs ds c.self.view_is c.right.view_is c.self.invariant.0 c.right.invariant.0 some c.requires.same_height in
     omega (arith, c.right.invariant.3 (omega (arith, others)), c.right.invariant.1)
 
-pub invariant_of-page-2 : goal.invariant_of-page-2
-invariant_of-page-2 c =
+pub of_parts-requires-2-clause-parts : goal.of_parts-requires-2-clause-parts
+of_parts-requires-2-clause-parts c =
     let l = c.args.self.now in
     let r = c.args.right in
     let m = c.self.inside.most in
@@ -288,7 +339,64 @@ invariant_of-page-2 c =
     let size : length cs ≡ length es + 1 = page_children m es cs c.self.invariant.0 some in
     let e = inner_evened l r m rm es fs c.even_inner-last.new.low.items c.even_inner-last.new.high.items cs ds c.even_inner-last.new.left.items c.even_inner-last.new.right.items c.args.separator c.even_inner-last.result c.self.view_is c.right.view_is c.self.invariant.0 c.right.invariant.0 some c.requires.same_height c.requires.same_most c.requires.rising c.requires.separator c.requires.uneven (omega arith) c.even_inner-last.ensures.whole c.even_inner-last.ensures.children (omega (arith, c.even_inner-last.ensures.more)) c.even_inner-last.ensures.evens in
     let others : length ds ≡ length fs + 1 = other_children l r m rm es fs cs ds c.self.view_is c.right.view_is c.self.invariant.0 c.right.invariant.0 some c.requires.same_height in
-    (e.later, e.later_full, omega (arith, b.all, c.even_inner-last.ensures.high_room), λ _. let room = c.right.invariant.3 (omega (arith, others)) in omega (arith, b.same, room, c.even_inner-last.ensures.right_capacity))
+    e.later
+
+pub of_parts-requires-2-clause-full : goal.of_parts-requires-2-clause-full
+of_parts-requires-2-clause-full c =
+    let l = c.args.self.now in
+    let r = c.args.right in
+    let m = c.self.inside.most in
+    let rm = c.right.inside.most in
+    let es = c.self.inside.entries.items in
+    let fs = c.right.inside.entries.items in
+    let cs = c.self.inside.children.items in
+    let ds = c.right.inside.children.items in
+    let b = beside l r m rm es fs cs ds c.args.separator c.self.inside.entries.room c.right.inside.entries.room c.self.view_is c.right.view_is c.self.invariant.0 c.right.invariant.0 c.self.invariant.2 c.right.invariant.2 c.requires.same_most c.requires.keyed c.requires.separator in
+    let some : 0 < length cs = omega (arith, eqb-false _ 0 (sym c.is_empty.ensures ∙ c.if-is_empty.false)) in
+    let here : c.len.result ≡ length es = c.len.ensures in
+    let there : c.len-2.result ≡ length fs = c.len-2.ensures in
+    let size : length cs ≡ length es + 1 = page_children m es cs c.self.invariant.0 some in
+    let e = inner_evened l r m rm es fs c.even_inner-last.new.low.items c.even_inner-last.new.high.items cs ds c.even_inner-last.new.left.items c.even_inner-last.new.right.items c.args.separator c.even_inner-last.result c.self.view_is c.right.view_is c.self.invariant.0 c.right.invariant.0 some c.requires.same_height c.requires.same_most c.requires.rising c.requires.separator c.requires.uneven (omega arith) c.even_inner-last.ensures.whole c.even_inner-last.ensures.children (omega (arith, c.even_inner-last.ensures.more)) c.even_inner-last.ensures.evens in
+    let others : length ds ≡ length fs + 1 = other_children l r m rm es fs cs ds c.self.view_is c.right.view_is c.self.invariant.0 c.right.invariant.0 some c.requires.same_height in
+    e.later_full
+
+pub of_parts-requires-2-clause-room : goal.of_parts-requires-2-clause-room
+of_parts-requires-2-clause-room c =
+    let l = c.args.self.now in
+    let r = c.args.right in
+    let m = c.self.inside.most in
+    let rm = c.right.inside.most in
+    let es = c.self.inside.entries.items in
+    let fs = c.right.inside.entries.items in
+    let cs = c.self.inside.children.items in
+    let ds = c.right.inside.children.items in
+    let b = beside l r m rm es fs cs ds c.args.separator c.self.inside.entries.room c.right.inside.entries.room c.self.view_is c.right.view_is c.self.invariant.0 c.right.invariant.0 c.self.invariant.2 c.right.invariant.2 c.requires.same_most c.requires.keyed c.requires.separator in
+    let some : 0 < length cs = omega (arith, eqb-false _ 0 (sym c.is_empty.ensures ∙ c.if-is_empty.false)) in
+    let here : c.len.result ≡ length es = c.len.ensures in
+    let there : c.len-2.result ≡ length fs = c.len-2.ensures in
+    let size : length cs ≡ length es + 1 = page_children m es cs c.self.invariant.0 some in
+    let e = inner_evened l r m rm es fs c.even_inner-last.new.low.items c.even_inner-last.new.high.items cs ds c.even_inner-last.new.left.items c.even_inner-last.new.right.items c.args.separator c.even_inner-last.result c.self.view_is c.right.view_is c.self.invariant.0 c.right.invariant.0 some c.requires.same_height c.requires.same_most c.requires.rising c.requires.separator c.requires.uneven (omega arith) c.even_inner-last.ensures.whole c.even_inner-last.ensures.children (omega (arith, c.even_inner-last.ensures.more)) c.even_inner-last.ensures.evens in
+    let others : length ds ≡ length fs + 1 = other_children l r m rm es fs cs ds c.self.view_is c.right.view_is c.self.invariant.0 c.right.invariant.0 some c.requires.same_height in
+    omega (arith, b.all, c.even_inner-last.ensures.high_room)
+
+pub of_parts-requires-2-clause-child_room : goal.of_parts-requires-2-clause-child_room
+of_parts-requires-2-clause-child_room c =
+    let l = c.args.self.now in
+    let r = c.args.right in
+    let m = c.self.inside.most in
+    let rm = c.right.inside.most in
+    let es = c.self.inside.entries.items in
+    let fs = c.right.inside.entries.items in
+    let cs = c.self.inside.children.items in
+    let ds = c.right.inside.children.items in
+    let b = beside l r m rm es fs cs ds c.args.separator c.self.inside.entries.room c.right.inside.entries.room c.self.view_is c.right.view_is c.self.invariant.0 c.right.invariant.0 c.self.invariant.2 c.right.invariant.2 c.requires.same_most c.requires.keyed c.requires.separator in
+    let some : 0 < length cs = omega (arith, eqb-false _ 0 (sym c.is_empty.ensures ∙ c.if-is_empty.false)) in
+    let here : c.len.result ≡ length es = c.len.ensures in
+    let there : c.len-2.result ≡ length fs = c.len-2.ensures in
+    let size : length cs ≡ length es + 1 = page_children m es cs c.self.invariant.0 some in
+    let e = inner_evened l r m rm es fs c.even_inner-last.new.low.items c.even_inner-last.new.high.items cs ds c.even_inner-last.new.left.items c.even_inner-last.new.right.items c.args.separator c.even_inner-last.result c.self.view_is c.right.view_is c.self.invariant.0 c.right.invariant.0 some c.requires.same_height c.requires.same_most c.requires.rising c.requires.separator c.requires.uneven (omega arith) c.even_inner-last.ensures.whole c.even_inner-last.ensures.children (omega (arith, c.even_inner-last.ensures.more)) c.even_inner-last.ensures.evens in
+    let others : length ds ≡ length fs + 1 = other_children l r m rm es fs cs ds c.self.view_is c.right.view_is c.self.invariant.0 c.right.invariant.0 some c.requires.same_height in
+    λ _. let room = c.right.invariant.3 (omega (arith, others)) in omega (arith, b.same, room, c.even_inner-last.ensures.right_capacity)
 
 pub invariant_of-self-2 : goal.invariant_of-self-2
 invariant_of-self-2 c =
@@ -322,4 +430,4 @@ returns c =
     let there : c.len-2.result ≡ length fs = c.len-2.ensures in
     let size : length cs ≡ length es + 1 = page_children m es cs c.self.invariant.0 some in
     let e = inner_evened l r m rm es fs c.even_inner-last.new.low.items c.even_inner-last.new.high.items cs ds c.even_inner-last.new.left.items c.even_inner-last.new.right.items c.args.separator c.even_inner-last.result c.self.view_is c.right.view_is c.self.invariant.0 c.right.invariant.0 some c.requires.same_height c.requires.same_most c.requires.rising c.requires.separator c.requires.uneven (omega arith) c.even_inner-last.ensures.whole c.even_inner-last.ensures.children (omega (arith, c.even_inner-last.ensures.more)) c.even_inner-last.ensures.evens in
-    e.joins
+    subst (λ (v : PageView). Joins l r (view_of m c.even_inner-last.new.low.items c.even_inner-last.new.left.items) (Some (c.even_inner-last.result, v))) (sym c.of_parts-2.ensures) e.joins
