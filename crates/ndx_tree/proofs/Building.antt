@@ -4,7 +4,8 @@ use Rattle.std.proofs.Math.Nat.{mul-le-mul_left, mul-le-mul_right, le_trans}
 use Rattle.std.proofs.lemmas.List.{reverse-append, take-append-drop, length-take, length-drop, take-take, drop-take, take_all, append-nil}
 use Rattle.key_lists.specs.Order.{Each}
 use Rattle.key_lists.specs.Pairs.{Pair}
-use Rattle.ndx_tree.specs.Flat.{HaveKeys, AreKeyed}
+use Rattle.key_rows.specs.Flat.{HaveKeys}
+use Rattle.ndx_tree.specs.Rooms.{AreKeyed}
 use Rattle.key_lists.specs.Rising.{IsRising, last_of}
 use Rattle.ndx_tree.specs.Levels.{IsAbove}
 use Rattle.ndx_tree.specs.Trees.{IsRoot}

@@ -4,7 +4,8 @@ use Rattle.key_lists.specs.Pairs.{Pair}
 use Rattle.key_lists.specs.Rising.{IsRising, last_of}
 use Rattle.ndx_tree.specs.Pages.{PageView, joined, pairs_of, height_of, view_of, IsCut, IsChild, AreChildren, IsPage, Joins, Divides, IsUneven, Evens, least_pairs}
 use Rattle.ndx_tree.proofs.Cut.{cut_length, framed_from}
-use Rattle.ndx_tree.specs.Flat.{HaveKeys, AreKeyed, room_for}
+use Rattle.key_rows.specs.Flat.{HaveKeys}
+use Rattle.ndx_tree.specs.Rooms.{AreKeyed, room_for}
 use Rattle.key_lists.proofs.Ordered.{Each-append, Each-append_left, Each-append_right}
 use Rattle.ndx_tree.proofs.Divide.{IsFair, least_pairs_one, filled_from, leaf_parts, inner_parts}
 use Rattle.ndx_tree.proofs.Keyed.{page_keyed, last_keyed, entries_room, most_is}

@@ -9,7 +9,8 @@ use Rattle.key_lists.specs.KeyForm.{IsPairOf}
 use Rattle.key_lists.specs.Pairs.{Pair, is_before}
 use Rattle.key_lists.specs.Rising.{last_of, with_pair, without_pair}
 use Rattle.ndx_tree.specs.Pages.{PageView, joined, pairs_of, view_of, IsCut, IsPage, Removes}
-use Rattle.ndx_tree.specs.Flat.{HaveKeys, AreKeyed, room_for}
+use Rattle.key_rows.specs.Flat.{HaveKeys}
+use Rattle.ndx_tree.specs.Rooms.{AreKeyed, room_for}
 use Rattle.key_lists.proofs.Ordered.{Each-append, Each-inserted, Each-append_left, Each-append_right}
 
 pub last_keyed : (k : ℕ) (l : List Pair) (s : Pair) → HaveKeys k l → last_of l ≡ Some s → length s.0 ≡ k

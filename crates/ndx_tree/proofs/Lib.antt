@@ -1,6 +1,3 @@
-pub mod FlatLemmas
-pub mod MovedBytes
-pub mod KeyFront
 pub mod Keyed
 pub mod Cut
 pub mod Divide

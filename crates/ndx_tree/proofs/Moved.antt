@@ -1,12 +1,11 @@
 -- The first and the last of a list, taken out.
-use Rattle.std.proofs.Common.{◌≡◌, ℕ, Some, ◌+◌, ◌<◌, List, [], ◌∷◌, ◌++◌, length, get_or, take, ap, ◌∙◌, refl, subst, arith}
-use Rattle.std.specs.List.{remove}
+use Rattle.std.proofs.Common.{◌≡◌, ℕ, Some, ◌+◌, List, [], ◌∷◌, ◌++◌, length, get_or, take, ap, ◌∙◌, refl, subst}
 use Rattle.key_lists.specs.Pairs.{Pair}
 use Rattle.key_lists.specs.Rising.{last_of}
 use Rattle.key_lists.proofs.Rises.{last_back}
 use Rattle.key_lists.proofs.Ordered.{Each-append_right}
-use Rattle.ndx_tree.specs.Flat.{HaveKeys}
-use Rattle.ndx_tree.proofs.FlatLemmas.{last_apart}
+use Rattle.key_rows.specs.Flat.{HaveKeys}
+use Rattle.key_rows.proofs.FlatLemmas.{last_apart}
 
 pub last_pushed : (low low2 : List Pair) (x : Pair) → low2 ≡ low ++ x ∷ [] → last_of low2 ≡ Some x
 last_pushed low low2 x e = ap last_of e ∙ last_back x low (x ∷ []) refl
@@ -17,7 +16,3 @@ last_read l x n e g = last_pushed (take n l) l x (last_apart l (take n l) x n e 
 -- the last of keys of one length has that length
 pub last_size : (k : ℕ) (l front : List Pair) (x : Pair) → HaveKeys k l → l ≡ front ++ x ∷ [] → length x.0 ≡ k
 last_size k l front x a e = (Each-append_right (λ p. length p.0 ≡ k) front (x ∷ []) (subst (λ (m : List Pair). HaveKeys k m) e a)).0
-
-pub first_out : {X : Type 0} (l rest : List X) (x : X) → 0 < length l → x ≡ get_or l 0 x → rest ≡ remove l 0 → l ≡ x ∷ rest
-first_out [] rest x n e f = absurd (omega arith)
-first_out (y ∷ l) rest x n e f = rw (f, e) refl

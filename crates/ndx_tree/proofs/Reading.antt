@@ -11,7 +11,7 @@ use Rattle.key_lists.specs.Pairs.{Pair}
 use Rattle.ndx_tree.specs.IndexFile.{Item, Listed, Between, listed, is_listed, is_barred, page_count, all_listed, leaf_pairs, Link, links}
 use Rattle.ndx_tree.specs.Walk.{Seen, with_separator, is_level, visit, walk_all, followed, open_page, walk, pages_of, unseen}
 use Rattle.std.proofs.Common.{replicate}
-use Rattle.ndx_tree.specs.Flat.{HaveKeys}
+use Rattle.key_rows.specs.Flat.{HaveKeys}
 use Rattle.ndx_tree.specs.Reads.{Shows, Marks, Gives, Opens, unset, marks}
 use Rattle.std.proofs.Common.{All}
 use Rattle.std.proofs.lemmas.List.Elements.{All-head, All-tail}

@@ -2,7 +2,7 @@
 use Rattle.std.specs.Prelude.{◌≡◌, ℕ, ◌+◌, ◌<◌, ◌≤◌, []}
 use Rattle.std.specs.Vec.{vec_capacity}
 use Rattle.key_lists.specs.Order.{Each}
-use Rattle.ndx_tree.specs.Flat.{room_for}
+use Rattle.ndx_tree.specs.Rooms.{room_for}
 use Rattle.ndx_tree.specs.declared.page.Blank.{Blank}
 use Rattle.ndx_tree.specs.declared.page.Pool.{Pool}
 

@@ -1,6 +1,6 @@
 pub mod Pages
 pub mod Falls
-pub mod Flat
+pub mod Rooms
 pub mod Blanks
 pub mod Trees
 pub mod Levels

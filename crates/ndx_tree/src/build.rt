@@ -5,17 +5,18 @@
 
 ghost use Rattle.std.specs.Prelude.{◌≡◌, ℕ, ◌+◌, ◌*◌, ◌-◌, ◌/◌, ◌^◌, ◌<◌, ◌≤◌, [], length, take, drop, IfOk, OnOk};
 ghost use Rattle.std.specs.Vec.{vec_len};
-ghost use Rattle.ndx_tree.specs.Flat.{HaveKeys, AreKeyed};
+ghost use Rattle.key_rows.specs.Flat.{HaveKeys};
+ghost use Rattle.ndx_tree.specs.Rooms.{AreKeyed};
 ghost use Rattle.ndx_tree.specs.Levels.{IsAbove};
 ghost use Rattle.key_lists.specs.Order.{Each};
 ghost use Rattle.ndx_tree.specs.Pages.{AreChildren, IsCut, joined, view_of};
 ghost use Rattle.key_lists.specs.Rising.{IsRising};
 ghost use Rattle.ndx_tree.specs.Trees.{IsRoot};
 
-use crate::entries::Entries;
 use crate::lists::move_tail;
 use crate::page::{Blank, TreePage};
 use key_lists::Entry;
+use key_rows::Entries;
 use std::alloc::{AllocError, Global};
 
 // How many of those that are left one page gets: as many as it may have, or half of them, where the page after it would

@@ -11,12 +11,12 @@ ghost use Rattle.ndx_page.specs.Numbers.{number_at};
 ghost use Rattle.ndx_tree.specs.Walk.{IsFirstFault};
 ghost use Rattle.ndx_tree.specs.declared.fault.TreeFault.TheVariants.{Memory};
 
-use crate::entries::Entries;
 use crate::laws::holds_one_list;
 use crate::order::is_in_order;
 use crate::walk::walk_pages;
 use crate::{NdxTree, TreeFault};
 use key_lists::held;
+use key_rows::Entries;
 use ndx_page::laws::pages_are_told;
 use ndx_page::{Head, read_head, write_head};
 use std::alloc::{AllocError, Global};

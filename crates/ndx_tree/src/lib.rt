@@ -5,7 +5,6 @@
 #![tactic(auto)]
 
 mod build;
-mod entries;
 mod fault;
 mod index_file;
 pub mod laws;

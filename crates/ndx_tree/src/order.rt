@@ -7,8 +7,8 @@ ghost use Rattle.key_lists.specs.Rising.{IsRising};
 ghost use Rattle.ndx_tree.specs.Reads.{IsBetween, AreInside, marks};
 ghost use Rattle.ndx_tree.specs.IndexFile.{AreInOrder, listed, Item};
 
-use crate::entries::{Entries, is_key_before};
 use crate::walk::{Found, Separator};
+use key_rows::{Entries, is_key_before};
 
 // Whether each entry stands before the next.
 fn is_rising(entries: &Entries) -> bool

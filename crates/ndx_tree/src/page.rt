@@ -10,11 +10,12 @@ ghost use Rattle.key_lists.specs.Rising.{IsAbsent, IsRising, last_of, first_from
 ghost use Rattle.ndx_tree.specs.Pages.{PageView, joined, view_of, Inserts, InsertsInRoom, Removes, Joins, IsPage, IsChild, IsCut, IsMending, IsUneven, Evens, Mends, Divides};
 ghost use Rattle.ndx_tree.specs.Blanks.{IsBlank, IsInnerBlank, IsPool};
 ghost use Rattle.key_lists.specs.Pairs.{Pair};
-ghost use Rattle.ndx_tree.specs.Flat.{HaveKeys, AreKeyed, room_for};
+ghost use Rattle.key_rows.specs.Flat.{HaveKeys};
+ghost use Rattle.ndx_tree.specs.Rooms.{AreKeyed, room_for};
 
-use crate::entries::Entries;
 use crate::lists::{move_all, move_tail, put};
 use key_lists::Entry;
+use key_rows::Entries;
 use std::alloc::{AllocError, Global};
 use std::marker::Model;
 use std::mem;
@@ -32,7 +33,7 @@ impl Model for TreePage {
     ghost use Rattle.std.specs.Vec.{vec_capacity};
     ghost use Rattle.ndx_tree.specs.Pages.{PageView, view_of, IsPage};
     ghost use Rattle.ndx_tree.specs.Falls.{falls};
-    ghost use Rattle.ndx_tree.specs.Flat.{room_for};
+    ghost use Rattle.ndx_tree.specs.Rooms.{room_for};
 
     ghost Value = { PageView };
 
@@ -425,7 +426,7 @@ pub(crate) fn take_inner(most: usize, pool: &mut Pool) -> Blank
 }
 
 // How many bytes the entries of one page may take, with one too many.
-#[tactic(auto, unfolding(crate::specs::Flat::room_for))]
+#[tactic(auto, unfolding(crate::specs::Rooms::room_for))]
 fn room_of(most: usize) -> usize
     requires { (0 < most) × (most < 1000) }
     ensures { result ≡ room_for most }

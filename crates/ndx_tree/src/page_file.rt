@@ -9,10 +9,10 @@ ghost use Rattle.key_lists.specs.KeyForm.{IsPairOf};
 ghost use Rattle.ndx_tree.specs.IndexFile.{leaf_pairs};
 ghost use Rattle.ndx_tree.specs.Writes.{IsWritten, IsAppended, IsPageText};
 
-use crate::entries::Entries;
 use crate::page::TreePage;
 use arrayvec::ArrayVec;
 use key_lists::held;
+use key_rows::Entries;
 use ndx_page::{Head, write_page};
 use std::alloc::AllocError;
 

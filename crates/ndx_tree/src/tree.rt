@@ -8,10 +8,10 @@ ghost use Rattle.ndx_tree.specs.Trees.{IsTree};
 ghost use Rattle.key_lists.specs.Rising.{IsAbsent, IsRising, first_from, with_pair};
 
 use crate::build::{root_of, row_of};
-use crate::entries::Entries;
 use crate::page::{Pool, TreePage, take_inner};
 use arrayvec::ArrayVec;
 use key_lists::{Entry, KeyList, held, put_in_order};
+use key_rows::Entries;
 use ndx_page::{MAX_TEXT, most_entries};
 use std::alloc::{AllocError, Global};
 use std::marker::Model;

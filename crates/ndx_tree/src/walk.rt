@@ -3,7 +3,7 @@
 ghost use Rattle.std.specs.Prelude.{◌≡◌, ℕ, ◌+◌, ◌*◌, ◌<◌, ◌≤◌, ◌++◌, List, Some, Result, Bool, false, length, replicate, slice_index_or, Ok, Err, None, [], ◌⊎◌, ◌^◌, IfOk, IfErr, OnOk};
 ghost use Rattle.ndx_tree.specs.declared.fault.TreeFault.TheVariants.{Memory};
 ghost use Rattle.ndx_page.specs.PageLayout.{FitsKeys};
-ghost use Rattle.ndx_tree.specs.Flat.{HaveKeys};
+ghost use Rattle.key_rows.specs.Flat.{HaveKeys};
 ghost use Rattle.ndx_tree.specs.IndexFile.{page_at, page_count, leaf_pairs};
 ghost use Rattle.ndx_tree.specs.Walk.{Seen, walk, pages_of, is_level, with_separator, visit, walk_file};
 ghost use Rattle.key_lists.specs.Order.{Each};
@@ -12,9 +12,9 @@ ghost use Rattle.ndx_tree.specs.declared.fault.TreeFault.{TreeFault as TheFault}
 ghost use Rattle.ndx_tree.specs.Reads.{Shows, Marks, Gives, Opens, unset};
 
 use crate::TreeFault;
-use crate::entries::Entries;
 use arrayvec::ArrayVec;
 use key_lists::held;
+use key_rows::Entries;
 use ndx_page::laws::pages_are_told;
 use ndx_page::{Head, MAX_KEY, PAGE_SIZE, Page, read_page};
 use std::alloc::{AllocError, Global};

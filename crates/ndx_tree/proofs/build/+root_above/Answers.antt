@@ -2,7 +2,7 @@ use Rattle.std.proofs.Common.{◌+◌, ◌-◌, ◌<◌, ℕ, length, drop, subs
 use Rattle.std.specs.Vec.{vec_len}
 use Rattle.std.proofs.lemmas.List.{length-drop}
 use Rattle.std.proofs.lemmas.Result.{IfOk-weaker}
-use Rattle.ndx_tree.specs.Flat.{AreKeyed}
+use Rattle.ndx_tree.specs.Rooms.{AreKeyed}
 use Rattle.key_lists.specs.Rising.{IsRising}
 use Rattle.ndx_tree.proofs.Divide.{children_drop}
 use Rattle.ndx_tree.proofs.Building.{root_above}

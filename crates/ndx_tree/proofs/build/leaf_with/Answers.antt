@@ -1,6 +1,6 @@
 use Rattle.std.proofs.Common.{◌≡◌, ◌∙◌, ◌+◌, List, [], ◌++◌, length, take, drop, refl, ap, sym, subst, arith}
 use Rattle.key_lists.specs.Pairs.{Pair}
-use Rattle.ndx_tree.specs.Flat.{HaveKeys}
+use Rattle.key_rows.specs.Flat.{HaveKeys}
 use Rattle.ndx_tree.proofs.Building.{leaf_page, part_length}
 use Rattle.ndx_tree.proofs.Keyed.{entries_room}
 use Rattle.ndx_tree.proofs.build.leaf_with.Goals as goal

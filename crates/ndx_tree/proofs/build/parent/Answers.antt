@@ -1,6 +1,6 @@
 use Rattle.std.proofs.Common.{◌≡◌, ◌-◌, ◌<◌, List, length, drop, subst, sym, ap, ◌∙◌, arith}
 use Rattle.std.specs.Vec.{vec_len}
-use Rattle.ndx_tree.specs.Flat.{HaveKeys}
+use Rattle.key_rows.specs.Flat.{HaveKeys}
 use Rattle.ndx_tree.specs.Levels.{IsAbove}
 use Rattle.key_lists.specs.Order.{Each}
 use Rattle.ndx_tree.specs.Pages.{PageView, IsCut, joined}

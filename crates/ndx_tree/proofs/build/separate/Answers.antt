@@ -1,5 +1,5 @@
 use Rattle.std.proofs.Common.{◌≡◌, ◌+◌, ◌-◌, ◌*◌, ◌≤◌, Some, length, get_or, subst, sym, ◌∙◌, arith}
-use Rattle.ndx_tree.specs.Flat.{HaveKeys}
+use Rattle.key_rows.specs.Flat.{HaveKeys}
 use Rattle.key_lists.specs.Rising.{last_of}
 use Rattle.ndx_tree.specs.Pages.{PageView}
 use Rattle.ndx_tree.proofs.Keyed.{last_keyed, cut_keyed, child_keyed}

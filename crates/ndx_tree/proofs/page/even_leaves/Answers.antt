@@ -1,6 +1,6 @@
 use Rattle.std.proofs.Common.{◌≡◌, ◌+◌, ◌-◌, ◌*◌, ◌≤◌, [], ◌∷◌, length, sym, subst, arith, List, length-append, ap, ◌∙◌}
 use Rattle.key_lists.specs.Pairs.{Pair}
-use Rattle.ndx_tree.specs.Flat.{HaveKeys}
+use Rattle.key_rows.specs.Flat.{HaveKeys}
 use Rattle.ndx_tree.proofs.Moved.{last_pushed, last_read, last_size}
 use Rattle.ndx_tree.proofs.page.even_leaves.Goals as goal
 

@@ -4,7 +4,7 @@ use Rattle.ndx_tree.proofs.Cut.{cut_length}
 use Rattle.ndx_tree.proofs.Mend.{mend_none, here, here_one, here_two, IsHere}
 use Rattle.std.proofs.lemmas.List.Edits.{length-remove}
 use Rattle.key_lists.specs.Pairs.{Pair}
-use Rattle.ndx_tree.specs.Flat.{HaveKeys}
+use Rattle.key_rows.specs.Flat.{HaveKeys}
 use Rattle.key_lists.proofs.Ordered.{Each-append, Each-append_left}
 use Rattle.ndx_tree.proofs.Keyed.{child_keyed, cut_keyed, last_keyed, taken_keyed, entries_room}
 use Rattle.ndx_tree.proofs.page.mend.Goals as goal

@@ -3,7 +3,7 @@ use Rattle.std.proofs.lemmas.List.{set_past}
 use Rattle.key_lists.specs.Pairs.{Pair}
 use Rattle.ndx_tree.specs.Pages.{PageView, IsCut}
 use Rattle.key_lists.specs.Rising.{last_of}
-use Rattle.ndx_tree.specs.Flat.{HaveKeys}
+use Rattle.key_rows.specs.Flat.{HaveKeys}
 use Rattle.ndx_tree.proofs.Keyed.{last_keyed, child_keyed}
 use Rattle.ndx_tree.proofs.page.refresh.Goals as goal
 

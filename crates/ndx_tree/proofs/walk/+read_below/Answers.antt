@@ -5,7 +5,7 @@ use Rattle.ndx_page.specs.declared.page.PageEntry.{PageEntry}
 use Rattle.ndx_tree.specs.IndexFile.{page_count, links}
 use Rattle.ndx_tree.specs.Walk.{Seen, walk, pages_of, visit, walk_all, with_separator}
 use Rattle.key_lists.specs.Pairs.{Pair}
-use Rattle.ndx_tree.specs.Flat.{HaveKeys}
+use Rattle.key_rows.specs.Flat.{HaveKeys}
 use Rattle.ndx_tree.specs.Reads.{Shows, Marks, Gives, unset}
 use Rattle.ndx_tree.specs.declared.fault.TreeFault.{TreeFault}
 use Rattle.ndx_tree.specs.declared.walk.Found.{Found}

@@ -1,7 +1,7 @@
 use Rattle.std.proofs.Common.{◌≡◌, ◌∙◌, ◌≤◌, ◌∷◌, ◌++◌, [], List, ℕ, length, take, sym, ap, subst, arith, append_assoc, length-append}
 use Rattle.key_lists.specs.Pairs.{Pair}
 use Rattle.key_lists.proofs.Ordered.{Each-append}
-use Rattle.ndx_tree.specs.Flat.{HaveKeys}
+use Rattle.key_rows.specs.Flat.{HaveKeys}
 use Rattle.ndx_tree.specs.IndexFile.{leaf_pairs}
 use Rattle.ndx_tree.proofs.Reading.{leaf_pairs_more, leaf_key, leaf_front}
 use Rattle.ndx_tree.proofs.walk.add_pairs.Goals as goal

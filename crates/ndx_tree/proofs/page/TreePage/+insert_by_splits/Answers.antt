@@ -8,7 +8,7 @@ use Rattle.ndx_tree.specs.Pages.{PageView, IsPage}
 use Rattle.ndx_tree.proofs.Cut.{entries_rising}
 use Rattle.ndx_tree.proofs.Take.{leaf_takes, placed_child, child_grows, child_parts, done_inserts, split_inserts, absent_within, child_ready}
 use Rattle.ndx_tree.proofs.Keyed.{page_keyed, below_keyed, parted_keyed, entries_room, most_is, put_keyed}
-use Rattle.ndx_tree.specs.Flat.{HaveKeys}
+use Rattle.key_rows.specs.Flat.{HaveKeys}
 use Rattle.ndx_tree.proofs.page.TreePage.+insert_by_splits.Goals as goal
 
 pub invariant_of-self : goal.invariant_of-self

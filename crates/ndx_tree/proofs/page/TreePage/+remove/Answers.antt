@@ -8,7 +8,7 @@ use Rattle.ndx_tree.proofs.Cut.{entries_rising}
 use Rattle.ndx_tree.proofs.Take.{placed_child}
 use Rattle.ndx_tree.proofs.Remove.{has_past, has_at_place}
 use Rattle.ndx_tree.proofs.Lose.{leaf_loses, losing_child, child_keeps, child_loses, IsLosing}
-use Rattle.ndx_tree.specs.Flat.{HaveKeys}
+use Rattle.key_rows.specs.Flat.{HaveKeys}
 use Rattle.ndx_tree.proofs.Keyed.{page_keyed, below_keyed, all_keyed, lost_keyed, entries_room, most_is}
 use Rattle.std.proofs.lemmas.List.Edits.{length-remove}
 use Rattle.ndx_tree.proofs.page.TreePage.+remove.Goals as goal

@@ -2,7 +2,7 @@ use Rattle.std.proofs.Common.{◌≡◌, Some, ◌+◌, ◌*◌, ◌/◌, ◌<�
 use Rattle.std.proofs.lemmas.Bool.{eqb-true, eqb-false}
 use Rattle.std.proofs.lemmas.List.{nil_from_length}
 use Rattle.key_lists.specs.Pairs.{Pair}
-use Rattle.ndx_tree.specs.Flat.{HaveKeys}
+use Rattle.key_rows.specs.Flat.{HaveKeys}
 use Rattle.ndx_tree.specs.Pages.{PageView, Joins, view_of}
 use Rattle.ndx_tree.proofs.Keyed.{most_is}
 use Rattle.ndx_tree.proofs.Join.{leaf_joins, inner_joined, inner_joins, IsJoined, beside, page_children, other_children, uneven_enough, leaf_evened, leaf_childless, inner_evened, pushed_keyed}

@@ -1,6 +1,6 @@
 use Rattle.std.proofs.Common.{◌≡◌, ◌+◌, ◌*◌, ◌≤◌, List, length, subst, sym, ap, arith}
 use Rattle.key_lists.specs.Pairs.{Pair}
-use Rattle.ndx_tree.specs.Flat.{FlatView}
+use Rattle.key_rows.specs.Flat.{FlatView}
 use Rattle.ndx_tree.proofs.Keyed.{entries_room, last_keyed, most_is}
 use Rattle.ndx_tree.proofs.page.TreePage.raise.Goals as goal
 

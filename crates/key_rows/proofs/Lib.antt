@@ -1,0 +1,3 @@
+pub mod FlatLemmas
+pub mod KeyFront
+pub mod MovedBytes

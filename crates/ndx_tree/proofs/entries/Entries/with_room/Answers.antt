@@ -1,5 +1,0 @@
-use Rattle.ndx_tree.proofs.FlatLemmas.{no_pairs}
-use Rattle.ndx_tree.proofs.entries.Entries.with_room.Goals as goal
-
-pub returns-clause-items : goal.returns-clause-items
-returns-clause-items c = no_pairs 0 c.in_ok-with_capacity.field-0.items
