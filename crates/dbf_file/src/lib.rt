@@ -17,5 +17,5 @@ pub use fault::DbfFault;
 pub use field::{Field, Letter, MAX_NAME, are_fields};
 pub use stamp::Stamp;
 pub use structure::Structure;
-pub use table::{Table, read, write};
+pub use table::{Table, read, read_in_place, write};
 pub use values::{put, value};

@@ -1,6 +1,6 @@
 //! Tables.
 
-ghost use Rattle.std.specs.Prelude.{◌≡◌, ℕ, ◌+◌, ◌*◌, ◌^◌, ◌<◌, ◌≤◌, ◌++◌, ◌∷◌, [], List, length, take, slice_index, IsTrue, IfOk, OnOk, OnErr, MatchResult, Some, None, ◌⊎◌, vec_capacity, true};
+ghost use Rattle.std.specs.Prelude.{◌≡◌, ℕ, ◌+◌, ◌*◌, ◌^◌, ◌<◌, ◌≤◌, ◌++◌, ◌∷◌, [], List, length, take, slice_index, slice_range, IsTrue, IfOk, OnOk, OnErr, MatchResult, Some, None, ◌⊎◌, vec_capacity, true};
 ghost use Rattle.std.specs.Borrow.{sem};
 ghost use Rattle.dbf_file.specs.declared.stamp.Stamp.{Stamp as TheStamp};
 ghost use Rattle.dbf_file.specs.Fields.{widths_of, size_of as size_of_fields, are_fields, has_shape};
@@ -101,6 +101,58 @@ pub fn read(alloc: Global, bytes: &[u8], limit: usize) -> Result<Table, DbfFault
 {
     let layout = layout_of(bytes, limit)?;
     match table_of(alloc, bytes, &layout) {
+        Ok(table) => Ok(table),
+        Err(_) => Err(DbfFault::Memory),
+    }
+}
+
+/// Leaves so many bytes from a place on.
+fn keep_part(bytes: &mut Vec<u8>, start: usize, count: usize)
+    requires { start + count ≤ length bytes.old.items }
+    ensures { bytes.new.items ≡ slice_range bytes.old.items start (start + count) }
+{
+    bytes.copy_within(start..start + count, 0);
+    bytes.truncate(count);
+}
+
+/// The table of this layout, its rows in the place of the bytes.
+fn table_in_place(alloc: Global, mut bytes: Vec<u8>, layout: &Layout) -> Result<Table, AllocError>
+    requires { IsLayout bytes.items layout.now }
+    ensures structure { IfOk result (λ table. table.structure ≡ structure_told bytes.items layout.now) }
+    ensures rows { IfOk result (λ table. table.rows ≡ rows_told bytes.items layout.now) }
+{
+    let head = &bytes[HEAD_PLACE..layout.header];
+    let structure = Structure::of_parts(alloc, layout.fields.as_slice(), head)?;
+    keep_part(&mut bytes, layout.header, layout.rows * layout.size);
+    Ok(Table {
+        structure,
+        size: layout.size,
+        rows: layout.rows,
+        records: bytes,
+    })
+}
+
+/// The layout that these bytes tell, or the first fault.
+fn layout_in(bytes: &Vec<u8>, limit: usize) -> Result<Layout, DbfFault>
+    ensures layout { IfOk result (IsLayout bytes.now.items) }
+    ensures limited { IfOk result (λ layout. layout.rows ≤ limit) }
+    ensures fault { MatchResult result (λ _. first_fault limit bytes.now.items ≡ None) (λ fault. first_fault limit bytes.now.items ≡ Some fault) }
+{
+    layout_of(bytes.as_slice(), limit)
+}
+
+/// The table of a file's bytes as `read` gives it, its rows in the place of the bytes: so it takes memory for its structure
+/// alone.
+pub fn read_in_place(alloc: Global, bytes: Vec<u8>, limit: usize) -> Result<Table, DbfFault>
+    ensures found { IfOk result (λ table. (stamp : TheStamp) × DbfText table.structure table.rows stamp bytes.items) }
+    ensures within { IfOk result (λ table. length table.rows ≤ limit) }
+    ensures only { (structure : StructureState) (rows : List Row) (stamp : TheStamp) → DbfText structure rows stamp bytes.items → length rows ≤ limit →
+        MatchResult result (λ table. (table.structure ≡ structure) × (table.rows ≡ rows)) (λ fault. fault ≡ DbfFault.Memory) }
+    ensures fault { MatchResult result (λ _. first_fault limit bytes.items ≡ None)
+        (λ fault. (first_fault limit bytes.items ≡ Some fault) ⊎ ((fault ≡ DbfFault.Memory) × (first_fault limit bytes.items ≡ None))) }
+{
+    let layout = layout_in(&bytes, limit)?;
+    match table_in_place(alloc, bytes, &layout) {
         Ok(table) => Ok(table),
         Err(_) => Err(DbfFault::Memory),
     }

@@ -8,7 +8,7 @@ use std::alloc::Global;
 use std::io::{ErrorKind, Read};
 
 /// The bytes that one read asks for at the most.
-const CHUNK: usize = 4096;
+const CHUNK: usize = 65_536;
 
 /// All bytes that a reader gives, if they are at most `limit`; no more than one byte above the limit is asked for. An
 /// interrupted read is tried again: with a turn for each byte and as many for interruptions, a reader that never ends

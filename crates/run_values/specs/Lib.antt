@@ -3,3 +3,4 @@ pub mod Places
 pub mod Scratch
 pub mod Standing
 pub mod Tagged
+pub mod TextPile

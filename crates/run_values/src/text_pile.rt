@@ -1,12 +1,13 @@
 //! A stack of texts with room for as many as any code's stack holds.
 
-ghost use Rattle.std.specs.Prelude.{◌≡◌, ◌<◌, ◌≤◌, [], ◌∷◌, length, IfOk, reverse, take, drop, slice_get, Some, ℕ};
+ghost use Rattle.std.specs.Prelude.{◌≡◌, ◌+◌, ◌<◌, ◌≤◌, [], ◌∷◌, length, IfOk, reverse, take, drop, slice_get, slice_set, Some, ℕ};
 ghost use Rattle.arrayvec.specs.ArrayVec.{ArrayVec as Held};
+ghost use Rattle.run_values.specs.TextPile.{both, part_of, top_joined, top_cut};
 
 use crate::pile::STACK_LIMIT;
 use std::alloc::{AllocError, Global};
 use std::marker::Model;
-use xvalue::Text;
+use xvalue::{Text, append};
 
 /// A stack with room for 64 texts, seen as their list, the top first. The room is of texts that are there all the time, so that
 /// a text that is put on it is copied no further than it goes.
@@ -85,6 +86,44 @@ impl TextPile {
         copy_into(text, &mut self.texts[self.count]);
         self.count += 1;
     }
+
+    /// Puts the two texts on top one behind the other, cut at 254 bytes, in their place. The lower one is copied nowhere.
+    pub fn join(&mut self)
+        requires { 2 ≤ length self.old }
+        ensures { self.new ≡ top_joined self.old }
+    {
+        append_next(self.texts.as_mut_slice(), self.count - 2);
+        self.count -= 1;
+    }
+
+    /// Leaves of the text on top, which is there, so many bytes behind those that are skipped, or as many as there are.
+    pub fn cut(&mut self, skipped: usize, count: usize)
+        requires { 0 < length self.old }
+        ensures { self.new ≡ top_cut skipped count self.old }
+    {
+        let top = self.count - 1;
+        cut(&mut self.texts[top], skipped, count);
+    }
+}
+
+/// Appends the text behind a place to the one there, cut at 254 bytes.
+fn append_next(texts: &mut [Text], place: usize)
+    requires { place + 1 < length texts.old }
+    ensures same_length { length texts.new ≡ length texts.old }
+    ensures appended { (first second : Held ℕ) → slice_get texts.old place ≡ Some first → slice_get texts.old (place + 1) ≡ Some second → texts.new ≡ slice_set texts.old place (both first second) }
+{
+    let (front, behind) = texts.split_at_mut(place + 1);
+    append(&mut front[place], behind[0].as_slice());
+}
+
+/// Leaves of a text so many bytes behind those that are skipped, or as many as there are.
+fn cut(text: &mut Text, skipped: usize, count: usize)
+    ensures { text.new ≡ part_of skipped count text.old }
+{
+    let start = skipped.min(text.len());
+    let kept = count.min(text.len() - start);
+    text.as_mut_slice().copy_within(start..start + kept, 0);
+    text.truncate(kept);
 }
 
 /// Makes a text the same as another one.

@@ -46,14 +46,14 @@ fn bytes_of<F: Files>(alloc: Global, files: &mut F, name: FileName) -> Result<Ve
 fn table_in(
     alloc: Global,
     name: FileName,
-    bytes: &[u8],
+    bytes: Vec<u8>,
     declared: &TableShape,
     limit: u32,
 ) -> Result<Table, FilesRefusal>
-    ensures table { IfOk result (IsTableIn bytes.now limit declared.now) }
-    ensures refused { IfErr result (RefusedIn limit declared.now name.bytes bytes.now) }
+    ensures table { IfOk result (IsTableIn bytes.items limit declared.now) }
+    ensures refused { IfErr result (RefusedIn limit declared.now name.bytes bytes.items) }
 {
-    let table = match dbf_file::read(alloc, bytes, limit as usize) {
+    let table = match dbf_file::read_in_place(alloc, bytes, limit as usize) {
         Ok(table) => table,
         Err(DbfFault::Memory) => return Err(FilesRefusal::Memory),
         Err(fault) => {
@@ -87,7 +87,7 @@ fn load_table<F: Files>(
 {
     let name = table_file_name(declared);
     let bytes = bytes_of(alloc, files, name)?;
-    table_in(alloc, name, bytes.as_slice(), declared, limit)
+    table_in(alloc, name, bytes, declared, limit)
 }
 
 /// The declared tables in their order, each read from its file.

@@ -22,5 +22,5 @@ pub use kind::Kind;
 pub use settings::{Setting, Settings};
 pub use shown::shown_day;
 pub use text::{Text, copy_of, text_from};
-pub use texts::{eq_text, less_text};
+pub use texts::{append, eq_text, less_text};
 pub use value::Value;

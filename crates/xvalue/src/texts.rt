@@ -119,8 +119,8 @@ fn of_parts(first: &[u8], second: &[u8], third: &[u8]) -> Text
     text
 }
 
-/// Appends as many of these bytes as a text has room for.
-fn append(text: &mut Text, bytes: &[u8])
+/// Appends as many of these bytes as a text has room for. It takes no memory.
+pub fn append(text: &mut Text, bytes: &[u8])
     ensures { text.new.items ≡ fitting (text.old.items ++ bytes.now) }
 {
     match text.try_extend_from_slice(front(bytes, text.remaining_capacity())) {
