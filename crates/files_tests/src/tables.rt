@@ -6,7 +6,8 @@ use crate::bytes::set;
 use arrayvec::ArrayVec;
 use calendar::{Day, DayParts};
 use dbf_file::{
-    DbfFault, Field, Letter, MAX_NAME, Stamp, Table, are_fields, put, read, value, write,
+    DbfFault, Field, Letter, MAX_NAME, Stamp, Table, are_fields, put, read, read_in_place, value,
+    write,
 };
 use fixed_num::Num;
 use std::alloc::{AllocError, Global};
@@ -93,14 +94,34 @@ fn seventy(alloc: Global) -> Result<Vec<u8>, AllocError> {
     Ok(file)
 }
 
-/// The fault of these bytes, within 1000 rows.
-fn fault_of(alloc: Global, bytes: &[u8]) -> Option<DbfFault> {
-    read(alloc, bytes, 1000).err()
+/// The table of these bytes or their fault, where the bytes are taken over.
+fn taken_over(alloc: Global, bytes: &[u8], limit: usize) -> Result<Table, DbfFault> {
+    match Vec::from_slice(alloc, bytes) {
+        Ok(copy) => read_in_place(alloc, copy, limit),
+        Err(_) => Err(DbfFault::Memory),
+    }
 }
 
-/// The table of these bytes, within so many rows.
+/// The fault of these bytes, within 1000 rows, the same whether they are lent or taken over.
+fn fault_of(alloc: Global, bytes: &[u8]) -> Option<DbfFault> {
+    let fault = read(alloc, bytes, 1000).err();
+    if taken_over(alloc, bytes, 1000).err() == fault {
+        fault
+    } else {
+        None
+    }
+}
+
+/// The table of these bytes, within so many rows, that is made of bytes taken over; none where one of bytes that are lent has
+/// other rows.
 fn table_of(alloc: Global, bytes: &[u8], limit: usize) -> Option<Table> {
-    read(alloc, bytes, limit).ok()
+    let lent = read(alloc, bytes, limit).ok()?;
+    let taken = taken_over(alloc, bytes, limit).ok()?;
+    if lent.rows() == taken.rows() {
+        Some(taken)
+    } else {
+        None
+    }
 }
 
 /// The table's file.

@@ -1,7 +1,7 @@
 // Calls of functions.
 
 use crate::spelled::{Calls, first_wrong, result_of, result_of_values, value_of};
-use xvalue::{Fun, Kind, Setting, Settings, Value, eq_text, less_text, signature};
+use xvalue::{Fun, Kind, Setting, Settings, Text, Value, append, eq_text, less_text, signature};
 
 fn of_sums() -> [Calls; 6] {
     [
@@ -280,6 +280,17 @@ fn compares_texts_exactly(rt: HostRuntime) {
     assert_eq!(rt; first_wrong(exact, with_exact_on().as_slice()), None);
     assert!(rt; eq_text(b"AB  ", b"AB", true));
     assert!(rt; less_text(b"AB", b"AC"));
+}
+
+#[test]
+fn appends_as_much_as_fits(rt: HostRuntime) {
+    let mut text = Text::new();
+    append(&mut text, b"AB");
+    append(&mut text, b"C");
+    assert_eq!(rt; text.as_slice(), b"ABC".as_slice());
+    append(&mut text, &[b'x'; 254]);
+    assert_eq!(rt; text.as_slice().len(), 254);
+    assert_eq!(rt; text.as_slice().last(), Some(&b'x'));
 }
 
 fn with_century_on() -> [Calls; 4] {
