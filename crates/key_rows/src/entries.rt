@@ -94,9 +94,11 @@ impl Entries {
         requires { at < length self.now.items }
         ensures { (d : Pair) → result ≡ is_before (slice_index_or self.now.items at d) (key.now, number) }
     {
-        compare_keys(self.key(at), key)
-            .then(u64::from(self.number(at)).cmp(&number))
-            .is_lt()
+        match compare_keys(self.key(at), key) {
+            Ordering::Less => true,
+            Ordering::Equal => u64::from(self.number(at)) < number,
+            Ordering::Greater => false,
+        }
     }
 
     /// How many entries at the front stand before a key with a number.
