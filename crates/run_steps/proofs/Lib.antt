@@ -1,3 +1,4 @@
+mod QuickSteps
 pub mod Walks
 pub mod Steps
 pub mod Runs

@@ -5,6 +5,7 @@ pub mod Faults
 pub mod Filters
 pub mod Needs
 pub mod Opening
+pub mod Quick
 pub mod Run
 pub mod Safe
 pub mod Shapes

@@ -11,6 +11,7 @@ mod on_moves;
 mod on_records;
 mod on_screen;
 mod on_values;
+mod quick;
 mod returns;
 pub mod running;
 

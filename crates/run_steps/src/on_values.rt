@@ -36,7 +36,7 @@ fn push_day<V: Values>(values: &mut V, day: Day)
 }
 
 /// An instruction on values, slots and settings, which costs 1 and is never refused for another cause.
-fn change_values<V: Values, K: KeyList>(
+pub(crate) fn change_values<V: Values, K: KeyList>(
     code: &Code,
     values: &mut V,
     env: &mut Environment<K>,

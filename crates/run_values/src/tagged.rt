@@ -9,6 +9,7 @@ use crate::calling::result_of;
 use crate::pile::Pile;
 use crate::slots::Slots;
 use crate::values::Values;
+use fixed_num::Num;
 use std::alloc::{AllocError, Global};
 use xvalue::laws::arguments_are_few;
 use xvalue::{Fun, Kind, Settings, Value};
@@ -71,6 +72,17 @@ impl Values for Tagged {
 
     fn value(&self, _kind: Kind, slot: usize) -> Value {
         self.copied(slot)
+    }
+
+    fn number(&self, slot: usize) -> Num {
+        match self.slots.get(slot) {
+            Some(Value::Number(number)) => *number,
+            _ => unreachable!(),
+        }
+    }
+
+    fn set_number(&mut self, slot: usize, number: Num) {
+        self.slots.set(slot, Some(Value::Number(number)));
     }
 
     fn load(&mut self, _kind: Kind, slot: usize) {

@@ -1,10 +1,11 @@
 //! What instructions ask of a machine's values.
 
 ghost use Rattle.std.specs.Prelude.{◌≡◌, ◌<◌, ◌≤◌, ◌∷◌, [], length, slice_get, Some, None};
-ghost use Rattle.xvalue.specs.declared.kind.Kind.TheVariants.{Logical as OfLogical};
-ghost use Rattle.xvalue.specs.declared.value.Value.TheVariants.{Logical as IsLogical};
+ghost use Rattle.xvalue.specs.declared.kind.Kind.TheVariants.{Number as OfNumber, Logical as OfLogical};
+ghost use Rattle.xvalue.specs.declared.value.Value.TheVariants.{Number as IsNumber, Logical as IsLogical};
 ghost use Rattle.run_values.specs.Tagged.{TaggedValues, HasOnTop, HasArguments, HoldsKind, pushed, dropped, with_slot, loaded, stored, called};
 
+use fixed_num::Num;
 use xvalue::{Fun, Kind, Settings, Value};
 
 /// Slots and a stack. Whether they keep the kinds of what they hold is theirs: they stand for values that have them,
@@ -41,6 +42,16 @@ pub trait Values: Drop {
     fn value(&self, kind: Kind, slot: usize) -> Value
         requires { (t : TaggedValues) × (stands self.now t × HoldsKind kind (slice_get t.slots slot)) }
         ensures { (t : TaggedValues) → stands self.now t → HoldsKind kind (slice_get t.slots slot) → slice_get t.slots slot ≡ Some (Some result) };
+
+    /// The number that the slot holds.
+    fn number(&self, slot: usize) -> Num
+        requires { (t : TaggedValues) × (stands self.now t × HoldsKind OfNumber (slice_get t.slots slot)) }
+        ensures { (t : TaggedValues) → stands self.now t → HoldsKind OfNumber (slice_get t.slots slot) → slice_get t.slots slot ≡ Some (Some (IsNumber result)) };
+
+    /// Puts a number into the slot, which is there.
+    fn set_number(&mut self, slot: usize, number: Num)
+        requires { (t : TaggedValues) × (stands self.old t × (slot < length t.slots)) }
+        ensures { (t : TaggedValues) → stands self.old t → stands self.new (with_slot slot (Some (IsNumber number)) t) };
 
     /// Puts what the slot holds, which is of this kind, on the stack.
     fn load(&mut self, kind: Kind, slot: usize)

@@ -1,6 +1,5 @@
 use Rattle.std.proofs.Common.{[], ◌∷◌}
 use Rattle.std.specs.Fn.{FnReturnsAt}
-use Rattle.code_items.specs.declared.instr.RecordInstr.TheVariants.{Pack, Zap, Reindex, Index}
 use Rattle.work_area.specs.Open.{opened}
 use Rattle.work_store.specs.Areas.{here, with_here}
 use Rattle.work_store.specs.Calls.{packed_rows, all_rows, packed_in, pack_of, reindexed_in, reindex_of, index_on_of, indexed_here}
