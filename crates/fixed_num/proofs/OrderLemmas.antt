@@ -1,13 +1,13 @@
 -- Numbers compare as whole numbers with any common number of decimals.
-use Rattle.std.proofs.Common.{◌≡◌, ℕ, zero, suc, ◌+◌, ◌-◌, ◌*◌, ◌^◌, ◌<◌, ◌≤◌, cond, ⊎_elim, refl, sym, ap, ◌∙◌, arith}
+use Rattle.std.proofs.Common.{◌≡◌, ℕ, zero, suc, ◌+◌, ◌-◌, ◌*◌, ◌^◌, ◌<◌, ◌≤◌, cond, ⊎_elim, true, false, refl, sym, ap, ◌∙◌, arith}
 use Rattle.std.specs.Prelude.{ℤ, pos, negsuc, neg_ℤ, ◌*ℤ◌, int_lt, nat_lt}
 use Rattle.std.specs.declared.cmp.Ordering.TheVariants.{Less, Equal, Greater}
-use Rattle.std.specs.Ordering.{int_cmp, ordering_reverse}
+use Rattle.std.specs.Ordering.{int_cmp, nat_cmp, ordering_reverse}
 use Rattle.std.specs.Cmp.{IsTotalOrder, int_cmp_total}
 use Rattle.std.proofs.Math.Nat.{mul-lt-mul_of_pos_right, mul-le-mul_right, one-le-pow}
 use Rattle.std.proofs.lemmas.Nat.{pow-add}
-use Rattle.std.proofs.lemmas.Bool.{cases_lt, lt-ltb, le-ltb}
-use Rattle.fixed_num.specs.Number.{Number, asterisk, finite, scaled}
+use Rattle.std.proofs.lemmas.Bool.{cases_lt, lt-ltb, le-ltb, eq-eqb, ne_eqb}
+use Rattle.fixed_num.specs.Number.{Number, asterisk, finite, scaled, signed}
 use Rattle.fixed_num.specs.Order.{compared}
 use Rattle.fixed_num.proofs.SignLemmas.{neg-mul}
 
@@ -85,3 +85,44 @@ compared-congr (finite m d) (finite n e) (finite o f) h =
 
 pub compared-total : IsTotalOrder compared
 compared-total = record { antisymm = compared-antisymm; trans = compared-trans; congr = compared-congr }
+
+-- ---- numbers of as many decimals, by their magnitudes
+
+-- the order of naturals, as whole numbers
+whole_cmp : (a b : ℕ) → nat_cmp a b ≡ int_cmp (pos a) (pos b)
+whole_cmp a b = ⊎_elim
+    (λ less. rw (lt-ltb a b less) refl)
+    (λ more. ⊎_elim
+    (λ above. rw (le-ltb a b more, lt-ltb b a above, ne_eqb a b (λ e. absurd (omega (arith, e, above)))) refl)
+    (λ upto. rw (le-ltb a b more, le-ltb b a upto, eq-eqb a b (omega (arith, more, upto))) refl)
+    (cases_lt b a))
+    (cases_lt a b)
+
+one_more : (a b : ℕ) → nat_cmp (suc a) (suc b) ≡ int_cmp (negsuc b) (negsuc a)
+one_more a b = ⊎_elim
+    (λ less. rw (lt-ltb a b less, lt-ltb (suc a) (suc b) (omega (arith, less))) refl)
+    (λ more. ⊎_elim
+    (λ above. rw (le-ltb a b more, lt-ltb b a above, le-ltb (suc a) (suc b) (omega (arith, more)), ne_eqb (suc a) (suc b) (λ e. absurd (omega (arith, e, above)))) refl)
+    (λ upto. rw (le-ltb a b more, le-ltb b a upto, le-ltb (suc a) (suc b) (omega (arith, more)), eq-eqb (suc a) (suc b) (omega (arith, more, upto))) refl)
+    (cases_lt b a))
+    (cases_lt a b)
+
+-- as many decimals change nothing
+alike : (x y : ℤ) (d : ℕ) → int_cmp (scaled x d) (scaled y d) ≡ int_cmp x y
+alike x y d = int_cmp-scaled x y (10 ^ d) (one-le-pow d 10 (omega arith))
+
+pub alike_above : (m n d : ℕ) → nat_cmp m n ≡ int_cmp (scaled (signed false m) d) (scaled (signed false n) d)
+alike_above m n d = whole_cmp m n ∙ sym (alike (pos m) (pos n) d)
+
+pub alike_below : (m n d : ℕ) → 0 < m → 0 < n → nat_cmp n m ≡ int_cmp (scaled (signed true m) d) (scaled (signed true n) d)
+alike_below zero n d p q = absurd (omega (arith, p))
+alike_below (suc m) zero d p q = absurd (omega (arith, q))
+alike_below (suc m) (suc n) d p q = one_more n m ∙ sym (alike (negsuc m) (negsuc n) d)
+
+pub alike_falls : (m n d : ℕ) → 0 < n → Greater ≡ int_cmp (scaled (signed false m) d) (scaled (signed true n) d)
+alike_falls m zero d q = absurd (omega (arith, q))
+alike_falls m (suc n) d q = sym (alike (pos m) (negsuc n) d)
+
+pub alike_rises : (m n d : ℕ) → 0 < m → Less ≡ int_cmp (scaled (signed true m) d) (scaled (signed false n) d)
+alike_rises zero n d p = absurd (omega (arith, p))
+alike_rises (suc m) n d p = sym (alike (negsuc m) (pos n) d)

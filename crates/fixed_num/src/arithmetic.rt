@@ -1,29 +1,89 @@
 //! Sums, products and quotients.
 
-ghost use Rattle.std.specs.Prelude.{◌≡◌};
+ghost use Rattle.std.specs.Prelude.{◌≡◌, IfSome, Some};
+ghost use Rattle.fixed_num.specs.Number.{AreParts, IsFraction, finite, number_of};
 ghost use Rattle.fixed_num.specs.Order.{compared, greater_of, lesser_of};
 ghost use Rattle.fixed_num.specs.Arithmetic.{sum_of, difference_of, negated, absolute, product_of, quotient_of, modulus_of};
 
-use crate::number::{MOST_DECIMALS, Num};
+use crate::number::{Fraction, MAGNITUDE_LIMIT, MOST_DECIMALS, Num, Parts};
 use crate::powers::{power_of_ten, scaled};
 use crate::rounding::{divided, floored_rest, nearest};
 use std::cmp::Ordering;
 
+/// The sum of two numbers of one sign and as many decimals, where it has at most 19 digits. Most sums are such; it takes no
+/// multiplication.
+#[inline]
+fn alike_sum(a: Parts, b: Parts) -> Option<Num>
+    requires first { AreParts a }
+    requires second { AreParts b }
+    ensures { IfSome result (λ sum. sum ≡ sum_of (number_of (Some a)) (number_of (Some b))) }
+{
+    if a.negative != b.negative
+        || a.decimals != b.decimals
+        || a.magnitude >= MAGNITUDE_LIMIT - b.magnitude
+    {
+        return None;
+    }
+    Num::from_parts(Parts {
+        magnitude: a.magnitude + b.magnitude,
+        ..a
+    })
+}
+
+/// The sum of any two numbers other than the asterisk value, with the greater number of decimals.
+fn any_sum(a: Fraction, b: Fraction) -> Num
+    requires first { IsFraction (finite a.numerator a.decimals) a }
+    requires second { IsFraction (finite b.numerator b.decimals) b }
+    ensures { result ≡ sum_of (finite a.numerator a.decimals) (finite b.numerator b.decimals) }
+{
+    let decimals = a.decimals.max(b.decimals);
+    let left = scaled(a.numerator, decimals - a.decimals);
+    let right = scaled(b.numerator, decimals - b.decimals);
+    Num::from_fraction(left + right, decimals)
+}
+
+/// How two numbers of as many decimals compare. It takes no multiplication.
+#[inline]
+fn compared_alike(a: Parts, b: Parts) -> Ordering
+    requires first { AreParts a }
+    requires second { AreParts b }
+    requires alike { a.decimals ≡ b.decimals }
+    ensures { result ≡ compared (number_of (Some a)) (number_of (Some b)) }
+{
+    match (a.negative, b.negative) {
+        (false, false) => a.magnitude.cmp(&b.magnitude),
+        (false, true) => Ordering::Greater,
+        (true, false) => Ordering::Less,
+        (true, true) => b.magnitude.cmp(&a.magnitude),
+    }
+}
+
+/// How any two numbers other than the asterisk value compare.
+fn compared_fractions(a: Fraction, b: Fraction) -> Ordering
+    requires first { IsFraction (finite a.numerator a.decimals) a }
+    requires second { IsFraction (finite b.numerator b.decimals) b }
+    ensures { result ≡ compared (finite a.numerator a.decimals) (finite b.numerator b.decimals) }
+{
+    scaled(a.numerator, b.decimals).cmp(&scaled(b.numerator, a.decimals))
+}
+
 impl Num {
     /// The sum, with the greater number of decimals.
+    #[inline]
     pub fn add(self, other: Num) -> Num
         ensures { result ≡ sum_of self other }
     {
-        let (Some(a), Some(b)) = (self.fraction(), other.fraction()) else {
+        let (Some(a), Some(b)) = (self.parts(), other.parts()) else {
             return Num::asterisk();
         };
-        let decimals = a.decimals.max(b.decimals);
-        let left = scaled(a.numerator, decimals - a.decimals);
-        let right = scaled(b.numerator, decimals - b.decimals);
-        Num::from_fraction(left + right, decimals)
+        match alike_sum(a, b) {
+            Some(sum) => sum,
+            None => any_sum(a.fraction(), b.fraction()),
+        }
     }
 
     /// The difference, with the greater number of decimals.
+    #[inline]
     pub fn sub(self, other: Num) -> Num
         ensures { result ≡ difference_of self other }
     {
@@ -31,11 +91,12 @@ impl Num {
     }
 
     /// The number with its sign turned.
+    #[inline]
     pub fn neg(self) -> Num
         ensures { result ≡ negated self }
     {
-        match self.fraction() {
-            Some(a) => Num::from_fraction(-a.numerator, a.decimals),
+        match self.parts() {
+            Some(a) => Num::from_magnitude(!a.negative, u128::from(a.magnitude), a.decimals),
             None => self,
         }
     }
@@ -105,12 +166,17 @@ impl Num {
     }
 
     /// How the number compares with another by value. The asterisk value is above every number and equal to itself.
+    #[inline]
     pub fn cmp(self, other: Num) -> Ordering
         ensures { result ≡ compared self other }
     {
-        match (self.fraction(), other.fraction()) {
+        match (self.parts(), other.parts()) {
             (Some(a), Some(b)) => {
-                scaled(a.numerator, b.decimals).cmp(&scaled(b.numerator, a.decimals))
+                if a.decimals == b.decimals {
+                    compared_alike(a, b)
+                } else {
+                    compared_fractions(a.fraction(), b.fraction())
+                }
             }
             (Some(_), None) => Ordering::Less,
             (None, Some(_)) => Ordering::Greater,

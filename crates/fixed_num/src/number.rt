@@ -125,17 +125,23 @@ impl Num {
     pub(crate) fn fraction(self) -> Option<Fraction>
         ensures { MatchOption result (self ≡ asterisk) (IsFraction self) }
     {
-        let parts = self.parts?;
-        let magnitude = i128::from(parts.magnitude);
-        let numerator = if parts.negative {
-            -magnitude
-        } else {
-            magnitude
-        };
-        Some(Fraction {
+        Some(self.parts?.fraction())
+    }
+}
+
+impl Parts {
+    /// The numerator and the decimals.
+    #[inline]
+    pub(crate) fn fraction(self) -> Fraction
+        requires { AreParts self }
+        ensures { IsFraction (number_of (Some self)) result }
+    {
+        let magnitude = i128::from(self.magnitude);
+        let numerator = if self.negative { -magnitude } else { magnitude };
+        Fraction {
             numerator,
-            decimals: parts.decimals,
-        })
+            decimals: self.decimals,
+        }
     }
 }
 
