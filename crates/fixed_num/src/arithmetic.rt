@@ -1,11 +1,11 @@
 //! Sums, products and quotients.
 
 ghost use Rattle.std.specs.Prelude.{◌≡◌, IfSome, Some};
-ghost use Rattle.fixed_num.specs.Number.{AreParts, IsFraction, finite, number_of};
+ghost use Rattle.fixed_num.specs.Number.{AreParts, number_of};
 ghost use Rattle.fixed_num.specs.Order.{compared, greater_of, lesser_of};
 ghost use Rattle.fixed_num.specs.Arithmetic.{sum_of, difference_of, negated, absolute, product_of, quotient_of, modulus_of};
 
-use crate::number::{Fraction, MAGNITUDE_LIMIT, MOST_DECIMALS, Num, Parts};
+use crate::number::{MAGNITUDE_LIMIT, MOST_DECIMALS, Num, Parts};
 use crate::powers::{power_of_ten, scaled};
 use crate::rounding::{divided, floored_rest, nearest};
 use std::cmp::Ordering;
@@ -31,11 +31,12 @@ fn alike_sum(a: Parts, b: Parts) -> Option<Num>
 }
 
 /// The sum of any two numbers other than the asterisk value, with the greater number of decimals.
-fn any_sum(a: Fraction, b: Fraction) -> Num
-    requires first { IsFraction (finite a.numerator a.decimals) a }
-    requires second { IsFraction (finite b.numerator b.decimals) b }
-    ensures { result ≡ sum_of (finite a.numerator a.decimals) (finite b.numerator b.decimals) }
+fn any_sum(a: Parts, b: Parts) -> Num
+    requires first { AreParts a }
+    requires second { AreParts b }
+    ensures { result ≡ sum_of (number_of (Some a)) (number_of (Some b)) }
 {
+    let (a, b) = (a.fraction(), b.fraction());
     let decimals = a.decimals.max(b.decimals);
     let left = scaled(a.numerator, decimals - a.decimals);
     let right = scaled(b.numerator, decimals - b.decimals);
@@ -59,11 +60,12 @@ fn compared_alike(a: Parts, b: Parts) -> Ordering
 }
 
 /// How any two numbers other than the asterisk value compare.
-fn compared_fractions(a: Fraction, b: Fraction) -> Ordering
-    requires first { IsFraction (finite a.numerator a.decimals) a }
-    requires second { IsFraction (finite b.numerator b.decimals) b }
-    ensures { result ≡ compared (finite a.numerator a.decimals) (finite b.numerator b.decimals) }
+fn compared_any(a: Parts, b: Parts) -> Ordering
+    requires first { AreParts a }
+    requires second { AreParts b }
+    ensures { result ≡ compared (number_of (Some a)) (number_of (Some b)) }
 {
+    let (a, b) = (a.fraction(), b.fraction());
     scaled(a.numerator, b.decimals).cmp(&scaled(b.numerator, a.decimals))
 }
 
@@ -78,7 +80,7 @@ impl Num {
         };
         match alike_sum(a, b) {
             Some(sum) => sum,
-            None => any_sum(a.fraction(), b.fraction()),
+            None => any_sum(a, b),
         }
     }
 
@@ -175,7 +177,7 @@ impl Num {
                 if a.decimals == b.decimals {
                     compared_alike(a, b)
                 } else {
-                    compared_fractions(a.fraction(), b.fraction())
+                    compared_any(a, b)
                 }
             }
             (Some(_), None) => Ordering::Less,

@@ -40,6 +40,19 @@ pub fn number_of_two(fun: Fun, first: Num, second: Num) -> Num
 {
     match fun {
         Fun::Add => first.add(second),
+        _ => rarer_of_two(fun, first, second),
+    }
+}
+
+/// The same, of any such function but the sum. (Apart, so that a sum is worked out where it is asked for.)
+#[tactic(auto, unfolding(crate::specs::Functions::applied))]
+fn rarer_of_two(fun: Fun, first: Num, second: Num) -> Num
+    requires takes { takes_of fun ≡ Kind.Number ∷ Kind.Number ∷ [] }
+    requires gives { gives_of fun ≡ Kind.Number }
+    requires rarer { fun ≡ Fun.Add → ⊥ }
+    ensures { (settings : AnySettings) → Value.Number result ≡ applied fun settings (two_numbers first second) }
+{
+    match fun {
         Fun::Sub => first.sub(second),
         Fun::Mul => first.mul(second),
         Fun::Div => first.div(second),
@@ -59,10 +72,11 @@ pub fn truth_of_two(fun: Fun, first: Num, second: Num) -> bool
     requires gives { gives_of fun ≡ Kind.Logical }
     ensures { (settings : AnySettings) → Value.Logical result ≡ applied fun settings (two_numbers first second) }
 {
+    let order = first.cmp(second);
     match fun {
-        Fun::NumberEq => first.cmp(second).is_eq(),
-        Fun::NumberLess => first.cmp(second).is_lt(),
-        Fun::NumberGreater => first.cmp(second).is_gt(),
+        Fun::NumberEq => order.is_eq(),
+        Fun::NumberLess => order.is_lt(),
+        Fun::NumberGreater => order.is_gt(),
         _ => unreachable!(),
     }
 }
