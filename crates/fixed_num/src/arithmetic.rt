@@ -24,10 +24,10 @@ fn alike_sum(a: Parts, b: Parts) -> Option<Num>
     {
         return None;
     }
-    Num::from_parts(Parts {
+    Some(Num::of(Parts {
         magnitude: a.magnitude + b.magnitude,
         ..a
-    })
+    }))
 }
 
 /// The sum of any two numbers other than the asterisk value, with the greater number of decimals.

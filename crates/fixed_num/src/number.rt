@@ -54,10 +54,19 @@ impl Num {
             && parts.decimals <= MOST_DECIMALS
             && (!parts.negative || parts.magnitude != 0)
         {
-            Some(Num { parts: Some(parts) })
+            Some(Num::of(parts))
         } else {
             None
         }
+    }
+
+    /// The number of parts that are in range.
+    #[inline]
+    pub(crate) fn of(parts: Parts) -> Num
+        requires { AreParts parts }
+        ensures { result ≡ number_of (Some parts) }
+    {
+        Num { parts: Some(parts) }
     }
 
     /// The parts, or `None` of the asterisk value.
