@@ -12,8 +12,8 @@ use std::cmp::Ordering;
 
 /// The sum of two numbers of one sign and as many decimals, where it has at most 19 digits. Most sums are such; it takes no
 /// multiplication.
-#[inline]
-fn alike_sum(a: Parts, b: Parts) -> Option<Num>
+#[inline(always)]
+fn sum_of_alike(a: Parts, b: Parts) -> Option<Num>
     requires first { AreParts a }
     requires second { AreParts b }
     ensures { IfSome result (λ sum. sum ≡ sum_of (number_of (Some a)) (number_of (Some b))) }
@@ -30,8 +30,10 @@ fn alike_sum(a: Parts, b: Parts) -> Option<Num>
     }))
 }
 
-/// The sum of any two numbers other than the asterisk value, with the greater number of decimals.
-fn any_sum(a: Parts, b: Parts) -> Num
+/// The sum of any two numbers other than the asterisk value, with the greater number of decimals. (Apart, so that a sum of alike
+/// numbers is worked out where it is asked for.)
+#[inline(never)]
+fn sum_of_any(a: Parts, b: Parts) -> Num
     requires first { AreParts a }
     requires second { AreParts b }
     ensures { result ≡ sum_of (number_of (Some a)) (number_of (Some b)) }
@@ -44,7 +46,7 @@ fn any_sum(a: Parts, b: Parts) -> Num
 }
 
 /// How two numbers of as many decimals compare. It takes no multiplication.
-#[inline]
+#[inline(always)]
 fn compared_alike(a: Parts, b: Parts) -> Ordering
     requires first { AreParts a }
     requires second { AreParts b }
@@ -59,28 +61,45 @@ fn compared_alike(a: Parts, b: Parts) -> Ordering
     }
 }
 
-/// How any two numbers other than the asterisk value compare.
-fn compared_any(a: Parts, b: Parts) -> Ordering
-    requires first { AreParts a }
-    requires second { AreParts b }
-    ensures { result ≡ compared (number_of (Some a)) (number_of (Some b)) }
+/// How any two numbers compare. (Apart, as the sum of any two is.)
+#[inline(never)]
+fn compared_any(first: &Num, second: &Num) -> Ordering
+    ensures { result ≡ compared first.now second.now }
 {
-    let (a, b) = (a.fraction(), b.fraction());
-    scaled(a.numerator, b.decimals).cmp(&scaled(b.numerator, a.decimals))
+    match (first.fraction(), second.fraction()) {
+        (Some(a), Some(b)) => {
+            scaled(a.numerator, b.decimals).cmp(&scaled(b.numerator, a.decimals))
+        }
+        (Some(_), None) => Ordering::Less,
+        (None, Some(_)) => Ordering::Greater,
+        (None, None) => Ordering::Equal,
+    }
 }
 
 impl Num {
+    /// The sum of this number and another of the same sign and as many decimals, if it has at most 19 digits; `None` of all others.
+    /// Most sums are such, and a caller that keeps the two cases apart has them worked out without a call.
+    #[inline(always)]
+    pub fn alike_sum(&self, other: &Num) -> Option<Num>
+        ensures { IfSome result (λ sum. sum ≡ sum_of self.now other.now) }
+    {
+        match (self.parts(), other.parts()) {
+            (Some(a), Some(b)) => sum_of_alike(a, b),
+            _ => None,
+        }
+    }
+
     /// The sum, with the greater number of decimals.
     #[inline]
     pub fn add(self, other: Num) -> Num
         ensures { result ≡ sum_of self other }
     {
-        let (Some(a), Some(b)) = (self.parts(), other.parts()) else {
-            return Num::asterisk();
-        };
-        match alike_sum(a, b) {
-            Some(sum) => sum,
-            None => any_sum(a, b),
+        if let Some(sum) = self.alike_sum(&other) {
+            return sum;
+        }
+        match (self.parts(), other.parts()) {
+            (Some(a), Some(b)) => sum_of_any(a, b),
+            _ => Num::asterisk(),
         }
     }
 
@@ -168,21 +187,13 @@ impl Num {
     }
 
     /// How the number compares with another by value. The asterisk value is above every number and equal to itself.
-    #[inline]
-    pub fn cmp(self, other: Num) -> Ordering
-        ensures { result ≡ compared self other }
+    #[inline(always)]
+    pub fn cmp(&self, other: &Num) -> Ordering
+        ensures { result ≡ compared self.now other.now }
     {
         match (self.parts(), other.parts()) {
-            (Some(a), Some(b)) => {
-                if a.decimals == b.decimals {
-                    compared_alike(a, b)
-                } else {
-                    compared_any(a, b)
-                }
-            }
-            (Some(_), None) => Ordering::Less,
-            (None, Some(_)) => Ordering::Greater,
-            (None, None) => Ordering::Equal,
+            (Some(a), Some(b)) if a.decimals == b.decimals => compared_alike(a, b),
+            _ => compared_any(self, other),
         }
     }
 
@@ -190,13 +201,21 @@ impl Num {
     pub fn max(self, other: Num) -> Num
         ensures { result ≡ greater_of self other }
     {
-        if self.cmp(other).is_lt() { other } else { self }
+        if self.cmp(&other).is_lt() {
+            other
+        } else {
+            self
+        }
     }
 
     /// The lesser of both by value, the first where they are equal.
     pub fn min(self, other: Num) -> Num
         ensures { result ≡ lesser_of self other }
     {
-        if self.cmp(other).is_gt() { other } else { self }
+        if self.cmp(&other).is_gt() {
+            other
+        } else {
+            self
+        }
     }
 }

@@ -61,7 +61,7 @@ impl Num {
     }
 
     /// The number of parts that are in range.
-    #[inline]
+    #[inline(always)]
     pub(crate) fn of(parts: Parts) -> Num
         requires { AreParts parts }
         ensures { result ≡ number_of (Some parts) }
@@ -70,7 +70,7 @@ impl Num {
     }
 
     /// The parts, or `None` of the asterisk value.
-    #[inline]
+    #[inline(always)]
     pub fn parts(self) -> Option<Parts>
         ensures same { number_of result ≡ self }
         ensures in_range { IfSome result AreParts }

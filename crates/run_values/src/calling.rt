@@ -21,7 +21,7 @@ fn of_numbers(fun: Fun, first: Num, second: Num) -> Option<Value>
             Some(Value::Number(number_of_two(fun, first, second)))
         }
         NumberEq | NumberLess | NumberGreater => {
-            Some(Value::Logical(truth_of_two(fun, first, second)))
+            Some(Value::Logical(truth_of_two(fun, &first, &second)))
         }
         _ => None,
     }

@@ -74,9 +74,9 @@ impl Values for Tagged {
         self.copied(slot)
     }
 
-    fn number(&self, slot: usize) -> Num {
+    fn number(&self, slot: usize) -> &Num {
         match self.slots.get(slot) {
-            Some(Value::Number(number)) => *number,
+            Some(Value::Number(number)) => number,
             _ => unreachable!(),
         }
     }

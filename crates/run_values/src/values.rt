@@ -43,10 +43,10 @@ pub trait Values: Drop {
         requires { (t : TaggedValues) × (stands self.now t × HoldsKind kind (slice_get t.slots slot)) }
         ensures { (t : TaggedValues) → stands self.now t → HoldsKind kind (slice_get t.slots slot) → slice_get t.slots slot ≡ Some (Some result) };
 
-    /// The number that the slot holds.
-    fn number(&self, slot: usize) -> Num
+    /// The number that the slot holds, where it stands.
+    fn number(&self, slot: usize) -> &Num
         requires { (t : TaggedValues) × (stands self.now t × HoldsKind OfNumber (slice_get t.slots slot)) }
-        ensures { (t : TaggedValues) → stands self.now t → HoldsKind OfNumber (slice_get t.slots slot) → slice_get t.slots slot ≡ Some (Some (IsNumber result)) };
+        ensures { (t : TaggedValues) → stands self.now t → HoldsKind OfNumber (slice_get t.slots slot) → slice_get t.slots slot ≡ Some (Some (IsNumber result.now)) };
 
     /// Puts a number into the slot, which is there.
     fn set_number(&mut self, slot: usize, number: Num)

@@ -2,6 +2,8 @@
 
 use fixed_num::{Num, Parts};
 use std::cmp::Ordering;
+use xvalue::Fun;
+use xvalue::apply::sum_of_two;
 
 fn read(text: &str) -> Num {
     Num::parse(text.as_bytes())
@@ -97,11 +99,20 @@ fn converts(rt: HostRuntime) {
 #[test]
 fn compares_by_value(rt: HostRuntime) {
     assert!(rt; read("1.0") != read("1"));
-    assert_eq!(rt; read("1.0").cmp(read("1")), Ordering::Equal);
+    assert_eq!(rt; read("1.0").cmp(&read("1")), Ordering::Equal);
     assert_eq!(rt;
-        read("*").cmp(read("9999999999999999999")),
+        read("*").cmp(&read("9999999999999999999")),
         Ordering::Greater
     );
+}
+
+#[test]
+fn adds_alike_numbers(rt: HostRuntime) {
+    let sum = read("1.50").alike_sum(&read("2.25"));
+    assert!(rt; sum.is_some_and(|sum| sum == read("3.75")));
+    assert!(rt; read("1.50").alike_sum(&read("2")).is_none());
+    let called = sum_of_two(Fun::Add, &read("-1"), &read("-2"));
+    assert!(rt; called.is_some_and(|sum| sum == read("-3")));
 }
 
 #[test]

@@ -1,7 +1,7 @@
 // The functions on their arguments.
 #![tactic(auto)]
 
-ghost use Rattle.std.specs.Prelude.{◌≡◌, ◌+◌, ◌≤◌, if◌then◌else◌, ◌∷◌, []};
+ghost use Rattle.std.specs.Prelude.{◌≡◌, ◌+◌, ◌≤◌, if◌then◌else◌, ◌∷◌, [], IfSome};
 ghost use Rattle.xvalue.specs.declared.settings.Settings.{Settings as AnySettings};
 ghost use Rattle.xvalue.specs.Given.{given, two_numbers};
 ghost use Rattle.xvalue.specs.Functions.{applied, truth_at};
@@ -31,7 +31,6 @@ pub fn apply(fun: Fun, settings: Settings, arguments: &Arguments<'_>) -> Value
 }
 
 /// The result of a function that gives a number of two numbers. It takes no memory.
-#[inline]
 #[tactic(auto, unfolding(crate::specs::Functions::applied))]
 pub fn number_of_two(fun: Fun, first: Num, second: Num) -> Num
     requires takes { takes_of fun ≡ Kind.Number ∷ Kind.Number ∷ [] }
@@ -40,19 +39,6 @@ pub fn number_of_two(fun: Fun, first: Num, second: Num) -> Num
 {
     match fun {
         Fun::Add => first.add(second),
-        _ => rarer_of_two(fun, first, second),
-    }
-}
-
-/// The same, of any such function but the sum. (Apart, so that a sum is worked out where it is asked for.)
-#[tactic(auto, unfolding(crate::specs::Functions::applied))]
-fn rarer_of_two(fun: Fun, first: Num, second: Num) -> Num
-    requires takes { takes_of fun ≡ Kind.Number ∷ Kind.Number ∷ [] }
-    requires gives { gives_of fun ≡ Kind.Number }
-    requires rarer { fun ≡ Fun.Add → ⊥ }
-    ensures { (settings : AnySettings) → Value.Number result ≡ applied fun settings (two_numbers first second) }
-{
-    match fun {
         Fun::Sub => first.sub(second),
         Fun::Mul => first.mul(second),
         Fun::Div => first.div(second),
@@ -64,13 +50,26 @@ fn rarer_of_two(fun: Fun, first: Num, second: Num) -> Num
     }
 }
 
-/// The result of a function that compares two numbers.
-#[inline]
+/// The same, if it is the sum of alike numbers (`Num::alike_sum`), and `None` otherwise: for a caller that has most sums worked out
+/// where they are asked for.
+#[inline(always)]
 #[tactic(auto, unfolding(crate::specs::Functions::applied))]
-pub fn truth_of_two(fun: Fun, first: Num, second: Num) -> bool
+pub fn sum_of_two(fun: Fun, first: &Num, second: &Num) -> Option<Num>
+    ensures { IfSome result (λ sum. (settings : AnySettings) → Value.Number sum ≡ applied fun settings (two_numbers first.now second.now)) }
+{
+    match fun {
+        Fun::Add => first.alike_sum(second),
+        _ => None,
+    }
+}
+
+/// The result of a function that compares two numbers.
+#[inline(always)]
+#[tactic(auto, unfolding(crate::specs::Functions::applied))]
+pub fn truth_of_two(fun: Fun, first: &Num, second: &Num) -> bool
     requires takes { takes_of fun ≡ Kind.Number ∷ Kind.Number ∷ [] }
     requires gives { gives_of fun ≡ Kind.Logical }
-    ensures { (settings : AnySettings) → Value.Logical result ≡ applied fun settings (two_numbers first second) }
+    ensures { (settings : AnySettings) → Value.Logical result ≡ applied fun settings (two_numbers first.now second.now) }
 {
     let order = first.cmp(second);
     match fun {
@@ -170,7 +169,7 @@ pub fn truth_given(fun: Fun, settings: Settings, arguments: &Arguments<'_>) -> b
 {
     match fun {
         Fun::NumberEq | Fun::NumberLess | Fun::NumberGreater => {
-            truth_of_two(fun, arguments.number(0), arguments.number(1))
+            truth_of_two(fun, &arguments.number(0), &arguments.number(1))
         }
         Fun::TextEq => texts::eq_text(arguments.text(0), arguments.text(1), settings.exact),
         Fun::TextLess => texts::less_text(arguments.text(0), arguments.text(1)),
