@@ -1,4 +1,5 @@
 mod QuickSteps
+mod FindingForms
 pub mod Walks
 pub mod Steps
 pub mod Runs

@@ -3,6 +3,7 @@ pub mod Effects
 pub mod Executed
 pub mod Faults
 pub mod Filters
+pub mod Forms
 pub mod Needs
 pub mod Opening
 pub mod Quick

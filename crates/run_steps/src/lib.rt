@@ -5,6 +5,7 @@ mod ending;
 mod environment;
 mod fault;
 mod filtering;
+mod forms;
 mod machine;
 mod on_areas;
 mod on_moves;
