@@ -1,12 +1,29 @@
 -- Sums, products, quotients and remainders.
-use Rattle.std.specs.Prelude.{ℕ, suc, ◌+◌, ◌-◌, ◌/◌, ◌^◌, ℤ, pos, negsuc, neg_ℤ, ◌+ℤ◌, ◌-ℤ◌, ◌*ℤ◌, ◌≤ℤ◌, ◌<ℤ◌, unsigned_abs, max, ◌==◌, nat_le, if◌then◌else◌}
-use Rattle.fixed_num.specs.Number.{Number, asterisk, finite, number, scaled, most_decimals}
+use Rattle.std.specs.Prelude.{◌≡◌, ◌<◌, ℕ, suc, ◌+◌, ◌-◌, ◌/◌, ◌^◌, ℤ, pos, negsuc, neg_ℤ, ◌+ℤ◌, ◌-ℤ◌, ◌*ℤ◌, ◌≤ℤ◌, ◌<ℤ◌, unsigned_abs, max, ◌==◌, nat_le, if◌then◌else◌}
+use Rattle.fixed_num.specs.Number.{Number, asterisk, finite, number, scaled, magnitude_limit, most_decimals}
 use Rattle.fixed_num.specs.Rounding.{rounded}
 
 -- the sum, with the greater number of decimals
 abbrev pub sum_of : Number → Number → Number
 sum_of (finite m d) (finite n e) = number (scaled m (max d e - d) +ℤ scaled n (max d e - e)) (max d e)
 sum_of _ _ = asterisk
+
+-- both are below zero, or neither is
+abbrev pub AreOfOneSign : ℤ → ℤ → Type 0
+AreOfOneSign (pos m) (pos n) = Unit {0}
+AreOfOneSign (negsuc m) (negsuc n) = Unit {0}
+AreOfOneSign _ _ = ⊥
+
+-- `m / 10 ^ d` and `n / 10 ^ e` are of one sign and as many decimals, and their magnitudes together are in range
+pub record AreAlikeParts (m : ℤ) (d : ℕ) (n : ℤ) (e : ℕ) : Type 0 where
+  pub of_one_sign : AreOfOneSign m n
+  pub as_many_decimals : d ≡ e
+  pub in_range : unsigned_abs m + unsigned_abs n < magnitude_limit
+
+-- the same of two numbers other than the asterisk value
+abbrev pub AreAlike : Number → Number → Type 0
+AreAlike (finite m d) (finite n e) = AreAlikeParts m d n e
+AreAlike _ _ = ⊥
 
 -- the number with its sign turned
 abbrev pub negated : Number → Number

@@ -1,33 +1,39 @@
 //! Sums, products and quotients.
 
-ghost use Rattle.std.specs.Prelude.{◌≡◌, IfSome, Some};
+ghost use Rattle.std.specs.Prelude.{◌≡◌, ◌↔◌, IsTrue, Some, SomeIff};
 ghost use Rattle.fixed_num.specs.Number.{AreParts, number_of};
 ghost use Rattle.fixed_num.specs.Order.{compared, greater_of, lesser_of};
-ghost use Rattle.fixed_num.specs.Arithmetic.{sum_of, difference_of, negated, absolute, product_of, quotient_of, modulus_of};
+ghost use Rattle.fixed_num.specs.Arithmetic.{AreAlike, sum_of, difference_of, negated, absolute, product_of, quotient_of, modulus_of};
 
 use crate::number::{MAGNITUDE_LIMIT, MOST_DECIMALS, Num, Parts};
 use crate::powers::{power_of_ten, scaled};
 use crate::rounding::{divided, floored_rest, nearest};
 use std::cmp::Ordering;
 
-/// The sum of two numbers of one sign and as many decimals, where it has at most 19 digits. Most sums are such; it takes no
-/// multiplication.
+/// Whether two numbers have one sign and as many decimals, and their magnitudes together at most 19 digits.
 #[inline(always)]
-fn sum_of_alike(a: Parts, b: Parts) -> Option<Num>
+fn are_alike(a: Parts, b: Parts) -> bool
     requires first { AreParts a }
     requires second { AreParts b }
-    ensures { IfSome result (λ sum. sum ≡ sum_of (number_of (Some a)) (number_of (Some b))) }
+    ensures { IsTrue result ↔ AreAlike (number_of (Some a)) (number_of (Some b)) }
 {
-    if a.negative != b.negative
-        || a.decimals != b.decimals
-        || a.magnitude >= MAGNITUDE_LIMIT - b.magnitude
-    {
-        return None;
-    }
-    Some(Num::of(Parts {
+    a.negative == b.negative
+        && a.decimals == b.decimals
+        && a.magnitude < MAGNITUDE_LIMIT - b.magnitude
+}
+
+/// The sum of two numbers that are alike. Most sums are such; it takes no multiplication.
+#[inline(always)]
+fn sum_of_alike(a: Parts, b: Parts) -> Num
+    requires first { AreParts a }
+    requires second { AreParts b }
+    requires alike { AreAlike (number_of (Some a)) (number_of (Some b)) }
+    ensures { result ≡ sum_of (number_of (Some a)) (number_of (Some b)) }
+{
+    Num::of(Parts {
         magnitude: a.magnitude + b.magnitude,
         ..a
-    }))
+    })
 }
 
 /// The sum of any two numbers other than the asterisk value, with the greater number of decimals. (Apart, so that a sum of alike
@@ -81,10 +87,10 @@ impl Num {
     /// Most sums are such, and a caller that keeps the two cases apart has them worked out without a call.
     #[inline(always)]
     pub fn alike_sum(&self, other: &Num) -> Option<Num>
-        ensures { IfSome result (λ sum. sum ≡ sum_of self.now other.now) }
+        ensures { SomeIff result (AreAlike self.now other.now) (sum_of self.now other.now) }
     {
         match (self.parts(), other.parts()) {
-            (Some(a), Some(b)) => sum_of_alike(a, b),
+            (Some(a), Some(b)) if are_alike(a, b) => Some(sum_of_alike(a, b)),
             _ => None,
         }
     }

@@ -2,7 +2,6 @@
 
 use fixed_num::{Num, Parts};
 use std::cmp::Ordering;
-use xvalue::Fun;
 use xvalue::apply::sum_of_two;
 
 fn read(text: &str) -> Num {
@@ -111,7 +110,9 @@ fn adds_alike_numbers(rt: HostRuntime) {
     let sum = read("1.50").alike_sum(&read("2.25"));
     assert!(rt; sum.is_some_and(|sum| sum == read("3.75")));
     assert!(rt; read("1.50").alike_sum(&read("2")).is_none());
-    let called = sum_of_two(Fun::Add, &read("-1"), &read("-2"));
+    assert!(rt; read("1.50").alike_sum(&read("-2.25")).is_none());
+    assert!(rt; read("9999999999999999999").alike_sum(&read("1")).is_none());
+    let called = sum_of_two(&read("-1"), &read("-2"));
     assert!(rt; called.is_some_and(|sum| sum == read("-3")));
 }
 

@@ -1,7 +1,8 @@
 // The functions on their arguments.
 #![tactic(auto)]
 
-ghost use Rattle.std.specs.Prelude.{◌≡◌, ◌+◌, ◌≤◌, if◌then◌else◌, ◌∷◌, [], IfSome};
+ghost use Rattle.std.specs.Prelude.{◌≡◌, ◌+◌, ◌≤◌, if◌then◌else◌, ◌∷◌, [], MatchOption};
+ghost use Rattle.fixed_num.specs.Arithmetic.{AreAlike};
 ghost use Rattle.xvalue.specs.declared.settings.Settings.{Settings as AnySettings};
 ghost use Rattle.xvalue.specs.Given.{given, two_numbers};
 ghost use Rattle.xvalue.specs.Functions.{applied, truth_at};
@@ -50,17 +51,15 @@ pub fn number_of_two(fun: Fun, first: Num, second: Num) -> Num
     }
 }
 
-/// The same, if it is the sum of alike numbers (`Num::alike_sum`), and `None` otherwise: for a caller that has most sums worked out
-/// where they are asked for.
+/// The sum of two numbers that are alike (`Num::alike_sum`), and `None` of others: for a caller that has most sums worked out where
+/// they are asked for.
 #[inline(always)]
 #[tactic(auto, unfolding(crate::specs::Functions::applied))]
-pub fn sum_of_two(fun: Fun, first: &Num, second: &Num) -> Option<Num>
-    ensures { IfSome result (λ sum. (settings : AnySettings) → Value.Number sum ≡ applied fun settings (two_numbers first.now second.now)) }
+pub fn sum_of_two(first: &Num, second: &Num) -> Option<Num>
+    ensures { MatchOption result (¬ AreAlike first.now second.now) (λ sum. AreAlike first.now second.now
+        × ((settings : AnySettings) → Value.Number sum ≡ applied Fun.Add settings (two_numbers first.now second.now))) }
 {
-    match fun {
-        Fun::Add => first.alike_sum(second),
-        _ => None,
-    }
+    first.alike_sum(second)
 }
 
 /// The result of a function that compares two numbers.
