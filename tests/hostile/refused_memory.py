@@ -15,9 +15,14 @@ DBRUN = None
 MEMORY = None
 REFUSED_BEFORE, TOLD = 5, re.compile(rb"short of memory at (\d+)")
 # Behind so many steps the first growth of this run is asked for.
-FIRST_GROWTH = {"a customer is added": 1, "seven indexes are made": 0, "a page splits in seven indexes": 2}
+FIRST_GROWTH = {
+    "a customer is added": 4,
+    "customers outgrow their file": 7,
+    "seven indexes are made": 0,
+    "a page splits in seven indexes": 2,
+}
 # The runs of the built program: with no index, with one that is changed, made anew and emptied, and with seven.
-OF_PROGRAM = ("a customer is added", "keys shrink", "records are removed", "a page splits in seven indexes")
+OF_PROGRAM = ("customers outgrow their file", "keys shrink", "records are removed", "a page splits in seven indexes")
 # The other commands over the files behind the last of these runs.
 COMMANDS = (("verify", "M.XBC"), ("code", "M.XBC"), ("list", "S.DBF"), ("index", "S1.NDX"), ("compile", "M.DCL", "M.XBC", "M.PRG"))
 

@@ -31,6 +31,10 @@ CASES = {
     "a customer is added": Case(
         'USE CUST\nAPPEND BLANK\nREPLACE NAME WITH "Ann"\n? RECNO(), EOF()\n',
         "         1 .F.\n", "finished 12", "TABLE CUST\n", {"CUST.DBF": texts("NAME", 10, [])}),
+    # Records first take the place of the file's other bytes: six of them, of 11 bytes, that of its 66.
+    "customers outgrow their file": Case(
+        "USE CUST\n" + "APPEND BLANK\n" * 8 + "? RECCOUNT()\n",
+        "         8\n", "finished 13", "TABLE CUST\n", {"CUST.DBF": texts("NAME", 10, [])}),
     "marked records are passed": Case(
         'USE P\nINDEX ON NAME TO PN\nSET DELETED ON\nSEEK "SM"\n? RECNO(), FOUND()\n',
         "         3 .T.\n", "finished 48", "TABLE P\nINDEX PN ON P KEY NAME\n", {"P.DBF": SMITHS}),
