@@ -27,13 +27,15 @@ APPEND BLANK
 REPLACE K WITH "zz", N WITH -1, D WITH CTOD("02/29/88"), L WITH .T.
 """
 
-failed = 0
+passed, failed = 0, 0
 
 
 def check(what, found, wanted):
     """Tells what isn't as it should be."""
-    global failed
-    if found != wanted:
+    global passed, failed
+    if found == wanted:
+        passed += 1
+    else:
         failed += 1
         print(f"{what}: {str(found)[:300]}, not {str(wanted)[:300]}")
 
@@ -144,5 +146,5 @@ for each in LENGTHS:
     our_index(each, 200)
     # (libxbase64 loses pages where it splits one that isn't a leaf, so its root alone stands above the leaves)
     their_index(each, min(most * most // 2, 200))
-print("all tools agree" if failed == 0 else f"{failed} differences")
+print(f"{passed} passed, {failed} failed")
 sys.exit(1 if failed else 0)

@@ -10,7 +10,6 @@ import refused_memory
 from refused_memory import contents, put_files
 from worked import CASES, Case, LETTERS
 
-ASAN = "detect_leaks=0:allocator_may_return_null=1"
 DBRUN = None
 PROGRAM = None
 # Places that one task tries, and the seconds that it may take.
@@ -85,8 +84,7 @@ def sweep(work):
     given = {**files, "TARGET": target.encode(), **{name: struct.pack("<I", it) for name, it in numbers.items()}}
     room = f"{title}, places {first} to {last}"
     try:
-        done = subprocess.run([PROGRAM], input=bundle(given), capture_output=True, timeout=SECONDS, check=False,
-                              env={"ASAN_OPTIONS": ASAN})
+        done = subprocess.run([PROGRAM], input=bundle(given), capture_output=True, timeout=SECONDS, check=False)
     except subprocess.TimeoutExpired:
         return title, [f"{room}: no end"], []
     lines = done.stdout.decode().splitlines()

@@ -44,7 +44,7 @@ def begin(program, words, folder, streams):
         os.dup2(stream, number)
     resource.setrlimit(resource.RLIMIT_CPU, (SECONDS, SECONDS))
     libc.ptrace(TRACE_ME, 0, None, None)
-    os.execve(program, [program, *words], {"ASAN_OPTIONS": "detect_leaks=0:allocator_may_return_null=1"})
+    os.execve(program, [program, *words], {})
     os._exit(127)
 
 

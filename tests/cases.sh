@@ -1,0 +1,47 @@
+# For scripts of sh that try the program: they read this file first, in an empty folder. It leaves the program in $program,
+# and has them end with `verdict`.
+program=$("$top/bin/dbrun" --which ${DBRUN_KIND:+"$DBRUN_KIND"}) || exit 1
+echo "the program: $program"
+passed=0
+failed=0
+
+passes() { passed=$((passed + 1)); }
+
+# fails WHAT-WENT-WRONG
+fails() {
+    echo "$1"
+    failed=$((failed + 1))
+}
+
+# case STATUS LAST-LINE-OF-STANDARD-ERROR WORDS..
+case_of() {
+    wanted=$1; said=$2; shift 2
+    "$program" "$@" > out.txt 2> err.txt
+    status=$?
+    last=$(tail -n 1 err.txt)
+    if [ "$status" -ne "$wanted" ] || { [ -n "$said" ] && [ "$last" != "$said" ]; }; then
+        fails "dbrun $*: status $status and '$last', not $wanted and '$said'"
+    else
+        passes
+    fi
+}
+
+# is WHAT FOUND WANTED
+is() {
+    if [ "$2" = "$3" ]; then passes; else fails "$1: '$2', not '$3'"; fi
+}
+
+# prints STANDARD-OUTPUT
+prints() { is printed "$(cat out.txt)" "$1"; }
+
+# holds WHAT-IT-MEANS-WHERE-IT-DOES-NOT COMMAND..
+holds() {
+    meaning=$1; shift
+    if "$@"; then passes; else fails "$meaning"; fi
+}
+
+verdict() {
+    echo "$passed passed, $failed failed"
+    [ "$failed" -eq 0 ]
+    exit
+}

@@ -1,0 +1,25 @@
+"""What the scripts of tests/ and bench/ that are written in Python share."""
+
+import os
+import subprocess
+import sys
+
+TOP = os.path.dirname(os.path.dirname(os.path.realpath(__file__)))
+
+
+def program(kind=None):
+    """The program that is tried, built first where need be: of a kind, or of the one that DBRUN_KIND names, or any."""
+    kind = kind or os.environ.get("DBRUN_KIND")
+    found = subprocess.run([f"{TOP}/bin/dbrun", "--which", *([kind] if kind else [])], stdout=subprocess.PIPE, text=True, check=False)
+    if found.returncode:
+        sys.exit(1)
+    path = found.stdout.strip()
+    print(f"the program: {path}", flush=True)
+    return path
+
+
+def verdict(passed, failed):
+    """Prints the last line of a test, and gives its status; nothing tried is a failure."""
+    failed += not passed and not failed
+    print(f"{passed} passed, {failed} failed", flush=True)
+    return 1 if failed else 0
