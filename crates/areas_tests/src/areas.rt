@@ -7,7 +7,7 @@ use ndx_tree::NdxTree;
 use shape::Shape;
 use std::alloc::{AllocError, Global};
 use std::test::Fail;
-use work_store::Store;
+use work_area::Store;
 
 // A call, what it answers, and where it leads: the record, EOF(), BOF() and FOUND().
 type Step = (Call, Answer, (u32, bool, bool, bool));
@@ -500,8 +500,8 @@ fn keys_that_fall(rt: HostRuntime) -> Result<(), Fail> {
     Ok(())
 }
 
-// Whether a list that is handed in with the rows B and A is kept: exact, in the right order with an old pair, too short, too
-// long, of none.
+// Whether a list that is handed in with the rows B and A is kept: exact, in the right order with an old pair, too
+// short, too long, of none.
 fn is_kept<K: KeyList>(
     alloc: Global,
     shape: &Shape,

@@ -10,8 +10,8 @@ use dbf_file::{Field, Letter, Table, are_fields};
 use key_lists::KeyList;
 use shape::{IndexShape, Items, KeyPart, KeyParts, Name, Shape, TableShape};
 use std::alloc::{AllocError, Global};
-use work_store::Store;
-use work_store::handed::{are_lists, are_of_shape};
+use work_area::Store;
+use work_area::handed::{are_lists, are_of_shape};
 use xvalue::{Text, Value};
 
 const NAMES: [&[u8]; 12] = [

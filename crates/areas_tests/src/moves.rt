@@ -1,4 +1,5 @@
-// Moves in record order and by lists of keys of both kinds. Each answer comes at just its cost, and is refused below it.
+// Moves in record order and by lists of keys of both kinds. Each answer comes at just its cost, and is refused below
+// it.
 
 use key_lists::laws::changes_one;
 use key_lists::{Entry, KeyList, SortedKeys};

@@ -3,17 +3,16 @@
 ghost use Rattle.std.specs.Prelude.{◌≡◌, ◌<◌, ◌≤◌, IsTrue, IsSome, IfSome, true, length, is_some};
 ghost use Rattle.dbf_file.specs.Tables.{letter_at};
 ghost use Rattle.dbf_file.specs.Values.{kind_for};
-ghost use Rattle.work_rows.specs.Marks.{mark_at};
-ghost use Rattle.work_store.specs.Areas.{here};
+ghost use Rattle.open_table.specs.Marks.{mark_at};
+ghost use Rattle.work_area.specs.Areas.{here};
 ghost use Rattle.xvalue.specs.Kinds.{kind_of};
 
 use dbf_file::Table;
 use key_lists::KeyList;
+use open_table::{AppendError, Refused, Row};
 use row_moves::Spent;
 use std::alloc::Global;
-use work_area::AppendError;
-use work_rows::{Refused, Row};
-use work_store::Store;
+use work_area::Store;
 use xvalue::{Text, Value};
 
 /// A call of a store: of a table by its number, of indexes by theirs, and texts into the first field.
@@ -221,7 +220,8 @@ fn takes(table: &Table, value: &Value) -> bool
 
 fn takes_here<K: KeyList>(store: &Store<K>, value: &Value) -> bool
     ensures there { IsTrue result → IfSome (here store.now) (λ o. 0 < length o.table.structure.fields) }
-    ensures kind { IsTrue result → IfSome (here store.now) (λ o. kind_of value.now ≡ kind_for (letter_at o.table.structure 0)) }
+    ensures kind { IsTrue result
+        → IfSome (here store.now) (λ o. kind_of value.now ≡ kind_for (letter_at o.table.structure 0)) }
 {
     match store.use_of(store.selected()) {
         Some(used) => takes(store.table(used.table), value),

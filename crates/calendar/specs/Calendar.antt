@@ -1,5 +1,7 @@
 -- Days in their order, the days so many days on, and the names of weekdays and months.
-use Rattle.std.specs.Prelude.{ℕ, zero, suc, ◌+◌, ◌-◌, ◌%◌, Bool, true, false, ◌&&◌, ◌==◌, nat_lt, nat_le, int_lt, if◌then◌else◌, ℤ, pos, negsuc, neg_ℤ, ◌-ℤ◌, List, [], ◌∷◌, Option, Some, None, codes, slice_index_or}
+use Rattle.std.specs.Prelude.{ℕ, zero, suc, ◌+◌, ◌-◌, ◌%◌, Bool, true, false, ◌&&◌, ◌==◌, nat_lt, nat_le, int_lt}
+use Rattle.std.specs.Prelude.{if◌then◌else◌, ℤ, pos, negsuc, neg_ℤ, ◌-ℤ◌, List, [], ◌∷◌, Option, Some, None, codes}
+use Rattle.std.specs.Prelude.{slice_index_or}
 use Rattle.jiff_core.specs.Calendar.{days_in_month, days_from_civil, weekday_number}
 use Rattle.fixed_num.specs.Number.{Number as Decimal, asterisk, finite}
 use Rattle.fixed_num.specs.Rounding.{whole_part}
@@ -27,7 +29,8 @@ next_day parts =
 abbrev pub previous_day : DayParts → Option DayParts
 previous_day parts =
     if nat_lt 1 parts.day then Some (day_at parts.year parts.month (parts.day - 1))
-    else (if nat_lt 1 parts.month then Some (day_at parts.year (parts.month - 1) (days_in_month (pos parts.year) (parts.month - 1)))
+    else (if nat_lt 1 parts.month
+    then Some (day_at parts.year (parts.month - 1) (days_in_month (pos parts.year) (parts.month - 1)))
     else (if nat_lt 1 parts.year then Some (day_at (parts.year - 1) 12 31) else None))
 
 -- one step from a day, and none from the blank date
@@ -98,11 +101,13 @@ weekday_of (Some parts) = (weekday parts + 1) % 7 + 1
 
 abbrev pub weekday_names : List (List ℕ)
 weekday_names =
-    codes "Monday" ∷ codes "Tuesday" ∷ codes "Wednesday" ∷ codes "Thursday" ∷ codes "Friday" ∷ codes "Saturday" ∷ codes "Sunday" ∷ []
+    codes "Monday" ∷ codes "Tuesday" ∷ codes "Wednesday" ∷ codes "Thursday" ∷ codes "Friday" ∷ codes "Saturday"
+    ∷ codes "Sunday" ∷ []
 
 abbrev pub month_names : List (List ℕ)
 month_names =
-    codes "January" ∷ codes "February" ∷ codes "March" ∷ codes "April" ∷ codes "May" ∷ codes "June" ∷ codes "July" ∷ codes "August" ∷ codes "September" ∷ codes "October" ∷ codes "November" ∷ codes "December" ∷ []
+    codes "January" ∷ codes "February" ∷ codes "March" ∷ codes "April" ∷ codes "May" ∷ codes "June" ∷ codes "July"
+    ∷ codes "August" ∷ codes "September" ∷ codes "October" ∷ codes "November" ∷ codes "December" ∷ []
 
 -- the name of the day of the week, empty of the blank date
 abbrev pub weekday_name_of : Option DayParts → List ℕ
@@ -118,7 +123,8 @@ month_name_of (Some parts) = slice_index_or month_names (parts.month - 1) []
 abbrev pub is_day : DayParts → Bool
 is_day parts =
     (nat_le 1 parts.year && nat_le parts.year 9999)
-    && ((nat_le 1 parts.month && nat_le parts.month 12) && (nat_le 1 parts.day && nat_le parts.day (month_length parts)))
+    && ((nat_le 1 parts.month && nat_le parts.month 12)
+    && (nat_le 1 parts.day && nat_le parts.day (month_length parts)))
 
 -- the day where the calendar has it, else the blank date
 abbrev pub day_or_blank : DayParts → Option DayParts

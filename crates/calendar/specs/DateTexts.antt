@@ -1,5 +1,6 @@
 -- Dates that texts spell. The byte 47 is `/`.
-use Rattle.std.specs.Prelude.{ℕ, ◌+◌, Bool, ◌&&◌, List, [], ◌∷◌, length, ◌==◌, nat_le, if◌then◌else◌, Option, Some, None}
+use Rattle.std.specs.Prelude.{ℕ, ◌+◌, Bool, ◌&&◌, List, [], ◌∷◌, length, ◌==◌, nat_le, if◌then◌else◌, Option, Some}
+use Rattle.std.specs.Prelude.{None}
 use Rattle.fixed_num.specs.Reading.{trimmed, are_digits, with_digits}
 use Rattle.calendar.specs.declared.day.DayParts.{DayParts}
 use Rattle.calendar.specs.Calendar.{day_at, day_or_blank}
@@ -34,7 +35,8 @@ in_year month day (Some year) = day_or_blank (day_at year month day)
 -- the date of the three parts between the slashes
 abbrev pub date_spelled : List ℕ → List ℕ → List ℕ → Option DayParts
 date_spelled month day year =
-    if is_short month && is_short day then in_year (with_digits 0 month) (with_digits 0 day) (year_spelled year) else None
+    if is_short month && is_short day then in_year (with_digits 0 month) (with_digits 0 day) (year_spelled year)
+    else None
 
 -- month, day and year of a text with its blanks at both ends taken off
 abbrev pub parts_spelled : List ℕ → Option DayParts

@@ -11,7 +11,8 @@ ghost use Rattle.calendar.specs.Laws.{LiesThere, IsSooner};
 /// The date so many days on is the day with the number that is so much greater, and blank where that is not a day's of
 /// the years 1 to 9999.
 pub fn days_go_by_number()
-    ensures { (days : ℤ) (parts : Parts) → IsDay parts → LiesThere (days_on days (Some parts)) (day_number parts +ℤ days) }
+    ensures { (days : ℤ) (parts : Parts) → IsDay parts
+        → LiesThere (days_on days (Some parts)) (day_number parts +ℤ days) }
 {}
 
 /// A day is its day number: days with one number are the same, and the sooner day has the lesser number.
@@ -22,7 +23,8 @@ pub fn days_are_their_numbers()
 
 /// Of two dates one is earlier than the other, or they are the same.
 pub fn dates_are_in_order()
-    ensures { (a b : Option Parts) → HasDay a → HasDay b → (is_earlier a b ≡ true) ⊎ ((a ≡ b) ⊎ (is_earlier b a ≡ true)) }
+    ensures { (a b : Option Parts) → HasDay a → HasDay b
+        → (is_earlier a b ≡ true) ⊎ ((a ≡ b) ⊎ (is_earlier b a ≡ true)) }
 {}
 
 /// The calendar's days are those that pass its test.

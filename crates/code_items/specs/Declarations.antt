@@ -1,5 +1,6 @@
 -- What a code may declare.
-use Rattle.std.specs.Prelude.{ℕ, zero, suc, ◌+◌, Bool, true, ◌&&◌, nat_lt, nat_le, List, [], ◌∷◌, length, Option, None, slice_get}
+use Rattle.std.specs.Prelude.{ℕ, zero, suc, ◌+◌, Bool, true, ◌&&◌, nat_lt, nat_le, List, [], ◌∷◌, length, Option, None}
+use Rattle.std.specs.Prelude.{slice_get}
 use Rattle.std.specs.List.{list_all}
 use Rattle.shape.specs.declared.lists.IndexList.{IndexList}
 use Rattle.shape.specs.Lists.{is_list}
@@ -12,7 +13,8 @@ use Rattle.code_items.specs.Constants.{is_constant}
 -- slots that rise, from the least on, and are there
 abbrev pub needs_rise : ℕ → ℕ → List Need → Bool
 needs_rise least slots [] = true
-needs_rise least slots (need ∷ needs) = nat_le least need.slot && nat_lt need.slot slots && needs_rise (need.slot + 1) slots needs
+needs_rise least slots (need ∷ needs) =
+    nat_le least need.slot && nat_lt need.slot slots && needs_rise (need.slot + 1) slots needs
 
 -- a filter of one of so many tables, in a code of so many slots
 abbrev pub is_filter : ℕ → ℕ → Filter → Bool
@@ -28,7 +30,8 @@ abbrev pub filters_are_legal : Declared → Bool
 filters_are_legal d = nat_le (length d.filters) 64 && list_all (is_filter (length d.shape.tables) d.slots) d.filters
 
 unfoldable pub are_declared : Declared → Bool
-are_declared d = nat_le d.stack_bound 64 && nat_le d.slots 256 && is_shape d.shape && lists_are_legal d && constants_are_legal d && filters_are_legal d
+are_declared d = nat_le d.stack_bound 64 && nat_le d.slots 256 && is_shape d.shape && lists_are_legal d
+    && constants_are_legal d && filters_are_legal d
 
 -- the list or the filter of a number, counted from 1
 

@@ -1,5 +1,6 @@
 -- What is known of the work areas, and when a map covers it.
-use Rattle.std.specs.Prelude.{ℕ, zero, suc, Bool, true, false, ◌&&◌, ◌==◌, List, Option, Some, None, length, replicate, slice_get, slice_set}
+use Rattle.std.specs.Prelude.{ℕ, zero, suc, Bool, true, false, ◌&&◌, ◌==◌, List, Option, Some, None, length, replicate}
+use Rattle.std.specs.Prelude.{slice_get, slice_set}
 use Rattle.code_items.specs.declared.desk.OpenArea.{OpenArea}
 use Rattle.code_items.specs.declared.desk.AreaState.{AreaState}
 use Rattle.code_items.specs.declared.desk.AreaState.TheVariants.{Closed, Open, Unsure}

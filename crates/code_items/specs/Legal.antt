@@ -1,5 +1,6 @@
 -- The codes that have a code file.
-use Rattle.std.specs.Prelude.{◌≡◌, ℕ, ◌+◌, ◌-◌, Bool, true, false, ◌&&◌, ◌==◌, nat_lt, nat_le, List, [], ◌∷◌, ◌++◌, length, map, Option, Some, None, if◌then◌else◌}
+use Rattle.std.specs.Prelude.{◌≡◌, ℕ, ◌+◌, ◌-◌, Bool, true, false, ◌&&◌, ◌==◌, nat_lt, nat_le, List, [], ◌∷◌, ◌++◌}
+use Rattle.std.specs.Prelude.{length, map, Option, Some, None, if◌then◌else◌}
 use Rattle.std.specs.List.{list_all}
 use Rattle.code_items.specs.declared.declared.Filter.{Filter}
 use Rattle.code_items.specs.declared.declared.Declared.{Declared}
@@ -12,7 +13,8 @@ use Rattle.code_items.specs.States.{is_state, is_blank}
 
 -- a procedure is entered and left with an empty stack
 unfoldable pub is_procedure : Declared → Proc → Bool
-is_procedure d p = nat_le p.level 20 && is_state d p.entry && is_state d p.exit && length p.entry.stack == 0 && length p.exit.stack == 0
+is_procedure d p = nat_le p.level 20 && is_state d p.entry && is_state d p.exit && length p.entry.stack == 0
+    && length p.exit.stack == 0
 
 -- the first procedure is there and is entered with nothing known
 abbrev pub begins_blank : List Proc → Bool
@@ -51,18 +53,22 @@ maps_rise least places [] = true
 maps_rise least places (m ∷ maps) = nat_le least m.place && nat_lt m.place places && maps_rise (m.place + 1) places maps
 
 abbrev pub procedures_are_legal : Code → Bool
-procedures_are_legal code = nat_le (length code.procedures) 256 && list_all (is_procedure code.declared) code.procedures && begins_blank code.procedures
+procedures_are_legal code = nat_le (length code.procedures) 256 && list_all (is_procedure code.declared) code.procedures
+    && begins_blank code.procedures
 
 -- maps stand in the procedures' blocks alone
 abbrev pub maps_are_legal : Code → Bool
-maps_are_legal code = nat_le (length code.maps) 4096 && list_all (is_map code.declared) code.maps && maps_rise 0 (places_of code.procedures) code.maps
+maps_are_legal code = nat_le (length code.maps) 4096 && list_all (is_map code.declared) code.maps
+    && maps_rise 0 (places_of code.procedures) code.maps
 
 abbrev pub instructions_are_legal : Code → Bool
 instructions_are_legal code = nat_le 1 (length code.instructions) && nat_le (length code.instructions) 65535
-    && list_all (is_instr code.declared.version) code.instructions && blocks_fill (length code.instructions) (blocks_of code.procedures code.declared.filters)
+    && list_all (is_instr code.declared.version) code.instructions
+    && blocks_fill (length code.instructions) (blocks_of code.procedures code.declared.filters)
 
 unfoldable pub is_code : Code → Bool
-is_code code = are_declared code.declared && procedures_are_legal code && maps_are_legal code && instructions_are_legal code
+is_code code =
+    are_declared code.declared && procedures_are_legal code && maps_are_legal code && instructions_are_legal code
 
 abbrev pub IsCode : Code → Type 0
 IsCode code = is_code code ≡ true

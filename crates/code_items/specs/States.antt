@@ -1,5 +1,6 @@
 -- States that a code file can hold.
-use Rattle.std.specs.Prelude.{ℕ, Bool, true, false, ◌&&◌, ◌||◌, ◌==◌, nat_lt, nat_le, List, length, Option, Some, None, is_none}
+use Rattle.std.specs.Prelude.{ℕ, Bool, true, false, ◌&&◌, ◌||◌, ◌==◌, nat_lt, nat_le, List, length, Option, Some, None}
+use Rattle.std.specs.Prelude.{is_none}
 use Rattle.std.specs.List.{list_all}
 use Rattle.shape.specs.declared.lists.IndexList.{IndexList}
 use Rattle.shape.specs.declared.indexes.IndexShape.{IndexShape}
@@ -60,7 +61,8 @@ is_area_state d Unsure = may_be_unsure d.version
 
 -- one of ten work areas is selected
 unfoldable pub is_desk : Declared → Desk → Bool
-is_desk d desk = nat_le 1 desk.selected && nat_le desk.selected 10 && length desk.areas == 10 && list_all (is_area_state d) desk.areas
+is_desk d desk = nat_le 1 desk.selected && nat_le desk.selected 10 && length desk.areas == 10
+    && list_all (is_area_state d) desk.areas
 
 -- each slot is known of, and the stack is within the bound
 unfoldable pub is_state : Declared → State → Bool

@@ -3,15 +3,17 @@
 ghost use Rattle.std.specs.Prelude.{◌≡◌, ◌≤◌, length, map, true};
 ghost use Rattle.std.specs.List.{list_all};
 ghost use Rattle.code_items.specs.Instrs.{is_instr};
-ghost use Rattle.code_items.specs.Legal.{is_procedure, begins_blank, is_map, total, places_of, blocks_of, blocks_fill, maps_rise, left_behind, procedures_are_legal, maps_are_legal, instructions_are_legal, is_code};
+ghost use Rattle.code_items.specs.Legal.{is_procedure, begins_blank, is_map, total, places_of, blocks_of, blocks_fill};
+ghost use Rattle.code_items.specs.Legal.{maps_rise, left_behind, procedures_are_legal, maps_are_legal};
+ghost use Rattle.code_items.specs.Legal.{instructions_are_legal, is_code};
 
 use crate::declared::{Declared, Filter, Version};
 use crate::instr::Instr;
 use crate::state::State;
 use shape::Items;
 
-/// A procedure: how many instructions its block has, its level of calls (at most 20), and what is known where it is entered
-/// and where it returns.
+/// A procedure: how many instructions its block has, its level of calls (at most 20), and what is known where it is
+/// entered and where it returns.
 #[derive(Drop)]
 pub struct Proc {
     pub length: u16,
@@ -39,8 +41,8 @@ pub struct Code {
 }
 
 impl Proc {
-    /// Whether a code that declares this can have the procedure: a level of at most 20, and states that its file can hold,
-    /// with empty stacks.
+    /// Whether a code that declares this can have the procedure: a level of at most 20, and states that its file can
+    /// hold, with empty stacks.
     #[tactic(auto, unfolding(crate::specs::Legal::is_procedure))]
     pub fn is_procedure(&self, declared: &Declared) -> bool
         ensures { result ≡ is_procedure declared.now self.now }
@@ -203,8 +205,8 @@ impl Code {
             )
     }
 
-    /// Whether the code has a code file: all that it declares may be declared, its procedures, maps and instructions are
-    /// such as a file can hold, its blocks fill it, and its maps rise and stand in procedures' blocks.
+    /// Whether the code has a code file: all that it declares may be declared, its procedures, maps and instructions
+    /// are such as a file can hold, its blocks fill it, and its maps rise and stand in procedures' blocks.
     #[tactic(auto, unfolding(crate::specs::Legal::is_code))]
     pub fn is_legal(&self) -> bool
         ensures { result ≡ is_code self.now }

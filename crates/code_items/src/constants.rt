@@ -2,7 +2,8 @@
 
 ghost use Rattle.std.specs.Prelude.{◌≡◌};
 ghost use Rattle.std.specs.List.{list_all};
-ghost use Rattle.code_items.specs.Constants.{is_decimal as is_decimal_of, is_date as is_date_of, is_text as is_text_of, is_byte as is_byte_of, is_constant as is_constant_of};
+ghost use Rattle.code_items.specs.Constants.{is_decimal as is_decimal_of, is_date as is_date_of, is_text as is_text_of};
+ghost use Rattle.code_items.specs.Constants.{is_byte as is_byte_of, is_constant as is_constant_of};
 
 use calendar::Day;
 use fixed_num::Num;

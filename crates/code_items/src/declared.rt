@@ -4,15 +4,16 @@ ghost use Rattle.std.specs.Prelude.{◌≡◌};
 ghost use Rattle.std.specs.Option.{option_copied};
 ghost use Rattle.std.specs.List.{list_all};
 ghost use Rattle.code_items.specs.Constants.{is_constant as is_constant_of};
-ghost use Rattle.code_items.specs.Declarations.{needs_rise, is_filter, lists_are_legal, constants_are_legal, filters_are_legal, are_declared, list_of, filter_of};
+ghost use Rattle.code_items.specs.Declarations.{needs_rise, is_filter, lists_are_legal, constants_are_legal};
+ghost use Rattle.code_items.specs.Declarations.{filters_are_legal, are_declared, list_of, filter_of};
 ghost use Rattle.shape.specs.Lists.{is_list};
 
 use crate::constants::is_constant;
 use shape::{IndexList, Items, Shape};
 use xvalue::{Kind, Value};
 
-/// The version of a code file. With the second, a state may have work areas of which nothing is known, and CENTURY may be
-/// set.
+/// The version of a code file. With the second, a state may have work areas of which nothing is known, and CENTURY may
+/// be set.
 #[derive(Clone, Copy, PartialEq, Eq, Debug)]
 pub enum Version {
     One,
@@ -34,8 +35,8 @@ pub struct Filter {
     pub needs: Items<Need>,
 }
 
-/// What a code declares: its version, the most values on its stack (at most 64), how many slots there are (at most 256), and
-/// its tables, indexes, lists, constants and filters.
+/// What a code declares: its version, the most values on its stack (at most 64), how many slots there are (at most
+/// 256), and its tables, indexes, lists, constants and filters.
 #[derive(Drop)]
 pub struct Declared {
     pub version: Version,

@@ -2,13 +2,14 @@
 
 ghost use Rattle.std.specs.Prelude.{◌≡◌, IfOk};
 ghost use Rattle.std.specs.List.{list_all, zip};
-ghost use Rattle.code_items.specs.Desks.{same_area, area_covered, areas_covered, desk_covered, open_at, with_selected, all_closed};
+ghost use Rattle.code_items.specs.Desks.{same_area, area_covered, areas_covered, desk_covered, open_at, with_selected};
+ghost use Rattle.code_items.specs.Desks.{all_closed};
 
 use shape::Items;
 use std::alloc::{AllocError, Global};
 
-/// What an open work area holds: a table, counted from 0; a list of indexes and a filter, counted from 1, or 0 for none; and
-/// the order, 0 for that of the records and else one of the list's indexes, counted from 1.
+/// What an open work area holds: a table, counted from 0; a list of indexes and a filter, counted from 1, or 0 for
+/// none; and the order, 0 for that of the records and else one of the list's indexes, counted from 1.
 #[derive(Clone, Copy, PartialEq, Eq, Debug)]
 pub struct OpenArea {
     pub table: u16,
@@ -109,8 +110,8 @@ impl Desk {
         }
     }
 
-    /// Whether the map selects the same work area, and each of its areas is one of which nothing is known, or is as it is
-    /// here.
+    /// Whether the map selects the same work area, and each of its areas is one of which nothing is known, or is as it
+    /// is here.
     pub fn is_covered_by(&self, map: &Desk) -> bool
         ensures { result ≡ desk_covered map.now self.now }
     {

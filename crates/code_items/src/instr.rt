@@ -1,7 +1,8 @@
 //! Instructions, by groups.
 
 ghost use Rattle.std.specs.Prelude.{◌≡◌};
-ghost use Rattle.code_items.specs.Instrs.{is_instr, is_of_values, is_of_flow, is_of_areas, is_of_records, is_two, is_four, is_area, may_set};
+ghost use Rattle.code_items.specs.Instrs.{is_instr, is_of_values, is_of_flow, is_of_areas, is_of_records, is_two};
+ghost use Rattle.code_items.specs.Instrs.{is_four, is_area, may_set};
 
 use crate::declared::Version;
 use xvalue::{Fun, Kind, Setting};

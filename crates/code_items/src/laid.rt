@@ -2,7 +2,8 @@
 
 ghost use Rattle.std.specs.Prelude.{◌≡◌, is_none};
 ghost use Rattle.std.specs.List.{list_all};
-ghost use Rattle.code_items.specs.States.{is_list_of, is_filter_of, opened, is_open, may_be_unsure as may_be_unsure_in, is_area_state, is_desk, is_state, is_closed as is_closed_area, is_blank};
+ghost use Rattle.code_items.specs.States.{is_list_of, is_filter_of, opened, is_open, may_be_unsure as may_be_unsure_in};
+ghost use Rattle.code_items.specs.States.{is_area_state, is_desk, is_state, is_closed as is_closed_area, is_blank};
 
 use crate::declared::{Declared, Version};
 use crate::desk::{AreaState, Desk, OpenArea};
@@ -78,8 +79,8 @@ impl Declared {
             && self.are_areas(desk.areas.as_slice())
     }
 
-    /// Whether a code file that declares this can hold the state: one of ten work areas is selected, each open one holds what
-    /// is declared, each slot is known of, and the stack is within the bound.
+    /// Whether a code file that declares this can hold the state: one of ten work areas is selected, each open one
+    /// holds what is declared, each slot is known of, and the stack is within the bound.
     #[tactic(auto, unfolding(crate::specs::States::is_state))]
     pub fn is_state(&self, state: &State) -> bool
         ensures { result ≡ is_state self.now state.now }

@@ -1,8 +1,8 @@
 //! Codes: what stands in a code, and which codes have a file.
 //!
 //! A code declares tables, indexes, lists of indexes, constants and filters (`Declared`), and has procedures, maps and
-//! instructions. `Code::is_legal` tests what each code file keeps; the definition is `is_code` of `specs/Legal.antt`. What
-//! instructions take, give and leave is defined a crate higher.
+//! instructions. `Code::is_legal` tests what each code file keeps; the definition is `is_code` of `specs/Legal.antt`.
+//! What instructions take, give and leave is defined a crate higher.
 //!
 //! A new instruction is a case of its group in `instr.rt` and a line in `specs/Instrs.antt`.
 #![tactic(auto)]

@@ -1,5 +1,6 @@
 -- The bytes of instructions, and reading them.
-use Rattle.std.specs.Prelude.{ℕ, List, ◌∷◌, ◌++◌, Bool, ◌&&◌, ◌==◌, nat_lt, if◌then◌else◌, Option, Some, None, option_map}
+use Rattle.std.specs.Prelude.{ℕ, List, ◌∷◌, ◌++◌, Bool, ◌&&◌, ◌==◌, nat_lt, if◌then◌else◌, Option, Some, None}
+use Rattle.std.specs.Prelude.{option_map}
 use Rattle.std.specs.Option.{option_and_then}
 use Rattle.std.specs.Int.{w16, w32, to_le_bytes}
 use Rattle.xvalue.specs.declared.kind.Kind.{Kind}
@@ -10,7 +11,8 @@ use Rattle.xvalue.specs.declared.settings.Setting.TheVariants.{Exact, Deleted, C
 use Rattle.code_items.specs.declared.instr.Question.{Question}
 use Rattle.code_items.specs.declared.instr.Question.TheVariants.{Recno, Reccount, Eof, Bof, Found, Deleted as IsDeleted}
 use Rattle.code_items.specs.declared.instr.ValueInstr.{ValueInstr}
-use Rattle.code_items.specs.declared.instr.ValueInstr.TheVariants.{Constant, Load, Store, Unset, Discard, Function, Today, Set}
+use Rattle.code_items.specs.declared.instr.ValueInstr.TheVariants.{Constant, Load, Store, Unset, Discard, Function}
+use Rattle.code_items.specs.declared.instr.ValueInstr.TheVariants.{Today, Set}
 use Rattle.code_items.specs.declared.instr.FlowInstr.{FlowInstr}
 use Rattle.code_items.specs.declared.instr.FlowInstr.TheVariants.{Jump, JumpFalse, Call, Return, End}
 use Rattle.code_items.specs.declared.instr.ScreenInstr.{ScreenInstr}
@@ -20,7 +22,8 @@ use Rattle.code_items.specs.declared.instr.AreaInstr.TheVariants.{Open, Close, C
 use Rattle.code_items.specs.declared.instr.MoveInstr.{MoveInstr}
 use Rattle.code_items.specs.declared.instr.MoveInstr.TheVariants.{Top, Bottom, Skip, Go, Seek}
 use Rattle.code_items.specs.declared.instr.RecordInstr.{RecordInstr}
-use Rattle.code_items.specs.declared.instr.RecordInstr.TheVariants.{Field, RowField, Ask, Append, Replace, Delete, Recall, Pack, Zap, Reindex, Index}
+use Rattle.code_items.specs.declared.instr.RecordInstr.TheVariants.{Field, RowField, Ask, Append, Replace, Delete}
+use Rattle.code_items.specs.declared.instr.RecordInstr.TheVariants.{Recall, Pack, Zap, Reindex, Index}
 use Rattle.code_items.specs.declared.instr.Instr.{Instr}
 use Rattle.code_items.specs.declared.instr.Instr.TheVariants.{Values, Flow, Screen, Areas, Moves, Records}
 use Rattle.code_items.specs.Instrs.{is_instr}
@@ -144,10 +147,12 @@ abbrev pub shown_kind : (Kind → ScreenInstr) → ℕ → Option Instr
 shown_kind make byte = option_map (λ kind. Screen (make kind)) (kind_of_byte byte)
 
 abbrev pub asked : ℕ → Option Instr
-asked byte = if byte == 7 then Some (Values Today) else option_map (λ question. Records (Ask question)) (question_of_byte byte)
+asked byte = if byte == 7 then Some (Values Today)
+    else option_map (λ question. Records (Ask question)) (question_of_byte byte)
 
 abbrev pub set_to : ℕ → ℕ → Option Instr
-set_to setting on = option_and_then (λ s. option_map (λ t. Values (Set s t)) (truth_of_byte on)) (setting_of_byte setting)
+set_to setting on =
+    option_and_then (λ s. option_map (λ t. Values (Set s t)) (truth_of_byte on)) (setting_of_byte setting)
 
 unfoldable pub low_instr : Parts → Option Instr
 low_instr p =
@@ -223,4 +228,6 @@ unfoldable pub instr_from : Version → Parts → Judged Instr
 instr_from version p = there Operation (any_instr p) (λ i. wanted Operation (is_just version p i) i)
 
 unfoldable pub instr_read_at : Version → Reader (Judged Instr)
-instr_read_at version = made_at (pair_at (sure byte_at) (pair_at (sure byte_at) (pair_at (sure (number_at w16)) (sure (number_at w32))))) (λ p. instr_from version (of_parts p.0 p.1.0 p.1.1.0 p.1.1.1))
+instr_read_at version = made_at (pair_at (sure byte_at)
+    (pair_at (sure byte_at) (pair_at (sure (number_at w16)) (sure (number_at w32)))))
+    (λ p. instr_from version (of_parts p.0 p.1.0 p.1.1.0 p.1.1.1))

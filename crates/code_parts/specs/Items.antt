@@ -1,10 +1,12 @@
--- Reading each item: what its bytes say, or its first flaw. What an item says of others, as a list of its indexes, isn't
--- judged here.
-use Rattle.std.specs.Prelude.{ℕ, ◌-◌, ◌^◌, List, length, reverse, Bool, true, false, ◌&&◌, ◌||◌, ◌==◌, nat_lt, nat_le, if◌then◌else◌, Option, Some, None, Ok, Err}
+-- Reading each item: what its bytes say, or its first flaw. What an item says of others, as a list of its indexes,
+-- isn't judged here.
+use Rattle.std.specs.Prelude.{ℕ, ◌-◌, ◌^◌, List, length, reverse, Bool, true, false, ◌&&◌, ◌||◌, ◌==◌, nat_lt, nat_le}
+use Rattle.std.specs.Prelude.{if◌then◌else◌, Option, Some, None, Ok, Err}
 use Rattle.std.specs.Int.{w16, w64}
 use Rattle.arrayvec.specs.ArrayVec.{ArrayVec}
 use Rattle.xvalue.specs.declared.kind.Kind.{Kind}
-use Rattle.xvalue.specs.declared.kind.Kind.TheVariants.{Number as OfNumber, Text as OfText, Date as OfDate, Logical as OfLogical}
+use Rattle.xvalue.specs.declared.kind.Kind.TheVariants.{Number as OfNumber, Text as OfText, Date as OfDate}
+use Rattle.xvalue.specs.declared.kind.Kind.TheVariants.{Logical as OfLogical}
 use Rattle.calendar.specs.declared.day.DayParts.{DayParts}
 use Rattle.calendar.specs.Calendar.{is_day}
 use Rattle.xvalue.specs.declared.value.Value.{Value}
@@ -27,7 +29,8 @@ use Rattle.code_items.specs.declared.code.Map.{Map}
 use Rattle.code_items.specs.States.{may_be_unsure}
 use Rattle.code_parts.specs.declared.flaw.Flaw.{Flaw}
 use Rattle.code_parts.specs.declared.flaw.Flaw.TheVariants.{Limit, Shape}
-use Rattle.code_parts.specs.Reading.{Reader, ◌>>=◌, give, byte_at, number_at, text_at, Judged, several, sure, pair_at, made_at, counted_at, by_byte}
+use Rattle.code_parts.specs.Reading.{Reader, ◌>>=◌, give, byte_at, number_at, text_at, Judged, several, sure, pair_at}
+use Rattle.code_parts.specs.Reading.{made_at, counted_at, by_byte}
 
 -- this flaw, unless the test holds
 abbrev pub wanted : {A : Type 0} → Flaw → Bool → A → Judged A
@@ -71,10 +74,12 @@ unfoldable pub name_at : Reader (Judged (ArrayVec ℕ))
 name_at = made_at (sure text_at) name_from
 
 abbrev pub field_from : ArrayVec ℕ → ℕ → ℕ → ℕ → Judged Field
-field_from name letter width decimals = there Shape (letter_of letter) (λ l. Ok (record { name = name; letter = l; width = width; decimals = decimals }))
+field_from name letter width decimals =
+    there Shape (letter_of letter) (λ l. Ok (record { name = name; letter = l; width = width; decimals = decimals }))
 
 unfoldable pub field_at : Reader (Judged Field)
-field_at = made_at (pair_at name_at (pair_at (sure byte_at) (pair_at (sure byte_at) (sure byte_at)))) (λ p. field_from p.0 p.1.0 p.1.1.0 p.1.1.1)
+field_at = made_at (pair_at name_at (pair_at (sure byte_at) (pair_at (sure byte_at) (sure byte_at))))
+    (λ p. field_from p.0 p.1.0 p.1.1.0 p.1.1.1)
 
 unfoldable pub table_at : Reader (Judged TableShape)
 table_at = made_at (pair_at name_at (counted_at field_at)) (λ p. Ok (record { name = p.0; fields = p.1 }))
@@ -86,7 +91,8 @@ unfoldable pub part_at : Reader (Judged KeyPart)
 part_at = made_at (pair_at (sure byte_at) (sure byte_at)) (λ p. part_from p.0 p.1)
 
 abbrev pub index_from : ArrayVec ℕ → ℕ → List KeyPart → Judged IndexShape
-index_from name table parts = wanted Shape (nat_le (length parts) 8) (record { name = name; table = table; key = parts })
+index_from name table parts =
+    wanted Shape (nat_le (length parts) 8) (record { name = name; table = table; key = parts })
 
 unfoldable pub index_at : Reader (Judged IndexShape)
 index_at = made_at (pair_at name_at (pair_at (sure byte_at) (counted_at part_at))) (λ p. index_from p.0 p.1.0 p.1.1)
@@ -101,20 +107,25 @@ list_at = made_at (sure text_at) list_from
 
 -- decimals, sign and digits of a number: in range, and zero without a sign
 abbrev pub is_number : ℕ → ℕ → ℕ → Bool
-is_number decimals sign magnitude = nat_le decimals 15 && nat_lt magnitude (10 ^ 19) && (sign == 0 || (sign == 1 && nat_lt 0 magnitude))
+is_number decimals sign magnitude =
+    nat_le decimals 15 && nat_lt magnitude (10 ^ 19) && (sign == 0 || (sign == 1 && nat_lt 0 magnitude))
 
 abbrev pub decimal_from : ℕ → ℕ → ℕ → Judged Value
-decimal_from decimals sign magnitude = wanted Shape (is_number decimals sign magnitude) (Number (finite (signed (sign == 1) magnitude) decimals))
+decimal_from decimals sign magnitude =
+    wanted Shape (is_number decimals sign magnitude) (Number (finite (signed (sign == 1) magnitude) decimals))
 
 unfoldable pub decimal_at : Reader (Judged Value)
-decimal_at = made_at (pair_at (sure byte_at) (pair_at (sure byte_at) (sure (number_at w64)))) (λ p. decimal_from p.0 p.1.0 p.1.1)
+decimal_at =
+    made_at (pair_at (sure byte_at) (pair_at (sure byte_at) (sure (number_at w64)))) (λ p. decimal_from p.0 p.1.0 p.1.1)
 
 -- the blank date, or a day that the calendar has
 abbrev pub date_from : DayParts → Judged Value
-date_from parts = if parts.year == 0 && parts.month == 0 && parts.day == 0 then Ok (Date None) else wanted Shape (is_day parts) (Date (Some parts))
+date_from parts = if parts.year == 0 && parts.month == 0
+    && parts.day == 0 then Ok (Date None) else wanted Shape (is_day parts) (Date (Some parts))
 
 unfoldable pub date_at : Reader (Judged Value)
-date_at = made_at (pair_at (sure (number_at w16)) (pair_at (sure byte_at) (sure byte_at))) (λ p. date_from (record { year = p.0; month = p.1.0; day = p.1.1 }))
+date_at = made_at (pair_at (sure (number_at w16)) (pair_at (sure byte_at) (sure byte_at)))
+    (λ p. date_from (record { year = p.0; month = p.1.0; day = p.1.1 }))
 
 abbrev pub text_from : List ℕ → Judged Value
 text_from bytes = wanted Shape (nat_le (length bytes) 254) (Text (record { items = bytes }))
@@ -154,7 +165,8 @@ needs_at = do
   several need_at count
 
 unfoldable pub filter_at : Reader (Judged Filter)
-filter_at = made_at (pair_at (sure byte_at) (pair_at (sure (number_at w16)) needs_at)) (λ p. Ok (record { table = p.0; length = p.1.0; needs = p.1.1 }))
+filter_at = made_at (pair_at (sure byte_at) (pair_at (sure (number_at w16)) needs_at))
+    (λ p. Ok (record { table = p.0; length = p.1.0; needs = p.1.1 }))
 
 -- ---- states, procedures and maps
 
@@ -162,7 +174,8 @@ abbrev pub open_from : ℕ → ℕ → ℕ → ℕ → AreaState
 open_from byte list order filter = Open (record { table = byte - 1; list = list; order = order; filter = filter })
 
 unfoldable pub open_at : ℕ → Reader (Judged AreaState)
-open_at byte = made_at (pair_at (sure byte_at) (pair_at (sure byte_at) (sure byte_at))) (λ p. Ok (open_from byte p.0 p.1.0 p.1.1))
+open_at byte =
+    made_at (pair_at (sure byte_at) (pair_at (sure byte_at) (sure byte_at))) (λ p. Ok (open_from byte p.0 p.1.0 p.1.1))
 
 -- in version one 255 is a table's number as any other
 abbrev pub area_behind : Version → ℕ → Reader (Judged AreaState)
@@ -174,17 +187,27 @@ unfoldable pub area_at : Version → Reader (Judged AreaState)
 area_at version = by_byte (area_behind version)
 
 abbrev pub state_from : ℕ → List AreaState → List (Option Kind) → List Kind → State
-state_from selected areas slots kinds = record { desk = record { selected = selected; areas = areas }; slots = slots; stack = reverse kinds }
+state_from selected areas slots kinds =
+    record { desk = record { selected = selected; areas = areas }; slots = slots; stack = reverse kinds }
 
 -- the top of the stack stands last
 unfoldable pub state_read_at : Version → ℕ → Reader (Judged State)
-state_read_at version slots = made_at (pair_at (sure byte_at) (pair_at (several (area_at version) 10) (pair_at (several slot_at slots) (counted_at kind_at)))) (λ p. Ok (state_from p.0 p.1.0 p.1.1.0 p.1.1.1))
+state_read_at version slots =
+    made_at (pair_at (sure byte_at)
+    (pair_at (several (area_at version) 10) (pair_at (several slot_at slots) (counted_at kind_at))))
+    (λ p. Ok (state_from p.0 p.1.0 p.1.1.0 p.1.1.1))
 
 abbrev pub level_from : ℕ → Judged ℕ
 level_from level = wanted Limit (nat_le level 20) level
 
 unfoldable pub procedure_at : Version → ℕ → Reader (Judged Proc)
-procedure_at version slots = made_at (pair_at (sure (number_at w16)) (pair_at (made_at (sure byte_at) level_from) (pair_at (state_read_at version slots) (state_read_at version slots)))) (λ p. Ok (record { length = p.0; level = p.1.0; entry = p.1.1.0; exit = p.1.1.1 }))
+procedure_at version slots =
+    made_at (pair_at (sure (number_at w16))
+    (pair_at (made_at (sure byte_at) level_from)
+    (pair_at (state_read_at version slots) (state_read_at version slots))))
+    (λ p. Ok (record { length = p.0; level = p.1.0; entry = p.1.1.0; exit = p.1.1.1 }))
 
 unfoldable pub map_read_at : Version → ℕ → Reader (Judged Map)
-map_read_at version slots = made_at (pair_at (sure (number_at w16)) (state_read_at version slots)) (λ p. Ok (record { place = p.0; state = p.1 }))
+map_read_at version slots =
+    made_at (pair_at (sure (number_at w16)) (state_read_at version slots))
+    (λ p. Ok (record { place = p.0; state = p.1 }))

@@ -1,5 +1,6 @@
 -- What holds of the reader of an item whose texts are known.
-use Rattle.std.specs.Prelude.{◌≡◌, ◌<◌, ◌≤◌, ℕ, List, ◌++◌, ◌+◌, ◌^◌, length, slice_index, true, false, ◌&&◌, ◌==◌, Some, Ok}
+use Rattle.std.specs.Prelude.{◌≡◌, ◌<◌, ◌≤◌, ℕ, List, ◌++◌, ◌+◌, ◌^◌, length, slice_index, true, false, ◌&&◌, ◌==◌}
+use Rattle.std.specs.Prelude.{Some, Ok}
 use Rattle.std.specs.List.{AllByRecursion}
 use Rattle.arrayvec.specs.ArrayVec.{ArrayVec}
 use Rattle.dbf_file.specs.declared.field.Field.{Field}
@@ -32,7 +33,8 @@ pub record Spells {X : Type 0} (r : Reader (Judged X)) (text : X → List ℕ) (
   -- what is written is read
   pub again : (x : X) (rest : List ℕ) → IsLegal x → r (text x ++ rest) ≡ Some (Ok x, rest)
   -- what is read was written
-  pub takes : (bytes rest : List ℕ) (x : X) → AreBytes bytes → r bytes ≡ Some (Ok x, rest) → (bytes ≡ text x ++ rest) × IsRead x
+  pub takes : (bytes rest : List ℕ) (x : X) → AreBytes bytes → r bytes ≡ Some (Ok x, rest) → (bytes ≡ text x ++ rest)
+      × IsRead x
   pub steady : IsSteady r
 
 -- ---- which items have texts that are read: those that their types can hold

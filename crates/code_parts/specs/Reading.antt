@@ -1,5 +1,6 @@
 -- Reading at the front of bytes: what stands there and the bytes behind it, or none where bytes of it are missing.
-use Rattle.std.specs.Prelude.{◌≡◌, ℕ, zero, suc, List, [], ◌∷◌, ◌++◌, length, take, drop, nat_lt, if◌then◌else◌, Option, Some, None, Result, Ok, Err}
+use Rattle.std.specs.Prelude.{◌≡◌, ℕ, zero, suc, List, [], ◌∷◌, ◌++◌, length, take, drop, nat_lt, if◌then◌else◌, Option}
+use Rattle.std.specs.Prelude.{Some, None, Result, Ok, Err}
 use Rattle.std.specs.Global.{Vec}
 use Rattle.std.specs.Int.{Width, byte_len, from_le_bytes}
 use Rattle.code_parts.specs.declared.flaw.Flaw.{Flaw}
@@ -46,7 +47,8 @@ bytes_at n bytes = if nat_lt (length bytes) n then None else Some (take n bytes,
 
 -- a number in the bytes of this width, the lowest first
 abbrev pub number_at : Width → Reader ℕ
-number_at w bytes = if nat_lt (length bytes) (byte_len w) then None else Some (from_le_bytes w (take (byte_len w) bytes), drop (byte_len w) bytes)
+number_at w bytes = if nat_lt (length bytes) (byte_len w) then None
+    else Some (from_le_bytes w (take (byte_len w) bytes), drop (byte_len w) bytes)
 
 -- a byte that says how many follow, and those
 abbrev pub text_at : Reader (List ℕ)

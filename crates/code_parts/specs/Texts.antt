@@ -1,10 +1,12 @@
 -- The text of each item of a code file. Numbers are written with their lowest byte first.
-use Rattle.std.specs.Prelude.{ℕ, suc, ◌+◌, pos, negsuc, List, [], ◌∷◌, ◌++◌, length, reverse, Option, Some, None, Bool, true, false}
+use Rattle.std.specs.Prelude.{ℕ, suc, ◌+◌, pos, negsuc, List, [], ◌∷◌, ◌++◌, length, reverse, Option, Some, None, Bool}
+use Rattle.std.specs.Prelude.{true, false}
 use Rattle.std.specs.Int.{w16, w64, to_le_bytes}
 use Rattle.std.specs.List.{flat_map}
 use Rattle.arrayvec.specs.ArrayVec.{ArrayVec}
 use Rattle.xvalue.specs.declared.kind.Kind.{Kind}
-use Rattle.xvalue.specs.declared.kind.Kind.TheVariants.{Number as OfNumber, Text as OfText, Date as OfDate, Logical as OfLogical}
+use Rattle.xvalue.specs.declared.kind.Kind.TheVariants.{Number as OfNumber, Text as OfText, Date as OfDate}
+use Rattle.xvalue.specs.declared.kind.Kind.TheVariants.{Logical as OfLogical}
 use Rattle.calendar.specs.declared.day.DayParts.{DayParts}
 use Rattle.xvalue.specs.declared.value.Value.{Value}
 use Rattle.xvalue.specs.declared.value.Value.TheVariants.{Number, Text, Date, Logical}
@@ -137,7 +139,9 @@ area_text area = area_number area ∷ open_text area
 
 -- the selected work area, the work areas, the slots, and the stack's height and kinds, the top last
 abbrev pub state_text : State → List ℕ
-state_text s = s.desk.selected ∷ (flat_map area_text s.desk.areas ++ (flat_map slot_text s.slots ++ (length s.stack ∷ flat_map kind_text (reverse s.stack))))
+state_text s = s.desk.selected
+    ∷ (flat_map area_text s.desk.areas
+    ++ (flat_map slot_text s.slots ++ (length s.stack ∷ flat_map kind_text (reverse s.stack))))
 
 -- the length of the block, the level, and the states at entry and exit
 abbrev pub procedure_text : Proc → List ℕ

@@ -51,7 +51,8 @@ fn needs_of(alloc: Global, bytes: &[u8]) -> Result<(Result<Vec<Need>, Flaw>, &[u
 }
 
 fn filter_from(table: u8, length: u16, needs: Result<Vec<Need>, Flaw>) -> Result<Filter, Flaw>
-    ensures { result ≡ judge (both (Ok table) (both (Ok length) (in_list needs))) (λ p. Ok (record { table = p.0; length = p.1.0; needs = p.1.1 })) }
+    ensures { result ≡ judge (both (Ok table) (both (Ok length) (in_list needs)))
+        (λ p. Ok (record { table = p.0; length = p.1.0; needs = p.1.1 })) }
 {
     let needs = needs?;
     Ok(Filter {

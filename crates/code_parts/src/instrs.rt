@@ -2,7 +2,11 @@
 
 ghost use Rattle.std.specs.Prelude.{◌≡◌};
 ghost use Rattle.code_parts.specs.Items.{truth_of_byte};
-ghost use Rattle.code_parts.specs.Instructions.{setting_of_byte, question_of_byte, asked as asked_by, set_to as set_by, low_instr as low_instr_of, flow_instr as flow_instr_of, area_instr as area_instr_of, record_instr as record_instr_of, screen_instr as screen_instr_of, any_instr as any_instr_of, instr_from as instr_from_parts, instr_read_at};
+ghost use Rattle.code_parts.specs.Instructions.{setting_of_byte, question_of_byte, asked as asked_by, set_to as set_by};
+ghost use Rattle.code_parts.specs.Instructions.{low_instr as low_instr_of, flow_instr as flow_instr_of};
+ghost use Rattle.code_parts.specs.Instructions.{area_instr as area_instr_of, record_instr as record_instr_of};
+ghost use Rattle.code_parts.specs.Instructions.{screen_instr as screen_instr_of, any_instr as any_instr_of};
+ghost use Rattle.code_parts.specs.Instructions.{instr_from as instr_from_parts, instr_read_at};
 
 use crate::fields::{byte_of, four_of, two_of};
 use crate::flaw::{Flaw, Unread};

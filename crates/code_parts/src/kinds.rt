@@ -2,7 +2,8 @@
 
 ghost use Rattle.std.specs.Prelude.{◌≡◌};
 ghost use Rattle.code_parts.specs.Texts.{kind_number, slot_number, truth_number};
-ghost use Rattle.code_parts.specs.Items.{kind_of_byte, kind_from as kind_from_byte, slot_from as slot_from_byte, truth_of_byte, kind_at, slot_at};
+ghost use Rattle.code_parts.specs.Items.{kind_of_byte, kind_from as kind_from_byte, slot_from as slot_from_byte};
+ghost use Rattle.code_parts.specs.Items.{truth_of_byte, kind_at, slot_at};
 
 use crate::fields::byte_of;
 use crate::flaw::{Flaw, Unread};

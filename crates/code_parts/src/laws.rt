@@ -4,21 +4,25 @@ ghost use Rattle.std.specs.Prelude.{ℕ, ◌<◌, ◌^◌};
 ghost use Rattle.std.specs.Int.{w16, w32, to_le_bytes};
 ghost use Rattle.code_parts.specs.Reading.{number_at, sure};
 ghost use Rattle.code_items.specs.declared.declared.Version.{Version as AnyVersion};
-ghost use Rattle.code_parts.specs.Items.{table_at, index_at, list_at, constant_at, filter_at, procedure_at, map_read_at};
+ghost use Rattle.code_parts.specs.Items.{table_at, index_at, list_at, constant_at, filter_at, procedure_at};
+ghost use Rattle.code_parts.specs.Items.{map_read_at};
 ghost use Rattle.code_parts.specs.Instructions.{instr_read_at, instr_text};
-ghost use Rattle.code_parts.specs.Texts.{table_text, index_text, list_text, constant_text, filter_text, procedure_text, map_text};
-ghost use Rattle.code_parts.specs.Laws.{Spells, Any, TableFits, IndexFits, ListFits, IsLegalConstant, FilterFits, ProcedureFits, MapFits, IsLegalInstr};
+ghost use Rattle.code_parts.specs.Texts.{table_text, index_text, list_text, constant_text, filter_text, procedure_text};
+ghost use Rattle.code_parts.specs.Texts.{map_text};
+ghost use Rattle.code_parts.specs.Laws.{Spells, Any, TableFits, IndexFits, ListFits, IsLegalConstant, FilterFits};
+ghost use Rattle.code_parts.specs.Laws.{ProcedureFits, MapFits, IsLegalInstr};
 
 use xvalue::laws::functions_have_their_numbers;
 
-/// Numbers that fit are read from their two or four bytes, and what is read of one fits and stays where bytes are appended.
+/// Numbers that fit are read from their two or four bytes, and what is read of one fits and stays where bytes are
+/// appended.
 pub fn numbers_are_spelled()
     ensures two { Spells (sure (number_at w16)) (to_le_bytes w16) (λ n. n < 2 ^ 16) (λ n. n < 2 ^ 16) }
     ensures four { Spells (sure (number_at w32)) (to_le_bytes w32) (λ n. n < 2 ^ 32) (λ n. n < 2 ^ 32) }
 {}
 
-/// Tables, indexes and lists of indexes that their types can hold are read from their texts, and what is read of one stays
-/// where bytes are appended.
+/// Tables, indexes and lists of indexes that their types can hold are read from their texts, and what is read of one
+/// stays where bytes are appended.
 pub fn declarations_are_spelled()
     ensures tables { Spells table_at table_text TableFits Any }
     ensures indexes { Spells index_at index_text IndexFits Any }
@@ -33,13 +37,16 @@ pub fn constants_and_filters_are_spelled()
 
 /// Procedures and maps with states of a version of so many slots likewise.
 pub fn procedures_and_maps_are_spelled()
-    ensures procedures { (version : AnyVersion) (slots : ℕ) → Spells (procedure_at version slots) procedure_text (ProcedureFits version slots) Any }
-    ensures maps { (version : AnyVersion) (slots : ℕ) → Spells (map_read_at version slots) map_text (MapFits version slots) Any }
+    ensures procedures { (version : AnyVersion) (slots : ℕ)
+        → Spells (procedure_at version slots) procedure_text (ProcedureFits version slots) Any }
+    ensures maps { (version : AnyVersion) (slots : ℕ)
+        → Spells (map_read_at version slots) map_text (MapFits version slots) Any }
 {}
 
 /// Legal instructions of a version likewise; an instruction that is read is legal.
 pub fn instructions_are_spelled()
-    ensures { (version : AnyVersion) → Spells (instr_read_at version) instr_text (IsLegalInstr version) (IsLegalInstr version) }
+    ensures { (version : AnyVersion)
+        → Spells (instr_read_at version) instr_text (IsLegalInstr version) (IsLegalInstr version) }
 {
     functions_have_their_numbers();
 }

@@ -2,7 +2,9 @@
 
 ghost use Rattle.std.specs.Prelude.{◌≡◌};
 ghost use Rattle.code_parts.specs.Texts.{kind_number, truth_number};
-ghost use Rattle.code_parts.specs.Instructions.{setting_number, question_number, parts_of_values, parts_of_flow, parts_of_screen, parts_of_areas, parts_of_moves, parts_of_records, parts_of, same_parts};
+ghost use Rattle.code_parts.specs.Instructions.{setting_number, question_number, parts_of_values, parts_of_flow};
+ghost use Rattle.code_parts.specs.Instructions.{parts_of_screen, parts_of_areas, parts_of_moves, parts_of_records};
+ghost use Rattle.code_parts.specs.Instructions.{parts_of, same_parts};
 
 use crate::kinds::number_of_kind;
 use code_items::{

@@ -26,7 +26,8 @@ fn procedure_from(
     entry: Result<State, Flaw>,
     exit: Result<State, Flaw>,
 ) -> Result<Proc, Flaw>
-    ensures { result ≡ judge (both (Ok length) (both level (both entry exit))) (λ p. Ok (record { length = p.0; level = p.1.0; entry = p.1.1.0; exit = p.1.1.1 })) }
+    ensures { result ≡ judge (both (Ok length) (both level (both entry exit)))
+        (λ p. Ok (record { length = p.0; level = p.1.0; entry = p.1.1.0; exit = p.1.1.1 })) }
 {
     let level = level?;
     let entry = entry?;

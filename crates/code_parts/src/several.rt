@@ -15,7 +15,8 @@ pub trait Reads {
 
     ghost at: { Self → List ℕ → Option (Result Self.Thing OneFlaw × List ℕ) };
 
-    /// The thing at the front, or its first flaw, and the bytes behind it. `Short` is told where bytes of it are missing.
+    /// The thing at the front, or its first flaw, and the bytes behind it. `Short` is told where bytes of it are
+    /// missing.
     fn read<'a>(
         &self,
         alloc: Global,

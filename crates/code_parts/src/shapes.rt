@@ -2,7 +2,10 @@
 
 ghost use Rattle.std.specs.Prelude.{◌≡◌, Ok};
 ghost use Rattle.code_parts.specs.Reading.{Gives, judge, both, in_list};
-ghost use Rattle.code_parts.specs.Items.{name_from as name_from_bytes, name_at, field_from as field_from_parts, field_at, table_at, part_from as part_from_parts, part_at, index_from as index_from_parts, index_at, list_from as list_from_bytes, list_at};
+ghost use Rattle.code_parts.specs.Items.{name_from as name_from_bytes, name_at, field_from as field_from_parts};
+ghost use Rattle.code_parts.specs.Items.{field_at, table_at, part_from as part_from_parts, part_at};
+ghost use Rattle.code_parts.specs.Items.{index_from as index_from_parts, index_at, list_from as list_from_bytes};
+ghost use Rattle.code_parts.specs.Items.{list_at};
 
 use crate::fields::{byte_of, counted_text};
 use crate::flaw::{Flaw, Unread};
@@ -33,7 +36,8 @@ fn name_of(bytes: &[u8]) -> Result<(Result<Name, Flaw>, &[u8]), Unread>
 }
 
 fn field_from(name: Result<Name, Flaw>, letter: u8, width: u8, decimals: u8) -> Result<Field, Flaw>
-    ensures { result ≡ judge (both name (both (Ok letter) (both (Ok width) (Ok decimals)))) (λ p. field_from_parts p.0 p.1.0 p.1.1.0 p.1.1.1) }
+    ensures { result ≡ judge (both name (both (Ok letter) (both (Ok width) (Ok decimals))))
+        (λ p. field_from_parts p.0 p.1.0 p.1.1.0 p.1.1.1) }
 {
     let name = name?;
     match Letter::of_code(letter) {

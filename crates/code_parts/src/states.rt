@@ -3,7 +3,8 @@
 ghost use Rattle.std.specs.Prelude.{◌≡◌, ◌<◌, Ok};
 ghost use Rattle.code_items.specs.States.{may_be_unsure as may_be_unsure_in};
 ghost use Rattle.code_parts.specs.Reading.{Gives, judge, both, in_list};
-ghost use Rattle.code_parts.specs.Items.{open_from as open_from_parts, open_at, area_at, state_from as state_from_parts, state_read_at};
+ghost use Rattle.code_parts.specs.Items.{open_from as open_from_parts, open_at, area_at};
+ghost use Rattle.code_parts.specs.Items.{state_from as state_from_parts, state_read_at};
 
 use crate::fields::byte_of;
 use crate::flaw::{Flaw, Unread};
@@ -80,7 +81,8 @@ fn state_from(
     slots: Result<Vec<Option<Kind>>, Flaw>,
     kinds: Result<Vec<Kind>, Flaw>,
 ) -> Result<State, Flaw>
-    ensures { result ≡ judge (both (Ok selected) (both (in_list areas) (both (in_list slots) (in_list kinds)))) (λ p. Ok (state_from_parts p.0 p.1.0 p.1.1.0 p.1.1.1)) }
+    ensures { result ≡ judge (both (Ok selected) (both (in_list areas) (both (in_list slots) (in_list kinds))))
+        (λ p. Ok (state_from_parts p.0 p.1.0 p.1.1.0 p.1.1.1)) }
 {
     let areas = areas?;
     let slots = slots?;

@@ -1,5 +1,6 @@
 -- Blocks, maps, and what is known before each place of a code.
-use Rattle.std.specs.Prelude.{ℕ, zero, suc, ◌+◌, ◌-◌, Bool, true, false, ◌==◌, nat_lt, List, [], ◌∷◌, ◌++◌, Option, Some, None, if◌then◌else◌, length, map, replicate, slice_get, slice_set, slice_index_or}
+use Rattle.std.specs.Prelude.{ℕ, zero, suc, ◌+◌, ◌-◌, Bool, true, false, ◌==◌, nat_lt, List, [], ◌∷◌, ◌++◌, Option}
+use Rattle.std.specs.Prelude.{Some, None, if◌then◌else◌, length, map, replicate, slice_get, slice_set, slice_index_or}
 use Rattle.xvalue.specs.declared.kind.Kind.{Kind}
 use Rattle.code_items.specs.declared.declared.Need.{Need}
 use Rattle.code_items.specs.declared.declared.Filter.{Filter}
@@ -24,7 +25,8 @@ instr_at code place = slice_index_or code.instructions place (Flow End)
 -- the block that a place is in, of blocks of these lengths: the next one has this number and begins at this place
 abbrev pub block_from : ℕ → ℕ → List ℕ → ℕ → Block
 block_from number first [] place = record { number = number; first = first; end = first }
-block_from number first (n ∷ ns) place = if nat_lt place (first + n) then record { number = number; first = first; end = first + n } else block_from (number + 1) (first + n) ns place
+block_from number first (n ∷ ns) place = if nat_lt place (first + n)
+    then record { number = number; first = first; end = first + n } else block_from (number + 1) (first + n) ns place
 
 unfoldable pub block_at : Code → ℕ → Block
 block_at code place = block_from 0 0 (blocks_of code.procedures code.declared.filters) place
@@ -42,8 +44,8 @@ found_at place (Some m) = if m.place == place then Some m.state else None
 unfoldable pub map_at : Code → ℕ → Option State
 map_at code place = map_in code.maps place
 
--- what is known where a filter's block begins: work area 1 is selected and holds the filter's table without list, order and
--- filter, the others are closed, the slots that it needs have the kinds that it needs there, and the stack is empty
+-- what is known where a filter's block begins: work area 1 is selected and holds the filter's table without list, order
+-- and filter, the others are closed, the slots that it needs have the kinds that it needs there, and the stack is empty
 
 abbrev pub needed : List Need → List (Option Kind) → List (Option Kind)
 needed [] slots = slots
@@ -66,7 +68,8 @@ entry_of None None slots = nowhere
 
 -- what is known where the block of a number begins: the procedures' blocks come first
 unfoldable pub start_of : Code → ℕ → State
-start_of code number = entry_of (slice_get code.procedures number) (slice_get code.declared.filters (number - length code.procedures)) code.declared.slots
+start_of code number = entry_of (slice_get code.procedures number)
+    (slice_get code.declared.filters (number - length code.procedures)) code.declared.slots
 
 -- the state before a place: its map, else what is known where a block begins there, else what the place before leaves
 abbrev pub or_state : Option State → State → State
@@ -78,7 +81,9 @@ begun code block place left = if block.first == place then start_of code block.n
 
 unfoldable pub incoming_at : Code → ℕ → State
 incoming_at code zero = start_of code (block_at code zero).number
-incoming_at code (suc place) = begun code (block_at code (suc place)) (suc place) (flow code (instr_at code place) (or_state (map_at code place) (incoming_at code place)))
+incoming_at code (suc place) =
+    begun code (block_at code (suc place)) (suc place)
+    (flow code (instr_at code place) (or_state (map_at code place) (incoming_at code place)))
 
 unfoldable pub state_at : Code → ℕ → State
 state_at code place = or_state (map_at code place) (incoming_at code place)

@@ -1,5 +1,6 @@
 -- The rules at one place, and the codes that keep them everywhere.
-use Rattle.std.specs.Prelude.{◌≡◌, ◌<◌, ℕ, zero, suc, ◌+◌, ◌-◌, Bool, true, false, not, ◌||◌, ◌&&◌, ◌==◌, nat_lt, nat_le, if◌then◌else◌, List, [], ◌∷◌, Option, Some, None, is_none, length, slice_get}
+use Rattle.std.specs.Prelude.{◌≡◌, ◌<◌, ℕ, zero, suc, ◌+◌, ◌-◌, Bool, true, false, not, ◌||◌, ◌&&◌, ◌==◌, nat_lt}
+use Rattle.std.specs.Prelude.{nat_le, if◌then◌else◌, List, [], ◌∷◌, Option, Some, None, is_none, length, slice_get}
 use Rattle.std.specs.List.{list_any}
 use Rattle.xvalue.specs.declared.kind.Kind.{Kind}
 use Rattle.xvalue.specs.declared.kind.Kind.TheVariants.{Logical as OfLogical}
@@ -22,7 +23,8 @@ use Rattle.code_items.specs.Kinds.{clashes, same_kinds, kinds_covered, slots_cov
 use Rattle.code_items.specs.Declarations.{list_of, filter_of}
 use Rattle.code_items.specs.States.{is_list_of, is_filter_of, opened}
 use Rattle.code_items.specs.declared.instr.ValueInstr.{ValueInstr}
-use Rattle.code_items.specs.declared.instr.ValueInstr.TheVariants.{Constant, Load, Store, Unset, Discard, Function, Today, Set}
+use Rattle.code_items.specs.declared.instr.ValueInstr.TheVariants.{Constant, Load, Store, Unset, Discard, Function}
+use Rattle.code_items.specs.declared.instr.ValueInstr.TheVariants.{Today, Set}
 use Rattle.code_items.specs.declared.instr.FlowInstr.{FlowInstr}
 use Rattle.code_items.specs.declared.instr.FlowInstr.TheVariants.{Jump, JumpFalse, Call, Return, End}
 use Rattle.code_items.specs.declared.instr.ScreenInstr.{ScreenInstr}
@@ -32,19 +34,23 @@ use Rattle.code_items.specs.declared.instr.AreaInstr.TheVariants.{Open, Close, C
 use Rattle.code_items.specs.declared.instr.MoveInstr.{MoveInstr}
 use Rattle.code_items.specs.declared.instr.MoveInstr.TheVariants.{Top, Bottom, Skip, Go, Seek}
 use Rattle.code_items.specs.declared.instr.RecordInstr.{RecordInstr}
-use Rattle.code_items.specs.declared.instr.RecordInstr.TheVariants.{Field, RowField, Ask, Append, Replace, Delete, Recall, Pack, Zap, Reindex, Index}
+use Rattle.code_items.specs.declared.instr.RecordInstr.TheVariants.{Field, RowField, Ask, Append, Replace, Delete}
+use Rattle.code_items.specs.declared.instr.RecordInstr.TheVariants.{Recall, Pack, Zap, Reindex, Index}
 use Rattle.code_items.specs.declared.instr.Instr.{Instr}
 use Rattle.code_items.specs.declared.instr.Instr.TheVariants.{Values, Flow, Screen, Areas, Moves, Records}
 use Rattle.code_rules.specs.declared.blocks.Block.{Block}
 use Rattle.code_rules.specs.declared.rule.Rule.{Rule}
-use Rattle.code_rules.specs.declared.rule.Rule.TheVariants.{Kind as RuleKind, Unset as RuleUnset, ClosedArea, OtherTable, NoOrder, OpenTwice, StackUnder, StackOver, StackNotEmpty, Jump as RuleJump, Fall, CallLevel, Exit, Filter as RuleFilter, Constant as RuleConstant}
+use Rattle.code_rules.specs.declared.rule.Rule.TheVariants.{Kind as RuleKind, Unset as RuleUnset, ClosedArea}
+use Rattle.code_rules.specs.declared.rule.Rule.TheVariants.{OtherTable, NoOrder, OpenTwice, StackUnder, StackOver}
+use Rattle.code_rules.specs.declared.rule.Rule.TheVariants.{StackNotEmpty, Jump as RuleJump, Fall, CallLevel, Exit}
+use Rattle.code_rules.specs.declared.rule.Rule.TheVariants.{Filter as RuleFilter, Constant as RuleConstant}
 use Rattle.code_rules.specs.Signature.{signature, target_of, call_of, area_of}
 use Rattle.code_rules.specs.Wants.{wants, gives, unknown, fields_at}
 use Rattle.code_rules.specs.Flow.{flow}
 use Rattle.code_rules.specs.Places.{instr_at, block_at, map_at, start_of, state_at}
 
--- ---- what flows into a state is covered by it, as far as that state is known: the same selected work area, areas and stack,
--- and slots that are free in it or of the same kind
+-- ---- what flows into a state is covered by it, as far as that state is known: the same selected work area, areas and
+-- stack, and slots that are free in it or of the same kind
 
 abbrev pub slots_fail : Option State → State → Bool
 slots_fail None s = false
@@ -130,7 +136,8 @@ some_slots_fail code h =
     || (slots_fail (entered code h.instr) h.before || some_next code (λ t. slots_fail (map_at code t) h.after) h)
 
 abbrev pub kind_fails : Code → Here → Bool
-kind_fails code h = (clashes (wants code.declared h.before.desk h.instr) h.before.stack || loads_other h.before h.instr) || some_slots_fail code h
+kind_fails code h = (clashes (wants code.declared h.before.desk h.instr) h.before.stack || loads_other h.before h.instr)
+    || some_slots_fail code h
 
 -- a loaded slot may be unset
 
@@ -216,7 +223,8 @@ may_hold table Unsure = true
 -- the areas from this number on
 abbrev pub others_hold : ℕ → ℕ → ℕ → List AreaState → Bool
 others_hold table selected number [] = false
-others_hold table selected number (a ∷ areas) = (not (number == selected) && may_hold table a) || others_hold table selected (number + 1) areas
+others_hold table selected number (a ∷ areas) =
+    (not (number == selected) && may_hold table a) || others_hold table selected (number + 1) areas
 
 abbrev pub area_opens_twice : Desk → AreaInstr → Bool
 area_opens_twice desk (Open t l) = others_hold t desk.selected 1 desk.areas
@@ -246,7 +254,8 @@ abbrev pub some_stack_fails : Code → Here → Bool
 some_stack_fails code h =
     at_start (stack_fails 0 (map_at code h.place) (start_of code h.block.number)) h
     || (stack_fails 0 (entered code h.instr) h.before
-    || some_next code (λ t. stack_fails (unknown (gives code.declared h.before.desk h.instr)) (map_at code t) h.after) h)
+    || some_next code (λ t. stack_fails (unknown (gives code.declared h.before.desk h.instr))
+    (map_at code t) h.after) h)
 
 abbrev pub empty_fails : Code → Here → Bool
 empty_fails code h = leaves_values h || some_stack_fails code h
@@ -259,7 +268,8 @@ is_outside block place = nat_lt place block.first || nat_le block.end place
 abbrev pub jump_fails : Code → Here → Bool
 jump_fails code h = if_some (λ t. is_outside h.block t || is_none (map_at code t)) (target_of h.instr)
 
--- in a procedure its end may be run over, or behind an instruction that doesn't go on there is a place of it without a map
+-- in a procedure its end may be run over, or behind an instruction that doesn't go on there is a place of it without a
+-- map
 
 abbrev pub is_filters : Code → Block → Bool
 is_filters code block = nat_le (length code.procedures) block.number
@@ -283,7 +293,9 @@ not_below level None = false
 not_below level (Some p) = nat_le level p.level
 
 abbrev pub level_fails : Code → Here → Bool
-level_fails code h = not (is_filters code h.block) && if_some (λ n. not_below (level_of (slice_get code.procedures h.block.number)) (slice_get code.procedures n)) (call_of h.instr)
+level_fails code h = not (is_filters code h.block)
+    && if_some (λ n. not_below (level_of (slice_get code.procedures h.block.number)) (slice_get code.procedures n))
+    (call_of h.instr)
 
 -- in a procedure, a return from another state than its exit state covers
 
@@ -303,7 +315,8 @@ not_covered None s = false
 not_covered (Some p) s = not (covers p.exit s)
 
 abbrev pub exit_fails : Code → Here → Bool
-exit_fails code h = not (is_filters code h.block) && (returns h.instr && not_covered (slice_get code.procedures h.block.number) h.before)
+exit_fails code h = not (is_filters code h.block)
+    && (returns h.instr && not_covered (slice_get code.procedures h.block.number) h.before)
 
 -- a slot hasn't the kind that is needed there
 abbrev pub lacks : List (Option Kind) → Need → Bool
@@ -315,7 +328,8 @@ filter_lacks slots (Some f) = list_any (lacks slots) f.needs
 
 -- a move under a filter whose needs aren't met
 abbrev pub moves_blindly : Declared → State → Instr → Bool
-moves_blindly d s i = (signature i).moves && if_open (λ a. filter_lacks s.slots (filter_of d a.filter)) (selected_in s.desk)
+moves_blindly d s i =
+    (signature i).moves && if_open (λ a. filter_lacks s.slots (filter_of d a.filter)) (selected_in s.desk)
 
 abbrev pub record_is_rows : RecordInstr → Bool
 record_is_rows (RowField f) = true
@@ -362,7 +376,8 @@ is_truth (suc more) stack = length stack == 0
 
 -- at the last place of a filter's block something else than a truth value is left
 abbrev pub ends_untrue : Code → Here → Bool
-ends_untrue code h = h.block.end == h.place + 1 && not (is_truth (unknown (gives code.declared h.before.desk h.instr)) h.after.stack)
+ends_untrue code h =
+    h.block.end == h.place + 1 && not (is_truth (unknown (gives code.declared h.before.desk h.instr)) h.after.stack)
 
 abbrev pub filter_fails : Code → Here → Bool
 filter_fails code h =

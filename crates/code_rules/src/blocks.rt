@@ -2,14 +2,17 @@
 
 ghost use Rattle.std.specs.Prelude.{◌≡◌, ◌≤◌, ℕ, true, length, map, MatchOption, IfOk, None, Some, slice_get};
 ghost use Rattle.code_items.specs.Legal.{maps_rise, IsCode};
-ghost use Rattle.code_rules.specs.Places.{block_from, block_at as block_at_of, map_in, found_at, map_at as map_at_of, needed, filter_desk, filter_start as filter_start_of, nowhere as nowhere_at_all, start_of as start_of_block};
+ghost use Rattle.code_rules.specs.Places.{block_from, block_at as block_at_of, map_in, found_at, map_at as map_at_of};
+ghost use Rattle.code_rules.specs.Places.{needed, filter_desk, filter_start as filter_start_of};
+ghost use Rattle.code_rules.specs.Places.{nowhere as nowhere_at_all, start_of as start_of_block};
 
 use code_items::declared::{Filter, Need};
 use code_items::laws::legal_codes;
 use code_items::{AreaState, Code, Desk, Items, KindSlots, KindStack, Map, OpenArea, Proc, State};
 use std::alloc::{AllocError, Global};
 
-/// A block: its number, counted from 0, the procedures' before the filters'; its first place, and the place behind its last.
+/// A block: its number, counted from 0, the procedures' before the filters'; its first place, and the place behind its
+/// last.
 #[derive(Clone, Copy, PartialEq, Eq, Debug)]
 pub struct Block {
     pub number: usize,
@@ -92,7 +95,8 @@ fn place_of(maps: &[Map], place: usize) -> usize
 #[tactic(auto, unfolding(crate::specs::Places::map_at))]
 pub fn map_at(code: &Code, place: usize) -> Option<&State>
     requires { IsCode code.now }
-    ensures { MatchOption result (map_at_of code.now place ≡ None) (λ state. map_at_of code.now place ≡ Some state.now) }
+    ensures { MatchOption result (map_at_of code.now place ≡ None)
+        (λ state. map_at_of code.now place ≡ Some state.now) }
 {
     legal_codes();
     let maps = code.maps.as_slice();

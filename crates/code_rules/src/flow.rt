@@ -2,7 +2,8 @@
 
 ghost use Rattle.std.specs.Prelude.{◌≡◌, OnOk, slice_get};
 ghost use Rattle.code_items.specs.declared.desk.AreaState.TheVariants.{Open as IsOpen};
-ghost use Rattle.code_rules.specs.Flow.{just_opened, ordered, filtered, indexed, on_selected, desk_after_area, desk_after, slots_after as slots_after_of, left_by, exit_of, flow as flow_of};
+ghost use Rattle.code_rules.specs.Flow.{just_opened, ordered, filtered, indexed, on_selected, desk_after_area};
+ghost use Rattle.code_rules.specs.Flow.{desk_after, slots_after as slots_after_of, left_by, exit_of, flow as flow_of};
 
 use crate::kinds::gives;
 use crate::signature::{Signature, called};
@@ -63,7 +64,8 @@ fn change_area(instr: AreaInstr, desk: &mut Desk)
     }
 }
 
-/// Turns what is known of the work areas before the instruction, which calls no procedure, into what is known behind it.
+/// Turns what is known of the work areas before the instruction, which calls no procedure, into what is known behind
+/// it.
 pub fn change_desk(instr: Instr, desk: &mut Desk)
     ensures { desk.new ≡ desk_after instr desk.old }
 {

@@ -2,7 +2,11 @@
 
 ghost use Rattle.std.specs.Prelude.{◌≡◌, [], ◌∷◌, reverse, slice_get};
 ghost use Rattle.xvalue.specs.declared.kind.Kind.TheVariants.{Number};
-ghost use Rattle.code_rules.specs.Wants.{fields_at as fields_at_of, field_kind as field_kind_of, if_known as known_kind, value_wants, flow_wants, screen_wants, move_wants, record_wants, wants as wants_of, kind_asked, constant_kind as constant_kind_of, value_gives, screen_gives, record_gives, gives as gives_of_instr};
+ghost use Rattle.code_rules.specs.Wants.{fields_at as fields_at_of, field_kind as field_kind_of};
+ghost use Rattle.code_rules.specs.Wants.{if_known as known_kind, value_wants, flow_wants, screen_wants, move_wants};
+ghost use Rattle.code_rules.specs.Wants.{record_wants, wants as wants_of, kind_asked};
+ghost use Rattle.code_rules.specs.Wants.{constant_kind as constant_kind_of, value_gives, screen_gives, record_gives};
+ghost use Rattle.code_rules.specs.Wants.{gives as gives_of_instr};
 
 use code_items::{
     Declared, Desk, FlowInstr, Instr, MoveInstr, OpenArea, Question, RecordInstr, ScreenInstr,
@@ -29,8 +33,8 @@ pub fn fields_at(declared: &Declared, area: Option<OpenArea>) -> &[Field]
     }
 }
 
-/// The kind of a field of the table that a work area holds, counted from 1; none where the area isn't known to be open or
-/// has no such field.
+/// The kind of a field of the table that a work area holds, counted from 1; none where the area isn't known to be open
+/// or has no such field.
 pub fn field_kind(declared: &Declared, desk: &Desk, area: u8, field: u16) -> Option<Kind>
     ensures { result ≡ field_kind_of declared.now desk.now area field }
 {
@@ -120,8 +124,8 @@ fn wanted_by_records(declared: &Declared, desk: &Desk, instr: RecordInstr) -> &'
     }
 }
 
-/// The kinds of the values that it takes off the stack, that of the top last. Where the kind of what it takes isn't known,
-/// there is none.
+/// The kinds of the values that it takes off the stack, that of the top last. Where the kind of what it takes isn't
+/// known, there is none.
 pub fn wants(declared: &Declared, desk: &Desk, instr: Instr) -> &'static [Kind]
     ensures { reverse result.now ≡ wants_of declared.now desk.now instr }
 {

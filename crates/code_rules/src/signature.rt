@@ -1,7 +1,10 @@
 //! How many values an instruction takes and adds, and where it may stand and lead.
 
 ghost use Rattle.std.specs.Prelude.{◌≡◌};
-ghost use Rattle.code_rules.specs.Signature.{base, growing as growing_of, ending as ending_of, leaving as leaving_of, value_signature, flow_signature, screen_signature, area_signature, move_signature, record_signature, signature as signature_of, target_of, call_of, record_area, area_of};
+ghost use Rattle.code_rules.specs.Signature.{base, growing as growing_of, ending as ending_of, leaving as leaving_of};
+ghost use Rattle.code_rules.specs.Signature.{value_signature, flow_signature, screen_signature, area_signature};
+ghost use Rattle.code_rules.specs.Signature.{move_signature, record_signature, signature as signature_of, target_of};
+ghost use Rattle.code_rules.specs.Signature.{call_of, record_area, area_of};
 
 use code_items::{
     AreaInstr, Desk, FlowInstr, Instr, MoveInstr, RecordInstr, ScreenInstr, ValueInstr,

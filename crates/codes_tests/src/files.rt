@@ -1,10 +1,10 @@
 // Code files of every item: written, read, cut and changed.
 
 use crate::hand::{Known, Plan, code_of};
-use code_file::{CodeFault, decode, encode};
 use code_items::Version;
 use std::alloc::{AllocError, Global};
 use std::test::Fail;
+use xcode::{CodeFault, decode, encode};
 
 /// A code with tables, indexes, lists, constants, a filter, two procedures and maps.
 fn whole(version: Version) -> Plan {
@@ -160,7 +160,8 @@ fn in_body() -> &'static [(usize, u8, Option<CodeFault>)] {
         (112, 11, Some(CodeFault::Shape)),
         (112, 2, None),
         (123, 5, Some(CodeFault::Shape)),
-        // The first map's place, and its first work area's table, list, order and filter; the second map's place and slot.
+        // The first map's place, and its first work area's table, list, order and filter; the second map's place and
+        // slot.
         (157, 6, Some(CodeFault::Shape)),
         (160, 3, Some(CodeFault::Shape)),
         (161, 2, Some(CodeFault::Shape)),

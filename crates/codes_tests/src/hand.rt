@@ -1,6 +1,6 @@
-// Codes made by hand: two tables T2 and U2, each with one field K of five bytes; the indexes TI and TJ of T2 and UI of U2; the
-// lists TI with TJ, UI, and TI; the constants true, A and 1; a filter of T2 that needs a text in slot 0; two slots; a main
-// procedure, and another one of level 0.
+// Codes made by hand: two tables T2 and U2, each with one field K of five bytes; the indexes TI and TJ of T2 and UI of
+// U2; the lists TI with TJ, UI, and TI; the constants true, A and 1; a filter of T2 that needs a text in slot 0; two
+// slots; a main procedure, and another one of level 0.
 
 use crate::spelled::instr_of;
 use arrayvec::ArrayVec;
@@ -30,7 +30,8 @@ pub(crate) enum Known {
     TextInSlot,
 }
 
-/// A code: maps with their places, the main block, and the filter's block, each instruction behind a semicolon and a blank.
+/// A code: maps with their places, the main block, and the filter's block, each instruction behind a semicolon and a
+/// blank.
 #[derive(Clone, Copy)]
 pub(crate) struct Plan {
     pub(crate) version: Version,

@@ -2,9 +2,9 @@
 
 use crate::hand::{Known, Plan, code_of};
 use code_items::Version;
-use code_verify::{VerifyError, verify};
 use std::alloc::{AllocError, Global};
 use std::test::Fail;
+use xverify::{VerifyError, verify};
 
 /// Maps with their places, a main block, and its verdict.
 type Row = (&'static [(u16, Known)], &'static str, &'static str);
@@ -339,8 +339,8 @@ fn of_two_rules_the_lesser_is_told(rt: HostRuntime) -> Result<(), Fail> {
     Ok(())
 }
 
-/// Which of these filters' blocks, behind a main block of one instruction and a procedure of one, has another verdict than
-/// told; 0 for none.
+/// Which of these filters' blocks, behind a main block of one instruction and a procedure of one, has another verdict
+/// than told; 0 for none.
 fn first_wrong_filter(
     alloc: Global,
     rows: &[(&'static str, &'static str)],

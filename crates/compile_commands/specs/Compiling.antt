@@ -1,6 +1,6 @@
 -- What compiling files leaves in them.
 use Rattle.std.specs.Prelude.{◌≡◌, ℕ, ◌<◌, List, [], Option, Some, None, length, slice_index_or}
-use Rattle.code_file.specs.CodeFile.{CodeText}
+use Rattle.xcode.specs.CodeFile.{CodeText}
 use Rattle.code_items.specs.declared.code.Code.{Code}
 use Rattle.code_rules.specs.Rules.{Accepted}
 use Rattle.file_access.specs.Holding.{Holds, IsReplaced}
@@ -30,8 +30,8 @@ pub record IsCodeOf (shape : Shape) (bytes : List ℕ) : Type 0 where
   pub accepted : Accepted code
   pub text : CodeText bytes code
 
--- Of files that are no more than read, one is written: it holds the text of a code that the verifier accepts, with the shape that the
--- declaration file declares.
+-- Of files that are no more than read, one is written: it holds the text of a code that the verifier accepts, with the
+-- shape that the declaration file declares.
 pub record IsCompiled (before : Holds) (decl out : List ℕ) (names : List (List ℕ)) (after : Holds) : Type 0 where
   pub shape : Shape
   pub bytes : List ℕ

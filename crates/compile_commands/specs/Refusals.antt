@@ -6,7 +6,8 @@ use Rattle.prg_parser.specs.Marks.{marks}
 use Rattle.prg_parser.specs.Verdict.{verdict}
 use Rattle.shape_files.specs.Refusals.{IsTooLong, ShapeRefusalIs}
 use Rattle.compile_commands.specs.declared.refusal.CompileFilesRefusal.{CompileFilesRefusal}
-use Rattle.compile_commands.specs.declared.refusal.CompileFilesRefusal.TheVariants.{Declarations, Source, SourceDisk, CodeDisk, Memory}
+use Rattle.compile_commands.specs.declared.refusal.CompileFilesRefusal.TheVariants.{Declarations, Source, SourceDisk}
+use Rattle.compile_commands.specs.declared.refusal.CompileFilesRefusal.TheVariants.{CodeDisk, Memory}
 use Rattle.compile_commands.specs.declared.refusal.SourceFault.{SourceFault}
 use Rattle.compile_commands.specs.declared.refusal.SourceFault.TheVariants.{Absent, TooLong, Parse, Compile}
 use Rattle.compile_commands.specs.Compiling.{name_at}
@@ -39,11 +40,13 @@ SourcesRefusalIs holds names before after (SourceDisk file) = (file < length nam
 SourcesRefusalIs holds names before after CodeDisk = ⊥
 SourcesRefusalIs holds names before after Memory = Unit {0}
 
--- A fault that the declaration file or a command file has, a device failure that was counted, or memory. That the compiler finds a
--- fault in a command file that has none for the parser is its own word.
+-- A fault that the declaration file or a command file has, a device failure that was counted, or memory. That the
+-- compiler finds a fault in a command file that has none for the parser is its own word.
 abbrev pub CompileFilesRefusalIs : Holds → List ℕ → List (List ℕ) → ℕ → ℕ → CompileFilesRefusal → Type 0
-CompileFilesRefusalIs holds decl names before after (Declarations refusal) = ShapeRefusalIs holds decl before after refusal
-CompileFilesRefusalIs holds decl names before after (Source file fault) = SourceFaultIs (holds (name_at names file)) fault
+CompileFilesRefusalIs holds decl names before after (Declarations refusal) =
+    ShapeRefusalIs holds decl before after refusal
+CompileFilesRefusalIs holds decl names before after (Source file fault) =
+    SourceFaultIs (holds (name_at names file)) fault
 CompileFilesRefusalIs holds decl names before after (SourceDisk file) = (file < length names) × Rose before after
 CompileFilesRefusalIs holds decl names before after CodeDisk = Rose before after
 CompileFilesRefusalIs holds decl names before after Memory = Unit {0}

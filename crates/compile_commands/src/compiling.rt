@@ -1,7 +1,7 @@
 //! From command files to a code file.
 
 ghost use Rattle.std.specs.Prelude.{◌≡◌, ◌<◌, ◌≤◌, length, map, IfErr, IfOk, OnErr, OnOk};
-ghost use Rattle.code_file.specs.CodeFile.{CodeText};
+ghost use Rattle.xcode.specs.CodeFile.{CodeText};
 ghost use Rattle.code_rules.specs.Rules.{Accepted};
 ghost use Rattle.file_access.specs.Holding.{SameFiles};
 ghost use Rattle.compile_commands.specs.Compiling.{IsCodeOf, IsCompiled};
@@ -9,13 +9,13 @@ ghost use Rattle.compile_commands.specs.Refusals.{CompileFilesRefusalIs, IsCompi
 
 use crate::refusal::{CompileFilesRefusal, SourceFault};
 use crate::sources::programs_of;
-use code_file::encode;
 use file_access::Files;
 use prg_compile::{CompileRefusal, compile};
 use prg_parser::Program;
 use shape::Shape;
 use shape_files::read_shape;
 use std::alloc::Global;
+use xcode::encode;
 
 /// The bytes of the code file of programs, the main one first, for tables and indexes of this shape.
 fn compiled(
@@ -43,12 +43,13 @@ fn compiled(
     }
 }
 
-/// Compiles command files, the main one first, for the tables and indexes of a declaration file, and writes the code file.
+/// Compiles command files, the main one first, for the tables and indexes of a declaration file, and writes the code
+/// file.
 ///
 /// # Errors
 ///
-/// The first refusal that is met: of the declaration file or a table's file, of each command file in turn, of the compiler, of the
-/// device where the code file is written. No file changes then.
+/// The first refusal that is met: of the declaration file or a table's file, of each command file in turn, of the
+/// compiler, of the device where the code file is written. No file changes then.
 pub fn compile_files<F: Files>(
     alloc: Global,
     files: &mut F,
@@ -58,8 +59,10 @@ pub fn compile_files<F: Files>(
 ) -> Result<(), CompileFilesRefusal>
     requires { 0 < length names.now }
     // The code file alone changes: it holds the text of an accepted code of the declared shape.
-    ensures compiled { OnOk result (IsCompiled (F.holds files.old) decl.now out.now (map (λ name. name.now) names.now) (F.holds files.new)) }
-    ensures refused { IfErr result (CompileFilesRefusalIs (F.holds files.old) decl.now (map (λ name. name.now) names.now) (F.failed files.old) (F.failed files.new)) }
+    ensures compiled { OnOk result (IsCompiled (F.holds files.old) decl.now out.now (map (λ name. name.now) names.now)
+        (F.holds files.new)) }
+    ensures refused { IfErr result (CompileFilesRefusalIs (F.holds files.old) decl.now
+        (map (λ name. name.now) names.now) (F.failed files.old) (F.failed files.new)) }
     // On a refusal no file changes.
     ensures kept { OnErr result (SameFiles (F.holds files.old) (F.holds files.new)) }
     ensures counted { F.failed files.old ≤ F.failed files.new }

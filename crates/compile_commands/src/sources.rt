@@ -40,7 +40,8 @@ fn source_bytes<F: Files>(
     file: usize,
 ) -> Result<Vec<u8>, CompileFilesRefusal>
     ensures held { IfOk result (λ bytes. F.holds files.old name.now (Some bytes.items)) }
-    ensures refused { IfErr result (SourceRefusalIs file (F.holds files.old name.now) (F.failed files.old) (F.failed files.new)) }
+    ensures refused { IfErr result (SourceRefusalIs file (F.holds files.old name.now) (F.failed files.old)
+        (F.failed files.new)) }
     ensures counted { F.failed files.old ≤ F.failed files.new }
     ensures kept { SameFiles (F.holds files.old) (F.holds files.new) }
 {
@@ -67,7 +68,8 @@ fn program_of<F: Files>(
     file: usize,
 ) -> Result<Program, CompileFilesRefusal>
     ensures read { IfOk result (λ _. IsRead (F.holds files.old name.now)) }
-    ensures refused { IfErr result (SourceRefusalIs file (F.holds files.old name.now) (F.failed files.old) (F.failed files.new)) }
+    ensures refused { IfErr result (SourceRefusalIs file (F.holds files.old name.now) (F.failed files.old)
+        (F.failed files.new)) }
     ensures counted { F.failed files.old ≤ F.failed files.new }
     ensures kept { SameFiles (F.holds files.old) (F.holds files.new) }
 {
@@ -92,7 +94,8 @@ fn add_program<F: Files>(
 ) -> Result<(), CompileFilesRefusal>
     ensures read { OnOk result (IsRead (F.holds files.old name.now)) }
     ensures more { OnOk result (length programs.new.items ≡ length programs.old.items + 1) }
-    ensures refused { IfErr result (SourceRefusalIs file (F.holds files.old name.now) (F.failed files.old) (F.failed files.new)) }
+    ensures refused { IfErr result (SourceRefusalIs file (F.holds files.old name.now) (F.failed files.old)
+        (F.failed files.new)) }
     ensures counted { F.failed files.old ≤ F.failed files.new }
     ensures kept { SameFiles (F.holds files.old) (F.holds files.new) }
 {
@@ -111,7 +114,8 @@ pub fn programs_of<F: Files>(
 ) -> Result<Vec<Program>, CompileFilesRefusal>
     ensures read { IfOk result (λ _. AreRead (F.holds files.old) (map (λ name. name.now) names.now)) }
     ensures all { IfOk result (λ programs. length programs.items ≡ length names.now) }
-    ensures refused { IfErr result (SourcesRefusalIs (F.holds files.old) (map (λ name. name.now) names.now) (F.failed files.old) (F.failed files.new)) }
+    ensures refused { IfErr result (SourcesRefusalIs (F.holds files.old) (map (λ name. name.now) names.now)
+        (F.failed files.old) (F.failed files.new)) }
     ensures counted { F.failed files.old ≤ F.failed files.new }
     ensures kept { SameFiles (F.holds files.old) (F.holds files.new) }
 {

@@ -1,13 +1,13 @@
 // Codes that are judged beside commands: those that they were compiled from, and others.
 
 use crate::shown::{code_of, name_of, programs_of};
-use code_verify::Verified;
 use prg_code::Names;
 use prg_laid::{LayoutFault, judge};
 use prg_parser::Program;
 use std::alloc::{AllocError, Global};
 use std::process::Abort;
 use std::test::Fail;
+use xverify::Verified;
 
 /// The variables of a row, each a letter, in slots from 0 on.
 fn names_of(alloc: Global, letters: &str) -> Result<Names, AllocError> {

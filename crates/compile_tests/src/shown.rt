@@ -1,19 +1,19 @@
-// Programs in one line, and how their code is shown. The tables are AA with the fields K (text of 5), P (text of 3), N (number
-// of 5 with 2 decimals), D (date) and L (logical); BB, CC and T with one field K (text of 5); CUST and P with NAME (text of 10),
-// BILL with AMT (number of 5 with 2 decimals), and CUST2 with CITY (text of 9). The indexes are AK on K, AU on UPPER(K) and AP
-// on K+UPPER(P) of AA, BK on K of BB, KI on K of T, and PN on NAME of P.
+// Programs in one line, and how their code is shown. The tables are AA with the fields K (text of 5), P (text of 3), N
+// (number of 5 with 2 decimals), D (date) and L (logical); BB, CC and T with one field K (text of 5); CUST and P with
+// NAME (text of 10), BILL with AMT (number of 5 with 2 decimals), and CUST2 with CITY (text of 9). The indexes are AK
+// on K, AU on UPPER(K) and AP on K+UPPER(P) of AA, BK on K of BB, KI on K of T, and PN on NAME of P.
 
 use arrayvec::ArrayVec;
-use code_file::list;
 use code_items::{IndexShape, Items, KeyPart, KeyParts, Name, Shape, TableShape, Version};
-use code_verify::Verified;
 use dbf_file::{Field, Letter};
 use prg_compile::{CompileRefusal, compile};
 use prg_parser::{ParseRefusal, Program, parse};
 use std::alloc::{AllocError, Global};
 use std::process::Abort;
 use std::test::Fail;
+use xcode::list;
 use xvalue::Text;
+use xverify::Verified;
 
 pub(crate) fn name_of(text: &[u8]) -> Name {
     let mut name = ArrayVec::new();

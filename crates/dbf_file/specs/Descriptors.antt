@@ -1,5 +1,6 @@
 -- Descriptors: 32 bytes for each field, and a byte 13 behind the last.
-use Rattle.std.specs.Prelude.{◌≡◌, ℕ, zero, suc, ◌-◌, ◌==◌, nat_lt, nat_le, List, [], ◌∷◌, ◌++◌, length, take, drop, replicate, slice_index, Option, Some, None, position, Result, Ok, Err, if◌then◌else◌}
+use Rattle.std.specs.Prelude.{◌≡◌, ℕ, zero, suc, ◌-◌, ◌==◌, nat_lt, nat_le, List, [], ◌∷◌, ◌++◌, length, take, drop}
+use Rattle.std.specs.Prelude.{replicate, slice_index, Option, Some, None, position, Result, Ok, Err, if◌then◌else◌}
 use Rattle.std.specs.List.{flat_map}
 use Rattle.dbf_file.specs.declared.field.Letter.{Letter}
 use Rattle.dbf_file.specs.declared.field.Letter.TheVariants.{C, N, D, L}
@@ -17,8 +18,8 @@ decimals_of N byte = byte
 decimals_of D byte = 0
 decimals_of L byte = 0
 
--- The 32 bytes describe the field. Its other bytes may be any: what stands behind the zero byte that ends the name, bytes 12 to 15,
--- the decimals of a field that is no number, bytes 18 to 31.
+-- The 32 bytes describe the field. Its other bytes may be any: what stands behind the zero byte that ends the name,
+-- bytes 12 to 15, the decimals of a field that is no number, bytes 18 to 31.
 pub record IsDescriptor (bytes : List ℕ) (f : Field) : Type 0 where
   pub whole : length bytes ≡ 32
   pub name : (behind : List ℕ) × (take 11 bytes ≡ f.name.items ++ 0 ∷ behind)
@@ -35,7 +36,13 @@ Describes bytes (f ∷ fs) = IsDescriptor (take 32 bytes) f × Describes (drop 3
 
 -- the field of a descriptor by its name's length and its letter
 abbrev pub field_with : List ℕ → ℕ → Letter → Field
-field_with bytes i letter = record { name = record { items = take i bytes }; letter = letter; width = slice_index bytes 16; decimals = decimals_of letter (slice_index bytes 17) }
+field_with bytes i letter =
+    record {
+      name = record { items = take i bytes };
+      letter = letter;
+      width = slice_index bytes 16;
+      decimals = decimals_of letter (slice_index bytes 17);
+    }
 
 abbrev pub if_field : Field → Option Field
 if_field f = if is_field f then Some f else None
@@ -57,8 +64,8 @@ abbrev pub if_new : List Field → Option Field → Result (Option Field) DbfFau
 if_new earlier None = Err FieldShape
 if_new earlier (Some f) = if is_new earlier f then Ok (Some f) else Err FieldShape
 
--- What stands at the front of the bytes, behind descriptors of these fields: the end (None), or one more field. There must be a
--- field before the end, and no 129th; the bytes must not end before the end or within a descriptor.
+-- What stands at the front of the bytes, behind descriptors of these fields: the end (None), or one more field. There
+-- must be a field before the end, and no 129th; the bytes must not end before the end or within a descriptor.
 unfoldable pub next_told : List Field → List ℕ → Result (Option Field) DbfFault
 next_told earlier [] = Err NoEnd
 next_told earlier (byte ∷ bytes) =
@@ -68,7 +75,8 @@ next_told earlier (byte ∷ bytes) =
     else if_new earlier (told_field (take 32 (byte ∷ bytes)))
 
 -- what a step leads to: a fault, the fields before the end, or one field more
-abbrev pub after_step : List Field → Result (Option Field) DbfFault → (List Field → Result (List Field) DbfFault) → Result (List Field) DbfFault
+abbrev pub after_step : List Field → Result (Option Field) DbfFault → (List Field → Result (List Field) DbfFault)
+    → Result (List Field) DbfFault
 after_step earlier (Err fault) more = Err fault
 after_step earlier (Ok None) more = Ok earlier
 after_step earlier (Ok (Some f)) more = more (earlier ++ f ∷ [])
@@ -76,7 +84,8 @@ after_step earlier (Ok (Some f)) more = more (earlier ++ f ∷ [])
 -- the fields that are told step by step, behind descriptors of these; n steps are enough
 unfoldable pub fields_from : ℕ → List Field → List ℕ → Result (List Field) DbfFault
 fields_from zero earlier bytes = Err FieldShape
-fields_from (suc n) earlier bytes = after_step earlier (next_told earlier bytes) (λ fields. fields_from n fields (drop 32 bytes))
+fields_from (suc n) earlier bytes =
+    after_step earlier (next_told earlier bytes) (λ fields. fields_from n fields (drop 32 bytes))
 
 -- ---- as a field is written that no file gave
 

@@ -1,8 +1,10 @@
 -- Why bytes are no table's file within a limit of rows.
-use Rattle.std.specs.Prelude.{ℕ, ◌+◌, ◌*◌, Bool, true, false, not, ◌||◌, ◌==◌, nat_lt, List, [], ◌∷◌, length, drop, slice_index, slice_range, Option, find, Result, Ok, Err}
+use Rattle.std.specs.Prelude.{ℕ, ◌+◌, ◌*◌, Bool, true, false, not, ◌||◌, ◌==◌, nat_lt, List, [], ◌∷◌, length, drop}
+use Rattle.std.specs.Prelude.{slice_index, slice_range, Option, find, Result, Ok, Err}
 use Rattle.dbf_file.specs.declared.field.Field.{Field}
 use Rattle.dbf_file.specs.declared.fault.DbfFault.{DbfFault}
-use Rattle.dbf_file.specs.declared.fault.DbfFault.TheVariants.{Short, Version, HeaderLength, FieldShape, NoEnd, RecordLength, TooMany, Truncated, RecordMark, Memory}
+use Rattle.dbf_file.specs.declared.fault.DbfFault.TheVariants.{Short, Version, HeaderLength, FieldShape, NoEnd}
+use Rattle.dbf_file.specs.declared.fault.DbfFault.TheVariants.{RecordLength, TooMany, Truncated, RecordMark, Memory}
 use Rattle.dbf_file.specs.Numbers.{number_at}
 use Rattle.dbf_file.specs.Fields.{widths_of, size_of}
 use Rattle.dbf_file.specs.Descriptors.{fields_from}
@@ -49,10 +51,12 @@ has_fault limit bytes NoEnd = is_no_end (told_fields bytes)
 has_fault limit bytes RecordLength = not (told_size bytes == true_size bytes) || nat_lt 4000 (true_size bytes)
 has_fault limit bytes TooMany = nat_lt limit (told_count bytes)
 has_fault limit bytes Truncated = nat_lt (length bytes) (told_header bytes + told_count bytes * true_size bytes)
-has_fault limit bytes RecordMark = not (are_marked (true_size bytes) (told_count bytes) (drop (told_header bytes) bytes))
+has_fault limit bytes RecordMark =
+    not (are_marked (true_size bytes) (told_count bytes) (drop (told_header bytes) bytes))
 has_fault limit bytes Memory = false
 
--- The order in which faults are told. Of the two that descriptors can have, the one that comes first in the file is their fault.
+-- The order in which faults are told. Of the two that descriptors can have, the one that comes first in the file is
+-- their fault.
 abbrev pub fault_order : List DbfFault
 fault_order = Short ∷ Version ∷ HeaderLength ∷ FieldShape ∷ NoEnd ∷ RecordLength ∷ TooMany ∷ Truncated ∷ RecordMark ∷ []
 

@@ -1,5 +1,6 @@
 -- The fields of a table.
-use Rattle.std.specs.Prelude.{ℕ, ◌+◌, Bool, true, not, ◌&&◌, ◌||◌, ◌==◌, nat_le, List, [], ◌∷◌, ◌++◌, length, map, Option, Some, None, if◌then◌else◌}
+use Rattle.std.specs.Prelude.{ℕ, ◌+◌, Bool, true, not, ◌&&◌, ◌||◌, ◌==◌, nat_le, List, [], ◌∷◌, ◌++◌, length, map}
+use Rattle.std.specs.Prelude.{Option, Some, None, if◌then◌else◌}
 use Rattle.std.specs.List.{list_any}
 use Rattle.dbf_file.specs.declared.field.Letter.{Letter}
 use Rattle.dbf_file.specs.declared.field.Letter.TheVariants.{C, N, D, L}
@@ -15,12 +16,14 @@ code_of L = 76
 
 -- the letter of a byte: capitals alone
 abbrev pub letter_of : ℕ → Option Letter
-letter_of code = if code == 67 then Some C else if code == 78 then Some N else if code == 68 then Some D else if code == 76 then Some L else None
+letter_of code = if code == 67 then Some C else if code == 78 then Some N else if code == 68 then Some D
+    else if code == 76 then Some L else None
 
 -- the widths and decimals of each letter
 abbrev pub has_shape : Letter → ℕ → ℕ → Bool
 has_shape C width decimals = nat_le 1 width && nat_le width 254 && decimals == 0
-has_shape N width decimals = nat_le 1 width && nat_le width 19 && (decimals == 0 || (nat_le decimals 15 && nat_le (decimals + 2) width))
+has_shape N width decimals =
+    nat_le 1 width && nat_le width 19 && (decimals == 0 || (nat_le decimals 15 && nat_le (decimals + 2) width))
 has_shape D width decimals = width == 8 && decimals == 0
 has_shape L width decimals = width == 1 && decimals == 0
 
@@ -51,4 +54,5 @@ size_of widths = 1 + total widths
 
 -- the fields of a table: 1 to 128, each a field, with different names, and a record of at most 4000 bytes
 unfoldable pub are_fields : List Field → Bool
-are_fields fields = nat_le 1 (length fields) && nat_le (length fields) 128 && go_on [] fields && nat_le (size_of (widths_of fields)) 4000
+are_fields fields = nat_le 1 (length fields) && nat_le (length fields) 128 && go_on [] fields
+    && nat_le (size_of (widths_of fields)) 4000

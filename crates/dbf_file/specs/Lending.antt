@@ -18,8 +18,8 @@ put_over place text bytes = take place bytes ++ (text ++ drop (length text) (dro
 abbrev pub put_within : ℕ → List ℕ → List ℕ → List ℕ
 put_within place text bytes = take (length bytes) (put_over place text bytes)
 
--- The rows with this text in field f of row r. A slice keeps its length, so no text of another length can be left there; it would
--- stand over what is behind it.
+-- The rows with this text in field f of row r. A slice keeps its length, so no text of another length can be left
+-- there; it would stand over what is behind it.
 unfoldable pub rows_left : List ℕ → List Row → ℕ → ℕ → List ℕ → List Row
 rows_left widths rows r f text =
     if length text == slice_index widths f then with_text rows r f text
@@ -27,4 +27,10 @@ rows_left widths rows r f text =
 
 -- The table ends with the last text behind the result in field f of row r, and otherwise as it was.
 abbrev pub LendsText : MutBor TableState → ℕ → ℕ → MutBor (List ℕ) → Fml
-LendsText table r f text = Lends the_row (Array u8 0) table text (λ (w : List ℕ). record { structure = table.now.structure; rows = rows_left (row_widths table.now.structure) table.now.rows r f w; spare = table.now.spare })
+LendsText table r f text =
+    Lends the_row (Array u8 0) table text
+    (λ (w : List ℕ). record {
+      structure = table.now.structure;
+      rows = rows_left (row_widths table.now.structure) table.now.rows r f w;
+      spare = table.now.spare;
+    })

@@ -1,4 +1,5 @@
--- Names of fields. The bytes 65 to 90 are the capitals, 97 to 122 the small letters, 48 to 57 the digits, 95 is the underscore.
+-- Names of fields. The bytes 65 to 90 are the capitals, 97 to 122 the small letters, 48 to 57 the digits, 95 is the
+-- underscore.
 use Rattle.std.specs.Prelude.{ℕ, Bool, false, ◌&&◌, ◌||◌, ◌==◌, nat_le, List, [], ◌∷◌, length}
 use Rattle.std.specs.Char.{is_ascii_alphabetic, is_ascii_alphanumeric}
 use Rattle.std.specs.List.{list_all}

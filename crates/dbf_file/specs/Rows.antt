@@ -1,6 +1,7 @@
--- Rows, and how they stand in bytes: for each row its mark and the texts of its fields, one behind the other. The byte 32 is a blank,
--- 42 an asterisk.
-use Rattle.std.specs.Prelude.{◌≡◌, ℕ, zero, suc, Bool, true, false, not, ◌&&◌, ◌||◌, ◌==◌, if◌then◌else◌, List, [], ◌∷◌, length, take, drop, map, filter, slice_index, slice_index_or, slice_set, replicate}
+-- Rows, and how they stand in bytes: for each row its mark and the texts of its fields, one behind the other. The byte
+-- 32 is a blank, 42 an asterisk.
+use Rattle.std.specs.Prelude.{◌≡◌, ℕ, zero, suc, Bool, true, false, not, ◌&&◌, ◌||◌, ◌==◌, if◌then◌else◌, List, [], ◌∷◌}
+use Rattle.std.specs.Prelude.{length, take, drop, map, filter, slice_index, slice_index_or, slice_set, replicate}
 use Rattle.std.specs.List.{flat_map, concat}
 use Rattle.dbf_file.specs.Fields.{size_of}
 
@@ -72,7 +73,8 @@ with_mark rows r marked = slice_set rows r (record { marked = marked; texts = (r
 
 -- the rows with another text in field f of row r
 abbrev pub with_text : List Row → ℕ → ℕ → List ℕ → List Row
-with_text rows r f text = slice_set rows r (record { marked = (row_at rows r).marked; texts = slice_set (row_at rows r).texts f text })
+with_text rows r f text =
+    slice_set rows r (record { marked = (row_at rows r).marked; texts = slice_set (row_at rows r).texts f text })
 
 -- a live row of blanks
 abbrev pub blank_row : List ℕ → Row

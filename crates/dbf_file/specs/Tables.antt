@@ -1,5 +1,6 @@
 -- A table, and the bytes of its file.
-use Rattle.std.specs.Prelude.{◌≡◌, ℕ, ◌+◌, ◌^◌, ◌<◌, List, [], ◌∷◌, ◌++◌, length, drop, slice_index, slice_index_or, map, IsTrue}
+use Rattle.std.specs.Prelude.{◌≡◌, ℕ, ◌+◌, ◌^◌, ◌<◌, List, [], ◌∷◌, ◌++◌, length, drop, slice_index, slice_index_or}
+use Rattle.std.specs.Prelude.{map, IsTrue}
 use Rattle.std.specs.List.{AllByRecursion}
 use Rattle.dbf_file.specs.declared.field.Letter.{Letter}
 use Rattle.dbf_file.specs.declared.field.Letter.TheVariants.{C}
@@ -10,8 +11,8 @@ use Rattle.dbf_file.specs.Fields.{are_fields, widths_of, size_of}
 use Rattle.dbf_file.specs.Descriptors.{Describes, head_text}
 use Rattle.dbf_file.specs.Rows.{Row, HasWidths, rows_text}
 
--- The fields, and the header's bytes from byte 12 on, with all that is kept: 20 bytes, the descriptors, a byte 13, and what stands
--- behind it.
+-- The fields, and the header's bytes from byte 12 on, with all that is kept: 20 bytes, the descriptors, a byte 13, and
+-- what stands behind it.
 pub record StructureState : Type 0 where
   pub fields : List Field
   pub head : List ℕ
@@ -47,8 +48,8 @@ pub record AreRows (structure : StructureState) (rows : List Row) : Type 0 where
   pub each : AllByRecursion (HasWidths (row_widths structure)) rows
   pub count : length rows < 2 ^ 32
 
--- The bytes are a file of a table: a header with the stamp, the count of rows and the lengths of header and record, and behind it
--- the rows. What stands behind the last row may be anything.
+-- The bytes are a file of a table: a header with the stamp, the count of rows and the lengths of header and record, and
+-- behind it the rows. What stands behind the last row may be anything.
 pub record DbfText (structure : StructureState) (rows : List Row) (stamp : Stamp) (bytes : List ℕ) : Type 0 where
   pub good : IsStructure structure
   pub sound : AreRows structure rows
@@ -65,5 +66,6 @@ pub record DbfText (structure : StructureState) (rows : List Row) (stamp : Stamp
 unfoldable pub dbf_text : StructureState → List Row → Stamp → List ℕ
 dbf_text structure rows stamp =
     (3 ∷ stamp.year ∷ stamp.month ∷ stamp.day ∷ [])
-    ++ (number_text 4 (length rows) ++ (number_text 2 (12 + length structure.head) ++ (number_text 2 (size_of (row_widths structure))
+    ++ (number_text 4 (length rows)
+    ++ (number_text 2 (12 + length structure.head) ++ (number_text 2 (size_of (row_widths structure))
     ++ (structure.head ++ (rows_text rows ++ 26 ∷ [])))))

@@ -1,5 +1,6 @@
 -- What a field's text stands for. The byte 32 is a blank, 84 and 116 are T and t, 89 and 121 are Y and y, 70 is F.
-use Rattle.std.specs.Prelude.{◌≡◌, ℕ, min, ◌-◌, ◌≤◌, pos, Bool, ◌&&◌, ◌||◌, ◌==◌, nat_le, if◌then◌else◌, List, [], ◌∷◌, ◌++◌, length, take, drop, replicate, slice_index, Option, Some, None}
+use Rattle.std.specs.Prelude.{◌≡◌, ℕ, min, ◌-◌, ◌≤◌, pos, Bool, ◌&&◌, ◌||◌, ◌==◌, nat_le, if◌then◌else◌, List, [], ◌∷◌}
+use Rattle.std.specs.Prelude.{◌++◌, length, take, drop, replicate, slice_index, Option, Some, None}
 use Rattle.std.specs.List.{list_all}
 use Rattle.fixed_num.specs.Number.{Number as Decimal, asterisk, finite, IsInRange}
 use Rattle.fixed_num.specs.Rounding.{rounded_at}
@@ -7,7 +8,8 @@ use Rattle.fixed_num.specs.Reading.{parsed, are_digits, with_digits}
 use Rattle.fixed_num.specs.Text.{last_digits, text_of, printed}
 use Rattle.calendar.specs.declared.day.DayParts.{DayParts}
 use Rattle.xvalue.specs.declared.kind.Kind.{Kind}
-use Rattle.xvalue.specs.declared.kind.Kind.TheVariants.{Number as OfNumber, Text as OfText, Date as OfDate, Logical as OfLogical}
+use Rattle.xvalue.specs.declared.kind.Kind.TheVariants.{Number as OfNumber, Text as OfText, Date as OfDate}
+use Rattle.xvalue.specs.declared.kind.Kind.TheVariants.{Logical as OfLogical}
 use Rattle.xvalue.specs.declared.value.Value.{Value}
 use Rattle.xvalue.specs.declared.value.Value.TheVariants.{Number, Text, Date, Logical}
 use Rattle.calendar.specs.Days.{HasDay}
@@ -37,7 +39,8 @@ number_in decimals text = if is_blank text then finite (pos 0) (min decimals 15)
 abbrev pub day_in : List ℕ → Option DayParts
 day_in text =
     if are_digits text && length text == 8
-    then day_or_blank (day_at (with_digits 0 (take 4 text)) (with_digits 0 (take 2 (drop 4 text))) (with_digits 0 (drop 6 text)))
+    then day_or_blank (day_at (with_digits 0 (take 4 text)) (with_digits 0 (take 2 (drop 4 text)))
+    (with_digits 0 (drop 6 text)))
     else None
 
 abbrev pub is_yes : ℕ → Bool
@@ -86,15 +89,17 @@ abbrev pub HasRoom : ℕ → Decimal → Type 0
 HasRoom width asterisk = ⊥
 HasRoom width (finite m d) = length (text_of (finite m d)) ≤ width
 
--- The value fits the field: a number, rounded to the field's decimals, has room in it. A text is cut or padded in any case, and
--- takes 254 bytes at most, a day eight, a truth value one.
+-- The value fits the field: a number, rounded to the field's decimals, has room in it. A text is cut or padded in any
+-- case, and takes 254 bytes at most, a day eight, a truth value one.
 abbrev pub FitsField : Field → Value → Type 0
-FitsField f (Number number) = IsInRange (rounded_at (pos (min f.decimals 15)) number) × HasRoom f.width (rounded_at (pos (min f.decimals 15)) number)
+FitsField f (Number number) = IsInRange (rounded_at (pos (min f.decimals 15)) number)
+    × HasRoom f.width (rounded_at (pos (min f.decimals 15)) number)
 FitsField f (Text text) = f.width ≤ 254
 FitsField f (Date day) = HasDay day × (f.width ≡ 8)
 FitsField f (Logical truth) = f.width ≡ 1
 
--- what is read of the value's text: a number rounded to the field's decimals, a text cut or padded, any other value itself
+-- what is read of the value's text: a number rounded to the field's decimals, a text cut or padded, any other value
+-- itself
 abbrev pub kept_of : Field → Value → Value
 kept_of f (Number number) = Number (rounded_at (pos (min f.decimals 15)) number)
 kept_of f (Text text) = Text (record { items = fitted_text f.width text.items })

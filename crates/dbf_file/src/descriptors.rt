@@ -1,7 +1,8 @@
 //! The descriptors of fields.
 
 ghost use Rattle.std.specs.Prelude.{◌≡◌, ◌+◌, ◌≤◌, ◌<◌, length, [], position, ◌==◌, IfSome, IfOk, MatchResult, Ok, Err};
-ghost use Rattle.dbf_file.specs.Descriptors.{decimals_of, field_with, if_field, told_field as told_field_of, if_new, next_told, fields_from};
+ghost use Rattle.dbf_file.specs.Descriptors.{decimals_of, field_with, if_field, told_field as told_field_of, if_new};
+ghost use Rattle.dbf_file.specs.Descriptors.{next_told, fields_from};
 
 use crate::fault::DbfFault;
 use crate::field::{Field, Letter, MAX_FIELDS, MAX_NAME, is_new};

@@ -2,8 +2,10 @@
 
 ghost use Rattle.std.specs.Prelude.{◌≡◌, ◌≤◌, ◌+◌, ◌<◌, ◌++◌, ◌∷◌, [], length, slice_index, ◌&&◌};
 ghost use Rattle.std.specs.List.{list_all, list_any};
-ghost use Rattle.dbf_file.specs.Names.{is_name_byte, begins_with_letter, is_name as is_name_of, same_name as same_name_of};
-ghost use Rattle.dbf_file.specs.Fields.{code_of, letter_of, has_shape, is_field, is_new as is_new_of, go_on, are_fields as are_fields_of, widths_of, size_of as size_of_fields};
+ghost use Rattle.dbf_file.specs.Names.{is_name_byte, begins_with_letter, is_name as is_name_of};
+ghost use Rattle.dbf_file.specs.Names.{same_name as same_name_of};
+ghost use Rattle.dbf_file.specs.Fields.{code_of, letter_of, has_shape, is_field, is_new as is_new_of, go_on};
+ghost use Rattle.dbf_file.specs.Fields.{are_fields as are_fields_of, widths_of, size_of as size_of_fields};
 
 use arrayvec::ArrayVec;
 
@@ -207,8 +209,8 @@ fn go_on(fields: &[Field]) -> bool
     true
 }
 
-/// Whether a table can have these fields: 1 to 128 of them, each valid, with different names, in a record of at most 4000
-/// bytes.
+/// Whether a table can have these fields: 1 to 128 of them, each valid, with different names, in a record of at most
+/// 4000 bytes.
 #[tactic(auto, unfolding(crate::specs::Fields::are_fields))]
 pub fn are_fields(fields: &[Field]) -> bool
     ensures { result ≡ are_fields_of fields.now }

@@ -10,10 +10,11 @@ ghost use Rattle.dbf_file.specs.Rows.{Row, with_text};
 ghost use Rattle.dbf_file.specs.Lending.{rows_left};
 ghost use Rattle.dbf_file.specs.Values.{kind_for, value_of, text_for, FitsField, kept_of};
 
-/// The text of a value that fits its field is read as that value: a number rounded to the field's decimals, a text cut or
-/// padded with blanks.
+/// The text of a value that fits its field is read as that value: a number rounded to the field's decimals, a text cut
+/// or padded with blanks.
 pub fn values_read_back()
-    ensures { (f : TheField) (v : TheValue) → kind_of v ≡ kind_for f.letter → FitsField f v → value_of f (text_for f v) ≡ kept_of f v }
+    ensures { (f : TheField) (v : TheValue) → kind_of v ≡ kind_for f.letter → FitsField f v
+        → value_of f (text_for f v) ≡ kept_of f v }
 {
     fixed_num::laws::text_reads_back();
 }

@@ -1,6 +1,7 @@
 //! The layout of a table's file, and the first fault of bytes that have none.
 
-ghost use Rattle.std.specs.Prelude.{◌≡◌, ℕ, ◌+◌, ◌*◌, ◌<◌, ◌≤◌, length, drop, slice_range, MatchResult, IfOk, Some, None, Ok};
+ghost use Rattle.std.specs.Prelude.{◌≡◌, ℕ, ◌+◌, ◌*◌, ◌<◌, ◌≤◌, length, drop, slice_range, MatchResult, IfOk, Some};
+ghost use Rattle.std.specs.Prelude.{None, Ok};
 ghost use Rattle.dbf_file.specs.Fields.{widths_of, size_of as size_of_fields};
 ghost use Rattle.dbf_file.specs.Rows.{is_mark as is_mark_of, are_marked as are_marked_of};
 ghost use Rattle.dbf_file.specs.Faults.{told_count, told_header, told_size, told_fields, first_fault};
@@ -78,7 +79,8 @@ fn are_marked(size: usize, count: usize, bytes: &[u8]) -> bool
 pub(crate) fn layout_of(bytes: &[u8], limit: usize) -> Result<Layout, DbfFault>
     ensures layout { IfOk result (IsLayout bytes.now) }
     ensures limited { IfOk result (λ layout. layout.rows ≤ limit) }
-    ensures fault { MatchResult result (λ _. first_fault limit bytes.now ≡ None) (λ fault. first_fault limit bytes.now ≡ Some fault) }
+    ensures fault { MatchResult result (λ _. first_fault limit bytes.now ≡ None)
+        (λ fault. first_fault limit bytes.now ≡ Some fault) }
 {
     if bytes.len() < SHORTEST {
         return Err(DbfFault::Short);

@@ -1,12 +1,15 @@
 //! Tables.
 
-ghost use Rattle.std.specs.Prelude.{◌≡◌, ℕ, ◌+◌, ◌*◌, ◌^◌, ◌<◌, ◌≤◌, ◌++◌, ◌∷◌, [], List, length, take, slice_index, slice_range, IsTrue, IfOk, OnOk, OnErr, MatchResult, Some, None, ◌⊎◌, vec_capacity, true};
+ghost use Rattle.std.specs.Prelude.{◌≡◌, ℕ, ◌+◌, ◌*◌, ◌^◌, ◌<◌, ◌≤◌, ◌++◌, ◌∷◌, [], List, length, take, slice_index};
+ghost use Rattle.std.specs.Prelude.{slice_range, IsTrue, IfOk, OnOk, OnErr, MatchResult, Some, None, ◌⊎◌, vec_capacity};
+ghost use Rattle.std.specs.Prelude.{true};
 ghost use Rattle.std.specs.Borrow.{sem};
 ghost use Rattle.dbf_file.specs.declared.stamp.Stamp.{Stamp as TheStamp};
 ghost use Rattle.dbf_file.specs.Fields.{widths_of, size_of as size_of_fields, are_fields, has_shape};
 ghost use Rattle.dbf_file.specs.Descriptors.{head_text};
 ghost use Rattle.dbf_file.specs.Rows.{Row, rows_in, mark_at, text_at, with_text, with_mark, blank_row, unmarked};
-ghost use Rattle.dbf_file.specs.Tables.{StructureState, IsStructure, AreRows, DbfText, dbf_text, row_widths, structure_of, letter_at, decimals_at};
+ghost use Rattle.dbf_file.specs.Tables.{StructureState, IsStructure, AreRows, DbfText, dbf_text, row_widths};
+ghost use Rattle.dbf_file.specs.Tables.{structure_of, letter_at, decimals_at};
 ghost use Rattle.dbf_file.specs.Faults.{first_fault};
 ghost use Rattle.dbf_file.specs.Layouts.{IsLayout, structure_told, rows_told};
 ghost use Rattle.xvalue.specs.Kinds.{kind_of};
@@ -84,20 +87,24 @@ fn table_of(alloc: Global, bytes: &[u8], layout: &Layout) -> Result<Table, Alloc
     })
 }
 
-/// The table of a file's bytes, where it has at most `limit` rows. It can be refused for want of memory, and is so last.
+/// The table of a file's bytes, where it has at most `limit` rows. It can be refused for want of memory, and is so
+/// last.
 ///
-/// Kept of the header are the fields and all bytes from byte 12 on; not kept are the day of the last update and what stands
-/// behind the last row.
+/// Kept of the header are the fields and all bytes from byte 12 on; not kept are the day of the last update and what
+/// stands behind the last row.
 pub fn read(alloc: Global, bytes: &[u8], limit: usize) -> Result<Table, DbfFault>
     // What is read stands in the bytes.
     ensures found { IfOk result (λ table. (stamp : TheStamp) × DbfText table.structure table.rows stamp bytes.now) }
     ensures within { IfOk result (λ table. length table.rows ≤ limit) }
     // What stands in the bytes is read, unless memory is refused.
-    ensures only { (structure : StructureState) (rows : List Row) (stamp : TheStamp) → DbfText structure rows stamp bytes.now → length rows ≤ limit →
-        MatchResult result (λ table. (table.structure ≡ structure) × (table.rows ≡ rows)) (λ fault. fault ≡ DbfFault.Memory) }
+    ensures only { (structure : StructureState) (rows : List Row) (stamp : TheStamp)
+        → DbfText structure rows stamp bytes.now → length rows ≤ limit →
+        MatchResult result (λ table. (table.structure ≡ structure) × (table.rows ≡ rows))
+        (λ fault. fault ≡ DbfFault.Memory) }
     // The first fault is told, and want of memory only where there is none.
     ensures fault { MatchResult result (λ _. first_fault limit bytes.now ≡ None)
-        (λ fault. (first_fault limit bytes.now ≡ Some fault) ⊎ ((fault ≡ DbfFault.Memory) × (first_fault limit bytes.now ≡ None))) }
+        (λ fault. (first_fault limit bytes.now ≡ Some fault) ⊎
+        ((fault ≡ DbfFault.Memory) × (first_fault limit bytes.now ≡ None))) }
 {
     let layout = layout_of(bytes, limit)?;
     match table_of(alloc, bytes, &layout) {
@@ -136,20 +143,24 @@ fn table_in_place(alloc: Global, mut bytes: Vec<u8>, layout: &Layout) -> Result<
 fn layout_in(bytes: &Vec<u8>, limit: usize) -> Result<Layout, DbfFault>
     ensures layout { IfOk result (IsLayout bytes.now.items) }
     ensures limited { IfOk result (λ layout. layout.rows ≤ limit) }
-    ensures fault { MatchResult result (λ _. first_fault limit bytes.now.items ≡ None) (λ fault. first_fault limit bytes.now.items ≡ Some fault) }
+    ensures fault { MatchResult result (λ _. first_fault limit bytes.now.items ≡ None)
+        (λ fault. first_fault limit bytes.now.items ≡ Some fault) }
 {
     layout_of(bytes.as_slice(), limit)
 }
 
-/// The table of a file's bytes as `read` gives it, its rows in the place of the bytes: so it takes memory for its structure
-/// alone.
+/// The table of a file's bytes as `read` gives it, its rows in the place of the bytes: so it takes memory for its
+/// structure alone.
 pub fn read_in_place(alloc: Global, bytes: Vec<u8>, limit: usize) -> Result<Table, DbfFault>
     ensures found { IfOk result (λ table. (stamp : TheStamp) × DbfText table.structure table.rows stamp bytes.items) }
     ensures within { IfOk result (λ table. length table.rows ≤ limit) }
-    ensures only { (structure : StructureState) (rows : List Row) (stamp : TheStamp) → DbfText structure rows stamp bytes.items → length rows ≤ limit →
-        MatchResult result (λ table. (table.structure ≡ structure) × (table.rows ≡ rows)) (λ fault. fault ≡ DbfFault.Memory) }
+    ensures only { (structure : StructureState) (rows : List Row) (stamp : TheStamp)
+        → DbfText structure rows stamp bytes.items → length rows ≤ limit →
+        MatchResult result (λ table. (table.structure ≡ structure) × (table.rows ≡ rows))
+        (λ fault. fault ≡ DbfFault.Memory) }
     ensures fault { MatchResult result (λ _. first_fault limit bytes.items ≡ None)
-        (λ fault. (first_fault limit bytes.items ≡ Some fault) ⊎ ((fault ≡ DbfFault.Memory) × (first_fault limit bytes.items ≡ None))) }
+        (λ fault. (first_fault limit bytes.items ≡ Some fault) ⊎
+        ((fault ≡ DbfFault.Memory) × (first_fault limit bytes.items ≡ None))) }
 {
     let layout = layout_in(&bytes, limit)?;
     match table_in_place(alloc, bytes, &layout) {
@@ -207,7 +218,8 @@ fn keep_unmarked(records: &mut Vec<u8>, size: usize, rows: usize) -> usize
     ensures same_length { length records.new.items ≡ length records.old.items }
     ensures capacity { vec_capacity records.new ≡ vec_capacity records.old }
     ensures count { result ≤ rows }
-    ensures kept { (ws : List ℕ) → size_of_fields ws ≡ size → rows_in ws result records.new.items ≡ unmarked (rows_in ws rows records.old.items) }
+    ensures kept { (ws : List ℕ) → size_of_fields ws ≡ size
+        → rows_in ws result records.new.items ≡ unmarked (rows_in ws rows records.old.items) }
 {
     let mut kept = 0;
     for r in 0..rows {
@@ -306,7 +318,8 @@ impl Table {
     pub fn value_at(&self, r: usize, f: usize) -> Value
         requires row { r < length self.now.rows }
         requires field { f < length self.now.structure.fields }
-        ensures { result ≡ value_by (letter_at self.now.structure f) (decimals_at self.now.structure f) (text_at self.now.rows r f) }
+        ensures { result ≡ value_by (letter_at self.now.structure f) (decimals_at self.now.structure f)
+            (text_at self.now.rows r f) }
     {
         let field = good_field(&self.structure, f);
         value(&field, self.field(r, f))

@@ -1,11 +1,13 @@
 //! What a field's text stands for.
 
-ghost use Rattle.std.specs.Prelude.{◌≡◌, ℕ, ◌+◌, ◌-◌, ◌/◌, ◌%◌, ◌<◌, ◌≤◌, ◌++◌, ◌==◌, min, pos, length, take, slice_index, true, Some};
+ghost use Rattle.std.specs.Prelude.{◌≡◌, ℕ, ◌+◌, ◌-◌, ◌/◌, ◌%◌, ◌<◌, ◌≤◌, ◌++◌, ◌==◌, min, pos, length, take};
+ghost use Rattle.std.specs.Prelude.{slice_index, true, Some};
 ghost use Rattle.fixed_num.specs.Number.{finite};
 ghost use Rattle.fixed_num.specs.Reading.{are_digits, with_digits};
 ghost use Rattle.xvalue.specs.Kinds.{kind_of};
 ghost use Rattle.calendar.specs.Calendar.{day_or_blank};
-ghost use Rattle.dbf_file.specs.Values.{kind_for, is_blank, number_in, day_in, is_yes, value_of, fitted_text, day_text as day_text_of, logical_text as logical_text_of, text_for};
+ghost use Rattle.dbf_file.specs.Values.{kind_for, is_blank, number_in, day_in, is_yes, value_of, fitted_text};
+ghost use Rattle.dbf_file.specs.Values.{day_text as day_text_of, logical_text as logical_text_of, text_for};
 
 use crate::field::{Field, Letter, MAX_DECIMALS};
 use calendar::{Day, DayParts};

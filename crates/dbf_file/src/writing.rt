@@ -1,6 +1,7 @@
 //! The bytes of a table's file, part by part.
 
-ghost use Rattle.std.specs.Prelude.{◌≡◌, ℕ, ◌+◌, ◌*◌, ◌-◌, ◌^◌, ◌<◌, ◌≤◌, ◌++◌, ◌∷◌, ◌==◌, [], List, length, drop, slice_index, replicate, OnOk};
+ghost use Rattle.std.specs.Prelude.{◌≡◌, ℕ, ◌+◌, ◌*◌, ◌-◌, ◌^◌, ◌<◌, ◌≤◌, ◌++◌, ◌∷◌, ◌==◌, [], List, length, drop};
+ghost use Rattle.std.specs.Prelude.{slice_index, replicate, OnOk};
 ghost use Rattle.dbf_file.specs.Numbers.{number_text};
 ghost use Rattle.dbf_file.specs.Fields.{size_of as size_of_fields};
 ghost use Rattle.dbf_file.specs.Descriptors.{descriptor_text, descriptors_text};
@@ -51,7 +52,9 @@ pub(crate) fn put_front(
     requires rows { rows < 2 ^ 32 }
     requires header { header < 2 ^ 16 }
     requires size { size < 2 ^ 16 }
-    ensures { OnOk result (out.new.items ≡ (((out.old.items ++ 3 ∷ stamp.year ∷ stamp.month ∷ stamp.day ∷ []) ++ number_text 4 rows) ++ number_text 2 header) ++ number_text 2 size) }
+    ensures { OnOk result (out.new.items
+        ≡ (((out.old.items ++ 3 ∷ stamp.year ∷ stamp.month ∷ stamp.day ∷ []) ++ number_text 4 rows)
+        ++ number_text 2 header) ++ number_text 2 size) }
 {
     out.extend_from_slice(&[VERSION, stamp.year, stamp.month, stamp.day])?;
     put_four(out, rows as u32)?;
@@ -62,7 +65,8 @@ pub(crate) fn put_front(
 /// Writes a record, whose mark is an asterisk or a blank.
 fn put_record(out: &mut Vec<u8>, bytes: &[u8]) -> Result<(), AllocError>
     requires { 0 < length bytes.now }
-    ensures { OnOk result (out.new.items ≡ out.old.items ++ mark_byte_of (slice_index bytes.now 0 == 42) ∷ drop 1 bytes.now) }
+    ensures { OnOk result (out.new.items ≡ out.old.items ++ mark_byte_of (slice_index bytes.now 0 == 42)
+        ∷ drop 1 bytes.now) }
 {
     let (_, texts) = bytes.split_at(1);
     out.push(mark_byte(bytes[0] == MARKED))?;
@@ -78,7 +82,8 @@ pub(crate) fn put_rows(
 ) -> Result<(), AllocError>
     requires some { 0 < size }
     requires room { count * size ≤ length records.now }
-    ensures { OnOk result ((ws : List ℕ) → size_of_fields ws ≡ size → out.new.items ≡ out.old.items ++ rows_text (rows_in ws count records.now)) }
+    ensures { OnOk result ((ws : List ℕ) → size_of_fields ws ≡ size
+        → out.new.items ≡ out.old.items ++ rows_text (rows_in ws count records.now)) }
 {
     let mut rest = records;
     for _ in 0..count {

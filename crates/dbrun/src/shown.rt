@@ -59,8 +59,8 @@ pub fn faulty_place<'a>(
 /// The most bytes of a line that are shown.
 const WIDTH: usize = 76;
 
-/// A line as it is shown: its first 76 bytes, of which those that aren't printed are question marks, so that no file can
-/// send a terminal what it obeys.
+/// A line as it is shown: its first 76 bytes, of which those that aren't printed are question marks, so that no file
+/// can send a terminal what it obeys.
 #[derive(Clone, Copy, Debug)]
 pub struct Line<'a> {
     bytes: &'a [u8],

@@ -11,9 +11,9 @@ use Rattle.dbf_file.specs.declared.field.Letter.TheVariants.{C, N, D, L}
 use Rattle.dbf_file.specs.Tables.{letter_at, decimals_at}
 use Rattle.dbf_file.specs.Values.{kind_for, value_by}
 use Rattle.shape.specs.declared.tables.TableShape.{TableShape}
-use Rattle.work_area.specs.Open.{OpenState, current_row, field_of}
-use Rattle.work_store.specs.declared.uses.Use.{Use}
-use Rattle.work_store.specs.Areas.{StoreState, use_at}
+use Rattle.open_table.specs.Open.{OpenState, current_row, field_of}
+use Rattle.work_area.specs.declared.uses.Use.{Use}
+use Rattle.work_area.specs.Areas.{StoreState, use_at}
 use Rattle.code_items.specs.declared.declared.Declared.{Declared}
 use Rattle.code_items.specs.declared.desk.OpenArea.{OpenArea}
 use Rattle.code_items.specs.declared.desk.AreaState.{AreaState}

@@ -11,7 +11,7 @@ use Rattle.xvalue.specs.Functions.{applied}
 use Rattle.xvalue.specs.Given.{by_kind}
 use Rattle.xvalue.specs.Signature.{takes_of}
 use Rattle.dbf_file.specs.Values.{kind_for}
-use Rattle.work_rows.specs.Tried.{TriedRow}
+use Rattle.open_table.specs.Tried.{TriedRow}
 use Rattle.code_items.specs.declared.code.Code.{Code}
 use Rattle.code_items.specs.declared.instr.Instr.{Instr}
 use Rattle.code_items.specs.declared.instr.Instr.TheVariants.{Values, Flow, Screen, Areas, Moves, Records}

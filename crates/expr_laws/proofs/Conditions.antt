@@ -15,8 +15,8 @@ use Rattle.dbf_file.specs.declared.field.Letter.TheVariants.{C, N, D, L}
 use Rattle.dbf_file.specs.Tables.{letter_at, decimals_at}
 use Rattle.dbf_file.specs.Values.{kind_for, value_by}
 use Rattle.shape.specs.declared.whole.Shape.{Shape}
-use Rattle.work_rows.specs.Tried.{TriedRow}
-use Rattle.work_store.specs.Making.{AreAlike}
+use Rattle.open_table.specs.Tried.{TriedRow}
+use Rattle.work_area.specs.Making.{AreAlike}
 use Rattle.code_items.specs.declared.code.Code.{Code}
 use Rattle.code_items.specs.declared.declared.Filter.{Filter}
 use Rattle.code_items.specs.declared.desk.OpenArea.{OpenArea}

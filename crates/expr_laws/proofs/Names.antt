@@ -9,9 +9,9 @@ use Rattle.xvalue.specs.declared.value.Value.{Value}
 use Rattle.xvalue.specs.Kinds.{kind_of, same_kind}
 use Rattle.dbf_file.specs.declared.field.Field.{Field}
 use Rattle.shape.specs.declared.whole.Shape.{Shape}
-use Rattle.work_area.specs.Open.{OpenState, field_of}
-use Rattle.work_store.specs.declared.uses.Use.{Use}
-use Rattle.work_store.specs.Areas.{StoreState, use_at, area_table, here, selected_use, holds, AreApart}
+use Rattle.open_table.specs.Open.{OpenState, field_of}
+use Rattle.work_area.specs.declared.uses.Use.{Use}
+use Rattle.work_area.specs.Areas.{StoreState, use_at, area_table, here, selected_use, holds, AreApart}
 use Rattle.code_items.specs.declared.code.Code.{Code}
 use Rattle.code_items.specs.declared.desk.OpenArea.{OpenArea}
 use Rattle.code_items.specs.declared.desk.AreaState.{AreaState}

@@ -14,8 +14,8 @@ use Rattle.code_items.specs.declared.instr.Instr.{Instr}
 use Rattle.code_items.specs.declared.instr.Instr.TheVariants.{Values, Flow, Screen, Areas, Moves, Records}
 use Rattle.code_items.specs.declared.instr.FlowInstr.TheVariants.{End}
 use Rattle.code_rules.specs.Places.{instr_at}
-use Rattle.work_area.specs.Open.{OpenState, field_of}
-use Rattle.work_store.specs.Areas.{area_table, here}
+use Rattle.open_table.specs.Open.{OpenState, field_of}
+use Rattle.work_area.specs.Areas.{area_table, here}
 use Rattle.run_values.specs.Tagged.{TaggedValues, loaded_value, pushed}
 use Rattle.run_steps.specs.World.{World, EnvState}
 use Rattle.run_steps.specs.Control.{effect, finishes}

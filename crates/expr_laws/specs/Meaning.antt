@@ -21,8 +21,8 @@ use Rattle.prg_values.specs.Operators.{operated, prefix_fun}
 use Rattle.prg_values.specs.Readings.{on_some}
 use Rattle.prg_values.specs.Written.{meaning, defaults, choice}
 
--- what is seen where an expression is judged: settings and day, what plain names and names behind an alias stand for, and the
--- answers to questions
+-- what is seen where an expression is judged: settings and day, what plain names and names behind an alias stand for,
+-- and the answers to questions
 pub record Sight : Type 0 where
   pub settings : Settings
   pub today : Option DayParts
@@ -53,7 +53,8 @@ operation_value settings o a b = denied_if o.negated settings (applied_to settin
 
 -- what the operator does is known by the kinds of its operands
 abbrev pub operated_value : Settings → Operator → Value → Value → Value
-operated_value settings o a b = on_some (operated o (kind_of a) (kind_of b)) nothing (λ operation. operation_value settings operation a b)
+operated_value settings o a b =
+    on_some (operated o (kind_of a) (kind_of b)) nothing (λ operation. operation_value settings operation a b)
 
 -- a plus sign does nothing
 abbrev pub prefixed_value : Settings → Option Fun → Value → Value

@@ -3,8 +3,8 @@ use Rattle.std.specs.Prelude.{◌≡◌, ℕ, true, List, Some, length, codes, i
 use Rattle.std.specs.Str.{bytes_eq}
 use Rattle.xvalue.specs.declared.value.Value.{Value}
 use Rattle.shape.specs.declared.whole.Shape.{Shape}
-use Rattle.work_rows.specs.Tried.{TriedRow}
-use Rattle.work_store.specs.Making.{AreAlike}
+use Rattle.open_table.specs.Tried.{TriedRow}
+use Rattle.work_area.specs.Making.{AreAlike}
 use Rattle.code_items.specs.declared.code.Code.{Code}
 use Rattle.code_items.specs.declared.declared.Filter.{Filter}
 use Rattle.code_items.specs.declared.desk.OpenArea.{OpenArea}
@@ -18,21 +18,23 @@ use Rattle.expr_laws.specs.Seeing.{variable_value}
 
 -- a field of the row's table
 abbrev pub row_value : Shape → ℕ → TriedRow → List ℕ → Value → Value
-row_value shape table r name other = on_some (field_named (table_fields shape table) name) other (λ f. row_field f.number r)
+row_value shape table r name other =
+    on_some (field_named (table_fields shape table) name) other (λ f. row_field f.number r)
 
--- a name is a field of the row, else a variable; behind an alias, which can only be that of the filter's own work area, a field
--- of the row; behind M a variable
+-- a name is a field of the row, else a variable; behind an alias, which can only be that of the filter's own work area,
+-- a field of the row; behind M a variable
 abbrev pub row_sight : Shape → List Binding → Viewer → ℕ → TriedRow → Sight
 row_sight shape names v table r = record {
   settings = v.settings;
   today = v.today;
   named = λ name. row_value shape table r name (variable_value names v.slots name);
-  qualified = λ alias name. if bytes_eq alias (codes "M") then variable_value names v.slots name else row_value shape table r name nothing;
+  qualified = λ alias name. if bytes_eq alias (codes "M") then variable_value names v.slots name
+      else row_value shape table r name nothing;
   asked = λ q. asked_of q r;
 }
 
--- the condition was compiled for this code's tables as a filter's, where the selected work area held this table; the filter of
--- the number is of that table
+-- the condition was compiled for this code's tables as a filter's, where the selected work area held this table; the
+-- filter of the number is of that table
 pub record IsOfFilter (code : Code) (s : Scoped) (number table : ℕ) : Type 0 where
   pub shape : s.shape ≡ code.declared.shape
   pub inside : s.in_filter ≡ true

@@ -1,12 +1,13 @@
 -- What the names of an expression stand for in a world, and what is left where its code has run.
-use Rattle.std.specs.Prelude.{◌≡◌, ℕ, ◌+◌, true, false, List, [], ◌∷◌, Option, Some, None, slice_get, take, drop, length, codes, if◌then◌else◌}
+use Rattle.std.specs.Prelude.{◌≡◌, ℕ, ◌+◌, true, false, List, [], ◌∷◌, Option, Some, None, slice_get, take, drop}
+use Rattle.std.specs.Prelude.{length, codes, if◌then◌else◌}
 use Rattle.std.specs.Str.{bytes_eq}
 use Rattle.xvalue.specs.declared.value.Value.{Value}
 use Rattle.dbf_file.specs.declared.field.Field.{Field}
 use Rattle.shape.specs.declared.whole.Shape.{Shape}
-use Rattle.work_area.specs.Open.{OpenState, field_of}
-use Rattle.work_store.specs.declared.uses.Use.{Use}
-use Rattle.work_store.specs.Areas.{StoreState, use_at, area_table, here, selected_use, holds}
+use Rattle.open_table.specs.Open.{OpenState, field_of}
+use Rattle.work_area.specs.declared.uses.Use.{Use}
+use Rattle.work_area.specs.Areas.{StoreState, use_at, area_table, here, selected_use, holds}
 use Rattle.code_items.specs.declared.code.Code.{Code}
 use Rattle.code_items.specs.declared.instr.Instr.{Instr}
 use Rattle.code_items.specs.declared.instr.Question.{Question}
@@ -44,7 +45,9 @@ field_value (Some o) number = field_of number o
 
 -- a plain name: the field of the selected area's table, else the variable
 abbrev pub named_value : Shape → List Binding → World → List ℕ → Value
-named_value shape names w name = on_some (field_named (used_fields shape (selected_use w.env.store)) name) (variable_value names w.values.slots name) (λ f. field_value (here w.env.store) f.number)
+named_value shape names w name =
+    on_some (field_named (used_fields shape (selected_use w.env.store)) name)
+    (variable_value names w.values.slots name) (λ f. field_value (here w.env.store) f.number)
 
 -- the first work area, of those from this number on, that holds a table
 abbrev pub holder : ℕ → List (Option Use) → ℕ → Option ℕ
@@ -53,10 +56,13 @@ holder number (u ∷ areas) table = if holds table u then Some number else holde
 
 -- the work area of an alias: that of a letter, else the one that holds the table of that name
 abbrev pub alias_of : Shape → StoreState → List ℕ → Option ℕ
-alias_of shape s alias = on_some (letter_area alias) (on_some (table_named shape alias) None (holder 1 s.areas)) (λ area. Some area)
+alias_of shape s alias =
+    on_some (letter_area alias) (on_some (table_named shape alias) None (holder 1 s.areas)) (λ area. Some area)
 
 abbrev pub field_of_area : Shape → StoreState → List ℕ → ℕ → Value
-field_of_area shape s name area = on_some (field_named (used_fields shape (use_at s area)) name) nothing (λ f. field_value (area_table s area) f.number)
+field_of_area shape s name area =
+    on_some (field_named (used_fields shape (use_at s area)) name) nothing
+    (λ f. field_value (area_table s area) f.number)
 
 -- a name behind an alias: a field of that area's table; behind M a variable
 abbrev pub qualified_value : Shape → List Binding → World → List ℕ → List ℕ → Value
@@ -81,7 +87,8 @@ sight shape names w = record {
 
 -- ---- where an expression was compiled, and where its code runs
 
--- it was compiled for this code's tables, outside of a filter, and what was known of slots and work areas is true of the world
+-- it was compiled for this code's tables, outside of a filter, and what was known of slots and work areas is true of
+-- the world
 pub record StandsAt (code : Code) (s : Scoped) (w : World) : Type 0 where
   pub shape : s.shape ≡ code.declared.shape
   pub outside : s.in_filter ≡ false

@@ -15,7 +15,7 @@ ghost use Rattle.prg_values.specs.Written.{IsWritten};
 ghost use Rattle.run_steps.specs.Filters.{filter_block, is_sound, is_unhidden, is_visible, Viewer};
 ghost use Rattle.run_steps.specs.Run.{after, spent};
 ghost use Rattle.run_steps.specs.World.{kind_held, World as AnyWorld};
-ghost use Rattle.work_rows.specs.Tried.{TriedRow};
+ghost use Rattle.open_table.specs.Tried.{TriedRow};
 ghost use Rattle.xvalue.specs.declared.kind.Kind.{Kind as AnyKind};
 ghost use Rattle.xvalue.specs.declared.kind.Kind.TheVariants.{Logical};
 ghost use Rattle.xvalue.specs.Kinds.{kind_of};
@@ -24,28 +24,38 @@ use code_items::laws::legal_codes;
 use fit_laws::laws::fitting_worlds_are_safe;
 use xvalue::laws::{results_have_their_kind, same_kinds_are_equal};
 
-/// The code of an expression, wherever it stands in accepted code, leaves the expression's value on top after one step an
-/// instruction; the value has the kind that was known, and nothing else is changed but the place. What was known where the
-/// expression was compiled has to be true of the world.
+/// The code of an expression, wherever it stands in accepted code, leaves the expression's value on top after one step
+/// an instruction; the value has the kind that was known, and nothing else is changed but the place. What was known
+/// where the expression was compiled has to be true of the world.
 pub fn expressions_leave_their_values()
-    ensures world { (code : AnyCode) (s : Scoped) (w : AnyWorld) (e : Tree) (kind : AnyKind) (block : List AnyInstr) → IsCode code → Accepted code → IsFitting code w → StandsAt code s w
+    ensures world { (code : AnyCode) (s : Scoped) (w : AnyWorld) (e : Tree) (kind : AnyKind) (block : List AnyInstr)
+        → IsCode code → Accepted code → IsFitting code w → StandsAt code s w
         → IsWritten s e kind code.declared.constants block → IsThere code w.place block
-        → after code w (length block) ≡ Some (with_value (length block) (value_in (sight code.declared.shape s.names w) e) w) }
-    ensures steps { (code : AnyCode) (s : Scoped) (w : AnyWorld) (e : Tree) (kind : AnyKind) (block : List AnyInstr) → IsCode code → Accepted code → IsFitting code w → StandsAt code s w
-        → IsWritten s e kind code.declared.constants block → IsThere code w.place block → spent code w (length block) ≡ length block }
-    ensures kind { (code : AnyCode) (s : Scoped) (w : AnyWorld) (e : Tree) (kind : AnyKind) (block : List AnyInstr) → IsCode code → Accepted code → IsFitting code w → StandsAt code s w
-        → IsWritten s e kind code.declared.constants block → IsThere code w.place block → kind_of (value_in (sight code.declared.shape s.names w) e) ≡ kind }
+        → after code w (length block)
+        ≡ Some (with_value (length block) (value_in (sight code.declared.shape s.names w) e) w) }
+    ensures steps { (code : AnyCode) (s : Scoped) (w : AnyWorld) (e : Tree) (kind : AnyKind) (block : List AnyInstr)
+        → IsCode code → Accepted code → IsFitting code w → StandsAt code s w
+        → IsWritten s e kind code.declared.constants block → IsThere code w.place block
+        → spent code w (length block) ≡ length block }
+    ensures kind { (code : AnyCode) (s : Scoped) (w : AnyWorld) (e : Tree) (kind : AnyKind) (block : List AnyInstr)
+        → IsCode code → Accepted code → IsFitting code w → StandsAt code s w
+        → IsWritten s e kind code.declared.constants block → IsThere code w.place block
+        → kind_of (value_in (sight code.declared.shape s.names w) e) ≡ kind }
 {
     results_have_their_kind();
     fitting_worlds_are_safe();
 }
 
-/// A filter compiled from a condition, where its needs are met and its block can be run, shows just the rows that aren't hidden
-/// by their mark and for which the condition holds: fields read from the row tried, variables, settings and day as they are then.
+/// A filter compiled from a condition, where its needs are met and its block can be run, shows just the rows that
+/// aren't hidden by their mark and for which the condition holds: fields read from the row tried, variables, settings
+/// and day as they are then.
 pub fn filters_hold_where_their_conditions_do()
-    ensures { (code : AnyCode) (s : Scoped) (v : Viewer) (number table : ℕ) (row : TriedRow) (e : Tree) → IsCode code → IsOfFilter code s (suc number) table → IsOfTable code v table row
-        → is_sound code (map kind_held v.slots) (suc number) ≡ true → IsWritten s e Logical code.declared.constants (filter_block code (suc number))
-        → is_visible code v (suc number) row ≡ (is_unhidden v.settings.deleted row && holds_in (row_sight code.declared.shape s.names v table row) e) }
+    ensures { (code : AnyCode) (s : Scoped) (v : Viewer) (number table : ℕ) (row : TriedRow) (e : Tree) → IsCode code
+        → IsOfFilter code s (suc number) table → IsOfTable code v table row
+        → is_sound code (map kind_held v.slots) (suc number) ≡ true
+        → IsWritten s e Logical code.declared.constants (filter_block code (suc number))
+        → is_visible code v (suc number) row
+        ≡ (is_unhidden v.settings.deleted row && holds_in (row_sight code.declared.shape s.names v table row) e) }
 {
     legal_codes();
     results_have_their_kind();

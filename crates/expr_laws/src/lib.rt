@@ -1,5 +1,5 @@
-//! Laws of compiled expressions: run by a machine, the code of an expression leaves the value that the expression means, and
-//! changes nothing else; a filter shows the rows for which its condition holds.
+//! Laws of compiled expressions: run by a machine, the code of an expression leaves the value that the expression
+//! means, and changes nothing else; a filter shows the rows for which its condition holds.
 #![tactic(auto)]
 
 pub mod laws;

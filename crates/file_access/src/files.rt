@@ -1,7 +1,8 @@
 // Files by name.
 #![tactic(auto)]
 
-ghost use Rattle.std.specs.Prelude.{◌≡◌, ◌<◌, ◌≤◌, ◌+◌, ◌-◌, ◌^◌, ◌⊎◌, ℕ, List, Option, Some, None, length, IfOk, OnErr, OnOk, IsErrOf};
+ghost use Rattle.std.specs.Prelude.{◌≡◌, ◌<◌, ◌≤◌, ◌+◌, ◌-◌, ◌^◌, ◌⊎◌, ℕ, List, Option, Some, None, length, IfOk};
+ghost use Rattle.std.specs.Prelude.{OnErr, OnOk, IsErrOf};
 ghost use Rattle.file_access.specs.Holding.{Rose, SameFiles, IsReplaced};
 
 use std::alloc::Global;
@@ -35,9 +36,11 @@ pub trait Files {
     /// Reads a file of at most so many bytes. `Device` is answered only where the count of device failures rose in
     /// this call, or is at its greatest; it never falls. No file changes: what the files may hold stays as it was.
     fn read(&mut self, alloc: Global, name: &str, limit: usize) -> Result<Vec<u8>, ReadFault>
-        ensures found { IfOk result (λ bytes. holds self.old name.now (Some bytes.items) × (length bytes.items ≤ limit)) }
+        ensures found { IfOk result (λ bytes. holds self.old name.now (Some bytes.items)
+            × (length bytes.items ≤ limit)) }
         ensures absent { IsErrOf result ReadFault.Absent → holds self.old name.now None }
-        ensures long { IsErrOf result ReadFault.TooLong → (bytes : List ℕ) × holds self.old name.now (Some bytes) × (limit < length bytes) }
+        ensures long { IsErrOf result ReadFault.TooLong → (bytes : List ℕ) × holds self.old name.now (Some bytes)
+            × (limit < length bytes) }
         ensures device { IsErrOf result ReadFault.Device → Rose (failed self.old) (failed self.new) }
         ensures counted { failed self.old ≤ failed self.new }
         ensures kept { SameFiles (holds self.old) (holds self.new) };

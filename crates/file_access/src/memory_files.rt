@@ -1,7 +1,8 @@
 // Files in memory.
 #![tactic(auto)]
 
-ghost use Rattle.std.specs.Prelude.{◌≡◌, ◌<◌, ◌≤◌, ◌+◌, ◌-◌, ◌^◌, ◌⊎◌, ℕ, true, false, List, [], ◌∷◌, Option, Some, None, length, IfOk, IfErr, OnErr, OnOk, IsErrOf, MatchOption, string_bytes};
+ghost use Rattle.std.specs.Prelude.{◌≡◌, ◌<◌, ◌≤◌, ◌+◌, ◌-◌, ◌^◌, ◌⊎◌, ℕ, true, false, List, [], ◌∷◌, Option, Some};
+ghost use Rattle.std.specs.Prelude.{None, length, IfOk, IfErr, OnErr, OnOk, IsErrOf, MatchOption, string_bytes};
 ghost use Rattle.std.specs.Option.{option_copied};
 ghost use Rattle.file_access.specs.Holding.{Rose, SameFiles, IsReplaced, HoldsOneThing};
 ghost use Rattle.file_access.specs.InMemory.{HoldsFile, HoldsWritten};
@@ -50,7 +51,9 @@ fn find<'a>(entries: &'a [MemoryEntry<'a>], name: &str) -> Option<&'a [u8]>
 }
 
 fn find_written<'b>(written: &'b [WrittenFile], name: &str) -> Option<&'b [u8]>
-    ensures { (es : List MemoryEntry) (found : Option (List ℕ)) → MatchOption result (HoldsFile es name.now found) (λ bytes. found ≡ Some bytes.now) → HoldsWritten written.now es name.now found }
+    ensures { (es : List MemoryEntry) (found : Option (List ℕ))
+        → MatchOption result (HoldsFile es name.now found) (λ bytes. found ≡ Some bytes.now)
+        → HoldsWritten written.now es name.now found }
 {
     for file in written {
         if file.name.as_str() == name {
@@ -135,7 +138,8 @@ impl<'a> MemoryFiles<'a> {
     fn put(&mut self, name: &str, bytes: &[u8]) -> Result<(), AllocError>
         ensures entries { self.new.entries.now ≡ self.old.entries.now }
         ensures failures { self.new.failures ≡ self.old.failures }
-        ensures put { OnOk result ((file : WrittenFile) × (string_bytes file.name ≡ name.now) × (file.bytes.items ≡ bytes.now) × (self.new.written.items ≡ file ∷ self.old.written.items)) }
+        ensures put { OnOk result ((file : WrittenFile) × (string_bytes file.name ≡ name.now)
+            × (file.bytes.items ≡ bytes.now) × (self.new.written.items ≡ file ∷ self.old.written.items)) }
         ensures kept { OnErr result (self.new.written.items ≡ self.old.written.items) }
     {
         let alloc = *self.written.allocator();

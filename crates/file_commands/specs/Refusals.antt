@@ -1,7 +1,7 @@
 -- Why a command isn't carried out. Each command tells faults of its own sort alone.
 use Rattle.std.specs.Prelude.{◌≡◌, ◌<◌, ℕ, List, Bool, true, false, Option, Some, None, Err, length}
-use Rattle.code_file.specs.declared.fault.CodeFault.{CodeFault}
-use Rattle.code_file.specs.Decoding.{code_at}
+use Rattle.xcode.specs.declared.fault.CodeFault.{CodeFault}
+use Rattle.xcode.specs.Decoding.{code_at}
 use Rattle.dbf_file.specs.declared.fault.DbfFault.{DbfFault}
 use Rattle.dbf_file.specs.Faults.{first_fault}
 use Rattle.ndx_tree.specs.declared.fault.TreeFault.{TreeFault}

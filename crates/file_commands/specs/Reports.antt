@@ -1,10 +1,10 @@
 -- What the reading commands report of a file.
 use Rattle.std.specs.Prelude.{◌≡◌, ◌≤◌, ℕ, List, Bool, true, false, Option, Some, None, length}
 use Rattle.code_items.specs.declared.code.Code.{Code}
-use Rattle.code_file.specs.CodeFile.{CodeText}
+use Rattle.xcode.specs.CodeFile.{CodeText}
 use Rattle.code_rules.specs.Rules.{Accepted, FirstRefusal}
-use Rattle.code_file.specs.Listing.{lines_from}
-use Rattle.code_verify.specs.declared.verified.Refused.{Refused as RefusedRule}
+use Rattle.xcode.specs.Listing.{lines_from}
+use Rattle.xverify.specs.declared.verified.Refused.{Refused as RefusedRule}
 use Rattle.file_commands.specs.Lines.{table_lines, index_lines}
 use Rattle.dbf_file.specs.declared.stamp.Stamp.{Stamp}
 use Rattle.dbf_file.specs.Rows.{Row}

@@ -70,7 +70,8 @@ pub fn list_index<'a, F: Files>(
     name: &'a str,
 ) -> Result<Vec<u8>, Refusal<'a>>
     ensures listed { IfOk result (λ lines. IndexListed (F.holds files.old name.now) lines.items) }
-    ensures refused { IfErr result (RefusalIs (IndexFault (F.holds files.old name.now)) (F.failed files.old) (F.failed files.new) name.now) }
+    ensures refused { IfErr result (RefusalIs (IndexFault (F.holds files.old name.now)) (F.failed files.old)
+        (F.failed files.new) name.now) }
     ensures kept { SameFiles (F.holds files.old) (F.holds files.new) }
 {
     let bytes = read_bytes(alloc, files, name)?;

@@ -1,4 +1,5 @@
-//! What the program's reading commands do with files: code files are verified and listed, tables and index files listed.
+//! What the program's reading commands do with files: code files are verified and listed, tables and index files
+//! listed.
 //!
 //! Files are reached through the trait `Files`, so that each command's contract says what files may hold, and the same
 //! functions serve a folder of the disk and files in memory.

@@ -8,10 +8,10 @@ ghost use Rattle.file_commands.specs.Reports.{Listed, Judged};
 
 use crate::reading::read_code;
 use crate::refusal::Refusal;
-use code_file::list;
-use code_verify::{Refused, VerifyError, verify};
 use file_access::Files;
 use std::alloc::Global;
+use xcode::list;
+use xverify::{Refused, VerifyError, verify};
 
 /// Whether the code in a file is accepted: none, or the least rule that fails at the least place where one does.
 pub fn verify_file<'a, F: Files>(
@@ -20,7 +20,8 @@ pub fn verify_file<'a, F: Files>(
     name: &'a str,
 ) -> Result<Option<Refused>, Refusal<'a>>
     ensures judged { IfOk result (Judged (F.holds files.old name.now)) }
-    ensures refused { IfErr result (RefusalIs (CodeFileFault (F.holds files.old name.now)) (F.failed files.old) (F.failed files.new) name.now) }
+    ensures refused { IfErr result (RefusalIs (CodeFileFault (F.holds files.old name.now)) (F.failed files.old)
+        (F.failed files.new) name.now) }
     ensures kept { SameFiles (F.holds files.old) (F.holds files.new) }
 {
     let code = read_code(alloc, files, name)?;
@@ -38,7 +39,8 @@ pub fn list_code<'a, F: Files>(
     name: &'a str,
 ) -> Result<Vec<u8>, Refusal<'a>>
     ensures listed { IfOk result (λ lines. Listed (F.holds files.old name.now) lines.items) }
-    ensures refused { IfErr result (RefusalIs (CodeFileFault (F.holds files.old name.now)) (F.failed files.old) (F.failed files.new) name.now) }
+    ensures refused { IfErr result (RefusalIs (CodeFileFault (F.holds files.old name.now)) (F.failed files.old)
+        (F.failed files.new) name.now) }
     ensures kept { SameFiles (F.holds files.old) (F.holds files.new) }
 {
     let code = read_code(alloc, files, name)?;

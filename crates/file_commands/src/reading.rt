@@ -8,9 +8,9 @@ ghost use Rattle.file_commands.specs.Refusals.{RefusalIs, CodeFileFault, FileFau
 ghost use Rattle.file_commands.specs.Reports.{IsCodeFile};
 
 use crate::refusal::{Fault, Refusal};
-use code_file::{Code, CodeFault, decode};
 use file_access::{Files, ReadFault};
 use std::alloc::Global;
+use xcode::{Code, CodeFault, decode};
 
 /// The longest file that is read: 64 MiB.
 pub const FILE_LIMIT: usize = 67_108_864;
@@ -23,7 +23,8 @@ pub(crate) fn read_bytes<'a, F: Files>(
 ) -> Result<Vec<u8>, Refusal<'a>>
     ensures held { IfOk result (λ bytes. F.holds files.old name.now (Some bytes.items)) }
     ensures short { IfOk result (λ bytes. length bytes.items ≤ 67108864) }
-    ensures refused { IfErr result (RefusalIs (FileFault (F.holds files.old name.now)) (F.failed files.old) (F.failed files.new) name.now) }
+    ensures refused { IfErr result (RefusalIs (FileFault (F.holds files.old name.now)) (F.failed files.old)
+        (F.failed files.new) name.now) }
     ensures kept { SameFiles (F.holds files.old) (F.holds files.new) }
     ensures counted { F.failed files.old ≤ F.failed files.new }
 {
@@ -50,7 +51,8 @@ pub fn read_code<'a, F: Files>(
 ) -> Result<Code, Refusal<'a>>
     ensures found { IfOk result (λ code. IsCodeFile (F.holds files.old name.now) code) }
     ensures legal { IfOk result IsCode }
-    ensures refused { IfErr result (RefusalIs (CodeFileFault (F.holds files.old name.now)) (F.failed files.old) (F.failed files.new) name.now) }
+    ensures refused { IfErr result (RefusalIs (CodeFileFault (F.holds files.old name.now)) (F.failed files.old)
+        (F.failed files.new) name.now) }
     ensures kept { SameFiles (F.holds files.old) (F.holds files.new) }
     ensures counted { F.failed files.old ≤ F.failed files.new }
 {

@@ -1,10 +1,10 @@
 // Why a command isn't carried out.
 #![tactic(auto)]
 
-use code_file::CodeFault;
 use dbf_file::DbfFault;
 use ndx_tree::TreeFault;
 use thiserror::Error;
+use xcode::CodeFault;
 
 /// What is wrong with a file.
 #[derive(Clone, Copy, PartialEq, Eq, Debug, Error)]

@@ -85,7 +85,8 @@ fn put_cell(out: &mut Vec<u8>, field: &Field, text: &[u8]) -> Result<(), AllocEr
 /// The fields of row `r`, a blank before each.
 fn put_cells(out: &mut Vec<u8>, table: &Table, r: usize) -> Result<(), AllocError>
     requires { r < length table.now.rows }
-    ensures { OnOk result (out.new.items ≡ out.old.items ++ cells table.now.structure.fields (row_at table.now.rows r).texts) }
+    ensures { OnOk result (out.new.items ≡ out.old.items
+        ++ cells table.now.structure.fields (row_at table.now.rows r).texts) }
 {
     fields_are_good();
     fields_have_shapes();
@@ -100,7 +101,8 @@ fn put_cells(out: &mut Vec<u8>, table: &Table, r: usize) -> Result<(), AllocErro
 #[tactic(auto, unfolding(crate::specs::Lines::row_line))]
 fn put_row(alloc: Global, out: &mut Vec<u8>, table: &Table, r: usize) -> Result<(), AllocError>
     requires { r < length table.now.rows }
-    ensures { OnOk result (out.new.items ≡ out.old.items ++ row_line table.now.structure.fields (r + 1) (row_at table.now.rows r)) }
+    ensures { OnOk result (out.new.items ≡ out.old.items
+        ++ row_line table.now.structure.fields (r + 1) (row_at table.now.rows r)) }
 {
     let _ = table.rows();
     put_right(alloc, out, r + 1)?;
@@ -138,7 +140,8 @@ pub fn list_table<'a, F: Files>(
     name: &'a str,
 ) -> Result<Vec<u8>, Refusal<'a>>
     ensures listed { IfOk result (λ lines. TableListed (F.holds files.old name.now) lines.items) }
-    ensures refused { IfErr result (RefusalIs (TableFault (F.holds files.old name.now)) (F.failed files.old) (F.failed files.new) name.now) }
+    ensures refused { IfErr result (RefusalIs (TableFault (F.holds files.old name.now)) (F.failed files.old)
+        (F.failed files.new) name.now) }
     ensures kept { SameFiles (F.holds files.old) (F.holds files.new) }
 {
     let bytes = read_bytes(alloc, files, name)?;

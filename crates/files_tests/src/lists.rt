@@ -164,7 +164,8 @@ fn answers_as_a_plain_list(rt: HostRuntime) -> Result<(), Fail> {
 
 // The entries of the test below, in no order.
 fn unordered(alloc: Global) -> Result<Vec<Entry>, AllocError>
-    ensures { IfOk result (λ entries. entries.items ≡ (66 ∷ 32 ∷ [], 9) ∷ (66 ∷ 32 ∷ [], 3) ∷ (65 ∷ 90 ∷ [], 12) ∷ (32 ∷ 66 ∷ [], 7) ∷ []) }
+    ensures { IfOk result (λ entries. entries.items ≡ (66 ∷ 32 ∷ [], 9) ∷ (66 ∷ 32 ∷ [], 3) ∷ (65 ∷ 90 ∷ [], 12)
+        ∷ (32 ∷ 66 ∷ [], 7) ∷ []) }
 {
     let mut entries = Vec::new(alloc);
     entries.push(Entry::new(b"B ", 9))?;
@@ -176,7 +177,8 @@ fn unordered(alloc: Global) -> Result<Vec<Entry>, AllocError>
 
 // They, where memory is refused at the second try.
 fn unordered_at_last(alloc: Global) -> Result<Vec<Entry>, AllocError>
-    ensures { IfOk result (λ entries. entries.items ≡ (66 ∷ 32 ∷ [], 9) ∷ (66 ∷ 32 ∷ [], 3) ∷ (65 ∷ 90 ∷ [], 12) ∷ (32 ∷ 66 ∷ [], 7) ∷ []) }
+    ensures { IfOk result (λ entries. entries.items ≡ (66 ∷ 32 ∷ [], 9) ∷ (66 ∷ 32 ∷ [], 3) ∷ (65 ∷ 90 ∷ [], 12)
+        ∷ (32 ∷ 66 ∷ [], 7) ∷ []) }
 {
     match unordered(alloc) {
         Ok(entries) => Ok(entries),

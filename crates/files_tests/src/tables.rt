@@ -112,8 +112,8 @@ fn fault_of(alloc: Global, bytes: &[u8]) -> Option<DbfFault> {
     }
 }
 
-/// The table of these bytes, within so many rows, that is made of bytes taken over; none where one of bytes that are lent has
-/// other rows.
+/// The table of these bytes, within so many rows, that is made of bytes taken over; none where one of bytes that are
+/// lent has other rows.
 fn table_of(alloc: Global, bytes: &[u8], limit: usize) -> Option<Table> {
     let lent = read(alloc, bytes, limit).ok()?;
     let taken = taken_over(alloc, bytes, limit).ok()?;

@@ -15,8 +15,8 @@ use Rattle.code_rules.specs.Wants.{wants}
 use Rattle.code_rules.specs.Places.{instr_at, state_at, block_at}
 use Rattle.code_rules.specs.Kept.{Kept}
 use Rattle.code_rules.specs.Rules.{Here, here_at, if_some, names_other, some_desk_fails, some_slots_fail, filter_fails, is_filters, moves_blindly, is_rows, loads_other, loads_free, undeclared, order_fails, opens_twice, height_after}
-use Rattle.code_laws.specs.Connects.{IsOfProcedures, Connects}
-use Rattle.code_laws.specs.FilterWalks.{WalksWithNeeds}
+use Rattle.fit_laws.specs.Connects.{IsOfProcedures, Connects}
+use Rattle.fit_laws.specs.FilterWalks.{WalksWithNeeds}
 use Rattle.run_steps.specs.World.{World, state_of}
 use Rattle.run_steps.specs.Faults.{wrong_kind, closed_area, empty_stack, stack_over, deep_call, bad_field, bad_filter, lists_other, filters_other, moves_badly, IsClear}
 use Rattle.fit_laws.specs.Fits.{HasRoom, ReturnsWithin, IsFitting}

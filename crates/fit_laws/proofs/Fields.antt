@@ -7,8 +7,8 @@ use Rattle.dbf_file.specs.declared.field.Letter.{Letter}
 use Rattle.dbf_file.specs.declared.field.Letter.TheVariants.{C, N, D, L}
 use Rattle.dbf_file.specs.Tables.{letter_at, decimals_at}
 use Rattle.dbf_file.specs.Values.{kind_for, value_by}
-use Rattle.work_area.specs.Open.{OpenState, current_row, field_of}
-use Rattle.work_store.specs.Areas.{StoreState, area_table, here}
+use Rattle.open_table.specs.Open.{OpenState, current_row, field_of}
+use Rattle.work_area.specs.Areas.{StoreState, area_table, here}
 use Rattle.code_items.specs.declared.code.Code.{Code}
 use Rattle.code_items.specs.declared.declared.Declared.{Declared}
 use Rattle.code_items.specs.declared.desk.Desk.{Desk}

@@ -32,7 +32,7 @@ use Rattle.code_rules.specs.Signature.{signature, value_signature, flow_signatur
 use Rattle.code_rules.specs.Wants.{wants}
 use Rattle.code_rules.specs.Flow.{left_by}
 use Rattle.code_rules.specs.Rules.{if_open, selected_in, filters, height_after, loads_other, loads_free, filter_lacks, moves_blindly, undeclared}
-use Rattle.code_laws.specs.FilterWalks.{Steps, Walks, WalksWithNeeds}
+use Rattle.fit_laws.specs.FilterWalks.{Steps, Walks, WalksWithNeeds}
 use Rattle.run_steps.specs.Filters.{block_fails, block_sound, block_start, is_sound_filter, is_sound, instructions_of}
 use Rattle.run_steps.specs.Faults.{moves_badly}
 use Rattle.fit_laws.proofs.Covered.{Covered, selects}

@@ -4,7 +4,7 @@ use Rattle.std.specs.Prelude.{is_none, slice_get, unwrap_or}
 use Rattle.std.proofs.lemmas.Bool.{and_parts, and_from}
 use Rattle.xvalue.specs.declared.kind.Kind.{Kind}
 use Rattle.xvalue.specs.declared.kind.Kind.TheVariants.{Number as OfNumber, Text as OfText, Date as OfDate, Logical as OfLogical}
-use Rattle.work_store.specs.Areas.{AreApart}
+use Rattle.work_area.specs.Areas.{AreApart}
 use Rattle.code_items.specs.declared.code.Code.{Code}
 use Rattle.code_items.specs.declared.code.Proc.{Proc}
 use Rattle.code_items.specs.declared.state.State.{State}
@@ -28,7 +28,7 @@ use Rattle.code_rules.specs.Flow.{flow, left_by, slots_after, desk_after}
 use Rattle.code_rules.specs.Kept.{KeepsRules}
 use Rattle.code_rules.specs.Places.{instr_at, state_at}
 use Rattle.code_rules.specs.Rules.{covers, here_at, returns as is_return}
-use Rattle.code_laws.specs.Connects.{IsOfProcedures, Connects}
+use Rattle.fit_laws.specs.Connects.{IsOfProcedures, Connects}
 use Rattle.run_values.specs.Tagged.{TaggedValues}
 use Rattle.run_steps.specs.World.{World, state_of, desk_of}
 use Rattle.run_steps.specs.Control.{entry_place, is_false, finishes, effect}

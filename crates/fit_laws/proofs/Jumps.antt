@@ -21,7 +21,7 @@ use Rattle.code_items.specs.declared.instr.Instr.TheVariants.{Values, Flow, Scre
 use Rattle.code_rules.specs.Signature.{signature, value_signature, screen_signature, area_signature, move_signature, record_signature, target_of, call_of}
 use Rattle.code_rules.specs.Places.{instr_at}
 use Rattle.code_rules.specs.Rules.{if_some, no_procedure}
-use Rattle.code_laws.specs.Connects.{IsOfProcedures, Connects}
+use Rattle.fit_laws.specs.Connects.{IsOfProcedures, Connects}
 use Rattle.run_steps.specs.World.{World}
 use Rattle.run_steps.specs.Control.{entry_place, is_false, next_place, finishes}
 use Rattle.run_steps.specs.Effects.{top}

@@ -12,3 +12,12 @@ pub mod Returns
 pub mod Runs
 pub mod StoreDesks
 pub mod Values
+pub mod BlockPlaces
+pub mod Connecting
+pub mod Covering
+pub mod FilterPlaces
+pub mod Filtering
+pub mod Giving
+pub mod NeedsMet
+pub mod Standing
+pub mod States

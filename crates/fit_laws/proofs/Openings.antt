@@ -5,8 +5,8 @@ use Rattle.std.specs.List.{list_all}
 use Rattle.std.proofs.lemmas.Bool.{and_parts, and_from, eqb-true}
 use Rattle.calendar.specs.declared.day.DayParts.{DayParts}
 use Rattle.xvalue.specs.declared.kind.Kind.{Kind}
-use Rattle.work_area.specs.Open.{OpenState}
-use Rattle.work_store.specs.Areas.{StoreState, closed_all}
+use Rattle.open_table.specs.Open.{OpenState}
+use Rattle.work_area.specs.Areas.{StoreState, closed_all}
 use Rattle.code_items.specs.declared.code.Code.{Code}
 use Rattle.code_items.specs.declared.code.Proc.{Proc}
 use Rattle.code_items.specs.declared.declared.Declared.{Declared}
@@ -18,7 +18,7 @@ use Rattle.code_items.specs.Legal.{is_procedure, begins_blank, places_of}
 use Rattle.code_items.specs.States.{is_closed, is_blank}
 use Rattle.code_rules.specs.Places.{state_at}
 use Rattle.code_rules.specs.Rules.{covers}
-use Rattle.code_laws.specs.Connects.{Connects}
+use Rattle.fit_laws.specs.Connects.{Connects}
 use Rattle.run_steps.specs.World.{state_of, kind_held, area_state}
 use Rattle.run_steps.specs.Opening.{opening}
 use Rattle.run_laws.proofs.Known.{known_of}

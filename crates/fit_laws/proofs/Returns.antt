@@ -19,7 +19,7 @@ use Rattle.code_rules.specs.Signature.{signature, target_of, call_of}
 use Rattle.code_rules.specs.Flow.{flow, left_by, after_call, exit_of}
 use Rattle.code_rules.specs.Places.{instr_at, block_at, state_at}
 use Rattle.code_rules.specs.Rules.{covers, level_of}
-use Rattle.code_laws.specs.Connects.{IsOfProcedures, Connects, left_at}
+use Rattle.fit_laws.specs.Connects.{IsOfProcedures, Connects, left_at}
 use Rattle.run_steps.specs.World.{World}
 use Rattle.run_steps.specs.Control.{entry_place, is_false, finishes, next_place, next_returns}
 use Rattle.run_steps.specs.Effects.{top}

@@ -8,10 +8,10 @@ use Rattle.std.proofs.lemmas.Option.{slice_get_within}
 use Rattle.xvalue.specs.declared.value.Value.{Value}
 use Rattle.dbf_file.specs.Rows.{Row}
 use Rattle.dbf_file.specs.Tables.{StructureState}
-use Rattle.work_area.specs.Open.{OpenState, landed, closed, reordered, first_order, with_blank, replaced_here, remarked_here, opened as opened_with}
-use Rattle.work_store.specs.declared.uses.Use.{Use}
-use Rattle.work_store.specs.Areas.{StoreState, AreApart, use_at, selected_use, used_table, here, holds, is_elsewhere, with_here, with_use, with_used, changed_found, change_here, closed_here, closed_all}
-use Rattle.work_store.specs.Calls.{packed_in, zapped_in, reindexed_in, pack_of, packed_rows, all_rows, zap_landing, reindex_of, index_on_of, used_here, with_list, with_filter}
+use Rattle.open_table.specs.Open.{OpenState, landed, closed, reordered, first_order, with_blank, replaced_here, remarked_here, opened as opened_with}
+use Rattle.work_area.specs.declared.uses.Use.{Use}
+use Rattle.work_area.specs.Areas.{StoreState, AreApart, use_at, selected_use, used_table, here, holds, is_elsewhere, with_here, with_use, with_used, changed_found, change_here, closed_here, closed_all}
+use Rattle.work_area.specs.Calls.{packed_in, zapped_in, reindexed_in, pack_of, packed_rows, all_rows, zap_landing, reindex_of, index_on_of, used_here, with_list, with_filter}
 use Rattle.code_items.specs.declared.code.Code.{Code}
 use Rattle.code_items.specs.declared.declared.Declared.{Declared}
 use Rattle.code_items.specs.declared.desk.OpenArea.{OpenArea}

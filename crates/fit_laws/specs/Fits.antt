@@ -1,12 +1,12 @@
 -- Worlds that fit what is known at their place.
 use Rattle.std.specs.Prelude.{◌≡◌, ◌<◌, ℕ, ◌+◌, true, List, [], ◌∷◌, Some, IfSome, length, slice_get}
-use Rattle.work_store.specs.Areas.{AreApart}
+use Rattle.work_area.specs.Areas.{AreApart}
 use Rattle.code_items.specs.declared.code.Code.{Code}
 use Rattle.code_items.specs.declared.instr.Instr.{Instr}
 use Rattle.code_rules.specs.Signature.{call_of}
 use Rattle.code_rules.specs.Places.{instr_at, block_at, state_at}
 use Rattle.code_rules.specs.Rules.{covers}
-use Rattle.code_laws.specs.Connects.{IsOfProcedures}
+use Rattle.fit_laws.specs.Connects.{IsOfProcedures}
 use Rattle.run_steps.specs.World.{World, state_of}
 use Rattle.run_steps.specs.Shapes.{HasShape}
 
@@ -30,12 +30,13 @@ pub record IsBehindCall (code : Code) (number next : ℕ) : Type 0 where
 -- each of these places, the last call's first, stands right behind a call of the procedure that runs above it
 abbrev pub Awaits : Code → ℕ → List ℕ → Type 0
 Awaits code number [] = Unit {0}
-Awaits code number (next ∷ returns) = (call : IsBehindCall code number next) × Awaits code (procedure_at code call.place) returns
+Awaits code number (next ∷ returns) =
+    (call : IsBehindCall code number next) × Awaits code (procedure_at code call.place) returns
 
 -- ---- worlds
 
--- a world of the code's shape whose work areas hold different tables, that fits what is known, and in which each procedure that
--- runs was called from where it returns to
+-- a world of the code's shape whose work areas hold different tables, that fits what is known, and in which each
+-- procedure that runs was called from where it returns to
 pub record IsFitting (code : Code) (w : World) : Type 0 where
   pub shape : HasShape code w
   pub apart : AreApart w.env.store.areas

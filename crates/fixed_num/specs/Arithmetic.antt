@@ -1,5 +1,6 @@
 -- Sums, products, quotients and remainders.
-use Rattle.std.specs.Prelude.{◌≡◌, ◌<◌, ℕ, suc, ◌+◌, ◌-◌, ◌/◌, ◌^◌, ℤ, pos, negsuc, neg_ℤ, ◌+ℤ◌, ◌-ℤ◌, ◌*ℤ◌, ◌≤ℤ◌, ◌<ℤ◌, unsigned_abs, max, ◌==◌, nat_le, if◌then◌else◌}
+use Rattle.std.specs.Prelude.{◌≡◌, ◌<◌, ℕ, suc, ◌+◌, ◌-◌, ◌/◌, ◌^◌, ℤ, pos, negsuc, neg_ℤ, ◌+ℤ◌, ◌-ℤ◌, ◌*ℤ◌, ◌≤ℤ◌, ◌<ℤ◌}
+use Rattle.std.specs.Prelude.{unsigned_abs, max, ◌==◌, nat_le, if◌then◌else◌}
 use Rattle.fixed_num.specs.Number.{Number, asterisk, finite, number, scaled, magnitude_limit, most_decimals}
 use Rattle.fixed_num.specs.Rounding.{rounded}
 
@@ -41,7 +42,8 @@ absolute (finite m d) = finite (pos (unsigned_abs m)) d
 
 -- `m / 10 ^ d`, rounded to the most decimals where it has more
 abbrev pub fitted : ℤ → ℕ → Number
-fitted m d = if nat_le d most_decimals then number m d else number (rounded m (pos (10 ^ (d - most_decimals)))) most_decimals
+fitted m d = if nat_le d most_decimals then number m d
+    else number (rounded m (pos (10 ^ (d - most_decimals)))) most_decimals
 
 -- the product, with the decimals of both
 abbrev pub product_of : Number → Number → Number

@@ -11,7 +11,8 @@ parts_of (finite (pos m) d) = Some (record { negative = false; magnitude = m; de
 parts_of (finite (negsuc m) d) = Some (record { negative = true; magnitude = suc m; decimals = d })
 
 -- the parts of a number that is made of parts
-pub parts_of-signed : (negative : Bool) (m d : ℕ) → (negative ≡ true → 0 < m) → parts_of (finite (signed negative m) d) ≡ Some (record { negative = negative; magnitude = m; decimals = d })
+pub parts_of-signed : (negative : Bool) (m d : ℕ) → (negative ≡ true → 0 < m)
+    → parts_of (finite (signed negative m) d) ≡ Some (record { negative = negative; magnitude = m; decimals = d })
 parts_of-signed false m d h = refl
 parts_of-signed true zero d h = absurd (lt_irrefl 0 (h refl))
 parts_of-signed true (suc m) d h = refl

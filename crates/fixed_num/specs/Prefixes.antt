@@ -1,5 +1,6 @@
 -- Numbers with which texts begin. The byte 43 is `+`, 45 is `-`.
-use Rattle.std.specs.Prelude.{◌≡◌, ℕ, ◌<◌, ◌≤◌, pos, Bool, true, false, List, [], ◌∷◌, length, take, ◌==◌, ◌⊎◌, if◌then◌else◌}
+use Rattle.std.specs.Prelude.{◌≡◌, ℕ, ◌<◌, ◌≤◌, pos, Bool, true, false, List, [], ◌∷◌, length, take, ◌==◌, ◌⊎◌}
+use Rattle.std.specs.Prelude.{if◌then◌else◌}
 use Rattle.fixed_num.specs.Number.{Number, finite}
 use Rattle.fixed_num.specs.Reading.{before_point, after_point, is_numeral}
 
@@ -23,4 +24,5 @@ HasNone test cs = (k : ℕ) → k ≤ length cs → test (take k cs) ≡ false
 
 -- `x` is what the longest beginning that passes the test is read as, and 0 where there is none
 abbrev pub IsOfLongest : (List ℕ → Bool) → (List ℕ → Number) → List ℕ → Number → Type 0
-IsOfLongest test read cs x = ((n : ℕ) × (IsLongest test cs n × (x ≡ read (take n cs)))) ⊎ (HasNone test cs × (x ≡ finite (pos 0) 0))
+IsOfLongest test read cs x =
+    ((n : ℕ) × (IsLongest test cs n × (x ≡ read (take n cs)))) ⊎ (HasNone test cs × (x ≡ finite (pos 0) 0))

@@ -1,5 +1,7 @@
--- What number a text is read as. The byte 32 is a blank, 43 is `+`, 45 is `-`, 46 is the point, 48 to 57 are the digits.
-use Rattle.std.specs.Prelude.{ℕ, ◌+◌, ◌-◌, ◌*◌, pos, Bool, true, false, ◌&&◌, List, [], ◌∷◌, ◌++◌, length, reverse, ◌==◌, nat_lt, nat_le, if◌then◌else◌}
+-- What number a text is read as. The byte 32 is a blank, 43 is `+`, 45 is `-`, 46 is the point, 48 to 57 are the
+-- digits.
+use Rattle.std.specs.Prelude.{ℕ, ◌+◌, ◌-◌, ◌*◌, pos, Bool, true, false, ◌&&◌, List, [], ◌∷◌, ◌++◌, length, reverse}
+use Rattle.std.specs.Prelude.{◌==◌, nat_lt, nat_le, if◌then◌else◌}
 use Rattle.fixed_num.specs.Number.{Number, asterisk, finite, signed}
 use Rattle.fixed_num.specs.Arithmetic.{fitted}
 
@@ -41,7 +43,8 @@ is_numeral whole fraction = nat_lt 0 (length whole + length fraction) && (are_di
 -- the number of a sign, the digits before the point and those after it
 abbrev pub numeral : Bool → List ℕ → List ℕ → Number
 numeral negative whole fraction =
-    if is_numeral whole fraction then fitted (signed negative (with_digits 0 (whole ++ fraction))) (length fraction) else asterisk
+    if is_numeral whole fraction then fitted (signed negative (with_digits 0 (whole ++ fraction))) (length fraction)
+    else asterisk
 
 -- the number of a sign and a text without one
 abbrev pub unsigned_read : Bool → List ℕ → Number
@@ -50,7 +53,8 @@ unsigned_read negative cs = numeral negative (before_point cs) (after_point cs)
 -- the number of a text without blanks around it
 abbrev pub signed_read : List ℕ → Number
 signed_read [] = finite (pos 0) 0
-signed_read (c ∷ cs) = if c == 45 then unsigned_read true cs else (if c == 43 then unsigned_read false cs else unsigned_read false (c ∷ cs))
+signed_read (c ∷ cs) = if c == 45 then unsigned_read true cs
+    else (if c == 43 then unsigned_read false cs else unsigned_read false (c ∷ cs))
 
 -- the number that a text is read as: 0 of blanks alone, the asterisk value of what is no number
 abbrev pub parsed : List ℕ → Number
@@ -73,7 +77,8 @@ decimals_in_front (c ∷ cs) = if c == 46 then digits_in_front cs else []
 
 -- the number of a sign and digits, 0 without digits
 abbrev pub numeral_or_zero : Bool → List ℕ → List ℕ → Number
-numeral_or_zero negative whole fraction = if length whole + length fraction == 0 then finite (pos 0) 0 else numeral negative whole fraction
+numeral_or_zero negative whole fraction = if length whole + length fraction == 0 then finite (pos 0) 0
+    else numeral negative whole fraction
 
 -- the number of a sign and the longest numeral without one that a text begins with
 abbrev pub unsigned_prefix : Bool → List ℕ → Number
@@ -82,7 +87,8 @@ unsigned_prefix negative cs = numeral_or_zero negative (digits_in_front cs) (dec
 -- the number of the longest numeral that a text begins with
 abbrev pub signed_prefix : List ℕ → Number
 signed_prefix [] = finite (pos 0) 0
-signed_prefix (c ∷ cs) = if c == 45 then unsigned_prefix true cs else (if c == 43 then unsigned_prefix false cs else unsigned_prefix false (c ∷ cs))
+signed_prefix (c ∷ cs) = if c == 45 then unsigned_prefix true cs
+    else (if c == 43 then unsigned_prefix false cs else unsigned_prefix false (c ∷ cs))
 
 -- the number of the longest numeral that a text begins with behind its blanks in front, 0 without one
 abbrev pub prefix_read : List ℕ → Number

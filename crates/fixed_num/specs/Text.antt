@@ -1,5 +1,7 @@
--- The text of a number, and how it stands in a field. The byte 32 is a blank, 42 is `*`, 45 is `-`, 46 is the point, 48 to 57 are the digits.
-use Rattle.std.specs.Prelude.{ℕ, zero, suc, ◌+◌, ◌-◌, ◌/◌, ◌%◌, ◌^◌, ℤ, pos, negsuc, unsigned_abs, List, [], ◌∷◌, ◌++◌, length, replicate, ◌==◌, nat_le, if◌then◌else◌}
+-- The text of a number, and how it stands in a field. The byte 32 is a blank, 42 is `*`, 45 is `-`, 46 is the point, 48
+-- to 57 are the digits.
+use Rattle.std.specs.Prelude.{ℕ, zero, suc, ◌+◌, ◌-◌, ◌/◌, ◌%◌, ◌^◌, ℤ, pos, negsuc, unsigned_abs, List, [], ◌∷◌, ◌++◌}
+use Rattle.std.specs.Prelude.{length, replicate, ◌==◌, nat_le, if◌then◌else◌}
 use Rattle.fixed_num.specs.Number.{Number, asterisk, finite}
 use Rattle.fixed_num.specs.Rounding.{rounded_at}
 
@@ -35,7 +37,8 @@ text_of (finite m d) = sign_text m ++ whole_digits (unsigned_abs m / 10 ^ d) ++ 
 
 -- a text at the right end of a field, which is all asterisks where the text is longer
 abbrev pub at_right : ℕ → List ℕ → List ℕ
-at_right width text = if nat_le (length text) width then replicate (width - length text) 32 ++ text else replicate width 42
+at_right width text = if nat_le (length text) width then replicate (width - length text) 32 ++ text
+    else replicate width 42
 
 -- the number in a field; the asterisk value fills it
 abbrev pub in_field : ℕ → Number → List ℕ

@@ -3,7 +3,8 @@
 ghost use Rattle.std.specs.Prelude.{◌≡◌, ◌↔◌, IsTrue, Some, SomeIff};
 ghost use Rattle.fixed_num.specs.Number.{AreParts, number_of};
 ghost use Rattle.fixed_num.specs.Order.{compared, greater_of, lesser_of};
-ghost use Rattle.fixed_num.specs.Arithmetic.{AreAlike, sum_of, difference_of, negated, absolute, product_of, quotient_of, modulus_of};
+ghost use Rattle.fixed_num.specs.Arithmetic.{AreAlike, sum_of, difference_of, negated, absolute, product_of};
+ghost use Rattle.fixed_num.specs.Arithmetic.{quotient_of, modulus_of};
 
 use crate::number::{MAGNITUDE_LIMIT, MOST_DECIMALS, Num, Parts};
 use crate::powers::{power_of_ten, scaled};
@@ -36,8 +37,8 @@ fn sum_of_alike(a: Parts, b: Parts) -> Num
     })
 }
 
-/// The sum of any two numbers other than the asterisk value, with the greater number of decimals. (Apart, so that a sum of alike
-/// numbers is worked out where it is asked for.)
+/// The sum of any two numbers other than the asterisk value, with the greater number of decimals. (Apart, so that a sum
+/// of alike numbers is worked out where it is asked for.)
 #[inline(never)]
 fn sum_of_any(a: Parts, b: Parts) -> Num
     requires first { AreParts a }
@@ -83,8 +84,8 @@ fn compared_any(first: &Num, second: &Num) -> Ordering
 }
 
 impl Num {
-    /// The sum of this number and another of the same sign and as many decimals, if it has at most 19 digits; `None` of all others.
-    /// Most sums are such, and a caller that keeps the two cases apart has them worked out without a call.
+    /// The sum of this number and another of the same sign and as many decimals, if it has at most 19 digits; `None` of
+    /// all others. Most sums are such, and a caller that keeps the two cases apart has them worked out without a call.
     #[inline(always)]
     pub fn alike_sum(&self, other: &Num) -> Option<Num>
         ensures { SomeIff result (AreAlike self.now other.now) (sum_of self.now other.now) }

@@ -42,9 +42,12 @@ pub fn rounds_away_from_zero()
 /// A remainder has the divisor's sign: of one sign it is the rest of the magnitudes, of two what that lacks of the
 /// divisor, and without a rest it is 0.
 pub fn remainders_have_the_divisors_sign()
-    ensures alike { (negative : Bool) (p q : ℕ) → 0 < q → remainder_of (signed negative p) (signed negative q) ≡ signed negative (p % q) }
-    ensures unlike { (negative : Bool) (p q : ℕ) → 0 < q → 0 < p % q → remainder_of (signed negative p) (signed (not negative) q) ≡ signed (not negative) (q - p % q) }
-    ensures none { (negative : Bool) (p q : ℕ) → 0 < q → p % q ≡ 0 → remainder_of (signed negative p) (signed (not negative) q) ≡ pos 0 }
+    ensures alike { (negative : Bool) (p q : ℕ) → 0 < q
+        → remainder_of (signed negative p) (signed negative q) ≡ signed negative (p % q) }
+    ensures unlike { (negative : Bool) (p q : ℕ) → 0 < q → 0 < p % q
+        → remainder_of (signed negative p) (signed (not negative) q) ≡ signed (not negative) (q - p % q) }
+    ensures none { (negative : Bool) (p q : ℕ) → 0 < q → p % q ≡ 0
+        → remainder_of (signed negative p) (signed (not negative) q) ≡ pos 0 }
 {}
 
 /// Rounding twice to one place is rounding once.

@@ -3,7 +3,9 @@
 ghost use Rattle.std.specs.Prelude.{◌≡◌, ◌+◌, ◌≤◌, ◌++◌, true, min, length, take, drop, reverse};
 ghost use Rattle.fixed_num.specs.Number.{magnitude_limit, signed};
 ghost use Rattle.fixed_num.specs.Arithmetic.{fitted};
-ghost use Rattle.fixed_num.specs.Reading.{without_blanks, before_point, after_point, are_digits, with_digits, numeral, unsigned_read, parsed, digits_in_front, behind_digits, decimals_in_front, numeral_or_zero, unsigned_prefix, prefix_read};
+ghost use Rattle.fixed_num.specs.Reading.{without_blanks, before_point, after_point, are_digits, with_digits, numeral};
+ghost use Rattle.fixed_num.specs.Reading.{unsigned_read, parsed, digits_in_front, behind_digits, decimals_in_front};
+ghost use Rattle.fixed_num.specs.Reading.{numeral_or_zero, unsigned_prefix, prefix_read};
 
 use crate::number::{MAGNITUDE_LIMIT, MOST_DECIMALS, Num};
 
@@ -23,9 +25,9 @@ impl Num {
         }
     }
 
-    /// The number with which a text begins: behind blanks in front, the longest text of an optional sign and digits with
-    /// at most one point and at least one digit. Decimals past the 15th are rounded away. Without one it is 0, and what
-    /// stands behind it is not looked at.
+    /// The number with which a text begins: behind blanks in front, the longest text of an optional sign and digits
+    /// with at most one point and at least one digit. Decimals past the 15th are rounded away. Without one it is 0, and
+    /// what stands behind it is not looked at.
     pub fn parse_prefix(bytes: &[u8]) -> Num
         ensures { result ≡ prefix_read bytes.now }
     {

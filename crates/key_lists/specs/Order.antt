@@ -1,5 +1,6 @@
 -- Lists in a strict order, and the parts of a list on either side of a value.
-use Rattle.std.specs.Prelude.{◌≡◌, Bool, true, false, ◌||◌, Option, List, [], ◌∷◌, if◌then◌else◌, filter, reverse, slice_get}
+use Rattle.std.specs.Prelude.{◌≡◌, Bool, true, false, ◌||◌, Option, List, [], ◌∷◌, if◌then◌else◌, filter, reverse}
+use Rattle.std.specs.Prelude.{slice_get}
 
 -- a test that orders all values strictly
 pub record IsStrictOrder {X : Type 0} (lt : X → X → Bool) : Type 0 where

@@ -1,6 +1,7 @@
 //! What a list of keys does, whatever keeps it.
 
-ghost use Rattle.std.specs.Prelude.{◌≡◌, ℕ, ◌+◌, ◌<◌, ◌≤◌, ◌↔◌, ◌^◌, List, OnOk, OnErr, IfOk, IsTrue, Contains, length, reverse};
+ghost use Rattle.std.specs.Prelude.{◌≡◌, ℕ, ◌+◌, ◌<◌, ◌≤◌, ◌↔◌, ◌^◌, List, OnOk, OnErr, IfOk, IsTrue, Contains, length};
+ghost use Rattle.std.specs.Prelude.{reverse};
 ghost use Rattle.key_lists.specs.Order.{Each, above, below, first, inserted, without, in_order, IsDistinct};
 ghost use Rattle.key_lists.specs.Pairs.{Pair, is_before, pairs_from};
 ghost use Rattle.key_lists.specs.KeyForm.{KeyForm, IsKeyLength, IsKeyText, IsKeyList, IsPairOf};

@@ -4,7 +4,8 @@
 ghost use Rattle.std.specs.Prelude.{List};
 ghost use Rattle.key_lists.specs.Order.{IsAscending};
 ghost use Rattle.key_lists.specs.Pairs.{Pair, is_before};
-ghost use Rattle.key_lists.specs.Laws.{OrdersPairs, FindsNearest, MeetsEach, ChangesOne, PutsInOrder, ChangesRows, StandTogether};
+ghost use Rattle.key_lists.specs.Laws.{OrdersPairs, FindsNearest, MeetsEach, ChangesOne, PutsInOrder, ChangesRows};
+ghost use Rattle.key_lists.specs.Laws.{StandTogether};
 
 /// Pairs are ordered by the first different byte of their keys, a prefix being below, and equal keys by record.
 pub fn orders_pairs()
@@ -26,7 +27,8 @@ pub fn changes_one()
     ensures { (p : Pair) (pairs : List Pair) → IsAscending is_before pairs → ChangesOne p pairs }
 {}
 
-/// Pairs put in order are the same pairs, as often each, and one list whatever order they came in; pairs in order stay so.
+/// Pairs put in order are the same pairs, as often each, and one list whatever order they came in; pairs in order stay
+/// so.
 pub fn puts_in_order()
     ensures { (pairs : List Pair) → PutsInOrder pairs }
 {}
@@ -36,8 +38,8 @@ pub fn changes_rows()
     ensures { (front : List Pair) (p : Pair) (back : List Pair) → ChangesRows front p back }
 {}
 
-/// In a list in order the pairs whose keys begin alike stand side by side, at the front of what a search for that beginning
-/// finds.
+/// In a list in order the pairs whose keys begin alike stand side by side, at the front of what a search for that
+/// beginning finds.
 pub fn stand_together()
     ensures { (pairs : List Pair) → IsAscending is_before pairs → StandTogether pairs }
 {}

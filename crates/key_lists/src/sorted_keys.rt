@@ -1,7 +1,10 @@
 //! A list of keys in a sorted vector.
 
-ghost use Rattle.std.specs.Prelude.{◌≡◌, ℕ, ◌+◌, ◌-◌, ◌<◌, ◌≤◌, ◌↔◌, [], take, drop, reverse, insert, remove, length, Contains, IsSome, IfSome, IfNone, true, false, IsTrue, IfOk, not, vec_len, vec_capacity};
-ghost use Rattle.key_lists.specs.Order.{Each, IsAscending, above, below, inserted, without, first, in_order, IsDistinct};
+ghost use Rattle.std.specs.Prelude.{◌≡◌, ℕ, ◌+◌, ◌-◌, ◌<◌, ◌≤◌, ◌↔◌, [], take, drop, reverse, insert, remove, length};
+ghost use Rattle.std.specs.Prelude.{Contains, IsSome, IfSome, IfNone, true, false, IsTrue, IfOk, not, vec_len};
+ghost use Rattle.std.specs.Prelude.{vec_capacity};
+ghost use Rattle.key_lists.specs.Order.{Each, IsAscending, above, below, inserted, without, first, in_order};
+ghost use Rattle.key_lists.specs.Order.{IsDistinct};
 ghost use Rattle.key_lists.specs.Pairs.{is_before, pairs_from};
 ghost use Rattle.key_lists.specs.KeyForm.{IsKeyList};
 
@@ -26,9 +29,14 @@ impl Model for SortedKeys {
 
     ghost Value = { SortedList };
 
-    ghost view = { λ k. record { pairs = k.entries.items; spare = vec_capacity k.entries - vec_len k.entries; form = record { key_length = k.key_length; key_text = k.key_text.items } } };
+    ghost view = { λ k. record {
+      pairs = k.entries.items;
+      spare = vec_capacity k.entries - vec_len k.entries;
+      form = record { key_length = k.key_length; key_text = k.key_text.items };
+    } };
 
-    ghost invariant = { λ k. IsKeyList (record { key_length = k.key_length; key_text = k.key_text.items }) k.entries.items };
+    ghost invariant = { λ k. IsKeyList
+        (record { key_length = k.key_length; key_text = k.key_text.items }) k.entries.items };
 }
 
 impl SortedKeys {

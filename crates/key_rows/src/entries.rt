@@ -1,6 +1,7 @@
 //! Entries side by side in one row of bytes.
 
-ghost use Rattle.std.specs.Prelude.{◌≡◌, ◌+◌, ◌*◌, ◌-◌, ◌^◌, ◌<◌, ◌≤◌, [], ◌∷◌, ◌++◌, ℕ, length, take, drop, insert, remove, slice_index_or, slice_set, IfOk, OnOk, OnErr};
+ghost use Rattle.std.specs.Prelude.{◌≡◌, ◌+◌, ◌*◌, ◌-◌, ◌^◌, ◌<◌, ◌≤◌, [], ◌∷◌, ◌++◌, ℕ, length, take, drop, insert};
+ghost use Rattle.std.specs.Prelude.{remove, slice_index_or, slice_set, IfOk, OnOk, OnErr};
 ghost use Rattle.std.specs.Vec.{vec_capacity, vec_len};
 ghost use Rattle.std.specs.Ordering.{nat_cmp};
 ghost use Rattle.std.specs.Cmp.Lexicographic.{slice_cmp};
@@ -248,7 +249,8 @@ impl Entries {
     /// Copies so many entries from a place on to the end of others, in room that is there.
     pub fn copy_part(&self, at: usize, size: usize, to: &mut Entries)
         requires within { at + size ≤ length self.now.items }
-        requires alike { (k : ℕ) × HaveKeys k self.now.items × HaveKeys k to.old.items × ((length to.old.items + size) * (k + 4) ≤ to.old.room) }
+        requires alike { (k : ℕ) × HaveKeys k self.now.items × HaveKeys k to.old.items
+            × ((length to.old.items + size) * (k + 4) ≤ to.old.room) }
         ensures items { to.new.items ≡ to.old.items ++ take size (drop at self.now.items) }
         ensures room { to.old.room ≤ to.new.room }
     {
@@ -264,7 +266,8 @@ impl Entries {
     /// Copies the entries from a place on to the end of others, in room that is there.
     pub fn copy_tail(&self, at: usize, to: &mut Entries)
         requires within { at ≤ length self.now.items }
-        requires alike { (k : ℕ) × HaveKeys k self.now.items × HaveKeys k to.old.items × ((length to.old.items + (length self.now.items - at)) * (k + 4) ≤ to.old.room) }
+        requires alike { (k : ℕ) × HaveKeys k self.now.items × HaveKeys k to.old.items
+            × ((length to.old.items + (length self.now.items - at)) * (k + 4) ≤ to.old.room) }
         ensures items { to.new.items ≡ to.old.items ++ drop at self.now.items }
         ensures room { to.old.room ≤ to.new.room }
     {
@@ -287,7 +290,8 @@ impl Entries {
 
     /// Copies all entries to the end of others that have room.
     pub fn copy_all(&self, to: &mut Entries)
-        requires { (k : ℕ) × HaveKeys k self.now.items × HaveKeys k to.old.items × ((length to.old.items + length self.now.items) * (k + 4) ≤ to.old.room) }
+        requires { (k : ℕ) × HaveKeys k self.now.items × HaveKeys k to.old.items
+            × ((length to.old.items + length self.now.items) * (k + 4) ≤ to.old.room) }
         ensures items { to.new.items ≡ to.old.items ++ self.now.items }
         ensures room { to.old.room ≤ to.new.room }
     {
@@ -389,7 +393,8 @@ fn add_pair(bytes: &mut Vec<u8>, key: &[u8], number: u32)
 fn move_up(bytes: &mut Vec<u8>, start: usize, end: usize, size: usize)
     requires order { start ≤ end }
     requires behind { vec_len bytes.old ≡ end + size }
-    ensures bytes { bytes.new.items ≡ take (start + size) bytes.old.items ++ take (end - start) (drop start bytes.old.items) }
+    ensures bytes { bytes.new.items ≡ take (start + size) bytes.old.items
+        ++ take (end - start) (drop start bytes.old.items) }
     ensures len { vec_len bytes.new ≡ vec_len bytes.old }
     ensures capacity { vec_capacity bytes.old ≤ vec_capacity bytes.new }
 {
@@ -399,7 +404,8 @@ fn move_up(bytes: &mut Vec<u8>, start: usize, end: usize, size: usize)
 // Writes bytes over those from a place on.
 fn write_at(bytes: &mut Vec<u8>, start: usize, part: &[u8])
     requires { start + length part.now ≤ vec_len bytes.old }
-    ensures bytes { bytes.new.items ≡ take start bytes.old.items ++ (part.now ++ drop (start + length part.now) bytes.old.items) }
+    ensures bytes { bytes.new.items ≡ take start bytes.old.items
+        ++ (part.now ++ drop (start + length part.now) bytes.old.items) }
     ensures len { vec_len bytes.new ≡ vec_len bytes.old }
     ensures capacity { vec_capacity bytes.old ≤ vec_capacity bytes.new }
 {
@@ -413,7 +419,8 @@ fn put_bytes(bytes: &mut Vec<u8>, start: usize, key: &[u8], number: u32)
     requires within { start ≤ vec_len bytes.old }
     requires short { length key.now ≤ 100 }
     requires room { vec_len bytes.old + (length key.now + 4) ≤ vec_capacity bytes.old }
-    ensures bytes { bytes.new.items ≡ take start bytes.old.items ++ (key.now ++ (little_bytes 4 number ++ drop start bytes.old.items)) }
+    ensures bytes { bytes.new.items ≡ take start bytes.old.items
+        ++ (key.now ++ (little_bytes 4 number ++ drop start bytes.old.items)) }
     ensures capacity { vec_capacity bytes.old ≤ vec_capacity bytes.new }
     ensures fits { number < 2 ^ 32 }
 {

@@ -1,5 +1,6 @@
 -- What stands in a code for each command of one line, from a place up to another.
-use Rattle.std.specs.Prelude.{◌≡◌, ℕ, ◌+◌, Bool, true, false, ◌||◌, List, [], ◌∷◌, ◌++◌, map, Option, Some, None, slice_get, codes}
+use Rattle.std.specs.Prelude.{◌≡◌, ℕ, ◌+◌, Bool, true, false, ◌||◌, List, [], ◌∷◌, ◌++◌, map, Option, Some, None}
+use Rattle.std.specs.Prelude.{slice_get, codes}
 use Rattle.std.specs.Borrow.{Bor}
 use Rattle.std.specs.List.{AllZip}
 use Rattle.std.specs.Str.{bytes_eq}
@@ -77,7 +78,8 @@ any_key = text_of (codes "Press any key to continue...")
 
 -- the value on top goes into the variable's slot
 abbrev pub Stored : Laying → ℕ → Letters → Kind → ℕ → Type 0
-Stored f a name k b = (slot : ℕ) × (slot_named f.names name ≡ Some slot) × Stands f.text a (Values (value_instr.Store k slot)) b
+Stored f a name k b =
+    (slot : ℕ) × (slot_named f.names name ≡ Some slot) × Stands f.text a (Values (value_instr.Store k slot)) b
 
 abbrev pub Assigned : Laying → ℕ → Letters → Tree → ℕ → Type 0
 Assigned f a name e b = (k : Kind) × (m : ℕ) × Gives f a e k m × Stored f m name k b
@@ -85,15 +87,19 @@ Assigned f a name e b = (k : Kind) × (m : ℕ) × Gives f a e k m × Stored f m
 -- each further variable gets the value of the slot
 abbrev pub Copied : Laying → ℕ → Kind → ℕ → List Letters → ℕ → Type 0
 Copied f a k slot [] b = b ≡ a
-Copied f a k slot (name ∷ names) b = (m : ℕ) × (n : ℕ) × Stands f.text a (Values (value_instr.Load k slot)) m × Stored f m name k n × Copied f n k slot names b
+Copied f a k slot (name ∷ names) b = (m : ℕ) × (n : ℕ) × Stands f.text a (Values (value_instr.Load k slot)) m
+    × Stored f m name k n × Copied f n k slot names b
 
 abbrev pub StoredAll : Laying → ℕ → Tree → List Letters → ℕ → Type 0
 StoredAll f a e [] b = ⊥
-StoredAll f a e (name ∷ names) b = (k : Kind) × (slot : ℕ) × (m : ℕ) × (n : ℕ) × Gives f a e k m × (slot_named f.names name ≡ Some slot) × Stands f.text m (Values (value_instr.Store k slot)) n × Copied f n k slot names b
+StoredAll f a e (name ∷ names) b = (k : Kind) × (slot : ℕ) × (m : ℕ) × (n : ℕ) × Gives f a e k m
+    × (slot_named f.names name ≡ Some slot) × Stands f.text m (Values (value_instr.Store k slot)) n
+    × Copied f n k slot names b
 
 abbrev pub Released : Laying → ℕ → List Letters → ℕ → Type 0
 Released f a [] b = b ≡ a
-Released f a (name ∷ names) b = (slot : ℕ) × (m : ℕ) × (slot_named f.names name ≡ Some slot) × Stands f.text a (Values (value_instr.Unset slot)) m × Released f m names b
+Released f a (name ∷ names) b = (slot : ℕ) × (m : ℕ) × (slot_named f.names name ≡ Some slot)
+    × Stands f.text a (Values (value_instr.Unset slot)) m × Released f m names b
 
 abbrev pub setting_of : Toggle → Setting
 setting_of toggle.Exact = setting.Exact
@@ -130,11 +136,13 @@ abbrev pub Placed : Laying → ℕ → Tree → Tree → ℕ → Type 0
 Placed f a row column b = (m : ℕ) × Gives f a row kind.Number m × Gives f m column kind.Number b
 
 abbrev pub Said : Laying → ℕ → Tree → Tree → Tree → ℕ → Type 0
-Said f a row column e b = (k : Kind) × (m : ℕ) × (n : ℕ) × Placed f a row column m × Gives f m e k n × OnScreen f n (screen.Say k) b
+Said f a row column e b =
+    (k : Kind) × (m : ℕ) × (n : ℕ) × Placed f a row column m × Gives f m e k n × OnScreen f n (screen.Say k) b
 
 -- a GET shows what its variable or field holds
 abbrev pub Got : Laying → ℕ → Tree → Tree → Letters → ℕ → Type 0
-Got f a row column name b = (r : Reading) × (m : ℕ) × (n : ℕ) × Placed f a row column m × Reads f m name r n × OnScreen f n (screen.Say r.kind) b
+Got f a row column name b = (r : Reading) × (m : ℕ) × (n : ℕ) × Placed f a row column m × Reads f m name r n
+    × OnScreen f n (screen.Say r.kind) b
 
 abbrev pub GotOn : Laying → ℕ → Letters → ℕ → Type 0
 GotOn f a name b = (r : Reading) × (m : ℕ) × Reads f a name r m × OnScreen f m (screen.SayOn r.kind) b
@@ -158,7 +166,8 @@ kept _ k = None
 
 -- a line of the operator for one GET
 abbrev pub TakenOne : Laying → ℕ → Letters → ℕ → Type 0
-TakenOne f a name b = (r : Reading) × (i : Instr) × (m : ℕ) × (n : ℕ) × Reads f a name r m × OnScreen f m (screen.Input r.kind) n × (kept r.instr r.kind ≡ Some i) × Stands f.text n i b
+TakenOne f a name b = (r : Reading) × (i : Instr) × (m : ℕ) × (n : ℕ) × Reads f a name r m
+    × OnScreen f m (screen.Input r.kind) n × (kept r.instr r.kind ≡ Some i) × Stands f.text n i b
 
 abbrev pub Taken : Laying → ℕ → List Letters → ℕ → Type 0
 Taken f a [] b = b ≡ a
@@ -170,7 +179,8 @@ Prompted f a None b = b ≡ a
 Prompted f a (Some e) b = (m : ℕ) × Gives f a e kind.Text m × OnScreen f m (screen.Print kind.Text) b
 
 abbrev pub Accepted : Laying → ℕ → Option Tree → Letters → ℕ → Type 0
-Accepted f a prompt name b = (m : ℕ) × (n : ℕ) × (o : ℕ) × OnScreen f a screen.NewLine m × Prompted f m prompt n × OnScreen f n screen.Line o × Stored f o name kind.Text b
+Accepted f a prompt name b = (m : ℕ) × (n : ℕ) × (o : ℕ) × OnScreen f a screen.NewLine m × Prompted f m prompt n
+    × OnScreen f n screen.Line o × Stored f o name kind.Text b
 
 -- the text that is shown while a key is awaited
 abbrev pub Asked : Laying → ℕ → Option Tree → ℕ → Type 0
@@ -180,24 +190,29 @@ Asked f a (Some e) b = Gives f a e kind.Text b
 -- of the operator's line the first letter goes into the variable, if there is one
 abbrev pub KeyTaken : Laying → ℕ → Option Letters → ℕ → Type 0
 KeyTaken f a None b = Stands f.text a (Values (value_instr.Discard kind.Text)) b
-KeyTaken f a (Some name) b = (m : ℕ) × (n : ℕ) × Puts f a (whole 1) m × Stands f.text m (Values (value_instr.Function fun.Left)) n × Stored f n name kind.Text b
+KeyTaken f a (Some name) b = (m : ℕ) × (n : ℕ) × Puts f a (whole 1) m
+    × Stands f.text m (Values (value_instr.Function fun.Left)) n × Stored f n name kind.Text b
 
 abbrev pub Waited : Laying → ℕ → Option Tree → Option Letters → ℕ → Type 0
-Waited f a prompt name b = (m : ℕ) × (n : ℕ) × (o : ℕ) × (p : ℕ) × OnScreen f a screen.NewLine m × Asked f m prompt n × OnScreen f n (screen.Print kind.Text) o × OnScreen f o screen.Line p × KeyTaken f p name b
+Waited f a prompt name b = (m : ℕ) × (n : ℕ) × (o : ℕ) × (p : ℕ) × OnScreen f a screen.NewLine m × Asked f m prompt n
+    × OnScreen f n (screen.Print kind.Text) o × OnScreen f o screen.Line p × KeyTaken f p name b
 
 -- ---- work areas
 
 -- the number of a declared index of this name
 abbrev pub IsIndex : Laying → Letters → ℕ → Type 0
-IsIndex f name number = (i : IndexShape) × (slice_get f.declared.shape.indexes number ≡ Some i) × (bytes_eq i.name.items name ≡ true)
+IsIndex f name number =
+    (i : IndexShape) × (slice_get f.declared.shape.indexes number ≡ Some i) × (bytes_eq i.name.items name ≡ true)
 
 -- the number, from 1, of the list of these indexes; of none 0
 abbrev pub IsList : Laying → List Letters → ℕ → Type 0
 IsList f [] number = number ≡ 0
-IsList f (name ∷ names) number = (n : ℕ) × (list : IndexList) × (number ≡ n + 1) × (slice_get f.declared.lists n ≡ Some list) × AllZip (IsIndex f) (name ∷ names) list.indexes.items
+IsList f (name ∷ names) number = (n : ℕ) × (list : IndexList) × (number ≡ n + 1)
+    × (slice_get f.declared.lists n ≡ Some list) × AllZip (IsIndex f) (name ∷ names) list.indexes.items
 
 abbrev pub Opened : Laying → ℕ → Letters → List Letters → ℕ → Type 0
-Opened f a name indexes b = (table : ℕ) × (list : ℕ) × (table_named f.declared.shape name ≡ Some table) × IsList f indexes list × OnAreas f a (area_instr.Open table list) b
+Opened f a name indexes b = (table : ℕ) × (list : ℕ) × (table_named f.declared.shape name ≡ Some table)
+    × IsList f indexes list × OnAreas f a (area_instr.Open table list) b
 
 -- the work area that an alias names
 abbrev pub IsArea : Laying → ℕ → Letters → ℕ → Type 0
@@ -227,7 +242,8 @@ pub record IsFilter (f : Laying) (a : ℕ) (e : Tree) (n : ℕ) : Type 0 where
   pub condition : IsBlock f state e block
 
 abbrev pub FilteredBy : Laying → ℕ → Tree → ℕ → Type 0
-FilteredBy f a e b = (n : ℕ) × (number : ℕ) × (number ≡ n + 1) × IsFilter f a e n × OnAreas f a (area_instr.Filter number) b
+FilteredBy f a e b =
+    (n : ℕ) × (number : ℕ) × (number ≡ n + 1) × IsFilter f a e n × OnAreas f a (area_instr.Filter number) b
 
 abbrev pub Filtered : Laying → ℕ → Option Tree → ℕ → Type 0
 Filtered f a None b = OnAreas f a (area_instr.Filter 0) b
@@ -256,7 +272,8 @@ abbrev pub IsField : Laying → ℕ → Letters → FieldPlace → Type 0
 IsField f a name field = (s : State) × Knows f a s × (field_here (scope_in f s false) name ≡ Some (Some field))
 
 abbrev pub ReplacedOne : Laying → ℕ → Change → ℕ → Type 0
-ReplacedOne f a change b = (field : FieldPlace) × (m : ℕ) × IsField f m change.field field × Gives f a change.value field.kind m × OnRecords f m (record_instr.Replace field.number) b
+ReplacedOne f a change b = (field : FieldPlace) × (m : ℕ) × IsField f m change.field field
+    × Gives f a change.value field.kind m × OnRecords f m (record_instr.Replace field.number) b
 
 abbrev pub Replaced : Laying → ℕ → List Change → ℕ → Type 0
 Replaced f a [] b = b ≡ a
@@ -268,8 +285,8 @@ Indexed f a names b = (list : ℕ) × IsList f names list × OnRecords f a (reco
 
 -- ---- all of them
 
--- A command of one line, where these GETs wait for their READ. PRIVATE makes no code. LOOP, EXIT, RETURN, QUIT and CANCEL are
--- told with the blocks around them; DO and PARAMETERS belong to programs with procedures.
+-- A command of one line, where these GETs wait for their READ. PRIVATE makes no code. LOOP, EXIT, RETURN, QUIT and
+-- CANCEL are told with the blocks around them; DO and PARAMETERS belong to programs with procedures.
 abbrev pub Does : Laying → List Letters → ℕ → Act → ℕ → Type 0
 Does f gets a (act.Show values) b = ShownLine f a values b
 Does f gets a (act.ShowOn values) b = Shown f a values b

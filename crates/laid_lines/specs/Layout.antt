@@ -12,8 +12,8 @@ use Rattle.prg_values.specs.Placed as placed
 use Rattle.prg_values.specs.Placed.{Text, text, Leaves}
 use Rattle.laid_lines.specs.declared.layout.Layout.{Layout}
 
--- instructions and constants, what is declared, the slots of the variables, what is known before each place, and the blocks of
--- the filters by number
+-- instructions and constants, what is declared, the slots of the variables, what is known before each place, and the
+-- blocks of the filters by number
 pub record Laying : Type 0 where
   pub text : Text
   pub declared : Declared
@@ -22,7 +22,13 @@ pub record Laying : Type 0 where
   pub filters : List Block
 
 abbrev pub laying : Layout → Laying
-laying l = record { text = placed.text l.text; declared = l.declared.now; names = l.names.now; known = l.known.now; filters = l.filters.now }
+laying l = record {
+  text = placed.text l.text;
+  declared = l.declared.now;
+  names = l.names.now;
+  known = l.known.now;
+  filters = l.filters.now;
+}
 
 -- what names mean where this is known
 abbrev pub scope_in : Laying → State → Bool → Scoped

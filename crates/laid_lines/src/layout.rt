@@ -18,8 +18,8 @@ use prg_values::{Finished, Given, Reading, Scope, behind, behind_constant, given
 use std::alloc::Global;
 use xvalue::{Kind, Value};
 
-/// A finished code, what it declares, the slots of its variables, what is known before each of its places, and the blocks of
-/// its filters. Places, and filters, are counted from 0.
+/// A finished code, what it declares, the slots of its variables, what is known before each of its places, and the
+/// blocks of its filters. Places, and filters, are counted from 0.
 #[derive(Clone, Copy)]
 pub struct Layout<'a> {
     pub alloc: Global,

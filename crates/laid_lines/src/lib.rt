@@ -1,4 +1,5 @@
-//! What stands in finished code for a command of one line: for each command the place behind its code, if that stands at a place.
+//! What stands in finished code for a command of one line: for each command the place behind its code, if that stands
+//! at a place.
 #![tactic(auto)]
 
 mod areas;

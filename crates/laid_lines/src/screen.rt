@@ -76,7 +76,8 @@ fn placed(l: &Layout, place: usize, row: &Expr, column: &Expr) -> Option<usize>
 
 /// `@ row,column SAY value`.
 pub fn said(l: &Layout, place: usize, row: &Expr, column: &Expr, e: &Expr) -> Option<usize>
-    ensures { IfSome result (λ b. acts.Said (laying l.now) place (tree_of row.now) (tree_of column.now) (tree_of e.now) b) }
+    ensures { IfSome result (λ b. acts.Said (laying l.now) place (tree_of row.now) (tree_of column.now)
+        (tree_of e.now) b) }
 {
     let end = placed(l, place, row, column)?;
     let given = given(l, end, e)?;
@@ -85,7 +86,8 @@ pub fn said(l: &Layout, place: usize, row: &Expr, column: &Expr, e: &Expr) -> Op
 
 /// `@ row,column GET variable`.
 pub fn got(l: &Layout, place: usize, row: &Expr, column: &Expr, name: &Name) -> Option<usize>
-    ensures { IfSome result (λ b. acts.Got (laying l.now) place (tree_of row.now) (tree_of column.now) name.now.items b) }
+    ensures { IfSome result (λ b. acts.Got (laying l.now) place (tree_of row.now)
+        (tree_of column.now) name.now.items b) }
 {
     let end = placed(l, place, row, column)?;
     let named = named(l, end, name.as_slice())?;
@@ -108,7 +110,8 @@ pub fn said_and_got(
     e: &Expr,
     name: &Name,
 ) -> Option<usize>
-    ensures { IfSome result (λ b. acts.SaidAndGot (laying l.now) place (tree_of row.now) (tree_of column.now) (tree_of e.now) name.now.items b) }
+    ensures { IfSome result (λ b. acts.SaidAndGot (laying l.now) place (tree_of row.now) (tree_of column.now)
+        (tree_of e.now) name.now.items b) }
 {
     let end = said(l, place, row, column, e)?;
     got_on(l, end, name)
@@ -204,7 +207,8 @@ pub fn waited(
     prompt: &Option<Expr>,
     variable: &Option<Name>,
 ) -> Option<usize>
-    ensures { IfSome result (λ b. acts.Waited (laying l.now) place (option_map tree_of prompt.now) (option_map letters_of variable.now) b) }
+    ensures { IfSome result (λ b. acts.Waited (laying l.now) place (option_map tree_of prompt.now)
+        (option_map letters_of variable.now) b) }
 {
     let line = screen(l, place, ScreenInstr::NewLine)?;
     let asked = asked(l, line, prompt)?;

@@ -87,8 +87,8 @@ fn on_records(l: &Layout, place: usize, gets: &[&Name], statement: &Statement) -
     }
 }
 
-/// The place behind the code of a command of one line, if it stands at this place; these GETs wait for their READ. None for
-/// LOOP, EXIT, DO, PARAMETERS, RETURN, QUIT and CANCEL.
+/// The place behind the code of a command of one line, if it stands at this place; these GETs wait for their READ. None
+/// for LOOP, EXIT, DO, PARAMETERS, RETURN, QUIT and CANCEL.
 pub fn does(l: &Layout, place: usize, gets: &[&Name], statement: &Statement) -> Option<usize>
     ensures { IfSome result (λ b. acts.Does (laying l.now) (acts.names_of gets.now) place (act_of statement.now) b) }
 {
@@ -137,7 +137,8 @@ pub fn may_stand(gets: &[&Name], statement: &Statement) -> bool
 
 /// The GETs that wait behind the command.
 pub fn wait_behind<'a>(gets: &mut Vec<&'a Name>, statement: &'a Statement) -> Result<(), AllocError>
-    ensures { OnOk result (acts.names_of gets.new.items ≡ acts.waiting (acts.names_of gets.old.items) (act_of statement.now)) }
+    ensures { OnOk result (acts.names_of gets.new.items
+        ≡ acts.waiting (acts.names_of gets.old.items) (act_of statement.now)) }
 {
     match statement {
         Statement::Get { variable, .. } => {

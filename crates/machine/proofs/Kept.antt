@@ -8,10 +8,10 @@ use Rattle.dbf_file.specs.Rows.{Row}
 use Rattle.dbf_file.specs.Tables.{StructureState}
 use Rattle.row_moves.specs.Moves.{Landing}
 use Rattle.shape.specs.declared.whole.Shape.{Shape}
-use Rattle.work_area.specs.Open.{OpenState, landed, opened, reordered, with_blank, replaced_here, remarked_here}
-use Rattle.work_store.specs.Areas.{StoreState, table_at, selected_use, here, with_here, change_here}
-use Rattle.work_store.specs.Calls.{packed_in, zapped_in, reindexed_in, pack_of, packed_rows, all_rows, zap_landing, reindex_of, index_on_of, used_here, with_filter}
-use Rattle.work_store.specs.Shapes.{HasShape, IsSameKind, KindsStay, ShapesStay}
+use Rattle.open_table.specs.Open.{OpenState, landed, opened, reordered, with_blank, replaced_here, remarked_here}
+use Rattle.work_area.specs.Areas.{StoreState, table_at, selected_use, here, with_here, change_here}
+use Rattle.work_area.specs.Calls.{packed_in, zapped_in, reindexed_in, pack_of, packed_rows, all_rows, zap_landing, reindex_of, index_on_of, used_here, with_filter}
+use Rattle.work_area.specs.Shapes.{HasShape, IsSameKind, KindsStay, ShapesStay}
 use Rattle.code_items.specs.declared.code.Code.{Code}
 use Rattle.code_items.specs.declared.instr.Instr.{Instr}
 use Rattle.code_items.specs.declared.instr.Instr.TheVariants.{Values, Flow, Screen, Areas, Moves, Records}

@@ -2,8 +2,8 @@
 use Rattle.std.proofs.Common.{◌≡◌, ◌≤◌, ℕ, List, Bool, true, false, Option, Some, length, sym, subst, arith, if◌then◌else◌}
 use Rattle.shape.specs.declared.whole.Shape.{Shape}
 use Rattle.calendar.specs.declared.day.DayParts.{DayParts}
-use Rattle.work_store.specs.Areas.{StoreState}
-use Rattle.work_store.specs.Shapes.{HasShape}
+use Rattle.work_area.specs.Areas.{StoreState}
+use Rattle.work_area.specs.Shapes.{HasShape}
 use Rattle.code_items.specs.declared.code.Code.{Code}
 use Rattle.code_rules.specs.Places.{instr_at}
 use Rattle.run_values.specs.Standing.{IsByKind}

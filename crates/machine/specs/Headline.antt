@@ -1,7 +1,7 @@
 -- What a run of accepted code without any test is: the checking machine's run, and more.
 use Rattle.std.specs.Prelude.{◌≡◌, ◌≤◌, ℕ, Some, length}
 use Rattle.shape.specs.declared.whole.Shape.{Shape}
-use Rattle.work_store.specs.Shapes.{HasShape}
+use Rattle.work_area.specs.Shapes.{HasShape}
 use Rattle.code_items.specs.declared.code.Code.{Code}
 use Rattle.run_steps.specs.declared.ending.Outcome.{Outcome}
 use Rattle.run_steps.specs.World.{World}
@@ -13,18 +13,20 @@ use Rattle.machine.specs.Twins.{BankState, AgreesWith, Twin}
 -- of a run from a world, within a budget, that ended so and left these banks
 pub record Headline (code : Code) (from : World) (budget : ℕ) (outcome : Outcome) (b : BankState) : Type 0 where
   pub world : World
-  -- the checking machine's steps lead to this world, cost what the run cost, and may end there so: finished, spent, with a full
-  -- table, or short of memory
+  -- the checking machine's steps lead to this world, cost what the run cost, and may end there so: finished, spent,
+  -- with a full table, or short of memory
   pub takes_its_steps : Ran code from budget outcome world
   -- same place, screen, rows, stale marks, areas, pointers, settings, lines that are left, and values
   pub agrees : AgreesWith b world
   -- no instruction that the run carries out has a fault, nor has the next one
   pub meets_no_fault : (n : ℕ) (v : World) → after code from n ≡ Some v → IsNoFault (step_of code v)
   pub ends_without_fault : ¬ IsFault outcome.end
-  -- at each of them what the verifier knows of its place is true, and each procedure that runs was called from where it returns to
+  -- at each of them what the verifier knows of its place is true, and each procedure that runs was called from where it
+  -- returns to
   pub as_known : (n : ℕ) (v : World) → after code from n ≡ Some v → IsFitting code v
   -- after each step
-  pub within_the_stack : (n : ℕ) (v : World) → after code from n ≡ Some v → length v.values.stack ≤ code.declared.stack_bound
+  pub within_the_stack : (n : ℕ) (v : World) → after code from n ≡ Some v
+      → length v.values.stack ≤ code.declared.stack_bound
   pub few_calls : (n : ℕ) (v : World) → after code from n ≡ Some v → length v.returns ≤ 20
   -- what the steps cost together, and so how many they are
   pub within_the_budget : outcome.steps ≤ budget

@@ -1,7 +1,7 @@
 -- What the machine without tags holds, and which worlds of the checking machine it stands for.
 use Rattle.std.specs.Prelude.{◌≡◌, ℕ, List, Option}
 use Rattle.calendar.specs.declared.day.DayParts.{DayParts}
-use Rattle.work_store.specs.Areas.{StoreState}
+use Rattle.work_area.specs.Areas.{StoreState}
 use Rattle.code_items.specs.declared.code.Code.{Code}
 use Rattle.run_values.specs.declared.untagged.Untagged.{Untagged}
 use Rattle.run_values.specs.Standing.{IsByKind}
@@ -10,8 +10,8 @@ use Rattle.run_steps.specs.Opening.{opening}
 use Rattle.run_steps.specs.Shapes.{StoreFits}
 use Rattle.fit_laws.specs.Fits.{IsFitting}
 
--- the place of the next instruction, the places behind calls that haven't returned, values without tags, and all else that a run
--- changes
+-- the place of the next instruction, the places behind calls that haven't returned, values without tags, and all else
+-- that a run changes
 pub record BankState : Type 0 where
   pub place : ℕ
   pub returns : List ℕ
@@ -21,10 +21,10 @@ pub record BankState : Type 0 where
 abbrev pub banks_of : ℕ → List ℕ → Untagged → EnvState → BankState
 banks_of place returns values env = record { place = place; returns = returns; values = values; env = env }
 
--- all is equal but the values. The store is its tables (rows, stale marks, open indexes, orders, pointers, and the answers of BOF()
--- and FOUND()), what the ten areas hold, the selected area and the limit of records. Each kind's stack has the values of that kind
--- of the world's stack, in order; a slot that is set in the world has its value in the place for its kind, and all other places
--- hold anything
+-- all is equal but the values. The store is its tables (rows, stale marks, open indexes, orders, pointers, and the
+-- answers of BOF() and FOUND()), what the ten areas hold, the selected area and the limit of records. Each kind's stack
+-- has the values of that kind of the world's stack, in order; a slot that is set in the world has its value in the
+-- place for its kind, and all other places hold anything
 pub record AgreesWith (b : BankState) (w : World) : Type 0 where
   pub place : b.place ≡ w.place
   pub returns : b.returns ≡ w.returns
@@ -35,14 +35,14 @@ pub record AgreesWith (b : BankState) (w : World) : Type 0 where
   pub today : b.env.today ≡ w.env.today
   pub values : IsByKind b.values w.values
 
--- they agree with a world in which all is so as the verifier knows it at the world's place, and each procedure that runs was called
--- from where it returns to
+-- they agree with a world in which all is so as the verifier knows it at the world's place, and each procedure that
+-- runs was called from where it returns to
 pub record Twin (code : Code) (w : World) (b : BankState) : Type 0 where
   pub agrees : AgreesWith b w
   pub fits : IsFitting code w
 
--- they agree with the world from which a run of the code begins over some tables of the declared structures, with some lines of
--- the operator, on some day
+-- they agree with the world from which a run of the code begins over some tables of the declared structures, with some
+-- lines of the operator, on some day
 pub record Begins (code : Code) (w : World) (b : BankState) : Type 0 where
   pub store : StoreState
   pub lines : List (List ℕ)

@@ -6,20 +6,21 @@ ghost use Rattle.row_keys.specs.Lists.{index_list};
 ghost use Rattle.run_steps.specs.Opening.{opening as opening_of};
 ghost use Rattle.run_steps.specs.Shapes.{StoreFits};
 ghost use Rattle.screen_lines.specs.State.{sent};
-ghost use Rattle.work_rows.specs.Marks.{mark_at, parts_in};
-ghost use Rattle.work_store.specs.Areas.{table_at};
+ghost use Rattle.open_table.specs.Marks.{mark_at, parts_in};
+ghost use Rattle.work_area.specs.Areas.{table_at};
 
 use calendar::Day;
-use code_verify::Verified;
 use key_lists::KeyList;
 use run_steps::Machine;
 use run_values::Untagged;
 use std::alloc::{AllocError, Global};
 use std::marker::Model;
 use text_lines::TypedLines;
-use work_store::Store;
+use work_area::Store;
+use xverify::Verified;
 
-/// What a run of accepted code changes: values without tags, places, tables, screen, lines of the operator and settings.
+/// What a run of accepted code changes: values without tags, places, tables, screen, lines of the operator and
+/// settings.
 #[derive(Drop)]
 pub struct Banks<K: KeyList> {
     pub(crate) machine: Machine<Untagged, K>,
@@ -34,9 +35,9 @@ impl<K: KeyList> Model for Banks<K> {
 }
 
 impl<K: KeyList> Banks<K> {
-    /// The banks from which a run of the code begins: at place 0, with all slots unset and nothing on the stacks, these tables
-    /// with all areas closed, these lines of the operator, a blank screen and all settings off, on this day. They take the
-    /// memory for slots and stacks, so that values take none in a run.
+    /// The banks from which a run of the code begins: at place 0, with all slots unset and nothing on the stacks, these
+    /// tables with all areas closed, these lines of the operator, a blank screen and all settings off, on this day.
+    /// They take the memory for slots and stacks, so that values take none in a run.
     pub fn opening(
         alloc: Global,
         verified: &Verified,
@@ -60,16 +61,20 @@ impl<K: KeyList> Banks<K> {
         self.machine.store()
     }
 
-    /// The list of an open index of a declared table, by its place among those that are open there, both counted from 0; none where
-    /// there is no such table, or fewer are open. At whatever step a run has ended, it is never stale, and lists the keys of the
-    /// table's rows in order.
+    /// The list of an open index of a declared table, by its place among those that are open there, both counted from
+    /// 0; none where there is no such table, or fewer are open. At whatever step a run has ended, it is never stale,
+    /// and lists the keys of the table's rows in order.
     pub fn open_keys(&self, table: u16, k: usize) -> Option<&K>
-        ensures { MatchOption (table_at self.now.env.store table) (result ≡ None) (λ o. MatchOption (slice_get o.list k) (result ≡ None) (λ n. IsSomeAnd result (λ keys. K.pairs keys.now ≡ index_list (parts_in (mark_at o.table.marks n)) o.table.rows))) }
+        ensures { MatchOption (table_at self.now.env.store table) (result ≡ None)
+            (λ o. MatchOption (slice_get o.list k) (result ≡ None)
+            (λ n. IsSomeAnd result (λ keys. K.pairs keys.now
+            ≡ index_list (parts_in (mark_at o.table.marks n)) o.table.rows))) }
     {
         self.machine.store().open_keys(table, k)
     }
 
-    /// The bytes for printing, if the run ends here: the rows sent so far and those that are seen. The banks stay as they are.
+    /// The bytes for printing, if the run ends here: the rows sent so far and those that are seen. The banks stay as
+    /// they are.
     pub fn finish(&self, alloc: Global) -> Result<Vec<u8>, AllocError>
         ensures { IfOk result (λ bytes. bytes.items ≡ sent self.now.env.screen) }
     {

@@ -8,14 +8,14 @@ ghost use Rattle.run_steps.specs.World.{World};
 
 use crate::banks::Banks;
 use code_items::Code;
-use code_verify::Verified;
 use fit_laws::laws::{
     fitting_worlds_are_safe, fitting_worlds_keep_the_bounds, openings_fit, runs_keep_fitting,
 };
 use key_lists::KeyList;
 use run_steps::{Outcome, run as run_untested};
 use std::alloc::Global;
-use work_store::laws::{stores_keep_their_shape, tables_keep_their_kind};
+use work_area::laws::{stores_keep_their_shape, tables_keep_their_kind};
+use xverify::Verified;
 
 /// Runs an accepted code from banks that agree with a world in which the code may go on.
 fn go_on<K: KeyList>(alloc: Global, code: &Code, banks: &mut Banks<K>, budget: u64) -> Outcome
@@ -32,10 +32,10 @@ fn go_on<K: KeyList>(alloc: Global, code: &Code, banks: &mut Banks<K>, budget: u
     run_untested(alloc, code, &mut banks.machine, budget)
 }
 
-/// Goes on with a run of accepted code until it ends, within a further budget, from banks that a run left, or any that agree with
-/// a world of the code's runs. For each such world it takes the checking machine's steps and meets no fault: the same screen,
-/// rows and pointers, within the declared stack and the budget. It ends finished, spent, with a full table, or short of memory;
-/// at the last three the banks agree with the world before the step that wasn't taken.
+/// Goes on with a run of accepted code until it ends, within a further budget, from banks that a run left, or any that
+/// agree with a world of the code's runs. For each such world it takes the checking machine's steps and meets no fault:
+/// the same screen, rows and pointers, within the declared stack and the budget. It ends finished, spent, with a full
+/// table, or short of memory; at the last three the banks agree with the world before the step that wasn't taken.
 pub fn resume<K: KeyList>(
     alloc: Global,
     verified: &Verified,
@@ -48,8 +48,9 @@ pub fn resume<K: KeyList>(
     go_on(alloc, verified.code(), banks, budget)
 }
 
-/// Runs accepted code from its beginning until it ends, within the budget, over any tables of the declared structures, with any
-/// lines of the operator, on any day. It takes the checking machine's steps and meets no fault, as `resume` says.
+/// Runs accepted code from its beginning until it ends, within the budget, over any tables of the declared structures,
+/// with any lines of the operator, on any day. It takes the checking machine's steps and meets no fault, as `resume`
+/// says.
 pub fn run<K: KeyList>(
     alloc: Global,
     verified: &Verified,

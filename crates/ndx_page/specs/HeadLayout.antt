@@ -1,8 +1,10 @@
 -- Page 0 of an index file.
-use Rattle.std.specs.Prelude.{◌≡◌, ℕ, ◌≤◌, List, [], ◌∷◌, ◌++◌, length, replicate, slice_index, slice_range, Bool, not, ◌&&◌, ◌==◌, nat_lt, nat_le, is_none, position}
+use Rattle.std.specs.Prelude.{◌≡◌, ℕ, ◌≤◌, List, [], ◌∷◌, ◌++◌, length, replicate, slice_index, slice_range, Bool, not}
+use Rattle.std.specs.Prelude.{◌&&◌, ◌==◌, nat_lt, nat_le, is_none, position}
 use Rattle.ndx_page.specs.declared.head.Head.{Head}
 use Rattle.ndx_page.specs.declared.head.HeadFault.{HeadFault}
-use Rattle.ndx_page.specs.declared.head.HeadFault.TheVariants.{Short, Kind, Unique, KeyLength, EntrySize, PerPage, Expression}
+use Rattle.ndx_page.specs.declared.head.HeadFault.TheVariants.{Short, Kind, Unique, KeyLength, EntrySize, PerPage}
+use Rattle.ndx_page.specs.declared.head.HeadFault.TheVariants.{Expression}
 use Rattle.ndx_page.specs.Numbers.{number_at, number_text, padded}
 use Rattle.ndx_page.specs.Layout.{entry_size, most_entries}
 

@@ -10,10 +10,12 @@ most_le : (h m : ℕ) (cs : List PageView) → AreChildren h m cs → most (λ c
 most_le h m [] a = zero-le
 most_le h m (c ∷ cs) a = max-le (subst (λ n. n + 1 ≤ h + 1) (sym a.0.level) (le_refl (h + 1))) (most_le h m cs a.1)
 
-least_height : (m : ℕ) (es : List Pair) (cs : List PageView) → IsFramed m es cs → most (λ c. c.height + 1) cs ≤ height_of cs
+least_height : (m : ℕ) (es : List Pair) (cs : List PageView) → IsFramed m es cs
+    → most (λ c. c.height + 1) cs ≤ height_of cs
 least_height m es [] a = zero-le
 least_height m es (c ∷ cs) a = most_le c.height m (c ∷ cs) a.1
 
 -- the greatest of the children's heights, each with one more, is at most the page's
-pub falls : (m : ℕ) (es : List Pair) (cs : List PageView) → IsFramed m es cs → max (most (λ c. c.height + 1) cs) 0 ≤ height_of cs
+pub falls : (m : ℕ) (es : List Pair) (cs : List PageView) → IsFramed m es cs
+    → max (most (λ c. c.height + 1) cs) 0 ≤ height_of cs
 falls m es cs a = max-le (least_height m es cs a) zero-le

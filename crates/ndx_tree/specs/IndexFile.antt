@@ -1,5 +1,6 @@
 -- An index file: page 0, and a tree of pages.
-use Rattle.std.specs.Prelude.{◌≡◌, ℕ, zero, suc, ◌*◌, ◌/◌, Bool, true, false, not, ◌||◌, ◌==◌, nat_lt, Option, Some, None, List, [], ◌∷◌, ◌++◌, length, take, drop}
+use Rattle.std.specs.Prelude.{◌≡◌, ℕ, zero, suc, ◌*◌, ◌/◌, Bool, true, false, not, ◌||◌, ◌==◌, nat_lt, Option, Some}
+use Rattle.std.specs.Prelude.{None, List, [], ◌∷◌, ◌++◌, length, take, drop}
 use Rattle.ndx_page.specs.declared.head.Head.{Head}
 use Rattle.ndx_page.specs.declared.page.PageEntry.{PageEntry}
 use Rattle.ndx_page.specs.declared.page.Page.{Page}
@@ -58,19 +59,23 @@ behind (Some key) = Between key ∷ []
 -- Below children side by side: which pages are reached, and what is met, from the left. R says it of one child.
 abbrev pub AreBelow : (ℕ → List ℕ → List Item → Type 0) → List Link → List ℕ → List Item → Type 0
 AreBelow R [] reached items = (reached ≡ []) × (items ≡ [])
-AreBelow R (c ∷ cs) reached items = (r1 : List ℕ) × (r2 : List ℕ) × (i1 : List Item) × (i2 : List Item) × (reached ≡ r1 ++ r2) × (items ≡ i1 ++ (behind c.1 ++ i2)) × R c.0 r1 i1 × AreBelow R cs r2 i2
+AreBelow R (c ∷ cs) reached items = (r1 : List ℕ) × (r2 : List ℕ) × (i1 : List Item) × (i2 : List Item)
+    × (reached ≡ r1 ++ r2) × (items ≡ i1 ++ (behind c.1 ++ i2)) × R c.0 r1 i1 × AreBelow R cs r2 i2
 
 -- Below a page whose last child is that: in a leaf, which has none, its pairs are met, and it has to stand where leaves
 -- stand.
 abbrev pub IsNode : (ℕ → List ℕ → List Item → Type 0) → Bool → Page → ℕ → List ℕ → List Item → Type 0
-IsNode R here page zero reached items = (here ≡ true) × (reached ≡ []) × (items ≡ all_listed (leaf_pairs page.entries.items))
+IsNode R here page zero reached items =
+    (here ≡ true) × (reached ≡ []) × (items ≡ all_listed (leaf_pairs page.entries.items))
 IsNode R here page (suc last) reached items = AreBelow R (links page.entries.items (suc last)) reached items
 
 -- From page n on, with at most so many pages one below another, these pages are reached, and these items met. Leaves
 -- stand where `level` more pages would be allowed.
 abbrev pub IsBelow : ℕ → List ℕ → ℕ → ℕ → ℕ → List ℕ → List Item → Type 0
 IsBelow key_length bytes level zero n reached items = ⊥
-IsBelow key_length bytes level (suc d) n reached items = (page : Page) × (rest : List ℕ) × IsPage key_length (page_at n bytes) page × (reached ≡ n ∷ rest) × IsNode (IsBelow key_length bytes level d) (d == level) page page.last rest items
+IsBelow key_length bytes level (suc d) n reached items = (page : Page) × (rest : List ℕ)
+    × IsPage key_length (page_at n bytes) page × (reached ≡ n ∷ rest)
+    × IsNode (IsBelow key_length bytes level d) (d == level) page page.last rest items
 
 abbrev pub is_listed : ℕ → List ℕ → Bool
 is_listed n [] = false
@@ -89,7 +94,8 @@ AreFresh count seen (n ∷ ns) = (is_barred count n seen ≡ false) × AreFresh 
 abbrev pub AreBounds : List Pair → List Item → Type 0
 AreBounds left [] = Unit {0}
 AreBounds left (Listed p ∷ items) = AreBounds (left ++ p ∷ []) items
-AreBounds left (Between key ∷ items) = Each (λ p. key_before key p.0 ≡ false) left × Each (λ p. key_before p.0 key ≡ false) (listed items) × AreBounds left items
+AreBounds left (Between key ∷ items) = Each (λ p. key_before key p.0 ≡ false) left
+    × Each (λ p. key_before p.0 key ≡ false) (listed items) × AreBounds left items
 
 -- the pairs rise, and the separators stand between their sides
 pub record AreInOrder (items : List Item) : Type 0 where

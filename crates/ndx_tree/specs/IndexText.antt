@@ -24,8 +24,8 @@ pub record IsOwnPage (key_length : ℕ) (page : Page) : Type 0 where
 abbrev pub IsHalfFull : ℕ → Page → Type 0
 IsHalfFull key_length page = most_entries key_length / 2 ≤ length page.entries.items
 
--- Page 0, the other pages, and the root behind them, each as it is written alone, with 0 in each byte that has no meaning.
--- The tree has just these pages, and each but the root is at least half full.
+-- Page 0, the other pages, and the root behind them, each as it is written alone, with 0 in each byte that has no
+-- meaning. The tree has just these pages, and each but the root is at least half full.
 pub record IsIndexText (bytes : List ℕ) (form : KeyForm) (pairs : List Pair) : Type 0 where
   pub head : Head
   pub pages : List Page
@@ -44,4 +44,5 @@ pub record IsIndexText (bytes : List ℕ) (form : KeyForm) (pairs : List Pair) :
 
 -- No bytes are the index file of two lists.
 abbrev pub HoldsOneList : Type 0
-HoldsOneList = (bytes : List ℕ) (form other : KeyForm) (pairs others : List Pair) → IsIndexFile bytes form pairs → IsIndexFile bytes other others → (other ≡ form) × (others ≡ pairs)
+HoldsOneList = (bytes : List ℕ) (form other : KeyForm) (pairs others : List Pair) → IsIndexFile bytes form pairs
+    → IsIndexFile bytes other others → (other ≡ form) × (others ≡ pairs)

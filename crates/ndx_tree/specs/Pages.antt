@@ -1,5 +1,6 @@
 -- What a page of the tree is seen as, and what holds of it.
-use Rattle.std.specs.Prelude.{◌≡◌, ℕ, zero, suc, ◌+◌, ◌*◌, ◌/◌, ◌<◌, ◌≤◌, ◌⊎◌, Bool, true, false, List, [], ◌∷◌, ◌++◌, length, drop, get_or, Option, Some, None}
+use Rattle.std.specs.Prelude.{◌≡◌, ℕ, zero, suc, ◌+◌, ◌*◌, ◌/◌, ◌<◌, ◌≤◌, ◌⊎◌, Bool, true, false, List, [], ◌∷◌, ◌++◌}
+use Rattle.std.specs.Prelude.{length, drop, get_or, Option, Some, None}
 use Rattle.key_lists.specs.Pairs.{Pair}
 use Rattle.key_lists.specs.Rising.{last_of, IsRising, with_pair, has, without_pair}
 
@@ -74,8 +75,10 @@ pub record IsPage (most : ℕ) (es : List Pair) (cs : List PageView) : Type 0 wh
 
 -- A page takes x. Where it is then too full, its later half becomes a page of its own, after a separator.
 abbrev pub Inserts : PageView → Pair → PageView → Option (Pair × PageView) → Type 0
-Inserts old x new None = (new.pairs ≡ with_pair x old.pairs) × (new.height ≡ old.height) × (new.most ≡ old.most) × (old.count ≤ new.count) × (new.count ≤ old.most)
-Inserts old x new (Some p) = (new.pairs ++ p.1.pairs ≡ with_pair x old.pairs) × (last_of new.pairs ≡ Some p.0) × IsChild old.height old.most new × IsChild old.height old.most p.1
+Inserts old x new None = (new.pairs ≡ with_pair x old.pairs) × (new.height ≡ old.height) × (new.most ≡ old.most)
+    × (old.count ≤ new.count) × (new.count ≤ old.most)
+Inserts old x new (Some p) = (new.pairs ++ p.1.pairs ≡ with_pair x old.pairs) × (last_of new.pairs ≡ Some p.0)
+    × IsChild old.height old.most new × IsChild old.height old.most p.1
 
 -- A page takes x where its leaf has room, and says whether it did.
 abbrev pub InsertsInRoom : PageView → Pair → PageView → Bool → Type 0
@@ -84,7 +87,9 @@ InsertsInRoom old x new true = (0 < old.height) × Inserts old x new None
 
 -- a page with the parts es and cs, which has too many, becomes one with es2 and cs2, a separator and a later page
 abbrev pub Divides : ℕ → List Pair → List PageView → List Pair → List PageView → Pair × PageView → Type 0
-Divides most es cs es2 cs2 p = (pairs_of es2 cs2 ++ p.1.pairs ≡ pairs_of es cs) × (last_of (pairs_of es2 cs2) ≡ Some p.0) × IsChild (height_of cs) most (view_of most es2 cs2) × IsChild (height_of cs) most p.1 × IsPage most es2 cs2
+Divides most es cs es2 cs2 p = (pairs_of es2 cs2 ++ p.1.pairs ≡ pairs_of es cs)
+    × (last_of (pairs_of es2 cs2) ≡ Some p.0) × IsChild (height_of cs) most (view_of most es2 cs2)
+    × IsChild (height_of cs) most p.1 × IsPage most es2 cs2
 
 -- what a page's parts are seen as and what holds of them, where there may be one entry too many
 pub record IsOver (most : ℕ) (es : List Pair) (cs : List PageView) : Type 0 where
@@ -100,7 +105,8 @@ pub record IsWell (v : PageView) : Type 0 where
 -- A page loses x, and says whether it had it. It may have one entry less then.
 abbrev pub Removes : PageView → Pair → PageView → Bool → Type 0
 Removes old x new false = (has x old.pairs ≡ false) × (new ≡ old)
-Removes old x new true = (has x old.pairs ≡ true) × (new.pairs ≡ without_pair x old.pairs) × (new.height ≡ old.height) × (new.most ≡ old.most) × (old.count ≤ new.count + 1) × (new.count ≤ old.count) × IsWell new
+Removes old x new true = (has x old.pairs ≡ true) × (new.pairs ≡ without_pair x old.pairs) × (new.height ≡ old.height)
+    × (new.most ≡ old.most) × (old.count ≤ new.count + 1) × (new.count ≤ old.count) × IsWell new
 
 -- Of two pages side by side with so many entries, one has one less than half.
 pub record IsUneven (most l r : ℕ) : Type 0 where
@@ -117,7 +123,8 @@ Evens l r l2 = ((l < r) × (l2 ≡ l + 1)) ⊎ ((r ≤ l) × (l2 + 1 ≡ l))
 -- Two pages side by side become one, or are parted anew.
 abbrev pub Joins : PageView → PageView → PageView → Option (Pair × PageView) → Type 0
 Joins l r new None = (new.pairs ≡ l.pairs ++ r.pairs) × IsChild l.height l.most new
-Joins l r new (Some p) = (new.pairs ++ p.1.pairs ≡ l.pairs ++ r.pairs) × (last_of new.pairs ≡ Some p.0) × IsChild l.height l.most new × IsChild l.height l.most p.1
+Joins l r new (Some p) = (new.pairs ++ p.1.pairs ≡ l.pairs ++ r.pairs) × (last_of new.pairs ≡ Some p.0)
+    × IsChild l.height l.most new × IsChild l.height l.most p.1
 
 -- what may stand for a child after a removal below it: one entry may be missing
 pub record IsLight (height most : ℕ) (c : PageView) : Type 0 where

@@ -1,5 +1,6 @@
 -- What the code's walk keeps, against what the walk of the definitions has seen.
-use Rattle.std.specs.Prelude.{◌≡◌, ℕ, suc, ◌<◌, ◌≤◌, ◌⊎◌, Bool, true, false, cond, Some, None, Result, Ok, Err, List, [], ◌∷◌, take, drop, get_or}
+use Rattle.std.specs.Prelude.{◌≡◌, ℕ, suc, ◌<◌, ◌≤◌, ◌⊎◌, Bool, true, false, cond, Some, None, Result, Ok, Err, List}
+use Rattle.std.specs.Prelude.{[], ◌∷◌, take, drop, get_or}
 use Rattle.ndx_page.specs.declared.page.Page.{Page}
 use Rattle.key_lists.specs.Order.{Each}
 use Rattle.key_lists.specs.KeyForm.{IsPairOf}
@@ -41,12 +42,16 @@ Gives key_length count (Err fault) found r = (fault ≡ faults.Memory) ⊎ (r �
 
 -- a page is opened, or barred, or faulty
 abbrev pub Opens : ℕ → List ℕ → ℕ → List ℕ → Result Page TreeFault → Type 0
-Opens key_length bytes n seen (Ok page) = (is_barred (page_count bytes) n seen ≡ false) × (pages_of key_length bytes n ≡ Some page)
-Opens key_length bytes n seen (Err fault) = ((is_barred (page_count bytes) n seen ≡ true) × (fault ≡ faults.Reach)) ⊎ ((is_barred (page_count bytes) n seen ≡ false) × (pages_of key_length bytes n ≡ None) × (fault ≡ faults.Page))
+Opens key_length bytes n seen (Ok page) =
+    (is_barred (page_count bytes) n seen ≡ false) × (pages_of key_length bytes n ≡ Some page)
+Opens key_length bytes n seen (Err fault) =
+    ((is_barred (page_count bytes) n seen ≡ true) × (fault ≡ faults.Reach)) ⊎
+    ((is_barred (page_count bytes) n seen ≡ false) × (pages_of key_length bytes n ≡ None) × (fault ≡ faults.Page))
 
 -- a separator is no less than the keys before it, and no greater than those behind it
 abbrev pub IsBetween : List Pair → Separator → Type 0
-IsBetween pairs s = Each (λ p. key_before s.key.items p.0 ≡ false) (take s.place pairs) × Each (λ p. key_before p.0 s.key.items ≡ false) (drop s.place pairs)
+IsBetween pairs s = Each (λ p. key_before s.key.items p.0 ≡ false) (take s.place pairs)
+    × Each (λ p. key_before p.0 s.key.items ≡ false) (drop s.place pairs)
 
 -- each separator stands among so many pairs
 abbrev pub AreInside : ℕ → List Separator → Type 0

@@ -1,10 +1,12 @@
 -- A walk over the pages of an index file, and the first fault that it meets.
-use Rattle.std.specs.Prelude.{◌≡◌, ℕ, zero, suc, Bool, true, ◌==◌, cond, Option, Some, None, Result, Ok, Err, List, [], ◌∷◌, ◌++◌}
+use Rattle.std.specs.Prelude.{◌≡◌, ℕ, zero, suc, Bool, true, ◌==◌, cond, Option, Some, None, Result, Ok, Err, List, []}
+use Rattle.std.specs.Prelude.{◌∷◌, ◌++◌}
 use Rattle.ndx_page.specs.declared.head.Head.{Head}
 use Rattle.ndx_page.specs.declared.page.Page.{Page}
 use Rattle.ndx_page.specs.HeadLayout.{IsHead}
 use Rattle.ndx_page.specs.PageLayout.{page_of}
-use Rattle.ndx_tree.specs.IndexFile.{Item, Link, all_listed, leaf_pairs, links, behind, is_barred, page_at, page_count, AreInOrder}
+use Rattle.ndx_tree.specs.IndexFile.{Item, Link, all_listed, leaf_pairs, links, behind, is_barred, page_at, page_count}
+use Rattle.ndx_tree.specs.IndexFile.{AreInOrder}
 use Rattle.ndx_tree.specs.declared.fault.TreeFault.{TreeFault}
 use Rattle.ndx_tree.specs.declared.fault.TreeFault.TheVariants as faults
 
@@ -34,7 +36,12 @@ is_level d (Some level) = d == level
 
 -- a page whose last child is that
 abbrev pub visit : (ℕ → Seen → Result Seen TreeFault) → ℕ → Page → ℕ → Seen → Result Seen TreeFault
-visit f d page zero s = cond (is_level d s.level) (Ok (record { reached = s.reached; items = s.items ++ all_listed (leaf_pairs page.entries.items); level = Some d })) (Err faults.Depth)
+visit f d page zero s = cond (is_level d s.level)
+    (Ok (record {
+      reached = s.reached;
+      items = s.items ++ all_listed (leaf_pairs page.entries.items);
+      level = Some d;
+    })) (Err faults.Depth)
 visit f d page (suc last) s = walk_all f (links page.entries.items (suc last)) s
 
 abbrev pub open_page : Option Page → (Page → Result Seen TreeFault) → Result Seen TreeFault
@@ -43,8 +50,12 @@ open_page (Some page) f = f page
 
 -- A page, then its children from the left. The first fault ends the walk.
 abbrev pub walk : (ℕ → Option Page) → ℕ → ℕ → ℕ → Seen → Result Seen TreeFault
-walk file count zero n s = cond (is_barred count n s.reached) (Err faults.Reach) (open_page (file n) (λ _. Err faults.Depth))
-walk file count (suc d) n s = cond (is_barred count n s.reached) (Err faults.Reach) (open_page (file n) (λ page. visit (walk file count d) d page page.last (record { reached = s.reached ++ n ∷ []; items = s.items; level = s.level })))
+walk file count zero n s =
+    cond (is_barred count n s.reached) (Err faults.Reach) (open_page (file n) (λ _. Err faults.Depth))
+walk file count (suc d) n s =
+    cond (is_barred count n s.reached) (Err faults.Reach)
+    (open_page (file n) (λ page. visit (walk file count d) d page page.last
+    (record { reached = s.reached ++ n ∷ []; items = s.items; level = s.level })))
 
 -- before anything was met
 abbrev pub unseen : Seen
@@ -63,5 +74,6 @@ IsFirstFault bytes faults.Head = (head : Head) → IsHead bytes head → ⊥
 IsFirstFault bytes faults.Reach = (head : Head) × IsHead bytes head × (walk_file head bytes ≡ Err faults.Reach)
 IsFirstFault bytes faults.Page = (head : Head) × IsHead bytes head × (walk_file head bytes ≡ Err faults.Page)
 IsFirstFault bytes faults.Depth = (head : Head) × IsHead bytes head × (walk_file head bytes ≡ Err faults.Depth)
-IsFirstFault bytes faults.Order = (head : Head) × (seen : Seen) × IsHead bytes head × (walk_file head bytes ≡ Ok seen) × (AreInOrder seen.items → ⊥)
+IsFirstFault bytes faults.Order =
+    (head : Head) × (seen : Seen) × IsHead bytes head × (walk_file head bytes ≡ Ok seen) × (AreInOrder seen.items → ⊥)
 IsFirstFault bytes faults.Memory = Unit {0}

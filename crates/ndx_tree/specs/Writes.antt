@@ -29,7 +29,8 @@ AreOthers first last numbers = Each (λ n. (n ≤ first) ⊎ (last < n)) numbers
 pub record IsWritten (key_length first n : ℕ) (body : List ℕ) (view : PageView) : Type 0 where
   pub reached : List ℕ
   pub items : List Item
-  pub below : (front rest : List ℕ) (level : ℕ) → length front ≡ 512 → IsBelow key_length (front ++ (body ++ rest)) level (level + view.height) n reached items
+  pub below : (front rest : List ℕ) (level : ℕ) → length front ≡ 512
+      → IsBelow key_length (front ++ (body ++ rest)) level (level + view.height) n reached items
   pub given : AreGiven first n reached
   pub all : length reached + first ≡ n
   pub fresh : (count : ℕ) (seen : List ℕ) → n < count → AreOthers first n seen → AreFresh count seen reached
@@ -46,10 +47,12 @@ entry_links [] = []
 entry_links (e ∷ es) = (e.child, Some e.key.items) ∷ entry_links es
 
 -- Children of one height stand there, and entries name them.
-pub record AreWritten (key_length height first n : ℕ) (body : List ℕ) (es : List PageEntry) (cs : List PageView) : Type 0 where
+pub record AreWritten (key_length height first n : ℕ) (body : List ℕ) (es : List PageEntry)
+    (cs : List PageView) : Type 0 where
   pub reached : List ℕ
   pub items : List Item
-  pub below : (front rest : List ℕ) (level : ℕ) → length front ≡ 512 → AreBelow (IsBelow key_length (front ++ (body ++ rest)) level (level + height)) (entry_links es) reached items
+  pub below : (front rest : List ℕ) (level : ℕ) → length front ≡ 512
+      → AreBelow (IsBelow key_length (front ++ (body ++ rest)) level (level + height)) (entry_links es) reached items
   pub given : AreGiven first n reached
   pub all : length reached + first ≡ n
   pub fresh : (count : ℕ) (seen : List ℕ) → n < count → AreOthers first n seen → AreFresh count seen reached

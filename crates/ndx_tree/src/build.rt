@@ -163,7 +163,8 @@ fn parents(alloc: Global, most: usize, mut row: Vec<TreePage>) -> Result<Vec<Tre
     requires rising { IsRising (joined row.items) }
     requires keyed { AreKeyed most (joined row.items) }
     requires more { most + 1 < vec_len row }
-    ensures level { IfOk result (λ above. (h : ℕ) → AreChildren h most row.items → AreChildren (h + 1) most above.items) }
+    ensures level { IfOk result (λ above. (h : ℕ) → AreChildren h most row.items
+        → AreChildren (h + 1) most above.items) }
     ensures pairs { IfOk result (λ above. joined above.items ≡ joined row.items) }
     ensures two { IfOk result (λ above. 1 < vec_len above) }
     ensures fewer { IfOk result (λ above. vec_len above < vec_len row) }

@@ -44,7 +44,8 @@ impl NdxTree {
         // What is read stands in the bytes.
         ensures read { IfOk result (λ tree. IsIndexFile bytes.now tree.form tree.pairs) }
         // What stands in the bytes is read, unless memory is missing.
-        ensures only { (form : KeyForm) (pairs : List Pair) → IsIndexFile bytes.now form pairs → MatchResult result (λ tree. (tree.form ≡ form) × (tree.pairs ≡ pairs)) (λ fault. fault ≡ Memory) }
+        ensures only { (form : KeyForm) (pairs : List Pair) → IsIndexFile bytes.now form pairs
+            → MatchResult result (λ tree. (tree.form ≡ form) × (tree.pairs ≡ pairs)) (λ fault. fault ≡ Memory) }
         // The first fault is told.
         ensures fault { IfErr result (IsFirstFault bytes.now) }
     {
@@ -66,7 +67,8 @@ impl NdxTree {
     pub fn write(&self, alloc: Global) -> Result<Vec<u8>, AllocError>
         ensures file { IfOk result (λ bytes. IsIndexFile bytes.items self.now.form self.now.pairs) }
         // No other list stands in the bytes: that is what reading them gives.
-        ensures back { IfOk result (λ bytes. (form : KeyForm) (pairs : List Pair) → IsIndexFile bytes.items form pairs → (form ≡ self.now.form) × (pairs ≡ self.now.pairs)) }
+        ensures back { IfOk result (λ bytes. (form : KeyForm) (pairs : List Pair) → IsIndexFile bytes.items form pairs
+            → (form ≡ self.now.form) × (pairs ≡ self.now.pairs)) }
         // The bytes are page 0 and whole pages, each reached from the root, half full but for the root, and with 0 in
         // each byte that has no meaning.
         ensures text { IfOk result (λ bytes. IsIndexText bytes.items self.now.form self.now.pairs) }

@@ -1,5 +1,5 @@
-//! What follows from the definitions of index files. Each function does nothing: its contract is the law, which a caller
-//! gets by the call.
+//! What follows from the definitions of index files. Each function does nothing: its contract is the law, which a
+//! caller gets by the call.
 
 ghost use Rattle.ndx_tree.specs.IndexText.{HoldsOneList};
 

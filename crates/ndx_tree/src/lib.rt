@@ -1,7 +1,7 @@
 //! Lists of keys in trees of pages, and their files.
 //!
-//! `NdxTree` keeps a list of keys with record numbers in a tree of pages, which it reads from an index file and writes to
-//! one.
+//! `NdxTree` keeps a list of keys with record numbers in a tree of pages, which it reads from an index file and writes
+//! to one.
 #![tactic(auto)]
 
 mod build;

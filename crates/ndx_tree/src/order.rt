@@ -73,7 +73,8 @@ fn are_between(entries: &Entries, separators: &[Separator]) -> bool
 /// Whether the pairs rise and the separators stand between their sides.
 pub(crate) fn is_in_order(found: &Found) -> bool
     requires { AreInside (length found.now.entries.items) found.now.separators.items }
-    ensures { (items : List Item) → found.now.entries.items ≡ listed items → found.now.separators.items ≡ marks 0 items → IsTrue result ↔ AreInOrder items }
+    ensures { (items : List Item) → found.now.entries.items ≡ listed items → found.now.separators.items ≡ marks 0 items
+        → IsTrue result ↔ AreInOrder items }
 {
     is_rising(&found.entries) && are_between(&found.entries, &found.separators)
 }

@@ -3,11 +3,13 @@
 //! A page is a leaf, whose entries are pairs, or an inner page, whose entries separate its children: each of them is
 //! the last pair of the child before it. So a search goes into one child alone, and what it looks for is there.
 
-ghost use Rattle.std.specs.Prelude.{◌≡◌, ◌+◌, ◌<◌, ◌≤◌, [], ◌∷◌, ◌++◌, ◌*◌, ◌^◌, ◌/◌, length, IsTrue, ◌↔◌, Some, IfOk, OnOk, ℕ, ◌⊎◌, slice_index_or, slice_set, take};
+ghost use Rattle.std.specs.Prelude.{◌≡◌, ◌+◌, ◌<◌, ◌≤◌, [], ◌∷◌, ◌++◌, ◌*◌, ◌^◌, ◌/◌, length, IsTrue, ◌↔◌, Some, IfOk};
+ghost use Rattle.std.specs.Prelude.{OnOk, ℕ, ◌⊎◌, slice_index_or, slice_set, take};
 ghost use Rattle.std.specs.Vec.{vec_capacity, vec_len};
 ghost use Rattle.key_lists.specs.Order.{Each};
 ghost use Rattle.key_lists.specs.Rising.{IsAbsent, IsRising, last_of, first_from, last_below};
-ghost use Rattle.ndx_tree.specs.Pages.{PageView, joined, view_of, Inserts, InsertsInRoom, Removes, Joins, IsPage, IsChild, IsCut, IsMending, IsUneven, Evens, Mends, Divides};
+ghost use Rattle.ndx_tree.specs.Pages.{PageView, joined, view_of, Inserts, InsertsInRoom, Removes, Joins, IsPage};
+ghost use Rattle.ndx_tree.specs.Pages.{IsChild, IsCut, IsMending, IsUneven, Evens, Mends, Divides};
 ghost use Rattle.ndx_tree.specs.Blanks.{IsBlank, IsInnerBlank, IsPool};
 ghost use Rattle.key_lists.specs.Pairs.{Pair};
 ghost use Rattle.key_rows.specs.Flat.{HaveKeys};
@@ -39,7 +41,8 @@ impl Model for TreePage {
 
     ghost view = { λ a. view_of a.most a.entries.items a.children.items };
 
-    ghost invariant = { λ a. IsPage a.most a.entries.items a.children.items × (length a.entries.items ≤ a.most) × (room_for a.most ≤ a.entries.room) × (0 < length a.children.items → a.most + 1 < vec_capacity a.children) };
+    ghost invariant = { λ a. IsPage a.most a.entries.items a.children.items × (length a.entries.items ≤ a.most)
+        × (room_for a.most ≤ a.entries.room) × (0 < length a.children.items → a.most + 1 < vec_capacity a.children) };
 
     ghost size = { λ d. d.height };
 
@@ -172,8 +175,8 @@ impl TreePage {
         true
     }
 
-    /// Takes in the page beside it, where one page may have the entries of both. Else an entry moves over to the one that
-    /// has less.
+    /// Takes in the page beside it, where one page may have the entries of both. Else an entry moves over to the one
+    /// that has less.
     pub fn join(&mut self, separator: Entry, right: TreePage) -> Option<(Entry, TreePage)>
         requires same_height { right.height ≡ self.old.height }
         requires same_most { right.most ≡ self.old.most }
@@ -444,9 +447,11 @@ fn look(seen: &mut usize)
 // Makes the separator after a child its last pair again.
 fn refresh(entries: &mut Entries, children: &[TreePage], at: usize)
     requires within { at < length children.now }
-    requires alike { (k : ℕ) × HaveKeys k entries.old.items × HaveKeys k (joined children.now) × (length entries.old.items * (k + 4) ≤ entries.old.room) }
+    requires alike { (k : ℕ) × HaveKeys k entries.old.items × HaveKeys k (joined children.now)
+        × (length entries.old.items * (k + 4) ≤ entries.old.room) }
     requires some { (d : PageView) → 0 < length (slice_index_or children.now at d).pairs }
-    requires cut { (d : PageView) (t : Pair) → last_of (slice_index_or children.now at d).pairs ≡ Some t → IsCut (slice_set entries.old.items at t) children.now }
+    requires cut { (d : PageView) (t : Pair) → last_of (slice_index_or children.now at d).pairs ≡ Some t
+        → IsCut (slice_set entries.old.items at t) children.now }
     ensures cut { IsCut entries.new.items children.now }
     ensures len { length entries.new.items ≡ length entries.old.items }
     ensures room { entries.old.room ≤ entries.new.room }
@@ -494,7 +499,9 @@ fn mend(most: usize, entries: &mut Entries, children: &mut Vec<TreePage>, at: us
 
 // Moves an entry from the leaf that has more to the one beside it, and answers the first one's last.
 fn even_leaves(low: &mut Entries, high: &mut Entries) -> Entry
-    requires keyed { (k : ℕ) × HaveKeys k low.old.items × HaveKeys k high.old.items × ((length low.old.items + 1) * (k + 4) ≤ low.old.room) × ((length high.old.items + 1) * (k + 4) ≤ high.old.room) }
+    requires keyed { (k : ℕ) × HaveKeys k low.old.items × HaveKeys k high.old.items
+        × ((length low.old.items + 1) * (k + 4) ≤ low.old.room)
+        × ((length high.old.items + 1) * (k + 4) ≤ high.old.room) }
     requires some { 2 < length low.old.items + length high.old.items }
     ensures whole { low.new.items ++ high.new.items ≡ low.old.items ++ high.old.items }
     ensures last { last_of low.new.items ≡ Some result }
@@ -512,8 +519,8 @@ fn even_leaves(low: &mut Entries, high: &mut Entries) -> Entry
     low.get(low.len() - 1)
 }
 
-// Moves an entry and a child from the inner page that has more to the one beside it, through the separator, and answers the
-// new separator.
+// Moves an entry and a child from the inner page that has more to the one beside it, through the separator, and answers
+// the new separator.
 fn even_inner(
     separator: &Entry,
     low: &mut Entries,
@@ -521,7 +528,9 @@ fn even_inner(
     high: &mut Entries,
     right: &mut Vec<TreePage>,
 ) -> Entry
-    requires keyed { (k : ℕ) × HaveKeys k low.old.items × HaveKeys k high.old.items × (length separator.now.0 ≡ k) × ((length low.old.items + 1) * (k + 4) ≤ low.old.room) × ((length high.old.items + 1) * (k + 4) ≤ high.old.room) }
+    requires keyed { (k : ℕ) × HaveKeys k low.old.items × HaveKeys k high.old.items × (length separator.now.0 ≡ k)
+        × ((length low.old.items + 1) * (k + 4) ≤ low.old.room)
+        × ((length high.old.items + 1) * (k + 4) ≤ high.old.room) }
     requires some { 0 < length low.old.items + length high.old.items }
     requires left { vec_len left.old ≡ length low.old.items + 1 }
     requires right { vec_len right.old ≡ length high.old.items + 1 }

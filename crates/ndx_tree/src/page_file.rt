@@ -81,7 +81,8 @@ impl TreePage {
         requires next { pages + 1 < 2 ^ 32 }
         requires start { vec_len body.old ≡ pages * 512 }
         ensures written { IfOk result (λ n. IsWritten head.now.length pages n body.new.items self.now) }
-        ensures text { IfOk result (λ n. IsPageText head.now.length pages n body.old.items body.new.items self.now.count) }
+        ensures text { IfOk result (λ n. IsPageText head.now.length pages n body.old.items body.new.items
+            self.now.count) }
         ensures end { IfOk result (λ n. vec_len body.new ≡ n * 512) }
         ensures later { IfOk result (λ n. pages < n) }
         ensures few { IfOk result (λ n. 2 ≤ length self.now.pairs → n + 1 ≤ pages + length self.now.pairs) }

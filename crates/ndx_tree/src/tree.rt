@@ -39,9 +39,18 @@ impl Model for NdxTree {
 
     ghost Value = { TreeView };
 
-    ghost view = { λ t. record { pairs = t.root.pairs; height = t.root.height; spare = t.reserved; seen = t.seen; form = record { key_length = t.key_length; key_text = t.key_text.items } } };
+    ghost view = { λ t. record {
+      pairs = t.root.pairs;
+      height = t.root.height;
+      spare = t.reserved;
+      seen = t.seen;
+      form = record { key_length = t.key_length; key_text = t.key_text.items };
+    } };
 
-    ghost invariant = { λ t. IsTree (record { key_length = t.key_length; key_text = t.key_text.items }) t.root t.pool t.reserved × (t.count ≡ length t.root.pairs) };
+    ghost invariant = { λ t. IsTree (record {
+      key_length = t.key_length;
+      key_text = t.key_text.items;
+    }) t.root t.pool t.reserved × (t.count ≡ length t.root.pairs) };
 }
 
 impl NdxTree {
@@ -156,8 +165,10 @@ impl NdxTree {
 #[inline(never)]
 fn grow(root: &mut TreePage, entry: Entry, pool: &mut Pool)
     requires absent { IsAbsent entry root.old.pairs }
-    requires tree { (form : KeyForm) × (reserved : ℕ) × IsTree form root.old pool.old reserved × (0 < reserved) × IsPairOf form.key_length entry }
-    ensures tree { (form : KeyForm) (reserved : ℕ) → IsTree form root.old pool.old reserved → 0 < reserved → IsPairOf form.key_length entry → IsTree form root.new pool.new (reserved - 1) }
+    requires tree { (form : KeyForm) × (reserved : ℕ) × IsTree form root.old pool.old reserved × (0 < reserved)
+        × IsPairOf form.key_length entry }
+    ensures tree { (form : KeyForm) (reserved : ℕ) → IsTree form root.old pool.old reserved → 0 < reserved
+        → IsPairOf form.key_length entry → IsTree form root.new pool.new (reserved - 1) }
     ensures pairs { root.new.pairs ≡ with_pair entry root.old.pairs }
 {
     if let Some((separator, right)) = root.insert_by_splits(entry, pool) {

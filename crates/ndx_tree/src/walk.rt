@@ -1,6 +1,7 @@
 //! The walk over the pages of an index file.
 
-ghost use Rattle.std.specs.Prelude.{◌≡◌, ℕ, ◌+◌, ◌*◌, ◌<◌, ◌≤◌, ◌++◌, List, Some, Result, Bool, false, length, replicate, slice_index_or, Ok, Err, None, [], ◌⊎◌, ◌^◌, IfOk, IfErr, OnOk};
+ghost use Rattle.std.specs.Prelude.{◌≡◌, ℕ, ◌+◌, ◌*◌, ◌<◌, ◌≤◌, ◌++◌, List, Some, Result, Bool, false, length};
+ghost use Rattle.std.specs.Prelude.{replicate, slice_index_or, Ok, Err, None, [], ◌⊎◌, ◌^◌, IfOk, IfErr, OnOk};
 ghost use Rattle.ndx_tree.specs.declared.fault.TreeFault.TheVariants.{Memory};
 ghost use Rattle.ndx_page.specs.PageLayout.{FitsKeys};
 ghost use Rattle.key_rows.specs.Flat.{HaveKeys};
@@ -26,8 +27,8 @@ pub(crate) struct Separator {
     pub(crate) key: ArrayVec<u8, MAX_KEY>,
 }
 
-/// What a walk has met: which pages were reached, where the first leaf stood, and the pairs and separators in order. The
-/// pairs stand side by side in one row.
+/// What a walk has met: which pages were reached, where the first leaf stood, and the pairs and separators in order.
+/// The pairs stand side by side in one row.
 #[derive(Debug, Drop)]
 pub(crate) struct Found {
     pub(crate) reached: Vec<bool>,
@@ -50,7 +51,8 @@ fn bytes_of(bytes: &[u8], place: usize) -> &[u8; PAGE_SIZE]
 // The page of a number that was not reached before.
 fn open_page(head: &Head, bytes: &[u8], number: u32, reached: &[bool]) -> Result<Page, TreeFault>
     requires { length reached.now ≡ page_count bytes.now }
-    ensures opens { (seen : List ℕ) → Marks (page_count bytes.now) reached.now seen → Opens head.now.length bytes.now number seen result }
+    ensures opens { (seen : List ℕ) → Marks (page_count bytes.now) reached.now seen
+        → Opens head.now.length bytes.now number seen result }
     ensures fits { IfOk result (FitsKeys head.now.length) }
     ensures within { IfOk result (λ _. number < page_count bytes.now) }
     ensures free { IfOk result (λ _. (d : Bool) → slice_index_or reached.now number d ≡ false) }
@@ -90,10 +92,14 @@ fn add_pairs(entries: &[ndx_page::PageEntry], pairs: &mut Entries) -> Result<(),
 
 // Takes in a leaf that stands at a level.
 fn take_leaf(level: usize, page: &Page, found: &mut Found) -> Result<(), TreeFault>
-    requires alike { (k : ℕ) × (k ≤ 100) × HaveKeys k found.old.entries.items × HaveKeys k (leaf_pairs page.now.entries.items) }
-    ensures leaf { (k count : ℕ) (s : Seen) (f : ℕ → Seen → Result Seen TheFault) → Each (IsPairOf k) (leaf_pairs page.now.entries.items) → Shows k count found.old s → Gives k count result found.new (visit f level page.now 0 s) }
+    requires alike { (k : ℕ) × (k ≤ 100) × HaveKeys k found.old.entries.items
+        × HaveKeys k (leaf_pairs page.now.entries.items) }
+    ensures leaf { (k count : ℕ) (s : Seen) (f : ℕ → Seen → Result Seen TheFault)
+        → Each (IsPairOf k) (leaf_pairs page.now.entries.items) → Shows k count found.old s
+        → Gives k count result found.new (visit f level page.now 0 s) }
     ensures bits { found.new.reached.items ≡ found.old.reached.items }
-    ensures alike { (k : ℕ) → HaveKeys k found.old.entries.items → HaveKeys k (leaf_pairs page.now.entries.items) → OnOk result (HaveKeys k found.new.entries.items) }
+    ensures alike { (k : ℕ) → HaveKeys k found.old.entries.items → HaveKeys k (leaf_pairs page.now.entries.items)
+        → OnOk result (HaveKeys k found.new.entries.items) }
     ensures few { length found.new.entries.items ≤ length found.old.entries.items + length page.now.entries.items }
 {
     if !may_stand(level, found.level) {
@@ -107,7 +113,8 @@ fn take_leaf(level: usize, page: &Page, found: &mut Found) -> Result<(), TreeFau
 // Takes in the separator behind a child.
 fn take_separator(key: &[u8], found: &mut Found) -> Result<(), AllocError>
     requires { length key.now ≤ 100 }
-    ensures shown { (k count : ℕ) (s : Seen) → Shows k count found.old s → OnOk result (Shows k count found.new (with_separator (Some key.now) s)) }
+    ensures shown { (k count : ℕ) (s : Seen) → Shows k count found.old s
+        → OnOk result (Shows k count found.new (with_separator (Some key.now) s)) }
     ensures bits { found.new.reached.items ≡ found.old.reached.items }
     ensures entries { found.new.entries.items ≡ found.old.entries.items }
 {
@@ -129,10 +136,13 @@ fn read_below(
 ) -> Result<(), TreeFault>
     requires bits { length found.old.reached.items ≡ page_count bytes.now }
     requires alike { HaveKeys head.now.length found.old.entries.items }
-    ensures walked { (s : Seen) → Shows head.now.length (page_count bytes.now) found.old s → Gives head.now.length (page_count bytes.now) result found.new (walk (pages_of head.now.length bytes.now) (page_count bytes.now) left number s) }
+    ensures walked { (s : Seen) → Shows head.now.length (page_count bytes.now) found.old s
+        → Gives head.now.length (page_count bytes.now) result found.new
+        (walk (pages_of head.now.length bytes.now) (page_count bytes.now) left number s) }
     ensures bits { length found.new.reached.items ≡ page_count bytes.now }
     ensures alike { OnOk result (HaveKeys head.now.length found.new.entries.items) }
-    ensures few { length found.new.entries.items + 42 * unset found.new.reached.items ≤ length found.old.entries.items + 42 * unset found.old.reached.items }
+    ensures few { length found.new.entries.items + 42 * unset found.new.reached.items ≤ length found.old.entries.items
+        + 42 * unset found.old.reached.items }
 {
     let page = open_page(head, bytes, number, &found.reached)?;
     if left == 0 {
@@ -170,7 +180,8 @@ impl Found {
 /// Walks the pages of a file of at most 64 MiB, from its root on.
 pub(crate) fn walk_pages(alloc: Global, head: &Head, bytes: &[u8]) -> Result<Found, TreeFault>
     requires { length bytes.now ≤ 67108864 }
-    ensures met { IfOk result (λ found. (t : Seen) × (walk_file head.now bytes.now ≡ Ok t) × Shows head.now.length (page_count bytes.now) found t) }
+    ensures met { IfOk result (λ found. (t : Seen) × (walk_file head.now bytes.now ≡ Ok t)
+        × Shows head.now.length (page_count bytes.now) found t) }
     ensures fault { IfErr result (λ fault. (fault ≡ Memory) ⊎ (walk_file head.now bytes.now ≡ Err fault)) }
     ensures few { IfOk result (λ found. length found.entries.items < 2 ^ 32) }
 {

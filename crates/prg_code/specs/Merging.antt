@@ -24,7 +24,14 @@ merged_kinds one two = map merged_kind (zip one two)
 
 -- the area that is selected on the first way, and an empty stack
 abbrev pub merged_state : State → State → State
-merged_state one two = record { desk = record { selected = one.desk.selected; areas = merged_areas one.desk.areas two.desk.areas }; slots = merged_kinds one.slots two.slots; stack = [] }
+merged_state one two = record {
+  desk = record {
+    selected = one.desk.selected;
+    areas = merged_areas one.desk.areas two.desk.areas;
+  };
+  slots = merged_kinds one.slots two.slots;
+  stack = [];
+}
 
 -- ways on which the same area is selected, with as many areas and slots
 pub record DoMeet (one two : State) : Type 0 where

@@ -1,5 +1,5 @@
-//! Code that is being written: its constants, lists and filters, names and their slots, blocks with jumps whose places aren't
-//! known yet, and what is known where ways through a block meet.
+//! Code that is being written: its constants, lists and filters, names and their slots, blocks with jumps whose places
+//! aren't known yet, and what is known where ways through a block meet.
 #![tactic(auto)]
 
 mod block;

@@ -64,8 +64,8 @@ fn merged_kinds(
         .collect(alloc)
 }
 
-/// What is known where two ways meet on which the same work area is selected, with empty stacks: of each work area and of each
-/// slot what both know.
+/// What is known where two ways meet on which the same work area is selected, with empty stacks: of each work area and
+/// of each slot what both know.
 pub fn merged(alloc: Global, one: &State, two: &State) -> Result<State, AllocError>
     ensures { IfOk result (λ state. state ≡ spec.merged_state one.now two.now) }
 {

@@ -48,8 +48,8 @@ pub fn is_of_table(indexes: &[IndexShape], number: u8, table: u16) -> bool {
     }
 }
 
-/// The list of these indexes: Name where one isn't declared, Index where one is of another table or named twice, Limit where
-/// there are more than seven.
+/// The list of these indexes: Name where one isn't declared, Index where one is of another table or named twice, Limit
+/// where there are more than seven.
 fn list_of(shape: &Shape, table: u16, names: &[Name]) -> Result<IndexList, CompileError> {
     let mut indexes = ArrayVec::new();
     for name in names {

@@ -134,8 +134,8 @@ fn put_on_records(
 ///
 /// # Errors
 ///
-/// The command's first fault: of its expressions in the order of their code, then of names, and then ClosedArea, NoOrder,
-/// OpenTwice, Index, Filter and Limit. Want of memory.
+/// The command's first fault: of its expressions in the order of their code, then of names, and then ClosedArea,
+/// NoOrder, OpenTwice, Index, Filter and Limit. Want of memory.
 pub fn put_statement(
     shape: &Shape,
     out: &mut Output,

@@ -111,8 +111,8 @@ pub fn hide(work: &mut Work, names: &[Name]) -> Result<(), CompileError> {
     Ok(())
 }
 
-/// The slot of an argument that is handed over by reference: a name alone that is no field, or one behind `M->`. None of any
-/// other expression, which is handed over by value.
+/// The slot of an argument that is handed over by reference: a name alone that is no field, or one behind `M->`. None
+/// of any other expression, which is handed over by value.
 pub fn argument_slot(shape: &Shape, work: &Work, e: &Expr) -> Result<Option<u8>, CompileFaultKind> {
     let scope = scope_of(shape, work);
     match e {

@@ -6,6 +6,8 @@ use Rattle.prg_laid.specs.Commands.{IsLaid}
 use Rattle.prg_parser.specs.Commands.{commands_of}
 use Rattle.prg_parser.specs.declared.program.Program.{Program}
 
--- if there is just one file, and it has no procedures, then the code is laid out as its commands say, its variables in some slots
+-- if there is just one file, and it has no procedures, then the code is laid out as its commands say, its variables in
+-- some slots
 abbrev pub IsLaidAlone : Code → List Program → Type 0
-IsLaidAlone code programs = (program : Program) → programs ≡ program ∷ [] → program.procedures.items ≡ [] → (names : List Binding) × IsLaid code names (commands_of program.main.items)
+IsLaidAlone code programs = (program : Program) → programs ≡ program ∷ [] → program.procedures.items ≡ []
+    → (names : List Binding) × IsLaid code names (commands_of program.main.items)

@@ -43,7 +43,8 @@ fn file_named(programs: &[Program], name: &[u8]) -> Option<Target> {
     None
 }
 
-/// What `DO name` runs: the first PROCEDURE of that name in the files, in their order, else the first file of that name.
+/// What `DO name` runs: the first PROCEDURE of that name in the files, in their order, else the first file of that
+/// name.
 fn target_named(programs: &[Program], name: &[u8]) -> Result<Target, CompileFaultKind> {
     if let Some(target) = procedure_in(programs, name) {
         return Ok(target);
@@ -58,8 +59,8 @@ fn is_active(active: &[Target], target: Target) -> bool {
     active.iter().any(|other| *other == target)
 }
 
-/// What `DO name` runs with so many arguments: Name where nothing has the name, Recursion where it is being run, Parameters
-/// where it takes another number.
+/// What `DO name` runs with so many arguments: Name where nothing has the name, Recursion where it is being run,
+/// Parameters where it takes another number.
 pub fn target_of(
     s: &Source,
     w: &Writer,
@@ -144,8 +145,8 @@ pub fn copy_for(w: &Writer, target: Target, names: &Names) -> Option<usize> {
     None
 }
 
-/// Begins a copy with these names and what is known here: Copies where there are too many, Limit where there are too many
-/// calls within one another. Gives its number and the copy that was being written.
+/// Begins a copy with these names and what is known here: Copies where there are too many, Limit where there are too
+/// many calls within one another. Gives its number and the copy that was being written.
 pub fn begin_copy(
     w: &mut Writer,
     target: Target,

@@ -8,13 +8,13 @@ use crate::calling::{end_copy, last_line};
 use crate::control::{Inside, commands};
 use crate::ends::end_procedure;
 use code_items::{Code, Shape};
-use code_verify::{Verified, VerifyError, verify};
 use prg_code::{Block, CompileError, CompileFault, CompileFaultKind, CompileRefusal, Names};
 use prg_commands::{Output, Work};
 use prg_laid::{LayoutFault, judge};
 use prg_parser::Program;
 use prg_writer::{ProcedureCopy, Source, Target, Writer, assemble, copy_of_shape};
 use std::alloc::{AllocError, Global};
+use xverify::{Verified, VerifyError, verify};
 
 /// How deep blocks and calls may go: thirty-two blocks in each of twenty-one procedures, and a few steps for each.
 const ROOM: u16 = 4096;
@@ -88,7 +88,8 @@ fn whole(kind: CompileFaultKind) -> CompileRefusal {
     })
 }
 
-/// Limit where a single file without procedures isn't laid out in the code as its commands say, which no file is known to be.
+/// Limit where a single file without procedures isn't laid out in the code as its commands say, which no file is known
+/// to be.
 fn judged(
     alloc: Global,
     code: &Code,
@@ -131,8 +132,8 @@ fn accepted(
     }
 }
 
-/// The code of command files for tables and indexes of this shape; the first file is the main one. The code is accepted by
-/// the verifier, and a single file without procedures is laid out in it as its commands say.
+/// The code of command files for tables and indexes of this shape; the first file is the main one. The code is accepted
+/// by the verifier, and a single file without procedures is laid out in it as its commands say.
 ///
 /// # Errors
 ///

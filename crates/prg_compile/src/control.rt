@@ -107,8 +107,8 @@ fn next_line(cases: &[Case], otherwise: &Option<Branch>, end: usize) -> usize {
     }
 }
 
-/// Whether a round of a loop that began with what is known here holds, after all its ways back; else what they know together.
-/// Merge where another work area is selected on a way back.
+/// Whether a round of a loop that began with what is known here holds, after all its ways back; else what they know
+/// together. Merge where another work area is selected on a way back.
 fn round_end(
     w: &Writer,
     end: usize,
@@ -140,8 +140,8 @@ fn put_scan_test(w: &mut Writer) -> Result<(), CompileError> {
         .put(Instr::Values(ValueInstr::Function(Fun::Not)))
 }
 
-/// Puts the commands up to the first one behind which nothing is reached. Where they are a part of a block, Get in the line that
-/// ends it if a READ is awaited there.
+/// Puts the commands up to the first one behind which nothing is reached. Where they are a part of a block, Get in the
+/// line that ends it if a READ is awaited there.
 #[cycle(commands)]
 pub fn commands(
     s: &Source,
@@ -421,8 +421,8 @@ fn scan_round(
     Ok(wider)
 }
 
-/// Puts the test of a SCAN, which leads out where there is no row, and on to the next row where the condition of its FOR
-/// doesn't hold.
+/// Puts the test of a SCAN, which leads out where there is no row, and on to the next row where the condition of its
+/// FOR doesn't hold.
 fn put_row_test(
     s: &Source,
     w: &mut Writer,

@@ -1,7 +1,8 @@
 -- Which of a line's faults is told.
 use Rattle.std.specs.Prelude.{◌≡◌, ℕ, List, [], ◌∷◌, Option, Some, None, nat_le, nat_lt, if◌then◌else◌}
 use Rattle.prg_expr.specs.declared.fault.ParseFaultKind.{ParseFaultKind}
-use Rattle.prg_expr.specs.declared.fault.ParseFaultKind.TheVariants.{Character, Text, Number, Word, Expression, Block, TooLong, TooDeep, Macro}
+use Rattle.prg_expr.specs.declared.fault.ParseFaultKind.TheVariants.{Character, Text, Number, Word, Expression, Block}
+use Rattle.prg_expr.specs.declared.fault.ParseFaultKind.TheVariants.{TooLong, TooDeep, Macro}
 use Rattle.prg_expr.specs.declared.fault.ParseFault.{ParseFault}
 use Rattle.prg_expr.specs.declared.fault.ParseRefusal.{ParseRefusal}
 use Rattle.prg_expr.specs.declared.fault.ParseRefusal.TheVariants.{Fault, Memory}

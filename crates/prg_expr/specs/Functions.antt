@@ -1,7 +1,13 @@
 -- Which words name functions, and how many arguments these take.
-use Rattle.std.specs.Prelude.{ℕ, List, [], ◌∷◌, ◌++◌, Bool, true, false, ◌&&◌, ◌||◌, ◌==◌, nat_le, length, codes, Option, Some, None, if◌then◌else◌}
+use Rattle.std.specs.Prelude.{ℕ, List, [], ◌∷◌, ◌++◌, Bool, true, false, ◌&&◌, ◌||◌, ◌==◌, nat_le, length, codes}
+use Rattle.std.specs.Prelude.{Option, Some, None, if◌then◌else◌}
 use Rattle.prg_expr.specs.declared.function.Function.{Function}
-use Rattle.prg_expr.specs.declared.function.Function.TheVariants.{Iif, Len, Substr, Left, Right, Trim, Ltrim, Upper, Lower, Space, Replicate, At, Stuff, Asc, Chr, Val, Str, IsAlpha, IsUpper, IsLower, Abs, Int, Mod, Round, Max, Min, Ctod, Dtoc, Day, Month, Year, Dow, Cdow, Cmonth, Recno, Reccount, Eof, Bof, Found, Deleted, Date}
+use Rattle.prg_expr.specs.declared.function.Function.TheVariants.{Iif, Len, Substr, Left, Right, Trim, Ltrim, Upper}
+use Rattle.prg_expr.specs.declared.function.Function.TheVariants.{Lower, Space, Replicate, At, Stuff, Asc, Chr, Val}
+use Rattle.prg_expr.specs.declared.function.Function.TheVariants.{Str, IsAlpha, IsUpper, IsLower, Abs, Int, Mod, Round}
+use Rattle.prg_expr.specs.declared.function.Function.TheVariants.{Max, Min, Ctod, Dtoc, Day, Month, Year, Dow, Cdow}
+use Rattle.prg_expr.specs.declared.function.Function.TheVariants.{Cmonth, Recno, Reccount, Eof, Bof, Found, Deleted}
+use Rattle.prg_expr.specs.declared.function.Function.TheVariants.{Date}
 
 -- whether the letters are the first ones of a word
 unfoldable pub is_front : List ℕ → List ℕ → Bool
@@ -22,22 +28,28 @@ called [] letters = None
 called (x ∷ xs) letters = if is_cut letters x.0 then Some x.1 else called xs letters
 
 abbrev pub of_texts : List Entry
-of_texts = (codes "LEN", Len) ∷ (codes "TRIM", Trim) ∷ (codes "RTRIM", Trim) ∷ (codes "LTRIM", Ltrim) ∷ (codes "UPPER", Upper) ∷ (codes "LOWER", Lower) ∷ (codes "SPACE", Space) ∷ (codes "REPLICATE", Replicate) ∷ []
+of_texts = (codes "LEN", Len) ∷ (codes "TRIM", Trim) ∷ (codes "RTRIM", Trim) ∷ (codes "LTRIM", Ltrim)
+    ∷ (codes "UPPER", Upper) ∷ (codes "LOWER", Lower) ∷ (codes "SPACE", Space) ∷ (codes "REPLICATE", Replicate) ∷ []
 
 abbrev pub of_parts : List Entry
-of_parts = (codes "SUBSTR", Substr) ∷ (codes "LEFT", Left) ∷ (codes "RIGHT", Right) ∷ (codes "AT", At) ∷ (codes "STUFF", Stuff) ∷ (codes "IIF", Iif) ∷ []
+of_parts = (codes "SUBSTR", Substr) ∷ (codes "LEFT", Left) ∷ (codes "RIGHT", Right) ∷ (codes "AT", At)
+    ∷ (codes "STUFF", Stuff) ∷ (codes "IIF", Iif) ∷ []
 
 abbrev pub of_bytes : List Entry
-of_bytes = (codes "ASC", Asc) ∷ (codes "CHR", Chr) ∷ (codes "VAL", Val) ∷ (codes "STR", Str) ∷ (codes "ISALPHA", IsAlpha) ∷ (codes "ISUPPER", IsUpper) ∷ (codes "ISLOWER", IsLower) ∷ []
+of_bytes = (codes "ASC", Asc) ∷ (codes "CHR", Chr) ∷ (codes "VAL", Val) ∷ (codes "STR", Str)
+    ∷ (codes "ISALPHA", IsAlpha) ∷ (codes "ISUPPER", IsUpper) ∷ (codes "ISLOWER", IsLower) ∷ []
 
 abbrev pub of_numbers : List Entry
-of_numbers = (codes "ABS", Abs) ∷ (codes "INT", Int) ∷ (codes "MOD", Mod) ∷ (codes "ROUND", Round) ∷ (codes "MAX", Max) ∷ (codes "MIN", Min) ∷ []
+of_numbers = (codes "ABS", Abs) ∷ (codes "INT", Int) ∷ (codes "MOD", Mod) ∷ (codes "ROUND", Round) ∷ (codes "MAX", Max)
+    ∷ (codes "MIN", Min) ∷ []
 
 abbrev pub of_dates : List Entry
-of_dates = (codes "CTOD", Ctod) ∷ (codes "DTOC", Dtoc) ∷ (codes "DAY", Day) ∷ (codes "MONTH", Month) ∷ (codes "YEAR", Year) ∷ (codes "DOW", Dow) ∷ (codes "CDOW", Cdow) ∷ (codes "CMONTH", Cmonth) ∷ []
+of_dates = (codes "CTOD", Ctod) ∷ (codes "DTOC", Dtoc) ∷ (codes "DAY", Day) ∷ (codes "MONTH", Month)
+    ∷ (codes "YEAR", Year) ∷ (codes "DOW", Dow) ∷ (codes "CDOW", Cdow) ∷ (codes "CMONTH", Cmonth) ∷ []
 
 abbrev pub of_tables : List Entry
-of_tables = (codes "RECNO", Recno) ∷ (codes "RECCOUNT", Reccount) ∷ (codes "EOF", Eof) ∷ (codes "BOF", Bof) ∷ (codes "FOUND", Found) ∷ (codes "DELETED", Deleted) ∷ (codes "DATE", Date) ∷ []
+of_tables = (codes "RECNO", Recno) ∷ (codes "RECCOUNT", Reccount) ∷ (codes "EOF", Eof) ∷ (codes "BOF", Bof)
+    ∷ (codes "FOUND", Found) ∷ (codes "DELETED", Deleted) ∷ (codes "DATE", Date) ∷ []
 
 -- all words that name functions
 abbrev pub all_functions : List Entry
@@ -49,7 +61,9 @@ or_else (Some f) other = Some f
 
 -- the function that capitals name
 unfoldable pub function_named : List ℕ → Option Function
-function_named s = or_else (called of_texts s) (or_else (called of_parts s) (or_else (called of_bytes s) (or_else (called of_numbers s) (or_else (called of_dates s) (called of_tables s)))))
+function_named s = or_else (called of_texts s)
+    (or_else (called of_parts s) (or_else (called of_bytes s)
+    (or_else (called of_numbers s) (or_else (called of_dates s) (called of_tables s)))))
 
 abbrev pub fewest : Function → ℕ
 fewest Iif = 3

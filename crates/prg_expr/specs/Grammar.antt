@@ -3,7 +3,8 @@
 use Rattle.std.specs.Prelude.{◌≡◌, ◌≢◌, ◌<◌, ℕ, suc, List, [], ◌∷◌, ◌++◌, take, Bool, true, Option, Some, None}
 use Rattle.fixed_num.specs.Number.{Number as Decimal}
 use Rattle.prg_expr.specs.declared.tree.Operator.{Operator}
-use Rattle.prg_expr.specs.declared.tree.Operator.TheVariants.{Or, And, Equal, NotEqual, Less, Greater, AtMost, AtLeast, Contains, Plus, Minus, Times, Over}
+use Rattle.prg_expr.specs.declared.tree.Operator.TheVariants.{Or, And, Equal, NotEqual, Less, Greater, AtMost, AtLeast}
+use Rattle.prg_expr.specs.declared.tree.Operator.TheVariants.{Contains, Plus, Minus, Times, Over}
 use Rattle.prg_expr.specs.declared.tree.Prefix.{Prefix}
 use Rattle.prg_expr.specs.declared.tree.Prefix.TheVariants as prefix
 use Rattle.prg_expr.specs.declared.function.Function.{Function}
@@ -52,8 +53,10 @@ mutual
     -- of a name the tree holds ten letters
     name : {d : ℕ} {s : List ℕ} → Stands d 0 (tree.Name (take 10 s)) (word.Name s ∷ [])
     -- an alias and a name
-    qualified : {d : ℕ} {a s : List ℕ} → Stands d 0 (tree.Qualified (take 10 a) (take 10 s)) (word.Name a ∷ word.Arrow ∷ word.Name s ∷ [])
-    parentheses : {d : ℕ} {e : Tree} {ws : List Word} → Stands d 7 e ws → Stands (suc d) 0 (tree.Parentheses e) (word.Open ∷ (ws ++ word.Close ∷ []))
+    qualified : {d : ℕ} {a s : List ℕ}
+        → Stands d 0 (tree.Qualified (take 10 a) (take 10 s)) (word.Name a ∷ word.Arrow ∷ word.Name s ∷ [])
+    parentheses : {d : ℕ} {e : Tree} {ws : List Word} → Stands d 7 e ws
+        → Stands (suc d) 0 (tree.Parentheses e) (word.Open ∷ (ws ++ word.Close ∷ []))
     -- what stands at a level stands at the next looser one
     looser : {d l : ℕ} {e : Tree} {ws : List Word} → Stands d l e ws → Stands d (suc l) e ws
     -- operators of one level group from the left; of comparisons there is one
@@ -65,7 +68,8 @@ mutual
     prefixed : {d l : ℕ} {w : Word} {p : Prefix} {e : Tree} {ws : List Word} → prefix_of w ≡ Some p → prefix_level p ≡ l
         → Stands d l e ws → Stands d l (tree.Prefixed p e) (w ∷ ws)
     -- a function and as many arguments as it takes
-    called : {d : ℕ} {s : List ℕ} {f : Function} {es : Trees} {ws : List Word} → function_named s ≡ Some f → takes f (count es) ≡ true
+    called : {d : ℕ} {s : List ℕ} {f : Function} {es : Trees} {ws : List Word} → function_named s ≡ Some f
+        → takes f (count es) ≡ true
         → Arguments d es ws → Stands (suc d) 0 (tree.Call f es) (word.Name s ∷ word.Open ∷ (ws ++ word.Close ∷ []))
     called_bare : {d : ℕ} {s : List ℕ} {f : Function} → function_named s ≡ Some f → takes f 0 ≡ true
         → Stands (suc d) 0 (tree.Call f tree.None) (word.Name s ∷ word.Open ∷ word.Close ∷ [])
@@ -73,7 +77,8 @@ mutual
   -- one expression or more, with commas between
   pub data Arguments : ℕ → Trees → List Word → Type 0 where
     last : {d : ℕ} {e : Tree} {ws : List Word} → Stands d 7 e ws → Arguments d (tree.More e tree.None) ws
-    more : {d : ℕ} {e : Tree} {es : Trees} {aw bw : List Word} → Stands d 7 e aw → Arguments d es bw → Arguments d (tree.More e es) (aw ++ word.Comma ∷ bw)
+    more : {d : ℕ} {e : Tree} {es : Trees} {aw bw : List Word} → Stands d 7 e aw → Arguments d es bw
+        → Arguments d (tree.More e es) (aw ++ word.Comma ∷ bw)
 
 -- how many parentheses may be open at a place
 abbrev pub max_depth : ℕ

@@ -1,12 +1,16 @@
 -- How bytes spell words, and which words are faulty.
-use Rattle.std.specs.Prelude.{◌≡◌, ◌<◌, ◌⊎◌, ◌+◌, ℕ, List, [], ◌∷◌, ◌++◌, Bool, true, false, not, ◌||◌, ◌&&◌, ◌==◌, nat_lt, map, take, length, codes, Option, Some, None, if◌then◌else◌}
-use Rattle.std.specs.Char.{is_ascii_digit, is_ascii_alphabetic, is_ascii_alphanumeric, to_ascii_lowercase, to_ascii_uppercase}
+use Rattle.std.specs.Prelude.{◌≡◌, ◌<◌, ◌⊎◌, ◌+◌, ℕ, List, [], ◌∷◌, ◌++◌, Bool, true, false, not, ◌||◌, ◌&&◌, ◌==◌}
+use Rattle.std.specs.Prelude.{nat_lt, map, take, length, codes, Option, Some, None, if◌then◌else◌}
+use Rattle.std.specs.Char.{is_ascii_digit, is_ascii_alphabetic, is_ascii_alphanumeric, to_ascii_lowercase}
+use Rattle.std.specs.Char.{to_ascii_uppercase}
 use Rattle.std.specs.List.{prefix_len}
 use Rattle.fixed_num.specs.Reading.{parsed}
 use Rattle.prg_expr.specs.declared.fault.ParseFaultKind.{ParseFaultKind}
 use Rattle.prg_expr.specs.declared.fault.ParseFaultKind.TheVariants as fault
-use Rattle.prg_expr.specs.declared.tree.Operator.TheVariants.{Or, And, Equal, NotEqual, Less, Greater, AtMost, AtLeast, Contains, Plus, Minus, Times, Over}
-use Rattle.prg_expr.specs.Word.{Word, Number, Text, Logical, Name, Not, Sign, Arrow, Open, Close, Comma, Outside, Show, ShowOn, At, Point, Macro, Faulty}
+use Rattle.prg_expr.specs.declared.tree.Operator.TheVariants.{Or, And, Equal, NotEqual, Less, Greater, AtMost, AtLeast}
+use Rattle.prg_expr.specs.declared.tree.Operator.TheVariants.{Contains, Plus, Minus, Times, Over}
+use Rattle.prg_expr.specs.Word.{Word, Number, Text, Logical, Name, Not, Sign, Arrow, Open, Close, Comma, Outside, Show}
+use Rattle.prg_expr.specs.Word.{ShowOn, At, Point, Macro, Faulty}
 
 -- letters, digits and the underscore
 abbrev pub is_name : ℕ → Bool
@@ -41,7 +45,8 @@ decimals (b ∷ bytes) = if b == 46 then prefix_len is_ascii_digit bytes else 0
 -- the bytes that are a word each: ( ) * + , - / < = > # $ ? @
 abbrev pub singles : List (ℕ × Word)
 singles =
-    (40, Open) ∷ (41, Close) ∷ (42, Sign Times) ∷ (43, Sign Plus) ∷ (44, Comma) ∷ (45, Sign Minus) ∷ (47, Sign Over) ∷ (60, Sign Less) ∷ (61, Sign Equal)
+    (40, Open) ∷ (41, Close) ∷ (42, Sign Times) ∷ (43, Sign Plus) ∷ (44, Comma) ∷ (45, Sign Minus) ∷ (47, Sign Over)
+    ∷ (60, Sign Less) ∷ (61, Sign Equal)
     ∷ (62, Sign Greater) ∷ (35, Sign NotEqual) ∷ (36, Sign Contains) ∷ (63, Outside Show) ∷ (64, Outside At) ∷ []
 
 abbrev pub single_in : List (ℕ × Word) → ℕ → Option Word
@@ -50,7 +55,8 @@ single_in (x ∷ xs) b = if b == x.0 then Some x.1 else single_in xs b
 
 -- the words of two bytes: -> <> <= >= ??
 abbrev pub pairs : List (ℕ × ℕ × Word)
-pairs = (45, 62, Arrow) ∷ (60, 62, Sign NotEqual) ∷ (60, 61, Sign AtMost) ∷ (62, 61, Sign AtLeast) ∷ (63, 63, Outside ShowOn) ∷ []
+pairs = (45, 62, Arrow) ∷ (60, 62, Sign NotEqual) ∷ (60, 61, Sign AtMost) ∷ (62, 61, Sign AtLeast)
+    ∷ (63, 63, Outside ShowOn) ∷ []
 
 abbrev pub pair_in : List (ℕ × ℕ × Word) → ℕ → ℕ → Option Word
 pair_in [] b c = None
@@ -108,24 +114,34 @@ over most n = if nat_lt most n then Some fault.TooLong else None
 abbrev pub number_fault : ℕ → ℕ → Option ParseFaultKind
 number_fault whole fraction = if nat_lt 15 fraction || nat_lt 19 (whole + fraction) then Some fault.Number else None
 
--- `IsWord w fault bytes rest`: the bytes are the word w where the rest follows them, and the fault is what is wrong with it.
+-- `IsWord w fault bytes rest`: the bytes are the word w where the rest follows them, and the fault is what is wrong
+-- with it.
 pub data IsWord : Word → Option ParseFaultKind → List ℕ → List ℕ → Type 0 where
   -- A number goes on as far as it can: its digits, then a point and digits if there are any.
-  whole : {digits rest : List ℕ} → 0 < length digits → Each is_ascii_digit digits → Stops is_ascii_digit rest → decimals rest ≡ 0
+  whole : {digits rest : List ℕ} → 0 < length digits → Each is_ascii_digit digits → Stops is_ascii_digit rest
+      → decimals rest ≡ 0
       → IsWord (Number (parsed digits)) (number_fault (length digits) 0) digits rest
-  decimal : (digits behind : List ℕ) {rest : List ℕ} → Each is_ascii_digit digits → 0 < length behind → Each is_ascii_digit behind → Stops is_ascii_digit rest
-      → IsWord (Number (parsed (digits ++ 46 ∷ behind))) (number_fault (length digits) (length behind)) (digits ++ 46 ∷ behind) rest
+  decimal : (digits behind : List ℕ) {rest : List ℕ} → Each is_ascii_digit digits → 0 < length behind
+      → Each is_ascii_digit behind → Stops is_ascii_digit rest
+      → IsWord (Number (parsed (digits ++ 46 ∷ behind))) (number_fault (length digits) (length behind))
+      (digits ++ 46 ∷ behind) rest
   name : {b : ℕ} {others rest : List ℕ} → is_ascii_alphabetic b ≡ true → Each is_name others → Stops is_name rest
       → IsWord (Name (map to_ascii_uppercase (b ∷ others))) (over 10 (length (b ∷ others))) (b ∷ others) rest
   -- A text ends at the first mark of its own kind.
-  text : {b : ℕ} (s : List ℕ) {rest : List ℕ} → is_quote b ≡ true → Each (λ c. not (c == closing b)) s → IsWord (Text (take 254 s)) (over 254 (length s)) (b ∷ (s ++ closing b ∷ [])) rest
-  unended : {b : ℕ} {s : List ℕ} → is_quote b ≡ true → Each (λ c. not (c == closing b)) s → IsWord (Text (take 254 s)) (Some fault.Text) (b ∷ s) []
-  behind_point : {w : Word} {letters rest : List ℕ} → Listed (map to_ascii_lowercase letters, w) pointed → IsWord w None (46 ∷ letters) rest
-  lone_point : {rest : List ℕ} → digit_first rest ≡ false → NoneInFront pointed rest → IsWord (Outside Point) None (46 ∷ []) rest
+  text : {b : ℕ} (s : List ℕ) {rest : List ℕ} → is_quote b ≡ true → Each (λ c. not (c == closing b)) s
+      → IsWord (Text (take 254 s)) (over 254 (length s)) (b ∷ (s ++ closing b ∷ [])) rest
+  unended : {b : ℕ} {s : List ℕ} → is_quote b ≡ true → Each (λ c. not (c == closing b)) s
+      → IsWord (Text (take 254 s)) (Some fault.Text) (b ∷ s) []
+  behind_point : {w : Word} {letters rest : List ℕ} → Listed (map to_ascii_lowercase letters, w) pointed
+      → IsWord w None (46 ∷ letters) rest
+  lone_point : {rest : List ℕ} → digit_first rest ≡ false → NoneInFront pointed rest
+      → IsWord (Outside Point) None (46 ∷ []) rest
   pair : {b c : ℕ} {w : Word} {rest : List ℕ} → pair_in pairs b c ≡ Some w → IsWord w None (b ∷ c ∷ []) rest
-  single : {b : ℕ} {w : Word} {rest : List ℕ} → single_in singles b ≡ Some w → Alone b rest → IsWord w None (b ∷ []) rest
+  single : {b : ℕ} {w : Word} {rest : List ℕ} → single_in singles b ≡ Some w → Alone b rest
+      → IsWord w None (b ∷ []) rest
   macro : {rest : List ℕ} → Stops (λ c. c == 38) rest → IsWord (Outside Macro) (Some fault.Macro) (38 ∷ []) rest
-  strange : {b : ℕ} {rest : List ℕ} → Strange b → Alone b rest → IsWord (Outside Faulty) (Some fault.Character) (b ∷ []) rest
+  strange : {b : ℕ} {rest : List ℕ} → Strange b → Alone b rest
+      → IsWord (Outside Faulty) (Some fault.Character) (b ∷ []) rest
 
 -- a word and its fault
 abbrev pub Spot : Type 0
@@ -140,12 +156,15 @@ spot_word x = x.0
 abbrev pub spot_fault : Spot → Option ParseFaultKind
 spot_fault x = x.1
 
--- `IsLine spots bytes`: the bytes are these words in turn, with blanks between them or not, perhaps a comment at the end.
+-- `IsLine spots bytes`: the bytes are these words in turn, with blanks between them or not, perhaps a comment at the
+-- end.
 pub data IsLine : List Spot → List ℕ → Type 0 where
   nothing : IsLine [] []
   comment : {bytes : List ℕ} → IsLine [] (38 ∷ 38 ∷ bytes)
-  blank : {b : ℕ} {spots : List Spot} {bytes : List ℕ} → is_blank b ≡ true → IsLine spots bytes → IsLine spots (b ∷ bytes)
-  word : {w : Word} {f : Option ParseFaultKind} {spots : List Spot} {bytes rest : List ℕ} → IsWord w f bytes rest → IsLine spots rest → IsLine (spot w f ∷ spots) (bytes ++ rest)
+  blank : {b : ℕ} {spots : List Spot} {bytes : List ℕ} → is_blank b ≡ true → IsLine spots bytes
+      → IsLine spots (b ∷ bytes)
+  word : {w : Word} {f : Option ParseFaultKind} {spots : List Spot} {bytes rest : List ℕ} → IsWord w f bytes rest
+      → IsLine spots rest → IsLine (spot w f ∷ spots) (bytes ++ rest)
 
 -- a word without a fault
 abbrev pub clean : Word → Spot

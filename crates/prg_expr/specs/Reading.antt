@@ -1,5 +1,6 @@
 -- Reading words from left to right.
-use Rattle.std.specs.Prelude.{◌≡◌, ℕ, zero, suc, List, [], ◌∷◌, length, take, Option, Some, None, Bool, true, false, Result, Ok, Err, ◌==◌, if◌then◌else◌}
+use Rattle.std.specs.Prelude.{◌≡◌, ℕ, zero, suc, List, [], ◌∷◌, length, take, Option, Some, None, Bool, true, false}
+use Rattle.std.specs.Prelude.{Result, Ok, Err, ◌==◌, if◌then◌else◌}
 use Rattle.prg_expr.specs.declared.fault.ParseFaultKind.{ParseFaultKind}
 use Rattle.prg_expr.specs.declared.fault.ParseFaultKind.TheVariants as fault
 use Rattle.prg_expr.specs.declared.fault.FormFault.{FormFault}
@@ -51,13 +52,15 @@ if_some (Some a) b f = f a
 -- further operators of the level, each with its right operand; the number bounds how many
 unfoldable pub turns : ℕ → Reader → ℕ → Tree → Reader
 turns zero next l left ws = Err fault.Expression
-turns (suc n) next l left ws = if_some (operator_at l ws) (Ok (left, ws)) (λ o. next o.1 >>= λ x. turns n next l (tree.Binary o.0 left x.0) x.1)
+turns (suc n) next l left ws =
+    if_some (operator_at l ws) (Ok (left, ws)) (λ o. next o.1 >>= λ x. turns n next l (tree.Binary o.0 left x.0) x.1)
 
 unfoldable pub chain : Reader → ℕ → Reader
 chain next l ws = next ws >>= λ x. turns (suc (length x.1)) next l x.0 x.1
 
 unfoldable pub comparison : Reader → Reader
-comparison next ws = next ws >>= λ x. if_some (operator_at 4 x.1) (Ok x) (λ o. next o.1 >>= λ y. Ok (tree.Binary o.0 x.0 y.0, y.1))
+comparison next ws =
+    next ws >>= λ x. if_some (operator_at 4 x.1) (Ok x) (λ o. next o.1 >>= λ y. Ok (tree.Binary o.0 x.0 y.0, y.1))
 
 -- what the word is before an operand of the level
 unfoldable pub prefix_at : ℕ → Word → Option Prefix
@@ -65,7 +68,8 @@ prefix_at l w = if_some (prefix_of w) None (λ p. if prefix_level p == l then So
 
 unfoldable pub prefixes : Reader → ℕ → Reader
 prefixes next l [] = next []
-prefixes next l (w ∷ ws) = if_some (prefix_at l w) (next (w ∷ ws)) (λ p. prefixes next l ws >>= λ x. Ok (tree.Prefixed p x.0, x.1))
+prefixes next l (w ∷ ws) =
+    if_some (prefix_at l w) (next (w ∷ ws)) (λ p. prefixes next l ws >>= λ x. Ok (tree.Prefixed p x.0, x.1))
 
 -- behind an expression in parentheses
 unfoldable pub close : Tree → Reader
@@ -83,7 +87,8 @@ separator (word.Close ∷ ws) = Ok (false, ws)
 separator ws = Err (wrong ws)
 
 abbrev pub after_argument : (List Word → Listing) → Tree → Bool × List Word → Listing
-after_argument again e s = if s.0 then (again s.1 >>= λ y. Ok (tree.More e y.0, y.1)) else Ok (tree.More e tree.None, s.1)
+after_argument again e s = if s.0 then (again s.1 >>= λ y. Ok (tree.More e y.0, y.1))
+    else Ok (tree.More e tree.None, s.1)
 
 unfoldable pub arguments : ℕ → Reader → List Word → Listing
 arguments zero inside ws = Err fault.Expression
@@ -119,7 +124,8 @@ operand d inside (word.Open ∷ ws) = inside ws >>= λ x. close x.0 x.1
 operand d inside ws = Err (wrong ws)
 
 unfoldable pub stage : ℕ → Reader → Reader
-stage l next = if l == 4 then comparison next else (if l == 5 then prefixes next 5 else (if l == 1 then prefixes next 1 else chain next l))
+stage l next = if l == 4 then comparison next
+    else (if l == 5 then prefixes next 5 else (if l == 1 then prefixes next 1 else chain next l))
 
 unfoldable pub reader : ℕ → Reader → ℕ → Reader
 reader d inside zero = operand d inside

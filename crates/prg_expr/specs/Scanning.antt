@@ -1,5 +1,6 @@
 -- Reading bytes from left to right.
-use Rattle.std.specs.Prelude.{◌≡◌, ◌+◌, ℕ, zero, suc, List, [], ◌∷◌, map, length, take, drop, not, Option, Some, None, ◌==◌, if◌then◌else◌}
+use Rattle.std.specs.Prelude.{◌≡◌, ◌+◌, ℕ, zero, suc, List, [], ◌∷◌, map, length, take, drop, not, Option, Some, None}
+use Rattle.std.specs.Prelude.{◌==◌, if◌then◌else◌}
 use Rattle.std.specs.Char.{is_ascii_digit, is_ascii_alphabetic, to_ascii_uppercase}
 use Rattle.std.specs.List.{prefix_len}
 use Rattle.fixed_num.specs.Reading.{parsed}
@@ -9,7 +10,9 @@ use Rattle.prg_expr.specs.declared.lexer.Scanned.{Scanned}
 use Rattle.prg_expr.specs.declared.token.Line.{Line}
 use Rattle.prg_expr.specs.Faults.{least_of}
 use Rattle.prg_expr.specs.Word.{Word, Number, Text, Name, Outside, Point, Macro, Faulty, word_of, words}
-use Rattle.prg_expr.specs.Lexicon.{is_name, is_blank, is_quote, is_comment, digit_first, decimals, closing, singles, single_in, pairs, pair_in, pointed, after_word, over, number_fault, Spot, spot, spot_word, spot_fault, IsLine}
+use Rattle.prg_expr.specs.Lexicon.{is_name, is_blank, is_quote, is_comment, digit_first, decimals, closing, singles}
+use Rattle.prg_expr.specs.Lexicon.{single_in, pairs, pair_in, pointed, after_word, over, number_fault, Spot, spot}
+use Rattle.prg_expr.specs.Lexicon.{spot_word, spot_fault, IsLine}
 use Rattle.prg_expr.specs.Reading.{if_some}
 
 -- a word, its fault and the bytes behind it
@@ -32,10 +35,12 @@ abbrev pub number_found : ℕ → ℕ → ℕ → List ℕ → Found
 number_found n k len bytes = found (Number (parsed (take len bytes))) (number_fault n k) (drop len bytes)
 
 unfoldable pub number_at : List ℕ → Found
-number_at bytes = let n = prefix_len is_ascii_digit bytes in let k = decimals (drop n bytes) in number_found n k (number_len n k) bytes
+number_at bytes = let n = prefix_len is_ascii_digit bytes in let k = decimals (drop n bytes)
+    in number_found n k (number_len n k) bytes
 
 unfoldable pub name_at : List ℕ → Found
-name_at bytes = let n = prefix_len is_name bytes in found (Name (map to_ascii_uppercase (take n bytes))) (over 10 n) (drop n bytes)
+name_at bytes =
+    let n = prefix_len is_name bytes in found (Name (map to_ascii_uppercase (take n bytes))) (over 10 n) (drop n bytes)
 
 abbrev pub text_end : List ℕ → List ℕ → Found
 text_end s [] = found (Text (take 254 s)) (Some fault.Text) []
@@ -51,7 +56,8 @@ pick (x ∷ xs) bytes = if_some (after_word x.0 bytes) (pick xs bytes) (λ rest.
 
 unfoldable pub single_at : ℕ → List ℕ → Found
 single_at b rest =
-    if_some (single_in singles b) (if b == 38 then found (Outside Macro) (Some fault.Macro) rest else found (Outside Faulty) (Some fault.Character) rest) (λ w. clean_at w rest)
+    if_some (single_in singles b) (if b == 38 then found (Outside Macro) (Some fault.Macro) rest
+    else found (Outside Faulty) (Some fault.Character) rest) (λ w. clean_at w rest)
 
 unfoldable pub symbol_at : ℕ → List ℕ → Found
 symbol_at b [] = single_at b []
@@ -70,7 +76,8 @@ with_word next x = spot x.0 x.1 ∷ next x.2
 unfoldable pub spots_at : ℕ → List ℕ → List Spot
 spots_at n [] = []
 spots_at zero (b ∷ bytes) = []
-spots_at (suc n) (b ∷ bytes) = if is_blank b then spots_at n bytes else (if is_comment b bytes then [] else with_word (spots_at n) (word_at b bytes))
+spots_at (suc n) (b ∷ bytes) = if is_blank b then spots_at n bytes
+    else (if is_comment b bytes then [] else with_word (spots_at n) (word_at b bytes))
 
 unfoldable pub scan : List ℕ → List Spot
 scan bytes = spots_at (length bytes) bytes

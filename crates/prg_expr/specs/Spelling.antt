@@ -1,5 +1,6 @@
 -- How bytes spell a tree.
-use Rattle.std.specs.Prelude.{◌≡◌, ◌≤◌, ℕ, List, ◌++◌, length, map, Option, Some, None, Result, Ok, Err, nat_lt, if◌then◌else◌}
+use Rattle.std.specs.Prelude.{◌≡◌, ◌≤◌, ℕ, List, ◌++◌, length, map, Option, Some, None, Result, Ok, Err, nat_lt}
+use Rattle.std.specs.Prelude.{if◌then◌else◌}
 use Rattle.prg_expr.specs.declared.fault.ParseFaultKind.{ParseFaultKind}
 use Rattle.prg_expr.specs.declared.fault.ParseFaultKind.TheVariants as fault
 use Rattle.prg_expr.specs.declared.fault.ParseFault.{ParseFault}
@@ -24,7 +25,8 @@ InFront e ws rest = (front : List Word) × grammar.Spells e front × (ws ≡ fro
 
 -- No words in front that reach further than up to the rest spell a tree.
 abbrev pub NoneLonger : List Word → List Word → Type 0
-NoneLonger ws rest = (e : Tree) (front others : List Word) → grammar.Spells e front → ws ≡ front ++ others → length rest ≤ length others
+NoneLonger ws rest =
+    (e : Tree) (front others : List Word) → grammar.Spells e front → ws ≡ front ++ others → length rest ≤ length others
 
 -- a fault in place of what was read
 abbrev pub refuse : Option ParseFaultKind → Result Tree ParseFaultKind → Result Tree ParseFaultKind

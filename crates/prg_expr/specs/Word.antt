@@ -29,7 +29,8 @@ pub data Word : Type 0 where
   Comma : Word
   Outside : Mark → Word
 
--- A name is all its letters, in capitals; the tree holds ten of them. A text that is too long stands for as much of it as may be.
+-- A name is all its letters, in capitals; the tree holds ten of them. A text that is too long stands for as much of it
+-- as may be.
 abbrev pub word_of : Token → Word
 word_of (token.Number s) = Number (parsed s.now)
 word_of (token.Text s) = Text (take 254 s.now)

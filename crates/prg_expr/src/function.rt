@@ -292,6 +292,7 @@ fn table_function(name: &[u8]) -> Option<Function>
 
 /// Each function's word names it, whole or cut, so that no word names two.
 pub fn one_function()
-    ensures { (word : List ℕ) (x : functions.Entry) → Listed x functions.all_functions → functions.is_cut word x.0 ≡ true
+    ensures { (word : List ℕ) (x : functions.Entry) → Listed x functions.all_functions
+        → functions.is_cut word x.0 ≡ true
         → functions.function_named word ≡ Some x.1 }
 {}

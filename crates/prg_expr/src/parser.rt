@@ -1,6 +1,7 @@
 //! Reading a tree from words, by recursive descent.
 
-ghost use Rattle.std.specs.Prelude.{◌≡◌, ◌-◌, ◌<◌, ◌≤◌, ◌++◌, length, IfOk, IfSome, List, Ok, map, option_map, suc, take};
+ghost use Rattle.std.specs.Prelude.{◌≡◌, ◌-◌, ◌<◌, ◌≤◌, ◌++◌, length, IfOk, IfSome, List, Ok, map, option_map, suc};
+ghost use Rattle.std.specs.Prelude.{take};
 ghost use Rattle.std.specs.Char.{to_ascii_uppercase};
 ghost use Rattle.prg_expr.specs.declared.fault.FormFault.TheVariants as form_fault;
 ghost use Rattle.prg_expr.specs.Tree.{Tree, tree_of, trees_of};
@@ -161,7 +162,8 @@ fn call_of<'a>(
     arguments: Vec<Expr>,
     rest: &'a [Token<'a>],
 ) -> Result<(Expr, &'a [Token<'a>]), FormFault>
-    ensures gives { Gives (λ x. (tree_of x.0, words x.1.now)) result (spec.call_of function (trees_of arguments.items) (words rest.now)) }
+    ensures gives { Gives (λ x. (tree_of x.0, words x.1.now)) result
+        (spec.call_of function (trees_of arguments.items) (words rest.now)) }
     ensures same { IfOk result (λ x. x.1.now ≡ rest.now) }
 {
     if takes(function, arguments.len()) {
@@ -177,7 +179,8 @@ fn qualified_at<'a>(
     alias: &[u8],
     tokens: &'a [Token<'a>],
 ) -> Result<(Expr, &'a [Token<'a>]), FormFault>
-    ensures gives { Gives (λ x. (tree_of x.0, words x.1.now)) result (spec.qualified_at (map to_ascii_uppercase alias.now) (words tokens.now)) }
+    ensures gives { Gives (λ x. (tree_of x.0, words x.1.now)) result
+        (spec.qualified_at (map to_ascii_uppercase alias.now) (words tokens.now)) }
     ensures shorter { IfOk result (λ x. length x.1.now < length tokens.now) }
 {
     match tokens {
@@ -215,7 +218,8 @@ fn named<'a>(
     name: &[u8],
     tokens: &'a [Token<'a>],
 ) -> Result<(Expr, &'a [Token<'a>]), FormFault>
-    ensures gives { Gives (λ x. (tree_of x.0, words x.1.now)) result (spec.named depth (spec.inside depth) (map to_ascii_uppercase name.now) (words tokens.now)) }
+    ensures gives { Gives (λ x. (tree_of x.0, words x.1.now)) result
+        (spec.named depth (spec.inside depth) (map to_ascii_uppercase name.now) (words tokens.now)) }
     ensures shorter { IfOk result (λ x. length x.1.now ≤ length tokens.now) }
 {
     match tokens {
@@ -239,7 +243,8 @@ fn called<'a>(
     function: Function,
     tokens: &'a [Token<'a>],
 ) -> Result<(Expr, &'a [Token<'a>]), FormFault>
-    ensures gives { Gives (λ x. (tree_of x.0, words x.1.now)) result (spec.called_at depth (spec.inside depth) function (words tokens.now)) }
+    ensures gives { Gives (λ x. (tree_of x.0, words x.1.now)) result
+        (spec.called_at depth (spec.inside depth) function (words tokens.now)) }
     ensures shorter { IfOk result (λ x. length x.1.now ≤ length tokens.now) }
 {
     if depth == 0 {
@@ -261,7 +266,8 @@ fn arguments<'a>(
     depth: u8,
     tokens: &'a [Token<'a>],
 ) -> Result<(Vec<Expr>, &'a [Token<'a>]), FormFault>
-    ensures gives { Gives (λ x. (trees_of x.0.items, words x.1.now)) result (spec.arguments (suc (length (words tokens.now))) (spec.inside depth) (words tokens.now)) }
+    ensures gives { Gives (λ x. (trees_of x.0.items, words x.1.now)) result
+        (spec.arguments (suc (length (words tokens.now))) (spec.inside depth) (words tokens.now)) }
     ensures shorter { IfOk result (λ x. length x.1.now ≤ length tokens.now) }
 {
     let mut found = Vec::new(alloc);
@@ -286,7 +292,8 @@ fn operand<'a>(
     depth: u8,
     tokens: &'a [Token<'a>],
 ) -> Result<(Expr, &'a [Token<'a>]), FormFault>
-    ensures gives { Gives (λ x. (tree_of x.0, words x.1.now)) result (spec.operand depth (spec.inside depth) (words tokens.now)) }
+    ensures gives { Gives (λ x. (tree_of x.0, words x.1.now)) result
+        (spec.operand depth (spec.inside depth) (words tokens.now)) }
     ensures shorter { IfOk result (λ x. length x.1.now < length tokens.now) }
 {
     match tokens {
@@ -313,7 +320,8 @@ fn chain<'a>(
 ) -> Result<(Expr, &'a [Token<'a>]), FormFault>
     requires least { 0 < level }
     requires most { level ≤ 7 }
-    ensures gives { Gives (λ x. (tree_of x.0, words x.1.now)) result (spec.chain (spec.level_at depth (level - 1)) level (words tokens.now)) }
+    ensures gives { Gives (λ x. (tree_of x.0, words x.1.now)) result
+        (spec.chain (spec.level_at depth (level - 1)) level (words tokens.now)) }
     ensures shorter { IfOk result (λ x. length x.1.now < length tokens.now) }
 {
     let (mut left, mut rest) = reader(alloc, depth, level - 1, tokens)?;
@@ -333,7 +341,8 @@ fn comparison<'a>(
     depth: u8,
     tokens: &'a [Token<'a>],
 ) -> Result<(Expr, &'a [Token<'a>]), FormFault>
-    ensures gives { Gives (λ x. (tree_of x.0, words x.1.now)) result (spec.comparison (spec.level_at depth 3) (words tokens.now)) }
+    ensures gives { Gives (λ x. (tree_of x.0, words x.1.now)) result
+        (spec.comparison (spec.level_at depth 3) (words tokens.now)) }
     ensures shorter { IfOk result (λ x. length x.1.now < length tokens.now) }
 {
     let (left, rest) = reader(alloc, depth, COMPARISON - 1, tokens)?;
@@ -358,7 +367,8 @@ fn prefixes<'a>(
 ) -> Result<(Expr, &'a [Token<'a>]), FormFault>
     requires least { 0 < level }
     requires most { level ≤ 7 }
-    ensures gives { Gives (λ x. (tree_of x.0, words x.1.now)) result (spec.prefixes (spec.level_at depth (level - 1)) level (words tokens.now)) }
+    ensures gives { Gives (λ x. (tree_of x.0, words x.1.now)) result
+        (spec.prefixes (spec.level_at depth (level - 1)) level (words tokens.now)) }
     ensures shorter { IfOk result (λ x. length x.1.now < length tokens.now) }
 {
     let Some((token, behind)) = tokens.split_first() else {
@@ -394,7 +404,8 @@ fn reader<'a>(
 
 /// What the words begin with.
 fn loosest<'a>(alloc: Global, tokens: &'a [Token<'a>]) -> Result<(Expr, &'a [Token<'a>]), FormFault>
-    ensures gives { Gives (λ x. (tree_of x.0, words x.1.now)) result (spec.level_at grammar.max_depth 7 (words tokens.now)) }
+    ensures gives { Gives (λ x. (tree_of x.0, words x.1.now)) result
+        (spec.level_at grammar.max_depth 7 (words tokens.now)) }
     ensures shorter { IfOk result (λ x. length x.1.now < length tokens.now) }
 {
     reader(alloc, MOST_OPEN, LOOSEST, tokens)
@@ -415,7 +426,8 @@ pub fn expression<'a>(
     // No further words with them spell one.
     ensures longest { IfOk result (λ x. NoneLonger (words tokens.now) (words x.1.now)) }
     // An expression with nothing behind it that could go on with it is answered, unless memory runs out.
-    ensures only { (e : Tree) → (ws rest : List Word) → grammar.Spells e ws → grammar.Free 7 rest → words tokens.now ≡ ws ++ rest
+    ensures only { (e : Tree) → (ws rest : List Word) → grammar.Spells e ws → grammar.Free 7 rest
+        → words tokens.now ≡ ws ++ rest
         → (let x : Tree × List Word = (e, rest) in Gives (λ y. (tree_of y.0, words y.1.now)) result (Ok x)) }
     ensures shorter { IfOk result (λ x. length x.1.now < length tokens.now) }
 {

@@ -96,5 +96,6 @@ pub fn expressions_are_read()
     // What is found in front is spelled by the words up to the rest.
     ensures sound { (ws rest : List Word) (e : Tree) → front ws ≡ Ok (e, rest) → InFront e ws rest }
     // An expression behind which no word goes on with it is found.
-    ensures complete { (ws rest : List Word) (e : Tree) → grammar.Spells e ws → grammar.Free 7 rest → front (ws ++ rest) ≡ Ok (e, rest) }
+    ensures complete { (ws rest : List Word) (e : Tree) → grammar.Spells e ws → grammar.Free 7 rest
+        → front (ws ++ rest) ≡ Ok (e, rest) }
 {}

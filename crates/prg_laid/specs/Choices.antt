@@ -12,12 +12,14 @@ use Rattle.prg_laid.specs.declared.control.ChoicePart.{ChoicePart}
 use Rattle.prg_laid.specs.declared.control.Test.{Test}
 use Rattle.prg_laid.specs.declared.way.Leaps.{Leaps}
 use Rattle.prg_laid.specs.declared.way.Way.{Way}
-use Rattle.prg_laid.specs.Commands.{Advances, Follows, Laid, LaidAll, LaidCases, LaidPart, Meets, Tests, either_way, stopped}
+use Rattle.prg_laid.specs.Commands.{Advances, Follows, Laid, LaidAll, LaidCases, LaidPart, Meets, Tests, either_way}
+use Rattle.prg_laid.specs.Commands.{stopped}
 use Rattle.laid_lines.specs.Layout.{Laying}
 
 -- the way back of a SCAN, where LOOP leads to a place
 abbrev pub ComesBack : Laying → Way → Bool → ℕ → ℕ → ℕ → Type 0
-ComesBack f w chooses again top b = Meets (w.on || (w.again || chooses)) w.place again × Advances f w.place (w.on || (w.again || chooses)) top b
+ComesBack f w chooses again top b =
+    Meets (w.on || (w.again || chooses)) w.place again × Advances f w.place (w.on || (w.again || chooses)) top b
 
 -- END stands there
 abbrev pub Finishes : Laying → ℕ → Way → Type 0
@@ -36,7 +38,8 @@ pub record Followed (f : Laying) (end : Option ℕ) (way : Way) (last : Bool) (p
   pub told : (out : ℕ) → Told p.end out → Told end out
 
 -- a part of a choice that was looked at, where its condition stands in front of it
-pub record Looked (f : Laying) (l : Option Leaps) (end : Option ℕ) (test : Test) (cs : Cmds) (last : Bool) (p : ChoicePart) : Type 0 where
+pub record Looked (f : Laying) (l : Option Leaps) (end : Option ℕ) (test : Test) (cs : Cmds) (last : Bool)
+    (p : ChoicePart) : Type 0 where
   pub way : Way
   pub out : p.way.place ≡ test.out
   pub body : LaidAll f l [] test.end cs way
@@ -48,7 +51,8 @@ Closes way gets w = (w ≡ way) × (way.on ≡ true → is_none_waiting gets ≡
 
 -- a loop whose condition stands at a place
 abbrev pub Repeats : Laying → ℕ → Test → Cmds → Way → Type 0
-Repeats f a test body w = (l : Option Leaps) (n end : ℕ) (e : Tree) → Tests f a e test.out test.end → Laid f l [] a (DoWhile n e body end) w
+Repeats f a test body w =
+    (l : Option Leaps) (n end : ℕ) (e : Tree) → Tests f a e test.out test.end → Laid f l [] a (DoWhile n e body end) w
 
 abbrev pub is_absent : Part → Bool
 is_absent Absent = true

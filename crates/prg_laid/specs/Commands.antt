@@ -1,6 +1,8 @@
--- When a finished code is laid out as commands say: each command's instructions stand behind those of the one before, each jump
--- leads to the place where the part begins that the command's form names, and what can't be reached makes no code.
-use Rattle.std.specs.Prelude.{◌≡◌, ℕ, ◌+◌, Bool, true, false, ◌&&◌, ◌||◌, ◌==◌, not, List, [], ◌∷◌, Option, Some, None, slice_get, is_some, length}
+-- When a finished code is laid out as commands say: each command's instructions stand behind those of the one before,
+-- each jump leads to the place where the part begins that the command's form names, and what can't be reached makes no
+-- code.
+use Rattle.std.specs.Prelude.{◌≡◌, ℕ, ◌+◌, Bool, true, false, ◌&&◌, ◌||◌, ◌==◌, not, List, [], ◌∷◌, Option, Some, None}
+use Rattle.std.specs.Prelude.{slice_get, is_some, length}
 use Rattle.std.specs.List.{list_any}
 use Rattle.xvalue.specs.declared.kind.Kind.TheVariants as kind
 use Rattle.xvalue.specs.declared.fun.Fun.TheVariants.{Not}
@@ -17,7 +19,8 @@ use Rattle.code_rules.specs.Places.{state_at, block_at}
 use Rattle.code_rules.specs.declared.blocks.Block.{Block}
 use Rattle.prg_expr.specs.Tree.{Tree}
 use Rattle.prg_line.specs.Act.{Act, Letters, Loop, Exit, Return, Quit, Cancel}
-use Rattle.prg_parser.specs.Commands.{Cmd, Cmds, Cases, Part, Single, If, DoCase, DoWhile, Scan, Done, Then, Neither, When, Absent, Otherwise}
+use Rattle.prg_parser.specs.Commands.{Cmd, Cmds, Cases, Part, Single, If, DoCase, DoWhile, Scan, Done, Then, Neither}
+use Rattle.prg_parser.specs.Commands.{When, Absent, Otherwise}
 use Rattle.prg_code.specs.declared.names.Binding.{Binding}
 use Rattle.prg_values.specs.Written.{whole as whole_number}
 use Rattle.prg_values.specs.Placed.{Stands}
@@ -62,12 +65,14 @@ Chooses f a (Some e) next b = Tests f a e next b
 
 -- whether there is a row
 abbrev pub HasRow : Laying → ℕ → ℕ → ℕ → Type 0
-HasRow f a out b = (m : ℕ) × (n : ℕ) × Stands f.text a (Records (Ask Eof)) m × Stands f.text m (Values (Function Not)) n × Stands f.text n (Flow (JumpFalse out)) b
+HasRow f a out b = (m : ℕ) × (n : ℕ) × Stands f.text a (Records (Ask Eof)) m × Stands f.text m (Values (Function Not)) n
+    × Stands f.text n (Flow (JumpFalse out)) b
 
 -- the next row of a SCAN and the way back, where they are reached
 abbrev pub Advances : Laying → ℕ → Bool → ℕ → ℕ → Type 0
 Advances f a false top b = b ≡ a
-Advances f a true top b = (m : ℕ) × (n : ℕ) × Puts f a (whole_number 1) m × Stands f.text m (Moves Skip) n × Stands f.text n (Flow (Jump top)) b
+Advances f a true top b = (m : ℕ) × (n : ℕ) × Puts f a (whole_number 1) m × Stands f.text m (Moves Skip) n
+    × Stands f.text n (Flow (Jump top)) b
 
 -- they stand where LOOP leads
 abbrev pub Meets : Bool → ℕ → ℕ → Type 0
@@ -101,38 +106,50 @@ is_end _ = false
 mutual
   -- a command in a loop whose LOOP and EXIT lead there, or in none, where these GETs wait
   pub data Laid (f : Laying) : Option Leaps → List Letters → ℕ → Cmd → Way → Type 0 where
-    does : {l : Option Leaps} {gets : List Letters} {a b n : ℕ} {act : Act} → may_stand gets act ≡ true → Does f gets a act b → Laid f l gets a (Single n act) (to b)
-    loops : {t : Leaps} {a b n : ℕ} → Stands f.text a (Flow (Jump t.again)) b → Laid f (Some t) [] a (Single n Loop) (stopped b true)
-    exits : {t : Leaps} {a b n : ℕ} → Stands f.text a (Flow (Jump t.out)) b → Laid f (Some t) [] a (Single n Exit) (stopped b false)
-    ends : {l : Option Leaps} {a b n : ℕ} {act : Act} → is_end act ≡ true → Stands f.text a (Flow End) b → Laid f l [] a (Single n act) (stopped b false)
+    does : {l : Option Leaps} {gets : List Letters} {a b n : ℕ} {act : Act} → may_stand gets act ≡ true
+        → Does f gets a act b → Laid f l gets a (Single n act) (to b)
+    loops : {t : Leaps} {a b n : ℕ} → Stands f.text a (Flow (Jump t.again)) b
+        → Laid f (Some t) [] a (Single n Loop) (stopped b true)
+    exits : {t : Leaps} {a b n : ℕ} → Stands f.text a (Flow (Jump t.out)) b
+        → Laid f (Some t) [] a (Single n Exit) (stopped b false)
+    ends : {l : Option Leaps} {a b n : ℕ} {act : Act} → is_end act ≡ true → Stands f.text a (Flow End) b
+        → Laid f l [] a (Single n act) (stopped b false)
     -- IF is a choice of one case
-    chosen : {l : Option Leaps} {a n end : ℕ} {e : Tree} {cs : Cmds} {part : Part} {w : Way} → LaidCases f l w.place a (When n e cs Neither) part w → Laid f l [] a (If n e cs part end) w
-    cases : {l : Option Leaps} {a n end : ℕ} {cs : Cases} {part : Part} {w : Way} → LaidCases f l w.place a cs part w → Laid f l [] a (DoCase n cs part end) w
+    chosen : {l : Option Leaps} {a n end : ℕ} {e : Tree} {cs : Cmds} {part : Part} {w : Way}
+        → LaidCases f l w.place a (When n e cs Neither) part w → Laid f l [] a (If n e cs part end) w
+    cases : {l : Option Leaps} {a n end : ℕ} {cs : Cases} {part : Part} {w : Way} → LaidCases f l w.place a cs part w
+        → Laid f l [] a (DoCase n cs part end) w
     while : {l : Option Leaps} {a m b n end : ℕ} {e : Tree} {body : Cmds} {w : Way}
         → Tests f a e b m → LaidAll f (Some (record { again = a; out = b })) [] m body w → Goes f w.place w.on a b
         → Laid f l [] a (DoWhile n e body end) (to b)
     scan : {l : Option Leaps} {a top r m b next n end : ℕ} {only_if : Option Tree} {body : Cmds} {w : Way}
         → Stands f.text a (Moves Top) top → HasRow f top b r → Chooses f r only_if next m
         → LaidAll f (Some (record { again = next; out = b })) [] m body w
-        → Meets (w.on || (w.again || is_some only_if)) w.place next → Advances f w.place (w.on || (w.again || is_some only_if)) top b
+        → Meets (w.on || (w.again || is_some only_if)) w.place next
+        → Advances f w.place (w.on || (w.again || is_some only_if)) top b
         → Laid f l [] a (Scan n only_if body end) (to b)
 
   -- commands one after another; those behind one whose end isn't reached make no code
   pub data LaidAll (f : Laying) : Option Leaps → List Letters → ℕ → Cmds → Way → Type 0 where
     done : {l : Option Leaps} {a : ℕ} → LaidAll f l [] a Done (to a)
-    more : {l : Option Leaps} {gets : List Letters} {a : ℕ} {c : Cmd} {cs : Cmds} {v w : Way} → Laid f l gets a c v → v.on ≡ true → LaidAll f l (waiting_behind gets c) v.place cs w → LaidAll f l gets a (Then c cs) (then_way v w)
-    cut : {l : Option Leaps} {gets : List Letters} {a : ℕ} {c : Cmd} {cs : Cmds} {v : Way} → Laid f l gets a c v → v.on ≡ false → LaidAll f l gets a (Then c cs) v
+    more : {l : Option Leaps} {gets : List Letters} {a : ℕ} {c : Cmd} {cs : Cmds} {v w : Way} → Laid f l gets a c v
+        → v.on ≡ true → LaidAll f l (waiting_behind gets c) v.place cs w → LaidAll f l gets a (Then c cs) (then_way v w)
+    cut : {l : Option Leaps} {gets : List Letters} {a : ℕ} {c : Cmd} {cs : Cmds} {v : Way} → Laid f l gets a c v
+        → v.on ≡ false → LaidAll f l gets a (Then c cs) v
 
   -- what is done otherwise
   pub data LaidPart (f : Laying) : Option Leaps → ℕ → Part → Way → Type 0 where
     absent : {l : Option Leaps} {a : ℕ} → LaidPart f l a Absent (to a)
-    otherwise : {l : Option Leaps} {a n : ℕ} {cs : Cmds} {w : Way} → LaidAll f l [] a cs w → LaidPart f l a (Otherwise n cs) w
+    otherwise : {l : Option Leaps} {a n : ℕ} {cs : Cmds} {w : Way} → LaidAll f l [] a cs w
+        → LaidPart f l a (Otherwise n cs) w
 
   -- cases, which go on at `out`
   pub data LaidCases (f : Laying) : Option Leaps → ℕ → ℕ → Cases → Part → Way → Type 0 where
-    neither : {l : Option Leaps} {out a : ℕ} {part : Part} {w : Way} → LaidPart f l a part w → LaidCases f l out a Neither part w
+    neither : {l : Option Leaps} {out a : ℕ} {part : Part} {w : Way} → LaidPart f l a part w
+        → LaidCases f l out a Neither part w
     when : {l : Option Leaps} {out a m next n : ℕ} {e : Tree} {cs : Cmds} {others : Cases} {part : Part} {v w : Way}
-        → Tests f a e next m → LaidAll f l [] m cs v → Follows f (is_last others part) v.place v.on out next → LaidCases f l out next others part w
+        → Tests f a e next m → LaidAll f l [] m cs v → Follows f (is_last others part) v.place v.on out next
+        → LaidCases f l out next others part w
         → LaidCases f l out a (When n e cs others) part (either_way v w)
 
 -- ---- the whole
@@ -167,7 +184,14 @@ IsWhole f cs length = (way : Way) × LaidAll f None [] 0 cs way × Closes f way.
 
 -- what is known of a code with these slots of its variables
 abbrev pub laying_of : Code → List Binding → List State → List Block → Laying
-laying_of code names known filters = record { text = record { instrs = code.instructions; constants = code.declared.constants }; declared = code.declared; names = names; known = known; filters = filters }
+laying_of code names known filters =
+    record {
+      text = record { instrs = code.instructions; constants = code.declared.constants };
+      declared = code.declared;
+      names = names;
+      known = known;
+      filters = filters;
+    }
 
 -- the main procedure of the code is laid out as the commands say, with these slots of the variables
 pub record IsLaid (code : Code) (names : List Binding) (cs : Cmds) : Type 0 where

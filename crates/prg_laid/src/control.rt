@@ -1,6 +1,7 @@
 //! Commands with blocks.
 
-ghost use Rattle.std.specs.Prelude.{◌≡◌, ◌||◌, ◌&&◌, ◌+◌, ◌<◌, nat_eq, ℕ, [], Option, None, IfOk, IfSome, OnOk, option_map};
+ghost use Rattle.std.specs.Prelude.{◌≡◌, ◌||◌, ◌&&◌, ◌+◌, ◌<◌, nat_eq, ℕ, [], Option, None, IfOk, IfSome, OnOk};
+ghost use Rattle.std.specs.Prelude.{option_map};
 ghost use Rattle.code_items.specs.declared.instr.FlowInstr.TheVariants.{Jump, JumpFalse, End};
 ghost use Rattle.code_items.specs.declared.instr.Instr.TheVariants.{Flow};
 ghost use Rattle.prg_expr.specs.Tree.{tree_of};
@@ -10,7 +11,8 @@ ghost use Rattle.prg_laid.specs.Commands as spec;
 ghost use Rattle.laid_lines.specs.Layout.{laying};
 ghost use Rattle.prg_laid.specs.declared.way.Leaps.{Leaps as Looped};
 ghost use Rattle.prg_line.specs.Act.{act_of};
-ghost use Rattle.prg_parser.specs.Commands.{Single, If, DoCase, DoWhile, Scan, form_of, command_of, commands_of, cases_of, part_of};
+ghost use Rattle.prg_parser.specs.Commands.{Single, If, DoCase, DoWhile, Scan, form_of, command_of, commands_of};
+ghost use Rattle.prg_parser.specs.Commands.{cases_of, part_of};
 ghost use Rattle.prg_values.specs.Placed.{Stands};
 
 use crate::fault::LayoutFault;
@@ -33,7 +35,8 @@ pub struct Test {
     pub end: usize,
 }
 
-/// A part of a choice: its way, at the place where the next part begins, and the end of the choice as far as a JUMP told it.
+/// A part of a choice: its way, at the place where the next part begins, and the end of the choice as far as a JUMP
+/// told it.
 #[derive(Clone, Copy)]
 pub struct ChoicePart {
     pub end: Option<usize>,
@@ -234,7 +237,8 @@ fn plain(
     place: usize,
     statement: &Statement,
 ) -> Result<Way, LayoutFault>
-    ensures { IfOk result (λ way. (leaps : Option Looped) (n : ℕ) → spec.Laid (laying l.now) leaps (acts.names_of gets.now) place (Single n (act_of statement.now)) way) }
+    ensures { IfOk result (λ way. (leaps : Option Looped) (n : ℕ)
+        → spec.Laid (laying l.now) leaps (acts.names_of gets.now) place (Single n (act_of statement.now)) way) }
 {
     if !may_stand(gets, statement) {
         return Err(LayoutFault::Otherwise);
@@ -252,7 +256,8 @@ fn leaving(
     place: usize,
     statement: &Statement,
 ) -> Result<Way, LayoutFault>
-    ensures { IfOk result (λ way. (n : ℕ) → spec.Laid (laying l.now) leaps [] place (Single n (act_of statement.now)) way) }
+    ensures { IfOk result (λ way. (n : ℕ)
+        → spec.Laid (laying l.now) leaps [] place (Single n (act_of statement.now)) way) }
 {
     match statement {
         Statement::Loop => looping(l, leaps, place),
@@ -279,7 +284,8 @@ fn single(
     place: usize,
     statement: &Statement,
 ) -> Result<Way, LayoutFault>
-    ensures { IfOk result (λ way. (n : ℕ) → spec.Laid (laying l.now) leaps (acts.names_of gets.now) place (Single n (act_of statement.now)) way) }
+    ensures { IfOk result (λ way. (n : ℕ)
+        → spec.Laid (laying l.now) leaps (acts.names_of gets.now) place (Single n (act_of statement.now)) way) }
 {
     if !leaves(statement) {
         return plain(l, gets, place, statement);
@@ -293,7 +299,8 @@ fn single(
 
 /// The GETs that wait behind the command, which isn't a block while GETs wait.
 fn wait_on<'a>(gets: &mut Vec<&'a Name>, command: &'a Command) -> Result<(), AllocError>
-    ensures { OnOk result (acts.names_of gets.new.items ≡ spec.waiting_behind (acts.names_of gets.old.items) (command_of command.now)) }
+    ensures { OnOk result (acts.names_of gets.new.items
+        ≡ spec.waiting_behind (acts.names_of gets.old.items) (command_of command.now)) }
 {
     match &command.form {
         Form::Statement(statement) => wait_behind(gets, statement),
@@ -411,7 +418,9 @@ fn scanned(
     only_if: &Option<Expr>,
     body: &[Command],
 ) -> Result<Way, LayoutFault>
-    ensures { IfOk result (λ way. (leaps : Option Looped) (n end : ℕ) → spec.Laid (laying l.now) leaps [] place (Scan n (option_map tree_of only_if.now) (commands_of body.now) end) way) }
+    ensures { IfOk result (λ way. (leaps : Option Looped) (n end : ℕ)
+        → spec.Laid (laying l.now) leaps [] place
+        (Scan n (option_map tree_of only_if.now) (commands_of body.now) end) way) }
 {
     let Some(top) = after(l, place, Instr::Moves(MoveInstr::Top)) else {
         return Err(LayoutFault::Otherwise);
@@ -483,7 +492,8 @@ fn one(
     place: usize,
     command: &Command,
 ) -> Result<Way, LayoutFault>
-    ensures { IfOk result (λ way. spec.Laid (laying l.now) leaps (acts.names_of gets.now) place (command_of command.now) way) }
+    ensures { IfOk result (λ way. spec.Laid (laying l.now) leaps (acts.names_of gets.now) place
+        (command_of command.now) way) }
 {
     if let Form::Statement(statement) = &command.form {
         return single(l, leaps, gets, place, statement);

@@ -3,7 +3,8 @@
 ghost use Rattle.std.specs.Prelude.{◌≡◌, ◌+◌, ◌<◌, true, length, slice_get, Some, IfOk, IfSome};
 ghost use Rattle.std.specs.List.{list_any};
 ghost use Rattle.code_items.specs.Legal.{IsCode};
-ghost use Rattle.code_rules.specs.Places.{instr_at, state_at, incoming_at, or_state, block_at as block_at_of, map_at as map_at_of};
+ghost use Rattle.code_rules.specs.Places.{instr_at, state_at, incoming_at, or_state, block_at as block_at_of};
+ghost use Rattle.code_rules.specs.Places.{map_at as map_at_of};
 ghost use Rattle.prg_laid.specs.Commands as spec;
 ghost use Rattle.laid_lines.specs.Layout.{laying};
 ghost use Rattle.prg_parser.specs.Commands.{commands_of};
@@ -16,12 +17,12 @@ use code_items::laws::legal_codes;
 use code_items::{Code, FlowInstr, Instr, Proc, State};
 use code_rules::blocks::{Block, block_at, map_at, start_of};
 use code_rules::flow::flow;
-use code_verify::begun;
 use laid_lines::{Layout, after};
 use prg_code::{Binding, Names};
 use prg_parser::Command;
 use prg_values::Finished;
 use std::alloc::{AllocError, Global};
+use xverify::begun;
 
 fn instr_of(code: &Code, place: usize) -> Instr
     ensures { result ≡ instr_at code.now place }

@@ -1,5 +1,5 @@
-//! Whether finished code is laid out as commands say: each command's instructions stand behind those of the command before, and
-//! each jump leads to the part that the command's form names.
+//! Whether finished code is laid out as commands say: each command's instructions stand behind those of the command
+//! before, and each jump leads to the part that the command's form names.
 #![tactic(auto)]
 
 mod control;

@@ -92,7 +92,8 @@ act_of (statement.Show values) = Show (map tree_of values.items)
 act_of (statement.ShowOn values) = ShowOn (map tree_of values.items)
 act_of (statement.Say row column value) = Say (tree_of row) (tree_of column) (tree_of value)
 act_of (statement.Get row column variable) = Get (tree_of row) (tree_of column) variable.items
-act_of (statement.SayGet row column value variable) = SayGet (tree_of row) (tree_of column) (tree_of value) variable.items
+act_of (statement.SayGet row column value variable) =
+    SayGet (tree_of row) (tree_of column) (tree_of value) variable.items
 act_of statement.Read = Read
 act_of (statement.Accept prompt variable) = Accept (option_map tree_of prompt) variable.items
 act_of (statement.Wait prompt variable) = Wait (option_map tree_of prompt) (option_map letters_of variable)

@@ -1,4 +1,5 @@
--- The form of each command on its words: a grammar, in which a phrase is a relation between what is said and all of its words.
+-- The form of each command on its words: a grammar, in which a phrase is a relation between what is said and all of its
+-- words.
 use Rattle.std.specs.Prelude.{◌≡◌, ◌≤◌, ◌⊎◌, ℕ, List, [], ◌∷◌, ◌++◌, take, codes, true, false, Option, Some, None, Ok}
 use Rattle.fixed_num.specs.Number.{Number as Decimal}
 use Rattle.prg_expr.specs.declared.tree.Operator.TheVariants.{Equal}
@@ -60,7 +61,8 @@ Whole n ws = (d : Decimal) × (whole_of d ≡ Ok n) × (ws ≡ word.Number d ∷
 -- one or more, with commas between
 pub data Several {A : Type 0} (One : A → List Word → Type 0) : List A → List Word → Type 0 where
   last : {x : A} {ws : List Word} → One x ws → Several One (x ∷ []) ws
-  next : {x : A} {xs : List A} {aw bw : List Word} → One x aw → Several One xs bw → Several One (x ∷ xs) (aw ++ word.Comma ∷ bw)
+  next : {x : A} {xs : List A} {aw bw : List Word} → One x aw → Several One xs bw
+      → Several One (x ∷ xs) (aw ++ word.Comma ∷ bw)
 
 abbrev pub Expressions : Phrase (List Tree)
 Expressions = Several Spells
@@ -81,11 +83,13 @@ ShowOn = Then Expressions (λ es. Is (act.ShowOn es))
 -- SAY value [GET variable], behind a place
 abbrev pub Say : Tree → Tree → Phrase Act
 Say row column =
-    Key (codes "SAY") (Then Spells (λ e. Where (codes "GET") (Then Name (λ v. Is (act.SayGet row column e v))) (Is (act.Say row column e))))
+    Key (codes "SAY") (Then Spells (λ e. Where (codes "GET") (Then Name (λ v. Is (act.SayGet row column e v)))
+    (Is (act.Say row column e))))
 
 -- @ row,column and what stands there
 abbrev pub At : Phrase Act
-At = Then Spells (λ row. Mark word.Comma (Then Spells (λ column. Where (codes "GET") (Then Name (λ v. Is (act.Get row column v))) (Say row column))))
+At = Then Spells (λ row. Mark word.Comma
+    (Then Spells (λ column. Where (codes "GET") (Then Name (λ v. Is (act.Get row column v))) (Say row column))))
 
 -- a text to be shown; TO is never its first word
 abbrev pub Prompt : Phrase (Option Tree)
@@ -120,7 +124,8 @@ abbrev pub ScanFor : Phrase (Option Tree)
 ScanFor = Where (codes "FOR") (Then Spells (λ e. Is (Some e))) (Is None)
 
 abbrev pub Use : Phrase Act
-Use = Either (Is act.Close) (Then Name (λ t. Where (codes "INDEX") (Then Names (λ is. Is (act.Use t is))) (Is (act.Use t []))))
+Use = Either (Is act.Close) (Then Name
+    (λ t. Where (codes "INDEX") (Then Names (λ is. Is (act.Use t is))) (Is (act.Use t []))))
 
 -- a work area by its number, 1 to 10, or by a name
 abbrev pub SelectNumber : ℕ → Phrase Act
@@ -144,10 +149,12 @@ Switch s = Where (codes "ON") (Is (act.Set s true)) (Key (codes "OFF") (Is (act.
 abbrev pub Set : Phrase Act
 Set =
     Where (codes "ORDER") Order (Where (codes "FILTER") Filter
-    (Where (codes "EXACT") (Switch Exact) (Where (codes "DELETED") (Switch Deleted) (Key (codes "CENTURY") (Switch Century)))))
+    (Where (codes "EXACT") (Switch Exact)
+    (Where (codes "DELETED") (Switch Deleted) (Key (codes "CENTURY") (Switch Century)))))
 
 abbrev pub Go : Phrase Act
-Go = Where (codes "TOP") (Is (act.Go act.Top)) (Where (codes "BOTTOM") (Is (act.Go act.Bottom)) (Then Spells (λ e. Is (act.Go (act.Record e)))))
+Go = Where (codes "TOP") (Is (act.Go act.Top))
+    (Where (codes "BOTTOM") (Is (act.Go act.Bottom)) (Then Spells (λ e. Is (act.Go (act.Record e)))))
 
 abbrev pub Skip : Phrase Act
 Skip = Either (Is (act.Skip None)) (Then Spells (λ e. Is (act.Skip (Some e))))

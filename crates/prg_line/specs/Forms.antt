@@ -1,5 +1,6 @@
 -- Reading the words of a line from left to right: what it says, or what is wrong with it.
-use Rattle.std.specs.Prelude.{ℕ, zero, suc, List, [], ◌∷◌, ◌++◌, length, take, codes, Bool, true, false, ◌&&◌, ◌||◌, nat_lt, nat_le, Option, Some, None, Result, Ok, Err, if◌then◌else◌, unsigned_abs, ◌==◌}
+use Rattle.std.specs.Prelude.{ℕ, zero, suc, List, [], ◌∷◌, ◌++◌, length, take, codes, Bool, true, false, ◌&&◌, ◌||◌}
+use Rattle.std.specs.Prelude.{nat_lt, nat_le, Option, Some, None, Result, Ok, Err, if◌then◌else◌, unsigned_abs, ◌==◌}
 use Rattle.fixed_num.specs.Number.{Number as Decimal, asterisk, finite}
 use Rattle.prg_expr.specs.declared.tree.Operator.TheVariants.{Equal}
 use Rattle.prg_expr.specs.Functions.{is_cut}
@@ -45,7 +46,8 @@ is_nil (w ∷ ws) = false
 abbrev pub is_at_end : At → Bool
 is_at_end a = is_nil a.words
 
--- the fault of what stands where only a clause or the line's end may: what can't be a clause is taken for more of the expression before it
+-- the fault of what stands where only a clause or the line's end may: what can't be a clause is taken for more of the
+-- expression before it
 unfoldable pub unexpected_in : Bool → List Word → ParseFaultKind
 unexpected_in behind [] = kind.Word
 unexpected_in behind (word.Name s ∷ ws) = kind.Word
@@ -143,7 +145,8 @@ equal a = equal_in a a.words
 -- further ones, each behind a comma; the number bounds how many
 unfoldable pub more : {A : Type 0} → Reader A → ℕ → List A → Reader (List A)
 more one zero found a = Err kind.Word
-more one (suc n) found a = on_taken (comma a) (λ b. one b >>= λ x. more one n (found ++ x.0 ∷ []) x.1) (λ b. Ok (found, b))
+more one (suc n) found a =
+    on_taken (comma a) (λ b. one b >>= λ x. more one n (found ++ x.0 ∷ []) x.1) (λ b. Ok (found, b))
 
 -- one or more with commas between
 unfoldable pub several : {A : Type 0} → Reader A → Reader (List A)
@@ -187,7 +190,8 @@ unfoldable pub accept : Reader Act
 accept a = prompt a >>= λ p. clause (codes "TO") p.1 >>= λ b. name b >>= λ v. Ok (act.Accept p.0 v.0, v.1)
 
 unfoldable pub wait : Reader Act
-wait a = prompt a >>= λ p. on_taken (takes (codes "TO") p.1) (λ b. name b >>= λ v. Ok (act.Wait p.0 (Some v.0), v.1)) (λ b. Ok (act.Wait p.0 None, b))
+wait a = prompt a >>= λ p. on_taken (takes (codes "TO") p.1) (λ b. name b >>= λ v. Ok (act.Wait p.0 (Some v.0), v.1))
+    (λ b. Ok (act.Wait p.0 None, b))
 
 -- a command of variables
 
@@ -209,7 +213,8 @@ parameters a = names a >>= λ vs. Ok (act.Parameters vs.0, vs.1)
 -- a command that leads elsewhere
 
 unfoldable pub call : Reader Act
-call a = name a >>= λ p. on_taken (takes (codes "WITH") p.1) (λ b. expressions b >>= λ xs. Ok (act.Do p.0 xs.0, xs.1)) (λ b. Ok (act.Do p.0 [], b))
+call a = name a >>= λ p. on_taken (takes (codes "WITH") p.1) (λ b. expressions b >>= λ xs. Ok (act.Do p.0 xs.0, xs.1))
+    (λ b. Ok (act.Do p.0 [], b))
 
 unfoldable pub scan_condition : Reader (Option Tree)
 scan_condition a = on_taken (takes (codes "FOR") a) (λ b. expression b >>= λ x. Ok (Some x.0, x.1)) (λ b. Ok (None, b))
@@ -219,7 +224,8 @@ scan_condition a = on_taken (takes (codes "FOR") a) (λ b. expression b >>= λ x
 unfoldable pub use_table : Reader Act
 use_table a =
     if is_at_end a then Ok (act.Close, a)
-    else (name a >>= λ t. on_taken (takes (codes "INDEX") t.1) (λ b. names b >>= λ is. Ok (act.Use t.0 is.0, is.1)) (λ b. Ok (act.Use t.0 [], b)))
+    else (name a >>= λ t. on_taken (takes (codes "INDEX") t.1) (λ b. names b >>= λ is. Ok (act.Use t.0 is.0, is.1))
+    (λ b. Ok (act.Use t.0 [], b)))
 
 -- work areas have the numbers 1 to 10
 abbrev pub area_number : ℕ → Result ℕ ParseFaultKind
@@ -231,22 +237,26 @@ select a =
     else (name a >>= λ s. Ok (act.Select (act.Named s.0), s.1))
 
 unfoldable pub close : Reader Act
-close a = on_taken (takes (codes "ALL") a) (λ b. Ok (act.CloseAll, b)) (λ b. clause (codes "DATABASES") b >>= λ c. Ok (act.CloseAll, c))
+close a = on_taken (takes (codes "ALL") a) (λ b. Ok (act.CloseAll, b))
+    (λ b. clause (codes "DATABASES") b >>= λ c. Ok (act.CloseAll, c))
 
 unfoldable pub order : Reader Act
 order a = clause (codes "TO") a >>= λ b. whole_number b >>= λ n. Ok (act.SetOrder n.0, n.1)
 
 unfoldable pub filter : Reader Act
-filter a = clause (codes "TO") a >>= λ b. if is_at_end b then Ok (act.SetFilter None, b) else (expression b >>= λ x. Ok (act.SetFilter (Some x.0), x.1))
+filter a = clause (codes "TO") a >>= λ b. if is_at_end b then Ok (act.SetFilter None, b)
+    else (expression b >>= λ x. Ok (act.SetFilter (Some x.0), x.1))
 
 unfoldable pub switch : Toggle → Reader Act
-switch s a = on_taken (takes (codes "ON") a) (λ b. Ok (act.Set s true, b)) (λ b. clause (codes "OFF") b >>= λ c. Ok (act.Set s false, c))
+switch s a = on_taken (takes (codes "ON") a) (λ b. Ok (act.Set s true, b))
+    (λ b. clause (codes "OFF") b >>= λ c. Ok (act.Set s false, c))
 
 unfoldable pub century : Reader Act
 century a = clause (codes "CENTURY") a >>= λ b. switch Century b
 
 unfoldable pub set_switch : Reader Act
-set_switch a = on_taken (takes (codes "EXACT") a) (switch Exact) (λ b. on_taken (takes (codes "DELETED") b) (switch Deleted) century)
+set_switch a = on_taken (takes (codes "EXACT") a) (switch Exact)
+    (λ b. on_taken (takes (codes "DELETED") b) (switch Deleted) century)
 
 unfoldable pub set : Reader Act
 set a = on_taken (takes (codes "ORDER") a) order (λ b. on_taken (takes (codes "FILTER") b) filter set_switch)
@@ -257,7 +267,8 @@ unfoldable pub go_record : Reader Act
 go_record a = expression a >>= λ x. Ok (act.Go (act.Record x.0), x.1)
 
 unfoldable pub go : Reader Act
-go a = on_taken (takes (codes "TOP") a) (λ b. Ok (act.Go act.Top, b)) (λ b. on_taken (takes (codes "BOTTOM") b) (λ c. Ok (act.Go act.Bottom, c)) go_record)
+go a = on_taken (takes (codes "TOP") a) (λ b. Ok (act.Go act.Top, b))
+    (λ b. on_taken (takes (codes "BOTTOM") b) (λ c. Ok (act.Go act.Bottom, c)) go_record)
 
 unfoldable pub skip : Reader Act
 skip a = if is_at_end a then Ok (act.Skip None, a) else (expression a >>= λ x. Ok (act.Skip (Some x.0), x.1))
@@ -278,7 +289,8 @@ unfoldable pub replace : Reader Act
 replace a = several replacement a >>= λ cs. Ok (act.Replace cs.0, cs.1)
 
 unfoldable pub index : Reader Act
-index a = clause (codes "ON") a >>= λ b. expression b >>= λ k. clause (codes "TO") k.1 >>= λ c. name c >>= λ s. Ok (act.IndexOn k.0 s.0, s.1)
+index a = clause (codes "ON") a >>= λ b. expression b >>= λ k. clause (codes "TO") k.1 >>= λ c. name c >>= λ s. Ok
+    (act.IndexOn k.0 s.0, s.1)
 
 -- a command that is one word
 abbrev pub single : Verb → Option Act

@@ -1,5 +1,6 @@
 -- What a line says by itself, what it is to the blocks around it, and which fault it has.
-use Rattle.std.specs.Prelude.{ℕ, false, List, map, length, nat_lt, Option, Some, None, Result, Ok, Err, ◌&&◌, if◌then◌else◌}
+use Rattle.std.specs.Prelude.{ℕ, false, List, map, length, nat_lt, Option, Some, None, Result, Ok, Err, ◌&&◌}
+use Rattle.std.specs.Prelude.{if◌then◌else◌}
 use Rattle.prg_expr.specs.Faults.{least, least_of, length_fault}
 use Rattle.prg_expr.specs.Lexicon.{Spot, spot_word, spot_fault}
 use Rattle.prg_expr.specs.Scanning.{scan}
@@ -15,8 +16,8 @@ use Rattle.prg_line.specs.Verbs.{Found, verb_of, role_of, ignores_rest, has_expr
 abbrev pub word_fault : Verb → List Spot → Option ParseFaultKind
 word_fault v spots = if ignores_rest v then None else least_of None (map spot_fault spots)
 
--- What the words behind the first ones say. Of a line of more than 4,096 words, which is too long anyway, a command with
--- expressions isn't read.
+-- What the words behind the first ones say. Of a line of more than 4,096 words, which is too long anyway, a command
+-- with expressions isn't read.
 unfoldable pub form : ℕ → Found → Result Saying ParseFaultKind
 form count f = if has_expressions f.0 && nat_lt 4096 count then Err kind.TooLong else sentence f.0 (at f.1 false)
 
@@ -31,7 +32,8 @@ saying_in (Err k) = Nothing
 
 -- the least fault of a line of so many bytes, with these words, the first of which begin this command
 abbrev pub fault_with : ℕ → List Spot → Found → Option ParseFaultKind
-fault_with bytes spots f = least (least (word_fault f.0 spots) (fault_in (form (length (map spot_word spots)) f))) (length_fault bytes)
+fault_with bytes spots f =
+    least (least (word_fault f.0 spots) (fault_in (form (length (map spot_word spots)) f))) (length_fault bytes)
 
 abbrev pub found_in : List Spot → Found
 found_in spots = verb_of (map spot_word spots)

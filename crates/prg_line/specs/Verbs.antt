@@ -18,10 +18,12 @@ called [] letters = None
 called (x ∷ xs) letters = if is_cut letters x.0 then Some x.1 else called xs letters
 
 abbrev pub of_screen : List Entry
-of_screen = (codes "READ", verb.Read) ∷ (codes "ACCEPT", verb.Accept) ∷ (codes "WAIT", verb.Wait) ∷ (codes "CLEAR", verb.Clear) ∷ []
+of_screen = (codes "READ", verb.Read) ∷ (codes "ACCEPT", verb.Accept) ∷ (codes "WAIT", verb.Wait)
+    ∷ (codes "CLEAR", verb.Clear) ∷ []
 
 abbrev pub of_variables : List Entry
-of_variables = (codes "STORE", verb.Store) ∷ (codes "RELEASE", verb.Release) ∷ (codes "PRIVATE", verb.Private) ∷ (codes "PARAMETERS", verb.Parameters) ∷ []
+of_variables = (codes "STORE", verb.Store) ∷ (codes "RELEASE", verb.Release) ∷ (codes "PRIVATE", verb.Private)
+    ∷ (codes "PARAMETERS", verb.Parameters) ∷ []
 
 abbrev pub of_branches : List Entry
 of_branches =
@@ -29,25 +31,31 @@ of_branches =
     ∷ (codes "OTHERWISE", verb.Otherwise) ∷ (codes "ENDCASE", verb.EndCase) ∷ []
 
 abbrev pub of_loops : List Entry
-of_loops = (codes "ENDDO", verb.EndDo) ∷ (codes "SCAN", verb.Scan) ∷ (codes "ENDSCAN", verb.EndScan) ∷ (codes "LOOP", verb.Loop) ∷ (codes "EXIT", verb.Exit) ∷ []
+of_loops = (codes "ENDDO", verb.EndDo) ∷ (codes "SCAN", verb.Scan) ∷ (codes "ENDSCAN", verb.EndScan)
+    ∷ (codes "LOOP", verb.Loop) ∷ (codes "EXIT", verb.Exit) ∷ []
 
 abbrev pub of_calls : List Entry
-of_calls = (codes "PROCEDURE", verb.Procedure) ∷ (codes "DO", verb.Do) ∷ (codes "RETURN", verb.Return) ∷ (codes "QUIT", verb.Quit) ∷ (codes "CANCEL", verb.Cancel) ∷ []
+of_calls = (codes "PROCEDURE", verb.Procedure) ∷ (codes "DO", verb.Do) ∷ (codes "RETURN", verb.Return)
+    ∷ (codes "QUIT", verb.Quit) ∷ (codes "CANCEL", verb.Cancel) ∷ []
 
 abbrev pub of_areas : List Entry
-of_areas = (codes "USE", verb.Use) ∷ (codes "SELECT", verb.Select) ∷ (codes "CLOSE", verb.Close) ∷ (codes "SET", verb.Set) ∷ []
+of_areas =
+    (codes "USE", verb.Use) ∷ (codes "SELECT", verb.Select) ∷ (codes "CLOSE", verb.Close) ∷ (codes "SET", verb.Set) ∷ []
 
 abbrev pub of_moves : List Entry
-of_moves = (codes "GO", verb.Go) ∷ (codes "GOTO", verb.Go) ∷ (codes "SKIP", verb.Skip) ∷ (codes "SEEK", verb.Seek) ∷ (codes "APPEND", verb.Append) ∷ []
+of_moves = (codes "GO", verb.Go) ∷ (codes "GOTO", verb.Go) ∷ (codes "SKIP", verb.Skip) ∷ (codes "SEEK", verb.Seek)
+    ∷ (codes "APPEND", verb.Append) ∷ []
 
 abbrev pub of_changes : List Entry
 of_changes =
-    (codes "REPLACE", verb.Replace) ∷ (codes "DELETE", verb.Delete) ∷ (codes "RECALL", verb.Recall) ∷ (codes "PACK", verb.Pack)
+    (codes "REPLACE", verb.Replace) ∷ (codes "DELETE", verb.Delete) ∷ (codes "RECALL", verb.Recall)
+    ∷ (codes "PACK", verb.Pack)
     ∷ (codes "ZAP", verb.Zap) ∷ (codes "REINDEX", verb.Reindex) ∷ (codes "INDEX", verb.Index) ∷ []
 
 -- all words that begin commands
 abbrev pub all_commands : List Entry
-all_commands = of_screen ++ (of_variables ++ (of_branches ++ (of_loops ++ (of_calls ++ (of_areas ++ (of_moves ++ of_changes))))))
+all_commands =
+    of_screen ++ (of_variables ++ (of_branches ++ (of_loops ++ (of_calls ++ (of_areas ++ (of_moves ++ of_changes))))))
 
 abbrev pub or_else : Option Verb → Option Verb → Option Verb
 or_else None other = other
@@ -60,7 +68,8 @@ or_unknown (Some v) = v
 -- the command that a word of capitals begins
 unfoldable pub command_of : List ℕ → Verb
 command_of s =
-    or_unknown (or_else (called of_screen s) (or_else (called of_variables s) (or_else (called of_branches s) (or_else (called of_loops s)
+    or_unknown (or_else (called of_screen s)
+    (or_else (called of_variables s) (or_else (called of_branches s) (or_else (called of_loops s)
     (or_else (called of_calls s) (or_else (called of_areas s) (or_else (called of_moves s) (called of_changes s))))))))
 
 -- whether a word is one of these, perhaps cut
@@ -70,11 +79,13 @@ among (x ∷ xs) letters = is_cut letters x || among xs letters
 
 abbrev pub looks : List (List ℕ)
 looks =
-    codes "TALK" ∷ codes "BELL" ∷ codes "SAFETY" ∷ codes "STATUS" ∷ codes "ECHO" ∷ codes "CONFIRM" ∷ codes "COLOR" ∷ codes "HEADING" ∷ codes "SCOREBOARD" ∷ []
+    codes "TALK" ∷ codes "BELL" ∷ codes "SAFETY" ∷ codes "STATUS" ∷ codes "ECHO" ∷ codes "CONFIRM" ∷ codes "COLOR"
+    ∷ codes "HEADING" ∷ codes "SCOREBOARD" ∷ []
 
 abbrev pub habits : List (List ℕ)
 habits =
-    codes "ESCAPE" ∷ codes "INTENSITY" ∷ codes "DELIMITERS" ∷ codes "HELP" ∷ codes "HISTORY" ∷ codes "MARGIN" ∷ codes "TYPEAHEAD" ∷ codes "PROCEDURE" ∷ []
+    codes "ESCAPE" ∷ codes "INTENSITY" ∷ codes "DELIMITERS" ∷ codes "HELP" ∷ codes "HISTORY" ∷ codes "MARGIN"
+    ∷ codes "TYPEAHEAD" ∷ codes "PROCEDURE" ∷ []
 
 -- what SET names without any meaning here
 unfoldable pub is_ignored : List ℕ → Bool
@@ -100,7 +111,8 @@ before_name v second rest others = (v, rest)
 -- a line that begins with a name: an equal sign behind it makes it an assignment, of which no word counts as read
 unfoldable pub behind_first : List Word → List ℕ → List Word → Found
 behind_first all first (word.Sign Equal ∷ others) = (verb.Assign, all)
-behind_first all first (word.Name second ∷ others) = before_name (command_of first) second (word.Name second ∷ others) others
+behind_first all first (word.Name second ∷ others) =
+    before_name (command_of first) second (word.Name second ∷ others) others
 behind_first all first rest = (command_of first, rest)
 
 -- a line that begins with NOTE is a comment, of which nothing means anything

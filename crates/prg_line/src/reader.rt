@@ -20,7 +20,8 @@ const WORD: FormFault = FormFault::Kind(ParseFaultKind::Word);
 
 /// The longest expression at the front of the words, and how many words are behind it.
 fn expression_at(alloc: Global, tokens: &[Token<'_>]) -> Result<(Expr, usize), FormFault>
-    ensures gives { Gives (λ x. (tree_of x.0, drop (length tokens.now - x.1) (words tokens.now))) result (front (words tokens.now)) }
+    ensures gives { Gives (λ x. (tree_of x.0, drop (length tokens.now - x.1) (words tokens.now))) result
+        (front (words tokens.now)) }
     ensures shorter { IfOk result (λ x. x.1 < length tokens.now) }
 {
     match expression(alloc, tokens) {
@@ -230,7 +231,9 @@ impl<'a> Reader<'a> {
 
     /// Reads further expressions, each behind a comma.
     fn more_expressions(&mut self, found: Vec<Expr>) -> Result<Vec<Expr>, FormFault>
-        ensures { Reads (λ all. map tree_of all.items) result self.new (spec.more spec.expression (suc (length (words self.old.words.now))) (map tree_of found.items) (at_of self.old)) }
+        ensures { Reads (λ all. map tree_of all.items) result self.new
+            (spec.more spec.expression (suc (length (words self.old.words.now))) (map tree_of found.items)
+            (at_of self.old)) }
     {
         let mut all = found;
         while self.comma() {
@@ -253,7 +256,9 @@ impl<'a> Reader<'a> {
 
     /// Reads further names, each behind a comma.
     fn more_names(&mut self, found: Vec<Name>) -> Result<Vec<Name>, FormFault>
-        ensures { Reads (λ all. map letters_of all.items) result self.new (spec.more spec.name (suc (length (words self.old.words.now))) (map letters_of found.items) (at_of self.old)) }
+        ensures { Reads (λ all. map letters_of all.items) result self.new
+            (spec.more spec.name (suc (length (words self.old.words.now))) (map letters_of found.items)
+            (at_of self.old)) }
     {
         let mut all = found;
         while self.comma() {

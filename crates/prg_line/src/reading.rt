@@ -115,7 +115,8 @@ pub fn lines_are_read()
     ensures sound { (text : List ℕ) → spec.fault_at text ≡ None → LineSays (spec.saying_at text) text }
     ensures placed { (text : List ℕ) → spec.fault_at text ≡ None → spec.role_at text ≡ role_of (spec.saying_at text) }
     // A line that says something has no fault, and what it says is read.
-    ensures complete { (text : List ℕ) (s : Saying) → LineSays s text → (spec.fault_at text ≡ None) × (spec.saying_at text ≡ s) }
+    ensures complete { (text : List ℕ) (s : Saying) → LineSays s text → (spec.fault_at text ≡ None)
+        × (spec.saying_at text ≡ s) }
 {
     expressions_are_read();
     lines_are_cut();

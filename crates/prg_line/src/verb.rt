@@ -279,8 +279,10 @@ fn command_of(word: &[u8]) -> Verb
 
 /// Each command's word begins it, whole or cut, so that no word begins two; and none begins a comment.
 pub fn one_command()
-    ensures begins { (word : List ℕ) (x : spec.Entry) → Listed x spec.all_commands → is_cut word x.0 ≡ true → spec.command_of word ≡ x.1 }
-    ensures no_note { (word : List ℕ) (x : spec.Entry) → Listed x spec.all_commands → is_cut word x.0 ≡ true → is_cut word (codes "NOTE") ≡ false }
+    ensures begins { (word : List ℕ) (x : spec.Entry) → Listed x spec.all_commands → is_cut word x.0 ≡ true
+        → spec.command_of word ≡ x.1 }
+    ensures no_note { (word : List ℕ) (x : spec.Entry) → Listed x spec.all_commands → is_cut word x.0 ≡ true
+        → is_cut word (codes "NOTE") ≡ false }
 {}
 
 /// Whether this word behind `SET` is one of the machine's looks.
@@ -351,7 +353,8 @@ fn before_name<'a>(
     rest: &'a [Token<'a>],
     others: &'a [Token<'a>],
 ) -> Found<'a>
-    ensures { found_of result ≡ spec.before_name verb (map to_ascii_uppercase second.now) (words rest.now) (words others.now) }
+    ensures { found_of result
+        ≡ spec.before_name verb (map to_ascii_uppercase second.now) (words rest.now) (words others.now) }
 {
     match verb {
         Verb::Do => do_before(second, rest, others),

@@ -1,14 +1,17 @@
 -- Which lines may stand where, and what they do to the blocks that are open.
 
-use Rattle.std.specs.Prelude.{ℕ, Bool, true, false, not, ◌&&◌, nat_le, List, [], ◌∷◌, ◌++◌, length, take, ◌-◌, Option, Some, None, if◌then◌else◌, slice_get, is_some, option_map}
+use Rattle.std.specs.Prelude.{ℕ, Bool, true, false, not, ◌&&◌, nat_le, List, [], ◌∷◌, ◌++◌, length, take, ◌-◌, Option}
+use Rattle.std.specs.Prelude.{Some, None, if◌then◌else◌, slice_get, is_some, option_map}
 use Rattle.std.specs.List.{list_any}
 use Rattle.prg_expr.specs.declared.fault.ParseFaultKind.{ParseFaultKind}
 use Rattle.prg_expr.specs.declared.fault.ParseFaultKind.TheVariants.{Block, TooDeep}
 use Rattle.prg_line.specs.declared.role.Role.{Role}
-use Rattle.prg_line.specs.declared.role.Role.TheVariants.{Nothing, Plain, Leap, Procedure, If, Else, EndIf, DoCase, Case, Otherwise, EndCase, DoWhile, EndDo, Scan, EndScan}
+use Rattle.prg_line.specs.declared.role.Role.TheVariants.{Nothing, Plain, Leap, Procedure, If, Else, EndIf, DoCase}
+use Rattle.prg_line.specs.declared.role.Role.TheVariants.{Case, Otherwise, EndCase, DoWhile, EndDo, Scan, EndScan}
 use Rattle.prg_parser.specs.declared.blocks.Part.{Part}
 use Rattle.prg_parser.specs.declared.blocks.Place.{Place}
-use Rattle.prg_parser.specs.declared.blocks.Place.TheVariants.{InThen, InElse, BeforeCases, InCase, InOtherwise, InWhile, InScan}
+use Rattle.prg_parser.specs.declared.blocks.Place.TheVariants.{InThen, InElse, BeforeCases, InCase, InOtherwise}
+use Rattle.prg_parser.specs.declared.blocks.Place.TheVariants.{InWhile, InScan}
 
 -- where commands may stand: anywhere but between DO CASE and its first CASE
 abbrev pub holds_commands : Option Place → Bool
@@ -101,7 +104,8 @@ is_procedure _ = false
 abbrev pub innermost : List Part → Option Part
 innermost parts = slice_get parts (length parts - 1)
 
--- the fault of a line where these parts are open: it must fit its place, LOOP and EXIT stand in a loop, and no more than 32 blocks are open
+-- the fault of a line where these parts are open: it must fit its place, LOOP and EXIT stand in a loop, and no more
+-- than 32 blocks are open
 unfoldable pub fault_of : List Part → Role → Option ParseFaultKind
 fault_of parts role =
     if not (may_stand role (option_map (λ part. part.place) (innermost parts))) then Some Block

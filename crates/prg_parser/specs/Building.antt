@@ -22,9 +22,12 @@ use Rattle.prg_parser.specs.Layout.{Lines, all_of, body_lines, cases_lines, proc
 -- the lines of an open block that begins in this line, up to the one that begins its innermost part
 abbrev pub head_lines : ℕ → Open → Lines
 head_lines n (begun.Then e) = line n (saying.If (tree_of e)) ∷ []
-head_lines n (begun.Else e then at) = line n (saying.If (tree_of e)) ∷ (body_lines then.items ++ line at saying.Else ∷ [])
-head_lines n (begun.Case cases at e) = line n saying.DoCase ∷ (cases_lines cases.items ++ line at (saying.Case (tree_of e)) ∷ [])
-head_lines n (begun.Otherwise cases at) = line n saying.DoCase ∷ (cases_lines cases.items ++ line at saying.Otherwise ∷ [])
+head_lines n (begun.Else e then at) =
+    line n (saying.If (tree_of e)) ∷ (body_lines then.items ++ line at saying.Else ∷ [])
+head_lines n (begun.Case cases at e) =
+    line n saying.DoCase ∷ (cases_lines cases.items ++ line at (saying.Case (tree_of e)) ∷ [])
+head_lines n (begun.Otherwise cases at) =
+    line n saying.DoCase ∷ (cases_lines cases.items ++ line at saying.Otherwise ∷ [])
 head_lines n (begun.While e) = line n (saying.DoWhile (tree_of e)) ∷ []
 head_lines n (begun.Scan e) = line n (saying.Scan (option_map tree_of e)) ∷ []
 
@@ -67,7 +70,8 @@ current_lines (DoCase n before) = body_lines before.items ++ line n saying.DoCas
 -- the lines before the commands of the main part or of the procedure that is being read
 abbrev pub finished_lines : Finished → Lines
 finished_lines Nothing = []
-finished_lines (Main main procedures n name) = (body_lines main.items ++ procedures_lines procedures.items) ++ line n (saying.Procedure name.items) ∷ []
+finished_lines (Main main procedures n name) =
+    (body_lines main.items ++ procedures_lines procedures.items) ++ line n (saying.Procedure name.items) ∷ []
 
 -- the lines that were taken so far
 abbrev pub built_lines : Builder → Lines
@@ -93,7 +97,10 @@ pub record Took (before : Builder) (n : ℕ) (s : Saying) (after : Builder) : Ty
 -- the innermost block is a DO CASE, whose cases are all ended
 pub record IsChoice (blocks : Vec OpenBlock) (current : Current) (c : Choice) : Type 0 where
   pub lines : opens_lines blocks.items ++ current_lines current
-      ≡ opens_lines c.blocks.items ++ (body_lines c.before.items ++ line c.line saying.DoCase ∷ cases_lines c.cases.items)
+      ≡ opens_lines c.blocks.items
+      ++ (body_lines c.before.items ++ line c.line saying.DoCase ∷ cases_lines c.cases.items)
   -- the block goes on with another part
-  pub parts : (next : Place) → divide_at (map part_of_block blocks.items ++ awaited current) (innermost (map part_of_block blocks.items ++ awaited current)) next
+  pub parts : (next : Place)
+      → divide_at (map part_of_block blocks.items ++ awaited current)
+      (innermost (map part_of_block blocks.items ++ awaited current)) next
       ≡ map part_of_block c.blocks.items ++ (record { place = next; line = c.line }) ∷ []

@@ -63,8 +63,8 @@ abbrev pub or_absent : Option Part → Part
 or_absent None = Absent
 or_absent (Some part) = part
 
--- One layer, with the trees of the parts in their places: a form becomes a command where the line is known, a case is put in
--- front of further cases.
+-- One layer, with the trees of the parts in their places: a form becomes a command where the line is known, a case is
+-- put in front of further cases.
 abbrev pub form_node : Form-F (ℕ → Cmd) Part (Cases → Cases) Cmd → ℕ → Cmd
 form_node (Form-F.Statement s) n = Single n (act_of s)
 form_node (Form-F.If e then otherwise end) n = If n (tree_of e) (in_turn then.items) (or_absent otherwise) end

@@ -6,7 +6,8 @@ use Rattle.prg_parser.specs.declared.command.Branch.{Branch}
 use Rattle.prg_parser.specs.declared.command.Form.{Form}
 use Rattle.prg_parser.specs.declared.program.Procedure.{Procedure}
 use Rattle.prg_parser.specs.declared.program.Program.{Program}
-use Rattle.prg_parser.specs.Commands.{Cmd, Cmds, Cases, Part, ProcedureTree, ProgramTree, form_of, part_of, case_of, command_of, commands_of, cases_of, procedure_of, program_of}
+use Rattle.prg_parser.specs.Commands.{Cmd, Cmds, Cases, Part, ProcedureTree, ProgramTree, form_of, part_of, case_of}
+use Rattle.prg_parser.specs.Commands.{command_of, commands_of, cases_of, procedure_of, program_of}
 use Rattle.prg_parser.specs.Commands as tree
 use Rattle.prg_line.specs.Saying.{Saying, Line, line}
 use Rattle.prg_line.specs.Saying as saying
@@ -23,8 +24,10 @@ abbrev mutual
   -- the lines of a command
   pub laid : Cmd → Lines
   laid (tree.Single n s) = line n (saying.Whole s) ∷ []
-  laid (tree.If n e then otherwise end) = line n (saying.If e) ∷ (laid_in_turn then ++ (laid_part saying.Else otherwise ++ line end saying.EndIf ∷ []))
-  laid (tree.DoCase n cases otherwise end) = line n saying.DoCase ∷ (laid_cases cases ++ (laid_part saying.Otherwise otherwise ++ line end saying.EndCase ∷ []))
+  laid (tree.If n e then otherwise end) =
+      line n (saying.If e) ∷ (laid_in_turn then ++ (laid_part saying.Else otherwise ++ line end saying.EndIf ∷ []))
+  laid (tree.DoCase n cases otherwise end) = line n saying.DoCase
+      ∷ (laid_cases cases ++ (laid_part saying.Otherwise otherwise ++ line end saying.EndCase ∷ []))
   laid (tree.DoWhile n e body end) = line n (saying.DoWhile e) ∷ (laid_in_turn body ++ line end saying.EndDo ∷ [])
   laid (tree.Scan n e body end) = line n (saying.Scan e) ∷ (laid_in_turn body ++ line end saying.EndScan ∷ [])
 

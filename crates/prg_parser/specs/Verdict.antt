@@ -29,7 +29,8 @@ earlier (Some line) other = Some line
 abbrev pub opening_line : List Part → Option ℕ
 opening_line parts = option_map (λ part. part.line) (slice_get parts 0)
 
--- the block that was left open first, behind a line: a procedure begins without blocks, so those that are open before it stay unended
+-- the block that was left open first, behind a line: a procedure begins without blocks, so those that are open before
+-- it stay unended
 abbrev pub unended_after : List Part → Option ℕ → Mark → Option ℕ
 unended_after parts unended mark = if is_procedure mark.role then earlier unended (opening_line parts) else unended
 
@@ -48,4 +49,5 @@ or_else None line others = others
 unfoldable pub verdict : List Part → Option ℕ → List Mark → Option ParseFault
 verdict parts unended [] = option_map block_at (earlier unended (opening_line parts))
 verdict parts unended (mark ∷ others) =
-    or_else (wrong parts mark) mark.line (verdict (parts_after parts mark.line mark.role) (unended_after parts unended mark) others)
+    or_else (wrong parts mark) mark.line
+    (verdict (parts_after parts mark.line mark.role) (unended_after parts unended mark) others)

@@ -4,9 +4,12 @@
 ghost use Rattle.std.specs.Prelude.{◌≡◌, ◌++◌, ◌∷◌, [], ℕ, true, None, Some, IfOk, map, option_map};
 ghost use Rattle.prg_expr.specs.Tree.{tree_of};
 ghost use Rattle.prg_parser.specs.Blocks.{divide_at, fault_of, innermost, is_procedure, may_stand, outer, takes_cases};
-ghost use Rattle.prg_parser.specs.Building.{IsChoice, Took, awaited, built_lines, built_parts, current_lines, ending, finished_lines, head_lines, is_ending, opens_lines, part_of_block, place_of};
+ghost use Rattle.prg_parser.specs.Building.{IsChoice, Took, awaited, built_lines, built_parts, current_lines, ending};
+ghost use Rattle.prg_parser.specs.Building.{finished_lines, head_lines, is_ending, opens_lines, part_of_block};
+ghost use Rattle.prg_parser.specs.Building.{place_of};
 ghost use Rattle.prg_parser.specs.Layout.{said};
-ghost use Rattle.prg_parser.specs.Layout.{body_lines, cases_lines, command_lines, case_lines, form_lines, part_lines, program_lines};
+ghost use Rattle.prg_parser.specs.Layout.{body_lines, cases_lines, command_lines, case_lines, form_lines, part_lines};
+ghost use Rattle.prg_parser.specs.Layout.{program_lines};
 ghost use Rattle.prg_line.specs.Saying.{Saying, line as said_line, role_of, saying_of};
 ghost use Rattle.prg_line.specs.Saying as saying;
 ghost use Rattle.prg_parser.specs.declared.blocks.Place.{Place as Within};
@@ -132,7 +135,8 @@ impl Builder {
     /// Puts a command behind those of the innermost part.
     fn put(self, line: usize, form: Form) -> Result<Builder, AllocError>
         ensures { awaited self.current ≡ []
-            → IfOk result (λ b. (built_lines b ≡ built_lines self ++ form_lines form line) × (built_parts b ≡ built_parts self)) }
+            → IfOk result (λ b. (built_lines b ≡ built_lines self ++ form_lines form line)
+            × (built_parts b ≡ built_parts self)) }
     {
         let Builder {
             alloc,
@@ -152,7 +156,8 @@ impl Builder {
     /// Opens a block.
     fn open(self, line: usize, head: Open) -> Result<Builder, AllocError>
         ensures { awaited self.current ≡ []
-            → IfOk result (λ b. (built_lines b ≡ built_lines self ++ head_lines line head) × (built_parts b ≡ built_parts self ++ (record { place = place_of head; line = line }) ∷ [])) }
+            → IfOk result (λ b. (built_lines b ≡ built_lines self ++ head_lines line head)
+            × (built_parts b ≡ built_parts self ++ (record { place = place_of head; line = line }) ∷ [])) }
     {
         let Builder {
             alloc,
@@ -225,7 +230,8 @@ impl Builder {
 
     /// Goes on behind a `CASE` with this condition.
     fn next_case(self, line: usize, condition: Expr) -> Result<Builder, AllocError>
-        ensures { fault_of (built_parts self) (role_of (saying.Case (tree_of condition))) ≡ None → IfOk result (Took self line (saying.Case (tree_of condition))) }
+        ensures { fault_of (built_parts self) (role_of (saying.Case (tree_of condition))) ≡ None
+            → IfOk result (Took self line (saying.Case (tree_of condition))) }
     {
         let Builder {
             alloc,
@@ -255,7 +261,8 @@ impl Builder {
 
     /// Goes on behind `OTHERWISE`.
     fn otherwise(self, line: usize) -> Result<Builder, AllocError>
-        ensures { fault_of (built_parts self) (role_of saying.Otherwise) ≡ None → IfOk result (Took self line saying.Otherwise) }
+        ensures { fault_of (built_parts self) (role_of saying.Otherwise) ≡ None
+            → IfOk result (Took self line saying.Otherwise) }
     {
         let Builder {
             alloc,
@@ -281,7 +288,8 @@ impl Builder {
 
     /// Ends the innermost block in this line.
     fn end(self, line: usize) -> Result<Builder, AllocError>
-        ensures { (s : Saying) → is_ending s ≡ true → fault_of (built_parts self) (role_of s) ≡ None → IfOk result (Took self line s) }
+        ensures { (s : Saying) → is_ending s ≡ true → fault_of (built_parts self) (role_of s) ≡ None
+            → IfOk result (Took self line s) }
     {
         let Builder {
             alloc,
@@ -365,8 +373,11 @@ fn end_last(
     body: Vec<Command>,
     end: usize,
 ) -> Result<Vec<Command>, AllocError>
-    ensures { (s : Saying) → is_ending s ≡ true → may_stand (role_of s) (option_map (λ part. part.place) (innermost (map part_of_block blocks.old.items))) ≡ true
-        → IfOk result (λ cs. (opens_lines blocks.new.items ++ body_lines cs.items ≡ (opens_lines blocks.old.items ++ body_lines body.items) ++ said end s)
+    ensures { (s : Saying) → is_ending s ≡ true
+        → may_stand (role_of s) (option_map (λ part. part.place) (innermost (map part_of_block blocks.old.items)))
+        ≡ true
+        → IfOk result (λ cs. (opens_lines blocks.new.items ++ body_lines cs.items
+        ≡ (opens_lines blocks.old.items ++ body_lines body.items) ++ said end s)
         × (map part_of_block blocks.new.items ≡ outer (map part_of_block blocks.old.items))) }
 {
     let Some(block) = blocks.pop() else {
@@ -426,7 +437,8 @@ fn pushed(
     head: Open,
     before: Vec<Command>,
 ) -> Result<Vec<OpenBlock>, AllocError>
-    ensures { IfOk result (λ bs. bs.items ≡ blocks.items ++ (record { line = line; head = head; before = before }) ∷ []) }
+    ensures { IfOk result (λ bs. bs.items ≡ blocks.items ++ (record { line = line; head = head; before = before })
+        ∷ []) }
 {
     blocks.push(OpenBlock { line, head, before })?;
     Ok(blocks)
@@ -451,7 +463,8 @@ fn put_case(
     condition: Expr,
     body: Vec<Command>,
 ) -> Result<Vec<Case>, AllocError>
-    ensures { IfOk result (λ cs. cases_lines cs.items ≡ cases_lines cases.items ++ said_line line (saying.Case (tree_of condition)) ∷ body_lines body.items) }
+    ensures { IfOk result (λ cs. cases_lines cs.items ≡ cases_lines cases.items
+        ++ said_line line (saying.Case (tree_of condition)) ∷ body_lines body.items) }
 {
     cases.push(one_case(line, condition, body))?;
     Ok(cases)
@@ -459,7 +472,8 @@ fn put_case(
 
 /// An `IF` behind its `ELSE`.
 fn else_of(head: Open, then: Vec<Command>, line: usize) -> Open
-    ensures lines { place_of head ≡ within.InThen → (n : ℕ) → head_lines n result ≡ head_lines n head ++ (body_lines then.items ++ said_line line saying.Else ∷ []) }
+    ensures lines { place_of head ≡ within.InThen → (n : ℕ)
+        → head_lines n result ≡ head_lines n head ++ (body_lines then.items ++ said_line line saying.Else ∷ []) }
     ensures place { place_of head ≡ within.InThen → place_of result ≡ within.InElse }
 {
     match head {
@@ -487,7 +501,8 @@ fn open_choice(
     blocks: Vec<OpenBlock>,
     current: Current,
 ) -> Result<Choice, AllocError>
-    ensures { takes_cases (option_map (λ part. part.place) (innermost (map part_of_block blocks.items ++ awaited current))) ≡ true
+    ensures { takes_cases (option_map (λ part. part.place)
+        (innermost (map part_of_block blocks.items ++ awaited current))) ≡ true
         → IfOk result (IsChoice blocks current) }
 {
     match current {
@@ -508,8 +523,11 @@ fn ended_case(
     body: Vec<Command>,
 ) -> Result<Choice, AllocError>
     ensures { takes_cases (option_map (λ part. part.place) (innermost (map part_of_block blocks.items))) ≡ true
-        → IfOk result (λ c. (opens_lines blocks.items ++ body_lines body.items ≡ opens_lines c.blocks.items ++ (body_lines c.before.items ++ said_line c.line saying.DoCase ∷ cases_lines c.cases.items))
-        × ((next : Within) → divide_at (map part_of_block blocks.items) (innermost (map part_of_block blocks.items)) next ≡ map part_of_block c.blocks.items ++ (record { place = next; line = c.line }) ∷ [])) }
+        → IfOk result (λ c. (opens_lines blocks.items ++ body_lines body.items ≡ opens_lines c.blocks.items
+        ++ (body_lines c.before.items ++ said_line c.line saying.DoCase ∷ cases_lines c.cases.items))
+        × ((next : Within) → divide_at (map part_of_block blocks.items)
+        (innermost (map part_of_block blocks.items)) next ≡ map part_of_block c.blocks.items
+        ++ (record { place = next; line = c.line }) ∷ [])) }
 {
     let Some(block) = blocks.pop() else {
         return Ok(Choice {
@@ -530,7 +548,9 @@ fn ended_case(
 
 /// The cases up to the end of this one.
 fn cases_of(alloc: Global, head: Open, body: Vec<Command>) -> Result<Vec<Case>, AllocError>
-    ensures { place_of head ≡ within.InCase → IfOk result (λ cs. (n : ℕ) → head_lines n head ++ body_lines body.items ≡ said_line n saying.DoCase ∷ cases_lines cs.items) }
+    ensures { place_of head ≡ within.InCase
+        → IfOk result (λ cs. (n : ℕ)
+        → head_lines n head ++ body_lines body.items ≡ said_line n saying.DoCase ∷ cases_lines cs.items) }
 {
     match head {
         Open::Case {
@@ -545,7 +565,8 @@ fn cases_of(alloc: Global, head: Open, body: Vec<Command>) -> Result<Vec<Case>, 
 /// A `DO CASE` of these parts.
 #[tactic(auto, using(crate::proofs::LayoutLemmas::layouts))]
 fn case_of(cases: Vec<Case>, otherwise: Option<Branch>, end: usize) -> Form
-    ensures { (n : ℕ) → form_lines result n ≡ said_line n saying.DoCase ∷ (cases_lines cases.items ++ (part_lines saying.Otherwise otherwise ++ said_line end saying.EndCase ∷ [])) }
+    ensures { (n : ℕ) → form_lines result n ≡ said_line n saying.DoCase
+        ∷ (cases_lines cases.items ++ (part_lines saying.Otherwise otherwise ++ said_line end saying.EndCase ∷ [])) }
 {
     Form::DoCase {
         cases,
@@ -557,7 +578,8 @@ fn case_of(cases: Vec<Case>, otherwise: Option<Branch>, end: usize) -> Form
 /// An `IF` of these parts.
 #[tactic(auto, using(crate::proofs::LayoutLemmas::layouts))]
 fn if_of(condition: Expr, then: Vec<Command>, otherwise: Option<Branch>, end: usize) -> Form
-    ensures { (n : ℕ) → form_lines result n ≡ said_line n (saying.If (tree_of condition)) ∷ (body_lines then.items ++ (part_lines saying.Else otherwise ++ said_line end saying.EndIf ∷ [])) }
+    ensures { (n : ℕ) → form_lines result n ≡ said_line n (saying.If (tree_of condition))
+        ∷ (body_lines then.items ++ (part_lines saying.Else otherwise ++ said_line end saying.EndIf ∷ [])) }
 {
     Form::If {
         condition,
@@ -577,7 +599,8 @@ fn branch_of(line: usize, body: Vec<Command>) -> Branch
 
 /// The command that a block is, of which this is the last part.
 fn form_of(head: Open, body: Vec<Command>, end: usize) -> Result<Form, AllocError>
-    ensures { IfOk result (λ form. (n : ℕ) → form_lines form n ≡ head_lines n head ++ (body_lines body.items ++ said_line end (ending head) ∷ [])) }
+    ensures { IfOk result (λ form. (n : ℕ)
+        → form_lines form n ≡ head_lines n head ++ (body_lines body.items ++ said_line end (ending head) ∷ [])) }
 {
     Ok(match head {
         Open::Then { condition } => if_of(condition, body, None, end),
@@ -600,7 +623,8 @@ fn form_of(head: Open, body: Vec<Command>, end: usize) -> Result<Form, AllocErro
 /// A `DO WHILE` of these parts.
 #[tactic(auto, using(crate::proofs::LayoutLemmas::layouts))]
 fn while_of(condition: Expr, body: Vec<Command>, end: usize) -> Form
-    ensures { (n : ℕ) → form_lines result n ≡ said_line n (saying.DoWhile (tree_of condition)) ∷ (body_lines body.items ++ said_line end saying.EndDo ∷ []) }
+    ensures { (n : ℕ) → form_lines result n ≡ said_line n (saying.DoWhile (tree_of condition))
+        ∷ (body_lines body.items ++ said_line end saying.EndDo ∷ []) }
 {
     Form::DoWhile {
         condition,
@@ -612,7 +636,8 @@ fn while_of(condition: Expr, body: Vec<Command>, end: usize) -> Form
 /// A `SCAN` of these parts.
 #[tactic(auto, using(crate::proofs::LayoutLemmas::layouts))]
 fn scan_of(condition: Option<Expr>, body: Vec<Command>, end: usize) -> Form
-    ensures { (n : ℕ) → form_lines result n ≡ said_line n (saying.Scan (option_map tree_of condition)) ∷ (body_lines body.items ++ said_line end saying.EndScan ∷ []) }
+    ensures { (n : ℕ) → form_lines result n ≡ said_line n (saying.Scan (option_map tree_of condition))
+        ∷ (body_lines body.items ++ said_line end saying.EndScan ∷ []) }
 {
     Form::Scan {
         condition,

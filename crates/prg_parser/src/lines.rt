@@ -74,7 +74,8 @@ struct Joining<'a> {
 fn join_line<'a>(alloc: Global, first: usize, bytes: &'a [u8]) -> Result<Joining<'a>, AllocError>
     requires some { 0 < length bytes.now }
     requires room { first + length bytes.now ≤ 2 ^ 63 }
-    ensures joined { IfOk result (λ found. spec.joined first (lines bytes.now) ≡ joined_of found.joined ∷ spec.joined found.line (lines found.rest.now)) }
+    ensures joined { IfOk result (λ found. spec.joined first (lines bytes.now) ≡ joined_of found.joined
+        ∷ spec.joined found.line (lines found.rest.now)) }
     ensures shorter { IfOk result (λ found. length found.rest.now < length bytes.now) }
     ensures numbered { IfOk result (λ found. found.line + length found.rest.now ≤ first + length bytes.now) }
 {

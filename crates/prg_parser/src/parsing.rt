@@ -32,7 +32,8 @@ struct ReadLines {
 /// Reads lines one by one.
 fn read_lines(alloc: Global, lines: &[JoinedLine]) -> Result<ReadLines, AllocError>
     ensures marks { IfOk result (λ read. read.marks.items ≡ map (λ line. spec.mark_of (joined_of line)) lines.now) }
-    ensures sayings { IfOk result (λ read. map saying_of read.sentences.items ≡ map (λ line. saying_at line.text.items) lines.now) }
+    ensures sayings { IfOk result (λ read. map saying_of read.sentences.items
+        ≡ map (λ line. saying_at line.text.items) lines.now) }
 {
     let mut marks = Vec::new(alloc);
     let mut sentences = Vec::new(alloc);
@@ -51,8 +52,10 @@ fn read_lines(alloc: Global, lines: &[JoinedLine]) -> Result<ReadLines, AllocErr
 
 /// The tree of lines that were judged to be without fault.
 fn build(alloc: Global, marks: &[Mark], sentences: Vec<Sentence>) -> Result<Program, AllocError>
-    ensures laid_out { verdict [] None marks.now ≡ None → map (λ mark. mark.role) marks.now ≡ map (λ s. role_of (saying_of s)) sentences.items
-        → IfOk result (λ p. program_lines p ≡ said_lines (map (λ mark. mark.line) marks.now) (map saying_of sentences.items)) }
+    ensures laid_out { verdict [] None marks.now ≡ None
+        → map (λ mark. mark.role) marks.now ≡ map (λ s. role_of (saying_of s)) sentences.items
+        → IfOk result (λ p. program_lines p
+        ≡ said_lines (map (λ mark. mark.line) marks.now) (map saying_of sentences.items)) }
     ensures unnamed { IfOk result (λ p. p.name.items ≡ []) }
 {
     let mut builder = Builder::new(alloc);
@@ -94,7 +97,8 @@ pub fn one_program()
     // Programs of the same lines are the same tree.
     ensures same { (a b : ProgramTree) → laid_program a ≡ laid_program b → a ≡ b }
     // The programs that a file is are the same tree.
-    ensures one { (bytes : List ℕ) (a b : AnyProgram) → IsProgramOf bytes a → IsProgramOf bytes b → program_of a ≡ program_of b }
+    ensures one { (bytes : List ℕ) (a b : AnyProgram) → IsProgramOf bytes a → IsProgramOf bytes b
+        → program_of a ≡ program_of b }
 {
     one_saying();
 }

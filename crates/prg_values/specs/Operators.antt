@@ -6,7 +6,8 @@ use Rattle.xvalue.specs.declared.fun.Fun.{Fun}
 use Rattle.xvalue.specs.declared.fun.Fun.TheVariants as fun
 use Rattle.xvalue.specs.Kinds.{same_kind}
 use Rattle.prg_expr.specs.declared.tree.Operator.{Operator}
-use Rattle.prg_expr.specs.declared.tree.Operator.TheVariants.{Or, And, Equal, NotEqual, Less, Greater, AtMost, AtLeast, Contains, Plus, Minus, Times, Over}
+use Rattle.prg_expr.specs.declared.tree.Operator.TheVariants.{Or, And, Equal, NotEqual, Less, Greater, AtMost, AtLeast}
+use Rattle.prg_expr.specs.declared.tree.Operator.TheVariants.{Contains, Plus, Minus, Times, Over}
 use Rattle.prg_expr.specs.declared.tree.Prefix.{Prefix}
 use Rattle.prg_expr.specs.declared.tree.Prefix.TheVariants.{Not, Negative, Positive}
 use Rattle.prg_values.specs.declared.operators.Operation.{Operation}

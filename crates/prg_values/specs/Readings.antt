@@ -1,5 +1,6 @@
 -- What the names of an expression mean, by what is known where it stands.
-use Rattle.std.specs.Prelude.{◌≡◌, ℕ, zero, suc, ◌+◌, ◌-◌, ◌<◌, Bool, true, false, ◌&&◌, ◌==◌, nat_le, nat_lt, List, [], ◌∷◌, Option, Some, None, Result, Ok, Err, slice_get, is_some, codes, if◌then◌else◌}
+use Rattle.std.specs.Prelude.{◌≡◌, ℕ, zero, suc, ◌+◌, ◌-◌, ◌<◌, Bool, true, false, ◌&&◌, ◌==◌, nat_le, nat_lt, List, []}
+use Rattle.std.specs.Prelude.{◌∷◌, Option, Some, None, Result, Ok, Err, slice_get, is_some, codes, if◌then◌else◌}
 use Rattle.std.specs.List.{list_any}
 use Rattle.std.specs.Str.{bytes_eq}
 use Rattle.xvalue.specs.declared.kind.Kind.{Kind}
@@ -22,7 +23,8 @@ use Rattle.prg_values.specs.declared.scope.Scope.{Scope}
 use Rattle.prg_values.specs.declared.scope.Reading.{Reading}
 use Rattle.prg_values.specs.declared.scope.FieldPlace.{FieldPlace}
 
--- what names are looked up in: the declared tables, what is known, the variables' slots, and whether it is a filter's condition
+-- what names are looked up in: the declared tables, what is known, the variables' slots, and whether it is a filter's
+-- condition
 pub record Scoped : Type 0 where
   pub shape : Shape
   pub state : State
@@ -51,7 +53,8 @@ place_of number f = if nat_lt number 65536 then Some (record { number = number; 
 -- the first field of this name, where the first of them has this number
 abbrev pub field_from : ℕ → List Field → List ℕ → Option FieldPlace
 field_from number [] name = None
-field_from number (f ∷ fs) name = if bytes_eq f.name.items name then place_of number f else field_from (number + 1) fs name
+field_from number (f ∷ fs) name = if bytes_eq f.name.items name then place_of number f
+    else field_from (number + 1) fs name
 
 abbrev pub field_named : List Field → List ℕ → Option FieldPlace
 field_named fields name = field_from 0 fields name
@@ -84,7 +87,8 @@ below limit number = if nat_lt number limit then Some number else None
 -- the declared table of this name: its number, where the first of these has this one
 abbrev pub table_from : ℕ → List TableShape → List ℕ → Option ℕ
 table_from number [] name = None
-table_from number (s ∷ ss) name = if bytes_eq s.name.items name then below 65536 number else table_from (number + 1) ss name
+table_from number (s ∷ ss) name = if bytes_eq s.name.items name then below 65536 number
+    else table_from (number + 1) ss name
 
 abbrev pub table_named : Shape → List ℕ → Option ℕ
 table_named shape name = table_from 0 shape.tables name
@@ -97,7 +101,8 @@ is_of table Unsure = false
 -- the first work area that is known to hold the table, where the first of these has this number
 abbrev pub holder_from : ℕ → List AreaState → ℕ → Option ℕ
 holder_from number [] table = None
-holder_from number (a ∷ others) table = if is_of table a then below 256 number else holder_from (number + 1) others table
+holder_from number (a ∷ others) table = if is_of table a then below 256 number
+    else holder_from (number + 1) others table
 
 -- an alias of one letter A to J
 abbrev pub letter_area : List ℕ → Option ℕ
@@ -124,11 +129,13 @@ variable s name = on_some (slot_named s.names name) None (λ slot. loads slot (s
 
 -- in a filter's condition only the row tried has fields
 abbrev pub field_reading : Scoped → ℕ → FieldPlace → Option Reading
-field_reading s area f = if s.in_filter then (if area == s.state.desk.selected then Some (record { instr = Records (record_instr.RowField f.number); kind = f.kind }) else None)
+field_reading s area f = if s.in_filter
+    then (if area == s.state.desk.selected
+    then Some (record { instr = Records (record_instr.RowField f.number); kind = f.kind }) else None)
     else Some (record { instr = Records (record_instr.Field area f.number); kind = f.kind })
 
--- the field of this name of an area's table, if there is one; where nothing is known of the area, no declared table may have
--- such a field
+-- the field of this name of an area's table, if there is one; where nothing is known of the area, no declared table may
+-- have such a field
 abbrev pub field_known : Scoped → List ℕ → AreaState → Option (Option FieldPlace)
 field_known s name Closed = Some None
 field_known s name (Open a) = Some (field_in s.shape a name)
@@ -152,4 +159,5 @@ field_of_area s name area _ = None
 
 -- M is no work area: behind it stands a variable
 unfoldable pub read_qualified : Scoped → List ℕ → List ℕ → Option Reading
-read_qualified s alias name = if bytes_eq alias (codes "M") then variable s name else on_some (alias_area s alias) None (λ area. field_of_area s name area (area_at s.state.desk area))
+read_qualified s alias name = if bytes_eq alias (codes "M") then variable s name
+    else on_some (alias_area s alias) None (λ area. field_of_area s name area (area_at s.state.desk area))

@@ -1,5 +1,6 @@
 -- The kind of an expression's value, and what is written for it.
-use Rattle.std.specs.Prelude.{◌≡◌, ℕ, zero, suc, Bool, true, false, ◌&&◌, List, [], ◌∷◌, ◌++◌, Option, Some, None, length, map, slice_get, is_none, pos, if◌then◌else◌}
+use Rattle.std.specs.Prelude.{◌≡◌, ℕ, zero, suc, Bool, true, false, ◌&&◌, List, [], ◌∷◌, ◌++◌, Option, Some, None}
+use Rattle.std.specs.Prelude.{length, map, slice_get, is_none, pos, if◌then◌else◌}
 use Rattle.std.specs.List.{AllZip}
 use Rattle.fixed_num.specs.Number.{finite}
 use Rattle.xvalue.specs.declared.kind.Kind.{Kind}
@@ -91,7 +92,8 @@ otherwise function.Date = called.Today
 otherwise _ = called.Choice
 
 abbrev pub meaning : Function → Called
-meaning f = on_some (of_texts f) (on_some (of_numbers_and_dates f) (on_some (question_of f) (otherwise f) called.Question) called.Function) called.Function
+meaning f = on_some (of_texts f) (on_some (of_numbers_and_dates f)
+    (on_some (question_of f) (otherwise f) called.Question) called.Function) called.Function
 
 abbrev pub whole : ℕ → Value
 whole n = value.Number (finite (pos n) 0)
@@ -143,7 +145,8 @@ answer_kind _ = kind.Logical
 
 -- of the selected area, which is known to be open
 abbrev pub question_kind : Scoped → Question → Option Kind
-question_kind s q = if is_none (open_at s.state.desk s.state.desk.selected) then None else if may_ask s.in_filter q then Some (answer_kind q) else None
+question_kind s q = if is_none (open_at s.state.desk s.state.desk.selected) then None else if may_ask s.in_filter q
+    then Some (answer_kind q) else None
 
 -- what takes no arguments
 abbrev pub of_none : List Kind → Option Kind → Option Kind
@@ -186,7 +189,8 @@ pub data Piece : Type 0 where
 
 -- the instruction is the piece's, a constant by its number among these
 abbrev pub IsPiece : List Value → Piece → Instr → Type 0
-IsPiece constants (Constant v) i = (number : ℕ) × (slice_get constants number ≡ Some v) × (i ≡ Values (value_instr.Constant number))
+IsPiece constants (Constant v) i =
+    (number : ℕ) × (slice_get constants number ≡ Some v) × (i ≡ Values (value_instr.Constant number))
 IsPiece constants (Does j) i = i ≡ j
 
 abbrev pub calls : Fun → Piece
@@ -243,10 +247,12 @@ abbrev mutual
   pieces_in s (tree.Logical b) = Constant (value.Logical b) ∷ []
   pieces_in s (tree.Name n) = reading_pieces (read_name s n)
   pieces_in s (tree.Qualified a n) = reading_pieces (read_qualified s a n)
-  pieces_in s (tree.Call f es) = (all_pieces s es ++ constants (defaults f (count es))) ++ call_pieces (meaning f) (chosen (kinds_in s es))
+  pieces_in s (tree.Call f es) =
+      (all_pieces s es ++ constants (defaults f (count es))) ++ call_pieces (meaning f) (chosen (kinds_in s es))
   pieces_in s (tree.Parentheses e) = pieces_in s e
   pieces_in s (tree.Prefixed p e) = pieces_in s e ++ prefix_pieces (prefix_fun p)
-  pieces_in s (tree.Binary o a b) = operator_pieces (operation_in o (kind_in s a) (kind_in s b)) (pieces_in s a) (pieces_in s b)
+  pieces_in s (tree.Binary o a b) =
+      operator_pieces (operation_in o (kind_in s a) (kind_in s b)) (pieces_in s a) (pieces_in s b)
 
   pub all_pieces : Scoped → Trees → List Piece
   all_pieces s tree.None = []

@@ -194,8 +194,8 @@ fn answer_kind(question: Question) -> Kind
     }
 }
 
-/// The kind of a question's answer: ClosedArea where the selected area isn't known to be open, Filter where a filter may not
-/// ask it.
+/// The kind of a question's answer: ClosedArea where the selected area isn't known to be open, Filter where a filter
+/// may not ask it.
 fn asked(scope: &Scope, question: Question) -> Result<Kind, CompileFaultKind>
     ensures { Reads result (spec.question_kind (scoped scope.now) question) }
 {

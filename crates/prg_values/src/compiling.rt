@@ -30,7 +30,8 @@ pub struct Compiled {
 }
 
 fn put(code: &mut Vec<Instr>, instr: Instr) -> Result<(), CompileError>
-    ensures { OnOk result ((constants : List Constant) → Emits (Does instr ∷ []) constants code.old.items code.new.items) }
+    ensures { OnOk result ((constants : List Constant)
+        → Emits (Does instr ∷ []) constants code.old.items code.new.items) }
 {
     code.push(instr)?;
     Ok(())
@@ -52,7 +53,8 @@ fn put_whole(code: &mut Vec<Instr>, pool: &mut Pool, whole: u32) -> Result<(), C
 }
 
 fn put_function(code: &mut Vec<Instr>, fun: Fun) -> Result<(), CompileError>
-    ensures { OnOk result ((constants : List Constant) → Emits (spec.calls fun ∷ []) constants code.old.items code.new.items) }
+    ensures { OnOk result ((constants : List Constant)
+        → Emits (spec.calls fun ∷ []) constants code.old.items code.new.items) }
 {
     put(code, Instr::Values(ValueInstr::Function(fun)))
 }
@@ -61,7 +63,8 @@ fn put_reading(
     code: &mut Vec<Instr>,
     reading: Result<Reading, CompileFaultKind>,
 ) -> Result<(), CompileError>
-    ensures { OnOk result ((found : Option TheReading) (constants : List Constant) → Reads reading found → Emits (spec.reading_pieces found) constants code.old.items code.new.items) }
+    ensures { OnOk result ((found : Option TheReading) (constants : List Constant) → Reads reading found
+        → Emits (spec.reading_pieces found) constants code.old.items code.new.items) }
 {
     match reading {
         Ok(reading) => put(code, reading.instr),
@@ -76,7 +79,8 @@ fn put_both(
     one: u32,
     other: u32,
 ) -> Result<(), CompileError>
-    ensures ok { OnOk result (Emits (spec.Constant (spec.whole one) ∷ spec.Constant (spec.whole other) ∷ []) pool.new code.old.items code.new.items) }
+    ensures ok { OnOk result (Emits (spec.Constant (spec.whole one) ∷ spec.Constant (spec.whole other)
+        ∷ []) pool.new code.old.items code.new.items) }
     ensures grown { Grows pool.old pool.new }
 {
     put_whole(code, pool, one)?;
@@ -90,7 +94,8 @@ fn put_defaults(
     function: Function,
     count: usize,
 ) -> Result<(), CompileError>
-    ensures ok { OnOk result (Emits (spec.constants (spec.defaults function count)) pool.new code.old.items code.new.items) }
+    ensures ok { OnOk result (Emits (spec.constants
+        (spec.defaults function count)) pool.new code.old.items code.new.items) }
     ensures grown { Grows pool.old pool.new }
 {
     match function {
@@ -107,7 +112,8 @@ fn put_called(
     function: Function,
     choice: Option<Fun>,
 ) -> Result<(), CompileError>
-    ensures { OnOk result ((constants : List Constant) → Emits (spec.call_pieces (spec.meaning function) choice) constants code.old.items code.new.items) }
+    ensures { OnOk result ((constants : List Constant)
+        → Emits (spec.call_pieces (spec.meaning function) choice) constants code.old.items code.new.items) }
 {
     match meaning_of(function) {
         Called::Function(fun) => put_function(code, fun),
@@ -122,7 +128,8 @@ fn put_called(
 
 /// A denial, if there is one.
 fn put_denial(code: &mut Vec<Instr>, negated: bool) -> Result<(), CompileError>
-    ensures { OnOk result ((constants : List Constant) → Emits (spec.denial negated) constants code.old.items code.new.items) }
+    ensures { OnOk result ((constants : List Constant)
+        → Emits (spec.denial negated) constants code.old.items code.new.items) }
 {
     if negated {
         put_function(code, Fun::Not)
@@ -133,14 +140,16 @@ fn put_denial(code: &mut Vec<Instr>, negated: bool) -> Result<(), CompileError>
 
 /// The function of an operator, behind its operands.
 fn put_operation(code: &mut Vec<Instr>, operation: Operation) -> Result<(), CompileError>
-    ensures { OnOk result ((constants : List Constant) → Emits (spec.operation_pieces operation) constants code.old.items code.new.items) }
+    ensures { OnOk result ((constants : List Constant)
+        → Emits (spec.operation_pieces operation) constants code.old.items code.new.items) }
 {
     put_function(code, operation.fun)?;
     put_denial(code, operation.negated)
 }
 
 fn put_prefix(code: &mut Vec<Instr>, fun: Option<Fun>) -> Result<(), CompileError>
-    ensures { OnOk result ((constants : List Constant) → Emits (spec.prefix_pieces fun) constants code.old.items code.new.items) }
+    ensures { OnOk result ((constants : List Constant)
+        → Emits (spec.prefix_pieces fun) constants code.old.items code.new.items) }
 {
     match fun {
         Some(fun) => put_function(code, fun),
@@ -155,7 +164,8 @@ pub fn operation_of(
     left: &Expr,
     right: &Expr,
 ) -> Result<Operation, CompileError>
-    ensures { IfOk result (λ operation. spec.operation_in operator (spec.kind_in (scoped scope.now) (tree_of left.now)) (spec.kind_in (scoped scope.now) (tree_of right.now)) ≡ Some operation) }
+    ensures { IfOk result (λ operation. spec.operation_in operator (spec.kind_in (scoped scope.now) (tree_of left.now))
+        (spec.kind_in (scoped scope.now) (tree_of right.now)) ≡ Some operation) }
 {
     let left = kind_of(scope, left)?;
     let right = kind_of(scope, right)?;
@@ -171,7 +181,9 @@ pub fn choice_of(
     function: Function,
     arguments: &[Expr],
 ) -> Result<Option<Fun>, CompileError>
-    ensures { IfOk result (λ found. spec.call_pieces (spec.meaning function) found ≡ spec.call_pieces (spec.meaning function) (spec.chosen (spec.kinds_in (scoped scope.now) (trees_of arguments.now)))) }
+    ensures { IfOk result (λ found. spec.call_pieces (spec.meaning function) found
+        ≡ spec.call_pieces (spec.meaning function)
+        (spec.chosen (spec.kinds_in (scoped scope.now) (trees_of arguments.now)))) }
 {
     match meaning_of(function) {
         Called::Choice => {
@@ -189,7 +201,8 @@ fn emit_all(
     scope: &Scope,
     es: &[Expr],
 ) -> Result<(), CompileError>
-    ensures ok { OnOk result (Emits (spec.all_pieces (scoped scope.now) (trees_of es.now)) pool.new code.old.items code.new.items) }
+    ensures ok { OnOk result (Emits (spec.all_pieces (scoped scope.now)
+        (trees_of es.now)) pool.new code.old.items code.new.items) }
     ensures grown { Grows pool.old pool.new }
 {
     for e in es {
@@ -206,8 +219,11 @@ fn emit_call(
     function: Function,
     arguments: &[Expr],
 ) -> Result<(), CompileError>
-    ensures ok { OnOk result (Emits ((spec.all_pieces (scoped scope.now) (trees_of arguments.now) ++ spec.constants (spec.defaults function (length arguments.now)))
-        ++ spec.call_pieces (spec.meaning function) (spec.chosen (spec.kinds_in (scoped scope.now) (trees_of arguments.now)))) pool.new code.old.items code.new.items) }
+    ensures ok { OnOk result (Emits ((spec.all_pieces (scoped scope.now) (trees_of arguments.now)
+        ++ spec.constants (spec.defaults function (length arguments.now)))
+        ++ spec.call_pieces (spec.meaning function)
+        (spec.chosen (spec.kinds_in (scoped scope.now)
+        (trees_of arguments.now)))) pool.new code.old.items code.new.items) }
     ensures grown { Grows pool.old pool.new }
 {
     let choice = choice_of(scope, function, arguments)?;
@@ -224,7 +240,8 @@ fn emit_prefixed(
     prefix: prg_expr::Prefix,
     operand: &Expr,
 ) -> Result<(), CompileError>
-    ensures ok { OnOk result (Emits (spec.pieces_in (scoped scope.now) (tree_of operand.now) ++ spec.prefix_pieces (prefix_fun_of prefix)) pool.new code.old.items code.new.items) }
+    ensures ok { OnOk result (Emits (spec.pieces_in (scoped scope.now) (tree_of operand.now)
+        ++ spec.prefix_pieces (prefix_fun_of prefix)) pool.new code.old.items code.new.items) }
     ensures grown { Grows pool.old pool.new }
 {
     emit(code, pool, scope, operand)?;
@@ -234,7 +251,8 @@ fn emit_prefixed(
 #[cycle(emit)]
 #[tactic(auto, using(crate::proofs::Equations::tree_equations, crate::proofs::Equations::count_trees))]
 fn emit(code: &mut Vec<Instr>, pool: &mut Pool, scope: &Scope, e: &Expr) -> Result<(), CompileError>
-    ensures ok { OnOk result (Emits (spec.pieces_in (scoped scope.now) (tree_of e.now)) pool.new code.old.items code.new.items) }
+    ensures ok { OnOk result (Emits (spec.pieces_in (scoped scope.now)
+        (tree_of e.now)) pool.new code.old.items code.new.items) }
     ensures grown { Grows pool.old pool.new }
 {
     match e {
@@ -266,15 +284,16 @@ fn emit(code: &mut Vec<Instr>, pool: &mut Pool, scope: &Scope, e: &Expr) -> Resu
     }
 }
 
-/// The code of an expression and its kind. Where the expression is faulty, its first fault; constants are added to the pool
-/// either way.
+/// The code of an expression and its kind. Where the expression is faulty, its first fault; constants are added to the
+/// pool either way.
 pub fn with_kind(
     alloc: Global,
     e: &Expr,
     scope: &Scope,
     pool: &mut Pool,
 ) -> Result<Compiled, CompileError>
-    ensures ok { IfOk result (λ compiled. IsWritten (scoped scope.now) (tree_of e.now) compiled.kind pool.new compiled.code.items) }
+    ensures ok { IfOk result (λ compiled. IsWritten (scoped scope.now)
+        (tree_of e.now) compiled.kind pool.new compiled.code.items) }
     ensures grown { Grows pool.old pool.new }
 {
     let kind = kind_of(scope, e)?;
@@ -290,7 +309,8 @@ pub fn compile_expr(
     scope: &Scope,
     pool: &mut Pool,
 ) -> Result<Vec<Instr>, CompileError>
-    ensures ok { IfOk result (λ code. (kind : AnyKind) × IsWritten (scoped scope.now) (tree_of e.now) kind pool.new code.items) }
+    ensures ok { IfOk result (λ code. (kind : AnyKind)
+        × IsWritten (scoped scope.now) (tree_of e.now) kind pool.new code.items) }
     ensures grown { Grows pool.old pool.new }
 {
     let Compiled { code, .. } = with_kind(alloc, e, scope, pool)?;

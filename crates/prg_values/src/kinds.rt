@@ -2,7 +2,8 @@
 
 ghost use Rattle.std.specs.Prelude.{◌≡◌, Some, IfOk};
 ghost use Rattle.prg_expr.specs.Tree.{tree_of, trees_of};
-ghost use Rattle.prg_values.specs.Readings.{scoped, Reads, read_name as read_name_of, read_qualified as read_qualified_of};
+ghost use Rattle.prg_values.specs.Readings.{scoped, Reads, read_name as read_name_of};
+ghost use Rattle.prg_values.specs.Readings.{read_qualified as read_qualified_of};
 ghost use Rattle.prg_values.specs.Written as spec;
 
 use crate::arguments::{Kinds, MOST_ARGUMENTS};

@@ -13,8 +13,8 @@ use dbf_file::Field;
 use prg_code::{CompileFaultKind, Names};
 use xvalue::Kind;
 
-/// What an expression's names are looked up in: the declared tables, what is known, the variables' slots, and whether the
-/// expression is a filter's condition.
+/// What an expression's names are looked up in: the declared tables, what is known, the variables' slots, and whether
+/// the expression is a filter's condition.
 #[derive(Clone, Copy)]
 pub struct Scope<'a> {
     pub shape: &'a Shape,
@@ -152,8 +152,8 @@ fn read_variable(scope: &Scope, name: &[u8]) -> Result<Reading, CompileFaultKind
     }
 }
 
-/// The field that a name without alias is, if it is one: that of the selected area's table. Where nothing is known of the
-/// selected area, the name of any declared table's field is ClosedArea.
+/// The field that a name without alias is, if it is one: that of the selected area's table. Where nothing is known of
+/// the selected area, the name of any declared table's field is ClosedArea.
 pub fn selected_field(scope: &Scope, name: &[u8]) -> Result<Option<FieldPlace>, CompileFaultKind>
     ensures { Reads result (readings.field_here (scoped scope.now) name.now) }
 {
@@ -268,7 +268,8 @@ fn not_held(areas: &[AreaState]) -> CompileFaultKind {
 /// The work area of a table, by the table's name: Name where no table of this name is open, but ClosedArea where one is
 /// declared and nothing is known of some area.
 pub fn area_of_table(scope: &Scope, alias: &[u8]) -> Result<u8, CompileFaultKind>
-    ensures { Reads result (readings.holder_of (scoped scope.now) (readings.table_named (scoped scope.now).shape alias.now)) }
+    ensures { Reads result (readings.holder_of (scoped scope.now)
+        (readings.table_named (scoped scope.now).shape alias.now)) }
 {
     let Some(table) = table_named(scope.shape, alias) else {
         return Err(CompileFaultKind::Name);

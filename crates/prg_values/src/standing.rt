@@ -84,7 +84,8 @@ fn behind_reading(f: &Finished, place: usize, reading: Reading) -> Option<usize>
 }
 
 fn behind_name(f: &Finished, scope: &Scope, place: usize, name: &[u8]) -> Option<usize>
-    ensures { IfSome result (λ b. StandAll (text f.now) place (spec.reading_pieces (readings.read_name (scoped scope.now) name.now)) b) }
+    ensures { IfSome result (λ b. StandAll (text f.now) place
+        (spec.reading_pieces (readings.read_name (scoped scope.now) name.now)) b) }
 {
     match read_name(scope, name) {
         Ok(reading) => behind_reading(f, place, reading),
@@ -99,7 +100,8 @@ fn behind_qualified(
     alias: &[u8],
     name: &[u8],
 ) -> Option<usize>
-    ensures { IfSome result (λ b. StandAll (text f.now) place (spec.reading_pieces (readings.read_qualified (scoped scope.now) alias.now name.now)) b) }
+    ensures { IfSome result (λ b. StandAll (text f.now) place
+        (spec.reading_pieces (readings.read_qualified (scoped scope.now) alias.now name.now)) b) }
 {
     match read_qualified(scope, alias, name) {
         Ok(reading) => behind_reading(f, place, reading),
@@ -108,7 +110,8 @@ fn behind_qualified(
 }
 
 fn behind_both(f: &Finished, place: usize, one: u32, other: u32) -> Option<usize>
-    ensures { IfSome result (λ b. StandAll (text f.now) place (spec.Constant (spec.whole one) ∷ spec.Constant (spec.whole other) ∷ []) b) }
+    ensures { IfSome result (λ b. StandAll (text f.now) place
+        (spec.Constant (spec.whole one) ∷ spec.Constant (spec.whole other) ∷ []) b) }
 {
     let between = behind_whole(f, place, one)?;
     behind_whole(f, between, other)
@@ -175,7 +178,8 @@ fn behind_prefix(f: &Finished, place: usize, fun: Option<Fun>) -> Option<usize>
 
 #[cycle(standing)]
 fn behind_all(f: &Finished, scope: &Scope, place: usize, es: &[Expr]) -> Option<usize>
-    ensures { IfSome result (λ b. StandAll (text f.now) place (spec.all_pieces (scoped scope.now) (trees_of es.now)) b) }
+    ensures { IfSome result (λ b. StandAll (text f.now) place
+        (spec.all_pieces (scoped scope.now) (trees_of es.now)) b) }
 {
     let mut end = place;
     for e in es {
@@ -192,8 +196,11 @@ fn behind_call(
     function: Function,
     arguments: &[Expr],
 ) -> Option<usize>
-    ensures { IfSome result (λ b. StandAll (text f.now) place ((spec.all_pieces (scoped scope.now) (trees_of arguments.now) ++ spec.constants (spec.defaults function (length arguments.now)))
-        ++ spec.call_pieces (spec.meaning function) (spec.chosen (spec.kinds_in (scoped scope.now) (trees_of arguments.now)))) b) }
+    ensures { IfSome result (λ b. StandAll (text f.now) place
+        ((spec.all_pieces (scoped scope.now) (trees_of arguments.now)
+        ++ spec.constants (spec.defaults function (length arguments.now)))
+        ++ spec.call_pieces (spec.meaning function)
+        (spec.chosen (spec.kinds_in (scoped scope.now) (trees_of arguments.now)))) b) }
 {
     let Ok(choice) = choice_of(scope, function, arguments) else {
         return None;
@@ -211,7 +218,8 @@ fn behind_prefixed(
     prefix: prg_expr::Prefix,
     operand: &Expr,
 ) -> Option<usize>
-    ensures { IfSome result (λ b. StandAll (text f.now) place (spec.pieces_in (scoped scope.now) (tree_of operand.now) ++ spec.prefix_pieces (prefix_fun_of prefix)) b) }
+    ensures { IfSome result (λ b. StandAll (text f.now) place
+        (spec.pieces_in (scoped scope.now) (tree_of operand.now) ++ spec.prefix_pieces (prefix_fun_of prefix)) b) }
 {
     let given = behind_code(f, scope, place, operand)?;
     behind_prefix(f, given, prefix_fun(prefix))
@@ -250,8 +258,8 @@ fn behind_code(f: &Finished, scope: &Scope, place: usize, e: &Expr) -> Option<us
     }
 }
 
-/// The expression's kind and the place behind its code, if just its code stands at this place of a finished code, its names
-/// meaning what they mean in the scope. None where other code stands there, or where the expression is faulty.
+/// The expression's kind and the place behind its code, if just its code stands at this place of a finished code, its
+/// names meaning what they mean in the scope. None where other code stands there, or where the expression is faulty.
 pub fn given_at(f: &Finished, scope: &Scope, place: usize, e: &Expr) -> Option<Given>
     ensures { IfSome result (λ g. Leaves (text f.now) (scoped scope.now) place (tree_of e.now) g.kind g.end) }
 {

@@ -1,7 +1,7 @@
 //! What held at the heads of loops in rounds that were given up afterwards.
 //!
-//! A loop within another one is compiled again with each of its rounds. What held at its head once holds again, as far as
-//! nothing more is known where it begins; so it need not be found a second time.
+//! A loop within another one is compiled again with each of its rounds. What held at its head once holds again, as far
+//! as nothing more is known where it begins; so it need not be found a second time.
 
 use crate::writer::{Mark, Writer};
 use code_items::State;
@@ -43,7 +43,8 @@ fn found<'a>(w: &'a Writer, line: usize) -> Option<&'a LoopHead> {
 }
 
 impl Writer {
-    /// What is known at the head of the loop that begins in this line: what is known here, without what an earlier round lost.
+    /// What is known at the head of the loop that begins in this line: what is known here, without what an earlier
+    /// round lost.
     pub fn known_at_head(&self, line: usize) -> Result<State, AllocError> {
         match found(self, line) {
             Some(head) => merged(self.alloc, &self.work.block.state, &head.head),

@@ -17,8 +17,8 @@ pub struct Source<'a> {
     pub shape: &'a Shape,
 }
 
-/// A procedure by the number of its command file, and by its own number there, each from 0; or the part of the file before its
-/// first PROCEDURE.
+/// A procedure by the number of its command file, and by its own number there, each from 0; or the part of the file
+/// before its first PROCEDURE.
 #[derive(Clone, Copy, Debug, PartialEq, Eq)]
 pub struct Target {
     pub file: usize,

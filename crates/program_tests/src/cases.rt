@@ -121,7 +121,8 @@ fn first_unlisted<'a>(
     None
 }
 
-/// What isn't as the case says, run by the checking machine and then by the one without tags: nothing, or a word for it.
+/// What isn't as the case says, run by the checking machine and then by the one without tags: nothing, or a word for
+/// it.
 pub fn wrong_in<'a>(alloc: Global, case: &Case<'a>) -> Result<Option<&'a str>, AllocError> {
     let entries = entries(alloc, case)?;
     let mut files = MemoryFiles::new(alloc, entries.as_slice(), WORKS_FOR_EVER);

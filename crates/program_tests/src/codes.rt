@@ -5,11 +5,11 @@ use super::assembler::{HandCode, HandMap, Parts, assembled, plain as bare};
 use super::records::{keys, of_t};
 use super::stored::{NAME, entry, job, stored, verdict};
 use code_rules::Rule;
-use code_verify::Refused;
 use run_commands::{Ended, How, run_files};
 use run_steps::FaultKind;
 use std::alloc::{AllocError, Global};
 use std::test::Fail;
+use xverify::Refused;
 
 const LOGICAL: u8 = 4;
 

@@ -19,8 +19,8 @@ fn has_failed(report: &Report) -> bool {
     }
 }
 
-/// Runs a case on a device that works for so many calls, and then on one that works; whether each run was refused for the
-/// device, or none where a run isn't to be had.
+/// Runs a case on a device that works for so many calls, and then on one that works; whether each run was refused for
+/// the device, or none where a run isn't to be had.
 fn failures(
     alloc: Global,
     entries: &[MemoryEntry<'_>],

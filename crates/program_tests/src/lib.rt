@@ -1,6 +1,6 @@
-//! Tests of the program's commands, from files to files, by their public calls: code files and both machines, tables and
-//! indexes loaded and saved, command files compiled and run. They stand in a crate of their own, so that no crate below is
-//! proved a second time for them.
+//! Tests of the program's commands, from files to files, by their public calls: code files and both machines, tables
+//! and indexes loaded and saved, command files compiled and run. They stand in a crate of their own, so that no crate
+//! below is proved a second time for them.
 #![tactic(auto)]
 
 #[cfg(test)]

@@ -130,7 +130,8 @@ fn mends_a_faulty_index(rt: HostRuntime) -> Result<(), Fail> {
     Ok(())
 }
 
-/// Filters that read the row tried, its number, its mark, the count of rows, a variable and the day, as they are at each move.
+/// Filters that read the row tried, its number, its mark, the count of rows, a variable and the day, as they are at
+/// each move.
 pub fn filtered<'a>(files: &'a [MemoryEntry<'a>]) -> Case<'a> {
     Case {
         declarations: "TABLE T\n",

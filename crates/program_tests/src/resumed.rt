@@ -11,7 +11,6 @@ use super::records::{full, keys, letters, of_t, removed};
 use super::screens::typed;
 use super::stored::day_of;
 use code_items::laws::legal_codes;
-use code_verify::{Verified, verify};
 use file_access::{MemoryEntry, MemoryFiles, WORKS_FOR_EVER};
 use file_commands::read_code;
 use key_lists::KeyList;
@@ -24,8 +23,10 @@ use std::alloc::{AllocError, Global};
 use std::test::Fail;
 use table_files::load;
 use text_lines::TypedLines;
+use xverify::{Verified, verify};
 
-/// A run in parts: how it ended within its first budget, without one behind that, and within what was left; and what it left.
+/// A run in parts: how it ended within its first budget, without one behind that, and within what was left; and what it
+/// left.
 #[derive(Drop)]
 struct InParts {
     before: Outcome,
@@ -108,7 +109,8 @@ fn parts_of(
     Some(in_parts(alloc, &verified, banks, first, whole))
 }
 
-/// Whether the run was spent within its first budget and at once without one, and then took just the steps that were left.
+/// Whether the run was spent within its first budget and at once without one, and then took just the steps that were
+/// left.
 fn took_its_steps(parts: &InParts, first: u64, whole: u64) -> bool {
     let spent = parts.before.end == End::Spent && parts.before.steps <= first;
     let stayed = parts.between.end == End::Spent && parts.between.steps == 0;

@@ -1,4 +1,5 @@
-// Command files whose code is of the second version: work areas of which nothing is known, and dates with their century.
+// Command files whose code is of the second version: work areas of which nothing is known, and dates with their
+// century.
 #![tactic(auto)]
 
 use super::cases::{Case, printing, wrong_in};

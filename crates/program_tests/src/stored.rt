@@ -2,11 +2,11 @@
 #![tactic(auto)]
 
 use calendar::{Day, DayParts};
-use code_verify::Refused;
 use file_access::{MemoryEntry, MemoryFiles, WORKS_FOR_EVER};
 use file_commands::{Refusal, verify_file};
 use run_commands::{Ended, How, Job, RecordLimit, Report, RunDay, RunRefusal, run_files};
 use std::alloc::Global;
+use xverify::Refused;
 
 /// The name of a file that stands alone.
 pub const NAME: &str = "hand.xbc";

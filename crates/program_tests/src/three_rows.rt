@@ -5,15 +5,15 @@ use super::assembler::{HandCode, HandMap, Parts, assembled, plain};
 use super::stored::{
     NAME, comes_to, day_of, entry, is_refused, job, run, run_alike, stored, verdict,
 };
-use code_file::CodeFault;
 use code_rules::Rule;
-use code_verify::Refused;
 use file_access::Files;
 use file_commands::{Fault, Refusal, list_code};
 use run_commands::{How, RunRefusal, run_files};
 use run_steps::FaultKind;
 use std::alloc::{AllocError, Global};
 use std::test::Fail;
+use xcode::CodeFault;
+use xverify::Refused;
 
 /// A kind's number in the file.
 const TEXT: u8 = 2;
@@ -244,8 +244,8 @@ fn verifies_the_second_version(rt: HostRuntime) -> Result<(), Fail> {
     Ok(())
 }
 
-/// The first budget at which a machine runs a file of the second version, with byte 255 for the first work area of these maps,
-/// otherwise than the first version.
+/// The first budget at which a machine runs a file of the second version, with byte 255 for the first work area of
+/// these maps, otherwise than the first version.
 fn first_wrong_in_second(alloc: Global, areas: &[usize]) -> Result<Option<u64>, AllocError> {
     let bytes = of_version(alloc, 2, areas)?;
     let checked = first_wrong_budget(alloc, &bytes, true);

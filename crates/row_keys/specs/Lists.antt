@@ -1,5 +1,6 @@
 -- What an index lists, and what a change of the rows does to it.
-use Rattle.std.specs.Prelude.{◌≡◌, ℕ, Bool, ◌+◌, ◌<◌, ◌≤◌, List, [], ◌∷◌, ◌++◌, length, slice_index_or, slice_set, All, Contains, filter, true, false, not}
+use Rattle.std.specs.Prelude.{◌≡◌, ℕ, Bool, ◌+◌, ◌<◌, ◌≤◌, List, [], ◌∷◌, ◌++◌, length, slice_index_or, slice_set, All}
+use Rattle.std.specs.Prelude.{Contains, filter, true, false, not}
 use Rattle.dbf_file.specs.Rows.{Row, row_at, with_mark}
 use Rattle.dbf_file.specs.Tables.{StructureState, row_widths}
 use Rattle.key_lists.specs.KeyForm.{KeyForm, IsKeyText}
@@ -39,21 +40,27 @@ pub record IsIndexList (parts : List KeyPart) (rows : List Row) : Type 0 where
   pub ordered : IsAscending is_before (index_list parts rows)
   -- each row is listed, and nothing else
   pub listed : (r : ℕ) → r < length rows → Contains (index_list parts rows) (row_pair parts rows r)
-  pub only : (key : List ℕ) (n : ℕ) → Contains (index_list parts rows) (key, n) → (r : ℕ) × (r < length rows) × ((key, n) ≡ row_pair parts rows r)
+  pub only : (key : List ℕ) (n : ℕ) → Contains (index_list parts rows) (key, n) → (r : ℕ) × (r < length rows)
+      × ((key, n) ≡ row_pair parts rows r)
   pub count : length (index_list parts rows) ≡ length rows
   -- a row at the end goes in
-  pub added : (row : Row) → index_list parts (rows ++ row ∷ []) ≡ inserted is_before (key_of parts row.texts, length rows + 1) (index_list parts rows)
+  pub added : (row : Row) → index_list parts (rows ++ row ∷ [])
+      ≡ inserted is_before (key_of parts row.texts, length rows + 1) (index_list parts rows)
   -- a row that changes goes out and in again
-  pub changed : (r : ℕ) (row : Row) → r < length rows → index_list parts (slice_set rows r row) ≡ inserted is_before (key_of parts row.texts, r + 1) (without is_before (row_pair parts rows r) (index_list parts rows))
+  pub changed : (r : ℕ) (row : Row) → r < length rows
+      → index_list parts (slice_set rows r row)
+      ≡ inserted is_before (key_of parts row.texts, r + 1)
+      (without is_before (row_pair parts rows r) (index_list parts rows))
   -- while it is out, no pair has its number
-  pub out : (r : ℕ) (key : List ℕ) → r < length rows → Contains (without is_before (row_pair parts rows r) (index_list parts rows)) (key, r + 1) → ⊥
+  pub out : (r : ℕ) (key : List ℕ) → r < length rows
+      → Contains (without is_before (row_pair parts rows r) (index_list parts rows)) (key, r + 1) → ⊥
   -- a mark doesn't count
   pub marked : (r : ℕ) (mark : Bool) → index_list parts (with_mark rows r mark) ≡ index_list parts rows
 
 -- ---- indexes
 
--- what callers see of an index: its key's parts, the pairs that it lists, what its keys look like, and for how many more pairs
--- there is room
+-- what callers see of an index: its key's parts, the pairs that it lists, what its keys look like, and for how many
+-- more pairs there is room
 pub record IndexState : Type 0 where
   pub parts : List KeyPart
   pub pairs : List Pair

@@ -1,6 +1,7 @@
 //! Indexes made anew from a table's rows.
 
-ghost use Rattle.std.specs.Prelude.{◌≡◌, ℕ, ◌+◌, ◌≤◌, ◌<◌, ◌∷◌, [], ◌++◌, if◌then◌else◌, All, IfOk, OnOk, OnErr, length};
+ghost use Rattle.std.specs.Prelude.{◌≡◌, ℕ, ◌+◌, ◌≤◌, ◌<◌, ◌∷◌, [], ◌++◌, if◌then◌else◌, All, IfOk, OnOk, OnErr};
+ghost use Rattle.std.specs.Prelude.{length};
 ghost use Rattle.dbf_file.specs.Rows.{row_at, unmarked};
 ghost use Rattle.dbf_file.specs.Tables.{row_widths};
 ghost use Rattle.key_lists.specs.KeyForm.{IsKeyText, IsPairOf};
@@ -61,7 +62,8 @@ fn put_row(
     requires few { length entries.old.items < 1000000 }
     requires key { IsKey table.now.structure key.now }
     ensures pairs { OnOk result (entries.new.items ≡ entries.old.items
-        ++ (if is_kept kept (row_at table.now.rows r) then (key_of key.now (row_at table.now.rows r).texts, length entries.old.items + 1) ∷ [] else [])) }
+        ++ (if is_kept kept (row_at table.now.rows r)
+        then (key_of key.now (row_at table.now.rows r).texts, length entries.old.items + 1) ∷ [] else [])) }
     ensures keys { OnOk result (Each (IsPairOf (key_length key.now (row_widths table.now.structure))) entries.old.items
         → Each (IsPairOf (key_length key.now (row_widths table.now.structure))) entries.new.items) }
     ensures few { OnOk result (length entries.new.items ≤ length entries.old.items + 1) }
@@ -84,7 +86,8 @@ fn entries_of(
     requires few { length table.now.rows ≤ 1000000 }
     requires key { IsKey table.now.structure key.now }
     ensures pairs { IfOk result (λ entries. entries.items ≡ row_pairs key.now 1 (kept_rows kept table.now.rows)) }
-    ensures keys { IfOk result (λ entries. Each (IsPairOf (key_length key.now (row_widths table.now.structure))) entries.items) }
+    ensures keys { IfOk result (λ entries. Each
+        (IsPairOf (key_length key.now (row_widths table.now.structure))) entries.items) }
     ensures few { IfOk result (λ entries. length entries.items ≤ length table.now.rows) }
 {
     let mut entries = Vec::new(alloc);
@@ -94,8 +97,8 @@ fn entries_of(
     Ok(entries)
 }
 
-/// An index made anew of the rows that are kept, numbered in their order: it lists them. `key_text` (at most 100 bytes, none
-/// of them zero) says how the keys are made.
+/// An index made anew of the rows that are kept, numbered in their order: it lists them. `key_text` (at most 100 bytes,
+/// none of them zero) says how the keys are made.
 pub fn build_of<K: KeyList>(
     alloc: Global,
     table: &Table,
@@ -116,8 +119,8 @@ pub fn build_of<K: KeyList>(
     Ok(Index::new(key, list))
 }
 
-/// An index of a table made anew: it lists the rows. `key_text` (at most 100 bytes, none of them zero) says how the keys
-/// are made.
+/// An index of a table made anew: it lists the rows. `key_text` (at most 100 bytes, none of them zero) says how the
+/// keys are made.
 pub fn build<K: KeyList>(
     alloc: Global,
     table: &Table,
@@ -144,7 +147,8 @@ fn rebuild_all<K: KeyList>(
     requires few { length table.now.rows ≤ 1000000 }
     requires sound { All (IsIndexOf table.now.structure) indexes.now.items }
     ensures same { IfOk result (λ fresh. ChangedBy IsSameIndex indexes.now.items fresh.items) }
-    ensures exact { IfOk result (λ fresh. All (IsExact table.now.structure (kept_rows kept table.now.rows)) fresh.items) }
+    ensures exact { IfOk result (λ fresh. All
+        (IsExact table.now.structure (kept_rows kept table.now.rows)) fresh.items) }
 {
     let mut fresh = Vec::with_capacity(alloc, indexes.len())?;
     for index in indexes {

@@ -33,8 +33,8 @@ fn is_row(table: &Table, key: &KeyParts, entry: &Entry) -> bool
     is_row_key(table, key, number - 1, entry.key())
 }
 
-/// Whether a list lists just the rows of a table, by their keys: it is as long as the table, and a walk along it meets pairs
-/// of rows alone. The list stays as it is.
+/// Whether a list lists just the rows of a table, by their keys: it is as long as the table, and a walk along it meets
+/// pairs of rows alone. The list stays as it is.
 pub fn lists_rows<K: KeyList>(table: &Table, key: &KeyParts, list: &mut K) -> bool
     requires few { length table.now.rows ≤ 1000000 }
     requires key { IsKey table.now.structure key.now }

@@ -1,12 +1,14 @@
 //! Indexes, and their changes with a table's rows.
 
-ghost use Rattle.std.specs.Prelude.{◌≡◌, ℕ, ◌+◌, ◌<◌, ◌≤◌, ◌^◌, ◌∷◌, [], ◌++◌, List, All, Contains, Bool, OnOk, OnErr, length, reverse, slice_index};
+ghost use Rattle.std.specs.Prelude.{◌≡◌, ℕ, ◌+◌, ◌<◌, ◌≤◌, ◌^◌, ◌∷◌, [], ◌++◌, List, All, Contains, Bool, OnOk, OnErr};
+ghost use Rattle.std.specs.Prelude.{length, reverse, slice_index};
 ghost use Rattle.dbf_file.specs.Rows.{blank_row, with_text};
 ghost use Rattle.dbf_file.specs.Tables.{row_widths, letter_at, decimals_at};
 ghost use Rattle.dbf_file.specs.Values.{kind_for, text_by};
 ghost use Rattle.key_lists.specs.Order.{above, below, first};
 ghost use Rattle.key_lists.specs.Pairs.{is_before, pairs_from};
-ghost use Rattle.row_keys.specs.Lists.{row_pair, IsIndexOf, IsExact, ChangedBy, IsSameIndex, IsAsBefore, HasAdded, HasRemoved, HaveRoom};
+ghost use Rattle.row_keys.specs.Lists.{row_pair, IsIndexOf, IsExact, ChangedBy, IsSameIndex, IsAsBefore, HasAdded};
+ghost use Rattle.row_keys.specs.Lists.{HasRemoved, HaveRoom};
 ghost use Rattle.row_moves.specs.Orders.{MayTry, Sees};
 ghost use Rattle.row_moves.specs.Moves.{IsMove, end_of, skipped, sought};
 ghost use Rattle.xvalue.specs.Kinds.{kind_of};
@@ -32,7 +34,12 @@ impl<K: KeyList> Model for Index<K> {
 
     ghost Value = { IndexState };
 
-    ghost view = { λ x. record { parts = x.key; pairs = K.pairs x.list; form = K.form x.list; spare = K.spare x.list } };
+    ghost view = { λ x. record {
+      parts = x.key;
+      pairs = K.pairs x.list;
+      form = K.form x.list;
+      spare = K.spare x.list;
+    } };
 }
 
 impl<K: KeyList> Index<K> {

@@ -1,5 +1,7 @@
 -- Moves over rows in an order: where each leads, and how many rows it meets.
-use Rattle.std.specs.Prelude.{◌≡◌, ℕ, zero, suc, not, ◌&&◌, ◌==◌, ◌+◌, ◌≤◌, ◌<◌, ℤ, pos, negsuc, Bool, true, false, List, [], ◌∷◌, filter, Option, Some, None, Result, find, if◌then◌else◌, option_map, is_none, is_some, MatchResult}
+use Rattle.std.specs.Prelude.{◌≡◌, ℕ, zero, suc, not, ◌&&◌, ◌==◌, ◌+◌, ◌≤◌, ◌<◌, ℤ, pos, negsuc, Bool, true, false}
+use Rattle.std.specs.Prelude.{List, [], ◌∷◌, filter, Option, Some, None, Result, find, if◌then◌else◌, option_map}
+use Rattle.std.specs.Prelude.{is_none, is_some, MatchResult}
 use Rattle.key_lists.specs.Laws.{begins_with}
 use Rattle.key_lists.specs.Pairs.{Pair}
 use Rattle.row_moves.specs.declared.landed.Landed.{Landed}
@@ -43,7 +45,8 @@ abbrev pub hops : (ℕ → Bool) → Bool → ℕ → Option Pair → List Pair 
 hops shown forward zero at pairs = record { at = at; met = 0; bof = false; found = false }
 hops shown forward (suc n) at pairs =
     if forward && is_none at then record { at = None; met = 0; bof = false; found = false }
-    else hop forward at (met shown (candidates forward at pairs)) (first_shown shown (candidates forward at pairs)) (λ q. hops shown forward n (Some q) pairs)
+    else hop forward at (met shown (candidates forward at pairs)) (first_shown shown (candidates forward at pairs))
+    (λ q. hops shown forward n (Some q) pairs)
 
 -- SKIP: so many shown rows on, or back where the number is below 0
 abbrev pub skipped : (ℕ → Bool) → ℤ → Option Pair → List Pair → Landing
@@ -90,7 +93,8 @@ pub record Lands (landing : Landing) (budget : ℕ) (landed : Landed) : Type 0 w
 
 -- a move that the budget covers, or one whose cost is above it
 abbrev pub IsMove : Landing → ℕ → Result Landed Spent → Type 0
-IsMove landing budget result = MatchResult result (λ landed. Lands landing budget landed) (λ _. budget < 1 + landing.met)
+IsMove landing budget result =
+    MatchResult result (λ landed. Lands landing budget landed) (λ _. budget < 1 + landing.met)
 
 -- a search that had this cost before ends at the first shown pair, or goes over the budget
 abbrev pub IsScan : (ℕ → Bool) → List Pair → ℕ → ℕ → Result (Option Pair × ℕ) Spent → Type 0

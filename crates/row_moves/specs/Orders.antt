@@ -1,5 +1,6 @@
 -- Rows in an order, as pairs of a key and a record.
-use Rattle.std.specs.Prelude.{◌≡◌, ℕ, zero, suc, ◌+◌, Bool, true, false, Option, Some, None, List, [], ◌∷◌, Contains, reverse}
+use Rattle.std.specs.Prelude.{◌≡◌, ℕ, zero, suc, ◌+◌, Bool, true, false, Option, Some, None, List, [], ◌∷◌, Contains}
+use Rattle.std.specs.Prelude.{reverse}
 use Rattle.key_lists.specs.Order.{above, below}
 use Rattle.key_lists.specs.Pairs.{Pair, is_before}
 

@@ -19,7 +19,11 @@ impl RowOrder for Records {
     ghost use Rattle.std.specs.Prelude.{[]};
     ghost use Rattle.row_moves.specs.Orders.{record_order};
 
-    ghost list = { λ r. record { pairs = record_order r.count; spare = 0; form = record { key_length = 0; key_text = [] } } };
+    ghost list = { λ r. record {
+      pairs = record_order r.count;
+      spare = 0;
+      form = record { key_length = 0; key_text = [] };
+    } };
 
     fn row_count(&self) -> usize {
         self.count as usize

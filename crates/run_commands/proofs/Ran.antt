@@ -12,7 +12,7 @@ use Rattle.run_steps.specs.Run.{Ran}
 use Rattle.run_steps.specs.World.{World}
 use Rattle.screen_lines.specs.State.{sent}
 use Rattle.text_lines.specs.Lines.{short_lines}
-use Rattle.work_store.specs.Areas.{StoreState}
+use Rattle.work_area.specs.Areas.{StoreState}
 
 -- the opening over these lines and this day is where the job's run begins
 begins : (code : Code) (store : StoreState) (job : Job) (lines : List (List ℕ)) (today : Option DayParts) → lines ≡ short_lines job.input.now → today ≡ job.day → opening code store lines today ≡ begun code store job

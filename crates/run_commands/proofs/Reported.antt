@@ -16,7 +16,7 @@ use Rattle.run_commands.specs.Runs.{IsSoundRun}
 use Rattle.run_commands.proofs.Same.{saved_same, ended_same, ran_same, refused_same, stopped_same, rose_later}
 use Rattle.run_steps.specs.declared.ending.Outcome.{Outcome}
 use Rattle.table_files.specs.Loading.{Loaded}
-use Rattle.work_store.specs.Areas.{StoreState}
+use Rattle.work_area.specs.Areas.{StoreState}
 
 -- what was loaded and run, of the code as it was lent
 pub record IsDone (a b : Holds) (job : Job) (code seen : Code) (outcome : Outcome) (rows : List ℕ) (tables : StoreState) : Type 0 where

@@ -26,7 +26,7 @@ use Rattle.table_files.specs.Loading.{IsTableOf, IsListOf, AreListsOf, Loaded}
 use Rattle.table_files.specs.Names.{table_file, index_file}
 use Rattle.table_files.specs.Refusals.{IsFault, MayHold, LoadRefused}
 use Rattle.table_files.specs.Saving.{AreReplaced, AreSaved, EndedAt, SaveRefused}
-use Rattle.work_store.specs.Areas.{StoreState}
+use Rattle.work_area.specs.Areas.{StoreState}
 
 -- ---- files that hold the same
 

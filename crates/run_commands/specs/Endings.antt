@@ -3,7 +3,8 @@ use Rattle.std.specs.Prelude.{◌≡◌, ℕ, List, [], Option, Some, None, slic
 use Rattle.shape.specs.declared.tables.TableShape.{TableShape}
 use Rattle.shape.specs.declared.whole.Shape.{Shape}
 use Rattle.run_steps.specs.declared.ending.End.{End}
-use Rattle.run_steps.specs.declared.ending.End.TheVariants.{Finished as EndFinished, Spent as EndSpent, Full as EndFull, NoMemory as EndNoMemory, Fault as EndFault}
+use Rattle.run_steps.specs.declared.ending.End.TheVariants.{Finished as EndFinished, Spent as EndSpent, Full as EndFull}
+use Rattle.run_steps.specs.declared.ending.End.TheVariants.{NoMemory as EndNoMemory, Fault as EndFault}
 use Rattle.run_commands.specs.declared.ending.How.{How}
 use Rattle.run_commands.specs.declared.ending.How.TheVariants.{Finished, Spent, Full, NoMemory, Fault}
 

@@ -6,7 +6,8 @@ use Rattle.dbf_file.specs.declared.stamp.Stamp.{Stamp}
 use Rattle.dbf_file.specs.Values.{stamp_of}
 use Rattle.file_access.specs.Holding.{Holds}
 use Rattle.file_commands.specs.declared.refusal.Refusal.{Refusal}
-use Rattle.file_commands.specs.declared.refusal.Refusal.TheVariants.{Refused as FileRefused, Disk as FileDisk, Memory as FileMemory}
+use Rattle.file_commands.specs.declared.refusal.Refusal.TheVariants.{Refused as FileRefused, Disk as FileDisk}
+use Rattle.file_commands.specs.declared.refusal.Refusal.TheVariants.{Memory as FileMemory}
 use Rattle.run_commands.specs.declared.job.Job.{Job}
 use Rattle.run_commands.specs.declared.refusal.RunRefusal.{RunRefusal}
 use Rattle.run_commands.specs.declared.refusal.RunRefusal.TheVariants.{File, Rule, Disk, Tables, Memory}
@@ -16,7 +17,7 @@ use Rattle.table_files.specs.declared.refusal.FilesRefusal.{FilesRefusal}
 use Rattle.table_files.specs.Names.{files_of}
 use Rattle.table_files.specs.Refusals.{LoadRefused}
 use Rattle.table_files.specs.Saving.{AreSaved, EndedAt}
-use Rattle.work_store.specs.Areas.{StoreState}
+use Rattle.work_area.specs.Areas.{StoreState}
 
 -- the refusal of the code's file, without its name
 abbrev pub IsOfCode : Refusal → RunRefusal → Type 0
@@ -55,7 +56,8 @@ pub record SavedAll (before after : Holds) (job : Job) (shape : Shape) (tables :
   pub saved : AreSaved shape tables stamp (length (files_of shape)) before after
 
 -- saving them stopped
-pub record StoppedAt (before after : Holds) (broke : Type 0) (job : Job) (shape : Shape) (tables : StoreState) (refusal : FilesRefusal) : Type 0 where
+pub record StoppedAt (before after : Holds) (broke : Type 0) (job : Job) (shape : Shape) (tables : StoreState)
+    (refusal : FilesRefusal) : Type 0 where
   pub stamp : Stamp
   pub stamped : stamp_of job.day ≡ Some stamp
   pub stopped : EndedAt shape tables stamp before after broke refusal
@@ -69,4 +71,5 @@ Stopped before after broke job code rows (Tables refusal) = IsStopped before aft
 Stopped before after broke job code rows _ = ⊥
 
 abbrev pub CodeStopped : Holds → Holds → Type 0 → Job → Code → List ℕ → RunRefusal → Type 0
-CodeStopped before after broke job code rows refusal = (job.checked ≡ false) × Stopped before after broke job code rows refusal
+CodeStopped before after broke job code rows refusal =
+    (job.checked ≡ false) × Stopped before after broke job code rows refusal

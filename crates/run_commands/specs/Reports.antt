@@ -20,7 +20,7 @@ use Rattle.table_files.specs.Loading.{Loaded}
 use Rattle.table_files.specs.Names.{files_of}
 use Rattle.table_files.specs.Refusals.{LoadRefused}
 use Rattle.table_files.specs.Saving.{AreSaved, EndedAt}
-use Rattle.work_store.specs.Areas.{StoreState}
+use Rattle.work_area.specs.Areas.{StoreState}
 
 -- ---- runs that end
 
@@ -29,7 +29,8 @@ pub record IsTold (shape : Shape) (outcome : Outcome) (ended : Ended) : Type 0 w
   pub how : Tells shape outcome.end ended.how
   pub steps : ended.steps ≡ outcome.steps
 
--- a run of the code, tested at each instruction, over the tables that the files hold, that ended so and printed these rows
+-- a run of the code, tested at each instruction, over the tables that the files hold, that ended so and printed these
+-- rows
 pub record IsTested (holds : Holds) (job : Job) (code : Code) (ended : Ended) (rows : List ℕ) : Type 0 where
   pub store : StoreState
   pub loaded : Loaded holds code.declared.shape job.limit store
@@ -37,9 +38,10 @@ pub record IsTested (holds : Holds) (job : Job) (code : Code) (ended : Ended) (r
   pub run : IsRun code store job outcome rows
   pub told : IsTold code.declared.shape outcome ended
 
--- a run of the code, which is accepted, over the tables that the files hold: it met no fault, printed these rows, and left these
--- tables, to be stamped with the day of the run
-pub record IsAccepted (holds : Holds) (job : Job) (code : Code) (outcome : Outcome) (rows : List ℕ) (tables : StoreState) (stamp : Stamp) : Type 0 where
+-- a run of the code, which is accepted, over the tables that the files hold: it met no fault, printed these rows, and
+-- left these tables, to be stamped with the day of the run
+pub record IsAccepted (holds : Holds) (job : Job) (code : Code) (outcome : Outcome) (rows : List ℕ)
+    (tables : StoreState) (stamp : Stamp) : Type 0 where
   pub accepted : Accepted code
   pub store : StoreState
   pub loaded : Loaded holds code.declared.shape job.limit store
@@ -56,7 +58,8 @@ pub record IsSavedRun (before after : Holds) (job : Job) (code : Code) (ended : 
   pub saved : AreSaved code.declared.shape tables stamp (length (files_of code.declared.shape)) before after
 
 -- such a run whose saving stopped: the first declared files are new, and all others as they were
-pub record IsStopped (before after : Holds) (broke : Type 0) (job : Job) (code : Code) (refusal : FilesRefusal) (rows : List ℕ) : Type 0 where
+pub record IsStopped (before after : Holds) (broke : Type 0) (job : Job) (code : Code) (refusal : FilesRefusal)
+    (rows : List ℕ) : Type 0 where
   pub outcome : Outcome
   pub tables : StoreState
   pub stamp : Stamp
@@ -74,25 +77,30 @@ HasRun before after job ended rows = HasCode (before job.name.now) (CodeRan befo
 
 -- ---- refusals
 
--- why there is no run: the code's file has a fault; the code isn't accepted, and is to be; the device failed; what the code
--- declares isn't loaded; memory
+-- why there is no run: the code's file has a fault; the code isn't accepted, and is to be; the device failed; what the
+-- code declares isn't loaded; memory
 abbrev pub RefusedBefore : Holds → Job → Type 0 → RunRefusal → Type 0
 RefusedBefore holds job broke (File fault) = CodeFileFault (holds job.name.now) fault
-RefusedBefore holds job broke (Rule refused) = (job.checked ≡ false) × HasCode (holds job.name.now) (λ code. FirstRefusal code refused.rule refused.at)
+RefusedBefore holds job broke (Rule refused) =
+    (job.checked ≡ false) × HasCode (holds job.name.now) (λ code. FirstRefusal code refused.rule refused.at)
 RefusedBefore holds job broke Disk = broke
-RefusedBefore holds job broke (Tables refusal) = HasCode (holds job.name.now) (λ code. LoadRefused holds code.declared.shape job.limit broke refusal)
+RefusedBefore holds job broke (Tables refusal) =
+    HasCode (holds job.name.now) (λ code. LoadRefused holds code.declared.shape job.limit broke refusal)
 RefusedBefore holds job broke Memory = ⊤
 
 -- there was no run, no rows are printed, and no file changes
-pub record HasNotRun (before after : Holds) (job : Job) (broke : Type 0) (refusal : RunRefusal) (rows : List ℕ) : Type 0 where
+pub record HasNotRun (before after : Holds) (job : Job) (broke : Type 0) (refusal : RunRefusal)
+    (rows : List ℕ) : Type 0 where
   pub why : RefusedBefore before job broke refusal
   pub no_rows : rows ≡ []
   pub kept : SameFiles before after
 
 -- there was one, and its tables aren't all saved
 abbrev pub SavingStopped : Holds → Holds → Job → Type 0 → RunRefusal → List ℕ → Type 0
-SavingStopped before after job broke (Tables refusal) rows = (job.checked ≡ false) × HasCode (before job.name.now) (λ code. IsStopped before after broke job code refusal rows)
+SavingStopped before after job broke (Tables refusal) rows =
+    (job.checked ≡ false) × HasCode (before job.name.now) (λ code. IsStopped before after broke job code refusal rows)
 SavingStopped before after job broke _ rows = ⊥
 
 abbrev pub IsRefused : Holds → Holds → Job → Type 0 → RunRefusal → List ℕ → Type 0
-IsRefused before after job broke refusal rows = HasNotRun before after job broke refusal rows ⊎ SavingStopped before after job broke refusal rows
+IsRefused before after job broke refusal rows =
+    HasNotRun before after job broke refusal rows ⊎ SavingStopped before after job broke refusal rows

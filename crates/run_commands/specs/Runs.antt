@@ -9,7 +9,7 @@ use Rattle.run_steps.specs.Shapes.{StoreFits}
 use Rattle.run_steps.specs.World.{World}
 use Rattle.screen_lines.specs.State.{sent}
 use Rattle.text_lines.specs.Lines.{short_lines}
-use Rattle.work_store.specs.Areas.{StoreState}
+use Rattle.work_area.specs.Areas.{StoreState}
 
 -- the world from which a job's run of the code begins, over these tables
 abbrev pub begun : Code → StoreState → Job → World
@@ -22,7 +22,8 @@ pub record IsRun (code : Code) (store : StoreState) (job : Job) (outcome : Outco
   pub rows_are : rows ≡ sent last.env.screen
 
 -- the same, without a fault; the tables of its last world are these, and hold what the code declares
-pub record IsSoundRun (code : Code) (store : StoreState) (job : Job) (outcome : Outcome) (rows : List ℕ) (tables : StoreState) : Type 0 where
+pub record IsSoundRun (code : Code) (store : StoreState) (job : Job) (outcome : Outcome) (rows : List ℕ)
+    (tables : StoreState) : Type 0 where
   pub run : IsRun code store job outcome rows
   pub no_fault : ¬ IsFault outcome.end
   pub tables_are : tables ≡ run.last.env.store

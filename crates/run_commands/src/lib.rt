@@ -1,6 +1,8 @@
-//! What `run` and `check-run` do with files: a code is read, its tables are loaded, it is run, and the tables are saved.
+//! What `run` and `check-run` do with files: a code is read, its tables are loaded, it is run, and the tables are
+//! saved.
 //!
-//! Files are reached through the trait `Files`, so that the same functions serve a folder of the disk and files in memory.
+//! Files are reached through the trait `Files`, so that the same functions serve a folder of the disk and files in
+//! memory.
 #![tactic(auto)]
 
 mod ending;

@@ -9,14 +9,14 @@ ghost use Rattle.text_lines.specs.Lines.{short_lines};
 
 use crate::job::Job;
 use code_items::Code;
-use code_verify::Verified;
 use machine::{Banks, run};
 use ndx_tree::NdxTree;
-use run_checked::{World, run_checked};
 use run_steps::Outcome;
 use std::alloc::{AllocError, Global};
+use tagged_machine::{World, run_checked};
 use text_lines::TypedLines;
-use work_store::Store;
+use work_area::Store;
+use xverify::Verified;
 
 /// A run that came to its end: what is printed, and how it ended.
 #[derive(Drop)]
@@ -64,7 +64,8 @@ pub(crate) fn run_accepted(
     job: &Job<'_>,
 ) -> Result<AcceptedRun, AllocError>
     requires fits { StoreFits verified.now.declared store }
-    ensures { IfOk result (λ done. IsSoundRun verified.now store job.now done.run.outcome done.run.rows.items done.banks.env.store) }
+    ensures { IfOk result (λ done. IsSoundRun verified.now store job.now done.run.outcome done.run.rows.items
+        done.banks.env.store) }
 {
     let lines = typed(alloc, job.input)?;
     let mut banks = Banks::opening(alloc, verified, store, job.day.day(), lines)?;

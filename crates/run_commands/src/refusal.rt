@@ -3,11 +3,11 @@
 
 ghost use Rattle.std.specs.Prelude.{◌≡◌};
 
-use code_verify::Refused;
 use file_commands::{Fault, Status};
 use std::alloc::AllocError;
 use std::fmt;
 use table_files::FilesRefusal;
+use xverify::Refused;
 
 /// Why a run isn't carried out, or not all of its tables are saved. The code's file is the one that was asked for.
 #[derive(Clone, Copy, PartialEq, Eq, Debug)]

@@ -5,8 +5,10 @@ ghost use Rattle.std.specs.Prelude.{◌≡◌, ◌≤◌, ◌<◌, ◌-◌, ◌^
 ghost use Rattle.code_items.specs.Legal.{IsCode};
 ghost use Rattle.code_rules.specs.Rules.{Accepted};
 ghost use Rattle.file_access.specs.Holding.{Rose, SameFiles};
-ghost use Rattle.run_commands.specs.Parts.{IsOfCode, IsOfRule, IsOfTables, SavedAll, SavedSome, Stopped, CodeStopped, CodeRefused};
-ghost use Rattle.run_commands.specs.Reports.{HasRun, CodeRan, IsRefused, IsTested, IsTold, IsSavedRun, RefusedBefore, SavingStopped};
+ghost use Rattle.run_commands.specs.Parts.{IsOfCode, IsOfRule, IsOfTables, SavedAll, SavedSome, Stopped, CodeStopped};
+ghost use Rattle.run_commands.specs.Parts.{CodeRefused};
+ghost use Rattle.run_commands.specs.Reports.{HasRun, CodeRan, IsRefused, IsTested, IsTold, IsSavedRun, RefusedBefore};
+ghost use Rattle.run_commands.specs.Reports.{SavingStopped};
 ghost use Rattle.shape.specs.Whole.{is_shape};
 
 use crate::ending::{Ended, ended_of};
@@ -15,16 +17,16 @@ use crate::machines::{AcceptedRun, run_accepted, run_any};
 use crate::refusal::RunRefusal;
 use code_items::Code;
 use code_items::laws::legal_codes;
-use code_verify::{Verified, VerifyError, verify};
 use file_access::Files;
 use file_commands::{Refusal, read_code};
 use run_laws::laws::new_stores_fit;
 use shape::Shape;
 use std::alloc::Global;
 use table_files::{load, save};
+use xverify::{Verified, VerifyError, verify};
 
-/// What a run reports: the bytes for printing, none where there was no run, and how it ended or why it didn't, or why its
-/// tables aren't all saved.
+/// What a run reports: the bytes for printing, none where there was no run, and how it ended or why it didn't, or why
+/// its tables aren't all saved.
 #[derive(Drop)]
 pub struct Report {
     pub rows: Vec<u8>,
@@ -64,9 +66,11 @@ fn test_run<F: Files>(
     job: &Job<'_>,
 ) -> Result<Report, RunRefusal>
     requires legal { IsCode code.now }
-    ensures done { IfOk result (λ report. IfOk report.result (λ ended. IsTested (F.holds files.old) job.now code.now ended report.rows.items)) }
+    ensures done { IfOk result (λ report. IfOk report.result
+        (λ ended. IsTested (F.holds files.old) job.now code.now ended report.rows.items)) }
     ensures whole { IfOk result (λ report. IsOk report.result) }
-    ensures refused { IfErr result (IsOfTables (F.holds files.old) job.now code.now (Rose (F.failed files.old) (F.failed files.new))) }
+    ensures refused { IfErr result (IsOfTables (F.holds files.old) job.now code.now
+        (Rose (F.failed files.old) (F.failed files.new))) }
     ensures kept { SameFiles (F.holds files.old) (F.holds files.new) }
     ensures counted { F.failed files.old ≤ F.failed files.new }
 {
@@ -93,8 +97,11 @@ fn save_run<F: Files>(
     requires count { length done.banks.env.store.tables ≡ length shape.now.tables }
     ensures rows { result.rows.items ≡ done.run.rows.items }
     ensures told { IfOk result.result (IsTold shape.now done.run.outcome) }
-    ensures saved { IfOk result.result (λ _. SavedAll (F.holds files.old) (F.holds files.new) job.now shape.now done.banks.env.store) }
-    ensures stopped { IfErr result.result (SavedSome (F.holds files.old) (F.holds files.new) (Rose (F.failed files.old) (F.failed files.new)) job.now shape.now done.banks.env.store) }
+    ensures saved { IfOk result.result
+        (λ _. SavedAll (F.holds files.old) (F.holds files.new) job.now shape.now done.banks.env.store) }
+    ensures stopped { IfErr result.result
+        (SavedSome (F.holds files.old) (F.holds files.new)
+        (Rose (F.failed files.old) (F.failed files.new)) job.now shape.now done.banks.env.store) }
     ensures counted { F.failed files.old ≤ F.failed files.new }
 {
     let ended = ended_of(done.run.outcome, shape);
@@ -116,9 +123,13 @@ fn full_run<F: Files>(
     verified: &Verified,
     job: &Job<'_>,
 ) -> Result<Report, RunRefusal>
-    ensures done { IfOk result (λ report. IfOk report.result (λ ended. IsSavedRun (F.holds files.old) (F.holds files.new) job.now verified.now ended report.rows.items)) }
-    ensures stopped { IfOk result (λ report. IfErr report.result (Stopped (F.holds files.old) (F.holds files.new) (Rose (F.failed files.old) (F.failed files.new)) job.now verified.now report.rows.items)) }
-    ensures refused { IfErr result (IsOfTables (F.holds files.old) job.now verified.now (Rose (F.failed files.old) (F.failed files.new))) }
+    ensures done { IfOk result (λ report. IfOk report.result
+        (λ ended. IsSavedRun (F.holds files.old) (F.holds files.new) job.now verified.now ended report.rows.items)) }
+    ensures stopped { IfOk result (λ report. IfErr report.result
+        (Stopped (F.holds files.old) (F.holds files.new)
+        (Rose (F.failed files.old) (F.failed files.new)) job.now verified.now report.rows.items)) }
+    ensures refused { IfErr result (IsOfTables (F.holds files.old) job.now verified.now
+        (Rose (F.failed files.old) (F.failed files.new))) }
     ensures kept { OnErr result (SameFiles (F.holds files.old) (F.holds files.new)) }
     ensures counted { F.failed files.old ≤ F.failed files.new }
 {
@@ -138,9 +149,13 @@ fn run_code<F: Files>(
     job: &Job<'_>,
 ) -> Result<Report, RunRefusal>
     requires legal { IsCode code }
-    ensures done { IfOk result (λ report. IfOk report.result (λ ended. CodeRan (F.holds files.old) (F.holds files.new) job.now ended report.rows.items code)) }
-    ensures stopped { IfOk result (λ report. IfErr report.result (CodeStopped (F.holds files.old) (F.holds files.new) (Rose (F.failed files.old) (F.failed files.new)) job.now code report.rows.items)) }
-    ensures refused { IfErr result (CodeRefused (F.holds files.old) job.now code (Rose (F.failed files.old) (F.failed files.new))) }
+    ensures done { IfOk result (λ report. IfOk report.result
+        (λ ended. CodeRan (F.holds files.old) (F.holds files.new) job.now ended report.rows.items code)) }
+    ensures stopped { IfOk result (λ report. IfErr report.result
+        (CodeStopped (F.holds files.old) (F.holds files.new)
+        (Rose (F.failed files.old) (F.failed files.new)) job.now code report.rows.items)) }
+    ensures refused { IfErr result (CodeRefused (F.holds files.old) job.now code
+        (Rose (F.failed files.old) (F.failed files.new))) }
     ensures kept { OnErr result (SameFiles (F.holds files.old) (F.holds files.new)) }
     ensures counted { F.failed files.old ≤ F.failed files.new }
 {
@@ -152,9 +167,13 @@ fn run_code<F: Files>(
 }
 
 fn report_of<F: Files>(alloc: Global, files: &mut F, job: &Job<'_>) -> Result<Report, RunRefusal>
-    ensures done { IfOk result (λ report. IfOk report.result (λ ended. HasRun (F.holds files.old) (F.holds files.new) job.now ended report.rows.items)) }
-    ensures stopped { IfOk result (λ report. IfErr report.result (λ refusal. SavingStopped (F.holds files.old) (F.holds files.new) job.now (Rose (F.failed files.old) (F.failed files.new)) refusal report.rows.items)) }
-    ensures refused { IfErr result (RefusedBefore (F.holds files.old) job.now (Rose (F.failed files.old) (F.failed files.new))) }
+    ensures done { IfOk result (λ report. IfOk report.result
+        (λ ended. HasRun (F.holds files.old) (F.holds files.new) job.now ended report.rows.items)) }
+    ensures stopped { IfOk result (λ report. IfErr report.result
+        (λ refusal. SavingStopped (F.holds files.old) (F.holds files.new) job.now
+        (Rose (F.failed files.old) (F.failed files.new)) refusal report.rows.items)) }
+    ensures refused { IfErr result (RefusedBefore (F.holds files.old) job.now
+        (Rose (F.failed files.old) (F.failed files.new))) }
     ensures kept { OnErr result (SameFiles (F.holds files.old) (F.holds files.new)) }
 {
     match read_code(alloc, files, job.name) {
@@ -163,12 +182,16 @@ fn report_of<F: Files>(alloc: Global, files: &mut F, job: &Job<'_>) -> Result<Re
     }
 }
 
-/// Runs the code in a file over the tables and indexes that it declares: on the checking machine if the job is to be tested, the code
-/// accepted or not, and then no file changes; else, if the code is accepted, on the machine without tags, and then the tables are
-/// saved at each of the run's ends. The rows are what the run sends, also where not all is saved.
+/// Runs the code in a file over the tables and indexes that it declares: on the checking machine if the job is to be
+/// tested, the code accepted or not, and then no file changes; else, if the code is accepted, on the machine without
+/// tags, and then the tables are saved at each of the run's ends. The rows are what the run sends, also where not all
+/// is saved.
 pub fn run_files<F: Files>(alloc: Global, files: &mut F, job: &Job<'_>) -> Report
-    ensures run { IfOk result.result (λ ended. HasRun (F.holds files.old) (F.holds files.new) job.now ended result.rows.items) }
-    ensures refused { IfErr result.result (λ refusal. IsRefused (F.holds files.old) (F.holds files.new) job.now (Rose (F.failed files.old) (F.failed files.new)) refusal result.rows.items) }
+    ensures run { IfOk result.result (λ ended. HasRun (F.holds files.old)
+        (F.holds files.new) job.now ended result.rows.items) }
+    ensures refused { IfErr result.result
+        (λ refusal. IsRefused (F.holds files.old) (F.holds files.new) job.now
+        (Rose (F.failed files.old) (F.failed files.new)) refusal result.rows.items) }
 {
     match report_of(alloc, files, job) {
         Ok(report) => report,

@@ -9,11 +9,11 @@ use Rattle.dbf_file.specs.Rows.{Row}
 use Rattle.dbf_file.specs.Tables.{StructureState}
 use Rattle.row_moves.specs.Moves.{Landing}
 use Rattle.shape.specs.declared.lists.IndexList.{IndexList}
-use Rattle.work_area.specs.Open.{OpenState, landed, reordered, first_order, with_blank, replaced_here, remarked_here, opened as opened_with}
-use Rattle.work_store.specs.declared.uses.Use.{Use}
-use Rattle.work_store.specs.Areas.{StoreState, selected_use, here, with_here, with_used, with_use, changed_found, change_here}
-use Rattle.work_store.specs.Calls.{packed_in, zapped_in, reindexed_in, pack_of, packed_rows, all_rows, zap_landing, reindex_of, index_on_of, used_here, with_list, with_filter}
-use Rattle.work_store.specs.Shapes.{IsSameKind, KindsStay}
+use Rattle.open_table.specs.Open.{OpenState, landed, reordered, first_order, with_blank, replaced_here, remarked_here, opened as opened_with}
+use Rattle.work_area.specs.declared.uses.Use.{Use}
+use Rattle.work_area.specs.Areas.{StoreState, selected_use, here, with_here, with_used, with_use, changed_found, change_here}
+use Rattle.work_area.specs.Calls.{packed_in, zapped_in, reindexed_in, pack_of, packed_rows, all_rows, zap_landing, reindex_of, index_on_of, used_here, with_list, with_filter}
+use Rattle.work_area.specs.Shapes.{IsSameKind, KindsStay}
 use Rattle.code_items.specs.declared.code.Code.{Code}
 use Rattle.code_items.specs.declared.declared.Declared.{Declared}
 use Rattle.code_items.specs.declared.instr.Instr.{Instr}

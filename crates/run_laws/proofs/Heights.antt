@@ -8,8 +8,8 @@ use Rattle.xvalue.specs.declared.value.Value.{Value}
 use Rattle.xvalue.specs.Answers.{answered}
 use Rattle.xvalue.specs.Signature.{takes_of}
 use Rattle.text_lines.specs.Lines.{next_line}
-use Rattle.work_area.specs.Open.{OpenState, field_of}
-use Rattle.work_store.specs.Areas.{area_table, here}
+use Rattle.open_table.specs.Open.{OpenState, field_of}
+use Rattle.work_area.specs.Areas.{area_table, here}
 use Rattle.code_items.specs.declared.code.Code.{Code}
 use Rattle.code_items.specs.declared.instr.Instr.{Instr}
 use Rattle.code_items.specs.declared.instr.Instr.TheVariants.{Values, Flow, Screen, Areas, Moves, Records}

@@ -6,10 +6,10 @@ use Rattle.std.proofs.lemmas.Bool.{leb-true, ltb-true, ltb-false, eqb-true, ne_e
 use Rattle.shape.specs.declared.indexes.IndexShape.{IndexShape}
 use Rattle.shape.specs.declared.lists.IndexList.{IndexList}
 use Rattle.shape.specs.Lists.{has_table as has_index_table, is_index_of, list_table, first_table, numbers_differ, are_of_table, is_list}
-use Rattle.work_area.specs.Open.{OpenState}
-use Rattle.work_rows.specs.Marks.{mark_at}
-use Rattle.work_store.specs.declared.uses.Use.{Use}
-use Rattle.work_store.specs.Areas.{StoreState, table_at, here, holds}
+use Rattle.open_table.specs.Open.{OpenState}
+use Rattle.open_table.specs.Marks.{mark_at}
+use Rattle.work_area.specs.declared.uses.Use.{Use}
+use Rattle.work_area.specs.Areas.{StoreState, table_at, here, holds}
 use Rattle.code_items.specs.declared.code.Code.{Code}
 use Rattle.code_items.specs.declared.declared.Declared.{Declared}
 use Rattle.code_items.specs.declared.instr.Instr.TheVariants.{Areas}

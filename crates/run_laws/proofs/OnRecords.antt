@@ -10,10 +10,10 @@ use Rattle.dbf_file.specs.declared.field.Letter.TheVariants.{C}
 use Rattle.dbf_file.specs.Tables.{letter_at}
 use Rattle.dbf_file.specs.Values.{kind_for}
 use Rattle.shape.specs.declared.tables.TableShape.{TableShape}
-use Rattle.work_rows.specs.Marks.{mark_at}
-use Rattle.work_area.specs.Open.{OpenState}
-use Rattle.work_store.specs.Making.{AreAlike}
-use Rattle.work_store.specs.Areas.{StoreState, area_table, here}
+use Rattle.open_table.specs.Marks.{mark_at}
+use Rattle.open_table.specs.Open.{OpenState}
+use Rattle.work_area.specs.Making.{AreAlike}
+use Rattle.work_area.specs.Areas.{StoreState, area_table, here}
 use Rattle.code_items.specs.declared.code.Code.{Code}
 use Rattle.code_items.specs.declared.declared.Declared.{Declared}
 use Rattle.code_items.specs.declared.instr.Instr.TheVariants.{Records}

@@ -9,12 +9,12 @@ use Rattle.calendar.specs.declared.day.DayParts.{DayParts}
 use Rattle.xvalue.specs.declared.value.Value.{Value}
 use Rattle.shape.specs.declared.indexes.IndexShape.{IndexShape}
 use Rattle.shape.specs.declared.tables.TableShape.{TableShape}
-use Rattle.work_area.specs.Open.{OpenState}
-use Rattle.work_rows.specs.Marks.{mark_at}
-use Rattle.work_store.specs.declared.uses.Use.{Use}
-use Rattle.work_store.specs.Areas.{StoreState, AreApart, closed_all, used_table, table_at}
-use Rattle.work_store.specs.Making.{AreAlike}
-use Rattle.work_store.specs.Shapes.{HasShape as StoreHasShape, ShapesStay}
+use Rattle.open_table.specs.Open.{OpenState}
+use Rattle.open_table.specs.Marks.{mark_at}
+use Rattle.work_area.specs.declared.uses.Use.{Use}
+use Rattle.work_area.specs.Areas.{StoreState, AreApart, closed_all, used_table, table_at}
+use Rattle.work_area.specs.Making.{AreAlike}
+use Rattle.work_area.specs.Shapes.{HasShape as StoreHasShape, ShapesStay}
 use Rattle.code_items.specs.declared.declared.Declared.{Declared}
 use Rattle.code_items.specs.declared.code.Code.{Code}
 use Rattle.code_items.specs.declared.code.Proc.{Proc}

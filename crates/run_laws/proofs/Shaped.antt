@@ -7,11 +7,11 @@ use Rattle.std.proofs.lemmas.List.{length-map}
 use Rattle.std.proofs.lemmas.Option.{slice_get_within}
 use Rattle.shape.specs.declared.indexes.IndexShape.{IndexShape}
 use Rattle.shape.specs.declared.tables.TableShape.{TableShape}
-use Rattle.work_area.specs.Open.{OpenState}
-use Rattle.work_rows.specs.Marks.{mark_at}
-use Rattle.work_store.specs.declared.uses.Use.{Use}
-use Rattle.work_store.specs.Areas.{StoreState, AreApart, use_at, used_table, table_at}
-use Rattle.work_store.specs.Making.{AreAlike}
+use Rattle.open_table.specs.Open.{OpenState}
+use Rattle.open_table.specs.Marks.{mark_at}
+use Rattle.work_area.specs.declared.uses.Use.{Use}
+use Rattle.work_area.specs.Areas.{StoreState, AreApart, use_at, used_table, table_at}
+use Rattle.work_area.specs.Making.{AreAlike}
 use Rattle.code_items.specs.declared.declared.Declared.{Declared}
 use Rattle.code_items.specs.declared.state.State.{State}
 use Rattle.code_items.specs.States.{is_open, is_area_state, is_desk, is_state}

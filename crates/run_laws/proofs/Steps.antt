@@ -4,7 +4,7 @@ use Rattle.std.specs.Prelude.{map}
 use Rattle.std.proofs.lemmas.Bool.{ltb-false}
 use Rattle.std.proofs.lemmas.List.{length-map}
 use Rattle.xvalue.specs.Kinds.{kind_of}
-use Rattle.work_store.specs.Areas.{AreApart}
+use Rattle.work_area.specs.Areas.{AreApart}
 use Rattle.code_items.specs.declared.code.Code.{Code}
 use Rattle.code_items.specs.declared.instr.Instr.{Instr}
 use Rattle.code_items.specs.Facts.{Facts}

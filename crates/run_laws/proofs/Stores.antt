@@ -8,13 +8,13 @@ use Rattle.std.proofs.lemmas.Option.{slice_get_within}
 use Rattle.dbf_file.specs.Tables.{StructureState}
 use Rattle.shape.specs.declared.indexes.IndexShape.{IndexShape}
 use Rattle.shape.specs.declared.tables.TableShape.{TableShape}
-use Rattle.work_area.specs.Open.{OpenState, closed}
-use Rattle.work_rows.specs.Marks.{IndexMark, mark_at}
-use Rattle.work_store.specs.declared.uses.Use.{Use}
-use Rattle.work_store.specs.Areas.{StoreState, AreApart, selected_use, used_table, here, holds, is_elsewhere, with_table, with_use, with_used, with_selected, changed_found, closed_here, closed_all}
-use Rattle.work_store.specs.Calls.{used_here}
-use Rattle.work_store.specs.Making.{AreAlike}
-use Rattle.work_store.specs.Shapes.{still, IsSameKind, KindsStay}
+use Rattle.open_table.specs.Open.{OpenState, closed}
+use Rattle.open_table.specs.Marks.{IndexMark, mark_at}
+use Rattle.work_area.specs.declared.uses.Use.{Use}
+use Rattle.work_area.specs.Areas.{StoreState, AreApart, selected_use, used_table, here, holds, is_elsewhere, with_table, with_use, with_used, with_selected, changed_found, closed_here, closed_all}
+use Rattle.work_area.specs.Calls.{used_here}
+use Rattle.work_area.specs.Making.{AreAlike}
+use Rattle.work_area.specs.Shapes.{still, IsSameKind, KindsStay}
 use Rattle.code_items.specs.declared.declared.Declared.{Declared}
 use Rattle.code_items.specs.States.{is_list_of, is_filter_of, opened, is_open}
 use Rattle.run_steps.specs.World.{order_of}

@@ -1,4 +1,5 @@
-//! What the tests of an instruction say, what a step keeps, and how a run begins. The functions do nothing: their contracts are the laws.
+//! What the tests of an instruction say, what a step keeps, and how a run begins. The functions do nothing: their
+//! contracts are the laws.
 
 ghost use Rattle.std.specs.Prelude.{◌≡◌, ℕ, true, false, List, Option, None, replicate};
 ghost use Rattle.code_items.specs.declared.code.Code.{Code as AnyCode};
@@ -14,12 +15,12 @@ ghost use Rattle.run_steps.specs.Opening.{opening};
 ghost use Rattle.run_steps.specs.Safe.{IsSafeHere};
 ghost use Rattle.run_steps.specs.Shapes.{HasShape, StoreFits};
 ghost use Rattle.run_steps.specs.World.{World};
-ghost use Rattle.work_store.specs.Areas.{AreApart, StoreState};
-ghost use Rattle.work_store.specs.Shapes.{HasShape as StoreHasShape};
+ghost use Rattle.work_area.specs.Areas.{AreApart, StoreState};
+ghost use Rattle.work_area.specs.Shapes.{HasShape as StoreHasShape};
 ghost use Rattle.calendar.specs.declared.day.DayParts.{DayParts};
 
 use code_items::laws::legal_codes;
-use work_store::laws::{stores_keep_their_shape, tables_keep_their_kind};
+use work_area::laws::{stores_keep_their_shape, tables_keep_their_kind};
 use xvalue::laws::same_kinds_are_equal;
 
 /// An instruction has no fault where each of its tests comes out well, and nowhere else.
@@ -30,15 +31,18 @@ pub fn faultless_instructions_are_clear()
 
 /// In a world of a code's shape an instruction of the code whose tests come out well has all that it needs.
 pub fn clear_instructions_are_ready()
-    ensures { (code : AnyCode) (w : World) (i : AnyInstr) → IsCode code → HasShape code w → is_instr code.declared.version i ≡ true → IsClear code w i → IsReadyFor code w i }
+    ensures { (code : AnyCode) (w : World) (i : AnyInstr) → IsCode code → HasShape code w
+        → is_instr code.declared.version i ≡ true → IsClear code w i → IsReadyFor code w i }
 {
     legal_codes();
     same_kinds_are_equal();
 }
 
-/// So a world of a code's shape whose next instruction has no fault is one from which that instruction can be carried out.
+/// So a world of a code's shape whose next instruction has no fault is one from which that instruction can be carried
+/// out.
 pub fn faultless_worlds_go_on()
-    ensures { (code : AnyCode) (w : World) → IsCode code → HasShape code w → fault_of code w (instr_at code w.place) ≡ None → IsSafeHere code w }
+    ensures { (code : AnyCode) (w : World) → IsCode code → HasShape code w
+        → fault_of code w (instr_at code w.place) ≡ None → IsSafeHere code w }
 {
     legal_codes();
     faultless_instructions_are_clear();
@@ -47,7 +51,8 @@ pub fn faultless_worlds_go_on()
 
 /// A step that goes on keeps the code's shape where no two work areas hold one table, and leaves no two that do.
 pub fn steps_keep_the_shape()
-    ensures { (code : AnyCode) (w : World) (i : AnyInstr) → IsCode code → HasShape code w → AreApart w.env.store.areas → is_instr code.declared.version i ≡ true → IsClear code w i → finishes w i ≡ false
+    ensures { (code : AnyCode) (w : World) (i : AnyInstr) → IsCode code → HasShape code w → AreApart w.env.store.areas
+        → is_instr code.declared.version i ≡ true → IsClear code w i → finishes w i ≡ false
         → HasShape code (effect code w i) × AreApart (effect code w i).env.store.areas }
 {
     legal_codes();
@@ -55,20 +60,22 @@ pub fn steps_keep_the_shape()
     tables_keep_their_kind();
 }
 
-/// The world from which a run begins has the code's shape where the store fits what is declared, and no two work areas hold one
-/// table there.
+/// The world from which a run begins has the code's shape where the store fits what is declared, and no two work areas
+/// hold one table there.
 pub fn openings_have_the_shape()
-    ensures { (code : AnyCode) (store : StoreState) (lines : List (List ℕ)) (today : Option DayParts) → IsCode code → StoreFits code.declared store
+    ensures { (code : AnyCode) (store : StoreState) (lines : List (List ℕ)) (today : Option DayParts) → IsCode code
+        → StoreFits code.declared store
         → HasShape code (opening code store lines today) × AreApart (opening code store lines today).env.store.areas }
 {
     legal_codes();
     tables_keep_their_kind();
 }
 
-/// A store with the tables and indexes of a code's shape, as one that was made for it has, fits what is declared while all its work
-/// areas are closed.
+/// A store with the tables and indexes of a code's shape, as one that was made for it has, fits what is declared while
+/// all its work areas are closed.
 pub fn new_stores_fit()
-    ensures { (d : AnyDeclared) (store : StoreState) → StoreHasShape d.shape store → store.areas ≡ replicate 10 None → StoreFits d store }
+    ensures { (d : AnyDeclared) (store : StoreState) → StoreHasShape d.shape store → store.areas ≡ replicate 10 None
+        → StoreFits d store }
 {
     stores_keep_their_shape();
 }

@@ -5,7 +5,7 @@ ghost use Rattle.screen_lines.specs.State.{new_line, printed, said, said_on, cle
 ghost use Rattle.text_lines.specs.Lines.{next_line, lines_behind};
 ghost use Rattle.xvalue.specs.Setting.{with_setting};
 ghost use Rattle.xvalue.specs.Shown.{shown};
-ghost use Rattle.work_store.specs.Areas.{here, selected_use};
+ghost use Rattle.work_area.specs.Areas.{here, selected_use};
 ghost use Rattle.run_steps.specs.Effects.{filter_here};
 ghost use Rattle.run_steps.specs.World.{with_store, with_screen, with_lines, with_settings};
 
@@ -16,7 +16,7 @@ use screen_lines::Screen;
 use std::alloc::AllocError;
 use std::marker::Model;
 use text_lines::TypedLines;
-use work_store::Store;
+use work_area::Store;
 use xvalue::{Setting, Settings, Text, Value};
 
 /// The tables and work areas, the screen, the operator's lines that are left, the settings, and the day of the run.
@@ -30,13 +30,19 @@ pub struct Environment<K: KeyList> {
 }
 
 impl<K: KeyList> Model for Environment<K> {
-    ghost use Rattle.work_store.specs.Areas.{here, selected_use};
+    ghost use Rattle.work_area.specs.Areas.{here, selected_use};
     ghost use Rattle.run_steps.specs.Effects.{filter_here};
     ghost use Rattle.run_steps.specs.World.{EnvState};
 
     ghost Value = { EnvState };
 
-    ghost view = { λ e. record { store = e.store; screen = e.screen; lines = e.lines; settings = e.settings; today = e.today } };
+    ghost view = { λ e. record {
+      store = e.store;
+      screen = e.screen;
+      lines = e.lines;
+      settings = e.settings;
+      today = e.today;
+    } };
 }
 
 impl<K: KeyList> Environment<K> {
@@ -48,7 +54,13 @@ impl<K: KeyList> Environment<K> {
         settings: Settings,
         today: Day,
     ) -> Self
-        ensures { result ≡ record { store = store; screen = screen; lines = lines; settings = settings; today = today } }
+        ensures { result ≡ record {
+          store = store;
+          screen = screen;
+          lines = lines;
+          settings = settings;
+          today = today;
+        } }
     {
         Environment {
             store,
@@ -135,7 +147,8 @@ impl<K: KeyList> Environment<K> {
 
     /// Shows a value at the cursor. Where memory is refused nothing changes.
     pub(crate) fn print(&mut self, value: &Value) -> Result<(), AllocError>
-        ensures ok { OnOk result (self.new ≡ with_screen (printed (shown self.old.settings value.now) self.old.screen) self.old) }
+        ensures ok { OnOk result (self.new
+            ≡ with_screen (printed (shown self.old.settings value.now) self.old.screen) self.old) }
         ensures err { OnErr result (self.new ≡ self.old) }
     {
         self.screen.try_print(&value.shown(self.settings))
@@ -143,7 +156,8 @@ impl<K: KeyList> Environment<K> {
 
     /// Shows a value from this row and column on.
     pub(crate) fn say(&mut self, row: i128, column: i128, value: &Value)
-        ensures { self.new ≡ with_screen (said row column (shown self.old.settings value.now) self.old.screen) self.old }
+        ensures { self.new ≡ with_screen (said row column
+            (shown self.old.settings value.now) self.old.screen) self.old }
     {
         self.screen.say(row, column, &value.shown(self.settings));
     }

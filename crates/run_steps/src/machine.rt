@@ -5,7 +5,8 @@ ghost use Rattle.code_items.specs.Legal.{IsCode};
 ghost use Rattle.code_items.specs.declared.code.Code.{Code as AnyCode};
 ghost use Rattle.code_items.specs.declared.instr.Instr.TheVariants.{Flow as OfFlow};
 ghost use Rattle.run_values.specs.Tagged.{TaggedValues};
-ghost use Rattle.run_steps.specs.Control.{entry_place as entry_place_of, flow_place as flow_place_of, place_after as place_after_of, returns_after};
+ghost use Rattle.run_steps.specs.Control.{entry_place as entry_place_of, flow_place as flow_place_of};
+ghost use Rattle.run_steps.specs.Control.{place_after as place_after_of, returns_after};
 ghost use Rattle.run_steps.specs.Executed.{Executed, Stepped};
 ghost use Rattle.run_steps.specs.Needs.{FlowNeeds, JumpNeeds, Needs, CallFits, IsReadyFor};
 ghost use Rattle.run_steps.specs.Opening.{no_values, opening};
@@ -31,7 +32,7 @@ use run_values::Values;
 use screen_lines::Screen;
 use std::alloc::{AllocError, Global};
 use text_lines::TypedLines;
-use work_store::Store;
+use work_area::Store;
 use xvalue::{Kind, Settings};
 
 /// What a run changes: the place of the next instruction, return places, slots and stack, and the rest.
@@ -44,8 +45,8 @@ pub struct Machine<V, K: KeyList> {
 }
 
 impl<V: Values, K: KeyList> Machine<V, K> {
-    /// The machine at the beginning of a run: at place 0, with these slots and stack, these tables with all areas closed, these
-    /// lines of the operator, a blank screen and all settings off, on this day.
+    /// The machine at the beginning of a run: at place 0, with these slots and stack, these tables with all areas
+    /// closed, these lines of the operator, a blank screen and all settings off, on this day.
     pub fn opening(
         alloc: Global,
         values: V,
@@ -54,7 +55,8 @@ impl<V: Values, K: KeyList> Machine<V, K> {
         today: Day,
     ) -> Result<Self, AllocError>
         ensures { (code : AnyCode) → V.stands values (no_values code)
-            → IfOk result (λ machine. Stands (V.stands machine.values) machine.place machine.returns machine.env (opening code store lines today)) }
+            → IfOk result (λ machine. Stands (V.stands machine.values) machine.place machine.returns machine.env
+            (opening code store lines today)) }
     {
         let mut store = store;
         store.close_all();
@@ -66,7 +68,8 @@ impl<V: Values, K: KeyList> Machine<V, K> {
         })
     }
 
-    /// The bytes for printing, if the run ends here: the rows sent so far and those that are seen. The machine stays as it is.
+    /// The bytes for printing, if the run ends here: the rows sent so far and those that are seen. The machine stays as
+    /// it is.
     pub fn finish(&self, alloc: Global) -> Result<Vec<u8>, AllocError>
         ensures { IfOk result (λ bytes. bytes.items ≡ sent self.now.env.screen) }
     {
@@ -109,7 +112,8 @@ fn flow_place<V: Values>(
     requires legal { IsCode code.now }
     requires place { place < 65536 }
     requires needs { (t : TaggedValues) × (V.stands values.now t × FlowNeeds instr t) }
-    ensures { (t : TaggedValues) → V.stands values.now t → FlowNeeds instr t → result ≡ flow_place_of code.now instr place returns.now t }
+    ensures { (t : TaggedValues) → V.stands values.now t → FlowNeeds instr t
+        → result ≡ flow_place_of code.now instr place returns.now t }
 {
     match instr {
         FlowInstr::Jump(target) => target as usize,
@@ -137,7 +141,8 @@ pub fn place_after<V: Values>(
     requires legal { IsCode code.now }
     requires place { place < 65536 }
     requires needs { (t : TaggedValues) × (V.stands values.now t × JumpNeeds instr t) }
-    ensures { (t : TaggedValues) → V.stands values.now t → JumpNeeds instr t → result ≡ place_after_of code.now instr place returns.now t }
+    ensures { (t : TaggedValues) → V.stands values.now t → JumpNeeds instr t
+        → result ≡ place_after_of code.now instr place returns.now t }
 {
     match instr {
         Instr::Flow(instr) => flow_place(code, instr, place, returns, values),
@@ -148,7 +153,8 @@ pub fn place_after<V: Values>(
 /// Carries out an instruction on the flow of control, as far as values go.
 fn on_flow<V: Values>(values: &mut V, instr: FlowInstr, left: u64) -> Result<u64, Stop>
     requires { (t : TaggedValues) × (V.stands values.old t × FlowNeeds instr t) }
-    ensures { (code : AnyCode) (t : TaggedValues) (e : EnvState) → V.stands values.old t → FlowNeeds instr t → Executed code (OfFlow instr) t e left result (V.stands values.new) e }
+    ensures { (code : AnyCode) (t : TaggedValues) (e : EnvState) → V.stands values.old t → FlowNeeds instr t
+        → Executed code (OfFlow instr) t e left result (V.stands values.new) e }
 {
     if left == 0 {
         return Err(Stop::Spent);
@@ -159,8 +165,8 @@ fn on_flow<V: Values>(values: &mut V, instr: FlowInstr, left: u64) -> Result<u64
     Ok(1)
 }
 
-/// Carries out an instruction on values and environment. Where it can't be paid, or memory or room is missing, both are as they
-/// were.
+/// Carries out an instruction on values and environment. Where it can't be paid, or memory or room is missing, both are
+/// as they were.
 fn carry_out<V: Values, K: KeyList>(
     alloc: Global,
     code: &Code,
@@ -171,7 +177,8 @@ fn carry_out<V: Values, K: KeyList>(
 ) -> Result<u64, Stop>
     requires legal { IsCode code.now }
     requires needs { (t : TaggedValues) × (V.stands values.old t × Needs code.now instr t env.old) }
-    ensures { (t : TaggedValues) → V.stands values.old t → Needs code.now instr t env.old → Executed code.now instr t env.old left result (V.stands values.new) env.new }
+    ensures { (t : TaggedValues) → V.stands values.old t → Needs code.now instr t env.old
+        → Executed code.now instr t env.old left result (V.stands values.new) env.new }
 {
     match instr {
         Instr::Values(instr) => on_values(code, values, env, instr, left),
@@ -196,9 +203,9 @@ fn turn(returns: &mut ReturnPlaces, place: usize, instr: Instr)
     }
 }
 
-/// Carries out an instruction that doesn't finish the run. For each world that the machine stands for, it answers what the
-/// instruction costs there, and stands for the world after it; where it answers why not, the machine stands for what it stood
-/// for.
+/// Carries out an instruction that doesn't finish the run. For each world that the machine stands for, it answers what
+/// the instruction costs there, and stands for the world after it; where it answers why not, the machine stands for
+/// what it stood for.
 pub fn execute<V: Values, K: KeyList>(
     alloc: Global,
     code: &Code,
@@ -207,9 +214,13 @@ pub fn execute<V: Values, K: KeyList>(
     left: u64,
 ) -> Result<u64, Stop>
     requires legal { IsCode code.now }
-    requires ready { (w : World) × (Stands (V.stands machine.old.values) machine.old.place machine.old.returns machine.old.env w × IsReadyFor code.now w instr) }
-    ensures { (w : World) → Stands (V.stands machine.old.values) machine.old.place machine.old.returns machine.old.env w → IsReadyFor code.now w instr
-        → Stepped code.now w instr left result (V.stands machine.new.values) machine.new.place machine.new.returns machine.new.env }
+    requires ready { (w : World)
+        × (Stands (V.stands machine.old.values) machine.old.place machine.old.returns machine.old.env w
+        × IsReadyFor code.now w instr) }
+    ensures { (w : World) → Stands (V.stands machine.old.values) machine.old.place machine.old.returns machine.old.env w
+        → IsReadyFor code.now w instr
+        → Stepped code.now w instr left result
+        (V.stands machine.new.values) machine.new.place machine.new.returns machine.new.env }
 {
     let place = place_after(
         code,

@@ -2,12 +2,12 @@
 
 ghost use Rattle.std.specs.Prelude.{◌≡◌, ℕ, Bool, Ok, Err, MatchResult, IfSome};
 ghost use Rattle.std.specs.Fn.{FnReturnsAt};
-ghost use Rattle.work_rows.specs.Tried.{ShowsRows};
+ghost use Rattle.open_table.specs.Tried.{ShowsRows};
 ghost use Rattle.code_items.specs.declared.instr.Instr.TheVariants.{Areas as OfAreas};
 ghost use Rattle.run_values.specs.Tagged.{TaggedValues};
-ghost use Rattle.work_store.specs.Areas.{table_at};
-ghost use Rattle.work_store.specs.Calls.{used_here, open_of};
-ghost use Rattle.work_area.specs.Open.{landed, opened};
+ghost use Rattle.work_area.specs.Areas.{table_at};
+ghost use Rattle.work_area.specs.Calls.{used_here, open_of};
+ghost use Rattle.open_table.specs.Open.{landed, opened};
 ghost use Rattle.run_steps.specs.Filters.{is_unhidden, unhidden};
 ghost use Rattle.run_steps.specs.Effects.{list_numbers, changed_area};
 ghost use Rattle.run_steps.specs.Executed.{Executed};
@@ -19,10 +19,10 @@ use crate::environment::Environment;
 use code_items::Code;
 use code_items::instr::AreaInstr;
 use key_lists::KeyList;
+use open_table::{Refused, Row};
 use run_values::Values;
 use std::alloc::Global;
-use work_rows::{Refused, Row};
-use work_store::Store;
+use work_area::Store;
 
 /// Why a change was refused.
 pub(crate) fn refused(done: Result<u64, Refused>) -> Result<u64, Stop>
@@ -57,8 +57,10 @@ fn open_with<K: KeyList, F: Fn(&Row<'_>) -> bool>(
 ) -> Result<u64, Stop>
     requires needs { OpenNeeds table indexes.now store.old }
     requires callable { F.IsAlwaysCallable see }
-    ensures { IfSome (table_at store.old table) (λ o. (shown : ℕ → Bool) → ShowsRows (FnReturnsAt F.Fn) see o.table.structure o.table.rows shown
-        → HasChanged (used_here table list (landed (opened indexes.now o) (open_of indexes.now o shown)) store.old) (open_of indexes.now o shown).met store.old left result store.new) }
+    ensures { IfSome (table_at store.old table)
+        (λ o. (shown : ℕ → Bool) → ShowsRows (FnReturnsAt F.Fn) see o.table.structure o.table.rows shown
+        → HasChanged (used_here table list (landed (opened indexes.now o) (open_of indexes.now o shown)) store.old)
+        (open_of indexes.now o shown).met store.old left result store.new) }
 {
     refused(store.open(alloc, table, list, indexes, see, left))
 }
@@ -74,7 +76,11 @@ fn open_table<K: KeyList>(
     left: u64,
 ) -> Result<u64, Stop>
     requires needs { OpenNeeds table indexes.now store.old }
-    ensures { IfSome (table_at store.old table) (λ o. HasChanged (used_here table list (landed (opened indexes.now o) (open_of indexes.now o (unhidden hides o.table.structure o.table.rows))) store.old) (open_of indexes.now o (unhidden hides o.table.structure o.table.rows)).met store.old left result store.new) }
+    ensures { IfSome (table_at store.old table)
+        (λ o. HasChanged (used_here table list
+        (landed (opened indexes.now o)
+        (open_of indexes.now o (unhidden hides o.table.structure o.table.rows))) store.old)
+        (open_of indexes.now o (unhidden hides o.table.structure o.table.rows)).met store.old left result store.new) }
 {
     open_with(
         alloc,
@@ -114,7 +120,8 @@ pub fn on_areas<V: Values, K: KeyList>(
     left: u64,
 ) -> Result<u64, Stop>
     requires { AreaNeeds code.now instr env.old }
-    ensures { (t : TaggedValues) → V.stands values.now t → Executed code.now (OfAreas instr) t env.old left result (V.stands values.now) env.new }
+    ensures { (t : TaggedValues) → V.stands values.now t
+        → Executed code.now (OfAreas instr) t env.old left result (V.stands values.now) env.new }
 {
     if let AreaInstr::Open { table, list } = instr {
         let hides = env.settings.deleted;

@@ -2,10 +2,10 @@
 
 ghost use Rattle.std.specs.Prelude.{◌≡◌, ℕ, Bool, Ok, Err, MatchResult, IfSome, IsSome};
 ghost use Rattle.std.specs.Fn.{FnReturnsAt};
-ghost use Rattle.work_store.specs.Areas.{here, change_here};
-ghost use Rattle.work_store.specs.Calls.{MovesHere, skip_of};
-ghost use Rattle.work_area.specs.Open.{gone};
-ghost use Rattle.work_rows.specs.Tried.{ShowsRows};
+ghost use Rattle.work_area.specs.Areas.{here, change_here};
+ghost use Rattle.work_area.specs.Calls.{MovesHere, skip_of};
+ghost use Rattle.open_table.specs.Open.{gone};
+ghost use Rattle.open_table.specs.Tried.{ShowsRows};
 ghost use Rattle.code_rules.specs.Signature.{move_signature};
 ghost use Rattle.code_items.specs.Legal.{IsCode};
 ghost use Rattle.code_items.specs.declared.instr.Instr.TheVariants.{Moves as OfMoves};
@@ -23,10 +23,10 @@ use crate::on_values::whole;
 use code_items::Code;
 use code_items::instr::MoveInstr;
 use key_lists::KeyList;
+use open_table::Row;
 use row_moves::Spent;
 use run_values::Values;
-use work_rows::Row;
-use work_store::Store;
+use work_area::Store;
 use xvalue::{Kind, Value};
 
 /// The whole part of a number; without one, 0.
@@ -82,7 +82,9 @@ fn walk<K: KeyList, F: Fn(&Row<'_>) -> bool>(
     requires open { IsSome (here store.old) }
     requires order { SeekNeeds instr store.old }
     requires callable { F.IsAlwaysCallable see }
-    ensures { IfSome (here store.old) (λ o. (shown : ℕ → Bool) → ShowsRows (FnReturnsAt F.Fn) see o.table.structure o.table.rows shown → HasWalked instr given.now exact store.old o shown left result store.new) }
+    ensures { IfSome (here store.old) (λ o. (shown : ℕ → Bool)
+        → ShowsRows (FnReturnsAt F.Fn) see o.table.structure o.table.rows shown
+        → HasWalked instr given.now exact store.old o shown left result store.new) }
 {
     match instr {
         MoveInstr::Top => settled(store.top(see, left)),
@@ -135,7 +137,8 @@ fn operand<V: Values>(values: &V, instr: MoveInstr) -> Option<Value>
 /// Takes the operand of a move off the stack, if it has one.
 fn take_operand<V: Values>(values: &mut V, instr: MoveInstr)
     requires { (t : TaggedValues) × (V.stands values.old t × GivenNeeds instr t) }
-    ensures { (t : TaggedValues) → V.stands values.old t → GivenNeeds instr t → V.stands values.new (dropped (move_signature instr).taken t) }
+    ensures { (t : TaggedValues) → V.stands values.old t → GivenNeeds instr t
+        → V.stands values.new (dropped (move_signature instr).taken t) }
 {
     match instr {
         MoveInstr::Top | MoveInstr::Bottom => {}
@@ -155,9 +158,12 @@ fn look_and_walk<V: Values, K: KeyList>(
     requires legal { IsCode view.now.code.now }
     requires open { IsSome (here store.old) }
     requires order { SeekNeeds instr store.old }
-    requires filter { (t : TaggedValues) × (V.stands view.now.values.now t × FilterNeeds view.now.code.now t view.now.filter) }
+    requires filter { (t : TaggedValues)
+        × (V.stands view.now.values.now t × FilterNeeds view.now.code.now t view.now.filter) }
     ensures { (t : TaggedValues) → V.stands view.now.values.now t → FilterNeeds view.now.code.now t view.now.filter
-        → IfSome (here store.old) (λ o. HasWalked instr given.now view.now.moment.settings.exact store.old o (shown_by view.now.code.now (viewing t view.now.moment) view.now.filter o.table.structure o.table.rows) left result store.new) }
+        → IfSome (here store.old) (λ o. HasWalked instr given.now view.now.moment.settings.exact store.old o
+        (shown_by view.now.code.now (viewing t view.now.moment) view.now.filter o.table.structure o.table.rows) left
+        result store.new) }
 {
     walk(
         store,
@@ -166,9 +172,12 @@ fn look_and_walk<V: Values, K: KeyList>(
         given,
         |row: &Row<'_>| -> bool
             requires code { IsCode view.now.code.now }
-            requires filter { (t : TaggedValues) × (V.stands view.now.values.now t × FilterNeeds view.now.code.now t view.now.filter) }
-            ensures { (t : TaggedValues) → V.stands view.entry.now.values.now t → FilterNeeds view.entry.now.code.now t view.entry.now.filter
-                → result ≡ visible view.entry.now.code.now (viewing t view.entry.now.moment) view.entry.now.filter row.now }
+            requires filter { (t : TaggedValues)
+                × (V.stands view.now.values.now t × FilterNeeds view.now.code.now t view.now.filter) }
+            ensures { (t : TaggedValues) → V.stands view.entry.now.values.now t
+                → FilterNeeds view.entry.now.code.now t view.entry.now.filter
+                → result ≡ visible view.entry.now.code.now
+                (viewing t view.entry.now.moment) view.entry.now.filter row.now }
         { view.shows(row) },
         left,
     )
@@ -184,7 +193,8 @@ pub fn on_moves<V: Values, K: KeyList>(
 ) -> Result<u64, Stop>
     requires legal { IsCode code.now }
     requires needs { (t : TaggedValues) × (V.stands values.old t × MoveNeeds code.now instr t env.old) }
-    ensures { (t : TaggedValues) → V.stands values.old t → MoveNeeds code.now instr t env.old → Executed code.now (OfMoves instr) t env.old left result (V.stands values.new) env.new }
+    ensures { (t : TaggedValues) → V.stands values.old t → MoveNeeds code.now instr t env.old
+        → Executed code.now (OfMoves instr) t env.old left result (V.stands values.new) env.new }
 {
     let given = operand(values, instr);
     let view = View {

@@ -1,20 +1,23 @@
 //! Instructions on records.
 
-ghost use Rattle.std.specs.Prelude.{◌≡◌, ◌≤◌, ◌<◌, ◌∷◌, ℕ, Bool, List, [], Ok, Err, IsTrue, MatchResult, MatchBool, IfSome, IsSome, length, slice_get, unwrap_or};
+ghost use Rattle.std.specs.Prelude.{◌≡◌, ◌≤◌, ◌<◌, ◌∷◌, ℕ, Bool, List, [], Ok, Err, IsTrue, MatchResult, MatchBool};
+ghost use Rattle.std.specs.Prelude.{IfSome, IsSome, length, slice_get, unwrap_or};
 ghost use Rattle.std.specs.Fn.{FnReturnsAt};
 ghost use Rattle.dbf_file.specs.Rows.{Row as TheRow};
 ghost use Rattle.dbf_file.specs.Tables.{StructureState, letter_at};
 ghost use Rattle.dbf_file.specs.Values.{kind_for};
-ghost use Rattle.work_store.specs.Areas.{here};
+ghost use Rattle.work_area.specs.Areas.{here};
 ghost use Rattle.code_items.specs.Legal.{IsCode};
 ghost use Rattle.code_items.specs.declared.instr.Instr.TheVariants.{Records as OfRecords};
 ghost use Rattle.code_items.specs.declared.instr.RecordInstr.TheVariants.{Append as OfAppend};
 ghost use Rattle.code_items.specs.declared.code.Code.{Code as AnyCode};
 ghost use Rattle.run_values.specs.Tagged.{TaggedValues};
-ghost use Rattle.run_steps.specs.Effects.{answer as answer_of, index_in, closing_store, closing_met, store_closed, closing_cost};
+ghost use Rattle.run_steps.specs.Effects.{answer as answer_of, index_in, closing_store, closing_met, store_closed};
+ghost use Rattle.run_steps.specs.Effects.{closing_cost};
 ghost use Rattle.run_steps.specs.Executed.{Executed};
 ghost use Rattle.run_steps.specs.Filters.{viewing, shown_by, is_visible as visible};
-ghost use Rattle.run_steps.specs.Needs.{FilterNeeds, HasField, TakesField, RecordNeeds, ClosingNeeds, IsClosing, IsPlain};
+ghost use Rattle.run_steps.specs.Needs.{FilterNeeds, HasField, TakesField, RecordNeeds, ClosingNeeds, IsClosing};
+ghost use Rattle.run_steps.specs.Needs.{IsPlain};
 ghost use Rattle.run_steps.specs.Walking.{HasChanged, HasReplaced, ShowsAll};
 
 use crate::ending::Stop;
@@ -24,11 +27,10 @@ use crate::on_areas::{list_of, refused};
 use code_items::Code;
 use code_items::instr::{Question, RecordInstr};
 use key_lists::KeyList;
+use open_table::{AppendError, Row};
 use run_values::Values;
 use std::alloc::Global;
-use work_area::AppendError;
-use work_rows::Row;
-use work_store::Store;
+use work_area::Store;
 use xvalue::{Kind, Value};
 
 /// What a question answers of the selected area, which is open.
@@ -73,7 +75,8 @@ fn index_of(code: &Code, list: u16) -> u8
 /// APPEND to the selected area's table.
 fn append<V: Values, K: KeyList>(values: &V, env: &mut Environment<K>) -> Result<u64, Stop>
     requires { IsSome (here env.old.store) }
-    ensures { (code : AnyCode) (t : TaggedValues) (left : ℕ) → 1 ≤ left → V.stands values.now t → Executed code (OfRecords OfAppend) t env.old left result (V.stands values.now) env.new }
+    ensures { (code : AnyCode) (t : TaggedValues) (left : ℕ) → 1 ≤ left → V.stands values.now t
+        → Executed code (OfRecords OfAppend) t env.old left result (V.stands values.now) env.new }
 {
     match env.store.append() {
         Ok(()) => Ok(1),
@@ -82,14 +85,17 @@ fn append<V: Values, K: KeyList>(values: &V, env: &mut Environment<K>) -> Result
     }
 }
 
-/// REPLACE: puts the value on top into a field of the current record, and takes it. Where memory is refused nothing changes.
+/// REPLACE: puts the value on top into a field of the current record, and takes it. Where memory is refused nothing
+/// changes.
 fn replace<V: Values, K: KeyList>(
     values: &mut V,
     store: &mut Store<K>,
     field: u16,
 ) -> Result<u64, Stop>
-    requires { (t : TaggedValues) × (V.stands values.old t × HasField field (here store.old) × IfSome (here store.old) (TakesField field t)) }
-    ensures { (t : TaggedValues) → V.stands values.old t → HasField field (here store.old) → IfSome (here store.old) (TakesField field t)
+    requires { (t : TaggedValues)
+        × (V.stands values.old t × HasField field (here store.old) × IfSome (here store.old) (TakesField field t)) }
+    ensures { (t : TaggedValues) → V.stands values.old t → HasField field (here store.old)
+        → IfSome (here store.old) (TakesField field t)
         → HasReplaced field t store.old result (V.stands values.new) store.new }
 {
     let kind = kind_here(store, field);
@@ -116,8 +122,10 @@ fn close_with<K: KeyList, F: Fn(&Row<'_>) -> bool>(
     requires needs { ClosingNeeds code.now instr store.old }
     requires closes { IsClosing instr }
     requires callable { F.IsAlwaysCallable see }
-    ensures { IfSome (here store.old) (λ o. (shown : StructureState → List TheRow → ℕ → Bool) → ShowsAll (FnReturnsAt F.Fn) see shown
-        → HasChanged (closing_store code.now.declared instr shown o store.old) (closing_met code.now.declared instr shown o) store.old left result store.new) }
+    ensures { IfSome (here store.old) (λ o. (shown : StructureState → List TheRow → ℕ → Bool)
+        → ShowsAll (FnReturnsAt F.Fn) see shown
+        → HasChanged (closing_store code.now.declared instr shown o store.old)
+        (closing_met code.now.declared instr shown o) store.old left result store.new) }
 {
     match instr {
         RecordInstr::Pack => refused(store.pack(alloc, see, left)),
@@ -146,9 +154,12 @@ fn look_and_close<V: Values, K: KeyList>(
     requires open { IsSome (here store.old) }
     requires needs { ClosingNeeds view.now.code.now instr store.old }
     requires closes { IsClosing instr }
-    requires filter { (t : TaggedValues) × (V.stands view.now.values.now t × FilterNeeds view.now.code.now t view.now.filter) }
+    requires filter { (t : TaggedValues)
+        × (V.stands view.now.values.now t × FilterNeeds view.now.code.now t view.now.filter) }
     ensures { (t : TaggedValues) → V.stands view.now.values.now t → FilterNeeds view.now.code.now t view.now.filter
-        → IfSome (here store.old) (λ o. HasChanged (closing_store view.now.code.now.declared instr (shown_by view.now.code.now (viewing t view.now.moment) view.now.filter) o store.old)
+        → IfSome (here store.old) (λ o. HasChanged
+        (closing_store view.now.code.now.declared instr
+        (shown_by view.now.code.now (viewing t view.now.moment) view.now.filter) o store.old)
         (closing_met view.now.code.now.declared instr (shown_by view.now.code.now (viewing t view.now.moment) view.now.filter) o) store.old left result store.new) }
 {
     close_with(
@@ -158,9 +169,12 @@ fn look_and_close<V: Values, K: KeyList>(
         instr,
         |row: &Row<'_>| -> bool
             requires code { IsCode view.now.code.now }
-            requires filter { (t : TaggedValues) × (V.stands view.now.values.now t × FilterNeeds view.now.code.now t view.now.filter) }
-            ensures { (t : TaggedValues) → V.stands view.entry.now.values.now t → FilterNeeds view.entry.now.code.now t view.entry.now.filter
-                → result ≡ visible view.entry.now.code.now (viewing t view.entry.now.moment) view.entry.now.filter row.now }
+            requires filter { (t : TaggedValues)
+                × (V.stands view.now.values.now t × FilterNeeds view.now.code.now t view.now.filter) }
+            ensures { (t : TaggedValues) → V.stands view.entry.now.values.now t
+                → FilterNeeds view.entry.now.code.now t view.entry.now.filter
+                → result ≡ visible view.entry.now.code.now
+                (viewing t view.entry.now.moment) view.entry.now.filter row.now }
         { view.shows(row) },
         left,
     )
@@ -178,7 +192,8 @@ fn close<V: Values, K: KeyList>(
     requires legal { IsCode code.now }
     requires closes { IsClosing instr }
     requires needs { (t : TaggedValues) × (V.stands values.now t × RecordNeeds code.now instr t env.old) }
-    ensures { (t : TaggedValues) → V.stands values.now t → RecordNeeds code.now instr t env.old → Executed code.now (OfRecords instr) t env.old left result (V.stands values.now) env.new }
+    ensures { (t : TaggedValues) → V.stands values.now t → RecordNeeds code.now instr t env.old
+        → Executed code.now (OfRecords instr) t env.old left result (V.stands values.now) env.new }
 {
     let view = View {
         code,
@@ -200,7 +215,8 @@ pub fn on_records<V: Values, K: KeyList>(
 ) -> Result<u64, Stop>
     requires legal { IsCode code.now }
     requires needs { (t : TaggedValues) × (V.stands values.old t × RecordNeeds code.now instr t env.old) }
-    ensures { (t : TaggedValues) → V.stands values.old t → RecordNeeds code.now instr t env.old → Executed code.now (OfRecords instr) t env.old left result (V.stands values.new) env.new }
+    ensures { (t : TaggedValues) → V.stands values.old t → RecordNeeds code.now instr t env.old
+        → Executed code.now (OfRecords instr) t env.old left result (V.stands values.new) env.new }
 {
     if closes(instr) {
         return close(alloc, code, values, env, instr, left);

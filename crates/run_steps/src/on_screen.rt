@@ -4,7 +4,8 @@ ghost use Rattle.std.specs.Prelude.{◌≡◌, ◌≤◌, ◌∷◌, ℕ, [], Ok
 ghost use Rattle.xvalue.specs.declared.kind.Kind.TheVariants.{Number as OfNumber};
 ghost use Rattle.code_items.specs.declared.code.Code.{Code as AnyCode};
 ghost use Rattle.code_items.specs.declared.instr.Instr.TheVariants.{Screen as OfScreen};
-ghost use Rattle.code_items.specs.declared.instr.ScreenInstr.TheVariants.{Print as OfPrint, Say as OfSay, SayOn as OfSayOn, Input as OfInput};
+ghost use Rattle.code_items.specs.declared.instr.ScreenInstr.TheVariants.{Print as OfPrint, Say as OfSay};
+ghost use Rattle.code_items.specs.declared.instr.ScreenInstr.TheVariants.{SayOn as OfSayOn, Input as OfInput};
 ghost use Rattle.run_values.specs.Tagged.{TaggedValues, HasOnTop, dropped};
 ghost use Rattle.run_steps.specs.Effects.{screen_values, screen_env};
 ghost use Rattle.run_steps.specs.Needs.{ScreenNeeds};
@@ -48,7 +49,8 @@ fn say_on<V: Values, K: KeyList>(values: &mut V, env: &mut Environment<K>, kind:
 fn input<V: Values, K: KeyList>(values: &mut V, env: &mut Environment<K>, kind: Kind)
     requires { (t : TaggedValues) × (V.stands values.old t × ScreenNeeds (OfInput kind) t) }
     ensures { (t : TaggedValues) → V.stands values.old t → ScreenNeeds (OfInput kind) t
-        → V.stands values.new (screen_values (OfInput kind) t env.old) × (env.new ≡ screen_env (OfInput kind) t env.old) }
+        → V.stands values.new (screen_values (OfInput kind) t env.old)
+        × (env.new ≡ screen_env (OfInput kind) t env.old) }
 {
     let old = values.top(kind);
     values.discard(kind);
@@ -63,7 +65,8 @@ fn print<V: Values, K: KeyList>(
     kind: Kind,
 ) -> Result<u64, Stop>
     requires { (t : TaggedValues) × (V.stands values.old t × HasOnTop (kind ∷ []) t.stack) }
-    ensures { (code : AnyCode) (t : TaggedValues) (left : ℕ) → 1 ≤ left → V.stands values.old t → HasOnTop (kind ∷ []) t.stack
+    ensures { (code : AnyCode) (t : TaggedValues) (left : ℕ) → 1 ≤ left → V.stands values.old t
+        → HasOnTop (kind ∷ []) t.stack
         → Executed code (OfScreen (OfPrint kind)) t env.old left result (V.stands values.new) env.new }
 {
     if env.print(&values.top(kind)).is_err() {
@@ -91,7 +94,8 @@ pub fn on_screen<V: Values, K: KeyList>(
     left: u64,
 ) -> Result<u64, Stop>
     requires { (t : TaggedValues) × (V.stands values.old t × ScreenNeeds instr t) }
-    ensures { (code : AnyCode) (t : TaggedValues) → V.stands values.old t → ScreenNeeds instr t → Executed code (OfScreen instr) t env.old left result (V.stands values.new) env.new }
+    ensures { (code : AnyCode) (t : TaggedValues) → V.stands values.old t → ScreenNeeds instr t
+        → Executed code (OfScreen instr) t env.old left result (V.stands values.new) env.new }
 {
     if left == 0 {
         return Err(Stop::Spent);

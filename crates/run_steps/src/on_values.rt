@@ -27,7 +27,8 @@ pub(crate) fn whole(value: &Value) -> i128
     }
 }
 
-/// Puts a day on the stack. (Apart from the others, since a function's locals are zeroed on entry, and a value is large.)
+/// Puts a day on the stack. (Apart from the others, since a function's locals are zeroed on entry, and a value is
+/// large.)
 fn push_day<V: Values>(values: &mut V, day: Day)
     requires { (t : TaggedValues) × (V.stands values.old t × (length t.stack < 64)) }
     ensures { (t : TaggedValues) → V.stands values.old t → V.stands values.new (pushed (Date day) t) }
@@ -43,7 +44,8 @@ pub(crate) fn change_values<V: Values, K: KeyList>(
     instr: ValueInstr,
 )
     requires { (t : TaggedValues) × (V.stands values.old t × ValueNeeds code.now instr t) }
-    ensures values { (t : TaggedValues) → V.stands values.old t → ValueNeeds code.now instr t → V.stands values.new (value_values code.now instr t env.old) }
+    ensures values { (t : TaggedValues) → V.stands values.old t → ValueNeeds code.now instr t
+        → V.stands values.new (value_values code.now instr t env.old) }
     ensures env { env.new ≡ value_env instr env.old }
 {
     match instr {
@@ -69,7 +71,8 @@ pub fn on_values<V: Values, K: KeyList>(
     left: u64,
 ) -> Result<u64, Stop>
     requires { (t : TaggedValues) × (V.stands values.old t × ValueNeeds code.now instr t) }
-    ensures { (t : TaggedValues) → V.stands values.old t → ValueNeeds code.now instr t → Executed code.now (OfValues instr) t env.old left result (V.stands values.new) env.new }
+    ensures { (t : TaggedValues) → V.stands values.old t → ValueNeeds code.now instr t
+        → Executed code.now (OfValues instr) t env.old left result (V.stands values.new) env.new }
 {
     if left == 0 {
         return Err(Stop::Spent);

@@ -12,7 +12,8 @@ use xvalue::{Fun, Gathered, Settings, Text, Value, eq_text, less_text};
 
 /// What a function of two numbers gives; none where it is one of other arguments.
 fn of_numbers(fun: Fun, first: Num, second: Num) -> Option<Value>
-    ensures { (settings : AnySettings) → IfSome result (λ value. value ≡ applied fun settings (by_kind (IsNumber first ∷ IsNumber second ∷ []))) }
+    ensures { (settings : AnySettings)
+        → IfSome result (λ value. value ≡ applied fun settings (by_kind (IsNumber first ∷ IsNumber second ∷ []))) }
 {
     use Fun::*;
 
@@ -30,7 +31,8 @@ fn of_numbers(fun: Fun, first: Num, second: Num) -> Option<Value>
 /// What a function gives that compares two texts; none where it is another one.
 #[tactic(auto, unfolding(xvalue::specs::Functions::applied))]
 fn of_texts(fun: Fun, settings: Settings, first: &Text, second: &Text) -> Option<Value>
-    ensures { IfSome result (λ value. value ≡ applied fun settings (by_kind (IsText first.now ∷ IsText second.now ∷ []))) }
+    ensures { IfSome result (λ value. value
+        ≡ applied fun settings (by_kind (IsText first.now ∷ IsText second.now ∷ []))) }
 {
     let (first, second) = (first.as_slice(), second.as_slice());
     match fun {
@@ -58,8 +60,8 @@ fn of_pair(fun: Fun, settings: Settings, first: &Value, second: &Value) -> Optio
     }
 }
 
-/// What a function gives of at most four arguments. It takes no memory. (Two numbers, and two texts that are compared, are not
-/// gathered first, which takes longer than what is done with them.)
+/// What a function gives of at most four arguments. It takes no memory. (Two numbers, and two texts that are compared,
+/// are not gathered first, which takes longer than what is done with them.)
 pub(crate) fn result_of(fun: Fun, settings: Settings, values: &[Value]) -> Value
     requires { length values.now ≤ 4 }
     ensures { result ≡ applied fun settings (by_kind values.now) }

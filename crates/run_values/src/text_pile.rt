@@ -1,6 +1,7 @@
 //! A stack of texts with room for as many as any code's stack holds.
 
-ghost use Rattle.std.specs.Prelude.{◌≡◌, ◌+◌, ◌<◌, ◌≤◌, [], ◌∷◌, length, IfOk, reverse, take, drop, slice_get, slice_set, Some, ℕ};
+ghost use Rattle.std.specs.Prelude.{◌≡◌, ◌+◌, ◌<◌, ◌≤◌, [], ◌∷◌, length, IfOk, reverse, take, drop, slice_get};
+ghost use Rattle.std.specs.Prelude.{slice_set, Some, ℕ};
 ghost use Rattle.arrayvec.specs.ArrayVec.{ArrayVec as Held};
 ghost use Rattle.run_values.specs.TextPile.{both, part_of, top_joined, top_cut};
 
@@ -9,8 +10,8 @@ use std::alloc::{AllocError, Global};
 use std::marker::Model;
 use xvalue::{Text, append};
 
-/// A stack with room for 64 texts, seen as their list, the top first. The room is of texts that are there all the time, so that
-/// a text that is put on it is copied no further than it goes.
+/// A stack with room for 64 texts, seen as their list, the top first. The room is of texts that are there all the time,
+/// so that a text that is put on it is copied no further than it goes.
 #[derive(Drop)]
 pub struct TextPile {
     texts: Vec<Text>,
@@ -87,7 +88,8 @@ impl TextPile {
         self.count += 1;
     }
 
-    /// Puts the two texts on top one behind the other, cut at 254 bytes, in their place. The lower one is copied nowhere.
+    /// Puts the two texts on top one behind the other, cut at 254 bytes, in their place. The lower one is copied
+    /// nowhere.
     pub fn join(&mut self)
         requires { 2 ≤ length self.old }
         ensures { self.new ≡ top_joined self.old }
@@ -110,7 +112,8 @@ impl TextPile {
 fn append_next(texts: &mut [Text], place: usize)
     requires { place + 1 < length texts.old }
     ensures same_length { length texts.new ≡ length texts.old }
-    ensures appended { (first second : Held ℕ) → slice_get texts.old place ≡ Some first → slice_get texts.old (place + 1) ≡ Some second → texts.new ≡ slice_set texts.old place (both first second) }
+    ensures appended { (first second : Held ℕ) → slice_get texts.old place ≡ Some first
+        → slice_get texts.old (place + 1) ≡ Some second → texts.new ≡ slice_set texts.old place (both first second) }
 {
     let (front, behind) = texts.split_at_mut(place + 1);
     append(&mut front[place], behind[0].as_slice());

@@ -3,7 +3,8 @@
 ghost use Rattle.std.specs.Prelude.{◌≡◌, ◌<◌, ◌≤◌, ◌∷◌, [], length, slice_get, Some, None};
 ghost use Rattle.xvalue.specs.declared.kind.Kind.TheVariants.{Number as OfNumber, Logical as OfLogical};
 ghost use Rattle.xvalue.specs.declared.value.Value.TheVariants.{Number as IsNumber, Logical as IsLogical};
-ghost use Rattle.run_values.specs.Tagged.{TaggedValues, HasOnTop, HasArguments, HoldsKind, pushed, dropped, with_slot, loaded, stored, called};
+ghost use Rattle.run_values.specs.Tagged.{TaggedValues, HasOnTop, HasArguments, HoldsKind, pushed, dropped, with_slot};
+ghost use Rattle.run_values.specs.Tagged.{loaded, stored, called};
 
 use fixed_num::Num;
 use xvalue::{Fun, Kind, Settings, Value};
@@ -26,42 +27,51 @@ pub trait Values: Drop {
     /// The same value as that on top, which is of this kind; it stays.
     fn top(&self, kind: Kind) -> Value
         requires { (t : TaggedValues) × (stands self.now t × HasOnTop (kind ∷ []) t.stack) }
-        ensures { (t : TaggedValues) → stands self.now t → HasOnTop (kind ∷ []) t.stack → slice_get t.stack 0 ≡ Some result };
+        ensures { (t : TaggedValues) → stands self.now t → HasOnTop (kind ∷ []) t.stack
+            → slice_get t.stack 0 ≡ Some result };
 
     /// The truth value on top; it stays.
     fn truth(&self) -> bool
         requires { (t : TaggedValues) × (stands self.now t × HasOnTop (OfLogical ∷ []) t.stack) }
-        ensures { (t : TaggedValues) → stands self.now t → HasOnTop (OfLogical ∷ []) t.stack → slice_get t.stack 0 ≡ Some (IsLogical result) };
+        ensures { (t : TaggedValues) → stands self.now t → HasOnTop (OfLogical ∷ []) t.stack
+            → slice_get t.stack 0 ≡ Some (IsLogical result) };
 
     /// Takes the value on top, which is of this kind, away.
     fn discard(&mut self, kind: Kind)
         requires { (t : TaggedValues) × (stands self.old t × HasOnTop (kind ∷ []) t.stack) }
-        ensures { (t : TaggedValues) → stands self.old t → HasOnTop (kind ∷ []) t.stack → stands self.new (dropped 1 t) };
+        ensures { (t : TaggedValues) → stands self.old t → HasOnTop (kind ∷ []) t.stack
+            → stands self.new (dropped 1 t) };
 
     /// What the slot holds, which is of this kind, once more.
     fn value(&self, kind: Kind, slot: usize) -> Value
         requires { (t : TaggedValues) × (stands self.now t × HoldsKind kind (slice_get t.slots slot)) }
-        ensures { (t : TaggedValues) → stands self.now t → HoldsKind kind (slice_get t.slots slot) → slice_get t.slots slot ≡ Some (Some result) };
+        ensures { (t : TaggedValues) → stands self.now t → HoldsKind kind (slice_get t.slots slot)
+            → slice_get t.slots slot ≡ Some (Some result) };
 
     /// The number that the slot holds, where it stands.
     fn number(&self, slot: usize) -> &Num
         requires { (t : TaggedValues) × (stands self.now t × HoldsKind OfNumber (slice_get t.slots slot)) }
-        ensures { (t : TaggedValues) → stands self.now t → HoldsKind OfNumber (slice_get t.slots slot) → slice_get t.slots slot ≡ Some (Some (IsNumber result.now)) };
+        ensures { (t : TaggedValues) → stands self.now t → HoldsKind OfNumber (slice_get t.slots slot)
+            → slice_get t.slots slot ≡ Some (Some (IsNumber result.now)) };
 
     /// Puts a number into the slot, which is there.
     fn set_number(&mut self, slot: usize, number: Num)
         requires { (t : TaggedValues) × (stands self.old t × (slot < length t.slots)) }
-        ensures { (t : TaggedValues) → stands self.old t → stands self.new (with_slot slot (Some (IsNumber number)) t) };
+        ensures { (t : TaggedValues) → stands self.old t
+            → stands self.new (with_slot slot (Some (IsNumber number)) t) };
 
     /// Puts what the slot holds, which is of this kind, on the stack.
     fn load(&mut self, kind: Kind, slot: usize)
-        requires { (t : TaggedValues) × (stands self.old t × HoldsKind kind (slice_get t.slots slot) × (length t.stack < 64)) }
-        ensures { (t : TaggedValues) → stands self.old t → HoldsKind kind (slice_get t.slots slot) → stands self.new (loaded slot t) };
+        requires { (t : TaggedValues)
+            × (stands self.old t × HoldsKind kind (slice_get t.slots slot) × (length t.stack < 64)) }
+        ensures { (t : TaggedValues) → stands self.old t → HoldsKind kind (slice_get t.slots slot)
+            → stands self.new (loaded slot t) };
 
     /// Takes the value on top, which is of this kind, into the slot, which is there.
     fn store(&mut self, kind: Kind, slot: usize)
         requires { (t : TaggedValues) × (stands self.old t × HasOnTop (kind ∷ []) t.stack × (slot < length t.slots)) }
-        ensures { (t : TaggedValues) → stands self.old t → HasOnTop (kind ∷ []) t.stack → stands self.new (stored slot t) };
+        ensures { (t : TaggedValues) → stands self.old t → HasOnTop (kind ∷ []) t.stack
+            → stands self.new (stored slot t) };
 
     /// Unsets the slot, which is there.
     fn unset(&mut self, slot: usize)
@@ -71,5 +81,6 @@ pub trait Values: Drop {
     /// Takes the arguments of the function, which are there, off the stack, and puts its result there.
     fn call(&mut self, fun: Fun, settings: Settings)
         requires { (t : TaggedValues) × (stands self.old t × HasArguments fun t.stack × (length t.stack ≤ 64)) }
-        ensures { (t : TaggedValues) → stands self.old t → HasArguments fun t.stack → stands self.new (called fun settings t) };
+        ensures { (t : TaggedValues) → stands self.old t → HasArguments fun t.stack
+            → stands self.new (called fun settings t) };
 }

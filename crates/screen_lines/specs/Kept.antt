@@ -1,6 +1,7 @@
 -- How the 25 rows seen and the bytes sent stand for the roll of all rows. What the calls promise of the bytes at the
 -- end doesn't rest on it: that is said by the roll alone.
-use Rattle.std.specs.Prelude.{◌≡◌, ℕ, ◌+◌, ◌-◌, ◌*◌, ◌/◌, List, [], ◌∷◌, ◌++◌, length, take, if◌then◌else◌, nat_eq, vec_len, vec_capacity}
+use Rattle.std.specs.Prelude.{◌≡◌, ℕ, ◌+◌, ◌-◌, ◌*◌, ◌/◌, List, [], ◌∷◌, ◌++◌, length, take, if◌then◌else◌, nat_eq}
+use Rattle.std.specs.Prelude.{vec_len, vec_capacity}
 use Rattle.std.specs.List.{All}
 use Rattle.screen_lines.specs.Roll.{Roll, blank_row, lines}
 use Rattle.screen_lines.specs.Shape.{IsRow, IsOnScreen}

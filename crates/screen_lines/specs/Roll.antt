@@ -1,5 +1,6 @@
 -- The screen as a roll of rows: 25 rows of 80 columns are seen, and those above them were sent out.
-use Rattle.std.specs.Prelude.{ℕ, ℤ, pos, negsuc, ◌+◌, ◌-◌, ◌||◌, ◌&&◌, Bool, List, [], ◌∷◌, ◌++◌, if◌then◌else◌, length, take, drop, get_or, set, replicate, map, min, nat_lt, nat_eq}
+use Rattle.std.specs.Prelude.{ℕ, ℤ, pos, negsuc, ◌+◌, ◌-◌, ◌||◌, ◌&&◌, Bool, List, [], ◌∷◌, ◌++◌, if◌then◌else◌, length}
+use Rattle.std.specs.Prelude.{take, drop, get_or, set, replicate, map, min, nat_lt, nat_eq}
 use Rattle.std.specs.List.{flat_map, list_all, suffix_len}
 use Rattle.screen_lines.specs.declared.cursor.Cursor.{Cursor}
 use Rattle.screen_lines.specs.declared.cursor.Cursor.TheVariants.{BeforeFirst, At}

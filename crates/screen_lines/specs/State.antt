@@ -1,6 +1,7 @@
 -- What a contract sees of a screen, and what each call makes of it.
 use Rattle.std.specs.Prelude.{ℕ, ℤ, List, Bool, true, false}
-use Rattle.screen_lines.specs.Roll.{Roll, blank_roll, next_line, text_printed, text_said, text_said_on, roll_cleared, roll_sent}
+use Rattle.screen_lines.specs.Roll.{Roll, blank_roll, next_line, text_printed, text_said, text_said_on, roll_cleared}
+use Rattle.screen_lines.specs.Roll.{roll_sent}
 
 -- the roll of rows, and whether memory is reserved for one new line or one print
 pub record ScreenState : Type 0 where

@@ -2,7 +2,8 @@
 #![tactic(auto)]
 
 ghost use Rattle.std.specs.Prelude.{◌≡◌, ◌+◌, ◌<◌, ◌≤◌, length};
-ghost use Rattle.screen_lines.specs.Roll.{scrolled, next_line as next_line_of, shown_at, byte_printed_from, text_printed, text_said, text_said_on, roll_cleared};
+ghost use Rattle.screen_lines.specs.Roll.{scrolled, next_line as next_line_of, shown_at, byte_printed_from};
+ghost use Rattle.screen_lines.specs.Roll.{text_printed, text_said, text_said_on, roll_cleared};
 
 use crate::cursor::Cursor;
 use crate::rows::{

@@ -13,10 +13,14 @@ ghost use Rattle.screen_lines.specs.declared.commands.Command.{Command};
 /// How a text is printed: what fits in the row is shown there as it stands; behind column 79, and before the first
 /// row, what is printed goes to the next line; a text in two parts is one part printed after the other.
 pub fn print_fills_rows()
-    ensures fits { (text : List ℕ) (roll : Roll) (row column : ℕ) → IsWhole roll → roll.cursor ≡ At row column → column + length text ≤ 80 → text_printed text roll ≡ shown_at row column text roll }
-    ensures wraps { (byte : ℕ) (text : List ℕ) (roll : Roll) (row : ℕ) → IsWhole roll → roll.cursor ≡ At row 80 → text_printed (byte ∷ text) roll ≡ text_printed (byte ∷ text) (next_line roll) }
-    ensures begins { (byte : ℕ) (text : List ℕ) (roll : Roll) → roll.cursor ≡ BeforeFirst → text_printed (byte ∷ text) roll ≡ text_printed (byte ∷ text) (next_line roll) }
-    ensures parts { (first rest : List ℕ) (roll : Roll) → text_printed (first ++ rest) roll ≡ text_printed rest (text_printed first roll) }
+    ensures fits { (text : List ℕ) (roll : Roll) (row column : ℕ) → IsWhole roll → roll.cursor ≡ At row column
+        → column + length text ≤ 80 → text_printed text roll ≡ shown_at row column text roll }
+    ensures wraps { (byte : ℕ) (text : List ℕ) (roll : Roll) (row : ℕ) → IsWhole roll → roll.cursor ≡ At row 80
+        → text_printed (byte ∷ text) roll ≡ text_printed (byte ∷ text) (next_line roll) }
+    ensures begins { (byte : ℕ) (text : List ℕ) (roll : Roll) → roll.cursor ≡ BeforeFirst
+        → text_printed (byte ∷ text) roll ≡ text_printed (byte ∷ text) (next_line roll) }
+    ensures parts { (first rest : List ℕ) (roll : Roll)
+        → text_printed (first ++ rest) roll ≡ text_printed rest (text_printed first roll) }
 {}
 
 /// After every list of commands 25 rows of 80 columns are seen, no control byte stands in them, and the cursor is on
@@ -27,7 +31,8 @@ pub fn screen_keeps_its_shape()
 
 /// Whatever commands follow, the rows sent out stay as they are, and stay sent out.
 pub fn screen_keeps_what_it_sent()
-    ensures { (first more : List Command) → KeepsSent (after first blank_screen).roll (after (first ++ more) blank_screen).roll }
+    ensures { (first more : List Command)
+        → KeepsSent (after first blank_screen).roll (after (first ++ more) blank_screen).roll }
 {}
 
 /// The bytes at the end of every list of commands are lines of at most 80 bytes, none of them a control byte, without

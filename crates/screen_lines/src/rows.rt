@@ -3,7 +3,9 @@
 
 ghost use Rattle.std.specs.Prelude.{◌≡◌, ◌+◌, ◌-◌, ◌*◌, ◌≤◌, ◌++◌, length, vec_len, vec_capacity, IfOk};
 ghost use Rattle.std.specs.List.{suffix_len};
-ghost use Rattle.screen_lines.specs.Roll.{blank_row as blank_row_of, blank_rows as blank_rows_of, row_with, shown_byte as shown_byte_of, is_blank, is_blank_row as is_blank_row_of, line, lines};
+ghost use Rattle.screen_lines.specs.Roll.{blank_row as blank_row_of, blank_rows as blank_rows_of, row_with};
+ghost use Rattle.screen_lines.specs.Roll.{shown_byte as shown_byte_of, is_blank, is_blank_row as is_blank_row_of, line};
+ghost use Rattle.screen_lines.specs.Roll.{lines};
 
 use std::alloc::{AllocError, Global};
 

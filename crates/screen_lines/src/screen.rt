@@ -2,7 +2,8 @@
 #![tactic(auto)]
 
 ghost use Rattle.std.specs.Prelude.{◌≡◌, IsTrue, IfOk, OnOk, OnErr};
-ghost use Rattle.screen_lines.specs.State.{blank_screen, reserved_screen, new_line as new_line_of, printed, said, said_on, cleared, sent};
+ghost use Rattle.screen_lines.specs.State.{blank_screen, reserved_screen, new_line as new_line_of, printed, said};
+ghost use Rattle.screen_lines.specs.State.{said_on, cleared, sent};
 
 use crate::cursor::Cursor;
 use crate::display::Display;

@@ -1,5 +1,6 @@
 -- The keys of rows, and the texts that say how they are made.
-use Rattle.std.specs.Prelude.{◌≡◌, ℕ, ◌+◌, ◌<◌, ◌≤◌, Bool, true, false, ◌&&◌, nat_le, List, [], ◌∷◌, ◌++◌, Option, Some, None, length, map, slice_get, slice_index, slice_index_or, if◌then◌else◌, codes}
+use Rattle.std.specs.Prelude.{◌≡◌, ℕ, ◌+◌, ◌<◌, ◌≤◌, Bool, true, false, ◌&&◌, nat_le, List, [], ◌∷◌, ◌++◌, Option, Some}
+use Rattle.std.specs.Prelude.{None, length, map, slice_get, slice_index, slice_index_or, if◌then◌else◌, codes}
 use Rattle.std.specs.Char.{to_ascii_uppercase}
 use Rattle.std.specs.List.{AllByRecursion, list_all}
 use Rattle.dbf_file.specs.declared.field.Letter.{Letter}
@@ -76,7 +77,8 @@ name_of (Some f) = f.name.items
 
 -- the field's name, in UPPER() where its text is taken in capitals
 abbrev pub part_spelled : List Field → KeyPart → List ℕ
-part_spelled fields part = if part.upper then codes "UPPER(" ++ (name_of (slice_get fields part.field) ++ codes ")") else name_of (slice_get fields part.field)
+part_spelled fields part = if part.upper then codes "UPPER(" ++ (name_of (slice_get fields part.field) ++ codes ")")
+    else name_of (slice_get fields part.field)
 
 -- the further parts, a plus sign before each
 abbrev pub more_spelled : List Field → List KeyPart → List ℕ

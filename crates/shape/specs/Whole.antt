@@ -9,7 +9,8 @@ use Rattle.shape.specs.Indexes.{indexes_go_on}
 
 -- at most 32 tables and 64 indexes, each legal behind those before it
 unfoldable pub is_shape : Shape → Bool
-is_shape s = nat_le (length s.tables) 32 && nat_le (length s.indexes) 64 && tables_go_on [] s.tables && indexes_go_on s.tables [] s.indexes
+is_shape s = nat_le (length s.tables) 32 && nat_le (length s.indexes) 64 && tables_go_on [] s.tables
+    && indexes_go_on s.tables [] s.indexes
 
 -- rows of the table can have the index's key, and its text has at most 100 bytes, none of them zero
 pub record HasKeyOf (t : TableShape) (x : IndexShape) : Type 0 where

@@ -8,8 +8,8 @@ use crate::names::{Name, copy_of, is_file_name};
 use crate::parts::KeyParts;
 use crate::tables::TableShape;
 
-/// A declared index: its name, which is that of its file, its table by the number, counted from 0, and how a row's key is
-/// made.
+/// A declared index: its name, which is that of its file, its table by the number, counted from 0, and how a row's key
+/// is made.
 #[derive(Drop, Debug)]
 pub struct IndexShape {
     pub name: Name,
@@ -24,8 +24,8 @@ fn is_taken(indexes: &[IndexShape], name: &Name) -> bool
 }
 
 impl IndexShape {
-    /// Whether it may be declared of these tables: a name that an index can have, a table that is there, and a key that its
-    /// rows can have, spelled in at most 100 bytes.
+    /// Whether it may be declared of these tables: a name that an index can have, a table that is there, and a key that
+    /// its rows can have, spelled in at most 100 bytes.
     #[tactic(auto, unfolding(crate::specs::Indexes::is_index))]
     pub fn is_index(&self, tables: &[TableShape]) -> bool
         ensures { result ≡ is_index tables.now self.now }
@@ -45,7 +45,8 @@ impl IndexShape {
         }
     }
 
-    /// Whether it may be declared of these tables behind these indexes: it may be declared, and none of them has its name.
+    /// Whether it may be declared of these tables behind these indexes: it may be declared, and none of them has its
+    /// name.
     #[tactic(auto, unfolding(crate::specs::Indexes::is_next_index))]
     pub fn is_next(&self, tables: &[TableShape], indexes: &[IndexShape]) -> bool
         ensures { result ≡ is_next_index tables.now indexes.now self.now }

@@ -9,11 +9,12 @@ ghost use Rattle.shape.specs.declared.whole.Shape.{Shape as TheShape};
 
 /// A key that fits fields is one that rows of any structure with these fields can have.
 pub fn fitting_keys_are_keys()
-    ensures { (structure : StructureState) (parts : List ThePart) → is_key structure.fields parts ≡ true → IsKey structure parts }
+    ensures { (structure : StructureState) (parts : List ThePart) → is_key structure.fields parts ≡ true
+        → IsKey structure parts }
 {}
 
-/// Each index of a shape that may be declared is of a declared table, whose rows can have its key, and the text of that key has
-/// at most 100 bytes, none of them zero.
+/// Each index of a shape that may be declared is of a declared table, whose rows can have its key, and the text of that
+/// key has at most 100 bytes, none of them zero.
 pub fn legal_shapes_have_keys()
     ensures { (shape : TheShape) → is_shape shape ≡ true → IsLegal shape }
 {}

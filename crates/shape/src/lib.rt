@@ -1,8 +1,8 @@
-//! What a code declares of files: its tables with their fields, its indexes with their keys, and lists of indexes that are
-//! opened together.
+//! What a code declares of files: its tables with their fields, its indexes with their keys, and lists of indexes that
+//! are opened together.
 //!
-//! Each declaration has a test of what is legal, by a definition of `specs/`: `TableShape::is_next`, `IndexShape::is_next`,
-//! `IndexList::is_list`, and for a whole shape `Shape::is_legal`. `KeyParts` makes a row's key.
+//! Each declaration has a test of what is legal, by a definition of `specs/`: `TableShape::is_next`,
+//! `IndexShape::is_next`, `IndexList::is_list`, and for a whole shape `Shape::is_legal`. `KeyParts` makes a row's key.
 #![tactic(auto)]
 
 mod indexes;

@@ -2,7 +2,8 @@
 
 ghost use Rattle.std.specs.Prelude.{◌≡◌};
 ghost use Rattle.std.specs.List.{list_all};
-ghost use Rattle.shape.specs.Names.{is_capital_byte, begins_with_capital, is_capital_name as is_capital_name_of, is_area_letter as is_area_letter_of, is_file_name as is_file_name_of};
+ghost use Rattle.shape.specs.Names.{is_capital_byte, begins_with_capital, is_capital_name as is_capital_name_of};
+ghost use Rattle.shape.specs.Names.{is_area_letter as is_area_letter_of, is_file_name as is_file_name_of};
 
 use arrayvec::ArrayVec;
 
@@ -41,8 +42,8 @@ fn is_area_letter(name: &[u8]) -> bool
     }
 }
 
-/// Whether a table or an index can have this name: at most eight capitals, digits and underscores, a letter first, and not
-/// the letter of a work area or of variables alone.
+/// Whether a table or an index can have this name: at most eight capitals, digits and underscores, a letter first, and
+/// not the letter of a work area or of variables alone.
 #[tactic(auto, unfolding(crate::specs::Names::is_file_name))]
 pub(crate) fn is_file_name(name: &[u8]) -> bool
     ensures { result ≡ is_file_name_of name.now }

@@ -6,7 +6,8 @@ ghost use Rattle.dbf_file.specs.Rows.{row_at};
 ghost use Rattle.dbf_file.specs.Tables.{row_widths};
 ghost use Rattle.std.specs.Prelude.{◌∷◌, ◌*◌, slice_get};
 ghost use Rattle.std.specs.List.{list_all};
-ghost use Rattle.shape.specs.Keys.{IsKey, cased, key_of, key_length, width_of as width_of_field, names_text, bytes_of, is_key, name_of, part_spelled, more_spelled, key_text};
+ghost use Rattle.shape.specs.Keys.{IsKey, cased, key_of, key_length, width_of as width_of_field, names_text, bytes_of};
+ghost use Rattle.shape.specs.Keys.{is_key, name_of, part_spelled, more_spelled, key_text};
 
 use arrayvec::ArrayVec;
 use dbf_file::{Field, Letter, Table};
@@ -71,8 +72,8 @@ impl KeyParts {
         self.parts.as_slice()
     }
 
-    /// Whether rows of these fields can have the key: one to eight parts, each a field that holds texts, of 1 to 100 bytes
-    /// together.
+    /// Whether rows of these fields can have the key: one to eight parts, each a field that holds texts, of 1 to 100
+    /// bytes together.
     #[tactic(auto, unfolding(crate::specs::Keys::is_key))]
     pub fn fits(&self, fields: &[Field]) -> bool
         ensures { result ≡ is_key fields.now self.now }
@@ -92,8 +93,8 @@ impl KeyParts {
         bytes_in(fields, self.parts())
     }
 
-    /// How the key is spelled over these fields: their names joined by plus signs, in UPPER() where the text is taken in
-    /// capitals.
+    /// How the key is spelled over these fields: their names joined by plus signs, in UPPER() where the text is taken
+    /// in capitals.
     pub fn text(&self, fields: &[Field]) -> KeyText
         ensures { result.items ≡ key_text fields.now self.now }
     {

@@ -32,7 +32,8 @@ fn is_taken(tables: &[TableShape], name: &Name) -> bool
 }
 
 impl TableShape {
-    /// Whether it may be declared: a name that a table can have, and fields that a table can have, with names in capitals.
+    /// Whether it may be declared: a name that a table can have, and fields that a table can have, with names in
+    /// capitals.
     #[tactic(auto, unfolding(crate::specs::Tables::is_table))]
     pub fn is_table(&self) -> bool
         ensures { result ≡ is_table self.now }

@@ -66,7 +66,8 @@ unfoldable pub key_in : List ℕ → List ℕ
 key_in rest = behind_word (behind_word (of_table rest))
 
 unfoldable pub index_said : List ℕ → Said
-index_said rest = if is_on rest && is_key_word rest && not (is_nothing (key_in rest)) then Index (first_word rest) (first_word (of_table rest)) (key_in rest) else Other
+index_said rest = if is_on rest && is_key_word rest
+    && not (is_nothing (key_in rest)) then Index (first_word rest) (first_word (of_table rest)) (key_in rest) else Other
 
 abbrev pub spoken : List ℕ → Said
 spoken text =

@@ -89,7 +89,8 @@ Declares holds Other before after = ⊥
 -- each line declares something behind what those before it declare
 abbrev pub Declare : Holds → List (List ℕ) → Shape → Shape → Type 0
 Declare holds [] before after = before ≡ after
-Declare holds (line ∷ others) before after = (next : Shape) × Declares holds (said line) before next × Declare holds others next after
+Declare holds (line ∷ others) before after =
+    (next : Shape) × Declares holds (said line) before next × Declare holds others next after
 
 -- the file of that name may hold lines that declare the shape, each in its turn
 pub record IsDeclared (holds : Holds) (name : List ℕ) (shape : Shape) : Type 0 where

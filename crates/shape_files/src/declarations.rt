@@ -82,7 +82,8 @@ impl Declarations {
         requires { length self.old.tables.items < 32 }
         ensures added { OnOk result (shape_of self.new ≡ with_table (shape_of self.old) table) }
         ensures legal { is_shape (shape_of self.old) ≡ true → OnOk result (is_shape (shape_of self.new) ≡ true) }
-        ensures refused { (says : List ℕ) (before after : ℕ) → IfErr result (LineRefusalIs (shape_of self.old) (Table says) before after) }
+        ensures refused { (says : List ℕ) (before after : ℕ)
+            → IfErr result (LineRefusalIs (shape_of self.old) (Table says) before after) }
     {
         if !table.is_next(self.tables.as_slice()) {
             return Err(LineRefusal::Fault(LineFault::Table));
@@ -95,7 +96,8 @@ impl Declarations {
     pub fn add_index(&mut self, index: IndexShape) -> Result<(), LineRefusal>
         ensures added { OnOk result (shape_of self.new ≡ with_index (shape_of self.old) index) }
         ensures legal { is_shape (shape_of self.old) ≡ true → OnOk result (is_shape (shape_of self.new) ≡ true) }
-        ensures refused { (name of says : List ℕ) (before after : ℕ) → IfErr result (LineRefusalIs (shape_of self.old) (Index name of says) before after) }
+        ensures refused { (name of says : List ℕ) (before after : ℕ)
+            → IfErr result (LineRefusalIs (shape_of self.old) (Index name of says) before after) }
     {
         if !index.is_next(self.tables.as_slice(), self.indexes.as_slice()) {
             return Err(LineRefusal::Fault(LineFault::Key));

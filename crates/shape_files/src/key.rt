@@ -1,6 +1,7 @@
 //! Keys of declared indexes.
 
-ghost use Rattle.std.specs.Prelude.{◌≡◌, ◌<◌, ◌≤◌, ◌∷◌, ◌++◌, ℕ, List, length, map, slice_get, codes, IfErr, IfOk, IfSome, IsTrue, Some};
+ghost use Rattle.std.specs.Prelude.{◌≡◌, ◌<◌, ◌≤◌, ◌∷◌, ◌++◌, ℕ, List, length, map, slice_get, codes, IfErr, IfOk};
+ghost use Rattle.std.specs.Prelude.{IfSome, IsTrue, Some};
 ghost use Rattle.std.specs.Char.{to_ascii_uppercase};
 ghost use Rattle.prg_expr.specs.declared.tree.Operator.TheVariants.{Plus};
 ghost use Rattle.prg_expr.specs.Word.{Name as NameWord, Sign, Open as OpenWord, words as words_of};
@@ -56,7 +57,8 @@ fn field_of(fields: &[Field], name: &[u8]) -> Option<u8>
 
 /// The part that is the field of that name in any letter case.
 fn part_of(fields: &[Field], word: &[u8], upper: bool) -> Option<KeyPart>
-    ensures named { IfSome result (λ part. name_of_field (slice_get fields.now part.field) ≡ map to_ascii_uppercase word.now) }
+    ensures named { IfSome result (λ part. name_of_field (slice_get fields.now part.field)
+        ≡ map to_ascii_uppercase word.now) }
     ensures upper { IfSome result (λ part. part.upper ≡ upper) }
 {
     let name = capitals(word)?;
@@ -69,7 +71,8 @@ fn upper_part_at<'t>(
     fields: &[Field],
     tokens: &'t [Token<'t>],
 ) -> Option<(KeyPart, &'t [Token<'t>])>
-    ensures part { IfSome result (λ x. NameWord (codes "UPPER") ∷ OpenWord ∷ words_of tokens.now ≡ part_words fields.now x.0 ++ words_of x.1.now) }
+    ensures part { IfSome result (λ x. NameWord (codes "UPPER") ∷ OpenWord ∷ words_of tokens.now
+        ≡ part_words fields.now x.0 ++ words_of x.1.now) }
     ensures shorter { IfSome result (λ x. length x.1.now < length tokens.now) }
 {
     match tokens {
@@ -144,7 +147,8 @@ fn parts_of<'t>(fields: &[Field], tokens: &'t [Token<'t>]) -> Option<Parts>
 /// The key that a text spells over these fields, whose names are in capitals.
 pub fn key_of(alloc: Global, fields: &[Field], text: &[u8]) -> Result<KeyParts, LineRefusal>
     ensures spelled { IfOk result (SpellsKey fields.now text.now) }
-    ensures refused { (s : AnyShape) (name table says : List ℕ) (before after : ℕ) → IfErr result (LineRefusalIs s (Index name table says) before after) }
+    ensures refused { (s : AnyShape) (name table says : List ℕ) (before after : ℕ)
+        → IfErr result (LineRefusalIs s (Index name table says) before after) }
 {
     let line = words(alloc, text)?;
     if line.fault.is_some() {

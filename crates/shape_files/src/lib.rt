@@ -1,7 +1,7 @@
 //! Declaration files: the tables and indexes that command files are compiled for.
 //!
-//! A line `TABLE name` declares a table, whose fields are those of the file NAME.DBF, and `INDEX name ON table KEY key` an
-//! index of a table declared before it. Empty lines and those that begin with a star say nothing.
+//! A line `TABLE name` declares a table, whose fields are those of the file NAME.DBF, and `INDEX name ON table KEY key`
+//! an index of a table declared before it. Empty lines and those that begin with a star say nothing.
 #![tactic(auto)]
 
 mod declarations;

@@ -2,7 +2,8 @@
 
 ghost use Rattle.std.specs.Prelude.{◌≡◌, IfSome, IsTrue};
 ghost use Rattle.std.specs.List.{list_all};
-ghost use Rattle.shape.specs.Names.{is_capital_byte, begins_with_capital, is_capital_name, is_area_letter as is_area_letter_of, is_file_name};
+ghost use Rattle.shape.specs.Names.{is_capital_byte, begins_with_capital, is_capital_name};
+ghost use Rattle.shape.specs.Names.{is_area_letter as is_area_letter_of, is_file_name};
 ghost use Rattle.shape_files.specs.Shapes.{file_name};
 
 use arrayvec::ArrayString;

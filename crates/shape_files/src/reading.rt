@@ -28,9 +28,12 @@ fn declare_table<F: Files>(
     declarations: &mut Declarations,
     word: &[u8],
 ) -> Result<(), LineRefusal>
-    ensures declared { OnOk result (Declares (F.holds files.old) (TableSaid word.now) (shape_of declarations.old) (shape_of declarations.new)) }
-    ensures legal { is_shape (shape_of declarations.old) ≡ true → OnOk result (is_shape (shape_of declarations.new) ≡ true) }
-    ensures refused { IfErr result (LineRefusalIs (shape_of declarations.old) (TableSaid word.now) (F.failed files.old) (F.failed files.new)) }
+    ensures declared { OnOk result (Declares (F.holds files.old) (TableSaid word.now) (shape_of declarations.old)
+        (shape_of declarations.new)) }
+    ensures legal { is_shape (shape_of declarations.old) ≡ true
+        → OnOk result (is_shape (shape_of declarations.new) ≡ true) }
+    ensures refused { IfErr result (LineRefusalIs (shape_of declarations.old) (TableSaid word.now) (F.failed files.old)
+        (F.failed files.new)) }
     ensures counted { F.failed files.old ≤ F.failed files.new }
     ensures kept { SameFiles (F.holds files.old) (F.holds files.new) }
 {
@@ -57,9 +60,12 @@ fn declare_index(
     of: &[u8],
     text: &[u8],
 ) -> Result<(), LineRefusal>
-    ensures declared { OnOk result (DeclaresIndex word.now of.now text.now (shape_of declarations.old) (shape_of declarations.new)) }
-    ensures legal { is_shape (shape_of declarations.old) ≡ true → OnOk result (is_shape (shape_of declarations.new) ≡ true) }
-    ensures refused { (before after : ℕ) → IfErr result (LineRefusalIs (shape_of declarations.old) (IndexSaid word.now of.now text.now) before after) }
+    ensures declared { OnOk result (DeclaresIndex word.now of.now text.now (shape_of declarations.old)
+        (shape_of declarations.new)) }
+    ensures legal { is_shape (shape_of declarations.old) ≡ true
+        → OnOk result (is_shape (shape_of declarations.new) ≡ true) }
+    ensures refused { (before after : ℕ)
+        → IfErr result (LineRefusalIs (shape_of declarations.old) (IndexSaid word.now of.now text.now) before after) }
 {
     let Some(name) = declarations.index_name(word) else {
         return Err(LineRefusal::Fault(LineFault::Name));
@@ -80,9 +86,12 @@ fn declare<F: Files>(
     declarations: &mut Declarations,
     text: &[u8],
 ) -> Result<(), LineRefusal>
-    ensures declared { OnOk result (Declares (F.holds files.old) (said text.now) (shape_of declarations.old) (shape_of declarations.new)) }
-    ensures legal { is_shape (shape_of declarations.old) ≡ true → OnOk result (is_shape (shape_of declarations.new) ≡ true) }
-    ensures refused { IfErr result (LineRefusalIs (shape_of declarations.old) (said text.now) (F.failed files.old) (F.failed files.new)) }
+    ensures declared { OnOk result (Declares (F.holds files.old) (said text.now) (shape_of declarations.old)
+        (shape_of declarations.new)) }
+    ensures legal { is_shape (shape_of declarations.old) ≡ true
+        → OnOk result (is_shape (shape_of declarations.new) ≡ true) }
+    ensures refused { IfErr result (LineRefusalIs (shape_of declarations.old) (said text.now) (F.failed files.old)
+        (F.failed files.new)) }
     ensures counted { F.failed files.old ≤ F.failed files.new }
     ensures kept { SameFiles (F.holds files.old) (F.holds files.new) }
 {
@@ -102,9 +111,12 @@ fn declare_at<F: Files>(
     text: &[u8],
     line: usize,
 ) -> Result<(), ShapeRefusal>
-    ensures declared { OnOk result (Declares (F.holds files.old) (said text.now) (shape_of declarations.old) (shape_of declarations.new)) }
-    ensures legal { is_shape (shape_of declarations.old) ≡ true → OnOk result (is_shape (shape_of declarations.new) ≡ true) }
-    ensures refused { IfErr result (AtLineIs line (shape_of declarations.old) (said text.now) (F.failed files.old) (F.failed files.new)) }
+    ensures declared { OnOk result (Declares (F.holds files.old) (said text.now) (shape_of declarations.old)
+        (shape_of declarations.new)) }
+    ensures legal { is_shape (shape_of declarations.old) ≡ true
+        → OnOk result (is_shape (shape_of declarations.new) ≡ true) }
+    ensures refused { IfErr result (AtLineIs line (shape_of declarations.old) (said text.now) (F.failed files.old)
+        (F.failed files.new)) }
     ensures counted { F.failed files.old ≤ F.failed files.new }
     ensures kept { SameFiles (F.holds files.old) (F.holds files.new) }
 {
@@ -127,7 +139,8 @@ fn declare_all<F: Files>(
 ) -> Result<Declarations, ShapeRefusal>
     ensures declared { IfOk result (λ d. Declare (F.holds files.old) (lines bytes.now) no_shape (shape_of d)) }
     ensures legal { IfOk result (λ d. is_shape (shape_of d) ≡ true) }
-    ensures refused { IfErr result (LinesRefusalIs (F.holds files.old) (lines bytes.now) (F.failed files.old) (F.failed files.new)) }
+    ensures refused { IfErr result (LinesRefusalIs (F.holds files.old) (lines bytes.now) (F.failed files.old)
+        (F.failed files.new)) }
     ensures counted { F.failed files.old ≤ F.failed files.new }
     ensures kept { SameFiles (F.holds files.old) (F.holds files.new) }
 {
@@ -151,7 +164,8 @@ fn declaration_bytes<F: Files>(
 ) -> Result<Vec<u8>, ShapeRefusal>
     ensures held { IfOk result (λ bytes. F.holds files.old decl.now (Some bytes.items)) }
     ensures short { IfOk result (λ bytes. length bytes.items ≤ 67108864) }
-    ensures refused { IfErr result (ShapeRefusalIs (F.holds files.old) decl.now (F.failed files.old) (F.failed files.new)) }
+    ensures refused { IfErr result (ShapeRefusalIs (F.holds files.old) decl.now (F.failed files.old)
+        (F.failed files.new)) }
     ensures counted { F.failed files.old ≤ F.failed files.new }
     ensures kept { SameFiles (F.holds files.old) (F.holds files.new) }
 {
@@ -164,18 +178,20 @@ fn declaration_bytes<F: Files>(
     }
 }
 
-/// The shape that a declaration file declares. Tables' fields come from the tables' files, with their names in capitals.
+/// The shape that a declaration file declares. Tables' fields come from the tables' files, with their names in
+/// capitals.
 ///
 /// # Errors
 ///
-/// What is wrong with the declaration file: that it is absent or longer than 64 MiB, or its first faulty line. A failure of
-/// the device, which was counted. Want of memory.
+/// What is wrong with the declaration file: that it is absent or longer than 64 MiB, or its first faulty line. A
+/// failure of the device, which was counted. Want of memory.
 pub fn read_shape<F: Files>(alloc: Global, files: &mut F, decl: &str) -> Result<Shape, ShapeRefusal>
     // The lines of the file declare the shape, each in its turn.
     ensures declared { IfOk result (IsDeclared (F.holds files.old) decl.now) }
     // It is one that a code can have.
     ensures legal { IfOk result (λ shape. is_shape shape ≡ true) }
-    ensures refused { IfErr result (ShapeRefusalIs (F.holds files.old) decl.now (F.failed files.old) (F.failed files.new)) }
+    ensures refused { IfErr result (ShapeRefusalIs (F.holds files.old) decl.now (F.failed files.old)
+        (F.failed files.new)) }
     ensures counted { F.failed files.old ≤ F.failed files.new }
     ensures kept { SameFiles (F.holds files.old) (F.holds files.new) }
 {

@@ -45,7 +45,8 @@ fn fields_of(alloc: Global, fields: &[Field]) -> Result<Vec<Field>, AllocError>
 fn table_bytes<F: Files>(alloc: Global, files: &mut F, name: &[u8]) -> Result<Vec<u8>, LineRefusal>
     ensures held { IfOk result (λ bytes. F.holds files.old (file_name name.now) (Some bytes.items)) }
     ensures short { IfOk result (λ bytes. length bytes.items ≤ 67108864) }
-    ensures refused { (s : AnyShape) (says : List ℕ) → IfErr result (LineRefusalIs s (Table says) (F.failed files.old) (F.failed files.new)) }
+    ensures refused { (s : AnyShape) (says : List ℕ)
+        → IfErr result (LineRefusalIs s (Table says) (F.failed files.old) (F.failed files.new)) }
     ensures counted { F.failed files.old ≤ F.failed files.new }
     ensures kept { SameFiles (F.holds files.old) (F.holds files.new) }
 {
@@ -64,7 +65,8 @@ fn table_bytes<F: Files>(alloc: Global, files: &mut F, name: &[u8]) -> Result<Ve
 /// The fields of the table in a file, with their names in capitals.
 fn fields_in(alloc: Global, bytes: &[u8]) -> Result<Vec<Field>, LineRefusal>
     ensures fields { IfOk result (λ fields. IsTableOf bytes.now fields.items) }
-    ensures refused { (s : AnyShape) (says : List ℕ) (before after : ℕ) → IfErr result (LineRefusalIs s (Table says) before after) }
+    ensures refused { (s : AnyShape) (says : List ℕ) (before after : ℕ)
+        → IfErr result (LineRefusalIs s (Table says) before after) }
 {
     match read(alloc, bytes, MOST_ROWS) {
         Ok(table) => Ok(fields_of(alloc, table.structure().fields())?),
@@ -80,7 +82,8 @@ pub fn read_fields<F: Files>(
     name: &[u8],
 ) -> Result<Vec<Field>, LineRefusal>
     ensures fields { IfOk result (λ fields. HasFields (F.holds files.old (file_name name.now)) fields.items) }
-    ensures refused { (s : AnyShape) (says : List ℕ) → IfErr result (LineRefusalIs s (Table says) (F.failed files.old) (F.failed files.new)) }
+    ensures refused { (s : AnyShape) (says : List ℕ)
+        → IfErr result (LineRefusalIs s (Table says) (F.failed files.old) (F.failed files.new)) }
     ensures counted { F.failed files.old ≤ F.failed files.new }
     ensures kept { SameFiles (F.holds files.old) (F.holds files.new) }
 {

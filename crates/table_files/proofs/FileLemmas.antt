@@ -13,7 +13,7 @@ use Rattle.shape.specs.declared.tables.TableShape.{TableShape}
 use Rattle.shape.specs.declared.whole.Shape.{Shape}
 use Rattle.dbf_file.specs.Tables.{TableState}
 use Rattle.ndx_tree.specs.Trees.{TreeView}
-use Rattle.work_store.specs.Making.{AreOfShape}
+use Rattle.work_area.specs.Making.{AreOfShape}
 use Rattle.table_files.specs.declared.refusal.FilesRefusal.{FilesRefusal}
 use Rattle.table_files.specs.declared.refusal.FilesRefusal.TheVariants.{Refused, Disk, Memory}
 use Rattle.table_files.specs.declared.refusal.TableFault.{TableFault}

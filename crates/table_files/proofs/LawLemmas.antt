@@ -11,9 +11,9 @@ use Rattle.shape.specs.declared.indexes.IndexShape.{IndexShape}
 use Rattle.shape.specs.declared.tables.TableShape.{TableShape}
 use Rattle.shape.specs.declared.whole.Shape.{Shape}
 use Rattle.shape.specs.Whole.{is_shape}
-use Rattle.work_area.specs.Open.{OpenState}
-use Rattle.work_store.specs.Areas.{StoreState, table_at}
-use Rattle.work_store.specs.Making.{AreMarks, lists_just}
+use Rattle.open_table.specs.Open.{OpenState}
+use Rattle.work_area.specs.Areas.{StoreState, table_at}
+use Rattle.work_area.specs.Making.{AreMarks, lists_just}
 use Rattle.table_files.specs.Loading.{IsTableOf, Loaded}
 use Rattle.table_files.specs.Names.{table_file, index_file}
 use Rattle.table_files.specs.Saving.{Write, IsReadable, table_writes, AreSaved, FindsSaved}

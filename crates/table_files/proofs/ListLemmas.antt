@@ -18,11 +18,11 @@ use Rattle.shape.specs.declared.parts.KeyPart.{KeyPart}
 use Rattle.shape.specs.declared.tables.TableShape.{TableShape}
 use Rattle.shape.specs.declared.whole.Shape.{Shape}
 use Rattle.shape.specs.Whole.{is_shape}
-use Rattle.work_area.specs.Open.{OpenState}
-use Rattle.work_rows.specs.Marks.{IndexMark, mark_at, is_fresh, parts_in, form_in}
-use Rattle.work_store.specs.Areas.{StoreState, index_table, mark_in}
-use Rattle.work_store.specs.Making.{AreMarks, FirstIs as FirstMark, IsMarkOf, form_of, lists_just}
-use Rattle.work_store.specs.Shapes.{AreFound, IsFoundIn}
+use Rattle.open_table.specs.Open.{OpenState}
+use Rattle.open_table.specs.Marks.{IndexMark, mark_at, is_fresh, parts_in, form_in}
+use Rattle.work_area.specs.Areas.{StoreState, index_table, mark_in}
+use Rattle.work_area.specs.Making.{AreMarks, FirstIs as FirstMark, IsMarkOf, form_of, lists_just}
+use Rattle.work_area.specs.Shapes.{AreFound, IsFoundIn}
 use Rattle.table_files.specs.Loading.{FoundList, Loaded}
 use Rattle.table_files.specs.Names.{index_file}
 use Rattle.table_files.specs.Saving.{Write, table_writes, is_listed, FirstIs, IsIndexWrite, AreIndexWrites, AreSaved, HoldsLists, FindsLists}

@@ -18,9 +18,9 @@ use Rattle.row_keys.specs.Lists.{index_list}
 use Rattle.shape.specs.declared.indexes.IndexShape.{IndexShape}
 use Rattle.shape.specs.declared.tables.TableShape.{TableShape}
 use Rattle.shape.specs.declared.whole.Shape.{Shape}
-use Rattle.work_area.specs.Open.{OpenState}
-use Rattle.work_rows.specs.Marks.{mark_at, is_fresh, parts_in, form_in}
-use Rattle.work_store.specs.Areas.{StoreState, index_table, mark_in}
+use Rattle.open_table.specs.Open.{OpenState}
+use Rattle.open_table.specs.Marks.{mark_at, is_fresh, parts_in, form_in}
+use Rattle.work_area.specs.Areas.{StoreState, index_table, mark_in}
 use Rattle.table_files.specs.declared.refusal.FilesRefusal.{FilesRefusal}
 use Rattle.table_files.specs.declared.refusal.FilesRefusal.TheVariants.{Refused, Disk, Memory}
 use Rattle.table_files.specs.Names.{table_file, index_file, files_of}

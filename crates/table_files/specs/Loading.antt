@@ -1,5 +1,6 @@
 -- Tables and indexes as their files hold them.
-use Rattle.std.specs.Prelude.{◌≡◌, ℕ, ◌<◌, ◌≤◌, ◌↔◌, Option, Some, None, List, length, map, slice_get, slice_index_or, IfSome, IsSomeAnd}
+use Rattle.std.specs.Prelude.{◌≡◌, ℕ, ◌<◌, ◌≤◌, ◌↔◌, Option, Some, None, List, length, map, slice_get, slice_index_or}
+use Rattle.std.specs.Prelude.{IfSome, IsSomeAnd}
 use Rattle.std.specs.Char.{to_ascii_lowercase}
 use Rattle.std.specs.List.{AllZip}
 use Rattle.dbf_file.specs.declared.field.Field.{Field}
@@ -14,15 +15,17 @@ use Rattle.ndx_tree.specs.Trees.{TreeView}
 use Rattle.shape.specs.declared.indexes.IndexShape.{IndexShape}
 use Rattle.shape.specs.declared.tables.TableShape.{TableShape}
 use Rattle.shape.specs.declared.whole.Shape.{Shape}
-use Rattle.work_store.specs.Areas.{StoreState}
-use Rattle.work_store.specs.Making.{AreAlike, IsNewStore, form_of, lists_just}
+use Rattle.work_area.specs.Areas.{StoreState}
+use Rattle.work_area.specs.Making.{AreAlike, IsNewStore, form_of, lists_just}
 use Rattle.table_files.specs.Names.{table_file, index_file}
 
 -- ---- tables
 
 -- the same names, without regard to case, field by field
 abbrev pub AreNamed : List Field → List Field → Type 0
-AreNamed fields others = (k : ℕ) (d : Field) → k < length fields → map to_ascii_lowercase (slice_index_or fields k d).name.items ≡ map to_ascii_lowercase (slice_index_or others k d).name.items
+AreNamed fields others = (k : ℕ) (d : Field) → k < length fields
+    → map to_ascii_lowercase (slice_index_or fields k d).name.items
+    ≡ map to_ascii_lowercase (slice_index_or others k d).name.items
 
 -- the declared fields in their order
 pub record AreDeclared (fields declared : List Field) : Type 0 where
@@ -33,7 +36,8 @@ pub record AreDeclared (fields declared : List Field) : Type 0 where
 pub record IsTableIn (bytes : List ℕ) (limit : ℕ) (s : TableShape) (table : TableState) : Type 0 where
   pub stamp : Stamp
   pub text : DbfText table.structure table.rows stamp bytes
-  pub only : (structure : StructureState) (rows : List Row) (other : Stamp) → DbfText structure rows other bytes → length rows ≤ limit → (table.structure ≡ structure) × (table.rows ≡ rows)
+  pub only : (structure : StructureState) (rows : List Row) (other : Stamp) → DbfText structure rows other bytes
+      → length rows ≤ limit → (table.structure ≡ structure) × (table.rows ≡ rows)
   pub few : length table.rows ≤ limit
   pub declared : AreDeclared table.structure.fields s.fields
 
@@ -51,8 +55,8 @@ abbrev pub FoundList : Option (List ℕ) → KeyForm → List Pair → Type 0
 FoundList None form pairs = ⊥
 FoundList (Some bytes) form pairs = (length bytes ≤ 67108864) × IsIndexFile bytes form pairs
 
--- The list that was read for an index, if any: it has the declared key, and just the pairs that its file holds. None was read where
--- there is no file, a longer one, one that is no index file, or one of another key.
+-- The list that was read for an index, if any: it has the declared key, and just the pairs that its file holds. None
+-- was read where there is no file, a longer one, one that is no index file, or one of another key.
 pub record IsListOf (holds : Holds) (s : TableShape) (x : IndexShape) (list : Option TreeView) : Type 0 where
   pub found : Option (List ℕ)
   pub held : holds (index_file x) found
@@ -62,12 +66,13 @@ pub record IsListOf (holds : Holds) (s : TableShape) (x : IndexShape) (list : Op
 -- what was read for each index of a shape
 pub record AreListsOf (holds : Holds) (shape : Shape) (lists : List (Option TreeView)) : Type 0 where
   pub count : length lists ≡ length shape.indexes
-  pub each : (n : ℕ) (x : IndexShape) (s : TableShape) → slice_get shape.indexes n ≡ Some x → slice_get shape.tables x.table ≡ Some s → IsListOf holds s x (slice_index_or lists n None)
+  pub each : (n : ℕ) (x : IndexShape) (s : TableShape) → slice_get shape.indexes n ≡ Some x
+      → slice_get shape.tables x.table ≡ Some s → IsListOf holds s x (slice_index_or lists n None)
 
 -- ---- the whole
 
--- A store of the tables that the declared files may hold, all areas closed. An index isn't stale just where a list was read for it
--- that has the pairs of its table's rows.
+-- A store of the tables that the declared files may hold, all areas closed. An index isn't stale just where a list was
+-- read for it that has the pairs of its table's rows.
 pub record Loaded (holds : Holds) (shape : Shape) (limit : ℕ) (store : StoreState) : Type 0 where
   pub tables : List TableState
   pub read : AllZip (IsTableOf holds limit) shape.tables tables

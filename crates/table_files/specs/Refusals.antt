@@ -71,12 +71,14 @@ BytesRefused holds file broke Memory = ⊤
 
 -- why a declared table isn't loaded; `broke` says that the device failed
 abbrev pub TableRefused : Holds → ℕ → TableShape → Type 0 → FilesRefusal → Type 0
-TableRefused holds limit s broke (Refused name fault) = (name.bytes ≡ table_file s) × IsFault (holds (table_file s)) limit s fault
+TableRefused holds limit s broke (Refused name fault) =
+    (name.bytes ≡ table_file s) × IsFault (holds (table_file s)) limit s fault
 TableRefused holds limit s broke (Disk name) = (name.bytes ≡ table_file s) × broke
 TableRefused holds limit s broke Memory = ⊤
 
 -- a file is that of a declared table, with this fault, and the tables before it were read
-pub record IsRefusedTable (holds : Holds) (shape : Shape) (limit : ℕ) (file : List ℕ) (fault : TableFault) : Type 0 where
+pub record IsRefusedTable (holds : Holds) (shape : Shape) (limit : ℕ) (file : List ℕ)
+    (fault : TableFault) : Type 0 where
   pub t : ℕ
   pub s : TableShape
   pub declared : slice_get shape.tables t ≡ Some s

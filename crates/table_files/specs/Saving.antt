@@ -1,5 +1,6 @@
 -- What is written of a store, and what the files hold then.
-use Rattle.std.specs.Prelude.{◌≡◌, ◌≢◌, ℕ, ◌+◌, ◌-◌, ◌<◌, ◌≤◌, ◌↔◌, Bool, true, Option, Some, None, List, [], ◌∷◌, ◌++◌, length, take, slice_get, MatchBool, IsSomeAnd, ⊤}
+use Rattle.std.specs.Prelude.{◌≡◌, ◌≢◌, ℕ, ◌+◌, ◌-◌, ◌<◌, ◌≤◌, ◌↔◌, Bool, true, Option, Some, None, List, [], ◌∷◌, ◌++◌}
+use Rattle.std.specs.Prelude.{length, take, slice_get, MatchBool, IsSomeAnd, ⊤}
 use Rattle.std.specs.List.{AllByRecursion}
 use Rattle.dbf_file.specs.declared.stamp.Stamp.{Stamp}
 use Rattle.dbf_file.specs.Tables.{TableState, DbfText, dbf_text}
@@ -10,10 +11,10 @@ use Rattle.row_keys.specs.Lists.{index_list}
 use Rattle.shape.specs.declared.indexes.IndexShape.{IndexShape}
 use Rattle.shape.specs.declared.tables.TableShape.{TableShape}
 use Rattle.shape.specs.declared.whole.Shape.{Shape}
-use Rattle.work_area.specs.Open.{OpenState}
-use Rattle.work_rows.specs.Marks.{mark_at, is_fresh, parts_in, form_in}
-use Rattle.work_store.specs.Areas.{StoreState, table_at, index_table, mark_in}
-use Rattle.work_store.specs.Making.{form_of}
+use Rattle.open_table.specs.Open.{OpenState}
+use Rattle.open_table.specs.Marks.{mark_at, is_fresh, parts_in, form_in}
+use Rattle.work_area.specs.Areas.{StoreState, table_at, index_table, mark_in}
+use Rattle.work_area.specs.Making.{form_of}
 use Rattle.table_files.specs.declared.refusal.FilesRefusal.{FilesRefusal}
 use Rattle.table_files.specs.declared.refusal.FilesRefusal.TheVariants.{Refused, Disk, Memory}
 use Rattle.table_files.specs.Loading.{IsTableOf}
@@ -26,7 +27,8 @@ Write = List ℕ × List ℕ
 -- each file that was written holds its bytes, and every other name what it held
 pub record AreReplaced (before : Holds) (writes : List Write) (after : Holds) : Type 0 where
   pub written : AllByRecursion (λ w. after w.0 (Some w.1)) writes
-  pub others : (name : List ℕ) → AllByRecursion (λ w. w.0 ≢ name) writes → (found : Option (List ℕ)) → before name found ↔ after name found
+  pub others : (name : List ℕ) → AllByRecursion (λ w. w.0 ≢ name) writes → (found : Option (List ℕ))
+      → before name found ↔ after name found
 
 -- ---- tables
 
@@ -34,7 +36,8 @@ pub record AreReplaced (before : Holds) (writes : List Write) (after : Holds) : 
 abbrev pub table_writes : Stamp → List TableShape → List OpenState → List Write
 table_writes stamp [] os = []
 table_writes stamp (s ∷ ss) [] = []
-table_writes stamp (s ∷ ss) (o ∷ os) = (table_file s, dbf_text o.table.structure o.table.rows stamp) ∷ table_writes stamp ss os
+table_writes stamp (s ∷ ss) (o ∷ os) =
+    (table_file s, dbf_text o.table.structure o.table.rows stamp) ∷ table_writes stamp ss os
 
 -- what is written of a table reads as that table
 abbrev pub IsReadable : Stamp → OpenState → Type 0
@@ -45,7 +48,9 @@ IsReadable stamp o = DbfText o.table.structure o.table.rows stamp (dbf_text o.ta
 -- the file of index n, with the list of its table's rows under the declared key
 pub record IsIndexWrite (store : StoreState) (n : ℕ) (x : IndexShape) (w : Write) : Type 0 where
   pub name : w.0 ≡ index_file x
-  pub text : IsSomeAnd (index_table store n) (λ o. IsIndexText w.1 (form_in o.table.structure (mark_at o.table.marks n)) (index_list (parts_in (mark_at o.table.marks n)) o.table.rows))
+  pub text : IsSomeAnd (index_table store n)
+      (λ o. IsIndexText w.1 (form_in o.table.structure (mark_at o.table.marks n))
+      (index_list (parts_in (mark_at o.table.marks n)) o.table.rows))
 
 -- a fact of the first, and one of the others
 abbrev pub FirstIs : (Write → Type 0) → (List Write → Type 0) → List Write → Type 0
@@ -72,7 +77,8 @@ WriteRefused file broke (Disk name) = (name.bytes ≡ file) × broke
 WriteRefused file broke Memory = ⊤
 
 -- tables were written as far as the first k of them, and then no more
-pub record TablesEnded (shape : Shape) (store : StoreState) (stamp : Stamp) (before after : Holds) (broke : Type 0) (refusal : FilesRefusal) : Type 0 where
+pub record TablesEnded (shape : Shape) (store : StoreState) (stamp : Stamp) (before after : Holds) (broke : Type 0)
+    (refusal : FilesRefusal) : Type 0 where
   pub k : ℕ
   pub s : TableShape
   pub next : slice_get shape.tables k ≡ Some s
@@ -83,7 +89,8 @@ pub record TablesEnded (shape : Shape) (store : StoreState) (stamp : Stamp) (bef
 -- an index's file is that of its list; without a list no file changes
 abbrev pub ListSaved : IndexShape → Option TreeView → Holds → Holds → Type 0
 ListSaved x None before after = AreReplaced before [] after
-ListSaved x (Some list) before after = (bytes : List ℕ) × IsIndexText bytes list.form list.pairs × AreReplaced before ((index_file x, bytes) ∷ []) after
+ListSaved x (Some list) before after =
+    (bytes : List ℕ) × IsIndexText bytes list.form list.pairs × AreReplaced before ((index_file x, bytes) ∷ []) after
 
 -- the files of those of the first k indexes that aren't stale are new
 pub record ListsSaved (shape : Shape) (store : StoreState) (k : ℕ) (before after : Holds) : Type 0 where
@@ -91,7 +98,8 @@ pub record ListsSaved (shape : Shape) (store : StoreState) (k : ℕ) (before aft
   pub are : AreIndexWrites store 0 (take k shape.indexes) writes
   pub replaced : AreReplaced before writes after
 
-pub record ListsEnded (shape : Shape) (store : StoreState) (before after : Holds) (broke : Type 0) (refusal : FilesRefusal) : Type 0 where
+pub record ListsEnded (shape : Shape) (store : StoreState) (before after : Holds) (broke : Type 0)
+    (refusal : FilesRefusal) : Type 0 where
   pub k : ℕ
   pub x : IndexShape
   pub next : slice_get shape.indexes k ≡ Some x
@@ -100,7 +108,8 @@ pub record ListsEnded (shape : Shape) (store : StoreState) (before after : Holds
 
 -- ---- the whole
 
--- What is written of a store for the first k declared files: those of tables, and behind all tables those of indexes that aren't stale.
+-- What is written of a store for the first k declared files: those of tables, and behind all tables those of indexes
+-- that aren't stale.
 pub record AreWrites (shape : Shape) (store : StoreState) (stamp : Stamp) (k : ℕ) (writes : List Write) : Type 0 where
   pub of_indexes : List Write
   pub indexes : AreIndexWrites store 0 (take (k - length shape.tables) shape.indexes) of_indexes
@@ -120,7 +129,8 @@ SaveRefused shape k broke (Disk name) = (slice_get (files_of shape) k ≡ Some n
 SaveRefused shape k broke Memory = ⊤
 
 -- saving ended before file k, counted from 0
-pub record EndedAt (shape : Shape) (store : StoreState) (stamp : Stamp) (before after : Holds) (broke : Type 0) (refusal : FilesRefusal) : Type 0 where
+pub record EndedAt (shape : Shape) (store : StoreState) (stamp : Stamp) (before after : Holds) (broke : Type 0)
+    (refusal : FilesRefusal) : Type 0 where
   pub k : ℕ
   pub within : k + 1 ≤ length (files_of shape)
   pub saved : AreSaved shape store stamp k before after
@@ -128,13 +138,17 @@ pub record EndedAt (shape : Shape) (store : StoreState) (stamp : Stamp) (before 
 
 -- ---- what a later load finds
 
--- The tables of the first k files are as the store had them, with no more rows than the limit; the others are those that their files held
--- before.
-pub record FindsSaved (before : Holds) (shape : Shape) (store : StoreState) (k limit : ℕ) (loaded : StoreState) : Type 0 where
-  pub saved : (t : ℕ) (s : TableShape) (o l : OpenState) → t < k → slice_get shape.tables t ≡ Some s → table_at store t ≡ Some o → table_at loaded t ≡ Some l → length o.table.rows ≤ limit
+-- The tables of the first k files are as the store had them, with no more rows than the limit; the others are those
+-- that their files held before.
+pub record FindsSaved (before : Holds) (shape : Shape) (store : StoreState) (k limit : ℕ)
+    (loaded : StoreState) : Type 0 where
+  pub saved : (t : ℕ) (s : TableShape) (o l : OpenState) → t < k → slice_get shape.tables t ≡ Some s
+      → table_at store t ≡ Some o → table_at loaded t ≡ Some l → length o.table.rows ≤ limit
       → (l.table.structure ≡ o.table.structure) × (l.table.rows ≡ o.table.rows)
-  pub kept : (t : ℕ) (s : TableShape) (l : OpenState) → k ≤ t → slice_get shape.tables t ≡ Some s → table_at loaded t ≡ Some l
-      → (table : TableState) × IsTableOf before limit s table × (l.table.structure ≡ table.structure) × (l.table.rows ≡ table.rows)
+  pub kept : (t : ℕ) (s : TableShape) (l : OpenState) → k ≤ t → slice_get shape.tables t ≡ Some s
+      → table_at loaded t ≡ Some l
+      → (table : TableState) × IsTableOf before limit s table × (l.table.structure ≡ table.structure)
+      × (l.table.rows ≡ table.rows)
 
 -- ---- what files hold of indexes
 
@@ -145,7 +159,8 @@ pub record IsListFile (holds : Holds) (s : TableShape) (x : IndexShape) (o : Ope
   pub text : IsIndexText bytes (form_of s x) (index_list x.key o.table.rows)
 
 -- index n, of table o that is declared as s, isn't stale, and its file is one of the first k
-pub record IsSaved (shape : Shape) (store : StoreState) (k n : ℕ) (x : IndexShape) (s : TableShape) (o : OpenState) : Type 0 where
+pub record IsSaved (shape : Shape) (store : StoreState) (k n : ℕ) (x : IndexShape) (s : TableShape)
+    (o : OpenState) : Type 0 where
   pub within : length shape.tables + n < k
   pub index : slice_get shape.indexes n ≡ Some x
   pub declared : slice_get shape.tables x.table ≡ Some s
@@ -154,9 +169,11 @@ pub record IsSaved (shape : Shape) (store : StoreState) (k n : ℕ) (x : IndexSh
 
 -- each such index has such a file
 abbrev pub HoldsLists : Holds → Shape → StoreState → ℕ → Type 0
-HoldsLists holds shape store k = (n : ℕ) (x : IndexShape) (s : TableShape) (o : OpenState) → IsSaved shape store k n x s o → IsListFile holds s x o
+HoldsLists holds shape store k =
+    (n : ℕ) (x : IndexShape) (s : TableShape) (o : OpenState) → IsSaved shape store k n x s o → IsListFile holds s x o
 
 -- each such index, of a table of no more rows than the limit, isn't stale where its file has at most 64 MiB
 abbrev pub FindsLists : Holds → Shape → StoreState → ℕ → ℕ → StoreState → Type 0
-FindsLists holds shape store k limit loaded = (n : ℕ) (x : IndexShape) (s : TableShape) (o l : OpenState) → IsSaved shape store k n x s o → length o.table.rows ≤ limit → table_at loaded x.table ≡ Some l
+FindsLists holds shape store k limit loaded = (n : ℕ) (x : IndexShape) (s : TableShape) (o l : OpenState)
+    → IsSaved shape store k n x s o → length o.table.rows ≤ limit → table_at loaded x.table ≡ Some l
     → (file : IsListFile holds s x o) → length file.bytes ≤ 67108864 → is_fresh (mark_at l.table.marks n) ≡ true

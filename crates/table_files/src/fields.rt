@@ -4,7 +4,7 @@ ghost use Rattle.std.specs.Prelude.{◌≡◌, ◌↔◌, IsTrue, length};
 ghost use Rattle.table_files.specs.Loading.{AreNamed, AreDeclared};
 
 use dbf_file::Field;
-use work_store::handed::are_alike;
+use work_area::handed::are_alike;
 
 /// Whether fields have the names of others in their order, without regard to case.
 fn are_named(fields: &[Field], others: &[Field]) -> bool
@@ -23,8 +23,8 @@ fn are_named(fields: &[Field], others: &[Field]) -> bool
     true
 }
 
-/// Whether fields are the declared ones in their order: of the same names, without regard to case, letters, widths and decimals. Only
-/// numbers have decimals.
+/// Whether fields are the declared ones in their order: of the same names, without regard to case, letters, widths and
+/// decimals. Only numbers have decimals.
 pub(crate) fn are_declared(fields: &[Field], declared: &[Field]) -> bool
     ensures { IsTrue result ↔ AreDeclared fields.now declared.now }
 {

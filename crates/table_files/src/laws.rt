@@ -5,33 +5,40 @@ ghost use Rattle.dbf_file.specs.declared.stamp.Stamp.{Stamp as TheStamp};
 ghost use Rattle.file_access.specs.Holding.{HoldsOneThing};
 ghost use Rattle.shape.specs.Whole.{is_shape};
 ghost use Rattle.shape.specs.declared.whole.Shape.{Shape as TheShape};
-ghost use Rattle.work_store.specs.Areas.{StoreState};
-ghost use Rattle.work_store.specs.Shapes.{HasShape};
+ghost use Rattle.work_area.specs.Areas.{StoreState};
+ghost use Rattle.work_area.specs.Shapes.{HasShape};
 ghost use Rattle.table_files.specs.Loading.{Loaded};
 ghost use Rattle.table_files.specs.Saving.{AreSaved, FindsLists, FindsSaved, HoldsLists};
 
 use file_access::Files;
-use work_store::laws::indexes_have_their_declared_keys;
+use work_area::laws::indexes_have_their_declared_keys;
 
-/// A load after a save that ended with the first k declared files replaced, or with all of them, finds the tables of these files as the
-/// store had them, and the others as their files held them before. That is so where each name holds one thing alone.
+/// A load after a save that ended with the first k declared files replaced, or with all of them, finds the tables of
+/// these files as the store had them, and the others as their files held them before. That is so where each name holds
+/// one thing alone.
 pub fn loads_find_what_was_saved<F: Files>()
-    ensures { (before after : F) (shape : TheShape) (store loaded : StoreState) (stamp : TheStamp) (k limit : ℕ) → HoldsOneThing (F.holds after) → is_shape shape ≡ true
-        → AreSaved shape store stamp k (F.holds before) (F.holds after) → Loaded (F.holds after) shape limit loaded → FindsSaved (F.holds before) shape store k limit loaded }
+    ensures { (before after : F) (shape : TheShape) (store loaded : StoreState) (stamp : TheStamp) (k limit : ℕ)
+        → HoldsOneThing (F.holds after) → is_shape shape ≡ true
+        → AreSaved shape store stamp k (F.holds before) (F.holds after) → Loaded (F.holds after) shape limit loaded
+        → FindsSaved (F.holds before) shape store k limit loaded }
 {}
 
-/// After a save of a store of a shape, whole or ended behind the first k files, the file of each index among them that isn't stale lists
-/// the rows of its table under the key that is declared: its length, and the text that says how it is made.
+/// After a save of a store of a shape, whole or ended behind the first k files, the file of each index among them that
+/// isn't stale lists the rows of its table under the key that is declared: its length, and the text that says how it is
+/// made.
 pub fn saved_indexes_have_their_declared_keys<F: Files>()
-    ensures { (before after : F) (shape : TheShape) (store : StoreState) (stamp : TheStamp) (k : ℕ) → HasShape shape store
+    ensures { (before after : F) (shape : TheShape) (store : StoreState) (stamp : TheStamp) (k : ℕ)
+        → HasShape shape store
         → AreSaved shape store stamp k (F.holds before) (F.holds after) → HoldsLists (F.holds after) shape store k }
 {
     indexes_have_their_declared_keys();
 }
 
-/// A load after such a save finds none of these indexes stale, but where its file is above 64 MiB, or its table was saved with more rows
-/// than the load's limit. That is so where each name holds one thing alone.
+/// A load after such a save finds none of these indexes stale, but where its file is above 64 MiB, or its table was
+/// saved with more rows than the load's limit. That is so where each name holds one thing alone.
 pub fn loads_find_saved_indexes<F: Files>()
-    ensures { (before after : F) (shape : TheShape) (store loaded : StoreState) (stamp : TheStamp) (k limit : ℕ) → HoldsOneThing (F.holds after) → is_shape shape ≡ true
-        → AreSaved shape store stamp k (F.holds before) (F.holds after) → Loaded (F.holds after) shape limit loaded → FindsLists (F.holds after) shape store k limit loaded }
+    ensures { (before after : F) (shape : TheShape) (store loaded : StoreState) (stamp : TheStamp) (k limit : ℕ)
+        → HoldsOneThing (F.holds after) → is_shape shape ≡ true
+        → AreSaved shape store stamp k (F.holds before) (F.holds after) → Loaded (F.holds after) shape limit loaded
+        → FindsLists (F.holds after) shape store k limit loaded }
 {}

@@ -1,7 +1,7 @@
 //! Declared tables and indexes: loaded from files, and saved to them.
 //!
-//! A table's file is named NAME.DBF, an index's NAME.NDX. `load` makes a store of the files that a shape declares, and `save` replaces
-//! them by what a store holds.
+//! A table's file is named NAME.DBF, an index's NAME.NDX. `load` makes a store of the files that a shape declares, and
+//! `save` replaces them by what a store holds.
 #![tactic(auto)]
 
 mod fields;

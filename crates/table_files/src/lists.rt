@@ -1,12 +1,13 @@
 //! Lists of indexes read from their files.
 
-ghost use Rattle.std.specs.Prelude.{◌≡◌, ◌≤◌, ◌↔◌, true, List, Contains, length, IfOk, IfErr, IfSome, IsSomeAnd, IsTrue};
+ghost use Rattle.std.specs.Prelude.{◌≡◌, ◌≤◌, ◌↔◌, true, List, Contains, length, IfOk, IfErr, IfSome, IsSomeAnd};
+ghost use Rattle.std.specs.Prelude.{IsTrue};
 ghost use Rattle.file_access.specs.Holding.{Rose, SameFiles};
 ghost use Rattle.ndx_tree.specs.IndexFile.{IsIndexFile};
 ghost use Rattle.key_lists.specs.Pairs.{Pair};
 ghost use Rattle.shape.specs.Names.{is_file_name};
 ghost use Rattle.shape.specs.Whole.{is_shape};
-ghost use Rattle.work_store.specs.Making.{form_of};
+ghost use Rattle.work_area.specs.Making.{form_of};
 ghost use Rattle.table_files.specs.Loading.{IsListOf, AreListsOf};
 ghost use Rattle.table_files.specs.Names.{index_file};
 ghost use Rattle.table_files.specs.Refusals.{ListRefused, ListsRefused};
@@ -19,7 +20,7 @@ use ndx_tree::{NdxTree, TreeFault};
 use shape::laws::legal_shapes_have_keys;
 use shape::{IndexShape, Shape, TableShape};
 use std::alloc::{AllocError, Global};
-use work_store::handed::is_list_of;
+use work_area::handed::is_list_of;
 
 /// Whether an index file wasn't read for want of memory.
 fn is_memory(fault: TreeFault) -> bool
@@ -37,7 +38,8 @@ fn list_in(
 ) -> Result<Option<NdxTree>, AllocError>
     requires { length bytes.now ≤ 67108864 }
     ensures form { IfOk result (λ list. IfSome list (λ k. k.form ≡ form_of table.now index.now)) }
-    ensures just { IfOk result (λ list. (pairs : List Pair) → IsSomeAnd list (λ k. k.pairs ≡ pairs) ↔ IsIndexFile bytes.now (form_of table.now index.now) pairs) }
+    ensures just { IfOk result (λ list. (pairs : List Pair)
+        → IsSomeAnd list (λ k. k.pairs ≡ pairs) ↔ IsIndexFile bytes.now (form_of table.now index.now) pairs) }
 {
     let tree = match NdxTree::read(alloc, bytes) {
         Ok(tree) => tree,
@@ -54,8 +56,8 @@ fn list_in(
     Ok(Some(tree))
 }
 
-/// The list of a declared index, read from its file; none where there is no such file, it is above 64 MiB, or no index file of the
-/// declared key.
+/// The list of a declared index, read from its file; none where there is no such file, it is above 64 MiB, or no index
+/// file of the declared key.
 fn load_list<F: Files>(
     alloc: Global,
     files: &mut F,

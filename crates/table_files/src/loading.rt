@@ -3,7 +3,7 @@
 ghost use Rattle.std.specs.Prelude.{◌≡◌, ◌≤◌, true, IfOk, IfErr};
 ghost use Rattle.file_access.specs.Holding.{Rose, SameFiles};
 ghost use Rattle.shape.specs.Whole.{is_shape};
-ghost use Rattle.work_store.specs.Shapes.{HasShape};
+ghost use Rattle.work_area.specs.Shapes.{HasShape};
 ghost use Rattle.table_files.specs.Loading.{Loaded};
 ghost use Rattle.table_files.specs.Refusals.{LoadRefused};
 
@@ -14,17 +14,17 @@ use file_access::Files;
 use ndx_tree::NdxTree;
 use shape::Shape;
 use std::alloc::Global;
-use work_store::Store;
+use work_area::Store;
 
-/// The store of the tables and indexes that a shape declares, as their files hold them, all work areas closed. No table may have more
-/// records than `limit`.
+/// The store of the tables and indexes that a shape declares, as their files hold them, all work areas closed. No table
+/// may have more records than `limit`.
 ///
-/// An index is stale whose file is absent, above 64 MiB, no index file, one of another key, or one of other pairs than those of its
-/// table's rows.
+/// An index is stale whose file is absent, above 64 MiB, no index file, one of another key, or one of other pairs than
+/// those of its table's rows.
 ///
 /// # Errors
-/// `Refused` names the first table whose file is absent, above 64 MiB, no table's file, or has other fields than those declared; `Disk`
-/// is a failure of the device.
+/// `Refused` names the first table whose file is absent, above 64 MiB, no table's file, or has other fields than those
+/// declared; `Disk` is a failure of the device.
 pub fn load<F: Files>(
     alloc: Global,
     files: &mut F,
@@ -35,7 +35,8 @@ pub fn load<F: Files>(
     requires few { limit ≤ 1000000 }
     ensures loaded { IfOk result (Loaded (F.holds files.old) shape.now limit) }
     ensures shape { IfOk result (HasShape shape.now) }
-    ensures refused { IfErr result (LoadRefused (F.holds files.old) shape.now limit (Rose (F.failed files.old) (F.failed files.new))) }
+    ensures refused { IfErr result (LoadRefused (F.holds files.old) shape.now limit
+        (Rose (F.failed files.old) (F.failed files.new))) }
     ensures kept { SameFiles (F.holds files.old) (F.holds files.new) }
     ensures counted { F.failed files.old ≤ F.failed files.new }
 {

@@ -24,7 +24,8 @@ pub enum TableFault {
     Structure,
 }
 
-/// Why tables and indexes aren't loaded or saved: a fault of a table's file, a failure of the device, or want of memory.
+/// Why tables and indexes aren't loaded or saved: a fault of a table's file, a failure of the device, or want of
+/// memory.
 #[derive(Clone, Copy, Debug, PartialEq, Eq, Error)]
 pub enum FilesRefusal {
     /// A table's file isn't taken.

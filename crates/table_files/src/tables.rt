@@ -23,7 +23,8 @@ use std::alloc::Global;
 fn bytes_of<F: Files>(alloc: Global, files: &mut F, name: FileName) -> Result<Vec<u8>, FilesRefusal>
     ensures held { IfOk result (λ bytes. F.holds files.old name.bytes (Some bytes.items)) }
     ensures short { IfOk result (λ bytes. length bytes.items ≤ 67108864) }
-    ensures refused { IfErr result (BytesRefused (F.holds files.old) name.bytes (Rose (F.failed files.old) (F.failed files.new))) }
+    ensures refused { IfErr result (BytesRefused (F.holds files.old) name.bytes
+        (Rose (F.failed files.old) (F.failed files.new))) }
     ensures kept { SameFiles (F.holds files.old) (F.holds files.new) }
     ensures counted { F.failed files.old ≤ F.failed files.new }
 {
@@ -81,7 +82,8 @@ fn load_table<F: Files>(
 ) -> Result<Table, FilesRefusal>
     requires { is_file_name declared.now.name.items ≡ true }
     ensures loaded { IfOk result (IsTableOf (F.holds files.old) limit declared.now) }
-    ensures refused { IfErr result (TableRefused (F.holds files.old) limit declared.now (Rose (F.failed files.old) (F.failed files.new))) }
+    ensures refused { IfErr result (TableRefused (F.holds files.old) limit declared.now
+        (Rose (F.failed files.old) (F.failed files.new))) }
     ensures kept { SameFiles (F.holds files.old) (F.holds files.new) }
     ensures counted { F.failed files.old ≤ F.failed files.new }
 {
@@ -98,8 +100,10 @@ pub(crate) fn load_tables<F: Files>(
     limit: u32,
 ) -> Result<Vec<Table>, FilesRefusal>
     requires { is_shape shape.now ≡ true }
-    ensures loaded { IfOk result (λ tables. AllZip (IsTableOf (F.holds files.old) limit) shape.now.tables tables.items) }
-    ensures refused { IfErr result (LoadRefused (F.holds files.old) shape.now limit (Rose (F.failed files.old) (F.failed files.new))) }
+    ensures loaded { IfOk result (λ tables. AllZip
+        (IsTableOf (F.holds files.old) limit) shape.now.tables tables.items) }
+    ensures refused { IfErr result (LoadRefused (F.holds files.old) shape.now limit
+        (Rose (F.failed files.old) (F.failed files.new))) }
     ensures kept { SameFiles (F.holds files.old) (F.holds files.new) }
     ensures counted { F.failed files.old ≤ F.failed files.new }
 {

@@ -1,1 +1,4 @@
-pub mod OpenLemmas
+pub mod PlaceLemmas
+pub mod AreaLemmas
+pub mod MakingLemmas
+pub mod ShapeLemmas

@@ -1,1 +1,4 @@
-pub mod Open
+pub mod Areas
+pub mod Calls
+pub mod Making
+pub mod Shapes

@@ -1,6 +1,14 @@
-//! Tables in use in work areas.
+//! The ten work areas over the declared tables.
+//!
+//! `Store` has each declared table with its indexes, the ten areas, and the selected one. A work area is closed, or
+//! holds a table, the list of indexes that was opened with it, and a filter.
 #![tactic(auto)]
 
-mod open_table;
+pub mod handed;
+pub mod laws;
+mod store;
+mod tables;
+mod uses;
 
-pub use open_table::{AppendError, OpenTable};
+pub use store::Store;
+pub use uses::Use;

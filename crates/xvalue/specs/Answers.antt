@@ -1,5 +1,6 @@
 -- What a line of the operator leaves of an old value, kind by kind: an empty or bad line keeps it.
-use Rattle.std.specs.Prelude.{ℕ, ◌-◌, Bool, true, false, ◌||◌, List, [], ◌∷◌, ◌++◌, length, take, replicate, ◌==◌, if◌then◌else◌, Option, Some, None}
+use Rattle.std.specs.Prelude.{ℕ, ◌-◌, Bool, true, false, ◌||◌, List, [], ◌∷◌, ◌++◌, length, take, replicate, ◌==◌}
+use Rattle.std.specs.Prelude.{if◌then◌else◌, Option, Some, None}
 use Rattle.fixed_num.specs.Number.{Number as Decimal, asterisk, finite}
 use Rattle.fixed_num.specs.Reading.{parsed}
 use Rattle.calendar.specs.declared.day.DayParts.{DayParts}

@@ -1,6 +1,8 @@
 -- The functions: what each gives of its arguments. Those of one kind are counted from 0 in their order.
-use Rattle.std.specs.Prelude.{ℕ, min, Bool, false, not, ◌&&◌, ◌||◌, ℤ, pos, List, [], ◌++◌, length, take, map, replicate, if◌then◌else◌, Option, None, slice_index_or, is_some}
-use Rattle.std.specs.Char.{to_ascii_uppercase, to_ascii_lowercase, is_ascii_alphabetic, is_ascii_uppercase, is_ascii_lowercase}
+use Rattle.std.specs.Prelude.{ℕ, min, Bool, false, not, ◌&&◌, ◌||◌, ℤ, pos, List, [], ◌++◌, length, take, map}
+use Rattle.std.specs.Prelude.{replicate, if◌then◌else◌, Option, None, slice_index_or, is_some}
+use Rattle.std.specs.Char.{to_ascii_uppercase, to_ascii_lowercase, is_ascii_alphabetic, is_ascii_uppercase}
+use Rattle.std.specs.Char.{is_ascii_lowercase}
 use Rattle.std.specs.Ordering.{is_eq, is_lt, is_gt}
 use Rattle.fixed_num.specs.Number.{Number as Decimal, finite}
 use Rattle.fixed_num.specs.Arithmetic.{sum_of, difference_of, product_of, quotient_of, modulus_of, negated, absolute}
@@ -13,10 +15,18 @@ use Rattle.xvalue.specs.declared.value.Value.{Value}
 use Rattle.xvalue.specs.declared.value.Value.TheVariants.{Number, Text, Date, Logical}
 use Rattle.xvalue.specs.declared.settings.Settings.{Settings}
 use Rattle.xvalue.specs.declared.fun.Fun.{Fun}
-use Rattle.xvalue.specs.declared.fun.Fun.TheVariants.{Add, Sub, Mul, Div, Neg, NumberEq, NumberLess, NumberGreater, TextEq, TextLess, TextGreater, DateEq, DateLess, DateGreater, Not, And, Or, Join, JoinMoved, In, DateAdd, DateSub, DateDiff, IifNumber, IifText, IifDate, IifLogical, Len, Substr, Left, Right, Trim, Ltrim, Upper, Lower, Space, Replicate, At, Stuff, Asc, Chr, Val, Str, IsAlpha, IsUpper, IsLower, Abs, Int, Mod, Round, Max, Min, Ctod, Dtoc, Day, Month, Year, Dow, Cdow, Cmonth}
+use Rattle.xvalue.specs.declared.fun.Fun.TheVariants.{Add, Sub, Mul, Div, Neg, NumberEq, NumberLess, NumberGreater}
+use Rattle.xvalue.specs.declared.fun.Fun.TheVariants.{TextEq, TextLess, TextGreater, DateEq, DateLess, DateGreater, Not}
+use Rattle.xvalue.specs.declared.fun.Fun.TheVariants.{And, Or, Join, JoinMoved, In, DateAdd, DateSub, DateDiff}
+use Rattle.xvalue.specs.declared.fun.Fun.TheVariants.{IifNumber, IifText, IifDate, IifLogical, Len, Substr, Left, Right}
+use Rattle.xvalue.specs.declared.fun.Fun.TheVariants.{Trim, Ltrim, Upper, Lower, Space, Replicate, At, Stuff, Asc, Chr}
+use Rattle.xvalue.specs.declared.fun.Fun.TheVariants.{Val, Str, IsAlpha, IsUpper, IsLower, Abs, Int, Mod, Round, Max}
+use Rattle.xvalue.specs.declared.fun.Fun.TheVariants.{Min, Ctod, Dtoc, Day, Month, Year, Dow, Cdow, Cmonth}
 use Rattle.xvalue.specs.Given.{Given}
-use Rattle.xvalue.specs.Texts.{fitting, without_last_blanks, equal_texts, is_before, joined_moved, count_of, part_from, last_part, repeated, stuffed, first_place, place_number, first_is, first_byte, byte_text}
-use Rattle.calendar.specs.Calendar.{date_plus, date_minus, days_between, same_date, is_earlier, day_of, month_of, year_of, weekday_of, weekday_name_of, month_name_of}
+use Rattle.xvalue.specs.Texts.{fitting, without_last_blanks, equal_texts, is_before, joined_moved, count_of, part_from}
+use Rattle.xvalue.specs.Texts.{last_part, repeated, stuffed, first_place, place_number, first_is, first_byte, byte_text}
+use Rattle.calendar.specs.Calendar.{date_plus, date_minus, days_between, same_date, is_earlier, day_of, month_of}
+use Rattle.calendar.specs.Calendar.{year_of, weekday_of, weekday_name_of, month_name_of}
 use Rattle.calendar.specs.DateTexts.{date_read}
 use Rattle.xvalue.specs.Shown.{shown_day}
 

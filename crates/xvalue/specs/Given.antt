@@ -46,7 +46,8 @@ truths_in (Date day ∷ values) = truths_in values
 truths_in (Logical truth ∷ values) = truth ∷ truths_in values
 
 abbrev pub by_kind : List Value → Given
-by_kind values = record { numbers = numbers_in values; texts = texts_in values; dates = dates_in values; truths = truths_in values }
+by_kind values =
+    record { numbers = numbers_in values; texts = texts_in values; dates = dates_in values; truths = truths_in values }
 
 -- two numbers alone
 abbrev pub two_numbers : Decimal → Decimal → Given
@@ -54,7 +55,13 @@ two_numbers first second = record { numbers = first ∷ second ∷ []; texts = [
 
 -- what the arguments of a call lend
 abbrev pub given : Arguments → Given
-given arguments = record { numbers = arguments.numbers.now; texts = arguments.texts.now; dates = arguments.dates.now; truths = arguments.truths.now }
+given arguments = record {
+  numbers = arguments.numbers.now;
+  texts = arguments.texts.now;
+  dates = arguments.dates.now;
+  truths = arguments.truths.now;
+}
 
 abbrev pub gathered : Gathered → Given
-gathered all = record { numbers = all.numbers.items; texts = all.texts.items; dates = all.dates.items; truths = all.truths.items }
+gathered all =
+    record { numbers = all.numbers.items; texts = all.texts.items; dates = all.dates.items; truths = all.truths.items }

@@ -30,7 +30,9 @@ day_text month day year = month ++ 47 ∷ day ++ 47 ∷ year
 -- a day's two, two, and two or four digits; blanks in their places of the blank date
 unfoldable pub shown_day : Settings → Option DayParts → List ℕ
 shown_day settings None = day_text (replicate 2 32) (replicate 2 32) (replicate (year_places settings.century) 32)
-shown_day settings (Some parts) = day_text (last_digits 2 parts.month) (last_digits 2 parts.day) (last_digits (year_places settings.century) parts.year)
+shown_day settings (Some parts) =
+    day_text (last_digits 2 parts.month) (last_digits 2 parts.day)
+    (last_digits (year_places settings.century) parts.year)
 
 -- a value's bytes on the screen under the settings
 abbrev pub shown : Settings → Value → List ℕ

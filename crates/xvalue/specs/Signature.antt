@@ -4,7 +4,13 @@ use Rattle.std.specs.Prelude.{◌≡◌, ℕ, zero, suc, List, [], ◌∷◌, Op
 use Rattle.xvalue.specs.declared.kind.Kind.{Kind}
 use Rattle.xvalue.specs.declared.kind.Kind.TheVariants.{Number, Text, Date, Logical}
 use Rattle.xvalue.specs.declared.fun.Fun.{Fun}
-use Rattle.xvalue.specs.declared.fun.Fun.TheVariants.{Add, Sub, Mul, Div, Neg, NumberEq, NumberLess, NumberGreater, TextEq, TextLess, TextGreater, DateEq, DateLess, DateGreater, Not, And, Or, Join, JoinMoved, In, DateAdd, DateSub, DateDiff, IifNumber, IifText, IifDate, IifLogical, Len, Substr, Left, Right, Trim, Ltrim, Upper, Lower, Space, Replicate, At, Stuff, Asc, Chr, Val, Str, IsAlpha, IsUpper, IsLower, Abs, Int, Mod, Round, Max, Min, Ctod, Dtoc, Day, Month, Year, Dow, Cdow, Cmonth}
+use Rattle.xvalue.specs.declared.fun.Fun.TheVariants.{Add, Sub, Mul, Div, Neg, NumberEq, NumberLess, NumberGreater}
+use Rattle.xvalue.specs.declared.fun.Fun.TheVariants.{TextEq, TextLess, TextGreater, DateEq, DateLess, DateGreater, Not}
+use Rattle.xvalue.specs.declared.fun.Fun.TheVariants.{And, Or, Join, JoinMoved, In, DateAdd, DateSub, DateDiff}
+use Rattle.xvalue.specs.declared.fun.Fun.TheVariants.{IifNumber, IifText, IifDate, IifLogical, Len, Substr, Left, Right}
+use Rattle.xvalue.specs.declared.fun.Fun.TheVariants.{Trim, Ltrim, Upper, Lower, Space, Replicate, At, Stuff, Asc, Chr}
+use Rattle.xvalue.specs.declared.fun.Fun.TheVariants.{Val, Str, IsAlpha, IsUpper, IsLower, Abs, Int, Mod, Round, Max}
+use Rattle.xvalue.specs.declared.fun.Fun.TheVariants.{Min, Ctod, Dtoc, Day, Month, Year, Dow, Cdow, Cmonth}
 
 -- a line of the table
 pub record Entry : Type 0 where
@@ -90,7 +96,11 @@ gives_of fun = (entry_of fun).gives
 
 -- all functions, by their numbers from 1 on
 abbrev pub all_functions : List Fun
-all_functions = Add ∷ Sub ∷ Mul ∷ Div ∷ Neg ∷ NumberEq ∷ NumberLess ∷ NumberGreater ∷ TextEq ∷ TextLess ∷ TextGreater ∷ DateEq ∷ DateLess ∷ DateGreater ∷ Not ∷ And ∷ Or ∷ Join ∷ JoinMoved ∷ In ∷ DateAdd ∷ DateSub ∷ DateDiff ∷ IifNumber ∷ IifText ∷ IifDate ∷ IifLogical ∷ Len ∷ Substr ∷ Left ∷ Right ∷ Trim ∷ Ltrim ∷ Upper ∷ Lower ∷ Space ∷ Replicate ∷ At ∷ Stuff ∷ Asc ∷ Chr ∷ Val ∷ Str ∷ IsAlpha ∷ IsUpper ∷ IsLower ∷ Abs ∷ Int ∷ Mod ∷ Round ∷ Max ∷ Min ∷ Ctod ∷ Dtoc ∷ Day ∷ Month ∷ Year ∷ Dow ∷ Cdow ∷ Cmonth ∷ []
+all_functions = Add ∷ Sub ∷ Mul ∷ Div ∷ Neg ∷ NumberEq ∷ NumberLess ∷ NumberGreater ∷ TextEq ∷ TextLess ∷ TextGreater
+    ∷ DateEq ∷ DateLess ∷ DateGreater ∷ Not ∷ And ∷ Or ∷ Join ∷ JoinMoved ∷ In ∷ DateAdd ∷ DateSub ∷ DateDiff
+    ∷ IifNumber ∷ IifText ∷ IifDate ∷ IifLogical ∷ Len ∷ Substr ∷ Left ∷ Right ∷ Trim ∷ Ltrim ∷ Upper ∷ Lower ∷ Space
+    ∷ Replicate ∷ At ∷ Stuff ∷ Asc ∷ Chr ∷ Val ∷ Str ∷ IsAlpha ∷ IsUpper ∷ IsLower ∷ Abs ∷ Int ∷ Mod ∷ Round ∷ Max ∷ Min
+    ∷ Ctod ∷ Dtoc ∷ Day ∷ Month ∷ Year ∷ Dow ∷ Cdow ∷ Cmonth ∷ []
 
 -- the function of a number, if there is one
 abbrev pub numbered : ℕ → Option Fun

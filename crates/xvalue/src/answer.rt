@@ -3,7 +3,8 @@
 #![tactic(auto)]
 
 ghost use Rattle.std.specs.Prelude.{◌≡◌, ◌≤◌};
-ghost use Rattle.xvalue.specs.Answers.{at_length, text_answered, number_answered, date_answered, truth_answered, answered};
+ghost use Rattle.xvalue.specs.Answers.{at_length, text_answered, number_answered, date_answered, truth_answered};
+ghost use Rattle.xvalue.specs.Answers.{answered};
 
 use crate::text::{Text, copy_of};
 use crate::texts::{blanks, front, joined};
@@ -60,7 +61,8 @@ fn answered_day(old: Day, line: &[u8]) -> Day
     }
 }
 
-/// The truth value that the line's first byte says, in either case of T and Y or F and N; the old one where it says none.
+/// The truth value that the line's first byte says, in either case of T and Y or F and N; the old one where it says
+/// none.
 fn answered_logical(old: bool, line: &[u8]) -> bool
     ensures { result ≡ truth_answered old line.now }
 {

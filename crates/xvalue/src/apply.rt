@@ -51,8 +51,8 @@ pub fn number_of_two(fun: Fun, first: Num, second: Num) -> Num
     }
 }
 
-/// The sum of two numbers that are alike (`Num::alike_sum`), and `None` of others: for a caller that has most sums worked out where
-/// they are asked for.
+/// The sum of two numbers that are alike (`Num::alike_sum`), and `None` of others: for a caller that has most sums
+/// worked out where they are asked for.
 #[inline(always)]
 #[tactic(auto, unfolding(crate::specs::Functions::applied))]
 pub fn sum_of_two(first: &Num, second: &Num) -> Option<Num>
@@ -68,7 +68,8 @@ pub fn sum_of_two(first: &Num, second: &Num) -> Option<Num>
 pub fn truth_of_two(fun: Fun, first: &Num, second: &Num) -> bool
     requires takes { takes_of fun ≡ Kind.Number ∷ Kind.Number ∷ [] }
     requires gives { gives_of fun ≡ Kind.Logical }
-    ensures { (settings : AnySettings) → Value.Logical result ≡ applied fun settings (two_numbers first.now second.now) }
+    ensures { (settings : AnySettings)
+        → Value.Logical result ≡ applied fun settings (two_numbers first.now second.now) }
 {
     let order = first.cmp(second);
     match fun {

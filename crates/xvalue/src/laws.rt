@@ -2,7 +2,8 @@
 // crates above. Each function does nothing: its contract is the law.
 #![tactic(auto)]
 
-ghost use Rattle.std.specs.Prelude.{◌≡◌, ℕ, ◌+◌, ◌≤◌, ◌<◌, ◌↔◌, ◌++◌, List, [], ◌∷◌, length, drop, true, false, Option, Some, None, is_some};
+ghost use Rattle.std.specs.Prelude.{◌≡◌, ℕ, ◌+◌, ◌≤◌, ◌<◌, ◌↔◌, ◌++◌, List, [], ◌∷◌, length, drop, true, false, Option};
+ghost use Rattle.std.specs.Prelude.{Some, None, is_some};
 ghost use Rattle.xvalue.specs.declared.fun.Fun.{Fun as AnyFun};
 ghost use Rattle.xvalue.specs.declared.settings.Settings.{Settings as AnySettings};
 ghost use Rattle.calendar.specs.declared.day.DayParts.{DayParts as Parts};
@@ -11,7 +12,8 @@ ghost use Rattle.xvalue.specs.declared.kind.Kind.{Kind as AnyKind};
 ghost use Rattle.xvalue.specs.Kinds.{kind_of, same_kind};
 ghost use Rattle.xvalue.specs.Signature.{takes_of, gives_of, NumbersAgree};
 ghost use Rattle.xvalue.specs.Functions.{applied};
-ghost use Rattle.xvalue.specs.Texts.{equal_texts, is_before, without_last_blanks, first_place, place_number, begins_with, stuffed, part_from};
+ghost use Rattle.xvalue.specs.Texts.{equal_texts, is_before, without_last_blanks, first_place, place_number};
+ghost use Rattle.xvalue.specs.Texts.{begins_with, stuffed, part_from};
 ghost use Rattle.xvalue.specs.Laws.{HasShortText, AreReadAsWritten};
 ghost use Rattle.xvalue.specs.declared.value.Value.{Value as AnyValue};
 ghost use Rattle.xvalue.specs.Shown.{shown_day};
@@ -19,7 +21,8 @@ ghost use Rattle.xvalue.specs.Answers.{answered, text_answered};
 
 /// Each function gives a value of the kind that its table says.
 pub fn results_have_their_kind()
-    ensures { (fun : AnyFun) (settings : AnySettings) (given : Given) → kind_of (applied fun settings given) ≡ gives_of fun }
+    ensures { (fun : AnyFun) (settings : AnySettings) (given : Given)
+        → kind_of (applied fun settings given) ≡ gives_of fun }
 {}
 
 /// Each function takes an argument at least, and at most four.
@@ -62,18 +65,21 @@ pub fn order_goes_on_with_blanks()
 /// The first place at which a text stands in another is the least one at which the rest begins with it.
 pub fn first_place_is_least()
     ensures there { (part cs : List ℕ) (n : ℕ) → first_place part cs ≡ Some n → begins_with (drop n cs) part ≡ true }
-    ensures least { (part cs : List ℕ) (n k : ℕ) → first_place part cs ≡ Some n → k < n → begins_with (drop k cs) part ≡ false }
+    ensures least { (part cs : List ℕ) (n k : ℕ) → first_place part cs ≡ Some n → k < n
+        → begins_with (drop k cs) part ≡ false }
 {}
 
 /// Of two texts neither is before the other where they are the same but for the blanks at their ends, and nowhere else.
 pub fn order_leaves_blanks_alone()
-    ensures { (cs ds : List ℕ) → ((is_before cs ds ≡ false) × (is_before ds cs ≡ false)) ↔ (without_last_blanks cs ≡ without_last_blanks ds) }
+    ensures { (cs ds : List ℕ)
+        → ((is_before cs ds ≡ false) × (is_before ds cs ≡ false)) ↔ (without_last_blanks cs ≡ without_last_blanks ds) }
 {}
 
-/// A text stands at a place of another exactly where it has a first place: AT gives 0 and `$` false where the rest begins
-/// with it nowhere.
+/// A text stands at a place of another exactly where it has a first place: AT gives 0 and `$` false where the rest
+/// begins with it nowhere.
 pub fn nowhere_is_no_place()
-    ensures nowhere { (part cs : List ℕ) → (first_place part cs ≡ None) ↔ ((k : ℕ) → begins_with (drop k cs) part ≡ false) }
+    ensures nowhere { (part cs : List ℕ)
+        → (first_place part cs ≡ None) ↔ ((k : ℕ) → begins_with (drop k cs) part ≡ false) }
     ensures zero { (part cs : List ℕ) → (place_number (first_place part cs) ≡ 0) ↔ (first_place part cs ≡ None) }
     ensures inside { (part cs : List ℕ) → (is_some (first_place part cs) ≡ false) ↔ (first_place part cs ≡ None) }
 {}
@@ -85,8 +91,10 @@ pub fn arguments_are_read_as_written()
 
 /// SUBSTR takes a part out of a text, and STUFF puts another in its place.
 pub fn parts_are_taken_and_stuffed()
-    ensures taken { (front part rest : List ℕ) → part_from (length front + 1) (length part) (front ++ part ++ rest) ≡ part }
-    ensures stuffed { (front part rest others : List ℕ) → stuffed (length front + 1) (length part) others (front ++ part ++ rest) ≡ front ++ others ++ rest }
+    ensures taken { (front part rest : List ℕ)
+        → part_from (length front + 1) (length part) (front ++ part ++ rest) ≡ part }
+    ensures stuffed { (front part rest others : List ℕ)
+        → stuffed (length front + 1) (length part) others (front ++ part ++ rest) ≡ front ++ others ++ rest }
 {}
 
 /// Each function is the one of its number, and no other is.
@@ -101,8 +109,10 @@ pub fn same_kinds_are_equal()
 
 /// A date's text has eight bytes, and ten with CENTURY on, the blank date's too.
 pub fn dates_have_their_length()
-    ensures off { (settings : AnySettings) (date : Option Parts) → settings.century ≡ false → length (shown_day settings date) ≡ 8 }
-    ensures on { (settings : AnySettings) (date : Option Parts) → settings.century ≡ true → length (shown_day settings date) ≡ 10 }
+    ensures off { (settings : AnySettings) (date : Option Parts) → settings.century ≡ false
+        → length (shown_day settings date) ≡ 8 }
+    ensures on { (settings : AnySettings) (date : Option Parts) → settings.century ≡ true
+        → length (shown_day settings date) ≡ 10 }
 {}
 
 /// What a line leaves of a value is of the value's kind.

@@ -80,7 +80,8 @@ fn replacement(reader: &mut Reader<'_>) -> Result<Replacement, FormFault>
 /// `field WITH value, ..`, at least one.
 #[tactic(auto, unfolding(crate::specs::Forms::several))]
 fn replacements(reader: &mut Reader<'_>) -> Result<Vec<Replacement>, FormFault>
-    ensures { Reads (λ found. map change_of found.items) result reader.new (spec.several spec.replacement (at_of reader.old)) }
+    ensures { Reads (λ found. map change_of found.items) result reader.new
+        (spec.several spec.replacement (at_of reader.old)) }
 {
     let first = replacement(reader)?;
     let mut found = Vec::new(reader.alloc);
@@ -93,7 +94,9 @@ fn more_replacements(
     reader: &mut Reader<'_>,
     found: Vec<Replacement>,
 ) -> Result<Vec<Replacement>, FormFault>
-    ensures { Reads (λ all. map change_of all.items) result reader.new (spec.more spec.replacement (suc (length (words reader.old.words.now))) (map change_of found.items) (at_of reader.old)) }
+    ensures { Reads (λ all. map change_of all.items) result reader.new
+        (spec.more spec.replacement (suc (length (words reader.old.words.now))) (map change_of found.items)
+        (at_of reader.old)) }
 {
     let mut all = found;
     while reader.comma() {

@@ -81,7 +81,8 @@ fn say_get(
     value: Expr,
     reader: &mut Reader<'_>,
 ) -> Result<Statement, FormFault>
-    ensures { Reads act_of result reader.new (spec.say_get (tree_of row) (tree_of column) (tree_of value) (at_of reader.old)) }
+    ensures { Reads act_of result reader.new
+        (spec.say_get (tree_of row) (tree_of column) (tree_of value) (at_of reader.old)) }
 {
     let variable = reader.name()?;
     Ok(Statement::SayGet {

@@ -1,5 +1,5 @@
 use Rattle.std.proofs.Common.{subst}
-use Rattle.code_file.specs.CodeFile.{CodeText}
+use Rattle.xcode.specs.CodeFile.{CodeText}
 use Rattle.file_commands.proofs.reading.read_code.Goals as goal
 
 pub returns-in-Ok-clause-found : goal.returns-in-Ok-clause-found

@@ -1,7 +1,7 @@
 use Rattle.std.specs.Fn.{FnReturnsAt}
-use Rattle.work_area.specs.Open.{opened}
-use Rattle.work_store.specs.Areas.{table_at}
-use Rattle.work_store.specs.Calls.{open_of, used_here, all_rows}
+use Rattle.open_table.specs.Open.{opened}
+use Rattle.work_area.specs.Areas.{table_at}
+use Rattle.work_area.specs.Calls.{open_of, used_here, all_rows}
 use Rattle.run_steps.proofs.Walks.{ends_there}
 use Rattle.run_steps.proofs.on_areas.open_with.Goals as goal
 

@@ -1,8 +1,8 @@
 use Rattle.std.proofs.Common.{refl, ap, sym}
 use Rattle.std.specs.Fn.{FnReturnsAt}
 use Rattle.code_items.specs.declared.instr.MoveInstr.TheVariants.{Top, Bottom, Skip, Seek}
-use Rattle.work_area.specs.Open.{landed}
-use Rattle.work_store.specs.Calls.{top_of, bottom_of, skip_of, seek_of}
+use Rattle.open_table.specs.Open.{landed}
+use Rattle.work_area.specs.Calls.{top_of, bottom_of, skip_of, seek_of}
 use Rattle.run_steps.specs.Effects.{whole_of}
 use Rattle.run_steps.proofs.Walks.{walks_here, goes_here}
 use Rattle.run_steps.proofs.on_moves.walk.Goals as goal

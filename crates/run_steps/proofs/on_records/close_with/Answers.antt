@@ -1,8 +1,8 @@
 use Rattle.std.proofs.Common.{[], ◌∷◌}
 use Rattle.std.specs.Fn.{FnReturnsAt}
-use Rattle.work_area.specs.Open.{opened}
-use Rattle.work_store.specs.Areas.{here, with_here}
-use Rattle.work_store.specs.Calls.{packed_rows, all_rows, packed_in, pack_of, reindexed_in, reindex_of, index_on_of, indexed_here}
+use Rattle.open_table.specs.Open.{opened}
+use Rattle.work_area.specs.Areas.{here, with_here}
+use Rattle.work_area.specs.Calls.{packed_rows, all_rows, packed_in, pack_of, reindexed_in, reindex_of, index_on_of, indexed_here}
 use Rattle.run_steps.proofs.Walks.{closes_there}
 use Rattle.run_steps.proofs.on_records.close_with.Goals as goal
 

@@ -1,6 +1,6 @@
 use Rattle.std.proofs.Common.{refl, sym, ◌∙◌}
-use Rattle.work_area.specs.Open.{replaced_here}
-use Rattle.work_store.specs.Areas.{here, change_here}
+use Rattle.open_table.specs.Open.{replaced_here}
+use Rattle.work_area.specs.Areas.{here, change_here}
 use Rattle.run_steps.proofs.Walks.{takes_here, with_top}
 use Rattle.run_steps.proofs.on_records.replace.Goals as goal
 

@@ -3,7 +3,7 @@ use Rattle.std.proofs.lemmas.Bool.{false≢true}
 use Rattle.ndx_tree.specs.IndexFile.{IsIndexFile}
 use Rattle.key_lists.specs.KeyForm.{KeyForm}
 use Rattle.key_lists.specs.Pairs.{Pair}
-use Rattle.work_store.specs.Making.{form_of}
+use Rattle.work_area.specs.Making.{form_of}
 use Rattle.table_files.proofs.lists.list_in.Goals as goal
 
 pub returns-in-Err-clause-just : goal.returns-in-Err-clause-just

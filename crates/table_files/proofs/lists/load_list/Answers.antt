@@ -1,6 +1,6 @@
 use Rattle.std.proofs.Common.{ℕ, List, Some, ◌∙◌, sym, subst}
 use Rattle.ndx_tree.specs.IndexFile.{IsIndexFile}
-use Rattle.work_store.specs.Making.{form_of}
+use Rattle.work_area.specs.Making.{form_of}
 use Rattle.table_files.proofs.lists.load_list.Goals as goal
 
 pub returns-clause-loaded : goal.returns-clause-loaded

@@ -1,5 +1,0 @@
-pub mod CodeFile
-pub mod Decoding
-pub mod Listing
-pub mod Laws
-pub mod Writing

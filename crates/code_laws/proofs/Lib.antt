@@ -1,9 +1,0 @@
-pub mod BlockPlaces
-pub mod Connecting
-pub mod Covering
-pub mod FilterPlaces
-pub mod Filtering
-pub mod Giving
-pub mod NeedsMet
-pub mod Standing
-pub mod States

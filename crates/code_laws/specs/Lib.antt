@@ -1,2 +1,0 @@
-pub mod Connects
-pub mod FilterWalks

@@ -1,0 +1,53 @@
+-- A filter's block: one instruction behind the other, without a jump or a map.
+use Rattle.std.specs.Prelude.{◌≡◌, ℕ, ◌+◌, ◌-◌, true, false, List, [], ◌∷◌, Option, Some, length, map, take, drop}
+use Rattle.std.specs.Prelude.{nat_lt}
+use Rattle.xvalue.specs.declared.kind.Kind.{Kind}
+use Rattle.xvalue.specs.declared.kind.Kind.TheVariants.{Logical as OfLogical}
+use Rattle.code_items.specs.declared.declared.Filter.{Filter}
+use Rattle.code_items.specs.declared.code.Code.{Code}
+use Rattle.code_items.specs.declared.state.State.{State}
+use Rattle.code_items.specs.declared.instr.Instr.{Instr}
+use Rattle.code_items.specs.Declarations.{filter_of}
+use Rattle.code_items.specs.Kinds.{clashes, same_kinds}
+use Rattle.code_items.specs.Legal.{total, places_of}
+use Rattle.code_rules.specs.Signature.{signature}
+use Rattle.code_rules.specs.Wants.{wants, gives, unknown}
+use Rattle.code_rules.specs.Flow.{flow, left_by}
+use Rattle.code_rules.specs.Places.{filter_desk}
+use Rattle.code_rules.specs.Rules.{filter_lacks, filters, height_after, loads_other, loads_free, undeclared}
+
+-- where the block of a filter begins, counted from 1: behind the procedures' blocks and those of the filters before it
+abbrev pub filter_first : Code → ℕ → ℕ
+filter_first code number =
+    places_of code.procedures + total (map (λ f. f.length) (take (number - 1) code.declared.filters))
+
+-- the instructions of its block
+abbrev pub filter_instrs : Code → ℕ → Filter → List Instr
+filter_instrs code number f = take f.length (drop (filter_first code number) code.instructions)
+
+-- an instruction that may stand in a filter and keeps the rules on kinds, slots and heights where s is known
+pub record Steps (code : Code) (s : State) (i : Instr) : Type 0 where
+  pub stands : filters i ≡ true
+  pub kind : clashes (wants code.declared s.desk i) s.stack ≡ false
+  pub other : loads_other s i ≡ false
+  pub set : loads_free s i ≡ false
+  pub under : nat_lt (length s.stack) (signature i).taken ≡ false
+  pub over : nat_lt code.declared.stack_bound (height_after (length s.stack) i) ≡ false
+  pub declared : undeclared code s.desk i ≡ false
+  pub given : unknown (gives code.declared s.desk i) ≡ 0
+  pub left : flow code i s ≡ left_by code i s
+
+-- one after the other, and in the end just a truth value is left
+abbrev pub Walks : Code → State → List Instr → Type 0
+Walks code s [] = same_kinds (OfLogical ∷ []) s.stack ≡ true
+Walks code s (i ∷ instrs) = Steps code s i × Walks code (flow code i s) instrs
+
+-- what is known where a filter's block begins, with these slots in the place of just those that it needs
+abbrev pub filter_begun : Filter → List (Option Kind) → State
+filter_begun f slots = record { desk = filter_desk f.table; slots = slots; stack = [] }
+
+-- each filter's block can be walked with whatever slots meet its needs
+abbrev pub WalksWithNeeds : Code → Type 0
+WalksWithNeeds code = (number : ℕ) (f : Filter) → filter_of code.declared number ≡ Some f
+    → (slots : List (Option Kind)) → length slots ≡ code.declared.slots → filter_lacks slots (Some f) ≡ false
+    → Walks code (filter_begun f slots) (filter_instrs code number f)

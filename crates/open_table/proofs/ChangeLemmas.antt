@@ -1,0 +1,66 @@
+-- Changes of a table's rows, followed by its declared indexes.
+use Rattle.std.proofs.Common.{◌≡◌, ℕ, ◌<◌, not, ◌||◌, List, [], ◌∷◌, ◌++◌, length, get_or, set, map, sym, ap, ◌∙◌, subst}
+use Rattle.std.specs.List.{All, Contains}
+use Rattle.std.specs.Prelude.{IfSome}
+use Rattle.dbf_file.specs.Rows.{Row}
+use Rattle.dbf_file.specs.Tables.{StructureState}
+use Rattle.shape.specs.declared.parts.KeyPart.{KeyPart}
+use Rattle.row_keys.specs.Lists.{IsExact, IsAsBefore, HasAdded, HasRemoved, row_pair, index_list}
+use Rattle.row_keys.proofs.IndexLemmas.{IsWithout, ListLaw, exact_same, exact-absent, exact-added, exact-removed, without-absent, without-added}
+use Rattle.open_table.specs.Marks.{left_stale, is_among, with_stale}
+use Rattle.open_table.specs.Slots.{SlotState, mark_of, IsListed, IsSlotBy, IsSlot, GoesBy, Along, left_by}
+use Rattle.open_table.proofs.SlotLemmas.{carry, slot_goes, left_slot, listed_some, goes_mark, same_along, map_along, left_mark, some_weaker}
+
+-- rooms are asked for, and then closed indexes are left
+pub left_exact : (s : StructureState) (rows : List Row) (numbers : List ℕ) (old mid left : List SlotState) → All (IsSlot s rows) old → Along (GoesBy IsAsBefore) old mid → Along (λ a b. b ≡ left_by numbers a) mid left → All (IsSlot s rows) left
+left_exact s rows numbers old mid left exact reserved gone =
+    let kept : All (IsSlot s rows) mid = carry (IsSlot s rows) (IsSlot s rows) (GoesBy IsAsBefore) (slot_goes s (IsExact s rows) (IsExact s rows) IsAsBefore (exact_same s rows) (λ a b r. r.same)) old mid reserved exact in
+    carry (IsSlot s rows) (IsSlot s rows) (λ a b. b ≡ left_by numbers a) (λ a b h e. subst (IsSlot s rows) (sym e) (left_slot s (IsExact s rows) numbers a h)) mid left gone kept
+
+pub marks_left : (numbers : List ℕ) (old mid left : List SlotState) → Along (GoesBy IsAsBefore) old mid → Along (λ a b. b ≡ left_by numbers a) mid left → map mark_of left ≡ left_stale numbers (map mark_of old)
+marks_left numbers old mid left reserved gone =
+    map_along mark_of (λ m. with_stale m (m.stale || not (is_among numbers m.number))) (λ a b. b ≡ left_by numbers a) (λ a b e. sym (left_mark numbers a b e)) mid left gone
+    ∙ ap (left_stale numbers) (same_along mark_of (GoesBy IsAsBefore) (goes_mark IsAsBefore) old mid reserved)
+
+module _ (law : ListLaw) (s : StructureState) (rows : List Row) (row : Row) where
+  abbrev longer : List Row
+  longer = rows ++ row ∷ []
+
+  pub append_absent : (slots : List SlotState) → All (IsSlot s rows) slots → All (λ slot. IfSome slot.index (λ x. Contains x.pairs (row_pair x.parts longer (length rows)) → ⊥)) slots
+  append_absent slots exact i d lt =
+      let slot = get_or slots i d in
+      listed_some (IsExact s rows) (λ x. Contains x.pairs (row_pair x.parts longer (length rows)) → ⊥) slot.parts slot.text (exact-absent law s rows row) slot.index (exact i d lt).listed
+
+  pub append_exact : (left new : List SlotState) → All (IsSlot s rows) left → Along (GoesBy (HasAdded longer (length rows))) left new → All (IsSlot s longer) new
+  append_exact left new exact added =
+      carry (IsSlot s rows) (IsSlot s longer) (GoesBy (HasAdded longer (length rows)))
+      (slot_goes s (IsExact s rows) (IsExact s longer) (HasAdded longer (length rows)) (exact-added law s rows row) (λ a b r. r.same)) left new added exact
+
+module _ (law : ListLaw) (s : StructureState) (rows : List Row) (r : ℕ) (row : Row) (lt : r < length rows) where
+  abbrev without_it : SlotState → Type 0
+  without_it = IsSlotBy (IsWithout s rows r) s
+
+  pub replace_out : (left out : List SlotState) → All (IsSlot s rows) left → Along (GoesBy (HasRemoved rows r)) left out → All without_it out
+  replace_out left out exact removed =
+      carry (IsSlot s rows) without_it (GoesBy (HasRemoved rows r))
+      (slot_goes s (IsExact s rows) (IsWithout s rows r) (HasRemoved rows r) (exact-removed s rows r) (λ a b r. r.same)) left out removed exact
+
+  pub replace_absent : (out : List SlotState) → All without_it out → All (λ slot. IfSome slot.index (λ x. Contains x.pairs (row_pair x.parts (set rows r row) r) → ⊥)) out
+  replace_absent out exact i d less =
+      let slot = get_or out i d in
+      listed_some (IsWithout s rows r) (λ x. Contains x.pairs (row_pair x.parts (set rows r row) r) → ⊥) slot.parts slot.text (without-absent law s rows r row lt) slot.index (exact i d less).listed
+
+  pub replace_exact : (out new : List SlotState) → All without_it out → Along (GoesBy (HasAdded (set rows r row) r)) out new → All (IsSlot s (set rows r row)) new
+  replace_exact out new exact added =
+      carry without_it (IsSlot s (set rows r row)) (GoesBy (HasAdded (set rows r row) r))
+      (slot_goes s (IsWithout s rows r) (IsExact s (set rows r row)) (HasAdded (set rows r row) r) (without-added law s rows r row lt) (λ a b r. r.same)) out new added exact
+
+-- rows whose lists are those of other rows
+pub same_lists : (s : StructureState) (rows others : List Row) → ((parts : List KeyPart) → index_list parts others ≡ index_list parts rows) → (a : SlotState) → IsSlot s rows a → IsSlot s others a
+same_lists s rows others e a h = record {
+  key = h.key;
+  text = h.text;
+  listed = some_weaker (IsListed (IsExact s rows) a.parts a.text) (IsListed (IsExact s others) a.parts a.text)
+      (λ x l. record { exact = record { sound = l.exact.sound; pairs = l.exact.pairs ∙ sym (e x.parts) }; parts = l.parts; text = l.text }) a.index h.listed;
+  idle = h.idle;
+}

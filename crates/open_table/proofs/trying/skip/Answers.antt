@@ -1,0 +1,36 @@
+use Rattle.std.proofs.Common.{◌≡◌, ◌-◌, Option, Some, length, get_or, sym, ap, ◌∙◌, subst, rules}
+use Rattle.std.proofs.lemmas.Int.{to_z-of_z}
+use Rattle.std.specs.Int.{w128}
+use Rattle.std.specs.Option.{option_map}
+use Rattle.dbf_file.specs.Rows.{row_at}
+use Rattle.shape.specs.Keys.{key_of}
+use Rattle.row_keys.specs.Lists.{index_list}
+use Rattle.row_moves.specs.Orders.{record_order}
+use Rattle.row_moves.specs.Moves.{skipped, IsMove}
+use Rattle.open_table.specs.Marks.{IndexMark, parts_in}
+use Rattle.open_table.specs.Slots.{SlotState, mark_of}
+use Rattle.open_table.specs.Tables.{IndexedState, indexed, pair_at, order_pairs}
+use Rattle.open_table.proofs.trying.skip.Goals as goal
+
+pub returns-in-None-clause-lands : goal.returns-in-None-clause-lands
+returns-in-None-clause-lands g c = λ shown sees.
+    let t : IndexedState = indexed c.args.table.now.structure c.args.table.now.rows c.args.slots.now.items in
+    let order = record_order (length c.args.table.now.rows) in
+    let answer = c.records_skip.result in
+    subst (λ o. IsMove (skipped shown c.args.steps (pair_at o t c.args.pointer) (order_pairs o t)) c.args.budget answer) (sym c.in-None.is)
+    (subst (λ f. IsMove (skipped shown c.args.steps f order) c.args.budget answer) c.bare_entry.ensures
+    (subst (λ z. IsMove (skipped shown z c.bare_entry.result order) c.args.budget answer) (to_z-of_z w128 c.args.steps c.ranges.steps) (c.records_skip.ensures shown sees)))
+
+pub returns-in-Some-clause-lands : goal.returns-in-Some-clause-lands
+returns-in-Some-clause-lands g c = λ shown sees.
+    let rows = c.args.table.now.rows in
+    let slots = c.args.slots.now.items in
+    let slot : SlotState = c.index_mut-slot.result.now in
+    let t : IndexedState = indexed c.args.table.now.structure rows slots in
+    let answer = c.slot_skip.result in
+    let at : get_or slots c.place_of-place.result slot ≡ slot = search rules in
+    let found = c.place_of-place.ensures.here slot ∙ ap (λ (s : SlotState). Some (mark_of s)) at in
+    subst (λ o. IsMove (skipped shown c.args.steps (pair_at o t c.args.pointer) (order_pairs o t)) c.args.budget answer) (sym c.in-Some.is)
+    (subst (λ (m : Option IndexMark). IsMove (skipped shown c.args.steps (option_map (λ n. (key_of (parts_in m) (row_at rows (n - 1)).texts, n)) c.args.pointer) (index_list (parts_in m) rows)) c.args.budget answer) (sym found)
+    (subst (λ f. IsMove (skipped shown c.args.steps f (index_list slot.parts rows)) c.args.budget answer) c.keyed_entry-from.ensures
+    (subst (λ z. IsMove (skipped shown z c.keyed_entry-from.result (index_list slot.parts rows)) c.args.budget answer) (to_z-of_z w128 c.args.steps c.ranges.steps) (c.slot_skip.ensures.lands shown sees))))

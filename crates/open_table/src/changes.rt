@@ -1,0 +1,143 @@
+//! Changes of a table together with its declared indexes.
+
+ghost use Rattle.std.specs.Prelude.{◌≡◌, ℕ, ◌+◌, ◌<◌, ◌≤◌, ◌∷◌, [], ◌++◌, All, OnOk, OnErr, length, map, slice_index};
+ghost use Rattle.dbf_file.specs.Rows.{blank_row, unmarked, with_text};
+ghost use Rattle.dbf_file.specs.Tables.{row_widths, letter_at, decimals_at};
+ghost use Rattle.dbf_file.specs.Values.{kind_for, text_by};
+ghost use Rattle.open_table.specs.Marks.{left_stale, made_fresh, only_fresh};
+ghost use Rattle.open_table.specs.Slots.{IsSlot, mark_of};
+ghost use Rattle.xvalue.specs.Kinds.{kind_of};
+
+use crate::slot::Slot;
+use crate::slots::{add_all, commit_all, leave_all, make_all, remove_all, reserve_all};
+use dbf_file::Table;
+use key_lists::KeyList;
+use row_keys::Kept;
+use row_keys::laws::index_lists;
+use std::alloc::{AllocError, Global};
+use xvalue::Value;
+
+/// Adds a blank row, and its pair to each open index; the others go stale. Where memory is missing, rows and lists are
+/// as they were.
+pub(crate) fn append<K: KeyList>(
+    table: &mut Table,
+    slots: &mut Vec<Slot<K>>,
+    list: &[u8],
+) -> Result<(), AllocError>
+    requires few { length table.old.rows < 1000000 }
+    requires exact { All (IsSlot table.old.structure table.old.rows) slots.old.items }
+    ensures structure { table.new.structure ≡ table.old.structure }
+    ensures ok { OnOk result (table.new.rows ≡ table.old.rows ++ blank_row (row_widths table.old.structure) ∷ []) }
+    ensures err { OnErr result (table.new.rows ≡ table.old.rows) }
+    ensures marks { OnOk result (map mark_of slots.new.items ≡ left_stale list.now (map mark_of slots.old.items)) }
+    ensures same_marks { OnErr result (map mark_of slots.new.items ≡ map mark_of slots.old.items) }
+    ensures exact { All (IsSlot table.new.structure table.new.rows) slots.new.items }
+{
+    index_lists();
+    table.reserve_row()?;
+    reserve_all(slots, list)?;
+    leave_all(slots, list);
+    let r = table.rows();
+    table.push_blank();
+    add_all(slots, table, r);
+    Ok(())
+}
+
+/// Writes a value of the field's kind into field `f` of row `r`, both counted from 0, and has each open index follow;
+/// the others go stale. Where memory is missing, rows and lists are as they were.
+pub(crate) fn replace<K: KeyList>(
+    table: &mut Table,
+    slots: &mut Vec<Slot<K>>,
+    list: &[u8],
+    r: usize,
+    f: usize,
+    from: &Value,
+) -> Result<(), AllocError>
+    requires row { r < length table.old.rows }
+    requires field { f < length table.old.structure.fields }
+    requires kind { kind_of from.now ≡ kind_for (letter_at table.old.structure f) }
+    requires few { length table.old.rows ≤ 1000000 }
+    requires exact { All (IsSlot table.old.structure table.old.rows) slots.old.items }
+    ensures structure { table.new.structure ≡ table.old.structure }
+    ensures ok { OnOk result (table.new.rows ≡ with_text table.old.rows r f
+        (text_by (slice_index (row_widths table.old.structure) f) (decimals_at table.old.structure f) from.now)) }
+    ensures err { OnErr result (table.new.rows ≡ table.old.rows) }
+    ensures marks { OnOk result (map mark_of slots.new.items ≡ left_stale list.now (map mark_of slots.old.items)) }
+    ensures same_marks { OnErr result (map mark_of slots.new.items ≡ map mark_of slots.old.items) }
+    ensures exact { All (IsSlot table.new.structure table.new.rows) slots.new.items }
+{
+    index_lists();
+    reserve_all(slots, list)?;
+    leave_all(slots, list);
+    remove_all(slots, table, r);
+    table.put_at(r, f, from);
+    add_all(slots, table, r);
+    Ok(())
+}
+
+/// Makes these indexes anew, or those of them that are stale; no row changes, and no other index. Where memory is
+/// missing, all is as it was.
+pub(crate) fn remake<K: KeyList>(
+    alloc: Global,
+    table: &Table,
+    slots: &mut Vec<Slot<K>>,
+    list: &[u8],
+    only_stale: bool,
+) -> Result<(), AllocError>
+    requires few { length table.now.rows ≤ 1000000 }
+    requires exact { All (IsSlot table.now.structure table.now.rows) slots.old.items }
+    ensures marks { OnOk result (map mark_of slots.new.items ≡ made_fresh list.now (map mark_of slots.old.items)) }
+    ensures err { OnErr result (slots.new.items ≡ slots.old.items) }
+    ensures exact { All (IsSlot table.now.structure table.now.rows) slots.new.items }
+{
+    make_all(alloc, slots, table, list, only_stale, Kept::Every)?;
+    commit_all(slots, false);
+    Ok(())
+}
+
+/// Removes the marked rows, and makes the open indexes anew; the others go stale. Where memory is missing, rows and
+/// lists are as they were.
+pub(crate) fn pack<K: KeyList>(
+    alloc: Global,
+    table: &mut Table,
+    slots: &mut Vec<Slot<K>>,
+    list: &[u8],
+) -> Result<(), AllocError>
+    requires few { length table.old.rows ≤ 1000000 }
+    requires exact { All (IsSlot table.old.structure table.old.rows) slots.old.items }
+    ensures structure { table.new.structure ≡ table.old.structure }
+    ensures ok { OnOk result (table.new.rows ≡ unmarked table.old.rows) }
+    ensures fewer { length table.new.rows ≤ length table.old.rows }
+    ensures err { OnErr result (table.new.rows ≡ table.old.rows) }
+    ensures marks { OnOk result (map mark_of slots.new.items ≡ only_fresh list.now (map mark_of slots.old.items)) }
+    ensures same_marks { OnErr result (slots.new.items ≡ slots.old.items) }
+    ensures exact { All (IsSlot table.new.structure table.new.rows) slots.new.items }
+{
+    make_all(alloc, slots, table, list, false, Kept::Unmarked)?;
+    table.pack();
+    commit_all(slots, true);
+    Ok(())
+}
+
+/// Removes every row, and makes the open indexes anew; the others go stale. Where memory is missing, rows and lists are
+/// as they were.
+pub(crate) fn clear<K: KeyList>(
+    alloc: Global,
+    table: &mut Table,
+    slots: &mut Vec<Slot<K>>,
+    list: &[u8],
+) -> Result<(), AllocError>
+    requires few { length table.old.rows ≤ 1000000 }
+    requires exact { All (IsSlot table.old.structure table.old.rows) slots.old.items }
+    ensures structure { table.new.structure ≡ table.old.structure }
+    ensures ok { OnOk result (table.new.rows ≡ []) }
+    ensures err { OnErr result (table.new.rows ≡ table.old.rows) }
+    ensures marks { OnOk result (map mark_of slots.new.items ≡ only_fresh list.now (map mark_of slots.old.items)) }
+    ensures same_marks { OnErr result (slots.new.items ≡ slots.old.items) }
+    ensures exact { All (IsSlot table.new.structure table.new.rows) slots.new.items }
+{
+    make_all(alloc, slots, table, list, false, Kept::Nothing)?;
+    table.clear();
+    commit_all(slots, true);
+    Ok(())
+}

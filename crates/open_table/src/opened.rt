@@ -1,0 +1,592 @@
+//! A table in use.
+
+ghost use Rattle.std.specs.Prelude.{◌≡◌, ℕ, ◌+◌, ◌-◌, ◌<◌, ◌≤◌, Bool, true, false, Some, None, [], OnOk, OnErr, Err};
+ghost use Rattle.std.specs.Prelude.{◌↔◌, MatchOption, length, is_none, unwrap_or, IfSome, IsSomeAnd, true, is_ok};
+ghost use Rattle.std.specs.Prelude.{is_some, ◌∷◌, slice_get, slice_index_or, All, ◌*◌};
+ghost use Rattle.std.specs.Fn.{FnReturnsAt};
+ghost use Rattle.dbf_file.specs.Rows.{blank_row, row_at};
+ghost use Rattle.dbf_file.specs.Tables.{letter_at, decimals_at, row_widths};
+ghost use Rattle.dbf_file.specs.Values.{kind_for, value_by};
+ghost use Rattle.xvalue.specs.Kinds.{kind_of};
+ghost use Rattle.key_lists.specs.KeyForm.{IsKeyText};
+ghost use Rattle.row_keys.specs.Lists.{index_list};
+ghost use Rattle.shape.specs.Keys.{IsKey, key_length};
+ghost use Rattle.row_moves.specs.Moves.{Landing, IsMove, end_of, skipped, sought};
+ghost use Rattle.open_table.specs.Tables.{HasDeclared, IsOrder, order_pairs, pairs_in, pair_at, packed, cleared};
+ghost use Rattle.open_table.specs.Tables.{remade};
+ghost use Rattle.open_table.specs.Marks.{mark_at, count_stale, parts_in};
+ghost use Rattle.open_table.specs.Passes.{behind, IsClosing};
+ghost use Rattle.dbf_file.specs.Rows.{unmarked};
+ghost use Rattle.open_table.specs.Tried.{ShowsRows};
+ghost use Rattle.open_table.specs.Open.{IsMoved, IsEnded, opened, closed, first_order, with_table, order_index};
+ghost use Rattle.open_table.specs.Open.{gone_to, with_blank, place_in, replaced_here, remarked_here, reordered};
+ghost use Rattle.open_table.specs.Open.{deleted_of, field_of, within, within as within_of};
+
+use crate::{IndexedTable, Refused, Row};
+use arrayvec::ArrayVec;
+use dbf_file::{Table, value};
+use key_lists::KeyList;
+use row_moves::{Landed, Spent};
+use shape::KeyParts;
+use std::alloc::{AllocError, Global};
+use std::marker::Model;
+use xvalue::Value;
+
+/// A table in use: its open indexes, an order, a pointer, and the answers of BOF() and FOUND().
+#[derive(Drop)]
+pub struct OpenTable<K: KeyList> {
+    table: IndexedTable<K>,
+    list: ArrayVec<u8, 7>,
+    order: u8,
+    pointer: Option<u32>,
+    bof: bool,
+    found: bool,
+}
+
+impl<K: KeyList> Model for OpenTable<K> {
+    ghost use Rattle.open_table.specs.Open.{OpenState, IsOpen};
+
+    ghost Value = { OpenState };
+
+    ghost view = { λ t. record {
+      table = t.table;
+      list = t.list.items;
+      order = t.order;
+      pointer = t.pointer;
+      bof = t.bof;
+      found = t.found;
+    } };
+
+    ghost invariant = { λ t. IsOpen t.table t.list.items t.order };
+}
+
+/// Why no row was added.
+#[derive(Debug, Clone, Copy, PartialEq, Eq)]
+pub enum AppendError {
+    /// There are as many rows as the limit.
+    Full,
+    /// Memory is missing.
+    NoMemory,
+}
+
+/// The record of a number, if there are so many.
+fn record_within(count: u32, number: Option<u32>) -> Option<u32>
+    ensures { result ≡ within_of count number }
+{
+    match number {
+        Some(n) => {
+            if n >= 1 && n <= count {
+                return Some(n);
+            }
+            None
+        }
+        None => None,
+    }
+}
+
+impl<K: KeyList> OpenTable<K> {
+    /// A table in use without indexes, at the end of file.
+    pub fn new(table: IndexedTable<K>) -> Self
+        ensures { result ≡ record { table = table; list = []; order = 0; pointer = None; bof = false; found = false } }
+    {
+        OpenTable {
+            table,
+            list: ArrayVec::new(),
+            order: 0,
+            pointer: None,
+            bof: false,
+            found: false,
+        }
+    }
+
+    /// Declares an index of the table, of which none is open, with a list of its key, which isn't stale where the list
+    /// lists just the rows; with none, or where it lists others, it is stale. Where memory is missing, all is as it
+    /// was.
+    pub fn declare_with(
+        &mut self,
+        number: u8,
+        key: KeyParts,
+        text: ArrayVec<u8, 100>,
+        list: Option<K>,
+    ) -> Result<(), AllocError>
+        requires key { IsKey self.old.table.structure key }
+        requires text { IsKeyText text.items }
+        requires form { IfSome list (λ k. K.form k
+            ≡ record { key_length = key_length key (row_widths self.old.table.structure); key_text = text.items }) }
+        requires unused { self.old.list ≡ [] }
+        ensures table { self.new ≡ with_table self.old self.new.table }
+        ensures ok { OnOk result (HasDeclared (IsSomeAnd list (λ k. K.pairs k ≡ index_list key self.old.table.rows))
+            (record { number = number; parts = key; text = text.items; stale = true }) self.old.table self.new.table) }
+        ensures err { OnErr result (self.new ≡ self.old) }
+    {
+        self.table.declare_with(number, key, text, list)
+    }
+
+    /// The table with its indexes.
+    pub fn table(&self) -> &IndexedTable<K>
+        ensures { result.now ≡ self.now.table }
+    {
+        &self.table
+    }
+
+    /// The list of an open index, by its place among the open ones, counted from 0; none where fewer are open. It is
+    /// never stale, and lists the rows.
+    pub fn open_keys(&self, k: usize) -> Option<&K>
+        ensures { MatchOption (slice_get self.now.list k) (result ≡ None)
+            (λ n. IsSomeAnd result (λ keys. K.pairs keys.now
+            ≡ index_list (parts_in (mark_at self.now.table.marks n)) self.now.table.rows)) }
+    {
+        match self.list.get(k) {
+            Some(number) => self.table.keys(*number),
+            None => None,
+        }
+    }
+
+    /// The index of the order, none for record order.
+    fn order_index(&self) -> Option<u8>
+        ensures value { result ≡ order_index self.now.order self.now.list }
+        ensures fresh { IsOrder result self.now.table }
+    {
+        if self.order == 0 {
+            return None;
+        }
+        Some(self.list[usize::from(self.order) - 1])
+    }
+
+    /// Sets the order: 0 is record order, 1 that of the first open index.
+    pub fn set_order(&mut self, order: u8)
+        requires { order ≤ length self.old.list }
+        ensures { self.new ≡ reordered order self.old }
+    {
+        self.order = order;
+    }
+
+    /// Goes where a move led, and tells its cost.
+    fn land(&mut self, landed: Landed) -> u64
+        ensures cost { result ≡ landed.cost }
+        ensures there { self.new ≡ record {
+          table = self.old.table;
+          list = self.old.list;
+          order = self.old.order;
+          pointer = landed.row;
+          bof = landed.bof;
+          found = landed.found;
+        } }
+    {
+        self.pointer = landed.row;
+        self.bof = landed.bof;
+        self.found = landed.found;
+        landed.cost
+    }
+
+    /// Goes where a move led, and tells its cost; a move that cost too much changes nothing.
+    fn settle(&mut self, moved: Result<Landed, Spent>) -> Result<u64, Spent>
+        ensures { (landing : Landing) (budget : ℕ) → IsMove landing budget moved
+            → IsMoved self.old self.new landing budget result }
+    {
+        match moved {
+            Ok(landed) => Ok(self.land(landed)),
+            Err(spent) => Err(spent),
+        }
+    }
+
+    /// TOP, and what it cost. Where the cost is above the budget nothing changes.
+    pub fn top<F: Fn(&Row<'_>) -> bool>(&mut self, see: F, budget: u64) -> Result<u64, Spent>
+        requires { F.IsAlwaysCallable see }
+        ensures { (shown : ℕ → Bool)
+            → ShowsRows (FnReturnsAt F.Fn) see self.old.table.structure self.old.table.rows shown
+            → IsMoved self.old self.new (end_of shown true
+            (order_pairs (order_index self.old.order self.old.list) self.old.table)) budget result }
+    {
+        let order = self.order_index();
+        let moved = self.table.go_to_end(order, true, &see, budget);
+        self.settle(moved)
+    }
+
+    /// BOTTOM, and what it cost. Where the cost is above the budget nothing changes.
+    pub fn bottom<F: Fn(&Row<'_>) -> bool>(&mut self, see: F, budget: u64) -> Result<u64, Spent>
+        requires { F.IsAlwaysCallable see }
+        ensures { (shown : ℕ → Bool)
+            → ShowsRows (FnReturnsAt F.Fn) see self.old.table.structure self.old.table.rows shown
+            → IsMoved self.old self.new (end_of shown false
+            (order_pairs (order_index self.old.order self.old.list) self.old.table)) budget result }
+    {
+        let order = self.order_index();
+        let moved = self.table.go_to_end(order, false, &see, budget);
+        self.settle(moved)
+    }
+
+    /// SKIP: so many rows on, or back where the number is below 0, and what it cost. Where the cost is above the budget
+    /// nothing changes.
+    pub fn skip<F: Fn(&Row<'_>) -> bool>(
+        &mut self,
+        steps: i128,
+        see: F,
+        budget: u64,
+    ) -> Result<u64, Spent>
+        requires { F.IsAlwaysCallable see }
+        ensures { (shown : ℕ → Bool)
+            → ShowsRows (FnReturnsAt F.Fn) see self.old.table.structure self.old.table.rows shown
+            → IsMoved self.old self.new (skipped shown steps
+            (pair_at (order_index self.old.order self.old.list) self.old.table self.old.pointer)
+            (order_pairs (order_index self.old.order self.old.list) self.old.table)) budget result }
+    {
+        let order = self.order_index();
+        let moved = self.table.skip(order, self.pointer, steps, &see, budget);
+        self.settle(moved)
+    }
+
+    /// SEEK in the index of the order: the first shown row whose key matches, or the end of file; and what it cost.
+    /// Where the cost is above the budget nothing changes.
+    pub fn seek<F: Fn(&Row<'_>) -> bool>(
+        &mut self,
+        text: &[u8],
+        exact: bool,
+        see: F,
+        budget: u64,
+    ) -> Result<u64, Spent>
+        requires callable { F.IsAlwaysCallable see }
+        requires order { 1 ≤ self.old.order }
+        ensures { (shown : ℕ → Bool)
+            → ShowsRows (FnReturnsAt F.Fn) see self.old.table.structure self.old.table.rows shown
+            → IsMoved self.old self.new (sought shown exact text.now
+            (order_pairs (order_index self.old.order self.old.list) self.old.table)) budget result }
+    {
+        let number = self.key_index();
+        let moved = self.table.seek(number, text, exact, &see, budget);
+        self.settle(moved)
+    }
+
+    /// The index of an order that isn't record order.
+    fn key_index(&self) -> u8
+        requires { 1 ≤ self.now.order }
+        ensures value { Some result ≡ order_index self.now.order self.now.list }
+        ensures fresh { IsOrder (Some result) self.now.table }
+    {
+        self.list[usize::from(self.order) - 1]
+    }
+
+    /// APPEND: adds a blank row, and points to it. Where there are as many rows as the limit, or memory is missing,
+    /// nothing changes.
+    pub fn append(&mut self, limit: u32) -> Result<(), AppendError>
+        requires { limit ≤ 1000000 }
+        ensures ok { OnOk result (self.new ≡ with_blank self.old) }
+        ensures err { OnErr result (self.new ≡ self.old) }
+        ensures full { (result ≡ Err AppendError.Full) ↔ (limit ≤ length self.old.table.rows) }
+    {
+        let count = self.table.count();
+        if count >= limit {
+            return Err(AppendError::Full);
+        }
+        match self.table.append(self.list.as_slice()) {
+            Ok(()) => {
+                self.pointer = Some(count + 1);
+                self.bof = false;
+                self.found = false;
+                Ok(())
+            }
+            Err(_) => Err(AppendError::NoMemory),
+        }
+    }
+
+    /// The place of the record that is pointed to, counted from 0, none at the end of file.
+    fn place(&self) -> Option<usize>
+        ensures value { result ≡ place_in (length self.now.table.rows) self.now.pointer }
+        ensures there { IfSome result (λ r. r < length self.now.table.rows) }
+    {
+        match self.pointer {
+            Some(n) => {
+                if n >= 1 && n <= self.table.count() {
+                    return Some(n as usize - 1);
+                }
+                None
+            }
+            None => None,
+        }
+    }
+
+    /// REPLACE: writes a value of the field's kind into field `f`, counted from 0, of the record that is pointed to; at
+    /// the end of file nothing changes. The pointer and the answers stay. Where memory is missing nothing changes.
+    pub fn replace(&mut self, f: usize, from: &Value) -> Result<(), AllocError>
+        requires field { f < length self.old.table.structure.fields }
+        requires kind { kind_of from.now ≡ kind_for (letter_at self.old.table.structure f) }
+        ensures ok { OnOk result (self.new ≡ replaced_here f from.now self.old) }
+        ensures err { OnErr result (self.new ≡ self.old) }
+    {
+        let Some(r) = self.place() else {
+            return Ok(());
+        };
+        self.table.replace(self.list.as_slice(), r, f, from)
+    }
+
+    /// DELETE and RECALL: marks the record that is pointed to, or takes its mark away; at the end of file nothing
+    /// changes. The pointer and the answers stay.
+    pub fn set_mark(&mut self, marked: bool)
+        ensures { self.new ≡ remarked_here marked self.old }
+    {
+        if let Some(r) = self.place() {
+            self.table.set_mark(r, marked);
+        }
+    }
+
+    /// GO: to the record of a number, or to the end of file where there is none. It meets no row.
+    pub fn go(&mut self, number: Option<u32>)
+        ensures { self.new ≡ gone_to self.old (within (length self.old.table.rows) number) }
+    {
+        let count = self.table.count();
+        self.pointer = record_within(count, number);
+        self.bof = false;
+        self.found = false;
+    }
+
+    /// What EOF() answers.
+    pub fn eof(&self) -> bool
+        ensures { result ≡ is_none self.now.pointer }
+    {
+        self.pointer.is_none()
+    }
+
+    /// What BOF() answers.
+    pub fn bof(&self) -> bool
+        ensures { result ≡ self.now.bof }
+    {
+        self.bof
+    }
+
+    /// What FOUND() answers.
+    pub fn found(&self) -> bool
+        ensures { result ≡ self.now.found }
+    {
+        self.found
+    }
+
+    /// The order: 0 is record order, 1 that of the first open index.
+    pub fn order(&self) -> u8
+        ensures value { result ≡ self.now.order }
+        ensures within { result ≤ length self.now.list }
+    {
+        self.order
+    }
+
+    /// The numbers of the open indexes, at most seven.
+    pub fn list(&self) -> &[u8]
+        ensures value { result.now ≡ self.now.list }
+        ensures few { length self.now.list ≤ 7 }
+    {
+        self.list.as_slice()
+    }
+
+    /// DELETED(): whether the record that is pointed to is marked; false at the end of file.
+    pub fn deleted(&self) -> bool
+        ensures { result ≡ deleted_of self.now }
+    {
+        match self.place() {
+            Some(r) => self.table.table().mark(r),
+            None => false,
+        }
+    }
+
+    /// The value of field `f`, counted from 0, of the record that is pointed to; at the end of file that of a field of
+    /// blanks.
+    pub fn field(&self, f: usize) -> Value
+        requires { f < length self.now.table.structure.fields }
+        ensures { result ≡ field_of f self.now }
+    {
+        match self.place() {
+            Some(r) => self.table.table().value_at(r, f),
+            None => blank_value(self.table.table(), f),
+        }
+    }
+
+    /// RECCOUNT().
+    pub fn reccount(&self) -> u32
+        ensures { result ≡ length self.now.table.rows }
+    {
+        self.table.count()
+    }
+
+    /// RECNO(): at the end of file the count plus 1.
+    pub fn recno(&self) -> u32
+        ensures { result ≡ unwrap_or self.now.pointer (length self.now.table.rows + 1) }
+    {
+        match self.pointer {
+            Some(number) => number,
+            None => self.table.count() + 1,
+        }
+    }
+
+    /// Goes where the move at the end of a change led, and tells what the change cost; a change that was refused
+    /// changes nothing.
+    fn finish(&mut self, ended: Result<Landed, Refused>) -> Result<u64, Refused>
+        ensures ends { (landing : Landing) (budget : ℕ) → IsClosing landing budget ended
+            → IsEnded self.old self.old self.new landing budget result }
+        ensures same { is_ok result ≡ is_ok ended }
+    {
+        match ended {
+            Ok(landed) => Ok(self.land(landed)),
+            Err(refused) => Err(refused),
+        }
+    }
+
+    /// PACK: removes the marked rows, and ends with TOP, for which the test is asked of the rows that are kept, as they
+    /// are numbered then. Where it is refused nothing changes.
+    pub fn pack<F: Fn(&Row<'_>) -> bool>(
+        &mut self,
+        alloc: Global,
+        see: F,
+        budget: u64,
+    ) -> Result<u64, Refused>
+        requires { F.IsAlwaysCallable see }
+        ensures { (shown : ℕ → Bool)
+            → ShowsRows (FnReturnsAt F.Fn) see self.old.table.structure (unmarked self.old.table.rows) shown
+            → IsEnded self.old (with_table self.old (packed self.old.list self.old.table)) self.new
+            (behind (length self.old.table.rows + length (unmarked self.old.table.rows) * length self.old.list)
+            (end_of shown true (pairs_in (order_index self.old.order self.old.list) self.old.table.marks
+            (unmarked self.old.table.rows)))) budget result }
+    {
+        let order = self.order_index();
+        let ended = self
+            .table
+            .pack(alloc, self.list.as_slice(), order, &see, budget);
+        self.finish(ended)
+    }
+
+    /// ZAP: removes every row; TOP then comes to the end of file. Where it is refused nothing changes.
+    pub fn zap(&mut self, alloc: Global, budget: u64) -> Result<u64, Refused>
+        ensures { (shown : ℕ → Bool)
+            → IsEnded self.old (with_table self.old (cleared self.old.list self.old.table)) self.new
+            (end_of shown true []) budget result }
+    {
+        let ended = self.table.zap(alloc, self.list.as_slice(), budget);
+        self.finish(ended)
+    }
+
+    /// REINDEX: makes the open indexes anew, and ends with TOP. Where it is refused nothing changes.
+    pub fn reindex<F: Fn(&Row<'_>) -> bool>(
+        &mut self,
+        alloc: Global,
+        see: F,
+        budget: u64,
+    ) -> Result<u64, Refused>
+        requires { F.IsAlwaysCallable see }
+        ensures { (shown : ℕ → Bool)
+            → ShowsRows (FnReturnsAt F.Fn) see self.old.table.structure self.old.table.rows shown
+            → IsEnded self.old (with_table self.old (remade self.old.list self.old.table)) self.new
+            (behind (length self.old.table.rows * length self.old.list)
+            (end_of shown true (order_pairs (order_index self.old.order self.old.list) self.old.table))) budget result }
+    {
+        let order = self.order_index();
+        let ended = self
+            .table
+            .reindex(alloc, self.list.as_slice(), order, &see, budget);
+        self.finish(ended)
+    }
+
+    /// Takes the table out of use: it has no open index, no order and no record that is pointed to.
+    pub fn close(&mut self)
+        ensures { self.new ≡ closed self.old }
+    {
+        self.list = ArrayVec::new();
+        self.order = 0;
+        self.pointer = None;
+        self.bof = false;
+        self.found = false;
+    }
+
+    /// Opens indexes of the table in place of the open ones, makes the stale ones of them anew, and ends with TOP in
+    /// the order of the first, or in record order where there is none. Where it is refused nothing changes.
+    pub fn open<F: Fn(&Row<'_>) -> bool>(
+        &mut self,
+        alloc: Global,
+        list: &[u8],
+        see: F,
+        budget: u64,
+    ) -> Result<u64, Refused>
+        requires callable { F.IsAlwaysCallable see }
+        requires few { length list.now ≤ 7 }
+        requires declared { All (λ n. is_some (mark_at self.old.table.marks n) ≡ true) list.now }
+        ensures { (shown : ℕ → Bool)
+            → ShowsRows (FnReturnsAt F.Fn) see self.old.table.structure self.old.table.rows shown
+            → IsEnded self.old (opened list.now self.old) self.new
+            (behind (length self.old.table.rows * count_stale list.now self.old.table.marks)
+            (end_of shown true (order_pairs (slice_get list.now 0) self.old.table))) budget result }
+    {
+        match self
+            .table
+            .open(alloc, list, first_index(list), &see, budget)
+        {
+            Ok(landed) => {
+                self.list = held(list);
+                self.order = order_of(list);
+                Ok(self.land(landed))
+            }
+            Err(refused) => Err(refused),
+        }
+    }
+
+    /// INDEX ON: makes one index anew, whether it is stale or not, which alone is open then and gives the order, and
+    /// ends with TOP. Where it is refused nothing changes.
+    pub fn index_on<F: Fn(&Row<'_>) -> bool>(
+        &mut self,
+        alloc: Global,
+        number: u8,
+        see: F,
+        budget: u64,
+    ) -> Result<u64, Refused>
+        requires callable { F.IsAlwaysCallable see }
+        requires declared { is_some (mark_at self.old.table.marks number) ≡ true }
+        ensures { (shown : ℕ → Bool)
+            → ShowsRows (FnReturnsAt F.Fn) see self.old.table.structure self.old.table.rows shown
+            → IsEnded self.old (opened (number ∷ []) self.old) self.new
+            (behind (length self.old.table.rows)
+            (end_of shown true (order_pairs (Some number) self.old.table))) budget result }
+    {
+        match self.table.index_on(alloc, number, &see, budget) {
+            Ok(landed) => {
+                self.list = held(&[number]);
+                self.order = 1;
+                Ok(self.land(landed))
+            }
+            Err(refused) => Err(refused),
+        }
+    }
+}
+
+/// The value of field `f`, counted from 0, of a row of blanks.
+#[tactic(auto, unfolding(dbf_file::specs::Values::value_of))]
+fn blank_value(table: &Table, f: usize) -> Value
+    requires { f < length table.now.structure.fields }
+    ensures { result ≡ value_by (letter_at table.now.structure f) (decimals_at table.now.structure f)
+        (slice_index_or (blank_row (row_widths table.now.structure)).texts f []) }
+{
+    let field = &table.structure().fields()[f];
+    value(field, &[b' '; 255][..usize::from(field.width)])
+}
+
+/// The first of some indexes.
+fn first_index(list: &[u8]) -> Option<u8>
+    ensures { result ≡ slice_get list.now 0 }
+{
+    list.first().copied()
+}
+
+/// The order of indexes that are opened: that of the first, or record order where there is none.
+fn order_of(list: &[u8]) -> u8
+    ensures value { result ≡ first_order list.now }
+    ensures within { result ≤ length list.now }
+{
+    match list {
+        [] => 0,
+        [_, ..] => 1,
+    }
+}
+
+/// At most seven numbers, held in place.
+fn held(list: &[u8]) -> ArrayVec<u8, 7>
+    requires { length list.now ≤ 7 }
+    ensures { result.items ≡ list.now }
+{
+    let mut copy = ArrayVec::new();
+    copy.try_extend_from_slice(list).unwrap();
+    copy
+}

@@ -1,0 +1,344 @@
+//! A declared index of a table.
+
+ghost use Rattle.std.specs.Prelude.{◌≡◌, ℕ, ◌+◌, ◌<◌, ◌≤◌, ◌^◌, ◌-◌, ◌↔◌, Bool, true, false, None, Some, is_none};
+ghost use Rattle.std.specs.Prelude.{is_some, IfSome, OnOk, IfOk, MatchBool, IsSomeAnd, IsTrue, Contains, length};
+ghost use Rattle.std.specs.Prelude.{if◌then◌else◌};
+ghost use Rattle.key_lists.specs.KeyForm.{KeyForm, IsKeyText};
+ghost use Rattle.dbf_file.specs.Tables.{row_widths};
+ghost use Rattle.dbf_file.specs.Rows.{row_at};
+ghost use Rattle.shape.specs.Keys.{IsKey, key_of, key_length};
+ghost use Rattle.row_keys.specs.Lists.{index_list, row_pair, kept_rows, IsExact, IsIndexOf, IsAsBefore, HasAdded};
+ghost use Rattle.row_keys.specs.Lists.{HasRemoved};
+ghost use Rattle.row_moves.specs.Orders.{MayTry, Sees};
+ghost use Rattle.row_moves.specs.Moves.{IsMove, end_of, skipped, sought};
+ghost use Rattle.open_table.specs.Marks.{is_among as is_among_of};
+ghost use Rattle.open_table.specs.Slots.{IsSlot, GoesBy, HasRoom, PutsBy, Prepares, committed, discarded, left_by};
+ghost use Rattle.open_table.specs.Slots.{is_wanted as is_wanted_of};
+
+use arrayvec::ArrayVec;
+use dbf_file::Table;
+use key_lists::{Entry, KeyList};
+use row_keys::exact::lists_rows;
+use row_keys::{Index, Kept, build_of};
+use row_moves::{Landed, Spent};
+use shape::KeyParts;
+use std::alloc::{AllocError, Global};
+use std::marker::Model;
+
+/// A declared index of a table, with its list unless that is stale.
+#[derive(Drop)]
+pub(crate) struct Slot<K: KeyList> {
+    number: u8,
+    key: KeyParts,
+    text: ArrayVec<u8, 100>,
+    index: Option<Index<K>>,
+    fresh: Option<Index<K>>,
+}
+
+impl<K: KeyList> Model for Slot<K> {
+    ghost use Rattle.open_table.specs.Slots.{SlotState};
+
+    ghost Value = { SlotState };
+
+    ghost view = { λ s. record {
+      number = s.number;
+      parts = s.key;
+      text = s.text.items;
+      index = s.index;
+      fresh = s.fresh;
+    } };
+}
+
+/// Whether a number is among some.
+pub(crate) fn is_among(numbers: &[u8], number: u8) -> bool
+    ensures { result ≡ is_among_of numbers.now number }
+{
+    numbers.iter().any(|other| *other == number)
+}
+
+/// A list of the key's length, given up where it doesn't list just the rows.
+fn exact_list<K: KeyList>(table: &Table, key: &KeyParts, list: Option<K>) -> Option<K>
+    requires few { length table.now.rows ≤ 1000000 }
+    requires key { IsKey table.now.structure key.now }
+    ensures exact { IsTrue (is_some result) ↔ IsSomeAnd list (λ k. K.pairs k ≡ index_list key.now table.now.rows) }
+    ensures pairs { IfSome result (λ k. K.pairs k ≡ index_list key.now table.now.rows) }
+    ensures form { (form : KeyForm) → IfSome list (λ k. K.form k ≡ form) → IfSome result (λ k. K.form k ≡ form) }
+{
+    match list {
+        Some(mut keys) => {
+            if lists_rows(table, key, &mut keys) {
+                return Some(keys);
+            }
+            None
+        }
+        None => None,
+    }
+}
+
+/// A declared index with a list, or none; the list is given up where it doesn't list just the rows.
+pub(crate) fn slot_with<K: KeyList>(
+    table: &Table,
+    number: u8,
+    key: KeyParts,
+    text: ArrayVec<u8, 100>,
+    list: Option<K>,
+) -> Slot<K>
+    requires few { length table.now.rows ≤ 1000000 }
+    requires key { IsKey table.now.structure key }
+    requires key_text { IsKeyText text.items }
+    requires form { IfSome list (λ k. K.form k
+        ≡ record { key_length = key_length key (row_widths table.now.structure); key_text = text.items }) }
+    ensures number { result.number ≡ number }
+    ensures parts { result.parts ≡ key }
+    ensures text { result.text ≡ text.items }
+    ensures sound { IsSlot table.now.structure table.now.rows result }
+    ensures exact { (is_none result.index ≡ false) ↔ IsSomeAnd list (λ k. K.pairs k ≡ index_list key table.now.rows) }
+{
+    match exact_list(table, &key, list) {
+        Some(keys) => {
+            let parts = key.copied();
+            Slot::new(number, key, text, Some(Index::new(parts, keys)))
+        }
+        None => Slot::new(number, key, text, None),
+    }
+}
+
+impl<K: KeyList> Slot<K> {
+    /// A declared index with its list, or none where that is stale.
+    pub(crate) fn new(
+        number: u8,
+        key: KeyParts,
+        text: ArrayVec<u8, 100>,
+        index: Option<Index<K>>,
+    ) -> Self
+        ensures { result ≡ record { number = number; parts = key; text = text.items; index = index; fresh = None } }
+    {
+        Slot {
+            number,
+            key,
+            text,
+            index,
+            fresh: None,
+        }
+    }
+
+    /// The index's number.
+    pub(crate) fn number(&self) -> u8
+        ensures { result ≡ self.now.number }
+    {
+        self.number
+    }
+
+    /// The list, unless it is stale.
+    pub(crate) fn keys(&self) -> Option<&K>
+        ensures fresh { is_some result ≡ is_some self.now.index }
+        ensures same { IfSome result (λ keys. IfSome self.now.index (λ x. K.pairs keys.now ≡ x.pairs)) }
+        ensures form { IfSome result (λ keys. IfSome self.now.index (λ x. K.form keys.now ≡ x.form)) }
+    {
+        match &self.index {
+            Some(index) => Some(index.list()),
+            None => None,
+        }
+    }
+
+    /// How its keys are made.
+    pub(crate) fn key_parts(&self) -> KeyParts
+        ensures { result ≡ self.now.parts }
+    {
+        self.key.copied()
+    }
+
+    /// Whether its list is stale.
+    pub(crate) fn is_stale(&self) -> bool
+        ensures { result ≡ is_none self.now.index }
+    {
+        self.index.is_none()
+    }
+
+    /// The key of row `r`, counted from 0, with a number.
+    pub(crate) fn entry_of(&self, table: &Table, r: usize, number: u32) -> Entry
+        requires row { r < length table.now.rows }
+        requires key { IsKey table.now.structure self.now.parts }
+        ensures { result ≡ (key_of self.now.parts (row_at table.now.rows r).texts, number) }
+    {
+        let key = self.key.row_key(table, r);
+        Entry::new(key.as_slice(), number)
+    }
+
+    /// The key of a record, counted from 1, with its number. Where there is no such record the key is empty.
+    #[tactic(auto, using(crate::proofs::TryingLemmas::no_record))]
+    pub(crate) fn entry_at(&self, table: &Table, number: u32) -> Entry
+        requires { IsKey table.now.structure self.now.parts }
+        ensures { result ≡ (key_of self.now.parts (row_at table.now.rows (number - 1)).texts, number) }
+    {
+        let r = (number as usize).saturating_sub(1);
+        if r >= table.rows() {
+            return Entry::new(&[], number);
+        }
+        self.entry_of(table, r, number)
+    }
+
+    /// Makes room for one more pair, if the index is open.
+    pub(crate) fn reserve(&mut self, list: &[u8]) -> Result<(), AllocError>
+        requires { IfSome self.old.index (λ x. length x.pairs + 1 < 2 ^ 32) }
+        ensures same { GoesBy IsAsBefore self.old self.new }
+        ensures ok { OnOk result (HasRoom list.now self.new) }
+    {
+        if !is_among(list, self.number) {
+            return Ok(());
+        }
+        match &mut self.index {
+            Some(index) => index.reserve_one(),
+            None => Ok(()),
+        }
+    }
+
+    /// Gives up the list, unless the index is open.
+    pub(crate) fn leave(&mut self, list: &[u8])
+        ensures { self.new ≡ left_by list.now self.old }
+    {
+        if !is_among(list, self.number) {
+            self.index = None;
+        }
+    }
+
+    /// Puts the pair of row `r`, counted from 0, into the list.
+    pub(crate) fn add_row(&mut self, table: &Table, r: usize)
+        requires row { r < length table.now.rows }
+        requires few { r < 1000000 }
+        requires index { IfSome self.old.index (IsIndexOf table.now.structure) }
+        requires reserved { IfSome self.old.index (λ x. 0 < x.spare) }
+        requires absent { IfSome self.old.index (λ x. ¬ Contains x.pairs (row_pair x.parts table.now.rows r)) }
+        ensures { GoesBy (HasAdded table.now.rows r) self.old self.new }
+    {
+        match &mut self.index {
+            Some(index) => index.add_row(table, r),
+            None => {}
+        }
+    }
+
+    /// Takes the pair of row `r`, counted from 0, out of the list.
+    pub(crate) fn remove_row(&mut self, table: &Table, r: usize)
+        requires row { r < length table.now.rows }
+        requires few { r < 1000000 }
+        requires index { IfSome self.old.index (IsIndexOf table.now.structure) }
+        ensures { GoesBy (HasRemoved table.now.rows r) self.old self.new }
+    {
+        match &mut self.index {
+            Some(index) => index.remove_row(table, r),
+            None => {}
+        }
+    }
+
+    /// TOP or BOTTOM in the order of the list, which isn't stale.
+    pub(crate) fn go_to_end<F: Fn(u32) -> bool>(
+        &mut self,
+        forward: bool,
+        see: &F,
+        budget: u64,
+    ) -> Result<Landed, Spent>
+        requires fresh { is_none self.old.index ≡ false }
+        requires callable { IfSome self.old.index (λ x. MayTry F.pre see.now x.pairs) }
+        ensures lands { (shown : ℕ → Bool) → IfSome self.old.index (λ x. Sees F.post see.now x.pairs shown
+            → IsMove (end_of shown forward x.pairs) budget result) }
+        ensures same { self.new ≡ self.old }
+    {
+        match &mut self.index {
+            Some(index) => index.go_to_end(forward, see, budget),
+            None => unreachable!(),
+        }
+    }
+
+    /// SKIP in the order of the list, which isn't stale.
+    pub(crate) fn skip<F: Fn(u32) -> bool>(
+        &mut self,
+        from: Option<Entry>,
+        steps: i128,
+        see: &F,
+        budget: u64,
+    ) -> Result<Landed, Spent>
+        requires fresh { is_none self.old.index ≡ false }
+        requires callable { IfSome self.old.index (λ x. MayTry F.pre see.now x.pairs) }
+        ensures lands { (shown : ℕ → Bool) → IfSome self.old.index (λ x. Sees F.post see.now x.pairs shown
+            → IsMove (skipped shown steps from x.pairs) budget result) }
+        ensures same { self.new ≡ self.old }
+    {
+        match &mut self.index {
+            Some(index) => index.skip(from, steps, see, budget),
+            None => unreachable!(),
+        }
+    }
+
+    /// SEEK in the list, which isn't stale.
+    pub(crate) fn seek<F: Fn(u32) -> bool>(
+        &mut self,
+        text: &[u8],
+        exact: bool,
+        see: &F,
+        budget: u64,
+    ) -> Result<Landed, Spent>
+        requires fresh { is_none self.old.index ≡ false }
+        requires callable { IfSome self.old.index (λ x. MayTry F.pre see.now x.pairs) }
+        ensures lands { (shown : ℕ → Bool) → IfSome self.old.index (λ x. Sees F.post see.now x.pairs shown
+            → IsMove (sought shown exact text.now x.pairs) budget result) }
+        ensures same { self.new ≡ self.old }
+    {
+        match &mut self.index {
+            Some(index) => index.seek(text, exact, see, budget),
+            None => unreachable!(),
+        }
+    }
+
+    /// Whether the index is one of these, and, if only those are wanted, is stale.
+    fn is_wanted(&self, list: &[u8], only_stale: bool) -> bool
+        ensures { result ≡ is_wanted_of list.now only_stale self.now }
+    {
+        is_among(list, self.number) && (self.index.is_none() || !only_stale)
+    }
+
+    /// Makes a list anew of the rows that are kept, and puts it by, if it is wanted.
+    pub(crate) fn prepare(
+        &mut self,
+        alloc: Global,
+        table: &Table,
+        list: &[u8],
+        only_stale: bool,
+        kept: Kept,
+    ) -> Result<(), AllocError>
+        requires few { length table.now.rows ≤ 1000000 }
+        requires key { IsKey table.now.structure self.old.parts }
+        requires key_text { IsKeyText self.old.text }
+        requires idle { self.old.fresh ≡ None }
+        ensures puts { PutsBy self.old self.new }
+        ensures ok { OnOk result (Prepares table.now.structure
+            (kept_rows kept table.now.rows) list.now only_stale self.old self.new) }
+    {
+        if !self.is_wanted(list, only_stale) {
+            return Ok(());
+        }
+        let index = build_of(alloc, table, self.key.copied(), self.text.as_slice(), kept)?;
+        self.fresh = Some(index);
+        Ok(())
+    }
+
+    /// Puts what was put by in the list's place. Where nothing was, the list stays, or is given up.
+    pub(crate) fn commit(&mut self, gives_up: bool)
+        ensures { self.new ≡ committed gives_up self.old }
+    {
+        match self.fresh.take() {
+            Some(index) => self.index = Some(index),
+            None => {
+                if gives_up {
+                    self.index = None;
+                }
+            }
+        }
+    }
+
+    /// Gives up what was put by.
+    pub(crate) fn discard(&mut self)
+        ensures { self.new ≡ discarded self.old }
+    {
+        self.fresh = None;
+    }
+}

@@ -1,0 +1,126 @@
+//! The declared indexes of a table, all at once.
+
+ghost use Rattle.std.specs.Prelude.{◌≡◌, ℕ, ◌+◌, ◌<◌, ◌≤◌, ◌^◌, Bool, true, None, IfSome, OnOk, OnErr, Contains, All};
+ghost use Rattle.std.specs.Prelude.{length, position, ◌==◌};
+ghost use Rattle.row_keys.specs.Lists.{kept_rows, row_pair, IsIndexOf, IsAsBefore, HasAdded, HasRemoved};
+ghost use Rattle.open_table.specs.Slots.{Along, GoesBy, HasRoom, IsSlot, PutsBy, Prepares, committed, discarded};
+ghost use Rattle.open_table.specs.Slots.{left_by};
+
+use crate::slot::Slot;
+use dbf_file::Table;
+use key_lists::KeyList;
+use row_keys::Kept;
+use std::alloc::{AllocError, Global};
+
+/// Makes room for one more pair in each open index.
+pub(crate) fn reserve_all<K: KeyList>(
+    slots: &mut Vec<Slot<K>>,
+    list: &[u8],
+) -> Result<(), AllocError>
+    requires { All (λ slot. IfSome slot.index (λ x. length x.pairs + 1 < 2 ^ 32)) slots.old.items }
+    ensures same { Along (GoesBy IsAsBefore) slots.old.items slots.new.items }
+    ensures ok { OnOk result (All (HasRoom list.now) slots.new.items) }
+{
+    for slot in slots.iter_mut() {
+        slot.reserve(list)?;
+    }
+    Ok(())
+}
+
+/// Gives up the lists of the indexes that aren't open.
+pub(crate) fn leave_all<K: KeyList>(slots: &mut Vec<Slot<K>>, list: &[u8])
+    ensures { Along (λ a b. b ≡ left_by list.now a) slots.old.items slots.new.items }
+{
+    for slot in slots.iter_mut() {
+        slot.leave(list);
+    }
+}
+
+/// Puts the pair of row `r`, counted from 0, into each list.
+pub(crate) fn add_all<K: KeyList>(slots: &mut Vec<Slot<K>>, table: &Table, r: usize)
+    requires row { r < length table.now.rows }
+    requires few { r < 1000000 }
+    requires index { All (λ slot. IfSome slot.index (IsIndexOf table.now.structure)) slots.old.items }
+    requires reserved { All (λ slot. IfSome slot.index (λ x. 0 < x.spare)) slots.old.items }
+    requires absent { All (λ slot. IfSome slot.index
+        (λ x. ¬ Contains x.pairs (row_pair x.parts table.now.rows r))) slots.old.items }
+    ensures { Along (GoesBy (HasAdded table.now.rows r)) slots.old.items slots.new.items }
+{
+    for slot in slots.iter_mut() {
+        slot.add_row(table, r);
+    }
+}
+
+/// Takes the pair of row `r`, counted from 0, out of each list.
+pub(crate) fn remove_all<K: KeyList>(slots: &mut Vec<Slot<K>>, table: &Table, r: usize)
+    requires row { r < length table.now.rows }
+    requires few { r < 1000000 }
+    requires index { All (λ slot. IfSome slot.index (IsIndexOf table.now.structure)) slots.old.items }
+    ensures { Along (GoesBy (HasRemoved table.now.rows r)) slots.old.items slots.new.items }
+{
+    for slot in slots.iter_mut() {
+        slot.remove_row(table, r);
+    }
+}
+
+/// Makes a list anew of the rows that are kept for each index that is wanted, and puts it by.
+fn prepare_all<K: KeyList>(
+    alloc: Global,
+    slots: &mut Vec<Slot<K>>,
+    table: &Table,
+    list: &[u8],
+    only_stale: bool,
+    kept: Kept,
+) -> Result<(), AllocError>
+    requires few { length table.now.rows ≤ 1000000 }
+    requires exact { All (IsSlot table.now.structure table.now.rows) slots.old.items }
+    ensures puts { Along PutsBy slots.old.items slots.new.items }
+    ensures ok { OnOk result (Along (Prepares table.now.structure
+        (kept_rows kept table.now.rows) list.now only_stale) slots.old.items slots.new.items) }
+{
+    for slot in slots.iter_mut() {
+        slot.prepare(alloc, table, list, only_stale, kept)?;
+    }
+    Ok(())
+}
+
+/// Puts what was put by in the lists' places. Where nothing was, a list stays, or is given up.
+pub(crate) fn commit_all<K: KeyList>(slots: &mut Vec<Slot<K>>, gives_up: bool)
+    ensures { Along (λ a b. b ≡ committed gives_up a) slots.old.items slots.new.items }
+{
+    for slot in slots.iter_mut() {
+        slot.commit(gives_up);
+    }
+}
+
+/// Gives up what was put by.
+fn discard_all<K: KeyList>(slots: &mut Vec<Slot<K>>)
+    ensures { Along (λ a b. b ≡ discarded a) slots.old.items slots.new.items }
+{
+    for slot in slots.iter_mut() {
+        slot.discard();
+    }
+}
+
+/// Makes a list anew of the rows that are kept for each index that is wanted, and puts it by. Where memory is missing,
+/// nothing is put by.
+pub(crate) fn make_all<K: KeyList>(
+    alloc: Global,
+    slots: &mut Vec<Slot<K>>,
+    table: &Table,
+    list: &[u8],
+    only_stale: bool,
+    kept: Kept,
+) -> Result<(), AllocError>
+    requires few { length table.now.rows ≤ 1000000 }
+    requires exact { All (IsSlot table.now.structure table.now.rows) slots.old.items }
+    ensures ok { OnOk result (Along (Prepares table.now.structure
+        (kept_rows kept table.now.rows) list.now only_stale) slots.old.items slots.new.items) }
+    ensures err { OnErr result (slots.new.items ≡ slots.old.items) }
+{
+    let made = prepare_all(alloc, slots, table, list, only_stale, kept);
+    if made.is_err() {
+        discard_all(slots);
+    }
+    made
+}

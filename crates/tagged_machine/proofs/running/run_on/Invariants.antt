@@ -1,0 +1,13 @@
+use Rattle.std.proofs.Common.{◌-◌, ◌≤◌}
+use Rattle.tagged_machine.specs.Reached.{Comes}
+use Rattle.tagged_machine.specs.Seen.{world_of}
+use Rattle.tagged_machine.proofs.running.run_on.Given as goal
+
+abbrev pub invariant-loop-kind : goal.invariant-loop-kind
+invariant-loop-kind g l = record {
+  comes : Comes l.fn.code (world_of l.fn.machine.place l.fn.machine.returns l.fn.machine.values l.fn.machine.env) l.steps (world_of l.machine.place l.machine.returns l.machine.values l.machine.env);
+  within : l.steps ≤ l.budget;
+}
+
+abbrev pub decreases-loop-kind : goal.decreases-loop-kind
+decreases-loop-kind g l = l.budget - l.steps

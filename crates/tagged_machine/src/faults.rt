@@ -1,0 +1,83 @@
+//! The faults of an instruction, tested in their order.
+
+ghost use Rattle.std.specs.Prelude.{◌≡◌, ◌<◌, length};
+ghost use Rattle.code_items.specs.Legal.{IsCode};
+ghost use Rattle.run_steps.specs.Faults.{fault_of};
+ghost use Rattle.tagged_machine.specs.Seen.{world_of, state_seen, fault_seen};
+
+use crate::operands::{bad_field, is_high, is_short, loads_free, wrong_kind};
+use crate::places::{bad_jump, deep_call};
+use crate::scratch::{BlockScratch, Scratch};
+use crate::soundness::bad_filter;
+use code_items::{Code, Desk, Instr};
+use code_rules::desks::{is_closed, opens_twice, order_fails};
+use key_lists::KeyList;
+use run_steps::{FaultKind, Machine};
+use run_values::Tagged;
+
+/// The first test that fails, given the work areas.
+#[tactic(auto, unfolding(crate::specs::Seen::fault_seen))]
+fn first_fault<K: KeyList>(
+    code: &Code,
+    machine: &Machine<Tagged, K>,
+    desk: &Desk,
+    scratch: &mut BlockScratch,
+    instr: Instr,
+) -> Option<FaultKind>
+    requires legal { IsCode code.now }
+    requires place { machine.now.place < 65536 }
+    ensures { result ≡ fault_seen code.now
+        (world_of machine.now.place machine.now.returns machine.now.values machine.now.env)
+        (state_seen desk.now machine.now.values) instr }
+{
+    let values = &machine.values;
+    if wrong_kind(code, desk, values, instr) {
+        Some(FaultKind::WrongKind)
+    } else if loads_free(&values.slots, instr) {
+        Some(FaultKind::Unset)
+    } else if is_closed(desk, instr) {
+        Some(FaultKind::ClosedArea)
+    } else if is_short(values, instr) {
+        Some(FaultKind::EmptyStack)
+    } else if is_high(code, values, instr) {
+        Some(FaultKind::StackOver)
+    } else if bad_jump(code, machine.place, &machine.returns, values, instr) {
+        Some(FaultKind::BadJump)
+    } else if order_fails(&code.declared, desk, instr) {
+        Some(FaultKind::NoOrder)
+    } else if opens_twice(desk, instr) {
+        Some(FaultKind::OpenTwice)
+    } else if deep_call(&machine.returns, instr) {
+        Some(FaultKind::DeepCall)
+    } else if bad_field(code, desk, values, instr) {
+        Some(FaultKind::BadField)
+    } else if bad_filter(code, desk, values, scratch, instr) {
+        Some(FaultKind::BadFilter)
+    } else {
+        None
+    }
+}
+
+/// The fault of an instruction in the world that the machine stands for, if it has one: the first in the order of the
+/// faults. It takes no memory.
+pub fn fault<K: KeyList>(
+    code: &Code,
+    machine: &Machine<Tagged, K>,
+    scratch: &mut Scratch,
+    instr: Instr,
+) -> Option<FaultKind>
+    requires legal { IsCode code.now }
+    requires place { machine.now.place < 65536 }
+    requires ten { length machine.now.env.store.areas ≡ 10 }
+    ensures { result ≡ fault_of code.now
+        (world_of machine.now.place machine.now.returns machine.now.values machine.now.env) instr }
+{
+    scratch.areas.show(machine.env.store());
+    first_fault(
+        code,
+        machine,
+        scratch.areas.desk(),
+        &mut scratch.block,
+        instr,
+    )
+}

@@ -1,0 +1,18 @@
+//! The checking machine over tables: it runs any code that has a code file, accepted by the verifier or not. Before
+//! each instruction it tests for the eleven faults, in their order and before the budget; where there is none, the
+//! instruction is carried out as by the machine that tests nothing.
+#![tactic(auto)]
+
+mod areas;
+mod blocks;
+mod faults;
+mod kinds;
+mod operands;
+mod places;
+mod running;
+mod scratch;
+mod soundness;
+mod world;
+
+pub use running::run_checked;
+pub use world::World;

@@ -1,0 +1,96 @@
+//! Runs with all tests.
+
+ghost use Rattle.std.specs.Prelude.{◌≡◌};
+ghost use Rattle.code_items.specs.Legal.{IsCode};
+ghost use Rattle.run_steps.specs.Run.{Ran};
+ghost use Rattle.run_steps.specs.Shapes.{HasShape};
+ghost use Rattle.tagged_machine.specs.Seen.{world_of};
+ghost use Rattle.work_area.specs.Areas.{AreApart};
+
+use crate::faults::fault;
+use crate::scratch::Scratch;
+use crate::world::World;
+use code_items::Code;
+use code_items::laws::legal_codes;
+use key_lists::KeyList;
+use run_laws::laws::{
+    faultless_instructions_are_clear, faultless_worlds_go_on, steps_keep_the_shape,
+};
+use run_steps::running::finishes;
+use run_steps::{End, Machine, Outcome, execute};
+use run_values::Tagged;
+use std::alloc::Global;
+
+fn run_on<K: KeyList>(
+    alloc: Global,
+    code: &Code,
+    machine: &mut Machine<Tagged, K>,
+    scratch: &mut Scratch,
+    budget: u64,
+) -> Outcome
+    requires legal { IsCode code.now }
+    requires shape { HasShape code.now
+        (world_of machine.old.place machine.old.returns machine.old.values machine.old.env) }
+    requires apart { AreApart machine.old.env.store.areas }
+    ensures ran { Ran code.now (world_of machine.old.place machine.old.returns machine.old.values machine.old.env)
+        budget result (world_of machine.new.place machine.new.returns machine.new.values machine.new.env) }
+    ensures shape { HasShape code.now (world_of machine.new.place machine.new.returns machine.new.values
+        machine.new.env) }
+    ensures apart { AreApart machine.new.env.store.areas }
+{
+    legal_codes();
+    faultless_instructions_are_clear();
+    faultless_worlds_go_on();
+    steps_keep_the_shape();
+    let mut steps = 0;
+    loop {
+        let instr = *code.instructions.get(machine.place);
+        if let Some(kind) = fault(code, machine, scratch, instr) {
+            return Outcome {
+                end: End::Fault(kind, machine.place),
+                steps,
+            };
+        }
+        if finishes(&machine.returns, instr) {
+            if steps == budget {
+                return Outcome {
+                    end: End::Spent,
+                    steps,
+                };
+            }
+            return Outcome {
+                end: End::Finished,
+                steps: steps + 1,
+            };
+        }
+        match execute(alloc, code, machine, instr, budget - steps) {
+            Ok(cost) => steps += cost,
+            Err(stop) => {
+                return Outcome {
+                    end: stop.end(),
+                    steps,
+                };
+            }
+        }
+    }
+}
+
+/// Runs a code, accepted or not, until it ends, within the budget: the run takes the steps that the definition gives,
+/// costs what they cost, and the world is that before the step at which it ended. A fault of the next step is told
+/// before anything else, at any budget. The world keeps the code's shape, so that a run that ended may be taken up
+/// again.
+pub fn run_checked<K: KeyList>(
+    alloc: Global,
+    code: &Code,
+    world: &mut World<K>,
+    budget: u64,
+) -> Outcome
+    requires legal { IsCode code.now }
+    requires shape { HasShape code.now world.old }
+    requires apart { AreApart world.old.env.store.areas }
+    ensures ran { Ran code.now world.old budget result world.new }
+    ensures shape { HasShape code.now world.new }
+    ensures apart { AreApart world.new.env.store.areas }
+{
+    run_on(alloc, code, &mut world.machine, &mut world.scratch, budget)
+}

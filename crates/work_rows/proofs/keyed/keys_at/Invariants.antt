@@ -1,7 +1,0 @@
-use Rattle.std.proofs.Common.{◌≡◌, drop, map}
-use Rattle.work_rows.specs.Marks.{mark_at}
-use Rattle.work_rows.specs.Slots.{mark_of}
-use Rattle.work_rows.proofs.keyed.keys_at.Given as goal
-
-abbrev pub invariant-loop-i : goal.invariant-loop-i
-invariant-loop-i g l = mark_at (map mark_of (drop l.i l.slots.items)) l.number ≡ mark_at (map mark_of l.slots.items) l.number

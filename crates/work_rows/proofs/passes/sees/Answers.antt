@@ -1,4 +1,0 @@
-use Rattle.work_rows.proofs.passes.sees.Goals as goal
-
-pub returns : goal.returns
-returns g c = λ shown answers. answers c.see.result (record { shown = _; shows = c.new.ensures; says = record { met = c.see.ensures } })

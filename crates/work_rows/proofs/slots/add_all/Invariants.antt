@@ -1,7 +1,0 @@
-use Rattle.row_keys.specs.Lists.{HasAdded}
-use Rattle.work_rows.specs.Slots.{GoesBy}
-use Rattle.work_rows.proofs.SlotLemmas.{Turned}
-use Rattle.work_rows.proofs.slots.add_all.Given as goal
-
-abbrev pub invariant-loop-slot : goal.invariant-loop-slot
-invariant-loop-slot g l = Turned (GoesBy (HasAdded l.table.rows l.r)) l.fn.slots.items l.slot-items l.slot-index

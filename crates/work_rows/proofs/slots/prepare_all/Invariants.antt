@@ -1,7 +1,0 @@
-use Rattle.row_keys.specs.Lists.{kept_rows}
-use Rattle.work_rows.specs.Slots.{Prepares}
-use Rattle.work_rows.proofs.SlotLemmas.{Turned}
-use Rattle.work_rows.proofs.slots.prepare_all.Given as goal
-
-abbrev pub invariant-loop-slot : goal.invariant-loop-slot
-invariant-loop-slot g l = Turned (Prepares l.table.structure (kept_rows l.kept l.table.rows) l.list l.only_stale) l.fn.slots.items l.slot-items l.slot-index

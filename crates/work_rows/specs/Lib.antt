@@ -1,5 +1,0 @@
-pub mod Tried
-pub mod Marks
-pub mod Slots
-pub mod Tables
-pub mod Passes

@@ -1,4 +1,0 @@
-pub mod PlaceLemmas
-pub mod AreaLemmas
-pub mod MakingLemmas
-pub mod ShapeLemmas

@@ -1,7 +1,0 @@
-use Rattle.std.proofs.Common.{ℕ, ◌<◌, get_or}
-use Rattle.dbf_file.specs.declared.field.Field.{Field}
-use Rattle.work_store.specs.Making.{IsAlike}
-use Rattle.work_store.proofs.handed.are_alike.Given as goal
-
-abbrev pub invariant-loop-i : goal.invariant-loop-i
-invariant-loop-i l = (k : ℕ) (d : Field) → k < l.i → IsAlike (get_or l.fields k d) (get_or l.others k d)

@@ -1,5 +1,0 @@
-use Rattle.work_store.proofs.ShapeLemmas.{are_found}
-use Rattle.work_store.proofs.laws.indexes_have_their_declared_keys.Goals as goal
-
-pub returns : goal.returns
-returns c = are_found

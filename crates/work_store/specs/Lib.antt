@@ -1,4 +1,0 @@
-pub mod Areas
-pub mod Calls
-pub mod Making
-pub mod Shapes

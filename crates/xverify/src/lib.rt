@@ -1,0 +1,18 @@
+//! The verifier of code files: `verify` says yes exactly where no rule fails at any place.
+//!
+//! The rules are definitions of the crate `code_rules`; here they are tested place by place, each place once. A rule is
+//! a function of its own, by groups of instructions, and the tests that the checking machine has too are those of
+//! `code_tests`; `refusal` asks the rules in their order.
+#![tactic(auto)]
+
+mod covering;
+mod desks;
+mod here;
+mod procedures;
+mod rules;
+mod stacks;
+mod verified;
+mod verifying;
+
+pub use verified::{Refused, Verified, VerifyError};
+pub use verifying::{begun, verify};
