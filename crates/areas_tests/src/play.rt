@@ -67,7 +67,7 @@ fn sees(shows: Shows, row: &Row<'_>) -> bool {
         Shows::Every => true,
         Shows::Unmarked => !row.marked(),
         Shows::Nothing => false,
-        Shows::From(number) => row.number() >= number,
+        Shows::From(number) => row.record() >= number,
         Shows::Of(count) => row.count() == count,
     }
 }

@@ -4,12 +4,10 @@
 //! carried out, and what they give is printed.
 #![tactic(auto)]
 
-mod folder;
 mod shown;
 mod words;
 
-use crate::folder::Folder;
-use crate::shown::{Audience, Place, faulty_place, line_at};
+use crate::shown::{Audience, Place, Progress, faulty_place, line_at};
 use crate::words::{Words, WordsFault, command, sources_of, words_of};
 use clap::error::ErrorKind;
 use clap::{ArgMatches, Command};
@@ -18,7 +16,8 @@ use file_access::{Files, ReadFault, read_within};
 use file_commands::{
     FILE_LIMIT, Refusal, Status, list_code, list_index, list_table, of_refusal, verify_file,
 };
-use run_commands::{Job, RecordLimit, Report, RunDay, run_files};
+use folder_files::{Folder, Nobody};
+use run_commands::{Job, Report, run_files};
 use shape_files::ShapeRefusal;
 use std::alloc::Global;
 use std::process::ExitCode;
@@ -32,6 +31,14 @@ const INPUT_LIMIT: usize = 1_048_576;
 fn refuse(rt: &impl Runtime, refusal: Refusal<'_>) -> Status {
     let _ = eprintln!(rt; "{refusal}");
     of_refusal(&refusal)
+}
+
+/// The folder in which the program runs; a person is told of long files.
+fn folder<'a, R: Runtime<A = Global>>(
+    rt: &'a R,
+    audience: Audience,
+) -> Folder<'a, R, Progress<'a, R>> {
+    Folder::new(rt, Progress { rt, audience })
 }
 
 /// All that the operator typed, or how the program exits where that can't be had.
@@ -64,7 +71,7 @@ fn of_compiling(refusal: &CompileFilesRefusal) -> Status {
 
 /// Shows a faulty line on standard error, where its file can still be read.
 fn show_faulty<R: Runtime<A = Global>>(rt: &R, place: Place<'_>) {
-    let mut folder = Folder::new(rt, Audience::Pipe);
+    let mut folder = Folder::new(rt, Nobody);
     if let Ok(bytes) = folder.read(rt.alloc(), place.file, FILE_LIMIT) {
         if let Some(line) = line_at(bytes.as_slice(), place.line) {
             let _ = eprintln!(rt; "  {line}");
@@ -82,7 +89,7 @@ fn compile<'a, R: Runtime<A = Global>>(
     if names.is_empty() {
         return Err(WordsFault::Missing);
     }
-    let mut folder = Folder::new(rt, audience);
+    let mut folder = folder(rt, audience);
     let refusal = match compile_files(rt.alloc(), &mut folder, decl, out, names) {
         Ok(()) => return Ok(Status::Done),
         Err(refusal) => refusal,
@@ -117,36 +124,27 @@ fn report<R: Runtime<A = Global>>(rt: &R, name: &str, report: &Report) -> Status
     }
 }
 
-/// What a run is asked for, but for what the operator types.
-#[derive(Clone, Copy)]
-struct Asked<'a> {
-    name: &'a str,
-    checked: bool,
-    budget: u64,
-    limit: RecordLimit,
-    day: RunDay,
-}
-
-fn run<R: Runtime<A = Global>>(rt: &R, audience: Audience, asked: Asked<'_>) -> Status {
+/// Carries out a run, of which only what the operator types is still to be had.
+fn run<R: Runtime<A = Global>>(rt: &R, audience: Audience, job: &Job<'_>) -> Status {
     let input = match typed(rt) {
         Ok(input) => input,
         Err(status) => return status,
     };
     let job = Job {
-        name: asked.name,
-        checked: asked.checked,
-        budget: asked.budget,
-        limit: asked.limit,
-        day: asked.day,
+        name: job.name,
+        checked: job.checked,
+        budget: job.budget,
+        limit: job.limit,
+        day: job.day,
         input: input.as_slice(),
     };
-    let mut folder = Folder::new(rt, audience);
+    let mut folder = folder(rt, audience);
     let done = run_files(rt.alloc(), &mut folder, &job);
-    report(rt, asked.name, &done)
+    report(rt, job.name, &done)
 }
 
 fn verify<R: Runtime<A = Global>>(rt: &R, audience: Audience, name: &str) -> Status {
-    let mut folder = Folder::new(rt, audience);
+    let mut folder = folder(rt, audience);
     let (written, status) = match verify_file(rt.alloc(), &mut folder, name) {
         Ok(None) => (println!(rt; "accepted"), Status::Done),
         Ok(Some(refused)) => (println!(rt; "refused {refused}"), Status::Refused),
@@ -172,17 +170,17 @@ fn print_lines<R: Runtime<A = Global>>(rt: &R, listed: Result<Vec<u8>, Refusal<'
 }
 
 fn code<R: Runtime<A = Global>>(rt: &R, audience: Audience, name: &str) -> Status {
-    let mut folder = Folder::new(rt, audience);
+    let mut folder = folder(rt, audience);
     print_lines(rt, list_code(rt.alloc(), &mut folder, name))
 }
 
 fn list<R: Runtime<A = Global>>(rt: &R, audience: Audience, name: &str) -> Status {
-    let mut folder = Folder::new(rt, audience);
+    let mut folder = folder(rt, audience);
     print_lines(rt, list_table(rt.alloc(), &mut folder, name))
 }
 
 fn index<R: Runtime<A = Global>>(rt: &R, audience: Audience, name: &str) -> Status {
-    let mut folder = Folder::new(rt, audience);
+    let mut folder = folder(rt, audience);
     print_lines(rt, list_index(rt.alloc(), &mut folder, name))
 }
 
@@ -194,38 +192,7 @@ fn carry_out<R: Runtime<A = Global>>(
 ) -> Result<Status, WordsFault> {
     match words {
         Words::Compile { decl, out } => compile(rt, audience, decl, out, sources),
-        Words::Run {
-            name,
-            budget,
-            limit,
-            day,
-        } => Ok(run(
-            rt,
-            audience,
-            Asked {
-                name,
-                checked: false,
-                budget,
-                limit,
-                day,
-            },
-        )),
-        Words::CheckRun {
-            name,
-            budget,
-            limit,
-            day,
-        } => Ok(run(
-            rt,
-            audience,
-            Asked {
-                name,
-                checked: true,
-                budget,
-                limit,
-                day,
-            },
-        )),
+        Words::Run(job) => Ok(run(rt, audience, &job)),
         Words::Verify { name } => Ok(verify(rt, audience, name)),
         Words::Code { name } => Ok(code(rt, audience, name)),
         Words::List { name } => Ok(list(rt, audience, name)),

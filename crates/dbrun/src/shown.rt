@@ -2,9 +2,10 @@
 #![tactic(auto)]
 
 use compile_commands::{CompileFilesRefusal, CompileWords, SourceFault};
+use folder_files::{Doing, Listener};
 use shape_files::{DeclFault, ShapeRefusal};
 use std::fmt::{self, Display, Formatter, Write};
-use std::io::IsTerminal;
+use std::io::{Eprint, IsTerminal};
 
 /// Who reads standard error.
 #[derive(Clone, Copy, Debug, PartialEq, Eq)]
@@ -22,6 +23,28 @@ impl Audience {
             Audience::Person
         } else {
             Audience::Pipe
+        }
+    }
+}
+
+/// The least bytes of a file whose reading or writing a person is told of: 8 MiB.
+const LONG: u64 = 8_388_608;
+
+/// Tells a person on standard error of long files while they are read and written.
+#[derive(Clone, Copy)]
+pub struct Progress<'a, R> {
+    pub rt: &'a R,
+    pub audience: Audience,
+}
+
+impl<R: Eprint> Listener for Progress<'_, R> {
+    fn hear(&self, doing: Doing, name: &str, size: u64) {
+        if self.audience == Audience::Person && size >= LONG {
+            let doing = match doing {
+                Doing::Reading => "reading",
+                Doing::Writing => "writing",
+            };
+            let _ = eprintln!(self.rt; "{doing} {name}");
         }
     }
 }

@@ -2,7 +2,7 @@
 #![tactic(auto)]
 
 use clap::{Arg, ArgMatches, Command, value_parser};
-use run_commands::{RecordLimit, RunDay};
+use run_commands::{Job, RecordLimit, RunDay};
 use std::alloc::{AllocError, Global};
 
 /// How much a run may cost where the words don't say.
@@ -26,40 +26,17 @@ pub enum WordsFault {
 #[derive(Clone, Copy, Debug)]
 pub enum Words<'a> {
     /// Compile command files, with these declarations, to this code file.
-    Compile {
-        decl: &'a str,
-        out: &'a str,
-    },
-    /// Run an accepted code file.
-    Run {
-        name: &'a str,
-        budget: u64,
-        limit: RecordLimit,
-        day: RunDay,
-    },
-    /// Run any code file, with a test of each instruction.
-    CheckRun {
-        name: &'a str,
-        budget: u64,
-        limit: RecordLimit,
-        day: RunDay,
-    },
+    Compile { decl: &'a str, out: &'a str },
+    /// Run a code file; nothing is typed yet.
+    Run(Job<'a>),
     /// Say whether a code file is accepted.
-    Verify {
-        name: &'a str,
-    },
+    Verify { name: &'a str },
     /// List a code file.
-    Code {
-        name: &'a str,
-    },
+    Code { name: &'a str },
     /// List a table.
-    List {
-        name: &'a str,
-    },
+    List { name: &'a str },
     /// List an index file.
-    Index {
-        name: &'a str,
-    },
+    Index { name: &'a str },
 }
 
 /// An example of the commands that belong together, and how they exit.
@@ -193,7 +170,7 @@ fn with_readers<'a>(alloc: Global, command: Command<'a>) -> Result<Command<'a>, 
 pub fn command<'a>(alloc: Global) -> Result<Command<'a>, AllocError> {
     let command = Command::new(alloc, "dbrun")
         .about(
-            "Compiles command files of dBASE III PLUS, verifies and runs the code over its tables, and lists codes, tables and indexes",
+            "Compiles command files of dBASE III PLUS, runs them over tables, and lists codes, tables and indexes",
         )
         .after_help(FURTHER)
         .subcommand_required(true)
@@ -223,6 +200,18 @@ fn word_of<'a>(matches: &ArgMatches<'a>, id: &str) -> Result<&'a str, WordsFault
     matches.get_str(id).ok_or(WordsFault::Missing)
 }
 
+/// What the words of `run` or `check-run` ask for.
+fn job_of<'a>(matches: &ArgMatches<'a>, checked: bool) -> Result<Job<'a>, WordsFault> {
+    Ok(Job {
+        name: word_of(matches, FILE)?,
+        checked,
+        budget: budget_of(matches),
+        limit: limit_of(matches)?,
+        day: day_of(matches)?,
+        input: &[],
+    })
+}
+
 /// The command files of the words that ask for compiling, the main one first.
 pub fn sources_of<'m, 'a: 'm>(matches: &'m ArgMatches<'a>) -> Option<&'m [&'a str]> {
     let (_, matches) = matches.subcommand()?;
@@ -237,18 +226,8 @@ pub fn words_of<'a>(matches: &ArgMatches<'a>) -> Result<Words<'a>, WordsFault> {
             decl: word_of(matches, DECLARATIONS)?,
             out: word_of(matches, OUT)?,
         }),
-        "run" => Ok(Words::Run {
-            name: word_of(matches, FILE)?,
-            budget: budget_of(matches),
-            limit: limit_of(matches)?,
-            day: day_of(matches)?,
-        }),
-        "check-run" => Ok(Words::CheckRun {
-            name: word_of(matches, FILE)?,
-            budget: budget_of(matches),
-            limit: limit_of(matches)?,
-            day: day_of(matches)?,
-        }),
+        "run" => Ok(Words::Run(job_of(matches, false)?)),
+        "check-run" => Ok(Words::Run(job_of(matches, true)?)),
         "verify" => Ok(Words::Verify {
             name: word_of(matches, FILE)?,
         }),

@@ -1,2 +1,4 @@
 pub mod Headline
 pub mod Twins
+pub use Rattle.run_steps.specs.Run
+pub use Rattle.run_steps.specs.World

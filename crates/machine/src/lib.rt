@@ -7,4 +7,5 @@ mod banks;
 mod running;
 
 pub use banks::Banks;
+pub use run_steps::{End, Outcome};
 pub use running::{resume, run};

@@ -9,3 +9,5 @@ pub mod IndexText
 pub mod Walk
 pub mod Reads
 pub mod Writes
+pub use Rattle.key_lists.specs.Pairs
+pub use Rattle.key_lists.specs.SortedList

@@ -16,4 +16,5 @@ mod tree;
 mod walk;
 
 pub use fault::TreeFault;
+pub use key_lists::{Entry, KeyList, SortedKeys};
 pub use tree::NdxTree;

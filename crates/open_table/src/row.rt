@@ -56,7 +56,7 @@ impl<'a> Row<'a> {
     }
 
     /// The record's number, counted from 1.
-    pub fn number(&self) -> u32
+    pub fn record(&self) -> u32
         ensures { result ≡ self.now.number }
     {
         self.number

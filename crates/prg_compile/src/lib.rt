@@ -11,4 +11,5 @@ mod control;
 mod ends;
 
 pub use compiling::compile;
-pub use prg_code::{CompileFault, CompileFaultKind, CompileRefusal};
+pub use prg_code::{CompileFault, CompileFaultKind, CompileRefusal, Names, Pool};
+pub use prg_values::{Scope, compile_expr};

@@ -14,5 +14,6 @@ mod scratch;
 mod soundness;
 mod world;
 
+pub use run_steps::{End, FaultKind, Outcome};
 pub use running::run_checked;
 pub use world::World;

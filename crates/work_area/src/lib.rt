@@ -10,5 +10,7 @@ mod store;
 mod tables;
 mod uses;
 
+pub use open_table::{AppendError, Refused, Row};
+pub use row_moves::Spent;
 pub use store::Store;
 pub use uses::Use;

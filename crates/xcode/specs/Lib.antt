@@ -5,3 +5,7 @@ pub mod Laws
 pub mod Writing
 pub mod Fitting
 pub mod Names
+pub use Rattle.code_items.specs.Legal
+pub use Rattle.code_rules.specs.Flow
+pub use Rattle.code_rules.specs.Kept
+pub use Rattle.code_rules.specs.Places

@@ -1,7 +1,7 @@
 //! Code files: the codec between codes and their bytes, and the listing of a code.
 //!
-//! What a code is stands in `code_items`, whose types are passed on from here; the bytes of each item stand in
-//! `code_parts`.
+//! What a code is stands in `code_items`, whose types are passed on from here, as is what `code_rules` says of states and
+//! of the flow of codes; the bytes of each item stand in `code_parts`.
 #![tactic(auto)]
 
 mod constants;
@@ -22,6 +22,7 @@ pub use code_items::{
     Items, KeyPart, KeyParts, KindSlots, KindStack, Map, MoveInstr, Name, Need, OpenArea, Proc,
     Question, RecordInstr, ScreenInstr, Setting, Shape, State, TableShape, ValueInstr, Version,
 };
+pub use code_rules::{Signature, blocks, flow, kinds, laws, signature};
 pub use decoding::{decode, faults_stay, files_end_where_they_end, one_file_each};
 pub use encoding::encode;
 pub use fault::CodeFault;

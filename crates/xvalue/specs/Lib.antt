@@ -8,3 +8,4 @@ pub mod Signature
 pub mod Texts
 pub mod Laws
 pub mod Answers
+pub use Rattle.calendar.specs.Calendar

@@ -17,6 +17,7 @@ mod texts;
 mod value;
 
 pub use arguments::{Arguments, Gathered, MOST_ARGUMENTS};
+pub use calendar::Day;
 pub use fun::{FUNS, Fun, signature};
 pub use kind::Kind;
 pub use settings::{Setting, Settings};

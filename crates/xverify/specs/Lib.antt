@@ -1,2 +1,4 @@
 pub mod Told
 pub mod Verdict
+pub use Rattle.code_rules.specs.Rules
+pub use Rattle.code_rules.specs.Kept

@@ -14,5 +14,6 @@ mod stacks;
 mod verified;
 mod verifying;
 
+pub use code_rules::Rule;
 pub use verified::{Refused, Verified, VerifyError};
 pub use verifying::{begun, verify};

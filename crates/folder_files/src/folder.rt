@@ -4,23 +4,43 @@
 ghost use Rattle.std.specs.Prelude.{◌≡◌, ◌≤◌};
 ghost use Rattle.file_access.specs.Holding.{Rose};
 
-use crate::shown::Audience;
 use file_access::{Device, Files, ReadFault, read_within};
 use std::alloc::{Alloc, AllocError, Global};
 use std::fs::{self, OpenFile};
-use std::io::{self, Eprint, ErrorKind, Write};
+use std::io::{self, ErrorKind, Write};
 use std::rt::Files as Disk;
 
-/// The files of the folder in which the program runs.
-#[derive(Drop)]
-pub struct Folder<'a, R> {
-    rt: &'a R,
-    audience: Audience,
-    failures: u64,
+/// What goes on with a file.
+#[derive(Clone, Copy, PartialEq, Eq, Debug)]
+pub enum Doing {
+    /// It is read.
+    Reading,
+    /// Its new bytes are written.
+    Writing,
 }
 
-/// The least bytes of a file whose reading or writing a person is told of: 8 MiB.
-const LONG: u64 = 8_388_608;
+/// Who hears what goes on with files while it lasts.
+pub trait Listener {
+    /// A file of so many bytes is read or written now.
+    fn hear(&self, doing: Doing, name: &str, size: u64);
+}
+
+/// Nobody hears it.
+#[derive(Clone, Copy, Debug)]
+pub struct Nobody;
+
+impl Listener for Nobody {
+    fn hear(&self, _doing: Doing, _name: &str, _size: u64) {}
+}
+
+/// The files of the folder in which the program runs: names are those of its files. A file that is replaced has its new
+/// bytes on the device before they take the old ones' place, and a failure that is told leaves the old ones.
+#[derive(Drop)]
+pub struct Folder<'a, R, L> {
+    rt: &'a R,
+    listener: L,
+    failures: u64,
+}
 
 /// The name of the file beside one, under which its new bytes are written first.
 fn beside(alloc: Global, name: &str) -> Result<String, AllocError> {
@@ -42,20 +62,13 @@ fn put<R: Disk>(rt: &R, path: &str, name: &str, bytes: &[u8]) -> io::Result<()> 
     fs::rename(rt, path, name)
 }
 
-impl<'a, R: Disk + Eprint + Alloc<A = Global>> Folder<'a, R> {
-    /// The folder, with no failure counted yet. A person is told of long files while they are read and written.
-    pub fn new(rt: &'a R, audience: Audience) -> Folder<'a, R> {
+impl<'a, R: Disk + Alloc<A = Global>, L: Listener> Folder<'a, R, L> {
+    /// The folder, with no failure counted yet.
+    pub fn new(rt: &'a R, listener: L) -> Folder<'a, R, L> {
         Folder {
             rt,
-            audience,
+            listener,
             failures: 0,
-        }
-    }
-
-    /// Tells a person what goes on with a file of so many bytes, if they are many.
-    fn tell(&self, doing: &str, name: &str, size: u64) {
-        if self.audience == Audience::Person && size >= LONG {
-            let _ = eprintln!(self.rt; "{doing} {name}");
         }
     }
 
@@ -70,7 +83,7 @@ impl<'a, R: Disk + Eprint + Alloc<A = Global>> Folder<'a, R> {
     }
 }
 
-impl<R: Disk + Eprint + Alloc<A = Global>> Files for Folder<'_, R> {
+impl<R: Disk + Alloc<A = Global>, L: Listener> Files for Folder<'_, R, L> {
     ghost holds = { λ _ _ _. Unit {0} };
 
     ghost failed = { λ folder. folder.failures };
@@ -86,7 +99,7 @@ impl<R: Disk + Eprint + Alloc<A = Global>> Files for Folder<'_, R> {
             }
         };
         if let Ok(size) = file.metadata().map(|data| data.len()) {
-            self.tell("reading", name, size);
+            self.listener.hear(Doing::Reading, name, size);
         }
         match read_within(alloc, &mut file, limit) {
             Ok(bytes) => Ok(bytes),
@@ -102,7 +115,7 @@ impl<R: Disk + Eprint + Alloc<A = Global>> Files for Folder<'_, R> {
             self.fail();
             return Err(Device);
         };
-        self.tell("writing", name, bytes.len() as u64);
+        self.listener.hear(Doing::Writing, name, bytes.len() as u64);
         if put(self.rt, path.as_str(), name, bytes).is_err() {
             let _ = fs::remove_file(self.rt, path.as_str());
             self.fail();

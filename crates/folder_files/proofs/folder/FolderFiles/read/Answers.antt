@@ -1,6 +1,6 @@
 use Rattle.std.proofs.Common.{replicate, ◌+◌, arith}
 use Rattle.std.proofs.lemmas.List.{length-replicate}
-use Rattle.dbrun.proofs.folder.FolderFiles.read.Goals as goal
+use Rattle.folder_files.proofs.folder.FolderFiles.read.Goals as goal
 
 -- a folder's file may hold anything, so also something longer
 pub returns-in-Err-TooLong-clause-long : goal.returns-in-Err-TooLong-clause-long
