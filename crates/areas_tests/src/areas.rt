@@ -121,7 +121,7 @@ fn packed_and_zapped() -> [Step; 8] {
     [
         (Call::Use(0, &[]), Answer::Cost(2), (1, false, false, false)),
         (Call::IndexOn(0), Answer::Cost(5), (1, false, false, false)),
-        (Call::Go(2), Answer::Done, (2, false, false, false)),
+        (Call::Go(2), Answer::Cost(1), (2, false, false, false)),
         (Call::Delete, Answer::Done, (2, false, false, false)),
         (Call::Pack, Answer::Cost(7), (1, false, false, false)),
         (Call::Reindex, Answer::Cost(4), (1, false, false, false)),
@@ -152,9 +152,9 @@ fn moves_in_record_order() -> [Step; 14] {
         (Call::Skip(-1), Answer::Cost(1), (1, false, true, false)),
         (Call::Skip(0), Answer::Cost(1), (1, false, false, false)),
         (Call::Skip(5), Answer::Cost(3), (4, true, false, false)),
-        (Call::Go(2), Answer::Done, (2, false, false, false)),
-        (Call::Go(4), Answer::Done, (4, true, false, false)),
-        (Call::Go(0), Answer::Done, (4, true, false, false)),
+        (Call::Go(2), Answer::Cost(1), (2, false, false, false)),
+        (Call::Go(4), Answer::Cost(1), (4, true, false, false)),
+        (Call::Go(0), Answer::Cost(1), (4, true, false, false)),
         (Call::Delete, Answer::Done, (4, true, false, false)),
         (Call::Write(b"Q"), Answer::Done, (4, true, false, false)),
     ]
@@ -225,7 +225,7 @@ fn hidden_rows() -> [Step; 11] {
             (3, false, false, true),
         ),
         (Call::Skip(-1), Answer::Cost(3), (3, false, true, false)),
-        (Call::Go(1), Answer::Done, (1, false, false, false)),
+        (Call::Go(1), Answer::Cost(1), (1, false, false, false)),
         (Call::Recall, Answer::Done, (1, false, false, false)),
         (Call::Skip(1), Answer::Cost(3), (3, false, false, false)),
         (Call::Pack, Answer::Cost(7), (1, false, false, false)),
@@ -368,7 +368,7 @@ fn filtered_by_record() -> [Step; 5] {
             (3, false, false, false),
         ),
         (Call::Skip(-1), Answer::Cost(3), (3, false, true, false)),
-        (Call::Go(2), Answer::Done, (2, false, false, false)),
+        (Call::Go(2), Answer::Cost(1), (2, false, false, false)),
         (
             Call::Seek(b"B", false),
             Answer::Cost(2),
@@ -423,7 +423,7 @@ fn smiths<K: KeyList>(alloc: Global) -> Result<Option<usize>, AllocError> {
     let steps = [
         (Call::Use(0, &[]), Answer::Cost(2), (1, false, false, false)),
         (Call::Delete, Answer::Done, (1, false, false, false)),
-        (Call::Go(2), Answer::Done, (2, false, false, false)),
+        (Call::Go(2), Answer::Cost(1), (2, false, false, false)),
         (Call::Delete, Answer::Done, (2, false, false, false)),
         (Call::IndexOn(0), Answer::Cost(32), (1, false, false, false)),
     ];

@@ -165,12 +165,11 @@ fn skip<K: KeyList>(store: &mut Store<K>, steps: i128, shows: Shows, budget: u64
     moved(store.skip(steps, |row: &Row<'_>| sees(shows, row), budget))
 }
 
-fn go<K: KeyList>(store: &mut Store<K>, number: u32) -> Answer {
+fn go<K: KeyList>(store: &mut Store<K>, number: u32, shows: Shows, budget: u64) -> Answer {
     if !is_open(store) {
         return Answer::Misused;
     }
-    store.go(Some(number));
-    Answer::Done
+    moved(store.go(Some(number), |row: &Row<'_>| sees(shows, row), budget))
 }
 
 fn has_order<K: KeyList>(store: &Store<K>) -> bool
@@ -270,11 +269,11 @@ fn pack<K: KeyList>(store: &mut Store<K>, alloc: Global, shows: Shows, budget: u
     ended(store.pack(alloc, |row: &Row<'_>| sees(shows, row), budget))
 }
 
-fn zap<K: KeyList>(store: &mut Store<K>, alloc: Global, budget: u64) -> Answer {
+fn zap<K: KeyList>(store: &mut Store<K>, alloc: Global, shows: Shows, budget: u64) -> Answer {
     if !is_open(store) {
         return Answer::Misused;
     }
-    ended(store.zap(alloc, budget))
+    ended(store.zap(alloc, |row: &Row<'_>| sees(shows, row), budget))
 }
 
 fn reindex<K: KeyList>(store: &mut Store<K>, alloc: Global, shows: Shows, budget: u64) -> Answer {
@@ -322,9 +321,10 @@ fn play_costly<K: KeyList>(
         Call::Top => go_to_end(store, true, shows, budget),
         Call::Bottom => go_to_end(store, false, shows, budget),
         Call::Skip(steps) => skip(store, steps, shows, budget),
+        Call::Go(number) => go(store, number, shows, budget),
         Call::Seek(text, exact) => seek(store, text, exact, shows, budget),
         Call::Pack => pack(store, alloc, shows, budget),
-        Call::Zap => zap(store, alloc, budget),
+        Call::Zap => zap(store, alloc, shows, budget),
         Call::Reindex => reindex(store, alloc, shows, budget),
         Call::IndexOn(number) => index_on(store, alloc, number, shows, budget),
         _ => Answer::Misused,
@@ -351,7 +351,6 @@ pub(crate) fn play<K: KeyList>(
         Call::Select(area) => select(store, area),
         Call::Order(order) => set_order(store, order),
         Call::Filter(filter) => set_filter(store, filter),
-        Call::Go(number) => go(store, number),
         Call::Append => append(store),
         Call::Write(text) => write(store, text),
         Call::Delete => mark(store, true),

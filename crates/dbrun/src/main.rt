@@ -220,19 +220,20 @@ fn no_memory(rt: &impl Runtime) -> Status {
     refuse(rt, Refusal::Memory)
 }
 
-/// Prints the help that was asked for.
-fn print_help(rt: &impl Runtime, help: &clap::Error) -> Status {
-    match print!(rt; "{help}") {
+/// Prints the version that was asked for.
+fn print_version(rt: &impl Runtime, version: &clap::Error) -> Status {
+    match print!(rt; "{version}") {
         Ok(()) => Status::Done,
         Err(_) => Status::Disk,
     }
 }
 
-/// Tells on standard error what is wrong with the words, or prints the help where they ask for it.
+/// Tells on standard error what is wrong with the words, or how words are put where they ask for help. A version that
+/// they ask for goes to standard output.
 fn refuse_words(rt: &impl Runtime, error: &clap::Error) -> Status {
     match error.kind() {
         ErrorKind::OutOfMemory => no_memory(rt),
-        ErrorKind::DisplayHelp => print_help(rt, error),
+        ErrorKind::DisplayVersion => print_version(rt, error),
         _ => {
             let _ = eprint!(rt; "{error}");
             Status::Words

@@ -39,13 +39,24 @@ pub enum Words<'a> {
     Index { name: &'a str },
 }
 
+/// The version of all that stands in this repository.
+const VERSION: &str = "0.9.0";
+
 /// An example of the commands that belong together, and how they exit.
 const FURTHER: &str = "Example:
   dbrun compile FIRM.DCL DAY.XBC DAY.PRG
   dbrun run DAY.XBC < day.txt
   dbrun list ORDERS.DBF
 
-Status: 0 finished, accepted, listed or written; 1 wrong words; 2 a refused file; 3 the budget is spent; 4 a table is full; 5 memory was refused; 6 the device or standard output failed; 7 a fault under check-run";
+Status:
+  0  finished, accepted, listed or written
+  1  wrong words, and help
+  2  a refused file
+  3  the budget is spent
+  4  a table is full
+  5  memory was refused
+  6  the device or standard output failed
+  7  a fault under check-run";
 
 /// The words that name files.
 const FILE: &str = "FILE";
@@ -173,6 +184,7 @@ pub fn command<'a>(alloc: Global) -> Result<Command<'a>, AllocError> {
             "Compiles command files of dBASE III PLUS, runs them over tables, and lists codes, tables and indexes",
         )
         .after_help(FURTHER)
+        .version(VERSION)
         .subcommand_required(true)
         .arg_required_else_help(true)
         .subcommand(compiler(alloc)?)?;

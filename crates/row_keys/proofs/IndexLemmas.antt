@@ -1,8 +1,6 @@
 -- How indexes go along with a change of their table.
-use Rattle.std.proofs.Common.{◌≡◌, ℕ, zero, suc, ◌+◌, ◌<◌, ◌≤◌, Result, Ok, Err, List, [], ◌∷◌, ◌++◌, length, get_or, set, take, refl, sym, ap, ◌∙◌, subst, arith}
-use Rattle.std.specs.List.{All, AllZip, Contains}
-use Rattle.std.specs.Prelude.{IfOk}
-use Rattle.std.proofs.lemmas.List.Elements.{AllZip-get_or, length_all_zip}
+use Rattle.std.proofs.Common.{◌≡◌, ℕ, zero, suc, ◌+◌, ◌<◌, List, [], ◌∷◌, ◌++◌, length, set, refl, sym, ap, ◌∙◌, subst, arith}
+use Rattle.std.specs.List.{Contains}
 use Rattle.dbf_file.specs.Rows.{Row, row_at}
 use Rattle.dbf_file.specs.Tables.{StructureState, row_widths}
 use Rattle.key_lists.specs.KeyForm.{KeyForm, IsKeyText}
@@ -10,24 +8,7 @@ use Rattle.key_lists.specs.Order.{inserted, without}
 use Rattle.key_lists.specs.Pairs.{Pair, is_before}
 use Rattle.shape.specs.declared.parts.KeyPart.{KeyPart}
 use Rattle.shape.specs.Keys.{IsKey, key_of, key_length}
-use Rattle.row_keys.specs.Lists.{index_list, row_pair, IsIndexList, IndexState, IsIndexOf, IsExact, ChangedBy, IsSameIndex, IsAsBefore, HasAdded, HasRemoved}
-
--- ---- along all indexes
-
-pub carry : (P Q : IndexState → Type 0) (R : IndexState → IndexState → Type 0) → ((a b : IndexState) → P a → R a b → Q b) → (old new : List IndexState) → ChangedBy R old new → All P old → All Q new
-carry P Q R step old new changed all i d lt = step (get_or old i d) (get_or new i d) (all i d (omega (arith, changed.count))) (changed.each i d (omega (arith, changed.count)))
-
-pub chain : (R S T : IndexState → IndexState → Type 0) → ((a b c : IndexState) → R a b → S b c → T a c) → (old mid new : List IndexState) → ChangedBy R old mid → ChangedBy S mid new → ChangedBy T old new
-chain R S T step old mid new first second = record {
-  count = second.count ∙ first.count;
-  each = λ i d lt. step (get_or old i d) (get_or mid i d) (get_or new i d) (first.each i d lt) (second.each i d (omega (arith, first.count)));
-}
-
-pub weaker : (R S : IndexState → IndexState → Type 0) → ((a b : IndexState) → R a b → S a b) → (old new : List IndexState) → ChangedBy R old new → ChangedBy S old new
-weaker R S step old new changed = record { count = changed.count; each = λ i d lt. step (get_or old i d) (get_or new i d) (changed.each i d lt) }
-
-pub same_chain : (a b c : IndexState) → IsSameIndex a b → IsSameIndex b c → IsSameIndex a c
-same_chain a b c first second = record { parts = second.parts ∙ first.parts; form = second.form ∙ first.form }
+use Rattle.row_keys.specs.Lists.{index_list, row_pair, IsIndexList, IndexState, IsIndexOf, IsExact, IsSameIndex, IsAsBefore, HasAdded, HasRemoved}
 
 pub sound_same : (s : StructureState) (a b : IndexState) → IsIndexOf s a → IsSameIndex a b → IsIndexOf s b
 sound_same s a b sound same = record {
@@ -120,36 +101,3 @@ module _ (law : ListLaw) (s : StructureState) (rows : List Row) (r : ℕ) (row :
         ∙ sym ((law a.parts rows).changed r row lt)
         ∙ ap (λ ps. index_list ps (set rows r row)) (sym added.same.parts);
   }
-
--- ---- indexes made anew
-
-same_form : (a b : KeyForm) → a.key_length ≡ b.key_length → a.key_text ≡ b.key_text → a ≡ b
-same_form a b e f =
-    let with_length : ℕ → KeyForm = λ n. record { key_length = n; key_text = a.key_text } in
-    let with_key_text : List ℕ → KeyForm = λ t. record { key_length = b.key_length; key_text = t } in
-    ap with_length e ∙ ap with_key_text f
-
--- an index of the same key that lists other rows
-pub same_key : (s : StructureState) (rows : List Row) (a b : IndexState) → IsIndexOf s a → IsExact s rows b → b.parts ≡ a.parts → b.form.key_text ≡ a.form.key_text → IsSameIndex a b
-same_key s rows a b sound exact parts text = record {
-  parts = parts;
-  form = same_form b.form a.form (exact.sound.length ∙ ap (λ ps. key_length ps (row_widths s)) parts ∙ sym sound.length) text;
-}
-
--- what is made of an index is of its key
-pub rebuilt_same : {E : Type 0} (s : StructureState) (rows : List Row) (a : IndexState) (parts : List KeyPart) (text : List ℕ) (made : Result IndexState E) → IsIndexOf s a → parts ≡ a.parts → text ≡ a.form.key_text
-    → IfOk made (IsExact s rows) → IfOk made (λ b. b.parts ≡ parts) → IfOk made (λ b. b.form.key_text ≡ text) → IfOk made (IsSameIndex a)
-rebuilt_same s rows a parts text (Ok b) sound e f exact same_parts same_text = same_key s rows a b sound exact (same_parts ∙ e) (same_text ∙ f)
-rebuilt_same s rows a parts text (Err b) sound e f exact same_parts same_text = tt
-
-take_all : {X : Type 0} (n : ℕ) (xs : List X) → length xs ≤ n → take n xs ≡ xs
-take_all zero [] le = refl
-take_all (suc n) [] le = refl
-take_all zero (x ∷ xs) le = absurd (omega arith)
-take_all (suc n) (x ∷ xs) le = ap (λ ys. x ∷ ys) (take_all n xs (omega arith))
-
--- indexes made one by one
-pub changed_by : (R : IndexState → IndexState → Type 0) (n : ℕ) (old new : List IndexState) → length old ≤ n → AllZip R (take n old) new → ChangedBy R old new
-changed_by R n old new le zip =
-    let z : AllZip R old new = subst (λ xs. AllZip R xs new) (take_all n old le) zip in
-    record { count = sym (length_all_zip R old new z); each = λ i d lt. AllZip-get_or R old new i d d z lt }

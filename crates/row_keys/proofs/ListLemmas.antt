@@ -7,7 +7,6 @@ use Rattle.key_lists.specs.Order.{Each, IsAscending, IsDistinct, in_order, inser
 use Rattle.key_lists.specs.Pairs.{Pair, is_before}
 use Rattle.key_lists.specs.Laws.{PutsInOrder, ChangesRows}
 use Rattle.row_keys.specs.declared.building.Kept.{Kept}
-use Rattle.row_keys.specs.declared.building.Kept.TheVariants.{Every, Nothing}
 use Rattle.shape.specs.declared.parts.KeyPart.{KeyPart}
 use Rattle.shape.specs.Keys.{key_of}
 use Rattle.row_keys.specs.Lists.{row_pairs, index_list, row_pair, is_kept, kept_rows, IsIndexList}
@@ -205,14 +204,6 @@ pairs_more parts kept rows r n lt count =
 
 pub each_push : (P : Pair → Type 0) (pairs : List Pair) (p : Pair) → Each P pairs → P p → Each P (pairs ++ p ∷ [])
 each_push P pairs p each here = Each-append P pairs (p ∷ []) each (here, tt)
-
-pub kept_all : (rows : List Row) → kept_rows Every rows ≡ rows
-kept_all [] = refl
-kept_all (row ∷ rows) = ap (λ rs. row ∷ rs) (kept_all rows)
-
-pub kept_nothing : (rows : List Row) → kept_rows Nothing rows ≡ []
-kept_nothing [] = refl
-kept_nothing (row ∷ rows) = kept_nothing rows
 
 pub listed_by : (parts : List KeyPart) (rows : List Row) (pairs entries : List Pair) → pairs ≡ in_order is_before entries → entries ≡ row_pairs parts 1 rows → pairs ≡ index_list parts rows
 unfolding index_list

@@ -1,5 +1,5 @@
 -- What an index lists, and what a change of the rows does to it.
-use Rattle.std.specs.Prelude.{◌≡◌, ℕ, Bool, ◌+◌, ◌<◌, ◌≤◌, List, [], ◌∷◌, ◌++◌, length, slice_index_or, slice_set, All}
+use Rattle.std.specs.Prelude.{◌≡◌, ℕ, Bool, ◌+◌, ◌<◌, ◌≤◌, List, [], ◌∷◌, ◌++◌, length, slice_set}
 use Rattle.std.specs.Prelude.{Contains, filter, true, false, not}
 use Rattle.dbf_file.specs.Rows.{Row, row_at, with_mark}
 use Rattle.dbf_file.specs.Tables.{StructureState, row_widths}
@@ -78,11 +78,6 @@ pub record IsExact (structure : StructureState) (rows : List Row) (index : Index
   pub sound : IsIndexOf structure index
   pub pairs : index.pairs ≡ index_list index.parts rows
 
--- each index has become one that stands so to what it was
-pub record ChangedBy (R : IndexState → IndexState → Type 0) (old new : List IndexState) : Type 0 where
-  pub count : length new ≡ length old
-  pub each : (i : ℕ) (d : IndexState) → i < length old → R (slice_index_or old i d) (slice_index_or new i d)
-
 -- keys are made as before
 pub record IsSameIndex (old new : IndexState) : Type 0 where
   pub parts : new.parts ≡ old.parts
@@ -103,7 +98,3 @@ pub record HasRemoved (rows : List Row) (r : ℕ) (old new : IndexState) : Type 
   pub same : IsSameIndex old new
   pub pairs : new.pairs ≡ without is_before (row_pair old.parts rows r) old.pairs
   pub room : old.spare ≤ new.spare
-
--- each index has room for one more pair
-abbrev pub HaveRoom : List IndexState → Type 0
-HaveRoom indexes = All (λ index. 0 < index.spare) indexes

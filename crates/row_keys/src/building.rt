@@ -1,13 +1,13 @@
 //! Indexes made anew from a table's rows.
 
-ghost use Rattle.std.specs.Prelude.{◌≡◌, ℕ, ◌+◌, ◌≤◌, ◌<◌, ◌∷◌, [], ◌++◌, if◌then◌else◌, All, IfOk, OnOk, OnErr};
+ghost use Rattle.std.specs.Prelude.{◌≡◌, ◌+◌, ◌≤◌, ◌<◌, ◌∷◌, [], ◌++◌, if◌then◌else◌, All, IfOk, OnOk};
 ghost use Rattle.std.specs.Prelude.{length};
-ghost use Rattle.dbf_file.specs.Rows.{row_at, unmarked};
+ghost use Rattle.dbf_file.specs.Rows.{row_at};
 ghost use Rattle.dbf_file.specs.Tables.{row_widths};
 ghost use Rattle.key_lists.specs.KeyForm.{IsKeyText, IsPairOf};
 ghost use Rattle.key_lists.specs.Order.{Each};
 ghost use Rattle.shape.specs.Keys.{IsKey, key_of, key_length};
-ghost use Rattle.row_keys.specs.Lists.{row_pairs, is_kept, kept_rows, IsIndexOf, IsExact, IsSameIndex, ChangedBy};
+ghost use Rattle.row_keys.specs.Lists.{row_pairs, is_kept, kept_rows, IsExact};
 
 use crate::index::Index;
 use dbf_file::Table;
@@ -117,104 +117,4 @@ pub fn build_of<K: KeyList>(
     let entries = entries_of(alloc, table, &key, kept)?;
     let list = K::rebuild(alloc, length, key_text, entries)?;
     Ok(Index::new(key, list))
-}
-
-/// An index of a table made anew: it lists the rows. `key_text` (at most 100 bytes, none of them zero) says how the
-/// keys are made.
-pub fn build<K: KeyList>(
-    alloc: Global,
-    table: &Table,
-    key: KeyParts,
-    key_text: &[u8],
-) -> Result<Index<K>, AllocError>
-    requires few { length table.now.rows ≤ 1000000 }
-    requires key { IsKey table.now.structure key }
-    requires key_text { IsKeyText key_text.now }
-    ensures exact { IfOk result (λ index. IsExact table.now.structure table.now.rows index) }
-    ensures parts { IfOk result (λ index. index.parts ≡ key) }
-    ensures key_text { IfOk result (λ index. index.form.key_text ≡ key_text.now) }
-{
-    build_of(alloc, table, key, key_text, Kept::Every)
-}
-
-/// The indexes once more, of the rows that are kept.
-fn rebuild_all<K: KeyList>(
-    alloc: Global,
-    table: &Table,
-    indexes: &Vec<Index<K>>,
-    kept: Kept,
-) -> Result<Vec<Index<K>>, AllocError>
-    requires few { length table.now.rows ≤ 1000000 }
-    requires sound { All (IsIndexOf table.now.structure) indexes.now.items }
-    ensures same { IfOk result (λ fresh. ChangedBy IsSameIndex indexes.now.items fresh.items) }
-    ensures exact { IfOk result (λ fresh. All
-        (IsExact table.now.structure (kept_rows kept table.now.rows)) fresh.items) }
-{
-    let mut fresh = Vec::with_capacity(alloc, indexes.len())?;
-    for index in indexes {
-        let made = rebuilt(alloc, table, index, kept)?;
-        fresh.push(made)?;
-    }
-    Ok(fresh)
-}
-
-/// The index once more, of the rows that are kept.
-fn rebuilt<K: KeyList>(
-    alloc: Global,
-    table: &Table,
-    index: &Index<K>,
-    kept: Kept,
-) -> Result<Index<K>, AllocError>
-    requires few { length table.now.rows ≤ 1000000 }
-    requires sound { IsIndexOf table.now.structure index.now }
-    ensures same { IfOk result (λ fresh. IsSameIndex index.now fresh) }
-    ensures exact { IfOk result (λ fresh. IsExact table.now.structure (kept_rows kept table.now.rows) fresh) }
-{
-    build_of(
-        alloc,
-        table,
-        index.key().copied(),
-        index.list().key_text(),
-        kept,
-    )
-}
-
-/// Removes the marked rows, and makes each index anew. Where memory is missing, rows and lists are as they were.
-pub fn pack<K: KeyList>(
-    alloc: Global,
-    table: &mut Table,
-    indexes: &mut Vec<Index<K>>,
-) -> Result<(), AllocError>
-    requires few { length table.old.rows ≤ 1000000 }
-    requires exact { All (IsExact table.old.structure table.old.rows) indexes.old.items }
-    ensures structure { table.new.structure ≡ table.old.structure }
-    ensures ok { OnOk result (table.new.rows ≡ unmarked table.old.rows) }
-    ensures err { OnErr result (table.new.rows ≡ table.old.rows) }
-    ensures same { ChangedBy IsSameIndex indexes.old.items indexes.new.items }
-    ensures exact { All (IsExact table.new.structure table.new.rows) indexes.new.items }
-{
-    let fresh = rebuild_all(alloc, table, indexes, Kept::Unmarked)?;
-    table.pack();
-    *indexes = fresh;
-    Ok(())
-}
-
-/// Removes every row, and empties each index. Where memory is missing, rows and lists are as they were.
-pub fn clear<K: KeyList>(
-    alloc: Global,
-    table: &mut Table,
-    indexes: &mut Vec<Index<K>>,
-) -> Result<(), AllocError>
-    requires few { length table.old.rows ≤ 1000000 }
-    requires exact { All (IsExact table.old.structure table.old.rows) indexes.old.items }
-    ensures structure { table.new.structure ≡ table.old.structure }
-    ensures ok { OnOk result (table.new.rows ≡ []) }
-    ensures err { OnErr result (table.new.rows ≡ table.old.rows) }
-    ensures same { ChangedBy IsSameIndex indexes.old.items indexes.new.items }
-    ensures exact { All (IsExact table.new.structure table.new.rows) indexes.new.items }
-{
-    let fresh = rebuild_all(alloc, table, indexes, Kept::Nothing)?;
-    table.clear();
-    *indexes = fresh;
-    Ok(())
 }

@@ -90,7 +90,7 @@ fn walk<K: KeyList, F: Fn(&Row<'_>) -> bool>(
         MoveInstr::Top => settled(store.top(see, left)),
         MoveInstr::Bottom => settled(store.bottom(see, left)),
         MoveInstr::Skip => settled(skip(store, given, see, left)),
-        MoveInstr::Go => go(store, record_given(given), left),
+        MoveInstr::Go => go(store, record_given(given), see, left),
         MoveInstr::Seek => settled(store.seek(text(given), exact, see, left)),
     }
 }
@@ -110,16 +110,20 @@ fn skip<K: KeyList, F: Fn(&Row<'_>) -> bool>(
 }
 
 /// GO, which meets no row.
-fn go<K: KeyList>(store: &mut Store<K>, number: Option<u32>, left: u64) -> Result<u64, Stop>
+fn go<K: KeyList, F: Fn(&Row<'_>) -> bool>(
+    store: &mut Store<K>,
+    number: Option<u32>,
+    see: F,
+    left: u64,
+) -> Result<u64, Stop>
     requires { IsSome (here store.old) }
     ensures done { HasChanged (change_here (gone number) store.old) 0 store.old left result store.new }
     ensures grows { ¬ (result ≡ Err Stop.NoMemory) }
 {
-    if left == 0 {
-        return Err(Stop::Spent);
+    match store.go(number, see, left) {
+        Ok(paid) => Ok(paid),
+        Err(Spent) => Err(Stop::Spent),
     }
-    store.go(number);
-    Ok(1)
 }
 
 /// The operand of a move, if it has one; it stays on the stack.

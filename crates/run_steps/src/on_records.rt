@@ -129,7 +129,7 @@ fn close_with<K: KeyList, F: Fn(&Row<'_>) -> bool>(
 {
     match instr {
         RecordInstr::Pack => refused(store.pack(alloc, see, left)),
-        RecordInstr::Zap => refused(store.zap(alloc, left)),
+        RecordInstr::Zap => refused(store.zap(alloc, see, left)),
         RecordInstr::Reindex => refused(store.reindex(alloc, see, left)),
         RecordInstr::Index(list) => refused(store.index_on(
             alloc,
@@ -160,7 +160,8 @@ fn look_and_close<V: Values, K: KeyList>(
         → IfSome (here store.old) (λ o. HasChanged
         (closing_store view.now.code.now.declared instr
         (shown_by view.now.code.now (viewing t view.now.moment) view.now.filter) o store.old)
-        (closing_met view.now.code.now.declared instr (shown_by view.now.code.now (viewing t view.now.moment) view.now.filter) o) store.old left result store.new) }
+        (closing_met view.now.code.now.declared instr
+        (shown_by view.now.code.now (viewing t view.now.moment) view.now.filter) o) store.old left result store.new) }
 {
     close_with(
         alloc,

@@ -2,7 +2,7 @@
 
 ghost use Rattle.std.specs.Prelude.{◌≡◌, ℕ, ◌+◌, ◌-◌, ◌<◌, ◌≤◌, ◌↔◌, Bool, true, false, Some, [], ◌∷◌, length};
 ghost use Rattle.std.specs.Prelude.{slice_get, is_some, is_none, unwrap_or, IfSome, IsSome, IsSomeAnd, MatchOption};
-ghost use Rattle.std.specs.Prelude.{None, OnOk, OnErr, IfOk, Err, map};
+ghost use Rattle.std.specs.Prelude.{None, OnOk, OnErr, IfOk, Err, map, MatchResult};
 ghost use Rattle.std.specs.Fn.{FnReturnsAt};
 ghost use Rattle.std.specs.List.{list_all};
 ghost use Rattle.dbf_file.specs.Tables.{letter_at};
@@ -35,6 +35,9 @@ use shape::laws::legal_shapes_have_keys;
 use std::alloc::{AllocError, Global};
 use std::marker::Model;
 use xvalue::Value;
+
+/// What a move that was made cost: one, and what it met.
+pub type Moved = u64;
 
 /// The declared tables, and ten work areas that hold them. A table is held by one area at a time.
 #[derive(Drop)]
@@ -193,7 +196,7 @@ impl<K: KeyList> Store<K> {
     }
 
     /// TOP, and what it cost. Where the cost is above the budget nothing changes.
-    pub fn top<F: Fn(&Row<'_>) -> bool>(&mut self, see: F, budget: u64) -> Result<u64, Spent>
+    pub fn top<F: Fn(&Row<'_>) -> bool>(&mut self, see: F, budget: u64) -> Result<Moved, Spent>
         requires open { IsSome (here self.old) }
         requires callable { F.IsAlwaysCallable see }
         ensures { MovesHere (FnReturnsAt F.Fn) see top_of self.old self.new budget result }
@@ -203,7 +206,7 @@ impl<K: KeyList> Store<K> {
     }
 
     /// BOTTOM, and what it cost. Where the cost is above the budget nothing changes.
-    pub fn bottom<F: Fn(&Row<'_>) -> bool>(&mut self, see: F, budget: u64) -> Result<u64, Spent>
+    pub fn bottom<F: Fn(&Row<'_>) -> bool>(&mut self, see: F, budget: u64) -> Result<Moved, Spent>
         requires open { IsSome (here self.old) }
         requires callable { F.IsAlwaysCallable see }
         ensures { MovesHere (FnReturnsAt F.Fn) see bottom_of self.old self.new budget result }
@@ -219,7 +222,7 @@ impl<K: KeyList> Store<K> {
         steps: i128,
         see: F,
         budget: u64,
-    ) -> Result<u64, Spent>
+    ) -> Result<Moved, Spent>
         requires open { IsSome (here self.old) }
         requires callable { F.IsAlwaysCallable see }
         ensures { MovesHere (FnReturnsAt F.Fn) see (skip_of steps) self.old self.new budget result }
@@ -236,7 +239,7 @@ impl<K: KeyList> Store<K> {
         exact: bool,
         see: F,
         budget: u64,
-    ) -> Result<u64, Spent>
+    ) -> Result<Moved, Spent>
         requires open { IsSome (here self.old) }
         requires order { IfSome (here self.old) (λ o. 1 ≤ o.order) }
         requires callable { F.IsAlwaysCallable see }
@@ -246,13 +249,25 @@ impl<K: KeyList> Store<K> {
         self.tables[t].seek(text, exact, see, budget)
     }
 
-    /// GO: to the record of a number, or to the end of file where there is none. It meets no row, and costs 1.
-    pub fn go(&mut self, number: Option<u32>)
+    /// GO: to the record of a number, whether the test shows it or not, or to the end of file where there is none. It
+    /// meets no row, and costs 1. Where that is above the budget nothing changes.
+    pub fn go<F: Fn(&Row<'_>) -> bool>(
+        &mut self,
+        number: Option<u32>,
+        _see: F,
+        budget: u64,
+    ) -> Result<Moved, Spent>
         requires { IsSome (here self.old) }
-        ensures { self.new ≡ change_here (gone number) self.old }
+        ensures { MatchResult result
+            (λ cost. (cost ≡ 1) × (cost ≤ budget) × (self.new ≡ change_here (gone number) self.old))
+            (λ _. (budget < 1) × (self.new ≡ self.old)) }
     {
+        if budget == 0 {
+            return Err(Spent);
+        }
         let t = self.place_here();
         self.tables[t].go(number);
+        Ok(1)
     }
 
     /// APPEND: adds a blank row, and points to it. Where there are as many rows as the limit, or memory is missing,
@@ -309,7 +324,7 @@ impl<K: KeyList> Store<K> {
         alloc: Global,
         see: F,
         budget: u64,
-    ) -> Result<u64, Refused>
+    ) -> Result<Moved, Refused>
         requires open { IsSome (here self.old) }
         requires callable { F.IsAlwaysCallable see }
         ensures { EndsHere (FnReturnsAt F.Fn) see packed_rows packed_in pack_of self.old self.new budget result }
@@ -318,9 +333,14 @@ impl<K: KeyList> Store<K> {
         self.tables[t].pack(alloc, see, budget)
     }
 
-    /// ZAP: removes every row; TOP then comes to the end of file; and what it cost. Where it is refused nothing
-    /// changes.
-    pub fn zap(&mut self, alloc: Global, budget: u64) -> Result<u64, Refused>
+    /// ZAP: removes every row; TOP then comes to the end of file, whatever the test shows; and what it cost. Where it
+    /// is refused nothing changes.
+    pub fn zap<F: Fn(&Row<'_>) -> bool>(
+        &mut self,
+        alloc: Global,
+        _see: F,
+        budget: u64,
+    ) -> Result<Moved, Refused>
         requires open { IsSome (here self.old) }
         ensures { IfSome (here self.old) (λ o. HasEnded self.old self.new with_here
             (zapped_in o) zap_landing budget result) }
@@ -335,7 +355,7 @@ impl<K: KeyList> Store<K> {
         alloc: Global,
         see: F,
         budget: u64,
-    ) -> Result<u64, Refused>
+    ) -> Result<Moved, Refused>
         requires open { IsSome (here self.old) }
         requires callable { F.IsAlwaysCallable see }
         ensures { EndsHere (FnReturnsAt F.Fn) see all_rows reindexed_in reindex_of self.old self.new budget result }
@@ -353,7 +373,7 @@ impl<K: KeyList> Store<K> {
         number: u8,
         see: F,
         budget: u64,
-    ) -> Result<u64, Refused>
+    ) -> Result<Moved, Refused>
         requires open { IsSome (here self.old) }
         requires declared { IfSome (here self.old) (λ o. is_some (mark_at o.table.marks number) ≡ true) }
         requires callable { F.IsAlwaysCallable see }
@@ -412,7 +432,7 @@ impl<K: KeyList> Store<K> {
         indexes: &[u8],
         see: F,
         budget: u64,
-    ) -> Result<u64, Refused>
+    ) -> Result<Moved, Refused>
         requires table { table < length self.old.tables }
         requires elsewhere { is_elsewhere self.old table ≡ false }
         requires few { length indexes.now ≤ 7 }
