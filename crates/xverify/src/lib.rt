@@ -2,7 +2,7 @@
 //!
 //! The rules are definitions of the crate `code_rules`; here they are tested place by place, each place once. A rule is
 //! a function of its own, by groups of instructions, and the tests that the checking machine has too are those of
-//! `code_tests`; `refusal` asks the rules in their order.
+//! `code_rules`; `refusal` asks the rules in their order.
 #![tactic(auto)]
 
 mod covering;
