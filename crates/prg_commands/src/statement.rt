@@ -41,7 +41,13 @@ fn set(out: &mut Output, work: &mut Work, toggle: Toggle, on: bool) -> Result<()
         .put(Instr::Values(ValueInstr::Set(setting_of(toggle), on)))
 }
 
-fn put_on_screen(
+/// Puts the code of a command of one line. LOOP, EXIT, DO, RETURN, QUIT and CANCEL have none here.
+///
+/// # Errors
+///
+/// The command's first fault: of its expressions in the order of their code, then of names, and then ClosedArea,
+/// NoOrder, OpenTwice, Index, Filter and Limit. Want of memory.
+pub fn put_statement(
     shape: &Shape,
     out: &mut Output,
     work: &mut Work,
@@ -70,34 +76,12 @@ fn put_on_screen(
         Statement::Accept { prompt, variable } => accept(shape, out, work, prompt, variable),
         Statement::Wait { prompt, variable } => wait(shape, out, work, prompt, variable),
         Statement::Clear => put_screen(work, ScreenInstr::Clear),
-        _ => Ok(()),
-    }
-}
-
-fn put_on_values(
-    shape: &Shape,
-    out: &mut Output,
-    work: &mut Work,
-    statement: &Statement,
-) -> Result<(), CompileError> {
-    match statement {
         Statement::Assign { variable, value } => assign(shape, out, work, variable, value),
         Statement::Store { value, variables } => store(shape, out, work, value, variables),
         Statement::Release { variables } => release(work, variables),
         Statement::Private { variables } => hide(work, variables),
         Statement::Set { setting, on } => set(out, work, *setting, *on),
         Statement::Parameters { .. } => Err(CompileError::Fault(CompileFaultKind::Parameters)),
-        _ => Ok(()),
-    }
-}
-
-fn put_on_areas(
-    shape: &Shape,
-    out: &mut Output,
-    work: &mut Work,
-    statement: &Statement,
-) -> Result<(), CompileError> {
-    match statement {
         Statement::Close => put_area(work, AreaInstr::Close),
         Statement::Use { table, indexes } => open_table(shape, out, work, table, indexes),
         Statement::Select { area } => select(shape, work, area),
@@ -107,17 +91,6 @@ fn put_on_areas(
         Statement::Go { to } => go(shape, out, work, to),
         Statement::Skip { rows } => skip(shape, out, work, rows),
         Statement::Seek { key } => seek(shape, out, work, key),
-        _ => Ok(()),
-    }
-}
-
-fn put_on_records(
-    shape: &Shape,
-    out: &mut Output,
-    work: &mut Work,
-    statement: &Statement,
-) -> Result<(), CompileError> {
-    match statement {
         Statement::AppendBlank => put_record(work, RecordInstr::Append),
         Statement::Replace { replacements } => replace(shape, out, work, replacements),
         Statement::Delete => put_record(work, RecordInstr::Delete),
@@ -126,25 +99,11 @@ fn put_on_records(
         Statement::Zap => put_all_records(out, work, RecordInstr::Zap),
         Statement::Reindex => put_all_records(out, work, RecordInstr::Reindex),
         Statement::IndexOn { key, index } => index_on(shape, out, work, key, index),
-        _ => Ok(()),
+        Statement::Loop
+        | Statement::Exit
+        | Statement::Do { .. }
+        | Statement::Return
+        | Statement::Quit
+        | Statement::Cancel => Ok(()),
     }
-}
-
-/// Puts the code of a command of one line. LOOP, EXIT, DO, RETURN, QUIT and CANCEL have none here.
-///
-/// # Errors
-///
-/// The command's first fault: of its expressions in the order of their code, then of names, and then ClosedArea,
-/// NoOrder, OpenTwice, Index, Filter and Limit. Want of memory.
-pub fn put_statement(
-    shape: &Shape,
-    out: &mut Output,
-    work: &mut Work,
-    line: usize,
-    statement: &Statement,
-) -> Result<(), CompileError> {
-    put_on_screen(shape, out, work, line, statement)?;
-    put_on_values(shape, out, work, statement)?;
-    put_on_areas(shape, out, work, statement)?;
-    put_on_records(shape, out, work, statement)
 }
