@@ -11,6 +11,7 @@ mod merging;
 mod names;
 mod pool;
 mod settled;
+mod work;
 
 pub use block::{Block, Draft, Label};
 pub use fault::{CompileError, CompileFault, CompileFaultKind, CompileRefusal};
@@ -21,3 +22,4 @@ pub use merging::{is_selection_same, is_state_same, merged};
 pub use names::{Binding, Names, copy_of_name};
 pub use pool::{MOST_CONSTANTS, Pool, is_same_constant};
 pub use settled::{LaidOut, lay};
+pub use work::{Get, Output, Work};

@@ -1,13 +1,12 @@
 //! Commands on work areas.
 
 use crate::values::{demand, scope_of};
-use crate::work::{Output, Work};
 use arrayvec::ArrayVec;
 use code_items::{
     AreaInstr, AreaState, IndexList, IndexShape, Instr, Name, Need, OpenArea, Shape, ValueInstr,
 };
 use code_rules::Signature;
-use prg_code::{CompileError, CompileFaultKind, FilterBlock};
+use prg_code::{CompileError, CompileFaultKind, FilterBlock, Output, Work};
 use prg_expr::Expr;
 use prg_line::Selected;
 use prg_values::{Compiled, Scope, area_of_alias, table_named, with_kind};

@@ -2,11 +2,10 @@
 
 use crate::areas::{index_named, is_of_table, opened};
 use crate::moves::meets_filter;
-use crate::work::{Output, Work};
 use arrayvec::ArrayVec;
 use code_items::{IndexList, Instr, KeyPart, Name, RecordInstr, Shape};
 use dbf_file::Field;
-use prg_code::{CompileError, CompileFaultKind};
+use prg_code::{CompileError, CompileFaultKind, Output, Work};
 use prg_expr::{Expr, Function, Operator};
 
 fn is_field(fields: &[Field], number: u8, name: &[u8]) -> bool {

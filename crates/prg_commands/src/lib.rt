@@ -8,10 +8,8 @@ mod screen;
 mod statement;
 mod values;
 mod variables;
-mod work;
 
 pub use moves::{put_skip_on, put_top};
 pub use statement::{may_stand_before_read, put_statement};
 pub use values::{condition, scope_of, value};
 pub use variables::{argument_slot, new_slot};
-pub use work::{Get, Output, Work};

@@ -2,9 +2,8 @@
 
 use crate::areas::opened;
 use crate::values::{demand, put_one, value, value_of_kind};
-use crate::work::{Output, Work};
 use code_items::{Instr, MoveInstr, OpenArea, RecordInstr, Shape};
-use prg_code::{CompileError, CompileFaultKind};
+use prg_code::{CompileError, CompileFaultKind, Output, Work};
 use prg_expr::Expr;
 use prg_line::{Move, Replacement};
 use prg_values::field_of;

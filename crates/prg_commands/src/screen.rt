@@ -2,9 +2,8 @@
 
 use crate::values::{demand, put_one, put_screen, put_text, reading_of, value, value_of_kind};
 use crate::variables::put_store;
-use crate::work::{Get, Output, Work};
 use code_items::{Instr, Name, RecordInstr, ScreenInstr, Shape, ValueInstr};
-use prg_code::{CompileError, copy_of_name};
+use prg_code::{CompileError, Get, Output, Work, copy_of_name};
 use prg_expr::Expr;
 use prg_values::Reading;
 use xvalue::{Fun, Kind};

@@ -6,9 +6,8 @@ use crate::moves::{go, put_all_records, put_record, replace, seek, skip};
 use crate::screen::{accept, get, get_on, read, say, show, show_line, wait};
 use crate::values::put_screen;
 use crate::variables::{assign, hide, release, store};
-use crate::work::{Output, Work};
 use code_items::{AreaInstr, Instr, RecordInstr, ScreenInstr, Setting, Shape, ValueInstr};
-use prg_code::{CompileError, CompileFaultKind};
+use prg_code::{CompileError, CompileFaultKind, Output, Work};
 use prg_line::{Statement, Toggle};
 
 /// Whether the command may stand between a GET and its READ, or is that READ.

@@ -1,9 +1,8 @@
 //! Expressions within commands.
 
-use crate::work::{Output, Work};
 use code_items::{Instr, ScreenInstr, Shape, ValueInstr};
 use fixed_num::Num;
-use prg_code::{CompileError, CompileFaultKind};
+use prg_code::{CompileError, CompileFaultKind, Output, Work};
 use prg_expr::Expr;
 use prg_values::{Compiled, Reading, Scope, with_kind};
 use xvalue::{Kind, Text, Value};

@@ -1,9 +1,8 @@
 //! Commands on variables.
 
 use crate::values::{scope_of, value};
-use crate::work::{Output, Work};
 use code_items::{Instr, Name, Shape, ValueInstr};
-use prg_code::{CompileError, CompileFaultKind};
+use prg_code::{CompileError, CompileFaultKind, Output, Work};
 use prg_expr::Expr;
 use prg_values::{selected_field, variable_slot};
 use xvalue::Kind;

@@ -4,12 +4,11 @@ ghost use Rattle.std.specs.Prelude.{◌≡◌, ◌<◌, length, IfOk};
 ghost use Rattle.code_items.specs.Legal.{IsCode};
 ghost use Rattle.prg_compile.specs.Alone.{IsLaidAlone};
 
-use crate::calling::{end_copy, last_line};
-use crate::control::{Inside, commands};
-use crate::ends::end_procedure;
 use code_items::{Code, Shape};
-use prg_code::{Block, CompileError, CompileFault, CompileFaultKind, CompileRefusal, Names};
-use prg_commands::{Output, Work};
+use prg_code::{
+    Block, CompileError, CompileFault, CompileFaultKind, CompileRefusal, Names, Output, Work,
+};
+use prg_control::{Inside, commands, end_copy, end_procedure, last_line};
 use prg_laid::{LayoutFault, judge};
 use prg_parser::Program;
 use prg_writer::{ProcedureCopy, Source, Target, Writer, assemble, copy_of_shape};

@@ -7,8 +7,7 @@ use code_items::{
     AreaState, Code, Declared, Desk, Filter, Instr, Items, KindSlots, KindStack, Map, Proc, Shape,
     State, Version,
 };
-use prg_code::{CompileError, CompileFaultKind, FilterBlock, LaidOut, lay};
-use prg_commands::Output;
+use prg_code::{CompileError, CompileFaultKind, FilterBlock, LaidOut, Output, lay};
 use std::alloc::{AllocError, Global};
 use xvalue::Kind;
 

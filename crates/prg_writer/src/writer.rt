@@ -2,8 +2,7 @@
 
 use crate::heads::LoopHead;
 use code_items::State;
-use prg_code::{Block, CompileError, CompileFaultKind, CompileRefusal, Names};
-use prg_commands::{Output, Work};
+use prg_code::{Block, CompileError, CompileFaultKind, CompileRefusal, Names, Output, Work};
 use prg_line::Statement;
 use prg_parser::{Command, Form, Program};
 use shape::Shape;

@@ -1,4 +1,4 @@
-use Rattle.prg_compile.proofs.control.+commands.Given as goal
+use Rattle.prg_control.proofs.control.+commands.Given as goal
 
 abbrev pub decreases-commands : goal.decreases-commands
 decreases-commands l = l.at.room

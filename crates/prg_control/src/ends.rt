@@ -1,8 +1,8 @@
 //! Where ways end: RETURN, QUIT and CANCEL, LOOP and EXIT, and the end of a procedure; and the commands of one line.
 
 use code_items::State;
-use prg_code::{CompileError, CompileFaultKind, CompileRefusal, is_selection_same, merged};
-use prg_commands::{Work, may_stand_before_read, put_statement};
+use prg_code::{CompileError, CompileFaultKind, CompileRefusal, Work, is_selection_same, merged};
+use prg_commands::{may_stand_before_read, put_statement};
 use prg_line::Statement;
 use prg_writer::Writer;
 use shape::Shape;

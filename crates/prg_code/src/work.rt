@@ -1,7 +1,11 @@
 //! What is being written.
 
+use crate::block::Block;
+use crate::filters::Filters;
+use crate::lists::Lists;
+use crate::names::Names;
+use crate::pool::Pool;
 use code_items::{Name, State};
-use prg_code::{Block, Filters, Lists, Names, Pool};
 use std::alloc::Global;
 
 /// What all procedures of a code have in common: constants, lists, filters, and how many slots are given out.

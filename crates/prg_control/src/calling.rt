@@ -1,8 +1,8 @@
 //! Calls of procedures, but for writing a copy.
 
 use code_items::{FlowInstr, Instr, Name, State, ValueInstr};
-use prg_code::{Block, CompileError, CompileFaultKind, Names, is_state_same};
-use prg_commands::{Work, argument_slot, new_slot, value};
+use prg_code::{Block, CompileError, CompileFaultKind, Names, Work, is_state_same};
+use prg_commands::{argument_slot, new_slot, value};
 use prg_parser::{Command, Expr, Procedure, Program};
 use prg_writer::{ProcedureCopy, Source, Target, Writer, parameters};
 

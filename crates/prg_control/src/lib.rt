@@ -1,0 +1,13 @@
+//! The code of control: blocks, loops, and calls of procedures, each copy of a procedure where it is first called.
+//!
+//! Ways that meet know what all of them know; a loop is written again, from what is known before it and on its ways
+//! back, until that holds.
+#![tactic(auto)]
+
+mod calling;
+mod control;
+mod ends;
+
+pub use calling::{end_copy, last_line};
+pub use control::{Inside, commands};
+pub use ends::end_procedure;
