@@ -146,8 +146,8 @@ def interrupt(*_):
     raise KeyboardInterrupt
 
 
-def end_with(build, interrupted):
-    """Runs a build, and ends with its status; a failure is told in one line."""
+def end_with(build, interrupted, instead=""):
+    """Runs a build, and ends with its status; a failure is told in one line, and what may be done instead."""
     for it in (signal.SIGTERM, signal.SIGHUP):
         signal.signal(it, interrupt)
     try:
@@ -155,8 +155,9 @@ def end_with(build, interrupted):
     except KeyboardInterrupt:
         say(interrupted)
     except Failed as failed:
-        say(str(failed))
+        say(f"{failed}{instead}")
     except OSError as error:
         full = error.errno in (errno.ENOSPC, errno.EDQUOT)
-        say(f"the disk is full: {error.filename or tempfile.gettempdir()}" if full else str(error))
+        told = f"the disk is full: {error.filename or tempfile.gettempdir()}" if full else str(error)
+        say(f"{told}{instead}")
     sys.exit(1)
