@@ -5,12 +5,11 @@
 #![tactic(auto)]
 
 mod shown;
-mod words;
 
 use crate::shown::{Audience, Place, Progress, faulty_place, line_at};
-use crate::words::{Words, WordsFault, command, sources_of, words_of};
 use clap::error::ErrorKind;
 use clap::{ArgMatches, Command};
+use command_words::{Words, WordsFault, command, sources_of, words_of};
 use compile_commands::{CompileFilesRefusal, CompileTold, CompileWords, compile_files};
 use file_access::{Files, ReadFault, read_within};
 use file_commands::{

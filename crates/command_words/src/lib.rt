@@ -1,0 +1,6 @@
+//! The words of the command line: what they ask the program for, and its help.
+#![tactic(auto)]
+
+mod words;
+
+pub use words::{Words, WordsFault, command, sources_of, words_of};
