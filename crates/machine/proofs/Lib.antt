@@ -1,3 +1,2 @@
-pub mod Costs
 pub mod Kept
 pub mod Runs

@@ -1,25 +1,20 @@
 -- A run of the machine without tags beside that of the checking machine.
-use Rattle.std.proofs.Common.{◌≡◌, ◌≤◌, ℕ, List, Bool, true, false, Option, Some, length, sym, subst, arith, if◌then◌else◌}
+use Rattle.std.proofs.Common.{◌≡◌, ◌≤◌, ℕ, List, Option, Some, length, sym, subst, arith}
 use Rattle.shape.specs.declared.whole.Shape.{Shape}
 use Rattle.calendar.specs.declared.day.DayParts.{DayParts}
 use Rattle.work_area.specs.Areas.{StoreState}
 use Rattle.work_area.specs.Shapes.{HasShape}
 use Rattle.code_items.specs.declared.code.Code.{Code}
-use Rattle.code_rules.specs.Places.{instr_at}
 use Rattle.run_values.specs.Standing.{IsByKind}
-use Rattle.run_steps.specs.declared.ending.End.{End}
-use Rattle.run_steps.specs.declared.ending.End.TheVariants.{Finished as EndFinished, Spent, Full, NoMemory, Fault}
 use Rattle.run_steps.specs.declared.ending.Outcome.{Outcome}
 use Rattle.run_steps.specs.World.{World}
-use Rattle.run_steps.specs.Control.{effect, finishes}
-use Rattle.run_steps.specs.Run.{Next, Finished, judged, step_of, after, IsNoFault, IsFault, Stops, Stands, Ends}
+use Rattle.run_steps.specs.Run.{step_of, after, spent, IsNoFault, IsFault, Ran, Stands, Ends}
 use Rattle.run_steps.specs.Opening.{opening}
-use Rattle.run_steps.specs.Safe.{IsSafe, IsSafeHere}
+use Rattle.run_steps.specs.Safe.{IsSafe}
 use Rattle.run_steps.specs.Shapes.{StoreFits}
 use Rattle.fit_laws.specs.Fits.{IsFitting}
 use Rattle.machine.specs.Twins.{BankState, AgreesWith, Begins, Twin}
 use Rattle.machine.specs.Headline.{Headline}
-use Rattle.machine.proofs.Costs.{few_steps}
 use Rattle.machine.proofs.Kept.{Keeps, kept}
 
 -- ---- standing for a world
@@ -48,23 +43,6 @@ agrees b w s = record {
 pub begun : (code : Code) (w : World) (b : BankState) → ((store : StoreState) (lines : List (List ℕ)) (today : Option DayParts) → StoreFits code.declared store → IsFitting code (opening code store lines today)) → Begins code w b → Twin code w b
 begun code w b opens s = record { agrees = s.agrees; fits = subst (IsFitting code) (sym s.opens) (opens s.store s.lines s.today s.declared) }
 
--- ---- no fault
-
-no_fault_by : (code : Code) (w : World) (b : Bool) → IsNoFault (if b then Finished else Next (effect code w (instr_at code w.place)))
-no_fault_by code w true = tt
-no_fault_by code w false = tt
-
-no_fault : (code : Code) (w : World) → IsSafeHere code w → IsNoFault (step_of code w)
-unfolding step_of
-no_fault code w s = subst (λ f. IsNoFault (judged f (if finishes w (instr_at code w.place) then Finished else Next (effect code w (instr_at code w.place))))) (sym s.sound) (no_fault_by code w (finishes w (instr_at code w.place)))
-
-ends_well : (code : Code) (w : World) (left : ℕ) (end : End) → IsNoFault (step_of code w) → Stops code w left end → ¬ IsFault end
-ends_well code w left EndFinished sound stops = λ x. x
-ends_well code w left Spent sound stops = λ x. x
-ends_well code w left (Full table) sound stops = λ x. x
-ends_well code w left NoMemory sound stops = λ x. x
-ends_well code w left (Fault kind at) sound stops = λ x. subst IsNoFault stops.0 sound
-
 -- ---- the run
 
 -- what acceptance gives of runs from worlds that fit
@@ -74,6 +52,9 @@ pub record Laws (code : Code) : Type 0 where
   pub stack : (w : World) → IsFitting code w → length w.values.stack ≤ code.declared.stack_bound
   pub returns : (w : World) → IsFitting code w → length w.returns ≤ 20
   pub keeps : (shape : Shape) → Keeps shape
+  pub steps : (w : World) → IsSafe code w → (n : ℕ) (v : World) → after code w n ≡ Some v → IsNoFault (step_of code v)
+  pub end : (w : World) (budget : ℕ) (outcome : Outcome) (v : World) → IsSafe code w → Ran code w budget outcome v → ¬ IsFault outcome.end
+  pub few : (w : World) (n : ℕ) (v : World) → after code w n ≡ Some v → n ≤ spent code w n
 
 pub headline : (code : Code) → Laws code → (from : World) (budget : ℕ) (outcome : Outcome) (b : BankState) → IsFitting code from → Ends code from budget outcome (IsByKind b.values) b.place b.returns b.env → Headline code from budget outcome b
 headline code laws from budget outcome b fit ends =
@@ -84,13 +65,13 @@ headline code laws from budget outcome b fit ends =
       world = ends.last;
       takes_its_steps = ends.ran;
       agrees = same;
-      meets_no_fault = λ n v at. no_fault code v (safe n v at);
-      ends_without_fault = ends_well code ends.last _ outcome.end (no_fault code ends.last (safe ends.ran.count ends.last ends.ran.reached)) ends.ran.stops;
+      meets_no_fault = laws.steps from safe;
+      ends_without_fault = laws.end from budget outcome ends.last safe ends.ran;
       as_known = laws.fits from fit;
       within_the_stack = λ n v at. laws.stack v (laws.fits from fit n v at);
       few_calls = λ n v at. laws.returns v (laws.fits from fit n v at);
       within_the_budget = ends.ran.within;
-      few_steps = (let few = few_steps code from ends.ran.count ends.last ends.ran.reached in omega (arith, few, ends.ran.steps, ends.ran.within));
+      few_steps = (let few = laws.few from ends.ran.count ends.last ends.ran.reached in omega (arith, few, ends.ran.steps, ends.ran.within));
       keeps_tables_and_indexes = λ shape h. subst (λ s. HasShape shape s) (sym same.store) (kept shape code from ends.ran.count ends.last (laws.keeps shape) ends.ran.reached h);
       as_declared = subst (λ s. StoreFits code.declared s) (sym same.store) there.shape.store;
       goes_on = record { agrees = same; fits = there };

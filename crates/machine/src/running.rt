@@ -12,6 +12,7 @@ use fit_laws::laws::{
     fitting_worlds_are_safe, fitting_worlds_keep_the_bounds, openings_fit, runs_keep_fitting,
 };
 use key_lists::KeyList;
+use run_laws::laws::{runs_cost_their_steps, safe_runs_meet_no_fault};
 use run_steps::{Outcome, run as run_untested};
 use std::alloc::Global;
 use work_area::laws::{stores_keep_their_shape, tables_keep_their_kind};
@@ -29,13 +30,16 @@ fn go_on<K: KeyList>(alloc: Global, code: &Code, banks: &mut Banks<K>, budget: u
     fitting_worlds_keep_the_bounds();
     stores_keep_their_shape();
     tables_keep_their_kind();
+    runs_cost_their_steps();
+    safe_runs_meet_no_fault();
     run_untested(alloc, code, &mut banks.machine, budget)
 }
 
 /// Goes on with a run of accepted code until it ends, within a further budget, from banks that a run left, or any that
 /// agree with a world of the code's runs. For each such world it takes the checking machine's steps and meets no fault:
 /// the same screen, rows and pointers, within the declared stack and the budget. It ends finished, spent, with a full
-/// table, or short of memory; at the last three the banks agree with the world before the step that wasn't taken.
+/// table, or short of memory; at the last three the banks agree with the world before the step that wasn't taken. What
+/// parts of a run come to together is the law `parts_make_the_whole` of `run_laws`.
 pub fn resume<K: KeyList>(
     alloc: Global,
     verified: &Verified,

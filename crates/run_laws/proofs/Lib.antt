@@ -12,3 +12,6 @@ pub mod Heights
 pub mod Changes
 pub mod Steps
 pub mod Openings
+pub mod Costs
+pub mod Parts
+pub mod Safe

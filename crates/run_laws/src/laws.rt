@@ -1,7 +1,7 @@
 //! What the tests of an instruction say, what a step keeps, and how a run begins. The functions do nothing: their
 //! contracts are the laws.
 
-ghost use Rattle.std.specs.Prelude.{◌≡◌, ℕ, true, false, List, Option, None, replicate};
+ghost use Rattle.std.specs.Prelude.{◌≡◌, ◌≤◌, ◌+◌, ℕ, true, false, List, Option, Some, None, replicate};
 ghost use Rattle.code_items.specs.declared.code.Code.{Code as AnyCode};
 ghost use Rattle.code_items.specs.declared.declared.Declared.{Declared as AnyDeclared};
 ghost use Rattle.code_items.specs.declared.instr.Instr.{Instr as AnyInstr};
@@ -12,7 +12,10 @@ ghost use Rattle.run_steps.specs.Control.{effect, finishes};
 ghost use Rattle.run_steps.specs.Faults.{fault_of, IsClear};
 ghost use Rattle.run_steps.specs.Needs.{IsReadyFor};
 ghost use Rattle.run_steps.specs.Opening.{opening};
-ghost use Rattle.run_steps.specs.Safe.{IsSafeHere};
+ghost use Rattle.run_steps.specs.Run.{after, spent, step_of, Ran, IsFault, IsNoFault};
+ghost use Rattle.run_steps.specs.declared.ending.End.TheVariants.{Spent};
+ghost use Rattle.run_steps.specs.declared.ending.Outcome.{Outcome as AnyOutcome};
+ghost use Rattle.run_steps.specs.Safe.{IsSafe, IsSafeHere};
 ghost use Rattle.run_steps.specs.Shapes.{HasShape, StoreFits};
 ghost use Rattle.run_steps.specs.World.{World};
 ghost use Rattle.work_area.specs.Areas.{AreApart, StoreState};
@@ -79,3 +82,25 @@ pub fn new_stores_fit()
 {
     stores_keep_their_shape();
 }
+
+/// Each step costs something, so a run takes no more steps than they cost.
+pub fn runs_cost_their_steps()
+    ensures { (code : AnyCode) (w : World) (n : ℕ) (v : World) → after code w n ≡ Some v → n ≤ spent code w n }
+{}
+
+/// A run in parts is one run: where a part was spent and the next one goes on from the world that it left, both are the
+/// run of so much budget as the first part used and the second was given, with the steps of both added, to the same end
+/// and world.
+pub fn parts_make_the_whole()
+    ensures { (code : AnyCode) (w v u : World) (budget more : ℕ) (first second : AnyOutcome)
+        → Ran code w budget first v → first.end ≡ Spent → Ran code v more second u
+        → Ran code w (first.steps + more) (record { end = second.end; steps = first.steps + second.steps }) u }
+{}
+
+/// From a world from which a run comes to no fault, none of its steps has one, and no run ends at one.
+pub fn safe_runs_meet_no_fault()
+    ensures steps { (code : AnyCode) (w : World) → IsSafe code w → (n : ℕ) (v : World) → after code w n ≡ Some v
+        → IsNoFault (step_of code v) }
+    ensures end { (code : AnyCode) (w : World) (budget : ℕ) (outcome : AnyOutcome) (v : World) → IsSafe code w
+        → Ran code w budget outcome v → ¬ IsFault outcome.end }
+{}

@@ -1,8 +1,10 @@
 //! Runs with all tests.
 
-ghost use Rattle.std.specs.Prelude.{◌≡◌};
+ghost use Rattle.std.specs.Prelude.{◌≡◌, ◌≤◌};
 ghost use Rattle.code_items.specs.Legal.{IsCode};
-ghost use Rattle.run_steps.specs.Run.{Ran};
+ghost use Rattle.code_rules.specs.Rules.{Accepted};
+ghost use Rattle.fit_laws.specs.Fits.{IsFitting};
+ghost use Rattle.run_steps.specs.Run.{Ran, IsFault};
 ghost use Rattle.run_steps.specs.Shapes.{HasShape};
 ghost use Rattle.tagged_machine.specs.Seen.{world_of};
 ghost use Rattle.work_area.specs.Areas.{AreApart};
@@ -12,9 +14,11 @@ use crate::scratch::Scratch;
 use crate::world::World;
 use code_items::Code;
 use code_items::laws::legal_codes;
+use fit_laws::laws::fitting_worlds_are_safe;
 use key_lists::KeyList;
 use run_laws::laws::{
-    faultless_instructions_are_clear, faultless_worlds_go_on, steps_keep_the_shape,
+    faultless_instructions_are_clear, faultless_worlds_go_on, runs_cost_their_steps,
+    safe_runs_meet_no_fault, steps_keep_the_shape,
 };
 use run_steps::running::finishes;
 use run_steps::{End, Machine, Outcome, execute};
@@ -77,8 +81,8 @@ fn run_on<K: KeyList>(
 
 /// Runs a code, accepted or not, until it ends, within the budget: the run takes the steps that the definition gives,
 /// costs what they cost, and the world is that before the step at which it ended. A fault of the next step is told
-/// before anything else, at any budget. The world keeps the code's shape, so that a run that ended may be taken up
-/// again.
+/// before anything else, at any budget. Accepted code meets none from a world that fits what is known at its place. The
+/// world keeps the code's shape, so that a run that ended may be taken up again.
 pub fn run_checked<K: KeyList>(
     alloc: Global,
     code: &Code,
@@ -89,8 +93,13 @@ pub fn run_checked<K: KeyList>(
     requires shape { HasShape code.now world.old }
     requires apart { AreApart world.old.env.store.areas }
     ensures ran { Ran code.now world.old budget result world.new }
+    ensures few { (ran : Ran code.now world.old budget result world.new) → ran.count ≤ budget }
+    ensures safe { Accepted code.now → IsFitting code.now world.old → ¬ IsFault result.end }
     ensures shape { HasShape code.now world.new }
     ensures apart { AreApart world.new.env.store.areas }
 {
+    runs_cost_their_steps();
+    safe_runs_meet_no_fault();
+    fitting_worlds_are_safe();
     run_on(alloc, code, &mut world.machine, &mut world.scratch, budget)
 }

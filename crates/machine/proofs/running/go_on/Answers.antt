@@ -27,5 +27,8 @@ returns g c = λ w t.
       fits = c.runs_keep_fitting.ensures code legal accepted;
       stack = c.fitting_worlds_keep_the_bounds.ensures.stack code;
       returns = c.fitting_worlds_keep_the_bounds.ensures.returns code;
+      steps = c.safe_runs_meet_no_fault.ensures.steps code;
+      end = c.safe_runs_meet_no_fault.ensures.end code;
+      few = c.runs_cost_their_steps.ensures code;
       keeps = λ shape. record { stores = c.stores_keep_their_shape.ensures shape; tables = c.tables_keep_their_kind.ensures };
     }) w c.args.budget c.run.result (banks_of n.place n.returns n.values n.env) t.fits ends
