@@ -108,7 +108,7 @@ refused_before : (a b : Holds) → SameFiles a b → (broke breaks : Type 0) →
 refused_before a b same broke breaks f job code file (File fault) h = absurd h
 refused_before a b same broke breaks f job code file (Rule refused) h = (h.0, record { code = code; file = file; fits = h.1 })
 refused_before a b same broke breaks f job code file Disk h = absurd h
-refused_before a b same broke breaks f job code file (Tables refusal) h = record { code = code; file = file; fits = refused_same a b same code.declared.shape job.limit broke breaks f refusal h }
+refused_before a b same broke breaks f job code file (Tables refusal) h = record { code = code; file = file; fits = (h.0, refused_same a b same code.declared.shape job.limit broke breaks f refusal h.1) }
 refused_before a b same broke breaks f job code file Memory h = h
 
 pub refused : (a b : Holds) → SameFiles a b → (broke breaks : Type 0) → (breaks → broke) → (job : Job) (code : Code) → IsCodeFile (a job.name.now) code → (result : Result Report RunRefusal)

@@ -11,7 +11,7 @@ use Rattle.file_commands.specs.declared.refusal.Refusal.TheVariants.{Memory as F
 use Rattle.run_commands.specs.declared.job.Job.{Job}
 use Rattle.run_commands.specs.declared.refusal.RunRefusal.{RunRefusal}
 use Rattle.run_commands.specs.declared.refusal.RunRefusal.TheVariants.{File, Rule, Disk, Tables, Memory}
-use Rattle.run_commands.specs.Reports.{IsStopped}
+use Rattle.run_commands.specs.Reports.{IsStopped, MayLoad}
 use Rattle.shape.specs.declared.whole.Shape.{Shape}
 use Rattle.table_files.specs.declared.refusal.FilesRefusal.{FilesRefusal}
 use Rattle.table_files.specs.Names.{files_of}
@@ -46,7 +46,8 @@ abbrev pub CodeRefused : Holds → Job → Code → Type 0 → RunRefusal → Ty
 CodeRefused holds job code broke (File fault) = ⊥
 CodeRefused holds job code broke (Rule refused) = (job.checked ≡ false) × FirstRefusal code refused.rule refused.at
 CodeRefused holds job code broke Disk = ⊥
-CodeRefused holds job code broke (Tables refusal) = LoadRefused holds code.declared.shape job.limit broke refusal
+CodeRefused holds job code broke (Tables refusal) =
+    MayLoad job code × LoadRefused holds code.declared.shape job.limit broke refusal
 CodeRefused holds job code broke Memory = ⊤
 
 -- the tables are saved, stamped with the job's day

@@ -77,15 +77,20 @@ HasRun before after job ended rows = HasCode (before job.name.now) (CodeRan befo
 
 -- ---- refusals
 
+-- a run that isn't tested loads tables for accepted code alone
+abbrev pub MayLoad : Job → Code → Type 0
+MayLoad job code = MatchBool job.checked ⊤ (Accepted code)
+
 -- why there is no run: the code's file has a fault; the code isn't accepted, and is to be; the device failed; what the
--- code declares isn't loaded; memory
+-- code declares isn't loaded, though the code may run; memory
 abbrev pub RefusedBefore : Holds → Job → Type 0 → RunRefusal → Type 0
 RefusedBefore holds job broke (File fault) = CodeFileFault (holds job.name.now) fault
 RefusedBefore holds job broke (Rule refused) =
     (job.checked ≡ false) × HasCode (holds job.name.now) (λ code. FirstRefusal code refused.rule refused.at)
 RefusedBefore holds job broke Disk = broke
 RefusedBefore holds job broke (Tables refusal) =
-    HasCode (holds job.name.now) (λ code. LoadRefused holds code.declared.shape job.limit broke refusal)
+    HasCode (holds job.name.now)
+    (λ code. MayLoad job code × LoadRefused holds code.declared.shape job.limit broke refusal)
 RefusedBefore holds job broke Memory = ⊤
 
 -- there was no run, no rows are printed, and no file changes
