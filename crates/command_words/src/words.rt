@@ -213,15 +213,15 @@ fn word_of<'a>(matches: &ArgMatches<'a>, id: &str) -> Result<&'a str, WordsFault
 }
 
 /// What the words of `run` or `check-run` ask for.
-fn job_of<'a>(matches: &ArgMatches<'a>, checked: bool) -> Result<Job<'a>, WordsFault> {
-    Ok(Job {
+fn run_of<'a>(matches: &ArgMatches<'a>, checked: bool) -> Result<Words<'a>, WordsFault> {
+    Ok(Words::Run(Job {
         name: word_of(matches, FILE)?,
         checked,
         budget: budget_of(matches),
         limit: limit_of(matches)?,
         day: day_of(matches)?,
         input: &[],
-    })
+    }))
 }
 
 /// The command files of the words that ask for compiling, the main one first.
@@ -238,8 +238,8 @@ pub fn words_of<'a>(matches: &ArgMatches<'a>) -> Result<Words<'a>, WordsFault> {
             decl: word_of(matches, DECLARATIONS)?,
             out: word_of(matches, OUT)?,
         }),
-        "run" => Ok(Words::Run(job_of(matches, false)?)),
-        "check-run" => Ok(Words::Run(job_of(matches, true)?)),
+        "run" => run_of(matches, false),
+        "check-run" => run_of(matches, true),
         "verify" => Ok(Words::Verify {
             name: word_of(matches, FILE)?,
         }),
