@@ -7,6 +7,9 @@ from values import whole
 from world import LETTERS, names_in
 
 
+SETTINGS = ["exact", "deleted", "century"]
+
+
 class Commands(Expressions):
     def __init__(self, random, made):
         super().__init__(random, made)
@@ -66,7 +69,7 @@ class Commands(Expressions):
         if len(again) < len(names):
             for frame in self.frames:
                 frame.releases = True
-        return made
+        return made + [("gone", [name for name in names if self.frame.names[name] not in self.state.full])]
 
     def shift(self):
         """A variable that gets values of several kinds, and is read as that at once."""
@@ -120,8 +123,8 @@ class Commands(Expressions):
         return area is not None and (area.filter is None or area.filter.cells <= self.state.full)
 
     def move(self):
-        if self.here().order and self.one_in(3):
-            return ("seek", self.of_kind(TEXT, 1))
+        if self.here().order and self.one_in(2):
+            return ("seek", self.pick(self.of_kind(TEXT, 1), ("is", self.pick("A", "B", "AB", "a", "Z", " "))))
         return self.random.choice((
             lambda: ("go", self.pick("TOP", "BOTTOM")),
             lambda: ("go", self.of_kind(COUNT, 1)),
@@ -344,7 +347,7 @@ class Commands(Expressions):
             return [self.choice(depth)] if self.one_in(2) else self.loop(depth)
         if self.here() and self.one_in(3):
             return self.go_or_change()
-        rare = ((12, lambda: [("set", self.pick("exact", "deleted", "century"), self.pick(True, False))]), (15, self.form),
+        rare = ((12, lambda: [("set", self.random.choice(SETTINGS), self.pick(True, False))]), (15, self.form),
                 (30, lambda: [self.ask()]), (40, lambda: [("clear",)]), (30, self.release), (40, self.shift),
                 (4, self.call), (24 if len(self.frames) == 1 and not self.frame.loops else 6, lambda: [self.leave_if()]),
                 (15, self.show_all if self.frame.free else self.excursion))

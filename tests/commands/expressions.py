@@ -160,11 +160,15 @@ class Expressions:
             lambda: ("both", self.random.choice(COMPARED), n(), n()),
             lambda: ("both", self.random.choice(COMPARED), t(), t()),
             lambda: ("both", self.random.choice(COMPARED), self.date(depth - 1), self.date(depth - 1)),
+            lambda: self.beside_its_front(t()),
             lambda: ("both", "$", t(), t()),
             lambda: ("both", self.pick(".AND.", ".OR."), l(), l()),
             lambda: ("one", ".NOT.", l()),
             lambda: ("call", self.pick("ISALPHA", "ISUPPER", "ISLOWER"), [t()]),
         ))()
+
+    def beside_its_front(self, text):
+        return ("both", self.random.choice(COMPARED), text, ("call", "LEFT", [text, ("is", whole(self.random.randrange(4)))]))
 
     def of_kind(self, kind, depth=2):
         return {COUNT: self.count, TEXT: self.letters, TRUTH: self.truth, DATE: self.date}[kind](depth)

@@ -4,6 +4,7 @@ A program is a list of command files, and a command file a list of parts. What a
 is followed line by line, so that it is never refused, and every loop counts its rounds."""
 
 from calls import Calls
+from commands import SETTINGS
 from expressions import BEGUN, COUNT, DATE, KIND_OF, NAMES, TEXT, TRUTH
 from known import AREAS, Frame, State
 from values import Num
@@ -40,16 +41,17 @@ class Maker(Calls):
         self.state = State([None] * AREAS, 0, ())
         self.frame = Frame({}, None)
         self.frames.append(self.frame)
-        main = begun()
-        for _, name, _ in main:
+        main = begun() + [("set", name, True) for name in SETTINGS if self.one_in(3)]
+        for _, name, _ in begun():
             self.is_set(name)
-        for number in self.random.sample(range(3), self.pick(1, 1, 2, 3)):
+        for number in self.random.sample(range(3), self.pick(1, 2, 2, 3)):
             main += [*self.go_back(number), self.use()]
-        main += self.body(self.random.randrange(4, 16), 2)
+        main += self.body(self.random.randrange(6, 18), 2)
         if self.state:
             main += self.deep() if self.calls and self.one_in(8) else []
             main += self.show_all()
             self.find_gone()
+            main.append(("gone", [name for name, fault in self.gone.items() if fault == "Name"]))
         return self.files(main)
 
     def find_gone(self):

@@ -144,6 +144,10 @@ def put_unreached(lines, line):
     lines.append(line)
 
 
+def put_gone(lines, names):
+    """A note for the interpreter alone."""
+
+
 def put_do(lines, name, given):
     lines.append(f"DO {name}" + (f" WITH {', '.join(text(e) for e in given)}" if given else ""))
 
