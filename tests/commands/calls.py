@@ -149,13 +149,22 @@ class Calls(Commands):
         before, caller = self.state.copy(), self.frame
         self.frame = self.frame_for(parameters, given)
         self.frames.append(self.frame)
-        body = self.body(self.random.randrange(2, 7), self.pick(0, 1, 1, 2))
+        body = self.shared(parameters) + self.body(self.random.randrange(2, 7), self.pick(0, 1, 1, 2))
         body += self.way_out()
         frame, self.frame = self.frames.pop(), caller
         self.locals |= frame.own
         self.state = frame.exit.copy() if frame.exit else before
         self.state.full -= frame.cells
         return frame, body
+
+    def shared(self, parameters):
+        """Where two parameters are one variable, one is set, and both are shown."""
+        cells = self.frame.names
+        for one in parameters:
+            for other in parameters:
+                if one < other and cells[one] == cells[other]:
+                    return [self.set_to(one, self.of_kind(KIND_OF[one])), ("show", True, [("alias", "M", one), ("alias", "M", other)])]
+        return []
 
     def body(self, count, depth):
         """Commands at the top of a body."""
