@@ -1,0 +1,4 @@
+pub mod Ending
+pub mod Judged
+pub mod Kept
+pub mod Runs
