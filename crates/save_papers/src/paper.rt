@@ -1,0 +1,54 @@
+//! What a plan and a note say, and why a file is none.
+
+ghost use Rattle.std.specs.Prelude.{◌≡◌};
+ghost use Rattle.save_papers.specs.declared.paper.PaperError.TheVariants.{Memory};
+
+use save_steps::Sum;
+use std::alloc::{AllocError, AllocFailed};
+
+/// A file that a save replaces.
+#[derive(Debug, Drop)]
+pub struct Entry {
+    /// The file's name.
+    pub name: Vec<u8>,
+    /// The name of its new file.
+    pub beside: Vec<u8>,
+    /// The sum of what it held at the load, none where there was no such file.
+    pub old: Option<Sum>,
+    /// The sum of what it is to hold.
+    pub new: Sum,
+}
+
+/// A plan or a note.
+#[derive(Debug, Drop)]
+pub struct SavePaper {
+    /// Whether it is a note.
+    pub noted: bool,
+    /// The files, in the order in which they are replaced.
+    pub entries: Vec<Entry>,
+}
+
+/// Why a file isn't read as a plan or a note.
+#[derive(Clone, Copy, Debug, PartialEq, Eq)]
+pub enum PaperError {
+    /// Memory was refused.
+    Memory,
+    /// It is none, or it is cut short.
+    Foreign,
+}
+
+impl From<AllocError> for PaperError {
+    ghost from_gives = { λ _ e. e ≡ Memory };
+
+    fn from(_: AllocError) -> PaperError {
+        PaperError::Memory
+    }
+}
+
+impl<T: Drop> From<AllocFailed<T>> for PaperError {
+    ghost from_gives = { λ _ e. e ≡ Memory };
+
+    fn from(_: AllocFailed<T>) -> PaperError {
+        PaperError::Memory
+    }
+}
