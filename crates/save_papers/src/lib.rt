@@ -10,7 +10,7 @@ mod reading;
 mod sums;
 mod writing;
 
-pub use paper::{Entry, PaperError, SavePaper};
+pub use paper::{Entry, PaperError, SavePaper, WriteError};
 pub use reading::read;
 pub use sums::sum_of;
 pub use writing::write;

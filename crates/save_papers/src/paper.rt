@@ -1,7 +1,6 @@
 //! What a plan and a note say, and why a file is none.
 
 ghost use Rattle.std.specs.Prelude.{◌≡◌};
-ghost use Rattle.save_papers.specs.declared.paper.PaperError.TheVariants.{Memory};
 
 use save_steps::Sum;
 use std::alloc::{AllocError, AllocFailed};
@@ -38,6 +37,8 @@ pub enum PaperError {
 }
 
 impl From<AllocError> for PaperError {
+    ghost use Rattle.save_papers.specs.declared.paper.PaperError.TheVariants.{Memory};
+
     ghost from_gives = { λ _ e. e ≡ Memory };
 
     fn from(_: AllocError) -> PaperError {
@@ -46,9 +47,40 @@ impl From<AllocError> for PaperError {
 }
 
 impl<T: Drop> From<AllocFailed<T>> for PaperError {
+    ghost use Rattle.save_papers.specs.declared.paper.PaperError.TheVariants.{Memory};
+
     ghost from_gives = { λ _ e. e ≡ Memory };
 
     fn from(_: AllocFailed<T>) -> PaperError {
         PaperError::Memory
+    }
+}
+
+/// Why no text of a plan or a note is made.
+#[derive(Clone, Copy, Debug, PartialEq, Eq)]
+pub enum WriteError {
+    /// Memory was refused.
+    Memory,
+    /// A name or the list of files is too long.
+    Long,
+}
+
+impl From<AllocError> for WriteError {
+    ghost use Rattle.save_papers.specs.declared.paper.WriteError.TheVariants.{Memory};
+
+    ghost from_gives = { λ _ e. e ≡ Memory };
+
+    fn from(_: AllocError) -> WriteError {
+        WriteError::Memory
+    }
+}
+
+impl<T: Drop> From<AllocFailed<T>> for WriteError {
+    ghost use Rattle.save_papers.specs.declared.paper.WriteError.TheVariants.{Memory};
+
+    ghost from_gives = { λ _ e. e ≡ Memory };
+
+    fn from(_: AllocFailed<T>) -> WriteError {
+        WriteError::Memory
     }
 }
