@@ -16,7 +16,7 @@ use file_access::{Files, ReadFault, read_within};
 use file_commands::{
     FILE_LIMIT, Refusal, Status, list_code, list_index, list_table, of_refusal, verify_file,
 };
-use folder_files::{Folder, Nobody};
+use folder_files::{Finished, Folder, Nobody, SavingFolder, Unfinished, Unsaved, finish, paper_name};
 use run_commands::{Job, Report, run_files};
 use shape_files::ShapeRefusal;
 use std::alloc::Global;
@@ -124,8 +124,95 @@ fn report<R: Runtime<A = Global>>(rt: &R, name: &str, report: &Report) -> Status
     }
 }
 
-/// Carries out a run, of which only what the operator types is still to be had.
+/// Tells on standard error why a save that was cut off isn't finished.
+fn tell_unfinished(rt: &impl Runtime, unfinished: &Unfinished) -> Status {
+    let (_, status) = match unfinished {
+        Unfinished::Foreign => (
+            eprintln!(rt; "refused {} Foreign", paper_name()),
+            Status::Refused,
+        ),
+        Unfinished::Changed { name } => (eprintln!(rt; "refused {name} Changed"), Status::Refused),
+        Unfinished::Disk { name } => (eprintln!(rt; "disk {name}"), Status::Disk),
+        Unfinished::PaperDisk => (eprintln!(rt; "disk {}", paper_name()), Status::Disk),
+        Unfinished::Memory => (eprintln!(rt; "memory"), Status::Memory),
+    };
+    status
+}
+
+/// Finishes a save that was cut off before; a status where the run ends with that.
+fn finish_before<R: Runtime<A = Global>>(rt: &R) -> Option<Status> {
+    match finish(rt) {
+        Ok(Finished::Before) => None,
+        Ok(Finished::Behind) => {
+            let _ = eprintln!(rt; "the save of an earlier run is finished; nothing was run");
+            Some(Status::Disk)
+        }
+        Err(unfinished) => Some(tell_unfinished(rt, &unfinished)),
+    }
+}
+
+/// Tells on standard error why the tables of a run aren't saved.
+fn tell_unsaved<R: Runtime<A = Global>>(
+    rt: &R,
+    audience: Audience,
+    saving: &SavingFolder<'_, R, Progress<'_, R>>,
+    unsaved: Unsaved,
+) -> Status {
+    let (told, status) = match unsaved {
+        Unsaved::Changed { file } => (
+            eprintln!(rt; "refused {} Changed", saving.name_of(file)),
+            Status::Refused,
+        ),
+        Unsaved::Disk { file } | Unsaved::Cut { file } => {
+            (eprintln!(rt; "disk {}", saving.name_of(file)), Status::Disk)
+        }
+        Unsaved::Memory => (eprintln!(rt; "memory"), Status::Memory),
+    };
+    if told.is_ok() && audience == Audience::Person {
+        let _ = match unsaved {
+            Unsaved::Cut { .. } => eprintln!(
+                rt;
+                "the next command finishes this save; do not repeat the run"
+            ),
+            _ => eprintln!(rt; "no file was changed"),
+        };
+    }
+    status
+}
+
+/// Runs the code, and saves the tables all together or not at all.
+fn run_and_save<R: Runtime<A = Global>>(rt: &R, audience: Audience, job: &Job<'_>) -> Status {
+    let mut saving = SavingFolder::new(folder(rt, audience));
+    let done = run_files(rt.alloc(), &mut saving, job);
+    if done.result.is_err() {
+        return report(rt, job.name, &done);
+    }
+    match saving.commit() {
+        Ok(()) => report(rt, job.name, &done),
+        Err(unsaved) => {
+            if rt.write_all(done.rows.as_slice()).is_err() {
+                return Status::Disk;
+            }
+            tell_unsaved(rt, audience, &saving, unsaved)
+        }
+    }
+}
+
+/// Tests each instruction of the code while it runs, and saves nothing.
+fn run_tested<R: Runtime<A = Global>>(rt: &R, audience: Audience, job: &Job<'_>) -> Status {
+    let mut folder = folder(rt, audience);
+    let done = run_files(rt.alloc(), &mut folder, job);
+    report(rt, job.name, &done)
+}
+
+/// Carries out a run, of which only what the operator types is still to be had. A save that was cut off before is
+/// finished first; where it had counted, nothing is run.
 fn run<R: Runtime<A = Global>>(rt: &R, audience: Audience, job: &Job<'_>) -> Status {
+    if !job.checked {
+        if let Some(status) = finish_before(rt) {
+            return status;
+        }
+    }
     let input = match typed(rt) {
         Ok(input) => input,
         Err(status) => return status,
@@ -138,9 +225,10 @@ fn run<R: Runtime<A = Global>>(rt: &R, audience: Audience, job: &Job<'_>) -> Sta
         day: job.day,
         input: input.as_slice(),
     };
-    let mut folder = folder(rt, audience);
-    let done = run_files(rt.alloc(), &mut folder, &job);
-    report(rt, job.name, &done)
+    if job.checked {
+        return run_tested(rt, audience, &job);
+    }
+    run_and_save(rt, audience, &job)
 }
 
 fn verify<R: Runtime<A = Global>>(rt: &R, audience: Audience, name: &str) -> Status {

@@ -1,6 +1,13 @@
-//! The files of a folder of the disk, as the trait `Files` asks for them.
+//! The files of a folder of the disk, as the trait `Files` asks for them, and a folder whose files are replaced all
+//! together or not at all.
 #![tactic(auto)]
 
+mod disk;
+mod finishing;
 mod folder;
+mod papers;
+mod saving;
 
+pub use finishing::{Finished, Unfinished, finish, paper_name};
 pub use folder::{Doing, Folder, Listener, Nobody};
+pub use saving::{SavingFolder, Unsaved};

@@ -12,5 +12,5 @@ mod writing;
 
 pub use paper::{Entry, PaperError, SavePaper, WriteError};
 pub use reading::read;
-pub use sums::sum_of;
+pub use sums::{may_begin_paper, sum_of};
 pub use writing::write;

@@ -1,6 +1,7 @@
 //! Sums of bytes, and the line with which a paper begins.
 
-ghost use Rattle.std.specs.Prelude.{◌≡◌};
+ghost use Rattle.std.specs.Prelude.{◌≡◌, length, take};
+ghost use Rattle.std.specs.Str.{bytes_eq};
 ghost use Rattle.save_papers.specs.Papers.{head as the_head, sum_of as the_sum};
 
 use save_steps::Sum;
@@ -23,4 +24,13 @@ pub(crate) fn head() -> &'static [u8]
     ensures { result.now ≡ the_head }
 {
     HEAD
+}
+
+/// Whether bytes are those of a plan or a note that is cut at any place, as far as its first line tells.
+pub fn may_begin_paper(bytes: &[u8]) -> bool
+    ensures { result ≡ bytes_eq (take (length the_head) bytes.now) (take (length bytes.now) the_head) }
+{
+    let line = head();
+    let count = bytes.len().min(line.len());
+    bytes[..count] == line[..count]
 }
