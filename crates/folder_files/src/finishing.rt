@@ -3,16 +3,15 @@
 
 use crate::disk::{remove_if_there, sum_of_file, sync_folder};
 use crate::papers::{PAPER, PaperFault, found_paper, remove_draft, remove_paper};
-use save_papers::{Entry, SavePaper};
+use save_papers::{PaperEntry, SavePaper};
 use save_steps::{Paper, Slot, Step, first_foreign, slot_of, steps_of_finish};
 use std::alloc::{Alloc, Global};
-use std::fs;
 use std::rt::Files as Disk;
-use std::str;
+use std::{fs, str};
 
 /// What was found of a save that was cut off, and is finished now.
 #[derive(Clone, Copy, PartialEq, Eq, Debug)]
-pub enum Finished {
+pub enum FinishedSave {
     /// None was, or it hadn't come to its note: all files are as they were before it.
     Before,
     /// It had come to its note: all files are new.
@@ -21,7 +20,7 @@ pub enum Finished {
 
 /// Why a save that was cut off isn't finished. Nothing was touched, but where the device failed.
 #[derive(Drop)]
-pub enum Unfinished {
+pub enum UnfinishedSave {
     /// The plan's and note's file is another program's.
     Foreign,
     /// Another program has changed a file of this name.
@@ -51,25 +50,28 @@ fn name_in(bytes: &[u8]) -> Option<&str> {
 }
 
 /// The failure of the device at a file.
-fn disk_at(alloc: Global, name: &str) -> Unfinished {
+fn disk_at(alloc: Global, name: &str) -> UnfinishedSave {
     match String::from_str(alloc, name) {
-        Ok(name) => Unfinished::Disk { name },
-        Err(_) => Unfinished::Memory,
+        Ok(name) => UnfinishedSave::Disk { name },
+        Err(_) => UnfinishedSave::Memory,
     }
 }
 
 /// That another program has changed a file.
-fn changed_at(alloc: Global, name: &str) -> Unfinished {
+fn changed_at(alloc: Global, name: &str) -> UnfinishedSave {
     match String::from_str(alloc, name) {
-        Ok(name) => Unfinished::Changed { name },
-        Err(_) => Unfinished::Memory,
+        Ok(name) => UnfinishedSave::Changed { name },
+        Err(_) => UnfinishedSave::Memory,
     }
 }
 
 /// What stands at a file that a note names.
-fn slot_at<R: Disk + Alloc<A = Global>>(rt: &R, entry: &Entry) -> Result<Slot, Unfinished> {
+fn slot_at<R: Disk + Alloc<A = Global>>(
+    rt: &R,
+    entry: &PaperEntry,
+) -> Result<Slot, UnfinishedSave> {
     let (Some(name), Some(beside)) = (name_in(&entry.name), name_in(&entry.beside)) else {
-        return Err(Unfinished::Foreign);
+        return Err(UnfinishedSave::Foreign);
     };
     let Ok(target) = sum_of_file(rt, name) else {
         return Err(disk_at(rt.alloc(), name));
@@ -84,7 +86,7 @@ fn slot_at<R: Disk + Alloc<A = Global>>(rt: &R, entry: &Entry) -> Result<Slot, U
 fn slots_of<R: Disk + Alloc<A = Global>>(
     rt: &R,
     paper: &SavePaper,
-) -> Result<Vec<Slot>, Unfinished> {
+) -> Result<Vec<Slot>, UnfinishedSave> {
     let mut slots = Vec::new(rt.alloc());
     for entry in &paper.entries {
         let slot = if paper.noted {
@@ -93,7 +95,7 @@ fn slots_of<R: Disk + Alloc<A = Global>>(
             Slot::Waiting
         };
         if slots.push(slot).is_err() {
-            return Err(Unfinished::Memory);
+            return Err(UnfinishedSave::Memory);
         }
     }
     Ok(slots)
@@ -103,11 +105,11 @@ fn slots_of<R: Disk + Alloc<A = Global>>(
 fn at_file<R: Disk + Alloc<A = Global>>(
     rt: &R,
     step: Step,
-    entry: &Entry,
+    entry: &PaperEntry,
     slot: Slot,
-) -> Result<(), Unfinished> {
+) -> Result<(), UnfinishedSave> {
     let (Some(name), Some(beside)) = (name_in(&entry.name), name_in(&entry.beside)) else {
-        return Err(Unfinished::Foreign);
+        return Err(UnfinishedSave::Foreign);
     };
     let done = match step {
         Step::Unmake(_) => remove_if_there(rt, beside),
@@ -131,7 +133,7 @@ fn carry_out<R: Disk + Alloc<A = Global>>(
     step: Step,
     paper: &SavePaper,
     slots: &[Slot],
-) -> Result<(), Unfinished> {
+) -> Result<(), UnfinishedSave> {
     let done = match step {
         Step::Unmake(file) | Step::Place(file) => {
             return match (paper.entries.get(file), slots.get(file)) {
@@ -146,21 +148,21 @@ fn carry_out<R: Disk + Alloc<A = Global>>(
     };
     match done {
         Ok(()) => Ok(()),
-        Err(_) => Err(Unfinished::PaperDisk),
+        Err(_) => Err(UnfinishedSave::PaperDisk),
     }
 }
 
 /// The failure to finish where another program has changed a file.
-fn foreign_in(alloc: Global, paper: &SavePaper, slots: &[Slot]) -> Unfinished {
+fn foreign_in(alloc: Global, paper: &SavePaper, slots: &[Slot]) -> UnfinishedSave {
     let Some(file) = first_foreign(slots) else {
-        return Unfinished::Foreign;
+        return UnfinishedSave::Foreign;
     };
     let Some(entry) = paper.entries.get(file) else {
-        return Unfinished::Foreign;
+        return UnfinishedSave::Foreign;
     };
     match name_in(&entry.name) {
         Some(name) => changed_at(alloc, name),
-        None => Unfinished::Foreign,
+        None => UnfinishedSave::Foreign,
     }
 }
 
@@ -168,7 +170,7 @@ fn foreign_in(alloc: Global, paper: &SavePaper, slots: &[Slot]) -> Unfinished {
 fn finish_paper<R: Disk + Alloc<A = Global>>(
     rt: &R,
     paper: &SavePaper,
-) -> Result<Finished, Unfinished> {
+) -> Result<FinishedSave, UnfinishedSave> {
     let alloc = rt.alloc();
     let slots = slots_of(rt, paper)?;
     let sort = if paper.noted {
@@ -177,7 +179,7 @@ fn finish_paper<R: Disk + Alloc<A = Global>>(
         Paper::Plan
     };
     let Ok(found) = steps_of_finish(alloc, sort, slots.as_slice()) else {
-        return Err(Unfinished::Memory);
+        return Err(UnfinishedSave::Memory);
     };
     let Some(steps) = found else {
         return Err(foreign_in(alloc, paper, slots.as_slice()));
@@ -186,22 +188,22 @@ fn finish_paper<R: Disk + Alloc<A = Global>>(
         carry_out(rt, *step, paper, slots.as_slice())?;
     }
     if paper.noted {
-        return Ok(Finished::Behind);
+        return Ok(FinishedSave::Behind);
     }
-    Ok(Finished::Before)
+    Ok(FinishedSave::Before)
 }
 
-/// Finishes the save that was cut off in the folder in which the program runs, if one was: takes it away where it hadn't
-/// come to its note, and carries it to its end where it had.
-pub fn finish<R: Disk + Alloc<A = Global>>(rt: &R) -> Result<Finished, Unfinished> {
+/// Finishes the save that was cut off in the folder in which the program runs, if one was: takes it away where it
+/// hadn't come to its note, and carries it to its end where it had.
+pub fn finish<R: Disk + Alloc<A = Global>>(rt: &R) -> Result<FinishedSave, UnfinishedSave> {
     match found_paper(rt, rt.alloc()) {
         Ok(Some(paper)) => finish_paper(rt, &paper),
         Ok(None) => match remove_draft(rt, rt.alloc()) {
-            Ok(()) => Ok(Finished::Before),
-            Err(_) => Err(Unfinished::PaperDisk),
+            Ok(()) => Ok(FinishedSave::Before),
+            Err(_) => Err(UnfinishedSave::PaperDisk),
         },
-        Err(PaperFault::Foreign) => Err(Unfinished::Foreign),
-        Err(PaperFault::Disk) => Err(Unfinished::PaperDisk),
-        Err(PaperFault::Memory) => Err(Unfinished::Memory),
+        Err(PaperFault::Foreign) => Err(UnfinishedSave::Foreign),
+        Err(PaperFault::Disk) => Err(UnfinishedSave::PaperDisk),
+        Err(PaperFault::Memory) => Err(UnfinishedSave::Memory),
     }
 }

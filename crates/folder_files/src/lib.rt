@@ -5,9 +5,12 @@
 mod disk;
 mod finishing;
 mod folder;
+mod lock;
 mod papers;
 mod saving;
 
-pub use finishing::{Finished, Unfinished, finish, paper_name};
+pub use finishing::{FinishedSave, UnfinishedSave, finish, paper_name};
 pub use folder::{Doing, Folder, Listener, Nobody};
+pub use lock::{Held, Hold, take_folder};
+pub use papers::note_stands;
 pub use saving::{SavingFolder, Unsaved};

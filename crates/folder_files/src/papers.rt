@@ -4,7 +4,7 @@
 use crate::disk::{remove_if_there, sync_folder, write_new};
 use file_access::{ReadFault, read_within};
 use save_papers::{PaperError, SavePaper, may_begin_paper, read, write};
-use std::alloc::Global;
+use std::alloc::{Alloc, Global};
 use std::fs;
 use std::io::{self, ErrorKind};
 use std::rt::Files as Disk;
@@ -81,6 +81,14 @@ pub(crate) fn found_paper<R: Disk>(rt: &R, alloc: Global) -> Result<Option<SaveP
         Ok(paper) => Ok(Some(paper)),
         Err(PaperError::Foreign) => Err(PaperFault::Foreign),
         Err(PaperError::Memory) => Err(PaperFault::Memory),
+    }
+}
+
+/// Whether a note stands: a save counts and isn't at its end.
+pub fn note_stands<R: Disk + Alloc<A = Global>>(rt: &R) -> bool {
+    match found_paper(rt, rt.alloc()) {
+        Ok(Some(paper)) => paper.noted,
+        _ => false,
     }
 }
 

@@ -7,7 +7,7 @@ use crate::disk::{is_free, remove_if_there, standing, sum_of_file, sync_folder, 
 use crate::folder::{Doing, Folder, Listener};
 use crate::papers::{Written, put_paper, remove_draft, remove_paper};
 use file_access::{Device, Files, ReadFault};
-use save_papers::{Entry, SavePaper, sum_of};
+use save_papers::{PaperEntry, SavePaper, sum_of};
 use save_steps::{Paper, Slot, Step, Sum, steps_of_finish, steps_of_save};
 use std::alloc::{Alloc, AllocError, Global};
 use std::fs;
@@ -48,6 +48,8 @@ pub enum Unsaved {
 #[derive(Drop)]
 pub struct SavingFolder<'a, R, L> {
     folder: Folder<'a, R, L>,
+    /// Whether tables may be read: another program may have the folder.
+    open: bool,
     loaded: Vec<Loaded>,
     pending: Vec<Pending>,
 }
@@ -65,11 +67,13 @@ struct Progress {
 }
 
 impl<'a, R: Disk + Alloc<A = Global>, L: Listener> SavingFolder<'a, R, L> {
-    /// The folder, of which nothing was read yet and nothing is to be replaced.
-    pub fn new(folder: Folder<'a, R, L>) -> SavingFolder<'a, R, L> {
+    /// The folder, of which nothing was read yet and nothing is to be replaced. No table is read in one that isn't
+    /// open: to read one is a failure of the device.
+    pub fn new(folder: Folder<'a, R, L>, open: bool) -> SavingFolder<'a, R, L> {
         let alloc = folder.rt.alloc();
         SavingFolder {
             folder,
+            open,
             loaded: Vec::new(alloc),
             pending: Vec::new(alloc),
         }
@@ -130,7 +134,12 @@ impl<'a, R: Disk + Alloc<A = Global>, L: Listener> SavingFolder<'a, R, L> {
     }
 
     /// A file's name and its new file's, and the sums of what it held and is to hold.
-    fn entry_of(&self, file: usize, pending: &Pending, beside: &str) -> Result<Entry, Unsaved> {
+    fn entry_of(
+        &self,
+        file: usize,
+        pending: &Pending,
+        beside: &str,
+    ) -> Result<PaperEntry, Unsaved> {
         let alloc = self.folder.rt.alloc();
         let name = pending.name.as_str();
         let old = match self.sum_at_load(name) {
@@ -146,7 +155,7 @@ impl<'a, R: Disk + Alloc<A = Global>, L: Listener> SavingFolder<'a, R, L> {
         ) else {
             return Err(Unsaved::Memory);
         };
-        Ok(Entry {
+        Ok(PaperEntry {
             name,
             beside,
             old,
@@ -326,7 +335,9 @@ impl<'a, R: Disk + Alloc<A = Global>, L: Listener> SavingFolder<'a, R, L> {
 /// What a failure is called behind the note.
 fn behind_note(unsaved: Unsaved) -> Unsaved {
     match unsaved {
-        Unsaved::Disk { file } | Unsaved::Changed { file } | Unsaved::Cut { file } => Unsaved::Cut { file },
+        Unsaved::Disk { file } | Unsaved::Changed { file } | Unsaved::Cut { file } => Unsaved::Cut {
+            file,
+        },
         Unsaved::Memory => Unsaved::Cut { file: 0 },
     }
 }
@@ -346,6 +357,9 @@ impl<R: Disk + Alloc<A = Global>, L: Listener> Files for SavingFolder<'_, R, L> 
     ghost failed = { λ saving. saving.folder.failures };
 
     fn read(&mut self, alloc: Global, name: &str, limit: usize) -> Result<Vec<u8>, ReadFault> {
+        if !self.open && name.ends_with(".DBF") {
+            return Err(self.folder.fail());
+        }
         match self.folder.read(alloc, name, limit) {
             Ok(bytes) => {
                 if self.note(name, Some(sum_of(bytes.as_slice()))).is_err() {

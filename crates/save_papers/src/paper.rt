@@ -7,7 +7,7 @@ use std::alloc::{AllocError, AllocFailed};
 
 /// A file that a save replaces.
 #[derive(Debug, Drop)]
-pub struct Entry {
+pub struct PaperEntry {
     /// The file's name.
     pub name: Vec<u8>,
     /// The name of its new file.
@@ -24,7 +24,7 @@ pub struct SavePaper {
     /// Whether it is a note.
     pub noted: bool,
     /// The files, in the order in which they are replaced.
-    pub entries: Vec<Entry>,
+    pub entries: Vec<PaperEntry>,
 }
 
 /// Why a file isn't read as a plan or a note.

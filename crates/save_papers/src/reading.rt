@@ -2,11 +2,11 @@
 
 ghost use Rattle.std.specs.Prelude.{◌≡◌, length, IfOk, Some};
 ghost use Rattle.std.specs.Int.{w32};
-ghost use Rattle.save_papers.specs.Papers.{Says, IsPaper, IsPaperText, entry_view, entry_views, paper_view};
-ghost use Rattle.save_papers.specs.Reading.{Gives, after_head, kind_at, number_at, string_at, sum_at, flagged_sum_at};
-ghost use Rattle.save_papers.specs.Reading.{entry_at, entries_at, body_of, unsealed, paper_of};
+ghost use Rattle.save_papers.specs.Papers.{PaperSays, IsPaper, IsPaperText, entry_view, entry_views, paper_view};
+ghost use Rattle.save_papers.specs.Reading.{Gives, after_head, noted_at, number_at, string_at, sum_at, flagged_sum_at};
+ghost use Rattle.save_papers.specs.Reading.{paper_entry_at, paper_entries_at, body_of, unsealed, paper_of};
 
-use crate::paper::{Entry, PaperError, SavePaper};
+use crate::paper::{PaperEntry, PaperError, SavePaper};
 use crate::sums::{head, sum_of};
 use save_steps::Sum;
 use std::alloc::Global;
@@ -65,15 +65,15 @@ fn flagged_sum_of(bytes: &[u8]) -> Result<(Option<Sum>, &[u8]), PaperError>
     }
 }
 
-#[tactic(auto, unfolding(crate::specs::Reading::entry_at))]
-fn entry_of(alloc: Global, bytes: &[u8]) -> Result<(Entry, &[u8]), PaperError>
-    ensures { Gives (λ x. (entry_view x.0, x.1.now)) result (entry_at bytes.now) }
+#[tactic(auto, unfolding(crate::specs::Reading::paper_entry_at))]
+fn entry_of(alloc: Global, bytes: &[u8]) -> Result<(PaperEntry, &[u8]), PaperError>
+    ensures { Gives (λ x. (entry_view x.0, x.1.now)) result (paper_entry_at bytes.now) }
 {
     let (name, rest) = string_of(alloc, bytes)?;
     let (beside, rest) = string_of(alloc, rest)?;
     let (old, rest) = flagged_sum_of(rest)?;
     let (new, rest) = sum_in(rest)?;
-    let entry = Entry {
+    let entry = PaperEntry {
         name,
         beside,
         old,
@@ -82,8 +82,12 @@ fn entry_of(alloc: Global, bytes: &[u8]) -> Result<(Entry, &[u8]), PaperError>
     Ok((entry, rest))
 }
 
-fn entries_of(alloc: Global, count: u32, bytes: &[u8]) -> Result<(Vec<Entry>, &[u8]), PaperError>
-    ensures { Gives (λ x. (entry_views x.0.items, x.1.now)) result (entries_at count bytes.now) }
+fn entries_of(
+    alloc: Global,
+    count: u32,
+    bytes: &[u8],
+) -> Result<(Vec<PaperEntry>, &[u8]), PaperError>
+    ensures { Gives (λ x. (entry_views x.0.items, x.1.now)) result (paper_entries_at count bytes.now) }
 {
     let mut entries = Vec::new(alloc);
     let mut rest = bytes;
@@ -96,7 +100,7 @@ fn entries_of(alloc: Global, count: u32, bytes: &[u8]) -> Result<(Vec<Entry>, &[
 }
 
 fn kind_of(bytes: &[u8]) -> Result<(bool, &[u8]), PaperError>
-    ensures { Gives (λ x. (x.0, x.1.now)) result (kind_at bytes.now) }
+    ensures { Gives (λ x. (x.0, x.1.now)) result (noted_at bytes.now) }
 {
     match bytes {
         [] => Err(PaperError::Foreign),
@@ -159,7 +163,8 @@ pub fn read(alloc: Global, bytes: &[u8]) -> Result<SavePaper, PaperError>
     // What is read is spelled so, so that nothing else is taken for a paper.
     ensures found { IfOk result (λ paper. IsPaper (paper_view paper) × IsPaperText (paper_view paper) bytes.now) }
     // What is spelled so is read, unless memory runs out.
-    ensures only { (says : Says) → IsPaper says → IsPaperText says bytes.now → Gives paper_view result (Some says) }
+    ensures only { (says : PaperSays) → IsPaper says → IsPaperText says bytes.now
+        → Gives paper_view result (Some says) }
 {
     whole(alloc, bytes)
 }

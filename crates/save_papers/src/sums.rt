@@ -2,7 +2,7 @@
 
 ghost use Rattle.std.specs.Prelude.{◌≡◌, length, take};
 ghost use Rattle.std.specs.Str.{bytes_eq};
-ghost use Rattle.save_papers.specs.Papers.{head as the_head, sum_of as the_sum};
+ghost use Rattle.save_papers.specs.Papers.{head as the_head, seal_of as the_sum};
 
 use save_steps::Sum;
 use sha2::{Digest, Sha256};
@@ -11,7 +11,7 @@ use sha2::{Digest, Sha256};
 const HEAD: &[u8] = b"Tablereef: a save that is not at its end\n";
 
 /// The SHA-256 sum of bytes.
-#[tactic(auto, unfolding(crate::specs::Papers::sum_of))]
+#[tactic(auto, unfolding(crate::specs::Papers::seal_of))]
 pub fn sum_of(bytes: &[u8]) -> Sum
     ensures { result ≡ the_sum bytes.now }
 {

@@ -1,10 +1,11 @@
 //! Plans and notes written.
 
 ghost use Rattle.std.specs.Prelude.{◌≡◌, ◌<◌, ◌≤◌, ◌^◌, ◌++◌, length, OnOk, IfOk, IsErrOf};
-ghost use Rattle.save_papers.specs.Papers.{IsPaper, IsPaperText, FitsEntry, entry_text, entry_view, paper_view, string};
+ghost use Rattle.save_papers.specs.Papers.{IsPaper, IsPaperText, FitsEntry, paper_entry_text, entry_view, paper_view};
+ghost use Rattle.save_papers.specs.Papers.{string};
 ghost use Rattle.save_papers.specs.Papers.{flagged_sum};
 
-use crate::paper::{Entry, SavePaper, WriteError};
+use crate::paper::{PaperEntry, SavePaper, WriteError};
 use crate::sums::{head, sum_of};
 use save_steps::Sum;
 use std::alloc::{AllocError, Global};
@@ -43,8 +44,8 @@ fn put_flagged(out: &mut Vec<u8>, sum: &Option<Sum>) -> Result<(), AllocError>
     Ok(())
 }
 
-fn put_entry(out: &mut Vec<u8>, entry: &Entry) -> Result<(), WriteError>
-    ensures ok { OnOk result (out.new.items ≡ out.old.items ++ entry_text (entry_view entry.now)) }
+fn put_entry(out: &mut Vec<u8>, entry: &PaperEntry) -> Result<(), WriteError>
+    ensures ok { OnOk result (out.new.items ≡ out.old.items ++ paper_entry_text (entry_view entry.now)) }
     ensures long { IsErrOf result WriteError.Long → FitsEntry (entry_view entry.now) → ⊥ }
 {
     put_string(out, entry.name.as_slice())?;

@@ -11,55 +11,56 @@ use Rattle.save_steps.specs.declared.steps.Paper.TheVariants.{Absent, Plan, Note
 use Rattle.save_steps.specs.declared.steps.Step.{Step}
 use Rattle.save_steps.specs.declared.steps.Step.TheVariants.{WritePlan, Make, Sync, WriteNote, Place, Unmake, RemovePaper, RemoveDraft}
 use Rattle.save_steps.specs.Finishing.{finish_of, is_foreign}
-use Rattle.save_steps.specs.Folders.{Stands, Change, AreApart, Same, Did, DidAll, MayLeave, StopsAt}
-use Rattle.save_steps.specs.Points.{IsReady, IsAllOld, IsPlaced, IsAllNew, slot_at, next_steps, StopsAgain, Ends, IsAllOrNothing}
+use Rattle.save_steps.specs.Folders.{Stands, Renewal, AreApart, Same, Did, DidAll, MayLeave, StopsAt}
+use Rattle.save_steps.specs.Points.{IsReady, IsAllOld, IsPlaced, IsAllNew, slot_now, next_steps, StopsAgain, NextEnds, IsAllOrNothing}
 use Rattle.save_steps.specs.Steps.{for_each, makes, places, unmakes, plan_steps, place_steps, save_steps, back_steps, on_steps, without_steps}
 use Rattle.save_steps.proofs.Runs.{did_cut, stops_cut, KeepsWhole, Keeps, all_and, all_each, did_keeps, stops_keeps}
+use Rattle.save_steps.proofs.Can.{can_all, on_within, back_within, without_within, save_within}
 use Rattle.save_steps.proofs.Judged.{waits, is_placed, none_foreign}
 use Rattle.save_steps.proofs.Kept.{IsPlanned, IsNoted, IsWaiting, IsBefore, IsBehind, old_same, planned_same, noted_same, new_same, make_keeps, unmake_keeps, sync_keeps, draft_keeps, draft_keeps_old, draft_keeps_new, draft_keeps_noted, sync_keeps_noted, all_made, all_unmade, place_keeps, places_keep, all_placed, HoldBeside, ArePlaced}
 
 -- ---- no draft is left
 
 -- the step leaves the draft alone
-abbrev KeepsDraft : List Change → Step → Type 0
+abbrev KeepsDraft : List Renewal → Step → Type 0
 KeepsDraft cs = KeepsWhole cs (λ s. s.draft ≡ false)
 
-no_draft : (cs : List Change) (steps : List Step) (s t : Stands) → AllByRecursion (KeepsDraft cs) steps
+no_draft : (cs : List Renewal) (steps : List Step) (s t : Stands) → AllByRecursion (KeepsDraft cs) steps
     → DidAll cs (RemoveDraft ∷ steps) s t → t.draft ≡ false
 no_draft cs steps s t keeps (m, (paper, draft, same), rest) =
     did_keeps cs (λ s. s.draft ≡ false) steps m t keeps draft rest
 
-back_draft : (cs : List Change) (n : ℕ) → AllByRecursion (KeepsDraft cs) (unmakes n ++ Sync ∷ RemovePaper ∷ [])
+back_draft : (cs : List Renewal) (n : ℕ) → AllByRecursion (KeepsDraft cs) (unmakes n ++ Sync ∷ RemovePaper ∷ [])
 back_draft cs n = all_and (KeepsDraft cs) (unmakes n) (Sync ∷ RemovePaper ∷ [])
     (all_each (KeepsDraft cs) Unmake n (λ k s t e did. did.0.1 ∙ e))
     ((λ s t e did. did.0.1 ∙ e), ((λ s t e did. did.1 ∙ e), tt))
 
-on_draft : (cs : List Change) (n : ℕ) → AllByRecursion (KeepsDraft cs) (place_steps n)
+on_draft : (cs : List Renewal) (n : ℕ) → AllByRecursion (KeepsDraft cs) (place_steps n)
 on_draft cs n = all_and (KeepsDraft cs) (places n) (Sync ∷ RemovePaper ∷ [])
     (all_each (KeepsDraft cs) Place n (λ k s t e did. did.0.1 ∙ e))
     ((λ s t e did. did.0.1 ∙ e), ((λ s t e did. did.1 ∙ e), tt))
 
-module _ (sum : List ℕ → List ℕ) (cs : List Change) (start : Stands) where
+module _ (sum : List ℕ → List ℕ) (cs : List Renewal) (start : Stands) where
   -- ---- which steps the next command takes
 
   slots : Stands → List Slot
-  slots s = map (slot_at sum s) cs
+  slots s = map (slot_now sum s) cs
 
   known_absent : (s : Stands) → s.paper ≡ Absent → next_steps sum cs s ≡ Some without_steps
-  known_absent s e = ap (λ (p : Paper). finish_of p (map (slot_at sum s) cs)) e
+  known_absent s e = ap (λ (p : Paper). finish_of p (map (slot_now sum s) cs)) e
 
   known_planned : (s : Stands) → IsPlanned cs start s → next_steps sum cs s ≡ Some (back_steps (length cs))
-  known_planned s p = ap (λ (p : Paper). finish_of p (map (slot_at sum s) cs)) p.paper
-      ∙ ap (λ (n : ℕ). Some (back_steps n)) (length-map cs (slot_at sum s))
+  known_planned s p = ap (λ (p : Paper). finish_of p (map (slot_now sum s) cs)) p.paper
+      ∙ ap (λ (n : ℕ). Some (back_steps n)) (length-map cs (slot_now sum s))
 
-  waiting_fits : (s : Stands) (c : Change) → IsWaiting s c → slot_at sum s c ≡ Waiting
+  waiting_fits : (s : Stands) (c : Renewal) → IsWaiting s c → slot_now sum s c ≡ Waiting
   waiting_fits s c (name, beside) = rw (name, beside) (waits (option_map sum c.old) (sum c.new))
 
-  placed_fits : (s : Stands) (c : Change) → IsPlaced s c → slot_at sum s c ≡ Placed
+  placed_fits : (s : Stands) (c : Renewal) → IsPlaced s c → slot_now sum s c ≡ Placed
   placed_fits s c (name, beside) = rw (name, beside) (is_placed (option_map sum c.old) (sum c.new))
 
-  fits : (s : Stands) → IsNoted cs start s → (k : ℕ) (c : Change) → slice_get cs k ≡ Some c
-      → is_foreign (slot_at sum s c) ≡ false
+  fits : (s : Stands) → IsNoted cs start s → (k : ℕ) (c : Renewal) → slice_get cs k ≡ Some c
+      → is_foreign (slot_now sum s c) ≡ false
   fits s p k c at = elim (p.each k c at) [
     | inl waiting ↦ ap is_foreign (waiting_fits s c waiting)
     | inr placed ↦ ap is_foreign (placed_fits s c placed)
@@ -67,9 +68,9 @@ module _ (sum : List ℕ → List ℕ) (cs : List Change) (start : Stands) where
 
   known_noted : (s : Stands) → IsNoted cs start s → next_steps sum cs s ≡ Some (on_steps (length cs))
   known_noted s p =
-      let none : list_any is_foreign (map (slot_at sum s) cs) ≡ false = none_foreign (slot_at sum s) cs (fits s p) in
-      ap (λ (p : Paper). finish_of p (map (slot_at sum s) cs)) p.paper
-      ∙ rw none (ap (λ (n : ℕ). Some (on_steps n)) (length-map cs (slot_at sum s)))
+      let none : list_any is_foreign (map (slot_now sum s) cs) ≡ false = none_foreign (slot_now sum s) cs (fits s p) in
+      ap (λ (p : Paper). finish_of p (map (slot_now sum s) cs)) p.paper
+      ∙ rw none (ap (λ (n : ℕ). Some (on_steps n)) (length-map cs (slot_now sum s)))
 
   module _ (apart : AreApart cs) where
     -- ---- a planned save taken away
@@ -78,7 +79,7 @@ module _ (sum : List ℕ → List ℕ) (cs : List Change) (start : Stands) where
     ready_to_go : Stands → Type 0
     ready_to_go s = IsPlanned cs start s × HoldBeside cs (λ _. None) (length cs) s
 
-    freed : (s : Stands) → HoldBeside cs (λ _. None) (length cs) s → (k : ℕ) (c : Change) → slice_get cs k ≡ Some c
+    freed : (s : Stands) → HoldBeside cs (λ _. None) (length cs) s → (k : ℕ) (c : Renewal) → slice_get cs k ≡ Some c
         → s.file c.beside ≡ None
     freed s h k c at = h k c (slice_get_within cs k c at) at
 
@@ -220,13 +221,14 @@ module _ (sum : List ℕ → List ℕ) (cs : List Change) (start : Stands) where
 
     -- the one that isn't stopped
     abbrev Ended : (Stands → Type 0) → Stands → Type 0
-    Ended P s = (steps : List Step) × (next_steps sum cs s ≡ Some steps)
+    Ended P s = (steps : List Step) × (next_steps sum cs s ≡ Some steps) × ((u : Stands) × DidAll cs steps s u)
         × ((u : Stands) → DidAll cs steps s u → P u × (u.draft ≡ false))
 
     ended_before : (s : Stands) → IsBefore cs start s → Ended (IsAllOld cs start) s
     ended_before s (inl old) = (
       without_steps,
       known_absent s old.paper,
+      can_all cs apart without_steps (without_within (length cs)) s,
       λ u h. (
         did_keeps cs (IsAllOld cs start) without_steps s u ((λ a b q did. draft_keeps_old cs start a b q (inr did)), tt) old h,
         no_draft cs [] s u tt h,
@@ -235,6 +237,7 @@ module _ (sum : List ℕ → List ℕ) (cs : List Change) (start : Stands) where
     ended_before s (inr planned) = (
       back_steps (length cs),
       known_planned s planned,
+      can_all cs apart (back_steps (length cs)) (back_within (length cs)) s,
       λ u h. (
         back_whole s u planned h,
         no_draft cs (unmakes (length cs) ++ Sync ∷ RemovePaper ∷ []) s u (back_draft cs (length cs)) h,
@@ -245,6 +248,7 @@ module _ (sum : List ℕ → List ℕ) (cs : List Change) (start : Stands) where
     ended_behind s (inr new) = (
       without_steps,
       known_absent s new.paper,
+      can_all cs apart without_steps (without_within (length cs)) s,
       λ u h. (
         did_keeps cs (IsAllNew cs start) without_steps s u ((λ a b q did. draft_keeps_new cs start a b q (inr did)), tt) new h,
         no_draft cs [] s u tt h,
@@ -253,16 +257,17 @@ module _ (sum : List ℕ → List ℕ) (cs : List Change) (start : Stands) where
     ended_behind s (inl noted) = (
       on_steps (length cs),
       known_noted s noted,
+      can_all cs apart (on_steps (length cs)) (on_within (length cs)) s,
       λ u h. (
         on_whole s u noted h,
         no_draft cs (place_steps (length cs)) s u (on_draft cs (length cs)) h,
       ),
     )
 
-    pub ends_old : (s : Stands) → IsBefore cs start s → Ends sum cs s (IsAllOld cs start)
+    pub ends_old : (s : Stands) → IsBefore cs start s → NextEnds sum cs s (IsAllOld cs start)
     ends_old s p n t again = ended_before t (again_before n s t p again)
 
-    pub ends_new : (s : Stands) → IsBehind cs start s → Ends sum cs s (IsAllNew cs start)
+    pub ends_new : (s : Stands) → IsBehind cs start s → NextEnds sum cs s (IsAllNew cs start)
     ends_new s p n t again = ended_behind t (again_behind n s t p again)
 
     -- ---- the save itself
@@ -311,7 +316,7 @@ module _ (sum : List ℕ → List ℕ) (cs : List Change) (start : Stands) where
       }
 
       between : (m s : Stands) → IsPlanned cs start m → HoldBeside cs (λ c. Some c.new) (length cs) m
-          → MayLeave cs WriteNote m s → Ends sum cs s (IsAllOld cs start) ⊎ Ends sum cs s (IsAllNew cs start)
+          → MayLeave cs WriteNote m s → NextEnds sum cs s (IsAllOld cs start) ⊎ NextEnds sum cs s (IsAllNew cs start)
       between m s p held (inl (paper, same)) = inl (ends_old s (inr (planned_same cs start m s p paper same)))
       between m s p held (inr did) = inr (ends_new s (inl (noted m s p held did)))
 
@@ -335,5 +340,6 @@ module _ (sum : List ℕ → List ℕ) (cs : List Change) (start : Stands) where
         before = λ s stops. ends_old s (plan_stops s stops);
         between = λ m s all left. let here = plan_whole m all in between m s here.0 here.1 left;
         behind = λ m s all stops. ends_new s (place_stops m s (noted_whole m all) stops);
+        can = can_all cs apart (save_steps (length cs)) (save_within (length cs)) start;
         whole = whole;
       }

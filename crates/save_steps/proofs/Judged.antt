@@ -7,8 +7,8 @@ use Rattle.std.specs.Option.{option_map, option_eq}
 use Rattle.save_steps.specs.declared.slots.Slot.{Slot}
 use Rattle.save_steps.specs.declared.slots.Slot.TheVariants.{Waiting, Placed, Foreign}
 use Rattle.save_steps.specs.Finishing.{is_foreign, same_sum, slot_of}
-use Rattle.save_steps.specs.Folders.{Stands, Change}
-use Rattle.save_steps.specs.Points.{slot_at, IsPlaced}
+use Rattle.save_steps.specs.Folders.{Stands, Renewal}
+use Rattle.save_steps.specs.Points.{slot_now, IsPlaced}
 
 same_bytes : (s : List ℕ) → bytes_eq s s ≡ true
 same_bytes s = search (rules, bytes_eq-Decides)
@@ -28,8 +28,8 @@ unfolding slot_of
 is_placed old new = rw (same_bytes new) refl
 
 -- none is foreign if each isn't
-pub none_foreign : (slot : Change → Slot) (cs : List Change)
-    → ((k : ℕ) (c : Change) → slice_get cs k ≡ Some c → is_foreign (slot c) ≡ false)
+pub none_foreign : (slot : Renewal → Slot) (cs : List Renewal)
+    → ((k : ℕ) (c : Renewal) → slice_get cs k ≡ Some c → is_foreign (slot c) ≡ false)
     → list_any is_foreign (map slot cs) ≡ false
 none_foreign slot [] h = refl
 none_foreign slot (c ∷ cs) h =

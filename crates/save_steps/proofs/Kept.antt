@@ -11,44 +11,44 @@ use Rattle.save_steps.specs.declared.steps.Paper.TheVariants.{Absent, Plan, Note
 use Rattle.save_steps.specs.declared.steps.Step.{Step}
 use Rattle.save_steps.specs.declared.steps.Step.TheVariants.{WritePlan, Make, Sync, WriteNote, Place, Unmake, RemovePaper, RemoveDraft}
 use Rattle.save_steps.specs.Finishing.{finish_of, is_foreign}
-use Rattle.save_steps.specs.Folders.{Files, Stands, Change, AreApart, Same, IsPut, IsRenamed, IsPlacing, Did, DidAll, MayLeave, StopsAt}
-use Rattle.save_steps.specs.Points.{IsNoNew, IsElse, IsReady, IsAllOld, IsPlaced, IsAllNew, slot_at, next_steps, StopsAgain, Ends, IsAllOrNothing}
+use Rattle.save_steps.specs.Folders.{Files, Stands, Renewal, AreApart, Same, IsPut, IsRenamed, IsPlacing, Did, DidAll, MayLeave, StopsAt}
+use Rattle.save_steps.specs.Points.{IsNoNew, IsElse, IsReady, IsAllOld, IsPlaced, IsAllNew, slot_now, next_steps, StopsAgain, NextEnds, IsAllOrNothing}
 use Rattle.save_steps.specs.Steps.{for_each, makes, places, unmakes, plan_steps, place_steps, save_steps, back_steps, on_steps, without_steps}
 use Rattle.save_steps.proofs.Runs.{did_cut, stops_cut, KeepsWhole, Keeps, all_and, all_each, did_keeps, stops_keeps}
 use Rattle.save_steps.proofs.Judged.{waits, is_placed, none_foreign}
 
 -- a plan stands, and each file but the new ones is as it was
-pub record IsPlanned (cs : List Change) (start now : Stands) : Type 0 where
+pub record IsPlanned (cs : List Renewal) (start now : Stands) : Type 0 where
   pub paper : now.paper ≡ Plan
   pub others : (n : List ℕ) → IsNoNew cs n → now.file n ≡ start.file n
 
 -- the file is as it was, and its new file stands beside it
-abbrev pub IsWaiting : Stands → Change → Type 0
+abbrev pub IsWaiting : Stands → Renewal → Type 0
 IsWaiting now c = (now.file c.name ≡ c.old) × (now.file c.beside ≡ Some c.new)
 
 -- a note stands, each file is as it was or new, and each other file is as it was
-pub record IsNoted (cs : List Change) (start now : Stands) : Type 0 where
+pub record IsNoted (cs : List Renewal) (start now : Stands) : Type 0 where
   pub paper : now.paper ≡ Note
-  pub each : (k : ℕ) (c : Change) → slice_get cs k ≡ Some c → IsWaiting now c ⊎ IsPlaced now c
+  pub each : (k : ℕ) (c : Renewal) → slice_get cs k ≡ Some c → IsWaiting now c ⊎ IsPlaced now c
   pub others : (n : List ℕ) → IsElse cs n → now.file n ≡ start.file n
 
 -- before the note, and behind it
-abbrev pub IsBefore : List Change → Stands → Stands → Type 0
+abbrev pub IsBefore : List Renewal → Stands → Stands → Type 0
 IsBefore cs start now = IsAllOld cs start now ⊎ IsPlanned cs start now
 
-abbrev pub IsBehind : List Change → Stands → Stands → Type 0
+abbrev pub IsBehind : List Renewal → Stands → Stands → Type 0
 IsBehind cs start now = IsNoted cs start now ⊎ IsAllNew cs start now
 
 -- the new files of the first n changes hold this
-abbrev pub HoldBeside : List Change → (Change → Option (List ℕ)) → ℕ → Stands → Type 0
+abbrev pub HoldBeside : List Renewal → (Renewal → Option (List ℕ)) → ℕ → Stands → Type 0
 HoldBeside cs found n now =
-    (k : ℕ) (c : Change) → k < n → slice_get cs k ≡ Some c → now.file c.beside ≡ found c
+    (k : ℕ) (c : Renewal) → k < n → slice_get cs k ≡ Some c → now.file c.beside ≡ found c
 
 -- the first n changes are in place
-abbrev pub ArePlaced : List Change → ℕ → Stands → Type 0
-ArePlaced cs n now = (k : ℕ) (c : Change) → k < n → slice_get cs k ≡ Some c → IsPlaced now c
+abbrev pub ArePlaced : List Renewal → ℕ → Stands → Type 0
+ArePlaced cs n now = (k : ℕ) (c : Renewal) → k < n → slice_get cs k ≡ Some c → IsPlaced now c
 
-module _ (cs : List Change) (start : Stands) where
+module _ (cs : List Renewal) (start : Stands) where
   -- ---- where no file changes
 
   pub old_same : (s t : Stands) → IsAllOld cs start s → t.paper ≡ s.paper → Same s.file t.file → IsAllOld cs start t
@@ -80,7 +80,7 @@ module _ (cs : List Change) (start : Stands) where
 
   -- ---- new files come and go while a plan stands
 
-  pub planned_put : (s t : Stands) (found : Option (List ℕ)) (k : ℕ) (c : Change) → IsPlanned cs start s
+  pub planned_put : (s t : Stands) (found : Option (List ℕ)) (k : ℕ) (c : Renewal) → IsPlanned cs start s
       → t.paper ≡ s.paper → slice_get cs k ≡ Some c → IsPut s.file c.beside found t.file → IsPlanned cs start t
   planned_put s t found k c p e at put = record {
     paper = e ∙ p.paper;
@@ -122,12 +122,12 @@ module _ (cs : List Change) (start : Stands) where
 
   module _ (apart : AreApart cs) where
     -- one more new file holds it
-    pub one_more : (found : Change → Option (List ℕ)) (n : ℕ) (s t : Stands) (b : Change) → HoldBeside cs found n s
+    pub one_more : (found : Renewal → Option (List ℕ)) (n : ℕ) (s t : Stands) (b : Renewal) → HoldBeside cs found n s
         → slice_get cs n ≡ Some b → IsPut s.file b.beside (found b) t.file → HoldBeside cs found (suc n) t
     one_more found n s t b h at put k c below here = elim (cases_eq k n) [
       | inl e ↦
           let same : c ≡ b = same_Some c b (sym here ∙ ap (slice_get cs) e ∙ at) in
-          subst (λ (x : Change). t.file x.beside ≡ found x) (sym same) put.here
+          subst (λ (x : Renewal). t.file x.beside ≡ found x) (sym same) put.here
       | inr ne ↦ put.others c.beside (apart.besides k n c b here at ne) ∙ h k c (omega arith) here
     ]
 
@@ -151,7 +151,7 @@ module _ (cs : List Change) (start : Stands) where
 
     -- ---- a new file takes its place
 
-    module _ (s t : Stands) (k : ℕ) (c : Change) (noted : IsNoted cs start s) (at : slice_get cs k ≡ Some c)
+    module _ (s t : Stands) (k : ℕ) (c : Renewal) (noted : IsNoted cs start s) (at : slice_get cs k ≡ Some c)
         (placing : IsPlacing s.file c t.file) where
       -- the new file stands, and is renamed, or it is in place already
       how : (IsWaiting s c × IsRenamed s.file c.beside c.name t.file) ⊎ (IsPlaced s c × Same s.file t.file)
@@ -166,7 +166,7 @@ module _ (cs : List Change) (start : Stands) where
         | inr (placed, same) ↦ (same c.name ∙ placed.0, same c.beside ∙ placed.1)
       ]
 
-      pub place_there : (j : ℕ) (b : Change) → slice_get cs j ≡ Some b → j ≢ k
+      pub place_there : (j : ℕ) (b : Renewal) → slice_get cs j ≡ Some b → j ≢ k
           → (t.file b.name ≡ s.file b.name) × (t.file b.beside ≡ s.file b.beside)
       place_there j b there ne = elim how [
         | inl (waiting, renamed) ↦ (

@@ -1,3 +1,4 @@
+pub mod Can
 pub mod Ending
 pub mod Judged
 pub mod Kept

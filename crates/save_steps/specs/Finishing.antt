@@ -1,5 +1,6 @@
 -- How what stands is judged, and which steps finish it.
-use Rattle.std.specs.Prelude.{ℕ, List, Bool, true, false, Option, Some, None, length, ◌&&◌, ◌||◌, is_none, if◌then◌else◌}
+use Rattle.std.specs.Prelude.{ℕ, List, Bool, true, false, Option, Some, None, length, ◌&&◌, ◌||◌, is_none}
+use Rattle.std.specs.Prelude.{if◌then◌else◌}
 use Rattle.std.specs.List.{list_any}
 use Rattle.std.specs.Option.{option_eq}
 use Rattle.std.specs.Str.{bytes_eq}

@@ -2,7 +2,8 @@
 
 ghost use Rattle.std.specs.Prelude.{◌≡◌, ◌++◌, IfOk, OnOk};
 ghost use Rattle.std.specs.Option.{option_map};
-ghost use Rattle.save_steps.specs.Steps.{places, unmakes, makes, save_steps, place_steps, back_steps, on_steps, without_steps};
+ghost use Rattle.save_steps.specs.Steps.{places, unmakes, makes, save_steps, place_steps, back_steps, on_steps};
+ghost use Rattle.save_steps.specs.Steps.{without_steps};
 ghost use Rattle.save_steps.specs.Finishing.{finish_of};
 
 use crate::slots::{Slot, has_foreign};
