@@ -15,10 +15,14 @@ use file_access::{Files, ReadFault, read_within};
 use file_commands::{
     FILE_LIMIT, Refusal, Status, list_code, list_index, list_table, of_refusal, verify_file,
 };
-use folder_files::{Folder, Nobody};
+use folder_files::{
+    FinishedSave, Folder, Held, Nobody, SavingFolder, UnfinishedSave, Unsaved, finish, note_stands,
+    paper_name, take_folder,
+};
 use run_commands::{Job, Report, run_files};
 use shape_files::ShapeRefusal;
 use std::alloc::Global;
+use std::fs::File;
 use std::process::ExitCode;
 use std::rt::Runtime;
 use std::{env, io};
@@ -123,23 +127,164 @@ fn report<R: Runtime<A = Global>>(rt: &R, name: &str, report: &Report) -> Status
     }
 }
 
-/// Carries out a run, of which only what the operator types is still to be had.
-fn run<R: Runtime<A = Global>>(rt: &R, audience: Audience, job: &Job<'_>) -> Status {
-    let input = match typed(rt) {
-        Ok(input) => input,
-        Err(status) => return status,
+/// Tells on standard error why a save that was cut off isn't finished.
+fn tell_unfinished(rt: &impl Runtime, unfinished: &UnfinishedSave) -> Status {
+    let (_, status) = match unfinished {
+        UnfinishedSave::Foreign => (
+            eprintln!(rt; "refused {} Foreign", paper_name()),
+            Status::Refused,
+        ),
+        UnfinishedSave::Changed { name } => (
+            eprintln!(rt; "refused {name} Changed"),
+            Status::Refused,
+        ),
+        UnfinishedSave::Disk { name } => (eprintln!(rt; "disk {name}"), Status::Disk),
+        UnfinishedSave::PaperDisk => (eprintln!(rt; "disk {}", paper_name()), Status::Disk),
+        UnfinishedSave::Memory => (eprintln!(rt; "memory"), Status::Memory),
     };
-    let job = Job {
+    status
+}
+
+/// Finishes a save that was cut off before; a status where the run ends with that.
+fn finish_before<R: Runtime<A = Global>>(rt: &R) -> Option<Status> {
+    match finish(rt) {
+        Ok(FinishedSave::Before) => None,
+        Ok(FinishedSave::Behind) => {
+            let _ = eprintln!(rt; "the save of an earlier run is finished; nothing was run");
+            Some(Status::Disk)
+        }
+        Err(unfinished) => Some(tell_unfinished(rt, &unfinished)),
+    }
+}
+
+/// Before tables are only read, a save that had come to its note is finished. Where that can't be, it is told on standard
+/// error, and what stands is read.
+fn settle<R: Runtime<A = Global, File = File>>(rt: &R) {
+    if !note_stands(rt) {
+        return;
+    }
+    let held = take_folder(rt);
+    if let Held::Alone(_) = held {
+        if let Err(unfinished) = finish(rt) {
+            let _ = tell_unfinished(rt, &unfinished);
+        }
+    }
+}
+
+/// Tells on standard error why the tables of a run aren't saved.
+fn tell_unsaved<R: Runtime<A = Global>>(
+    rt: &R,
+    audience: Audience,
+    saving: &SavingFolder<'_, R, Progress<'_, R>>,
+    unsaved: Unsaved,
+) -> Status {
+    let (told, status) = match unsaved {
+        Unsaved::Changed { file } => (
+            eprintln!(rt; "refused {} Changed", saving.name_of(file)),
+            Status::Refused,
+        ),
+        Unsaved::Disk { file } | Unsaved::Cut { file } => {
+            (eprintln!(rt; "disk {}", saving.name_of(file)), Status::Disk)
+        }
+        Unsaved::Memory => (eprintln!(rt; "memory"), Status::Memory),
+    };
+    if told.is_ok() && audience == Audience::Person {
+        let _ = match unsaved {
+            Unsaved::Cut { .. } => eprintln!(rt;
+                "the next command finishes this save; do not repeat the run"
+            ),
+            _ => eprintln!(rt; "no file was changed"),
+        };
+    }
+    status
+}
+
+/// Runs the code, and saves the tables all together or not at all. A folder that isn't open is another program's.
+fn run_and_save<R: Runtime<A = Global>>(
+    rt: &R,
+    audience: Audience,
+    job: &Job<'_>,
+    open: bool,
+) -> Status {
+    let mut saving = SavingFolder::new(folder(rt, audience), open);
+    let done = run_files(rt.alloc(), &mut saving, job);
+    if done.result.is_err() {
+        return report(rt, job.name, &done);
+    }
+    match saving.commit() {
+        Ok(()) => report(rt, job.name, &done),
+        Err(unsaved) => {
+            if rt.write_all(done.rows.as_slice()).is_err() {
+                return Status::Disk;
+            }
+            tell_unsaved(rt, audience, &saving, unsaved)
+        }
+    }
+}
+
+/// Tests each instruction of the code while it runs, and saves nothing.
+fn run_tested<R: Runtime<A = Global>>(rt: &R, audience: Audience, job: &Job<'_>) -> Status {
+    let mut folder = folder(rt, audience);
+    let done = run_files(rt.alloc(), &mut folder, job);
+    report(rt, job.name, &done)
+}
+
+/// A job with what the operator typed for it.
+fn with_input<'a>(job: &Job<'a>, input: &'a [u8]) -> Job<'a> {
+    Job {
         name: job.name,
         checked: job.checked,
         budget: job.budget,
         limit: job.limit,
         day: job.day,
-        input: input.as_slice(),
+        input,
+    }
+}
+
+/// Finishes a save that was cut off before, unless another program has the folder; a status where the run ends with
+/// that.
+fn finish_alone<R: Runtime<A = Global, File = File>>(rt: &R) -> Option<Status> {
+    let held = take_folder(rt);
+    match held {
+        Held::Alone(_) => finish_before(rt),
+        Held::Taken => None,
+    }
+}
+
+/// Carries out a run that saves, all of whose input is there. The folder is held for it alone.
+fn run_alone<R: Runtime<A = Global, File = File>>(
+    rt: &R,
+    audience: Audience,
+    job: &Job<'_>,
+) -> Status {
+    let held = take_folder(rt);
+    let open = matches!(held, Held::Alone(_));
+    if open {
+        if let Some(status) = finish_before(rt) {
+            return status;
+        }
+    }
+    run_and_save(rt, audience, job, open)
+}
+
+/// Carries out a run, of which only what the operator types is still to be had. A save that was cut off before is
+/// finished first; where that had counted, nothing is run.
+fn run<R: Runtime<A = Global, File = File>>(rt: &R, audience: Audience, job: &Job<'_>) -> Status {
+    if !job.checked {
+        if let Some(status) = finish_alone(rt) {
+            return status;
+        }
+    }
+    let input = match typed(rt) {
+        Ok(input) => input,
+        Err(status) => return status,
     };
-    let mut folder = folder(rt, audience);
-    let done = run_files(rt.alloc(), &mut folder, &job);
-    report(rt, job.name, &done)
+    let job = with_input(job, input.as_slice());
+    if job.checked {
+        settle(rt);
+        return run_tested(rt, audience, &job);
+    }
+    run_alone(rt, audience, &job)
 }
 
 fn verify<R: Runtime<A = Global>>(rt: &R, audience: Audience, name: &str) -> Status {
@@ -173,17 +318,19 @@ fn code<R: Runtime<A = Global>>(rt: &R, audience: Audience, name: &str) -> Statu
     print_lines(rt, list_code(rt.alloc(), &mut folder, name))
 }
 
-fn list<R: Runtime<A = Global>>(rt: &R, audience: Audience, name: &str) -> Status {
+fn list<R: Runtime<A = Global, File = File>>(rt: &R, audience: Audience, name: &str) -> Status {
+    settle(rt);
     let mut folder = folder(rt, audience);
     print_lines(rt, list_table(rt.alloc(), &mut folder, name))
 }
 
-fn index<R: Runtime<A = Global>>(rt: &R, audience: Audience, name: &str) -> Status {
+fn index<R: Runtime<A = Global, File = File>>(rt: &R, audience: Audience, name: &str) -> Status {
+    settle(rt);
     let mut folder = folder(rt, audience);
     print_lines(rt, list_index(rt.alloc(), &mut folder, name))
 }
 
-fn carry_out<R: Runtime<A = Global>>(
+fn carry_out<R: Runtime<A = Global, File = File>>(
     rt: &R,
     audience: Audience,
     words: Words<'_>,
@@ -200,7 +347,7 @@ fn carry_out<R: Runtime<A = Global>>(
 }
 
 /// Carries out what was parsed.
-fn carry_out_all<R: Runtime<A = Global>>(
+fn carry_out_all<R: Runtime<A = Global, File = File>>(
     rt: &R,
     audience: Audience,
     matches: &ArgMatches<'_>,
@@ -257,7 +404,11 @@ fn refuse_fault(rt: &impl Runtime, command: &mut Command<'_>, fault: WordsFault)
 }
 
 /// Parses the words and carries them out.
-fn answer<R: Runtime<A = Global>>(rt: &R, audience: Audience, arguments: &[String]) -> Status {
+fn answer<R: Runtime<A = Global, File = File>>(
+    rt: &R,
+    audience: Audience,
+    arguments: &[String],
+) -> Status {
     let Ok(mut command) = command(rt.alloc()) else {
         return no_memory(rt);
     };

@@ -37,8 +37,8 @@ impl Listener for Nobody {
 /// bytes on the device before they take the old ones' place, and a failure that is told leaves the old ones.
 #[derive(Drop)]
 pub struct Folder<'a, R, L> {
-    rt: &'a R,
-    listener: L,
+    pub(crate) rt: &'a R,
+    pub(crate) listener: L,
     failures: u64,
 }
 
@@ -73,7 +73,7 @@ impl<'a, R: Disk + Alloc<A = Global>, L: Listener> Folder<'a, R, L> {
     }
 
     /// Counts a failure of the device.
-    fn fail(&mut self) -> ReadFault
+    pub(crate) fn fail(&mut self) -> ReadFault
         ensures fault { result ≡ ReadFault.Device }
         ensures rose { Rose self.old.failures self.new.failures }
         ensures counted { self.old.failures ≤ self.new.failures }

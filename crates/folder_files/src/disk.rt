@@ -1,0 +1,141 @@
+//! Files made, summed and removed, and what stands in the folder brought to the device.
+#![tactic(auto)]
+
+use save_steps::Sum;
+use sha2::{Digest, Sha256};
+use std::fs::{self, Metadata, OpenFile, OpenOptions};
+use std::io::{self, ErrorKind, Read, Write};
+use std::os::unix::fs::{MetadataExt, OpenOptionsExt, chown};
+use std::rt::Files as Disk;
+
+/// Who may read and write a new file before it has the mode of the file that it is to replace: its owner.
+const OWNER_ONLY: u32 = 0o600;
+
+/// The mode of a new file that replaces none, from which the system takes what the user's mask leaves out.
+const FOR_ALL: u32 = 0o666;
+
+/// The most bytes that one read of a sum asks for.
+const CHUNK: usize = 65_536;
+
+/// The most reads of one sum, with as many for interruptions.
+const READS: u32 = 1_000_000;
+
+/// Brings the folder's names to the device.
+pub(crate) fn sync_folder<R: Disk>(rt: &R) -> io::Result<()> {
+    fs::open(rt, ".")?.sync_all()
+}
+
+/// What stands under a name, none where nothing does.
+pub(crate) fn standing<R: Disk>(rt: &R, path: &str) -> io::Result<Option<Metadata>> {
+    match fs::metadata(rt, path) {
+        Ok(data) => Ok(Some(data)),
+        Err(error) => match error.kind() {
+            ErrorKind::NotFound => Ok(None),
+            _ => Err(error),
+        },
+    }
+}
+
+/// Whether a name is free: nothing stands under it, and no link that leads nowhere.
+pub(crate) fn is_free<R: Disk>(rt: &R, path: &str) -> bool {
+    match fs::symlink_metadata(rt, path) {
+        Ok(_) => false,
+        Err(error) => error.kind() == ErrorKind::NotFound,
+    }
+}
+
+/// Removes a file, if there is one.
+pub(crate) fn remove_if_there<R: Disk>(rt: &R, path: &str) -> io::Result<()> {
+    match fs::remove_file(rt, path) {
+        Ok(()) => Ok(()),
+        Err(error) => match error.kind() {
+            ErrorKind::NotFound => Ok(()),
+            _ => Err(error),
+        },
+    }
+}
+
+/// Opens a new file for writing; a file of that name refuses.
+fn make<R: Disk>(rt: &R, path: &str, mode: u32) -> io::Result<R::File> {
+    let mut options = OpenOptions::new();
+    options.write(true);
+    options.create_new(true);
+    options.mode(mode);
+    options.open(rt, path)
+}
+
+/// Gives a new file the owner, the group and the mode of the file that it is to replace. Owner and group stay the
+/// user's where only another user could give them.
+fn take_after<R: Disk>(rt: &R, path: &str, old: &Metadata) -> io::Result<()> {
+    let made = fs::metadata(rt, path)?;
+    if made.uid() != old.uid() || made.gid() != old.gid() {
+        let _ = chown(rt, path, Some(old.uid()), Some(old.gid()));
+    }
+    fs::set_permissions(rt, path, old.permissions())
+}
+
+/// Writes all of a file that was just made, down to the device.
+fn fill<R: Disk>(
+    rt: &R,
+    path: &str,
+    file: &mut R::File,
+    bytes: &[u8],
+    old: Option<&Metadata>,
+) -> io::Result<()> {
+    file.write_all(bytes)?;
+    if let Some(old) = old {
+        take_after(rt, path, old)?;
+    }
+    file.sync_all()
+}
+
+/// Makes a whole new file, down to the device, with the owner and the mode of the file that it is to replace. None is
+/// left where it can't be made whole.
+pub(crate) fn write_new<R: Disk>(
+    rt: &R,
+    path: &str,
+    bytes: &[u8],
+    old: Option<&Metadata>,
+) -> io::Result<()> {
+    let mode = if old.is_some() { OWNER_ONLY } else { FOR_ALL };
+    let mut file = make(rt, path, mode)?;
+    let filled = fill(rt, path, &mut file, bytes, old);
+    if filled.is_err() {
+        let _ = fs::remove_file(rt, path);
+    }
+    filled
+}
+
+/// The sum of all that a reader gives.
+fn sum_of_all<F: Read>(reader: &mut F) -> io::Result<Sum> {
+    let mut hasher = Sha256::new();
+    let mut chunk = [0u8; CHUNK];
+    for _ in 0..READS {
+        let count = match reader.read(&mut chunk) {
+            Ok(count) => count,
+            Err(error) => match error.kind() {
+                ErrorKind::Interrupted => continue,
+                _ => return Err(error),
+            },
+        };
+        if count == 0 {
+            return Ok(hasher.finalize());
+        }
+        hasher.update(&chunk[..count]);
+    }
+    Err(io::Error::from(ErrorKind::FileTooLarge))
+}
+
+/// The sum of the file of a name, none where there is no such file.
+pub(crate) fn sum_of_file<R: Disk>(rt: &R, path: &str) -> io::Result<Option<Sum>> {
+    match fs::open(rt, path) {
+        Ok(file) => {
+            let mut file = file;
+            Ok(Some(sum_of_all(&mut file)?))
+        }
+        Err(error) => match error.kind() {
+            ErrorKind::NotFound => Ok(None),
+            _ => Err(error),
+        },
+    }
+}

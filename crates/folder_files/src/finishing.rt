@@ -1,0 +1,209 @@
+//! A save that was cut off, finished.
+#![tactic(auto)]
+
+use crate::disk::{remove_if_there, sum_of_file, sync_folder};
+use crate::papers::{PAPER, PaperFault, found_paper, remove_draft, remove_paper};
+use save_papers::{PaperEntry, SavePaper};
+use save_steps::{Paper, Slot, Step, first_foreign, slot_of, steps_of_finish};
+use std::alloc::{Alloc, Global};
+use std::rt::Files as Disk;
+use std::{fs, str};
+
+/// What was found of a save that was cut off, and is finished now.
+#[derive(Clone, Copy, PartialEq, Eq, Debug)]
+pub enum FinishedSave {
+    /// None was, or it hadn't come to its note: all files are as they were before it.
+    Before,
+    /// It had come to its note: all files are new.
+    Behind,
+}
+
+/// Why a save that was cut off isn't finished. Nothing was touched, but where the device failed.
+#[derive(Drop)]
+pub enum UnfinishedSave {
+    /// The plan's and note's file is another program's.
+    Foreign,
+    /// Another program has changed a file of this name.
+    Changed { name: String },
+    /// The device failed at a file of this name.
+    Disk { name: String },
+    /// The device failed at the plan or the note.
+    PaperDisk,
+    /// Memory was refused.
+    Memory,
+}
+
+/// The name of the file that tells of a save.
+pub fn paper_name() -> &'static str {
+    PAPER
+}
+
+/// A name that a plan or a note says: one of a file in the folder.
+fn name_in(bytes: &[u8]) -> Option<&str> {
+    let Ok(name) = str::from_utf8(bytes) else {
+        return None;
+    };
+    if name.is_empty() || bytes.iter().any(|byte| *byte == b'/' || *byte == 0) {
+        return None;
+    }
+    Some(name)
+}
+
+/// The failure of the device at a file.
+fn disk_at(alloc: Global, name: &str) -> UnfinishedSave {
+    match String::from_str(alloc, name) {
+        Ok(name) => UnfinishedSave::Disk { name },
+        Err(_) => UnfinishedSave::Memory,
+    }
+}
+
+/// That another program has changed a file.
+fn changed_at(alloc: Global, name: &str) -> UnfinishedSave {
+    match String::from_str(alloc, name) {
+        Ok(name) => UnfinishedSave::Changed { name },
+        Err(_) => UnfinishedSave::Memory,
+    }
+}
+
+/// What stands at a file that a note names.
+fn slot_at<R: Disk + Alloc<A = Global>>(
+    rt: &R,
+    entry: &PaperEntry,
+) -> Result<Slot, UnfinishedSave> {
+    let (Some(name), Some(beside)) = (name_in(&entry.name), name_in(&entry.beside)) else {
+        return Err(UnfinishedSave::Foreign);
+    };
+    let Ok(target) = sum_of_file(rt, name) else {
+        return Err(disk_at(rt.alloc(), name));
+    };
+    let Ok(new) = sum_of_file(rt, beside) else {
+        return Err(disk_at(rt.alloc(), beside));
+    };
+    Ok(slot_of(target, new, entry.old, entry.new))
+}
+
+/// What stands at each file that a plan or a note names. A plan is taken away whatever stands there.
+fn slots_of<R: Disk + Alloc<A = Global>>(
+    rt: &R,
+    paper: &SavePaper,
+) -> Result<Vec<Slot>, UnfinishedSave> {
+    let mut slots = Vec::new(rt.alloc());
+    for entry in &paper.entries {
+        let slot = if paper.noted {
+            slot_at(rt, entry)?
+        } else {
+            Slot::Waiting
+        };
+        if slots.push(slot).is_err() {
+            return Err(UnfinishedSave::Memory);
+        }
+    }
+    Ok(slots)
+}
+
+/// Carries out a step at a file.
+fn at_file<R: Disk + Alloc<A = Global>>(
+    rt: &R,
+    step: Step,
+    entry: &PaperEntry,
+    slot: Slot,
+) -> Result<(), UnfinishedSave> {
+    let (Some(name), Some(beside)) = (name_in(&entry.name), name_in(&entry.beside)) else {
+        return Err(UnfinishedSave::Foreign);
+    };
+    let done = match step {
+        Step::Unmake(_) => remove_if_there(rt, beside),
+        Step::Place(_) => {
+            if slot == Slot::Placed {
+                return Ok(());
+            }
+            fs::rename(rt, beside, name)
+        }
+        _ => return Ok(()),
+    };
+    match done {
+        Ok(()) => Ok(()),
+        Err(_) => Err(disk_at(rt.alloc(), name)),
+    }
+}
+
+/// Carries out a step.
+fn carry_out<R: Disk + Alloc<A = Global>>(
+    rt: &R,
+    step: Step,
+    paper: &SavePaper,
+    slots: &[Slot],
+) -> Result<(), UnfinishedSave> {
+    let done = match step {
+        Step::Unmake(file) | Step::Place(file) => {
+            return match (paper.entries.get(file), slots.get(file)) {
+                (Some(entry), Some(slot)) => at_file(rt, step, entry, *slot),
+                _ => Ok(()),
+            };
+        }
+        Step::Sync => sync_folder(rt),
+        Step::RemoveDraft => remove_draft(rt, rt.alloc()),
+        Step::RemovePaper => remove_paper(rt),
+        _ => return Ok(()),
+    };
+    match done {
+        Ok(()) => Ok(()),
+        Err(_) => Err(UnfinishedSave::PaperDisk),
+    }
+}
+
+/// The failure to finish where another program has changed a file.
+fn foreign_in(alloc: Global, paper: &SavePaper, slots: &[Slot]) -> UnfinishedSave {
+    let Some(file) = first_foreign(slots) else {
+        return UnfinishedSave::Foreign;
+    };
+    let Some(entry) = paper.entries.get(file) else {
+        return UnfinishedSave::Foreign;
+    };
+    match name_in(&entry.name) {
+        Some(name) => changed_at(alloc, name),
+        None => UnfinishedSave::Foreign,
+    }
+}
+
+/// Finishes the save that a plan or a note tells of.
+fn finish_paper<R: Disk + Alloc<A = Global>>(
+    rt: &R,
+    paper: &SavePaper,
+) -> Result<FinishedSave, UnfinishedSave> {
+    let alloc = rt.alloc();
+    let slots = slots_of(rt, paper)?;
+    let sort = if paper.noted {
+        Paper::Note
+    } else {
+        Paper::Plan
+    };
+    let Ok(found) = steps_of_finish(alloc, sort, slots.as_slice()) else {
+        return Err(UnfinishedSave::Memory);
+    };
+    let Some(steps) = found else {
+        return Err(foreign_in(alloc, paper, slots.as_slice()));
+    };
+    for step in &steps {
+        carry_out(rt, *step, paper, slots.as_slice())?;
+    }
+    if paper.noted {
+        return Ok(FinishedSave::Behind);
+    }
+    Ok(FinishedSave::Before)
+}
+
+/// Finishes the save that was cut off in the folder in which the program runs, if one was: takes it away where it
+/// hadn't come to its note, and carries it to its end where it had.
+pub fn finish<R: Disk + Alloc<A = Global>>(rt: &R) -> Result<FinishedSave, UnfinishedSave> {
+    match found_paper(rt, rt.alloc()) {
+        Ok(Some(paper)) => finish_paper(rt, &paper),
+        Ok(None) => match remove_draft(rt, rt.alloc()) {
+            Ok(()) => Ok(FinishedSave::Before),
+            Err(_) => Err(UnfinishedSave::PaperDisk),
+        },
+        Err(PaperFault::Foreign) => Err(UnfinishedSave::Foreign),
+        Err(PaperFault::Disk) => Err(UnfinishedSave::PaperDisk),
+        Err(PaperFault::Memory) => Err(UnfinishedSave::Memory),
+    }
+}

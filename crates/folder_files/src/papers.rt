@@ -1,0 +1,123 @@
+//! The plan and the note of a save, in their file in the folder.
+#![tactic(auto)]
+
+use crate::disk::{remove_if_there, sync_folder, write_new};
+use file_access::{ReadFault, read_within};
+use save_papers::{PaperError, SavePaper, may_begin_paper, read, write};
+use std::alloc::{Alloc, Global};
+use std::fs;
+use std::io::{self, ErrorKind};
+use std::rt::Files as Disk;
+
+/// The file that tells of a save, a plan first and then a note.
+pub const PAPER: &str = "dbrun.save";
+
+/// The file as which a plan or a note is written, before it takes its place.
+const DRAFT: &str = "dbrun.save.new";
+
+/// The most bytes of a plan or a note: 1 MiB.
+const LIMIT: usize = 1_048_576;
+
+/// How the writing of a plan or a note ended.
+#[derive(Clone, Copy, PartialEq, Eq, Debug)]
+pub(crate) enum Written {
+    /// It stands.
+    Done,
+    /// It doesn't.
+    Refused,
+    /// It took its place, and the device failed then.
+    Unsure,
+    /// Memory was refused.
+    Memory,
+}
+
+/// Writes a plan or a note as a draft, down to the device, and puts it in its place.
+pub(crate) fn put_paper<R: Disk>(rt: &R, alloc: Global, paper: &SavePaper) -> Written {
+    let Ok(text) = write(alloc, paper) else {
+        return Written::Memory;
+    };
+    if write_new(rt, DRAFT, text.as_slice(), None).is_err() {
+        return Written::Refused;
+    }
+    if fs::rename(rt, DRAFT, PAPER).is_err() {
+        let _ = fs::remove_file(rt, DRAFT);
+        return Written::Refused;
+    }
+    if sync_folder(rt).is_err() {
+        return Written::Unsure;
+    }
+    Written::Done
+}
+
+/// Why a plan or a note that stands isn't read.
+#[derive(Clone, Copy, PartialEq, Eq, Debug)]
+pub(crate) enum PaperFault {
+    /// Its file is another program's.
+    Foreign,
+    /// The device failed.
+    Disk,
+    /// Memory was refused.
+    Memory,
+}
+
+/// The plan or the note that stands, if one does.
+pub(crate) fn found_paper<R: Disk>(rt: &R, alloc: Global) -> Result<Option<SavePaper>, PaperFault> {
+    let mut file = match fs::open(rt, PAPER) {
+        Ok(file) => file,
+        Err(error) => {
+            return match error.kind() {
+                ErrorKind::NotFound => Ok(None),
+                _ => Err(PaperFault::Disk),
+            };
+        }
+    };
+    let bytes = match read_within(alloc, &mut file, LIMIT) {
+        Ok(bytes) => bytes,
+        Err(ReadFault::TooLong) => return Err(PaperFault::Foreign),
+        Err(ReadFault::Memory) => return Err(PaperFault::Memory),
+        Err(_) => return Err(PaperFault::Disk),
+    };
+    match read(alloc, bytes.as_slice()) {
+        Ok(paper) => Ok(Some(paper)),
+        Err(PaperError::Foreign) => Err(PaperFault::Foreign),
+        Err(PaperError::Memory) => Err(PaperFault::Memory),
+    }
+}
+
+/// Whether a note stands: a save counts and isn't at its end.
+pub fn note_stands<R: Disk + Alloc<A = Global>>(rt: &R) -> bool {
+    match found_paper(rt, rt.alloc()) {
+        Ok(Some(paper)) => paper.noted,
+        _ => false,
+    }
+}
+
+/// Removes the plan or the note.
+pub(crate) fn remove_paper<R: Disk>(rt: &R) -> io::Result<()> {
+    remove_if_there(rt, PAPER)
+}
+
+/// What stands of a draft, if one does.
+fn found_draft<R: Disk>(rt: &R, alloc: Global) -> io::Result<Option<bool>> {
+    let mut file = match fs::open(rt, DRAFT) {
+        Ok(file) => file,
+        Err(error) => {
+            return match error.kind() {
+                ErrorKind::NotFound => Ok(None),
+                _ => Err(error),
+            };
+        }
+    };
+    match read_within(alloc, &mut file, LIMIT) {
+        Ok(bytes) => Ok(Some(may_begin_paper(bytes.as_slice()))),
+        Err(_) => Ok(Some(false)),
+    }
+}
+
+/// Removes a draft, if there is one; another program's file of that name stays.
+pub(crate) fn remove_draft<R: Disk>(rt: &R, alloc: Global) -> io::Result<()> {
+    match found_draft(rt, alloc)? {
+        Some(true) => remove_if_there(rt, DRAFT),
+        _ => Ok(()),
+    }
+}

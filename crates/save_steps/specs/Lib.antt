@@ -1,0 +1,4 @@
+pub mod Steps
+pub mod Finishing
+pub mod Folders
+pub mod Points

@@ -1,0 +1,43 @@
+-- The steps of a save in their order.
+use Rattle.std.specs.Prelude.{ℕ, zero, suc, List, [], ◌∷◌, ◌++◌}
+use Rattle.save_steps.specs.declared.steps.Step.{Step}
+use Rattle.save_steps.specs.declared.steps.Step.TheVariants.{WritePlan, Make, Sync, WriteNote, Place, Unmake}
+use Rattle.save_steps.specs.declared.steps.Step.TheVariants.{RemovePaper, RemoveDraft}
+
+-- a step for each of the first n files, in their order
+abbrev pub for_each : (ℕ → Step) → ℕ → List Step
+for_each step zero = []
+for_each step (suc n) = for_each step n ++ step n ∷ []
+
+abbrev pub makes : ℕ → List Step
+makes n = for_each Make n
+
+abbrev pub places : ℕ → List Step
+places n = for_each Place n
+
+abbrev pub unmakes : ℕ → List Step
+unmakes n = for_each Unmake n
+
+-- to the note: the plan, and the new files
+abbrev pub plan_steps : ℕ → List Step
+plan_steps n = WritePlan ∷ makes n ++ Sync ∷ []
+
+-- behind the note: each new file in its file's place, and the note removed
+abbrev pub place_steps : ℕ → List Step
+place_steps n = places n ++ Sync ∷ RemovePaper ∷ []
+
+-- a whole save of n files
+abbrev pub save_steps : ℕ → List Step
+save_steps n = plan_steps n ++ WriteNote ∷ place_steps n
+
+-- a planned save taken away
+abbrev pub back_steps : ℕ → List Step
+back_steps n = RemoveDraft ∷ unmakes n ++ Sync ∷ RemovePaper ∷ []
+
+-- a noted save carried to its end
+abbrev pub on_steps : ℕ → List Step
+on_steps n = RemoveDraft ∷ place_steps n
+
+-- where no paper tells of a save
+abbrev pub without_steps : List Step
+without_steps = RemoveDraft ∷ []
