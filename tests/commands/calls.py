@@ -160,11 +160,11 @@ class Calls(Commands):
     def shared(self, parameters):
         """Where two parameters are one variable, one is set, and both are shown."""
         cells = self.frame.names
-        for one in parameters:
-            for other in parameters:
-                if one < other and cells[one] == cells[other]:
-                    return [self.set_to(one, self.of_kind(KIND_OF[one])), ("show", True, [("alias", "M", one), ("alias", "M", other)])]
-        return []
+        pairs = [(one, other) for one in parameters for other in parameters if one < other and cells[one] == cells[other]]
+        if not pairs:
+            return []
+        names = pairs[0]
+        return [self.set_to(names[0], self.of_kind(KIND_OF[names[0]])), ("show", True, [("alias", "M", it) for it in names])]
 
     def body(self, count, depth):
         """Commands at the top of a body."""
