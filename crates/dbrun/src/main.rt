@@ -8,9 +8,10 @@ mod shown;
 mod words;
 
 use crate::shown::{Audience, Place, Progress, faulty_place, line_at};
-use crate::words::{Words, WordsFault, command, sources_of, words_of};
+use crate::words::{Listing, Words, WordsFault, command, sources_of, words_of};
 use clap::error::ErrorKind;
 use clap::{ArgMatches, Command};
+use code_pages::{CodePage, in_utf8};
 use compile_commands::{CompileFilesRefusal, CompileTold, CompileWords, compile_files};
 use file_access::{Files, ReadFault, read_within};
 use file_commands::{
@@ -23,6 +24,7 @@ use std::alloc::Global;
 use std::process::ExitCode;
 use std::rt::Runtime;
 use std::{env, io};
+use table_csv::list_csv;
 
 /// The most bytes that an operator may type for a run: 1 MiB.
 const INPUT_LIMIT: usize = 1_048_576;
@@ -174,9 +176,29 @@ fn code<R: Runtime<A = Global>>(rt: &R, audience: Audience, name: &str) -> Statu
     print_lines(rt, list_code(rt.alloc(), &mut folder, name))
 }
 
-fn list<R: Runtime<A = Global>>(rt: &R, audience: Audience, name: &str) -> Status {
+/// Lines in UTF-8, where the words say what their bytes stand for.
+fn shown_lines<'a>(
+    alloc: Global,
+    page: Option<CodePage>,
+    listed: Result<Vec<u8>, Refusal<'a>>,
+) -> Result<Vec<u8>, Refusal<'a>> {
+    let (Some(page), Ok(lines)) = (page, &listed) else {
+        return listed;
+    };
+    match in_utf8(alloc, page, lines.as_slice()) {
+        Ok(shown) => Ok(shown.into_bytes()),
+        Err(_) => Err(Refusal::Memory),
+    }
+}
+
+fn list<R: Runtime<A = Global>>(rt: &R, audience: Audience, listing: Listing<'_>) -> Status {
     let mut folder = folder(rt, audience);
-    print_lines(rt, list_table(rt.alloc(), &mut folder, name))
+    let listed = if listing.csv {
+        list_csv(rt.alloc(), &mut folder, listing.name)
+    } else {
+        list_table(rt.alloc(), &mut folder, listing.name)
+    };
+    print_lines(rt, shown_lines(rt.alloc(), listing.page, listed))
 }
 
 fn index<R: Runtime<A = Global>>(rt: &R, audience: Audience, name: &str) -> Status {
@@ -195,7 +217,7 @@ fn carry_out<R: Runtime<A = Global>>(
         Words::Run(job) => Ok(run(rt, audience, &job)),
         Words::Verify { name } => Ok(verify(rt, audience, name)),
         Words::Code { name } => Ok(code(rt, audience, name)),
-        Words::List { name } => Ok(list(rt, audience, name)),
+        Words::List(listing) => Ok(list(rt, audience, listing)),
         Words::Index { name } => Ok(index(rt, audience, name)),
     }
 }
@@ -245,6 +267,7 @@ fn refuse_words(rt: &impl Runtime, error: &clap::Error) -> Status {
 fn message(fault: WordsFault) -> &'static str {
     match fault {
         WordsFault::Today => "the day of --today is YYYY-MM-DD, in the years 1900 to 2155",
+        WordsFault::Page => "the code page of --from is cp437 or cp850",
         WordsFault::Limit => "the number of --limit is one of 1 to 1000000",
         WordsFault::Missing => "a word is missing",
     }
