@@ -1,4 +1,5 @@
-//! `dbrun`: compiles command files, verifies, runs and lists code files, lists tables and indexes.
+//! `dbrun`: compiles command files, verifies, runs and lists code files, lists tables and indexes, and declares those of a
+//! folder.
 //!
 //! What a command does with files stands in functions over the trait `Files`; here the words of the command line are
 //! carried out, and what they give is printed.
@@ -18,9 +19,10 @@ use file_commands::{
     FILE_LIMIT, Refusal, Status, list_code, list_index, list_table, of_refusal, verify_file,
 };
 use folder_files::{Folder, Nobody};
+use folder_shapes::{LineTold, declare};
 use run_commands::{Job, Report, run_files};
 use shape_files::ShapeRefusal;
-use std::alloc::Global;
+use std::alloc::{AllocError, Global};
 use std::process::ExitCode;
 use std::rt::Runtime;
 use std::{env, io};
@@ -28,6 +30,9 @@ use table_csv::list_csv;
 
 /// The most bytes that an operator may type for a run: 1 MiB.
 const INPUT_LIMIT: usize = 1_048_576;
+
+/// The most bytes of all names of a folder: 64 MiB.
+const NAMES_LIMIT: usize = 67_108_864;
 
 /// Tells on standard error why a command isn't carried out.
 fn refuse(rt: &impl Runtime, refusal: Refusal<'_>) -> Status {
@@ -206,6 +211,63 @@ fn index<R: Runtime<A = Global>>(rt: &R, audience: Audience, name: &str) -> Stat
     print_lines(rt, list_index(rt.alloc(), &mut folder, name))
 }
 
+/// The names in the current folder, each ended by a zero byte.
+fn folder_names<R: Runtime<A = Global>>(rt: &R) -> Result<Vec<u8>, Refusal<'static>> {
+    let Ok(mut names) = rt.open_dir(".") else {
+        return Err(Refusal::Disk { name: "." });
+    };
+    match read_within(rt.alloc(), &mut names, NAMES_LIMIT) {
+        Ok(names) => Ok(names),
+        Err(ReadFault::Memory) => Err(Refusal::Memory),
+        Err(_) => Err(Refusal::Disk { name: "." }),
+    }
+}
+
+/// The names one by one, in the order of their bytes.
+fn in_order(alloc: Global, names: &[u8]) -> Result<Vec<&[u8]>, AllocError> {
+    let mut sorted = Vec::new(alloc);
+    for name in names.split(|byte| *byte == 0) {
+        sorted.push(name)?;
+    }
+    sorted.sort()?;
+    Ok(sorted)
+}
+
+/// Prints the declaration file of the files of these names.
+fn print_declared<R: Runtime<A = Global>>(
+    rt: &R,
+    audience: Audience,
+    names: &[&[u8]],
+) -> Result<Status, AllocError> {
+    let mut folder = folder(rt, audience);
+    let declared = declare(rt.alloc(), &mut folder, names)?;
+    for line in declared.lines.as_slice() {
+        let told = LineTold {
+            declared: &declared,
+            names,
+            line: *line,
+        };
+        if println!(rt; "{told}").is_err() {
+            return Ok(Status::Disk);
+        }
+    }
+    Ok(Status::Done)
+}
+
+fn declare_folder<R: Runtime<A = Global>>(rt: &R, audience: Audience) -> Status {
+    let bytes = match folder_names(rt) {
+        Ok(bytes) => bytes,
+        Err(refusal) => return refuse(rt, refusal),
+    };
+    let Ok(names) = in_order(rt.alloc(), bytes.as_slice()) else {
+        return no_memory(rt);
+    };
+    match print_declared(rt, audience, names.as_slice()) {
+        Ok(status) => status,
+        Err(_) => no_memory(rt),
+    }
+}
+
 fn carry_out<R: Runtime<A = Global>>(
     rt: &R,
     audience: Audience,
@@ -219,6 +281,7 @@ fn carry_out<R: Runtime<A = Global>>(
         Words::Code { name } => Ok(code(rt, audience, name)),
         Words::List(listing) => Ok(list(rt, audience, listing)),
         Words::Index { name } => Ok(index(rt, audience, name)),
+        Words::Declare => Ok(declare_folder(rt, audience)),
     }
 }
 

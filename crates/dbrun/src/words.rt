@@ -51,6 +51,8 @@ pub enum Words<'a> {
     List(Listing<'a>),
     /// List an index file.
     Index { name: &'a str },
+    /// Print the declaration file of the folder.
+    Declare,
 }
 
 /// The version of all that stands in this repository.
@@ -201,7 +203,14 @@ fn with_readers<'a>(alloc: Global, command: Command<'a>) -> Result<Command<'a>, 
             "Lists an index file",
             "INDEX",
             "Example: dbrun index ORDKEY.NDX",
-        )?)
+        )?)?
+        .subcommand(declarer(alloc))
+}
+
+fn declarer<'a>(alloc: Global) -> Command<'a> {
+    Command::new(alloc, "declare")
+        .about("Prints a declaration file of the tables and indexes in the current folder")
+        .after_help("Example: dbrun declare > FIRM.DCL")
 }
 
 /// The commands that `dbrun` knows.
@@ -290,6 +299,7 @@ pub fn words_of<'a>(matches: &ArgMatches<'a>) -> Result<Words<'a>, WordsFault> {
         "index" => Ok(Words::Index {
             name: word_of(matches, FILE)?,
         }),
+        "declare" => Ok(Words::Declare),
         _ => Err(WordsFault::Missing),
     }
 }
