@@ -1,9 +1,10 @@
 //! What is declared of a folder's files.
 
+use crate::found::FoundTable;
 use crate::keys::plain_text;
 use crate::names::{Sort, capitals, has_small, sort_of, stem};
 use crate::note::Note;
-use crate::owners::{FoundTable, Owner, key_of_table, owner_of};
+use crate::owners::{Owner, key_of_table, owner_of};
 use crate::reading::{Unfit, read_index, read_table};
 use dbf_file::Field;
 use file_access::Files;

@@ -5,6 +5,7 @@
 #![tactic(auto)]
 
 mod declared;
+mod found;
 mod keys;
 mod names;
 mod note;

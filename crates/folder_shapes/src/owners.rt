@@ -2,8 +2,10 @@
 
 ghost use Rattle.std.specs.Prelude.{◌≡◌, ◌≤◌, length, IfOk};
 ghost use Rattle.std.specs.Option.{is_some};
+ghost use Rattle.folder_shapes.specs.Keys.{made_of, plain_text};
 ghost use Rattle.folder_shapes.specs.Owners as spec;
 
+use crate::found::FoundTable;
 use crate::keys::made_of;
 use dbf_file::Table;
 use key_lists::KeyList;
@@ -12,13 +14,6 @@ use row_keys::exact::lists_rows;
 use shape::KeyParts;
 use shape::laws::fitting_keys_are_keys;
 use std::alloc::{AllocError, Global};
-
-/// A table of a folder.
-#[derive(Drop)]
-pub struct FoundTable {
-    pub table: Table,
-    ghost few: { length table.rows ≤ 1000000 },
-}
 
 /// To which of several tables an index belongs.
 #[derive(Clone, Copy, PartialEq, Eq, Debug)]
@@ -38,7 +33,7 @@ pub fn key_of_table(
     plain: &[u8],
     key_length: usize,
 ) -> Result<Option<KeyParts>, AllocError>
-    ensures { IfOk result (λ key. key ≡ made table.now.structure.fields key_length plain.now) }
+    ensures { IfOk result (λ key. key ≡ made_of table.now.structure.fields key_length plain.now) }
 {
     made_of(alloc, table.structure().fields(), plain, key_length)
 }
@@ -61,7 +56,12 @@ fn lists(
     found: &FoundTable,
     plain: &[u8],
     tree: &mut NdxTree,
-) -> Result<bool, AllocError> {
+) -> Result<bool, AllocError>
+    ensures answer { IfOk result (λ answer. answer
+        ≡ spec.lists tree.old.form.key_length plain.now tree.old.pairs found.now) }
+    ensures pairs { tree.new.pairs ≡ tree.old.pairs }
+    ensures form { tree.new.form ≡ tree.old.form }
+{
     fitting_keys_are_keys();
     let key_length = tree.key_length();
     match key_of_table(alloc, &found.table, plain, key_length)? {
@@ -76,7 +76,9 @@ fn makers(
     tables: &[FoundTable],
     plain: &[u8],
     key_length: usize,
-) -> Result<Vec<usize>, AllocError> {
+) -> Result<Vec<usize>, AllocError>
+    ensures { IfOk result (λ numbers. numbers.items ≡ spec.numbers_of (spec.makes key_length plain.now) 0 tables.now) }
+{
     let mut numbers = Vec::new(alloc);
     for (t, found) in tables.iter().enumerate() {
         if makes(alloc, found, plain, key_length)? {
@@ -92,7 +94,12 @@ fn listed(
     tables: &[FoundTable],
     plain: &[u8],
     tree: &mut NdxTree,
-) -> Result<Vec<usize>, AllocError> {
+) -> Result<Vec<usize>, AllocError>
+    ensures numbers { IfOk result (λ numbers. numbers.items
+        ≡ spec.numbers_of (spec.lists tree.old.form.key_length plain.now tree.old.pairs) 0 tables.now) }
+    ensures pairs { tree.new.pairs ≡ tree.old.pairs }
+    ensures form { tree.new.form ≡ tree.old.form }
+{
     let mut numbers = Vec::new(alloc);
     for (t, found) in tables.iter().enumerate() {
         if lists(alloc, found, plain, tree)? {
@@ -114,13 +121,20 @@ fn owner_among(makers: &[usize], listed: &[usize]) -> Owner
     }
 }
 
-/// The table to which an index belongs, and whether it lists the table's rows.
+/// The table to which an index belongs, and the numbers of those whose rows it lists. `plain` is the plain text of its
+/// key. The list stays as it is.
 pub fn owner_of(
     alloc: Global,
     tables: &[FoundTable],
     plain: &[u8],
     tree: &mut NdxTree,
-) -> Result<(Owner, Vec<usize>), AllocError> {
+) -> Result<(Owner, Vec<usize>), AllocError>
+    requires { plain.now ≡ plain_text tree.old.form.key_text }
+    ensures owner { IfOk result (λ x. x.0 ≡ spec.owner_of tables.now tree.old.form tree.old.pairs) }
+    ensures listed { IfOk result (λ x. x.1.items ≡ spec.listed tables.now tree.old.form tree.old.pairs) }
+    ensures pairs { tree.new.pairs ≡ tree.old.pairs }
+    ensures form { tree.new.form ≡ tree.old.form }
+{
     let makers = makers(alloc, tables, plain, tree.key_length())?;
     let listed = listed(alloc, tables, plain, tree)?;
     Ok((owner_among(makers.as_slice(), listed.as_slice()), listed))

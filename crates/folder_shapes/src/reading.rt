@@ -1,7 +1,7 @@
 //! Files of tables and indexes read.
 
+use crate::found::FoundTable;
 use crate::note::Note;
-use crate::owners::FoundTable;
 use dbf_file::DbfFault;
 use file_access::{Files, ReadFault};
 use ndx_tree::{NdxTree, TreeFault};

@@ -1,5 +1,5 @@
 -- A table as lines of cells. The byte 32 is a blank, 42 an asterisk, 45 a hyphen.
-use Rattle.std.specs.Prelude.{ℕ, ◌-◌, ◌==◌, Bool, true, false, List, [], ◌∷◌, ◌++◌, length, map, take, drop, codes}
+use Rattle.std.specs.Prelude.{ℕ, ◌-◌, ◌==◌, Bool, List, [], ◌∷◌, ◌++◌, length, map, take, drop, codes}
 use Rattle.std.specs.Prelude.{Option, Some, None, if◌then◌else◌}
 use Rattle.std.specs.List.{flat_map, list_any, prefix_len, suffix_len}
 use Rattle.calendar.specs.declared.day.DayParts.{DayParts}

@@ -1,4 +1,4 @@
-use Rattle.std.proofs.Common.{◌≡◌, ◌++◌, ◌∷◌, [], take, map}
+use Rattle.std.proofs.Common.{◌≡◌, ◌∷◌, [], take, map}
 use Rattle.std.specs.Prelude.{codes}
 use Rattle.csv.specs.Records.{fields_of, partial_of}
 use Rattle.table_csv.proofs.cells.names_line.Given as goal

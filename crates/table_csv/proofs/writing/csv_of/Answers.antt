@@ -1,4 +1,4 @@
-use Rattle.std.proofs.Common.{ℕ, ◌≡◌, ◌<◌, ◌≤◌, [], List, length, take, subst, sym, ap, ◌∙◌, rules, arith}
+use Rattle.std.proofs.Common.{◌≡◌, ◌<◌, [], length, take, subst, ap, ◌∙◌, rules}
 use Rattle.std.proofs.Math.Seq.{take-length}
 use Rattle.dbf_file.specs.Rows.{no_row}
 use Rattle.table_csv.specs.Cells.{lines_of, lines_text, names_line, row_line}
