@@ -1,3 +1,5 @@
 pub mod FieldLemmas
+pub mod FolderLemmas
 pub mod KeyLemmas
+pub mod OwnerLemmas
 pub mod PairLemmas

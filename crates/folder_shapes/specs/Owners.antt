@@ -1,5 +1,6 @@
 -- The table to which an index belongs.
-use Rattle.std.specs.Prelude.{ℕ, ◌+◌, ◌==◌, ◌&&◌, Bool, true, false, List, [], ◌∷◌, Option, Some, None, if◌then◌else◌}
+use Rattle.std.specs.Prelude.{◌≡◌, ℕ, ◌+◌, ◌==◌, ◌&&◌, Bool, true, false, List, [], ◌∷◌, Option, Some, None, slice_get}
+use Rattle.std.specs.Prelude.{if◌then◌else◌}
 use Rattle.std.specs.Option.{is_some}
 use Rattle.std.specs.Cmp.Lexicographic.{pointwise}
 use Rattle.std.specs.Str.{bytes_eq}
@@ -58,3 +59,13 @@ listed tables form pairs = numbers_of (lists form.key_length (plain_text form.ke
 
 abbrev pub owner_of : List FoundTable → KeyForm → List Pair → Owner
 owner_of tables form pairs = owner_among (makers tables form) (listed tables form pairs)
+
+-- the table of that number is one whose fields make the key
+abbrev pub IsMaker : List FoundTable → ℕ → List ℕ → ℕ → Type 0
+IsMaker tables key_length plain n =
+    (t : FoundTable) × (slice_get tables n ≡ Some t) × (makes key_length plain t ≡ true)
+
+-- the key that they make
+abbrev pub HasKey : List FoundTable → ℕ → List ℕ → ℕ → List KeyPart → Type 0
+HasKey tables key_length plain n key =
+    (t : FoundTable) × (slice_get tables n ≡ Some t) × (made_by key_length plain t ≡ Some key)

@@ -5,14 +5,22 @@
 #![tactic(auto)]
 
 mod declared;
+mod folder;
 mod found;
+mod indexes;
 mod keys;
+mod line;
 mod names;
 mod note;
 mod owners;
 mod reading;
+mod tables;
 mod told;
+mod unfit;
 
-pub use declared::{Declared, Line, declare};
+pub use declared::Declared;
+pub use folder::declare;
+pub use found::FoundTable;
+pub use line::Line;
 pub use note::Note;
 pub use told::LineTold;

@@ -1,6 +1,6 @@
 //! Names of files.
 
-ghost use Rattle.std.specs.Prelude.{◌≡◌, map, length, ◌≤◌, IfSome, IsNone};
+ghost use Rattle.std.specs.Prelude.{◌≡◌, ◌<◌, map, length, MatchOption};
 ghost use Rattle.std.specs.Char.{to_ascii_uppercase};
 ghost use Rattle.folder_shapes.specs.Names as spec;
 
@@ -52,7 +52,8 @@ pub fn has_small(name: &[u8]) -> bool
 
 /// A name in capitals, if it has at most ten letters.
 pub fn capitals(name: &[u8]) -> Option<Name>
-    ensures { IfSome result (λ capitals. capitals.items ≡ map to_ascii_uppercase name.now) }
+    ensures { MatchOption result (10 < length name.now) (λ capitals. capitals.items
+        ≡ map to_ascii_uppercase name.now) }
 {
     if MOST_LETTERS < name.len() {
         return None;

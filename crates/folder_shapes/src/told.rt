@@ -1,6 +1,7 @@
 //! A line of a declaration file.
 
-use crate::declared::{Declared, Line};
+use crate::declared::Declared;
+use crate::line::Line;
 use crate::note::Note;
 use std::fmt::{self, Display, Formatter, Write};
 

@@ -1,0 +1,6 @@
+-- What is declared, as it is told.
+use Rattle.folder_shapes.specs.declared.declared.Declared.{Declared}
+use Rattle.folder_shapes.specs.Told.{State}
+
+abbrev pub state_of : Declared → State
+state_of d = record { tables = d.tables.items; found = d.found.items; indexes = d.indexes.items; lines = d.lines.items }
