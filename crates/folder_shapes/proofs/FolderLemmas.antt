@@ -1,5 +1,6 @@
 -- Steps over files that stay the same.
-use Rattle.std.proofs.Common.{◌≡◌, ◌<◌, ◌≤◌, ◌⊎◌, ℕ, ◌+◌, List, [], ◌∷◌, ◌++◌, Some, None, length, length-append, inl, inr, refl, sym, ap, subst, ◌∙◌, arith}
+use Rattle.std.proofs.Common.{◌<◌, ◌≤◌, ℕ, ◌+◌, List, [], ◌∷◌, Some, None, length, length-append, inl, inr, sym, subst, map, drop, get_or, arith, Bor}
+use Rattle.std.proofs.lemmas.List.{drop_more}
 use Rattle.file_access.specs.Holding.{Holds, SameFiles}
 use Rattle.folder_shapes.specs.declared.names.Sort.{Sort}
 use Rattle.folder_shapes.specs.declared.names.Sort.TheVariants as sort
@@ -7,8 +8,9 @@ use Rattle.folder_shapes.specs.declared.note.Note.{Note}
 use Rattle.folder_shapes.specs.declared.note.Note.TheVariants as note
 use Rattle.folder_shapes.specs.declared.unfit.Unfit.{Unfit}
 use Rattle.folder_shapes.specs.declared.unfit.Unfit.TheVariants.{Noted, Memory}
-use Rattle.folder_shapes.specs.Reading.{AreRead, IsTooLong, NotRead, NoTableFile, NoFileOfIndex, UnfitIs}
-use Rattle.folder_shapes.specs.Told.{State, HasTable, HasIndex, WhyNoTable, WhyNoIndex, TakesTable, TakesIndex, TableStep, IndexStep}
+use Rattle.folder_shapes.specs.Names.{sort_of}
+use Rattle.folder_shapes.specs.Reading.{AreRead, NotRead, NoTableFile, NoFileOfIndex, UnfitIs}
+use Rattle.folder_shapes.specs.Told.{State, WhyNoTable, WhyNoIndex, TakesTable, TakesIndex, TableStep, IndexStep, TakeTables, TakeIndexes}
 
 pub unfit_map : (P Q : Note → Type 0) (u : Unfit) → ((n : Note) → P n → Q n) → UnfitIs P u → UnfitIs Q u
 unfit_map P Q (Noted n) f h = f n h
@@ -97,3 +99,22 @@ pub few_kept : (k : Sort) (a : Holds) (n : ℕ) (name : List ℕ) (x y : State) 
 few_kept sort.Table a n name x y few h = subst (λ (s : State). length s.found ≤ 32) (sym h) few
 few_kept sort.Index a n name x y few h = index_kept a n name x y few h
 few_kept sort.Other a n name x y few h = subst (λ (s : State). length s.found ≤ 32) (sym h) few
+
+-- ---- loops over the names
+
+abbrev pub texts : List (Bor (List ℕ)) → List (List ℕ)
+texts names = map (λ name. name.now) names
+
+pub goes_tables : (a b : Holds) (names : List (Bor (List ℕ))) (i : ℕ) (d : Bor (List ℕ)) (x y : State) (P : State → Type 0) → SameFiles a b → i < length names
+    → TableStep (sort_of (get_or names i d).now) b i (get_or names i d).now x y → ((after : State) → TakeTables a i (texts (drop i names)) x after → P after)
+    → (after : State) → TakeTables a (i + 1) (texts (drop (i + 1) names)) y after → P after
+goes_tables a b names i d x y P same below step goes after h =
+    let name = (get_or names i d).now in
+    goes after (subst (λ (ns : List (Bor (List ℕ))). TakeTables a i (texts ns) x after) (sym (drop_more names i d below)) (y, table_step_same (sort_of name) a b i name x y same step, h))
+
+pub goes_indexes : (a b : Holds) (names : List (Bor (List ℕ))) (i : ℕ) (d : Bor (List ℕ)) (x y : State) (P : State → Type 0) → SameFiles a b → i < length names
+    → IndexStep (sort_of (get_or names i d).now) b i (get_or names i d).now x y → ((after : State) → TakeIndexes a i (texts (drop i names)) x after → P after)
+    → (after : State) → TakeIndexes a (i + 1) (texts (drop (i + 1) names)) y after → P after
+goes_indexes a b names i d x y P same below step goes after h =
+    let name = (get_or names i d).now in
+    goes after (subst (λ (ns : List (Bor (List ℕ))). TakeIndexes a i (texts ns) x after) (sym (drop_more names i d below)) (y, index_step_same (sort_of name) a b i name x y same step, h))

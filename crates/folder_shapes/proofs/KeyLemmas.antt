@@ -1,11 +1,11 @@
 -- Pieces of a text, and the parts that they say.
-use Rattle.std.proofs.Common.{◌≡◌, ℕ, ◌+◌, Bool, true, false, List, [], ◌∷◌, ◌++◌, length, option_map, Option, Some, None, inl, inr, refl, sym, ap, ◌∙◌, append_assoc, arith}
+use Rattle.std.proofs.Common.{◌≡◌, ℕ, Bool, List, [], ◌∷◌, ◌++◌, length, option_map, Option, Some, None, inl, inr, refl, sym, ap, ◌∙◌, append_assoc, arith}
 use Rattle.std.proofs.lemmas.Bool.{cases_Bool}
 use Rattle.std.proofs.lemmas.List.Splits.{slice_split-cons_no}
 use Rattle.std.specs.List.{slice_split, onto_first, position_or_len}
 use Rattle.dbf_file.specs.declared.field.Field.{Field}
 use Rattle.shape.specs.declared.parts.KeyPart.{KeyPart}
-use Rattle.folder_shapes.specs.Keys.{is_plus, part_in, parts_in, with_part, pieces_behind}
+use Rattle.folder_shapes.specs.Keys.{is_plus, part_in, parts_in, with_part}
 
 -- where nothing passes, the text is one piece
 pub whole_piece : (p : ℕ → Bool) (xs : List ℕ) → position_or_len p xs ≡ length xs → slice_split p xs ≡ xs ∷ []

@@ -1,6 +1,6 @@
 -- An owner's fields make the key.
-use Rattle.std.proofs.Common.{◌≡◌, ℕ, suc, ◌+◌, Bool, true, false, List, [], ◌∷◌, Option, Some, None, map, inl, inr, refl, sym, ap, subst, ◌∙◌, arith}
-use Rattle.std.specs.Prelude.{slice_get, if◌then◌else◌}
+use Rattle.std.proofs.Common.{◌≡◌, ℕ, suc, ◌+◌, Bool, true, List, [], ◌∷◌, Option, Some, None, map, inl, inr, refl, sym, ap, subst, ◌∙◌, arith}
+use Rattle.std.specs.Prelude.{slice_get}
 use Rattle.std.specs.Char.{to_ascii_uppercase}
 use Rattle.std.specs.List.{AllByRecursion}
 use Rattle.std.specs.Option.{is_some}
@@ -12,7 +12,7 @@ use Rattle.shape.specs.declared.parts.KeyPart.{KeyPart}
 use Rattle.folder_shapes.specs.declared.found.FoundTable.{FoundTable}
 use Rattle.folder_shapes.specs.declared.owners.Owner.{Owner}
 use Rattle.folder_shapes.specs.declared.owners.Owner.TheVariants.{Nobody, Unknown, Table}
-use Rattle.folder_shapes.specs.Keys.{made_of, plain_text}
+use Rattle.folder_shapes.specs.Keys.{plain_text}
 use Rattle.folder_shapes.specs.Names.{stem}
 use Rattle.folder_shapes.specs.Owners.{HasKey, IsMaker, are_listed, listed, lists, made_by, makers, makes, numbers_of, owner_among, owner_of}
 use Rattle.folder_shapes.specs.Told.{Indexes}

@@ -1,7 +1,6 @@
 -- What is read of the files of a folder, and what is noted of those that aren't what their names say.
-use Rattle.std.specs.Prelude.{◌≡◌, ◌≢◌, ◌<◌, ◌≤◌, ◌⊎◌, ℕ, List, [], ◌∷◌, Option, Some, None, length}
+use Rattle.std.specs.Prelude.{◌≡◌, ◌≢◌, ◌<◌, ◌≤◌, ◌⊎◌, ℕ, List, [], ◌∷◌, Some, None, length}
 use Rattle.std.specs.Prelude.{IsUtf8, slice_index, slice_range}
-use Rattle.dbf_file.specs.declared.fault.DbfFault.{DbfFault}
 use Rattle.dbf_file.specs.declared.fault.DbfFault.TheVariants as table_fault
 use Rattle.dbf_file.specs.declared.stamp.Stamp.{Stamp}
 use Rattle.dbf_file.specs.Faults.{first_fault}
@@ -10,7 +9,6 @@ use Rattle.file_access.specs.Holding.{Holds}
 use Rattle.key_lists.specs.KeyForm.{KeyForm}
 use Rattle.key_lists.specs.Pairs.{Pair}
 use Rattle.ndx_tree.specs.IndexFile.{IsIndexFile}
-use Rattle.ndx_tree.specs.declared.fault.TreeFault.{TreeFault}
 use Rattle.ndx_tree.specs.declared.fault.TreeFault.TheVariants as tree_fault
 use Rattle.ndx_tree.specs.Walk.{IsFirstFault}
 use Rattle.folder_shapes.specs.declared.found.FoundTable.{FoundTable}

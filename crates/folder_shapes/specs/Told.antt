@@ -1,10 +1,9 @@
 -- What a folder's files declare, and what is told of each.
-use Rattle.std.specs.Prelude.{◌≡◌, ℕ, ◌+◌, ◌<◌, ◌≤◌, ◌⊎◌, ◌==◌, ◌||◌, Bool, true, false, not, List, [], ◌∷◌, ◌++◌, Some}
-use Rattle.std.specs.Prelude.{length, map, slice_get}
+use Rattle.std.specs.Prelude.{◌≡◌, ℕ, ◌+◌, ◌<◌, ◌≤◌, ◌⊎◌, ◌==◌, ◌||◌, Bool, true, false, not, List, [], ◌∷◌, ◌++◌}
+use Rattle.std.specs.Prelude.{length, map}
 use Rattle.std.specs.Char.{to_ascii_uppercase}
 use Rattle.std.specs.List.{list_any}
 use Rattle.std.specs.Str.{bytes_eq}
-use Rattle.dbf_file.specs.declared.field.Field.{Field}
 use Rattle.file_access.specs.Holding.{Holds}
 use Rattle.key_lists.specs.KeyForm.{KeyForm}
 use Rattle.key_lists.specs.Pairs.{Pair}

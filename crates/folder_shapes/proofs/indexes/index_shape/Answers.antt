@@ -2,7 +2,6 @@ use Rattle.std.proofs.Common.{◌≡◌, ◌<◌, true, false, length, inr, rule
 use Rattle.shape.specs.declared.indexes.IndexShape.{IndexShape}
 use Rattle.shape.specs.Indexes.{is_index, is_next_index}
 use Rattle.folder_shapes.specs.Names.{has_small}
-use Rattle.folder_shapes.specs.Told.{Indexes}
 use Rattle.folder_shapes.proofs.OwnerLemmas.{indexes_of}
 use Rattle.folder_shapes.proofs.indexes.index_shape.Goals as goal
 

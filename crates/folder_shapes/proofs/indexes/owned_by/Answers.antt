@@ -1,7 +1,5 @@
-use Rattle.std.proofs.Common.{◌≡◌, sym, ap, subst, ◌∙◌}
-use Rattle.folder_shapes.specs.declared.owners.Owner.TheVariants.{Table}
+use Rattle.std.proofs.Common.{sym, ap, ◌∙◌}
 use Rattle.folder_shapes.specs.Keys.{plain_text}
-use Rattle.folder_shapes.specs.Owners.{owner_of}
 use Rattle.folder_shapes.proofs.OwnerLemmas.{key_at, maker_at, maker_of}
 use Rattle.folder_shapes.proofs.indexes.owned_by.Goals as goal
 

@@ -1,4 +1,4 @@
-use Rattle.std.proofs.Common.{◌≡◌, ◌<◌, length, get_or, refl, sym, ◌∙◌, rules}
+use Rattle.std.proofs.Common.{◌≡◌, length, get_or, refl, sym, ◌∙◌, rules}
 use Rattle.std.proofs.lemmas.Option.{slice_get_read, slice_get_within}
 use Rattle.folder_shapes.proofs.indexes.owner_key.Goals as goal
 

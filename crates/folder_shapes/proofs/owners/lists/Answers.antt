@@ -1,4 +1,4 @@
-use Rattle.std.proofs.Common.{◌≡◌, Some, ap, sym, ◌∙◌}
+use Rattle.std.proofs.Common.{ap, sym, ◌∙◌}
 use Rattle.row_keys.specs.Lists.{index_list}
 use Rattle.folder_shapes.specs.Keys.{made_of}
 use Rattle.folder_shapes.specs.Owners.{are_listed}
