@@ -1,11 +1,12 @@
 //! The files of a folder, one after the other.
 
-ghost use Rattle.std.specs.Prelude.{◌≡◌, ◌≤◌, length, map, IfOk, IfErr, OnOk};
+ghost use Rattle.std.specs.Prelude.{◌≡◌, ◌≤◌, true, length, map, IfOk, IfErr, OnOk};
 ghost use Rattle.file_access.specs.Holding.{SameFiles};
 ghost use Rattle.folder_shapes.specs.declared.note.Note.{Note as TheNote};
 ghost use Rattle.folder_shapes.specs.declared.unfit.Unfit.TheVariants.{Noted};
 ghost use Rattle.folder_shapes.specs.Reading.{UnfitIs, IsTableFile, NoTableFile, IsFileOfIndex, NoFileOfIndex};
-ghost use Rattle.folder_shapes.specs.States.{state_of};
+ghost use Rattle.shape.specs.Whole.{is_shape};
+ghost use Rattle.folder_shapes.specs.States.{state_of, shape_of};
 ghost use Rattle.folder_shapes.specs.Told.{HasTable, HasIndex, WhyNoTable, WhyNoIndex, TakesTable, TakesIndex, Takes};
 ghost use Rattle.folder_shapes.specs.Told.{nothing as nothing_told, with_note, with_table, with_index};
 ghost use Rattle.folder_shapes.specs.Told.{TableStep, IndexStep, TakeTables};
@@ -232,6 +233,19 @@ fn take_tables<F: Files>(
     Ok(declared)
 }
 
+/// Takes the tables and then the indexes of a folder.
+fn take_all<F: Files>(alloc: Global, files: &mut F, names: &[&[u8]]) -> Result<Declared, AllocError>
+    ensures taken { IfOk result (λ declared. Takes (F.holds files.old) (map (λ name. name.now) names.now)
+        (state_of declared)) }
+    ensures kept { SameFiles (F.holds files.old) (F.holds files.new) }
+{
+    let mut declared = take_tables(alloc, files, names)?;
+    for (file, name) in names.iter().enumerate() {
+        declared.index_step(alloc, files, file, name)?;
+    }
+    Ok(declared)
+}
+
 /// What the tables and indexes of a folder declare, in the order of its names, the tables first.
 pub fn declare<F: Files>(
     alloc: Global,
@@ -241,11 +255,10 @@ pub fn declare<F: Files>(
     // Each file of a table is declared, or noted with a reason that is true of it, and then each file of an index.
     ensures taken { IfOk result (λ declared. Takes (F.holds files.old) (map (λ name. name.now) names.now)
         (state_of declared)) }
+    // It is a shape that a code can have.
+    ensures legal { IfOk result (λ declared. is_shape (shape_of declared) ≡ true) }
     ensures kept { SameFiles (F.holds files.old) (F.holds files.new) }
 {
-    let mut declared = take_tables(alloc, files, names)?;
-    for (file, name) in names.iter().enumerate() {
-        declared.index_step(alloc, files, file, name)?;
-    }
+    let declared = take_all(alloc, files, names)?;
     Ok(declared)
 }

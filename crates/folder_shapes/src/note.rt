@@ -47,6 +47,6 @@ pub enum Note {
     #[error("several tables have text fields that make its key")]
     ManyOwners,
     /// It is declared, and doesn't list its table's rows.
-    #[error("stale, it doesn't list its table's rows: REINDEX it")]
+    #[error("stale, made anew when it is opened")]
     Stale,
 }

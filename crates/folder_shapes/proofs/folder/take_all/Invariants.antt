@@ -2,7 +2,7 @@ use Rattle.std.proofs.Common.{◌≤◌, length, map, drop}
 use Rattle.file_access.specs.Holding.{SameFiles}
 use Rattle.folder_shapes.specs.States.{state_of}
 use Rattle.folder_shapes.specs.Told.{State, TakeIndexes}
-use Rattle.folder_shapes.proofs.folder.declare.Given as goal
+use Rattle.folder_shapes.proofs.folder.take_all.Given as goal
 
 abbrev pub invariant-loop-file : goal.invariant-loop-file
 invariant-loop-file g l = record {
