@@ -1,5 +1,5 @@
-//! `dbrun`: compiles command files, verifies, runs and lists code files, lists tables and indexes, and declares those of a
-//! folder.
+//! `dbrun`: compiles command files, verifies, runs and lists code files, lists tables and indexes, and declares those
+//! of a folder.
 //!
 //! What a command does with files stands in functions over the trait `Files`; here the words of the command line are
 //! carried out, and what they give is printed.
@@ -182,13 +182,13 @@ fn code<R: Runtime<A = Global>>(rt: &R, audience: Audience, name: &str) -> Statu
 }
 
 /// Lines in UTF-8, where the words say what their bytes stand for.
-fn shown_lines<'a>(
+fn shown_lines(
     alloc: Global,
     page: Option<CodePage>,
-    listed: Result<Vec<u8>, Refusal<'a>>,
-) -> Result<Vec<u8>, Refusal<'a>> {
-    let (Some(page), Ok(lines)) = (page, &listed) else {
-        return listed;
+    lines: Vec<u8>,
+) -> Result<Vec<u8>, Refusal<'static>> {
+    let Some(page) = page else {
+        return Ok(lines);
     };
     match in_utf8(alloc, page, lines.as_slice()) {
         Ok(shown) => Ok(shown.into_bytes()),
@@ -196,14 +196,25 @@ fn shown_lines<'a>(
     }
 }
 
-fn list<R: Runtime<A = Global>>(rt: &R, audience: Audience, listing: Listing<'_>) -> Status {
+/// The lines of a table.
+fn table_lines<'a, R: Runtime<A = Global>>(
+    rt: &R,
+    audience: Audience,
+    listing: Listing<'a>,
+) -> Result<Vec<u8>, Refusal<'a>> {
     let mut folder = folder(rt, audience);
-    let listed = if listing.csv {
+    if listing.csv {
         list_csv(rt.alloc(), &mut folder, listing.name)
     } else {
         list_table(rt.alloc(), &mut folder, listing.name)
-    };
-    print_lines(rt, shown_lines(rt.alloc(), listing.page, listed))
+    }
+}
+
+fn list<R: Runtime<A = Global>>(rt: &R, audience: Audience, listing: Listing<'_>) -> Status {
+    match table_lines(rt, audience, listing) {
+        Ok(lines) => print_lines(rt, shown_lines(rt.alloc(), listing.page, lines)),
+        Err(refusal) => refuse(rt, refusal),
+    }
 }
 
 fn index<R: Runtime<A = Global>>(rt: &R, audience: Audience, name: &str) -> Status {
@@ -244,7 +255,7 @@ fn print_declared<R: Runtime<A = Global>>(
     for line in declared.lines.as_slice() {
         let told = LineTold {
             declared: &declared,
-            names,
+            names: &*names,
             line: *line,
         };
         if println!(rt; "{told}").is_err() {

@@ -210,7 +210,7 @@ fn with_readers<'a>(alloc: Global, command: Command<'a>) -> Result<Command<'a>, 
 fn declarer<'a>(alloc: Global) -> Command<'a> {
     Command::new(alloc, "declare")
         .about("Prints a declaration file of the tables and indexes in the current folder")
-        .after_help("Example: dbrun declare > FIRM.DCL")
+        .after_help("Example: dbrun declare > MADE.DCL")
 }
 
 /// The commands that `dbrun` knows.

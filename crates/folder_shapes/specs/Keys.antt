@@ -1,6 +1,7 @@
 -- Fields that make the key of an index. The bytes 32 and 9 are blanks, 43 is a plus sign.
-use Rattle.std.specs.Prelude.{ℕ, ◌-◌, ◌==◌, ◌&&◌, ◌||◌, nat_le, Bool, true, false, not, List, [], ◌∷◌, Option, Some, None}
-use Rattle.std.specs.Prelude.{length, map, filter, take, drop, slice_range, codes, position, option_map, if◌then◌else◌}
+use Rattle.std.specs.Prelude.{ℕ, ◌-◌, ◌==◌, ◌&&◌, ◌||◌, nat_le, Bool, true, false, not, List, [], ◌∷◌, Option}
+use Rattle.std.specs.Prelude.{Some, None, length, map, filter, take, drop, slice_range, codes, position, option_map}
+use Rattle.std.specs.Prelude.{if◌then◌else◌}
 use Rattle.std.specs.Char.{to_ascii_uppercase}
 use Rattle.std.specs.List.{slice_split}
 use Rattle.std.specs.Str.{bytes_eq, str_eq_ignore_ascii_case}
