@@ -33,8 +33,8 @@ upper Cp437 = upper_437
 upper Cp850 = upper_850
 
 -- the letter of a byte: below 128 it is ASCII
-abbrev pub letter_of : CodePage → ℕ → ℕ
-letter_of page byte = if nat_lt byte 128 then byte else slice_index (upper page) (byte - 128)
+abbrev pub page_letter : CodePage → ℕ → ℕ
+page_letter page byte = if nat_lt byte 128 then byte else slice_index (upper page) (byte - 128)
 
 abbrev pub utf8_of : CodePage → ℕ → List ℕ
-utf8_of page byte = encode_utf8 (letter_of page byte)
+utf8_of page byte = encode_utf8 (page_letter page byte)

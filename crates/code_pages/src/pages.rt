@@ -2,7 +2,7 @@
 
 ghost use Rattle.std.specs.Prelude.{◌≡◌, ◌+◌, ◌-◌, ◌<◌, ◌≤◌, IfOk, string_bytes};
 ghost use Rattle.std.specs.List.{flat_map};
-ghost use Rattle.code_pages.specs.Pages.{letter_of, utf8_of};
+ghost use Rattle.code_pages.specs.Pages.{page_letter, utf8_of};
 
 use std::alloc::{AllocError, Global};
 
@@ -39,7 +39,7 @@ const UPPER_850: [char; 128] = [
 
 /// The letter of a byte.
 fn letter(page: CodePage, byte: u8) -> char
-    ensures { result ≡ letter_of page byte }
+    ensures { result ≡ page_letter page byte }
 {
     if byte < 128 {
         return char::from(byte);

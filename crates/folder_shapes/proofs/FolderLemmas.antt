@@ -9,7 +9,7 @@ use Rattle.folder_shapes.specs.declared.note.Note.TheVariants as note
 use Rattle.folder_shapes.specs.declared.unfit.Unfit.{Unfit}
 use Rattle.folder_shapes.specs.declared.unfit.Unfit.TheVariants.{Noted, Memory}
 use Rattle.folder_shapes.specs.Names.{sort_of}
-use Rattle.folder_shapes.specs.Reading.{AreRead, NotRead, NoTableFile, NoFileOfIndex, UnfitIs}
+use Rattle.folder_shapes.specs.Reading.{IsReadAs, NotRead, NoTableFile, NoFileOfIndex, UnfitIs}
 use Rattle.folder_shapes.specs.Told.{State, WhyNoTable, WhyNoIndex, TakesTable, TakesIndex, TableStep, IndexStep, TakeTables, TakeIndexes}
 
 pub unfit_map : (P Q : Note → Type 0) (u : Unfit) → ((n : Note) → P n → Q n) → UnfitIs P u → UnfitIs Q u
@@ -24,7 +24,7 @@ same_then a b c s t name found = (λ h. (t name found).0 ((s name found).0 h), �
 
 -- ---- what is read
 
-read_same : (a b : Holds) (name bytes : List ℕ) → SameFiles a b → AreRead b name bytes → AreRead a name bytes
+read_same : (a b : Holds) (name bytes : List ℕ) → SameFiles a b → IsReadAs b name bytes → IsReadAs a name bytes
 read_same a b name bytes s h = record { held = (s name (Some bytes)).1 h.held; short = h.short }
 
 unread_same : (a b : Holds) (name : List ℕ) (n : Note) → SameFiles a b → NotRead b name n → NotRead a name n

@@ -5,7 +5,7 @@ use Rattle.std.proofs.lemmas.List.Splits.{slice_split-cons_no}
 use Rattle.std.specs.List.{slice_split, onto_first, position_or_len}
 use Rattle.dbf_file.specs.declared.field.Field.{Field}
 use Rattle.shape.specs.declared.parts.KeyPart.{KeyPart}
-use Rattle.folder_shapes.specs.Keys.{is_plus, part_in, parts_in, with_part}
+use Rattle.folder_shapes.specs.Keys.{is_plus, part_in, said_parts, with_part}
 
 -- where nothing passes, the text is one piece
 pub whole_piece : (p : ℕ → Bool) (xs : List ℕ) → position_or_len p xs ≡ length xs → slice_split p xs ≡ xs ∷ []
@@ -25,15 +25,15 @@ front old new part (Some ps) e = ap Some (ap (λ l. l ++ ps) e ∙ append_assoc 
 
 -- a part more
 pub goes_on : (fields : List Field) (old new : List KeyPart) (part : KeyPart) (rest piece : List ℕ) (pieces : List (List ℕ)) → slice_split is_plus rest ≡ piece ∷ pieces → Some part ≡ part_in fields piece → new ≡ old ++ part ∷ []
-    → option_map (λ ps. new ++ ps) (parts_in fields pieces) ≡ option_map (λ ps. old ++ ps) (parts_in fields (slice_split is_plus rest))
+    → option_map (λ ps. new ++ ps) (said_parts fields pieces) ≡ option_map (λ ps. old ++ ps) (said_parts fields (slice_split is_plus rest))
 goes_on fields old new part rest piece pieces cut said n =
-    front old new part (parts_in fields pieces) n
-    ∙ ap (λ f. option_map (λ ps. old ++ ps) (with_part f (parts_in fields pieces))) said
-    ∙ ap (λ l. option_map (λ ps. old ++ ps) (parts_in fields l)) (sym cut)
+    front old new part (said_parts fields pieces) n
+    ∙ ap (λ f. option_map (λ ps. old ++ ps) (with_part f (said_parts fields pieces))) said
+    ∙ ap (λ l. option_map (λ ps. old ++ ps) (said_parts fields l)) (sym cut)
 
 -- a piece that says no part
 pub stops : (fields : List Field) (old : List KeyPart) (rest piece : List ℕ) (pieces : List (List ℕ)) → slice_split is_plus rest ≡ piece ∷ pieces → None ≡ part_in fields piece
-    → None ≡ option_map (λ ps. old ++ ps) (parts_in fields (slice_split is_plus rest))
+    → None ≡ option_map (λ ps. old ++ ps) (said_parts fields (slice_split is_plus rest))
 stops fields old rest piece pieces cut said =
-    ap (λ f. option_map (λ ps. old ++ ps) (with_part f (parts_in fields pieces))) said
-    ∙ ap (λ l. option_map (λ ps. old ++ ps) (parts_in fields l)) (sym cut)
+    ap (λ f. option_map (λ ps. old ++ ps) (with_part f (said_parts fields pieces))) said
+    ∙ ap (λ l. option_map (λ ps. old ++ ps) (said_parts fields l)) (sym cut)

@@ -7,7 +7,7 @@ use Rattle.shape.specs.Whole.{is_shape}
 use Rattle.folder_shapes.specs.declared.names.Sort.{Sort}
 use Rattle.folder_shapes.specs.declared.names.Sort.TheVariants as sort
 use Rattle.folder_shapes.specs.Names.{sort_of}
-use Rattle.folder_shapes.specs.Told.{State, TakesTable, TakesIndex, TableStep, IndexStep, TakeTables, TakeIndexes, Takes, nothing}
+use Rattle.folder_shapes.specs.Told.{State, TakesTable, TakesIndex, TableStep, IndexStep, TakeTables, TakeIndexes, TakesFolder, nothing_taken}
 use Rattle.folder_shapes.proofs.ShapeLemmas.{index_added, nothing_legal, table_added}
 
 abbrev shape_in : State → Shape
@@ -53,7 +53,7 @@ indexes_taken a n [] x y h e = along x y (sym e) h
 indexes_taken a n (name ∷ names) x y h (next, step, others) =
     indexes_taken a (n + 1) names next y (index_stepped (sort_of name) a n name x next h step) others
 
-pub legal_taken : (a : Holds) (names : List (List ℕ)) (y : State) → Takes a names y → is_shape (record { tables = y.tables; indexes = y.indexes }) ≡ true
+pub legal_taken : (a : Holds) (names : List (List ℕ)) (y : State) → TakesFolder a names y → is_shape (record { tables = y.tables; indexes = y.indexes }) ≡ true
 legal_taken a names y (tables, first, then) =
-    let start : IsSound nothing = record { legal = nothing_legal; alike = refl } in
-    (indexes_taken a 0 names tables y (tables_taken a 0 names nothing tables start first) then).legal
+    let start : IsSound nothing_taken = record { legal = nothing_legal; alike = refl } in
+    (indexes_taken a 0 names tables y (tables_taken a 0 names nothing_taken tables start first) then).legal

@@ -14,7 +14,7 @@ use Rattle.folder_shapes.specs.declared.owners.Owner.{Owner}
 use Rattle.folder_shapes.specs.declared.owners.Owner.TheVariants.{Nobody, Unknown, Table}
 use Rattle.folder_shapes.specs.Keys.{plain_text}
 use Rattle.folder_shapes.specs.Names.{stem}
-use Rattle.folder_shapes.specs.Owners.{HasKey, IsMaker, are_listed, listed, lists, made_by, makers, makes, numbers_of, owner_among, owner_of}
+use Rattle.folder_shapes.specs.Owners.{HasKey, IsMaker, are_listed, listed_tables, lists, made_by, makers, makes, numbers_of, owner_among, owner_of}
 use Rattle.folder_shapes.specs.Told.{Indexes}
 
 -- the table behind n others of that number is of the sort
@@ -65,9 +65,9 @@ pub maker_of : (tables : List FoundTable) (form : KeyForm) (pairs : List Pair) (
 maker_of tables form pairs k e =
     let n = form.key_length in
     let plain = plain_text form.key_text in
-    among (IsMaker tables n plain) (makers tables form) (listed tables form pairs) k e
+    among (IsMaker tables n plain) (makers tables form) (listed_tables tables form pairs) k e
     (mapped (IsThere (makes n plain) 0 tables) (IsMaker tables n plain) (maker tables n plain) (makers tables form) (there (makes n plain) 0 tables))
-    (mapped (IsThere (lists n plain pairs) 0 tables) (IsMaker tables n plain) (lister tables n plain pairs) (listed tables form pairs) (there (lists n plain pairs) 0 tables))
+    (mapped (IsThere (lists n plain pairs) 0 tables) (IsMaker tables n plain) (lister tables n plain pairs) (listed_tables tables form pairs) (there (lists n plain pairs) 0 tables))
 
 pub maker_at : (tables : List FoundTable) (n m : ℕ) (p q : List ℕ) (k : ℕ) → n ≡ m → p ≡ q → IsMaker tables m q k → IsMaker tables n p k
 maker_at tables n m p q k e f h = subst (λ x. IsMaker tables x p k) (sym e) (subst (λ x. IsMaker tables m x k) (sym f) h)

@@ -32,11 +32,11 @@ is_upper piece = nat_le 7 (length piece) && bytes_eq (take 6 piece) (codes "UPPE
     && bytes_eq (drop (length piece - 1) piece) (codes ")")
 
 -- the number of the field of that name, without regard to case
-abbrev pub field_named : List Field → List ℕ → Option ℕ
-field_named fields name = position (λ f. str_eq_ignore_ascii_case f.name.items name) fields
+abbrev pub number_named : List Field → List ℕ → Option ℕ
+number_named fields name = position (λ f. str_eq_ignore_ascii_case f.name.items name) fields
 
 abbrev pub part_named : List Field → List ℕ → Bool → Option KeyPart
-part_named fields name upper = option_map (λ n. record { field = n; upper = upper }) (field_named fields name)
+part_named fields name upper = option_map (λ n. record { field = n; upper = upper }) (number_named fields name)
 
 -- the part that a piece says: a field's name, or UPPER() around one
 unfoldable pub part_in : List Field → List ℕ → Option KeyPart
@@ -50,22 +50,22 @@ with_part (Some part) None = None
 with_part (Some part) (Some parts) = Some (part ∷ parts)
 
 -- the parts that pieces say, if each says one
-abbrev pub parts_in : List Field → List (List ℕ) → Option (List KeyPart)
-parts_in fields [] = Some []
-parts_in fields (piece ∷ pieces) = with_part (part_in fields piece) (parts_in fields pieces)
+abbrev pub said_parts : List Field → List (List ℕ) → Option (List KeyPart)
+said_parts fields [] = Some []
+said_parts fields (piece ∷ pieces) = with_part (part_in fields piece) (said_parts fields pieces)
 
 -- ---- keys
 
 -- the parts, if rows of the fields can have such a key, with keys of that length
-abbrev pub key_of : List Field → ℕ → List KeyPart → Option (List KeyPart)
-key_of fields key_length parts =
+abbrev pub fitting_key : List Field → ℕ → List KeyPart → Option (List KeyPart)
+fitting_key fields key_length parts =
     if is_key fields parts && bytes_of fields parts == key_length then Some parts else None
 
 abbrev pub key_if : List Field → ℕ → Option (List KeyPart) → Option (List KeyPart)
 key_if fields key_length None = None
-key_if fields key_length (Some parts) = key_of fields key_length parts
+key_if fields key_length (Some parts) = fitting_key fields key_length parts
 
 -- the key that fields make by a plain text of at most 100 bytes, with keys of that length
 abbrev pub made_of : List Field → ℕ → List ℕ → Option (List KeyPart)
 made_of fields key_length plain =
-    if nat_le (length plain) 100 then key_if fields key_length (parts_in fields (slice_split is_plus plain)) else None
+    if nat_le (length plain) 100 then key_if fields key_length (said_parts fields (slice_split is_plus plain)) else None

@@ -22,11 +22,11 @@ abbrev pub makes : ℕ → List ℕ → FoundTable → Bool
 makes key_length plain t = is_some (made_by key_length plain t)
 
 -- the same pairs in the same order
-abbrev pub same_pair : Pair → Pair → Bool
-same_pair p q = bytes_eq p.0 q.0 && p.1 == q.1
+abbrev pub are_one_pair : Pair → Pair → Bool
+are_one_pair p q = bytes_eq p.0 q.0 && p.1 == q.1
 
 abbrev pub same_pairs : List Pair → List Pair → Bool
-same_pairs ps qs = pointwise same_pair ps qs
+same_pairs ps qs = pointwise are_one_pair ps qs
 
 -- the pairs are those of the rows under a key, if there is one
 abbrev pub are_listed : Option (List KeyPart) → List Row → List Pair → Bool
@@ -44,8 +44,8 @@ numbers_of sort n (t ∷ ts) = if sort t then n ∷ numbers_of sort (n + 1) ts e
 
 -- the only table whose fields make the key; among several, the only one whose rows are listed
 abbrev pub owner_among : List ℕ → List ℕ → Owner
-owner_among [] listed = Nobody
-owner_among (t ∷ []) listed = Table t
+owner_among [] listed_tables = Nobody
+owner_among (t ∷ []) listed_tables = Table t
 owner_among (t ∷ u ∷ others) [] = Unknown
 owner_among (t ∷ u ∷ others) (l ∷ []) = Table l
 owner_among (t ∷ u ∷ others) (l ∷ m ∷ more) = Unknown
@@ -54,11 +54,11 @@ owner_among (t ∷ u ∷ others) (l ∷ m ∷ more) = Unknown
 abbrev pub makers : List FoundTable → KeyForm → List ℕ
 makers tables form = numbers_of (makes form.key_length (plain_text form.key_text)) 0 tables
 
-abbrev pub listed : List FoundTable → KeyForm → List Pair → List ℕ
-listed tables form pairs = numbers_of (lists form.key_length (plain_text form.key_text) pairs) 0 tables
+abbrev pub listed_tables : List FoundTable → KeyForm → List Pair → List ℕ
+listed_tables tables form pairs = numbers_of (lists form.key_length (plain_text form.key_text) pairs) 0 tables
 
 abbrev pub owner_of : List FoundTable → KeyForm → List Pair → Owner
-owner_of tables form pairs = owner_among (makers tables form) (listed tables form pairs)
+owner_of tables form pairs = owner_among (makers tables form) (listed_tables tables form pairs)
 
 -- the table of that number is one whose fields make the key
 abbrev pub IsMaker : List FoundTable → ℕ → List ℕ → ℕ → Type 0

@@ -25,7 +25,7 @@ UnfitIs is Memory = Unit {0}
 -- ---- bytes
 
 -- the file may hold these bytes, at most 64 MiB
-pub record AreRead (holds : Holds) (name bytes : List ℕ) : Type 0 where
+pub record IsReadAs (holds : Holds) (name bytes : List ℕ) : Type 0 where
   pub held : holds name (Some bytes)
   pub short : length bytes ≤ 67108864
 
@@ -78,12 +78,12 @@ NoTableIs bytes note.Stale = ⊥
 
 -- the file may hold this table
 abbrev pub IsTableFile : Holds → List ℕ → FoundTable → Type 0
-IsTableFile holds name t = (bytes : List ℕ) × AreRead holds name bytes × IsTable bytes t
+IsTableFile holds name t = (bytes : List ℕ) × IsReadAs holds name bytes × IsTable bytes t
 
 -- why it is no table's
 abbrev pub NoTableFile : Holds → List ℕ → Note → Type 0
 NoTableFile holds name told =
-    NotRead holds name told ⊎ ((bytes : List ℕ) × AreRead holds name bytes × NoTableIs bytes told)
+    NotRead holds name told ⊎ ((bytes : List ℕ) × IsReadAs holds name bytes × NoTableIs bytes told)
 
 -- ---- indexes
 
@@ -107,9 +107,9 @@ NoIndexIs bytes note.Stale = ⊥
 -- the file may hold this index
 abbrev pub IsFileOfIndex : Holds → List ℕ → KeyForm → List Pair → Type 0
 IsFileOfIndex holds name form pairs =
-    (bytes : List ℕ) × AreRead holds name bytes × IsIndexFile bytes form pairs
+    (bytes : List ℕ) × IsReadAs holds name bytes × IsIndexFile bytes form pairs
 
 -- why it is no index's
 abbrev pub NoFileOfIndex : Holds → List ℕ → Note → Type 0
 NoFileOfIndex holds name told =
-    NotRead holds name told ⊎ ((bytes : List ℕ) × AreRead holds name bytes × NoIndexIs bytes told)
+    NotRead holds name told ⊎ ((bytes : List ℕ) × IsReadAs holds name bytes × NoIndexIs bytes told)

@@ -22,7 +22,7 @@ use Rattle.folder_shapes.specs.declared.note.Note.TheVariants as note
 use Rattle.folder_shapes.specs.declared.owners.Owner.TheVariants as owner
 use Rattle.folder_shapes.specs.Keys.{plain_text}
 use Rattle.folder_shapes.specs.Names.{stem, sort_of, has_small}
-use Rattle.folder_shapes.specs.Owners.{HasKey, listed, owner_of}
+use Rattle.folder_shapes.specs.Owners.{HasKey, listed_tables, owner_of}
 use Rattle.folder_shapes.specs.Reading.{IsTableFile, NoTableFile, IsFileOfIndex, NoFileOfIndex}
 
 -- the name of a file without its ending, in capitals
@@ -36,8 +36,8 @@ pub record State : Type 0 where
   pub indexes : List IndexShape
   pub lines : List Line
 
-abbrev pub nothing : State
-nothing = record { tables = []; found = []; indexes = []; lines = [] }
+abbrev pub nothing_taken : State
+nothing_taken = record { tables = []; found = []; indexes = []; lines = [] }
 
 -- something is noted of the file of that number
 abbrev pub with_note : ℕ → Note → State → State
@@ -46,13 +46,13 @@ with_note n told s = record s { lines = s.lines ++ line.Noted n told ∷ [] }
 -- ---- tables
 
 -- the declaration of a table in a file of that name
-pub record Declares (name : List ℕ) (t : FoundTable) (shape : TableShape) : Type 0 where
+pub record DeclaresFound (name : List ℕ) (t : FoundTable) (shape : TableShape) : Type 0 where
   pub named : shape.name.items ≡ capital_stem name
   pub fields : map plain shape.fields ≡ map in_capitals t.table.structure.fields
 
 -- It may be declared behind the others.
 pub record MayDeclare (s : State) (name : List ℕ) (t : FoundTable) (shape : TableShape) : Type 0 where
-  pub declares : Declares name t shape
+  pub declares : DeclaresFound name t shape
   pub capitals : has_small name ≡ false
   pub room : length s.found < 32
   pub next : is_next_table s.tables shape ≡ true
@@ -62,14 +62,14 @@ abbrev pub MayNotDeclare : State → List ℕ → FoundTable → Note → Type 0
 MayNotDeclare s name t note.NoText = ⊥
 MayNotDeclare s name t note.SmallLetters = has_small name ≡ true
 MayNotDeclare s name t note.NoName =
-    (10 < length (stem name)) ⊎ ((shape : TableShape) × Declares name t shape × (is_table shape ≡ false))
+    (10 < length (stem name)) ⊎ ((shape : TableShape) × DeclaresFound name t shape × (is_table shape ≡ false))
 MayNotDeclare s name t note.Gone = ⊥
 MayNotDeclare s name t note.TooLong = ⊥
 MayNotDeclare s name t note.Unreadable = ⊥
 MayNotDeclare s name t (note.Version byte) = ⊥
 MayNotDeclare s name t (note.NoTable fault) = ⊥
 MayNotDeclare s name t note.TooMany =
-    (32 ≤ length s.found) ⊎ ((shape : TableShape) × Declares name t shape × (is_next_table s.tables shape ≡ false))
+    (32 ≤ length s.found) ⊎ ((shape : TableShape) × DeclaresFound name t shape × (is_next_table s.tables shape ≡ false))
 MayNotDeclare s name t (note.NoIndex fault) = ⊥
 MayNotDeclare s name t note.Numbers = ⊥
 MayNotDeclare s name t note.NoOwner = ⊥
@@ -103,10 +103,10 @@ TakesTable holds n name before after =
 
 -- it doesn't list its table's rows, or its key isn't spelled as it is declared
 abbrev pub stale_by : List ℕ → ℕ → List ℕ → List ℕ → Bool
-stale_by listed t text plain = not (list_any (λ l. l == t) listed) || not (bytes_eq text plain)
+stale_by listed_tables t text plain = not (list_any (λ l. l == t) listed_tables) || not (bytes_eq text plain)
 
 abbrev pub is_stale : List FoundTable → KeyForm → List Pair → ℕ → Bool
-is_stale found form pairs t = stale_by (listed found form pairs) t form.key_text (plain_text form.key_text)
+is_stale found form pairs t = stale_by (listed_tables found form pairs) t form.key_text (plain_text form.key_text)
 
 -- why no table owns it
 abbrev pub NotOwned : List FoundTable → KeyForm → List Pair → Note → Type 0
@@ -163,8 +163,8 @@ abbrev pub stale_note : ℕ → Bool → List Line
 stale_note n true = line.Noted n note.Stale ∷ []
 stale_note n false = []
 
-abbrev pub with_index : ℕ → IndexShape → Bool → State → State
-with_index n index stale s = record {
+abbrev pub with_found_index : ℕ → IndexShape → Bool → State → State
+with_found_index n index stale s = record {
   tables = s.tables;
   found = s.found;
   indexes = s.indexes ++ index ∷ [];
@@ -184,7 +184,7 @@ WhyNoIndex holds s name told = NoFileOfIndex holds name told
 abbrev pub TakesIndex : Holds → ℕ → List ℕ → State → State → Type 0
 TakesIndex holds n name before after =
     ((index : IndexShape) × (stale : Bool) × HasIndex holds before name index stale
-    × (after ≡ with_index n index stale before))
+    × (after ≡ with_found_index n index stale before))
     ⊎ ((told : Note) × WhyNoIndex holds before name told × (after ≡ with_note n told before))
 
 -- ---- the folder
@@ -212,6 +212,6 @@ TakeIndexes holds n (name ∷ names) before after = (next : State) × IndexStep 
     × TakeIndexes holds (n + 1) names next after
 
 -- First the tables, each in its turn, and then the indexes.
-abbrev pub Takes : Holds → List (List ℕ) → State → Type 0
-Takes holds names after =
-    (tables : State) × TakeTables holds 0 names nothing tables × TakeIndexes holds 0 names tables after
+abbrev pub TakesFolder : Holds → List (List ℕ) → State → Type 0
+TakesFolder holds names after =
+    (tables : State) × TakeTables holds 0 names nothing_taken tables × TakeIndexes holds 0 names tables after

@@ -6,7 +6,7 @@ use shape::{IndexShape, TableShape};
 
 /// The tables and indexes of a folder that are declared, and what is told of each file.
 #[derive(Drop)]
-pub struct Declared {
+pub struct FolderDeclared {
     pub tables: Vec<TableShape>,
     /// The same tables with their rows.
     pub found: Vec<FoundTable>,

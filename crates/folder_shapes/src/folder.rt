@@ -6,13 +6,13 @@ ghost use Rattle.folder_shapes.specs.declared.note.Note.{Note as TheNote};
 ghost use Rattle.folder_shapes.specs.declared.unfit.Unfit.TheVariants.{Noted};
 ghost use Rattle.folder_shapes.specs.Reading.{UnfitIs, IsTableFile, NoTableFile, IsFileOfIndex, NoFileOfIndex};
 ghost use Rattle.shape.specs.Whole.{is_shape};
-ghost use Rattle.folder_shapes.specs.States.{state_of, shape_of};
-ghost use Rattle.folder_shapes.specs.Told.{HasTable, HasIndex, WhyNoTable, WhyNoIndex, TakesTable, TakesIndex, Takes};
-ghost use Rattle.folder_shapes.specs.Told.{nothing as nothing_told, with_note, with_table, with_index};
+ghost use Rattle.folder_shapes.specs.States.{taken_state, declared_shape};
+ghost use Rattle.folder_shapes.specs.Told.{HasTable, HasIndex, WhyNoTable, WhyNoIndex, TakesTable, TakesIndex, TakesFolder};
+ghost use Rattle.folder_shapes.specs.Told.{nothing_taken as nothing_told, with_note, with_table, with_found_index};
 ghost use Rattle.folder_shapes.specs.Told.{TableStep, IndexStep, TakeTables};
 ghost use Rattle.folder_shapes.specs.Names.{sort_of as sort_of_name};
 
-use crate::declared::Declared;
+use crate::declared::FolderDeclared;
 use crate::found::FoundTable;
 use crate::indexes::index_shape;
 use crate::line::Line;
@@ -50,12 +50,12 @@ fn index_file<F: Files>(alloc: Global, files: &mut F, name: &[u8]) -> Result<Ndx
     }
 }
 
-impl Declared {
+impl FolderDeclared {
     /// Nothing yet.
-    fn nothing(alloc: Global) -> Declared
-        ensures { state_of result ≡ nothing_told }
+    fn nothing(alloc: Global) -> FolderDeclared
+        ensures { taken_state result ≡ nothing_told }
     {
-        Declared {
+        FolderDeclared {
             tables: Vec::new(alloc),
             found: Vec::new(alloc),
             indexes: Vec::new(alloc),
@@ -66,7 +66,7 @@ impl Declared {
     /// Notes why a file isn't taken, unless memory was refused.
     fn note(&mut self, file: usize, unfit: Unfit) -> Result<(), AllocError>
         ensures noted { OnOk result ((told : TheNote) × (unfit ≡ Noted told)
-            × (state_of self.new ≡ with_note file told (state_of self.old))) }
+            × (taken_state self.new ≡ with_note file told (taken_state self.old))) }
     {
         match unfit {
             Unfit::Noted(note) => {
@@ -84,8 +84,8 @@ impl Declared {
         files: &mut F,
         name: &[u8],
     ) -> Result<(TableShape, FoundTable), Unfit>
-        ensures table { IfOk result (λ x. HasTable (F.holds files.old) (state_of self.now) name.now x.0 x.1) }
-        ensures unfit { IfErr result (UnfitIs (WhyNoTable (F.holds files.old) (state_of self.now) name.now)) }
+        ensures table { IfOk result (λ x. HasTable (F.holds files.old) (taken_state self.now) name.now x.0 x.1) }
+        ensures unfit { IfErr result (UnfitIs (WhyNoTable (F.holds files.old) (taken_state self.now) name.now)) }
         ensures kept { SameFiles (F.holds files.old) (F.holds files.new) }
     {
         let found = table_file(alloc, files, name)?;
@@ -96,7 +96,7 @@ impl Declared {
     }
 
     fn add_table(&mut self, shape: TableShape, found: FoundTable) -> Result<(), AllocError>
-        ensures { OnOk result (state_of self.new ≡ with_table shape found (state_of self.old)) }
+        ensures { OnOk result (taken_state self.new ≡ with_table shape found (taken_state self.old)) }
     {
         self.lines.push(Line::Table(self.tables.len()))?;
         self.tables.push(shape)?;
@@ -112,8 +112,8 @@ impl Declared {
         file: usize,
         name: &[u8],
     ) -> Result<(), AllocError>
-        ensures taken { OnOk result (TakesTable (F.holds files.old) file name.now (state_of self.old)
-            (state_of self.new)) }
+        ensures taken { OnOk result (TakesTable (F.holds files.old) file name.now (taken_state self.old)
+            (taken_state self.new)) }
         ensures kept { SameFiles (F.holds files.old) (F.holds files.new) }
     {
         match self.next_table(alloc, files, name) {
@@ -133,8 +133,8 @@ impl Declared {
         name: &[u8],
     ) -> Result<(IndexShape, bool), Unfit>
         requires { length self.now.found.items ≤ 32 }
-        ensures index { IfOk result (λ x. HasIndex (F.holds files.old) (state_of self.now) name.now x.0 x.1) }
-        ensures unfit { IfErr result (UnfitIs (WhyNoIndex (F.holds files.old) (state_of self.now) name.now)) }
+        ensures index { IfOk result (λ x. HasIndex (F.holds files.old) (taken_state self.now) name.now x.0 x.1) }
+        ensures unfit { IfErr result (UnfitIs (WhyNoIndex (F.holds files.old) (taken_state self.now) name.now)) }
         ensures kept { SameFiles (F.holds files.old) (F.holds files.new) }
     {
         let mut tree = index_file(alloc, files, name)?;
@@ -145,7 +145,7 @@ impl Declared {
     }
 
     fn add_index(&mut self, file: usize, index: IndexShape, stale: bool) -> Result<(), AllocError>
-        ensures { OnOk result (state_of self.new ≡ with_index file index stale (state_of self.old)) }
+        ensures { OnOk result (taken_state self.new ≡ with_found_index file index stale (taken_state self.old)) }
     {
         self.lines.push(Line::Index(self.indexes.len()))?;
         self.indexes.push(index)?;
@@ -164,8 +164,8 @@ impl Declared {
         name: &[u8],
     ) -> Result<(), AllocError>
         requires { length self.old.found.items ≤ 32 }
-        ensures taken { OnOk result (TakesIndex (F.holds files.old) file name.now (state_of self.old)
-            (state_of self.new)) }
+        ensures taken { OnOk result (TakesIndex (F.holds files.old) file name.now (taken_state self.old)
+            (taken_state self.new)) }
         ensures kept { SameFiles (F.holds files.old) (F.holds files.new) }
     {
         match self.next_index(alloc, files, name) {
@@ -186,7 +186,7 @@ impl Declared {
         name: &[u8],
     ) -> Result<(), AllocError>
         ensures taken { OnOk result (TableStep (sort_of_name name.now) (F.holds files.old) file name.now
-            (state_of self.old) (state_of self.new)) }
+            (taken_state self.old) (taken_state self.new)) }
         ensures kept { SameFiles (F.holds files.old) (F.holds files.new) }
     {
         match sort_of(name) {
@@ -205,7 +205,7 @@ impl Declared {
     ) -> Result<(), AllocError>
         requires { length self.old.found.items ≤ 32 }
         ensures taken { OnOk result (IndexStep (sort_of_name name.now) (F.holds files.old) file name.now
-            (state_of self.old) (state_of self.new)) }
+            (taken_state self.old) (taken_state self.new)) }
         ensures kept { SameFiles (F.holds files.old) (F.holds files.new) }
     {
         match sort_of(name) {
@@ -220,13 +220,13 @@ fn take_tables<F: Files>(
     alloc: Global,
     files: &mut F,
     names: &[&[u8]],
-) -> Result<Declared, AllocError>
+) -> Result<FolderDeclared, AllocError>
     ensures taken { IfOk result (λ declared. TakeTables (F.holds files.old) 0 (map (λ name. name.now) names.now)
-        nothing_told (state_of declared)) }
+        nothing_told (taken_state declared)) }
     ensures few { IfOk result (λ declared. length declared.found.items ≤ 32) }
     ensures kept { SameFiles (F.holds files.old) (F.holds files.new) }
 {
-    let mut declared = Declared::nothing(alloc);
+    let mut declared = FolderDeclared::nothing(alloc);
     for (file, name) in names.iter().enumerate() {
         declared.table_step(alloc, files, file, name)?;
     }
@@ -234,9 +234,13 @@ fn take_tables<F: Files>(
 }
 
 /// Takes the tables and then the indexes of a folder.
-fn take_all<F: Files>(alloc: Global, files: &mut F, names: &[&[u8]]) -> Result<Declared, AllocError>
-    ensures taken { IfOk result (λ declared. Takes (F.holds files.old) (map (λ name. name.now) names.now)
-        (state_of declared)) }
+fn take_all<F: Files>(
+    alloc: Global,
+    files: &mut F,
+    names: &[&[u8]],
+) -> Result<FolderDeclared, AllocError>
+    ensures taken { IfOk result (λ declared. TakesFolder (F.holds files.old) (map (λ name. name.now) names.now)
+        (taken_state declared)) }
     ensures kept { SameFiles (F.holds files.old) (F.holds files.new) }
 {
     let mut declared = take_tables(alloc, files, names)?;
@@ -251,12 +255,12 @@ pub fn declare<F: Files>(
     alloc: Global,
     files: &mut F,
     names: &[&[u8]],
-) -> Result<Declared, AllocError>
+) -> Result<FolderDeclared, AllocError>
     // Each file of a table is declared, or noted with a reason that is true of it, and then each file of an index.
-    ensures taken { IfOk result (λ declared. Takes (F.holds files.old) (map (λ name. name.now) names.now)
-        (state_of declared)) }
+    ensures taken { IfOk result (λ declared. TakesFolder (F.holds files.old) (map (λ name. name.now) names.now)
+        (taken_state declared)) }
     // It is a shape that a code can have.
-    ensures legal { IfOk result (λ declared. is_shape (shape_of declared) ≡ true) }
+    ensures legal { IfOk result (λ declared. is_shape (declared_shape declared) ≡ true) }
     ensures kept { SameFiles (F.holds files.old) (F.holds files.new) }
 {
     let declared = take_all(alloc, files, names)?;

@@ -5,11 +5,11 @@ ghost use Rattle.std.specs.List.{list_any};
 ghost use Rattle.folder_shapes.specs.Keys.{plain_text as plain_text_of};
 ghost use Rattle.folder_shapes.specs.Owners.{HasKey, IsMaker, owner_of as owner_of_index};
 ghost use Rattle.folder_shapes.specs.Reading.{UnfitIs};
-ghost use Rattle.folder_shapes.specs.States.{state_of};
+ghost use Rattle.folder_shapes.specs.States.{taken_state};
 ghost use Rattle.folder_shapes.specs.Told.{MayIndex, MayNotIndex, NotOwned, is_stale, stale_by};
 ghost use Rattle.folder_shapes.specs.declared.owners.Owner.TheVariants as owner;
 
-use crate::declared::Declared;
+use crate::declared::FolderDeclared;
 use crate::found::FoundTable;
 use crate::keys::plain_text;
 use crate::names::{capitals, has_small, stem};
@@ -90,14 +90,14 @@ pub fn owned_by(alloc: Global, found: &[FoundTable], tree: &mut NdxTree) -> Resu
 /// The declaration of an index in a file of that name behind what is declared, and whether it is stale.
 pub fn index_shape(
     alloc: Global,
-    declared: &Declared,
+    declared: &FolderDeclared,
     name: &[u8],
     tree: &mut NdxTree,
 ) -> Result<(IndexShape, bool), Unfit>
     requires { length declared.now.found.items ≤ 32 }
-    ensures index { IfOk result (λ x. MayIndex (state_of declared.now) name.now tree.old.form tree.old.pairs x.0) }
+    ensures index { IfOk result (λ x. MayIndex (taken_state declared.now) name.now tree.old.form tree.old.pairs x.0) }
     ensures stale { IfOk result (λ x. x.1 ≡ is_stale declared.now.found.items tree.old.form tree.old.pairs x.0.table) }
-    ensures unfit { IfErr result (UnfitIs (MayNotIndex (state_of declared.now) name.now tree.old.form
+    ensures unfit { IfErr result (UnfitIs (MayNotIndex (taken_state declared.now) name.now tree.old.form
         tree.old.pairs)) }
 {
     let Owned { table, key, stale } = owned_by(alloc, declared.found.as_slice(), tree)?;

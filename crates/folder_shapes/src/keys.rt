@@ -37,7 +37,7 @@ fn is_upper(piece: &[u8]) -> bool
 
 /// The number of the field of that name, without regard to case.
 fn field_named(fields: &[Field], name: &[u8]) -> Option<usize>
-    ensures { result ≡ spec.field_named fields.now name.now }
+    ensures { result ≡ spec.number_named fields.now name.now }
 {
     fields
         .iter()
@@ -98,7 +98,7 @@ fn parts_in(
 ) -> Result<Option<Vec<KeyPart>>, AllocError>
     requires { length fields.now ≤ 128 }
     ensures { IfOk result (λ parts. option_map (λ ps. ps.items) parts
-        ≡ spec.parts_in fields.now (slice_split spec.is_plus text.now)) }
+        ≡ spec.said_parts fields.now (slice_split spec.is_plus text.now)) }
 {
     let mut parts = Vec::new(alloc);
     let mut rest = text;
@@ -118,7 +118,7 @@ fn parts_in(
 /// The key of these parts, if rows of the fields can have it, with keys of that length.
 #[tactic(auto, unfolding(shape::specs::Keys::is_key))]
 fn key_of(fields: &[Field], parts: &[KeyPart], key_length: usize) -> Option<KeyParts>
-    ensures { option_map (λ key. key) result ≡ spec.key_of fields.now key_length parts.now }
+    ensures { option_map (λ key. key) result ≡ spec.fitting_key fields.now key_length parts.now }
 {
     if 8 < parts.len() {
         return None;

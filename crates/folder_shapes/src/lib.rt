@@ -18,7 +18,7 @@ mod tables;
 mod told;
 mod unfit;
 
-pub use declared::Declared;
+pub use declared::FolderDeclared;
 pub use folder::declare;
 pub use found::FoundTable;
 pub use line::Line;

@@ -131,7 +131,7 @@ pub fn owner_of(
 ) -> Result<(Owner, Vec<usize>), AllocError>
     requires { plain.now ≡ plain_text tree.old.form.key_text }
     ensures owner { IfOk result (λ x. x.0 ≡ spec.owner_of tables.now tree.old.form tree.old.pairs) }
-    ensures listed { IfOk result (λ x. x.1.items ≡ spec.listed tables.now tree.old.form tree.old.pairs) }
+    ensures listed { IfOk result (λ x. x.1.items ≡ spec.listed_tables tables.now tree.old.form tree.old.pairs) }
     ensures pairs { tree.new.pairs ≡ tree.old.pairs }
     ensures form { tree.new.form ≡ tree.old.form }
 {

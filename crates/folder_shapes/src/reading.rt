@@ -3,7 +3,7 @@
 ghost use Rattle.std.specs.Prelude.{◌≡◌, ◌≢◌, ◌≤◌, ◌∷◌, [], length, slice_range, IfOk, IfErr, IsTrue};
 ghost use Rattle.file_access.specs.Holding.{SameFiles};
 ghost use Rattle.ndx_tree.specs.IndexFile.{IsIndexFile};
-ghost use Rattle.folder_shapes.specs.Reading.{AreRead, NotRead, UnfitIs, IsTable, NoTableIs, NoIndexIs};
+ghost use Rattle.folder_shapes.specs.Reading.{IsReadAs, NotRead, UnfitIs, IsTable, NoTableIs, NoIndexIs};
 
 use crate::found::FoundTable;
 use crate::note::Note;
@@ -22,7 +22,7 @@ const MOST_ROWS: usize = 1_000_000;
 
 /// The bytes of a file of at most 64 MiB.
 pub fn read_bytes<F: Files>(alloc: Global, files: &mut F, name: &[u8]) -> Result<Vec<u8>, Unfit>
-    ensures bytes { IfOk result (λ bytes. AreRead (F.holds files.old) name.now bytes.items) }
+    ensures bytes { IfOk result (λ bytes. IsReadAs (F.holds files.old) name.now bytes.items) }
     ensures unfit { IfErr result (UnfitIs (NotRead (F.holds files.old) name.now)) }
     ensures kept { SameFiles (F.holds files.old) (F.holds files.new) }
 {

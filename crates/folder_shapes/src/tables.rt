@@ -4,10 +4,10 @@ ghost use Rattle.std.specs.Prelude.{◌≡◌, ◌<◌, length, map, take, IfOk,
 ghost use Rattle.shape_files.specs.Shapes.{plain, in_capitals};
 ghost use Rattle.folder_shapes.specs.Names.{stem as stem_of};
 ghost use Rattle.folder_shapes.specs.Reading.{UnfitIs};
-ghost use Rattle.folder_shapes.specs.States.{state_of};
-ghost use Rattle.folder_shapes.specs.Told.{Declares, MayDeclare, MayNotDeclare};
+ghost use Rattle.folder_shapes.specs.States.{taken_state};
+ghost use Rattle.folder_shapes.specs.Told.{DeclaresFound, MayDeclare, MayNotDeclare};
 
-use crate::declared::Declared;
+use crate::declared::FolderDeclared;
 use crate::found::FoundTable;
 use crate::names::{capitals, has_small, stem};
 use crate::note::Note;
@@ -49,7 +49,7 @@ fn declaration(
     name: &[u8],
     found: &FoundTable,
 ) -> Result<Option<TableShape>, AllocError>
-    ensures { IfOk result (λ shape. MatchOption shape (10 < length (stem_of name.now)) (Declares name.now found.now)) }
+    ensures { IfOk result (λ shape. MatchOption shape (10 < length (stem_of name.now)) (DeclaresFound name.now found.now)) }
 {
     let Some(name) = capitals(stem(name)) else {
         return Ok(None);
@@ -64,12 +64,12 @@ fn declaration(
 /// The declaration of a table in a file of that name behind what is declared.
 pub fn table_shape(
     alloc: Global,
-    declared: &Declared,
+    declared: &FolderDeclared,
     name: &[u8],
     found: &FoundTable,
 ) -> Result<TableShape, Unfit>
-    ensures shape { IfOk result (MayDeclare (state_of declared.now) name.now found.now) }
-    ensures unfit { IfErr result (UnfitIs (MayNotDeclare (state_of declared.now) name.now found.now)) }
+    ensures shape { IfOk result (MayDeclare (taken_state declared.now) name.now found.now) }
+    ensures unfit { IfErr result (UnfitIs (MayNotDeclare (taken_state declared.now) name.now found.now)) }
 {
     let Some(table) = declaration(alloc, name, found)? else {
         return Err(Unfit::Noted(Note::NoName));

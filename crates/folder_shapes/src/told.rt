@@ -1,6 +1,6 @@
 //! A line of a declaration file.
 
-use crate::declared::Declared;
+use crate::declared::FolderDeclared;
 use crate::line::Line;
 use crate::note::Note;
 use std::fmt::{self, Display, Formatter, Write};
@@ -8,7 +8,7 @@ use std::fmt::{self, Display, Formatter, Write};
 /// A line of the declaration file of a folder whose files have these names.
 #[derive(Clone, Copy)]
 pub struct LineTold<'a> {
-    pub declared: &'a Declared,
+    pub declared: &'a FolderDeclared,
     pub names: &'a [&'a [u8]],
     pub line: Line,
 }
@@ -48,7 +48,7 @@ impl Display for Capitals<'_> {
 /// The byte with which tables with memo files begin.
 const MEMO: u8 = 131;
 
-fn put_table<W: Write>(f: &mut Formatter<W>, declared: &Declared, t: usize) -> fmt::Result {
+fn put_table<W: Write>(f: &mut Formatter<W>, declared: &FolderDeclared, t: usize) -> fmt::Result {
     match declared.tables.get(t) {
         Some(table) => {
             let name = Shown(table.name.as_slice());
@@ -58,7 +58,7 @@ fn put_table<W: Write>(f: &mut Formatter<W>, declared: &Declared, t: usize) -> f
     }
 }
 
-fn put_index<W: Write>(f: &mut Formatter<W>, declared: &Declared, i: usize) -> fmt::Result {
+fn put_index<W: Write>(f: &mut Formatter<W>, declared: &FolderDeclared, i: usize) -> fmt::Result {
     let Some(index) = declared.indexes.get(i) else {
         return Ok(());
     };

@@ -17,15 +17,15 @@ abbrev pub is_blank : ℕ → Bool
 is_blank byte = byte == 32
 
 -- a text without the blanks at its end, and without those at its front
-abbrev pub without_end : List ℕ → List ℕ
-without_end text = take (length text - suffix_len is_blank text) text
+abbrev pub end_trimmed : List ℕ → List ℕ
+end_trimmed text = take (length text - suffix_len is_blank text) text
 
 abbrev pub without_front : List ℕ → List ℕ
 without_front text = drop (prefix_len is_blank text) text
 
 -- a number as it stands, without the blanks around it; empty where asterisks stand for a number that had no room
 unfoldable pub number_cell : List ℕ → List ℕ
-number_cell text = if list_any (λ byte. byte == 42) text then [] else without_front (without_end text)
+number_cell text = if list_any (λ byte. byte == 42) text then [] else without_front (end_trimmed text)
 
 -- YYYY-MM-DD of the eight digits of a day
 abbrev pub hyphened : List ℕ → List ℕ
@@ -44,22 +44,22 @@ unfoldable pub truth_cell : List ℕ → List ℕ
 truth_cell text = if is_yes (slice_index text 0) then codes "true" else codes "false"
 
 abbrev pub cell_by : Letter → List ℕ → List ℕ
-cell_by C text = without_end text
+cell_by C text = end_trimmed text
 cell_by N text = number_cell text
 cell_by D text = day_cell text
 cell_by L text = truth_cell text
 
 -- what is told of a field's text
-unfoldable pub cell : Field → List ℕ → List ℕ
-cell f text = cell_by f.letter text
+unfoldable pub csv_cell : Field → List ℕ → List ℕ
+csv_cell f text = cell_by f.letter text
 
 -- ---- lines
 
 -- the cells of a row's fields
-abbrev pub cells : List Field → List (List ℕ) → List (List ℕ)
-cells [] texts = []
-cells (f ∷ fields) [] = []
-cells (f ∷ fields) (text ∷ texts) = cell f text ∷ cells fields texts
+abbrev pub csv_cells : List Field → List (List ℕ) → List (List ℕ)
+csv_cells [] texts = []
+csv_cells (f ∷ fields) [] = []
+csv_cells (f ∷ fields) (text ∷ texts) = csv_cell f text ∷ csv_cells fields texts
 
 -- an asterisk where the row is marked, else empty
 abbrev pub mark_cell : Bool → List ℕ
@@ -70,12 +70,12 @@ abbrev pub names_line : List Field → List (List ℕ)
 names_line fields = codes "DELETED" ∷ map (λ f. f.name.items) fields
 
 -- a row: its mark, and its cells
-abbrev pub row_line : List Field → Row → List (List ℕ)
-row_line fields row = mark_cell row.marked ∷ cells fields row.texts
+abbrev pub csv_line : List Field → Row → List (List ℕ)
+csv_line fields row = mark_cell row.marked ∷ csv_cells fields row.texts
 
 -- a line of names, and a line for each row
 abbrev pub lines_of : List Field → List Row → List (List (List ℕ))
-lines_of fields rows = names_line fields ∷ map (row_line fields) rows
+lines_of fields rows = names_line fields ∷ map (csv_line fields) rows
 
 -- lines as comma-separated values, each ended by a line feed, with quotes where a cell needs them
 unfoldable pub lines_text : List (List (List ℕ)) → List ℕ

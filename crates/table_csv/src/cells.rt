@@ -41,7 +41,7 @@ fn blanks_at_end(text: &[u8]) -> usize
 }
 
 fn without_end(text: &[u8]) -> &[u8]
-    ensures { result.now ≡ spec.without_end text.now }
+    ensures { result.now ≡ spec.end_trimmed text.now }
 {
     &text[..text.len() - blanks_at_end(text)]
 }
@@ -132,7 +132,7 @@ fn truth_cell(field: &Field, text: &[u8]) -> &'static [u8]
 }
 
 /// Puts the cell of a field's text behind the others.
-#[tactic(auto, unfolding(crate::specs::Cells::cell))]
+#[tactic(auto, unfolding(crate::specs::Cells::csv_cell))]
 fn put_cell(
     alloc: Global,
     line: &mut ByteRecord,
@@ -140,7 +140,7 @@ fn put_cell(
     text: &[u8],
 ) -> Result<(), AllocError>
     requires { partial_of line.old ≡ [] }
-    ensures cells { OnOk result (fields_of line.new ≡ fields_of line.old ++ spec.cell field.now text.now ∷ []) }
+    ensures cells { OnOk result (fields_of line.new ≡ fields_of line.old ++ spec.csv_cell field.now text.now ∷ []) }
     ensures whole { OnOk result (partial_of line.new ≡ []) }
 {
     match field.letter {
@@ -161,7 +161,7 @@ fn put_cells(
     requires row { r < length table.now.rows }
     requires whole { partial_of line.old ≡ [] }
     ensures cells { OnOk result (fields_of line.new ≡ fields_of line.old
-        ++ spec.cells table.now.structure.fields (row_at table.now.rows r).texts) }
+        ++ spec.csv_cells table.now.structure.fields (row_at table.now.rows r).texts) }
     ensures whole { OnOk result (partial_of line.new ≡ []) }
 {
     let _ = table.rows();
@@ -179,7 +179,7 @@ pub(crate) fn put_row(
     r: usize,
 ) -> Result<(), AllocError>
     requires { r < length table.now.rows }
-    ensures { OnOk result (fields_of line.new ≡ spec.row_line table.now.structure.fields (row_at table.now.rows r)) }
+    ensures { OnOk result (fields_of line.new ≡ spec.csv_line table.now.structure.fields (row_at table.now.rows r)) }
 {
     line.clear();
     let _ = table.rows();

@@ -1,7 +1,7 @@
 use Rattle.std.proofs.Common.{◌≡◌, ◌<◌, [], length, take, subst, ap, ◌∙◌, rules}
 use Rattle.std.proofs.Math.Seq.{take-length}
 use Rattle.dbf_file.specs.Rows.{no_row}
-use Rattle.table_csv.specs.Cells.{lines_of, lines_text, names_line, row_line}
+use Rattle.table_csv.specs.Cells.{lines_of, lines_text, names_line, csv_line}
 use Rattle.table_csv.specs.Written.{HasWritten}
 use Rattle.table_csv.proofs.LineLemmas.{first_line, more_lines}
 use Rattle.table_csv.proofs.writing.csv_of.Goals as goal
@@ -17,7 +17,7 @@ pub loop-r-preserved : goal.loop-r-preserved
 loop-r-preserved c =
     let below : c.loop-r.r < length c.args.table.now.rows = search rules in
     subst (λ t. HasWritten t c.put_line-in-loop-r.new.writer)
-    (more_lines (names_line c.args.table.now.structure.fields) _ (row_line c.args.table.now.structure.fields) c.args.table.now.rows c.loop-r.r no_row below c.in_ok-put_row.ensures)
+    (more_lines (names_line c.args.table.now.structure.fields) _ (csv_line c.args.table.now.structure.fields) c.args.table.now.rows c.loop-r.r no_row below c.in_ok-put_row.ensures)
     (c.in_ok-put_line-2.ensures _ c.loop-r.invariant)
 
 pub returns : goal.returns
