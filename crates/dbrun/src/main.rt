@@ -245,17 +245,17 @@ fn in_order(alloc: Global, names: &[u8]) -> Result<Vec<&[u8]>, AllocError> {
 }
 
 /// Prints the declaration file of the files of these names.
-fn print_declared<R: Runtime<A = Global>>(
+fn print_declared<'n, R: Runtime<A = Global>>(
     rt: &R,
     audience: Audience,
-    names: &[&[u8]],
+    names: &'n [&'n [u8]],
 ) -> Result<Status, AllocError> {
     let mut folder = folder(rt, audience);
     let declared = declare(rt.alloc(), &mut folder, names)?;
     for line in declared.lines.as_slice() {
         let told = LineTold {
             declared: &declared,
-            names: &*names,
+            names,
             line: *line,
         };
         if println!(rt; "{told}").is_err() {

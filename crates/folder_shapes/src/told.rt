@@ -7,9 +7,9 @@ use std::fmt::{self, Display, Formatter, Write};
 
 /// A line of the declaration file of a folder whose files have these names.
 #[derive(Clone, Copy)]
-pub struct LineTold<'a> {
-    pub declared: &'a FolderDeclared,
-    pub names: &'a [&'a [u8]],
+pub struct LineTold<'d, 'n> {
+    pub declared: &'d FolderDeclared,
+    pub names: &'n [&'n [u8]],
     pub line: Line,
 }
 
@@ -85,7 +85,7 @@ fn put_note<W: Write>(f: &mut Formatter<W>, name: &[u8], note: Note) -> fmt::Res
     }
 }
 
-impl Display for LineTold<'_> {
+impl Display for LineTold<'_, '_> {
     fn fmt<W: Write>(&self, f: &mut Formatter<W>) -> fmt::Result {
         match self.line {
             Line::Table(t) => put_table(f, self.declared, t),
