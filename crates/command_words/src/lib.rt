@@ -3,4 +3,4 @@
 
 mod words;
 
-pub use words::{Words, WordsFault, command, sources_of, words_of};
+pub use words::{Listing, Words, WordsFault, command, sources_of, words_of};

@@ -1,7 +1,8 @@
 // The words of the command line.
 #![tactic(auto)]
 
-use clap::{Arg, ArgMatches, Command, value_parser};
+use clap::{Arg, ArgAction, ArgMatches, Command, value_parser};
+use code_pages::CodePage;
 use run_commands::{Job, RecordLimit, RunDay};
 use std::alloc::{AllocError, Global};
 
@@ -18,8 +19,21 @@ pub enum WordsFault {
     Today,
     /// The most records of a table isn't one of 1 to 1,000,000.
     Limit,
+    /// The code page of a listing is none that is known.
+    Page,
     /// A word is missing.
     Missing,
+}
+
+/// How a table is listed.
+#[derive(Clone, Copy, Debug)]
+pub struct Listing<'a> {
+    /// The table's file.
+    pub name: &'a str,
+    /// Whether as comma-separated values.
+    pub csv: bool,
+    /// What its bytes stand for; they are printed as they stand where the words don't say.
+    pub page: Option<CodePage>,
 }
 
 /// What the words ask for. A file is named as in the current folder.
@@ -34,9 +48,11 @@ pub enum Words<'a> {
     /// List a code file.
     Code { name: &'a str },
     /// List a table.
-    List { name: &'a str },
+    List(Listing<'a>),
     /// List an index file.
     Index { name: &'a str },
+    /// Print the declaration file of the folder.
+    Declare,
 }
 
 /// The version of all that stands in this repository.
@@ -82,6 +98,25 @@ fn reader<'a>(
         .about(about)
         .after_help(example)
         .arg(file)
+}
+
+fn lister<'a>(alloc: Global) -> Result<Command<'a>, AllocError> {
+    let csv = Arg::new(alloc, "csv")
+        .long("csv")
+        .action(ArgAction::SetTrue)
+        .help("Comma-separated values, with the marks in a first column DELETED");
+    let page = Arg::new(alloc, "from").long("from").value_name("PAGE").help(
+        "The code page of the table's texts, cp437 or cp850: prints UTF-8",
+    );
+    reader(
+        alloc,
+        "list",
+        "Lists a table",
+        "TABLE",
+        "Example: dbrun list CUST.DBF --csv --from cp437",
+    )?
+    .arg(csv)?
+    .arg(page)
 }
 
 fn runner<'a>(
@@ -161,20 +196,21 @@ fn with_readers<'a>(alloc: Global, command: Command<'a>) -> Result<Command<'a>, 
             "CODE",
             "Example: dbrun code DAY.XBC",
         )?)?
-        .subcommand(reader(
-            alloc,
-            "list",
-            "Lists a table",
-            "TABLE",
-            "Example: dbrun list ORDERS.DBF",
-        )?)?
+        .subcommand(lister(alloc)?)?
         .subcommand(reader(
             alloc,
             "index",
             "Lists an index file",
             "INDEX",
             "Example: dbrun index ORDKEY.NDX",
-        )?)
+        )?)?
+        .subcommand(declarer(alloc))
+}
+
+fn declarer<'a>(alloc: Global) -> Command<'a> {
+    Command::new(alloc, "declare")
+        .about("Prints a declaration file of the tables and indexes in the current folder")
+        .after_help("Example: dbrun declare > MADE.DCL")
 }
 
 /// The commands that `dbrun` knows.
@@ -206,6 +242,15 @@ fn limit_of(matches: &ArgMatches<'_>) -> Result<RecordLimit, WordsFault> {
 fn day_of(matches: &ArgMatches<'_>) -> Result<RunDay, WordsFault> {
     let word = matches.get_str("today").unwrap_or(DEFAULT_DAY);
     RunDay::named(word).ok_or(WordsFault::Today)
+}
+
+fn page_of(matches: &ArgMatches<'_>) -> Result<Option<CodePage>, WordsFault> {
+    match matches.get_str("from") {
+        Some("cp437") => Ok(Some(CodePage::Cp437)),
+        Some("cp850") => Ok(Some(CodePage::Cp850)),
+        Some(_) => Err(WordsFault::Page),
+        None => Ok(None),
+    }
 }
 
 fn word_of<'a>(matches: &ArgMatches<'a>, id: &str) -> Result<&'a str, WordsFault> {
@@ -246,12 +291,15 @@ pub fn words_of<'a>(matches: &ArgMatches<'a>) -> Result<Words<'a>, WordsFault> {
         "code" => Ok(Words::Code {
             name: word_of(matches, FILE)?,
         }),
-        "list" => Ok(Words::List {
+        "list" => Ok(Words::List(Listing {
             name: word_of(matches, FILE)?,
-        }),
+            csv: matches.get_flag("csv"),
+            page: page_of(matches)?,
+        })),
         "index" => Ok(Words::Index {
             name: word_of(matches, FILE)?,
         }),
+        "declare" => Ok(Words::Declare),
         _ => Err(WordsFault::Missing),
     }
 }

@@ -1,4 +1,5 @@
-//! `dbrun`: compiles command files, verifies, runs and lists code files, lists tables and indexes.
+//! `dbrun`: compiles command files, verifies, runs and lists code files, lists tables and indexes, and declares those
+//! of a folder.
 //!
 //! What a command does with files stands in functions over the trait `Files`; here the words of the command line are
 //! carried out, and what they give is printed.
@@ -9,7 +10,8 @@ mod shown;
 use crate::shown::{Audience, Place, Progress, faulty_place, line_at};
 use clap::error::ErrorKind;
 use clap::{ArgMatches, Command};
-use command_words::{Words, WordsFault, command, sources_of, words_of};
+use code_pages::{CodePage, in_utf8};
+use command_words::{Listing, Words, WordsFault, command, sources_of, words_of};
 use compile_commands::{CompileFilesRefusal, CompileTold, CompileWords, compile_files};
 use file_access::{Files, ReadFault, read_within};
 use file_commands::{
@@ -19,16 +21,21 @@ use folder_files::{
     FinishedSave, Folder, Held, Nobody, SavingFolder, UnfinishedSave, Unsaved, finish, note_stands,
     paper_name, take_folder,
 };
+use folder_shapes::{LineTold, declare};
 use run_commands::{Job, Report, run_files};
 use shape_files::ShapeRefusal;
-use std::alloc::Global;
+use std::alloc::{AllocError, Global};
 use std::fs::File;
 use std::process::ExitCode;
 use std::rt::Runtime;
 use std::{env, io};
+use table_csv::list_csv;
 
 /// The most bytes that an operator may type for a run: 1 MiB.
 const INPUT_LIMIT: usize = 1_048_576;
+
+/// The most bytes of all names of a folder: 64 MiB.
+const NAMES_LIMIT: usize = 67_108_864;
 
 /// Tells on standard error why a command isn't carried out.
 fn refuse(rt: &impl Runtime, refusal: Refusal<'_>) -> Status {
@@ -318,16 +325,109 @@ fn code<R: Runtime<A = Global>>(rt: &R, audience: Audience, name: &str) -> Statu
     print_lines(rt, list_code(rt.alloc(), &mut folder, name))
 }
 
-fn list<R: Runtime<A = Global, File = File>>(rt: &R, audience: Audience, name: &str) -> Status {
-    settle(rt);
+/// Lines in UTF-8, where the words say what their bytes stand for.
+fn shown_lines(
+    alloc: Global,
+    page: Option<CodePage>,
+    lines: Vec<u8>,
+) -> Result<Vec<u8>, Refusal<'static>> {
+    let Some(page) = page else {
+        return Ok(lines);
+    };
+    match in_utf8(alloc, page, lines.as_slice()) {
+        Ok(shown) => Ok(shown.into_bytes()),
+        Err(_) => Err(Refusal::Memory),
+    }
+}
+
+/// The lines of a table.
+fn table_lines<'a, R: Runtime<A = Global>>(
+    rt: &R,
+    audience: Audience,
+    listing: Listing<'a>,
+) -> Result<Vec<u8>, Refusal<'a>> {
     let mut folder = folder(rt, audience);
-    print_lines(rt, list_table(rt.alloc(), &mut folder, name))
+    if listing.csv {
+        list_csv(rt.alloc(), &mut folder, listing.name)
+    } else {
+        list_table(rt.alloc(), &mut folder, listing.name)
+    }
+}
+
+fn list<R: Runtime<A = Global, File = File>>(
+    rt: &R,
+    audience: Audience,
+    listing: Listing<'_>,
+) -> Status {
+    settle(rt);
+    match table_lines(rt, audience, listing) {
+        Ok(lines) => print_lines(rt, shown_lines(rt.alloc(), listing.page, lines)),
+        Err(refusal) => refuse(rt, refusal),
+    }
 }
 
 fn index<R: Runtime<A = Global, File = File>>(rt: &R, audience: Audience, name: &str) -> Status {
     settle(rt);
     let mut folder = folder(rt, audience);
     print_lines(rt, list_index(rt.alloc(), &mut folder, name))
+}
+
+/// The names in the current folder, each ended by a zero byte.
+fn folder_names<R: Runtime<A = Global>>(rt: &R) -> Result<Vec<u8>, Refusal<'static>> {
+    let Ok(mut names) = rt.open_dir(".") else {
+        return Err(Refusal::Disk { name: "." });
+    };
+    match read_within(rt.alloc(), &mut names, NAMES_LIMIT) {
+        Ok(names) => Ok(names),
+        Err(ReadFault::Memory) => Err(Refusal::Memory),
+        Err(_) => Err(Refusal::Disk { name: "." }),
+    }
+}
+
+/// The names one by one, in the order of their bytes.
+fn in_order(alloc: Global, names: &[u8]) -> Result<Vec<&[u8]>, AllocError> {
+    let mut sorted = Vec::new(alloc);
+    for name in names.split(|byte| *byte == 0) {
+        sorted.push(name)?;
+    }
+    sorted.sort()?;
+    Ok(sorted)
+}
+
+/// Prints the declaration file of the files of these names.
+fn print_declared<'n, R: Runtime<A = Global>>(
+    rt: &R,
+    audience: Audience,
+    names: &'n [&'n [u8]],
+) -> Result<Status, AllocError> {
+    let mut folder = folder(rt, audience);
+    let declared = declare(rt.alloc(), &mut folder, names)?;
+    for line in declared.lines.as_slice() {
+        let told = LineTold {
+            declared: &declared,
+            names,
+            line: *line,
+        };
+        if println!(rt; "{told}").is_err() {
+            return Ok(Status::Disk);
+        }
+    }
+    Ok(Status::Done)
+}
+
+fn declare_folder<R: Runtime<A = Global, File = File>>(rt: &R, audience: Audience) -> Status {
+    settle(rt);
+    let bytes = match folder_names(rt) {
+        Ok(bytes) => bytes,
+        Err(refusal) => return refuse(rt, refusal),
+    };
+    let Ok(names) = in_order(rt.alloc(), bytes.as_slice()) else {
+        return no_memory(rt);
+    };
+    match print_declared(rt, audience, names.as_slice()) {
+        Ok(status) => status,
+        Err(_) => no_memory(rt),
+    }
 }
 
 fn carry_out<R: Runtime<A = Global, File = File>>(
@@ -341,8 +441,9 @@ fn carry_out<R: Runtime<A = Global, File = File>>(
         Words::Run(job) => Ok(run(rt, audience, &job)),
         Words::Verify { name } => Ok(verify(rt, audience, name)),
         Words::Code { name } => Ok(code(rt, audience, name)),
-        Words::List { name } => Ok(list(rt, audience, name)),
+        Words::List(listing) => Ok(list(rt, audience, listing)),
         Words::Index { name } => Ok(index(rt, audience, name)),
+        Words::Declare => Ok(declare_folder(rt, audience)),
     }
 }
 
@@ -391,6 +492,7 @@ fn refuse_words(rt: &impl Runtime, error: &clap::Error) -> Status {
 fn message(fault: WordsFault) -> &'static str {
     match fault {
         WordsFault::Today => "the day of --today is YYYY-MM-DD, in the years 1900 to 2155",
+        WordsFault::Page => "the code page of --from is cp437 or cp850",
         WordsFault::Limit => "the number of --limit is one of 1 to 1000000",
         WordsFault::Missing => "a word is missing",
     }

@@ -1,0 +1,7 @@
+pub mod FieldLemmas
+pub mod FolderLemmas
+pub mod KeyLemmas
+pub mod LegalLemmas
+pub mod OwnerLemmas
+pub mod PairLemmas
+pub mod ShapeLemmas

@@ -1,0 +1,15 @@
+//! What is declared.
+
+use crate::found::FoundTable;
+use crate::line::Line;
+use shape::{IndexShape, TableShape};
+
+/// The tables and indexes of a folder that are declared, and what is told of each file.
+#[derive(Drop)]
+pub struct FolderDeclared {
+    pub tables: Vec<TableShape>,
+    /// The same tables with their rows.
+    pub found: Vec<FoundTable>,
+    pub indexes: Vec<IndexShape>,
+    pub lines: Vec<Line>,
+}

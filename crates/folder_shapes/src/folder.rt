@@ -1,0 +1,268 @@
+//! The files of a folder, one after the other.
+
+ghost use Rattle.std.specs.Prelude.{◌≡◌, ◌≤◌, true, length, map, IfOk, IfErr, OnOk};
+ghost use Rattle.file_access.specs.Holding.{SameFiles};
+ghost use Rattle.folder_shapes.specs.declared.note.Note.{Note as TheNote};
+ghost use Rattle.folder_shapes.specs.declared.unfit.Unfit.TheVariants.{Noted};
+ghost use Rattle.folder_shapes.specs.Reading.{UnfitIs, IsTableFile, NoTableFile, IsFileOfIndex, NoFileOfIndex};
+ghost use Rattle.shape.specs.Whole.{is_shape};
+ghost use Rattle.folder_shapes.specs.States.{taken_state, declared_shape};
+ghost use Rattle.folder_shapes.specs.Told.{HasTable, HasIndex, WhyNoTable, WhyNoIndex, TakesTable, TakesIndex, TakesFolder};
+ghost use Rattle.folder_shapes.specs.Told.{nothing_taken as nothing_told, with_note, with_table, with_found_index};
+ghost use Rattle.folder_shapes.specs.Told.{TableStep, IndexStep, TakeTables};
+ghost use Rattle.folder_shapes.specs.Names.{sort_of as sort_of_name};
+
+use crate::declared::FolderDeclared;
+use crate::found::FoundTable;
+use crate::indexes::index_shape;
+use crate::line::Line;
+use crate::names::{Sort, sort_of};
+use crate::note::Note;
+use crate::reading::{index_in, read_bytes, table_in};
+use crate::tables::table_shape;
+use crate::unfit::Unfit;
+use file_access::Files;
+use ndx_tree::NdxTree;
+use shape::{IndexShape, TableShape};
+use std::alloc::{AllocError, Global};
+
+/// The table in a file.
+fn table_file<F: Files>(alloc: Global, files: &mut F, name: &[u8]) -> Result<FoundTable, Unfit>
+    ensures found { IfOk result (IsTableFile (F.holds files.old) name.now) }
+    ensures unfit { IfErr result (UnfitIs (NoTableFile (F.holds files.old) name.now)) }
+    ensures kept { SameFiles (F.holds files.old) (F.holds files.new) }
+{
+    let bytes = read_bytes(alloc, files, name)?;
+    let found = table_in(alloc, bytes.as_slice())?;
+    Ok(found)
+}
+
+/// The index in a file.
+fn index_file<F: Files>(alloc: Global, files: &mut F, name: &[u8]) -> Result<NdxTree, Unfit>
+    ensures index { IfOk result (λ tree. IsFileOfIndex (F.holds files.old) name.now tree.form tree.pairs) }
+    ensures unfit { IfErr result (UnfitIs (NoFileOfIndex (F.holds files.old) name.now)) }
+    ensures kept { SameFiles (F.holds files.old) (F.holds files.new) }
+{
+    let bytes = read_bytes(alloc, files, name)?;
+    match index_in(alloc, bytes.as_slice()) {
+        Ok(tree) => Ok(tree),
+        Err(unfit) => Err(unfit),
+    }
+}
+
+impl FolderDeclared {
+    /// Nothing yet.
+    fn nothing(alloc: Global) -> FolderDeclared
+        ensures { taken_state result ≡ nothing_told }
+    {
+        FolderDeclared {
+            tables: Vec::new(alloc),
+            found: Vec::new(alloc),
+            indexes: Vec::new(alloc),
+            lines: Vec::new(alloc),
+        }
+    }
+
+    /// Notes why a file isn't taken, unless memory was refused.
+    fn note(&mut self, file: usize, unfit: Unfit) -> Result<(), AllocError>
+        ensures noted { OnOk result ((told : TheNote) × (unfit ≡ Noted told)
+            × (taken_state self.new ≡ with_note file told (taken_state self.old))) }
+    {
+        match unfit {
+            Unfit::Noted(note) => {
+                self.lines.push(Line::Noted(file, note))?;
+                Ok(())
+            }
+            Unfit::Memory => Err(AllocError),
+        }
+    }
+
+    /// The table in a file, and its declaration.
+    fn next_table<F: Files>(
+        &self,
+        alloc: Global,
+        files: &mut F,
+        name: &[u8],
+    ) -> Result<(TableShape, FoundTable), Unfit>
+        ensures table { IfOk result (λ x. HasTable (F.holds files.old) (taken_state self.now) name.now x.0 x.1) }
+        ensures unfit { IfErr result (UnfitIs (WhyNoTable (F.holds files.old) (taken_state self.now) name.now)) }
+        ensures kept { SameFiles (F.holds files.old) (F.holds files.new) }
+    {
+        let found = table_file(alloc, files, name)?;
+        match table_shape(alloc, self, name, &found) {
+            Ok(shape) => Ok((shape, found)),
+            Err(unfit) => Err(unfit),
+        }
+    }
+
+    fn add_table(&mut self, shape: TableShape, found: FoundTable) -> Result<(), AllocError>
+        ensures { OnOk result (taken_state self.new ≡ with_table shape found (taken_state self.old)) }
+    {
+        self.lines.push(Line::Table(self.tables.len()))?;
+        self.tables.push(shape)?;
+        self.found.push(found)?;
+        Ok(())
+    }
+
+    /// Takes the table in the file of that number.
+    fn take_table<F: Files>(
+        &mut self,
+        alloc: Global,
+        files: &mut F,
+        file: usize,
+        name: &[u8],
+    ) -> Result<(), AllocError>
+        ensures taken { OnOk result (TakesTable (F.holds files.old) file name.now (taken_state self.old)
+            (taken_state self.new)) }
+        ensures kept { SameFiles (F.holds files.old) (F.holds files.new) }
+    {
+        match self.next_table(alloc, files, name) {
+            Ok((shape, found)) => {
+                self.add_table(shape, found)?;
+                Ok(())
+            }
+            Err(unfit) => self.note(file, unfit),
+        }
+    }
+
+    /// The declaration of the index in a file, and whether it is stale.
+    fn next_index<F: Files>(
+        &self,
+        alloc: Global,
+        files: &mut F,
+        name: &[u8],
+    ) -> Result<(IndexShape, bool), Unfit>
+        requires { length self.now.found.items ≤ 32 }
+        ensures index { IfOk result (λ x. HasIndex (F.holds files.old) (taken_state self.now) name.now x.0 x.1) }
+        ensures unfit { IfErr result (UnfitIs (WhyNoIndex (F.holds files.old) (taken_state self.now) name.now)) }
+        ensures kept { SameFiles (F.holds files.old) (F.holds files.new) }
+    {
+        let mut tree = index_file(alloc, files, name)?;
+        match index_shape(alloc, self, name, &mut tree) {
+            Ok(index) => Ok(index),
+            Err(unfit) => Err(unfit),
+        }
+    }
+
+    fn add_index(&mut self, file: usize, index: IndexShape, stale: bool) -> Result<(), AllocError>
+        ensures { OnOk result (taken_state self.new ≡ with_found_index file index stale (taken_state self.old)) }
+    {
+        self.lines.push(Line::Index(self.indexes.len()))?;
+        self.indexes.push(index)?;
+        if stale {
+            self.lines.push(Line::Noted(file, Note::Stale))?;
+        }
+        Ok(())
+    }
+
+    /// Takes the index in the file of that number.
+    fn take_index<F: Files>(
+        &mut self,
+        alloc: Global,
+        files: &mut F,
+        file: usize,
+        name: &[u8],
+    ) -> Result<(), AllocError>
+        requires { length self.old.found.items ≤ 32 }
+        ensures taken { OnOk result (TakesIndex (F.holds files.old) file name.now (taken_state self.old)
+            (taken_state self.new)) }
+        ensures kept { SameFiles (F.holds files.old) (F.holds files.new) }
+    {
+        match self.next_index(alloc, files, name) {
+            Ok((index, stale)) => {
+                self.add_index(file, index, stale)?;
+                Ok(())
+            }
+            Err(unfit) => self.note(file, unfit),
+        }
+    }
+
+    /// Takes the file of that number if its name is a table's.
+    fn table_step<F: Files>(
+        &mut self,
+        alloc: Global,
+        files: &mut F,
+        file: usize,
+        name: &[u8],
+    ) -> Result<(), AllocError>
+        ensures taken { OnOk result (TableStep (sort_of_name name.now) (F.holds files.old) file name.now
+            (taken_state self.old) (taken_state self.new)) }
+        ensures kept { SameFiles (F.holds files.old) (F.holds files.new) }
+    {
+        match sort_of(name) {
+            Sort::Table => self.take_table(alloc, files, file, name),
+            Sort::Index | Sort::Other => Ok(()),
+        }
+    }
+
+    /// Takes the file of that number if its name is an index's.
+    fn index_step<F: Files>(
+        &mut self,
+        alloc: Global,
+        files: &mut F,
+        file: usize,
+        name: &[u8],
+    ) -> Result<(), AllocError>
+        requires { length self.old.found.items ≤ 32 }
+        ensures taken { OnOk result (IndexStep (sort_of_name name.now) (F.holds files.old) file name.now
+            (taken_state self.old) (taken_state self.new)) }
+        ensures kept { SameFiles (F.holds files.old) (F.holds files.new) }
+    {
+        match sort_of(name) {
+            Sort::Index => self.take_index(alloc, files, file, name),
+            Sort::Table | Sort::Other => Ok(()),
+        }
+    }
+}
+
+/// Takes the tables of a folder.
+fn take_tables<F: Files>(
+    alloc: Global,
+    files: &mut F,
+    names: &[&[u8]],
+) -> Result<FolderDeclared, AllocError>
+    ensures taken { IfOk result (λ declared. TakeTables (F.holds files.old) 0 (map (λ name. name.now) names.now)
+        nothing_told (taken_state declared)) }
+    ensures few { IfOk result (λ declared. length declared.found.items ≤ 32) }
+    ensures kept { SameFiles (F.holds files.old) (F.holds files.new) }
+{
+    let mut declared = FolderDeclared::nothing(alloc);
+    for (file, name) in names.iter().enumerate() {
+        declared.table_step(alloc, files, file, name)?;
+    }
+    Ok(declared)
+}
+
+/// Takes the tables and then the indexes of a folder.
+fn take_all<F: Files>(
+    alloc: Global,
+    files: &mut F,
+    names: &[&[u8]],
+) -> Result<FolderDeclared, AllocError>
+    ensures taken { IfOk result (λ declared. TakesFolder (F.holds files.old) (map (λ name. name.now) names.now)
+        (taken_state declared)) }
+    ensures kept { SameFiles (F.holds files.old) (F.holds files.new) }
+{
+    let mut declared = take_tables(alloc, files, names)?;
+    for (file, name) in names.iter().enumerate() {
+        declared.index_step(alloc, files, file, name)?;
+    }
+    Ok(declared)
+}
+
+/// What the tables and indexes of a folder declare, in the order of its names, the tables first.
+pub fn declare<F: Files>(
+    alloc: Global,
+    files: &mut F,
+    names: &[&[u8]],
+) -> Result<FolderDeclared, AllocError>
+    // Each file of a table is declared, or noted with a reason that is true of it, and then each file of an index.
+    ensures taken { IfOk result (λ declared. TakesFolder (F.holds files.old) (map (λ name. name.now) names.now)
+        (taken_state declared)) }
+    // It is a shape that a code can have.
+    ensures legal { IfOk result (λ declared. is_shape (declared_shape declared) ≡ true) }
+    ensures kept { SameFiles (F.holds files.old) (F.holds files.new) }
+{
+    let declared = take_all(alloc, files, names)?;
+    Ok(declared)
+}
