@@ -7,7 +7,7 @@
 
 mod shown;
 
-use crate::shown::{Audience, Place, Progress, faulty_place, line_at};
+use crate::shown::{Audience, FaultyLine, Progress, faulty_line, line_at};
 use clap::error::ErrorKind;
 use clap::{ArgMatches, Command};
 use code_pages::{CodePage, in_utf8};
@@ -80,7 +80,7 @@ fn of_compiling(refusal: &CompileFilesRefusal) -> Status {
 }
 
 /// Shows a faulty line on standard error, where its file can still be read.
-fn show_faulty<R: Runtime<A = Global>>(rt: &R, place: Place<'_>) {
+fn show_faulty<R: Runtime<A = Global>>(rt: &R, place: FaultyLine<'_>) {
     let mut folder = Folder::new(rt, Nobody);
     if let Ok(bytes) = folder.read(rt.alloc(), place.file, FILE_LIMIT) {
         if let Some(line) = line_at(bytes.as_slice(), place.line) {
@@ -110,7 +110,7 @@ fn compile<'a, R: Runtime<A = Global>>(
         words,
     };
     let _ = eprintln!(rt; "{told}");
-    if let (Audience::Person, Some(place)) = (audience, faulty_place(&refusal, words)) {
+    if let (Audience::Person, Some(place)) = (audience, faulty_line(&refusal, words)) {
         show_faulty(rt, place);
     }
     Ok(of_compiling(&refusal))

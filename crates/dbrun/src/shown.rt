@@ -51,19 +51,19 @@ impl<R: Eprint> Listener for Progress<'_, R> {
 
 /// A line of a file, counted from 1.
 #[derive(Clone, Copy, Debug)]
-pub struct Place<'a> {
+pub struct FaultyLine<'a> {
     pub file: &'a str,
     pub line: usize,
 }
 
 /// Where a refusal found a line faulty, if it names one.
-pub fn faulty_place<'a>(
+pub fn faulty_line<'a>(
     refusal: &CompileFilesRefusal,
     words: CompileWords<'a>,
-) -> Option<Place<'a>> {
+) -> Option<FaultyLine<'a>> {
     match refusal {
         CompileFilesRefusal::Declarations(ShapeRefusal::Refused(DeclFault::Line { line, .. })) =>
-            Some(Place {
+            Some(FaultyLine {
                 file: words.decl,
                 line: *line,
             }),
@@ -73,7 +73,7 @@ pub fn faulty_place<'a>(
                 SourceFault::Absent | SourceFault::TooLong => 0,
             };
             let file = words.names.get(*file)?;
-            Some(Place { file, line })
+            Some(FaultyLine { file, line })
         }
         _ => None,
     }
