@@ -236,18 +236,6 @@ fn run_tested<R: Runtime<A = Global>>(rt: &R, audience: Audience, job: &Job<'_>)
     report(rt, job.name, &done)
 }
 
-/// A job with what the operator typed for it.
-fn with_input<'a>(job: &Job<'a>, input: &'a [u8]) -> Job<'a> {
-    Job {
-        name: job.name,
-        checked: job.checked,
-        budget: job.budget,
-        limit: job.limit,
-        day: job.day,
-        input,
-    }
-}
-
 /// Finishes a save that was cut off before, unless another program has the folder; a status where the run ends with
 /// that.
 fn finish_alone<R: Runtime<A = Global, File = File>>(rt: &R) -> Option<Status> {
@@ -286,7 +274,14 @@ fn run<R: Runtime<A = Global, File = File>>(rt: &R, audience: Audience, job: &Jo
         Ok(input) => input,
         Err(status) => return status,
     };
-    let job = with_input(job, input.as_slice());
+    let job = Job {
+        name: job.name,
+        checked: job.checked,
+        budget: job.budget,
+        limit: job.limit,
+        day: job.day,
+        input: input.as_slice(),
+    };
     if job.checked {
         settle(rt);
         return run_tested(rt, audience, &job);
@@ -437,7 +432,7 @@ fn carry_out<R: Runtime<A = Global, File = File>>(
     sources: &[&str],
 ) -> Result<Status, WordsFault> {
     match words {
-        Words::Compile { decl, out } => compile(rt, audience, decl, out, sources),
+        Words::Compile { decl, out } => compile(rt, audience, decl, out, &*sources),
         Words::Run(job) => Ok(run(rt, audience, &job)),
         Words::Verify { name } => Ok(verify(rt, audience, name)),
         Words::Code { name } => Ok(code(rt, audience, name)),
