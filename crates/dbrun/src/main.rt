@@ -428,15 +428,15 @@ fn declare_folder<R: Runtime<A = Global, File = File>>(rt: &R, audience: Audienc
 fn carry_out<R: Runtime<A = Global, File = File>>(
     rt: &R,
     audience: Audience,
-    words: Words<'_>,
+    words: &Words<'_>,
     sources: &[&str],
 ) -> Result<Status, WordsFault> {
     match words {
         Words::Compile { decl, out } => compile(rt, audience, decl, out, &*sources),
-        Words::Run(job) => Ok(run(rt, audience, &job)),
+        Words::Run(job) => Ok(run(rt, audience, job)),
         Words::Verify { name } => Ok(verify(rt, audience, name)),
         Words::Code { name } => Ok(code(rt, audience, name)),
-        Words::List(listing) => Ok(list(rt, audience, listing)),
+        Words::List(listing) => Ok(list(rt, audience, *listing)),
         Words::Index { name } => Ok(index(rt, audience, name)),
         Words::Declare => Ok(declare_folder(rt, audience)),
     }
@@ -450,8 +450,8 @@ fn carry_out_all<R: Runtime<A = Global, File = File>>(
 ) -> Result<Status, WordsFault> {
     match words_of(matches) {
         Ok(words) => match sources_of(matches) {
-            Some(sources) => carry_out(rt, audience, words, sources),
-            None => carry_out(rt, audience, words, &[]),
+            Some(sources) => carry_out(rt, audience, &words, sources),
+            None => carry_out(rt, audience, &words, &[]),
         },
         Err(fault) => Err(fault),
     }
