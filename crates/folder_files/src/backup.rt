@@ -2,18 +2,28 @@
 #![tactic(auto)]
 
 use crate::disk::{standing, sync_path};
-use file_access::{ReadFault, read_within};
+use file_access::read_within;
 use std::alloc::{Alloc, Global};
 use std::fs;
 use std::io::{self, ErrorKind};
 use std::rt::Files as Disk;
 
+/// The most bytes of names that are read of a folder which is to be empty.
+const NAMES: usize = 65_536;
+
+/// Whether names, each ended by a zero byte, are only those that each folder has: its own and that of the one above.
+fn has_no_name(names: &[u8]) -> bool {
+    names.split(|byte| *byte == 0).all(|name| name.is_empty()
+        || name == b".".as_slice()
+        || name == b"..".as_slice())
+}
+
 /// Whether a folder can take copies: nothing stands under its name, or an empty folder.
 pub fn is_empty_folder<R: Disk + Alloc<A = Global>>(rt: &R, path: &str) -> bool {
     match fs::symlink_metadata(rt, path) {
         Ok(_) => match rt.open_dir(path) {
-            Ok(mut names) => match read_within(rt.alloc(), &mut names, 0) {
-                Ok(_) => true,
+            Ok(mut names) => match read_within(rt.alloc(), &mut names, NAMES) {
+                Ok(found) => has_no_name(found.as_slice()),
                 Err(_) => false,
             },
             Err(_) => false,

@@ -225,7 +225,10 @@ pub fn finish<R: Disk + Alloc<A = Global>>(rt: &R) -> Result<FinishedSave, Unfin
 pub fn forget<R: Disk + Alloc<A = Global>>(rt: &R) -> Result<bool, UnfinishedSave> {
     let paper = match found_paper(rt, rt.alloc()) {
         Ok(Some(paper)) => paper,
-        Ok(None) => return Ok(false),
+        Ok(None) => {
+            finish(rt)?;
+            return Ok(false);
+        }
         Err(fault) => return Err(unread(fault)),
     };
     let plan = SavePaper {

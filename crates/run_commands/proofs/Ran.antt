@@ -19,7 +19,7 @@ use Rattle.work_area.specs.Areas.{StoreState}
 begins : (code : Code) (store : StoreState) (job : Job) (lines : List (List ℕ)) (today : Option DayParts) → lines ≡ short_lines job.input.now → today ≡ job.day → opening code store lines today ≡ begun code store job
 begins code store job lines today el et = λ i. opening code store (el i) (et i)
 
-run_from : (code : Code) (store : StoreState) (job : Job) (outcome : Outcome) (rows : List ℕ) (first last : World) (lines : List (List ℕ)) (today : Option DayParts)
+abbrev run_from : (code : Code) (store : StoreState) (job : Job) (outcome : Outcome) (rows : List ℕ) (first last : World) (lines : List (List ℕ)) (today : Option DayParts)
     → first ≡ opening code store lines today → lines ≡ short_lines job.input.now → today ≡ job.day → Ran code first job.budget outcome last → rows ≡ sent last.env.screen → IsRun code store job outcome rows
 run_from code store job outcome rows first last lines today e el et ran r = record {
   last = last;

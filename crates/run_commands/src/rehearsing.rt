@@ -20,7 +20,7 @@ use file_access::Files;
 use file_commands::read_code;
 use run_laws::laws::new_stores_fit;
 use run_steps::Outcome;
-use shape::{Name, Shape};
+use shape::{IndexShape, Name, Shape, TableShape};
 use std::alloc::{AllocError, Global};
 use std::fmt;
 use table_changes::{Changes, RowCounts, changes_since, keep};
@@ -47,23 +47,23 @@ pub(crate) struct Compared {
 }
 
 /// The names of the declared tables.
-fn table_names(alloc: Global, shape: &Shape) -> Result<Vec<Name>, AllocError>
-    ensures { IfOk result (λ names. names.items ≡ map (λ t. t.name) shape.now.tables) }
+fn table_names(alloc: Global, tables: &[TableShape]) -> Result<Vec<Name>, AllocError>
+    ensures { IfOk result (λ names. names.items ≡ map (λ t. t.name) tables.now) }
 {
-    let mut names = Vec::with_capacity(alloc, shape.tables.len())?;
-    for t in 0..shape.tables.len() {
-        names.push(copy_of(&shape.tables.get(t).name))?;
+    let mut names = Vec::with_capacity(alloc, tables.len())?;
+    for table in tables {
+        names.push(copy_of(&table.name))?;
     }
     Ok(names)
 }
 
 /// The names of the declared indexes.
-fn index_names(alloc: Global, shape: &Shape) -> Result<Vec<Name>, AllocError>
-    ensures { IfOk result (λ names. names.items ≡ map (λ x. x.name) shape.now.indexes) }
+fn index_names(alloc: Global, indexes: &[IndexShape]) -> Result<Vec<Name>, AllocError>
+    ensures { IfOk result (λ names. names.items ≡ map (λ x. x.name) indexes.now) }
 {
-    let mut names = Vec::with_capacity(alloc, shape.indexes.len())?;
-    for n in 0..shape.indexes.len() {
-        names.push(copy_of(&shape.indexes.get(n).name))?;
+    let mut names = Vec::with_capacity(alloc, indexes.len())?;
+    for index in indexes {
+        names.push(copy_of(&index.name))?;
     }
     Ok(names)
 }
@@ -130,8 +130,8 @@ fn told_of(alloc: Global, shape: &Shape, done: Compared) -> Result<Rehearsal, Al
     ensures { IfOk result (IsToldAs shape.now done) }
 {
     Ok(Rehearsal {
-        tables: table_names(alloc, shape)?,
-        indexes: index_names(alloc, shape)?,
+        tables: table_names(alloc, shape.tables.as_slice())?,
+        indexes: index_names(alloc, shape.indexes.as_slice())?,
         rows: done.rows,
         ended: ended_of(done.outcome, shape),
         changes: done.changes,

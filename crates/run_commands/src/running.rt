@@ -78,10 +78,10 @@ fn test_run<F: Files>(
     new_stores_fit();
     let shape = &code.declared.shape;
     let store = load(alloc, files, shape, job.limit.records())?;
-    let done = run_any(alloc, code, store, job)?;
+    let tested = run_any(alloc, code, store, job)?;
     Ok(Report {
-        rows: done.run.rows,
-        result: Ok(ended_of(done.run.outcome, shape)),
+        rows: tested.run.rows,
+        result: Ok(ended_of(tested.run.outcome, shape)),
     })
 }
 

@@ -1,5 +1,5 @@
 -- Which files a code file must not overwrite.
-use Rattle.std.specs.Prelude.{ℕ, Bool, ◌||◌, ◌-◌, List, Option, Some, None, codes, length, drop, map, position, ◌++◌}
+use Rattle.std.specs.Prelude.{ℕ, Bool, ◌||◌, ◌&&◌, ◌-◌, List, Option, Some, None, codes, length, take, drop}
 use Rattle.std.specs.Prelude.{if◌then◌else◌}
 use Rattle.std.specs.Str.{bytes_eq, str_eq_ignore_ascii_case}
 use Rattle.save_rules.specs.declared.overwriting.Overwritten.{Overwritten}
@@ -7,7 +7,8 @@ use Rattle.save_rules.specs.declared.overwriting.Overwritten.TheVariants.{Declar
 
 -- a code is written beside its file first, under the name of its new file
 abbrev pub is_written : List ℕ → List ℕ → Bool
-is_written out name = bytes_eq name out || bytes_eq name (out ++ codes ".new")
+is_written out name =
+    bytes_eq name out || bytes_eq (take (length out) name) out && bytes_eq (drop (length out) name) (codes ".new")
 
 -- whether a name ends with four bytes, in any case of letters
 abbrev pub ends_in : List ℕ → List ℕ → Bool
@@ -24,7 +25,7 @@ abbrev pub source_or : List ℕ → Option ℕ → Option Overwritten
 source_or out None = by_ending out
 source_or out (Some file) = Some (Source file)
 
--- what a code file of this name would overwrite: the declaration file, a command file, or a file that its name tells of
-unfoldable pub overwritten_by : List ℕ → List ℕ → List (List ℕ) → Option Overwritten
-overwritten_by out decl sources =
-    if is_written out decl then Some Declarations else source_or out (position (is_written out) sources)
+-- what a code file of this name would overwrite, where the first command file that it would overwrite is told: the
+-- declaration file, a command file, or a file that its name tells of
+unfoldable pub overwritten_by : List ℕ → List ℕ → Option ℕ → Option Overwritten
+overwritten_by out decl source = if is_written out decl then Some Declarations else source_or out source

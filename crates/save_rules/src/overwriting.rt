@@ -1,7 +1,8 @@
 // Which files a code file must not overwrite.
 #![tactic(auto)]
 
-ghost use Rattle.std.specs.Prelude.{◌≡◌, map, position};
+ghost use Rattle.std.specs.Prelude.{◌≡◌, ◌-◌, length, drop, position};
+ghost use Rattle.std.specs.Str.{str_eq_ignore_ascii_case};
 ghost use Rattle.save_rules.specs.Overwriting as spec;
 
 /// What a code file would overwrite.
@@ -26,18 +27,29 @@ fn is_written(out: &[u8], name: &[u8]) -> bool
     if name == out {
         return true;
     }
-    match name.strip_prefix(out) {
-        Some(rest) => rest == b".new".as_slice(),
-        None => false,
-    }
+    let (front, rest) = name.split_at(out.len().min(name.len()));
+    front == out && rest == b".new".as_slice()
+}
+
+/// The last four bytes of a name, or all of a shorter one.
+fn last_four(name: &[u8]) -> &[u8]
+    ensures { result.now ≡ drop (length name.now - 4) name.now }
+{
+    &name[name.len().saturating_sub(4)..]
+}
+
+/// Whether a name is another one in any case of letters.
+fn is_alike(name: &[u8], other: &[u8]) -> bool
+    ensures { result ≡ str_eq_ignore_ascii_case name.now other.now }
+{
+    name.eq_ignore_ascii_case(other)
 }
 
 /// Whether a name ends with four bytes, in any case of letters.
 fn ends_in(name: &str, ending: &str) -> bool
     ensures { result ≡ spec.ends_in name.now ending.now }
 {
-    let bytes = name.as_bytes();
-    bytes[bytes.len().saturating_sub(4)..].eq_ignore_ascii_case(ending.as_bytes())
+    is_alike(last_four(name.as_bytes()), ending.as_bytes())
 }
 
 /// What a file of this name is by its ending.
@@ -59,21 +71,19 @@ fn by_ending(name: &str) -> Option<Overwritten>
 
 /// The first of these names whose file is overwritten where a code is written to a file.
 fn first_written(out: &[u8], names: &[&str]) -> Option<usize>
-    ensures { result ≡ position (spec.is_written out.now) (map (λ name. name.now) names.now) }
+    ensures { result ≡ position (λ name. spec.is_written out.now name.now) names.now }
 {
-    for (file, name) in names.iter().enumerate() {
-        if is_written(out, name.as_bytes()) {
-            return Some(file);
-        }
-    }
-    None
+    names
+        .iter()
+        .position(|name| is_written(out, name.as_bytes()))
 }
 
 /// What a code file of this name would overwrite, if anything: the declaration file, a command file, or a file that its
 /// name tells of. A code is written under its name and `.new` first.
 #[tactic(auto, unfolding(crate::specs::Overwriting::overwritten_by))]
 pub fn overwritten_by(out: &str, decl: &str, sources: &[&str]) -> Option<Overwritten>
-    ensures { result ≡ spec.overwritten_by out.now decl.now (map (λ name. name.now) sources.now) }
+    ensures { result ≡ spec.overwritten_by out.now decl.now
+        (position (λ name. spec.is_written out.now name.now) sources.now) }
 {
     if is_written(out.as_bytes(), decl.as_bytes()) {
         return Some(Overwritten::Declarations);
