@@ -229,22 +229,14 @@ fn saver<'a>(alloc: Global, command: Command<'a>) -> Result<Command<'a>, AllocEr
             NEW_OWNER,
             "Lets new files be yours where the old owner or group can't be kept",
         ))?
-        .arg(flag(
-            alloc,
-            NO_LOCK,
-            "Saves where the file system knows no locks",
-        ))
+        .arg(flag(alloc, NO_LOCK, "Saves where the file system knows no locks"))
 }
 
 fn forgetter<'a>(alloc: Global) -> Result<Command<'a>, AllocError> {
     Command::new(alloc, "forget")
         .about("Takes away a save that was cut off: its new files, and no table")
         .after_help("Example: dbrun forget")
-        .arg(flag(
-            alloc,
-            NO_LOCK,
-            "Where the file system knows no locks",
-        ))
+        .arg(flag(alloc, NO_LOCK, "Where the file system knows no locks"))
 }
 
 fn compiler<'a>(alloc: Global) -> Result<Command<'a>, AllocError> {
@@ -260,7 +252,9 @@ fn compiler<'a>(alloc: Global) -> Result<Command<'a>, AllocError> {
         .help("The command files, the main one first");
     Command::new(alloc, "compile")
         .about("Compiles command files to a code file")
-        .after_help("Example: dbrun compile FIRM.DCL DAY.XBC DAY.PRG ENTRY.PRG POST.PRG REPORT.PRG REORDER.PRG PRICES.PRG")
+        .after_help(
+            "Example: dbrun compile FIRM.DCL DAY.XBC DAY.PRG ENTRY.PRG POST.PRG REPORT.PRG REORDER.PRG PRICES.PRG",
+        )
         .arg(declarations)?
         .arg(out)?
         .arg(sources)
@@ -363,47 +357,45 @@ fn word_of<'a>(matches: &ArgMatches<'a>, id: &str) -> Result<&'a str, WordsFault
     matches.get_str(id).ok_or(WordsFault::Missing)
 }
 
-/// The run that the words of `run` or `check-run` ask for.
-fn job_of<'a>(matches: &ArgMatches<'a>, checked: bool) -> Result<Job<'a>, WordsFault> {
-    Ok(Job {
-        name: word_of(matches, FILE)?,
-        checked,
-        budget: budget_of(matches),
-        limit: limit_of(matches)?,
-        day: day_of(matches)?,
-        input: &[],
-    })
+/// A run of which this becomes, as the words of `run` or `check-run` ask for it.
+fn asked<'a>(
+    matches: &ArgMatches<'a>,
+    checked: bool,
+    tables: Outcomes<'a>,
+) -> Result<Words<'a>, WordsFault> {
+    Ok(Words::Run(RunWords {
+        job: Job {
+            name: word_of(matches, FILE)?,
+            checked,
+            budget: budget_of(matches),
+            limit: limit_of(matches)?,
+            day: day_of(matches)?,
+            input: &[],
+        },
+        tables,
+    }))
 }
 
 /// What the words of `run` ask for.
 fn run_of<'a>(matches: &ArgMatches<'a>) -> Result<Words<'a>, WordsFault> {
-    let tables = if matches.get_flag(REHEARSE) {
-        Outcomes::Told
-    } else {
-        Outcomes::Saved(SaveWords {
-            only_finished: matches.get_flag(ONLY_FINISHED),
-            backup: matches.get_str(BACKUP),
-            new_owner: matches.get_flag(NEW_OWNER),
-            no_lock: matches.get_flag(NO_LOCK),
-        })
+    if matches.get_flag(REHEARSE) {
+        return asked(matches, false, Outcomes::Told);
+    }
+    let save = SaveWords {
+        only_finished: matches.get_flag(ONLY_FINISHED),
+        backup: matches.get_str(BACKUP),
+        new_owner: matches.get_flag(NEW_OWNER),
+        no_lock: matches.get_flag(NO_LOCK),
     };
-    Ok(Words::Run(RunWords {
-        job: job_of(matches, false)?,
-        tables,
-    }))
+    asked(matches, false, Outcomes::Saved(save))
 }
 
 /// What the words of `check-run` ask for.
 fn check_of<'a>(matches: &ArgMatches<'a>) -> Result<Words<'a>, WordsFault> {
-    let tables = if matches.get_flag(CHANGES) {
-        Outcomes::Told
-    } else {
-        Outcomes::Nothing
-    };
-    Ok(Words::Run(RunWords {
-        job: job_of(matches, true)?,
-        tables,
-    }))
+    if matches.get_flag(CHANGES) {
+        return asked(matches, true, Outcomes::Told);
+    }
+    asked(matches, true, Outcomes::Nothing)
 }
 
 /// The command files of the words that ask for compiling, the main one first.

@@ -256,7 +256,10 @@ fn tell_unsaved<R: Runtime<A = Global>>(
         Unsaved::Disk { file } | Unsaved::Cut { file } => {
             (eprintln!(rt; "disk {}", saving.name_of(file)), Status::Disk)
         }
-        Unsaved::Backup => (eprintln!(rt; "disk {}", backup.unwrap_or(".")), Status::Disk),
+        Unsaved::Backup => (
+            eprintln!(rt; "disk {}", backup.unwrap_or(".")),
+            Status::Disk,
+        ),
         Unsaved::Memory => (eprintln!(rt; "memory"), Status::Memory),
     };
     if told.is_ok() && audience.person {
@@ -402,11 +405,7 @@ fn forget_save<R: Runtime<A = Global, File = File>>(
 
 /// Looks, where a person types, whether the code's file is there and accepted, before they type in vain; a status where
 /// it isn't.
-fn look_before<R: Runtime<A = Global>>(
-    rt: &R,
-    audience: Audience,
-    name: &str,
-) -> Option<Status> {
+fn look_before<R: Runtime<A = Global>>(rt: &R, audience: Audience, name: &str) -> Option<Status> {
     let mut folder = folder(rt, audience);
     match verify_file(rt.alloc(), &mut folder, name) {
         Ok(None) => {

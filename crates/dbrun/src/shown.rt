@@ -117,7 +117,8 @@ pub fn why_hindered(hindrance: Hindrance) -> &'static str {
         Hindrance::Harm(Harm::NotWritable) => "nobody may write this file",
         Hindrance::Harm(Harm::Links) => "the file has further names, which would keep the old rows",
         Hindrance::Harm(Harm::Owner) => "the file is another user's; --new-owner makes it yours",
-        Hindrance::Harm(Harm::Group) => "the file is of a group that isn't yours; --new-owner makes it yours",
+        Hindrance::Harm(Harm::Group) =>
+            "the file is of a group that isn't yours; --new-owner makes it yours",
         Hindrance::LeavesFolder => "the file is a link that leaves the folder",
         Hindrance::Twice => "the file is that of another declared name",
         Hindrance::Disk => "what stands under this name can't be seen",
@@ -143,7 +144,10 @@ impl Display for OutTold<'_> {
             Overwritten::Index => ("index", self.words.out),
             Overwritten::Commands => ("command file", self.words.out),
         };
-        write!(f, "OUT would overwrite the {sort} {name}; the order is DECL OUT MAIN..")
+        write!(
+            f,
+            "OUT would overwrite the {sort} {name}; the order is DECL OUT MAIN.."
+        )
     }
 }
 
