@@ -6,16 +6,16 @@ use Rattle.row_changes.specs.declared.comparing.RowCounts.{RowCounts}
 use Rattle.shape.specs.declared.whole.Shape.{Shape}
 use Rattle.table_changes.specs.Rows.{tables_of, fresh_of, is_fresh_in}
 use Rattle.table_changes.specs.declared.stores.Changes.{Changes}
-use Rattle.table_changes.specs.declared.stores.Kept.{Kept}
+use Rattle.table_changes.specs.declared.stores.KeptStore.{KeptStore}
 use Rattle.work_area.specs.Areas.{StoreState}
 
-abbrev pub texts_in : Vec (Vec ℕ) → List (List ℕ)
-texts_in rows = map (λ (row : Vec ℕ). row.items) rows.items
+abbrev pub bytes_of_rows : Vec (Vec ℕ) → List (List ℕ)
+bytes_of_rows rows = map (λ (row : Vec ℕ). row.items) rows.items
 
 -- what is kept of a store
-pub record AreKept (shape : Shape) (store : StoreState) (kept : Kept) : Type 0 where
+pub record AreKept (shape : Shape) (store : StoreState) (kept : KeptStore) : Type 0 where
   pub count : length kept.rows.items ≡ length shape.tables
-  pub rows : map texts_in kept.rows.items ≡ tables_of store
+  pub rows : map bytes_of_rows kept.rows.items ≡ tables_of store
   pub fresh : kept.fresh.items ≡ fresh_of store (length shape.indexes)
 
 -- what became of each table's rows

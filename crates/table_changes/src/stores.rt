@@ -5,7 +5,7 @@ ghost use Rattle.std.specs.Prelude.{◌≡◌, ◌<◌, ◌≤◌, ◌&&◌, not
 ghost use Rattle.row_changes.specs.Changes.{AreCounted};
 ghost use Rattle.shape.specs.Whole.{is_shape};
 ghost use Rattle.table_changes.specs.Rows.{tables_of, fresh_of, is_fresh_in, texts_of};
-ghost use Rattle.table_changes.specs.Stores.{AreKept, AreChanges, EachCounted, EachMade, texts_in};
+ghost use Rattle.table_changes.specs.Stores.{AreKept, AreChanges, EachCounted, EachMade, bytes_of_rows};
 ghost use Rattle.work_area.specs.Areas.{StoreState, table_at};
 
 use crate::rows::texts_of;
@@ -18,7 +18,7 @@ use work_area::Store;
 
 /// The rows of a store's tables as their bytes, and which of its indexes are fresh, kept to be compared with later.
 #[derive(Drop)]
-pub struct Kept {
+pub struct KeptStore {
     pub rows: Vec<Vec<Vec<u8>>>,
     pub fresh: Vec<bool>,
 }
@@ -38,7 +38,7 @@ fn texts_at<K: KeyList>(
 ) -> Result<Vec<Vec<u8>>, AllocError>
     requires table { t < length store.now.tables }
     requires few { t < 65536 }
-    ensures { IfOk result (λ rows. texts_in rows ≡ slice_index_or (tables_of store.now) t []) }
+    ensures { IfOk result (λ rows. bytes_of_rows rows ≡ slice_index_or (tables_of store.now) t []) }
 {
     texts_of(alloc, store.table(t as u16))
 }
@@ -59,7 +59,7 @@ fn rows_of<K: KeyList>(
 ) -> Result<Vec<Vec<Vec<u8>>>, AllocError>
     requires count { length store.now.tables ≡ count }
     requires few { count ≤ 32 }
-    ensures rows { IfOk result (λ rows. map texts_in rows.items ≡ tables_of store.now) }
+    ensures rows { IfOk result (λ rows. map bytes_of_rows rows.items ≡ tables_of store.now) }
     ensures count { IfOk result (λ rows. length rows.items ≡ count) }
 {
     let mut rows = Vec::with_capacity(alloc, count)?;
@@ -86,13 +86,17 @@ fn fresh_of<K: KeyList>(
 }
 
 /// What is kept of a store of the declared tables and indexes.
-pub fn keep<K: KeyList>(alloc: Global, shape: &Shape, store: &Store<K>) -> Result<Kept, AllocError>
+pub fn keep<K: KeyList>(
+    alloc: Global,
+    shape: &Shape,
+    store: &Store<K>,
+) -> Result<KeptStore, AllocError>
     requires legal { is_shape shape.now ≡ true }
     requires count { length store.now.tables ≡ length shape.now.tables }
     ensures { IfOk result (AreKept shape.now store.now) }
 {
     legal_shapes_have_keys();
-    Ok(Kept {
+    Ok(KeptStore {
         rows: rows_of(alloc, shape.tables.len(), store)?,
         fresh: fresh_of(alloc, shape.indexes.len(), store)?,
     })
@@ -107,7 +111,7 @@ fn count_of<K: KeyList>(
 ) -> Result<RowCounts, AllocError>
     requires table { t < length store.now.tables }
     requires few { t < 65536 }
-    ensures { IfOk result (AreCounted (texts_in before) (slice_index_or (tables_of store.now) t [])) }
+    ensures { IfOk result (AreCounted (bytes_of_rows before) (slice_index_or (tables_of store.now) t [])) }
 {
     compare(before, texts_at(alloc, store, t)?)
 }
@@ -121,7 +125,7 @@ fn counts_of<K: KeyList>(
     requires kept { length rows.items ≡ length store.now.tables }
     requires few { length rows.items ≤ 32 }
     ensures count { IfOk result (λ counts. length counts.items ≡ length rows.items) }
-    ensures each { IfOk result (λ counts. EachCounted (map texts_in rows.items) (tables_of store.now) counts.items) }
+    ensures each { IfOk result (λ counts. EachCounted (map bytes_of_rows rows.items) (tables_of store.now) counts.items) }
 {
     let mut counts = Vec::with_capacity(alloc, rows.len())?;
     for before in rows {
@@ -159,7 +163,7 @@ fn made_of<K: KeyList>(
 pub fn changes_since<K: KeyList>(
     alloc: Global,
     shape: &Shape,
-    kept: Kept,
+    kept: KeptStore,
     store: &Store<K>,
 ) -> Result<Changes, AllocError>
     requires legal { is_shape shape.now ≡ true }
@@ -170,7 +174,7 @@ pub fn changes_since<K: KeyList>(
         → IfOk result (AreChanges shape.now before store.now) }
 {
     legal_shapes_have_keys();
-    let Kept { rows, fresh } = kept;
+    let KeptStore { rows, fresh } = kept;
     let tables = counts_of(alloc, rows, store)?;
     let made = made_of(alloc, fresh.as_slice(), store)?;
     Ok(Changes { tables, made })

@@ -11,6 +11,7 @@ made_more fresh made s n b e h p = each_more (λ k x. x ≡ (not (get_or fresh k
 
 pub loop-n-preserved : goal.loop-n-preserved
 loop-n-preserved g c =
-    let e : c.push.new.self.items ≡ c.loop-n.made.items ++ c.is_made.result ∷ [] = search rules in
-    (ap (λ (l : List Bool). length l) e ∙ length_push c.loop-n.made.items c.is_made.result ∙ ap (λ n. n + 1) c.loop-n.invariant.0,
-    subst (λ l. EachMade c.args.fresh.now c.args.store.now l) (sym e) (made_more c.args.fresh.now c.loop-n.made.items c.args.store.now c.loop-n.n c.is_made.result c.loop-n.invariant.0 c.loop-n.invariant.1 (search rules)))
+    let e : c.push.new.self.items ≡ c.loop-n.made.items ++ c.is_made.result ∷ [] = search rules in (
+      ap (λ (l : List Bool). length l) e ∙ length_push c.loop-n.made.items c.is_made.result ∙ ap (λ n. n + 1) c.loop-n.invariant.0,
+      subst (λ l. EachMade c.args.fresh.now c.args.store.now l) (sym e) (made_more c.args.fresh.now c.loop-n.made.items c.args.store.now c.loop-n.n c.is_made.result c.loop-n.invariant.0 c.loop-n.invariant.1 (search rules)),
+    )
