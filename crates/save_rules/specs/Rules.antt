@@ -8,12 +8,12 @@ use Rattle.save_rules.specs.declared.rules.Harm.TheVariants.{NotWritable, Links,
 use Rattle.save_rules.specs.declared.rules.Standing.{Standing}
 use Rattle.save_rules.specs.declared.rules.User.{User}
 
-abbrev pub is_among : ℕ → List ℕ → Bool
-is_among group groups = list_any (λ other. other == group) groups
+abbrev pub is_one_of : ℕ → List ℕ → Bool
+is_one_of group groups = list_any (λ other. other == group) groups
 
 -- whether a user may give a file this group
 abbrev pub may_give : User → ℕ → Bool
-may_give user group = user.group == group || is_among group user.groups.now
+may_give user group = user.group == group || is_one_of group user.groups.now
 
 -- Why a file can't be replaced as it was: nobody may write it, it has further names, or another user's new file would
 -- have to be given its owner or its group. A user who gives files away can give both, and one who takes files over asks

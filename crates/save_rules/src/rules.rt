@@ -41,8 +41,8 @@ pub enum Harm {
 }
 
 /// Whether a group is among others.
-fn is_among(group: u32, groups: &[u32]) -> bool
-    ensures { result ≡ spec.is_among group groups.now }
+fn is_one_of(group: u32, groups: &[u32]) -> bool
+    ensures { result ≡ spec.is_one_of group groups.now }
 {
     groups.iter().any(|other| *other == group)
 }
@@ -51,7 +51,7 @@ fn is_among(group: u32, groups: &[u32]) -> bool
 fn may_give(user: &User<'_>, group: u32) -> bool
     ensures { result ≡ spec.may_give user.now group }
 {
-    user.group == group || is_among(group, user.groups)
+    user.group == group || is_one_of(group, user.groups)
 }
 
 /// Why a file can't be replaced as it was, if it can't. Who takes files over doesn't ask for their owners and groups.

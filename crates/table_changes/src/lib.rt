@@ -6,4 +6,4 @@ mod rows;
 mod stores;
 
 pub use row_changes::RowCounts;
-pub use stores::{Changes, Kept, changes_since, keep};
+pub use stores::{Changes, KeptStore, changes_since, keep};
