@@ -15,7 +15,7 @@ use Rattle.std.specs.declared.cmp.Ordering.{Ordering}
 use Rattle.std.specs.declared.cmp.Ordering.TheVariants.{Less, Equal, Greater}
 use Rattle.row_changes.specs.Changes.{IsParted, GoesAndComes}
 use Rattle.row_changes.specs.Ordered.{row_cmp, Rising, IsBeforeFirst}
-use Rattle.row_changes.specs.Turns.{texts, Reaches, Leads}
+use Rattle.row_changes.specs.Turns.{texts, AddUp, LeadsOn}
 
 -- ---- in order
 
@@ -115,7 +115,7 @@ stays_counted row before after goes comes h = record {
   comes_are = h.comes_are;
 }
 
-pub goes_leads : (row : List ℕ) (before after : List (List ℕ)) (m n : ℕ) → Rising (row ∷ before) → Rising after → IsBeforeFirst row after → Leads (row ∷ before) after m n before after (m + 1) n
+pub goes_leads : (row : List ℕ) (before after : List (List ℕ)) (m n : ℕ) → Rising (row ∷ before) → Rising after → IsBeforeFirst row after → LeadsOn (row ∷ before) after m n before after (m + 1) n
 goes_leads row before after m n up on least = record {
   left_rises = rising_tail row before up;
   right_rises = on;
@@ -128,7 +128,7 @@ goes_leads row before after m n up on least = record {
   };
 }
 
-pub comes_leads : (row : List ℕ) (before after : List (List ℕ)) (m n : ℕ) → Rising before → Rising (row ∷ after) → IsBeforeFirst row before → Leads before (row ∷ after) m n before after m (n + 1)
+pub comes_leads : (row : List ℕ) (before after : List (List ℕ)) (m n : ℕ) → Rising before → Rising (row ∷ after) → IsBeforeFirst row before → LeadsOn before (row ∷ after) m n before after m (n + 1)
 comes_leads row before after m n up on least = record {
   left_rises = up;
   right_rises = rising_tail row after on;
@@ -141,7 +141,7 @@ comes_leads row before after m n up on least = record {
   };
 }
 
-pub stays_leads : (row other : List ℕ) (before after : List (List ℕ)) (m n : ℕ) → Rising (row ∷ before) → Rising (other ∷ after) → row ≡ other → Leads (row ∷ before) (other ∷ after) m n before after m n
+pub stays_leads : (row other : List ℕ) (before after : List (List ℕ)) (m n : ℕ) → Rising (row ∷ before) → Rising (other ∷ after) → row ≡ other → LeadsOn (row ∷ before) (other ∷ after) m n before after m n
 stays_leads row other before after m n up on same = record {
   left_rises = rising_tail row before up;
   right_rises = rising_tail other after on;
@@ -154,23 +154,23 @@ stays_leads row other before after m n up on same = record {
   };
 }
 
-pub leads_itself : (before after : List (List ℕ)) (m n : ℕ) → Rising before → Rising after → Leads before after m n before after m n
+pub leads_itself : (before after : List (List ℕ)) (m n : ℕ) → Rising before → Rising after → LeadsOn before after m n before after m n
 leads_itself before after m n up on = record { left_rises = up; right_rises = on; back = λ M N h. h }
 
-pub leads_through : (a b : List (List ℕ)) (m n : ℕ) (c d : List (List ℕ)) (i j : ℕ) (e f : List (List ℕ)) (k l : ℕ) → Leads a b m n c d i j → Leads c d i j e f k l → Leads a b m n e f k l
+pub leads_through : (a b : List (List ℕ)) (m n : ℕ) (c d : List (List ℕ)) (i j : ℕ) (e f : List (List ℕ)) (k l : ℕ) → LeadsOn a b m n c d i j → LeadsOn c d i j e f k l → LeadsOn a b m n e f k l
 leads_through a b m n c d i j e f k l ac ce = record {
   left_rises = ce.left_rises;
   right_rises = ce.right_rises;
   back = λ M N h. ac.back M N (ce.back M N h);
 }
 
-counted_so : (before after : List (List ℕ)) (i j : ℕ) → Reaches before after 0 0 i j → GoesAndComes before after i j
+counted_so : (before after : List (List ℕ)) (i j : ℕ) → AddUp before after 0 0 i j → GoesAndComes before after i j
 counted_so before after i j h =
     let gone : h.goes ≡ i = omega (arith, h.gone) in
     let come : h.comes ≡ j = omega (arith, h.come) in
     subst (λ g. GoesAndComes before after g j) gone (subst (λ c. GoesAndComes before after h.goes c) come h.there)
 
-at_an_end : (left right : List (List ℕ)) (i j : ℕ) → left ≡ [] → right ≡ [] → Reaches left right i j i j
+at_an_end : (left right : List (List ℕ)) (i j : ℕ) → left ≡ [] → right ≡ [] → AddUp left right i j i j
 at_an_end left right i j le re = record {
   goes = 0;
   comes = 0;
@@ -180,7 +180,7 @@ at_an_end left right i j le re = record {
 }
 
 -- where nothing is left, all is counted
-pub all_counted : (before after left right : List (List ℕ)) (i j : ℕ) → Leads before after 0 0 left right i j → left ≡ [] → right ≡ [] → GoesAndComes before after i j
+pub all_counted : (before after left right : List (List ℕ)) (i j : ℕ) → LeadsOn before after 0 0 left right i j → left ≡ [] → right ≡ [] → GoesAndComes before after i j
 all_counted before after left right i j h le re = counted_so before after i j (h.back i j (at_an_end left right i j le re))
 
 -- ---- rows that were sorted
@@ -224,22 +224,22 @@ pub before_first : (row : List ℕ) (rows others : List (Vec ℕ)) (other : Vec 
 before_first row rows others other e less = subst (λ rs. IsBeforeFirst row (texts rs)) (sym e) less
 
 pub first_goes : (before after later : List (Vec ℕ)) (first : Vec ℕ) (m n : ℕ) → Rising (texts before) → Rising (texts after) → before ≡ first ∷ later → IsBeforeFirst first.items (texts after)
-    → Leads (texts before) (texts after) m n (texts later) (texts after) (m + 1) n
+    → LeadsOn (texts before) (texts after) m n (texts later) (texts after) (m + 1) n
 first_goes before after later first m n up on e least =
-    subst (λ b. Rising (texts b) → Leads (texts b) (texts after) m n (texts later) (texts after) (m + 1) n) (sym e)
+    subst (λ b. Rising (texts b) → LeadsOn (texts b) (texts after) m n (texts later) (texts after) (m + 1) n) (sym e)
     (λ up. goes_leads first.items (texts later) (texts after) m n up on least) up
 
 pub first_comes : (before after others : List (Vec ℕ)) (other : Vec ℕ) (m n : ℕ) → Rising (texts before) → Rising (texts after) → after ≡ other ∷ others → IsBeforeFirst other.items (texts before)
-    → Leads (texts before) (texts after) m n (texts before) (texts others) m (n + 1)
+    → LeadsOn (texts before) (texts after) m n (texts before) (texts others) m (n + 1)
 first_comes before after others other m n up on e least =
-    subst (λ a. Rising (texts a) → Leads (texts before) (texts a) m n (texts before) (texts others) m (n + 1)) (sym e)
+    subst (λ a. Rising (texts a) → LeadsOn (texts before) (texts a) m n (texts before) (texts others) m (n + 1)) (sym e)
     (λ on. comes_leads other.items (texts before) (texts others) m n up on least) on
 
 pub both_stay : (before after later others : List (Vec ℕ)) (first other : Vec ℕ) (m n : ℕ) → Rising (texts before) → Rising (texts after) → before ≡ first ∷ later → after ≡ other ∷ others → row_cmp first.items other.items ≡ Equal
-    → Leads (texts before) (texts after) m n (texts later) (texts others) m n
+    → LeadsOn (texts before) (texts after) m n (texts later) (texts others) m n
 both_stay before after later others first other m n up on e f same =
-    subst (λ b. Rising (texts b) → Leads (texts b) (texts after) m n (texts later) (texts others) m n) (sym e)
-    (λ up. subst (λ a. Rising (texts a) → Leads (texts (first ∷ later)) (texts a) m n (texts later) (texts others) m n) (sym f)
+    subst (λ b. Rising (texts b) → LeadsOn (texts b) (texts after) m n (texts later) (texts others) m n) (sym e)
+    (λ up. subst (λ a. Rising (texts a) → LeadsOn (texts (first ∷ later)) (texts a) m n (texts later) (texts others) m n) (sym f)
     (λ on. stays_leads first.items other.items (texts later) (texts others) m n up on (same_row first.items other.items same)) on) up
 
 pub no_texts : (rows : List (Vec ℕ)) → length rows ≡ 0 → texts rows ≡ []

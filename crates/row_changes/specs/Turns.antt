@@ -9,7 +9,7 @@ abbrev pub texts : List (Vec ℕ) → List (List ℕ)
 texts rows = map (λ (row : Vec ℕ). row.items) rows
 
 -- with m rows gone and n come before them, the rows that are left make it M and N
-pub record Reaches (before after : List (List ℕ)) (m n M N : ℕ) : Type 0 where
+pub record AddUp (before after : List (List ℕ)) (m n M N : ℕ) : Type 0 where
   pub goes : ℕ
   pub comes : ℕ
   pub there : GoesAndComes before after goes comes
@@ -17,7 +17,7 @@ pub record Reaches (before after : List (List ℕ)) (m n M N : ℕ) : Type 0 whe
   pub come : N ≡ n + comes
 
 -- what is left, with what was counted, leads to what the whole would
-pub record Leads (before after : List (List ℕ)) (m n : ℕ) (left right : List (List ℕ)) (i j : ℕ) : Type 0 where
+pub record LeadsOn (before after : List (List ℕ)) (m n : ℕ) (left right : List (List ℕ)) (i j : ℕ) : Type 0 where
   pub left_rises : Rising left
   pub right_rises : Rising right
-  pub back : (M N : ℕ) → Reaches left right i j M N → Reaches before after m n M N
+  pub back : (M N : ℕ) → AddUp left right i j M N → AddUp before after m n M N

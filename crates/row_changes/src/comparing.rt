@@ -4,7 +4,7 @@
 ghost use Rattle.std.specs.Prelude.{◌≡◌, ◌+◌, ◌<◌, ◌≤◌, ◌^◌, [], length, map, IfOk, OnOk, IfSome, IfNone, IsPermutation};
 ghost use Rattle.row_changes.specs.Changes.{AreCounted, GoesAndComes};
 ghost use Rattle.row_changes.specs.Ordered.{Rising};
-ghost use Rattle.row_changes.specs.Turns.{texts, Leads};
+ghost use Rattle.row_changes.specs.Turns.{texts, LeadsOn};
 
 use std::alloc::AllocError;
 use std::cmp::Ordering;
@@ -35,7 +35,7 @@ fn without_least(rest: Rest<'_>) -> Option<Rest<'_>>
     requires few_go { rest.goes + length rest.before.now < 2 ^ 63 }
     requires few_come { rest.comes + length rest.after.now < 2 ^ 63 }
     ensures none { IfNone result ((texts rest.entry.before.now ≡ []) × (texts rest.entry.after.now ≡ [])) }
-    ensures leads { IfSome result (λ next. Leads (texts rest.entry.before.now) (texts rest.entry.after.now)
+    ensures leads { IfSome result (λ next. LeadsOn (texts rest.entry.before.now) (texts rest.entry.after.now)
         rest.entry.goes rest.entry.comes (texts next.before.now) (texts next.after.now) next.goes next.comes) }
     ensures gone_fit { IfSome result (λ next.
         next.goes + length next.before.now ≤ rest.entry.goes + length rest.entry.before.now) }

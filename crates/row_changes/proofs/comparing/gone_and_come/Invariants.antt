@@ -1,10 +1,10 @@
 use Rattle.std.proofs.Common.{◌+◌, ◌≤◌, length}
-use Rattle.row_changes.specs.Turns.{texts, Leads}
+use Rattle.row_changes.specs.Turns.{texts, LeadsOn}
 use Rattle.row_changes.proofs.comparing.gone_and_come.Given as goal
 
 abbrev pub invariant-loop-next : goal.invariant-loop-next
 invariant-loop-next l =
-    Leads (texts l.before) (texts l.after) 0 0 (texts l.rest.before.now) (texts l.rest.after.now) l.rest.goes l.rest.comes
+    LeadsOn (texts l.before) (texts l.after) 0 0 (texts l.rest.before.now) (texts l.rest.after.now) l.rest.goes l.rest.comes
     × (l.rest.goes + length l.rest.before.now ≤ length l.before)
     × (l.rest.comes + length l.rest.after.now ≤ length l.after)
 
