@@ -1,17 +1,23 @@
 -- What the parts of a rehearsal say to each other, put together.
-use Rattle.std.proofs.Common.{◌≡◌, subst, ℕ, List}
-use Rattle.std.specs.Prelude.{Result, Ok, Err, IfOk}
+use Rattle.std.proofs.Common.{◌≡◌, ◌≤◌, subst, sym, true, false, ℕ, List, map, IfErr}
+use Rattle.std.specs.Prelude.{Result, Ok, Err, IfOk, MatchBool, ⊤}
 use Rattle.code_items.specs.declared.code.Code.{Code}
-use Rattle.file_access.specs.Holding.{Holds, SameFiles}
+use Rattle.code_rules.specs.Rules.{Accepted}
+use Rattle.file_access.specs.Holding.{Holds, SameFiles, Rose}
 use Rattle.file_commands.specs.Reports.{IsCodeFile, HasCode}
 use Rattle.run_commands.specs.declared.job.Job.{Job}
 use Rattle.run_commands.specs.declared.refusal.RunRefusal.{RunRefusal}
+use Rattle.run_commands.specs.declared.refusal.RunRefusal.TheVariants.{File, Rule, Disk, Tables, Memory}
 use Rattle.run_commands.specs.declared.rehearsing.Compared.{Compared}
 use Rattle.run_commands.specs.declared.rehearsing.Rehearsal.{Rehearsal}
-use Rattle.run_commands.specs.Rehearsals.{LeavesTables, IsRehearsed}
+use Rattle.run_commands.specs.Parts.{IsOfTables, CodeRefused}
+use Rattle.run_commands.specs.Rehearsals.{LeavesTables, IsRehearsed, IsToldAs}
+use Rattle.run_commands.specs.Reports.{MayLoad, IsTold}
 use Rattle.run_commands.proofs.Ran.{left_soundly}
 use Rattle.run_commands.proofs.Same.{loaded_same}
 use Rattle.run_commands.specs.Runs.{IsSoundRun}
+use Rattle.shape.specs.declared.indexes.IndexShape.{IndexShape}
+use Rattle.shape.specs.declared.tables.TableShape.{TableShape}
 use Rattle.table_changes.specs.Stores.{AreChanges}
 use Rattle.table_files.specs.Loading.{Loaded}
 use Rattle.work_area.specs.Areas.{StoreState}
@@ -30,9 +36,11 @@ leaves_same a b same job code outcome rows changes h = record {
 rehearsed_same : (a b : Holds) → SameFiles a b → (job : Job) (told : Rehearsal) (code : Code) → IsRehearsed b job told code → IsRehearsed a job told code
 rehearsed_same a b same job told code h = record {
   may = h.may;
-  done = h.done;
-  leaves = leaves_same a b same job code h.done.outcome h.done.rows.items h.done.changes h.leaves;
-  told_as = h.told_as;
+  outcome = h.outcome;
+  leaves = leaves_same a b same job code h.outcome told.rows.items told.changes h.leaves;
+  ended = h.ended;
+  tables = h.tables;
+  indexes = h.indexes;
 }
 
 pub rehearsed : (a b : Holds) → SameFiles a b → (job : Job) (code : Code) → IsCodeFile (a job.name.now) code → (result : Result Rehearsal RunRefusal)
@@ -50,3 +58,40 @@ leaves_of a job code seen outcome rows store tables shown changes limit lent lim
   left = left_soundly code store job outcome rows tables run;
   changed = subst (λ t. AreChanges code.declared.shape store t changes) same (subst (λ (s : Code). AreChanges s.declared.shape store shown changes) lent changed);
 }
+
+-- ---- what may run
+
+pub may_tested : (job : Job) (code : Code) → job.checked ≡ true → MayLoad job code
+may_tested job code tests = subst (λ b. MatchBool b ⊤ (Accepted code)) (sym tests) tt
+
+pub may_accepted : (job : Job) (code seen : Code) → job.checked ≡ false → seen ≡ code → Accepted seen → MayLoad job code
+may_accepted job code seen tests lent accepted = subst (λ b. MatchBool b ⊤ (Accepted code)) (sym tests) (subst Accepted lent accepted)
+
+-- ---- a comparison, told
+
+pub rehearsed_from : (a : Holds) (job : Job) (code seen : Code) (done : Compared) → seen ≡ code → MayLoad job code → (result : Result Rehearsal RunRefusal) → IfOk result (IsToldAs seen.declared.shape done)
+    → LeavesTables a job code done.outcome done.rows.items done.changes → IfOk result (λ told. IsRehearsed a job told code)
+rehearsed_from a job code seen done lent may (Ok told) h leaves = record {
+  may = may;
+  outcome = done.outcome;
+  leaves = subst (λ (c : Changes). LeavesTables a job code done.outcome told.rows.items c) (sym h.changes) (subst (λ (r : List ℕ). LeavesTables a job code done.outcome r done.changes) (sym h.rows) leaves);
+  ended = subst (λ (s : Code). IsTold s.declared.shape done.outcome told.ended) lent h.ended;
+  tables = subst (λ (s : Code). told.tables.items ≡ map (λ (t : TableShape). t.name) s.declared.shape.tables) lent h.tables;
+  indexes = subst (λ (s : Code). told.indexes.items ≡ map (λ (x : IndexShape). x.name) s.declared.shape.indexes) lent h.indexes;
+}
+rehearsed_from a job code seen done lent may (Err refusal) h leaves = h
+
+-- ---- refusals, of the files and the counts of failures that these facts are of
+
+pub refused_memory : (a b : Holds) → SameFiles a b → (f h : ℕ) → f ≤ h → (job : Job) (code : Code) (result : Result Rehearsal RunRefusal) → IfErr result (λ refusal. refusal ≡ Memory)
+    → IfErr result (CodeRefused a job code (Rose f h))
+refused_memory a b same f h counted job code (Ok told) no_memory = no_memory
+refused_memory a b same f h counted job code (Err refusal) no_memory = subst (CodeRefused a job code (Rose f h)) (sym no_memory) tt
+
+pub refused_tables : (a b : Holds) → SameFiles a b → (f h : ℕ) → f ≤ h → (job : Job) (code : Code) → MayLoad job code → (refusal : RunRefusal) → IsOfTables a job code (Rose f h) refusal
+    → CodeRefused a job code (Rose f h) refusal
+refused_tables a b same f h counted job code may (File fault) why = why
+refused_tables a b same f h counted job code may (Rule refused) why = absurd why
+refused_tables a b same f h counted job code may Disk why = why
+refused_tables a b same f h counted job code may (Tables refusal) why = (may, why)
+refused_tables a b same f h counted job code may Memory why = why

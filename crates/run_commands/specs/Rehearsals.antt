@@ -14,8 +14,8 @@ use Rattle.table_changes.specs.declared.stores.Changes.{Changes}
 use Rattle.table_files.specs.Loading.{Loaded}
 use Rattle.work_area.specs.Areas.{StoreState}
 
--- a run of the code over the tables that the files hold, that ended so, printed these rows, and left tables to which this
--- became of the loaded ones
+-- a run of the code over the tables that the files hold, that ended so, printed these rows, and left tables to which
+-- this became of the loaded ones
 pub record LeavesTables (holds : Holds) (job : Job) (code : Code) (outcome : Outcome) (rows : List ℕ)
     (changes : Changes) : Type 0 where
   pub store : StoreState
@@ -32,9 +32,11 @@ pub record IsToldAs (shape : Shape) (done : Compared) (told : Rehearsal) : Type 
   pub tables : told.tables.items ≡ map (λ t. t.name) shape.tables
   pub indexes : told.indexes.items ≡ map (λ x. x.name) shape.indexes
 
--- such a run of a code that may run as the job says
+-- what is told is such a run, of a code that may run as the job says
 pub record IsRehearsed (holds : Holds) (job : Job) (told : Rehearsal) (code : Code) : Type 0 where
   pub may : MayLoad job code
-  pub done : Compared
-  pub leaves : LeavesTables holds job code done.outcome done.rows.items done.changes
-  pub told_as : IsToldAs code.declared.shape done told
+  pub outcome : Outcome
+  pub leaves : LeavesTables holds job code outcome told.rows.items told.changes
+  pub ended : IsTold code.declared.shape outcome told.ended
+  pub tables : told.tables.items ≡ map (λ t. t.name) code.declared.shape.tables
+  pub indexes : told.indexes.items ≡ map (λ x. x.name) code.declared.shape.indexes

@@ -1,10 +1,11 @@
 // Runs that save nothing, and what they would have saved.
 #![tactic(auto)]
 
-ghost use Rattle.std.specs.Prelude.{◌≡◌, ◌≤◌, map, IfOk, IfErr};
+ghost use Rattle.std.specs.Prelude.{◌≡◌, ◌≤◌, true, false, map, IfOk, IfErr};
 ghost use Rattle.code_items.specs.Legal.{IsCode};
 ghost use Rattle.file_access.specs.Holding.{Rose, SameFiles};
 ghost use Rattle.file_commands.specs.Reports.{HasCode};
+ghost use Rattle.run_commands.specs.declared.refusal.RunRefusal.TheVariants.{Memory};
 ghost use Rattle.run_commands.specs.Parts.{IsOfTables, CodeRefused};
 ghost use Rattle.run_commands.specs.Rehearsals.{IsRehearsed, IsToldAs, LeavesTables};
 ghost use Rattle.run_commands.specs.Reports.{RefusedBefore};
@@ -114,9 +115,9 @@ fn compare_accepted<F: Files>(
     legal_codes();
     new_stores_fit();
     let shape = &verified.code().declared.shape;
-    let store = load(alloc, files, shape, job.limit.records())?;
-    let kept = keep(alloc, shape, &store)?;
-    let done = run_accepted(alloc, verified, store, job)?;
+    let loaded = load(alloc, files, shape, job.limit.records())?;
+    let kept = keep(alloc, shape, &loaded)?;
+    let done = run_accepted(alloc, verified, loaded, job)?;
     let changes = changes_since(alloc, shape, kept, done.banks.store())?;
     Ok(Compared {
         rows: done.run.rows,
@@ -126,8 +127,9 @@ fn compare_accepted<F: Files>(
 }
 
 /// A comparison as it is told, of a code of this shape.
-fn told_of(alloc: Global, shape: &Shape, done: Compared) -> Result<Rehearsal, AllocError>
-    ensures { IfOk result (IsToldAs shape.now done) }
+fn told_of(alloc: Global, shape: &Shape, done: Compared) -> Result<Rehearsal, RunRefusal>
+    ensures told { IfOk result (IsToldAs shape.now done) }
+    ensures refused { IfErr result (λ refusal. refusal ≡ Memory) }
 {
     Ok(Rehearsal {
         tables: table_names(alloc, shape.tables.as_slice())?,
@@ -138,7 +140,49 @@ fn told_of(alloc: Global, shape: &Shape, done: Compared) -> Result<Rehearsal, Al
     })
 }
 
-/// Runs a code as the job says, and compares the tables that it leaves.
+/// Rehearses a code, accepted or not, for a job that tests each instruction.
+fn rehearse_any<F: Files>(
+    alloc: Global,
+    files: &mut F,
+    code: &Code,
+    job: &Job<'_>,
+) -> Result<Rehearsal, RunRefusal>
+    requires legal { IsCode code.now }
+    requires checked { job.now.checked ≡ true }
+    ensures done { IfOk result (λ told. IsRehearsed (F.holds files.old) job.now told code.now) }
+    ensures refused { IfErr result (CodeRefused (F.holds files.old) job.now code.now
+        (Rose (F.failed files.old) (F.failed files.new))) }
+    ensures kept { SameFiles (F.holds files.old) (F.holds files.new) }
+    ensures counted { F.failed files.old ≤ F.failed files.new }
+{
+    match compare_any(alloc, files, code, job) {
+        Ok(done) => told_of(alloc, &code.declared.shape, done),
+        Err(refusal) => Err(refusal),
+    }
+}
+
+/// Rehearses an accepted code, for a job that tests no instruction.
+fn rehearse_accepted<F: Files>(
+    alloc: Global,
+    files: &mut F,
+    verified: &Verified,
+    job: &Job<'_>,
+) -> Result<Rehearsal, RunRefusal>
+    requires { job.now.checked ≡ false }
+    ensures done { IfOk result (λ told. IsRehearsed (F.holds files.old) job.now told verified.now) }
+    ensures refused { IfErr result (CodeRefused (F.holds files.old) job.now verified.now
+        (Rose (F.failed files.old) (F.failed files.new))) }
+    ensures kept { SameFiles (F.holds files.old) (F.holds files.new) }
+    ensures counted { F.failed files.old ≤ F.failed files.new }
+{
+    let shape = &verified.code().declared.shape;
+    match compare_accepted(alloc, files, verified, job) {
+        Ok(done) => told_of(alloc, shape, done),
+        Err(refusal) => Err(refusal),
+    }
+}
+
+/// Rehearses a code as the job says.
 fn rehearse_code<F: Files>(
     alloc: Global,
     files: &mut F,
@@ -153,14 +197,10 @@ fn rehearse_code<F: Files>(
     ensures counted { F.failed files.old ≤ F.failed files.new }
 {
     if job.checked {
-        let done = compare_any(alloc, files, &code, job)?;
-        let told = told_of(alloc, &code.declared.shape, done)?;
-        return Ok(told);
+        return rehearse_any(alloc, files, &code, job);
     }
     let verified = accept(alloc, code)?;
-    let done = compare_accepted(alloc, files, &verified, job)?;
-    let told = told_of(alloc, &verified.code().declared.shape, done)?;
-    Ok(told)
+    rehearse_accepted(alloc, files, &verified, job)
 }
 
 /// Runs the code in a file as `run_files` does, and saves nothing: what a run would have saved is compared with the
@@ -173,7 +213,7 @@ pub fn rehearse_files<F: Files>(
     files: &mut F,
     job: &Job<'_>,
 ) -> Result<Rehearsal, RunRefusal>
-    ensures done { IfOk result (λ told. HasCode (F.holds files.old job.name.now)
+    ensures done { IfOk result (λ told. HasCode (F.holds files.old job.now.name.now)
         (IsRehearsed (F.holds files.old) job.now told)) }
     ensures refused { IfErr result (RefusedBefore (F.holds files.old) job.now
         (Rose (F.failed files.old) (F.failed files.new))) }
