@@ -7,7 +7,7 @@
 
 mod shown;
 
-use crate::shown::{Audience, FaultyLine, Progress, faulty_line, line_at};
+use crate::shown::{Audience, FaultyLine, Progress, faulty_line, hint_of, line_at};
 use clap::error::ErrorKind;
 use clap::{ArgMatches, Command};
 use code_pages::{CodePage, in_utf8};
@@ -79,13 +79,22 @@ fn of_compiling(refusal: &CompileFilesRefusal) -> Status {
     }
 }
 
-/// Shows a faulty line on standard error, where its file can still be read.
-fn show_faulty<R: Runtime<A = Global>>(rt: &R, place: FaultyLine<'_>) {
+/// Shows a faulty line on standard error, and below it what to do about it, where its file can still be read.
+fn show_faulty<R: Runtime<A = Global>>(
+    rt: &R,
+    place: FaultyLine<'_>,
+    refusal: &CompileFilesRefusal,
+) {
     let mut folder = Folder::new(rt, Nobody);
-    if let Ok(bytes) = folder.read(rt.alloc(), place.file, FILE_LIMIT) {
-        if let Some(line) = line_at(bytes.as_slice(), place.line) {
-            let _ = eprintln!(rt; "  {line}");
-        }
+    let Ok(bytes) = folder.read(rt.alloc(), place.file, FILE_LIMIT) else {
+        return;
+    };
+    let Some(line) = line_at(bytes.as_slice(), place.line) else {
+        return;
+    };
+    let _ = eprintln!(rt; "  {line}");
+    if let Some(hint) = hint_of(rt.alloc(), &mut folder, refusal, line) {
+        let _ = eprintln!(rt; "  {hint}.");
     }
 }
 
@@ -111,7 +120,7 @@ fn compile<'a, R: Runtime<A = Global>>(
     };
     let _ = eprintln!(rt; "{told}");
     if let (Audience::Person, Some(place)) = (audience, faulty_line(&refusal, words)) {
-        show_faulty(rt, place);
+        show_faulty(rt, place, &refusal);
     }
     Ok(of_compiling(&refusal))
 }

@@ -2,8 +2,11 @@
 #![tactic(auto)]
 
 use compile_commands::{CompileFilesRefusal, CompileWords, SourceFault};
+use file_access::Files;
 use folder_files::{Doing, Listener};
-use shape_files::{DeclFault, ShapeRefusal};
+use hints::{of_command, of_declaration, of_line, of_table_line};
+use shape_files::{DeclFault, LineFault, ShapeRefusal};
+use std::alloc::Global;
 use std::fmt::{self, Display, Formatter, Write};
 use std::io::{Eprint, IsTerminal};
 
@@ -74,6 +77,29 @@ pub fn faulty_line<'a>(
             };
             let file = words.names.get(*file)?;
             Some(FaultyLine { file, line })
+        }
+        _ => None,
+    }
+}
+
+/// What to do about a refusal of this line, in one sentence without its point.
+pub fn hint_of<F: Files>(
+    alloc: Global,
+    files: &mut F,
+    refusal: &CompileFilesRefusal,
+    line: Line<'_>,
+) -> Option<&'static str> {
+    match refusal {
+        CompileFilesRefusal::Source { fault, .. } => match fault {
+            SourceFault::Parse { kind, .. } => Some(of_line(alloc, *kind, line.bytes)),
+            SourceFault::Compile { kind, .. } => Some(of_command(*kind)),
+            SourceFault::Absent | SourceFault::TooLong => None,
+        },
+        CompileFilesRefusal::Declarations(ShapeRefusal::Refused(DeclFault::Line { fault, .. })) => {
+            match fault {
+                LineFault::Table => Some(of_table_line(alloc, files, line.bytes)),
+                _ => Some(of_declaration(*fault)),
+            }
         }
         _ => None,
     }
