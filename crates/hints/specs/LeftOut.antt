@@ -12,9 +12,9 @@ abbrev pub NamedThing : Type 0
 NamedThing = List ℕ × Thing
 
 -- what the first word of a list that this one is, perhaps cut, is left out with
-abbrev pub named : List NamedThing → List ℕ → Option Thing
-named [] letters = None
-named (x ∷ xs) letters = if is_cut letters x.0 then Some x.1 else named xs letters
+abbrev pub first_named : List NamedThing → List ℕ → Option Thing
+first_named [] letters = None
+first_named (x ∷ xs) letters = if is_cut letters x.0 then Some x.1 else first_named xs letters
 
 abbrev pub one : List ℕ → Thing → List NamedThing
 one whole found = (whole, found) ∷ []
@@ -82,8 +82,8 @@ or_next (Some found) other = Some found
 
 -- what is left out where a line begins with a word
 unfoldable pub by_first : List ℕ → Option Thing
-by_first s = or_next (named searches s) (or_next (named tables s) (or_next (named copies s) (or_next (named forms s)
-    (or_next (named programs s) (or_next (named variables s) (named other_forms s))))))
+by_first s = or_next (first_named searches s) (or_next (first_named tables s) (or_next (first_named copies s) (or_next (first_named forms s)
+    (or_next (first_named programs s) (or_next (first_named variables s) (first_named other_forms s))))))
 
 -- whether SET has a meaning with this word behind it
 unfoldable pub is_setting : List ℕ → Bool
@@ -92,24 +92,24 @@ is_setting s = is_cut s (codes "ORDER") || is_cut s (codes "FILTER") || is_cut s
 
 -- what SET asks for with this word behind it
 unfoldable pub by_setting : List ℕ → Option Thing
-by_setting s = if is_setting s then None else or_next (named settings s) (Some it.OtherSet)
+by_setting s = if is_setting s then None else or_next (first_named settings s) (Some it.OtherSet)
 
 -- what is left out where a line begins with two words
 unfoldable pub by_two : List ℕ → List ℕ → Option Thing
 by_two first second =
     if is_cut first (codes "SET") then by_setting second
-    else if is_cut first (codes "CLEAR") then named parts_to_clear second
-    else if is_cut first (codes "CLOSE") then named (one (codes "INDEX") it.OpenIndexes) second
-    else if is_cut first (codes "RELEASE") then named (one (codes "ALL") it.ReleaseAll) second
-    else if is_cut first (codes "RETURN") then named (one (codes "TO") it.ToMaster) second
-    else if is_cut first (codes "APPEND") then named (one (codes "FROM") it.Copies) second
+    else if is_cut first (codes "CLEAR") then first_named parts_to_clear second
+    else if is_cut first (codes "CLOSE") then first_named (one (codes "INDEX") it.OpenIndexes) second
+    else if is_cut first (codes "RELEASE") then first_named (one (codes "ALL") it.ReleaseAll) second
+    else if is_cut first (codes "RETURN") then first_named (one (codes "TO") it.ToMaster) second
+    else if is_cut first (codes "APPEND") then first_named (one (codes "FROM") it.Copies) second
     else None
 
 -- the first clause or alias among these words
 unfoldable pub by_clause : List Word → Option Thing
 by_clause [] = None
 by_clause (word.Arrow ∷ ws) = Some it.OtherAlias
-by_clause (word.Name s ∷ ws) = or_next (named clauses s) (by_clause ws)
+by_clause (word.Name s ∷ ws) = or_next (first_named clauses s) (by_clause ws)
 by_clause (w ∷ ws) = by_clause ws
 
 -- what a command asks for that is left out: by its first words, or else by a clause behind its first word
@@ -123,8 +123,8 @@ of_command (w ∷ ws) = by_clause ws
 
 -- what is left out where a call begins so
 unfoldable pub in_call : List ℕ → List Word → Option Thing
-in_call s (word.Close ∷ ws) = named functions s
-in_call s ws = or_next (named functions s) (named answers s)
+in_call s (word.Close ∷ ws) = first_named functions s
+in_call s ws = or_next (first_named functions s) (first_named answers s)
 
 -- what is left out where these words begin
 unfoldable pub in_front : List Word → Option Thing

@@ -85,7 +85,7 @@ pub enum LeftOut {
 
 /// Commands that look for records, or add them up.
 fn of_searches(word: &[u8]) -> Option<LeftOut>
-    ensures { result ≡ spec.named spec.searches (map to_ascii_uppercase word.now) }
+    ensures { result ≡ spec.first_named spec.searches (map to_ascii_uppercase word.now) }
 {
     if is_word(word, b"LOCATE") {
         return Some(LeftOut::Locate);
@@ -110,7 +110,7 @@ fn of_searches(word: &[u8]) -> Option<LeftOut>
 
 /// Commands that list or make tables.
 fn of_tables(word: &[u8]) -> Option<LeftOut>
-    ensures { result ≡ spec.named spec.tables (map to_ascii_uppercase word.now) }
+    ensures { result ≡ spec.first_named spec.tables (map to_ascii_uppercase word.now) }
 {
     if is_word(word, b"LIST") {
         return Some(LeftOut::Listings);
@@ -135,7 +135,7 @@ fn of_tables(word: &[u8]) -> Option<LeftOut>
 
 /// Commands that copy tables, and those that only a person uses.
 fn of_copies(word: &[u8]) -> Option<LeftOut>
-    ensures { result ≡ spec.named spec.copies (map to_ascii_uppercase word.now) }
+    ensures { result ≡ spec.first_named spec.copies (map to_ascii_uppercase word.now) }
 {
     if is_word(word, b"COPY") {
         return Some(LeftOut::Copies);
@@ -163,7 +163,7 @@ fn of_copies(word: &[u8]) -> Option<LeftOut>
 
 /// Commands of forms, of memory files and of what is typed and printed.
 fn of_forms(word: &[u8]) -> Option<LeftOut>
-    ensures { result ≡ spec.named spec.forms (map to_ascii_uppercase word.now) }
+    ensures { result ≡ spec.first_named spec.forms (map to_ascii_uppercase word.now) }
 {
     if is_word(word, b"REPORT") {
         return Some(LeftOut::Reports);
@@ -194,7 +194,7 @@ fn of_forms(word: &[u8]) -> Option<LeftOut>
 
 /// Commands about other programs and files, and what a program is told of errors.
 fn of_programs(word: &[u8]) -> Option<LeftOut>
-    ensures { result ≡ spec.named spec.programs (map to_ascii_uppercase word.now) }
+    ensures { result ≡ spec.first_named spec.programs (map to_ascii_uppercase word.now) }
 {
     if is_word(word, b"RUN") {
         return Some(LeftOut::Others);
@@ -219,7 +219,7 @@ fn of_programs(word: &[u8]) -> Option<LeftOut>
 
 /// Commands of variables and errors.
 fn of_variables(word: &[u8]) -> Option<LeftOut>
-    ensures { result ≡ spec.named spec.variables (map to_ascii_uppercase word.now) }
+    ensures { result ≡ spec.first_named spec.variables (map to_ascii_uppercase word.now) }
 {
     if is_word(word, b"PUBLIC") {
         return Some(LeftOut::Public);
@@ -247,7 +247,7 @@ fn of_variables(word: &[u8]) -> Option<LeftOut>
 
 /// Commands that are there, but not in every form.
 fn of_other_forms(word: &[u8]) -> Option<LeftOut>
-    ensures { result ≡ spec.named spec.other_forms (map to_ascii_uppercase word.now) }
+    ensures { result ≡ spec.first_named spec.other_forms (map to_ascii_uppercase word.now) }
 {
     if is_word(word, b"APPEND") {
         return Some(LeftOut::ByHand);
@@ -312,7 +312,7 @@ fn by_setting(word: &[u8]) -> Option<LeftOut>
 
 /// What SET has behind it of indexes, areas and printers.
 fn of_set(word: &[u8]) -> Option<LeftOut>
-    ensures { result ≡ spec.named spec.settings (map to_ascii_uppercase word.now) }
+    ensures { result ≡ spec.first_named spec.settings (map to_ascii_uppercase word.now) }
 {
     if is_word(word, b"RELATION") {
         return Some(LeftOut::Relation);
@@ -343,7 +343,7 @@ fn of_set(word: &[u8]) -> Option<LeftOut>
 
 /// What CLEAR has behind it.
 fn of_clear(word: &[u8]) -> Option<LeftOut>
-    ensures { result ≡ spec.named spec.parts_to_clear (map to_ascii_uppercase word.now) }
+    ensures { result ≡ spec.first_named spec.parts_to_clear (map to_ascii_uppercase word.now) }
 {
     if is_word(word, b"ALL") {
         return Some(LeftOut::ClearParts);
@@ -359,7 +359,7 @@ fn of_clear(word: &[u8]) -> Option<LeftOut>
 
 /// Whether a word is this one, and what it then stands for.
 fn if_named(word: &[u8], whole: &[u8], found: LeftOut) -> Option<LeftOut>
-    ensures { result ≡ spec.named (spec.one whole.now found) (map to_ascii_uppercase word.now) }
+    ensures { result ≡ spec.first_named (spec.one whole.now found) (map to_ascii_uppercase word.now) }
 {
     if is_word(word, whole) {
         return Some(found);
@@ -395,7 +395,7 @@ pub(crate) fn by_two(first: &[u8], second: &[u8]) -> Option<LeftOut>
 
 /// What a clause within a line asks for.
 pub(crate) fn of_clause(word: &[u8]) -> Option<LeftOut>
-    ensures { result ≡ spec.named spec.clauses (map to_ascii_uppercase word.now) }
+    ensures { result ≡ spec.first_named spec.clauses (map to_ascii_uppercase word.now) }
 {
     if is_word(word, b"ALL") {
         return Some(LeftOut::Scopes);
@@ -426,7 +426,7 @@ pub(crate) fn of_clause(word: &[u8]) -> Option<LeftOut>
 
 /// What a function asks for, whatever its arguments.
 pub(crate) fn of_function(word: &[u8]) -> Option<LeftOut>
-    ensures { result ≡ spec.named spec.functions (map to_ascii_uppercase word.now) }
+    ensures { result ≡ spec.first_named spec.functions (map to_ascii_uppercase word.now) }
 {
     if is_word(word, b"TYPE") {
         return Some(LeftOut::Type);
@@ -451,7 +451,7 @@ pub(crate) fn of_function(word: &[u8]) -> Option<LeftOut>
 
 /// What a function that takes nothing here asks for where it has an argument.
 pub(crate) fn of_answer(word: &[u8]) -> Option<LeftOut>
-    ensures { result ≡ spec.named spec.answers (map to_ascii_uppercase word.now) }
+    ensures { result ≡ spec.first_named spec.answers (map to_ascii_uppercase word.now) }
 {
     if is_word(word, b"EOF") {
         return Some(LeftOut::OtherArea);
