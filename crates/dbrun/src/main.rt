@@ -13,7 +13,7 @@ use clap::{ArgMatches, Command};
 use code_pages::{CodePage, in_utf8};
 use command_words::{Listing, Words, WordsFault, command, sources_of, words_of};
 use compile_commands::{CompileFilesRefusal, CompileTold, CompileWords, compile_files};
-use file_access::{Files, ReadFault, read_within};
+use file_access::{Files, ReadFault, read_in_turns, read_within};
 use file_commands::{
     FILE_LIMIT, Refusal, Status, list_code, list_index, list_table, of_refusal, verify_file,
 };
@@ -33,6 +33,9 @@ use table_csv::list_csv;
 
 /// The most bytes that an operator may type for a run: 1 MiB.
 const INPUT_LIMIT: usize = 1_048_576;
+
+/// The most reads of what an operator types: two for each byte.
+const INPUT_TURNS: usize = 2_097_152;
 
 /// The most bytes of all names of a folder: 64 MiB.
 const NAMES_LIMIT: usize = 67_108_864;
@@ -54,7 +57,7 @@ fn folder<'a, R: Runtime<A = Global>>(
 /// All that the operator typed, or how the program exits where that can't be had.
 fn typed<R: Runtime<A = Global>>(rt: &R) -> Result<Vec<u8>, Status> {
     let mut reader = rt.reader();
-    match read_within(rt.alloc(), &mut reader, INPUT_LIMIT) {
+    match read_in_turns(rt.alloc(), &mut reader, INPUT_LIMIT, INPUT_TURNS) {
         Ok(bytes) => Ok(bytes),
         Err(ReadFault::TooLong) => {
             let _ = eprintln!(rt; "refused - TooLong");
