@@ -112,14 +112,22 @@ by_clause (word.Arrow ∷ ws) = Some it.OtherAlias
 by_clause (word.Name s ∷ ws) = or_next (first_named clauses s) (by_clause ws)
 by_clause (w ∷ ws) = by_clause ws
 
+-- what a command that begins with this name asks for by the word behind it
+unfoldable pub by_next : List ℕ → List Word → Option Thing
+by_next first [] = None
+by_next first (word.Name second ∷ ws) = by_two first second
+by_next first (w ∷ ws) = None
+
+-- what a command that begins with this word asks for
+unfoldable pub from_first : Word → List Word → Option Thing
+from_first (word.Name first) ws = or_next (by_next first ws) (or_next (by_first first) (by_clause ws))
+from_first (word.Outside word.At) ws = or_next (by_clause ws) (Some it.AtForms)
+from_first w ws = by_clause ws
+
 -- what a command asks for that is left out: by its first words, or else by a clause behind its first word
 unfoldable pub of_command : List Word → Option Thing
 of_command [] = None
-of_command (word.Name first ∷ word.Name second ∷ ws) =
-    or_next (by_two first second) (or_next (by_first first) (by_clause (word.Name second ∷ ws)))
-of_command (word.Name first ∷ ws) = or_next (by_first first) (by_clause ws)
-of_command (word.Outside word.At ∷ ws) = or_next (by_clause ws) (Some it.AtForms)
-of_command (w ∷ ws) = by_clause ws
+of_command (w ∷ ws) = from_first w ws
 
 -- what is left out where a call begins so
 unfoldable pub in_call : List ℕ → List Word → Option Thing

@@ -2,7 +2,7 @@
 
 ghost use Rattle.std.specs.Prelude.{◌≡◌, map};
 ghost use Rattle.std.specs.Char.{to_ascii_uppercase};
-ghost use Rattle.prg_expr.specs.Word.{words as words_of};
+ghost use Rattle.prg_expr.specs.Word.{word_of, words as words_of};
 ghost use Rattle.hints.specs.LeftOut as spec;
 
 use crate::kinds::of_kind;
@@ -28,34 +28,52 @@ fn by_clause(words: &[Token<'_>]) -> Option<LeftOut>
     }
 }
 
+/// What a command asks for that begins with this name, by the word behind it.
+#[tactic(auto, unfolding(crate::specs::LeftOut::by_next))]
+fn by_next(first: &[u8], rest: &[Token<'_>]) -> Option<LeftOut>
+    ensures { result ≡ spec.by_next (map to_ascii_uppercase first.now) (words_of rest.now) }
+{
+    let Some((second, _)) = rest.split_first() else {
+        return None;
+    };
+    match second {
+        Token::Name(second) => by_two(first, *second),
+        _ => None,
+    }
+}
+
+/// What a command asks for that begins with this word.
+#[tactic(auto, unfolding(crate::specs::LeftOut::from_first))]
+fn from_first(word: &Token<'_>, rest: &[Token<'_>]) -> Option<LeftOut>
+    ensures { result ≡ spec.from_first (word_of word.now) (words_of rest.now) }
+{
+    match word {
+        Token::Name(first) => {
+            if let Some(found) = by_next(*first, rest) {
+                return Some(found);
+            }
+            if let Some(found) = by_first(*first) {
+                return Some(found);
+            }
+            by_clause(rest)
+        }
+        Token::At => match by_clause(rest) {
+            Some(found) => Some(found),
+            None => Some(LeftOut::AtForms),
+        },
+        _ => by_clause(rest),
+    }
+}
+
 /// What a command of these words asks for that is left out.
 #[tactic(auto, unfolding(crate::specs::LeftOut::of_command))]
 fn in_command(words: &[Token<'_>]) -> Option<LeftOut>
     ensures { result ≡ spec.of_command (words_of words.now) }
 {
-    match words {
-        [] => None,
-        [Token::Name(first), Token::Name(second), ..] => {
-            if let Some(found) = by_two(*first, *second) {
-                return Some(found);
-            }
-            if let Some(found) = by_first(*first) {
-                return Some(found);
-            }
-            by_clause(&words[1..])
-        }
-        [Token::Name(first), ..] => {
-            if let Some(found) = by_first(*first) {
-                return Some(found);
-            }
-            by_clause(&words[1..])
-        }
-        [Token::At, ..] => match by_clause(&words[1..]) {
-            Some(found) => Some(found),
-            None => Some(LeftOut::AtForms),
-        },
-        _ => by_clause(&words[1..]),
-    }
+    let Some((first, rest)) = words.split_first() else {
+        return None;
+    };
+    from_first(first, rest)
 }
 
 /// What is left out where a call begins so.
@@ -66,8 +84,11 @@ fn in_call(name: &[u8], behind: &[Token<'_>]) -> Option<LeftOut>
     if let Some(found) = of_function(name) {
         return Some(found);
     }
-    match behind {
-        [Token::Close, ..] => None,
+    let Some((next, _)) = behind.split_first() else {
+        return of_answer(name);
+    };
+    match next {
+        Token::Close => None,
         _ => of_answer(name),
     }
 }
@@ -93,12 +114,12 @@ fn in_front(words: &[Token<'_>]) -> Option<LeftOut>
 fn in_expression(words: &[Token<'_>]) -> Option<LeftOut>
     ensures { result ≡ spec.of_expression (words_of words.now) }
 {
-    if let Some(found) = in_front(words) {
-        return Some(found);
-    }
     let Some((_, others)) = words.split_first() else {
         return None;
     };
+    if let Some(found) = in_front(words) {
+        return Some(found);
+    }
     in_expression(others)
 }
 
