@@ -1,0 +1,205 @@
+// Each byte of the files set to each value.
+#![tactic(auto)]
+
+use super::originals::{changed, code, index, keyed_table, stored, table};
+use calendar::{Day, DayParts};
+use dbf_file::read as read_table;
+use file_access::MemoryEntry;
+use ndx_tree::NdxTree;
+use run_commands::{How, Job, RecordLimit, Report, RunDay, run_files};
+use shape::Shape;
+use shape_files::read_shape;
+use std::alloc::{AllocError, Global};
+use std::rt::HostRuntime;
+use std::test::Fail;
+use table_files::load;
+
+/// The budget of each run.
+const BUDGET: u64 = 1000;
+
+fn first_day() -> Option<RunDay> {
+    RunDay::of(Day::from_parts(DayParts {
+        year: 1985,
+        month: 1,
+        day: 1,
+    })?)
+}
+
+fn run(alloc: Global, bytes: &[u8], checked: bool, day: RunDay) -> Report {
+    let entries = [MemoryEntry {
+        name: "C.XBC",
+        bytes,
+    }];
+    let job = Job {
+        name: "C.XBC",
+        checked,
+        budget: BUDGET,
+        limit: RecordLimit::most(),
+        day,
+        input: &[],
+    };
+    run_files(alloc, &mut stored(alloc, &entries), &job)
+}
+
+/// Whether a run met a fault.
+fn has_fault(report: &Report) -> bool {
+    match &report.result {
+        Ok(ended) => matches!(ended.how, How::Fault(_, _)),
+        Err(_) => false,
+    }
+}
+
+/// Whether the bytes are refused, or run without a fault as the checking machine runs them.
+fn runs_well(alloc: Global, bytes: &[u8], day: RunDay) -> bool {
+    let untagged = run(alloc, bytes, false, day);
+    if untagged.result.is_err() {
+        return true;
+    }
+    let checked = run(alloc, bytes, true, day);
+    !has_fault(&checked)
+        && checked.result == untagged.result
+        && checked.rows.as_slice() == untagged.rows.as_slice()
+}
+
+/// The first value with which byte `at` of a code file makes it run otherwise.
+fn first_bad_value(
+    alloc: Global,
+    bytes: &[u8],
+    at: usize,
+    day: RunDay,
+) -> Result<Option<u8>, AllocError> {
+    for value in 0..=255u8 {
+        let other = changed(alloc, bytes, at, value)?;
+        if !runs_well(alloc, other.as_slice(), day) {
+            return Ok(Some(value));
+        }
+    }
+    Ok(None)
+}
+
+fn first_bad_byte(alloc: Global, bytes: &[u8], day: RunDay) -> Result<Option<usize>, AllocError> {
+    for at in 0..bytes.len() {
+        if first_bad_value(alloc, bytes, at, day)?.is_some() {
+            return Ok(Some(at));
+        }
+    }
+    Ok(None)
+}
+
+#[test]
+fn code_files_with_a_byte_changed(rt: HostRuntime) -> Result<(), Fail> {
+    let bytes = code(rt.alloc())?;
+    let day = first_day().ok_or("no day")?;
+    assert!(rt; first_bad_byte(rt.alloc(), bytes.as_slice(), day)?.is_none());
+    Ok(())
+}
+
+/// Whether a table's bytes are refused, or hold no more records than they say.
+fn reads_well(alloc: Global, bytes: &[u8]) -> bool {
+    match read_table(alloc, bytes, 1_000_000) {
+        Ok(table) => table.rows() <= 1,
+        Err(_) => true,
+    }
+}
+
+fn first_bad_table_value(alloc: Global, bytes: &[u8], at: usize) -> Result<Option<u8>, AllocError> {
+    for value in 0..=255u8 {
+        let other = changed(alloc, bytes, at, value)?;
+        if !reads_well(alloc, other.as_slice()) {
+            return Ok(Some(value));
+        }
+    }
+    Ok(None)
+}
+
+#[test]
+fn tables_with_a_byte_changed(rt: HostRuntime) -> Result<(), Fail> {
+    let bytes = table(rt.alloc())?;
+    for at in 0..bytes.len() {
+        assert!(rt; first_bad_table_value(rt.alloc(), bytes.as_slice(), at)?.is_none());
+    }
+    Ok(())
+}
+
+/// The table with the index, and what they declare.
+#[derive(Drop)]
+struct KeyedFiles {
+    table: Vec<u8>,
+    index: Vec<u8>,
+    shape: Shape,
+}
+
+fn keyed(alloc: Global) -> Result<KeyedFiles, Fail> {
+    let table = keyed_table(alloc)?;
+    let index = index(alloc)?;
+    let entries = [
+        MemoryEntry {
+            name: "T.DCL",
+            bytes: b"TABLE T\nINDEX KI ON T KEY K\n",
+        },
+        MemoryEntry {
+            name: "T.DBF",
+            bytes: table.as_slice(),
+        },
+    ];
+    let shape = read_shape(alloc, &mut stored(alloc, &entries), "T.DCL").map_err(|_| "refused")?;
+    Ok(KeyedFiles {
+        table,
+        index,
+        shape,
+    })
+}
+
+/// Whether the index is stale where it is loaded.
+fn loads_stale(alloc: Global, files: &KeyedFiles, bytes: &[u8]) -> bool {
+    let entries = [
+        MemoryEntry {
+            name: "T.DBF",
+            bytes: files.table.as_slice(),
+        },
+        MemoryEntry {
+            name: "KI.NDX",
+            bytes,
+        },
+    ];
+    match load(alloc, &mut stored(alloc, &entries), &files.shape, 1_000_000) {
+        Ok(store) => store.keys(0).is_none(),
+        Err(_) => false,
+    }
+}
+
+/// Whether the bytes are refused, or hold the original's list, or are loaded as a stale index.
+fn is_exact_or_stale(alloc: Global, files: &KeyedFiles, bytes: &[u8]) -> Result<bool, AllocError> {
+    if bytes.len() > 1024 {
+        return Ok(false);
+    }
+    let Ok(tree) = NdxTree::read(alloc, bytes) else {
+        return Ok(true);
+    };
+    let is_exact = tree.write(alloc)?.as_slice() == files.index.as_slice();
+    Ok(is_exact || loads_stale(alloc, files, bytes))
+}
+
+/// The first value with which byte `at` of the index loads otherwise.
+fn first_bad_index_value(
+    alloc: Global,
+    files: &KeyedFiles,
+    at: usize,
+) -> Result<Option<u8>, AllocError> {
+    for value in 0..=255u8 {
+        let other = changed(alloc, files.index.as_slice(), at, value)?;
+        if !is_exact_or_stale(alloc, files, other.as_slice())? {
+            return Ok(Some(value));
+        }
+    }
+    Ok(None)
+}
+
+#[test]
+fn indexes_with_a_byte_changed(rt: HostRuntime) -> Result<(), Fail> {
+    let keyed = keyed(rt.alloc())?;
+    for at in 0..keyed.index.len() {
+        assert!(rt; first_bad_index_value(rt.alloc(), &keyed, at)?.is_none());
+    }
+    Ok(())
+}
