@@ -77,10 +77,6 @@ pub every_kept : (rows : List Row) → kept_rows Every rows ≡ rows
 every_kept [] = refl
 every_kept (row ∷ rows) = ap (λ rs. row ∷ rs) (every_kept rows)
 
-pub nothing_kept : (rows : List Row) → kept_rows Nothing rows ≡ []
-nothing_kept [] = refl
-nothing_kept (row ∷ rows) = nothing_kept rows
-
 -- what becomes of the marks
 remade_stale : (among only stale : Bool) → (stale && not among) ≡ cond (among && (stale || not only)) false (cond false true stale)
 remade_stale true true true = refl

@@ -3,7 +3,7 @@
 ghost use Rattle.std.specs.Prelude.{◌∷◌, ◌++◌, ◌*◌, true, ◌≡◌, ℕ, ◌+◌, ◌-◌, ◌<◌, ◌≤◌, Bool, OnOk, OnErr, Some, None};
 ghost use Rattle.std.specs.Prelude.{[], length, is_none, is_some, IfSome, IsSomeAnd};
 ghost use Rattle.dbf_file.specs.Rows.{row_at, unmarked};
-ghost use Rattle.row_keys.specs.Lists.{index_list, kept_rows};
+ghost use Rattle.row_keys.specs.Lists.{index_list};
 ghost use Rattle.dbf_file.specs.Tables.{letter_at, decimals_at, row_widths};
 ghost use Rattle.dbf_file.specs.Values.{kind_for};
 ghost use Rattle.key_lists.specs.KeyForm.{IsKeyText};
@@ -238,11 +238,28 @@ impl<K: KeyList> IndexedTable<K> {
         changes::clear(alloc, &mut self.table, &mut self.slots, list)
     }
 
-    /// TOP in an order among the rows that are kept, at a cost that is higher by a base.
+    /// TOP in an order, at a cost that is higher by a base.
     fn judge<F: Fn(&Row<'_>) -> bool>(
+        &mut self,
+        order: Option<u8>,
+        see: &F,
+        base: u64,
+        budget: u64,
+    ) -> Result<Landed, Spent>
+        requires callable { F.IsAlwaysCallable see.now }
+        requires base { base ≤ 1000000000 }
+        ensures lands { (shown : ℕ → Bool) → ShowsRows (FnReturnsAt F.Fn) see.now self.old.structure self.old.rows shown
+            → IsMove (behind base (end_of shown true (order_pairs order self.old))) budget result }
+        ensures same { self.new ≡ self.old }
+    {
+        closing::judge(&self.table, &mut self.slots, order, see, base, budget)
+    }
+
+    /// TOP in an order among the rows that aren't marked, as they are numbered without the others, at a cost that is
+    /// higher by a base.
+    fn judge_unmarked<F: Fn(&Row<'_>) -> bool>(
         &self,
         order: Option<u8>,
-        kept: Kept,
         see: &F,
         base: u64,
         budget: u64,
@@ -250,11 +267,19 @@ impl<K: KeyList> IndexedTable<K> {
         requires callable { F.IsAlwaysCallable see.now }
         requires base { base ≤ 1000000000 }
         ensures { (shown : ℕ → Bool)
-            → ShowsRows (FnReturnsAt F.Fn) see.now self.now.structure (kept_rows kept self.now.rows) shown
+            → ShowsRows (FnReturnsAt F.Fn) see.now self.now.structure (unmarked self.now.rows) shown
             → IsMove (behind base (end_of shown true
-            (pairs_in order self.now.marks (kept_rows kept self.now.rows)))) budget result }
+            (pairs_in order self.now.marks (unmarked self.now.rows)))) budget result }
     {
-        closing::judge(&self.table, &self.slots, order, kept, see, base, budget)
+        closing::judge_kept(
+            &self.table,
+            &self.slots,
+            order,
+            Kept::Unmarked,
+            see,
+            base,
+            budget,
+        )
     }
 
     /// Makes these indexes anew, or those of them that are stale, and ends with TOP in an order.
@@ -275,7 +300,7 @@ impl<K: KeyList> IndexedTable<K> {
         ensures ok { OnOk result (self.new ≡ remade list.now self.old) }
         ensures err { OnErr result (self.new ≡ self.old) }
     {
-        let Ok(landed) = self.judge(order, Kept::Every, see, base, budget) else {
+        let Ok(landed) = self.judge(order, see, base, budget) else {
             return Err(Refused::Spent);
         };
         match self.remake(alloc, list, only_stale) {
@@ -305,9 +330,13 @@ impl<K: KeyList> IndexedTable<K> {
         ensures ok { OnOk result (self.new ≡ packed list.now self.old) }
         ensures err { OnErr result (self.new ≡ self.old) }
     {
+        let count = u64::from(self.count());
+        if budget <= count {
+            return Err(Refused::Spent);
+        }
         let kept = count_kept(&self.table, Kept::Unmarked);
-        let base = u64::from(self.count()) + u64::from(kept) * list.len() as u64;
-        let Ok(landed) = self.judge(order, Kept::Unmarked, see, base, budget) else {
+        let base = count + u64::from(kept) * list.len() as u64;
+        let Ok(landed) = self.judge_unmarked(order, see, base, budget) else {
             return Err(Refused::Spent);
         };
         match self.pack_rows(alloc, list) {

@@ -9,6 +9,7 @@
 mod building;
 pub mod exact;
 mod index;
+mod key_change;
 pub mod laws;
 
 pub use building::{Kept, build_of, keeps};
