@@ -36,6 +36,8 @@ pub(crate) fn judge<K: KeyList, F: Fn(&Row<'_>) -> bool>(
     requires indexed { IsIndexed table.now.structure table.now.rows slots.old.items }
     requires callable { F.IsAlwaysCallable see.now }
     requires base { base ≤ 1000000000 }
+    requires paid { ¬ IsOrder order (indexed table.now.structure table.now.rows slots.old.items)
+        → length table.now.rows ≤ base }
     ensures lands { (shown : ℕ → Bool) → ShowsRows (FnReturnsAt F.Fn) see.now table.now.structure table.now.rows shown
         → IsMove (behind base (end_of shown true (order_pairs order
         (indexed table.now.structure table.now.rows slots.old.items)))) budget result }
@@ -98,6 +100,7 @@ pub(crate) fn judge_kept<K: KeyList, F: Fn(&Row<'_>) -> bool>(
     requires indexed { IsIndexed table.now.structure table.now.rows slots.now.items }
     requires callable { F.IsAlwaysCallable see.now }
     requires base { base ≤ 1000000000 }
+    requires paid { length table.now.rows ≤ base }
     ensures { (shown : ℕ → Bool)
         → ShowsRows (FnReturnsAt F.Fn) see.now table.now.structure (kept_rows kept table.now.rows) shown
         → IsMove (behind base (end_of shown true

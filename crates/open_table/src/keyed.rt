@@ -1,6 +1,6 @@
 //! Declared indexes by their numbers.
 
-ghost use Rattle.std.specs.Prelude.{◌≡◌, ℕ, ◌≤◌, List, [], All, length, map, is_some, IfSome, IsTrue};
+ghost use Rattle.std.specs.Prelude.{◌↔◌, ◌≡◌, ℕ, ◌≤◌, List, [], All, length, map, is_some, IfSome, IsTrue};
 ghost use Rattle.dbf_file.specs.Rows.{Row as TheRow};
 ghost use Rattle.dbf_file.specs.Tables.{StructureState};
 ghost use Rattle.shape.specs.Keys.{IsKey};
@@ -54,8 +54,8 @@ pub(crate) fn has_fresh<K: KeyList>(slots: &Vec<Slot<K>>, number: u8) -> bool
 
 /// Whether there is a list of the rows in an order: it is record order, or its index isn't stale.
 pub(crate) fn has_order<K: KeyList>(slots: &Vec<Slot<K>>, order: Option<u8>) -> bool
-    ensures { IsTrue result → (s : StructureState) (rows : List TheRow)
-        → IsOrder order (indexed s rows slots.now.items) }
+    ensures { (s : StructureState) (rows : List TheRow)
+        → IsTrue result ↔ IsOrder order (indexed s rows slots.now.items) }
 {
     match order {
         Some(number) => has_fresh(slots, number),

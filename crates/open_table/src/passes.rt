@@ -193,6 +193,7 @@ pub(crate) fn first_of<F: Fn(&Row<'_>) -> bool>(
     requires key { 1 ≤ length key.now → IsKey table.now.structure key.now }
     requires callable { F.IsAlwaysCallable see.now }
     requires base { base ≤ 1000000000 }
+    requires paid { length table.now.rows ≤ base }
     ensures { (shown : ℕ → Bool)
         → ShowsRows (FnReturnsAt F.Fn) see.now table.now.structure (kept_rows kept table.now.rows) shown
         → IsMove (behind base (end_of shown true (index_list key.now (kept_rows kept table.now.rows)))) budget result }

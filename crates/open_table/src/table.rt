@@ -1,7 +1,7 @@
 //! A table with its declared indexes.
 
 ghost use Rattle.std.specs.Prelude.{◌∷◌, ◌++◌, ◌*◌, true, ◌≡◌, ℕ, ◌+◌, ◌-◌, ◌<◌, ◌≤◌, Bool, OnOk, OnErr, Some, None};
-ghost use Rattle.std.specs.Prelude.{[], length, is_none, is_some, IfSome, IsSomeAnd};
+ghost use Rattle.std.specs.Prelude.{[], length, is_none, is_some, slice_get, IfSome, IsSomeAnd};
 ghost use Rattle.dbf_file.specs.Rows.{row_at, unmarked};
 ghost use Rattle.row_keys.specs.Lists.{index_list};
 ghost use Rattle.dbf_file.specs.Tables.{letter_at, decimals_at, row_widths};
@@ -248,6 +248,8 @@ impl<K: KeyList> IndexedTable<K> {
     ) -> Result<Landed, Spent>
         requires callable { F.IsAlwaysCallable see.now }
         requires base { base ≤ 1000000000 }
+        // Where the list of the order isn't there, the base pays for passes over the rows.
+        requires paid { ¬ IsOrder order self.old → length self.old.rows ≤ base }
         ensures lands { (shown : ℕ → Bool) → ShowsRows (FnReturnsAt F.Fn) see.now self.old.structure self.old.rows shown
             → IsMove (behind base (end_of shown true (order_pairs order self.old))) budget result }
         ensures same { self.new ≡ self.old }
@@ -266,6 +268,7 @@ impl<K: KeyList> IndexedTable<K> {
     ) -> Result<Landed, Spent>
         requires callable { F.IsAlwaysCallable see.now }
         requires base { base ≤ 1000000000 }
+        requires paid { length self.now.rows ≤ base }
         ensures { (shown : ℕ → Bool)
             → ShowsRows (FnReturnsAt F.Fn) see.now self.now.structure (unmarked self.now.rows) shown
             → IsMove (behind base (end_of shown true
@@ -295,6 +298,8 @@ impl<K: KeyList> IndexedTable<K> {
     ) -> Result<Landed, Refused>
         requires callable { F.IsAlwaysCallable see.now }
         requires base { base ≤ 1000000000 }
+        // Where the list of the order isn't there, the base pays for passes over the rows.
+        requires paid { ¬ IsOrder order self.old → length self.old.rows ≤ base }
         ensures lands { (shown : ℕ → Bool) → ShowsRows (FnReturnsAt F.Fn) see.now self.old.structure self.old.rows shown
             → IsClosing (behind base (end_of shown true (order_pairs order self.old))) budget result }
         ensures ok { OnOk result (self.new ≡ remade list.now self.old) }
@@ -366,13 +371,12 @@ impl<K: KeyList> IndexedTable<K> {
         }
     }
 
-    /// Opens indexes: those of them that are stale are made anew, each at the cost of the rows. It ends with TOP in an
-    /// order. Where it is refused, all is as it was.
+    /// Opens indexes: those of them that are stale are made anew, each at the cost of the rows. It ends with TOP in the
+    /// order of the first, or in record order where there is none. Where it is refused, all is as it was.
     pub fn open<F: Fn(&Row<'_>) -> bool>(
         &mut self,
         alloc: Global,
         list: &[u8],
-        order: Option<u8>,
         see: &F,
         budget: u64,
     ) -> Result<Landed, Refused>
@@ -380,17 +384,18 @@ impl<K: KeyList> IndexedTable<K> {
         requires few { length list.now ≤ 7 }
         ensures lands { (shown : ℕ → Bool) → ShowsRows (FnReturnsAt F.Fn) see.now self.old.structure self.old.rows shown
             → IsClosing (behind (length self.old.rows * count_stale list.now self.old.marks)
-            (end_of shown true (order_pairs order self.old))) budget result }
+            (end_of shown true (order_pairs (slice_get list.now 0) self.old))) budget result }
         ensures ok { OnOk result (self.new ≡ remade list.now self.old) }
         ensures err { OnErr result (self.new ≡ self.old) }
     {
         let stale = self.stale_in(list) as u64;
         let base = u64::from(self.count()) * stale;
+        let order = first_index(list);
         self.remake_and_top(alloc, list, true, order, see, base, budget)
     }
 
-    /// REINDEX: makes the open indexes anew, each at the cost of the rows. It ends with TOP in an order. Where it is
-    /// refused, all is as it was.
+    /// REINDEX: makes the open indexes anew, each at the cost of the rows. It ends with TOP in an order that isn't stale.
+    /// Where it is refused, all is as it was.
     pub fn reindex<F: Fn(&Row<'_>) -> bool>(
         &mut self,
         alloc: Global,
@@ -399,6 +404,7 @@ impl<K: KeyList> IndexedTable<K> {
         see: &F,
         budget: u64,
     ) -> Result<Landed, Refused>
+        requires order { IsOrder order self.old }
         requires callable { F.IsAlwaysCallable see.now }
         requires few { length list.now ≤ 7 }
         ensures lands { (shown : ℕ → Bool) → ShowsRows (FnReturnsAt F.Fn) see.now self.old.structure self.old.rows shown
@@ -464,4 +470,11 @@ impl<K: KeyList> IndexedTable<K> {
     {
         keys_at(&self.table, &self.slots, number)
     }
+}
+
+/// The first of some indexes.
+fn first_index(list: &[u8]) -> Option<u8>
+    ensures { result ≡ slice_get list.now 0 }
+{
+    list.first().copied()
 }
