@@ -5,7 +5,7 @@ use super::originals::{changed, code, index, keyed_table, stored, table};
 use calendar::{Day, DayParts};
 use dbf_file::read as read_table;
 use file_access::MemoryEntry;
-use ndx_tree::NdxTree;
+use ndx_tree::{Entry, KeyList, NdxTree};
 use run_commands::{How, Job, RecordLimit, Report, RunDay, run_files};
 use shape::Shape;
 use shape_files::read_shape;
@@ -125,13 +125,11 @@ fn tables_with_a_byte_changed(rt: HostRuntime) -> Result<(), Fail> {
 #[derive(Drop)]
 struct KeyedFiles {
     table: Vec<u8>,
-    index: Vec<u8>,
     shape: Shape,
 }
 
 fn keyed(alloc: Global) -> Result<KeyedFiles, Fail> {
     let table = keyed_table(alloc)?;
-    let index = index(alloc)?;
     let entries = [
         MemoryEntry {
             name: "T.DCL",
@@ -143,11 +141,7 @@ fn keyed(alloc: Global) -> Result<KeyedFiles, Fail> {
         },
     ];
     let shape = read_shape(alloc, &mut stored(alloc, &entries), "T.DCL").map_err(|_| "refused")?;
-    Ok(KeyedFiles {
-        table,
-        index,
-        shape,
-    })
+    Ok(KeyedFiles { table, shape })
 }
 
 /// Whether the index is stale where it is loaded.
@@ -168,38 +162,60 @@ fn loads_stale(alloc: Global, files: &KeyedFiles, bytes: &[u8]) -> bool {
     }
 }
 
-/// Whether the bytes are refused, or hold the original's list, or are loaded as a stale index.
-fn is_exact_or_stale(alloc: Global, files: &KeyedFiles, bytes: &[u8]) -> Result<bool, AllocError> {
-    if bytes.len() > 1024 {
-        return Ok(false);
+/// Whether an entry is there, of this key and this record.
+fn is_entry(entry: Option<Entry>, key: u8, record: u32) -> bool {
+    match entry {
+        Some(entry) => entry.key() == [key].as_slice() && entry.number() == record,
+        None => false,
     }
-    let Ok(tree) = NdxTree::read(alloc, bytes) else {
-        return Ok(true);
-    };
-    let is_exact = tree.write(alloc)?.as_slice() == files.index.as_slice();
-    Ok(is_exact || loads_stale(alloc, files, bytes))
 }
 
-/// The first value with which byte `at` of the index loads otherwise.
+/// Whether a tree is the original's list.
+fn is_original(tree: &mut NdxTree) -> bool {
+    tree.len() == 3
+        && is_entry(tree.first(), b'B', 2)
+        && is_entry(tree.after(b"B", 2), b'C', 3)
+        && is_entry(tree.after(b"C", 3), b'Z', 1)
+}
+
+/// Whether the bytes are refused, or hold the original's list, or are loaded as a stale index.
+fn is_exact_or_stale(alloc: Global, files: &KeyedFiles, bytes: &[u8]) -> bool {
+    if bytes.len() > 1024 {
+        return false;
+    }
+    match NdxTree::read(alloc, bytes) {
+        Ok(mut tree) => is_original(&mut tree) || loads_stale(alloc, files, bytes),
+        Err(_) => true,
+    }
+}
+
+/// The first value with which byte `at` of the index loads otherwise. The byte is as it was behind the call.
 fn first_bad_index_value(
     alloc: Global,
     files: &KeyedFiles,
+    bytes: &mut Vec<u8>,
     at: usize,
-) -> Result<Option<u8>, AllocError> {
+) -> Option<u8> {
+    if at >= bytes.len() {
+        return None;
+    }
+    let before = bytes[at];
     for value in 0..=255u8 {
-        let other = changed(alloc, files.index.as_slice(), at, value)?;
-        if !is_exact_or_stale(alloc, files, other.as_slice())? {
-            return Ok(Some(value));
+        bytes[at] = value;
+        if !is_exact_or_stale(alloc, files, bytes.as_slice()) {
+            return Some(value);
         }
     }
-    Ok(None)
+    bytes[at] = before;
+    None
 }
 
 #[test]
 fn indexes_with_a_byte_changed(rt: HostRuntime) -> Result<(), Fail> {
-    let keyed = keyed(rt.alloc())?;
-    for at in 0..keyed.index.len() {
-        assert!(rt; first_bad_index_value(rt.alloc(), &keyed, at)?.is_none());
+    let files = keyed(rt.alloc())?;
+    let mut bytes = index(rt.alloc())?;
+    for at in 0..bytes.len() {
+        assert!(rt; first_bad_index_value(rt.alloc(), &files, &mut bytes, at).is_none());
     }
     Ok(())
 }
