@@ -3,4 +3,6 @@
 
 mod words;
 
-pub use words::{Listing, Words, WordsFault, command, sources_of, words_of};
+pub use words::{
+    Listing, Outcomes, RunWords, SaveWords, Words, WordsFault, command, sources_of, words_of,
+};

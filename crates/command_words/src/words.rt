@@ -4,6 +4,7 @@
 use clap::{Arg, ArgAction, ArgMatches, Command, value_parser};
 use code_pages::CodePage;
 use run_commands::{Job, RecordLimit, RunDay};
+use save_rules::Overwritten;
 use std::alloc::{AllocError, Global};
 
 /// How much a run may cost where the words don't say.
@@ -23,6 +24,42 @@ pub enum WordsFault {
     Page,
     /// A word is missing.
     Missing,
+    /// The folder for copies is neither absent nor empty.
+    Backup,
+    /// The code file would overwrite another file.
+    Out(Overwritten),
+}
+
+/// On which terms the tables of a run are saved.
+#[derive(Clone, Copy, Debug)]
+pub struct SaveWords<'a> {
+    /// Whether only those of a finished run are.
+    pub only_finished: bool,
+    /// The folder to which all that is replaced is copied first.
+    pub backup: Option<&'a str>,
+    /// Whether new files may have another owner than the old ones.
+    pub new_owner: bool,
+    /// Whether they are saved where the file system knows no locks.
+    pub no_lock: bool,
+}
+
+/// What becomes of the tables that a run leaves.
+#[derive(Clone, Copy, Debug)]
+pub enum Outcomes<'a> {
+    /// Nothing.
+    Nothing,
+    /// What would be saved is told.
+    Told,
+    /// They are saved.
+    Saved(SaveWords<'a>),
+}
+
+/// What a run is asked for.
+#[derive(Clone, Copy, Debug)]
+pub struct RunWords<'a> {
+    /// The run; nothing is typed yet.
+    pub job: Job<'a>,
+    pub tables: Outcomes<'a>,
 }
 
 /// How a table is listed.
@@ -41,8 +78,8 @@ pub struct Listing<'a> {
 pub enum Words<'a> {
     /// Compile command files, with these declarations, to this code file.
     Compile { decl: &'a str, out: &'a str },
-    /// Run a code file; nothing is typed yet.
-    Run(Job<'a>),
+    /// Run a code file.
+    Run(RunWords<'a>),
     /// Say whether a code file is accepted.
     Verify { name: &'a str },
     /// List a code file.
@@ -53,6 +90,8 @@ pub enum Words<'a> {
     Index { name: &'a str },
     /// Print the declaration file of the folder.
     Declare,
+    /// Take away a save that was cut off.
+    Forget { no_lock: bool },
 }
 
 /// The version of all that stands in this repository.
@@ -60,8 +99,9 @@ const VERSION: &str = "0.9.0";
 
 /// An example of the commands that belong together, and how they exit.
 const FURTHER: &str = "Example:
-  dbrun compile FIRM.DCL DAY.XBC DAY.PRG
-  dbrun run DAY.XBC < day.txt
+  dbrun compile FIRM.DCL DAY.XBC DAY.PRG ENTRY.PRG POST.PRG REPORT.PRG REORDER.PRG PRICES.PRG
+  dbrun run DAY.XBC --rehearse < day.txt
+  dbrun run DAY.XBC --today 1985-01-15 < day.txt
   dbrun list ORDERS.DBF
 
 Status:
@@ -71,7 +111,7 @@ Status:
   3  the budget is spent
   4  a table is full
   5  memory was refused
-  6  the device or standard output failed
+  6  the device or standard output failed, or another run has the folder
   7  a fault under check-run";
 
 /// The words that name files.
@@ -82,6 +122,19 @@ const DECLARATIONS: &str = "DECL";
 const OUT: &str = "OUT";
 
 const SOURCES: &str = "MAIN";
+
+/// The words that say what becomes of a run's tables.
+const REHEARSE: &str = "rehearse";
+
+const CHANGES: &str = "changes";
+
+const ONLY_FINISHED: &str = "only-finished";
+
+const BACKUP: &str = "backup";
+
+const NEW_OWNER: &str = "new-owner";
+
+const NO_LOCK: &str = "no-lock";
 
 fn reader<'a>(
     alloc: Global,
@@ -145,6 +198,47 @@ fn runner<'a>(
         .arg(today)
 }
 
+/// A word that is there or not.
+fn flag<'a>(alloc: Global, name: &'a str, help: &'a str) -> Arg<'a> {
+    Arg::new(alloc, name)
+        .long(name)
+        .action(ArgAction::SetTrue)
+        .help(help)
+}
+
+/// The words of `run` alone.
+fn saver<'a>(alloc: Global, command: Command<'a>) -> Result<Command<'a>, AllocError> {
+    let backup = Arg::new(alloc, BACKUP)
+        .long(BACKUP)
+        .value_name("FOLDER")
+        .help("Copies all that is replaced to this folder first, which is absent or empty");
+    command
+        .arg(flag(
+            alloc,
+            REHEARSE,
+            "Saves nothing, and tells what a run would save",
+        ))?
+        .arg(flag(
+            alloc,
+            ONLY_FINISHED,
+            "Saves nothing unless the run finished",
+        ))?
+        .arg(backup)?
+        .arg(flag(
+            alloc,
+            NEW_OWNER,
+            "Lets new files be yours where the old owner or group can't be kept",
+        ))?
+        .arg(flag(alloc, NO_LOCK, "Saves where the file system knows no locks"))
+}
+
+fn forgetter<'a>(alloc: Global) -> Result<Command<'a>, AllocError> {
+    Command::new(alloc, "forget")
+        .about("Takes away a save that was cut off: its new files, and no table")
+        .after_help("Example: dbrun forget")
+        .arg(flag(alloc, NO_LOCK, "Where the file system knows no locks"))
+}
+
 fn compiler<'a>(alloc: Global) -> Result<Command<'a>, AllocError> {
     let declarations = Arg::new(alloc, DECLARATIONS)
         .required(true)
@@ -158,26 +252,31 @@ fn compiler<'a>(alloc: Global) -> Result<Command<'a>, AllocError> {
         .help("The command files, the main one first");
     Command::new(alloc, "compile")
         .about("Compiles command files to a code file")
-        .after_help("Example: dbrun compile FIRM.DCL DAY.XBC DAY.PRG ENTRY.PRG")
+        .after_help(
+            "Example: dbrun compile FIRM.DCL DAY.XBC DAY.PRG ENTRY.PRG POST.PRG REPORT.PRG REORDER.PRG PRICES.PRG",
+        )
         .arg(declarations)?
         .arg(out)?
         .arg(sources)
 }
 
 fn with_runners<'a>(alloc: Global, command: Command<'a>) -> Result<Command<'a>, AllocError> {
+    let run = runner(
+        alloc,
+        "run",
+        "Runs a code file that the verifier accepts, and saves its tables",
+        "Example: dbrun run DAY.XBC --today 1985-01-15 < day.txt",
+    )?;
+    let check = runner(
+        alloc,
+        "check-run",
+        "Runs any code file, testing each instruction first; saves nothing",
+        "Example: dbrun check-run DAY.XBC --changes < day.txt",
+    )?;
+    let changes = flag(alloc, CHANGES, "Tells what a run would save");
     command
-        .subcommand(runner(
-            alloc,
-            "run",
-            "Runs a code file that the verifier accepts, and saves its tables",
-            "Example: dbrun run DAY.XBC --today 1985-01-15 < day.txt",
-        )?)?
-        .subcommand(runner(
-            alloc,
-            "check-run",
-            "Runs any code file, testing each instruction first; saves nothing",
-            "Example: dbrun check-run DAY.XBC --budget 5000 < day.txt",
-        )?)
+        .subcommand(saver(alloc, run)?)?
+        .subcommand(check.arg(changes)?)
 }
 
 fn with_readers<'a>(alloc: Global, command: Command<'a>) -> Result<Command<'a>, AllocError> {
@@ -204,7 +303,8 @@ fn with_readers<'a>(alloc: Global, command: Command<'a>) -> Result<Command<'a>, 
             "INDEX",
             "Example: dbrun index ORDKEY.NDX",
         )?)?
-        .subcommand(declarer(alloc))
+        .subcommand(declarer(alloc))?
+        .subcommand(forgetter(alloc)?)
 }
 
 fn declarer<'a>(alloc: Global) -> Command<'a> {
@@ -257,16 +357,45 @@ fn word_of<'a>(matches: &ArgMatches<'a>, id: &str) -> Result<&'a str, WordsFault
     matches.get_str(id).ok_or(WordsFault::Missing)
 }
 
-/// What the words of `run` or `check-run` ask for.
-fn run_of<'a>(matches: &ArgMatches<'a>, checked: bool) -> Result<Words<'a>, WordsFault> {
-    Ok(Words::Run(Job {
-        name: word_of(matches, FILE)?,
-        checked,
-        budget: budget_of(matches),
-        limit: limit_of(matches)?,
-        day: day_of(matches)?,
-        input: &[],
+/// A run of which this becomes, as the words of `run` or `check-run` ask for it.
+fn asked<'a>(
+    matches: &ArgMatches<'a>,
+    checked: bool,
+    tables: Outcomes<'a>,
+) -> Result<Words<'a>, WordsFault> {
+    Ok(Words::Run(RunWords {
+        job: Job {
+            name: word_of(matches, FILE)?,
+            checked,
+            budget: budget_of(matches),
+            limit: limit_of(matches)?,
+            day: day_of(matches)?,
+            input: &[],
+        },
+        tables,
     }))
+}
+
+/// What the words of `run` ask for.
+fn run_of<'a>(matches: &ArgMatches<'a>) -> Result<Words<'a>, WordsFault> {
+    if matches.get_flag(REHEARSE) {
+        return asked(matches, false, Outcomes::Told);
+    }
+    let save = SaveWords {
+        only_finished: matches.get_flag(ONLY_FINISHED),
+        backup: matches.get_str(BACKUP),
+        new_owner: matches.get_flag(NEW_OWNER),
+        no_lock: matches.get_flag(NO_LOCK),
+    };
+    asked(matches, false, Outcomes::Saved(save))
+}
+
+/// What the words of `check-run` ask for.
+fn check_of<'a>(matches: &ArgMatches<'a>) -> Result<Words<'a>, WordsFault> {
+    if matches.get_flag(CHANGES) {
+        return asked(matches, true, Outcomes::Told);
+    }
+    asked(matches, true, Outcomes::Nothing)
 }
 
 /// The command files of the words that ask for compiling, the main one first.
@@ -283,8 +412,8 @@ pub fn words_of<'a>(matches: &ArgMatches<'a>) -> Result<Words<'a>, WordsFault> {
             decl: word_of(matches, DECLARATIONS)?,
             out: word_of(matches, OUT)?,
         }),
-        "run" => run_of(matches, false),
-        "check-run" => run_of(matches, true),
+        "run" => run_of(matches),
+        "check-run" => check_of(matches),
         "verify" => Ok(Words::Verify {
             name: word_of(matches, FILE)?,
         }),
@@ -300,6 +429,9 @@ pub fn words_of<'a>(matches: &ArgMatches<'a>) -> Result<Words<'a>, WordsFault> {
             name: word_of(matches, FILE)?,
         }),
         "declare" => Ok(Words::Declare),
+        "forget" => Ok(Words::Forget {
+            no_lock: matches.get_flag(NO_LOCK),
+        }),
         _ => Err(WordsFault::Missing),
     }
 }

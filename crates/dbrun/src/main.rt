@@ -7,25 +7,31 @@
 
 mod shown;
 
-use crate::shown::{Audience, FaultyLine, Progress, faulty_line, hint_of, line_at};
+use crate::shown::{
+    Audience, FaultyLine, OutTold, Progress, faulty_line, hint_of, line_at, printable, why_hindered,
+};
 use clap::error::ErrorKind;
 use clap::{ArgMatches, Command};
 use code_pages::{CodePage, in_utf8};
-use command_words::{Listing, Words, WordsFault, command, sources_of, words_of};
+use command_words::{
+    Listing, Outcomes, RunWords, SaveWords, Words, WordsFault, command, sources_of, words_of,
+};
 use compile_commands::{CompileFilesRefusal, CompileTold, CompileWords, compile_files};
 use file_access::{Files, ReadFault, read_in_turns, read_within};
 use file_commands::{
     FILE_LIMIT, Refusal, Status, list_code, list_index, list_table, of_refusal, verify_file,
 };
 use folder_files::{
-    FinishedSave, Folder, Held, Nobody, SavingFolder, UnfinishedSave, Unsaved, finish, note_stands,
-    paper_name, take_folder,
+    FinishedSave, Folder, Held, Hindrance, Nobody, SaveTerms, SavingFolder, UnfinishedSave,
+    Unsaved, finish, forget, is_empty_folder, is_same_file, note_stands, paper_name, take_folder,
 };
 use folder_shapes::{LineTold, declare};
-use run_commands::{Job, Report, run_files};
+use run_commands::{Ended, Job, Report, RunRefusal, rehearse_files, run_files};
+use save_rules::{Overwritten, overwritten_by};
 use shape_files::ShapeRefusal;
 use std::alloc::{AllocError, Global};
 use std::fs::File;
+use std::io::IsTerminal;
 use std::process::ExitCode;
 use std::rt::Runtime;
 use std::{env, io};
@@ -101,6 +107,22 @@ fn show_faulty<R: Runtime<A = Global>>(
     }
 }
 
+/// What a code file would overwrite, by the names of the files and by the files themselves.
+fn overwritten(rt: &impl Runtime, decl: &str, out: &str, names: &[&str]) -> Option<Overwritten> {
+    if let Some(what) = overwritten_by(out, decl, names) {
+        return Some(what);
+    }
+    if is_same_file(rt, out, decl) {
+        return Some(Overwritten::Declarations);
+    }
+    for (file, name) in names.iter().enumerate() {
+        if is_same_file(rt, out, name) {
+            return Some(Overwritten::Source { file });
+        }
+    }
+    None
+}
+
 fn compile<'a, R: Runtime<A = Global>>(
     rt: &R,
     audience: Audience,
@@ -110,6 +132,9 @@ fn compile<'a, R: Runtime<A = Global>>(
 ) -> Result<Status, WordsFault> {
     if names.is_empty() {
         return Err(WordsFault::Missing);
+    }
+    if let Some(what) = overwritten(rt, decl, out, names) {
+        return Err(WordsFault::Out(what));
     }
     let mut folder = folder(rt, audience);
     let refusal = match compile_files(rt.alloc(), &mut folder, decl, out, names) {
@@ -122,27 +147,58 @@ fn compile<'a, R: Runtime<A = Global>>(
         words,
     };
     let _ = eprintln!(rt; "{told}");
-    if let (Audience::Person, Some(place)) = (audience, faulty_line(&refusal, words)) {
+    if let (true, Some(place)) = (audience.person, faulty_line(&refusal, words)) {
         show_faulty(rt, place, &refusal);
     }
     Ok(of_compiling(&refusal))
 }
 
-/// Prints the rows of a run, and then how it ended.
-fn report<R: Runtime<A = Global>>(rt: &R, name: &str, report: &Report) -> Status {
-    if rt.write_all(report.rows.as_slice()).is_err() {
-        return Status::Disk;
+/// Prints bytes on standard output. A terminal gets a question mark in place of each byte that isn't printed.
+fn print_bytes<R: Runtime<A = Global>>(rt: &R, audience: Audience, bytes: &[u8]) -> Status {
+    if !audience.rows {
+        return status_of(rt.write_all(bytes));
     }
-    match &report.result {
+    match printable(rt.alloc(), bytes) {
+        Ok(shown) => status_of(rt.write_all(shown.as_slice())),
+        Err(_) => no_memory(rt),
+    }
+}
+
+/// How the program exits behind an output.
+fn status_of(written: io::Result<()>) -> Status {
+    match written {
+        Ok(()) => Status::Done,
+        Err(_) => Status::Disk,
+    }
+}
+
+/// Tells how a run ended, or why there was none.
+fn tell_end(rt: &impl Runtime, name: &str, ended: &Result<Ended, RunRefusal>) -> Status {
+    match ended {
         Ok(ended) => {
             let _ = eprintln!(rt; "{ended}");
             ended.status()
         }
-        Err(refusal) => {
-            let told = refusal.told(name);
-            let _ = eprintln!(rt; "{told}");
-            refusal.status()
-        }
+        Err(refusal) => tell_refusal(rt, name, refusal),
+    }
+}
+
+fn tell_refusal(rt: &impl Runtime, name: &str, refusal: &RunRefusal) -> Status {
+    let told = refusal.told(name);
+    let _ = eprintln!(rt; "{told}");
+    refusal.status()
+}
+
+/// Prints the rows of a run, and then how it ended.
+fn report<R: Runtime<A = Global>>(
+    rt: &R,
+    audience: Audience,
+    name: &str,
+    report: &Report,
+) -> Status {
+    match print_bytes(rt, audience, report.rows.as_slice()) {
+        Status::Done => tell_end(rt, name, &report.result),
+        status => status,
     }
 }
 
@@ -183,10 +239,16 @@ fn settle<R: Runtime<A = Global, File = File>>(rt: &R) {
         return;
     }
     let held = take_folder(rt);
-    if let Held::Alone(_) = held {
-        if let Err(unfinished) = finish(rt) {
-            let _ = tell_unfinished(rt, &unfinished);
+    match held {
+        Held::Alone(_) => {
+            if let Err(unfinished) = finish(rt) {
+                let _ = tell_unfinished(rt, &unfinished);
+            }
         }
+        Held::NoLocks => {
+            let _ = tell_unfinished(rt, &UnfinishedSave::PaperDisk);
+        }
+        Held::Taken => {}
     }
 }
 
@@ -196,6 +258,7 @@ fn tell_unsaved<R: Runtime<A = Global>>(
     audience: Audience,
     saving: &SavingFolder<'_, R, Progress<'_, R>>,
     unsaved: Unsaved,
+    backup: Option<&str>,
 ) -> Status {
     let (told, status) = match unsaved {
         Unsaved::Changed { file } => (
@@ -205,9 +268,13 @@ fn tell_unsaved<R: Runtime<A = Global>>(
         Unsaved::Disk { file } | Unsaved::Cut { file } => {
             (eprintln!(rt; "disk {}", saving.name_of(file)), Status::Disk)
         }
+        Unsaved::Backup => (
+            eprintln!(rt; "disk {}", backup.unwrap_or(".")),
+            Status::Disk,
+        ),
         Unsaved::Memory => (eprintln!(rt; "memory"), Status::Memory),
     };
-    if told.is_ok() && audience == Audience::Person {
+    if told.is_ok() && audience.person {
         let _ = match unsaved {
             Unsaved::Cut { .. } => eprintln!(rt;
                 "the next command finishes this save; do not repeat the run"
@@ -218,43 +285,96 @@ fn tell_unsaved<R: Runtime<A = Global>>(
     status
 }
 
-/// Runs the code, and saves the tables all together or not at all. A folder that isn't open is another program's.
+/// Tells why a run was refused; a person is told too why a file of it couldn't be saved.
+fn tell_hindered<R: Runtime<A = Global>>(
+    rt: &R,
+    audience: Audience,
+    name: &str,
+    refusal: &RunRefusal,
+    hindrance: Option<Hindrance>,
+) -> Status {
+    let status = tell_refusal(rt, name, refusal);
+    if let (true, Some(hindrance)) = (audience.person, hindrance) {
+        let _ = eprintln!(rt; "{}; no file was changed", why_hindered(hindrance));
+    }
+    status
+}
+
+/// Runs the code, and saves the tables all together or not at all. A folder that is closed is another program's.
 fn run_and_save<R: Runtime<A = Global>>(
     rt: &R,
     audience: Audience,
     job: &Job<'_>,
-    open: bool,
+    save: SaveWords<'_>,
+    closed: Option<Hindrance>,
 ) -> Status {
-    let mut saving = SavingFolder::new(folder(rt, audience), open);
+    let terms = SaveTerms {
+        closed,
+        takes_over: save.new_owner,
+        backup: save.backup,
+    };
+    let mut saving = SavingFolder::new(folder(rt, audience), terms);
     let done = run_files(rt.alloc(), &mut saving, job);
-    if done.result.is_err() {
-        return report(rt, job.name, &done);
-    }
-    match saving.commit() {
-        Ok(()) => report(rt, job.name, &done),
-        Err(unsaved) => {
-            if rt.write_all(done.rows.as_slice()).is_err() {
-                return Status::Disk;
-            }
-            tell_unsaved(rt, audience, &saving, unsaved)
+    let ended = match &done.result {
+        Ok(ended) => ended,
+        Err(refusal) => return tell_hindered(rt, audience, job.name, refusal, saving.hindrance()),
+    };
+    if ended.is_saved(save.only_finished) {
+        if let Err(unsaved) = saving.commit() {
+            return match print_bytes(rt, audience, done.rows.as_slice()) {
+                Status::Done => tell_unsaved(rt, audience, &saving, unsaved, save.backup),
+                status => status,
+            };
         }
     }
+    report(rt, audience, job.name, &done)
 }
 
 /// Tests each instruction of the code while it runs, and saves nothing.
 fn run_tested<R: Runtime<A = Global>>(rt: &R, audience: Audience, job: &Job<'_>) -> Status {
     let mut folder = folder(rt, audience);
     let done = run_files(rt.alloc(), &mut folder, job);
-    report(rt, job.name, &done)
+    report(rt, audience, job.name, &done)
 }
 
-/// Finishes a save that was cut off before, unless another program has the folder; a status where the run ends with
-/// that.
-fn finish_alone<R: Runtime<A = Global, File = File>>(rt: &R) -> Option<Status> {
-    let held = take_folder(rt);
+/// Runs the code, saves nothing, and tells what a run would have saved.
+fn rehearse<R: Runtime<A = Global>>(rt: &R, audience: Audience, job: &Job<'_>) -> Status {
+    let mut folder = folder(rt, audience);
+    let done = match rehearse_files(rt.alloc(), &mut folder, job) {
+        Ok(done) => done,
+        Err(refusal) => return tell_refusal(rt, job.name, &refusal),
+    };
+    match print_bytes(rt, audience, done.rows.as_slice()) {
+        Status::Done => {
+            let _ = eprint!(rt; "{done}");
+            let _ = eprintln!(rt; "{}", done.ended);
+            done.ended.status()
+        }
+        status => status,
+    }
+}
+
+/// The folder where it may be held, or why it isn't.
+fn hindered(held: &Held, no_lock: bool) -> Option<Hindrance> {
     match held {
-        Held::Alone(_) => finish_before(rt),
-        Held::Taken => None,
+        Held::Alone(_) => None,
+        Held::Taken => Some(Hindrance::Taken),
+        Held::NoLocks => {
+            if no_lock {
+                None
+            } else {
+                Some(Hindrance::NoLocks)
+            }
+        }
+    }
+}
+
+/// Finishes a save that was cut off before, unless the folder isn't held; a status where the run ends with that.
+fn finish_alone<R: Runtime<A = Global, File = File>>(rt: &R, no_lock: bool) -> Option<Status> {
+    let held = take_folder(rt);
+    match hindered(&held, no_lock) {
+        None => finish_before(rt),
+        Some(_) => None,
     }
 }
 
@@ -263,42 +383,105 @@ fn run_alone<R: Runtime<A = Global, File = File>>(
     rt: &R,
     audience: Audience,
     job: &Job<'_>,
+    save: SaveWords<'_>,
 ) -> Status {
     let held = take_folder(rt);
-    let open = matches!(held, Held::Alone(_));
-    if open {
+    let closed = hindered(&held, save.no_lock);
+    if closed.is_none() {
         if let Some(status) = finish_before(rt) {
             return status;
         }
     }
-    run_and_save(rt, audience, job, open)
+    run_and_save(rt, audience, job, save, closed)
+}
+
+/// Takes away a save that was cut off, and no table.
+fn forget_save<R: Runtime<A = Global, File = File>>(
+    rt: &R,
+    audience: Audience,
+    no_lock: bool,
+) -> Status {
+    let held = take_folder(rt);
+    if let Some(hindrance) = hindered(&held, no_lock) {
+        let status = tell_unfinished(rt, &UnfinishedSave::PaperDisk);
+        if audience.person {
+            let _ = eprintln!(rt; "{}", why_hindered(hindrance));
+        }
+        return status;
+    }
+    match forget(rt) {
+        Ok(_) => Status::Done,
+        Err(unfinished) => tell_unfinished(rt, &unfinished),
+    }
+}
+
+/// Looks, where a person types, whether the code's file is there and accepted, before they type in vain; a status where
+/// it isn't.
+fn look_before<R: Runtime<A = Global>>(rt: &R, audience: Audience, name: &str) -> Option<Status> {
+    let mut folder = folder(rt, audience);
+    match verify_file(rt.alloc(), &mut folder, name) {
+        Ok(None) => {
+            let _ = eprintln!(rt; "type the operator's lines; Ctrl-D ends them");
+            None
+        }
+        Ok(Some(refused)) => {
+            let _ = eprintln!(rt; "refused {name} {refused}");
+            Some(Status::Refused)
+        }
+        Err(refusal) => Some(refuse(rt, refusal)),
+    }
+}
+
+/// What a run ends with before anything is typed for it, if it ends then.
+fn ends_before<R: Runtime<A = Global, File = File>>(
+    rt: &R,
+    audience: Audience,
+    words: &RunWords<'_>,
+) -> Option<Status> {
+    if let Outcomes::Saved(save) = words.tables {
+        if let Some(status) = finish_alone(rt, save.no_lock) {
+            return Some(status);
+        }
+    }
+    if words.job.checked || !audience.person || !audience.typing {
+        return None;
+    }
+    look_before(rt, audience, words.job.name)
 }
 
 /// Carries out a run, of which only what the operator types is still to be had. A save that was cut off before is
 /// finished first; where that had counted, nothing is run.
-fn run<R: Runtime<A = Global, File = File>>(rt: &R, audience: Audience, job: &Job<'_>) -> Status {
-    if !job.checked {
-        if let Some(status) = finish_alone(rt) {
-            return status;
-        }
+fn run<R: Runtime<A = Global, File = File>>(
+    rt: &R,
+    audience: Audience,
+    words: &RunWords<'_>,
+) -> Status {
+    if let Some(status) = ends_before(rt, audience, words) {
+        return status;
     }
     let input = match typed(rt) {
         Ok(input) => input,
         Err(status) => return status,
     };
     let job = Job {
-        name: job.name,
-        checked: job.checked,
-        budget: job.budget,
-        limit: job.limit,
-        day: job.day,
+        name: words.job.name,
+        checked: words.job.checked,
+        budget: words.job.budget,
+        limit: words.job.limit,
+        day: words.job.day,
         input: input.as_slice(),
     };
-    if job.checked {
-        settle(rt);
-        return run_tested(rt, audience, &job);
+    match words.tables {
+        Outcomes::Saved(save) => run_alone(rt, audience, &job, save),
+        Outcomes::Nothing => {
+            settle(rt);
+            run_tested(rt, audience, &job)
+        }
+        Outcomes::Told => {
+            settle(rt);
+            rehearse(rt, audience, &job)
+        }
     }
-    run_alone(rt, audience, &job)
 }
 
 fn verify<R: Runtime<A = Global>>(rt: &R, audience: Audience, name: &str) -> Status {
@@ -315,35 +498,35 @@ fn verify<R: Runtime<A = Global>>(rt: &R, audience: Audience, name: &str) -> Sta
 }
 
 /// Prints the lines of a listing.
-fn print_lines<R: Runtime<A = Global>>(rt: &R, listed: Result<Vec<u8>, Refusal<'_>>) -> Status {
+fn print_lines<R: Runtime<A = Global>>(
+    rt: &R,
+    audience: Audience,
+    listed: Result<Vec<u8>, Refusal<'_>>,
+) -> Status {
     match listed {
-        Ok(lines) => {
-            if rt.write_all(lines.as_slice()).is_err() {
-                return Status::Disk;
-            }
-            Status::Done
-        }
+        Ok(lines) => print_bytes(rt, audience, lines.as_slice()),
         Err(refusal) => refuse(rt, refusal),
     }
 }
 
 fn code<R: Runtime<A = Global>>(rt: &R, audience: Audience, name: &str) -> Status {
     let mut folder = folder(rt, audience);
-    print_lines(rt, list_code(rt.alloc(), &mut folder, name))
+    print_lines(rt, audience, list_code(rt.alloc(), &mut folder, name))
 }
 
-/// Lines in UTF-8, where the words say what their bytes stand for.
-fn shown_lines(
-    alloc: Global,
+/// Prints lines in UTF-8, where the words say what their bytes stand for.
+fn print_listing<R: Runtime<A = Global>>(
+    rt: &R,
+    audience: Audience,
     page: Option<CodePage>,
-    lines: Vec<u8>,
-) -> Result<Vec<u8>, Refusal<'static>> {
+    lines: &[u8],
+) -> Status {
     let Some(page) = page else {
-        return Ok(lines);
+        return print_bytes(rt, audience, lines);
     };
-    match in_utf8(alloc, page, lines.as_slice()) {
-        Ok(shown) => Ok(shown.into_bytes()),
-        Err(_) => Err(Refusal::Memory),
+    match in_utf8(rt.alloc(), page, lines) {
+        Ok(shown) => status_of(rt.write_all(shown.as_bytes())),
+        Err(_) => no_memory(rt),
     }
 }
 
@@ -368,7 +551,7 @@ fn list<R: Runtime<A = Global, File = File>>(
 ) -> Status {
     settle(rt);
     match table_lines(rt, audience, listing) {
-        Ok(lines) => print_lines(rt, shown_lines(rt.alloc(), listing.page, lines)),
+        Ok(lines) => print_listing(rt, audience, listing.page, lines.as_slice()),
         Err(refusal) => refuse(rt, refusal),
     }
 }
@@ -376,7 +559,7 @@ fn list<R: Runtime<A = Global, File = File>>(
 fn index<R: Runtime<A = Global, File = File>>(rt: &R, audience: Audience, name: &str) -> Status {
     settle(rt);
     let mut folder = folder(rt, audience);
-    print_lines(rt, list_index(rt.alloc(), &mut folder, name))
+    print_lines(rt, audience, list_index(rt.alloc(), &mut folder, name))
 }
 
 /// The names in the current folder, each ended by a zero byte.
@@ -437,6 +620,18 @@ fn declare_folder<R: Runtime<A = Global, File = File>>(rt: &R, audience: Audienc
     }
 }
 
+/// Refuses a folder for copies that is neither absent nor empty.
+fn may_back_up<R: Runtime<A = Global>>(rt: &R, words: &RunWords<'_>) -> Result<(), WordsFault> {
+    if let Outcomes::Saved(save) = words.tables {
+        if let Some(path) = save.backup {
+            if !is_empty_folder(rt, path) {
+                return Err(WordsFault::Backup);
+            }
+        }
+    }
+    Ok(())
+}
+
 fn carry_out<R: Runtime<A = Global, File = File>>(
     rt: &R,
     audience: Audience,
@@ -445,12 +640,16 @@ fn carry_out<R: Runtime<A = Global, File = File>>(
 ) -> Result<Status, WordsFault> {
     match words {
         Words::Compile { decl, out } => compile(rt, audience, decl, out, &*sources),
-        Words::Run(job) => Ok(run(rt, audience, job)),
+        Words::Run(words) => {
+            may_back_up(rt, words)?;
+            Ok(run(rt, audience, words))
+        }
         Words::Verify { name } => Ok(verify(rt, audience, name)),
         Words::Code { name } => Ok(code(rt, audience, name)),
         Words::List(listing) => Ok(list(rt, audience, *listing)),
         Words::Index { name } => Ok(index(rt, audience, name)),
         Words::Declare => Ok(declare_folder(rt, audience)),
+        Words::Forget { no_lock } => Ok(forget_save(rt, audience, *no_lock)),
     }
 }
 
@@ -501,12 +700,42 @@ fn message(fault: WordsFault) -> &'static str {
         WordsFault::Today => "the day of --today is YYYY-MM-DD, in the years 1900 to 2155",
         WordsFault::Page => "the code page of --from is cp437 or cp850",
         WordsFault::Limit => "the number of --limit is one of 1 to 1000000",
-        WordsFault::Missing => "a word is missing",
+        WordsFault::Backup => "the folder of --backup is neither absent nor empty",
+        WordsFault::Missing | WordsFault::Out(_) => "a word is missing",
     }
 }
 
-fn refuse_fault(rt: &impl Runtime, command: &mut Command<'_>, fault: WordsFault) -> Status {
-    match command.error(ErrorKind::ValueValidation, message(fault)) {
+/// What a code file would overwrite, in words.
+fn out_message(
+    alloc: Global,
+    matches: &ArgMatches<'_>,
+    what: Overwritten,
+) -> Result<String, AllocError> {
+    let names = sources_of(matches).unwrap_or(&[]);
+    match words_of(matches) {
+        Ok(Words::Compile { decl, out }) => {
+            let words = CompileWords { decl, out, names };
+            format!(in alloc; "{}", OutTold { what, words })
+        }
+        _ => String::from_str(alloc, message(WordsFault::Missing)),
+    }
+}
+
+/// Tells what is wrong with words that the parser took.
+fn refuse_fault<R: Runtime<A = Global>>(
+    rt: &R,
+    command: &mut Command<'_>,
+    matches: &ArgMatches<'_>,
+    fault: WordsFault,
+) -> Status {
+    let told = match fault {
+        WordsFault::Out(what) => out_message(rt.alloc(), matches, what),
+        _ => String::from_str(rt.alloc(), message(fault)),
+    };
+    let Ok(told) = told else {
+        return no_memory(rt);
+    };
+    match command.error(ErrorKind::ValueValidation, told.as_str()) {
         Ok(error) => refuse_words(rt, &error),
         Err(_) => no_memory(rt),
     }
@@ -524,7 +753,7 @@ fn answer<R: Runtime<A = Global, File = File>>(
     match command.try_get_matches_from_mut(arguments) {
         Ok(matches) => match carry_out_all(rt, audience, &matches) {
             Ok(status) => status,
-            Err(fault) => refuse_fault(rt, &mut command, fault),
+            Err(fault) => refuse_fault(rt, &mut command, &matches, fault),
         },
         Err(error) => refuse_words(rt, &error),
     }
@@ -536,7 +765,11 @@ fn arguments<R: Runtime<A = Global>>(rt: &R) -> io::Result<Vec<String>> {
 }
 
 fn main(rt: HostRuntime) -> ExitCode {
-    let audience = Audience::of(&rt.stderr());
+    let audience = Audience {
+        person: rt.stderr().is_terminal(),
+        rows: rt.stdout().is_terminal(),
+        typing: rt.stdin().is_terminal(),
+    };
     let status = match arguments(&rt) {
         Ok(arguments) => answer(&rt, audience, arguments.as_slice()),
         Err(error) if error.kind() == io::ErrorKind::OutOfMemory => no_memory(&rt),

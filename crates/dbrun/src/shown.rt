@@ -3,31 +3,23 @@
 
 use compile_commands::{CompileFilesRefusal, CompileWords, SourceFault};
 use file_access::Files;
-use folder_files::{Doing, Listener};
+use folder_files::{Doing, Harm, Hindrance, Listener};
 use hints::{of_command, of_declaration, of_line, of_table_line};
+use save_rules::Overwritten;
 use shape_files::{DeclFault, LineFault, ShapeRefusal};
-use std::alloc::Global;
+use std::alloc::{AllocError, Global};
 use std::fmt::{self, Display, Formatter, Write};
-use std::io::{Eprint, IsTerminal};
+use std::io::Eprint;
 
-/// Who reads standard error.
-#[derive(Clone, Copy, Debug, PartialEq, Eq)]
-pub enum Audience {
-    /// A person at a terminal, who is shown more.
-    Person,
-    /// A file or another program: not a byte more than what is documented.
-    Pipe,
-}
-
-impl Audience {
-    /// Who reads a stream.
-    pub fn of(stream: &impl IsTerminal) -> Audience {
-        if stream.is_terminal() {
-            Audience::Person
-        } else {
-            Audience::Pipe
-        }
-    }
+/// Which of the program's streams are terminals, so that a person is shown more.
+#[derive(Clone, Copy, Debug)]
+pub struct Audience {
+    /// Standard error: a file or another program gets not a byte more than what is documented.
+    pub person: bool,
+    /// Standard output: a terminal is sent no byte that it would obey.
+    pub rows: bool,
+    /// Standard input: a person types.
+    pub typing: bool,
 }
 
 /// The least bytes of a file whose reading or writing a person is told of: 8 MiB.
@@ -42,7 +34,7 @@ pub struct Progress<'a, R> {
 
 impl<R: Eprint> Listener for Progress<'_, R> {
     fn hear(&self, doing: Doing, name: &str, size: u64) {
-        if self.audience == Audience::Person && size >= LONG {
+        if self.audience.person && size >= LONG {
             let doing = match doing {
                 Doing::Reading => "reading",
                 Doing::Writing => "writing",
@@ -140,4 +132,63 @@ impl Display for Line<'_> {
         }
         Ok(())
     }
+}
+
+/// Why a table or an index isn't read whose new bytes couldn't be saved.
+pub fn why_hindered(hindrance: Hindrance) -> &'static str {
+    match hindrance {
+        Hindrance::Taken => "another run has the folder",
+        Hindrance::NoLocks => "this file system knows no locks; --no-lock saves without one",
+        Hindrance::Harm(Harm::NotWritable) => "nobody may write this file",
+        Hindrance::Harm(Harm::Links) => "the file has further names, which would keep the old rows",
+        Hindrance::Harm(Harm::Owner) => "the file is another user's; --new-owner makes it yours",
+        Hindrance::Harm(Harm::Group) =>
+            "the file is of a group that isn't yours; --new-owner makes it yours",
+        Hindrance::LeavesFolder => "the file is a link that leaves the folder",
+        Hindrance::Twice => "the file is that of another declared name",
+        Hindrance::Disk => "what stands under this name can't be seen",
+    }
+}
+
+/// What a code file would overwrite, as it is told.
+#[derive(Clone, Copy)]
+pub struct OutTold<'a> {
+    pub what: Overwritten,
+    pub words: CompileWords<'a>,
+}
+
+impl Display for OutTold<'_> {
+    fn fmt<W: Write>(&self, f: &mut Formatter<W>) -> fmt::Result {
+        let (sort, name) = match self.what {
+            Overwritten::Declarations => ("declaration file", self.words.decl),
+            Overwritten::Source { file } => match self.words.names.get(file) {
+                Some(name) => ("command file", *name),
+                None => ("command file", self.words.out),
+            },
+            Overwritten::Table => ("table", self.words.out),
+            Overwritten::Index => ("index", self.words.out),
+            Overwritten::Commands => ("command file", self.words.out),
+        };
+        write!(
+            f,
+            "OUT would overwrite the {sort} {name}; the order is DECL OUT MAIN.."
+        )
+    }
+}
+
+/// A byte as a terminal is sent it: a line's end and what is printed, and a question mark for all else.
+fn printed(byte: u8) -> u8 {
+    match byte {
+        b'\n' | b' '..=b'~' => byte,
+        _ => b'?',
+    }
+}
+
+/// Bytes as a terminal is sent them, so that no file can send it what it obeys.
+pub fn printable(alloc: Global, bytes: &[u8]) -> Result<Vec<u8>, AllocError> {
+    let mut shown = Vec::with_capacity(alloc, bytes.len())?;
+    for byte in bytes {
+        shown.push(printed(*byte))?;
+    }
+    Ok(shown)
 }

@@ -20,9 +20,14 @@ const CHUNK: usize = 65_536;
 /// The most reads of one sum, with as many for interruptions.
 const READS: u32 = 1_000_000;
 
+/// Brings a file, or a folder's names, to the device.
+pub(crate) fn sync_path<R: Disk>(rt: &R, path: &str) -> io::Result<()> {
+    fs::open(rt, path)?.sync_all()
+}
+
 /// Brings the folder's names to the device.
 pub(crate) fn sync_folder<R: Disk>(rt: &R) -> io::Result<()> {
-    fs::open(rt, ".")?.sync_all()
+    sync_path(rt, ".")
 }
 
 /// What stands under a name, none where nothing does.
@@ -64,14 +69,25 @@ fn make<R: Disk>(rt: &R, path: &str, mode: u32) -> io::Result<R::File> {
     options.open(rt, path)
 }
 
-/// Gives a new file the owner, the group and the mode of the file that it is to replace. Owner and group stay the
-/// user's where only another user could give them.
-fn take_after<R: Disk>(rt: &R, path: &str, old: &Metadata) -> io::Result<()> {
+/// The file that a new one is to replace.
+#[derive(Clone, Copy)]
+pub(crate) struct Old<'a> {
+    pub(crate) data: &'a Metadata,
+    /// Whether the new file is the user's where its owner or group can't be given to it.
+    pub(crate) taken_over: bool,
+}
+
+/// Gives a new file the owner, the group and the mode of the file that it is to replace.
+fn take_after<R: Disk>(rt: &R, path: &str, old: Old<'_>) -> io::Result<()> {
     let made = fs::metadata(rt, path)?;
-    if made.uid() != old.uid() || made.gid() != old.gid() {
-        let _ = chown(rt, path, Some(old.uid()), Some(old.gid()));
+    let (owner, group) = (old.data.uid(), old.data.gid());
+    if made.uid() != owner || made.gid() != group {
+        let given = chown(rt, path, Some(owner), Some(group));
+        if !old.taken_over {
+            given?;
+        }
     }
-    fs::set_permissions(rt, path, old.permissions())
+    fs::set_permissions(rt, path, old.data.permissions())
 }
 
 /// Writes all of a file that was just made, down to the device.
@@ -80,7 +96,7 @@ fn fill<R: Disk>(
     path: &str,
     file: &mut R::File,
     bytes: &[u8],
-    old: Option<&Metadata>,
+    old: Option<Old<'_>>,
 ) -> io::Result<()> {
     file.write_all(bytes)?;
     if let Some(old) = old {
@@ -95,7 +111,7 @@ pub(crate) fn write_new<R: Disk>(
     rt: &R,
     path: &str,
     bytes: &[u8],
-    old: Option<&Metadata>,
+    old: Option<Old<'_>>,
 ) -> io::Result<()> {
     let mode = if old.is_some() { OWNER_ONLY } else { FOR_ALL };
     let mut file = make(rt, path, mode)?;

@@ -4,6 +4,7 @@
 use crate::disk::{remove_if_there, sum_of_file, sync_folder};
 use crate::papers::{PAPER, PaperFault, found_paper, remove_draft, remove_paper};
 use save_papers::{PaperEntry, SavePaper};
+use save_rules::{is_beside, is_in_folder};
 use save_steps::{Paper, Slot, Step, first_foreign, slot_of, steps_of_finish};
 use std::alloc::{Alloc, Global};
 use std::rt::Files as Disk;
@@ -40,13 +41,21 @@ pub fn paper_name() -> &'static str {
 
 /// A name that a plan or a note says: one of a file in the folder.
 fn name_in(bytes: &[u8]) -> Option<&str> {
-    let Ok(name) = str::from_utf8(bytes) else {
-        return None;
-    };
-    if name.is_empty() || bytes.iter().any(|byte| *byte == b'/' || *byte == 0) {
+    if !is_in_folder(bytes) {
         return None;
     }
-    Some(name)
+    str::from_utf8(bytes).ok()
+}
+
+/// The names of a file and of its new file that a plan or a note says.
+fn names_in(entry: &PaperEntry) -> Result<(&str, &str), UnfinishedSave> {
+    let (Some(name), Some(beside)) = (name_in(&entry.name), name_in(&entry.beside)) else {
+        return Err(UnfinishedSave::Foreign);
+    };
+    if !is_beside(name.as_bytes(), beside.as_bytes()) {
+        return Err(UnfinishedSave::Foreign);
+    }
+    Ok((name, beside))
 }
 
 /// The failure of the device at a file.
@@ -70,9 +79,7 @@ fn slot_at<R: Disk + Alloc<A = Global>>(
     rt: &R,
     entry: &PaperEntry,
 ) -> Result<Slot, UnfinishedSave> {
-    let (Some(name), Some(beside)) = (name_in(&entry.name), name_in(&entry.beside)) else {
-        return Err(UnfinishedSave::Foreign);
-    };
+    let (name, beside) = names_in(entry)?;
     let Ok(target) = sum_of_file(rt, name) else {
         return Err(disk_at(rt.alloc(), name));
     };
@@ -108,9 +115,7 @@ fn at_file<R: Disk + Alloc<A = Global>>(
     entry: &PaperEntry,
     slot: Slot,
 ) -> Result<(), UnfinishedSave> {
-    let (Some(name), Some(beside)) = (name_in(&entry.name), name_in(&entry.beside)) else {
-        return Err(UnfinishedSave::Foreign);
-    };
+    let (name, beside) = names_in(entry)?;
     let done = match step {
         Step::Unmake(_) => remove_if_there(rt, beside),
         Step::Place(_) => {
@@ -193,6 +198,15 @@ fn finish_paper<R: Disk + Alloc<A = Global>>(
     Ok(FinishedSave::Before)
 }
 
+/// Why a save isn't finished whose plan or note isn't read.
+fn unread(fault: PaperFault) -> UnfinishedSave {
+    match fault {
+        PaperFault::Foreign => UnfinishedSave::Foreign,
+        PaperFault::Disk => UnfinishedSave::PaperDisk,
+        PaperFault::Memory => UnfinishedSave::Memory,
+    }
+}
+
 /// Finishes the save that was cut off in the folder in which the program runs, if one was: takes it away where it
 /// hadn't come to its note, and carries it to its end where it had.
 pub fn finish<R: Disk + Alloc<A = Global>>(rt: &R) -> Result<FinishedSave, UnfinishedSave> {
@@ -202,8 +216,25 @@ pub fn finish<R: Disk + Alloc<A = Global>>(rt: &R) -> Result<FinishedSave, Unfin
             Ok(()) => Ok(FinishedSave::Before),
             Err(_) => Err(UnfinishedSave::PaperDisk),
         },
-        Err(PaperFault::Foreign) => Err(UnfinishedSave::Foreign),
-        Err(PaperFault::Disk) => Err(UnfinishedSave::PaperDisk),
-        Err(PaperFault::Memory) => Err(UnfinishedSave::Memory),
+        Err(fault) => Err(unread(fault)),
     }
+}
+
+/// Takes a save that was cut off away: its new files and its plan or note, and no file that it was to replace. Those that
+/// it had replaced already stay new. Answers whether there was one.
+pub fn forget<R: Disk + Alloc<A = Global>>(rt: &R) -> Result<bool, UnfinishedSave> {
+    let paper = match found_paper(rt, rt.alloc()) {
+        Ok(Some(paper)) => paper,
+        Ok(None) => {
+            finish(rt)?;
+            return Ok(false);
+        }
+        Err(fault) => return Err(unread(fault)),
+    };
+    let plan = SavePaper {
+        noted: false,
+        entries: paper.entries,
+    };
+    finish_paper(rt, &plan)?;
+    Ok(true)
 }

@@ -9,7 +9,7 @@ use std::rt::Files as Disk;
 /// The folder, held until this is let go.
 #[derive(Drop)]
 pub struct Hold {
-    _folder: Option<File>,
+    _folder: File,
 }
 
 /// Whether a program has the folder for itself.
@@ -19,25 +19,20 @@ pub enum Held {
     Alone(Hold),
     /// Another program has it.
     Taken,
+    /// The file system knows no locks.
+    NoLocks,
 }
 
 /// The folder that was opened and locked.
 fn locked(folder: File) -> Held {
-    Held::Alone(Hold {
-        _folder: Some(folder),
-    })
-}
-
-/// No lock, where the system knows none.
-fn unlocked() -> Held {
-    Held::Alone(Hold { _folder: None })
+    Held::Alone(Hold { _folder: folder })
 }
 
 /// Takes the folder in which the program runs for this program alone, so that no two programs save in it at once. It
 /// waits for another one only while that one's note stands, that is, until that save is at its end.
 pub fn take_folder<R: Disk<File = File> + Alloc<A = Global>>(rt: &R) -> Held {
     let Ok(folder) = fs::open(rt, ".") else {
-        return unlocked();
+        return Held::NoLocks;
     };
     match folder.try_lock() {
         Ok(()) => locked(folder),
@@ -50,6 +45,6 @@ pub fn take_folder<R: Disk<File = File> + Alloc<A = Global>>(rt: &R) -> Held {
                 Err(_) => Held::Taken,
             }
         }
-        Err(TryLockError::Error(_)) => unlocked(),
+        Err(TryLockError::Error(_)) => Held::NoLocks,
     }
 }

@@ -1,33 +1,52 @@
 //! A folder whose files are replaced all together, or not at all.
 #![tactic(auto)]
 
-ghost use Rattle.std.specs.Prelude.{◌≡◌};
+ghost use Rattle.std.specs.Prelude.{◌≡◌, ◌≤◌};
+ghost use Rattle.file_access.specs.Holding.{Rose};
 
-use crate::disk::{is_free, remove_if_there, standing, sum_of_file, sync_folder, write_new};
+use crate::backup::{copy_file, make_folder};
+use crate::disk::{
+    Old, is_free, remove_if_there, standing, sum_of_file, sync_folder, sync_path, write_new,
+};
 use crate::folder::{Doing, Folder, Listener};
 use crate::papers::{Written, put_paper, remove_draft, remove_paper};
+use crate::targets::{Hindrance, Target, target_of};
+use crate::user::Who;
 use file_access::{Device, Files, ReadFault};
 use save_papers::{PaperEntry, SavePaper, sum_of};
 use save_steps::{Paper, Slot, Step, Sum, steps_of_finish, steps_of_save};
 use std::alloc::{Alloc, AllocError, Global};
-use std::fs;
 use std::rt::Files as Disk;
+use std::{fs, io};
 
 /// The most new names that are tried for one file.
 const TRIES: u32 = 10_000;
 
-/// A file that was read: its name, and the sum of what it held, none where there was no such file.
+/// A file that was read: its name, what stands under it, and the sum of what it held, none where there was no such file.
 #[derive(Drop)]
 struct Loaded {
     name: String,
+    target: Target,
     sum: Option<Sum>,
 }
 
-/// A file that is to be replaced: its name and its new bytes.
+/// A file that is to be replaced: its name, the name behind its links, and its new bytes.
 #[derive(Drop)]
 struct Pending {
     name: String,
+    target: String,
     bytes: Vec<u8>,
+}
+
+/// On which terms files are replaced.
+#[derive(Clone, Copy, Debug)]
+pub struct SaveTerms<'a> {
+    /// Why no table may be read, if none may.
+    pub closed: Option<Hindrance>,
+    /// Whether a new file is the user's where it can't be given to the old one's owner and group.
+    pub takes_over: bool,
+    /// The folder to which all that is replaced is copied first.
+    pub backup: Option<&'a str>,
 }
 
 /// Why files aren't replaced, or not all of them. A file goes by its number in the order in which they were handed in.
@@ -37,6 +56,8 @@ pub enum Unsaved {
     Changed { file: usize },
     /// The device failed: no file is replaced.
     Disk { file: usize },
+    /// The old files couldn't be copied to the other folder: no file is replaced.
+    Backup,
     /// The device failed behind the note: what comes next finishes the save.
     Cut { file: usize },
     /// Memory was refused: no file is replaced.
@@ -48,8 +69,10 @@ pub enum Unsaved {
 #[derive(Drop)]
 pub struct SavingFolder<'a, R, L> {
     folder: Folder<'a, R, L>,
-    /// Whether tables may be read: another program may have the folder.
-    open: bool,
+    terms: SaveTerms<'a>,
+    who: Who,
+    /// Why a file wasn't read, where what it holds couldn't be saved.
+    hindrance: Option<Hindrance>,
     loaded: Vec<Loaded>,
     pending: Vec<Pending>,
 }
@@ -67,16 +90,24 @@ struct Progress {
 }
 
 impl<'a, R: Disk + Alloc<A = Global>, L: Listener> SavingFolder<'a, R, L> {
-    /// The folder, of which nothing was read yet and nothing is to be replaced. No table is read in one that isn't
-    /// open: to read one is a failure of the device.
-    pub fn new(folder: Folder<'a, R, L>, open: bool) -> SavingFolder<'a, R, L> {
+    /// The folder, of which nothing was read yet and nothing is to be replaced. To read a table or an index that couldn't
+    /// be saved on these terms is a failure of the device.
+    pub fn new(folder: Folder<'a, R, L>, terms: SaveTerms<'a>) -> SavingFolder<'a, R, L> {
         let alloc = folder.rt.alloc();
+        let who = Who::now(folder.rt);
         SavingFolder {
             folder,
-            open,
+            terms,
+            who,
+            hindrance: None,
             loaded: Vec::new(alloc),
             pending: Vec::new(alloc),
         }
+    }
+
+    /// Why a file wasn't read, where what it holds couldn't be saved.
+    pub fn hindrance(&self) -> Option<Hindrance> {
+        self.hindrance
     }
 
     /// The name of a file that is to be replaced, by its number.
@@ -87,13 +118,54 @@ impl<'a, R: Disk + Alloc<A = Global>, L: Listener> SavingFolder<'a, R, L> {
         }
     }
 
+    /// Whether a file is one that was read already, under another name.
+    fn was_read(&self, target: &Target) -> bool {
+        self.loaded.iter().any(|loaded| {
+            loaded.target.name.as_str() == target.name.as_str()
+                || (target.file.is_some() && loaded.target.file == target.file)
+        })
+    }
+
+    /// The file under a name, if what it holds could be saved.
+    fn looked_at(&self, name: &str) -> Result<Target, Hindrance> {
+        if let Some(closed) = self.terms.closed {
+            return Err(closed);
+        }
+        let target = target_of(self.folder.rt, name, &self.who, self.terms.takes_over)?;
+        if self.was_read(&target) {
+            return Err(Hindrance::Twice);
+        }
+        Ok(target)
+    }
+
     /// Remembers what a file held when it was read.
-    fn note(&mut self, name: &str, sum: Option<Sum>) -> Result<(), AllocError>
+    fn note(&mut self, name: &str, target: Target, sum: Option<Sum>) -> Result<(), AllocError>
         ensures { self.new.folder.failures ≡ self.old.folder.failures }
     {
         let name = String::from_str(self.folder.rt.alloc(), name)?;
-        self.loaded.push(Loaded { name, sum })?;
+        self.loaded.push(Loaded { name, target, sum })?;
         Ok(())
+    }
+
+    /// Notes why a file isn't read, and fails.
+    fn hinder(&mut self, hindrance: Hindrance) -> ReadFault
+        ensures fault { result ≡ ReadFault.Device }
+        ensures rose { Rose self.old.folder.failures self.new.folder.failures }
+        ensures counted { self.old.folder.failures ≤ self.new.folder.failures }
+    {
+        self.hindrance = Some(hindrance);
+        self.folder.fail()
+    }
+
+    /// The name of the file that is to be replaced, behind the links of this one.
+    fn target_name(&self, name: &str) -> Result<String, AllocError> {
+        let alloc = self.folder.rt.alloc();
+        for loaded in &self.loaded {
+            if loaded.name.as_str() == name {
+                return String::from_str(alloc, loaded.target.name.as_str());
+            }
+        }
+        String::from_str(alloc, name)
     }
 
     /// Remembers what a file is to hold.
@@ -101,9 +173,14 @@ impl<'a, R: Disk + Alloc<A = Global>, L: Listener> SavingFolder<'a, R, L> {
         ensures { self.new.folder.failures ≡ self.old.folder.failures }
     {
         let alloc = self.folder.rt.alloc();
+        let target = self.target_name(name)?;
         let name = String::from_str(alloc, name)?;
         let bytes = Vec::from_slice(alloc, bytes)?;
-        self.pending.push(Pending { name, bytes })?;
+        self.pending.push(Pending {
+            name,
+            target,
+            bytes,
+        })?;
         Ok(())
     }
 
@@ -141,8 +218,8 @@ impl<'a, R: Disk + Alloc<A = Global>, L: Listener> SavingFolder<'a, R, L> {
         beside: &str,
     ) -> Result<PaperEntry, Unsaved> {
         let alloc = self.folder.rt.alloc();
-        let name = pending.name.as_str();
-        let old = match self.sum_at_load(name) {
+        let name = pending.target.as_str();
+        let old = match self.sum_at_load(pending.name.as_str()) {
             Some(sum) => sum,
             None => match sum_of_file(self.folder.rt, name) {
                 Ok(sum) => sum,
@@ -169,7 +246,7 @@ impl<'a, R: Disk + Alloc<A = Global>, L: Listener> SavingFolder<'a, R, L> {
         let mut entries = Vec::new(alloc);
         let mut besides = Vec::new(alloc);
         for (file, pending) in self.pending.iter().enumerate() {
-            let Ok(fresh) = self.fresh_name(pending.name.as_str()) else {
+            let Ok(fresh) = self.fresh_name(pending.target.as_str()) else {
                 return Err(Unsaved::Memory);
             };
             let Some(beside) = fresh else {
@@ -216,11 +293,13 @@ impl<'a, R: Disk + Alloc<A = Global>, L: Listener> SavingFolder<'a, R, L> {
         let name = pending.name.as_str();
         let size = pending.bytes.len() as u64;
         self.folder.listener.hear(Doing::Writing, name, size);
-        let Ok(old) = standing(self.folder.rt, name) else {
+        let Ok(found) = standing(self.folder.rt, pending.target.as_str()) else {
             return Err(Unsaved::Disk { file });
         };
+        let taken_over = self.terms.takes_over;
+        let old = found.as_ref().map(|data| Old { data, taken_over });
         let bytes = pending.bytes.as_slice();
-        if write_new(self.folder.rt, beside.as_str(), bytes, old.as_ref()).is_err() {
+        if write_new(self.folder.rt, beside.as_str(), bytes, old).is_err() {
             return Err(Unsaved::Disk { file });
         }
         progress.made = file + 1;
@@ -230,7 +309,11 @@ impl<'a, R: Disk + Alloc<A = Global>, L: Listener> SavingFolder<'a, R, L> {
     /// Tells whether each file still is what it was when it was read.
     fn look_again(&self, progress: &Progress) -> Result<(), Unsaved> {
         for (file, entry) in progress.paper.entries.iter().enumerate() {
-            match sum_of_file(self.folder.rt, self.name_of(file)) {
+            let target = match self.pending.get(file) {
+                Some(pending) => pending.target.as_str(),
+                None => continue,
+            };
+            match sum_of_file(self.folder.rt, target) {
                 Ok(sum) => {
                     if sum != entry.old {
                         return Err(Unsaved::Changed { file });
@@ -248,7 +331,7 @@ impl<'a, R: Disk + Alloc<A = Global>, L: Listener> SavingFolder<'a, R, L> {
         else {
             return Ok(());
         };
-        if fs::rename(self.folder.rt, beside.as_str(), pending.name.as_str()).is_err() {
+        if fs::rename(self.folder.rt, beside.as_str(), pending.target.as_str()).is_err() {
             return Err(Unsaved::Disk { file });
         }
         Ok(())
@@ -310,10 +393,28 @@ impl<'a, R: Disk + Alloc<A = Global>, L: Listener> SavingFolder<'a, R, L> {
         Ok(())
     }
 
-    /// Replaces all files that were handed in, or none.
+    /// Copies all files that are to be replaced to another folder, down to the device.
+    fn copy_all(&self, path: &str) -> io::Result<()> {
+        let rt = self.folder.rt;
+        make_folder(rt, path)?;
+        for pending in &self.pending {
+            let name = pending.name.as_str();
+            let copy = format!(in rt.alloc(); "{path}/{name}")?;
+            copy_file(rt, pending.target.as_str(), copy.as_str())?;
+        }
+        sync_path(rt, path)?;
+        sync_folder(rt)
+    }
+
+    /// Replaces all files that were handed in, or none, copied first where the terms say so.
     pub fn commit(&self) -> Result<(), Unsaved> {
         if self.pending.is_empty() {
             return Ok(());
+        }
+        if let Some(path) = self.terms.backup {
+            if self.copy_all(path).is_err() {
+                return Err(Unsaved::Backup);
+            }
         }
         let Ok(steps) = steps_of_save(self.folder.rt.alloc(), self.pending.len()) else {
             return Err(Unsaved::Memory);
@@ -332,13 +433,18 @@ impl<'a, R: Disk + Alloc<A = Global>, L: Listener> SavingFolder<'a, R, L> {
     }
 }
 
+/// Whether a file of this name is one that a run saves: a table's or an index's.
+fn is_saved(name: &str) -> bool {
+    name.ends_with(".DBF") || name.ends_with(".NDX")
+}
+
 /// What a failure is called behind the note.
 fn behind_note(unsaved: Unsaved) -> Unsaved {
     match unsaved {
         Unsaved::Disk { file } | Unsaved::Changed { file } | Unsaved::Cut { file } => Unsaved::Cut {
             file,
         },
-        Unsaved::Memory => Unsaved::Cut { file: 0 },
+        Unsaved::Memory | Unsaved::Backup => Unsaved::Cut { file: 0 },
     }
 }
 
@@ -357,18 +463,25 @@ impl<R: Disk + Alloc<A = Global>, L: Listener> Files for SavingFolder<'_, R, L> 
     ghost failed = { λ saving. saving.folder.failures };
 
     fn read(&mut self, alloc: Global, name: &str, limit: usize) -> Result<Vec<u8>, ReadFault> {
-        if !self.open && name.ends_with(".DBF") {
-            return Err(self.folder.fail());
+        if !is_saved(name) {
+            return self.folder.read(alloc, name, limit);
         }
+        let target = match self.looked_at(name) {
+            Ok(target) => target,
+            Err(hindrance) => return Err(self.hinder(hindrance)),
+        };
         match self.folder.read(alloc, name, limit) {
             Ok(bytes) => {
-                if self.note(name, Some(sum_of(bytes.as_slice()))).is_err() {
+                if self
+                    .note(name, target, Some(sum_of(bytes.as_slice())))
+                    .is_err()
+                {
                     return Err(ReadFault::Memory);
                 }
                 Ok(bytes)
             }
             Err(ReadFault::Absent) => {
-                if self.note(name, None).is_err() {
+                if self.note(name, target, None).is_err() {
                     return Err(ReadFault::Memory);
                 }
                 Err(ReadFault::Absent)

@@ -1,3 +1,4 @@
 pub mod Ran
 pub mod Reported
 pub mod Same
+pub mod Rehearsed

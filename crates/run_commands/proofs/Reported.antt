@@ -111,7 +111,7 @@ refused_before a b same broke breaks f job code file Disk h = absurd h
 refused_before a b same broke breaks f job code file (Tables refusal) h = record { code = code; file = file; fits = (h.0, refused_same a b same code.declared.shape job.limit broke breaks f refusal h.1) }
 refused_before a b same broke breaks f job code file Memory h = h
 
-pub refused : (a b : Holds) → SameFiles a b → (broke breaks : Type 0) → (breaks → broke) → (job : Job) (code : Code) → IsCodeFile (a job.name.now) code → (result : Result Report RunRefusal)
+pub refused : {X : Type 0} (a b : Holds) → SameFiles a b → (broke breaks : Type 0) → (breaks → broke) → (job : Job) (code : Code) → IsCodeFile (a job.name.now) code → (result : Result X RunRefusal)
     → IfErr result (CodeRefused b job code breaks) → IfErr result (RefusedBefore a job broke)
 refused a b same broke breaks f job code file (Ok r) h = h
 refused a b same broke breaks f job code file (Err refusal) h = refused_before a b same broke breaks f job code file refusal h

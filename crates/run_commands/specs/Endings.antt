@@ -1,5 +1,5 @@
 -- How the end of a run is told: a full table by its name.
-use Rattle.std.specs.Prelude.{◌≡◌, ℕ, List, [], Option, Some, None, slice_get}
+use Rattle.std.specs.Prelude.{◌≡◌, Bool, true, not, ℕ, List, [], Option, Some, None, slice_get}
 use Rattle.shape.specs.declared.tables.TableShape.{TableShape}
 use Rattle.shape.specs.declared.whole.Shape.{Shape}
 use Rattle.run_steps.specs.declared.ending.End.{End}
@@ -19,3 +19,8 @@ Tells shape (EndFull table) (Full name) = name.items ≡ name_of (slice_get shap
 Tells shape EndNoMemory NoMemory = Unit {0}
 Tells shape (EndFault kind at) (Fault told place) = (told ≡ kind) × (place ≡ at)
 Tells shape _ _ = ⊥
+
+-- whether a run that ended so saves its tables: each run does, or only a finished one
+abbrev pub is_saved : Bool → How → Bool
+is_saved only_finished Finished = true
+is_saved only_finished how = not only_finished

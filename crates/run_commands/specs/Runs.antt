@@ -21,6 +21,13 @@ pub record IsRun (code : Code) (store : StoreState) (job : Job) (outcome : Outco
   pub ran : Ran code (begun code store job) job.budget outcome last
   pub rows_are : rows ≡ sent last.env.screen
 
+-- the same; these tables are those of its last world, and hold what the code declares
+pub record IsLeft (code : Code) (store : StoreState) (job : Job) (outcome : Outcome) (rows : List ℕ)
+    (tables : StoreState) : Type 0 where
+  pub run : IsRun code store job outcome rows
+  pub tables_are : tables ≡ run.last.env.store
+  pub fits : StoreFits code.declared tables
+
 -- the same, without a fault; the tables of its last world are these, and hold what the code declares
 pub record IsSoundRun (code : Code) (store : StoreState) (job : Job) (outcome : Outcome) (rows : List ℕ)
     (tables : StoreState) : Type 0 where

@@ -2,7 +2,7 @@
 #![tactic(auto)]
 
 ghost use Rattle.std.specs.Prelude.{◌≡◌, slice_get};
-ghost use Rattle.run_commands.specs.Endings.{name_of, Tells};
+ghost use Rattle.run_commands.specs.Endings.{name_of, is_saved, Tells};
 
 use file_commands::Status;
 use run_steps::{End, FaultKind, Outcome};
@@ -32,7 +32,7 @@ pub struct Ended {
 }
 
 /// The same name once more.
-fn copy_of(name: &Name) -> Name
+pub(crate) fn copy_of(name: &Name) -> Name
     ensures { result ≡ name.now }
 {
     let mut copy = Name::new();
@@ -68,6 +68,16 @@ pub(crate) fn ended_of(outcome: Outcome, shape: &Shape) -> Ended
 }
 
 impl Ended {
+    /// Whether the tables of a run that ended so are saved: those of each run, or only those of a finished one.
+    pub fn is_saved(&self, only_finished: bool) -> bool
+        ensures { result ≡ is_saved only_finished self.now.how }
+    {
+        match self.how {
+            How::Finished => true,
+            _ => !only_finished,
+        }
+    }
+
     /// How the program exits behind such a run.
     pub fn status(&self) -> Status {
         match self.how {
@@ -96,7 +106,7 @@ fn word_of(kind: FaultKind) -> &'static str {
     }
 }
 
-fn put_name<W: fmt::Write>(name: &Name, f: &mut fmt::Formatter<W>) -> fmt::Result {
+pub(crate) fn put_name<W: fmt::Write>(name: &Name, f: &mut fmt::Formatter<W>) -> fmt::Result {
     for byte in name.as_slice() {
         f.write_char(char::from(*byte))?;
     }

@@ -9,9 +9,12 @@ mod ending;
 mod job;
 mod machines;
 mod refusal;
+mod rehearsing;
 mod running;
 
 pub use crate::ending::{Ended, How};
 pub use crate::job::{Job, RecordLimit, RunDay};
 pub use crate::refusal::{RunRefusal, ToldRefusal};
+pub use crate::rehearsing::{Rehearsal, rehearse_files};
 pub use crate::running::{Report, run_files};
+pub use table_changes::{Changes, RowCounts};

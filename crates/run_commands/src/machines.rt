@@ -4,7 +4,7 @@
 ghost use Rattle.std.specs.Prelude.{◌≡◌, IfOk};
 ghost use Rattle.code_items.specs.Legal.{IsCode};
 ghost use Rattle.run_steps.specs.Shapes.{StoreFits};
-ghost use Rattle.run_commands.specs.Runs.{IsRun, IsSoundRun};
+ghost use Rattle.run_commands.specs.Runs.{IsLeft, IsSoundRun};
 ghost use Rattle.text_lines.specs.Lines.{short_lines};
 
 use crate::job::Job;
@@ -23,6 +23,13 @@ use xverify::Verified;
 pub(crate) struct Run {
     pub rows: Vec<u8>,
     pub outcome: Outcome,
+}
+
+/// A run of any code that came to its end, with the tables that it left.
+#[derive(Drop)]
+pub(crate) struct TestedRun {
+    pub run: Run,
+    pub world: World<NdxTree>,
 }
 
 /// A run of an accepted code that came to its end, with the tables that it left.
@@ -44,16 +51,20 @@ pub(crate) fn run_any(
     code: &Code,
     store: Store<NdxTree>,
     job: &Job<'_>,
-) -> Result<Run, AllocError>
+) -> Result<TestedRun, AllocError>
     requires legal { IsCode code.now }
     requires fits { StoreFits code.now.declared store }
-    ensures { IfOk result (λ run. IsRun code.now store job.now run.outcome run.rows.items) }
+    ensures { IfOk result (λ done. IsLeft code.now store job.now done.run.outcome done.run.rows.items
+        done.world.env.store) }
 {
     let lines = typed(alloc, job.input)?;
     let mut world = World::opening(alloc, code, store, job.day.day(), lines)?;
     let outcome = run_checked(alloc, code, &mut world, job.budget);
     let rows = world.finish(alloc)?;
-    Ok(Run { rows, outcome })
+    Ok(TestedRun {
+        run: Run { rows, outcome },
+        world,
+    })
 }
 
 /// Runs an accepted code on the machine without tags.

@@ -34,7 +34,7 @@ pub struct Report {
 }
 
 /// Why the code's file isn't read, without its name.
-fn of_code(refusal: Refusal<'_>) -> RunRefusal
+pub(crate) fn of_code(refusal: Refusal<'_>) -> RunRefusal
     ensures { IsOfCode refusal.entry result }
 {
     match refusal {
@@ -45,7 +45,7 @@ fn of_code(refusal: Refusal<'_>) -> RunRefusal
 }
 
 /// The accepted code, or why it isn't.
-fn accept(alloc: Global, code: Code) -> Result<Verified, RunRefusal>
+pub(crate) fn accept(alloc: Global, code: Code) -> Result<Verified, RunRefusal>
     requires { IsCode code }
     ensures ok { IfOk result (λ verified. verified ≡ code) }
     ensures accepted { IfOk result (λ _. Accepted code) }
@@ -78,10 +78,10 @@ fn test_run<F: Files>(
     new_stores_fit();
     let shape = &code.declared.shape;
     let store = load(alloc, files, shape, job.limit.records())?;
-    let run = run_any(alloc, code, store, job)?;
+    let tested = run_any(alloc, code, store, job)?;
     Ok(Report {
-        rows: run.rows,
-        result: Ok(ended_of(run.outcome, shape)),
+        rows: tested.run.rows,
+        result: Ok(ended_of(tested.run.outcome, shape)),
     })
 }
 

@@ -1,5 +1,6 @@
-use Rattle.run_commands.proofs.Ran.{run_from}
+use Rattle.run_commands.proofs.Ran.{left_from}
 use Rattle.run_commands.proofs.machines.run_any.Goals as goal
 
 pub returns : goal.returns
-returns c = run_from _ _ _ _ _ _ _ _ _ c.in_ok-world.ensures.world c.in_ok-lines.ensures c.day.ensures c.run_checked-outcome.ensures.ran c.in_ok-rows.ensures
+returns c =
+    left_from _ _ _ _ _ _ _ _ _ c.in_ok-world.ensures.world c.in_ok-lines.ensures c.day.ensures c.run_checked-outcome.ensures.ran c.in_ok-rows.ensures c.run_checked-outcome.ensures.shape.store

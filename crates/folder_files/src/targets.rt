@@ -1,0 +1,127 @@
+//! Files that a save would replace, looked at before they are read.
+#![tactic(auto)]
+
+use crate::disk::standing;
+use crate::user::Who;
+use save_rules::{Harm, Standing, harm_of, is_in_folder};
+use std::alloc::{Alloc, AllocError, Global};
+use std::fs::{self, Metadata};
+use std::io::ErrorKind;
+use std::os::unix::fs::MetadataExt;
+use std::rt::Files as Disk;
+
+/// The most links that are followed from one name.
+const LINKS: u32 = 40;
+
+/// Why the files of a run aren't read: what they hold couldn't be saved.
+#[derive(Clone, Copy, PartialEq, Eq, Debug)]
+pub enum Hindrance {
+    /// Another program has the folder.
+    Taken,
+    /// The file system knows no locks.
+    NoLocks,
+    /// The file can't be replaced as it was.
+    Harm(Harm),
+    /// The file is a link that leaves the folder.
+    LeavesFolder,
+    /// The file is one that was read already, under another name.
+    Twice,
+    /// The device failed, or memory was refused.
+    Disk,
+}
+
+/// The file that stands under a name, behind links within the folder.
+#[derive(Drop)]
+pub(crate) struct Target {
+    pub(crate) name: String,
+    /// Device and number of the file, none where there is none.
+    pub(crate) file: Option<(u64, u64)>,
+}
+
+/// The name to which a link in the folder leads; none where it leaves the folder.
+fn named_by(alloc: Global, link: &str) -> Result<Option<String>, AllocError> {
+    let link = link.strip_prefix("./").unwrap_or(link);
+    if !is_in_folder(link.as_bytes()) {
+        return Ok(None);
+    }
+    Ok(Some(String::from_str(alloc, link)?))
+}
+
+/// The name of the file to which a link leads next; none where the name isn't that of a link.
+fn next_name<R: Disk + Alloc<A = Global>>(rt: &R, name: &str) -> Result<Option<String>, Hindrance> {
+    match fs::symlink_metadata(rt, name) {
+        Ok(data) => {
+            if !data.is_symlink() {
+                return Ok(None);
+            }
+        }
+        Err(error) => {
+            return match error.kind() {
+                ErrorKind::NotFound => Ok(None),
+                _ => Err(Hindrance::Disk),
+            };
+        }
+    }
+    let Ok(path) = fs::read_link(rt, name) else {
+        return Err(Hindrance::Disk);
+    };
+    match named_by(rt.alloc(), path.as_str()) {
+        Ok(Some(next)) => Ok(Some(next)),
+        Ok(None) => Err(Hindrance::LeavesFolder),
+        Err(_) => Err(Hindrance::Disk),
+    }
+}
+
+/// The name behind all links.
+fn last_name<R: Disk + Alloc<A = Global>>(rt: &R, name: &str) -> Result<String, Hindrance> {
+    let Ok(mut last) = String::from_str(rt.alloc(), name) else {
+        return Err(Hindrance::Disk);
+    };
+    for _ in 0..LINKS {
+        match next_name(rt, last.as_str())? {
+            Some(next) => last = next,
+            None => return Ok(last),
+        }
+    }
+    Err(Hindrance::Disk)
+}
+
+/// What the rules of a save know of a file.
+fn standing_of(data: &Metadata) -> Standing {
+    Standing {
+        mode: data.mode(),
+        owner: data.uid(),
+        group: data.gid(),
+        links: data.nlink(),
+    }
+}
+
+/// The file under a name, if it can be replaced as it was. Who takes files over doesn't ask for their owners.
+pub(crate) fn target_of<R: Disk + Alloc<A = Global>>(
+    rt: &R,
+    name: &str,
+    who: &Who,
+    takes_over: bool,
+) -> Result<Target, Hindrance> {
+    let name = last_name(rt, name)?;
+    let Ok(found) = standing(rt, name.as_str()) else {
+        return Err(Hindrance::Disk);
+    };
+    let Some(data) = found else {
+        return Ok(Target { name, file: None });
+    };
+    let user = who.user();
+    if let Some(harm) = harm_of(&standing_of(&data), &user, takes_over) {
+        return Err(Hindrance::Harm(harm));
+    }
+    let file = Some((data.dev(), data.ino()));
+    Ok(Target { name, file })
+}
+
+/// Whether one file stands under two names, behind links.
+pub fn is_same_file(rt: &impl Disk, one: &str, other: &str) -> bool {
+    match (fs::metadata(rt, one), fs::metadata(rt, other)) {
+        (Ok(one), Ok(other)) => one.dev() == other.dev() && one.ino() == other.ino(),
+        _ => false,
+    }
+}

@@ -1,0 +1,228 @@
+// Runs that save nothing, and what they would have saved.
+#![tactic(auto)]
+
+ghost use Rattle.std.specs.Prelude.{◌≡◌, ◌≤◌, map, IfOk, IfErr};
+ghost use Rattle.code_items.specs.Legal.{IsCode};
+ghost use Rattle.file_access.specs.Holding.{Rose, SameFiles};
+ghost use Rattle.file_commands.specs.Reports.{HasCode};
+ghost use Rattle.run_commands.specs.Parts.{IsOfTables, CodeRefused};
+ghost use Rattle.run_commands.specs.Rehearsals.{IsRehearsed, IsToldAs, LeavesTables};
+ghost use Rattle.run_commands.specs.Reports.{RefusedBefore};
+
+use crate::ending::{Ended, copy_of, ended_of, put_name};
+use crate::job::Job;
+use crate::machines::{run_accepted, run_any};
+use crate::refusal::RunRefusal;
+use crate::running::{accept, of_code};
+use code_items::Code;
+use code_items::laws::legal_codes;
+use file_access::Files;
+use file_commands::read_code;
+use run_laws::laws::new_stores_fit;
+use run_steps::Outcome;
+use shape::{IndexShape, Name, Shape, TableShape};
+use std::alloc::{AllocError, Global};
+use std::fmt;
+use table_changes::{Changes, RowCounts, changes_since, keep};
+use table_files::load;
+use xverify::Verified;
+
+/// A run that saved nothing: the bytes for printing, how it ended, what became of each declared table and index, and
+/// their names.
+#[derive(Drop)]
+pub struct Rehearsal {
+    pub rows: Vec<u8>,
+    pub ended: Ended,
+    pub changes: Changes,
+    pub tables: Vec<Name>,
+    pub indexes: Vec<Name>,
+}
+
+/// A run that left its tables, compared with those before it.
+#[derive(Drop)]
+pub(crate) struct Compared {
+    rows: Vec<u8>,
+    outcome: Outcome,
+    changes: Changes,
+}
+
+/// The names of the declared tables.
+fn table_names(alloc: Global, tables: &[TableShape]) -> Result<Vec<Name>, AllocError>
+    ensures { IfOk result (λ names. names.items ≡ map (λ t. t.name) tables.now) }
+{
+    let mut names = Vec::with_capacity(alloc, tables.len())?;
+    for table in tables {
+        names.push(copy_of(&table.name))?;
+    }
+    Ok(names)
+}
+
+/// The names of the declared indexes.
+fn index_names(alloc: Global, indexes: &[IndexShape]) -> Result<Vec<Name>, AllocError>
+    ensures { IfOk result (λ names. names.items ≡ map (λ x. x.name) indexes.now) }
+{
+    let mut names = Vec::with_capacity(alloc, indexes.len())?;
+    for index in indexes {
+        names.push(copy_of(&index.name))?;
+    }
+    Ok(names)
+}
+
+/// Runs a code on the checking machine, over the tables that it declares.
+fn compare_any<F: Files>(
+    alloc: Global,
+    files: &mut F,
+    code: &Code,
+    job: &Job<'_>,
+) -> Result<Compared, RunRefusal>
+    requires { IsCode code.now }
+    ensures done { IfOk result (λ done. LeavesTables (F.holds files.old) job.now code.now done.outcome
+        done.rows.items done.changes) }
+    ensures refused { IfErr result (IsOfTables (F.holds files.old) job.now code.now
+        (Rose (F.failed files.old) (F.failed files.new))) }
+    ensures kept { SameFiles (F.holds files.old) (F.holds files.new) }
+    ensures counted { F.failed files.old ≤ F.failed files.new }
+{
+    legal_codes();
+    new_stores_fit();
+    let shape = &code.declared.shape;
+    let store = load(alloc, files, shape, job.limit.records())?;
+    let kept = keep(alloc, shape, &store)?;
+    let done = run_any(alloc, code, store, job)?;
+    let changes = changes_since(alloc, shape, kept, done.world.store())?;
+    Ok(Compared {
+        rows: done.run.rows,
+        outcome: done.run.outcome,
+        changes,
+    })
+}
+
+/// Runs an accepted code on the machine without tags, over the tables that it declares.
+fn compare_accepted<F: Files>(
+    alloc: Global,
+    files: &mut F,
+    verified: &Verified,
+    job: &Job<'_>,
+) -> Result<Compared, RunRefusal>
+    ensures done { IfOk result (λ done. LeavesTables (F.holds files.old) job.now verified.now done.outcome
+        done.rows.items done.changes) }
+    ensures refused { IfErr result (IsOfTables (F.holds files.old) job.now verified.now
+        (Rose (F.failed files.old) (F.failed files.new))) }
+    ensures kept { SameFiles (F.holds files.old) (F.holds files.new) }
+    ensures counted { F.failed files.old ≤ F.failed files.new }
+{
+    legal_codes();
+    new_stores_fit();
+    let shape = &verified.code().declared.shape;
+    let store = load(alloc, files, shape, job.limit.records())?;
+    let kept = keep(alloc, shape, &store)?;
+    let done = run_accepted(alloc, verified, store, job)?;
+    let changes = changes_since(alloc, shape, kept, done.banks.store())?;
+    Ok(Compared {
+        rows: done.run.rows,
+        outcome: done.run.outcome,
+        changes,
+    })
+}
+
+/// A comparison as it is told, of a code of this shape.
+fn told_of(alloc: Global, shape: &Shape, done: Compared) -> Result<Rehearsal, AllocError>
+    ensures { IfOk result (IsToldAs shape.now done) }
+{
+    Ok(Rehearsal {
+        tables: table_names(alloc, shape.tables.as_slice())?,
+        indexes: index_names(alloc, shape.indexes.as_slice())?,
+        rows: done.rows,
+        ended: ended_of(done.outcome, shape),
+        changes: done.changes,
+    })
+}
+
+/// Runs a code as the job says, and compares the tables that it leaves.
+fn rehearse_code<F: Files>(
+    alloc: Global,
+    files: &mut F,
+    code: Code,
+    job: &Job<'_>,
+) -> Result<Rehearsal, RunRefusal>
+    requires { IsCode code }
+    ensures done { IfOk result (λ told. IsRehearsed (F.holds files.old) job.now told code) }
+    ensures refused { IfErr result (CodeRefused (F.holds files.old) job.now code
+        (Rose (F.failed files.old) (F.failed files.new))) }
+    ensures kept { SameFiles (F.holds files.old) (F.holds files.new) }
+    ensures counted { F.failed files.old ≤ F.failed files.new }
+{
+    if job.checked {
+        let done = compare_any(alloc, files, &code, job)?;
+        let told = told_of(alloc, &code.declared.shape, done)?;
+        return Ok(told);
+    }
+    let verified = accept(alloc, code)?;
+    let done = compare_accepted(alloc, files, &verified, job)?;
+    let told = told_of(alloc, &verified.code().declared.shape, done)?;
+    Ok(told)
+}
+
+/// Runs the code in a file as `run_files` does, and saves nothing: what a run would have saved is compared with the
+/// tables that were loaded.
+///
+/// # Errors
+/// Those for which `run_files` runs nothing.
+pub fn rehearse_files<F: Files>(
+    alloc: Global,
+    files: &mut F,
+    job: &Job<'_>,
+) -> Result<Rehearsal, RunRefusal>
+    ensures done { IfOk result (λ told. HasCode (F.holds files.old job.name.now)
+        (IsRehearsed (F.holds files.old) job.now told)) }
+    ensures refused { IfErr result (RefusedBefore (F.holds files.old) job.now
+        (Rose (F.failed files.old) (F.failed files.new))) }
+    ensures kept { SameFiles (F.holds files.old) (F.holds files.new) }
+{
+    match read_code(alloc, files, job.name) {
+        Ok(code) => rehearse_code(alloc, files, code, job),
+        Err(refusal) => Err(of_code(refusal)),
+    }
+}
+
+/// Writes what became of a table's rows.
+fn put_counts<W: fmt::Write>(
+    f: &mut fmt::Formatter<W>,
+    name: &Name,
+    counts: &RowCounts,
+) -> fmt::Result {
+    put_name(name, f)?;
+    let (before, after) = (counts.before, counts.after);
+    if before == after {
+        write!(f, " {before} records")?;
+    } else {
+        write!(f, " {before} -> {after} records")?;
+    }
+    let parts = [
+        (counts.changed, "changed"),
+        (counts.removed, "removed"),
+        (counts.added, "added"),
+    ];
+    for (count, word) in parts {
+        if count > 0 {
+            write!(f, ", {count} {word}")?;
+        }
+    }
+    f.write_char('\n')
+}
+
+/// What a run would have saved, in lines: the rows of each table, and the indexes that are made anew.
+impl fmt::Display for Rehearsal {
+    fn fmt<W: fmt::Write>(&self, f: &mut fmt::Formatter<W>) -> fmt::Result {
+        for (name, counts) in self.tables.iter().zip(self.changes.tables.iter()) {
+            put_counts(f, name, counts)?;
+        }
+        for (name, anew) in self.indexes.iter().zip(self.changes.made.iter()) {
+            if *anew {
+                put_name(name, f)?;
+                f.write_str(" made anew\n")?;
+            }
+        }
+        Ok(())
+    }
+}

@@ -1,0 +1,41 @@
+-- What can be replaced as it was, and which names are those of files in the folder.
+use Rattle.std.specs.Prelude.{◌==◌, ◌&&◌, ◌||◌, not, ℕ, Bool, List, [], Option, Some, None}
+use Rattle.std.specs.Prelude.{if◌then◌else◌, nat_lt, bit_and, codes, length, take, drop}
+use Rattle.std.specs.List.{list_any}
+use Rattle.std.specs.Str.{bytes_eq}
+use Rattle.save_rules.specs.declared.rules.Harm.{Harm}
+use Rattle.save_rules.specs.declared.rules.Harm.TheVariants.{NotWritable, Links, Owner, Group}
+use Rattle.save_rules.specs.declared.rules.Standing.{Standing}
+use Rattle.save_rules.specs.declared.rules.User.{User}
+
+abbrev pub is_one_of : ℕ → List ℕ → Bool
+is_one_of group groups = list_any (λ other. other == group) groups
+
+-- whether a user may give a file this group
+abbrev pub may_give : User → ℕ → Bool
+may_give user group = user.group == group || is_one_of group user.groups.now
+
+-- Why a file can't be replaced as it was: nobody may write it, it has further names, or another user's new file would
+-- have to be given its owner or its group. A user who gives files away can give both, and one who takes files over asks
+-- for neither.
+unfoldable pub harm_of : Standing → User → Bool → Option Harm
+harm_of file user takes_over =
+    if bit_and file.mode 146 == 0 then Some NotWritable else
+    (if nat_lt 1 file.links then Some Links else
+    (if takes_over || user.gives_away then None else
+    (if not (user.id == file.owner) then Some Owner else
+    (if not (may_give user file.group) then Some Group else None))))
+
+abbrev pub leads_away : ℕ → Bool
+leads_away byte = byte == 47 || byte == 0
+
+-- whether a name is that of a file in the folder: not empty, without a slash or a zero byte, and no point or two alone
+unfoldable pub is_in_folder : List ℕ → Bool
+is_in_folder name =
+    not (bytes_eq name []) && not (bytes_eq name (codes ".")) && not (bytes_eq name (codes ".."))
+    && not (list_any leads_away name)
+
+-- whether a file of the other name may stand beside one of the first as its new file: behind that name stands `.new`
+unfoldable pub is_beside : List ℕ → List ℕ → Bool
+is_beside name other =
+    bytes_eq (take (length name) other) name && bytes_eq (take 4 (drop (length name) other)) (codes ".new")

@@ -1,0 +1,9 @@
+//! What a save may do to files: which of them can be replaced as they were, which names are those of files in the folder,
+//! and what a code file must not overwrite.
+#![tactic(auto)]
+
+mod overwriting;
+mod rules;
+
+pub use overwriting::{Overwritten, overwritten_by};
+pub use rules::{Harm, Standing, User, harm_of, is_beside, is_in_folder};

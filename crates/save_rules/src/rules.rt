@@ -1,0 +1,112 @@
+// What may be replaced, and under which names.
+#![tactic(auto)]
+
+ghost use Rattle.std.specs.Prelude.{◌≡◌};
+ghost use Rattle.std.specs.List.{list_any};
+ghost use Rattle.save_rules.specs.Rules as spec;
+
+/// What is known of a file that is to be replaced.
+#[derive(Clone, Copy, PartialEq, Eq, Debug)]
+pub struct Standing {
+    /// Its permission bits.
+    pub mode: u32,
+    pub owner: u32,
+    pub group: u32,
+    /// How many names it has.
+    pub links: u64,
+}
+
+/// Who runs the program.
+#[derive(Clone, Copy, Debug)]
+pub struct User<'a> {
+    pub id: u32,
+    pub group: u32,
+    /// Further groups.
+    pub groups: &'a [u32],
+    /// Whether this user may give files to other users and to any group.
+    pub gives_away: bool,
+}
+
+/// Why a file can't be replaced as it was.
+#[derive(Clone, Copy, PartialEq, Eq, Debug)]
+pub enum Harm {
+    /// Nobody may write it.
+    NotWritable,
+    /// It has further names, which would keep the old file.
+    Links,
+    /// It is another user's, to whom this one can't give the new file.
+    Owner,
+    /// It is of a group to which this user can't give the new file.
+    Group,
+}
+
+/// Whether a group is among others.
+fn is_one_of(group: u32, groups: &[u32]) -> bool
+    ensures { result ≡ spec.is_one_of group groups.now }
+{
+    groups.iter().any(|other| *other == group)
+}
+
+/// Whether a user may give a file this group.
+fn may_give(user: &User<'_>, group: u32) -> bool
+    ensures { result ≡ spec.may_give user.now group }
+{
+    user.group == group || is_one_of(group, user.groups)
+}
+
+/// Why a file can't be replaced as it was, if it can't. Who takes files over doesn't ask for their owners and groups.
+#[tactic(auto, unfolding(crate::specs::Rules::harm_of))]
+pub fn harm_of(file: &Standing, user: &User<'_>, takes_over: bool) -> Option<Harm>
+    ensures { result ≡ spec.harm_of file.now user.now takes_over }
+{
+    if file.mode & 0o222 == 0 {
+        return Some(Harm::NotWritable);
+    }
+    if file.links > 1 {
+        return Some(Harm::Links);
+    }
+    if takes_over || user.gives_away {
+        return None;
+    }
+    if user.id != file.owner {
+        return Some(Harm::Owner);
+    }
+    if !may_give(user, file.group) {
+        return Some(Harm::Group);
+    }
+    None
+}
+
+/// Whether a byte can't stand in the name of a file in the folder.
+fn leads_away(byte: u8) -> bool
+    ensures { result ≡ spec.leads_away byte }
+{
+    byte == b'/' || byte == 0
+}
+
+/// Whether a byte among some leads away from the folder.
+fn has_one_that_leads_away(name: &[u8]) -> bool
+    ensures { result ≡ list_any spec.leads_away name.now }
+{
+    name.iter().any(|byte| leads_away(*byte))
+}
+
+/// Whether a name is that of a file in the folder.
+#[tactic(auto, unfolding(crate::specs::Rules::is_in_folder))]
+pub fn is_in_folder(name: &[u8]) -> bool
+    ensures { result ≡ spec.is_in_folder name.now }
+{
+    name != b"".as_slice()
+        && name != b".".as_slice()
+        && name != b"..".as_slice()
+        && !has_one_that_leads_away(name)
+}
+
+/// Whether a file of a name may stand beside another one as its new file: its name begins with the other's and `.new`.
+#[tactic(auto, unfolding(crate::specs::Rules::is_beside))]
+pub fn is_beside(name: &[u8], other: &[u8]) -> bool
+    ensures { result ≡ spec.is_beside name.now other.now }
+{
+    let (front, rest) = other.split_at(name.len().min(other.len()));
+    front == name && &rest[..rest.len().min(4)] == b".new".as_slice()
+}
