@@ -8,7 +8,8 @@
 mod shown;
 
 use crate::shown::{
-    Audience, FaultyLine, OutTold, Progress, faulty_line, hint_of, line_at, printable, why_hindered,
+    Audience, FaultyLine, OutTold, Progress, faulty_line, hint_of, line_at, of_end, printable,
+    why_hindered,
 };
 use clap::error::ErrorKind;
 use clap::{ArgMatches, Command};
@@ -327,7 +328,13 @@ fn run_and_save<R: Runtime<A = Global>>(
             };
         }
     }
-    report(rt, audience, job.name, &done)
+    let status = report(rt, audience, job.name, &done);
+    if audience.person && status == ended.status() {
+        if let Some(hint) = of_end(&ended.how, ended.is_saved(save.only_finished)) {
+            let _ = eprintln!(rt; "  {hint}.");
+        }
+    }
+    status
 }
 
 /// Tests each instruction of the code while it runs, and saves nothing.

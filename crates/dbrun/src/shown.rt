@@ -5,6 +5,7 @@ use compile_commands::{CompileFilesRefusal, CompileWords, SourceFault};
 use file_access::Files;
 use folder_files::{Doing, Harm, Hindrance, Listener};
 use hints::{of_command, of_declaration, of_line, of_table_line};
+use run_commands::How;
 use save_rules::Overwritten;
 use shape_files::{DeclFault, LineFault, ShapeRefusal};
 use std::alloc::{AllocError, Global};
@@ -93,6 +94,23 @@ pub fn hint_of<F: Files>(
                 _ => Some(of_declaration(*fault)),
             }
         }
+        _ => None,
+    }
+}
+
+/// What to do about a run that ended so, in one sentence without its point.
+pub fn of_end(how: &How, saved: bool) -> Option<&'static str> {
+    match (how, saved) {
+        (How::Spent, true) => Some(
+            "the tables are saved as they stood when the budget was spent; --budget N gives a run more",
+        ),
+        (How::Spent, false) => Some("no file was changed; --budget N gives a run more"),
+        (How::Full(_), true) => Some(
+            "the tables are saved as they stood then; --limit N lets a table have more records, up to 1000000",
+        ),
+        (How::Full(_), false) => Some(
+            "no file was changed; --limit N lets a table have more records, up to 1000000",
+        ),
         _ => None,
     }
 }
