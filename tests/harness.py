@@ -1,6 +1,7 @@
 """What the scripts of tests/ and bench/ that are written in Python share."""
 
 import os
+import pty
 import subprocess
 import sys
 
@@ -16,6 +17,26 @@ def program(kind=None):
     path = found.stdout.strip()
     print(f"the program: {path}", flush=True)
     return path
+
+
+def at_terminal(words, folder):
+    """What a program that ends by itself writes at a terminal, line by line."""
+    child, terminal = pty.fork()
+    if not child:
+        os.chdir(folder)
+        os.execv(words[0], words)
+    told = b""
+    while True:
+        try:
+            more = os.read(terminal, 65536)
+        except OSError:
+            more = b""
+        if not more:
+            break
+        told += more
+    os.close(terminal)
+    os.waitpid(child, 0)
+    return told.decode("utf-8", "replace").replace("\r\n", "\n").splitlines()
 
 
 def verdict(passed, failed):

@@ -140,6 +140,7 @@ class Calls(Commands):
                 frame.cells.add(cell)
                 self.state.full.add(cell)
             names[name] = cell
+            self.stands_as.setdefault(cell, set()).add(name)
             frame.own.add(name)
             frame.cost.slots += 1
         return frame

@@ -14,6 +14,8 @@ class Commands(Expressions):
     def __init__(self, random, made):
         super().__init__(random, made)
         self.frames, self.cells, self.counters, self.filters = [], 0, 0, 0
+        # Names that procedures set where they know no such variable, and the parameters' names of each cell.
+        self.begun, self.stands_as = set(), {}
 
     # ---- variables
 
@@ -31,6 +33,7 @@ class Commands(Expressions):
         if name not in self.frame.names:
             self.frame.names[name] = self.new_cell()
             self.frame.own.add(name)
+            self.begun |= {name} if len(self.frames) > 1 else set()
         elif self.frame.names[name] in self.state.full:
             self.note(name)
         self.state.full.add(self.frame.names[name])

@@ -55,11 +55,15 @@ class Maker(Calls):
         return self.files(main)
 
     def find_gone(self):
-        """Notes which names can't be read at the end: those that only procedures have set, and those that have no value."""
+        """Notes which names can't be read at the end: those that only procedures have set, and those that have no value.
+
+        A procedure may have set one that had no value then, under its own name or under a parameter's."""
         names = self.frame.names
         self.gone = {name: "Name" for name in KIND_OF if name in self.locals and name not in names}
         for name in KIND_OF:
-            if name in names and names[name] not in self.state.full and name not in self.locals:
+            if name not in names or names[name] in self.state.full or name in self.locals:
+                continue
+            if not self.stands_as.get(names[name], set()) & self.begun:
                 self.gone[name] = "Unset"
 
     def call(self):

@@ -4,6 +4,8 @@
 #[cfg(test)]
 mod areas;
 #[cfg(test)]
+mod budgets;
+#[cfg(test)]
 mod indexes;
 #[cfg(test)]
 mod made;

@@ -8,7 +8,8 @@
 mod shown;
 
 use crate::shown::{
-    Audience, FaultyLine, OutTold, Progress, faulty_line, line_at, printable, why_hindered,
+    Audience, FaultyLine, OutTold, Progress, faulty_line, hint_of, line_at, of_end, printable,
+    why_hindered,
 };
 use clap::error::ErrorKind;
 use clap::{ArgMatches, Command};
@@ -17,7 +18,7 @@ use command_words::{
     Listing, Outcomes, RunWords, SaveWords, Words, WordsFault, command, sources_of, words_of,
 };
 use compile_commands::{CompileFilesRefusal, CompileTold, CompileWords, compile_files};
-use file_access::{Files, ReadFault, read_within};
+use file_access::{Files, ReadFault, read_in_turns, read_within};
 use file_commands::{
     FILE_LIMIT, Refusal, Status, list_code, list_index, list_table, of_refusal, verify_file,
 };
@@ -40,6 +41,9 @@ use table_csv::list_csv;
 /// The most bytes that an operator may type for a run: 1 MiB.
 const INPUT_LIMIT: usize = 1_048_576;
 
+/// The most reads of what an operator types: two for each byte.
+const INPUT_TURNS: usize = 2_097_152;
+
 /// The most bytes of all names of a folder: 64 MiB.
 const NAMES_LIMIT: usize = 67_108_864;
 
@@ -60,7 +64,7 @@ fn folder<'a, R: Runtime<A = Global>>(
 /// All that the operator typed, or how the program exits where that can't be had.
 fn typed<R: Runtime<A = Global>>(rt: &R) -> Result<Vec<u8>, Status> {
     let mut reader = rt.reader();
-    match read_within(rt.alloc(), &mut reader, INPUT_LIMIT) {
+    match read_in_turns(rt.alloc(), &mut reader, INPUT_LIMIT, INPUT_TURNS) {
         Ok(bytes) => Ok(bytes),
         Err(ReadFault::TooLong) => {
             let _ = eprintln!(rt; "refused - TooLong");
@@ -85,13 +89,22 @@ fn of_compiling(refusal: &CompileFilesRefusal) -> Status {
     }
 }
 
-/// Shows a faulty line on standard error, where its file can still be read.
-fn show_faulty<R: Runtime<A = Global>>(rt: &R, place: FaultyLine<'_>) {
+/// Shows a faulty line on standard error, and below it what to do about it, where its file can still be read.
+fn show_faulty<R: Runtime<A = Global>>(
+    rt: &R,
+    place: FaultyLine<'_>,
+    refusal: &CompileFilesRefusal,
+) {
     let mut folder = Folder::new(rt, Nobody);
-    if let Ok(bytes) = folder.read(rt.alloc(), place.file, FILE_LIMIT) {
-        if let Some(line) = line_at(bytes.as_slice(), place.line) {
-            let _ = eprintln!(rt; "  {line}");
-        }
+    let Ok(bytes) = folder.read(rt.alloc(), place.file, FILE_LIMIT) else {
+        return;
+    };
+    let Some(line) = line_at(bytes.as_slice(), place.line) else {
+        return;
+    };
+    let _ = eprintln!(rt; "  {line}");
+    if let Some(hint) = hint_of(rt.alloc(), &mut folder, refusal, line) {
+        let _ = eprintln!(rt; "  {hint}.");
     }
 }
 
@@ -136,7 +149,7 @@ fn compile<'a, R: Runtime<A = Global>>(
     };
     let _ = eprintln!(rt; "{told}");
     if let (true, Some(place)) = (audience.person, faulty_line(&refusal, words)) {
-        show_faulty(rt, place);
+        show_faulty(rt, place, &refusal);
     }
     Ok(of_compiling(&refusal))
 }
@@ -315,7 +328,13 @@ fn run_and_save<R: Runtime<A = Global>>(
             };
         }
     }
-    report(rt, audience, job.name, &done)
+    let status = report(rt, audience, job.name, &done);
+    if audience.person && status == ended.status() {
+        if let Some(hint) = of_end(&ended.how, ended.is_saved(save.only_finished)) {
+            let _ = eprintln!(rt; "  {hint}.");
+        }
+    }
+    status
 }
 
 /// Tests each instruction of the code while it runs, and saves nothing.

@@ -2,9 +2,12 @@
 #![tactic(auto)]
 
 use compile_commands::{CompileFilesRefusal, CompileWords, SourceFault};
+use file_access::Files;
 use folder_files::{Doing, Harm, Hindrance, Listener};
+use hints::{of_command, of_declaration, of_line, of_table_line};
+use run_commands::How;
 use save_rules::Overwritten;
-use shape_files::{DeclFault, ShapeRefusal};
+use shape_files::{DeclFault, LineFault, ShapeRefusal};
 use std::alloc::{AllocError, Global};
 use std::fmt::{self, Display, Formatter, Write};
 use std::io::Eprint;
@@ -68,6 +71,46 @@ pub fn faulty_line<'a>(
             let file = words.names.get(*file)?;
             Some(FaultyLine { file, line })
         }
+        _ => None,
+    }
+}
+
+/// What to do about a refusal of this line, in one sentence without its point.
+pub fn hint_of<F: Files>(
+    alloc: Global,
+    files: &mut F,
+    refusal: &CompileFilesRefusal,
+    line: Line<'_>,
+) -> Option<&'static str> {
+    match refusal {
+        CompileFilesRefusal::Source { fault, .. } => match fault {
+            SourceFault::Parse { kind, .. } => Some(of_line(alloc, *kind, line.bytes)),
+            SourceFault::Compile { kind, .. } => Some(of_command(*kind)),
+            SourceFault::Absent | SourceFault::TooLong => None,
+        },
+        CompileFilesRefusal::Declarations(ShapeRefusal::Refused(DeclFault::Line { fault, .. })) => {
+            match fault {
+                LineFault::Table => Some(of_table_line(alloc, files, line.bytes)),
+                _ => Some(of_declaration(*fault)),
+            }
+        }
+        _ => None,
+    }
+}
+
+/// What to do about a run that ended so, in one sentence without its point.
+pub fn of_end(how: &How, saved: bool) -> Option<&'static str> {
+    match (how, saved) {
+        (How::Spent, true) => Some(
+            "the tables are saved as they stood when the budget was spent; --budget N gives a run more",
+        ),
+        (How::Spent, false) => Some("no file was changed; --budget N gives a run more"),
+        (How::Full(_), true) => Some(
+            "the tables are saved as they stood then; --limit N lets a table have more records, up to 1000000",
+        ),
+        (How::Full(_), false) => Some(
+            "no file was changed; --limit N lets a table have more records, up to 1000000",
+        ),
         _ => None,
     }
 }

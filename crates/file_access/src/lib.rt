@@ -12,4 +12,4 @@ pub use crate::files::{Device, Files, ReadFault};
 pub use crate::memory_files::{
     MemoryEntry, MemoryFiles, WORKS_FOR_EVER, WrittenFile, files_in_memory_hold_one_thing,
 };
-pub use crate::reader::read_within;
+pub use crate::reader::{read_in_turns, read_within};

@@ -3,7 +3,7 @@
 
 ghost use Rattle.std.specs.Prelude.{◌≤◌, length};
 
-use file_access::{ReadFault, read_within};
+use file_access::{ReadFault, read_in_turns, read_within};
 use std::alloc::Global;
 use std::io;
 use std::io::{ErrorKind, Read};
@@ -117,6 +117,29 @@ fn refusals_of_readers(rt: HostRuntime) -> Result<(), Fail> {
             Err(fault) => assert_eq!(rt; fault, wanted),
         }
         assert!(rt; given <= 5, "a byte above the limit at the most");
+    }
+    Ok(())
+}
+
+/// What comes of so many reads of two bytes, each of one.
+fn read_two(alloc: Global, turns: usize) -> Result<Vec<u8>, ReadFault> {
+    let given = [
+        Turn::Gives(b'a', 1),
+        Turn::Interrupted,
+        Turn::Gives(b'b', 1),
+    ];
+    let mut reader = Fake::new(&given, false);
+    read_in_turns(alloc, &mut reader, 2, turns)
+}
+
+// an interrupted read counts, and so does the one that finds the end
+#[test]
+fn a_reader_has_its_turns(rt: HostRuntime) -> Result<(), Fail> {
+    let bytes = read_two(rt.alloc(), 4).map_err(|_| "refused in four turns")?;
+    assert_eq!(rt; bytes.as_slice(), b"ab".as_slice());
+    match read_two(rt.alloc(), 3) {
+        Ok(_) => assert!(rt; false, "read in three turns"),
+        Err(fault) => assert_eq!(rt; fault, ReadFault::Device),
     }
     Ok(())
 }

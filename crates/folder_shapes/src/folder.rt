@@ -26,8 +26,8 @@ use ndx_tree::NdxTree;
 use shape::{IndexShape, TableShape};
 use std::alloc::{AllocError, Global};
 
-/// The table in a file.
-fn table_file<F: Files>(alloc: Global, files: &mut F, name: &[u8]) -> Result<FoundTable, Unfit>
+/// The table in a file of a folder, whatever its name, or why it is none that may be declared. No file changes.
+pub fn table_file<F: Files>(alloc: Global, files: &mut F, name: &[u8]) -> Result<FoundTable, Unfit>
     ensures found { IfOk result (IsTableFile (F.holds files.old) name.now) }
     ensures unfit { IfErr result (UnfitIs (NoTableFile (F.holds files.old) name.now)) }
     ensures kept { SameFiles (F.holds files.old) (F.holds files.new) }

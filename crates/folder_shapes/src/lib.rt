@@ -19,8 +19,9 @@ mod told;
 mod unfit;
 
 pub use declared::FolderDeclared;
-pub use folder::declare;
+pub use folder::{declare, table_file};
 pub use found::FoundTable;
 pub use line::Line;
 pub use note::Note;
 pub use told::LineTold;
+pub use unfit::Unfit;

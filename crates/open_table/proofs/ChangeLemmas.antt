@@ -2,11 +2,12 @@
 use Rattle.std.proofs.Common.{◌≡◌, ℕ, ◌<◌, not, ◌||◌, List, [], ◌∷◌, ◌++◌, length, get_or, set, map, sym, ap, ◌∙◌, subst}
 use Rattle.std.specs.List.{All, Contains}
 use Rattle.std.specs.Prelude.{IfSome}
-use Rattle.dbf_file.specs.Rows.{Row}
+use Rattle.std.proofs.lemmas.List.{set-set, set-get_or, get_or-set_same}
+use Rattle.dbf_file.specs.Rows.{Row, row_at, no_row, text_at, with_text}
 use Rattle.dbf_file.specs.Tables.{StructureState}
 use Rattle.shape.specs.declared.parts.KeyPart.{KeyPart}
-use Rattle.row_keys.specs.Lists.{IsExact, IsAsBefore, HasAdded, HasRemoved, row_pair, index_list}
-use Rattle.row_keys.proofs.IndexLemmas.{IsWithout, ListLaw, exact_same, exact-absent, exact-added, exact-removed, without-absent, without-added}
+use Rattle.row_keys.specs.Lists.{IsExact, IsAsBefore, HasAdded, HasFollowed, row_pair, index_list}
+use Rattle.row_keys.proofs.IndexLemmas.{ListLaw, exact_same, exact-absent, exact-added}
 use Rattle.open_table.specs.Marks.{left_stale, is_among, with_stale}
 use Rattle.open_table.specs.Slots.{SlotState, mark_of, IsListed, IsSlotBy, IsSlot, GoesBy, Along, left_by}
 use Rattle.open_table.proofs.SlotLemmas.{carry, slot_goes, left_slot, listed_some, goes_mark, same_along, map_along, left_mark, some_weaker}
@@ -36,24 +37,22 @@ module _ (law : ListLaw) (s : StructureState) (rows : List Row) (row : Row) wher
       carry (IsSlot s rows) (IsSlot s longer) (GoesBy (HasAdded longer (length rows)))
       (slot_goes s (IsExact s rows) (IsExact s longer) (HasAdded longer (length rows)) (exact-added law s rows row) (λ a b r. r.same)) left new added exact
 
-module _ (law : ListLaw) (s : StructureState) (rows : List Row) (r : ℕ) (row : Row) (lt : r < length rows) where
-  abbrev without_it : SlotState → Type 0
-  without_it = IsSlotBy (IsWithout s rows r) s
+-- the text that a field had, put back
+pub put_back_text : (rows : List Row) (r f : ℕ) (text : List ℕ) → r < length rows → with_text (with_text rows r f text) r f (text_at rows r f) ≡ rows
+put_back_text rows r f text lt =
+    let texts = (row_at rows r).texts in
+    let marked = (row_at rows r).marked in
+    let changed : Row = record { marked = marked; texts = set texts f text } in
+    let there : row_at (set rows r changed) r ≡ changed = get_or-set_same rows r changed no_row lt in
+    ap (λ (row : Row). set (set rows r changed) r (record { marked = row.marked; texts = set row.texts f (text_at rows r f) })) there
+    ∙ set-set rows r changed (record { marked = marked; texts = set (set texts f text) f (text_at rows r f) })
+    ∙ ap (λ ts. set rows r (record { marked = marked; texts = ts })) (set-set texts f text (text_at rows r f) ∙ set-get_or texts f [])
+    ∙ set-get_or rows r no_row
 
-  pub replace_out : (left out : List SlotState) → All (IsSlot s rows) left → Along (GoesBy (HasRemoved rows r)) left out → All without_it out
-  replace_out left out exact removed =
-      carry (IsSlot s rows) without_it (GoesBy (HasRemoved rows r))
-      (slot_goes s (IsExact s rows) (IsWithout s rows r) (HasRemoved rows r) (exact-removed s rows r) (λ a b r. r.same)) left out removed exact
-
-  pub replace_absent : (out : List SlotState) → All without_it out → All (λ slot. IfSome slot.index (λ x. Contains x.pairs (row_pair x.parts (set rows r row) r) → ⊥)) out
-  replace_absent out exact i d less =
-      let slot = get_or out i d in
-      listed_some (IsWithout s rows r) (λ x. Contains x.pairs (row_pair x.parts (set rows r row) r) → ⊥) slot.parts slot.text (without-absent law s rows r row lt) slot.index (exact i d less).listed
-
-  pub replace_exact : (out new : List SlotState) → All without_it out → Along (GoesBy (HasAdded (set rows r row) r)) out new → All (IsSlot s (set rows r row)) new
-  replace_exact out new exact added =
-      carry without_it (IsSlot s (set rows r row)) (GoesBy (HasAdded (set rows r row) r))
-      (slot_goes s (IsWithout s rows r) (IsExact s (set rows r row)) (HasAdded (set rows r row) r) (without-added law s rows r row lt) (λ a b r. r.same)) out new added exact
+pub follows_exact : (s : StructureState) (rows others : List Row) (left new : List SlotState) → All (IsSlot s rows) left → Along (GoesBy (HasFollowed s others)) left new → All (IsSlot s others) new
+follows_exact s rows others left new exact followed =
+    carry (IsSlot s rows) (IsSlot s others) (GoesBy (HasFollowed s others))
+    (slot_goes s (IsExact s rows) (IsExact s others) (HasFollowed s others) (λ a b e r. r.exact) (λ a b r. r.same)) left new followed exact
 
 -- rows whose lists are those of other rows
 pub same_lists : (s : StructureState) (rows others : List Row) → ((parts : List KeyPart) → index_list parts others ≡ index_list parts rows) → (a : SlotState) → IsSlot s rows a → IsSlot s others a

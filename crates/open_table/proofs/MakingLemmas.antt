@@ -1,14 +1,16 @@
 -- Lists of declared indexes made anew.
-use Rattle.std.proofs.Common.{◌≡◌, ℕ, ◌≤◌, Bool, true, false, not, ◌||◌, ◌&&◌, Option, Some, None, List, [], ◌∷◌, length, filter, suc, get_or, map, cond, is_none, is_some, refl, sym, ap, ◌∙◌, subst, arith}
+use Rattle.std.proofs.Common.{◌≡◌, ℕ, ◌*◌, ◌≤◌, Bool, true, false, not, ◌||◌, ◌&&◌, Option, Some, None, List, [], ◌∷◌, length, filter, suc, get_or, map, cond, is_none, is_some, refl, sym, ap, ◌∙◌, subst, arith}
 use Rattle.std.specs.List.{All}
-use Rattle.std.specs.Prelude.{IfSome, IsSomeAnd, MatchBool}
+use Rattle.std.specs.Prelude.{IfSome, IsSomeAnd, MatchBool, slice_get}
+use Rattle.std.proofs.Math.Nat.{mul-le-mul}
 use Rattle.dbf_file.specs.Rows.{Row}
 use Rattle.dbf_file.specs.Tables.{StructureState}
 use Rattle.key_lists.specs.KeyForm.{IsKeyText}
 use Rattle.shape.specs.Keys.{IsKey}
 use Rattle.row_keys.specs.declared.building.Kept.TheVariants.{Every, Nothing}
 use Rattle.row_keys.specs.Lists.{IndexState, IsExact, kept_rows}
-use Rattle.open_table.specs.Marks.{IndexMark, is_among, with_stale}
+use Rattle.open_table.specs.Marks.{IndexMark, is_among, is_fresh, mark_at, count_stale, with_stale}
+use Rattle.open_table.specs.Tables.{IndexedState, IsOrder}
 use Rattle.open_table.specs.Slots.{SlotState, mark_of, IsListed, IsSlot, IsSameSlot, Along, is_wanted, PutsBy, Prepares, committed, discarded}
 use Rattle.open_table.proofs.SlotLemmas.{same_mark, map_along, along_chain, along_same}
 
@@ -72,14 +74,25 @@ module _ (s : StructureState) (rows others : List Row) (numbers : List ℕ) (onl
       map_along mark_of f (λ a c. mark_of c ≡ f (mark_of a)) (λ a c e. e) old new
       (along_chain (Prepares s others numbers only_stale) (λ a b. b ≡ committed gives_up a) (λ a c. mark_of c ≡ f (mark_of a)) (made_mark f is_f) old mid new made put)
 
+-- where the first index is stale, making it pays for a pass over the rows
+stale_first : (fresh : Bool) (n : ℕ) (rest : List ℕ) → (fresh ≡ true → ⊥) → 1 ≤ length (cond (not fresh) (n ∷ rest) rest)
+stale_first true n rest stale = absurd (stale refl)
+stale_first false n rest stale = omega arith
+
+some_stale : (list : List ℕ) (t : IndexedState) → (IsOrder (slice_get list 0) t → ⊥) → 1 ≤ count_stale list t.marks
+some_stale [] t stale = absurd (stale tt)
+some_stale (n ∷ list) t stale = stale_first (is_fresh (mark_at t.marks n)) n (filter (λ k. not (is_fresh (mark_at t.marks k))) list) stale
+
+pub pays_for : (list : List ℕ) (t : IndexedState) (base : ℕ) → base ≡ length t.rows * count_stale list t.marks → (IsOrder (slice_get list 0) t → ⊥) → length t.rows ≤ base
+pays_for list t base e stale =
+    let some = some_stale list t stale in
+    let all : length t.rows * 1 ≤ length t.rows * count_stale list t.marks = mul-le-mul (omega arith) some in
+    omega (arith, all, e)
+
 -- rows all of which are kept
 pub every_kept : (rows : List Row) → kept_rows Every rows ≡ rows
 every_kept [] = refl
 every_kept (row ∷ rows) = ap (λ rs. row ∷ rs) (every_kept rows)
-
-pub nothing_kept : (rows : List Row) → kept_rows Nothing rows ≡ []
-nothing_kept [] = refl
-nothing_kept (row ∷ rows) = nothing_kept rows
 
 -- what becomes of the marks
 remade_stale : (among only stale : Bool) → (stale && not among) ≡ cond (among && (stale || not only)) false (cond false true stale)

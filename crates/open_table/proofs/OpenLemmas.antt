@@ -63,7 +63,7 @@ open_remade t u list numbers order is_open e = record {
 }
 
 -- a change of the table, and the move at its end
-pub ended_by : (ended : Result Landed Refused) (result : Result ℕ Refused) (old v changed new : OpenState) (landing : Landing) (budget : ℕ) → OnOk ended (v ≡ changed) → OnErr ended (v ≡ old) → is_ok result ≡ is_ok ended → IsEnded v v new landing budget result → IsEnded old changed new landing budget result
+pub ended_by : (ended : Result Landed Refused) (result : Result ℕ Refused) (old v changed new : OpenState) (landing : Landing) (budget : ℕ) → OnOk ended (v ≡ changed) → OnErr ended (v ≡ old) → is_ok result ≡ is_ok ended → IsEnded (landed v) v new landing budget result → IsEnded (landed changed) old new landing budget result
 ended_by (Ok x) (Ok cost) old v changed new landing budget e f s h = (h.0, h.1, h.2 ∙ ap (λ a. landed a landing) e)
 ended_by (Ok x) (Err r) old v changed new landing budget e f s h = cc
 ended_by (Err x) (Ok cost) old v changed new landing budget e f s h = cc

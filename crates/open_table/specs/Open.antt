@@ -45,10 +45,10 @@ landed a landing = record {
   found = landing.found;
 }
 
--- a move that the budget covers, or one whose cost is above it and that changes nothing
-abbrev pub IsMoved : OpenState → OpenState → Landing → ℕ → Result ℕ Spent → Type 0
-IsMoved old new landing budget result = MatchResult result
-    (λ cost. (cost ≡ 1 + landing.met) × (cost ≤ budget) × (new ≡ landed old landing))
+-- a move that the budget covers makes this of where it leads; one whose cost is above it changes nothing
+abbrev pub IsMoved : {S : Type 0} → (Landing → S) → S → S → Landing → ℕ → Result ℕ Spent → Type 0
+IsMoved moved old new landing budget result = MatchResult result
+    (λ cost. (cost ≡ 1 + landing.met) × (cost ≤ budget) × (new ≡ moved landing))
     (λ _. (budget < 1 + landing.met) × (new ≡ old))
 
 -- the record of a number, none where there aren't so many
@@ -124,10 +124,10 @@ remarked_at a marked (Some r) = remarked r marked a.table
 abbrev pub remarked_here : Bool → OpenState → OpenState
 remarked_here marked a = with_table a (remarked_at a marked (place_in (length a.table.rows) a.pointer))
 
--- a change that made this of the table in use, and ends with a move; one that is refused changes nothing
-abbrev pub IsEnded : OpenState → OpenState → OpenState → Landing → ℕ → Result ℕ Refused → Type 0
-IsEnded old changed new landing budget result = MatchResult result
-    (λ cost. (cost ≡ 1 + landing.met) × (cost ≤ budget) × (new ≡ landed changed landing))
+-- a change that ends with a move makes this of where that leads; one that is refused changes nothing
+abbrev pub IsEnded : {S : Type 0} → (Landing → S) → S → S → Landing → ℕ → Result ℕ Refused → Type 0
+IsEnded changed old new landing budget result = MatchResult result
+    (λ cost. (cost ≡ 1 + landing.met) × (cost ≤ budget) × (new ≡ changed landing))
     (λ refused. IsRefusal landing budget refused × (new ≡ old))
 
 -- the order of a list that is opened: its first index, or record order where it is empty

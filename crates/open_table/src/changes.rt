@@ -1,7 +1,7 @@
 //! Changes of a table together with its declared indexes.
 
 ghost use Rattle.std.specs.Prelude.{◌≡◌, ℕ, ◌+◌, ◌<◌, ◌≤◌, ◌∷◌, [], ◌++◌, All, OnOk, OnErr, length, map, slice_index};
-ghost use Rattle.dbf_file.specs.Rows.{blank_row, unmarked, with_text};
+ghost use Rattle.dbf_file.specs.Rows.{blank_row, text_at, unmarked, with_text};
 ghost use Rattle.dbf_file.specs.Tables.{row_widths, letter_at, decimals_at};
 ghost use Rattle.dbf_file.specs.Values.{kind_for, text_by};
 ghost use Rattle.open_table.specs.Marks.{left_stale, made_fresh, only_fresh};
@@ -9,7 +9,8 @@ ghost use Rattle.open_table.specs.Slots.{IsSlot, mark_of};
 ghost use Rattle.xvalue.specs.Kinds.{kind_of};
 
 use crate::slot::Slot;
-use crate::slots::{add_all, commit_all, leave_all, make_all, remove_all, reserve_all};
+use crate::slots::{add_all, commit_all, follow_all, leave_all, make_all, reserve_all};
+use arrayvec::ArrayVec;
 use dbf_file::Table;
 use key_lists::KeyList;
 use row_keys::Kept;
@@ -43,8 +44,8 @@ pub(crate) fn append<K: KeyList>(
     Ok(())
 }
 
-/// Writes a value of the field's kind into field `f` of row `r`, both counted from 0, and has each open index follow;
-/// the others go stale. Where memory is missing, rows and lists are as they were.
+/// Writes a value of the field's kind into field `f` of row `r`, both counted from 0, and has each open index follow,
+/// where the row's key doesn't stay equal; the others go stale. Where memory is missing, rows and lists are as they were.
 pub(crate) fn replace<K: KeyList>(
     table: &mut Table,
     slots: &mut Vec<Slot<K>>,
@@ -69,10 +70,24 @@ pub(crate) fn replace<K: KeyList>(
     index_lists();
     reserve_all(slots, list)?;
     leave_all(slots, list);
-    remove_all(slots, table, r);
+    let before = text_of(table, r, f);
     table.put_at(r, f, from);
-    add_all(slots, table, r);
+    follow_all(slots, table, r, f, before.as_slice());
     Ok(())
+}
+
+/// The text of field `f` of row `r`, both counted from 0.
+fn text_of(table: &Table, r: usize, f: usize) -> ArrayVec<u8, 255>
+    requires row { r < length table.now.rows }
+    requires field { f < length table.now.structure.fields }
+    ensures text { result.items ≡ text_at table.now.rows r f }
+    ensures width { length result.items ≡ slice_index (row_widths table.now.structure) f }
+{
+    let mut copy = ArrayVec::new();
+    let width = usize::from(table.structure().fields()[f].width);
+    copy.try_extend_from_slice(&table.field(r, f)[..width])
+        .unwrap();
+    copy
 }
 
 /// Makes these indexes anew, or those of them that are stale; no row changes, and no other index. Where memory is

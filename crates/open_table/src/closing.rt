@@ -1,26 +1,94 @@
 //! The TOP that ends a change, judged before anything changes.
+//!
+//! TOP goes along the list of its order, so that it meets no more rows than the budget left pays, and one. Where that
+//! list is stale, or is made anew of the rows that are kept, passes over the rows find TOP. The base pays for them, and
+//! where the budget doesn't cover it no pass is made.
 
-ghost use Rattle.std.specs.Prelude.{◌≡◌, ℕ, ◌≤◌, Bool, true, length, map};
+ghost use Rattle.std.specs.Prelude.{◌≡◌, ℕ, ◌+◌, ◌^◌, ◌<◌, ◌≤◌, Bool, true, length, map};
 ghost use Rattle.std.specs.Fn.{FnReturnsAt};
 ghost use Rattle.row_keys.specs.Lists.{kept_rows};
-ghost use Rattle.row_moves.specs.Moves.{IsMove, end_of};
+ghost use Rattle.row_moves.specs.Moves.{IsMove, Landing, Lands, end_of};
 ghost use Rattle.open_table.specs.Passes.{behind};
 ghost use Rattle.open_table.specs.Slots.{mark_of};
-ghost use Rattle.open_table.specs.Tables.{IsIndexed, pairs_in};
+ghost use Rattle.open_table.specs.Tables.{IsIndexed, IsOrder, indexed, order_pairs, pairs_in};
 ghost use Rattle.open_table.specs.Tried.{ShowsRows};
 
-use crate::keyed::key_of_order;
+use crate::keyed::{has_order, key_of_order};
 use crate::passes::first_of;
 use crate::row::Row;
 use crate::slot::Slot;
+use crate::trying::go_to_end;
 use dbf_file::Table;
 use key_lists::KeyList;
 use key_lists::laws::puts_in_order;
 use row_keys::Kept;
 use row_moves::{Landed, Spent};
 
-/// TOP in an order among the rows that are kept, at a cost that is higher by a base.
+/// TOP in an order, at a cost that is higher by a base.
 pub(crate) fn judge<K: KeyList, F: Fn(&Row<'_>) -> bool>(
+    table: &Table,
+    slots: &mut Vec<Slot<K>>,
+    order: Option<u8>,
+    see: &F,
+    base: u64,
+    budget: u64,
+) -> Result<Landed, Spent>
+    requires indexed { IsIndexed table.now.structure table.now.rows slots.old.items }
+    requires callable { F.IsAlwaysCallable see.now }
+    requires base { base ≤ 1000000000 }
+    requires paid { ¬ IsOrder order (indexed table.now.structure table.now.rows slots.old.items)
+        → length table.now.rows ≤ base }
+    ensures lands { (shown : ℕ → Bool) → ShowsRows (FnReturnsAt F.Fn) see.now table.now.structure table.now.rows shown
+        → IsMove (behind base (end_of shown true (order_pairs order
+        (indexed table.now.structure table.now.rows slots.old.items)))) budget result }
+    ensures same { slots.new.items ≡ slots.old.items }
+{
+    if has_order(slots, order) {
+        return judge_along(table, slots, order, see, base, budget);
+    }
+    judge_kept(table, slots, order, Kept::Every, see, base, budget)
+}
+
+/// TOP along the list of an order, at a cost that is higher by a base.
+fn judge_along<K: KeyList, F: Fn(&Row<'_>) -> bool>(
+    table: &Table,
+    slots: &mut Vec<Slot<K>>,
+    order: Option<u8>,
+    see: &F,
+    base: u64,
+    budget: u64,
+) -> Result<Landed, Spent>
+    requires indexed { IsIndexed table.now.structure table.now.rows slots.old.items }
+    requires order { IsOrder order (indexed table.now.structure table.now.rows slots.old.items) }
+    requires callable { F.IsAlwaysCallable see.now }
+    requires base { base ≤ 1000000000 }
+    ensures lands { (shown : ℕ → Bool) → ShowsRows (FnReturnsAt F.Fn) see.now table.now.structure table.now.rows shown
+        → IsMove (behind base (end_of shown true (order_pairs order
+        (indexed table.now.structure table.now.rows slots.old.items)))) budget result }
+    ensures same { slots.new.items ≡ slots.old.items }
+{
+    if budget < base {
+        return Err(Spent);
+    }
+    match go_to_end(table, slots, order, true, see, budget - base) {
+        Ok(landed) => Ok(dearer(landed, base)),
+        Err(spent) => Err(spent),
+    }
+}
+
+/// The same move, at a cost that is higher by a base.
+fn dearer(landed: Landed, base: u64) -> Landed
+    ensures { (landing : Landing) (budget left : ℕ) → Lands landing left landed → left + base ≤ budget → budget < 2 ^ 64
+        → Lands (behind base landing) budget result }
+{
+    Landed {
+        cost: landed.cost.saturating_add(base),
+        ..landed
+    }
+}
+
+/// TOP in an order among the rows that are kept, at a cost that is higher by a base, which pays for the passes.
+pub(crate) fn judge_kept<K: KeyList, F: Fn(&Row<'_>) -> bool>(
     table: &Table,
     slots: &Vec<Slot<K>>,
     order: Option<u8>,
@@ -32,6 +100,7 @@ pub(crate) fn judge<K: KeyList, F: Fn(&Row<'_>) -> bool>(
     requires indexed { IsIndexed table.now.structure table.now.rows slots.now.items }
     requires callable { F.IsAlwaysCallable see.now }
     requires base { base ≤ 1000000000 }
+    requires paid { length table.now.rows ≤ base }
     ensures { (shown : ℕ → Bool)
         → ShowsRows (FnReturnsAt F.Fn) see.now table.now.structure (kept_rows kept table.now.rows) shown
         → IsMove (behind base (end_of shown true

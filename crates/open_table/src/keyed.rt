@@ -1,13 +1,13 @@
 //! Declared indexes by their numbers.
 
-ghost use Rattle.std.specs.Prelude.{◌≡◌, ℕ, ◌≤◌, List, [], All, length, map, is_some, IfSome, slice_index_or};
+ghost use Rattle.std.specs.Prelude.{◌↔◌, ◌≡◌, ℕ, ◌≤◌, List, [], All, length, map, is_some, IfSome, IsTrue};
 ghost use Rattle.dbf_file.specs.Rows.{Row as TheRow};
 ghost use Rattle.dbf_file.specs.Tables.{StructureState};
 ghost use Rattle.shape.specs.Keys.{IsKey};
 ghost use Rattle.row_keys.specs.Lists.{index_list};
 ghost use Rattle.open_table.specs.Marks.{mark_at, is_fresh, parts_in, form_in, count_stale};
 ghost use Rattle.open_table.specs.Slots.{IsSlot, mark_of};
-ghost use Rattle.open_table.specs.Tables.{order_parts};
+ghost use Rattle.open_table.specs.Tables.{IsOrder, indexed, order_parts};
 
 use crate::slot::Slot;
 use dbf_file::Table;
@@ -50,6 +50,17 @@ pub(crate) fn has_fresh<K: KeyList>(slots: &Vec<Slot<K>>, number: u8) -> bool
         }
     }
     false
+}
+
+/// Whether there is a list of the rows in an order: it is record order, or its index isn't stale.
+pub(crate) fn has_order<K: KeyList>(slots: &Vec<Slot<K>>, order: Option<u8>) -> bool
+    ensures { (s : StructureState) (rows : List TheRow)
+        → IsTrue result ↔ IsOrder order (indexed s rows slots.now.items) }
+{
+    match order {
+        Some(number) => has_fresh(slots, number),
+        None => true,
+    }
 }
 
 /// Whether there is an index of this number.

@@ -20,7 +20,7 @@ ghost use Rattle.dbf_file.specs.Rows.{unmarked};
 ghost use Rattle.open_table.specs.Tried.{ShowsRows};
 ghost use Rattle.open_table.specs.Open.{IsMoved, IsEnded, opened, closed, first_order, with_table, order_index};
 ghost use Rattle.open_table.specs.Open.{gone_to, with_blank, place_in, replaced_here, remarked_here, reordered};
-ghost use Rattle.open_table.specs.Open.{deleted_of, field_of, within, within as within_of};
+ghost use Rattle.open_table.specs.Open.{deleted_of, field_of, landed as landed_at, within, within as within_of};
 
 use crate::{IndexedTable, Refused, Row};
 use arrayvec::ArrayVec;
@@ -182,7 +182,7 @@ impl<K: KeyList> OpenTable<K> {
     /// Goes where a move led, and tells its cost; a move that cost too much changes nothing.
     fn settle(&mut self, moved: Result<Landed, Spent>) -> Result<u64, Spent>
         ensures { (landing : Landing) (budget : ℕ) → IsMove landing budget moved
-            → IsMoved self.old self.new landing budget result }
+            → IsMoved (landed_at self.old) self.old self.new landing budget result }
     {
         match moved {
             Ok(landed) => Ok(self.land(landed)),
@@ -195,7 +195,7 @@ impl<K: KeyList> OpenTable<K> {
         requires { F.IsAlwaysCallable see }
         ensures { (shown : ℕ → Bool)
             → ShowsRows (FnReturnsAt F.Fn) see self.old.table.structure self.old.table.rows shown
-            → IsMoved self.old self.new (end_of shown true
+            → IsMoved (landed_at self.old) self.old self.new (end_of shown true
             (order_pairs (order_index self.old.order self.old.list) self.old.table)) budget result }
     {
         let order = self.order_index();
@@ -208,7 +208,7 @@ impl<K: KeyList> OpenTable<K> {
         requires { F.IsAlwaysCallable see }
         ensures { (shown : ℕ → Bool)
             → ShowsRows (FnReturnsAt F.Fn) see self.old.table.structure self.old.table.rows shown
-            → IsMoved self.old self.new (end_of shown false
+            → IsMoved (landed_at self.old) self.old self.new (end_of shown false
             (order_pairs (order_index self.old.order self.old.list) self.old.table)) budget result }
     {
         let order = self.order_index();
@@ -227,7 +227,7 @@ impl<K: KeyList> OpenTable<K> {
         requires { F.IsAlwaysCallable see }
         ensures { (shown : ℕ → Bool)
             → ShowsRows (FnReturnsAt F.Fn) see self.old.table.structure self.old.table.rows shown
-            → IsMoved self.old self.new (skipped shown steps
+            → IsMoved (landed_at self.old) self.old self.new (skipped shown steps
             (pair_at (order_index self.old.order self.old.list) self.old.table self.old.pointer)
             (order_pairs (order_index self.old.order self.old.list) self.old.table)) budget result }
     {
@@ -249,7 +249,7 @@ impl<K: KeyList> OpenTable<K> {
         requires order { 1 ≤ self.old.order }
         ensures { (shown : ℕ → Bool)
             → ShowsRows (FnReturnsAt F.Fn) see self.old.table.structure self.old.table.rows shown
-            → IsMoved self.old self.new (sought shown exact text.now
+            → IsMoved (landed_at self.old) self.old self.new (sought shown exact text.now
             (order_pairs (order_index self.old.order self.old.list) self.old.table)) budget result }
     {
         let number = self.key_index();
@@ -419,7 +419,7 @@ impl<K: KeyList> OpenTable<K> {
     /// changes nothing.
     fn finish(&mut self, ended: Result<Landed, Refused>) -> Result<u64, Refused>
         ensures ends { (landing : Landing) (budget : ℕ) → IsClosing landing budget ended
-            → IsEnded self.old self.old self.new landing budget result }
+            → IsEnded (landed_at self.old) self.old self.new landing budget result }
         ensures same { is_ok result ≡ is_ok ended }
     {
         match ended {
@@ -439,7 +439,7 @@ impl<K: KeyList> OpenTable<K> {
         requires { F.IsAlwaysCallable see }
         ensures { (shown : ℕ → Bool)
             → ShowsRows (FnReturnsAt F.Fn) see self.old.table.structure (unmarked self.old.table.rows) shown
-            → IsEnded self.old (with_table self.old (packed self.old.list self.old.table)) self.new
+            → IsEnded (landed_at (with_table self.old (packed self.old.list self.old.table))) self.old self.new
             (behind (length self.old.table.rows + length (unmarked self.old.table.rows) * length self.old.list)
             (end_of shown true (pairs_in (order_index self.old.order self.old.list) self.old.table.marks
             (unmarked self.old.table.rows)))) budget result }
@@ -454,7 +454,7 @@ impl<K: KeyList> OpenTable<K> {
     /// ZAP: removes every row; TOP then comes to the end of file. Where it is refused nothing changes.
     pub fn zap(&mut self, alloc: Global, budget: u64) -> Result<u64, Refused>
         ensures { (shown : ℕ → Bool)
-            → IsEnded self.old (with_table self.old (cleared self.old.list self.old.table)) self.new
+            → IsEnded (landed_at (with_table self.old (cleared self.old.list self.old.table))) self.old self.new
             (end_of shown true []) budget result }
     {
         let ended = self.table.zap(alloc, self.list.as_slice(), budget);
@@ -471,7 +471,7 @@ impl<K: KeyList> OpenTable<K> {
         requires { F.IsAlwaysCallable see }
         ensures { (shown : ℕ → Bool)
             → ShowsRows (FnReturnsAt F.Fn) see self.old.table.structure self.old.table.rows shown
-            → IsEnded self.old (with_table self.old (remade self.old.list self.old.table)) self.new
+            → IsEnded (landed_at (with_table self.old (remade self.old.list self.old.table))) self.old self.new
             (behind (length self.old.table.rows * length self.old.list)
             (end_of shown true (order_pairs (order_index self.old.order self.old.list) self.old.table))) budget result }
     {
@@ -507,14 +507,11 @@ impl<K: KeyList> OpenTable<K> {
         requires declared { All (λ n. is_some (mark_at self.old.table.marks n) ≡ true) list.now }
         ensures { (shown : ℕ → Bool)
             → ShowsRows (FnReturnsAt F.Fn) see self.old.table.structure self.old.table.rows shown
-            → IsEnded self.old (opened list.now self.old) self.new
+            → IsEnded (landed_at (opened list.now self.old)) self.old self.new
             (behind (length self.old.table.rows * count_stale list.now self.old.table.marks)
             (end_of shown true (order_pairs (slice_get list.now 0) self.old.table))) budget result }
     {
-        match self
-            .table
-            .open(alloc, list, first_index(list), &see, budget)
-        {
+        match self.table.open(alloc, list, &see, budget) {
             Ok(landed) => {
                 self.list = held(list);
                 self.order = order_of(list);
@@ -537,7 +534,7 @@ impl<K: KeyList> OpenTable<K> {
         requires declared { is_some (mark_at self.old.table.marks number) ≡ true }
         ensures { (shown : ℕ → Bool)
             → ShowsRows (FnReturnsAt F.Fn) see self.old.table.structure self.old.table.rows shown
-            → IsEnded self.old (opened (number ∷ []) self.old) self.new
+            → IsEnded (landed_at (opened (number ∷ []) self.old)) self.old self.new
             (behind (length self.old.table.rows)
             (end_of shown true (order_pairs (Some number) self.old.table))) budget result }
     {
@@ -561,13 +558,6 @@ fn blank_value(table: &Table, f: usize) -> Value
 {
     let field = &table.structure().fields()[f];
     value(field, &[b' '; 255][..usize::from(field.width)])
-}
-
-/// The first of some indexes.
-fn first_index(list: &[u8]) -> Option<u8>
-    ensures { result ≡ slice_get list.now 0 }
-{
-    list.first().copied()
 }
 
 /// The order of indexes that are opened: that of the first, or record order where there is none.

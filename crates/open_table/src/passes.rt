@@ -1,4 +1,4 @@
-//! TOP found by passes over rows in record order, where there is no list of them. They take no memory.
+//! TOP found by passes over all rows in record order, where there is no list of them. They take no memory.
 
 ghost use Rattle.std.specs.Prelude.{◌≡◌, ℕ, ◌+◌, ◌<◌, ◌≤◌, Bool, Some, None, [], IfOk, true, option_map, length};
 ghost use Rattle.std.specs.Prelude.{if◌then◌else◌};
@@ -180,7 +180,7 @@ fn met_before(table: &Table, key: &KeyParts, kept: Kept, best: &Option<Entry>) -
 }
 
 /// TOP among the rows that are kept, in the order of a key, at a cost that is higher by a base. No parts are record
-/// order.
+/// order. Where the budget doesn't cover the base, no row is passed.
 pub(crate) fn first_of<F: Fn(&Row<'_>) -> bool>(
     table: &Table,
     key: &KeyParts,
@@ -193,10 +193,14 @@ pub(crate) fn first_of<F: Fn(&Row<'_>) -> bool>(
     requires key { 1 ≤ length key.now → IsKey table.now.structure key.now }
     requires callable { F.IsAlwaysCallable see.now }
     requires base { base ≤ 1000000000 }
+    requires paid { length table.now.rows ≤ base }
     ensures { (shown : ℕ → Bool)
         → ShowsRows (FnReturnsAt F.Fn) see.now table.now.structure (kept_rows kept table.now.rows) shown
         → IsMove (behind base (end_of shown true (index_list key.now (kept_rows kept table.now.rows)))) budget result }
 {
+    if budget <= base {
+        return Err(Spent);
+    }
     index_lists();
     orders_pairs();
     let count = count_kept(table, kept);

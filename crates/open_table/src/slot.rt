@@ -2,13 +2,13 @@
 
 ghost use Rattle.std.specs.Prelude.{◌≡◌, ℕ, ◌+◌, ◌<◌, ◌≤◌, ◌^◌, ◌-◌, ◌↔◌, Bool, true, false, None, Some, is_none};
 ghost use Rattle.std.specs.Prelude.{is_some, IfSome, OnOk, IfOk, MatchBool, IsSomeAnd, IsTrue, Contains, length};
-ghost use Rattle.std.specs.Prelude.{if◌then◌else◌};
+ghost use Rattle.std.specs.Prelude.{if◌then◌else◌, slice_index};
 ghost use Rattle.key_lists.specs.KeyForm.{KeyForm, IsKeyText};
 ghost use Rattle.dbf_file.specs.Tables.{row_widths};
-ghost use Rattle.dbf_file.specs.Rows.{row_at};
+ghost use Rattle.dbf_file.specs.Rows.{row_at, with_text};
 ghost use Rattle.shape.specs.Keys.{IsKey, key_of, key_length};
 ghost use Rattle.row_keys.specs.Lists.{index_list, row_pair, kept_rows, IsExact, IsIndexOf, IsAsBefore, HasAdded};
-ghost use Rattle.row_keys.specs.Lists.{HasRemoved};
+ghost use Rattle.row_keys.specs.Lists.{HasFollowed};
 ghost use Rattle.row_moves.specs.Orders.{MayTry, Sees};
 ghost use Rattle.row_moves.specs.Moves.{IsMove, end_of, skipped, sought};
 ghost use Rattle.open_table.specs.Marks.{is_among as is_among_of};
@@ -217,15 +217,19 @@ impl<K: KeyList> Slot<K> {
         }
     }
 
-    /// Takes the pair of row `r`, counted from 0, out of the list.
-    pub(crate) fn remove_row(&mut self, table: &Table, r: usize)
+    /// Has the list follow a change of row `r`: field `f` of it, both counted from 0, had this text before.
+    pub(crate) fn follow(&mut self, table: &Table, r: usize, f: usize, before: &[u8])
         requires row { r < length table.now.rows }
         requires few { r < 1000000 }
-        requires index { IfSome self.old.index (IsIndexOf table.now.structure) }
-        ensures { GoesBy (HasRemoved table.now.rows r) self.old self.new }
+        requires field { f < length table.now.structure.fields }
+        requires width { length before.now ≡ slice_index (row_widths table.now.structure) f }
+        requires exact { IfSome self.old.index
+            (IsExact table.now.structure (with_text table.now.rows r f before.now)) }
+        requires reserved { IfSome self.old.index (λ x. 0 < x.spare) }
+        ensures { GoesBy (HasFollowed table.now.structure table.now.rows) self.old self.new }
     {
         match &mut self.index {
-            Some(index) => index.remove_row(table, r),
+            Some(index) => index.follow(table, r, f, before),
             None => {}
         }
     }

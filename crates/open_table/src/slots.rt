@@ -1,8 +1,10 @@
 //! The declared indexes of a table, all at once.
 
 ghost use Rattle.std.specs.Prelude.{◌≡◌, ℕ, ◌+◌, ◌<◌, ◌≤◌, ◌^◌, Bool, true, None, IfSome, OnOk, OnErr, Contains, All};
-ghost use Rattle.std.specs.Prelude.{length, position, ◌==◌};
-ghost use Rattle.row_keys.specs.Lists.{kept_rows, row_pair, IsIndexOf, IsAsBefore, HasAdded, HasRemoved};
+ghost use Rattle.std.specs.Prelude.{length, position, ◌==◌, slice_index};
+ghost use Rattle.dbf_file.specs.Rows.{with_text};
+ghost use Rattle.dbf_file.specs.Tables.{row_widths};
+ghost use Rattle.row_keys.specs.Lists.{kept_rows, row_pair, IsExact, IsIndexOf, IsAsBefore, HasAdded, HasFollowed};
 ghost use Rattle.open_table.specs.Slots.{Along, GoesBy, HasRoom, IsSlot, PutsBy, Prepares, committed, discarded};
 ghost use Rattle.open_table.specs.Slots.{left_by};
 
@@ -51,15 +53,25 @@ pub(crate) fn add_all<K: KeyList>(slots: &mut Vec<Slot<K>>, table: &Table, r: us
     }
 }
 
-/// Takes the pair of row `r`, counted from 0, out of each list.
-pub(crate) fn remove_all<K: KeyList>(slots: &mut Vec<Slot<K>>, table: &Table, r: usize)
+/// Has each list follow a change of row `r`: field `f` of it, both counted from 0, had this text before.
+pub(crate) fn follow_all<K: KeyList>(
+    slots: &mut Vec<Slot<K>>,
+    table: &Table,
+    r: usize,
+    f: usize,
+    before: &[u8],
+)
     requires row { r < length table.now.rows }
     requires few { r < 1000000 }
-    requires index { All (λ slot. IfSome slot.index (IsIndexOf table.now.structure)) slots.old.items }
-    ensures { Along (GoesBy (HasRemoved table.now.rows r)) slots.old.items slots.new.items }
+    requires field { f < length table.now.structure.fields }
+    requires width { length before.now ≡ slice_index (row_widths table.now.structure) f }
+    requires exact { All (λ slot. IfSome slot.index
+        (IsExact table.now.structure (with_text table.now.rows r f before.now))) slots.old.items }
+    requires reserved { All (λ slot. IfSome slot.index (λ x. 0 < x.spare)) slots.old.items }
+    ensures { Along (GoesBy (HasFollowed table.now.structure table.now.rows)) slots.old.items slots.new.items }
 {
     for slot in slots.iter_mut() {
-        slot.remove_row(table, r);
+        slot.follow(table, r, f, before);
     }
 }
 

@@ -1,9 +1,9 @@
 //! A table with its declared indexes.
 
 ghost use Rattle.std.specs.Prelude.{◌∷◌, ◌++◌, ◌*◌, true, ◌≡◌, ℕ, ◌+◌, ◌-◌, ◌<◌, ◌≤◌, Bool, OnOk, OnErr, Some, None};
-ghost use Rattle.std.specs.Prelude.{[], length, is_none, is_some, IfSome, IsSomeAnd};
+ghost use Rattle.std.specs.Prelude.{[], length, is_none, is_some, slice_get, IfSome, IsSomeAnd};
 ghost use Rattle.dbf_file.specs.Rows.{row_at, unmarked};
-ghost use Rattle.row_keys.specs.Lists.{index_list, kept_rows};
+ghost use Rattle.row_keys.specs.Lists.{index_list};
 ghost use Rattle.dbf_file.specs.Tables.{letter_at, decimals_at, row_widths};
 ghost use Rattle.dbf_file.specs.Values.{kind_for};
 ghost use Rattle.key_lists.specs.KeyForm.{IsKeyText};
@@ -238,23 +238,51 @@ impl<K: KeyList> IndexedTable<K> {
         changes::clear(alloc, &mut self.table, &mut self.slots, list)
     }
 
-    /// TOP in an order among the rows that are kept, at a cost that is higher by a base.
+    /// TOP in an order, at a cost that is higher by a base.
     fn judge<F: Fn(&Row<'_>) -> bool>(
-        &self,
+        &mut self,
         order: Option<u8>,
-        kept: Kept,
         see: &F,
         base: u64,
         budget: u64,
     ) -> Result<Landed, Spent>
         requires callable { F.IsAlwaysCallable see.now }
         requires base { base ≤ 1000000000 }
-        ensures { (shown : ℕ → Bool)
-            → ShowsRows (FnReturnsAt F.Fn) see.now self.now.structure (kept_rows kept self.now.rows) shown
-            → IsMove (behind base (end_of shown true
-            (pairs_in order self.now.marks (kept_rows kept self.now.rows)))) budget result }
+        // Where the list of the order isn't there, the base pays for passes over the rows.
+        requires paid { ¬ IsOrder order self.old → length self.old.rows ≤ base }
+        ensures lands { (shown : ℕ → Bool) → ShowsRows (FnReturnsAt F.Fn) see.now self.old.structure self.old.rows shown
+            → IsMove (behind base (end_of shown true (order_pairs order self.old))) budget result }
+        ensures same { self.new ≡ self.old }
     {
-        closing::judge(&self.table, &self.slots, order, kept, see, base, budget)
+        closing::judge(&self.table, &mut self.slots, order, see, base, budget)
+    }
+
+    /// TOP in an order among the rows that aren't marked, as they are numbered without the others, at a cost that is
+    /// higher by a base.
+    fn judge_unmarked<F: Fn(&Row<'_>) -> bool>(
+        &self,
+        order: Option<u8>,
+        see: &F,
+        base: u64,
+        budget: u64,
+    ) -> Result<Landed, Spent>
+        requires callable { F.IsAlwaysCallable see.now }
+        requires base { base ≤ 1000000000 }
+        requires paid { length self.now.rows ≤ base }
+        ensures { (shown : ℕ → Bool)
+            → ShowsRows (FnReturnsAt F.Fn) see.now self.now.structure (unmarked self.now.rows) shown
+            → IsMove (behind base (end_of shown true
+            (pairs_in order self.now.marks (unmarked self.now.rows)))) budget result }
+    {
+        closing::judge_kept(
+            &self.table,
+            &self.slots,
+            order,
+            Kept::Unmarked,
+            see,
+            base,
+            budget,
+        )
     }
 
     /// Makes these indexes anew, or those of them that are stale, and ends with TOP in an order.
@@ -270,12 +298,14 @@ impl<K: KeyList> IndexedTable<K> {
     ) -> Result<Landed, Refused>
         requires callable { F.IsAlwaysCallable see.now }
         requires base { base ≤ 1000000000 }
+        // Where the list of the order isn't there, the base pays for passes over the rows.
+        requires paid { ¬ IsOrder order self.old → length self.old.rows ≤ base }
         ensures lands { (shown : ℕ → Bool) → ShowsRows (FnReturnsAt F.Fn) see.now self.old.structure self.old.rows shown
             → IsClosing (behind base (end_of shown true (order_pairs order self.old))) budget result }
         ensures ok { OnOk result (self.new ≡ remade list.now self.old) }
         ensures err { OnErr result (self.new ≡ self.old) }
     {
-        let Ok(landed) = self.judge(order, Kept::Every, see, base, budget) else {
+        let Ok(landed) = self.judge(order, see, base, budget) else {
             return Err(Refused::Spent);
         };
         match self.remake(alloc, list, only_stale) {
@@ -305,9 +335,13 @@ impl<K: KeyList> IndexedTable<K> {
         ensures ok { OnOk result (self.new ≡ packed list.now self.old) }
         ensures err { OnErr result (self.new ≡ self.old) }
     {
+        let count = u64::from(self.count());
+        if budget <= count {
+            return Err(Refused::Spent);
+        }
         let kept = count_kept(&self.table, Kept::Unmarked);
-        let base = u64::from(self.count()) + u64::from(kept) * list.len() as u64;
-        let Ok(landed) = self.judge(order, Kept::Unmarked, see, base, budget) else {
+        let base = count + u64::from(kept) * list.len() as u64;
+        let Ok(landed) = self.judge_unmarked(order, see, base, budget) else {
             return Err(Refused::Spent);
         };
         match self.pack_rows(alloc, list) {
@@ -337,13 +371,12 @@ impl<K: KeyList> IndexedTable<K> {
         }
     }
 
-    /// Opens indexes: those of them that are stale are made anew, each at the cost of the rows. It ends with TOP in an
-    /// order. Where it is refused, all is as it was.
+    /// Opens indexes: those of them that are stale are made anew, each at the cost of the rows. It ends with TOP in the
+    /// order of the first, or in record order where there is none. Where it is refused, all is as it was.
     pub fn open<F: Fn(&Row<'_>) -> bool>(
         &mut self,
         alloc: Global,
         list: &[u8],
-        order: Option<u8>,
         see: &F,
         budget: u64,
     ) -> Result<Landed, Refused>
@@ -351,17 +384,18 @@ impl<K: KeyList> IndexedTable<K> {
         requires few { length list.now ≤ 7 }
         ensures lands { (shown : ℕ → Bool) → ShowsRows (FnReturnsAt F.Fn) see.now self.old.structure self.old.rows shown
             → IsClosing (behind (length self.old.rows * count_stale list.now self.old.marks)
-            (end_of shown true (order_pairs order self.old))) budget result }
+            (end_of shown true (order_pairs (slice_get list.now 0) self.old))) budget result }
         ensures ok { OnOk result (self.new ≡ remade list.now self.old) }
         ensures err { OnErr result (self.new ≡ self.old) }
     {
         let stale = self.stale_in(list) as u64;
         let base = u64::from(self.count()) * stale;
+        let order = first_index(list);
         self.remake_and_top(alloc, list, true, order, see, base, budget)
     }
 
-    /// REINDEX: makes the open indexes anew, each at the cost of the rows. It ends with TOP in an order. Where it is
-    /// refused, all is as it was.
+    /// REINDEX: makes the open indexes anew, each at the cost of the rows. It ends with TOP in an order that isn't stale.
+    /// Where it is refused, all is as it was.
     pub fn reindex<F: Fn(&Row<'_>) -> bool>(
         &mut self,
         alloc: Global,
@@ -370,6 +404,7 @@ impl<K: KeyList> IndexedTable<K> {
         see: &F,
         budget: u64,
     ) -> Result<Landed, Refused>
+        requires order { IsOrder order self.old }
         requires callable { F.IsAlwaysCallable see.now }
         requires few { length list.now ≤ 7 }
         ensures lands { (shown : ℕ → Bool) → ShowsRows (FnReturnsAt F.Fn) see.now self.old.structure self.old.rows shown
@@ -435,4 +470,11 @@ impl<K: KeyList> IndexedTable<K> {
     {
         keys_at(&self.table, &self.slots, number)
     }
+}
+
+/// The first of some indexes.
+fn first_index(list: &[u8]) -> Option<u8>
+    ensures { result ≡ slice_get list.now 0 }
+{
+    list.first().copied()
 }

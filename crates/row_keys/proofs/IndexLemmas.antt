@@ -1,14 +1,17 @@
 -- How indexes go along with a change of their table.
-use Rattle.std.proofs.Common.{◌≡◌, ℕ, zero, suc, ◌+◌, ◌<◌, List, [], ◌∷◌, ◌++◌, length, set, refl, sym, ap, ◌∙◌, subst, arith}
+use Rattle.std.proofs.Common.{◌≡◌, ◌≢◌, ℕ, zero, suc, ◌+◌, ◌<◌, Bool, true, false, ◌||◌, ◌==◌, List, [], ◌∷◌, ◌++◌, length, set, refl, sym, ap, ◌∙◌, subst, arith}
+use Rattle.std.proofs.lemmas.Bool.{eqb-false}
+use Rattle.std.proofs.lemmas.List.{set-set, set-get_or, get_or-set_other, length-set}
 use Rattle.std.specs.List.{Contains}
-use Rattle.dbf_file.specs.Rows.{Row, row_at}
+use Rattle.dbf_file.specs.Rows.{Row, row_at, no_row, with_text}
 use Rattle.dbf_file.specs.Tables.{StructureState, row_widths}
 use Rattle.key_lists.specs.KeyForm.{KeyForm, IsKeyText}
 use Rattle.key_lists.specs.Order.{inserted, without}
 use Rattle.key_lists.specs.Pairs.{Pair, is_before}
 use Rattle.shape.specs.declared.parts.KeyPart.{KeyPart}
-use Rattle.shape.specs.Keys.{IsKey, key_of, key_length}
-use Rattle.row_keys.specs.Lists.{index_list, row_pair, IsIndexList, IndexState, IsIndexOf, IsExact, IsSameIndex, IsAsBefore, HasAdded, HasRemoved}
+use Rattle.shape.specs.Keys.{IsKey, cased, part_text, key_of, key_length}
+use Rattle.row_keys.specs.Lists.{index_list, row_pair, IsIndexList, IndexState, IsIndexOf, IsExact, IsSameIndex, IsAsBefore, HasAdded, names_field}
+use Rattle.row_keys.proofs.ListLemmas.{index_list-same}
 
 pub sound_same : (s : StructureState) (a b : IndexState) → IsIndexOf s a → IsSameIndex a b → IsIndexOf s b
 sound_same s a b sound same = record {
@@ -72,32 +75,55 @@ module _ (law : ListLaw) (s : StructureState) (rows : List Row) (row : Row) wher
         ∙ ap (λ ps. index_list ps longer) (sym added.same.parts);
   }
 
--- the index without the pair of row r
-pub record IsWithout (s : StructureState) (rows : List Row) (r : ℕ) (index : IndexState) : Type 0 where
-  pub sound : IsIndexOf s index
-  pub pairs : index.pairs ≡ without is_before (row_pair index.parts rows r) (index_list index.parts rows)
+-- ---- a row of which field f had this text before
 
-pub exact-removed : (s : StructureState) (rows : List Row) (r : ℕ) (a b : IndexState) → IsExact s rows a → HasRemoved rows r a b → IsWithout s rows r b
-exact-removed s rows r a b exact removed = record {
-  sound = sound_same s a b exact.sound removed.same;
-  pairs =
-      removed.pairs ∙ ap (without is_before (row_pair a.parts rows r)) exact.pairs
-      ∙ ap (λ ps. without is_before (row_pair ps rows r) (index_list ps rows)) (sym removed.same.parts);
-}
+-- a key that isn't made of the field is as it was
+or_false : (a b : Bool) → (a || b) ≡ false → (a ≡ false) × (b ≡ false)
+or_false true b e = cc
+or_false false b e = (refl, e)
 
-module _ (law : ListLaw) (s : StructureState) (rows : List Row) (r : ℕ) (row : Row) (lt : r < length rows) where
-  pub without-absent : (a : IndexState) → IsWithout s rows r a → Contains a.pairs (row_pair a.parts (set rows r row) r) → ⊥
-  without-absent a out there =
-      (law a.parts rows).out r (key_of a.parts row.texts) lt
-      (subst (Contains (without is_before (row_pair a.parts rows r) (index_list a.parts rows))) (pair-set a.parts rows r row lt)
-      (subst (λ ps. Contains ps (row_pair a.parts (set rows r row) r)) out.pairs there))
+pub unnamed : (parts : List KeyPart) (texts : List (List ℕ)) (f : ℕ) (text : List ℕ) → names_field parts f ≡ false → key_of parts (set texts f text) ≡ key_of parts texts
+unnamed [] texts f text e = refl
+unnamed (part ∷ parts) texts f text e =
+    let both = or_false (part.field == f) (names_field parts f) e in
+    let other : part.field ≢ f = eqb-false part.field f both.0 in
+    ap (λ ts. cased part.upper ts ++ key_of parts (set texts f text)) (get_or-set_other texts f part.field text [] other)
+    ∙ ap (λ key. part_text part texts ++ key) (unnamed parts texts f text both.1)
 
-  pub without-added : (a b : IndexState) → IsWithout s rows r a → HasAdded (set rows r row) r a b → IsExact s (set rows r row) b
-  without-added a b out added = record {
-    sound = sound_same s a b out.sound added.same;
-    pairs =
-        added.pairs ∙ ap (λ p. inserted is_before p a.pairs) (pair-set a.parts rows r row lt)
-        ∙ ap (inserted is_before (key_of a.parts row.texts, r + 1)) out.pairs
-        ∙ sym ((law a.parts rows).changed r row lt)
-        ∙ ap (λ ps. index_list ps (set rows r row)) (sym added.same.parts);
+module _ (s : StructureState) (rows : List Row) (r f : ℕ) (text : List ℕ) where
+  abbrev before : Row
+  before = record { marked = (row_at rows r).marked; texts = set (row_at rows r).texts f text }
+
+  -- a key that stays equal leaves the list as it is
+  pub exact-left : (a : IndexState) → key_of a.parts (set (row_at rows r).texts f text) ≡ key_of a.parts (row_at rows r).texts → IsExact s (with_text rows r f text) a → IsExact s rows a
+  exact-left a same exact = record {
+    sound = exact.sound;
+    pairs = exact.pairs ∙ index_list-same a.parts rows r before same;
   }
+
+  module _ (law : ListLaw) (lt : r < length rows) (a : IndexState) (old : List ℕ) (mid : List Pair) where
+    there : IsExact s (with_text rows r f text) a → old ≡ key_of a.parts (set (row_at rows r).texts f text) → mid ≡ without is_before (old, r + 1) a.pairs
+        → mid ≡ without is_before (row_pair a.parts (set rows r before) r) (index_list a.parts (set rows r before))
+    there exact e out =
+        out ∙ ap (λ key. without is_before (key, r + 1) a.pairs) e
+        ∙ ap (λ p. without is_before p a.pairs) (sym (pair-set a.parts rows r before lt))
+        ∙ ap (without is_before (row_pair a.parts (set rows r before) r)) exact.pairs
+
+    -- while it is out, no pair has its number
+    pub followed-absent : IsExact s (with_text rows r f text) a → old ≡ key_of a.parts (set (row_at rows r).texts f text) → mid ≡ without is_before (old, r + 1) a.pairs → (new : List ℕ) → Contains mid (new, r + 1) → ⊥
+    followed-absent exact e out new is_in =
+        (law a.parts (set rows r before)).out r new (omega (arith, lt, length-set rows r before))
+        (subst (λ ps. Contains ps (new, r + 1)) (there exact e out) is_in)
+
+    -- a key that changed goes out and in again
+    pub followed : (b : IndexState) (new : List ℕ) → IsExact s (with_text rows r f text) a → IsSameIndex a b → old ≡ key_of a.parts (set (row_at rows r).texts f text) → mid ≡ without is_before (old, r + 1) a.pairs
+        → new ≡ key_of a.parts (row_at rows r).texts → b.pairs ≡ inserted is_before (new, r + 1) mid → IsExact s rows b
+    followed b new exact same e out is_new put = record {
+      sound = sound_same s a b exact.sound same;
+      pairs =
+          put ∙ ap (λ key. inserted is_before (key, r + 1) mid) is_new
+          ∙ ap (inserted is_before (key_of a.parts (row_at rows r).texts, r + 1)) (there exact e out)
+          ∙ sym ((law a.parts (set rows r before)).changed r (row_at rows r) (omega (arith, lt, length-set rows r before)))
+          ∙ ap (index_list a.parts) (set-set rows r before (row_at rows r) ∙ set-get_or rows r no_row)
+          ∙ ap (λ ps. index_list ps rows) (sym same.parts);
+    }

@@ -7,6 +7,7 @@ use Rattle.key_lists.specs.Order.{Each, IsAscending, IsDistinct, in_order, inser
 use Rattle.key_lists.specs.Pairs.{Pair, is_before}
 use Rattle.key_lists.specs.Laws.{PutsInOrder, ChangesRows}
 use Rattle.row_keys.specs.declared.building.Kept.{Kept}
+use Rattle.row_keys.specs.declared.building.Kept.TheVariants.{Nothing}
 use Rattle.shape.specs.declared.parts.KeyPart.{KeyPart}
 use Rattle.shape.specs.Keys.{key_of}
 use Rattle.row_keys.specs.Lists.{row_pairs, index_list, row_pair, is_kept, kept_rows, IsIndexList}
@@ -161,16 +162,19 @@ module _ (law : RowsLaw) (parts : List KeyPart) (rows : List Row) (i : ℕ) (lt 
       absent-Each (pairs_before ++ pairs_after) (key, i + 1) (apart key)
       (((order (pairs_before ++ pairs_after)).members (key, i + 1)).0 (subst (λ ps. Contains ps (key, i + 1)) gone there))
 
--- rows with other marks have the same pairs
-row_pairs-set : (parts : List KeyPart) (n : ℕ) (rows : List Row) (r : ℕ) (row : Row) → row.texts ≡ (row_at rows r).texts → row_pairs parts n (set rows r row) ≡ row_pairs parts n rows
+-- a row of the same key has the same pair
+row_pairs-set : (parts : List KeyPart) (n : ℕ) (rows : List Row) (r : ℕ) (row : Row) → key_of parts row.texts ≡ key_of parts (row_at rows r).texts → row_pairs parts n (set rows r row) ≡ row_pairs parts n rows
 row_pairs-set parts n [] zero row e = refl
 row_pairs-set parts n [] (suc r) row e = refl
-row_pairs-set parts n (x ∷ rows) zero row e = ap (λ ts. (key_of parts ts, n) ∷ row_pairs parts (n + 1) rows) e
+row_pairs-set parts n (x ∷ rows) zero row e = ap (λ key. (key, n) ∷ row_pairs parts (n + 1) rows) e
 row_pairs-set parts n (x ∷ rows) (suc r) row e = ap (λ ps. (key_of parts x.texts, n) ∷ ps) (row_pairs-set parts (n + 1) rows r row e)
 
-index_list-marked : (parts : List KeyPart) (rows : List Row) (r : ℕ) (mark : Bool) → index_list parts (with_mark rows r mark) ≡ index_list parts rows
+pub index_list-same : (parts : List KeyPart) (rows : List Row) (r : ℕ) (row : Row) → key_of parts row.texts ≡ key_of parts (row_at rows r).texts → index_list parts (set rows r row) ≡ index_list parts rows
 unfolding index_list
-index_list-marked parts rows r mark = ap (in_order is_before) (row_pairs-set parts 1 rows r (record { marked = mark; texts = (row_at rows r).texts }) refl)
+index_list-same parts rows r row e = ap (in_order is_before) (row_pairs-set parts 1 rows r row e)
+
+index_list-marked : (parts : List KeyPart) (rows : List Row) (r : ℕ) (mark : Bool) → index_list parts (with_mark rows r mark) ≡ index_list parts rows
+index_list-marked parts rows r mark = index_list-same parts rows r (record { marked = mark; texts = (row_at rows r).texts }) refl
 
 -- all of it
 pub index_lists : OrderLaw → RowsLaw → (parts : List KeyPart) (rows : List Row) → IsIndexList parts rows
@@ -208,3 +212,8 @@ each_push P pairs p each here = Each-append P pairs (p ∷ []) each (here, tt)
 pub listed_by : (parts : List KeyPart) (rows : List Row) (pairs entries : List Pair) → pairs ≡ in_order is_before entries → entries ≡ row_pairs parts 1 rows → pairs ≡ index_list parts rows
 unfolding index_list
 listed_by parts rows pairs entries e f = e ∙ ap (in_order is_before) f
+
+-- where no row is kept
+pub nothing_kept : (rows : List Row) → kept_rows Nothing rows ≡ []
+nothing_kept [] = refl
+nothing_kept (row ∷ rows) = nothing_kept rows

@@ -1,6 +1,7 @@
 -- What an index lists, and what a change of the rows does to it.
 use Rattle.std.specs.Prelude.{◌≡◌, ℕ, Bool, ◌+◌, ◌<◌, ◌≤◌, List, [], ◌∷◌, ◌++◌, length, slice_set}
-use Rattle.std.specs.Prelude.{Contains, filter, true, false, not}
+use Rattle.std.specs.Prelude.{Contains, filter, true, false, not, ◌==◌}
+use Rattle.std.specs.List.{list_any}
 use Rattle.dbf_file.specs.Rows.{Row, row_at, with_mark}
 use Rattle.dbf_file.specs.Tables.{StructureState, row_widths}
 use Rattle.key_lists.specs.KeyForm.{KeyForm, IsKeyText}
@@ -57,6 +58,10 @@ pub record IsIndexList (parts : List KeyPart) (rows : List Row) : Type 0 where
   -- a mark doesn't count
   pub marked : (r : ℕ) (mark : Bool) → index_list parts (with_mark rows r mark) ≡ index_list parts rows
 
+-- whether a key is made of a field among others
+abbrev pub names_field : List KeyPart → ℕ → Bool
+names_field parts f = list_any (λ part. part.field == f) parts
+
 -- ---- indexes
 
 -- what callers see of an index: its key's parts, the pairs that it lists, what its keys look like, and for how many
@@ -93,8 +98,7 @@ pub record HasAdded (rows : List Row) (r : ℕ) (old new : IndexState) : Type 0 
   pub same : IsSameIndex old new
   pub pairs : new.pairs ≡ inserted is_before (row_pair old.parts rows r) old.pairs
 
--- the pair of row r taken out
-pub record HasRemoved (rows : List Row) (r : ℕ) (old new : IndexState) : Type 0 where
+-- keys are made as before, and the list is that of these rows
+pub record HasFollowed (structure : StructureState) (rows : List Row) (old new : IndexState) : Type 0 where
   pub same : IsSameIndex old new
-  pub pairs : new.pairs ≡ without is_before (row_pair old.parts rows r) old.pairs
-  pub room : old.spare ≤ new.spare
+  pub exact : IsExact structure rows new

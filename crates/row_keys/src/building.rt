@@ -76,13 +76,29 @@ fn put_row(
     Ok(())
 }
 
-/// The pair of each row that is kept, numbered from 1 in the order of the records.
+/// The pair of each row that is kept, numbered from 1 in the order of the records. Where none is kept, no row is passed.
 fn entries_of(
     alloc: Global,
     table: &Table,
     key: &KeyParts,
     kept: Kept,
 ) -> Result<Vec<Entry>, AllocError>
+    requires few { length table.now.rows ≤ 1000000 }
+    requires key { IsKey table.now.structure key.now }
+    ensures pairs { IfOk result (λ entries. entries.items ≡ row_pairs key.now 1 (kept_rows kept table.now.rows)) }
+    ensures keys { IfOk result (λ entries. Each
+        (IsPairOf (key_length key.now (row_widths table.now.structure))) entries.items) }
+    ensures few { IfOk result (λ entries. length entries.items ≤ length table.now.rows) }
+{
+    match kept {
+        Kept::Nothing => Ok(Vec::new(alloc)),
+        Kept::Every => pass(alloc, table, key, kept),
+        Kept::Unmarked => pass(alloc, table, key, kept),
+    }
+}
+
+/// The same by a pass over the rows.
+fn pass(alloc: Global, table: &Table, key: &KeyParts, kept: Kept) -> Result<Vec<Entry>, AllocError>
     requires few { length table.now.rows ≤ 1000000 }
     requires key { IsKey table.now.structure key.now }
     ensures pairs { IfOk result (λ entries. entries.items ≡ row_pairs key.now 1 (kept_rows kept table.now.rows)) }

@@ -1,19 +1,20 @@
 //! Indexes: a list of keys, and how a row's key is made.
 
-ghost use Rattle.std.specs.Prelude.{◌≡◌, ℕ, ◌+◌, ◌<◌, ◌^◌, Contains, Bool, OnOk};
-ghost use Rattle.std.specs.Prelude.{length};
-ghost use Rattle.row_keys.specs.Lists.{row_pair, IsIndexOf, IsAsBefore, HasAdded};
-ghost use Rattle.row_keys.specs.Lists.{HasRemoved};
+ghost use Rattle.std.specs.Prelude.{◌≡◌, ℕ, ◌+◌, ◌<◌, ◌^◌, Contains, Bool, OnOk, length, slice_index};
+ghost use Rattle.dbf_file.specs.Rows.{row_at, with_text};
+ghost use Rattle.dbf_file.specs.Tables.{row_widths};
+ghost use Rattle.row_keys.specs.Lists.{row_pair, IsIndexOf, IsAsBefore, IsExact, HasAdded, HasFollowed};
 ghost use Rattle.row_moves.specs.Orders.{MayTry, Sees};
 ghost use Rattle.row_moves.specs.Moves.{IsMove, end_of, skipped, sought};
 
+use crate::key_change::{key_with, names_field};
+use crate::laws::index_lists;
 use dbf_file::Table;
 use key_lists::{Entry, KeyList};
 use row_moves::{Landed, Spent, bottom, seek, skip, top};
 use shape::KeyParts;
 use std::alloc::AllocError;
 use std::marker::Model;
-use xvalue::Value;
 
 /// An index of a table: a list of keys, and how a row's key is made.
 #[derive(Drop)]
@@ -126,15 +127,27 @@ impl<K: KeyList> Index<K> {
         self.list.insert(key.as_slice(), r as u32 + 1);
     }
 
-    /// Takes out the pair of row `r`, counted from 0.
-    #[tactic(auto, unfolding(crate::specs::Lists::row_pair))]
-    pub fn remove_row(&mut self, table: &Table, r: usize)
+    /// Has the list follow a change of row `r`: field `f` of it, both counted from 0, had this text before. Where the
+    /// row's key stayed equal the list is left alone.
+    pub fn follow(&mut self, table: &Table, r: usize, f: usize, before: &[u8])
         requires row { r < length table.now.rows }
         requires few { r < 1000000 }
-        requires index { IsIndexOf table.now.structure self.old }
-        ensures { HasRemoved table.now.rows r self.old self.new }
+        requires field { f < length table.now.structure.fields }
+        requires width { length before.now ≡ slice_index (row_widths table.now.structure) f }
+        requires exact { IsExact table.now.structure (with_text table.now.rows r f before.now) self.old }
+        requires reserved { 0 < self.old.spare }
+        ensures { HasFollowed table.now.structure table.now.rows self.old self.new }
     {
-        let key = self.key.row_key(table, r);
-        self.list.remove(key.as_slice(), r as u32 + 1);
+        index_lists();
+        if !names_field(&self.key, f) {
+            return;
+        }
+        let old = key_with(&self.key, table, r, f, before);
+        let new = self.key.row_key(table, r);
+        if old.as_slice() == new.as_slice() {
+            return;
+        }
+        self.list.remove(old.as_slice(), r as u32 + 1);
+        self.list.insert(new.as_slice(), r as u32 + 1);
     }
 }

@@ -7,10 +7,10 @@ use Rattle.row_moves.specs.declared.landed.Spent.{Spent}
 use Rattle.row_moves.specs.Moves.{Landing}
 use Rattle.open_table.specs.declared.refused.Refused.{Refused}
 use Rattle.open_table.specs.Tried.{TriedRow, ShowsRows}
-use Rattle.open_table.specs.Open.{OpenState, IsMoved, IsEnded, opened}
+use Rattle.open_table.specs.Open.{OpenState, IsMoved, IsEnded, landed, opened}
 use Rattle.work_area.specs.declared.uses.Use.{Use}
 use Rattle.work_area.specs.Areas.{StoreState, selected_use, used_table, table_at, here, with_table, with_used, with_here, changed_found, change_here, with_use, closed_other, closed_at}
-use Rattle.work_area.specs.Calls.{HasMoved, MovesHere, HasEnded, EndsHere, with_list, indexed_here, used_here}
+use Rattle.work_area.specs.Calls.{MovesHere, EndsHere, put_landed, with_list, indexed_here, used_here}
 use Rattle.work_area.proofs.AreaLemmas.{let_go}
 
 pub put_same : (tables : List OpenState) (t : ℕ) (o : OpenState) → slice_get tables t ≡ Some o → set tables t o ≡ tables
@@ -42,25 +42,25 @@ put_back s t o h = put_here s t o o h ∙ ap (λ ts. record { tables = ts; areas
 pub from_here : (s : StoreState) (t : ℕ) (o : OpenState) (P : OpenState → Type 0) → IsHere s t o → P o → IfSome (here s) P
 from_here s t o P h p = subst (λ x. IfSome x P) (sym (here_is s t o h)) p
 
-moved_by : (old new : StoreState) (o fresh : OpenState) (landing : Landing) (budget : ℕ) (r : Result ℕ Spent) → with_here o old ≡ old → new ≡ with_here fresh old → IsMoved o fresh landing budget r → HasMoved old new o landing budget r
+moved_by : (old new : StoreState) (o fresh : OpenState) (landing : Landing) (budget : ℕ) (r : Result ℕ Spent) → with_here o old ≡ old → new ≡ with_here fresh old → IsMoved (landed o) o fresh landing budget r → IsMoved (put_landed with_here o old) old new landing budget r
 moved_by old new o fresh landing budget (Ok cost) back e h = (h.0, h.1, e ∙ ap (λ p. with_here p old) h.2)
 moved_by old new o fresh landing budget (Err spent) back e h = (h.0, e ∙ ap (λ p. with_here p old) h.1 ∙ back)
 
 -- a move of the table is one of the store
 pub moved : {F : Type 0} (answers : F → TriedRow → Bool → Type 0) (see : F) (landing : OpenState → (ℕ → Bool) → Landing) (old new : StoreState) (t : ℕ) (o fresh : OpenState) (budget : ℕ) (r : Result ℕ Spent)
     → IsHere old t o → new ≡ with_table old t fresh
-    → ((shown : ℕ → Bool) → ShowsRows answers see o.table.structure o.table.rows shown → IsMoved o fresh (landing o shown) budget r)
+    → ((shown : ℕ → Bool) → ShowsRows answers see o.table.structure o.table.rows shown → IsMoved (landed o) o fresh (landing o shown) budget r)
     → MovesHere answers see landing old new budget r
 moved answers see landing old new t o fresh budget r h e said = from_here old t o _ h
     (λ shown sees. moved_by old new o fresh (landing o shown) budget r (put_back old t o h) (e ∙ sym (put_here old t o fresh h)) (said shown sees))
 
-pub ended_by : (old new : StoreState) (o changed fresh : OpenState) (landing : Landing) (budget : ℕ) (r : Result ℕ Refused) → with_here o old ≡ old → new ≡ with_here fresh old → IsEnded o changed fresh landing budget r → HasEnded old new with_here changed landing budget r
+pub ended_by : (old new : StoreState) (o changed fresh : OpenState) (landing : Landing) (budget : ℕ) (r : Result ℕ Refused) → with_here o old ≡ old → new ≡ with_here fresh old → IsEnded (landed changed) o fresh landing budget r → IsEnded (put_landed with_here changed old) old new landing budget r
 ended_by old new o changed fresh landing budget (Ok cost) back e h = (h.0, h.1, e ∙ ap (λ p. with_here p old) h.2)
 ended_by old new o changed fresh landing budget (Err refused) back e h = (h.0, e ∙ ap (λ p. with_here p old) h.1 ∙ back)
 
 pub ended : {F : Type 0} (answers : F → TriedRow → Bool → Type 0) (see : F) (rows : OpenState → List Row) (change : OpenState → OpenState) (landing : OpenState → (ℕ → Bool) → Landing) (old new : StoreState) (t : ℕ) (o fresh : OpenState) (budget : ℕ) (r : Result ℕ Refused)
     → IsHere old t o → new ≡ with_table old t fresh
-    → ((shown : ℕ → Bool) → ShowsRows answers see o.table.structure (rows o) shown → IsEnded o (change o) fresh (landing o shown) budget r)
+    → ((shown : ℕ → Bool) → ShowsRows answers see o.table.structure (rows o) shown → IsEnded (landed (change o)) o fresh (landing o shown) budget r)
     → EndsHere answers see rows change landing old new budget r
 ended answers see rows change landing old new t o fresh budget r h e said = from_here old t o _ h
     (λ shown sees. ended_by old new o (change o) fresh (landing o shown) budget r (put_back old t o h) (e ∙ sym (put_here old t o fresh h)) (said shown sees))
@@ -82,10 +82,10 @@ stands inside s t o view some place table lt e = record {
 
 -- ---- a change of the table, and then of what its area holds
 
-pub not_ended : (put : OpenState → StoreState → StoreState) (old new : StoreState) (o changed fresh : OpenState) (landing : Landing) (budget : ℕ) (refused : Refused) → with_here o old ≡ old → new ≡ with_here fresh old → IsEnded o changed fresh landing budget (Err refused) → HasEnded old new put changed landing budget (Err refused)
+pub not_ended : (put : OpenState → StoreState → StoreState) (old new : StoreState) (o changed fresh : OpenState) (landing : Landing) (budget : ℕ) (refused : Refused) → with_here o old ≡ old → new ≡ with_here fresh old → IsEnded (landed changed) o fresh landing budget (Err refused) → IsEnded (put_landed put changed old) old new landing budget (Err refused)
 not_ended put old new o changed fresh landing budget refused back e h = (h.0, e ∙ ap (λ p. with_here p old) h.1 ∙ back)
 
-pub indexed : (list number : ℕ) (old mid new : StoreState) (t : ℕ) (o fresh : OpenState) (landing : Landing) (budget cost : ℕ) → IsHere old t o → mid ≡ with_table old t fresh → new ≡ with_use mid mid.selected (with_list list (selected_use mid)) → IsEnded o (opened (number ∷ []) o) fresh landing budget (Ok cost) → HasEnded old new (indexed_here list) (opened (number ∷ []) o) landing budget (Ok cost)
+pub indexed : (list number : ℕ) (old mid new : StoreState) (t : ℕ) (o fresh : OpenState) (landing : Landing) (budget cost : ℕ) → IsHere old t o → mid ≡ with_table old t fresh → new ≡ with_use mid mid.selected (with_list list (selected_use mid)) → IsEnded (landed (opened (number ∷ []) o)) o fresh landing budget (Ok cost) → IsEnded (put_landed (indexed_here list) (opened (number ∷ []) o) old) old new landing budget (Ok cost)
 indexed list number old mid new t o fresh landing budget cost here_is e f h = (
   h.0,
   h.1,
@@ -108,7 +108,7 @@ other_selected : (t : ℕ) (x : Option Use) (s : StoreState) → (closed_other t
 other_selected t None s = refl
 other_selected t (Some u) s = elim (u.table == t) as (λ b. (cond b s (closed_at u.table (table_at s u.table) s)).selected ≡ s.selected) [ true ↦ refl | false ↦ at_selected u.table (table_at s u.table) s ]
 
-pub used : (t list : ℕ) (indexes : List ℕ) (old mid gone new : StoreState) (o fresh : OpenState) (landing : Landing) (budget cost : ℕ) → mid ≡ with_table old t fresh → gone ≡ closed_other t (selected_use mid) mid → new ≡ with_use gone gone.selected (Some (record { table = t; list = list; filter = 0 })) → IsEnded o (opened indexes o) fresh landing budget (Ok cost) → HasEnded old new (used_here t list) (opened indexes o) landing budget (Ok cost)
+pub used : (t list : ℕ) (indexes : List ℕ) (old mid gone new : StoreState) (o fresh : OpenState) (landing : Landing) (budget cost : ℕ) → mid ≡ with_table old t fresh → gone ≡ closed_other t (selected_use mid) mid → new ≡ with_use gone gone.selected (Some (record { table = t; list = list; filter = 0 })) → IsEnded (landed (opened indexes o)) o fresh landing budget (Ok cost) → IsEnded (put_landed (used_here t list) (opened indexes o) old) old new landing budget (Ok cost)
 used t list indexes old mid gone new o fresh landing budget cost e f k h =
     let held : Use = record { table = t; list = list; filter = 0 } in
     let mid_is : gone ≡ closed_other t (selected_use old) (with_table old t fresh) = f ∙ ap (λ (s : StoreState). closed_other t (selected_use s) s) e in
@@ -119,6 +119,6 @@ used t list indexes old mid gone new o fresh landing budget cost e f k h =
           ∙ ap (λ p. used_here t list p old) h.2,
     )
 
-pub not_used : (put : OpenState → StoreState → StoreState) (t : ℕ) (old new : StoreState) (o changed fresh : OpenState) (landing : Landing) (budget : ℕ) (refused : Refused) → slice_get old.tables t ≡ Some o → new ≡ with_table old t fresh → IsEnded o changed fresh landing budget (Err refused) → HasEnded old new put changed landing budget (Err refused)
+pub not_used : (put : OpenState → StoreState → StoreState) (t : ℕ) (old new : StoreState) (o changed fresh : OpenState) (landing : Landing) (budget : ℕ) (refused : Refused) → slice_get old.tables t ≡ Some o → new ≡ with_table old t fresh → IsEnded (landed changed) o fresh landing budget (Err refused) → IsEnded (put_landed put changed old) old new landing budget (Err refused)
 not_used put t old new o changed fresh landing budget refused is e h =
     (h.0, e ∙ ap (λ p. with_table old t p) h.1 ∙ ap (λ ts. record { tables = ts; areas = old.areas; selected = old.selected; limit = old.limit }) (put_same old.tables t o is))

@@ -1,15 +1,15 @@
 -- What the moves and changes of the selected area's table do.
 use Rattle.std.specs.Prelude.{◌≡◌, ℕ, ◌+◌, ◌*◌, ◌<◌, ◌≤◌, Bool, true, false, Option, Some, None, List, length}
-use Rattle.std.specs.Prelude.{slice_get, Result, MatchResult, IfSome, ℤ}
+use Rattle.std.specs.Prelude.{slice_get, Result, IfSome, ℤ}
 use Rattle.dbf_file.specs.Rows.{Row, unmarked}
 use Rattle.row_moves.specs.declared.landed.Spent.{Spent}
 use Rattle.row_moves.specs.Moves.{Landing, end_of, skipped, sought}
 use Rattle.open_table.specs.declared.refused.Refused.{Refused}
 use Rattle.open_table.specs.Marks.{count_stale}
-use Rattle.open_table.specs.Passes.{behind, IsRefusal}
+use Rattle.open_table.specs.Passes.{behind}
 use Rattle.open_table.specs.Tables.{order_pairs, pairs_in, pair_at, packed, cleared, remade}
 use Rattle.open_table.specs.Tried.{TriedRow, ShowsRows}
-use Rattle.open_table.specs.Open.{OpenState, landed, order_index, with_table as with_rows}
+use Rattle.open_table.specs.Open.{OpenState, IsMoved, IsEnded, landed, order_index, with_table as with_rows}
 use Rattle.work_area.specs.declared.uses.Use.{Use}
 use Rattle.work_area.specs.Areas.{StoreState, selected_use, here, with_here, with_use, with_table, closed_here}
 
@@ -28,18 +28,16 @@ skip_of steps o shown = skipped shown steps (pair_at (order_index o.order o.list
 abbrev pub seek_of : Bool → List ℕ → OpenState → (ℕ → Bool) → Landing
 seek_of exact text o shown = sought shown exact text (order_pairs (order_index o.order o.list) o.table)
 
--- the selected area's table moved so: at a cost of one and the rows met, or not at all where that is above the budget
-abbrev pub HasMoved : StoreState → StoreState → OpenState → Landing → ℕ → Result ℕ Spent → Type 0
-HasMoved old new o landing budget result = MatchResult result
-    (λ cost. (cost ≡ 1 + landing.met) × (cost ≤ budget) × (new ≡ with_here (landed o landing) old))
-    (λ _. (budget < 1 + landing.met) × (new ≡ old))
+-- a table that a move led there, put into the store
+abbrev pub put_landed : (OpenState → StoreState → StoreState) → OpenState → StoreState → Landing → StoreState
+put_landed put o old landing = put (landed o landing) old
 
--- the same for whatever the test of rows shows
+-- the selected area's table moves so, for whatever the test of rows shows
 abbrev pub MovesHere : {F : Type 0} → (F → TriedRow → Bool → Type 0) → F → (OpenState → (ℕ → Bool) → Landing)
     → StoreState → StoreState → ℕ → Result ℕ Spent → Type 0
 MovesHere answers see landing old new budget result =
     IfSome (here old) (λ o. (shown : ℕ → Bool) → ShowsRows answers see o.table.structure o.table.rows shown
-    → HasMoved old new o (landing o shown) budget result)
+    → IsMoved (put_landed with_here o old) old new (landing o shown) budget result)
 
 -- ---- changes that end with TOP
 
@@ -98,17 +96,10 @@ abbrev pub used_here : ℕ → ℕ → OpenState → StoreState → StoreState
 used_here t list o s =
     with_use (with_table (closed_here s) t o) s.selected (Some (record { table = t; list = list; filter = 0 }))
 
--- a change that made this of a table, and ends with a move, is put into the store; one that is refused changes nothing
-abbrev pub HasEnded : StoreState → StoreState → (OpenState → StoreState → StoreState) → OpenState → Landing → ℕ
-    → Result ℕ Refused → Type 0
-HasEnded old new put changed landing budget result = MatchResult result
-    (λ cost. (cost ≡ 1 + landing.met) × (cost ≤ budget) × (new ≡ put (landed changed landing) old))
-    (λ refused. IsRefusal landing budget refused × (new ≡ old))
-
--- the same for whatever the test shows of the rows that there will be
+-- a change of the selected area's table ends so, for whatever the test shows of the rows that there will be
 abbrev pub EndsHere : {F : Type 0} → (F → TriedRow → Bool → Type 0) → F → (OpenState → List Row)
     → (OpenState → OpenState) → (OpenState → (ℕ → Bool) → Landing) → StoreState → StoreState → ℕ → Result ℕ Refused
     → Type 0
 EndsHere answers see rows change landing old new budget result =
     IfSome (here old) (λ o. (shown : ℕ → Bool) → ShowsRows answers see o.table.structure (rows o) shown
-    → HasEnded old new with_here (change o) (landing o shown) budget result)
+    → IsEnded (put_landed with_here (change o) old) old new (landing o shown) budget result)

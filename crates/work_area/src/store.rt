@@ -9,13 +9,13 @@ ghost use Rattle.dbf_file.specs.Tables.{letter_at};
 ghost use Rattle.dbf_file.specs.Values.{kind_for};
 ghost use Rattle.row_keys.specs.Lists.{index_list};
 ghost use Rattle.open_table.specs.Open.{closed, with_blank, replaced_here, remarked_here, gone, reordered, field_of};
-ghost use Rattle.open_table.specs.Open.{deleted_of, opened};
+ghost use Rattle.open_table.specs.Open.{IsEnded, deleted_of, opened};
 ghost use Rattle.open_table.specs.Marks.{mark_at, is_fresh, parts_in, form_in};
 ghost use Rattle.open_table.specs.Tried.{ShowsRows};
 ghost use Rattle.work_area.specs.Areas.{use_at, selected_use, table_at, area_table, here, with_use, with_selected};
 ghost use Rattle.work_area.specs.Areas.{with_here, change_here, closed_here, closed_all, is_elsewhere, holds};
 ghost use Rattle.work_area.specs.Areas.{index_table, mark_in, closed_other};
-ghost use Rattle.work_area.specs.Calls.{MovesHere, EndsHere, HasEnded, top_of, bottom_of, skip_of, seek_of};
+ghost use Rattle.work_area.specs.Calls.{MovesHere, EndsHere, put_landed, top_of, bottom_of, skip_of, seek_of};
 ghost use Rattle.work_area.specs.Calls.{packed_rows, all_rows, packed_in, pack_of, zapped_in, reindexed_in, reindex_of};
 ghost use Rattle.work_area.specs.Calls.{index_on_of, open_of, indexed_here, used_here, with_filter, with_list};
 ghost use Rattle.work_area.specs.Calls.{zap_landing};
@@ -342,8 +342,8 @@ impl<K: KeyList> Store<K> {
         budget: u64,
     ) -> Result<Moved, Refused>
         requires open { IsSome (here self.old) }
-        ensures { IfSome (here self.old) (λ o. HasEnded self.old self.new with_here
-            (zapped_in o) zap_landing budget result) }
+        ensures { IfSome (here self.old) (λ o. IsEnded (put_landed with_here (zapped_in o) self.old)
+            self.old self.new zap_landing budget result) }
     {
         let t = self.place_here();
         self.tables[t].zap(alloc, budget)
@@ -379,8 +379,8 @@ impl<K: KeyList> Store<K> {
         requires callable { F.IsAlwaysCallable see }
         ensures { IfSome (here self.old) (λ o. (shown : ℕ → Bool)
             → ShowsRows (FnReturnsAt F.Fn) see o.table.structure o.table.rows shown
-            → HasEnded self.old self.new (indexed_here list) (opened (number ∷ []) o)
-            (index_on_of number o shown) budget result) }
+            → IsEnded (put_landed (indexed_here list) (opened (number ∷ []) o) self.old)
+            self.old self.new (index_on_of number o shown) budget result) }
     {
         let t = self.place_here();
         match self.tables[t].index_on(alloc, number, see, budget) {
@@ -441,8 +441,8 @@ impl<K: KeyList> Store<K> {
         requires callable { F.IsAlwaysCallable see }
         ensures { IfSome (table_at self.old table)
             (λ o. (shown : ℕ → Bool) → ShowsRows (FnReturnsAt F.Fn) see o.table.structure o.table.rows shown
-            → HasEnded self.old self.new (used_here table list) (opened indexes.now o)
-            (open_of indexes.now o shown) budget result) }
+            → IsEnded (put_landed (used_here table list) (opened indexes.now o) self.old)
+            self.old self.new (open_of indexes.now o shown) budget result) }
     {
         match self.tables[usize::from(table)].open(alloc, indexes, see, budget) {
             Ok(cost) => {

@@ -4,7 +4,8 @@ use Rattle.row_keys.specs.declared.building.Kept.TheVariants.{Nothing}
 use Rattle.row_keys.specs.Lists.{kept_rows}
 use Rattle.open_table.specs.Marks.{IndexMark, is_among, with_stale}
 use Rattle.open_table.specs.Slots.{IsSlot}
-use Rattle.open_table.proofs.MakingLemmas.{made_exact, made_marks, packed_mark, nothing_kept}
+use Rattle.open_table.proofs.MakingLemmas.{made_exact, made_marks, packed_mark}
+use Rattle.row_keys.proofs.ListLemmas.{nothing_kept}
 use Rattle.open_table.proofs.changes.clear.Goals as goal
 
 pub returns-clause-marks : goal.returns-clause-marks

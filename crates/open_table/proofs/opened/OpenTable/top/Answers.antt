@@ -3,7 +3,7 @@ use Rattle.std.specs.Fn.{FnReturnsAt}
 use Rattle.row_moves.specs.Moves.{IsMove, end_of}
 use Rattle.open_table.specs.Tables.{IndexedState, order_pairs}
 use Rattle.open_table.specs.Tried.{ShowsRows}
-use Rattle.open_table.specs.Open.{OpenState, IsMoved, order_index}
+use Rattle.open_table.specs.Open.{OpenState, IsMoved, landed, order_index}
 use Rattle.open_table.proofs.opened.OpenTable.top.Goals as goal
 
 pub returns : goal.returns
@@ -15,5 +15,5 @@ returns g c = λ shown sees.
     let same : with_it c.go_to_end-moved.new.self ≡ now = ap with_it c.go_to_end-moved.ensures.same ∙ c.self.view_is in
     let said = subst (λ (t : IndexedState). ShowsRows (FnReturnsAt g.F.Fn) c.args.see t.structure t.rows shown → IsMove (end_of shown true (order_pairs c.order_index-order.result t)) c.args.budget c.go_to_end-moved.result) table (c.go_to_end-moved.ensures.lands shown) in
     let moved = subst (λ (o : Option ℕ). IsMove (end_of shown true (order_pairs o now.table)) c.args.budget c.go_to_end-moved.result) c.order_index-order.ensures.value (said sees) in
-    subst (λ (v : OpenState). IsMoved v c.settle.new.self (end_of shown true (order_pairs (order_index now.order now.list) now.table)) c.args.budget c.settle.result) same
+    subst (λ (v : OpenState). IsMoved (landed v) v c.settle.new.self (end_of shown true (order_pairs (order_index now.order now.list) now.table)) c.args.budget c.settle.result) same
     (c.settle.ensures _ c.args.budget moved)

@@ -4,7 +4,7 @@ use Rattle.key_lists.specs.KeyForm.{IsPairOf}
 use Rattle.key_lists.specs.Order.{Each}
 use Rattle.shape.specs.Keys.{key_length}
 use Rattle.row_keys.specs.Lists.{row_pairs, kept_rows}
-use Rattle.row_keys.proofs.building.entries_of.Given as goal
+use Rattle.row_keys.proofs.building.pass.Given as goal
 
 -- the pairs of the rows so far
 abbrev pub invariant-loop-r : goal.invariant-loop-r

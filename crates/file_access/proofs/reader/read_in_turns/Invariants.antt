@@ -1,6 +1,6 @@
 use Rattle.std.proofs.Common.{◌≤◌, length}
 use Rattle.std.specs.Io.KnownBytes.{Consumes}
-use Rattle.file_access.proofs.reader.read_within.Given as goal
+use Rattle.file_access.proofs.reader.read_in_turns.Given as goal
 
 -- what was read stood in front of what remains
 pub record Reading (short taken : Type 0) : Type 0 where

@@ -1,0 +1,146 @@
+-- Which commands, clauses and functions of dBASE III PLUS are left out, by their words.
+use Rattle.std.specs.Prelude.{ℕ, List, [], ◌∷◌, codes, Bool, ◌||◌, Option, Some, None, if◌then◌else◌}
+use Rattle.prg_expr.specs.Functions.{is_cut}
+use Rattle.prg_expr.specs.Word.{Word}
+use Rattle.prg_expr.specs.Word as word
+use Rattle.prg_expr.specs.declared.tree.Operator.TheVariants.{Times}
+use Rattle.hints.specs.declared.left_out.LeftOut.{LeftOut as Thing}
+use Rattle.hints.specs.declared.left_out.LeftOut.TheVariants as it
+
+-- a word of capitals, and what is left out with it
+abbrev pub NamedThing : Type 0
+NamedThing = List ℕ × Thing
+
+-- what the first word of a list that this one is, perhaps cut, is left out with
+abbrev pub first_named : List NamedThing → List ℕ → Option Thing
+first_named [] letters = None
+first_named (x ∷ xs) letters = if is_cut letters x.0 then Some x.1 else first_named xs letters
+
+abbrev pub one : List ℕ → Thing → List NamedThing
+one whole found = (whole, found) ∷ []
+
+-- ---- lists of words
+
+abbrev pub searches : List NamedThing
+searches = (codes "LOCATE", it.Locate) ∷ (codes "CONTINUE", it.Locate) ∷ (codes "FIND", it.Find)
+    ∷ (codes "COUNT", it.Sums) ∷ (codes "SUM", it.Sums) ∷ (codes "AVERAGE", it.Sums) ∷ []
+
+abbrev pub tables : List NamedThing
+tables = (codes "LIST", it.Listings) ∷ (codes "DISPLAY", it.Listings) ∷ (codes "CREATE", it.Structures)
+    ∷ (codes "MODIFY", it.Structures) ∷ (codes "TOTAL", it.Totals) ∷ (codes "UPDATE", it.Totals) ∷ []
+
+abbrev pub copies : List NamedThing
+copies = (codes "COPY", it.Copies) ∷ (codes "SORT", it.Copies) ∷ (codes "JOIN", it.Copies) ∷ (codes "INSERT", it.Copies)
+    ∷ (codes "BROWSE", it.ByHand) ∷ (codes "EDIT", it.ByHand) ∷ (codes "CHANGE", it.ByHand) ∷ []
+
+abbrev pub forms : List NamedThing
+forms = (codes "REPORT", it.Reports) ∷ (codes "LABEL", it.Reports) ∷ (codes "SAVE", it.Saved)
+    ∷ (codes "RESTORE", it.Saved) ∷ (codes "INPUT", it.Input) ∷ (codes "TEXT", it.Texts) ∷ (codes "ENDTEXT", it.Texts)
+    ∷ (codes "EJECT", it.Printer) ∷ []
+
+abbrev pub programs : List NamedThing
+programs = (codes "RUN", it.Others) ∷ (codes "CALL", it.Others) ∷ (codes "LOAD", it.Others) ∷ (codes "DIR", it.Others)
+    ∷ (codes "ERASE", it.Others) ∷ (codes "RENAME", it.Others) ∷ []
+
+abbrev pub variables : List NamedThing
+variables = (codes "PUBLIC", it.Public) ∷ (codes "DECLARE", it.Arrays) ∷ (codes "DIMENSION", it.Arrays)
+    ∷ (codes "ON", it.On) ∷ (codes "RETRY", it.On) ∷ (codes "SUSPEND", it.On) ∷ (codes "RESUME", it.On) ∷ []
+
+-- commands that are there, but not in every form
+abbrev pub other_forms : List NamedThing
+other_forms = (codes "APPEND", it.ByHand) ∷ (codes "SELECT", it.SelectZero) ∷ []
+
+-- behind SET
+abbrev pub settings : List NamedThing
+settings = (codes "RELATION", it.Relation) ∷ (codes "INDEX", it.OpenIndexes) ∷ (codes "DECIMALS", it.Decimals)
+    ∷ (codes "FIXED", it.Decimals) ∷ (codes "DATE", it.DateForm) ∷ (codes "PRINT", it.Printer)
+    ∷ (codes "DEVICE", it.Printer) ∷ (codes "ALTERNATE", it.Printer) ∷ []
+
+-- behind CLEAR
+abbrev pub parts_to_clear : List NamedThing
+parts_to_clear = (codes "ALL", it.ClearParts) ∷ (codes "MEMORY", it.ClearParts) ∷ (codes "GETS", it.ClearParts) ∷ []
+
+abbrev pub clauses : List NamedThing
+clauses = (codes "ALL", it.Scopes) ∷ (codes "NEXT", it.Scopes) ∷ (codes "RECORD", it.Scopes) ∷ (codes "WHILE", it.Scopes)
+    ∷ (codes "FOR", it.Scopes) ∷ (codes "ALIAS", it.Alias) ∷ (codes "PICTURE", it.Pictures)
+    ∷ (codes "RANGE", it.Pictures) ∷ []
+
+abbrev pub functions : List NamedThing
+functions = (codes "TYPE", it.Type) ∷ (codes "TRANSFORM", it.Transform) ∷ (codes "TIME", it.Time)
+    ∷ (codes "SQRT", it.Powers) ∷ (codes "EXP", it.Powers) ∷ (codes "LOG", it.Powers) ∷ []
+
+-- functions that take no argument here
+abbrev pub answers : List NamedThing
+answers = (codes "EOF", it.OtherArea) ∷ (codes "BOF", it.OtherArea) ∷ (codes "FOUND", it.OtherArea)
+    ∷ (codes "RECNO", it.OtherArea) ∷ (codes "RECCOUNT", it.OtherArea) ∷ (codes "DELETED", it.OtherArea) ∷ []
+
+-- ---- lines
+
+abbrev pub or_next : Option Thing → Option Thing → Option Thing
+or_next None other = other
+or_next (Some found) other = Some found
+
+-- what is left out where a line begins with a word
+unfoldable pub by_first : List ℕ → Option Thing
+by_first s = or_next (first_named searches s) (or_next (first_named tables s) (or_next (first_named copies s) (or_next (first_named forms s)
+    (or_next (first_named programs s) (or_next (first_named variables s) (first_named other_forms s))))))
+
+-- whether SET has a meaning with this word behind it
+unfoldable pub is_setting : List ℕ → Bool
+is_setting s = is_cut s (codes "ORDER") || is_cut s (codes "FILTER") || is_cut s (codes "EXACT")
+    || is_cut s (codes "DELETED") || is_cut s (codes "CENTURY")
+
+-- what SET asks for with this word behind it
+unfoldable pub by_setting : List ℕ → Option Thing
+by_setting s = if is_setting s then None else or_next (first_named settings s) (Some it.OtherSet)
+
+-- what is left out where a line begins with two words
+unfoldable pub by_two : List ℕ → List ℕ → Option Thing
+by_two first second =
+    if is_cut first (codes "SET") then by_setting second
+    else if is_cut first (codes "CLEAR") then first_named parts_to_clear second
+    else if is_cut first (codes "CLOSE") then first_named (one (codes "INDEX") it.OpenIndexes) second
+    else if is_cut first (codes "RELEASE") then first_named (one (codes "ALL") it.ReleaseAll) second
+    else if is_cut first (codes "RETURN") then first_named (one (codes "TO") it.ToMaster) second
+    else if is_cut first (codes "APPEND") then first_named (one (codes "FROM") it.Copies) second
+    else None
+
+-- the first clause or alias among these words
+unfoldable pub by_clause : List Word → Option Thing
+by_clause [] = None
+by_clause (word.Arrow ∷ ws) = Some it.OtherAlias
+by_clause (word.Name s ∷ ws) = or_next (first_named clauses s) (by_clause ws)
+by_clause (w ∷ ws) = by_clause ws
+
+-- what a command that begins with this name asks for by the word behind it
+unfoldable pub by_next : List ℕ → List Word → Option Thing
+by_next first [] = None
+by_next first (word.Name second ∷ ws) = by_two first second
+by_next first (w ∷ ws) = None
+
+-- what a command that begins with this word asks for
+unfoldable pub from_first : Word → List Word → Option Thing
+from_first (word.Name first) ws = or_next (by_next first ws) (or_next (by_first first) (by_clause ws))
+from_first (word.Outside word.At) ws = or_next (by_clause ws) (Some it.AtForms)
+from_first w ws = by_clause ws
+
+-- what a command asks for that is left out: by its first words, or else by a clause behind its first word
+unfoldable pub of_command : List Word → Option Thing
+of_command [] = None
+of_command (w ∷ ws) = from_first w ws
+
+-- what is left out where a call begins so
+unfoldable pub in_call : List ℕ → List Word → Option Thing
+in_call s (word.Close ∷ ws) = first_named functions s
+in_call s ws = or_next (first_named functions s) (first_named answers s)
+
+-- what is left out where these words begin
+unfoldable pub in_front : List Word → Option Thing
+in_front (word.Name s ∷ word.Open ∷ ws) = in_call s ws
+in_front (word.Sign Times ∷ word.Sign Times ∷ ws) = Some it.Powers
+in_front ws = None
+
+-- the first function or operator among these words that is left out
+unfoldable pub of_expression : List Word → Option Thing
+of_expression [] = None
+of_expression (w ∷ ws) = or_next (in_front (w ∷ ws)) (of_expression ws)

@@ -1,0 +1,146 @@
+//! The sentence that is told of a faulty line.
+
+ghost use Rattle.std.specs.Prelude.{◌≡◌, map};
+ghost use Rattle.std.specs.Char.{to_ascii_uppercase};
+ghost use Rattle.prg_expr.specs.Word.{word_of, words as words_of};
+ghost use Rattle.hints.specs.LeftOut as spec;
+
+use crate::kinds::of_kind;
+use crate::left_out::{LeftOut, by_first, by_two, of_answer, of_clause, of_function};
+use prg_expr::{Operator, ParseFaultKind, Token, words};
+use std::alloc::Global;
+
+/// The first clause or alias among these words that is left out.
+#[tactic(auto, unfolding(crate::specs::LeftOut::by_clause))]
+fn by_clause(words: &[Token<'_>]) -> Option<LeftOut>
+    ensures { result ≡ spec.by_clause (words_of words.now) }
+{
+    let Some((word, others)) = words.split_first() else {
+        return None;
+    };
+    match word {
+        Token::Arrow => Some(LeftOut::OtherAlias),
+        Token::Name(name) => match of_clause(*name) {
+            Some(found) => Some(found),
+            None => by_clause(others),
+        },
+        _ => by_clause(others),
+    }
+}
+
+/// What a command asks for that begins with this name, by the word behind it.
+#[tactic(auto, unfolding(crate::specs::LeftOut::by_next))]
+fn by_next(first: &[u8], rest: &[Token<'_>]) -> Option<LeftOut>
+    ensures { result ≡ spec.by_next (map to_ascii_uppercase first.now) (words_of rest.now) }
+{
+    let Some((second, _)) = rest.split_first() else {
+        return None;
+    };
+    match second {
+        Token::Name(second) => by_two(first, *second),
+        _ => None,
+    }
+}
+
+/// What a command asks for that begins with this word.
+#[tactic(auto, unfolding(crate::specs::LeftOut::from_first))]
+fn from_first(word: &Token<'_>, rest: &[Token<'_>]) -> Option<LeftOut>
+    ensures { result ≡ spec.from_first (word_of word.now) (words_of rest.now) }
+{
+    match word {
+        Token::Name(first) => {
+            if let Some(found) = by_next(*first, rest) {
+                return Some(found);
+            }
+            if let Some(found) = by_first(*first) {
+                return Some(found);
+            }
+            by_clause(rest)
+        }
+        Token::At => match by_clause(rest) {
+            Some(found) => Some(found),
+            None => Some(LeftOut::AtForms),
+        },
+        _ => by_clause(rest),
+    }
+}
+
+/// What a command of these words asks for that is left out.
+#[tactic(auto, unfolding(crate::specs::LeftOut::of_command))]
+fn in_command(words: &[Token<'_>]) -> Option<LeftOut>
+    ensures { result ≡ spec.of_command (words_of words.now) }
+{
+    let Some((first, rest)) = words.split_first() else {
+        return None;
+    };
+    from_first(first, rest)
+}
+
+/// What is left out where a call begins so.
+#[tactic(auto, unfolding(crate::specs::LeftOut::in_call))]
+fn in_call(name: &[u8], behind: &[Token<'_>]) -> Option<LeftOut>
+    ensures { result ≡ spec.in_call (map to_ascii_uppercase name.now) (words_of behind.now) }
+{
+    if let Some(found) = of_function(name) {
+        return Some(found);
+    }
+    let Some((next, _)) = behind.split_first() else {
+        return of_answer(name);
+    };
+    match next {
+        Token::Close => None,
+        _ => of_answer(name),
+    }
+}
+
+/// What is left out where these words begin.
+#[tactic(auto, unfolding(crate::specs::LeftOut::in_front))]
+fn in_front(words: &[Token<'_>]) -> Option<LeftOut>
+    ensures { result ≡ spec.in_front (words_of words.now) }
+{
+    match words {
+        [Token::Name(name), Token::Open, behind @ ..] => in_call(*name, behind),
+        [
+            Token::Operator(Operator::Times),
+            Token::Operator(Operator::Times),
+            ..
+        ] => { Some(LeftOut::Powers) }
+        _ => None,
+    }
+}
+
+/// The first function or operator among these words that is left out.
+#[tactic(auto, unfolding(crate::specs::LeftOut::of_expression))]
+fn in_expression(words: &[Token<'_>]) -> Option<LeftOut>
+    ensures { result ≡ spec.of_expression (words_of words.now) }
+{
+    let Some((_, others)) = words.split_first() else {
+        return None;
+    };
+    if let Some(found) = in_front(words) {
+        return Some(found);
+    }
+    in_expression(others)
+}
+
+/// What a line with this fault asks for that is left out. Words that memory doesn't hold ask for nothing.
+fn asked(alloc: Global, kind: ParseFaultKind, line: &[u8]) -> Option<LeftOut> {
+    let Ok(read) = words(alloc, line) else {
+        return None;
+    };
+    match kind {
+        ParseFaultKind::Word => in_command(read.words.as_slice()),
+        ParseFaultKind::Expression => in_expression(read.words.as_slice()),
+        ParseFaultKind::Character if line.contains(&b'^') => Some(LeftOut::Powers),
+        _ => None,
+    }
+}
+
+/// What to do about a line of a command file that has this fault, in one sentence without its point: of what is left
+/// out of the language what to write instead, and else what the fault means.
+pub fn of_line(alloc: Global, kind: ParseFaultKind, line: &[u8]) -> &'static str {
+    match asked(alloc, kind, line) {
+        Some(found) => found.instead(),
+        None => of_kind(kind),
+    }
+}

@@ -1,7 +1,0 @@
-use Rattle.row_keys.specs.Lists.{HasRemoved}
-use Rattle.open_table.specs.Slots.{GoesBy}
-use Rattle.open_table.proofs.SlotLemmas.{Turned}
-use Rattle.open_table.proofs.slots.remove_all.Given as goal
-
-abbrev pub invariant-loop-slot : goal.invariant-loop-slot
-invariant-loop-slot g l = Turned (GoesBy (HasRemoved l.table.rows l.r)) l.fn.slots.items l.slot-items l.slot-index

@@ -1,0 +1,25 @@
+* MEMLIST.PRG - members by name, and what each has paid        3/86
+SET TALK OFF
+SELECT 2
+USE DUES
+SELECT 1
+USE MEMBERS INDEX BYNAME
+ALLPAID = 0
+DO WHILE .NOT. EOF()
+   MNO = NO
+   MSUM = 0
+   SELECT 2
+   GO TOP
+   DO WHILE .NOT. EOF()
+      IF NO = MNO
+         MSUM = MSUM + PAID
+      ENDIF
+      SKIP
+   ENDDO
+   SELECT 1
+   ? NAME, TOWN, STR(MSUM,8,2)
+   ALLPAID = ALLPAID + MSUM
+   SKIP
+ENDDO
+? "All have paid " + STR(ALLPAID,8,2)
+CLOSE DATABASES

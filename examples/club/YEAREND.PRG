@@ -1,0 +1,23 @@
+* YEAREND.PRG - takes out members who paid nothing            12/86
+SET TALK OFF
+SET PRINT ON
+SELECT 2
+USE DUES
+SELECT 1
+USE MEMBERS INDEX BYNAME
+DO WHILE .NOT. EOF()
+   MNO = NO
+   SELECT 2
+   LOCATE FOR NO = MNO
+   GONE = EOF()
+   SELECT 1
+   IF GONE
+      ? "Taken out: " + NAME
+      DELETE
+   ENDIF
+   SKIP
+ENDDO
+PACK
+COUNT TO HOWMANY
+? "Members left: " + STR(HOWMANY,4)
+CLOSE DATABASES
