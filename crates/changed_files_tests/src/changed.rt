@@ -146,6 +146,9 @@ fn keyed(alloc: Global) -> Result<KeyedFiles, Fail> {
 
 /// Whether the index is stale where it is loaded.
 fn loads_stale(alloc: Global, files: &KeyedFiles, bytes: &[u8]) -> bool {
+    if !files.shape.is_legal() {
+        return false;
+    }
     let entries = [
         MemoryEntry {
             name: "T.DBF",

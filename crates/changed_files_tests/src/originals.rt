@@ -11,28 +11,35 @@ fn put_zeros(out: &mut Vec<u8>, count: usize) -> Result<(), AllocError> {
     Ok(())
 }
 
+/// Puts an instruction of a number below 256 behind its first three bytes.
+fn put(out: &mut Vec<u8>, first: &[u8], number: u8) -> Result<(), AllocError> {
+    out.extend_from_slice(first)?;
+    put_zeros(out, 1)?;
+    out.push(number)?;
+    put_zeros(out, 3)
+}
+
 fn put_instructions(out: &mut Vec<u8>) -> Result<(), AllocError> {
-    let instructions: [[u8; 8]; 15] = [
-        [0x01, 0, 0, 0, 0, 0, 0, 0],
-        [0x03, 4, 0, 0, 0, 0, 0, 0],
-        [0x01, 0, 0, 0, 0, 0, 0, 0],
-        [0x03, 4, 1, 0, 0, 0, 0, 0],
-        [0x40, 0, 0, 0, 0, 0, 0, 0],
-        [0x01, 0, 2, 0, 0, 0, 0, 0],
-        [0x41, 2, 0, 0, 0, 0, 0, 0],
-        [0x02, 4, 0, 0, 0, 0, 0, 0],
-        [0x11, 0, 0, 0, 14, 0, 0, 0],
-        [0x02, 4, 1, 0, 0, 0, 0, 0],
-        [0x03, 4, 0, 0, 0, 0, 0, 0],
-        [0x01, 0, 1, 0, 0, 0, 0, 0],
-        [0x03, 4, 1, 0, 0, 0, 0, 0],
-        [0x10, 0, 0, 0, 4, 0, 0, 0],
-        [0x14, 0, 0, 0, 0, 0, 0, 0],
-    ];
-    for instruction in &instructions {
-        out.extend_from_slice(instruction)?;
-    }
-    Ok(())
+    put(out, b"\x01\0\0", 0)?;
+    put(out, b"\x03\x04\0", 0)?;
+    put(out, b"\x01\0\0", 0)?;
+    put(out, b"\x03\x04\x01", 0)?;
+    put(out, b"\x40\0\0", 0)?;
+    put(out, b"\x01\0\x02", 0)?;
+    put(out, b"\x41\x02\0", 0)?;
+    put_loop(out)
+}
+
+/// Puts the instructions from the test of slot 0 on.
+fn put_loop(out: &mut Vec<u8>) -> Result<(), AllocError> {
+    put(out, b"\x02\x04\0", 0)?;
+    put(out, b"\x11\0\0", 14)?;
+    put(out, b"\x02\x04\x01", 0)?;
+    put(out, b"\x03\x04\0", 0)?;
+    put(out, b"\x01\0\x01", 0)?;
+    put(out, b"\x03\x04\x01", 0)?;
+    put(out, b"\x10\0\0", 4)?;
+    put(out, b"\x14\0\0", 0)
 }
 
 /// What is known where area 1 is selected, all areas are closed, both slots are of this kind and the stack is empty.
