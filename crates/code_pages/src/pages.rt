@@ -1,6 +1,6 @@
 //! Code pages.
 
-ghost use Rattle.std.specs.Prelude.{◌≡◌, ◌+◌, ◌-◌, ◌<◌, ◌≤◌, IfOk, string_bytes};
+ghost use Rattle.std.specs.Prelude.{◌≡◌, ◌≢◌, ◌+◌, ◌-◌, ◌<◌, ◌≤◌, ℕ, None, IfOk, IfSome, string_bytes};
 ghost use Rattle.std.specs.List.{flat_map};
 ghost use Rattle.code_pages.specs.Pages.{page_letter, utf8_of};
 
@@ -38,7 +38,7 @@ const UPPER_850: [char; 128] = [
 ];
 
 /// The letter of a byte.
-fn letter(page: CodePage, byte: u8) -> char
+pub fn letter_of(page: CodePage, byte: u8) -> char
     ensures { result ≡ page_letter page byte }
 {
     if byte < 128 {
@@ -51,13 +51,53 @@ fn letter(page: CodePage, byte: u8) -> char
     }
 }
 
+/// The byte that stands for a letter, if one does.
+pub fn byte_of(page: CodePage, letter: char) -> Option<u8>
+    ensures found { IfSome result (λ byte. page_letter page byte ≡ letter) }
+    ensures only { result ≡ None → (byte : ℕ) → byte < 256 → page_letter page byte ≢ letter }
+{
+    for number in 0..256u16 {
+        let byte = number as u8;
+        if letter_of(page, byte) == letter {
+            return Some(byte);
+        }
+    }
+    None
+}
+
+/// Why a text isn't put into a page.
+#[derive(Clone, Copy, PartialEq, Eq, Debug)]
+pub enum PageFault {
+    /// The page lacks this letter.
+    Lacks(char),
+    /// Memory was refused.
+    Memory,
+}
+
+/// A text in a page, a byte for each letter.
+///
+/// # Errors
+/// The first letter that the page lacks; `Memory` where memory was refused.
+pub fn in_page(alloc: Global, page: CodePage, text: &str) -> Result<Vec<u8>, PageFault> {
+    let mut bytes = Vec::new(alloc);
+    for letter in text.chars() {
+        let Some(byte) = byte_of(page, letter) else {
+            return Err(PageFault::Lacks(letter));
+        };
+        if bytes.push(byte).is_err() {
+            return Err(PageFault::Memory);
+        }
+    }
+    Ok(bytes)
+}
+
 /// A text in UTF-8, each byte as the page's letter.
 pub fn in_utf8(alloc: Global, page: CodePage, text: &[u8]) -> Result<String, AllocError>
     ensures { IfOk result (λ shown. string_bytes shown ≡ flat_map (utf8_of page) text.now) }
 {
     let mut shown = String::new(alloc);
     for byte in text {
-        shown.push(letter(page, *byte))?;
+        shown.push(letter_of(page, *byte))?;
     }
     Ok(shown)
 }

@@ -1,8 +1,11 @@
 //! The words of the command line: what they ask the program for, and its help.
 #![tactic(auto)]
 
+mod operating;
 mod words;
 
+pub use operating::{OperateWords, ShownWords, TalkWords, WindowWords, window_named};
 pub use words::{
-    Listing, Outcomes, RunWords, SaveWords, Words, WordsFault, command, sources_of, words_of,
+    DEFAULT_BUDGET, Listing, Outcomes, RunWords, SaveWords, Words, WordsFault, command, sources_of,
+    words_of,
 };

@@ -1,6 +1,7 @@
 // The words of the command line.
 #![tactic(auto)]
 
+use crate::operating::{OperateWords, operate_of, operator};
 use clap::{Arg, ArgAction, ArgMatches, Command, value_parser};
 use code_pages::CodePage;
 use run_commands::{Job, RecordLimit, RunDay};
@@ -8,7 +9,7 @@ use save_rules::Overwritten;
 use std::alloc::{AllocError, Global};
 
 /// How much a run may cost where the words don't say.
-const DEFAULT_BUDGET: u64 = 1_000_000;
+pub const DEFAULT_BUDGET: u64 = 1_000_000;
 
 /// The day of a run where the words don't say.
 const DEFAULT_DAY: &str = "1985-01-01";
@@ -28,6 +29,16 @@ pub enum WordsFault {
     Backup,
     /// The code file would overwrite another file.
     Out(Overwritten),
+    /// The journal would overwrite another file, or is none of the folder's.
+    Journal,
+    /// The file for screens would overwrite another file, or is none of the folder's.
+    Screens,
+    /// The size of a window isn't written as ROWSxCOLUMNS.
+    Window,
+    /// A conversation is to be rehearsed.
+    Rehearsed,
+    /// A conversation that goes on is asked for what it was asked for already.
+    Continued,
 }
 
 /// On which terms the tables of a run are saved.
@@ -78,8 +89,12 @@ pub struct Listing<'a> {
 pub enum Words<'a> {
     /// Compile command files, with these declarations, to this code file.
     Compile { decl: &'a str, out: &'a str },
+    /// List the faults of command files, with these declarations.
+    Faults { decl: &'a str },
     /// Run a code file.
     Run(RunWords<'a>),
+    /// Run a code file in conversation.
+    Operate(OperateWords<'a>),
     /// Say whether a code file is accepted.
     Verify { name: &'a str },
     /// List a code file.
@@ -115,7 +130,7 @@ Status:
   7  a fault under check-run";
 
 /// The words that name files.
-const FILE: &str = "FILE";
+pub(crate) const FILE: &str = "FILE";
 
 const DECLARATIONS: &str = "DECL";
 
@@ -124,17 +139,17 @@ const OUT: &str = "OUT";
 const SOURCES: &str = "MAIN";
 
 /// The words that say what becomes of a run's tables.
-const REHEARSE: &str = "rehearse";
+pub(crate) const REHEARSE: &str = "rehearse";
 
 const CHANGES: &str = "changes";
 
-const ONLY_FINISHED: &str = "only-finished";
+pub(crate) const ONLY_FINISHED: &str = "only-finished";
 
-const BACKUP: &str = "backup";
+pub(crate) const BACKUP: &str = "backup";
 
-const NEW_OWNER: &str = "new-owner";
+pub(crate) const NEW_OWNER: &str = "new-owner";
 
-const NO_LOCK: &str = "no-lock";
+pub(crate) const NO_LOCK: &str = "no-lock";
 
 fn reader<'a>(
     alloc: Global,
@@ -172,7 +187,7 @@ fn lister<'a>(alloc: Global) -> Result<Command<'a>, AllocError> {
     .arg(page)
 }
 
-fn runner<'a>(
+pub(crate) fn runner<'a>(
     alloc: Global,
     name: &'a str,
     about: &'a str,
@@ -199,7 +214,7 @@ fn runner<'a>(
 }
 
 /// A word that is there or not.
-fn flag<'a>(alloc: Global, name: &'a str, help: &'a str) -> Arg<'a> {
+pub(crate) fn flag<'a>(alloc: Global, name: &'a str, help: &'a str) -> Arg<'a> {
     Arg::new(alloc, name)
         .long(name)
         .action(ArgAction::SetTrue)
@@ -207,7 +222,7 @@ fn flag<'a>(alloc: Global, name: &'a str, help: &'a str) -> Arg<'a> {
 }
 
 /// The words of `run` alone.
-fn saver<'a>(alloc: Global, command: Command<'a>) -> Result<Command<'a>, AllocError> {
+pub(crate) fn saver<'a>(alloc: Global, command: Command<'a>) -> Result<Command<'a>, AllocError> {
     let backup = Arg::new(alloc, BACKUP)
         .long(BACKUP)
         .value_name("FOLDER")
@@ -239,25 +254,43 @@ fn forgetter<'a>(alloc: Global) -> Result<Command<'a>, AllocError> {
         .arg(flag(alloc, NO_LOCK, "Where the file system knows no locks"))
 }
 
-fn compiler<'a>(alloc: Global) -> Result<Command<'a>, AllocError> {
-    let declarations = Arg::new(alloc, DECLARATIONS)
+/// The word that names the declaration file.
+fn declarations<'a>(alloc: Global) -> Arg<'a> {
+    Arg::new(alloc, DECLARATIONS)
         .required(true)
-        .help("The file that declares tables and indexes");
+        .help("The file that declares tables and indexes")
+}
+
+/// The words that name command files.
+fn sources<'a>(alloc: Global) -> Arg<'a> {
+    Arg::new(alloc, SOURCES)
+        .required(true)
+        .num_args(1..)
+        .help("The command files, the main one first")
+}
+
+fn compiler<'a>(alloc: Global) -> Result<Command<'a>, AllocError> {
     let out = Arg::new(alloc, OUT)
         .required(true)
         .help("The code file that is written");
-    let sources = Arg::new(alloc, SOURCES)
-        .required(true)
-        .num_args(1..)
-        .help("The command files, the main one first");
     Command::new(alloc, "compile")
         .about("Compiles command files to a code file")
         .after_help(
             "Example: dbrun compile FIRM.DCL DAY.XBC DAY.PRG ENTRY.PRG POST.PRG REPORT.PRG REORDER.PRG PRICES.PRG",
         )
-        .arg(declarations)?
+        .arg(declarations(alloc))?
         .arg(out)?
-        .arg(sources)
+        .arg(sources(alloc))
+}
+
+fn checker<'a>(alloc: Global) -> Result<Command<'a>, AllocError> {
+    Command::new(alloc, "faults")
+        .about("Lists the faults of command files, and writes nothing")
+        .after_help(
+            "Example: dbrun faults FIRM.DCL DAY.PRG ENTRY.PRG POST.PRG REPORT.PRG REORDER.PRG PRICES.PRG",
+        )
+        .arg(declarations(alloc))?
+        .arg(sources(alloc))
 }
 
 fn with_runners<'a>(alloc: Global, command: Command<'a>) -> Result<Command<'a>, AllocError> {
@@ -276,6 +309,7 @@ fn with_runners<'a>(alloc: Global, command: Command<'a>) -> Result<Command<'a>, 
     let changes = flag(alloc, CHANGES, "Tells what a run would save");
     command
         .subcommand(saver(alloc, run)?)?
+        .subcommand(operator(alloc)?)?
         .subcommand(check.arg(changes)?)
 }
 
@@ -323,7 +357,8 @@ pub fn command<'a>(alloc: Global) -> Result<Command<'a>, AllocError> {
         .version(VERSION)
         .subcommand_required(true)
         .arg_required_else_help(true)
-        .subcommand(compiler(alloc)?)?;
+        .subcommand(compiler(alloc)?)?
+        .subcommand(checker(alloc)?)?;
     let command = with_runners(alloc, command)?;
     with_readers(alloc, command)
 }
@@ -332,7 +367,7 @@ fn budget_of(matches: &ArgMatches<'_>) -> u64 {
     matches.get_one::<u64>("budget").unwrap_or(DEFAULT_BUDGET)
 }
 
-fn limit_of(matches: &ArgMatches<'_>) -> Result<RecordLimit, WordsFault> {
+pub(crate) fn limit_of(matches: &ArgMatches<'_>) -> Result<RecordLimit, WordsFault> {
     match matches.get_one::<u32>("limit") {
         Some(records) => RecordLimit::of(records).ok_or(WordsFault::Limit),
         None => Ok(RecordLimit::most()),
@@ -344,7 +379,7 @@ fn day_of(matches: &ArgMatches<'_>) -> Result<RunDay, WordsFault> {
     RunDay::named(word).ok_or(WordsFault::Today)
 }
 
-fn page_of(matches: &ArgMatches<'_>) -> Result<Option<CodePage>, WordsFault> {
+pub(crate) fn page_of(matches: &ArgMatches<'_>) -> Result<Option<CodePage>, WordsFault> {
     match matches.get_str("from") {
         Some("cp437") => Ok(Some(CodePage::Cp437)),
         Some("cp850") => Ok(Some(CodePage::Cp850)),
@@ -353,7 +388,7 @@ fn page_of(matches: &ArgMatches<'_>) -> Result<Option<CodePage>, WordsFault> {
     }
 }
 
-fn word_of<'a>(matches: &ArgMatches<'a>, id: &str) -> Result<&'a str, WordsFault> {
+pub(crate) fn word_of<'a>(matches: &ArgMatches<'a>, id: &str) -> Result<&'a str, WordsFault> {
     matches.get_str(id).ok_or(WordsFault::Missing)
 }
 
@@ -376,18 +411,17 @@ fn asked<'a>(
     }))
 }
 
-/// What the words of `run` ask for.
-fn run_of<'a>(matches: &ArgMatches<'a>) -> Result<Words<'a>, WordsFault> {
+/// What becomes of the tables of a run that may save them.
+pub(crate) fn run_outcomes<'a>(matches: &ArgMatches<'a>) -> Outcomes<'a> {
     if matches.get_flag(REHEARSE) {
-        return asked(matches, false, Outcomes::Told);
+        return Outcomes::Told;
     }
-    let save = SaveWords {
+    Outcomes::Saved(SaveWords {
         only_finished: matches.get_flag(ONLY_FINISHED),
         backup: matches.get_str(BACKUP),
         new_owner: matches.get_flag(NEW_OWNER),
         no_lock: matches.get_flag(NO_LOCK),
-    };
-    asked(matches, false, Outcomes::Saved(save))
+    })
 }
 
 /// What the words of `check-run` ask for.
@@ -398,7 +432,7 @@ fn check_of<'a>(matches: &ArgMatches<'a>) -> Result<Words<'a>, WordsFault> {
     asked(matches, true, Outcomes::Nothing)
 }
 
-/// The command files of the words that ask for compiling, the main one first.
+/// The command files that the words name, the main one first.
 pub fn sources_of<'m, 'a: 'm>(matches: &'m ArgMatches<'a>) -> Option<&'m [&'a str]> {
     let (_, matches) = matches.subcommand()?;
     matches.get_raw(SOURCES)
@@ -412,7 +446,11 @@ pub fn words_of<'a>(matches: &ArgMatches<'a>) -> Result<Words<'a>, WordsFault> {
             decl: word_of(matches, DECLARATIONS)?,
             out: word_of(matches, OUT)?,
         }),
-        "run" => run_of(matches),
+        "faults" => Ok(Words::Faults {
+            decl: word_of(matches, DECLARATIONS)?,
+        }),
+        "run" => asked(matches, false, run_outcomes(matches)),
+        "operate" => Ok(Words::Operate(operate_of(matches)?)),
         "check-run" => check_of(matches),
         "verify" => Ok(Words::Verify {
             name: word_of(matches, FILE)?,

@@ -2,8 +2,10 @@
 #![tactic(auto)]
 
 mod compiling;
+mod listing;
 mod refusal;
 mod sources;
 
 pub use compiling::compile_files;
+pub use listing::{FileFault, faults_of};
 pub use refusal::{CompileFilesRefusal, CompileTold, CompileWords, SourceFault};

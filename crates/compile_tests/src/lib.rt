@@ -10,6 +10,8 @@ mod layout;
 #[cfg(test)]
 mod limits;
 #[cfg(test)]
+mod listing;
+#[cfg(test)]
 mod procedures;
 #[cfg(test)]
 mod programs;

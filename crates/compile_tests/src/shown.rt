@@ -73,7 +73,7 @@ fn index(name: &[u8], table: u8, parts: &[KeyPart]) -> IndexShape {
     }
 }
 
-fn shape(alloc: Global) -> Result<Shape, AllocError> {
+pub(crate) fn shape(alloc: Global) -> Result<Shape, AllocError> {
     let mut tables = Vec::new(alloc);
     tables.push(wide_table(alloc)?)?;
     tables.push(table(alloc, b"BB", field(b"K", Letter::C, 5, 0))?)?;

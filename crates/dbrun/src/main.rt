@@ -1,15 +1,17 @@
-//! `dbrun`: compiles command files, verifies, runs and lists code files, lists tables and indexes, and declares those
+//! `dbrun`: compiles command files and lists their faults, verifies, runs and lists code files, lists tables and indexes, and declares those
 //! of a folder.
 //!
 //! What a command does with files stands in functions over the trait `Files`; here the words of the command line are
 //! carried out, and what they give is printed.
 #![tactic(auto)]
 
+mod operate;
 mod shown;
 
+use crate::operate::operate;
 use crate::shown::{
-    Audience, FaultyLine, OutTold, Progress, faulty_line, hint_of, line_at, of_end, printable,
-    why_hindered,
+    Audience, FaultyLine, OutTold, Progress, faulty_line, hint_of, line_among, line_at, line_of,
+    lines_of, of_end, printable, why_hindered,
 };
 use clap::error::ErrorKind;
 use clap::{ArgMatches, Command};
@@ -17,7 +19,9 @@ use code_pages::{CodePage, in_utf8};
 use command_words::{
     Listing, Outcomes, RunWords, SaveWords, Words, WordsFault, command, sources_of, words_of,
 };
-use compile_commands::{CompileFilesRefusal, CompileTold, CompileWords, compile_files};
+use compile_commands::{
+    CompileFilesRefusal, CompileTold, CompileWords, FileFault, compile_files, faults_of,
+};
 use file_access::{Files, ReadFault, read_in_turns, read_within};
 use file_commands::{
     FILE_LIMIT, Refusal, Status, list_code, list_index, list_table, of_refusal, verify_file,
@@ -48,17 +52,18 @@ const INPUT_TURNS: usize = 2_097_152;
 const NAMES_LIMIT: usize = 67_108_864;
 
 /// Tells on standard error why a command isn't carried out.
-fn refuse(rt: &impl Runtime, refusal: Refusal<'_>) -> Status {
+pub fn refuse(rt: &impl Runtime, refusal: Refusal<'_>) -> Status {
     let _ = eprintln!(rt; "{refusal}");
     of_refusal(&refusal)
 }
 
 /// The folder in which the program runs; a person is told of long files.
-fn folder<'a, R: Runtime<A = Global>>(
+pub fn folder<'a, R: Runtime<A = Global>>(
     rt: &'a R,
     audience: Audience,
 ) -> Folder<'a, R, Progress<'a, R>> {
-    Folder::new(rt, Progress { rt, audience })
+    let sums = None;
+    Folder::new(rt, Progress { rt, audience, sums })
 }
 
 /// All that the operator typed, or how the program exits where that can't be had.
@@ -142,20 +147,86 @@ fn compile<'a, R: Runtime<A = Global>>(
         Ok(()) => return Ok(Status::Done),
         Err(refusal) => refusal,
     };
-    let words = CompileWords { decl, out, names };
-    let told = CompileTold {
-        refusal: &refusal,
-        words,
-    };
+    Ok(tell_uncompiled(rt, audience, &refusal, CompileWords { decl, out, names }))
+}
+
+/// Tells on standard error why files aren't compiled; a person is shown the faulty line too.
+fn tell_uncompiled<R: Runtime<A = Global>>(
+    rt: &R,
+    audience: Audience,
+    refusal: &CompileFilesRefusal,
+    words: CompileWords<'_>,
+) -> Status {
+    let told = CompileTold { refusal, words };
     let _ = eprintln!(rt; "{told}");
-    if let (true, Some(place)) = (audience.person, faulty_line(&refusal, words)) {
-        show_faulty(rt, place, &refusal);
+    if let (true, Some(place)) = (audience.person, faulty_line(refusal, words)) {
+        show_faulty(rt, place, refusal);
     }
-    Ok(of_compiling(&refusal))
+    of_compiling(refusal)
+}
+
+/// Prints the faults of the command file of this name and number, each with its line where that can still be read.
+fn print_faults<R: Runtime<A = Global>>(
+    rt: &R,
+    name: &str,
+    number: usize,
+    faults: &[FileFault],
+) -> Status {
+    let mut folder = Folder::new(rt, Nobody);
+    let bytes = folder
+        .read(rt.alloc(), name, FILE_LIMIT)
+        .unwrap_or(Vec::new(rt.alloc()));
+    let Ok(lines) = lines_of(rt.alloc(), bytes.as_slice()) else {
+        return no_memory(rt);
+    };
+    for FileFault { file, fault } in faults {
+        if *file != number {
+            continue;
+        }
+        let printed = match line_among(&lines, line_of(*fault)) {
+            Some(line) => println!(rt; "{name} {fault}  {line}"),
+            None => println!(rt; "{name} {fault}"),
+        };
+        if printed.is_err() {
+            return Status::Disk;
+        }
+    }
+    Status::Done
+}
+
+/// Lists the faults of command files on standard output, file by file.
+fn faults<'a, R: Runtime<A = Global>>(
+    rt: &R,
+    audience: Audience,
+    decl: &'a str,
+    names: &'a [&'a str],
+) -> Result<Status, WordsFault> {
+    if names.is_empty() {
+        return Err(WordsFault::Missing);
+    }
+    let mut folder = folder(rt, audience);
+    let found = match faults_of(rt.alloc(), &mut folder, decl, names) {
+        Ok(found) => found,
+        Err(refusal) => {
+            let out = "";
+            let words = CompileWords { decl, out, names };
+            return Ok(tell_uncompiled(rt, audience, &refusal, words));
+        }
+    };
+    if found.is_empty() {
+        return Ok(Status::Done);
+    }
+    for (number, name) in names.iter().enumerate() {
+        match print_faults(rt, name, number, &found) {
+            Status::Done => {}
+            status => return Ok(status),
+        }
+    }
+    Ok(Status::Refused)
 }
 
 /// Prints bytes on standard output. A terminal gets a question mark in place of each byte that isn't printed.
-fn print_bytes<R: Runtime<A = Global>>(rt: &R, audience: Audience, bytes: &[u8]) -> Status {
+pub fn print_bytes<R: Runtime<A = Global>>(rt: &R, audience: Audience, bytes: &[u8]) -> Status {
     if !audience.rows {
         return status_of(rt.write_all(bytes));
     }
@@ -222,7 +293,7 @@ fn tell_unfinished(rt: &impl Runtime, unfinished: &UnfinishedSave) -> Status {
 }
 
 /// Finishes a save that was cut off before; a status where the run ends with that.
-fn finish_before<R: Runtime<A = Global>>(rt: &R) -> Option<Status> {
+pub fn finish_before<R: Runtime<A = Global>>(rt: &R) -> Option<Status> {
     match finish(rt) {
         Ok(FinishedSave::Before) => None,
         Ok(FinishedSave::Behind) => {
@@ -254,7 +325,7 @@ fn settle<R: Runtime<A = Global, File = File>>(rt: &R) {
 }
 
 /// Tells on standard error why the tables of a run aren't saved.
-fn tell_unsaved<R: Runtime<A = Global>>(
+pub fn tell_unsaved<R: Runtime<A = Global>>(
     rt: &R,
     audience: Audience,
     saving: &SavingFolder<'_, R, Progress<'_, R>>,
@@ -287,7 +358,7 @@ fn tell_unsaved<R: Runtime<A = Global>>(
 }
 
 /// Tells why a run was refused; a person is told too why a file of it couldn't be saved.
-fn tell_hindered<R: Runtime<A = Global>>(
+pub fn tell_hindered<R: Runtime<A = Global>>(
     rt: &R,
     audience: Audience,
     name: &str,
@@ -311,6 +382,7 @@ fn run_and_save<R: Runtime<A = Global>>(
 ) -> Status {
     let terms = SaveTerms {
         closed,
+        saves: true,
         takes_over: save.new_owner,
         backup: save.backup,
     };
@@ -362,7 +434,7 @@ fn rehearse<R: Runtime<A = Global>>(rt: &R, audience: Audience, job: &Job<'_>) -
 }
 
 /// The folder where it may be held, or why it isn't.
-fn hindered(held: &Held, no_lock: bool) -> Option<Hindrance> {
+pub fn hindered(held: &Held, no_lock: bool) -> Option<Hindrance> {
     match held {
         Held::Alone(_) => None,
         Held::Taken => Some(Hindrance::Taken),
@@ -647,10 +719,12 @@ fn carry_out<R: Runtime<A = Global, File = File>>(
 ) -> Result<Status, WordsFault> {
     match words {
         Words::Compile { decl, out } => compile(rt, audience, decl, out, &*sources),
+        Words::Faults { decl } => faults(rt, audience, decl, &*sources),
         Words::Run(words) => {
             may_back_up(rt, words)?;
             Ok(run(rt, audience, words))
         }
+        Words::Operate(words) => operate(rt, audience, words),
         Words::Verify { name } => Ok(verify(rt, audience, name)),
         Words::Code { name } => Ok(code(rt, audience, name)),
         Words::List(listing) => Ok(list(rt, audience, *listing)),
@@ -708,6 +782,15 @@ fn message(fault: WordsFault) -> &'static str {
         WordsFault::Page => "the code page of --from is cp437 or cp850",
         WordsFault::Limit => "the number of --limit is one of 1 to 1000000",
         WordsFault::Backup => "the folder of --backup is neither absent nor empty",
+        WordsFault::Window => "the size of --window is ROWSxCOLUMNS",
+        WordsFault::Journal =>
+            "the file of --journal is a plain name in this folder, and none that the run uses",
+        WordsFault::Screens =>
+            "the file of --screens is a plain name in this folder, and none that the run uses",
+        WordsFault::Rehearsed =>
+            "a conversation isn't rehearsed; --rehearse of run takes its journal",
+        WordsFault::Continued =>
+            "a conversation that goes on has the options with which it was begun",
         WordsFault::Missing | WordsFault::Out(_) => "a word is missing",
     }
 }

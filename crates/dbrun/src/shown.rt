@@ -3,12 +3,13 @@
 
 use compile_commands::{CompileFilesRefusal, CompileWords, SourceFault};
 use file_access::Files;
-use folder_files::{Doing, Harm, Hindrance, Listener};
+use folder_files::{Doing, FileSum, Harm, Hindrance, Listener, Sum};
 use hints::{of_command, of_declaration, of_line, of_table_line};
 use run_commands::How;
 use save_rules::Overwritten;
 use shape_files::{DeclFault, LineFault, ShapeRefusal};
-use std::alloc::{AllocError, Global};
+use std::alloc::{Alloc, AllocError, Global};
+use std::cell::RefCell;
 use std::fmt::{self, Display, Formatter, Write};
 use std::io::Eprint;
 
@@ -31,9 +32,11 @@ const LONG: u64 = 8_388_608;
 pub struct Progress<'a, R> {
     pub rt: &'a R,
     pub audience: Audience,
+    /// Where the sums of the files of a run are noted, if they are.
+    pub sums: Option<&'a RefCell<Vec<FileSum>>>,
 }
 
-impl<R: Eprint> Listener for Progress<'_, R> {
+impl<R: Eprint + Alloc<A = Global>> Listener for Progress<'_, R> {
     fn hear(&self, doing: Doing, name: &str, size: u64) {
         if self.audience.person && size >= LONG {
             let doing = match doing {
@@ -43,6 +46,18 @@ impl<R: Eprint> Listener for Progress<'_, R> {
             let _ = eprintln!(self.rt; "{doing} {name}");
         }
     }
+
+    fn found(&self, name: &str, sum: Option<Sum>) {
+        let Some(sums) = self.sums else {
+            return;
+        };
+        if let (Ok(mut sums), Ok(name)) = (
+            sums.try_borrow_mut(),
+            String::from_str(self.rt.alloc(), name),
+        ) {
+            let _ = sums.push(FileSum { name, sum });
+        }
+    }
 }
 
 /// A line of a file, counted from 1.
@@ -50,6 +65,14 @@ impl<R: Eprint> Listener for Progress<'_, R> {
 pub struct FaultyLine<'a> {
     pub file: &'a str,
     pub line: usize,
+}
+
+/// The line that a fault of a command file names, from 1; 0 where it names none.
+pub fn line_of(fault: SourceFault) -> usize {
+    match fault {
+        SourceFault::Parse { line, .. } | SourceFault::Compile { line, .. } => line,
+        SourceFault::Absent | SourceFault::TooLong => 0,
+    }
 }
 
 /// Where a refusal found a line faulty, if it names one.
@@ -64,10 +87,7 @@ pub fn faulty_line<'a>(
                 line: *line,
             }),
         CompileFilesRefusal::Source { file, fault } => {
-            let line = match fault {
-                SourceFault::Parse { line, .. } | SourceFault::Compile { line, .. } => *line,
-                SourceFault::Absent | SourceFault::TooLong => 0,
-            };
+            let line = line_of(*fault);
             let file = words.names.get(*file)?;
             Some(FaultyLine { file, line })
         }
@@ -130,9 +150,28 @@ pub fn line_at(bytes: &[u8], line: usize) -> Option<Line<'_>> {
     let bytes = bytes
         .split(|byte| *byte == b'\n')
         .nth(line.checked_sub(1)?)?;
-    Some(Line {
+    Some(without_return(bytes))
+}
+
+/// The line without the carriage return at its end.
+fn without_return(bytes: &[u8]) -> Line<'_> {
+    Line {
         bytes: bytes.strip_suffix(b"\r").unwrap_or(bytes),
-    })
+    }
+}
+
+/// All lines of a file.
+pub fn lines_of<'a>(alloc: Global, bytes: &'a [u8]) -> Result<Vec<Line<'a>>, AllocError> {
+    let mut lines = Vec::new(alloc);
+    for bytes in bytes.split(|byte| *byte == b'\n') {
+        lines.push(without_return(bytes))?;
+    }
+    Ok(lines)
+}
+
+/// The line of that number, counted from 1, if there is one.
+pub fn line_among<'a>(lines: &[Line<'a>], line: usize) -> Option<Line<'a>> {
+    lines.get(line.checked_sub(1)?).copied()
 }
 
 impl Display for Line<'_> {

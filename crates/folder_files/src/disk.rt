@@ -3,6 +3,7 @@
 
 use save_steps::Sum;
 use sha2::{Digest, Sha256};
+use std::alloc::{Alloc, AllocError, Global};
 use std::fs::{self, Metadata, OpenFile, OpenOptions};
 use std::io::{self, ErrorKind, Read, Write};
 use std::os::unix::fs::{MetadataExt, OpenOptionsExt, chown};
@@ -13,6 +14,9 @@ const OWNER_ONLY: u32 = 0o600;
 
 /// The mode of a new file that replaces none, from which the system takes what the user's mask leaves out.
 const FOR_ALL: u32 = 0o666;
+
+/// The most new names that are tried for one file.
+const TRIES: u32 = 10_000;
 
 /// The most bytes that one read of a sum asks for.
 const CHUNK: usize = 65_536;
@@ -154,4 +158,36 @@ pub(crate) fn sum_of_file<R: Disk>(rt: &R, path: &str) -> io::Result<Option<Sum>
             _ => Err(error),
         },
     }
+}
+
+/// A name beside a file's that nothing stands under; none where too many names are taken.
+pub(crate) fn fresh_name<R: Disk + Alloc<A = Global>>(
+    rt: &R,
+    name: &str,
+) -> Result<Option<String>, AllocError> {
+    for number in 0..TRIES {
+        let fresh = if number == 0 {
+            format!(in rt.alloc(); "{name}.new")?
+        } else {
+            format!(in rt.alloc(); "{name}.new{number}")?
+        };
+        if is_free(rt, fresh.as_str()) {
+            return Ok(Some(fresh));
+        }
+    }
+    Ok(None)
+}
+
+/// Makes a whole file where none stands, down to the device: first under a fresh name, so that nobody meets half of it.
+pub fn put_new_file<R: Disk + Alloc<A = Global>>(
+    rt: &R,
+    name: &str,
+    bytes: &[u8],
+) -> io::Result<()> {
+    let Some(draft) = fresh_name(rt, name)? else {
+        return Err(io::Error::from(ErrorKind::AlreadyExists));
+    };
+    write_new(rt, draft.as_str(), bytes, None)?;
+    fs::rename(rt, draft.as_str(), name)?;
+    sync_folder(rt)
 }

@@ -5,6 +5,7 @@ ghost use Rattle.std.specs.Prelude.{◌≡◌, ◌≤◌};
 ghost use Rattle.file_access.specs.Holding.{Rose};
 
 use file_access::{Device, Files, ReadFault, read_within};
+use save_steps::Sum;
 use std::alloc::{Alloc, AllocError, Global};
 use std::fs::{self, OpenFile};
 use std::io::{self, ErrorKind, Write};
@@ -23,6 +24,9 @@ pub enum Doing {
 pub trait Listener {
     /// A file of so many bytes is read or written now.
     fn hear(&self, doing: Doing, name: &str, size: u64);
+
+    /// A file of a run was read, and what it holds has this sum; none where there is no such file.
+    fn found(&self, name: &str, sum: Option<Sum>);
 }
 
 /// Nobody hears it.
@@ -31,6 +35,8 @@ pub struct Nobody;
 
 impl Listener for Nobody {
     fn hear(&self, _doing: Doing, _name: &str, _size: u64) {}
+
+    fn found(&self, _name: &str, _sum: Option<Sum>) {}
 }
 
 /// The files of the folder in which the program runs: names are those of its files. A file that is replaced has its new

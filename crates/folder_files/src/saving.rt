@@ -6,21 +6,19 @@ ghost use Rattle.file_access.specs.Holding.{Rose};
 
 use crate::backup::{copy_file, make_folder};
 use crate::disk::{
-    Old, is_free, remove_if_there, standing, sum_of_file, sync_folder, sync_path, write_new,
+    Old, fresh_name, remove_if_there, standing, sum_of_file, sync_folder, sync_path, write_new,
 };
 use crate::folder::{Doing, Folder, Listener};
 use crate::papers::{Written, put_paper, remove_draft, remove_paper};
 use crate::targets::{Hindrance, Target, target_of};
 use crate::user::Who;
 use file_access::{Device, Files, ReadFault};
+use journal_papers::FileSum;
 use save_papers::{PaperEntry, SavePaper, sum_of};
 use save_steps::{Paper, Slot, Step, Sum, steps_of_finish, steps_of_save};
 use std::alloc::{Alloc, AllocError, Global};
 use std::rt::Files as Disk;
 use std::{fs, io};
-
-/// The most new names that are tried for one file.
-const TRIES: u32 = 10_000;
 
 /// A file that was read: its name, what stands under it, and the sum of what it held, none where there was no such file.
 #[derive(Drop)]
@@ -43,6 +41,8 @@ struct Pending {
 pub struct SaveTerms<'a> {
     /// Why no table may be read, if none may.
     pub closed: Option<Hindrance>,
+    /// Whether tables are to be saved: then those that couldn't be replaced aren't read.
+    pub saves: bool,
     /// Whether a new file is the user's where it can't be given to the old one's owner and group.
     pub takes_over: bool,
     /// The folder to which all that is replaced is copied first.
@@ -110,6 +110,18 @@ impl<'a, R: Disk + Alloc<A = Global>, L: Listener> SavingFolder<'a, R, L> {
         self.hindrance
     }
 
+    /// The names of the files that are to be replaced, and the sums of what they are to hold.
+    pub fn new_sums(&self) -> Result<Vec<FileSum>, AllocError> {
+        let alloc = self.folder.rt.alloc();
+        let mut sums = Vec::new(alloc);
+        for pending in &self.pending {
+            let name = String::from_str(alloc, pending.name.as_str())?;
+            let sum = Some(sum_of(pending.bytes.as_slice()));
+            sums.push(FileSum { name, sum })?;
+        }
+        Ok(sums)
+    }
+
     /// The name of a file that is to be replaced, by its number.
     pub fn name_of(&self, file: usize) -> &str {
         match self.pending.get(file) {
@@ -131,7 +143,8 @@ impl<'a, R: Disk + Alloc<A = Global>, L: Listener> SavingFolder<'a, R, L> {
         if let Some(closed) = self.terms.closed {
             return Err(closed);
         }
-        let target = target_of(self.folder.rt, name, &self.who, self.terms.takes_over)?;
+        let takes_over = self.terms.takes_over || !self.terms.saves;
+        let target = target_of(self.folder.rt, name, &self.who, takes_over)?;
         if self.was_read(&target) {
             return Err(Hindrance::Twice);
         }
@@ -142,6 +155,7 @@ impl<'a, R: Disk + Alloc<A = Global>, L: Listener> SavingFolder<'a, R, L> {
     fn note(&mut self, name: &str, target: Target, sum: Option<Sum>) -> Result<(), AllocError>
         ensures { self.new.folder.failures ≡ self.old.folder.failures }
     {
+        self.folder.listener.found(name, sum);
         let name = String::from_str(self.folder.rt.alloc(), name)?;
         self.loaded.push(Loaded { name, target, sum })?;
         Ok(())
@@ -194,22 +208,6 @@ impl<'a, R: Disk + Alloc<A = Global>, L: Listener> SavingFolder<'a, R, L> {
         None
     }
 
-    /// A name beside a file's that nothing stands under.
-    fn fresh_name(&self, name: &str) -> Result<Option<String>, AllocError> {
-        let alloc = self.folder.rt.alloc();
-        for number in 0..TRIES {
-            let fresh = if number == 0 {
-                format!(in alloc; "{name}.new")?
-            } else {
-                format!(in alloc; "{name}.new{number}")?
-            };
-            if is_free(self.folder.rt, fresh.as_str()) {
-                return Ok(Some(fresh));
-            }
-        }
-        Ok(None)
-    }
-
     /// A file's name and its new file's, and the sums of what it held and is to hold.
     fn entry_of(
         &self,
@@ -246,7 +244,7 @@ impl<'a, R: Disk + Alloc<A = Global>, L: Listener> SavingFolder<'a, R, L> {
         let mut entries = Vec::new(alloc);
         let mut besides = Vec::new(alloc);
         for (file, pending) in self.pending.iter().enumerate() {
-            let Ok(fresh) = self.fresh_name(pending.target.as_str()) else {
+            let Ok(fresh) = fresh_name(self.folder.rt, pending.target.as_str()) else {
                 return Err(Unsaved::Memory);
             };
             let Some(beside) = fresh else {
@@ -464,7 +462,10 @@ impl<R: Disk + Alloc<A = Global>, L: Listener> Files for SavingFolder<'_, R, L> 
 
     fn read(&mut self, alloc: Global, name: &str, limit: usize) -> Result<Vec<u8>, ReadFault> {
         if !is_saved(name) {
-            return self.folder.read(alloc, name, limit);
+            let bytes = self.folder.read(alloc, name, limit)?;
+            let sum = sum_of(bytes.as_slice());
+            self.folder.listener.found(name, Some(sum));
+            return Ok(bytes);
         }
         let target = match self.looked_at(name) {
             Ok(target) => target,

@@ -1,7 +1,7 @@
 //! Command files, and the trees or faults that they give.
 
 use crate::texts::{Nest, bytes_of, nested};
-use prg_parser::{Form, ParseRefusal, Program, Text, parse};
+use prg_parser::{Form, ParseRefusal, Program, Text, line_faults, parse};
 use std::alloc::{AllocError, Global};
 use std::process::Abort;
 use std::test::Fail;
@@ -190,6 +190,43 @@ fn faults() -> &'static str {
 #[test]
 fn tells_faults(rt: HostRuntime) -> Result<(), Fail> {
     expect_rows(&rt, rt.alloc(), faults())
+}
+
+/// All faults of a file.
+fn listed(alloc: Global, file: &[u8]) -> Result<String, AllocError> {
+    let mut text = String::new(alloc);
+    for fault in &line_faults(alloc, file)? {
+        let line = fault.line;
+        let kind = fault.kind;
+        text.push_str(format!(in alloc; "{line} {kind:?}; ")?.as_str())?;
+    }
+    Ok(text)
+}
+
+/// Files with several faults.
+fn several_faults() -> &'static str {
+    "\
+     READ|\n\
+     ? &X~IF A +~ENDIF|1 Macro; 2 Expression; \n\
+     IF A~ELSE~ELSE~ENDIF~FOO|3 Block; 5 Word; \n\
+     SCAN~IF A~PROCEDURE P~FOO|4 Word; 1 Block; 2 Block; \n\
+     LOOP~DO CASE~? 1~IF 1 +~ENDIF~CASE 1 +~ENDCASE|1 Block; 3 Block; 4 Expression; 6 Expression; \n\
+    "
+}
+
+/// A faulty line still opens its block, and one that fits none changes nothing; within a block that is too deep no line
+/// is told for its place.
+#[test]
+fn lists_all_faults(rt: HostRuntime) -> Result<(), Fail> {
+    for row in several_faults().lines() {
+        let (example, wanted) = row.split_once('|').ok_or("no row")?;
+        let found = listed(rt.alloc(), &bytes_of(rt.alloc(), example)?)?;
+        assert!(rt; found.as_str() == wanted, "{found}");
+    }
+    let deep = nested(rt.alloc(), &nest(b"", b"IF A\n", 33, b"LOOP\n", b"ENDIF\n"))?;
+    let found = listed(rt.alloc(), &deep)?;
+    assert!(rt; found.as_str() == "33 TooDeep; ", "{found}");
+    Ok(())
 }
 
 /// Whether a file is a program, or its fault.

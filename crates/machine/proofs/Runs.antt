@@ -1,5 +1,5 @@
 -- A run of the machine without tags beside that of the checking machine.
-use Rattle.std.proofs.Common.{◌≡◌, ◌≤◌, ℕ, List, Option, Some, length, sym, subst, arith}
+use Rattle.std.proofs.Common.{◌≡◌, ◌≤◌, ◌∙◌, ◌++◌, ℕ, List, [], ◌∷◌, Bool, true, Option, Some, length, refl, ap, sym, subst, arith}
 use Rattle.shape.specs.declared.whole.Shape.{Shape}
 use Rattle.calendar.specs.declared.day.DayParts.{DayParts}
 use Rattle.work_area.specs.Areas.{StoreState}
@@ -7,7 +7,7 @@ use Rattle.work_area.specs.Shapes.{HasShape}
 use Rattle.code_items.specs.declared.code.Code.{Code}
 use Rattle.run_values.specs.Standing.{IsByKind}
 use Rattle.run_steps.specs.declared.ending.Outcome.{Outcome}
-use Rattle.run_steps.specs.World.{World}
+use Rattle.run_steps.specs.World.{World, with_lines}
 use Rattle.run_steps.specs.Run.{step_of, after, spent, IsNoFault, IsFault, Ran, Stands, Ends}
 use Rattle.run_steps.specs.Opening.{opening}
 use Rattle.run_steps.specs.Safe.{IsSafe}
@@ -15,6 +15,11 @@ use Rattle.run_steps.specs.Shapes.{StoreFits}
 use Rattle.fit_laws.specs.Fits.{IsFitting}
 use Rattle.machine.specs.Twins.{BankState, AgreesWith, Begins, Twin}
 use Rattle.machine.specs.Headline.{Headline}
+use Rattle.machine.specs.Pauses.{PausesAt, GoesTo}
+use Rattle.run_steps.specs.declared.pausing.Leg.{Leg}
+use Rattle.run_steps.specs.declared.pausing.Leg.TheVariants.{Ended, Waits, Marked}
+use Rattle.run_steps.specs.Pausing.{Pauses, Goes, with_more}
+use Rattle.text_lines.specs.Lines.{is_out}
 use Rattle.machine.proofs.Kept.{Keeps, kept}
 
 -- ---- standing for a world
@@ -56,7 +61,7 @@ pub record Laws (code : Code) : Type 0 where
   pub end : (w : World) (budget : ℕ) (outcome : Outcome) (v : World) → IsSafe code w → Ran code w budget outcome v → ¬ IsFault outcome.end
   pub few : (w : World) (n : ℕ) (v : World) → after code w n ≡ Some v → n ≤ spent code w n
 
-pub headline : (code : Code) → Laws code → (from : World) (budget : ℕ) (outcome : Outcome) (b : BankState) → IsFitting code from → Ends code from budget outcome (IsByKind b.values) b.place b.returns b.env → Headline code from budget outcome b
+unfoldable pub headline : (code : Code) → Laws code → (from : World) (budget : ℕ) (outcome : Outcome) (b : BankState) → IsFitting code from → Ends code from budget outcome (IsByKind b.values) b.place b.returns b.env → Headline code from budget outcome b
 headline code laws from budget outcome b fit ends =
     let there = laws.fits from fit ends.ran.count ends.last ends.ran.reached in
     let same = agrees b ends.last ends.stands in
@@ -76,3 +81,57 @@ headline code laws from budget outcome b fit ends =
       as_declared = subst (λ s. StoreFits code.declared s) (sym same.store) there.shape.store;
       goes_on = record { agrees = same; fits = there };
     }
+
+-- ---- pauses
+
+unfoldable pub paused : (code : Code) → Laws code → (from : World) (budget steps : ℕ) (b : BankState) → IsFitting code from → (p : Pauses code from budget steps (IsByKind b.values) b.place b.returns b.env) → PausesAt code from budget steps b
+paused code laws from budget steps b fit p =
+    let there = laws.fits from fit p.came.count p.last p.came.reached in
+    let same = agrees b p.last p.stands in
+    let safe = laws.safe from fit in
+    record {
+      world = p.last;
+      takes_its_steps = p.came;
+      agrees = same;
+      meets_no_fault = laws.steps from safe;
+      as_known = laws.fits from fit;
+      within_the_stack = λ n v at. laws.stack v (laws.fits from fit n v at);
+      few_calls = λ n v at. laws.returns v (laws.fits from fit n v at);
+      within_the_budget = p.within;
+      few_steps = (let few = laws.few from p.came.count p.last p.came.reached in omega (arith, few, p.came.steps_are, p.within));
+      keeps_tables_and_indexes = λ shape h. subst (λ s. HasShape shape s) (sym same.store) (kept shape code from p.came.count p.last (laws.keeps shape) p.came.reached h);
+      as_declared = subst (λ s. StoreFits code.declared s) (sym same.store) there.shape.store;
+      goes_on = record { agrees = same; fits = there };
+    }
+
+pub goes_to : (code : Code) → Laws code → (from : World) (budget : ℕ) (marks : List Bool) (leg : Leg) (b : BankState) → IsFitting code from → Goes code from budget marks leg (IsByKind b.values) b.place b.returns b.env → GoesTo code from budget marks leg b
+unfolding headline paused
+goes_to code laws from budget marks (Ended outcome) b fit g = (headline code laws from budget outcome b fit g.0, g.1)
+goes_to code laws from budget marks (Waits steps) b fit g = (paused code laws from budget steps b fit g.0, g.1)
+goes_to code laws from budget marks (Marked steps) b fit g = (paused code laws from budget steps b fit g.0, g.1)
+
+-- ---- lines
+
+out_lines : (ls more : List (List ℕ)) → is_out ls ≡ true → more ≡ ls ++ more
+out_lines [] more out = refl
+out_lines (l ∷ ls) more out = absurd (cc)
+
+pub more_lines : (code : Code) (w : World) (b : BankState) (lines : List (List ℕ)) → Twin code w b → is_out b.env.lines ≡ true → Twin code (with_more lines w) (record b { env = with_lines lines b.env })
+more_lines code w b lines t out = record {
+  agrees = record {
+    place = t.agrees.place;
+    returns = t.agrees.returns;
+    store = t.agrees.store;
+    screen = t.agrees.screen;
+    lines = out_lines b.env.lines lines out ∙ ap (λ ls. ls ++ lines) t.agrees.lines;
+    settings = t.agrees.settings;
+    today = t.agrees.today;
+    values = t.agrees.values;
+  };
+  fits = record {
+    shape = record { place = t.fits.shape.place; state = t.fits.shape.state; calls = t.fits.shape.calls; store = t.fits.shape.store };
+    apart = t.fits.apart;
+    fits = t.fits.fits;
+    awaits = t.fits.awaits;
+  };
+}

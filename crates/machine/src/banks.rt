@@ -1,18 +1,22 @@
 //! The banks: a stack for each kind, slots with a place for each kind, and all else that a run changes.
 
-ghost use Rattle.std.specs.Prelude.{◌≡◌, IfOk, IsSomeAnd, MatchOption, None, slice_get};
+ghost use Rattle.std.specs.Prelude.{◌≡◌, true, IfOk, IsSomeAnd, MatchOption, None, slice_get};
 ghost use Rattle.machine.specs.Twins.{Begins};
 ghost use Rattle.row_keys.specs.Lists.{index_list};
 ghost use Rattle.run_steps.specs.Opening.{opening as opening_of};
 ghost use Rattle.run_steps.specs.Shapes.{StoreFits};
+ghost use Rattle.run_steps.specs.World.{with_lines};
 ghost use Rattle.screen_lines.specs.State.{sent};
+ghost use Rattle.text_lines.specs.Lines.{is_out, short_lines};
 ghost use Rattle.open_table.specs.Marks.{mark_at, parts_in};
 ghost use Rattle.work_area.specs.Areas.{table_at};
 
 use calendar::Day;
 use key_lists::KeyList;
+use line_journal::KeptLine;
 use run_steps::Machine;
 use run_values::Untagged;
+use screen_lines::Screen;
 use std::alloc::{AllocError, Global};
 use std::marker::Model;
 use text_lines::TypedLines;
@@ -79,5 +83,29 @@ impl<K: KeyList> Banks<K> {
         ensures { IfOk result (λ bytes. bytes.items ≡ sent self.now.env.screen) }
     {
         self.machine.finish(alloc)
+    }
+
+    /// The screen.
+    pub fn screen(&self) -> &Screen
+        ensures { result.now ≡ self.now.env.screen }
+    {
+        self.machine.env.screen()
+    }
+
+    /// The place of the next instruction in the code.
+    pub fn place(&self) -> usize
+        ensures { result ≡ self.now.place }
+    {
+        self.machine.place
+    }
+
+    /// Takes a line that was kept, where none is left. Nothing else changes, and no memory is taken.
+    pub fn take_line(&mut self, line: KeptLine)
+        requires { is_out self.old.env.lines ≡ true }
+        ensures { self.new ≡ record self.old { env = with_lines (short_lines line) self.old.env } }
+    {
+        self.machine
+            .env
+            .add_lines(TypedLines::new(line.into_bytes()));
     }
 }

@@ -3,8 +3,12 @@
 ghost use Rattle.code_items.specs.Legal.{IsCode};
 ghost use Rattle.code_rules.specs.Rules.{Accepted};
 ghost use Rattle.machine.specs.Headline.{Headline};
-ghost use Rattle.machine.specs.Twins.{Begins, Twin};
-ghost use Rattle.run_steps.specs.World.{World};
+ghost use Rattle.machine.specs.Pauses.{GoesTo};
+ghost use Rattle.machine.specs.Twins.{BankState, Begins, Twin};
+ghost use Rattle.run_steps.specs.Pausing.{with_more};
+ghost use Rattle.run_steps.specs.World.{World, with_lines};
+ghost use Rattle.std.specs.Prelude.{◌≡◌, ℕ, List, true};
+ghost use Rattle.text_lines.specs.Lines.{is_out};
 
 use crate::banks::Banks;
 use code_items::Code;
@@ -13,7 +17,7 @@ use fit_laws::laws::{
 };
 use key_lists::KeyList;
 use run_laws::laws::{runs_cost_their_steps, safe_runs_meet_no_fault};
-use run_steps::{Outcome, run as run_untested};
+use run_steps::{Leg, Outcome, run as run_untested, run_to_line};
 use std::alloc::Global;
 use work_area::laws::{stores_keep_their_shape, tables_keep_their_kind};
 use xverify::Verified;
@@ -66,4 +70,59 @@ pub fn run<K: KeyList>(
 {
     openings_fit();
     go_on(alloc, verified.code(), banks, budget)
+}
+
+/// Goes on as `resume` does, and pauses where the next instruction takes a line of the operator, none is left, and its
+/// cost fits what is left of the budget (whether it is spent is judged first); and, behind at least one step, before an
+/// instruction at a marked place. No step that was taken took a line where none was left. At a pause the banks agree
+/// with the world before the next step, and a run may go on from there. What pieces of a run come to together are the
+/// laws `lines_behind_change_no_step` and `pieces_make_the_whole` of `run_laws`.
+pub fn resume_to_line<K: KeyList>(
+    alloc: Global,
+    verified: &Verified,
+    marks: &[bool],
+    banks: &mut Banks<K>,
+    budget: u64,
+) -> Leg
+    requires { (w : World) × Twin verified.now w banks.old }
+    ensures { (w : World) → Twin verified.now w banks.old
+        → GoesTo verified.now w budget marks.now result banks.new }
+{
+    go_to_line(alloc, verified.code(), marks, banks, budget)
+}
+
+/// Runs an accepted code from banks that agree with a world in which the code may go on, as far as `resume_to_line`
+/// says.
+fn go_to_line<K: KeyList>(
+    alloc: Global,
+    code: &Code,
+    marks: &[bool],
+    banks: &mut Banks<K>,
+    budget: u64,
+) -> Leg
+    requires legal { IsCode code.now }
+    requires accepted { Accepted code.now }
+    requires twin { (w : World) × Twin code.now w banks.old }
+    ensures { (w : World) → Twin code.now w banks.old → GoesTo code.now w budget marks.now result banks.new }
+{
+    fitting_worlds_are_safe();
+    runs_keep_fitting();
+    fitting_worlds_keep_the_bounds();
+    stores_keep_their_shape();
+    tables_keep_their_kind();
+    runs_cost_their_steps();
+    safe_runs_meet_no_fault();
+    run_to_line(alloc, code, marks, &mut banks.machine, budget)
+}
+
+/// Banks from which a run begins agree with a world of the code's runs, and so do those that took lines: with the same
+/// world, with these lines behind those that were left.
+pub fn banks_go_on(verified: &Verified)
+    ensures begun { (w : World) (b : BankState) → Begins verified.now w b → Twin verified.now w b }
+    ensures more { (w : World) (b : BankState) (lines : List (List ℕ)) → Twin verified.now w b
+        → is_out b.env.lines ≡ true
+        → Twin verified.now (with_more lines w) (record b { env = with_lines lines b.env }) }
+{
+    openings_fit();
+    let _code = verified.code();
 }

@@ -174,12 +174,12 @@ impl Block {
         let Some(there) = self.labels.get(label) else {
             return Ok(());
         };
-        if there.split {
-            return Err(CompileError::Fault(CompileFaultKind::Merge));
-        }
         if let Some(state) = &there.state {
             self.state = state.copied(self.alloc)?;
             self.reached = true;
+        }
+        if there.split {
+            return Err(CompileError::Fault(CompileFaultKind::Merge));
         }
         Ok(())
     }

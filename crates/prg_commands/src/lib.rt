@@ -11,5 +11,5 @@ mod variables;
 
 pub use moves::{put_skip_on, put_top};
 pub use statement::{may_stand_before_read, put_statement};
-pub use values::{condition, scope_of, value};
+pub use values::{condition, put_constant, scope_of, value};
 pub use variables::{argument_slot, new_slot};

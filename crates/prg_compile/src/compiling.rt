@@ -1,6 +1,7 @@
 //! The whole compiler.
 
-ghost use Rattle.std.specs.Prelude.{◌≡◌, ◌<◌, length, IfOk};
+ghost use Rattle.std.specs.Prelude.{◌≡◌, ◌<◌, None, Some, length, slice_get, IfOk};
+ghost use Rattle.prg_compile.specs.Alone.{IsCompilable};
 ghost use Rattle.code_items.specs.Legal.{IsCode};
 ghost use Rattle.prg_compile.specs.Alone.{IsLaidAlone};
 
@@ -11,7 +12,7 @@ use prg_code::{
 use prg_control::{Inside, commands, end_copy, end_procedure, last_line};
 use prg_laid::{LayoutFault, judge};
 use prg_parser::Program;
-use prg_writer::{ProcedureCopy, Source, Target, Writer, assemble, copy_of_shape};
+use prg_writer::{FaultList, ProcedureCopy, Source, Target, Writer, assemble, copy_of_shape};
 use std::alloc::{AllocError, Global};
 use xverify::{Verified, VerifyError, verify};
 
@@ -53,6 +54,7 @@ fn begun(alloc: Global) -> Result<Writer, AllocError> {
         copies,
         active,
         heads: Vec::new(alloc),
+        listed: None,
     })
 }
 
@@ -63,9 +65,14 @@ struct WrittenCode {
     names: Names,
 }
 
-/// Writes all that is reached from the main procedure on.
-fn written(alloc: Global, s: &Source) -> Result<WrittenCode, CompileRefusal> {
+/// Writes all that is reached from the main procedure on. Faults are listed, where there is a list for them.
+fn written(
+    alloc: Global,
+    s: &Source,
+    listed: Option<FaultList>,
+) -> Result<WrittenCode, CompileRefusal> {
     let mut w = begun(alloc)?;
+    w.listed = listed;
     let list = s.commands(MAIN);
     let at = Inside {
         leaps: None,
@@ -149,10 +156,79 @@ pub fn compile(
     ensures laid { IfOk result (λ verified. IsLaidAlone verified programs.now) }
 {
     let copy = copy_of_shape(alloc, shape)?;
-    let WrittenCode { writer, names } = written(alloc, &Source { programs, shape })?;
+    let WrittenCode { writer, names } = written(alloc, &Source { programs, shape }, None)?;
     let Writer { out, copies, .. } = writer;
     match assemble(alloc, copy, out, &copies) {
         Ok(code) => accepted(alloc, code, programs, &names),
         Err(error) => Err(error.at(0, 0)),
+    }
+}
+
+/// The fault that is told, and these behind it.
+fn told_first(
+    alloc: Global,
+    told: CompileFault,
+    others: &[CompileFault],
+) -> Result<Vec<CompileFault>, AllocError>
+    ensures { IfOk result (λ faults. slice_get faults.items 0 ≡ Some told) }
+{
+    let mut faults = Vec::new(alloc);
+    faults.push(told)?;
+    faults.extend_from_slice(others)?;
+    Ok(faults)
+}
+
+/// The faults behind the one that `compile` tells.
+fn further(
+    alloc: Global,
+    source: &Source,
+    told: CompileFault,
+) -> Result<Vec<CompileFault>, CompileRefusal> {
+    let list = FaultList::behind(alloc, told)?;
+    let WrittenCode { writer, .. } = written(alloc, source, Some(list))?;
+    let Writer { listed, .. } = writer;
+    match listed {
+        Some(list) => Ok(list.into_faults()),
+        None => Ok(Vec::new(alloc)),
+    }
+}
+
+/// The fault that `compile` tells, and those behind it.
+fn all_faults(
+    alloc: Global,
+    source: &Source,
+    told: CompileFault,
+) -> Result<Vec<CompileFault>, AllocError>
+    ensures { IfOk result (λ faults. slice_get faults.items 0 ≡ Some told) }
+{
+    match further(alloc, source, told) {
+        Ok(others) => told_first(alloc, told, &others),
+        Err(CompileRefusal::Fault(_)) => told_first(alloc, told, &[]),
+        Err(CompileRefusal::NoMemory) => Err(AllocError),
+    }
+}
+
+/// The faults for which command files aren't compiled, one of each line: first the one that `compile` tells, then those
+/// that are found behind it, in the order in which code is written. Nothing of a faulty command is written then, a
+/// faulty condition counts as .T., and ways that don't fit together meet all the same; so a line may be faulty only
+/// since an earlier one is. None where `compile` answers a code.
+///
+/// # Errors
+///
+/// Want of memory.
+pub fn find_faults(
+    alloc: Global,
+    programs: &[Program],
+    shape: &Shape,
+) -> Result<Vec<CompileFault>, AllocError>
+    requires programs { 0 < length programs.now }
+    // Where there is no fault, there is a code that is accepted, for these tables and indexes.
+    ensures faultless { IfOk result (λ faults. slice_get faults.items 0 ≡ None
+        → IsCompilable shape.now programs.now) }
+{
+    match compile(alloc, programs, shape) {
+        Ok(_verified) => Ok(Vec::new(alloc)),
+        Err(CompileRefusal::Fault(told)) => all_faults(alloc, &Source { programs, shape }, told),
+        Err(CompileRefusal::NoMemory) => Err(AllocError),
     }
 }

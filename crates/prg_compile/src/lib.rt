@@ -6,6 +6,6 @@
 
 mod compiling;
 
-pub use compiling::compile;
+pub use compiling::{compile, find_faults};
 pub use prg_code::{CompileFault, CompileFaultKind, CompileRefusal, Names, Pool};
 pub use prg_values::{Scope, compile_expr};

@@ -10,12 +10,12 @@ use crate::calling::{
 use crate::ends::{Leaps, end_procedure, no_get_waits, plain};
 use code_items::{Instr, Question, RecordInstr, State, ValueInstr};
 use prg_code::{CompileError, CompileFaultKind, CompileRefusal, Names, is_state_same};
-use prg_commands::{condition, put_skip_on, put_top};
+use prg_commands::{condition, put_constant, put_skip_on, put_top};
 use prg_expr::Expr;
 use prg_line::Statement;
 use prg_parser::{Branch, Case, Command, Form, Name};
 use prg_writer::{Source, Target, Writer, parameters};
-use xvalue::Fun;
+use xvalue::{Fun, Value};
 
 /// The most rounds of a loop: each one but the last loses what is known of a slot or a work area.
 const MOST_ROUNDS: u16 = 300;
@@ -67,7 +67,7 @@ impl Inside {
     }
 }
 
-/// A condition and a JUMPF to the label.
+/// A condition and a JUMPF to the label. Where faults are listed, a faulty condition counts as .T.
 fn put_condition(
     s: &Source,
     w: &mut Writer,
@@ -75,8 +75,13 @@ fn put_condition(
     e: &Expr,
     label: usize,
 ) -> Result<(), CompileRefusal> {
+    let begun = w.begun()?;
     let result = condition(s.shape, &mut w.out, &mut w.work, e);
-    w.told(line, result)?;
+    let outcome = w.told(line, result);
+    if w.gave_up(begun, outcome)? {
+        let result = put_constant(&mut w.out, &mut w.work, Value::Logical(true));
+        w.told(line, result)?;
+    }
     let result = w.work.block.jump_false(label);
     w.told(line, result)
 }
@@ -88,7 +93,8 @@ fn new_label(w: &mut Writer, line: usize) -> Result<usize, CompileRefusal> {
 
 fn place(w: &mut Writer, line: usize, label: usize) -> Result<(), CompileRefusal> {
     let result = w.work.block.place(label);
-    w.told(line, result)
+    let outcome = w.told(line, result);
+    w.passed(outcome)
 }
 
 fn jump(w: &mut Writer, line: usize, label: usize) -> Result<(), CompileRefusal> {
@@ -110,7 +116,7 @@ fn next_line(cases: &[Case], otherwise: &Option<Branch>, end: usize) -> usize {
 /// Whether a round of a loop that began with what is known here holds, after all its ways back; else what they know
 /// together. Merge where another work area is selected on a way back.
 fn round_end(
-    w: &Writer,
+    w: &mut Writer,
     end: usize,
     top: usize,
     head: &State,
@@ -119,7 +125,9 @@ fn round_end(
         return Ok(None);
     };
     if label.split {
-        return Err(w.faulty(end, CompileFaultKind::Merge));
+        let outcome = Err(w.faulty(end, CompileFaultKind::Merge));
+        w.passed(outcome)?;
+        return Ok(None);
     }
     match &label.state {
         Some(state) if !is_state_same(state, head) => Ok(Some(state.copied(w.alloc)?)),
@@ -165,8 +173,25 @@ pub fn commands(
     }
 }
 
+/// Puts a command. Where faults are listed, nothing of a faulty one is put.
 #[cycle(commands)]
 fn put_command(
+    s: &Source,
+    w: &mut Writer,
+    at: Inside,
+    command: &Command,
+) -> Result<(), CompileRefusal> {
+    if at.room == 0 {
+        return Err(w.faulty(command.line, CompileFaultKind::Limit));
+    }
+    let begun = w.begun()?;
+    let outcome = put_form(s, w, at.deeper(), command);
+    w.gave_up(begun, outcome)?;
+    Ok(())
+}
+
+#[cycle(commands)]
+fn put_form(
     s: &Source,
     w: &mut Writer,
     at: Inside,
@@ -497,7 +522,8 @@ fn write_copy(
     let result = begin_copy(w, target, names, own);
     let (number, before) = w.told(line, result)?;
     let (_, list) = parameters(s.commands(target));
-    commands(s, w, at.deeper(), list, None)?;
+    let outcome = commands(s, w, at.deeper(), list, None);
+    w.passed(outcome)?;
     end_procedure(w, last_line(list, line))?;
     end_copy(w, number, before);
     Ok(number)

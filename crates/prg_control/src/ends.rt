@@ -89,24 +89,27 @@ pub fn plain(
     w.told(line, result)
 }
 
-/// Get at this line where a READ is awaited.
-pub fn no_get_waits(w: &Writer, line: usize) -> Result<(), CompileRefusal> {
+/// Get at this line where a READ is awaited. Where faults are listed, none is awaited any more.
+pub fn no_get_waits(w: &mut Writer, line: usize) -> Result<(), CompileRefusal> {
     if w.work.gets.is_empty() {
-        Ok(())
-    } else {
-        Err(w.faulty(line, CompileFaultKind::Get))
+        return Ok(());
     }
+    let outcome = Err(w.faulty(line, CompileFaultKind::Get));
+    w.passed(outcome)?;
+    w.work.gets.clear();
+    Ok(())
 }
 
 /// Ends a procedure whose last command stands in this line. Get where a READ is awaited, at the line of the last GET.
 pub fn end_procedure(w: &mut Writer, line: usize) -> Result<(), CompileRefusal> {
     if let Some(get) = w.work.gets.last() {
         let line = get.line;
-        return Err(w.faulty(line, CompileFaultKind::Get));
+        no_get_waits(w, line)?;
     }
     if !w.work.block.reached {
         return Ok(());
     }
     let result = put_return(&mut w.work);
-    w.told(line, result)
+    let outcome = w.told(line, result);
+    w.passed(outcome)
 }

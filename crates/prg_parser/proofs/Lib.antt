@@ -2,6 +2,7 @@ pub mod BuildLemmas
 pub mod FileLemmas
 pub mod JoinLemmas
 pub mod LayoutLemmas
+pub mod ListingLemmas
 pub mod MarkLemmas
 pub mod OneProgram
 pub mod RangeLemmas

@@ -1,10 +1,10 @@
 -- The line that a fault names is a line of the file.
 
 use Rattle.std.proofs.Common.{◌≡◌, ℕ, suc, ◌+◌, ◌-◌, ◌<◌, ◌≤◌, List, [], ◌∷◌, ◌++◌, Option, Some, None, Bool, true, false, length, get_or, map, refl, sym, ap, subst, arith}
-use Rattle.std.specs.Prelude.{slice_get, option_map, if◌then◌else◌}
+use Rattle.std.specs.Prelude.{slice_get, option_map, if◌then◌else◌, is_none, nat_le, nat_lt}
 use Rattle.std.specs.List.{All}
 use Rattle.std.proofs.lemmas.Option.{slice_get_within, get_or_from_slice_get}
-use Rattle.std.proofs.lemmas.List.Elements.{All-nil, All-cons, All-head, All-tail, All-weaker, All-push, All-take, All-get_or, All-map, All-same}
+use Rattle.std.proofs.lemmas.List.Elements.{All-nil, All-cons, All-head, All-tail, All-weaker, All-push, All-take, All-get_or, All-append, All-map, All-same}
 use Rattle.prg_expr.specs.declared.fault.ParseFaultKind.{ParseFaultKind}
 use Rattle.prg_expr.specs.declared.fault.ParseFault.{ParseFault}
 use Rattle.prg_parser.specs.declared.blocks.Part.{Part}
@@ -20,6 +20,7 @@ use Rattle.prg_parser.specs.Marks.{mark_of, marks}
 use Rattle.prg_parser.specs.Verdict as spec
 use Rattle.prg_parser.specs.Verdict.{IsLineOf, verdict}
 use Rattle.prg_parser.specs.Blocks as blocks
+use Rattle.prg_parser.specs.Listing as listing
 use Rattle.prg_parser.specs.Blocks.{parts_after}
 
 -- the numbers of joined lines
@@ -138,13 +139,68 @@ pub marked-lines : (ls : List Joined) → map (λ (m : Mark). m.line) (map mark_
 marked-lines [] = refl
 marked-lines (j ∷ ls) = ap (λ (ns : List ℕ). j.first ∷ ns) (marked-lines ls)
 
-pub names_line : (bytes : List ℕ) (fault : ParseFault) → verdict [] None (marks bytes) ≡ Some fault → IsLineOf (length (text.lines (lines.before_end bytes))) fault.line
-names_line bytes fault v =
+-- the lines of a file's marks
+pub marked : (bytes : List ℕ) → All (λ (x : Mark). IsLineOf (length (text.lines (lines.before_end bytes))) x.line) (marks bytes)
+marked bytes =
     let count = length (text.lines (lines.before_end bytes)) in
     let all : All (λ (x : Joined). IsLineOf count x.first) (lines.joined_lines bytes) =
     All-weaker (Numbered 1 count) (λ (x : Joined). IsLineOf count x.first) (λ x h. numbered-line count x.first h) (lines.joined_lines bytes) (joined-in 1 (text.lines (lines.before_end bytes))) in
     let numbers : All (IsLineOf count) (map (λ (x : Joined). x.first) (lines.joined_lines bytes)) = All-map (IsLineOf count) (λ (x : Joined). x.first) (lines.joined_lines bytes) all in
-    let marked : All (λ (x : Mark). IsLineOf count x.line) (marks bytes) =
     by_number (IsLineOf count) (λ (x : Mark). x.line) (marks bytes)
-    (All-same (IsLineOf count) (map (λ (x : Mark). x.line) (marks bytes)) (map (λ (x : Joined). x.first) (lines.joined_lines bytes)) (marked-lines (lines.joined_lines bytes)) numbers) in
-    subst (λ (o : Option ParseFault). FaultIn count o) v (verdict-in count [] None (marks bytes) (All-nil (λ (p : Part). IsLineOf count p.line)) tt marked)
+    (All-same (IsLineOf count) (map (λ (x : Mark). x.line) (marks bytes)) (map (λ (x : Joined). x.first) (lines.joined_lines bytes)) (marked-lines (lines.joined_lines bytes)) numbers)
+
+pub names_line : (bytes : List ℕ) (fault : ParseFault) → verdict [] None (marks bytes) ≡ Some fault → IsLineOf (length (text.lines (lines.before_end bytes))) fault.line
+names_line bytes fault v =
+    let count = length (text.lines (lines.before_end bytes)) in
+    subst (λ (o : Option ParseFault). FaultIn count o) v (verdict-in count [] None (marks bytes) (All-nil (λ (p : Part). IsLineOf count p.line)) tt (marked bytes))
+
+-- all faults
+
+abbrev Named : ℕ → ParseFault → Type 0
+Named count fault = IsLineOf count fault.line
+
+one-of : {A : Type 0} (P : A → Type 0) (b : Bool) (x y : A) → P x → P y → P (if b then x else y)
+one-of P true x y h k = h
+one-of P false x y h k = k
+
+opened-by-in : (count line : ℕ) (parts : List Part) (o : Option Place) → InFile count parts → IsLineOf count line → InFile count (blocks.open_in parts line o)
+opened-by-in count line parts None h l = h
+opened-by-in count line parts (Some place) h l = opened-in count line parts place h l
+
+behind-in : (count line : ℕ) (parts : List Part) (deeper : ℕ) (role : Role) → InFile count parts → IsLineOf count line → InFile count (listing.parts_behind parts deeper line role)
+unfolding listing.parts_behind
+behind-in count line parts deeper role h l =
+    one-of (InFile count) (blocks.is_procedure role) _ _ (All-nil (λ (p : Part). IsLineOf count p.line))
+    (one-of (InFile count) (nat_lt 0 deeper) _ _ h
+    (one-of (InFile count) (is_none (blocks.fault_of parts role)) _ _ (after-in count line parts role h l)
+    (one-of (InFile count) (nat_le 32 (length parts)) _ _ h (opened-by-in count line parts (blocks.opened role) h l))))
+
+listed-in : (count line : ℕ) (o : Option ParseFaultKind) → IsLineOf count line → All (Named count) (listing.listed line o)
+listed-in count line None l = All-nil (Named count)
+listed-in count line (Some kind) l = All-cons (Named count) (record { line = line; kind = kind }) [] l (All-nil (Named count))
+
+lines-in : (count : ℕ) (parts : List Part) (deeper : ℕ) (marks : List Mark) → All (λ mark. IsLineOf count mark.line) marks → All (Named count) (listing.line_faults parts deeper marks)
+unfolding listing.line_faults
+lines-in count parts deeper [] m = All-nil (Named count)
+lines-in count parts deeper (mark ∷ others) m =
+    All-append (Named count) (listing.listed mark.line (listing.wrong_at parts deeper mark)) (listing.line_faults (listing.parts_behind parts deeper mark.line mark.role) (listing.deeper_behind parts deeper mark.role) others)
+    (listed-in count mark.line (listing.wrong_at parts deeper mark) (All-head (λ (x : Mark). IsLineOf count x.line) mark others m))
+    (lines-in count (listing.parts_behind parts deeper mark.line mark.role) (listing.deeper_behind parts deeper mark.role) others (All-tail (λ (x : Mark). IsLineOf count x.line) mark others m))
+
+ended-in : (count : ℕ) (parts : List Part) → InFile count parts → All (Named count) (listing.unended parts)
+ended-in count parts h = All-map (Named count) (λ (p : Part). spec.block_at p.line) parts h
+
+left-in : (count : ℕ) (parts : List Part) (deeper : ℕ) (marks : List Mark) → InFile count parts → All (λ mark. IsLineOf count mark.line) marks → All (Named count) (listing.left_open parts deeper marks)
+unfolding listing.left_open
+left-in count parts deeper [] h m = ended-in count parts h
+left-in count parts deeper (mark ∷ others) h m =
+    let l : IsLineOf count mark.line = All-head (λ (x : Mark). IsLineOf count x.line) mark others m in
+    All-append (Named count) (listing.unended_before parts mark.role) (listing.left_open (listing.parts_behind parts deeper mark.line mark.role) (listing.deeper_behind parts deeper mark.role) others)
+    (one-of (All (Named count)) (blocks.is_procedure mark.role) (listing.unended parts) [] (ended-in count parts h) (All-nil (Named count)))
+    (left-in count (listing.parts_behind parts deeper mark.line mark.role) (listing.deeper_behind parts deeper mark.role) others (behind-in count mark.line parts deeper mark.role h l) (All-tail (λ (x : Mark). IsLineOf count x.line) mark others m))
+
+pub names_lines : (bytes : List ℕ) → All (λ (fault : ParseFault). IsLineOf (length (text.lines (lines.before_end bytes))) fault.line) (listing.all_faults (marks bytes))
+names_lines bytes =
+    let count = length (text.lines (lines.before_end bytes)) in
+    All-append (Named count) (listing.line_faults [] 0 (marks bytes)) (listing.left_open [] 0 (marks bytes))
+    (lines-in count [] 0 (marks bytes) (marked bytes)) (left-in count [] 0 (marks bytes) (All-nil (λ (p : Part). IsLineOf count p.line)) (marked bytes))

@@ -25,7 +25,7 @@ pub at-end : (parts : List Part) (unended : Option ℕ) → verdict parts unende
 unfolding verdict
 at-end parts unended = refl
 
-split : (marks : List Mark) (i : ℕ) (d : Mark) → i < length marks → get_or marks i d ∷ drop (i + 1) marks ≡ drop i marks
+pub split : (marks : List Mark) (i : ℕ) (d : Mark) → i < length marks → get_or marks i d ∷ drop (i + 1) marks ≡ drop i marks
 split marks i d below = rw (add-one, drop-cons marks i d) refl
 
 -- a line with a fault

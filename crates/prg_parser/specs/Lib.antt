@@ -5,5 +5,6 @@ pub mod Files
 pub mod Joined
 pub mod Layout
 pub mod Lines
+pub mod Listing
 pub mod Marks
 pub mod Verdict

@@ -80,7 +80,7 @@ fn is_loop(place: Place) -> bool
 }
 
 /// The part behind a line that opens a block.
-fn opened(role: Role) -> Option<Place>
+pub fn opened(role: Role) -> Option<Place>
     ensures { result ≡ spec.opened role }
 {
     match role {
@@ -127,6 +127,16 @@ pub fn block_fault(parts: &[Part], role: Role) -> Option<ParseFaultKind>
     None
 }
 
+/// Whether the line ends a block.
+pub fn is_end(role: Role) -> bool
+    ensures { result ≡ spec.is_end role }
+{
+    matches!(
+        role,
+        Role::EndIf | Role::EndCase | Role::EndDo | Role::EndScan
+    )
+}
+
 /// Whether the line is `LOOP` or `EXIT`.
 fn is_leap(role: Role) -> bool
     ensures { result ≡ spec.is_leap role }
@@ -171,7 +181,7 @@ pub fn enter(parts: &mut Parts, line: usize, role: Role)
 }
 
 /// Opens a block in this line.
-fn open(parts: &mut Parts, line: usize, place: Place)
+pub fn open(parts: &mut Parts, line: usize, place: Place)
     requires { array_vec_len parts.old < 32 }
     ensures { parts.new.items ≡ parts.old.items ++ (record { place = place; line = line }) ∷ [] }
 {

@@ -40,7 +40,7 @@ fn earlier(line: Option<usize>, other: Option<usize>) -> Option<usize>
 }
 
 /// Whether the line is `PROCEDURE`.
-fn is_procedure_line(role: Role) -> bool
+pub fn is_procedure_line(role: Role) -> bool
     ensures { result ≡ is_procedure role }
 {
     matches!(role, Role::Procedure)

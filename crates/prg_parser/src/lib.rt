@@ -6,11 +6,12 @@ mod builder;
 mod command;
 mod judging;
 mod lines;
+mod listing;
 mod parsing;
 mod program;
 
 pub use crate::command::{Branch, Case, Command, Form};
-pub use crate::parsing::{one_program, parse};
+pub use crate::parsing::{line_faults, one_program, parse};
 pub use crate::program::{Procedure, Program};
 pub use prg_expr::{
     Expr, Function, Name, Operator, ParseFault, ParseFaultKind, ParseRefusal, Prefix, Text, expr,

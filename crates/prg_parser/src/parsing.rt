@@ -1,6 +1,7 @@
 //! From the bytes of a command file to its tree.
 
-ghost use Rattle.std.specs.Prelude.{◌≡◌, ℕ, List, length, map, IfOk, IfErr, None, []};
+ghost use Rattle.std.specs.Prelude.{◌≡◌, ℕ, List, length, map, IfOk, IfErr, None, [], slice_get};
+ghost use Rattle.std.specs.List.{All};
 ghost use Rattle.prg_expr.specs.Faults.{OnFault, Tells};
 ghost use Rattle.prg_line.specs.OneLine.{saying_at};
 ghost use Rattle.prg_line.specs.Saying.{Saying, role_of, saying_of};
@@ -12,13 +13,15 @@ ghost use Rattle.prg_parser.specs.declared.program.Program.{Program as AnyProgra
 ghost use Rattle.prg_parser.specs.Lines.{before_end};
 ghost use Rattle.text_lines.specs.Lines.{lines as line_list};
 ghost use Rattle.prg_parser.specs.Marks as spec;
-ghost use Rattle.prg_parser.specs.Verdict.{NamesLine, verdict};
+ghost use Rattle.prg_parser.specs.Verdict.{IsLineOf, NamesLine, verdict};
+ghost use Rattle.prg_parser.specs.Listing.{all_faults};
 
 use crate::builder::Builder;
 use crate::judging::{Mark, judge};
 use crate::lines::{JoinedLine, joined_lines};
+use crate::listing::list_faults;
 use crate::program::Program;
-use prg_expr::ParseRefusal;
+use prg_expr::{ParseFault, ParseRefusal};
 use prg_line::{ReadLine, Sentence, lines_are_read, one_saying, read_line};
 use std::alloc::{AllocError, Global};
 
@@ -90,6 +93,27 @@ pub fn parse(alloc: Global, bytes: &[u8]) -> Result<Program, ParseRefusal>
         Some(fault) => Err(ParseRefusal::Fault(fault)),
         None => Ok(build(alloc, &marks, sentences)?),
     }
+}
+
+/// All faults of a command file: of each line with a fault the least kind, in the order of the lines, and behind them
+/// Block at the line of each block that isn't ended. A faulty line that opens a block still opens it. Lines are
+/// counted from 1; a joined line has the number of its first.
+///
+/// # Errors
+///
+/// Want of memory.
+pub fn line_faults(alloc: Global, bytes: &[u8]) -> Result<Vec<ParseFault>, AllocError>
+    // Each fault is listed, and nothing else.
+    ensures all { IfOk result (λ faults. faults.items ≡ all_faults (spec.marks bytes.now)) }
+    // The first one is the fault that `parse` tells, so none is listed exactly where `parse` answers a program.
+    ensures told { IfOk result (λ faults. slice_get faults.items 0 ≡ verdict [] None (spec.marks bytes.now)) }
+    // Each names a line of the file.
+    ensures named { IfOk result (λ faults.
+        All (λ fault. IsLineOf (length (line_list (before_end bytes.now))) fault.line) faults.items) }
+{
+    let lines = joined_lines(alloc, bytes)?;
+    let ReadLines { marks, .. } = read_lines(alloc, &lines)?;
+    list_faults(alloc, &marks)
 }
 
 /// A file is one program at most.

@@ -1,5 +1,6 @@
 //! The copies of procedures that are written, and what a round of a loop is given up to.
 
+use crate::fault_list::FaultList;
 use crate::heads::LoopHead;
 use code_items::State;
 use prg_code::{Block, CompileError, CompileFaultKind, CompileRefusal, Names, Output, Work};
@@ -54,6 +55,16 @@ pub struct Writer {
     pub active: Vec<Target>,
     /// What held at the heads of loops.
     pub heads: Vec<LoopHead>,
+    /// Where faults are listed and the writing goes on behind them; none where the first fault ends the writing.
+    pub listed: Option<FaultList>,
+}
+
+/// What stood before a command.
+#[derive(Drop)]
+pub struct Begun {
+    mark: Mark,
+    state: State,
+    gets: usize,
 }
 
 /// How much was written at some time.
@@ -162,6 +173,48 @@ impl Writer {
             Ok(answer) => Ok(answer),
             Err(error) => Err(self.refused(line, error)),
         }
+    }
+
+    /// What stands before a command, where faults are listed.
+    pub fn begun(&self) -> Result<Option<Begun>, AllocError> {
+        if self.listed.is_none() {
+            return Ok(None);
+        }
+        Ok(Some(Begun {
+            mark: self.mark()?,
+            state: self.work.block.state.copied(self.alloc)?,
+            gets: self.work.gets.len(),
+        }))
+    }
+
+    /// Lists the fault, where faults are listed, and goes on; else it is the refusal.
+    pub fn passed(&mut self, outcome: Result<(), CompileRefusal>) -> Result<(), CompileRefusal> {
+        let fault = match outcome {
+            Err(CompileRefusal::Fault(fault)) => fault,
+            outcome => return outcome,
+        };
+        match &mut self.listed {
+            Some(list) => Ok(list.note(fault)?),
+            None => Err(CompileRefusal::Fault(fault)),
+        }
+    }
+
+    /// Lists the fault of a command, where faults are listed, and goes on as if nothing of it were written since it was
+    /// begun; else the fault is the refusal. Gives whether the command was given up.
+    pub fn gave_up(
+        &mut self,
+        begun: Option<Begun>,
+        outcome: Result<(), CompileRefusal>,
+    ) -> Result<bool, CompileRefusal> {
+        if outcome.is_ok() {
+            return Ok(false);
+        }
+        self.passed(outcome)?;
+        if let Some(Begun { mark, state, gets }) = begun {
+            self.give_up(&mark, state)?;
+            self.work.gets.truncate(gets);
+        }
+        Ok(true)
     }
 
     /// Goes on with another copy, and gives the one that was being written.

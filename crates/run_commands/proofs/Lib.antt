@@ -2,3 +2,4 @@ pub mod Ran
 pub mod Reported
 pub mod Same
 pub mod Rehearsed
+pub mod Operated

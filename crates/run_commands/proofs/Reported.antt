@@ -75,7 +75,7 @@ stopped_run a b e f g h fg gh job code seen outcome rows shown tables d is (Err 
 
 -- ---- of the file in which the code stands
 
-has_run : (a b e : Holds) → SameFiles a b → (job : Job) (code : Code) → IsCodeFile (a job.name.now) code → (rows : List ℕ) (result : Result Ended RunRefusal)
+pub has_run : (a b e : Holds) → SameFiles a b → (job : Job) (code : Code) → IsCodeFile (a job.name.now) code → (rows : List ℕ) (result : Result Ended RunRefusal)
     → IfOk result (λ ended. CodeRan b e job ended rows code) → IfOk result (λ ended. HasRun a e job ended rows)
 has_run a b e same job code file rows (Ok ended) h = record { code = code; file = file; fits = ran_same a b e same job code ended rows h }
 has_run a b e same job code file rows (Err refusal) h = h
@@ -93,7 +93,7 @@ saving_stopped a b e same broke breaks f job code file rows Disk h = h.1
 saving_stopped a b e same broke breaks f job code file rows (Tables refusal) h = (h.0, record { code = code; file = file; fits = stopped_same a b e same broke breaks f job code rows (Tables refusal) h.1 })
 saving_stopped a b e same broke breaks f job code file rows Memory h = h.1
 
-each_stopped : (a b e : Holds) → SameFiles a b → (broke breaks : Type 0) → (breaks → broke) → (job : Job) (code : Code) → IsCodeFile (a job.name.now) code → (rows : List ℕ) (result : Result Ended RunRefusal)
+pub each_stopped : (a b e : Holds) → SameFiles a b → (broke breaks : Type 0) → (breaks → broke) → (job : Job) (code : Code) → IsCodeFile (a job.name.now) code → (rows : List ℕ) (result : Result Ended RunRefusal)
     → IfErr result (CodeStopped b e breaks job code rows) → IfErr result (λ refusal. SavingStopped a e job broke refusal rows)
 each_stopped a b e same broke breaks f job code file rows (Ok ended) h = h
 each_stopped a b e same broke breaks f job code file rows (Err refusal) h = saving_stopped a b e same broke breaks f job code file rows refusal h
@@ -103,7 +103,7 @@ pub stopped : (a b e : Holds) → SameFiles a b → (broke breaks : Type 0) → 
 stopped a b e same broke breaks f job code file (Ok r) h = each_stopped a b e same broke breaks f job code file r.rows.items r.result h
 stopped a b e same broke breaks f job code file (Err refusal) h = h
 
-refused_before : (a b : Holds) → SameFiles a b → (broke breaks : Type 0) → (breaks → broke) → (job : Job) (code : Code) → IsCodeFile (a job.name.now) code → (refusal : RunRefusal)
+pub refused_before : (a b : Holds) → SameFiles a b → (broke breaks : Type 0) → (breaks → broke) → (job : Job) (code : Code) → IsCodeFile (a job.name.now) code → (refusal : RunRefusal)
     → CodeRefused b job code breaks refusal → RefusedBefore a job broke refusal
 refused_before a b same broke breaks f job code file (File fault) h = absurd h
 refused_before a b same broke breaks f job code file (Rule refused) h = (h.0, record { code = code; file = file; fits = h.1 })

@@ -7,6 +7,7 @@ ghost use Rattle.dbf_file.specs.Values.{stamp_of};
 use calendar::{Day, DayParts};
 use dbf_file::Stamp;
 use jiff::civil::Date;
+use std::fmt;
 use std::marker::Model;
 
 /// The day of a run: one that a table's file can be stamped with, of the years 1900 to 2155. It is seen as that day.
@@ -70,6 +71,16 @@ impl RunDay {
         ensures { stamp_of self ≡ Some result }
     {
         Stamp::of(self.day).unwrap()
+    }
+}
+
+impl fmt::Display for RunDay {
+    /// The day as a word of the form YYYY-MM-DD.
+    fn fmt<W: fmt::Write>(&self, f: &mut fmt::Formatter<W>) -> fmt::Result {
+        match self.day.parts() {
+            Some(parts) => write!(f, "{:04}-{:02}-{:02}", parts.year, parts.month, parts.day),
+            None => Ok(()),
+        }
     }
 }
 

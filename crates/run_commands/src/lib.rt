@@ -5,6 +5,7 @@
 //! memory.
 #![tactic(auto)]
 
+mod conversation;
 mod ending;
 mod job;
 mod machines;
@@ -12,6 +13,7 @@ mod refusal;
 mod rehearsing;
 mod running;
 
+pub use crate::conversation::{OperateRefusal, Operation, operate_files};
 pub use crate::ending::{Ended, How};
 pub use crate::job::{Job, RecordLimit, RunDay};
 pub use crate::refusal::{RunRefusal, ToldRefusal};

@@ -86,7 +86,7 @@ fn test_run<F: Files>(
 }
 
 /// Saves the tables of a run, and reports it.
-fn save_run<F: Files>(
+pub(crate) fn save_run<F: Files>(
     alloc: Global,
     files: &mut F,
     shape: &Shape,

@@ -15,3 +15,5 @@ pub mod Openings
 pub mod Costs
 pub mod Parts
 pub mod Safe
+pub mod More
+pub mod Pieces

@@ -7,13 +7,13 @@ use Rattle.run_steps.specs.declared.ending.End.TheVariants.{Spent}
 use Rattle.run_steps.specs.World.{World}
 use Rattle.run_steps.specs.Run.{after, spent, cost_in, closing_cost, next_world, step_of, Ran, Stops}
 
-after_more : (code : Code) (w v : World) (n m : ℕ) → after code w n ≡ Some v → after code w (n + m) ≡ after code v m
+pub after_more : (code : Code) (w v : World) (n m : ℕ) → after code w n ≡ Some v → after code w (n + m) ≡ after code v m
 after_more code w v n zero e = let same : n + 0 ≡ n = omega arith in ap (after code w) same ∙ e
 after_more code w v n (suc m) e =
     let same : n + suc m ≡ suc (n + m) = omega arith in
     ap (after code w) same ∙ ap (option_and_then (λ x. next_world (step_of code x))) (after_more code w v n m e)
 
-spent_more : (code : Code) (w v : World) (n m : ℕ) → after code w n ≡ Some v → spent code w (n + m) ≡ spent code w n + spent code v m
+pub spent_more : (code : Code) (w v : World) (n m : ℕ) → after code w n ≡ Some v → spent code w (n + m) ≡ spent code w n + spent code v m
 spent_more code w v n zero e = let same : n + 0 ≡ n = omega arith in ap (spent code w) same ∙ omega arith
 spent_more code w v n (suc m) e =
     let same : n + suc m ≡ suc (n + m) = omega arith in

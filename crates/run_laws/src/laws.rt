@@ -1,7 +1,7 @@
 //! What the tests of an instruction say, what a step keeps, and how a run begins. The functions do nothing: their
 //! contracts are the laws.
 
-ghost use Rattle.std.specs.Prelude.{◌≡◌, ◌≤◌, ◌+◌, ℕ, true, false, List, Option, Some, None, replicate};
+ghost use Rattle.std.specs.Prelude.{◌≡◌, ◌≤◌, ◌+◌, ◌-◌, ℕ, true, false, List, Option, Some, None, replicate};
 ghost use Rattle.code_items.specs.declared.code.Code.{Code as AnyCode};
 ghost use Rattle.code_items.specs.declared.declared.Declared.{Declared as AnyDeclared};
 ghost use Rattle.code_items.specs.declared.instr.Instr.{Instr as AnyInstr};
@@ -12,6 +12,7 @@ ghost use Rattle.run_steps.specs.Control.{effect, finishes};
 ghost use Rattle.run_steps.specs.Faults.{fault_of, IsClear};
 ghost use Rattle.run_steps.specs.Needs.{IsReadyFor};
 ghost use Rattle.run_steps.specs.Opening.{opening};
+ghost use Rattle.run_steps.specs.Pausing.{Came, with_more};
 ghost use Rattle.run_steps.specs.Run.{after, spent, step_of, Ran, IsFault, IsNoFault};
 ghost use Rattle.run_steps.specs.declared.ending.End.TheVariants.{Spent};
 ghost use Rattle.run_steps.specs.declared.ending.Outcome.{Outcome as AnyOutcome};
@@ -95,6 +96,24 @@ pub fn parts_make_the_whole()
     ensures { (code : AnyCode) (w v u : World) (budget more : ℕ) (first second : AnyOutcome)
         → Ran code w budget first v → first.end ≡ Spent → Ran code v more second u
         → Ran code w (first.steps + more) (record { end = second.end; steps = first.steps + second.steps }) u }
+{}
+
+/// Lines behind those that are left change no step that finds the line that it takes: where no step took a line when
+/// none was left, the same steps over more lines lead to the same world, with these lines behind those that are left
+/// there, at the same cost.
+pub fn lines_behind_change_no_step()
+    ensures { (code : AnyCode) (a b : World) (steps : ℕ) (more : List (List ℕ)) → Came code a steps b
+        → Came code (with_more more a) steps (with_more more b) }
+{}
+
+/// Pieces of a run make one: steps that lead on to where further steps begin are steps that lead on to where those
+/// lead, and with the run that ends from there they are the run that ends so, of the whole budget.
+pub fn pieces_make_the_whole()
+    ensures joined { (code : AnyCode) (a b c : World) (first second : ℕ) → Came code a first b → Came code b second c
+        → Came code a (first + second) c }
+    ensures ended { (code : AnyCode) (a b c : World) (budget steps : ℕ) (outcome : AnyOutcome) → Came code a steps b
+        → steps ≤ budget → Ran code b (budget - steps) outcome c
+        → Ran code a budget (record { end = outcome.end; steps = steps + outcome.steps }) c }
 {}
 
 /// From a world from which a run comes to no fault, none of its steps has one, and no run ends at one.

@@ -3,3 +3,4 @@ mod FindingForms
 pub mod Walks
 pub mod Steps
 pub mod Runs
+pub mod Pauses

@@ -6,6 +6,7 @@ pub mod Filters
 pub mod Forms
 pub mod Needs
 pub mod Opening
+pub mod Pausing
 pub mod Quick
 pub mod Run
 pub mod Safe

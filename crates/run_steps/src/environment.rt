@@ -1,8 +1,8 @@
 //! What instructions change but for values and places.
 
-ghost use Rattle.std.specs.Prelude.{◌≡◌, OnOk, OnErr, IfSome, IsSome};
+ghost use Rattle.std.specs.Prelude.{◌≡◌, true, OnOk, OnErr, IfSome, IsSome};
 ghost use Rattle.screen_lines.specs.State.{new_line, printed, said, said_on, cleared};
-ghost use Rattle.text_lines.specs.Lines.{next_line, lines_behind};
+ghost use Rattle.text_lines.specs.Lines.{is_out, next_line, lines_behind};
 ghost use Rattle.xvalue.specs.Setting.{with_setting};
 ghost use Rattle.xvalue.specs.Shown.{shown};
 ghost use Rattle.work_area.specs.Areas.{here, selected_use};
@@ -175,6 +175,21 @@ impl<K: KeyList> Environment<K> {
         ensures err { OnErr result (self.new ≡ self.old) }
     {
         self.screen.clear()
+    }
+
+    /// Whether no line of the operator is left.
+    pub fn is_out_of_lines(&self) -> bool
+        ensures { result ≡ is_out self.now.lines }
+    {
+        self.lines.is_empty()
+    }
+
+    /// These lines in place of those that are left, of which there are none.
+    pub fn add_lines(&mut self, lines: TypedLines)
+        requires { is_out self.old.lines ≡ true }
+        ensures { self.new ≡ with_lines lines self.old }
+    {
+        self.lines = lines;
     }
 
     /// The operator's next line.

@@ -4,3 +4,4 @@ pub mod Keeping
 pub mod Stepping
 pub mod Listing
 pub mod Printing
+pub mod Reading

@@ -13,4 +13,5 @@ mod screen;
 
 pub use commands::{Command, obey, run};
 pub use cursor::Cursor;
+pub use rows::Row;
 pub use screen::Screen;

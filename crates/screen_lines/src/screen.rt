@@ -1,13 +1,14 @@
 // The screen.
 #![tactic(auto)]
 
-ghost use Rattle.std.specs.Prelude.{◌≡◌, IsTrue, IfOk, OnOk, OnErr};
+ghost use Rattle.std.specs.Prelude.{◌≡◌, IsTrue, IfOk, OnOk, OnErr, drop, take};
 ghost use Rattle.screen_lines.specs.State.{blank_screen, reserved_screen, new_line as new_line_of, printed, said};
 ghost use Rattle.screen_lines.specs.State.{said_on, cleared, sent};
+ghost use Rattle.screen_lines.specs.Roll.{lines};
 
 use crate::cursor::Cursor;
 use crate::display::Display;
-use crate::rows::{ROWS, blank_rows, send_rows, used_rows};
+use crate::rows::{ROWS, Row, blank_rows, send_rows, used_rows};
 use std::alloc::{AllocError, Global};
 use std::marker::Model;
 use xvalue::Text;
@@ -144,5 +145,27 @@ impl Screen {
         bytes.reserve(LINE_BYTES * rows.len())?;
         send_rows(&mut bytes, rows);
         Ok(bytes)
+    }
+
+    /// The 25 rows that are seen, from the top, of 80 bytes each.
+    pub fn rows(&self) -> &[Row]
+        ensures { result.now ≡ drop self.now.roll.base self.now.roll.rows }
+    {
+        self.display.rows.as_slice()
+    }
+
+    /// Where the next byte goes.
+    pub fn cursor(&self) -> Cursor
+        ensures { result ≡ self.now.roll.cursor }
+    {
+        self.display.cursor
+    }
+
+    /// The bytes of the rows that were sent so far, each without the blanks at its end and with LF. Those that are seen
+    /// aren't among them.
+    pub fn sent(&self) -> &[u8]
+        ensures { result.now ≡ lines (take self.now.roll.base self.now.roll.rows) }
+    {
+        self.display.sent.as_slice()
     }
 }

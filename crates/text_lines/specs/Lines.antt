@@ -1,6 +1,6 @@
 -- The lines of a text. 10 ends a line, 13 is a return.
 
-use Rattle.std.specs.Prelude.{ℕ, ◌==◌, ◌&&◌, Bool, false, List, [], ◌∷◌, reverse, map, take, if◌then◌else◌}
+use Rattle.std.specs.Prelude.{ℕ, ◌==◌, ◌&&◌, Bool, true, false, List, [], ◌∷◌, reverse, map, take, if◌then◌else◌}
 
 abbrev pub begins_with_line_end : List ℕ → Bool
 begins_with_line_end [] = false
@@ -40,3 +40,14 @@ next_line (line ∷ others) = line
 abbrev pub lines_behind : List (List ℕ) → List (List ℕ)
 lines_behind [] = []
 lines_behind (line ∷ others) = others
+
+-- whether none is left
+abbrev pub is_out : List (List ℕ) → Bool
+is_out [] = true
+is_out (line ∷ others) = false
+
+-- nothing, or a text whose last line has its end
+abbrev pub is_ended : List ℕ → Bool
+is_ended [] = true
+is_ended (b ∷ []) = b == 10
+is_ended (b ∷ c ∷ rest) = is_ended (c ∷ rest)

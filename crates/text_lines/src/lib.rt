@@ -1,8 +1,9 @@
 //! Lines of texts, and the lines that an operator typed.
 #![tactic(auto)]
 
+pub mod laws;
 mod lines;
 mod typed;
 
-pub use lines::first_line;
+pub use lines::{first_line, is_ended};
 pub use typed::TypedLines;

@@ -36,3 +36,13 @@ pub fn first_line(bytes: &[u8]) -> (&[u8], &[u8])
         [_, behind @ ..] => (without_return(text), behind),
     }
 }
+
+/// Whether a text is nothing, or its last line has its end.
+pub fn is_ended(bytes: &[u8]) -> bool
+    ensures { result ≡ spec.is_ended bytes.now }
+{
+    match bytes {
+        [] => true,
+        [.., last] => *last == b'\n',
+    }
+}

@@ -1,7 +1,7 @@
 //! The lines that an operator typed, one after the other.
 
 ghost use Rattle.std.specs.Prelude.{◌≡◌, ◌≤◌, [], length, take};
-ghost use Rattle.text_lines.specs.Lines.{short_lines, next_line, lines_behind};
+ghost use Rattle.text_lines.specs.Lines.{is_out, short_lines, next_line, lines_behind};
 
 use crate::lines::first_line;
 use std::alloc::Global;
@@ -57,6 +57,17 @@ impl TypedLines {
         ensures { result ≡ [] }
     {
         TypedLines::new(Vec::new(alloc))
+    }
+
+    /// Whether no line is left.
+    pub fn is_empty(&self) -> bool
+        ensures { result ≡ is_out self.now }
+    {
+        let (_, rest) = self.bytes.as_slice().split_at(self.used);
+        match rest {
+            [] => true,
+            [_, ..] => false,
+        }
     }
 
     /// The next line; where none is left, an empty one. It takes no memory.

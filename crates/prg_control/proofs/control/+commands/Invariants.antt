@@ -6,6 +6,9 @@ decreases-commands l = l.at.room
 abbrev pub decreases-put_command : goal.decreases-put_command
 decreases-put_command l = l.at.room
 
+abbrev pub decreases-put_form : goal.decreases-put_form
+decreases-put_form l = l.at.room
+
 abbrev pub decreases-put_block : goal.decreases-put_block
 decreases-put_block l = l.at.room
 

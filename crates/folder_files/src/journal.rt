@@ -1,0 +1,187 @@
+//! The journal of a conversation: its file, to which each line goes before the machine takes it.
+#![tactic(auto)]
+
+ghost use Rattle.std.specs.Prelude.{◌≤◌, length};
+
+use crate::disk::{is_free, sync_folder};
+use file_access::{ReadFault, read_within};
+use std::alloc::{Alloc, AllocError, Global};
+use std::fs::{File, OpenFile, OpenOptions, TryLockError};
+use std::io::{self, ErrorKind, Write};
+use std::rt::Files as Disk;
+
+/// The most bytes that a journal is read of: two for each byte that an operator may type for a run.
+const LIMIT: usize = 2_097_152;
+
+/// Why a journal isn't made or taken up.
+#[derive(Clone, Copy, PartialEq, Eq, Debug)]
+pub enum JournalFault {
+    /// A file of its name stands.
+    Exists,
+    /// Another program has it.
+    Held,
+    /// No file of its name stands.
+    Absent,
+    /// It is longer than what an operator may type.
+    TooLong,
+    /// The device failed.
+    Disk,
+    /// Memory was refused.
+    Memory,
+}
+
+/// A journal that this program alone has. What was brought to the device of it counts.
+#[derive(Drop)]
+pub struct JournalFile {
+    file: File,
+    /// How many bytes of it count.
+    length: u64,
+}
+
+/// A journal that was taken up again.
+#[derive(Drop)]
+pub struct TakenUp {
+    pub journal: JournalFile,
+    /// All lines that it holds, each with LF.
+    pub lines: Vec<u8>,
+    /// What stood behind its last LF, and was cut off.
+    pub tail: Vec<u8>,
+}
+
+/// Holds a file for this program alone.
+fn held(file: File) -> Result<File, JournalFault> {
+    match file.try_lock() {
+        Ok(()) => Ok(file),
+        Err(TryLockError::WouldBlock) => Err(JournalFault::Held),
+        Err(TryLockError::Error(_)) => Err(JournalFault::Disk),
+    }
+}
+
+/// Opens a journal for lines at its end.
+fn opened<R: Disk<File = File>>(rt: &R, name: &str, new: bool) -> Result<File, JournalFault> {
+    let mut options = OpenOptions::new();
+    options.read(true);
+    options.append(true);
+    options.create_new(new);
+    match options.open(rt, name) {
+        Ok(file) => held(file),
+        Err(error) => match error.kind() {
+            ErrorKind::NotFound => Err(JournalFault::Absent),
+            ErrorKind::AlreadyExists => Err(JournalFault::Exists),
+            _ => Err(JournalFault::Disk),
+        },
+    }
+}
+
+/// Where the last line of a text ends.
+fn lines_end(bytes: &[u8]) -> usize
+    ensures { result ≤ length bytes.now }
+{
+    match bytes.iter().rposition(|byte| *byte == b'\n') {
+        Some(place) => place + 1,
+        None => 0,
+    }
+}
+
+/// The lines of a text, and what stands behind its last LF.
+fn parted(alloc: Global, bytes: &[u8]) -> Result<(Vec<u8>, Vec<u8>), AllocError> {
+    let (lines, tail) = bytes.split_at(lines_end(bytes));
+    Ok((
+        Vec::from_slice(alloc, lines)?,
+        Vec::from_slice(alloc, tail)?,
+    ))
+}
+
+/// An empty journal that was left, if nobody has it.
+fn left_empty<R: Disk<File = File>>(rt: &R, name: &str) -> Result<File, JournalFault> {
+    let file = opened(rt, name, false)?;
+    match file.metadata() {
+        Ok(data) => {
+            if data.len() == 0 && data.is_file() {
+                return Ok(file);
+            }
+            Err(JournalFault::Exists)
+        }
+        Err(_) => Err(JournalFault::Disk),
+    }
+}
+
+impl JournalFile {
+    /// Makes an empty journal, which no file stands for yet. One that is empty counts as none if nobody has it.
+    pub fn make<R: Disk<File = File>>(rt: &R, name: &str) -> Result<JournalFile, JournalFault> {
+        let file = match opened(rt, name, true) {
+            Ok(file) => file,
+            Err(JournalFault::Exists) => left_empty(rt, name)?,
+            Err(fault) => return Err(fault),
+        };
+        if sync_folder(rt).is_err() {
+            return Err(JournalFault::Disk);
+        }
+        Ok(JournalFile { file, length: 0 })
+    }
+
+    /// Takes a journal up again, cut behind its last LF.
+    pub fn take_up<R: Disk<File = File> + Alloc<A = Global>>(
+        rt: &R,
+        name: &str,
+    ) -> Result<TakenUp, JournalFault> {
+        let mut file = opened(rt, name, false)?;
+        let bytes = match read_within(rt.alloc(), &mut file, LIMIT) {
+            Ok(bytes) => bytes,
+            Err(ReadFault::TooLong) => return Err(JournalFault::TooLong),
+            Err(ReadFault::Memory) => return Err(JournalFault::Memory),
+            Err(_) => return Err(JournalFault::Disk),
+        };
+        let Ok((lines, tail)) = parted(rt.alloc(), bytes.as_slice()) else {
+            return Err(JournalFault::Memory);
+        };
+        let length = lines.len() as u64;
+        let journal = JournalFile { file, length };
+        if !tail.is_empty() && journal.cut().is_err() {
+            return Err(JournalFault::Disk);
+        }
+        Ok(TakenUp {
+            journal,
+            lines,
+            tail,
+        })
+    }
+
+    /// Cuts off all that doesn't count.
+    fn cut(&self) -> io::Result<()> {
+        self.file.set_len(self.length)?;
+        self.file.sync_all()
+    }
+
+    /// Puts bytes behind the others, down to the device.
+    fn put(&mut self, bytes: &[u8]) -> io::Result<()> {
+        self.file.write_all(bytes)?;
+        self.file.sync_data()
+    }
+
+    /// Puts bytes behind the others, down to the device. Where the device fails, the journal is as it was, as far as the
+    /// device lets it be.
+    pub fn add(&mut self, bytes: &[u8]) -> io::Result<()> {
+        let put = self.put(bytes);
+        match put {
+            Ok(()) => {
+                self.length = self.length.saturating_add(bytes.len() as u64);
+                Ok(())
+            }
+            Err(error) => {
+                let _ = self.cut();
+                Err(error)
+            }
+        }
+    }
+
+    /// How many bytes of it count.
+    pub fn length(&self) -> u64 {
+        self.length
+    }
+}
+
+/// Whether nothing stands under a name.
+pub fn stands<R: Disk>(rt: &R, name: &str) -> bool {
+    !is_free(rt, name)
+}

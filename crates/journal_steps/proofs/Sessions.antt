@@ -1,0 +1,331 @@
+-- What sessions keep.
+use Rattle.std.proofs.Common.{◌≡◌, ◌⊎◌, inl, inr, ◌≤◌, ℕ, suc, Bool, true, false, List, [], ◌∷◌, ◌++◌, Option, Some, None, take, refl, sym, ap, subst, ◌∙◌, append_assoc, arith}
+use Rattle.std.specs.List.{AllByRecursion}
+use Rattle.std.specs.Option.{option_map}
+use Rattle.std.proofs.lemmas.List.{append-nil}
+use Rattle.std.proofs.lemmas.Option.{same_Some}
+use Rattle.journal_steps.specs.Next.{next_of}
+use Rattle.journal_steps.specs.Folder.{Folder, Moment, Session, MakeJournal, WriteBegun, CutJournal, Take, WriteNote, WriteDone, RemoveNote, nothing, unlines, whole_lines, added, behind, StopsAt, talk, end_of, begins, Leaves}
+use Rattle.journal_steps.specs.Promise.{IsClean, AreClean, AreKept, NothingLost, Passed, IsKeptAndSavedOnce}
+use Rattle.journal_steps.proofs.Lines.{longer, whole_again, unlines_behind, read_clean, clean_append}
+
+-- ---- the journal only grows
+
+abbrev Grows : Folder → Folder → Type 0
+Grows f g = (j : List ℕ) → f.journal ≡ Some j
+    → (k : List ℕ) × (g.journal ≡ Some k) × ((x : List (List ℕ)) × (whole_lines k ≡ whole_lines j ++ x))
+
+grows_same : (f g : Folder) → g.journal ≡ f.journal → Grows f g
+grows_same f g e j is = (j, e ∙ is, ([], sym (append-nil (whole_lines j))))
+
+grows_then : (f g h : Folder) → Grows f g → Grows g h → Grows f h
+grows_then f g h p q j is =
+    let a = p j is in
+    let b = q a.0 a.1 in
+    (b.0, b.1, (a.2.0 ++ b.2.0, b.2.1 ∙ ap (λ (x : List (List ℕ)). x ++ b.2.0) a.2.1 ∙ append_assoc (whole_lines j) a.2.0 b.2.0))
+
+kept_moves : (f g : Folder) (lines : List (List ℕ)) → Grows f g → AreKept f lines → AreKept g lines
+kept_moves f g lines grows kept =
+    let a = grows kept.bytes kept.journal in
+    record {
+      bytes = a.0;
+      journal = a.1;
+      rest = kept.rest ++ a.2.0;
+      first = a.2.1 ∙ ap (λ (x : List (List ℕ)). x ++ a.2.0) kept.first ∙ append_assoc lines kept.rest a.2.0;
+    }
+
+lost_moves : (f g : Folder) (lines : List (List ℕ)) → Grows f g → NothingLost f lines → NothingLost g lines
+lost_moves f g lines grows (inl none) = inl none
+lost_moves f g lines grows (inr kept) = inr (kept_moves f g lines grows kept)
+
+all_lost_moves : (f g : Folder) (all : List (List (List ℕ))) → Grows f g → AllByRecursion (NothingLost f) all
+    → AllByRecursion (NothingLost g) all
+all_lost_moves f g [] grows h = tt
+all_lost_moves f g (l ∷ ls) grows (here, h) = (lost_moves f g l grows here, all_lost_moves f g ls grows h)
+
+-- ---- saves
+
+-- nothing was saved, or once, and then the note or the text of the end stands
+abbrev Sound : Folder → Type 0
+Sound f = ((f.saves ≡ 0) × (f.noted ≡ false)) ⊎ ((f.saves ≡ 1) × ((f.noted ≡ true) ⊎ (f.done ≡ true)))
+
+-- what a session leaves, from a folder
+record Result (f : Folder) (n : Moment) : Type 0 where
+  pub grows : Grows f n.folder
+  pub kept : NothingLost n.folder n.taken
+  pub sound : Sound n.folder
+
+-- a session whose machine took nothing left this folder
+took_none : (f g : Folder) (n : Moment) → n.folder ≡ g → n.taken ≡ [] → Grows f g → Sound g → Result f n
+took_none f g n e t grows sound = record {
+  grows = subst (λ (x : Folder). Grows f x) (sym e) grows;
+  kept = inl t;
+  sound = subst Sound (sym e) sound;
+}
+
+-- ---- the end of a session
+
+record End (m n : Moment) : Type 0 where
+  pub taken : n.taken ≡ m.taken
+  pub journal : n.folder.journal ≡ m.folder.journal
+  pub sound : Sound n.folder
+
+ends : (m n : Moment) (g : Folder) → n.folder ≡ g → n.taken ≡ m.taken → g.journal ≡ m.folder.journal → Sound g → End m n
+ends m n g e t j sound = record {
+  taken = t;
+  journal = ap (λ (x : Folder). x.journal) e ∙ j;
+  sound = subst Sound (sym e) sound;
+}
+
+end_stops : (saves : Bool) (m n : Moment) → m.folder.saves ≡ 0 → m.folder.noted ≡ false → StopsAt (end_of saves) m n → End m n
+end_stops false m n none free (inl (inl e, t)) = ends m n m.folder e t refl (inl (none, free))
+end_stops false m n none free (inl (inr e, t)) = ends m n (behind WriteDone m.folder) e t refl (inl (none, free))
+end_stops false m n none free (inr e) =
+    ends m n (behind WriteDone m.folder) (ap (λ (x : Moment). x.folder) e) (ap (λ (x : Moment). x.taken) e) refl (inl (none, free))
+end_stops true m n none free (inl (inl e, t)) = ends m n m.folder e t refl (inl (none, free))
+end_stops true m n none free (inl (inr e, t)) =
+    ends m n (behind WriteNote m.folder) e t refl (inr (ap suc none, inl refl))
+end_stops true m n none free (inr (inl (inl e, t))) =
+    ends m n (behind WriteNote m.folder) e t refl (inr (ap suc none, inl refl))
+end_stops true m n none free (inr (inl (inr e, t))) =
+    ends m n (behind WriteDone (behind WriteNote m.folder)) e t refl (inr (ap suc none, inl refl))
+end_stops true m n none free (inr (inr (inl (inl e, t)))) =
+    ends m n (behind WriteDone (behind WriteNote m.folder)) e t refl (inr (ap suc none, inl refl))
+end_stops true m n none free (inr (inr (inl (inr e, t)))) =
+    ends m n (behind RemoveNote (behind WriteDone (behind WriteNote m.folder))) e t refl (inr (ap suc none, inr refl))
+end_stops true m n none free (inr (inr (inr e))) =
+    ends m n (behind RemoveNote (behind WriteDone (behind WriteNote m.folder))) (ap (λ (x : Moment). x.folder) e)
+    (ap (λ (x : Moment). x.taken) e) refl (inr (ap suc none, inr refl))
+
+-- ---- lines that are kept and taken
+
+-- the journal holds the lines that the machine has taken, and nothing else; nothing was saved
+record IsExact (m : Moment) : Type 0 where
+  pub journal : m.folder.journal ≡ Some (unlines m.taken)
+  pub clean : AllByRecursion IsClean m.taken
+  pub saves : m.folder.saves ≡ 0
+  pub noted : m.folder.noted ≡ false
+
+-- with so much more behind the journal
+grown : (m : Moment) (g : Folder) (x : List ℕ) → IsExact m → g.journal ≡ option_map (λ j. j ++ x) m.folder.journal
+    → (g.journal ≡ Some (unlines m.taken ++ x)) × AreKept g m.taken × Grows m.folder g
+grown m g x exact e =
+    let holds : g.journal ≡ Some (unlines m.taken ++ x) = e ∙ ap (option_map (λ (j : List ℕ). j ++ x)) exact.journal in
+    let more = longer [] (unlines m.taken) x in
+    let first : whole_lines (unlines m.taken ++ x) ≡ m.taken ++ more.0 =
+    more.1 ∙ ap (λ (ls : List (List ℕ)). ls ++ more.0) (whole_again m.taken exact.clean) in (
+      holds,
+      record { bytes = unlines m.taken ++ x; journal = holds; rest = more.0; first = first },
+      λ j is.
+          let same : j ≡ unlines m.taken = same_Some j (unlines m.taken) (sym is ∙ exact.journal) in
+          (unlines m.taken ++ x, holds, (more.0, more.1 ∙ ap (λ (b : List ℕ). whole_lines b ++ more.0) (sym same))),
+    )
+
+stays : (m n : Moment) (g : Folder) (x : List ℕ) → IsExact m → n.folder ≡ g → n.taken ≡ m.taken
+    → g.journal ≡ option_map (λ j. j ++ x) m.folder.journal → Sound g → Result m.folder n
+stays m n g x exact e t j sound =
+    let a = grown m g x exact j in record {
+      grows = subst (λ (h : Folder). Grows m.folder h) (sym e) a.2;
+      kept = inr (subst (λ (ls : List (List ℕ)). AreKept n.folder ls) (sym t)
+          (subst (λ (h : Folder). AreKept h m.taken) (sym e) a.1));
+      sound = subst Sound (sym e) sound;
+    }
+
+ended : (m n : Moment) → IsExact m → End m n → Result m.folder n
+ended m n exact end =
+    let kept : AreKept n.folder m.taken = record {
+      bytes = unlines m.taken;
+      journal = end.journal ∙ exact.journal;
+      rest = [];
+      first = whole_again m.taken exact.clean ∙ sym (append-nil m.taken);
+    } in record {
+      grows = grows_same m.folder n.folder end.journal;
+      kept = inr (subst (λ (ls : List (List ℕ)). AreKept n.folder ls) (sym end.taken) kept);
+      sound = end.sound;
+    }
+
+talk_stops : (lines : List (List ℕ)) (saves : Bool) (m n : Moment) → AllByRecursion IsClean lines → IsExact m
+    → StopsAt (talk lines ++ end_of saves) m n → Result m.folder n
+talk_stops [] saves m n clean exact h = ended m n exact (end_stops saves m n exact.saves exact.noted h)
+talk_stops (l ∷ ls) saves m n clean exact (inl ((k, e), t)) =
+    stays m n (added (take k (l ++ 10 ∷ [])) m.folder) (take k (l ++ 10 ∷ [])) exact e t refl (inl (exact.saves, exact.noted))
+talk_stops (l ∷ ls) saves m n clean exact (inr (inl (inl e, t))) =
+    stays m n (added (l ++ 10 ∷ []) m.folder) (l ++ 10 ∷ []) exact e t refl (inl (exact.saves, exact.noted))
+talk_stops (l ∷ ls) saves m n clean exact (inr (inl (inr e, t))) =
+    stays m n (added (l ++ 10 ∷ []) m.folder) (l ++ 10 ∷ []) exact e t refl (inl (exact.saves, exact.noted))
+talk_stops (l ∷ ls) saves m n (here, clean) exact (inr (inr h)) =
+    let a = grown m (added (l ++ 10 ∷ []) m.folder) (l ++ 10 ∷ []) exact refl in
+    let next : Moment = record { folder = added (l ++ 10 ∷ []) m.folder; taken = m.taken ++ l ∷ [] } in
+    let then : IsExact (record { folder = added (l ++ 10 ∷ []) m.folder; taken = m.taken ++ l ∷ [] }) = record {
+      journal = a.0 ∙ ap (λ (b : List ℕ). Some b) (sym (unlines_behind m.taken (l ∷ [])));
+      clean = clean_append m.taken (l ∷ []) exact.clean (here, tt);
+      saves = exact.saves;
+      noted = exact.noted;
+    } in
+    let r = talk_stops ls saves (record { folder = added (l ++ 10 ∷ []) m.folder; taken = m.taken ++ l ∷ [] }) n clean then h in
+    record {
+      grows = grows_then m.folder (added (l ++ 10 ∷ []) m.folder) n.folder a.2 r.grows;
+      kept = r.kept;
+      sound = r.sound;
+    }
+
+-- ---- a session
+
+-- nothing was saved where neither note nor text of the end stands
+unsaved : (f : Folder) → Sound f → f.noted ≡ false → f.done ≡ false → f.saves ≡ 0
+unsaved f (inl (none, free)) noted done = none
+unsaved f (inr (once, inl is)) noted done = absurd cc
+unsaved f (inr (once, inr is)) noted done = absurd cc
+
+no_journal : (f g : Folder) → f.journal ≡ None → Grows f g
+no_journal f g none j is = absurd cc
+
+begin_stops : (f : Folder) (s : Session) (n : Moment) → AllByRecursion IsClean s.typed → f.journal ≡ None → f.saves ≡ 0
+    → f.noted ≡ false → StopsAt (MakeJournal ∷ WriteBegun ∷ talk s.typed ++ end_of s.saves) (begins f) n → Result f n
+begin_stops f s n clean none saves noted (inl (inl e, t)) =
+    took_none f f n e t (grows_same f f refl) (inl (saves, noted))
+begin_stops f s n clean none saves noted (inl (inr e, t)) =
+    took_none f (behind MakeJournal f) n e t (no_journal f (behind MakeJournal f) none) (inl (saves, noted))
+begin_stops f s n clean none saves noted (inr (inl (inl e, t))) =
+    took_none f (behind MakeJournal f) n e t (no_journal f (behind MakeJournal f) none) (inl (saves, noted))
+begin_stops f s n clean none saves noted (inr (inl (inr e, t))) =
+    took_none f (behind WriteBegun (behind MakeJournal f)) n e t
+    (no_journal f (behind WriteBegun (behind MakeJournal f)) none) (inl (saves, noted))
+begin_stops f s n clean none saves noted (inr (inr h)) =
+    let exact : IsExact (begins (behind WriteBegun (behind MakeJournal f))) =
+    record { journal = refl; clean = tt; saves = saves; noted = noted } in
+    let r = talk_stops s.typed s.saves (begins (behind WriteBegun (behind MakeJournal f))) n clean exact h in
+    record { grows = no_journal f n.folder none; kept = r.kept; sound = r.sound }
+
+-- the journal cut behind its last LF
+cut_grows : (f : Folder) (j : List ℕ) → f.journal ≡ Some j → Grows f (behind CutJournal f)
+cut_grows f j here i is =
+    let same : i ≡ j = same_Some i j (sym is ∙ here) in
+    let lines = whole_lines j in (
+      unlines (whole_lines j),
+      ap (option_map (λ (b : List ℕ). unlines (whole_lines b))) here,
+      ([], whole_again (whole_lines j) (read_clean [] j tt) ∙ ap whole_lines (sym same) ∙ sym (append-nil (whole_lines i))),
+    )
+
+go_on_stops : (f : Folder) (j : List ℕ) (s : Session) (n : Moment) → AllByRecursion IsClean s.typed → f.journal ≡ Some j
+    → f.saves ≡ 0 → f.noted ≡ false
+    → StopsAt (CutJournal ∷ Take (whole_lines j) ∷ talk s.typed ++ end_of s.saves) (begins f) n → Result f n
+go_on_stops f j s n clean here saves noted (inl (inl e, t)) =
+    took_none f f n e t (grows_same f f refl) (inl (saves, noted))
+go_on_stops f j s n clean here saves noted (inl (inr e, t)) =
+    took_none f (behind CutJournal f) n e t (cut_grows f j here) (inl (saves, noted))
+go_on_stops f j s n clean here saves noted (inr (inl (inl e, t))) =
+    took_none f (behind CutJournal f) n e t (cut_grows f j here) (inl (saves, noted))
+go_on_stops f j s n clean here saves noted (inr (inl (inr e, t))) =
+    took_none f (behind CutJournal f) n e t (cut_grows f j here) (inl (saves, noted))
+go_on_stops f j s n clean here saves noted (inr (inr h)) =
+    let exact : IsExact (record { folder = behind CutJournal f; taken = whole_lines j }) = record {
+      journal = ap (option_map (λ (b : List ℕ). unlines (whole_lines b))) here;
+      clean = read_clean [] j tt;
+      saves = saves;
+      noted = noted;
+    } in
+    let r = talk_stops s.typed s.saves (record { folder = behind CutJournal f; taken = whole_lines j }) n clean exact h in
+    record {
+      grows = grows_then f (behind CutJournal f) n.folder (cut_grows f j here) r.grows;
+      kept = r.kept;
+      sound = r.sound;
+    }
+
+-- a save that a note tells of, carried to its end
+finish_stops : (f : Folder) (n : Moment) → f.saves ≡ 1 → f.noted ≡ true → StopsAt (WriteDone ∷ RemoveNote ∷ []) (begins f) n
+    → Result f n × (n.taken ≡ [])
+finish_stops f n once noted (inl (inl e, t)) =
+    (took_none f f n e t (grows_same f f refl) (inr (once, inl noted)), t)
+finish_stops f n once noted (inl (inr e, t)) =
+    (took_none f (behind WriteDone f) n e t (grows_same f (behind WriteDone f) refl) (inr (once, inl noted)), t)
+finish_stops f n once noted (inr (inl (inl e, t))) =
+    (took_none f (behind WriteDone f) n e t (grows_same f (behind WriteDone f) refl) (inr (once, inl noted)), t)
+finish_stops f n once noted (inr (inl (inr e, t))) = (
+  took_none f (behind RemoveNote (behind WriteDone f)) n e t (grows_same f (behind RemoveNote (behind WriteDone f)) refl)
+      (inr (once, inr refl)),
+  t,
+)
+finish_stops f n once noted (inr (inr e)) =
+    let t : n.taken ≡ [] = ap (λ (x : Moment). x.taken) e in (
+      took_none f (behind RemoveNote (behind WriteDone f)) n (ap (λ (x : Moment). x.folder) e) t
+          (grows_same f (behind RemoveNote (behind WriteDone f)) refl) (inr (once, inr refl)),
+      t,
+    )
+
+idle : (f : Folder) (n : Moment) → Sound f → n ≡ begins f → Result f n × (n.taken ≡ [])
+idle f n sound e =
+    let t : n.taken ≡ [] = ap (λ (x : Moment). x.taken) e in
+    (took_none f f n (ap (λ (x : Moment). x.folder) e) t (grows_same f f refl) sound, t)
+
+once_noted : (f : Folder) → Sound f → f.noted ≡ true → f.saves ≡ 1
+once_noted f (inl (none, free)) noted = absurd cc
+once_noted f (inr (once, is)) noted = once
+
+abbrev folder_of : Option (List ℕ) → Bool → Bool → Bool → ℕ → Folder
+folder_of journal begun noted done saves =
+    record { journal = journal; begun = begun; noted = noted; done = done; saves = saves }
+
+-- where the tables were saved, the machine of a session takes nothing; and each session keeps what it should
+by_cases : (journal : Option (List ℕ)) (begun noted done : Bool) (saves : ℕ) (goes_on : Bool) (typed : List (List ℕ))
+    (at_end : Bool) (n : Moment) → Sound (folder_of journal begun noted done saves)
+    → Leaves (record { goes_on = goes_on; typed = typed; saves = at_end }) (folder_of journal begun noted done saves) n
+    → (AllByRecursion IsClean typed → Result (folder_of journal begun noted done saves) n) × (saves ≡ 1 → n.taken ≡ [])
+unfolding next_of
+by_cases journal begun true done saves goes_on typed at_end n sound h =
+    let f = folder_of journal begun true done saves in
+    let r = finish_stops (folder_of journal begun true done saves) n (once_noted (folder_of journal begun true done saves) sound refl) refl h in
+    (λ _. r.0, λ _. r.1)
+by_cases journal begun false true saves true typed at_end n sound h =
+    let r = idle (folder_of journal begun false true saves) n sound h in (λ _. r.0, λ _. r.1)
+by_cases (Some j) true false false saves true typed at_end n sound h =
+    let none : saves ≡ 0 = unsaved (folder_of (Some j) true false false saves) sound refl refl in (
+      λ clean. go_on_stops (folder_of (Some j) true false false saves) j (record { goes_on = true; typed = typed; saves = at_end }) n clean refl none refl h,
+      λ once. absurd cc,
+    )
+by_cases (Some j) false false false saves true typed at_end n sound h =
+    let r = idle (folder_of (Some j) false false false saves) n sound h in (λ _. r.0, λ _. r.1)
+by_cases None begun false false saves true typed at_end n sound h =
+    let r = idle (folder_of None begun false false saves) n sound h in (λ _. r.0, λ _. r.1)
+by_cases (Some j) begun false done saves false typed at_end n sound h =
+    let r = idle (folder_of (Some j) begun false done saves) n sound h in (λ _. r.0, λ _. r.1)
+by_cases None true false done saves false typed at_end n sound h =
+    let r = idle (folder_of None true false done saves) n sound h in (λ _. r.0, λ _. r.1)
+by_cases None false false true saves false typed at_end n sound h =
+    let r = idle (folder_of None false false true saves) n sound h in (λ _. r.0, λ _. r.1)
+by_cases None false false false saves false typed at_end n sound h =
+    let none : saves ≡ 0 = unsaved (folder_of None false false false saves) sound refl refl in (
+      λ clean. begin_stops (folder_of None false false false saves) (record { goes_on = false; typed = typed; saves = at_end }) n clean refl none refl h,
+      λ once. absurd cc,
+    )
+
+session : (s : Session) (f : Folder) (n : Moment) → Sound f → Leaves s f n
+    → (AllByRecursion IsClean s.typed → Result f n) × (f.saves ≡ 1 → n.taken ≡ [])
+session s f n sound h = by_cases f.journal f.begun f.noted f.done f.saves s.goes_on s.typed s.saves n sound h
+
+-- ---- sessions in turn
+
+passes : (ss : List Session) (f : Folder) (all : List (List (List ℕ))) (g : Folder) → AreClean ss → Sound f → Passed ss f all g
+    → Grows f g × AllByRecursion (NothingLost g) all × Sound g
+passes [] f all g clean sound (none, e) =
+    (grows_same f g (ap (λ (x : Folder). x.journal) e), subst (AllByRecursion (NothingLost g)) (sym none) tt, subst Sound (sym e) sound)
+passes (s ∷ ss) f all g (here, clean) sound (m, rest, leaves, e, passed) =
+    let r = (session s f m sound leaves).0 here in
+    let q = passes ss m.folder rest g clean r.sound passed in (
+      grows_then f m.folder g r.grows q.0,
+      subst (AllByRecursion (NothingLost g)) (sym e) (lost_moves m.folder g m.taken q.0 r.kept, q.1),
+      q.2,
+    )
+
+at_most_once : (f : Folder) → Sound f → f.saves ≤ 1
+at_most_once f (inl (none, free)) = omega (arith, none)
+at_most_once f (inr (once, is)) = omega (arith, once)
+
+pub kept_and_saved_once : (ss : List Session) → AreClean ss → IsKeptAndSavedOnce ss
+kept_and_saved_once ss clean =
+    let begun : Sound nothing = inl (refl, refl) in record {
+      kept = λ all g passed. (passes ss nothing all g clean begun passed).1;
+      once = λ all g passed. at_most_once g (passes ss nothing all g clean begun passed).2;
+      then_none = λ all f passed once s m leaves.
+          (session s f m (passes ss nothing all f clean begun passed).2 leaves).1 once;
+    }

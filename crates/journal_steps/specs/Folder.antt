@@ -1,0 +1,143 @@
+-- What stands of a conversation in the folder, and what its sessions make of it.
+use Rattle.std.specs.Prelude.{◌≡◌, ◌⊎◌, ◌++◌, ℕ, suc, Bool, true, false, List, [], ◌∷◌, Option, Some, None, take}
+use Rattle.std.specs.Prelude.{is_some, ◌==◌, if◌then◌else◌}
+use Rattle.std.specs.Option.{option_map}
+use Rattle.journal_steps.specs.declared.next.Found.{Found}
+use Rattle.journal_steps.specs.declared.next.Next.{Next}
+use Rattle.journal_steps.specs.declared.next.Next.TheVariants.{Begin, GoOn, Finish, Ended, Taken, Missing}
+use Rattle.journal_steps.specs.Next.{next_of}
+
+-- ---- lines and bytes
+
+-- lines, each with LF behind it
+abbrev pub unlines : List (List ℕ) → List ℕ
+unlines [] = []
+unlines (line ∷ lines) = line ++ 10 ∷ unlines lines
+
+-- the lines that end with LF, behind a front of the first of them; what stands behind the last LF is no line
+abbrev pub lines_behind : List ℕ → List ℕ → List (List ℕ)
+lines_behind front [] = []
+lines_behind front (byte ∷ bytes) =
+    if byte == 10 then front ∷ lines_behind [] bytes else lines_behind (front ++ byte ∷ []) bytes
+
+abbrev pub whole_lines : List ℕ → List (List ℕ)
+whole_lines bytes = lines_behind [] bytes
+
+-- ---- what stands
+
+-- the bytes of the journal, if it stands; the texts of the beginning and of the end; whether a note tells of a save; and
+-- how often tables were saved
+pub record Folder : Type 0 where
+  pub journal : Option (List ℕ)
+  pub begun : Bool
+  pub noted : Bool
+  pub done : Bool
+  pub saves : ℕ
+
+abbrev pub nothing : Folder
+nothing = record { journal = None; begun = false; noted = false; done = false; saves = 0 }
+
+abbrev pub found_in : Folder → Found
+found_in f = record { journal = is_some f.journal; begun = f.begun; noted = f.noted; done = f.done }
+
+-- the folder, and the lines that the session's machine has taken, in order
+pub record Moment : Type 0 where
+  pub folder : Folder
+  pub taken : List (List ℕ)
+
+-- ---- deeds
+
+pub data Deed : Type 0 where
+  -- an empty journal is made
+  MakeJournal : Deed
+  -- the text of the beginning takes its place
+  WriteBegun : Deed
+  -- the journal is cut behind its last LF
+  CutJournal : Deed
+  -- a line and LF are put behind the journal, and brought to the device
+  Keep : List ℕ → Deed
+  -- the machine takes lines
+  Take : List (List ℕ) → Deed
+  -- the note of the save takes its place: from then on the save counts
+  WriteNote : Deed
+  -- the text of the end takes its place
+  WriteDone : Deed
+  -- the note goes
+  RemoveNote : Deed
+
+abbrev pub with_journal : Folder → Option (List ℕ) → Folder
+with_journal f journal =
+    record { journal = journal; begun = f.begun; noted = f.noted; done = f.done; saves = f.saves }
+
+abbrev pub added : List ℕ → Folder → Folder
+added bytes f = with_journal f (option_map (λ j. j ++ bytes) f.journal)
+
+-- the folder behind a deed
+abbrev pub behind : Deed → Folder → Folder
+behind MakeJournal f = with_journal f (Some [])
+behind WriteBegun f =
+    record { journal = f.journal; begun = true; noted = f.noted; done = f.done; saves = f.saves }
+behind CutJournal f = with_journal f (option_map (λ j. unlines (whole_lines j)) f.journal)
+behind (Keep line) f = added (line ++ 10 ∷ []) f
+behind (Take lines) f = f
+behind WriteNote f =
+    record { journal = f.journal; begun = f.begun; noted = true; done = f.done; saves = suc f.saves }
+behind WriteDone f =
+    record { journal = f.journal; begun = f.begun; noted = f.noted; done = true; saves = f.saves }
+behind RemoveNote f =
+    record { journal = f.journal; begun = f.begun; noted = false; done = f.done; saves = f.saves }
+
+-- the lines that the machine has taken behind a deed
+abbrev pub taken_behind : Deed → List (List ℕ) → List (List ℕ)
+taken_behind (Take lines) taken = taken ++ lines
+taken_behind _ taken = taken
+
+-- a stop within a deed leaves the folder as before it, or behind it; of a line that is kept any part may stand
+abbrev pub MayLeave : Deed → Folder → Folder → Type 0
+MayLeave (Keep line) f g = (n : ℕ) × (g ≡ added (take n (line ++ 10 ∷ [])) f)
+MayLeave deed f g = (g ≡ f) ⊎ (g ≡ behind deed f)
+
+-- a session of these deeds, stopped at any moment, leaves this
+abbrev pub StopsAt : List Deed → Moment → Moment → Type 0
+StopsAt [] m n = n ≡ m
+StopsAt (deed ∷ deeds) m n =
+    (MayLeave deed m.folder n.folder × (n.taken ≡ m.taken))
+    ⊎ StopsAt deeds (record { folder = behind deed m.folder; taken = taken_behind deed m.taken }) n
+
+-- ---- sessions
+
+-- whether a conversation that stands is to go on, the lines that are typed, and whether its tables are saved at its end
+pub record Session : Type 0 where
+  pub goes_on : Bool
+  pub typed : List (List ℕ)
+  pub saves : Bool
+
+-- each line is kept, and only then the machine takes it
+abbrev pub talk : List (List ℕ) → List Deed
+talk [] = []
+talk (line ∷ lines) = Keep line ∷ Take (line ∷ []) ∷ talk lines
+
+abbrev pub end_of : Bool → List Deed
+end_of true = WriteNote ∷ WriteDone ∷ RemoveNote ∷ []
+end_of false = WriteDone ∷ []
+
+-- the lines that a journal holds
+abbrev pub lines_kept : Option (List ℕ) → List (List ℕ)
+lines_kept None = []
+lines_kept (Some bytes) = whole_lines bytes
+
+-- the machine of a conversation that goes on takes all lines that its journal holds
+abbrev pub deeds_of : Next → Folder → Session → List Deed
+deeds_of Begin f s = MakeJournal ∷ WriteBegun ∷ talk s.typed ++ end_of s.saves
+deeds_of GoOn f s = CutJournal ∷ Take (lines_kept f.journal) ∷ talk s.typed ++ end_of s.saves
+deeds_of Finish f s = WriteDone ∷ RemoveNote ∷ []
+deeds_of Ended f s = []
+deeds_of Taken f s = []
+deeds_of Missing f s = []
+
+abbrev pub begins : Folder → Moment
+begins f = record { folder = f; taken = [] }
+
+-- a session of a conversation of which this stands, stopped at any moment, leaves this
+abbrev pub Leaves : Session → Folder → Moment → Type 0
+Leaves s f m = StopsAt (deeds_of (next_of (found_in f) s.goes_on) f s) (begins f) m

@@ -1,0 +1,62 @@
+//! Who types the lines of a run, and what is seen of it.
+
+use code_items::Code;
+use screen_lines::Screen;
+use std::alloc::AllocError;
+
+/// What an operator sees of a run that waits, or that stands at a marked place.
+#[derive(Clone, Copy)]
+pub struct View<'a> {
+    /// The code that runs.
+    pub code: &'a Code,
+    /// The screen as it stands, with the bytes of the rows that were sent so far.
+    pub screen: &'a Screen,
+    /// The place of the next instruction in the code.
+    pub place: usize,
+}
+
+/// What an operator answers.
+#[derive(Drop)]
+pub enum Answer {
+    /// A line, without its LF.
+    Line(Vec<u8>),
+    /// The end of the input: each further line is empty.
+    End,
+}
+
+/// The operator, or what stands between, failed.
+#[derive(Clone, Copy, PartialEq, Eq, Debug)]
+pub struct OperatorFailed;
+
+/// Who types the lines of a run.
+pub trait Operator {
+    /// The run begins: its tables are loaded, and no step is taken yet. Answers which places are marked, one truth
+    /// value for each place of the code from 0 on; those that are missing aren't.
+    fn begin(&mut self, code: &Code) -> Result<Vec<bool>, OperatorFailed>;
+
+    /// The run has come to a marked place.
+    fn see(&mut self, view: &View<'_>) -> Result<(), OperatorFailed>;
+
+    /// The next instruction takes a line, and none is left. A line with its LF has at most `room` bytes: where `room`
+    /// is 0 the end of the input alone is left to answer.
+    fn ask(&mut self, view: &View<'_>, room: usize) -> Result<Answer, OperatorFailed>;
+}
+
+/// Why a conversation broke off before its run ended.
+#[derive(Clone, Copy, PartialEq, Eq, Debug)]
+pub enum Broken {
+    /// The operator failed.
+    Operator,
+    /// The journal failed.
+    Journal,
+    /// The operator answered a line that holds LF, or is longer than the room that was left.
+    Line,
+    /// Memory was refused.
+    Memory,
+}
+
+impl From<AllocError> for Broken {
+    fn from(_: AllocError) -> Broken {
+        Broken::Memory
+    }
+}

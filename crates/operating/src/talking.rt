@@ -1,0 +1,319 @@
+//! Runs of accepted code that ask an operator for lines.
+
+ghost use Rattle.std.specs.Prelude.{◌≡◌, ◌≤◌, ℕ, true, List, Option, length, IfOk};
+ghost use Rattle.calendar.specs.declared.day.DayParts.{DayParts};
+ghost use Rattle.operating.specs.Talks.{ComesTo, IsNearer, Talked, Took, Turned};
+ghost use Rattle.run_steps.specs.Shapes.{StoreFits};
+ghost use Rattle.text_lines.specs.Lines.{is_ended as is_ended_text, is_out, short_lines};
+ghost use Rattle.work_area.specs.Areas.{StoreState};
+
+use crate::operator::{Answer, Broken, Operator, View};
+use calendar::Day;
+use key_lists::KeyList;
+use line_journal::{Journal, NotKept, keep};
+use machine::{Banks, Leg, banks_go_on, resume, resume_to_line};
+use run_laws::laws::{lines_behind_change_no_step, pieces_make_the_whole};
+use run_steps::Outcome;
+use std::alloc::{AllocError, Global};
+use text_lines::laws::texts_join_at_line_ends;
+use text_lines::{TypedLines, is_ended};
+use work_area::Store;
+use xverify::Verified;
+
+/// The most bytes that all lines of a conversation have together, each with its LF.
+pub const MOST_TYPED: usize = 1_048_576;
+
+/// What a turn of the conversation leads to.
+#[derive(Clone, Copy)]
+pub(crate) enum Turn {
+    /// The run ended so.
+    Over(Outcome),
+    /// It goes on behind steps of this cost and so many bytes of lines.
+    On { steps: u64, used: usize },
+}
+
+/// Asks for a line, keeps it and gives it to the banks, where none is left. Answers how many bytes all lines have then,
+/// or none where the input ended.
+fn take_one<J: Journal, O: Operator, K: KeyList>(
+    verified: &Verified,
+    journal: &mut J,
+    operator: &mut O,
+    banks: &mut Banks<K>,
+    used: usize,
+) -> Result<Option<usize>, Broken>
+    requires out { is_out banks.old.env.lines ≡ true }
+    requires few { used ≤ 1048576 }
+    ensures { IfOk result (λ longer. Took (J.holds journal.old) banks.old used 1048576 longer
+        (J.holds journal.new) banks.new) }
+{
+    let view = View {
+        code: verified.code(),
+        screen: banks.screen(),
+        place: banks.place(),
+    };
+    let room = MOST_TYPED - used;
+    let line = match operator.ask(&view, room) {
+        Ok(Answer::Line(line)) => line,
+        Ok(Answer::End) => return Ok(None),
+        Err(_) => return Err(Broken::Operator),
+    };
+    let bytes = line.len();
+    if bytes >= room || line.contains(&b'\n') {
+        return Err(Broken::Line);
+    }
+    match keep(journal, line) {
+        Ok(kept) => banks.take_line(kept),
+        Err(NotKept::Journal) => return Err(Broken::Journal),
+        Err(NotKept::Memory) => return Err(Broken::Memory),
+    }
+    Ok(Some(used + bytes + 1))
+}
+
+/// Goes on to the end of a run, whose further lines are empty.
+fn run_out<K: KeyList>(
+    alloc: Global,
+    verified: &Verified,
+    banks: &mut Banks<K>,
+    budget: u64,
+    steps: u64,
+) -> Outcome
+    requires within { steps ≤ budget }
+    requires talked { (store : StoreState) × (today : Option DayParts) × (bytes : List ℕ)
+        × Talked verified.now store today bytes steps banks.old }
+    ensures { (store : StoreState) (today : Option DayParts) (bytes : List ℕ)
+        → Talked verified.now store today bytes steps banks.old
+        → ComesTo verified.now store today bytes budget result banks.new }
+{
+    pieces_make_the_whole();
+    let last = resume(alloc, verified, banks, budget - steps);
+    Outcome {
+        end: last.end,
+        steps: steps + last.steps,
+    }
+}
+
+/// Shows an operator what stands at a marked place.
+fn show<O: Operator, K: KeyList>(
+    verified: &Verified,
+    operator: &mut O,
+    banks: &Banks<K>,
+) -> Result<(), Broken> {
+    let view = View {
+        code: verified.code(),
+        screen: banks.screen(),
+        place: banks.place(),
+    };
+    match operator.see(&view) {
+        Ok(()) => Ok(()),
+        Err(_) => Err(Broken::Operator),
+    }
+}
+
+/// Takes a line where none is left, and goes on behind it; where the input ended, the run goes on to its end.
+fn answer<J: Journal, O: Operator, K: KeyList>(
+    alloc: Global,
+    verified: &Verified,
+    journal: &mut J,
+    operator: &mut O,
+    banks: &mut Banks<K>,
+    budget: u64,
+    steps: u64,
+    used: usize,
+) -> Result<Turn, Broken>
+    requires within { steps ≤ budget }
+    requires few { used ≤ 1048576 }
+    requires out { is_out banks.old.env.lines ≡ true }
+    requires talked { (store : StoreState) × (today : Option DayParts)
+        × Talked verified.now store today (J.holds journal.old) steps banks.old }
+    ensures turned { IfOk result (λ turn. (store : StoreState) (today : Option DayParts)
+        → Talked verified.now store today (J.holds journal.old) steps banks.old
+        → Turned verified.now store today (J.holds journal.new) budget turn banks.new) }
+    ensures nearer { IfOk result (IsNearer budget 1048576 steps used) }
+{
+    banks_go_on(verified);
+    lines_behind_change_no_step();
+    texts_join_at_line_ends();
+    let taken = take_one(verified, journal, operator, banks, used)?;
+    match taken {
+        Some(longer) => Ok(Turn::On {
+            steps,
+            used: longer,
+        }),
+        None => Ok(Turn::Over(run_out(alloc, verified, banks, budget, steps))),
+    }
+}
+
+/// One turn of the conversation: the run goes on to where it ends, waits, or stands at a marked place, and the operator
+/// is asked or shown what stands there.
+fn take_turn<J: Journal, O: Operator, K: KeyList>(
+    alloc: Global,
+    verified: &Verified,
+    marks: &[bool],
+    journal: &mut J,
+    operator: &mut O,
+    banks: &mut Banks<K>,
+    budget: u64,
+    steps: u64,
+    used: usize,
+) -> Result<Turn, Broken>
+    requires within { steps ≤ budget }
+    requires few { used ≤ 1048576 }
+    requires talked { (store : StoreState) × (today : Option DayParts)
+        × Talked verified.now store today (J.holds journal.old) steps banks.old }
+    ensures turned { IfOk result (λ turn. (store : StoreState) (today : Option DayParts)
+        → Talked verified.now store today (J.holds journal.old) steps banks.old
+        → Turned verified.now store today (J.holds journal.new) budget turn banks.new) }
+    ensures nearer { IfOk result (IsNearer budget 1048576 steps used) }
+{
+    pieces_make_the_whole();
+    match resume_to_line(alloc, verified, marks, banks, budget - steps) {
+        Leg::Ended(last) => Ok(Turn::Over(Outcome {
+            end: last.end,
+            steps: steps + last.steps,
+        })),
+        Leg::Marked(more) => {
+            show(verified, operator, banks)?;
+            Ok(Turn::On {
+                steps: steps + more,
+                used,
+            })
+        }
+        Leg::Waits(more) => answer(
+            alloc,
+            verified,
+            journal,
+            operator,
+            banks,
+            budget,
+            steps + more,
+            used,
+        ),
+    }
+}
+
+/// The whole conversation, from the beginning of a run to its end.
+fn take_turns<J: Journal, O: Operator, K: KeyList>(
+    alloc: Global,
+    verified: &Verified,
+    marks: &[bool],
+    journal: &mut J,
+    operator: &mut O,
+    banks: &mut Banks<K>,
+    budget: u64,
+    used: usize,
+) -> Result<Outcome, Broken>
+    requires few { used ≤ 1048576 }
+    requires talked { (store : StoreState) × (today : Option DayParts)
+        × Talked verified.now store today (J.holds journal.old) 0 banks.old }
+    ensures { IfOk result (λ outcome. (store : StoreState) (today : Option DayParts)
+        → Talked verified.now store today (J.holds journal.old) 0 banks.old
+        → ComesTo verified.now store today (J.holds journal.new) budget outcome banks.new) }
+{
+    let mut steps = 0;
+    let mut used = used;
+    loop {
+        let turned = take_turn(
+            alloc, verified, marks, journal, operator, banks, budget, steps, used,
+        )?;
+        match turned {
+            Turn::Over(outcome) => return Ok(outcome),
+            Turn::On {
+                steps: more,
+                used: longer,
+            } => {
+                steps = more;
+                used = longer;
+            }
+        }
+    }
+}
+
+/// Tells the operator that the run begins. Answers which places are marked.
+fn begin<O: Operator>(verified: &Verified, operator: &mut O) -> Result<Vec<bool>, Broken> {
+    match operator.begin(verified.code()) {
+        Ok(marks) => Ok(marks),
+        Err(_) => Err(Broken::Operator),
+    }
+}
+
+/// All lines of a text.
+fn typed(alloc: Global, bytes: &[u8]) -> Result<TypedLines, AllocError>
+    ensures { IfOk result (λ lines. lines ≡ short_lines bytes.now) }
+{
+    Ok(TypedLines::new(Vec::from_slice(alloc, bytes)?))
+}
+
+/// The banks from which a run over these lines begins.
+fn begun<K: KeyList>(
+    alloc: Global,
+    verified: &Verified,
+    store: Store<K>,
+    today: Day,
+    handed: &[u8],
+) -> Result<Banks<K>, AllocError>
+    requires fits { StoreFits verified.now.declared store }
+    requires ended { is_ended_text handed.now ≡ true }
+    ensures { IfOk result (Talked verified.now store today handed.now 0) }
+{
+    banks_go_on(verified);
+    let lines = typed(alloc, handed)?;
+    Banks::opening(alloc, verified, store, today, lines)
+}
+
+/// Whether a conversation can go on behind these bytes: at most `MOST_TYPED`, and whole lines.
+pub fn can_go_on(handed: &[u8]) -> bool
+    ensures ended { result ≡ true → is_ended_text handed.now ≡ true }
+    ensures few { result ≡ true → length handed.now ≤ 1048576 }
+{
+    if handed.len() > MOST_TYPED {
+        return false;
+    }
+    is_ended(handed)
+}
+
+/// A conversation whose run ended: where, and how.
+#[derive(Drop)]
+pub struct Talk<K: KeyList> {
+    pub banks: Banks<K>,
+    pub outcome: Outcome,
+}
+
+/// Runs an accepted code over tables of the declared structures while an operator types its lines. It begins with the
+/// lines that the journal holds, and goes on with those that the operator answers: each is kept in the journal before
+/// the run sees it. Behind the end of the input each further line is empty. The run ends as that over all lines that the
+/// journal holds then: at the same cost, with the same screen and tables. Whether the budget is spent is judged before a
+/// line is asked for.
+///
+/// # Errors
+/// The operator or the journal failed, or a line isn't one, or memory was refused before the run began or for a line.
+pub fn converse<J: Journal, O: Operator, K: KeyList>(
+    alloc: Global,
+    verified: &Verified,
+    store: Store<K>,
+    today: Day,
+    handed: &[u8],
+    journal: &mut J,
+    operator: &mut O,
+    budget: u64,
+) -> Result<Talk<K>, Broken>
+    requires fits { StoreFits verified.now.declared store }
+    requires held { J.holds journal.old ≡ handed.now }
+    requires ended { is_ended_text handed.now ≡ true }
+    requires few { length handed.now ≤ 1048576 }
+    ensures { IfOk result (λ talk. ComesTo verified.now store today (J.holds journal.new) budget talk.outcome
+        talk.banks) }
+{
+    let marks = begin(verified, operator)?;
+    let mut banks = begun(alloc, verified, store, today, handed)?;
+    let outcome = take_turns(
+        alloc,
+        verified,
+        marks.as_slice(),
+        journal,
+        operator,
+        &mut banks,
+        budget,
+        handed.len(),
+    )?;
+    Ok(Talk { banks, outcome })
+}

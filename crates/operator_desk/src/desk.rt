@@ -1,0 +1,281 @@
+//! The operator's desk: what a person or another program sees of a run, and types for it.
+#![tactic(auto)]
+
+use crate::begun::Talk;
+use crate::gets::{Gets, Place, bad_answer};
+use crate::record::Record;
+use crate::typing::{Typed, next_line};
+use code_items::Code;
+use code_pages::{CodePage, PageFault, in_page};
+use operating::{Answer, MOST_TYPED, Operator, OperatorFailed, View};
+use screen_lines::Cursor;
+use std::alloc::{AllocError, Global};
+use std::fs::File;
+use std::rt::Runtime;
+use std::str;
+use terminal_screen::{Drawing, Window, drawn, lay_over, plain_lines};
+
+/// What a person at a terminal is told who ends the input.
+const AT_END: &str =
+    "Ctrl-C leaves everything as it is, for --continue; END typed here means that no more lines come";
+
+/// Where the streams of a conversation lead, and how it is shown there.
+#[derive(Clone, Copy)]
+pub struct Manner {
+    /// Whether a person types.
+    pub typing: bool,
+    /// Whether rows go to the terminal on which the screen is shown.
+    pub one_terminal: bool,
+    /// The window on which the screen is drawn; none where rows are only listed.
+    pub window: Option<Window>,
+    pub page: Option<CodePage>,
+}
+
+/// The desk of one conversation.
+#[derive(Drop)]
+pub struct Desk<'a, R: Runtime<A = Global, File = File>> {
+    pub rt: &'a R,
+    pub manner: Manner,
+    pub talk: Talk<'a>,
+    pub record: Record<'a, R>,
+    pub gets: Gets,
+    /// What is read of the input.
+    pub reader: R::Reader,
+    /// How many of the bytes that were sent out are shown.
+    pub shown: usize,
+    /// The rows as they were shown last.
+    pub before: Vec<[u8; 80]>,
+    /// The answers that lie over the drawing, and the line below it.
+    pub note: &'static str,
+    /// Whether a person ended the input at this question.
+    pub ended: bool,
+}
+
+impl<R: Runtime<A = Global, File = File>> Desk<'_, R> {
+    /// Shows a text on standard error.
+    fn show(&self, text: &str) -> Result<(), OperatorFailed> {
+        match eprint!(self.rt; "{text}") {
+            Ok(()) => Ok(()),
+            Err(_) => Err(OperatorFailed),
+        }
+    }
+
+    /// The bytes that were sent out and aren't shown yet.
+    fn unshown<'s>(&self, seen: &View<'s>) -> &'s [u8] {
+        let sent = seen.screen.sent();
+        &sent[self.shown.min(sent.len())..]
+    }
+
+    /// Prints rows on standard output, where that is another place than the screen's.
+    fn print_sent(&mut self, seen: &View<'_>) -> Result<(), OperatorFailed> {
+        let sent = seen.screen.sent();
+        if !self.manner.one_terminal && self.rt.write_all(self.unshown(seen)).is_err() {
+            return Err(OperatorFailed);
+        }
+        self.shown = sent.len();
+        Ok(())
+    }
+
+    /// The rows with the answers that were taken laid over them.
+    fn rows_now(&self, alloc: Global, seen: &View<'_>) -> Result<Vec<[u8; 80]>, AllocError> {
+        let mut rows = Vec::from_slice(alloc, seen.screen.rows())?;
+        for answer in self.gets.answers.as_slice() {
+            lay_over(&mut rows, answer.field, answer.text.as_slice());
+        }
+        Ok(rows)
+    }
+
+    /// Row and column at which the line is typed.
+    fn cursor(&self, seen: &View<'_>) -> (usize, usize) {
+        match (self.gets.waiting, seen.screen.cursor()) {
+            (Place::Field(field), _) => (field.row, field.column),
+            (Place::Behind, Cursor::At { row, column }) => (row, column),
+            _ => (24, 0),
+        }
+    }
+
+    /// Draws the screen in its window.
+    fn draw(&self, alloc: Global, window: Window, seen: &View<'_>) -> Result<(), OperatorFailed> {
+        let Ok(rows) = self.rows_now(alloc, seen) else {
+            return Err(OperatorFailed);
+        };
+        let sent = if self.manner.one_terminal {
+            self.unshown(seen)
+        } else {
+            &[]
+        };
+        let drawing = Drawing {
+            sent,
+            rows: rows.as_slice(),
+            fields: self.gets.fields.as_slice(),
+            cursor: self.cursor(seen),
+            window,
+            page: self.manner.page,
+            note: self.note,
+        };
+        match drawn(alloc, &drawing) {
+            Ok(text) => self.show(text.as_str()),
+            Err(_) => Err(OperatorFailed),
+        }
+    }
+
+    /// Lists the rows that changed, those that were sent out among them, and what waits.
+    fn list(&mut self, alloc: Global, seen: &View<'_>) -> Result<(), OperatorFailed> {
+        let rows = seen.screen.rows();
+        match plain_lines(alloc, self.before.as_slice(), rows, self.manner.page) {
+            Ok(text) => self.show(text.as_str())?,
+            Err(_) => return Err(OperatorFailed),
+        }
+        let Ok(now) = Vec::from_slice(alloc, rows) else {
+            return Err(OperatorFailed);
+        };
+        self.before = now;
+        if !self.note.is_empty() {
+            let _ = eprintln!(self.rt; "{}", self.note);
+        }
+        self.prompt()
+    }
+
+    /// Says what waits.
+    fn prompt(&self) -> Result<(), OperatorFailed> {
+        let told = match self.gets.waiting {
+            Place::Field(field) => eprint!(self.rt;
+                "[row {}, column {}] ",
+                field.row, field.column
+            ),
+            Place::Behind => eprint!(self.rt; "[line] "),
+            Place::Unknown => eprint!(self.rt; "[field {}] ", self.gets.number),
+        };
+        match told {
+            Ok(()) => Ok(()),
+            Err(_) => Err(OperatorFailed),
+        }
+    }
+
+    /// Shows the run as it waits.
+    fn show_all(&mut self, alloc: Global, seen: &View<'_>) -> Result<(), OperatorFailed> {
+        match self.manner.window {
+            Some(window) => self.draw(alloc, window, seen)?,
+            None => self.list(alloc, seen)?,
+        }
+        self.print_sent(seen)
+    }
+
+    /// What a line is, that was typed in UTF-8, in the page; none where the page lacks a letter of it.
+    fn in_its_page(&self, alloc: Global, line: Vec<u8>) -> Result<Option<Vec<u8>>, OperatorFailed> {
+        let Some(page) = self.manner.page else {
+            return Ok(Some(line));
+        };
+        let Ok(text) = str::from_utf8(line.as_slice()) else {
+            return Ok(None);
+        };
+        match in_page(alloc, page, text) {
+            Ok(bytes) => Ok(Some(bytes)),
+            Err(PageFault::Lacks(_)) => Ok(None),
+            Err(PageFault::Memory) => Err(OperatorFailed),
+        }
+    }
+
+    /// What becomes of the end of the input. A person ends it once without harm.
+    fn at_end(&mut self) -> Result<Option<Answer>, OperatorFailed> {
+        if !self.manner.typing {
+            return Ok(Some(Answer::End));
+        }
+        if self.ended {
+            return Err(OperatorFailed);
+        }
+        self.ended = true;
+        self.note = AT_END;
+        Ok(None)
+    }
+
+    /// What becomes of a line that was typed; none where another one is to be typed.
+    fn of_line(&mut self, alloc: Global, line: Vec<u8>) -> Result<Option<Answer>, OperatorFailed> {
+        if self.ended && line.as_slice() == b"END".as_slice() {
+            return Ok(Some(Answer::End));
+        }
+        match self.in_its_page(alloc, line)? {
+            Some(bytes) => Ok(Some(Answer::Line(bytes))),
+            None => {
+                self.note = "the code page lacks a letter of this line; type it again";
+                Ok(None)
+            }
+        }
+    }
+
+    /// One reading of a line; none where another one is to be read.
+    fn read(&mut self, alloc: Global, room: usize) -> Result<Option<Answer>, OperatorFailed> {
+        match next_line(alloc, &mut self.reader, MOST_TYPED) {
+            Ok(Typed::Line(line)) if line.len() < room => self.of_line(alloc, line),
+            Ok(Typed::Line(_)) => {
+                self.refuse_line();
+                Ok(Some(Answer::End))
+            }
+            Ok(Typed::Long) => {
+                self.refuse_line();
+                Ok(Some(Answer::End))
+            }
+            Ok(Typed::End) => self.at_end(),
+            Err(_) => Err(OperatorFailed),
+        }
+    }
+
+    /// Says that a line is too long.
+    fn refuse_line(&self) {
+        let _ = eprintln!(self.rt;
+            "all lines together are longer than 1 MiB; no more lines are taken"
+        );
+    }
+
+    /// Notes the answer, so that it lies over the drawing until the program writes there.
+    fn note_answer(
+        &mut self,
+        alloc: Global,
+        answer: &Answer,
+        seen: &View<'_>,
+    ) -> Result<(), OperatorFailed> {
+        self.note = "";
+        self.ended = false;
+        let line = match answer {
+            Answer::Line(line) => line.as_slice(),
+            Answer::End => &[],
+        };
+        if let Some(why) = bad_answer(self.gets.kind, line) {
+            self.note = why;
+        } else if self.gets.take(alloc, line, seen).is_err() {
+            return Err(OperatorFailed);
+        }
+        self.record.screen(alloc, seen, Some(line))
+    }
+}
+
+impl<R: Runtime<A = Global, File = File>> Operator for Desk<'_, R> {
+    fn begin(&mut self, code: &Code) -> Result<Vec<bool>, OperatorFailed> {
+        let alloc = self.rt.alloc();
+        self.record.begin(alloc, &self.talk)?;
+        match self.gets.begin(alloc, code) {
+            Ok(marks) => Ok(marks),
+            Err(_) => Err(OperatorFailed),
+        }
+    }
+
+    fn see(&mut self, seen: &View<'_>) -> Result<(), OperatorFailed> {
+        self.gets.look(seen);
+        Ok(())
+    }
+
+    fn ask(&mut self, seen: &View<'_>, room: usize) -> Result<Answer, OperatorFailed> {
+        let alloc = self.rt.alloc();
+        if self.gets.wait(alloc, seen).is_err() {
+            return Err(OperatorFailed);
+        }
+        for _ in 0..u32::MAX {
+            self.show_all(alloc, seen)?;
+            if let Some(answer) = self.read(alloc, room)? {
+                self.note_answer(alloc, &answer, seen)?;
+                return Ok(answer);
+            }
+        }
+        Err(OperatorFailed)
+    }
+}

@@ -1,0 +1,16 @@
+//! The operator's desk: what a person or another program sees of a run in conversation and types for it, and what stands
+//! beside the journal that keeps it.
+#![tactic(auto)]
+
+mod begun;
+mod clock;
+mod desk;
+mod gets;
+mod record;
+mod typing;
+
+pub use begun::{Talk, talk_in};
+pub use clock::local_day;
+pub use desk::{Desk, Manner};
+pub use gets::Gets;
+pub use record::{KeptJournal, Record};

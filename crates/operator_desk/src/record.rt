@@ -1,0 +1,151 @@
+//! What stands beside a journal, and the screens that are written.
+#![tactic(auto)]
+
+use crate::begun::{Talk, put_talk};
+use folder_files::{FileSum, JournalFile, put_new_file};
+use journal_papers::{JournalPaper, PaperFault, first_changed};
+use line_journal::{Journal, JournalFailed};
+use operating::{OperatorFailed, View};
+use std::alloc::{AllocError, Global};
+use std::cell::RefCell;
+use std::fs::File;
+use std::io::Write;
+use std::rt::Runtime;
+
+/// The journal of a conversation: lines on the device, and the bytes that were brought there.
+#[derive(Drop)]
+pub struct KeptJournal {
+    pub file: JournalFile,
+    pub bytes: Vec<u8>,
+}
+
+impl Journal for KeptJournal {
+    ghost holds = { λ journal. journal.bytes.items };
+
+    fn append(&mut self, bytes: &[u8]) -> Result<(), JournalFailed> {
+        if self.bytes.reserve(bytes.len()).is_err() || self.file.add(bytes).is_err() {
+            return Err(JournalFailed);
+        }
+        match self.bytes.extend_from_slice(bytes) {
+            Ok(()) => Ok(()),
+            Err(_) => Err(JournalFailed),
+        }
+    }
+}
+
+/// Beside what the conversation is recorded.
+#[derive(Drop)]
+pub struct Record<'a, R: Runtime<A = Global, File = File>> {
+    pub rt: &'a R,
+    /// The sums of the files of its run as they were read, first that of its code.
+    pub sums: &'a RefCell<Vec<FileSum>>,
+    /// The name of the text of its beginning.
+    pub begun: String,
+    /// What that text says, where the conversation goes on.
+    pub said: Option<&'a JournalPaper>,
+    /// The file that isn't as it was when the conversation was begun.
+    pub changed: Option<String>,
+    /// The name of a file that couldn't be written.
+    pub unwritten: Option<String>,
+    /// The file for screens.
+    pub screens: Option<File>,
+}
+
+/// The text of a beginning.
+fn begun_text(alloc: Global, talk: &Talk<'_>, sums: &[FileSum]) -> Result<String, PaperFault> {
+    let mut paper = JournalPaper::new(alloc);
+    if put_talk(alloc, &mut paper, talk).is_err() {
+        return Err(PaperFault::Memory);
+    }
+    for sum in sums {
+        if paper.put_sum(alloc, sum).is_err() {
+            return Err(PaperFault::Memory);
+        }
+    }
+    paper.text(alloc)
+}
+
+/// A row without the blanks at its end.
+fn put_row(out: &mut Vec<u8>, row: &[u8; 80]) -> Result<(), AllocError> {
+    let blanks = row.iter().rev().take_while(|byte| **byte == b' ').count();
+    out.extend_from_slice(&row[..80 - blanks.min(80)])?;
+    out.push(b'\n')?;
+    Ok(())
+}
+
+/// The rows of a screen, and the line that was taken behind them.
+fn screen_text(alloc: Global, seen: &View<'_>, line: Option<&[u8]>) -> Result<Vec<u8>, AllocError> {
+    let mut out = Vec::new(alloc);
+    for row in seen.screen.rows() {
+        put_row(&mut out, row)?;
+    }
+    if let Some(line) = line {
+        out.extend_from_slice(b"> ".as_slice())?;
+        out.extend_from_slice(line)?;
+        out.push(b'\n')?;
+    }
+    Ok(out)
+}
+
+impl<R: Runtime<A = Global, File = File>> Record<'_, R> {
+    /// Writes the text of the beginning, or, where the conversation goes on, looks whether all files are as it says.
+    pub fn begin(&mut self, alloc: Global, talk: &Talk<'_>) -> Result<(), OperatorFailed> {
+        let Ok(sums) = self.sums.try_borrow() else {
+            return Err(OperatorFailed);
+        };
+        match self.said {
+            Some(said) => match first_changed(said, sums.as_slice()) {
+                Some(number) => {
+                    self.changed = name_at(alloc, sums.as_slice(), number);
+                    Err(OperatorFailed)
+                }
+                None => Ok(()),
+            },
+            None => self.write(alloc, talk, sums.as_slice()),
+        }
+    }
+
+    fn write(
+        &mut self,
+        alloc: Global,
+        talk: &Talk<'_>,
+        sums: &[FileSum],
+    ) -> Result<(), OperatorFailed> {
+        if self.begun.is_empty() {
+            return Ok(());
+        }
+        let Ok(text) = begun_text(alloc, talk, sums) else {
+            return Err(OperatorFailed);
+        };
+        if put_new_file(self.rt, self.begun.as_str(), text.as_bytes()).is_err() {
+            self.unwritten = self.begun.clone().ok();
+            return Err(OperatorFailed);
+        }
+        Ok(())
+    }
+
+    /// Writes the screen as it stands, and the line that was taken behind it, to the file for screens.
+    pub fn screen(
+        &mut self,
+        alloc: Global,
+        seen: &View<'_>,
+        line: Option<&[u8]>,
+    ) -> Result<(), OperatorFailed> {
+        let Some(file) = &mut self.screens else {
+            return Ok(());
+        };
+        let Ok(text) = screen_text(alloc, seen, line) else {
+            return Err(OperatorFailed);
+        };
+        match file.write_all(text.as_slice()) {
+            Ok(()) => Ok(()),
+            Err(_) => Err(OperatorFailed),
+        }
+    }
+}
+
+/// The name of a file by its number.
+fn name_at(alloc: Global, sums: &[FileSum], number: usize) -> Option<String> {
+    let file = sums.get(number)?;
+    String::from_str(alloc, file.name.as_str()).ok()
+}

@@ -1,0 +1,44 @@
+-- Runs whose lines an operator types, from files to files.
+use Rattle.std.specs.Prelude.{◌≡◌, ℕ, List, [], ⊤, Result, Ok, Err}
+use Rattle.code_items.specs.declared.code.Code.{Code}
+use Rattle.file_access.specs.Holding.{Holds, SameFiles}
+use Rattle.run_commands.specs.declared.ending.Ended.{Ended}
+use Rattle.run_commands.specs.declared.job.Job.{Job}
+use Rattle.run_commands.specs.declared.conversation.OperateRefusal.{OperateRefusal}
+use Rattle.run_commands.specs.declared.conversation.OperateRefusal.TheVariants.{Run, Broke, Handed}
+use Rattle.run_commands.specs.declared.refusal.RunRefusal.{RunRefusal}
+use Rattle.run_commands.specs.Reports.{IsRefused}
+use Rattle.run_commands.specs.Runs.{IsSoundRun}
+use Rattle.run_steps.specs.declared.ending.Outcome.{Outcome}
+use Rattle.work_area.specs.Areas.{StoreState}
+
+-- the same job, whose input is this text
+pub record IsWith (job : Job) (typed : List ℕ) (whole : Job) : Type 0 where
+  pub input : whole.input.now ≡ typed
+  pub name : whole.name.now ≡ job.name.now
+  pub checked : whole.checked ≡ job.checked
+  pub budget : whole.budget ≡ job.budget
+  pub limit : whole.limit ≡ job.limit
+  pub day : whole.day ≡ job.day
+
+-- a run that was carried out is the job's run over the lines of this text
+abbrev pub SoundOver : Code → StoreState → Job → List ℕ → Outcome → List ℕ → StoreState → Type 0
+SoundOver code store job typed outcome rows tables =
+    (whole : Job) → IsWith job typed whole → IsSoundRun code store whole outcome rows tables
+
+-- what is refused of a run is refused of the job's run; where the conversation broke off, nothing is printed or saved
+abbrev pub OperationRefused : Holds → Holds → Job → Type 0 → OperateRefusal → List ℕ → Type 0
+OperationRefused before after job broke (Run refusal) rows = IsRefused before after job broke refusal rows
+OperationRefused before after job broke (Broke why) rows = SameFiles before after × (rows ≡ [])
+OperationRefused before after job broke Handed rows = SameFiles before after × (rows ≡ [])
+
+-- a refusal of the run, if it is one
+abbrev pub IfOfRun : (RunRefusal → Type 0) → OperateRefusal → Type 0
+IfOfRun says (Run refusal) = says refusal
+IfOfRun says (Broke why) = ⊤
+IfOfRun says Handed = ⊤
+
+-- the same result, its refusal as that of a run
+abbrev pub SameResult : Result Ended RunRefusal → Result Ended OperateRefusal → Type 0
+SameResult (Ok ended) told = told ≡ Ok ended
+SameResult (Err refusal) told = told ≡ Err (Run refusal)
