@@ -1,7 +1,7 @@
 // The words of the command line.
 #![tactic(auto)]
 
-use crate::operating::{OperateWords, operate_of, operator};
+use crate::operating::{OperateWords, operate_of, operator, screens, screens_of};
 use clap::{Arg, ArgAction, ArgMatches, Command, value_parser};
 use code_pages::CodePage;
 use run_commands::{Job, RecordLimit, RunDay};
@@ -35,8 +35,6 @@ pub enum WordsFault {
     Screens,
     /// The size of a window isn't written as ROWSxCOLUMNS.
     Window,
-    /// A conversation is to be rehearsed.
-    Rehearsed,
     /// A conversation that goes on is asked for what it was asked for already.
     Continued,
 }
@@ -71,6 +69,8 @@ pub struct RunWords<'a> {
     /// The run; nothing is typed yet.
     pub job: Job<'a>,
     pub tables: Outcomes<'a>,
+    /// The file to which the screens before each line and the last one are written.
+    pub screens: Option<&'a str>,
 }
 
 /// How a table is listed.
@@ -308,7 +308,7 @@ fn with_runners<'a>(alloc: Global, command: Command<'a>) -> Result<Command<'a>, 
     )?;
     let changes = flag(alloc, CHANGES, "Tells what a run would save");
     command
-        .subcommand(saver(alloc, run)?)?
+        .subcommand(saver(alloc, run)?.arg(screens(alloc))?)?
         .subcommand(operator(alloc)?)?
         .subcommand(check.arg(changes)?)
 }
@@ -397,6 +397,7 @@ fn asked<'a>(
     matches: &ArgMatches<'a>,
     checked: bool,
     tables: Outcomes<'a>,
+    screens: Option<&'a str>,
 ) -> Result<Words<'a>, WordsFault> {
     Ok(Words::Run(RunWords {
         job: Job {
@@ -408,6 +409,7 @@ fn asked<'a>(
             input: &[],
         },
         tables,
+        screens,
     }))
 }
 
@@ -427,9 +429,9 @@ pub(crate) fn run_outcomes<'a>(matches: &ArgMatches<'a>) -> Outcomes<'a> {
 /// What the words of `check-run` ask for.
 fn check_of<'a>(matches: &ArgMatches<'a>) -> Result<Words<'a>, WordsFault> {
     if matches.get_flag(CHANGES) {
-        return asked(matches, true, Outcomes::Told);
+        return asked(matches, true, Outcomes::Told, None);
     }
-    asked(matches, true, Outcomes::Nothing)
+    asked(matches, true, Outcomes::Nothing, None)
 }
 
 /// The command files that the words name, the main one first.
@@ -449,7 +451,7 @@ pub fn words_of<'a>(matches: &ArgMatches<'a>) -> Result<Words<'a>, WordsFault> {
         "faults" => Ok(Words::Faults {
             decl: word_of(matches, DECLARATIONS)?,
         }),
-        "run" => asked(matches, false, run_outcomes(matches)),
+        "run" => asked(matches, false, run_outcomes(matches), screens_of(matches)),
         "operate" => Ok(Words::Operate(operate_of(matches)?)),
         "check-run" => check_of(matches),
         "verify" => Ok(Words::Verify {

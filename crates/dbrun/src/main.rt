@@ -1,14 +1,16 @@
-//! `dbrun`: compiles command files and lists their faults, verifies, runs and lists code files, lists tables and indexes, and declares those
-//! of a folder.
+//! `dbrun`: compiles command files and lists their faults, verifies, runs and lists code files, lists tables and
+//! indexes, and declares those of a folder.
 //!
 //! What a command does with files stands in functions over the trait `Files`; here the words of the command line are
 //! carried out, and what they give is printed.
 #![tactic(auto)]
 
 mod operate;
+mod screens;
 mod shown;
 
 use crate::operate::operate;
+use crate::screens::{is_free_name, rehearse_shown, run_shown};
 use crate::shown::{
     Audience, FaultyLine, OutTold, Progress, faulty_line, hint_of, line_among, line_at, line_of,
     lines_of, of_end, printable, why_hindered,
@@ -31,7 +33,7 @@ use folder_files::{
     Unsaved, finish, forget, is_empty_folder, is_same_file, note_stands, paper_name, take_folder,
 };
 use folder_shapes::{LineTold, declare};
-use run_commands::{Ended, Job, Report, RunRefusal, rehearse_files, run_files};
+use run_commands::{Ended, Job, Report, RunRefusal, run_files};
 use save_rules::{Overwritten, overwritten_by};
 use shape_files::ShapeRefusal;
 use std::alloc::{AllocError, Global};
@@ -255,7 +257,8 @@ fn tell_end(rt: &impl Runtime, name: &str, ended: &Result<Ended, RunRefusal>) ->
     }
 }
 
-fn tell_refusal(rt: &impl Runtime, name: &str, refusal: &RunRefusal) -> Status {
+/// Tells on standard error why a run was refused.
+pub fn tell_refusal(rt: &impl Runtime, name: &str, refusal: &RunRefusal) -> Status {
     let told = refusal.told(name);
     let _ = eprintln!(rt; "{told}");
     refusal.status()
@@ -373,11 +376,12 @@ pub fn tell_hindered<R: Runtime<A = Global>>(
 }
 
 /// Runs the code, and saves the tables all together or not at all. A folder that is closed is another program's.
-fn run_and_save<R: Runtime<A = Global>>(
+fn run_and_save<R: Runtime<A = Global, File = File>>(
     rt: &R,
     audience: Audience,
     job: &Job<'_>,
     save: SaveWords<'_>,
+    screens: Option<&str>,
     closed: Option<Hindrance>,
 ) -> Status {
     let terms = SaveTerms {
@@ -387,7 +391,10 @@ fn run_and_save<R: Runtime<A = Global>>(
         backup: save.backup,
     };
     let mut saving = SavingFolder::new(folder(rt, audience), terms);
-    let done = run_files(rt.alloc(), &mut saving, job);
+    let done = match run_shown(rt, &mut saving, job, screens) {
+        Ok(done) => done,
+        Err(status) => return status,
+    };
     let ended = match &done.result {
         Ok(ended) => ended,
         Err(refusal) => return tell_hindered(rt, audience, job.name, refusal, saving.hindrance()),
@@ -417,11 +424,16 @@ fn run_tested<R: Runtime<A = Global>>(rt: &R, audience: Audience, job: &Job<'_>)
 }
 
 /// Runs the code, saves nothing, and tells what a run would have saved.
-fn rehearse<R: Runtime<A = Global>>(rt: &R, audience: Audience, job: &Job<'_>) -> Status {
+fn rehearse<R: Runtime<A = Global, File = File>>(
+    rt: &R,
+    audience: Audience,
+    job: &Job<'_>,
+    screens: Option<&str>,
+) -> Status {
     let mut folder = folder(rt, audience);
-    let done = match rehearse_files(rt.alloc(), &mut folder, job) {
+    let done = match rehearse_shown(rt, &mut folder, job, screens) {
         Ok(done) => done,
-        Err(refusal) => return tell_refusal(rt, job.name, &refusal),
+        Err(status) => return status,
     };
     match print_bytes(rt, audience, done.rows.as_slice()) {
         Status::Done => {
@@ -463,6 +475,7 @@ fn run_alone<R: Runtime<A = Global, File = File>>(
     audience: Audience,
     job: &Job<'_>,
     save: SaveWords<'_>,
+    screens: Option<&str>,
 ) -> Status {
     let held = take_folder(rt);
     let closed = hindered(&held, save.no_lock);
@@ -471,7 +484,7 @@ fn run_alone<R: Runtime<A = Global, File = File>>(
             return status;
         }
     }
-    run_and_save(rt, audience, job, save, closed)
+    run_and_save(rt, audience, job, save, screens, closed)
 }
 
 /// Takes away a save that was cut off, and no table.
@@ -551,14 +564,14 @@ fn run<R: Runtime<A = Global, File = File>>(
         input: input.as_slice(),
     };
     match words.tables {
-        Outcomes::Saved(save) => run_alone(rt, audience, &job, save),
+        Outcomes::Saved(save) => run_alone(rt, audience, &job, save, words.screens),
         Outcomes::Nothing => {
             settle(rt);
             run_tested(rt, audience, &job)
         }
         Outcomes::Told => {
             settle(rt);
-            rehearse(rt, audience, &job)
+            rehearse(rt, audience, &job, words.screens)
         }
     }
 }
@@ -711,6 +724,14 @@ fn may_back_up<R: Runtime<A = Global>>(rt: &R, words: &RunWords<'_>) -> Result<(
     Ok(())
 }
 
+/// Refuses a file for screens that would overwrite another one.
+fn may_show(words: &RunWords<'_>) -> Result<(), WordsFault> {
+    match words.screens {
+        Some(name) if !is_free_name(name, words.job.name) => Err(WordsFault::Screens),
+        _ => Ok(()),
+    }
+}
+
 fn carry_out<R: Runtime<A = Global, File = File>>(
     rt: &R,
     audience: Audience,
@@ -722,6 +743,7 @@ fn carry_out<R: Runtime<A = Global, File = File>>(
         Words::Faults { decl } => faults(rt, audience, decl, &*sources),
         Words::Run(words) => {
             may_back_up(rt, words)?;
+            may_show(words)?;
             Ok(run(rt, audience, words))
         }
         Words::Operate(words) => operate(rt, audience, words),
@@ -787,8 +809,6 @@ fn message(fault: WordsFault) -> &'static str {
             "the file of --journal is a plain name in this folder, and none that the run uses",
         WordsFault::Screens =>
             "the file of --screens is a plain name in this folder, and none that the run uses",
-        WordsFault::Rehearsed =>
-            "a conversation isn't rehearsed; --rehearse of run takes its journal",
         WordsFault::Continued =>
             "a conversation that goes on has the options with which it was begun",
         WordsFault::Missing | WordsFault::Out(_) => "a word is missing",

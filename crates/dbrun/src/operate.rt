@@ -1,6 +1,9 @@
 //! `operate`: a run in conversation, from its words to its end.
 #![tactic(auto)]
 
+ghost use Rattle.std.specs.Prelude.{◌≡◌, false};
+
+use crate::screens::{is_free_name, screens_to};
 use crate::shown::{Audience, Progress, of_end};
 use crate::{finish_before, folder, hindered, print_bytes, refuse, tell_hindered, tell_unsaved};
 use command_words::{
@@ -16,11 +19,12 @@ use journal_papers::JournalPaper;
 use journal_steps::{Found, Next, next_of};
 use operating::Broken;
 use operator_desk::{Desk, Gets, KeptJournal, Manner, Record, Talk, local_day, talk_in};
-use run_commands::{Ended, Job, OperateRefusal, Operation, operate_files};
-use save_rules::{is_in_folder, overwritten_by};
+use run_commands::{
+    Ended, Job, OperateRefusal, Operation, Rehearsal, operate_files, rehearse_talk,
+};
 use std::alloc::{AllocError, Global};
 use std::cell::RefCell;
-use std::fs::{self, File, OpenOptions};
+use std::fs::{self, File};
 use std::rt::Runtime;
 use std::str;
 use terminal_screen::Window;
@@ -31,13 +35,6 @@ struct Names<'a> {
     journal: &'a str,
     begun: String,
     done: String,
-}
-
-/// Whether a new file of this name harms nothing: it is one of the folder's, and none that the program makes or reads.
-fn is_free_name(name: &str, code: &str) -> bool {
-    is_in_folder(name.as_bytes())
-        && overwritten_by(name, code, &[]).is_none()
-        && !name.starts_with(paper_name())
 }
 
 /// The names of a conversation's files, if they harm nothing.
@@ -199,24 +196,6 @@ fn read_begun<R: Runtime<A = Global>>(
     }
 }
 
-/// The file for screens, made anew.
-fn screens_file<R: Runtime<A = Global, File = File>>(
-    rt: &R,
-    shown: &ShownWords<'_>,
-) -> Result<Option<File>, Status> {
-    let Some(name) = shown.screens else {
-        return Ok(None);
-    };
-    let mut options = OpenOptions::new();
-    options.write(true);
-    options.create(true);
-    options.truncate(true);
-    match options.open(rt, name) {
-        Ok(file) => Ok(Some(file)),
-        Err(_) => Err(refuse(rt, Refusal::Disk { name })),
-    }
-}
-
 /// The text of an end: how the run ended, what the journal holds, and what was saved.
 fn done_text(
     alloc: Global,
@@ -288,8 +267,8 @@ fn desk_of<'a, R: Runtime<A = Global, File = File>>(
             said: open.said,
             changed: None,
             unwritten: None,
-            screens: screens_file(rt, &open.shown)?,
         },
+        screens: screens_to(rt, open.shown.screens)?,
         gets: Gets::new(alloc),
         reader: rt.reader(),
         shown: 0,
@@ -393,6 +372,22 @@ fn hand_in_done<R: Runtime<A = Global, File = File>, L: Listener>(
     }
 }
 
+/// Writes the text of an end, and tells how a run ended that saved nothing.
+fn tell_unsaved_end<R: Runtime<A = Global, File = File>>(
+    rt: &R,
+    open: &Open<'_>,
+    journal: &KeptJournal,
+    ended: &Ended,
+) -> Status {
+    match write_done(rt, open, journal, ended) {
+        None => {
+            let _ = eprintln!(rt; "{ended}");
+            ended.status()
+        }
+        Some(status) => status,
+    }
+}
+
 /// Ends a conversation whose run saved nothing.
 fn end_unsaved<R: Runtime<A = Global, File = File>>(
     rt: &R,
@@ -404,13 +399,25 @@ fn end_unsaved<R: Runtime<A = Global, File = File>>(
     ended: &Ended,
 ) -> Status {
     match print_rest(rt, audience, desk, rows) {
-        Status::Done => match write_done(rt, open, journal, ended) {
-            None => {
-                let _ = eprintln!(rt; "{ended}");
-                ended.status()
-            }
-            Some(status) => status,
-        },
+        Status::Done => tell_unsaved_end(rt, open, journal, ended),
+        status => status,
+    }
+}
+
+/// Ends a conversation that was rehearsed: what a run would have saved is told before how it ended.
+fn end_rehearsed<R: Runtime<A = Global, File = File>>(
+    rt: &R,
+    audience: Audience,
+    open: &Open<'_>,
+    journal: &KeptJournal,
+    desk: &Desk<'_, R>,
+    told: &Rehearsal,
+) -> Status {
+    match print_rest(rt, audience, desk, told.rows.as_slice()) {
+        Status::Done => {
+            let _ = eprint!(rt; "{told}");
+            tell_unsaved_end(rt, open, journal, &told.ended)
+        }
         status => status,
     }
 }
@@ -471,6 +478,21 @@ fn conclude<'a, R: Runtime<A = Global, File = File>>(
     }
 }
 
+/// The run of a conversation, over the lines that its journal holds at the beginning.
+fn job_of<'a>(open: &Open<'a>, input: &'a [u8]) -> Job<'a>
+    ensures untested { result.checked ≡ false }
+    ensures input { result.input.now ≡ input.now }
+{
+    Job {
+        name: open.code,
+        checked: false,
+        budget: open.talk.budget,
+        limit: open.talk.limit,
+        day: open.talk.day,
+        input,
+    }
+}
+
 /// Carries out a conversation whose journal is open.
 fn converse<'a, R: Runtime<A = Global, File = File>>(
     rt: &'a R,
@@ -488,20 +510,19 @@ fn converse<'a, R: Runtime<A = Global, File = File>>(
     let Ok(input) = journal.bytes.clone() else {
         return refuse(rt, Refusal::Memory);
     };
-    let job = Job {
-        name: open.code,
-        checked: false,
-        budget: open.talk.budget,
-        limit: open.talk.limit,
-        day: open.talk.day,
-        input: input.as_slice(),
-    };
+    let job = job_of(open, input.as_slice());
     let noting = Progress {
         rt,
         audience,
         sums: Some(&sums),
     };
     let mut saving = SavingFolder::new(Folder::new(rt, noting), terms);
+    if let Outcomes::Told = open.talk.tables {
+        return match rehearse_talk(alloc, &mut saving, &job, &mut journal, &mut desk) {
+            Ok(told) => end_rehearsed(rt, audience, open, &journal, &desk, &told),
+            Err(refusal) => tell_broken(rt, audience, open, &desk.record, &saving, &refusal),
+        };
+    }
     let told = operate_files(alloc, &mut saving, &job, &mut journal, &mut desk);
     conclude(rt, audience, open, &journal, &desk, &mut saving, &told)
 }
@@ -599,9 +620,6 @@ pub fn operate<R: Runtime<A = Global, File = File>>(
     let Some(asked) = &words.talk else {
         return Ok(go_on(rt, audience, words, &names));
     };
-    if let Outcomes::Told = asked.tables {
-        return Err(WordsFault::Rehearsed);
-    }
     let Some(talk) = talk_of(rt, audience, asked) else {
         return Err(WordsFault::Today);
     };

@@ -40,6 +40,9 @@ pub trait Operator {
     /// The next instruction takes a line, and none is left. A line with its LF has at most `room` bytes: where `room`
     /// is 0 the end of the input alone is left to answer.
     fn ask(&mut self, view: &View<'_>, room: usize) -> Result<Answer, OperatorFailed>;
+
+    /// The run has ended, and nothing is saved yet.
+    fn end(&mut self, view: &View<'_>) -> Result<(), OperatorFailed>;
 }
 
 /// Why a conversation broke off before its run ended.

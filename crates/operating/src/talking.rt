@@ -32,6 +32,15 @@ pub(crate) enum Turn {
     On { steps: u64, used: usize },
 }
 
+/// What an operator sees where the banks stand.
+fn view_of<'a, K: KeyList>(verified: &'a Verified, banks: &'a Banks<K>) -> View<'a> {
+    View {
+        code: verified.code(),
+        screen: banks.screen(),
+        place: banks.place(),
+    }
+}
+
 /// Asks for a line, keeps it and gives it to the banks, where none is left. Answers how many bytes all lines have then,
 /// or none where the input ended.
 fn take_one<J: Journal, O: Operator, K: KeyList>(
@@ -46,13 +55,8 @@ fn take_one<J: Journal, O: Operator, K: KeyList>(
     ensures { IfOk result (λ longer. Took (J.holds journal.old) banks.old used 1048576 longer
         (J.holds journal.new) banks.new) }
 {
-    let view = View {
-        code: verified.code(),
-        screen: banks.screen(),
-        place: banks.place(),
-    };
     let room = MOST_TYPED - used;
-    let line = match operator.ask(&view, room) {
+    let line = match operator.ask(&view_of(verified, banks), room) {
         Ok(Answer::Line(line)) => line,
         Ok(Answer::End) => return Ok(None),
         Err(_) => return Err(Broken::Operator),
@@ -98,12 +102,19 @@ fn show<O: Operator, K: KeyList>(
     operator: &mut O,
     banks: &Banks<K>,
 ) -> Result<(), Broken> {
-    let view = View {
-        code: verified.code(),
-        screen: banks.screen(),
-        place: banks.place(),
-    };
-    match operator.see(&view) {
+    match operator.see(&view_of(verified, banks)) {
+        Ok(()) => Ok(()),
+        Err(_) => Err(Broken::Operator),
+    }
+}
+
+/// Shows an operator where the run ended.
+fn close<O: Operator, K: KeyList>(
+    verified: &Verified,
+    operator: &mut O,
+    banks: &Banks<K>,
+) -> Result<(), Broken> {
+    match operator.end(&view_of(verified, banks)) {
         Ok(()) => Ok(()),
         Err(_) => Err(Broken::Operator),
     }
@@ -315,5 +326,6 @@ pub fn converse<J: Journal, O: Operator, K: KeyList>(
         budget,
         handed.len(),
     )?;
+    close(verified, operator, &banks)?;
     Ok(Talk { banks, outcome })
 }

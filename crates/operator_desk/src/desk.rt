@@ -4,6 +4,7 @@
 use crate::begun::Talk;
 use crate::gets::{Gets, Place, bad_answer};
 use crate::record::Record;
+use crate::screens::Screens;
 use crate::typing::{Typed, next_line};
 use code_items::Code;
 use code_pages::{CodePage, PageFault, in_page};
@@ -38,6 +39,7 @@ pub struct Desk<'a, R: Runtime<A = Global, File = File>> {
     pub manner: Manner,
     pub talk: Talk<'a>,
     pub record: Record<'a, R>,
+    pub screens: Screens,
     pub gets: Gets,
     /// What is read of the input.
     pub reader: R::Reader,
@@ -245,7 +247,7 @@ impl<R: Runtime<A = Global, File = File>> Desk<'_, R> {
         } else if self.gets.take(alloc, line, seen).is_err() {
             return Err(OperatorFailed);
         }
-        self.record.screen(alloc, seen, Some(line))
+        self.screens.write(alloc, seen, Some(line))
     }
 }
 
@@ -277,5 +279,9 @@ impl<R: Runtime<A = Global, File = File>> Operator for Desk<'_, R> {
             }
         }
         Err(OperatorFailed)
+    }
+
+    fn end(&mut self, seen: &View<'_>) -> Result<(), OperatorFailed> {
+        self.screens.write(self.rt.alloc(), seen, None)
     }
 }

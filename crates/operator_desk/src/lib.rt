@@ -7,10 +7,14 @@ mod clock;
 mod desk;
 mod gets;
 mod record;
+mod screens;
 mod typing;
+mod typist;
 
 pub use begun::{Talk, talk_in};
 pub use clock::local_day;
 pub use desk::{Desk, Manner};
 pub use gets::Gets;
 pub use record::{KeptJournal, Record};
+pub use screens::Screens;
+pub use typist::{TakenLines, Typist};

@@ -1,15 +1,14 @@
-//! What stands beside a journal, and the screens that are written.
+//! What stands beside a journal.
 #![tactic(auto)]
 
 use crate::begun::{Talk, put_talk};
 use folder_files::{FileSum, JournalFile, put_new_file};
 use journal_papers::{JournalPaper, PaperFault, first_changed};
 use line_journal::{Journal, JournalFailed};
-use operating::{OperatorFailed, View};
+use operating::OperatorFailed;
 use std::alloc::{AllocError, Global};
 use std::cell::RefCell;
 use std::fs::File;
-use std::io::Write;
 use std::rt::Runtime;
 
 /// The journal of a conversation: lines on the device, and the bytes that were brought there.
@@ -47,8 +46,6 @@ pub struct Record<'a, R: Runtime<A = Global, File = File>> {
     pub changed: Option<String>,
     /// The name of a file that couldn't be written.
     pub unwritten: Option<String>,
-    /// The file for screens.
-    pub screens: Option<File>,
 }
 
 /// The text of a beginning.
@@ -63,28 +60,6 @@ fn begun_text(alloc: Global, talk: &Talk<'_>, sums: &[FileSum]) -> Result<String
         }
     }
     paper.text(alloc)
-}
-
-/// A row without the blanks at its end.
-fn put_row(out: &mut Vec<u8>, row: &[u8; 80]) -> Result<(), AllocError> {
-    let blanks = row.iter().rev().take_while(|byte| **byte == b' ').count();
-    out.extend_from_slice(&row[..80 - blanks.min(80)])?;
-    out.push(b'\n')?;
-    Ok(())
-}
-
-/// The rows of a screen, and the line that was taken behind them.
-fn screen_text(alloc: Global, seen: &View<'_>, line: Option<&[u8]>) -> Result<Vec<u8>, AllocError> {
-    let mut out = Vec::new(alloc);
-    for row in seen.screen.rows() {
-        put_row(&mut out, row)?;
-    }
-    if let Some(line) = line {
-        out.extend_from_slice(b"> ".as_slice())?;
-        out.extend_from_slice(line)?;
-        out.push(b'\n')?;
-    }
-    Ok(out)
 }
 
 impl<R: Runtime<A = Global, File = File>> Record<'_, R> {
@@ -122,25 +97,6 @@ impl<R: Runtime<A = Global, File = File>> Record<'_, R> {
             return Err(OperatorFailed);
         }
         Ok(())
-    }
-
-    /// Writes the screen as it stands, and the line that was taken behind it, to the file for screens.
-    pub fn screen(
-        &mut self,
-        alloc: Global,
-        seen: &View<'_>,
-        line: Option<&[u8]>,
-    ) -> Result<(), OperatorFailed> {
-        let Some(file) = &mut self.screens else {
-            return Ok(());
-        };
-        let Ok(text) = screen_text(alloc, seen, line) else {
-            return Err(OperatorFailed);
-        };
-        match file.write_all(text.as_slice()) {
-            Ok(()) => Ok(()),
-            Err(_) => Err(OperatorFailed),
-        }
     }
 }
 

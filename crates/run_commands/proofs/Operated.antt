@@ -16,18 +16,23 @@ use Rattle.run_commands.specs.declared.ending.Ended.{Ended}
 use Rattle.run_commands.specs.declared.job.Job.{Job}
 use Rattle.run_commands.specs.declared.refusal.RunRefusal.{RunRefusal}
 use Rattle.run_commands.specs.declared.refusal.RunRefusal.TheVariants.{File, Rule, Disk, Tables, Memory}
+use Rattle.run_commands.specs.declared.rehearsing.Compared.{Compared}
+use Rattle.run_commands.specs.declared.rehearsing.Rehearsal.{Rehearsal}
 use Rattle.run_commands.specs.declared.running.Report.{Report}
 use Rattle.run_commands.specs.Operating.{IsWith, SoundOver, IfOfRun, OperationRefused, SameResult}
 use Rattle.run_commands.specs.Parts.{IsOfTables, CodeRefused, SavedAll, SavedSome, Stopped, CodeStopped}
+use Rattle.run_commands.specs.Rehearsals.{IsRehearsed, IsToldAs, LeavesTables}
 use Rattle.run_commands.specs.Reports.{CodeRan, HasRun, IsTold, IsTested, IsSavedRun, MayLoad, RefusedBefore, SavingStopped}
 use Rattle.run_commands.specs.Runs.{IsSoundRun, begun}
-use Rattle.run_commands.proofs.Rehearsed.{may_accepted, refused_tables}
+use Rattle.run_commands.proofs.Rehearsed.{leaves_of, may_accepted, refused_tables, rehearsed, rehearsed_from}
 use Rattle.run_commands.proofs.Reported.{IsDone, saved_run, stopped_run, has_run, each_stopped, refused_before}
 use Rattle.run_steps.specs.declared.ending.Outcome.{Outcome}
 use Rattle.run_steps.specs.Opening.{opening}
 use Rattle.run_steps.specs.Run.{Ran}
 use Rattle.screen_lines.specs.State.{sent}
 use Rattle.shape.specs.declared.whole.Shape.{Shape}
+use Rattle.table_changes.specs.Stores.{AreChanges}
+use Rattle.table_changes.specs.declared.stores.Changes.{Changes}
 use Rattle.table_files.specs.Loading.{Loaded}
 use Rattle.text_lines.specs.Lines.{short_lines}
 use Rattle.work_area.specs.Areas.{StoreState}
@@ -186,3 +191,25 @@ pub refused_over : {X : Type 0} (a b : Holds) → SameFiles a b → (broke break
     → IfErr result (IfOfRun (CodeRefused b job code breaks)) → IfErr result (IfOfRun (RefusedBefore a job broke))
 refused_over a b same broke breaks f job code file (Ok x) h = h
 refused_over a b same broke breaks f job code file (Err refusal) h = read_refusal a b same broke breaks f job code file refusal h
+
+-- ---- a run that is rehearsed
+
+pub leaves_over : (a : Holds) (job : Job) (typed : List ℕ) (code seen : Code) (outcome : Outcome) (rows : List ℕ) (store tables shown : StoreState) (changes : Changes) (limit : ℕ) → seen ≡ code → limit ≡ job.limit
+    → Loaded a seen.declared.shape limit store → SoundOver code store job typed outcome rows tables → shown ≡ tables → AreChanges seen.declared.shape store shown changes
+    → (whole : Job) → IsWith job typed whole → LeavesTables a whole code outcome rows changes
+leaves_over a job typed code seen outcome rows store tables shown changes limit lent limited loaded sound same changed = λ whole w.
+    leaves_of a whole code seen outcome rows store tables shown changes limit lent (limited ∙ sym w.limit) loaded (sound whole w) same changed
+
+pub rehearsed_over : (a : Holds) (job : Job) (typed : List ℕ) (code seen : Code) (done : Compared) → seen ≡ code → Accepted seen → job.checked ≡ false → (told : Rehearsal) → IsToldAs seen.declared.shape done told
+    → ((whole : Job) → IsWith job typed whole → LeavesTables a whole code done.outcome done.rows.items done.changes) → (whole : Job) → IsWith job typed whole → IsRehearsed a whole told code
+rehearsed_over a job typed code seen done lent accepted untested told h leaves = λ whole w.
+    rehearsed_from a whole code seen done lent (may_accepted whole code seen (accepted_for job whole typed w untested) lent accepted) (Ok told) h (leaves whole w)
+
+pub lent_over : (a : Holds) (job : Job) (typed : List ℕ) (code seen : Code) → seen ≡ code → (result : Result Rehearsal OperateRefusal)
+    → IfOk result (λ told. (whole : Job) → IsWith job typed whole → IsRehearsed a whole told seen) → IfOk result (λ told. (whole : Job) → IsWith job typed whole → IsRehearsed a whole told code)
+lent_over a job typed code seen lent result h = subst (λ (c : Code). IfOk result (λ told. (whole : Job) → IsWith job typed whole → IsRehearsed a whole told c)) lent h
+
+pub rehearsal_over : (a b : Holds) → SameFiles a b → (job : Job) (typed : List ℕ) (code : Code) → IsCodeFile (a job.name.now) code → (result : Result Rehearsal OperateRefusal)
+    → IfOk result (λ told. (whole : Job) → IsWith job typed whole → IsRehearsed b whole told code) → IfOk result (λ told. (whole : Job) → IsWith job typed whole → HasCode (a whole.name.now) (IsRehearsed a whole told))
+rehearsal_over a b same job typed code file (Ok told) h = λ whole w. rehearsed a b same whole code (file_for a job whole typed code w file) (Ok told) (h whole w)
+rehearsal_over a b same job typed code file (Err refusal) h = h

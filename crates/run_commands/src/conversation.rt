@@ -92,7 +92,7 @@ impl From<RunRefusal> for OperateRefusal {
 }
 
 /// Runs an accepted code over these tables while an operator types its lines.
-fn operate_accepted<J: Journal, O: Operator>(
+pub(crate) fn operate_accepted<J: Journal, O: Operator>(
     alloc: Global,
     verified: &Verified,
     store: Store<NdxTree>,

@@ -10,6 +10,7 @@ mod ending;
 mod job;
 mod machines;
 mod refusal;
+mod rehearsed_talk;
 mod rehearsing;
 mod running;
 
@@ -17,6 +18,7 @@ pub use crate::conversation::{OperateRefusal, Operation, operate_files};
 pub use crate::ending::{Ended, How};
 pub use crate::job::{Job, RecordLimit, RunDay};
 pub use crate::refusal::{RunRefusal, ToldRefusal};
+pub use crate::rehearsed_talk::rehearse_talk;
 pub use crate::rehearsing::{Rehearsal, rehearse_files};
 pub use crate::running::{Report, run_files};
 pub use table_changes::{Changes, RowCounts};

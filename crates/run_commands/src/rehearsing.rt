@@ -42,9 +42,9 @@ pub struct Rehearsal {
 /// A run that left its tables, compared with those before it.
 #[derive(Drop)]
 pub(crate) struct Compared {
-    rows: Vec<u8>,
-    outcome: Outcome,
-    changes: Changes,
+    pub rows: Vec<u8>,
+    pub outcome: Outcome,
+    pub changes: Changes,
 }
 
 /// The names of the declared tables.
@@ -127,7 +127,7 @@ fn compare_accepted<F: Files>(
 }
 
 /// A comparison as it is told, of a code of this shape.
-fn told_of(alloc: Global, shape: &Shape, done: Compared) -> Result<Rehearsal, RunRefusal>
+pub(crate) fn told_of(alloc: Global, shape: &Shape, done: Compared) -> Result<Rehearsal, RunRefusal>
     ensures told { IfOk result (IsToldAs shape.now done) }
     ensures refused { IfErr result (λ refusal. refusal ≡ Memory) }
 {

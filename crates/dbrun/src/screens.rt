@@ -1,0 +1,124 @@
+//! Runs whose screens are kept in a file.
+#![tactic(auto)]
+
+ghost use Rattle.std.specs.Prelude.{◌≡◌, [], false};
+
+use crate::{refuse, tell_refusal};
+use file_access::Files;
+use file_commands::{Refusal, Status};
+use folder_files::paper_name;
+use operating::Broken;
+use operator_desk::{Screens, TakenLines, Typist};
+use run_commands::{
+    Job, OperateRefusal, Rehearsal, Report, operate_files, rehearse_files, rehearse_talk, run_files,
+};
+use save_rules::{is_in_folder, overwritten_by};
+use std::alloc::Global;
+use std::fs::{File, OpenOptions};
+use std::rt::Runtime;
+
+/// Whether a new file of this name harms nothing: it is one of the folder's, and none that the program makes or reads.
+pub fn is_free_name(name: &str, code: &str) -> bool {
+    is_in_folder(name.as_bytes())
+        && overwritten_by(name, code, &[]).is_none()
+        && !name.starts_with(paper_name())
+}
+
+/// The file for screens, made anew, where one is named.
+pub fn screens_to<R: Runtime<A = Global, File = File>>(
+    rt: &R,
+    name: Option<&str>,
+) -> Result<Screens, Status> {
+    let Some(name) = name else {
+        return Ok(Screens::to(None));
+    };
+    let mut options = OpenOptions::new();
+    options.write(true);
+    options.create(true);
+    options.truncate(true);
+    match options.open(rt, name) {
+        Ok(file) => Ok(Screens::to(Some(file))),
+        Err(_) => Err(refuse(rt, Refusal::Disk { name })),
+    }
+}
+
+/// The run of a job whose lines are still to be typed.
+fn untyped<'a>(job: &Job<'a>) -> Job<'a>
+    ensures untested { result.checked ≡ false }
+    ensures empty { result.input.now ≡ [] }
+{
+    Job {
+        name: job.name,
+        checked: false,
+        budget: job.budget,
+        limit: job.limit,
+        day: job.day,
+        input: &[],
+    }
+}
+
+/// Tells why a run whose screens are kept came to no end.
+fn tell_stopped(rt: &impl Runtime, screens: &str, why: Broken) -> Status {
+    match why {
+        Broken::Line => {
+            let _ = eprintln!(rt; "refused - TooLong");
+            Status::Refused
+        }
+        Broken::Memory => refuse(rt, Refusal::Memory),
+        Broken::Operator | Broken::Journal => refuse(rt, Refusal::Disk { name: screens }),
+    }
+}
+
+/// Runs a code as `run_files` does. Where a file for screens is named, it is written meanwhile.
+pub fn run_shown<R: Runtime<A = Global, File = File>, F: Files>(
+    rt: &R,
+    files: &mut F,
+    job: &Job<'_>,
+    screens: Option<&str>,
+) -> Result<Report, Status> {
+    let alloc = rt.alloc();
+    let Some(name) = screens else {
+        return Ok(run_files(alloc, files, job));
+    };
+    let mut typist = Typist::of(alloc, job.input, screens_to(rt, screens)?);
+    let mut taken = TakenLines {
+        bytes: Vec::new(alloc),
+    };
+    let told = operate_files(alloc, files, &untyped(job), &mut taken, &mut typist);
+    let result = match told.result {
+        Ok(ended) => Ok(ended),
+        Err(OperateRefusal::Run(refusal)) => Err(refusal),
+        Err(OperateRefusal::Broke(why)) => return Err(tell_stopped(rt, name, why)),
+        Err(OperateRefusal::Handed) => return Err(tell_stopped(rt, name, Broken::Line)),
+    };
+    Ok(Report {
+        rows: told.rows,
+        result,
+    })
+}
+
+/// Rehearses a code as `rehearse_files` does. Where a file for screens is named, it is written meanwhile.
+pub fn rehearse_shown<R: Runtime<A = Global, File = File>, F: Files>(
+    rt: &R,
+    files: &mut F,
+    job: &Job<'_>,
+    screens: Option<&str>,
+) -> Result<Rehearsal, Status> {
+    let alloc = rt.alloc();
+    let Some(name) = screens else {
+        return match rehearse_files(alloc, files, job) {
+            Ok(told) => Ok(told),
+            Err(refusal) => Err(tell_refusal(rt, job.name, &refusal)),
+        };
+    };
+    let mut typist = Typist::of(alloc, job.input, screens_to(rt, screens)?);
+    let mut taken = TakenLines {
+        bytes: Vec::new(alloc),
+    };
+    match rehearse_talk(alloc, files, &untyped(job), &mut taken, &mut typist) {
+        Ok(told) => Ok(told),
+        Err(OperateRefusal::Run(refusal)) => Err(tell_refusal(rt, job.name, &refusal)),
+        Err(OperateRefusal::Broke(why)) => Err(tell_stopped(rt, name, why)),
+        Err(OperateRefusal::Handed) => Err(tell_stopped(rt, name, Broken::Line)),
+    }
+}

@@ -1,0 +1,65 @@
+//! What the screen showed before each line, kept in a file.
+#![tactic(auto)]
+
+use operating::{OperatorFailed, View};
+use std::alloc::{AllocError, Global};
+use std::fs::File;
+use std::io::Write;
+
+/// The file for screens, where one is wanted.
+#[derive(Drop)]
+pub struct Screens {
+    file: Option<File>,
+}
+
+/// A row without the blanks at its end.
+fn put_row(out: &mut Vec<u8>, row: &[u8; 80]) -> Result<(), AllocError> {
+    let blanks = row.iter().rev().take_while(|byte| **byte == b' ').count();
+    out.extend_from_slice(&row[..80 - blanks.min(80)])?;
+    out.push(b'\n')?;
+    Ok(())
+}
+
+/// The rows of a screen, and the line that was taken behind them.
+fn screen_text(alloc: Global, seen: &View<'_>, line: Option<&[u8]>) -> Result<Vec<u8>, AllocError> {
+    let mut out = Vec::new(alloc);
+    for row in seen.screen.rows() {
+        put_row(&mut out, row)?;
+    }
+    if let Some(line) = line {
+        out.extend_from_slice(b"> ".as_slice())?;
+        out.extend_from_slice(line)?;
+        out.push(b'\n')?;
+    }
+    Ok(out)
+}
+
+impl Screens {
+    /// Those that are written to this file, or to none.
+    pub fn to(file: Option<File>) -> Screens {
+        Screens { file }
+    }
+
+    /// Writes the 25 rows as they stand, without the blanks at their ends, and behind them the line that is taken now,
+    /// if one is, after `> `.
+    ///
+    /// # Errors
+    /// The file can't be written, or memory was refused.
+    pub fn write(
+        &mut self,
+        alloc: Global,
+        seen: &View<'_>,
+        line: Option<&[u8]>,
+    ) -> Result<(), OperatorFailed> {
+        let Some(file) = &mut self.file else {
+            return Ok(());
+        };
+        let Ok(text) = screen_text(alloc, seen, line) else {
+            return Err(OperatorFailed);
+        };
+        match file.write_all(text.as_slice()) {
+            Ok(()) => Ok(()),
+            Err(_) => Err(OperatorFailed),
+        }
+    }
+}

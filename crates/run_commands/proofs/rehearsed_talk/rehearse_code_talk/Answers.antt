@@ -1,0 +1,8 @@
+use Rattle.run_commands.proofs.Operated.{code_refused_over, lent_over}
+use Rattle.run_commands.proofs.rehearsed_talk.rehearse_code_talk.Goals as goal
+
+pub returns-clause-done : goal.returns-clause-done
+returns-clause-done g c = lent_over _ c.args.job.now _ _ _ c.in_ok-verified.ensures.ok c.rehearse_accepted_talk.result c.rehearse_accepted_talk.ensures.done
+
+pub returns-clause-refused : goal.returns-clause-refused
+returns-clause-refused g c = code_refused_over _ _ _ c.rehearse_accepted_talk.ensures.counted c.args.job.now _ _ c.in_ok-verified.ensures.ok c.in_ok-verified.ensures.accepted c.requires.untested c.rehearse_accepted_talk.result c.rehearse_accepted_talk.ensures.refused

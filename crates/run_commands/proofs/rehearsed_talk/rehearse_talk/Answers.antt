@@ -1,0 +1,9 @@
+use Rattle.run_commands.proofs.Operated.{rehearsal_over, refused_over}
+use Rattle.run_commands.proofs.Same.{rose_later}
+use Rattle.run_commands.proofs.rehearsed_talk.rehearse_talk.Goals as goal
+
+pub returns-in-Ok-clause-done : goal.returns-in-Ok-clause-done
+returns-in-Ok-clause-done g c = rehearsal_over _ _ c.in-Ok.ensures.kept c.args.job.now _ _ c.in-Ok.ensures.found c.rehearse_code_talk.result c.rehearse_code_talk.ensures.done
+
+pub returns-in-Ok-clause-refused : goal.returns-in-Ok-clause-refused
+returns-in-Ok-clause-refused g c = refused_over _ _ c.in-Ok.ensures.kept _ _ (rose_later _ _ _ c.in-Ok.ensures.counted c.rehearse_code_talk.ensures.counted) c.args.job.now _ c.in-Ok.ensures.found c.rehearse_code_talk.result c.rehearse_code_talk.ensures.refused

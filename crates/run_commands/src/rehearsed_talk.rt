@@ -1,0 +1,146 @@
+// Conversations that save nothing, and what they would have saved.
+#![tactic(auto)]
+
+ghost use Rattle.std.specs.Prelude.{◌≡◌, ◌≤◌, true, false, length, IfOk, IfErr};
+ghost use Rattle.code_items.specs.Legal.{IsCode};
+ghost use Rattle.file_access.specs.Holding.{Rose, SameFiles};
+ghost use Rattle.file_commands.specs.Reports.{HasCode};
+ghost use Rattle.run_commands.specs.declared.job.Job.{Job as AnyJob};
+ghost use Rattle.run_commands.specs.Operating.{IfOfRun, IsWith};
+ghost use Rattle.run_commands.specs.Parts.{CodeRefused, IsOfTables};
+ghost use Rattle.run_commands.specs.Rehearsals.{IsRehearsed, LeavesTables};
+ghost use Rattle.run_commands.specs.Reports.{RefusedBefore};
+ghost use Rattle.text_lines.specs.Lines.{is_ended as is_ended_text};
+
+use crate::conversation::{OperateRefusal, operate_accepted};
+use crate::job::Job;
+use crate::rehearsing::{Compared, Rehearsal, told_of};
+use crate::running::{accept, of_code};
+use code_items::Code;
+use code_items::laws::legal_codes;
+use file_access::Files;
+use file_commands::read_code;
+use line_journal::Journal;
+use operating::{Operator, can_go_on};
+use run_laws::laws::new_stores_fit;
+use std::alloc::Global;
+use table_changes::{changes_since, keep};
+use table_files::load;
+use xverify::Verified;
+
+/// Runs an accepted code over the tables that it declares while an operator types its lines, and compares what it left
+/// with what was loaded.
+fn compare_talk<F: Files, J: Journal, O: Operator>(
+    alloc: Global,
+    files: &mut F,
+    verified: &Verified,
+    job: &Job<'_>,
+    journal: &mut J,
+    operator: &mut O,
+) -> Result<Compared, OperateRefusal>
+    requires held { J.holds journal.old ≡ job.now.input.now }
+    requires ended { is_ended_text job.now.input.now ≡ true }
+    requires few { length job.now.input.now ≤ 1048576 }
+    ensures done { IfOk result (λ done. (whole : AnyJob) → IsWith job.now (J.holds journal.new) whole
+        → LeavesTables (F.holds files.old) whole verified.now done.outcome done.rows.items done.changes) }
+    ensures refused { IfErr result (IfOfRun (IsOfTables (F.holds files.old) job.now verified.now
+        (Rose (F.failed files.old) (F.failed files.new)))) }
+    ensures kept { SameFiles (F.holds files.old) (F.holds files.new) }
+    ensures counted { F.failed files.old ≤ F.failed files.new }
+{
+    legal_codes();
+    new_stores_fit();
+    let shape = &verified.code().declared.shape;
+    let loaded = load(alloc, files, shape, job.limit.records())?;
+    let kept = keep(alloc, shape, &loaded)?;
+    let done = operate_accepted(alloc, verified, loaded, job, journal, operator)?;
+    let changes = changes_since(alloc, shape, kept, done.banks.store())?;
+    Ok(Compared {
+        rows: done.run.rows,
+        outcome: done.run.outcome,
+        changes,
+    })
+}
+
+/// Rehearses an accepted code so.
+fn rehearse_accepted_talk<F: Files, J: Journal, O: Operator>(
+    alloc: Global,
+    files: &mut F,
+    verified: &Verified,
+    job: &Job<'_>,
+    journal: &mut J,
+    operator: &mut O,
+) -> Result<Rehearsal, OperateRefusal>
+    requires untested { job.now.checked ≡ false }
+    requires held { J.holds journal.old ≡ job.now.input.now }
+    requires ended { is_ended_text job.now.input.now ≡ true }
+    requires few { length job.now.input.now ≤ 1048576 }
+    ensures done { IfOk result (λ told. (whole : AnyJob) → IsWith job.now (J.holds journal.new) whole
+        → IsRehearsed (F.holds files.old) whole told verified.now) }
+    ensures refused { IfErr result (IfOfRun (IsOfTables (F.holds files.old) job.now verified.now
+        (Rose (F.failed files.old) (F.failed files.new)))) }
+    ensures kept { SameFiles (F.holds files.old) (F.holds files.new) }
+    ensures counted { F.failed files.old ≤ F.failed files.new }
+{
+    let shape = &verified.code().declared.shape;
+    let done = compare_talk(alloc, files, verified, job, journal, operator)?;
+    match told_of(alloc, shape, done) {
+        Ok(told) => Ok(told),
+        Err(refusal) => Err(OperateRefusal::Run(refusal)),
+    }
+}
+
+/// Verifies a code and rehearses it so.
+fn rehearse_code_talk<F: Files, J: Journal, O: Operator>(
+    alloc: Global,
+    files: &mut F,
+    code: Code,
+    job: &Job<'_>,
+    journal: &mut J,
+    operator: &mut O,
+) -> Result<Rehearsal, OperateRefusal>
+    requires legal { IsCode code }
+    requires untested { job.now.checked ≡ false }
+    requires held { J.holds journal.old ≡ job.now.input.now }
+    requires ended { is_ended_text job.now.input.now ≡ true }
+    requires few { length job.now.input.now ≤ 1048576 }
+    ensures done { IfOk result (λ told. (whole : AnyJob) → IsWith job.now (J.holds journal.new) whole
+        → IsRehearsed (F.holds files.old) whole told code) }
+    ensures refused { IfErr result (IfOfRun (CodeRefused (F.holds files.old) job.now code
+        (Rose (F.failed files.old) (F.failed files.new)))) }
+    ensures kept { SameFiles (F.holds files.old) (F.holds files.new) }
+    ensures counted { F.failed files.old ≤ F.failed files.new }
+{
+    let verified = accept(alloc, code)?;
+    rehearse_accepted_talk(alloc, files, &verified, job, journal, operator)
+}
+
+/// Runs the code in a file while an operator types its lines, as `operate_files` does, and saves nothing: what a run
+/// would have saved is compared with the tables that were loaded. What is answered is what `rehearse_files` answers for
+/// the same job with what the journal holds then as its input.
+///
+/// # Errors
+/// Those for which `operate_files` saves nothing.
+pub fn rehearse_talk<F: Files, J: Journal, O: Operator>(
+    alloc: Global,
+    files: &mut F,
+    job: &Job<'_>,
+    journal: &mut J,
+    operator: &mut O,
+) -> Result<Rehearsal, OperateRefusal>
+    requires untested { job.now.checked ≡ false }
+    requires held { J.holds journal.old ≡ job.now.input.now }
+    ensures done { IfOk result (λ told. (whole : AnyJob) → IsWith job.now (J.holds journal.new) whole
+        → HasCode (F.holds files.old whole.name.now) (IsRehearsed (F.holds files.old) whole told)) }
+    ensures refused { IfErr result (IfOfRun (RefusedBefore (F.holds files.old) job.now
+        (Rose (F.failed files.old) (F.failed files.new)))) }
+    ensures kept { SameFiles (F.holds files.old) (F.holds files.new) }
+{
+    if !can_go_on(job.input) {
+        return Err(OperateRefusal::Handed);
+    }
+    match read_code(alloc, files, job.name) {
+        Ok(code) => rehearse_code_talk(alloc, files, code, job, journal, operator),
+        Err(refusal) => Err(OperateRefusal::Run(of_code(refusal))),
+    }
+}
