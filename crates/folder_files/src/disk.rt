@@ -1,6 +1,7 @@
 //! Files made, summed and removed, and what stands in the folder brought to the device.
 #![tactic(auto)]
 
+use crate::papers::PAPER;
 use save_steps::Sum;
 use sha2::{Digest, Sha256};
 use std::alloc::{Alloc, AllocError, Global};
@@ -178,16 +179,19 @@ pub(crate) fn fresh_name<R: Disk + Alloc<A = Global>>(
     Ok(None)
 }
 
-/// Makes a whole file where none stands, down to the device: first under a fresh name, so that nobody meets half of it.
+/// Makes a whole file where none stands, down to the device: first under a name that only this program gives, so that
+/// nobody meets half of it. What an earlier try left under that name is removed.
 pub fn put_new_file<R: Disk + Alloc<A = Global>>(
     rt: &R,
     name: &str,
     bytes: &[u8],
 ) -> io::Result<()> {
-    let Some(draft) = fresh_name(rt, name)? else {
-        return Err(io::Error::from(ErrorKind::AlreadyExists));
-    };
+    let draft = format!(in rt.alloc(); "{PAPER}.{name}")?;
+    remove_if_there(rt, draft.as_str())?;
     write_new(rt, draft.as_str(), bytes, None)?;
-    fs::rename(rt, draft.as_str(), name)?;
+    if let Err(error) = fs::rename(rt, draft.as_str(), name) {
+        let _ = fs::remove_file(rt, draft.as_str());
+        return Err(error);
+    }
     sync_folder(rt)
 }
