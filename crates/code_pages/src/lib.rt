@@ -3,4 +3,4 @@
 
 mod pages;
 
-pub use pages::{CodePage, PageFault, byte_of, in_page, in_utf8, letter_of};
+pub use pages::{CodePage, LetterFault, byte_of, in_page, in_utf8, letter_of};

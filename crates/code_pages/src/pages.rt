@@ -67,7 +67,7 @@ pub fn byte_of(page: CodePage, letter: char) -> Option<u8>
 
 /// Why a text isn't put into a page.
 #[derive(Clone, Copy, PartialEq, Eq, Debug)]
-pub enum PageFault {
+pub enum LetterFault {
     /// The page lacks this letter.
     Lacks(char),
     /// Memory was refused.
@@ -78,14 +78,14 @@ pub enum PageFault {
 ///
 /// # Errors
 /// The first letter that the page lacks; `Memory` where memory was refused.
-pub fn in_page(alloc: Global, page: CodePage, text: &str) -> Result<Vec<u8>, PageFault> {
+pub fn in_page(alloc: Global, page: CodePage, text: &str) -> Result<Vec<u8>, LetterFault> {
     let mut bytes = Vec::new(alloc);
     for letter in text.chars() {
         let Some(byte) = byte_of(page, letter) else {
-            return Err(PageFault::Lacks(letter));
+            return Err(LetterFault::Lacks(letter));
         };
         if bytes.push(byte).is_err() {
-            return Err(PageFault::Memory);
+            return Err(LetterFault::Memory);
         }
     }
     Ok(bytes)

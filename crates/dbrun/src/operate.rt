@@ -16,11 +16,11 @@ use folder_files::{
     put_new_file, stands, sum_of, take_folder,
 };
 use journal_papers::JournalPaper;
-use journal_steps::{Found, Next, next_of};
+use journal_steps::{Next, Remains, next_of};
 use operating::Broken;
-use operator_desk::{Desk, Gets, KeptJournal, Manner, Record, Talk, local_day, talk_in};
+use operator_desk::{Gets, KeptJournal, Manner, OperatorDesk, Record, Talk, local_day, talk_in};
 use run_commands::{
-    Ended, Job, OperateRefusal, Operation, Rehearsal, operate_files, rehearse_talk,
+    Ended, Job, OperateRefusal, OperationReport, Rehearsal, operate_files, rehearse_talk,
 };
 use std::alloc::{AllocError, Global};
 use std::cell::RefCell;
@@ -155,8 +155,8 @@ fn open_journal<R: Runtime<A = Global, File = File>>(
 }
 
 /// What stands of a conversation in the folder. A note was finished before.
-fn found_of<R: Runtime<A = Global>>(rt: &R, names: &Names<'_>) -> Found {
-    Found {
+fn found_of<R: Runtime<A = Global>>(rt: &R, names: &Names<'_>) -> Remains {
+    Remains {
         journal: stands(rt, names.journal),
         begun: stands(rt, names.begun.as_str()),
         noted: false,
@@ -251,12 +251,12 @@ fn desk_of<'a, R: Runtime<A = Global, File = File>>(
     audience: Audience,
     open: &Open<'a>,
     sums: &'a RefCell<Vec<FileSum>>,
-) -> Result<Desk<'a, R>, Status> {
+) -> Result<OperatorDesk<'a, R>, Status> {
     let alloc = rt.alloc();
     let Ok(begun) = open.names.begun.clone() else {
         return Err(refuse(rt, Refusal::Memory));
     };
-    Ok(Desk {
+    Ok(OperatorDesk {
         rt,
         manner: manner_of(audience, &open.talk, &open.shown),
         talk: open.talk,
@@ -282,7 +282,7 @@ fn desk_of<'a, R: Runtime<A = Global, File = File>>(
 fn print_rest<R: Runtime<A = Global, File = File>>(
     rt: &R,
     audience: Audience,
-    desk: &Desk<'_, R>,
+    desk: &OperatorDesk<'_, R>,
     rows: &[u8],
 ) -> Status {
     if desk.manner.window.is_some() {
@@ -394,7 +394,7 @@ fn end_unsaved<R: Runtime<A = Global, File = File>>(
     audience: Audience,
     open: &Open<'_>,
     journal: &KeptJournal,
-    desk: &Desk<'_, R>,
+    desk: &OperatorDesk<'_, R>,
     rows: &[u8],
     ended: &Ended,
 ) -> Status {
@@ -410,7 +410,7 @@ fn end_rehearsed<R: Runtime<A = Global, File = File>>(
     audience: Audience,
     open: &Open<'_>,
     journal: &KeptJournal,
-    desk: &Desk<'_, R>,
+    desk: &OperatorDesk<'_, R>,
     told: &Rehearsal,
 ) -> Status {
     match print_rest(rt, audience, desk, told.rows.as_slice()) {
@@ -428,7 +428,7 @@ fn end_saved<'a, R: Runtime<A = Global, File = File>>(
     audience: Audience,
     open: &Open<'_>,
     journal: &KeptJournal,
-    desk: &Desk<'_, R>,
+    desk: &OperatorDesk<'_, R>,
     saving: &mut SavingFolder<'_, R, Progress<'a, R>>,
     rows: &[u8],
     ended: &Ended,
@@ -461,9 +461,9 @@ fn conclude<'a, R: Runtime<A = Global, File = File>>(
     audience: Audience,
     open: &Open<'_>,
     journal: &KeptJournal,
-    desk: &Desk<'_, R>,
+    desk: &OperatorDesk<'_, R>,
     saving: &mut SavingFolder<'_, R, Progress<'a, R>>,
-    told: &Operation,
+    told: &OperationReport,
 ) -> Status {
     let rows = told.rows.as_slice();
     let ended = match &told.result {

@@ -4,7 +4,7 @@ ghost use Rattle.std.specs.Prelude.{◌≡◌, Some, IfOk, OnOk, not, position, 
 ghost use Rattle.hex.specs.Hex.{encode_lower};
 ghost use Rattle.toml.specs.Data.{get_member, string};
 ghost use Rattle.toml.specs.View.{table_view};
-ghost use Rattle.journal_papers.specs.Papers.{told, word_of};
+ghost use Rattle.journal_papers.specs.Papers.{is_said, sum_word};
 
 use crate::paper::JournalPaper;
 use save_steps::Sum;
@@ -21,9 +21,9 @@ pub struct FileSum {
 }
 
 /// A sum as a word: its digits in hex, or that there is none.
-#[tactic(auto, unfolding(crate::specs::Papers::word_of))]
+#[tactic(auto, unfolding(crate::specs::Papers::sum_word))]
 fn word(alloc: Global, sum: &Option<Sum>) -> Result<String, AllocError>
-    ensures { IfOk result (λ word. string_bytes word ≡ word_of sum.now) }
+    ensures { IfOk result (λ word. string_bytes word ≡ sum_word sum.now) }
 {
     match sum {
         Some(sum) => hex::encode(alloc, *sum),
@@ -34,7 +34,7 @@ fn word(alloc: Global, sum: &Option<Sum>) -> Result<String, AllocError>
 impl JournalPaper {
     /// Puts a file's sum under its name.
     pub fn put_sum(&mut self, alloc: Global, file: &FileSum) -> Result<(), AllocError>
-        ensures { OnOk result (get_member (string_bytes file.now.name) (table_view self.new.table) ≡ Some (string (word_of file.now.sum))) }
+        ensures { OnOk result (get_member (string_bytes file.now.name) (table_view self.new.table) ≡ Some (string (sum_word file.now.sum))) }
     {
         let word = word(alloc, &file.sum)?;
         self.put(alloc, file.name.as_str(), word.as_str())
@@ -51,9 +51,9 @@ fn digits_of(sum: &Sum) -> [u8; 64]
 }
 
 /// Whether a file's sum is the one that is told of it.
-#[tactic(auto, unfolding(crate::specs::Papers::word_of))]
+#[tactic(auto, unfolding(crate::specs::Papers::sum_word))]
 fn is_told(paper: &JournalPaper, file: &FileSum) -> bool
-    ensures { result ≡ told (table_view paper.now.table) file.now }
+    ensures { result ≡ is_said (table_view paper.now.table) file.now }
 {
     let Some(word) = paper.get(file.name.as_str()) else {
         return false;
@@ -66,7 +66,7 @@ fn is_told(paper: &JournalPaper, file: &FileSum) -> bool
 
 /// The number of the first file whose sum isn't the one that is told of it.
 pub fn first_changed(paper: &JournalPaper, files: &[FileSum]) -> Option<usize>
-    ensures { result ≡ position (λ file. not (told (table_view paper.now.table) file)) files.now }
+    ensures { result ≡ position (λ file. not (is_said (table_view paper.now.table) file)) files.now }
 {
     files.iter().position(|file| !is_told(paper, file))
 }

@@ -3,7 +3,7 @@ use Rattle.std.proofs.Common.{◌≡◌, ◌≢◌, ℕ, Bool, true, false, cond
 use Rattle.std.specs.List.{AllByRecursion}
 use Rattle.std.proofs.lemmas.Bool.{eqb-false, ne_eqb}
 use Rattle.std.proofs.lemmas.List.{append-nil}
-use Rattle.journal_steps.specs.Folder.{unlines, lines_behind, whole_lines}
+use Rattle.journal_steps.specs.Folder.{unlines, lines_after_front, whole_lines}
 use Rattle.journal_steps.specs.Promise.{IsClean}
 
 -- more bytes leave the lines as they are, and put others behind them
@@ -14,23 +14,23 @@ both_longer : (c : Bool) (a b x y : List (List ℕ)) → IsLonger a x → IsLong
 both_longer true a b x y p q = p
 both_longer false a b x y p q = q
 
-pub longer : (front j x : List ℕ) → (rest : List (List ℕ)) × (lines_behind front (j ++ x) ≡ lines_behind front j ++ rest)
-longer front [] x = (lines_behind front x, refl)
+pub longer : (front j x : List ℕ) → (rest : List (List ℕ)) × (lines_after_front front (j ++ x) ≡ lines_after_front front j ++ rest)
+longer front [] x = (lines_after_front front x, refl)
 longer front (b ∷ bs) x =
     let p = longer [] bs x in
-    both_longer (eqb b 10) (front ∷ lines_behind [] (bs ++ x)) (lines_behind (front ++ b ∷ []) (bs ++ x))
-    (front ∷ lines_behind [] bs) (lines_behind (front ++ b ∷ []) bs)
+    both_longer (eqb b 10) (front ∷ lines_after_front [] (bs ++ x)) (lines_after_front (front ++ b ∷ []) (bs ++ x))
+    (front ∷ lines_after_front [] bs) (lines_after_front (front ++ b ∷ []) bs)
     (p.0, ap (λ (ls : List (List ℕ)). front ∷ ls) p.1) (longer (front ++ b ∷ []) bs x)
 
 -- a line without LF, and LF behind it, are one line
 pub one_line : (front line rest : List ℕ) → IsClean line
-    → lines_behind front (line ++ 10 ∷ rest) ≡ (front ++ line) ∷ lines_behind [] rest
-one_line front [] rest clean = ap (λ (l : List ℕ). l ∷ lines_behind [] rest) (sym (append-nil front))
+    → lines_after_front front (line ++ 10 ∷ rest) ≡ (front ++ line) ∷ lines_after_front [] rest
+one_line front [] rest clean = ap (λ (l : List ℕ). l ∷ lines_after_front [] rest) (sym (append-nil front))
 one_line front (b ∷ bs) rest (ne, clean) =
-    ap (λ (c : Bool). cond c (front ∷ lines_behind [] (bs ++ 10 ∷ rest)) (lines_behind (front ++ b ∷ []) (bs ++ 10 ∷ rest)))
+    ap (λ (c : Bool). cond c (front ∷ lines_after_front [] (bs ++ 10 ∷ rest)) (lines_after_front (front ++ b ∷ []) (bs ++ 10 ∷ rest)))
     (ne_eqb b 10 ne)
     ∙ one_line (front ++ b ∷ []) bs rest clean
-    ∙ ap (λ (l : List ℕ). l ∷ lines_behind [] rest) (append_assoc front (b ∷ []) bs)
+    ∙ ap (λ (l : List ℕ). l ∷ lines_after_front [] rest) (append_assoc front (b ∷ []) bs)
 
 pub whole_again : (lines : List (List ℕ)) → AllByRecursion IsClean lines → whole_lines (unlines lines) ≡ lines
 whole_again [] clean = refl
@@ -53,10 +53,10 @@ parted : (c : Bool) (b : ℕ) (then_so else_so : List (List ℕ)) → eqb b 10 �
 parted true b t f e p q = p
 parted false b t f e p q = q (eqb-false b 10 e)
 
-pub read_clean : (front bytes : List ℕ) → IsClean front → AllByRecursion IsClean (lines_behind front bytes)
+pub read_clean : (front bytes : List ℕ) → IsClean front → AllByRecursion IsClean (lines_after_front front bytes)
 read_clean front [] clean = tt
 read_clean front (b ∷ bs) clean =
-    parted (eqb b 10) b (front ∷ lines_behind [] bs) (lines_behind (front ++ b ∷ []) bs) refl
+    parted (eqb b 10) b (front ∷ lines_after_front [] bs) (lines_after_front (front ++ b ∷ []) bs) refl
     (clean, read_clean [] bs tt) (λ ne. read_clean (front ++ b ∷ []) bs (clean_behind front b clean ne))
 
 pub clean_append : (a b : List (List ℕ)) → AllByRecursion IsClean a → AllByRecursion IsClean b

@@ -5,8 +5,8 @@ use Rattle.std.specs.Option.{option_map}
 use Rattle.std.proofs.lemmas.List.{append-nil}
 use Rattle.std.proofs.lemmas.Option.{same_Some}
 use Rattle.journal_steps.specs.Next.{next_of}
-use Rattle.journal_steps.specs.Folder.{Folder, Moment, Session, MakeJournal, WriteBegun, CutJournal, Take, WriteNote, WriteDone, RemoveNote, nothing, unlines, whole_lines, added, behind, StopsAt, talk, end_of, begins, Leaves}
-use Rattle.journal_steps.specs.Promise.{IsClean, AreClean, AreKept, NothingLost, Passed, IsKeptAndSavedOnce}
+use Rattle.journal_steps.specs.Folder.{Folder, Moment, Session, MakeJournal, WriteBegun, CutJournal, Take, WriteNote, WriteDone, RemoveNote, empty_folder, unlines, whole_lines, with_more_bytes, behind_deed, StoppedAt, talk, last_deeds, begins, LeftBy}
+use Rattle.journal_steps.specs.Promise.{IsClean, AreClean, LinesStand, NothingLost, Passed, IsKeptAndSavedOnce}
 use Rattle.journal_steps.proofs.Lines.{longer, whole_again, unlines_behind, read_clean, clean_append}
 
 -- ---- the journal only grows
@@ -24,7 +24,7 @@ grows_then f g h p q j is =
     let b = q a.0 a.1 in
     (b.0, b.1, (a.2.0 ++ b.2.0, b.2.1 ∙ ap (λ (x : List (List ℕ)). x ++ b.2.0) a.2.1 ∙ append_assoc (whole_lines j) a.2.0 b.2.0))
 
-kept_moves : (f g : Folder) (lines : List (List ℕ)) → Grows f g → AreKept f lines → AreKept g lines
+kept_moves : (f g : Folder) (lines : List (List ℕ)) → Grows f g → LinesStand f lines → LinesStand g lines
 kept_moves f g lines grows kept =
     let a = grows kept.bytes kept.journal in
     record {
@@ -77,24 +77,24 @@ ends m n g e t j sound = record {
   sound = subst Sound (sym e) sound;
 }
 
-end_stops : (saves : Bool) (m n : Moment) → m.folder.saves ≡ 0 → m.folder.noted ≡ false → StopsAt (end_of saves) m n → End m n
+end_stops : (saves : Bool) (m n : Moment) → m.folder.saves ≡ 0 → m.folder.noted ≡ false → StoppedAt (last_deeds saves) m n → End m n
 end_stops false m n none free (inl (inl e, t)) = ends m n m.folder e t refl (inl (none, free))
-end_stops false m n none free (inl (inr e, t)) = ends m n (behind WriteDone m.folder) e t refl (inl (none, free))
+end_stops false m n none free (inl (inr e, t)) = ends m n (behind_deed WriteDone m.folder) e t refl (inl (none, free))
 end_stops false m n none free (inr e) =
-    ends m n (behind WriteDone m.folder) (ap (λ (x : Moment). x.folder) e) (ap (λ (x : Moment). x.taken) e) refl (inl (none, free))
+    ends m n (behind_deed WriteDone m.folder) (ap (λ (x : Moment). x.folder) e) (ap (λ (x : Moment). x.taken) e) refl (inl (none, free))
 end_stops true m n none free (inl (inl e, t)) = ends m n m.folder e t refl (inl (none, free))
 end_stops true m n none free (inl (inr e, t)) =
-    ends m n (behind WriteNote m.folder) e t refl (inr (ap suc none, inl refl))
+    ends m n (behind_deed WriteNote m.folder) e t refl (inr (ap suc none, inl refl))
 end_stops true m n none free (inr (inl (inl e, t))) =
-    ends m n (behind WriteNote m.folder) e t refl (inr (ap suc none, inl refl))
+    ends m n (behind_deed WriteNote m.folder) e t refl (inr (ap suc none, inl refl))
 end_stops true m n none free (inr (inl (inr e, t))) =
-    ends m n (behind WriteDone (behind WriteNote m.folder)) e t refl (inr (ap suc none, inl refl))
+    ends m n (behind_deed WriteDone (behind_deed WriteNote m.folder)) e t refl (inr (ap suc none, inl refl))
 end_stops true m n none free (inr (inr (inl (inl e, t)))) =
-    ends m n (behind WriteDone (behind WriteNote m.folder)) e t refl (inr (ap suc none, inl refl))
+    ends m n (behind_deed WriteDone (behind_deed WriteNote m.folder)) e t refl (inr (ap suc none, inl refl))
 end_stops true m n none free (inr (inr (inl (inr e, t)))) =
-    ends m n (behind RemoveNote (behind WriteDone (behind WriteNote m.folder))) e t refl (inr (ap suc none, inr refl))
+    ends m n (behind_deed RemoveNote (behind_deed WriteDone (behind_deed WriteNote m.folder))) e t refl (inr (ap suc none, inr refl))
 end_stops true m n none free (inr (inr (inr e))) =
-    ends m n (behind RemoveNote (behind WriteDone (behind WriteNote m.folder))) (ap (λ (x : Moment). x.folder) e)
+    ends m n (behind_deed RemoveNote (behind_deed WriteDone (behind_deed WriteNote m.folder))) (ap (λ (x : Moment). x.folder) e)
     (ap (λ (x : Moment). x.taken) e) refl (inr (ap suc none, inr refl))
 
 -- ---- lines that are kept and taken
@@ -108,7 +108,7 @@ record IsExact (m : Moment) : Type 0 where
 
 -- with so much more behind the journal
 grown : (m : Moment) (g : Folder) (x : List ℕ) → IsExact m → g.journal ≡ option_map (λ j. j ++ x) m.folder.journal
-    → (g.journal ≡ Some (unlines m.taken ++ x)) × AreKept g m.taken × Grows m.folder g
+    → (g.journal ≡ Some (unlines m.taken ++ x)) × LinesStand g m.taken × Grows m.folder g
 grown m g x exact e =
     let holds : g.journal ≡ Some (unlines m.taken ++ x) = e ∙ ap (option_map (λ (j : List ℕ). j ++ x)) exact.journal in
     let more = longer [] (unlines m.taken) x in
@@ -126,45 +126,45 @@ stays : (m n : Moment) (g : Folder) (x : List ℕ) → IsExact m → n.folder �
 stays m n g x exact e t j sound =
     let a = grown m g x exact j in record {
       grows = subst (λ (h : Folder). Grows m.folder h) (sym e) a.2;
-      kept = inr (subst (λ (ls : List (List ℕ)). AreKept n.folder ls) (sym t)
-          (subst (λ (h : Folder). AreKept h m.taken) (sym e) a.1));
+      kept = inr (subst (λ (ls : List (List ℕ)). LinesStand n.folder ls) (sym t)
+          (subst (λ (h : Folder). LinesStand h m.taken) (sym e) a.1));
       sound = subst Sound (sym e) sound;
     }
 
 ended : (m n : Moment) → IsExact m → End m n → Result m.folder n
 ended m n exact end =
-    let kept : AreKept n.folder m.taken = record {
+    let kept : LinesStand n.folder m.taken = record {
       bytes = unlines m.taken;
       journal = end.journal ∙ exact.journal;
       rest = [];
       first = whole_again m.taken exact.clean ∙ sym (append-nil m.taken);
     } in record {
       grows = grows_same m.folder n.folder end.journal;
-      kept = inr (subst (λ (ls : List (List ℕ)). AreKept n.folder ls) (sym end.taken) kept);
+      kept = inr (subst (λ (ls : List (List ℕ)). LinesStand n.folder ls) (sym end.taken) kept);
       sound = end.sound;
     }
 
 talk_stops : (lines : List (List ℕ)) (saves : Bool) (m n : Moment) → AllByRecursion IsClean lines → IsExact m
-    → StopsAt (talk lines ++ end_of saves) m n → Result m.folder n
+    → StoppedAt (talk lines ++ last_deeds saves) m n → Result m.folder n
 talk_stops [] saves m n clean exact h = ended m n exact (end_stops saves m n exact.saves exact.noted h)
 talk_stops (l ∷ ls) saves m n clean exact (inl ((k, e), t)) =
-    stays m n (added (take k (l ++ 10 ∷ [])) m.folder) (take k (l ++ 10 ∷ [])) exact e t refl (inl (exact.saves, exact.noted))
+    stays m n (with_more_bytes (take k (l ++ 10 ∷ [])) m.folder) (take k (l ++ 10 ∷ [])) exact e t refl (inl (exact.saves, exact.noted))
 talk_stops (l ∷ ls) saves m n clean exact (inr (inl (inl e, t))) =
-    stays m n (added (l ++ 10 ∷ []) m.folder) (l ++ 10 ∷ []) exact e t refl (inl (exact.saves, exact.noted))
+    stays m n (with_more_bytes (l ++ 10 ∷ []) m.folder) (l ++ 10 ∷ []) exact e t refl (inl (exact.saves, exact.noted))
 talk_stops (l ∷ ls) saves m n clean exact (inr (inl (inr e, t))) =
-    stays m n (added (l ++ 10 ∷ []) m.folder) (l ++ 10 ∷ []) exact e t refl (inl (exact.saves, exact.noted))
+    stays m n (with_more_bytes (l ++ 10 ∷ []) m.folder) (l ++ 10 ∷ []) exact e t refl (inl (exact.saves, exact.noted))
 talk_stops (l ∷ ls) saves m n (here, clean) exact (inr (inr h)) =
-    let a = grown m (added (l ++ 10 ∷ []) m.folder) (l ++ 10 ∷ []) exact refl in
-    let next : Moment = record { folder = added (l ++ 10 ∷ []) m.folder; taken = m.taken ++ l ∷ [] } in
-    let then : IsExact (record { folder = added (l ++ 10 ∷ []) m.folder; taken = m.taken ++ l ∷ [] }) = record {
+    let a = grown m (with_more_bytes (l ++ 10 ∷ []) m.folder) (l ++ 10 ∷ []) exact refl in
+    let next : Moment = record { folder = with_more_bytes (l ++ 10 ∷ []) m.folder; taken = m.taken ++ l ∷ [] } in
+    let then : IsExact (record { folder = with_more_bytes (l ++ 10 ∷ []) m.folder; taken = m.taken ++ l ∷ [] }) = record {
       journal = a.0 ∙ ap (λ (b : List ℕ). Some b) (sym (unlines_behind m.taken (l ∷ [])));
       clean = clean_append m.taken (l ∷ []) exact.clean (here, tt);
       saves = exact.saves;
       noted = exact.noted;
     } in
-    let r = talk_stops ls saves (record { folder = added (l ++ 10 ∷ []) m.folder; taken = m.taken ++ l ∷ [] }) n clean then h in
+    let r = talk_stops ls saves (record { folder = with_more_bytes (l ++ 10 ∷ []) m.folder; taken = m.taken ++ l ∷ [] }) n clean then h in
     record {
-      grows = grows_then m.folder (added (l ++ 10 ∷ []) m.folder) n.folder a.2 r.grows;
+      grows = grows_then m.folder (with_more_bytes (l ++ 10 ∷ []) m.folder) n.folder a.2 r.grows;
       kept = r.kept;
       sound = r.sound;
     }
@@ -181,24 +181,24 @@ no_journal : (f g : Folder) → f.journal ≡ None → Grows f g
 no_journal f g none j is = absurd cc
 
 begin_stops : (f : Folder) (s : Session) (n : Moment) → AllByRecursion IsClean s.typed → f.journal ≡ None → f.saves ≡ 0
-    → f.noted ≡ false → StopsAt (MakeJournal ∷ WriteBegun ∷ talk s.typed ++ end_of s.saves) (begins f) n → Result f n
+    → f.noted ≡ false → StoppedAt (MakeJournal ∷ WriteBegun ∷ talk s.typed ++ last_deeds s.saves) (begins f) n → Result f n
 begin_stops f s n clean none saves noted (inl (inl e, t)) =
     took_none f f n e t (grows_same f f refl) (inl (saves, noted))
 begin_stops f s n clean none saves noted (inl (inr e, t)) =
-    took_none f (behind MakeJournal f) n e t (no_journal f (behind MakeJournal f) none) (inl (saves, noted))
+    took_none f (behind_deed MakeJournal f) n e t (no_journal f (behind_deed MakeJournal f) none) (inl (saves, noted))
 begin_stops f s n clean none saves noted (inr (inl (inl e, t))) =
-    took_none f (behind MakeJournal f) n e t (no_journal f (behind MakeJournal f) none) (inl (saves, noted))
+    took_none f (behind_deed MakeJournal f) n e t (no_journal f (behind_deed MakeJournal f) none) (inl (saves, noted))
 begin_stops f s n clean none saves noted (inr (inl (inr e, t))) =
-    took_none f (behind WriteBegun (behind MakeJournal f)) n e t
-    (no_journal f (behind WriteBegun (behind MakeJournal f)) none) (inl (saves, noted))
+    took_none f (behind_deed WriteBegun (behind_deed MakeJournal f)) n e t
+    (no_journal f (behind_deed WriteBegun (behind_deed MakeJournal f)) none) (inl (saves, noted))
 begin_stops f s n clean none saves noted (inr (inr h)) =
-    let exact : IsExact (begins (behind WriteBegun (behind MakeJournal f))) =
+    let exact : IsExact (begins (behind_deed WriteBegun (behind_deed MakeJournal f))) =
     record { journal = refl; clean = tt; saves = saves; noted = noted } in
-    let r = talk_stops s.typed s.saves (begins (behind WriteBegun (behind MakeJournal f))) n clean exact h in
+    let r = talk_stops s.typed s.saves (begins (behind_deed WriteBegun (behind_deed MakeJournal f))) n clean exact h in
     record { grows = no_journal f n.folder none; kept = r.kept; sound = r.sound }
 
 -- the journal cut behind its last LF
-cut_grows : (f : Folder) (j : List ℕ) → f.journal ≡ Some j → Grows f (behind CutJournal f)
+cut_grows : (f : Folder) (j : List ℕ) → f.journal ≡ Some j → Grows f (behind_deed CutJournal f)
 cut_grows f j here i is =
     let same : i ≡ j = same_Some i j (sym is ∙ here) in
     let lines = whole_lines j in (
@@ -209,47 +209,47 @@ cut_grows f j here i is =
 
 go_on_stops : (f : Folder) (j : List ℕ) (s : Session) (n : Moment) → AllByRecursion IsClean s.typed → f.journal ≡ Some j
     → f.saves ≡ 0 → f.noted ≡ false
-    → StopsAt (CutJournal ∷ Take (whole_lines j) ∷ talk s.typed ++ end_of s.saves) (begins f) n → Result f n
+    → StoppedAt (CutJournal ∷ Take (whole_lines j) ∷ talk s.typed ++ last_deeds s.saves) (begins f) n → Result f n
 go_on_stops f j s n clean here saves noted (inl (inl e, t)) =
     took_none f f n e t (grows_same f f refl) (inl (saves, noted))
 go_on_stops f j s n clean here saves noted (inl (inr e, t)) =
-    took_none f (behind CutJournal f) n e t (cut_grows f j here) (inl (saves, noted))
+    took_none f (behind_deed CutJournal f) n e t (cut_grows f j here) (inl (saves, noted))
 go_on_stops f j s n clean here saves noted (inr (inl (inl e, t))) =
-    took_none f (behind CutJournal f) n e t (cut_grows f j here) (inl (saves, noted))
+    took_none f (behind_deed CutJournal f) n e t (cut_grows f j here) (inl (saves, noted))
 go_on_stops f j s n clean here saves noted (inr (inl (inr e, t))) =
-    took_none f (behind CutJournal f) n e t (cut_grows f j here) (inl (saves, noted))
+    took_none f (behind_deed CutJournal f) n e t (cut_grows f j here) (inl (saves, noted))
 go_on_stops f j s n clean here saves noted (inr (inr h)) =
-    let exact : IsExact (record { folder = behind CutJournal f; taken = whole_lines j }) = record {
+    let exact : IsExact (record { folder = behind_deed CutJournal f; taken = whole_lines j }) = record {
       journal = ap (option_map (λ (b : List ℕ). unlines (whole_lines b))) here;
       clean = read_clean [] j tt;
       saves = saves;
       noted = noted;
     } in
-    let r = talk_stops s.typed s.saves (record { folder = behind CutJournal f; taken = whole_lines j }) n clean exact h in
+    let r = talk_stops s.typed s.saves (record { folder = behind_deed CutJournal f; taken = whole_lines j }) n clean exact h in
     record {
-      grows = grows_then f (behind CutJournal f) n.folder (cut_grows f j here) r.grows;
+      grows = grows_then f (behind_deed CutJournal f) n.folder (cut_grows f j here) r.grows;
       kept = r.kept;
       sound = r.sound;
     }
 
 -- a save that a note tells of, carried to its end
-finish_stops : (f : Folder) (n : Moment) → f.saves ≡ 1 → f.noted ≡ true → StopsAt (WriteDone ∷ RemoveNote ∷ []) (begins f) n
+finish_stops : (f : Folder) (n : Moment) → f.saves ≡ 1 → f.noted ≡ true → StoppedAt (WriteDone ∷ RemoveNote ∷ []) (begins f) n
     → Result f n × (n.taken ≡ [])
 finish_stops f n once noted (inl (inl e, t)) =
     (took_none f f n e t (grows_same f f refl) (inr (once, inl noted)), t)
 finish_stops f n once noted (inl (inr e, t)) =
-    (took_none f (behind WriteDone f) n e t (grows_same f (behind WriteDone f) refl) (inr (once, inl noted)), t)
+    (took_none f (behind_deed WriteDone f) n e t (grows_same f (behind_deed WriteDone f) refl) (inr (once, inl noted)), t)
 finish_stops f n once noted (inr (inl (inl e, t))) =
-    (took_none f (behind WriteDone f) n e t (grows_same f (behind WriteDone f) refl) (inr (once, inl noted)), t)
+    (took_none f (behind_deed WriteDone f) n e t (grows_same f (behind_deed WriteDone f) refl) (inr (once, inl noted)), t)
 finish_stops f n once noted (inr (inl (inr e, t))) = (
-  took_none f (behind RemoveNote (behind WriteDone f)) n e t (grows_same f (behind RemoveNote (behind WriteDone f)) refl)
+  took_none f (behind_deed RemoveNote (behind_deed WriteDone f)) n e t (grows_same f (behind_deed RemoveNote (behind_deed WriteDone f)) refl)
       (inr (once, inr refl)),
   t,
 )
 finish_stops f n once noted (inr (inr e)) =
     let t : n.taken ≡ [] = ap (λ (x : Moment). x.taken) e in (
-      took_none f (behind RemoveNote (behind WriteDone f)) n (ap (λ (x : Moment). x.folder) e) t
-          (grows_same f (behind RemoveNote (behind WriteDone f)) refl) (inr (once, inr refl)),
+      took_none f (behind_deed RemoveNote (behind_deed WriteDone f)) n (ap (λ (x : Moment). x.folder) e) t
+          (grows_same f (behind_deed RemoveNote (behind_deed WriteDone f)) refl) (inr (once, inr refl)),
       t,
     )
 
@@ -269,7 +269,7 @@ folder_of journal begun noted done saves =
 -- where the tables were saved, the machine of a session takes nothing; and each session keeps what it should
 by_cases : (journal : Option (List ℕ)) (begun noted done : Bool) (saves : ℕ) (goes_on : Bool) (typed : List (List ℕ))
     (at_end : Bool) (n : Moment) → Sound (folder_of journal begun noted done saves)
-    → Leaves (record { goes_on = goes_on; typed = typed; saves = at_end }) (folder_of journal begun noted done saves) n
+    → LeftBy (record { goes_on = goes_on; typed = typed; saves = at_end }) (folder_of journal begun noted done saves) n
     → (AllByRecursion IsClean typed → Result (folder_of journal begun noted done saves) n) × (saves ≡ 1 → n.taken ≡ [])
 unfolding next_of
 by_cases journal begun true done saves goes_on typed at_end n sound h =
@@ -299,7 +299,7 @@ by_cases None false false false saves false typed at_end n sound h =
       λ once. absurd cc,
     )
 
-session : (s : Session) (f : Folder) (n : Moment) → Sound f → Leaves s f n
+session : (s : Session) (f : Folder) (n : Moment) → Sound f → LeftBy s f n
     → (AllByRecursion IsClean s.typed → Result f n) × (f.saves ≡ 1 → n.taken ≡ [])
 session s f n sound h = by_cases f.journal f.begun f.noted f.done f.saves s.goes_on s.typed s.saves n sound h
 
@@ -323,9 +323,9 @@ at_most_once f (inr (once, is)) = omega (arith, once)
 
 pub kept_and_saved_once : (ss : List Session) → AreClean ss → IsKeptAndSavedOnce ss
 kept_and_saved_once ss clean =
-    let begun : Sound nothing = inl (refl, refl) in record {
-      kept = λ all g passed. (passes ss nothing all g clean begun passed).1;
-      once = λ all g passed. at_most_once g (passes ss nothing all g clean begun passed).2;
+    let begun : Sound empty_folder = inl (refl, refl) in record {
+      kept = λ all g passed. (passes ss empty_folder all g clean begun passed).1;
+      once = λ all g passed. at_most_once g (passes ss empty_folder all g clean begun passed).2;
       then_none = λ all f passed once s m leaves.
-          (session s f m (passes ss nothing all f clean begun passed).2 leaves).1 once;
+          (session s f m (passes ss empty_folder all f clean begun passed).2 leaves).1 once;
     }

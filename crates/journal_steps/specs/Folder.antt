@@ -2,7 +2,7 @@
 use Rattle.std.specs.Prelude.{◌≡◌, ◌⊎◌, ◌++◌, ℕ, suc, Bool, true, false, List, [], ◌∷◌, Option, Some, None, take}
 use Rattle.std.specs.Prelude.{is_some, ◌==◌, if◌then◌else◌}
 use Rattle.std.specs.Option.{option_map}
-use Rattle.journal_steps.specs.declared.next.Found.{Found}
+use Rattle.journal_steps.specs.declared.next.Remains.{Remains}
 use Rattle.journal_steps.specs.declared.next.Next.{Next}
 use Rattle.journal_steps.specs.declared.next.Next.TheVariants.{Begin, GoOn, Finish, Ended, Taken, Missing}
 use Rattle.journal_steps.specs.Next.{next_of}
@@ -15,13 +15,13 @@ unlines [] = []
 unlines (line ∷ lines) = line ++ 10 ∷ unlines lines
 
 -- the lines that end with LF, behind a front of the first of them; what stands behind the last LF is no line
-abbrev pub lines_behind : List ℕ → List ℕ → List (List ℕ)
-lines_behind front [] = []
-lines_behind front (byte ∷ bytes) =
-    if byte == 10 then front ∷ lines_behind [] bytes else lines_behind (front ++ byte ∷ []) bytes
+abbrev pub lines_after_front : List ℕ → List ℕ → List (List ℕ)
+lines_after_front front [] = []
+lines_after_front front (byte ∷ bytes) =
+    if byte == 10 then front ∷ lines_after_front [] bytes else lines_after_front (front ++ byte ∷ []) bytes
 
 abbrev pub whole_lines : List ℕ → List (List ℕ)
-whole_lines bytes = lines_behind [] bytes
+whole_lines bytes = lines_after_front [] bytes
 
 -- ---- what stands
 
@@ -34,11 +34,11 @@ pub record Folder : Type 0 where
   pub done : Bool
   pub saves : ℕ
 
-abbrev pub nothing : Folder
-nothing = record { journal = None; begun = false; noted = false; done = false; saves = 0 }
+abbrev pub empty_folder : Folder
+empty_folder = record { journal = None; begun = false; noted = false; done = false; saves = 0 }
 
-abbrev pub found_in : Folder → Found
-found_in f = record { journal = is_some f.journal; begun = f.begun; noted = f.noted; done = f.done }
+abbrev pub remains_in : Folder → Remains
+remains_in f = record { journal = is_some f.journal; begun = f.begun; noted = f.noted; done = f.done }
 
 -- the folder, and the lines that the session's machine has taken, in order
 pub record Moment : Type 0 where
@@ -69,22 +69,22 @@ abbrev pub with_journal : Folder → Option (List ℕ) → Folder
 with_journal f journal =
     record { journal = journal; begun = f.begun; noted = f.noted; done = f.done; saves = f.saves }
 
-abbrev pub added : List ℕ → Folder → Folder
-added bytes f = with_journal f (option_map (λ j. j ++ bytes) f.journal)
+abbrev pub with_more_bytes : List ℕ → Folder → Folder
+with_more_bytes bytes f = with_journal f (option_map (λ j. j ++ bytes) f.journal)
 
 -- the folder behind a deed
-abbrev pub behind : Deed → Folder → Folder
-behind MakeJournal f = with_journal f (Some [])
-behind WriteBegun f =
+abbrev pub behind_deed : Deed → Folder → Folder
+behind_deed MakeJournal f = with_journal f (Some [])
+behind_deed WriteBegun f =
     record { journal = f.journal; begun = true; noted = f.noted; done = f.done; saves = f.saves }
-behind CutJournal f = with_journal f (option_map (λ j. unlines (whole_lines j)) f.journal)
-behind (Keep line) f = added (line ++ 10 ∷ []) f
-behind (Take lines) f = f
-behind WriteNote f =
+behind_deed CutJournal f = with_journal f (option_map (λ j. unlines (whole_lines j)) f.journal)
+behind_deed (Keep line) f = with_more_bytes (line ++ 10 ∷ []) f
+behind_deed (Take lines) f = f
+behind_deed WriteNote f =
     record { journal = f.journal; begun = f.begun; noted = true; done = f.done; saves = suc f.saves }
-behind WriteDone f =
+behind_deed WriteDone f =
     record { journal = f.journal; begun = f.begun; noted = f.noted; done = true; saves = f.saves }
-behind RemoveNote f =
+behind_deed RemoveNote f =
     record { journal = f.journal; begun = f.begun; noted = false; done = f.done; saves = f.saves }
 
 -- the lines that the machine has taken behind a deed
@@ -93,16 +93,16 @@ taken_behind (Take lines) taken = taken ++ lines
 taken_behind _ taken = taken
 
 -- a stop within a deed leaves the folder as before it, or behind it; of a line that is kept any part may stand
-abbrev pub MayLeave : Deed → Folder → Folder → Type 0
-MayLeave (Keep line) f g = (n : ℕ) × (g ≡ added (take n (line ++ 10 ∷ [])) f)
-MayLeave deed f g = (g ≡ f) ⊎ (g ≡ behind deed f)
+abbrev pub MayBeLeft : Deed → Folder → Folder → Type 0
+MayBeLeft (Keep line) f g = (n : ℕ) × (g ≡ with_more_bytes (take n (line ++ 10 ∷ [])) f)
+MayBeLeft deed f g = (g ≡ f) ⊎ (g ≡ behind_deed deed f)
 
 -- a session of these deeds, stopped at any moment, leaves this
-abbrev pub StopsAt : List Deed → Moment → Moment → Type 0
-StopsAt [] m n = n ≡ m
-StopsAt (deed ∷ deeds) m n =
-    (MayLeave deed m.folder n.folder × (n.taken ≡ m.taken))
-    ⊎ StopsAt deeds (record { folder = behind deed m.folder; taken = taken_behind deed m.taken }) n
+abbrev pub StoppedAt : List Deed → Moment → Moment → Type 0
+StoppedAt [] m n = n ≡ m
+StoppedAt (deed ∷ deeds) m n =
+    (MayBeLeft deed m.folder n.folder × (n.taken ≡ m.taken))
+    ⊎ StoppedAt deeds (record { folder = behind_deed deed m.folder; taken = taken_behind deed m.taken }) n
 
 -- ---- sessions
 
@@ -117,9 +117,9 @@ abbrev pub talk : List (List ℕ) → List Deed
 talk [] = []
 talk (line ∷ lines) = Keep line ∷ Take (line ∷ []) ∷ talk lines
 
-abbrev pub end_of : Bool → List Deed
-end_of true = WriteNote ∷ WriteDone ∷ RemoveNote ∷ []
-end_of false = WriteDone ∷ []
+abbrev pub last_deeds : Bool → List Deed
+last_deeds true = WriteNote ∷ WriteDone ∷ RemoveNote ∷ []
+last_deeds false = WriteDone ∷ []
 
 -- the lines that a journal holds
 abbrev pub lines_kept : Option (List ℕ) → List (List ℕ)
@@ -128,8 +128,8 @@ lines_kept (Some bytes) = whole_lines bytes
 
 -- the machine of a conversation that goes on takes all lines that its journal holds
 abbrev pub deeds_of : Next → Folder → Session → List Deed
-deeds_of Begin f s = MakeJournal ∷ WriteBegun ∷ talk s.typed ++ end_of s.saves
-deeds_of GoOn f s = CutJournal ∷ Take (lines_kept f.journal) ∷ talk s.typed ++ end_of s.saves
+deeds_of Begin f s = MakeJournal ∷ WriteBegun ∷ talk s.typed ++ last_deeds s.saves
+deeds_of GoOn f s = CutJournal ∷ Take (lines_kept f.journal) ∷ talk s.typed ++ last_deeds s.saves
 deeds_of Finish f s = WriteDone ∷ RemoveNote ∷ []
 deeds_of Ended f s = []
 deeds_of Taken f s = []
@@ -139,5 +139,5 @@ abbrev pub begins : Folder → Moment
 begins f = record { folder = f; taken = [] }
 
 -- a session of a conversation of which this stands, stopped at any moment, leaves this
-abbrev pub Leaves : Session → Folder → Moment → Type 0
-Leaves s f m = StopsAt (deeds_of (next_of (found_in f) s.goes_on) f s) (begins f) m
+abbrev pub LeftBy : Session → Folder → Moment → Type 0
+LeftBy s f m = StoppedAt (deeds_of (next_of (remains_in f) s.goes_on) f s) (begins f) m

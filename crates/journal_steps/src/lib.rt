@@ -7,4 +7,4 @@
 pub mod laws;
 mod next;
 
-pub use next::{Found, Next, next_of};
+pub use next::{Next, Remains, next_of};

@@ -5,7 +5,7 @@ ghost use Rattle.journal_steps.specs.Next.{next_of as next_for};
 
 /// What stands of a conversation in the folder.
 #[derive(Clone, Copy, PartialEq, Eq, Debug)]
-pub struct Found {
+pub struct Remains {
     /// Whether the journal stands.
     pub journal: bool,
     /// Whether the text of its beginning stands.
@@ -35,7 +35,7 @@ pub enum Next {
 
 /// What becomes of a conversation that is to be begun, or to go on.
 #[tactic(auto, unfolding(crate::specs::Next::next_of))]
-pub fn next_of(found: Found, goes_on: bool) -> Next
+pub fn next_of(found: Remains, goes_on: bool) -> Next
     ensures { result ≡ next_for found goes_on }
 {
     if found.noted {

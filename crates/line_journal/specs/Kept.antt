@@ -2,5 +2,5 @@
 use Rattle.std.specs.Prelude.{ℕ, List, [], ◌∷◌, ◌++◌}
 
 -- a line with LF behind it
-abbrev pub with_end : List ℕ → List ℕ
-with_end line = line ++ 10 ∷ []
+abbrev pub ended_by_lf : List ℕ → List ℕ
+ended_by_lf line = line ++ 10 ∷ []

@@ -1,7 +1,7 @@
 //! Journals, and lines that were kept in one.
 
 ghost use Rattle.std.specs.Prelude.{◌≡◌, ◌++◌, ◌∷◌, [], ℕ, List, IfOk, OnOk, OnErr};
-ghost use Rattle.line_journal.specs.Kept.{with_end};
+ghost use Rattle.line_journal.specs.Kept.{ended_by_lf};
 
 use std::alloc::AllocError;
 use std::marker::Model;
@@ -62,7 +62,7 @@ impl From<AllocError> for NotKept {
 
 /// A line with LF behind it.
 fn ended(mut line: Vec<u8>) -> Result<Vec<u8>, AllocError>
-    ensures { IfOk result (λ bytes. bytes.items ≡ with_end line.items) }
+    ensures { IfOk result (λ bytes. bytes.items ≡ ended_by_lf line.items) }
 {
     line.push(b'\n')?;
     Ok(line)
@@ -70,8 +70,8 @@ fn ended(mut line: Vec<u8>) -> Result<Vec<u8>, AllocError>
 
 /// Keeps a line in a journal: it holds the line with LF behind what it held. On a refusal it holds what it held.
 pub fn keep<J: Journal>(journal: &mut J, line: Vec<u8>) -> Result<KeptLine, NotKept>
-    ensures line { IfOk result (λ kept. kept ≡ with_end line.items) }
-    ensures added { OnOk result (J.holds journal.new ≡ J.holds journal.old ++ with_end line.items) }
+    ensures line { IfOk result (λ kept. kept ≡ ended_by_lf line.items) }
+    ensures added { OnOk result (J.holds journal.new ≡ J.holds journal.old ++ ended_by_lf line.items) }
     ensures kept { OnErr result (J.holds journal.new ≡ J.holds journal.old) }
 {
     let bytes = ended(line)?;

@@ -18,7 +18,7 @@ use Rattle.machine.specs.Headline.{Headline}
 use Rattle.machine.specs.Pauses.{PausesAt, GoesTo}
 use Rattle.run_steps.specs.declared.pausing.Leg.{Leg}
 use Rattle.run_steps.specs.declared.pausing.Leg.TheVariants.{Ended, Waits, Marked}
-use Rattle.run_steps.specs.Pausing.{Pauses, Goes, with_more}
+use Rattle.run_steps.specs.Pausing.{Pauses, IsLeg, with_more}
 use Rattle.text_lines.specs.Lines.{is_out}
 use Rattle.machine.proofs.Kept.{Keeps, kept}
 
@@ -104,7 +104,7 @@ paused code laws from budget steps b fit p =
       goes_on = record { agrees = same; fits = there };
     }
 
-pub goes_to : (code : Code) → Laws code → (from : World) (budget : ℕ) (marks : List Bool) (leg : Leg) (b : BankState) → IsFitting code from → Goes code from budget marks leg (IsByKind b.values) b.place b.returns b.env → GoesTo code from budget marks leg b
+pub goes_to : (code : Code) → Laws code → (from : World) (budget : ℕ) (marks : List Bool) (leg : Leg) (b : BankState) → IsFitting code from → IsLeg code from budget marks leg (IsByKind b.values) b.place b.returns b.env → GoesTo code from budget marks leg b
 unfolding headline paused
 goes_to code laws from budget marks (Ended outcome) b fit g = (headline code laws from budget outcome b fit g.0, g.1)
 goes_to code laws from budget marks (Waits steps) b fit g = (paused code laws from budget steps b fit g.0, g.1)

@@ -4,14 +4,14 @@ use Rattle.std.specs.Prelude.{Result, Ok, Err, IfOk}
 use Rattle.calendar.specs.declared.day.DayParts.{DayParts}
 use Rattle.code_items.specs.declared.code.Code.{Code}
 use Rattle.code_rules.specs.Places.{instr_at}
-use Rattle.line_journal.specs.Kept.{with_end}
+use Rattle.line_journal.specs.Kept.{ended_by_lf}
 use Rattle.machine.specs.Headline.{Headline}
 use Rattle.machine.specs.Pauses.{PausesAt}
 use Rattle.machine.specs.Twins.{BankState, AgreesWith, Begins, Twin}
 use Rattle.operating.specs.declared.operator.Broken.{Broken}
 use Rattle.operating.specs.declared.talking.Turn.{Turn}
 use Rattle.operating.specs.declared.talking.Turn.TheVariants.{Over, On}
-use Rattle.operating.specs.Talks.{Talked, ComesTo, Turned, IsNearer, Took}
+use Rattle.operating.specs.Talks.{Talked, ComesTo, Turned, IsNearer, TookLine}
 use Rattle.run_steps.specs.declared.ending.Outcome.{Outcome}
 use Rattle.run_steps.specs.Opening.{opening}
 use Rattle.run_steps.specs.Pausing.{Came, takes_line, is_dry, with_more}
@@ -31,7 +31,7 @@ pub record Lines (code : Code) : Type 0 where
   pub twins : (w : World) (b : BankState) (lines : List (List ℕ)) → Twin code w b → is_out b.env.lines ≡ true → Twin code (with_more lines w) (record b { env = with_lines lines b.env })
   pub join : (a b : List ℕ) → is_ended a ≡ true → short_lines (a ++ b) ≡ short_lines a ++ short_lines b
   pub ends : (a b : List ℕ) → is_ended a ≡ true → is_ended b ≡ true → is_ended (a ++ b) ≡ true
-  pub line : (line : List ℕ) → is_ended (with_end line) ≡ true
+  pub line : (line : List ℕ) → is_ended (ended_by_lf line) ≡ true
 
 -- ---- pieces
 
@@ -64,12 +64,12 @@ out_there code w b a dry = ap is_out a.lines ∙ second_of_two (takes_line (inst
 -- ---- lines
 
 pub talked_more : (code : Code) (store : StoreState) (today : Option DayParts) (before after line : List ℕ) (steps : ℕ) (old new : BankState) → Lines code → is_out old.env.lines ≡ true
-    → after ≡ before ++ with_end line → new ≡ record old { env = with_lines (short_lines (with_end line)) old.env } → Talked code store today before steps old → Talked code store today after steps new
+    → after ≡ before ++ ended_by_lf line → new ≡ record old { env = with_lines (short_lines (ended_by_lf line)) old.env } → Talked code store today before steps old → Talked code store today after steps new
 talked_more code store today before after line steps old new laws out added taken t =
-    let more = short_lines (with_end line) in
-    let lines : short_lines before ++ more ≡ short_lines after = sym (laws.join before (with_end line) t.ended) ∙ ap short_lines (sym added) in
+    let more = short_lines (ended_by_lf line) in
+    let lines : short_lines before ++ more ≡ short_lines after = sym (laws.join before (ended_by_lf line) t.ended) ∙ ap short_lines (sym added) in
     record {
-      ended = subst (λ (x : List ℕ). is_ended x ≡ true) (sym added) (laws.ends before (with_end line) t.ended (laws.line line));
+      ended = subst (λ (x : List ℕ). is_ended x ≡ true) (sym added) (laws.ends before (ended_by_lf line) t.ended (laws.line line));
       world = with_more more t.world;
       came = subst (λ (ls : List (List ℕ)). Came code (opening code store ls today) steps (with_more more t.world)) lines
           (laws.more code (opening code store (short_lines before) today) t.world steps more t.came);
@@ -108,8 +108,8 @@ talked_begun code store today handed lines (Err e) begun are ended begins = begi
 
 -- ---- what was answered, as it is named in its arm
 
-pub taken_is : (before after : List ℕ) (old new : BankState) (used limit longer : ℕ) (taken : Option ℕ) → taken ≡ Some longer → Took before old used limit taken after new → Took before old used limit (Some longer) after new
-taken_is before after old new used limit longer taken is took = subst (λ (x : Option ℕ). Took before old used limit x after new) is took
+pub taken_is : (before after : List ℕ) (old new : BankState) (used limit longer : ℕ) (taken : Option ℕ) → taken ≡ Some longer → TookLine before old used limit taken after new → TookLine before old used limit (Some longer) after new
+taken_is before after old new used limit longer taken is took = subst (λ (x : Option ℕ). TookLine before old used limit x after new) is took
 
 pub over_is : (code : Code) (store : StoreState) (today : Option DayParts) (typed : List ℕ) (budget : ℕ) (turn : Turn) (outcome : Outcome) (b : BankState) → turn ≡ Over outcome → Turned code store today typed budget turn b → ComesTo code store today typed budget outcome b
 over_is code store today typed budget turn outcome b is turned = subst (λ (x : Turn). Turned code store today typed budget x b) is turned

@@ -2,7 +2,7 @@
 use Rattle.std.specs.Prelude.{◌≡◌, ◌<◌, ◌≤◌, ◌+◌, ◌-◌, ◌++◌, ℕ, List, true, Option, Some, None}
 use Rattle.calendar.specs.declared.day.DayParts.{DayParts}
 use Rattle.code_items.specs.declared.code.Code.{Code}
-use Rattle.line_journal.specs.Kept.{with_end}
+use Rattle.line_journal.specs.Kept.{ended_by_lf}
 use Rattle.machine.specs.Twins.{BankState, AgreesWith, Twin}
 use Rattle.operating.specs.declared.talking.Turn.{Turn}
 use Rattle.operating.specs.declared.talking.Turn.TheVariants.{Over, On}
@@ -45,8 +45,8 @@ IsNearer budget limit steps used (On more longer) =
     (more ≤ budget) × (longer ≤ limit) × ((budget - more) + (limit - longer) < (budget - steps) + (limit - used))
 
 -- a line is taken behind those that were kept, which has one byte at least, or none is
-abbrev pub Took : List ℕ → BankState → ℕ → ℕ → Option ℕ → List ℕ → BankState → Type 0
-Took before old used limit None after new = (after ≡ before) × (new ≡ old)
-Took before old used limit (Some longer) after new = (line : List ℕ) × (after ≡ before ++ with_end line)
-    × (new ≡ record old { env = with_lines (short_lines (with_end line)) old.env })
+abbrev pub TookLine : List ℕ → BankState → ℕ → ℕ → Option ℕ → List ℕ → BankState → Type 0
+TookLine before old used limit None after new = (after ≡ before) × (new ≡ old)
+TookLine before old used limit (Some longer) after new = (line : List ℕ) × (after ≡ before ++ ended_by_lf line)
+    × (new ≡ record old { env = with_lines (short_lines (ended_by_lf line)) old.env })
     × (used < longer) × (longer ≤ limit)

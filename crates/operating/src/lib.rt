@@ -4,5 +4,5 @@
 mod operator;
 mod talking;
 
-pub use operator::{Answer, Broken, Operator, OperatorFailed, View};
-pub use talking::{MOST_TYPED, Talk, can_go_on, converse};
+pub use operator::{Answer, Broken, Operator, OperatorFailed, Scene};
+pub use talking::{EndedTalk, MOST_TYPED, can_go_on, converse};

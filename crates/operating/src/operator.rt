@@ -6,7 +6,7 @@ use std::alloc::AllocError;
 
 /// What an operator sees of a run that waits, or that stands at a marked place.
 #[derive(Clone, Copy)]
-pub struct View<'a> {
+pub struct Scene<'a> {
     /// The code that runs.
     pub code: &'a Code,
     /// The screen as it stands, with the bytes of the rows that were sent so far.
@@ -35,14 +35,14 @@ pub trait Operator {
     fn begin(&mut self, code: &Code) -> Result<Vec<bool>, OperatorFailed>;
 
     /// The run has come to a marked place.
-    fn see(&mut self, view: &View<'_>) -> Result<(), OperatorFailed>;
+    fn see(&mut self, view: &Scene<'_>) -> Result<(), OperatorFailed>;
 
     /// The next instruction takes a line, and none is left. A line with its LF has at most `room` bytes: where `room`
     /// is 0 the end of the input alone is left to answer.
-    fn ask(&mut self, view: &View<'_>, room: usize) -> Result<Answer, OperatorFailed>;
+    fn ask(&mut self, view: &Scene<'_>, room: usize) -> Result<Answer, OperatorFailed>;
 
     /// The run has ended, and nothing is saved yet.
-    fn end(&mut self, view: &View<'_>) -> Result<(), OperatorFailed>;
+    fn end(&mut self, view: &Scene<'_>) -> Result<(), OperatorFailed>;
 }
 
 /// Why a conversation broke off before its run ended.

@@ -2,12 +2,12 @@
 
 ghost use Rattle.std.specs.Prelude.{◌≡◌, ◌≤◌, ℕ, true, List, Option, length, IfOk};
 ghost use Rattle.calendar.specs.declared.day.DayParts.{DayParts};
-ghost use Rattle.operating.specs.Talks.{ComesTo, IsNearer, Talked, Took, Turned};
+ghost use Rattle.operating.specs.Talks.{ComesTo, IsNearer, Talked, TookLine, Turned};
 ghost use Rattle.run_steps.specs.Shapes.{StoreFits};
 ghost use Rattle.text_lines.specs.Lines.{is_ended as is_ended_text, is_out, short_lines};
 ghost use Rattle.work_area.specs.Areas.{StoreState};
 
-use crate::operator::{Answer, Broken, Operator, View};
+use crate::operator::{Answer, Broken, Operator, Scene};
 use calendar::Day;
 use key_lists::KeyList;
 use line_journal::{Journal, NotKept, keep};
@@ -33,8 +33,8 @@ pub(crate) enum Turn {
 }
 
 /// What an operator sees where the banks stand.
-fn view_of<'a, K: KeyList>(verified: &'a Verified, banks: &'a Banks<K>) -> View<'a> {
-    View {
+fn view_of<'a, K: KeyList>(verified: &'a Verified, banks: &'a Banks<K>) -> Scene<'a> {
+    Scene {
         code: verified.code(),
         screen: banks.screen(),
         place: banks.place(),
@@ -52,7 +52,7 @@ fn take_one<J: Journal, O: Operator, K: KeyList>(
 ) -> Result<Option<usize>, Broken>
     requires out { is_out banks.old.env.lines ≡ true }
     requires few { used ≤ 1048576 }
-    ensures { IfOk result (λ longer. Took (J.holds journal.old) banks.old used 1048576 longer
+    ensures { IfOk result (λ longer. TookLine (J.holds journal.old) banks.old used 1048576 longer
         (J.holds journal.new) banks.new) }
 {
     let room = MOST_TYPED - used;
@@ -284,7 +284,7 @@ pub fn can_go_on(handed: &[u8]) -> bool
 
 /// A conversation whose run ended: where, and how.
 #[derive(Drop)]
-pub struct Talk<K: KeyList> {
+pub struct EndedTalk<K: KeyList> {
     pub banks: Banks<K>,
     pub outcome: Outcome,
 }
@@ -306,7 +306,7 @@ pub fn converse<J: Journal, O: Operator, K: KeyList>(
     journal: &mut J,
     operator: &mut O,
     budget: u64,
-) -> Result<Talk<K>, Broken>
+) -> Result<EndedTalk<K>, Broken>
     requires fits { StoreFits verified.now.declared store }
     requires held { J.holds journal.old ≡ handed.now }
     requires ended { is_ended_text handed.now ≡ true }
@@ -327,5 +327,5 @@ pub fn converse<J: Journal, O: Operator, K: KeyList>(
         handed.len(),
     )?;
     close(verified, operator, &banks)?;
-    Ok(Talk { banks, outcome })
+    Ok(EndedTalk { banks, outcome })
 }

@@ -2,13 +2,13 @@
 #![tactic(auto)]
 
 use crate::begun::Talk;
-use crate::gets::{Gets, Place, bad_answer};
+use crate::gets::{Gets, WaitingPlace, bad_answer};
 use crate::record::Record;
 use crate::screens::Screens;
 use crate::typing::{Typed, next_line};
 use code_items::Code;
-use code_pages::{CodePage, PageFault, in_page};
-use operating::{Answer, MOST_TYPED, Operator, OperatorFailed, View};
+use code_pages::{CodePage, LetterFault, in_page};
+use operating::{Answer, MOST_TYPED, Operator, OperatorFailed, Scene};
 use screen_lines::Cursor;
 use std::alloc::{AllocError, Global};
 use std::fs::File;
@@ -34,7 +34,7 @@ pub struct Manner {
 
 /// The desk of one conversation.
 #[derive(Drop)]
-pub struct Desk<'a, R: Runtime<A = Global, File = File>> {
+pub struct OperatorDesk<'a, R: Runtime<A = Global, File = File>> {
     pub rt: &'a R,
     pub manner: Manner,
     pub talk: Talk<'a>,
@@ -53,7 +53,7 @@ pub struct Desk<'a, R: Runtime<A = Global, File = File>> {
     pub ended: bool,
 }
 
-impl<R: Runtime<A = Global, File = File>> Desk<'_, R> {
+impl<R: Runtime<A = Global, File = File>> OperatorDesk<'_, R> {
     /// Shows a text on standard error.
     fn show(&self, text: &str) -> Result<(), OperatorFailed> {
         match eprint!(self.rt; "{text}") {
@@ -63,13 +63,13 @@ impl<R: Runtime<A = Global, File = File>> Desk<'_, R> {
     }
 
     /// The bytes that were sent out and aren't shown yet.
-    fn unshown<'s>(&self, seen: &View<'s>) -> &'s [u8] {
+    fn unshown<'s>(&self, seen: &Scene<'s>) -> &'s [u8] {
         let sent = seen.screen.sent();
         &sent[self.shown.min(sent.len())..]
     }
 
     /// Prints rows on standard output, where that is another place than the screen's.
-    fn print_sent(&mut self, seen: &View<'_>) -> Result<(), OperatorFailed> {
+    fn print_sent(&mut self, seen: &Scene<'_>) -> Result<(), OperatorFailed> {
         let sent = seen.screen.sent();
         if !self.manner.one_terminal && self.rt.write_all(self.unshown(seen)).is_err() {
             return Err(OperatorFailed);
@@ -79,7 +79,7 @@ impl<R: Runtime<A = Global, File = File>> Desk<'_, R> {
     }
 
     /// The rows with the answers that were taken laid over them.
-    fn rows_now(&self, alloc: Global, seen: &View<'_>) -> Result<Vec<[u8; 80]>, AllocError> {
+    fn rows_now(&self, alloc: Global, seen: &Scene<'_>) -> Result<Vec<[u8; 80]>, AllocError> {
         let mut rows = Vec::from_slice(alloc, seen.screen.rows())?;
         for answer in self.gets.answers.as_slice() {
             lay_over(&mut rows, answer.field, answer.text.as_slice());
@@ -88,16 +88,16 @@ impl<R: Runtime<A = Global, File = File>> Desk<'_, R> {
     }
 
     /// Row and column at which the line is typed.
-    fn cursor(&self, seen: &View<'_>) -> (usize, usize) {
+    fn cursor(&self, seen: &Scene<'_>) -> (usize, usize) {
         match (self.gets.waiting, seen.screen.cursor()) {
-            (Place::Field(field), _) => (field.row, field.column),
-            (Place::Behind, Cursor::At { row, column }) => (row, column),
+            (WaitingPlace::Field(field), _) => (field.row, field.column),
+            (WaitingPlace::Behind, Cursor::At { row, column }) => (row, column),
             _ => (24, 0),
         }
     }
 
     /// Draws the screen in its window.
-    fn draw(&self, alloc: Global, window: Window, seen: &View<'_>) -> Result<(), OperatorFailed> {
+    fn draw(&self, alloc: Global, window: Window, seen: &Scene<'_>) -> Result<(), OperatorFailed> {
         let Ok(rows) = self.rows_now(alloc, seen) else {
             return Err(OperatorFailed);
         };
@@ -122,7 +122,7 @@ impl<R: Runtime<A = Global, File = File>> Desk<'_, R> {
     }
 
     /// Lists the rows that changed, those that were sent out among them, and what waits.
-    fn list(&mut self, alloc: Global, seen: &View<'_>) -> Result<(), OperatorFailed> {
+    fn list(&mut self, alloc: Global, seen: &Scene<'_>) -> Result<(), OperatorFailed> {
         let rows = seen.screen.rows();
         match plain_lines(alloc, self.before.as_slice(), rows, self.manner.page) {
             Ok(text) => self.show(text.as_str())?,
@@ -141,12 +141,12 @@ impl<R: Runtime<A = Global, File = File>> Desk<'_, R> {
     /// Says what waits.
     fn prompt(&self) -> Result<(), OperatorFailed> {
         let told = match self.gets.waiting {
-            Place::Field(field) => eprint!(self.rt;
+            WaitingPlace::Field(field) => eprint!(self.rt;
                 "[row {}, column {}] ",
                 field.row, field.column
             ),
-            Place::Behind => eprint!(self.rt; "[line] "),
-            Place::Unknown => eprint!(self.rt; "[field {}] ", self.gets.number),
+            WaitingPlace::Behind => eprint!(self.rt; "[line] "),
+            WaitingPlace::Unknown => eprint!(self.rt; "[field {}] ", self.gets.number),
         };
         match told {
             Ok(()) => Ok(()),
@@ -155,7 +155,7 @@ impl<R: Runtime<A = Global, File = File>> Desk<'_, R> {
     }
 
     /// Shows the run as it waits.
-    fn show_all(&mut self, alloc: Global, seen: &View<'_>) -> Result<(), OperatorFailed> {
+    fn show_all(&mut self, alloc: Global, seen: &Scene<'_>) -> Result<(), OperatorFailed> {
         match self.manner.window {
             Some(window) => self.draw(alloc, window, seen)?,
             None => self.list(alloc, seen)?,
@@ -173,8 +173,8 @@ impl<R: Runtime<A = Global, File = File>> Desk<'_, R> {
         };
         match in_page(alloc, page, text) {
             Ok(bytes) => Ok(Some(bytes)),
-            Err(PageFault::Lacks(_)) => Ok(None),
-            Err(PageFault::Memory) => Err(OperatorFailed),
+            Err(LetterFault::Lacks(_)) => Ok(None),
+            Err(LetterFault::Memory) => Err(OperatorFailed),
         }
     }
 
@@ -234,7 +234,7 @@ impl<R: Runtime<A = Global, File = File>> Desk<'_, R> {
         &mut self,
         alloc: Global,
         answer: &Answer,
-        seen: &View<'_>,
+        seen: &Scene<'_>,
     ) -> Result<(), OperatorFailed> {
         self.note = "";
         self.ended = false;
@@ -251,7 +251,7 @@ impl<R: Runtime<A = Global, File = File>> Desk<'_, R> {
     }
 }
 
-impl<R: Runtime<A = Global, File = File>> Operator for Desk<'_, R> {
+impl<R: Runtime<A = Global, File = File>> Operator for OperatorDesk<'_, R> {
     fn begin(&mut self, code: &Code) -> Result<Vec<bool>, OperatorFailed> {
         let alloc = self.rt.alloc();
         self.record.begin(alloc, &self.talk)?;
@@ -261,12 +261,12 @@ impl<R: Runtime<A = Global, File = File>> Operator for Desk<'_, R> {
         }
     }
 
-    fn see(&mut self, seen: &View<'_>) -> Result<(), OperatorFailed> {
+    fn see(&mut self, seen: &Scene<'_>) -> Result<(), OperatorFailed> {
         self.gets.look(seen);
         Ok(())
     }
 
-    fn ask(&mut self, seen: &View<'_>, room: usize) -> Result<Answer, OperatorFailed> {
+    fn ask(&mut self, seen: &Scene<'_>, room: usize) -> Result<Answer, OperatorFailed> {
         let alloc = self.rt.alloc();
         if self.gets.wait(alloc, seen).is_err() {
             return Err(OperatorFailed);
@@ -281,7 +281,7 @@ impl<R: Runtime<A = Global, File = File>> Operator for Desk<'_, R> {
         Err(OperatorFailed)
     }
 
-    fn end(&mut self, seen: &View<'_>) -> Result<(), OperatorFailed> {
+    fn end(&mut self, seen: &Scene<'_>) -> Result<(), OperatorFailed> {
         self.screens.write(self.rt.alloc(), seen, None)
     }
 }

@@ -5,18 +5,18 @@ use calendar::Day;
 use code_items::Code;
 use code_items::instr::{Instr, ScreenInstr};
 use fixed_num::Num;
-use operating::View;
+use operating::Scene;
 use screen_lines::Cursor;
 use std::alloc::{AllocError, Global};
-use terminal_screen::Field;
+use terminal_screen::ShownField;
 use waiting_fields::{Show, reads_of};
 use xvalue::{Kind, Value};
 
 /// Where the line that is wanted is typed.
 #[derive(Clone, Copy)]
-pub enum Place {
+pub enum WaitingPlace {
     /// In this field.
-    Field(Field),
+    Field(ShownField),
     /// Behind what was printed last.
     Behind,
     /// In a field of which nothing is known.
@@ -30,7 +30,7 @@ struct Shown {
     /// Its column, where the code says it.
     column: Option<usize>,
     /// Where it stands, counted from the first row that was ever sent out.
-    field: Option<Field>,
+    field: Option<ShownField>,
 }
 
 /// A READ.
@@ -43,7 +43,7 @@ struct Asking {
 /// An answer that lies over the drawing.
 #[derive(Drop)]
 pub struct Laid {
-    pub field: Field,
+    pub field: ShownField,
     pub text: Vec<u8>,
     /// What the row below it held.
     pub under: [u8; 80],
@@ -58,9 +58,9 @@ pub struct Gets {
     /// The column one behind the cursor, before a value was shown there.
     behind: usize,
     /// The fields of the READ that waits, and their answers.
-    pub fields: Vec<Field>,
+    pub fields: Vec<ShownField>,
     pub answers: Vec<Laid>,
-    pub waiting: Place,
+    pub waiting: WaitingPlace,
     /// The number of the field that waits, from 1.
     pub number: usize,
     /// What kind of value the line is for; none where it is a line as such.
@@ -87,7 +87,7 @@ pub fn bad_answer(kind: Option<Kind>, line: &[u8]) -> Option<&'static str> {
 }
 
 /// How many rows were sent out.
-fn rows_sent(seen: &View<'_>) -> usize {
+fn rows_sent(seen: &Scene<'_>) -> usize {
     seen.screen
         .sent()
         .iter()
@@ -109,9 +109,9 @@ fn column_of(code: &Code, number: Option<u16>) -> Option<usize> {
 }
 
 /// The field that ends at the cursor, if one does, counted from the first row ever sent out.
-fn field_to(seen: &View<'_>, first: usize) -> Option<Field> {
+fn field_to(seen: &Scene<'_>, first: usize) -> Option<ShownField> {
     match seen.screen.cursor() {
-        Cursor::At { row, column } if first < column => Some(Field {
+        Cursor::At { row, column } if first < column => Some(ShownField {
             row: rows_sent(seen).saturating_add(row),
             column: first,
             length: column - first,
@@ -137,7 +137,7 @@ impl Gets {
             behind: 0,
             fields: Vec::new(alloc),
             answers: Vec::new(alloc),
-            waiting: Place::Behind,
+            waiting: WaitingPlace::Behind,
             number: 0,
             kind: None,
         }
@@ -182,7 +182,7 @@ impl Gets {
     }
 
     /// Looks at the cursor before or behind an instruction that shows a value.
-    pub fn look(&mut self, seen: &View<'_>) {
+    pub fn look(&mut self, seen: &Scene<'_>) {
         let behind = self.behind;
         for read in &mut self.reads {
             for shown in &mut read.shows {
@@ -215,7 +215,12 @@ impl Gets {
     }
 
     /// The fields of a READ as they stand on the screen now.
-    fn fields_of(&self, alloc: Global, read: usize, sent: usize) -> Result<Vec<Field>, AllocError> {
+    fn fields_of(
+        &self,
+        alloc: Global,
+        read: usize,
+        sent: usize,
+    ) -> Result<Vec<ShownField>, AllocError> {
         let mut fields = Vec::new(alloc);
         let Some(read) = self.reads.get(read) else {
             return Ok(fields);
@@ -223,7 +228,7 @@ impl Gets {
         for shown in &read.shows {
             if let Some(field) = shown.field {
                 if field.row >= sent {
-                    fields.push(Field {
+                    fields.push(ShownField {
                         row: field.row - sent,
                         column: field.column,
                         length: field.length,
@@ -235,10 +240,10 @@ impl Gets {
     }
 
     /// Learns which line is wanted, and where it is typed.
-    pub fn wait(&mut self, alloc: Global, seen: &View<'_>) -> Result<(), AllocError> {
+    pub fn wait(&mut self, alloc: Global, seen: &Scene<'_>) -> Result<(), AllocError> {
         self.kind = self.kinds.get(seen.place).copied().unwrap_or(None);
         let Some((read, line)) = self.asking(seen.place) else {
-            self.waiting = Place::Behind;
+            self.waiting = WaitingPlace::Behind;
             self.fields = Vec::new(alloc);
             return Ok(());
         };
@@ -249,14 +254,14 @@ impl Gets {
         self.fields = self.fields_of(alloc, read, rows_sent(seen))?;
         let all = self.reads.get(read).map(|read| read.takes.len()) == Some(self.fields.len());
         self.waiting = match self.fields.get(line) {
-            Some(field) if all => Place::Field(*field),
-            _ => Place::Unknown,
+            Some(field) if all => WaitingPlace::Field(*field),
+            _ => WaitingPlace::Unknown,
         };
         self.keep_those_under(alloc, seen)
     }
 
     /// Takes away the answers where the program wrote since.
-    fn keep_those_under(&mut self, alloc: Global, seen: &View<'_>) -> Result<(), AllocError> {
+    fn keep_those_under(&mut self, alloc: Global, seen: &Scene<'_>) -> Result<(), AllocError> {
         let mut kept = Vec::new(alloc);
         for answer in &self.answers {
             if let Some(row) = seen.screen.rows().get(answer.field.row) {
@@ -274,8 +279,8 @@ impl Gets {
     }
 
     /// Lays an answer over its field. An empty one keeps the old value.
-    pub fn take(&mut self, alloc: Global, line: &[u8], seen: &View<'_>) -> Result<(), AllocError> {
-        let Place::Field(field) = self.waiting else {
+    pub fn take(&mut self, alloc: Global, line: &[u8], seen: &Scene<'_>) -> Result<(), AllocError> {
+        let WaitingPlace::Field(field) = self.waiting else {
             return Ok(());
         };
         let Some(row) = seen.screen.rows().get(field.row) else {

@@ -13,7 +13,7 @@ mod typist;
 
 pub use begun::{Talk, talk_in};
 pub use clock::local_day;
-pub use desk::{Desk, Manner};
+pub use desk::{Manner, OperatorDesk};
 pub use gets::Gets;
 pub use record::{KeptJournal, Record};
 pub use screens::Screens;

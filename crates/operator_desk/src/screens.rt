@@ -1,7 +1,7 @@
 //! What the screen showed before each line, kept in a file.
 #![tactic(auto)]
 
-use operating::{OperatorFailed, View};
+use operating::{OperatorFailed, Scene};
 use std::alloc::{AllocError, Global};
 use std::fs::File;
 use std::io::Write;
@@ -21,7 +21,11 @@ fn put_row(out: &mut Vec<u8>, row: &[u8; 80]) -> Result<(), AllocError> {
 }
 
 /// The rows of a screen, and the line that was taken behind them.
-fn screen_text(alloc: Global, seen: &View<'_>, line: Option<&[u8]>) -> Result<Vec<u8>, AllocError> {
+fn screen_text(
+    alloc: Global,
+    seen: &Scene<'_>,
+    line: Option<&[u8]>,
+) -> Result<Vec<u8>, AllocError> {
     let mut out = Vec::new(alloc);
     for row in seen.screen.rows() {
         put_row(&mut out, row)?;
@@ -48,7 +52,7 @@ impl Screens {
     pub fn write(
         &mut self,
         alloc: Global,
-        seen: &View<'_>,
+        seen: &Scene<'_>,
         line: Option<&[u8]>,
     ) -> Result<(), OperatorFailed> {
         let Some(file) = &mut self.file else {

@@ -4,7 +4,7 @@
 use crate::screens::Screens;
 use code_items::Code;
 use line_journal::{Journal, JournalFailed};
-use operating::{Answer, Operator, OperatorFailed, View};
+use operating::{Answer, Operator, OperatorFailed, Scene};
 use std::alloc::Global;
 
 /// The lines that a run took, in memory alone.
@@ -60,11 +60,11 @@ impl Operator for Typist<'_> {
         Ok(Vec::new(self.alloc))
     }
 
-    fn see(&mut self, _: &View<'_>) -> Result<(), OperatorFailed> {
+    fn see(&mut self, _: &Scene<'_>) -> Result<(), OperatorFailed> {
         Ok(())
     }
 
-    fn ask(&mut self, seen: &View<'_>, _: usize) -> Result<Answer, OperatorFailed> {
+    fn ask(&mut self, seen: &Scene<'_>, _: usize) -> Result<Answer, OperatorFailed> {
         let line = self.next();
         self.screens
             .write(self.alloc, seen, Some(line.unwrap_or(&[])))?;
@@ -77,7 +77,7 @@ impl Operator for Typist<'_> {
         }
     }
 
-    fn end(&mut self, seen: &View<'_>) -> Result<(), OperatorFailed> {
+    fn end(&mut self, seen: &Scene<'_>) -> Result<(), OperatorFailed> {
         self.screens.write(self.alloc, seen, None)
     }
 }

@@ -12,13 +12,13 @@ abbrev pub name_of : Option TableShape → List ℕ
 name_of None = []
 name_of (Some t) = t.name.items
 
-abbrev pub Tells : Shape → End → How → Type 0
-Tells shape EndFinished Finished = Unit {0}
-Tells shape EndSpent Spent = Unit {0}
-Tells shape (EndFull table) (Full name) = name.items ≡ name_of (slice_get shape.tables table)
-Tells shape EndNoMemory NoMemory = Unit {0}
-Tells shape (EndFault kind at) (Fault told place) = (told ≡ kind) × (place ≡ at)
-Tells shape _ _ = ⊥
+abbrev pub TellsHow : Shape → End → How → Type 0
+TellsHow shape EndFinished Finished = Unit {0}
+TellsHow shape EndSpent Spent = Unit {0}
+TellsHow shape (EndFull table) (Full name) = name.items ≡ name_of (slice_get shape.tables table)
+TellsHow shape EndNoMemory NoMemory = Unit {0}
+TellsHow shape (EndFault kind at) (Fault told place) = (told ≡ kind) × (place ≡ at)
+TellsHow shape _ _ = ⊥
 
 -- whether a run that ended so saves its tables: each run does, or only a finished one
 abbrev pub is_saved : Bool → How → Bool

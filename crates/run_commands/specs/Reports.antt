@@ -11,7 +11,7 @@ use Rattle.run_commands.specs.declared.ending.Ended.{Ended}
 use Rattle.run_commands.specs.declared.job.Job.{Job}
 use Rattle.run_commands.specs.declared.refusal.RunRefusal.{RunRefusal}
 use Rattle.run_commands.specs.declared.refusal.RunRefusal.TheVariants.{File, Rule, Disk, Tables, Memory}
-use Rattle.run_commands.specs.Endings.{Tells}
+use Rattle.run_commands.specs.Endings.{TellsHow}
 use Rattle.run_commands.specs.Runs.{IsRun, IsSoundRun}
 use Rattle.run_steps.specs.declared.ending.Outcome.{Outcome}
 use Rattle.shape.specs.declared.whole.Shape.{Shape}
@@ -26,7 +26,7 @@ use Rattle.work_area.specs.Areas.{StoreState}
 
 -- the end is told with its cost
 pub record IsTold (shape : Shape) (outcome : Outcome) (ended : Ended) : Type 0 where
-  pub how : Tells shape outcome.end ended.how
+  pub how : TellsHow shape outcome.end ended.how
   pub steps : ended.steps ≡ outcome.steps
 
 -- a run of the code, tested at each instruction, over the tables that the files hold, that ended so and printed these

@@ -33,7 +33,7 @@ use xverify::Verified;
 /// What a conversation reports: the bytes for printing, none where there was no run, and how the run ended, or why it
 /// didn't, or why its tables aren't all saved.
 #[derive(Drop)]
-pub struct Operation {
+pub struct OperationReport {
     pub rows: Vec<u8>,
     pub result: Result<Ended, OperateRefusal>,
 }
@@ -236,7 +236,7 @@ pub fn operate_files<F: Files, J: Journal, O: Operator>(
     job: &Job<'_>,
     journal: &mut J,
     operator: &mut O,
-) -> Operation
+) -> OperationReport
     requires untested { job.now.checked ≡ false }
     requires held { J.holds journal.old ≡ job.now.input.now }
     ensures run { IfOk result.result (λ ended. (whole : AnyJob) → IsWith job.now (J.holds journal.new) whole
@@ -247,17 +247,17 @@ pub fn operate_files<F: Files, J: Journal, O: Operator>(
         (Rose (F.failed files.old) (F.failed files.new)) refusal result.rows.items) }
 {
     if !can_go_on(job.input) {
-        return Operation {
+        return OperationReport {
             rows: Vec::new(alloc),
             result: Err(OperateRefusal::Handed),
         };
     }
     match operate_read(alloc, files, job, journal, operator) {
-        Ok(report) => Operation {
+        Ok(report) => OperationReport {
             rows: report.rows,
             result: told(report.result),
         },
-        Err(refusal) => Operation {
+        Err(refusal) => OperationReport {
             rows: Vec::new(alloc),
             result: Err(refusal),
         },

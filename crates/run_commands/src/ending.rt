@@ -2,7 +2,7 @@
 #![tactic(auto)]
 
 ghost use Rattle.std.specs.Prelude.{◌≡◌, slice_get};
-ghost use Rattle.run_commands.specs.Endings.{name_of, is_saved, Tells};
+ghost use Rattle.run_commands.specs.Endings.{name_of, is_saved, TellsHow};
 
 use file_commands::Status;
 use run_steps::{End, FaultKind, Outcome};
@@ -51,7 +51,7 @@ fn name_of(shape: &Shape, table: u16) -> Name
 
 /// How a run of a code with this shape ended, as it is told.
 pub(crate) fn ended_of(outcome: Outcome, shape: &Shape) -> Ended
-    ensures how { Tells shape.now outcome.end result.how }
+    ensures how { TellsHow shape.now outcome.end result.how }
     ensures steps { result.steps ≡ outcome.steps }
 {
     let how = match outcome.end {

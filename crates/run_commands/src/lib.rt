@@ -14,7 +14,7 @@ mod rehearsed_talk;
 mod rehearsing;
 mod running;
 
-pub use crate::conversation::{OperateRefusal, Operation, operate_files};
+pub use crate::conversation::{OperateRefusal, OperationReport, operate_files};
 pub use crate::ending::{Ended, How};
 pub use crate::job::{Job, RecordLimit, RunDay};
 pub use crate::refusal::{RunRefusal, ToldRefusal};

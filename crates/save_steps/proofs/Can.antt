@@ -8,7 +8,7 @@ use Rattle.save_steps.specs.declared.steps.Paper.TheVariants.{Absent, Plan, Note
 use Rattle.save_steps.specs.declared.steps.Step.{Step}
 use Rattle.save_steps.specs.declared.steps.Step.TheVariants.{WritePlan, Make, Sync, WriteNote, Place, Unmake, RemovePaper, RemoveDraft}
 use Rattle.save_steps.specs.Folders.{Files, Stands, Renewal, AreApart, Same, IsPut, IsRenamed, IsPlacing, Did, DidAll}
-use Rattle.save_steps.specs.Steps.{for_each, makes, places, unmakes, plan_steps, place_steps, save_steps, back_steps, on_steps, without_steps}
+use Rattle.save_steps.specs.Steps.{for_each, make_steps, places, unmakes, plan_steps, place_steps, save_steps, back_steps, on_steps, without_steps}
 use Rattle.save_steps.proofs.Runs.{all_and}
 
 same_bytes : (s : List ℕ) → bytes_eq s s ≡ true
@@ -112,7 +112,7 @@ without_within n = (tt, tt)
 pub save_within : (n : ℕ) → AllByRecursion (IsWithin n) (save_steps n)
 save_within n = (
   tt,
-  all_and (IsWithin n) (makes n ++ Sync ∷ []) (WriteNote ∷ place_steps n)
-      (all_and (IsWithin n) (makes n) (Sync ∷ []) (within_each n Make n (omega arith) (λ k below. below)) (tt, tt))
+  all_and (IsWithin n) (make_steps n ++ Sync ∷ []) (WriteNote ∷ place_steps n)
+      (all_and (IsWithin n) (make_steps n) (Sync ∷ []) (within_each n Make n (omega arith) (λ k below. below)) (tt, tt))
       (tt, place_within n),
 )

@@ -13,7 +13,7 @@ use Rattle.save_steps.specs.declared.steps.Step.TheVariants.{WritePlan, Make, Sy
 use Rattle.save_steps.specs.Finishing.{finish_of, is_foreign}
 use Rattle.save_steps.specs.Folders.{Stands, Renewal, AreApart, Same, Did, DidAll, MayLeave, StopsAt}
 use Rattle.save_steps.specs.Points.{IsReady, IsAllOld, IsPlaced, IsAllNew, slot_now, next_steps, StopsAgain, NextEnds, IsAllOrNothing}
-use Rattle.save_steps.specs.Steps.{for_each, makes, places, unmakes, plan_steps, place_steps, save_steps, back_steps, on_steps, without_steps}
+use Rattle.save_steps.specs.Steps.{for_each, make_steps, places, unmakes, plan_steps, place_steps, save_steps, back_steps, on_steps, without_steps}
 use Rattle.save_steps.proofs.Runs.{did_cut, stops_cut, KeepsWhole, Keeps, all_and, all_each, did_keeps, stops_keeps}
 use Rattle.save_steps.proofs.Can.{can_all, on_within, back_within, without_within, save_within}
 use Rattle.save_steps.proofs.Judged.{waits, is_placed, none_foreign}
@@ -283,20 +283,20 @@ module _ (sum : List ℕ → List ℕ) (cs : List Renewal) (start : Stands) wher
       plan_stops t (inl (inl (paper, same))) = inl (old_same cs start start t begins paper same)
       plan_stops t (inl (inr (paper, draft, same))) = inr (planned_now t paper same)
       plan_stops t (inr (m, (paper, draft, same), rest)) =
-          inr (stops_keeps cs (IsPlanned cs start) (makes (length cs) ++ Sync ∷ []) m t
-          (all_and (Keeps cs (IsPlanned cs start)) (makes (length cs)) (Sync ∷ [])
+          inr (stops_keeps cs (IsPlanned cs start) (make_steps (length cs) ++ Sync ∷ []) m t
+          (all_and (Keeps cs (IsPlanned cs start)) (make_steps (length cs)) (Sync ∷ [])
           (all_each (Keeps cs (IsPlanned cs start)) Make (length cs) (make_keeps cs start)) (sync_keeps cs start, tt))
           (planned_now m paper same) rest)
 
       plan_whole : (t : Stands) → DidAll cs (plan_steps (length cs)) start t
           → IsPlanned cs start t × HoldBeside cs (λ c. Some c.new) (length cs) t
       plan_whole t (m, (paper, draft, same), rest) =
-          made (did_cut cs (makes (length cs)) (Sync ∷ []) m t rest)
+          made (did_cut cs (make_steps (length cs)) (Sync ∷ []) m t rest)
         where
-          made : (w : Stands) × DidAll cs (makes (length cs)) m w × DidAll cs (Sync ∷ []) w t
+          made : (w : Stands) × DidAll cs (make_steps (length cs)) m w × DidAll cs (Sync ∷ []) w t
               → IsPlanned cs start t × HoldBeside cs (λ c. Some c.new) (length cs) t
           made (w, all, (v, (papers, alike), e)) =
-              let planned : IsPlanned cs start w = did_keeps cs (IsPlanned cs start) (makes (length cs)) m w
+              let planned : IsPlanned cs start w = did_keeps cs (IsPlanned cs start) (make_steps (length cs)) m w
               (all_each (KeepsWhole cs (IsPlanned cs start)) Make (length cs) (λ k a b q did. make_keeps cs start k a b q (inr did)))
               (planned_now m paper same) all in
               let held : HoldBeside cs (λ c. Some c.new) (length cs) w = all_made cs start apart (length cs) m w all in

@@ -13,7 +13,7 @@ use Rattle.save_steps.specs.declared.steps.Step.TheVariants.{WritePlan, Make, Sy
 use Rattle.save_steps.specs.Finishing.{finish_of, is_foreign}
 use Rattle.save_steps.specs.Folders.{Files, Stands, Renewal, AreApart, Same, IsPut, IsRenamed, IsPlacing, Did, DidAll, MayLeave, StopsAt}
 use Rattle.save_steps.specs.Points.{IsNoNew, IsElse, IsReady, IsAllOld, IsPlaced, IsAllNew, slot_now, next_steps, StopsAgain, NextEnds, IsAllOrNothing}
-use Rattle.save_steps.specs.Steps.{for_each, makes, places, unmakes, plan_steps, place_steps, save_steps, back_steps, on_steps, without_steps}
+use Rattle.save_steps.specs.Steps.{for_each, make_steps, places, unmakes, plan_steps, place_steps, save_steps, back_steps, on_steps, without_steps}
 use Rattle.save_steps.proofs.Runs.{did_cut, stops_cut, KeepsWhole, Keeps, all_and, all_each, did_keeps, stops_keeps}
 use Rattle.save_steps.proofs.Judged.{waits, is_placed, none_foreign}
 
@@ -131,10 +131,10 @@ module _ (cs : List Renewal) (start : Stands) where
       | inr ne ↦ put.others c.beside (apart.besides k n c b here at ne) ∙ h k c (omega arith) here
     ]
 
-    pub all_made : (n : ℕ) (s t : Stands) → DidAll cs (makes n) s t → HoldBeside cs (λ c. Some c.new) n t
+    pub all_made : (n : ℕ) (s t : Stands) → DidAll cs (make_steps n) s t → HoldBeside cs (λ c. Some c.new) n t
     all_made zero s t h = λ k c below at. absurd (omega arith)
     all_made (suc n) s t h =
-        let cut = did_cut cs (makes n) (Make n ∷ []) s t h in
+        let cut = did_cut cs (make_steps n) (Make n ∷ []) s t h in
         let last = cut.2 in
         let more : HoldBeside cs (λ c. Some c.new) (suc n) last.0 =
         one_more (λ c. Some c.new) n cut.0 last.0 last.1.1.0 (all_made n s cut.0 cut.1) last.1.1.1 last.1.1.2 in

@@ -9,8 +9,8 @@ abbrev pub for_each : (ℕ → Step) → ℕ → List Step
 for_each step zero = []
 for_each step (suc n) = for_each step n ++ step n ∷ []
 
-abbrev pub makes : ℕ → List Step
-makes n = for_each Make n
+abbrev pub make_steps : ℕ → List Step
+make_steps n = for_each Make n
 
 abbrev pub places : ℕ → List Step
 places n = for_each Place n
@@ -20,7 +20,7 @@ unmakes n = for_each Unmake n
 
 -- to the note: the plan, and the new files
 abbrev pub plan_steps : ℕ → List Step
-plan_steps n = WritePlan ∷ makes n ++ Sync ∷ []
+plan_steps n = WritePlan ∷ make_steps n ++ Sync ∷ []
 
 -- behind the note: each new file in its file's place, and the note removed
 abbrev pub place_steps : ℕ → List Step

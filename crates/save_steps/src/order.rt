@@ -2,7 +2,7 @@
 
 ghost use Rattle.std.specs.Prelude.{◌≡◌, ◌++◌, IfOk, OnOk};
 ghost use Rattle.std.specs.Option.{option_map};
-ghost use Rattle.save_steps.specs.Steps.{places, unmakes, makes, save_steps, place_steps, back_steps, on_steps};
+ghost use Rattle.save_steps.specs.Steps.{places, unmakes, make_steps, save_steps, place_steps, back_steps, on_steps};
 ghost use Rattle.save_steps.specs.Steps.{without_steps};
 ghost use Rattle.save_steps.specs.Finishing.{finish_of};
 
@@ -12,7 +12,7 @@ use std::alloc::{AllocError, Global};
 
 /// Adds the making of so many new files.
 fn push_makes(steps: &mut Vec<Step>, count: usize) -> Result<(), AllocError>
-    ensures { OnOk result (steps.new.items ≡ steps.old.items ++ makes count) }
+    ensures { OnOk result (steps.new.items ≡ steps.old.items ++ make_steps count) }
 {
     for k in 0..count {
         steps.push(Step::Make(k))?;

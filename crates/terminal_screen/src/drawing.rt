@@ -28,7 +28,7 @@ pub struct Drawing<'a> {
     /// The rows that were sent out since the last drawing, each with LF. They go to the terminal's scrollback.
     pub sent: &'a [u8],
     pub rows: &'a [[u8; 80]],
-    pub fields: &'a [Field],
+    pub fields: &'a [ShownField],
     /// Row and column of the cursor.
     pub cursor: (usize, usize),
     pub window: Window,
@@ -39,12 +39,12 @@ pub struct Drawing<'a> {
 }
 
 /// Whether a place of the screen is in a field that waits.
-fn is_marked(fields: &[Field], row: usize, column: usize) -> bool {
+fn is_marked(fields: &[ShownField], row: usize, column: usize) -> bool {
     fields.iter().any(|field| field.has(row, column))
 }
 
 /// How many cells of a row are drawn: those up to its last byte that isn't blank, and up to the end of its last field.
-fn used(row: &[u8; 80], fields: &[Field], number: usize) -> usize {
+fn used(row: &[u8; 80], fields: &[ShownField], number: usize) -> usize {
     let mut end = 0;
     for (column, byte) in row.iter().enumerate() {
         if *byte != b' ' || is_marked(fields, number, column) {

@@ -2,7 +2,7 @@
 
 /// A field of the screen: where a GET shows its value.
 #[derive(Clone, Copy, PartialEq, Eq, Debug)]
-pub struct Field {
+pub struct ShownField {
     /// Its row, from 0.
     pub row: usize,
     /// Its first column, from 0.
@@ -11,7 +11,7 @@ pub struct Field {
     pub length: usize,
 }
 
-impl Field {
+impl ShownField {
     /// Whether a place of the screen lies in it.
     pub fn has(&self, row: usize, column: usize) -> bool {
         row == self.row && column >= self.column && column - self.column < self.length
@@ -19,7 +19,7 @@ impl Field {
 }
 
 /// Lays an answer over a field of the rows: cut at the field's end, with blanks behind it.
-pub fn lay_over(rows: &mut [[u8; 80]], field: Field, answer: &[u8]) {
+pub fn lay_over(rows: &mut [[u8; 80]], field: ShownField, answer: &[u8]) {
     let Some(row) = rows.get_mut(field.row) else {
         return;
     };

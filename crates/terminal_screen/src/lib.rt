@@ -8,5 +8,5 @@ mod fields;
 mod printable;
 
 pub use drawing::{Drawing, Window, drawn, plain_lines};
-pub use fields::{Field, lay_over};
+pub use fields::{ShownField, lay_over};
 pub use printable::put_shown;
