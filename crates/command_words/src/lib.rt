@@ -1,10 +1,10 @@
 //! The words of the command line: what they ask the program for, and its help.
 #![tactic(auto)]
 
-mod operating;
+mod operate_words;
 mod words;
 
-pub use operating::{OperateWords, ShownWords, TalkWords, WindowWords, window_named};
+pub use operate_words::{OperateWords, ShownWords, TalkWords, WindowWords, window_named};
 pub use words::{
     DEFAULT_BUDGET, Listing, Outcomes, RunWords, SaveWords, Words, WordsFault, command, sources_of,
     words_of,

@@ -1,7 +1,7 @@
 // The words of the command line.
 #![tactic(auto)]
 
-use crate::operating::{OperateWords, operate_of, operator, screens, screens_of};
+use crate::operate_words::{OperateWords, operate_of, operator, screens, screens_of};
 use clap::{Arg, ArgAction, ArgMatches, Command, value_parser};
 use code_pages::CodePage;
 use run_commands::{Job, RecordLimit, RunDay};

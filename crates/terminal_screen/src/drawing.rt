@@ -1,6 +1,6 @@
 //! What a terminal is sent to show rows.
 
-use crate::fields::Field;
+use crate::fields::ShownField;
 use crate::printable::put_shown;
 use code_pages::CodePage;
 use std::alloc::{AllocError, Global};
