@@ -98,7 +98,7 @@ fn is_as_said(alloc: Global, report: &Report, case: &Case<'_>) -> Result<bool, A
 }
 
 /// The listing of a table or of an index; none where there is none.
-fn listing(alloc: Global, files: &mut MemoryFiles<'_>, name: &str) -> Option<Vec<u8>> {
+pub fn listing(alloc: Global, files: &mut MemoryFiles<'_>, name: &str) -> Option<Vec<u8>> {
     if name.ends_with(".NDX") {
         list_index(alloc, files, name).ok()
     } else {

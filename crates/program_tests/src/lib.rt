@@ -18,6 +18,8 @@ mod listings;
 #[cfg(test)]
 mod moves;
 #[cfg(test)]
+mod operated;
+#[cfg(test)]
 mod records;
 #[cfg(test)]
 mod resumed;

@@ -1,0 +1,417 @@
+// Conversations: an operator types the lines of a run while it goes on, and a journal keeps them.
+#![tactic(auto)]
+
+use super::cases::{CODE, Case, compiled, entries, listing, printing, run_case};
+use super::stored::day_of;
+use super::tables::table;
+use code_items::Code;
+use file_access::{MemoryEntry, MemoryFiles, WORKS_FOR_EVER};
+use line_journal::{Journal, JournalFailed};
+use operating::{Answer, Broken, Operator, OperatorFailed, Scene};
+use run_commands::{Job, OperateRefusal, RecordLimit, operate_files, rehearse_talk};
+use std::alloc::{AllocError, Global};
+use std::str;
+use std::test::Fail;
+
+/// A journal in memory that takes so many lines.
+#[derive(Drop)]
+struct Kept {
+    bytes: Vec<u8>,
+    room: usize,
+}
+
+impl Journal for Kept {
+    ghost holds = { λ journal. journal.bytes.items };
+
+    fn append(&mut self, bytes: &[u8]) -> Result<(), JournalFailed> {
+        if self.room == 0 || self.bytes.extend_from_slice(bytes).is_err() {
+            return Err(JournalFailed);
+        }
+        self.room -= 1;
+        Ok(())
+    }
+}
+
+/// Who types these lines, and then ends the input, or fails.
+#[derive(Drop)]
+struct Script<'a> {
+    alloc: Global,
+    lines: &'a [&'a str],
+    fails: bool,
+    /// The first row of the screen before each line, and at the end.
+    seen: Vec<[u8; 80]>,
+}
+
+impl Script<'_> {
+    fn look(&mut self, scene: &Scene<'_>) -> Result<(), OperatorFailed> {
+        let Some(row) = scene.screen.rows().first() else {
+            return Err(OperatorFailed);
+        };
+        match self.seen.push(*row) {
+            Ok(()) => Ok(()),
+            Err(_) => Err(OperatorFailed),
+        }
+    }
+}
+
+impl Operator for Script<'_> {
+    fn begin(&mut self, _: &Code) -> Result<Vec<bool>, OperatorFailed> {
+        Ok(Vec::new(self.alloc))
+    }
+
+    fn see(&mut self, _: &Scene<'_>) -> Result<(), OperatorFailed> {
+        Ok(())
+    }
+
+    fn ask(&mut self, scene: &Scene<'_>, _: usize) -> Result<Answer, OperatorFailed> {
+        self.look(scene)?;
+        let lines = self.lines;
+        let Some((line, rest)) = lines.split_first() else {
+            return if self.fails {
+                Err(OperatorFailed)
+            } else {
+                Ok(Answer::End)
+            };
+        };
+        self.lines = rest;
+        match Vec::from_slice(self.alloc, line.as_bytes()) {
+            Ok(line) => Ok(Answer::Line(line)),
+            Err(_) => Err(OperatorFailed),
+        }
+    }
+
+    fn end(&mut self, scene: &Scene<'_>) -> Result<(), OperatorFailed> {
+        self.look(scene)
+    }
+}
+
+/// Who types the lines of a case, and how many the journal takes.
+#[derive(Clone, Copy)]
+struct Typing<'a> {
+    /// What the journal holds at the beginning.
+    handed: &'a str,
+    lines: &'a [&'a str],
+    /// Whether the operator fails behind these lines.
+    fails: bool,
+    room: usize,
+}
+
+/// Lines that are typed, where nothing fails.
+fn typed_in<'a>(handed: &'a str, lines: &'a [&'a str]) -> Typing<'a> {
+    Typing {
+        handed,
+        lines,
+        fails: false,
+        room: 100,
+    }
+}
+
+/// What came of a conversation.
+#[derive(Drop)]
+struct Came {
+    rows: Vec<u8>,
+    /// How it ended, or why it didn't.
+    told: String,
+    /// What the journal holds.
+    kept: Vec<u8>,
+    /// How many screens were seen.
+    screens: usize,
+}
+
+/// Why a conversation saved nothing, in words.
+fn why(alloc: Global, refusal: &OperateRefusal) -> Result<String, AllocError> {
+    match refusal {
+        OperateRefusal::Run(refusal) => refusal.told(CODE).to_string(alloc),
+        OperateRefusal::Broke(Broken::Operator) => String::from_str(alloc, "operator"),
+        OperateRefusal::Broke(Broken::Journal) => String::from_str(alloc, "journal"),
+        OperateRefusal::Broke(Broken::Line) => String::from_str(alloc, "line"),
+        OperateRefusal::Broke(Broken::Memory) => String::from_str(alloc, "memory"),
+        OperateRefusal::Handed => String::from_str(alloc, "handed"),
+    }
+}
+
+/// Carries out the code of a case in conversation, or rehearses it.
+fn operated(
+    alloc: Global,
+    files: &mut MemoryFiles<'_>,
+    case: &Case<'_>,
+    typing: Typing<'_>,
+    rehearsed: bool,
+) -> Result<Option<Came>, AllocError> {
+    let (Some(limit), Some(day)) = (RecordLimit::of(case.limit), day_of(1985, 1, 1)) else {
+        return Ok(None);
+    };
+    let job = Job {
+        name: CODE,
+        checked: false,
+        budget: case.budget,
+        limit,
+        day,
+        input: typing.handed.as_bytes(),
+    };
+    let mut journal = Kept {
+        bytes: Vec::from_slice(alloc, typing.handed.as_bytes())?,
+        room: typing.room,
+    };
+    let mut script = Script {
+        alloc,
+        lines: typing.lines,
+        fails: typing.fails,
+        seen: Vec::new(alloc),
+    };
+    let (rows, told) = if rehearsed {
+        match rehearse_talk(alloc, files, &job, &mut journal, &mut script) {
+            Ok(done) => {
+                let told = done.to_string(alloc)?;
+                (done.rows, told)
+            }
+            Err(refusal) => (Vec::new(alloc), why(alloc, &refusal)?),
+        }
+    } else {
+        let done = operate_files(alloc, files, &job, &mut journal, &mut script);
+        let told = match &done.result {
+            Ok(ended) => ended.to_string(alloc)?,
+            Err(refusal) => why(alloc, refusal)?,
+        };
+        (done.rows, told)
+    };
+    Ok(Some(Came {
+        rows,
+        told,
+        kept: journal.bytes,
+        screens: script.seen.len(),
+    }))
+}
+
+/// What a conversation is to come to.
+#[derive(Clone, Copy)]
+struct Wanted<'a> {
+    rows: &'a str,
+    told: &'a str,
+    kept: &'a str,
+    screens: usize,
+    /// The listing of CUST behind it.
+    listed: &'a str,
+}
+
+const NONE: &str = "NAME C 10 0\nrecords 0\n";
+
+const ANN: &str = "NAME C 10 0\nrecords 1\n      1   Ann       \n";
+
+/// A customer of the name that is typed, and a second line that is only printed.
+fn asking() -> Case<'static> {
+    Case {
+        declarations: "TABLE CUST\n",
+        ..printing(
+            "USE CUST\nACCEPT \"Name? \" TO N\nAPPEND BLANK\nREPLACE NAME WITH N\nACCEPT \"More? \" TO M\n? LEN(M)\n",
+            "",
+            "",
+        )
+    }
+}
+
+/// The files of a case, and the table CUST.
+fn entries_with<'a>(
+    alloc: Global,
+    case: &Case<'a>,
+    cust: &'a [u8],
+) -> Result<Vec<MemoryEntry<'a>>, AllocError> {
+    let mut entries = entries(alloc, case)?;
+    entries.push(MemoryEntry {
+        name: "CUST.DBF",
+        bytes: cust,
+    })?;
+    Ok(entries)
+}
+
+/// What a run of a case over an empty table prints, and how it ends.
+fn as_a_run(alloc: Global, case: &Case<'_>) -> Result<Option<(Vec<u8>, String)>, AllocError> {
+    let bytes = table(alloc, &[(b"NAME", b'C', 10, 0)], &[])?;
+    let entries = entries_with(alloc, case, bytes.as_slice())?;
+    let mut files = MemoryFiles::new(alloc, entries.as_slice(), WORKS_FOR_EVER);
+    if !compiled(alloc, &mut files) {
+        return Ok(None);
+    }
+    let Some(report) = run_case(alloc, &mut files, case, false) else {
+        return Ok(None);
+    };
+    match report.result {
+        Ok(ended) => Ok(Some((report.rows, ended.to_string(alloc)?))),
+        Err(_) => Ok(None),
+    }
+}
+
+/// What isn't as wanted of a conversation over an empty table: nothing, or a word for it.
+fn wrong_in_talk<'a>(
+    alloc: Global,
+    case: &Case<'a>,
+    typing: Typing<'_>,
+    rehearsed: bool,
+    wanted: Wanted<'_>,
+) -> Result<Option<&'a str>, AllocError> {
+    let bytes = table(alloc, &[(b"NAME", b'C', 10, 0)], &[])?;
+    let entries = entries_with(alloc, case, bytes.as_slice())?;
+    let mut files = MemoryFiles::new(alloc, entries.as_slice(), WORKS_FOR_EVER);
+    if !compiled(alloc, &mut files) {
+        return Ok(Some("compile"));
+    }
+    let Some(came) = operated(alloc, &mut files, case, typing, rehearsed)? else {
+        return Ok(Some("job"));
+    };
+    let listed = listing(alloc, &mut files, "CUST.DBF");
+    Ok(if came.rows.as_slice() != wanted.rows.as_bytes() {
+        Some("rows")
+    } else if came.told.as_str() != wanted.told {
+        Some("told")
+    } else if came.kept.as_slice() != wanted.kept.as_bytes() {
+        Some("kept")
+    } else if came.screens != wanted.screens {
+        Some("screens")
+    } else {
+        match listed {
+            Some(lines) if lines.as_slice() == wanted.listed.as_bytes() => None,
+            _ => Some("listed"),
+        }
+    })
+}
+
+/// A conversation, one of whose lines stood in the journal, prints and saves what a run over all its lines does.
+#[test]
+fn runs_over_the_lines_of_its_journal(rt: HostRuntime) -> Result<(), Fail> {
+    let case = Case {
+        typed: "Ann\nmuch\n",
+        ..asking()
+    };
+    let (rows, told) = as_a_run(rt.alloc(), &case)?.ok_or("run")?;
+    for (handed, lines, screens) in [
+        ("", ["Ann", "much"].as_slice(), 3),
+        ("Ann\n", ["much"].as_slice(), 2),
+        ("Ann\nmuch\n", [].as_slice(), 1),
+    ] {
+        let wanted = Wanted {
+            rows: str::from_utf8(rows.as_slice())?,
+            told: told.as_str(),
+            kept: "Ann\nmuch\n",
+            screens,
+            listed: ANN,
+        };
+        let wrong = wrong_in_talk(rt.alloc(), &case, typed_in(handed, lines), false, wanted)?;
+        assert_eq!(rt; wrong, None);
+    }
+    Ok(())
+}
+
+/// Behind the end of the input each line is empty.
+#[test]
+fn goes_on_behind_the_end_of_the_input(rt: HostRuntime) -> Result<(), Fail> {
+    let case = printing("ACCEPT \"Name? \" TO N\n? LEN(N)\n", "", "");
+    let wanted = Wanted {
+        rows: "Name?\n         0\n",
+        told: "finished 10",
+        kept: "",
+        screens: 2,
+        listed: NONE,
+    };
+    let wrong = wrong_in_talk(rt.alloc(), &case, typed_in("", &[]), false, wanted)?;
+    assert_eq!(rt; wrong, None);
+    Ok(())
+}
+
+/// Where the operator or the journal fails, nothing is printed or saved; the lines before it are kept.
+#[test]
+fn saves_nothing_where_it_breaks(rt: HostRuntime) -> Result<(), Fail> {
+    let fine = typed_in("", &["Ann"]);
+    let none = Wanted {
+        rows: "",
+        told: "operator",
+        kept: "Ann\n",
+        screens: 2,
+        listed: NONE,
+    };
+    let tries = [
+        (
+            Typing {
+                fails: true,
+                ..fine
+            },
+            none,
+        ),
+        (
+            Typing { room: 0, ..fine },
+            Wanted {
+                told: "journal",
+                kept: "",
+                screens: 1,
+                ..none
+            },
+        ),
+        (
+            typed_in("", &["An\nn"]),
+            Wanted {
+                told: "line",
+                kept: "",
+                screens: 1,
+                ..none
+            },
+        ),
+        (
+            typed_in("Ann", &[]),
+            Wanted {
+                told: "handed",
+                kept: "Ann",
+                screens: 0,
+                ..none
+            },
+        ),
+    ];
+    for (typing, wanted) in tries {
+        let wrong = wrong_in_talk(rt.alloc(), &asking(), typing, false, wanted)?;
+        assert_eq!(rt; wrong, None);
+    }
+    Ok(())
+}
+
+/// Whether the budget is spent is judged before a line is asked for.
+#[test]
+fn is_spent_before_it_asks(rt: HostRuntime) -> Result<(), Fail> {
+    let case = Case {
+        budget: 1,
+        ..printing("ACCEPT \"Name? \" TO N\n", "", "")
+    };
+    let wanted = Wanted {
+        rows: "",
+        told: "spent 1",
+        kept: "",
+        screens: 1,
+        listed: NONE,
+    };
+    let wrong = wrong_in_talk(rt.alloc(), &case, typed_in("", &["Ann"]), false, wanted)?;
+    assert_eq!(rt; wrong, None);
+    Ok(())
+}
+
+/// A rehearsal in conversation saves nothing, and tells what would be saved.
+#[test]
+fn rehearses(rt: HostRuntime) -> Result<(), Fail> {
+    let case = Case {
+        typed: "Ann\nmuch\n",
+        ..asking()
+    };
+    let (rows, _) = as_a_run(rt.alloc(), &case)?.ok_or("run")?;
+    let wanted = Wanted {
+        rows: str::from_utf8(rows.as_slice())?,
+        told: "CUST 0 -> 1 records, 1 added\n",
+        kept: "Ann\nmuch\n",
+        screens: 3,
+        listed: NONE,
+    };
+    let wrong = wrong_in_talk(
+        rt.alloc(),
+        &case,
+        typed_in("", &["Ann", "much"]),
+        true,
+        wanted,
+    )?;
+    assert_eq!(rt; wrong, None);
+    Ok(())
+}
