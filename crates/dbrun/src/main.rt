@@ -713,8 +713,8 @@ fn declare_folder<R: Runtime<A = Global, File = File>>(rt: &R, audience: Audienc
 }
 
 /// Refuses a folder for copies that is neither absent nor empty.
-fn may_back_up<R: Runtime<A = Global>>(rt: &R, words: &RunWords<'_>) -> Result<(), WordsFault> {
-    if let Outcomes::Saved(save) = words.tables {
+pub fn may_back_up<R: Runtime<A = Global>>(rt: &R, tables: Outcomes<'_>) -> Result<(), WordsFault> {
+    if let Outcomes::Saved(save) = tables {
         if let Some(path) = save.backup {
             if !is_empty_folder(rt, path) {
                 return Err(WordsFault::Backup);
@@ -742,7 +742,7 @@ fn carry_out<R: Runtime<A = Global, File = File>>(
         Words::Compile { decl, out } => compile(rt, audience, decl, out, &*sources),
         Words::Faults { decl } => faults(rt, audience, decl, &*sources),
         Words::Run(words) => {
-            may_back_up(rt, words)?;
+            may_back_up(rt, words.tables)?;
             may_show(words)?;
             Ok(run(rt, audience, words))
         }

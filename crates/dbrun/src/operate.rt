@@ -5,7 +5,9 @@ ghost use Rattle.std.specs.Prelude.{◌≡◌, false};
 
 use crate::screens::{is_free_name, screens_to};
 use crate::shown::{Audience, Progress, of_end};
-use crate::{finish_before, folder, hindered, print_bytes, refuse, tell_hindered, tell_unsaved};
+use crate::{
+    finish_before, folder, hindered, may_back_up, print_bytes, refuse, tell_hindered, tell_unsaved,
+};
 use command_words::{
     DEFAULT_BUDGET, OperateWords, Outcomes, SaveWords, ShownWords, TalkWords, WordsFault,
 };
@@ -620,6 +622,7 @@ pub fn operate<R: Runtime<A = Global, File = File>>(
     let Some(asked) = &words.talk else {
         return Ok(go_on(rt, audience, words, &names));
     };
+    may_back_up(rt, asked.tables)?;
     let Some(talk) = talk_of(rt, audience, asked) else {
         return Err(WordsFault::Today);
     };

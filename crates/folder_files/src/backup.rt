@@ -1,7 +1,7 @@
 //! Copies of files in another folder.
 #![tactic(auto)]
 
-use crate::disk::{standing, sync_path};
+use crate::disk::{standing, sum_of_file, sync_path};
 use file_access::read_within;
 use std::alloc::{Alloc, Global};
 use std::fs;
@@ -40,9 +40,12 @@ pub(crate) fn make_folder<R: Disk>(rt: &R, path: &str) -> io::Result<()> {
     }
 }
 
-/// Copies a file, down to the device. A file that isn't there is none to copy.
+/// Copies a file, down to the device. A file that isn't there is none to copy, and a copy that holds the same stays.
 pub(crate) fn copy_file<R: Disk>(rt: &R, from: &str, to: &str) -> io::Result<()> {
     if standing(rt, from)?.is_none() {
+        return Ok(());
+    }
+    if standing(rt, to)?.is_some() && sum_of_file(rt, to)? == sum_of_file(rt, from)? {
         return Ok(());
     }
     fs::copy(rt, from, to)?;
