@@ -1,18 +1,12 @@
 //! Where ways end: RETURN, QUIT and CANCEL, LOOP and EXIT, and the end of a procedure; and the commands of one line.
 
+use crate::steps::Leaps;
 use code_items::State;
 use prg_code::{CompileError, CompileFaultKind, CompileRefusal, Work, is_selection_same, merged};
-use prg_commands::{may_stand_before_read, put_statement};
+use prg_commands::put_statement;
 use prg_line::Statement;
 use prg_writer::Writer;
 use shape::Shape;
-
-/// Where LOOP and EXIT of the innermost loop lead: the numbers of labels.
-#[derive(Clone, Copy, Debug, PartialEq, Eq)]
-pub struct Leaps {
-    pub again: usize,
-    pub out: usize,
-}
 
 /// What is known where the procedure returns, when it does so here too. Merge where another area is selected.
 fn exit_with(work: &Work) -> Result<State, CompileError> {
@@ -58,7 +52,8 @@ fn out_of(leaps: Option<Leaps>) -> Option<usize> {
     }
 }
 
-fn put(
+/// Puts the code of a command of one line that calls no procedure.
+pub fn put(
     shape: &Shape,
     w: &mut Writer,
     leaps: Option<Leaps>,
@@ -72,21 +67,6 @@ fn put(
         Statement::Quit | Statement::Cancel => w.work.block.put_end(),
         _ => put_statement(shape, &mut w.out, &mut w.work, line, statement),
     }
-}
-
-/// Puts the code of a command of one line that calls no procedure. Get where a READ is awaited and it may not stand.
-pub fn plain(
-    shape: &Shape,
-    w: &mut Writer,
-    leaps: Option<Leaps>,
-    line: usize,
-    statement: &Statement,
-) -> Result<(), CompileRefusal> {
-    if !may_stand_before_read(statement) {
-        no_get_waits(w, line)?;
-    }
-    let result = put(shape, w, leaps, line, statement);
-    w.told(line, result)
 }
 
 /// Get at this line where a READ is awaited. Where faults are listed, none is awaited any more.
