@@ -1,7 +1,7 @@
 //! IF and DO CASE.
 
 use crate::body::{Behind, Body};
-use crate::steps::{Leaps, jump, new_label, place, put_condition};
+use crate::steps::{Leaps, Span, jump, new_label, place, put_condition};
 use prg_code::CompileRefusal;
 use prg_expr::Expr;
 use prg_parser::{Branch, Case, Command};
@@ -23,10 +23,10 @@ pub struct Choice<'a> {
 
 /// Commands for where a condition holds.
 #[derive(Clone, Copy)]
-pub struct Part<'a> {
-    pub line: usize,
-    pub condition: &'a Expr,
-    pub body: &'a [Command],
+struct Part<'a> {
+    line: usize,
+    condition: &'a Expr,
+    body: &'a [Command],
 }
 
 impl Choice<'_> {
@@ -45,15 +45,17 @@ impl Choice<'_> {
     }
 }
 
-/// Begins an IF that ends in this line.
+/// Begins an IF.
 pub fn open_if<'a>(
     s: &Source,
     w: &mut Writer,
     leaps: Option<Leaps>,
-    then: Part<'a>,
+    span: Span,
+    condition: &'a Expr,
+    then: &'a [Command],
     otherwise: &'a Option<Branch>,
-    end: usize,
-) -> Result<Body<'a>, CompileRefusal> {
+) -> Result<Option<Body<'a>>, CompileRefusal> {
+    let Span { first, end } = span;
     let out = match otherwise {
         Some(_) => Some(new_label(w, end)?),
         None => None,
@@ -65,10 +67,15 @@ pub fn open_if<'a>(
         out,
         leaps,
     };
-    open_part(s, w, choice, then)
+    let part = Part {
+        line: first,
+        condition,
+        body: then,
+    };
+    Ok(Some(open_part(s, w, choice, part)?))
 }
 
-/// Begins a DO CASE with these lines. None where it has no part.
+/// Begins a DO CASE that ends in this line. None where it has no part.
 pub fn open_do_case<'a>(
     s: &Source,
     w: &mut Writer,

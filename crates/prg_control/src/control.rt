@@ -8,7 +8,7 @@ ghost use Rattle.std.specs.Prelude.{◌≡◌, ◌+◌, ◌<◌};
 
 use crate::body::{Behind, Body};
 use crate::calling::{end_call, open_call};
-use crate::choices::{Part, end_choice, end_part, open_do_case, open_if};
+use crate::choices::{end_choice, end_part, open_do_case, open_if};
 use crate::ends::{no_get_waits, put};
 use crate::loops::{Test, end_round, open_loop};
 use crate::steps::{Leaps, Span};
@@ -92,8 +92,7 @@ fn put_command(
     Err(w.faulty(command.line, CompileFaultKind::Limit))
 }
 
-/// Puts what goes before the first commands within a command; the whole command where there are none. Get where a READ is
-/// awaited and the command may not stand.
+/// Puts what goes before the first commands within a command; the whole command where there are none.
 fn opened<'a>(
     s: &'a Source,
     w: &mut Writer,
@@ -101,9 +100,7 @@ fn opened<'a>(
     command: &'a Command,
 ) -> Result<Option<Body<'a>>, CompileRefusal> {
     let line = command.line;
-    if !may_wait(&command.form) {
-        no_get_waits(w, line)?;
-    }
+    may_begin(w, command)?;
     match &command.form {
         Form::Statement(statement) => open_statement(s, w, leaps, line, statement),
         Form::If {
@@ -112,12 +109,8 @@ fn opened<'a>(
             otherwise,
             end,
         } => {
-            let part = Part {
-                line,
-                condition,
-                body: then,
-            };
-            Ok(Some(open_if(s, w, leaps, part, otherwise, *end)?))
+            let span = Span::new(line, *end);
+            open_if(s, w, leaps, span, condition, then, otherwise)
         }
         Form::DoCase {
             cases,
@@ -128,32 +121,20 @@ fn opened<'a>(
             condition,
             body,
             end,
-        } => {
-            let span = Span {
-                first: line,
-                end: *end,
-            };
-            Ok(Some(open_loop(s, w, span, Test::While(condition), body)?))
-        }
+        } => open_loop(s, w, Span::new(line, *end), Test::While(condition), body),
         Form::Scan {
             condition,
             body,
             end,
-        } => {
-            let span = Span {
-                first: line,
-                end: *end,
-            };
-            Ok(Some(open_loop(s, w, span, Test::Rows(condition), body)?))
-        }
+        } => open_loop(s, w, Span::new(line, *end), Test::Rows(condition), body),
     }
 }
 
-/// Whether the command may stand between a GET and its READ, or is that READ.
-fn may_wait(form: &Form) -> bool {
-    match form {
-        Form::Statement(statement) => may_stand_before_read(statement),
-        _ => false,
+/// Get where a READ is awaited and the command may not stand before it.
+fn may_begin(w: &mut Writer, command: &Command) -> Result<(), CompileRefusal> {
+    match &command.form {
+        Form::Statement(statement) if may_stand_before_read(statement) => Ok(()),
+        _ => no_get_waits(w, command.line),
     }
 }
 

@@ -54,7 +54,7 @@ pub fn open_loop<'a>(
     span: Span,
     test: Test<'a>,
     body: &'a [Command],
-) -> Result<Body<'a>, CompileRefusal> {
+) -> Result<Option<Body<'a>>, CompileRefusal> {
     put_first_row(w, span.first, test)?;
     let mark = w.mark()?;
     let entry = w.work.block.state.copied(w.alloc)?;
@@ -68,7 +68,7 @@ pub fn open_loop<'a>(
         head: None,
         rounds: MOST_ROUNDS - 1,
     };
-    open_round(s, w, of)
+    Ok(Some(open_round(s, w, of)?))
 }
 
 /// Goes to the first row, for a SCAN in this line; a DO WHILE begins with nothing.

@@ -20,6 +20,12 @@ pub struct Span {
     pub end: usize,
 }
 
+impl Span {
+    pub fn new(first: usize, end: usize) -> Span {
+        Span { first, end }
+    }
+}
+
 /// A condition and a JUMPF to the label. Where faults are listed, a faulty condition counts as .T.
 pub fn put_condition(
     s: &Source,
