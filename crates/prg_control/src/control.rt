@@ -9,11 +9,11 @@ ghost use Rattle.std.specs.Prelude.{◌≡◌, ◌+◌, ◌<◌};
 use crate::body::{Behind, Body};
 use crate::calling::{end_call, open_call};
 use crate::choices::{end_choice, end_part, open_do_case, open_if};
-use crate::ends::{no_get_waits, put};
+use crate::ends::{again_of, leap, no_get_waits, out_of, put_return};
 use crate::loops::{Test, end_round, open_loop};
 use crate::steps::{Leaps, Span};
 use prg_code::{CompileFaultKind, CompileRefusal};
-use prg_commands::may_stand_before_read;
+use prg_commands::{Turn, may_stand_before_read, put_statement};
 use prg_line::Statement;
 use prg_parser::{Command, Form};
 use prg_writer::{Source, Writer};
@@ -73,7 +73,7 @@ fn put_command(
     if at.room == 0 {
         return Err(w.faulty(command.line, CompileFaultKind::Limit));
     }
-    let mut next = opened(s, w, at.leaps, command)?;
+    let mut next = opened(&*s, w, at.leaps, &*command)?;
     for _ in 0..u64::MAX {
         let Some(
             Body {
@@ -146,17 +146,19 @@ fn open_statement<'a>(
     line: usize,
     statement: &Statement,
 ) -> Result<Option<Body<'a>>, CompileRefusal> {
-    match statement {
-        Statement::Do {
-            procedure,
-            arguments,
-        } => open_call(s, w, line, procedure, arguments),
-        _ => {
-            let result = put(s.shape, w, leaps, line, statement);
-            w.told(line, result)?;
-            Ok(None)
-        }
-    }
+    let result = put_statement(s.shape, &mut w.out, &mut w.work, line, statement);
+    let Some(turn) = w.told(line, result)? else {
+        return Ok(None);
+    };
+    let result = match turn {
+        Turn::Call(procedure, arguments) => return open_call(s, w, line, procedure, arguments),
+        Turn::Again => leap(&mut w.work, again_of(leaps)),
+        Turn::Out => leap(&mut w.work, out_of(leaps)),
+        Turn::Return => put_return(&mut w.work),
+        Turn::End => w.work.block.put_end(),
+    };
+    w.told(line, result)?;
+    Ok(None)
 }
 
 /// Puts what goes behind commands, up to the next ones within the same command; none where the command ends.
