@@ -1,4 +1,4 @@
-//! Commands of one line: their code, but for LOOP and EXIT, the calls of procedures and the ends of ways.
+//! Commands of one line: their code, but for calls of procedures, LOOP and EXIT, RETURN, QUIT and CANCEL.
 #![tactic(auto)]
 
 mod areas;
@@ -10,6 +10,6 @@ mod values;
 mod variables;
 
 pub use moves::{put_skip_on, put_top};
-pub use statement::{may_stand_before_read, put_statement};
+pub use statement::{Turn, may_stand_before_read, put_statement};
 pub use values::{condition, put_constant, scope_of, value};
 pub use variables::{argument_slot, new_slot};

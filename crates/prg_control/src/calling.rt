@@ -1,7 +1,9 @@
-//! Calls of procedures, but for writing a copy.
+//! Calls of procedures, and the copies that are written for them.
 
+use crate::body::{Behind, Body};
+use crate::ends::end_procedure;
 use code_items::{FlowInstr, Instr, Name, State, ValueInstr};
-use prg_code::{Block, CompileError, CompileFaultKind, Names, Work, is_state_same};
+use prg_code::{Block, CompileError, CompileFaultKind, CompileRefusal, Names, Work, is_state_same};
 use prg_commands::{argument_slot, new_slot, value};
 use prg_parser::{Command, Expr, Procedure, Program};
 use prg_writer::{ProcedureCopy, Source, Target, Writer, parameters};
@@ -61,7 +63,7 @@ fn is_active(active: &[Target], target: Target) -> bool {
 
 /// What `DO name` runs with so many arguments: Name where nothing has the name, Recursion where it is being run,
 /// Parameters where it takes another number.
-pub fn target_of(
+fn target_of(
     s: &Source,
     w: &Writer,
     name: &[u8],
@@ -78,11 +80,23 @@ pub fn target_of(
     Ok(target)
 }
 
+/// A copy of a procedure that is being written where it is called first.
+#[derive(Drop)]
+pub struct OpenCopy {
+    /// The line of the call.
+    line: usize,
+    /// The line of the procedure's last command.
+    last: usize,
+    number: usize,
+    /// The copy that was being written before.
+    before: Work,
+}
+
 /// Arguments that are handed over: their slots in order, and those that are new.
 #[derive(Drop)]
-pub struct Handed {
-    pub slots: Vec<u8>,
-    pub own: Vec<u8>,
+struct Handed {
+    slots: Vec<u8>,
+    own: Vec<u8>,
 }
 
 /// Hands an argument over, and gives its slot.
@@ -107,7 +121,7 @@ fn hand_over(
 }
 
 /// Hands the arguments over.
-pub fn hand_all_over(s: &Source, w: &mut Writer, es: &[Expr]) -> Result<Handed, CompileError> {
+fn hand_all_over(s: &Source, w: &mut Writer, es: &[Expr]) -> Result<Handed, CompileError> {
     let mut handed = Handed {
         slots: Vec::new(w.alloc),
         own: Vec::new(w.alloc),
@@ -119,7 +133,7 @@ pub fn hand_all_over(s: &Source, w: &mut Writer, es: &[Expr]) -> Result<Handed, 
 }
 
 /// The variables that the called procedure sees: the caller's, and its parameters, which hide those of their names.
-pub fn names_in(w: &Writer, parameters: &[Name], slots: &[u8]) -> Result<Names, CompileError> {
+fn names_in(w: &Writer, parameters: &[Name], slots: &[u8]) -> Result<Names, CompileError> {
     let mut names = w.work.names.handed_on(w.alloc)?;
     for (name, slot) in parameters.iter().zip(slots.iter()) {
         names = names.without(w.alloc, name.as_slice())?;
@@ -136,7 +150,7 @@ fn is_copy(copy: &ProcedureCopy, target: Target, names: &Names, state: &State) -
 }
 
 /// The copy of the procedure for these names and what is known here, if it is written.
-pub fn copy_for(w: &Writer, target: Target, names: &Names) -> Option<usize> {
+fn copy_for(w: &Writer, target: Target, names: &Names) -> Option<usize> {
     for (number, copy) in w.copies.iter().enumerate() {
         if is_copy(copy, target, names, &w.work.block.state) {
             return Some(number);
@@ -147,7 +161,7 @@ pub fn copy_for(w: &Writer, target: Target, names: &Names) -> Option<usize> {
 
 /// Begins a copy with these names and what is known here: Copies where there are too many, Limit where there are too
 /// many calls within one another. Gives its number and the copy that was being written.
-pub fn begin_copy(
+fn begin_copy(
     w: &mut Writer,
     target: Target,
     names: Names,
@@ -232,7 +246,7 @@ fn level_of(w: &Writer, number: usize) -> u8 {
 }
 
 /// Puts the CALL. Limit where the calls within it are too many together with those around it.
-pub fn put_call(w: &mut Writer, number: usize) -> Result<(), CompileError> {
+fn put_call(w: &mut Writer, number: usize) -> Result<(), CompileError> {
     let level = level_of(w, number);
     if w.active.len().saturating_add(usize::from(level)) > MOST_CALLS {
         return Err(CompileError::Fault(CompileFaultKind::Limit));
@@ -254,4 +268,53 @@ pub fn last_line(commands: &[Command], line: usize) -> usize {
         Some(command) => command.line,
         None => line,
     }
+}
+
+/// `DO procedure [WITH arguments]`: begins a copy of the procedure. Where there is one already, the whole call is put.
+pub fn open_call<'a>(
+    s: &'a Source,
+    w: &mut Writer,
+    line: usize,
+    procedure: &Name,
+    arguments: &[Expr],
+) -> Result<Option<Body<'a>>, CompileRefusal> {
+    let result = target_of(s, w, procedure.as_slice(), arguments.len());
+    let target = w.told(line, result)?;
+    let result = hand_all_over(s, w, arguments);
+    let Handed { slots, own } = w.told(line, result)?;
+    let (variables, list) = parameters(s.commands(target));
+    let result = names_in(w, variables, &slots);
+    let names = w.told(line, result)?;
+    if let Some(number) = copy_for(w, target, &names) {
+        let result = put_call(w, number);
+        w.told(line, result)?;
+        return Ok(None);
+    }
+    let result = begin_copy(w, target, names, own);
+    let (number, before) = w.told(line, result)?;
+    Ok(Some(Body {
+        list,
+        end: None,
+        leaps: None,
+        behind: Behind::Copy(OpenCopy {
+            line,
+            last: last_line(list, line),
+            number,
+            before,
+        }),
+    }))
+}
+
+/// Ends the copy, and puts the call.
+pub fn end_call(w: &mut Writer, copy: OpenCopy) -> Result<(), CompileRefusal> {
+    let OpenCopy {
+        line,
+        last,
+        number,
+        before,
+    } = copy;
+    end_procedure(w, last)?;
+    end_copy(w, number, before);
+    let result = put_call(w, number);
+    w.told(line, result)
 }

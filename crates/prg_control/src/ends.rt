@@ -1,18 +1,9 @@
-//! Where ways end: RETURN, QUIT and CANCEL, LOOP and EXIT, and the end of a procedure; and the commands of one line.
+//! Where ways end: LOOP and EXIT, RETURN, and the end of a procedure.
 
+use crate::steps::Leaps;
 use code_items::State;
 use prg_code::{CompileError, CompileFaultKind, CompileRefusal, Work, is_selection_same, merged};
-use prg_commands::{may_stand_before_read, put_statement};
-use prg_line::Statement;
 use prg_writer::Writer;
-use shape::Shape;
-
-/// Where LOOP and EXIT of the innermost loop lead: the numbers of labels.
-#[derive(Clone, Copy, Debug, PartialEq, Eq)]
-pub struct Leaps {
-    pub again: usize,
-    pub out: usize,
-}
 
 /// What is known where the procedure returns, when it does so here too. Merge where another area is selected.
 fn exit_with(work: &Work) -> Result<State, CompileError> {
@@ -37,56 +28,28 @@ pub fn put_return(work: &mut Work) -> Result<(), CompileError> {
     work.block.put_return()
 }
 
-fn leap(work: &mut Work, label: Option<usize>) -> Result<(), CompileError> {
+/// `LOOP` or `EXIT`, which leads to the label. Limit where there is no loop around it.
+pub fn leap(work: &mut Work, label: Option<usize>) -> Result<(), CompileError> {
     match label {
         Some(label) => work.block.jump(label),
         None => Err(CompileError::Fault(CompileFaultKind::Limit)),
     }
 }
 
-fn again_of(leaps: Option<Leaps>) -> Option<usize> {
+/// Where LOOP leads, in a loop.
+pub fn again_of(leaps: Option<Leaps>) -> Option<usize> {
     match leaps {
         Some(leaps) => Some(leaps.again),
         None => None,
     }
 }
 
-fn out_of(leaps: Option<Leaps>) -> Option<usize> {
+/// Where EXIT leads, in a loop.
+pub fn out_of(leaps: Option<Leaps>) -> Option<usize> {
     match leaps {
         Some(leaps) => Some(leaps.out),
         None => None,
     }
-}
-
-fn put(
-    shape: &Shape,
-    w: &mut Writer,
-    leaps: Option<Leaps>,
-    line: usize,
-    statement: &Statement,
-) -> Result<(), CompileError> {
-    match statement {
-        Statement::Loop => leap(&mut w.work, again_of(leaps)),
-        Statement::Exit => leap(&mut w.work, out_of(leaps)),
-        Statement::Return => put_return(&mut w.work),
-        Statement::Quit | Statement::Cancel => w.work.block.put_end(),
-        _ => put_statement(shape, &mut w.out, &mut w.work, line, statement),
-    }
-}
-
-/// Puts the code of a command of one line that calls no procedure. Get where a READ is awaited and it may not stand.
-pub fn plain(
-    shape: &Shape,
-    w: &mut Writer,
-    leaps: Option<Leaps>,
-    line: usize,
-    statement: &Statement,
-) -> Result<(), CompileRefusal> {
-    if !may_stand_before_read(statement) {
-        no_get_waits(w, line)?;
-    }
-    let result = put(shape, w, leaps, line, statement);
-    w.told(line, result)
 }
 
 /// Get at this line where a READ is awaited. Where faults are listed, none is awaited any more.

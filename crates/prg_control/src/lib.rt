@@ -4,9 +4,13 @@
 //! back, until that holds.
 #![tactic(auto)]
 
+mod body;
 mod calling;
+mod choices;
 mod control;
 mod ends;
+mod loops;
+mod steps;
 
 pub use calling::{end_copy, last_line};
 pub use control::{Inside, commands};

@@ -1,0 +1,244 @@
+//! DO WHILE and SCAN: a loop is written round by round, until what is known at its head holds.
+
+use crate::body::{Behind, Body};
+use crate::steps::{Leaps, Span, jump, new_label, place, put_condition};
+use code_items::{Instr, Question, RecordInstr, State, ValueInstr};
+use prg_code::{CompileError, CompileFaultKind, CompileRefusal, is_state_same};
+use prg_commands::{put_skip_on, put_top};
+use prg_expr::Expr;
+use prg_parser::Command;
+use prg_writer::{Mark, Source, Writer};
+use xvalue::Fun;
+
+/// The most rounds of a loop: each one but the last loses what is known of a slot or a work area.
+const MOST_ROUNDS: u16 = 300;
+
+/// When a loop goes on.
+#[derive(Clone, Copy)]
+pub enum Test<'a> {
+    /// DO WHILE: where the condition holds.
+    While(&'a Expr),
+    /// SCAN: where there is a row; the commands are for rows for which the condition holds, if there is one.
+    Rows(&'a Option<Expr>),
+}
+
+/// A loop that is being written.
+#[derive(Drop)]
+pub struct Loop<'a> {
+    span: Span,
+    test: Test<'a>,
+    body: &'a [Command],
+    /// What stood before its first round, and what was known there.
+    mark: Mark,
+    entry: State,
+    /// What was found to be known at its head at the end of a round, if that was less than at its beginning.
+    head: Option<State>,
+    /// How many rounds may follow.
+    rounds: u16,
+}
+
+/// A round of a loop.
+#[derive(Drop)]
+pub struct Round<'a> {
+    of: Loop<'a>,
+    /// What is known at the loop's head in this round, and its label.
+    held: State,
+    top: usize,
+    leaps: Leaps,
+}
+
+/// Begins a loop.
+pub fn open_loop<'a>(
+    s: &Source,
+    w: &mut Writer,
+    span: Span,
+    test: Test<'a>,
+    body: &'a [Command],
+) -> Result<Option<Body<'a>>, CompileRefusal> {
+    put_first_row(w, span.first, test)?;
+    let mark = w.mark()?;
+    let entry = w.work.block.state.copied(w.alloc)?;
+    w.work.block.state = w.known_at_head(span.first)?;
+    let of = Loop {
+        span,
+        test,
+        body,
+        mark,
+        entry,
+        head: None,
+        rounds: MOST_ROUNDS - 1,
+    };
+    Ok(Some(open_round(s, w, of)?))
+}
+
+/// Goes to the first row, for a SCAN in this line; a DO WHILE begins with nothing.
+fn put_first_row(w: &mut Writer, line: usize, test: Test) -> Result<(), CompileRefusal> {
+    match test {
+        Test::While(_) => Ok(()),
+        Test::Rows(_) => {
+            let result = put_top(&w.out, &mut w.work);
+            w.told(line, result)
+        }
+    }
+}
+
+/// Begins a round.
+fn open_round<'a>(s: &Source, w: &mut Writer, of: Loop<'a>) -> Result<Body<'a>, CompileRefusal> {
+    let held = w.work.block.state.copied(w.alloc)?;
+    let line = of.span.first;
+    let top = new_label(w, line)?;
+    let leaps = leaps_of(w, line, of.test, top)?;
+    place(w, line, top)?;
+    match of.test {
+        Test::While(e) => put_condition(s, w, line, e, leaps.out)?,
+        Test::Rows(only_if) => put_row_test(s, w, line, only_if, leaps)?,
+    }
+    Ok(Body {
+        list: of.body,
+        end: Some(of.span.end),
+        leaps: Some(leaps),
+        behind: Behind::Round(Round {
+            of,
+            held,
+            top,
+            leaps,
+        }),
+    })
+}
+
+/// Where LOOP and EXIT lead, in a loop whose head has this label. LOOP of a SCAN leads to the next row.
+fn leaps_of(w: &mut Writer, line: usize, test: Test, top: usize) -> Result<Leaps, CompileRefusal> {
+    let again = match test {
+        Test::While(_) => top,
+        Test::Rows(_) => new_label(w, line)?,
+    };
+    let out = new_label(w, line)?;
+    Ok(Leaps { again, out })
+}
+
+/// Puts the test of a SCAN, which leads out where there is no row, and on to the next row where the condition of its
+/// FOR doesn't hold.
+fn put_row_test(
+    s: &Source,
+    w: &mut Writer,
+    line: usize,
+    only_if: &Option<Expr>,
+    leaps: Leaps,
+) -> Result<(), CompileRefusal> {
+    let result = put_scan_test(w);
+    w.told(line, result)?;
+    let result = w.work.block.jump_false(leaps.out);
+    w.told(line, result)?;
+    match only_if {
+        Some(e) => put_condition(s, w, line, e, leaps.again),
+        None => Ok(()),
+    }
+}
+
+/// Puts the test of a SCAN: whether there is a row.
+fn put_scan_test(w: &mut Writer) -> Result<(), CompileError> {
+    if w.work.block.state.desk.selected_area().is_none() {
+        return Err(CompileError::Fault(CompileFaultKind::ClosedArea));
+    }
+    w.work
+        .block
+        .put(Instr::Records(RecordInstr::Ask(Question::Eof)))?;
+    w.work
+        .block
+        .put(Instr::Values(ValueInstr::Function(Fun::Not)))
+}
+
+/// Ends a round. Where less is known at the loop's head by its ways back than in this round, it begins another one.
+pub fn end_round<'a>(
+    s: &Source,
+    w: &mut Writer,
+    round: Round<'a>,
+) -> Result<Option<Body<'a>>, CompileRefusal> {
+    let Round {
+        of,
+        held,
+        top,
+        leaps,
+    } = round;
+    let end = of.span.end;
+    put_way_back(w, end, of.test, top, leaps.again)?;
+    let Some(state) = wider(w, end, top, &held)? else {
+        place(w, end, leaps.out)?;
+        let Loop {
+            span,
+            mark,
+            entry,
+            head,
+            ..
+        } = of;
+        w.remember(span.first, &mark, entry, head)?;
+        return Ok(None);
+    };
+    Ok(Some(again(s, w, of, state)?))
+}
+
+/// Leads back to the loop's head, in a SCAN by the next row.
+fn put_way_back(
+    w: &mut Writer,
+    end: usize,
+    test: Test,
+    top: usize,
+    again: usize,
+) -> Result<(), CompileRefusal> {
+    match test {
+        Test::While(_) => jump(w, end, top),
+        Test::Rows(_) => {
+            place(w, end, again)?;
+            put_next_row(w, end, top)
+        }
+    }
+}
+
+/// Goes on to the next row and back to the top, where this is reached.
+fn put_next_row(w: &mut Writer, end: usize, top: usize) -> Result<(), CompileRefusal> {
+    if !w.work.block.reached {
+        return Ok(());
+    }
+    let result = put_skip_on(&mut w.out, &mut w.work);
+    w.told(end, result)?;
+    jump(w, end, top)
+}
+
+/// Whether a round of a loop that began with what is known here holds, after all its ways back; else what they know
+/// together. Merge where another work area is selected on a way back.
+fn wider(
+    w: &mut Writer,
+    end: usize,
+    top: usize,
+    held: &State,
+) -> Result<Option<State>, CompileRefusal> {
+    let Some(label) = w.work.block.labels.get(top) else {
+        return Ok(None);
+    };
+    if label.split {
+        let outcome = Err(w.faulty(end, CompileFaultKind::Merge));
+        w.passed(outcome)?;
+        return Ok(None);
+    }
+    match &label.state {
+        Some(state) if !is_state_same(state, held) => Ok(Some(state.copied(w.alloc)?)),
+        _ => Ok(None),
+    }
+}
+
+/// Gives the round up, and begins another one with what is known at the head. Limit where there were too many.
+fn again<'a>(
+    s: &Source,
+    w: &mut Writer,
+    of: Loop<'a>,
+    state: State,
+) -> Result<Body<'a>, CompileRefusal> {
+    let mut of = of;
+    if of.rounds == 0 {
+        return Err(w.faulty(of.span.end, CompileFaultKind::Limit));
+    }
+    of.rounds -= 1;
+    of.head = Some(state.copied(w.alloc)?);
+    w.give_up(&of.mark, state)?;
+    open_round(s, w, of)
+}

@@ -1,0 +1,65 @@
+//! Labels, jumps and conditions, with the line of their command where they are refused.
+
+use prg_code::CompileRefusal;
+use prg_commands::{condition, put_constant};
+use prg_expr::Expr;
+use prg_writer::{Source, Writer};
+use xvalue::Value;
+
+/// Where LOOP and EXIT of the innermost loop lead: the numbers of labels.
+#[derive(Clone, Copy, Debug, PartialEq, Eq)]
+pub struct Leaps {
+    pub again: usize,
+    pub out: usize,
+}
+
+/// The lines that open and end a block.
+#[derive(Clone, Copy, Debug, PartialEq, Eq)]
+pub struct Span {
+    pub first: usize,
+    pub end: usize,
+}
+
+impl Span {
+    pub fn new(first: usize, end: usize) -> Span {
+        Span { first, end }
+    }
+}
+
+/// A condition and a JUMPF to the label. Where faults are listed, a faulty condition counts as .T.
+pub fn put_condition(
+    s: &Source,
+    w: &mut Writer,
+    line: usize,
+    e: &Expr,
+    label: usize,
+) -> Result<(), CompileRefusal> {
+    let begun = w.begun()?;
+    let result = condition(s.shape, &mut w.out, &mut w.work, e);
+    let outcome = w.told(line, result);
+    if w.gave_up(begun, outcome)? {
+        let result = put_constant(&mut w.out, &mut w.work, Value::Logical(true));
+        w.told(line, result)?;
+    }
+    let result = w.work.block.jump_false(label);
+    w.told(line, result)
+}
+
+/// A label that has no place yet.
+pub fn new_label(w: &mut Writer, line: usize) -> Result<usize, CompileRefusal> {
+    let result = w.work.block.new_label();
+    w.told(line, result)
+}
+
+/// The label stands here. Merge where different work areas are selected on the ways that meet here.
+pub fn place(w: &mut Writer, line: usize, label: usize) -> Result<(), CompileRefusal> {
+    let result = w.work.block.place(label);
+    let outcome = w.told(line, result);
+    w.passed(outcome)
+}
+
+/// A JUMP to the label, where this is reached.
+pub fn jump(w: &mut Writer, line: usize, label: usize) -> Result<(), CompileRefusal> {
+    let result = w.work.block.jump(label);
+    w.told(line, result)
+}
