@@ -1,9 +1,12 @@
 //! The type of a number, its parts and the conversions.
 
-ghost use Rattle.std.specs.Prelude.{◌≡◌, ◌+◌, ◌≤◌, ℤ, pos, ◌↔◌, IsTrue, SomeIff, IfSome, MatchOption};
+ghost use Rattle.std.specs.Prelude.{◌≡◌, ◌+◌, ◌<◌, ◌≤◌, ℤ, pos, ◌↔◌, IsTrue, SomeIff, IfSome, MatchOption};
 ghost use Rattle.std.specs.Prelude.{if◌then◌else◌};
 ghost use Rattle.fixed_num.specs.Number.{number, number_of, signed, AreParts, IsFraction, finite, asterisk};
+ghost use Rattle.fixed_num.specs.Number.{magnitude_limit, IsLonger, IsPair};
+ghost use Rattle.fixed_num.specs.Arithmetic.{AreAlike, sum_of};
 
+use crate::powers::lengthened;
 use std::marker::Model;
 
 /// Each magnitude is below this, 10^19.
@@ -160,9 +163,56 @@ impl Num {
         if magnitude >= MAGNITUDE_LIMIT {
             return Num::asterisk();
         }
+        Num::of_sign(negative, magnitude, decimals)
+    }
+
+    /// The number of a sign, a magnitude and decimals that are in range. Zero has no sign.
+    #[inline(always)]
+    pub(crate) fn of_sign(negative: bool, magnitude: u64, decimals: u8) -> Num
+        requires short { magnitude < magnitude_limit }
+        requires few { decimals ≤ 15 }
+        ensures { result ≡ finite (signed negative magnitude) decimals }
+    {
         Num {
             magnitude,
             form: form(negative && magnitude != 0, decimals),
+        }
+    }
+
+    /// Both numbers, where neither is below zero and they have as many decimals.
+    #[inline(always)]
+    pub(crate) fn pair(&self, other: &Num) -> Option<Pair>
+        ensures { IfSome result (IsPair self.now other.now) }
+    {
+        if self.form != other.form || self.form >= BELOW_ZERO {
+            return None;
+        }
+        Some(Pair {
+            first: self.magnitude,
+            second: other.magnitude,
+            decimals: self.form as u8,
+        })
+    }
+
+    /// Whether two numbers have one sign and as many decimals, and their magnitudes together at most 19 digits.
+    #[inline(always)]
+    pub(crate) fn is_alike(&self, other: &Num) -> bool
+        ensures { IsTrue result ↔ AreAlike self.now other.now }
+    {
+        self.form == other.form
+            && self.form < ASTERISK
+            && self.magnitude < MAGNITUDE_LIMIT - other.magnitude
+    }
+
+    /// The sum of two numbers that are alike. Most sums are such; it takes no multiplication.
+    #[inline(always)]
+    pub(crate) fn plus_alike(&self, other: &Num) -> Num
+        requires { AreAlike self.now other.now }
+        ensures { result ≡ sum_of self.now other.now }
+    {
+        Num {
+            magnitude: self.magnitude + other.magnitude,
+            form: self.form,
         }
     }
 
@@ -209,6 +259,21 @@ fn form(negative: bool, decimals: u8) -> u64
 }
 
 impl Parts {
+    /// The same number with so many decimals, where its magnitude fits in a word, though it may be out of range.
+    #[inline(always)]
+    pub(crate) fn longer(self, decimals: u8) -> Option<Parts>
+        requires few { decimals ≤ 15 }
+        requires more { self.decimals ≤ decimals }
+        ensures { IfSome result (IsLonger self decimals) }
+    {
+        let magnitude = lengthened(self.magnitude, decimals - self.decimals)?;
+        Some(Parts {
+            magnitude,
+            decimals,
+            negative: self.negative,
+        })
+    }
+
     /// The numerator and the decimals.
     #[inline]
     pub(crate) fn fraction(self) -> Fraction
@@ -246,6 +311,16 @@ impl From<i64> for Num {
 #[derive(Clone, Copy)]
 pub(crate) struct Fraction {
     pub(crate) numerator: i128,
+    pub(crate) decimals: u8,
+}
+
+/// Two numbers of as many decimals, neither of which is below zero.
+#[derive(Clone, Copy)]
+pub(crate) struct Pair {
+    /// The magnitude of the first.
+    pub(crate) first: u64,
+    /// The magnitude of the second.
+    pub(crate) second: u64,
     pub(crate) decimals: u8,
 }
 

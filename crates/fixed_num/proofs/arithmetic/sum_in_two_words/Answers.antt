@@ -5,7 +5,7 @@ use Rattle.std.proofs.lemmas.Int.{to_z-of_z, fits_signed_from_abs}
 use Rattle.fixed_num.specs.Arithmetic.{sum_of}
 use Rattle.fixed_num.specs.Number.{finite, signed}
 use Rattle.fixed_num.proofs.PowerLemmas.{sum_passed}
-use Rattle.fixed_num.proofs.arithmetic.sum_of_any.Goals as goal
+use Rattle.fixed_num.proofs.arithmetic.sum_in_two_words.Goals as goal
 
 pub returns : goal.returns
 returns c =
