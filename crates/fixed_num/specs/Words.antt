@@ -1,6 +1,6 @@
 -- The two words that hold a number: the magnitude, and the form. The form is the decimals, and 16 more below zero; that
 -- of the asterisk value is 32.
-use Rattle.std.specs.Prelude.{◌≡◌, ℕ, zero, suc, ◌+◌, ◌%◌, ◌<◌, ◌≤◌, ℤ, pos, negsuc, Bool, true, false, ◌&&◌, ◌==◌}
+use Rattle.std.specs.Prelude.{◌≡◌, ℕ, zero, suc, ◌+◌, ◌%◌, ◌<◌, ◌≤◌, pos, negsuc, Bool, true, false, ◌&&◌, ◌==◌}
 use Rattle.std.specs.Prelude.{nat_lt, nat_le, if◌then◌else◌, Option, Some, None, refl}
 use Rattle.std.specs.Ordering.{int_eq}
 use Rattle.std.specs.Cmp.{IsEquivalence, signed_Decides, unsigned_Decides}
@@ -50,23 +50,23 @@ WordsBack m f parts = (magnitude_of (number_of parts) ≡ m) × (form_of (number
 pub words_back : (m f : ℕ) → AreWords m f → WordsBack m f (parts_in m f)
 words_back m f h = ⊎_elim
     (λ some.
-      let P : Bool → Type 0 = λ b. WordsBack m f (if b then Some (record { magnitude = m; decimals = f % 16; negative = nat_le 16 f }) else None) in
-      subst P (sym (lt-ltb f 32 some)) (⊎_elim
-        (λ above.
-          let Q : Bool → Type 0 = λ b. WordsBack m f (Some (record { magnitude = m; decimals = f % 16; negative = b })) in
-          let is : nat_le 16 f ≡ false = grind (arith, nat_tests) in
-          let e : f % 16 ≡ f = omega arith in
-          subst Q (sym is) (let w = words-above m (f % 16) in (w.0, w.1 ∙ e)))
-        (λ below.
-          let Q : Bool → Type 0 = λ b. WordsBack m f (Some (record { magnitude = m; decimals = f % 16; negative = b })) in
-          let is : nat_le 16 f ≡ true = grind (arith, nat_tests) in
-          let e : 16 + f % 16 ≡ f = omega arith in
-          subst Q (sym is) (let w = words-below m (f % 16) (h.zero_unsigned below some) in (w.0, w.1 ∙ e)))
-        (cases_lt f 16)))
+    let P : Bool → Type 0 = λ b. WordsBack m f (if b then Some (record { magnitude = m; decimals = f % 16; negative = nat_le 16 f }) else None) in
+    subst P (sym (lt-ltb f 32 some)) (⊎_elim
+    (λ above.
+    let Q : Bool → Type 0 = λ b. WordsBack m f (Some (record { magnitude = m; decimals = f % 16; negative = b })) in
+    let is : nat_le 16 f ≡ false = grind (arith, nat_tests) in
+    let e : f % 16 ≡ f = omega arith in
+    subst Q (sym is) (let w = words-above m (f % 16) in (w.0, w.1 ∙ e)))
+    (λ below.
+    let Q : Bool → Type 0 = λ b. WordsBack m f (Some (record { magnitude = m; decimals = f % 16; negative = b })) in
+    let is : nat_le 16 f ≡ true = grind (arith, nat_tests) in
+    let e : 16 + f % 16 ≡ f = omega arith in
+    subst Q (sym is) (let w = words-below m (f % 16) (h.zero_unsigned below some) in (w.0, w.1 ∙ e)))
+    (cases_lt f 16)))
     (λ none.
-      let P : Bool → Type 0 = λ b. WordsBack m f (if b then Some (record { magnitude = m; decimals = f % 16; negative = nat_le 16 f }) else None) in
-      let e : f ≡ 32 = omega (arith, h.form_fits) in
-      subst P (sym (le-ltb f 32 none)) (sym (h.none_is_zero e), sym e))
+    let P : Bool → Type 0 = λ b. WordsBack m f (if b then Some (record { magnitude = m; decimals = f % 16; negative = nat_le 16 f }) else None) in
+    let e : f ≡ 32 = omega (arith, h.form_fits) in
+    subst P (sym (le-ltb f 32 none)) (sym (h.none_is_zero e), sym e))
     (cases_lt f 32)
 
 -- one number, with as many decimals
@@ -103,5 +103,5 @@ pub is_same-laws : IsEquivalence is_same
 is_same-laws = record {
   refl = is_same-refl;
   symm = λ x y. is_same-turned x y (is_same x y) (is_same y x) refl refl;
-  congr = λ x y z h. ap (λ w. is_same w z) (is_same-true x y h)
+  congr = λ x y z h. ap (λ w. is_same w z) (is_same-true x y h);
 }

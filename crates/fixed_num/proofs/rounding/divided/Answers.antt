@@ -1,4 +1,4 @@
-use Rattle.std.proofs.Common.{◌∙◌, refl, sym, arith, ◌<◌, ◌≤◌, ◌-◌, ◌*◌, ◌/◌, ◌%◌, ◌^◌}
+use Rattle.std.proofs.Common.{◌∙◌, refl, sym, arith, ◌<◌, ◌≤◌, ◌-◌, ◌*◌, ◌/◌, ◌^◌}
 use Rattle.std.proofs.Math.Nat.{mod-lt}
 use Rattle.fixed_num.specs.Number.{magnitude_limit}
 use Rattle.fixed_num.proofs.DivisionLemmas.{first_fits, too_long, both_fit, groups_joined, places_split}
