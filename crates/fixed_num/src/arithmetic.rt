@@ -13,7 +13,7 @@ use crate::rounding::{divided, floored_rest, nearest};
 use std::cmp::Ordering;
 
 /// The sum of two numbers of as many decimals, whose magnitudes may be out of range.
-#[inline]
+#[inline(always)]
 fn sum_alike(a: Parts, b: Parts) -> Num
     requires few { a.decimals ≤ 15 }
     ensures { result ≡ number (signed a.negative a.magnitude +ℤ signed b.negative b.magnitude) a.decimals }
@@ -29,10 +29,21 @@ fn sum_alike(a: Parts, b: Parts) -> Num
     }
 }
 
-/// The sum of any two numbers other than the asterisk value, with the greater number of decimals. (Apart, so that a sum
-/// of alike numbers is worked out where it is asked for.)
+/// The sum of any two numbers. (Apart, so that a sum of alike numbers is worked out where it is asked for. Numbers in two
+/// words are handed over in registers, their parts are not.)
 #[inline(never)]
-fn sum_of_any(a: Parts, b: Parts) -> Num
+fn sum_of_any(first: Num, second: Num) -> Num
+    ensures { result ≡ sum_of first second }
+{
+    match (first.parts(), second.parts()) {
+        (Some(a), Some(b)) => sum_of_parts(a, b),
+        _ => Num::asterisk(),
+    }
+}
+
+/// The sum of any two numbers other than the asterisk value, with the greater number of decimals.
+#[inline(always)]
+fn sum_of_parts(a: Parts, b: Parts) -> Num
     requires first { AreParts a }
     requires second { AreParts b }
     ensures { result ≡ sum_of (number_of (Some a)) (number_of (Some b)) }
@@ -45,6 +56,7 @@ fn sum_of_any(a: Parts, b: Parts) -> Num
 }
 
 /// The same of numbers that with these decimals take more than a word.
+#[inline(never)]
 fn sum_in_two_words(a: Parts, b: Parts) -> Num
     requires first { AreParts a }
     requires second { AreParts b }
@@ -58,7 +70,8 @@ fn sum_in_two_words(a: Parts, b: Parts) -> Num
 }
 
 /// The remainder of any two numbers other than the asterisk value.
-fn modulo_of_any(a: Parts, b: Parts) -> Num
+#[inline]
+fn modulo_of_parts(a: Parts, b: Parts) -> Num
     requires first { AreParts a }
     requires second { AreParts b }
     requires divisor { 0 < b.magnitude }
@@ -72,7 +85,7 @@ fn modulo_of_any(a: Parts, b: Parts) -> Num
 }
 
 /// How two numbers of as many decimals compare. It takes no multiplication.
-#[inline]
+#[inline(always)]
 fn compared_alike(a: Parts, b: Parts) -> Ordering
     requires first { a.negative ≡ true → 0 < a.magnitude }
     requires second { b.negative ≡ true → 0 < b.magnitude }
@@ -87,6 +100,7 @@ fn compared_alike(a: Parts, b: Parts) -> Ordering
 }
 
 /// How any two numbers other than the asterisk value compare.
+#[inline(always)]
 fn compared_parts(a: Parts, b: Parts) -> Ordering
     requires first { AreParts a }
     requires second { AreParts b }
@@ -100,6 +114,7 @@ fn compared_parts(a: Parts, b: Parts) -> Ordering
 }
 
 /// The same of numbers that with these decimals take more than a word.
+#[inline(never)]
 fn compared_in_two_words(a: Fraction, b: Fraction) -> Ordering
     requires first { unsigned_abs a.numerator < magnitude_limit }
     requires second { unsigned_abs b.numerator < magnitude_limit }
@@ -112,8 +127,8 @@ fn compared_in_two_words(a: Fraction, b: Fraction) -> Ordering
 
 /// How any two numbers compare. (Apart, as the sum of any two is.)
 #[inline(never)]
-fn compared_any(first: &Num, second: &Num) -> Ordering
-    ensures { result ≡ compared first.now second.now }
+fn compared_any(first: Num, second: Num) -> Ordering
+    ensures { result ≡ compared first second }
 {
     match (first.parts(), second.parts()) {
         (Some(a), Some(b)) => compared_parts(a, b),
@@ -144,10 +159,7 @@ impl Num {
         if let Some(sum) = self.alike_sum(&other) {
             return sum;
         }
-        match (self.parts(), other.parts()) {
-            (Some(a), Some(b)) => sum_of_any(a, b),
-            _ => Num::asterisk(),
-        }
+        sum_of_any(self, other)
     }
 
     /// The difference, with the greater number of decimals.
@@ -237,7 +249,7 @@ impl Num {
         if b.magnitude == 0 {
             return Num::asterisk();
         }
-        modulo_of_any(a, b)
+        modulo_of_parts(a, b)
     }
 
     /// How the number compares with another by value. The asterisk value is above every number and equal to itself.
@@ -247,7 +259,7 @@ impl Num {
     {
         match self.pair(other) {
             Some(pair) => pair.first.cmp(&pair.second),
-            None => compared_any(self, other),
+            None => compared_any(*self, *other),
         }
     }
 

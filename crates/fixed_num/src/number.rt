@@ -223,7 +223,7 @@ impl Num {
         if magnitude >= u128::from(MAGNITUDE_LIMIT) {
             return Num::asterisk();
         }
-        Num::from_word(negative, magnitude as u64, decimals)
+        Num::of_sign(negative, magnitude as u64, decimals)
     }
 
     /// `numerator / 10^decimals`, or the asterisk value where the numerator has more than 19 digits.
