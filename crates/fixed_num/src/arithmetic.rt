@@ -7,7 +7,7 @@ ghost use Rattle.fixed_num.specs.Order.{compared, greater_of, lesser_of};
 ghost use Rattle.fixed_num.specs.Arithmetic.{AreAlike, sum_of, difference_of, negated, absolute, product_of};
 ghost use Rattle.fixed_num.specs.Arithmetic.{quotient_of, modulus_of};
 
-use crate::number::{Fraction, MOST_DECIMALS, Num, Parts};
+use crate::number::{MOST_DECIMALS, Num, Parts};
 use crate::powers::{power_of_ten, scaled};
 use crate::rounding::{divided, floored_rest, nearest};
 use std::cmp::Ordering;
@@ -29,40 +29,29 @@ fn sum_alike(a: Parts, b: Parts) -> Num
     }
 }
 
-/// The sum of any two numbers. (Apart, so that a sum of alike numbers is worked out where it is asked for. Numbers in two
-/// words are handed over in registers, their parts are not.)
+/// The sum of any two numbers, with the greater number of decimals. (Apart, so that a sum of alike numbers is worked out
+/// where it is asked for. Numbers are handed over in registers, and their parts would not be.)
 #[inline(never)]
 fn sum_of_any(first: Num, second: Num) -> Num
     ensures { result ≡ sum_of first second }
 {
-    match (first.parts(), second.parts()) {
-        (Some(a), Some(b)) => sum_of_parts(a, b),
-        _ => Num::asterisk(),
+    if let (Some(a), Some(b)) = (first.parts(), second.parts()) {
+        let decimals = a.decimals.max(b.decimals);
+        if let (Some(left), Some(right)) = (a.longer(decimals), b.longer(decimals)) {
+            return sum_alike(left, right);
+        }
     }
-}
-
-/// The sum of any two numbers other than the asterisk value, with the greater number of decimals.
-#[inline(always)]
-fn sum_of_parts(a: Parts, b: Parts) -> Num
-    requires first { AreParts a }
-    requires second { AreParts b }
-    ensures { result ≡ sum_of (number_of (Some a)) (number_of (Some b)) }
-{
-    let decimals = a.decimals.max(b.decimals);
-    match (a.longer(decimals), b.longer(decimals)) {
-        (Some(left), Some(right)) => sum_alike(left, right),
-        _ => sum_in_two_words(a, b),
-    }
+    sum_in_two_words(first, second)
 }
 
 /// The same of numbers that with these decimals take more than a word.
 #[inline(never)]
-fn sum_in_two_words(a: Parts, b: Parts) -> Num
-    requires first { AreParts a }
-    requires second { AreParts b }
-    ensures { result ≡ sum_of (number_of (Some a)) (number_of (Some b)) }
+fn sum_in_two_words(first: Num, second: Num) -> Num
+    ensures { result ≡ sum_of first second }
 {
-    let (a, b) = (a.fraction(), b.fraction());
+    let (Some(a), Some(b)) = (first.fraction(), second.fraction()) else {
+        return Num::asterisk();
+    };
     let decimals = a.decimals.max(b.decimals);
     let left = scaled(a.numerator, decimals - a.decimals);
     let right = scaled(b.numerator, decimals - b.decimals);
@@ -99,39 +88,29 @@ fn compared_alike(a: Parts, b: Parts) -> Ordering
     }
 }
 
-/// How any two numbers other than the asterisk value compare.
-#[inline(always)]
-fn compared_parts(a: Parts, b: Parts) -> Ordering
-    requires first { AreParts a }
-    requires second { AreParts b }
-    ensures { result ≡ compared (number_of (Some a)) (number_of (Some b)) }
-{
-    let decimals = a.decimals.max(b.decimals);
-    match (a.longer(decimals), b.longer(decimals)) {
-        (Some(left), Some(right)) => compared_alike(left, right),
-        _ => compared_in_two_words(a.fraction(), b.fraction()),
-    }
-}
-
-/// The same of numbers that with these decimals take more than a word.
-#[inline(never)]
-fn compared_in_two_words(a: Fraction, b: Fraction) -> Ordering
-    requires first { unsigned_abs a.numerator < magnitude_limit }
-    requires second { unsigned_abs b.numerator < magnitude_limit }
-    requires few { a.decimals ≤ 15 }
-    requires few_too { b.decimals ≤ 15 }
-    ensures { result ≡ compared (finite a.numerator a.decimals) (finite b.numerator b.decimals) }
-{
-    scaled(a.numerator, b.decimals).cmp(&scaled(b.numerator, a.decimals))
-}
-
 /// How any two numbers compare. (Apart, as the sum of any two is.)
 #[inline(never)]
 fn compared_any(first: Num, second: Num) -> Ordering
     ensures { result ≡ compared first second }
 {
-    match (first.parts(), second.parts()) {
-        (Some(a), Some(b)) => compared_parts(a, b),
+    if let (Some(a), Some(b)) = (first.parts(), second.parts()) {
+        let decimals = a.decimals.max(b.decimals);
+        if let (Some(left), Some(right)) = (a.longer(decimals), b.longer(decimals)) {
+            return compared_alike(left, right);
+        }
+    }
+    compared_in_two_words(first, second)
+}
+
+/// The same of numbers that with these decimals take more than a word, and of the asterisk value.
+#[inline(never)]
+fn compared_in_two_words(first: Num, second: Num) -> Ordering
+    ensures { result ≡ compared first second }
+{
+    match (first.fraction(), second.fraction()) {
+        (Some(a), Some(b)) => {
+            scaled(a.numerator, b.decimals).cmp(&scaled(b.numerator, a.decimals))
+        }
         (Some(_), None) => Ordering::Less,
         (None, Some(_)) => Ordering::Greater,
         (None, None) => Ordering::Equal,
