@@ -1,15 +1,15 @@
 -- Numbers compare as whole numbers with any common number of decimals.
-use Rattle.std.proofs.Common.{◌≡◌, ℕ, zero, suc, ◌+◌, ◌-◌, ◌*◌, ◌^◌, ◌<◌, ◌≤◌, cond, ⊎_elim, true, false, refl, sym, ap, ◌∙◌, arith}
+use Rattle.std.proofs.Common.{◌≡◌, ℕ, zero, suc, ◌+◌, ◌-◌, ◌*◌, ◌^◌, ◌<◌, ◌≤◌, cond, ⊎_elim, Bool, true, false, refl, sym, ap, ◌∙◌, subst, arith}
 use Rattle.std.specs.Prelude.{ℤ, pos, negsuc, neg_ℤ, ◌*ℤ◌, int_lt, nat_lt}
 use Rattle.std.specs.declared.cmp.Ordering.TheVariants.{Less, Equal, Greater}
 use Rattle.std.specs.Ordering.{int_cmp, nat_cmp, ordering_reverse}
 use Rattle.std.specs.Cmp.{IsTotalOrder, int_cmp_total}
-use Rattle.std.proofs.Math.Nat.{mul-lt-mul_of_pos_right, mul-le-mul_right, one-le-pow}
+use Rattle.std.proofs.Math.Nat.{mul-lt-mul_of_pos_right, mul-le-mul_right, mul-pos, one-le-pow}
 use Rattle.std.proofs.lemmas.Nat.{pow-add}
 use Rattle.std.proofs.lemmas.Bool.{cases_lt, lt-ltb, le-ltb, eq-eqb, ne_eqb}
 use Rattle.fixed_num.specs.Number.{Number, asterisk, finite, scaled, signed}
 use Rattle.fixed_num.specs.Order.{compared}
-use Rattle.fixed_num.proofs.SignLemmas.{neg-mul}
+use Rattle.fixed_num.proofs.SignLemmas.{neg-mul, scaled_signed}
 
 -- a common factor keeps the order of naturals
 nat_lt-scaled : (a b unit : ℕ) → 0 < unit → nat_lt (a * unit) (b * unit) ≡ nat_lt a b
@@ -89,7 +89,7 @@ compared-total = record { antisymm = compared-antisymm; trans = compared-trans; 
 -- ---- numbers of as many decimals, by their magnitudes
 
 -- the order of naturals, as whole numbers
-whole_cmp : (a b : ℕ) → nat_cmp a b ≡ int_cmp (pos a) (pos b)
+pub whole_cmp : (a b : ℕ) → nat_cmp a b ≡ int_cmp (pos a) (pos b)
 whole_cmp a b = ⊎_elim
     (λ less. rw (lt-ltb a b less) refl)
     (λ more. ⊎_elim
@@ -111,18 +111,36 @@ one_more a b = ⊎_elim
 alike : (x y : ℤ) (d : ℕ) → int_cmp (scaled x d) (scaled y d) ≡ int_cmp x y
 alike x y d = int_cmp-scaled x y (10 ^ d) (one-le-pow d 10 (omega arith))
 
-pub alike_above : (m n d : ℕ) → nat_cmp m n ≡ int_cmp (scaled (signed false m) d) (scaled (signed false n) d)
+pub alike_above : (m n d : ℕ) → nat_cmp m n ≡ compared (finite (pos m) d) (finite (pos n) d)
 alike_above m n d = whole_cmp m n ∙ sym (alike (pos m) (pos n) d)
 
-pub alike_below : (m n d : ℕ) → 0 < m → 0 < n → nat_cmp n m ≡ int_cmp (scaled (signed true m) d) (scaled (signed true n) d)
-alike_below zero n d p q = absurd (omega (arith, p))
-alike_below (suc m) zero d p q = absurd (omega (arith, q))
-alike_below (suc m) (suc n) d p q = one_more n m ∙ sym (alike (negsuc m) (negsuc n) d)
+-- ---- the same by sign
 
-pub alike_falls : (m n d : ℕ) → 0 < n → Greater ≡ int_cmp (scaled (signed false m) d) (scaled (signed true n) d)
-alike_falls m zero d q = absurd (omega (arith, q))
-alike_falls m (suc n) d q = sym (alike (pos m) (negsuc n) d)
+pub below_cmp : (m n : ℕ) → 0 < m → 0 < n → nat_cmp n m ≡ int_cmp (signed true m) (signed true n)
+below_cmp zero n p q = absurd (omega (arith, p))
+below_cmp (suc m) zero p q = absurd (omega (arith, q))
+below_cmp (suc m) (suc n) p q = one_more n m
 
-pub alike_rises : (m n d : ℕ) → 0 < m → Less ≡ int_cmp (scaled (signed true m) d) (scaled (signed false n) d)
-alike_rises zero n d p = absurd (omega (arith, p))
-alike_rises (suc m) n d p = sym (alike (negsuc m) (pos n) d)
+pub falls_cmp : (m n : ℕ) → 0 < n → Greater ≡ int_cmp (signed false m) (signed true n)
+falls_cmp m zero q = absurd (omega (arith, q))
+falls_cmp m (suc n) q = refl
+
+pub rises_cmp : (m n : ℕ) → 0 < m → Less ≡ int_cmp (signed true m) (signed false n)
+rises_cmp zero n p = absurd (omega (arith, p))
+rises_cmp (suc m) n p = refl
+
+-- what was found of numbers that were given as many decimals
+pub compared_longer : (s t : Bool) (m n d e x y k : ℕ) → d ≤ k → e ≤ k → x ≡ m * 10 ^ (k - d) → y ≡ n * 10 ^ (k - e)
+    → int_cmp (signed s x) (signed t y) ≡ compared (finite (signed s m) d) (finite (signed t n) e)
+compared_longer s t m n d e x y k few_d few_e is_x is_y =
+    ap (λ v. int_cmp (signed s v) (signed t y)) is_x
+    ∙ ap (λ v. int_cmp (signed s (m * 10 ^ (k - d))) (signed t v)) is_y
+    ∙ ap (λ v. int_cmp v (signed t (n * 10 ^ (k - e)))) (sym (scaled_signed s m (10 ^ (k - d))))
+    ∙ ap (λ v. int_cmp (scaled (signed s m) (k - d)) v) (sym (scaled_signed t n (10 ^ (k - e))))
+    ∙ sym (compared-at (signed s m) (signed t n) d e k few_d few_e)
+
+-- more decimals leave a number above zero
+pub longer_some : (m k x : ℕ) → 0 < m → x ≡ m * 10 ^ k → 0 < x
+longer_some m k x some is =
+    let product : 0 < m * 10 ^ k = mul-pos some (one-le-pow k 10 (omega arith)) in
+    subst (λ (v : ℕ). 0 < v) (sym is) product

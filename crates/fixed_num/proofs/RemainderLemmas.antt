@@ -1,13 +1,13 @@
 -- The remainder by sign and magnitude.
 use Rattle.std.proofs.Common.{◌≡◌, ℕ, zero, suc, ◌+◌, ◌-◌, ◌*◌, ◌/◌, ◌%◌, ◌^◌, ◌<◌, Bool, true, false, not, ◌≢◌, refl, sym, ap, ◌∙◌, subst, max, ◌==◌, arith}
-use Rattle.std.specs.Prelude.{ℤ, pos, negsuc, neg_ℤ, ◌-ℤ◌, ◌*ℤ◌, unsigned_abs, if◌then◌else◌}
-use Rattle.std.proofs.Math.Nat.{div-add-mod', mod-lt, div-eq_of_lt, zero-mod}
+use Rattle.std.specs.Prelude.{ℤ, pos, negsuc, neg_ℤ, ◌-ℤ◌, ◌*ℤ◌, unsigned_abs, nat_lt, if◌then◌else◌}
+use Rattle.std.proofs.Math.Nat.{div-add-mod', mod-lt, mod-le, div-eq_of_lt, zero-mod}
 use Rattle.std.proofs.lemmas.Int.{ints}
 use Rattle.std.proofs.lemmas.Nat.{div-mul-add}
 use mathlib.Core.Bool.{beq}
-use Rattle.std.proofs.lemmas.Bool.{false≢true}
+use Rattle.std.proofs.lemmas.Bool.{false≢true, lt-ltb}
 use Rattle.std.proofs.lemmas.Bool.Decides.{nat_tests}
-use Rattle.fixed_num.specs.Number.{asterisk, finite, number, scaled, signed}
+use Rattle.fixed_num.specs.Number.{asterisk, finite, number, scaled, signed, magnitude_limit}
 use Rattle.fixed_num.specs.Arithmetic.{floored, floored_by, IsFloor, remainder_of, modulus_of}
 use Rattle.fixed_num.proofs.SignLemmas.{scaled_signed, abs_signed}
 
@@ -97,24 +97,34 @@ rest_some true (suc p) (suc q) h some =
     rest_above p (suc q) (c + 1) (suc q - suc p % suc q) (omega arith) (omega arith)
 
 -- what the code found, where the signs differ and a rest is left
-pub rest_differs : (s t : Bool) (p q : ℕ) → 0 < q → not (beq s t) ≡ true → p % q ≢ 0 → signed t (q - p % q) ≡ remainder_of (signed s p) (signed t q)
-rest_differs false false p q h differ some = absurd (false≢true differ)
-rest_differs false true p q h differ some = rest_some false p q h some
-rest_differs true false p q h differ some = rest_some true p q h some
-rest_differs true true p q h differ some = absurd (false≢true differ)
+differs : (s t : Bool) (p q : ℕ) → 0 < q → not (beq s t) ≡ true → p % q ≢ 0 → signed t (q - p % q) ≡ remainder_of (signed s p) (signed t q)
+differs false false p q h differ some = absurd (false≢true differ)
+differs false true p q h differ some = rest_some false p q h some
+differs true false p q h differ some = rest_some true p q h some
+differs true true p q h differ some = absurd (false≢true differ)
+
+pub rest_differs : (s t : Bool) (p q rest : ℕ) → rest ≡ p % q → 0 < q → not (beq s t) ≡ true → rest ≢ 0 → signed t (q - rest) ≡ remainder_of (signed s p) (signed t q)
+rest_differs s t p q rest is h differ some =
+    ap (λ v. signed t (q - v)) is ∙ differs s t p q h differ (λ none. some (is ∙ none))
 
 -- and elsewhere
-pub rest_equal : (s t : Bool) (p q : ℕ) → 0 < q → not (beq s t) ≡ false → signed t (p % q) ≡ remainder_of (signed s p) (signed t q)
-rest_equal false false p q h equal = rest_same false p q h
-rest_equal false true p q h equal = absurd (false≢true (sym equal))
-rest_equal true false p q h equal = absurd (false≢true (sym equal))
-rest_equal true true p q h equal = rest_same true p q h
+equals : (s t : Bool) (p q : ℕ) → 0 < q → not (beq s t) ≡ false → signed t (p % q) ≡ remainder_of (signed s p) (signed t q)
+equals false false p q h equal = rest_same false p q h
+equals false true p q h equal = absurd (false≢true (sym equal))
+equals true false p q h equal = absurd (false≢true (sym equal))
+equals true true p q h equal = rest_same true p q h
 
-pub rest_without : (s t : Bool) (p q : ℕ) → 0 < q → p % q ≡ 0 → signed t (p % q) ≡ remainder_of (signed s p) (signed t q)
-rest_without false false p q h none = rest_same false p q h
-rest_without false true p q h none = rest_none false p q h none
-rest_without true false p q h none = rest_none true p q h none
-rest_without true true p q h none = rest_same true p q h
+pub rest_equal : (s t : Bool) (p q rest : ℕ) → rest ≡ p % q → 0 < q → not (beq s t) ≡ false → signed t rest ≡ remainder_of (signed s p) (signed t q)
+rest_equal s t p q rest is h equal = ap (λ v. signed t v) is ∙ equals s t p q h equal
+
+without : (s t : Bool) (p q : ℕ) → 0 < q → p % q ≡ 0 → signed t (p % q) ≡ remainder_of (signed s p) (signed t q)
+without false false p q h none = rest_same false p q h
+without false true p q h none = rest_none false p q h none
+without true false p q h none = rest_none true p q h none
+without true true p q h none = rest_same true p q h
+
+pub rest_without : (s t : Bool) (p q rest : ℕ) → rest ≡ p % q → 0 < q → rest ≡ 0 → signed t rest ≡ remainder_of (signed s p) (signed t q)
+rest_without s t p q rest is h none = ap (λ v. signed t v) is ∙ without s t p q h (sym is ∙ none)
 
 -- what the code found, as the number
 pub modulus_from : (s t : Bool) (m n d e k x y rest : ℕ) → 0 < n → k ≡ max d e → x ≡ m * 10 ^ (k - d) → y ≡ n * 10 ^ (k - e) → signed t rest ≡ remainder_of (signed s x) (signed t y) → number (signed t rest) k ≡ modulus_of (finite (signed s m) d) (finite (signed t n) e)
@@ -126,6 +136,16 @@ modulus_from s t m n d e k x y rest positive is_k is_x is_y is_rest =
     let P : Bool → Type 0 = λ b. number (signed t rest) k ≡ (if b then asterisk else number (remainder_of (scaled (signed s m) (k - d)) (scaled (signed t n) (k - e))) k) in
     let Q : ℕ → Type 0 = λ v. number (signed t rest) k ≡ (if unsigned_abs (signed t n) == 0 then asterisk else number (remainder_of (scaled (signed s m) (v - d)) (scaled (signed t n) (v - e))) v) in
     subst Q is_k (subst P (sym not_zero) (ap (λ v. number v k) (sym both)))
+
+-- of two numbers of as many decimals, neither below zero
+pub modulus_above : (m n d : ℕ) → m < magnitude_limit → 0 < n → finite (pos (m % n)) d ≡ modulus_of (finite (pos m) d) (finite (pos n) d)
+modulus_above m n d short positive =
+    let none : d - d ≡ 0 = omega arith in
+    let unit : 10 ^ (d - d) ≡ 1 = ap (λ k. 10 ^ k) none in
+    let same : (v : ℕ) → v ≡ v * 10 ^ (d - d) = λ v. sym (ap (λ u. v * u) unit ∙ (let h : v * 1 ≡ v = omega arith in h)) in
+    let fits : nat_lt (m % n) magnitude_limit ≡ true = lt-ltb (m % n) magnitude_limit (omega (arith, mod-le m n)) in
+    ap (λ b. if b then finite (pos (m % n)) d else asterisk) (sym fits)
+    ∙ modulus_from false false m n d d d m n (m % n) positive (omega arith) (same m) (same n) (rest_same false m n positive)
 
 -- the floor is at most the quotient, and above it less one
 pub floored_by-bounds : (p : ℤ) (q : ℕ) → 0 < q → IsFloor p q (floored_by p q)

@@ -1,6 +1,6 @@
 -- Rounding by sign and magnitude, and rounding after a common factor.
 use Rattle.std.proofs.Common.{◌≡◌, ℕ, zero, suc, ◌+◌, ◌*◌, ◌/◌, ◌<◌, ◌≤◌, Bool, true, false, not, refl, sym, ap, ◌∙◌, subst, arith}
-use Rattle.std.specs.Prelude.{◌-◌, ◌^◌, pos, nat_le, if◌then◌else◌}
+use Rattle.std.specs.Prelude.{◌-◌, ◌^◌, pos, neg_ℤ, nat_le, if◌then◌else◌}
 use mathlib.Core.Bool.{beq}
 use Rattle.std.proofs.Math.Nat.{one-le-pow, mul-le-mul, div-lt_iff_lt-mul, div-eq_of_lt, mul-div-mul_right}
 use Rattle.std.proofs.lemmas.Nat.{pow-add}
@@ -59,6 +59,17 @@ multiple_fits m q power k count small positive few is is_count =
     let short : count ≤ m = subst (λ (x : ℕ). x ≤ m) (sym is_count) (nearest_le m q positive) in
     let bound : count * power ≤ 2 ^ 64 * 10 ^ 18 = mul-le-mul (let h : count ≤ 2 ^ 64 = omega arith in h) (let h : power ≤ 10 ^ 18 = omega (arith, power_below k 18 few) in h) in
     omega arith
+
+-- the nearest multiple, by sign and magnitude
+pub multiple_from : (s : Bool) (m d k power unit count : ℕ) → 1 ≤ k → power ≡ 10 ^ d → unit ≡ 10 ^ k → count ≡ nearest m (power * unit) → number (signed s (count * unit)) 0 ≡ rounded_at (neg_ℤ (pos k)) (finite (signed s m) d)
+multiple_from s m d zero power unit count some is_power is_unit is_count = absurd (omega arith)
+multiple_from s m d (suc j) power unit count some is_power is_unit is_count =
+    let positive : 0 < 10 ^ (d + suc j) = one-le-pow (d + suc j) 10 (omega arith) in
+    let joined : 10 ^ (d + suc j) ≡ power * unit = pow-add 10 d (suc j) ∙ ap (λ x. x * 10 ^ suc j) (sym is_power) ∙ ap (λ x. power * x) (sym is_unit) in
+    let near : nearest m (10 ^ (d + suc j)) ≡ count = ap (nearest m) joined ∙ sym is_count in
+    let whole : rounded (signed s m) (pos (10 ^ (d + suc j))) ≡ signed s count = rounded_by_pos s m (10 ^ (d + suc j)) positive ∙ ap (signed s) near in
+    let both : scaled (rounded (signed s m) (pos (10 ^ (d + suc j)))) (suc j) ≡ signed s (count * unit) = ap (λ v. scaled v (suc j)) whole ∙ scaled_signed s count (10 ^ suc j) ∙ ap (λ u. signed s (count * u)) (sym is_unit) in
+    ap (λ v. number v 0) (sym both)
 
 -- more decimals
 pub with_more : (s : Bool) (m d p power : ℕ) → d ≤ p → power ≡ 10 ^ (p - d) → number (signed s (m * power)) p ≡ rounded_at (pos p) (finite (signed s m) d)

@@ -1,5 +1,5 @@
 pub mod Number
-pub mod Parts
+pub mod Words
 pub mod Rounding
 pub mod Arithmetic
 pub mod Order

@@ -1,8 +1,9 @@
 -- What a number is, and how its parts give it.
-use Rattle.std.specs.Prelude.{◌≡◌, ℕ, ◌^◌, ◌<◌, ◌≤◌, ℤ, pos, neg_ℤ, ◌*ℤ◌, unsigned_abs, Bool, true, false, nat_lt}
+use Rattle.std.specs.Prelude.{◌≡◌, ℕ, ◌-◌, ◌*◌, ◌^◌, ◌<◌, ◌≤◌, ℤ, pos, neg_ℤ, ◌*ℤ◌, unsigned_abs, Bool, true, false, nat_lt}
 use Rattle.std.specs.Prelude.{if◌then◌else◌, Option, Some, None}
 use Rattle.fixed_num.specs.declared.number.Parts.{Parts}
 use Rattle.fixed_num.specs.declared.number.Fraction.{Fraction}
+use Rattle.fixed_num.specs.declared.number.Pair.{Pair}
 
 -- the asterisk value, or `m / 10 ^ d`
 pub data Number : Type 0 where
@@ -50,6 +51,20 @@ pub record AreParts (parts : Parts) : Type 0 where
 abbrev pub HasParts : Option Parts → Type 0
 HasParts None = Unit {0}
 HasParts (Some parts) = AreParts parts
+
+-- the second has the sign of the first, so many decimals, and as many more digits
+pub record IsLonger (parts : Parts) (d : ℕ) (longer : Parts) : Type 0 where
+  pub sign : longer.negative ≡ parts.negative
+  pub magnitude : longer.magnitude ≡ parts.magnitude * 10 ^ (d - parts.decimals)
+  pub decimals : longer.decimals ≡ d
+
+-- neither number is below zero, and they have as many decimals
+pub record IsPair (x y : Number) (pair : Pair) : Type 0 where
+  pub first : x ≡ finite (pos pair.first) pair.decimals
+  pub second : y ≡ finite (pos pair.second) pair.decimals
+  pub first_fits : pair.first < magnitude_limit
+  pub second_fits : pair.second < magnitude_limit
+  pub decimals_fit : pair.decimals ≤ most_decimals
 
 -- the numerator and the decimals of a number
 pub record IsFraction (x : Number) (fraction : Fraction) : Type 0 where

@@ -1,64 +1,84 @@
 //! Sums, products and quotients.
 
-ghost use Rattle.std.specs.Prelude.{◌≡◌, ◌↔◌, IsTrue, Some, SomeIff};
-ghost use Rattle.fixed_num.specs.Number.{AreParts, number_of};
+ghost use Rattle.std.specs.Prelude.{◌≡◌, ◌<◌, ◌≤◌, ◌+ℤ◌, unsigned_abs, true, Some, SomeIff};
+ghost use Rattle.std.specs.Ordering.{int_cmp};
+ghost use Rattle.fixed_num.specs.Number.{AreParts, number_of, number, signed, finite, magnitude_limit};
 ghost use Rattle.fixed_num.specs.Order.{compared, greater_of, lesser_of};
 ghost use Rattle.fixed_num.specs.Arithmetic.{AreAlike, sum_of, difference_of, negated, absolute, product_of};
 ghost use Rattle.fixed_num.specs.Arithmetic.{quotient_of, modulus_of};
 
-use crate::number::{MAGNITUDE_LIMIT, MOST_DECIMALS, Num, Parts};
+use crate::number::{MOST_DECIMALS, Num, Parts};
 use crate::powers::{power_of_ten, scaled};
 use crate::rounding::{divided, floored_rest, nearest};
 use std::cmp::Ordering;
 
-/// Whether two numbers have one sign and as many decimals, and their magnitudes together at most 19 digits.
+/// The sum of two numbers of as many decimals, whose magnitudes may be out of range.
 #[inline(always)]
-fn are_alike(a: Parts, b: Parts) -> bool
-    requires first { AreParts a }
-    requires second { AreParts b }
-    ensures { IsTrue result ↔ AreAlike (number_of (Some a)) (number_of (Some b)) }
+fn sum_alike(a: Parts, b: Parts) -> Num
+    requires few { a.decimals ≤ 15 }
+    ensures { result ≡ number (signed a.negative a.magnitude +ℤ signed b.negative b.magnitude) a.decimals }
 {
-    a.negative == b.negative
-        && a.decimals == b.decimals
-        && a.magnitude < MAGNITUDE_LIMIT - b.magnitude
+    if a.negative == b.negative {
+        let sum = u128::from(a.magnitude) + u128::from(b.magnitude);
+        return Num::from_magnitude(a.negative, sum, a.decimals);
+    }
+    if a.magnitude >= b.magnitude {
+        Num::from_word(a.negative, a.magnitude - b.magnitude, a.decimals)
+    } else {
+        Num::from_word(b.negative, b.magnitude - a.magnitude, a.decimals)
+    }
 }
 
-/// The sum of two numbers that are alike. Most sums are such; it takes no multiplication.
-#[inline(always)]
-fn sum_of_alike(a: Parts, b: Parts) -> Num
-    requires first { AreParts a }
-    requires second { AreParts b }
-    requires alike { AreAlike (number_of (Some a)) (number_of (Some b)) }
-    ensures { result ≡ sum_of (number_of (Some a)) (number_of (Some b)) }
-{
-    Num::of(Parts {
-        magnitude: a.magnitude + b.magnitude,
-        ..a
-    })
-}
-
-/// The sum of any two numbers other than the asterisk value, with the greater number of decimals. (Apart, so that a sum
-/// of alike numbers is worked out where it is asked for.)
+/// The sum of any two numbers, with the greater number of decimals. (Apart, so that a sum of alike numbers is worked out
+/// where it is asked for. Numbers are handed over in registers, and their parts would not be.)
 #[inline(never)]
-fn sum_of_any(a: Parts, b: Parts) -> Num
-    requires first { AreParts a }
-    requires second { AreParts b }
-    ensures { result ≡ sum_of (number_of (Some a)) (number_of (Some b)) }
+fn sum_of_any(first: Num, second: Num) -> Num
+    ensures { result ≡ sum_of first second }
 {
-    let (a, b) = (a.fraction(), b.fraction());
+    if let (Some(a), Some(b)) = (first.parts(), second.parts()) {
+        let decimals = a.decimals.max(b.decimals);
+        if let (Some(left), Some(right)) = (a.longer(decimals), b.longer(decimals)) {
+            return sum_alike(left, right);
+        }
+    }
+    sum_in_two_words(first, second)
+}
+
+/// The same of numbers that with these decimals take more than a word.
+#[inline(never)]
+fn sum_in_two_words(first: Num, second: Num) -> Num
+    ensures { result ≡ sum_of first second }
+{
+    let (Some(a), Some(b)) = (first.fraction(), second.fraction()) else {
+        return Num::asterisk();
+    };
     let decimals = a.decimals.max(b.decimals);
     let left = scaled(a.numerator, decimals - a.decimals);
     let right = scaled(b.numerator, decimals - b.decimals);
     Num::from_fraction(left + right, decimals)
 }
 
+/// The remainder of any two numbers other than the asterisk value.
+#[inline]
+fn modulo_of_parts(a: Parts, b: Parts) -> Num
+    requires first { AreParts a }
+    requires second { AreParts b }
+    requires divisor { 0 < b.magnitude }
+    ensures { result ≡ modulus_of (number_of (Some a)) (number_of (Some b)) }
+{
+    let decimals = a.decimals.max(b.decimals);
+    let dividend = u128::from(a.magnitude) * u128::from(power_of_ten(decimals - a.decimals));
+    let divisor = u128::from(b.magnitude) * u128::from(power_of_ten(decimals - b.decimals));
+    let rest = floored_rest(a.negative, dividend, b.negative, divisor);
+    Num::from_magnitude(b.negative, rest, decimals)
+}
+
 /// How two numbers of as many decimals compare. It takes no multiplication.
 #[inline(always)]
 fn compared_alike(a: Parts, b: Parts) -> Ordering
-    requires first { AreParts a }
-    requires second { AreParts b }
-    requires alike { a.decimals ≡ b.decimals }
-    ensures { result ≡ compared (number_of (Some a)) (number_of (Some b)) }
+    requires first { a.negative ≡ true → 0 < a.magnitude }
+    requires second { b.negative ≡ true → 0 < b.magnitude }
+    ensures { result ≡ int_cmp (signed a.negative a.magnitude) (signed b.negative b.magnitude) }
 {
     match (a.negative, b.negative) {
         (false, false) => a.magnitude.cmp(&b.magnitude),
@@ -70,8 +90,22 @@ fn compared_alike(a: Parts, b: Parts) -> Ordering
 
 /// How any two numbers compare. (Apart, as the sum of any two is.)
 #[inline(never)]
-fn compared_any(first: &Num, second: &Num) -> Ordering
-    ensures { result ≡ compared first.now second.now }
+fn compared_any(first: Num, second: Num) -> Ordering
+    ensures { result ≡ compared first second }
+{
+    if let (Some(a), Some(b)) = (first.parts(), second.parts()) {
+        let decimals = a.decimals.max(b.decimals);
+        if let (Some(left), Some(right)) = (a.longer(decimals), b.longer(decimals)) {
+            return compared_alike(left, right);
+        }
+    }
+    compared_in_two_words(first, second)
+}
+
+/// The same of numbers that with these decimals take more than a word, and of the asterisk value.
+#[inline(never)]
+fn compared_in_two_words(first: Num, second: Num) -> Ordering
+    ensures { result ≡ compared first second }
 {
     match (first.fraction(), second.fraction()) {
         (Some(a), Some(b)) => {
@@ -90,10 +124,10 @@ impl Num {
     pub fn alike_sum(&self, other: &Num) -> Option<Num>
         ensures { SomeIff result (AreAlike self.now other.now) (sum_of self.now other.now) }
     {
-        match (self.parts(), other.parts()) {
-            (Some(a), Some(b)) if are_alike(a, b) => Some(sum_of_alike(a, b)),
-            _ => None,
+        if !self.is_alike(other) {
+            return None;
         }
+        Some(self.plus_alike(other))
     }
 
     /// The sum, with the greater number of decimals.
@@ -104,10 +138,7 @@ impl Num {
         if let Some(sum) = self.alike_sum(&other) {
             return sum;
         }
-        match (self.parts(), other.parts()) {
-            (Some(a), Some(b)) => sum_of_any(a, b),
-            _ => Num::asterisk(),
-        }
+        sum_of_any(self, other)
     }
 
     /// The difference, with the greater number of decimals.
@@ -115,6 +146,11 @@ impl Num {
     pub fn sub(self, other: Num) -> Num
         ensures { result ≡ difference_of self other }
     {
+        if let Some(pair) = self.pair(&other) {
+            if pair.first >= pair.second {
+                return Num::of_sign(false, pair.first - pair.second, pair.decimals);
+            }
+        }
         self.add(other.neg())
     }
 
@@ -124,7 +160,7 @@ impl Num {
         ensures { result ≡ negated self }
     {
         match self.parts() {
-            Some(a) => Num::from_magnitude(!a.negative, u128::from(a.magnitude), a.decimals),
+            Some(a) => Num::of_sign(!a.negative, a.magnitude, a.decimals),
             None => self,
         }
     }
@@ -133,8 +169,8 @@ impl Num {
     pub fn abs(self) -> Num
         ensures { result ≡ absolute self }
     {
-        match self.fraction() {
-            Some(a) => Num::from_fraction(a.numerator.abs(), a.decimals),
+        match self.parts() {
+            Some(a) => Num::of_sign(false, a.magnitude, a.decimals),
             None => self,
         }
     }
@@ -152,7 +188,8 @@ impl Num {
         if decimals <= MOST_DECIMALS {
             return Num::from_magnitude(negative, magnitude, decimals);
         }
-        let kept = nearest(magnitude, power_of_ten(decimals - MOST_DECIMALS));
+        let unit = u128::from(power_of_ten(decimals - MOST_DECIMALS));
+        let kept = nearest(magnitude, unit);
         Num::from_magnitude(negative, kept, MOST_DECIMALS)
     }
 
@@ -180,17 +217,18 @@ impl Num {
     pub fn modulo(self, other: Num) -> Num
         ensures { result ≡ modulus_of self other }
     {
+        if let Some(pair) = self.pair(&other) {
+            if pair.second != 0 {
+                return Num::of_sign(false, pair.first % pair.second, pair.decimals);
+            }
+        }
         let (Some(a), Some(b)) = (self.parts(), other.parts()) else {
             return Num::asterisk();
         };
         if b.magnitude == 0 {
             return Num::asterisk();
         }
-        let decimals = a.decimals.max(b.decimals);
-        let dividend = u128::from(a.magnitude) * power_of_ten(decimals - a.decimals);
-        let divisor = u128::from(b.magnitude) * power_of_ten(decimals - b.decimals);
-        let rest = floored_rest(a.negative, dividend, b.negative, divisor);
-        Num::from_magnitude(b.negative, rest, decimals)
+        modulo_of_parts(a, b)
     }
 
     /// How the number compares with another by value. The asterisk value is above every number and equal to itself.
@@ -198,9 +236,9 @@ impl Num {
     pub fn cmp(&self, other: &Num) -> Ordering
         ensures { result ≡ compared self.now other.now }
     {
-        match (self.parts(), other.parts()) {
-            (Some(a), Some(b)) if a.decimals == b.decimals => compared_alike(a, b),
-            _ => compared_any(self, other),
+        match self.pair(other) {
+            Some(pair) => pair.first.cmp(&pair.second),
+            None => compared_any(*self, *other),
         }
     }
 

@@ -1,12 +1,12 @@
 //! Rounding to whole numbers, and division with decimals.
 
-ghost use Rattle.std.specs.Prelude.{◌≡◌, ◌+◌, ◌*◌, ◌/◌, ◌^◌, ◌<◌, ◌≤◌, pos, neg_ℤ, unsigned_abs, MatchOption};
+ghost use Rattle.std.specs.Prelude.{◌≡◌, ◌+◌, ◌*◌, ◌/◌, ◌%◌, ◌^◌, ◌<◌, ◌≤◌, pos, neg_ℤ, unsigned_abs, MatchOption};
 ghost use Rattle.fixed_num.specs.Number.{magnitude_limit, signed, AreParts};
 ghost use Rattle.fixed_num.specs.Arithmetic.{remainder_of};
 ghost use Rattle.fixed_num.specs.Rounding.{nearest, rounded_at, rounded_to, cut, whole_part};
 
 use crate::number::{MAGNITUDE_LIMIT, Num, Parts};
-use crate::powers::power_of_ten;
+use crate::powers::{power_of_ten, shortened};
 
 /// The whole number nearest to `dividend / divisor`, a half upwards.
 #[inline]
@@ -15,7 +15,48 @@ pub(crate) fn nearest(dividend: u128, divisor: u128) -> u128
     requires room { dividend < 2 ^ 127 }
     ensures { result ≡ nearest dividend divisor }
 {
-    round_up(dividend / divisor, dividend % divisor, divisor)
+    let quotient = quotient_and_rest(dividend, divisor);
+    round_up(quotient.whole, quotient.rest, divisor)
+}
+
+/// The whole number nearest to `magnitude / 10^places`, a half upwards.
+#[inline]
+fn nearest_shorter(magnitude: u64, places: u8) -> u128
+    requires { places ≤ 15 }
+    ensures { result ≡ nearest magnitude (10 ^ places) }
+{
+    let whole = shortened(magnitude, places);
+    let power = power_of_ten(places);
+    let rest = magnitude - whole * power;
+    round_up(u128::from(whole), u128::from(rest), u128::from(power))
+}
+
+/// A whole quotient, and what is left of the dividend.
+#[derive(Clone, Copy)]
+struct Quotient {
+    whole: u128,
+    rest: u128,
+}
+
+/// The quotient of two whole numbers. It is found in one word where both fit, which most do.
+#[inline(always)]
+fn quotient_and_rest(dividend: u128, divisor: u128) -> Quotient
+    requires { 0 < divisor }
+    ensures whole { result.whole ≡ dividend / divisor }
+    ensures rest { result.rest ≡ dividend % divisor }
+{
+    let most = u128::from(u64::MAX);
+    if dividend <= most && divisor <= most {
+        let (dividend, divisor) = (dividend as u64, divisor as u64);
+        return Quotient {
+            whole: u128::from(dividend / divisor),
+            rest: u128::from(dividend % divisor),
+        };
+    }
+    Quotient {
+        whole: dividend / divisor,
+        rest: dividend % divisor,
+    }
 }
 
 /// The whole number nearest to a quotient with a rest.
@@ -43,18 +84,18 @@ pub(crate) fn divided(dividend: u64, places: u8, divisor: u64) -> Option<u128>
 {
     let divisor = u128::from(divisor);
     let first = places.min(18);
-    let scaled = u128::from(dividend) * power_of_ten(first);
-    let whole = scaled / divisor;
-    let rest = scaled % divisor;
+    let scaled = u128::from(dividend) * u128::from(power_of_ten(first));
+    let group = quotient_and_rest(scaled, divisor);
     if first == places {
-        return Some(round_up(whole, rest, divisor));
+        return Some(round_up(group.whole, group.rest, divisor));
     }
-    if whole >= u128::from(MAGNITUDE_LIMIT) {
+    if group.whole >= u128::from(MAGNITUDE_LIMIT) {
         return None;
     }
-    let more = power_of_ten(places - first);
-    let digits = whole * more + rest * more / divisor;
-    Some(round_up(digits, rest * more % divisor, divisor))
+    let more = u128::from(power_of_ten(places - first));
+    let others = quotient_and_rest(group.rest * more, divisor);
+    let digits = group.whole * more + others.whole;
+    Some(round_up(digits, others.rest, divisor))
 }
 
 /// The magnitude of `dividend - divisor * floor(dividend / divisor)`, which has the sign of the divisor, from the signs
@@ -69,7 +110,7 @@ pub(crate) fn floored_rest(
     ensures { signed divisor_negative result
         ≡ remainder_of (signed dividend_negative dividend) (signed divisor_negative divisor) }
 {
-    let rest = dividend % divisor;
+    let rest = quotient_and_rest(dividend, divisor).rest;
     if dividend_negative != divisor_negative && rest != 0 {
         divisor - rest
     } else {
@@ -99,12 +140,12 @@ impl Num {
         let Some(parts) = self.parts() else {
             return self;
         };
-        let magnitude = u128::from(parts.magnitude);
         if decimals >= parts.decimals {
-            let longer = magnitude * power_of_ten(decimals - parts.decimals);
+            let power = power_of_ten(decimals - parts.decimals);
+            let longer = u128::from(parts.magnitude) * u128::from(power);
             return Num::from_magnitude(parts.negative, longer, decimals);
         }
-        let shorter = nearest(magnitude, power_of_ten(parts.decimals - decimals));
+        let shorter = nearest_shorter(parts.magnitude, parts.decimals - decimals);
         Num::from_magnitude(parts.negative, shorter, decimals)
     }
 
@@ -117,11 +158,10 @@ impl Num {
         let Some(parts) = self.parts() else {
             return self;
         };
-        let count = nearest(
-            u128::from(parts.magnitude),
-            power_of_ten(parts.decimals + zeros),
-        );
-        Num::from_magnitude(parts.negative, count * power_of_ten(zeros), 0)
+        let unit = u128::from(power_of_ten(zeros));
+        let divisor = u128::from(power_of_ten(parts.decimals)) * unit;
+        let count = nearest(u128::from(parts.magnitude), divisor);
+        Num::from_magnitude(parts.negative, count * unit, 0)
     }
 
     /// The number cut toward zero, without decimals.
@@ -129,7 +169,7 @@ impl Num {
         ensures { result ≡ cut self }
     {
         match self.parts() {
-            Some(parts) => Num::from_magnitude(parts.negative, u128::from(whole_digits(parts)), 0),
+            Some(parts) => Num::from_word(parts.negative, whole_digits(parts), 0),
             None => self,
         }
     }
@@ -152,9 +192,10 @@ impl Num {
 }
 
 /// The digits before the point as a whole number.
-fn whole_digits(parts: Parts) -> u64
+#[inline]
+pub(crate) fn whole_digits(parts: Parts) -> u64
     requires { AreParts parts }
     ensures { result ≡ parts.magnitude / 10 ^ parts.decimals }
 {
-    parts.magnitude / power_of_ten(parts.decimals) as u64
+    shortened(parts.magnitude, parts.decimals)
 }

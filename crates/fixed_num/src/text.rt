@@ -8,6 +8,7 @@ ghost use Rattle.fixed_num.specs.Text.{last_digits, whole_digits, decimals_text,
 
 use crate::number::{Num, Parts};
 use crate::powers::power_of_ten;
+use crate::rounding::whole_digits;
 use arrayvec::ArrayVec;
 use std::fmt;
 
@@ -88,7 +89,7 @@ fn push_whole(text: &mut ArrayVec<u8, 24>, parts: Parts)
     ensures items { text.new.items ≡ text.old.items ++ whole_digits (parts.magnitude / 10 ^ parts.decimals) }
     ensures room { array_vec_len text.new + parts.decimals ≤ 20 }
 {
-    let whole = parts.magnitude / power_of_ten(parts.decimals) as u64;
+    let whole = whole_digits(parts);
     push_digits(text, whole, digit_count(whole));
 }
 
@@ -114,7 +115,7 @@ fn digit_count(number: u64) -> u8
     ensures no_more { (result ≡ 1) ⊎ (10 ^ (result - 1) ≤ number) }
 {
     let mut count = 1;
-    while count < 19 && u128::from(number) >= power_of_ten(count) {
+    while count < 19 && number >= power_of_ten(count) {
         count += 1;
     }
     count
@@ -131,7 +132,7 @@ fn push_digits(text: &mut ArrayVec<u8, 24>, number: u64, count: u8)
     let mut left = count;
     while left > 0 {
         left -= 1;
-        let digit = number / power_of_ten(left) as u64 % 10;
+        let digit = number / power_of_ten(left) % 10;
         text.push(b'0' + digit as u8);
     }
 }

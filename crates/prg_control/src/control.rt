@@ -10,7 +10,7 @@ use crate::body::{Behind, Body};
 use crate::calling::{end_call, open_call};
 use crate::choices::{end_choice, end_part, open_do_case, open_if};
 use crate::ends::{again_of, leap, no_get_waits, out_of, put_return};
-use crate::loops::{Test, end_round, open_loop};
+use crate::loops::{LoopTest, end_round, open_loop};
 use crate::steps::{Leaps, Span};
 use prg_code::{CompileFaultKind, CompileRefusal};
 use prg_commands::{Turn, may_stand_before_read, put_statement};
@@ -121,12 +121,18 @@ fn opened<'a>(
             condition,
             body,
             end,
-        } => open_loop(s, w, Span::new(line, *end), Test::While(condition), body),
+        } => open_loop(
+            s,
+            w,
+            Span::new(line, *end),
+            LoopTest::While(condition),
+            body,
+        ),
         Form::Scan {
             condition,
             body,
             end,
-        } => open_loop(s, w, Span::new(line, *end), Test::Rows(condition), body),
+        } => open_loop(s, w, Span::new(line, *end), LoopTest::Rows(condition), body),
     }
 }
 

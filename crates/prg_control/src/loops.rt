@@ -15,7 +15,7 @@ const MOST_ROUNDS: u16 = 300;
 
 /// When a loop goes on.
 #[derive(Clone, Copy)]
-pub enum Test<'a> {
+pub enum LoopTest<'a> {
     /// DO WHILE: where the condition holds.
     While(&'a Expr),
     /// SCAN: where there is a row; the commands are for rows for which the condition holds, if there is one.
@@ -26,7 +26,7 @@ pub enum Test<'a> {
 #[derive(Drop)]
 pub struct Loop<'a> {
     span: Span,
-    test: Test<'a>,
+    test: LoopTest<'a>,
     body: &'a [Command],
     /// What stood before its first round, and what was known there.
     mark: Mark,
@@ -52,7 +52,7 @@ pub fn open_loop<'a>(
     s: &Source,
     w: &mut Writer,
     span: Span,
-    test: Test<'a>,
+    test: LoopTest<'a>,
     body: &'a [Command],
 ) -> Result<Option<Body<'a>>, CompileRefusal> {
     put_first_row(w, span.first, test)?;
@@ -72,10 +72,10 @@ pub fn open_loop<'a>(
 }
 
 /// Goes to the first row, for a SCAN in this line; a DO WHILE begins with nothing.
-fn put_first_row(w: &mut Writer, line: usize, test: Test) -> Result<(), CompileRefusal> {
+fn put_first_row(w: &mut Writer, line: usize, test: LoopTest) -> Result<(), CompileRefusal> {
     match test {
-        Test::While(_) => Ok(()),
-        Test::Rows(_) => {
+        LoopTest::While(_) => Ok(()),
+        LoopTest::Rows(_) => {
             let result = put_top(&w.out, &mut w.work);
             w.told(line, result)
         }
@@ -90,8 +90,8 @@ fn open_round<'a>(s: &Source, w: &mut Writer, of: Loop<'a>) -> Result<Body<'a>, 
     let leaps = leaps_of(w, line, of.test, top)?;
     place(w, line, top)?;
     match of.test {
-        Test::While(e) => put_condition(s, w, line, e, leaps.out)?,
-        Test::Rows(only_if) => put_row_test(s, w, line, only_if, leaps)?,
+        LoopTest::While(e) => put_condition(s, w, line, e, leaps.out)?,
+        LoopTest::Rows(only_if) => put_row_test(s, w, line, only_if, leaps)?,
     }
     Ok(Body {
         list: of.body,
@@ -107,10 +107,15 @@ fn open_round<'a>(s: &Source, w: &mut Writer, of: Loop<'a>) -> Result<Body<'a>, 
 }
 
 /// Where LOOP and EXIT lead, in a loop whose head has this label. LOOP of a SCAN leads to the next row.
-fn leaps_of(w: &mut Writer, line: usize, test: Test, top: usize) -> Result<Leaps, CompileRefusal> {
+fn leaps_of(
+    w: &mut Writer,
+    line: usize,
+    test: LoopTest,
+    top: usize,
+) -> Result<Leaps, CompileRefusal> {
     let again = match test {
-        Test::While(_) => top,
-        Test::Rows(_) => new_label(w, line)?,
+        LoopTest::While(_) => top,
+        LoopTest::Rows(_) => new_label(w, line)?,
     };
     let out = new_label(w, line)?;
     Ok(Leaps { again, out })
@@ -181,13 +186,13 @@ pub fn end_round<'a>(
 fn put_way_back(
     w: &mut Writer,
     end: usize,
-    test: Test,
+    test: LoopTest,
     top: usize,
     again: usize,
 ) -> Result<(), CompileRefusal> {
     match test {
-        Test::While(_) => jump(w, end, top),
-        Test::Rows(_) => {
+        LoopTest::While(_) => jump(w, end, top),
+        LoopTest::Rows(_) => {
             place(w, end, again)?;
             put_next_row(w, end, top)
         }
