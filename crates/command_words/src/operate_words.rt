@@ -173,16 +173,27 @@ fn talk_of<'a>(matches: &ArgMatches<'a>) -> Result<Option<TalkWords<'a>>, WordsF
     }))
 }
 
+/// How a conversation is shown.
+fn shown_of<'a>(matches: &ArgMatches<'a>) -> Result<ShownWords<'a>, WordsFault> {
+    Ok(ShownWords {
+        window: window_of(matches)?,
+        plain: matches.get_flag(PLAIN),
+        screens: screens_of(matches),
+    })
+}
+
 /// What the words of `operate` ask for.
 pub(crate) fn operate_of<'a>(matches: &ArgMatches<'a>) -> Result<OperateWords<'a>, WordsFault> {
-    Ok(OperateWords {
-        code: word_of(matches, FILE)?,
-        journal: word_of(matches, JOURNAL)?,
-        talk: talk_of(matches)?,
-        shown: ShownWords {
-            window: window_of(matches)?,
-            plain: matches.get_flag(PLAIN),
-            screens: screens_of(matches),
-        },
-    })
+    let code = word_of(matches, FILE)?;
+    let journal = word_of(matches, JOURNAL)?;
+    let shown = shown_of(matches)?;
+    match talk_of(matches) {
+        Ok(talk) => Ok(OperateWords {
+            code,
+            journal,
+            talk,
+            shown,
+        }),
+        Err(fault) => Err(fault),
+    }
 }

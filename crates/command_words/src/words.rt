@@ -452,7 +452,10 @@ pub fn words_of<'a>(matches: &ArgMatches<'a>) -> Result<Words<'a>, WordsFault> {
             decl: word_of(matches, DECLARATIONS)?,
         }),
         "run" => asked(matches, false, run_outcomes(matches), screens_of(matches)),
-        "operate" => Ok(Words::Operate(operate_of(matches)?)),
+        "operate" => match operate_of(matches) {
+            Ok(words) => Ok(Words::Operate(words)),
+            Err(fault) => Err(fault),
+        },
         "check-run" => check_of(matches),
         "verify" => Ok(Words::Verify {
             name: word_of(matches, FILE)?,
