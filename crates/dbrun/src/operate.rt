@@ -8,21 +8,21 @@ use crate::shown::{Audience, Progress, of_end};
 use crate::{
     finish_before, folder, hindered, may_back_up, print_bytes, refuse, tell_hindered, tell_unsaved,
 };
-use command_words::{
-    DEFAULT_BUDGET, OperateWords, Outcomes, SaveWords, ShownWords, TalkWords, WordsFault,
-};
+use command_words::{DEFAULT_BUDGET, OperateWords, Outcomes, ShownWords, TalkWords, WordsFault};
 use file_access::Files;
 use file_commands::{FILE_LIMIT, Refusal, Status};
 use folder_files::{
-    FileSum, Folder, JournalFault, JournalFile, Listener, SaveTerms, SavingFolder, paper_name,
-    put_new_file, stands, sum_of, take_folder,
+    FileSum, Folder, Hindrance, JournalFault, JournalFile, Listener, SaveTerms, SavingFolder,
+    paper_name, put_new_file, stands, sum_of, take_folder,
 };
 use journal_papers::JournalPaper;
 use journal_steps::{Next, Remains, next_of};
 use operating::Broken;
-use operator_desk::{Gets, KeptJournal, Manner, OperatorDesk, Record, Talk, local_day, talk_in};
+use operator_desk::{
+    Gets, KeptJournal, Manner, OperatorDesk, Record, Talk, TalkSave, local_day, talk_in,
+};
 use run_commands::{
-    Ended, Job, OperateRefusal, OperationReport, Rehearsal, operate_files, rehearse_talk,
+    Ended, Job, OperateRefusal, OperationReport, Rehearsal, RunDay, operate_files, rehearse_talk,
 };
 use std::alloc::{AllocError, Global};
 use std::cell::RefCell;
@@ -33,20 +33,20 @@ use terminal_screen::Window;
 
 /// The names of a conversation's files.
 #[derive(Drop)]
-struct Names<'a> {
-    journal: &'a str,
+struct Names {
+    journal: String,
     begun: String,
     done: String,
 }
 
 /// The names of a conversation's files, if they harm nothing.
-fn names_of<'a>(alloc: Global, words: &OperateWords<'a>) -> Result<Option<Names<'a>>, AllocError> {
+fn names_of(alloc: Global, words: &OperateWords<'_>) -> Result<Option<Names>, AllocError> {
     let journal = words.journal;
     if !is_free_name(journal, words.code) {
         return Ok(None);
     }
     let names = Names {
-        journal,
+        journal: String::from_str(alloc, journal)?,
         begun: format!(in alloc; "{journal}.begun")?,
         done: format!(in alloc; "{journal}.done")?,
     };
@@ -57,11 +57,11 @@ fn names_of<'a>(alloc: Global, words: &OperateWords<'a>) -> Result<Option<Names<
 }
 
 /// Whether a file for screens harms nothing.
-fn may_write_screens(words: &OperateWords<'_>, names: &Names<'_>) -> bool {
+fn may_write_screens(words: &OperateWords<'_>, names: &Names) -> bool {
     match words.shown.screens {
         Some(screens) => {
             is_free_name(screens, words.code)
-                && screens != names.journal
+                && screens != names.journal.as_str()
                 && screens != names.begun.as_str()
                 && screens != names.done.as_str()
         }
@@ -69,46 +69,62 @@ fn may_write_screens(words: &OperateWords<'_>, names: &Names<'_>) -> bool {
     }
 }
 
-/// What a conversation is asked for, with what a person or a script gets where the words don't say.
-fn talk_of<'a, R: Runtime<A = Global>>(
-    rt: &R,
+/// On which terms the tables of a conversation are saved; none where what would be saved is told.
+fn save_of(alloc: Global, tables: Outcomes<'_>) -> Result<Option<TalkSave>, AllocError> {
+    let Outcomes::Saved(save) = tables else {
+        return Ok(None);
+    };
+    Ok(Some(TalkSave {
+        only_finished: save.only_finished,
+        backup: match save.backup {
+            Some(path) => Some(String::from_str(alloc, path)?),
+            None => None,
+        },
+        new_owner: save.new_owner,
+        no_lock: save.no_lock,
+    }))
+}
+
+/// The day of a conversation: the computer's where the words don't say one.
+fn day_of<R: Runtime<A = Global>>(rt: &R, words: &TalkWords<'_>) -> Option<RunDay> {
+    match words.day {
+        Some(day) => Some(day),
+        None => local_day(rt),
+    }
+}
+
+/// What a conversation is asked for. A person's run has the greatest budget where the words don't say one.
+fn talk_of(
+    alloc: Global,
     audience: Audience,
-    words: &TalkWords<'a>,
-) -> Option<Talk<'a>> {
+    words: &TalkWords<'_>,
+    day: RunDay,
+) -> Result<Talk, AllocError> {
     let budget = if audience.typing {
         u64::MAX
     } else {
         DEFAULT_BUDGET
     };
-    Some(Talk {
+    Ok(Talk {
         budget: words.budget.unwrap_or(budget),
         limit: words.limit,
-        day: match words.day {
-            Some(day) => day,
-            None => local_day(rt)?,
-        },
-        tables: words.tables,
+        day,
+        save: save_of(alloc, words.tables)?,
         page: words.page,
     })
 }
 
-/// The manner in which a conversation is shown.
-fn manner_of(audience: Audience, talk: &Talk<'_>, shown: &ShownWords<'_>) -> Manner {
-    let window = match shown.window {
-        Some(words) => Some(Window {
-            rows: words.rows,
-            columns: words.columns,
-        }),
-        None => None,
+/// The window in which a conversation is drawn; none where its rows are only listed.
+fn window_of(audience: Audience, shown: &ShownWords<'_>) -> Option<Window> {
+    let words = shown.window?;
+    let window = Window {
+        rows: words.rows,
+        columns: words.columns,
     };
-    Manner {
-        typing: audience.typing,
-        one_terminal: audience.person && audience.rows,
-        window: match window {
-            Some(window) if window.fits() && audience.person && !shown.plain => Some(window),
-            _ => None,
-        },
-        page: talk.page,
+    if window.fits() && audience.person && !shown.plain {
+        Some(window)
+    } else {
+        None
     }
 }
 
@@ -157,9 +173,9 @@ fn open_journal<R: Runtime<A = Global, File = File>>(
 }
 
 /// What stands of a conversation in the folder. A note was finished before.
-fn found_of<R: Runtime<A = Global>>(rt: &R, names: &Names<'_>) -> Remains {
+fn found_of<R: Runtime<A = Global>>(rt: &R, names: &Names) -> Remains {
     Remains {
-        journal: stands(rt, names.journal),
+        journal: stands(rt, names.journal.as_str()),
         begun: stands(rt, names.begun.as_str()),
         noted: false,
         done: stands(rt, names.done.as_str()),
@@ -167,11 +183,11 @@ fn found_of<R: Runtime<A = Global>>(rt: &R, names: &Names<'_>) -> Remains {
 }
 
 /// Why a conversation neither begins nor goes on.
-fn tell_next(rt: &impl Runtime, audience: Audience, names: &Names<'_>, next: Next) -> Status {
+fn tell_next(rt: &impl Runtime, audience: Audience, names: &Names, next: Next) -> Status {
     let status = match next {
-        Next::Ended => tell_file(rt, names.journal, "Finished"),
-        Next::Missing => tell_file(rt, names.journal, "Absent"),
-        _ => tell_file(rt, names.journal, "Exists"),
+        Next::Ended => tell_file(rt, names.journal.as_str(), "Finished"),
+        Next::Missing => tell_file(rt, names.journal.as_str(), "Absent"),
+        _ => tell_file(rt, names.journal.as_str(), "Exists"),
     };
     if let (Next::Taken, true) = (next, audience.person) {
         let _ = eprintln!(rt; "  --continue takes it up again; else name another file.");
@@ -201,7 +217,7 @@ fn read_begun<R: Runtime<A = Global>>(
 /// The text of an end: how the run ended, what the journal holds, and what was saved.
 fn done_text(
     alloc: Global,
-    names: &Names<'_>,
+    names: &Names,
     journal: &KeptJournal,
     ended: &Ended,
     saved: &[FileSum],
@@ -214,7 +230,7 @@ fn done_text(
     paper.put_sum(
         alloc,
         &FileSum {
-            name: String::from_str(alloc, names.journal)?,
+            name: String::from_str(alloc, names.journal.as_str())?,
             sum: Some(sum_of(journal.bytes.as_slice())),
         },
     )?;
@@ -231,20 +247,16 @@ fn done_text(
 #[derive(Drop)]
 struct Open<'a> {
     code: &'a str,
-    names: &'a Names<'a>,
-    talk: Talk<'a>,
-    shown: ShownWords<'a>,
+    names: &'a Names,
+    talk: &'a Talk,
+    /// The window in which it is drawn.
+    window: Option<Window>,
+    /// The file for screens.
+    screens: Option<&'a str>,
+    /// The text of its beginning, where it goes on.
     said: Option<&'a JournalPaper>,
-}
-
-impl Open<'_> {
-    /// On which terms tables are saved; none where they aren't.
-    fn save(&self) -> Option<SaveWords<'_>> {
-        match self.talk.tables {
-            Outcomes::Saved(save) => Some(save),
-            Outcomes::Nothing | Outcomes::Told => None,
-        }
-    }
+    /// The sums of the files of its run as they are read.
+    sums: &'a RefCell<Vec<FileSum>>,
 }
 
 /// The desk of a conversation.
@@ -252,25 +264,30 @@ fn desk_of<'a, R: Runtime<A = Global, File = File>>(
     rt: &'a R,
     audience: Audience,
     open: &Open<'a>,
-    sums: &'a RefCell<Vec<FileSum>>,
 ) -> Result<OperatorDesk<'a, R>, Status> {
     let alloc = rt.alloc();
     let Ok(begun) = open.names.begun.clone() else {
         return Err(refuse(rt, Refusal::Memory));
     };
+    let screens = screens_to(rt, open.screens)?;
     Ok(OperatorDesk {
         rt,
-        manner: manner_of(audience, &open.talk, &open.shown),
+        manner: Manner {
+            typing: audience.typing,
+            one_terminal: audience.person && audience.rows,
+            window: open.window,
+            page: open.talk.page,
+        },
         talk: open.talk,
         record: Record {
             rt,
-            sums,
+            sums: open.sums,
             begun,
             said: open.said,
             changed: None,
             unwritten: None,
         },
-        screens: screens_to(rt, open.shown.screens)?,
+        screens,
         gets: Gets::new(alloc),
         reader: rt.reader(),
         shown: 0,
@@ -324,11 +341,11 @@ fn tell_broken<'a, R: Runtime<A = Global, File = File>>(
         OperateRefusal::Run(refusal) => {
             tell_hindered(rt, audience, open.code, refusal, saving.hindrance())
         }
-        OperateRefusal::Handed => tell_file(rt, open.names.journal, "TooLong"),
+        OperateRefusal::Handed => tell_file(rt, open.names.journal.as_str(), "TooLong"),
         OperateRefusal::Broke(Broken::Journal) => refuse(
             rt,
             Refusal::Disk {
-                name: open.names.journal,
+                name: open.names.journal.as_str(),
             },
         ),
         OperateRefusal::Broke(Broken::Memory) => refuse(rt, Refusal::Memory),
@@ -441,11 +458,7 @@ fn end_saved<'a, R: Runtime<A = Global, File = File>>(
     let committed = saving.commit();
     let printed = print_rest(rt, audience, desk, rows);
     if let Err(unsaved) = committed {
-        let backup = match open.save() {
-            Some(save) => save.backup,
-            None => None,
-        };
-        return tell_unsaved(rt, audience, saving, unsaved, backup);
+        return tell_unsaved(rt, audience, saving, unsaved, backup_of(open.talk));
     }
     if printed != Status::Done {
         return printed;
@@ -472,7 +485,7 @@ fn conclude<'a, R: Runtime<A = Global, File = File>>(
         Ok(ended) => ended,
         Err(refusal) => return tell_broken(rt, audience, open, &desk.record, saving, refusal),
     };
-    match open.save() {
+    match &open.talk.save {
         Some(save) if ended.is_saved(save.only_finished) => {
             end_saved(rt, audience, open, journal, desk, saving, rows, ended)
         }
@@ -481,17 +494,47 @@ fn conclude<'a, R: Runtime<A = Global, File = File>>(
 }
 
 /// The run of a conversation, over the lines that its journal holds at the beginning.
-fn job_of<'a>(open: &Open<'a>, input: &'a [u8]) -> Job<'a>
+fn job_of<'a>(code: &'a str, talk: &Talk, input: &'a [u8]) -> Job<'a>
     ensures untested { result.checked ≡ false }
     ensures input { result.input.now ≡ input.now }
 {
     Job {
-        name: open.code,
+        name: code,
         checked: false,
-        budget: open.talk.budget,
-        limit: open.talk.limit,
-        day: open.talk.day,
+        budget: talk.budget,
+        limit: talk.limit,
+        day: talk.day,
         input,
+    }
+}
+
+/// The folder to which all that a conversation replaces is copied first.
+fn backup_of(talk: &Talk) -> Option<&str> {
+    match &talk.save {
+        Some(save) => match &save.backup {
+            Some(path) => Some(path.as_str()),
+            None => None,
+        },
+        None => None,
+    }
+}
+
+/// On which terms a conversation replaces files.
+fn terms_of(talk: &Talk, closed: Option<Hindrance>) -> SaveTerms<'_> {
+    let backup = backup_of(talk);
+    match &talk.save {
+        Some(save) => SaveTerms {
+            closed,
+            saves: true,
+            takes_over: save.new_owner,
+            backup,
+        },
+        None => SaveTerms {
+            closed: None,
+            saves: false,
+            takes_over: false,
+            backup,
+        },
     }
 }
 
@@ -501,25 +544,24 @@ fn converse<'a, R: Runtime<A = Global, File = File>>(
     audience: Audience,
     open: &Open<'a>,
     mut journal: KeptJournal,
-    terms: SaveTerms<'a>,
+    closed: Option<Hindrance>,
 ) -> Status {
     let alloc = rt.alloc();
-    let sums = RefCell::new(Vec::new(alloc));
-    let mut desk = match desk_of(rt, audience, open, &sums) {
+    let mut desk = match desk_of(rt, audience, open) {
         Ok(desk) => desk,
         Err(status) => return status,
     };
     let Ok(input) = journal.bytes.clone() else {
         return refuse(rt, Refusal::Memory);
     };
-    let job = job_of(open, input.as_slice());
+    let job = job_of(open.code, open.talk, input.as_slice());
     let noting = Progress {
         rt,
         audience,
-        sums: Some(&sums),
+        sums: Some(open.sums),
     };
-    let mut saving = SavingFolder::new(Folder::new(rt, noting), terms);
-    if let Outcomes::Told = open.talk.tables {
+    let mut saving = SavingFolder::new(Folder::new(rt, noting), terms_of(open.talk, closed));
+    if open.talk.save.is_none() {
         return match rehearse_talk(alloc, &mut saving, &job, &mut journal, &mut desk) {
             Ok(told) => end_rehearsed(rt, audience, open, &journal, &desk, &told),
             Err(refusal) => tell_broken(rt, audience, open, &desk.record, &saving, &refusal),
@@ -535,7 +577,7 @@ fn operate_talk<'a, R: Runtime<A = Global, File = File>>(
     audience: Audience,
     open: &Open<'a>,
 ) -> Status {
-    let no_lock = match open.save() {
+    let no_lock = match &open.talk.save {
         Some(save) => save.no_lock,
         None => false,
     };
@@ -547,31 +589,21 @@ fn operate_talk<'a, R: Runtime<A = Global, File = File>>(
         }
     }
     let goes_on = open.said.is_some();
-    match next_of(found_of(rt, open.names), goes_on) {
+    let names = open.names;
+    match next_of(found_of(rt, names), goes_on) {
         Next::Begin | Next::GoOn => {}
-        Next::Taken if !goes_on && is_left_empty(rt, open.names) => {}
-        next => return tell_next(rt, audience, open.names, next),
+        Next::Taken if !goes_on && is_left_empty(rt, names) => {}
+        next => return tell_next(rt, audience, names, next),
     }
-    let journal = match open_journal(rt, audience, open.names.journal, goes_on) {
-        Ok(journal) => journal,
-        Err(fault) => return tell_journal(rt, open.names.journal, fault),
-    };
-    let save = open.save();
-    let terms = SaveTerms {
-        closed: if save.is_some() { closed } else { None },
-        saves: save.is_some(),
-        takes_over: save.map(|save| save.new_owner) == Some(true),
-        backup: match save {
-            Some(save) => save.backup,
-            None => None,
-        },
-    };
-    converse(rt, audience, open, journal, terms)
+    match open_journal(rt, audience, names.journal.as_str(), goes_on) {
+        Ok(journal) => converse(rt, audience, open, journal, closed),
+        Err(fault) => tell_journal(rt, names.journal.as_str(), fault),
+    }
 }
 
 /// Whether of a conversation only an empty journal stands.
-fn is_left_empty<R: Runtime<A = Global>>(rt: &R, names: &Names<'_>) -> bool {
-    let empty = match fs::metadata(rt, names.journal) {
+fn is_left_empty<R: Runtime<A = Global>>(rt: &R, names: &Names) -> bool {
+    let empty = match fs::metadata(rt, names.journal.as_str()) {
         Ok(data) => data.len() == 0,
         Err(_) => false,
     };
@@ -579,28 +611,57 @@ fn is_left_empty<R: Runtime<A = Global>>(rt: &R, names: &Names<'_>) -> bool {
 }
 
 /// Takes up a conversation as it was begun.
-fn go_on<R: Runtime<A = Global, File = File>>(
-    rt: &R,
+fn go_on<'a, R: Runtime<A = Global, File = File>>(
+    rt: &'a R,
     audience: Audience,
-    words: &OperateWords<'_>,
-    names: &Names<'_>,
+    code: &'a str,
+    names: &'a Names,
+    window: Option<Window>,
+    screens: Option<&'a str>,
 ) -> Status {
+    let alloc = rt.alloc();
     if !stands(rt, names.begun.as_str()) {
-        return tell_file(rt, names.journal, "Absent");
+        return tell_file(rt, names.journal.as_str(), "Absent");
     }
     let said = match read_begun(rt, audience, names.begun.as_str()) {
         Ok(said) => said,
         Err(status) => return status,
     };
-    let Some(talk) = talk_in(&said) else {
+    let Some(talk) = talk_in(alloc, &said) else {
         return tell_file(rt, names.begun.as_str(), "Foreign");
     };
+    let sums = RefCell::new(Vec::new(alloc));
     let open = Open {
-        code: words.code,
+        code,
+        names,
+        talk: &talk,
+        window,
+        screens,
+        said: Some(&said),
+        sums: &sums,
+    };
+    operate_talk(rt, audience, &open)
+}
+
+/// Begins a conversation.
+fn begin<'a, R: Runtime<A = Global, File = File>>(
+    rt: &'a R,
+    audience: Audience,
+    code: &'a str,
+    names: &'a Names,
+    talk: &'a Talk,
+    window: Option<Window>,
+    screens: Option<&'a str>,
+) -> Status {
+    let sums = RefCell::new(Vec::new(rt.alloc()));
+    let open = Open {
+        code,
         names,
         talk,
-        shown: words.shown,
-        said: Some(&said),
+        window,
+        screens,
+        said: None,
+        sums: &sums,
     };
     operate_talk(rt, audience, &open)
 }
@@ -611,7 +672,8 @@ pub fn operate<R: Runtime<A = Global, File = File>>(
     audience: Audience,
     words: &OperateWords<'_>,
 ) -> Result<Status, WordsFault> {
-    let names = match names_of(rt.alloc(), words) {
+    let alloc = rt.alloc();
+    let names = match names_of(alloc, words) {
         Ok(Some(names)) => names,
         Ok(None) => return Err(WordsFault::Journal),
         Err(_) => return Ok(refuse(rt, Refusal::Memory)),
@@ -619,19 +681,17 @@ pub fn operate<R: Runtime<A = Global, File = File>>(
     if !may_write_screens(words, &names) {
         return Err(WordsFault::Screens);
     }
+    let window = window_of(audience, &words.shown);
+    let screens = words.shown.screens;
     let Some(asked) = &words.talk else {
-        return Ok(go_on(rt, audience, words, &names));
+        return Ok(go_on(rt, audience, words.code, &names, window, screens));
     };
     may_back_up(rt, asked.tables)?;
-    let Some(talk) = talk_of(rt, audience, asked) else {
+    let Some(day) = day_of(rt, asked) else {
         return Err(WordsFault::Today);
     };
-    let open = Open {
-        code: words.code,
-        names: &names,
-        talk,
-        shown: words.shown,
-        said: None,
+    let Ok(talk) = talk_of(alloc, audience, asked, day) else {
+        return Ok(refuse(rt, Refusal::Memory));
     };
-    Ok(operate_talk(rt, audience, &open))
+    Ok(begin(rt, audience, words.code, &names, &talk, window, screens))
 }

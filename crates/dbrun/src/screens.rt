@@ -10,7 +10,8 @@ use folder_files::paper_name;
 use operating::Broken;
 use operator_desk::{Screens, TakenLines, Typist};
 use run_commands::{
-    Job, OperateRefusal, Rehearsal, Report, operate_files, rehearse_files, rehearse_talk, run_files,
+    Job, OperateRefusal, OperationReport, Rehearsal, Report, operate_files, rehearse_files,
+    rehearse_talk, run_files,
 };
 use save_rules::{is_in_folder, overwritten_by};
 use std::alloc::Global;
@@ -69,6 +70,23 @@ fn tell_stopped(rt: &impl Runtime, screens: &str, why: Broken) -> Status {
     }
 }
 
+/// What a run reports whose screens were kept.
+fn report_of(rt: &impl Runtime, screens: &str, told: OperationReport) -> Result<Report, Status> {
+    let OperationReport { rows, result } = told;
+    match result {
+        Ok(ended) => Ok(Report {
+            rows,
+            result: Ok(ended),
+        }),
+        Err(OperateRefusal::Run(refusal)) => Ok(Report {
+            rows,
+            result: Err(refusal),
+        }),
+        Err(OperateRefusal::Broke(why)) => Err(tell_stopped(rt, screens, why)),
+        Err(OperateRefusal::Handed) => Err(tell_stopped(rt, screens, Broken::Line)),
+    }
+}
+
 /// Runs a code as `run_files` does. Where a file for screens is named, it is written meanwhile.
 pub fn run_shown<R: Runtime<A = Global, File = File>, F: Files>(
     rt: &R,
@@ -85,16 +103,7 @@ pub fn run_shown<R: Runtime<A = Global, File = File>, F: Files>(
         bytes: Vec::new(alloc),
     };
     let told = operate_files(alloc, files, &untyped(job), &mut taken, &mut typist);
-    let result = match told.result {
-        Ok(ended) => Ok(ended),
-        Err(OperateRefusal::Run(refusal)) => Err(refusal),
-        Err(OperateRefusal::Broke(why)) => return Err(tell_stopped(rt, name, why)),
-        Err(OperateRefusal::Handed) => return Err(tell_stopped(rt, name, Broken::Line)),
-    };
-    Ok(Report {
-        rows: told.rows,
-        result,
-    })
+    report_of(rt, name, told)
 }
 
 /// Rehearses a code as `rehearse_files` does. Where a file for screens is named, it is written meanwhile.

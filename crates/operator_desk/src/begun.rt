@@ -2,18 +2,35 @@
 #![tactic(auto)]
 
 use code_pages::CodePage;
-use command_words::{Outcomes, SaveWords, TalkWords};
-use journal_papers::{JournalPaper, PaperFault};
+use journal_papers::JournalPaper;
 use run_commands::{RecordLimit, RunDay};
 use std::alloc::{AllocError, Global};
 
+/// On which terms the tables of a conversation are saved.
+#[derive(Drop)]
+pub struct TalkSave {
+    /// Whether only those of a finished run are.
+    pub only_finished: bool,
+    /// The folder to which all that is replaced is copied first.
+    pub backup: Option<String>,
+    /// Whether new files may have another owner than the old ones.
+    pub new_owner: bool,
+    /// Whether they are saved where the file system knows no locks.
+    pub no_lock: bool,
+}
+
 /// The words of a conversation, all of them said.
-#[derive(Clone, Copy)]
-pub struct Talk<'a> {
+#[derive(Drop)]
+pub struct Talk {
+    /// The most that the run may cost.
     pub budget: u64,
+    /// The most records that a table may have.
     pub limit: RecordLimit,
+    /// The day of the run.
     pub day: RunDay,
-    pub tables: Outcomes<'a>,
+    /// On which terms the tables are saved; none where what would be saved is told.
+    pub save: Option<TalkSave>,
+    /// What bytes from 128 on stand for, in what is typed and shown.
     pub page: Option<CodePage>,
 }
 
@@ -31,26 +48,20 @@ fn page_word(page: Option<CodePage>) -> &'static str {
     }
 }
 
-/// The terms of a save; those of none where nothing is saved.
-fn terms<'a>(tables: &Outcomes<'a>) -> SaveWords<'a> {
-    match tables {
-        Outcomes::Saved(save) => *save,
-        Outcomes::Nothing | Outcomes::Told => SaveWords {
-            only_finished: false,
-            backup: None,
-            new_owner: false,
-            no_lock: false,
-        },
-    }
+/// Puts the terms of a save.
+fn put_save(alloc: Global, paper: &mut JournalPaper, save: &TalkSave) -> Result<(), AllocError> {
+    let backup = match &save.backup {
+        Some(path) => path.as_str(),
+        None => "",
+    };
+    paper.put(alloc, "only-finished", yes_no(save.only_finished))?;
+    paper.put(alloc, "new-owner", yes_no(save.new_owner))?;
+    paper.put(alloc, "no-lock", yes_no(save.no_lock))?;
+    paper.put(alloc, "backup", backup)
 }
 
 /// Puts the words of a conversation.
-pub fn put_talk(
-    alloc: Global,
-    paper: &mut JournalPaper,
-    talk: &Talk<'_>,
-) -> Result<(), AllocError> {
-    let save = terms(&talk.tables);
+pub fn put_talk(alloc: Global, paper: &mut JournalPaper, talk: &Talk) -> Result<(), AllocError> {
     let budget = format!(in alloc; "{}", talk.budget)?;
     let limit = format!(in alloc; "{}", talk.limit.records())?;
     let today = format!(in alloc; "{}", talk.day)?;
@@ -58,15 +69,11 @@ pub fn put_talk(
     paper.put(alloc, "budget", budget.as_str())?;
     paper.put(alloc, "limit", limit.as_str())?;
     paper.put(alloc, "from", page_word(talk.page))?;
-    paper.put(
-        alloc,
-        "rehearse",
-        yes_no(matches!(talk.tables, Outcomes::Told)),
-    )?;
-    paper.put(alloc, "only-finished", yes_no(save.only_finished))?;
-    paper.put(alloc, "new-owner", yes_no(save.new_owner))?;
-    paper.put(alloc, "no-lock", yes_no(save.no_lock))?;
-    paper.put(alloc, "backup", save.backup.unwrap_or(""))
+    paper.put(alloc, "rehearse", yes_no(talk.save.is_none()))?;
+    match &talk.save {
+        Some(save) => put_save(alloc, paper, save),
+        None => Ok(()),
+    }
 }
 
 /// Whether a word is a yes; none where it is neither yes nor no.
@@ -87,33 +94,36 @@ fn page_in(paper: &JournalPaper) -> Option<Option<CodePage>> {
     }
 }
 
-fn backup_in(paper: &JournalPaper) -> Option<Option<&str>> {
-    match paper.get("backup") {
-        Some("") => Some(None),
-        Some(path) => Some(Some(path)),
-        None => None,
+/// A copy of a text, of which an empty one says none.
+fn name_in(alloc: Global, text: &str) -> Result<Option<String>, AllocError> {
+    if text.is_empty() {
+        return Ok(None);
     }
+    Ok(Some(String::from_str(alloc, text)?))
 }
 
-fn tables_in(paper: &JournalPaper) -> Option<Outcomes<'_>> {
-    if is_yes(paper, "rehearse")? {
-        return Some(Outcomes::Told);
-    }
-    Some(Outcomes::Saved(SaveWords {
+/// The terms of a save that the text says, if it says all of them.
+fn save_in(alloc: Global, paper: &JournalPaper) -> Option<TalkSave> {
+    Some(TalkSave {
         only_finished: is_yes(paper, "only-finished")?,
-        backup: backup_in(paper)?,
+        backup: name_in(alloc, paper.get("backup")?).ok()?,
         new_owner: is_yes(paper, "new-owner")?,
         no_lock: is_yes(paper, "no-lock")?,
-    }))
+    })
 }
 
 /// The words of a conversation that the text says, if it says all of them.
-pub fn talk_in(paper: &JournalPaper) -> Option<Talk<'_>> {
+pub fn talk_in(alloc: Global, paper: &JournalPaper) -> Option<Talk> {
+    let save = if is_yes(paper, "rehearse")? {
+        None
+    } else {
+        Some(save_in(alloc, paper)?)
+    };
     Some(Talk {
         budget: paper.get("budget")?.parse::<u64>().ok()?,
         limit: RecordLimit::of(paper.get("limit")?.parse::<u32>().ok()?)?,
         day: RunDay::named(paper.get("today")?)?,
-        tables: tables_in(paper)?,
+        save,
         page: page_in(paper)?,
     })
 }

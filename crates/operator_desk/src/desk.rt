@@ -37,7 +37,7 @@ pub struct Manner {
 pub struct OperatorDesk<'a, R: Runtime<A = Global, File = File>> {
     pub rt: &'a R,
     pub manner: Manner,
-    pub talk: Talk<'a>,
+    pub talk: &'a Talk,
     pub record: Record<'a, R>,
     pub screens: Screens,
     pub gets: Gets,
@@ -254,7 +254,7 @@ impl<R: Runtime<A = Global, File = File>> OperatorDesk<'_, R> {
 impl<R: Runtime<A = Global, File = File>> Operator for OperatorDesk<'_, R> {
     fn begin(&mut self, code: &Code) -> Result<Vec<bool>, OperatorFailed> {
         let alloc = self.rt.alloc();
-        self.record.begin(alloc, &self.talk)?;
+        self.record.begin(alloc, self.talk)?;
         match self.gets.begin(alloc, code) {
             Ok(marks) => Ok(marks),
             Err(_) => Err(OperatorFailed),

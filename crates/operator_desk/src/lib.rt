@@ -11,7 +11,7 @@ mod screens;
 mod typing;
 mod typist;
 
-pub use begun::{Talk, talk_in};
+pub use begun::{Talk, TalkSave, talk_in};
 pub use clock::local_day;
 pub use desk::{Manner, OperatorDesk};
 pub use gets::Gets;

@@ -49,7 +49,7 @@ pub struct Record<'a, R: Runtime<A = Global, File = File>> {
 }
 
 /// The text of a beginning.
-fn begun_text(alloc: Global, talk: &Talk<'_>, sums: &[FileSum]) -> Result<String, PaperFault> {
+fn begun_text(alloc: Global, talk: &Talk, sums: &[FileSum]) -> Result<String, PaperFault> {
     let mut paper = JournalPaper::new(alloc);
     if put_talk(alloc, &mut paper, talk).is_err() {
         return Err(PaperFault::Memory);
@@ -64,7 +64,7 @@ fn begun_text(alloc: Global, talk: &Talk<'_>, sums: &[FileSum]) -> Result<String
 
 impl<R: Runtime<A = Global, File = File>> Record<'_, R> {
     /// Writes the text of the beginning, or, where the conversation goes on, looks whether all files are as it says.
-    pub fn begin(&mut self, alloc: Global, talk: &Talk<'_>) -> Result<(), OperatorFailed> {
+    pub fn begin(&mut self, alloc: Global, talk: &Talk) -> Result<(), OperatorFailed> {
         let Ok(sums) = self.sums.try_borrow() else {
             return Err(OperatorFailed);
         };
@@ -83,7 +83,7 @@ impl<R: Runtime<A = Global, File = File>> Record<'_, R> {
     fn write(
         &mut self,
         alloc: Global,
-        talk: &Talk<'_>,
+        talk: &Talk,
         sums: &[FileSum],
     ) -> Result<(), OperatorFailed> {
         if self.begun.is_empty() {
