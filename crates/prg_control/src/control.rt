@@ -31,7 +31,11 @@ struct Open<'a> {
 ///
 /// The first fault in the order of the commands, with its line and the number of its file; where faults are listed,
 /// none. Want of memory.
-pub fn commands(s: &Source, w: &mut Writer, list: &[Command]) -> Result<(), CompileRefusal> {
+pub fn commands<'a>(
+    s: &'a Source,
+    w: &mut Writer,
+    list: &'a [Command],
+) -> Result<(), CompileRefusal> {
     let mut open = Vec::new(w.alloc);
     open.push(Open {
         begun: None,
@@ -77,9 +81,22 @@ fn go_on<'a>(
 
 /// The same with these commands.
 fn with_list<'a>(open: Open<'a>, list: &'a [Command]) -> Open<'a> {
-    let mut open = open;
-    open.body.list = list;
-    open
+    let Open { begun, body } = open;
+    let Body {
+        end,
+        leaps,
+        behind,
+        ..
+    } = body;
+    Open {
+        begun,
+        body: Body {
+            list,
+            end,
+            leaps,
+            behind,
+        },
+    }
 }
 
 /// Begins the commands of a body, where there is one. Of a faulty command nothing is put, where faults are listed.
