@@ -178,7 +178,8 @@ fn faults_of_commands(
 
 /// All faults of command files, the main one first, for the tables and indexes of a declaration file: those of every
 /// file's lines, file by file, and where there are none those that the compiler finds, one of each line, the one that
-/// `compile_files` tells first. Of a file that isn't there or is too long, that is listed as its fault. No file changes.
+/// `compile_files` tells first. A file that isn't there or is too long is listed with that as its fault. No file
+/// changes.
 ///
 /// # Errors
 ///

@@ -9,15 +9,12 @@ use code_items::{Code, Shape};
 use prg_code::{
     Block, CompileError, CompileFault, CompileFaultKind, CompileRefusal, Names, Output, Work,
 };
-use prg_control::{Inside, commands, end_copy, end_procedure, last_line};
+use prg_control::{commands, end_copy, end_procedure, last_line};
 use prg_laid::{LayoutFault, judge};
 use prg_parser::Program;
 use prg_writer::{FaultList, ProcedureCopy, Source, Target, Writer, assemble, copy_of_shape};
 use std::alloc::{AllocError, Global};
 use xverify::{Verified, VerifyError, verify};
-
-/// How deep blocks and calls may go: thirty-two blocks in each of twenty-one procedures, and a few steps for each.
-const ROOM: u16 = 4096;
 
 /// The main procedure: the part of the first file before its first PROCEDURE.
 const MAIN: Target = Target {
@@ -74,11 +71,7 @@ fn written(
     let mut w = begun(alloc)?;
     w.listed = listed;
     let list = s.commands(MAIN);
-    let at = Inside {
-        leaps: None,
-        room: ROOM,
-    };
-    commands(s, &mut w, at, list, None)?;
+    commands(s, &mut w, list)?;
     end_procedure(&mut w, last_line(list, 0))?;
     let names = w.work.names.copied(alloc)?;
     end_copy(&mut w, 0, empty_work(alloc)?);

@@ -21,6 +21,8 @@ pub struct Body<'a> {
 /// What is to be written behind the commands.
 #[derive(Drop)]
 pub enum Behind<'a> {
+    /// Of a procedure's own list: nothing here.
+    Nothing,
     /// Of a part with a condition: the parts behind it. The label is where a false condition leads.
     Case(Choice<'a>, usize),
     /// Of ELSE or OTHERWISE: the end of the choice.

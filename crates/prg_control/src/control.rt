@@ -1,10 +1,7 @@
 //! The commands of a list, and those within them.
 //!
 //! A command is written in pieces: what goes before the commands within it, then these, then what goes behind them,
-//! maybe up to further commands within it. Only this file calls itself. Each call is given how deep it may still go;
-//! what the parser makes and calls allow never asks for more.
-
-ghost use Rattle.std.specs.Prelude.{◌≡◌, ◌+◌, ◌<◌};
+//! maybe up to further commands within it. The commands that are begun stand in a list, so no function calls itself.
 
 use crate::body::{Behind, Body};
 use crate::calling::{end_call, open_call};
@@ -16,80 +13,110 @@ use prg_code::{CompileFaultKind, CompileRefusal};
 use prg_commands::{Turn, may_stand_before_read, put_statement};
 use prg_line::Statement;
 use prg_parser::{Command, Form};
-use prg_writer::{Source, Writer};
+use prg_writer::{Begun, Source, Writer};
 
-/// Where commands stand: in which loop, and how deep blocks and calls may still go.
-#[derive(Clone, Copy, Debug, PartialEq, Eq)]
-pub struct Inside {
-    pub leaps: Option<Leaps>,
-    pub room: u16,
+/// A command that is begun.
+#[derive(Drop)]
+struct Open<'a> {
+    /// What stood before it, where faults are listed.
+    begun: Option<Begun>,
+    /// The commands within it that aren't written yet, and what goes behind them.
+    body: Body<'a>,
 }
 
-impl Inside {
-    /// One step deeper, in this loop, or in none.
-    fn within(self, leaps: Option<Leaps>) -> Inside
-        requires { 0 < self.room }
-        ensures { result.room + 1 ≡ self.room }
-    {
-        Inside {
-            leaps,
-            room: self.room - 1,
-        }
-    }
-}
-
-/// Puts the commands up to the first one behind which nothing is reached. Where they are a part of a block, Get in the
-/// line that ends it if a READ is awaited there. Where faults are listed, nothing of a faulty command is put.
-#[cycle(commands)]
-pub fn commands(
-    s: &Source,
+/// Puts the commands up to the first one behind which nothing is reached, and all within them. Where faults are listed,
+/// nothing of a faulty command is put.
+///
+/// # Errors
+///
+/// The first fault in the order of the commands, with its line and the number of its file; where faults are listed,
+/// none. Want of memory.
+pub fn commands<'a>(
+    s: &'a Source,
     w: &mut Writer,
-    at: Inside,
-    list: &[Command],
-    end: Option<usize>,
+    list: &'a [Command],
 ) -> Result<(), CompileRefusal> {
-    for command in list {
-        if !w.work.block.reached {
-            return Ok(());
-        }
-        let begun = w.begun()?;
-        let outcome = put_command(s, w, at, command);
-        w.gave_up(begun, outcome)?;
-    }
-    match end {
-        Some(line) => no_get_waits(w, line),
-        None => Ok(()),
-    }
-}
-
-/// Puts a command and those within it. Limit where that would be too deep.
-#[cycle(commands)]
-fn put_command(
-    s: &Source,
-    w: &mut Writer,
-    at: Inside,
-    command: &Command,
-) -> Result<(), CompileRefusal> {
-    if at.room == 0 {
-        return Err(w.faulty(command.line, CompileFaultKind::Limit));
-    }
-    let mut next = opened(&*s, w, at.leaps, &*command)?;
+    let mut open = Vec::new(w.alloc);
+    open.push(Open {
+        begun: None,
+        body: Body {
+            list,
+            end: None,
+            leaps: None,
+            behind: Behind::Nothing,
+        },
+    })?;
     for _ in 0..u64::MAX {
-        let Some(
-            Body {
-                list,
-                end,
-                leaps,
-                behind,
-            },
-        ) = next
-        else {
+        let Some(innermost) = open.pop() else {
             return Ok(());
         };
-        commands(s, w, at.within(leaps), list, end)?;
-        next = go_on(s, w, behind)?;
+        go_on(s, w, &mut open, innermost)?;
     }
-    Err(w.faulty(command.line, CompileFaultKind::Limit))
+    Err(w.faulty(0, CompileFaultKind::Limit))
+}
+
+/// Puts the next piece of the innermost command that is begun; `open` has those around it.
+fn go_on<'a>(
+    s: &'a Source,
+    w: &mut Writer,
+    open: &mut Vec<Open<'a>>,
+    innermost: Open<'a>,
+) -> Result<(), CompileRefusal> {
+    let list = innermost.body.list;
+    match list.split_first() {
+        Some((command, others)) if w.work.block.reached => {
+            let leaps = innermost.body.leaps;
+            open.push(with_list(innermost, others))?;
+            let begun = w.begun()?;
+            let outcome = opened(s, w, leaps, command);
+            enter(w, open, begun, outcome)
+        }
+        _ => {
+            let Open { begun, body } = innermost;
+            let outcome = ended(s, w, body);
+            enter(w, open, begun, outcome)
+        }
+    }
+}
+
+/// The same with these commands.
+fn with_list<'a>(open: Open<'a>, list: &'a [Command]) -> Open<'a> {
+    let Open { begun, body } = open;
+    let Body {
+        end,
+        leaps,
+        behind,
+        ..
+    } = body;
+    Open {
+        begun,
+        body: Body {
+            list,
+            end,
+            leaps,
+            behind,
+        },
+    }
+}
+
+/// Begins the commands of a body, where there is one. Of a faulty command nothing is put, where faults are listed.
+fn enter<'a>(
+    w: &mut Writer,
+    open: &mut Vec<Open<'a>>,
+    begun: Option<Begun>,
+    outcome: Result<Option<Body<'a>>, CompileRefusal>,
+) -> Result<(), CompileRefusal> {
+    match outcome {
+        Ok(Some(body)) => {
+            open.push(Open { begun, body })?;
+            Ok(())
+        }
+        Ok(None) => Ok(()),
+        Err(refusal) => {
+            w.gave_up(begun, Err(refusal))?;
+            Ok(())
+        }
+    }
 }
 
 /// Puts what goes before the first commands within a command; the whole command where there are none.
@@ -167,13 +194,26 @@ fn open_statement<'a>(
     Ok(None)
 }
 
-/// Puts what goes behind commands, up to the next ones within the same command; none where the command ends.
-fn go_on<'a>(
+/// Ends the commands of a body, and puts what goes behind them, up to the next ones within the same command; none where
+/// the command ends. Get in the line that ends a part of a block if a READ is awaited there and all of it was written.
+fn ended<'a>(
     s: &Source,
     w: &mut Writer,
-    behind: Behind<'a>,
+    body: Body<'a>,
 ) -> Result<Option<Body<'a>>, CompileRefusal> {
+    let Body {
+        list,
+        end,
+        behind,
+        ..
+    } = body;
+    if let Some(line) = end
+        && list.is_empty()
+    {
+        no_get_waits(w, line)?;
+    }
     match behind {
+        Behind::Nothing => Ok(None),
         Behind::Case(choice, other) => end_part(s, w, choice, other),
         Behind::Otherwise(choice) => {
             end_choice(w, choice)?;

@@ -13,5 +13,5 @@ mod loops;
 mod steps;
 
 pub use calling::{end_copy, last_line};
-pub use control::{Inside, commands};
+pub use control::commands;
 pub use ends::end_procedure;
