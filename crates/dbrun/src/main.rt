@@ -7,6 +7,7 @@
 
 mod areas;
 mod operate;
+mod progress;
 mod screens;
 mod shown;
 
@@ -397,7 +398,7 @@ fn run_and_save<R: Runtime<A = Global, File = File>>(
         backup: save.backup,
     };
     let mut saving = SavingFolder::new(folder(rt, audience), terms);
-    let done = match run_shown(rt, &mut saving, job, screens) {
+    let done = match run_shown(rt, audience, &mut saving, job, screens) {
         Ok(done) => done,
         Err(status) => return status,
     };
@@ -437,7 +438,7 @@ fn rehearse<R: Runtime<A = Global, File = File>>(
     screens: Option<&str>,
 ) -> Status {
     let mut folder = folder(rt, audience);
-    let done = match rehearse_shown(rt, &mut folder, job, screens) {
+    let done = match rehearse_shown(rt, audience, &mut folder, job, screens) {
         Ok(done) => done,
         Err(status) => return status,
     };

@@ -3,15 +3,15 @@
 
 ghost use Rattle.std.specs.Prelude.{◌≡◌, [], false};
 
+use crate::progress::{rehearse_told, run_told};
+use crate::shown::Audience;
 use crate::{refuse, tell_refusal};
 use file_access::Files;
 use file_commands::{Refusal, Status};
 use folder_files::paper_name;
 use operating::Broken;
 use operator_desk::{Screens, TakenLines, Typist};
-use run_commands::{
-    Job, OperateRefusal, Rehearsal, Report, operate_files, rehearse_files, rehearse_talk, run_files,
-};
+use run_commands::{Job, OperateRefusal, Rehearsal, Report, operate_files, rehearse_talk};
 use save_rules::{is_in_folder, overwritten_by};
 use std::alloc::Global;
 use std::fs::{File, OpenOptions};
@@ -69,16 +69,18 @@ fn tell_stopped(rt: &impl Runtime, screens: &str, why: Broken) -> Status {
     }
 }
 
-/// Runs a code as `run_files` does. Where a file for screens is named, it is written meanwhile.
+/// Runs a code as `run_files` does; a person is told how far it has come. Where a file for screens is named, it is
+/// written meanwhile.
 pub fn run_shown<R: Runtime<A = Global, File = File>, F: Files>(
     rt: &R,
+    audience: Audience,
     files: &mut F,
     job: &Job<'_>,
     screens: Option<&str>,
 ) -> Result<Report, Status> {
     let alloc = rt.alloc();
     let Some(name) = screens else {
-        return Ok(run_files(alloc, files, job));
+        return Ok(run_told(rt, audience, files, job));
     };
     let mut typist = Typist::of(alloc, job.input, screens_to(rt, screens)?);
     let mut taken = TakenLines {
@@ -97,16 +99,18 @@ pub fn run_shown<R: Runtime<A = Global, File = File>, F: Files>(
     })
 }
 
-/// Rehearses a code as `rehearse_files` does. Where a file for screens is named, it is written meanwhile.
+/// Rehearses a code as `rehearse_files` does; a person is told how far it has come. Where a file for screens is named,
+/// it is written meanwhile.
 pub fn rehearse_shown<R: Runtime<A = Global, File = File>, F: Files>(
     rt: &R,
+    audience: Audience,
     files: &mut F,
     job: &Job<'_>,
     screens: Option<&str>,
 ) -> Result<Rehearsal, Status> {
     let alloc = rt.alloc();
     let Some(name) = screens else {
-        return match rehearse_files(alloc, files, job) {
+        return match rehearse_told(rt, audience, files, job) {
             Ok(told) => Ok(told),
             Err(refusal) => Err(tell_refusal(rt, job.name, &refusal)),
         };
