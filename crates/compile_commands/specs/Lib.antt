@@ -1,3 +1,4 @@
+pub mod Areas
 pub mod Compiling
 pub mod Listing
 pub mod Refusals

@@ -5,10 +5,13 @@
 //! carried out, and what they give is printed.
 #![tactic(auto)]
 
+mod areas;
 mod operate;
+mod progress;
 mod screens;
 mod shown;
 
+use crate::areas::tell_areas;
 use crate::operate::operate;
 use crate::screens::{is_free_name, rehearse_shown, run_shown};
 use crate::shown::{
@@ -101,6 +104,7 @@ fn show_faulty<R: Runtime<A = Global>>(
     rt: &R,
     place: FaultyLine<'_>,
     refusal: &CompileFilesRefusal,
+    words: CompileWords<'_>,
 ) {
     let mut folder = Folder::new(rt, Nobody);
     let Ok(bytes) = folder.read(rt.alloc(), place.file, FILE_LIMIT) else {
@@ -110,6 +114,9 @@ fn show_faulty<R: Runtime<A = Global>>(
         return;
     };
     let _ = eprintln!(rt; "  {line}");
+    if tell_areas(rt, rt.alloc(), &mut folder, refusal, words, line.bytes()) {
+        return;
+    }
     if let Some(hint) = hint_of(rt.alloc(), &mut folder, refusal, line) {
         let _ = eprintln!(rt; "  {hint}.");
     }
@@ -162,7 +169,7 @@ fn tell_uncompiled<R: Runtime<A = Global>>(
     let told = CompileTold { refusal, words };
     let _ = eprintln!(rt; "{told}");
     if let (true, Some(place)) = (audience.person, faulty_line(refusal, words)) {
-        show_faulty(rt, place, refusal);
+        show_faulty(rt, place, refusal, words);
     }
     of_compiling(refusal)
 }
@@ -391,7 +398,7 @@ fn run_and_save<R: Runtime<A = Global, File = File>>(
         backup: save.backup,
     };
     let mut saving = SavingFolder::new(folder(rt, audience), terms);
-    let done = match run_shown(rt, &mut saving, job, screens) {
+    let done = match run_shown(rt, audience, &mut saving, job, screens) {
         Ok(done) => done,
         Err(status) => return status,
     };
@@ -431,7 +438,7 @@ fn rehearse<R: Runtime<A = Global, File = File>>(
     screens: Option<&str>,
 ) -> Status {
     let mut folder = folder(rt, audience);
-    let done = match rehearse_shown(rt, &mut folder, job, screens) {
+    let done = match rehearse_shown(rt, audience, &mut folder, job, screens) {
         Ok(done) => done,
         Err(status) => return status,
     };

@@ -3,6 +3,8 @@
 
 ghost use Rattle.std.specs.Prelude.{◌≡◌, [], false};
 
+use crate::progress::{rehearse_told, run_told};
+use crate::shown::Audience;
 use crate::{refuse, tell_refusal};
 use file_access::Files;
 use file_commands::{Refusal, Status};
@@ -10,8 +12,7 @@ use folder_files::paper_name;
 use operating::Broken;
 use operator_desk::{Screens, TakenLines, Typist};
 use run_commands::{
-    Job, OperateRefusal, OperationReport, Rehearsal, Report, operate_files, rehearse_files,
-    rehearse_talk, run_files,
+    Job, OperateRefusal, OperationReport, Rehearsal, Report, operate_files, rehearse_talk,
 };
 use save_rules::{is_in_folder, overwritten_by};
 use std::alloc::Global;
@@ -87,16 +88,18 @@ fn report_of(rt: &impl Runtime, screens: &str, told: OperationReport) -> Result<
     }
 }
 
-/// Runs a code as `run_files` does. Where a file for screens is named, it is written meanwhile.
+/// Runs a code as `run_files` does; a person is told how far it has come. Where a file for screens is named, it is
+/// written meanwhile.
 pub fn run_shown<R: Runtime<A = Global, File = File>, F: Files>(
     rt: &R,
+    audience: Audience,
     files: &mut F,
     job: &Job<'_>,
     screens: Option<&str>,
 ) -> Result<Report, Status> {
     let alloc = rt.alloc();
     let Some(name) = screens else {
-        return Ok(run_files(alloc, files, job));
+        return Ok(run_told(rt, audience, files, job));
     };
     let mut typist = Typist::of(alloc, job.input, screens_to(rt, screens)?);
     let mut taken = TakenLines {
@@ -106,16 +109,18 @@ pub fn run_shown<R: Runtime<A = Global, File = File>, F: Files>(
     report_of(rt, name, told)
 }
 
-/// Rehearses a code as `rehearse_files` does. Where a file for screens is named, it is written meanwhile.
+/// Rehearses a code as `rehearse_files` does; a person is told how far it has come. Where a file for screens is named,
+/// it is written meanwhile.
 pub fn rehearse_shown<R: Runtime<A = Global, File = File>, F: Files>(
     rt: &R,
+    audience: Audience,
     files: &mut F,
     job: &Job<'_>,
     screens: Option<&str>,
 ) -> Result<Rehearsal, Status> {
     let alloc = rt.alloc();
     let Some(name) = screens else {
-        return match rehearse_files(alloc, files, job) {
+        return match rehearse_told(rt, audience, files, job) {
             Ok(told) => Ok(told),
             Err(refusal) => Err(tell_refusal(rt, job.name, &refusal)),
         };

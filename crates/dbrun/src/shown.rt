@@ -145,6 +145,13 @@ pub struct Line<'a> {
     bytes: &'a [u8],
 }
 
+impl<'a> Line<'a> {
+    /// All its bytes.
+    pub fn bytes(self) -> &'a [u8] {
+        self.bytes
+    }
+}
+
 /// The line of that number, if there is one. A line ends before a line feed, and before a carriage return there.
 pub fn line_at(bytes: &[u8], line: usize) -> Option<Line<'_>> {
     let bytes = bytes

@@ -2,11 +2,13 @@
 //! that is left out of the language. Sentences have no point at their end.
 #![tactic(auto)]
 
+mod areas;
 mod kinds;
 mod left_out;
 mod line;
 mod tables;
 
+pub use areas::{AreasHint, Chosen, of_areas};
 pub use kinds::{of_command, of_declaration, of_table_note};
 pub use left_out::LeftOut;
 pub use line::of_line;

@@ -1,11 +1,14 @@
 //! The whole compiler.
 
-ghost use Rattle.std.specs.Prelude.{◌≡◌, ◌<◌, None, Some, length, slice_get, IfOk};
+ghost use Rattle.std.specs.Prelude.{◌≡◌, ◌<◌, None, Some, length, slice_get, IfOk, IfSome};
 ghost use Rattle.prg_compile.specs.Alone.{IsCompilable};
 ghost use Rattle.code_items.specs.Legal.{IsCode};
 ghost use Rattle.prg_compile.specs.Alone.{IsLaidAlone};
+ghost use Rattle.met_areas.specs.Met.{AreOfShape};
 
+use crate::ways::areas_at;
 use code_items::{Code, Shape};
+use met_areas::MetAreas;
 use prg_code::{
     Block, CompileError, CompileFault, CompileFaultKind, CompileRefusal, Names, Output, Work,
 };
@@ -62,6 +65,13 @@ struct WrittenCode {
     names: Names,
 }
 
+/// Writes the main procedure, and with it all that it reaches. At a fault the writer stands at the faulty command.
+fn write_main(w: &mut Writer, s: &Source) -> Result<(), CompileRefusal> {
+    let list = s.commands(MAIN);
+    commands(s, w, list)?;
+    end_procedure(w, last_line(list, 0))
+}
+
 /// Writes all that is reached from the main procedure on. Faults are listed, where there is a list for them.
 fn written(
     alloc: Global,
@@ -70,9 +80,7 @@ fn written(
 ) -> Result<WrittenCode, CompileRefusal> {
     let mut w = begun(alloc)?;
     w.listed = listed;
-    let list = s.commands(MAIN);
-    commands(s, &mut w, list)?;
-    end_procedure(&mut w, last_line(list, 0))?;
+    write_main(&mut w, s)?;
     let names = w.work.names.copied(alloc)?;
     end_copy(&mut w, 0, empty_work(alloc)?);
     Ok(WrittenCode { writer: w, names })
@@ -222,6 +230,29 @@ pub fn find_faults(
     match compile(alloc, programs, shape) {
         Ok(_verified) => Ok(Vec::new(alloc)),
         Err(CompileRefusal::Fault(told)) => all_faults(alloc, &Source { programs, shape }, told),
+        Err(CompileRefusal::NoMemory) => Err(AllocError),
+    }
+}
+
+/// The work areas at the first faulty command, as far as they are known there. None where no command is faulty: where
+/// `compile` answers a code, or refuses the code as a whole.
+///
+/// # Errors
+///
+/// Want of memory.
+pub fn areas_at_fault(
+    alloc: Global,
+    programs: &[Program],
+    shape: &Shape,
+) -> Result<Option<MetAreas>, AllocError>
+    requires programs { 0 < length programs.now }
+    // Tables go by the names that are declared.
+    ensures told { IfOk result (λ found. IfSome found (AreOfShape shape.now)) }
+{
+    let mut w = begun(alloc)?;
+    match write_main(&mut w, &Source { programs, shape }) {
+        Ok(()) => Ok(None),
+        Err(CompileRefusal::Fault(fault)) => Ok(Some(areas_at(&w, shape, fault.kind)?)),
         Err(CompileRefusal::NoMemory) => Err(AllocError),
     }
 }

@@ -2,10 +2,10 @@
 use Rattle.std.proofs.Common.{◌≡◌, ◌∙◌, ap, refl, subst, ℕ, List, Option}
 use Rattle.calendar.specs.declared.day.DayParts.{DayParts}
 use Rattle.code_items.specs.declared.code.Code.{Code}
-use Rattle.machine.specs.Headline.{Headline}
 use Rattle.machine.specs.Twins.{BankState}
 use Rattle.run_commands.specs.declared.job.Job.{Job}
 use Rattle.run_commands.specs.Runs.{IsRun, IsLeft, IsSoundRun, begun}
+use Rattle.run_parts.specs.Parts.{RunsTo}
 use Rattle.run_steps.specs.declared.ending.Outcome.{Outcome}
 use Rattle.run_steps.specs.Opening.{opening}
 use Rattle.run_steps.specs.Run.{Ran}
@@ -39,14 +39,14 @@ pub left_soundly : (code : Code) (store : StoreState) (job : Job) (outcome : Out
 left_soundly code store job outcome rows tables h = record { run = h.run; tables_are = h.tables_are; fits = h.fits }
 
 pub sound_from : (code : Code) (store : StoreState) (job : Job) (outcome : Outcome) (rows : List ℕ) (lines : List (List ℕ)) (today : Option DayParts) (b : BankState)
-    → Headline code (opening code store lines today) job.budget outcome b → lines ≡ short_lines job.input.now → today ≡ job.day → rows ≡ sent b.env.screen → IsSoundRun code store job outcome rows b.env.store
+    → RunsTo code (opening code store lines today) job.budget outcome b → lines ≡ short_lines job.input.now → today ≡ job.day → rows ≡ sent b.env.screen → IsSoundRun code store job outcome rows b.env.store
 sound_from code store job outcome rows lines today b h el et r = record {
   run = record {
     last = h.world;
-    ran = subst (λ w. Ran code w job.budget outcome h.world) (begins code store job lines today el et) h.takes_its_steps;
+    ran = subst (λ w. Ran code w job.budget outcome h.world) (begins code store job lines today el et) h.ran;
     rows_are = r ∙ ap sent h.agrees.screen;
   };
-  no_fault = h.ends_without_fault;
+  no_fault = h.no_fault;
   tables_are = h.agrees.store;
-  fits = h.as_declared;
+  fits = h.declared;
 }

@@ -9,8 +9,9 @@ ghost use Rattle.text_lines.specs.Lines.{short_lines};
 
 use crate::job::Job;
 use code_items::Code;
-use machine::{Banks, run};
+use machine::Banks;
 use ndx_tree::NdxTree;
+use run_parts::{Watcher, run_in_parts};
 use run_steps::Outcome;
 use std::alloc::{AllocError, Global};
 use tagged_machine::{World, run_checked};
@@ -67,12 +68,13 @@ pub(crate) fn run_any(
     })
 }
 
-/// Runs an accepted code on the machine without tags.
-pub(crate) fn run_accepted(
+/// Runs an accepted code on the machine without tags, in the parts that the watcher says.
+pub(crate) fn run_accepted<W: Watcher>(
     alloc: Global,
     verified: &Verified,
     store: Store<NdxTree>,
     job: &Job<'_>,
+    watcher: &mut W,
 ) -> Result<AcceptedRun, AllocError>
     requires fits { StoreFits verified.now.declared store }
     ensures { IfOk result (λ done. IsSoundRun verified.now store job.now done.run.outcome done.run.rows.items
@@ -80,7 +82,7 @@ pub(crate) fn run_accepted(
 {
     let lines = typed(alloc, job.input)?;
     let mut banks = Banks::opening(alloc, verified, store, job.day.day(), lines)?;
-    let outcome = run(alloc, verified, &mut banks, job.budget);
+    let outcome = run_in_parts(alloc, verified, &mut banks, job.budget, watcher);
     let rows = banks.finish(alloc)?;
     Ok(AcceptedRun {
         run: Run { rows, outcome },

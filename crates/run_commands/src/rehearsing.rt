@@ -20,6 +20,7 @@ use code_items::laws::legal_codes;
 use file_access::Files;
 use file_commands::read_code;
 use run_laws::laws::new_stores_fit;
+use run_parts::{Unwatched, Watcher};
 use run_steps::Outcome;
 use shape::{IndexShape, Name, Shape, TableShape};
 use std::alloc::{AllocError, Global};
@@ -99,11 +100,12 @@ fn compare_any<F: Files>(
 }
 
 /// Runs an accepted code on the machine without tags, over the tables that it declares.
-fn compare_accepted<F: Files>(
+fn compare_accepted<F: Files, W: Watcher>(
     alloc: Global,
     files: &mut F,
     verified: &Verified,
     job: &Job<'_>,
+    watcher: &mut W,
 ) -> Result<Compared, RunRefusal>
     ensures done { IfOk result (λ done. LeavesTables (F.holds files.old) job.now verified.now done.outcome
         done.rows.items done.changes) }
@@ -117,7 +119,7 @@ fn compare_accepted<F: Files>(
     let shape = &verified.code().declared.shape;
     let loaded = load(alloc, files, shape, job.limit.records())?;
     let kept = keep(alloc, shape, &loaded)?;
-    let done = run_accepted(alloc, verified, loaded, job)?;
+    let done = run_accepted(alloc, verified, loaded, job, watcher)?;
     let changes = changes_since(alloc, shape, kept, done.banks.store())?;
     Ok(Compared {
         rows: done.run.rows,
@@ -162,11 +164,12 @@ fn rehearse_any<F: Files>(
 }
 
 /// Rehearses an accepted code, for a job that tests no instruction.
-fn rehearse_accepted<F: Files>(
+fn rehearse_accepted<F: Files, W: Watcher>(
     alloc: Global,
     files: &mut F,
     verified: &Verified,
     job: &Job<'_>,
+    watcher: &mut W,
 ) -> Result<Rehearsal, RunRefusal>
     requires { job.now.checked ≡ false }
     ensures done { IfOk result (λ told. IsRehearsed (F.holds files.old) job.now told verified.now) }
@@ -176,18 +179,19 @@ fn rehearse_accepted<F: Files>(
     ensures counted { F.failed files.old ≤ F.failed files.new }
 {
     let shape = &verified.code().declared.shape;
-    match compare_accepted(alloc, files, verified, job) {
+    match compare_accepted(alloc, files, verified, job, watcher) {
         Ok(done) => told_of(alloc, shape, done),
         Err(refusal) => Err(refusal),
     }
 }
 
 /// Rehearses a code as the job says.
-fn rehearse_code<F: Files>(
+fn rehearse_code<F: Files, W: Watcher>(
     alloc: Global,
     files: &mut F,
     code: Code,
     job: &Job<'_>,
+    watcher: &mut W,
 ) -> Result<Rehearsal, RunRefusal>
     requires { IsCode code }
     ensures done { IfOk result (λ told. IsRehearsed (F.holds files.old) job.now told code) }
@@ -200,7 +204,30 @@ fn rehearse_code<F: Files>(
         return rehearse_any(alloc, files, &code, job);
     }
     let verified = accept(alloc, code)?;
-    rehearse_accepted(alloc, files, &verified, job)
+    rehearse_accepted(alloc, files, &verified, job, watcher)
+}
+
+/// Rehearses the code in a file as `rehearse_files` does. Where the job isn't tested the run is told to the watcher, in
+/// the parts that it says; that changes nothing of what is answered.
+///
+/// # Errors
+/// Those for which `run_files` runs nothing.
+pub fn rehearse_files_watched<F: Files, W: Watcher>(
+    alloc: Global,
+    files: &mut F,
+    job: &Job<'_>,
+    watcher: &mut W,
+) -> Result<Rehearsal, RunRefusal>
+    ensures done { IfOk result (λ told. HasCode (F.holds files.old job.now.name.now)
+        (IsRehearsed (F.holds files.old) job.now told)) }
+    ensures refused { IfErr result (RefusedBefore (F.holds files.old) job.now
+        (Rose (F.failed files.old) (F.failed files.new))) }
+    ensures kept { SameFiles (F.holds files.old) (F.holds files.new) }
+{
+    match read_code(alloc, files, job.name) {
+        Ok(code) => rehearse_code(alloc, files, code, job, watcher),
+        Err(refusal) => Err(of_code(refusal)),
+    }
 }
 
 /// Runs the code in a file as `run_files` does, and saves nothing: what a run would have saved is compared with the
@@ -219,10 +246,7 @@ pub fn rehearse_files<F: Files>(
         (Rose (F.failed files.old) (F.failed files.new))) }
     ensures kept { SameFiles (F.holds files.old) (F.holds files.new) }
 {
-    match read_code(alloc, files, job.name) {
-        Ok(code) => rehearse_code(alloc, files, code, job),
-        Err(refusal) => Err(of_code(refusal)),
-    }
+    rehearse_files_watched(alloc, files, job, &mut Unwatched)
 }
 
 /// Writes what became of a table's rows.

@@ -20,6 +20,7 @@ use code_items::laws::legal_codes;
 use file_access::Files;
 use file_commands::{Refusal, read_code};
 use run_laws::laws::new_stores_fit;
+use run_parts::{Unwatched, Watcher};
 use shape::Shape;
 use std::alloc::Global;
 use table_files::{load, save};
@@ -117,11 +118,12 @@ pub(crate) fn save_run<F: Files>(
 }
 
 /// Runs an accepted code on the machine without tags, over the tables that it declares, and saves them.
-fn full_run<F: Files>(
+fn full_run<F: Files, W: Watcher>(
     alloc: Global,
     files: &mut F,
     verified: &Verified,
     job: &Job<'_>,
+    watcher: &mut W,
 ) -> Result<Report, RunRefusal>
     ensures done { IfOk result (λ report. IfOk report.result
         (λ ended. IsSavedRun (F.holds files.old) (F.holds files.new) job.now verified.now ended report.rows.items)) }
@@ -137,16 +139,17 @@ fn full_run<F: Files>(
     new_stores_fit();
     let shape = &verified.code().declared.shape;
     let store = load(alloc, files, shape, job.limit.records())?;
-    let done = run_accepted(alloc, verified, store, job)?;
+    let done = run_accepted(alloc, verified, store, job, watcher)?;
     Ok(save_run(alloc, files, shape, done, job))
 }
 
 /// Runs a code as the job says.
-fn run_code<F: Files>(
+fn run_code<F: Files, W: Watcher>(
     alloc: Global,
     files: &mut F,
     code: Code,
     job: &Job<'_>,
+    watcher: &mut W,
 ) -> Result<Report, RunRefusal>
     requires legal { IsCode code }
     ensures done { IfOk result (λ report. IfOk report.result
@@ -163,10 +166,15 @@ fn run_code<F: Files>(
         return test_run(alloc, files, &code, job);
     }
     let verified = accept(alloc, code)?;
-    full_run(alloc, files, &verified, job)
+    full_run(alloc, files, &verified, job, watcher)
 }
 
-fn report_of<F: Files>(alloc: Global, files: &mut F, job: &Job<'_>) -> Result<Report, RunRefusal>
+fn report_of<F: Files, W: Watcher>(
+    alloc: Global,
+    files: &mut F,
+    job: &Job<'_>,
+    watcher: &mut W,
+) -> Result<Report, RunRefusal>
     ensures done { IfOk result (λ report. IfOk report.result
         (λ ended. HasRun (F.holds files.old) (F.holds files.new) job.now ended report.rows.items)) }
     ensures stopped { IfOk result (λ report. IfErr report.result
@@ -177,8 +185,31 @@ fn report_of<F: Files>(alloc: Global, files: &mut F, job: &Job<'_>) -> Result<Re
     ensures kept { OnErr result (SameFiles (F.holds files.old) (F.holds files.new)) }
 {
     match read_code(alloc, files, job.name) {
-        Ok(code) => run_code(alloc, files, code, job),
+        Ok(code) => run_code(alloc, files, code, job, watcher),
         Err(refusal) => Err(of_code(refusal)),
+    }
+}
+
+/// Runs the code in a file as `run_files` does. Where the job isn't tested the run is told to the watcher, in the parts
+/// that it says; that changes nothing of what is printed and saved.
+pub fn run_files_watched<F: Files, W: Watcher>(
+    alloc: Global,
+    files: &mut F,
+    job: &Job<'_>,
+    watcher: &mut W,
+) -> Report
+    ensures run { IfOk result.result (λ ended. HasRun (F.holds files.old)
+        (F.holds files.new) job.now ended result.rows.items) }
+    ensures refused { IfErr result.result
+        (λ refusal. IsRefused (F.holds files.old) (F.holds files.new) job.now
+        (Rose (F.failed files.old) (F.failed files.new)) refusal result.rows.items) }
+{
+    match report_of(alloc, files, job, watcher) {
+        Ok(report) => report,
+        Err(refusal) => Report {
+            rows: Vec::new(alloc),
+            result: Err(refusal),
+        },
     }
 }
 
@@ -193,11 +224,5 @@ pub fn run_files<F: Files>(alloc: Global, files: &mut F, job: &Job<'_>) -> Repor
         (λ refusal. IsRefused (F.holds files.old) (F.holds files.new) job.now
         (Rose (F.failed files.old) (F.failed files.new)) refusal result.rows.items) }
 {
-    match report_of(alloc, files, job) {
-        Ok(report) => report,
-        Err(refusal) => Report {
-            rows: Vec::new(alloc),
-            result: Err(refusal),
-        },
-    }
+    run_files_watched(alloc, files, job, &mut Unwatched)
 }

@@ -1,7 +1,7 @@
 use Rattle.run_commands.proofs.Rehearsed.{rehearsed}
 use Rattle.run_commands.proofs.Reported.{refused}
 use Rattle.run_commands.proofs.Same.{rose_later}
-use Rattle.run_commands.proofs.rehearsing.rehearse_files.Goals as goal
+use Rattle.run_commands.proofs.rehearsing.rehearse_files_watched.Goals as goal
 
 pub returns-in-Ok-clause-done : goal.returns-in-Ok-clause-done
 returns-in-Ok-clause-done g c = rehearsed _ _ c.in-Ok.ensures.kept _ _ c.in-Ok.ensures.found _ c.rehearse_code.ensures.done

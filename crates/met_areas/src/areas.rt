@@ -1,0 +1,103 @@
+//! What is told of work areas.
+
+ghost use Rattle.std.specs.Prelude.{◌≡◌, map, IfOk};
+ghost use Rattle.met_areas.specs.Met as spec;
+ghost use Rattle.met_areas.specs.Met.{AreTold};
+
+use code_items::{AreaState, Name, Shape, TableShape};
+use std::alloc::{AllocError, Global};
+
+/// What is known of what a work area holds at a command, on all ways to it.
+#[derive(Drop, Debug, PartialEq, Eq)]
+pub enum Held {
+    /// No table.
+    Nothing,
+    /// The table of this name.
+    Table(Name),
+    /// Ways leave it with other tables, indexes, orders or filters, or closed.
+    Unsure,
+}
+
+/// The ten work areas at a faulty command, by their numbers less one.
+#[derive(Drop, Debug, PartialEq, Eq)]
+pub struct MetAreas {
+    /// What they hold.
+    pub areas: Vec<Held>,
+    /// What each of them holds on a way to the command on which it is selected; none where it is selected on no way.
+    /// It is one work area, but for ways that meet with different ones.
+    pub ways: Vec<Option<Held>>,
+}
+
+/// The same name once more.
+fn copy_of(name: &Name) -> Name
+    ensures { result ≡ name.now }
+{
+    let mut copy = Name::new();
+    copy.try_extend_from_slice(name.as_slice()).unwrap();
+    copy
+}
+
+/// What a work area holds with this state, by the names of the declared tables.
+fn held_by(tables: &[TableShape], area: AreaState) -> Held
+    ensures { result ≡ spec.held_by tables.now area }
+{
+    match area {
+        AreaState::Closed => Held::Nothing,
+        AreaState::Unsure => Held::Unsure,
+        AreaState::Open(open) => match tables.get(usize::from(open.table)) {
+            Some(table) => Held::Table(copy_of(&table.name)),
+            None => Held::Unsure,
+        },
+    }
+}
+
+fn held_on(tables: &[TableShape], way: Option<AreaState>) -> Option<Held>
+    ensures { result ≡ spec.held_on tables.now way }
+{
+    match way {
+        Some(area) => Some(held_by(tables, area)),
+        None => None,
+    }
+}
+
+/// What work areas hold that are in these states.
+fn all_held(
+    alloc: Global,
+    tables: &[TableShape],
+    areas: &[AreaState],
+) -> Result<Vec<Held>, AllocError>
+    ensures { IfOk result (λ held. held.items ≡ map (spec.held_by tables.now) areas.now) }
+{
+    areas
+        .iter()
+        .map(|area| held_by(tables, *area))
+        .collect(alloc)
+}
+
+/// What work areas hold that are selected on these ways.
+fn all_held_on(
+    alloc: Global,
+    tables: &[TableShape],
+    ways: &[Option<AreaState>],
+) -> Result<Vec<Option<Held>>, AllocError>
+    ensures { IfOk result (λ held. held.items ≡ map (spec.held_on tables.now) ways.now) }
+{
+    ways.iter().map(|way| held_on(tables, *way)).collect(alloc)
+}
+
+/// Work areas at a command: what is known of all, and of those that are selected on ways to it, both by their numbers
+/// less one. Tables go by their declared names.
+pub fn met_areas(
+    alloc: Global,
+    shape: &Shape,
+    areas: &[AreaState],
+    ways: &[Option<AreaState>],
+) -> Result<MetAreas, AllocError>
+    ensures { IfOk result (AreTold shape.now areas.now ways.now) }
+{
+    let tables = shape.tables.as_slice();
+    Ok(MetAreas {
+        areas: all_held(alloc, tables, areas)?,
+        ways: all_held_on(alloc, tables, ways)?,
+    })
+}

@@ -1,0 +1,15 @@
+use Rattle.std.proofs.Common.{◌≤◌, ◌-◌}
+use Rattle.machine.specs.Twins.{Twin}
+use Rattle.run_parts.specs.Parts.{RunsTo}
+use Rattle.run_steps.specs.World.{World}
+use Rattle.run_parts.proofs.taking.take_part.Given as goal
+
+abbrev pub invariant-loop-outcome : goal.invariant-loop-outcome
+invariant-loop-outcome g l = record {
+  ran : (w : World) → Twin l.fn.verified w l.fn.banks → RunsTo l.fn.verified w l.budget l.outcome l.banks;
+  within : l.budget ≤ l.left;
+  paid : l.outcome.steps ≤ l.budget;
+}
+
+abbrev pub decreases-loop-outcome : goal.decreases-loop-outcome
+decreases-loop-outcome g l = l.left - l.budget

@@ -1,0 +1,12 @@
+//! Runs of accepted code in parts, between which somebody is told how far they have come.
+//!
+//! A run in parts is the run at once: `run_in_parts` comes to the same end, at the same cost, with the same banks.
+#![tactic(auto)]
+
+mod pace;
+mod taking;
+mod watcher;
+
+pub use pace::{FIRST_PART, next_part};
+pub use taking::{resume_in_parts, run_in_parts};
+pub use watcher::{Unwatched, Watcher};

@@ -1,0 +1,27 @@
+//! How much of a run a part is to be.
+
+ghost use Rattle.std.specs.Duration.{as_nanos};
+ghost use Rattle.std.specs.Prelude.{◌<◌, ◌≤◌};
+
+use std::time::Duration;
+
+/// What the first part of a run is to cost at most.
+pub const FIRST_PART: u64 = 1_000_000;
+
+/// What a part is to cost at most behind one that cost so much and took so long: twice as much where that took less than
+/// a quarter of a second, half as much where it took more than a second, and as much else.
+pub fn next_part(part: u64, took: Duration) -> u64
+    requires { 1 ≤ part }
+    ensures some { 1 ≤ result }
+    ensures greater { as_nanos took < 250000000 → part ≤ result }
+    ensures lesser { 1000000000 < as_nanos took → result ≤ part }
+{
+    let nanos = took.as_nanos();
+    if nanos < 250_000_000 {
+        part.saturating_mul(2)
+    } else if nanos > 1_000_000_000 && part > 1 {
+        part / 2
+    } else {
+        part
+    }
+}

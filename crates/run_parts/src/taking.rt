@@ -1,0 +1,134 @@
+//! Runs part by part.
+
+ghost use Rattle.machine.specs.Twins.{Begins, Twin};
+ghost use Rattle.run_parts.specs.Parts.{IsAt, RunsTo};
+ghost use Rattle.run_steps.specs.World.{World};
+ghost use Rattle.run_steps.specs.declared.ending.End.TheVariants.{Spent};
+ghost use Rattle.std.specs.Prelude.{◌≡◌, ◌<◌, ◌≤◌, true, false};
+
+use crate::watcher::Watcher;
+use key_lists::KeyList;
+use machine::{Banks, banks_go_on, resume};
+use run_laws::laws::parts_make_the_whole;
+use run_steps::{End, Outcome};
+use std::alloc::Global;
+use xverify::Verified;
+
+/// How a part of a run ended, and the budget that it had.
+#[derive(Clone, Copy)]
+struct Part {
+    outcome: Outcome,
+    budget: u64,
+}
+
+fn is_spent(end: End) -> bool
+    ensures spent { result ≡ true → end ≡ Spent }
+    ensures other { result ≡ false → end ≡ Spent → ⊥ }
+{
+    match end {
+        End::Spent => true,
+        End::Finished | End::Full(_) | End::NoMemory | End::Fault(_, _) => false,
+    }
+}
+
+/// The lesser of what a part is to cost at most and all that is left.
+fn lesser(most: u64, left: u64) -> u64
+    ensures { result ≤ left }
+{
+    if most < left { most } else { left }
+}
+
+/// Whether a part is the last one: it wasn't spent, or had all that was left.
+fn is_last(part: Part, left: u64) -> bool
+    requires { part.budget ≤ left }
+    ensures last { result ≡ true → part.outcome.end ≡ Spent → part.budget ≡ left }
+    ensures spent { result ≡ false → part.outcome.end ≡ Spent }
+    ensures less { result ≡ false → part.budget < left }
+{
+    !is_spent(part.outcome.end) || part.budget == left
+}
+
+/// A greater budget, up to all that is left: twice as great where that is left.
+fn wider(budget: u64, left: u64) -> u64
+    requires { budget < left }
+    ensures wider { budget < result }
+    ensures within { result ≤ left }
+{
+    if budget == 0 {
+        return 1;
+    }
+    if budget > left / 2 {
+        return left;
+    }
+    budget + budget
+}
+
+/// Goes on with a run for a part of what is left of its budget. Where the next step is dearer than the part, the part
+/// grows until it pays for it, or is all that is left.
+fn take_part<K: KeyList>(
+    alloc: Global,
+    verified: &Verified,
+    banks: &mut Banks<K>,
+    left: u64,
+    most: u64,
+) -> Part
+    requires twin { (w : World) × Twin verified.now w banks.old }
+    ensures ran { (w : World) → Twin verified.now w banks.old
+        → RunsTo verified.now w result.budget result.outcome banks.new }
+    ensures within { result.budget ≤ left }
+    ensures paid { result.outcome.steps ≤ result.budget }
+    ensures further { result.outcome.end ≡ Spent → result.budget < left → 0 < result.outcome.steps }
+{
+    parts_make_the_whole();
+    let mut budget = lesser(most, left);
+    let mut outcome = resume(alloc, verified, banks, budget);
+    while outcome.steps == 0 && budget < left && is_spent(outcome.end) {
+        budget = wider(budget, left);
+        outcome = resume(alloc, verified, banks, budget);
+    }
+    Part { outcome, budget }
+}
+
+/// Goes on with a run as `machine::resume` does, in parts: the watcher is told before each part what the steps cost so
+/// far, and says what the next one is to cost at most. The run ends as it does in one part, at the same cost.
+pub fn resume_in_parts<K: KeyList, W: Watcher>(
+    alloc: Global,
+    verified: &Verified,
+    banks: &mut Banks<K>,
+    budget: u64,
+    watcher: &mut W,
+) -> Outcome
+    requires twin { (w : World) × Twin verified.now w banks.old }
+    ensures { (w : World) → Twin verified.now w banks.old → RunsTo verified.now w budget result banks.new }
+{
+    parts_make_the_whole();
+    let mut steps = 0;
+    loop {
+        let left = budget - steps;
+        let most = watcher.hear(steps, budget);
+        let part = take_part(alloc, verified, banks, left, most);
+        let all = steps + part.outcome.steps;
+        if is_last(part, left) {
+            return Outcome {
+                end: part.outcome.end,
+                steps: all,
+            };
+        }
+        steps = all;
+    }
+}
+
+/// Runs accepted code from its beginning as `machine::run` does, in parts, as `resume_in_parts` says.
+pub fn run_in_parts<K: KeyList, W: Watcher>(
+    alloc: Global,
+    verified: &Verified,
+    banks: &mut Banks<K>,
+    budget: u64,
+    watcher: &mut W,
+) -> Outcome
+    requires begun { (w : World) × Begins verified.now w banks.old }
+    ensures { (w : World) → Begins verified.now w banks.old → RunsTo verified.now w budget result banks.new }
+{
+    banks_go_on(verified);
+    resume_in_parts(alloc, verified, banks, budget, watcher)
+}
