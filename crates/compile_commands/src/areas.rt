@@ -2,7 +2,7 @@
 
 ghost use Rattle.std.specs.Prelude.{◌<◌, ◌≤◌, length, IfSome};
 ghost use Rattle.file_access.specs.Holding.{SameFiles};
-ghost use Rattle.met_areas.specs.Met.{AreOfShape};
+ghost use Rattle.met_areas.specs.Met.{AreasOfShape};
 ghost use Rattle.compile_commands.specs.Areas.{AreOfDeclared};
 
 use crate::sources::programs_of;
@@ -17,7 +17,7 @@ use std::alloc::Global;
 /// The work areas at the first faulty command of programs, the main one first.
 fn areas_of(alloc: Global, programs: &[Program], shape: &Shape) -> Option<MetAreas>
     requires { 0 < length programs.now }
-    ensures { IfSome result (AreOfShape shape.now) }
+    ensures { IfSome result (AreasOfShape shape.now) }
 {
     match areas_at_fault(alloc, programs, shape) {
         Ok(found) => found,

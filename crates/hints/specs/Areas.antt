@@ -1,7 +1,7 @@
 -- What is told of the work areas for which a command can't be compiled.
 use Rattle.std.specs.Prelude.{◌≡◌, Some, slice_get}
-use Rattle.met_areas.specs.declared.areas.Held.TheVariants.{Nothing, Table}
-use Rattle.met_areas.specs.declared.areas.Held.TheVariants as held
+use Rattle.met_areas.specs.declared.areas.HeldTable.TheVariants.{Nothing, Table}
+use Rattle.met_areas.specs.declared.areas.HeldTable.TheVariants as held
 use Rattle.met_areas.specs.declared.areas.MetAreas.{MetAreas}
 use Rattle.hints.specs.declared.areas.AreasHint.{AreasHint}
 use Rattle.hints.specs.declared.areas.AreasHint.TheVariants as hint

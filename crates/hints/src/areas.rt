@@ -1,11 +1,11 @@
 //! The sentence that names the work areas for which a command can't be compiled.
 
 ghost use Rattle.std.specs.Prelude.{◌≡◌, List, Some, IfSome, IsTrue, slice_get};
-ghost use Rattle.met_areas.specs.declared.areas.Held.{Held as OneHeld};
-ghost use Rattle.met_areas.specs.declared.areas.Held.TheVariants as held;
+ghost use Rattle.met_areas.specs.declared.areas.HeldTable.{HeldTable as OneHeld};
+ghost use Rattle.met_areas.specs.declared.areas.HeldTable.TheVariants as held;
 ghost use Rattle.hints.specs.Areas.{IsTrueOf};
 
-use met_areas::{Held, MetAreas};
+use met_areas::{HeldTable, MetAreas};
 use prg_code::CompileFaultKind;
 use prg_expr::{Name, Token, is_word, name_of, words};
 use std::alloc::Global;
@@ -25,7 +25,7 @@ pub enum Chosen {
 #[derive(Drop, Debug)]
 pub enum AreasHint<'a> {
     /// Ways meet on which these are selected.
-    Meet(&'a [Option<Held>]),
+    Meet(&'a [Option<HeldTable>]),
     /// The table is open in this one.
     Open {
         table: Name,
@@ -34,7 +34,7 @@ pub enum AreasHint<'a> {
     /// The table may be open in those of which nothing is known, but for the selected one.
     MayBeOpen {
         table: Name,
-        areas: &'a [Held],
+        areas: &'a [HeldTable],
         selected: usize,
     },
     /// No table is open in this one.
@@ -48,7 +48,7 @@ pub enum AreasHint<'a> {
         place: usize,
     },
     /// Ways leave those otherwise of which nothing is known.
-    SomeUnsure(&'a [Held]),
+    SomeUnsure(&'a [HeldTable]),
     /// The table is open in this one, without such an order.
     NoOrder {
         table: &'a Name,
@@ -79,9 +79,9 @@ fn of_area<'a>(met: &'a MetAreas, chosen: Chosen, place: usize) -> Option<AreasH
     ensures { IfSome result (IsTrueOf met.now) }
 {
     match met.areas.get(place)? {
-        Held::Nothing => Some(AreasHint::Closed { chosen, place }),
-        Held::Unsure => Some(AreasHint::Unsure { chosen, place }),
-        Held::Table(_) => None,
+        HeldTable::Nothing => Some(AreasHint::Closed { chosen, place }),
+        HeldTable::Unsure => Some(AreasHint::Unsure { chosen, place }),
+        HeldTable::Table(_) => None,
     }
 }
 
@@ -132,8 +132,8 @@ fn of_closed<'a>(met: &'a MetAreas, words: &[Token<'_>]) -> Option<AreasHint<'a>
     }
 }
 
-fn is_unsure(held: &Held) -> bool {
-    matches!(held, Held::Unsure)
+fn is_unsure(held: &HeldTable) -> bool {
+    matches!(held, HeldTable::Unsure)
 }
 
 /// What to do about the work areas of which nothing is known, if there are any.
@@ -147,7 +147,7 @@ fn of_unsure<'a>(met: &'a MetAreas) -> Option<AreasHint<'a>>
 }
 
 /// The work area that is known to hold this table.
-fn holder(areas: &[Held], table: &Name) -> Option<usize>
+fn holder(areas: &[HeldTable], table: &Name) -> Option<usize>
     ensures { IfSome result (λ place. slice_get areas.now place ≡ Some (held.Table table.now)) }
 {
     for (place, there) in areas.iter().enumerate() {
@@ -158,12 +158,12 @@ fn holder(areas: &[Held], table: &Name) -> Option<usize>
     None
 }
 
-fn is_table(there: &Held, table: &Name) -> bool
+fn is_table(there: &HeldTable, table: &Name) -> bool
     ensures { IsTrue result → there.now ≡ held.Table table.now }
 {
     match there {
-        Held::Table(name) => name.as_slice() == table.as_slice(),
-        Held::Nothing | Held::Unsure => false,
+        HeldTable::Table(name) => name.as_slice() == table.as_slice(),
+        HeldTable::Nothing | HeldTable::Unsure => false,
     }
 }
 
@@ -191,13 +191,13 @@ fn of_order<'a>(met: &'a MetAreas) -> Option<AreasHint<'a>>
 {
     let place = selected(met)?;
     match met.areas.get(place)? {
-        Held::Table(table) => Some(AreasHint::NoOrder { table, place }),
-        Held::Nothing | Held::Unsure => None,
+        HeldTable::Table(table) => Some(AreasHint::NoOrder { table, place }),
+        HeldTable::Nothing | HeldTable::Unsure => None,
     }
 }
 
 /// How many work areas are selected on one way or another.
-fn count_of(ways: &[Option<Held>]) -> usize {
+fn count_of(ways: &[Option<HeldTable>]) -> usize {
     ways.iter().filter(|way| way.is_some()).count()
 }
 
@@ -259,16 +259,16 @@ fn between(before: usize, count: usize) -> &'static str {
 }
 
 /// A work area's number, and its table where it is known.
-fn put_area<W: Write>(f: &mut Formatter<W>, place: usize, held: &Held) -> fmt::Result {
+fn put_area<W: Write>(f: &mut Formatter<W>, place: usize, held: &HeldTable) -> fmt::Result {
     let number = place.saturating_add(1);
     match held {
-        Held::Table(name) => write!(f, "{number} ({})", Shown(name)),
-        Held::Nothing | Held::Unsure => write!(f, "{number}"),
+        HeldTable::Table(name) => write!(f, "{number} ({})", Shown(name)),
+        HeldTable::Nothing | HeldTable::Unsure => write!(f, "{number}"),
     }
 }
 
 /// The work areas that are selected on ways.
-fn put_ways<W: Write>(f: &mut Formatter<W>, ways: &[Option<Held>]) -> fmt::Result {
+fn put_ways<W: Write>(f: &mut Formatter<W>, ways: &[Option<HeldTable>]) -> fmt::Result {
     let count = count_of(ways);
     let mut before = 0usize;
     for (place, way) in ways.iter().enumerate() {
@@ -282,7 +282,11 @@ fn put_ways<W: Write>(f: &mut Formatter<W>, ways: &[Option<Held>]) -> fmt::Resul
 }
 
 /// The work areas of which nothing is known, but for this one.
-fn put_unsure<W: Write>(f: &mut Formatter<W>, areas: &[Held], but: Option<usize>) -> fmt::Result {
+fn put_unsure<W: Write>(
+    f: &mut Formatter<W>,
+    areas: &[HeldTable],
+    but: Option<usize>,
+) -> fmt::Result {
     let mut count = 0usize;
     for (place, held) in areas.iter().enumerate() {
         if is_unsure(held) && Some(place) != but {

@@ -9,7 +9,7 @@ use std::alloc::{AllocError, Global};
 
 /// What is known of what a work area holds at a command, on all ways to it.
 #[derive(Drop, Debug, PartialEq, Eq)]
-pub enum Held {
+pub enum HeldTable {
     /// No table.
     Nothing,
     /// The table of this name.
@@ -22,10 +22,10 @@ pub enum Held {
 #[derive(Drop, Debug, PartialEq, Eq)]
 pub struct MetAreas {
     /// What they hold.
-    pub areas: Vec<Held>,
+    pub areas: Vec<HeldTable>,
     /// What each of them holds on a way to the command on which it is selected; none where it is selected on no way.
     /// It is one work area, but for ways that meet with different ones.
-    pub ways: Vec<Option<Held>>,
+    pub ways: Vec<Option<HeldTable>>,
 }
 
 /// The same name once more.
@@ -38,20 +38,20 @@ fn copy_of(name: &Name) -> Name
 }
 
 /// What a work area holds with this state, by the names of the declared tables.
-fn held_by(tables: &[TableShape], area: AreaState) -> Held
+fn held_by(tables: &[TableShape], area: AreaState) -> HeldTable
     ensures { result ≡ spec.held_by tables.now area }
 {
     match area {
-        AreaState::Closed => Held::Nothing,
-        AreaState::Unsure => Held::Unsure,
+        AreaState::Closed => HeldTable::Nothing,
+        AreaState::Unsure => HeldTable::Unsure,
         AreaState::Open(open) => match tables.get(usize::from(open.table)) {
-            Some(table) => Held::Table(copy_of(&table.name)),
-            None => Held::Unsure,
+            Some(table) => HeldTable::Table(copy_of(&table.name)),
+            None => HeldTable::Unsure,
         },
     }
 }
 
-fn held_on(tables: &[TableShape], way: Option<AreaState>) -> Option<Held>
+fn held_on(tables: &[TableShape], way: Option<AreaState>) -> Option<HeldTable>
     ensures { result ≡ spec.held_on tables.now way }
 {
     match way {
@@ -65,7 +65,7 @@ fn all_held(
     alloc: Global,
     tables: &[TableShape],
     areas: &[AreaState],
-) -> Result<Vec<Held>, AllocError>
+) -> Result<Vec<HeldTable>, AllocError>
     ensures { IfOk result (λ held. held.items ≡ map (spec.held_by tables.now) areas.now) }
 {
     areas
@@ -79,7 +79,7 @@ fn all_held_on(
     alloc: Global,
     tables: &[TableShape],
     ways: &[Option<AreaState>],
-) -> Result<Vec<Option<Held>>, AllocError>
+) -> Result<Vec<Option<HeldTable>>, AllocError>
     ensures { IfOk result (λ held. held.items ≡ map (spec.held_on tables.now) ways.now) }
 {
     ways.iter().map(|way| held_on(tables, *way)).collect(alloc)

@@ -3,4 +3,4 @@
 
 mod areas;
 
-pub use areas::{Held, MetAreas, met_areas};
+pub use areas::{HeldTable, MetAreas, met_areas};

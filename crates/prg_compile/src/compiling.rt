@@ -4,7 +4,7 @@ ghost use Rattle.std.specs.Prelude.{◌≡◌, ◌<◌, None, Some, length, slic
 ghost use Rattle.prg_compile.specs.Alone.{IsCompilable};
 ghost use Rattle.code_items.specs.Legal.{IsCode};
 ghost use Rattle.prg_compile.specs.Alone.{IsLaidAlone};
-ghost use Rattle.met_areas.specs.Met.{AreOfShape};
+ghost use Rattle.met_areas.specs.Met.{AreasOfShape};
 
 use crate::ways::areas_at;
 use code_items::{Code, Shape};
@@ -247,7 +247,7 @@ pub fn areas_at_fault(
 ) -> Result<Option<MetAreas>, AllocError>
     requires programs { 0 < length programs.now }
     // Tables go by the names that are declared.
-    ensures told { IfOk result (λ found. IfSome found (AreOfShape shape.now)) }
+    ensures told { IfOk result (λ found. IfSome found (AreasOfShape shape.now)) }
 {
     let mut w = begun(alloc)?;
     match write_main(&mut w, &Source { programs, shape }) {

@@ -8,6 +8,6 @@ mod compiling;
 mod ways;
 
 pub use compiling::{areas_at_fault, compile, find_faults};
-pub use met_areas::{Held, MetAreas};
+pub use met_areas::{HeldTable, MetAreas};
 pub use prg_code::{CompileFault, CompileFaultKind, CompileRefusal, Names, Pool};
 pub use prg_values::{Scope, compile_expr};

@@ -1,7 +1,7 @@
 //! The work areas at the command for which command files aren't compiled.
 
 ghost use Rattle.std.specs.Prelude.{IfOk};
-ghost use Rattle.met_areas.specs.Met.{AreOfShape};
+ghost use Rattle.met_areas.specs.Met.{AreasOfShape};
 
 use code_items::{AreaState, Desk, FlowInstr, Instr, Shape};
 use code_rules::flow::change_desk;
@@ -193,7 +193,7 @@ pub(crate) fn areas_at(
     shape: &Shape,
     kind: CompileFaultKind,
 ) -> Result<MetAreas, AllocError>
-    ensures { IfOk result (AreOfShape shape.now) }
+    ensures { IfOk result (AreasOfShape shape.now) }
 {
     let ways = ways_here(w, kind)?;
     met_areas(
