@@ -90,13 +90,31 @@ impl<R: Runtime<A = Global>> Watcher for Meter<'_, R> {
 #[derive(Clone, Copy)]
 struct Grouped(u64);
 
+/// The digits of a number by threes, the first ones first.
+fn groups_of(number: u64) -> [u64; 7] {
+    [
+        number / 1_000_000_000_000_000_000,
+        number / 1_000_000_000_000_000 % 1000,
+        number / 1_000_000_000_000 % 1000,
+        number / 1_000_000_000 % 1000,
+        number / 1_000_000 % 1000,
+        number / 1000 % 1000,
+        number % 1000,
+    ]
+}
+
 /// Writes a number so.
 fn put_grouped<W: Write>(f: &mut Formatter<W>, number: u64) -> fmt::Result {
-    if number < 1000 {
-        return write!(f, "{number}");
+    let mut begun = false;
+    for group in groups_of(number) {
+        if begun {
+            write!(f, ",{group:03}")?;
+        } else if group > 0 {
+            write!(f, "{group}")?;
+            begun = true;
+        }
     }
-    put_grouped(f, number / 1000)?;
-    write!(f, ",{:03}", number % 1000)
+    if begun { Ok(()) } else { f.write_char('0') }
 }
 
 impl Display for Grouped {
