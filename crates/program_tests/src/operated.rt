@@ -37,6 +37,8 @@ impl Journal for Kept {
 struct Script<'a> {
     alloc: Global,
     lines: &'a [&'a str],
+    /// How many of them are typed.
+    typed: usize,
     fails: bool,
     /// The first row of the screen before each line, and at the end.
     seen: Vec<[u8; 80]>,
@@ -65,16 +67,16 @@ impl Operator for Script<'_> {
 
     fn ask(&mut self, scene: &Scene<'_>, _: usize) -> Result<Answer, OperatorFailed> {
         self.look(scene)?;
-        let lines = self.lines;
-        let Some((line, rest)) = lines.split_first() else {
+        let Some(line) = self.lines.get(self.typed) else {
             return if self.fails {
                 Err(OperatorFailed)
             } else {
                 Ok(Answer::End)
             };
         };
-        self.lines = rest;
-        match Vec::from_slice(self.alloc, line.as_bytes()) {
+        let answer = Vec::from_slice(self.alloc, line.as_bytes());
+        self.typed = self.typed.saturating_add(1);
+        match answer {
             Ok(line) => Ok(Answer::Line(line)),
             Err(_) => Err(OperatorFailed),
         }
@@ -156,6 +158,7 @@ fn operated(
     let mut script = Script {
         alloc,
         lines: typing.lines,
+        typed: 0,
         fails: typing.fails,
         seen: Vec::new(alloc),
     };
@@ -198,36 +201,27 @@ const NONE: &str = "NAME C 10 0\nrecords 0\n";
 
 const ANN: &str = "NAME C 10 0\nrecords 1\n      1   Ann       \n";
 
-/// A customer of the name that is typed, and a second line that is only printed.
-fn asking() -> Case<'static> {
+/// A case over the empty table CUST.
+fn over_customers<'a>(files: &'a [MemoryEntry<'a>], source: &'a str) -> Case<'a> {
     Case {
         declarations: "TABLE CUST\n",
-        ..printing(
-            "USE CUST\nACCEPT \"Name? \" TO N\nAPPEND BLANK\nREPLACE NAME WITH N\nACCEPT \"More? \" TO M\n? LEN(M)\n",
-            "",
-            "",
-        )
+        files,
+        ..printing(source, "", "")
     }
 }
 
-/// The files of a case, and the table CUST.
-fn entries_with<'a>(
-    alloc: Global,
-    case: &Case<'a>,
-    cust: &'a [u8],
-) -> Result<Vec<MemoryEntry<'a>>, AllocError> {
-    let mut entries = entries(alloc, case)?;
-    entries.push(MemoryEntry {
-        name: "CUST.DBF",
-        bytes: cust,
-    })?;
-    Ok(entries)
+/// A customer of the name that is typed, and a second line of which only the length is printed.
+const ASKING: &str =
+    "USE CUST\nACCEPT \"Name? \" TO N\nAPPEND BLANK\nREPLACE NAME WITH N\nACCEPT \"More? \" TO M\n? LEN(M)\n";
+
+/// The table CUST, which is empty.
+fn customers(alloc: Global) -> Result<Vec<u8>, AllocError> {
+    table(alloc, &[(b"NAME", b'C', 10, 0)], &[])
 }
 
-/// What a run of a case over an empty table prints, and how it ends.
+/// What a run of a case prints, and how it ends.
 fn as_a_run(alloc: Global, case: &Case<'_>) -> Result<Option<(Vec<u8>, String)>, AllocError> {
-    let bytes = table(alloc, &[(b"NAME", b'C', 10, 0)], &[])?;
-    let entries = entries_with(alloc, case, bytes.as_slice())?;
+    let entries = entries(alloc, case)?;
     let mut files = MemoryFiles::new(alloc, entries.as_slice(), WORKS_FOR_EVER);
     if !compiled(alloc, &mut files) {
         return Ok(None);
@@ -241,7 +235,7 @@ fn as_a_run(alloc: Global, case: &Case<'_>) -> Result<Option<(Vec<u8>, String)>,
     }
 }
 
-/// What isn't as wanted of a conversation over an empty table: nothing, or a word for it.
+/// What isn't as wanted of a conversation: nothing, or a word for it.
 fn wrong_in_talk<'a>(
     alloc: Global,
     case: &Case<'a>,
@@ -249,8 +243,7 @@ fn wrong_in_talk<'a>(
     rehearsed: bool,
     wanted: Wanted<'_>,
 ) -> Result<Option<&'a str>, AllocError> {
-    let bytes = table(alloc, &[(b"NAME", b'C', 10, 0)], &[])?;
-    let entries = entries_with(alloc, case, bytes.as_slice())?;
+    let entries = entries(alloc, case)?;
     let mut files = MemoryFiles::new(alloc, entries.as_slice(), WORKS_FOR_EVER);
     if !compiled(alloc, &mut files) {
         return Ok(Some("compile"));
@@ -275,36 +268,48 @@ fn wrong_in_talk<'a>(
     })
 }
 
-/// A conversation, one of whose lines stood in the journal, prints and saves what a run over all its lines does.
+/// A conversation prints and saves what a run over all lines of its journal does, wherever it begins among them.
 #[test]
 fn runs_over_the_lines_of_its_journal(rt: HostRuntime) -> Result<(), Fail> {
+    let bytes = customers(rt.alloc())?;
+    let files = [MemoryEntry {
+        name: "CUST.DBF",
+        bytes: &bytes,
+    }];
     let case = Case {
         typed: "Ann\nmuch\n",
-        ..asking()
+        ..over_customers(&files, ASKING)
     };
     let (rows, told) = as_a_run(rt.alloc(), &case)?.ok_or("run")?;
-    for (handed, lines, screens) in [
-        ("", ["Ann", "much"].as_slice(), 3),
-        ("Ann\n", ["much"].as_slice(), 2),
-        ("Ann\nmuch\n", [].as_slice(), 1),
-    ] {
-        let wanted = Wanted {
-            rows: str::from_utf8(rows.as_slice())?,
-            told: told.as_str(),
-            kept: "Ann\nmuch\n",
-            screens,
-            listed: ANN,
-        };
-        let wrong = wrong_in_talk(rt.alloc(), &case, typed_in(handed, lines), false, wanted)?;
-        assert_eq!(rt; wrong, None);
-    }
+    let wanted = Wanted {
+        rows: str::from_utf8(rows.as_slice())?,
+        told: told.as_str(),
+        kept: "Ann\nmuch\n",
+        screens: 3,
+        listed: ANN,
+    };
+    let all = typed_in("", &["Ann", "much"]);
+    let wrong = wrong_in_talk(rt.alloc(), &case, all, false, wanted)?;
+    assert_eq!(rt; wrong, None);
+    let second = typed_in("Ann\n", &["much"]);
+    let fewer = Wanted {
+        screens: 2,
+        ..wanted
+    };
+    let wrong = wrong_in_talk(rt.alloc(), &case, second, false, fewer)?;
+    assert_eq!(rt; wrong, None);
     Ok(())
 }
 
 /// Behind the end of the input each line is empty.
 #[test]
 fn goes_on_behind_the_end_of_the_input(rt: HostRuntime) -> Result<(), Fail> {
-    let case = printing("ACCEPT \"Name? \" TO N\n? LEN(N)\n", "", "");
+    let bytes = customers(rt.alloc())?;
+    let files = [MemoryEntry {
+        name: "CUST.DBF",
+        bytes: &bytes,
+    }];
+    let case = over_customers(&files, "ACCEPT \"Name? \" TO N\n? LEN(N)\n");
     let wanted = Wanted {
         rows: "Name?\n         0\n",
         told: "finished 10",
@@ -317,66 +322,83 @@ fn goes_on_behind_the_end_of_the_input(rt: HostRuntime) -> Result<(), Fail> {
     Ok(())
 }
 
-/// Where the operator or the journal fails, nothing is printed or saved; the lines before it are kept.
+/// Where the operator fails, nothing is printed or saved; the lines before are kept.
 #[test]
-fn saves_nothing_where_it_breaks(rt: HostRuntime) -> Result<(), Fail> {
-    let fine = typed_in("", &["Ann"]);
-    let none = Wanted {
+fn saves_nothing_where_the_operator_fails(rt: HostRuntime) -> Result<(), Fail> {
+    let bytes = customers(rt.alloc())?;
+    let files = [MemoryEntry {
+        name: "CUST.DBF",
+        bytes: &bytes,
+    }];
+    let case = over_customers(&files, ASKING);
+    let failing = Typing {
+        fails: true,
+        ..typed_in("", &["Ann"])
+    };
+    let wanted = Wanted {
         rows: "",
         told: "operator",
         kept: "Ann\n",
         screens: 2,
         listed: NONE,
     };
-    let tries = [
-        (
-            Typing {
-                fails: true,
-                ..fine
-            },
-            none,
-        ),
-        (
-            Typing { room: 0, ..fine },
-            Wanted {
-                told: "journal",
-                kept: "",
-                screens: 1,
-                ..none
-            },
-        ),
-        (
-            typed_in("", &["An\nn"]),
-            Wanted {
-                told: "line",
-                kept: "",
-                screens: 1,
-                ..none
-            },
-        ),
-        (
-            typed_in("Ann", &[]),
-            Wanted {
-                told: "handed",
-                kept: "Ann",
-                screens: 0,
-                ..none
-            },
-        ),
-    ];
-    for (typing, wanted) in tries {
-        let wrong = wrong_in_talk(rt.alloc(), &asking(), typing, false, wanted)?;
-        assert_eq!(rt; wrong, None);
-    }
+    let wrong = wrong_in_talk(rt.alloc(), &case, failing, false, wanted)?;
+    assert_eq!(rt; wrong, None);
+    Ok(())
+}
+
+/// Where the journal fails, a line holds LF, or the journal ends in half a line, nothing is printed or saved.
+#[test]
+fn saves_nothing_where_a_line_fails(rt: HostRuntime) -> Result<(), Fail> {
+    let bytes = customers(rt.alloc())?;
+    let files = [MemoryEntry {
+        name: "CUST.DBF",
+        bytes: &bytes,
+    }];
+    let case = over_customers(&files, ASKING);
+    let full = Typing {
+        room: 0,
+        ..typed_in("", &["Ann"])
+    };
+    let wanted = Wanted {
+        rows: "",
+        told: "journal",
+        kept: "",
+        screens: 1,
+        listed: NONE,
+    };
+    let wrong = wrong_in_talk(rt.alloc(), &case, full, false, wanted)?;
+    assert_eq!(rt; wrong, None);
+    let two = typed_in("", &["An\nn"]);
+    let line = Wanted {
+        told: "line",
+        ..wanted
+    };
+    let wrong = wrong_in_talk(rt.alloc(), &case, two, false, line)?;
+    assert_eq!(rt; wrong, None);
+    let half = typed_in("Ann", &[]);
+    let handed = Wanted {
+        told: "handed",
+        kept: "Ann",
+        screens: 0,
+        ..wanted
+    };
+    let wrong = wrong_in_talk(rt.alloc(), &case, half, false, handed)?;
+    assert_eq!(rt; wrong, None);
     Ok(())
 }
 
 /// Whether the budget is spent is judged before a line is asked for.
 #[test]
 fn is_spent_before_it_asks(rt: HostRuntime) -> Result<(), Fail> {
+    let bytes = customers(rt.alloc())?;
+    let files = [MemoryEntry {
+        name: "CUST.DBF",
+        bytes: &bytes,
+    }];
     let case = Case {
         budget: 1,
-        ..printing("ACCEPT \"Name? \" TO N\n", "", "")
+        ..over_customers(&files, "ACCEPT \"Name? \" TO N\n")
     };
     let wanted = Wanted {
         rows: "",
@@ -393,9 +415,14 @@ fn is_spent_before_it_asks(rt: HostRuntime) -> Result<(), Fail> {
 /// A rehearsal in conversation saves nothing, and tells what would be saved.
 #[test]
 fn rehearses(rt: HostRuntime) -> Result<(), Fail> {
+    let bytes = customers(rt.alloc())?;
+    let files = [MemoryEntry {
+        name: "CUST.DBF",
+        bytes: &bytes,
+    }];
     let case = Case {
         typed: "Ann\nmuch\n",
-        ..asking()
+        ..over_customers(&files, ASKING)
     };
     let (rows, _) = as_a_run(rt.alloc(), &case)?.ok_or("run")?;
     let wanted = Wanted {
