@@ -13,7 +13,7 @@ mod shown;
 
 use crate::areas::tell_areas;
 use crate::operate::operate;
-use crate::screens::{is_free_name, rehearse_shown, run_shown};
+use crate::screens::{is_new_name, rehearse_shown, run_shown};
 use crate::shown::{
     Audience, FaultyLine, OutTold, Progress, faulty_line, hint_of, line_among, line_at, line_of,
     lines_of, of_end, printable, why_hindered,
@@ -246,7 +246,7 @@ pub fn print_bytes<R: Runtime<A = Global>>(rt: &R, audience: Audience, bytes: &[
 }
 
 /// How the program exits behind an output.
-fn status_of(written: io::Result<()>) -> Status {
+pub fn status_of(written: io::Result<()>) -> Status {
     match written {
         Ok(()) => Status::Done,
         Err(_) => Status::Disk,
@@ -731,10 +731,10 @@ pub fn may_back_up<R: Runtime<A = Global>>(rt: &R, tables: Outcomes<'_>) -> Resu
     Ok(())
 }
 
-/// Refuses a file for screens that would overwrite another one.
-fn may_show(words: &RunWords<'_>) -> Result<(), WordsFault> {
+/// Refuses a file for screens that stands, or that the run uses.
+fn may_show<R: Runtime<A = Global>>(rt: &R, words: &RunWords<'_>) -> Result<(), WordsFault> {
     match words.screens {
-        Some(name) if !is_free_name(name, words.job.name) => Err(WordsFault::Screens),
+        Some(name) if !is_new_name(rt, name, words.job.name) => Err(WordsFault::Screens),
         _ => Ok(()),
     }
 }
@@ -750,7 +750,7 @@ fn carry_out<R: Runtime<A = Global, File = File>>(
         Words::Faults { decl } => faults(rt, audience, decl, &*sources),
         Words::Run(words) => {
             may_back_up(rt, words.tables)?;
-            may_show(words)?;
+            may_show(rt, words)?;
             Ok(run(rt, audience, words))
         }
         Words::Operate(words) => operate(rt, audience, words),
@@ -815,7 +815,7 @@ fn message(fault: WordsFault) -> &'static str {
         WordsFault::Journal =>
             "the file of --journal is a plain name in this folder, and none that the run uses",
         WordsFault::Screens =>
-            "the file of --screens is a plain name in this folder, and none that the run uses",
+            "the file of --screens is a plain name in this folder, of which no file stands",
         WordsFault::Continued =>
             "a conversation that goes on has the options with which it was begun",
         WordsFault::Missing | WordsFault::Out(_) => "a word is missing",

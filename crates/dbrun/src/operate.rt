@@ -3,10 +3,11 @@
 
 ghost use Rattle.std.specs.Prelude.{◌≡◌, false};
 
-use crate::screens::{is_free_name, screens_to};
+use crate::screens::{is_free_name, is_new_name, screens_to};
 use crate::shown::{Audience, Progress, of_end};
 use crate::{
-    finish_before, folder, hindered, may_back_up, print_bytes, refuse, tell_hindered, tell_unsaved,
+    finish_before, folder, hindered, may_back_up, print_bytes, refuse, status_of, tell_hindered,
+    tell_unsaved,
 };
 use command_words::{DEFAULT_BUDGET, OperateWords, Outcomes, ShownWords, TalkWords, WordsFault};
 use file_access::Files;
@@ -29,7 +30,10 @@ use std::cell::RefCell;
 use std::fs::{self, File};
 use std::rt::Runtime;
 use std::str;
-use terminal_screen::Window;
+use terminal_screen::{Window, sent_lines};
+
+/// What a person is told whose line was cut off.
+const CUT: &str = "a line that Enter didn't end was cut off; type it again";
 
 /// The names of a conversation's files.
 #[derive(Drop)]
@@ -57,10 +61,14 @@ fn names_of(alloc: Global, words: &OperateWords<'_>) -> Result<Option<Names>, Al
 }
 
 /// Whether a file for screens harms nothing.
-fn may_write_screens(words: &OperateWords<'_>, names: &Names) -> bool {
+fn may_write_screens<R: Runtime<A = Global>>(
+    rt: &R,
+    words: &OperateWords<'_>,
+    names: &Names,
+) -> bool {
     match words.shown.screens {
         Some(screens) => {
-            is_free_name(screens, words.code)
+            is_new_name(rt, screens, words.code)
                 && screens != names.journal.as_str()
                 && screens != names.begun.as_str()
                 && screens != names.done.as_str()
@@ -146,10 +154,16 @@ fn tell_journal(rt: &impl Runtime, name: &str, fault: JournalFault) -> Status {
     }
 }
 
+/// Tells what was cut off behind the last line of a journal.
+fn tell_cut<R: Runtime<A = Global>>(rt: &R, tail: &[u8]) {
+    if let Ok(text) = sent_lines(rt.alloc(), tail, None) {
+        let _ = eprint!(rt; "cut off, since Enter was missing: {text}");
+    }
+}
+
 /// A journal that is open, and all lines that it holds.
 fn open_journal<R: Runtime<A = Global, File = File>>(
     rt: &R,
-    audience: Audience,
     name: &str,
     goes_on: bool,
 ) -> Result<KeptJournal, JournalFault> {
@@ -157,18 +171,17 @@ fn open_journal<R: Runtime<A = Global, File = File>>(
         return Ok(KeptJournal {
             file: JournalFile::make(rt, name)?,
             bytes: Vec::new(rt.alloc()),
+            cut: false,
         });
     }
     let taken = JournalFile::take_up(rt, name)?;
-    if audience.person && !taken.tail.is_empty() {
-        let _ = eprintln!(rt;
-            "a line that wasn't ended was cut off: {} bytes",
-            taken.tail.len()
-        );
+    if !taken.tail.is_empty() {
+        tell_cut(rt, taken.tail.as_slice());
     }
     Ok(KeptJournal {
         file: taken.journal,
         bytes: taken.lines,
+        cut: !taken.tail.is_empty(),
     })
 }
 
@@ -225,8 +238,8 @@ fn done_text(
     let mut paper = JournalPaper::new(alloc);
     let end = format!(in alloc; "{ended}")?;
     let length = format!(in alloc; "{}", journal.bytes.len())?;
-    paper.put(alloc, "end", end.as_str())?;
-    paper.put(alloc, "length", length.as_str())?;
+    paper.put(alloc, "--end", end.as_str())?;
+    paper.put(alloc, "--length", length.as_str())?;
     paper.put_sum(
         alloc,
         &FileSum {
@@ -311,7 +324,14 @@ fn print_rest<R: Runtime<A = Global, File = File>>(
             eprint!(rt; "\x1b[0m\x1b[25;1H\r\n")
         };
     }
-    print_bytes(rt, audience, &rows[desk.shown.min(rows.len())..])
+    let rest = &rows[desk.shown.min(rows.len())..];
+    if !desk.manner.one_terminal {
+        return print_bytes(rt, audience, rest);
+    }
+    match sent_lines(rt.alloc(), rest, desk.manner.page) {
+        Ok(text) => status_of(rt.write_all(text.as_bytes())),
+        Err(_) => refuse(rt, Refusal::Memory),
+    }
 }
 
 /// Tells why the operator's desk failed: a file isn't as it was, or can't be written, or the terminal failed.
@@ -551,6 +571,9 @@ fn converse<'a, R: Runtime<A = Global, File = File>>(
         Ok(desk) => desk,
         Err(status) => return status,
     };
+    if journal.cut {
+        desk.note = CUT;
+    }
     let Ok(input) = journal.bytes.clone() else {
         return refuse(rt, Refusal::Memory);
     };
@@ -595,7 +618,7 @@ fn operate_talk<'a, R: Runtime<A = Global, File = File>>(
         Next::Taken if !goes_on && is_left_empty(rt, names) => {}
         next => return tell_next(rt, audience, names, next),
     }
-    match open_journal(rt, audience, names.journal.as_str(), goes_on) {
+    match open_journal(rt, names.journal.as_str(), goes_on) {
         Ok(journal) => converse(rt, audience, open, journal, closed),
         Err(fault) => tell_journal(rt, names.journal.as_str(), fault),
     }
@@ -678,7 +701,7 @@ pub fn operate<R: Runtime<A = Global, File = File>>(
         Ok(None) => return Err(WordsFault::Journal),
         Err(_) => return Ok(refuse(rt, Refusal::Memory)),
     };
-    if !may_write_screens(words, &names) {
+    if !may_write_screens(rt, words, &names) {
         return Err(WordsFault::Screens);
     }
     let window = window_of(audience, &words.shown);

@@ -8,7 +8,7 @@ use crate::shown::Audience;
 use crate::{refuse, tell_refusal};
 use file_access::Files;
 use file_commands::{Refusal, Status};
-use folder_files::paper_name;
+use folder_files::{paper_name, stands};
 use operating::Broken;
 use operator_desk::{Screens, TakenLines, Typist};
 use run_commands::{
@@ -26,7 +26,12 @@ pub fn is_free_name(name: &str, code: &str) -> bool {
         && !name.starts_with(paper_name())
 }
 
-/// The file for screens, made anew, where one is named.
+/// Whether a new file of this name harms nothing, and none of this name stands yet.
+pub fn is_new_name<R: Runtime<A = Global>>(rt: &R, name: &str, code: &str) -> bool {
+    is_free_name(name, code) && !stands(rt, name)
+}
+
+/// The file for screens, where one is named. No file of its name stands.
 pub fn screens_to<R: Runtime<A = Global, File = File>>(
     rt: &R,
     name: Option<&str>,
@@ -36,8 +41,7 @@ pub fn screens_to<R: Runtime<A = Global, File = File>>(
     };
     let mut options = OpenOptions::new();
     options.write(true);
-    options.create(true);
-    options.truncate(true);
+    options.create_new(true);
     match options.open(rt, name) {
         Ok(file) => Ok(Screens::to(Some(file))),
         Err(_) => Err(refuse(rt, Refusal::Disk { name })),

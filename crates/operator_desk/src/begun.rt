@@ -1,4 +1,5 @@
-//! How a conversation was begun, as the text beside its journal says it.
+//! How a conversation was begun, as the text beside its journal says it. Its keys are words of the command line, which
+//! no file's name is, and names of files.
 #![tactic(auto)]
 
 use code_pages::CodePage;
@@ -54,10 +55,10 @@ fn put_save(alloc: Global, paper: &mut JournalPaper, save: &TalkSave) -> Result<
         Some(path) => path.as_str(),
         None => "",
     };
-    paper.put(alloc, "only-finished", yes_no(save.only_finished))?;
-    paper.put(alloc, "new-owner", yes_no(save.new_owner))?;
-    paper.put(alloc, "no-lock", yes_no(save.no_lock))?;
-    paper.put(alloc, "backup", backup)
+    paper.put(alloc, "--only-finished", yes_no(save.only_finished))?;
+    paper.put(alloc, "--new-owner", yes_no(save.new_owner))?;
+    paper.put(alloc, "--no-lock", yes_no(save.no_lock))?;
+    paper.put(alloc, "--backup", backup)
 }
 
 /// Puts the words of a conversation.
@@ -65,11 +66,11 @@ pub fn put_talk(alloc: Global, paper: &mut JournalPaper, talk: &Talk) -> Result<
     let budget = format!(in alloc; "{}", talk.budget)?;
     let limit = format!(in alloc; "{}", talk.limit.records())?;
     let today = format!(in alloc; "{}", talk.day)?;
-    paper.put(alloc, "today", today.as_str())?;
-    paper.put(alloc, "budget", budget.as_str())?;
-    paper.put(alloc, "limit", limit.as_str())?;
-    paper.put(alloc, "from", page_word(talk.page))?;
-    paper.put(alloc, "rehearse", yes_no(talk.save.is_none()))?;
+    paper.put(alloc, "--today", today.as_str())?;
+    paper.put(alloc, "--budget", budget.as_str())?;
+    paper.put(alloc, "--limit", limit.as_str())?;
+    paper.put(alloc, "--from", page_word(talk.page))?;
+    paper.put(alloc, "--rehearse", yes_no(talk.save.is_none()))?;
     match &talk.save {
         Some(save) => put_save(alloc, paper, save),
         None => Ok(()),
@@ -86,7 +87,7 @@ fn is_yes(paper: &JournalPaper, key: &str) -> Option<bool> {
 }
 
 fn page_in(paper: &JournalPaper) -> Option<Option<CodePage>> {
-    match paper.get("from") {
+    match paper.get("--from") {
         Some("cp437") => Some(Some(CodePage::Cp437)),
         Some("cp850") => Some(Some(CodePage::Cp850)),
         Some("none") => Some(None),
@@ -105,24 +106,24 @@ fn name_in(alloc: Global, text: &str) -> Result<Option<String>, AllocError> {
 /// The terms of a save that the text says, if it says all of them.
 fn save_in(alloc: Global, paper: &JournalPaper) -> Option<TalkSave> {
     Some(TalkSave {
-        only_finished: is_yes(paper, "only-finished")?,
-        backup: name_in(alloc, paper.get("backup")?).ok()?,
-        new_owner: is_yes(paper, "new-owner")?,
-        no_lock: is_yes(paper, "no-lock")?,
+        only_finished: is_yes(paper, "--only-finished")?,
+        backup: name_in(alloc, paper.get("--backup")?).ok()?,
+        new_owner: is_yes(paper, "--new-owner")?,
+        no_lock: is_yes(paper, "--no-lock")?,
     })
 }
 
 /// The words of a conversation that the text says, if it says all of them.
 pub fn talk_in(alloc: Global, paper: &JournalPaper) -> Option<Talk> {
-    let save = if is_yes(paper, "rehearse")? {
+    let save = if is_yes(paper, "--rehearse")? {
         None
     } else {
         Some(save_in(alloc, paper)?)
     };
     Some(Talk {
-        budget: paper.get("budget")?.parse::<u64>().ok()?,
-        limit: RecordLimit::of(paper.get("limit")?.parse::<u32>().ok()?)?,
-        day: RunDay::named(paper.get("today")?)?,
+        budget: paper.get("--budget")?.parse::<u64>().ok()?,
+        limit: RecordLimit::of(paper.get("--limit")?.parse::<u32>().ok()?)?,
+        day: RunDay::named(paper.get("--today")?)?,
         save,
         page: page_in(paper)?,
     })

@@ -14,7 +14,7 @@ use std::alloc::{AllocError, Global};
 use std::fs::File;
 use std::rt::Runtime;
 use std::str;
-use terminal_screen::{Drawing, Window, drawn, lay_over, plain_lines};
+use terminal_screen::{Drawing, Window, drawn, lay_over, plain_lines, sent_lines};
 
 /// What a person at a terminal is told who ends the input.
 const AT_END: &str =
@@ -121,8 +121,20 @@ impl<R: Runtime<A = Global, File = File>> OperatorDesk<'_, R> {
         }
     }
 
-    /// Lists the rows that changed, those that were sent out among them, and what waits.
+    /// Shows the rows that left the screen, where they go to the terminal on which it is listed.
+    fn list_sent(&self, alloc: Global, seen: &Scene<'_>) -> Result<(), OperatorFailed> {
+        if !self.manner.one_terminal {
+            return Ok(());
+        }
+        match sent_lines(alloc, self.unshown(seen), self.manner.page) {
+            Ok(text) => self.show(text.as_str()),
+            Err(_) => Err(OperatorFailed),
+        }
+    }
+
+    /// Lists the rows that left the screen and those that changed, and what waits.
     fn list(&mut self, alloc: Global, seen: &Scene<'_>) -> Result<(), OperatorFailed> {
+        self.list_sent(alloc, seen)?;
         let rows = seen.screen.rows();
         match plain_lines(alloc, self.before.as_slice(), rows, self.manner.page) {
             Ok(text) => self.show(text.as_str())?,

@@ -16,6 +16,8 @@ use std::rt::Runtime;
 pub struct KeptJournal {
     pub file: JournalFile,
     pub bytes: Vec<u8>,
+    /// Whether half a line was cut off behind these bytes when it was taken up.
+    pub cut: bool,
 }
 
 impl Journal for KeptJournal {

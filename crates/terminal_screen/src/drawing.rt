@@ -101,17 +101,32 @@ fn put_sent(out: &mut String, drawing: &Drawing<'_>) -> Result<(), AllocError> {
     Ok(())
 }
 
-/// Puts the rows of the window, from its top to its bottom.
+/// The line of the window in which the note stands, if there is one: below the rows, or over the last one that hasn't
+/// the cursor where no line is left below them.
+fn note_line(drawing: &Drawing<'_>, first: usize) -> Option<usize> {
+    if drawing.note.is_empty() {
+        return None;
+    }
+    let last = drawing.window.rows.saturating_sub(1).min(ROWS);
+    if drawing.cursor.0.saturating_sub(first) == last {
+        Some(last.saturating_sub(1))
+    } else {
+        Some(last)
+    }
+}
+
+/// Puts the rows of the window, from its top to its bottom, and the note.
 fn put_rows(out: &mut String, drawing: &Drawing<'_>, first: usize) -> Result<(), AllocError> {
+    let note = note_line(drawing, first);
     for line in 0..drawing.window.rows {
         if line > 0 {
             out.push_str("\r\n")?;
         }
         let number = first.saturating_add(line);
-        if let Some(row) = drawing.rows.get(number) {
-            put_cells(out, drawing, number, row)?;
-        } else if number == ROWS {
+        if note == Some(line) {
             put_shown(out, None, drawing.note.as_bytes())?;
+        } else if let Some(row) = drawing.rows.get(number) {
+            put_cells(out, drawing, number, row)?;
         }
         out.push_str("\x1b[K")?;
     }
@@ -143,6 +158,23 @@ pub fn drawn(alloc: Global, drawing: &Drawing<'_>) -> Result<String, AllocError>
     put_rows(&mut out, drawing, first)?;
     let (row, column) = drawing.cursor;
     put_cursor(alloc, &mut out, row.saturating_sub(first), column.min(79))?;
+    Ok(out)
+}
+
+/// Rows that were sent out, each with LF: for a terminal on which nothing is drawn.
+pub fn sent_lines(
+    alloc: Global,
+    sent: &[u8],
+    page: Option<CodePage>,
+) -> Result<String, AllocError> {
+    let mut out = String::new(alloc);
+    for line in sent.split_inclusive(|byte| *byte == b'\n') {
+        match line {
+            [text @ .., b'\n'] => put_shown(&mut out, page, text)?,
+            _ => put_shown(&mut out, page, line)?,
+        }
+        out.push('\n')?;
+    }
     Ok(out)
 }
 
