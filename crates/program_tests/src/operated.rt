@@ -235,14 +235,31 @@ fn as_a_run(alloc: Global, case: &Case<'_>) -> Result<Option<(Vec<u8>, String)>,
     }
 }
 
+/// What isn't as wanted of what came of a conversation: nothing, or a word for it.
+fn first_wrong(came: &Came, wanted: &Wanted<'_>, is_listed: bool) -> Option<&'static str> {
+    if came.rows.as_slice() != wanted.rows.as_bytes() {
+        return Some("rows");
+    }
+    if came.told.as_str() != wanted.told {
+        return Some("told");
+    }
+    if came.kept.as_slice() != wanted.kept.as_bytes() {
+        return Some("kept");
+    }
+    if came.screens != wanted.screens {
+        return Some("screens");
+    }
+    if is_listed { None } else { Some("listed") }
+}
+
 /// What isn't as wanted of a conversation: nothing, or a word for it.
-fn wrong_in_talk<'a>(
+fn wrong_in_talk(
     alloc: Global,
-    case: &Case<'a>,
+    case: &Case<'_>,
     typing: Typing<'_>,
     rehearsed: bool,
     wanted: Wanted<'_>,
-) -> Result<Option<&'a str>, AllocError> {
+) -> Result<Option<&'static str>, AllocError> {
     let entries = entries(alloc, case)?;
     let mut files = MemoryFiles::new(alloc, entries.as_slice(), WORKS_FOR_EVER);
     if !compiled(alloc, &mut files) {
@@ -252,20 +269,11 @@ fn wrong_in_talk<'a>(
         return Ok(Some("job"));
     };
     let listed = listing(alloc, &mut files, "CUST.DBF");
-    Ok(if came.rows.as_slice() != wanted.rows.as_bytes() {
-        Some("rows")
-    } else if came.told.as_str() != wanted.told {
-        Some("told")
-    } else if came.kept.as_slice() != wanted.kept.as_bytes() {
-        Some("kept")
-    } else if came.screens != wanted.screens {
-        Some("screens")
-    } else {
-        match listed {
-            Some(lines) if lines.as_slice() == wanted.listed.as_bytes() => None,
-            _ => Some("listed"),
-        }
-    })
+    let is_listed = match &listed {
+        Some(lines) => lines.as_slice() == wanted.listed.as_bytes(),
+        None => false,
+    };
+    Ok(first_wrong(&came, &wanted, is_listed))
 }
 
 /// A conversation prints and saves what a run over all lines of its journal does, wherever it begins among them.
