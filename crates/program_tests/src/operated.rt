@@ -1,7 +1,7 @@
 // Conversations: an operator types the lines of a run while it goes on, and a journal keeps them.
 #![tactic(auto)]
 
-use super::cases::{CODE, Case, compiled, entries, listing, printing, run_case};
+use super::cases::{CODE, Case, compiled, entries, listing, printing};
 use super::stored::day_of;
 use super::tables::table;
 use code_items::Code;
@@ -10,7 +10,6 @@ use line_journal::{Journal, JournalFailed};
 use operating::{Answer, Broken, Operator, OperatorFailed, Scene};
 use run_commands::{Job, OperateRefusal, RecordLimit, operate_files, rehearse_talk};
 use std::alloc::{AllocError, Global};
-use std::str;
 use std::test::Fail;
 
 /// A journal in memory that takes so many lines.
@@ -190,6 +189,7 @@ fn operated(
 #[derive(Clone, Copy)]
 struct Wanted<'a> {
     rows: &'a str,
+    /// How it ended, or the beginning of that.
     told: &'a str,
     kept: &'a str,
     screens: usize,
@@ -214,25 +214,12 @@ fn over_customers<'a>(files: &'a [MemoryEntry<'a>], source: &'a str) -> Case<'a>
 const ASKING: &str =
     "USE CUST\nACCEPT \"Name? \" TO N\nAPPEND BLANK\nREPLACE NAME WITH N\nACCEPT \"More? \" TO M\n? LEN(M)\n";
 
+/// What it prints where the second line has four bytes.
+const ROWS: &str = "Name?\nMore?\n         4\n";
+
 /// The table CUST, which is empty.
 fn customers(alloc: Global) -> Result<Vec<u8>, AllocError> {
     table(alloc, &[(b"NAME", b'C', 10, 0)], &[])
-}
-
-/// What a run of a case prints, and how it ends.
-fn as_a_run(alloc: Global, case: &Case<'_>) -> Result<Option<(Vec<u8>, String)>, AllocError> {
-    let entries = entries(alloc, case)?;
-    let mut files = MemoryFiles::new(alloc, entries.as_slice(), WORKS_FOR_EVER);
-    if !compiled(alloc, &mut files) {
-        return Ok(None);
-    }
-    let Some(report) = run_case(alloc, &mut files, case, false) else {
-        return Ok(None);
-    };
-    match report.result {
-        Ok(ended) => Ok(Some((report.rows, ended.to_string(alloc)?))),
-        Err(_) => Ok(None),
-    }
 }
 
 /// What isn't as wanted of what came of a conversation: nothing, or a word for it.
@@ -240,7 +227,7 @@ fn first_wrong(came: &Came, wanted: &Wanted<'_>, is_listed: bool) -> Option<&'st
     if came.rows.as_slice() != wanted.rows.as_bytes() {
         return Some("rows");
     }
-    if came.told.as_str() != wanted.told {
+    if !came.told.as_str().starts_with(wanted.told) {
         return Some("told");
     }
     if came.kept.as_slice() != wanted.kept.as_bytes() {
@@ -284,14 +271,10 @@ fn runs_over_the_lines_of_its_journal(rt: HostRuntime) -> Result<(), Fail> {
         name: "CUST.DBF",
         bytes: &bytes,
     }];
-    let case = Case {
-        typed: "Ann\nmuch\n",
-        ..over_customers(&files, ASKING)
-    };
-    let (rows, told) = as_a_run(rt.alloc(), &case)?.ok_or("run")?;
+    let case = over_customers(&files, ASKING);
     let wanted = Wanted {
-        rows: str::from_utf8(rows.as_slice())?,
-        told: told.as_str(),
+        rows: ROWS,
+        told: "finished ",
         kept: "Ann\nmuch\n",
         screens: 3,
         listed: ANN,
@@ -428,13 +411,9 @@ fn rehearses(rt: HostRuntime) -> Result<(), Fail> {
         name: "CUST.DBF",
         bytes: &bytes,
     }];
-    let case = Case {
-        typed: "Ann\nmuch\n",
-        ..over_customers(&files, ASKING)
-    };
-    let (rows, _) = as_a_run(rt.alloc(), &case)?.ok_or("run")?;
+    let case = over_customers(&files, ASKING);
     let wanted = Wanted {
-        rows: str::from_utf8(rows.as_slice())?,
+        rows: ROWS,
         told: "CUST 0 -> 1 records, 1 added\n",
         kept: "Ann\nmuch\n",
         screens: 3,
