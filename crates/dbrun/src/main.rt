@@ -314,8 +314,8 @@ pub fn finish_before<R: Runtime<A = Global>>(rt: &R) -> Option<Status> {
     }
 }
 
-/// Before tables are only read, a save that had come to its note is finished. Where that can't be, it is told on standard
-/// error, and what stands is read.
+/// Before tables are only read, a save that had come to its note is finished. Where that can't be, it is told on
+/// standard error, and what stands is read.
 fn settle<R: Runtime<A = Global, File = File>>(rt: &R) {
     if !note_stands(rt) {
         return;

@@ -10,8 +10,8 @@ use std::io::{ErrorKind, Read};
 /// The bytes that one read asks for at the most.
 const CHUNK: usize = 65_536;
 
-/// All bytes that a reader gives, if they are at most `limit`, in at most so many reads, the one that finds the end among
-/// them. No more than one byte above the limit is asked for. An interrupted read is tried again, and counts.
+/// All bytes that a reader gives, if they are at most `limit`, in at most so many reads, the one that finds the end
+/// among them. No more than one byte above the limit is asked for. An interrupted read is tried again, and counts.
 ///
 /// # Errors
 /// `TooLong` where the reader gives more than `limit` bytes, `Device` where a read fails or the turns are used up,

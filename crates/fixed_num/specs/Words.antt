@@ -39,7 +39,8 @@ form_of (finite (negsuc m) d) = 16 + d
 pub words-above : (m d : ℕ) → (magnitude_of (finite (signed false m) d) ≡ m) × (form_of (finite (signed false m) d) ≡ d)
 words-above m d = (refl, refl)
 
-pub words-below : (m d : ℕ) → 0 < m → (magnitude_of (finite (signed true m) d) ≡ m) × (form_of (finite (signed true m) d) ≡ 16 + d)
+pub words-below : (m d : ℕ) → 0 < m
+    → (magnitude_of (finite (signed true m) d) ≡ m) × (form_of (finite (signed true m) d) ≡ 16 + d)
 words-below zero d some = absurd (omega arith)
 words-below (suc m) d some = (refl, refl)
 
@@ -50,7 +51,8 @@ WordsBack m f parts = (magnitude_of (number_of parts) ≡ m) × (form_of (number
 pub words_back : (m f : ℕ) → AreWords m f → WordsBack m f (parts_in m f)
 words_back m f h = ⊎_elim
     (λ some.
-    let P : Bool → Type 0 = λ b. WordsBack m f (if b then Some (record { magnitude = m; decimals = f % 16; negative = nat_le 16 f }) else None) in
+    let P : Bool → Type 0 = λ b. WordsBack m f
+    (if b then Some (record { magnitude = m; decimals = f % 16; negative = nat_le 16 f }) else None) in
     subst P (sym (lt-ltb f 32 some)) (⊎_elim
     (λ above.
     let Q : Bool → Type 0 = λ b. WordsBack m f (Some (record { magnitude = m; decimals = f % 16; negative = b })) in
@@ -64,7 +66,8 @@ words_back m f h = ⊎_elim
     subst Q (sym is) (let w = words-below m (f % 16) (h.zero_unsigned below some) in (w.0, w.1 ∙ e)))
     (cases_lt f 16)))
     (λ none.
-    let P : Bool → Type 0 = λ b. WordsBack m f (if b then Some (record { magnitude = m; decimals = f % 16; negative = nat_le 16 f }) else None) in
+    let P : Bool → Type 0 = λ b. WordsBack m f
+    (if b then Some (record { magnitude = m; decimals = f % 16; negative = nat_le 16 f }) else None) in
     let e : f ≡ 32 = omega (arith, h.form_fits) in
     subst P (sym (le-ltb f 32 none)) (sym (h.none_is_zero e), sym e))
     (cases_lt f 32)
@@ -96,8 +99,10 @@ is_same_number-refl (finite m d) =
 is_same_number-turned : (x y : Number) (a b : Bool) → is_same_number x y ≡ a → is_same_number y x ≡ b → a ≡ b
 is_same_number-turned x y true true h g = refl
 is_same_number-turned x y false false h g = refl
-is_same_number-turned x y true false h g = sym (is_same_number-refl x) ∙ ap (λ z. is_same_number z x) (is_same_number-true x y h) ∙ g
-is_same_number-turned x y false true h g = sym h ∙ ap (λ z. is_same_number x z) (is_same_number-true y x g) ∙ is_same_number-refl x
+is_same_number-turned x y true false h g =
+    sym (is_same_number-refl x) ∙ ap (λ z. is_same_number z x) (is_same_number-true x y h) ∙ g
+is_same_number-turned x y false true h g =
+    sym h ∙ ap (λ z. is_same_number x z) (is_same_number-true y x g) ∙ is_same_number-refl x
 
 pub is_same_number-laws : IsEquivalence is_same_number
 is_same_number-laws = record {

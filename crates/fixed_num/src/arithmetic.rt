@@ -29,8 +29,8 @@ fn sum_alike(a: Parts, b: Parts) -> Num
     }
 }
 
-/// The sum of any two numbers, with the greater number of decimals. (Apart, so that a sum of alike numbers is worked out
-/// where it is asked for. Numbers are handed over in registers, and their parts would not be.)
+/// The sum of any two numbers, with the greater number of decimals. (Apart, so that a sum of alike numbers is worked
+/// out where it is asked for. Numbers are handed over in registers, and their parts would not be.)
 #[inline(never)]
 fn sum_of_any(first: Num, second: Num) -> Num
     ensures { result ≡ sum_of first second }

@@ -55,7 +55,8 @@ impl Model for Num {
 
     ghost inverse = { λ x. record { magnitude = magnitude_of x; form = form_of x } };
 
-    ghost inverse_ok = { λ n h. ap (λ m. record { magnitude = m; form = form_of (number_of (parts_in n.magnitude n.form)) })
+    ghost inverse_ok = { λ n h.
+        ap (λ m. record { magnitude = m; form = form_of (number_of (parts_in n.magnitude n.form)) })
         (words_back n.magnitude n.form h).0
         ∙ ap (λ f. record { magnitude = n.magnitude; form = f }) (words_back n.magnitude n.form h).1 };
 }

@@ -220,8 +220,8 @@ pub fn finish<R: Disk + Alloc<A = Global>>(rt: &R) -> Result<FinishedSave, Unfin
     }
 }
 
-/// Takes a save that was cut off away: its new files and its plan or note, and no file that it was to replace. Those that
-/// it had replaced already stay new. Answers whether there was one.
+/// Takes a save that was cut off away: its new files and its plan or note, and no file that it was to replace. Those
+/// that it had replaced already stay new. Answers whether there was one.
 pub fn forget<R: Disk + Alloc<A = Global>>(rt: &R) -> Result<bool, UnfinishedSave> {
     let paper = match found_paper(rt, rt.alloc()) {
         Ok(Some(paper)) => paper,

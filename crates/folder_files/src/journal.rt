@@ -159,8 +159,8 @@ impl JournalFile {
         self.file.sync_data()
     }
 
-    /// Puts bytes behind the others, down to the device. Where the device fails, the journal is as it was, as far as the
-    /// device lets it be.
+    /// Puts bytes behind the others, down to the device. Where the device fails, the journal is as it was, as far as
+    /// the device lets it be.
     pub fn add(&mut self, bytes: &[u8]) -> io::Result<()> {
         let put = self.put(bytes);
         match put {

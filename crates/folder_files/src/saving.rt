@@ -20,7 +20,8 @@ use std::alloc::{Alloc, AllocError, Global};
 use std::rt::Files as Disk;
 use std::{fs, io};
 
-/// A file that was read: its name, what stands under it, and the sum of what it held, none where there was no such file.
+/// A file that was read: its name, what stands under it, and the sum of what it held, none where there was no such
+/// file.
 #[derive(Drop)]
 struct Loaded {
     name: String,
@@ -90,8 +91,8 @@ struct Progress {
 }
 
 impl<'a, R: Disk + Alloc<A = Global>, L: Listener> SavingFolder<'a, R, L> {
-    /// The folder, of which nothing was read yet and nothing is to be replaced. To read a table or an index that couldn't
-    /// be saved on these terms is a failure of the device.
+    /// The folder, of which nothing was read yet and nothing is to be replaced. To read a table or an index that
+    /// couldn't be saved on these terms is a failure of the device.
     pub fn new(folder: Folder<'a, R, L>, terms: SaveTerms<'a>) -> SavingFolder<'a, R, L> {
         let alloc = folder.rt.alloc();
         let who = Who::now(folder.rt);

@@ -49,7 +49,8 @@ fn declaration(
     name: &[u8],
     found: &FoundTable,
 ) -> Result<Option<TableShape>, AllocError>
-    ensures { IfOk result (λ shape. MatchOption shape (10 < length (stem_of name.now)) (DeclaresFound name.now found.now)) }
+    ensures { IfOk result (λ shape.
+        MatchOption shape (10 < length (stem_of name.now)) (DeclaresFound name.now found.now)) }
 {
     let Some(name) = capitals(stem(name)) else {
         return Ok(None);

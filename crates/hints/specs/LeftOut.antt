@@ -61,7 +61,8 @@ abbrev pub parts_to_clear : List NamedThing
 parts_to_clear = (codes "ALL", it.ClearParts) ∷ (codes "MEMORY", it.ClearParts) ∷ (codes "GETS", it.ClearParts) ∷ []
 
 abbrev pub clauses : List NamedThing
-clauses = (codes "ALL", it.Scopes) ∷ (codes "NEXT", it.Scopes) ∷ (codes "RECORD", it.Scopes) ∷ (codes "WHILE", it.Scopes)
+clauses =
+    (codes "ALL", it.Scopes) ∷ (codes "NEXT", it.Scopes) ∷ (codes "RECORD", it.Scopes) ∷ (codes "WHILE", it.Scopes)
     ∷ (codes "FOR", it.Scopes) ∷ (codes "ALIAS", it.Alias) ∷ (codes "PICTURE", it.Pictures)
     ∷ (codes "RANGE", it.Pictures) ∷ []
 
@@ -82,8 +83,10 @@ or_next (Some found) other = Some found
 
 -- what is left out where a line begins with a word
 unfoldable pub by_first : List ℕ → Option Thing
-by_first s = or_next (first_named searches s) (or_next (first_named tables s) (or_next (first_named copies s) (or_next (first_named forms s)
-    (or_next (first_named programs s) (or_next (first_named variables s) (first_named other_forms s))))))
+by_first s =
+    or_next (first_named searches s) (or_next (first_named tables s) (or_next (first_named copies s)
+    (or_next (first_named forms s) (or_next (first_named programs s)
+    (or_next (first_named variables s) (first_named other_forms s))))))
 
 -- whether SET has a meaning with this word behind it
 unfoldable pub is_setting : List ℕ → Bool

@@ -13,4 +13,5 @@ sum_word (Some sum) = encode_lower sum
 
 -- the word under the file's name is that of its sum
 abbrev pub is_said : Members → FileSum → Bool
-is_said paper file = option_eq bytes_eq (option_and_then as_str (get_member (string_bytes file.name) paper)) (Some (sum_word file.sum))
+is_said paper file =
+    option_eq bytes_eq (option_and_then as_str (get_member (string_bytes file.name) paper)) (Some (sum_word file.sum))

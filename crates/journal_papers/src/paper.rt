@@ -47,7 +47,8 @@ impl JournalPaper {
 
     /// The word under a key, if one stands there.
     pub fn get(&self, key: &str) -> Option<&str>
-        ensures { option_map (λ s. s.now) result ≡ option_and_then as_str (get_member key.now (table_view self.now.table)) }
+        ensures { option_map (λ s. s.now) result
+            ≡ option_and_then as_str (get_member key.now (table_view self.now.table)) }
     {
         match self.table.get(key) {
             Some(value) => value.as_str(),

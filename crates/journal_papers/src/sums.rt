@@ -34,7 +34,8 @@ fn word(alloc: Global, sum: &Option<Sum>) -> Result<String, AllocError>
 impl JournalPaper {
     /// Puts a file's sum under its name.
     pub fn put_sum(&mut self, alloc: Global, file: &FileSum) -> Result<(), AllocError>
-        ensures { OnOk result (get_member (string_bytes file.now.name) (table_view self.new.table) ≡ Some (string (sum_word file.now.sum))) }
+        ensures { OnOk result (get_member (string_bytes file.now.name) (table_view self.new.table)
+            ≡ Some (string (sum_word file.now.sum))) }
     {
         let word = word(alloc, &file.sum)?;
         self.put(alloc, file.name.as_str(), word.as_str())

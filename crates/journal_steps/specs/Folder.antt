@@ -25,8 +25,8 @@ whole_lines bytes = lines_after_front [] bytes
 
 -- ---- what stands
 
--- the bytes of the journal, if it stands; the texts of the beginning and of the end; whether a note tells of a save; and
--- how often tables were saved
+-- the bytes of the journal, if it stands; the texts of the beginning and of the end; whether a note tells of a save;
+-- and how often tables were saved
 pub record Folder : Type 0 where
   pub journal : Option (List ℕ)
   pub begun : Bool

@@ -4,8 +4,8 @@ use Rattle.journal_steps.specs.declared.next.Remains.{Remains}
 use Rattle.journal_steps.specs.declared.next.Next.{Next}
 use Rattle.journal_steps.specs.declared.next.Next.TheVariants.{Begin, GoOn, Finish, Ended, Taken, Missing}
 
--- A save that a note tells of comes first. One that came to its end, or that was never begun, doesn't go on; and none is
--- begun where anything of it stands.
+-- A save that a note tells of comes first. One that came to its end, or that was never begun, doesn't go on; and none
+-- is begun where anything of it stands.
 unfoldable pub next_of : Remains → Bool → Next
 next_of found goes_on =
     if found.noted then Finish

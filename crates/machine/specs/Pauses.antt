@@ -17,7 +17,8 @@ use Rattle.machine.specs.Twins.{BankState, AgreesWith, Twin}
 -- end stands here too, but for the end
 pub record PausesAt (code : Code) (from : World) (budget steps : ℕ) (b : BankState) : Type 0 where
   pub world : World
-  -- the checking machine's steps lead to this world and cost what the run cost, and none took a line where none was left
+  -- the checking machine's steps lead to this world and cost what the run cost, and none took a line where none was
+  -- left
   pub takes_its_steps : Came code from steps world
   pub agrees : AgreesWith b world
   pub meets_no_fault : (n : ℕ) (v : World) → after code from n ≡ Some v → IsNoFault (step_of code v)

@@ -1,8 +1,8 @@
 //! The machine for accepted code: values without tags, and no test of any instruction.
 //!
 //! `run` takes the checking machine's steps and meets no fault; `resume` goes on where a run ended.
-//! `resume_to_line` pauses where a line of the operator is wanted that isn't there, and `Banks::take_line` takes one that
-//! a journal keeps.
+//! `resume_to_line` pauses where a line of the operator is wanted that isn't there, and `Banks::take_line` takes one
+//! that a journal keeps.
 #![tactic(auto)]
 
 mod banks;

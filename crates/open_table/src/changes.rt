@@ -45,7 +45,8 @@ pub(crate) fn append<K: KeyList>(
 }
 
 /// Writes a value of the field's kind into field `f` of row `r`, both counted from 0, and has each open index follow,
-/// where the row's key doesn't stay equal; the others go stale. Where memory is missing, rows and lists are as they were.
+/// where the row's key doesn't stay equal; the others go stale. Where memory is missing, rows and lists are as they
+/// were.
 pub(crate) fn replace<K: KeyList>(
     table: &mut Table,
     slots: &mut Vec<Slot<K>>,

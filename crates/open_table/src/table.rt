@@ -394,8 +394,8 @@ impl<K: KeyList> IndexedTable<K> {
         self.remake_and_top(alloc, list, true, order, see, base, budget)
     }
 
-    /// REINDEX: makes the open indexes anew, each at the cost of the rows. It ends with TOP in an order that isn't stale.
-    /// Where it is refused, all is as it was.
+    /// REINDEX: makes the open indexes anew, each at the cost of the rows. It ends with TOP in an order that isn't
+    /// stale. Where it is refused, all is as it was.
     pub fn reindex<F: Fn(&Row<'_>) -> bool>(
         &mut self,
         alloc: Global,

@@ -291,9 +291,9 @@ pub struct EndedTalk<K: KeyList> {
 
 /// Runs an accepted code over tables of the declared structures while an operator types its lines. It begins with the
 /// lines that the journal holds, and goes on with those that the operator answers: each is kept in the journal before
-/// the run sees it. Behind the end of the input each further line is empty. The run ends as that over all lines that the
-/// journal holds then: at the same cost, with the same screen and tables. Whether the budget is spent is judged before a
-/// line is asked for.
+/// the run sees it. Behind the end of the input each further line is empty. The run ends as that over all lines that
+/// the journal holds then: at the same cost, with the same screen and tables. Whether the budget is spent is judged
+/// before a line is asked for.
 ///
 /// # Errors
 /// The operator or the journal failed, or a line isn't one, or memory was refused before the run began or for a line.

@@ -28,8 +28,8 @@ fn date_now<R: Runtime<A = Global>>(rt: &R) -> Option<Date> {
     }
 }
 
-/// The computer's day now, in the zone that TZ names or else the system's file: none where it isn't one of the years 1900
-/// to 2155, or the system doesn't tell it.
+/// The computer's day now, in the zone that TZ names or else the system's file: none where it isn't one of the years
+/// 1900 to 2155, or the system doesn't tell it.
 pub fn local_day<R: Runtime<A = Global>>(rt: &R) -> Option<RunDay> {
     let date = date_now(rt)?;
     if date.year() < 1900 || date.year() > 2155 {

@@ -1,5 +1,5 @@
-//! The operator's desk: what a person or another program sees of a run in conversation and types for it, and what stands
-//! beside the journal that keeps it.
+//! The operator's desk: what a person or another program sees of a run in conversation and types for it, and what
+//! stands beside the journal that keeps it.
 #![tactic(auto)]
 
 mod begun;

@@ -2,8 +2,8 @@
 use Rattle.std.specs.Prelude.{◌≡◌, ℕ, ◌-◌, List, ◌++◌, length, Contains, IsPermutation, min}
 use Rattle.row_changes.specs.declared.comparing.RowCounts.{RowCounts}
 
--- What stays, goes and comes: what was is what stays and goes, what is now is what stays and comes, and no row both goes
--- and comes.
+-- What stays, goes and comes: what was is what stays and goes, what is now is what stays and comes, and no row both
+-- goes and comes.
 pub record IsParted (before after stayed gone come : List (List ℕ)) : Type 0 where
   pub before_is : IsPermutation before (stayed ++ gone)
   pub after_is : IsPermutation after (stayed ++ come)

@@ -1,7 +1,8 @@
 // Rows compared.
 #![tactic(auto)]
 
-ghost use Rattle.std.specs.Prelude.{◌≡◌, ◌+◌, ◌<◌, ◌≤◌, ◌^◌, [], length, map, IfOk, OnOk, IfSome, IfNone, IsPermutation};
+ghost use Rattle.std.specs.Prelude.{◌≡◌, ◌+◌, ◌<◌, ◌≤◌, ◌^◌, [], length, map, IfOk, OnOk, IfSome, IfNone};
+ghost use Rattle.std.specs.Prelude.{IsPermutation};
 ghost use Rattle.row_changes.specs.Changes.{AreCounted, GoesAndComes};
 ghost use Rattle.row_changes.specs.Ordered.{Rising};
 ghost use Rattle.row_changes.specs.Turns.{texts, LeadsOn};

@@ -76,7 +76,8 @@ fn put_row(
     Ok(())
 }
 
-/// The pair of each row that is kept, numbered from 1 in the order of the records. Where none is kept, no row is passed.
+/// The pair of each row that is kept, numbered from 1 in the order of the records. Where none is kept, no row is
+/// passed.
 fn entries_of(
     alloc: Global,
     table: &Table,

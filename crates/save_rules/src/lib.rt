@@ -1,5 +1,5 @@
-//! What a save may do to files: which of them can be replaced as they were, which names are those of files in the folder,
-//! and what a code file must not overwrite.
+//! What a save may do to files: which of them can be replaced as they were, which names are those of files in the
+//! folder, and what a code file must not overwrite.
 #![tactic(auto)]
 
 mod overwriting;

@@ -1,5 +1,5 @@
-//! What became of a store's tables and indexes between two moments: how many rows of each table were changed, removed and
-//! added, and which stale indexes were made anew.
+//! What became of a store's tables and indexes between two moments: how many rows of each table were changed, removed
+//! and added, and which stale indexes were made anew.
 #![tactic(auto)]
 
 mod rows;

@@ -125,7 +125,8 @@ fn counts_of<K: KeyList>(
     requires kept { length rows.items ≡ length store.now.tables }
     requires few { length rows.items ≤ 32 }
     ensures count { IfOk result (λ counts. length counts.items ≡ length rows.items) }
-    ensures each { IfOk result (λ counts. EachCounted (map bytes_of_rows rows.items) (tables_of store.now) counts.items) }
+    ensures each { IfOk result (λ counts.
+        EachCounted (map bytes_of_rows rows.items) (tables_of store.now) counts.items) }
 {
     let mut counts = Vec::with_capacity(alloc, rows.len())?;
     for before in rows {

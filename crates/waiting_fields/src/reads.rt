@@ -15,8 +15,8 @@ pub struct Show {
     pub column: Option<u16>,
 }
 
-/// A READ: the places at which it takes lines, and what showed the values that it asks for, in their order; none of these
-/// where they can't be told apart.
+/// A READ: the places at which it takes lines, and what showed the values that it asks for, in their order; none of
+/// these where they can't be told apart.
 #[derive(Drop)]
 pub struct Read {
     pub takes: Vec<usize>,

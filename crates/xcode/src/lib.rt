@@ -1,7 +1,7 @@
 //! Code files: the codec between codes and their bytes, and the listing of a code.
 //!
-//! What a code is stands in `code_items`, whose types are passed on from here, as is what `code_rules` says of states and
-//! of the flow of codes; the bytes of each item stand in `code_parts`.
+//! What a code is stands in `code_items`, whose types are passed on from here, as is what `code_rules` says of states
+//! and of the flow of codes; the bytes of each item stand in `code_parts`.
 #![tactic(auto)]
 
 mod constants;
