@@ -285,7 +285,7 @@ fn report<R: Runtime<A = Global>>(
 }
 
 /// Tells on standard error why a save that was cut off isn't finished.
-fn tell_unfinished(rt: &impl Runtime, unfinished: &UnfinishedSave) -> Status {
+pub fn tell_unfinished(rt: &impl Runtime, unfinished: &UnfinishedSave) -> Status {
     let (_, status) = match unfinished {
         UnfinishedSave::Foreign => (
             eprintln!(rt; "refused {} Foreign", paper_name()),

@@ -3,27 +3,29 @@
 
 ghost use Rattle.std.specs.Prelude.{◌≡◌, false};
 
-use crate::screens::{is_free_name, is_new_name, screens_to};
+use crate::screens::{is_free_name, is_new_name};
 use crate::shown::{Audience, Progress, of_end};
 use crate::{
     finish_before, folder, hindered, may_back_up, print_bytes, refuse, status_of, tell_hindered,
-    tell_unsaved,
+    tell_unfinished, tell_unsaved,
 };
 use command_words::{DEFAULT_BUDGET, OperateWords, Outcomes, ShownWords, TalkWords, WordsFault};
 use file_access::Files;
 use file_commands::{FILE_LIMIT, Refusal, Status};
 use folder_files::{
-    FileSum, Folder, Hindrance, JournalFault, JournalFile, Listener, SaveTerms, SavingFolder,
-    paper_name, put_new_file, stands, sum_of, take_folder,
+    FileSum, Folder, Held, Hindrance, JournalFault, JournalFile, Listener, SaveTerms, SavingFolder,
+    Tail, UnfinishedSave, note_stands, paper_name, put_new_file, stands, sum_of, take_folder,
 };
-use journal_papers::JournalPaper;
+use journal_papers::{JournalPaper, first_changed};
 use journal_steps::{Next, Remains, next_of};
 use operating::Broken;
 use operator_desk::{
-    Gets, KeptJournal, Manner, OperatorDesk, Record, Talk, TalkSave, local_day, talk_in,
+    Gets, HeldLines, KeptJournal, Manner, OperatorDesk, Record, Screens, Talk, TalkSave, local_day,
+    talk_in,
 };
 use run_commands::{
-    Ended, Job, OperateRefusal, OperationReport, Rehearsal, RunDay, operate_files, rehearse_talk,
+    Ended, Job, OperateRefusal, OperationReport, Rehearsal, RunDay, RunRefusal, operate_files,
+    rehearse_talk,
 };
 use std::alloc::{AllocError, Global};
 use std::cell::RefCell;
@@ -31,9 +33,6 @@ use std::fs::{self, File};
 use std::rt::Runtime;
 use std::str;
 use terminal_screen::{Window, sent_lines};
-
-/// What a person is told whose line was cut off.
-const CUT: &str = "a line that Enter didn't end was cut off; type it again";
 
 /// The names of a conversation's files.
 #[derive(Drop)]
@@ -154,43 +153,33 @@ fn tell_journal(rt: &impl Runtime, name: &str, fault: JournalFault) -> Status {
     }
 }
 
-/// Tells what was cut off behind the last line of a journal.
-fn tell_cut<R: Runtime<A = Global>>(rt: &R, tail: &[u8]) {
-    if let Ok(text) = sent_lines(rt.alloc(), tail, None) {
-        let _ = eprint!(rt; "cut off, since Enter was missing: {text}");
-    }
-}
-
-/// A journal that is open, and all lines that it holds.
+/// A journal that is open, all lines that it holds, and what stands behind them.
 fn open_journal<R: Runtime<A = Global, File = File>>(
     rt: &R,
     name: &str,
     goes_on: bool,
-) -> Result<KeptJournal, JournalFault> {
+) -> Result<(KeptJournal, Option<Tail>), JournalFault> {
     if !goes_on {
-        return Ok(KeptJournal {
+        let journal = KeptJournal {
             file: JournalFile::make(rt, name)?,
             bytes: Vec::new(rt.alloc()),
-            cut: false,
-        });
+        };
+        return Ok((journal, None));
     }
     let taken = JournalFile::take_up(rt, name)?;
-    if !taken.tail.is_empty() {
-        tell_cut(rt, taken.tail.as_slice());
-    }
-    Ok(KeptJournal {
+    let journal = KeptJournal {
         file: taken.journal,
         bytes: taken.lines,
-        cut: !taken.tail.is_empty(),
-    })
+    };
+    Ok((journal, taken.tail))
 }
 
-/// What stands of a conversation in the folder. A note was finished before.
+/// What stands of a conversation in the folder.
 fn found_of<R: Runtime<A = Global>>(rt: &R, names: &Names) -> Remains {
     Remains {
         journal: stands(rt, names.journal.as_str()),
         begun: stands(rt, names.begun.as_str()),
-        noted: false,
+        noted: note_stands(rt),
         done: stands(rt, names.done.as_str()),
     }
 }
@@ -277,12 +266,14 @@ fn desk_of<'a, R: Runtime<A = Global, File = File>>(
     rt: &'a R,
     audience: Audience,
     open: &Open<'a>,
-) -> Result<OperatorDesk<'a, R>, Status> {
+    held: &'a [u8],
+    tail: Option<Tail>,
+) -> Result<OperatorDesk<'a, R>, AllocError> {
     let alloc = rt.alloc();
-    let Ok(begun) = open.names.begun.clone() else {
-        return Err(refuse(rt, Refusal::Memory));
+    let screens = match open.screens {
+        Some(name) => Some(String::from_str(alloc, name)?),
+        None => None,
     };
-    let screens = screens_to(rt, open.screens)?;
     Ok(OperatorDesk {
         rt,
         manner: Manner {
@@ -295,13 +286,16 @@ fn desk_of<'a, R: Runtime<A = Global, File = File>>(
         record: Record {
             rt,
             sums: open.sums,
-            begun,
+            journal: open.names.journal.clone()?,
+            tail,
+            begun: open.names.begun.clone()?,
             said: open.said,
             changed: None,
             unwritten: None,
         },
-        screens,
+        screens: Screens::to(screens),
         gets: Gets::new(alloc),
+        held: HeldLines::of(held),
         reader: rt.reader(),
         shown: 0,
         before: Vec::new(alloc),
@@ -348,6 +342,36 @@ fn tell_desk<R: Runtime<A = Global, File = File>>(rt: &R, record: &Record<'_, R>
     }
 }
 
+/// The file that isn't as it was when a conversation was begun that goes on, of those that were read.
+fn changed_in(alloc: Global, open: &Open<'_>) -> Option<String> {
+    let sums = open.sums.try_borrow().ok()?;
+    let number = first_changed(open.said?, sums.as_slice())?;
+    let file = sums.get(number)?;
+    String::from_str(alloc, file.name.as_str()).ok()
+}
+
+/// Takes the journal away of a conversation that didn't begin: nothing was typed.
+fn leave_no_journal<R: Runtime<A = Global>>(rt: &R, names: &Names) {
+    if is_left_empty(rt, names) {
+        let _ = fs::remove_file(rt, names.journal.as_str());
+    }
+}
+
+/// Tells why a run wasn't carried out. A file that was changed since the conversation was begun is told first.
+fn tell_no_run<'a, R: Runtime<A = Global, File = File>>(
+    rt: &'a R,
+    audience: Audience,
+    open: &Open<'_>,
+    refusal: &RunRefusal,
+    hindrance: Option<Hindrance>,
+) -> Status {
+    leave_no_journal(rt, open.names);
+    match changed_in(rt.alloc(), open) {
+        Some(name) => tell_file(rt, name.as_str(), "Changed"),
+        None => tell_hindered(rt, audience, open.code, refusal, hindrance),
+    }
+}
+
 /// Tells why a conversation came to no end. No file was changed, and the journal stays.
 fn tell_broken<'a, R: Runtime<A = Global, File = File>>(
     rt: &'a R,
@@ -359,7 +383,7 @@ fn tell_broken<'a, R: Runtime<A = Global, File = File>>(
 ) -> Status {
     match refusal {
         OperateRefusal::Run(refusal) => {
-            tell_hindered(rt, audience, open.code, refusal, saving.hindrance())
+            tell_no_run(rt, audience, open, refusal, saving.hindrance())
         }
         OperateRefusal::Handed => tell_file(rt, open.names.journal.as_str(), "TooLong"),
         OperateRefusal::Broke(Broken::Journal) => refuse(
@@ -564,17 +588,14 @@ fn converse<'a, R: Runtime<A = Global, File = File>>(
     audience: Audience,
     open: &Open<'a>,
     mut journal: KeptJournal,
+    tail: Option<Tail>,
     closed: Option<Hindrance>,
 ) -> Status {
     let alloc = rt.alloc();
-    let mut desk = match desk_of(rt, audience, open) {
-        Ok(desk) => desk,
-        Err(status) => return status,
-    };
-    if journal.cut {
-        desk.note = CUT;
-    }
     let Ok(input) = journal.bytes.clone() else {
+        return refuse(rt, Refusal::Memory);
+    };
+    let Ok(mut desk) = desk_of(rt, audience, open, input.as_slice(), tail) else {
         return refuse(rt, Refusal::Memory);
     };
     let job = job_of(open.code, open.talk, input.as_slice());
@@ -594,32 +615,38 @@ fn converse<'a, R: Runtime<A = Global, File = File>>(
     conclude(rt, audience, open, &journal, &desk, &mut saving, &told)
 }
 
+/// Finishes the save that a note tells of, where the folder is held.
+fn finish_noted<R: Runtime<A = Global>>(rt: &R, closed: Option<Hindrance>) -> Status {
+    if closed.is_some() {
+        return tell_unfinished(rt, &UnfinishedSave::PaperDisk);
+    }
+    finish_before(rt).unwrap_or(Status::Disk)
+}
+
 /// Begins a conversation or takes one up again, of which the words are known.
 fn operate_talk<'a, R: Runtime<A = Global, File = File>>(
     rt: &'a R,
     audience: Audience,
     open: &Open<'a>,
+    held: &Held,
 ) -> Status {
-    let no_lock = match &open.talk.save {
-        Some(save) => save.no_lock,
-        None => false,
-    };
-    let held = take_folder(rt);
-    let closed = hindered(&held, no_lock);
-    if closed.is_none() {
-        if let Some(status) = finish_before(rt) {
-            return status;
-        }
-    }
+    let closed = hindered(held, open.talk.no_lock());
     let goes_on = open.said.is_some();
     let names = open.names;
     match next_of(found_of(rt, names), goes_on) {
         Next::Begin | Next::GoOn => {}
         Next::Taken if !goes_on && is_left_empty(rt, names) => {}
+        Next::Finish => return finish_noted(rt, closed),
         next => return tell_next(rt, audience, names, next),
     }
+    if closed.is_none() {
+        // a save that hadn't come to its note is taken away
+        if let Some(status) = finish_before(rt) {
+            return status;
+        }
+    }
     match open_journal(rt, names.journal.as_str(), goes_on) {
-        Ok(journal) => converse(rt, audience, open, journal, closed),
+        Ok((journal, tail)) => converse(rt, audience, open, journal, tail, closed),
         Err(fault) => tell_journal(rt, names.journal.as_str(), fault),
     }
 }
@@ -633,6 +660,19 @@ fn is_left_empty<R: Runtime<A = Global>>(rt: &R, names: &Names) -> bool {
     empty && !stands(rt, names.begun.as_str()) && !stands(rt, names.done.as_str())
 }
 
+/// What is told where a conversation is to go on that has no text of its beginning.
+fn tell_unbegun<R: Runtime<A = Global>>(
+    rt: &R,
+    audience: Audience,
+    names: &Names,
+    held: &Held,
+) -> Status {
+    match next_of(found_of(rt, names), true) {
+        Next::Finish => finish_noted(rt, hindered(held, false)),
+        next => tell_next(rt, audience, names, next),
+    }
+}
+
 /// Takes up a conversation as it was begun.
 fn go_on<'a, R: Runtime<A = Global, File = File>>(
     rt: &'a R,
@@ -641,10 +681,11 @@ fn go_on<'a, R: Runtime<A = Global, File = File>>(
     names: &'a Names,
     window: Option<Window>,
     screens: Option<&'a str>,
+    held: &Held,
 ) -> Status {
     let alloc = rt.alloc();
     if !stands(rt, names.begun.as_str()) {
-        return tell_file(rt, names.journal.as_str(), "Absent");
+        return tell_unbegun(rt, audience, names, held);
     }
     let said = match read_begun(rt, audience, names.begun.as_str()) {
         Ok(said) => said,
@@ -663,7 +704,7 @@ fn go_on<'a, R: Runtime<A = Global, File = File>>(
         said: Some(&said),
         sums: &sums,
     };
-    operate_talk(rt, audience, &open)
+    operate_talk(rt, audience, &open, held)
 }
 
 /// Begins a conversation.
@@ -675,6 +716,7 @@ fn begin<'a, R: Runtime<A = Global, File = File>>(
     talk: &'a Talk,
     window: Option<Window>,
     screens: Option<&'a str>,
+    held: &Held,
 ) -> Status {
     let sums = RefCell::new(Vec::new(rt.alloc()));
     let open = Open {
@@ -686,7 +728,7 @@ fn begin<'a, R: Runtime<A = Global, File = File>>(
         said: None,
         sums: &sums,
     };
-    operate_talk(rt, audience, &open)
+    operate_talk(rt, audience, &open, held)
 }
 
 /// Runs a code in conversation.
@@ -707,7 +749,8 @@ pub fn operate<R: Runtime<A = Global, File = File>>(
     let window = window_of(audience, &words.shown);
     let screens = words.shown.screens;
     let Some(asked) = &words.talk else {
-        return Ok(go_on(rt, audience, words.code, &names, window, screens));
+        let held = take_folder(rt);
+        return Ok(go_on(rt, audience, words.code, &names, window, screens, &held));
     };
     may_back_up(rt, asked.tables)?;
     let Some(day) = day_of(rt, asked) else {
@@ -716,5 +759,8 @@ pub fn operate<R: Runtime<A = Global, File = File>>(
     let Ok(talk) = talk_of(alloc, audience, asked, day) else {
         return Ok(refuse(rt, Refusal::Memory));
     };
-    Ok(begin(rt, audience, words.code, &names, &talk, window, screens))
+    let held = take_folder(rt);
+    Ok(begin(
+        rt, audience, words.code, &names, &talk, window, screens, &held,
+    ))
 }

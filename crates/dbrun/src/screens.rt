@@ -15,8 +15,8 @@ use run_commands::{
     Job, OperateRefusal, OperationReport, Rehearsal, Report, operate_files, rehearse_talk,
 };
 use save_rules::{is_in_folder, overwritten_by};
-use std::alloc::Global;
-use std::fs::{File, OpenOptions};
+use std::alloc::{AllocError, Global};
+use std::fs::File;
 use std::rt::Runtime;
 
 /// Whether a new file of this name harms nothing: it is one of the folder's, and none that the program makes or reads.
@@ -31,21 +31,14 @@ pub fn is_new_name<R: Runtime<A = Global>>(rt: &R, name: &str, code: &str) -> bo
     is_free_name(name, code) && !stands(rt, name)
 }
 
-/// The file for screens, where one is named. No file of its name stands.
-pub fn screens_to<R: Runtime<A = Global, File = File>>(
-    rt: &R,
-    name: Option<&str>,
-) -> Result<Screens, Status> {
-    let Some(name) = name else {
-        return Ok(Screens::to(None));
-    };
-    let mut options = OpenOptions::new();
-    options.write(true);
-    options.create_new(true);
-    match options.open(rt, name) {
-        Ok(file) => Ok(Screens::to(Some(file))),
-        Err(_) => Err(refuse(rt, Refusal::Disk { name })),
-    }
+/// Who types a run's lines and writes the screens before them to a new file of this name.
+fn typist_of<'a, R: Runtime<A = Global>>(
+    rt: &'a R,
+    text: &'a [u8],
+    name: &str,
+) -> Result<Typist<'a, R>, AllocError> {
+    let name = String::from_str(rt.alloc(), name)?;
+    Ok(Typist::of(rt, text, Screens::to(Some(name))))
 }
 
 /// The run of a job whose lines are still to be typed.
@@ -105,7 +98,9 @@ pub fn run_shown<R: Runtime<A = Global, File = File>, F: Files>(
     let Some(name) = screens else {
         return Ok(run_told(rt, audience, files, job));
     };
-    let mut typist = Typist::of(alloc, job.input, screens_to(rt, screens)?);
+    let Ok(mut typist) = typist_of(rt, job.input, name) else {
+        return Err(refuse(rt, Refusal::Memory));
+    };
     let mut taken = TakenLines {
         bytes: Vec::new(alloc),
     };
@@ -129,7 +124,9 @@ pub fn rehearse_shown<R: Runtime<A = Global, File = File>, F: Files>(
             Err(refusal) => Err(tell_refusal(rt, job.name, &refusal)),
         };
     };
-    let mut typist = Typist::of(alloc, job.input, screens_to(rt, screens)?);
+    let Ok(mut typist) = typist_of(rt, job.input, name) else {
+        return Err(refuse(rt, Refusal::Memory));
+    };
     let mut taken = TakenLines {
         bytes: Vec::new(alloc),
     };

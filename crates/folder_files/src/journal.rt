@@ -38,14 +38,31 @@ pub struct JournalFile {
     length: u64,
 }
 
+/// What stands behind the last LF of a journal: a line that was never ended.
+#[derive(Drop)]
+pub struct Tail {
+    file: File,
+    /// How many bytes of the journal stand before it.
+    length: u64,
+    pub bytes: Vec<u8>,
+}
+
+impl Tail {
+    /// Cuts it off, down to the device.
+    pub fn cut_off(&self) -> io::Result<()> {
+        self.file.set_len(self.length)?;
+        self.file.sync_all()
+    }
+}
+
 /// A journal that was taken up again.
 #[derive(Drop)]
 pub struct TakenUp {
     pub journal: JournalFile,
     /// All lines that it holds, each with LF.
     pub lines: Vec<u8>,
-    /// What stood behind its last LF, and was cut off.
-    pub tail: Vec<u8>,
+    /// What stands behind them, if anything does. It is to be cut off before a line is added.
+    pub tail: Option<Tail>,
 }
 
 /// Holds a file for this program alone.
@@ -92,6 +109,18 @@ fn parted(alloc: Global, bytes: &[u8]) -> Result<(Vec<u8>, Vec<u8>), AllocError>
     ))
 }
 
+/// What stands behind the lines of a journal, if anything does.
+fn tail_of(file: &File, length: u64, bytes: Vec<u8>) -> io::Result<Option<Tail>> {
+    if bytes.is_empty() {
+        return Ok(None);
+    }
+    Ok(Some(Tail {
+        file: file.try_clone()?,
+        length,
+        bytes,
+    }))
+}
+
 /// An empty journal that was left, if nobody has it.
 fn left_empty<R: Disk<File = File>>(rt: &R, name: &str) -> Result<File, JournalFault> {
     let file = opened(rt, name, false)?;
@@ -120,7 +149,7 @@ impl JournalFile {
         Ok(JournalFile { file, length: 0 })
     }
 
-    /// Takes a journal up again, cut behind its last LF.
+    /// Takes a journal up again. Nothing of it changes.
     pub fn take_up<R: Disk<File = File> + Alloc<A = Global>>(
         rt: &R,
         name: &str,
@@ -136,12 +165,11 @@ impl JournalFile {
             return Err(JournalFault::Memory);
         };
         let length = lines.len() as u64;
-        let journal = JournalFile { file, length };
-        if !tail.is_empty() && journal.cut().is_err() {
+        let Ok(tail) = tail_of(&file, length, tail) else {
             return Err(JournalFault::Disk);
-        }
+        };
         Ok(TakenUp {
-            journal,
+            journal: JournalFile { file, length },
             lines,
             tail,
         })

@@ -17,7 +17,7 @@ pub use backup::is_empty_folder;
 pub use disk::put_new_file;
 pub use finishing::{FinishedSave, UnfinishedSave, finish, forget, paper_name};
 pub use folder::{Doing, Folder, Listener, Nobody};
-pub use journal::{JournalFault, JournalFile, TakenUp, stands};
+pub use journal::{JournalFault, JournalFile, Tail, TakenUp, stands};
 pub use journal_papers::FileSum;
 pub use lock::{Held, Hold, take_folder};
 pub use papers::note_stands;

@@ -162,6 +162,18 @@ impl<'a, R: Disk + Alloc<A = Global>, L: Listener> SavingFolder<'a, R, L> {
         Ok(())
     }
 
+    /// Tells the sum of a file that was read, or that there is no such file.
+    fn tell_found(&self, name: &str, read: &Result<Vec<u8>, ReadFault>) {
+        match read {
+            Ok(bytes) => {
+                let sum = sum_of(bytes.as_slice());
+                self.folder.listener.found(name, Some(sum));
+            }
+            Err(ReadFault::Absent) => self.folder.listener.found(name, None),
+            Err(ReadFault::Device | ReadFault::TooLong | ReadFault::Memory) => {}
+        }
+    }
+
     /// Notes why a file isn't read, and fails.
     fn hinder(&mut self, hindrance: Hindrance) -> ReadFault
         ensures fault { result ≡ ReadFault.Device }
@@ -463,10 +475,9 @@ impl<R: Disk + Alloc<A = Global>, L: Listener> Files for SavingFolder<'_, R, L> 
 
     fn read(&mut self, alloc: Global, name: &str, limit: usize) -> Result<Vec<u8>, ReadFault> {
         if !is_saved(name) {
-            let bytes = self.folder.read(alloc, name, limit)?;
-            let sum = sum_of(bytes.as_slice());
-            self.folder.listener.found(name, Some(sum));
-            return Ok(bytes);
+            let read = self.folder.read(alloc, name, limit);
+            self.tell_found(name, &read);
+            return read;
         }
         let target = match self.looked_at(name) {
             Ok(target) => target,

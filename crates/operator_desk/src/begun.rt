@@ -35,6 +35,16 @@ pub struct Talk {
     pub page: Option<CodePage>,
 }
 
+impl Talk {
+    /// Whether its tables are saved where the file system knows no locks.
+    pub fn no_lock(&self) -> bool {
+        match &self.save {
+            Some(save) => save.no_lock,
+            None => false,
+        }
+    }
+}
+
 /// A yes or a no.
 fn yes_no(is: bool) -> &'static str {
     if is { "yes" } else { "no" }

@@ -3,6 +3,7 @@
 
 use crate::begun::Talk;
 use crate::gets::{Gets, WaitingPlace, bad_answer};
+use crate::held_lines::HeldLines;
 use crate::record::Record;
 use crate::screens::Screens;
 use crate::typing::{Typed, next_line};
@@ -14,11 +15,14 @@ use std::alloc::{AllocError, Global};
 use std::fs::File;
 use std::rt::Runtime;
 use std::str;
-use terminal_screen::{Drawing, Window, drawn, lay_over, plain_lines, sent_lines};
+use terminal_screen::{Drawing, Window, drawn, plain_lines, sent_lines};
 
 /// What a person at a terminal is told who ends the input.
 const AT_END: &str =
     "Ctrl-C leaves everything as it is, for --continue; END typed here means that no more lines come";
+
+/// What a person is told whose line was cut off.
+const CUT: &str = "a line that Enter didn't end was cut off; type it again";
 
 /// Where the streams of a conversation lead, and how it is shown there.
 #[derive(Clone, Copy)]
@@ -41,13 +45,15 @@ pub struct OperatorDesk<'a, R: Runtime<A = Global, File = File>> {
     pub record: Record<'a, R>,
     pub screens: Screens,
     pub gets: Gets,
+    /// The lines that the journal held at the beginning and that the run hasn't come to yet.
+    pub held: HeldLines<'a>,
     /// What is read of the input.
     pub reader: R::Reader,
     /// How many of the bytes that were sent out are shown.
     pub shown: usize,
     /// The rows as they were shown last.
     pub before: Vec<[u8; 80]>,
-    /// The answers that lie over the drawing, and the line below it.
+    /// The line below the drawing.
     pub note: &'static str,
     /// Whether a person ended the input at this question.
     pub ended: bool,
@@ -81,9 +87,7 @@ impl<R: Runtime<A = Global, File = File>> OperatorDesk<'_, R> {
     /// The rows with the answers that were taken laid over them.
     fn rows_now(&self, alloc: Global, seen: &Scene<'_>) -> Result<Vec<[u8; 80]>, AllocError> {
         let mut rows = Vec::from_slice(alloc, seen.screen.rows())?;
-        for answer in self.gets.answers.as_slice() {
-            lay_over(&mut rows, answer.field, answer.text.as_slice());
-        }
+        self.gets.lay_answers(seen, &mut rows);
         Ok(rows)
     }
 
@@ -248,18 +252,89 @@ impl<R: Runtime<A = Global, File = File>> OperatorDesk<'_, R> {
         answer: &Answer,
         seen: &Scene<'_>,
     ) -> Result<(), OperatorFailed> {
-        self.note = "";
         self.ended = false;
         let line = match answer {
             Answer::Line(line) => line.as_slice(),
             Answer::End => &[],
         };
-        if let Some(why) = bad_answer(self.gets.kind, line) {
-            self.note = why;
-        } else if self.gets.take(alloc, line, seen).is_err() {
+        self.note = bad_answer(self.gets.kind, line).unwrap_or("");
+        self.take(alloc, line, seen)
+    }
+
+    /// Lays a line that is taken now over its field, and writes the screen before it.
+    fn take(&mut self, alloc: Global, line: &[u8], seen: &Scene<'_>) -> Result<(), OperatorFailed> {
+        if self.gets.take(alloc, line, seen).is_err() {
             return Err(OperatorFailed);
         }
-        self.screens.write(alloc, seen, Some(line))
+        self.write_screen(alloc, seen.screen.rows(), Some(line))
+    }
+
+    /// Writes a screen to the file for screens, where there is one.
+    fn write_screen(
+        &mut self,
+        alloc: Global,
+        rows: &[[u8; 80]],
+        line: Option<&[u8]>,
+    ) -> Result<(), OperatorFailed> {
+        if self.screens.write(alloc, rows, line).is_err() {
+            return Err(self.unwritten_screens());
+        }
+        Ok(())
+    }
+
+    /// Remembers that the file for screens can't be written.
+    fn unwritten_screens(&mut self) -> OperatorFailed {
+        if let Some(name) = self.screens.name() {
+            self.record.unwritten = String::from_str(self.rt.alloc(), name).ok();
+        }
+        OperatorFailed
+    }
+
+    /// Makes the file for screens, where there is to be one.
+    fn make_screens(&mut self) -> Result<(), OperatorFailed> {
+        if self.screens.make(self.rt).is_err() {
+            return Err(self.unwritten_screens());
+        }
+        Ok(())
+    }
+
+    /// Cuts off what stands behind the journal's lines, and shows it.
+    fn cut_tail(&mut self, alloc: Global) -> Result<(), OperatorFailed> {
+        let Some(tail) = self.record.cut_tail()? else {
+            return Ok(());
+        };
+        self.note = CUT;
+        match sent_lines(alloc, tail.bytes.as_slice(), None) {
+            Ok(text) => match eprint!(self.rt; "cut off, since Enter was missing: {text}") {
+                Ok(()) => Ok(()),
+                Err(_) => Err(OperatorFailed),
+            },
+            Err(_) => Err(OperatorFailed),
+        }
+    }
+
+    /// What becomes of the next line that the journal held, where the run has come to the place that takes it.
+    fn pass_held(&mut self, seen: &Scene<'_>) -> Result<(), OperatorFailed> {
+        let alloc = self.rt.alloc();
+        let Some(line) = self.held.next() else {
+            return Ok(());
+        };
+        if self.gets.wait(alloc, seen).is_err() {
+            return Err(OperatorFailed);
+        }
+        self.take(alloc, line, seen)
+    }
+
+    /// What becomes of the first line that the journal held, where the code takes one before any step: no place is
+    /// looked at before it.
+    fn pass_first(&mut self, alloc: Global) -> Result<(), OperatorFailed> {
+        if !self.gets.takes_line(0) {
+            return Ok(());
+        }
+        match self.held.next() {
+            Some(line) => self.write_screen(alloc, &[[b' '; 80]; 25], Some(line)),
+            None => Ok(()),
+        }
     }
 }
 
@@ -267,14 +342,20 @@ impl<R: Runtime<A = Global, File = File>> Operator for OperatorDesk<'_, R> {
     fn begin(&mut self, code: &Code) -> Result<Vec<bool>, OperatorFailed> {
         let alloc = self.rt.alloc();
         self.record.begin(alloc, self.talk)?;
-        match self.gets.begin(alloc, code) {
-            Ok(marks) => Ok(marks),
-            Err(_) => Err(OperatorFailed),
-        }
+        self.cut_tail(alloc)?;
+        self.make_screens()?;
+        let Ok(marks) = self.gets.begin(alloc, code) else {
+            return Err(OperatorFailed);
+        };
+        self.pass_first(alloc)?;
+        Ok(marks)
     }
 
     fn see(&mut self, seen: &Scene<'_>) -> Result<(), OperatorFailed> {
         self.gets.look(seen);
+        if self.gets.takes_line(seen.place) {
+            return self.pass_held(seen);
+        }
         Ok(())
     }
 
@@ -294,6 +375,6 @@ impl<R: Runtime<A = Global, File = File>> Operator for OperatorDesk<'_, R> {
     }
 
     fn end(&mut self, seen: &Scene<'_>) -> Result<(), OperatorFailed> {
-        self.screens.write(self.rt.alloc(), seen, None)
+        self.write_screen(self.rt.alloc(), seen.screen.rows(), None)
     }
 }

@@ -8,7 +8,7 @@ use fixed_num::Num;
 use operating::Scene;
 use screen_lines::Cursor;
 use std::alloc::{AllocError, Global};
-use terminal_screen::ShownField;
+use terminal_screen::{ShownField, lay_over};
 use waiting_fields::{Show, reads_of};
 use xvalue::{Kind, Value};
 
@@ -33,6 +33,17 @@ struct Shown {
     field: Option<ShownField>,
 }
 
+/// What an instruction takes a line for.
+#[derive(Clone, Copy, PartialEq, Eq)]
+enum Taker {
+    /// It takes none.
+    Nothing,
+    /// For the line itself.
+    Line,
+    /// For a value of this kind.
+    Value(Kind),
+}
+
 /// A READ.
 #[derive(Drop)]
 struct Asking {
@@ -42,24 +53,25 @@ struct Asking {
 
 /// An answer that lies over the drawing.
 #[derive(Drop)]
-pub struct Laid {
-    pub field: ShownField,
-    pub text: Vec<u8>,
+struct Laid {
+    /// Its field, counted from the first row that was ever sent out.
+    field: ShownField,
+    text: Vec<u8>,
     /// What the row below it held.
-    pub under: [u8; 80],
+    under: [u8; 80],
 }
 
 /// What is known of the fields of a code.
 #[derive(Drop)]
 pub struct Gets {
     reads: Vec<Asking>,
-    /// The kinds of the values that lines are taken for, place by place; none where no line is.
-    kinds: Vec<Option<Kind>>,
+    /// What takes a line, place by place.
+    takers: Vec<Taker>,
     /// The column one behind the cursor, before a value was shown there.
     behind: usize,
     /// The fields of the READ that waits, and their answers.
     pub fields: Vec<ShownField>,
-    pub answers: Vec<Laid>,
+    answers: Vec<Laid>,
     pub waiting: WaitingPlace,
     /// The number of the field that waits, from 1.
     pub number: usize,
@@ -111,21 +123,49 @@ fn column_of(code: &Code, number: Option<u16>) -> Option<usize> {
 /// The field that ends at the cursor, if one does, counted from the first row ever sent out.
 fn field_to(seen: &Scene<'_>, first: usize) -> Option<ShownField> {
     match seen.screen.cursor() {
-        Cursor::At { row, column } if first < column => Some(ShownField {
-            row: rows_sent(seen).saturating_add(row),
-            column: first,
-            length: column - first,
-        }),
+        Cursor::At { row, column } if first < column => {
+            let length = column - first;
+            let field = ShownField {
+                row,
+                column: first,
+                length,
+            };
+            Some(among_all(field, rows_sent(seen)))
+        }
         _ => None,
     }
 }
 
-/// The kind of the value for which a line is taken at a place.
-fn kind_at(instr: &Instr) -> Option<Kind> {
+/// What an instruction takes a line for.
+fn taker(instr: &Instr) -> Taker {
     match instr {
-        Instr::Screen(ScreenInstr::Input(kind)) => Some(*kind),
-        _ => None,
+        Instr::Screen(ScreenInstr::Input(kind)) => Taker::Value(*kind),
+        Instr::Screen(ScreenInstr::Line) => Taker::Line,
+        _ => Taker::Nothing,
     }
+}
+
+/// A field of the screen, counted from the first row that was ever sent out.
+fn among_all(field: ShownField, sent: usize) -> ShownField {
+    ShownField {
+        row: sent.saturating_add(field.row),
+        column: field.column,
+        length: field.length,
+    }
+}
+
+/// A field that is counted so, on the screen; none where its row was sent out.
+fn on_screen(field: ShownField, sent: usize) -> Option<ShownField> {
+    Some(ShownField {
+        row: field.row.checked_sub(sent)?,
+        column: field.column,
+        length: field.length,
+    })
+}
+
+/// The row of the screen on which a field lies that is counted from the first row that was ever sent out.
+fn row_under<'a>(seen: &Scene<'a>, field: ShownField, sent: usize) -> Option<&'a [u8; 80]> {
+    seen.screen.rows().get(on_screen(field, sent)?.row)
 }
 
 impl Gets {
@@ -133,7 +173,7 @@ impl Gets {
     pub fn new(alloc: Global) -> Gets {
         Gets {
             reads: Vec::new(alloc),
-            kinds: Vec::new(alloc),
+            takers: Vec::new(alloc),
             behind: 0,
             fields: Vec::new(alloc),
             answers: Vec::new(alloc),
@@ -146,7 +186,7 @@ impl Gets {
     /// Learns the READs of a code. Answers the places at which the run is to be looked at.
     pub fn begin(&mut self, alloc: Global, code: &Code) -> Result<Vec<bool>, AllocError> {
         for instr in code.instructions.as_slice() {
-            self.kinds.push(kind_at(instr))?;
+            self.takers.push(taker(instr))?;
         }
         for read in &reads_of(alloc, code)? {
             let mut shows = Vec::new(alloc);
@@ -163,14 +203,23 @@ impl Gets {
         self.marks(alloc, code.instructions.as_slice().len())
     }
 
+    /// Whether a line is taken at a place.
+    pub fn takes_line(&self, place: usize) -> bool {
+        match self.takers.get(place) {
+            Some(taker) => *taker != Taker::Nothing,
+            None => false,
+        }
+    }
+
     /// Whether the run is to be looked at before a place.
     fn is_mark(&self, place: usize) -> bool {
-        self.reads.iter().any(|read| {
-            read.shows.iter().any(|shown| {
-                let at = shown.show.place;
-                at.saturating_add(1) == place || (shown.show.on && at == place)
+        self.takes_line(place)
+            || self.reads.iter().any(|read| {
+                read.shows.iter().any(|shown| {
+                    let at = shown.show.place;
+                    at.saturating_add(1) == place || (shown.show.on && at == place)
+                })
             })
-        })
     }
 
     fn marks(&self, alloc: Global, count: usize) -> Result<Vec<bool>, AllocError> {
@@ -227,12 +276,8 @@ impl Gets {
         };
         for shown in &read.shows {
             if let Some(field) = shown.field {
-                if field.row >= sent {
-                    fields.push(ShownField {
-                        row: field.row - sent,
-                        column: field.column,
-                        length: field.length,
-                    })?;
+                if let Some(field) = on_screen(field, sent) {
+                    fields.push(field)?;
                 }
             }
         }
@@ -241,7 +286,10 @@ impl Gets {
 
     /// Learns which line is wanted, and where it is typed.
     pub fn wait(&mut self, alloc: Global, seen: &Scene<'_>) -> Result<(), AllocError> {
-        self.kind = self.kinds.get(seen.place).copied().unwrap_or(None);
+        self.kind = match self.takers.get(seen.place) {
+            Some(Taker::Value(kind)) => Some(*kind),
+            _ => None,
+        };
         let Some((read, line)) = self.asking(seen.place) else {
             self.waiting = WaitingPlace::Behind;
             self.fields = Vec::new(alloc);
@@ -262,23 +310,32 @@ impl Gets {
 
     /// Takes away the answers where the program wrote since.
     fn keep_those_under(&mut self, alloc: Global, seen: &Scene<'_>) -> Result<(), AllocError> {
+        let sent = rows_sent(seen);
         let mut kept = Vec::new(alloc);
         for answer in &self.answers {
-            if let Some(row) = seen.screen.rows().get(answer.field.row) {
-                if *row == answer.under {
-                    kept.push(Laid {
-                        field: answer.field,
-                        text: answer.text.clone()?,
-                        under: answer.under,
-                    })?;
-                }
+            if row_under(seen, answer.field, sent) == Some(&answer.under) {
+                kept.push(Laid {
+                    field: answer.field,
+                    text: answer.text.clone()?,
+                    under: answer.under,
+                })?;
             }
         }
         self.answers = kept;
         Ok(())
     }
 
-    /// Lays an answer over its field. An empty one keeps the old value.
+    /// Lays the answers over the rows of the screen.
+    pub fn lay_answers(&self, seen: &Scene<'_>, rows: &mut [[u8; 80]]) {
+        let sent = rows_sent(seen);
+        for answer in &self.answers {
+            if let Some(field) = on_screen(answer.field, sent) {
+                lay_over(rows, field, answer.text.as_slice());
+            }
+        }
+    }
+
+    /// Lays an answer over its field. An empty one, or one that isn't taken, keeps the old value.
     pub fn take(&mut self, alloc: Global, line: &[u8], seen: &Scene<'_>) -> Result<(), AllocError> {
         let WaitingPlace::Field(field) = self.waiting else {
             return Ok(());
@@ -286,11 +343,11 @@ impl Gets {
         let Some(row) = seen.screen.rows().get(field.row) else {
             return Ok(());
         };
-        if line.is_empty() {
+        if line.is_empty() || bad_answer(self.kind, line).is_some() {
             return Ok(());
         }
         self.answers.push(Laid {
-            field,
+            field: among_all(field, rows_sent(seen)),
             text: Vec::from_slice(alloc, line)?,
             under: *row,
         })?;

@@ -2,7 +2,7 @@
 #![tactic(auto)]
 
 use crate::begun::{Talk, put_talk};
-use folder_files::{FileSum, JournalFile, put_new_file};
+use folder_files::{FileSum, JournalFile, Tail, put_new_file};
 use journal_papers::{JournalPaper, PaperFault, first_changed};
 use line_journal::{Journal, JournalFailed};
 use operating::OperatorFailed;
@@ -16,8 +16,6 @@ use std::rt::Runtime;
 pub struct KeptJournal {
     pub file: JournalFile,
     pub bytes: Vec<u8>,
-    /// Whether half a line was cut off behind these bytes when it was taken up.
-    pub cut: bool,
 }
 
 impl Journal for KeptJournal {
@@ -40,6 +38,10 @@ pub struct Record<'a, R: Runtime<A = Global, File = File>> {
     pub rt: &'a R,
     /// The sums of the files of its run as they were read, first that of its code.
     pub sums: &'a RefCell<Vec<FileSum>>,
+    /// The name of the journal.
+    pub journal: String,
+    /// What stands behind the journal's lines.
+    pub tail: Option<Tail>,
     /// The name of the text of its beginning.
     pub begun: String,
     /// What that text says, where the conversation goes on.
@@ -82,15 +84,24 @@ impl<R: Runtime<A = Global, File = File>> Record<'_, R> {
         }
     }
 
+    /// Cuts off what stands behind the journal's lines. Answers it.
+    pub fn cut_tail(&mut self) -> Result<Option<Tail>, OperatorFailed> {
+        let Some(tail) = self.tail.take() else {
+            return Ok(None);
+        };
+        if tail.cut_off().is_err() {
+            self.unwritten = self.journal.clone().ok();
+            return Err(OperatorFailed);
+        }
+        Ok(Some(tail))
+    }
+
     fn write(
         &mut self,
         alloc: Global,
         talk: &Talk,
         sums: &[FileSum],
     ) -> Result<(), OperatorFailed> {
-        if self.begun.is_empty() {
-            return Ok(());
-        }
         let Ok(text) = begun_text(alloc, talk, sums) else {
             return Err(OperatorFailed);
         };

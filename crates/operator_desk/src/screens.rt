@@ -1,14 +1,16 @@
 //! What the screen showed before each line, kept in a file.
 #![tactic(auto)]
 
-use operating::{OperatorFailed, Scene};
+use operating::OperatorFailed;
 use std::alloc::{AllocError, Global};
-use std::fs::File;
+use std::fs::{File, OpenOptions};
 use std::io::Write;
+use std::rt::Files as Disk;
 
 /// The file for screens, where one is wanted.
 #[derive(Drop)]
 pub struct Screens {
+    name: Option<String>,
     file: Option<File>,
 }
 
@@ -23,11 +25,11 @@ fn put_row(out: &mut Vec<u8>, row: &[u8; 80]) -> Result<(), AllocError> {
 /// The rows of a screen, and the line that was taken behind them.
 fn screen_text(
     alloc: Global,
-    seen: &Scene<'_>,
+    rows: &[[u8; 80]],
     line: Option<&[u8]>,
 ) -> Result<Vec<u8>, AllocError> {
     let mut out = Vec::new(alloc);
-    for row in seen.screen.rows() {
+    for row in rows {
         put_row(&mut out, row)?;
     }
     if let Some(line) = line {
@@ -39,9 +41,37 @@ fn screen_text(
 }
 
 impl Screens {
-    /// Those that are written to this file, or to none.
-    pub fn to(file: Option<File>) -> Screens {
-        Screens { file }
+    /// Those that are written to a file of this name, or to none.
+    pub fn to(name: Option<String>) -> Screens {
+        Screens { name, file: None }
+    }
+
+    /// The name of their file.
+    pub fn name(&self) -> Option<&str> {
+        match &self.name {
+            Some(name) => Some(name.as_str()),
+            None => None,
+        }
+    }
+
+    /// Makes their file. None of its name stands.
+    ///
+    /// # Errors
+    /// The file can't be made.
+    pub fn make<R: Disk<File = File>>(&mut self, rt: &R) -> Result<(), OperatorFailed> {
+        let Some(name) = &self.name else {
+            return Ok(());
+        };
+        let mut options = OpenOptions::new();
+        options.write(true);
+        options.create_new(true);
+        match options.open(rt, name.as_str()) {
+            Ok(file) => {
+                self.file = Some(file);
+                Ok(())
+            }
+            Err(_) => Err(OperatorFailed),
+        }
     }
 
     /// Writes the 25 rows as they stand, without the blanks at their ends, and behind them the line that is taken now,
@@ -52,13 +82,13 @@ impl Screens {
     pub fn write(
         &mut self,
         alloc: Global,
-        seen: &Scene<'_>,
+        rows: &[[u8; 80]],
         line: Option<&[u8]>,
     ) -> Result<(), OperatorFailed> {
         let Some(file) = &mut self.file else {
             return Ok(());
         };
-        let Ok(text) = screen_text(alloc, seen, line) else {
+        let Ok(text) = screen_text(alloc, rows, line) else {
             return Err(OperatorFailed);
         };
         match file.write_all(text.as_slice()) {

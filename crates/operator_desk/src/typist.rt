@@ -1,11 +1,14 @@
 //! Who types lines that are all there, so that the screens before them can be kept.
 #![tactic(auto)]
 
+use crate::held_lines::HeldLines;
 use crate::screens::Screens;
 use code_items::Code;
 use line_journal::{Journal, JournalFailed};
 use operating::{Answer, Operator, OperatorFailed, Scene};
 use std::alloc::Global;
+use std::fs::File;
+use std::rt::Runtime;
 
 /// The lines that a run took, in memory alone.
 #[derive(Drop)]
@@ -26,38 +29,27 @@ impl Journal for TakenLines {
 
 /// Types the lines of a text, one after another, and then ends the input.
 #[derive(Drop)]
-pub struct Typist<'a> {
-    alloc: Global,
-    left: &'a [u8],
+pub struct Typist<'a, R> {
+    rt: &'a R,
+    left: HeldLines<'a>,
     screens: Screens,
 }
 
-impl<'a> Typist<'a> {
+impl<'a, R> Typist<'a, R> {
     /// One that types the lines of this text. The last one needs no line end.
-    pub fn of(alloc: Global, text: &'a [u8], screens: Screens) -> Typist<'a> {
+    pub fn of(rt: &'a R, text: &'a [u8], screens: Screens) -> Typist<'a, R> {
         Typist {
-            alloc,
-            left: text,
+            rt,
+            left: HeldLines::of(text),
             screens,
         }
     }
-
-    /// The next line, without its end; none where the text has ended.
-    fn next(&mut self) -> Option<&'a [u8]> {
-        let left = self.left;
-        if left.is_empty() {
-            return None;
-        }
-        let length = left.iter().take_while(|byte| **byte != b'\n').count();
-        let (line, rest) = left.split_at(length);
-        self.left = &rest[1.min(rest.len())..];
-        Some(line)
-    }
 }
 
-impl Operator for Typist<'_> {
+impl<R: Runtime<A = Global, File = File>> Operator for Typist<'_, R> {
     fn begin(&mut self, _: &Code) -> Result<Vec<bool>, OperatorFailed> {
-        Ok(Vec::new(self.alloc))
+        self.screens.make(self.rt)?;
+        Ok(Vec::new(self.rt.alloc()))
     }
 
     fn see(&mut self, _: &Scene<'_>) -> Result<(), OperatorFailed> {
@@ -65,11 +57,12 @@ impl Operator for Typist<'_> {
     }
 
     fn ask(&mut self, seen: &Scene<'_>, _: usize) -> Result<Answer, OperatorFailed> {
-        let line = self.next();
+        let alloc = self.rt.alloc();
+        let line = self.left.next();
         self.screens
-            .write(self.alloc, seen, Some(line.unwrap_or(&[])))?;
+            .write(alloc, seen.screen.rows(), Some(line.unwrap_or(&[])))?;
         match line {
-            Some(line) => match Vec::from_slice(self.alloc, line) {
+            Some(line) => match Vec::from_slice(alloc, line) {
                 Ok(line) => Ok(Answer::Line(line)),
                 Err(_) => Err(OperatorFailed),
             },
@@ -78,6 +71,7 @@ impl Operator for Typist<'_> {
     }
 
     fn end(&mut self, seen: &Scene<'_>) -> Result<(), OperatorFailed> {
-        self.screens.write(self.alloc, seen, None)
+        self.screens
+            .write(self.rt.alloc(), seen.screen.rows(), None)
     }
 }
