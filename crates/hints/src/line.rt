@@ -5,9 +5,10 @@ ghost use Rattle.std.specs.Char.{to_ascii_uppercase};
 ghost use Rattle.prg_expr.specs.Word.{word_of, words as words_of};
 ghost use Rattle.hints.specs.LeftOut as spec;
 
-use crate::kinds::of_kind;
+use crate::kinds::{of_command, of_kind};
 use crate::left_out::{LeftOut, by_first, by_two, of_answer, of_clause, of_function};
-use prg_expr::{Operator, ParseFaultKind, Token, words};
+use prg_code::CompileFaultKind;
+use prg_expr::{Operator, ParseFaultKind, Token, is_word, words};
 use std::alloc::Global;
 
 /// The first clause or alias among these words that is left out.
@@ -132,6 +133,9 @@ fn asked(alloc: Global, kind: ParseFaultKind, line: &[u8]) -> Option<LeftOut> {
         ParseFaultKind::Word => in_command(read.words.as_slice()),
         ParseFaultKind::Expression => in_expression(read.words.as_slice()),
         ParseFaultKind::Character if line.contains(&b'^') => Some(LeftOut::Powers),
+        ParseFaultKind::Character if line.trim_ascii_start().starts_with(b"!") => Some(
+            LeftOut::Others,
+        ),
         _ => None,
     }
 }
@@ -142,5 +146,24 @@ pub fn of_line(alloc: Global, kind: ParseFaultKind, line: &[u8]) -> &'static str
     match asked(alloc, kind, line) {
         Some(found) => found.instead(),
         None => of_kind(kind),
+    }
+}
+
+/// Whether a line begins with SELECT.
+fn is_selection(alloc: Global, line: &[u8]) -> bool {
+    let Ok(read) = words(alloc, line) else {
+        return false;
+    };
+    match read.words.as_slice() {
+        [Token::Name(first), ..] => is_word(*first, b"SELECT"),
+        _ => false,
+    }
+}
+
+/// What to do about a line of a command file whose command can't be compiled, in one sentence without its point.
+pub fn of_compiled_line(alloc: Global, kind: CompileFaultKind, line: &[u8]) -> &'static str {
+    match kind {
+        CompileFaultKind::Name if is_selection(alloc, line) => LeftOut::SelectZero.instead(),
+        _ => of_command(kind),
     }
 }
