@@ -119,12 +119,16 @@ abbrev pub or_next : Option Thing → Option Thing → Option Thing
 or_next None other = other
 or_next (Some found) other = Some found
 
--- what is left out where a line begins with a word
-unfoldable pub by_first : List ℕ → Option Thing
-by_first s =
+-- what is left out where a line begins with a word, in every form
+unfoldable pub by_word : List ℕ → Option Thing
+by_word s =
     or_next (first_named searches s) (or_next (first_named tables s) (or_next (first_named copies s)
     (or_next (first_named forms s) (or_next (first_named programs s) (or_next (first_named variables s)
-    (or_next (first_named prompts s) (first_named other_forms s)))))))
+    (first_named prompts s))))))
+
+-- what is left out where a line begins with a word
+unfoldable pub by_first : List ℕ → Option Thing
+by_first s = or_next (by_word s) (first_named other_forms s)
 
 -- what a function is left out with, whatever its arguments
 unfoldable pub by_function : List ℕ → Option Thing
@@ -175,6 +179,11 @@ unfoldable pub by_next : List ℕ → List Word → Option Thing
 by_next first [] = None
 by_next first (word.Name second ∷ ws) = by_two first second
 by_next first (w ∷ ws) = None
+
+-- what a command is left out with by its first words alone
+unfoldable pub by_beginning : List Word → Option Thing
+by_beginning (word.Name first ∷ ws) = or_next (by_next first ws) (by_word first)
+by_beginning ws = None
 
 -- what a command that begins with this word asks for
 unfoldable pub from_first : Word → List Word → Option Thing

@@ -312,10 +312,10 @@ fn of_other_forms(word: &[u8]) -> Option<LeftOut>
     None
 }
 
-/// What is left out where a line begins with this word.
-#[tactic(auto, unfolding(crate::specs::LeftOut::by_first))]
-pub(crate) fn by_first(word: &[u8]) -> Option<LeftOut>
-    ensures { result ≡ spec.by_first (map to_ascii_uppercase word.now) }
+/// What is left out where a line begins with this word, in every form.
+#[tactic(auto, unfolding(crate::specs::LeftOut::by_word))]
+pub(crate) fn by_word(word: &[u8]) -> Option<LeftOut>
+    ensures { result ≡ spec.by_word (map to_ascii_uppercase word.now) }
 {
     if let Some(found) = of_searches(word) {
         return Some(found);
@@ -335,7 +335,15 @@ pub(crate) fn by_first(word: &[u8]) -> Option<LeftOut>
     if let Some(found) = of_variables(word) {
         return Some(found);
     }
-    if let Some(found) = of_prompts(word) {
+    of_prompts(word)
+}
+
+/// What is left out where a line begins with this word.
+#[tactic(auto, unfolding(crate::specs::LeftOut::by_first))]
+pub(crate) fn by_first(word: &[u8]) -> Option<LeftOut>
+    ensures { result ≡ spec.by_first (map to_ascii_uppercase word.now) }
+{
+    if let Some(found) = by_word(word) {
         return Some(found);
     }
     of_other_forms(word)

@@ -6,7 +6,7 @@ ghost use Rattle.prg_expr.specs.Word.{word_of, words as words_of};
 ghost use Rattle.hints.specs.LeftOut as spec;
 
 use crate::kinds::{of_command, of_kind};
-use crate::left_out::{LeftOut, by_first, by_two, of_answer, of_clause, of_function};
+use crate::left_out::{LeftOut, by_first, by_two, by_word, of_answer, of_clause, of_function};
 use prg_code::CompileFaultKind;
 use prg_expr::{Operator, ParseFaultKind, Token, is_word, words};
 use std::alloc::Global;
@@ -41,6 +41,20 @@ fn by_next(first: &[u8], rest: &[Token<'_>]) -> Option<LeftOut>
         Token::Name(second) => by_two(first, *second),
         _ => None,
     }
+}
+
+/// What a command is left out with by its first words alone.
+#[tactic(auto, unfolding(crate::specs::LeftOut::by_beginning))]
+fn by_beginning(words: &[Token<'_>]) -> Option<LeftOut>
+    ensures { result ≡ spec.by_beginning (words_of words.now) }
+{
+    let [Token::Name(first), rest @ ..] = words else {
+        return None;
+    };
+    if let Some(found) = by_next(*first, rest) {
+        return Some(found);
+    }
+    by_word(*first)
 }
 
 /// What a command asks for that begins with this word.
@@ -136,6 +150,7 @@ fn asked(alloc: Global, kind: ParseFaultKind, line: &[u8]) -> Option<LeftOut> {
         ParseFaultKind::Character if line.trim_ascii_start().starts_with(b"!") => Some(
             LeftOut::Others,
         ),
+        ParseFaultKind::Character | ParseFaultKind::Text => by_beginning(read.words.as_slice()),
         _ => None,
     }
 }
