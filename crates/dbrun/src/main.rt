@@ -15,8 +15,9 @@ use crate::areas::tell_areas;
 use crate::operate::operate;
 use crate::screens::{is_new_name, rehearse_shown, run_shown};
 use crate::shown::{
-    Audience, FaultyLine, OutTold, Progress, faulty_line, hint_of, line_among, line_at, line_of,
-    lines_of, of_end, printable, why_hindered,
+    Audience, FaultyLine, OutTold, Progress, UnwrittenTold, absent_file, faulty_line, hint_of,
+    letters_alone, line_among, line_at, line_of, lines_of, of_end, of_file, printable,
+    why_hindered,
 };
 use clap::error::ErrorKind;
 use clap::{ArgMatches, Command};
@@ -29,11 +30,13 @@ use compile_commands::{
 };
 use file_access::{Files, ReadFault, read_in_turns, read_within};
 use file_commands::{
-    FILE_LIMIT, Refusal, Status, list_code, list_index, list_table, of_refusal, verify_file,
+    FILE_LIMIT, Refusal, Status, declares_tables, list_code, list_index, list_table, of_refusal,
+    verify_file,
 };
 use folder_files::{
     FinishedSave, Folder, Held, Hindrance, Nobody, SaveTerms, SavingFolder, UnfinishedSave,
-    Unsaved, finish, forget, is_empty_folder, is_same_file, note_stands, paper_name, take_folder,
+    Unreplaced, Unsaved, finish, forget, is_empty_folder, is_same_file, note_stands, paper_name,
+    save_stands, stands, take_folder,
 };
 use folder_shapes::{LineTold, declare};
 use run_commands::{Ended, Job, Report, RunRefusal, run_files};
@@ -124,11 +127,14 @@ fn show_faulty<R: Runtime<A = Global>>(
 
 /// What a code file would overwrite, by the names of the files and by the files themselves.
 fn overwritten(rt: &impl Runtime, decl: &str, out: &str, names: &[&str]) -> Option<Overwritten> {
-    if let Some(what) = overwritten_by(out, decl, names) {
+    if let Some(what) = overwritten_by(out, decl, names, paper_name()) {
         return Some(what);
     }
     if is_same_file(rt, out, decl) {
         return Some(Overwritten::Declarations);
+    }
+    if is_same_file(rt, out, paper_name()) {
+        return Some(Overwritten::Save);
     }
     for (file, name) in names.iter().enumerate() {
         if is_same_file(rt, out, name) {
@@ -156,20 +162,56 @@ fn compile<'a, R: Runtime<A = Global>>(
         Ok(()) => return Ok(Status::Done),
         Err(refusal) => refusal,
     };
-    Ok(tell_uncompiled(rt, audience, &refusal, CompileWords { decl, out, names }))
+    let words = CompileWords { decl, out, names };
+    Ok(tell_uncompiled(rt, audience, &refusal, words, folder.unreplaced()))
 }
 
-/// Tells on standard error why files aren't compiled; a person is shown the faulty line too.
+/// Whether a file stands under a name in capitals, or in small letters.
+fn stands_otherwise<R: Runtime<A = Global>>(rt: &R, name: &str) -> bool {
+    let (Ok(mut capitals), Ok(mut small)) = (
+        String::from_str(rt.alloc(), name),
+        String::from_str(rt.alloc(), name),
+    ) else {
+        return false;
+    };
+    capitals.make_ascii_uppercase();
+    small.make_ascii_lowercase();
+    stands(rt, capitals.as_str()) || stands(rt, small.as_str())
+}
+
+/// Shows a person what to do about files that aren't compiled.
+fn show_uncompiled<R: Runtime<A = Global>>(
+    rt: &R,
+    refusal: &CompileFilesRefusal,
+    words: CompileWords<'_>,
+    unreplaced: Option<Unreplaced>,
+) {
+    if let Some(unreplaced) = unreplaced {
+        let told = UnwrittenTold(unreplaced);
+        let _ = eprintln!(rt; "  {told}.");
+    } else if absent_file(refusal, words).is_some_and(|name| stands_otherwise(rt, name)) {
+        let _ = eprintln!(rt;
+            "  a file of this name stands in other letters; write it as it stands."
+        );
+    } else if let Some(sentence) = of_file(refusal) {
+        let _ = eprintln!(rt; "  {sentence}.");
+    } else if let Some(place) = faulty_line(refusal, words) {
+        show_faulty(rt, place, refusal, words);
+    }
+}
+
+/// Tells on standard error why files aren't compiled; a person is shown what to do about it too.
 fn tell_uncompiled<R: Runtime<A = Global>>(
     rt: &R,
     audience: Audience,
     refusal: &CompileFilesRefusal,
     words: CompileWords<'_>,
+    unreplaced: Option<Unreplaced>,
 ) -> Status {
     let told = CompileTold { refusal, words };
     let _ = eprintln!(rt; "{told}");
-    if let (true, Some(place)) = (audience.person, faulty_line(refusal, words)) {
-        show_faulty(rt, place, refusal, words);
+    if audience.person {
+        show_uncompiled(rt, refusal, words, unreplaced);
     }
     of_compiling(refusal)
 }
@@ -219,7 +261,7 @@ fn faults<'a, R: Runtime<A = Global>>(
         Err(refusal) => {
             let out = "";
             let words = CompileWords { decl, out, names };
-            return Ok(tell_uncompiled(rt, audience, &refusal, words));
+            return Ok(tell_uncompiled(rt, audience, &refusal, words, None));
         }
     };
     if found.is_empty() {
@@ -467,8 +509,12 @@ pub fn hindered(held: &Held, no_lock: bool) -> Option<Hindrance> {
     }
 }
 
-/// Finishes a save that was cut off before, unless the folder isn't held; a status where the run ends with that.
+/// Finishes a save that was cut off before, if one was, unless the folder isn't held; a status where the run ends with
+/// that.
 fn finish_alone<R: Runtime<A = Global, File = File>>(rt: &R, no_lock: bool) -> Option<Status> {
+    if !save_stands(rt) {
+        return None;
+    }
     let held = take_folder(rt);
     match hindered(&held, no_lock) {
         None => finish_before(rt),
@@ -476,7 +522,14 @@ fn finish_alone<R: Runtime<A = Global, File = File>>(rt: &R, no_lock: bool) -> O
     }
 }
 
-/// Carries out a run that saves, all of whose input is there. The folder is held for it alone.
+/// Whether a code is known to have no tables, so that its run saves nothing.
+fn has_no_tables<R: Runtime<A = Global>>(rt: &R, name: &str) -> bool {
+    let mut files = Folder::new(rt, Nobody);
+    matches!(declares_tables(rt.alloc(), &mut files, name), Ok(false))
+}
+
+/// Carries out a run that saves, all of whose input is there. The folder is held for it alone, unless the code has no
+/// tables; then none is read, whatever stands under the code's name by now.
 fn run_alone<R: Runtime<A = Global, File = File>>(
     rt: &R,
     audience: Audience,
@@ -484,6 +537,9 @@ fn run_alone<R: Runtime<A = Global, File = File>>(
     save: SaveWords<'_>,
     screens: Option<&str>,
 ) -> Status {
+    if has_no_tables(rt, job.name) {
+        return run_and_save(rt, audience, job, save, screens, Some(Hindrance::Taken));
+    }
     let held = take_folder(rt);
     let closed = hindered(&held, save.no_lock);
     if closed.is_none() {
@@ -623,10 +679,21 @@ fn print_listing<R: Runtime<A = Global>>(
     let Some(page) = page else {
         return print_bytes(rt, audience, lines);
     };
-    match in_utf8(rt.alloc(), page, lines) {
+    let told = if audience.rows {
+        letters_of(rt.alloc(), page, lines)
+    } else {
+        in_utf8(rt.alloc(), page, lines)
+    };
+    match told {
         Ok(shown) => status_of(rt.write_all(shown.as_bytes())),
         Err(_) => no_memory(rt),
     }
+}
+
+/// Lines in UTF-8 as a terminal is sent them.
+fn letters_of(alloc: Global, page: CodePage, lines: &[u8]) -> Result<String, AllocError> {
+    let letters = letters_alone(alloc, lines)?;
+    in_utf8(alloc, page, letters.as_slice())
 }
 
 /// The lines of a table.

@@ -21,9 +21,7 @@ use std::rt::Runtime;
 
 /// Whether a new file of this name harms nothing: it is one of the folder's, and none that the program makes or reads.
 pub fn is_free_name(name: &str, code: &str) -> bool {
-    is_in_folder(name.as_bytes())
-        && overwritten_by(name, code, &[]).is_none()
-        && !name.starts_with(paper_name())
+    is_in_folder(name.as_bytes()) && overwritten_by(name, code, &[], paper_name()).is_none()
 }
 
 /// Whether a new file of this name harms nothing, and none of this name stands yet.

@@ -3,8 +3,8 @@
 
 use compile_commands::{CompileFilesRefusal, CompileWords, SourceFault};
 use file_access::Files;
-use folder_files::{Doing, FileSum, Harm, Hindrance, Listener, Sum};
-use hints::{of_command, of_declaration, of_line, of_table_line};
+use folder_files::{Doing, FileSum, Harm, Hindrance, Listener, Sum, Unreplaced};
+use hints::{of_command, of_compiled_line, of_declaration, of_line, of_table_line};
 use run_commands::How;
 use save_rules::Overwritten;
 use shape_files::{DeclFault, LineFault, ShapeRefusal};
@@ -75,6 +75,15 @@ pub fn line_of(fault: SourceFault) -> usize {
     }
 }
 
+/// What to do about a file that isn't there.
+const ABSENT: &str = "there is no file of this name here";
+
+/// What to do about a file that is too long.
+const LONGER: &str = "the file is longer than 64 MiB";
+
+/// What to do about a file that the device doesn't give.
+const UNREAD: &str = "the file can't be read; it may be a folder, or closed to you";
+
 /// Where a refusal found a line faulty, if it names one.
 pub fn faulty_line<'a>(
     refusal: &CompileFilesRefusal,
@@ -105,7 +114,7 @@ pub fn hint_of<F: Files>(
     match refusal {
         CompileFilesRefusal::Source { fault, .. } => match fault {
             SourceFault::Parse { kind, .. } => Some(of_line(alloc, *kind, line.bytes)),
-            SourceFault::Compile { kind, .. } => Some(of_command(*kind)),
+            SourceFault::Compile { kind, .. } => Some(of_compiled_line(alloc, *kind, line.bytes)),
             SourceFault::Absent | SourceFault::TooLong => None,
         },
         CompileFilesRefusal::Declarations(ShapeRefusal::Refused(DeclFault::Line { fault, .. })) => {
@@ -114,6 +123,39 @@ pub fn hint_of<F: Files>(
                 _ => Some(of_declaration(*fault)),
             }
         }
+        _ => None,
+    }
+}
+
+/// What to do about a refusal that names no line, in one sentence without its point.
+pub fn of_file(refusal: &CompileFilesRefusal) -> Option<&'static str> {
+    match refusal {
+        CompileFilesRefusal::Declarations(ShapeRefusal::Refused(DeclFault::Absent)) => Some(ABSENT),
+        CompileFilesRefusal::Declarations(ShapeRefusal::Refused(DeclFault::TooLong)) => Some(
+            LONGER,
+        ),
+        CompileFilesRefusal::Source { fault, .. } => match fault {
+            SourceFault::Absent => Some(ABSENT),
+            SourceFault::TooLong => Some(LONGER),
+            SourceFault::Compile { line: 0, kind } => Some(of_command(*kind)),
+            SourceFault::Parse { .. } | SourceFault::Compile { .. } => None,
+        },
+        CompileFilesRefusal::Declarations(ShapeRefusal::Disk | ShapeRefusal::TableDisk(_))
+        | CompileFilesRefusal::SourceDisk { .. } => Some(UNREAD),
+        _ => None,
+    }
+}
+
+/// The name of the file that isn't there, if that is why nothing was compiled.
+pub fn absent_file<'a>(refusal: &CompileFilesRefusal, words: CompileWords<'a>) -> Option<&'a str> {
+    match refusal {
+        CompileFilesRefusal::Declarations(ShapeRefusal::Refused(DeclFault::Absent)) => Some(
+            words.decl,
+        ),
+        CompileFilesRefusal::Source {
+            file,
+            fault: SourceFault::Absent,
+        } => words.names.get(*file).copied(),
         _ => None,
     }
 }
@@ -203,14 +245,38 @@ pub fn why_hindered(hindrance: Hindrance) -> &'static str {
     match hindrance {
         Hindrance::Taken => "another run has the folder",
         Hindrance::NoLocks => "this file system knows no locks; --no-lock saves without one",
+        Hindrance::Harm(Harm::NoFile) => "a folder, a device or a pipe stands under this name",
         Hindrance::Harm(Harm::NotWritable) => "nobody may write this file",
-        Hindrance::Harm(Harm::Links) => "the file has further names, which would keep the old rows",
+        Hindrance::Harm(Harm::Links) =>
+            "the file has further names, which would keep what it holds now",
         Hindrance::Harm(Harm::Owner) => "the file is another user's; --new-owner makes it yours",
         Hindrance::Harm(Harm::Group) =>
             "the file is of a group that isn't yours; --new-owner makes it yours",
         Hindrance::LeavesFolder => "the file is a link that leaves the folder",
         Hindrance::Twice => "the file is that of another declared name",
         Hindrance::Disk => "what stands under this name can't be seen",
+    }
+}
+
+/// Why a code file isn't written, as it is told.
+#[derive(Clone, Copy)]
+pub struct UnwrittenTold(pub Unreplaced);
+
+impl Display for UnwrittenTold {
+    fn fmt<W: Write>(&self, f: &mut Formatter<W>) -> fmt::Result {
+        let why = match self.0 {
+            Unreplaced::Hindered(Hindrance::Harm(Harm::Owner | Harm::Group)) => {
+                "the file is of another user or group, to whom the new one can't be given"
+            }
+            Unreplaced::Hindered(hindrance) => why_hindered(hindrance),
+            Unreplaced::Unwritten => "no new file can be written beside it",
+            Unreplaced::Unsynced => {
+                return f.write_str(
+                    "the new file stands, and the device may lose it; compile again",
+                );
+            }
+        };
+        write!(f, "{why}; no file was changed")
     }
 }
 
@@ -229,6 +295,7 @@ impl Display for OutTold<'_> {
                 Some(name) => ("command file", *name),
                 None => ("command file", self.words.out),
             },
+            Overwritten::Save => ("file of a save", self.words.out),
             Overwritten::Table => ("table", self.words.out),
             Overwritten::Index => ("index", self.words.out),
             Overwritten::Commands => ("command file", self.words.out),
@@ -246,6 +313,20 @@ fn printed(byte: u8) -> u8 {
         b'\n' | b' '..=b'~' => byte,
         _ => b'?',
     }
+}
+
+/// A byte of a text in a code page, as a terminal is sent its letter: a question mark for what is no letter.
+fn lettered(byte: u8) -> u8 {
+    if byte < 128 { printed(byte) } else { byte }
+}
+
+/// Bytes of a code page of which no letter is one that a terminal obeys.
+pub fn letters_alone(alloc: Global, bytes: &[u8]) -> Result<Vec<u8>, AllocError> {
+    let mut shown = Vec::with_capacity(alloc, bytes.len())?;
+    for byte in bytes {
+        shown.push(lettered(*byte))?;
+    }
+    Ok(shown)
 }
 
 /// Bytes as a terminal is sent them, so that no file can send it what it obeys.

@@ -77,9 +77,9 @@ fn make<R: Disk>(rt: &R, path: &str, mode: u32) -> io::Result<R::File> {
 /// The file that a new one is to replace.
 #[derive(Clone, Copy)]
 pub(crate) struct Old<'a> {
-    pub(crate) data: &'a Metadata,
+    data: &'a Metadata,
     /// Whether the new file is the user's where its owner or group can't be given to it.
-    pub(crate) taken_over: bool,
+    taken_over: bool,
 }
 
 /// Gives a new file the owner, the group and the mode of the file that it is to replace.
@@ -125,6 +125,20 @@ pub(crate) fn write_new<R: Disk>(
         let _ = fs::remove_file(rt, path);
     }
     filled
+}
+
+/// Makes the whole new file of a target beside it, down to the device, as what stands there is to be replaced. Whether
+/// it is taken over says if it may be the user's, where it can't be given to the old one's owner and group.
+pub(crate) fn write_beside<R: Disk>(
+    rt: &R,
+    target: &str,
+    beside: &str,
+    bytes: &[u8],
+    taken_over: bool,
+) -> io::Result<()> {
+    let found = standing(rt, target)?;
+    let old = found.as_ref().map(|data| Old { data, taken_over });
+    write_new(rt, beside, bytes, old)
 }
 
 /// The sum of all that a reader gives.

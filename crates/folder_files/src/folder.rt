@@ -4,11 +4,12 @@
 ghost use Rattle.std.specs.Prelude.{◌≡◌, ◌≤◌};
 ghost use Rattle.file_access.specs.Holding.{Rose};
 
+use crate::replacing::{Unreplaced, replace_file};
 use file_access::{Device, Files, ReadFault, read_within};
 use save_steps::Sum;
-use std::alloc::{Alloc, AllocError, Global};
+use std::alloc::{Alloc, Global};
 use std::fs::{self, OpenFile};
-use std::io::{self, ErrorKind, Write};
+use std::io::ErrorKind;
 use std::rt::Files as Disk;
 
 /// What goes on with a file.
@@ -40,32 +41,15 @@ impl Listener for Nobody {
 }
 
 /// The files of the folder in which the program runs: names are those of its files. A file that is replaced has its new
-/// bytes on the device before they take the old ones' place, and a failure that is told leaves the old ones.
+/// bytes on the device before they take the old ones' place, and keeps its owner and its mode. A failure that is told
+/// leaves the old ones, unless it is that of the folder behind the new ones.
 #[derive(Drop)]
 pub struct Folder<'a, R, L> {
     pub(crate) rt: &'a R,
     pub(crate) listener: L,
     failures: u64,
-}
-
-/// The name of the file beside one, under which its new bytes are written first.
-fn beside(alloc: Global, name: &str) -> Result<String, AllocError> {
-    let mut path = name.to_string(alloc)?;
-    path.push_str(".new")?;
-    Ok(path)
-}
-
-/// Writes a whole file, down to the device.
-fn write_whole<R: Disk>(rt: &R, path: &str, bytes: &[u8]) -> io::Result<()> {
-    let mut file = fs::create(rt, path)?;
-    file.write_all(bytes)?;
-    file.sync_all()
-}
-
-/// Writes the new bytes of a file beside it, and puts them in its place only when they are all there.
-fn put<R: Disk>(rt: &R, path: &str, name: &str, bytes: &[u8]) -> io::Result<()> {
-    write_whole(rt, path, bytes)?;
-    fs::rename(rt, path, name)
+    /// Why the last file that wasn't replaced isn't.
+    unreplaced: Option<Unreplaced>,
 }
 
 impl<'a, R: Disk + Alloc<A = Global>, L: Listener> Folder<'a, R, L> {
@@ -75,7 +59,13 @@ impl<'a, R: Disk + Alloc<A = Global>, L: Listener> Folder<'a, R, L> {
             rt,
             listener,
             failures: 0,
+            unreplaced: None,
         }
+    }
+
+    /// Why the last file that wasn't replaced isn't, if there is one.
+    pub fn unreplaced(&self) -> Option<Unreplaced> {
+        self.unreplaced
     }
 
     /// Counts a failure of the device.
@@ -117,17 +107,15 @@ impl<R: Disk + Alloc<A = Global>, L: Listener> Files for Folder<'_, R, L> {
     }
 
     fn replace(&mut self, name: &str, bytes: &[u8]) -> Result<(), Device> {
-        let Ok(path) = beside(self.rt.alloc(), name) else {
-            self.fail();
-            return Err(Device);
-        };
         self.listener.hear(Doing::Writing, name, bytes.len() as u64);
-        if put(self.rt, path.as_str(), name, bytes).is_err() {
-            let _ = fs::remove_file(self.rt, path.as_str());
-            self.fail();
-            return Err(Device);
+        match replace_file(self.rt, name, bytes) {
+            Ok(()) => Ok(()),
+            Err(unreplaced) => {
+                self.unreplaced = Some(unreplaced);
+                self.fail();
+                Err(Device)
+            }
         }
-        Ok(())
     }
 
     fn failures(&self) -> u64 {

@@ -1,7 +1,7 @@
 //! The plan and the note of a save, in their file in the folder.
 #![tactic(auto)]
 
-use crate::disk::{remove_if_there, sync_folder, write_new};
+use crate::disk::{is_free, remove_if_there, sync_folder, write_new};
 use file_access::{ReadFault, read_within};
 use save_papers::{PaperError, SavePaper, may_begin_paper, read, write};
 use std::alloc::{Alloc, Global};
@@ -90,6 +90,11 @@ pub fn note_stands<R: Disk + Alloc<A = Global>>(rt: &R) -> bool {
         Ok(Some(paper)) => paper.noted,
         _ => false,
     }
+}
+
+/// Whether a save was cut off, or goes on: something stands of its plan or its note.
+pub fn save_stands(rt: &impl Disk) -> bool {
+    !is_free(rt, PAPER) || !is_free(rt, DRAFT)
 }
 
 /// Removes the plan or the note.

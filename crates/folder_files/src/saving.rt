@@ -5,9 +5,7 @@ ghost use Rattle.std.specs.Prelude.{◌≡◌, ◌≤◌};
 ghost use Rattle.file_access.specs.Holding.{Rose};
 
 use crate::backup::{copy_file, make_folder};
-use crate::disk::{
-    Old, fresh_name, remove_if_there, standing, sum_of_file, sync_folder, sync_path, write_new,
-};
+use crate::disk::{fresh_name, remove_if_there, sum_of_file, sync_folder, sync_path, write_beside};
 use crate::folder::{Doing, Folder, Listener};
 use crate::papers::{Written, put_paper, remove_draft, remove_paper};
 use crate::targets::{Hindrance, Target, target_of};
@@ -304,13 +302,9 @@ impl<'a, R: Disk + Alloc<A = Global>, L: Listener> SavingFolder<'a, R, L> {
         let name = pending.name.as_str();
         let size = pending.bytes.len() as u64;
         self.folder.listener.hear(Doing::Writing, name, size);
-        let Ok(found) = standing(self.folder.rt, pending.target.as_str()) else {
-            return Err(Unsaved::Disk { file });
-        };
+        let (target, bytes) = (pending.target.as_str(), pending.bytes.as_slice());
         let taken_over = self.terms.takes_over;
-        let old = found.as_ref().map(|data| Old { data, taken_over });
-        let bytes = pending.bytes.as_slice();
-        if write_new(self.folder.rt, beside.as_str(), bytes, old).is_err() {
+        if write_beside(self.folder.rt, target, beside.as_str(), bytes, taken_over).is_err() {
             return Err(Unsaved::Disk { file });
         }
         progress.made = file + 1;

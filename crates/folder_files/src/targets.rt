@@ -30,7 +30,7 @@ pub enum Hindrance {
     Disk,
 }
 
-/// The file that stands under a name, behind links within the folder.
+/// The file that stands under a name, behind links within its folder.
 #[derive(Drop)]
 pub(crate) struct Target {
     pub(crate) name: String,
@@ -38,13 +38,30 @@ pub(crate) struct Target {
     pub(crate) file: Option<(u64, u64)>,
 }
 
-/// The name to which a link in the folder leads; none where it leaves the folder.
-fn named_by(alloc: Global, link: &str) -> Result<Option<String>, AllocError> {
+/// A path cut into its folder's, which ends with a slash or is empty, and the name in it.
+fn parted(path: &str) -> (&str, &str) {
+    match path.rfind('/') {
+        Some(slash) => path.split_at(slash.saturating_add(1)),
+        None => ("", path),
+    }
+}
+
+/// The path of the folder in which a file of this path stands.
+pub(crate) fn folder_of(path: &str) -> &str {
+    match parted(path) {
+        ("", _) => ".",
+        (folder, _) => folder,
+    }
+}
+
+/// The name to which a link of this name leads; none where it leaves its folder.
+fn named_by(alloc: Global, name: &str, link: &str) -> Result<Option<String>, AllocError> {
     let link = link.strip_prefix("./").unwrap_or(link);
     if !is_in_folder(link.as_bytes()) {
         return Ok(None);
     }
-    Ok(Some(String::from_str(alloc, link)?))
+    let (folder, _) = parted(name);
+    Ok(Some(format!(in alloc; "{folder}{link}")?))
 }
 
 /// The name of the file to which a link leads next; none where the name isn't that of a link.
@@ -65,7 +82,7 @@ fn next_name<R: Disk + Alloc<A = Global>>(rt: &R, name: &str) -> Result<Option<S
     let Ok(path) = fs::read_link(rt, name) else {
         return Err(Hindrance::Disk);
     };
-    match named_by(rt.alloc(), path.as_str()) {
+    match named_by(rt.alloc(), name, path.as_str()) {
         Ok(Some(next)) => Ok(Some(next)),
         Ok(None) => Err(Hindrance::LeavesFolder),
         Err(_) => Err(Hindrance::Disk),
@@ -89,6 +106,7 @@ fn last_name<R: Disk + Alloc<A = Global>>(rt: &R, name: &str) -> Result<String, 
 /// What the rules of a save know of a file.
 fn standing_of(data: &Metadata) -> Standing {
     Standing {
+        is_plain: data.is_file(),
         mode: data.mode(),
         owner: data.uid(),
         group: data.gid(),

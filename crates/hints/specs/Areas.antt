@@ -14,4 +14,5 @@ IsTrueOf met (hint.MayBeOpen table areas selected) = areas.now ≡ met.areas.ite
 IsTrueOf met (hint.Closed chosen place) = slice_get met.areas.items place ≡ Some Nothing
 IsTrueOf met (hint.Unsure chosen place) = slice_get met.areas.items place ≡ Some held.Unsure
 IsTrueOf met (hint.SomeUnsure areas) = areas.now ≡ met.areas.items
+IsTrueOf met (hint.Lettered letter table place) = slice_get met.areas.items place ≡ Some (Table table.now)
 IsTrueOf met (hint.NoOrder table place) = slice_get met.areas.items place ≡ Some (Table table.now)

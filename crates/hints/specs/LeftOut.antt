@@ -46,6 +46,10 @@ abbrev pub variables : List NamedThing
 variables = (codes "PUBLIC", it.Public) ∷ (codes "DECLARE", it.Arrays) ∷ (codes "DIMENSION", it.Arrays)
     ∷ (codes "ON", it.On) ∷ (codes "RETRY", it.On) ∷ (codes "SUSPEND", it.On) ∷ (codes "RESUME", it.On) ∷ []
 
+abbrev pub prompts : List NamedThing
+prompts = (codes "HELP", it.Prompt) ∷ (codes "ASSIST", it.Prompt) ∷ (codes "TYPE", it.Others) ∷ (codes "IMPORT", it.Others)
+    ∷ (codes "EXPORT", it.Others) ∷ (codes "UNLOCK", it.Locks) ∷ (codes "LOGOUT", it.Locks) ∷ []
+
 -- commands that are there, but not in every form
 abbrev pub other_forms : List NamedThing
 other_forms = (codes "APPEND", it.ByHand) ∷ (codes "SELECT", it.SelectZero) ∷ []
@@ -56,19 +60,53 @@ settings = (codes "RELATION", it.Relation) ∷ (codes "INDEX", it.OpenIndexes) �
     ∷ (codes "FIXED", it.Decimals) ∷ (codes "DATE", it.DateForm) ∷ (codes "PRINT", it.Printer)
     ∷ (codes "DEVICE", it.Printer) ∷ (codes "ALTERNATE", it.Printer) ∷ []
 
+-- behind SET, of forms, folders, keys and locks
+abbrev pub more_settings : List NamedThing
+more_settings = (codes "FORMAT", it.Formats) ∷ (codes "UNIQUE", it.Unique) ∷ (codes "CARRY", it.Carry)
+    ∷ (codes "CONSOLE", it.Printer) ∷ (codes "DEFAULT", it.Paths) ∷ (codes "PATH", it.Paths)
+    ∷ (codes "FUNCTION", it.Keys) ∷ (codes "EXCLUSIVE", it.Locks) ∷ []
+
 -- behind CLEAR
 abbrev pub parts_to_clear : List NamedThing
-parts_to_clear = (codes "ALL", it.ClearParts) ∷ (codes "MEMORY", it.ClearParts) ∷ (codes "GETS", it.ClearParts) ∷ []
+parts_to_clear = (codes "ALL", it.ClearParts) ∷ (codes "MEMORY", it.ClearParts) ∷ (codes "GETS", it.ClearParts)
+    ∷ (codes "FIELDS", it.ClearParts) ∷ (codes "TYPEAHEAD", it.ClearParts) ∷ []
+
+-- behind CLOSE
+abbrev pub parts_to_close : List NamedThing
+parts_to_close = (codes "INDEX", it.OpenIndexes) ∷ (codes "ALTERNATE", it.Printer) ∷ (codes "FORMAT", it.Formats)
+    ∷ (codes "PROCEDURE", it.Closing) ∷ []
+
+-- behind RELEASE
+abbrev pub parts_to_release : List NamedThing
+parts_to_release = (codes "ALL", it.ReleaseAll) ∷ (codes "MODULE", it.Others) ∷ []
 
 abbrev pub clauses : List NamedThing
 clauses =
     (codes "ALL", it.Scopes) ∷ (codes "NEXT", it.Scopes) ∷ (codes "RECORD", it.Scopes) ∷ (codes "WHILE", it.Scopes)
     ∷ (codes "FOR", it.Scopes) ∷ (codes "ALIAS", it.Alias) ∷ (codes "PICTURE", it.Pictures)
-    ∷ (codes "RANGE", it.Pictures) ∷ []
+    ∷ (codes "RANGE", it.Pictures) ∷ (codes "UNIQUE", it.Unique) ∷ (codes "EXCLUSIVE", it.Locks) ∷ []
+
+-- ---- functions
 
 abbrev pub functions : List NamedThing
 functions = (codes "TYPE", it.Type) ∷ (codes "TRANSFORM", it.Transform) ∷ (codes "TIME", it.Time)
     ∷ (codes "SQRT", it.Powers) ∷ (codes "EXP", it.Powers) ∷ (codes "LOG", it.Powers) ∷ []
+
+abbrev pub of_keys : List NamedThing
+of_keys = (codes "INKEY", it.Keys) ∷ (codes "READKEY", it.Keys) ∷ (codes "FKLABEL", it.Keys) ∷ (codes "FKMAX", it.Keys)
+    ∷ (codes "ROW", it.Cursor) ∷ (codes "COL", it.Cursor) ∷ (codes "PROW", it.Cursor) ∷ (codes "PCOL", it.Cursor) ∷ []
+
+abbrev pub of_machines : List NamedThing
+of_machines = (codes "FILE", it.Machine) ∷ (codes "DISKSPACE", it.Machine) ∷ (codes "GETENV", it.Machine)
+    ∷ (codes "OS", it.Machine) ∷ (codes "VERSION", it.Machine) ∷ (codes "ISCOLOR", it.Machine) ∷ []
+
+abbrev pub of_structures : List NamedThing
+of_structures = (codes "DBF", it.Made) ∷ (codes "NDX", it.Made) ∷ (codes "FIELD", it.Made) ∷ (codes "LUPDATE", it.Made)
+    ∷ (codes "RECSIZE", it.Made) ∷ []
+
+abbrev pub of_errors : List NamedThing
+of_errors = (codes "ERROR", it.On) ∷ (codes "MESSAGE", it.On) ∷ (codes "FLOCK", it.Locks) ∷ (codes "LOCK", it.Locks)
+    ∷ (codes "RLOCK", it.Locks) ∷ []
 
 -- functions that take no argument here
 abbrev pub answers : List NamedThing
@@ -81,12 +119,22 @@ abbrev pub or_next : Option Thing → Option Thing → Option Thing
 or_next None other = other
 or_next (Some found) other = Some found
 
+-- what is left out where a line begins with a word, in every form
+unfoldable pub by_word : List ℕ → Option Thing
+by_word s =
+    or_next (first_named searches s) (or_next (first_named tables s) (or_next (first_named copies s)
+    (or_next (first_named forms s) (or_next (first_named programs s) (or_next (first_named variables s)
+    (first_named prompts s))))))
+
 -- what is left out where a line begins with a word
 unfoldable pub by_first : List ℕ → Option Thing
-by_first s =
-    or_next (first_named searches s) (or_next (first_named tables s) (or_next (first_named copies s)
-    (or_next (first_named forms s) (or_next (first_named programs s)
-    (or_next (first_named variables s) (first_named other_forms s))))))
+by_first s = or_next (by_word s) (first_named other_forms s)
+
+-- what a function is left out with, whatever its arguments
+unfoldable pub by_function : List ℕ → Option Thing
+by_function s =
+    or_next (first_named functions s) (or_next (first_named of_keys s) (or_next (first_named of_machines s)
+    (or_next (first_named of_structures s) (first_named of_errors s))))
 
 -- whether SET has a meaning with this word behind it
 unfoldable pub is_setting : List ℕ → Bool
@@ -95,18 +143,29 @@ is_setting s = is_cut s (codes "ORDER") || is_cut s (codes "FILTER") || is_cut s
 
 -- what SET asks for with this word behind it
 unfoldable pub by_setting : List ℕ → Option Thing
-by_setting s = if is_setting s then None else or_next (first_named settings s) (Some it.OtherSet)
+by_setting s =
+    if is_setting s then None
+    else or_next (first_named settings s) (or_next (first_named more_settings s) (Some it.OtherSet))
+
+-- what is left out where a line begins with two words, of commands that are there in other forms
+unfoldable pub by_form : List ℕ → List ℕ → Option Thing
+by_form first second =
+    if is_cut first (codes "RETURN") then first_named (one (codes "TO") it.ToMaster) second
+    else if is_cut first (codes "APPEND") then first_named (one (codes "FROM") it.Copies) second
+    else if is_cut first (codes "PRIVATE") then first_named (one (codes "ALL") it.PrivateAll) second
+    else if is_cut first (codes "READ") then first_named (one (codes "SAVE") it.ReadSave) second
+    else if is_cut first (codes "COPY") then first_named (one (codes "FILE") it.Others) second
+    else if is_cut first (codes "DELETE") then first_named (one (codes "FILE") it.Others) second
+    else None
 
 -- what is left out where a line begins with two words
 unfoldable pub by_two : List ℕ → List ℕ → Option Thing
 by_two first second =
     if is_cut first (codes "SET") then by_setting second
     else if is_cut first (codes "CLEAR") then first_named parts_to_clear second
-    else if is_cut first (codes "CLOSE") then first_named (one (codes "INDEX") it.OpenIndexes) second
-    else if is_cut first (codes "RELEASE") then first_named (one (codes "ALL") it.ReleaseAll) second
-    else if is_cut first (codes "RETURN") then first_named (one (codes "TO") it.ToMaster) second
-    else if is_cut first (codes "APPEND") then first_named (one (codes "FROM") it.Copies) second
-    else None
+    else if is_cut first (codes "CLOSE") then first_named parts_to_close second
+    else if is_cut first (codes "RELEASE") then first_named parts_to_release second
+    else by_form first second
 
 -- the first clause or alias among these words
 unfoldable pub by_clause : List Word → Option Thing
@@ -121,6 +180,11 @@ by_next first [] = None
 by_next first (word.Name second ∷ ws) = by_two first second
 by_next first (w ∷ ws) = None
 
+-- what a command is left out with by its first words alone
+unfoldable pub by_beginning : List Word → Option Thing
+by_beginning (word.Name first ∷ ws) = or_next (by_next first ws) (by_word first)
+by_beginning ws = None
+
 -- what a command that begins with this word asks for
 unfoldable pub from_first : Word → List Word → Option Thing
 from_first (word.Name first) ws = or_next (by_next first ws) (or_next (by_first first) (by_clause ws))
@@ -134,8 +198,8 @@ of_command (w ∷ ws) = from_first w ws
 
 -- what is left out where a call begins so
 unfoldable pub in_call : List ℕ → List Word → Option Thing
-in_call s (word.Close ∷ ws) = first_named functions s
-in_call s ws = or_next (first_named functions s) (first_named answers s)
+in_call s (word.Close ∷ ws) = by_function s
+in_call s ws = or_next (by_function s) (first_named answers s)
 
 -- what is left out where these words begin
 unfoldable pub in_front : List Word → Option Thing

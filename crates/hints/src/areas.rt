@@ -49,6 +49,12 @@ pub enum AreasHint<'a> {
     },
     /// Ways leave those otherwise of which nothing is known.
     SomeUnsure(&'a [HeldTable]),
+    /// This letter stands before an arrow, and this table is open in its work area.
+    Lettered {
+        letter: u8,
+        table: &'a Name,
+        place: usize,
+    },
     /// The table is open in this one, without such an order.
     NoOrder {
         table: &'a Name,
@@ -100,6 +106,38 @@ fn of_letters<'a>(met: &'a MetAreas, words: &[Token<'_>]) -> Option<AreasHint<'a
         }
     }
     of_letters(met, others)
+}
+
+/// What to do about the work area of a letter, if a table is known to be open in it.
+fn of_letter<'a>(met: &'a MetAreas, letter: u8) -> Option<AreasHint<'a>>
+    ensures { IfSome result (IsTrueOf met.now) }
+{
+    let place = usize::from(letter.wrapping_sub(b'A'));
+    let held = met.areas.get(place)?;
+    match held {
+        HeldTable::Table(table) => Some(AreasHint::Lettered {
+            letter,
+            table,
+            place,
+        }),
+        HeldTable::Nothing | HeldTable::Unsure => None,
+    }
+}
+
+/// What to do about the first work area that a letter names before an arrow, and in which a table is known to be open.
+fn of_lettered<'a>(met: &'a MetAreas, words: &[Token<'_>]) -> Option<AreasHint<'a>>
+    ensures { IfSome result (IsTrueOf met.now) }
+{
+    let (_, others) = words.split_first()?;
+    if let Some(alias) = alias_of(words)
+        && let Some(letter) = letter_of(alias)
+    {
+        let found = of_letter(met, letter);
+        if found.is_some() {
+            return found;
+        }
+    }
+    of_lettered(met, others)
 }
 
 /// Whether the command asks for a work area by the name of a table.
@@ -230,6 +268,7 @@ pub fn of_areas<'a>(
         CompileFaultKind::OpenTwice => of_open(met, read.words.as_slice()),
         CompileFaultKind::NoOrder => of_order(met),
         CompileFaultKind::Merge => of_ways(met),
+        CompileFaultKind::Name => of_lettered(met, read.words.as_slice()),
         _ => None,
     }
 }
@@ -319,6 +358,9 @@ const OTHERWISE: &str = "with other tables, indexes, orders or filters, or close
 /// Where to close a table that is open already.
 const ELSEWHERE: &str = "SELECT that one, or close it there by USE alone";
 
+/// What to look at where a letter names a work area.
+const FIELDS: &str = "look whether that table has the field, and whether the line's other names are set";
+
 /// How a work area comes by an order.
 const ORDERS: &str = "open indexes by USE .. INDEX or INDEX ON, and choose one by SET ORDER TO";
 
@@ -362,6 +404,18 @@ impl Display for AreasHint<'_> {
                 f.write_str("ways to this line leave area ")?;
                 put_unsure(f, areas, None)?;
                 write!(f, " {OTHERWISE}; USE the same in it on each way")
+            }
+            AreasHint::Lettered {
+                letter,
+                table,
+                place,
+            } => {
+                put_chosen(f, Chosen::Letter(*letter), *place)?;
+                write!(
+                    f,
+                    " ({}), since A to J are areas; {FIELDS}",
+                    Shown(table)
+                )
             }
             AreasHint::NoOrder { table, place } => {
                 let number = place.saturating_add(1);

@@ -156,6 +156,7 @@ impl LeftOut {
                 "ON and what follows errors are left out, since a run has no errors; take the line away"
             }
             LeftOut::ReleaseAll => "RELEASE ALL is left out; name the variables",
+            LeftOut::PrivateAll => "PRIVATE ALL is left out; name the variables",
             LeftOut::ToMaster =>
                 "RETURN TO MASTER is left out; use RETURN in each procedure, or QUIT",
             LeftOut::Relation => {
@@ -164,6 +165,20 @@ impl LeftOut {
             LeftOut::OpenIndexes => {
                 "SET INDEX and CLOSE INDEX are left out; USE the table again with the indexes wanted"
             }
+            LeftOut::Closing =>
+                "CLOSE ALL and CLOSE DATABASES close all tables, and USE alone closes one; nothing else is open",
+            LeftOut::Formats => "format files are left out; write their @ lines before READ",
+            LeftOut::Unique => "an index lists all records; SEEK a key before APPEND BLANK",
+            LeftOut::Carry => {
+                "SET CARRY is left out; set variables before APPEND BLANK, and REPLACE the fields with them"
+            }
+            LeftOut::Paths => "all files stand in the current folder; take the line away",
+            LeftOut::ReadSave =>
+                "READ ends its GETs; write the @ .. GET lines again before the next READ",
+            LeftOut::Locks => {
+                "locks are left out, since a run is alone with its tables; take the word or the line away"
+            }
+            LeftOut::Prompt => "HELP and ASSIST are for a person at a prompt; take the line away",
             LeftOut::Decimals =>
                 "decimals can't be set; use ROUND() or STR() with as many as wanted",
             LeftOut::DateForm => "dates are MM/DD/YY; SET CENTURY ON shows MM/DD/YYYY",
@@ -190,6 +205,16 @@ impl LeftOut {
             LeftOut::Type =>
                 "TYPE() is left out; the kind of each variable is known when it is compiled",
             LeftOut::Transform => "TRANSFORM() is left out; use STR() and texts joined by +",
+            LeftOut::Keys =>
+                "single keys and function keys are left out; use WAIT or ACCEPT, which take a line",
+            LeftOut::Cursor => {
+                "where the cursor stands can't be asked; keep the row and the column in variables"
+            }
+            LeftOut::Machine =>
+                "a run knows nothing of the machine and of other files; take the test away",
+            LeftOut::Made => {
+                "how a table is made can't be asked; write its name, fields and indexes out"
+            }
             LeftOut::Time => "TIME() is left out; a run knows the day alone, by DATE()",
             LeftOut::Powers => "powers, SQRT(), EXP() and LOG() are left out; multiply in DO WHILE",
             LeftOut::OtherArea =>

@@ -35,22 +35,40 @@ pub enum LeftOut {
     Texts,
     /// EJECT, SET PRINT, SET DEVICE and the like.
     Printer,
-    /// RUN, CALL, LOAD, DIR, ERASE and RENAME.
+    /// RUN, CALL, LOAD, DIR, ERASE, RENAME, TYPE, IMPORT, EXPORT and their kin.
     Others,
     /// PUBLIC.
     Public,
     /// DECLARE and DIMENSION.
     Arrays,
-    /// ON, RETRY, SUSPEND and RESUME.
+    /// ON, RETRY, SUSPEND and RESUME, ERROR() and MESSAGE().
     On,
     /// RELEASE ALL.
     ReleaseAll,
+    /// PRIVATE ALL.
+    PrivateAll,
     /// RETURN TO MASTER.
     ToMaster,
     /// SET RELATION.
     Relation,
     /// SET INDEX and CLOSE INDEX.
     OpenIndexes,
+    /// CLOSE PROCEDURE.
+    Closing,
+    /// SET FORMAT and CLOSE FORMAT.
+    Formats,
+    /// UNIQUE, as a setting and behind INDEX ON.
+    Unique,
+    /// SET CARRY.
+    Carry,
+    /// SET DEFAULT and SET PATH.
+    Paths,
+    /// READ SAVE.
+    ReadSave,
+    /// Locks and what is shared.
+    Locks,
+    /// HELP and ASSIST.
+    Prompt,
     /// SET DECIMALS and SET FIXED.
     Decimals,
     /// SET DATE.
@@ -75,6 +93,14 @@ pub enum LeftOut {
     Type,
     /// TRANSFORM().
     Transform,
+    /// INKEY() and its kin, and SET FUNCTION.
+    Keys,
+    /// ROW(), COL(), PROW() and PCOL().
+    Cursor,
+    /// FILE(), OS() and their kin.
+    Machine,
+    /// DBF(), NDX(), FIELD() and their kin.
+    Made,
     /// TIME().
     Time,
     /// SQRT(), EXP(), LOG() and powers.
@@ -245,6 +271,34 @@ fn of_variables(word: &[u8]) -> Option<LeftOut>
     None
 }
 
+/// Commands of a prompt, of other files, and of locks.
+fn of_prompts(word: &[u8]) -> Option<LeftOut>
+    ensures { result ≡ spec.first_named spec.prompts (map to_ascii_uppercase word.now) }
+{
+    if is_word(word, b"HELP") {
+        return Some(LeftOut::Prompt);
+    }
+    if is_word(word, b"ASSIST") {
+        return Some(LeftOut::Prompt);
+    }
+    if is_word(word, b"TYPE") {
+        return Some(LeftOut::Others);
+    }
+    if is_word(word, b"IMPORT") {
+        return Some(LeftOut::Others);
+    }
+    if is_word(word, b"EXPORT") {
+        return Some(LeftOut::Others);
+    }
+    if is_word(word, b"UNLOCK") {
+        return Some(LeftOut::Locks);
+    }
+    if is_word(word, b"LOGOUT") {
+        return Some(LeftOut::Locks);
+    }
+    None
+}
+
 /// Commands that are there, but not in every form.
 fn of_other_forms(word: &[u8]) -> Option<LeftOut>
     ensures { result ≡ spec.first_named spec.other_forms (map to_ascii_uppercase word.now) }
@@ -258,10 +312,10 @@ fn of_other_forms(word: &[u8]) -> Option<LeftOut>
     None
 }
 
-/// What is left out where a line begins with this word.
-#[tactic(auto, unfolding(crate::specs::LeftOut::by_first))]
-pub(crate) fn by_first(word: &[u8]) -> Option<LeftOut>
-    ensures { result ≡ spec.by_first (map to_ascii_uppercase word.now) }
+/// What is left out where a line begins with this word, in every form.
+#[tactic(auto, unfolding(crate::specs::LeftOut::by_word))]
+pub(crate) fn by_word(word: &[u8]) -> Option<LeftOut>
+    ensures { result ≡ spec.by_word (map to_ascii_uppercase word.now) }
 {
     if let Some(found) = of_searches(word) {
         return Some(found);
@@ -279,6 +333,17 @@ pub(crate) fn by_first(word: &[u8]) -> Option<LeftOut>
         return Some(found);
     }
     if let Some(found) = of_variables(word) {
+        return Some(found);
+    }
+    of_prompts(word)
+}
+
+/// What is left out where a line begins with this word.
+#[tactic(auto, unfolding(crate::specs::LeftOut::by_first))]
+pub(crate) fn by_first(word: &[u8]) -> Option<LeftOut>
+    ensures { result ≡ spec.by_first (map to_ascii_uppercase word.now) }
+{
+    if let Some(found) = by_word(word) {
         return Some(found);
     }
     of_other_forms(word)
@@ -304,7 +369,10 @@ fn by_setting(word: &[u8]) -> Option<LeftOut>
     if is_setting(word) {
         return None;
     }
-    match of_set(word) {
+    if let Some(found) = of_set(word) {
+        return Some(found);
+    }
+    match of_more_settings(word) {
         Some(found) => Some(found),
         None => Some(LeftOut::OtherSet),
     }
@@ -341,6 +409,37 @@ fn of_set(word: &[u8]) -> Option<LeftOut>
     None
 }
 
+/// What SET has behind it of forms, folders, keys and locks.
+fn of_more_settings(word: &[u8]) -> Option<LeftOut>
+    ensures { result ≡ spec.first_named spec.more_settings (map to_ascii_uppercase word.now) }
+{
+    if is_word(word, b"FORMAT") {
+        return Some(LeftOut::Formats);
+    }
+    if is_word(word, b"UNIQUE") {
+        return Some(LeftOut::Unique);
+    }
+    if is_word(word, b"CARRY") {
+        return Some(LeftOut::Carry);
+    }
+    if is_word(word, b"CONSOLE") {
+        return Some(LeftOut::Printer);
+    }
+    if is_word(word, b"DEFAULT") {
+        return Some(LeftOut::Paths);
+    }
+    if is_word(word, b"PATH") {
+        return Some(LeftOut::Paths);
+    }
+    if is_word(word, b"FUNCTION") {
+        return Some(LeftOut::Keys);
+    }
+    if is_word(word, b"EXCLUSIVE") {
+        return Some(LeftOut::Locks);
+    }
+    None
+}
+
 /// What CLEAR has behind it.
 fn of_clear(word: &[u8]) -> Option<LeftOut>
     ensures { result ≡ spec.first_named spec.parts_to_clear (map to_ascii_uppercase word.now) }
@@ -354,6 +453,44 @@ fn of_clear(word: &[u8]) -> Option<LeftOut>
     if is_word(word, b"GETS") {
         return Some(LeftOut::ClearParts);
     }
+    if is_word(word, b"FIELDS") {
+        return Some(LeftOut::ClearParts);
+    }
+    if is_word(word, b"TYPEAHEAD") {
+        return Some(LeftOut::ClearParts);
+    }
+    None
+}
+
+/// What CLOSE has behind it.
+fn of_close(word: &[u8]) -> Option<LeftOut>
+    ensures { result ≡ spec.first_named spec.parts_to_close (map to_ascii_uppercase word.now) }
+{
+    if is_word(word, b"INDEX") {
+        return Some(LeftOut::OpenIndexes);
+    }
+    if is_word(word, b"ALTERNATE") {
+        return Some(LeftOut::Printer);
+    }
+    if is_word(word, b"FORMAT") {
+        return Some(LeftOut::Formats);
+    }
+    if is_word(word, b"PROCEDURE") {
+        return Some(LeftOut::Closing);
+    }
+    None
+}
+
+/// What RELEASE has behind it.
+fn of_release(word: &[u8]) -> Option<LeftOut>
+    ensures { result ≡ spec.first_named spec.parts_to_release (map to_ascii_uppercase word.now) }
+{
+    if is_word(word, b"ALL") {
+        return Some(LeftOut::ReleaseAll);
+    }
+    if is_word(word, b"MODULE") {
+        return Some(LeftOut::Others);
+    }
     None
 }
 
@@ -363,6 +500,32 @@ fn if_named(word: &[u8], whole: &[u8], found: LeftOut) -> Option<LeftOut>
 {
     if is_word(word, whole) {
         return Some(found);
+    }
+    None
+}
+
+/// What is left out where a line begins with these two words, of commands that are there in other forms.
+#[tactic(auto, unfolding(crate::specs::LeftOut::by_form))]
+fn by_form(first: &[u8], second: &[u8]) -> Option<LeftOut>
+    ensures { result ≡ spec.by_form (map to_ascii_uppercase first.now) (map to_ascii_uppercase second.now) }
+{
+    if is_word(first, b"RETURN") {
+        return if_named(second, b"TO", LeftOut::ToMaster);
+    }
+    if is_word(first, b"APPEND") {
+        return if_named(second, b"FROM", LeftOut::Copies);
+    }
+    if is_word(first, b"PRIVATE") {
+        return if_named(second, b"ALL", LeftOut::PrivateAll);
+    }
+    if is_word(first, b"READ") {
+        return if_named(second, b"SAVE", LeftOut::ReadSave);
+    }
+    if is_word(first, b"COPY") {
+        return if_named(second, b"FILE", LeftOut::Others);
+    }
+    if is_word(first, b"DELETE") {
+        return if_named(second, b"FILE", LeftOut::Others);
     }
     None
 }
@@ -379,18 +542,12 @@ pub(crate) fn by_two(first: &[u8], second: &[u8]) -> Option<LeftOut>
         return of_clear(second);
     }
     if is_word(first, b"CLOSE") {
-        return if_named(second, b"INDEX", LeftOut::OpenIndexes);
+        return of_close(second);
     }
     if is_word(first, b"RELEASE") {
-        return if_named(second, b"ALL", LeftOut::ReleaseAll);
+        return of_release(second);
     }
-    if is_word(first, b"RETURN") {
-        return if_named(second, b"TO", LeftOut::ToMaster);
-    }
-    if is_word(first, b"APPEND") {
-        return if_named(second, b"FROM", LeftOut::Copies);
-    }
-    None
+    by_form(first, second)
 }
 
 /// What a clause within a line asks for.
@@ -421,11 +578,17 @@ pub(crate) fn of_clause(word: &[u8]) -> Option<LeftOut>
     if is_word(word, b"RANGE") {
         return Some(LeftOut::Pictures);
     }
+    if is_word(word, b"UNIQUE") {
+        return Some(LeftOut::Unique);
+    }
+    if is_word(word, b"EXCLUSIVE") {
+        return Some(LeftOut::Locks);
+    }
     None
 }
 
-/// What a function asks for, whatever its arguments.
-pub(crate) fn of_function(word: &[u8]) -> Option<LeftOut>
+/// What a function of values asks for.
+fn of_values(word: &[u8]) -> Option<LeftOut>
     ensures { result ≡ spec.first_named spec.functions (map to_ascii_uppercase word.now) }
 {
     if is_word(word, b"TYPE") {
@@ -447,6 +610,126 @@ pub(crate) fn of_function(word: &[u8]) -> Option<LeftOut>
         return Some(LeftOut::Powers);
     }
     None
+}
+
+/// What a function of keys or of the screen asks for.
+fn of_keys(word: &[u8]) -> Option<LeftOut>
+    ensures { result ≡ spec.first_named spec.of_keys (map to_ascii_uppercase word.now) }
+{
+    if is_word(word, b"INKEY") {
+        return Some(LeftOut::Keys);
+    }
+    if is_word(word, b"READKEY") {
+        return Some(LeftOut::Keys);
+    }
+    if is_word(word, b"FKLABEL") {
+        return Some(LeftOut::Keys);
+    }
+    if is_word(word, b"FKMAX") {
+        return Some(LeftOut::Keys);
+    }
+    if is_word(word, b"ROW") {
+        return Some(LeftOut::Cursor);
+    }
+    if is_word(word, b"COL") {
+        return Some(LeftOut::Cursor);
+    }
+    if is_word(word, b"PROW") {
+        return Some(LeftOut::Cursor);
+    }
+    if is_word(word, b"PCOL") {
+        return Some(LeftOut::Cursor);
+    }
+    None
+}
+
+/// What a function of the machine asks for.
+fn of_machines(word: &[u8]) -> Option<LeftOut>
+    ensures { result ≡ spec.first_named spec.of_machines (map to_ascii_uppercase word.now) }
+{
+    if is_word(word, b"FILE") {
+        return Some(LeftOut::Machine);
+    }
+    if is_word(word, b"DISKSPACE") {
+        return Some(LeftOut::Machine);
+    }
+    if is_word(word, b"GETENV") {
+        return Some(LeftOut::Machine);
+    }
+    if is_word(word, b"OS") {
+        return Some(LeftOut::Machine);
+    }
+    if is_word(word, b"VERSION") {
+        return Some(LeftOut::Machine);
+    }
+    if is_word(word, b"ISCOLOR") {
+        return Some(LeftOut::Machine);
+    }
+    None
+}
+
+/// What a function of how tables are made asks for.
+fn of_structures(word: &[u8]) -> Option<LeftOut>
+    ensures { result ≡ spec.first_named spec.of_structures (map to_ascii_uppercase word.now) }
+{
+    if is_word(word, b"DBF") {
+        return Some(LeftOut::Made);
+    }
+    if is_word(word, b"NDX") {
+        return Some(LeftOut::Made);
+    }
+    if is_word(word, b"FIELD") {
+        return Some(LeftOut::Made);
+    }
+    if is_word(word, b"LUPDATE") {
+        return Some(LeftOut::Made);
+    }
+    if is_word(word, b"RECSIZE") {
+        return Some(LeftOut::Made);
+    }
+    None
+}
+
+/// What a function of errors or locks asks for.
+fn of_errors(word: &[u8]) -> Option<LeftOut>
+    ensures { result ≡ spec.first_named spec.of_errors (map to_ascii_uppercase word.now) }
+{
+    if is_word(word, b"ERROR") {
+        return Some(LeftOut::On);
+    }
+    if is_word(word, b"MESSAGE") {
+        return Some(LeftOut::On);
+    }
+    if is_word(word, b"FLOCK") {
+        return Some(LeftOut::Locks);
+    }
+    if is_word(word, b"LOCK") {
+        return Some(LeftOut::Locks);
+    }
+    if is_word(word, b"RLOCK") {
+        return Some(LeftOut::Locks);
+    }
+    None
+}
+
+/// What a function asks for, whatever its arguments.
+#[tactic(auto, unfolding(crate::specs::LeftOut::by_function))]
+pub(crate) fn of_function(word: &[u8]) -> Option<LeftOut>
+    ensures { result ≡ spec.by_function (map to_ascii_uppercase word.now) }
+{
+    if let Some(found) = of_values(word) {
+        return Some(found);
+    }
+    if let Some(found) = of_keys(word) {
+        return Some(found);
+    }
+    if let Some(found) = of_machines(word) {
+        return Some(found);
+    }
+    if let Some(found) = of_structures(word) {
+        return Some(found);
+    }
+    of_errors(word)
 }
 
 /// What a function that takes nothing here asks for where it has an argument.

@@ -11,5 +11,5 @@ mod tables;
 pub use areas::{AreasHint, Chosen, of_areas};
 pub use kinds::{of_command, of_declaration, of_table_note};
 pub use left_out::LeftOut;
-pub use line::of_line;
+pub use line::{of_compiled_line, of_line};
 pub use tables::of_table_line;

@@ -5,9 +5,10 @@ ghost use Rattle.std.specs.Char.{to_ascii_uppercase};
 ghost use Rattle.prg_expr.specs.Word.{word_of, words as words_of};
 ghost use Rattle.hints.specs.LeftOut as spec;
 
-use crate::kinds::of_kind;
-use crate::left_out::{LeftOut, by_first, by_two, of_answer, of_clause, of_function};
-use prg_expr::{Operator, ParseFaultKind, Token, words};
+use crate::kinds::{of_command, of_kind};
+use crate::left_out::{LeftOut, by_first, by_two, by_word, of_answer, of_clause, of_function};
+use prg_code::CompileFaultKind;
+use prg_expr::{Operator, ParseFaultKind, Token, is_word, words};
 use std::alloc::Global;
 
 /// The first clause or alias among these words that is left out.
@@ -40,6 +41,20 @@ fn by_next(first: &[u8], rest: &[Token<'_>]) -> Option<LeftOut>
         Token::Name(second) => by_two(first, *second),
         _ => None,
     }
+}
+
+/// What a command is left out with by its first words alone.
+#[tactic(auto, unfolding(crate::specs::LeftOut::by_beginning))]
+fn by_beginning(words: &[Token<'_>]) -> Option<LeftOut>
+    ensures { result ≡ spec.by_beginning (words_of words.now) }
+{
+    let [Token::Name(first), rest @ ..] = words else {
+        return None;
+    };
+    if let Some(found) = by_next(*first, rest) {
+        return Some(found);
+    }
+    by_word(*first)
 }
 
 /// What a command asks for that begins with this word.
@@ -132,6 +147,10 @@ fn asked(alloc: Global, kind: ParseFaultKind, line: &[u8]) -> Option<LeftOut> {
         ParseFaultKind::Word => in_command(read.words.as_slice()),
         ParseFaultKind::Expression => in_expression(read.words.as_slice()),
         ParseFaultKind::Character if line.contains(&b'^') => Some(LeftOut::Powers),
+        ParseFaultKind::Character if line.trim_ascii_start().starts_with(b"!") => Some(
+            LeftOut::Others,
+        ),
+        ParseFaultKind::Character | ParseFaultKind::Text => by_beginning(read.words.as_slice()),
         _ => None,
     }
 }
@@ -142,5 +161,24 @@ pub fn of_line(alloc: Global, kind: ParseFaultKind, line: &[u8]) -> &'static str
     match asked(alloc, kind, line) {
         Some(found) => found.instead(),
         None => of_kind(kind),
+    }
+}
+
+/// Whether a line begins with SELECT.
+fn is_selection(alloc: Global, line: &[u8]) -> bool {
+    let Ok(read) = words(alloc, line) else {
+        return false;
+    };
+    match read.words.as_slice() {
+        [Token::Name(first), ..] => is_word(*first, b"SELECT"),
+        _ => false,
+    }
+}
+
+/// What to do about a line of a command file whose command can't be compiled, in one sentence without its point.
+pub fn of_compiled_line(alloc: Global, kind: CompileFaultKind, line: &[u8]) -> &'static str {
+    match kind {
+        CompileFaultKind::Name if is_selection(alloc, line) => LeftOut::SelectZero.instead(),
+        _ => of_command(kind),
     }
 }

@@ -1,8 +1,8 @@
 // Which files a code file must not overwrite.
 #![tactic(auto)]
 
-ghost use Rattle.std.specs.Prelude.{◌≡◌, ◌-◌, length, drop, position};
-ghost use Rattle.std.specs.Str.{str_eq_ignore_ascii_case};
+ghost use Rattle.std.specs.Prelude.{◌≡◌, ◌-◌, length, take, drop, position};
+ghost use Rattle.std.specs.Str.{bytes_eq, str_eq_ignore_ascii_case};
 ghost use Rattle.save_rules.specs.Overwriting as spec;
 
 /// What a code file would overwrite.
@@ -12,23 +12,14 @@ pub enum Overwritten {
     Declarations,
     /// The command file of this number, counted from 0.
     Source { file: usize },
+    /// What tells of a save that was cut off.
+    Save,
     /// A table, by its ending.
     Table,
     /// An index, by its ending.
     Index,
     /// Another command file, by its ending.
     Commands,
-}
-
-/// Whether a file of a name is overwritten where a code is written to a file.
-fn is_written(out: &[u8], name: &[u8]) -> bool
-    ensures { result ≡ spec.is_written out.now name.now }
-{
-    if name == out {
-        return true;
-    }
-    let (front, rest) = name.split_at(out.len().min(name.len()));
-    front == out && rest == b".new".as_slice()
 }
 
 /// The last four bytes of a name, or all of a shorter one.
@@ -69,27 +60,50 @@ fn by_ending(name: &str) -> Option<Overwritten>
     None
 }
 
-/// The first of these names whose file is overwritten where a code is written to a file.
-fn first_written(out: &[u8], names: &[&str]) -> Option<usize>
-    ensures { result ≡ position (λ name. spec.is_written out.now name.now) names.now }
+/// Whether a name begins with another one.
+fn begins_with(name: &[u8], front: &[u8]) -> bool
+    ensures { result ≡ bytes_eq (take (length front.now) name.now) front.now }
 {
-    names
-        .iter()
-        .position(|name| is_written(out, name.as_bytes()))
+    &name[..front.len().min(name.len())] == front
+}
+
+/// What a file of this name is, where the files that tell of a save have names that begin with `paper`.
+#[tactic(auto, unfolding(crate::specs::Overwriting::by_name))]
+fn by_name(name: &str, paper: &str) -> Option<Overwritten>
+    ensures { result ≡ spec.by_name name.now paper.now }
+{
+    if begins_with(name.as_bytes(), paper.as_bytes()) {
+        return Some(Overwritten::Save);
+    }
+    by_ending(name)
+}
+
+/// Whether two names are one.
+fn is_named(name: &[u8], other: &[u8]) -> bool
+    ensures { result ≡ bytes_eq name.now other.now }
+{
+    name == other
+}
+
+/// The first of these names that is that of the file to which a code is written.
+fn first_written(out: &[u8], names: &[&str]) -> Option<usize>
+    ensures { result ≡ position (λ name. bytes_eq name.now out.now) names.now }
+{
+    names.iter().position(|name| is_named(name.as_bytes(), out))
 }
 
 /// What a code file of this name would overwrite, if anything: the declaration file, a command file, or a file that its
-/// name tells of. A code is written under its name and `.new` first.
+/// name tells of. The files that tell of a save have names that begin with `paper`.
 #[tactic(auto, unfolding(crate::specs::Overwriting::overwritten_by))]
-pub fn overwritten_by(out: &str, decl: &str, sources: &[&str]) -> Option<Overwritten>
+pub fn overwritten_by(out: &str, decl: &str, sources: &[&str], paper: &str) -> Option<Overwritten>
     ensures { result ≡ spec.overwritten_by out.now decl.now
-        (position (λ name. spec.is_written out.now name.now) sources.now) }
+        (position (λ name. bytes_eq name.now out.now) sources.now) paper.now }
 {
-    if is_written(out.as_bytes(), decl.as_bytes()) {
+    if is_named(decl.as_bytes(), out.as_bytes()) {
         return Some(Overwritten::Declarations);
     }
     match first_written(out.as_bytes(), sources) {
         Some(file) => Some(Overwritten::Source { file }),
-        None => by_ending(out),
+        None => by_name(out, paper),
     }
 }

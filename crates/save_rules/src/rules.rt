@@ -8,6 +8,8 @@ ghost use Rattle.save_rules.specs.Rules as spec;
 /// What is known of a file that is to be replaced.
 #[derive(Clone, Copy, PartialEq, Eq, Debug)]
 pub struct Standing {
+    /// Whether it is a file, and no folder, device or pipe.
+    pub is_plain: bool,
     /// Its permission bits.
     pub mode: u32,
     pub owner: u32,
@@ -30,6 +32,8 @@ pub struct User<'a> {
 /// Why a file can't be replaced as it was.
 #[derive(Clone, Copy, PartialEq, Eq, Debug)]
 pub enum Harm {
+    /// It is a folder, a device or a pipe.
+    NoFile,
     /// Nobody may write it.
     NotWritable,
     /// It has further names, which would keep the old file.
@@ -59,6 +63,9 @@ fn may_give(user: &User<'_>, group: u32) -> bool
 pub fn harm_of(file: &Standing, user: &User<'_>, takes_over: bool) -> Option<Harm>
     ensures { result ≡ spec.harm_of file.now user.now takes_over }
 {
+    if !file.is_plain {
+        return Some(Harm::NoFile);
+    }
     if file.mode & 0o222 == 0 {
         return Some(Harm::NotWritable);
     }
