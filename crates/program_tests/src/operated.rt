@@ -131,6 +131,32 @@ fn why(alloc: Global, refusal: &OperateRefusal) -> Result<String, AllocError> {
     }
 }
 
+/// The rows of a conversation, and how it ended, rehearsed or not.
+fn carried_out(
+    alloc: Global,
+    files: &mut MemoryFiles<'_>,
+    job: &Job<'_>,
+    journal: &mut Kept,
+    script: &mut Script<'_>,
+    rehearsed: bool,
+) -> Result<(Vec<u8>, String), AllocError> {
+    if rehearsed {
+        return match rehearse_talk(alloc, files, job, journal, script) {
+            Ok(done) => {
+                let told = done.to_string(alloc)?;
+                Ok((done.rows, told))
+            }
+            Err(refusal) => Ok((Vec::new(alloc), why(alloc, &refusal)?)),
+        };
+    }
+    let done = operate_files(alloc, files, job, journal, script);
+    let told = match &done.result {
+        Ok(ended) => ended.to_string(alloc)?,
+        Err(refusal) => why(alloc, refusal)?,
+    };
+    Ok((done.rows, told))
+}
+
 /// Carries out the code of a case in conversation, or rehearses it.
 fn operated(
     alloc: Global,
@@ -161,22 +187,7 @@ fn operated(
         fails: typing.fails,
         seen: Vec::new(alloc),
     };
-    let (rows, told) = if rehearsed {
-        match rehearse_talk(alloc, files, &job, &mut journal, &mut script) {
-            Ok(done) => {
-                let told = done.to_string(alloc)?;
-                (done.rows, told)
-            }
-            Err(refusal) => (Vec::new(alloc), why(alloc, &refusal)?),
-        }
-    } else {
-        let done = operate_files(alloc, files, &job, &mut journal, &mut script);
-        let told = match &done.result {
-            Ok(ended) => ended.to_string(alloc)?,
-            Err(refusal) => why(alloc, refusal)?,
-        };
-        (done.rows, told)
-    };
+    let (rows, told) = carried_out(alloc, files, &job, &mut journal, &mut script, rehearsed)?;
     Ok(Some(Came {
         rows,
         told,
