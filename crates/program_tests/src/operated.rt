@@ -1,6 +1,8 @@
 // Conversations: an operator types the lines of a run while it goes on, and a journal keeps them.
 #![tactic(auto)]
 
+ghost use Rattle.std.specs.Prelude.{◌≡◌, false};
+
 use super::cases::{CODE, Case, compiled, entries, listing, printing};
 use super::stored::day_of;
 use super::tables::table;
@@ -139,7 +141,10 @@ fn carried_out(
     journal: &mut Kept,
     script: &mut Script<'_>,
     rehearsed: bool,
-) -> Result<(Vec<u8>, String), AllocError> {
+) -> Result<(Vec<u8>, String), AllocError>
+    requires untested { job.now.checked ≡ false }
+    requires held { journal.old.bytes.items ≡ job.now.input.now }
+{
     if rehearsed {
         return match rehearse_talk(alloc, files, job, journal, script) {
             Ok(done) => {
