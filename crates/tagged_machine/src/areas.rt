@@ -3,9 +3,10 @@
 ghost use Rattle.std.specs.Prelude.{◌≡◌, ◌≤◌, IfOk, length};
 ghost use Rattle.code_rules.specs.Places.{filter_desk};
 ghost use Rattle.run_steps.specs.World.{area_state, desk_of};
-ghost use Rattle.work_area.specs.Areas.{use_at};
+ghost use Rattle.tagged_machine.specs.Seen.{LeavesStore};
+ghost use Rattle.work_area.specs.Areas.{use_at, StoreState};
 
-use code_items::{AreaState, Desk, Items, OpenArea};
+use code_items::{AreaState, Desk, Instr, Items, OpenArea};
 use key_lists::KeyList;
 use std::alloc::{AllocError, Global};
 use std::marker::Model;
@@ -74,6 +75,18 @@ impl TenAreas {
             self.desk
                 .areas
                 .set(usize::from(number), area_seen(store, number + 1));
+        }
+    }
+
+    /// Shows the areas of a store behind an instruction, before which they were shown.
+    pub fn follow<K: KeyList>(&mut self, store: &Store<K>, instr: Instr)
+        requires ten { length store.now.areas ≡ 10 }
+        ensures { (before : StoreState) → self.old ≡ desk_of before → LeavesStore instr before store.now
+            → self.new ≡ desk_of store.now }
+    {
+        match instr {
+            Instr::Values(_) | Instr::Flow(_) | Instr::Screen(_) => {}
+            Instr::Areas(_) | Instr::Moves(_) | Instr::Records(_) => self.show(store),
         }
     }
 

@@ -1,13 +1,14 @@
 //! The faults of an instruction, tested in their order.
 
-ghost use Rattle.std.specs.Prelude.{◌≡◌, ◌<◌, length};
+ghost use Rattle.std.specs.Prelude.{◌≡◌, ◌<◌};
 ghost use Rattle.code_items.specs.Legal.{IsCode};
 ghost use Rattle.run_steps.specs.Faults.{fault_of};
+ghost use Rattle.run_steps.specs.World.{desk_of};
 ghost use Rattle.tagged_machine.specs.Seen.{world_of, state_seen, fault_seen};
 
 use crate::operands::{bad_field, is_high, is_short, loads_free, wrong_kind};
 use crate::places::{bad_jump, deep_call};
-use crate::scratch::{BlockScratch, Scratch};
+use crate::scratch::BlockScratch;
 use crate::soundness::bad_filter;
 use code_items::{Code, Desk, Instr};
 use code_rules::desks::{is_closed, opens_twice, order_fails};
@@ -59,25 +60,19 @@ fn first_fault<K: KeyList>(
 }
 
 /// The fault of an instruction in the world that the machine stands for, if it has one: the first in the order of the
-/// faults. It takes no memory.
+/// faults. The work areas are those of the machine's tables. It takes no memory.
 pub fn fault<K: KeyList>(
     code: &Code,
     machine: &Machine<Tagged, K>,
-    scratch: &mut Scratch,
+    desk: &Desk,
+    scratch: &mut BlockScratch,
     instr: Instr,
 ) -> Option<FaultKind>
     requires legal { IsCode code.now }
     requires place { machine.now.place < 65536 }
-    requires ten { length machine.now.env.store.areas ≡ 10 }
+    requires shown { desk.now ≡ desk_of machine.now.env.store }
     ensures { result ≡ fault_of code.now
         (world_of machine.now.place machine.now.returns machine.now.values machine.now.env) instr }
 {
-    scratch.areas.show(machine.env.store());
-    first_fault(
-        code,
-        machine,
-        scratch.areas.desk(),
-        &mut scratch.block,
-        instr,
-    )
+    first_fault(code, machine, desk, scratch, instr)
 }

@@ -47,9 +47,11 @@ fn run_on<K: KeyList>(
     faultless_worlds_go_on();
     steps_keep_the_shape();
     let mut steps = 0;
+    scratch.areas.show(machine.env.store());
     loop {
         let instr = *code.instructions.get(machine.place);
-        if let Some(kind) = fault(code, machine, scratch, instr) {
+        let desk = scratch.areas.desk();
+        if let Some(kind) = fault(code, machine, desk, &mut scratch.block, instr) {
             return Outcome {
                 end: End::Fault(kind, machine.place),
                 steps,
@@ -68,7 +70,10 @@ fn run_on<K: KeyList>(
             };
         }
         match execute(alloc, code, machine, instr, budget - steps) {
-            Ok(cost) => steps += cost,
+            Ok(cost) => {
+                steps += cost;
+                scratch.areas.follow(machine.env.store(), instr);
+            }
             Err(stop) => {
                 return Outcome {
                     end: stop.end(),

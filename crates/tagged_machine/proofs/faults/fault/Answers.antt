@@ -1,7 +1,6 @@
-use Rattle.std.proofs.Common.{◌∙◌, ap}
-use Rattle.run_steps.specs.World.{desk_of}
+use Rattle.std.proofs.Common.{◌∙◌}
 use Rattle.tagged_machine.proofs.Worlds.{fault_found}
 use Rattle.tagged_machine.proofs.faults.fault.Goals as goal
 
 pub returns : goal.returns
-returns g c = c.first_fault.ensures ∙ fault_found c.args.code.now c.args.machine.now.place c.args.machine.now.returns c.args.machine.now.values c.args.machine.now.env _ c.args.instr (c.desk.ensures ∙ c.show.ensures ∙ ap desk_of c.store.ensures)
+returns g c = c.first_fault.ensures ∙ fault_found c.args.code.now c.args.machine.now.place c.args.machine.now.returns c.args.machine.now.values c.args.machine.now.env _ c.args.instr c.requires.shown

@@ -1,18 +1,18 @@
-use Rattle.std.proofs.Common.{◌≡◌, ◌-◌, true, false, None, refl, sym, subst, arith}
-use Rattle.work_area.specs.Areas.{AreApart}
+use Rattle.std.proofs.Common.{◌≡◌, ◌-◌, true, false, None, length, refl, sym, ap, subst, ◌∙◌, arith}
+use Rattle.work_area.specs.Areas.{AreApart, StoreState}
 use Rattle.run_steps.specs.Shapes.{HasShape}
-use Rattle.run_steps.specs.World.{World}
+use Rattle.run_steps.specs.World.{World, EnvState, desk_of}
 use Rattle.run_steps.specs.Control.{finishes}
 use Rattle.run_steps.specs.Faults.{fault_of}
 use Rattle.run_values.specs.Standing.{IsTagged}
 use Rattle.run_steps.proofs.Runs.{ends_finished, ends_spent, stops_by, costs_some, found_there}
-use Rattle.tagged_machine.specs.Seen.{world_of}
+use Rattle.tagged_machine.specs.Seen.{world_of, LeavesStore}
 use Rattle.tagged_machine.proofs.Worlds.{stands}
-use Rattle.tagged_machine.proofs.Going.{ten_areas, no_fault_here, shape_kept, follows, ran, ran_to_fault, comes_on, stays}
+use Rattle.tagged_machine.proofs.Going.{ten_areas, no_fault_here, shape_kept, follows, leaves_store, ran, ran_to_fault, comes_on, stays}
 use Rattle.tagged_machine.proofs.running.run_on.Goals as goal
 
 pub loop-kind-init : goal.loop-kind-init
-loop-kind-init g c = record { comes = record { count = 0; reached = refl; cost_is = refl; shape = c.requires.shape; apart = c.requires.apart }; within = omega arith }
+loop-kind-init g c = record { comes = record { count = 0; reached = refl; cost_is = refl; shape = c.requires.shape; apart = c.requires.apart }; within = omega arith; shown = c.show.ensures ∙ ap desk_of c.store.ensures }
 
 pub get-instr-requires : goal.get-instr-requires
 get-instr-requires g c = let f = c.legal_codes.ensures c.args.code.now c.requires.legal in omega (arith, c.loop-kind.invariant.comes.shape.place, f.places)
@@ -20,8 +20,11 @@ get-instr-requires g c = let f = c.legal_codes.ensures c.args.code.now c.require
 pub fault-requires-clause-place : goal.fault-requires-clause-place
 fault-requires-clause-place g c = let f = c.legal_codes.ensures c.args.code.now c.requires.legal in omega (arith, c.loop-kind.invariant.comes.shape.place, f.places, f.instructions)
 
-pub fault-requires-clause-ten : goal.fault-requires-clause-ten
-fault-requires-clause-ten g c = ten_areas c.args.code.now _ c.loop-kind.invariant.comes.shape
+pub show-requires : goal.show-requires
+show-requires g c = subst (λ (s : StoreState). length s.areas ≡ 10) (sym c.store.ensures) (ten_areas c.args.code.now _ c.requires.shape)
+
+pub fault-requires-clause-shown : goal.fault-requires-clause-shown
+fault-requires-clause-shown g c = c.desk.ensures ∙ c.loop-kind.invariant.shown
 
 pub returns-in-Some-clause-ran : goal.returns-in-Some-clause-ran
 returns-in-Some-clause-ran g c =
@@ -135,6 +138,9 @@ loop-kind-preserved g c =
     record {
       comes = comes_on code old c.loop-kind.steps c.in-Ok.cost (c.args.budget - c.loop-kind.steps) m.place n.place m.returns n.returns m.values n.values m.env n.env i comes h on x kept;
       within = omega (arith, x.2, c.loop-kind.invariant.within);
+      shown = c.follow.ensures m.env.store c.loop-kind.invariant.shown
+          (subst (λ s. LeavesStore i m.env.store s) (sym (c.store-2.ensures ∙ ap (λ (e : EnvState). e.store) x.0.env_is))
+          (leaves_store code i w.values w.env)) ∙ ap desk_of c.store-2.ensures;
     }
 
 pub returns-in-Err-clause-ran : goal.returns-in-Err-clause-ran
