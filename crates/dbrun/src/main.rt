@@ -15,8 +15,8 @@ use crate::areas::tell_areas;
 use crate::operate::operate;
 use crate::screens::{is_new_name, rehearse_shown, run_shown};
 use crate::shown::{
-    Audience, FaultyLine, OutTold, Progress, UnwrittenTold, absent_file, faulty_line, hint_of,
-    letters_alone, line_among, line_at, line_of, lines_of, of_end, of_file, printable,
+    Audience, FaultyLine, NameTold, OutTold, Progress, UnwrittenTold, absent_file, faulty_line,
+    hint_of, letters_alone, line_among, line_at, line_of, lines_of, of_end, of_file, printable,
     why_hindered,
 };
 use clap::error::ErrorKind;
@@ -334,10 +334,10 @@ pub fn tell_unfinished(rt: &impl Runtime, unfinished: &UnfinishedSave) -> Status
             Status::Refused,
         ),
         UnfinishedSave::Changed { name } => (
-            eprintln!(rt; "refused {name} Changed"),
+            eprintln!(rt; "refused {} Changed", NameTold(name)),
             Status::Refused,
         ),
-        UnfinishedSave::Disk { name } => (eprintln!(rt; "disk {name}"), Status::Disk),
+        UnfinishedSave::Disk { name } => (eprintln!(rt; "disk {}", NameTold(name)), Status::Disk),
         UnfinishedSave::PaperDisk => (eprintln!(rt; "disk {}", paper_name()), Status::Disk),
         UnfinishedSave::Memory => (eprintln!(rt; "memory"), Status::Memory),
     };

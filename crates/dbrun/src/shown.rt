@@ -258,6 +258,19 @@ pub fn why_hindered(hindrance: Hindrance) -> &'static str {
     }
 }
 
+/// A name that a note of another program's may hold, as it is told: a question mark for what a terminal obeys.
+#[derive(Clone, Copy)]
+pub struct NameTold<'a>(pub &'a str);
+
+impl Display for NameTold<'_> {
+    fn fmt<W: Write>(&self, f: &mut Formatter<W>) -> fmt::Result {
+        for letter in self.0.chars() {
+            f.write_char(if letter.is_control() { '?' } else { letter })?;
+        }
+        Ok(())
+    }
+}
+
 /// Why a code file isn't written, as it is told.
 #[derive(Clone, Copy)]
 pub struct UnwrittenTold(pub Unreplaced);

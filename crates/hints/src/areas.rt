@@ -359,7 +359,8 @@ const OTHERWISE: &str = "with other tables, indexes, orders or filters, or close
 const ELSEWHERE: &str = "SELECT that one, or close it there by USE alone";
 
 /// What to look at where a letter names a work area.
-const FIELDS: &str = "look whether that table has the field, and whether the line's other names are set";
+const FIELDS: &str =
+    "look whether that table has the field, and whether the line's other names are set";
 
 /// How a work area comes by an order.
 const ORDERS: &str = "open indexes by USE .. INDEX or INDEX ON, and choose one by SET ORDER TO";
@@ -411,11 +412,7 @@ impl Display for AreasHint<'_> {
                 place,
             } => {
                 put_chosen(f, Chosen::Letter(*letter), *place)?;
-                write!(
-                    f,
-                    " ({}), since A to J are areas; {FIELDS}",
-                    Shown(table)
-                )
+                write!(f, " ({}), since A to J are areas; {FIELDS}", Shown(table))
             }
             AreasHint::NoOrder { table, place } => {
                 let number = place.saturating_add(1);
