@@ -142,7 +142,11 @@ fn of_part(fun: Fun, settings: Settings, values: &[Value]) -> Option<Value>
     ensures { IfSome result (λ value. value ≡ applied fun settings (by_kind values.now)) }
 {
     match values {
-        [Value::Text(text), Value::Number(first), Value::Number(second)] => {
+        [
+            Value::Text(text),
+            Value::Number(first),
+            Value::Number(second),
+        ] => {
             let arguments = Arguments {
                 numbers: &[*first, *second],
                 texts: slice::from_ref(text),
