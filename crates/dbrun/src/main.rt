@@ -30,7 +30,7 @@ use compile_commands::{
 };
 use file_access::{Files, ReadFault, read_in_turns, read_within};
 use file_commands::{
-    FILE_LIMIT, Refusal, Status, declares_tables, list_code, list_index, list_table, of_refusal,
+    FILE_LIMIT, Refusal, Status, list_code, list_index, list_table, of_refusal, read_code,
     verify_file,
 };
 use folder_files::{
@@ -189,7 +189,9 @@ fn show_uncompiled<R: Runtime<A = Global>>(
     if let Some(unreplaced) = unreplaced {
         let told = UnwrittenTold(unreplaced);
         let _ = eprintln!(rt; "  {told}.");
-    } else if absent_file(refusal, words).is_some_and(|name| stands_otherwise(rt, name)) {
+    } else if let Some(name) = absent_file(refusal, words)
+        && stands_otherwise(rt, name)
+    {
         let _ = eprintln!(rt;
             "  a file of this name stands in other letters; write it as it stands."
         );
@@ -525,7 +527,10 @@ fn finish_alone<R: Runtime<A = Global, File = File>>(rt: &R, no_lock: bool) -> O
 /// Whether a code is known to have no tables, so that its run saves nothing.
 fn has_no_tables<R: Runtime<A = Global>>(rt: &R, name: &str) -> bool {
     let mut files = Folder::new(rt, Nobody);
-    matches!(declares_tables(rt.alloc(), &mut files, name), Ok(false))
+    match read_code(rt.alloc(), &mut files, name) {
+        Ok(code) => code.declared.shape.tables.len() == 0,
+        Err(_) => false,
+    }
 }
 
 /// Carries out a run that saves, all of whose input is there. The folder is held for it alone, unless the code has no

@@ -1,5 +1,5 @@
 -- What the reading commands report of a file.
-use Rattle.std.specs.Prelude.{◌≡◌, ◌≤◌, ℕ, List, Bool, true, false, Option, Some, None, length, nat_lt}
+use Rattle.std.specs.Prelude.{◌≡◌, ◌≤◌, ℕ, List, Bool, true, false, Option, Some, None, length}
 use Rattle.code_items.specs.declared.code.Code.{Code}
 use Rattle.xcode.specs.CodeFile.{CodeText}
 use Rattle.code_rules.specs.Rules.{Accepted, FirstRefusal}
@@ -29,10 +29,6 @@ pub record HasCode (holds : Option (List ℕ) → Type 0) (sort : Code → Type 
 abbrev pub Judged : (Option (List ℕ) → Type 0) → Option RefusedRule → Type 0
 Judged holds None = HasCode holds Accepted
 Judged holds (Some refused) = HasCode holds (λ code. FirstRefusal code refused.rule refused.at)
-
--- the code in the file declares tables, or none
-abbrev pub DeclaresTables : (Option (List ℕ) → Type 0) → Bool → Type 0
-DeclaresTables holds some = HasCode holds (λ code. some ≡ nat_lt 0 (length code.declared.shape.tables))
 
 -- these are the lines of the code in the file
 pub record Listed (holds : Option (List ℕ) → Type 0) (lines : List ℕ) : Type 0 where

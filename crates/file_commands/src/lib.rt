@@ -14,7 +14,7 @@ mod status;
 mod table_listing;
 
 pub use crate::index_listing::list_index;
-pub use crate::listing::{declares_tables, list_code, verify_file};
+pub use crate::listing::{list_code, verify_file};
 pub use crate::reading::{FILE_LIMIT, read_code};
 pub use crate::refusal::{Fault, Refusal};
 pub use crate::status::{Status, of_refusal};

@@ -4,7 +4,7 @@
 ghost use Rattle.std.specs.Prelude.{◌≡◌, IfOk, IfErr};
 ghost use Rattle.file_access.specs.Holding.{SameFiles};
 ghost use Rattle.file_commands.specs.Refusals.{RefusalIs, CodeFileFault};
-ghost use Rattle.file_commands.specs.Reports.{DeclaresTables, Listed, Judged};
+ghost use Rattle.file_commands.specs.Reports.{Listed, Judged};
 
 use crate::reading::read_code;
 use crate::refusal::Refusal;
@@ -30,21 +30,6 @@ pub fn verify_file<'a, F: Files>(
         Err(VerifyError::Refused(refused)) => Ok(Some(refused)),
         Err(VerifyError::NoMemory) => Err(Refusal::Memory),
     }
-}
-
-/// Whether the code in a file declares a table.
-pub fn declares_tables<'a, F: Files>(
-    alloc: Global,
-    files: &mut F,
-    name: &'a str,
-) -> Result<bool, Refusal<'a>>
-    ensures declared { IfOk result (DeclaresTables (F.holds files.old name.now)) }
-    ensures refused { IfErr result (RefusalIs (CodeFileFault (F.holds files.old name.now)) (F.failed files.old)
-        (F.failed files.new) name.now) }
-    ensures kept { SameFiles (F.holds files.old) (F.holds files.new) }
-{
-    let code = read_code(alloc, files, name)?;
-    Ok(code.declared.shape.tables.len() > 0)
 }
 
 /// The listing of the code in a file, a line for each instruction.

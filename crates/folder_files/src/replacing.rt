@@ -19,8 +19,8 @@ pub enum Unreplaced {
     Unsynced,
 }
 
-/// Writes the new bytes of a file beside it, with the owner and the mode of what stands, and puts them in its place only
-/// when they are all there.
+/// Writes the new bytes of a file beside it, with the owner and the mode of what stands, and puts them in its place
+/// only when they are all there.
 fn put<R: Disk + Alloc<A = Global>>(rt: &R, target: &str, bytes: &[u8]) -> Result<(), Unreplaced> {
     let Ok(Some(beside)) = fresh_name(rt, target) else {
         return Err(Unreplaced::Unwritten);

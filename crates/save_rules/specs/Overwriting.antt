@@ -2,7 +2,8 @@
 use Rattle.std.specs.Prelude.{ℕ, Bool, ◌-◌, List, Option, Some, None, codes, length, take, drop, if◌then◌else◌}
 use Rattle.std.specs.Str.{bytes_eq, str_eq_ignore_ascii_case}
 use Rattle.save_rules.specs.declared.overwriting.Overwritten.{Overwritten}
-use Rattle.save_rules.specs.declared.overwriting.Overwritten.TheVariants.{Declarations, Source, Save, Table, Index, Commands}
+use Rattle.save_rules.specs.declared.overwriting.Overwritten.TheVariants.{Declarations, Source, Save, Table, Index}
+use Rattle.save_rules.specs.declared.overwriting.Overwritten.TheVariants.{Commands}
 
 -- whether a name ends with four bytes, in any case of letters
 abbrev pub ends_in : List ℕ → List ℕ → Bool

@@ -15,9 +15,9 @@ is_one_of group groups = list_any (λ other. other == group) groups
 abbrev pub may_give : User → ℕ → Bool
 may_give user group = user.group == group || is_one_of group user.groups.now
 
--- Why a file can't be replaced as it was: it is a folder, a device or a pipe, nobody may write it, it has further names, or another user's new file would
--- have to be given its owner or its group. A user who gives files away can give both, and one who takes files over asks
--- for neither.
+-- Why a file can't be replaced as it was: it is a folder, a device or a pipe, nobody may write it, it has further
+-- names, or another user's new file would have to be given its owner or its group. A user who gives files away can give
+-- both, and one who takes files over asks for neither.
 unfoldable pub harm_of : Standing → User → Bool → Option Harm
 harm_of file user takes_over =
     if not file.is_plain then Some NoFile else
