@@ -48,7 +48,8 @@ variables = (codes "PUBLIC", it.Public) ∷ (codes "DECLARE", it.Arrays) ∷ (co
 
 abbrev pub prompts : List NamedThing
 prompts = (codes "HELP", it.Prompt) ∷ (codes "ASSIST", it.Prompt) ∷ (codes "TYPE", it.Others)
-    ∷ (codes "IMPORT", it.Others) ∷ (codes "EXPORT", it.Others) ∷ (codes "UNLOCK", it.Locks) ∷ (codes "LOGOUT", it.Locks) ∷ []
+    ∷ (codes "IMPORT", it.Others) ∷ (codes "EXPORT", it.Others) ∷ (codes "UNLOCK", it.Locks)
+    ∷ (codes "LOGOUT", it.Locks) ∷ []
 
 -- commands that are there, but not in every form
 abbrev pub other_forms : List NamedThing
