@@ -80,7 +80,7 @@ impl TenAreas {
 
     /// Shows the areas of a store behind an instruction, before which they were shown.
     pub fn follow<K: KeyList>(&mut self, store: &Store<K>, instr: Instr)
-        requires ten { length store.now.areas ≡ 10 }
+        requires { length store.now.areas ≡ 10 }
         ensures { (before : StoreState) → self.old ≡ desk_of before → LeavesStore instr before store.now
             → self.new ≡ desk_of store.now }
     {

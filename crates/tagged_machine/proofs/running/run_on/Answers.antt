@@ -2,7 +2,7 @@ use Rattle.std.proofs.Common.{◌≡◌, ◌-◌, true, false, None, length, ref
 use Rattle.work_area.specs.Areas.{AreApart, StoreState}
 use Rattle.run_steps.specs.Shapes.{HasShape}
 use Rattle.run_steps.specs.World.{World, EnvState, desk_of}
-use Rattle.run_steps.specs.Control.{finishes}
+use Rattle.run_steps.specs.Control.{finishes, effect}
 use Rattle.run_steps.specs.Faults.{fault_of}
 use Rattle.run_values.specs.Standing.{IsTagged}
 use Rattle.run_steps.proofs.Runs.{ends_finished, ends_spent, stops_by, costs_some, found_there}
@@ -24,7 +24,7 @@ pub show-requires : goal.show-requires
 show-requires g c = subst (λ (s : StoreState). length s.areas ≡ 10) (sym c.store.ensures) (ten_areas c.args.code.now _ c.requires.shape)
 
 pub fault-requires-clause-shown : goal.fault-requires-clause-shown
-fault-requires-clause-shown g c = c.desk.ensures ∙ c.loop-kind.invariant.shown
+fault-requires-clause-shown g c = c.desk-desk.ensures ∙ c.loop-kind.invariant.shown
 
 pub returns-in-Some-clause-ran : goal.returns-in-Some-clause-ran
 returns-in-Some-clause-ran g c =
@@ -118,6 +118,24 @@ loop-kind-smaller g c =
     let some = costs_some code i w.values w.env in
     omega (arith, x.1, x.2, some, c.loop-kind.invariant.within)
 
+pub follow-requires : goal.follow-requires
+follow-requires g c =
+    let code = c.args.code.now in
+    let m = c.loop-kind.machine in
+    let i = c.get-instr.result.now in
+    let comes = c.loop-kind.invariant.comes in
+    let found = found_there code m.place i c.get-instr.ensures in
+    let w = world_of m.place m.returns m.values m.env in
+    let none : fault_of code w i ≡ None = sym c.in_default.ensures in
+    let h = no_fault_here c.faultless_worlds_go_on.ensures code w i c.requires.legal comes.shape found none in
+    let on : finishes w i ≡ false = sym c.if-finishes.ensures in
+    let x = c.in-Ok.ensures w (stands m.place m.returns m.values m.env) (h.ready on) in
+    let facts = c.legal_codes.ensures code c.requires.legal in
+    let kept = shape_kept c.faultless_instructions_are_clear.ensures.clear c.steps_keep_the_shape.ensures code w i
+    c.requires.legal facts comes.shape comes.apart found none on in
+    subst (λ (s : StoreState). length s.areas ≡ 10)
+    (sym (c.store-in-Ok.ensures ∙ ap (λ (e : EnvState). e.store) x.0.env_is)) (ten_areas code (effect code w i) kept.0)
+
 pub loop-kind-preserved : goal.loop-kind-preserved
 loop-kind-preserved g c =
     let code = c.args.code.now in
@@ -139,8 +157,8 @@ loop-kind-preserved g c =
       comes = comes_on code old c.loop-kind.steps c.in-Ok.cost (c.args.budget - c.loop-kind.steps) m.place n.place m.returns n.returns m.values n.values m.env n.env i comes h on x kept;
       within = omega (arith, x.2, c.loop-kind.invariant.within);
       shown = c.follow.ensures m.env.store c.loop-kind.invariant.shown
-          (subst (λ s. LeavesStore i m.env.store s) (sym (c.store-2.ensures ∙ ap (λ (e : EnvState). e.store) x.0.env_is))
-          (leaves_store code i w.values w.env)) ∙ ap desk_of c.store-2.ensures;
+          (subst (λ s. LeavesStore i m.env.store s) (sym (c.store-in-Ok.ensures ∙ ap (λ (e : EnvState). e.store) x.0.env_is))
+          (leaves_store code i w.values w.env)) ∙ ap desk_of c.store-in-Ok.ensures;
     }
 
 pub returns-in-Err-clause-ran : goal.returns-in-Err-clause-ran
