@@ -1,6 +1,6 @@
 //! Changes of a table together with its declared indexes.
 
-ghost use Rattle.std.specs.Prelude.{◌≡◌, ℕ, ◌+◌, ◌<◌, ◌≤◌, ◌∷◌, [], ◌++◌, All, OnOk, OnErr, length, map, slice_index};
+ghost use Rattle.std.specs.Prelude.{◌≡◌, ℕ, ◌+◌, ◌<◌, ◌≤◌, ◌∷◌, [], ◌++◌, All, OnOk, OnErr, length, map, slice_index, take};
 ghost use Rattle.dbf_file.specs.Rows.{blank_row, text_at, unmarked, with_text};
 ghost use Rattle.dbf_file.specs.Tables.{row_widths, letter_at, decimals_at};
 ghost use Rattle.dbf_file.specs.Values.{kind_for, text_by};
@@ -10,7 +10,6 @@ ghost use Rattle.xvalue.specs.Kinds.{kind_of};
 
 use crate::slot::Slot;
 use crate::slots::{add_all, commit_all, follow_all, leave_all, make_all, reserve_all};
-use arrayvec::ArrayVec;
 use dbf_file::Table;
 use key_lists::KeyList;
 use row_keys::Kept;
@@ -71,24 +70,26 @@ pub(crate) fn replace<K: KeyList>(
     index_lists();
     reserve_all(slots, list)?;
     leave_all(slots, list);
-    let before = text_of(table, r, f);
+    let mut room = [0; 255];
+    let before = text_of(table, r, f, &mut room);
     table.put_at(r, f, from);
-    follow_all(slots, table, r, f, before.as_slice());
+    follow_all(slots, table, r, f, &room[..before]);
     Ok(())
 }
 
-/// The text of field `f` of row `r`, both counted from 0.
-fn text_of(table: &Table, r: usize, f: usize) -> ArrayVec<u8, 255>
+/// Copies the text of field `f` of row `r`, both counted from 0, to the front of a room, and answers how long it is.
+fn text_of(table: &Table, r: usize, f: usize, room: &mut [u8]) -> usize
     requires row { r < length table.now.rows }
     requires field { f < length table.now.structure.fields }
-    ensures text { result.items ≡ text_at table.now.rows r f }
-    ensures width { length result.items ≡ slice_index (row_widths table.now.structure) f }
+    requires room { length room.old ≡ 255 }
+    ensures text { take result room.new ≡ text_at table.now.rows r f }
+    ensures width { result ≡ slice_index (row_widths table.now.structure) f }
+    ensures within { result ≤ 255 }
 {
-    let mut copy = ArrayVec::new();
     let width = usize::from(table.structure().fields()[f].width);
-    copy.try_extend_from_slice(&table.field(r, f)[..width])
-        .unwrap();
-    copy
+    let (front, _) = room.split_at_mut(width);
+    front.copy_from_slice(&table.field(r, f)[..width]);
+    width
 }
 
 /// Makes these indexes anew, or those of them that are stale; no row changes, and no other index. Where memory is

@@ -1,11 +1,12 @@
 //! The row that a test of rows is asked for.
 
-ghost use Rattle.std.specs.Prelude.{◌≡◌, ◌<◌, length, slice_index_or, []};
+ghost use Rattle.std.specs.Prelude.{◌≡◌, ◌<◌, ◌≤◌, IfSome, length, slice_index_or, take, []};
 ghost use Rattle.dbf_file.specs.Rows.{row_at};
 ghost use Rattle.dbf_file.specs.Tables.{letter_at, decimals_at};
 ghost use Rattle.dbf_file.specs.Values.{value_by};
+ghost use Rattle.xvalue.specs.declared.value.Value.TheVariants.{Text};
 
-use dbf_file::Table;
+use dbf_file::{Letter, Table};
 use std::marker::Model;
 use xvalue::Value;
 
@@ -91,4 +92,26 @@ impl<'a> Row<'a> {
     {
         self.table.value_at(self.place, f)
     }
+
+    /// The bytes of the text that field `f`, counted from 0, has; none of a field of other values.
+    pub fn text(&self, f: usize) -> Option<&[u8]>
+        requires { f < length self.now.structure.fields }
+        ensures same { IfSome result (λ bytes. value_by (letter_at self.now.structure f)
+            (decimals_at self.now.structure f) (slice_index_or self.now.row.texts f [])
+            ≡ Text (record { items = bytes.now })) }
+        ensures short { IfSome result (λ bytes. length bytes.now ≤ 254) }
+    {
+        match self.table.structure().fields()[f].letter {
+            Letter::C => Some(first_bytes(self.table.field(self.place, f))),
+            _ => None,
+        }
+    }
+}
+
+/// The first bytes, as many as a text value may have.
+fn first_bytes(text: &[u8]) -> &[u8]
+    ensures same { result.now ≡ take 254 text.now }
+    ensures short { length result.now ≤ 254 }
+{
+    &text[..text.len().min(254)]
 }

@@ -6,6 +6,7 @@ mod environment;
 mod fault;
 mod filtering;
 mod forms;
+mod lent_blocks;
 mod machine;
 mod on_areas;
 mod on_moves;

@@ -4,3 +4,4 @@ pub mod Scratch
 pub mod Standing
 pub mod Tagged
 pub mod TextPile
+pub mod Lent

@@ -6,26 +6,57 @@ ghost use Rattle.xvalue.specs.declared.value.Value.TheVariants.{Number as IsNumb
 ghost use Rattle.xvalue.specs.declared.value.Value.TheVariants.{Date as IsDate, Logical as IsLogical};
 ghost use Rattle.xvalue.specs.Functions.{applied};
 ghost use Rattle.xvalue.specs.Given.{by_kind};
+ghost use Rattle.run_values.specs.Scratch.{worked_value};
 
+use crate::lent::Lent;
 use calendar::Day;
 use fixed_num::Num;
 use std::slice;
 use xvalue::apply::{apply, number_of_two, truth_of_two};
-use xvalue::{Arguments, Fun, Gathered, Settings, Text, Value, eq_text, less_text};
+use xvalue::{Arguments, Fun, Gathered, Kind, Settings, Text, Value, eq_text, less_text};
+
+/// What a function gives that is no text.
+#[derive(Clone, Copy)]
+pub(crate) enum Worked {
+    Number(Num),
+    Truth(bool),
+}
+
+impl Worked {
+    /// As a value.
+    fn value(self) -> Value
+        ensures { result ≡ worked_value self }
+    {
+        match self {
+            Worked::Number(number) => Value::Number(number),
+            Worked::Truth(truth) => Value::Logical(truth),
+        }
+    }
+
+    /// As a value that is lent.
+    pub(crate) fn lent<'a>(self) -> Lent<'a>
+        ensures { result ≡ worked_value self }
+    {
+        match self {
+            Worked::Number(number) => Lent::of_number(number),
+            Worked::Truth(truth) => Lent::of_truth(truth),
+        }
+    }
+}
 
 /// What a function of two numbers gives; none where it is one of other arguments.
-fn of_numbers(fun: Fun, first: Num, second: Num) -> Option<Value>
-    ensures { (settings : AnySettings)
-        → IfSome result (λ value. value ≡ applied fun settings (by_kind (IsNumber first ∷ IsNumber second ∷ []))) }
+fn of_numbers(fun: Fun, first: Num, second: Num) -> Option<Worked>
+    ensures { (settings : AnySettings) → IfSome result (λ worked. worked_value worked
+        ≡ applied fun settings (by_kind (IsNumber first ∷ IsNumber second ∷ []))) }
 {
     use Fun::*;
 
     match fun {
         Add | Sub | Mul | Div | Mod | Round | Max | Min => {
-            Some(Value::Number(number_of_two(fun, first, second)))
+            Some(Worked::Number(number_of_two(fun, first, second)))
         }
         NumberEq | NumberLess | NumberGreater => {
-            Some(Value::Logical(truth_of_two(fun, &first, &second)))
+            Some(Worked::Truth(truth_of_two(fun, &first, &second)))
         }
         _ => None,
     }
@@ -33,42 +64,79 @@ fn of_numbers(fun: Fun, first: Num, second: Num) -> Option<Value>
 
 /// What a function gives that compares two texts; none where it is another one.
 #[tactic(auto, unfolding(xvalue::specs::Functions::applied))]
-fn of_texts(fun: Fun, settings: Settings, first: &Text, second: &Text) -> Option<Value>
-    ensures { IfSome result (λ value. value
-        ≡ applied fun settings (by_kind (IsText first.now ∷ IsText second.now ∷ []))) }
+fn of_texts(fun: Fun, settings: Settings, first: &[u8], second: &[u8]) -> Option<Worked>
+    ensures { IfSome result (λ worked. worked_value worked ≡ applied fun settings (by_kind
+        (IsText (record { items = first.now }) ∷ IsText (record { items = second.now }) ∷ []))) }
 {
-    let (first, second) = (first.as_slice(), second.as_slice());
     match fun {
-        Fun::TextEq => Some(Value::Logical(eq_text(first, second, settings.exact))),
-        Fun::TextLess => Some(Value::Logical(less_text(first, second))),
-        Fun::TextGreater => Some(Value::Logical(less_text(second, first))),
+        Fun::TextEq => Some(Worked::Truth(eq_text(first, second, settings.exact))),
+        Fun::TextLess => Some(Worked::Truth(less_text(first, second))),
+        Fun::TextGreater => Some(Worked::Truth(less_text(second, first))),
         _ => None,
     }
 }
 
 /// What a function gives that compares two dates; none where it is another one.
 #[tactic(auto, unfolding(xvalue::specs::Functions::applied))]
-fn of_dates(fun: Fun, first: Day, second: Day) -> Option<Value>
-    ensures { (settings : AnySettings)
-        → IfSome result (λ value. value ≡ applied fun settings (by_kind (IsDate first ∷ IsDate second ∷ []))) }
+fn of_dates(fun: Fun, first: Day, second: Day) -> Option<Worked>
+    ensures { (settings : AnySettings) → IfSome result (λ worked. worked_value worked
+        ≡ applied fun settings (by_kind (IsDate first ∷ IsDate second ∷ []))) }
 {
     match fun {
-        Fun::DateEq => Some(Value::Logical(first.is(second))),
-        Fun::DateLess => Some(Value::Logical(first.is_before(second))),
-        Fun::DateGreater => Some(Value::Logical(second.is_before(first))),
+        Fun::DateEq => Some(Worked::Truth(first.is(second))),
+        Fun::DateLess => Some(Worked::Truth(first.is_before(second))),
+        Fun::DateGreater => Some(Worked::Truth(second.is_before(first))),
         _ => None,
     }
 }
 
-/// What AND or OR gives of two truth values; none where it is another function.
+/// What a function gives of two truth values; none where it is one of other arguments.
 #[tactic(auto, unfolding(xvalue::specs::Functions::applied))]
-fn of_truths(fun: Fun, first: bool, second: bool) -> Option<Value>
-    ensures { (settings : AnySettings)
-        → IfSome result (λ value. value ≡ applied fun settings (by_kind (IsLogical first ∷ IsLogical second ∷ []))) }
+fn of_truths(fun: Fun, first: bool, second: bool) -> Option<Worked>
+    ensures { (settings : AnySettings) → IfSome result (λ worked. worked_value worked
+        ≡ applied fun settings (by_kind (IsLogical first ∷ IsLogical second ∷ []))) }
 {
     match fun {
-        Fun::And => Some(Value::Logical(first && second)),
-        Fun::Or => Some(Value::Logical(first || second)),
+        Fun::And => Some(Worked::Truth(first && second)),
+        Fun::Or => Some(Worked::Truth(first || second)),
+        _ => None,
+    }
+}
+
+/// What a function gives of two values of a kind, where that is no text; none of others.
+fn of_two(fun: Fun, settings: Settings, first: &Lent<'_>, second: &Lent<'_>) -> Option<Worked>
+    ensures { IfSome result (λ worked. worked_value worked
+        ≡ applied fun settings (by_kind (first.now ∷ second.now ∷ []))) }
+{
+    match (first.kind(), second.kind()) {
+        (Kind::Number, Kind::Number) => of_numbers(fun, first.number(), second.number()),
+        (Kind::Text, Kind::Text) => of_texts(fun, settings, first.text(), second.text()),
+        (Kind::Date, Kind::Date) => of_dates(fun, first.day(), second.day()),
+        (Kind::Logical, Kind::Logical) => of_truths(fun, first.truth(), second.truth()),
+        _ => None,
+    }
+}
+
+/// NOT of a truth value that is lent; none of another function or value.
+#[tactic(auto, unfolding(xvalue::specs::Functions::applied))]
+fn not_of(fun: Fun, value: &Lent<'_>) -> Option<Worked>
+    ensures { (settings : AnySettings) → IfSome result (λ worked. worked_value worked
+        ≡ applied fun settings (by_kind (value.now ∷ []))) }
+{
+    match (fun, value.kind()) {
+        (Fun::Not, Kind::Logical) => Some(Worked::Truth(!value.truth())),
+        _ => None,
+    }
+}
+
+/// What a function gives of values that are lent, where that is soon worked out; none where it isn't. It takes no
+/// memory.
+pub(crate) fn worked_out(fun: Fun, settings: Settings, values: &[Lent<'_>]) -> Option<Worked>
+    ensures { IfSome result (λ worked. worked_value worked ≡ applied fun settings (by_kind values.now)) }
+{
+    match values {
+        [value] => not_of(fun, value),
+        [first, second] => of_two(fun, settings, first, second),
         _ => None,
     }
 }
@@ -103,11 +171,10 @@ fn of_date_and_number(fun: Fun, settings: Settings, date: &Day, number: &Num) ->
 fn of_pair(fun: Fun, settings: Settings, first: &Value, second: &Value) -> Option<Value>
     ensures { IfSome result (λ value. value ≡ applied fun settings (by_kind (first.now ∷ second.now ∷ []))) }
 {
+    if let Some(worked) = of_two(fun, settings, &Lent::of(first), &Lent::of(second)) {
+        return Some(worked.value());
+    }
     match (first, second) {
-        (Value::Number(first), Value::Number(second)) => of_numbers(fun, *first, *second),
-        (Value::Text(first), Value::Text(second)) => of_texts(fun, settings, first, second),
-        (Value::Date(first), Value::Date(second)) => of_dates(fun, *first, *second),
-        (Value::Logical(first), Value::Logical(second)) => of_truths(fun, *first, *second),
         (Value::Text(text), Value::Number(number)) => {
             Some(of_text_and_number(fun, settings, text, number))
         }

@@ -6,6 +6,8 @@
 
 mod calling;
 mod cells;
+mod lent;
+mod lent_scratch;
 mod pile;
 mod scratch;
 mod slots;
@@ -16,6 +18,8 @@ mod untagged;
 mod values;
 
 pub use cells::{Cell, Cells};
+pub use lent::Lent;
+pub use lent_scratch::LentScratch;
 pub use pile::{Pile, STACK_LIMIT};
 pub use scratch::Scratch;
 pub use slots::Slots;

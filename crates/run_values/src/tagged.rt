@@ -6,6 +6,7 @@ ghost use Rattle.run_values.specs.Standing.{IsTagged};
 ghost use Rattle.run_values.specs.Tagged.{TaggedValues};
 
 use crate::calling::result_of;
+use crate::lent::Lent;
 use crate::pile::Pile;
 use crate::slots::Slots;
 use crate::values::Values;
@@ -32,13 +33,13 @@ impl Tagged {
         })
     }
 
-    /// The same value as that in the slot, which is set.
-    fn copied(&self, slot: usize) -> Value
+    /// The value in the slot, which is set.
+    fn held(&self, slot: usize) -> &Value
         requires { (value : AnyValue) × (slice_get self.now.slots slot ≡ Some (Some value)) }
-        ensures { slice_get self.now.slots slot ≡ Some (Some result) }
+        ensures { slice_get self.now.slots slot ≡ Some (Some result.now) }
     {
         match self.slots.get(slot) {
-            Some(value) => value.copied(),
+            Some(value) => value,
             None => unreachable!(),
         }
     }
@@ -70,8 +71,8 @@ impl Values for Tagged {
         self.stack.drop_top(1);
     }
 
-    fn value(&self, _kind: Kind, slot: usize) -> Value {
-        self.copied(slot)
+    fn value(&self, _kind: Kind, slot: usize) -> Lent<'_> {
+        Lent::of(self.held(slot))
     }
 
     fn number(&self, slot: usize) -> &Num {
@@ -86,7 +87,7 @@ impl Values for Tagged {
     }
 
     fn load(&mut self, _kind: Kind, slot: usize) {
-        let value = self.copied(slot);
+        let value = self.held(slot).copied();
         self.stack.push(value);
     }
 

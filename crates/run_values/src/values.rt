@@ -6,6 +6,7 @@ ghost use Rattle.xvalue.specs.declared.value.Value.TheVariants.{Number as IsNumb
 ghost use Rattle.run_values.specs.Tagged.{TaggedValues, HasOnTop, HasArguments, HoldsKind, pushed, dropped, with_slot};
 ghost use Rattle.run_values.specs.Tagged.{loaded, stored, called};
 
+use crate::lent::Lent;
 use fixed_num::Num;
 use xvalue::{Fun, Kind, Settings, Value};
 
@@ -42,8 +43,8 @@ pub trait Values: Drop {
         ensures { (t : TaggedValues) → stands self.old t → HasOnTop (kind ∷ []) t.stack
             → stands self.new (dropped 1 t) };
 
-    /// What the slot holds, which is of this kind, once more.
-    fn value(&self, kind: Kind, slot: usize) -> Value
+    /// What the slot holds, which is of this kind, lent from there.
+    fn value(&self, kind: Kind, slot: usize) -> Lent<'_>
         requires { (t : TaggedValues) × (stands self.now t × HoldsKind kind (slice_get t.slots slot)) }
         ensures { (t : TaggedValues) → stands self.now t → HoldsKind kind (slice_get t.slots slot)
             → slice_get t.slots slot ≡ Some (Some result) };

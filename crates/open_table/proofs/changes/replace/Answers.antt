@@ -1,4 +1,4 @@
-use Rattle.std.proofs.Common.{◌≡◌, List, set, sym, ap, ◌∙◌, subst}
+use Rattle.std.proofs.Common.{◌≡◌, List, set, take, sym, ap, ◌∙◌, subst}
 use Rattle.std.specs.List.{All}
 use Rattle.std.specs.Prelude.{IfSome, slice_index}
 use Rattle.dbf_file.specs.Rows.{Row, row_at, text_at, with_text}
@@ -23,10 +23,10 @@ follow_all-requires-clause-exact g c = λ k d lt.
     let mid = c.leave_all.new.slots.items in
     let left = left_exact s rows c.args.list.now c.args.slots.now.items c.reserve_all.new.slots.items mid c.requires.exact c.in_ok-reserve_all.ensures.same c.leave_all.ensures in
     let new = record c.args.table.now { rows = with_text rows r f text } in
-    let before = c.as_slice.result.now in
+    let before = take c.text_of-before.result c.text_of-before.new.room in
     let back : with_text c.put_at.new.self.rows r f before ≡ rows =
     ap (λ (t : TableState). with_text t.rows r f before) {y = new} c.put_at.ensures
-    ∙ ap (with_text (with_text rows r f text) r f) (c.as_slice.ensures.value ∙ c.text_of-before.ensures.text)
+    ∙ ap (with_text (with_text rows r f text) r f) c.text_of-before.ensures.text
     ∙ put_back_text rows r f text c.requires.row in
     let structure : c.put_at.new.self.structure ≡ s = ap (λ (t : TableState). t.structure) {y = new} c.put_at.ensures in
     subst (λ (st : StructureState). All (λ (slot : SlotState). IfSome slot.index (IsExact st (with_text c.put_at.new.self.rows r f before))) mid) (sym structure)
