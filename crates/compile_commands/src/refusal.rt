@@ -18,7 +18,7 @@ pub enum SourceFault {
     /// A line of it can't be read, or a block isn't ended.
     #[error("line {line} {kind:?}")]
     Parse { line: usize, kind: ParseFaultKind },
-    /// A command of it can't be compiled; line 0 where the code as a whole is too large.
+    /// A command of it can't be compiled; line 0 where no command is told.
     #[error("line {line} {kind}")]
     Compile { line: usize, kind: CompileFaultKind },
 }

@@ -1,7 +1,7 @@
 // Codes that are judged beside commands: those that they were compiled from, and others.
 
 use crate::shown::{code_of, name_of, programs_of};
-use prg_code::Names;
+use prg_code::{Names, Variable};
 use prg_laid::{LayoutFault, judge};
 use prg_parser::Program;
 use std::alloc::{AllocError, Global};
@@ -14,7 +14,7 @@ fn names_of(alloc: Global, letters: &str) -> Result<Names, AllocError> {
     let mut names = Names::new(alloc);
     let mut slot = 0u8;
     for letter in letters.as_bytes() {
-        names.add(&name_of(&[*letter]), slot, true)?;
+        names.set(&name_of(&[*letter]), Variable { slot, own: true })?;
         slot = slot.saturating_add(1);
     }
     Ok(names)

@@ -53,11 +53,9 @@ fn limits(rt: HostRuntime) -> Result<(), Fail> {
         // Filters.
         ("USE AA", "^SET FILTER TO N > ", 64, "", "accepted"),
         ("USE AA", "^SET FILTER TO N > ", 65, "", "0 66 Limit"),
-        // Maps, and instructions: five for each IF with ? and a number.
+        // Maps.
         ("", "^IF .T.^ENDIF && ", 4096, "", "accepted"),
-        ("", "^IF .T.^ENDIF && ", 4097, "", "0 0 Limit"),
-        ("", "^CLEAR && ", 65534, "", "accepted"),
-        ("", "^CLEAR && ", 65535, "", "0 0 Limit"),
+        ("", "^IF .T.^ENDIF && ", 4097, "", "0 8195 Limit"),
         // Slots, and copies with a slot each.
         ("", "^STORE 1 TO V", 256, "", "accepted"),
         ("", "^STORE 1 TO V", 257, "", "0 258 Limit"),
@@ -74,6 +72,51 @@ fn limits(rt: HostRuntime) -> Result<(), Fail> {
             256,
             "^PROCEDURE P^PARAMETERS X",
             "0 257 Copies",
+        ),
+    ];
+    expect(&rt, rt.alloc(), rows)
+}
+
+#[test]
+fn too_many_instructions(rt: HostRuntime) -> Result<(), Fail> {
+    let rows: &[Row] = &[
+        // The END behind the last command; the last command itself, or a part of it.
+        ("", "^CLEAR && ", 65534, "", "accepted"),
+        ("", "^CLEAR && ", 65535, "", "0 65536 Limit"),
+        ("", "^CLEAR && ", 65536, "^CLEAR", "0 65537 Limit"),
+        ("", "^CLEAR && ", 65534, "^? 1", "0 65536 Limit"),
+        // Another fault is told first, though it stands behind.
+        ("", "^CLEAR && ", 65536, "^? X", "0 65538 Name"),
+    ];
+    expect(&rt, rt.alloc(), rows)
+}
+
+#[test]
+fn too_many_instructions_in_all(rt: HostRuntime) -> Result<(), Fail> {
+    let rows: &[Row] = &[
+        // A procedure's code stands behind that of the main one, and its RETURN is told at its last command.
+        (
+            "DO P",
+            "^CLEAR && ",
+            65532,
+            "^PROCEDURE P^CLEAR",
+            "0 65535 Limit",
+        ),
+        ("DO P", "^CLEAR && ", 65532, "{P}CLEAR", "1 1 Limit"),
+        // A filter's block stands behind all procedures, and is told where the filter is set first.
+        (
+            "USE AA^SET FILTER TO N > 1",
+            "^CLEAR && ",
+            65529,
+            "",
+            "accepted",
+        ),
+        (
+            "USE AA^SET FILTER TO N > 1",
+            "^CLEAR && ",
+            65530,
+            "^SET FILTER TO N > 1",
+            "0 2 Limit",
         ),
     ];
     expect(&rt, rt.alloc(), rows)

@@ -10,7 +10,7 @@ use Rattle.code_items.specs.declared.declared.Filter.{Filter}
 use Rattle.code_items.specs.declared.desk.OpenArea.{OpenArea}
 use Rattle.code_items.specs.declared.desk.AreaState.TheVariants.{Open}
 use Rattle.code_items.specs.Declarations.{filter_of}
-use Rattle.prg_code.specs.declared.names.Binding.{Binding}
+use Rattle.prg_code.specs.Bindings.{NamedVariables}
 use Rattle.prg_values.specs.Readings.{Scoped, on_some, table_fields, field_named, area_at}
 use Rattle.run_steps.specs.Filters.{Viewer, row_field, asked_of}
 use Rattle.expr_laws.specs.Meaning.{Sight, nothing}
@@ -23,7 +23,7 @@ row_value shape table r name other =
 
 -- a name is a field of the row, else a variable; behind an alias, which can only be that of the filter's own work area,
 -- a field of the row; behind M a variable
-abbrev pub row_sight : Shape → List Binding → Viewer → ℕ → TriedRow → Sight
+abbrev pub row_sight : Shape → NamedVariables → Viewer → ℕ → TriedRow → Sight
 row_sight shape names v table r = record {
   settings = v.settings;
   today = v.today;

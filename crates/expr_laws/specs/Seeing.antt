@@ -13,8 +13,7 @@ use Rattle.code_items.specs.declared.instr.Instr.{Instr}
 use Rattle.code_items.specs.declared.instr.Question.{Question}
 use Rattle.code_items.specs.Desks.{desk_covered}
 use Rattle.code_items.specs.Kinds.{slots_covered}
-use Rattle.prg_code.specs.declared.names.Binding.{Binding}
-use Rattle.prg_code.specs.Bindings.{slot_named}
+use Rattle.prg_code.specs.Bindings.{NamedVariables, slot_named}
 use Rattle.prg_values.specs.Readings.{Scoped, on_some, table_fields, field_named, table_named, letter_area}
 use Rattle.run_steps.specs.World.{World, state_of}
 use Rattle.run_steps.specs.Effects.{answer}
@@ -28,7 +27,7 @@ slot_value (Some None) = nothing
 slot_value (Some (Some v)) = v
 
 -- the value in the slot of that name
-abbrev pub variable_value : List Binding → List (Option Value) → List ℕ → Value
+abbrev pub variable_value : NamedVariables → List (Option Value) → List ℕ → Value
 variable_value names slots name = on_some (slot_named names name) nothing (λ slot. slot_value (slice_get slots slot))
 
 -- ---- fields
@@ -44,7 +43,7 @@ field_value None number = nothing
 field_value (Some o) number = field_of number o
 
 -- a plain name: the field of the selected area's table, else the variable
-abbrev pub named_value : Shape → List Binding → World → List ℕ → Value
+abbrev pub named_value : Shape → NamedVariables → World → List ℕ → Value
 named_value shape names w name =
     on_some (field_named (used_fields shape (selected_use w.env.store)) name)
     (variable_value names w.values.slots name) (λ f. field_value (here w.env.store) f.number)
@@ -65,7 +64,7 @@ field_of_area shape s name area =
     (λ f. field_value (area_table s area) f.number)
 
 -- a name behind an alias: a field of that area's table; behind M a variable
-abbrev pub qualified_value : Shape → List Binding → World → List ℕ → List ℕ → Value
+abbrev pub qualified_value : Shape → NamedVariables → World → List ℕ → List ℕ → Value
 qualified_value shape names w alias name = if bytes_eq alias (codes "M") then variable_value names w.values.slots name
     else on_some (alias_of shape w.env.store alias) nothing (field_of_area shape w.env.store name)
 
@@ -76,7 +75,7 @@ asked_value None q = nothing
 asked_value (Some o) q = answer q o
 
 -- what is seen in a world, by the declared tables and the variables' slots
-abbrev pub sight : Shape → List Binding → World → Sight
+abbrev pub sight : Shape → NamedVariables → World → Sight
 sight shape names w = record {
   settings = w.env.settings;
   today = w.env.today;

@@ -5,7 +5,7 @@ use Rattle.code_items.specs.declared.declared.Declared.{Declared}
 use Rattle.code_items.specs.declared.state.State.{State}
 use Rattle.code_rules.specs.declared.blocks.Block.{Block}
 use Rattle.prg_expr.specs.Tree.{Tree}
-use Rattle.prg_code.specs.declared.names.Binding.{Binding}
+use Rattle.prg_code.specs.Bindings.{NamedVariables}
 use Rattle.prg_values.specs.declared.scope.Reading.{Reading}
 use Rattle.prg_values.specs.Readings.{Scoped, read_name}
 use Rattle.prg_values.specs.Placed as placed
@@ -17,7 +17,7 @@ use Rattle.laid_lines.specs.declared.layout.Layout.{Layout}
 pub record Laying : Type 0 where
   pub text : Text
   pub declared : Declared
-  pub names : List Binding
+  pub names : NamedVariables
   pub known : List State
   pub filters : List Block
 

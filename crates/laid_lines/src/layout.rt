@@ -9,7 +9,7 @@ ghost use Rattle.prg_values.specs.Placed.{Stands};
 ghost use Rattle.prg_values.specs.Readings.{scoped};
 ghost use Rattle.prg_values.specs.Written.{whole};
 
-use code_items::{Declared, Instr, State};
+use code_items::{Declared, Instr, Name, State};
 use code_rules::blocks::Block;
 use fixed_num::Num;
 use prg_code::Names;
@@ -98,8 +98,8 @@ pub fn puts_one(l: &Layout, place: usize) -> Option<usize>
 }
 
 /// What the name means before the place.
-fn meaning(l: &Layout, place: usize, name: &[u8]) -> Option<Reading>
-    ensures { IfSome result (λ r. Means (laying l.now) place name.now r) }
+fn meaning(l: &Layout, place: usize, name: &Name) -> Option<Reading>
+    ensures { IfSome result (λ r. Means (laying l.now) place name.now.items r) }
 {
     let state = known(l, place)?;
     match read_name(&scope_of(l, state, false), name) {
@@ -109,8 +109,8 @@ fn meaning(l: &Layout, place: usize, name: &[u8]) -> Option<Reading>
 }
 
 /// What reads the name, if that stands at this place.
-pub fn named(l: &Layout, place: usize, name: &[u8]) -> Option<NameRead>
-    ensures { IfSome result (λ n. Reads (laying l.now) place name.now n.reading n.end) }
+pub fn named(l: &Layout, place: usize, name: &Name) -> Option<NameRead>
+    ensures { IfSome result (λ n. Reads (laying l.now) place name.now.items n.reading n.end) }
 {
     let reading = meaning(l, place, name)?;
     let end = after(l, place, reading.instr)?;
@@ -118,8 +118,8 @@ pub fn named(l: &Layout, place: usize, name: &[u8]) -> Option<NameRead>
 }
 
 /// The slot of the variable of this name, if there is one.
-pub fn slot_of(l: &Layout, name: &[u8]) -> Option<u8>
-    ensures { result ≡ slot_named (laying l.now).names name.now }
+pub fn slot_of(l: &Layout, name: &Name) -> Option<u8>
+    ensures { result ≡ slot_named (laying l.now).names name.now.items }
 {
     l.names.slot(name)
 }

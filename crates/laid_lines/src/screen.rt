@@ -90,14 +90,14 @@ pub fn got(l: &Layout, place: usize, row: &Expr, column: &Expr, name: &Name) -> 
         (tree_of column.now) name.now.items b) }
 {
     let end = placed(l, place, row, column)?;
-    let named = named(l, end, name.as_slice())?;
+    let named = named(l, end, name)?;
     screen(l, named.end, ScreenInstr::Say(named.reading.kind))
 }
 
 fn got_on(l: &Layout, place: usize, name: &Name) -> Option<usize>
     ensures { IfSome result (λ b. acts.GotOn (laying l.now) place name.now.items b) }
 {
-    let named = named(l, place, name.as_slice())?;
+    let named = named(l, place, name)?;
     screen(l, named.end, ScreenInstr::SayOn(named.reading.kind))
 }
 
@@ -135,7 +135,7 @@ fn kept(instr: Instr, kind: Kind) -> Option<Instr>
 fn taken_one(l: &Layout, place: usize, name: &Name) -> Option<usize>
     ensures { IfSome result (λ b. acts.TakenOne (laying l.now) place name.now.items b) }
 {
-    let named = named(l, place, name.as_slice())?;
+    let named = named(l, place, name)?;
     let end = screen(l, named.end, ScreenInstr::Input(named.reading.kind))?;
     let keeps = kept(named.reading.instr, named.reading.kind)?;
     after(l, end, keeps)

@@ -16,7 +16,7 @@ use xvalue::Kind;
 pub fn stored(l: &Layout, place: usize, name: &Name, kind: Kind) -> Option<usize>
     ensures { IfSome result (λ b. acts.Stored (laying l.now) place name.now.items kind b) }
 {
-    let slot = slot_of(l, name.as_slice())?;
+    let slot = slot_of(l, name)?;
     after(
         l,
         place,
@@ -56,7 +56,7 @@ pub fn stored_all(l: &Layout, place: usize, e: &Expr, names: &[Name]) -> Option<
 {
     let (first, others) = names.split_first()?;
     let given = given(l, place, e)?;
-    let slot = slot_of(l, first.as_slice())?;
+    let slot = slot_of(l, first)?;
     let end = after(
         l,
         given.end,
@@ -72,7 +72,7 @@ pub fn released(l: &Layout, place: usize, names: &[Name]) -> Option<usize>
     let mut end = place;
     let mut rest = names;
     while let Some((name, others)) = rest.split_first() {
-        let slot = slot_of(l, name.as_slice())?;
+        let slot = slot_of(l, name)?;
         end = after(l, end, Instr::Values(ValueInstr::Unset(u16::from(slot))))?;
         rest = others;
     }

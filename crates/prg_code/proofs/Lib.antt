@@ -1,1 +1,3 @@
 pub mod Meeting
+mod Constants
+mod Numbers

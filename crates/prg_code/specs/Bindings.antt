@@ -1,9 +1,15 @@
--- Variables' names and their slots.
-use Rattle.std.specs.Prelude.{ℕ, List, [], ◌∷◌, Option, Some, None, if◌then◌else◌}
+-- Variables by their names.
+use Rattle.std.specs.Prelude.{ℕ, List, Option}
+use Rattle.std.specs.Map.{lookup}
+use Rattle.std.specs.Option.{option_map}
 use Rattle.std.specs.Str.{bytes_eq}
-use Rattle.prg_code.specs.declared.names.Binding.{Binding}
+use Rattle.arrayvec.specs.ArrayVec.{ArrayVec}
+use Rattle.prg_code.specs.declared.names.Variable.{Variable}
 
--- the slot of the first variable of this name
-abbrev pub slot_named : List Binding → List ℕ → Option ℕ
-slot_named [] name = None
-slot_named (b ∷ bs) name = if bytes_eq b.name.items name then Some b.slot else slot_named bs name
+-- names, and the variables for which they stand
+abbrev pub NamedVariables : Type 0
+NamedVariables = List (ArrayVec ℕ × Variable)
+
+-- the slot of the variable of this name
+abbrev pub slot_named : NamedVariables → List ℕ → Option ℕ
+slot_named names name = option_map (λ v. v.slot) (lookup (λ n. bytes_eq name n.items) names)

@@ -1,3 +1,4 @@
 pub mod Bindings
+pub mod Numbers
 pub mod Pools
 pub mod Merging

@@ -13,7 +13,7 @@ const MOST_VALUES: usize = 64;
 /// The most slots.
 const MOST_SLOTS: usize = 256;
 
-/// A piece of a block.
+/// A piece of a block, before its labels have places.
 #[derive(Clone, Copy, Debug, PartialEq, Eq)]
 pub enum Draft {
     /// An instruction that is no jump.
@@ -26,6 +26,20 @@ pub enum Draft {
     Label(usize),
     /// The procedure's variables lose their values, and it returns.
     Return,
+}
+
+/// A line of a command file, whose files are counted from 0.
+#[derive(Clone, Copy, Debug, PartialEq, Eq)]
+pub struct SourceLine {
+    pub file: usize,
+    pub line: usize,
+}
+
+/// A draft, and the line of the command whose code it is.
+#[derive(Clone, Copy, Debug, PartialEq, Eq)]
+pub struct BlockPiece {
+    pub draft: Draft,
+    pub line: usize,
 }
 
 /// A place to which jumps may lead.
@@ -43,8 +57,10 @@ pub struct Label {
 #[derive(Drop)]
 pub struct Block {
     alloc: Global,
-    pub drafts: Vec<Draft>,
+    pub pieces: Vec<BlockPiece>,
     pub labels: Vec<Label>,
+    /// The line of the command whose code is being put.
+    pub line: usize,
     /// What is known behind the last piece, if that is reached. It has 256 slots.
     pub state: State,
     /// Whether the place behind the last piece is reached.
@@ -76,13 +92,20 @@ impl Block {
     pub fn entered(alloc: Global, state: State) -> Block {
         Block {
             alloc,
-            drafts: Vec::new(alloc),
+            pieces: Vec::new(alloc),
             labels: Vec::new(alloc),
+            line: 0,
             state,
             reached: true,
             depth: 0,
             highest: 0,
         }
+    }
+
+    fn push(&mut self, draft: Draft) -> Result<(), AllocError> {
+        let line = self.line;
+        self.pieces.push(BlockPiece { draft, line })?;
+        Ok(())
     }
 
     /// Adds an instruction that is no jump. Limit where the stack would be too high.
@@ -93,7 +116,7 @@ impl Block {
         if depth > MOST_VALUES {
             return Err(CompileError::Fault(CompileFaultKind::Limit));
         }
-        self.drafts.push(Draft::Instr(instr))?;
+        self.push(Draft::Instr(instr))?;
         self.depth = depth;
         self.highest = self.highest.max(depth);
         change_slots(instr, &mut self.state.slots);
@@ -111,14 +134,14 @@ impl Block {
 
     /// Ends the way: an END.
     pub fn put_end(&mut self) -> Result<(), CompileError> {
-        self.drafts.push(Draft::Instr(Instr::Flow(FlowInstr::End)))?;
+        self.push(Draft::Instr(Instr::Flow(FlowInstr::End)))?;
         self.reached = false;
         Ok(())
     }
 
     /// Ends the way: the procedure returns.
     pub fn put_return(&mut self) -> Result<(), CompileError> {
-        self.drafts.push(Draft::Return)?;
+        self.push(Draft::Return)?;
         self.reached = false;
         Ok(())
     }
@@ -139,7 +162,7 @@ impl Block {
         if !self.reached {
             return Ok(());
         }
-        self.drafts.push(Draft::Jump(label))?;
+        self.push(Draft::Jump(label))?;
         self.flow_to(label, true)?;
         self.reached = false;
         Ok(())
@@ -147,7 +170,7 @@ impl Block {
 
     /// A JUMPF to the label, which takes the truth value on top.
     pub fn jump_false(&mut self, label: usize) -> Result<(), CompileError> {
-        self.drafts.push(Draft::JumpFalse(label))?;
+        self.push(Draft::JumpFalse(label))?;
         self.depth = self.depth.saturating_sub(1);
         self.flow_to(label, true)?;
         Ok(())
@@ -170,7 +193,7 @@ impl Block {
         if self.reached {
             self.flow_to(label, false)?;
         }
-        self.drafts.push(Draft::Label(label))?;
+        self.push(Draft::Label(label))?;
         let Some(there) = self.labels.get(label) else {
             return Ok(());
         };
@@ -193,8 +216,8 @@ impl Block {
     }
 
     /// Leaves out the pieces and labels behind the first so many, and knows this.
-    pub fn cut(&mut self, drafts: usize, labels: usize, state: State) {
-        self.drafts.truncate(drafts);
+    pub fn cut(&mut self, pieces: usize, labels: usize, state: State) {
+        self.pieces.truncate(pieces);
         self.labels.truncate(labels);
         self.state = state;
         self.reached = true;

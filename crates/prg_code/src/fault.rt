@@ -2,6 +2,7 @@
 
 ghost use Rattle.std.specs.Prelude.{◌≡◌};
 ghost use Rattle.prg_code.specs.declared.fault.CompileError.TheVariants as error;
+ghost use Rattle.prg_code.specs.declared.fault.CompileFault.{CompileFault as AnyFault};
 ghost use Rattle.prg_code.specs.declared.fault.CompileRefusal.TheVariants as refusal;
 
 use std::alloc::{AllocError, AllocFailed};
@@ -59,7 +60,7 @@ pub enum CompileFaultKind {
 pub struct CompileFault {
     /// The number of the command file, counted from 0.
     pub file: usize,
-    /// The line in that file, from 1; 0 where the code as a whole is too large.
+    /// The line in that file, from 1; 0 where no command is told.
     pub line: usize,
     /// What is wrong there.
     pub kind: CompileFaultKind,
@@ -89,6 +90,19 @@ impl CompileError {
         match self {
             CompileError::Fault(kind) => CompileRefusal::Fault(CompileFault { file, line, kind }),
             CompileError::NoMemory => CompileRefusal::NoMemory,
+        }
+    }
+}
+
+/// The same without its line.
+impl From<CompileRefusal> for CompileError {
+    ghost from_gives = { λ told e. (told ≡ refusal.NoMemory → e ≡ error.NoMemory)
+        × ((fault : AnyFault) → told ≡ refusal.Fault fault → e ≡ error.Fault fault.kind) };
+
+    fn from(refusal: CompileRefusal) -> CompileError {
+        match refusal {
+            CompileRefusal::Fault(fault) => CompileError::Fault(fault.kind),
+            CompileRefusal::NoMemory => CompileError::NoMemory,
         }
     }
 }

@@ -1,41 +1,51 @@
 //! Filters by number.
 
-use crate::fault::{CompileError, CompileFaultKind};
-use code_items::{Instr, Need};
-use std::alloc::Global;
+use crate::block::SourceLine;
+use crate::numbering::Numbering;
+use code_items::{Instr, Need, RecordInstr, ValueInstr};
+use std::hash::Hash;
 use xvalue::Kind;
 
 /// The most filters that a code may have.
-const MOST_FILTERS: usize = 64;
+const MOST_FILTERS: u16 = 64;
 
-/// A filter: its table, counted from 0, the slots that its block loads, and its block.
+/// A filter. Two are equal where their tables, their needs and their blocks are.
 #[derive(Drop)]
+#[derive_where(PartialEq, Eq, Hash)]
 pub struct FilterBlock {
+    /// Its table, counted from 0.
     pub table: u8,
-    /// By rising slots.
+    /// The slots that its block loads, rising.
+    #[derive_where(skip(Hash))]
     pub needs: Vec<Need>,
+    #[derive_where(skip(Hash))]
     pub block: Vec<Instr>,
+    /// Where it is set first.
+    #[derive_where(skip(EqHashOrd))]
+    pub at: SourceLine,
+    /// What stands for the block in a hash.
+    digest: u64,
 }
 
-/// Filters, numbered from 1 at their first use, equal ones once.
-#[derive(Drop)]
-pub struct Filters {
-    filters: Vec<FilterBlock>,
-}
+/// Filters, numbered from 0 at their first use. Instructions count them from 1.
+pub type Filters = Numbering<FilterBlock, MOST_FILTERS>;
 
-fn is_same(one: &FilterBlock, two: &FilterBlock) -> bool {
-    one.table == two.table
-        && one.needs.as_slice() == two.needs.as_slice()
-        && one.block.as_slice() == two.block.as_slice()
-}
-
-fn position(filters: &[FilterBlock], filter: &FilterBlock) -> Option<usize> {
-    for (number, known) in filters.iter().enumerate() {
-        if is_same(known, filter) {
-            return Some(number);
-        }
+/// The number that a filter's instruction names.
+fn named(instr: Instr) -> u64 {
+    match instr {
+        Instr::Values(ValueInstr::Constant(number)) => u64::from(number),
+        Instr::Values(ValueInstr::Load(_, slot)) => u64::from(slot),
+        Instr::Records(RecordInstr::RowField(field)) => u64::from(field),
+        _ => 0,
     }
-    None
+}
+
+fn digest_of(block: &[Instr]) -> u64 {
+    let mut digest = 0u64;
+    for instr in block {
+        digest = digest.wrapping_mul(65_599).wrapping_add(named(*instr));
+    }
+    digest
 }
 
 fn lacks(kinds: &[Option<Kind>], need: Need) -> bool {
@@ -45,58 +55,28 @@ fn lacks(kinds: &[Option<Kind>], need: Need) -> bool {
     }
 }
 
-impl Filters {
-    /// No filters.
-    pub fn new(alloc: Global) -> Filters {
-        Filters {
-            filters: Vec::new(alloc),
+impl FilterBlock {
+    /// A filter of this table with this block, which loads these slots and is first set there.
+    pub fn new(table: u8, needs: Vec<Need>, block: Vec<Instr>, at: SourceLine) -> FilterBlock {
+        let digest = digest_of(&block);
+        FilterBlock {
+            table,
+            needs,
+            block,
+            at,
+            digest,
         }
-    }
-
-    /// The number of the filter, from 1. It is added where it isn't there; Limit where there is no room for it.
-    pub fn number(&mut self, filter: FilterBlock) -> Result<u16, CompileError> {
-        if let Some(number) = position(&self.filters, &filter) {
-            return numbered(number);
-        }
-        let number = self.filters.len();
-        if number >= MOST_FILTERS {
-            return Err(CompileError::Fault(CompileFaultKind::Limit));
-        }
-        self.filters.push(filter)?;
-        numbered(number)
-    }
-
-    /// Whether the filter of this number needs a value that isn't known to be there. No filter needs anything.
-    pub fn lacks(&self, number: u16, kinds: &[Option<Kind>]) -> bool {
-        if number < 1 {
-            return false;
-        }
-        match self.filters.get(usize::from(number) - 1) {
-            Some(filter) => filter.needs.iter().any(|need| lacks(kinds, *need)),
-            None => false,
-        }
-    }
-
-    /// How many filters there are.
-    pub fn len(&self) -> usize {
-        self.filters.len()
-    }
-
-    /// Leaves out the filters behind the first so many.
-    pub fn cut(&mut self, count: usize) {
-        self.filters.truncate(count);
-    }
-
-    /// The filters in their order.
-    pub fn into_filters(self) -> Vec<FilterBlock> {
-        self.filters
     }
 }
 
-/// The number, from 1, of the item at this place.
-fn numbered(place: usize) -> Result<u16, CompileError> {
-    match u16::try_from(place) {
-        Ok(place) if place < u16::MAX => Ok(place + 1),
-        _ => Err(CompileError::Fault(CompileFaultKind::Limit)),
+/// Whether the filter that instructions name by this number needs a value that isn't known to be there. No filter needs
+/// anything.
+pub fn filter_lacks(filters: &Filters, number: u16, kinds: &[Option<Kind>]) -> bool {
+    if number < 1 {
+        return false;
+    }
+    match filters.as_slice().get(usize::from(number) - 1) {
+        Some(filter) => filter.needs.iter().any(|need| lacks(kinds, *need)),
+        None => false,
     }
 }

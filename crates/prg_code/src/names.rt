@@ -1,91 +1,92 @@
-//! Variables' names and their slots.
+//! Variables by their names.
 
-ghost use Rattle.std.specs.Prelude.{◌≡◌};
+ghost use Rattle.std.specs.Prelude.{◌≡◌, [], Some, false, OnOk, OnErr, List, ℕ};
+ghost use Rattle.std.specs.Map.{values_of};
+ghost use Rattle.std.specs.Str.{bytes_eq};
 ghost use Rattle.prg_code.specs.Bindings.{slot_named};
 
 use arrayvec::ArrayVec;
 use code_items::Name;
+use indexmap::IndexMap;
 use std::alloc::{AllocError, Global};
 use std::marker::Model;
 
-/// A variable's name, and its slot.
-#[derive(Drop, Debug)]
-pub struct Binding {
-    pub name: Name,
+/// The variable for which a name stands.
+#[derive(Clone, Copy, Debug, PartialEq, Eq)]
+pub struct Variable {
     pub slot: u8,
     /// Whether it is a variable or a parameter of the procedure itself, and not one that a caller has.
     pub own: bool,
 }
 
-/// The variables that a procedure sees, each name once.
+/// The variables that a procedure sees, by their names.
 #[derive(Drop)]
 pub struct Names {
-    bindings: Vec<Binding>,
+    variables: IndexMap<Name, Variable>,
 }
 
 /// The same name once more.
-pub fn copy_of_name(name: &Name) -> Name {
+pub fn copy_of_name(name: &Name) -> Name
+    ensures { result ≡ name.now }
+{
     let mut copy = ArrayVec::new();
     copy.try_extend_from_slice(name.as_slice()).unwrap();
     copy
 }
 
 impl Model for Names {
-    ghost use Rattle.std.specs.Prelude.{List};
-    ghost use Rattle.prg_code.specs.declared.names.Binding.{Binding as OneBinding};
+    ghost use Rattle.prg_code.specs.Bindings.{NamedVariables};
 
-    ghost Value = { List OneBinding };
+    ghost Value = { NamedVariables };
 
-    ghost view = { λ n. n.bindings.items };
-}
-
-fn find(bindings: &[Binding], name: &[u8]) -> Option<u8>
-    ensures { result ≡ slot_named bindings.now name.now }
-{
-    let mut rest = bindings;
-    while let Some((binding, others)) = rest.split_first() {
-        if binding.name.as_slice() == name {
-            return Some(binding.slot);
-        }
-        rest = others;
-    }
-    None
+    ghost view = { λ n. n.variables.entries };
 }
 
 impl Names {
     /// No names.
-    pub fn new(alloc: Global) -> Names {
+    pub fn new(alloc: Global) -> Names
+        ensures { result ≡ [] }
+    {
         Names {
-            bindings: Vec::new(alloc),
+            variables: IndexMap::new(alloc),
         }
     }
 
     /// The slot of the variable of this name, if there is one.
-    pub fn slot(&self, name: &[u8]) -> Option<u8>
-        ensures { result ≡ slot_named self.now name.now }
+    pub fn slot(&self, name: &Name) -> Option<u8>
+        ensures { result ≡ slot_named self.now name.now.items }
     {
-        find(&self.bindings, name)
+        match self.variables.get(name) {
+            Some(variable) => Some(variable.slot),
+            None => None,
+        }
     }
 
-    /// The variables.
-    pub fn bindings(&self) -> &[Binding]
-        ensures { result.now ≡ self.now }
+    /// The variables, in the order in which their names came.
+    pub fn variables(&self) -> &[Variable]
+        ensures { result.now ≡ values_of self.now }
     {
-        self.bindings.as_slice()
+        self.variables.values().as_slice()
     }
 
-    /// Adds a variable, whose name isn't there.
-    pub fn add(&mut self, name: &Name, slot: u8, own: bool) -> Result<(), AllocError> {
-        let name = copy_of_name(name);
-        self.bindings.push(Binding { name, slot, own })?;
+    /// Lets the name stand for this variable.
+    pub fn set(&mut self, name: &Name, variable: Variable) -> Result<(), AllocError>
+        ensures named { OnOk result (slot_named self.new name.now.items ≡ Some variable.slot) }
+        // Other names stand for what they stood for.
+        ensures others { OnOk result ((other : List ℕ) → bytes_eq name.now.items other ≡ false
+            → slot_named self.new other ≡ slot_named self.old other) }
+        ensures refused { OnErr result (self.new ≡ self.old) }
+    {
+        self.variables.insert(copy_of_name(name), variable)?;
         Ok(())
     }
 
     /// The same names once more, all as a caller's.
     pub fn handed_on(&self, alloc: Global) -> Result<Names, AllocError> {
         let mut names = Names::new(alloc);
-        for binding in &self.bindings {
-            names.add(&binding.name, binding.slot, false)?;
+        for (name, variable) in &self.variables {
+            let slot = variable.slot;
+            names.set(name, Variable { slot, own: false })?;
         }
         Ok(names)
     }
@@ -93,29 +94,18 @@ impl Names {
     /// The same names once more.
     pub fn copied(&self, alloc: Global) -> Result<Names, AllocError> {
         let mut names = Names::new(alloc);
-        for binding in &self.bindings {
-            names.add(&binding.name, binding.slot, binding.own)?;
-        }
-        Ok(names)
-    }
-
-    /// The names without this one.
-    pub fn without(&self, alloc: Global, name: &[u8]) -> Result<Names, AllocError> {
-        let mut names = Names::new(alloc);
-        for binding in &self.bindings {
-            if binding.name.as_slice() != name {
-                names.add(&binding.name, binding.slot, binding.own)?;
-            }
+        for (name, variable) in &self.variables {
+            names.set(name, *variable)?;
         }
         Ok(names)
     }
 
     /// The names without this one, where it is a caller's.
-    pub fn hiding(&self, alloc: Global, name: &[u8]) -> Result<Names, AllocError> {
+    pub fn hiding(&self, alloc: Global, hidden: &Name) -> Result<Names, AllocError> {
         let mut names = Names::new(alloc);
-        for binding in &self.bindings {
-            if binding.own || binding.name.as_slice() != name {
-                names.add(&binding.name, binding.slot, binding.own)?;
+        for (name, variable) in &self.variables {
+            if variable.own || name.as_slice() != hidden.as_slice() {
+                names.set(name, *variable)?;
             }
         }
         Ok(names)
@@ -123,8 +113,10 @@ impl Names {
 
     /// Whether both name the same variables.
     pub fn is_same(&self, other: &Names) -> bool {
-        self.bindings.len() == other.bindings.len()
-            && self.bindings.iter().all(|binding| find(&other.bindings, binding.name.as_slice())
-                == Some(binding.slot))
+        self.variables.len() == other.variables.len()
+            && self
+                .variables
+                .iter()
+                .all(|(name, variable)| other.slot(name) == Some(variable.slot))
     }
 }

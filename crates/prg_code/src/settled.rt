@@ -1,9 +1,15 @@
 //! Blocks laid out: places in place of labels.
 
-use crate::block::{Block, Draft};
-use crate::fault::CompileError;
+use crate::block::{Block, Draft, SourceLine};
+use crate::fault::{CompileError, CompileFaultKind, CompileRefusal};
 use code_items::{FlowInstr, Instr, State, ValueInstr};
 use std::alloc::{AllocError, Global};
+
+/// The most instructions of a code.
+const MOST_INSTRUCTIONS: usize = 65535;
+
+/// The most maps of a code.
+const MOST_MAPS: usize = 4096;
 
 /// Instructions from place 0 on, and what is known at places to which jumps lead, by rising place.
 #[derive(Drop)]
@@ -19,6 +25,15 @@ impl LaidOut {
             instrs: Vec::new(alloc),
             maps: Vec::new(alloc),
         }
+    }
+
+    /// Limit in this line, where there are more instructions or maps than a code may have.
+    pub fn fits(&self, at: SourceLine) -> Result<(), CompileRefusal> {
+        if self.instrs.len() > MOST_INSTRUCTIONS || self.maps.len() > MOST_MAPS {
+            let SourceLine { file, line } = at;
+            return Err(CompileError::Fault(CompileFaultKind::Limit).at(file, line));
+        }
+        Ok(())
     }
 }
 
@@ -40,11 +55,11 @@ fn places(
 ) -> Result<Vec<usize>, AllocError> {
     let mut places = vec![in alloc; first; block.labels.len()]?;
     let mut place = first;
-    for draft in &block.drafts {
-        if let Draft::Label(label) = *draft {
+    for piece in &block.pieces {
+        if let Draft::Label(label) = piece.draft {
             set(&mut places, label, place);
         }
-        place = place.saturating_add(size_of(*draft, own));
+        place = place.saturating_add(size_of(piece.draft, own));
     }
     Ok(places)
 }
@@ -108,7 +123,7 @@ fn put(
     places: &[usize],
     own: &[u8],
     draft: Draft,
-) -> Result<(), CompileError> {
+) -> Result<(), AllocError> {
     match draft {
         Draft::Instr(instr) => laid.instrs.push(instr)?,
         Draft::Jump(label) => {
@@ -125,16 +140,20 @@ fn put(
     Ok(())
 }
 
-/// Puts the block behind what is laid out. Where it returns, these slots lose their values.
+/// Puts the block behind what is laid out. Where it returns, these slots lose their values. Limit in the line, of this
+/// file, of the first command whose code has no room.
 pub fn lay(
     alloc: Global,
     laid: &mut LaidOut,
     block: &Block,
     own: &[u8],
-) -> Result<(), CompileError> {
+    file: usize,
+) -> Result<(), CompileRefusal> {
     let places = places(alloc, block, own.len(), laid.instrs.len())?;
-    for draft in &block.drafts {
-        put(alloc, laid, block, &places, own, *draft)?;
+    for piece in &block.pieces {
+        put(alloc, laid, block, &places, own, piece.draft)?;
+        let line = piece.line;
+        laid.fits(SourceLine { file, line })?;
     }
     Ok(())
 }

@@ -1,6 +1,6 @@
 //! What is being written.
 
-use crate::block::Block;
+use crate::block::{Block, SourceLine};
 use crate::filters::Filters;
 use crate::lists::Lists;
 use crate::names::Names;
@@ -63,6 +63,14 @@ impl Output {
 }
 
 impl Work {
+    /// The line of the command whose code is being put.
+    pub fn source_line(&self) -> SourceLine {
+        SourceLine {
+            file: self.file,
+            line: self.block.line,
+        }
+    }
+
     /// A copy that begins with this block and these names.
     pub fn new(alloc: Global, file: usize, is_main: bool, block: Block, names: Names) -> Work {
         Work {

@@ -3,13 +3,15 @@
 use crate::values::{demand, scope_of};
 use arrayvec::ArrayVec;
 use code_items::{
-    AreaInstr, AreaState, IndexList, IndexShape, Instr, Name, Need, OpenArea, Shape, ValueInstr,
+    AreaInstr, AreaState, IndexShape, Instr, Name, Need, OpenArea, Shape, ValueInstr,
 };
 use code_rules::Signature;
-use prg_code::{CompileError, CompileFaultKind, FilterBlock, Output, Work};
+use prg_code::{
+    CompileError, CompileFaultKind, FilterBlock, ListedIndexes, Output, Work, indexes_opened,
+};
 use prg_expr::Expr;
 use prg_line::Selected;
-use prg_values::{Compiled, Scope, area_of_alias, table_named, with_kind};
+use prg_values::{Scope, area_of_alias, compile_expr, kind_of, table_named};
 use xvalue::Kind;
 
 /// The most values on the stack.
@@ -49,7 +51,7 @@ pub fn is_of_table(indexes: &[IndexShape], number: u8, table: u16) -> bool {
 
 /// The list of these indexes: Name where one isn't declared, Index where one is of another table or named twice, Limit
 /// where there are more than seven.
-fn list_of(shape: &Shape, table: u16, names: &[Name]) -> Result<IndexList, CompileError> {
+fn list_of(shape: &Shape, table: u16, names: &[Name]) -> Result<ListedIndexes, CompileError> {
     let mut indexes = ArrayVec::new();
     for name in names {
         let Some(number) = index_named(shape.indexes.as_slice(), name.as_slice()) else {
@@ -64,7 +66,7 @@ fn list_of(shape: &Shape, table: u16, names: &[Name]) -> Result<IndexList, Compi
             return Err(CompileError::Fault(CompileFaultKind::Limit));
         }
     }
-    Ok(IndexList { indexes })
+    Ok(indexes)
 }
 
 fn may_hold(area: AreaState, table: u16) -> bool {
@@ -106,7 +108,7 @@ pub fn open_table(
     let list = if indexes.is_empty() {
         0
     } else {
-        u32::from(out.lists.number(list)?)
+        u32::from(out.lists.number(list)?) + 1
     };
     put_area(work, AreaInstr::Open { table, list })
 }
@@ -131,7 +133,7 @@ pub fn select(shape: &Shape, work: &mut Work, area: &Selected) -> Result<(), Com
 /// `SET ORDER TO order`.
 pub fn set_order(out: &Output, work: &mut Work, order: u16) -> Result<(), CompileError> {
     let area = opened(work)?;
-    if out.lists.opened(area.list) < usize::from(order) {
+    if indexes_opened(&out.lists, area.list) < usize::from(order) {
         return Err(CompileError::Fault(CompileFaultKind::NoOrder));
     }
     put_area(work, AreaInstr::Order(order))
@@ -184,7 +186,8 @@ fn filter_code(
         in_filter: true,
         ..scope_of(shape, work)
     };
-    let Compiled { code, kind } = with_kind(work.alloc, e, &scope, &mut out.pool)?;
+    let kind = kind_of(&scope, e)?;
+    let code = compile_expr(work.alloc, e, &scope, &mut out.pool)?;
     demand(kind, Kind::Logical)?;
     Ok(code)
 }
@@ -207,11 +210,8 @@ fn filter_number(
     let Ok(table) = u8::try_from(table) else {
         return Err(CompileError::Fault(CompileFaultKind::Limit));
     };
-    out.filters.number(FilterBlock {
-        table,
-        needs,
-        block,
-    })
+    let filter = FilterBlock::new(table, needs, block, work.source_line());
+    Ok(out.filters.number(filter)? + 1)
 }
 
 /// `SET FILTER TO [condition]`.

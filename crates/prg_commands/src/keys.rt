@@ -3,7 +3,7 @@
 use crate::areas::{index_named, is_of_table, opened};
 use crate::moves::meets_filter;
 use arrayvec::ArrayVec;
-use code_items::{IndexList, Instr, KeyPart, Name, RecordInstr, Shape};
+use code_items::{Instr, KeyPart, Name, RecordInstr, Shape};
 use dbf_file::Field;
 use prg_code::{CompileError, CompileFaultKind, Output, Work};
 use prg_expr::{Expr, Function, Operator};
@@ -84,6 +84,6 @@ pub fn index_on(
     meets_filter(out, work, area)?;
     let mut indexes = ArrayVec::new();
     let _ = indexes.try_push(number);
-    let list = out.lists.number(IndexList { indexes })?;
+    let list = out.lists.number(indexes)? + 1;
     work.block.put(Instr::Records(RecordInstr::Index(list)))
 }

@@ -3,7 +3,7 @@
 use crate::areas::opened;
 use crate::values::{demand, put_one, value, value_of_kind};
 use code_items::{Instr, MoveInstr, OpenArea, RecordInstr, Shape};
-use prg_code::{CompileError, CompileFaultKind, Output, Work};
+use prg_code::{CompileError, CompileFaultKind, Output, Work, filter_lacks};
 use prg_expr::Expr;
 use prg_line::{Move, Replacement};
 use prg_values::field_of;
@@ -11,10 +11,7 @@ use xvalue::Kind;
 
 /// Filter where the area's filter needs a variable that isn't known to have its value.
 pub fn meets_filter(out: &Output, work: &Work, area: OpenArea) -> Result<(), CompileError> {
-    if out
-        .filters
-        .lacks(area.filter, work.block.state.slots.kinds())
-    {
+    if filter_lacks(&out.filters, area.filter, work.block.state.slots.kinds()) {
         return Err(CompileError::Fault(CompileFaultKind::Filter));
     }
     Ok(())

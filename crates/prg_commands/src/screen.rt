@@ -63,7 +63,7 @@ fn put_get(
     line: usize,
     variable: &Name,
 ) -> Result<Kind, CompileError> {
-    let Reading { instr, kind } = reading_of(shape, work, variable.as_slice())?;
+    let Reading { instr, kind } = reading_of(shape, work, variable)?;
     work.block.put(instr)?;
     work.gets.push(Get {
         variable: copy_of_name(variable),
@@ -102,7 +102,7 @@ pub fn get_on(
 }
 
 /// Takes a line for one GET.
-fn read_one(shape: &Shape, work: &mut Work, name: &[u8]) -> Result<(), CompileError> {
+fn read_one(shape: &Shape, work: &mut Work, name: &Name) -> Result<(), CompileError> {
     let Reading { instr, kind } = reading_of(shape, work, name)?;
     work.block.put(instr)?;
     put_screen(work, ScreenInstr::Input(kind))?;
@@ -121,7 +121,7 @@ fn read_one(shape: &Shape, work: &mut Work, name: &[u8]) -> Result<(), CompileEr
 pub fn read(shape: &Shape, work: &mut Work) -> Result<(), CompileError> {
     let gets = std::mem::replace(&mut work.gets, Vec::new(work.alloc));
     for get in &gets {
-        read_one(shape, work, get.variable.as_slice())?;
+        read_one(shape, work, &get.variable)?;
     }
     Ok(())
 }

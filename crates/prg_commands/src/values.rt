@@ -1,10 +1,10 @@
 //! Expressions within commands.
 
-use code_items::{Instr, ScreenInstr, Shape, ValueInstr};
+use code_items::{Instr, Name, ScreenInstr, Shape, ValueInstr};
 use fixed_num::Num;
 use prg_code::{CompileError, CompileFaultKind, Output, Work};
 use prg_expr::Expr;
-use prg_values::{Compiled, Reading, Scope, with_kind};
+use prg_values::{Reading, Scope, compile_expr, kind_of};
 use xvalue::{Kind, Text, Value};
 
 /// What names mean where the block stands.
@@ -17,16 +17,6 @@ pub fn scope_of<'a>(shape: &'a Shape, work: &'a Work) -> Scope<'a> {
     }
 }
 
-fn code_of(
-    shape: &Shape,
-    out: &mut Output,
-    work: &Work,
-    e: &Expr,
-) -> Result<Compiled, CompileError> {
-    let scope = scope_of(shape, work);
-    with_kind(work.alloc, e, &scope, &mut out.pool)
-}
-
 /// Puts the code of an expression, and tells its kind.
 pub fn value(
     shape: &Shape,
@@ -34,7 +24,9 @@ pub fn value(
     work: &mut Work,
     e: &Expr,
 ) -> Result<Kind, CompileError> {
-    let Compiled { code, kind } = code_of(shape, out, work, e)?;
+    let scope = scope_of(shape, work);
+    let kind = kind_of(&scope, e)?;
+    let code = compile_expr(work.alloc, e, &scope, &mut out.pool)?;
     work.block.put_all(&code)?;
     Ok(kind)
 }
@@ -72,7 +64,7 @@ pub fn condition(
 
 /// Puts a constant.
 pub fn put_constant(out: &mut Output, work: &mut Work, value: Value) -> Result<(), CompileError> {
-    let number = out.pool.number(value)?;
+    let number = out.pool.number_of(value)?;
     work.block.put(Instr::Values(ValueInstr::Constant(number)))
 }
 
@@ -93,7 +85,7 @@ pub(crate) fn put_screen(work: &mut Work, instr: ScreenInstr) -> Result<(), Comp
 }
 
 /// What reads the name here.
-pub fn reading_of(shape: &Shape, work: &Work, name: &[u8]) -> Result<Reading, CompileError> {
+pub fn reading_of(shape: &Shape, work: &Work, name: &Name) -> Result<Reading, CompileError> {
     let scope = scope_of(shape, work);
     match prg_values::read_name(&scope, name) {
         Ok(reading) => Ok(reading),

@@ -2,7 +2,7 @@
 
 use crate::values::{scope_of, value};
 use code_items::{Instr, Name, Shape, ValueInstr};
-use prg_code::{CompileError, CompileFaultKind, Output, Work};
+use prg_code::{CompileError, CompileFaultKind, Output, Variable, Work};
 use prg_expr::Expr;
 use prg_values::{selected_field, variable_slot};
 use xvalue::Kind;
@@ -31,12 +31,12 @@ pub(crate) fn bound_slot(
     work: &mut Work,
     name: &Name,
 ) -> Result<u8, CompileError> {
-    if let Some(slot) = work.names.slot(name.as_slice()) {
+    if let Some(slot) = work.names.slot(name) {
         return Ok(slot);
     }
     let slot = new_slot(out)?;
     work.own.push(slot)?;
-    work.names.add(name, slot, true)?;
+    work.names.set(name, Variable { slot, own: true })?;
     Ok(slot)
 }
 
@@ -90,7 +90,7 @@ pub fn store(
 /// `RELEASE variables`.
 pub fn release(work: &mut Work, names: &[Name]) -> Result<(), CompileError> {
     for name in names {
-        let Some(slot) = work.names.slot(name.as_slice()) else {
+        let Some(slot) = work.names.slot(name) else {
             return Err(CompileError::Fault(CompileFaultKind::Name));
         };
         work.block
@@ -105,7 +105,7 @@ pub fn hide(work: &mut Work, names: &[Name]) -> Result<(), CompileError> {
         return Ok(());
     }
     for name in names {
-        work.names = work.names.hiding(work.alloc, name.as_slice())?;
+        work.names = work.names.hiding(work.alloc, name)?;
     }
     Ok(())
 }
@@ -117,10 +117,10 @@ pub fn argument_slot(shape: &Shape, work: &Work, e: &Expr) -> Result<Option<u8>,
     match e {
         Expr::Name(name) => match selected_field(&scope, name.as_slice())? {
             Some(_) => Ok(None),
-            None => Ok(Some(variable_slot(&scope, name.as_slice())?)),
+            None => Ok(Some(variable_slot(&scope, name)?)),
         },
         Expr::Qualified(alias, name) if alias.as_slice() == b"M".as_slice() => {
-            Ok(Some(variable_slot(&scope, name.as_slice())?))
+            Ok(Some(variable_slot(&scope, name)?))
         }
         _ => Ok(None),
     }

@@ -2,7 +2,7 @@
 use Rattle.std.specs.Prelude.{◌≡◌, List, [], ◌∷◌}
 use Rattle.code_items.specs.declared.code.Code.{Code}
 use Rattle.code_rules.specs.Rules.{Accepted}
-use Rattle.prg_code.specs.declared.names.Binding.{Binding}
+use Rattle.prg_code.specs.Bindings.{NamedVariables}
 use Rattle.prg_laid.specs.Commands.{IsLaid}
 use Rattle.prg_parser.specs.Commands.{commands_of}
 use Rattle.prg_parser.specs.declared.program.Program.{Program}
@@ -12,7 +12,7 @@ use Rattle.shape.specs.declared.whole.Shape.{Shape}
 -- some slots
 abbrev pub IsLaidAlone : Code → List Program → Type 0
 IsLaidAlone code programs = (program : Program) → programs ≡ program ∷ [] → program.procedures.items ≡ []
-    → (names : List Binding) × IsLaid code names (commands_of program.main.items)
+    → (names : NamedVariables) × IsLaid code names (commands_of program.main.items)
 
 -- there is an accepted code of these files, for tables and indexes of this shape
 pub record IsCompilable (shape : Shape) (programs : List Program) : Type 0 where

@@ -9,10 +9,8 @@ ghost use Rattle.met_areas.specs.Met.{AreasOfShape};
 use crate::ways::areas_at;
 use code_items::{Code, Shape};
 use met_areas::MetAreas;
-use prg_code::{
-    Block, CompileError, CompileFault, CompileFaultKind, CompileRefusal, Names, Output, Work,
-};
-use prg_control::{commands, end_copy, end_procedure, last_line};
+use prg_code::{Block, CompileFault, CompileFaultKind, CompileRefusal, Names, Output, Work};
+use prg_control::{commands, end_copy, end_procedure};
 use prg_laid::{LayoutFault, judge};
 use prg_parser::Program;
 use prg_writer::{FaultList, ProcedureCopy, Source, Target, Writer, assemble, copy_of_shape};
@@ -69,7 +67,7 @@ struct WrittenCode {
 fn write_main(w: &mut Writer, s: &Source) -> Result<(), CompileRefusal> {
     let list = s.commands(MAIN);
     commands(s, w, list)?;
-    end_procedure(w, last_line(list, 0))
+    end_procedure(w, s.last_line(MAIN))
 }
 
 /// Writes all that is reached from the main procedure on. Faults are listed, where there is a list for them.
@@ -139,12 +137,28 @@ fn accepted(
     }
 }
 
+/// What is written as a code for tables and indexes of this shape, judged and verified.
+fn finished(
+    alloc: Global,
+    drafted: &WrittenCode,
+    programs: &[Program],
+    shape: Shape,
+) -> Result<Verified, CompileRefusal>
+    ensures shape { IfOk result (λ verified. verified.declared.shape ≡ shape) }
+    ensures laid { IfOk result (λ verified. IsLaidAlone verified programs.now) }
+{
+    let code = assemble(alloc, shape, &drafted.writer.out, &drafted.writer.copies)?;
+    accepted(alloc, code, programs, &drafted.names)
+}
+
 /// The code of command files for tables and indexes of this shape; the first file is the main one. The code is accepted
 /// by the verifier, and a single file without procedures is laid out in it as its commands say.
 ///
 /// # Errors
 ///
-/// The first fault in the order of the commands, with its line and the number of its file. Want of memory.
+/// The first fault in the order of the commands, with its line and the number of its file. Where there is no other
+/// fault and the code is too large, Limit at the first command whose code has no room, in the order in which code is
+/// laid out. Want of memory.
 pub fn compile(
     alloc: Global,
     programs: &[Program],
@@ -157,12 +171,8 @@ pub fn compile(
     ensures laid { IfOk result (λ verified. IsLaidAlone verified programs.now) }
 {
     let copy = copy_of_shape(alloc, shape)?;
-    let WrittenCode { writer, names } = written(alloc, &Source { programs, shape }, None)?;
-    let Writer { out, copies, .. } = writer;
-    match assemble(alloc, copy, out, &copies) {
-        Ok(code) => accepted(alloc, code, programs, &names),
-        Err(error) => Err(error.at(0, 0)),
-    }
+    let code = written(alloc, &Source { programs, shape }, None)?;
+    finished(alloc, &code, programs, copy)
 }
 
 /// The fault that is told, and these behind it.

@@ -130,8 +130,8 @@ fn ways_to(w: &Writer, label: usize) -> Result<Ways, AllocError> {
         reached: true,
         ways: Ways::new(w.alloc)?,
     };
-    for draft in &w.work.block.drafts {
-        walk.pass(w, *draft)?;
+    for piece in &w.work.block.pieces {
+        walk.pass(w, piece.draft)?;
     }
     let Walk { ways, .. } = walk;
     Ok(ways)
@@ -151,13 +151,13 @@ fn split_label(block: &Block, draft: Draft) -> Option<usize> {
 /// The label at which ways meet with different work areas: the last piece; or where nothing behind the pieces is
 /// reached, the head of the loop that ends there.
 fn meeting(block: &Block) -> Option<usize> {
-    let last = split_label(block, *block.drafts.last()?);
+    let last = split_label(block, block.pieces.last()?.draft);
     if last.is_some() || block.reached {
         return last;
     }
     let mut head = None;
-    for draft in &block.drafts {
-        if let Some(label) = split_label(block, *draft) {
+    for piece in &block.pieces {
+        if let Some(label) = split_label(block, piece.draft) {
             head = Some(label);
         }
     }

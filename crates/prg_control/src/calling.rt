@@ -3,9 +3,11 @@
 use crate::body::{Behind, Body};
 use crate::ends::end_procedure;
 use code_items::{FlowInstr, Instr, Name, State, ValueInstr};
-use prg_code::{Block, CompileError, CompileFaultKind, CompileRefusal, Names, Work, is_state_same};
+use prg_code::{
+    Block, CompileError, CompileFaultKind, CompileRefusal, Names, Variable, Work, is_state_same,
+};
 use prg_commands::{argument_slot, new_slot, value};
-use prg_parser::{Command, Expr, Procedure, Program};
+use prg_parser::{Expr, Procedure, Program};
 use prg_writer::{ProcedureCopy, Source, Target, Writer, parameters};
 
 /// The most procedures of a code, copies counted.
@@ -136,8 +138,8 @@ fn hand_all_over(s: &Source, w: &mut Writer, es: &[Expr]) -> Result<Handed, Comp
 fn names_in(w: &Writer, parameters: &[Name], slots: &[u8]) -> Result<Names, CompileError> {
     let mut names = w.work.names.handed_on(w.alloc)?;
     for (name, slot) in parameters.iter().zip(slots.iter()) {
-        names = names.without(w.alloc, name.as_slice())?;
-        names.add(name, *slot, true)?;
+        let slot = *slot;
+        names.set(name, Variable { slot, own: true })?;
     }
     Ok(names)
 }
@@ -262,14 +264,6 @@ fn put_call(w: &mut Writer, number: usize) -> Result<(), CompileError> {
     Ok(())
 }
 
-/// The line of the last command, or this line where there is none.
-pub fn last_line(commands: &[Command], line: usize) -> usize {
-    match commands.last() {
-        Some(command) => command.line,
-        None => line,
-    }
-}
-
 /// `DO procedure [WITH arguments]`: begins a copy of the procedure. Where there is one already, the whole call is put.
 pub fn open_call<'a>(
     s: &'a Source,
@@ -298,7 +292,7 @@ pub fn open_call<'a>(
         leaps: None,
         behind: Behind::Copy(OpenCopy {
             line,
-            last: last_line(list, line),
+            last: s.last_line(target),
             number,
             before,
         }),

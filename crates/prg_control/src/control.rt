@@ -127,6 +127,7 @@ fn opened<'a>(
     command: &'a Command,
 ) -> Result<Option<Body<'a>>, CompileRefusal> {
     let line = command.line;
+    w.work.block.line = line;
     may_begin(w, command)?;
     match &command.form {
         Form::Statement(statement) => open_statement(s, w, leaps, line, statement),

@@ -72,6 +72,7 @@ pub fn end_procedure(w: &mut Writer, line: usize) -> Result<(), CompileRefusal> 
     if !w.work.block.reached {
         return Ok(());
     }
+    w.work.block.line = line;
     let result = put_return(&mut w.work);
     let outcome = w.told(line, result);
     w.passed(outcome)

@@ -12,6 +12,6 @@ mod ends;
 mod loops;
 mod steps;
 
-pub use calling::{end_copy, last_line};
+pub use calling::end_copy;
 pub use control::commands;
 pub use ends::end_procedure;

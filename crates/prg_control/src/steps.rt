@@ -35,6 +35,7 @@ pub fn put_condition(
     label: usize,
 ) -> Result<(), CompileRefusal> {
     let begun = w.begun()?;
+    w.work.block.line = line;
     let result = condition(s.shape, &mut w.out, &mut w.work, e);
     let outcome = w.told(line, result);
     if w.gave_up(begun, outcome)? {
@@ -53,6 +54,7 @@ pub fn new_label(w: &mut Writer, line: usize) -> Result<usize, CompileRefusal> {
 
 /// The label stands here. Merge where different work areas are selected on the ways that meet here.
 pub fn place(w: &mut Writer, line: usize, label: usize) -> Result<(), CompileRefusal> {
+    w.work.block.line = line;
     let result = w.work.block.place(label);
     let outcome = w.told(line, result);
     w.passed(outcome)
@@ -60,6 +62,7 @@ pub fn place(w: &mut Writer, line: usize, label: usize) -> Result<(), CompileRef
 
 /// A JUMP to the label, where this is reached.
 pub fn jump(w: &mut Writer, line: usize, label: usize) -> Result<(), CompileRefusal> {
+    w.work.block.line = line;
     let result = w.work.block.jump(label);
     w.told(line, result)
 }

@@ -7,7 +7,7 @@ use Rattle.code_rules.specs.declared.blocks.Block.{Block}
 use Rattle.code_rules.specs.Flow.{flow}
 use Rattle.code_items.specs.declared.instr.Instr.{Instr}
 use Rattle.xvalue.specs.declared.value.Value.{Value}
-use Rattle.prg_code.specs.declared.names.Binding.{Binding}
+use Rattle.prg_code.specs.Bindings.{NamedVariables}
 use Rattle.prg_parser.specs.Commands.{Cmds}
 use Rattle.prg_laid.specs.Commands.{AreKnown, IsWhole, laying_of}
 use Rattle.code_rules.specs.Places.{instr_at, block_at, or_state, map_at, start_of, begun, incoming_at, state_at}
@@ -45,7 +45,7 @@ pub none_known : (code : Code) → AreKnown code []
 none_known code place s e = absurd (let k = e in cc)
 
 -- the same code, known and numbered the same
-pub whole_as : (code : Code) (names : List Binding) (is : List Instr) (vs : List Value) (known known' : List State) (filters filters' : List Block) (cs : Cmds) (n m : ℕ) → is ≡ code.instructions → vs ≡ code.declared.constants → known ≡ known' → filters ≡ filters' → n ≡ m
+pub whole_as : (code : Code) (names : NamedVariables) (is : List Instr) (vs : List Value) (known known' : List State) (filters filters' : List Block) (cs : Cmds) (n m : ℕ) → is ≡ code.instructions → vs ≡ code.declared.constants → known ≡ known' → filters ≡ filters' → n ≡ m
     → IsWhole (record { text = record { instrs = is; constants = vs }; declared = code.declared; names = names; known = known; filters = filters }) cs n → IsWhole (laying_of code names known' filters') cs m
 whole_as code names is vs known known' filters filters' cs n m a b c d e h =
     subst (λ (k : ℕ). IsWhole (laying_of code names known' filters') cs k) e

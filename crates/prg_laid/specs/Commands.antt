@@ -4,6 +4,7 @@
 use Rattle.std.specs.Prelude.{◌≡◌, ℕ, ◌+◌, Bool, true, false, ◌&&◌, ◌||◌, ◌==◌, not, List, [], ◌∷◌, Option, Some, None}
 use Rattle.std.specs.Prelude.{slice_get, is_some, length}
 use Rattle.std.specs.List.{list_any}
+use Rattle.std.specs.Map.{values_of}
 use Rattle.xvalue.specs.declared.kind.Kind.TheVariants as kind
 use Rattle.xvalue.specs.declared.fun.Fun.TheVariants.{Not}
 use Rattle.code_items.specs.declared.code.Code.{Code}
@@ -21,7 +22,8 @@ use Rattle.prg_expr.specs.Tree.{Tree}
 use Rattle.prg_line.specs.Act.{Act, Letters, Loop, Exit, Return, Quit, Cancel}
 use Rattle.prg_parser.specs.Commands.{Cmd, Cmds, Cases, Part, Single, If, DoCase, DoWhile, Scan, Done, Then, Neither}
 use Rattle.prg_parser.specs.Commands.{When, Absent, Otherwise}
-use Rattle.prg_code.specs.declared.names.Binding.{Binding}
+use Rattle.prg_code.specs.Bindings.{NamedVariables}
+use Rattle.prg_code.specs.declared.names.Variable.{Variable}
 use Rattle.prg_values.specs.Written.{whole as whole_number}
 use Rattle.prg_values.specs.Placed.{Stands}
 use Rattle.laid_lines.specs.Acts.{Does, Puts, may_stand, waiting}
@@ -159,13 +161,13 @@ abbrev pub Closes : Laying → ℕ → Bool → ℕ → Type 0
 Closes f a false b = b ≡ a
 Closes f a true b = Stands f.text a (Flow End) b
 
-abbrev pub has_slot : ℕ → Binding → Bool
-has_slot slot b = b.slot == slot
+abbrev pub has_slot : ℕ → Variable → Bool
+has_slot slot v = v.slot == slot
 
 -- different variables have different slots
-abbrev pub slots_differ : List Binding → Bool
+abbrev pub slots_differ : List Variable → Bool
 slots_differ [] = true
-slots_differ (b ∷ bs) = not (list_any (has_slot b.slot) bs) && slots_differ bs
+slots_differ (v ∷ vs) = not (list_any (has_slot v.slot) vs) && slots_differ vs
 
 -- what is known before places of the code
 abbrev pub AreKnown : Code → List State → Type 0
@@ -183,7 +185,7 @@ abbrev pub IsWhole : Laying → Cmds → ℕ → Type 0
 IsWhole f cs length = (way : Way) × LaidAll f None [] 0 cs way × Closes f way.place way.on length
 
 -- what is known of a code with these slots of its variables
-abbrev pub laying_of : Code → List Binding → List State → List Block → Laying
+abbrev pub laying_of : Code → NamedVariables → List State → List Block → Laying
 laying_of code names known filters =
     record {
       text = record { instrs = code.instructions; constants = code.declared.constants };
@@ -194,12 +196,12 @@ laying_of code names known filters =
     }
 
 -- the main procedure of the code is laid out as the commands say, with these slots of the variables
-pub record IsLaid (code : Code) (names : List Binding) (cs : Cmds) : Type 0 where
+pub record IsLaid (code : Code) (names : NamedVariables) (cs : Cmds) : Type 0 where
   pub known : List State
   pub are_known : AreKnown code known
   pub filters : List Block
   pub are_filters : AreFilters code filters
-  pub slots : slots_differ names ≡ true
+  pub slots : slots_differ (values_of names) ≡ true
   pub main : Proc
   pub first : slice_get code.procedures 0 ≡ Some main
   pub whole : IsWhole (laying_of code names known filters) cs main.length

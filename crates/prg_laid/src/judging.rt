@@ -18,7 +18,7 @@ use code_items::{Code, FlowInstr, Instr, Proc, State};
 use code_rules::blocks::{Block, block_at, map_at, start_of};
 use code_rules::flow::flow;
 use laid_lines::{Layout, after};
-use prg_code::{Binding, Names};
+use prg_code::{Names, Variable};
 use prg_parser::Command;
 use prg_values::Finished;
 use std::alloc::{AllocError, Global};
@@ -105,25 +105,25 @@ fn filter_blocks(alloc: Global, code: &Code) -> Result<Vec<Block>, LayoutFault>
     Ok(filters)
 }
 
-fn has_slot(slot: u8, binding: &Binding) -> bool
-    ensures { result ≡ spec.has_slot slot binding.now }
+fn has_slot(slot: u8, variable: &Variable) -> bool
+    ensures { result ≡ spec.has_slot slot variable.now }
 {
-    binding.slot == slot
+    variable.slot == slot
 }
 
-fn is_taken(slot: u8, bindings: &[Binding]) -> bool
-    ensures { result ≡ list_any (spec.has_slot slot) bindings.now }
+fn is_taken(slot: u8, variables: &[Variable]) -> bool
+    ensures { result ≡ list_any (spec.has_slot slot) variables.now }
 {
-    bindings.iter().any(|binding| has_slot(slot, binding))
+    variables.iter().any(|variable| has_slot(slot, variable))
 }
 
 /// Whether no two variables have one slot.
-fn do_slots_differ(bindings: &[Binding]) -> bool
-    ensures { result ≡ spec.slots_differ bindings.now }
+fn do_slots_differ(variables: &[Variable]) -> bool
+    ensures { result ≡ spec.slots_differ variables.now }
 {
-    let mut rest = bindings;
-    while let Some((binding, others)) = rest.split_first() {
-        if is_taken(binding.slot, others) {
+    let mut rest = variables;
+    while let Some((variable, others)) = rest.split_first() {
+        if is_taken(variable.slot, others) {
             return false;
         }
         rest = others;
@@ -174,7 +174,7 @@ pub fn judge(alloc: Global, code: &Code, names: &Names, list: &[Command]) -> Res
     let Some(main) = main_of(code) else {
         return Err(LayoutFault::Otherwise);
     };
-    if !do_slots_differ(names.bindings()) {
+    if !do_slots_differ(names.variables()) {
         return Err(LayoutFault::Otherwise);
     }
     let length = usize::from(main.length);

@@ -1,12 +1,12 @@
 -- Pieces behind pieces.
-use Rattle.std.proofs.Common.{◌≡◌, ◌<◌, ℕ, zero, suc, Bool, true, false, List, [], ◌∷◌, ◌++◌, Option, Some, slice_get, length, Result, Ok, Err, OnOk, refl, sym, ap, ◌∙◌, subst}
+use Rattle.std.proofs.Common.{◌≡◌, ℕ, zero, suc, Bool, true, false, List, [], ◌∷◌, ◌++◌, Option, Some, slice_get, Result, Ok, Err, OnOk, sym, ap, ◌∙◌, subst}
 use Rattle.std.specs.List.{AllZip}
 use Rattle.std.proofs.lemmas.List.{append_assoc, append-nil}
 use Rattle.xvalue.specs.declared.value.Value.{Value}
 use Rattle.code_items.specs.declared.instr.Instr.{Instr}
 use Rattle.code_items.specs.declared.instr.ValueInstr.TheVariants as value_instr
 use Rattle.code_items.specs.declared.instr.Instr.TheVariants.{Values}
-use Rattle.prg_code.specs.Pools.{Grows}
+use Rattle.prg_code.specs.Numbers.{Grows}
 use Rattle.prg_values.specs.declared.operators.Operation.{Operation}
 use Rattle.prg_values.specs.Written.{Piece, Constant, Does, IsPiece, Emits, operation_pieces, operator_pieces, turned}
 

@@ -1,5 +1,5 @@
 -- The equations of `tree_of`, one for each variant.
-use Rattle.std.proofs.Common.{◌≡◌, ℕ, suc, List, [], ◌∷◌, length, take, map, Bool, Vec, Box, Global, refl, sym, ap, ◌∙◌}
+use Rattle.std.proofs.Common.{◌≡◌, ℕ, suc, List, [], ◌∷◌, length, Bool, Vec, Box, Global, refl, sym, ap, ◌∙◌}
 use Rattle.arrayvec.specs.ArrayVec.{ArrayVec}
 use Rattle.fixed_num.specs.Number.{Number as Decimal}
 use Rattle.prg_expr.specs.Tree.{Tree, tree_of, node_tree, trees_of, count}

@@ -1,5 +1,5 @@
 -- Pieces that stand one behind the other.
-use Rattle.std.proofs.Common.{◌≡◌, ℕ, List, [], ◌∷◌, ◌++◌, Bool, true, false, Option, Some, None, IfSome, sym, subst}
+use Rattle.std.proofs.Common.{◌≡◌, ℕ, List, [], ◌∷◌, ◌++◌, Bool, Option, Some, None, IfSome, sym, subst}
 use Rattle.prg_values.specs.declared.operators.Operation.{Operation}
 use Rattle.prg_values.specs.Written.{Piece, operation_pieces, operator_pieces, turned}
 use Rattle.prg_values.specs.Placed.{Text, StandAll}

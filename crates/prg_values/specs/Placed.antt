@@ -1,5 +1,5 @@
 -- Where the code of an expression stands in a finished code.
-use Rattle.std.specs.Prelude.{◌≡◌, ℕ, suc, List, [], ◌∷◌, Option, Some, slice_get}
+use Rattle.std.specs.Prelude.{◌≡◌, ℕ, suc, List, [], ◌∷◌, Some, slice_get}
 use Rattle.xvalue.specs.declared.kind.Kind.{Kind}
 use Rattle.xvalue.specs.declared.value.Value.{Value}
 use Rattle.code_items.specs.declared.instr.Instr.{Instr}

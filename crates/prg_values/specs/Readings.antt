@@ -1,5 +1,5 @@
 -- What the names of an expression mean, by what is known where it stands.
-use Rattle.std.specs.Prelude.{◌≡◌, ℕ, zero, suc, ◌+◌, ◌-◌, ◌<◌, Bool, true, false, ◌&&◌, ◌==◌, nat_le, nat_lt, List, []}
+use Rattle.std.specs.Prelude.{◌≡◌, ℕ, zero, suc, ◌+◌, ◌-◌, Bool, false, ◌&&◌, ◌==◌, nat_le, nat_lt, List, []}
 use Rattle.std.specs.Prelude.{◌∷◌, Option, Some, None, Result, Ok, Err, slice_get, is_some, codes, if◌then◌else◌}
 use Rattle.std.specs.List.{list_any}
 use Rattle.std.specs.Str.{bytes_eq}
@@ -17,8 +17,7 @@ use Rattle.code_items.specs.declared.instr.ValueInstr.TheVariants.{Load}
 use Rattle.code_items.specs.declared.instr.RecordInstr.TheVariants as record_instr
 use Rattle.code_items.specs.declared.instr.Instr.TheVariants.{Values, Records}
 use Rattle.prg_code.specs.declared.fault.CompileFaultKind.{CompileFaultKind}
-use Rattle.prg_code.specs.declared.names.Binding.{Binding}
-use Rattle.prg_code.specs.Bindings.{slot_named}
+use Rattle.prg_code.specs.Bindings.{NamedVariables, slot_named}
 use Rattle.prg_values.specs.declared.scope.Scope.{Scope}
 use Rattle.prg_values.specs.declared.scope.Reading.{Reading}
 use Rattle.prg_values.specs.declared.scope.FieldPlace.{FieldPlace}
@@ -28,7 +27,7 @@ use Rattle.prg_values.specs.declared.scope.FieldPlace.{FieldPlace}
 pub record Scoped : Type 0 where
   pub shape : Shape
   pub state : State
-  pub names : List Binding
+  pub names : NamedVariables
   pub in_filter : Bool
 
 abbrev pub scoped : Scope → Scoped

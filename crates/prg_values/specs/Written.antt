@@ -1,5 +1,5 @@
 -- The kind of an expression's value, and what is written for it.
-use Rattle.std.specs.Prelude.{◌≡◌, ℕ, zero, suc, Bool, true, false, ◌&&◌, List, [], ◌∷◌, ◌++◌, Option, Some, None}
+use Rattle.std.specs.Prelude.{◌≡◌, ℕ, zero, suc, Bool, true, false, List, [], ◌∷◌, ◌++◌, Option, Some, None}
 use Rattle.std.specs.Prelude.{length, map, slice_get, is_none, pos, if◌then◌else◌}
 use Rattle.std.specs.List.{AllZip}
 use Rattle.fixed_num.specs.Number.{finite}
@@ -29,7 +29,6 @@ use Rattle.prg_values.specs.declared.calls.Called.{Called}
 use Rattle.prg_values.specs.declared.calls.Called.TheVariants as called
 use Rattle.prg_values.specs.declared.operators.Operation.{Operation}
 use Rattle.prg_values.specs.declared.scope.Reading.{Reading}
-use Rattle.prg_code.specs.Pools.{Grows}
 use Rattle.prg_values.specs.Operators.{operated, prefix_kind, prefix_fun}
 use Rattle.prg_values.specs.Readings.{Scoped, on_some, read_name, read_qualified}
 

@@ -2,7 +2,7 @@
 
 ghost use Rattle.std.specs.Prelude.{◌≡◌, List, [], ◌∷◌, ◌++◌, Option, Some, IfOk, OnOk, length};
 ghost use Rattle.xvalue.specs.declared.value.Value.{Value as Constant};
-ghost use Rattle.prg_code.specs.Pools.{Grows};
+ghost use Rattle.prg_code.specs.Numbers.{Grows};
 ghost use Rattle.prg_expr.specs.Tree.{tree_of, trees_of};
 ghost use Rattle.xvalue.specs.declared.kind.Kind.{Kind as AnyKind};
 ghost use Rattle.prg_values.specs.declared.scope.Reading.{Reading as TheReading};
@@ -17,17 +17,10 @@ use crate::operators::{Operation, operated, prefix_fun};
 use crate::scope::{Reading, Scope, read_name, read_qualified};
 use code_items::{Instr, RecordInstr, ValueInstr};
 use fixed_num::Num;
-use prg_code::{CompileError, CompileFaultKind, Pool};
+use prg_code::{CompileError, CompileFaultKind, CompileRefusal, Pool};
 use prg_expr::{Expr, Function};
 use std::alloc::Global;
 use xvalue::{Fun, Kind, Value, copy_of};
-
-/// An expression's code, and the kind of the value that it leaves on top.
-#[derive(Drop)]
-pub struct Compiled {
-    pub code: Vec<Instr>,
-    pub kind: Kind,
-}
 
 fn put(code: &mut Vec<Instr>, instr: Instr) -> Result<(), CompileError>
     ensures { OnOk result ((constants : List Constant)
@@ -41,7 +34,7 @@ fn put_constant(code: &mut Vec<Instr>, pool: &mut Pool, value: Value) -> Result<
     ensures ok { OnOk result (Emits (spec.Constant value ∷ []) pool.new code.old.items code.new.items) }
     ensures grown { Grows pool.old pool.new }
 {
-    let number = pool.number(value)?;
+    let number = pool.number_of(value)?;
     put(code, Instr::Values(ValueInstr::Constant(number)))
 }
 
@@ -259,12 +252,9 @@ fn emit(code: &mut Vec<Instr>, pool: &mut Pool, scope: &Scope, e: &Expr) -> Resu
         Expr::Number(number) => put_constant(code, pool, Value::Number(*number)),
         Expr::Text(text) => put_constant(code, pool, Value::Text(copy_of(text))),
         Expr::Logical(truth) => put_constant(code, pool, Value::Logical(*truth)),
-        Expr::Name(name) => put_reading(code, read_name(scope, name.as_slice())),
+        Expr::Name(name) => put_reading(code, read_name(scope, name)),
         Expr::Qualified(alias, name) => {
-            put_reading(
-                code,
-                read_qualified(scope, alias.as_slice(), name.as_slice()),
-            )
+            put_reading(code, read_qualified(scope, alias.as_slice(), name))
         }
         Expr::Call(function, arguments) => emit_call(code, pool, scope, *function, arguments),
         Expr::Parentheses(inner) => emit(code, pool, scope, inner),
@@ -284,26 +274,7 @@ fn emit(code: &mut Vec<Instr>, pool: &mut Pool, scope: &Scope, e: &Expr) -> Resu
     }
 }
 
-/// The code of an expression and its kind. Where the expression is faulty, its first fault; constants are added to the
-/// pool either way.
-pub fn with_kind(
-    alloc: Global,
-    e: &Expr,
-    scope: &Scope,
-    pool: &mut Pool,
-) -> Result<Compiled, CompileError>
-    ensures ok { IfOk result (λ compiled. IsWritten (scoped scope.now)
-        (tree_of e.now) compiled.kind pool.new compiled.code.items) }
-    ensures grown { Grows pool.old pool.new }
-{
-    let kind = kind_of(scope, e)?;
-    let mut code = Vec::new(alloc);
-    emit(&mut code, pool, scope, e)?;
-    Ok(Compiled { code, kind })
-}
-
-/// The code of an expression, which leaves its value on top.
-pub fn compile_expr(
+fn written(
     alloc: Global,
     e: &Expr,
     scope: &Scope,
@@ -313,6 +284,30 @@ pub fn compile_expr(
         × IsWritten (scoped scope.now) (tree_of e.now) kind pool.new code.items) }
     ensures grown { Grows pool.old pool.new }
 {
-    let Compiled { code, .. } = with_kind(alloc, e, scope, pool)?;
+    let _kind = kind_of(scope, e)?;
+    let mut code = Vec::new(alloc);
+    emit(&mut code, pool, scope, e)?;
     Ok(code)
+}
+
+/// The code of an expression, which leaves its value on top. Constants are added to the pool, also where the expression
+/// is refused.
+///
+/// # Errors
+///
+/// The expression's first fault, without file and line; want of memory.
+pub fn compile_expr(
+    alloc: Global,
+    e: &Expr,
+    scope: &Scope,
+    pool: &mut Pool,
+) -> Result<Vec<Instr>, CompileRefusal>
+    ensures ok { IfOk result (λ code. (kind : AnyKind)
+        × IsWritten (scoped scope.now) (tree_of e.now) kind pool.new code.items) }
+    ensures grown { Grows pool.old pool.new }
+{
+    match written(alloc, e, scope, pool) {
+        Ok(code) => Ok(code),
+        Err(error) => Err(error.at(0, 0)),
+    }
 }

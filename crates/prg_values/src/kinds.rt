@@ -11,18 +11,18 @@ use crate::calls::call_kind;
 use crate::operators::{operated, prefix_kind};
 use crate::scope::{Reading, Scope, read_name, read_qualified};
 use prg_code::CompileFaultKind;
-use prg_expr::{Expr, Operator, Prefix};
+use prg_expr::{Expr, Name, Operator, Prefix};
 use xvalue::Kind;
 
-fn name_kind(scope: &Scope, name: &[u8]) -> Result<Kind, CompileFaultKind>
-    ensures { Reads result (spec.reading_kind (read_name_of (scoped scope.now) name.now)) }
+fn name_kind(scope: &Scope, name: &Name) -> Result<Kind, CompileFaultKind>
+    ensures { Reads result (spec.reading_kind (read_name_of (scoped scope.now) name.now.items)) }
 {
     let Reading { kind, .. } = read_name(scope, name)?;
     Ok(kind)
 }
 
-fn qualified_kind(scope: &Scope, alias: &[u8], name: &[u8]) -> Result<Kind, CompileFaultKind>
-    ensures { Reads result (spec.reading_kind (read_qualified_of (scoped scope.now) alias.now name.now)) }
+fn qualified_kind(scope: &Scope, alias: &[u8], name: &Name) -> Result<Kind, CompileFaultKind>
+    ensures { Reads result (spec.reading_kind (read_qualified_of (scoped scope.now) alias.now name.now.items)) }
 {
     let Reading { kind, .. } = read_qualified(scope, alias, name)?;
     Ok(kind)
@@ -58,8 +58,8 @@ pub fn kind_of(scope: &Scope, e: &Expr) -> Result<Kind, CompileFaultKind>
         Expr::Number(_) => Ok(Kind::Number),
         Expr::Text(_) => Ok(Kind::Text),
         Expr::Logical(_) => Ok(Kind::Logical),
-        Expr::Name(name) => name_kind(scope, name.as_slice()),
-        Expr::Qualified(alias, name) => qualified_kind(scope, alias.as_slice(), name.as_slice()),
+        Expr::Name(name) => name_kind(scope, name),
+        Expr::Qualified(alias, name) => qualified_kind(scope, alias.as_slice(), name),
         Expr::Call(function, arguments) => {
             let mut kinds = kinds_of(scope, arguments)?;
             call_kind(scope, *function, &mut kinds)

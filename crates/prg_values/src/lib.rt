@@ -10,7 +10,7 @@ mod sameness;
 mod scope;
 mod standing;
 
-pub use compiling::{Compiled, compile_expr, with_kind};
+pub use compiling::compile_expr;
 pub use kinds::kind_of;
 pub use operators::{Operation, operated};
 pub use scope::{

@@ -7,7 +7,7 @@ ghost use Rattle.prg_values.specs.Readings.{scoped, Reads};
 ghost use Rattle.prg_code.specs.Bindings.{slot_named};
 
 use code_items::{
-    AreaState, Desk, Instr, OpenArea, RecordInstr, Shape, State, TableShape, ValueInstr,
+    AreaState, Desk, Instr, Name, OpenArea, RecordInstr, Shape, State, TableShape, ValueInstr,
 };
 use dbf_file::Field;
 use prg_code::{CompileFaultKind, Names};
@@ -128,8 +128,8 @@ fn read_field(scope: &Scope, area: u8, field: FieldPlace) -> Result<Reading, Com
 }
 
 /// The slot of a variable, which need not have a value: Name where there is no such variable.
-pub fn variable_slot(scope: &Scope, name: &[u8]) -> Result<u8, CompileFaultKind>
-    ensures { Reads result (slot_named (scoped scope.now).names name.now) }
+pub fn variable_slot(scope: &Scope, name: &Name) -> Result<u8, CompileFaultKind>
+    ensures { Reads result (slot_named (scoped scope.now).names name.now.items) }
 {
     match scope.names.slot(name) {
         Some(slot) => Ok(slot),
@@ -138,8 +138,8 @@ pub fn variable_slot(scope: &Scope, name: &[u8]) -> Result<u8, CompileFaultKind>
 }
 
 /// Reads a variable: Name where there is none of this name, Unset where it may have no value.
-fn read_variable(scope: &Scope, name: &[u8]) -> Result<Reading, CompileFaultKind>
-    ensures { Reads result (readings.variable (scoped scope.now) name.now) }
+fn read_variable(scope: &Scope, name: &Name) -> Result<Reading, CompileFaultKind>
+    ensures { Reads result (readings.variable (scoped scope.now) name.now.items) }
 {
     let slot = variable_slot(scope, name)?;
     match scope.state.slots.kinds().get(usize::from(slot)) {
@@ -171,10 +171,10 @@ pub fn selected_field(scope: &Scope, name: &[u8]) -> Result<Option<FieldPlace>, 
 
 /// Reads a name without alias: a field of the selected area's table, else a variable.
 #[tactic(auto, unfolding(crate::specs::Readings::read_name))]
-pub fn read_name(scope: &Scope, name: &[u8]) -> Result<Reading, CompileFaultKind>
-    ensures { Reads result (readings.read_name (scoped scope.now) name.now) }
+pub fn read_name(scope: &Scope, name: &Name) -> Result<Reading, CompileFaultKind>
+    ensures { Reads result (readings.read_name (scoped scope.now) name.now.items) }
 {
-    match selected_field(scope, name)? {
+    match selected_field(scope, name.as_slice())? {
         Some(field) => read_field(scope, scope.state.desk.selected, field),
         None => read_variable(scope, name),
     }
@@ -311,12 +311,17 @@ fn read_of_area(
 
 /// Reads a name behind an alias: the variable behind `M`, else the field of the alias's area.
 #[tactic(auto, unfolding(crate::specs::Readings::read_qualified))]
-pub fn read_qualified(scope: &Scope, alias: &[u8], name: &[u8]) -> Result<Reading, CompileFaultKind>
-    ensures { Reads result (readings.read_qualified (scoped scope.now) alias.now name.now) }
+pub fn read_qualified(scope: &Scope, alias: &[u8], name: &Name) -> Result<Reading, CompileFaultKind>
+    ensures { Reads result (readings.read_qualified (scoped scope.now) alias.now name.now.items) }
 {
     if alias == b"M".as_slice() {
         return read_variable(scope, name);
     }
     let number = area_of_alias(scope, alias)?;
-    read_of_area(scope, name, number, area_at(&scope.state.desk, number))
+    read_of_area(
+        scope,
+        name.as_slice(),
+        number,
+        area_at(&scope.state.desk, number),
+    )
 }

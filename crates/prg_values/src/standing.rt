@@ -18,7 +18,7 @@ use crate::scope::{Reading, Scope, read_name, read_qualified};
 use code_items::{Instr, RecordInstr, ValueInstr};
 use fixed_num::Num;
 use prg_code::{CompileFaultKind, is_same_constant};
-use prg_expr::{Expr, Function};
+use prg_expr::{Expr, Function, Name};
 use xvalue::{Fun, Kind, Value, copy_of};
 
 /// A finished code: its instructions by place, and its constants by number, both counted from 0.
@@ -83,9 +83,9 @@ fn behind_reading(f: &Finished, place: usize, reading: Reading) -> Option<usize>
     behind_instr(f, place, reading.instr)
 }
 
-fn behind_name(f: &Finished, scope: &Scope, place: usize, name: &[u8]) -> Option<usize>
+fn behind_name(f: &Finished, scope: &Scope, place: usize, name: &Name) -> Option<usize>
     ensures { IfSome result (λ b. StandAll (text f.now) place
-        (spec.reading_pieces (readings.read_name (scoped scope.now) name.now)) b) }
+        (spec.reading_pieces (readings.read_name (scoped scope.now) name.now.items)) b) }
 {
     match read_name(scope, name) {
         Ok(reading) => behind_reading(f, place, reading),
@@ -98,10 +98,10 @@ fn behind_qualified(
     scope: &Scope,
     place: usize,
     alias: &[u8],
-    name: &[u8],
+    name: &Name,
 ) -> Option<usize>
     ensures { IfSome result (λ b. StandAll (text f.now) place
-        (spec.reading_pieces (readings.read_qualified (scoped scope.now) alias.now name.now)) b) }
+        (spec.reading_pieces (readings.read_qualified (scoped scope.now) alias.now name.now.items)) b) }
 {
     match read_qualified(scope, alias, name) {
         Ok(reading) => behind_reading(f, place, reading),
@@ -234,9 +234,9 @@ fn behind_code(f: &Finished, scope: &Scope, place: usize, e: &Expr) -> Option<us
         Expr::Number(number) => behind_constant(f, place, &Value::Number(*number)),
         Expr::Text(text) => behind_constant(f, place, &Value::Text(copy_of(text))),
         Expr::Logical(truth) => behind_constant(f, place, &Value::Logical(*truth)),
-        Expr::Name(name) => behind_name(f, scope, place, name.as_slice()),
+        Expr::Name(name) => behind_name(f, scope, place, name),
         Expr::Qualified(alias, name) => {
-            behind_qualified(f, scope, place, alias.as_slice(), name.as_slice())
+            behind_qualified(f, scope, place, alias.as_slice(), name)
         }
         Expr::Call(function, arguments) => behind_call(f, scope, place, *function, arguments),
         Expr::Parentheses(inner) => behind_code(f, scope, place, inner),

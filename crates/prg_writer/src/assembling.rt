@@ -3,19 +3,17 @@
 ghost use Rattle.std.specs.Prelude.{◌≡◌, IfOk};
 
 use crate::writer::ProcedureCopy;
+use arrayvec::ArrayVec;
 use code_items::{
-    AreaState, Code, Declared, Desk, Filter, Instr, Items, KindSlots, KindStack, Map, Proc, Shape,
-    State, Version,
+    AreaState, Code, Declared, Desk, Filter, IndexList, Items, KindSlots, KindStack, Map, Proc,
+    Shape, State, Version,
 };
-use prg_code::{CompileError, CompileFaultKind, FilterBlock, LaidOut, Output, lay};
+use prg_code::{
+    CompileError, CompileFaultKind, CompileRefusal, Constant, FilterBlock, LaidOut, ListedIndexes,
+    Output, lay,
+};
 use std::alloc::{AllocError, Global};
-use xvalue::Kind;
-
-/// The most instructions of a code.
-const MOST_INSTRUCTIONS: usize = 65535;
-
-/// The most maps of a code.
-const MOST_MAPS: usize = 4096;
+use xvalue::{Kind, Value};
 
 fn first_kinds(kinds: &[Option<Kind>], slots: usize) -> &[Option<Kind>] {
     kinds.get(..slots).unwrap_or(kinds)
@@ -33,10 +31,11 @@ fn trimmed(alloc: Global, state: &State, slots: usize) -> Result<State, AllocErr
     })
 }
 
-fn two_bytes(number: usize) -> Result<u16, CompileError> {
+/// A number that stands in two bytes, as all do where `LaidOut::fits`.
+fn two_bytes(number: usize) -> Result<u16, CompileRefusal> {
     match u16::try_from(number) {
         Ok(number) => Ok(number),
-        Err(_) => Err(CompileError::Fault(CompileFaultKind::Limit)),
+        Err(_) => Err(CompileError::Fault(CompileFaultKind::Limit).at(0, 0)),
     }
 }
 
@@ -53,9 +52,9 @@ fn lay_copy(
     laid: &mut LaidOut,
     copy: &ProcedureCopy,
     slots: usize,
-) -> Result<Proc, CompileError> {
+) -> Result<Proc, CompileRefusal> {
     let first = laid.instrs.len();
-    lay(alloc, laid, &copy.block, &copy.own)?;
+    lay(alloc, laid, &copy.block, &copy.own, copy.target.file)?;
     let length = laid.instrs.len().saturating_sub(first);
     Ok(Proc {
         length: two_bytes(length)?,
@@ -70,7 +69,7 @@ fn lay_copies(
     laid: &mut LaidOut,
     copies: &[ProcedureCopy],
     slots: usize,
-) -> Result<Vec<Proc>, CompileError> {
+) -> Result<Vec<Proc>, CompileRefusal> {
     let mut procedures = Vec::new(alloc);
     for copy in copies {
         let procedure = lay_copy(alloc, laid, copy, slots)?;
@@ -81,21 +80,17 @@ fn lay_copies(
 
 fn lay_filters(
     alloc: Global,
-    instrs: &mut Vec<Instr>,
-    blocks: Vec<FilterBlock>,
-) -> Result<Vec<Filter>, CompileError> {
+    laid: &mut LaidOut,
+    blocks: &[FilterBlock],
+) -> Result<Vec<Filter>, CompileRefusal> {
     let mut filters = Vec::new(alloc);
     for filter in blocks {
-        let FilterBlock {
-            table,
-            needs,
-            block,
-        } = filter;
-        instrs.extend_from_slice(&block)?;
+        laid.instrs.extend_from_slice(&filter.block)?;
+        laid.fits(filter.at)?;
         filters.push(Filter {
-            table,
-            length: two_bytes(block.len())?,
-            needs: Items::of(needs),
+            table: filter.table,
+            length: two_bytes(filter.block.len())?,
+            needs: Items::of(Vec::from_slice(alloc, &filter.needs)?),
         })?;
     }
     Ok(filters)
@@ -105,10 +100,7 @@ fn trimmed_maps(
     alloc: Global,
     maps: &[(usize, State)],
     slots: usize,
-) -> Result<Vec<Map>, CompileError> {
-    if maps.len() > MOST_MAPS {
-        return Err(CompileError::Fault(CompileFaultKind::Limit));
-    }
+) -> Result<Vec<Map>, CompileRefusal> {
     let mut trims = Vec::new(alloc);
     for (place, state) in maps {
         trims.push(Map {
@@ -117,6 +109,26 @@ fn trimmed_maps(
         })?;
     }
     Ok(trims)
+}
+
+fn copies_of_constants(alloc: Global, constants: &[Constant]) -> Result<Vec<Value>, AllocError>
+    ensures { IfOk result (λ values. values.items ≡ constants.now) }
+{
+    let mut values = Vec::with_capacity(alloc, constants.len())?;
+    for constant in constants {
+        values.push(constant.value().copied())?;
+    }
+    Ok(values)
+}
+
+fn copies_of_lists(alloc: Global, lists: &[ListedIndexes]) -> Result<Vec<IndexList>, AllocError> {
+    let mut copies = Vec::with_capacity(alloc, lists.len())?;
+    for list in lists {
+        let mut indexes = ArrayVec::new();
+        indexes.try_extend_from_slice(list.as_slice()).unwrap();
+        copies.push(IndexList { indexes })?;
+    }
+    Ok(copies)
 }
 
 fn is_unsure(area: AreaState) -> bool {
@@ -158,44 +170,37 @@ fn bound_of(highest: usize, copies: &[ProcedureCopy]) -> usize {
     bound
 }
 
-/// The code of the copies and of what they have in common. Limit where it is too large.
+/// The code of the copies and of what they have in common.
+///
+/// # Errors
+///
+/// Limit in the line of the first command whose code has no room. Want of memory.
 pub fn assemble(
     alloc: Global,
     shape: Shape,
-    out: Output,
+    out: &Output,
     copies: &[ProcedureCopy],
-) -> Result<Code, CompileError>
+) -> Result<Code, CompileRefusal>
     ensures { IfOk result (λ code. code.declared.shape ≡ shape) }
 {
-    let slots = out.slots;
+    let slots = usize::from(out.slots);
     let mut laid = LaidOut::new(alloc);
-    let procedures = lay_copies(alloc, &mut laid, copies, usize::from(slots))?;
-    let LaidOut { mut instrs, maps } = laid;
+    let procedures = lay_copies(alloc, &mut laid, copies, slots)?;
+    let filters = lay_filters(alloc, &mut laid, out.filters.as_slice())?;
+    let maps = trimmed_maps(alloc, &laid.maps, slots)?;
     let bound = bound_of(out.highest, copies);
-    let Output {
-        pool,
-        lists,
-        filters,
-        century,
-        ..
-    } = out;
-    let filters = lay_filters(alloc, &mut instrs, filters.into_filters())?;
-    if instrs.len() > MOST_INSTRUCTIONS {
-        return Err(CompileError::Fault(CompileFaultKind::Limit));
-    }
-    let maps = trimmed_maps(alloc, &maps, usize::from(slots))?;
     Ok(Code {
         declared: Declared {
-            version: version_of(century, &procedures, &maps),
+            version: version_of(out.century, &procedures, &maps),
             stack_bound: two_bytes(bound)?,
-            slots,
+            slots: out.slots,
             shape,
-            lists: Items::of(lists.into_lists()),
-            constants: Items::of(pool.into_values()),
+            lists: Items::of(copies_of_lists(alloc, out.lists.as_slice())?),
+            constants: Items::of(copies_of_constants(alloc, out.pool.as_slice())?),
             filters: Items::of(filters),
         },
         procedures: Items::of(procedures),
         maps: Items::of(maps),
-        instructions: Items::of(instrs),
+        instructions: Items::of(laid.instrs),
     })
 }

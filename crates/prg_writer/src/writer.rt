@@ -70,7 +70,7 @@ pub struct Begun {
 /// How much was written at some time.
 #[derive(Drop)]
 pub struct Mark {
-    drafts: usize,
+    pieces: usize,
     labels: usize,
     constants: usize,
     lists: usize,
@@ -105,6 +105,23 @@ impl Source<'_> {
             None => &[],
         }
     }
+
+    /// The line of a procedure's last command; of one without commands, that of its PROCEDURE, or the file's first.
+    pub fn last_line(&self, target: Target) -> usize {
+        if let Some(command) = self.commands(target).last() {
+            return command.line;
+        }
+        let Some(program) = self.programs.get(target.file) else {
+            return 1;
+        };
+        match target.procedure {
+            Some(number) => match program.procedures.get(number) {
+                Some(procedure) => procedure.line,
+                None => 1,
+            },
+            None => 1,
+        }
+    }
 }
 
 /// The parameters that a procedure's first command names, and the commands behind it.
@@ -122,7 +139,7 @@ impl Writer {
     /// How much is written.
     pub fn mark(&self) -> Result<Mark, AllocError> {
         Ok(Mark {
-            drafts: self.work.block.drafts.len(),
+            pieces: self.work.block.pieces.len(),
             labels: self.work.block.labels.len(),
             constants: self.out.pool.len(),
             lists: self.out.lists.len(),
@@ -139,7 +156,7 @@ impl Writer {
 
     /// Gives up what was written since, and goes on with what is known now.
     pub fn give_up(&mut self, mark: &Mark, state: State) -> Result<(), AllocError> {
-        self.work.block.cut(mark.drafts, mark.labels, state);
+        self.work.block.cut(mark.pieces, mark.labels, state);
         self.out.pool.cut(mark.constants);
         self.out.lists.cut(mark.lists);
         self.out.filters.cut(mark.filters);

@@ -3,4 +3,11 @@ use Rattle.laid_lines.proofs.Finding.{on_found}
 use Rattle.laid_lines.proofs.screen.got.Goals as goal
 
 pub returns : goal.returns
-returns c = on_found c.screen.result (λ b h. (c.in_ok-named.named.reading, c.in_ok-end.end, c.in_ok-named.named.end, c.in_ok-end.ensures, rw (← c.as_slice.ensures.value) c.in_ok-named.ensures, h)) c.screen.ensures
+returns c = on_found c.screen.result (λ b h. (
+  c.in_ok-named.named.reading,
+  c.in_ok-end.end,
+  c.in_ok-named.named.end,
+  c.in_ok-end.ensures,
+  c.in_ok-named.ensures,
+  h,
+)) c.screen.ensures

@@ -1,6 +1,5 @@
-use Rattle.std.proofs.Common.{◌≡◌, List, ◌++◌, ◌+◌, take, sym, ap, ◌∙◌, subst, length}
+use Rattle.std.proofs.Common.{List, ◌++◌, take, sym, ap, ◌∙◌, subst, length}
 use Rattle.prg_expr.specs.Tree.{tree_of, trees_of}
-use Rattle.prg_values.specs.Operators.{prefix_fun}
 use Rattle.prg_values.specs.Readings.{scoped}
 use Rattle.prg_values.specs.Written.{Piece, Emits, pieces_in, all_pieces, prefix_pieces, constants, defaults, call_pieces, meaning, operation_in, kind_in}
 use Rattle.prg_values.proofs.Equations.{tree_binary}

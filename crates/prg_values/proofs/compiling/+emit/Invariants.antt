@@ -1,5 +1,5 @@
 use Rattle.std.proofs.Common.{take}
-use Rattle.prg_code.specs.Pools.{Grows}
+use Rattle.prg_code.specs.Numbers.{Grows}
 use Rattle.prg_expr.specs.Tree.{trees_of}
 use Rattle.prg_values.specs.Readings.{scoped}
 use Rattle.prg_values.specs.Written.{all_pieces, Emits}

@@ -1,7 +1,7 @@
-use Rattle.std.proofs.Common.{◌≡◌, ℕ, true, Option, Some, sym, ap, ◌∙◌, arith}
+use Rattle.std.proofs.Common.{◌≡◌, Some, sym, ap, ◌∙◌, arith}
 use Rattle.std.proofs.lemmas.Bool.Decides.{nat_tests}
 use Rattle.xvalue.specs.declared.fun.Fun.{Fun}
-use Rattle.xvalue.specs.Signature.{numbered, function_number}
+use Rattle.xvalue.specs.Signature.{numbered}
 use Rattle.prg_values.proofs.sameness.is_same_function.Goals as goal
 
 both : (f g : Fun) → Some f ≡ Some g → f ≡ g

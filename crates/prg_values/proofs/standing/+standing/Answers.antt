@@ -1,7 +1,6 @@
-use Rattle.std.proofs.Common.{◌≡◌, List, ◌++◌, ◌+◌, take, sym, ap, ◌∙◌, subst, length, true, false, IfSome}
+use Rattle.std.proofs.Common.{List, ◌++◌, take, sym, ap, ◌∙◌, subst, length, true, false, IfSome}
 use Rattle.prg_expr.specs.Tree.{tree_of, trees_of}
 use Rattle.prg_expr.specs.declared.tree.Expr.{Expr}
-use Rattle.prg_values.specs.Operators.{prefix_fun}
 use Rattle.prg_values.specs.Placed.{text, StandAll}
 use Rattle.prg_values.specs.Readings.{scoped}
 use Rattle.prg_values.specs.Written.{Piece, pieces_in, all_pieces, prefix_pieces, constants, defaults, call_pieces, meaning, operation_in, kind_in}
