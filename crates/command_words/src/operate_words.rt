@@ -70,7 +70,8 @@ pub(crate) fn operator<'a>(alloc: Global) -> Result<Command<'a>, AllocError> {
         alloc,
         "operate",
         "Runs a code file in conversation with an operator, whose lines a journal keeps",
-        "Example: dbrun operate DAY.XBC --journal MONDAY.TXT",
+        "Left out, --today is the computer's day in the zone of TZ, and where a person types, --budget is the greatest number.\n\n\
+         Example, behind that of compile: dbrun operate DAY.XBC --journal MONDAY.TXT",
     )?;
     let journal = Arg::new(alloc, JOURNAL)
         .long(JOURNAL)
@@ -168,7 +169,7 @@ fn talk_of<'a>(matches: &ArgMatches<'a>) -> Result<Option<TalkWords<'a>>, WordsF
         budget: matches.get_one::<u64>("budget"),
         limit: limit_of(matches)?,
         day: day_if_said(matches)?,
-        tables: run_outcomes(matches),
+        tables: run_outcomes(matches)?,
         page: page_of(matches)?,
     }))
 }

@@ -37,6 +37,10 @@ pub enum WordsFault {
     Window,
     /// A conversation that goes on is asked for what it was asked for already.
     Continued,
+    /// A rehearsal is told how to save.
+    Rehearsed,
+    /// The day is to be the computer's, and that isn't known.
+    Zone,
 }
 
 /// On which terms the tables of a run are saved.
@@ -126,7 +130,7 @@ Status:
   3  the budget is spent
   4  a table is full
   5  memory was refused
-  6  the device or standard output failed, or another run has the folder
+  6  the device or standard output failed, another run has the folder, or a run only finished an earlier one's save
   7  a fault under check-run";
 
 /// The words that name files.
@@ -298,13 +302,13 @@ fn with_runners<'a>(alloc: Global, command: Command<'a>) -> Result<Command<'a>, 
         alloc,
         "run",
         "Runs a code file that the verifier accepts, and saves its tables",
-        "Example: dbrun run DAY.XBC --today 1985-01-15 < day.txt",
+        "Example, behind that of compile: dbrun run DAY.XBC --today 1985-01-15 < day.txt",
     )?;
     let check = runner(
         alloc,
         "check-run",
         "Runs any code file, testing each instruction first; saves nothing",
-        "Example: dbrun check-run DAY.XBC --changes < day.txt",
+        "Example, behind that of compile: dbrun check-run DAY.XBC --changes < day.txt",
     )?;
     let changes = flag(alloc, CHANGES, "Tells what a run would save");
     command
@@ -320,14 +324,14 @@ fn with_readers<'a>(alloc: Global, command: Command<'a>) -> Result<Command<'a>, 
             "verify",
             "Tells whether a code file is accepted",
             "CODE",
-            "Example: dbrun verify DAY.XBC",
+            "Example, behind that of compile: dbrun verify DAY.XBC",
         )?)?
         .subcommand(reader(
             alloc,
             "code",
             "Lists a code file",
             "CODE",
-            "Example: dbrun code DAY.XBC",
+            "Example, behind that of compile: dbrun code DAY.XBC",
         )?)?
         .subcommand(lister(alloc)?)?
         .subcommand(reader(
@@ -335,7 +339,7 @@ fn with_readers<'a>(alloc: Global, command: Command<'a>) -> Result<Command<'a>, 
             "index",
             "Lists an index file",
             "INDEX",
-            "Example: dbrun index ORDKEY.NDX",
+            "Example, behind that of run: dbrun index ORDKEY.NDX",
         )?)?
         .subcommand(declarer(alloc))?
         .subcommand(forgetter(alloc)?)
@@ -414,16 +418,20 @@ fn asked<'a>(
 }
 
 /// What becomes of the tables of a run that may save them.
-pub(crate) fn run_outcomes<'a>(matches: &ArgMatches<'a>) -> Outcomes<'a> {
-    if matches.get_flag(REHEARSE) {
-        return Outcomes::Told;
-    }
-    Outcomes::Saved(SaveWords {
+pub(crate) fn run_outcomes<'a>(matches: &ArgMatches<'a>) -> Result<Outcomes<'a>, WordsFault> {
+    let save = SaveWords {
         only_finished: matches.get_flag(ONLY_FINISHED),
         backup: matches.get_str(BACKUP),
         new_owner: matches.get_flag(NEW_OWNER),
         no_lock: matches.get_flag(NO_LOCK),
-    })
+    };
+    if !matches.get_flag(REHEARSE) {
+        return Ok(Outcomes::Saved(save));
+    }
+    if save.only_finished || save.backup.is_some() || save.new_owner {
+        return Err(WordsFault::Rehearsed);
+    }
+    Ok(Outcomes::Told)
 }
 
 /// What the words of `check-run` ask for.
@@ -451,7 +459,7 @@ pub fn words_of<'a>(matches: &ArgMatches<'a>) -> Result<Words<'a>, WordsFault> {
         "faults" => Ok(Words::Faults {
             decl: word_of(matches, DECLARATIONS)?,
         }),
-        "run" => asked(matches, false, run_outcomes(matches), screens_of(matches)),
+        "run" => asked(matches, false, run_outcomes(matches)?, screens_of(matches)),
         "operate" => match operate_of(matches) {
             Ok(words) => Ok(Words::Operate(words)),
             Err(fault) => Err(fault),

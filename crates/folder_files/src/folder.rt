@@ -4,8 +4,10 @@
 ghost use Rattle.std.specs.Prelude.{◌≡◌, ◌≤◌};
 ghost use Rattle.file_access.specs.Holding.{Rose};
 
+use crate::papers::PAPER;
 use crate::replacing::{Unreplaced, replace_file};
 use file_access::{Device, Files, ReadFault, read_within};
+use save_rules::{Overwritten, overwritten_by};
 use save_steps::Sum;
 use std::alloc::{Alloc, Global};
 use std::fs::{self, OpenFile};
@@ -52,6 +54,17 @@ pub struct Folder<'a, R, L> {
     unreplaced: Option<Unreplaced>,
 }
 
+/// Whether a folder, a device or a pipe stands under a table's or an index's name. To read a pipe is to wait for it.
+fn is_no_table<R: Disk>(rt: &R, name: &str) -> bool {
+    match overwritten_by(name, "", &[], PAPER) {
+        Some(Overwritten::Table | Overwritten::Index) => match fs::metadata(rt, name) {
+            Ok(data) => !data.is_file(),
+            Err(_) => false,
+        },
+        _ => false,
+    }
+}
+
 impl<'a, R: Disk + Alloc<A = Global>, L: Listener> Folder<'a, R, L> {
     /// The folder, with no failure counted yet.
     pub fn new(rt: &'a R, listener: L) -> Folder<'a, R, L> {
@@ -85,6 +98,9 @@ impl<R: Disk + Alloc<A = Global>, L: Listener> Files for Folder<'_, R, L> {
     ghost failed = { λ folder. folder.failures };
 
     fn read(&mut self, alloc: Global, name: &str, limit: usize) -> Result<Vec<u8>, ReadFault> {
+        if is_no_table(self.rt, name) {
+            return Err(self.fail());
+        }
         let mut file = match fs::open(self.rt, name) {
             Ok(file) => file,
             Err(error) => {

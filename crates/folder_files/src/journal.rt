@@ -6,7 +6,7 @@ ghost use Rattle.std.specs.Prelude.{◌≤◌, length};
 use crate::disk::{is_free, sync_folder};
 use file_access::{ReadFault, read_within};
 use std::alloc::{Alloc, AllocError, Global};
-use std::fs::{File, OpenFile, OpenOptions, TryLockError};
+use std::fs::{self, File, OpenFile, OpenOptions, TryLockError};
 use std::io::{self, ErrorKind, Write};
 use std::rt::Files as Disk;
 
@@ -65,23 +65,45 @@ pub struct TakenUp {
     pub tail: Option<Tail>,
 }
 
-/// Holds a file for this program alone.
-fn held(file: File) -> Result<File, JournalFault> {
+/// Holds a file for this program alone, or, where that may be, without a lock on a file system that knows none.
+fn held(file: File, no_lock: bool) -> Result<File, JournalFault> {
     match file.try_lock() {
         Ok(()) => Ok(file),
         Err(TryLockError::WouldBlock) => Err(JournalFault::Held),
-        Err(TryLockError::Error(_)) => Err(JournalFault::Disk),
+        Err(TryLockError::Error(_)) => {
+            if no_lock {
+                Ok(file)
+            } else {
+                Err(JournalFault::Disk)
+            }
+        }
     }
 }
 
-/// Opens a journal for lines at its end.
-fn opened<R: Disk<File = File>>(rt: &R, name: &str, new: bool) -> Result<File, JournalFault> {
+/// Whether a link stands under a name.
+fn is_link<R: Disk>(rt: &R, name: &str) -> bool {
+    match fs::symlink_metadata(rt, name) {
+        Ok(data) => data.is_symlink(),
+        Err(_) => false,
+    }
+}
+
+/// Opens a journal for lines at its end. A link counts as a file that stands.
+fn opened<R: Disk<File = File>>(
+    rt: &R,
+    name: &str,
+    new: bool,
+    no_lock: bool,
+) -> Result<File, JournalFault> {
+    if is_link(rt, name) {
+        return Err(JournalFault::Exists);
+    }
     let mut options = OpenOptions::new();
     options.read(true);
     options.append(true);
     options.create_new(new);
     match options.open(rt, name) {
-        Ok(file) => held(file),
+        Ok(file) => held(file, no_lock),
         Err(error) => match error.kind() {
             ErrorKind::NotFound => Err(JournalFault::Absent),
             ErrorKind::AlreadyExists => Err(JournalFault::Exists),
@@ -122,8 +144,12 @@ fn tail_of(file: &File, length: u64, bytes: Vec<u8>) -> io::Result<Option<Tail>>
 }
 
 /// An empty journal that was left, if nobody has it.
-fn left_empty<R: Disk<File = File>>(rt: &R, name: &str) -> Result<File, JournalFault> {
-    let file = opened(rt, name, false)?;
+fn left_empty<R: Disk<File = File>>(
+    rt: &R,
+    name: &str,
+    no_lock: bool,
+) -> Result<File, JournalFault> {
+    let file = opened(rt, name, false, no_lock)?;
     match file.metadata() {
         Ok(data) => {
             if data.len() == 0 && data.is_file() {
@@ -137,10 +163,14 @@ fn left_empty<R: Disk<File = File>>(rt: &R, name: &str) -> Result<File, JournalF
 
 impl JournalFile {
     /// Makes an empty journal, which no file stands for yet. One that is empty counts as none if nobody has it.
-    pub fn make<R: Disk<File = File>>(rt: &R, name: &str) -> Result<JournalFile, JournalFault> {
-        let file = match opened(rt, name, true) {
+    pub fn make<R: Disk<File = File>>(
+        rt: &R,
+        name: &str,
+        no_lock: bool,
+    ) -> Result<JournalFile, JournalFault> {
+        let file = match opened(rt, name, true, no_lock) {
             Ok(file) => file,
-            Err(JournalFault::Exists) => left_empty(rt, name)?,
+            Err(JournalFault::Exists) => left_empty(rt, name, no_lock)?,
             Err(fault) => return Err(fault),
         };
         if sync_folder(rt).is_err() {
@@ -153,8 +183,9 @@ impl JournalFile {
     pub fn take_up<R: Disk<File = File> + Alloc<A = Global>>(
         rt: &R,
         name: &str,
+        no_lock: bool,
     ) -> Result<TakenUp, JournalFault> {
-        let mut file = opened(rt, name, false)?;
+        let mut file = opened(rt, name, false, no_lock)?;
         let bytes = match read_within(rt.alloc(), &mut file, LIMIT) {
             Ok(bytes) => bytes,
             Err(ReadFault::TooLong) => return Err(JournalFault::TooLong),

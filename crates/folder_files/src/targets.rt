@@ -103,6 +103,17 @@ fn last_name<R: Disk + Alloc<A = Global>>(rt: &R, name: &str) -> Result<String, 
     Err(Hindrance::Disk)
 }
 
+/// The name of a file in its folder.
+pub fn name_in_folder(path: &str) -> &str {
+    let (_, name) = parted(path);
+    name
+}
+
+/// The path of the file to which a name leads behind links within its folder; none where they lead elsewhere.
+pub fn behind_links<R: Disk + Alloc<A = Global>>(rt: &R, name: &str) -> Option<String> {
+    last_name(rt, name).ok()
+}
+
 /// What the rules of a save know of a file.
 fn standing_of(data: &Metadata) -> Standing {
     Standing {

@@ -115,10 +115,20 @@ fn note_line(drawing: &Drawing<'_>, first: usize) -> Option<usize> {
     }
 }
 
-/// Puts the rows of the window, from its top to its bottom, and the note.
+/// How many lines are drawn: those of the rows and the note, or, where rows that were sent out have to leave the window,
+/// all of its lines.
+fn lines_drawn(drawing: &Drawing<'_>) -> usize {
+    if drawing.sent.is_empty() {
+        drawing.window.rows.min(ROWS + 1)
+    } else {
+        drawing.window.rows
+    }
+}
+
+/// Puts the rows from the window's top on, and the note, and clears what is below.
 fn put_rows(out: &mut String, drawing: &Drawing<'_>, first: usize) -> Result<(), AllocError> {
     let note = note_line(drawing, first);
-    for line in 0..drawing.window.rows {
+    for line in 0..lines_drawn(drawing) {
         if line > 0 {
             out.push_str("\r\n")?;
         }
@@ -130,7 +140,7 @@ fn put_rows(out: &mut String, drawing: &Drawing<'_>, first: usize) -> Result<(),
         }
         out.push_str("\x1b[K")?;
     }
-    Ok(())
+    out.push_str("\x1b[J")
 }
 
 /// Puts the order that moves the cursor to a place of the window, counted from 0.
@@ -149,7 +159,7 @@ fn put_cursor(
 }
 
 /// What a terminal is sent to show the rows as they stand, at the top of its window. Rows that were sent out since the
-/// last drawing scroll out of it, so that they stand in the terminal's scrollback once.
+/// last drawing scroll out of it into the terminal's scrollback. (A line typed in the window's last row scrolls one more.)
 pub fn drawn(alloc: Global, drawing: &Drawing<'_>) -> Result<String, AllocError> {
     let mut out = String::new(alloc);
     let first = first_row(drawing);
