@@ -27,4 +27,4 @@ pub use save_papers::sum_of;
 pub use save_rules::Harm;
 pub use save_steps::Sum;
 pub use saving::{SaveTerms, SavingFolder, Unsaved};
-pub use targets::{Hindrance, is_same_file};
+pub use targets::{Hindrance, behind_links, is_same_file, name_in_folder};
