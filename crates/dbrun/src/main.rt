@@ -35,8 +35,8 @@ use file_commands::{
 };
 use folder_files::{
     FinishedSave, Folder, Held, Hindrance, Nobody, SaveTerms, SavingFolder, UnfinishedSave,
-    Unreplaced, Unsaved, finish, forget, is_empty_folder, is_same_file, note_stands, paper_name,
-    save_stands, stands, take_folder,
+    Unreplaced, Unsaved, behind_links, finish, forget, is_empty_folder, is_same_file,
+    name_in_folder, note_stands, paper_name, save_stands, stands, take_folder,
 };
 use folder_shapes::{LineTold, declare};
 use run_commands::{Ended, Job, Report, RunRefusal, run_files};
@@ -126,9 +126,20 @@ fn show_faulty<R: Runtime<A = Global>>(
 }
 
 /// What a code file would overwrite, by the names of the files and by the files themselves.
-fn overwritten(rt: &impl Runtime, decl: &str, out: &str, names: &[&str]) -> Option<Overwritten> {
+fn overwritten<R: Runtime<A = Global>>(
+    rt: &R,
+    decl: &str,
+    out: &str,
+    names: &[&str],
+) -> Option<Overwritten> {
     if let Some(what) = overwritten_by(out, decl, names, paper_name()) {
         return Some(what);
+    }
+    if let Some(last) = behind_links(rt, out) {
+        let name = name_in_folder(last.as_str());
+        if let Some(what) = overwritten_by(name, "", &[], paper_name()) {
+            return Some(what);
+        }
     }
     if is_same_file(rt, out, decl) {
         return Some(Overwritten::Declarations);
@@ -144,7 +155,7 @@ fn overwritten(rt: &impl Runtime, decl: &str, out: &str, names: &[&str]) -> Opti
     None
 }
 
-fn compile<'a, R: Runtime<A = Global>>(
+fn compile<'a, R: Runtime<A = Global, File = File>>(
     rt: &R,
     audience: Audience,
     decl: &'a str,
@@ -157,6 +168,7 @@ fn compile<'a, R: Runtime<A = Global>>(
     if let Some(what) = overwritten(rt, decl, out, names) {
         return Err(WordsFault::Out(what));
     }
+    settle(rt, audience);
     let mut folder = folder(rt, audience);
     let refusal = match compile_files(rt.alloc(), &mut folder, decl, out, names) {
         Ok(()) => return Ok(Status::Done),
@@ -248,7 +260,7 @@ fn print_faults<R: Runtime<A = Global>>(
 }
 
 /// Lists the faults of command files on standard output, file by file.
-fn faults<'a, R: Runtime<A = Global>>(
+fn faults<'a, R: Runtime<A = Global, File = File>>(
     rt: &R,
     audience: Audience,
     decl: &'a str,
@@ -257,6 +269,7 @@ fn faults<'a, R: Runtime<A = Global>>(
     if names.is_empty() {
         return Err(WordsFault::Missing);
     }
+    settle(rt, audience);
     let mut folder = folder(rt, audience);
     let found = match faults_of(rt.alloc(), &mut folder, decl, names) {
         Ok(found) => found,
@@ -328,8 +341,26 @@ fn report<R: Runtime<A = Global>>(
     }
 }
 
+/// What to do about a save that was cut off and isn't finished, in one sentence without its point.
+fn why_unfinished(unfinished: &UnfinishedSave) -> Option<&'static str> {
+    match unfinished {
+        UnfinishedSave::Foreign => Some("this file isn't a save's; give it another name"),
+        UnfinishedSave::Changed { .. } => Some(
+            "another program changed this file behind the save; dbrun forget takes the save away, and no table",
+        ),
+        UnfinishedSave::Disk { .. } | UnfinishedSave::PaperDisk => Some(
+            "the next command finishes this save; do not repeat the run",
+        ),
+        UnfinishedSave::Memory => None,
+    }
+}
+
 /// Tells on standard error why a save that was cut off isn't finished.
-pub fn tell_unfinished(rt: &impl Runtime, unfinished: &UnfinishedSave) -> Status {
+pub fn tell_unfinished(
+    rt: &impl Runtime,
+    audience: Audience,
+    unfinished: &UnfinishedSave,
+) -> Status {
     let (_, status) = match unfinished {
         UnfinishedSave::Foreign => (
             eprintln!(rt; "refused {} Foreign", paper_name()),
@@ -343,24 +374,30 @@ pub fn tell_unfinished(rt: &impl Runtime, unfinished: &UnfinishedSave) -> Status
         UnfinishedSave::PaperDisk => (eprintln!(rt; "disk {}", paper_name()), Status::Disk),
         UnfinishedSave::Memory => (eprintln!(rt; "memory"), Status::Memory),
     };
+    if audience.person {
+        let _ = match why_unfinished(unfinished) {
+            Some(sentence) => eprintln!(rt; "  {sentence}."),
+            None => Ok(()),
+        };
+    }
     status
 }
 
 /// Finishes a save that was cut off before; a status where the run ends with that.
-pub fn finish_before<R: Runtime<A = Global>>(rt: &R) -> Option<Status> {
+pub fn finish_before<R: Runtime<A = Global>>(rt: &R, audience: Audience) -> Option<Status> {
     match finish(rt) {
         Ok(FinishedSave::Before) => None,
         Ok(FinishedSave::Behind) => {
             let _ = eprintln!(rt; "the save of an earlier run is finished; nothing was run");
             Some(Status::Disk)
         }
-        Err(unfinished) => Some(tell_unfinished(rt, &unfinished)),
+        Err(unfinished) => Some(tell_unfinished(rt, audience, &unfinished)),
     }
 }
 
 /// Before tables are only read, a save that had come to its note is finished. Where that can't be, it is told on
 /// standard error, and what stands is read.
-fn settle<R: Runtime<A = Global, File = File>>(rt: &R) {
+fn settle<R: Runtime<A = Global, File = File>>(rt: &R, audience: Audience) {
     if !note_stands(rt) {
         return;
     }
@@ -368,11 +405,11 @@ fn settle<R: Runtime<A = Global, File = File>>(rt: &R) {
     match held {
         Held::Alone(_) => {
             if let Err(unfinished) = finish(rt) {
-                let _ = tell_unfinished(rt, &unfinished);
+                let _ = tell_unfinished(rt, audience, &unfinished);
             }
         }
         Held::NoLocks => {
-            let _ = tell_unfinished(rt, &UnfinishedSave::PaperDisk);
+            let _ = tell_unfinished(rt, audience, &UnfinishedSave::PaperDisk);
         }
         Held::Taken => {}
     }
@@ -420,8 +457,12 @@ pub fn tell_hindered<R: Runtime<A = Global>>(
     hindrance: Option<Hindrance>,
 ) -> Status {
     let status = tell_refusal(rt, name, refusal);
-    if let (true, Some(hindrance)) = (audience.person, hindrance) {
-        let _ = eprintln!(rt; "{}; no file was changed", why_hindered(hindrance));
+    if audience.person {
+        let _ = match hindrance {
+            Some(hindrance) => eprintln!(rt; "{}; no file was changed", why_hindered(hindrance)),
+            None if status == Status::Disk => eprintln!(rt; "no file was changed"),
+            None => Ok(()),
+        };
     }
     status
 }
@@ -513,13 +554,17 @@ pub fn hindered(held: &Held, no_lock: bool) -> Option<Hindrance> {
 
 /// Finishes a save that was cut off before, if one was, unless the folder isn't held; a status where the run ends with
 /// that.
-fn finish_alone<R: Runtime<A = Global, File = File>>(rt: &R, no_lock: bool) -> Option<Status> {
+fn finish_alone<R: Runtime<A = Global, File = File>>(
+    rt: &R,
+    audience: Audience,
+    no_lock: bool,
+) -> Option<Status> {
     if !save_stands(rt) {
         return None;
     }
     let held = take_folder(rt);
     match hindered(&held, no_lock) {
-        None => finish_before(rt),
+        None => finish_before(rt, audience),
         Some(_) => None,
     }
 }
@@ -548,7 +593,7 @@ fn run_alone<R: Runtime<A = Global, File = File>>(
     let held = take_folder(rt);
     let closed = hindered(&held, save.no_lock);
     if closed.is_none() {
-        if let Some(status) = finish_before(rt) {
+        if let Some(status) = finish_before(rt, audience) {
             return status;
         }
     }
@@ -563,7 +608,7 @@ fn forget_save<R: Runtime<A = Global, File = File>>(
 ) -> Status {
     let held = take_folder(rt);
     if let Some(hindrance) = hindered(&held, no_lock) {
-        let status = tell_unfinished(rt, &UnfinishedSave::PaperDisk);
+        let status = tell_unfinished(rt, audience, &UnfinishedSave::PaperDisk);
         if audience.person {
             let _ = eprintln!(rt; "{}", why_hindered(hindrance));
         }
@@ -571,7 +616,7 @@ fn forget_save<R: Runtime<A = Global, File = File>>(
     }
     match forget(rt) {
         Ok(_) => Status::Done,
-        Err(unfinished) => tell_unfinished(rt, &unfinished),
+        Err(unfinished) => tell_unfinished(rt, audience, &unfinished),
     }
 }
 
@@ -599,7 +644,7 @@ fn ends_before<R: Runtime<A = Global, File = File>>(
     words: &RunWords<'_>,
 ) -> Option<Status> {
     if let Outcomes::Saved(save) = words.tables {
-        if let Some(status) = finish_alone(rt, save.no_lock) {
+        if let Some(status) = finish_alone(rt, audience, save.no_lock) {
             return Some(status);
         }
     }
@@ -634,11 +679,11 @@ fn run<R: Runtime<A = Global, File = File>>(
     match words.tables {
         Outcomes::Saved(save) => run_alone(rt, audience, &job, save, words.screens),
         Outcomes::Nothing => {
-            settle(rt);
+            settle(rt, audience);
             run_tested(rt, audience, &job)
         }
         Outcomes::Told => {
-            settle(rt);
+            settle(rt, audience);
             rehearse(rt, audience, &job, words.screens)
         }
     }
@@ -720,7 +765,7 @@ fn list<R: Runtime<A = Global, File = File>>(
     audience: Audience,
     listing: Listing<'_>,
 ) -> Status {
-    settle(rt);
+    settle(rt, audience);
     match table_lines(rt, audience, listing) {
         Ok(lines) => print_listing(rt, audience, listing.page, lines.as_slice()),
         Err(refusal) => refuse(rt, refusal),
@@ -728,7 +773,7 @@ fn list<R: Runtime<A = Global, File = File>>(
 }
 
 fn index<R: Runtime<A = Global, File = File>>(rt: &R, audience: Audience, name: &str) -> Status {
-    settle(rt);
+    settle(rt, audience);
     let mut folder = folder(rt, audience);
     print_lines(rt, audience, list_index(rt.alloc(), &mut folder, name))
 }
@@ -777,7 +822,7 @@ fn print_declared<'n, R: Runtime<A = Global>>(
 }
 
 fn declare_folder<R: Runtime<A = Global, File = File>>(rt: &R, audience: Audience) -> Status {
-    settle(rt);
+    settle(rt, audience);
     let bytes = match folder_names(rt) {
         Ok(bytes) => bytes,
         Err(refusal) => return refuse(rt, refusal),
@@ -890,6 +935,10 @@ fn message(fault: WordsFault) -> &'static str {
             "the file of --screens is a plain name in this folder, of which no file stands",
         WordsFault::Continued =>
             "a conversation that goes on has the options with which it was begun",
+        WordsFault::Rehearsed =>
+            "a rehearsal saves nothing; leave out --only-finished, --backup and --new-owner",
+        WordsFault::Zone =>
+            "the zone of TZ isn't known, or its day isn't in the years 1900 to 2155; give --today",
         WordsFault::Missing | WordsFault::Out(_) => "a word is missing",
     }
 }

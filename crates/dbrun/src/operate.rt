@@ -6,8 +6,8 @@ ghost use Rattle.std.specs.Prelude.{◌≡◌, false};
 use crate::screens::{is_free_name, is_new_name};
 use crate::shown::{Audience, Progress, of_end};
 use crate::{
-    finish_before, folder, hindered, may_back_up, print_bytes, refuse, status_of, tell_hindered,
-    tell_unfinished, tell_unsaved,
+    finish_before, folder, hindered, may_back_up, refuse, tell_hindered, tell_unfinished,
+    tell_unsaved,
 };
 use command_words::{DEFAULT_BUDGET, OperateWords, Outcomes, ShownWords, TalkWords, WordsFault};
 use file_access::Files;
@@ -32,7 +32,7 @@ use std::cell::RefCell;
 use std::fs::{self, File};
 use std::rt::Runtime;
 use std::str;
-use terminal_screen::{Window, sent_lines};
+use terminal_screen::Window;
 
 /// The names of a conversation's files.
 #[derive(Drop)]
@@ -158,15 +158,16 @@ fn open_journal<R: Runtime<A = Global, File = File>>(
     rt: &R,
     name: &str,
     goes_on: bool,
+    no_lock: bool,
 ) -> Result<(KeptJournal, Option<Tail>), JournalFault> {
     if !goes_on {
         let journal = KeptJournal {
-            file: JournalFile::make(rt, name)?,
+            file: JournalFile::make(rt, name, no_lock)?,
             bytes: Vec::new(rt.alloc()),
         };
         return Ok((journal, None));
     }
-    let taken = JournalFile::take_up(rt, name)?;
+    let taken = JournalFile::take_up(rt, name, no_lock)?;
     let journal = KeptJournal {
         file: taken.journal,
         bytes: taken.lines,
@@ -174,10 +175,10 @@ fn open_journal<R: Runtime<A = Global, File = File>>(
     Ok((journal, taken.tail))
 }
 
-/// What stands of a conversation in the folder.
+/// What stands of a conversation in the folder. An empty journal alone counts as none.
 fn found_of<R: Runtime<A = Global>>(rt: &R, names: &Names) -> Remains {
     Remains {
-        journal: stands(rt, names.journal.as_str()),
+        journal: stands(rt, names.journal.as_str()) && !is_left_empty(rt, names),
         begun: stands(rt, names.begun.as_str()),
         noted: note_stands(rt),
         done: stands(rt, names.done.as_str()),
@@ -261,6 +262,24 @@ struct Open<'a> {
     sums: &'a RefCell<Vec<FileSum>>,
 }
 
+/// Beside what a conversation is recorded.
+fn record_of<'a, R: Runtime<A = Global, File = File>>(
+    rt: &'a R,
+    open: &Open<'a>,
+    tail: Option<Tail>,
+) -> Result<Record<'a, R>, AllocError> {
+    Ok(Record {
+        rt,
+        sums: open.sums,
+        journal: open.names.journal.clone()?,
+        tail,
+        begun: open.names.begun.clone()?,
+        said: open.said,
+        changed: None,
+        unwritten: None,
+    })
+}
+
 /// The desk of a conversation.
 fn desk_of<'a, R: Runtime<A = Global, File = File>>(
     rt: &'a R,
@@ -279,20 +298,12 @@ fn desk_of<'a, R: Runtime<A = Global, File = File>>(
         manner: Manner {
             typing: audience.typing,
             one_terminal: audience.person && audience.rows,
+            rows: audience.rows,
             window: open.window,
             page: open.talk.page,
         },
         talk: open.talk,
-        record: Record {
-            rt,
-            sums: open.sums,
-            journal: open.names.journal.clone()?,
-            tail,
-            begun: open.names.begun.clone()?,
-            said: open.said,
-            changed: None,
-            unwritten: None,
-        },
+        record: record_of(rt, open, tail)?,
         screens: Screens::to(screens),
         gets: Gets::new(alloc),
         held: HeldLines::of(held),
@@ -300,6 +311,7 @@ fn desk_of<'a, R: Runtime<A = Global, File = File>>(
         shown: 0,
         before: Vec::new(alloc),
         note: "",
+        cut: String::new(alloc),
         ended: false,
     })
 }
@@ -319,13 +331,13 @@ fn print_rest<R: Runtime<A = Global, File = File>>(
         };
     }
     let rest = &rows[desk.shown.min(rows.len())..];
-    if !desk.manner.one_terminal {
-        return print_bytes(rt, audience, rest);
+    if desk.print_rows(rt.alloc(), rest).is_err() {
+        return Status::Disk;
     }
-    match sent_lines(rt.alloc(), rest, desk.manner.page) {
-        Ok(text) => status_of(rt.write_all(text.as_bytes())),
-        Err(_) => refuse(rt, Refusal::Memory),
+    if audience.person && !desk.note.is_empty() {
+        let _ = eprintln!(rt; "{}", desk.note);
     }
+    Status::Done
 }
 
 /// Tells why the operator's desk failed: a file isn't as it was, or can't be written, or the terminal failed.
@@ -438,6 +450,7 @@ fn hand_in_done<R: Runtime<A = Global, File = File>, L: Listener>(
 /// Writes the text of an end, and tells how a run ended that saved nothing.
 fn tell_unsaved_end<R: Runtime<A = Global, File = File>>(
     rt: &R,
+    audience: Audience,
     open: &Open<'_>,
     journal: &KeptJournal,
     ended: &Ended,
@@ -445,6 +458,9 @@ fn tell_unsaved_end<R: Runtime<A = Global, File = File>>(
     match write_done(rt, open, journal, ended) {
         None => {
             let _ = eprintln!(rt; "{ended}");
+            if let (true, Some(hint)) = (audience.person, of_end(&ended.how, false)) {
+                let _ = eprintln!(rt; "  {hint}.");
+            }
             ended.status()
         }
         Some(status) => status,
@@ -462,7 +478,7 @@ fn end_unsaved<R: Runtime<A = Global, File = File>>(
     ended: &Ended,
 ) -> Status {
     match print_rest(rt, audience, desk, rows) {
-        Status::Done => tell_unsaved_end(rt, open, journal, ended),
+        Status::Done => tell_unsaved_end(rt, audience, open, journal, ended),
         status => status,
     }
 }
@@ -479,7 +495,7 @@ fn end_rehearsed<R: Runtime<A = Global, File = File>>(
     match print_rest(rt, audience, desk, told.rows.as_slice()) {
         Status::Done => {
             let _ = eprint!(rt; "{told}");
-            tell_unsaved_end(rt, open, journal, &told.ended)
+            tell_unsaved_end(rt, audience, open, journal, &told.ended)
         }
         status => status,
     }
@@ -616,11 +632,15 @@ fn converse<'a, R: Runtime<A = Global, File = File>>(
 }
 
 /// Finishes the save that a note tells of, where the folder is held.
-fn finish_noted<R: Runtime<A = Global>>(rt: &R, closed: Option<Hindrance>) -> Status {
+fn finish_noted<R: Runtime<A = Global>>(
+    rt: &R,
+    audience: Audience,
+    closed: Option<Hindrance>,
+) -> Status {
     if closed.is_some() {
-        return tell_unfinished(rt, &UnfinishedSave::PaperDisk);
+        return tell_unfinished(rt, audience, &UnfinishedSave::PaperDisk);
     }
-    finish_before(rt).unwrap_or(Status::Disk)
+    finish_before(rt, audience).unwrap_or(Status::Disk)
 }
 
 /// Begins a conversation or takes one up again, of which the words are known.
@@ -635,17 +655,16 @@ fn operate_talk<'a, R: Runtime<A = Global, File = File>>(
     let names = open.names;
     match next_of(found_of(rt, names), goes_on) {
         Next::Begin | Next::GoOn => {}
-        Next::Taken if !goes_on && is_left_empty(rt, names) => {}
-        Next::Finish => return finish_noted(rt, closed),
+        Next::Finish => return finish_noted(rt, audience, closed),
         next => return tell_next(rt, audience, names, next),
     }
     if closed.is_none() {
         // a save that hadn't come to its note is taken away
-        if let Some(status) = finish_before(rt) {
+        if let Some(status) = finish_before(rt, audience) {
             return status;
         }
     }
-    match open_journal(rt, names.journal.as_str(), goes_on) {
+    match open_journal(rt, names.journal.as_str(), goes_on, open.talk.no_lock()) {
         Ok((journal, tail)) => converse(rt, audience, open, journal, tail, closed),
         Err(fault) => tell_journal(rt, names.journal.as_str(), fault),
     }
@@ -653,8 +672,8 @@ fn operate_talk<'a, R: Runtime<A = Global, File = File>>(
 
 /// Whether of a conversation only an empty journal stands.
 fn is_left_empty<R: Runtime<A = Global>>(rt: &R, names: &Names) -> bool {
-    let empty = match fs::metadata(rt, names.journal.as_str()) {
-        Ok(data) => data.len() == 0,
+    let empty = match fs::symlink_metadata(rt, names.journal.as_str()) {
+        Ok(data) => data.is_file() && data.len() == 0,
         Err(_) => false,
     };
     empty && !stands(rt, names.begun.as_str()) && !stands(rt, names.done.as_str())
@@ -668,7 +687,7 @@ fn tell_unbegun<R: Runtime<A = Global>>(
     held: &Held,
 ) -> Status {
     match next_of(found_of(rt, names), true) {
-        Next::Finish => finish_noted(rt, hindered(held, false)),
+        Next::Finish => finish_noted(rt, audience, hindered(held, false)),
         next => tell_next(rt, audience, names, next),
     }
 }
@@ -731,6 +750,22 @@ fn begin<'a, R: Runtime<A = Global, File = File>>(
     operate_talk(rt, audience, &open, held)
 }
 
+/// Whether the folder for copies has the name of a file of the conversation.
+fn is_copied_over(words: &TalkWords<'_>, names: &Names, screens: Option<&str>) -> bool {
+    let Outcomes::Saved(save) = words.tables else {
+        return false;
+    };
+    match save.backup {
+        Some(path) => {
+            path == names.journal.as_str()
+                || path == names.begun.as_str()
+                || path == names.done.as_str()
+                || Some(path) == screens
+        }
+        None => false,
+    }
+}
+
 /// Runs a code in conversation.
 pub fn operate<R: Runtime<A = Global, File = File>>(
     rt: &R,
@@ -753,8 +788,11 @@ pub fn operate<R: Runtime<A = Global, File = File>>(
         return Ok(go_on(rt, audience, words.code, &names, window, screens, &held));
     };
     may_back_up(rt, asked.tables)?;
+    if is_copied_over(asked, &names, screens) {
+        return Err(WordsFault::Backup);
+    }
     let Some(day) = day_of(rt, asked) else {
-        return Err(WordsFault::Today);
+        return Err(WordsFault::Zone);
     };
     let Ok(talk) = talk_of(alloc, audience, asked, day) else {
         return Ok(refuse(rt, Refusal::Memory));

@@ -19,9 +19,12 @@ use std::alloc::{AllocError, Global};
 use std::fs::File;
 use std::rt::Runtime;
 
-/// Whether a new file of this name harms nothing: it is one of the folder's, and none that the program makes or reads.
+/// Whether a new file of this name harms nothing: it is one of the folder's, none that the program makes or reads, and
+/// no word of the command line.
 pub fn is_free_name(name: &str, code: &str) -> bool {
-    is_in_folder(name.as_bytes()) && overwritten_by(name, code, &[], paper_name()).is_none()
+    is_in_folder(name.as_bytes())
+        && !name.starts_with("--")
+        && overwritten_by(name, code, &[], paper_name()).is_none()
 }
 
 /// Whether a new file of this name harms nothing, and none of this name stands yet.

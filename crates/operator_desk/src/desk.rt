@@ -2,7 +2,7 @@
 #![tactic(auto)]
 
 use crate::begun::Talk;
-use crate::gets::{Gets, WaitingPlace, bad_answer};
+use crate::gets::{Gets, WaitingPlace, bad_answer, without_return};
 use crate::held_lines::HeldLines;
 use crate::record::Record;
 use crate::screens::Screens;
@@ -21,8 +21,8 @@ use terminal_screen::{Drawing, Window, drawn, plain_lines, sent_lines};
 const AT_END: &str =
     "Ctrl-C leaves everything as it is, for --continue; END typed here means that no more lines come";
 
-/// What a person is told whose line was cut off.
-const CUT: &str = "a line that Enter didn't end was cut off; type it again";
+/// The most bytes that are read of a line: a letter in UTF-8 has up to three for one of its page.
+const MOST_READ: usize = 3 * MOST_TYPED;
 
 /// Where the streams of a conversation lead, and how it is shown there.
 #[derive(Clone, Copy)]
@@ -31,6 +31,8 @@ pub struct Manner {
     pub typing: bool,
     /// Whether rows go to the terminal on which the screen is shown.
     pub one_terminal: bool,
+    /// Whether rows go to a terminal, which is sent no byte that it would obey.
+    pub rows: bool,
     /// The window on which the screen is drawn; none where rows are only listed.
     pub window: Option<Window>,
     pub page: Option<CodePage>,
@@ -55,6 +57,8 @@ pub struct OperatorDesk<'a, R: Runtime<A = Global, File = File>> {
     pub before: Vec<[u8; 80]>,
     /// The line below the drawing.
     pub note: &'static str,
+    /// The same of a line that was cut off, until the first answer; empty where none was.
+    pub cut: String,
     /// Whether a person ended the input at this question.
     pub ended: bool,
 }
@@ -75,19 +79,43 @@ impl<R: Runtime<A = Global, File = File>> OperatorDesk<'_, R> {
     }
 
     /// Prints rows on standard output, where that is another place than the screen's.
-    fn print_sent(&mut self, seen: &Scene<'_>) -> Result<(), OperatorFailed> {
-        let sent = seen.screen.sent();
-        if !self.manner.one_terminal && self.rt.write_all(self.unshown(seen)).is_err() {
-            return Err(OperatorFailed);
+    fn print_sent(&mut self, alloc: Global, seen: &Scene<'_>) -> Result<(), OperatorFailed> {
+        if !self.manner.one_terminal {
+            self.print_rows(alloc, self.unshown(seen))?;
         }
-        self.shown = sent.len();
+        self.shown = seen.screen.sent().len();
         Ok(())
+    }
+
+    /// Prints rows on standard output: as they stand, or as a terminal may be sent them.
+    pub fn print_rows(&self, alloc: Global, rows: &[u8]) -> Result<(), OperatorFailed> {
+        let printed = if self.manner.rows {
+            match sent_lines(alloc, rows, self.manner.page) {
+                Ok(text) => self.rt.write_all(text.as_bytes()),
+                Err(_) => return Err(OperatorFailed),
+            }
+        } else {
+            self.rt.write_all(rows)
+        };
+        match printed {
+            Ok(()) => Ok(()),
+            Err(_) => Err(OperatorFailed),
+        }
+    }
+
+    /// What stands below the drawing.
+    pub fn told(&self) -> &str {
+        if self.cut.is_empty() {
+            self.note
+        } else {
+            self.cut.as_str()
+        }
     }
 
     /// The rows with the answers that were taken laid over them.
     fn rows_now(&self, alloc: Global, seen: &Scene<'_>) -> Result<Vec<[u8; 80]>, AllocError> {
         let mut rows = Vec::from_slice(alloc, seen.screen.rows())?;
-        self.gets.lay_answers(seen, &mut rows);
+        self.gets.lay_answers(&mut rows);
         Ok(rows)
     }
 
@@ -117,7 +145,7 @@ impl<R: Runtime<A = Global, File = File>> OperatorDesk<'_, R> {
             cursor: self.cursor(seen),
             window,
             page: self.manner.page,
-            note: self.note,
+            note: self.told(),
         };
         match drawn(alloc, &drawing) {
             Ok(text) => self.show(text.as_str()),
@@ -148,8 +176,8 @@ impl<R: Runtime<A = Global, File = File>> OperatorDesk<'_, R> {
             return Err(OperatorFailed);
         };
         self.before = now;
-        if !self.note.is_empty() {
-            let _ = eprintln!(self.rt; "{}", self.note);
+        if !self.told().is_empty() {
+            let _ = eprintln!(self.rt; "{}", self.told());
         }
         self.prompt()
     }
@@ -176,7 +204,7 @@ impl<R: Runtime<A = Global, File = File>> OperatorDesk<'_, R> {
             Some(window) => self.draw(alloc, window, seen)?,
             None => self.list(alloc, seen)?,
         }
-        self.print_sent(seen)
+        self.print_sent(alloc, seen)
     }
 
     /// What a line is, that was typed in UTF-8, in the page; none where the page lacks a letter of it.
@@ -208,12 +236,18 @@ impl<R: Runtime<A = Global, File = File>> OperatorDesk<'_, R> {
     }
 
     /// What becomes of a line that was typed; none where another one is to be typed.
-    fn of_line(&mut self, alloc: Global, line: Vec<u8>) -> Result<Option<Answer>, OperatorFailed> {
-        if self.ended && line.as_slice() == b"END".as_slice() {
+    fn of_line(
+        &mut self,
+        alloc: Global,
+        line: Vec<u8>,
+        room: usize,
+    ) -> Result<Option<Answer>, OperatorFailed> {
+        if self.ended && without_return(line.as_slice()) == b"END".as_slice() {
             return Ok(Some(Answer::End));
         }
         match self.in_its_page(alloc, line)? {
-            Some(bytes) => Ok(Some(Answer::Line(bytes))),
+            Some(bytes) if bytes.len() < room => Ok(Some(Answer::Line(bytes))),
+            Some(_) => Ok(Some(self.refuse_line())),
             None => {
                 self.note = "the code page lacks a letter of this line; type it again";
                 Ok(None)
@@ -223,26 +257,20 @@ impl<R: Runtime<A = Global, File = File>> OperatorDesk<'_, R> {
 
     /// One reading of a line; none where another one is to be read.
     fn read(&mut self, alloc: Global, room: usize) -> Result<Option<Answer>, OperatorFailed> {
-        match next_line(alloc, &mut self.reader, MOST_TYPED) {
-            Ok(Typed::Line(line)) if line.len() < room => self.of_line(alloc, line),
-            Ok(Typed::Line(_)) => {
-                self.refuse_line();
-                Ok(Some(Answer::End))
-            }
-            Ok(Typed::Long) => {
-                self.refuse_line();
-                Ok(Some(Answer::End))
-            }
+        match next_line(alloc, &mut self.reader, MOST_READ) {
+            Ok(Typed::Line(line)) => self.of_line(alloc, line, room),
+            Ok(Typed::Long) => Ok(Some(self.refuse_line())),
             Ok(Typed::End) => self.at_end(),
             Err(_) => Err(OperatorFailed),
         }
     }
 
-    /// Says that a line is too long.
-    fn refuse_line(&self) {
+    /// Says that a line is too long: the input ends.
+    fn refuse_line(&self) -> Answer {
         let _ = eprintln!(self.rt;
             "all lines together are longer than 1 MiB; no more lines are taken"
         );
+        Answer::End
     }
 
     /// Notes the answer, so that it lies over the drawing until the program writes there.
@@ -253,8 +281,9 @@ impl<R: Runtime<A = Global, File = File>> OperatorDesk<'_, R> {
         seen: &Scene<'_>,
     ) -> Result<(), OperatorFailed> {
         self.ended = false;
+        self.cut = String::new(alloc);
         let line = match answer {
-            Answer::Line(line) => line.as_slice(),
+            Answer::Line(line) => without_return(line.as_slice()),
             Answer::End => &[],
         };
         self.note = bad_answer(self.gets.kind, line).unwrap_or("");
@@ -303,12 +332,15 @@ impl<R: Runtime<A = Global, File = File>> OperatorDesk<'_, R> {
         let Some(tail) = self.record.cut_tail()? else {
             return Ok(());
         };
-        self.note = CUT;
-        match sent_lines(alloc, tail.bytes.as_slice(), None) {
-            Ok(text) => match eprint!(self.rt; "cut off, since Enter was missing: {text}") {
-                Ok(()) => Ok(()),
-                Err(_) => Err(OperatorFailed),
-            },
+        let Ok(text) = sent_lines(alloc, tail.bytes.as_slice(), self.manner.page) else {
+            return Err(OperatorFailed);
+        };
+        let text = text.as_str().trim_end();
+        match format!(in alloc; "cut off, since Enter was missing; type it again: {text}") {
+            Ok(told) => {
+                self.cut = told;
+                Ok(())
+            }
             Err(_) => Err(OperatorFailed),
         }
     }
@@ -319,6 +351,7 @@ impl<R: Runtime<A = Global, File = File>> OperatorDesk<'_, R> {
         let Some(line) = self.held.next() else {
             return Ok(());
         };
+        let line = without_return(line);
         if self.gets.wait(alloc, seen).is_err() {
             return Err(OperatorFailed);
         }
@@ -352,7 +385,9 @@ impl<R: Runtime<A = Global, File = File>> Operator for OperatorDesk<'_, R> {
     }
 
     fn see(&mut self, seen: &Scene<'_>) -> Result<(), OperatorFailed> {
-        self.gets.look(seen);
+        if self.gets.look(self.rt.alloc(), seen).is_err() {
+            return Err(OperatorFailed);
+        }
         if self.gets.takes_line(seen.place) {
             return self.pass_held(seen);
         }

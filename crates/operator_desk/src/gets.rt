@@ -72,11 +72,20 @@ pub struct Gets {
     /// The fields of the READ that waits, and their answers.
     pub fields: Vec<ShownField>,
     answers: Vec<Laid>,
+    sent: RowCount,
     pub waiting: WaitingPlace,
     /// The number of the field that waits, from 1.
     pub number: usize,
     /// What kind of value the line is for; none where it is a line as such.
     pub kind: Option<Kind>,
+}
+
+/// A line as the run takes it: without a return at its end.
+pub fn without_return(line: &[u8]) -> &[u8] {
+    match line {
+        [text @ .., b'\r'] => text,
+        _ => line,
+    }
 }
 
 /// Why an answer leaves the old value.
@@ -98,13 +107,21 @@ pub fn bad_answer(kind: Option<Kind>, line: &[u8]) -> Option<&'static str> {
     }
 }
 
-/// How many rows were sent out.
-fn rows_sent(seen: &Scene<'_>) -> usize {
-    seen.screen
-        .sent()
-        .iter()
-        .filter(|byte| **byte == b'\n')
-        .count()
+/// How many rows were sent out, counted as they come.
+#[derive(Clone, Copy)]
+struct RowCount {
+    bytes: usize,
+    rows: usize,
+}
+
+impl RowCount {
+    /// Counts the rows that were sent out since.
+    fn count(&mut self, sent: &[u8]) {
+        let new = &sent[self.bytes.min(sent.len())..];
+        let rows = new.iter().filter(|byte| **byte == b'\n').count();
+        self.rows = self.rows.saturating_add(rows);
+        self.bytes = sent.len();
+    }
 }
 
 /// The whole part of a constant, where it is a column of the screen.
@@ -121,7 +138,7 @@ fn column_of(code: &Code, number: Option<u16>) -> Option<usize> {
 }
 
 /// The field that ends at the cursor, if one does, counted from the first row ever sent out.
-fn field_to(seen: &Scene<'_>, first: usize) -> Option<ShownField> {
+fn field_to(seen: &Scene<'_>, first: usize, sent: usize) -> Option<ShownField> {
     match seen.screen.cursor() {
         Cursor::At { row, column } if first < column => {
             let length = column - first;
@@ -130,7 +147,7 @@ fn field_to(seen: &Scene<'_>, first: usize) -> Option<ShownField> {
                 column: first,
                 length,
             };
-            Some(among_all(field, rows_sent(seen)))
+            Some(among_all(field, sent))
         }
         _ => None,
     }
@@ -163,6 +180,23 @@ fn on_screen(field: ShownField, sent: usize) -> Option<ShownField> {
     })
 }
 
+impl Laid {
+    fn copied(&self) -> Result<Laid, AllocError> {
+        Ok(Laid {
+            field: self.field,
+            text: self.text.clone()?,
+            under: self.under,
+        })
+    }
+}
+
+/// Whether two fields have a place of the screen in common.
+fn meets(one: ShownField, other: ShownField) -> bool {
+    one.row == other.row
+        && one.column < other.column.saturating_add(other.length)
+        && other.column < one.column.saturating_add(one.length)
+}
+
 /// The row of the screen on which a field lies that is counted from the first row that was ever sent out.
 fn row_under<'a>(seen: &Scene<'a>, field: ShownField, sent: usize) -> Option<&'a [u8; 80]> {
     seen.screen.rows().get(on_screen(field, sent)?.row)
@@ -177,6 +211,7 @@ impl Gets {
             behind: 0,
             fields: Vec::new(alloc),
             answers: Vec::new(alloc),
+            sent: RowCount { bytes: 0, rows: 0 },
             waiting: WaitingPlace::Behind,
             number: 0,
             kind: None,
@@ -231,8 +266,10 @@ impl Gets {
     }
 
     /// Looks at the cursor before or behind an instruction that shows a value.
-    pub fn look(&mut self, seen: &Scene<'_>) {
-        let behind = self.behind;
+    pub fn look(&mut self, alloc: Global, seen: &Scene<'_>) -> Result<(), AllocError> {
+        self.sent.count(seen.screen.sent());
+        let (behind, sent) = (self.behind, self.sent.rows);
+        let mut written = Vec::new(alloc);
         for read in &mut self.reads {
             for shown in &mut read.shows {
                 if shown.show.place.saturating_add(1) == seen.place {
@@ -242,15 +279,35 @@ impl Gets {
                         shown.column
                     };
                     shown.field = match first {
-                        Some(first) => field_to(seen, first),
+                        Some(first) => field_to(seen, first, sent),
                         None => None,
                     };
+                    if let Some(field) = shown.field {
+                        written.push(field)?;
+                    }
                 }
             }
         }
+        self.leave_out(alloc, &written)?;
         if let Cursor::At { column, .. } = seen.screen.cursor() {
             self.behind = column.saturating_add(1);
         }
+        Ok(())
+    }
+
+    /// Takes away the answers that lie over fields which the program wrote now.
+    fn leave_out(&mut self, alloc: Global, written: &[ShownField]) -> Result<(), AllocError> {
+        if written.is_empty() {
+            return Ok(());
+        }
+        let mut kept = Vec::new(alloc);
+        for answer in &self.answers {
+            if !written.iter().any(|field| meets(*field, answer.field)) {
+                kept.push(answer.copied()?)?;
+            }
+        }
+        self.answers = kept;
+        Ok(())
     }
 
     /// Which READ takes a line at a place, and the number of the line.
@@ -290,35 +347,30 @@ impl Gets {
             Some(Taker::Value(kind)) => Some(*kind),
             _ => None,
         };
+        self.sent.count(seen.screen.sent());
+        self.keep_those_under(alloc, seen)?;
         let Some((read, line)) = self.asking(seen.place) else {
             self.waiting = WaitingPlace::Behind;
             self.fields = Vec::new(alloc);
             return Ok(());
         };
-        if line == 0 {
-            self.answers = Vec::new(alloc);
-        }
         self.number = line.saturating_add(1);
-        self.fields = self.fields_of(alloc, read, rows_sent(seen))?;
+        self.fields = self.fields_of(alloc, read, self.sent.rows)?;
         let all = self.reads.get(read).map(|read| read.takes.len()) == Some(self.fields.len());
         self.waiting = match self.fields.get(line) {
             Some(field) if all => WaitingPlace::Field(*field),
             _ => WaitingPlace::Unknown,
         };
-        self.keep_those_under(alloc, seen)
+        Ok(())
     }
 
     /// Takes away the answers where the program wrote since.
     fn keep_those_under(&mut self, alloc: Global, seen: &Scene<'_>) -> Result<(), AllocError> {
-        let sent = rows_sent(seen);
+        let sent = self.sent.rows;
         let mut kept = Vec::new(alloc);
         for answer in &self.answers {
             if row_under(seen, answer.field, sent) == Some(&answer.under) {
-                kept.push(Laid {
-                    field: answer.field,
-                    text: answer.text.clone()?,
-                    under: answer.under,
-                })?;
+                kept.push(answer.copied()?)?;
             }
         }
         self.answers = kept;
@@ -326,8 +378,8 @@ impl Gets {
     }
 
     /// Lays the answers over the rows of the screen.
-    pub fn lay_answers(&self, seen: &Scene<'_>, rows: &mut [[u8; 80]]) {
-        let sent = rows_sent(seen);
+    pub fn lay_answers(&self, rows: &mut [[u8; 80]]) {
+        let sent = self.sent.rows;
         for answer in &self.answers {
             if let Some(field) = on_screen(answer.field, sent) {
                 lay_over(rows, field, answer.text.as_slice());
@@ -347,7 +399,7 @@ impl Gets {
             return Ok(());
         }
         self.answers.push(Laid {
-            field: among_all(field, rows_sent(seen)),
+            field: among_all(field, self.sent.rows),
             text: Vec::from_slice(alloc, line)?,
             under: *row,
         })?;

@@ -7,7 +7,7 @@ use std::io::{self, BufRead, ErrorKind};
 /// What came of a line.
 #[derive(Drop)]
 pub enum Typed {
-    /// A line, without its end.
+    /// A line, without its LF.
     Line(Vec<u8>),
     /// Nothing: the input ended.
     End,
@@ -35,14 +35,6 @@ fn take_part<B: BufRead>(reader: &mut B, line: &mut Vec<u8>) -> io::Result<Part>
     Ok(Part { used, ended })
 }
 
-/// The line without a return at its end.
-fn without_return(mut line: Vec<u8>) -> Vec<u8> {
-    if line.last().copied() == Some(b'\r') {
-        line.pop();
-    }
-    line
-}
-
 /// The next line of at most so many bytes; the last one needs no line end.
 pub fn next_line<B: BufRead>(alloc: Global, reader: &mut B, most: usize) -> io::Result<Typed> {
     let mut line = Vec::new(alloc);
@@ -53,7 +45,7 @@ pub fn next_line<B: BufRead>(alloc: Global, reader: &mut B, most: usize) -> io::
             Err(error) => return Err(error),
         };
         if part.ended {
-            return Ok(Typed::Line(without_return(line)));
+            return Ok(Typed::Line(line));
         }
         if part.used == 0 {
             if line.is_empty() {
