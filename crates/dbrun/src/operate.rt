@@ -666,7 +666,12 @@ fn operate_talk<'a, R: Runtime<A = Global, File = File>>(
     }
     match open_journal(rt, names.journal.as_str(), goes_on, open.talk.no_lock()) {
         Ok((journal, tail)) => converse(rt, audience, open, journal, tail, closed),
-        Err(fault) => tell_journal(rt, names.journal.as_str(), fault),
+        Err(fault) => {
+            if fault == JournalFault::Disk {
+                leave_no_journal(rt, names);
+            }
+            tell_journal(rt, names.journal.as_str(), fault)
+        }
     }
 }
 
