@@ -151,6 +151,20 @@ fn finished(
     accepted(alloc, code, programs, &drafted.names)
 }
 
+/// The same for a copy of the shape.
+fn finished_for(
+    alloc: Global,
+    drafted: &WrittenCode,
+    programs: &[Program],
+    shape: &Shape,
+) -> Result<Verified, CompileRefusal>
+    ensures shape { IfOk result (λ verified. verified.declared.shape ≡ shape.now) }
+    ensures laid { IfOk result (λ verified. IsLaidAlone verified programs.now) }
+{
+    let copy = copy_of_shape(alloc, shape)?;
+    finished(alloc, drafted, programs, copy)
+}
+
 /// The code of command files for tables and indexes of this shape; the first file is the main one. The code is accepted
 /// by the verifier, and a single file without procedures is laid out in it as its commands say.
 ///
@@ -170,9 +184,8 @@ pub fn compile(
     // A single file without procedures is laid out as its commands say.
     ensures laid { IfOk result (λ verified. IsLaidAlone verified programs.now) }
 {
-    let copy = copy_of_shape(alloc, shape)?;
     let code = written(alloc, &Source { programs, shape }, None)?;
-    finished(alloc, &code, programs, copy)
+    finished_for(alloc, &code, programs, shape)
 }
 
 /// The fault that is told, and these behind it.
