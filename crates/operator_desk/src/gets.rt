@@ -154,7 +154,7 @@ fn field_to(seen: &Scene<'_>, first: usize, sent: usize) -> Option<ShownField> {
 }
 
 /// What an instruction takes a line for.
-fn taker(instr: &Instr) -> Taker {
+fn taker_at(instr: &Instr) -> Taker {
     match instr {
         Instr::Screen(ScreenInstr::Input(kind)) => Taker::Value(*kind),
         Instr::Screen(ScreenInstr::Line) => Taker::Line,
@@ -221,7 +221,7 @@ impl Gets {
     /// Learns the READs of a code. Answers the places at which the run is to be looked at.
     pub fn begin(&mut self, alloc: Global, code: &Code) -> Result<Vec<bool>, AllocError> {
         for instr in code.instructions.as_slice() {
-            self.takers.push(taker(instr))?;
+            self.takers.push(taker_at(instr))?;
         }
         for read in &reads_of(alloc, code)? {
             let mut shows = Vec::new(alloc);
