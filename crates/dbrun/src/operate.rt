@@ -20,7 +20,7 @@ use journal_papers::{JournalPaper, first_changed};
 use journal_steps::{Next, Remains, next_of};
 use operating::Broken;
 use operator_desk::{
-    Gets, HeldLines, KeptJournal, Manner, OperatorDesk, Record, Screens, Talk, TalkSave, local_day,
+    Gets, KeptJournal, Manner, OperatorDesk, OwnLines, Record, Screens, Talk, TalkSave, local_day,
     talk_in,
 };
 use run_commands::{
@@ -285,7 +285,7 @@ fn desk_of<'a, R: Runtime<A = Global, File = File>>(
     rt: &'a R,
     audience: Audience,
     open: &Open<'a>,
-    held: &'a [u8],
+    held: Vec<u8>,
     tail: Option<Tail>,
 ) -> Result<OperatorDesk<'a, R>, AllocError> {
     let alloc = rt.alloc();
@@ -306,7 +306,7 @@ fn desk_of<'a, R: Runtime<A = Global, File = File>>(
         record: record_of(rt, open, tail)?,
         screens: Screens::to(screens),
         gets: Gets::new(alloc),
-        held: HeldLines::of(held),
+        held: OwnLines::of(held),
         reader: rt.reader(),
         shown: 0,
         before: Vec::new(alloc),
@@ -608,10 +608,10 @@ fn converse<'a, R: Runtime<A = Global, File = File>>(
     closed: Option<Hindrance>,
 ) -> Status {
     let alloc = rt.alloc();
-    let Ok(input) = journal.bytes.clone() else {
+    let (Ok(input), Ok(held)) = (journal.bytes.clone(), journal.bytes.clone()) else {
         return refuse(rt, Refusal::Memory);
     };
-    let Ok(mut desk) = desk_of(rt, audience, open, input.as_slice(), tail) else {
+    let Ok(mut desk) = desk_of(rt, audience, open, held, tail) else {
         return refuse(rt, Refusal::Memory);
     };
     let job = job_of(open.code, open.talk, input.as_slice());

@@ -3,7 +3,7 @@
 
 use crate::begun::Talk;
 use crate::gets::{Gets, WaitingPlace, bad_answer, without_return};
-use crate::held_lines::HeldLines;
+use crate::held_lines::OwnLines;
 use crate::record::Record;
 use crate::screens::Screens;
 use crate::typing::{Typed, next_line};
@@ -48,7 +48,7 @@ pub struct OperatorDesk<'a, R: Runtime<A = Global, File = File>> {
     pub screens: Screens,
     pub gets: Gets,
     /// The lines that the journal held at the beginning and that the run hasn't come to yet.
-    pub held: HeldLines<'a>,
+    pub held: OwnLines,
     /// What is read of the input.
     pub reader: R::Reader,
     /// How many of the bytes that were sent out are shown.
@@ -348,10 +348,13 @@ impl<R: Runtime<A = Global, File = File>> OperatorDesk<'_, R> {
     /// What becomes of the next line that the journal held, where the run has come to the place that takes it.
     fn pass_held(&mut self, seen: &Scene<'_>) -> Result<(), OperatorFailed> {
         let alloc = self.rt.alloc();
-        let Some(line) = self.held.next() else {
+        let Ok(next) = self.held.next(alloc) else {
+            return Err(OperatorFailed);
+        };
+        let Some(line) = next else {
             return Ok(());
         };
-        let line = without_return(line);
+        let line = without_return(line.as_slice());
         if self.gets.wait(alloc, seen).is_err() {
             return Err(OperatorFailed);
         }
@@ -364,9 +367,13 @@ impl<R: Runtime<A = Global, File = File>> OperatorDesk<'_, R> {
         if !self.gets.takes_line(0) {
             return Ok(());
         }
-        match self.held.next() {
-            Some(line) => self.write_screen(alloc, &[[b' '; 80]; 25], Some(line)),
-            None => Ok(()),
+        match self.held.next(alloc) {
+            Ok(Some(line)) => {
+                let line = without_return(line.as_slice());
+                self.write_screen(alloc, &[[b' '; 80]; 25], Some(line))
+            }
+            Ok(None) => Ok(()),
+            Err(_) => Err(OperatorFailed),
         }
     }
 }

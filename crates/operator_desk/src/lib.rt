@@ -16,7 +16,7 @@ pub use begun::{Talk, TalkSave, talk_in};
 pub use clock::local_day;
 pub use desk::{Manner, OperatorDesk};
 pub use gets::Gets;
-pub use held_lines::HeldLines;
+pub use held_lines::{HeldLines, OwnLines};
 pub use record::{KeptJournal, Record};
 pub use screens::Screens;
 pub use typist::{TakenLines, Typist};
