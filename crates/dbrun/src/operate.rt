@@ -608,7 +608,10 @@ fn converse<'a, R: Runtime<A = Global, File = File>>(
     closed: Option<Hindrance>,
 ) -> Status {
     let alloc = rt.alloc();
-    let (Ok(input), Ok(held)) = (journal.bytes.clone(), journal.bytes.clone()) else {
+    let Ok(input) = journal.bytes.clone() else {
+        return refuse(rt, Refusal::Memory);
+    };
+    let Ok(held) = journal.bytes.clone() else {
         return refuse(rt, Refusal::Memory);
     };
     let Ok(mut desk) = desk_of(rt, audience, open, held, tail) else {
