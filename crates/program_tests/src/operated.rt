@@ -1,8 +1,6 @@
 // Conversations: an operator types the lines of a run while it goes on, and a journal keeps them.
 #![tactic(auto)]
 
-ghost use Rattle.std.specs.Prelude.{◌≡◌, false};
-
 use super::cases::{CODE, Case, compiled, entries, listing, printing};
 use super::stored::day_of;
 use super::tables::table;
@@ -133,35 +131,6 @@ fn why(alloc: Global, refusal: &OperateRefusal) -> Result<String, AllocError> {
     }
 }
 
-/// The rows of a conversation, and how it ended, rehearsed or not.
-fn carried_out(
-    alloc: Global,
-    files: &mut MemoryFiles<'_>,
-    job: &Job<'_>,
-    journal: &mut Kept,
-    script: &mut Script<'_>,
-    rehearsed: bool,
-) -> Result<(Vec<u8>, String), AllocError>
-    requires untested { job.now.checked ≡ false }
-    requires held { journal.old.bytes.items ≡ job.now.input.now }
-{
-    if rehearsed {
-        return match rehearse_talk(alloc, files, job, journal, script) {
-            Ok(done) => {
-                let told = done.to_string(alloc)?;
-                Ok((done.rows, told))
-            }
-            Err(refusal) => Ok((Vec::new(alloc), why(alloc, &refusal)?)),
-        };
-    }
-    let done = operate_files(alloc, files, job, journal, script);
-    let told = match &done.result {
-        Ok(ended) => ended.to_string(alloc)?,
-        Err(refusal) => why(alloc, refusal)?,
-    };
-    Ok((done.rows, told))
-}
-
 /// Carries out the code of a case in conversation, or rehearses it.
 fn operated(
     alloc: Global,
@@ -192,7 +161,22 @@ fn operated(
         fails: typing.fails,
         seen: Vec::new(alloc),
     };
-    let (rows, told) = carried_out(alloc, files, &job, &mut journal, &mut script, rehearsed)?;
+    let (rows, told) = if rehearsed {
+        match rehearse_talk(alloc, files, &job, &mut journal, &mut script) {
+            Ok(done) => {
+                let told = done.to_string(alloc)?;
+                (done.rows, told)
+            }
+            Err(refusal) => (Vec::new(alloc), why(alloc, &refusal)?),
+        }
+    } else {
+        let done = operate_files(alloc, files, &job, &mut journal, &mut script);
+        let told = match &done.result {
+            Ok(ended) => ended.to_string(alloc)?,
+            Err(refusal) => why(alloc, refusal)?,
+        };
+        (done.rows, told)
+    };
     Ok(Some(Came {
         rows,
         told,
