@@ -20,22 +20,21 @@ def program(kind=None):
 
 
 def at_terminal(words, folder):
-    """What a program that ends by itself writes at a terminal, line by line."""
-    child, terminal = pty.fork()
-    if not child:
-        os.chdir(folder)
-        os.execv(words[0], words)
-    told = b""
-    while True:
-        try:
-            more = os.read(terminal, 65536)
-        except OSError:
-            more = b""
-        if not more:
-            break
-        told += more
-    os.close(terminal)
-    os.waitpid(child, 0)
+    """What a program that ends by itself writes at a terminal, line by line. (The terminal doesn't control the program: a
+    terminal that does is hung up when the program ends, and what nobody has read by then is lost.)"""
+    terminal, at_it = pty.openpty()
+    with subprocess.Popen(words, cwd=folder, stdin=at_it, stdout=at_it, stderr=at_it):
+        os.close(at_it)
+        told = b""
+        while True:
+            try:
+                more = os.read(terminal, 65536)
+            except OSError:
+                more = b""
+            if not more:
+                break
+            told += more
+        os.close(terminal)
     return told.decode("utf-8", "replace").replace("\r\n", "\n").splitlines()
 
 

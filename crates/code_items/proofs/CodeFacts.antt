@@ -9,7 +9,7 @@ use Rattle.code_items.specs.declared.code.Proc.{Proc}
 use Rattle.code_items.specs.declared.code.Code.{Code}
 use Rattle.code_items.specs.Declarations.{are_declared, is_filter, lists_are_legal, constants_are_legal, filters_are_legal}
 use Rattle.code_items.specs.Instrs.{is_instr}
-use Rattle.code_items.specs.Legal.{total, is_procedure, begins_blank, is_map, places_of, blocks_of, blocks_fill, maps_rise, procedures_are_legal, maps_are_legal, instructions_are_legal, is_code, IsCode}
+use Rattle.code_items.specs.Legal.{places_in_all, is_procedure, begins_blank, is_map, places_of, blocks_of, blocks_fill, maps_rise, procedures_are_legal, maps_are_legal, instructions_are_legal, is_code, IsCode}
 use Rattle.code_items.specs.Facts.{Facts}
 
 both : (a b : Bool) → a && b ≡ true → (a ≡ true) × (b ≡ true)
@@ -21,7 +21,7 @@ some_there [] e = absurd (cc)
 some_there (p ∷ ps) e = omega arith
 
 -- blocks that fill some places have no more
-filled_within : (left : ℕ) (ns ms : List ℕ) → blocks_fill left (ns ++ ms) ≡ true → total ns ≤ left
+filled_within : (left : ℕ) (ns ms : List ℕ) → blocks_fill left (ns ++ ms) ≡ true → places_in_all ns ≤ left
 filled_within left [] ms e = omega arith
 filled_within left (n ∷ ns) ms e =
     let a = both (nat_le 1 n && nat_le n left) (blocks_fill (left - n) (ns ++ ms)) e in

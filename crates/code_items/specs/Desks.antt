@@ -44,8 +44,8 @@ abbrev pub put_at : ℕ → AreaState → List AreaState → List AreaState
 put_at zero area areas = areas
 put_at (suc n) area areas = slice_set areas n area
 
-abbrev pub with_selected : AreaState → Desk → Desk
-with_selected area desk = record desk { areas = put_at desk.selected area desk.areas }
+abbrev pub with_selected_area : AreaState → Desk → Desk
+with_selected_area area desk = record desk { areas = put_at desk.selected area desk.areas }
 
 -- all areas closed and the first selected
 abbrev pub all_closed : Desk → Desk

@@ -9,7 +9,7 @@ use Rattle.code_items.specs.declared.code.Proc.{Proc}
 use Rattle.code_items.specs.declared.code.Code.{Code}
 use Rattle.code_items.specs.Declarations.{are_declared}
 use Rattle.code_items.specs.Instrs.{is_instr}
-use Rattle.code_items.specs.States.{is_state, is_blank}
+use Rattle.code_items.specs.States.{is_state, is_state_of_start}
 
 -- a procedure is entered and left with an empty stack
 unfoldable pub is_procedure : Declared → Proc → Bool
@@ -19,19 +19,19 @@ is_procedure d p = nat_le p.level 20 && is_state d p.entry && is_state d p.exit 
 -- the first procedure is there and is entered with nothing known
 abbrev pub begins_blank : List Proc → Bool
 begins_blank [] = false
-begins_blank (main ∷ procedures) = is_blank main.entry
+begins_blank (main ∷ procedures) = is_state_of_start main.entry
 
 abbrev pub is_map : Declared → Map → Bool
 is_map d m = is_state d m.state
 
 -- places of blocks of these lengths
-abbrev pub total : List ℕ → ℕ
-total [] = 0
-total (n ∷ ns) = n + total ns
+abbrev pub places_in_all : List ℕ → ℕ
+places_in_all [] = 0
+places_in_all (n ∷ ns) = n + places_in_all ns
 
 -- how many instructions the procedures' blocks have
 abbrev pub places_of : List Proc → ℕ
-places_of procedures = total (map (λ p. p.length) procedures)
+places_of procedures = places_in_all (map (λ p. p.length) procedures)
 
 -- the blocks in their order: those of the procedures, then those of the filters
 abbrev pub blocks_of : List Proc → List Filter → List ℕ

@@ -16,13 +16,13 @@ use Rattle.code_items.specs.declared.desk.Desk.{Desk}
 use Rattle.code_items.specs.declared.state.State.{State}
 use Rattle.code_items.specs.Declarations.{list_of, filter_of}
 
-abbrev pub is_number : ℕ → Option ℕ → Bool
-is_number n None = false
-is_number n (Some m) = m == n
+abbrev pub is_this_number : ℕ → Option ℕ → Bool
+is_this_number n None = false
+is_this_number n (Some m) = m == n
 
 abbrev pub lists_table : List IndexShape → ℕ → Option IndexList → Bool
 lists_table indexes table None = false
-lists_table indexes table (Some l) = is_number table (list_table indexes l)
+lists_table indexes table (Some l) = is_this_number table (list_table indexes l)
 
 -- a declared list of the table
 abbrev pub is_list_of : Declared → ℕ → ℕ → Bool
@@ -41,13 +41,13 @@ abbrev pub how_many : Option IndexList → ℕ
 how_many None = 0
 how_many (Some l) = length l.indexes.items
 
-abbrev pub opened : Declared → ℕ → ℕ
-opened d list = how_many (list_of d list)
+abbrev pub opened_by : Declared → ℕ → ℕ
+opened_by d list = how_many (list_of d list)
 
 -- a table that is there, with a list and a filter of it or none, and an order of the list
 abbrev pub is_open : Declared → OpenArea → Bool
 is_open d a = nat_lt a.table (length d.shape.tables) && (a.list == 0 || is_list_of d a.table a.list)
-    && nat_le a.order (opened d a.list) && (a.filter == 0 || is_filter_of d a.table a.filter)
+    && nat_le a.order (opened_by d a.list) && (a.filter == 0 || is_filter_of d a.table a.filter)
 
 -- nothing is known of a work area in codes of version two alone
 abbrev pub may_be_unsure : Version → Bool
@@ -75,5 +75,5 @@ is_closed Closed = true
 is_closed (Open a) = false
 is_closed Unsure = false
 
-abbrev pub is_blank : State → Bool
-is_blank s = s.desk.selected == 1 && list_all is_closed s.desk.areas && list_all is_none s.slots
+abbrev pub is_state_of_start : State → Bool
+is_state_of_start s = s.desk.selected == 1 && list_all is_closed s.desk.areas && list_all is_none s.slots

@@ -2,7 +2,8 @@
 
 ghost use Rattle.std.specs.Prelude.{◌≡◌, IfOk};
 ghost use Rattle.std.specs.List.{list_all, zip};
-ghost use Rattle.code_items.specs.Desks.{same_area, area_covered, areas_covered, desk_covered, open_at, with_selected};
+ghost use Rattle.code_items.specs.Desks.{same_area, area_covered, areas_covered, desk_covered, open_at};
+ghost use Rattle.code_items.specs.Desks.{with_selected_area};
 ghost use Rattle.code_items.specs.Desks.{all_closed};
 
 use shape::Items;
@@ -86,7 +87,7 @@ impl Desk {
 
     /// What is known of the selected work area from now on. Nothing changes where no work area is selected.
     pub fn set_selected(&mut self, area: AreaState)
-        ensures { self.new ≡ with_selected area self.old }
+        ensures { self.new ≡ with_selected_area area self.old }
     {
         if 1 <= self.selected && usize::from(self.selected) <= self.areas.len() {
             self.areas.set(usize::from(self.selected - 1), area);

@@ -2,8 +2,10 @@
 
 ghost use Rattle.std.specs.Prelude.{◌≡◌, is_none};
 ghost use Rattle.std.specs.List.{list_all};
-ghost use Rattle.code_items.specs.States.{is_list_of, is_filter_of, opened, is_open, may_be_unsure as may_be_unsure_in};
-ghost use Rattle.code_items.specs.States.{is_area_state, is_desk, is_state, is_closed as is_closed_area, is_blank};
+ghost use Rattle.code_items.specs.States.{is_list_of, is_filter_of, opened_by, is_open};
+ghost use Rattle.code_items.specs.States.{may_be_unsure as may_be_unsure_in};
+ghost use Rattle.code_items.specs.States.{is_area_state, is_desk, is_state, is_closed as is_closed_area};
+ghost use Rattle.code_items.specs.States.{is_state_of_start};
 
 use crate::declared::{Declared, Version};
 use crate::desk::{AreaState, Desk, OpenArea};
@@ -36,7 +38,7 @@ impl Declared {
 
     /// How many indexes the list of this number, counted from 1, opens; none where there is no such list.
     pub fn opened(&self, list: u32) -> usize
-        ensures { result ≡ opened self.now list }
+        ensures { result ≡ opened_by self.now list }
     {
         match self.list(list) {
             Some(list) => list.indexes.len(),
@@ -121,7 +123,7 @@ fn are_free(slots: &[Option<Kind>]) -> bool
 impl State {
     /// Whether nothing is known: work area 1 is selected, all are closed, and each slot is free.
     pub fn is_blank(&self) -> bool
-        ensures { result ≡ is_blank self.now }
+        ensures { result ≡ is_state_of_start self.now }
     {
         self.desk.selected == 1
             && are_closed(self.desk.areas.as_slice())

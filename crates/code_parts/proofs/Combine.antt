@@ -2,13 +2,13 @@
 use Rattle.std.proofs.Common.{◌≡◌, ℕ, ◌+◌, ◌<◌, List, [], ◌∷◌, ◌++◌, length, get_or, Option, Some, None, Ok, Err, refl, sym, ap, ◌∙◌, append_assoc}
 use Rattle.std.proofs.lemmas.List.{get_or-append-add}
 use Rattle.code_parts.specs.declared.flaw.Flaw.{Flaw}
-use Rattle.code_parts.specs.Reading.{Front, Reader, ◌>>=◌, behind, give, byte_at, Judged, judge, both, sure, pair_at, made_at, by_byte}
+use Rattle.code_parts.specs.Reading.{Front, Reader, ◌>>=◌, read_behind, give, byte_at, Judged, judge, both_judged, sure, pair_read_at, made_at, by_byte}
 use Rattle.code_parts.specs.Laws.{AreBytes, IsSteady, Spells}
 
 -- ---- steady readers
 
 -- the step that did not miss bytes
-pub behind_some : {A B : Type 0} (front : Front A) (next : A → Reader B) (y : B × List ℕ) → behind front next ≡ Some y → (x : A × List ℕ) × (front ≡ Some x) × (next x.0 x.1 ≡ Some y)
+pub behind_some : {A B : Type 0} (front : Front A) (next : A → Reader B) (y : B × List ℕ) → read_behind front next ≡ Some y → (x : A × List ℕ) × (front ≡ Some x) × (next x.0 x.1 ≡ Some y)
 behind_some (Some x) next y e = (x, refl, e)
 behind_some None next y e = absurd cc
 
@@ -18,7 +18,7 @@ steady_then {A} {B} {r} {next} first second = record {
       let a = behind_some (r bytes) next (y, rest) e in
       let here : r (bytes ++ more) ≡ Some (a.0.0, a.0.1 ++ more) = first.stays bytes more a.0.1 a.0.0 a.1 in
       let there = (second a.0.0).stays a.0.1 more rest y a.2 in
-      ap (λ (front : Front A). behind front next) here ∙ there;
+      ap (λ (front : Front A). read_behind front next) here ∙ there;
 }
 
 abbrev pub some : {A : Type 0} → A → Option A
@@ -53,25 +53,25 @@ are_left bytes text rest e fit i =
 
 -- ---- one thing behind another
 
-both_ok : {A B : Type 0} (first : Judged A) (second : Judged B) (x : A × B) → both first second ≡ Ok x → (first ≡ Ok x.0) × (second ≡ Ok x.1)
+both_ok : {A B : Type 0} (first : Judged A) (second : Judged B) (x : A × B) → both_judged first second ≡ Ok x → (first ≡ Ok x.0) × (second ≡ Ok x.1)
 both_ok {A} {B} (Ok a) (Ok b) x e = let same : (a, b) ≡ x = ok_is (a, b) x e in (ap (λ (p : A × B). done p.0) same, ap (λ (p : A × B). done p.1) same)
 both_ok (Ok a) (Err f) x e = absurd cc
 both_ok (Err f) second x e = absurd cc
 
-pub pair_spells : {A B : Type 0} {r : Reader (Judged A)} {s : Reader (Judged B)} {t : A → List ℕ} {u : B → List ℕ} {P G : A → Type 0} {Q H : B → Type 0} → Spells r t P G → Spells s u Q H → Spells (pair_at r s) (λ p. t p.0 ++ u p.1) (λ p. P p.0 × Q p.1) (λ p. G p.0 × H p.1)
+pub pair_spells : {A B : Type 0} {r : Reader (Judged A)} {s : Reader (Judged B)} {t : A → List ℕ} {u : B → List ℕ} {P G : A → Type 0} {Q H : B → Type 0} → Spells r t P G → Spells s u Q H → Spells (pair_read_at r s) (λ p. t p.0 ++ u p.1) (λ p. P p.0 × Q p.1) (λ p. G p.0 × H p.1)
 pair_spells {A} {B} {r} {s} {t} {u} {P} {G} {Q} {H} first second = record {
-  again = λ p rest h. ap (pair_at r s) (append_assoc (t p.0) (u p.1) rest) ∙ rw (first.again p.0 (u p.1 ++ rest) h.0, second.again p.1 rest h.1) refl;
+  again = λ p rest h. ap (pair_read_at r s) (append_assoc (t p.0) (u p.1) rest) ∙ rw (first.again p.0 (u p.1 ++ rest) h.0, second.again p.1 rest h.1) refl;
   takes = λ bytes rest p fit e.
-      let a = behind_some (r bytes) (λ x. s >>= λ y. give (both x y)) (Ok p, rest) e in
-      let b = behind_some (s a.0.1) (λ y. give (both a.0.0 y)) (Ok p, rest) a.2 in
-      let end = given (both a.0.0 b.0.0) (Ok p) b.0.1 rest b.2 in
+      let a = behind_some (r bytes) (λ x. s >>= λ y. give (both_judged x y)) (Ok p, rest) e in
+      let b = behind_some (s a.0.1) (λ y. give (both_judged a.0.0 y)) (Ok p, rest) a.2 in
+      let end = given (both_judged a.0.0 b.0.0) (Ok p) b.0.1 rest b.2 in
       let made = both_ok a.0.0 b.0.0 p end.0 in
       let one : r bytes ≡ Some (Ok p.0, a.0.1) = a.1 ∙ ap (λ (v : Judged A). Some (v, a.0.1)) made.0 in
       let two : s a.0.1 ≡ Some (Ok p.1, rest) = b.1 ∙ ap (λ (v : Judged B). Some (v, b.0.1)) made.1 ∙ ap (λ (l : List ℕ). Some (Ok p.1, l)) end.1 in
       let front = first.takes bytes a.0.1 p.0 fit one in
       let back = second.takes a.0.1 rest p.1 (are_left bytes (t p.0) a.0.1 front.0 fit) two in
       (front.0 ∙ ap (λ (l : List ℕ). t p.0 ++ l) back.0 ∙ sym (append_assoc (t p.0) (u p.1) rest), (front.1, back.1));
-  steady = steady_then first.steady (λ x. steady_then second.steady (λ y. steady_give (both x y)));
+  steady = steady_then first.steady (λ x. steady_then second.steady (λ y. steady_give (both_judged x y)));
 }
 
 -- ---- what is made of a thing

@@ -13,8 +13,8 @@ use Rattle.xvalue.specs.declared.value.Value.TheVariants.{Number, Text, Date, Lo
 use Rattle.code_items.specs.Constants.{is_byte, is_decimal, is_constant}
 use Rattle.code_parts.specs.declared.flaw.Flaw.TheVariants.{Shape}
 use Rattle.code_parts.specs.Laws.{Spells, IsLegalConstant}
-use Rattle.code_parts.specs.Texts.{two, kind_number, truth_number, kind_of_value, number_text, counted_text, value_text, constant_text}
-use Rattle.code_parts.specs.Items.{wanted, truth_of_byte, is_number, decimal_from, decimal_at, date_from, date_at, text_from, text_value_at, truth_from, truth_at, value_at, constant_at}
+use Rattle.code_parts.specs.Texts.{two, kind_number, truth_number, kind_of_value, decimal_text, counted_text, value_text, constant_text}
+use Rattle.code_parts.specs.Items.{wanted, truth_of_byte, is_stored_number, decimal_from, decimal_at, date_from, date_at, text_from, text_value_at, truth_from, truth_at, value_at, constant_at}
 use Rattle.code_parts.proofs.Combine.{done, ok_is, pair_spells, made_spells, byte_spells, choice_spells, flawed_spells}
 use Rattle.code_parts.proofs.Numbers.{text_spells, two_spells, eight_spells}
 use Rattle.code_parts.proofs.Choices.{chosen, both_true, both_from, either_true, wanted_ok, there_ok, truth_was, truth_is, if_spells}
@@ -25,7 +25,7 @@ Of b v = IsLegalConstant v × (kind_number (kind_of_value v) ≡ b)
 
 -- ---- numbers
 
-below_text : (d m : ℕ) → 0 < m → number_text (finite (signed true m) d) ≡ d ∷ 1 ∷ to_le_bytes w64 m
+below_text : (d m : ℕ) → 0 < m → decimal_text (finite (signed true m) d) ≡ d ∷ 1 ∷ to_le_bytes w64 m
 below_text d zero h = absurd (omega (arith, h))
 below_text d (suc m) h = refl
 
@@ -36,9 +36,9 @@ in_range true d (suc m) few small = both_from (ltb (suc m) (10 ^ 19)) (leb d 15)
 
 -- what is read of a number is its text
 abbrev Spelled : ℕ → ℕ → ℕ → Type 0
-Spelled d s m = (d ∷ s ∷ to_le_bytes w64 m ≡ number_text (finite (signed (eqb s 1) m) d)) × (is_decimal (finite (signed (eqb s 1) m) d) ≡ true)
+Spelled d s m = (d ∷ s ∷ to_le_bytes w64 m ≡ decimal_text (finite (signed (eqb s 1) m) d)) × (is_decimal (finite (signed (eqb s 1) m) d) ≡ true)
 
-number_spelled : (d s m : ℕ) → is_number d s m ≡ true → Spelled d s m
+number_spelled : (d s m : ℕ) → is_stored_number d s m ≡ true → Spelled d s m
 number_spelled d s m e =
     let p = both_true (leb d 15 && ltb m (10 ^ 19)) (eqb s 0 || (eqb s 1 && ltb 0 m)) e in
     let q = both_true (leb d 15) (ltb m (10 ^ 19)) p.0 in
@@ -51,10 +51,10 @@ number_spelled d s m e =
           subst (λ (n : ℕ). Spelled d n m) (sym (eqb-true s 1 r.0)) (sym (below_text d m (ltb-true 0 m r.1)), in_range true d m few small)
     ]
 
-is_number_above : (d m : ℕ) → d ≤ 15 → m < 10 ^ 19 → is_number d 0 m ≡ true
+is_number_above : (d m : ℕ) → d ≤ 15 → m < 10 ^ 19 → is_stored_number d 0 m ≡ true
 is_number_above d m few small = both_from (leb d 15 && ltb m (10 ^ 19)) true (both_from (leb d 15) (ltb m (10 ^ 19)) (le-leb d 15 few) (lt-ltb m (10 ^ 19) small)) refl
 
-is_number_below : (d m : ℕ) → d ≤ 15 → m < 10 ^ 19 → 0 < m → is_number d 1 m ≡ true
+is_number_below : (d m : ℕ) → d ≤ 15 → m < 10 ^ 19 → 0 < m → is_stored_number d 1 m ≡ true
 is_number_below d m few small some = both_from (leb d 15 && ltb m (10 ^ 19)) (ltb 0 m) (both_from (leb d 15) (ltb m (10 ^ 19)) (le-leb d 15 few) (lt-ltb m (10 ^ 19) small)) (lt-ltb 0 m some)
 
 abbrev FromParts : Value → Type 0
@@ -80,7 +80,7 @@ unfolding decimal_at is_constant
 decimal_spells = made_spells (pair_spells byte_spells (pair_spells byte_spells eight_spells)) (λ p. decimal_from p.0 p.1.0 p.1.1) value_text (Of 1) (Of 1)
     (λ p v fit e.
     let made : Value = Number (finite (signed (eqb p.1.0 1) p.1.1) p.0) in
-    let w = wanted_ok Shape (is_number p.0 p.1.0 p.1.1) made v e in
+    let w = wanted_ok Shape (is_stored_number p.0 p.1.0 p.1.1) made v e in
     let s = number_spelled p.0 p.1.0 p.1.1 w.0 in
     subst (λ (x : Value). (p.0 ∷ p.1.0 ∷ to_le_bytes w64 p.1.1 ≡ value_text x) × Of 1 x) {x = made} {y = v} w.1 (s.0, (s.1, refl)))
     (λ v h. parts_of_decimal v h)

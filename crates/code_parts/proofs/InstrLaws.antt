@@ -22,26 +22,26 @@ use Rattle.code_items.specs.declared.instr.Instr.{Instr}
 use Rattle.code_items.specs.declared.instr.Instr.TheVariants.{Values, Flow, Screen, Areas, Moves, Records}
 use Rattle.code_items.specs.Instrs.{is_instr, is_two, is_four, is_area}
 use Rattle.code_parts.specs.declared.flaw.Flaw.TheVariants.{Operation}
-use Rattle.code_parts.specs.declared.operands.Parts.{Parts}
+use Rattle.code_parts.specs.declared.operands.InstrParts.{InstrParts}
 use Rattle.code_parts.specs.Laws.{Spells, IsLegalInstr}
 use Rattle.code_parts.specs.Texts.{kind_number, truth_number}
 use Rattle.code_parts.specs.Items.{wanted}
-use Rattle.code_parts.specs.Instructions.{setting_number, question_number, of_parts, parts_of, parts_text, instr_text, low_instr, flow_instr, area_instr, record_instr, screen_instr, any_instr, same_parts, is_just, instr_from, instr_read_at}
+use Rattle.code_parts.specs.Instructions.{setting_number, question_number, instr_parts, parts_of, parts_text, instr_text, low_instr, flow_instr, area_instr, record_instr, screen_instr, any_instr, same_parts, is_just, instr_from, instr_read_at}
 use Rattle.code_parts.proofs.Combine.{pair_spells, made_spells, byte_spells}
 use Rattle.code_parts.proofs.Numbers.{two_spells, four_spells}
 use Rattle.code_parts.proofs.Choices.{both_true, both_from, wanted_ok, there_ok, kind_is}
 
-parts_same : (p q : Parts) → same_parts p q ≡ true → parts_text p ≡ parts_text q
+parts_same : (p q : InstrParts) → same_parts p q ≡ true → parts_text p ≡ parts_text q
 parts_same p q e =
     let x = both_true (eqb p.operation q.operation && eqb p.a q.a && eqb p.b q.b) (eqb p.c q.c) e in
     let y = both_true (eqb p.operation q.operation && eqb p.a q.a) (eqb p.b q.b) x.0 in
     let z = both_true (eqb p.operation q.operation) (eqb p.a q.a) y.0 in
     texts p.operation p.a p.b p.c q.operation q.a q.b q.c (eqb-true p.operation q.operation z.0) (eqb-true p.a q.a z.1) (eqb-true p.b q.b y.1) (eqb-true p.c q.c x.1)
   where
-    texts : (o a b c o' a' b' c' : ℕ) → o ≡ o' → a ≡ a' → b ≡ b' → c ≡ c' → parts_text (of_parts o a b c) ≡ parts_text (of_parts o' a' b' c')
+    texts : (o a b c o' a' b' c' : ℕ) → o ≡ o' → a ≡ a' → b ≡ b' → c ≡ c' → parts_text (instr_parts o a b c) ≡ parts_text (instr_parts o' a' b' c')
     texts o a b c o' a' b' c' e f g h = rw (e, f, g, h) refl
 
-same_again : (p : Parts) → same_parts p p ≡ true
+same_again : (p : InstrParts) → same_parts p p ≡ true
 same_again p = rw (eq-eqb p.operation p.operation refl, eq-eqb p.a p.a refl, eq-eqb p.b p.b refl, eq-eqb p.c p.c refl) refl
 
 -- each instruction is the one that its parts can only be
@@ -126,26 +126,26 @@ found agree (Records i) = records_found i
 
 -- operands fit their bytes
 
-abbrev Fit : Parts → Type 0
+abbrev Fit : InstrParts → Type 0
 Fit p = (p.b < 2 ^ 16) × (p.c < 2 ^ 32)
 
-no_numbers : (o a : ℕ) → Fit (of_parts o a 0 0)
+no_numbers : (o a : ℕ) → Fit (instr_parts o a 0 0)
 no_numbers o a = (omega arith, omega arith)
 
-number_fits : (o a b : ℕ) → is_two b ≡ true → Fit (of_parts o a b 0)
+number_fits : (o a b : ℕ) → is_two b ≡ true → Fit (instr_parts o a b 0)
 number_fits o a b e = let lt = ltb-true b 65536 e in (omega (arith, lt), omega arith)
 
-place_fits : (o c : ℕ) → is_four c ≡ true → Fit (of_parts o 0 0 c)
+place_fits : (o c : ℕ) → is_four c ≡ true → Fit (instr_parts o 0 0 c)
 place_fits o c e = let lt = ltb-true c 4294967296 e in (omega arith, omega (arith, lt))
 
-open_fits : (b c : ℕ) → (is_two b && is_four c) ≡ true → Fit (of_parts 0x20 0 b c)
+open_fits : (b c : ℕ) → (is_two b && is_four c) ≡ true → Fit (instr_parts 0x20 0 b c)
 open_fits b c e =
     let p = both_true (is_two b) (is_four c) e in
     let lt = ltb-true b 65536 p.0 in
     let lt' = ltb-true c 4294967296 p.1 in
     (omega (arith, lt), omega (arith, lt'))
 
-truth_fits : (o a : ℕ) (on : Bool) → Fit (of_parts o a (truth_number on) 0)
+truth_fits : (o a : ℕ) (on : Bool) → Fit (instr_parts o a (truth_number on) 0)
 truth_fits o a true = (omega arith, omega arith)
 truth_fits o a false = (omega arith, omega arith)
 
@@ -215,7 +215,7 @@ made_of : NumbersAgree → (version : Version) (i : Instr) → is_instr version 
 unfolding instr_from
 made_of agree version i h = rw (found agree i, both_from (is_instr version i) (same_parts (parts_of i) (parts_of i)) h (same_again (parts_of i))) refl
 
-was_made : (version : Version) (p : Parts) (i : Instr) → instr_from version p ≡ Ok i → (parts_text p ≡ instr_text i) × IsLegalInstr version i
+was_made : (version : Version) (p : InstrParts) (i : Instr) → instr_from version p ≡ Ok i → (parts_text p ≡ instr_text i) × IsLegalInstr version i
 unfolding instr_from
 was_made version p i e =
     let make = λ (j : Instr). wanted Operation (is_just version p j) j in
@@ -226,6 +226,6 @@ was_made version p i e =
 
 pub instr_spells : NumbersAgree → (version : Version) → Spells (instr_read_at version) instr_text (IsLegalInstr version) (IsLegalInstr version)
 unfolding instr_read_at
-instr_spells agree version = made_spells (pair_spells byte_spells (pair_spells byte_spells (pair_spells two_spells four_spells))) (λ p. instr_from version (of_parts p.0 p.1.0 p.1.1.0 p.1.1.1)) instr_text (IsLegalInstr version) (IsLegalInstr version)
-    (λ p i h e. was_made version (of_parts p.0 p.1.0 p.1.1.0 p.1.1.1) i e)
+instr_spells agree version = made_spells (pair_spells byte_spells (pair_spells byte_spells (pair_spells two_spells four_spells))) (λ p. instr_from version (instr_parts p.0 p.1.0 p.1.1.0 p.1.1.1)) instr_text (IsLegalInstr version) (IsLegalInstr version)
+    (λ p i h e. was_made version (instr_parts p.0 p.1.0 p.1.1.0 p.1.1.1) i e)
     (λ i h. (((parts_of i).operation, ((parts_of i).a, ((parts_of i).b, (parts_of i).c))), (tt, (tt, fit version i h)), made_of agree version i h, refl))

@@ -5,7 +5,7 @@ use Rattle.std.specs.Int.{Width, w16, w32, w64, byte_len, from_le_bytes, to_le_b
 use Rattle.std.proofs.lemmas.Bool.{cases_lt, ltb-false, le-ltb}
 use Rattle.std.proofs.lemmas.List.{take_at, drop_at, take-append-drop, length-append, length-take, get_or-take, get_or_past, take-append-le, drop-append-le}
 use Rattle.std.proofs.lemmas.Nat.{le_bytes_2, le_bytes_4, le_bytes_8, from_le_bytes-to_le_bytes_2, from_le_bytes-to_le_bytes_4, from_le_bytes-to_le_bytes_8}
-use Rattle.code_parts.specs.Reading.{Front, Reader, ◌>>=◌, give, byte_at, bytes_at, number_at, text_at, Judged, put_before, several, sure, counted_at}
+use Rattle.code_parts.specs.Reading.{Front, Reader, ◌>>=◌, give, byte_at, bytes_at, number_read_at, text_read_at, Judged, put_before, several, sure, counted_at}
 use Rattle.code_parts.specs.Laws.{AreBytes, IsSteady, Spells}
 use Rattle.code_parts.proofs.Combine.{ok_is, done, given, are_left, behind_some, byte_takes, steady_then, steady_give, steady_byte}
 use Rattle.std.proofs.Common.{inl, inr}
@@ -68,23 +68,23 @@ front_of {A} f n bytes rest x e =
     let g = there_is {A = A × List ℕ} (ltb (length bytes) n) (f (take n bytes), drop n bytes) (x, rest) e in
     (record { long = ltb-false _ _ g.0; text_is = refl; rest_is = ap (λ (p : A × List ℕ). p.1) g.1 }, ap (λ (p : A × List ℕ). p.0) g.1)
 
-pub steady_number : (w : Width) → IsSteady (number_at w)
+pub steady_number : (w : Width) → IsSteady (number_read_at w)
 steady_number w = record { stays = λ bytes more rest x e. more_behind bytes more rest x (front_of (from_le_bytes w) (byte_len w) bytes rest x e) }
   where
-    more_behind : (bytes more rest : List ℕ) (x : ℕ) → IsFront (byte_len w) bytes (take (byte_len w) bytes) rest × (from_le_bytes w (take (byte_len w) bytes) ≡ x) → number_at w (bytes ++ more) ≡ Some (x, rest ++ more)
+    more_behind : (bytes more rest : List ℕ) (x : ℕ) → IsFront (byte_len w) bytes (take (byte_len w) bytes) rest × (from_le_bytes w (take (byte_len w) bytes) ≡ x) → number_read_at w (bytes ++ more) ≡ Some (x, rest ++ more)
     more_behind bytes more rest x h =
         let long : byte_len w ≤ length bytes = h.0.long in
         let still : ltb (length (bytes ++ more)) (byte_len w) ≡ false = le-ltb _ _ (omega (arith, length-append bytes more)) in
         rw (still, take-append-le (byte_len w) bytes more long, drop-append-le (byte_len w) bytes more long, h.1, h.0.rest_is) refl
 
-pub number_spells : (w : Width) (limit : ℕ) → IsWide w limit → Spells (sure (number_at w)) (to_le_bytes w) (λ n. n < limit) (λ n. n < limit)
+pub number_spells : (w : Width) (limit : ℕ) → IsWide w limit → Spells (sure (number_read_at w)) (to_le_bytes w) (λ n. n < limit) (λ n. n < limit)
 number_spells w limit wide = record {
   again = λ n rest lt.
       let len = wide.len n in
       let long : ltb (length (to_le_bytes w n ++ rest)) (byte_len w) ≡ false = le-ltb _ _ (omega (arith, length-append (to_le_bytes w n) rest)) in
       rw (long, take_at (to_le_bytes w n) rest (byte_len w) len, drop_at (to_le_bytes w n) rest (byte_len w) len, wide.again n lt) refl;
   takes = λ bytes rest n fit e.
-      let a = behind_some (number_at w bytes) (λ x. give (Ok x)) (Ok n, rest) e in
+      let a = behind_some (number_read_at w bytes) (λ x. give (Ok x)) (Ok n, rest) e in
       let end = given (done a.0.0) (done n) a.0.1 rest a.2 in
       let is : a.0.0 ≡ n = ok_is a.0.0 n end.0 in
       let f = front_of (from_le_bytes w) (byte_len w) bytes a.0.1 a.0.0 a.1 in
@@ -94,13 +94,13 @@ number_spells w limit wide = record {
   steady = steady_then (steady_number w) (λ x. steady_give (Ok x));
 }
 
-pub two_spells : Spells (sure (number_at w16)) (to_le_bytes w16) (λ n. n < 2 ^ 16) (λ n. n < 2 ^ 16)
+pub two_spells : Spells (sure (number_read_at w16)) (to_le_bytes w16) (λ n. n < 2 ^ 16) (λ n. n < 2 ^ 16)
 two_spells = number_spells w16 (2 ^ 16) wide16
 
-pub four_spells : Spells (sure (number_at w32)) (to_le_bytes w32) (λ n. n < 2 ^ 32) (λ n. n < 2 ^ 32)
+pub four_spells : Spells (sure (number_read_at w32)) (to_le_bytes w32) (λ n. n < 2 ^ 32) (λ n. n < 2 ^ 32)
 four_spells = number_spells w32 (2 ^ 32) wide32
 
-pub eight_spells : Spells (sure (number_at w64)) (to_le_bytes w64) (λ n. n < 2 ^ 64) (λ n. n < 2 ^ 64)
+pub eight_spells : Spells (sure (number_read_at w64)) (to_le_bytes w64) (λ n. n < 2 ^ 64) (λ n. n < 2 ^ 64)
 eight_spells = number_spells w64 (2 ^ 64) wide64
 
 -- ---- texts
@@ -118,13 +118,13 @@ each_byte : (bytes : List ℕ) → AreBytes bytes → AllByRecursion (λ byte. b
 each_byte [] fits = tt
 each_byte (b ∷ bytes) fits = (fits 0, each_byte bytes (λ i. fits (suc i)))
 
-pub text_spells : Spells (sure text_at) (λ xs. length xs ∷ xs) (λ xs. Unit {0}) (λ xs. (length xs < 256) × AllByRecursion (λ byte. byte < 256) xs)
+pub text_spells : Spells (sure text_read_at) (λ xs. length xs ∷ xs) (λ xs. Unit {0}) (λ xs. (length xs < 256) × AllByRecursion (λ byte. byte < 256) xs)
 text_spells = record {
   again = λ xs rest h.
       let long : ltb (length (xs ++ rest)) (length xs) ≡ false = le-ltb _ _ (omega (arith, length-append xs rest)) in
       rw (long, take_at xs rest (length xs) refl, drop_at xs rest (length xs) refl) refl;
   takes = λ bytes rest xs fit e.
-      let a = behind_some (text_at bytes) (λ x. give (Ok x)) (Ok xs, rest) e in
+      let a = behind_some (text_read_at bytes) (λ x. give (Ok x)) (Ok xs, rest) e in
       let end = given (done a.0.0) (done xs) a.0.1 rest a.2 in
       let is : a.0.0 ≡ xs = ok_is a.0.0 xs end.0 in
       let b = behind_some (byte_at bytes) bytes_at a.0 a.1 in

@@ -13,8 +13,8 @@ use Rattle.shape.specs.declared.indexes.IndexShape.{IndexShape}
 use Rattle.shape.specs.declared.lists.IndexList.{IndexList}
 use Rattle.code_parts.specs.declared.flaw.Flaw.TheVariants.{Shape}
 use Rattle.code_parts.specs.Laws.{Spells, Any, HasName, FieldFits, TableFits, IndexFits, ListFits}
-use Rattle.code_parts.specs.Texts.{kind_number, slot_number, truth_number, kind_text, slot_text, name_text, field_text, table_text, part_text, index_text, list_text}
-use Rattle.code_parts.specs.Items.{there, kind_of_byte, kind_from, slot_from, truth_of_byte, kind_at, slot_at, name_from, name_at, field_from, field_at, table_at, part_from, part_at, index_from, index_at, list_from, list_at}
+use Rattle.code_parts.specs.Texts.{kind_number, slot_number, truth_number, kind_text, slot_text, name_text, field_text, table_text, key_part_text, index_text, list_text}
+use Rattle.code_parts.specs.Items.{there, kind_of_byte, kind_from, slot_from, truth_of_byte, kind_at, slot_at, name_from, name_read_at, field_from, field_at, table_read_at, part_from, part_at, index_from, index_at, list_from, list_at}
 use Rattle.code_parts.proofs.Combine.{done, ok_is, pair_spells, made_spells, byte_spells}
 use Rattle.code_parts.proofs.Numbers.{text_spells, counted_spells}
 use Rattle.code_parts.proofs.Choices.{all_any, chosen, wanted_ok, there_ok, kind_was, kind_is, truth_was, truth_is, letter_was, letter_is}
@@ -50,8 +50,8 @@ slot_spells = made_spells byte_spells slot_from slot_text Any Any
     (λ b slot fit e. (ap (λ (n : ℕ). n ∷ []) (slot_was b slot e), tt))
     (λ slot h. (slot_number slot, tt, slot_is slot, refl))
 
-name_spells : Spells name_at name_text HasName Any
-unfolding name_at
+name_spells : Spells name_read_at name_text HasName Any
+unfolding name_read_at
 name_spells = made_spells text_spells name_from name_text HasName Any
     (λ bytes name fit e.
     let made : ArrayVec ℕ = record { items = bytes } in
@@ -69,20 +69,20 @@ field_spells = made_spells (pair_spells name_spells (pair_spells byte_spells (pa
     (text ∙ ap field_text (ok_is made f l.2), tt))
     (λ f h. ((f.name, (code_of f.letter, (f.width, f.decimals))), (h, (tt, (tt, tt))), rw (letter_is f.letter) refl, refl))
 
-pub table_spells : Spells table_at table_text TableFits Any
-unfolding table_at
+pub table_spells : Spells table_read_at table_text TableFits Any
+unfolding table_read_at
 table_spells = made_spells (pair_spells name_spells (counted_spells field_spells)) (λ p. Ok (record { name = p.0; fields = p.1 })) table_text TableFits Any
     (λ p t fit e. let made : TableShape = record { name = p.0; fields = p.1 } in (ap table_text (ok_is made t e), tt))
     (λ t h. ((t.name, t.fields), (h.name, h.fields), refl, refl))
 
-part_spells : Spells part_at part_text Any Any
+part_spells : Spells part_at key_part_text Any Any
 unfolding part_at
-part_spells = made_spells (pair_spells byte_spells byte_spells) (λ p. part_from p.0 p.1) part_text Any Any
+part_spells = made_spells (pair_spells byte_spells byte_spells) (λ p. part_from p.0 p.1) key_part_text Any Any
     (λ p part fit e.
     let make = λ (upper : Bool). let made : KeyPart = record { field = p.0; upper = upper } in done made in
     let u = there_ok Shape (truth_of_byte p.1) make part e in
     let made : KeyPart = record { field = p.0; upper = u.0 } in
-    (ap (λ (n : ℕ). p.0 ∷ n ∷ []) (truth_was p.1 u.0 u.1) ∙ ap part_text (ok_is made part u.2), tt))
+    (ap (λ (n : ℕ). p.0 ∷ n ∷ []) (truth_was p.1 u.0 u.1) ∙ ap key_part_text (ok_is made part u.2), tt))
     (λ part h. ((part.field, truth_number part.upper), (tt, tt), rw (truth_is part.upper) refl, refl))
 
 pub index_spells : Spells index_at index_text IndexFits Any

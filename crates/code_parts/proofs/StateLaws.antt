@@ -16,10 +16,10 @@ use Rattle.code_items.specs.declared.code.Proc.{Proc}
 use Rattle.code_items.specs.declared.code.Map.{Map}
 use Rattle.code_items.specs.States.{may_be_unsure}
 use Rattle.code_parts.specs.declared.flaw.Flaw.TheVariants.{Shape, Limit}
-use Rattle.code_parts.specs.Reading.{Front, Reader, ◌>>=◌, behind, Judged, give, number_at, several, sure, byte_at, made_at}
+use Rattle.code_parts.specs.Reading.{Front, Reader, ◌>>=◌, read_behind, Judged, give, number_read_at, several, sure, byte_at, made_at}
 use Rattle.code_parts.specs.Laws.{Spells, Any, FilterFits, AreaFits, StateFits, ProcedureFits, MapFits}
-use Rattle.code_parts.specs.Texts.{two, kind_number, kind_text, slot_text, need_text, filter_text, area_number, open_text, area_text, state_text, procedure_text, map_text}
-use Rattle.code_parts.specs.Items.{kind_of_byte, need_from, need_at, needs_at, filter_at, open_from, open_at, area_behind, area_at, state_from, state_read_at, level_from, procedure_at, map_read_at}
+use Rattle.code_parts.specs.Texts.{two, kind_number, kind_text, slot_text, need_text, filter_text, area_byte, open_text, area_text, state_text, procedure_text, map_text}
+use Rattle.code_parts.specs.Items.{kind_of_byte, need_from, need_at, needs_at, filter_at, open_from, open_read_at, area_behind, area_read_at, state_from, state_read_at, level_from, procedure_read_at, map_read_at}
 use Rattle.code_parts.proofs.Combine.{behind_some, given, are_left, done, ok_is, steady_then, steady_give, pair_spells, made_spells, byte_spells, choice_spells}
 use Rattle.code_parts.proofs.Numbers.{steady_number, steady_several, several_spells, counted_spells, two_spells}
 use Rattle.code_parts.proofs.Choices.{all_any, both_true, wanted_ok, there_ok, kind_was, kind_is, if_spells}
@@ -54,13 +54,13 @@ needs_spells : Spells needs_at needs_text (λ needs. length needs < 2 ^ 16) Any
 unfolding needs_at
 needs_spells = record {
   again = λ needs rest h.
-      let count : number_at w16 (two (length needs) ++ (flat_map need_text needs ++ rest)) ≡ Some (length needs, flat_map need_text needs ++ rest) =
-      surely (number_at w16) (two (length needs) ++ (flat_map need_text needs ++ rest)) (flat_map need_text needs ++ rest) (length needs) (two_spells.again (length needs) (flat_map need_text needs ++ rest) h) in
+      let count : number_read_at w16 (two (length needs) ++ (flat_map need_text needs ++ rest)) ≡ Some (length needs, flat_map need_text needs ++ rest) =
+      surely (number_read_at w16) (two (length needs) ++ (flat_map need_text needs ++ rest)) (flat_map need_text needs ++ rest) (length needs) (two_spells.again (length needs) (flat_map need_text needs ++ rest) h) in
       let all : several need_at (length needs) (flat_map need_text needs ++ rest) ≡ Some (Ok needs, rest) = (several_spells need_spells (length needs)).again needs rest (refl, all_any needs) in
-      ap (number_at w16 >>= several need_at) (append_assoc (two (length needs)) (flat_map need_text needs) rest) ∙ ap (λ (front : Front ℕ). behind front (several need_at)) count ∙ all;
+      ap (number_read_at w16 >>= several need_at) (append_assoc (two (length needs)) (flat_map need_text needs) rest) ∙ ap (λ (front : Front ℕ). read_behind front (several need_at)) count ∙ all;
   takes = λ bytes rest needs fit e.
-      let a = behind_some (number_at w16 bytes) (several need_at) (Ok needs, rest) e in
-      let count = two_spells.takes bytes a.0.1 a.0.0 fit (and_surely (number_at w16) bytes a.0.1 a.0.0 a.1) in
+      let a = behind_some (number_read_at w16 bytes) (several need_at) (Ok needs, rest) e in
+      let count = two_spells.takes bytes a.0.1 a.0.0 fit (and_surely (number_read_at w16) bytes a.0.1 a.0.0 a.1) in
       let all = (several_spells need_spells a.0.0).takes a.0.1 rest needs (are_left bytes (two a.0.0) a.0.1 count.0 fit) a.2 in
       (count.0 ∙ ap (λ (n : ℕ). two n ++ a.0.1) (sym all.1.0) ∙ ap (λ (l : List ℕ). two (length needs) ++ l) all.0 ∙ sym (append_assoc (two (length needs)) (flat_map need_text needs) rest), tt);
   steady = steady_then (steady_number w16) (steady_several need_spells.steady);
@@ -76,28 +76,28 @@ filter_spells = made_spells (pair_spells byte_spells (pair_spells two_spells nee
 
 -- an area of this number that a file of the version holds
 abbrev Numbered : Version → ℕ → AreaState → Type 0
-Numbered version b area = AreaFits version area × (area_number area ≡ b)
+Numbered version b area = AreaFits version area × (area_byte area ≡ b)
 
-closed_spells : (version : Version) → Spells (give (Ok Closed)) open_text (Numbered version 0) (λ area. Unit {0} × (area_number area ≡ 0))
+closed_spells : (version : Version) → Spells (give (Ok Closed)) open_text (Numbered version 0) (λ area. Unit {0} × (area_byte area ≡ 0))
 closed_spells version = record {
   again = λ area rest h. closed_again area rest h.1;
   takes = λ bytes rest area fit e.
       let end = given (done Closed) (done area) bytes rest e in
-      subst (λ (x : AreaState). (bytes ≡ open_text x ++ rest) × (Unit {0} × (area_number x ≡ 0))) (ok_is Closed area end.0) (end.1, (tt, refl));
+      subst (λ (x : AreaState). (bytes ≡ open_text x ++ rest) × (Unit {0} × (area_byte x ≡ 0))) (ok_is Closed area end.0) (end.1, (tt, refl));
   steady = steady_give (Ok Closed);
 }
   where
-    closed_again : (area : AreaState) (rest : List ℕ) → area_number area ≡ 0 → give {A = Judged AreaState} (Ok Closed) (open_text area ++ rest) ≡ Some (Ok area, rest)
+    closed_again : (area : AreaState) (rest : List ℕ) → area_byte area ≡ 0 → give {A = Judged AreaState} (Ok Closed) (open_text area ++ rest) ≡ Some (Ok area, rest)
     closed_again Closed rest h = refl
     closed_again (Open a) rest h = absurd (let e : a.table + 1 ≡ 0 = h in omega arith)
     closed_again Unsure rest h = absurd (let e : 255 ≡ 0 = h in omega arith)
 
-unsure_spells : (version : Version) → may_be_unsure version ≡ true → Spells (give (Ok Unsure)) open_text (Numbered version 255) (λ area. Unit {0} × (area_number area ≡ 255))
+unsure_spells : (version : Version) → may_be_unsure version ≡ true → Spells (give (Ok Unsure)) open_text (Numbered version 255) (λ area. Unit {0} × (area_byte area ≡ 255))
 unsure_spells version may = record {
   again = λ area rest h. unsure_again area rest h;
   takes = λ bytes rest area fit e.
       let end = given (done Unsure) (done area) bytes rest e in
-      subst (λ (x : AreaState). (bytes ≡ open_text x ++ rest) × (Unit {0} × (area_number x ≡ 255))) (ok_is Unsure area end.0) (end.1, (tt, refl));
+      subst (λ (x : AreaState). (bytes ≡ open_text x ++ rest) × (Unit {0} × (area_byte x ≡ 255))) (ok_is Unsure area end.0) (end.1, (tt, refl));
   steady = steady_give (Ok Unsure);
 }
   where
@@ -113,12 +113,12 @@ unsure_spells version may = record {
 abbrev FromParts : ℕ → AreaState → Type 0
 FromParts b area = (p : ℕ × (ℕ × ℕ)) × (Unit {0} × (Unit {0} × Unit {0})) × (◌≡◌ {A = Judged AreaState} (Ok (open_from b p.0 p.1.0 p.1.1)) (Ok area)) × (open_text area ≡ p.0 ∷ p.1.0 ∷ p.1.1 ∷ [])
 
-open_spells : (version : Version) (b : ℕ) → eqb b 0 ≡ false → (eqb b 255 && may_be_unsure version) ≡ false → Spells (open_at b) open_text (Numbered version b) (λ area. Unit {0} × (area_number area ≡ b))
-unfolding open_at
-open_spells version b some known = made_spells (pair_spells byte_spells (pair_spells byte_spells byte_spells)) (λ p. Ok (open_from b p.0 p.1.0 p.1.1)) open_text (Numbered version b) (λ area. Unit {0} × (area_number area ≡ b))
+open_spells : (version : Version) (b : ℕ) → eqb b 0 ≡ false → (eqb b 255 && may_be_unsure version) ≡ false → Spells (open_read_at b) open_text (Numbered version b) (λ area. Unit {0} × (area_byte area ≡ b))
+unfolding open_read_at
+open_spells version b some known = made_spells (pair_spells byte_spells (pair_spells byte_spells byte_spells)) (λ p. Ok (open_from b p.0 p.1.0 p.1.1)) open_text (Numbered version b) (λ area. Unit {0} × (area_byte area ≡ b))
     (λ p area fit e.
     let made = open_from b p.0 p.1.0 p.1.1 in
-    subst (λ (x : AreaState). (p.0 ∷ p.1.0 ∷ p.1.1 ∷ [] ≡ open_text x) × (Unit {0} × (area_number x ≡ b))) (ok_is made area e) (refl, (tt, up b some)))
+    subst (λ (x : AreaState). (p.0 ∷ p.1.0 ∷ p.1.1 ∷ [] ≡ open_text x) × (Unit {0} × (area_byte x ≡ b))) (ok_is made area e) (refl, (tt, up b some)))
     (λ area h. parts_of_area area h)
   where
     up : (n : ℕ) → eqb n 0 ≡ false → n - 1 + 1 ≡ n
@@ -136,13 +136,13 @@ open_spells version b some known = made_spells (pair_spells byte_spells (pair_sp
         let may : may_be_unsure version ≡ true = h.0 in
         let f : true ≡ false = rw may at e in cc)
 
-area_spells : (version : Version) → Spells (area_at version) area_text (AreaFits version) Any
-unfolding area_at
-area_spells version = choice_spells (area_behind version) area_number open_text (AreaFits version) Any (λ b.
-    if_spells (eqb b 0) (λ is. subst (λ (n : ℕ). Spells (give (Ok Closed)) open_text (Numbered version n) (λ area. Unit {0} × (area_number area ≡ n))) (sym (eqb-true b 0 is)) (closed_spells version))
+area_spells : (version : Version) → Spells (area_read_at version) area_text (AreaFits version) Any
+unfolding area_read_at
+area_spells version = choice_spells (area_behind version) area_byte open_text (AreaFits version) Any (λ b.
+    if_spells (eqb b 0) (λ is. subst (λ (n : ℕ). Spells (give (Ok Closed)) open_text (Numbered version n) (λ area. Unit {0} × (area_byte area ≡ n))) (sym (eqb-true b 0 is)) (closed_spells version))
     (λ some. if_spells (eqb b 255 && may_be_unsure version) (λ is.
     let both = both_true (eqb b 255) (may_be_unsure version) is in
-    subst (λ (n : ℕ). Spells (give (Ok Unsure)) open_text (Numbered version n) (λ area. Unit {0} × (area_number area ≡ n))) (sym (eqb-true b 255 both.0)) (unsure_spells version both.1))
+    subst (λ (n : ℕ). Spells (give (Ok Unsure)) open_text (Numbered version n) (λ area. Unit {0} × (area_byte area ≡ n))) (sym (eqb-true b 255 both.0)) (unsure_spells version both.1))
     (λ known. open_spells version b some known)))
 
 -- ---- states, procedures and maps
@@ -164,8 +164,8 @@ level_spells = made_spells byte_spells level_from (λ level. level ∷ []) (λ l
     (λ byte level fit e. (ap (λ (n : ℕ). n ∷ []) (wanted_ok Limit (leb byte 20) byte level e).1, tt))
     (λ level h. (level, tt, rw (le-leb level 20 h) refl, refl))
 
-pub procedure_spells : (version : Version) (slots : ℕ) → Spells (procedure_at version slots) procedure_text (ProcedureFits version slots) Any
-unfolding procedure_at
+pub procedure_spells : (version : Version) (slots : ℕ) → Spells (procedure_read_at version slots) procedure_text (ProcedureFits version slots) Any
+unfolding procedure_read_at
 procedure_spells version slots = made_spells (pair_spells two_spells (pair_spells level_spells (pair_spells (state_spells version slots) (state_spells version slots)))) (λ p. Ok (record { length = p.0; level = p.1.0; entry = p.1.1.0; exit = p.1.1.1 })) procedure_text (ProcedureFits version slots) Any
     (λ p x fit e. let made : Proc = record { length = p.0; level = p.1.0; entry = p.1.1.0; exit = p.1.1.1 } in (ap procedure_text (ok_is made x e), tt))
     (λ x h. ((x.length, (x.level, (x.entry, x.exit))), (h.short, (h.level, (h.entry, h.exit))), refl, refl))

@@ -28,8 +28,8 @@ use Rattle.code_items.specs.declared.instr.Instr.{Instr}
 use Rattle.code_items.specs.declared.instr.Instr.TheVariants.{Values, Flow, Screen, Areas, Moves, Records}
 use Rattle.code_items.specs.Instrs.{is_instr}
 use Rattle.code_parts.specs.declared.flaw.Flaw.TheVariants.{Operation}
-use Rattle.code_parts.specs.declared.operands.Parts.{Parts}
-use Rattle.code_parts.specs.Reading.{Reader, byte_at, number_at, Judged, sure, pair_at, made_at}
+use Rattle.code_parts.specs.declared.operands.InstrParts.{InstrParts}
+use Rattle.code_parts.specs.Reading.{Reader, byte_at, number_read_at, Judged, sure, pair_read_at, made_at}
 use Rattle.code_parts.specs.Texts.{two, kind_number, truth_number}
 use Rattle.code_parts.specs.Items.{wanted, there, kind_of_byte, truth_of_byte}
 
@@ -49,66 +49,66 @@ question_number Found = 5
 question_number IsDeleted = 6
 
 -- an operation and its operands a, b and c
-abbrev pub of_parts : ℕ → ℕ → ℕ → ℕ → Parts
-of_parts operation a b c = record { operation = operation; a = a; b = b; c = c }
+abbrev pub instr_parts : ℕ → ℕ → ℕ → ℕ → InstrParts
+instr_parts operation a b c = record { operation = operation; a = a; b = b; c = c }
 
 -- an instruction's operation and operands; those that it has no use for are 0
 
-abbrev pub parts_of_values : ValueInstr → Parts
-parts_of_values (Constant number) = of_parts 0x01 0 number 0
-parts_of_values (Load kind slot) = of_parts 0x02 (kind_number kind) slot 0
-parts_of_values (Store kind slot) = of_parts 0x03 (kind_number kind) slot 0
-parts_of_values (Unset slot) = of_parts 0x04 0 slot 0
-parts_of_values (Discard kind) = of_parts 0x05 (kind_number kind) 0 0
-parts_of_values (Function fun) = of_parts 0x08 (function_number fun) 0 0
-parts_of_values Today = of_parts 0x09 7 0 0
-parts_of_values (Set setting on) = of_parts 0x46 (setting_number setting) (truth_number on) 0
+abbrev pub parts_of_values : ValueInstr → InstrParts
+parts_of_values (Constant number) = instr_parts 0x01 0 number 0
+parts_of_values (Load kind slot) = instr_parts 0x02 (kind_number kind) slot 0
+parts_of_values (Store kind slot) = instr_parts 0x03 (kind_number kind) slot 0
+parts_of_values (Unset slot) = instr_parts 0x04 0 slot 0
+parts_of_values (Discard kind) = instr_parts 0x05 (kind_number kind) 0 0
+parts_of_values (Function fun) = instr_parts 0x08 (function_number fun) 0 0
+parts_of_values Today = instr_parts 0x09 7 0 0
+parts_of_values (Set setting on) = instr_parts 0x46 (setting_number setting) (truth_number on) 0
 
-abbrev pub parts_of_flow : FlowInstr → Parts
-parts_of_flow (Jump place) = of_parts 0x10 0 0 place
-parts_of_flow (JumpFalse place) = of_parts 0x11 0 0 place
-parts_of_flow (Call procedure) = of_parts 0x12 0 procedure 0
-parts_of_flow Return = of_parts 0x13 0 0 0
-parts_of_flow End = of_parts 0x14 0 0 0
+abbrev pub parts_of_flow : FlowInstr → InstrParts
+parts_of_flow (Jump place) = instr_parts 0x10 0 0 place
+parts_of_flow (JumpFalse place) = instr_parts 0x11 0 0 place
+parts_of_flow (Call procedure) = instr_parts 0x12 0 procedure 0
+parts_of_flow Return = instr_parts 0x13 0 0 0
+parts_of_flow End = instr_parts 0x14 0 0 0
 
-abbrev pub parts_of_screen : ScreenInstr → Parts
-parts_of_screen NewLine = of_parts 0x40 0 0 0
-parts_of_screen (Print kind) = of_parts 0x41 (kind_number kind) 0 0
-parts_of_screen (Say kind) = of_parts 0x42 (kind_number kind) 0 0
-parts_of_screen (SayOn kind) = of_parts 0x47 (kind_number kind) 0 0
-parts_of_screen (Input kind) = of_parts 0x43 (kind_number kind) 0 0
-parts_of_screen Line = of_parts 0x44 0 0 0
-parts_of_screen Clear = of_parts 0x45 0 0 0
+abbrev pub parts_of_screen : ScreenInstr → InstrParts
+parts_of_screen NewLine = instr_parts 0x40 0 0 0
+parts_of_screen (Print kind) = instr_parts 0x41 (kind_number kind) 0 0
+parts_of_screen (Say kind) = instr_parts 0x42 (kind_number kind) 0 0
+parts_of_screen (SayOn kind) = instr_parts 0x47 (kind_number kind) 0 0
+parts_of_screen (Input kind) = instr_parts 0x43 (kind_number kind) 0 0
+parts_of_screen Line = instr_parts 0x44 0 0 0
+parts_of_screen Clear = instr_parts 0x45 0 0 0
 
-abbrev pub parts_of_areas : AreaInstr → Parts
-parts_of_areas (Open table list) = of_parts 0x20 0 table list
-parts_of_areas Close = of_parts 0x21 0 0 0
-parts_of_areas CloseAll = of_parts 0x22 0 0 0
-parts_of_areas (Select area) = of_parts 0x23 area 0 0
-parts_of_areas (Order number) = of_parts 0x24 0 number 0
-parts_of_areas (Filter number) = of_parts 0x25 0 number 0
+abbrev pub parts_of_areas : AreaInstr → InstrParts
+parts_of_areas (Open table list) = instr_parts 0x20 0 table list
+parts_of_areas Close = instr_parts 0x21 0 0 0
+parts_of_areas CloseAll = instr_parts 0x22 0 0 0
+parts_of_areas (Select area) = instr_parts 0x23 area 0 0
+parts_of_areas (Order number) = instr_parts 0x24 0 number 0
+parts_of_areas (Filter number) = instr_parts 0x25 0 number 0
 
-abbrev pub parts_of_moves : MoveInstr → Parts
-parts_of_moves Top = of_parts 0x26 0 0 0
-parts_of_moves Bottom = of_parts 0x27 0 0 0
-parts_of_moves Skip = of_parts 0x28 0 0 0
-parts_of_moves Go = of_parts 0x29 0 0 0
-parts_of_moves Seek = of_parts 0x2A 0 0 0
+abbrev pub parts_of_moves : MoveInstr → InstrParts
+parts_of_moves Top = instr_parts 0x26 0 0 0
+parts_of_moves Bottom = instr_parts 0x27 0 0 0
+parts_of_moves Skip = instr_parts 0x28 0 0 0
+parts_of_moves Go = instr_parts 0x29 0 0 0
+parts_of_moves Seek = instr_parts 0x2A 0 0 0
 
-abbrev pub parts_of_records : RecordInstr → Parts
-parts_of_records (Field area field) = of_parts 0x06 area field 0
-parts_of_records (RowField field) = of_parts 0x07 0 field 0
-parts_of_records (Ask question) = of_parts 0x09 (question_number question) 0 0
-parts_of_records Append = of_parts 0x30 0 0 0
-parts_of_records (Replace field) = of_parts 0x31 0 field 0
-parts_of_records Delete = of_parts 0x32 0 0 0
-parts_of_records Recall = of_parts 0x33 0 0 0
-parts_of_records Pack = of_parts 0x34 0 0 0
-parts_of_records Zap = of_parts 0x35 0 0 0
-parts_of_records Reindex = of_parts 0x36 0 0 0
-parts_of_records (Index list) = of_parts 0x37 0 list 0
+abbrev pub parts_of_records : RecordInstr → InstrParts
+parts_of_records (Field area field) = instr_parts 0x06 area field 0
+parts_of_records (RowField field) = instr_parts 0x07 0 field 0
+parts_of_records (Ask question) = instr_parts 0x09 (question_number question) 0 0
+parts_of_records Append = instr_parts 0x30 0 0 0
+parts_of_records (Replace field) = instr_parts 0x31 0 field 0
+parts_of_records Delete = instr_parts 0x32 0 0 0
+parts_of_records Recall = instr_parts 0x33 0 0 0
+parts_of_records Pack = instr_parts 0x34 0 0 0
+parts_of_records Zap = instr_parts 0x35 0 0 0
+parts_of_records Reindex = instr_parts 0x36 0 0 0
+parts_of_records (Index list) = instr_parts 0x37 0 list 0
 
-abbrev pub parts_of : Instr → Parts
+abbrev pub parts_of : Instr → InstrParts
 parts_of (Values i) = parts_of_values i
 parts_of (Flow i) = parts_of_flow i
 parts_of (Screen i) = parts_of_screen i
@@ -117,7 +117,7 @@ parts_of (Moves i) = parts_of_moves i
 parts_of (Records i) = parts_of_records i
 
 -- eight bytes: the operation, a, b in two bytes and c in four
-abbrev pub parts_text : Parts → List ℕ
+abbrev pub parts_text : InstrParts → List ℕ
 parts_text p = p.operation ∷ p.a ∷ (two p.b ++ to_le_bytes w32 p.c)
 
 abbrev pub instr_text : Instr → List ℕ
@@ -154,7 +154,7 @@ abbrev pub set_to : ℕ → ℕ → Option Instr
 set_to setting on =
     option_and_then (λ s. option_map (λ t. Values (Set s t)) (truth_of_byte on)) (setting_of_byte setting)
 
-unfoldable pub low_instr : Parts → Option Instr
+unfoldable pub low_instr : InstrParts → Option Instr
 low_instr p =
     if p.operation == 0x01 then Some (Values (Constant p.b)) else (
     if p.operation == 0x02 then of_kind (λ kind. Load kind p.b) p.a else (
@@ -166,7 +166,7 @@ low_instr p =
     if p.operation == 0x08 then option_map (λ fun. Values (Function fun)) (numbered p.a) else (
     if p.operation == 0x09 then asked p.a else None))))))))
 
-unfoldable pub flow_instr : Parts → Option Instr
+unfoldable pub flow_instr : InstrParts → Option Instr
 flow_instr p =
     if p.operation == 0x10 then Some (Flow (Jump p.c)) else (
     if p.operation == 0x11 then Some (Flow (JumpFalse p.c)) else (
@@ -174,7 +174,7 @@ flow_instr p =
     if p.operation == 0x13 then Some (Flow Return) else (
     if p.operation == 0x14 then Some (Flow End) else None))))
 
-unfoldable pub area_instr : Parts → Option Instr
+unfoldable pub area_instr : InstrParts → Option Instr
 area_instr p =
     if p.operation == 0x20 then Some (Areas (Open p.b p.c)) else (
     if p.operation == 0x21 then Some (Areas Close) else (
@@ -188,7 +188,7 @@ area_instr p =
     if p.operation == 0x29 then Some (Moves Go) else (
     if p.operation == 0x2A then Some (Moves Seek) else None))))))))))
 
-unfoldable pub record_instr : Parts → Option Instr
+unfoldable pub record_instr : InstrParts → Option Instr
 record_instr p =
     if p.operation == 0x30 then Some (Records Append) else (
     if p.operation == 0x31 then Some (Records (Replace p.b)) else (
@@ -199,7 +199,7 @@ record_instr p =
     if p.operation == 0x36 then Some (Records Reindex) else (
     if p.operation == 0x37 then Some (Records (Index p.b)) else None)))))))
 
-unfoldable pub screen_instr : Parts → Option Instr
+unfoldable pub screen_instr : InstrParts → Option Instr
 screen_instr p =
     if p.operation == 0x40 then Some (Screen NewLine) else (
     if p.operation == 0x41 then shown_kind (λ kind. Print kind) p.a else (
@@ -210,24 +210,24 @@ screen_instr p =
     if p.operation == 0x46 then set_to p.a p.b else (
     if p.operation == 0x47 then shown_kind (λ kind. SayOn kind) p.a else None)))))))
 
-unfoldable pub any_instr : Parts → Option Instr
+unfoldable pub any_instr : InstrParts → Option Instr
 any_instr p =
     if nat_lt p.operation 0x10 then low_instr p else (
     if nat_lt p.operation 0x20 then flow_instr p else (
     if nat_lt p.operation 0x30 then area_instr p else (
     if nat_lt p.operation 0x40 then record_instr p else screen_instr p)))
 
-abbrev pub same_parts : Parts → Parts → Bool
+abbrev pub same_parts : InstrParts → InstrParts → Bool
 same_parts p q = p.operation == q.operation && p.a == q.a && p.b == q.b && p.c == q.c
 
 -- an instruction of the version of which these are just the parts: no operand is left over
-abbrev pub is_just : Version → Parts → Instr → Bool
+abbrev pub is_just : Version → InstrParts → Instr → Bool
 is_just version p i = is_instr version i && same_parts p (parts_of i)
 
-unfoldable pub instr_from : Version → Parts → Judged Instr
+unfoldable pub instr_from : Version → InstrParts → Judged Instr
 instr_from version p = there Operation (any_instr p) (λ i. wanted Operation (is_just version p i) i)
 
 unfoldable pub instr_read_at : Version → Reader (Judged Instr)
-instr_read_at version = made_at (pair_at (sure byte_at)
-    (pair_at (sure byte_at) (pair_at (sure (number_at w16)) (sure (number_at w32)))))
-    (λ p. instr_from version (of_parts p.0 p.1.0 p.1.1.0 p.1.1.1))
+instr_read_at version = made_at (pair_read_at (sure byte_at)
+    (pair_read_at (sure byte_at) (pair_read_at (sure (number_read_at w16)) (sure (number_read_at w32)))))
+    (λ p. instr_from version (instr_parts p.0 p.1.0 p.1.1.0 p.1.1.1))

@@ -29,7 +29,8 @@ use Rattle.code_items.specs.declared.code.Map.{Map}
 use Rattle.code_items.specs.States.{may_be_unsure}
 use Rattle.code_parts.specs.declared.flaw.Flaw.{Flaw}
 use Rattle.code_parts.specs.declared.flaw.Flaw.TheVariants.{Limit, Shape}
-use Rattle.code_parts.specs.Reading.{Reader, ◌>>=◌, give, byte_at, number_at, text_at, Judged, several, sure, pair_at}
+use Rattle.code_parts.specs.Reading.{Reader, ◌>>=◌, give, byte_at, number_read_at, text_read_at, Judged, several, sure}
+use Rattle.code_parts.specs.Reading.{pair_read_at}
 use Rattle.code_parts.specs.Reading.{made_at, counted_at, by_byte}
 
 -- this flaw, unless the test holds
@@ -70,53 +71,57 @@ slot_at = made_at (sure byte_at) slot_from
 abbrev pub name_from : List ℕ → Judged (ArrayVec ℕ)
 name_from bytes = wanted Shape (nat_le (length bytes) 10) (record { items = bytes })
 
-unfoldable pub name_at : Reader (Judged (ArrayVec ℕ))
-name_at = made_at (sure text_at) name_from
+unfoldable pub name_read_at : Reader (Judged (ArrayVec ℕ))
+name_read_at = made_at (sure text_read_at) name_from
 
 abbrev pub field_from : ArrayVec ℕ → ℕ → ℕ → ℕ → Judged Field
 field_from name letter width decimals =
     there Shape (letter_of letter) (λ l. Ok (record { name = name; letter = l; width = width; decimals = decimals }))
 
 unfoldable pub field_at : Reader (Judged Field)
-field_at = made_at (pair_at name_at (pair_at (sure byte_at) (pair_at (sure byte_at) (sure byte_at))))
+field_at = made_at
+    (pair_read_at name_read_at (pair_read_at (sure byte_at) (pair_read_at (sure byte_at) (sure byte_at))))
     (λ p. field_from p.0 p.1.0 p.1.1.0 p.1.1.1)
 
-unfoldable pub table_at : Reader (Judged TableShape)
-table_at = made_at (pair_at name_at (counted_at field_at)) (λ p. Ok (record { name = p.0; fields = p.1 }))
+unfoldable pub table_read_at : Reader (Judged TableShape)
+table_read_at = made_at (pair_read_at name_read_at (counted_at field_at))
+    (λ p. Ok (record { name = p.0; fields = p.1 }))
 
 abbrev pub part_from : ℕ → ℕ → Judged KeyPart
 part_from field upper = there Shape (truth_of_byte upper) (λ u. Ok (record { field = field; upper = u }))
 
 unfoldable pub part_at : Reader (Judged KeyPart)
-part_at = made_at (pair_at (sure byte_at) (sure byte_at)) (λ p. part_from p.0 p.1)
+part_at = made_at (pair_read_at (sure byte_at) (sure byte_at)) (λ p. part_from p.0 p.1)
 
 abbrev pub index_from : ArrayVec ℕ → ℕ → List KeyPart → Judged IndexShape
 index_from name table parts =
     wanted Shape (nat_le (length parts) 8) (record { name = name; table = table; key = parts })
 
 unfoldable pub index_at : Reader (Judged IndexShape)
-index_at = made_at (pair_at name_at (pair_at (sure byte_at) (counted_at part_at))) (λ p. index_from p.0 p.1.0 p.1.1)
+index_at = made_at (pair_read_at name_read_at (pair_read_at (sure byte_at) (counted_at part_at)))
+    (λ p. index_from p.0 p.1.0 p.1.1)
 
 abbrev pub list_from : List ℕ → Judged IndexList
 list_from bytes = wanted Shape (nat_le (length bytes) 7) (record { indexes = record { items = bytes } })
 
 unfoldable pub list_at : Reader (Judged IndexList)
-list_at = made_at (sure text_at) list_from
+list_at = made_at (sure text_read_at) list_from
 
 -- ---- constants
 
 -- decimals, sign and digits of a number: in range, and zero without a sign
-abbrev pub is_number : ℕ → ℕ → ℕ → Bool
-is_number decimals sign magnitude =
+abbrev pub is_stored_number : ℕ → ℕ → ℕ → Bool
+is_stored_number decimals sign magnitude =
     nat_le decimals 15 && nat_lt magnitude (10 ^ 19) && (sign == 0 || (sign == 1 && nat_lt 0 magnitude))
 
 abbrev pub decimal_from : ℕ → ℕ → ℕ → Judged Value
 decimal_from decimals sign magnitude =
-    wanted Shape (is_number decimals sign magnitude) (Number (finite (signed (sign == 1) magnitude) decimals))
+    wanted Shape (is_stored_number decimals sign magnitude) (Number (finite (signed (sign == 1) magnitude) decimals))
 
 unfoldable pub decimal_at : Reader (Judged Value)
 decimal_at =
-    made_at (pair_at (sure byte_at) (pair_at (sure byte_at) (sure (number_at w64)))) (λ p. decimal_from p.0 p.1.0 p.1.1)
+    made_at (pair_read_at (sure byte_at) (pair_read_at (sure byte_at) (sure (number_read_at w64))))
+    (λ p. decimal_from p.0 p.1.0 p.1.1)
 
 -- the blank date, or a day that the calendar has
 abbrev pub date_from : DayParts → Judged Value
@@ -124,14 +129,14 @@ date_from parts = if parts.year == 0 && parts.month == 0
     && parts.day == 0 then Ok (Date None) else wanted Shape (is_day parts) (Date (Some parts))
 
 unfoldable pub date_at : Reader (Judged Value)
-date_at = made_at (pair_at (sure (number_at w16)) (pair_at (sure byte_at) (sure byte_at)))
+date_at = made_at (pair_read_at (sure (number_read_at w16)) (pair_read_at (sure byte_at) (sure byte_at)))
     (λ p. date_from (record { year = p.0; month = p.1.0; day = p.1.1 }))
 
 abbrev pub text_from : List ℕ → Judged Value
 text_from bytes = wanted Shape (nat_le (length bytes) 254) (Text (record { items = bytes }))
 
 unfoldable pub text_value_at : Reader (Judged Value)
-text_value_at = made_at (sure text_at) text_from
+text_value_at = made_at (sure text_read_at) text_from
 
 abbrev pub truth_from : ℕ → Judged Value
 truth_from byte = there Shape (truth_of_byte byte) (λ truth. Ok (Logical truth))
@@ -156,16 +161,16 @@ abbrev pub need_from : ℕ → ℕ → Judged Need
 need_from slot kind = there Shape (kind_of_byte kind) (λ k. Ok (record { slot = slot; kind = k }))
 
 unfoldable pub need_at : Reader (Judged Need)
-need_at = made_at (pair_at (sure byte_at) (sure byte_at)) (λ p. need_from p.0 p.1)
+need_at = made_at (pair_read_at (sure byte_at) (sure byte_at)) (λ p. need_from p.0 p.1)
 
 -- a number of two bytes that says how many there are, and those
 unfoldable pub needs_at : Reader (Judged (List Need))
 needs_at = do
-  count ← number_at w16
+  count ← number_read_at w16
   several need_at count
 
 unfoldable pub filter_at : Reader (Judged Filter)
-filter_at = made_at (pair_at (sure byte_at) (pair_at (sure (number_at w16)) needs_at))
+filter_at = made_at (pair_read_at (sure byte_at) (pair_read_at (sure (number_read_at w16)) needs_at))
     (λ p. Ok (record { table = p.0; length = p.1.0; needs = p.1.1 }))
 
 -- ---- states, procedures and maps
@@ -173,18 +178,19 @@ filter_at = made_at (pair_at (sure byte_at) (pair_at (sure (number_at w16)) need
 abbrev pub open_from : ℕ → ℕ → ℕ → ℕ → AreaState
 open_from byte list order filter = Open (record { table = byte - 1; list = list; order = order; filter = filter })
 
-unfoldable pub open_at : ℕ → Reader (Judged AreaState)
-open_at byte =
-    made_at (pair_at (sure byte_at) (pair_at (sure byte_at) (sure byte_at))) (λ p. Ok (open_from byte p.0 p.1.0 p.1.1))
+unfoldable pub open_read_at : ℕ → Reader (Judged AreaState)
+open_read_at byte =
+    made_at (pair_read_at (sure byte_at) (pair_read_at (sure byte_at) (sure byte_at)))
+    (λ p. Ok (open_from byte p.0 p.1.0 p.1.1))
 
 -- in version one 255 is a table's number as any other
 abbrev pub area_behind : Version → ℕ → Reader (Judged AreaState)
 area_behind version byte =
     if byte == 0 then give (Ok Closed) else (
-    if byte == 255 && may_be_unsure version then give (Ok Unsure) else open_at byte)
+    if byte == 255 && may_be_unsure version then give (Ok Unsure) else open_read_at byte)
 
-unfoldable pub area_at : Version → Reader (Judged AreaState)
-area_at version = by_byte (area_behind version)
+unfoldable pub area_read_at : Version → Reader (Judged AreaState)
+area_read_at version = by_byte (area_behind version)
 
 abbrev pub state_from : ℕ → List AreaState → List (Option Kind) → List Kind → State
 state_from selected areas slots kinds =
@@ -193,21 +199,21 @@ state_from selected areas slots kinds =
 -- the top of the stack stands last
 unfoldable pub state_read_at : Version → ℕ → Reader (Judged State)
 state_read_at version slots =
-    made_at (pair_at (sure byte_at)
-    (pair_at (several (area_at version) 10) (pair_at (several slot_at slots) (counted_at kind_at))))
+    made_at (pair_read_at (sure byte_at)
+    (pair_read_at (several (area_read_at version) 10) (pair_read_at (several slot_at slots) (counted_at kind_at))))
     (λ p. Ok (state_from p.0 p.1.0 p.1.1.0 p.1.1.1))
 
 abbrev pub level_from : ℕ → Judged ℕ
 level_from level = wanted Limit (nat_le level 20) level
 
-unfoldable pub procedure_at : Version → ℕ → Reader (Judged Proc)
-procedure_at version slots =
-    made_at (pair_at (sure (number_at w16))
-    (pair_at (made_at (sure byte_at) level_from)
-    (pair_at (state_read_at version slots) (state_read_at version slots))))
+unfoldable pub procedure_read_at : Version → ℕ → Reader (Judged Proc)
+procedure_read_at version slots =
+    made_at (pair_read_at (sure (number_read_at w16))
+    (pair_read_at (made_at (sure byte_at) level_from)
+    (pair_read_at (state_read_at version slots) (state_read_at version slots))))
     (λ p. Ok (record { length = p.0; level = p.1.0; entry = p.1.1.0; exit = p.1.1.1 }))
 
 unfoldable pub map_read_at : Version → ℕ → Reader (Judged Map)
 map_read_at version slots =
-    made_at (pair_at (sure (number_at w16)) (state_read_at version slots))
+    made_at (pair_read_at (sure (number_read_at w16)) (state_read_at version slots))
     (λ p. Ok (record { place = p.0; state = p.1 }))

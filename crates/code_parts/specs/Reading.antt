@@ -24,13 +24,13 @@ Gives view (Err e) read = Fails e read
 
 -- ---- one reader behind the other
 
-abbrev pub behind : {A B : Type 0} → Front A → (A → Reader B) → Front B
-behind None next = None
-behind (Some x) next = next x.0 x.1
+abbrev pub read_behind : {A B : Type 0} → Front A → (A → Reader B) → Front B
+read_behind None next = None
+read_behind (Some x) next = next x.0 x.1
 
 infixl 10 ◌>>=◌
 abbrev pub ◌>>=◌ : {A B : Type 0} → Reader A → (A → Reader B) → Reader B
-(r >>= next) bytes = behind (r bytes) next
+(r >>= next) bytes = read_behind (r bytes) next
 
 abbrev pub give : {A : Type 0} → A → Reader A
 give x bytes = Some (x, bytes)
@@ -46,13 +46,13 @@ abbrev pub bytes_at : ℕ → Reader (List ℕ)
 bytes_at n bytes = if nat_lt (length bytes) n then None else Some (take n bytes, drop n bytes)
 
 -- a number in the bytes of this width, the lowest first
-abbrev pub number_at : Width → Reader ℕ
-number_at w bytes = if nat_lt (length bytes) (byte_len w) then None
+abbrev pub number_read_at : Width → Reader ℕ
+number_read_at w bytes = if nat_lt (length bytes) (byte_len w) then None
     else Some (from_le_bytes w (take (byte_len w) bytes), drop (byte_len w) bytes)
 
 -- a byte that says how many follow, and those
-abbrev pub text_at : Reader (List ℕ)
-text_at = do
+abbrev pub text_read_at : Reader (List ℕ)
+text_read_at = do
   count ← byte_at
   bytes_at count
 
@@ -66,16 +66,16 @@ abbrev pub judge : {A B : Type 0} → Judged A → (A → Judged B) → Judged B
 judge (Ok x) f = f x
 judge (Err flaw) f = Err flaw
 
-abbrev pub both : {A B : Type 0} → Judged A → Judged B → Judged (A × B)
-both (Ok x) (Ok y) = Ok (x, y)
-both (Ok x) (Err flaw) = Err flaw
-both (Err flaw) second = Err flaw
+abbrev pub both_judged : {A B : Type 0} → Judged A → Judged B → Judged (A × B)
+both_judged (Ok x) (Ok y) = Ok (x, y)
+both_judged (Ok x) (Err flaw) = Err flaw
+both_judged (Err flaw) second = Err flaw
 
 -- one more thing behind a list, or before it
-abbrev pub joined : {A : Type 0} → Judged (List A) → Judged A → Judged (List A)
-joined (Ok xs) (Ok x) = Ok (xs ++ x ∷ [])
-joined (Ok xs) (Err flaw) = Err flaw
-joined (Err flaw) one = Err flaw
+abbrev pub judged_behind : {A : Type 0} → Judged (List A) → Judged A → Judged (List A)
+judged_behind (Ok xs) (Ok x) = Ok (xs ++ x ∷ [])
+judged_behind (Ok xs) (Err flaw) = Err flaw
+judged_behind (Err flaw) one = Err flaw
 
 abbrev pub put_before : {A : Type 0} → Judged A → Judged (List A) → Judged (List A)
 put_before (Ok x) (Ok xs) = Ok (x ∷ xs)
@@ -104,11 +104,11 @@ sure r = do
   give (Ok x)
 
 -- one thing and another behind it
-abbrev pub pair_at : {A B : Type 0} → Reader (Judged A) → Reader (Judged B) → Reader (Judged (A × B))
-pair_at r s = do
+abbrev pub pair_read_at : {A B : Type 0} → Reader (Judged A) → Reader (Judged B) → Reader (Judged (A × B))
+pair_read_at r s = do
   first ← r
   second ← s
-  give (both first second)
+  give (both_judged first second)
 
 -- what is made of a thing, which may be a flaw
 abbrev pub made_at : {A B : Type 0} → Reader (Judged A) → (A → Judged B) → Reader (Judged B)

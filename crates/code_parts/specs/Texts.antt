@@ -68,12 +68,12 @@ abbrev pub table_text : TableShape → List ℕ
 table_text t = name_text t.name ++ (length t.fields ∷ flat_map field_text t.fields)
 
 -- the field, and 1 where its text is taken in capitals
-abbrev pub part_text : KeyPart → List ℕ
-part_text p = p.field ∷ truth_number p.upper ∷ []
+abbrev pub key_part_text : KeyPart → List ℕ
+key_part_text p = p.field ∷ truth_number p.upper ∷ []
 
 -- the name, the table, how many parts the key has, and those
 abbrev pub index_text : IndexShape → List ℕ
-index_text x = name_text x.name ++ (x.table ∷ length x.key ∷ flat_map part_text x.key)
+index_text x = name_text x.name ++ (x.table ∷ length x.key ∷ flat_map key_part_text x.key)
 
 -- how many indexes there are, and those
 abbrev pub list_text : IndexList → List ℕ
@@ -83,10 +83,10 @@ list_text l = counted_text l.indexes.items
 
 -- the decimals, 1 where the number is below zero, and its digits as a number of eight bytes; the asterisk value has no
 -- text
-abbrev pub number_text : Decimal → List ℕ
-number_text asterisk = []
-number_text (finite (pos m) d) = d ∷ 0 ∷ to_le_bytes w64 m
-number_text (finite (negsuc m) d) = d ∷ 1 ∷ to_le_bytes w64 (suc m)
+abbrev pub decimal_text : Decimal → List ℕ
+decimal_text asterisk = []
+decimal_text (finite (pos m) d) = d ∷ 0 ∷ to_le_bytes w64 m
+decimal_text (finite (negsuc m) d) = d ∷ 1 ∷ to_le_bytes w64 (suc m)
 
 -- the year in two bytes, the month and the day; all 0 for the blank date
 abbrev pub date_text : Option DayParts → List ℕ
@@ -101,7 +101,7 @@ kind_of_value (Logical truth) = OfLogical
 
 -- a number's parts, a date's parts, a text's length and bytes, or a truth value
 abbrev pub value_text : Value → List ℕ
-value_text (Number number) = number_text number
+value_text (Number number) = decimal_text number
 value_text (Date day) = date_text day
 value_text (Text text) = counted_text text.items
 value_text (Logical truth) = truth_number truth ∷ []
@@ -123,10 +123,10 @@ filter_text f = f.table ∷ (two f.length ++ (two (length f.needs) ++ flat_map n
 -- ---- states, procedures and maps
 
 -- 0 for a closed area, 255 for one of which nothing is known, else the table, counted from 1
-abbrev pub area_number : AreaState → ℕ
-area_number Closed = 0
-area_number (Open a) = a.table + 1
-area_number Unsure = 255
+abbrev pub area_byte : AreaState → ℕ
+area_byte Closed = 0
+area_byte (Open a) = a.table + 1
+area_byte Unsure = 255
 
 -- an open area's list, order and filter
 abbrev pub open_text : AreaState → List ℕ
@@ -135,7 +135,7 @@ open_text (Open a) = a.list ∷ a.order ∷ a.filter ∷ []
 open_text Unsure = []
 
 abbrev pub area_text : AreaState → List ℕ
-area_text area = area_number area ∷ open_text area
+area_text area = area_byte area ∷ open_text area
 
 -- the selected work area, the work areas, the slots, and the stack's height and kinds, the top last
 abbrev pub state_text : State → List ℕ

@@ -2,7 +2,7 @@
 
 ghost use Rattle.std.specs.Prelude.{◌≡◌};
 ghost use Rattle.std.specs.Int.{w16, w32, w64};
-ghost use Rattle.code_parts.specs.Reading.{Gives, byte_at, number_at, text_at};
+ghost use Rattle.code_parts.specs.Reading.{Gives, byte_at, number_read_at, text_read_at};
 
 use crate::flaw::Unread;
 
@@ -18,7 +18,7 @@ pub fn byte_of(bytes: &[u8]) -> Result<(u8, &[u8]), Unread>
 
 /// The number in two bytes at the front, and the bytes behind it.
 pub fn two_of(bytes: &[u8]) -> Result<(u16, &[u8]), Unread>
-    ensures { Gives (λ x. (x.0, x.1.now)) result (number_at w16 bytes.now) }
+    ensures { Gives (λ x. (x.0, x.1.now)) result (number_read_at w16 bytes.now) }
 {
     if bytes.len() < 2 {
         return Err(Unread::Short);
@@ -29,7 +29,7 @@ pub fn two_of(bytes: &[u8]) -> Result<(u16, &[u8]), Unread>
 
 /// The number in four bytes at the front, and the bytes behind it.
 pub fn four_of(bytes: &[u8]) -> Result<(u32, &[u8]), Unread>
-    ensures { Gives (λ x. (x.0, x.1.now)) result (number_at w32 bytes.now) }
+    ensures { Gives (λ x. (x.0, x.1.now)) result (number_read_at w32 bytes.now) }
 {
     if bytes.len() < 4 {
         return Err(Unread::Short);
@@ -41,7 +41,7 @@ pub fn four_of(bytes: &[u8]) -> Result<(u32, &[u8]), Unread>
 
 /// The number in eight bytes at the front, and the bytes behind it.
 pub(crate) fn eight_of(bytes: &[u8]) -> Result<(u64, &[u8]), Unread>
-    ensures { Gives (λ x. (x.0, x.1.now)) result (number_at w64 bytes.now) }
+    ensures { Gives (λ x. (x.0, x.1.now)) result (number_read_at w64 bytes.now) }
 {
     if bytes.len() < 8 {
         return Err(Unread::Short);
@@ -55,7 +55,7 @@ pub(crate) fn eight_of(bytes: &[u8]) -> Result<(u64, &[u8]), Unread>
 
 /// A byte that says how many follow, those, and the bytes behind them.
 pub fn counted_text(bytes: &[u8]) -> Result<(&[u8], &[u8]), Unread>
-    ensures { Gives (λ x. (x.0.now, x.1.now)) result (text_at bytes.now) }
+    ensures { Gives (λ x. (x.0.now, x.1.now)) result (text_read_at bytes.now) }
 {
     let (count, rest) = byte_of(bytes)?;
     let count = usize::from(count);

@@ -1,7 +1,7 @@
 //! Filters.
 
 ghost use Rattle.std.specs.Prelude.{◌≡◌, Ok};
-ghost use Rattle.code_parts.specs.Reading.{Gives, judge, both, in_list};
+ghost use Rattle.code_parts.specs.Reading.{Gives, judge, both_judged, in_list};
 ghost use Rattle.code_parts.specs.Items.{need_from as need_from_parts, need_at, needs_at, filter_at};
 
 use crate::fields::{byte_of, two_of};
@@ -51,7 +51,7 @@ fn needs_of(alloc: Global, bytes: &[u8]) -> Result<(Result<Vec<Need>, Flaw>, &[u
 }
 
 fn filter_from(table: u8, length: u16, needs: Result<Vec<Need>, Flaw>) -> Result<Filter, Flaw>
-    ensures { result ≡ judge (both (Ok table) (both (Ok length) (in_list needs)))
+    ensures { result ≡ judge (both_judged (Ok table) (both_judged (Ok length) (in_list needs)))
         (λ p. Ok (record { table = p.0; length = p.1.0; needs = p.1.1 })) }
 {
     let needs = needs?;
@@ -64,9 +64,9 @@ fn filter_from(table: u8, length: u16, needs: Result<Vec<Need>, Flaw>) -> Result
 
 /// Filters.
 #[derive(Clone, Copy)]
-pub struct Filters;
+pub struct FilterItems;
 
-impl Reads for Filters {
+impl Reads for FilterItems {
     type Thing = Filter;
 
     ghost at = { λ _. filter_at };

@@ -11,7 +11,7 @@ ghost use Rattle.code_parts.specs.Instructions.{instr_from as instr_from_parts, 
 use crate::fields::{byte_of, four_of, two_of};
 use crate::flaw::{Flaw, Unread};
 use crate::kinds::kind_of_number;
-use crate::operands::{Parts, are_same, parts_of_instr};
+use crate::operands::{InstrParts, are_same, parts_of_instr};
 use crate::several::Reads;
 use code_items::{
     AreaInstr, FlowInstr, Instr, MoveInstr, Question, RecordInstr, ScreenInstr, Setting,
@@ -74,7 +74,7 @@ fn set_to(setting: u8, on: u16) -> Option<Instr>
 }
 
 #[tactic(auto, unfolding(crate::specs::Instructions::low_instr))]
-fn low_instr(p: Parts) -> Option<Instr>
+fn low_instr(p: InstrParts) -> Option<Instr>
     ensures { result ≡ low_instr_of p }
 {
     match p.operation {
@@ -95,7 +95,7 @@ fn low_instr(p: Parts) -> Option<Instr>
 }
 
 #[tactic(auto, unfolding(crate::specs::Instructions::flow_instr))]
-fn flow_instr(p: Parts) -> Option<Instr>
+fn flow_instr(p: InstrParts) -> Option<Instr>
     ensures { result ≡ flow_instr_of p }
 {
     match p.operation {
@@ -109,7 +109,7 @@ fn flow_instr(p: Parts) -> Option<Instr>
 }
 
 #[tactic(auto, unfolding(crate::specs::Instructions::area_instr))]
-fn area_instr(p: Parts) -> Option<Instr>
+fn area_instr(p: InstrParts) -> Option<Instr>
     ensures { result ≡ area_instr_of p }
 {
     match p.operation {
@@ -132,7 +132,7 @@ fn area_instr(p: Parts) -> Option<Instr>
 }
 
 #[tactic(auto, unfolding(crate::specs::Instructions::record_instr))]
-fn record_instr(p: Parts) -> Option<Instr>
+fn record_instr(p: InstrParts) -> Option<Instr>
     ensures { result ≡ record_instr_of p }
 {
     match p.operation {
@@ -149,7 +149,7 @@ fn record_instr(p: Parts) -> Option<Instr>
 }
 
 #[tactic(auto, unfolding(crate::specs::Instructions::screen_instr))]
-fn screen_instr(p: Parts) -> Option<Instr>
+fn screen_instr(p: InstrParts) -> Option<Instr>
     ensures { result ≡ screen_instr_of p }
 {
     match p.operation {
@@ -167,7 +167,7 @@ fn screen_instr(p: Parts) -> Option<Instr>
 
 /// The instruction that these parts can only be, by the operation and the operands that it has a use for.
 #[tactic(auto, unfolding(crate::specs::Instructions::any_instr))]
-fn any_instr(p: Parts) -> Option<Instr>
+fn any_instr(p: InstrParts) -> Option<Instr>
     ensures { result ≡ any_instr_of p }
 {
     if p.operation < 0x10 {
@@ -186,7 +186,7 @@ fn any_instr(p: Parts) -> Option<Instr>
 }
 
 #[tactic(auto, unfolding(crate::specs::Instructions::instr_from))]
-fn instr_from(version: Version, p: Parts) -> Result<Instr, Flaw>
+fn instr_from(version: Version, p: InstrParts) -> Result<Instr, Flaw>
     ensures { result ≡ instr_from_parts version p }
 {
     match any_instr(p) {
@@ -221,7 +221,7 @@ impl Reads for Instrs {
         let (a, rest) = byte_of(rest)?;
         let (b, rest) = two_of(rest)?;
         let (c, rest) = four_of(rest)?;
-        let parts = Parts { operation, a, b, c };
+        let parts = InstrParts { operation, a, b, c };
         Ok((instr_from(self.version, parts), rest))
     }
 }

@@ -80,9 +80,9 @@ fn slot_from(byte: u8) -> Result<Option<Kind>, Flaw>
 
 /// Kinds, by their numbers.
 #[derive(Clone, Copy)]
-pub struct Kinds;
+pub struct KindItems;
 
-impl Reads for Kinds {
+impl Reads for KindItems {
     type Thing = Kind;
 
     ghost at = { λ _. kind_at };
@@ -100,9 +100,9 @@ impl Reads for Kinds {
 
 /// The kinds of slots, by their numbers, or 0 for none.
 #[derive(Clone, Copy)]
-pub struct Slots;
+pub struct SlotItems;
 
-impl Reads for Slots {
+impl Reads for SlotItems {
     type Thing = Option<Kind>;
 
     ghost at = { λ _. slot_at };

@@ -2,9 +2,9 @@
 
 ghost use Rattle.std.specs.Prelude.{ℕ, ◌<◌, ◌^◌};
 ghost use Rattle.std.specs.Int.{w16, w32, to_le_bytes};
-ghost use Rattle.code_parts.specs.Reading.{number_at, sure};
+ghost use Rattle.code_parts.specs.Reading.{number_read_at, sure};
 ghost use Rattle.code_items.specs.declared.declared.Version.{Version as AnyVersion};
-ghost use Rattle.code_parts.specs.Items.{table_at, index_at, list_at, constant_at, filter_at, procedure_at};
+ghost use Rattle.code_parts.specs.Items.{table_read_at, index_at, list_at, constant_at, filter_at, procedure_read_at};
 ghost use Rattle.code_parts.specs.Items.{map_read_at};
 ghost use Rattle.code_parts.specs.Instructions.{instr_read_at, instr_text};
 ghost use Rattle.code_parts.specs.Texts.{table_text, index_text, list_text, constant_text, filter_text, procedure_text};
@@ -17,14 +17,14 @@ use xvalue::laws::functions_have_their_numbers;
 /// Numbers that fit are read from their two or four bytes, and what is read of one fits and stays where bytes are
 /// appended.
 pub fn numbers_are_spelled()
-    ensures two { Spells (sure (number_at w16)) (to_le_bytes w16) (λ n. n < 2 ^ 16) (λ n. n < 2 ^ 16) }
-    ensures four { Spells (sure (number_at w32)) (to_le_bytes w32) (λ n. n < 2 ^ 32) (λ n. n < 2 ^ 32) }
+    ensures two { Spells (sure (number_read_at w16)) (to_le_bytes w16) (λ n. n < 2 ^ 16) (λ n. n < 2 ^ 16) }
+    ensures four { Spells (sure (number_read_at w32)) (to_le_bytes w32) (λ n. n < 2 ^ 32) (λ n. n < 2 ^ 32) }
 {}
 
 /// Tables, indexes and lists of indexes that their types can hold are read from their texts, and what is read of one
 /// stays where bytes are appended.
 pub fn declarations_are_spelled()
-    ensures tables { Spells table_at table_text TableFits Any }
+    ensures tables { Spells table_read_at table_text TableFits Any }
     ensures indexes { Spells index_at index_text IndexFits Any }
     ensures lists { Spells list_at list_text ListFits Any }
 {}
@@ -38,7 +38,7 @@ pub fn constants_and_filters_are_spelled()
 /// Procedures and maps with states of a version of so many slots likewise.
 pub fn procedures_and_maps_are_spelled()
     ensures procedures { (version : AnyVersion) (slots : ℕ)
-        → Spells (procedure_at version slots) procedure_text (ProcedureFits version slots) Any }
+        → Spells (procedure_read_at version slots) procedure_text (ProcedureFits version slots) Any }
     ensures maps { (version : AnyVersion) (slots : ℕ)
         → Spells (map_read_at version slots) map_text (MapFits version slots) Any }
 {}

@@ -16,12 +16,12 @@ mod states;
 
 pub use constants::Constants;
 pub use fields::{byte_of, counted_text, four_of, two_of};
-pub use filters::{Filters, Needs};
+pub use filters::{FilterItems, Needs};
 pub use flaw::{Flaw, Unread};
 pub use instrs::Instrs;
-pub use kinds::{Kinds, Slots, number_of_kind, number_of_slot};
-pub use operands::{Parts, parts_of_instr};
+pub use kinds::{KindItems, SlotItems, number_of_kind, number_of_slot};
+pub use operands::{InstrParts, parts_of_instr};
 pub use procedures::{Maps, Procedures};
 pub use several::Reads;
-pub use shapes::{Fields, Indexes, Lists, Tables};
+pub use shapes::{Fields, Indexes, ListItems, Tables};
 pub use states::{Areas, States};

@@ -14,7 +14,7 @@ use xvalue::Kind;
 
 /// An operation and its operands; one that it has no use for is 0.
 #[derive(Clone, Copy, Debug)]
-pub struct Parts {
+pub struct InstrParts {
     pub operation: u8,
     pub a: u8,
     pub b: u16,
@@ -45,10 +45,10 @@ fn number_of_question(question: Question) -> u8
 }
 
 /// No operand.
-fn plain(operation: u8) -> Parts
+fn plain(operation: u8) -> InstrParts
     ensures { result ≡ record { operation = operation; a = 0; b = 0; c = 0 } }
 {
-    Parts {
+    InstrParts {
         operation,
         a: 0,
         b: 0,
@@ -57,10 +57,10 @@ fn plain(operation: u8) -> Parts
 }
 
 /// The operand a alone.
-fn small(operation: u8, a: u8) -> Parts
+fn small(operation: u8, a: u8) -> InstrParts
     ensures { result ≡ record { operation = operation; a = a; b = 0; c = 0 } }
 {
-    Parts {
+    InstrParts {
         operation,
         a,
         b: 0,
@@ -69,17 +69,17 @@ fn small(operation: u8, a: u8) -> Parts
 }
 
 /// The operand a, a kind.
-fn of_kind(operation: u8, kind: Kind) -> Parts
+fn of_kind(operation: u8, kind: Kind) -> InstrParts
     ensures { result ≡ record { operation = operation; a = kind_number kind; b = 0; c = 0 } }
 {
     small(operation, number_of_kind(kind))
 }
 
 /// The operand b alone.
-fn number(operation: u8, b: u16) -> Parts
+fn number(operation: u8, b: u16) -> InstrParts
     ensures { result ≡ record { operation = operation; a = 0; b = b; c = 0 } }
 {
-    Parts {
+    InstrParts {
         operation,
         a: 0,
         b,
@@ -88,10 +88,10 @@ fn number(operation: u8, b: u16) -> Parts
 }
 
 /// The operands a and b.
-fn pair(operation: u8, a: u8, b: u16) -> Parts
+fn pair(operation: u8, a: u8, b: u16) -> InstrParts
     ensures { result ≡ record { operation = operation; a = a; b = b; c = 0 } }
 {
-    Parts {
+    InstrParts {
         operation,
         a,
         b,
@@ -100,10 +100,10 @@ fn pair(operation: u8, a: u8, b: u16) -> Parts
 }
 
 /// The operands b and c.
-fn wide(operation: u8, b: u16, c: u32) -> Parts
+fn wide(operation: u8, b: u16, c: u32) -> InstrParts
     ensures { result ≡ record { operation = operation; a = 0; b = b; c = c } }
 {
-    Parts {
+    InstrParts {
         operation,
         a: 0,
         b,
@@ -111,7 +111,7 @@ fn wide(operation: u8, b: u16, c: u32) -> Parts
     }
 }
 
-fn of_values(instr: ValueInstr) -> Parts
+fn of_values(instr: ValueInstr) -> InstrParts
     ensures { result ≡ parts_of_values instr }
 {
     match instr {
@@ -126,7 +126,7 @@ fn of_values(instr: ValueInstr) -> Parts
     }
 }
 
-fn of_flow(instr: FlowInstr) -> Parts
+fn of_flow(instr: FlowInstr) -> InstrParts
     ensures { result ≡ parts_of_flow instr }
 {
     match instr {
@@ -138,7 +138,7 @@ fn of_flow(instr: FlowInstr) -> Parts
     }
 }
 
-fn of_screen(instr: ScreenInstr) -> Parts
+fn of_screen(instr: ScreenInstr) -> InstrParts
     ensures { result ≡ parts_of_screen instr }
 {
     match instr {
@@ -152,7 +152,7 @@ fn of_screen(instr: ScreenInstr) -> Parts
     }
 }
 
-fn of_areas(instr: AreaInstr) -> Parts
+fn of_areas(instr: AreaInstr) -> InstrParts
     ensures { result ≡ parts_of_areas instr }
 {
     match instr {
@@ -165,7 +165,7 @@ fn of_areas(instr: AreaInstr) -> Parts
     }
 }
 
-fn of_moves(instr: MoveInstr) -> Parts
+fn of_moves(instr: MoveInstr) -> InstrParts
     ensures { result ≡ parts_of_moves instr }
 {
     match instr {
@@ -177,7 +177,7 @@ fn of_moves(instr: MoveInstr) -> Parts
     }
 }
 
-fn of_records(instr: RecordInstr) -> Parts
+fn of_records(instr: RecordInstr) -> InstrParts
     ensures { result ≡ parts_of_records instr }
 {
     match instr {
@@ -196,7 +196,7 @@ fn of_records(instr: RecordInstr) -> Parts
 }
 
 /// The instruction's operation and operands.
-pub fn parts_of_instr(instr: Instr) -> Parts
+pub fn parts_of_instr(instr: Instr) -> InstrParts
     ensures { result ≡ parts_of instr }
 {
     match instr {
@@ -210,7 +210,7 @@ pub fn parts_of_instr(instr: Instr) -> Parts
 }
 
 /// Whether both are the same.
-pub(crate) fn are_same(one: Parts, other: Parts) -> bool
+pub(crate) fn are_same(one: InstrParts, other: InstrParts) -> bool
     ensures { result ≡ same_parts one other }
 {
     one.operation == other.operation && one.a == other.a && one.b == other.b && one.c == other.c

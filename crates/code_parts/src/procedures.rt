@@ -1,8 +1,8 @@
 //! Procedures and maps.
 
 ghost use Rattle.std.specs.Prelude.{◌≡◌, Ok};
-ghost use Rattle.code_parts.specs.Reading.{judge, both};
-ghost use Rattle.code_parts.specs.Items.{level_from as level_from_byte, procedure_at, map_read_at};
+ghost use Rattle.code_parts.specs.Reading.{judge, both_judged};
+ghost use Rattle.code_parts.specs.Items.{level_from as level_from_byte, procedure_read_at, map_read_at};
 
 use crate::fields::{byte_of, two_of};
 use crate::flaw::{Flaw, Unread};
@@ -26,7 +26,7 @@ fn procedure_from(
     entry: Result<State, Flaw>,
     exit: Result<State, Flaw>,
 ) -> Result<Proc, Flaw>
-    ensures { result ≡ judge (both (Ok length) (both level (both entry exit)))
+    ensures { result ≡ judge (both_judged (Ok length) (both_judged level (both_judged entry exit)))
         (λ p. Ok (record { length = p.0; level = p.1.0; entry = p.1.1.0; exit = p.1.1.1 })) }
 {
     let level = level?;
@@ -49,9 +49,9 @@ pub struct Procedures {
 impl Reads for Procedures {
     type Thing = Proc;
 
-    ghost at = { λ s. procedure_at s.states.version s.states.slots };
+    ghost at = { λ s. procedure_read_at s.states.version s.states.slots };
 
-    #[tactic(auto, unfolding(crate::specs::Items::procedure_at))]
+    #[tactic(auto, unfolding(crate::specs::Items::procedure_read_at))]
     fn read<'a>(
         &self,
         alloc: Global,
@@ -66,7 +66,7 @@ impl Reads for Procedures {
 }
 
 fn map_from(place: u16, state: Result<State, Flaw>) -> Result<Map, Flaw>
-    ensures { result ≡ judge (both (Ok place) state) (λ p. Ok (record { place = p.0; state = p.1 })) }
+    ensures { result ≡ judge (both_judged (Ok place) state) (λ p. Ok (record { place = p.0; state = p.1 })) }
 {
     let state = state?;
     Ok(Map { place, state })

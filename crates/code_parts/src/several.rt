@@ -2,7 +2,7 @@
 
 ghost use Rattle.std.specs.Prelude.{◌≡◌, IfOk, ℕ, List, Option, Result};
 ghost use Rattle.code_parts.specs.declared.flaw.Flaw.{Flaw as OneFlaw};
-ghost use Rattle.code_parts.specs.Reading.{Gives, several, in_list, joined, counted_at};
+ghost use Rattle.code_parts.specs.Reading.{Gives, several, in_list, judged_behind, counted_at};
 
 use crate::fields::byte_of;
 use crate::flaw::{Flaw, Unread};
@@ -30,7 +30,7 @@ fn with_one<T: Drop>(
     things: Result<Vec<T>, Flaw>,
     one: Result<T, Flaw>,
 ) -> Result<Result<Vec<T>, Flaw>, AllocError>
-    ensures { IfOk result (λ all. in_list all ≡ joined (in_list things) one) }
+    ensures { IfOk result (λ all. in_list all ≡ judged_behind (in_list things) one) }
 {
     match things {
         Ok(mut things) => match one {

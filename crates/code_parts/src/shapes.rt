@@ -1,9 +1,9 @@
 //! Tables, indexes and lists of indexes.
 
 ghost use Rattle.std.specs.Prelude.{◌≡◌, Ok};
-ghost use Rattle.code_parts.specs.Reading.{Gives, judge, both, in_list};
-ghost use Rattle.code_parts.specs.Items.{name_from as name_from_bytes, name_at, field_from as field_from_parts};
-ghost use Rattle.code_parts.specs.Items.{field_at, table_at, part_from as part_from_parts, part_at};
+ghost use Rattle.code_parts.specs.Reading.{Gives, judge, both_judged, in_list};
+ghost use Rattle.code_parts.specs.Items.{name_from as name_from_bytes, name_read_at, field_from as field_from_parts};
+ghost use Rattle.code_parts.specs.Items.{field_at, table_read_at, part_from as part_from_parts, part_at};
 ghost use Rattle.code_parts.specs.Items.{index_from as index_from_parts, index_at, list_from as list_from_bytes};
 ghost use Rattle.code_parts.specs.Items.{list_at};
 
@@ -27,16 +27,16 @@ fn name_from(bytes: &[u8]) -> Result<Name, Flaw>
     Ok(name)
 }
 
-#[tactic(auto, unfolding(crate::specs::Items::name_at))]
+#[tactic(auto, unfolding(crate::specs::Items::name_read_at))]
 fn name_of(bytes: &[u8]) -> Result<(Result<Name, Flaw>, &[u8]), Unread>
-    ensures { Gives (λ x. (x.0, x.1.now)) result (name_at bytes.now) }
+    ensures { Gives (λ x. (x.0, x.1.now)) result (name_read_at bytes.now) }
 {
     let (text, rest) = counted_text(bytes)?;
     Ok((name_from(text), rest))
 }
 
 fn field_from(name: Result<Name, Flaw>, letter: u8, width: u8, decimals: u8) -> Result<Field, Flaw>
-    ensures { result ≡ judge (both name (both (Ok letter) (both (Ok width) (Ok decimals))))
+    ensures { result ≡ judge (both_judged name (both_judged (Ok letter) (both_judged (Ok width) (Ok decimals))))
         (λ p. field_from_parts p.0 p.1.0 p.1.1.0 p.1.1.1) }
 {
     let name = name?;
@@ -78,7 +78,7 @@ fn table_from(
     name: Result<Name, Flaw>,
     fields: Result<Vec<Field>, Flaw>,
 ) -> Result<TableShape, Flaw>
-    ensures { result ≡ judge (both name (in_list fields)) (λ p. Ok (record { name = p.0; fields = p.1 })) }
+    ensures { result ≡ judge (both_judged name (in_list fields)) (λ p. Ok (record { name = p.0; fields = p.1 })) }
 {
     let name = name?;
     let fields = fields?;
@@ -95,9 +95,9 @@ pub struct Tables;
 impl Reads for Tables {
     type Thing = TableShape;
 
-    ghost at = { λ _. table_at };
+    ghost at = { λ _. table_read_at };
 
-    #[tactic(auto, unfolding(crate::specs::Items::table_at))]
+    #[tactic(auto, unfolding(crate::specs::Items::table_read_at))]
     fn read<'a>(
         &self,
         alloc: Global,
@@ -120,9 +120,9 @@ fn part_from(field: u8, upper: u8) -> Result<KeyPart, Flaw>
 
 /// Parts of keys.
 #[derive(Clone, Copy)]
-pub struct Parts;
+pub struct KeyPartItems;
 
-impl Reads for Parts {
+impl Reads for KeyPartItems {
     type Thing = KeyPart;
 
     ghost at = { λ _. part_at };
@@ -144,7 +144,8 @@ fn index_from(
     table: u8,
     parts: Result<Vec<KeyPart>, Flaw>,
 ) -> Result<IndexShape, Flaw>
-    ensures { result ≡ judge (both name (both (Ok table) (in_list parts))) (λ p. index_from_parts p.0 p.1.0 p.1.1) }
+    ensures { result
+        ≡ judge (both_judged name (both_judged (Ok table) (in_list parts))) (λ p. index_from_parts p.0 p.1.0 p.1.1) }
 {
     let name = name?;
     let parts = parts?;
@@ -175,7 +176,7 @@ impl Reads for Indexes {
     ) -> Result<(Result<IndexShape, Flaw>, &'a [u8]), Unread> {
         let (name, rest) = name_of(bytes)?;
         let (table, rest) = byte_of(rest)?;
-        let (parts, rest) = read_counted(alloc, &Parts, rest)?;
+        let (parts, rest) = read_counted(alloc, &KeyPartItems, rest)?;
         Ok((index_from(name, table, parts), rest))
     }
 }
@@ -193,9 +194,9 @@ fn list_from(bytes: &[u8]) -> Result<IndexList, Flaw>
 
 /// Lists of indexes.
 #[derive(Clone, Copy)]
-pub struct Lists;
+pub struct ListItems;
 
-impl Reads for Lists {
+impl Reads for ListItems {
     type Thing = IndexList;
 
     ghost at = { λ _. list_at };

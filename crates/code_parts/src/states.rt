@@ -2,13 +2,13 @@
 
 ghost use Rattle.std.specs.Prelude.{◌≡◌, ◌<◌, Ok};
 ghost use Rattle.code_items.specs.States.{may_be_unsure as may_be_unsure_in};
-ghost use Rattle.code_parts.specs.Reading.{Gives, judge, both, in_list};
-ghost use Rattle.code_parts.specs.Items.{open_from as open_from_parts, open_at, area_at};
+ghost use Rattle.code_parts.specs.Reading.{Gives, judge, both_judged, in_list};
+ghost use Rattle.code_parts.specs.Items.{open_from as open_from_parts, open_read_at, area_read_at};
 ghost use Rattle.code_parts.specs.Items.{state_from as state_from_parts, state_read_at};
 
 use crate::fields::byte_of;
 use crate::flaw::{Flaw, Unread};
-use crate::kinds::{Kinds, Slots};
+use crate::kinds::{KindItems, SlotItems};
 use crate::several::{Reads, read_counted, read_several};
 use code_items::{AreaState, Desk, KindSlots, KindStack, OpenArea, State, Version};
 use shape::Items;
@@ -27,10 +27,10 @@ fn open_from(byte: u8, list: u8, order: u8, filter: u8) -> AreaState
     })
 }
 
-#[tactic(auto, unfolding(crate::specs::Items::open_at))]
+#[tactic(auto, unfolding(crate::specs::Items::open_read_at))]
 fn open_of(byte: u8, bytes: &[u8]) -> Result<(Result<AreaState, Flaw>, &[u8]), Unread>
     requires { 0 < byte }
-    ensures { Gives (λ x. (x.0, x.1.now)) result (open_at byte bytes.now) }
+    ensures { Gives (λ x. (x.0, x.1.now)) result (open_read_at byte bytes.now) }
 {
     let (list, rest) = byte_of(bytes)?;
     let (order, rest) = byte_of(rest)?;
@@ -56,9 +56,9 @@ pub struct Areas {
 impl Reads for Areas {
     type Thing = AreaState;
 
-    ghost at = { λ s. area_at s.version };
+    ghost at = { λ s. area_read_at s.version };
 
-    #[tactic(auto, unfolding(crate::specs::Items::area_at))]
+    #[tactic(auto, unfolding(crate::specs::Items::area_read_at))]
     fn read<'a>(
         &self,
         _alloc: Global,
@@ -81,7 +81,8 @@ fn state_from(
     slots: Result<Vec<Option<Kind>>, Flaw>,
     kinds: Result<Vec<Kind>, Flaw>,
 ) -> Result<State, Flaw>
-    ensures { result ≡ judge (both (Ok selected) (both (in_list areas) (both (in_list slots) (in_list kinds))))
+    ensures { result
+        ≡ judge (both_judged (Ok selected) (both_judged (in_list areas) (both_judged (in_list slots) (in_list kinds))))
         (λ p. Ok (state_from_parts p.0 p.1.0 p.1.1.0 p.1.1.1)) }
 {
     let areas = areas?;
@@ -120,8 +121,8 @@ impl Reads for States {
         };
         let (selected, rest) = byte_of(bytes)?;
         let (areas, rest) = read_several(alloc, &areas, 10, rest)?;
-        let (slots, rest) = read_several(alloc, &Slots, usize::from(self.slots), rest)?;
-        let (kinds, rest) = read_counted(alloc, &Kinds, rest)?;
+        let (slots, rest) = read_several(alloc, &SlotItems, usize::from(self.slots), rest)?;
+        let (kinds, rest) = read_counted(alloc, &KindItems, rest)?;
         Ok((state_from(selected, areas, slots, kinds), rest))
     }
 }

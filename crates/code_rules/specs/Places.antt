@@ -76,13 +76,13 @@ abbrev pub or_state : Option State → State → State
 or_state None s = s
 or_state (Some m) s = m
 
-abbrev pub begun : Code → Block → ℕ → State → State
-begun code block place left = if block.first == place then start_of code block.number else left
+abbrev pub state_entered : Code → Block → ℕ → State → State
+state_entered code block place left = if block.first == place then start_of code block.number else left
 
 unfoldable pub incoming_at : Code → ℕ → State
 incoming_at code zero = start_of code (block_at code zero).number
 incoming_at code (suc place) =
-    begun code (block_at code (suc place)) (suc place)
+    state_entered code (block_at code (suc place)) (suc place)
     (flow code (instr_at code place) (or_state (map_at code place) (incoming_at code place)))
 
 unfoldable pub state_at : Code → ℕ → State

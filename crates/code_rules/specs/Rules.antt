@@ -21,7 +21,7 @@ use Rattle.code_items.specs.declared.instr.Question.TheVariants.{Recno, Reccount
 use Rattle.code_items.specs.Desks.{open_at, desk_covered}
 use Rattle.code_items.specs.Kinds.{clashes, same_kinds, kinds_covered, slots_covered}
 use Rattle.code_items.specs.Declarations.{list_of, filter_of}
-use Rattle.code_items.specs.States.{is_list_of, is_filter_of, opened}
+use Rattle.code_items.specs.States.{is_list_of, is_filter_of, opened_by}
 use Rattle.code_items.specs.declared.instr.ValueInstr.{ValueInstr}
 use Rattle.code_items.specs.declared.instr.ValueInstr.TheVariants.{Constant, Load, Store, Unset, Discard, Function}
 use Rattle.code_items.specs.declared.instr.ValueInstr.TheVariants.{Today, Set}
@@ -76,9 +76,9 @@ pub record Here : Type 0 where
   pub after : State
 
 -- a test at the place that is named, if one is
-abbrev pub if_some : (ℕ → Bool) → Option ℕ → Bool
-if_some fails None = false
-if_some fails (Some n) = fails n
+abbrev pub fails_if_named : (ℕ → Bool) → Option ℕ → Bool
+fails_if_named fails None = false
+fails_if_named fails (Some n) = fails n
 
 -- the procedure of that number isn't there
 abbrev pub no_procedure : Code → ℕ → Bool
@@ -86,11 +86,11 @@ no_procedure code n = is_none (slice_get code.procedures n)
 
 -- it goes on behind itself, and what it leaves is known: it calls no procedure that isn't there
 abbrev pub leads_on : Code → Instr → Bool
-leads_on code i = (signature i).falls && not (if_some (no_procedure code) (call_of i))
+leads_on code i = (signature i).falls && not (fails_if_named (no_procedure code) (call_of i))
 
 -- at each place that it may lead to
 abbrev pub some_next : Code → (ℕ → Bool) → Here → Bool
-some_next code fails h = if_some fails (target_of h.instr) || (leads_on code h.instr && fails (h.place + 1))
+some_next code fails h = fails_if_named fails (target_of h.instr) || (leads_on code h.instr && fails (h.place + 1))
 
 -- where its block begins
 abbrev pub at_start : Bool → Here → Bool
@@ -152,7 +152,7 @@ loads_free s _ = false
 -- the work area that has to be open isn't known to be
 
 abbrev pub closed_fails : Here → Bool
-closed_fails h = if_some (λ n. is_none (open_at h.before.desk n)) (area_of h.before.desk h.instr)
+closed_fails h = fails_if_named (λ n. is_none (open_at h.before.desk n)) (area_of h.before.desk h.instr)
 
 -- a list or filter is of another table than the one that it is meant for; work areas aren't covered
 
@@ -162,24 +162,25 @@ is_other_list d table list = not (is_none (list_of d list)) && not (is_list_of d
 abbrev pub is_other_filter : Declared → ℕ → ℕ → Bool
 is_other_filter d table filter = not (is_none (filter_of d filter)) && not (is_filter_of d table filter)
 
-abbrev pub has_table : Declared → ℕ → Bool
-has_table d table = nat_lt table (length d.shape.tables)
+abbrev pub declares_table : Declared → ℕ → Bool
+declares_table d table = nat_lt table (length d.shape.tables)
 
-abbrev pub if_open : (OpenArea → Bool) → Option OpenArea → Bool
-if_open fails None = false
-if_open fails (Some a) = fails a
+abbrev pub fails_if_open : (OpenArea → Bool) → Option OpenArea → Bool
+fails_if_open fails None = false
+fails_if_open fails (Some a) = fails a
 
 abbrev pub selected_in : Desk → Option OpenArea
 selected_in desk = open_at desk desk.selected
 
 abbrev pub area_is_other : Declared → Desk → AreaInstr → Bool
-area_is_other d desk (Open t l) = has_table d t && is_other_list d t l
-area_is_other d desk (Filter n) = if_open (λ a. is_other_filter d a.table n) (selected_in desk)
+area_is_other d desk (Open t l) = declares_table d t && is_other_list d t l
+area_is_other d desk (Filter n) = fails_if_open (λ a. is_other_filter d a.table n) (selected_in desk)
 area_is_other d desk _ = false
 
 -- a list of several indexes, or of another table
 abbrev pub is_no_index : Declared → Desk → ℕ → Bool
-is_no_index d desk list = nat_lt 1 (opened d list) || if_open (λ a. is_other_list d a.table list) (selected_in desk)
+is_no_index d desk list = nat_lt 1 (opened_by d list)
+    || fails_if_open (λ a. is_other_list d a.table list) (selected_in desk)
 
 abbrev pub record_is_other : Declared → Desk → RecordInstr → Bool
 record_is_other d desk (Index l) = is_no_index d desk l
@@ -201,11 +202,11 @@ table_fails code h = names_other code.declared h.before.desk h.instr || some_des
 -- the work area has no such order, or none to seek by
 
 abbrev pub area_order_fails : Declared → Desk → AreaInstr → Bool
-area_order_fails d desk (Order n) = if_open (λ a. nat_lt (opened d a.list) n) (selected_in desk)
+area_order_fails d desk (Order n) = fails_if_open (λ a. nat_lt (opened_by d a.list) n) (selected_in desk)
 area_order_fails d desk _ = false
 
 abbrev pub move_order_fails : Desk → MoveInstr → Bool
-move_order_fails desk Seek = if_open (λ a. a.order == 0) (selected_in desk)
+move_order_fails desk Seek = fails_if_open (λ a. a.order == 0) (selected_in desk)
 move_order_fails desk _ = false
 
 abbrev pub order_fails : Declared → Desk → Instr → Bool
@@ -266,7 +267,7 @@ abbrev pub is_outside : Block → ℕ → Bool
 is_outside block place = nat_lt place block.first || nat_le block.end place
 
 abbrev pub jump_fails : Code → Here → Bool
-jump_fails code h = if_some (λ t. is_outside h.block t || is_none (map_at code t)) (target_of h.instr)
+jump_fails code h = fails_if_named (λ t. is_outside h.block t || is_none (map_at code t)) (target_of h.instr)
 
 -- in a procedure its end may be run over, or behind an instruction that doesn't go on there is a place of it without a
 -- map
@@ -294,17 +295,18 @@ not_below level (Some p) = nat_le level p.level
 
 abbrev pub level_fails : Code → Here → Bool
 level_fails code h = not (is_filters code h.block)
-    && if_some (λ n. not_below (level_of (slice_get code.procedures h.block.number)) (slice_get code.procedures n))
+    && fails_if_named
+    (λ n. not_below (level_of (slice_get code.procedures h.block.number)) (slice_get code.procedures n))
     (call_of h.instr)
 
 -- in a procedure, a return from another state than its exit state covers
 
-abbrev pub flow_returns : FlowInstr → Bool
-flow_returns Return = true
-flow_returns _ = false
+abbrev pub is_flow_return : FlowInstr → Bool
+is_flow_return Return = true
+is_flow_return _ = false
 
 abbrev pub returns : Instr → Bool
-returns (Flow i) = flow_returns i
+returns (Flow i) = is_flow_return i
 returns _ = false
 
 abbrev pub covers : State → State → Bool
@@ -329,7 +331,7 @@ filter_lacks slots (Some f) = list_any (lacks slots) f.needs
 -- a move under a filter whose needs aren't met
 abbrev pub moves_blindly : Declared → State → Instr → Bool
 moves_blindly d s i =
-    (signature i).moves && if_open (λ a. filter_lacks s.slots (filter_of d a.filter)) (selected_in s.desk)
+    (signature i).moves && fails_if_open (λ a. filter_lacks s.slots (filter_of d a.filter)) (selected_in s.desk)
 
 abbrev pub record_is_rows : RecordInstr → Bool
 record_is_rows (RowField f) = true
@@ -370,14 +372,14 @@ filters (Records i) = record_filters i
 filters _ = false
 
 -- just a truth value; a kind that isn't known may be one
-abbrev pub is_truth : ℕ → List Kind → Bool
-is_truth zero stack = same_kinds (OfLogical ∷ []) stack
-is_truth (suc more) stack = length stack == 0
+abbrev pub leaves_truth : ℕ → List Kind → Bool
+leaves_truth zero stack = same_kinds (OfLogical ∷ []) stack
+leaves_truth (suc more) stack = length stack == 0
 
 -- at the last place of a filter's block something else than a truth value is left
 abbrev pub ends_untrue : Code → Here → Bool
 ends_untrue code h =
-    h.block.end == h.place + 1 && not (is_truth (unknown (gives code.declared h.before.desk h.instr)) h.after.stack)
+    h.block.end == h.place + 1 && not (leaves_truth (unknown (gives code.declared h.before.desk h.instr)) h.after.stack)
 
 abbrev pub filter_fails : Code → Here → Bool
 filter_fails code h =
@@ -397,13 +399,13 @@ abbrev pub is_no_list : Declared → ℕ → Bool
 is_no_list d list = is_none (list_of d list)
 
 abbrev pub area_undeclared : Declared → AreaInstr → Bool
-area_undeclared d (Open t l) = not (has_table d t) || (not (l == 0) && is_no_list d l)
+area_undeclared d (Open t l) = not (declares_table d t) || (not (l == 0) && is_no_list d l)
 area_undeclared d (Filter n) = not (n == 0) && is_none (filter_of d n)
 area_undeclared d _ = false
 
 -- the area's table hasn't so many fields; of an area that isn't open nothing is said
 abbrev pub no_field : Declared → Desk → ℕ → ℕ → Bool
-no_field d desk area field = if_open (λ a. nat_le (length (fields_at d (Some a))) field) (open_at desk area)
+no_field d desk area field = fails_if_open (λ a. nat_le (length (fields_at d (Some a))) field) (open_at desk area)
 
 abbrev pub record_undeclared : Declared → Desk → RecordInstr → Bool
 record_undeclared d desk (Field a f) = no_field d desk a f
@@ -414,7 +416,7 @@ record_undeclared d desk _ = false
 
 abbrev pub undeclared : Code → Desk → Instr → Bool
 undeclared code desk (Values i) = value_undeclared code.declared i
-undeclared code desk (Flow i) = if_some (no_procedure code) (call_of (Flow i))
+undeclared code desk (Flow i) = fails_if_named (no_procedure code) (call_of (Flow i))
 undeclared code desk (Areas i) = area_undeclared code.declared i
 undeclared code desk (Records i) = record_undeclared code.declared desk i
 undeclared code desk _ = false

@@ -33,14 +33,14 @@ use Rattle.code_items.specs.declared.instr.Instr.{Instr}
 use Rattle.code_items.specs.declared.instr.Instr.TheVariants.{Values, Flow, Screen, Areas, Moves, Records}
 
 -- the fields of a table
-abbrev pub fields_in : Option TableShape → List TableField
-fields_in None = []
-fields_in (Some t) = t.fields
+abbrev pub fields_declared : Option TableShape → List TableField
+fields_declared None = []
+fields_declared (Some t) = t.fields
 
 -- the fields of the table that an open area holds
 abbrev pub fields_at : Declared → Option OpenArea → List TableField
 fields_at d None = []
-fields_at d (Some a) = fields_in (slice_get d.shape.tables a.table)
+fields_at d (Some a) = fields_declared (slice_get d.shape.tables a.table)
 
 abbrev pub kind_of_field : Option TableField → Option Kind
 kind_of_field None = None

@@ -3,8 +3,8 @@
 ghost use Rattle.std.specs.Prelude.{◌≡◌, is_none};
 ghost use Rattle.code_items.specs.Desks.{open_at};
 ghost use Rattle.code_rules.specs.Signature.{area_of};
-ghost use Rattle.code_rules.specs.Rules.{if_some, is_other_list as is_other_list_of};
-ghost use Rattle.code_rules.specs.Rules.{is_other_filter as is_other_filter_of, has_table as has_table_of};
+ghost use Rattle.code_rules.specs.Rules.{fails_if_named, is_other_list as is_other_list_of};
+ghost use Rattle.code_rules.specs.Rules.{is_other_filter as is_other_filter_of, declares_table as has_table_of};
 ghost use Rattle.code_rules.specs.Rules.{is_no_index as is_no_index_of, record_is_other as record_is_other_of};
 ghost use Rattle.code_rules.specs.Rules.{order_fails as order_fails_of, may_hold as may_hold_of};
 ghost use Rattle.code_rules.specs.Rules.{others_hold as others_hold_of, opens_twice as opens_twice_of};
@@ -14,7 +14,7 @@ use code_items::{AreaInstr, AreaState, Declared, Desk, Instr, MoveInstr, RecordI
 
 /// Whether the work area that has to be open isn't known to be.
 pub fn is_closed(desk: &Desk, instr: Instr) -> bool
-    ensures { result ≡ if_some (λ n. is_none (open_at desk.now n)) (area_of desk.now instr) }
+    ensures { result ≡ fails_if_named (λ n. is_none (open_at desk.now n)) (area_of desk.now instr) }
 {
     match area(desk, instr) {
         Some(number) => desk.open_at(number).is_none(),

@@ -2,7 +2,7 @@
 
 ghost use Rattle.std.specs.Prelude.{◌≡◌, OnOk, slice_get};
 ghost use Rattle.code_items.specs.declared.desk.AreaState.TheVariants.{Open as IsOpen};
-ghost use Rattle.code_rules.specs.Flow.{just_opened, ordered, filtered, indexed, on_selected, desk_after_area};
+ghost use Rattle.code_rules.specs.Flow.{just_opened, ordered, filtered, in_list_order, on_selected, desk_after_area};
 ghost use Rattle.code_rules.specs.Flow.{desk_after, slots_after as slots_after_of, left_by, exit_of, flow as flow_of};
 
 use crate::kinds::gives;
@@ -40,7 +40,7 @@ fn put_filter(desk: &mut Desk, filter: u16)
 }
 
 fn put_index(desk: &mut Desk, list: u16)
-    ensures { desk.new ≡ on_selected (indexed list) desk.old }
+    ensures { desk.new ≡ on_selected (in_list_order list) desk.old }
 {
     if let Some(area) = desk.selected_area() {
         desk.set_selected(AreaState::Open(OpenArea {

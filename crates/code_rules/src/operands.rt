@@ -5,7 +5,7 @@ ghost use Rattle.code_rules.specs.Signature.{call_of};
 ghost use Rattle.code_rules.specs.Rules.{value_undeclared as value_undeclared_of, is_no_list as is_no_list_of};
 ghost use Rattle.code_rules.specs.Rules.{area_undeclared as area_undeclared_of, no_field as no_field_of};
 ghost use Rattle.code_rules.specs.Rules.{record_undeclared as record_undeclared_of, undeclared as undeclared_of};
-ghost use Rattle.code_rules.specs.Rules.{if_some, no_procedure};
+ghost use Rattle.code_rules.specs.Rules.{fails_if_named, no_procedure};
 
 use crate::desks::has_table;
 use crate::kinds::fields_at;
@@ -66,7 +66,7 @@ fn record_undeclared(declared: &Declared, desk: &Desk, instr: RecordInstr) -> bo
 
 /// Whether it calls a procedure that isn't there.
 pub fn calls_none(code: &Code, instr: Instr) -> bool
-    ensures { result ≡ if_some (no_procedure code.now) (call_of instr) }
+    ensures { result ≡ fails_if_named (no_procedure code.now) (call_of instr) }
 {
     match called(instr) {
         Some(number) => code

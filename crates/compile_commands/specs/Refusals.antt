@@ -13,7 +13,7 @@ use Rattle.compile_commands.specs.declared.refusal.SourceFault.TheVariants.{Abse
 use Rattle.compile_commands.specs.Compiling.{name_at}
 
 -- the file may hold a command file whose first fault is this
-pub record HasFault (holds : Option (List ℕ) → Type 0) (line : ℕ) (kind : ParseFaultKind) : Type 0 where
+pub record HasLineFault (holds : Option (List ℕ) → Type 0) (line : ℕ) (kind : ParseFaultKind) : Type 0 where
   pub bytes : List ℕ
   pub held : holds (Some bytes)
   pub told : verdict [] None (marks bytes) ≡ Some (record { line = line; kind = kind })
@@ -21,7 +21,7 @@ pub record HasFault (holds : Option (List ℕ) → Type 0) (line : ℕ) (kind : 
 abbrev pub SourceFaultIs : (Option (List ℕ) → Type 0) → SourceFault → Type 0
 SourceFaultIs holds Absent = holds None
 SourceFaultIs holds TooLong = IsTooLong holds
-SourceFaultIs holds (Parse line kind) = HasFault holds line kind
+SourceFaultIs holds (Parse line kind) = HasLineFault holds line kind
 SourceFaultIs holds (Compile line _) = Unit {0}
 
 -- what is told of one command file, that of this number

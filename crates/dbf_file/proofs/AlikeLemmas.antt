@@ -5,7 +5,7 @@ use Rattle.std.proofs.lemmas.Bool.{cases_lt}
 use Rattle.std.proofs.lemmas.List.{length-take-le, get_or-take, get_or-drop, get_or_past, get_or_append_left, get_or-append_right, ext_get_or, drop-drop}
 use Rattle.std.proofs.lemmas.List.Concat.{flat_map-cons}
 use Rattle.dbf_file.specs.Fields.{total, size_of}
-use Rattle.dbf_file.specs.Rows.{Row, mark_byte, row_text, rows_text, texts_in, row_in, rows_in}
+use Rattle.dbf_file.specs.Rows.{Row, mark_byte, row_text, rows_text, texts_cut, row_in, rows_in}
 use Rattle.dbf_file.specs.Lending.{put_over, put_within}
 use Rattle.dbf_file.proofs.RowLemmas.{texts_of_front}
 use Rattle.dbf_file.proofs.TextRowLemmas.{texts_back, marked_again, length-row_text, row_has_widths}
@@ -44,9 +44,9 @@ alike_row ws xs ys alike within =
     let rest : (1 + i) % size_of ws ≡ 1 + i = mod-eq_of_lt (omega arith) in
     let same : get_or xs (1 + i) 0 ≡ get_or ys (1 + i) 0 = ⊎_elim (λ e. e) (λ (place, m). absurd (omega arith)) (alike.each (1 + i)) in
     get_or-take (total ws) (drop 1 xs) i 0 here ∙ get_or-drop 1 xs i 0 ∙ same ∙ sym (get_or-drop 1 ys i 0) ∙ sym (get_or-take (total ws) (drop 1 ys) i 0 here) in
-    let texts : texts_in ws (drop 1 xs) ≡ texts_in ws (drop 1 ys) =
-    sym (texts_of_front ws (drop 1 xs)) ∙ ap (texts_in ws) (ext_get_or 0 (take (total ws) (drop 1 xs)) (take (total ws) (drop 1 ys)) (left ∙ sym right) at) ∙ texts_of_front ws (drop 1 ys) in
-    ap (λ (m : Bool). record { marked = m; texts = texts_in ws (drop 1 xs) }) mark ∙ ap (λ (all : List (List ℕ)). record { marked = get_or ys 0 0 == 42; texts = all }) texts
+    let texts : texts_cut ws (drop 1 xs) ≡ texts_cut ws (drop 1 ys) =
+    sym (texts_of_front ws (drop 1 xs)) ∙ ap (texts_cut ws) (ext_get_or 0 (take (total ws) (drop 1 xs)) (take (total ws) (drop 1 ys)) (left ∙ sym right) at) ∙ texts_of_front ws (drop 1 ys) in
+    ap (λ (m : Bool). record { marked = m; texts = texts_cut ws (drop 1 xs) }) mark ∙ ap (λ (all : List (List ℕ)). record { marked = get_or ys 0 0 == 42; texts = all }) texts
 
 pub alike_rows : (ws : List ℕ) (n : ℕ) (xs ys : List ℕ) → Alike (size_of ws) xs ys → n * size_of ws ≤ length xs → rows_in ws n xs ≡ rows_in ws n ys
 unfolding rows_in

@@ -5,8 +5,8 @@ use Rattle.std.proofs.lemmas.List.Concat.{flat_map-cons}
 use Rattle.dbf_file.specs.declared.field.Letter.{Letter}
 use Rattle.dbf_file.specs.declared.field.Letter.TheVariants.{C, N, D, L}
 use Rattle.dbf_file.specs.declared.field.Field.{Field}
-use Rattle.dbf_file.specs.Fields.{code_of, has_shape, is_field, go_on, are_fields, widths_of, size_of}
-use Rattle.dbf_file.specs.Descriptors.{IsDescriptor, Describes, decimals_of, descriptor_text, descriptors_text, head_text}
+use Rattle.dbf_file.specs.Fields.{code_of, has_shape, is_field, fields_go_on, are_fields, widths_of, size_of}
+use Rattle.dbf_file.specs.Descriptors.{IsDescriptor, Describes, decimals_of, descriptor_text, descriptors_text, field_head_text}
 use Rattle.dbf_file.specs.Tables.{StructureState, IsStructure, structure_of}
 use Rattle.dbf_file.specs.Kept.{IsKept}
 use Rattle.dbf_file.proofs.ChoiceLemmas.{both_true}
@@ -76,7 +76,7 @@ descriptor_reads f good =
       decimals = same_decimals f.letter f.width f.decimals (shape_of_field f good) ∙ ap (decimals_of f.letter) (sym (cell_behind f 17 6 short refl ∙ (cells f).2));
     }
 
-pub descriptors_read : (fs earlier : List Field) → go_on earlier fs ≡ true → Describes (descriptors_text fs ++ 13 ∷ []) fs
+pub descriptors_read : (fs earlier : List Field) → fields_go_on earlier fs ≡ true → Describes (descriptors_text fs ++ 13 ∷ []) fs
 descriptors_read [] earlier good = ([], refl)
 descriptors_read (f ∷ fs) earlier good =
     let parts = both_true _ _ good in
@@ -89,7 +89,7 @@ descriptors_read (f ∷ fs) earlier good =
       subst (λ (xs : List ℕ). Describes xs fs) (sym (ap (drop 32) split ∙ drop_at (descriptor_text f) rest 32 long)) (descriptors_read fs (earlier ++ f ∷ []) parts.1),
     )
 
-length_descriptors : (fs earlier : List Field) → go_on earlier fs ≡ true → length (descriptors_text fs) ≡ 32 * length fs
+length_descriptors : (fs earlier : List Field) → fields_go_on earlier fs ≡ true → length (descriptors_text fs) ≡ 32 * length fs
 length_descriptors [] earlier good = refl
 length_descriptors (f ∷ fs) earlier good =
     let parts = both_true _ _ good in
@@ -100,7 +100,7 @@ length_descriptors (f ∷ fs) earlier good =
     ap length (flat_map-cons descriptor_text f fs) ∙ omega (arith, both, long, more)
 
 pub structure_good : (fields : List Field) → are_fields fields ≡ true → IsStructure (structure_of fields)
-unfolding head_text
+unfolding field_head_text
 structure_good fields are =
     let good = good_fields fields are in
     let zeros : List ℕ = replicate 20 0 in

@@ -9,7 +9,7 @@ use Rattle.dbf_file.specs.declared.fault.DbfFault.TheVariants.{Short, Version, H
 use Rattle.dbf_file.specs.Fields.{is_new}
 use Rattle.dbf_file.specs.Rows.{is_mark, are_marked}
 use Rattle.dbf_file.specs.Descriptors.{after_step, next_told, fields_from, told_field, if_new}
-use Rattle.dbf_file.specs.Faults.{told_header, told_fields, is_shape, is_no_end, has_fault, first_fault}
+use Rattle.dbf_file.specs.Faults.{told_header, told_fields, is_shape_fault, is_no_end, has_fault, first_fault}
 use Rattle.dbf_file.proofs.ChoiceLemmas.{chosen}
 
 -- ---- descriptors have two faults
@@ -70,8 +70,8 @@ fields_first limit bytes fault long version header within told =
     ∙ find_skip p Version (HeaderLength ∷ FieldShape ∷ NoEnd ∷ later) (ap not (eq-eqb (get_or bytes 0 0) 3 version))
     ∙ find_skip p HeaderLength (FieldShape ∷ NoEnd ∷ later) (both_false _ _ (le-ltb (told_header bytes) 65 header) (le-ltb (length bytes) (told_header bytes) within)) in
     ⊎_elim
-    (λ shape. front ∙ find_here p FieldShape (NoEnd ∷ later) (ap is_shape (told ∙ ap Err shape)) ∙ ap Some (sym shape))
-    (λ no_end. front ∙ find_skip p FieldShape (NoEnd ∷ later) (ap is_shape (told ∙ ap Err no_end)) ∙ find_here p NoEnd later (ap is_no_end (told ∙ ap Err no_end)) ∙ ap Some (sym no_end))
+    (λ shape. front ∙ find_here p FieldShape (NoEnd ∷ later) (ap is_shape_fault (told ∙ ap Err shape)) ∙ ap Some (sym shape))
+    (λ no_end. front ∙ find_skip p FieldShape (NoEnd ∷ later) (ap is_shape_fault (told ∙ ap Err no_end)) ∙ find_here p NoEnd later (ap is_no_end (told ∙ ap Err no_end)) ∙ ap Some (sym no_end))
     (fields_fault 129 [] _ fault told)
 
 -- ---- marks, record by record

@@ -5,7 +5,7 @@ use Rattle.std.proofs.lemmas.List.{length-take, get_or_append_left, append-nil}
 use Rattle.dbf_file.specs.declared.field.Field.{Field}
 use Rattle.dbf_file.specs.declared.fault.DbfFault.{DbfFault}
 use Rattle.dbf_file.specs.declared.fault.DbfFault.TheVariants.{FieldShape, NoEnd}
-use Rattle.dbf_file.specs.Fields.{is_field, is_new, go_on}
+use Rattle.dbf_file.specs.Fields.{is_field, is_new, fields_go_on}
 use Rattle.dbf_file.specs.Descriptors.{IsDescriptor, Describes, after_step, next_told, fields_from, told_field, if_new}
 use Rattle.dbf_file.proofs.ChoiceLemmas.{both_true, true_both}
 use Rattle.dbf_file.proofs.NameLemmas.{first_of_name}
@@ -24,7 +24,7 @@ pub record Told (earlier : List Field) (bytes : List ℕ) (all : List Field) : T
   pub more : List Field
   pub together : all ≡ earlier ++ more
   pub described : Describes bytes more
-  pub good : go_on earlier more ≡ true
+  pub good : fields_go_on earlier more ≡ true
   pub some : 0 < length all
   pub most : length all ≤ 128
 
@@ -82,7 +82,7 @@ next_is_field earlier (byte ∷ bytes) f room d good new =
     ∙ ap (if_new earlier) (told_again (take 32 (byte ∷ bytes)) f d good)
     ∙ ap (λ (b : Bool). cond b (Ok (Some f)) (Err FieldShape)) new
 
-pub fields_again : (fs : List Field) (n : ℕ) (earlier : List Field) (bytes : List ℕ) → Describes bytes fs → go_on earlier fs ≡ true → length fs < n → 0 < length earlier + length fs → length earlier + length fs ≤ 128 → fields_from n earlier bytes ≡ Ok (earlier ++ fs)
+pub fields_again : (fs : List Field) (n : ℕ) (earlier : List Field) (bytes : List ℕ) → Describes bytes fs → fields_go_on earlier fs ≡ true → length fs < n → 0 < length earlier + length fs → length earlier + length fs ≤ 128 → fields_from n earlier bytes ≡ Ok (earlier ++ fs)
 fields_again fs zero earlier bytes described good steps some most = absurd (omega arith)
 fields_again [] (suc n) earlier bytes (behind, there) good steps some most =
     step_end n earlier bytes (next_is_end earlier bytes behind (omega arith) there) ∙ ap Ok (sym (append-nil earlier))

@@ -8,11 +8,11 @@ use Rattle.dbf_file.specs.declared.stamp.Stamp.{Stamp}
 use Rattle.dbf_file.specs.declared.reading.Layout.{Layout}
 use Rattle.dbf_file.specs.declared.fault.DbfFault.{DbfFault}
 use Rattle.dbf_file.specs.declared.fault.DbfFault.TheVariants.{Short, Version, HeaderLength, FieldShape, NoEnd, RecordLength, TooMany, Truncated, RecordMark}
-use Rattle.dbf_file.specs.Fields.{go_on, are_fields, widths_of, size_of}
+use Rattle.dbf_file.specs.Fields.{fields_go_on, are_fields, widths_of, size_of}
 use Rattle.dbf_file.specs.Rows.{Row, rows_text, rows_in, are_marked}
 use Rattle.dbf_file.specs.Descriptors.{Describes, fields_from}
 use Rattle.dbf_file.specs.Tables.{StructureState, DbfText, row_widths}
-use Rattle.dbf_file.specs.Faults.{told_count, told_header, told_size, told_fields, fields_in, true_size, is_shape, is_no_end, has_fault, first_fault}
+use Rattle.dbf_file.specs.Faults.{told_count, told_header, told_size, told_fields, fields_in, true_size, is_shape_fault, is_no_end, has_fault, first_fault}
 use Rattle.dbf_file.specs.Kept.{IsKept}
 use Rattle.dbf_file.specs.Layouts.{IsLayout, structure_told, rows_told}
 use Rattle.dbf_file.proofs.ChoiceLemmas.{both_true, true_both}
@@ -27,7 +27,7 @@ use Rattle.dbf_file.proofs.FaultLemmas.{find_skip, both_false, told_from}
 pub record GoodFields (fields : List Field) : Type 0 where
   pub some : 1 ≤ length fields
   pub most : length fields ≤ 128
-  pub good : go_on [] fields ≡ true
+  pub good : fields_go_on [] fields ≡ true
   pub small : size_of (widths_of fields) ≤ 4000
 
 pub good_fields : (fields : List Field) → are_fields fields ≡ true → GoodFields fields
@@ -113,7 +113,7 @@ no_fault limit structure rows bytes parts limited =
     find_skip p Short (Version ∷ g) (le-ltb (length bytes) 65 (omega (arith, parts.long)))
     ∙ find_skip p Version g (eq-parts _ 3 parts.version)
     ∙ find_skip p HeaderLength f (both_false _ _ (le-ltb (told_header bytes) 65 parts.long) (le-ltb (length bytes) (told_header bytes) long))
-    ∙ find_skip p FieldShape e (ap is_shape parts.fields)
+    ∙ find_skip p FieldShape e (ap is_shape_fault parts.fields)
     ∙ find_skip p NoEnd d (ap is_no_end parts.fields)
     ∙ find_skip p RecordLength c (both_false _ _ (eq-parts _ _ (parts.size ∙ sym size)) (le-ltb 4000 (true_size bytes) (subst (λ n. n ≤ 4000) (sym size) parts.small)))
     ∙ find_skip p TooMany b (le-ltb limit (told_count bytes) (subst (λ n. n ≤ limit) (sym parts.count) limited))
@@ -138,7 +138,7 @@ text_of bytes layout is =
     let body : drop 20 head ≡ slice_range bytes 32 h =
     ap (λ n. drop 20 (take n (drop 12 bytes))) split ∙ drop-take 20 (h - 32) (drop 12 bytes) ∙ ap (take (h - 32)) (drop-drop 20 12 bytes) in
     let described : Describes (drop 20 head) fields = subst (λ (xs : List ℕ). Describes xs fields) (sym body) (subst (Describes (slice_range bytes 32 h)) (sym same) told.described) in
-    let good : go_on [] fields ≡ true = ap (go_on []) same ∙ told.good in
+    let good : fields_go_on [] fields ≡ true = ap (fields_go_on []) same ∙ told.good in
     let small : size_of ws ≤ 4000 = subst (λ n. n ≤ 4000) (sym is.size) is.small in
     let records : List ℕ = drop h bytes in
     let behind = length-drop h bytes in

@@ -5,10 +5,10 @@ use Rattle.std.proofs.lemmas.Nat.{le-div}
 use Rattle.std.proofs.lemmas.List.{length-map, get_or_read, length-take-le, length-replicate, append-nil, drop_all, take_all}
 use Rattle.dbf_file.specs.declared.field.Field.{Field}
 use Rattle.dbf_file.specs.Fields.{widths_of, size_of}
-use Rattle.dbf_file.specs.Rows.{Row, mark_byte, rows_text, rows_in, mark_at, text_at, with_text, with_mark, blank_row}
+use Rattle.dbf_file.specs.Rows.{Row, mark_byte, rows_text, rows_in, is_marked_at, text_at, with_text, with_mark, blank_row}
 use Rattle.dbf_file.specs.Tables.{StructureState, TableState, IsStructure, AreRows, row_widths}
 use Rattle.dbf_file.specs.Kept.{IsKept}
-use Rattle.dbf_file.specs.Lending.{place_of, put_over, put_within, rows_left}
+use Rattle.dbf_file.specs.Lending.{place_of_field, put_over, put_within, rows_left}
 use Rattle.dbf_file.proofs.PlaceLemmas.{total_before}
 use Rattle.dbf_file.proofs.RowLemmas.{length-rows_in, text_is, mark_is}
 use Rattle.dbf_file.proofs.ChangeLemmas.{rows_put, rows_marked, rows_more, blank_is}
@@ -83,13 +83,13 @@ room_less size len before after some more =
 pub row_below : (t : TableState) (ws xs : List ℕ) (n r : ℕ) → rows_in ws n xs ≡ t.rows → r < length t.rows → r < n
 row_below t ws xs n r same below = let count = length-rows_in ws n xs in omega (arith, ap length same)
 
-pub field_within : (ws : List ℕ) (n r f : ℕ) → r < n → f < length ws → place_of ws r f + get_or ws f 0 ≤ n * size_of ws
+pub field_within : (ws : List ℕ) (n r f : ℕ) → r < n → f < length ws → place_of_field ws r f + get_or ws f 0 ≤ n * size_of ws
 field_within ws n r f row field =
     let before = total_before f ws field in
     let rows : (r + 1) * size_of ws ≤ n * size_of ws = mul-le-mul_right (size_of ws) (let next : r + 1 ≤ n = omega arith in next) in
     omega arith
 
-pub field_text : (ws xs : List ℕ) (n r f start end : ℕ) → start ≡ place_of ws r f → end ≡ start + get_or ws f 0 → r < n → f < length ws → take (end - start) (drop start xs) ≡ text_at (rows_in ws n xs) r f
+pub field_text : (ws xs : List ℕ) (n r f start end : ℕ) → start ≡ place_of_field ws r f → end ≡ start + get_or ws f 0 → r < n → f < length ws → take (end - start) (drop start xs) ≡ text_at (rows_in ws n xs) r f
 field_text ws xs n r f start end at until row field =
     let long : end - start ≡ get_or ws f 0 = omega arith in
     ap (λ k. take k (drop start xs)) long ∙ ap (λ k. take (get_or ws f 0) (drop k xs)) at ∙ sym (text_is ws n r f xs row field)
@@ -109,27 +109,27 @@ left_items place len text xs whole within =
     ap (λ (back : List ℕ). take len (put_over place text xs ++ back)) nothing ∙ ap (take len) (append-nil (put_over place text xs)) ∙ ap (λ k. take k (put_over place text xs)) (sym whole)
 
 left_by : (ws : List ℕ) (n r f : ℕ) (text xs : List ℕ) (fits : Bool) → length text == get_or ws f 0 ≡ fits → r < n → f < length ws → length xs ≡ n * size_of ws →
-    rows_in ws n (put_within (place_of ws r f) text xs)
-    ≡ cond fits (with_text (rows_in ws n xs) r f text) (rows_in ws (length (rows_in ws n xs)) (put_within (place_of ws r f) text (rows_text (rows_in ws n xs))))
+    rows_in ws n (put_within (place_of_field ws r f) text xs)
+    ≡ cond fits (with_text (rows_in ws n xs) r f text) (rows_in ws (length (rows_in ws n xs)) (put_within (place_of_field ws r f) text (rows_text (rows_in ws n xs))))
 left_by ws n r f text xs true fits row field whole =
     let same : length text ≡ get_or ws f 0 = eqb-true (length text) (get_or ws f 0) fits in
     let within = field_within ws n r f row field in
-    let front = length-take-le (place_of ws r f) xs (omega arith) in
-    let behind = length-append text (drop (length text) (drop (place_of ws r f) xs)) in
-    let all = length-append (take (place_of ws r f) xs) (text ++ drop (length text) (drop (place_of ws r f) xs)) in
-    let rest = length-drop (place_of ws r f) xs in
-    let less = length-drop (length text) (drop (place_of ws r f) xs) in
-    ap (rows_in ws n) (take_all (length xs) (put_over (place_of ws r f) text xs) (omega arith)) ∙ rows_put ws n r f text xs row field same (omega arith)
+    let front = length-take-le (place_of_field ws r f) xs (omega arith) in
+    let behind = length-append text (drop (length text) (drop (place_of_field ws r f) xs)) in
+    let all = length-append (take (place_of_field ws r f) xs) (text ++ drop (length text) (drop (place_of_field ws r f) xs)) in
+    let rest = length-drop (place_of_field ws r f) xs in
+    let less = length-drop (length text) (drop (place_of_field ws r f) xs) in
+    ap (rows_in ws n) (take_all (length xs) (put_over (place_of_field ws r f) text xs) (omega arith)) ∙ rows_put ws n r f text xs row field same (omega arith)
 left_by ws n r f text xs false other row field whole =
     let within = field_within ws n r f row field in
-    let place : place_of ws r f ≤ length xs = omega arith in
-    let alike = alike_put (size_of ws) (place_of ws r f) text xs (rows_text (rows_in ws n xs)) place (alike_text ws n xs whole) in
-    let long = length-put (place_of ws r f) text xs place in
-    alike_rows ws n (put_within (place_of ws r f) text xs) (put_within (place_of ws r f) text (rows_text (rows_in ws n xs))) alike (omega arith)
-    ∙ ap (λ k. rows_in ws k (put_within (place_of ws r f) text (rows_text (rows_in ws n xs)))) (sym (length-rows_in ws n xs))
+    let place : place_of_field ws r f ≤ length xs = omega arith in
+    let alike = alike_put (size_of ws) (place_of_field ws r f) text xs (rows_text (rows_in ws n xs)) place (alike_text ws n xs whole) in
+    let long = length-put (place_of_field ws r f) text xs place in
+    alike_rows ws n (put_within (place_of_field ws r f) text xs) (put_within (place_of_field ws r f) text (rows_text (rows_in ws n xs))) alike (omega arith)
+    ∙ ap (λ k. rows_in ws k (put_within (place_of_field ws r f) text (rows_text (rows_in ws n xs)))) (sym (length-rows_in ws n xs))
 
 pub left_is : (ws : List ℕ) (n r f : ℕ) (text xs : List ℕ) → r < n → f < length ws → length xs ≡ n * size_of ws →
-    rows_in ws n (put_within (place_of ws r f) text xs) ≡ rows_left ws (rows_in ws n xs) r f text
+    rows_in ws n (put_within (place_of_field ws r f) text xs) ≡ rows_left ws (rows_in ws n xs) r f text
 unfolding rows_left
 left_is ws n r f text xs row field whole = left_by ws n r f text xs (length text == get_or ws f 0) refl row field whole
 
@@ -138,16 +138,16 @@ left_is ws n r f text xs row field whole = left_by ws n r f text xs (length text
 pub field_below : (s : StructureState) (f : ℕ) → f < length s.fields → f < length (row_widths s)
 field_below s f below = let same : length (row_widths s) ≡ length s.fields = length-map s.fields (λ f. f.width) in omega arith
 
-pub span_within : (s : StructureState) (fields : List Field) (size n r f start width : ℕ) → fields ≡ s.fields → start ≡ place_of (widths_of fields) r f → width ≡ get_or (widths_of fields) f 0 →
+pub span_within : (s : StructureState) (fields : List Field) (size n r f start width : ℕ) → fields ≡ s.fields → start ≡ place_of_field (widths_of fields) r f → width ≡ get_or (widths_of fields) f 0 →
     size ≡ size_of (row_widths s) → r < n → f < length s.fields → start + width ≤ n * size
 span_within s fields size n r f start width same at wide right row field =
     let within = field_within (row_widths s) n r f row (field_below s f field) in
-    let a : start ≡ place_of (row_widths s) r f = at ∙ ap (λ (fs : List Field). place_of (widths_of fs) r f) same in
+    let a : start ≡ place_of_field (row_widths s) r f = at ∙ ap (λ (fs : List Field). place_of_field (widths_of fs) r f) same in
     let b : width ≡ get_or (row_widths s) f 0 = wide ∙ ap (λ (fs : List Field). get_or (widths_of fs) f 0) same in
     let c : n * size ≡ n * size_of (row_widths s) = ap (λ k. n * k) right in
     omega arith
 
-pub mark_read : (s : StructureState) (size n r place b : ℕ) (xs : List ℕ) → IsKept s size n xs → r < n → place ≡ r * size → place + size ≤ n * size → b ≡ get_or xs place b → b == 42 ≡ mark_at (rows_in (row_widths s) n xs) r
+pub mark_read : (s : StructureState) (size n r place b : ℕ) (xs : List ℕ) → IsKept s size n xs → r < n → place ≡ r * size → place + size ≤ n * size → b ≡ get_or xs place b → b == 42 ≡ is_marked_at (rows_in (row_widths s) n xs) r
 mark_read s size n r place b xs kept row at within read =
     let some = (small_size s size kept.good kept.right_size).0 in
     let byte : b ≡ get_or xs place 0 = get_or_read xs place b (omega (arith, kept.whole)) read 0 in
@@ -168,7 +168,7 @@ marked_state t s size n r place spare byte marked xs kept row at is view =
 abbrev pub state : StructureState → List Row → ℕ → TableState
 state s rows spare = record { structure = s; rows = rows; spare = spare }
 
-pub left_state : (t : TableState) (s : StructureState) (size n r f start len spare : ℕ) (text xs : List ℕ) → IsKept s size n xs → r < n → f < length s.fields → start ≡ place_of (row_widths s) r f → length xs ≡ len →
+pub left_state : (t : TableState) (s : StructureState) (size n r f start len spare : ℕ) (text xs : List ℕ) → IsKept s size n xs → r < n → f < length s.fields → start ≡ place_of_field (row_widths s) r f → length xs ≡ len →
     record { structure = s; rows = rows_in (row_widths s) n xs; spare = spare } ≡ t →
     state s (rows_in (row_widths s) n (take len (put_over start text xs ++ drop (length (put_over start text xs)) xs))) spare
     ≡ state t.structure (rows_left (row_widths t.structure) t.rows r f text) t.spare

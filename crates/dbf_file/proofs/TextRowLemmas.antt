@@ -5,7 +5,7 @@ use Rattle.std.proofs.Math.Seq.{take-add}
 use Rattle.std.proofs.lemmas.List.{take_at, drop_at, length-take-le}
 use Rattle.std.proofs.lemmas.List.Concat.{flat_map-cons, concat_is}
 use Rattle.dbf_file.specs.Fields.{total, size_of}
-use Rattle.dbf_file.specs.Rows.{Row, HasWidths, mark_byte, row_text, rows_text, texts_in, row_in, rows_in, is_mark, are_marked}
+use Rattle.dbf_file.specs.Rows.{Row, HasWidths, mark_byte, row_text, rows_text, texts_cut, row_in, rows_in, is_mark, are_marked}
 use Rattle.dbf_file.proofs.ChoiceLemmas.{both_true, true_both}
 
 -- ---- rows cut out of bytes are written as those
@@ -13,11 +13,11 @@ use Rattle.dbf_file.proofs.ChoiceLemmas.{both_true, true_both}
 concat-cons : (x : List ℕ) (xs : List (List ℕ)) → concat (x ∷ xs) ≡ x ++ concat xs
 concat-cons x xs = concat_is (x ∷ xs) ∙ flat_map-cons (λ y. y) x xs ∙ ap (λ (rest : List ℕ). x ++ rest) (sym (concat_is xs))
 
-pub texts_back : (ws bytes : List ℕ) → concat (texts_in ws bytes) ≡ take (total ws) bytes
-unfolding texts_in
+pub texts_back : (ws bytes : List ℕ) → concat (texts_cut ws bytes) ≡ take (total ws) bytes
+unfolding texts_cut
 texts_back [] bytes = refl
 texts_back (w ∷ ws) bytes =
-    concat-cons (take w bytes) (texts_in ws (drop w bytes)) ∙ ap (λ (rest : List ℕ). take w bytes ++ rest) (texts_back ws (drop w bytes)) ∙ sym (take-add w (total ws) bytes)
+    concat-cons (take w bytes) (texts_cut ws (drop w bytes)) ∙ ap (λ (rest : List ℕ). take w bytes ++ rest) (texts_back ws (drop w bytes)) ∙ sym (take-add w (total ws) bytes)
 
 mark_by : (b : ℕ) (x y : Bool) → b == 32 ≡ x → b == 42 ≡ y → x || y ≡ true → cond y 42 32 ≡ b
 mark_by b x true d e marked = sym (eqb-true b 42 e)
@@ -32,7 +32,7 @@ unfolding row_text row_in
 row_back ws [] marked within = absurd (omega arith)
 row_back ws (b ∷ bytes) marked within =
     let one : size_of ws ≡ suc (total ws) = omega arith in
-    ap (λ (m : ℕ). m ∷ concat (texts_in ws bytes)) (mark_back b marked) ∙ ap (λ (rest : List ℕ). b ∷ rest) (texts_back ws bytes) ∙ ap (λ n. take n (b ∷ bytes)) (sym one)
+    ap (λ (m : ℕ). m ∷ concat (texts_cut ws bytes)) (mark_back b marked) ∙ ap (λ (rest : List ℕ). b ∷ rest) (texts_back ws bytes) ∙ ap (λ n. take n (b ∷ bytes)) (sym one)
 
 pub rows_back : (ws : List ℕ) (n : ℕ) (bytes : List ℕ) → are_marked (size_of ws) n bytes ≡ true → n * size_of ws ≤ length bytes → rows_text (rows_in ws n bytes) ≡ take (n * size_of ws) bytes
 unfolding rows_text rows_in are_marked
@@ -47,8 +47,8 @@ rows_back ws (suc n) bytes marks within =
 
 -- ---- rows that are written are cut out again
 
-texts_again : (ws : List ℕ) (texts : List (List ℕ)) (rest : List ℕ) → map length texts ≡ ws → texts_in ws (concat texts ++ rest) ≡ texts
-unfolding texts_in
+texts_again : (ws : List ℕ) (texts : List (List ℕ)) (rest : List ℕ) → map length texts ≡ ws → texts_cut ws (concat texts ++ rest) ≡ texts
+unfolding texts_cut
 texts_again [] [] rest fit = refl
 texts_again [] (t ∷ texts) rest fit = cc
 texts_again (w ∷ ws) [] rest fit = cc
@@ -56,9 +56,9 @@ texts_again (w ∷ ws) (t ∷ texts) rest fit =
     let first : length t ≡ w = cc in
     let others : map length texts ≡ ws = cc in
     let split : concat (t ∷ texts) ++ rest ≡ t ++ (concat texts ++ rest) = ap (λ (front : List ℕ). front ++ rest) (concat-cons t texts) ∙ append_assoc t (concat texts) rest in
-    ap (λ (bytes : List ℕ). take w bytes ∷ texts_in ws (drop w bytes)) split
-    ∙ ap (λ (one : List ℕ). one ∷ texts_in ws (drop w (t ++ (concat texts ++ rest)))) (take_at t (concat texts ++ rest) w first)
-    ∙ ap (λ (bytes : List ℕ). t ∷ texts_in ws bytes) (drop_at t (concat texts ++ rest) w first)
+    ap (λ (bytes : List ℕ). take w bytes ∷ texts_cut ws (drop w bytes)) split
+    ∙ ap (λ (one : List ℕ). one ∷ texts_cut ws (drop w (t ++ (concat texts ++ rest)))) (take_at t (concat texts ++ rest) w first)
+    ∙ ap (λ (bytes : List ℕ). t ∷ texts_cut ws bytes) (drop_at t (concat texts ++ rest) w first)
     ∙ ap (λ (all : List (List ℕ)). t ∷ all) (texts_again ws texts rest others)
 
 length_texts : (ws : List ℕ) (texts : List (List ℕ)) → map length texts ≡ ws → length (concat texts) ≡ total ws
@@ -82,7 +82,7 @@ is_mark_byte false = refl
 row_again : (ws : List ℕ) (row : Row) (rest : List ℕ) → HasWidths ws row → row_in ws (row_text row ++ rest) ≡ row
 unfolding row_in row_text
 row_again ws row rest fits =
-    ap (λ (m : Bool). record { marked = m; texts = texts_in ws (concat row.texts ++ rest) }) (marked_again row.marked)
+    ap (λ (m : Bool). record { marked = m; texts = texts_cut ws (concat row.texts ++ rest) }) (marked_again row.marked)
     ∙ ap (λ (texts : List (List ℕ)). record { marked = row.marked; texts = texts }) (texts_again ws row.texts rest fits)
 
 pub length-row_text : (ws : List ℕ) (row : Row) → HasWidths ws row → length (row_text row) ≡ size_of ws
@@ -123,12 +123,12 @@ rows_again ws (row ∷ rows) rest each =
 
 -- ---- rows that are cut out have the widths
 
-texts_have_widths : (ws bytes : List ℕ) → total ws ≤ length bytes → map length (texts_in ws bytes) ≡ ws
-unfolding texts_in
+texts_have_widths : (ws bytes : List ℕ) → total ws ≤ length bytes → map length (texts_cut ws bytes) ≡ ws
+unfolding texts_cut
 texts_have_widths [] bytes within = refl
 texts_have_widths (w ∷ ws) bytes within =
     let less = length-drop w bytes in
-    ap (λ n. n ∷ map length (texts_in ws (drop w bytes))) (length-take-le w bytes (omega arith)) ∙ ap (λ (ns : List ℕ). w ∷ ns) (texts_have_widths ws (drop w bytes) (omega arith))
+    ap (λ n. n ∷ map length (texts_cut ws (drop w bytes))) (length-take-le w bytes (omega arith)) ∙ ap (λ (ns : List ℕ). w ∷ ns) (texts_have_widths ws (drop w bytes) (omega arith))
 
 pub row_has_widths : (ws bytes : List ℕ) → size_of ws ≤ length bytes → HasWidths ws (row_in ws bytes)
 unfolding row_in

@@ -16,10 +16,10 @@ use Rattle.calendar.specs.Calendar.{day_at, is_day, day_or_blank, month_length}
 use Rattle.dbf_file.specs.declared.field.Letter.{Letter}
 use Rattle.dbf_file.specs.declared.field.Letter.TheVariants.{C, N, D, L}
 use Rattle.dbf_file.specs.declared.field.Field.{Field}
-use Rattle.dbf_file.specs.Fields.{has_shape, is_field, go_on, are_fields}
+use Rattle.dbf_file.specs.Fields.{has_shape, is_field, fields_go_on, are_fields}
 use Rattle.dbf_file.specs.Rows.{Row, rows_in, rows_text, with_text}
-use Rattle.dbf_file.specs.Lending.{place_of, put_within, rows_left}
-use Rattle.dbf_file.specs.Values.{kind_for, is_blank, is_yes, number_in, day_in, value_by, value_of, fitted_text, day_text, logical_text, text_by, text_for, HasRoom, FitsField, kept_of}
+use Rattle.dbf_file.specs.Lending.{place_of_field, put_within, rows_left}
+use Rattle.dbf_file.specs.Values.{kind_for, is_all_blanks, is_yes, number_in, day_in, value_by, value_of, fitted_text, stored_day, logical_text, text_by, text_for, FitsWidth, FitsField, kept_of}
 use Rattle.dbf_file.specs.Tables.{TableState, row_widths}
 use Rattle.dbf_file.proofs.TableLemmas.{state}
 use Rattle.dbf_file.proofs.ChoiceLemmas.{both_true, true_both}
@@ -27,7 +27,7 @@ use Rattle.dbf_file.proofs.FileLemmas.{good_fields}
 
 -- ---- laws on fields and rows
 
-each_good : (fields earlier : List Field) → go_on earlier fields ≡ true → AllByRecursion (λ f. is_field f ≡ true) fields
+each_good : (fields earlier : List Field) → fields_go_on earlier fields ≡ true → AllByRecursion (λ f. is_field f ≡ true) fields
 each_good [] earlier good = tt
 each_good (f ∷ fs) earlier good = let parts = both_true _ _ good in ((both_true _ _ parts.0).0, each_good fs (earlier ++ f ∷ []) parts.1)
 
@@ -36,7 +36,7 @@ fields_are_good fields are = each_good fields [] (good_fields fields are).good
 
 pub texts_are_left : (widths : List ℕ) (rows : List Row) (r f : ℕ) (text : List ℕ) → length text ≡ get_or widths f 0 → rows_left widths rows r f text ≡ with_text rows r f text
 unfolding rows_left
-texts_are_left widths rows r f text fits = ap (λ (b : Bool). cond b (with_text rows r f text) (rows_in widths (length rows) (put_within (place_of widths r f) text (rows_text rows)))) (eq-eqb (length text) (get_or widths f 0) fits)
+texts_are_left widths rows r f text fits = ap (λ (b : Bool). cond b (with_text rows r f text) (rows_in widths (length rows) (put_within (place_of_field widths r f) text (rows_text rows)))) (eq-eqb (length text) (get_or widths f 0) fits)
 
 -- ---- numbers
 
@@ -47,29 +47,29 @@ blanks_off (suc n) text = blanks_off n text
 read_right : (n : ℕ) (text : List ℕ) → parsed (replicate n 32 ++ text) ≡ parsed text
 read_right n text = ap (λ (cs : List ℕ). signed_read (reverse (without_blanks (reverse cs)))) (blanks_off n text)
 
-blank_behind : (n : ℕ) (text : List ℕ) → is_blank (replicate n 32 ++ text) ≡ is_blank text
+blank_behind : (n : ℕ) (text : List ℕ) → is_all_blanks (replicate n 32 ++ text) ≡ is_all_blanks text
 blank_behind zero text = refl
 blank_behind (suc n) text = blank_behind n text
 
-only_blanks : (text : List ℕ) → is_blank text ≡ true → without_blanks text ≡ []
+only_blanks : (text : List ℕ) → is_all_blanks text ≡ true → without_blanks text ≡ []
 only_blanks [] blank = refl
 only_blanks (c ∷ cs) blank =
-    let parts = both_true (c == 32) (is_blank cs) blank in
+    let parts = both_true (c == 32) (is_all_blanks cs) blank in
     ap (λ (b : Bool). cond b (without_blanks cs) (c ∷ cs)) parts.0 ∙ only_blanks cs parts.1
 
-blank_is_zero : (text : List ℕ) → is_blank text ≡ true → parsed text ≡ finite (pos 0) 0
+blank_is_zero : (text : List ℕ) → is_all_blanks text ≡ true → parsed text ≡ finite (pos 0) 0
 blank_is_zero text blank = ap (λ (cs : List ℕ). signed_read (reverse (without_blanks (reverse cs)))) (only_blanks text blank)
 
-zero_text : is_blank (text_of (finite (pos 0) 0)) ≡ false
+zero_text : is_all_blanks (text_of (finite (pos 0) 0)) ≡ false
 unfolding whole_digits
 zero_text = refl
 
 -- no number's text is blank
-never_blank : (x : Decimal) (b : Bool) → parsed (text_of x) ≡ x → is_blank (text_of x) ≡ b → b ≡ false
+never_blank : (x : Decimal) (b : Bool) → parsed (text_of x) ≡ x → is_all_blanks (text_of x) ≡ b → b ≡ false
 never_blank x false back e = refl
 never_blank x true back e =
     let none : x ≡ finite (pos 0) 0 = sym back ∙ blank_is_zero (text_of x) e in
-    let clash : true ≡ false = sym e ∙ ap (λ y. is_blank (text_of y)) none ∙ zero_text in
+    let clash : true ≡ false = sym e ∙ ap (λ y. is_all_blanks (text_of y)) none ∙ zero_text in
     clash
 
 number_back : (width decimals : ℕ) (x : Decimal) → parsed (text_of x) ≡ x → length (text_of x) ≤ width → number_in decimals (at_right width (text_of x)) ≡ x
@@ -78,10 +78,10 @@ number_back width decimals x back room =
     let field : List ℕ = replicate (width - length text) 32 ++ text in
     let stands : at_right width text ≡ field = ap (λ (b : Bool). cond b field (replicate width 42)) (le-leb (length text) width room) in
     ap (number_in decimals) stands
-    ∙ ap (λ (b : Bool). cond b (finite (pos 0) (min decimals 15)) (parsed field)) (blank_behind (width - length text) text ∙ never_blank x (is_blank text) back refl)
+    ∙ ap (λ (b : Bool). cond b (finite (pos 0) (min decimals 15)) (parsed field)) (blank_behind (width - length text) text ∙ never_blank x (is_all_blanks text) back refl)
     ∙ read_right (width - length text) text ∙ back
 
-number_kept : (width decimals : ℕ) (x : Decimal) → ((m : ℤ) (d : ℕ) → IsInRange (finite m d) → parsed (text_of (finite m d)) ≡ finite m d) → IsInRange x → HasRoom width x → number_in decimals (in_field width x) ≡ x
+number_kept : (width decimals : ℕ) (x : Decimal) → ((m : ℤ) (d : ℕ) → IsInRange (finite m d) → parsed (text_of (finite m d)) ≡ finite m d) → IsInRange x → FitsWidth width x → number_in decimals (in_field width x) ≡ x
 number_kept width decimals asterisk reads good room = absurd room
 number_kept width decimals (finite m d) reads good room = number_back width decimals (finite m d) (reads m d good) room
 
@@ -106,14 +106,14 @@ day_good : (parts : DayParts) → IsDay parts → is_day parts ≡ true
 day_good parts is = true_both _ _ (true_both _ _ (le-leb 1 _ is.year.0) (le-leb _ 9999 is.year.1))
     (true_both _ _ (true_both _ _ (le-leb 1 _ is.month.0) (le-leb _ 12 is.month.1)) (true_both _ _ (le-leb 1 _ is.day.0) (le-leb parts.day (month_length parts) is.day.1)))
 
-pub day_back : (day : Option DayParts) → HasDay day → day_in (day_text day) ≡ day
+pub day_back : (day : Option DayParts) → HasDay day → day_in (stored_day day) ≡ day
 day_back None is = refl
 day_back (Some parts) is =
     let y : ℕ = parts.year in
     let m : ℕ = parts.month in
     let d : ℕ = parts.day in
     let short : month_length parts ≤ 31 = short_month _ _ _ in
-    let digits : are_digits (day_text (Some parts)) ≡ true =
+    let digits : are_digits (stored_day (Some parts)) ≡ true =
     true_both _ _ (digit_is (y / 1000 % 10) (omega arith)) (true_both _ _ (digit_is (y / 100 % 10) (omega arith)) (true_both _ _ (digit_is (y / 10 % 10) (omega arith)) (true_both _ _ (digit_is (y / 1 % 10) (omega arith))
     (true_both _ _ (digit_is (m / 10 % 10) (omega arith)) (true_both _ _ (digit_is (m / 1 % 10) (omega arith)) (true_both _ _ (digit_is (d / 10 % 10) (omega arith)) (true_both _ _ (digit_is (d / 1 % 10) (omega arith)) refl))))))) in
     let read : ℕ → ℕ → ℕ → Option DayParts = λ a b c. day_or_blank (day_at a b c) in
@@ -127,7 +127,7 @@ length-fitted : (width : ℕ) (text : List ℕ) → length (fitted_text width te
 length-fitted width text = length-append (take width text) (replicate (width - length text) 32) ∙ omega (arith, length-take width text, length-replicate {A = ℕ} (width - length text) 32)
 
 -- a day fills eight bytes
-whole_day : (day : Option DayParts) → fitted_text 8 (day_text day) ≡ day_text day
+whole_day : (day : Option DayParts) → fitted_text 8 (stored_day day) ≡ stored_day day
 whole_day None = refl
 whole_day (Some parts) = refl
 
@@ -145,7 +145,7 @@ value_back law f (Text text) D same kind fits = cc
 value_back law f (Text text) L same kind fits = cc
 value_back law f (Date day) C same kind fits = cc
 value_back law f (Date day) N same kind fits = cc
-value_back law f (Date day) D same kind fits = ap Date (ap day_in (ap (λ w. fitted_text w (day_text day)) fits.1 ∙ whole_day day) ∙ day_back day fits.0)
+value_back law f (Date day) D same kind fits = ap Date (ap day_in (ap (λ w. fitted_text w (stored_day day)) fits.1 ∙ whole_day day) ∙ day_back day fits.0)
 value_back law f (Date day) L same kind fits = cc
 value_back law f (Logical truth) C same kind fits = cc
 value_back law f (Logical truth) N same kind fits = cc

@@ -99,5 +99,5 @@ abbrev pub descriptors_text : List Field → List ℕ
 descriptors_text fields = flat_map descriptor_text fields
 
 -- 20 bytes 0, the descriptors, and a byte 13
-unfoldable pub head_text : List Field → List ℕ
-head_text fields = (replicate 20 0 ++ descriptors_text fields) ++ 13 ∷ []
+unfoldable pub field_head_text : List Field → List ℕ
+field_head_text fields = (replicate 20 0 ++ descriptors_text fields) ++ 13 ∷ []

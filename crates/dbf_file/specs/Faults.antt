@@ -29,9 +29,9 @@ fields_in (Ok fields) = fields
 fields_in (Err fault) = []
 
 -- the fault that the descriptors have first
-abbrev pub is_shape : Result (List Field) DbfFault → Bool
-is_shape (Err FieldShape) = true
-is_shape _ = false
+abbrev pub is_shape_fault : Result (List Field) DbfFault → Bool
+is_shape_fault (Err FieldShape) = true
+is_shape_fault _ = false
 
 abbrev pub is_no_end : Result (List Field) DbfFault → Bool
 is_no_end (Err NoEnd) = true
@@ -46,7 +46,7 @@ abbrev pub has_fault : ℕ → List ℕ → DbfFault → Bool
 has_fault limit bytes Short = nat_lt (length bytes) 65
 has_fault limit bytes Version = not (slice_index bytes 0 == 3)
 has_fault limit bytes HeaderLength = nat_lt (told_header bytes) 65 || nat_lt (length bytes) (told_header bytes)
-has_fault limit bytes FieldShape = is_shape (told_fields bytes)
+has_fault limit bytes FieldShape = is_shape_fault (told_fields bytes)
 has_fault limit bytes NoEnd = is_no_end (told_fields bytes)
 has_fault limit bytes RecordLength = not (told_size bytes == true_size bytes) || nat_lt 4000 (true_size bytes)
 has_fault limit bytes TooMany = nat_lt limit (told_count bytes)

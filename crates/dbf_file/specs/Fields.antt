@@ -36,9 +36,9 @@ unfoldable pub is_new : List Field → Field → Bool
 is_new earlier f = not (list_any (λ g. same_name g.name.items f.name.items) earlier)
 
 -- each is a field, and has another name than those before it
-abbrev pub go_on : List Field → List Field → Bool
-go_on earlier [] = true
-go_on earlier (f ∷ fs) = (is_field f && is_new earlier f) && go_on (earlier ++ f ∷ []) fs
+abbrev pub fields_go_on : List Field → List Field → Bool
+fields_go_on earlier [] = true
+fields_go_on earlier (f ∷ fs) = (is_field f && is_new earlier f) && fields_go_on (earlier ++ f ∷ []) fs
 
 abbrev pub widths_of : List Field → List ℕ
 widths_of fields = map (λ f. f.width) fields
@@ -54,5 +54,5 @@ size_of widths = 1 + total widths
 
 -- the fields of a table: 1 to 128, each a field, with different names, and a record of at most 4000 bytes
 unfoldable pub are_fields : List Field → Bool
-are_fields fields = nat_le 1 (length fields) && nat_le (length fields) 128 && go_on [] fields
+are_fields fields = nat_le 1 (length fields) && nat_le (length fields) 128 && fields_go_on [] fields
     && nat_le (size_of (widths_of fields)) 4000

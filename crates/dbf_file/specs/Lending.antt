@@ -7,8 +7,8 @@ use Rattle.dbf_file.specs.Tables.{TableState, row_widths}
 use Rattle.dbf_file.specs.contracts.table.Table.{the_row}
 
 -- where field f of row r begins
-abbrev pub place_of : List ℕ → ℕ → ℕ → ℕ
-place_of widths r f = r * size_of widths + 1 + total (take f widths)
+abbrev pub place_of_field : List ℕ → ℕ → ℕ → ℕ
+place_of_field widths r f = r * size_of widths + 1 + total (take f widths)
 
 -- bytes put over others from a place on
 abbrev pub put_over : ℕ → List ℕ → List ℕ → List ℕ
@@ -23,7 +23,7 @@ put_within place text bytes = take (length bytes) (put_over place text bytes)
 unfoldable pub rows_left : List ℕ → List Row → ℕ → ℕ → List ℕ → List Row
 rows_left widths rows r f text =
     if length text == slice_index widths f then with_text rows r f text
-    else rows_in widths (length rows) (put_within (place_of widths r f) text (rows_text rows))
+    else rows_in widths (length rows) (put_within (place_of_field widths r f) text (rows_text rows))
 
 -- The table ends with the last text behind the result in field f of row r, and otherwise as it was.
 abbrev pub LendsText : MutBor TableState → ℕ → ℕ → MutBor (List ℕ) → Fml

@@ -28,13 +28,13 @@ unfoldable pub rows_text : List Row → List ℕ
 rows_text rows = flat_map row_text rows
 
 -- bytes cut into texts of these widths
-unfoldable pub texts_in : List ℕ → List ℕ → List (List ℕ)
-texts_in [] bytes = []
-texts_in (width ∷ widths) bytes = take width bytes ∷ texts_in widths (drop width bytes)
+unfoldable pub texts_cut : List ℕ → List ℕ → List (List ℕ)
+texts_cut [] bytes = []
+texts_cut (width ∷ widths) bytes = take width bytes ∷ texts_cut widths (drop width bytes)
 
 -- the row at the front of the bytes
 unfoldable pub row_in : List ℕ → List ℕ → Row
-row_in widths bytes = record { marked = slice_index bytes 0 == 42; texts = texts_in widths (drop 1 bytes) }
+row_in widths bytes = record { marked = slice_index bytes 0 == 42; texts = texts_cut widths (drop 1 bytes) }
 
 -- so many rows, one behind the other
 unfoldable pub rows_in : List ℕ → ℕ → List ℕ → List Row
@@ -58,8 +58,8 @@ abbrev pub row_at : List Row → ℕ → Row
 row_at rows r = slice_index_or rows r no_row
 
 -- the mark of row r
-abbrev pub mark_at : List Row → ℕ → Bool
-mark_at rows r = (row_at rows r).marked
+abbrev pub is_marked_at : List Row → ℕ → Bool
+is_marked_at rows r = (row_at rows r).marked
 
 -- the text of field f in row r
 abbrev pub text_at : List Row → ℕ → ℕ → List ℕ

@@ -8,7 +8,7 @@ use Rattle.dbf_file.specs.declared.field.Field.{Field}
 use Rattle.dbf_file.specs.declared.stamp.Stamp.{Stamp}
 use Rattle.dbf_file.specs.Numbers.{number_at, number_text}
 use Rattle.dbf_file.specs.Fields.{are_fields, widths_of, size_of}
-use Rattle.dbf_file.specs.Descriptors.{Describes, head_text}
+use Rattle.dbf_file.specs.Descriptors.{Describes, field_head_text}
 use Rattle.dbf_file.specs.Rows.{Row, HasWidths, rows_text}
 
 -- The fields, and the header's bytes from byte 12 on, with all that is kept: 20 bytes, the descriptors, a byte 13, and
@@ -35,7 +35,7 @@ decimals_at structure f = slice_index (map (λ g. g.decimals) structure.fields) 
 
 -- the structure of fields that no file gave
 abbrev pub structure_of : List Field → StructureState
-structure_of fields = record { fields = fields; head = head_text fields }
+structure_of fields = record { fields = fields; head = field_head_text fields }
 
 -- a structure that a file can have
 pub record IsStructure (structure : StructureState) : Type 0 where

@@ -5,7 +5,7 @@ use Rattle.std.specs.List.{list_all}
 use Rattle.fixed_num.specs.Number.{Number as Decimal, asterisk, finite, IsInRange}
 use Rattle.fixed_num.specs.Rounding.{rounded_at}
 use Rattle.fixed_num.specs.Reading.{parsed, are_digits, with_digits}
-use Rattle.fixed_num.specs.Text.{last_digits, text_of, printed}
+use Rattle.fixed_num.specs.Text.{last_digits, text_of, printed_in}
 use Rattle.calendar.specs.declared.day.DayParts.{DayParts}
 use Rattle.xvalue.specs.declared.kind.Kind.{Kind}
 use Rattle.xvalue.specs.declared.kind.Kind.TheVariants.{Number as OfNumber, Text as OfText, Date as OfDate}
@@ -28,12 +28,12 @@ kind_for L = OfLogical
 
 -- ---- reading
 
-abbrev pub is_blank : List ℕ → Bool
-is_blank text = list_all (λ byte. byte == 32) text
+abbrev pub is_all_blanks : List ℕ → Bool
+is_all_blanks text = list_all (λ byte. byte == 32) text
 
 -- a number's text; blanks alone are 0 with the field's decimals, 15 at most
 abbrev pub number_in : ℕ → List ℕ → Decimal
-number_in decimals text = if is_blank text then finite (pos 0) (min decimals 15) else parsed text
+number_in decimals text = if is_all_blanks text then finite (pos 0) (min decimals 15) else parsed text
 
 -- four digits of the year, two of the month, two of the day; blank where that is no day
 abbrev pub day_in : List ℕ → Option DayParts
@@ -63,9 +63,9 @@ value_of f text = value_by f.letter f.decimals text
 abbrev pub fitted_text : ℕ → List ℕ → List ℕ
 fitted_text width text = take width text ++ replicate (width - length text) 32
 
-abbrev pub day_text : Option DayParts → List ℕ
-day_text None = replicate 8 32
-day_text (Some parts) = last_digits 4 parts.year ++ (last_digits 2 parts.month ++ last_digits 2 parts.day)
+abbrev pub stored_day : Option DayParts → List ℕ
+stored_day None = replicate 8 32
+stored_day (Some parts) = last_digits 4 parts.year ++ (last_digits 2 parts.month ++ last_digits 2 parts.day)
 
 abbrev pub logical_text : Bool → List ℕ
 logical_text truth = (if truth then 84 else 70) ∷ []
@@ -73,9 +73,9 @@ logical_text truth = (if truth then 84 else 70) ∷ []
 -- the text of a value in a field of this width and these decimals
 -- numbers aside it is cut or padded
 abbrev pub text_by : ℕ → ℕ → Value → List ℕ
-text_by width decimals (Number number) = printed width (min decimals 15) number
+text_by width decimals (Number number) = printed_in width (min decimals 15) number
 text_by width decimals (Text text) = fitted_text width text.items
-text_by width decimals (Date day) = fitted_text width (day_text day)
+text_by width decimals (Date day) = fitted_text width (stored_day day)
 text_by width decimals (Logical truth) = fitted_text width (logical_text truth)
 
 -- the text of a value in the field
@@ -85,15 +85,15 @@ text_for f value = text_by f.width f.decimals value
 -- ---- what a text keeps of a value
 
 -- a number whose text is no longer than the width
-abbrev pub HasRoom : ℕ → Decimal → Type 0
-HasRoom width asterisk = ⊥
-HasRoom width (finite m d) = length (text_of (finite m d)) ≤ width
+abbrev pub FitsWidth : ℕ → Decimal → Type 0
+FitsWidth width asterisk = ⊥
+FitsWidth width (finite m d) = length (text_of (finite m d)) ≤ width
 
 -- The value fits the field: a number, rounded to the field's decimals, has room in it. A text is cut or padded in any
 -- case, and takes 254 bytes at most, a day eight, a truth value one.
 abbrev pub FitsField : Field → Value → Type 0
 FitsField f (Number number) = IsInRange (rounded_at (pos (min f.decimals 15)) number)
-    × HasRoom f.width (rounded_at (pos (min f.decimals 15)) number)
+    × FitsWidth f.width (rounded_at (pos (min f.decimals 15)) number)
 FitsField f (Text text) = f.width ≤ 254
 FitsField f (Date day) = HasDay day × (f.width ≡ 8)
 FitsField f (Logical truth) = f.width ≡ 1

@@ -4,7 +4,7 @@ ghost use Rattle.std.specs.Prelude.{◌≡◌, ◌≤◌, ◌+◌, ◌<◌, ◌+
 ghost use Rattle.std.specs.List.{list_all, list_any};
 ghost use Rattle.dbf_file.specs.Names.{is_name_byte, begins_with_letter, is_name as is_name_of};
 ghost use Rattle.dbf_file.specs.Names.{same_name as same_name_of};
-ghost use Rattle.dbf_file.specs.Fields.{code_of, letter_of, has_shape, is_field, is_new as is_new_of, go_on};
+ghost use Rattle.dbf_file.specs.Fields.{code_of, letter_of, has_shape, is_field, is_new as is_new_of, fields_go_on};
 ghost use Rattle.dbf_file.specs.Fields.{are_fields as are_fields_of, widths_of, size_of as size_of_fields};
 
 use arrayvec::ArrayVec;
@@ -199,7 +199,7 @@ fn goes_on(earlier: &[Field], field: &Field) -> bool
 
 /// Whether each is a field, and has another name than the earlier ones and those before it.
 fn go_on(fields: &[Field]) -> bool
-    ensures { result ≡ go_on [] fields.now }
+    ensures { result ≡ fields_go_on [] fields.now }
 {
     for (f, field) in fields.iter().enumerate() {
         if !goes_on(&fields[..f], field) {

@@ -6,15 +6,15 @@ ghost use Rattle.std.specs.Prelude.{true};
 ghost use Rattle.std.specs.Borrow.{sem};
 ghost use Rattle.dbf_file.specs.declared.stamp.Stamp.{Stamp as TheStamp};
 ghost use Rattle.dbf_file.specs.Fields.{widths_of, size_of as size_of_fields, are_fields, has_shape};
-ghost use Rattle.dbf_file.specs.Descriptors.{head_text};
-ghost use Rattle.dbf_file.specs.Rows.{Row, rows_in, mark_at, text_at, with_text, with_mark, blank_row, unmarked};
+ghost use Rattle.dbf_file.specs.Descriptors.{field_head_text};
+ghost use Rattle.dbf_file.specs.Rows.{Row, rows_in, is_marked_at, text_at, with_text, with_mark, blank_row, unmarked};
 ghost use Rattle.dbf_file.specs.Tables.{StructureState, IsStructure, AreRows, DbfText, dbf_text, row_widths};
 ghost use Rattle.dbf_file.specs.Tables.{structure_of, letter_at, decimals_at};
 ghost use Rattle.dbf_file.specs.Faults.{first_fault};
 ghost use Rattle.dbf_file.specs.Layouts.{IsLayout, structure_told, rows_told};
 ghost use Rattle.xvalue.specs.Kinds.{kind_of};
 ghost use Rattle.dbf_file.specs.Values.{kind_for, value_by, text_by};
-ghost use Rattle.dbf_file.specs.Lending.{place_of as place_of_field, LendsText};
+ghost use Rattle.dbf_file.specs.Lending.{place_of_field, LendsText};
 
 use crate::fault::DbfFault;
 use crate::field::{Field, size_of, width_of};
@@ -250,7 +250,7 @@ pub fn write(alloc: Global, table: &Table, stamp: Stamp) -> Result<Vec<u8>, Allo
 
 /// The header's bytes from byte 12 on, for a structure of these fields that no file gave.
 fn head_of(alloc: Global, fields: &[Field]) -> Result<Vec<u8>, AllocError>
-    ensures { IfOk result (λ head. head.items ≡ head_text fields.now) }
+    ensures { IfOk result (λ head. head.items ≡ field_head_text fields.now) }
 {
     let mut head = Vec::new(alloc);
     put_zeros(&mut head, 20)?;
@@ -343,7 +343,7 @@ impl Table {
     /// Whether row `r`, counted from 0, is marked.
     pub fn mark(&self, r: usize) -> bool
         requires { r < length self.now.rows }
-        ensures { result ≡ mark_at self.now.rows r }
+        ensures { result ≡ is_marked_at self.now.rows r }
     {
         let place = row_place(self.size, self.rows, r);
         self.records[place] == MARKED

@@ -6,8 +6,8 @@ ghost use Rattle.fixed_num.specs.Number.{finite};
 ghost use Rattle.fixed_num.specs.Reading.{are_digits, with_digits};
 ghost use Rattle.xvalue.specs.Kinds.{kind_of};
 ghost use Rattle.calendar.specs.Calendar.{day_or_blank};
-ghost use Rattle.dbf_file.specs.Values.{kind_for, is_blank, number_in, day_in, is_yes, value_of, fitted_text};
-ghost use Rattle.dbf_file.specs.Values.{day_text as day_text_of, logical_text as logical_text_of, text_for};
+ghost use Rattle.dbf_file.specs.Values.{kind_for, is_all_blanks, number_in, day_in, is_yes, value_of, fitted_text};
+ghost use Rattle.dbf_file.specs.Values.{stored_day as day_text_of, logical_text as logical_text_of, text_for};
 
 use crate::field::{Field, Letter, MAX_DECIMALS};
 use calendar::{Day, DayParts};
@@ -33,7 +33,7 @@ impl Letter {
 
 /// Whether there are blanks alone.
 fn is_blank(text: &[u8]) -> bool
-    ensures { result ≡ is_blank text.now }
+    ensures { result ≡ is_all_blanks text.now }
 {
     text.iter().all(|byte| *byte == b' ')
 }

@@ -12,7 +12,8 @@ mod screens;
 mod shown;
 
 use crate::areas::tell_areas;
-use crate::operate::operate;
+use crate::operate::{begun_name, done_name, operate};
+use crate::progress::run_told;
 use crate::screens::{is_new_name, rehearse_shown, run_shown};
 use crate::shown::{
     Audience, FaultyLine, NameTold, OutTold, Progress, UnwrittenTold, absent_file, faulty_line,
@@ -39,7 +40,7 @@ use folder_files::{
     name_in_folder, note_stands, paper_name, save_stands, stands, take_folder,
 };
 use folder_shapes::{LineTold, declare};
-use run_commands::{Ended, Job, Report, RunRefusal, run_files};
+use run_commands::{Ended, Job, Report, RunRefusal};
 use save_rules::{Overwritten, overwritten_by};
 use shape_files::ShapeRefusal;
 use std::alloc::{AllocError, Global};
@@ -125,22 +126,39 @@ fn show_faulty<R: Runtime<A = Global>>(
     }
 }
 
-/// What a code file would overwrite, by the names of the files and by the files themselves.
-fn overwritten<R: Runtime<A = Global>>(
+/// Whether a conversation has been recorded beside a file of this name: the text of its beginning or of its end stands.
+pub fn is_recorded<R: Runtime<A = Global>>(rt: &R, name: &str) -> Result<bool, AllocError> {
+    let begun = begun_name(rt.alloc(), name)?;
+    let done = done_name(rt.alloc(), name)?;
+    Ok(stands(rt, begun.as_str()) || stands(rt, done.as_str()))
+}
+
+/// What a code file would overwrite by its name, and by the name that it leads to.
+fn overwritten_names<R: Runtime<A = Global>>(
+    rt: &R,
+    decl: &str,
+    out: &str,
+    names: &[&str],
+) -> Result<Option<Overwritten>, AllocError> {
+    let recorded = is_recorded(rt, out)?;
+    if let Some(what) = overwritten_by(out, decl, names, paper_name(), recorded) {
+        return Ok(Some(what));
+    }
+    let Some(last) = behind_links(rt, out) else {
+        return Ok(None);
+    };
+    let recorded = is_recorded(rt, last.as_str())?;
+    let name = name_in_folder(last.as_str());
+    Ok(overwritten_by(name, "", &[], paper_name(), recorded))
+}
+
+/// What a code file would overwrite by the files themselves.
+fn overwritten_files<R: Runtime<A = Global>>(
     rt: &R,
     decl: &str,
     out: &str,
     names: &[&str],
 ) -> Option<Overwritten> {
-    if let Some(what) = overwritten_by(out, decl, names, paper_name()) {
-        return Some(what);
-    }
-    if let Some(last) = behind_links(rt, out) {
-        let name = name_in_folder(last.as_str());
-        if let Some(what) = overwritten_by(name, "", &[], paper_name()) {
-            return Some(what);
-        }
-    }
     if is_same_file(rt, out, decl) {
         return Some(Overwritten::Declarations);
     }
@@ -165,7 +183,12 @@ fn compile<'a, R: Runtime<A = Global, File = File>>(
     if names.is_empty() {
         return Err(WordsFault::Missing);
     }
-    if let Some(what) = overwritten(rt, decl, out, names) {
+    let overwritten = match overwritten_names(rt, decl, out, names) {
+        Ok(Some(what)) => Some(what),
+        Ok(None) => overwritten_files(rt, decl, out, names),
+        Err(_) => return Ok(no_memory(rt)),
+    };
+    if let Some(what) = overwritten {
         return Err(WordsFault::Out(what));
     }
     settle(rt, audience);
@@ -511,7 +534,7 @@ fn run_and_save<R: Runtime<A = Global, File = File>>(
 /// Tests each instruction of the code while it runs, and saves nothing.
 fn run_tested<R: Runtime<A = Global>>(rt: &R, audience: Audience, job: &Job<'_>) -> Status {
     let mut folder = folder(rt, audience);
-    let done = run_files(rt.alloc(), &mut folder, job);
+    let done = run_told(rt, audience, &mut folder, job);
     report(rt, audience, job.name, &done)
 }
 

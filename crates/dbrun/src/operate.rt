@@ -34,12 +34,25 @@ use std::rt::Runtime;
 use std::str;
 use terminal_screen::Window;
 
+/// The most lines of a window that are drawn: the 25 rows and the note.
+const MOST_LINES: usize = 26;
+
 /// The names of a conversation's files.
 #[derive(Drop)]
 struct Names {
     journal: String,
     begun: String,
     done: String,
+}
+
+/// The name of the text of the beginning of a conversation with this journal.
+pub fn begun_name(alloc: Global, journal: &str) -> Result<String, AllocError> {
+    format!(in alloc; "{journal}.begun")
+}
+
+/// The name of the text of its end.
+pub fn done_name(alloc: Global, journal: &str) -> Result<String, AllocError> {
+    format!(in alloc; "{journal}.done")
 }
 
 /// The names of a conversation's files, if they harm nothing.
@@ -50,8 +63,8 @@ fn names_of(alloc: Global, words: &OperateWords<'_>) -> Result<Option<Names>, Al
     }
     let names = Names {
         journal: String::from_str(alloc, journal)?,
-        begun: format!(in alloc; "{journal}.begun")?,
-        done: format!(in alloc; "{journal}.done")?,
+        begun: begun_name(alloc, journal)?,
+        done: done_name(alloc, journal)?,
     };
     if names.begun.as_str() == words.code || names.done.as_str() == words.code {
         return Ok(None);
@@ -316,6 +329,16 @@ fn desk_of<'a, R: Runtime<A = Global, File = File>>(
     })
 }
 
+/// Takes away what is drawn in a window, line by line, so that no terminal keeps it in its scrollback, and puts the
+/// cursor in the first one.
+fn wipe(rt: &impl Runtime, window: Window) {
+    let _ = eprint!(rt; "\x1b[0m\x1b[H");
+    for _ in 0..window.rows.min(MOST_LINES) {
+        let _ = eprint!(rt; "\x1b[K\x1b[B");
+    }
+    let _ = eprint!(rt; "\x1b[H");
+}
+
 /// Prints the rows that aren't printed yet. What was drawn gives way to them.
 fn print_rest<R: Runtime<A = Global, File = File>>(
     rt: &R,
@@ -323,12 +346,12 @@ fn print_rest<R: Runtime<A = Global, File = File>>(
     desk: &OperatorDesk<'_, R>,
     rows: &[u8],
 ) -> Status {
-    if desk.manner.window.is_some() {
-        let _ = if desk.manner.one_terminal {
-            eprint!(rt; "\x1b[0m\x1b[H\x1b[J")
+    if let Some(window) = desk.manner.window {
+        if desk.manner.one_terminal {
+            wipe(rt, window);
         } else {
-            eprint!(rt; "\x1b[0m\x1b[25;1H\r\n")
-        };
+            let _ = eprint!(rt; "\x1b[0m\x1b[25;1H\r\n");
+        }
     }
     let rest = &rows[desk.shown.min(rows.len())..];
     if desk.print_rows(rt.alloc(), rest).is_err() {

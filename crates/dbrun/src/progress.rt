@@ -20,7 +20,7 @@ const ERASED: &str = "\r\x1b[K";
 
 /// Tells a person on standard error once a second how far a run has come, in one row that is written over.
 #[derive(Drop)]
-struct Meter<'a, R> {
+pub struct Meter<'a, R> {
     rt: &'a R,
     audience: Audience,
     /// What the part that runs costs at most.
@@ -35,7 +35,7 @@ struct Meter<'a, R> {
 
 impl<'a, R: Runtime<A = Global>> Meter<'a, R> {
     /// Before a run begins.
-    fn new(rt: &'a R, audience: Audience) -> Meter<'a, R> {
+    pub fn new(rt: &'a R, audience: Audience) -> Meter<'a, R> {
         Meter {
             rt,
             audience,
@@ -62,7 +62,7 @@ impl<'a, R: Runtime<A = Global>> Meter<'a, R> {
     }
 
     /// Takes the row away behind a run.
-    fn end(&self) {
+    pub fn end(&self) {
         if self.is_shown {
             let _ = eprint!(self.rt; "{ERASED}");
         }

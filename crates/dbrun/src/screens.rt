@@ -3,9 +3,9 @@
 
 ghost use Rattle.std.specs.Prelude.{◌≡◌, [], false};
 
-use crate::progress::{rehearse_told, run_told};
+use crate::progress::{Meter, rehearse_told, run_told};
 use crate::shown::Audience;
-use crate::{refuse, tell_refusal};
+use crate::{is_recorded, refuse, tell_refusal};
 use file_access::Files;
 use file_commands::{Refusal, Status};
 use folder_files::{paper_name, stands};
@@ -24,22 +24,26 @@ use std::rt::Runtime;
 pub fn is_free_name(name: &str, code: &str) -> bool {
     is_in_folder(name.as_bytes())
         && !name.starts_with("--")
-        && overwritten_by(name, code, &[], paper_name()).is_none()
+        && overwritten_by(name, code, &[], paper_name(), false).is_none()
 }
 
-/// Whether a new file of this name harms nothing, and none of this name stands yet.
+/// Whether a new file of this name harms nothing, and none of this name stands yet, nor what tells of a conversation
+/// with such a journal. Where memory is refused, no name is taken for a new one.
 pub fn is_new_name<R: Runtime<A = Global>>(rt: &R, name: &str, code: &str) -> bool {
-    is_free_name(name, code) && !stands(rt, name)
+    is_free_name(name, code) && !stands(rt, name) && matches!(is_recorded(rt, name), Ok(false))
 }
 
-/// Who types a run's lines and writes the screens before them to a new file of this name.
+/// Who types a run's lines and writes the screens before them to a new file of this name. A person is told how far the
+/// run has come.
 fn typist_of<'a, R: Runtime<A = Global>>(
     rt: &'a R,
+    audience: Audience,
     text: &'a [u8],
     name: &str,
-) -> Result<Typist<'a, R>, AllocError> {
+) -> Result<Typist<'a, R, Meter<'a, R>>, AllocError> {
     let name = String::from_str(rt.alloc(), name)?;
-    Ok(Typist::of(rt, text, Screens::to(Some(name))))
+    let meter = Meter::new(rt, audience);
+    Ok(Typist::of(rt, text, Screens::to(Some(name)), meter))
 }
 
 /// The run of a job whose lines are still to be typed.
@@ -99,13 +103,14 @@ pub fn run_shown<R: Runtime<A = Global, File = File>, F: Files>(
     let Some(name) = screens else {
         return Ok(run_told(rt, audience, files, job));
     };
-    let Ok(mut typist) = typist_of(rt, job.input, name) else {
+    let Ok(mut typist) = typist_of(rt, audience, job.input, name) else {
         return Err(refuse(rt, Refusal::Memory));
     };
     let mut taken = TakenLines {
         bytes: Vec::new(alloc),
     };
     let told = operate_files(alloc, files, &untyped(job), &mut taken, &mut typist);
+    typist.watcher().end();
     report_of(rt, name, told)
 }
 
@@ -125,13 +130,15 @@ pub fn rehearse_shown<R: Runtime<A = Global, File = File>, F: Files>(
             Err(refusal) => Err(tell_refusal(rt, job.name, &refusal)),
         };
     };
-    let Ok(mut typist) = typist_of(rt, job.input, name) else {
+    let Ok(mut typist) = typist_of(rt, audience, job.input, name) else {
         return Err(refuse(rt, Refusal::Memory));
     };
     let mut taken = TakenLines {
         bytes: Vec::new(alloc),
     };
-    match rehearse_talk(alloc, files, &untyped(job), &mut taken, &mut typist) {
+    let told = rehearse_talk(alloc, files, &untyped(job), &mut taken, &mut typist);
+    typist.watcher().end();
+    match told {
         Ok(told) => Ok(told),
         Err(OperateRefusal::Run(refusal)) => Err(tell_refusal(rt, job.name, &refusal)),
         Err(OperateRefusal::Broke(why)) => Err(tell_stopped(rt, name, why)),

@@ -109,7 +109,7 @@ pub fn hint_of<F: Files>(
     alloc: Global,
     files: &mut F,
     refusal: &CompileFilesRefusal,
-    line: Line<'_>,
+    line: PrintableLine<'_>,
 ) -> Option<&'static str> {
     match refusal {
         CompileFilesRefusal::Source { fault, .. } => match fault {
@@ -183,11 +183,11 @@ const WIDTH: usize = 76;
 /// A line as it is shown: its first 76 bytes, of which those that aren't printed are question marks, so that no file
 /// can send a terminal what it obeys.
 #[derive(Clone, Copy, Debug)]
-pub struct Line<'a> {
+pub struct PrintableLine<'a> {
     bytes: &'a [u8],
 }
 
-impl<'a> Line<'a> {
+impl<'a> PrintableLine<'a> {
     /// All its bytes.
     pub fn bytes(self) -> &'a [u8] {
         self.bytes
@@ -195,7 +195,7 @@ impl<'a> Line<'a> {
 }
 
 /// The line of that number, if there is one. A line ends before a line feed, and before a carriage return there.
-pub fn line_at(bytes: &[u8], line: usize) -> Option<Line<'_>> {
+pub fn line_at(bytes: &[u8], line: usize) -> Option<PrintableLine<'_>> {
     let bytes = bytes
         .split(|byte| *byte == b'\n')
         .nth(line.checked_sub(1)?)?;
@@ -203,14 +203,14 @@ pub fn line_at(bytes: &[u8], line: usize) -> Option<Line<'_>> {
 }
 
 /// The line without the carriage return at its end.
-fn without_return(bytes: &[u8]) -> Line<'_> {
-    Line {
+fn without_return(bytes: &[u8]) -> PrintableLine<'_> {
+    PrintableLine {
         bytes: bytes.strip_suffix(b"\r").unwrap_or(bytes),
     }
 }
 
 /// All lines of a file.
-pub fn lines_of<'a>(alloc: Global, bytes: &'a [u8]) -> Result<Vec<Line<'a>>, AllocError> {
+pub fn lines_of<'a>(alloc: Global, bytes: &'a [u8]) -> Result<Vec<PrintableLine<'a>>, AllocError> {
     let mut lines = Vec::new(alloc);
     for bytes in bytes.split(|byte| *byte == b'\n') {
         lines.push(without_return(bytes))?;
@@ -219,11 +219,11 @@ pub fn lines_of<'a>(alloc: Global, bytes: &'a [u8]) -> Result<Vec<Line<'a>>, All
 }
 
 /// The line of that number, counted from 1, if there is one.
-pub fn line_among<'a>(lines: &[Line<'a>], line: usize) -> Option<Line<'a>> {
+pub fn line_among<'a>(lines: &[PrintableLine<'a>], line: usize) -> Option<PrintableLine<'a>> {
     lines.get(line.checked_sub(1)?).copied()
 }
 
-impl Display for Line<'_> {
+impl Display for PrintableLine<'_> {
     fn fmt<W: Write>(&self, f: &mut Formatter<W>) -> fmt::Result {
         for byte in self.bytes.iter().take(WIDTH) {
             let shown = match byte {
@@ -309,6 +309,7 @@ impl Display for OutTold<'_> {
                 None => ("command file", self.words.out),
             },
             Overwritten::Save => ("file of a save", self.words.out),
+            Overwritten::Talk => ("file of a conversation", self.words.out),
             Overwritten::Table => ("table", self.words.out),
             Overwritten::Index => ("index", self.words.out),
             Overwritten::Commands => ("command file", self.words.out),

@@ -21,10 +21,10 @@ use Rattle.code_items.specs.declared.desk.AreaState.TheVariants.{Closed, Open as
 use Rattle.code_items.specs.declared.desk.Desk.{Desk}
 use Rattle.code_items.specs.Desks.{area_covered, areas_covered, open_at, if_open as open_in}
 use Rattle.code_items.specs.States.{is_area_state}
-use Rattle.code_rules.specs.Rules.{if_open, no_field}
-use Rattle.code_rules.specs.Wants.{fields_in, fields_at, kind_of_field}
+use Rattle.code_rules.specs.Rules.{fails_if_open, no_field}
+use Rattle.code_rules.specs.Wants.{fields_declared, fields_at, kind_of_field}
 use Rattle.prg_values.specs.declared.scope.FieldPlace.{FieldPlace}
-use Rattle.prg_values.specs.Readings.{on_some, or_closed, area_at, table_fields, field_from, field_named, place_of, has_field}
+use Rattle.prg_values.specs.Readings.{on_some, or_closed, area_at, table_fields, field_named_from, field_named, nameable_field, has_field}
 use Rattle.run_steps.specs.World.{area_state, desk_of}
 use Rattle.run_steps.specs.Shapes.{StoreFits}
 use Rattle.run_laws.proofs.Known.{OpenThere, open_there, area_by}
@@ -92,7 +92,7 @@ pub record FieldThere (fields : List Field) (n : ℕ) (f : FieldPlace) : Type 0 
   pub at : slice_get fields index ≡ Some field
   pub kind : kind_for field.letter ≡ f.kind
 
-place_there : (number : ℕ) (fd : Field) (f : FieldPlace) → place_of number fd ≡ Some f → (f.number ≡ number) × (kind_for fd.letter ≡ f.kind)
+place_there : (number : ℕ) (fd : Field) (f : FieldPlace) → nameable_field number fd ≡ Some f → (f.number ≡ number) × (kind_for fd.letter ≡ f.kind)
 place_there number fd f e = from (nat_lt number 65536) e
   where
     from : (b : Bool) → (if b then Some (record { number = number; kind = kind_for fd.letter }) else None) ≡ Some f → (f.number ≡ number) × (kind_for fd.letter ≡ f.kind)
@@ -101,11 +101,11 @@ place_there number fd f e = from (nat_lt number 65536) e
         (ap (λ (x : FieldPlace). x.number) (sym same), ap (λ (x : FieldPlace). x.kind) same)
     from false e = none_some _ f e
 
-field_from_there : (n : ℕ) (fields : List Field) (name : List ℕ) (f : FieldPlace) → field_from n fields name ≡ Some f → FieldThere fields n f
+field_from_there : (n : ℕ) (fields : List Field) (name : List ℕ) (f : FieldPlace) → field_named_from n fields name ≡ Some f → FieldThere fields n f
 field_from_there n [] name f e = none_some _ f e
 field_from_there n (fd ∷ fields) name f e = from (bytes_eq fd.name.items name) (field_from_there (n + 1) fields name f) e
   where
-    from : (b : Bool) → (field_from (n + 1) fields name ≡ Some f → FieldThere fields (n + 1) f) → (if b then place_of n fd else field_from (n + 1) fields name) ≡ Some f → FieldThere (fd ∷ fields) n f
+    from : (b : Bool) → (field_named_from (n + 1) fields name ≡ Some f → FieldThere fields (n + 1) f) → (if b then nameable_field n fd else field_named_from (n + 1) fields name) ≡ Some f → FieldThere (fd ∷ fields) n f
     from true rest e =
         let p = place_there n fd f e in
         record { index = 0; number = omega (arith, p.0); field = fd; at = refl; kind = p.1 }
@@ -142,7 +142,7 @@ value_kind L decimals text = refl
 pub value_of_field : (o : OpenState) (f : ℕ) → kind_of (field_of f o) ≡ kind_for (letter_at o.table.structure f)
 value_of_field o f = value_kind (letter_at o.table.structure f) (decimals_at o.table.structure f) (slice_index_or (current_row o).texts f [])
 
-table_is : (x : Option TableShape) → on_some x [] (λ t. t.fields) ≡ fields_in x
+table_is : (x : Option TableShape) → on_some x [] (λ t. t.fields) ≡ fields_declared x
 table_is None = refl
 table_is (Some t) = refl
 
@@ -162,10 +162,10 @@ past m n lt = by (nat_le m n) refl
 pub field_is_of_kind : (d : Declared) (s : StoreState) (n : ℕ) (fits : StoreFits d s) (o : OpenThere d s n) (name : List ℕ) (f : FieldPlace) → field_named (table_fields d.shape o.use_of.table) name ≡ Some f → kind_of (field_of f.number o.table) ≡ f.kind
 field_is_of_kind d s n fits o name f e =
     let w = field_there (table_fields d.shape o.use_of.table) name f e in
-    let fs = fields_in (slice_get d.shape.tables o.use_of.table) in
+    let fs = fields_declared (slice_get d.shape.tables o.use_of.table) in
     let number : f.number ≡ w.index = omega (arith, w.number) in
     let at : slice_get fs f.number ≡ Some w.field = ap (slice_get fs) number ∙ ap (λ (xs : List Field). slice_get xs w.index) (sym (table_is (slice_get d.shape.tables o.use_of.table))) ∙ w.at in
-    let has : no_field d (desk_of s) n f.number ≡ false = ap (if_open (λ b. nat_le (length (fields_at d (Some b))) f.number)) o.known ∙ past (length fs) f.number (within fs f.number w.field at) in
+    let has : no_field d (desk_of s) n f.number ≡ false = ap (fails_if_open (λ b. nat_le (length (fields_at d (Some b))) f.number)) o.known ∙ past (length fs) f.number (within fs f.number w.field at) in
     let known : Some (kind_for w.field.letter) ≡ Some (kind_for (letter_at o.table.table.structure f.number)) =
     ap kind_of_field (sym at) ∙ ap (λ x. kind_of_field (slice_get (fields_at d x) f.number)) (sym o.known) ∙ field_known d s n f.number fits o has in
     value_of_field o.table f.number ∙ sym (some_same (kind_for w.field.letter) (kind_for (letter_at o.table.table.structure f.number)) known) ∙ w.kind

@@ -16,7 +16,7 @@ use Rattle.dbf_file.specs.Tables.{letter_at, decimals_at}
 use Rattle.dbf_file.specs.Values.{kind_for, value_by}
 use Rattle.shape.specs.declared.whole.Shape.{Shape}
 use Rattle.open_table.specs.Tried.{TriedRow}
-use Rattle.work_area.specs.Making.{AreAlike}
+use Rattle.work_area.specs.Making.{HaveAlikeFields}
 use Rattle.code_items.specs.declared.code.Code.{Code}
 use Rattle.code_items.specs.declared.declared.Filter.{Filter}
 use Rattle.code_items.specs.declared.desk.OpenArea.{OpenArea}
@@ -34,7 +34,7 @@ use Rattle.prg_expr.specs.Tree.{Tree}
 use Rattle.prg_values.specs.declared.scope.FieldPlace.{FieldPlace}
 use Rattle.prg_values.specs.declared.scope.Reading.{Reading}
 use Rattle.prg_values.specs.Readings.{Scoped, on_some, area_at, table_fields, field_named, field_in, loads, variable, field_reading, field_known, field_here, here_reading, read_name, field_of_area, read_qualified, alias_area}
-use Rattle.prg_values.specs.Written.{answer_kind, IsWritten, pieces_in}
+use Rattle.prg_values.specs.Written.{answer_kind, IsWrittenExpr, pieces_in}
 use Rattle.code_rules.specs.Rules.{filter_lacks}
 use Rattle.run_values.specs.Tagged.{HoldsKind}
 use Rattle.run_values.specs.Scratch.{is_true}
@@ -76,7 +76,7 @@ value_kind N decimals text = refl
 value_kind D decimals text = refl
 value_kind L decimals text = refl
 
-row_kind : (r : TriedRow) (fields : List Field) (n : ℕ) (f : Field) → AreAlike r.structure.fields fields → slice_get fields n ≡ Some f → kind_of (row_field n r) ≡ kind_for f.letter
+row_kind : (r : TriedRow) (fields : List Field) (n : ℕ) (f : Field) → HaveAlikeFields r.structure.fields fields → slice_get fields n ≡ Some f → kind_of (row_field n r) ≡ kind_for f.letter
 row_kind r fields n f alike at =
     let lt : n < length fields = slice_get_within fields n f at in
     let lt' : n < length r.structure.fields = omega (arith, lt, alike.count) in
@@ -177,7 +177,7 @@ module _ (code : Code) (s : Scoped) (v : Viewer) (number table : ℕ) (r : Tried
   top_true (value.Date d) = refl
   top_true (value.Logical b) = refl
 
-  block_truth : ResultLaw → Same → code.declared.stack_bound ≤ 64 → (e : Tree) (block : List Instr) → block_sound code (block_start table (map kind_held v.slots)) block ≡ true → IsWritten s e kind.Logical code.declared.constants block
+  block_truth : ResultLaw → Same → code.declared.stack_bound ≤ 64 → (e : Tree) (block : List Instr) → block_sound code (block_start table (map kind_held v.slots)) block ≡ true → IsWrittenExpr s e kind.Logical code.declared.constants block
       → is_true (block_run code v r block []) ≡ holds_in (row_sight code.declared.shape s.names v table r) e
   block_truth law same few e block sound written =
       let w = walked code same few v r table row.slots block sound in
@@ -194,7 +194,7 @@ sound_block code slots m f at e =
     (and_parts (not (filter_lacks slots (Some f))) (block_sound code (block_start f.table slots) (instructions_of code (suc m) (Some f))) judged).1
 
 pub shows : (code : Code) → ResultLaw → Same → code.declared.stack_bound ≤ 64 → (s : Scoped) (v : Viewer) (m table : ℕ) (r : TriedRow) (e : Tree) → IsOfFilter code s (suc m) table → IsOfTable code v table r → is_sound code (map kind_held v.slots) (suc m) ≡ true
-    → IsWritten s e kind.Logical code.declared.constants (filter_block code (suc m)) → is_visible code v (suc m) r ≡ (is_unhidden v.settings.deleted r && holds_in (row_sight code.declared.shape s.names v table r) e)
+    → IsWrittenExpr s e kind.Logical code.declared.constants (filter_block code (suc m)) → is_visible code v (suc m) r ≡ (is_unhidden v.settings.deleted r && holds_in (row_sight code.declared.shape s.names v table r) e)
 shows code law same few s v m table r e filter row sound written =
     let sound' = subst (λ t. block_sound code (block_start t (map kind_held v.slots)) (filter_block code (suc m)) ≡ true) filter.of_table (sound_block code (map kind_held v.slots) m filter.filter filter.declared sound) in
     ap (λ (b : Bool). is_unhidden v.settings.deleted r && b) (block_truth code s v (suc m) table r filter row law same few e (filter_block code (suc m)) sound' written)

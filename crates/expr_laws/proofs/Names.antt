@@ -27,7 +27,7 @@ use Rattle.code_items.specs.declared.instr.Question.TheVariants.{Recno, Reccount
 use Rattle.prg_code.specs.Bindings.{slot_named}
 use Rattle.prg_values.specs.declared.scope.FieldPlace.{FieldPlace}
 use Rattle.prg_values.specs.declared.scope.Reading.{Reading}
-use Rattle.prg_values.specs.Readings.{Scoped, on_some, area_at, table_fields, field_named, field_in, has_field, loads, variable, field_reading, field_known, field_here, here_reading, read_name, field_of_area, read_qualified, letter_area, table_named, is_of, holder_from, holder_of, alias_area, below}
+use Rattle.prg_values.specs.Readings.{Scoped, on_some, area_at, table_fields, field_named, field_in, has_field, loads, variable, field_reading, field_known, field_here, here_reading, read_name, field_of_area, read_qualified, letter_area, table_named, is_of, holder_from, holder_of, alias_area, number_below}
 use Rattle.prg_values.specs.Written.{may_ask, answer_kind, question_kind}
 use Rattle.run_values.specs.Tagged.{pushed, loaded_value}
 use Rattle.run_steps.specs.World.{EnvState, kind_held, order_of, area_state, desk_of}
@@ -35,7 +35,7 @@ use Rattle.run_steps.specs.Effects.{answer, on_table, values_after}
 use Rattle.run_steps.specs.Shapes.{StoreFits}
 use Rattle.fit_laws.proofs.Covered.{Desks, kinds_same, area_same}
 use Rattle.expr_laws.specs.Meaning.{nothing}
-use Rattle.expr_laws.specs.Seeing.{slot_value, variable_value, used_fields, field_value, holder, alias_of, field_of_area as value_of_area, asked_value}
+use Rattle.expr_laws.specs.Seeing.{slot_value, variable_value, used_fields, field_value, holder, alias_of, value_of_area, asked_value}
 use Rattle.expr_laws.proofs.Machines.{Run, Puts}
 use Rattle.expr_laws.proofs.Areas.{AreaThere, area_open, area_there, area_closed, in_no_table, field_is_of_kind}
 use Rattle.expr_laws.proofs.Options.{some_same, none_some, found}
@@ -185,7 +185,7 @@ held_there tables (x ∷ as') (u ∷ uses) number t a c e =
     open_same (IsOpen b) None c h = absurd (cc)
     open_same (IsOpen b) (Some w) c h = (w, refl, sym (ap (λ (z : OpenArea). z.table) (area_same b (record { table = w.table; list = w.list; order = order_of (slice_get tables w.table); filter = w.filter }) c)) ∙ eqb-true b.table t h)
 
-    number_same : (m b : ℕ) → below 256 m ≡ Some b → b ≡ m
+    number_same : (m b : ℕ) → number_below 256 m ≡ Some b → b ≡ m
     number_same m b e = by (nat_lt m 256) e
       where
         by : (z : Bool) → (if z then Some m else None) ≡ Some b → b ≡ m
@@ -194,7 +194,7 @@ held_there tables (x ∷ as') (u ∷ uses) number t a c e =
 
     from : area_covered (x, area_state tables u) ≡ true
         → (holder_from (number + 1) as' t ≡ Some a → (n : ℕ) × (v : Use) × (a ≡ number + 1 + n) × (slice_index_or uses n None ≡ Some v) × (v.table ≡ t))
-        → (b : Bool) → is_of t x ≡ b → (if b then below 256 number else holder_from (number + 1) as' t) ≡ Some a → (n : ℕ) × (v : Use) × (a ≡ number + n) × (slice_index_or (u ∷ uses) n None ≡ Some v) × (v.table ≡ t)
+        → (b : Bool) → is_of t x ≡ b → (if b then number_below 256 number else holder_from (number + 1) as' t) ≡ Some a → (n : ℕ) × (v : Use) × (a ≡ number + n) × (slice_index_or (u ∷ uses) n None ≡ Some v) × (v.table ≡ t)
     from covers rest true h e =
         let w = open_same x u covers h in
         (0, w.0, omega (arith, number_same number a e), w.1, w.2)

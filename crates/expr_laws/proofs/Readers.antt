@@ -15,7 +15,7 @@ use Rattle.prg_expr.specs.Tree as tree
 use Rattle.prg_code.specs.Bindings.{slot_named}
 use Rattle.prg_values.specs.declared.calls.Called.{Called}
 use Rattle.prg_values.specs.declared.calls.Called.TheVariants as called
-use Rattle.prg_values.specs.declared.operators.Operation.{Operation}
+use Rattle.prg_values.specs.declared.operators.OperatorMeaning.{OperatorMeaning}
 use Rattle.prg_values.specs.declared.scope.FieldPlace.{FieldPlace}
 use Rattle.prg_values.specs.declared.scope.Reading.{Reading}
 use Rattle.prg_values.specs.Operators.{prefix_fun}
@@ -107,7 +107,7 @@ turned_read : (swapped : Bool) (ps qs : List Piece) → Reads ps → Reads qs �
 turned_read true ps qs h g = both_read qs ps g h
 turned_read false ps qs h g = both_read ps qs h g
 
-operator_reads : (x : Option Operation) (ps qs : List Piece) → Reads ps → Reads qs → Reads (operator_pieces x ps qs)
+operator_reads : (x : Option OperatorMeaning) (ps qs : List Piece) → Reads ps → Reads qs → Reads (operator_pieces x ps qs)
 operator_reads None ps qs h g = tt
 operator_reads (Some o) ps qs h g = both_read (in_turn o.swapped ps qs) (operation_pieces o) (turned_read o.swapped ps qs h g) (refl, denial_reads o.negated)
 

@@ -15,14 +15,14 @@ use Rattle.code_items.specs.declared.instr.Instr.TheVariants.{Records}
 use Rattle.code_items.specs.declared.instr.Question.{Question}
 use Rattle.code_items.specs.declared.instr.RecordInstr.TheVariants as record_instr
 use Rattle.prg_expr.specs.declared.function.Function.{Function}
-use Rattle.prg_expr.specs.declared.tree.Operator.{Operator}
+use Rattle.prg_expr.specs.declared.tree.BinaryOperator.{BinaryOperator}
 use Rattle.prg_expr.specs.declared.tree.Prefix.{Prefix}
 use Rattle.prg_expr.specs.declared.tree.Prefix.TheVariants.{Not, Negative, Positive}
 use Rattle.prg_expr.specs.Tree.{Tree, Trees}
 use Rattle.prg_expr.specs.Tree as tree
 use Rattle.prg_values.specs.declared.calls.Called.{Called}
 use Rattle.prg_values.specs.declared.calls.Called.TheVariants as called
-use Rattle.prg_values.specs.declared.operators.Operation.{Operation}
+use Rattle.prg_values.specs.declared.operators.OperatorMeaning.{OperatorMeaning}
 use Rattle.prg_values.specs.declared.scope.Reading.{Reading}
 use Rattle.prg_values.specs.Operators.{operated, prefix_fun}
 use Rattle.prg_values.specs.Readings.{Scoped, on_some, read_name, read_qualified}
@@ -36,7 +36,7 @@ use Rattle.expr_laws.proofs.Options.{some_same, none_some, found, passed}
 
 -- ---- operators
 
-operation_kind : ResultLaw → (settings : Settings) (o : Operation) (negated : Bool) (a b : Value) → o.negated ≡ negated → (o.negated ≡ true → gives_of o.fun ≡ kind.Logical) → kind_of (denied_if negated settings (applied_to settings o.fun (operands o.swapped a b))) ≡ gives_of o.fun
+operation_kind : ResultLaw → (settings : Settings) (o : OperatorMeaning) (negated : Bool) (a b : Value) → o.negated ≡ negated → (o.negated ≡ true → gives_of o.fun ≡ kind.Logical) → kind_of (denied_if negated settings (applied_to settings o.fun (operands o.swapped a b))) ≡ gives_of o.fun
 operation_kind law settings o true a b e d = law fun.Not settings (by_kind (applied_to settings o.fun (operands o.swapped a b) ∷ [])) ∙ sym (d e)
 operation_kind law settings o false a b e d = law o.fun settings (by_kind (operands o.swapped a b))
 
@@ -49,7 +49,7 @@ operands_fit fit true as' bs h =
 operands_fit fit false as' bs h = fit_parts fit as' bs h
 
 -- the pieces of operands are there where the kinds are
-pub operands_there : (o : Operator) (x y : Option Kind) (ka kb : Kind) (op : Operation) → x ≡ Some ka → y ≡ Some kb → operated o ka kb ≡ Some op → operation_in o x y ≡ Some op
+pub operands_there : (o : BinaryOperator) (x y : Option Kind) (ka kb : Kind) (op : OperatorMeaning) → x ≡ Some ka → y ≡ Some kb → operated o ka kb ≡ Some op → operation_in o x y ≡ Some op
 operands_there o x y ka kb op ex ey e = ap (λ (z : Option Kind). operation_in o z y) ex ∙ ap (operation_in o (Some ka)) ey ∙ e
 
 -- ---- along the tree
@@ -90,11 +90,11 @@ module _ (s : Scoped) (v : Sight) (cs : List Value) (fit : Instr → Type 0) (ru
       let p = passed (same_kind k0 kind.Number) (Some kind.Number) k e in
       same ∙ kinds_same k0 kind.Number p.holds ∙ some_same kind.Number k p.is
 
-  operated_told : (o : Operator) (ka kb k : Kind) (a b : Value) → kind_of a ≡ ka → kind_of b ≡ kb → operated_kind o ka kb ≡ Some k → kind_of (operated_value v.settings o a b) ≡ k
+  operated_told : (o : BinaryOperator) (ka kb k : Kind) (a b : Value) → kind_of a ≡ ka → kind_of b ≡ kb → operated_kind o ka kb ≡ Some k → kind_of (operated_value v.settings o a b) ≡ k
   operated_told o ka kb k a b ea eb e =
       let w = found (operated o ka kb) (λ operation. Some (gives_of operation.fun)) k e in
       let there : operated o (kind_of a) (kind_of b) ≡ Some w.a = ap (λ (x : Kind). operated o x (kind_of b)) ea ∙ ap (operated o ka) eb ∙ w.there in
-      ap (λ (x : Option Operation). kind_of (on_some x nothing (λ operation. operation_value v.settings operation a b))) there
+      ap (λ (x : Option OperatorMeaning). kind_of (on_some x nothing (λ operation. operation_value v.settings operation a b))) there
       ∙ operation_kind law v.settings w.a w.a.negated a b refl (operated_sound o ka kb w.a w.there).denies ∙ some_same (gives_of w.a.fun) k w.made
 
   mutual
@@ -118,7 +118,7 @@ module _ (s : Scoped) (v : Sight) (cs : List Value) (fit : Instr → Type 0) (ru
         let x = found (kind_in s b) (operated_kind o w.a) k w.made in
         let y = found (operated o w.a x.a) (λ operation. Some (gives_of operation.fun)) k x.made in
         let there = operands_there o (kind_in s a) (kind_in s b) w.a x.a y.a w.there x.there y.there in
-        let g : Fit fit (in_turn y.a.swapped (pieces_in s a) (pieces_in s b) ++ operation_pieces y.a) = subst (λ (z : Option Operation). Fit fit (operator_pieces z (pieces_in s a) (pieces_in s b))) there h in
+        let g : Fit fit (in_turn y.a.swapped (pieces_in s a) (pieces_in s b) ++ operation_pieces y.a) = subst (λ (z : Option OperatorMeaning). Fit fit (operator_pieces z (pieces_in s a) (pieces_in s b))) there h in
         let p = operands_fit fit y.a.swapped (pieces_in s a) (pieces_in s b) (fit_parts fit (in_turn y.a.swapped (pieces_in s a) (pieces_in s b)) (operation_pieces y.a) g).0 in
         operated_told o w.a x.a k (value_in v a) (value_in v b) (kind_told a w.a w.there p.0) (kind_told b x.a x.there p.1) x.made
 

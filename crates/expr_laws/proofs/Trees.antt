@@ -24,7 +24,7 @@ use Rattle.prg_expr.specs.Tree.{Tree, Trees}
 use Rattle.prg_expr.specs.Tree as tree
 use Rattle.prg_values.specs.declared.calls.Called.{Called}
 use Rattle.prg_values.specs.declared.calls.Called.TheVariants as called
-use Rattle.prg_values.specs.declared.operators.Operation.{Operation}
+use Rattle.prg_values.specs.declared.operators.OperatorMeaning.{OperatorMeaning}
 use Rattle.prg_values.specs.declared.scope.Reading.{Reading}
 use Rattle.prg_values.specs.Operators.{operated, prefix_fun}
 use Rattle.prg_values.specs.Readings.{Scoped, on_some, read_name, read_qualified}
@@ -122,7 +122,7 @@ module _ (s : Scoped) (v : Sight) (cs : List Value) (fit : Instr → Type 0) (ru
   denial_leads true c a b goes = function_leads fun.Not (c ∷ []) a b refl goes
   denial_leads false c a b goes = goes_nowhere cs run (c ∷ a) b goes
 
-  operation_leads : (o : Operation) (x y : Value) (a b : List Value) → length (takes_of o.fun) ≡ 2 → Goes cs run (operation_pieces o) (onto (operands o.swapped x y) a) b → b ≡ operation_value v.settings o x y ∷ a
+  operation_leads : (o : OperatorMeaning) (x y : Value) (a b : List Value) → length (takes_of o.fun) ≡ 2 → Goes cs run (operation_pieces o) (onto (operands o.swapped x y) a) b → b ≡ operation_value v.settings o x y ∷ a
   operation_leads o x y a b two goes =
       let w = parted cs run (calls o.fun ∷ []) (denial o.negated) (onto (operands o.swapped x y) a) b goes in
       let first = function_leads o.fun (operands o.swapped x y) a w.middle (two ∙ sym (both o.swapped)) w.first in
@@ -178,9 +178,9 @@ module _ (s : Scoped) (v : Sight) (cs : List Value) (fit : Instr → Type 0) (ru
         let x = found (kind_in s tb) (operated_kind o w.a) k w.made in
         let y = found (operated o w.a x.a) (λ operation. Some (gives_of operation.fun)) k x.made in
         let there = operands_there o (kind_in s ta) (kind_in s tb) w.a x.a y.a w.there x.there y.there in
-        let h' : Fit fit (in_turn y.a.swapped (pieces_in s ta) (pieces_in s tb) ++ operation_pieces y.a) = subst (λ (z : Option Operation). Fit fit (operator_pieces z (pieces_in s ta) (pieces_in s tb))) there h in
+        let h' : Fit fit (in_turn y.a.swapped (pieces_in s ta) (pieces_in s tb) ++ operation_pieces y.a) = subst (λ (z : Option OperatorMeaning). Fit fit (operator_pieces z (pieces_in s ta) (pieces_in s tb))) there h in
         let p = operands_fit fit y.a.swapped (pieces_in s ta) (pieces_in s tb) (fit_parts fit (in_turn y.a.swapped (pieces_in s ta) (pieces_in s tb)) (operation_pieces y.a) h').0 in
-        let goes' : Goes cs run (in_turn y.a.swapped (pieces_in s ta) (pieces_in s tb) ++ operation_pieces y.a) a b = subst (λ (z : Option Operation). Goes cs run (operator_pieces z (pieces_in s ta) (pieces_in s tb)) a b) there goes in
+        let goes' : Goes cs run (in_turn y.a.swapped (pieces_in s ta) (pieces_in s tb) ++ operation_pieces y.a) a b = subst (λ (z : Option OperatorMeaning). Goes cs run (operator_pieces z (pieces_in s ta) (pieces_in s tb)) a b) there goes in
         let g = parted cs run (in_turn y.a.swapped (pieces_in s ta) (pieces_in s tb)) (operation_pieces y.a) a b goes' in
         let va = value_in v ta in
         let vb = value_in v tb in
@@ -189,7 +189,7 @@ module _ (s : Scoped) (v : Sight) (cs : List Value) (fit : Instr → Type 0) (ru
         let ka = kind_told s v cs fit run m law ta w.a w.there p.0 in
         let kb = kind_told s v cs fit run m law tb x.a x.there p.1 in
         let same : operated o (kind_of va) (kind_of vb) ≡ Some y.a = ap (λ (z : Kind). operated o z (kind_of vb)) ka ∙ ap (operated o w.a) kb ∙ y.there in
-        made ∙ ap (λ (z : Option Operation). on_some z nothing (λ operation. operation_value v.settings operation va vb) ∷ a) (sym same)
+        made ∙ ap (λ (z : Option OperatorMeaning). on_some z nothing (λ operation. operation_value v.settings operation va vb) ∷ a) (sym same)
 
     pub all_lead : (es : Trees) (ks : List Kind) (a b : List Value) → kinds_in s es ≡ Some ks → Fit fit (all_pieces s es) → Goes cs run (all_pieces s es) a b → b ≡ onto (values_in v es) a
     all_lead tree.None ks a b e h goes = goes_nowhere cs run a b goes

@@ -9,7 +9,7 @@ use Rattle.code_items.specs.declared.instr.Instr.{Instr}
 use Rattle.code_items.specs.Desks.{areas_covered}
 use Rattle.prg_expr.specs.Tree.{Tree}
 use Rattle.prg_values.specs.Readings.{Scoped}
-use Rattle.prg_values.specs.Written.{Piece, Constant, Does, IsWritten, pieces_in}
+use Rattle.prg_values.specs.Written.{Piece, Constant, Does, IsWrittenExpr, pieces_in}
 use Rattle.run_steps.specs.World.{World, desk_of, state_of}
 use Rattle.run_steps.specs.Effects.{with_pushed}
 use Rattle.run_steps.specs.Run.{after, spent}
@@ -65,7 +65,7 @@ pub record LeftOnTop (code : Code) (s : Scoped) (w : World) (e : Tree) (kind : K
   pub cost : spent code w (length block) ≡ length block
   pub told : kind_of (value_in (sight code.declared.shape s.names w) e) ≡ kind
 
-pub left_on_top : (code : Code) → ResultLaw → (s : Scoped) (w : World) (e : Tree) (kind : Kind) (block : List Instr) → Going code w → IsFitting code w → StandsAt code s w → IsWritten s e kind code.declared.constants block → IsThere code w.place block → LeftOnTop code s w e kind block
+pub left_on_top : (code : Code) → ResultLaw → (s : Scoped) (w : World) (e : Tree) (kind : Kind) (block : List Instr) → Going code w → IsFitting code w → StandsAt code s w → IsWrittenExpr s e kind code.declared.constants block → IsThere code w.place block → LeftOnTop code s w e kind block
 left_on_top code law s w e kind block going fits stands written there =
     let m = world_machine code s w (sees code s w fits stands) in
     let v = sight code.declared.shape s.names w in

@@ -11,12 +11,12 @@ use Rattle.xvalue.specs.Given.{by_kind}
 use Rattle.xvalue.specs.Kinds.{kind_of}
 use Rattle.code_items.specs.declared.instr.Question.{Question}
 use Rattle.prg_expr.specs.declared.function.Function.{Function}
-use Rattle.prg_expr.specs.declared.tree.Operator.{Operator}
+use Rattle.prg_expr.specs.declared.tree.BinaryOperator.{BinaryOperator}
 use Rattle.prg_expr.specs.Tree.{Tree, Trees}
 use Rattle.prg_expr.specs.Tree as tree
 use Rattle.prg_values.specs.declared.calls.Called.{Called}
 use Rattle.prg_values.specs.declared.calls.Called.TheVariants as called
-use Rattle.prg_values.specs.declared.operators.Operation.{Operation}
+use Rattle.prg_values.specs.declared.operators.OperatorMeaning.{OperatorMeaning}
 use Rattle.prg_values.specs.Operators.{operated, prefix_fun}
 use Rattle.prg_values.specs.Readings.{on_some}
 use Rattle.prg_values.specs.Written.{meaning, defaults, choice}
@@ -48,11 +48,11 @@ abbrev pub operands : Bool → Value → Value → List Value
 operands true a b = b ∷ a ∷ []
 operands false a b = a ∷ b ∷ []
 
-abbrev pub operation_value : Settings → Operation → Value → Value → Value
+abbrev pub operation_value : Settings → OperatorMeaning → Value → Value → Value
 operation_value settings o a b = denied_if o.negated settings (applied_to settings o.fun (operands o.swapped a b))
 
 -- what the operator does is known by the kinds of its operands
-abbrev pub operated_value : Settings → Operator → Value → Value → Value
+abbrev pub operated_value : Settings → BinaryOperator → Value → Value → Value
 operated_value settings o a b =
     on_some (operated o (kind_of a) (kind_of b)) nothing (λ operation. operation_value settings operation a b)
 

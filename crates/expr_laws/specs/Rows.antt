@@ -4,7 +4,7 @@ use Rattle.std.specs.Str.{bytes_eq}
 use Rattle.xvalue.specs.declared.value.Value.{Value}
 use Rattle.shape.specs.declared.whole.Shape.{Shape}
 use Rattle.open_table.specs.Tried.{TriedRow}
-use Rattle.work_area.specs.Making.{AreAlike}
+use Rattle.work_area.specs.Making.{HaveAlikeFields}
 use Rattle.code_items.specs.declared.code.Code.{Code}
 use Rattle.code_items.specs.declared.declared.Filter.{Filter}
 use Rattle.code_items.specs.declared.desk.OpenArea.{OpenArea}
@@ -47,5 +47,5 @@ pub record IsOfFilter (code : Code) (s : Scoped) (number table : ℕ) : Type 0 w
 
 -- the row's fields hold what is declared of the table, and the viewer has the code's slots
 pub record IsOfTable (code : Code) (v : Viewer) (table : ℕ) (r : TriedRow) : Type 0 where
-  pub fields : AreAlike r.structure.fields (table_fields code.declared.shape table)
+  pub fields : HaveAlikeFields r.structure.fields (table_fields code.declared.shape table)
   pub slots : length v.slots ≡ code.declared.slots

@@ -58,15 +58,15 @@ abbrev pub alias_of : Shape → StoreState → List ℕ → Option ℕ
 alias_of shape s alias =
     on_some (letter_area alias) (on_some (table_named shape alias) None (holder 1 s.areas)) (λ area. Some area)
 
-abbrev pub field_of_area : Shape → StoreState → List ℕ → ℕ → Value
-field_of_area shape s name area =
+abbrev pub value_of_area : Shape → StoreState → List ℕ → ℕ → Value
+value_of_area shape s name area =
     on_some (field_named (used_fields shape (use_at s area)) name) nothing
     (λ f. field_value (area_table s area) f.number)
 
 -- a name behind an alias: a field of that area's table; behind M a variable
 abbrev pub qualified_value : Shape → NamedVariables → World → List ℕ → List ℕ → Value
 qualified_value shape names w alias name = if bytes_eq alias (codes "M") then variable_value names w.values.slots name
-    else on_some (alias_of shape w.env.store alias) nothing (field_of_area shape w.env.store name)
+    else on_some (alias_of shape w.env.store alias) nothing (value_of_area shape w.env.store name)
 
 -- ---- questions to the selected area
 

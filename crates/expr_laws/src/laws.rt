@@ -11,7 +11,7 @@ ghost use Rattle.expr_laws.specs.Seeing.{sight, IsThere, StandsAt, with_value};
 ghost use Rattle.fit_laws.specs.Fits.{IsFitting};
 ghost use Rattle.prg_expr.specs.Tree.{Tree};
 ghost use Rattle.prg_values.specs.Readings.{Scoped};
-ghost use Rattle.prg_values.specs.Written.{IsWritten};
+ghost use Rattle.prg_values.specs.Written.{IsWrittenExpr};
 ghost use Rattle.run_steps.specs.Filters.{filter_block, is_sound, is_unhidden, is_visible, Viewer};
 ghost use Rattle.run_steps.specs.Run.{after, spent};
 ghost use Rattle.run_steps.specs.World.{kind_held, World as AnyWorld};
@@ -30,16 +30,16 @@ use xvalue::laws::{results_have_their_kind, same_kinds_are_equal};
 pub fn expressions_leave_their_values()
     ensures world { (code : AnyCode) (s : Scoped) (w : AnyWorld) (e : Tree) (kind : AnyKind) (block : List AnyInstr)
         → IsCode code → Accepted code → IsFitting code w → StandsAt code s w
-        → IsWritten s e kind code.declared.constants block → IsThere code w.place block
+        → IsWrittenExpr s e kind code.declared.constants block → IsThere code w.place block
         → after code w (length block)
         ≡ Some (with_value (length block) (value_in (sight code.declared.shape s.names w) e) w) }
     ensures steps { (code : AnyCode) (s : Scoped) (w : AnyWorld) (e : Tree) (kind : AnyKind) (block : List AnyInstr)
         → IsCode code → Accepted code → IsFitting code w → StandsAt code s w
-        → IsWritten s e kind code.declared.constants block → IsThere code w.place block
+        → IsWrittenExpr s e kind code.declared.constants block → IsThere code w.place block
         → spent code w (length block) ≡ length block }
     ensures kind { (code : AnyCode) (s : Scoped) (w : AnyWorld) (e : Tree) (kind : AnyKind) (block : List AnyInstr)
         → IsCode code → Accepted code → IsFitting code w → StandsAt code s w
-        → IsWritten s e kind code.declared.constants block → IsThere code w.place block
+        → IsWrittenExpr s e kind code.declared.constants block → IsThere code w.place block
         → kind_of (value_in (sight code.declared.shape s.names w) e) ≡ kind }
 {
     results_have_their_kind();
@@ -53,7 +53,7 @@ pub fn filters_hold_where_their_conditions_do()
     ensures { (code : AnyCode) (s : Scoped) (v : Viewer) (number table : ℕ) (row : TriedRow) (e : Tree) → IsCode code
         → IsOfFilter code s (suc number) table → IsOfTable code v table row
         → is_sound code (map kind_held v.slots) (suc number) ≡ true
-        → IsWritten s e Logical code.declared.constants (filter_block code (suc number))
+        → IsWrittenExpr s e Logical code.declared.constants (filter_block code (suc number))
         → is_visible code v (suc number) row
         ≡ (is_unhidden v.settings.deleted row && holds_in (row_sight code.declared.shape s.names v table row) e) }
 {

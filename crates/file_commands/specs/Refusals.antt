@@ -18,7 +18,7 @@ pub record IsTooLong (holds : Option (List ℕ) → Type 0) : Type 0 where
   pub held : holds (Some bytes)
   pub long : 67108864 < length bytes
 
-pub record HasFault (holds : Option (List ℕ) → Type 0) (fault : CodeFault) : Type 0 where
+pub record HasCodeFault (holds : Option (List ℕ) → Type 0) (fault : CodeFault) : Type 0 where
   pub bytes : List ℕ
   pub held : holds (Some bytes)
   pub faulty : code_at bytes ≡ Err fault
@@ -46,7 +46,7 @@ FileFault holds (OfIndex fault) = ⊥
 abbrev pub CodeFileFault : (Option (List ℕ) → Type 0) → Fault → Type 0
 CodeFileFault holds Absent = holds None
 CodeFileFault holds TooLong = IsTooLong holds
-CodeFileFault holds (OfCode fault) = HasFault holds fault
+CodeFileFault holds (OfCode fault) = HasCodeFault holds fault
 CodeFileFault holds (OfTable fault) = ⊥
 CodeFileFault holds (OfIndex fault) = ⊥
 

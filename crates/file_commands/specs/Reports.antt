@@ -4,7 +4,7 @@ use Rattle.code_items.specs.declared.code.Code.{Code}
 use Rattle.xcode.specs.CodeFile.{CodeText}
 use Rattle.code_rules.specs.Rules.{Accepted, FirstRefusal}
 use Rattle.xcode.specs.Listing.{lines_from}
-use Rattle.xverify.specs.declared.verified.Refused.{Refused as RefusedRule}
+use Rattle.xverify.specs.declared.verified.FailedRule.{FailedRule as RefusedRule}
 use Rattle.file_commands.specs.Lines.{table_lines, index_lines}
 use Rattle.dbf_file.specs.declared.stamp.Stamp.{Stamp}
 use Rattle.dbf_file.specs.Rows.{Row}
@@ -26,12 +26,12 @@ pub record HasCode (holds : Option (List ℕ) → Type 0) (sort : Code → Type 
   pub fits : sort code
 
 -- the code in the file is accepted, or this is its refusal
-abbrev pub Judged : (Option (List ℕ) → Type 0) → Option RefusedRule → Type 0
-Judged holds None = HasCode holds Accepted
-Judged holds (Some refused) = HasCode holds (λ code. FirstRefusal code refused.rule refused.at)
+abbrev pub JudgedFile : (Option (List ℕ) → Type 0) → Option RefusedRule → Type 0
+JudgedFile holds None = HasCode holds Accepted
+JudgedFile holds (Some refused) = HasCode holds (λ code. FirstRefusal code refused.rule refused.at)
 
 -- these are the lines of the code in the file
-pub record Listed (holds : Option (List ℕ) → Type 0) (lines : List ℕ) : Type 0 where
+pub record ListedCode (holds : Option (List ℕ) → Type 0) (lines : List ℕ) : Type 0 where
   pub code : Code
   pub file : IsCodeFile holds code
   pub lines_are : lines ≡ lines_from 0 code.instructions

@@ -4,22 +4,22 @@
 ghost use Rattle.std.specs.Prelude.{◌≡◌, IfOk, IfErr};
 ghost use Rattle.file_access.specs.Holding.{SameFiles};
 ghost use Rattle.file_commands.specs.Refusals.{RefusalIs, CodeFileFault};
-ghost use Rattle.file_commands.specs.Reports.{Listed, Judged};
+ghost use Rattle.file_commands.specs.Reports.{ListedCode, JudgedFile};
 
 use crate::reading::read_code;
 use crate::refusal::Refusal;
 use file_access::Files;
 use std::alloc::Global;
 use xcode::list;
-use xverify::{Refused, VerifyError, verify};
+use xverify::{FailedRule, VerifyError, verify};
 
 /// Whether the code in a file is accepted: none, or the least rule that fails at the least place where one does.
 pub fn verify_file<'a, F: Files>(
     alloc: Global,
     files: &mut F,
     name: &'a str,
-) -> Result<Option<Refused>, Refusal<'a>>
-    ensures judged { IfOk result (Judged (F.holds files.old name.now)) }
+) -> Result<Option<FailedRule>, Refusal<'a>>
+    ensures judged { IfOk result (JudgedFile (F.holds files.old name.now)) }
     ensures refused { IfErr result (RefusalIs (CodeFileFault (F.holds files.old name.now)) (F.failed files.old)
         (F.failed files.new) name.now) }
     ensures kept { SameFiles (F.holds files.old) (F.holds files.new) }
@@ -38,7 +38,7 @@ pub fn list_code<'a, F: Files>(
     files: &mut F,
     name: &'a str,
 ) -> Result<Vec<u8>, Refusal<'a>>
-    ensures listed { IfOk result (λ lines. Listed (F.holds files.old name.now) lines.items) }
+    ensures listed { IfOk result (λ lines. ListedCode (F.holds files.old name.now) lines.items) }
     ensures refused { IfErr result (RefusalIs (CodeFileFault (F.holds files.old name.now)) (F.failed files.old)
         (F.failed files.new) name.now) }
     ensures kept { SameFiles (F.holds files.old) (F.holds files.new) }

@@ -1,7 +1,7 @@
 -- Where a block begins and ends, over lists of lengths.
 use Rattle.std.proofs.Common.{◌≡◌, ◌≤◌, ◌<◌, ℕ, zero, suc, ◌+◌, ◌-◌, Bool, true, false, ◌&&◌, nat_lt, nat_le, cond, List, [], ◌∷◌, ◌++◌, length, take, get_or, refl, arith}
 use Rattle.std.proofs.lemmas.Bool.{and_parts, cond_both, leb-true, lt-ltb, le-ltb, ltb-true, ltb-false}
-use Rattle.code_items.specs.Legal.{total, blocks_fill}
+use Rattle.code_items.specs.Legal.{places_in_all, blocks_fill}
 use Rattle.code_rules.specs.declared.blocks.Block.{Block}
 use Rattle.code_rules.specs.Places.{block_from}
 
@@ -30,12 +30,12 @@ pub record Found (number first : ℕ) (ms : List ℕ) (b : Block) (place : ℕ) 
   pub index : ℕ
   pub within : index < length ms
   pub numbered : b.number ≡ number + index
-  pub begun : b.first ≡ first + total (take index ms)
-  pub ended : b.end ≡ first + total (take index ms) + get_or ms index 0
+  pub begun : b.first ≡ first + places_in_all (take index ms)
+  pub ended : b.end ≡ first + places_in_all (take index ms) + get_or ms index 0
   pub from : b.first ≤ place
   pub to : place < b.end
 
-pub found : (number first : ℕ) (ms ns : List ℕ) (place : ℕ) → first ≤ place → place < first + total ms → Found number first ms (block_from number first (ms ++ ns) place) place
+pub found : (number first : ℕ) (ms ns : List ℕ) (place : ℕ) → first ≤ place → place < first + places_in_all ms → Found number first ms (block_from number first (ms ++ ns) place) place
 found number first [] ns place le lt = absurd (omega arith)
 found number first (m ∷ ms) ns place le lt =
     cond_both (nat_lt place (first + m)) (record { number = number; first = first; end = first + m }) (block_from (number + 1) (first + m) (ms ++ ns) place) (λ b. Found number first (m ∷ ms) b place)
@@ -63,10 +63,10 @@ found number first (m ∷ ms) ns place le lt =
 -- the block of an index, where it has an instruction
 pub record Begun (number first : ℕ) (ms : List ℕ) (k : ℕ) (b : Block) : Type 0 where
   pub numbered : b.number ≡ number + k
-  pub begun : b.first ≡ first + total (take k ms)
-  pub ended : b.end ≡ first + total (take k ms) + get_or ms k 0
+  pub begun : b.first ≡ first + places_in_all (take k ms)
+  pub ended : b.end ≡ first + places_in_all (take k ms) + get_or ms k 0
 
-pub begun_at : (number first : ℕ) (ms ns : List ℕ) (k place : ℕ) → k < length ms → 1 ≤ get_or ms k 0 → place ≡ first + total (take k ms) → Begun number first ms k (block_from number first (ms ++ ns) place)
+pub begun_at : (number first : ℕ) (ms ns : List ℕ) (k place : ℕ) → k < length ms → 1 ≤ get_or ms k 0 → place ≡ first + places_in_all (take k ms) → Begun number first ms k (block_from number first (ms ++ ns) place)
 begun_at number first [] ns k place lt some e = absurd (omega arith)
 begun_at number first (m ∷ ms) ns zero place lt some e =
     rw (lt-ltb place (first + m) (omega (arith, some, e))) (record { numbered = omega arith; begun = omega arith; ended = omega arith })
@@ -84,12 +84,12 @@ some_each left (m ∷ ms) ns (suc k) e lt =
     some_each (left - m) ms ns k (and_parts (nat_le 1 m && nat_le m left) (blocks_fill (left - m) (ms ++ ns)) e).1 (omega (arith, lt))
 
 -- so many blocks and the next one have no more places than all
-pub part : (ms : List ℕ) (k : ℕ) → k < length ms → total (take k ms) + get_or ms k 0 ≤ total ms
+pub part : (ms : List ℕ) (k : ℕ) → k < length ms → places_in_all (take k ms) + get_or ms k 0 ≤ places_in_all ms
 part [] k lt = absurd (omega arith)
 part (m ∷ ms) zero lt = omega arith
 part (m ∷ ms) (suc k) lt = omega (arith, part ms k (omega (arith, lt)))
 
-pub filled_within : (left : ℕ) (ns : List ℕ) → blocks_fill left ns ≡ true → total ns ≤ left
+pub filled_within : (left : ℕ) (ns : List ℕ) → blocks_fill left ns ≡ true → places_in_all ns ≤ left
 filled_within left [] e = omega arith
 filled_within left (n ∷ ns) e =
     let a = and_parts (nat_le 1 n && nat_le n left) (blocks_fill (left - n) ns) e in
@@ -97,7 +97,7 @@ filled_within left (n ∷ ns) e =
     omega (arith, leb-true n left b.1, filled_within (left - n) ns a.1)
 
 -- so many of the second ones behind all of the first
-pub taken_both : (ms ns : List ℕ) (k m : ℕ) → m ≡ length ms + k → total (take m (ms ++ ns)) ≡ total ms + total (take k ns)
+pub taken_both : (ms ns : List ℕ) (k m : ℕ) → m ≡ length ms + k → places_in_all (take m (ms ++ ns)) ≡ places_in_all ms + places_in_all (take k ns)
 taken_both [] ns k m e =
     let f : m ≡ k = omega (arith, e) in
     rw f (omega arith)

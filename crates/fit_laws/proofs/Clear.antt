@@ -14,12 +14,12 @@ use Rattle.code_rules.specs.Signature.{signature, call_of}
 use Rattle.code_rules.specs.Wants.{wants}
 use Rattle.code_rules.specs.Places.{instr_at, state_at, block_at}
 use Rattle.code_rules.specs.Kept.{Kept}
-use Rattle.code_rules.specs.Rules.{Here, here_at, if_some, names_other, some_desk_fails, some_slots_fail, filter_fails, is_filters, moves_blindly, is_rows, loads_other, loads_free, undeclared, order_fails, opens_twice, height_after}
+use Rattle.code_rules.specs.Rules.{Here, here_at, fails_if_named, names_other, some_desk_fails, some_slots_fail, filter_fails, is_filters, moves_blindly, is_rows, loads_other, loads_free, undeclared, order_fails, opens_twice, height_after}
 use Rattle.fit_laws.specs.Connects.{IsOfProcedures, Connects}
 use Rattle.fit_laws.specs.FilterWalks.{WalksWithNeeds}
 use Rattle.run_steps.specs.World.{World, state_of}
 use Rattle.run_steps.specs.Faults.{wrong_kind, closed_area, empty_stack, stack_over, deep_call, bad_field, bad_filter, lists_other, filters_other, moves_badly, IsClear}
-use Rattle.fit_laws.specs.Fits.{HasRoom, ReturnsWithin, IsFitting}
+use Rattle.fit_laws.specs.Fits.{HasRoomToCall, ReturnsWithin, IsFitting}
 use Rattle.fit_laws.proofs.Covered.{Covered, covered, Desks}
 use Rattle.fit_laws.proofs.Desks.{IsKnown, known_too, wants_same, order_same, once, declared_same, record_other_same, area_other_same}
 use Rattle.fit_laws.proofs.Filters.{moves_well}
@@ -56,11 +56,11 @@ filters_well code m s c (Records i) k e = refl
 
 -- ---- calls
 
-some_below : (o : Option ℕ) (height : ℕ) → ((n : ℕ) → o ≡ Some n → height < 20) → if_some (λ n. nat_le 20 height) o ≡ false
+some_below : (o : Option ℕ) (height : ℕ) → ((n : ℕ) → o ≡ Some n → height < 20) → fails_if_named (λ n. nat_le 20 height) o ≡ false
 some_below None height h = refl
 some_below (Some n) height h = lt-leb 20 height (h n refl)
 
-calls_well : (w : World) (i : Instr) → HasRoom w i → deep_call w i ≡ false
+calls_well : (w : World) (i : Instr) → HasRoomToCall w i → deep_call w i ≡ false
 calls_well w i h = some_below (call_of i) (length w.returns) h
 
 -- ---- the rules of an instruction of a procedure
@@ -138,7 +138,7 @@ outside code c place lt =
     let p = c.stands place lt in
     lt-leb (length code.procedures) (block_at code place).number (slice_get_within code.procedures (block_at code place).number p.procedure p.is)
 
-pub is_clear : (code : Code) (w : World) → Connects code → WalksWithNeeds code → Kept code (here_at code w.place) → IsFitting code w → HasRoom w (instr_at code w.place) → ReturnsWithin code w → IsClear code w (instr_at code w.place)
+pub is_clear : (code : Code) (w : World) → Connects code → WalksWithNeeds code → Kept code (here_at code w.place) → IsFitting code w → HasRoomToCall w (instr_at code w.place) → ReturnsWithin code w → IsClear code w (instr_at code w.place)
 is_clear code w c walks k f room returns =
     let r : Rules code (state_at code w.place) (instr_at code w.place) = rules code (here_at code w.place) (outside code c w.place f.shape.place) k in
     let p = passes code (state_at code w.place) (state_of w) (instr_at code w.place) walks f.shape.state (covered (state_at code w.place) (state_of w) f.fits) r in

@@ -12,8 +12,8 @@ use Rattle.code_rules.specs.Signature.{signature, target_of, call_of}
 use Rattle.code_rules.specs.Wants.{gives, unknown}
 use Rattle.code_rules.specs.Places.{instr_at, block_at, map_at, start_of, or_state, state_at}
 use Rattle.code_rules.specs.Kept.{Kept, KeepsRules}
-use Rattle.code_rules.specs.Rules.{Here, here_at, slots_fail, desk_fails, stack_fails, at_start, entry_in, entered, called_entry, some_next, if_some, no_procedure, leads_on, is_outside, is_filters, runs_over, not_below, level_of, not_covered, moves_blindly, is_rows, covers, returns as is_return, kind_fails, table_fails, empty_fails, fall_fails, filter_fails}
-use Rattle.fit_laws.specs.Connects.{first_of, IsOfProcedures, Stands, Enters, left_at, Reaches, Calls, Connects}
+use Rattle.code_rules.specs.Rules.{Here, here_at, slots_fail, desk_fails, stack_fails, at_start, entry_in, entered, called_entry, some_next, fails_if_named, no_procedure, leads_on, is_outside, is_filters, runs_over, not_below, level_of, not_covered, moves_blindly, is_rows, covers, returns as is_return, kind_fails, table_fails, empty_fails, fall_fails, filter_fails}
+use Rattle.fit_laws.specs.Connects.{first_of, IsOfProcedures, InProcedure, Enters, left_at, Reaches, Calls, Connects}
 use Rattle.fit_laws.proofs.Covering.{covers_from, covers_self}
 use Rattle.fit_laws.proofs.Filtering.{filter_walks}
 use Rattle.fit_laws.proofs.Giving.{gives_known, call_known}
@@ -35,7 +35,7 @@ three false false false true e = absurd (cc)
 and_not : (b c : Bool) → b ≡ true → c ≡ false → (b && not c) ≡ true
 and_not b c e f = rw (e, f) refl
 
-some_keeps : (fails : ℕ → Bool) (o : Option ℕ) (t : ℕ) → if_some fails o ≡ false → o ≡ Some t → fails t ≡ false
+some_keeps : (fails : ℕ → Bool) (o : Option ℕ) (t : ℕ) → fails_if_named fails o ≡ false → o ≡ Some t → fails t ≡ false
 some_keeps fails o t e h = rw h at e
 
 -- ---- covering, by the three rules that speak of it
@@ -74,7 +74,7 @@ rows_are_filters i P e f = absurd (not_both e f refl)
 -- what a place of a procedure keeps
 record Shown (code : Code) (place : ℕ) : Type 0 where
   pub kept : Kept code (here_at code place)
-  pub stands : Stands code place
+  pub stands : InProcedure code place
   pub outside : is_filters code (block_at code place) ≡ false
   pub known : unknown (gives code.declared (state_at code place).desk (instr_at code place)) ≡ 0
 
@@ -125,7 +125,7 @@ enters code ok facts keeps n p e =
 -- ---- behind an instruction that goes on
 
 goes_on : (code : Code) (place : ℕ) → Shown code place → (signature (instr_at code place)).falls ≡ true → leads_on code (instr_at code place) ≡ true
-goes_on code place s f = and_not (signature (instr_at code place)).falls (if_some (no_procedure code) (call_of (instr_at code place))) f (call_known code (state_at code place).desk (instr_at code place) s.kept.declared)
+goes_on code place s f = and_not (signature (instr_at code place)).falls (fails_if_named (no_procedure code) (call_of (instr_at code place))) f (call_known code (state_at code place).desk (instr_at code place) s.kept.declared)
 
 not_run_over : (code : Code) (h : Here) → is_filters code h.block ≡ false → fall_fails code h ≡ false → (signature h.instr).falls ≡ true → h.place + 1 < h.block.end
 not_run_over code h o e f =

@@ -8,7 +8,7 @@ use Rattle.code_items.specs.declared.desk.AreaState.{AreaState}
 use Rattle.code_items.specs.declared.desk.AreaState.TheVariants.{Closed, Open as IsOpen, Unsure}
 use Rattle.code_items.specs.declared.desk.Desk.{Desk}
 use Rattle.code_items.specs.Desks.{area_covered, areas_covered, open_at}
-use Rattle.code_items.specs.States.{opened}
+use Rattle.code_items.specs.States.{opened_by}
 use Rattle.code_items.specs.declared.instr.AreaInstr.{AreaInstr}
 use Rattle.code_items.specs.declared.instr.AreaInstr.TheVariants.{Open, Close, CloseAll, Select, Order, Filter}
 use Rattle.code_items.specs.declared.instr.MoveInstr.{MoveInstr}
@@ -19,13 +19,13 @@ use Rattle.code_items.specs.declared.instr.Instr.{Instr}
 use Rattle.code_items.specs.declared.instr.Instr.TheVariants.{Values, Flow, Screen, Areas, Moves, Records}
 use Rattle.code_rules.specs.Signature.{area_of, area_area, record_area}
 use Rattle.code_rules.specs.Wants.{wants, record_wants, if_known, kind_of_field, fields_at}
-use Rattle.code_rules.specs.Rules.{if_some, if_open, is_other_list, is_other_filter, record_is_other, area_order_fails, move_order_fails, order_fails, may_hold, others_hold, area_opens_twice, opens_twice, is_rows, record_is_rows, record_undeclared, undeclared}
+use Rattle.code_rules.specs.Rules.{fails_if_named, fails_if_open, is_other_list, is_other_filter, record_is_other, area_order_fails, move_order_fails, order_fails, may_hold, others_hold, area_opens_twice, opens_twice, is_rows, record_is_rows, record_undeclared, undeclared}
 use Rattle.run_steps.specs.Faults.{area_filters_other}
 use Rattle.fit_laws.proofs.Covered.{Desks, opens, selects, area_same}
 
 -- the area that has to be open is known to be
 abbrev pub IsKnown : Desk → Instr → Type 0
-IsKnown desk i = if_some (λ n. is_none (open_at desk n)) (area_of desk i) ≡ false
+IsKnown desk i = fails_if_named (λ n. is_none (open_at desk n)) (area_of desk i) ≡ false
 
 -- ---- that area
 
@@ -37,12 +37,12 @@ area_of_same m s e (Areas i) = ap (λ n. area_area n i) e
 area_of_same m s e (Moves i) = ap Some e
 area_of_same m s e (Records i) = ap (λ n. record_area n i) e
 
-there_too : (m s : Desk) → Desks m s → (o : Option ℕ) → if_some (λ n. is_none (open_at m n)) o ≡ false → if_some (λ n. is_none (open_at s n)) o ≡ false
+there_too : (m s : Desk) → Desks m s → (o : Option ℕ) → fails_if_named (λ n. is_none (open_at m n)) o ≡ false → fails_if_named (λ n. is_none (open_at s n)) o ≡ false
 there_too m s d None e = refl
 there_too m s d (Some n) e = subst (λ o. is_none o ≡ false) (opens m s d n e) e
 
 pub known_too : (m s : Desk) → Desks m s → (i : Instr) → IsKnown m i → IsKnown s i
-known_too m s d i e = subst (λ o. if_some (λ n. is_none (open_at s n)) o ≡ false) (area_of_same m s d.selected i) (there_too m s d (area_of m i) e)
+known_too m s d i e = subst (λ o. fails_if_named (λ n. is_none (open_at s n)) o ≡ false) (area_of_same m s d.selected i) (there_too m s d (area_of m i) e)
 
 -- ---- the kinds that are wanted
 
@@ -74,7 +74,7 @@ area_order_same d m s c (Open t l) e = refl
 area_order_same d m s c Close e = refl
 area_order_same d m s c CloseAll e = refl
 area_order_same d m s c (Select a) e = refl
-area_order_same d m s c (Order n) e = ap (if_open (λ a. nat_lt (opened d a.list) n)) (selects m s c e)
+area_order_same d m s c (Order n) e = ap (fails_if_open (λ a. nat_lt (opened_by d a.list) n)) (selects m s c e)
 area_order_same d m s c (Filter n) e = refl
 
 move_order_same : (m s : Desk) → Desks m s → (i : MoveInstr) → IsKnown m (Moves i) → move_order_fails m i ≡ move_order_fails s i
@@ -82,7 +82,7 @@ move_order_same m s c Top e = refl
 move_order_same m s c Bottom e = refl
 move_order_same m s c Skip e = refl
 move_order_same m s c Go e = refl
-move_order_same m s c Seek e = ap (if_open (λ a. a.order == 0)) (selects m s c e)
+move_order_same m s c Seek e = ap (fails_if_open (λ a. a.order == 0)) (selects m s c e)
 
 pub order_same : (d : Declared) (m s : Desk) → Desks m s → (i : Instr) → IsKnown m i → order_fails d m i ≡ order_fails d s i
 order_same d m s c (Values i) e = refl
@@ -138,11 +138,11 @@ once m s c (Records i) e = refl
 -- ---- what is declared
 
 record_declared_same : (d : Declared) (m s : Desk) → Desks m s → (i : RecordInstr) → IsKnown m (Records i) → record_is_rows i ≡ false → record_undeclared d m i ≡ record_undeclared d s i
-record_declared_same d m s c (Field a f) e r = ap (if_open (λ x. nat_le (length (fields_at d (Some x))) f)) (opens m s c a e)
+record_declared_same d m s c (Field a f) e r = ap (fails_if_open (λ x. nat_le (length (fields_at d (Some x))) f)) (opens m s c a e)
 record_declared_same d m s c (RowField f) e r = absurd (cc)
 record_declared_same d m s c (Ask q) e r = refl
 record_declared_same d m s c Append e r = refl
-record_declared_same d m s c (Replace f) e r = ap (if_open (λ x. nat_le (length (fields_at d (Some x))) f)) (selects m s c e)
+record_declared_same d m s c (Replace f) e r = ap (fails_if_open (λ x. nat_le (length (fields_at d (Some x))) f)) (selects m s c e)
 record_declared_same d m s c Delete e r = refl
 record_declared_same d m s c Recall e r = refl
 record_declared_same d m s c Pack e r = refl
@@ -171,7 +171,7 @@ record_other_same d m s c Recall e = refl
 record_other_same d m s c Pack e = refl
 record_other_same d m s c Zap e = refl
 record_other_same d m s c Reindex e = refl
-record_other_same d m s c (Index l) e = ap (λ o. nat_lt 1 (opened d l) || if_open (λ a. is_other_list d a.table l) o) (selects m s c e)
+record_other_same d m s c (Index l) e = ap (λ o. nat_lt 1 (opened_by d l) || fails_if_open (λ a. is_other_list d a.table l) o) (selects m s c e)
 
 pub area_other_same : (d : Declared) (m s : Desk) → Desks m s → (i : AreaInstr) → IsKnown m (Areas i) → area_filters_other d m i ≡ area_filters_other d s i
 area_other_same d m s c (Open t l) e = refl
@@ -179,4 +179,4 @@ area_other_same d m s c Close e = refl
 area_other_same d m s c CloseAll e = refl
 area_other_same d m s c (Select a) e = refl
 area_other_same d m s c (Order n) e = refl
-area_other_same d m s c (Filter n) e = ap (if_open (λ a. is_other_filter d a.table n)) (selects m s c e)
+area_other_same d m s c (Filter n) e = ap (fails_if_open (λ a. is_other_filter d a.table n)) (selects m s c e)

@@ -6,14 +6,14 @@ use Rattle.code_items.specs.declared.desk.OpenArea.{OpenArea}
 use Rattle.code_items.specs.declared.desk.AreaState.{AreaState}
 use Rattle.code_items.specs.declared.desk.AreaState.TheVariants.{Closed, Open as IsOpen}
 use Rattle.code_items.specs.declared.desk.Desk.{Desk}
-use Rattle.code_items.specs.Desks.{area_covered, areas_covered, desk_covered, put_at, with_selected}
+use Rattle.code_items.specs.Desks.{area_covered, areas_covered, desk_covered, put_at, with_selected_area}
 use Rattle.code_items.specs.declared.instr.AreaInstr.{AreaInstr}
 use Rattle.code_items.specs.declared.instr.AreaInstr.TheVariants.{Open, Close, CloseAll, Select, Order, Filter}
 use Rattle.code_items.specs.declared.instr.RecordInstr.{RecordInstr}
 use Rattle.code_items.specs.declared.instr.RecordInstr.TheVariants.{Field, RowField, Ask, Append, Replace, Delete, Recall, Pack, Zap, Reindex, Index}
 use Rattle.code_items.specs.declared.instr.Instr.{Instr}
 use Rattle.code_items.specs.declared.instr.Instr.TheVariants.{Values, Flow, Screen, Areas, Moves, Records}
-use Rattle.code_rules.specs.Flow.{just_opened, ordered, filtered, indexed, if_area, on_selected, desk_after_area, desk_after_record, desk_after}
+use Rattle.code_rules.specs.Flow.{just_opened, ordered, filtered, in_list_order, if_area, on_selected, desk_after_area, desk_after_record, desk_after}
 use Rattle.code_rules.specs.Rules.{selected_in}
 use Rattle.fit_laws.proofs.Covered.{Desks, selects}
 use Rattle.fit_laws.proofs.Desks.{IsKnown}
@@ -48,7 +48,7 @@ area_self a =
     (and_from (a.table == a.table) (a.list == a.list) (eq-eqb a.table a.table refl) (eq-eqb a.list a.list refl))
     (eq-eqb a.order a.order refl)) (eq-eqb a.filter a.filter refl)
 
-put_selected : (m s : Desk) → Desks m s → (x y : AreaState) → area_covered (x, y) ≡ true → Desks (with_selected x m) (with_selected y s)
+put_selected : (m s : Desk) → Desks m s → (x y : AreaState) → area_covered (x, y) ≡ true → Desks (with_selected_area x m) (with_selected_area y s)
 put_selected m s d x y e = record {
   selected = d.selected;
   areas = subst (λ n. areas_covered (put_at m.selected x m.areas) (put_at n y s.areas) ≡ true) d.selected (put_covered x y e m.areas s.areas m.selected d.areas);
@@ -87,7 +87,7 @@ record_on m s d Recall k = d
 record_on m s d Pack k = d
 record_on m s d Zap k = d
 record_on m s d Reindex k = d
-record_on m s d (Index l) k = selected_on (indexed l) m s d k
+record_on m s d (Index l) k = selected_on (in_list_order l) m s d k
 
 pub desk_on : (m s : Desk) → Desks m s → (i : Instr) → IsKnown m i → Desks (desk_after i m) (desk_after i s)
 desk_on m s d (Values i) k = d

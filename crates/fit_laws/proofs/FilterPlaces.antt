@@ -9,7 +9,7 @@ use Rattle.code_items.specs.declared.code.Map.{Map}
 use Rattle.code_items.specs.declared.code.Proc.{Proc}
 use Rattle.code_items.specs.declared.code.Code.{Code}
 use Rattle.code_items.specs.Facts.{Facts}
-use Rattle.code_items.specs.Legal.{total, places_of, maps_rise, blocks_fill, IsCode}
+use Rattle.code_items.specs.Legal.{places_in_all, places_of, maps_rise, blocks_fill, IsCode}
 use Rattle.code_rules.specs.Places.{block_from, block_at, map_in, map_at, filter_start, start_of}
 use Rattle.fit_laws.proofs.BlockPlaces.{Begun, begun_at, some_each, part, filled_within, taken_both}
 use Rattle.fit_laws.proofs.Standing.{lengths, filter_lengths, filled}
@@ -33,7 +33,7 @@ all_lengths code = lengths code.procedures ++ filter_lengths code.declared.filte
 
 -- the first place of the filter whose number is n, counted from 0
 abbrev pub first_place : Code → ℕ → ℕ
-first_place code n = places_of code.procedures + total (map (λ f. f.length) (take n code.declared.filters))
+first_place code n = places_of code.procedures + places_in_all (map (λ f. f.length) (take n code.declared.filters))
 
 -- its block
 pub record Place (code : Code) (n : ℕ) (f : Filter) : Type 0 where
@@ -43,10 +43,10 @@ pub record Place (code : Code) (n : ℕ) (f : Filter) : Type 0 where
   pub some : 1 ≤ f.length
   pub last : first_place code n + f.length ≤ length code.instructions
 
-before : (code : Code) (n : ℕ) → total (take (length code.procedures + n) (all_lengths code)) ≡ first_place code n
+before : (code : Code) (n : ℕ) → places_in_all (take (length code.procedures + n) (all_lengths code)) ≡ first_place code n
 before code n =
     let e : length code.procedures + n ≡ length (lengths code.procedures) + n = rw length-map refl in
-    taken_both (lengths code.procedures) (filter_lengths code.declared.filters) n (length code.procedures + n) e ∙ ap (λ t. places_of code.procedures + total t) (take-map (λ (f : Filter). f.length) n code.declared.filters)
+    taken_both (lengths code.procedures) (filter_lengths code.declared.filters) n (length code.procedures + n) e ∙ ap (λ t. places_of code.procedures + places_in_all t) (take-map (λ (f : Filter). f.length) n code.declared.filters)
 
 length_here : (code : Code) (n : ℕ) (f : Filter) → slice_get code.declared.filters n ≡ Some f → get_or (all_lengths code) (length code.procedures + n) 0 ≡ f.length
 length_here code n f e =

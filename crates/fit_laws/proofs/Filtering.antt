@@ -22,9 +22,9 @@ use Rattle.code_rules.specs.Wants.{wants, gives, unknown}
 use Rattle.code_rules.specs.Flow.{flow, left_by}
 use Rattle.code_rules.specs.Places.{instr_at, block_at, filter_desk, filter_start, or_state, start_of, state_at}
 use Rattle.code_rules.specs.Kept.{Kept, KeepsRules}
-use Rattle.code_rules.specs.Rules.{Here, here_at, loads_other, some_slots_fail, is_filters, is_truth, ends_untrue, filters, filter_fails}
+use Rattle.code_rules.specs.Rules.{Here, here_at, loads_other, some_slots_fail, is_filters, leaves_truth, ends_untrue, filters, filter_fails}
 use Rattle.fit_laws.specs.Connects.{left_at}
-use Rattle.fit_laws.specs.FilterWalks.{filter_instrs, Steps, Walks}
+use Rattle.fit_laws.specs.FilterWalks.{filter_instrs, Steps, BlockWalks}
 use Rattle.fit_laws.proofs.FilterPlaces.{first_place, Place, place_of_filter, start_is, no_map}
 use Rattle.fit_laws.proofs.Giving.{gives_known}
 use Rattle.fit_laws.proofs.Standing.{together}
@@ -92,8 +92,8 @@ steps code h table k e d =
 truth_left : (code : Code) (h : Here) → ends_untrue code h ≡ false → h.block.end ≡ h.place + 1 → unknown (gives code.declared h.before.desk h.instr) ≡ 0 → same_kinds (OfLogical ∷ []) h.after.stack ≡ true
 truth_left code h u e g =
     let n = holds_on _ _ u (eq-eqb h.block.end (h.place + 1) e) in
-    let t : is_truth (unknown (gives code.declared h.before.desk h.instr)) h.after.stack ≡ true = not-false _ n in
-    subst (λ k. is_truth k h.after.stack ≡ true) g t
+    let t : leaves_truth (unknown (gives code.declared h.before.desk h.instr)) h.after.stack ≡ true = not-false _ n in
+    subst (λ k. leaves_truth k h.after.stack ≡ true) g t
 
 -- ---- along the block
 
@@ -130,7 +130,7 @@ goes_on code n f place left h s e = record {
 first_of_rest : (code : Code) (place left : ℕ) → place < length code.instructions → take (suc left) (drop place code.instructions) ≡ instr_at code place ∷ take left (drop (place + 1) code.instructions)
 first_of_rest code place left lt = ap (take (suc left)) (drop_more code.instructions place (Flow End) lt)
 
-walk : (code : Code) (n : ℕ) (f : Filter) → Facts code → Place code n f → KeepsRules code → (left place : ℕ) → In code n f place (suc left) → Walks code (state_at code place) (take (suc left) (drop place code.instructions))
+walk : (code : Code) (n : ℕ) (f : Filter) → Facts code → Place code n f → KeepsRules code → (left place : ℕ) → In code n f place (suc left) → BlockWalks code (state_at code place) (take (suc left) (drop place code.instructions))
 walk code n f facts p keeps zero place h =
     let lt : place < length code.instructions = omega (arith, h.ends, p.last) in
     let s = here code n f p keeps place zero h in
@@ -138,26 +138,26 @@ walk code n f facts p keeps zero place h =
     let k : Kept code (here_at code place) = keeps place lt in
     let u = filter_rule code (here_at code place) (is_of_filters code n f p place b) k.filter in
     let t = truth_left code (here_at code place) u.1 (omega (arith, ap (λ x. x.end) b, p.end, h.ends)) s.given in
-    subst (Walks code (state_at code place)) (sym (first_of_rest code place zero lt)) (s, t)
+    subst (BlockWalks code (state_at code place)) (sym (first_of_rest code place zero lt)) (s, t)
 walk code n f facts p keeps (suc left) place h =
     let lt : place < length code.instructions = omega (arith, h.ends, p.last) in
     let s = here code n f p keeps place (suc left) h in
     let e = state_after code n f facts p place left h in
     let rest = walk code n f facts p keeps left (place + 1) (goes_on code n f place left h s e) in
-    subst (Walks code (state_at code place)) (sym (first_of_rest code place (suc left) lt)) (s, subst (λ x. Walks code x (take (suc left) (drop (place + 1) code.instructions))) e rest)
+    subst (BlockWalks code (state_at code place)) (sym (first_of_rest code place (suc left) lt)) (s, subst (λ x. BlockWalks code x (take (suc left) (drop (place + 1) code.instructions))) e rest)
 
 begun_state : (code : Code) (n : ℕ) (f : Filter) → Facts code → Place code n f → slice_get code.declared.filters n ≡ Some f → state_at code (first_place code n) ≡ filter_start code.declared.slots f
 begun_state code n f facts p e =
     let none = no_map code facts (first_place code n) (omega arith) in
     state_first code (first_place code n) p.first ∙ (ap (λ o. or_state o (start_of code (block_at code (first_place code n)).number)) none ∙ (ap (start_of code) p.number ∙ start_is code n f e))
 
-walked : (code : Code) (n : ℕ) (f : Filter) → Facts code → Place code n f → KeepsRules code → slice_get code.declared.filters n ≡ Some f → (left : ℕ) → f.length ≡ suc left → Walks code (filter_start code.declared.slots f) (take f.length (drop (first_place code n) code.instructions))
+walked : (code : Code) (n : ℕ) (f : Filter) → Facts code → Place code n f → KeepsRules code → slice_get code.declared.filters n ≡ Some f → (left : ℕ) → f.length ≡ suc left → BlockWalks code (filter_start code.declared.slots f) (take f.length (drop (first_place code n) code.instructions))
 walked code n f facts p keeps e left l =
     let b = begun_state code n f facts p e in
     let w = walk code n f facts p keeps left (first_place code n) (record { ends = omega (arith, l); from = omega arith; desk = ap (λ x. x.desk) b }) in
-    subst (λ s. Walks code s (take f.length (drop (first_place code n) code.instructions))) b (subst (λ m. Walks code (state_at code (first_place code n)) (take m (drop (first_place code n) code.instructions))) (sym l) w)
+    subst (λ s. BlockWalks code s (take f.length (drop (first_place code n) code.instructions))) b (subst (λ m. BlockWalks code (state_at code (first_place code n)) (take m (drop (first_place code n) code.instructions))) (sym l) w)
 
-pub filter_walks : (code : Code) → IsCode code → Facts code → KeepsRules code → (number : ℕ) (f : Filter) → filter_of code.declared number ≡ Some f → Walks code (filter_start code.declared.slots f) (filter_instrs code number f)
+pub filter_walks : (code : Code) → IsCode code → Facts code → KeepsRules code → (number : ℕ) (f : Filter) → filter_of code.declared number ≡ Some f → BlockWalks code (filter_start code.declared.slots f) (filter_instrs code number f)
 filter_walks code ok facts keeps zero f e = absurd (cc)
 filter_walks code ok facts keeps (suc n) f e =
     let p = place_of_filter code ok n f e in

@@ -15,7 +15,7 @@ use Rattle.code_items.specs.declared.state.State.{State}
 use Rattle.code_items.specs.Declarations.{filter_of}
 use Rattle.code_items.specs.Desks.{if_open as opened_of, open_at}
 use Rattle.code_items.specs.Kinds.{clashes, slots_covered}
-use Rattle.code_items.specs.States.{is_list_of, is_filter_of, filters_table, opened, is_open, is_area_state, is_desk, is_state}
+use Rattle.code_items.specs.States.{is_list_of, is_filter_of, filters_table, opened_by, is_open, is_area_state, is_desk, is_state}
 use Rattle.code_items.specs.declared.instr.ValueInstr.{ValueInstr}
 use Rattle.code_items.specs.declared.instr.ValueInstr.TheVariants.{Constant, Load, Store, Unset, Discard, Function, Today, Set}
 use Rattle.code_items.specs.declared.instr.FlowInstr.{FlowInstr}
@@ -31,8 +31,8 @@ use Rattle.code_items.specs.declared.instr.Instr.TheVariants.{Values, Flow, Scre
 use Rattle.code_rules.specs.Signature.{signature, value_signature, flow_signature, screen_signature, area_signature, record_signature}
 use Rattle.code_rules.specs.Wants.{wants}
 use Rattle.code_rules.specs.Flow.{left_by}
-use Rattle.code_rules.specs.Rules.{if_open, selected_in, filters, height_after, loads_other, loads_free, filter_lacks, moves_blindly, undeclared}
-use Rattle.fit_laws.specs.FilterWalks.{Steps, Walks, WalksWithNeeds}
+use Rattle.code_rules.specs.Rules.{fails_if_open, selected_in, filters, height_after, loads_other, loads_free, filter_lacks, moves_blindly, undeclared}
+use Rattle.fit_laws.specs.FilterWalks.{Steps, BlockWalks, WalksWithNeeds}
 use Rattle.run_steps.specs.Filters.{block_fails, block_sound, block_start, is_sound_filter, is_sound, instructions_of}
 use Rattle.run_steps.specs.Faults.{moves_badly}
 use Rattle.fit_laws.proofs.Covered.{Covered, selects}
@@ -55,11 +55,11 @@ step_sound code s i h = not_from_false (block_fails code s i)
     (none_fails (filters i) (clashes (wants code.declared s.desk i) s.stack) (loads_other s i) (loads_free s i) (nat_lt (length s.stack) (signature i).taken)
     (nat_lt code.declared.stack_bound (height_after (length s.stack) i)) (undeclared code s.desk i) h.stands h.kind h.other h.set h.under h.over h.declared)
 
-walk_sound : (code : Code) (instrs : List Instr) (s : State) → Walks code s instrs → block_sound code s instrs ≡ true
+walk_sound : (code : Code) (instrs : List Instr) (s : State) → BlockWalks code s instrs → block_sound code s instrs ≡ true
 walk_sound code [] s w = w
 walk_sound code (i ∷ instrs) s w =
     and_from (not (block_fails code s i)) (block_sound code (left_by code i s) instrs) (step_sound code s i w.0)
-    (walk_sound code instrs (left_by code i s) (subst (λ x. Walks code x instrs) w.0.left w.1))
+    (walk_sound code instrs (left_by code i s) (subst (λ x. BlockWalks code x instrs) w.0.left w.1))
 
 -- ---- a filter whose needs are met is sound
 
@@ -85,17 +85,17 @@ number_sound code walks known slots c l table n e f =
 
 -- ---- the areas of a state that a code can hold
 
-state_open : (d : Declared) (a : AreaState) → is_area_state d a ≡ true → if_open (λ x. not (is_open d x)) (opened_of (Some a)) ≡ false
+state_open : (d : Declared) (a : AreaState) → is_area_state d a ≡ true → fails_if_open (λ x. not (is_open d x)) (opened_of (Some a)) ≡ false
 state_open d Closed e = refl
 state_open d (IsOpen a) e = not_from_true (is_open d a) e
 state_open d Unsure e = refl
 
-areas_open : (d : Declared) (areas : List AreaState) (n : ℕ) → list_all (is_area_state d) areas ≡ true → if_open (λ x. not (is_open d x)) (opened_of (slice_get areas n)) ≡ false
+areas_open : (d : Declared) (areas : List AreaState) (n : ℕ) → list_all (is_area_state d) areas ≡ true → fails_if_open (λ x. not (is_open d x)) (opened_of (slice_get areas n)) ≡ false
 areas_open d [] n e = refl
 areas_open d (a ∷ areas) zero e = state_open d a (and_parts (is_area_state d a) (list_all (is_area_state d) areas) e).0
 areas_open d (a ∷ areas) (suc n) e = areas_open d areas n (and_parts (is_area_state d a) (list_all (is_area_state d) areas) e).1
 
-desk_open : (d : Declared) (desk : Desk) (n : ℕ) → list_all (is_area_state d) desk.areas ≡ true → if_open (λ x. not (is_open d x)) (open_at desk n) ≡ false
+desk_open : (d : Declared) (desk : Desk) (n : ℕ) → list_all (is_area_state d) desk.areas ≡ true → fails_if_open (λ x. not (is_open d x)) (open_at desk n) ≡ false
 desk_open d desk zero e = refl
 desk_open d desk (suc n) e = areas_open d desk.areas n e
 
@@ -104,7 +104,7 @@ unfolding is_desk
 desk_legal d desk e = (and_parts (nat_le 1 desk.selected && nat_le desk.selected 10 && length desk.areas == 10) (list_all (is_area_state d) desk.areas) e).1
 
 pub record Legal (d : Declared) (s : State) : Type 0 where
-  pub area : if_open (λ x. not (is_open d x)) (selected_in s.desk) ≡ false
+  pub area : fails_if_open (λ x. not (is_open d x)) (selected_in s.desk) ≡ false
   pub slots : length s.slots ≡ d.slots
 
 pub legal : (d : Declared) (s : State) → is_state d s ≡ true → Legal d s
@@ -117,10 +117,10 @@ legal d s e =
 -- ---- the selected area's filter
 
 area_sound : (code : Code) → WalksWithNeeds code → (known slots : List (Option Kind)) → slots_covered known slots ≡ true → length slots ≡ code.declared.slots → (o : Option OpenArea)
-    → if_open (λ x. not (is_open code.declared x)) o ≡ false → if_open (λ a. filter_lacks known (filter_of code.declared a.filter)) o ≡ false → if_open (λ a. not (is_sound code slots a.filter)) o ≡ false
+    → fails_if_open (λ x. not (is_open code.declared x)) o ≡ false → fails_if_open (λ a. filter_lacks known (filter_of code.declared a.filter)) o ≡ false → fails_if_open (λ a. not (is_sound code slots a.filter)) o ≡ false
 area_sound code walks known slots c l None legal' e = refl
 area_sound code walks known slots c l (Some a) legal' e =
-    let p = and_parts (nat_lt a.table (length code.declared.shape.tables) && (a.list == 0 || is_list_of code.declared a.table a.list) && nat_le a.order (opened code.declared a.list)) (a.filter == 0 || is_filter_of code.declared a.table a.filter) (not-false (is_open code.declared a) legal') in
+    let p = and_parts (nat_lt a.table (length code.declared.shape.tables) && (a.list == 0 || is_list_of code.declared a.table a.list) && nat_le a.order (opened_by code.declared a.list)) (a.filter == 0 || is_filter_of code.declared a.table a.filter) (not-false (is_open code.declared a) legal') in
     not_from_true (is_sound code slots a.filter) (number_sound code walks known slots c l a.table a.filter p.1 e)
 
 -- ---- instructions that move need the selected area open
@@ -191,13 +191,13 @@ behind_true true x y e f = f refl e
 behind_true false x y e f = refl
 
 moves_sound : (code : Code) (m s : State) → WalksWithNeeds code → is_state code.declared s ≡ true → Covered m s → (i : Instr) → IsKnown m.desk i → (signature i).moves ≡ true
-    → if_open (λ a. filter_lacks m.slots (filter_of code.declared a.filter)) (selected_in m.desk) ≡ false → if_open (λ a. not (is_sound code s.slots a.filter)) (selected_in s.desk) ≡ false
+    → fails_if_open (λ a. filter_lacks m.slots (filter_of code.declared a.filter)) (selected_in m.desk) ≡ false → fails_if_open (λ a. not (is_sound code s.slots a.filter)) (selected_in s.desk) ≡ false
 moves_sound code m s walks ok c i known moves e =
     let l = legal code.declared s ok in
     let same = selects m.desk s.desk c.desk (moves_open m.desk i moves known) in
-    area_sound code walks m.slots s.slots c.slots l.slots (selected_in s.desk) l.area (subst (λ o. if_open (λ a. filter_lacks m.slots (filter_of code.declared a.filter)) o ≡ false) same e)
+    area_sound code walks m.slots s.slots c.slots l.slots (selected_in s.desk) l.area (subst (λ o. fails_if_open (λ a. filter_lacks m.slots (filter_of code.declared a.filter)) o ≡ false) same e)
 
 pub moves_well : (code : Code) (m s : State) → WalksWithNeeds code → is_state code.declared s ≡ true → Covered m s → (i : Instr) → IsKnown m.desk i → moves_blindly code.declared m i ≡ false → moves_badly code s i ≡ false
 moves_well code m s walks ok c i known e =
-    behind_true (signature i).moves (if_open (λ a. filter_lacks m.slots (filter_of code.declared a.filter)) (selected_in m.desk)) (if_open (λ a. not (is_sound code s.slots a.filter)) (selected_in s.desk)) e
+    behind_true (signature i).moves (fails_if_open (λ a. filter_lacks m.slots (filter_of code.declared a.filter)) (selected_in m.desk)) (fails_if_open (λ a. not (is_sound code s.slots a.filter)) (selected_in s.desk)) e
     (λ moves f. moves_sound code m s walks ok c i known moves f)

@@ -19,7 +19,7 @@ use Rattle.code_items.specs.declared.instr.Instr.{Instr}
 use Rattle.code_items.specs.declared.instr.Instr.TheVariants.{Values, Flow, Screen, Areas, Moves, Records}
 use Rattle.code_rules.specs.Signature.{area_of, record_area, call_of}
 use Rattle.code_rules.specs.Wants.{fields_at, kind_of_field, constant_kind, value_gives, screen_gives, record_gives, gives, unknown}
-use Rattle.code_rules.specs.Rules.{if_some, if_open, is_rows, record_is_rows, no_procedure, value_undeclared, record_undeclared, undeclared}
+use Rattle.code_rules.specs.Rules.{fails_if_named, fails_if_open, is_rows, record_is_rows, no_procedure, value_undeclared, record_undeclared, undeclared}
 use Rattle.fit_laws.proofs.Standing.{there}
 
 constant_known : (values : List Value) (n : ℕ) → nat_le (length values) n ≡ false → unknown (Some (constant_kind (slice_get values n))) ≡ 0
@@ -32,7 +32,7 @@ field_there fields n e =
     let t = there fields n (leb-false (length fields) n e) in
     rw t.1 refl
 
-field_known : (d : Declared) (o : Option OpenArea) (n : ℕ) → is_none o ≡ false → if_open (λ a. nat_le (length (fields_at d (Some a))) n) o ≡ false → unknown (Some (kind_of_field (slice_get (fields_at d o) n))) ≡ 0
+field_known : (d : Declared) (o : Option OpenArea) (n : ℕ) → is_none o ≡ false → fails_if_open (λ a. nat_le (length (fields_at d (Some a))) n) o ≡ false → unknown (Some (kind_of_field (slice_get (fields_at d o) n))) ≡ 0
 field_known d None n e f = absurd (cc)
 field_known d (Some a) n e f = field_there (fields_at d (Some a)) n f
 
@@ -55,7 +55,7 @@ screen_known (Input k) = refl
 screen_known Line = refl
 screen_known Clear = refl
 
-record_known : (d : Declared) (desk : Desk) (i : RecordInstr) → if_some (λ n. is_none (open_at desk n)) (record_area desk.selected i) ≡ false → record_undeclared d desk i ≡ false
+record_known : (d : Declared) (desk : Desk) (i : RecordInstr) → fails_if_named (λ n. is_none (open_at desk n)) (record_area desk.selected i) ≡ false → record_undeclared d desk i ≡ false
     → (record_is_rows i ≡ true → is_none (open_at desk desk.selected) ≡ false) → unknown (record_gives d desk i) ≡ 0
 record_known d desk (Field a f) open' e rows = field_known d (open_at desk a) f open' e
 record_known d desk (RowField f) open' e rows = field_known d (open_at desk desk.selected) f (rows refl) e
@@ -69,7 +69,7 @@ record_known d desk Zap open' e rows = refl
 record_known d desk Reindex open' e rows = refl
 record_known d desk (Index l) open' e rows = refl
 
-pub gives_known : (code : Code) (desk : Desk) (i : Instr) → if_some (λ n. is_none (open_at desk n)) (area_of desk i) ≡ false → undeclared code desk i ≡ false
+pub gives_known : (code : Code) (desk : Desk) (i : Instr) → fails_if_named (λ n. is_none (open_at desk n)) (area_of desk i) ≡ false → undeclared code desk i ≡ false
     → (is_rows i ≡ true → is_none (open_at desk desk.selected) ≡ false) → unknown (gives code.declared desk i) ≡ 0
 gives_known code desk (Values i) open' e rows = value_known code.declared i e
 gives_known code desk (Flow i) open' e rows = refl
@@ -79,7 +79,7 @@ gives_known code desk (Moves i) open' e rows = refl
 gives_known code desk (Records i) open' e rows = record_known code.declared desk i open' e rows
 
 -- what it calls is there
-pub call_known : (code : Code) (desk : Desk) (i : Instr) → undeclared code desk i ≡ false → if_some (no_procedure code) (call_of i) ≡ false
+pub call_known : (code : Code) (desk : Desk) (i : Instr) → undeclared code desk i ≡ false → fails_if_named (no_procedure code) (call_of i) ≡ false
 call_known code desk (Values i) e = refl
 call_known code desk (Flow i) e = e
 call_known code desk (Screen i) e = refl

@@ -20,7 +20,7 @@ use Rattle.code_items.specs.declared.instr.Instr.{Instr}
 use Rattle.code_items.specs.declared.instr.Instr.TheVariants.{Values, Flow, Screen, Areas, Moves, Records}
 use Rattle.code_rules.specs.Signature.{signature, value_signature, screen_signature, area_signature, move_signature, record_signature, target_of, call_of}
 use Rattle.code_rules.specs.Places.{instr_at}
-use Rattle.code_rules.specs.Rules.{if_some, no_procedure}
+use Rattle.code_rules.specs.Rules.{fails_if_named, no_procedure}
 use Rattle.fit_laws.specs.Connects.{IsOfProcedures, Connects}
 use Rattle.run_steps.specs.World.{World}
 use Rattle.run_steps.specs.Control.{entry_place, is_false, next_place, finishes}
@@ -90,7 +90,7 @@ leads code c place lt = record {
 
 -- it goes on within, whatever else is asked
 within : (code : Code) (w : World) (i : Instr) → IsOfProcedures code (next_place code w i) → bad_jump code w i ≡ false
-within code w i lt = and_right (not (finishes w i) && not (if_some (no_procedure code) (call_of i))) (nat_le (places_of code.procedures) (next_place code w i)) (lt-leb (places_of code.procedures) (next_place code w i) lt)
+within code w i lt = and_right (not (finishes w i) && not (fails_if_named (no_procedure code) (call_of i))) (nat_le (places_of code.procedures) (next_place code w i)) (lt-leb (places_of code.procedures) (next_place code w i) lt)
 
 pub either : (P : ℕ → Type 0) (b : Bool) (p q : ℕ) → P p → P q → P (if b then p else q)
 either P true p q e f = e
@@ -102,7 +102,7 @@ ends true x y e = refl
 ends false x y e = absurd (cc)
 
 return_within : (code : Code) (w : World) (returns : List ℕ) → w.returns ≡ returns → IfSome (slice_get returns 0) (IsOfProcedures code) → bad_jump code w (Flow Return) ≡ false
-return_within code w [] e h = ends (finishes w (Flow Return)) (not (if_some (no_procedure code) None)) (nat_le (places_of code.procedures) (next_place code w (Flow Return))) (ap (λ (r : List ℕ). length r == 0) e)
+return_within code w [] e h = ends (finishes w (Flow Return)) (not (fails_if_named (no_procedure code) None)) (nat_le (places_of code.procedures) (next_place code w (Flow Return))) (ap (λ (r : List ℕ). length r == 0) e)
 return_within code w (place ∷ places) e h = within code w (Flow Return) (subst (λ (r : List ℕ). unwrap_or (slice_get r 0) w.place < places_of code.procedures) (sym e) h)
 
 flow_within : (code : Code) (w : World) (i : FlowInstr) → Leads code w.place (Flow i) → ReturnsWithin code w → bad_jump code w (Flow i) ≡ false

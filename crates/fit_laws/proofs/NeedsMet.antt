@@ -17,7 +17,7 @@ use Rattle.code_items.specs.declared.instr.Instr.TheVariants.{Values, Flow, Scre
 use Rattle.code_rules.specs.Flow.{flow, left_by, slots_after, slots_after_value}
 use Rattle.code_rules.specs.Places.{needed, filter_start}
 use Rattle.code_rules.specs.Rules.{has_other, is_free, value_loads_other, value_loads_free, loads_other, loads_free, lacks, filter_lacks, value_filters, filters}
-use Rattle.fit_laws.specs.FilterWalks.{Steps, Walks, filter_begun}
+use Rattle.fit_laws.specs.FilterWalks.{Steps, BlockWalks, filter_begun}
 use Rattle.fit_laws.proofs.Covering.{kinds_same}
 use Rattle.fit_laws.proofs.Filtering.{left_is}
 
@@ -133,12 +133,12 @@ left_more code s slots i h =
     let b : with_slots slots (left_by code i s) ≡ left_by code i (with_slots slots s) = ap (λ x. record { desk = (left_by code i s).desk; slots = x; stack = (left_by code i s).stack }) (sym (same_slots i slots h.stands)) in
     a ∙ (b ∙ sym (left_is code i (with_slots slots s) h.stands))
 
-walks_more : (code : Code) (instrs : List Instr) (s : State) (slots : List (Option Kind)) → slots_covered s.slots slots ≡ true → Walks code s instrs → Walks code (with_slots slots s) instrs
+walks_more : (code : Code) (instrs : List Instr) (s : State) (slots : List (Option Kind)) → slots_covered s.slots slots ≡ true → BlockWalks code s instrs → BlockWalks code (with_slots slots s) instrs
 walks_more code [] s slots c w = w
 walks_more code (i ∷ instrs) s slots c w =
     let e : (flow code i s).slots ≡ s.slots = ap (λ x. x.slots) w.0.left ∙ same_slots i s.slots w.0.stands in
     let rest = walks_more code instrs (flow code i s) slots (subst (λ x. slots_covered x slots ≡ true) (sym e) c) w.1 in
-    (steps_more code s slots i c w.0, subst (λ x. Walks code x instrs) (left_more code s slots i w.0) rest)
+    (steps_more code s slots i c w.0, subst (λ x. BlockWalks code x instrs) (left_more code s slots i w.0) rest)
 
-pub walks_with : (code : Code) (f : Filter) (instrs : List Instr) (slots : List (Option Kind)) → length slots ≡ code.declared.slots → filter_lacks slots (Some f) ≡ false → Walks code (filter_start code.declared.slots f) instrs → Walks code (filter_begun f slots) instrs
+pub walks_with : (code : Code) (f : Filter) (instrs : List Instr) (slots : List (Option Kind)) → length slots ≡ code.declared.slots → filter_lacks slots (Some f) ≡ false → BlockWalks code (filter_start code.declared.slots f) instrs → BlockWalks code (filter_begun f slots) instrs
 walks_with code f instrs slots l e w = walks_more code instrs (filter_start code.declared.slots f) slots (all_met f.needs (replicate code.declared.slots None) slots (nothing_covers slots code.declared.slots l) e) w

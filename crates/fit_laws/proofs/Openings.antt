@@ -15,7 +15,7 @@ use Rattle.code_items.specs.declared.desk.AreaState.TheVariants.{Closed, Open as
 use Rattle.code_items.specs.Desks.{areas_covered}
 use Rattle.code_items.specs.Kinds.{slots_covered}
 use Rattle.code_items.specs.Legal.{is_procedure, begins_blank, places_of}
-use Rattle.code_items.specs.States.{is_closed, is_blank}
+use Rattle.code_items.specs.States.{is_closed, is_state_of_start}
 use Rattle.code_rules.specs.Places.{state_at}
 use Rattle.code_rules.specs.Rules.{covers}
 use Rattle.fit_laws.specs.Connects.{Connects}
@@ -53,7 +53,7 @@ record Main (d : Declared) (procedures : List Proc) : Type 0 where
   main : Proc
   is : slice_get procedures 0 ≡ Some main
   legal : Procedure d main
-  blank : is_blank main.entry ≡ true
+  blank : is_state_of_start main.entry ≡ true
   first : places_of (take 0 procedures) ≡ 0
 
 main_of : (d : Declared) (procedures : List Proc) → list_all (is_procedure d) procedures ≡ true → begins_blank procedures ≡ true → Main d procedures
@@ -66,7 +66,7 @@ main_of d (p ∷ procedures) all blank = record {
   first = refl;
 }
 
-entry_covers : (code : Code) (p : Proc) → Procedure code.declared p → is_blank p.entry ≡ true → (store : StoreState) (lines : List (List ℕ)) (today : Option DayParts) → covers p.entry (state_of (opening code store lines today)) ≡ true
+entry_covers : (code : Code) (p : Proc) → Procedure code.declared p → is_state_of_start p.entry ≡ true → (store : StoreState) (lines : List (List ℕ)) (today : Option DayParts) → covers p.entry (state_of (opening code store lines today)) ≡ true
 entry_covers code p h blank store lines today =
     let k = known_of code.declared p.entry h.entry in
     let a = and_parts (p.entry.desk.selected == 1 && list_all is_closed p.entry.desk.areas) (list_all is_none p.entry.slots) blank in

@@ -23,7 +23,7 @@ use Rattle.fit_laws.specs.Connects.{IsOfProcedures, Connects, left_at}
 use Rattle.run_steps.specs.World.{World}
 use Rattle.run_steps.specs.Control.{entry_place, is_false, finishes, next_place, next_returns}
 use Rattle.run_steps.specs.Effects.{top}
-use Rattle.fit_laws.specs.Fits.{HasRoom, procedure_at, IsBehindCall, Awaits}
+use Rattle.fit_laws.specs.Fits.{HasRoomToCall, procedure_at, IsBehindCall, Awaits}
 use Rattle.fit_laws.proofs.Jumps.{value_falls, screen_falls, area_falls, move_falls, record_falls, either}
 
 -- ---- the procedures of a legal code
@@ -75,7 +75,7 @@ few code ps c number (next ∷ returns) h =
     let rest : level_of (slice_get code.procedures (block_at code h.0.place).number) + length returns ≤ 20 = few code ps c (procedure_at code h.0.place) returns h.1 in
     omega (arith, level, below, rest)
 
-pub room : (code : Code) → Procedures code → Connects code → (w : World) → IsOfProcedures code w.place → Awaits code (procedure_at code w.place) w.returns → HasRoom w (instr_at code w.place)
+pub room : (code : Code) → Procedures code → Connects code → (w : World) → IsOfProcedures code w.place → Awaits code (procedure_at code w.place) w.returns → HasRoomToCall w (instr_at code w.place)
 room code ps c w lt h = λ n e.
     (let k = c.calls w.place n lt e in
     let below : k.procedure.level < level_of (slice_get code.procedures (block_at code w.place).number) = k.below in

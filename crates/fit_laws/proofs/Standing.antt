@@ -10,10 +10,10 @@ use Rattle.code_items.specs.declared.code.Proc.{Proc}
 use Rattle.code_items.specs.declared.code.Code.{Code}
 use Rattle.code_items.specs.Declarations.{are_declared}
 use Rattle.code_items.specs.Instrs.{is_instr}
-use Rattle.code_items.specs.Legal.{total, places_of, blocks_of, blocks_fill, procedures_are_legal, maps_are_legal, instructions_are_legal, is_code, IsCode}
+use Rattle.code_items.specs.Legal.{places_in_all, places_of, blocks_of, blocks_fill, procedures_are_legal, maps_are_legal, instructions_are_legal, is_code, IsCode}
 use Rattle.code_rules.specs.declared.blocks.Block.{Block}
 use Rattle.code_rules.specs.Places.{block_at}
-use Rattle.fit_laws.specs.Connects.{first_of, IsOfProcedures, Stands}
+use Rattle.fit_laws.specs.Connects.{first_of, IsOfProcedures, InProcedure}
 use Rattle.fit_laws.proofs.BlockPlaces.{stays, Found, found, Begun, begun_at, some_each, part}
 
 abbrev pub lengths : List Proc → List ℕ
@@ -47,16 +47,16 @@ length_at : (ps : List Proc) (n : ℕ) (p : Proc) → slice_get ps n ≡ Some p 
 unfolding length_in
 length_at ps n p e = length_of ps n ∙ ap length_in e
 
-before : (ps : List Proc) (n : ℕ) → total (take n (lengths ps)) ≡ places_of (take n ps)
-before ps n = ap total (take-map (λ (p : Proc). p.length) n ps)
+before : (ps : List Proc) (n : ℕ) → places_in_all (take n (lengths ps)) ≡ places_of (take n ps)
+before ps n = ap places_in_all (take-map (λ (p : Proc). p.length) n ps)
 
 -- ---- a place of a procedure
 
 -- the same by the block's own number
 record Known (ms : List ℕ) (b : Block) (place : ℕ) : Type 0 where
   pub within : b.number < length ms
-  pub begun : b.first ≡ total (take b.number ms)
-  pub ended : b.end ≡ total (take b.number ms) + get_or ms b.number 0
+  pub begun : b.first ≡ places_in_all (take b.number ms)
+  pub ended : b.end ≡ places_in_all (take b.number ms) + get_or ms b.number 0
   pub from : b.first ≤ place
   pub to : place < b.end
 
@@ -65,8 +65,8 @@ known ms b place f =
     let e : f.index ≡ b.number = omega (arith, f.numbered) in
     record {
       within = omega (arith, f.within, e);
-      begun = subst (λ k. b.first ≡ total (take k ms)) e (omega (arith, f.begun));
-      ended = subst (λ k. b.end ≡ total (take k ms) + get_or ms k 0) e (omega (arith, f.ended));
+      begun = subst (λ k. b.first ≡ places_in_all (take k ms)) e (omega (arith, f.begun));
+      ended = subst (λ k. b.end ≡ places_in_all (take k ms) + get_or ms k 0) e (omega (arith, f.ended));
       from = f.from;
       to = f.to;
     }
@@ -75,7 +75,7 @@ found_in : (code : Code) (place : ℕ) → IsOfProcedures code place → Known (
 unfolding block_at
 found_in code place lt = known (lengths code.procedures) (block_at code place) place (found 0 0 (lengths code.procedures) (filter_lengths code.declared.filters) place (omega arith) (omega (arith, lt)))
 
-stands_as : (code : Code) (place : ℕ) → Known (lengths code.procedures) (block_at code place) place → (p : Proc) → slice_get code.procedures (block_at code place).number ≡ Some p → Stands code place
+stands_as : (code : Code) (place : ℕ) → Known (lengths code.procedures) (block_at code place) place → (p : Proc) → slice_get code.procedures (block_at code place).number ≡ Some p → InProcedure code place
 stands_as code place k p e = record {
   procedure = p;
   is = e;
@@ -86,7 +86,7 @@ stands_as code place k p e = record {
   last = omega (arith, k.ended, part (lengths code.procedures) (block_at code place).number k.within);
 }
 
-pub stands : (code : Code) (place : ℕ) → IsOfProcedures code place → Stands code place
+pub stands : (code : Code) (place : ℕ) → IsOfProcedures code place → InProcedure code place
 stands code place lt =
     let k = found_in code place lt in
     let t = there code.procedures (block_at code place).number (rw length-map at k.within) in

@@ -18,7 +18,7 @@ use Rattle.code_items.specs.declared.desk.OpenArea.{OpenArea}
 use Rattle.code_items.specs.declared.desk.AreaState.{AreaState}
 use Rattle.code_items.specs.declared.desk.AreaState.TheVariants.{Closed, Open as IsOpen}
 use Rattle.code_items.specs.declared.desk.Desk.{Desk}
-use Rattle.code_items.specs.Desks.{put_at, with_selected, all_closed}
+use Rattle.code_items.specs.Desks.{put_at, with_selected_area, all_closed}
 use Rattle.code_items.specs.declared.instr.AreaInstr.{AreaInstr}
 use Rattle.code_items.specs.declared.instr.AreaInstr.TheVariants.{Open, Close, CloseAll, Select, Order, Filter}
 use Rattle.code_items.specs.declared.instr.MoveInstr.{MoveInstr}
@@ -27,8 +27,8 @@ use Rattle.code_items.specs.declared.instr.RecordInstr.{RecordInstr}
 use Rattle.code_items.specs.declared.instr.RecordInstr.TheVariants.{Field, RowField, Ask, Append, Replace, Delete, Recall, Pack, Zap, Reindex, Index}
 use Rattle.code_items.specs.declared.instr.Instr.{Instr}
 use Rattle.code_items.specs.declared.instr.Instr.TheVariants.{Values, Flow, Screen, Areas, Moves, Records}
-use Rattle.code_rules.specs.Flow.{just_opened, ordered, filtered, indexed, if_area, on_selected, desk_after_area, desk_after_record, desk_after}
-use Rattle.code_rules.specs.Rules.{has_table, is_no_list, is_other_list, selected_in}
+use Rattle.code_rules.specs.Flow.{just_opened, ordered, filtered, in_list_order, if_area, on_selected, desk_after_area, desk_after_record, desk_after}
+use Rattle.code_rules.specs.Rules.{declares_table, is_no_list, is_other_list, selected_in}
 use Rattle.run_values.specs.Tagged.{TaggedValues}
 use Rattle.run_steps.specs.World.{World, EnvState, order_of, area_state, desk_of}
 use Rattle.run_steps.specs.Effects.{top, on_value, on_table, list_numbers, index_in, open_landing, store_opened, store_by_area, moved, store_by_move, shown_here, closing_store, store_by_record, env_after, filter_here}
@@ -94,7 +94,7 @@ put_is (suc n) x areas le = (let same : n ≡ suc n - 1 = omega arith in ap (λ 
 -- the selected area holds something else, and the tables of the others keep their orders
 put_desk : (s : StoreState) (tables : List OpenState) (x : Option Use) (a : AreaState) → 1 ≤ s.selected → area_state tables x ≡ a
     → ((n : ℕ) (u : Use) → n ≢ s.selected - 1 → slice_index_or s.areas n None ≡ Some u → order_of (slice_get tables u.table) ≡ order_of (slice_get s.tables u.table))
-    → desk s.selected (map (area_state tables) (slice_set s.areas (s.selected - 1) x)) ≡ with_selected a (desk_of s)
+    → desk s.selected (map (area_state tables) (slice_set s.areas (s.selected - 1) x)) ≡ with_selected_area a (desk_of s)
 put_desk s tables x a one is others =
     ap (desk s.selected) (one_changes s.tables tables s.areas (s.selected - 1) x others
     ∙ ap (λ y. slice_set (map (area_state s.tables) s.areas) (s.selected - 1) y) is
@@ -171,7 +171,7 @@ leaves s (Some u) (Some o) apart there = record { areas = refl; selected = refl;
 closed_leaves : (s : StoreState) → AreApart s.areas → Leaves s (change_here closed s)
 closed_leaves s apart = subst (Leaves s) (sym (closed_is (here s) s)) (leaves s (selected_use s) (here s) apart refl)
 
-close_desk : (s : StoreState) → AreApart s.areas → 1 ≤ s.selected → desk_of (closed_here s) ≡ with_selected Closed (desk_of s)
+close_desk : (s : StoreState) → AreApart s.areas → 1 ≤ s.selected → desk_of (closed_here s) ≡ with_selected_area Closed (desk_of s)
 close_desk s apart one =
     let z = change_here closed s in
     let l = closed_leaves s apart in
@@ -205,7 +205,7 @@ not_held (a ∷ areas) (suc n) t u none e = not_held areas n t u (second_no (hol
 
 -- the selected area holds a table with these indexes that no other one holds
 used_desk : (s : StoreState) (t l : ℕ) (o p : OpenState) → AreApart s.areas → 1 ≤ s.selected → slice_get s.tables t ≡ Some o → is_elsewhere s t ≡ false → p.order ≡ order_by (l == 0)
-    → desk_of (used_here t l p s) ≡ with_selected (IsOpen (just_opened t l)) (desk_of s)
+    → desk_of (used_here t l p s) ≡ with_selected_area (IsOpen (just_opened t l)) (desk_of s)
 used_desk s t l o p apart one at elsewhere order =
     let z = change_here closed s in
     let c = closed_leaves s apart in
@@ -221,15 +221,15 @@ used_desk s t l o p apart one at elsewhere order =
     (λ n v differ e. ap order_of (set_other z.tables t v.table p (not_held (slice_set s.areas (s.selected - 1) None) n t v elsewhere (get_or-set_other s.areas (s.selected - 1) n None None differ ∙ e))) ∙ c.orders n v differ e)
 
 open_desk : (code : Code) (w : World) (t l : ℕ) → AreApart w.env.store.areas → 1 ≤ w.env.store.selected → IsClear code w (Areas (Open t l)) → AreaNeeds code (Open t l) w.env
-    → desk_of (store_opened code t l w.env) ≡ with_selected (IsOpen (just_opened t l)) (desk_of w.env.store)
+    → desk_of (store_opened code t l w.env) ≡ with_selected_area (IsOpen (just_opened t l)) (desk_of w.env.store)
 open_desk code w t l apart one c needs =
     let d = code.declared in
     let s = w.env.store in
     let ns = list_numbers d l in
-    let p = or_parts (not (has_table d t) || (not (l == 0) && is_no_list d l)) (has_table d t && is_other_list d t l) c.declared in
-    let q = or_parts (not (has_table d t)) (not (l == 0) && is_no_list d l) p.0 in
-    let table : has_table d t ≡ true = not-false (has_table d t) q.0 in
-    let order : first_order ns ≡ order_by (l == 0) = first_is d t l q.1 (then_no (has_table d t) (is_other_list d t l) table p.1) in
+    let p = or_parts (not (declares_table d t) || (not (l == 0) && is_no_list d l)) (declares_table d t && is_other_list d t l) c.declared in
+    let q = or_parts (not (declares_table d t)) (not (l == 0) && is_no_list d l) p.0 in
+    let table : declares_table d t ≡ true = not-false (declares_table d t) q.0 in
+    let order : first_order ns ≡ order_by (l == 0) = first_is d t l q.1 (then_no (declares_table d t) (is_other_list d t l) table p.1) in
     let there = is_there s.tables t needs.0 in
     let made : OpenState = landed (opened_with ns there.0) (open_landing code l w.env there.0) in
     ap (λ x. desk_of (on_table x s (λ o. used_here t l (landed (opened_with ns o) (open_landing code l w.env o)) s))) there.1
@@ -237,12 +237,12 @@ open_desk code w t l apart one c needs =
 
 -- ---- changes of the selected area where it is open
 
-selected_is : (d : Declared) (s : StoreState) (change : OpenArea → OpenArea) → (o : OpenThere d s s.selected) → on_selected change (desk_of s) ≡ with_selected (IsOpen (change (area_by o.use_of o.table.order))) (desk_of s)
+selected_is : (d : Declared) (s : StoreState) (change : OpenArea → OpenArea) → (o : OpenThere d s s.selected) → on_selected change (desk_of s) ≡ with_selected_area (IsOpen (change (area_by o.use_of o.table.order))) (desk_of s)
 selected_is d s change o = ap (λ x. if_area change x (desk_of s)) o.known
 
 -- its table changed, and perhaps its list
 table_desk : (d : Declared) (s : StoreState) (o : OpenThere d s s.selected) (v : Use) (p : OpenState) → AreApart s.areas → 1 ≤ s.selected → v.table ≡ o.use_of.table
-    → desk s.selected (map (area_state (slice_set s.tables o.use_of.table p)) (slice_set s.areas (s.selected - 1) (Some v))) ≡ with_selected (IsOpen (area_by v p.order)) (desk_of s)
+    → desk s.selected (map (area_state (slice_set s.tables o.use_of.table p)) (slice_set s.areas (s.selected - 1) (Some v))) ≡ with_selected_area (IsOpen (area_by v p.order)) (desk_of s)
 table_desk d s o v p apart one same =
     let u = o.use_of in
     let tables = slice_set s.tables u.table p in
@@ -268,7 +268,7 @@ filter_desk d s n one o =
     ∙ sym (selected_is d s (filtered n) o)
 
 index_desk : (code : Code) (s : StoreState) (l : ℕ) (shown : StructureState → List Row → ℕ → Bool) → AreApart s.areas → 1 ≤ s.selected → (o : OpenThere code.declared s s.selected)
-    → desk_of (on_table (here s) s (λ o. closing_store code.declared (Index l) shown o s)) ≡ on_selected (indexed l) (desk_of s)
+    → desk_of (on_table (here s) s (λ o. closing_store code.declared (Index l) shown o s)) ≡ on_selected (in_list_order l) (desk_of s)
 index_desk code s l shown apart one o =
     let d = code.declared in
     let u = o.use_of in
@@ -278,7 +278,7 @@ index_desk code s l shown apart one o =
     ap (λ x. desk_of (on_table x s (λ o. closing_store d (Index l) shown o s))) o.there
     ∙ ap (λ x. desk_of (with_use (with_used x p s) s.selected (with_list l x))) o.held
     ∙ table_desk d s o v p apart one refl
-    ∙ sym (selected_is d s (indexed l) o)
+    ∙ sym (selected_is d s (in_list_order l) o)
 
 -- ---- together
 

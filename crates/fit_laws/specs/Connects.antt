@@ -11,7 +11,7 @@ use Rattle.code_rules.specs.Wants.{gives, unknown}
 use Rattle.code_rules.specs.Flow.{flow}
 use Rattle.code_rules.specs.Places.{instr_at, block_at, filter_start, state_at}
 use Rattle.code_rules.specs.Rules.{covers, level_of, returns as is_return}
-use Rattle.fit_laws.specs.FilterWalks.{filter_instrs, Walks}
+use Rattle.fit_laws.specs.FilterWalks.{filter_instrs, BlockWalks}
 
 -- where the block of a procedure begins: behind those of the procedures before it
 abbrev pub first_of : Code → ℕ → ℕ
@@ -22,7 +22,7 @@ abbrev pub IsOfProcedures : Code → ℕ → Type 0
 IsOfProcedures code place = place < places_of code.procedures
 
 -- a place of a procedure, and the bounds of its block
-pub record Stands (code : Code) (place : ℕ) : Type 0 where
+pub record InProcedure (code : Code) (place : ℕ) : Type 0 where
   pub procedure : Proc
   pub is : slice_get code.procedures (block_at code place).number ≡ Some procedure
   pub first : (block_at code place).first ≡ first_of code (block_at code place).number
@@ -59,7 +59,7 @@ pub record Calls (code : Code) (place n : ℕ) : Type 0 where
   pub covered : covers procedure.entry (state_at code place) ≡ true
 
 pub record Connects (code : Code) : Type 0 where
-  pub stands : (place : ℕ) → IsOfProcedures code place → Stands code place
+  pub stands : (place : ℕ) → IsOfProcedures code place → InProcedure code place
   pub enters : (n : ℕ) (p : Proc) → slice_get code.procedures n ≡ Some p → Enters code n p
   pub falls : (place : ℕ) → IsOfProcedures code place → (signature (instr_at code place)).falls ≡ true
       → Reaches code place (place + 1)
@@ -71,4 +71,4 @@ pub record Connects (code : Code) : Type 0 where
   pub gives : (place : ℕ) → IsOfProcedures code place
       → unknown (gives code.declared (state_at code place).desk (instr_at code place)) ≡ 0
   pub filters : (number : ℕ) (f : Filter) → filter_of code.declared number ≡ Some f
-      → Walks code (filter_start code.declared.slots f) (filter_instrs code number f)
+      → BlockWalks code (filter_start code.declared.slots f) (filter_instrs code number f)

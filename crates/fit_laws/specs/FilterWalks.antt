@@ -9,7 +9,7 @@ use Rattle.code_items.specs.declared.state.State.{State}
 use Rattle.code_items.specs.declared.instr.Instr.{Instr}
 use Rattle.code_items.specs.Declarations.{filter_of}
 use Rattle.code_items.specs.Kinds.{clashes, same_kinds}
-use Rattle.code_items.specs.Legal.{total, places_of}
+use Rattle.code_items.specs.Legal.{places_in_all, places_of}
 use Rattle.code_rules.specs.Signature.{signature}
 use Rattle.code_rules.specs.Wants.{wants, gives, unknown}
 use Rattle.code_rules.specs.Flow.{flow, left_by}
@@ -19,7 +19,7 @@ use Rattle.code_rules.specs.Rules.{filter_lacks, filters, height_after, loads_ot
 -- where the block of a filter begins, counted from 1: behind the procedures' blocks and those of the filters before it
 abbrev pub filter_first : Code → ℕ → ℕ
 filter_first code number =
-    places_of code.procedures + total (map (λ f. f.length) (take (number - 1) code.declared.filters))
+    places_of code.procedures + places_in_all (map (λ f. f.length) (take (number - 1) code.declared.filters))
 
 -- the instructions of its block
 abbrev pub filter_instrs : Code → ℕ → Filter → List Instr
@@ -38,9 +38,9 @@ pub record Steps (code : Code) (s : State) (i : Instr) : Type 0 where
   pub left : flow code i s ≡ left_by code i s
 
 -- one after the other, and in the end just a truth value is left
-abbrev pub Walks : Code → State → List Instr → Type 0
-Walks code s [] = same_kinds (OfLogical ∷ []) s.stack ≡ true
-Walks code s (i ∷ instrs) = Steps code s i × Walks code (flow code i s) instrs
+abbrev pub BlockWalks : Code → State → List Instr → Type 0
+BlockWalks code s [] = same_kinds (OfLogical ∷ []) s.stack ≡ true
+BlockWalks code s (i ∷ instrs) = Steps code s i × BlockWalks code (flow code i s) instrs
 
 -- what is known where a filter's block begins, with these slots in the place of just those that it needs
 abbrev pub filter_begun : Filter → List (Option Kind) → State
@@ -50,4 +50,4 @@ filter_begun f slots = record { desk = filter_desk f.table; slots = slots; stack
 abbrev pub WalksWithNeeds : Code → Type 0
 WalksWithNeeds code = (number : ℕ) (f : Filter) → filter_of code.declared number ≡ Some f
     → (slots : List (Option Kind)) → length slots ≡ code.declared.slots → filter_lacks slots (Some f) ≡ false
-    → Walks code (filter_begun f slots) (filter_instrs code number f)
+    → BlockWalks code (filter_begun f slots) (filter_instrs code number f)

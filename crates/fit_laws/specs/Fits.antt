@@ -44,8 +44,8 @@ pub record IsFitting (code : Code) (w : World) : Type 0 where
   pub awaits : Awaits code (procedure_at code w.place) w.returns
 
 -- a procedure can be called, if one is
-abbrev pub HasRoom : World → Instr → Type 0
-HasRoom w i = (n : ℕ) → call_of i ≡ Some n → length w.returns < 20
+abbrev pub HasRoomToCall : World → Instr → Type 0
+HasRoomToCall w i = (n : ℕ) → call_of i ≡ Some n → length w.returns < 20
 
 -- the place behind the last call, if one hasn't returned, stands in a procedure
 abbrev pub ReturnsWithin : Code → World → Type 0

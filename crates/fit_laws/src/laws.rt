@@ -8,7 +8,7 @@ ghost use Rattle.fit_laws.specs.FilterWalks.{WalksWithNeeds};
 ghost use Rattle.code_rules.specs.Kept.{Kept};
 ghost use Rattle.code_rules.specs.Places.{instr_at};
 ghost use Rattle.code_rules.specs.Rules.{here_at, Accepted};
-ghost use Rattle.fit_laws.specs.Fits.{Fits, IsFitting, HasRoom, ReturnsWithin};
+ghost use Rattle.fit_laws.specs.Fits.{Fits, IsFitting, HasRoomToCall, ReturnsWithin};
 ghost use Rattle.run_steps.specs.Control.{effect, finishes};
 ghost use Rattle.run_steps.specs.Faults.{IsClear};
 ghost use Rattle.run_steps.specs.Opening.{opening};
@@ -33,13 +33,13 @@ use xvalue::laws::{answers_keep_the_kind, results_have_their_kind};
 pub fn kept_rules_leave_no_fault()
     ensures { (code : AnyCode) (w : AnyWorld) → Connects code → WalksWithNeeds code → Kept code (here_at code w.place)
         → IsFitting code w
-        → HasRoom w (instr_at code w.place) → ReturnsWithin code w → IsClear code w (instr_at code w.place) }
+        → HasRoomToCall w (instr_at code w.place) → ReturnsWithin code w → IsClear code w (instr_at code w.place) }
 {}
 
 /// In a world that fits there is room for a call, and the place behind the last call stands in a procedure.
 pub fn calls_have_room()
     ensures { (code : AnyCode) → IsCode code → Accepted code → (w : AnyWorld) → IsFitting code w
-        → HasRoom w (instr_at code w.place) × ReturnsWithin code w }
+        → HasRoomToCall w (instr_at code w.place) × ReturnsWithin code w }
 {
     states_connect();
 }

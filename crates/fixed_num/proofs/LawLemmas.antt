@@ -8,7 +8,7 @@ use lib.IntN.{+ℤ_comm, *ℤ_comm}
 use Rattle.fixed_num.specs.Number.{Number, asterisk, finite, number, scaled, signed, magnitude_limit}
 use Rattle.fixed_num.specs.Rounding.{nearest, IsNearest, rounded, rounded_at, rounded_to, places_within}
 use Rattle.fixed_num.specs.Arithmetic.{sum_of, product_of, fitted}
-use Rattle.fixed_num.specs.Text.{text_of, in_field, printed}
+use Rattle.fixed_num.specs.Text.{text_of, in_field, printed_in}
 use Rattle.fixed_num.proofs.SignLemmas.{scaled_signed}
 use Rattle.fixed_num.proofs.RoundLemmas.{nearest_one, nearest-mul_right, rounded_by_pos}
 
@@ -74,5 +74,5 @@ in_field-fills : (width : ℕ) (x : Number) → length (in_field width x) ≡ wi
 in_field-fills width asterisk = length-replicate width 42
 in_field-fills width (finite m d) = at_right-fits width (text_of (finite m d)) _ refl
 
-pub printed-fills : (width decimals : ℕ) (x : Number) → length (printed width decimals x) ≡ width
+pub printed-fills : (width decimals : ℕ) (x : Number) → length (printed_in width decimals x) ≡ width
 printed-fills width decimals x = in_field-fills width (rounded_at (pos decimals) x)

@@ -46,5 +46,5 @@ in_field width asterisk = replicate width 42
 in_field width (finite m d) = at_right width (text_of (finite m d))
 
 -- the number in a field, with so many decimals
-abbrev pub printed : ℕ → ℕ → Number → List ℕ
-printed width decimals x = in_field width (rounded_at (pos decimals) x)
+abbrev pub printed_in : ℕ → ℕ → Number → List ℕ
+printed_in width decimals x = in_field width (rounded_at (pos decimals) x)

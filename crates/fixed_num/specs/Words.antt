@@ -11,8 +11,8 @@ use Rattle.fixed_num.specs.declared.number.Parts.{Parts}
 use Rattle.fixed_num.specs.Number.{Number, asterisk, finite, signed, number_of, magnitude_limit}
 
 -- the parts that two words hold
-abbrev pub parts_in : ℕ → ℕ → Option Parts
-parts_in magnitude form =
+abbrev pub parts_in_words : ℕ → ℕ → Option Parts
+parts_in_words magnitude form =
     if nat_lt form 32 then Some (record { magnitude = magnitude; decimals = form % 16; negative = nat_le 16 form })
     else None
 
@@ -48,7 +48,7 @@ words-below (suc m) d some = (refl, refl)
 abbrev pub WordsBack : ℕ → ℕ → Option Parts → Type 0
 WordsBack m f parts = (magnitude_of (number_of parts) ≡ m) × (form_of (number_of parts) ≡ f)
 
-pub words_back : (m f : ℕ) → AreWords m f → WordsBack m f (parts_in m f)
+pub words_back : (m f : ℕ) → AreWords m f → WordsBack m f (parts_in_words m f)
 words_back m f h = ⊎_elim
     (λ some.
     let P : Bool → Type 0 = λ b. WordsBack m f

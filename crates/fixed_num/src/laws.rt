@@ -8,7 +8,7 @@ ghost use Rattle.fixed_num.specs.Number.{Number, finite, scaled, signed, IsInRan
 ghost use Rattle.fixed_num.specs.Rounding.{nearest, rounded, rounded_to, IsNearest};
 ghost use Rattle.fixed_num.specs.Arithmetic.{sum_of, product_of, floored_by, remainder_of, IsFloor};
 ghost use Rattle.fixed_num.specs.Order.{compared};
-ghost use Rattle.fixed_num.specs.Text.{text_of, printed};
+ghost use Rattle.fixed_num.specs.Text.{text_of, printed_in};
 ghost use Rattle.fixed_num.specs.Reading.{parsed, prefix_read, signed_read, without_blanks};
 ghost use Rattle.fixed_num.specs.Prefixes.{is_signed, IsOfLongest};
 
@@ -78,5 +78,5 @@ pub fn prefixes_are_longest()
 
 /// A number that is printed fills its field.
 pub fn print_fills_its_field()
-    ensures { (width decimals : ℕ) (x : Number) → length (printed width decimals x) ≡ width }
+    ensures { (width decimals : ℕ) (x : Number) → length (printed_in width decimals x) ≡ width }
 {}

@@ -44,19 +44,19 @@ pub struct Num {
 
 impl Model for Num {
     ghost use Rattle.fixed_num.specs.Number.{Number, number_of};
-    ghost use Rattle.fixed_num.specs.Words.{parts_in, AreWords, magnitude_of, form_of, words_back};
+    ghost use Rattle.fixed_num.specs.Words.{parts_in_words, AreWords, magnitude_of, form_of, words_back};
     ghost use Rattle.std.proofs.Common.{ap, ◌∙◌};
 
     ghost Value = { Number };
 
-    ghost view = { λ n. number_of (parts_in n.magnitude n.form) };
+    ghost view = { λ n. number_of (parts_in_words n.magnitude n.form) };
 
     ghost invariant = { λ n. AreWords n.magnitude n.form };
 
     ghost inverse = { λ x. record { magnitude = magnitude_of x; form = form_of x } };
 
     ghost inverse_ok = { λ n h.
-        ap (λ m. record { magnitude = m; form = form_of (number_of (parts_in n.magnitude n.form)) })
+        ap (λ m. record { magnitude = m; form = form_of (number_of (parts_in_words n.magnitude n.form)) })
         (words_back n.magnitude n.form h).0
         ∙ ap (λ f. record { magnitude = n.magnitude; form = f }) (words_back n.magnitude n.form h).1 };
 }

@@ -4,7 +4,7 @@ ghost use Rattle.std.specs.Prelude.{◌≡◌, ℕ, ◌+◌, ◌-◌, ◌/◌, �
 ghost use Rattle.std.specs.Prelude.{if◌then◌else◌};
 ghost use Rattle.arrayvec.specs.ArrayVec.{array_vec_len};
 ghost use Rattle.fixed_num.specs.Number.{AreParts};
-ghost use Rattle.fixed_num.specs.Text.{last_digits, whole_digits, decimals_text, text_of, printed};
+ghost use Rattle.fixed_num.specs.Text.{last_digits, whole_digits, decimals_text, text_of, printed_in};
 
 use crate::number::{Num, Parts};
 use crate::powers::power_of_ten;
@@ -34,7 +34,7 @@ impl Num {
     pub fn print(self, width: usize, decimals: u8, field: &mut [u8])
         requires whole_field { length field.old ≡ width }
         requires few_decimals { decimals ≤ 15 }
-        ensures { field.new ≡ printed width decimals self }
+        ensures { field.new ≡ printed_in width decimals self }
     {
         let rounded = self.with_decimals(decimals);
         let text = rounded.text();

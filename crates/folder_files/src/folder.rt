@@ -56,7 +56,7 @@ pub struct Folder<'a, R, L> {
 
 /// Whether a folder, a device or a pipe stands under a table's or an index's name. To read a pipe is to wait for it.
 fn is_no_table<R: Disk>(rt: &R, name: &str) -> bool {
-    match overwritten_by(name, "", &[], PAPER) {
+    match overwritten_by(name, "", &[], PAPER, false) {
         Some(Overwritten::Table | Overwritten::Index) => match fs::metadata(rt, name) {
             Ok(data) => !data.is_file(),
             Err(_) => false,

@@ -7,14 +7,14 @@ use Rattle.std.specs.List.{slice_split}
 use Rattle.std.specs.Str.{bytes_eq, str_eq_ignore_ascii_case}
 use Rattle.dbf_file.specs.declared.field.Field.{Field}
 use Rattle.shape.specs.declared.parts.KeyPart.{KeyPart}
-use Rattle.shape.specs.Keys.{is_key, bytes_of}
+use Rattle.shape.specs.Keys.{is_key, key_bytes}
 
-abbrev pub is_blank : ℕ → Bool
-is_blank byte = byte == 32 || byte == 9
+abbrev pub is_blank_or_tab : ℕ → Bool
+is_blank_or_tab byte = byte == 32 || byte == 9
 
 -- a key's text in capitals and without blanks
 unfoldable pub plain_text : List ℕ → List ℕ
-plain_text text = map to_ascii_uppercase (filter (λ byte. not (is_blank byte)) text)
+plain_text text = map to_ascii_uppercase (filter (λ byte. not (is_blank_or_tab byte)) text)
 
 -- ---- a plain text's pieces, which stand between plus signs
 
@@ -59,7 +59,7 @@ said_parts fields (piece ∷ pieces) = with_part (part_in fields piece) (said_pa
 -- the parts, if rows of the fields can have such a key, with keys of that length
 abbrev pub fitting_key : List Field → ℕ → List KeyPart → Option (List KeyPart)
 fitting_key fields key_length parts =
-    if is_key fields parts && bytes_of fields parts == key_length then Some parts else None
+    if is_key fields parts && key_bytes fields parts == key_length then Some parts else None
 
 abbrev pub key_if : List Field → ℕ → Option (List KeyPart) → Option (List KeyPart)
 key_if fields key_length None = None

@@ -7,16 +7,16 @@ use Rattle.folder_shapes.specs.declared.names.Sort.{Sort}
 use Rattle.folder_shapes.specs.declared.names.Sort.TheVariants.{Table, Index, Other}
 
 -- the last four bytes of a name, and what stands before them
-abbrev pub ending : List ℕ → List ℕ
-ending name = drop (length name - 4) name
+abbrev pub name_ending : List ℕ → List ℕ
+name_ending name = drop (length name - 4) name
 
 abbrev pub stem : List ℕ → List ℕ
 stem name = take (length name - 4) name
 
 -- a table's name ends with .DBF, an index's with .NDX, in any letter case
 unfoldable pub sort_of : List ℕ → Sort
-sort_of name = if str_eq_ignore_ascii_case (ending name) (codes ".DBF") then Table
-    else if str_eq_ignore_ascii_case (ending name) (codes ".NDX") then Index
+sort_of name = if str_eq_ignore_ascii_case (name_ending name) (codes ".DBF") then Table
+    else if str_eq_ignore_ascii_case (name_ending name) (codes ".NDX") then Index
     else Other
 
 abbrev pub has_small : List ℕ → Bool

@@ -11,10 +11,10 @@ use Rattle.shape.specs.declared.indexes.IndexShape.{IndexShape}
 use Rattle.shape.specs.declared.tables.TableShape.{TableShape}
 use Rattle.shape.specs.Indexes.{is_index, is_next_index}
 use Rattle.shape.specs.Tables.{is_table, is_next_table}
-use Rattle.shape_files.specs.Shapes.{plain, in_capitals}
+use Rattle.shape_files.specs.Shapes.{plain_field, in_capitals}
 use Rattle.folder_shapes.specs.declared.found.FoundTable.{FoundTable}
-use Rattle.folder_shapes.specs.declared.line.Line.{Line}
-use Rattle.folder_shapes.specs.declared.line.Line.TheVariants as line
+use Rattle.folder_shapes.specs.declared.line.FolderLine.{FolderLine}
+use Rattle.folder_shapes.specs.declared.line.FolderLine.TheVariants as line
 use Rattle.folder_shapes.specs.declared.names.Sort.{Sort}
 use Rattle.folder_shapes.specs.declared.names.Sort.TheVariants as sort
 use Rattle.folder_shapes.specs.declared.note.Note.{Note}
@@ -34,7 +34,7 @@ pub record State : Type 0 where
   pub tables : List TableShape
   pub found : List FoundTable
   pub indexes : List IndexShape
-  pub lines : List Line
+  pub lines : List FolderLine
 
 abbrev pub nothing_taken : State
 nothing_taken = record { tables = []; found = []; indexes = []; lines = [] }
@@ -48,7 +48,7 @@ with_note n told s = record s { lines = s.lines ++ line.Noted n told ∷ [] }
 -- the declaration of a table in a file of that name
 pub record DeclaresFound (name : List ℕ) (t : FoundTable) (shape : TableShape) : Type 0 where
   pub named : shape.name.items ≡ capital_stem name
-  pub fields : map plain shape.fields ≡ map in_capitals t.table.structure.fields
+  pub fields : map plain_field shape.fields ≡ map in_capitals t.table.structure.fields
 
 -- It may be declared behind the others.
 pub record MayDeclare (s : State) (name : List ℕ) (t : FoundTable) (shape : TableShape) : Type 0 where
@@ -76,8 +76,8 @@ MayNotDeclare s name t note.NoOwner = ⊥
 MayNotDeclare s name t note.ManyOwners = ⊥
 MayNotDeclare s name t note.Stale = ⊥
 
-abbrev pub with_table : TableShape → FoundTable → State → State
-with_table shape t s = record {
+abbrev pub with_found_table : TableShape → FoundTable → State → State
+with_found_table shape t s = record {
   tables = s.tables ++ shape ∷ [];
   found = s.found ++ t ∷ [];
   indexes = s.indexes;
@@ -96,14 +96,15 @@ WhyNoTable holds s name told =
 abbrev pub TakesTable : Holds → ℕ → List ℕ → State → State → Type 0
 TakesTable holds n name before after =
     ((shape : TableShape) × (t : FoundTable) × HasTable holds before name shape t
-    × (after ≡ with_table shape t before))
+    × (after ≡ with_found_table shape t before))
     ⊎ ((told : Note) × WhyNoTable holds before name told × (after ≡ with_note n told before))
 
 -- ---- indexes
 
 -- it doesn't list its table's rows, or its key isn't spelled as it is declared
 abbrev pub stale_by : List ℕ → ℕ → List ℕ → List ℕ → Bool
-stale_by listed_tables t text plain = not (list_any (λ l. l == t) listed_tables) || not (bytes_eq text plain)
+stale_by listed_tables t text plain_field = not (list_any (λ l. l == t) listed_tables)
+    || not (bytes_eq text plain_field)
 
 abbrev pub is_stale : List FoundTable → KeyForm → List Pair → ℕ → Bool
 is_stale found form pairs t = stale_by (listed_tables found form pairs) t form.key_text (plain_text form.key_text)
@@ -159,7 +160,7 @@ MayNotIndex s name form pairs note.ManyOwners = NotOwned s.found form pairs note
 MayNotIndex s name form pairs note.Stale = ⊥
 
 -- an index that is declared, with a note behind it where it is stale
-abbrev pub stale_note : ℕ → Bool → List Line
+abbrev pub stale_note : ℕ → Bool → List FolderLine
 stale_note n true = line.Noted n note.Stale ∷ []
 stale_note n false = []
 

@@ -1,7 +1,7 @@
 //! What is declared.
 
 use crate::found::FoundTable;
-use crate::line::Line;
+use crate::line::FolderLine;
 use shape::{IndexShape, TableShape};
 
 /// The tables and indexes of a folder that are declared, and what is told of each file.
@@ -11,5 +11,5 @@ pub struct FolderDeclared {
     /// The same tables with their rows.
     pub found: Vec<FoundTable>,
     pub indexes: Vec<IndexShape>,
-    pub lines: Vec<Line>,
+    pub lines: Vec<FolderLine>,
 }

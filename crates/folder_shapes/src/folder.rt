@@ -9,14 +9,15 @@ ghost use Rattle.shape.specs.Whole.{is_shape};
 ghost use Rattle.folder_shapes.specs.States.{taken_state, declared_shape};
 ghost use Rattle.folder_shapes.specs.Told.{HasTable, HasIndex, WhyNoTable, WhyNoIndex, TakesTable, TakesIndex};
 ghost use Rattle.folder_shapes.specs.Told.{TakesFolder};
-ghost use Rattle.folder_shapes.specs.Told.{nothing_taken as nothing_told, with_note, with_table, with_found_index};
+ghost use Rattle.folder_shapes.specs.Told.{nothing_taken as nothing_told, with_note, with_found_table};
+ghost use Rattle.folder_shapes.specs.Told.{with_found_index};
 ghost use Rattle.folder_shapes.specs.Told.{TableStep, IndexStep, TakeTables};
 ghost use Rattle.folder_shapes.specs.Names.{sort_of as sort_of_name};
 
 use crate::declared::FolderDeclared;
 use crate::found::FoundTable;
 use crate::indexes::index_shape;
-use crate::line::Line;
+use crate::line::FolderLine;
 use crate::names::{Sort, sort_of};
 use crate::note::Note;
 use crate::reading::{index_in, read_bytes, table_in};
@@ -71,7 +72,7 @@ impl FolderDeclared {
     {
         match unfit {
             Unfit::Noted(note) => {
-                self.lines.push(Line::Noted(file, note))?;
+                self.lines.push(FolderLine::Noted(file, note))?;
                 Ok(())
             }
             Unfit::Memory => Err(AllocError),
@@ -97,9 +98,9 @@ impl FolderDeclared {
     }
 
     fn add_table(&mut self, shape: TableShape, found: FoundTable) -> Result<(), AllocError>
-        ensures { OnOk result (taken_state self.new ≡ with_table shape found (taken_state self.old)) }
+        ensures { OnOk result (taken_state self.new ≡ with_found_table shape found (taken_state self.old)) }
     {
-        self.lines.push(Line::Table(self.tables.len()))?;
+        self.lines.push(FolderLine::Table(self.tables.len()))?;
         self.tables.push(shape)?;
         self.found.push(found)?;
         Ok(())
@@ -148,10 +149,10 @@ impl FolderDeclared {
     fn add_index(&mut self, file: usize, index: IndexShape, stale: bool) -> Result<(), AllocError>
         ensures { OnOk result (taken_state self.new ≡ with_found_index file index stale (taken_state self.old)) }
     {
-        self.lines.push(Line::Index(self.indexes.len()))?;
+        self.lines.push(FolderLine::Index(self.indexes.len()))?;
         self.indexes.push(index)?;
         if stale {
-            self.lines.push(Line::Noted(file, Note::Stale))?;
+            self.lines.push(FolderLine::Noted(file, Note::Stale))?;
         }
         Ok(())
     }

@@ -10,7 +10,7 @@ use shape::{KeyPart, KeyParts};
 use std::alloc::{AllocError, Global};
 
 fn is_blank(byte: u8) -> bool
-    ensures { result ≡ spec.is_blank byte }
+    ensures { result ≡ spec.is_blank_or_tab byte }
 {
     byte == b' ' || byte == b'\t'
 }

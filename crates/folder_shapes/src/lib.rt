@@ -21,7 +21,7 @@ mod unfit;
 pub use declared::FolderDeclared;
 pub use folder::{declare, table_file};
 pub use found::FoundTable;
-pub use line::Line;
+pub use line::FolderLine;
 pub use note::Note;
 pub use told::LineTold;
 pub use unfit::Unfit;

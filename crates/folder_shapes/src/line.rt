@@ -4,7 +4,7 @@ use crate::note::Note;
 
 /// What is told of a file.
 #[derive(Clone, Copy, PartialEq, Eq, Debug)]
-pub enum Line {
+pub enum FolderLine {
     /// The table of that number is declared.
     Table(usize),
     /// The index of that number is declared.

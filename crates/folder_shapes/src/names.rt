@@ -17,7 +17,7 @@ pub enum Sort {
 
 /// The ending of a name: its last four bytes.
 fn ending(name: &[u8]) -> &[u8]
-    ensures { result.now ≡ spec.ending name.now }
+    ensures { result.now ≡ spec.name_ending name.now }
 {
     &name[name.len().saturating_sub(4)..]
 }

@@ -1,7 +1,7 @@
 //! Tables declared.
 
 ghost use Rattle.std.specs.Prelude.{◌≡◌, ◌<◌, length, map, take, IfOk, IfErr, MatchOption};
-ghost use Rattle.shape_files.specs.Shapes.{plain, in_capitals};
+ghost use Rattle.shape_files.specs.Shapes.{plain_field, in_capitals};
 ghost use Rattle.folder_shapes.specs.Names.{stem as stem_of};
 ghost use Rattle.folder_shapes.specs.Reading.{UnfitIs};
 ghost use Rattle.folder_shapes.specs.States.{taken_state};
@@ -22,7 +22,7 @@ const MOST_TABLES: usize = 32;
 
 /// The same field with its name in capitals.
 fn with_capitals(field: &Field) -> Field
-    ensures { plain result ≡ in_capitals field.now }
+    ensures { plain_field result ≡ in_capitals field.now }
 {
     Field {
         name: name_of(field.name.as_slice()),
@@ -34,7 +34,7 @@ fn with_capitals(field: &Field) -> Field
 
 /// The same fields with their names in capitals.
 fn capital_fields(alloc: Global, fields: &[Field]) -> Result<Vec<Field>, AllocError>
-    ensures { IfOk result (λ copies. map plain copies.items ≡ map in_capitals fields.now) }
+    ensures { IfOk result (λ copies. map plain_field copies.items ≡ map in_capitals fields.now) }
 {
     let mut copies = Vec::with_capacity(alloc, fields.len())?;
     for field in fields {

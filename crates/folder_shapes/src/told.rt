@@ -1,7 +1,7 @@
 //! A line of a declaration file.
 
 use crate::declared::FolderDeclared;
-use crate::line::Line;
+use crate::line::FolderLine;
 use crate::note::Note;
 use std::fmt::{self, Display, Formatter, Write};
 
@@ -10,7 +10,7 @@ use std::fmt::{self, Display, Formatter, Write};
 pub struct LineTold<'d, 'n> {
     pub declared: &'d FolderDeclared,
     pub names: &'n [&'n [u8]],
-    pub line: Line,
+    pub line: FolderLine,
 }
 
 /// Bytes of a name, of which those that aren't printed are question marks.
@@ -88,9 +88,9 @@ fn put_note<W: Write>(f: &mut Formatter<W>, name: &[u8], note: Note) -> fmt::Res
 impl Display for LineTold<'_, '_> {
     fn fmt<W: Write>(&self, f: &mut Formatter<W>) -> fmt::Result {
         match self.line {
-            Line::Table(t) => put_table(f, self.declared, t),
-            Line::Index(i) => put_index(f, self.declared, i),
-            Line::Noted(file, note) => match self.names.get(file) {
+            FolderLine::Table(t) => put_table(f, self.declared, t),
+            FolderLine::Index(i) => put_index(f, self.declared, i),
+            FolderLine::Noted(file, note) => match self.names.get(file) {
                 Some(name) => put_note(f, name, note),
                 None => Ok(()),
             },

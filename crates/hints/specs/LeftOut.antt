@@ -3,7 +3,7 @@ use Rattle.std.specs.Prelude.{ℕ, List, [], ◌∷◌, codes, Bool, ◌||◌, O
 use Rattle.prg_expr.specs.Functions.{is_cut}
 use Rattle.prg_expr.specs.Word.{Word}
 use Rattle.prg_expr.specs.Word as word
-use Rattle.prg_expr.specs.declared.tree.Operator.TheVariants.{Times}
+use Rattle.prg_expr.specs.declared.tree.BinaryOperator.TheVariants.{Times}
 use Rattle.hints.specs.declared.left_out.LeftOut.{LeftOut as Thing}
 use Rattle.hints.specs.declared.left_out.LeftOut.TheVariants as it
 
@@ -99,7 +99,8 @@ of_keys = (codes "INKEY", it.Keys) ∷ (codes "READKEY", it.Keys) ∷ (codes "FK
 
 abbrev pub of_machines : List NamedThing
 of_machines = (codes "FILE", it.Machine) ∷ (codes "DISKSPACE", it.Machine) ∷ (codes "GETENV", it.Machine)
-    ∷ (codes "OS", it.Machine) ∷ (codes "VERSION", it.Machine) ∷ (codes "ISCOLOR", it.Machine) ∷ []
+    ∷ (codes "OS", it.Machine) ∷ (codes "VERSION", it.Machine) ∷ (codes "ISCOLOR", it.Machine)
+    ∷ (codes "ACCESS", it.Access) ∷ []
 
 abbrev pub of_structures : List NamedThing
 of_structures = (codes "DBF", it.Made) ∷ (codes "NDX", it.Made) ∷ (codes "FIELD", it.Made) ∷ (codes "LUPDATE", it.Made)
@@ -157,6 +158,8 @@ by_form first second =
     else if is_cut first (codes "READ") then first_named (one (codes "SAVE") it.ReadSave) second
     else if is_cut first (codes "COPY") then first_named (one (codes "FILE") it.Others) second
     else if is_cut first (codes "DELETE") then first_named (one (codes "FILE") it.Others) second
+    else if is_cut first (codes "GO") || is_cut first (codes "GOTO") then
+    first_named (one (codes "RECORD") it.GoRecord) second
     else None
 
 -- what is left out where a line begins with two words
@@ -203,12 +206,21 @@ in_call s (word.Close ∷ ws) = by_function s
 in_call s ws = or_next (by_function s) (first_named answers s)
 
 -- what is left out where these words begin
-unfoldable pub in_front : List Word → Option Thing
-in_front (word.Name s ∷ word.Open ∷ ws) = in_call s ws
-in_front (word.Sign Times ∷ word.Sign Times ∷ ws) = Some it.Powers
-in_front ws = None
+unfoldable pub at_the_front : List Word → Option Thing
+at_the_front (word.Name s ∷ word.Open ∷ ws) = in_call s ws
+at_the_front (word.Sign Times ∷ word.Sign Times ∷ ws) = Some it.Powers
+at_the_front ws = None
 
 -- the first function or operator among these words that is left out
 unfoldable pub of_expression : List Word → Option Thing
 of_expression [] = None
-of_expression (w ∷ ws) = or_next (in_front (w ∷ ws)) (of_expression ws)
+of_expression (w ∷ ws) = or_next (at_the_front (w ∷ ws)) (of_expression ws)
+
+-- what a line asks for by the two words at its beginning
+unfoldable pub by_start : List Word → Option Thing
+by_start (word.Name first ∷ ws) = by_next first ws
+by_start ws = None
+
+-- what a line with a faulty expression asks for: by a function or an operator, or else by the words at its beginning
+unfoldable pub of_faulty : List Word → Option Thing
+of_faulty ws = or_next (of_expression ws) (by_start ws)

@@ -197,6 +197,7 @@ impl LeftOut {
             LeftOut::OtherAlias => {
                 "no alias stands before a name that is set; SELECT the area, and write the field's or variable's name alone"
             }
+            LeftOut::GoRecord => "GO takes the number alone; leave RECORD out",
             LeftOut::Scopes => {
                 "ALL, NEXT, RECORD, WHILE and FOR stand in SCAN FOR alone; put the command between SCAN and ENDSCAN"
             }
@@ -212,6 +213,9 @@ impl LeftOut {
             }
             LeftOut::Machine =>
                 "a run knows nothing of the machine and of other files; take the test away",
+            LeftOut::Access => {
+                "ACCESS() is left out, since nobody logs in here; take the test away"
+            }
             LeftOut::Made => {
                 "how a table is made can't be asked; write its name, fields and indexes out"
             }

@@ -85,6 +85,8 @@ pub enum LeftOut {
     SelectZero,
     /// A field of another work area, or a variable behind M->, that is to be set.
     OtherAlias,
+    /// GO RECORD.
+    GoRecord,
     /// ALL, NEXT, RECORD, WHILE and FOR.
     Scopes,
     /// PICTURE and RANGE.
@@ -99,6 +101,8 @@ pub enum LeftOut {
     Cursor,
     /// FILE(), OS() and their kin.
     Machine,
+    /// ACCESS().
+    Access,
     /// DBF(), NDX(), FIELD() and their kin.
     Made,
     /// TIME().
@@ -527,6 +531,9 @@ fn by_form(first: &[u8], second: &[u8]) -> Option<LeftOut>
     if is_word(first, b"DELETE") {
         return if_named(second, b"FILE", LeftOut::Others);
     }
+    if is_word(first, b"GO") || is_word(first, b"GOTO") {
+        return if_named(second, b"RECORD", LeftOut::GoRecord);
+    }
     None
 }
 
@@ -664,6 +671,9 @@ fn of_machines(word: &[u8]) -> Option<LeftOut>
     }
     if is_word(word, b"ISCOLOR") {
         return Some(LeftOut::Machine);
+    }
+    if is_word(word, b"ACCESS") {
+        return Some(LeftOut::Access);
     }
     None
 }

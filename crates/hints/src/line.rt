@@ -8,7 +8,7 @@ ghost use Rattle.hints.specs.LeftOut as spec;
 use crate::kinds::{of_command, of_kind};
 use crate::left_out::{LeftOut, by_first, by_two, by_word, of_answer, of_clause, of_function};
 use prg_code::CompileFaultKind;
-use prg_expr::{Operator, ParseFaultKind, Token, is_word, words};
+use prg_expr::{BinaryOperator, ParseFaultKind, Token, is_word, words};
 use std::alloc::Global;
 
 /// The first clause or alias among these words that is left out.
@@ -109,15 +109,15 @@ fn in_call(name: &[u8], behind: &[Token<'_>]) -> Option<LeftOut>
 }
 
 /// What is left out where these words begin.
-#[tactic(auto, unfolding(crate::specs::LeftOut::in_front))]
+#[tactic(auto, unfolding(crate::specs::LeftOut::at_the_front))]
 fn in_front(words: &[Token<'_>]) -> Option<LeftOut>
-    ensures { result ≡ spec.in_front (words_of words.now) }
+    ensures { result ≡ spec.at_the_front (words_of words.now) }
 {
     match words {
         [Token::Name(name), Token::Open, behind @ ..] => in_call(*name, behind),
         [
-            Token::Operator(Operator::Times),
-            Token::Operator(Operator::Times),
+            Token::Operator(BinaryOperator::Times),
+            Token::Operator(BinaryOperator::Times),
             ..
         ] => { Some(LeftOut::Powers) }
         _ => None,
@@ -138,6 +138,29 @@ fn in_expression(words: &[Token<'_>]) -> Option<LeftOut>
     in_expression(others)
 }
 
+/// What a line asks for that is left out by the two words at its beginning.
+#[tactic(auto, unfolding(crate::specs::LeftOut::by_start))]
+fn by_start(words: &[Token<'_>]) -> Option<LeftOut>
+    ensures { result ≡ spec.by_start (words_of words.now) }
+{
+    let [Token::Name(first), rest @ ..] = words else {
+        return None;
+    };
+    by_next(*first, rest)
+}
+
+/// What a line with a faulty expression asks for that is left out: by a function or an operator, or else by the words
+/// at its beginning.
+#[tactic(auto, unfolding(crate::specs::LeftOut::of_faulty))]
+fn in_faulty(words: &[Token<'_>]) -> Option<LeftOut>
+    ensures { result ≡ spec.of_faulty (words_of words.now) }
+{
+    if let Some(found) = in_expression(words) {
+        return Some(found);
+    }
+    by_start(words)
+}
+
 /// What a line with this fault asks for that is left out. Words that memory doesn't hold ask for nothing.
 fn asked(alloc: Global, kind: ParseFaultKind, line: &[u8]) -> Option<LeftOut> {
     let Ok(read) = words(alloc, line) else {
@@ -145,7 +168,7 @@ fn asked(alloc: Global, kind: ParseFaultKind, line: &[u8]) -> Option<LeftOut> {
     };
     match kind {
         ParseFaultKind::Word => in_command(read.words.as_slice()),
-        ParseFaultKind::Expression => in_expression(read.words.as_slice()),
+        ParseFaultKind::Expression => in_faulty(read.words.as_slice()),
         ParseFaultKind::Character if line.contains(&b'^') => Some(LeftOut::Powers),
         ParseFaultKind::Character if line.trim_ascii_start().starts_with(b"!") => Some(
             LeftOut::Others,

@@ -4,6 +4,7 @@ ghost use Rattle.std.specs.Prelude.{◌≡◌, Some, IfOk, OnOk, not, position, 
 ghost use Rattle.hex.specs.Hex.{encode_lower};
 ghost use Rattle.toml.specs.Data.{get_member, string};
 ghost use Rattle.toml.specs.View.{table_view};
+ghost use Rattle.journal_papers.specs.Papers as spec;
 ghost use Rattle.journal_papers.specs.Papers.{is_said, sum_word};
 
 use crate::paper::JournalPaper;
@@ -31,14 +32,40 @@ fn word(alloc: Global, sum: &Option<Sum>) -> Result<String, AllocError>
     }
 }
 
+fn begins_with_hyphen(name: &[u8]) -> bool
+    ensures { result ≡ spec.begins_with_hyphen name.now }
+{
+    match name {
+        [first, ..] => *first == b'-',
+        [] => false,
+    }
+}
+
+/// The key of a file's sum: its name, of which the first hyphen is left out where two stand in front, since words of
+/// the command line are keys too.
+fn sum_key(name: &str) -> &str
+    ensures { result.now ≡ spec.sum_key name.now }
+{
+    match name.strip_prefix('-') {
+        Some(rest) => {
+            if begins_with_hyphen(rest.as_bytes()) {
+                rest
+            } else {
+                name
+            }
+        }
+        None => name,
+    }
+}
+
 impl JournalPaper {
-    /// Puts a file's sum under its name.
+    /// Puts a file's sum under its key.
     pub fn put_sum(&mut self, alloc: Global, file: &FileSum) -> Result<(), AllocError>
-        ensures { OnOk result (get_member (string_bytes file.now.name) (table_view self.new.table)
+        ensures { OnOk result (get_member (spec.sum_key (string_bytes file.now.name)) (table_view self.new.table)
             ≡ Some (string (sum_word file.now.sum))) }
     {
         let word = word(alloc, &file.sum)?;
-        self.put(alloc, file.name.as_str(), word.as_str())
+        self.put(alloc, sum_key(file.name.as_str()), word.as_str())
     }
 }
 
@@ -56,7 +83,7 @@ fn digits_of(sum: &Sum) -> [u8; 64]
 fn is_told(paper: &JournalPaper, file: &FileSum) -> bool
     ensures { result ≡ is_said (table_view paper.now.table) file.now }
 {
-    let Some(word) = paper.get(file.name.as_str()) else {
+    let Some(word) = paper.get(sum_key(file.name.as_str())) else {
         return false;
     };
     match &file.sum {

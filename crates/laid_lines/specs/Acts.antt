@@ -40,9 +40,9 @@ use Rattle.prg_code.specs.Bindings.{slot_named}
 use Rattle.prg_values.specs.declared.scope.FieldPlace.{FieldPlace}
 use Rattle.prg_values.specs.declared.scope.Reading.{Reading}
 use Rattle.prg_values.specs.Readings.{alias_area, field_here, table_named}
-use Rattle.prg_values.specs.Written.{Constant, whole}
-use Rattle.prg_values.specs.Placed.{Stands, StandAll, Leaves}
-use Rattle.laid_lines.specs.Layout.{Laying, Gives, Knows, Reads, scope_in}
+use Rattle.prg_values.specs.Written.{Constant, whole_as_value}
+use Rattle.prg_values.specs.Placed.{InstrStands, StandAll, Leaves}
+use Rattle.laid_lines.specs.Layout.{Laying, ExprLaid, Knows, NameLaid, scope_in}
 
 -- an instruction that puts a constant on the stack
 abbrev pub Puts : Laying → ℕ → Value → ℕ → Type 0
@@ -50,56 +50,56 @@ Puts f a v b = StandAll f.text a (Constant v ∷ []) b
 
 -- instructions of one group
 abbrev pub OnScreen : Laying → ℕ → ScreenInstr → ℕ → Type 0
-OnScreen f a i b = Stands f.text a (Screen i) b
+OnScreen f a i b = InstrStands f.text a (Screen i) b
 
 abbrev pub OnAreas : Laying → ℕ → AreaInstr → ℕ → Type 0
-OnAreas f a i b = Stands f.text a (Areas i) b
+OnAreas f a i b = InstrStands f.text a (Areas i) b
 
 abbrev pub Moved : Laying → ℕ → MoveInstr → ℕ → Type 0
-Moved f a i b = Stands f.text a (Moves i) b
+Moved f a i b = InstrStands f.text a (Moves i) b
 
 abbrev pub OnRecords : Laying → ℕ → RecordInstr → ℕ → Type 0
-OnRecords f a i b = Stands f.text a (Records i) b
+OnRecords f a i b = InstrStands f.text a (Records i) b
 
 -- the names by themselves
 abbrev pub names_of : List (Bor (ArrayVec ℕ)) → List Letters
 names_of names = map (λ name. name.now.items) names
 
-abbrev pub text_of : List ℕ → Value
-text_of letters = value.Text (record { items = letters })
+abbrev pub text_of_letters : List ℕ → Value
+text_of_letters letters = value.Text (record { items = letters })
 
 abbrev pub blank : Value
-blank = text_of (codes " ")
+blank = text_of_letters (codes " ")
 
 abbrev pub any_key : Value
-any_key = text_of (codes "Press any key to continue...")
+any_key = text_of_letters (codes "Press any key to continue...")
 
 -- ---- variables
 
 -- the value on top goes into the variable's slot
 abbrev pub Stored : Laying → ℕ → Letters → Kind → ℕ → Type 0
 Stored f a name k b =
-    (slot : ℕ) × (slot_named f.names name ≡ Some slot) × Stands f.text a (Values (value_instr.Store k slot)) b
+    (slot : ℕ) × (slot_named f.names name ≡ Some slot) × InstrStands f.text a (Values (value_instr.Store k slot)) b
 
 abbrev pub Assigned : Laying → ℕ → Letters → Tree → ℕ → Type 0
-Assigned f a name e b = (k : Kind) × (m : ℕ) × Gives f a e k m × Stored f m name k b
+Assigned f a name e b = (k : Kind) × (m : ℕ) × ExprLaid f a e k m × Stored f m name k b
 
 -- each further variable gets the value of the slot
 abbrev pub Copied : Laying → ℕ → Kind → ℕ → List Letters → ℕ → Type 0
 Copied f a k slot [] b = b ≡ a
-Copied f a k slot (name ∷ names) b = (m : ℕ) × (n : ℕ) × Stands f.text a (Values (value_instr.Load k slot)) m
+Copied f a k slot (name ∷ names) b = (m : ℕ) × (n : ℕ) × InstrStands f.text a (Values (value_instr.Load k slot)) m
     × Stored f m name k n × Copied f n k slot names b
 
 abbrev pub StoredAll : Laying → ℕ → Tree → List Letters → ℕ → Type 0
 StoredAll f a e [] b = ⊥
-StoredAll f a e (name ∷ names) b = (k : Kind) × (slot : ℕ) × (m : ℕ) × (n : ℕ) × Gives f a e k m
-    × (slot_named f.names name ≡ Some slot) × Stands f.text m (Values (value_instr.Store k slot)) n
+StoredAll f a e (name ∷ names) b = (k : Kind) × (slot : ℕ) × (m : ℕ) × (n : ℕ) × ExprLaid f a e k m
+    × (slot_named f.names name ≡ Some slot) × InstrStands f.text m (Values (value_instr.Store k slot)) n
     × Copied f n k slot names b
 
 abbrev pub Released : Laying → ℕ → List Letters → ℕ → Type 0
 Released f a [] b = b ≡ a
 Released f a (name ∷ names) b = (slot : ℕ) × (m : ℕ) × (slot_named f.names name ≡ Some slot)
-    × Stands f.text a (Values (value_instr.Unset slot)) m × Released f m names b
+    × InstrStands f.text a (Values (value_instr.Unset slot)) m × Released f m names b
 
 abbrev pub setting_of : Toggle → Setting
 setting_of toggle.Exact = setting.Exact
@@ -107,13 +107,13 @@ setting_of toggle.Deleted = setting.Deleted
 setting_of toggle.Century = setting.Century
 
 abbrev pub IsSet : Laying → ℕ → Toggle → Bool → ℕ → Type 0
-IsSet f a switch on b = Stands f.text a (Values (value_instr.Set (setting_of switch) on)) b
+IsSet f a switch on b = InstrStands f.text a (Values (value_instr.Set (setting_of switch) on)) b
 
 -- ---- the screen and the operator's lines
 
 -- a value is shown at the cursor
 abbrev pub ShownOne : Laying → ℕ → Tree → ℕ → Type 0
-ShownOne f a e b = (k : Kind) × (m : ℕ) × Gives f a e k m × OnScreen f m (screen.Print k) b
+ShownOne f a e b = (k : Kind) × (m : ℕ) × ExprLaid f a e k m × OnScreen f m (screen.Print k) b
 
 abbrev pub ShownBlank : Laying → ℕ → ℕ → Type 0
 ShownBlank f a b = (m : ℕ) × Puts f a blank m × OnScreen f m (screen.Print kind.Text) b
@@ -133,22 +133,22 @@ ShownLine f a es b = (m : ℕ) × OnScreen f a screen.NewLine m × Shown f m es 
 
 -- a row and a column
 abbrev pub Placed : Laying → ℕ → Tree → Tree → ℕ → Type 0
-Placed f a row column b = (m : ℕ) × Gives f a row kind.Number m × Gives f m column kind.Number b
+Placed f a row column b = (m : ℕ) × ExprLaid f a row kind.Number m × ExprLaid f m column kind.Number b
 
-abbrev pub Said : Laying → ℕ → Tree → Tree → Tree → ℕ → Type 0
-Said f a row column e b =
-    (k : Kind) × (m : ℕ) × (n : ℕ) × Placed f a row column m × Gives f m e k n × OnScreen f n (screen.Say k) b
+abbrev pub SayLaid : Laying → ℕ → Tree → Tree → Tree → ℕ → Type 0
+SayLaid f a row column e b =
+    (k : Kind) × (m : ℕ) × (n : ℕ) × Placed f a row column m × ExprLaid f m e k n × OnScreen f n (screen.Say k) b
 
 -- a GET shows what its variable or field holds
 abbrev pub Got : Laying → ℕ → Tree → Tree → Letters → ℕ → Type 0
-Got f a row column name b = (r : Reading) × (m : ℕ) × (n : ℕ) × Placed f a row column m × Reads f m name r n
+Got f a row column name b = (r : Reading) × (m : ℕ) × (n : ℕ) × Placed f a row column m × NameLaid f m name r n
     × OnScreen f n (screen.Say r.kind) b
 
 abbrev pub GotOn : Laying → ℕ → Letters → ℕ → Type 0
-GotOn f a name b = (r : Reading) × (m : ℕ) × Reads f a name r m × OnScreen f m (screen.SayOn r.kind) b
+GotOn f a name b = (r : Reading) × (m : ℕ) × NameLaid f a name r m × OnScreen f m (screen.SayOn r.kind) b
 
 abbrev pub SaidAndGot : Laying → ℕ → Tree → Tree → Tree → Letters → ℕ → Type 0
-SaidAndGot f a row column e name b = (m : ℕ) × Said f a row column e m × GotOn f m name b
+SaidAndGot f a row column e name b = (m : ℕ) × SayLaid f a row column e m × GotOn f m name b
 
 -- the instruction that takes a value to where another one reads it
 abbrev pub kept_value : ValueInstr → Kind → Option Instr
@@ -166,32 +166,32 @@ kept _ k = None
 
 -- a line of the operator for one GET
 abbrev pub TakenOne : Laying → ℕ → Letters → ℕ → Type 0
-TakenOne f a name b = (r : Reading) × (i : Instr) × (m : ℕ) × (n : ℕ) × Reads f a name r m
-    × OnScreen f m (screen.Input r.kind) n × (kept r.instr r.kind ≡ Some i) × Stands f.text n i b
+TakenOne f a name b = (r : Reading) × (i : Instr) × (m : ℕ) × (n : ℕ) × NameLaid f a name r m
+    × OnScreen f m (screen.Input r.kind) n × (kept r.instr r.kind ≡ Some i) × InstrStands f.text n i b
 
-abbrev pub Taken : Laying → ℕ → List Letters → ℕ → Type 0
-Taken f a [] b = b ≡ a
-Taken f a (name ∷ names) b = (m : ℕ) × TakenOne f a name m × Taken f m names b
+abbrev pub ReadLaid : Laying → ℕ → List Letters → ℕ → Type 0
+ReadLaid f a [] b = b ≡ a
+ReadLaid f a (name ∷ names) b = (m : ℕ) × TakenOne f a name m × ReadLaid f m names b
 
 -- a text is shown
 abbrev pub Prompted : Laying → ℕ → Option Tree → ℕ → Type 0
 Prompted f a None b = b ≡ a
-Prompted f a (Some e) b = (m : ℕ) × Gives f a e kind.Text m × OnScreen f m (screen.Print kind.Text) b
+Prompted f a (Some e) b = (m : ℕ) × ExprLaid f a e kind.Text m × OnScreen f m (screen.Print kind.Text) b
 
-abbrev pub Accepted : Laying → ℕ → Option Tree → Letters → ℕ → Type 0
-Accepted f a prompt name b = (m : ℕ) × (n : ℕ) × (o : ℕ) × OnScreen f a screen.NewLine m × Prompted f m prompt n
+abbrev pub AcceptLaid : Laying → ℕ → Option Tree → Letters → ℕ → Type 0
+AcceptLaid f a prompt name b = (m : ℕ) × (n : ℕ) × (o : ℕ) × OnScreen f a screen.NewLine m × Prompted f m prompt n
     × OnScreen f n screen.Line o × Stored f o name kind.Text b
 
 -- the text that is shown while a key is awaited
 abbrev pub Asked : Laying → ℕ → Option Tree → ℕ → Type 0
 Asked f a None b = Puts f a any_key b
-Asked f a (Some e) b = Gives f a e kind.Text b
+Asked f a (Some e) b = ExprLaid f a e kind.Text b
 
 -- of the operator's line the first letter goes into the variable, if there is one
 abbrev pub KeyTaken : Laying → ℕ → Option Letters → ℕ → Type 0
-KeyTaken f a None b = Stands f.text a (Values (value_instr.Discard kind.Text)) b
-KeyTaken f a (Some name) b = (m : ℕ) × (n : ℕ) × Puts f a (whole 1) m
-    × Stands f.text m (Values (value_instr.Function fun.Left)) n × Stored f n name kind.Text b
+KeyTaken f a None b = InstrStands f.text a (Values (value_instr.Discard kind.Text)) b
+KeyTaken f a (Some name) b = (m : ℕ) × (n : ℕ) × Puts f a (whole_as_value 1) m
+    × InstrStands f.text m (Values (value_instr.Function fun.Left)) n × Stored f n name kind.Text b
 
 abbrev pub Waited : Laying → ℕ → Option Tree → Option Letters → ℕ → Type 0
 Waited f a prompt name b = (m : ℕ) × (n : ℕ) × (o : ℕ) × (p : ℕ) × OnScreen f a screen.NewLine m × Asked f m prompt n
@@ -252,18 +252,18 @@ Filtered f a (Some e) b = FilteredBy f a e b
 abbrev pub Gone : Laying → ℕ → Goal → ℕ → Type 0
 Gone f a Top b = Moved f a move_instr.Top b
 Gone f a Bottom b = Moved f a move_instr.Bottom b
-Gone f a (Record e) b = (m : ℕ) × Gives f a e kind.Number m × Moved f m move_instr.Go b
+Gone f a (Record e) b = (m : ℕ) × ExprLaid f a e kind.Number m × Moved f m move_instr.Go b
 
 -- how many rows a SKIP goes on, 1 where it doesn't say
 abbrev pub Counted : Laying → ℕ → Option Tree → ℕ → Type 0
-Counted f a None b = Puts f a (whole 1) b
-Counted f a (Some e) b = Gives f a e kind.Number b
+Counted f a None b = Puts f a (whole_as_value 1) b
+Counted f a (Some e) b = ExprLaid f a e kind.Number b
 
 abbrev pub Skipped : Laying → ℕ → Option Tree → ℕ → Type 0
 Skipped f a rows b = (m : ℕ) × Counted f a rows m × Moved f m move_instr.Skip b
 
 abbrev pub Sought : Laying → ℕ → Tree → ℕ → Type 0
-Sought f a key b = (m : ℕ) × Gives f a key kind.Text m × Moved f m move_instr.Seek b
+Sought f a key b = (m : ℕ) × ExprLaid f a key kind.Text m × Moved f m move_instr.Seek b
 
 -- ---- records
 
@@ -273,7 +273,7 @@ IsField f a name field = (s : State) × Knows f a s × (field_here (scope_in f s
 
 abbrev pub ReplacedOne : Laying → ℕ → Change → ℕ → Type 0
 ReplacedOne f a change b = (field : FieldPlace) × (m : ℕ) × IsField f m change.field field
-    × Gives f a change.value field.kind m × OnRecords f m (record_instr.Replace field.number) b
+    × ExprLaid f a change.value field.kind m × OnRecords f m (record_instr.Replace field.number) b
 
 abbrev pub Replaced : Laying → ℕ → List Change → ℕ → Type 0
 Replaced f a [] b = b ≡ a
@@ -287,39 +287,39 @@ Indexed f a names b = (list : ℕ) × IsList f names list × OnRecords f a (reco
 
 -- A command of one line, where these GETs wait for their READ. PRIVATE makes no code. LOOP, EXIT, RETURN, QUIT and
 -- CANCEL are told with the blocks around them; DO and PARAMETERS belong to programs with procedures.
-abbrev pub Does : Laying → List Letters → ℕ → Act → ℕ → Type 0
-Does f gets a (act.Show values) b = ShownLine f a values b
-Does f gets a (act.ShowOn values) b = Shown f a values b
-Does f gets a (act.Say row column e) b = Said f a row column e b
-Does f gets a (act.Get row column name) b = Got f a row column name b
-Does f gets a (act.SayGet row column e name) b = SaidAndGot f a row column e name b
-Does f gets a act.Read b = Taken f a gets b
-Does f gets a (act.Accept prompt name) b = Accepted f a prompt name b
-Does f gets a (act.Wait prompt name) b = Waited f a prompt name b
-Does f gets a act.Clear b = OnScreen f a screen.Clear b
-Does f gets a (act.Assign name e) b = Assigned f a name e b
-Does f gets a (act.Store e names) b = StoredAll f a e names b
-Does f gets a (act.Release names) b = Released f a names b
-Does f gets a (act.Private names) b = b ≡ a
-Does f gets a act.Close b = OnAreas f a area_instr.Close b
-Does f gets a (act.Use table indexes) b = Opened f a table indexes b
-Does f gets a (act.Select area) b = Selected f a area b
-Does f gets a act.CloseAll b = OnAreas f a area_instr.CloseAll b
-Does f gets a (act.SetOrder order) b = OnAreas f a (area_instr.Order order) b
-Does f gets a (act.SetFilter condition) b = Filtered f a condition b
-Does f gets a (act.Set switch on) b = IsSet f a switch on b
-Does f gets a (act.Go to) b = Gone f a to b
-Does f gets a (act.Skip rows) b = Skipped f a rows b
-Does f gets a (act.Seek key) b = Sought f a key b
-Does f gets a act.AppendBlank b = OnRecords f a record_instr.Append b
-Does f gets a (act.Replace changes) b = Replaced f a changes b
-Does f gets a act.Delete b = OnRecords f a record_instr.Delete b
-Does f gets a act.Recall b = OnRecords f a record_instr.Recall b
-Does f gets a act.Pack b = OnRecords f a record_instr.Pack b
-Does f gets a act.Zap b = OnRecords f a record_instr.Zap b
-Does f gets a act.Reindex b = OnRecords f a record_instr.Reindex b
-Does f gets a (act.IndexOn key index) b = Indexed f a (index ∷ []) b
-Does f gets a _ b = ⊥
+abbrev pub ActLaid : Laying → List Letters → ℕ → Act → ℕ → Type 0
+ActLaid f gets a (act.Show values) b = ShownLine f a values b
+ActLaid f gets a (act.ShowOn values) b = Shown f a values b
+ActLaid f gets a (act.Say row column e) b = SayLaid f a row column e b
+ActLaid f gets a (act.Get row column name) b = Got f a row column name b
+ActLaid f gets a (act.SayGet row column e name) b = SaidAndGot f a row column e name b
+ActLaid f gets a act.Read b = ReadLaid f a gets b
+ActLaid f gets a (act.Accept prompt name) b = AcceptLaid f a prompt name b
+ActLaid f gets a (act.Wait prompt name) b = Waited f a prompt name b
+ActLaid f gets a act.Clear b = OnScreen f a screen.Clear b
+ActLaid f gets a (act.Assign name e) b = Assigned f a name e b
+ActLaid f gets a (act.Store e names) b = StoredAll f a e names b
+ActLaid f gets a (act.Release names) b = Released f a names b
+ActLaid f gets a (act.Private names) b = b ≡ a
+ActLaid f gets a act.Close b = OnAreas f a area_instr.Close b
+ActLaid f gets a (act.Use table indexes) b = Opened f a table indexes b
+ActLaid f gets a (act.Select area) b = Selected f a area b
+ActLaid f gets a act.CloseAll b = OnAreas f a area_instr.CloseAll b
+ActLaid f gets a (act.SetOrder order) b = OnAreas f a (area_instr.Order order) b
+ActLaid f gets a (act.SetFilter condition) b = Filtered f a condition b
+ActLaid f gets a (act.Set switch on) b = IsSet f a switch on b
+ActLaid f gets a (act.Go to) b = Gone f a to b
+ActLaid f gets a (act.Skip rows) b = Skipped f a rows b
+ActLaid f gets a (act.Seek key) b = Sought f a key b
+ActLaid f gets a act.AppendBlank b = OnRecords f a record_instr.Append b
+ActLaid f gets a (act.Replace changes) b = Replaced f a changes b
+ActLaid f gets a act.Delete b = OnRecords f a record_instr.Delete b
+ActLaid f gets a act.Recall b = OnRecords f a record_instr.Recall b
+ActLaid f gets a act.Pack b = OnRecords f a record_instr.Pack b
+ActLaid f gets a act.Zap b = OnRecords f a record_instr.Zap b
+ActLaid f gets a act.Reindex b = OnRecords f a record_instr.Reindex b
+ActLaid f gets a (act.IndexOn key index) b = Indexed f a (index ∷ []) b
+ActLaid f gets a _ b = ⊥
 
 -- the commands that may stand between a GET and its READ, and that READ
 abbrev pub may_wait : Act → Bool
@@ -336,8 +336,8 @@ is_none_waiting [] = true
 is_none_waiting (name ∷ names) = false
 
 -- whether a command may stand where these GETs wait for their READ
-abbrev pub may_stand : List Letters → Act → Bool
-may_stand gets act = may_wait act || is_none_waiting gets
+abbrev pub may_follow_gets : List Letters → Act → Bool
+may_follow_gets gets act = may_wait act || is_none_waiting gets
 
 -- the GETs that wait behind a command
 abbrev pub waiting : List Letters → Act → List Letters

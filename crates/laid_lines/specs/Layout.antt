@@ -39,13 +39,13 @@ abbrev pub Knows : Laying → ℕ → State → Type 0
 Knows f a s = slice_get f.known a ≡ Some s
 
 -- the code of an expression of this kind, its names read by what is known before its first place
-abbrev pub Gives : Laying → ℕ → Tree → Kind → ℕ → Type 0
-Gives f a e kind b = (s : State) × Knows f a s × Leaves f.text (scope_in f s false) a e kind b
+abbrev pub ExprLaid : Laying → ℕ → Tree → Kind → ℕ → Type 0
+ExprLaid f a e kind b = (s : State) × Knows f a s × Leaves f.text (scope_in f s false) a e kind b
 
 -- a name means this before the place
 abbrev pub Means : Laying → ℕ → List ℕ → Reading → Type 0
 Means f a name r = (s : State) × Knows f a s × (read_name (scope_in f s false) name ≡ Some r)
 
 -- the instruction that reads the name
-abbrev pub Reads : Laying → ℕ → List ℕ → Reading → ℕ → Type 0
-Reads f a name r b = Means f a name r × placed.Stands f.text a r.instr b
+abbrev pub NameLaid : Laying → ℕ → List ℕ → Reading → ℕ → Type 0
+NameLaid f a name r b = Means f a name r × placed.InstrStands f.text a r.instr b

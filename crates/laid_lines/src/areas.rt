@@ -5,7 +5,7 @@ ghost use Rattle.std.specs.List.{AllZip};
 ghost use Rattle.prg_expr.specs.Tree.{tree_of};
 ghost use Rattle.laid_lines.specs.Acts as acts;
 ghost use Rattle.laid_lines.specs.Layout.{laying};
-ghost use Rattle.prg_line.specs.Act.{letters_of, area_of, goal_of};
+ghost use Rattle.prg_line.specs.Act.{letters_of, area_said, goal_of};
 
 use crate::layout::{Layout, after, given_as, known, puts_one, scope_of};
 use code_items::{AreaInstr, Filter, IndexList, IndexShape, Instr, MoveInstr, Name, State};
@@ -96,7 +96,7 @@ fn area_named(l: &Layout, place: usize, name: &Name) -> Option<u8>
 
 /// `SELECT area`.
 pub fn selected(l: &Layout, place: usize, to: &Selected) -> Option<usize>
-    ensures { IfSome result (λ b. acts.Selected (laying l.now) place (area_of to.now) b) }
+    ensures { IfSome result (λ b. acts.Selected (laying l.now) place (area_said to.now) b) }
 {
     match to {
         Selected::Number(number) => area(l, place, AreaInstr::Select(*number)),

@@ -4,11 +4,12 @@ ghost use Rattle.std.specs.Prelude.{◌≡◌, IfSome};
 ghost use Rattle.prg_code.specs.Bindings.{slot_named};
 ghost use Rattle.prg_expr.specs.Tree.{tree_of};
 ghost use Rattle.laid_lines.specs.Acts as acts;
-ghost use Rattle.laid_lines.specs.Layout.{laying, scope_in, Knows, Gives, Means, Reads};
-ghost use Rattle.prg_values.specs.Placed.{Stands};
+ghost use Rattle.laid_lines.specs.Layout.{laying, scope_in, Knows, ExprLaid, Means, NameLaid};
+ghost use Rattle.prg_values.specs.Placed.{InstrStands};
 ghost use Rattle.prg_values.specs.Readings.{scoped};
-ghost use Rattle.prg_values.specs.Written.{whole};
+ghost use Rattle.prg_values.specs.Written.{whole_as_value};
 
+use crate::known::KnownStates;
 use code_items::{Declared, Instr, Name, State};
 use code_rules::blocks::Block;
 use fixed_num::Num;
@@ -26,7 +27,7 @@ pub struct Layout<'a> {
     pub text: Finished<'a>,
     pub declared: &'a Declared,
     pub names: &'a Names,
-    pub known: &'a [State],
+    pub known: &'a KnownStates,
     pub filters: &'a [Block],
 }
 
@@ -39,7 +40,7 @@ pub struct NameRead {
 
 /// The place behind the instruction, if it stands at this place.
 pub fn after(l: &Layout, place: usize, instr: Instr) -> Option<usize>
-    ensures { IfSome result (λ b. Stands (laying l.now).text place instr b) }
+    ensures { IfSome result (λ b. InstrStands (laying l.now).text place instr b) }
 {
     behind(&l.text, place, instr)
 }
@@ -65,7 +66,7 @@ pub fn scope_of<'a>(l: &'a Layout, state: &'a State, in_filter: bool) -> Scope<'
 
 /// The expression's kind and the place behind its code, if its code stands at this place.
 pub fn given(l: &Layout, place: usize, e: &Expr) -> Option<Given>
-    ensures { IfSome result (λ g. Gives (laying l.now) place (tree_of e.now) g.kind g.end) }
+    ensures { IfSome result (λ g. ExprLaid (laying l.now) place (tree_of e.now) g.kind g.end) }
 {
     let state = known(l, place)?;
     given_at(&l.text, &scope_of(l, state, false), place, e)
@@ -73,7 +74,7 @@ pub fn given(l: &Layout, place: usize, e: &Expr) -> Option<Given>
 
 /// The place behind the expression's code, if that stands at this place and its value is of this kind.
 pub fn given_as(l: &Layout, place: usize, e: &Expr, kind: Kind) -> Option<usize>
-    ensures { IfSome result (λ b. Gives (laying l.now) place (tree_of e.now) kind b) }
+    ensures { IfSome result (λ b. ExprLaid (laying l.now) place (tree_of e.now) kind b) }
 {
     let given = given(l, place, e)?;
     if given.kind == kind {
@@ -92,7 +93,7 @@ pub fn puts(l: &Layout, place: usize, value: &Value) -> Option<usize>
 
 /// The same for the number 1.
 pub fn puts_one(l: &Layout, place: usize) -> Option<usize>
-    ensures { IfSome result (λ b. acts.Puts (laying l.now) place (whole 1) b) }
+    ensures { IfSome result (λ b. acts.Puts (laying l.now) place (whole_as_value 1) b) }
 {
     puts(l, place, &Value::Number(Num::from(1u32)))
 }
@@ -110,7 +111,7 @@ fn meaning(l: &Layout, place: usize, name: &Name) -> Option<Reading>
 
 /// What reads the name, if that stands at this place.
 pub fn named(l: &Layout, place: usize, name: &Name) -> Option<NameRead>
-    ensures { IfSome result (λ n. Reads (laying l.now) place name.now.items n.reading n.end) }
+    ensures { IfSome result (λ n. NameLaid (laying l.now) place name.now.items n.reading n.end) }
 {
     let reading = meaning(l, place, name)?;
     let end = after(l, place, reading.instr)?;

@@ -76,7 +76,7 @@ fn placed(l: &Layout, place: usize, row: &Expr, column: &Expr) -> Option<usize>
 
 /// `@ row,column SAY value`.
 pub fn said(l: &Layout, place: usize, row: &Expr, column: &Expr, e: &Expr) -> Option<usize>
-    ensures { IfSome result (λ b. acts.Said (laying l.now) place (tree_of row.now) (tree_of column.now)
+    ensures { IfSome result (λ b. acts.SayLaid (laying l.now) place (tree_of row.now) (tree_of column.now)
         (tree_of e.now) b) }
 {
     let end = placed(l, place, row, column)?;
@@ -143,7 +143,7 @@ fn taken_one(l: &Layout, place: usize, name: &Name) -> Option<usize>
 
 /// `READ`, where these GETs wait for it.
 pub fn taken(l: &Layout, place: usize, gets: &[&Name]) -> Option<usize>
-    ensures { IfSome result (λ b. acts.Taken (laying l.now) place (acts.names_of gets.now) b) }
+    ensures { IfSome result (λ b. acts.ReadLaid (laying l.now) place (acts.names_of gets.now) b) }
 {
     let mut end = place;
     for name in gets {
@@ -166,7 +166,8 @@ fn prompted(l: &Layout, place: usize, prompt: &Option<Expr>) -> Option<usize>
 
 /// `ACCEPT [prompt] TO variable`.
 pub fn accepted(l: &Layout, place: usize, prompt: &Option<Expr>, name: &Name) -> Option<usize>
-    ensures { IfSome result (λ b. acts.Accepted (laying l.now) place (option_map tree_of prompt.now) name.now.items b) }
+    ensures { IfSome result
+        (λ b. acts.AcceptLaid (laying l.now) place (option_map tree_of prompt.now) name.now.items b) }
 {
     let line = screen(l, place, ScreenInstr::NewLine)?;
     let shown = prompted(l, line, prompt)?;

@@ -16,7 +16,7 @@ use std::alloc::AllocError;
 use std::slice;
 
 fn on_screen(l: &Layout, place: usize, gets: &[&Name], statement: &Statement) -> Option<usize>
-    ensures { IfSome result (λ b. acts.Does (laying l.now) (acts.names_of gets.now) place (act_of statement.now) b) }
+    ensures { IfSome result (λ b. acts.ActLaid (laying l.now) (acts.names_of gets.now) place (act_of statement.now) b) }
 {
     match statement {
         Statement::Show { values } => shown_line(l, place, values),
@@ -42,7 +42,7 @@ fn on_screen(l: &Layout, place: usize, gets: &[&Name], statement: &Statement) ->
 }
 
 fn on_values(l: &Layout, place: usize, gets: &[&Name], statement: &Statement) -> Option<usize>
-    ensures { IfSome result (λ b. acts.Does (laying l.now) (acts.names_of gets.now) place (act_of statement.now) b) }
+    ensures { IfSome result (λ b. acts.ActLaid (laying l.now) (acts.names_of gets.now) place (act_of statement.now) b) }
 {
     match statement {
         Statement::Assign { variable, value } => assigned(l, place, variable, value),
@@ -55,7 +55,7 @@ fn on_values(l: &Layout, place: usize, gets: &[&Name], statement: &Statement) ->
 }
 
 fn on_areas(l: &Layout, place: usize, gets: &[&Name], statement: &Statement) -> Option<usize>
-    ensures { IfSome result (λ b. acts.Does (laying l.now) (acts.names_of gets.now) place (act_of statement.now) b) }
+    ensures { IfSome result (λ b. acts.ActLaid (laying l.now) (acts.names_of gets.now) place (act_of statement.now) b) }
 {
     match statement {
         Statement::Close => area(l, place, AreaInstr::Close),
@@ -72,7 +72,7 @@ fn on_areas(l: &Layout, place: usize, gets: &[&Name], statement: &Statement) -> 
 }
 
 fn on_records(l: &Layout, place: usize, gets: &[&Name], statement: &Statement) -> Option<usize>
-    ensures { IfSome result (λ b. acts.Does (laying l.now) (acts.names_of gets.now) place (act_of statement.now) b) }
+    ensures { IfSome result (λ b. acts.ActLaid (laying l.now) (acts.names_of gets.now) place (act_of statement.now) b) }
 {
     match statement {
         Statement::AppendBlank => record(l, place, RecordInstr::Append),
@@ -90,7 +90,7 @@ fn on_records(l: &Layout, place: usize, gets: &[&Name], statement: &Statement) -
 /// The place behind the code of a command of one line, if it stands at this place; these GETs wait for their READ. None
 /// for LOOP, EXIT, DO, PARAMETERS, RETURN, QUIT and CANCEL.
 pub fn does(l: &Layout, place: usize, gets: &[&Name], statement: &Statement) -> Option<usize>
-    ensures { IfSome result (λ b. acts.Does (laying l.now) (acts.names_of gets.now) place (act_of statement.now) b) }
+    ensures { IfSome result (λ b. acts.ActLaid (laying l.now) (acts.names_of gets.now) place (act_of statement.now) b) }
 {
     if let Some(end) = on_screen(l, place, gets, statement) {
         return Some(end);
@@ -130,7 +130,7 @@ pub fn none_wait(gets: &[&Name]) -> bool
 
 /// Whether the command may stand where these GETs wait for their READ.
 pub fn may_stand(gets: &[&Name], statement: &Statement) -> bool
-    ensures { result ≡ acts.may_stand (acts.names_of gets.now) (act_of statement.now) }
+    ensures { result ≡ acts.may_follow_gets (acts.names_of gets.now) (act_of statement.now) }
 {
     may_wait(statement) || none_wait(gets)
 }

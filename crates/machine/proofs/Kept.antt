@@ -11,7 +11,7 @@ use Rattle.shape.specs.declared.whole.Shape.{Shape}
 use Rattle.open_table.specs.Open.{OpenState, landed, opened, reordered, with_blank, replaced_here, remarked_here}
 use Rattle.work_area.specs.Areas.{StoreState, table_at, selected_use, here, with_here, change_here}
 use Rattle.work_area.specs.Calls.{packed_in, zapped_in, reindexed_in, pack_of, packed_rows, all_rows, zap_landing, reindex_of, index_on_of, used_here, with_filter}
-use Rattle.work_area.specs.Shapes.{HasShape, IsSameKind, KindsStay, ShapesStay}
+use Rattle.work_area.specs.Shapes.{StoreHasShape, IsSameKind, KindsStay, ShapesStay}
 use Rattle.code_items.specs.declared.code.Code.{Code}
 use Rattle.code_items.specs.declared.instr.Instr.{Instr}
 use Rattle.code_items.specs.declared.instr.Instr.TheVariants.{Values, Flow, Screen, Areas, Moves, Records}
@@ -30,7 +30,7 @@ use Rattle.run_values.specs.Tagged.{TaggedValues}
 use Rattle.run_steps.specs.declared.fault.FaultKind.{FaultKind}
 use Rattle.run_steps.specs.World.{World, EnvState, with_screen}
 use Rattle.run_steps.specs.Control.{effect, finishes}
-use Rattle.run_steps.specs.Effects.{top, whole_of, record_number, move_landing, on_value, on_table, list_numbers, index_in, value_env, screen_env, open_landing, store_opened, store_by_area, moved, store_by_move, shown_here, closing_store, store_by_record, env_after, filter_here}
+use Rattle.run_steps.specs.Effects.{top, whole_on_top, record_number, move_landing, on_value, on_table, list_numbers, index_in, value_env, screen_env, open_landing, store_opened, store_by_area, moved, store_by_move, shown_here, closing_store, store_by_record, env_after, filter_here}
 use Rattle.run_steps.specs.Faults.{fault_of}
 use Rattle.run_steps.specs.Filters.{shown_by, viewer}
 use Rattle.run_steps.specs.Run.{Next, Finished, judged, step_of, next_world, after}
@@ -40,10 +40,10 @@ pub record Keeps (shape : Shape) : Type 0 where
   pub stores : (s : StoreState) → ShapesStay shape s
   pub tables : (o : OpenState) → KindsStay o
 
-puts : (shape : Shape) (s : StoreState) (f : OpenState → OpenState) → Keeps shape → ((o : OpenState) → IsSameKind o (f o)) → HasShape shape s → HasShape shape (on_table (here s) s (λ o. with_here (f o) s))
+puts : (shape : Shape) (s : StoreState) (f : OpenState → OpenState) → Keeps shape → ((o : OpenState) → IsSameKind o (f o)) → StoreHasShape shape s → StoreHasShape shape (on_table (here s) s (λ o. with_here (f o) s))
 puts shape s f k alike h = from (here s) refl
   where
-    from : (x : Option OpenState) → here s ≡ x → HasShape shape (on_table x s (λ o. with_here (f o) s))
+    from : (x : Option OpenState) → here s ≡ x → StoreHasShape shape (on_table x s (λ o. with_here (f o) s))
     from None e = h
     from (Some o) e = (k.stores s).at_here o (f o) h e (alike o)
 
@@ -70,7 +70,7 @@ shown_store (Some v) e f same = same v
 screen_store : (i : ScreenInstr) (t : TaggedValues) (e : EnvState) → (screen_env i t e).store ≡ e.store
 screen_store NewLine t e = refl
 screen_store (Print k) t e = shown_store (top t) e (λ value. with_screen (printed (shown_value e.settings value) e.screen) e) (λ v. refl)
-screen_store (Say k) t e = shown_store (top t) e (λ value. with_screen (said (whole_of (slice_get t.stack 2)) (whole_of (slice_get t.stack 1)) (shown_value e.settings value) e.screen) e) (λ v. refl)
+screen_store (Say k) t e = shown_store (top t) e (λ value. with_screen (said (whole_on_top (slice_get t.stack 2)) (whole_on_top (slice_get t.stack 1)) (shown_value e.settings value) e.screen) e) (λ v. refl)
 screen_store (SayOn k) t e = shown_store (top t) e (λ value. with_screen (said_on (shown_value e.settings value) e.screen) e) (λ v. refl)
 screen_store (Input k) t e = refl
 screen_store Line t e = refl
@@ -78,15 +78,15 @@ screen_store Clear t e = refl
 
 -- ---- work areas
 
-opens : (shape : Shape) (code : Code) (t l : ℕ) (e : EnvState) → Keeps shape → HasShape shape e.store → HasShape shape (store_opened code t l e)
+opens : (shape : Shape) (code : Code) (t l : ℕ) (e : EnvState) → Keeps shape → StoreHasShape shape e.store → StoreHasShape shape (store_opened code t l e)
 opens shape code t l e k h = from (table_at e.store t) refl
   where
-    from : (x : Option OpenState) → table_at e.store t ≡ x → HasShape shape (on_table x e.store (λ o. used_here t l (landed (opened (list_numbers code.declared l) o) (open_landing code l e o)) e.store))
+    from : (x : Option OpenState) → table_at e.store t ≡ x → StoreHasShape shape (on_table x e.store (λ o. used_here t l (landed (opened (list_numbers code.declared l) o) (open_landing code l e o)) e.store))
     from None g = h
     from (Some o) g = (let ns = list_numbers code.declared l in let landing = open_landing code l e o in
         (k.stores e.store).by_open t l o (landed (opened ns o) landing) h g (ends shape k o (opened ns o) landing ((k.tables o).by_open ns)))
 
-by_area : (shape : Shape) (code : Code) (i : AreaInstr) (e : EnvState) → Keeps shape → HasShape shape e.store → HasShape shape (store_by_area code i e)
+by_area : (shape : Shape) (code : Code) (i : AreaInstr) (e : EnvState) → Keeps shape → StoreHasShape shape e.store → StoreHasShape shape (store_by_area code i e)
 by_area shape code (Open t l) e k h = opens shape code t l e k h
 by_area shape code Close e k h = (k.stores e.store).by_close h
 by_area shape code CloseAll e k h = (k.stores e.store).by_close_all h
@@ -100,28 +100,28 @@ moves_kind : (shape : Shape) (i : MoveInstr) (given : Option Value) (exact : Boo
 moves_kind shape Top given exact o shown k = (k.tables o).by_move (move_landing Top given exact o shown)
 moves_kind shape Bottom given exact o shown k = (k.tables o).by_move (move_landing Bottom given exact o shown)
 moves_kind shape Skip given exact o shown k = (k.tables o).by_move (move_landing Skip given exact o shown)
-moves_kind shape Go given exact o shown k = (k.tables o).by_go (record_number (whole_of given))
+moves_kind shape Go given exact o shown k = (k.tables o).by_go (record_number (whole_on_top given))
 moves_kind shape Seek given exact o shown k = (k.tables o).by_move (move_landing Seek given exact o shown)
 
-by_move : (shape : Shape) (code : Code) (i : MoveInstr) (t : TaggedValues) (e : EnvState) → Keeps shape → HasShape shape e.store → HasShape shape (store_by_move code i t e)
+by_move : (shape : Shape) (code : Code) (i : MoveInstr) (t : TaggedValues) (e : EnvState) → Keeps shape → StoreHasShape shape e.store → StoreHasShape shape (store_by_move code i t e)
 by_move shape code i t e k h =
     puts shape e.store (λ o. moved i (top t) e.settings.exact o (shown_here code t e all_rows o)) k (λ o. moves_kind shape i (top t) e.settings.exact o (shown_here code t e all_rows o) k) h
 
 -- ---- records
 
-replaces : (shape : Shape) (s : StoreState) (f : ℕ) (x : Option Value) → Keeps shape → HasShape shape s → HasShape shape (on_value x s (λ value. change_here (replaced_here f value) s))
+replaces : (shape : Shape) (s : StoreState) (f : ℕ) (x : Option Value) → Keeps shape → StoreHasShape shape s → StoreHasShape shape (on_value x s (λ value. change_here (replaced_here f value) s))
 replaces shape s f None k h = h
 replaces shape s f (Some v) k h = (k.stores s).by_change (replaced_here f v) (λ o. (k.tables o).by_replace f v) h
 
-indexes : (shape : Shape) (code : Code) (l : ℕ) (shown : StructureState → List Row → ℕ → Bool) (s : StoreState) → Keeps shape → HasShape shape s → HasShape shape (on_table (here s) s (λ o. closing_store code.declared (Index l) shown o s))
+indexes : (shape : Shape) (code : Code) (l : ℕ) (shown : StructureState → List Row → ℕ → Bool) (s : StoreState) → Keeps shape → StoreHasShape shape s → StoreHasShape shape (on_table (here s) s (λ o. closing_store code.declared (Index l) shown o s))
 indexes shape code l shown s k h = from (here s) refl
   where
-    from : (x : Option OpenState) → here s ≡ x → HasShape shape (on_table x s (λ o. closing_store code.declared (Index l) shown o s))
+    from : (x : Option OpenState) → here s ≡ x → StoreHasShape shape (on_table x s (λ o. closing_store code.declared (Index l) shown o s))
     from None e = h
     from (Some o) e = (let n = index_in code.declared l in let landing = index_on_of n o (shown o.table.structure (all_rows o)) in
         (k.stores s).by_index l o (landed (opened (n ∷ []) o) landing) h e (ends shape k o (opened (n ∷ []) o) landing ((k.tables o).by_open (n ∷ []))))
 
-by_record : (shape : Shape) (code : Code) (i : RecordInstr) (t : TaggedValues) (e : EnvState) → Keeps shape → HasShape shape e.store → HasShape shape (store_by_record code i t e)
+by_record : (shape : Shape) (code : Code) (i : RecordInstr) (t : TaggedValues) (e : EnvState) → Keeps shape → StoreHasShape shape e.store → StoreHasShape shape (store_by_record code i t e)
 by_record shape code (Field a n) t e k h = h
 by_record shape code (RowField n) t e k h = h
 by_record shape code (Ask q) t e k h = h
@@ -140,10 +140,10 @@ by_record shape code (Index l) t e k h = indexes shape code l (shown_by code (vi
 
 -- ---- together
 
-by_step : (shape : Shape) (code : Code) (i : Instr) (t : TaggedValues) (e : EnvState) → Keeps shape → HasShape shape e.store → HasShape shape (env_after code i t e).store
-by_step shape code (Values i) t e k h = subst (HasShape shape) (sym (value_store i e)) h
+by_step : (shape : Shape) (code : Code) (i : Instr) (t : TaggedValues) (e : EnvState) → Keeps shape → StoreHasShape shape e.store → StoreHasShape shape (env_after code i t e).store
+by_step shape code (Values i) t e k h = subst (StoreHasShape shape) (sym (value_store i e)) h
 by_step shape code (Flow i) t e k h = h
-by_step shape code (Screen i) t e k h = subst (HasShape shape) (sym (screen_store i t e)) h
+by_step shape code (Screen i) t e k h = subst (StoreHasShape shape) (sym (screen_store i t e)) h
 by_step shape code (Areas i) t e k h = by_area shape code i e k h
 by_step shape code (Moves i) t e k h = by_move shape code i t e k h
 by_step shape code (Records i) t e k h = by_record shape code i t e k h
@@ -158,13 +158,13 @@ leads : (code : Code) (w v : World) → next_world (step_of code w) ≡ Some v �
 unfolding step_of
 leads code w v e = leads_by (fault_of code w (instr_at code w.place)) (finishes w (instr_at code w.place)) (effect code w (instr_at code w.place)) v e
 
-then_keeps : (shape : Shape) (code : Code) (x : Option World) (v : World) → Keeps shape → ((u : World) → x ≡ Some u → HasShape shape u.env.store) → option_and_then (λ u. next_world (step_of code u)) x ≡ Some v → HasShape shape v.env.store
+then_keeps : (shape : Shape) (code : Code) (x : Option World) (v : World) → Keeps shape → ((u : World) → x ≡ Some u → StoreHasShape shape u.env.store) → option_and_then (λ u. next_world (step_of code u)) x ≡ Some v → StoreHasShape shape v.env.store
 then_keeps shape code None v k before e = absurd (cc)
-then_keeps shape code (Some u) v k before e = subst (λ (x : World). HasShape shape x.env.store) (sym (leads code u v e)) (by_step shape code (instr_at code u.place) u.values u.env k (before u refl))
+then_keeps shape code (Some u) v k before e = subst (λ (x : World). StoreHasShape shape x.env.store) (sym (leads code u v e)) (by_step shape code (instr_at code u.place) u.values u.env k (before u refl))
 
 start_same : (w v : World) → Some w ≡ Some v → w ≡ v
 start_same w v e = cc
 
-pub kept : (shape : Shape) (code : Code) (w : World) (n : ℕ) (v : World) → Keeps shape → after code w n ≡ Some v → HasShape shape w.env.store → HasShape shape v.env.store
-kept shape code w zero v k e h = subst (λ (x : World). HasShape shape x.env.store) (start_same w v e) h
+pub kept : (shape : Shape) (code : Code) (w : World) (n : ℕ) (v : World) → Keeps shape → after code w n ≡ Some v → StoreHasShape shape w.env.store → StoreHasShape shape v.env.store
+kept shape code w zero v k e h = subst (λ (x : World). StoreHasShape shape x.env.store) (start_same w v e) h
 kept shape code w (suc n) v k e h = then_keeps shape code (after code w n) v k (λ u at. kept shape code w n u k at h) e

@@ -3,7 +3,7 @@ use Rattle.std.proofs.Common.{◌≡◌, ◌≤◌, ◌∙◌, ◌++◌, ℕ, Li
 use Rattle.shape.specs.declared.whole.Shape.{Shape}
 use Rattle.calendar.specs.declared.day.DayParts.{DayParts}
 use Rattle.work_area.specs.Areas.{StoreState}
-use Rattle.work_area.specs.Shapes.{HasShape}
+use Rattle.work_area.specs.Shapes.{StoreHasShape}
 use Rattle.code_items.specs.declared.code.Code.{Code}
 use Rattle.run_values.specs.Standing.{IsByKind}
 use Rattle.run_steps.specs.declared.ending.Outcome.{Outcome}
@@ -77,7 +77,7 @@ headline code laws from budget outcome b fit ends =
       few_calls = λ n v at. laws.returns v (laws.fits from fit n v at);
       within_the_budget = ends.ran.within;
       few_steps = (let few = laws.few from ends.ran.count ends.last ends.ran.reached in omega (arith, few, ends.ran.steps, ends.ran.within));
-      keeps_tables_and_indexes = λ shape h. subst (λ s. HasShape shape s) (sym same.store) (kept shape code from ends.ran.count ends.last (laws.keeps shape) ends.ran.reached h);
+      keeps_tables_and_indexes = λ shape h. subst (λ s. StoreHasShape shape s) (sym same.store) (kept shape code from ends.ran.count ends.last (laws.keeps shape) ends.ran.reached h);
       as_declared = subst (λ s. StoreFits code.declared s) (sym same.store) there.shape.store;
       goes_on = record { agrees = same; fits = there };
     }
@@ -99,7 +99,7 @@ paused code laws from budget steps b fit p =
       few_calls = λ n v at. laws.returns v (laws.fits from fit n v at);
       within_the_budget = p.within;
       few_steps = (let few = laws.few from p.came.count p.last p.came.reached in omega (arith, few, p.came.steps_are, p.within));
-      keeps_tables_and_indexes = λ shape h. subst (λ s. HasShape shape s) (sym same.store) (kept shape code from p.came.count p.last (laws.keeps shape) p.came.reached h);
+      keeps_tables_and_indexes = λ shape h. subst (λ s. StoreHasShape shape s) (sym same.store) (kept shape code from p.came.count p.last (laws.keeps shape) p.came.reached h);
       as_declared = subst (λ s. StoreFits code.declared s) (sym same.store) there.shape.store;
       goes_on = record { agrees = same; fits = there };
     }

@@ -6,7 +6,7 @@ use Rattle.key_lists.specs.Order.{Each}
 use Rattle.key_lists.specs.Pairs.{Pair, is_before, key_before}
 use Rattle.key_lists.specs.Rising.{IsRising, AllBefore, last_of}
 use Rattle.ndx_tree.specs.IndexFile.{Item, Listed, Between, listed, AreBounds, AreInOrder}
-use Rattle.ndx_tree.specs.Reads.{IsBetween, AreInside, marks}
+use Rattle.ndx_tree.specs.Reads.{IsBetween, AreInside, separators_at}
 use Rattle.ndx_tree.specs.declared.walk.Separator.{Separator}
 use Rattle.key_lists.proofs.Ordered.{Each-map, Each-at, Each-append, ascending_at, IsAscending-append, Each-take, Each-drop}
 use Rattle.key_lists.proofs.PairOrder.{key_before_down, key_before_up, not_true}
@@ -73,13 +73,13 @@ each_next P l i x within is a p = subst (Each P) (sym (ap (λ n. take n l) (add-
 
 -- ---- separators as items
 
-places : (at : ℕ) (items : List Item) → AreInside (at + length (listed items)) (marks at items)
+places : (at : ℕ) (items : List Item) → AreInside (at + length (listed items)) (separators_at at items)
 places at [] = tt
-places at (Listed p ∷ items) = subst (λ n. AreInside n (marks (suc at) items)) (omega arith) (places (suc at) items)
+places at (Listed p ∷ items) = subst (λ n. AreInside n (separators_at (suc at) items)) (omega arith) (places (suc at) items)
 places at (Between key ∷ items) = (omega arith, places at items)
 
-pub are_inside : (items : List Item) → AreInside (length (listed items)) (marks 0 items)
-are_inside items = subst (λ n. AreInside n (marks 0 items)) (omega arith) (places 0 items)
+pub are_inside : (items : List Item) → AreInside (length (listed items)) (separators_at 0 items)
+are_inside items = subst (λ n. AreInside n (separators_at 0 items)) (omega arith) (places 0 items)
 
 take_front : (l r : List Pair) → take (length l) (l ++ r) ≡ l
 take_front [] [] = refl
@@ -90,32 +90,32 @@ drop_front : (l r : List Pair) → drop (length l) (l ++ r) ≡ r
 drop_front [] r = refl
 drop_front (x ∷ l) r = drop_front l r
 
-bounds_to : (left : List Pair) (items : List Item) → AreBounds left items → Each (IsBetween (left ++ listed items)) (marks (length left) items)
+bounds_to : (left : List Pair) (items : List Item) → AreBounds left items → Each (IsBetween (left ++ listed items)) (separators_at (length left) items)
 bounds_to left [] a = tt
 bounds_to left (Listed p ∷ items) a =
     let size : length (left ++ p ∷ []) ≡ suc (length left) = omega (arith, length-append left (p ∷ [])) in
-    subst (λ (m : List Pair). Each (IsBetween m) (marks (suc (length left)) items)) (append_assoc left (p ∷ []) (listed items)) (subst (λ n. Each (IsBetween ((left ++ p ∷ []) ++ listed items)) (marks n items)) size (bounds_to (left ++ p ∷ []) items a))
+    subst (λ (m : List Pair). Each (IsBetween m) (separators_at (suc (length left)) items)) (append_assoc left (p ∷ []) (listed items)) (subst (λ n. Each (IsBetween ((left ++ p ∷ []) ++ listed items)) (separators_at n items)) size (bounds_to (left ++ p ∷ []) items a))
 bounds_to left (Between key ∷ items) a =
     ((subst (Each (λ p. key_before key p.0 ≡ false)) (sym (take_front left (listed items))) a.0, subst (Each (λ p. key_before p.0 key ≡ false)) (sym (drop_front left (listed items))) a.1), bounds_to left items a.2)
 
-bounds_from : (left : List Pair) (items : List Item) → Each (IsBetween (left ++ listed items)) (marks (length left) items) → AreBounds left items
+bounds_from : (left : List Pair) (items : List Item) → Each (IsBetween (left ++ listed items)) (separators_at (length left) items) → AreBounds left items
 bounds_from left [] a = tt
 bounds_from left (Listed p ∷ items) a =
     let size : length (left ++ p ∷ []) ≡ suc (length left) = omega (arith, length-append left (p ∷ [])) in
-    bounds_from (left ++ p ∷ []) items (subst (λ n. Each (IsBetween ((left ++ p ∷ []) ++ listed items)) (marks n items)) (sym size) (subst (λ (m : List Pair). Each (IsBetween m) (marks (suc (length left)) items)) (sym (append_assoc left (p ∷ []) (listed items))) a))
+    bounds_from (left ++ p ∷ []) items (subst (λ n. Each (IsBetween ((left ++ p ∷ []) ++ listed items)) (separators_at n items)) (sym size) (subst (λ (m : List Pair). Each (IsBetween m) (separators_at (suc (length left)) items)) (sym (append_assoc left (p ∷ []) (listed items))) a))
 bounds_from left (Between key ∷ items) a =
     (subst (Each (λ p. key_before key p.0 ≡ false)) (take_front left (listed items)) a.0.0, subst (Each (λ p. key_before p.0 key ≡ false)) (drop_front left (listed items)) a.0.1, bounds_from left items a.1)
 
 -- what was found is in order where the pairs rise and the separators stand between their sides
-pub in_order_from : (items : List Item) (entries : List Pair) (separators : List Separator) → entries ≡ listed items → separators ≡ marks 0 items → IsRising entries → Each (IsBetween entries) separators → AreInOrder items
+pub in_order_from : (items : List Item) (entries : List Pair) (separators : List Separator) → entries ≡ listed items → separators ≡ separators_at 0 items → IsRising entries → Each (IsBetween entries) separators → AreInOrder items
 in_order_from items entries separators e f r b = record {
   rising = subst IsRising e r;
-  bounds = bounds_from [] items (subst (λ (m : List Pair). Each (IsBetween m) (marks 0 items)) e (subst (Each (IsBetween entries)) f b));
+  bounds = bounds_from [] items (subst (λ (m : List Pair). Each (IsBetween m) (separators_at 0 items)) e (subst (Each (IsBetween entries)) f b));
 }
 
-pub in_order_to : (items : List Item) (entries : List Pair) (separators : List Separator) → entries ≡ listed items → separators ≡ marks 0 items → AreInOrder items → IsRising entries × Each (IsBetween entries) separators
+pub in_order_to : (items : List Item) (entries : List Pair) (separators : List Separator) → entries ≡ listed items → separators ≡ separators_at 0 items → AreInOrder items → IsRising entries × Each (IsBetween entries) separators
 in_order_to items entries separators e f o =
-    (subst IsRising (sym e) o.rising, subst (Each (IsBetween entries)) (sym f) (subst (λ (m : List Pair). Each (IsBetween m) (marks 0 items)) (sym e) (bounds_to [] items o.bounds)))
+    (subst IsRising (sym e) o.rising, subst (Each (IsBetween entries)) (sym f) (subst (λ (m : List Pair). Each (IsBetween m) (separators_at 0 items)) (sym e) (bounds_to [] items o.bounds)))
 
 -- ---- the tests of the code
 

@@ -9,7 +9,7 @@ use Rattle.ndx_tree.specs.Rooms.{AreKeyed}
 use Rattle.key_lists.specs.Rising.{IsRising, last_of}
 use Rattle.ndx_tree.specs.Levels.{IsAbove}
 use Rattle.ndx_tree.specs.Trees.{IsRoot}
-use Rattle.ndx_tree.specs.Pages.{PageView, joined, view_of, IsCut, IsChild, AreChildren, IsPage, least_pairs, least_root}
+use Rattle.ndx_tree.specs.Pages.{PageView, pairs_of_pages, view_of, IsCut, IsChild, AreChildren, IsFramedPage, least_pairs, least_root}
 use Rattle.key_lists.proofs.Ordered.{Each-append_left, Each-append_right}
 use Rattle.key_lists.proofs.Rises.{rising_front, rising_back}
 use Rattle.ndx_tree.proofs.Cut.{cut_length, framed_from, height_from, pairs_from}
@@ -47,14 +47,14 @@ pub part_length : (at count : ℕ) (l : List Pair) → at + count ≤ length l �
 part_length at count l e = length-take count (drop at l) ∙ omega (arith, length-drop at l)
 
 -- before any leaf was made
-pub all_whole : (l : List Pair) (n : ℕ) (row : List PageView) → n ≡ length l → row ≡ [] → take n l ++ joined (reverse row) ≡ l
-all_whole l n row e f = ap (λ (m : List PageView). take n l ++ joined (reverse m)) f ∙ append-nil (take n l) ∙ take_all n l (omega (arith, e))
+pub all_whole : (l : List Pair) (n : ℕ) (row : List PageView) → n ≡ length l → row ≡ [] → take n l ++ pairs_of_pages (reverse row) ≡ l
+all_whole l n row e f = ap (λ (m : List PageView). take n l ++ pairs_of_pages (reverse m)) f ∙ append-nil (take n l) ∙ take_all n l (omega (arith, e))
 
 pub none_made : (most : ℕ) (row : List PageView) → row ≡ [] → AreChildren 1 most (reverse row)
 none_made most row e = rw e tt
 
 -- a leaf of a part of rising pairs
-pub leaf_page : (most at count : ℕ) (l es : List Pair) (cs : List PageView) → IsRising l → 4 ≤ most → es ≡ take count (drop at l) → cs ≡ [] → IsPage most es cs
+pub leaf_page : (most at count : ℕ) (l es : List Pair) (cs : List PageView) → IsRising l → 4 ≤ most → es ≡ take count (drop at l) → cs ≡ [] → IsFramedPage most es cs
 leaf_page most at count l es cs r four e f =
     let behind : IsRising (drop at l) = rising_back (take at l) (drop at l) (subst IsRising (sym (take-append-drop at l)) r) in
     let part : IsRising (take count (drop at l)) = rising_front (take count (drop at l)) (drop count (drop at l)) (subst IsRising (sym (take-append-drop count (drop at l))) behind) in
@@ -84,8 +84,8 @@ children_high h most (c ∷ cs) a n = a.0.high
 
 pub root_above : (h most : ℕ) (cs : List PageView) (page : PageView) → IsAbove most cs page → AreChildren h most cs → 1 < length cs → IsRoot page
 root_above h most cs page a q two =
-    let enough : least_pairs h * 2 ≤ length (joined cs) = omega (arith, joined_length h most cs q, mul-le-mul_left (least_pairs h) two) in
-    let tall : least_root (h + 1) ≤ length (joined cs) = omega (arith, least_root_two h (children_high h most cs q (omega arith)), enough) in
+    let enough : least_pairs h * 2 ≤ length (pairs_of_pages cs) = omega (arith, joined_length h most cs q, mul-le-mul_left (least_pairs h) two) in
+    let tall : least_root (h + 1) ≤ length (pairs_of_pages cs) = omega (arith, least_root_two h (children_high h most cs q (omega arith)), enough) in
     record {
       rising = a.rising;
       tall = subst (λ i. least_root i ≤ length page.pairs) (sym (a.level ∙ height_from h most cs q (omega arith))) (subst (λ (m : List Pair). least_root (h + 1) ≤ length m) (sym a.pairs) tall);
@@ -109,8 +109,8 @@ cut_more ss ss2 cs (suc n) d s p w q e is =
     subst (λ (m : List Pair). IsCut m (take (suc n + 1) cs)) (sym is) (subst (λ k. IsCut (ss ++ s ∷ []) (take k cs)) more (cut_next ss cs n d s w q (subst (λ k. last_of (get_or cs k d).pairs ≡ Some s) less e)))
 
 -- the keys of children at the front
-pub front_keyed : (k n : ℕ) (cs : List PageView) → HaveKeys k (joined cs) → HaveKeys k (joined (take n cs))
-front_keyed k n cs a = Each-append_left (λ p. length p.0 ≡ k) (joined (take n cs)) (joined (drop n cs)) (subst (HaveKeys k) (ap joined (sym (take-append-drop n cs)) ∙ joined_append (take n cs) (drop n cs)) a)
+pub front_keyed : (k n : ℕ) (cs : List PageView) → HaveKeys k (pairs_of_pages cs) → HaveKeys k (pairs_of_pages (take n cs))
+front_keyed k n cs a = Each-append_left (λ p. length p.0 ≡ k) (pairs_of_pages (take n cs)) (pairs_of_pages (drop n cs)) (subst (HaveKeys k) (ap pairs_of_pages (sym (take-append-drop n cs)) ∙ joined_append (take n cs) (drop n cs)) a)
 
 -- so many and one more are no more than fit
 pub room_more : (n m k room room2 : ℕ) → n < m → m * (k + 4) ≤ room → room ≤ room2 → (n + 1) * (k + 4) ≤ room2
@@ -131,21 +131,21 @@ insert_end (y ∷ l) (suc n) x e = ap (λ (m : List Pair). y ∷ m) (insert_end 
 -- the last children of a row
 pub record AreLast (h most k count : ℕ) (cs : List PageView) : Type 0 where
   pub children : AreChildren h most cs
-  pub rising : IsRising (joined cs)
-  pub keyed : HaveKeys k (joined cs)
+  pub rising : IsRising (pairs_of_pages cs)
+  pub keyed : HaveKeys k (pairs_of_pages cs)
   pub number : length cs ≡ count
 
-pub are_last : (h most k count n : ℕ) (row cs : List PageView) → cs ≡ drop n row → n + count ≡ length row → AreChildren h most row → IsRising (joined row) → HaveKeys k (joined row) → AreLast h most k count cs
+pub are_last : (h most k count n : ℕ) (row cs : List PageView) → cs ≡ drop n row → n + count ≡ length row → AreChildren h most row → IsRising (pairs_of_pages row) → HaveKeys k (pairs_of_pages row) → AreLast h most k count cs
 are_last h most k count n row cs e w a r q =
-    let split : joined row ≡ joined (take n row) ++ joined (drop n row) = ap joined (sym (take-append-drop n row)) ∙ joined_append (take n row) (drop n row) in
+    let split : pairs_of_pages row ≡ pairs_of_pages (take n row) ++ pairs_of_pages (drop n row) = ap pairs_of_pages (sym (take-append-drop n row)) ∙ joined_append (take n row) (drop n row) in
     subst (AreLast h most k count) (sym e) (record {
       children = children_drop h most n row a;
-      rising = rising_back (joined (take n row)) (joined (drop n row)) (subst IsRising split r);
-      keyed = Each-append_right (λ p. length p.0 ≡ k) (joined (take n row)) (joined (drop n row)) (subst (HaveKeys k) split q);
+      rising = rising_back (pairs_of_pages (take n row)) (pairs_of_pages (drop n row)) (subst IsRising split r);
+      keyed = Each-append_right (λ p. length p.0 ≡ k) (pairs_of_pages (take n row)) (pairs_of_pages (drop n row)) (subst (HaveKeys k) split q);
       number = length-drop n row ∙ omega arith;
     })
 
-pub parent_page : (h most k count : ℕ) (ss : List Pair) (cs : List PageView) → AreLast h most k count cs → IsCut ss cs → 4 ≤ most → 1 < count → IsPage most ss cs
+pub parent_page : (h most k count : ℕ) (ss : List Pair) (cs : List PageView) → AreLast h most k count cs → IsCut ss cs → 4 ≤ most → 1 < count → IsFramedPage most ss cs
 parent_page h most k count ss cs l q four two = record {
   rising = subst IsRising (sym (pairs_from ss cs (omega (arith, l.number)))) l.rising;
   framed = framed_from h most ss cs q l.children;
@@ -157,13 +157,13 @@ is_above h most k count ss [] page l q e = absurd (omega (arith, cut_length ss [
 is_above h most k count ss (c ∷ cs) page l q e = subst (IsAbove most (c ∷ cs)) (sym e) (record { pairs = refl; rising = l.rising; level = refl; same_most = refl; count = sym (cut_length ss (c ∷ cs) q) })
 
 -- one page more
-pub leaf_whole : (most : ℕ) (front last all : List Pair) (made made2 : List PageView) (page : PageView) → page ≡ view_of most last [] → made2 ≡ page ∷ made → front ++ (last ++ joined made) ≡ all → front ++ joined made2 ≡ all
-leaf_whole most front last all made made2 page e is w = ap (λ (m : List PageView). front ++ joined m) is ∙ ap (λ (v : PageView). front ++ (v.pairs ++ joined made)) e ∙ w
+pub leaf_whole : (most : ℕ) (front last all : List Pair) (made made2 : List PageView) (page : PageView) → page ≡ view_of most last [] → made2 ≡ page ∷ made → front ++ (last ++ pairs_of_pages made) ≡ all → front ++ pairs_of_pages made2 ≡ all
+leaf_whole most front last all made made2 page e is w = ap (λ (m : List PageView). front ++ pairs_of_pages m) is ∙ ap (λ (v : PageView). front ++ (v.pairs ++ pairs_of_pages made)) e ∙ w
 
-pub parent_whole : (n : ℕ) (row row2 made made2 : List PageView) (page : PageView) (all : List Pair) → row2 ≡ take n row → page.pairs ≡ joined (drop n row) → made2 ≡ page ∷ made → joined row ++ joined made ≡ all → joined row2 ++ joined made2 ≡ all
+pub parent_whole : (n : ℕ) (row row2 made made2 : List PageView) (page : PageView) (all : List Pair) → row2 ≡ take n row → page.pairs ≡ pairs_of_pages (drop n row) → made2 ≡ page ∷ made → pairs_of_pages row ++ pairs_of_pages made ≡ all → pairs_of_pages row2 ++ pairs_of_pages made2 ≡ all
 parent_whole n row row2 made made2 page all e p is w =
-    let split : joined row ≡ joined (take n row) ++ joined (drop n row) = ap joined (sym (take-append-drop n row)) ∙ joined_append (take n row) (drop n row) in
-    ap (λ (m : List PageView). joined m ++ joined made2) e ∙ ap (λ (m : List PageView). joined (take n row) ++ joined m) is ∙ ap (λ (m : List Pair). joined (take n row) ++ (m ++ joined made)) p ∙ sym (append_assoc (joined (take n row)) (joined (drop n row)) (joined made)) ∙ ap (λ (m : List Pair). m ++ joined made) (sym split) ∙ w
+    let split : pairs_of_pages row ≡ pairs_of_pages (take n row) ++ pairs_of_pages (drop n row) = ap pairs_of_pages (sym (take-append-drop n row)) ∙ joined_append (take n row) (drop n row) in
+    ap (λ (m : List PageView). pairs_of_pages m ++ pairs_of_pages made2) e ∙ ap (λ (m : List PageView). pairs_of_pages (take n row) ++ pairs_of_pages m) is ∙ ap (λ (m : List Pair). pairs_of_pages (take n row) ++ (m ++ pairs_of_pages made)) p ∙ sym (append_assoc (pairs_of_pages (take n row)) (pairs_of_pages (drop n row)) (pairs_of_pages made)) ∙ ap (λ (m : List Pair). m ++ pairs_of_pages made) (sym split) ∙ w
 
 pub left_rising : (left rest all : List Pair) → left ++ rest ≡ all → IsRising all → IsRising left
 left_rising left rest all w r = rising_front left rest (subst IsRising (sym w) r)

@@ -4,7 +4,7 @@ use Rattle.std.proofs.Math.Nat.{mul-le-mul_left}
 use Rattle.std.proofs.lemmas.List.{get_or-take, take-take, append-nil, take-append-drop, length-take, length-drop, take_at, drop_at}
 use Rattle.key_lists.specs.Pairs.{Pair}
 use Rattle.key_lists.specs.Rising.{IsRising, last_of}
-use Rattle.ndx_tree.specs.Pages.{PageView, joined, pairs_of, height_of, view_of, IsCut, AreChildren, IsPage, Divides, least_pairs, least_root}
+use Rattle.ndx_tree.specs.Pages.{PageView, pairs_of_pages, pairs_of, height_of, view_of, IsCut, AreChildren, IsFramedPage, Divides, least_pairs, least_root}
 use Rattle.key_lists.proofs.Rises.{rising_front, rising_back, last_back, last_of_take}
 use Rattle.ndx_tree.proofs.Cut.{cut_length, framed_from, height_from, pairs_from}
 
@@ -44,12 +44,12 @@ unfolding least_root
 least_root_two zero p = absurd (omega arith)
 least_root_two (suc h) p = rw add-one refl
 
-pub joined_append : (cs ds : List PageView) → joined (cs ++ ds) ≡ joined cs ++ joined ds
+pub joined_append : (cs ds : List PageView) → pairs_of_pages (cs ++ ds) ≡ pairs_of_pages cs ++ pairs_of_pages ds
 joined_append [] ds = refl
-joined_append (c ∷ cs) ds = ap (λ (m : List Pair). c.pairs ++ m) (joined_append cs ds) ∙ sym (append_assoc c.pairs (joined cs) (joined ds))
+joined_append (c ∷ cs) ds = ap (λ (m : List Pair). c.pairs ++ m) (joined_append cs ds) ∙ sym (append_assoc c.pairs (pairs_of_pages cs) (pairs_of_pages ds))
 
-joined_split : (i : ℕ) (cs : List PageView) → joined cs ≡ joined (take i cs) ++ joined (drop i cs)
-joined_split i cs = ap joined (sym (take-append-drop i cs)) ∙ joined_append (take i cs) (drop i cs)
+joined_split : (i : ℕ) (cs : List PageView) → pairs_of_pages cs ≡ pairs_of_pages (take i cs) ++ pairs_of_pages (drop i cs)
+joined_split i cs = ap pairs_of_pages (sym (take-append-drop i cs)) ∙ joined_append (take i cs) (drop i cs)
 
 pub children_take : (h m i : ℕ) (cs : List PageView) → AreChildren h m cs → AreChildren h m (take i cs)
 children_take h m zero cs a = tt
@@ -61,23 +61,23 @@ children_drop h m zero cs a = a
 children_drop h m (suc i) [] a = tt
 children_drop h m (suc i) (c ∷ cs) a = children_drop h m i cs a.1
 
-pub joined_length : (h m : ℕ) (cs : List PageView) → AreChildren h m cs → least_pairs h * length cs ≤ length (joined cs)
+pub joined_length : (h m : ℕ) (cs : List PageView) → AreChildren h m cs → least_pairs h * length cs ≤ length (pairs_of_pages cs)
 joined_length h m [] a = omega arith
-joined_length h m (c ∷ cs) a = omega (arith, mul-suc (least_pairs h) (length cs), a.0.filled, joined_length h m cs a.1, length-append c.pairs (joined cs))
+joined_length h m (c ∷ cs) a = omega (arith, mul-suc (least_pairs h) (length cs), a.0.filled, joined_length h m cs a.1, length-append c.pairs (pairs_of_pages cs))
 
 -- three children have enough pairs for their page
-pub filled_from : (h m : ℕ) (cs : List PageView) → AreChildren h m cs → 3 ≤ length cs → least_pairs (h + 1) ≤ length (joined cs)
+pub filled_from : (h m : ℕ) (cs : List PageView) → AreChildren h m cs → 3 ≤ length cs → least_pairs (h + 1) ≤ length (pairs_of_pages cs)
 filled_from h m cs a n = omega (arith, least_pairs_up h, joined_length h m cs a, mul-le-mul_left (least_pairs h) n)
 
 -- the separators and children left and right of one separator
-pub cut_divide : (k : ℕ) (ss : List Pair) (cs : List PageView) (d : Pair) → IsCut ss cs → k < length ss → IsCut (take k ss) (take (suc k) cs) × IsCut (drop (suc k) ss) (drop (suc k) cs) × (last_of (joined (take (suc k) cs)) ≡ Some (get_or ss k d))
+pub cut_divide : (k : ℕ) (ss : List Pair) (cs : List PageView) (d : Pair) → IsCut ss cs → k < length ss → IsCut (take k ss) (take (suc k) cs) × IsCut (drop (suc k) ss) (drop (suc k) cs) × (last_of (pairs_of_pages (take (suc k) cs)) ≡ Some (get_or ss k d))
 cut_divide k [] cs d q l = absurd (omega arith)
 cut_divide k (s ∷ ss) [] d q l = absurd q
 cut_divide zero (s ∷ ss) (c ∷ cs) d q l = (tt, q.1, ap last_of (append-nil c.pairs) ∙ q.0)
 cut_divide (suc k) (s ∷ ss) (c ∷ []) d q l = absurd (omega (arith, cut_length ss [] q.1))
 cut_divide (suc k) (s ∷ ss) (c ∷ b ∷ cs) d q l =
     let r = cut_divide k ss (b ∷ cs) d q.1 (omega arith) in
-    ((q.0, r.0), r.1, last_back _ c.pairs (joined (take (suc k) (b ∷ cs))) r.2)
+    ((q.0, r.0), r.1, last_back _ c.pairs (pairs_of_pages (take (suc k) (b ∷ cs))) r.2)
 
 pub leaf_divides : (most k : ℕ) (es : List Pair) (s : Pair) → IsRising es → 4 ≤ most → most < length es → length es ≤ most + 1 → k ≡ length es / 2 → s ≡ get_or (take k es) (k - 1) s → Divides most es [] (take k es) [] (s, view_of most (drop k es) [])
 leaf_divides most k es s r f l u e g =
@@ -100,7 +100,7 @@ pub record IsFair (most k all : ℕ) : Type 0 where
   pub high : most / 2 + (k + 1) ≤ all
   pub high_full : all ≤ most + (k + 1)
 
-pub inner_divides : (most h k : ℕ) (ss : List Pair) (cs : List PageView) (s : Pair) → IsRising (joined cs) → IsCut ss cs → AreChildren h most cs → 4 ≤ most → IsFair most k (length ss) → s ≡ get_or ss k s → Divides most ss cs (take k ss) (take (suc k) cs) (s, view_of most (drop (suc k) ss) (drop (suc k) cs))
+pub inner_divides : (most h k : ℕ) (ss : List Pair) (cs : List PageView) (s : Pair) → IsRising (pairs_of_pages cs) → IsCut ss cs → AreChildren h most cs → 4 ≤ most → IsFair most k (length ss) → s ≡ get_or ss k s → Divides most ss cs (take k ss) (take (suc k) cs) (s, view_of most (drop (suc k) ss) (drop (suc k) cs))
 inner_divides most h k ss [] s r q a f fair g = absurd (omega (arith, cut_length ss [] q))
 inner_divides most h k ss (c ∷ cs) s r q a f fair g =
     let n : length (c ∷ cs) ≡ length ss + 1 = cut_length ss (c ∷ cs) q in
@@ -112,50 +112,50 @@ inner_divides most h k ss (c ∷ cs) s r q a f fair g =
     let parts = cut_divide k ss (c ∷ cs) s q at in
     let left : List PageView = take (suc k) (c ∷ cs) in
     let right : List PageView = drop (suc k) (c ∷ cs) in
-    let split : joined (c ∷ cs) ≡ joined left ++ joined right = joined_split (suc k) (c ∷ cs) in
-    let rising : IsRising (joined left ++ joined right) = subst IsRising split r in
+    let split : pairs_of_pages (c ∷ cs) ≡ pairs_of_pages left ++ pairs_of_pages right = joined_split (suc k) (c ∷ cs) in
+    let rising : IsRising (pairs_of_pages left ++ pairs_of_pages right) = subst IsRising split r in
     let in_left : AreChildren h most left = children_take h most (suc k) (c ∷ cs) a in
     let in_right : AreChildren h most right = children_drop h most (suc k) (c ∷ cs) a in
     let left_length : length left ≡ suc k = length-take (suc k) (c ∷ cs) ∙ omega arith in
     let right_length : length right ≡ length (c ∷ cs) - suc k = length-drop (suc k) (c ∷ cs) in
     let left_count : length (take k ss) ≡ k = length-take k ss ∙ omega arith in
     let right_count : length (drop (suc k) ss) ≡ length ss - suc k = length-drop (suc k) ss in
-    let left_pairs : pairs_of (take k ss) left ≡ joined left = pairs_from (take k ss) left (omega arith) in
-    let right_pairs : pairs_of (drop (suc k) ss) right ≡ joined right = pairs_from (drop (suc k) ss) right (omega arith) in
+    let left_pairs : pairs_of (take k ss) left ≡ pairs_of_pages left = pairs_from (take k ss) left (omega arith) in
+    let right_pairs : pairs_of (drop (suc k) ss) right ≡ pairs_of_pages right = pairs_from (drop (suc k) ss) right (omega arith) in
     let left_height : height_of left ≡ h + 1 = height_from h most left in_left (omega arith) in
     let right_height : height_of right ≡ h + 1 = height_from h most right in_right (omega arith) in
     let height : height_of (c ∷ cs) ≡ h + 1 = height_from h most (c ∷ cs) a (omega arith) in
     let is : s ≡ get_or ss k s = g in (
-      ap (λ (m : List Pair). m ++ pairs_of (drop (suc k) ss) right) left_pairs ∙ ap (λ (m : List Pair). joined left ++ m) right_pairs ∙ sym split,
+      ap (λ (m : List Pair). m ++ pairs_of (drop (suc k) ss) right) left_pairs ∙ ap (λ (m : List Pair). pairs_of_pages left ++ m) right_pairs ∙ sym split,
       ap last_of left_pairs ∙ parts.2 ∙ ap (λ (v : Pair). Some v) (sym is),
       record { level = left_height ∙ sym height; same_most = refl; half = omega arith; full = omega arith; filled = subst (λ i. least_pairs i ≤ length (pairs_of (take k ss) left)) (sym height) (subst (λ (m : List Pair). least_pairs (h + 1) ≤ length m) (sym left_pairs) (filled_from h most left in_left (omega arith))); high = omega (arith, height) },
       record { level = right_height ∙ sym height; same_most = refl; half = omega arith; full = omega arith; filled = subst (λ i. least_pairs i ≤ length (pairs_of (drop (suc k) ss) right)) (sym height) (subst (λ (m : List Pair). least_pairs (h + 1) ≤ length m) (sym right_pairs) (filled_from h most right in_right (omega arith))); high = omega (arith, height) },
-      record { rising = subst IsRising (sym left_pairs) (rising_front (joined left) (joined right) rising); framed = framed_from h most (take k ss) left parts.0 in_left; four = f },
+      record { rising = subst IsRising (sym left_pairs) (rising_front (pairs_of_pages left) (pairs_of_pages right) rising); framed = framed_from h most (take k ss) left parts.0 in_left; four = f },
     )
 
-leaf_later : (most k : ℕ) (es : List Pair) → IsRising es → 4 ≤ most → most < length es → length es ≤ most + 1 → k ≡ length es / 2 → IsPage most (drop k es) [] × (length (drop k es) ≤ most)
+leaf_later : (most k : ℕ) (es : List Pair) → IsRising es → 4 ≤ most → most < length es → length es ≤ most + 1 → k ≡ length es / 2 → IsFramedPage most (drop k es) [] × (length (drop k es) ≤ most)
 leaf_later most k es r f l u e =
     (record { rising = rising_back (take k es) (drop k es) (subst IsRising (sym (take-append-drop k es)) r); framed = tt; four = f }, let n : length (drop k es) ≡ length es - k = length-drop k es in omega arith)
 
 -- the same, where the parts are known by equations
-pub leaf_halves : (most k : ℕ) (es low high : List Pair) (none : List PageView) (s : Pair) → IsPage most es [] → most < length es → length es ≤ most + 1 → k ≡ length es / 2 → low ≡ take k es → high ≡ drop k es → none ≡ [] → s ≡ get_or low (k - 1) s → Divides most es [] low [] (s, view_of most high none) × IsPage most high none × (length high ≤ most)
+pub leaf_halves : (most k : ℕ) (es low high : List Pair) (none : List PageView) (s : Pair) → IsFramedPage most es [] → most < length es → length es ≤ most + 1 → k ≡ length es / 2 → low ≡ take k es → high ≡ drop k es → none ≡ [] → s ≡ get_or low (k - 1) s → Divides most es [] low [] (s, view_of most high none) × IsFramedPage most high none × (length high ≤ most)
 leaf_halves most k es low high none s p l u e a b n g =
     let later = leaf_later most k es p.rising p.four l u e in
     rw (a, b, n) (leaf_divides most k es s p.rising p.four l u e (g ∙ ap (λ (m : List Pair). get_or m (k - 1) s) a), later.0, later.1)
 
-inner_later : (most h k : ℕ) (ss : List Pair) (cs : List PageView) (d : Pair) → IsRising (joined cs) → IsCut ss cs → AreChildren h most cs → 4 ≤ most → IsFair most k (length ss) → IsPage most (drop (suc k) ss) (drop (suc k) cs) × (length (drop (suc k) ss) ≤ most)
+inner_later : (most h k : ℕ) (ss : List Pair) (cs : List PageView) (d : Pair) → IsRising (pairs_of_pages cs) → IsCut ss cs → AreChildren h most cs → 4 ≤ most → IsFair most k (length ss) → IsFramedPage most (drop (suc k) ss) (drop (suc k) cs) × (length (drop (suc k) ss) ≤ most)
 inner_later most h k ss cs d r q a f fair =
     let high : most / 2 + (k + 1) ≤ length ss = fair.high in
     let high_full : length ss ≤ most + (k + 1) = fair.high_full in
     let n : length cs ≡ length ss + 1 = cut_length ss cs q in
     let right_length : length (drop (suc k) cs) ≡ length cs - suc k = length-drop (suc k) cs in
     let right_count : length (drop (suc k) ss) ≡ length ss - suc k = length-drop (suc k) ss in
-    let right_pairs : pairs_of (drop (suc k) ss) (drop (suc k) cs) ≡ joined (drop (suc k) cs) = pairs_from (drop (suc k) ss) (drop (suc k) cs) (omega arith) in
-    let rising : IsRising (joined (drop (suc k) cs)) = rising_back (joined (take (suc k) cs)) _ (subst IsRising (joined_split (suc k) cs) r) in
+    let right_pairs : pairs_of (drop (suc k) ss) (drop (suc k) cs) ≡ pairs_of_pages (drop (suc k) cs) = pairs_from (drop (suc k) ss) (drop (suc k) cs) (omega arith) in
+    let rising : IsRising (pairs_of_pages (drop (suc k) cs)) = rising_back (pairs_of_pages (take (suc k) cs)) _ (subst IsRising (joined_split (suc k) cs) r) in
     let parts = cut_divide k ss cs d q (omega arith) in
     (record { rising = subst IsRising (sym right_pairs) rising; framed = framed_from h most (drop (suc k) ss) (drop (suc k) cs) parts.1 (children_drop h most (suc k) cs a); four = f }, omega arith)
 
-pub inner_halves : (most k : ℕ) (es low high : List Pair) (cs left right : List PageView) (s : Pair) → IsPage most es cs → 0 < length cs → most < length es → length es ≤ most + 1 → k ≡ length es / 2 → low ≡ take k (take (k + 1) es) → high ≡ drop (k + 1) es → left ≡ take (k + 1) cs → right ≡ drop (k + 1) cs → s ≡ get_or es k s → Divides most es cs low left (s, view_of most high right) × IsPage most high right × (length high ≤ most)
+pub inner_halves : (most k : ℕ) (es low high : List Pair) (cs left right : List PageView) (s : Pair) → IsFramedPage most es cs → 0 < length cs → most < length es → length es ≤ most + 1 → k ≡ length es / 2 → low ≡ take k (take (k + 1) es) → high ≡ drop (k + 1) es → left ≡ take (k + 1) cs → right ≡ drop (k + 1) cs → s ≡ get_or es k s → Divides most es cs low left (s, view_of most high right) × IsFramedPage most high right × (length high ≤ most)
 inner_halves most k es low high [] left right s p n l u e a b f g i = absurd (omega arith)
 inner_halves most k es low high (c ∷ cs) left right s p n l u e a b f g i =
     let four : 4 ≤ most = p.four in
@@ -170,7 +170,7 @@ inner_halves most k es low high (c ∷ cs) left right s p n l u e a b f g i =
 
 -- ---- the same, by the parts
 
-pub leaf_parts : (most : ℕ) (low high : List Pair) (s : Pair) → IsRising (low ++ high) → 4 ≤ most → most / 2 ≤ length low → length low ≤ most → most / 2 ≤ length high → length high ≤ most → last_of low ≡ Some s → Divides most (low ++ high) [] low [] (s, view_of most high []) × IsPage most high []
+pub leaf_parts : (most : ℕ) (low high : List Pair) (s : Pair) → IsRising (low ++ high) → 4 ≤ most → most / 2 ≤ length low → length low ≤ most → most / 2 ≤ length high → length high ≤ most → last_of low ≡ Some s → Divides most (low ++ high) [] low [] (s, view_of most high []) × IsFramedPage most high []
 leaf_parts most low high s r f a b c d last = (
   (
     refl,
@@ -192,10 +192,10 @@ drop_past [] high s = refl
 drop_past (y ∷ low) high s = drop_past low high s
 
 -- the parts by other names
-parts_are : (most : ℕ) (es low low2 : List Pair) (cs left left2 : List PageView) (high high2 : List Pair) (right right2 : List PageView) (s : Pair) → low ≡ low2 → left ≡ left2 → high ≡ high2 → right ≡ right2 → Divides most es cs low left (s, view_of most high right) × IsPage most high right → Divides most es cs low2 left2 (s, view_of most high2 right2) × IsPage most high2 right2
+parts_are : (most : ℕ) (es low low2 : List Pair) (cs left left2 : List PageView) (high high2 : List Pair) (right right2 : List PageView) (s : Pair) → low ≡ low2 → left ≡ left2 → high ≡ high2 → right ≡ right2 → Divides most es cs low left (s, view_of most high right) × IsFramedPage most high right → Divides most es cs low2 left2 (s, view_of most high2 right2) × IsFramedPage most high2 right2
 parts_are most es low low2 cs left left2 high high2 right right2 s a b c d both = rw (sym a, sym b, sym c, sym d) both
 
-pub inner_parts : (most : ℕ) (low high : List Pair) (left right : List PageView) (s : Pair) → IsPage most (low ++ s ∷ high) (left ++ right) → length left ≡ length low + 1 → IsFair most (length low) (length (low ++ s ∷ high)) → Divides most (low ++ s ∷ high) (left ++ right) low left (s, view_of most high right) × IsPage most high right
+pub inner_parts : (most : ℕ) (low high : List Pair) (left right : List PageView) (s : Pair) → IsFramedPage most (low ++ s ∷ high) (left ++ right) → length left ≡ length low + 1 → IsFair most (length low) (length (low ++ s ∷ high)) → Divides most (low ++ s ∷ high) (left ++ right) low left (s, view_of most high right) × IsFramedPage most high right
 inner_parts most low high [] right s p n fair = absurd (omega arith)
 inner_parts most low high (c ∷ cs) right s p n fair =
     let k = length low in

@@ -3,7 +3,7 @@ use Rattle.std.proofs.Common.{◌≡◌, ℕ, zero, suc, Bool, true, false, cond
 use Rattle.std.proofs.lemmas.Bool.{eqb-true, eq-eqb}
 use Rattle.std.proofs.lemmas.List.{append-nil}
 use Rattle.ndx_page.specs.declared.page.Page.{Page}
-use Rattle.ndx_tree.specs.IndexFile.{Item, Link, links, behind, all_listed, leaf_pairs, AreBelow, IsNode, is_barred, AreFresh}
+use Rattle.ndx_tree.specs.IndexFile.{Item, Link, links, separator_items, all_listed, leaf_pairs, AreBelow, IsNode, is_barred, AreFresh}
 use Rattle.ndx_tree.specs.declared.fault.TreeFault.{TreeFault}
 use Rattle.ndx_tree.specs.declared.fault.TreeFault.TheVariants as faults
 use Rattle.ndx_tree.specs.Walk.{Seen, followed, with_separator, walk_all, is_level, visit, open_page, walk}
@@ -72,10 +72,10 @@ seen_again a a2 i i2 o o2 p q r = ap (λ (m : List ℕ). seen_of m i o) p ∙ ap
 add_child : (R : ℕ → List ℕ → List Item → Type 0) (count : ℕ) (s m t : Seen) (c : Link) (cs : List Link) (level : ℕ) (r1 : List ℕ) (i1 : List Item) → R c.0 r1 i1 → AreFresh count s.reached r1 → m ≡ seen_of (s.reached ++ r1) (s.items ++ i1) (Some level) → AddAll R count (with_separator c.1 m) cs level t → AddAll R count s (c ∷ cs) level t
 add_child R count s m t c cs level r1 i1 below fresh is others = record {
   more = r1 ++ others.more;
-  met = i1 ++ (behind c.1 ++ others.met);
+  met = i1 ++ (separator_items c.1 ++ others.met);
   below = (r1, others.more, i1, others.met, refl, refl, below, others.below);
   fresh = fresh_append count s.reached r1 others.more fresh (subst (λ (v : Seen). AreFresh count v.reached others.more) is others.fresh);
-  is = others.is ∙ seen_again _ _ _ _ _ _ (ap (λ (v : Seen). v.reached ++ others.more) is ∙ append_assoc s.reached r1 others.more) (ap (λ (v : Seen). (v.items ++ behind c.1) ++ others.met) is ∙ three_items s.items i1 (behind c.1) others.met) refl;
+  is = others.is ∙ seen_again _ _ _ _ _ _ (ap (λ (v : Seen). v.reached ++ others.more) is ∙ append_assoc s.reached r1 others.more) (ap (λ (v : Seen). (v.items ++ separator_items c.1) ++ others.met) is ∙ three_items s.items i1 (separator_items c.1) others.met) refl;
 }
 
 all_known : (f : ℕ → Seen → Result Seen TreeFault) (R : ℕ → ℕ → List ℕ → List Item → Type 0) (count : ℕ) → ((n : ℕ) (s t : Seen) → f n s ≡ Ok t → Adds R count s n t) → (cs : List Link) (s t : Seen) (level : ℕ) → s.level ≡ Some level → walk_all f cs s ≡ Ok t → AddAll (R level) count s cs level t
@@ -148,7 +148,7 @@ walk_sound file count (suc d) n s t e =
 
 -- a child first, and then the others
 child_first : (f : ℕ → Seen → Result Seen TreeFault) (R : ℕ → List ℕ → List Item → Type 0) (count level : ℕ) → ((n : ℕ) (s : Seen) (r : List ℕ) (i : List Item) → CanBe level s.level → R n r i → AreFresh count s.reached r → f n s ≡ Ok (seen_of (s.reached ++ r) (s.items ++ i) (Some level))) →
-    (c : Link) (cs : List Link) (s : Seen) (r r1 r2 : List ℕ) (i i1 i2 : List Item) → CanBe level s.level → r ≡ r1 ++ r2 → i ≡ i1 ++ (behind c.1 ++ i2) → R c.0 r1 i1 → AreFresh count s.reached r →
+    (c : Link) (cs : List Link) (s : Seen) (r r1 r2 : List ℕ) (i i1 i2 : List Item) → CanBe level s.level → r ≡ r1 ++ r2 → i ≡ i1 ++ (separator_items c.1 ++ i2) → R c.0 r1 i1 → AreFresh count s.reached r →
     ((m : Seen) → m.level ≡ Some level → AreFresh count m.reached r2 → walk_all f cs m ≡ Ok (seen_of (m.reached ++ r2) (m.items ++ i2) (Some level))) →
     walk_all f (c ∷ cs) s ≡ Ok (seen_of (s.reached ++ r) (s.items ++ i) (Some level))
 child_first f R count level h c cs s r r1 r2 i i1 i2 can er ei below q others =
@@ -157,7 +157,7 @@ child_first f R count level h c cs s r r1 r2 i i1 i2 can er ei below q others =
     let one : f c.0 s ≡ Ok m = h c.0 s r1 i1 can below (fresh_front count s.reached r1 r2 fresh) in
     let rest = others (with_separator c.1 m) refl (fresh_back count s.reached r1 r2 fresh) in
     ap (λ (o : Result Seen TreeFault). followed o (λ u. walk_all f cs (with_separator c.1 u))) one ∙ rest
-    ∙ ap (λ (v : Seen). let o : Result Seen TreeFault = Ok v in o) (seen_again _ _ _ _ _ _ (append_assoc s.reached r1 r2 ∙ ap (λ (k : List ℕ). s.reached ++ k) (sym er)) (three_items s.items i1 (behind c.1) i2 ∙ ap (λ (k : List Item). s.items ++ k) (sym ei)) refl)
+    ∙ ap (λ (v : Seen). let o : Result Seen TreeFault = Ok v in o) (seen_again _ _ _ _ _ _ (append_assoc s.reached r1 r2 ∙ ap (λ (k : List ℕ). s.reached ++ k) (sym er)) (three_items s.items i1 (separator_items c.1) i2 ∙ ap (λ (k : List Item). s.items ++ k) (sym ei)) refl)
 
 known_complete : (f : ℕ → Seen → Result Seen TreeFault) (R : ℕ → List ℕ → List Item → Type 0) (count level : ℕ) → ((n : ℕ) (s : Seen) (r : List ℕ) (i : List Item) → CanBe level s.level → R n r i → AreFresh count s.reached r → f n s ≡ Ok (seen_of (s.reached ++ r) (s.items ++ i) (Some level))) → (cs : List Link) (s : Seen) (r : List ℕ) (i : List Item) → s.level ≡ Some level → AreBelow R cs r i → AreFresh count s.reached r → walk_all f cs s ≡ Ok (seen_of (s.reached ++ r) (s.items ++ i) (Some level))
 known_complete f R count level h [] s r i k a q = ap (λ (v : Seen). let o : Result Seen TreeFault = Ok v in o) (seen_again _ _ _ _ _ _ (sym (append-nil s.reached) ∙ ap (λ (m : List ℕ). s.reached ++ m) (sym a.0)) (sym (append-nil s.items) ∙ ap (λ (m : List Item). s.items ++ m) (sym a.1)) k)

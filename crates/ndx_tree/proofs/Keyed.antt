@@ -8,7 +8,7 @@ use Rattle.key_lists.specs.Order.{Each}
 use Rattle.key_lists.specs.KeyForm.{IsPairOf}
 use Rattle.key_lists.specs.Pairs.{Pair, is_before}
 use Rattle.key_lists.specs.Rising.{last_of, with_pair, without_pair}
-use Rattle.ndx_tree.specs.Pages.{PageView, joined, pairs_of, view_of, IsCut, IsPage, Removes}
+use Rattle.ndx_tree.specs.Pages.{PageView, pairs_of_pages, pairs_of, view_of, IsCut, IsFramedPage, Removes}
 use Rattle.key_rows.specs.Flat.{HaveKeys}
 use Rattle.ndx_tree.specs.Rooms.{AreKeyed, room_for}
 use Rattle.key_lists.proofs.Ordered.{Each-append, Each-inserted, Each-append_left, Each-append_right}
@@ -18,18 +18,18 @@ last_keyed k [] s a e = cc
 last_keyed k (y ∷ []) s a e = let same : y ≡ s = cc in subst (λ (p : Pair). length p.0 ≡ k) same a.0
 last_keyed k (y ∷ z ∷ l) s a e = last_keyed k (z ∷ l) s a.1 e
 
-pub cut_keyed : (k : ℕ) (es : List Pair) (cs : List PageView) → IsCut es cs → HaveKeys k (joined cs) → HaveKeys k es
+pub cut_keyed : (k : ℕ) (es : List Pair) (cs : List PageView) → IsCut es cs → HaveKeys k (pairs_of_pages cs) → HaveKeys k es
 cut_keyed k [] cs i a = tt
 cut_keyed k (s ∷ ss) [] i a = absurd i
 cut_keyed k (s ∷ ss) (c ∷ cs) i a =
-    (last_keyed k c.pairs s (Each-append_left (λ p. length p.0 ≡ k) c.pairs (joined cs) a) i.0, cut_keyed k ss cs i.1 (Each-append_right (λ p. length p.0 ≡ k) c.pairs (joined cs) a))
+    (last_keyed k c.pairs s (Each-append_left (λ p. length p.0 ≡ k) c.pairs (pairs_of_pages cs) a) i.0, cut_keyed k ss cs i.1 (Each-append_right (λ p. length p.0 ≡ k) c.pairs (pairs_of_pages cs) a))
 
-pub child_keyed : (k : ℕ) (cs : List PageView) (at : ℕ) (d : PageView) → at < length cs → HaveKeys k (joined cs) → HaveKeys k (get_or cs at d).pairs
+pub child_keyed : (k : ℕ) (cs : List PageView) (at : ℕ) (d : PageView) → at < length cs → HaveKeys k (pairs_of_pages cs) → HaveKeys k (get_or cs at d).pairs
 child_keyed k [] at d l a = absurd (omega arith)
-child_keyed k (c ∷ cs) zero d l a = Each-append_left (λ p. length p.0 ≡ k) c.pairs (joined cs) a
-child_keyed k (c ∷ cs) (suc at) d l a = child_keyed k cs at d (omega arith) (Each-append_right (λ p. length p.0 ≡ k) c.pairs (joined cs) a)
+child_keyed k (c ∷ cs) zero d l a = Each-append_left (λ p. length p.0 ≡ k) c.pairs (pairs_of_pages cs) a
+child_keyed k (c ∷ cs) (suc at) d l a = child_keyed k cs at d (omega arith) (Each-append_right (λ p. length p.0 ≡ k) c.pairs (pairs_of_pages cs) a)
 
-pub entries_keyed : (k most : ℕ) (es : List Pair) (cs : List PageView) → IsPage most es cs → HaveKeys k (pairs_of es cs) → HaveKeys k es
+pub entries_keyed : (k most : ℕ) (es : List Pair) (cs : List PageView) → IsFramedPage most es cs → HaveKeys k (pairs_of es cs) → HaveKeys k es
 entries_keyed k most es [] p a = a
 entries_keyed k most es (c ∷ cs) p a = cut_keyed k es (c ∷ cs) p.framed.0 a
 
@@ -52,7 +52,7 @@ later_room most k n at room some fits few enough = entries_room most k (n - at) 
 
 -- ---- from a page's pairs to its parts
 
-pub page_keyed : (now : PageView) (k most : ℕ) (es : List Pair) (cs : List PageView) → view_of most es cs ≡ now → IsPage most es cs → HaveKeys k now.pairs → HaveKeys k es
+pub page_keyed : (now : PageView) (k most : ℕ) (es : List Pair) (cs : List PageView) → view_of most es cs ≡ now → IsFramedPage most es cs → HaveKeys k now.pairs → HaveKeys k es
 page_keyed now k most es cs e p a = entries_keyed k most es cs p (subst (λ (v : PageView). HaveKeys k v.pairs) (sym e) a)
 
 pub below_keyed : (now : PageView) (k most : ℕ) (es : List Pair) (cs : List PageView) (at : ℕ) (d : PageView) → view_of most es cs ≡ now → at < length cs → d ≡ get_or cs at d → HaveKeys k now.pairs → HaveKeys k d.pairs
@@ -60,7 +60,7 @@ below_keyed now k most es [] at d e l is a = absurd (omega arith)
 below_keyed now k most es (c ∷ cs) at d e l is a =
     subst (λ (v : PageView). HaveKeys k v.pairs) (sym is) (child_keyed k (c ∷ cs) at d l (subst (λ (v : PageView). HaveKeys k v.pairs) (sym e) a))
 
-pub all_keyed : (now : PageView) (k most : ℕ) (es : List Pair) (cs : List PageView) → view_of most es cs ≡ now → 0 < length cs → HaveKeys k now.pairs → HaveKeys k (joined cs)
+pub all_keyed : (now : PageView) (k most : ℕ) (es : List Pair) (cs : List PageView) → view_of most es cs ≡ now → 0 < length cs → HaveKeys k now.pairs → HaveKeys k (pairs_of_pages cs)
 all_keyed now k most es [] e l a = absurd (omega arith)
 all_keyed now k most es (c ∷ cs) e l a = subst (λ (v : PageView). HaveKeys k v.pairs) (sym e) a
 
@@ -85,14 +85,14 @@ without_keyed k x (y ∷ l) a =
       | false ↦ elim (is_before x y) as (λ b. HaveKeys k (cond b (y ∷ l) l)) [ true ↦ a | false ↦ a.1 ]
     ]
 
-pub set_keyed : (k : ℕ) (cs : List PageView) (at : ℕ) (a : PageView) → HaveKeys k (joined cs) → HaveKeys k a.pairs → HaveKeys k (joined (set cs at a))
+pub set_keyed : (k : ℕ) (cs : List PageView) (at : ℕ) (a : PageView) → HaveKeys k (pairs_of_pages cs) → HaveKeys k a.pairs → HaveKeys k (pairs_of_pages (set cs at a))
 set_keyed k [] at a h n = tt
-set_keyed k (c ∷ cs) zero a h n = Each-append (λ p. length p.0 ≡ k) a.pairs (joined cs) n (Each-append_right (λ p. length p.0 ≡ k) c.pairs (joined cs) h)
+set_keyed k (c ∷ cs) zero a h n = Each-append (λ p. length p.0 ≡ k) a.pairs (pairs_of_pages cs) n (Each-append_right (λ p. length p.0 ≡ k) c.pairs (pairs_of_pages cs) h)
 set_keyed k (c ∷ cs) (suc at) a h n =
-    Each-append (λ p. length p.0 ≡ k) c.pairs (joined (set cs at a)) (Each-append_left (λ p. length p.0 ≡ k) c.pairs (joined cs) h) (set_keyed k cs at a (Each-append_right (λ p. length p.0 ≡ k) c.pairs (joined cs) h) n)
+    Each-append (λ p. length p.0 ≡ k) c.pairs (pairs_of_pages (set cs at a)) (Each-append_left (λ p. length p.0 ≡ k) c.pairs (pairs_of_pages cs) h) (set_keyed k cs at a (Each-append_right (λ p. length p.0 ≡ k) c.pairs (pairs_of_pages cs) h) n)
 
 -- a page from which a pair was taken, among its neighbours
-pub lost_keyed : (k : ℕ) (cs : List PageView) (at : ℕ) (x : Pair) (old new : PageView) → HaveKeys k (joined cs) → HaveKeys k old.pairs → Removes old x new true → HaveKeys k (joined (set cs at new))
+pub lost_keyed : (k : ℕ) (cs : List PageView) (at : ℕ) (x : Pair) (old new : PageView) → HaveKeys k (pairs_of_pages cs) → HaveKeys k old.pairs → Removes old x new true → HaveKeys k (pairs_of_pages (set cs at new))
 lost_keyed k cs at x old new h o r = set_keyed k cs at new h (subst (λ (l : List Pair). HaveKeys k l) (sym r.1) (without_keyed k x old.pairs o))
 
 -- ---- a whole tree

@@ -5,16 +5,16 @@ use Rattle.std.proofs.lemmas.List.{length-take, length-drop, get_or_default}
 use Rattle.std.proofs.lemmas.List.Edits.{get_or-remove_below}
 use Rattle.key_lists.specs.Pairs.{Pair}
 use Rattle.key_lists.specs.Rising.{IsRising, last_of}
-use Rattle.ndx_tree.specs.Pages.{PageView, joined, pairs_of, height_of, IsCut, IsChild, IsLight, IsUneven, AreBut, AreApart, Joins, IsMending, Mends, least_pairs, least_root}
+use Rattle.ndx_tree.specs.Pages.{PageView, pairs_of_pages, pairs_of, height_of, IsCut, IsChild, IsLight, IsUneven, AreBut, AreChildrenBesides, Joins, IsMending, Mends, least_pairs, least_root}
 use Rattle.key_lists.proofs.Rises.{rising_front, rising_back}
 use Rattle.ndx_tree.proofs.Cut.{cut_length, framed_from, height_from, pairs_from, children_insert}
 use Rattle.ndx_tree.proofs.Divide.{least_pairs_pos, least_root_pairs}
 use Rattle.ndx_tree.proofs.Remove.{but_fix, but_other, apart_left, apart_right, merged, merged_children, merged_length, merged_cut, merged_pairs, reparted, reparted_cut, reparted_pairs, cut_out}
 
-rising_two : (i : ℕ) (cs : List PageView) (d : PageView) → IsRising (joined cs) → suc i < length cs → IsRising ((get_or cs i d).pairs ++ (get_or cs (suc i) d).pairs)
+rising_two : (i : ℕ) (cs : List PageView) (d : PageView) → IsRising (pairs_of_pages cs) → suc i < length cs → IsRising ((get_or cs i d).pairs ++ (get_or cs (suc i) d).pairs)
 rising_two i [] d r p = absurd (omega arith)
 rising_two i (c ∷ []) d r p = absurd (omega arith)
-rising_two zero (c ∷ f ∷ cs) d r p = rising_front (c.pairs ++ f.pairs) (joined cs) (subst IsRising (sym (append_assoc c.pairs f.pairs (joined cs))) r)
+rising_two zero (c ∷ f ∷ cs) d r p = rising_front (c.pairs ++ f.pairs) (pairs_of_pages cs) (subst IsRising (sym (append_assoc c.pairs f.pairs (pairs_of_pages cs))) r)
 rising_two (suc i) (c ∷ f ∷ cs) d r p = rising_two i (f ∷ cs) d (rising_back c.pairs _ r) (omega arith)
 
 pub cut_at : (i : ℕ) (ss : List Pair) (cs : List PageView) (d : PageView) (e : Pair) → IsCut ss cs → i < length ss → last_of (get_or cs i d).pairs ≡ Some (get_or ss i e)
@@ -56,7 +56,7 @@ are_two h m at first es cs d e w short p near =
     near in
     record { l_height = l.level; r_height = r.level; l_most = l.same_most; r_most = r.same_most; rising = rising_two first cs d w.rising (omega arith); separator = cut_at first es cs d e w.cut p; uneven = record { low = l.half; high = r.half; full_low = l.full; full_high = r.full; light = light } }
 
-apart : (h m at first : ℕ) (es : List Pair) (cs : List PageView) → IsMending h m at es cs → suc first < length cs → (first ≡ at) ⊎ (first + 1 ≡ at) → AreApart h m first cs
+apart : (h m at first : ℕ) (es : List Pair) (cs : List PageView) → IsMending h m at es cs → suc first < length cs → (first ≡ at) ⊎ (first + 1 ≡ at) → AreChildrenBesides h m first cs
 apart h m at first es cs w p near = ⊎_elim (λ q. apart_left h m first cs (subst (λ k. AreBut h m k cs) (sym q) w.but) p) (λ q. apart_right h m first cs (subst (λ k. AreBut h m k cs) (sym q ∙ add-one first) w.but) p) near
 
 mending_height : (h m at : ℕ) (es : List Pair) (cs : List PageView) (d : PageView) → IsMending h m at es cs → height_of cs ≡ h + 1
@@ -68,7 +68,7 @@ mend_none h m at es cs d w enough =
     let c = w.light d in
     let child : IsChild h m (get_or cs at d) = record { level = c.level; same_most = c.same_most; half = enough; full = c.full; filled = subst (λ k. least_pairs k ≤ length (get_or cs at d).pairs) c.level (c.well.filled (subst (λ k. k / 2 ≤ (get_or cs at d).count) (sym c.same_most) enough)); high = c.high } in
     let all = but_fix h m at cs d w.but (λ _. child) in
-    let is : pairs_of es cs ≡ joined cs = pairs_from es cs (omega (arith, w.within)) in
+    let is : pairs_of es cs ≡ pairs_of_pages cs = pairs_from es cs (omega (arith, w.within)) in
     record { page = record { rising = subst IsRising (sym is) w.rising; framed = framed_from h m es cs w.cut all; four = w.four }; pairs = is; height = refl; lost = omega arith; fewer = omega arith }
 
 pub mend_one : (h m at first : ℕ) (es : List Pair) (cs : List PageView) (n d : PageView) → IsMending h m at es cs → first < length es → (first ≡ at) ⊎ (first + 1 ≡ at) → (get_or cs first d).height ≡ h → (get_or cs first d).most ≡ m → Joins (get_or cs first d) (get_or cs (suc first) d) n None → Mends m es cs (cut_out es first) (merged cs first n)
@@ -80,7 +80,7 @@ mend_one h m at first es cs n d w p near lh lm j =
     let cut = merged_cut first es cs n d w.cut within j.0 in
     let size = merged_length first cs n within in
     let lost : length (cut_out es first) + 1 ≡ length es = omega (arith, length-append (take first es) (drop (suc first) es), length-take first es, length-drop (suc first) es) in
-    let is : pairs_of (cut_out es first) (merged cs first n) ≡ joined cs = pairs_from (cut_out es first) (merged cs first n) (omega (arith, size)) ∙ merged_pairs first cs n d within j.0 in
+    let is : pairs_of (cut_out es first) (merged cs first n) ≡ pairs_of_pages cs = pairs_from (cut_out es first) (merged cs first n) (omega (arith, size)) ∙ merged_pairs first cs n d within j.0 in
     record { page = record { rising = subst IsRising (sym is) w.rising; framed = framed_from h m (cut_out es first) (merged cs first n) cut all; four = w.four }; pairs = is; height = height_from h m (merged cs first n) all (omega (arith, size)) ∙ sym (mending_height h m at es cs d w); lost = omega arith; fewer = omega arith }
 
 pub mend_two : (h m at first : ℕ) (es : List Pair) (cs : List PageView) (a b d : PageView) (t : Pair) → IsMending h m at es cs → first < length es → (first ≡ at) ⊎ (first + 1 ≡ at) → (get_or cs first d).height ≡ h → (get_or cs first d).most ≡ m → Joins (get_or cs first d) (get_or cs (suc first) d) a (Some (t, b)) → Mends m es cs (take first (cut_out es first) ++ t ∷ drop first (cut_out es first)) (reparted cs first a b)
@@ -96,7 +96,7 @@ mend_two h m at first es cs a b d t w p near lh lm j =
     let more : length (reparted cs first a b) ≡ length es2 + 1 = cut_length _ _ cut in
     let lost : length (cut_out es first) + 1 ≡ length es = omega (arith, length-append (take first es) (drop (suc first) es), length-take first es, length-drop (suc first) es) in
     let size : length es2 ≡ length (cut_out es first) + 1 = omega (arith, length-append (take first (cut_out es first)) (t ∷ drop first (cut_out es first)), length-take first (cut_out es first), length-drop first (cut_out es first)) in
-    let is : pairs_of es2 (reparted cs first a b) ≡ joined cs = pairs_from es2 (reparted cs first a b) (omega arith) ∙ reparted_pairs first cs a b d within j.0 in
+    let is : pairs_of es2 (reparted cs first a b) ≡ pairs_of_pages cs = pairs_from es2 (reparted cs first a b) (omega arith) ∙ reparted_pairs first cs a b d within j.0 in
     record { page = record { rising = subst IsRising (sym is) w.rising; framed = framed_from h m es2 (reparted cs first a b) cut all; four = w.four }; pairs = is; height = height_from h m (reparted cs first a b) all (omega arith) ∙ sym (mending_height h m at es cs d w); lost = omega arith; fewer = omega arith }
 
 -- the two pages as the code has them: the right one taken out of the list, the left one still there

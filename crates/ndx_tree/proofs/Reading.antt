@@ -12,7 +12,7 @@ use Rattle.ndx_tree.specs.IndexFile.{Item, Listed, Between, listed, is_listed, i
 use Rattle.ndx_tree.specs.Walk.{Seen, with_separator, is_level, visit, walk_all, followed, open_page, walk, pages_of, unseen}
 use Rattle.std.proofs.Common.{replicate}
 use Rattle.key_rows.specs.Flat.{HaveKeys}
-use Rattle.ndx_tree.specs.Reads.{Shows, Marks, Gives, Opens, unset, marks}
+use Rattle.ndx_tree.specs.Reads.{ShowsSeen, Marks, WalkGives, Opens, unset, separators_at}
 use Rattle.std.proofs.Common.{All}
 use Rattle.std.proofs.lemmas.List.Elements.{All-head, All-tail}
 use Rattle.ndx_page.specs.PageLayout.{FitsKeys}
@@ -32,12 +32,12 @@ pub listed_all : (ps : List Pair) → listed (all_listed ps) ≡ ps
 listed_all [] = refl
 listed_all (p ∷ ps) = ap (λ (m : List Pair). p ∷ m) (listed_all ps)
 
-pub marks_append : (at : ℕ) (a b : List Item) → marks at (a ++ b) ≡ marks at a ++ marks (at + length (listed a)) b
-marks_append at [] b = ap (λ n. marks n b) (omega arith)
-marks_append at (Listed p ∷ a) b = marks_append (suc at) a b ∙ ap (λ n. marks (suc at) a ++ marks n b) (omega arith)
+pub marks_append : (at : ℕ) (a b : List Item) → separators_at at (a ++ b) ≡ separators_at at a ++ separators_at (at + length (listed a)) b
+marks_append at [] b = ap (λ n. separators_at n b) (omega arith)
+marks_append at (Listed p ∷ a) b = marks_append (suc at) a b ∙ ap (λ n. separators_at (suc at) a ++ separators_at n b) (omega arith)
 marks_append at (Between key ∷ a) b = ap (λ (m : List Separator). record { place = at; key = record { items = key } } ∷ m) (marks_append at a b)
 
-pub marks_all : (at : ℕ) (ps : List Pair) → marks at (all_listed ps) ≡ []
+pub marks_all : (at : ℕ) (ps : List Pair) → separators_at at (all_listed ps) ≡ []
 marks_all at [] = refl
 marks_all at (p ∷ ps) = marks_all (suc at) ps
 
@@ -67,7 +67,7 @@ unset_set (false ∷ bits) (suc n) l e = omega (arith, unset_set bits n (omega a
 -- what is shown
 
 -- a page was reached
-pub shows_reached : (k count : ℕ) (old new : Found) (s : Seen) (n : ℕ) → Shows k count old s → n < length old.reached.items → new.reached.items ≡ set old.reached.items n true → new.level ≡ old.level → new.entries.items ≡ old.entries.items → new.separators.items ≡ old.separators.items → Shows k count new (record { reached = s.reached ++ n ∷ []; items = s.items; level = s.level })
+pub shows_reached : (k count : ℕ) (old new : Found) (s : Seen) (n : ℕ) → ShowsSeen k count old s → n < length old.reached.items → new.reached.items ≡ set old.reached.items n true → new.level ≡ old.level → new.entries.items ≡ old.entries.items → new.separators.items ≡ old.separators.items → ShowsSeen k count new (record { reached = s.reached ++ n ∷ []; items = s.items; level = s.level })
 shows_reached k count old new s n h within bits level entries separators = record {
   marked = subst (λ (m : List Bool). Marks count m (s.reached ++ n ∷ [])) (sym bits) (marks_set count old.reached.items n s.reached within h.marked);
   level = level ∙ h.level;
@@ -77,22 +77,22 @@ shows_reached k count old new s n h within bits level entries separators = recor
 }
 
 -- a leaf's pairs were met
-pub shows_leaf : (k count : ℕ) (old new : Found) (s : Seen) (d : ℕ) (es : List PageEntry) → Shows k count old s → new.reached.items ≡ old.reached.items → new.level ≡ Some d → new.entries.items ≡ old.entries.items ++ leaf_pairs es → new.separators.items ≡ old.separators.items → Each (IsPairOf k) new.entries.items → Shows k count new (record { reached = s.reached; items = s.items ++ all_listed (leaf_pairs es); level = Some d })
+pub shows_leaf : (k count : ℕ) (old new : Found) (s : Seen) (d : ℕ) (es : List PageEntry) → ShowsSeen k count old s → new.reached.items ≡ old.reached.items → new.level ≡ Some d → new.entries.items ≡ old.entries.items ++ leaf_pairs es → new.separators.items ≡ old.separators.items → Each (IsPairOf k) new.entries.items → ShowsSeen k count new (record { reached = s.reached; items = s.items ++ all_listed (leaf_pairs es); level = Some d })
 shows_leaf k count old new s d es h bits level entries separators fits = record {
   marked = subst (λ (m : List Bool). Marks count m s.reached) (sym bits) h.marked;
   level = level;
   entries = entries ∙ ap (λ (m : List Pair). m ++ leaf_pairs es) h.entries ∙ ap (λ (m : List Pair). listed s.items ++ m) (sym (listed_all (leaf_pairs es))) ∙ sym (listed_append s.items (all_listed (leaf_pairs es)));
-  separators = separators ∙ h.separators ∙ sym (marks_append 0 s.items (all_listed (leaf_pairs es)) ∙ ap (λ (m : List Separator). marks 0 s.items ++ m) (marks_all (0 + length (listed s.items)) (leaf_pairs es)) ∙ append-nil (marks 0 s.items));
+  separators = separators ∙ h.separators ∙ sym (marks_append 0 s.items (all_listed (leaf_pairs es)) ∙ ap (λ (m : List Separator). separators_at 0 s.items ++ m) (marks_all (0 + length (listed s.items)) (leaf_pairs es)) ∙ append-nil (separators_at 0 s.items));
   fits = fits;
 }
 
 -- a separator was met
-pub shows_separator : (k count : ℕ) (old new : Found) (s : Seen) (key : List ℕ) → Shows k count old s → new.reached.items ≡ old.reached.items → new.level ≡ old.level → new.entries.items ≡ old.entries.items → new.separators.items ≡ old.separators.items ++ (let x : Separator = record { place = length old.entries.items; key = record { items = key } } in x) ∷ [] → Shows k count new (with_separator (Some key) s)
+pub shows_separator : (k count : ℕ) (old new : Found) (s : Seen) (key : List ℕ) → ShowsSeen k count old s → new.reached.items ≡ old.reached.items → new.level ≡ old.level → new.entries.items ≡ old.entries.items → new.separators.items ≡ old.separators.items ++ (let x : Separator = record { place = length old.entries.items; key = record { items = key } } in x) ∷ [] → ShowsSeen k count new (with_separator (Some key) s)
 shows_separator k count old new s key h bits level entries separators = record {
   marked = subst (λ (m : List Bool). Marks count m s.reached) (sym bits) h.marked;
   level = level ∙ h.level;
   entries = entries ∙ h.entries ∙ sym (listed_append s.items (Between key ∷ []) ∙ append-nil (listed s.items));
-  separators = separators ∙ ap (λ (m : List Separator). m ++ (let x : Separator = record { place = length old.entries.items; key = record { items = key } } in x) ∷ []) h.separators ∙ ap (λ n. marks 0 s.items ++ (let x : Separator = record { place = n; key = record { items = key } } in x) ∷ []) (ap (λ (m : List Pair). length m) h.entries ∙ omega arith) ∙ sym (marks_append 0 s.items (Between key ∷ []));
+  separators = separators ∙ ap (λ (m : List Separator). m ++ (let x : Separator = record { place = length old.entries.items; key = record { items = key } } in x) ∷ []) h.separators ∙ ap (λ n. separators_at 0 s.items ++ (let x : Separator = record { place = n; key = record { items = key } } in x) ∷ []) (ap (λ (m : List Pair). length m) h.entries ∙ omega arith) ∙ sym (marks_append 0 s.items (Between key ∷ []));
   fits = subst (Each (IsPairOf k)) (sym entries) h.fits;
 }
 
@@ -106,14 +106,14 @@ leaf_pairs_more es i e l g = ap (λ n. leaf_pairs (take n es)) (add-one i) ∙ m
     more (x ∷ es) (suc i) l g = ap (λ (m : List Pair). (x.key.items, x.number) ∷ m) (more es i (omega arith) g)
 
 -- the leaf stood where it may, or not
-pub leaf_given : (k count d : ℕ) (page : Page) (f : ℕ → Seen → Result Seen TreeFault) (old new : Found) (s : Seen) → is_level d old.level ≡ true → Shows k count old s → new.reached.items ≡ old.reached.items → new.level ≡ Some d → new.entries.items ≡ old.entries.items ++ leaf_pairs page.entries.items → new.separators.items ≡ old.separators.items → Each (IsPairOf k) (leaf_pairs page.entries.items) → Gives k count (Ok tt) new (visit f d page 0 s)
+pub leaf_given : (k count d : ℕ) (page : Page) (f : ℕ → Seen → Result Seen TreeFault) (old new : Found) (s : Seen) → is_level d old.level ≡ true → ShowsSeen k count old s → new.reached.items ≡ old.reached.items → new.level ≡ Some d → new.entries.items ≡ old.entries.items ++ leaf_pairs page.entries.items → new.separators.items ≡ old.separators.items → Each (IsPairOf k) (leaf_pairs page.entries.items) → WalkGives k count (Ok tt) new (visit f d page 0 s)
 leaf_given k count d page f old new s e h bits level entries separators fits = (
   record { reached = s.reached; items = s.items ++ all_listed (leaf_pairs page.entries.items); level = Some d },
   ap (λ b. cond b (Ok (let t : Seen = record { reached = s.reached; items = s.items ++ all_listed (leaf_pairs page.entries.items); level = Some d } in t)) (Err faults.Depth)) (sym (ap (is_level d) h.level) ∙ e),
   shows_leaf k count old new s d page.entries.items h bits level entries separators (subst (Each (IsPairOf k)) (sym entries) (Each-append (IsPairOf k) old.entries.items (leaf_pairs page.entries.items) h.fits fits)),
 )
 
-pub leaf_refused : (k count d : ℕ) (page : Page) (f : ℕ → Seen → Result Seen TreeFault) (old new : Found) (s : Seen) → is_level d old.level ≡ false → Shows k count old s → Gives k count (Err faults.Depth) new (visit f d page 0 s)
+pub leaf_refused : (k count d : ℕ) (page : Page) (f : ℕ → Seen → Result Seen TreeFault) (old new : Found) (s : Seen) → is_level d old.level ≡ false → ShowsSeen k count old s → WalkGives k count (Err faults.Depth) new (visit f d page 0 s)
 leaf_refused k count d page f old new s e h = inr (ap (λ b. cond b (Ok (let t : Seen = record { reached = s.reached; items = s.items ++ all_listed (leaf_pairs page.entries.items); level = Some d } in t)) (Err faults.Depth)) (sym (ap (is_level d) h.level) ∙ e))
 
 -- ---- a page of the walk
@@ -185,7 +185,7 @@ with_none : (s : Seen) → with_separator None s ≡ s
 with_none s = ap (λ (m : List Item). let u : Seen = record { reached = s.reached; items = m; level = s.level } in u) (append-nil s.items)
 
 -- the last child's walk is the rest of the page's
-pub gives_last : (k count : ℕ) (result : Result (Unit {0}) TreeFault) (found : Found) (f : ℕ → Seen → Result Seen TreeFault) (last : ℕ) (t : Seen) → Gives k count result found (f last t) → Gives k count result found (walk_all f ((let c : Link = (last, None) in c) ∷ []) t)
+pub gives_last : (k count : ℕ) (result : Result (Unit {0}) TreeFault) (found : Found) (f : ℕ → Seen → Result Seen TreeFault) (last : ℕ) (t : Seen) → WalkGives k count result found (f last t) → WalkGives k count result found (walk_all f ((let c : Link = (last, None) in c) ∷ []) t)
 gives_last k count (Ok u) found f last t g =
     (g.0, ap (λ (o : Result Seen TreeFault). followed o (λ v. Ok (with_separator None v))) g.1 ∙ ap (λ (v : Seen). let r : Result Seen TreeFault = Ok v in r) (with_none g.0), g.2)
 gives_last k count (Err fault) found f last t g = ⊎_elim (λ m. inl m) (λ e. inr (ap (λ (o : Result Seen TreeFault). followed o (λ v. Ok (with_separator None v))) e)) g
@@ -193,11 +193,11 @@ gives_last k count (Err fault) found f last t g = ⊎_elim (λ m. inl m) (λ e. 
 -- the walk so far, and what is left of it
 pub record IsLeft (k count : ℕ) (found : Found) (whole : Result Seen TreeFault) (f : ℕ → Seen → Result Seen TreeFault) (cs : List Link) : Type 0 where
   pub now : Seen
-  pub shown : Shows k count found now
+  pub shown : ShowsSeen k count found now
   pub rest : whole ≡ walk_all f cs now
 
 -- a child was walked, and its separator taken
-pub left_step : (k count : ℕ) (found mid new : Found) (whole : Result Seen TreeFault) (f : ℕ → Seen → Result Seen TreeFault) (es : List PageEntry) (i last : ℕ) (e : PageEntry) → i < length es → e ≡ get_or es i e → (l : IsLeft k count found whole f (links (drop i es) last)) → Gives k count (Ok tt) mid (f e.child l.now) → ((t : Seen) → Shows k count mid t → Shows k count new (with_separator (Some e.key.items) t)) → IsLeft k count new whole f (links (drop (i + 1) es) last)
+pub left_step : (k count : ℕ) (found mid new : Found) (whole : Result Seen TreeFault) (f : ℕ → Seen → Result Seen TreeFault) (es : List PageEntry) (i last : ℕ) (e : PageEntry) → i < length es → e ≡ get_or es i e → (l : IsLeft k count found whole f (links (drop i es) last)) → WalkGives k count (Ok tt) mid (f e.child l.now) → ((t : Seen) → ShowsSeen k count mid t → ShowsSeen k count new (with_separator (Some e.key.items) t)) → IsLeft k count new whole f (links (drop (i + 1) es) last)
 left_step k count found mid new whole f es i last e within is l g separator = record {
   now = with_separator (Some e.key.items) g.0;
   shown = separator g.0 g.2;
@@ -205,7 +205,7 @@ left_step k count found mid new whole f es i last e within is l g separator = re
 }
 
 -- a child's walk met a fault
-pub left_fault : (k count : ℕ) (found mid new : Found) (whole : Result Seen TreeFault) (f : ℕ → Seen → Result Seen TreeFault) (es : List PageEntry) (i last : ℕ) (e : PageEntry) (fault : TreeFault) → i < length es → e ≡ get_or es i e → (l : IsLeft k count found whole f (links (drop i es) last)) → Gives k count (Err fault) mid (f e.child l.now) → Gives k count (Err fault) new whole
+pub left_fault : (k count : ℕ) (found mid new : Found) (whole : Result Seen TreeFault) (f : ℕ → Seen → Result Seen TreeFault) (es : List PageEntry) (i last : ℕ) (e : PageEntry) (fault : TreeFault) → i < length es → e ≡ get_or es i e → (l : IsLeft k count found whole f (links (drop i es) last)) → WalkGives k count (Err fault) mid (f e.child l.now) → WalkGives k count (Err fault) new whole
 left_fault k count found mid new whole f es i last e fault within is l g =
     ⊎_elim (λ m. inl m) (λ r. inr (l.rest ∙ ap (λ (cs : List Link). walk_all f cs l.now) (links_step es i last e within is) ∙ ap (λ (o : Result Seen TreeFault). followed o (λ u. walk_all f (links (drop (i + 1) es) last) (with_separator (Some e.key.items) u))) r)) g
 
@@ -220,7 +220,7 @@ pub unset_none : (count : ℕ) → unset (replicate count false) ≡ count
 unset_none zero = refl
 unset_none (suc count) = ap suc (unset_none count)
 
-pub shows_none : (k count : ℕ) (found : Found) → found.reached.items ≡ replicate count false → found.level ≡ None → found.entries.items ≡ [] → found.separators.items ≡ [] → Shows k count found unseen
+pub shows_none : (k count : ℕ) (found : Found) → found.reached.items ≡ replicate count false → found.level ≡ None → found.entries.items ≡ [] → found.separators.items ≡ [] → ShowsSeen k count found unseen
 shows_none k count found bits level entries separators = record {
   marked = λ n d l. ap (λ (m : List Bool). get_or m n d) bits ∙ get_none count n d l;
   level = level;

@@ -4,7 +4,7 @@ use Rattle.std.proofs.lemmas.Bool.{cond_both}
 use Rattle.std.proofs.lemmas.List.{append-nil, take_all}
 use Rattle.key_lists.specs.Pairs.{Pair, is_before}
 use Rattle.key_lists.specs.Rising.{AllBefore, AllAfter, IsRising, place_of, last_of, has, without_pair}
-use Rattle.ndx_tree.specs.Pages.{PageView, joined, pairs_of, height_of, IsCut, IsChild, AreChildren, IsPage, AreBut, AreApart}
+use Rattle.ndx_tree.specs.Pages.{PageView, pairs_of_pages, pairs_of, height_of, IsCut, IsChild, AreChildren, IsFramedPage, AreBut, AreChildrenBesides}
 use Rattle.key_lists.proofs.Rises.{rising_front, rising_back, rising_before_last, last_back, last_some, last_rest, last_of_take}
 use Rattle.ndx_tree.proofs.Cut.{cut_length}
 use Rattle.ndx_tree.proofs.Divide.{least_pairs_pos}
@@ -76,26 +76,26 @@ remove_at_place x (y ∷ l) h =
     ]) h
 
 -- the child at x's place loses x: so does the page
-pub has_in_child : (x : Pair) (ss : List Pair) (cs : List PageView) (d : PageView) → IsCut ss cs → IsRising (joined cs) → has x (joined cs) ≡ has x (get_or cs (place_of x ss) d).pairs
+pub has_in_child : (x : Pair) (ss : List Pair) (cs : List PageView) (d : PageView) → IsCut ss cs → IsRising (pairs_of_pages cs) → has x (pairs_of_pages cs) ≡ has x (get_or cs (place_of x ss) d).pairs
 has_in_child x [] [] d h r = absurd h
 has_in_child x [] (c ∷ []) d h r = ap (has x) (append-nil c.pairs)
 has_in_child x [] (c ∷ b ∷ cs) d h r = absurd h
 has_in_child x (s ∷ ss) [] d h r = absurd h
 has_in_child x (s ∷ ss) (c ∷ cs) d h r =
-    (elim (is_before s x) as (λ b. is_before s x ≡ b → has x (joined (c ∷ cs)) ≡ has x (get_or (c ∷ cs) (cond b (suc (place_of x ss)) 0) d).pairs) [
-      | true ↦ λ p. has_behind x c.pairs (joined cs) (rising_before_last s x c.pairs h.0 (rising_front c.pairs _ r) p) ∙ has_in_child x ss cs d h.1 (rising_back c.pairs _ r)
-      | false ↦ λ p. has_within x s c.pairs (joined cs) h.0 p
+    (elim (is_before s x) as (λ b. is_before s x ≡ b → has x (pairs_of_pages (c ∷ cs)) ≡ has x (get_or (c ∷ cs) (cond b (suc (place_of x ss)) 0) d).pairs) [
+      | true ↦ λ p. has_behind x c.pairs (pairs_of_pages cs) (rising_before_last s x c.pairs h.0 (rising_front c.pairs _ r) p) ∙ has_in_child x ss cs d h.1 (rising_back c.pairs _ r)
+      | false ↦ λ p. has_within x s c.pairs (pairs_of_pages cs) h.0 p
     ]) refl
 
-pub shrunk_pairs : (x : Pair) (ss : List Pair) (cs : List PageView) (a d : PageView) → IsCut ss cs → IsRising (joined cs) → a.pairs ≡ without_pair x (get_or cs (place_of x ss) d).pairs → joined (set cs (place_of x ss) a) ≡ without_pair x (joined cs)
+pub shrunk_pairs : (x : Pair) (ss : List Pair) (cs : List PageView) (a d : PageView) → IsCut ss cs → IsRising (pairs_of_pages cs) → a.pairs ≡ without_pair x (get_or cs (place_of x ss) d).pairs → pairs_of_pages (set cs (place_of x ss) a) ≡ without_pair x (pairs_of_pages cs)
 shrunk_pairs x [] [] a d h r e = absurd h
 shrunk_pairs x [] (c ∷ []) a d h r e = append-nil a.pairs ∙ e ∙ ap (without_pair x) (sym (append-nil c.pairs))
 shrunk_pairs x [] (c ∷ b ∷ cs) a d h r e = absurd h
 shrunk_pairs x (s ∷ ss) [] a d h r e = absurd h
 shrunk_pairs x (s ∷ ss) (c ∷ cs) a d h r e =
-    (elim (is_before s x) as (λ b. is_before s x ≡ b → a.pairs ≡ without_pair x (get_or (c ∷ cs) (cond b (suc (place_of x ss)) 0) d).pairs → joined (set (c ∷ cs) (cond b (suc (place_of x ss)) 0) a) ≡ without_pair x (joined (c ∷ cs))) [
-      | true ↦ λ p e. ap (λ (m : List Pair). c.pairs ++ m) (shrunk_pairs x ss cs a d h.1 (rising_back c.pairs _ r) e) ∙ sym (without_behind x c.pairs (joined cs) (rising_before_last s x c.pairs h.0 (rising_front c.pairs _ r) p))
-      | false ↦ λ p e. ap (λ (m : List Pair). m ++ joined cs) e ∙ sym (without_within x s c.pairs (joined cs) h.0 p)
+    (elim (is_before s x) as (λ b. is_before s x ≡ b → a.pairs ≡ without_pair x (get_or (c ∷ cs) (cond b (suc (place_of x ss)) 0) d).pairs → pairs_of_pages (set (c ∷ cs) (cond b (suc (place_of x ss)) 0) a) ≡ without_pair x (pairs_of_pages (c ∷ cs))) [
+      | true ↦ λ p e. ap (λ (m : List Pair). c.pairs ++ m) (shrunk_pairs x ss cs a d h.1 (rising_back c.pairs _ r) e) ∙ sym (without_behind x c.pairs (pairs_of_pages cs) (rising_before_last s x c.pairs h.0 (rising_front c.pairs _ r) p))
+      | false ↦ λ p e. ap (λ (m : List Pair). m ++ pairs_of_pages cs) e ∙ sym (without_within x s c.pairs (pairs_of_pages cs) h.0 p)
     ]) refl e
 
 -- a child and the separator after it are replaced
@@ -121,20 +121,20 @@ merged_cut zero (s ∷ []) (c ∷ f ∷ g ∷ cs) n d h p e = absurd h.1
 merged_cut zero (s ∷ t ∷ ss) (c ∷ f ∷ cs) n d h p e = (ap last_of e ∙ last_back t c.pairs f.pairs h.1.0, h.1.1)
 merged_cut (suc i) (s ∷ ss) (c ∷ f ∷ cs) n d h p e = (h.0, merged_cut i ss (f ∷ cs) n d h.1 (omega arith) e)
 
-pub merged_pairs : (i : ℕ) (cs : List PageView) (n d : PageView) → suc i < length cs → n.pairs ≡ (get_or cs i d).pairs ++ (get_or cs (suc i) d).pairs → joined (merged cs i n) ≡ joined cs
+pub merged_pairs : (i : ℕ) (cs : List PageView) (n d : PageView) → suc i < length cs → n.pairs ≡ (get_or cs i d).pairs ++ (get_or cs (suc i) d).pairs → pairs_of_pages (merged cs i n) ≡ pairs_of_pages cs
 merged_pairs i [] n d p e = absurd (omega arith)
 merged_pairs i (c ∷ []) n d p e = absurd (omega arith)
-merged_pairs zero (c ∷ f ∷ cs) n d p e = ap (λ (m : List Pair). m ++ joined cs) e ∙ append_assoc c.pairs f.pairs (joined cs)
+merged_pairs zero (c ∷ f ∷ cs) n d p e = ap (λ (m : List Pair). m ++ pairs_of_pages cs) e ∙ append_assoc c.pairs f.pairs (pairs_of_pages cs)
 merged_pairs (suc i) (c ∷ f ∷ cs) n d p e = ap (λ (m : List Pair). c.pairs ++ m) (merged_pairs i (f ∷ cs) n d (omega arith) e)
 
 -- the children i and i + 1 become a and b
 abbrev pub reparted : List PageView → ℕ → PageView → PageView → List PageView
 reparted cs i a b = take (suc i) (merged cs i a) ++ b ∷ drop (suc i) (merged cs i a)
 
-pub reparted_pairs : (i : ℕ) (cs : List PageView) (a b d : PageView) → suc i < length cs → a.pairs ++ b.pairs ≡ (get_or cs i d).pairs ++ (get_or cs (suc i) d).pairs → joined (reparted cs i a b) ≡ joined cs
+pub reparted_pairs : (i : ℕ) (cs : List PageView) (a b d : PageView) → suc i < length cs → a.pairs ++ b.pairs ≡ (get_or cs i d).pairs ++ (get_or cs (suc i) d).pairs → pairs_of_pages (reparted cs i a b) ≡ pairs_of_pages cs
 reparted_pairs i [] a b d p e = absurd (omega arith)
 reparted_pairs i (c ∷ []) a b d p e = absurd (omega arith)
-reparted_pairs zero (c ∷ f ∷ cs) a b d p e = sym (append_assoc a.pairs b.pairs (joined cs)) ∙ ap (λ (m : List Pair). m ++ joined cs) e ∙ append_assoc c.pairs f.pairs (joined cs)
+reparted_pairs zero (c ∷ f ∷ cs) a b d p e = sym (append_assoc a.pairs b.pairs (pairs_of_pages cs)) ∙ ap (λ (m : List Pair). m ++ pairs_of_pages cs) e ∙ append_assoc c.pairs f.pairs (pairs_of_pages cs)
 reparted_pairs (suc i) (c ∷ f ∷ cs) a b d p e = ap (λ (m : List Pair). c.pairs ++ m) (reparted_pairs i (f ∷ cs) a b d (omega arith) e)
 
 abbrev pub cut_out : List Pair → ℕ → List Pair
@@ -178,19 +178,19 @@ but_other h m zero (suc j) (c ∷ cs) d a p n = child_there h m cs j d a (omega 
 but_other h m (suc i) zero (c ∷ cs) d a p n = a.0
 but_other h m (suc i) (suc j) (c ∷ cs) d a p n = but_other h m i j cs d a.1 (omega arith) (λ e. n (ap suc e))
 
-pub apart_left : (h m i : ℕ) (cs : List PageView) → AreBut h m i cs → suc i < length cs → AreApart h m i cs
+pub apart_left : (h m i : ℕ) (cs : List PageView) → AreBut h m i cs → suc i < length cs → AreChildrenBesides h m i cs
 apart_left h m i [] a p = tt
 apart_left h m i (c ∷ []) a p = absurd (omega arith)
 apart_left h m zero (c ∷ f ∷ cs) a p = a.1
 apart_left h m (suc i) (c ∷ f ∷ cs) a p = (a.0, apart_left h m i (f ∷ cs) a.1 (omega arith))
 
-pub apart_right : (h m i : ℕ) (cs : List PageView) → AreBut h m (suc i) cs → suc i < length cs → AreApart h m i cs
+pub apart_right : (h m i : ℕ) (cs : List PageView) → AreBut h m (suc i) cs → suc i < length cs → AreChildrenBesides h m i cs
 apart_right h m i [] a p = tt
 apart_right h m i (c ∷ []) a p = absurd (omega arith)
 apart_right h m zero (c ∷ f ∷ cs) a p = a.1
 apart_right h m (suc i) (c ∷ f ∷ cs) a p = (a.0, apart_right h m i (f ∷ cs) a.1 (omega arith))
 
-pub merged_children : (h m i : ℕ) (cs : List PageView) (n : PageView) → AreApart h m i cs → suc i < length cs → IsChild h m n → AreChildren h m (merged cs i n)
+pub merged_children : (h m i : ℕ) (cs : List PageView) (n : PageView) → AreChildrenBesides h m i cs → suc i < length cs → IsChild h m n → AreChildren h m (merged cs i n)
 merged_children h m i [] n a p q = absurd (omega arith)
 merged_children h m i (c ∷ []) n a p q = absurd (omega arith)
 merged_children h m zero (c ∷ f ∷ cs) n a p q = (q, a)
@@ -203,14 +203,14 @@ merged_length zero (c ∷ f ∷ cs) n p = omega arith
 merged_length (suc i) (c ∷ f ∷ cs) n p = omega (arith, merged_length i (f ∷ cs) n (omega arith))
 
 -- the entries of two pages side by side, with the separator between them
-pub cut_append : (h m : ℕ) (ss ts : List Pair) (cs ds : List PageView) (s : Pair) → IsCut ss cs → IsCut ts ds → AreChildren h m cs → last_of (joined cs) ≡ Some s → IsCut (ss ++ s ∷ ts) (cs ++ ds)
+pub cut_append : (h m : ℕ) (ss ts : List Pair) (cs ds : List PageView) (s : Pair) → IsCut ss cs → IsCut ts ds → AreChildren h m cs → last_of (pairs_of_pages cs) ≡ Some s → IsCut (ss ++ s ∷ ts) (cs ++ ds)
 cut_append h m [] ts [] ds s q r a l = absurd q
 cut_append h m [] ts (c ∷ []) ds s q r a l = (ap last_of (sym (append-nil c.pairs)) ∙ l, r)
 cut_append h m [] ts (c ∷ b ∷ cs) ds s q r a l = absurd q
 cut_append h m (t ∷ ss) ts [] ds s q r a l = absurd q
 cut_append h m (t ∷ ss) ts (c ∷ []) ds s q r a l = absurd (omega (arith, cut_length ss [] q.1))
 cut_append h m (t ∷ ss) ts (c ∷ b ∷ cs) ds s q r a l =
-    (q.0, cut_append h m ss ts (b ∷ cs) ds s q.1 r a.1 (last_some s c.pairs (joined (b ∷ cs)) l (omega (arith, a.1.0.filled, least_pairs_pos h, length-append b.pairs (joined cs)))))
+    (q.0, cut_append h m ss ts (b ∷ cs) ds s q.1 r a.1 (last_some s c.pairs (pairs_of_pages (b ∷ cs)) l (omega (arith, a.1.0.filled, least_pairs_pos h, length-append b.pairs (pairs_of_pages cs)))))
 
 pub last_index : (l : List Pair) (d : Pair) → 0 < length l → last_of l ≡ Some (get_or l (length l - 1) d)
 last_index l d n =
@@ -218,11 +218,11 @@ last_index l d n =
     let all : take (suc (length l - 1)) l ≡ l = take_all (suc (length l - 1)) l (omega arith) in
     sym (ap last_of all) ∙ last_of_take (length l - 1) l d (omega arith)
 
-last_of_joined : (h m : ℕ) (c : PageView) (cs : List PageView) (d : PageView) → AreChildren h m (c ∷ cs) → last_of (joined (c ∷ cs)) ≡ last_of (get_or (c ∷ cs) (length cs) d).pairs
+last_of_joined : (h m : ℕ) (c : PageView) (cs : List PageView) (d : PageView) → AreChildren h m (c ∷ cs) → last_of (pairs_of_pages (c ∷ cs)) ≡ last_of (get_or (c ∷ cs) (length cs) d).pairs
 last_of_joined h m c [] d a = ap last_of (append-nil c.pairs)
-last_of_joined h m c (b ∷ cs) d a = last_rest c.pairs (joined (b ∷ cs)) (omega (arith, a.1.0.filled, least_pairs_pos h, length-append b.pairs (joined cs))) ∙ last_of_joined h m b cs d a.1
+last_of_joined h m c (b ∷ cs) d a = last_rest c.pairs (pairs_of_pages (b ∷ cs)) (omega (arith, a.1.0.filled, least_pairs_pos h, length-append b.pairs (pairs_of_pages cs))) ∙ last_of_joined h m b cs d a.1
 
-pub last_child : (m : ℕ) (es : List Pair) (cs : List PageView) (d : PageView) → IsPage m es cs → 0 < length cs → (last_of (pairs_of es cs) ≡ last_of (get_or cs (length cs - 1) d).pairs) × (0 < length (get_or cs (length cs - 1) d).pairs) × (height_of cs ≡ (get_or cs (length cs - 1) d).height + 1)
+pub last_child : (m : ℕ) (es : List Pair) (cs : List PageView) (d : PageView) → IsFramedPage m es cs → 0 < length cs → (last_of (pairs_of es cs) ≡ last_of (get_or cs (length cs - 1) d).pairs) × (0 < length (get_or cs (length cs - 1) d).pairs) × (height_of cs ≡ (get_or cs (length cs - 1) d).height + 1)
 last_child m es [] d p n = absurd (omega arith)
 last_child m es (c ∷ cs) d p n =
     let i : length (c ∷ cs) - 1 ≡ length cs = omega arith in

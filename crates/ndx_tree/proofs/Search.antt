@@ -12,7 +12,7 @@ use Rattle.key_lists.specs.Pairs.{key_before, pairs_from}
 use Rattle.key_lists.proofs.Ordered.{Each-map, below-parted}
 use Rattle.key_lists.specs.Pairs.{Pair, is_before}
 use Rattle.key_lists.specs.Rising.{AllBefore, IsRising, place_of, last_of, first_from, last_below}
-use Rattle.ndx_tree.specs.Pages.{PageView, joined, IsCut}
+use Rattle.ndx_tree.specs.Pages.{PageView, pairs_of_pages, IsCut}
 use Rattle.key_lists.proofs.Rises.{last_back, last_only, before_trans, rising_front, rising_back, rising_before_last}
 
 pub first_at_place : (x : Pair) (l : List Pair) (d : Pair) → place_of x l < length l → first_from x l ≡ Some (get_or l (place_of x l) d)
@@ -41,15 +41,15 @@ first_within x s (y ∷ []) r e p = let q : y ≡ s = cc in let h : is_before y 
 first_within x s (y ∷ z ∷ l) r e p = ap (λ (o : Option Pair). cond (is_before y x) o (Some y)) (first_within x s (z ∷ l) r e p)
 
 -- the search goes into one child alone
-pub first_in_child : (x : Pair) (ss : List Pair) (cs : List PageView) (d : PageView) → IsCut ss cs → IsRising (joined cs) → first_from x (joined cs) ≡ first_from x (get_or cs (place_of x ss) d).pairs
+pub first_in_child : (x : Pair) (ss : List Pair) (cs : List PageView) (d : PageView) → IsCut ss cs → IsRising (pairs_of_pages cs) → first_from x (pairs_of_pages cs) ≡ first_from x (get_or cs (place_of x ss) d).pairs
 first_in_child x [] [] d h r = absurd h
 first_in_child x [] (c ∷ []) d h r = ap (first_from x) (append-nil c.pairs)
 first_in_child x [] (c ∷ b ∷ cs) d h r = absurd h
 first_in_child x (s ∷ ss) [] d h r = absurd h
 first_in_child x (s ∷ ss) (c ∷ cs) d h r =
-    (elim (is_before s x) as (λ b. is_before s x ≡ b → first_from x (joined (c ∷ cs)) ≡ first_from x (get_or (c ∷ cs) (cond b (suc (place_of x ss)) 0) d).pairs) [
-      | true ↦ λ p. first_behind x c.pairs (joined cs) (rising_before_last s x c.pairs h.0 (rising_front c.pairs _ r) p) ∙ first_in_child x ss cs d h.1 (rising_back c.pairs _ r)
-      | false ↦ λ p. first_within x s c.pairs (joined cs) h.0 p
+    (elim (is_before s x) as (λ b. is_before s x ≡ b → first_from x (pairs_of_pages (c ∷ cs)) ≡ first_from x (get_or (c ∷ cs) (cond b (suc (place_of x ss)) 0) d).pairs) [
+      | true ↦ λ p. first_behind x c.pairs (pairs_of_pages cs) (rising_before_last s x c.pairs h.0 (rising_front c.pairs _ r) p) ∙ first_in_child x ss cs d h.1 (rising_back c.pairs _ r)
+      | false ↦ λ p. first_within x s c.pairs (pairs_of_pages cs) h.0 p
     ]) refl
 
 -- what stands before x at the front
@@ -81,32 +81,32 @@ last_append l [] = ap last_of (append-nil l)
 last_append l (y ∷ m) = last_only l y m ∙ sym (last_is y m (last_of l))
 
 -- what the child at x's place finds below x, the page finds
-pub below_in_child : (x t : Pair) (ss : List Pair) (cs : List PageView) (d : PageView) → IsCut ss cs → IsRising (joined cs) → last_below x (get_or cs (place_of x ss) d).pairs ≡ Some t → last_below x (joined cs) ≡ Some t
+pub below_in_child : (x t : Pair) (ss : List Pair) (cs : List PageView) (d : PageView) → IsCut ss cs → IsRising (pairs_of_pages cs) → last_below x (get_or cs (place_of x ss) d).pairs ≡ Some t → last_below x (pairs_of_pages cs) ≡ Some t
 below_in_child x t [] [] d h r e = absurd h
 below_in_child x t [] (c ∷ []) d h r e = ap (last_below x) (append-nil c.pairs) ∙ e
 below_in_child x t [] (c ∷ b ∷ cs) d h r e = absurd h
 below_in_child x t (s ∷ ss) [] d h r e = absurd h
 below_in_child x t (s ∷ ss) (c ∷ cs) d h r e =
-    (elim (is_before s x) as (λ b. is_before s x ≡ b → last_below x (get_or (c ∷ cs) (cond b (suc (place_of x ss)) 0) d).pairs ≡ Some t → last_below x (joined (c ∷ cs)) ≡ Some t) [
-      | true ↦ λ p e. ap last_of (taken_behind x c.pairs (joined cs) (rising_before_last s x c.pairs h.0 (rising_front c.pairs _ r) p)) ∙ last_back t c.pairs _ (below_in_child x t ss cs d h.1 (rising_back c.pairs _ r) e)
-      | false ↦ λ p e. ap last_of (taken_within x s c.pairs (joined cs) h.0 p) ∙ e
+    (elim (is_before s x) as (λ b. is_before s x ≡ b → last_below x (get_or (c ∷ cs) (cond b (suc (place_of x ss)) 0) d).pairs ≡ Some t → last_below x (pairs_of_pages (c ∷ cs)) ≡ Some t) [
+      | true ↦ λ p e. ap last_of (taken_behind x c.pairs (pairs_of_pages cs) (rising_before_last s x c.pairs h.0 (rising_front c.pairs _ r) p)) ∙ last_back t c.pairs _ (below_in_child x t ss cs d h.1 (rising_back c.pairs _ r) e)
+      | false ↦ λ p e. ap last_of (taken_within x s c.pairs (pairs_of_pages cs) h.0 p) ∙ e
     ]) refl e
 
 -- where it finds none, the separator before the child is what the page finds
-pub below_at_place : (x : Pair) (ss : List Pair) (cs : List PageView) (d : PageView) → IsCut ss cs → IsRising (joined cs) → last_below x (get_or cs (place_of x ss) d).pairs ≡ None → last_below x (joined cs) ≡ last_of (take (place_of x ss) ss)
+pub below_at_place : (x : Pair) (ss : List Pair) (cs : List PageView) (d : PageView) → IsCut ss cs → IsRising (pairs_of_pages cs) → last_below x (get_or cs (place_of x ss) d).pairs ≡ None → last_below x (pairs_of_pages cs) ≡ last_of (take (place_of x ss) ss)
 below_at_place x [] [] d h r e = absurd h
 below_at_place x [] (c ∷ []) d h r e = ap (last_below x) (append-nil c.pairs) ∙ e
 below_at_place x [] (c ∷ b ∷ cs) d h r e = absurd h
 below_at_place x (s ∷ ss) [] d h r e = absurd h
 below_at_place x (s ∷ ss) (c ∷ cs) d h r e =
-    (elim (is_before s x) as (λ b. is_before s x ≡ b → last_below x (get_or (c ∷ cs) (cond b (suc (place_of x ss)) 0) d).pairs ≡ None → last_below x (joined (c ∷ cs)) ≡ last_of (take (cond b (suc (place_of x ss)) 0) (s ∷ ss))) [
+    (elim (is_before s x) as (λ b. is_before s x ≡ b → last_below x (get_or (c ∷ cs) (cond b (suc (place_of x ss)) 0) d).pairs ≡ None → last_below x (pairs_of_pages (c ∷ cs)) ≡ last_of (take (cond b (suc (place_of x ss)) 0) (s ∷ ss))) [
       | true ↦ λ p e.
-          ap last_of (taken_behind x c.pairs (joined cs) (rising_before_last s x c.pairs h.0 (rising_front c.pairs _ r) p))
-          ∙ last_append c.pairs (take (place_of x (joined cs)) (joined cs))
+          ap last_of (taken_behind x c.pairs (pairs_of_pages cs) (rising_before_last s x c.pairs h.0 (rising_front c.pairs _ r) p))
+          ∙ last_append c.pairs (take (place_of x (pairs_of_pages cs)) (pairs_of_pages cs))
           ∙ ap (λ (o : Option Pair). or_last o (last_of c.pairs)) (below_at_place x ss cs d h.1 (rising_back c.pairs _ r) e)
           ∙ ap (or_last (last_of (take (place_of x ss) ss))) h.0
           ∙ sym (last_append (s ∷ []) (take (place_of x ss) ss))
-      | false ↦ λ p e. ap last_of (taken_within x s c.pairs (joined cs) h.0 p) ∙ e
+      | false ↦ λ p e. ap last_of (taken_within x s c.pairs (pairs_of_pages cs) h.0 p) ∙ e
     ]) refl e
 
 -- ---- searches of a whole list

@@ -15,7 +15,7 @@ use Rattle.key_lists.specs.Order.{Each, without}
 use Rattle.key_lists.specs.Rising.{has}
 use Rattle.key_lists.specs.KeyForm.{KeyForm, IsKeyList, IsKeyLength, IsPairOf}
 use Rattle.ndx_tree.specs.Blanks.{IsPool, IsBlank, IsInnerBlank}
-use Rattle.ndx_tree.specs.declared.page.Pool.{Pool}
+use Rattle.ndx_tree.specs.declared.page.SparePages.{SparePages}
 use Rattle.key_lists.proofs.Ordered.{Each-map, absent-Each, filter-all, differs, without-absent}
 use Rattle.key_lists.proofs.PairOrder.{is_before_strict}
 use Rattle.key_lists.proofs.Members.{Contains-here, Contains-later}
@@ -82,14 +82,14 @@ pub most_high : (k : ℕ) → most_entries k ≤ 504
 unfolding most_entries
 most_high k = div-le_self 504 (entry_size k)
 
-pub tree_low : (form : KeyForm) (root : PageView) (pool : Pool) (n : ℕ) → IsTree form root pool n → root.height ≤ 20
+pub tree_low : (form : KeyForm) (root : PageView) (pool : SparePages) (n : ℕ) → IsTree form root pool n → root.height ≤ 20
 tree_low form root pool n t = root_low root.height (length root.pairs) t.top.tall (omega (arith, t.few))
 
-pub tree_most : (form : KeyForm) (root : PageView) (pool : Pool) (n : ℕ) → IsTree form root pool n → (4 ≤ root.most) × (root.most ≤ 504)
+pub tree_most : (form : KeyForm) (root : PageView) (pool : SparePages) (n : ℕ) → IsTree form root pool n → (4 ≤ root.most) × (root.most ≤ 504)
 tree_most form root pool n t = (omega (arith, t.most, most_low form.key_length t.list.key_length.1), omega (arith, t.most, most_high form.key_length))
 
 -- a root over pairs that rise, with no page that stands ready
-pub tree_built : (form : KeyForm) (root : PageView) (pool : Pool) (pairs : List Pair) → IsKeyLength form.key_length → (Contains form.key_text 0 → ⊥) → Each (IsPairOf form.key_length) pairs → IsRising pairs → length pairs < 2 ^ 32 → IsRoot root → root.pairs ≡ pairs → root.most ≡ most_entries form.key_length → pool.leaves.items ≡ [] → pool.inner.items ≡ [] → IsTree form root pool 0
+pub tree_built : (form : KeyForm) (root : PageView) (pool : SparePages) (pairs : List Pair) → IsKeyLength form.key_length → (Contains form.key_text 0 → ⊥) → Each (IsPairOf form.key_length) pairs → IsRising pairs → length pairs < 2 ^ 32 → IsRoot root → root.pairs ≡ pairs → root.most ≡ most_entries form.key_length → pool.leaves.items ≡ [] → pool.inner.items ≡ [] → IsTree form root pool 0
 tree_built form root pool pairs fits text keys rising few top is most leaves inner = record {
   list = subst (IsKeyList form) (sym is) (record { key_length = fits; ordered = rising; keys = keys });
   text = text;
@@ -102,7 +102,7 @@ tree_built form root pool pairs fits text keys rising few top is most leaves inn
 }
 
 -- a root that took a pair
-pub tree_kept : (form : KeyForm) (root new : PageView) (pool pool2 : Pool) (n m : ℕ) (x : Pair) → IsTree form root pool n → 0 < n → m ≡ n - 1 → IsPairOf form.key_length x → IsAbsent x root.pairs → Inserts root x new None → IsPool root.most pool2 → IsTree form new pool2 m
+pub tree_kept : (form : KeyForm) (root new : PageView) (pool pool2 : SparePages) (n m : ℕ) (x : Pair) → IsTree form root pool n → 0 < n → m ≡ n - 1 → IsPairOf form.key_length x → IsAbsent x root.pairs → Inserts root x new None → IsPool root.most pool2 → IsTree form new pool2 m
 tree_kept form root new pool pool2 n m x t some e fits a i p = record {
   list = subst (IsKeyList form) (sym i.0) (IsKeyList-inserted form x root.pairs fits (absent-Each root.pairs x a) t.list);
   text = t.text;
@@ -115,7 +115,7 @@ tree_kept form root new pool pool2 n m x t some e fits a i p = record {
 }
 
 -- a root that was split under a new one
-pub tree_grown : (form : KeyForm) (root left right top : PageView) (pool pool2 : Pool) (n m : ℕ) (s x : Pair) → IsTree form root pool n → 0 < n → m ≡ n - 1 → IsPairOf form.key_length x → IsAbsent x root.pairs → Inserts root x left (Some (s, right)) → top.pairs ≡ left.pairs ++ right.pairs → top.height ≡ left.height + 1 → top.most ≡ left.most → top.count ≡ 1 → IsPool left.most pool2 → IsTree form top pool2 m
+pub tree_grown : (form : KeyForm) (root left right top : PageView) (pool pool2 : SparePages) (n m : ℕ) (s x : Pair) → IsTree form root pool n → 0 < n → m ≡ n - 1 → IsPairOf form.key_length x → IsAbsent x root.pairs → Inserts root x left (Some (s, right)) → top.pairs ≡ left.pairs ++ right.pairs → top.height ≡ left.height + 1 → top.most ≡ left.most → top.count ≡ 1 → IsPool left.most pool2 → IsTree form top pool2 m
 tree_grown form root left right top pool pool2 n m s x t some e fits a i pairs height most count p =
     let whole : top.pairs ≡ with_pair x root.pairs = pairs ∙ i.0 in
     record {
@@ -185,7 +185,7 @@ pub record IsOut (form : KeyForm) (root new : PageView) (x : Pair) : Type 0 wher
   pub list : IsKeyList form new.pairs
   pub shorter : length new.pairs + 1 ≡ length root.pairs
 
-pub is_out : (form : KeyForm) (root new : PageView) (pool : Pool) (n : ℕ) (x : Pair) → IsTree form root pool n → Removes root x new true → IsOut form root new x
+pub is_out : (form : KeyForm) (root new : PageView) (pool : SparePages) (n : ℕ) (x : Pair) → IsTree form root pool n → Removes root x new true → IsOut form root new x
 is_out form root new pool n x t r =
     let e : new.pairs ≡ without is_before x root.pairs = r.1 ∙ without_is x root.pairs t.top.rising in
     record {
@@ -196,12 +196,12 @@ is_out form root new pool n x t r =
     }
 
 -- and where it finds none
-pub is_not_in : (form : KeyForm) (root new : PageView) (pool : Pool) (n : ℕ) (x : Pair) → IsTree form root pool n → Removes root x new false → (Contains root.pairs x → ⊥) × (new.pairs ≡ without is_before x root.pairs)
+pub is_not_in : (form : KeyForm) (root new : PageView) (pool : SparePages) (n : ℕ) (x : Pair) → IsTree form root pool n → Removes root x new false → (Contains root.pairs x → ⊥) × (new.pairs ≡ without is_before x root.pairs)
 is_not_in form root new pool n x t r =
     let a = has_no x root.pairs t.top.rising r.0 in
     (absent-Each root.pairs x a, ap (λ (v : PageView). v.pairs) r.1 ∙ sym (without-absent is_before is_before_strict x root.pairs a))
 
-pub tree_lost : (form : KeyForm) (root new : PageView) (pool : Pool) (n : ℕ) (x : Pair) → IsTree form root pool n → Removes root x new true → (1 < new.height → 0 < new.count) → IsTree form new pool n
+pub tree_lost : (form : KeyForm) (root new : PageView) (pool : SparePages) (n : ℕ) (x : Pair) → IsTree form root pool n → Removes root x new true → (1 < new.height → 0 < new.count) → IsTree form new pool n
 tree_lost form root new pool n x t r inner =
     let out = is_out form root new pool n x t r in
     record {
@@ -215,7 +215,7 @@ tree_lost form root new pool n x t r inner =
       few = omega (arith, t.few, out.shorter);
     }
 
-pub tree_lowered : (form : KeyForm) (root new low : PageView) (pool : Pool) (n : ℕ) (x : Pair) → IsTree form root pool n → Removes root x new true → low.pairs ≡ new.pairs → new.height ≡ low.height + 1 → IsChild low.height new.most low → IsTree form low pool n
+pub tree_lowered : (form : KeyForm) (root new low : PageView) (pool : SparePages) (n : ℕ) (x : Pair) → IsTree form root pool n → Removes root x new true → low.pairs ≡ new.pairs → new.height ≡ low.height + 1 → IsChild low.height new.most low → IsTree form low pool n
 tree_lowered form root new low pool n x t r pairs height k =
     let out = is_out form root new pool n x t r in
     let most = tree_most form root pool n t in

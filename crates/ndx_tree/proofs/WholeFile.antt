@@ -8,7 +8,7 @@ use Rattle.key_lists.specs.KeyForm.{KeyForm}
 use Rattle.key_lists.specs.Rising.{IsRising}
 use Rattle.ndx_tree.specs.Pages.{PageView}
 use Rattle.ndx_tree.specs.Trees.{IsTree}
-use Rattle.ndx_tree.specs.declared.page.Pool.{Pool}
+use Rattle.ndx_tree.specs.declared.page.SparePages.{SparePages}
 use Rattle.ndx_tree.specs.IndexFile.{IsIndexFile, IsBelow, page_count}
 use Rattle.ndx_tree.specs.Writes.{IsWritten, IsPageText}
 use Rattle.key_lists.specs.Order.{Each}
@@ -17,7 +17,7 @@ use Rattle.ndx_tree.proofs.TreeLemmas.{tree_low}
 use Rattle.ndx_tree.proofs.HeadFront.{head_front, four_front}
 use Rattle.ndx_tree.proofs.Writing.{last_bounds}
 
-pub file_written : (form : KeyForm) (root : PageView) (pool : Pool) (reserved n : ℕ) (head : Head) (front body bytes : List ℕ) → IsTree form root pool reserved → IsWritten form.key_length 0 n body root → length body ≡ n * 512 → IsHead front head → length front ≡ 512 → head.length ≡ form.key_length → head.root ≡ n → head.text.items ≡ form.key_text → bytes ≡ front ++ body → (file : IsIndexFile bytes form root.pairs) × (length file.tree.reached ≡ n)
+pub file_written : (form : KeyForm) (root : PageView) (pool : SparePages) (reserved n : ℕ) (head : Head) (front body bytes : List ℕ) → IsTree form root pool reserved → IsWritten form.key_length 0 n body root → length body ≡ n * 512 → IsHead front head → length front ≡ 512 → head.length ≡ form.key_length → head.root ≡ n → head.text.items ≡ form.key_text → bytes ≡ front ++ body → (file : IsIndexFile bytes form root.pairs) × (length file.tree.reached ≡ n)
 file_written form root pool reserved n head front body bytes t w size is whole l r x e =
     let low = tree_low form root pool reserved t in
     let count : length bytes ≡ 512 + n * 512 = ap (λ (m : List ℕ). length m) e ∙ length-append front body ∙ omega (arith, whole, size) in

@@ -15,8 +15,8 @@ use Rattle.ndx_tree.proofs.Between.{take_next}
 use Rattle.key_lists.specs.Order.{Each}
 use Rattle.key_lists.specs.Pairs.{Pair, is_before, key_before}
 use Rattle.key_lists.specs.Rising.{IsRising, last_of}
-use Rattle.ndx_tree.specs.Pages.{PageView, joined, view_of, IsPage, IsChild}
-use Rattle.ndx_tree.specs.IndexFile.{Item, Listed, Between, listed, Link, links, behind, leaf_pairs, all_listed, AreBelow, IsNode, IsBelow, AreFresh, is_listed, page_at, AreBounds}
+use Rattle.ndx_tree.specs.Pages.{PageView, pairs_of_pages, view_of, IsFramedPage, IsChild}
+use Rattle.ndx_tree.specs.IndexFile.{Item, Listed, Between, listed, Link, links, separator_items, leaf_pairs, all_listed, AreBelow, IsNode, IsBelow, AreFresh, is_listed, page_at, AreBounds}
 use Rattle.ndx_tree.specs.Writes.{AreLast, AreGiven, AreOthers, IsWritten, AreWritten, entry_links, IsAppended, IsLink}
 use Rattle.ndx_tree.specs.IndexText.{IsOwnPage}
 use Rattle.key_lists.proofs.Ordered.{Each-map, Each-append, Each-append_left, Each-append_right, Each-at}
@@ -103,13 +103,13 @@ AreBelow-append R (c ∷ a) b r1 r2 i1 i2 p q = (
   p.2,
   p.3 ++ i2,
   ap (λ (m : List ℕ). m ++ r2) p.4 ∙ append_assoc p.0 p.1 r2,
-  ap (λ (m : List Item). m ++ i2) p.5 ∙ append_assoc p.2 (behind c.1 ++ p.3) i2 ∙ ap (λ (m : List Item). p.2 ++ m) (append_assoc (behind c.1) p.3 i2),
+  ap (λ (m : List Item). m ++ i2) p.5 ∙ append_assoc p.2 (separator_items c.1 ++ p.3) i2 ∙ ap (λ (m : List Item). p.2 ++ m) (append_assoc (separator_items c.1) p.3 i2),
   p.6,
   AreBelow-append R a b p.1 r2 p.3 i2 p.7 q,
 )
 
-one_below : (R : ℕ → List ℕ → List Item → Type 0) (c : Link) (r : List ℕ) (i : List Item) → R c.0 r i → AreBelow R (c ∷ []) r (i ++ behind c.1)
-one_below R c r i h = (r, [], i, [], sym (append-nil r), ap (λ (m : List Item). i ++ m) (sym (append-nil (behind c.1))), h, (refl, refl))
+one_below : (R : ℕ → List ℕ → List Item → Type 0) (c : Link) (r : List ℕ) (i : List Item) → R c.0 r i → AreBelow R (c ∷ []) r (i ++ separator_items c.1)
+one_below R c r i h = (r, [], i, [], sym (append-nil r), ap (λ (m : List Item). i ++ m) (sym (append-nil (separator_items c.1))), h, (refl, refl))
 
 links_are : (es : List PageEntry) (last : ℕ) → links es last ≡ entry_links es ++ (let c : Link = (last, None) in c) ∷ []
 links_are [] last = refl
@@ -119,9 +119,9 @@ entry_links_more : (es : List PageEntry) (e : PageEntry) → entry_links (es ++ 
 entry_links_more [] e = refl
 entry_links_more (x ∷ es) e = ap (λ (m : List Link). (let c : Link = (x.child, Some x.key.items) in c) ∷ m) (entry_links_more es e)
 
-joined_more : (cs : List PageView) (c : PageView) → joined (cs ++ c ∷ []) ≡ joined cs ++ c.pairs
+joined_more : (cs : List PageView) (c : PageView) → pairs_of_pages (cs ++ c ∷ []) ≡ pairs_of_pages cs ++ c.pairs
 joined_more [] c = append-nil c.pairs
-joined_more (x ∷ cs) c = ap (λ (m : List Pair). x.pairs ++ m) (joined_more cs c) ∙ sym (append_assoc x.pairs (joined cs) c.pairs)
+joined_more (x ∷ cs) c = ap (λ (m : List Pair). x.pairs ++ m) (joined_more cs c) ∙ sym (append_assoc x.pairs (pairs_of_pages cs) c.pairs)
 
 -- more was written behind
 grown : (front old added new rest : List ℕ) → new ≡ old ++ added → front ++ (old ++ (added ++ rest)) ≡ front ++ (new ++ rest)
@@ -143,7 +143,7 @@ child_written k h first mid n old added new es cs c e s w v grows height le less
   given = Each-append (λ x. (first < x) × (x ≤ n)) w.reached v.reached (given_up first mid n w.reached (omega arith) w.given) (given_down first mid n v.reached le v.given);
   all = omega (arith, w.all, v.all, length-append w.reached v.reached);
   fresh = fresh_both first mid n w.reached v.reached le (omega arith) w.given w.fresh v.fresh;
-  pairs = listed_append w.items (v.items ++ Between e.key.items ∷ []) ∙ ap (λ (m : List Pair). listed w.items ++ m) (listed_append v.items (Between e.key.items ∷ []) ∙ append-nil (listed v.items)) ∙ ap (λ (m : List Pair). m ++ listed v.items) w.pairs ∙ ap (λ (m : List Pair). joined cs ++ m) v.pairs ∙ sym (joined_more cs c);
+  pairs = listed_append w.items (v.items ++ Between e.key.items ∷ []) ∙ ap (λ (m : List Pair). listed w.items ++ m) (listed_append v.items (Between e.key.items ∷ []) ∙ append-nil (listed v.items)) ∙ ap (λ (m : List Pair). m ++ listed v.items) w.pairs ∙ ap (λ (m : List Pair). pairs_of_pages cs ++ m) v.pairs ∙ sym (joined_more cs c);
   last = λ before. AreLast-append before w.items (v.items ++ Between e.key.items ∷ []) (w.last before) (AreLast-append (before ++ listed w.items) v.items (Between e.key.items ∷ []) (v.last (before ++ listed w.items)) ((s, subst (λ (m : List Pair). last_of ((before ++ listed w.items) ++ m) ≡ Some s) (sym v.pairs) (last_back s (before ++ listed w.items) c.pairs last), same), tt));
   entries = Each-append (IsLink k) es (e ∷ []) w.entries ((key, omega (arith, child, less), plain), tt);
 }
@@ -185,7 +185,7 @@ inner_node R here page zero r i p a = absurd (omega arith)
 inner_node R here page (suc last) r i p a = a
 
 -- an inner page
-pub inner_written : (k h first mid n : ℕ) (old added new whole : List ℕ) (cs : List PageView) (c v : PageView) (page : Page) → AreWritten k h first mid old page.entries.items cs → IsWritten k mid n new c → new ≡ old ++ added → c.height ≡ h → first ≤ mid → mid < n → IsAppended k new whole page → page.last ≡ n → length new ≡ n * 512 → v.height ≡ h + 1 → v.pairs ≡ joined (cs ++ c ∷ []) → IsWritten k first (n + 1) whole v
+pub inner_written : (k h first mid n : ℕ) (old added new whole : List ℕ) (cs : List PageView) (c v : PageView) (page : Page) → AreWritten k h first mid old page.entries.items cs → IsWritten k mid n new c → new ≡ old ++ added → c.height ≡ h → first ≤ mid → mid < n → IsAppended k new whole page → page.last ≡ n → length new ≡ n * 512 → v.height ≡ h + 1 → v.pairs ≡ pairs_of_pages (cs ++ c ∷ []) → IsWritten k first (n + 1) whole v
 inner_written k h first mid n old added new whole cs c v page w x grows height le less a last size tall pairs = record {
   reached = (n + 1) ∷ (w.reached ++ x.reached);
   items = w.items ++ x.items;
@@ -207,25 +207,25 @@ inner_written k h first mid n old added new whole cs c v page w x grows height l
   given = ((omega arith, omega arith), Each-append (λ y. (first < y) × (y ≤ n + 1)) w.reached x.reached (given_up first mid (n + 1) w.reached (omega arith) w.given) (given_up first n (n + 1) x.reached (omega arith) (given_down first mid n x.reached le x.given)));
   all = omega (arith, w.all, x.all, length-append w.reached x.reached);
   fresh = fresh_page first n (w.reached ++ x.reached) (omega arith) (fresh_both first mid n w.reached x.reached le (omega arith) w.given w.fresh x.fresh);
-  pairs = listed_append w.items x.items ∙ ap (λ (m : List Pair). m ++ listed x.items) w.pairs ∙ ap (λ (m : List Pair). joined cs ++ m) x.pairs ∙ sym (joined_more cs c) ∙ sym pairs;
+  pairs = listed_append w.items x.items ∙ ap (λ (m : List Pair). m ++ listed x.items) w.pairs ∙ ap (λ (m : List Pair). pairs_of_pages cs ++ m) x.pairs ∙ sym (joined_more cs c) ∙ sym pairs;
   last = λ before. AreLast-append before w.items x.items (w.last before) (x.last (before ++ listed w.items));
 }
 
 -- ---- what a page asks of its children
 
-joined_take : (cs : List PageView) (i : ℕ) (c : PageView) → i < length cs → c ≡ get_or cs i c → joined (take (i + 1) cs) ≡ joined (take i cs) ++ c.pairs
-joined_take cs i c l e = ap joined (take_next cs i c l e) ∙ joined_more (take i cs) c
+joined_take : (cs : List PageView) (i : ℕ) (c : PageView) → i < length cs → c ≡ get_or cs i c → pairs_of_pages (take (i + 1) cs) ≡ pairs_of_pages (take i cs) ++ c.pairs
+joined_take cs i c l e = ap pairs_of_pages (take_next cs i c l e) ∙ joined_more (take i cs) c
 
-joined_rest : (cs : List PageView) (i : ℕ) → length (joined (take i cs)) ≤ length (joined cs)
+joined_rest : (cs : List PageView) (i : ℕ) → length (pairs_of_pages (take i cs)) ≤ length (pairs_of_pages cs)
 joined_rest [] zero = omega arith
 joined_rest [] (suc i) = omega arith
 joined_rest (c ∷ cs) zero = omega arith
-joined_rest (c ∷ cs) (suc i) = omega (arith, joined_rest cs i, length-append c.pairs (joined (take i cs)), length-append c.pairs (joined cs))
+joined_rest (c ∷ cs) (suc i) = omega (arith, joined_rest cs i, length-append c.pairs (pairs_of_pages (take i cs)), length-append c.pairs (pairs_of_pages cs))
 
-each_child : (P : Pair → Type 0) (cs : List PageView) (i : ℕ) (d : PageView) → Each P (joined cs) → i < length cs → Each P (get_or cs i d).pairs
+each_child : (P : Pair → Type 0) (cs : List PageView) (i : ℕ) (d : PageView) → Each P (pairs_of_pages cs) → i < length cs → Each P (get_or cs i d).pairs
 each_child P [] i d e l = absurd (omega arith)
-each_child P (c ∷ cs) zero d e l = Each-append_left P c.pairs (joined cs) e
-each_child P (c ∷ cs) (suc i) d e l = each_child P cs i d (Each-append_right P c.pairs (joined cs) e) (omega arith)
+each_child P (c ∷ cs) zero d e l = Each-append_left P c.pairs (pairs_of_pages cs) e
+each_child P (c ∷ cs) (suc i) d e l = each_child P cs i d (Each-append_right P c.pairs (pairs_of_pages cs) e) (omega arith)
 
 each_last_of : (P : Pair → Type 0) (l : List Pair) (s : Pair) → Each P l → last_of l ≡ Some s → P s
 each_last_of P [] s e f = absurd cc
@@ -239,16 +239,16 @@ pub record IsChildAt (k : ℕ) (now : PageView) (cs : List PageView) (es : List 
   pub some : 0 < c.count
   pub most : c.most ≡ now.most
   pub keys : Each (IsPairOf k) c.pairs
-  pub more : joined (take (i + 1) cs) ≡ joined (take i cs) ++ c.pairs
-  pub fits : length (joined (take i cs)) + length c.pairs ≤ length now.pairs
+  pub more : pairs_of_pages (take (i + 1) cs) ≡ pairs_of_pages (take i cs) ++ c.pairs
+  pub fits : length (pairs_of_pages (take i cs)) + length c.pairs ≤ length now.pairs
   pub two : 2 ≤ length c.pairs
   pub half : now.most / 2 ≤ c.count
   pub separator : (s : Pair) → i < length es → s ≡ get_or es i s → (last_of c.pairs ≡ Some s) × IsPairOf k s
 
-pub child_at_place : (k most : ℕ) (now : PageView) (es : List Pair) (cs : List PageView) (i : ℕ) (c : PageView) → view_of most es cs ≡ now → IsPage most es cs → Each (IsPairOf k) now.pairs → i < length cs → c ≡ get_or cs i c → IsChildAt k now cs es i c
+pub child_at_place : (k most : ℕ) (now : PageView) (es : List Pair) (cs : List PageView) (i : ℕ) (c : PageView) → view_of most es cs ≡ now → IsFramedPage most es cs → Each (IsPairOf k) now.pairs → i < length cs → c ≡ get_or cs i c → IsChildAt k now cs es i c
 child_at_place k most now es [] i c e p keys l is = absurd (omega arith)
 child_at_place k most now es (x ∷ cs) i c e p keys l is =
-    let pairs : now.pairs ≡ joined (x ∷ cs) = sym (ap (λ (v : PageView). v.pairs) e) in
+    let pairs : now.pairs ≡ pairs_of_pages (x ∷ cs) = sym (ap (λ (v : PageView). v.pairs) e) in
     let one : IsChild x.height most c = subst (IsChild x.height most) (sym is) (child_at x.height most (x ∷ cs) i c p.framed.1 l) in
     let mine : Each (IsPairOf k) c.pairs = subst (λ (v : PageView). Each (IsPairOf k) v.pairs) (sym is) (each_child (IsPairOf k) (x ∷ cs) i c (subst (Each (IsPairOf k)) pairs keys) l) in
     let more = joined_take (x ∷ cs) i c l is in
@@ -259,7 +259,7 @@ child_at_place k most now es (x ∷ cs) i c e p keys l is =
       most = one.same_most ∙ ap (λ (v : PageView). v.most) e;
       keys = mine;
       more = more;
-      fits = omega (arith, ap (λ (m : List Pair). length m) more, length-append (joined (take i (x ∷ cs))) c.pairs, joined_rest (x ∷ cs) (i + 1), ap (λ (m : List Pair). length m) pairs);
+      fits = omega (arith, ap (λ (m : List Pair). length m) more, length-append (pairs_of_pages (take i (x ∷ cs))) c.pairs, joined_rest (x ∷ cs) (i + 1), ap (λ (m : List Pair). length m) pairs);
       two = omega (arith, one.filled, least_pairs_two x.height);
       half = subst (λ m. m / 2 ≤ c.count) (ap (λ (v : PageView). v.most) e) one.half;
       separator = λ s within g.

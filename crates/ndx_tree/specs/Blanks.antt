@@ -4,7 +4,7 @@ use Rattle.std.specs.Vec.{vec_capacity}
 use Rattle.key_lists.specs.Order.{Each}
 use Rattle.ndx_tree.specs.Rooms.{room_for}
 use Rattle.ndx_tree.specs.declared.page.Blank.{Blank}
-use Rattle.ndx_tree.specs.declared.page.Pool.{Pool}
+use Rattle.ndx_tree.specs.declared.page.SparePages.{SparePages}
 
 -- it has nothing, and room for the entries of a page that has one too many
 pub record IsBlank (most : ℕ) (b : Blank) : Type 0 where
@@ -18,6 +18,6 @@ pub record IsInnerBlank (most : ℕ) (b : Blank) : Type 0 where
   pub child_room : most + 1 < vec_capacity b.children
 
 -- blank leaves, and blank inner pages
-pub record IsPool (most : ℕ) (pool : Pool) : Type 0 where
+pub record IsPool (most : ℕ) (pool : SparePages) : Type 0 where
   pub leaves : Each (IsBlank most) pool.leaves.items
   pub inner : Each (IsInnerBlank most) pool.inner.items

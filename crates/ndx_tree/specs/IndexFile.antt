@@ -50,9 +50,9 @@ links [] last = (last, None) ∷ []
 links (e ∷ es) last = (e.child, Some e.key.items) ∷ links es last
 
 -- a separator as an item
-abbrev pub behind : Option (List ℕ) → List Item
-behind None = []
-behind (Some key) = Between key ∷ []
+abbrev pub separator_items : Option (List ℕ) → List Item
+separator_items None = []
+separator_items (Some key) = Between key ∷ []
 
 -- ---- which tree stands in the pages
 
@@ -60,7 +60,7 @@ behind (Some key) = Between key ∷ []
 abbrev pub AreBelow : (ℕ → List ℕ → List Item → Type 0) → List Link → List ℕ → List Item → Type 0
 AreBelow R [] reached items = (reached ≡ []) × (items ≡ [])
 AreBelow R (c ∷ cs) reached items = (r1 : List ℕ) × (r2 : List ℕ) × (i1 : List Item) × (i2 : List Item)
-    × (reached ≡ r1 ++ r2) × (items ≡ i1 ++ (behind c.1 ++ i2)) × R c.0 r1 i1 × AreBelow R cs r2 i2
+    × (reached ≡ r1 ++ r2) × (items ≡ i1 ++ (separator_items c.1 ++ i2)) × R c.0 r1 i1 × AreBelow R cs r2 i2
 
 -- Below a page whose last child is that: in a leaf, which has none, its pairs are met, and it has to stand where leaves
 -- stand.

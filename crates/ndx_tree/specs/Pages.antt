@@ -12,14 +12,14 @@ pub record PageView : Type 0 where
   pub most : ℕ
 
 -- the pairs of pages that stand side by side
-abbrev pub joined : List PageView → List Pair
-joined [] = []
-joined (c ∷ cs) = c.pairs ++ joined cs
+abbrev pub pairs_of_pages : List PageView → List Pair
+pairs_of_pages [] = []
+pairs_of_pages (c ∷ cs) = c.pairs ++ pairs_of_pages cs
 
 -- a leaf's pairs are its entries, and an inner page's those of its children
 abbrev pub pairs_of : List Pair → List PageView → List Pair
 pairs_of es [] = es
-pairs_of es (c ∷ cs) = joined (c ∷ cs)
+pairs_of es (c ∷ cs) = pairs_of_pages (c ∷ cs)
 
 abbrev pub height_of : List PageView → ℕ
 height_of [] = 1
@@ -68,7 +68,7 @@ IsFramed most es [] = Unit {0}
 IsFramed most es (c ∷ cs) = IsCut es (c ∷ cs) × AreChildren c.height most (c ∷ cs)
 
 -- what holds of a page's parts
-pub record IsPage (most : ℕ) (es : List Pair) (cs : List PageView) : Type 0 where
+pub record IsFramedPage (most : ℕ) (es : List Pair) (cs : List PageView) : Type 0 where
   pub rising : IsRising (pairs_of es cs)
   pub framed : IsFramed most es cs
   pub four : 4 ≤ most
@@ -89,11 +89,11 @@ InsertsInRoom old x new true = (0 < old.height) × Inserts old x new None
 abbrev pub Divides : ℕ → List Pair → List PageView → List Pair → List PageView → Pair × PageView → Type 0
 Divides most es cs es2 cs2 p = (pairs_of es2 cs2 ++ p.1.pairs ≡ pairs_of es cs)
     × (last_of (pairs_of es2 cs2) ≡ Some p.0) × IsChild (height_of cs) most (view_of most es2 cs2)
-    × IsChild (height_of cs) most p.1 × IsPage most es2 cs2
+    × IsChild (height_of cs) most p.1 × IsFramedPage most es2 cs2
 
 -- what a page's parts are seen as and what holds of them, where there may be one entry too many
 pub record IsOver (most : ℕ) (es : List Pair) (cs : List PageView) : Type 0 where
-  pub parts : IsPage most es cs
+  pub parts : IsFramedPage most es cs
   pub one_more : length es ≡ most + 1
 
 -- a page has as many pairs as its entries ask for
@@ -142,14 +142,14 @@ AreBut height most zero (c ∷ cs) = AreChildren height most cs
 AreBut height most (suc i) (c ∷ cs) = IsChild height most c × AreBut height most i cs
 
 -- each page but those at i and after it is a child
-abbrev pub AreApart : ℕ → ℕ → ℕ → List PageView → Type 0
-AreApart height most i [] = Unit {0}
-AreApart height most zero (c ∷ cs) = AreChildren height most (drop 1 cs)
-AreApart height most (suc i) (c ∷ cs) = IsChild height most c × AreApart height most i cs
+abbrev pub AreChildrenBesides : ℕ → ℕ → ℕ → List PageView → Type 0
+AreChildrenBesides height most i [] = Unit {0}
+AreChildrenBesides height most zero (c ∷ cs) = AreChildren height most (drop 1 cs)
+AreChildrenBesides height most (suc i) (c ∷ cs) = IsChild height most c × AreChildrenBesides height most i cs
 
 -- an inner page below which an entry was taken out: the child at `at` may be light
 pub record IsMending (h most at : ℕ) (es : List Pair) (cs : List PageView) : Type 0 where
-  pub rising : IsRising (joined cs)
+  pub rising : IsRising (pairs_of_pages cs)
   pub cut : IsCut es cs
   pub but : AreBut h most at cs
   pub light : (d : PageView) → IsLight h most (get_or cs at d)
@@ -160,8 +160,8 @@ pub record IsMending (h most at : ℕ) (es : List Pair) (cs : List PageView) : T
 
 -- what becomes of it
 pub record Mends (most : ℕ) (es : List Pair) (cs : List PageView) (es2 : List Pair) (cs2 : List PageView) : Type 0 where
-  pub page : IsPage most es2 cs2
-  pub pairs : pairs_of es2 cs2 ≡ joined cs
+  pub page : IsFramedPage most es2 cs2
+  pub pairs : pairs_of es2 cs2 ≡ pairs_of_pages cs
   pub height : height_of cs2 ≡ height_of cs
   pub lost : length es ≤ length es2 + 1
   pub fewer : length es2 ≤ length es

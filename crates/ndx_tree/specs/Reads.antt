@@ -22,23 +22,23 @@ unset [] = 0
 unset (b ∷ bits) = cond b (unset bits) (suc (unset bits))
 
 -- the separators, with how many pairs stand before each
-abbrev pub marks : ℕ → List Item → List Separator
-marks at [] = []
-marks at (Listed p ∷ items) = marks (suc at) items
-marks at (Between key ∷ items) = record { place = at; key = record { items = key } } ∷ marks at items
+abbrev pub separators_at : ℕ → List Item → List Separator
+separators_at at [] = []
+separators_at at (Listed p ∷ items) = separators_at (suc at) items
+separators_at at (Between key ∷ items) = record { place = at; key = record { items = key } } ∷ separators_at at items
 
 -- what was found is what was seen
-pub record Shows (key_length count : ℕ) (found : Found) (s : Seen) : Type 0 where
+pub record ShowsSeen (key_length count : ℕ) (found : Found) (s : Seen) : Type 0 where
   pub marked : Marks count found.reached.items s.reached
   pub level : found.level ≡ s.level
   pub entries : found.entries.items ≡ listed s.items
-  pub separators : found.separators.items ≡ marks 0 s.items
+  pub separators : found.separators.items ≡ separators_at 0 s.items
   pub fits : Each (IsPairOf key_length) found.entries.items
 
 -- the code's answer, and what it found, against the walk's
-abbrev pub Gives : ℕ → ℕ → Result (Unit {0}) TreeFault → Found → Result Seen TreeFault → Type 0
-Gives key_length count (Ok u) found r = (t : Seen) × (r ≡ Ok t) × Shows key_length count found t
-Gives key_length count (Err fault) found r = (fault ≡ faults.Memory) ⊎ (r ≡ Err fault)
+abbrev pub WalkGives : ℕ → ℕ → Result (Unit {0}) TreeFault → Found → Result Seen TreeFault → Type 0
+WalkGives key_length count (Ok u) found r = (t : Seen) × (r ≡ Ok t) × ShowsSeen key_length count found t
+WalkGives key_length count (Err fault) found r = (fault ≡ faults.Memory) ⊎ (r ≡ Err fault)
 
 -- a page is opened, or barred, or faulty
 abbrev pub Opens : ℕ → List ℕ → ℕ → List ℕ → Result Page TreeFault → Type 0

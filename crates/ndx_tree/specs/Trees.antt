@@ -7,7 +7,7 @@ use Rattle.key_lists.specs.KeyForm.{KeyForm, IsKeyList}
 use Rattle.ndx_tree.specs.Pages.{PageView, least_root}
 use Rattle.key_lists.specs.Rising.{IsRising}
 use Rattle.ndx_tree.specs.Blanks.{IsPool}
-use Rattle.ndx_tree.specs.declared.page.Pool.{Pool}
+use Rattle.ndx_tree.specs.declared.page.SparePages.{SparePages}
 
 -- a tree by its pairs, how many pages stand one below another, for how many more pairs it has reserved, how many pages
 -- the last search saw, and its keys' form
@@ -25,7 +25,7 @@ pub record IsRoot (root : PageView) : Type 0 where
   pub inner : 1 < root.height → 0 < root.count
 
 -- a tree by its keys' form, its root, the pages that stand ready, and for how many more pairs it has reserved
-pub record IsTree (form : KeyForm) (root : PageView) (pool : Pool) (reserved : ℕ) : Type 0 where
+pub record IsTree (form : KeyForm) (root : PageView) (pool : SparePages) (reserved : ℕ) : Type 0 where
   pub list : IsKeyList form root.pairs
   pub text : Contains form.key_text 0 → ⊥
   pub top : IsRoot root

@@ -5,7 +5,8 @@ use Rattle.ndx_page.specs.declared.head.Head.{Head}
 use Rattle.ndx_page.specs.declared.page.Page.{Page}
 use Rattle.ndx_page.specs.HeadLayout.{IsHead}
 use Rattle.ndx_page.specs.PageLayout.{page_of}
-use Rattle.ndx_tree.specs.IndexFile.{Item, Link, all_listed, leaf_pairs, links, behind, is_barred, page_at, page_count}
+use Rattle.ndx_tree.specs.IndexFile.{Item, Link, all_listed, leaf_pairs, links, separator_items, is_barred, page_at}
+use Rattle.ndx_tree.specs.IndexFile.{page_count}
 use Rattle.ndx_tree.specs.IndexFile.{AreInOrder}
 use Rattle.ndx_tree.specs.declared.fault.TreeFault.{TreeFault}
 use Rattle.ndx_tree.specs.declared.fault.TreeFault.TheVariants as faults
@@ -22,7 +23,7 @@ followed (Err e) f = Err e
 
 -- with a separator behind what was met
 abbrev pub with_separator : Option (List ℕ) → Seen → Seen
-with_separator after s = record { reached = s.reached; items = s.items ++ behind after; level = s.level }
+with_separator after s = record { reached = s.reached; items = s.items ++ separator_items after; level = s.level }
 
 -- children from the left
 abbrev pub walk_all : (ℕ → Seen → Result Seen TreeFault) → List Link → Seen → Result Seen TreeFault

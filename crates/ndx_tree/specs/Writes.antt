@@ -6,7 +6,7 @@ use Rattle.ndx_page.specs.PageLayout.{IsPage, page_text}
 use Rattle.key_lists.specs.Order.{Each}
 use Rattle.key_lists.specs.Pairs.{Pair}
 use Rattle.key_lists.specs.Rising.{last_of}
-use Rattle.ndx_tree.specs.Pages.{PageView, joined}
+use Rattle.ndx_tree.specs.Pages.{PageView, pairs_of_pages}
 use Rattle.ndx_tree.specs.IndexText.{pages_text, IsOwnPage, IsHalfFull}
 use Rattle.ndx_tree.specs.IndexFile.{Item, Listed, Between, listed, Link, AreBelow, IsBelow, AreFresh}
 
@@ -56,7 +56,7 @@ pub record AreWritten (key_length height first n : ℕ) (body : List ℕ) (es : 
   pub given : AreGiven first n reached
   pub all : length reached + first ≡ n
   pub fresh : (count : ℕ) (seen : List ℕ) → n < count → AreOthers first n seen → AreFresh count seen reached
-  pub pairs : listed items ≡ joined cs
+  pub pairs : listed items ≡ pairs_of_pages cs
   pub last : (before : List Pair) → AreLast before items
   pub entries : Each (IsLink key_length) es
 

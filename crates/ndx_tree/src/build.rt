@@ -9,7 +9,7 @@ ghost use Rattle.key_rows.specs.Flat.{HaveKeys};
 ghost use Rattle.ndx_tree.specs.Rooms.{AreKeyed};
 ghost use Rattle.ndx_tree.specs.Levels.{IsAbove};
 ghost use Rattle.key_lists.specs.Order.{Each};
-ghost use Rattle.ndx_tree.specs.Pages.{AreChildren, IsCut, joined, view_of};
+ghost use Rattle.ndx_tree.specs.Pages.{AreChildren, IsCut, pairs_of_pages, view_of};
 ghost use Rattle.key_lists.specs.Rising.{IsRising};
 ghost use Rattle.ndx_tree.specs.Trees.{IsRoot};
 
@@ -99,7 +99,7 @@ fn leaves(alloc: Global, most: usize, entries: &Entries) -> Result<Vec<TreePage>
     requires keyed { AreKeyed most entries.now.items }
     requires more { most < length entries.now.items }
     ensures level { IfOk result (λ row. AreChildren 1 most row.items) }
-    ensures pairs { IfOk result (λ row. joined row.items ≡ entries.now.items) }
+    ensures pairs { IfOk result (λ row. pairs_of_pages row.items ≡ entries.now.items) }
     ensures two { IfOk result (λ row. 1 < vec_len row) }
 {
     let mut row = Vec::new(alloc);
@@ -118,7 +118,8 @@ fn separate(row: &mut Entries, children: &[TreePage])
     requires empty { row.old.items ≡ [] }
     requires some { 0 < length children.now }
     requires filled { Each (λ c. 0 < length c.pairs) children.now }
-    requires keyed { (k : ℕ) × HaveKeys k (joined children.now) × (length children.now * (k + 4) ≤ row.old.room) }
+    requires keyed { (k : ℕ) × HaveKeys k (pairs_of_pages children.now)
+        × (length children.now * (k + 4) ≤ row.old.room) }
     ensures cut { IsCut row.new.items children.now }
     ensures room { row.old.room ≤ row.new.room }
 {
@@ -138,8 +139,8 @@ fn parent(
 ) -> Result<TreePage, AllocError>
     requires most { (4 ≤ most) × (most < 1000) }
     requires level { (h : ℕ) × AreChildren h most row.old.items }
-    requires rising { IsRising (joined row.old.items) }
-    requires keyed { AreKeyed most (joined row.old.items) }
+    requires rising { IsRising (pairs_of_pages row.old.items) }
+    requires keyed { AreKeyed most (pairs_of_pages row.old.items) }
     requires two { 1 < count }
     requires full { count ≤ most + 1 }
     requires within { count ≤ vec_len row.old }
@@ -160,12 +161,12 @@ fn parent(
 fn parents(alloc: Global, most: usize, mut row: Vec<TreePage>) -> Result<Vec<TreePage>, AllocError>
     requires most { (4 ≤ most) × (most < 1000) }
     requires level { (h : ℕ) × AreChildren h most row.items }
-    requires rising { IsRising (joined row.items) }
-    requires keyed { AreKeyed most (joined row.items) }
+    requires rising { IsRising (pairs_of_pages row.items) }
+    requires keyed { AreKeyed most (pairs_of_pages row.items) }
     requires more { most + 1 < vec_len row }
     ensures level { IfOk result (λ above. (h : ℕ) → AreChildren h most row.items
         → AreChildren (h + 1) most above.items) }
-    ensures pairs { IfOk result (λ above. joined above.items ≡ joined row.items) }
+    ensures pairs { IfOk result (λ above. pairs_of_pages above.items ≡ pairs_of_pages row.items) }
     ensures two { IfOk result (λ above. 1 < vec_len above) }
     ensures fewer { IfOk result (λ above. vec_len above < vec_len row) }
 {
@@ -182,11 +183,11 @@ fn parents(alloc: Global, most: usize, mut row: Vec<TreePage>) -> Result<Vec<Tre
 fn root_above(alloc: Global, most: usize, mut row: Vec<TreePage>) -> Result<TreePage, AllocError>
     requires most { (4 ≤ most) × (most < 1000) }
     requires level { (h : ℕ) × AreChildren h most row.items }
-    requires rising { IsRising (joined row.items) }
-    requires keyed { AreKeyed most (joined row.items) }
+    requires rising { IsRising (pairs_of_pages row.items) }
+    requires keyed { AreKeyed most (pairs_of_pages row.items) }
     requires two { 1 < vec_len row }
     ensures root { IfOk result IsRoot }
-    ensures pairs { IfOk result (λ root. root.pairs ≡ joined row.items) }
+    ensures pairs { IfOk result (λ root. root.pairs ≡ pairs_of_pages row.items) }
     ensures most { IfOk result (λ root. root.most ≡ most) }
 {
     if row.len() > most + 1 {

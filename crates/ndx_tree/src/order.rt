@@ -4,7 +4,7 @@ ghost use Rattle.std.specs.Prelude.{◌≡◌, ◌≤◌, ◌↔◌, false, leng
 ghost use Rattle.key_lists.specs.Pairs.{key_before};
 ghost use Rattle.key_lists.specs.Order.{Each};
 ghost use Rattle.key_lists.specs.Rising.{IsRising};
-ghost use Rattle.ndx_tree.specs.Reads.{IsBetween, AreInside, marks};
+ghost use Rattle.ndx_tree.specs.Reads.{IsBetween, AreInside, separators_at};
 ghost use Rattle.ndx_tree.specs.IndexFile.{AreInOrder, listed, Item};
 
 use crate::walk::{Found, Separator};
@@ -73,7 +73,8 @@ fn are_between(entries: &Entries, separators: &[Separator]) -> bool
 /// Whether the pairs rise and the separators stand between their sides.
 pub(crate) fn is_in_order(found: &Found) -> bool
     requires { AreInside (length found.now.entries.items) found.now.separators.items }
-    ensures { (items : List Item) → found.now.entries.items ≡ listed items → found.now.separators.items ≡ marks 0 items
+    ensures { (items : List Item) → found.now.entries.items ≡ listed items
+        → found.now.separators.items ≡ separators_at 0 items
         → IsTrue result ↔ AreInOrder items }
 {
     is_rising(&found.entries) && are_between(&found.entries, &found.separators)

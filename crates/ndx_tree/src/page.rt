@@ -8,7 +8,8 @@ ghost use Rattle.std.specs.Prelude.{OnOk, ℕ, ◌⊎◌, slice_index_or, slice_
 ghost use Rattle.std.specs.Vec.{vec_capacity, vec_len};
 ghost use Rattle.key_lists.specs.Order.{Each};
 ghost use Rattle.key_lists.specs.Rising.{IsAbsent, IsRising, last_of, first_from, last_below};
-ghost use Rattle.ndx_tree.specs.Pages.{PageView, joined, view_of, Inserts, InsertsInRoom, Removes, Joins, IsPage};
+ghost use Rattle.ndx_tree.specs.Pages.{PageView, pairs_of_pages, view_of, Inserts, InsertsInRoom, Removes, Joins};
+ghost use Rattle.ndx_tree.specs.Pages.{IsFramedPage};
 ghost use Rattle.ndx_tree.specs.Pages.{IsChild, IsCut, IsMending, IsUneven, Evens, Mends, Divides};
 ghost use Rattle.ndx_tree.specs.Blanks.{IsBlank, IsInnerBlank, IsPool};
 ghost use Rattle.key_lists.specs.Pairs.{Pair};
@@ -33,7 +34,7 @@ pub struct TreePage {
 impl Model for TreePage {
     ghost use Rattle.std.specs.Prelude.{◌<◌, ◌≤◌, ◌+◌, length};
     ghost use Rattle.std.specs.Vec.{vec_capacity};
-    ghost use Rattle.ndx_tree.specs.Pages.{PageView, view_of, IsPage};
+    ghost use Rattle.ndx_tree.specs.Pages.{PageView, view_of, IsFramedPage};
     ghost use Rattle.ndx_tree.specs.Falls.{falls};
     ghost use Rattle.ndx_tree.specs.Rooms.{room_for};
 
@@ -41,7 +42,7 @@ impl Model for TreePage {
 
     ghost view = { λ a. view_of a.most a.entries.items a.children.items };
 
-    ghost invariant = { λ a. IsPage a.most a.entries.items a.children.items × (length a.entries.items ≤ a.most)
+    ghost invariant = { λ a. IsFramedPage a.most a.entries.items a.children.items × (length a.entries.items ≤ a.most)
         × (room_for a.most ≤ a.entries.room) × (0 < length a.children.items → a.most + 1 < vec_capacity a.children) };
 
     ghost size = { λ d. d.height };
@@ -58,7 +59,7 @@ pub struct Blank {
 
 /// The pages that stand ready for splits. A leaf has no room for children.
 #[derive(Debug, Drop)]
-pub struct Pool {
+pub struct SparePages {
     leaves: Vec<Blank>,
     inner: Vec<Blank>,
 }
@@ -66,7 +67,7 @@ pub struct Pool {
 impl TreePage {
     /// A page of these parts.
     pub fn of_parts(most: usize, entries: Entries, children: Vec<TreePage>) -> TreePage
-        requires parts { IsPage most entries.items children.items }
+        requires parts { IsFramedPage most entries.items children.items }
         requires full { length entries.items ≤ most }
         requires room { room_for most ≤ entries.room }
         requires child_room { 0 < vec_len children → most + 1 < vec_capacity children }
@@ -284,7 +285,11 @@ impl TreePage {
     }
 
     /// Puts a pair that is not there into its place. Where the page is then too full, its later half is split off.
-    pub fn insert_by_splits(&mut self, entry: Entry, pool: &mut Pool) -> Option<(Entry, TreePage)>
+    pub fn insert_by_splits(
+        &mut self,
+        entry: Entry,
+        pool: &mut SparePages,
+    ) -> Option<(Entry, TreePage)>
         requires absent { IsAbsent entry self.old.pairs }
         requires keyed { AreKeyed self.old.most (entry ∷ self.old.pairs) }
         requires leaf { 0 < vec_len pool.old.leaves }
@@ -338,13 +343,13 @@ impl Blank {
     }
 }
 
-impl Pool {
+impl SparePages {
     /// No page stands ready.
-    pub fn new(alloc: Global) -> Pool
+    pub fn new(alloc: Global) -> SparePages
         ensures leaves { result.leaves.items ≡ [] }
         ensures inner { result.inner.items ≡ [] }
     {
-        Pool {
+        SparePages {
             leaves: Vec::new(alloc),
             inner: Vec::new(alloc),
         }
@@ -400,7 +405,7 @@ fn stock_inner(
 }
 
 // Takes one of the blank leaves, of which there is one.
-fn take_leaf(most: usize, pool: &mut Pool) -> Blank
+fn take_leaf(most: usize, pool: &mut SparePages) -> Blank
     requires some { 0 < vec_len pool.old.leaves }
     requires pool { IsPool most pool.old }
     ensures blank { IsBlank most result }
@@ -414,7 +419,7 @@ fn take_leaf(most: usize, pool: &mut Pool) -> Blank
 }
 
 // Takes one of the blank inner pages, of which there is one.
-pub(crate) fn take_inner(most: usize, pool: &mut Pool) -> Blank
+pub(crate) fn take_inner(most: usize, pool: &mut SparePages) -> Blank
     requires some { 0 < vec_len pool.old.inner }
     requires pool { IsPool most pool.old }
     ensures blank { IsInnerBlank most result }
@@ -447,7 +452,7 @@ fn look(seen: &mut usize)
 // Makes the separator after a child its last pair again.
 fn refresh(entries: &mut Entries, children: &[TreePage], at: usize)
     requires within { at < length children.now }
-    requires alike { (k : ℕ) × HaveKeys k entries.old.items × HaveKeys k (joined children.now)
+    requires alike { (k : ℕ) × HaveKeys k entries.old.items × HaveKeys k (pairs_of_pages children.now)
         × (length entries.old.items * (k + 4) ≤ entries.old.room) }
     requires some { (d : PageView) → 0 < length (slice_index_or children.now at d).pairs }
     requires cut { (d : PageView) (t : Pair) → last_of (slice_index_or children.now at d).pairs ≡ Some t
@@ -476,7 +481,7 @@ fn first_of_two(at: usize, separators: usize) -> usize
 // Joins a child that has too few entries with a neighbour.
 fn mend(most: usize, entries: &mut Entries, children: &mut Vec<TreePage>, at: usize)
     requires mending { (h : ℕ) × IsMending h most at entries.old.items children.old.items }
-    requires keyed { AreKeyed most (joined children.old.items) }
+    requires keyed { AreKeyed most (pairs_of_pages children.old.items) }
     requires room { room_for most ≤ entries.old.room }
     requires child_room { most + 1 < vec_capacity children.old }
     ensures mends { Mends most entries.old.items children.old.items entries.new.items children.new.items }
@@ -561,7 +566,7 @@ fn even_inner(
 
 // Splits the later half off a leaf that has too many entries.
 fn split_leaf(most: usize, entries: &mut Entries, blank: Blank) -> (Entry, TreePage)
-    requires parts { IsPage most entries.old.items [] }
+    requires parts { IsFramedPage most entries.old.items [] }
     requires keyed { AreKeyed most entries.old.items }
     requires too_many { most < length entries.old.items }
     requires below { length entries.old.items ≤ most + 1 }
@@ -591,7 +596,7 @@ fn split_inner(
     children: &mut Vec<TreePage>,
     blank: Blank,
 ) -> (Entry, TreePage)
-    requires parts { IsPage most entries.old.items children.old.items }
+    requires parts { IsFramedPage most entries.old.items children.old.items }
     requires keyed { AreKeyed most entries.old.items }
     requires inner { 0 < vec_len children.old }
     requires too_many { most < length entries.old.items }

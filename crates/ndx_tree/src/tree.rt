@@ -8,7 +8,7 @@ ghost use Rattle.ndx_tree.specs.Trees.{IsTree};
 ghost use Rattle.key_lists.specs.Rising.{IsAbsent, IsRising, first_from, with_pair};
 
 use crate::build::{root_of, row_of};
-use crate::page::{Pool, TreePage, take_inner};
+use crate::page::{SparePages, TreePage, take_inner};
 use arrayvec::ArrayVec;
 use key_lists::{Entry, KeyList, held, put_in_order};
 use key_rows::Entries;
@@ -26,7 +26,7 @@ pub struct NdxTree {
     pub(crate) key_length: usize,
     pub(crate) key_text: ArrayVec<u8, MAX_TEXT>,
     pub(crate) root: TreePage,
-    pool: Pool,
+    pool: SparePages,
     reserved: usize,
     count: usize,
     seen: usize,
@@ -75,7 +75,7 @@ impl NdxTree {
             key_length,
             key_text,
             root: root_of(alloc, most_entries(key_length), entries)?,
-            pool: Pool::new(alloc),
+            pool: SparePages::new(alloc),
             reserved: 0,
             count: entries.len(),
             seen: 0,
@@ -163,7 +163,7 @@ impl NdxTree {
 // Puts a pair that is not there below a root, which becomes two pages and a root over them where it is too full. It
 // stands alone, since most insertions need no such room on the stack.
 #[inline(never)]
-fn grow(root: &mut TreePage, entry: Entry, pool: &mut Pool)
+fn grow(root: &mut TreePage, entry: Entry, pool: &mut SparePages)
     requires absent { IsAbsent entry root.old.pairs }
     requires tree { (form : KeyForm) × (reserved : ℕ) × IsTree form root.old pool.old reserved × (0 < reserved)
         × IsPairOf form.key_length entry }

@@ -10,7 +10,7 @@ ghost use Rattle.ndx_tree.specs.Walk.{Seen, walk, pages_of, is_level, with_separ
 ghost use Rattle.key_lists.specs.Order.{Each};
 ghost use Rattle.key_lists.specs.KeyForm.{IsPairOf};
 ghost use Rattle.ndx_tree.specs.declared.fault.TreeFault.{TreeFault as TheFault};
-ghost use Rattle.ndx_tree.specs.Reads.{Shows, Marks, Gives, Opens, unset};
+ghost use Rattle.ndx_tree.specs.Reads.{ShowsSeen, Marks, WalkGives, Opens, unset};
 
 use crate::TreeFault;
 use arrayvec::ArrayVec;
@@ -95,8 +95,8 @@ fn take_leaf(level: usize, page: &Page, found: &mut Found) -> Result<(), TreeFau
     requires alike { (k : ℕ) × (k ≤ 100) × HaveKeys k found.old.entries.items
         × HaveKeys k (leaf_pairs page.now.entries.items) }
     ensures leaf { (k count : ℕ) (s : Seen) (f : ℕ → Seen → Result Seen TheFault)
-        → Each (IsPairOf k) (leaf_pairs page.now.entries.items) → Shows k count found.old s
-        → Gives k count result found.new (visit f level page.now 0 s) }
+        → Each (IsPairOf k) (leaf_pairs page.now.entries.items) → ShowsSeen k count found.old s
+        → WalkGives k count result found.new (visit f level page.now 0 s) }
     ensures bits { found.new.reached.items ≡ found.old.reached.items }
     ensures alike { (k : ℕ) → HaveKeys k found.old.entries.items → HaveKeys k (leaf_pairs page.now.entries.items)
         → OnOk result (HaveKeys k found.new.entries.items) }
@@ -113,8 +113,8 @@ fn take_leaf(level: usize, page: &Page, found: &mut Found) -> Result<(), TreeFau
 // Takes in the separator behind a child.
 fn take_separator(key: &[u8], found: &mut Found) -> Result<(), AllocError>
     requires { length key.now ≤ 100 }
-    ensures shown { (k count : ℕ) (s : Seen) → Shows k count found.old s
-        → OnOk result (Shows k count found.new (with_separator (Some key.now) s)) }
+    ensures shown { (k count : ℕ) (s : Seen) → ShowsSeen k count found.old s
+        → OnOk result (ShowsSeen k count found.new (with_separator (Some key.now) s)) }
     ensures bits { found.new.reached.items ≡ found.old.reached.items }
     ensures entries { found.new.entries.items ≡ found.old.entries.items }
 {
@@ -136,8 +136,8 @@ fn read_below(
 ) -> Result<(), TreeFault>
     requires bits { length found.old.reached.items ≡ page_count bytes.now }
     requires alike { HaveKeys head.now.length found.old.entries.items }
-    ensures walked { (s : Seen) → Shows head.now.length (page_count bytes.now) found.old s
-        → Gives head.now.length (page_count bytes.now) result found.new
+    ensures walked { (s : Seen) → ShowsSeen head.now.length (page_count bytes.now) found.old s
+        → WalkGives head.now.length (page_count bytes.now) result found.new
         (walk (pages_of head.now.length bytes.now) (page_count bytes.now) left number s) }
     ensures bits { length found.new.reached.items ≡ page_count bytes.now }
     ensures alike { OnOk result (HaveKeys head.now.length found.new.entries.items) }
@@ -181,7 +181,7 @@ impl Found {
 pub(crate) fn walk_pages(alloc: Global, head: &Head, bytes: &[u8]) -> Result<Found, TreeFault>
     requires { length bytes.now ≤ 67108864 }
     ensures met { IfOk result (λ found. (t : Seen) × (walk_file head.now bytes.now ≡ Ok t)
-        × Shows head.now.length (page_count bytes.now) found t) }
+        × ShowsSeen head.now.length (page_count bytes.now) found t) }
     ensures fault { IfErr result (λ fault. (fault ≡ Memory) ⊎ (walk_file head.now bytes.now ≡ Err fault)) }
     ensures few { IfOk result (λ found. length found.entries.items < 2 ^ 32) }
 {

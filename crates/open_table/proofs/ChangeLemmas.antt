@@ -9,18 +9,18 @@ use Rattle.shape.specs.declared.parts.KeyPart.{KeyPart}
 use Rattle.row_keys.specs.Lists.{IsExact, IsAsBefore, HasAdded, HasFollowed, row_pair, index_list}
 use Rattle.row_keys.proofs.IndexLemmas.{ListLaw, exact_same, exact-absent, exact-added}
 use Rattle.open_table.specs.Marks.{left_stale, is_among, with_stale}
-use Rattle.open_table.specs.Slots.{SlotState, mark_of, IsListed, IsSlotBy, IsSlot, GoesBy, Along, left_by}
+use Rattle.open_table.specs.Slots.{SlotState, mark_of, IsListed, IsSlotBy, IsSlot, GoesBy, Along, left_if_open}
 use Rattle.open_table.proofs.SlotLemmas.{carry, slot_goes, left_slot, listed_some, goes_mark, same_along, map_along, left_mark, some_weaker}
 
 -- rooms are asked for, and then closed indexes are left
-pub left_exact : (s : StructureState) (rows : List Row) (numbers : List ℕ) (old mid left : List SlotState) → All (IsSlot s rows) old → Along (GoesBy IsAsBefore) old mid → Along (λ a b. b ≡ left_by numbers a) mid left → All (IsSlot s rows) left
+pub left_exact : (s : StructureState) (rows : List Row) (numbers : List ℕ) (old mid left : List SlotState) → All (IsSlot s rows) old → Along (GoesBy IsAsBefore) old mid → Along (λ a b. b ≡ left_if_open numbers a) mid left → All (IsSlot s rows) left
 left_exact s rows numbers old mid left exact reserved gone =
     let kept : All (IsSlot s rows) mid = carry (IsSlot s rows) (IsSlot s rows) (GoesBy IsAsBefore) (slot_goes s (IsExact s rows) (IsExact s rows) IsAsBefore (exact_same s rows) (λ a b r. r.same)) old mid reserved exact in
-    carry (IsSlot s rows) (IsSlot s rows) (λ a b. b ≡ left_by numbers a) (λ a b h e. subst (IsSlot s rows) (sym e) (left_slot s (IsExact s rows) numbers a h)) mid left gone kept
+    carry (IsSlot s rows) (IsSlot s rows) (λ a b. b ≡ left_if_open numbers a) (λ a b h e. subst (IsSlot s rows) (sym e) (left_slot s (IsExact s rows) numbers a h)) mid left gone kept
 
-pub marks_left : (numbers : List ℕ) (old mid left : List SlotState) → Along (GoesBy IsAsBefore) old mid → Along (λ a b. b ≡ left_by numbers a) mid left → map mark_of left ≡ left_stale numbers (map mark_of old)
+pub marks_left : (numbers : List ℕ) (old mid left : List SlotState) → Along (GoesBy IsAsBefore) old mid → Along (λ a b. b ≡ left_if_open numbers a) mid left → map mark_of left ≡ left_stale numbers (map mark_of old)
 marks_left numbers old mid left reserved gone =
-    map_along mark_of (λ m. with_stale m (m.stale || not (is_among numbers m.number))) (λ a b. b ≡ left_by numbers a) (λ a b e. sym (left_mark numbers a b e)) mid left gone
+    map_along mark_of (λ m. with_stale m (m.stale || not (is_among numbers m.number))) (λ a b. b ≡ left_if_open numbers a) (λ a b e. sym (left_mark numbers a b e)) mid left gone
     ∙ ap (left_stale numbers) (same_along mark_of (GoesBy IsAsBefore) (goes_mark IsAsBefore) old mid reserved)
 
 module _ (law : ListLaw) (s : StructureState) (rows : List Row) (row : Row) where

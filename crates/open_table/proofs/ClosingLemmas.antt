@@ -8,7 +8,7 @@ use Rattle.row_keys.specs.Lists.{index_list, row_pairs}
 use Rattle.row_moves.specs.Orders.{records_from, record_order}
 use Rattle.row_moves.proofs.RecordOrder.{ascending_records}
 use Rattle.open_table.specs.Marks.{IndexMark}
-use Rattle.open_table.specs.Tables.{pairs_in, order_parts}
+use Rattle.open_table.specs.Tables.{pairs_in_order, order_parts}
 
 bare_pairs : (n : ℕ) (rows : List Row) → row_pairs [] n rows ≡ records_from n (length rows)
 bare_pairs n [] = refl
@@ -21,6 +21,6 @@ record_list law rows =
     ∙ (law (record_order (length rows))).same (ascending_records 1 (length rows))
 
 -- the rows in an order, by how its keys are made
-pub by_parts : ((pairs : List Pair) → PutsInOrder pairs) → (order : Option ℕ) (marks : List IndexMark) (rows : List Row) → index_list (order_parts order marks) rows ≡ pairs_in order marks rows
+pub by_parts : ((pairs : List Pair) → PutsInOrder pairs) → (order : Option ℕ) (marks : List IndexMark) (rows : List Row) → index_list (order_parts order marks) rows ≡ pairs_in_order order marks rows
 by_parts law None marks rows = record_list law rows
 by_parts law (Some n) marks rows = refl

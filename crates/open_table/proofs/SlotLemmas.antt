@@ -9,7 +9,7 @@ use Rattle.key_lists.specs.KeyForm.{KeyForm, IsKeyText}
 use Rattle.shape.specs.Keys.{IsKey}
 use Rattle.row_keys.specs.Lists.{IndexState, IsSameIndex}
 use Rattle.open_table.specs.Marks.{IndexMark, is_among, with_stale}
-use Rattle.open_table.specs.Slots.{SlotState, mark_of, IsListed, IsSlotBy, OnBoth, GoesBy, left_by, Along}
+use Rattle.open_table.specs.Slots.{SlotState, mark_of, IsListed, IsSlotBy, OnBoth, GoesBy, left_if_open, Along}
 
 -- ---- along all indexes
 
@@ -89,7 +89,7 @@ if_left : (P : IndexState → Type 0) (open_one : Bool) (a : Option IndexState) 
 if_left P true a h = h
 if_left P false a h = tt
 
-pub left_slot : (s : StructureState) (E : IndexState → Type 0) (numbers : List ℕ) (a : SlotState) → IsSlotBy E s a → IsSlotBy E s (left_by numbers a)
+pub left_slot : (s : StructureState) (E : IndexState → Type 0) (numbers : List ℕ) (a : SlotState) → IsSlotBy E s a → IsSlotBy E s (left_if_open numbers a)
 left_slot s E numbers a h = record {
   key = h.key;
   text = h.text;
@@ -103,9 +103,9 @@ stale_left true (Some a) = refl
 stale_left false None = refl
 stale_left false (Some a) = refl
 
-pub left_mark : (numbers : List ℕ) (a b : SlotState) → b ≡ left_by numbers a → (λ (m : IndexMark). with_stale m (m.stale || not (is_among numbers m.number))) (mark_of a) ≡ mark_of b
+pub left_mark : (numbers : List ℕ) (a b : SlotState) → b ≡ left_if_open numbers a → (λ (m : IndexMark). with_stale m (m.stale || not (is_among numbers m.number))) (mark_of a) ≡ mark_of b
 left_mark numbers a b e =
-    same_mark (mark_of (left_by numbers a)) (with_stale (mark_of a) (is_none a.index || not (is_among numbers a.number))) refl refl refl (sym (stale_left (is_among numbers a.number) a.index))
+    same_mark (mark_of (left_if_open numbers a)) (with_stale (mark_of a) (is_none a.index || not (is_among numbers a.number))) refl refl refl (sym (stale_left (is_among numbers a.number) a.index))
     ∙ ap mark_of (sym e)
 
 room_if : (open_one : Bool) (P : IndexState → Type 0) (a : Option IndexState) → (open_one ≡ true → IfSome a P) → IfSome (cond open_one a None) P
@@ -113,7 +113,7 @@ room_if true P a h = h refl
 room_if false P a h = tt
 
 -- those that are left are open, and have room
-pub left_room : (numbers : List ℕ) (a : SlotState) (P : IndexState → Type 0) → (is_among numbers a.number ≡ true → IfSome a.index P) → IfSome (left_by numbers a).index P
+pub left_room : (numbers : List ℕ) (a : SlotState) (P : IndexState → Type 0) → (is_among numbers a.number ≡ true → IfSome a.index P) → IfSome (left_if_open numbers a).index P
 left_room numbers a P h = room_if (is_among numbers a.number) P a.index h
 
 -- ---- a loop over all indexes

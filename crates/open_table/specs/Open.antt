@@ -77,8 +77,8 @@ with_blank a = record {
 }
 
 -- the same place in another table
-abbrev pub with_table : OpenState → IndexedState → OpenState
-with_table a table =
+abbrev pub in_table : OpenState → IndexedState → OpenState
+in_table a table =
     record { table = table; list = a.list; order = a.order; pointer = a.pointer; bof = a.bof; found = a.found }
 
 -- the place of the record that is pointed to, counted from 0, none at the end of file
@@ -114,7 +114,7 @@ field_of f a = value_by (letter_at a.table.structure f) (decimals_at a.table.str
 
 -- REPLACE: another value in a field of the record that is pointed to; at the end of file nothing changes
 abbrev pub replaced_here : ℕ → Value → OpenState → OpenState
-replaced_here f from a = with_table a (replaced_at a f from (place_in (length a.table.rows) a.pointer))
+replaced_here f from a = in_table a (replaced_at a f from (place_in (length a.table.rows) a.pointer))
 
 abbrev pub remarked_at : OpenState → Bool → Option ℕ → IndexedState
 remarked_at a marked None = a.table
@@ -122,7 +122,7 @@ remarked_at a marked (Some r) = remarked r marked a.table
 
 -- DELETE and RECALL: the record that is pointed to is marked or not; at the end of file nothing changes
 abbrev pub remarked_here : Bool → OpenState → OpenState
-remarked_here marked a = with_table a (remarked_at a marked (place_in (length a.table.rows) a.pointer))
+remarked_here marked a = in_table a (remarked_at a marked (place_in (length a.table.rows) a.pointer))
 
 -- a change that ends with a move makes this of where that leads; one that is refused changes nothing
 abbrev pub IsEnded : {S : Type 0} → (Landing → S) → S → S → Landing → ℕ → Result ℕ Refused → Type 0

@@ -26,8 +26,9 @@ abbrev pub count_met : Option Pair → List Pair → ℕ
 count_met best pairs = length (filter (is_met best) pairs)
 
 -- a move at a higher cost
-abbrev pub behind : ℕ → Landing → Landing
-behind base landing = record { at = landing.at; met = base + landing.met; bof = landing.bof; found = landing.found }
+abbrev pub at_higher_cost : ℕ → Landing → Landing
+at_higher_cost base landing =
+    record { at = landing.at; met = base + landing.met; bof = landing.bof; found = landing.found }
 
 -- what stands against a move: its cost is above the budget, or it isn't, and memory was missing
 abbrev pub IsRefusal : Landing → ℕ → Refused → Type 0
@@ -35,6 +36,6 @@ IsRefusal landing budget Spent = budget < 1 + landing.met
 IsRefusal landing budget NoMemory = 1 + landing.met ≤ budget
 
 -- a change that ends with a move
-abbrev pub IsClosing : Landing → ℕ → Result Landed Refused → Type 0
-IsClosing landing budget result =
+abbrev pub EndsWithMove : Landing → ℕ → Result Landed Refused → Type 0
+EndsWithMove landing budget result =
     MatchResult result (λ landed. Lands landing budget landed) (λ refused. IsRefusal landing budget refused)

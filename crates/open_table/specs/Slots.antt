@@ -59,12 +59,12 @@ pub record GoesBy (R : IndexState → IndexState → Type 0) (old new : SlotStat
   pub fresh : new.fresh ≡ old.fresh
 
 -- an open one has room for one more pair
-abbrev pub HasRoom : List ℕ → SlotState → Type 0
-HasRoom open_numbers slot = is_among open_numbers slot.number ≡ true → IfSome slot.index (λ x. 0 < x.spare)
+abbrev pub HasRoomForPair : List ℕ → SlotState → Type 0
+HasRoomForPair open_numbers slot = is_among open_numbers slot.number ≡ true → IfSome slot.index (λ x. 0 < x.spare)
 
 -- without its list, unless it is open
-abbrev pub left_by : List ℕ → SlotState → SlotState
-left_by open_numbers slot =
+abbrev pub left_if_open : List ℕ → SlotState → SlotState
+left_if_open open_numbers slot =
     record {
       number = slot.number;
       parts = slot.parts;

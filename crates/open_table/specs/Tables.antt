@@ -36,13 +36,13 @@ IsOrder None t = ⊤
 IsOrder (Some n) t = is_fresh (mark_at t.marks n) ≡ true
 
 -- rows in an order, by the keys of these indexes
-abbrev pub pairs_in : Option ℕ → List IndexMark → List Row → List Pair
-pairs_in None marks rows = record_order (length rows)
-pairs_in (Some n) marks rows = index_list (parts_in (mark_at marks n)) rows
+abbrev pub pairs_in_order : Option ℕ → List IndexMark → List Row → List Pair
+pairs_in_order None marks rows = record_order (length rows)
+pairs_in_order (Some n) marks rows = index_list (parts_in (mark_at marks n)) rows
 
 -- the rows in an order
 abbrev pub order_pairs : Option ℕ → IndexedState → List Pair
-order_pairs order t = pairs_in order t.marks t.rows
+order_pairs order t = pairs_in_order order t.marks t.rows
 
 -- how the keys of an order are made; those of record order have no parts
 abbrev pub order_parts : Option ℕ → List IndexMark → List KeyPart
@@ -86,8 +86,8 @@ packed open_numbers t =
     record { structure = t.structure; rows = unmarked t.rows; marks = only_fresh open_numbers t.marks }
 
 -- without rows; the open indexes alone aren't stale
-abbrev pub cleared : List ℕ → IndexedState → IndexedState
-cleared open_numbers t = record { structure = t.structure; rows = []; marks = only_fresh open_numbers t.marks }
+abbrev pub emptied : List ℕ → IndexedState → IndexedState
+emptied open_numbers t = record { structure = t.structure; rows = []; marks = only_fresh open_numbers t.marks }
 
 -- these indexes made anew
 abbrev pub remade : List ℕ → IndexedState → IndexedState

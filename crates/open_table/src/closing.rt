@@ -8,9 +8,9 @@ ghost use Rattle.std.specs.Prelude.{◌≡◌, ℕ, ◌+◌, ◌^◌, ◌<◌, �
 ghost use Rattle.std.specs.Fn.{FnReturnsAt};
 ghost use Rattle.row_keys.specs.Lists.{kept_rows};
 ghost use Rattle.row_moves.specs.Moves.{IsMove, Landing, Lands, end_of};
-ghost use Rattle.open_table.specs.Passes.{behind};
+ghost use Rattle.open_table.specs.Passes.{at_higher_cost};
 ghost use Rattle.open_table.specs.Slots.{mark_of};
-ghost use Rattle.open_table.specs.Tables.{IsIndexed, IsOrder, indexed, order_pairs, pairs_in};
+ghost use Rattle.open_table.specs.Tables.{IsIndexed, IsOrder, indexed, order_pairs, pairs_in_order};
 ghost use Rattle.open_table.specs.Tried.{ShowsRows};
 
 use crate::keyed::{has_order, key_of_order};
@@ -39,7 +39,7 @@ pub(crate) fn judge<K: KeyList, F: Fn(&Row<'_>) -> bool>(
     requires paid { ¬ IsOrder order (indexed table.now.structure table.now.rows slots.old.items)
         → length table.now.rows ≤ base }
     ensures lands { (shown : ℕ → Bool) → ShowsRows (FnReturnsAt F.Fn) see.now table.now.structure table.now.rows shown
-        → IsMove (behind base (end_of shown true (order_pairs order
+        → IsMove (at_higher_cost base (end_of shown true (order_pairs order
         (indexed table.now.structure table.now.rows slots.old.items)))) budget result }
     ensures same { slots.new.items ≡ slots.old.items }
 {
@@ -63,7 +63,7 @@ fn judge_along<K: KeyList, F: Fn(&Row<'_>) -> bool>(
     requires callable { F.IsAlwaysCallable see.now }
     requires base { base ≤ 1000000000 }
     ensures lands { (shown : ℕ → Bool) → ShowsRows (FnReturnsAt F.Fn) see.now table.now.structure table.now.rows shown
-        → IsMove (behind base (end_of shown true (order_pairs order
+        → IsMove (at_higher_cost base (end_of shown true (order_pairs order
         (indexed table.now.structure table.now.rows slots.old.items)))) budget result }
     ensures same { slots.new.items ≡ slots.old.items }
 {
@@ -79,7 +79,7 @@ fn judge_along<K: KeyList, F: Fn(&Row<'_>) -> bool>(
 /// The same move, at a cost that is higher by a base.
 fn dearer(landed: Landed, base: u64) -> Landed
     ensures { (landing : Landing) (budget left : ℕ) → Lands landing left landed → left + base ≤ budget → budget < 2 ^ 64
-        → Lands (behind base landing) budget result }
+        → Lands (at_higher_cost base landing) budget result }
 {
     Landed {
         cost: landed.cost.saturating_add(base),
@@ -103,8 +103,8 @@ pub(crate) fn judge_kept<K: KeyList, F: Fn(&Row<'_>) -> bool>(
     requires paid { length table.now.rows ≤ base }
     ensures { (shown : ℕ → Bool)
         → ShowsRows (FnReturnsAt F.Fn) see.now table.now.structure (kept_rows kept table.now.rows) shown
-        → IsMove (behind base (end_of shown true
-        (pairs_in order (map mark_of slots.now.items) (kept_rows kept table.now.rows)))) budget result }
+        → IsMove (at_higher_cost base (end_of shown true
+        (pairs_in_order order (map mark_of slots.now.items) (kept_rows kept table.now.rows)))) budget result }
 {
     puts_in_order();
     let key = key_of_order(slots, order);

@@ -12,13 +12,13 @@ ghost use Rattle.key_lists.specs.KeyForm.{IsKeyText};
 ghost use Rattle.row_keys.specs.Lists.{index_list};
 ghost use Rattle.shape.specs.Keys.{IsKey, key_length};
 ghost use Rattle.row_moves.specs.Moves.{Landing, IsMove, end_of, skipped, sought};
-ghost use Rattle.open_table.specs.Tables.{HasDeclared, IsOrder, order_pairs, pairs_in, pair_at, packed, cleared};
+ghost use Rattle.open_table.specs.Tables.{HasDeclared, IsOrder, order_pairs, pairs_in_order, pair_at, packed, emptied};
 ghost use Rattle.open_table.specs.Tables.{remade};
 ghost use Rattle.open_table.specs.Marks.{mark_at, count_stale, parts_in};
-ghost use Rattle.open_table.specs.Passes.{behind, IsClosing};
+ghost use Rattle.open_table.specs.Passes.{at_higher_cost, EndsWithMove};
 ghost use Rattle.dbf_file.specs.Rows.{unmarked};
 ghost use Rattle.open_table.specs.Tried.{ShowsRows};
-ghost use Rattle.open_table.specs.Open.{IsMoved, IsEnded, opened, closed, first_order, with_table, order_index};
+ghost use Rattle.open_table.specs.Open.{IsMoved, IsEnded, opened, closed, first_order, in_table, order_index};
 ghost use Rattle.open_table.specs.Open.{gone_to, with_blank, place_in, replaced_here, remarked_here, reordered};
 ghost use Rattle.open_table.specs.Open.{deleted_of, field_of, landed as landed_at, within, within as within_of};
 
@@ -114,7 +114,7 @@ impl<K: KeyList> OpenTable<K> {
         requires form { IfSome list (λ k. K.form k
             ≡ record { key_length = key_length key (row_widths self.old.table.structure); key_text = text.items }) }
         requires unused { self.old.list ≡ [] }
-        ensures table { self.new ≡ with_table self.old self.new.table }
+        ensures table { self.new ≡ in_table self.old self.new.table }
         ensures ok { OnOk result (HasDeclared (IsSomeAnd list (λ k. K.pairs k ≡ index_list key self.old.table.rows))
             (record { number = number; parts = key; text = text.items; stale = true }) self.old.table self.new.table) }
         ensures err { OnErr result (self.new ≡ self.old) }
@@ -418,7 +418,7 @@ impl<K: KeyList> OpenTable<K> {
     /// Goes where the move at the end of a change led, and tells what the change cost; a change that was refused
     /// changes nothing.
     fn finish(&mut self, ended: Result<Landed, Refused>) -> Result<u64, Refused>
-        ensures ends { (landing : Landing) (budget : ℕ) → IsClosing landing budget ended
+        ensures ends { (landing : Landing) (budget : ℕ) → EndsWithMove landing budget ended
             → IsEnded (landed_at self.old) self.old self.new landing budget result }
         ensures same { is_ok result ≡ is_ok ended }
     {
@@ -439,9 +439,9 @@ impl<K: KeyList> OpenTable<K> {
         requires { F.IsAlwaysCallable see }
         ensures { (shown : ℕ → Bool)
             → ShowsRows (FnReturnsAt F.Fn) see self.old.table.structure (unmarked self.old.table.rows) shown
-            → IsEnded (landed_at (with_table self.old (packed self.old.list self.old.table))) self.old self.new
-            (behind (length self.old.table.rows + length (unmarked self.old.table.rows) * length self.old.list)
-            (end_of shown true (pairs_in (order_index self.old.order self.old.list) self.old.table.marks
+            → IsEnded (landed_at (in_table self.old (packed self.old.list self.old.table))) self.old self.new
+            (at_higher_cost (length self.old.table.rows + length (unmarked self.old.table.rows) * length self.old.list)
+            (end_of shown true (pairs_in_order (order_index self.old.order self.old.list) self.old.table.marks
             (unmarked self.old.table.rows)))) budget result }
     {
         let order = self.order_index();
@@ -454,7 +454,7 @@ impl<K: KeyList> OpenTable<K> {
     /// ZAP: removes every row; TOP then comes to the end of file. Where it is refused nothing changes.
     pub fn zap(&mut self, alloc: Global, budget: u64) -> Result<u64, Refused>
         ensures { (shown : ℕ → Bool)
-            → IsEnded (landed_at (with_table self.old (cleared self.old.list self.old.table))) self.old self.new
+            → IsEnded (landed_at (in_table self.old (emptied self.old.list self.old.table))) self.old self.new
             (end_of shown true []) budget result }
     {
         let ended = self.table.zap(alloc, self.list.as_slice(), budget);
@@ -471,8 +471,8 @@ impl<K: KeyList> OpenTable<K> {
         requires { F.IsAlwaysCallable see }
         ensures { (shown : ℕ → Bool)
             → ShowsRows (FnReturnsAt F.Fn) see self.old.table.structure self.old.table.rows shown
-            → IsEnded (landed_at (with_table self.old (remade self.old.list self.old.table))) self.old self.new
-            (behind (length self.old.table.rows * length self.old.list)
+            → IsEnded (landed_at (in_table self.old (remade self.old.list self.old.table))) self.old self.new
+            (at_higher_cost (length self.old.table.rows * length self.old.list)
             (end_of shown true (order_pairs (order_index self.old.order self.old.list) self.old.table))) budget result }
     {
         let order = self.order_index();
@@ -508,7 +508,7 @@ impl<K: KeyList> OpenTable<K> {
         ensures { (shown : ℕ → Bool)
             → ShowsRows (FnReturnsAt F.Fn) see self.old.table.structure self.old.table.rows shown
             → IsEnded (landed_at (opened list.now self.old)) self.old self.new
-            (behind (length self.old.table.rows * count_stale list.now self.old.table.marks)
+            (at_higher_cost (length self.old.table.rows * count_stale list.now self.old.table.marks)
             (end_of shown true (order_pairs (slice_get list.now 0) self.old.table))) budget result }
     {
         match self.table.open(alloc, list, &see, budget) {
@@ -535,7 +535,7 @@ impl<K: KeyList> OpenTable<K> {
         ensures { (shown : ℕ → Bool)
             → ShowsRows (FnReturnsAt F.Fn) see self.old.table.structure self.old.table.rows shown
             → IsEnded (landed_at (opened (number ∷ []) self.old)) self.old self.new
-            (behind (length self.old.table.rows)
+            (at_higher_cost (length self.old.table.rows)
             (end_of shown true (order_pairs (Some number) self.old.table))) budget result }
     {
         match self.table.index_on(alloc, number, &see, budget) {

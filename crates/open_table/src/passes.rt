@@ -7,7 +7,8 @@ ghost use Rattle.dbf_file.specs.Rows.{row_at};
 ghost use Rattle.shape.specs.Keys.{IsKey, key_of};
 ghost use Rattle.row_keys.specs.Lists.{index_list, is_kept, kept_rows};
 ghost use Rattle.row_moves.specs.Moves.{IsMove, end_of, first_shown};
-ghost use Rattle.open_table.specs.Passes.{with_tried, lesser as lesser_of, is_met as is_met_of, count_met, behind};
+ghost use Rattle.open_table.specs.Passes.{with_tried, lesser as lesser_of, is_met as is_met_of, count_met};
+ghost use Rattle.open_table.specs.Passes.{at_higher_cost};
 ghost use Rattle.open_table.specs.Tried.{ShowsRows};
 
 use crate::row::Row;
@@ -196,7 +197,8 @@ pub(crate) fn first_of<F: Fn(&Row<'_>) -> bool>(
     requires paid { length table.now.rows ≤ base }
     ensures { (shown : ℕ → Bool)
         → ShowsRows (FnReturnsAt F.Fn) see.now table.now.structure (kept_rows kept table.now.rows) shown
-        → IsMove (behind base (end_of shown true (index_list key.now (kept_rows kept table.now.rows)))) budget result }
+        → IsMove (at_higher_cost base
+        (end_of shown true (index_list key.now (kept_rows kept table.now.rows)))) budget result }
 {
     if budget <= base {
         return Err(Spent);

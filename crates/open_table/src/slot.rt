@@ -12,7 +12,8 @@ ghost use Rattle.row_keys.specs.Lists.{HasFollowed};
 ghost use Rattle.row_moves.specs.Orders.{MayTry, Sees};
 ghost use Rattle.row_moves.specs.Moves.{IsMove, end_of, skipped, sought};
 ghost use Rattle.open_table.specs.Marks.{is_among as is_among_of};
-ghost use Rattle.open_table.specs.Slots.{IsSlot, GoesBy, HasRoom, PutsBy, Prepares, committed, discarded, left_by};
+ghost use Rattle.open_table.specs.Slots.{IsSlot, GoesBy, HasRoomForPair, PutsBy, Prepares, committed, discarded};
+ghost use Rattle.open_table.specs.Slots.{left_if_open};
 ghost use Rattle.open_table.specs.Slots.{is_wanted as is_wanted_of};
 
 use arrayvec::ArrayVec;
@@ -182,7 +183,7 @@ impl<K: KeyList> Slot<K> {
     pub(crate) fn reserve(&mut self, list: &[u8]) -> Result<(), AllocError>
         requires { IfSome self.old.index (λ x. length x.pairs + 1 < 2 ^ 32) }
         ensures same { GoesBy IsAsBefore self.old self.new }
-        ensures ok { OnOk result (HasRoom list.now self.new) }
+        ensures ok { OnOk result (HasRoomForPair list.now self.new) }
     {
         if !is_among(list, self.number) {
             return Ok(());
@@ -195,7 +196,7 @@ impl<K: KeyList> Slot<K> {
 
     /// Gives up the list, unless the index is open.
     pub(crate) fn leave(&mut self, list: &[u8])
-        ensures { self.new ≡ left_by list.now self.old }
+        ensures { self.new ≡ left_if_open list.now self.old }
     {
         if !is_among(list, self.number) {
             self.index = None;

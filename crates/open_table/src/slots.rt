@@ -5,8 +5,8 @@ ghost use Rattle.std.specs.Prelude.{length, position, ◌==◌, slice_index};
 ghost use Rattle.dbf_file.specs.Rows.{with_text};
 ghost use Rattle.dbf_file.specs.Tables.{row_widths};
 ghost use Rattle.row_keys.specs.Lists.{kept_rows, row_pair, IsExact, IsIndexOf, IsAsBefore, HasAdded, HasFollowed};
-ghost use Rattle.open_table.specs.Slots.{Along, GoesBy, HasRoom, IsSlot, PutsBy, Prepares, committed, discarded};
-ghost use Rattle.open_table.specs.Slots.{left_by};
+ghost use Rattle.open_table.specs.Slots.{Along, GoesBy, HasRoomForPair, IsSlot, PutsBy, Prepares, committed, discarded};
+ghost use Rattle.open_table.specs.Slots.{left_if_open};
 
 use crate::slot::Slot;
 use dbf_file::Table;
@@ -21,7 +21,7 @@ pub(crate) fn reserve_all<K: KeyList>(
 ) -> Result<(), AllocError>
     requires { All (λ slot. IfSome slot.index (λ x. length x.pairs + 1 < 2 ^ 32)) slots.old.items }
     ensures same { Along (GoesBy IsAsBefore) slots.old.items slots.new.items }
-    ensures ok { OnOk result (All (HasRoom list.now) slots.new.items) }
+    ensures ok { OnOk result (All (HasRoomForPair list.now) slots.new.items) }
 {
     for slot in slots.iter_mut() {
         slot.reserve(list)?;
@@ -31,7 +31,7 @@ pub(crate) fn reserve_all<K: KeyList>(
 
 /// Gives up the lists of the indexes that aren't open.
 pub(crate) fn leave_all<K: KeyList>(slots: &mut Vec<Slot<K>>, list: &[u8])
-    ensures { Along (λ a b. b ≡ left_by list.now a) slots.old.items slots.new.items }
+    ensures { Along (λ a b. b ≡ left_if_open list.now a) slots.old.items slots.new.items }
 {
     for slot in slots.iter_mut() {
         slot.leave(list);

@@ -11,9 +11,10 @@ ghost use Rattle.shape.specs.Keys.{IsKey, key_length};
 ghost use Rattle.row_moves.specs.Moves.{IsMove, end_of, skipped, sought};
 ghost use Rattle.std.specs.Fn.{FnReturnsAt};
 ghost use Rattle.open_table.specs.Marks.{mark_at, is_fresh, parts_in, form_in, count_stale};
-ghost use Rattle.open_table.specs.Tables.{HasDeclared, IsOrder, order_pairs, pairs_in, pair_at, appended, replaced};
-ghost use Rattle.open_table.specs.Tables.{remarked, remade, packed, cleared};
-ghost use Rattle.open_table.specs.Passes.{behind, IsClosing};
+ghost use Rattle.open_table.specs.Tables.{HasDeclared, IsOrder, order_pairs, pairs_in_order, pair_at, appended};
+ghost use Rattle.open_table.specs.Tables.{replaced};
+ghost use Rattle.open_table.specs.Tables.{remarked, remade, packed, emptied};
+ghost use Rattle.open_table.specs.Passes.{at_higher_cost, EndsWithMove};
 ghost use Rattle.open_table.specs.Tried.{ShowsRows};
 ghost use Rattle.xvalue.specs.Kinds.{kind_of};
 
@@ -232,7 +233,7 @@ impl<K: KeyList> IndexedTable<K> {
     /// Removes every row, and makes the open indexes anew; the others go stale. Where memory is missing, all is as it
     /// was.
     fn clear_rows(&mut self, alloc: Global, list: &[u8]) -> Result<(), AllocError>
-        ensures ok { OnOk result (self.new ≡ cleared list.now self.old) }
+        ensures ok { OnOk result (self.new ≡ emptied list.now self.old) }
         ensures err { OnErr result (self.new ≡ self.old) }
     {
         changes::clear(alloc, &mut self.table, &mut self.slots, list)
@@ -251,7 +252,7 @@ impl<K: KeyList> IndexedTable<K> {
         // Where the list of the order isn't there, the base pays for passes over the rows.
         requires paid { ¬ IsOrder order self.old → length self.old.rows ≤ base }
         ensures lands { (shown : ℕ → Bool) → ShowsRows (FnReturnsAt F.Fn) see.now self.old.structure self.old.rows shown
-            → IsMove (behind base (end_of shown true (order_pairs order self.old))) budget result }
+            → IsMove (at_higher_cost base (end_of shown true (order_pairs order self.old))) budget result }
         ensures same { self.new ≡ self.old }
     {
         closing::judge(&self.table, &mut self.slots, order, see, base, budget)
@@ -271,8 +272,8 @@ impl<K: KeyList> IndexedTable<K> {
         requires paid { length self.now.rows ≤ base }
         ensures { (shown : ℕ → Bool)
             → ShowsRows (FnReturnsAt F.Fn) see.now self.now.structure (unmarked self.now.rows) shown
-            → IsMove (behind base (end_of shown true
-            (pairs_in order self.now.marks (unmarked self.now.rows)))) budget result }
+            → IsMove (at_higher_cost base (end_of shown true
+            (pairs_in_order order self.now.marks (unmarked self.now.rows)))) budget result }
     {
         closing::judge_kept(
             &self.table,
@@ -301,7 +302,7 @@ impl<K: KeyList> IndexedTable<K> {
         // Where the list of the order isn't there, the base pays for passes over the rows.
         requires paid { ¬ IsOrder order self.old → length self.old.rows ≤ base }
         ensures lands { (shown : ℕ → Bool) → ShowsRows (FnReturnsAt F.Fn) see.now self.old.structure self.old.rows shown
-            → IsClosing (behind base (end_of shown true (order_pairs order self.old))) budget result }
+            → EndsWithMove (at_higher_cost base (end_of shown true (order_pairs order self.old))) budget result }
         ensures ok { OnOk result (self.new ≡ remade list.now self.old) }
         ensures err { OnErr result (self.new ≡ self.old) }
     {
@@ -330,8 +331,8 @@ impl<K: KeyList> IndexedTable<K> {
         // The rows that the test is asked for are those that are kept, as they are numbered then.
         ensures lands { (shown : ℕ → Bool)
             → ShowsRows (FnReturnsAt F.Fn) see.now self.old.structure (unmarked self.old.rows) shown
-            → IsClosing (behind (length self.old.rows + length (unmarked self.old.rows) * length list.now)
-            (end_of shown true (pairs_in order self.old.marks (unmarked self.old.rows)))) budget result }
+            → EndsWithMove (at_higher_cost (length self.old.rows + length (unmarked self.old.rows) * length list.now)
+            (end_of shown true (pairs_in_order order self.old.marks (unmarked self.old.rows)))) budget result }
         ensures ok { OnOk result (self.new ≡ packed list.now self.old) }
         ensures err { OnErr result (self.new ≡ self.old) }
     {
@@ -353,8 +354,8 @@ impl<K: KeyList> IndexedTable<K> {
     /// ZAP: removes every row and makes the open indexes anew; the others go stale. The end of file is all that TOP can
     /// come to. Where it is refused, all is as it was.
     pub fn zap(&mut self, alloc: Global, list: &[u8], budget: u64) -> Result<Landed, Refused>
-        ensures lands { (shown : ℕ → Bool) → IsClosing (end_of shown true []) budget result }
-        ensures ok { OnOk result (self.new ≡ cleared list.now self.old) }
+        ensures lands { (shown : ℕ → Bool) → EndsWithMove (end_of shown true []) budget result }
+        ensures ok { OnOk result (self.new ≡ emptied list.now self.old) }
         ensures err { OnErr result (self.new ≡ self.old) }
     {
         if budget == 0 {
@@ -383,7 +384,7 @@ impl<K: KeyList> IndexedTable<K> {
         requires callable { F.IsAlwaysCallable see.now }
         requires few { length list.now ≤ 7 }
         ensures lands { (shown : ℕ → Bool) → ShowsRows (FnReturnsAt F.Fn) see.now self.old.structure self.old.rows shown
-            → IsClosing (behind (length self.old.rows * count_stale list.now self.old.marks)
+            → EndsWithMove (at_higher_cost (length self.old.rows * count_stale list.now self.old.marks)
             (end_of shown true (order_pairs (slice_get list.now 0) self.old))) budget result }
         ensures ok { OnOk result (self.new ≡ remade list.now self.old) }
         ensures err { OnErr result (self.new ≡ self.old) }
@@ -408,7 +409,7 @@ impl<K: KeyList> IndexedTable<K> {
         requires callable { F.IsAlwaysCallable see.now }
         requires few { length list.now ≤ 7 }
         ensures lands { (shown : ℕ → Bool) → ShowsRows (FnReturnsAt F.Fn) see.now self.old.structure self.old.rows shown
-            → IsClosing (behind (length self.old.rows * length list.now)
+            → EndsWithMove (at_higher_cost (length self.old.rows * length list.now)
             (end_of shown true (order_pairs order self.old))) budget result }
         ensures ok { OnOk result (self.new ≡ remade list.now self.old) }
         ensures err { OnErr result (self.new ≡ self.old) }
@@ -450,7 +451,7 @@ impl<K: KeyList> IndexedTable<K> {
     ) -> Result<Landed, Refused>
         requires { F.IsAlwaysCallable see.now }
         ensures lands { (shown : ℕ → Bool) → ShowsRows (FnReturnsAt F.Fn) see.now self.old.structure self.old.rows shown
-            → IsClosing (behind (length self.old.rows)
+            → EndsWithMove (at_higher_cost (length self.old.rows)
             (end_of shown true (order_pairs (Some number) self.old))) budget result }
         ensures ok { OnOk result (self.new ≡ remade (number ∷ []) self.old) }
         ensures err { OnErr result (self.new ≡ self.old) }

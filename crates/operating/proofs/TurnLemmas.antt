@@ -3,18 +3,17 @@ use Rattle.std.proofs.Common.{◌≡◌, ◌≤◌, ◌<◌, ◌+◌, ◌-◌, �
 use Rattle.std.specs.Prelude.{Result, Ok, Err, IfOk}
 use Rattle.calendar.specs.declared.day.DayParts.{DayParts}
 use Rattle.code_items.specs.declared.code.Code.{Code}
-use Rattle.code_rules.specs.Places.{instr_at}
 use Rattle.line_journal.specs.Kept.{ended_by_lf}
-use Rattle.machine.specs.Headline.{Headline}
-use Rattle.machine.specs.Pauses.{PausesAt}
-use Rattle.machine.specs.Twins.{BankState, AgreesWith, Begins, Twin}
+use Rattle.machine.specs.Twins.{BankState, Begins, Twin}
 use Rattle.operating.specs.declared.operator.Broken.{Broken}
 use Rattle.operating.specs.declared.talking.Turn.{Turn}
 use Rattle.operating.specs.declared.talking.Turn.TheVariants.{Over, On}
+use Rattle.operating.specs.Pieces.{PieceReaches}
 use Rattle.operating.specs.Talks.{Talked, ComesTo, Turned, IsNearer, TookLine}
+use Rattle.run_parts.specs.Parts.{RunsTo}
 use Rattle.run_steps.specs.declared.ending.Outcome.{Outcome}
 use Rattle.run_steps.specs.Opening.{opening}
-use Rattle.run_steps.specs.Pausing.{Came, takes_line, is_dry, with_more}
+use Rattle.run_steps.specs.Pausing.{Came, with_more}
 use Rattle.run_steps.specs.Run.{Ran}
 use Rattle.run_steps.specs.World.{World, with_lines}
 use Rattle.text_lines.specs.Lines.{short_lines, is_ended, is_out}
@@ -36,30 +35,27 @@ pub record Lines (code : Code) : Type 0 where
 -- ---- pieces
 
 pub comes_to : (code : Code) (store : StoreState) (today : Option DayParts) (typed : List ℕ) (budget steps : ℕ) (last : Outcome) (old new : BankState) → Pieces → steps ≤ budget
-    → (t : Talked code store today typed steps old) → Headline code t.world (budget - steps) last new → ComesTo code store today typed budget (record { end = last.end; steps = steps + last.steps }) new
-comes_to code store today typed budget steps last old new laws le t h = record {
-  last = h.world;
-  ran = laws.ended code (opening code store (short_lines typed) today) t.world h.world budget steps last t.came le h.takes_its_steps;
-  no_fault = h.ends_without_fault;
-  agrees = h.agrees;
-  declared = h.as_declared;
+    → (t : Talked code store today typed steps old) → RunsTo code t.world (budget - steps) last new → ComesTo code store today typed budget (record { end = last.end; steps = steps + last.steps }) new
+comes_to code store today typed budget steps last old new laws le t r = record {
+  last = r.world;
+  ran = laws.ended code (opening code store (short_lines typed) today) t.world r.world budget steps last t.came le r.ran;
+  no_fault = r.no_fault;
+  agrees = r.agrees;
+  declared = r.declared;
 }
 
-pub talked_on : (code : Code) (store : StoreState) (today : Option DayParts) (typed : List ℕ) (budget steps more : ℕ) (old new : BankState) → Pieces
-    → (t : Talked code store today typed steps old) → PausesAt code t.world budget more new → Talked code store today typed (steps + more) new
-talked_on code store today typed budget steps more old new laws t p = record {
+pub talked_on : (code : Code) (store : StoreState) (today : Option DayParts) (typed : List ℕ) (steps left more : ℕ) (old new : BankState) → Pieces
+    → (t : Talked code store today typed steps old) → PieceReaches code t.world left more new → Talked code store today typed (steps + more) new
+talked_on code store today typed steps left more old new laws t r = record {
   ended = t.ended;
-  world = p.world;
-  came = laws.joined code (opening code store (short_lines typed) today) t.world p.world steps more t.came p.takes_its_steps;
-  twin = p.goes_on;
+  world = r.world;
+  came = laws.joined code (opening code store (short_lines typed) today) t.world r.world steps more t.came r.came;
+  twin = r.twin;
 }
 
-second_of_two : (a b : Bool) → (a && b) ≡ true → b ≡ true
+pub second_of_two : (a b : Bool) → (a && b) ≡ true → b ≡ true
 second_of_two true b e = e
 second_of_two false b e = absurd (cc)
-
-pub out_there : (code : Code) (w : World) (b : BankState) → AgreesWith b w → is_dry code w ≡ true → is_out b.env.lines ≡ true
-out_there code w b a dry = ap is_out a.lines ∙ second_of_two (takes_line (instr_at code w.place)) (is_out w.env.lines) dry
 
 -- ---- lines
 

@@ -2,6 +2,8 @@
 #![tactic(auto)]
 
 mod operator;
+mod pieces;
+mod silence;
 mod talking;
 
 pub use operator::{Answer, Broken, Operator, OperatorFailed, Scene};

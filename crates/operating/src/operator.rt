@@ -34,12 +34,20 @@ pub trait Operator {
     /// value for each place of the code from 0 on; those that are missing aren't.
     fn begin(&mut self, code: &Code) -> Result<Vec<bool>, OperatorFailed>;
 
+    /// The run has taken steps of this cost, of a budget that it had at its beginning. Answers what it goes on for at
+    /// most before this is told again. A next step that is dearer is taken all the same, where the budget pays for it.
+    fn hear(&mut self, steps: u64, budget: u64) -> u64;
+
     /// The run has come to a marked place.
     fn see(&mut self, view: &Scene<'_>) -> Result<(), OperatorFailed>;
 
     /// The next instruction takes a line, and none is left. A line with its LF has at most `room` bytes: where `room`
     /// is 0 the end of the input alone is left to answer.
     fn ask(&mut self, view: &Scene<'_>, room: usize) -> Result<Answer, OperatorFailed>;
+
+    /// The next instruction takes a line, and the input has ended before: the line is empty. The first such line is
+    /// that for which the end was answered, and isn't told so.
+    fn miss(&mut self, view: &Scene<'_>) -> Result<(), OperatorFailed>;
 
     /// The run has ended, and nothing is saved yet.
     fn end(&mut self, view: &Scene<'_>) -> Result<(), OperatorFailed>;

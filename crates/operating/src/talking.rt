@@ -8,10 +8,12 @@ ghost use Rattle.text_lines.specs.Lines.{is_ended as is_ended_text, is_out, shor
 ghost use Rattle.work_area.specs.Areas.{StoreState};
 
 use crate::operator::{Answer, Broken, Operator, Scene};
+use crate::pieces::{Piece, take_piece};
+use crate::silence::run_out;
 use calendar::Day;
 use key_lists::KeyList;
 use line_journal::{Journal, NotKept, keep};
-use machine::{Banks, Leg, banks_go_on, resume, resume_to_line};
+use machine::{Banks, banks_go_on};
 use run_laws::laws::{lines_behind_change_no_step, pieces_make_the_whole};
 use run_steps::Outcome;
 use std::alloc::{AllocError, Global};
@@ -73,36 +75,25 @@ fn take_one<J: Journal, O: Operator, K: KeyList>(
     Ok(Some(used + bytes + 1))
 }
 
-/// Goes on to the end of a run, whose further lines are empty.
-fn run_out<K: KeyList>(
-    alloc: Global,
-    verified: &Verified,
-    banks: &mut Banks<K>,
-    budget: u64,
-    steps: u64,
-) -> Outcome
-    requires within { steps ≤ budget }
-    requires talked { (store : StoreState) × (today : Option DayParts) × (bytes : List ℕ)
-        × Talked verified.now store today bytes steps banks.old }
-    ensures { (store : StoreState) (today : Option DayParts) (bytes : List ℕ)
-        → Talked verified.now store today bytes steps banks.old
-        → ComesTo verified.now store today bytes budget result banks.new }
-{
-    pieces_make_the_whole();
-    let last = resume(alloc, verified, banks, budget - steps);
-    Outcome {
-        end: last.end,
-        steps: steps + last.steps,
-    }
-}
-
 /// Shows an operator what stands at a marked place.
-fn show<O: Operator, K: KeyList>(
+pub(crate) fn show<O: Operator, K: KeyList>(
     verified: &Verified,
     operator: &mut O,
     banks: &Banks<K>,
 ) -> Result<(), Broken> {
     match operator.see(&view_of(verified, banks)) {
+        Ok(()) => Ok(()),
+        Err(_) => Err(Broken::Operator),
+    }
+}
+
+/// Tells an operator of an empty line behind the end of the input.
+pub(crate) fn miss<O: Operator, K: KeyList>(
+    verified: &Verified,
+    operator: &mut O,
+    banks: &Banks<K>,
+) -> Result<(), Broken> {
+    match operator.miss(&view_of(verified, banks)) {
         Ok(()) => Ok(()),
         Err(_) => Err(Broken::Operator),
     }
@@ -124,6 +115,7 @@ fn close<O: Operator, K: KeyList>(
 fn answer<J: Journal, O: Operator, K: KeyList>(
     alloc: Global,
     verified: &Verified,
+    marks: &[bool],
     journal: &mut J,
     operator: &mut O,
     banks: &mut Banks<K>,
@@ -150,12 +142,15 @@ fn answer<J: Journal, O: Operator, K: KeyList>(
             steps,
             used: longer,
         }),
-        None => Ok(Turn::Over(run_out(alloc, verified, banks, budget, steps))),
+        None => {
+            let outcome = run_out(alloc, verified, marks, operator, banks, budget, steps)?;
+            Ok(Turn::Over(outcome))
+        }
     }
 }
 
-/// One turn of the conversation: the run goes on to where it ends, waits, or stands at a marked place, and the operator
-/// is asked or shown what stands there.
+/// One turn of the conversation: the run goes on to where it ends, waits, stands at a marked place, or has gone on for
+/// as much as the operator said, and the operator is asked or shown what stands there.
 fn take_turn<J: Journal, O: Operator, K: KeyList>(
     alloc: Global,
     verified: &Verified,
@@ -177,21 +172,28 @@ fn take_turn<J: Journal, O: Operator, K: KeyList>(
     ensures nearer { IfOk result (IsNearer budget 1048576 steps used) }
 {
     pieces_make_the_whole();
-    match resume_to_line(alloc, verified, marks, banks, budget - steps) {
-        Leg::Ended(last) => Ok(Turn::Over(Outcome {
+    let left = budget - steps;
+    let most = operator.hear(steps, budget);
+    match take_piece(alloc, verified, marks, banks, left, most) {
+        Piece::Ended(last) => Ok(Turn::Over(Outcome {
             end: last.end,
             steps: steps + last.steps,
         })),
-        Leg::Marked(more) => {
+        Piece::Spent(more) => Ok(Turn::On {
+            steps: steps + more,
+            used,
+        }),
+        Piece::Marked(more) => {
             show(verified, operator, banks)?;
             Ok(Turn::On {
                 steps: steps + more,
                 used,
             })
         }
-        Leg::Waits(more) => answer(
+        Piece::Waits(more) => answer(
             alloc,
             verified,
+            marks,
             journal,
             operator,
             banks,

@@ -391,6 +391,11 @@ impl<R: Runtime<A = Global, File = File>> Operator for OperatorDesk<'_, R> {
         Ok(marks)
     }
 
+    /// What is drawn or listed stays until the run waits.
+    fn hear(&mut self, _steps: u64, budget: u64) -> u64 {
+        budget
+    }
+
     fn see(&mut self, seen: &Scene<'_>) -> Result<(), OperatorFailed> {
         if self.gets.look(self.rt.alloc(), seen).is_err() {
             return Err(OperatorFailed);
@@ -414,6 +419,10 @@ impl<R: Runtime<A = Global, File = File>> Operator for OperatorDesk<'_, R> {
             }
         }
         Err(OperatorFailed)
+    }
+
+    fn miss(&mut self, seen: &Scene<'_>) -> Result<(), OperatorFailed> {
+        self.write_screen(self.rt.alloc(), seen.screen.rows(), Some(&[]))
     }
 
     fn end(&mut self, seen: &Scene<'_>) -> Result<(), OperatorFailed> {

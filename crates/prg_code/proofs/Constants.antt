@@ -2,13 +2,13 @@
 use Rattle.std.proofs.Common.{◌≡◌, zero, suc, ap, ◌∙◌, Bool, true, false, ◌||◌, List, [], ◌∷◌, Option, unwrap_or, refl}
 use Rattle.std.specs.List.{list_any}
 use Rattle.xvalue.specs.declared.value.Value.{Value}
-use Rattle.prg_code.specs.Pools.{Holds, is_one_constant, is_one_constant-refl}
+use Rattle.prg_code.specs.Pools.{HasConstant, is_one_constant, is_one_constant-refl}
 
 or_true : (b : Bool) → (b || true) ≡ true
 or_true true = refl
 or_true false = refl
 
-pub met : (xs : List Value) (v : Value) → Holds xs v → list_any (is_one_constant v) xs ≡ true
+pub met : (xs : List Value) (v : Value) → HasConstant xs v → list_any (is_one_constant v) xs ≡ true
 met [] v (n, e) = absurd (let k = e in cc)
 met (x ∷ xs) v (zero, e) =
     ap (λ b. b || list_any (is_one_constant v) xs)

@@ -15,8 +15,8 @@ use Rattle.xvalue.specs.declared.value.Value.{Value}
 use Rattle.xvalue.specs.declared.value.Value.TheVariants.{Number, Text, Date, Logical}
 
 -- the constant has a number
-abbrev pub Holds : List Value → Value → Type 0
-Holds constants value = (number : ℕ) × (slice_get constants number ≡ Some value)
+abbrev pub HasConstant : List Value → Value → Type 0
+HasConstant constants value = (number : ℕ) × (slice_get constants number ≡ Some value)
 
 -- both are one day, or both are blank
 abbrev pub is_same_day : Option DayParts → Option DayParts → Bool

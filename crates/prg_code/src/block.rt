@@ -2,6 +2,7 @@
 
 use crate::fault::{CompileError, CompileFaultKind};
 use crate::merging::{is_selection_same, merged};
+use crate::seen::Seen;
 use code_items::{AreaState, Desk, FlowInstr, Instr, Items, KindSlots, KindStack, State};
 use code_rules::Signature;
 use code_rules::flow::{change_desk, change_slots};
@@ -11,7 +12,7 @@ use std::alloc::{AllocError, Global};
 const MOST_VALUES: usize = 64;
 
 /// The most slots.
-const MOST_SLOTS: usize = 256;
+pub const MOST_SLOTS: usize = 256;
 
 /// A piece of a block, before its labels have places.
 #[derive(Clone, Copy, Debug, PartialEq, Eq)]
@@ -19,11 +20,11 @@ pub enum Draft {
     /// An instruction that is no jump.
     Instr(Instr),
     /// JUMP to the label of this number.
-    Jump(usize),
+    Jump(u32),
     /// JUMPF to the label of this number.
-    JumpFalse(usize),
+    JumpFalse(u32),
     /// The place of the label of this number.
-    Label(usize),
+    Label(u32),
     /// The procedure's variables lose their values, and it returns.
     Return,
 }
@@ -39,14 +40,26 @@ pub struct SourceLine {
 #[derive(Clone, Copy, Debug, PartialEq, Eq)]
 pub struct BlockPiece {
     pub draft: Draft,
-    pub line: usize,
+    line: u32,
+}
+
+/// A number of a line or of a label, in four bytes. No file has so many lines that one doesn't fit.
+fn four_bytes(number: usize) -> u32 {
+    u32::try_from(number).unwrap_or(u32::MAX)
+}
+
+impl BlockPiece {
+    /// The line of the command whose code it is.
+    pub fn line(&self) -> usize {
+        self.line as usize
+    }
 }
 
 /// A place to which jumps may lead.
 #[derive(Drop)]
 pub struct Label {
     /// What is known there, from all ways that lead there so far; none where none does.
-    pub state: Option<State>,
+    pub state: Option<Seen>,
     /// Whether a jump leads there.
     pub jumped: bool,
     /// Whether different work areas are selected on the ways.
@@ -55,7 +68,7 @@ pub struct Label {
 
 /// A block: its pieces and labels, and what is known behind the last piece.
 #[derive(Drop)]
-pub struct Block {
+pub struct DraftBlock {
     alloc: Global,
     pub pieces: Vec<BlockPiece>,
     pub labels: Vec<Label>,
@@ -82,15 +95,15 @@ fn blank(alloc: Global) -> Result<State, AllocError> {
     })
 }
 
-impl Block {
+impl DraftBlock {
     /// An empty block of the main procedure.
-    pub fn main(alloc: Global) -> Result<Block, AllocError> {
-        Ok(Block::entered(alloc, blank(alloc)?))
+    pub fn main(alloc: Global) -> Result<DraftBlock, AllocError> {
+        Ok(DraftBlock::entered(alloc, blank(alloc)?))
     }
 
     /// An empty block, at whose beginning this is known.
-    pub fn entered(alloc: Global, state: State) -> Block {
-        Block {
+    pub fn entered(alloc: Global, state: State) -> DraftBlock {
+        DraftBlock {
             alloc,
             pieces: Vec::new(alloc),
             labels: Vec::new(alloc),
@@ -103,7 +116,7 @@ impl Block {
     }
 
     fn push(&mut self, draft: Draft) -> Result<(), AllocError> {
-        let line = self.line;
+        let line = four_bytes(self.line);
         self.pieces.push(BlockPiece { draft, line })?;
         Ok(())
     }
@@ -162,7 +175,7 @@ impl Block {
         if !self.reached {
             return Ok(());
         }
-        self.push(Draft::Jump(label))?;
+        self.push(Draft::Jump(four_bytes(label)))?;
         self.flow_to(label, true)?;
         self.reached = false;
         Ok(())
@@ -170,7 +183,7 @@ impl Block {
 
     /// A JUMPF to the label, which takes the truth value on top.
     pub fn jump_false(&mut self, label: usize) -> Result<(), CompileError> {
-        self.push(Draft::JumpFalse(label))?;
+        self.push(Draft::JumpFalse(four_bytes(label)))?;
         self.depth = self.depth.saturating_sub(1);
         self.flow_to(label, true)?;
         Ok(())
@@ -181,8 +194,12 @@ impl Block {
         let Some(there) = self.labels.get_mut(label) else {
             return Ok(());
         };
-        let state = flown(self.alloc, there.state.as_ref(), &self.state)?;
-        there.split = there.split || is_split(there.state.as_ref(), &self.state);
+        let there_so_far = match &there.state {
+            Some(seen) => Some(seen.state(self.alloc, MOST_SLOTS)?),
+            None => None,
+        };
+        let state = flown(self.alloc, there_so_far.as_ref(), &self.state)?;
+        there.split = there.split || is_split(there_so_far.as_ref(), &self.state);
         there.state = Some(state);
         there.jumped = there.jumped || jumped;
         Ok(())
@@ -193,12 +210,12 @@ impl Block {
         if self.reached {
             self.flow_to(label, false)?;
         }
-        self.push(Draft::Label(label))?;
+        self.push(Draft::Label(four_bytes(label)))?;
         let Some(there) = self.labels.get(label) else {
             return Ok(());
         };
-        if let Some(state) = &there.state {
-            self.state = state.copied(self.alloc)?;
+        if let Some(seen) = &there.state {
+            self.state = seen.state(self.alloc, MOST_SLOTS)?;
             self.reached = true;
         }
         if there.split {
@@ -225,10 +242,10 @@ impl Block {
     }
 }
 
-fn flown(alloc: Global, there: Option<&State>, state: &State) -> Result<State, AllocError> {
+fn flown(alloc: Global, there: Option<&State>, state: &State) -> Result<Seen, AllocError> {
     match there {
-        Some(there) => merged(alloc, there, state),
-        None => state.copied(alloc),
+        Some(there) => Seen::of(alloc, &merged(alloc, there, state)?),
+        None => Seen::of(alloc, state),
     }
 }
 

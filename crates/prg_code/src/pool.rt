@@ -3,7 +3,7 @@
 ghost use Rattle.std.specs.Prelude.{◌≡◌, true, Some, IfOk, slice_get};
 ghost use Rattle.fixed_num.specs.Words.{magnitude_of};
 ghost use Rattle.prg_code.specs.Numbers.{Grows};
-ghost use Rattle.prg_code.specs.Pools.{Holds, is_same_day as is_same_day_of, is_one_constant, day_code};
+ghost use Rattle.prg_code.specs.Pools.{HasConstant, is_same_day as is_same_day_of, is_one_constant, day_code};
 
 use crate::fault::CompileError;
 use crate::numbering::Numbering;
@@ -136,7 +136,7 @@ impl Numbering<Constant, MOST_CONSTANTS> {
         // The constants that were there keep their numbers.
         ensures grown { Grows self.old self.new }
         // A constant that is there isn't added.
-        ensures once { Holds self.old value → self.new ≡ self.old }
+        ensures once { HasConstant self.old value → self.new ≡ self.old }
     {
         self.number(Constant { value })
     }

@@ -1,8 +1,8 @@
 //! Blocks laid out: places in place of labels.
 
-use crate::block::{Block, Draft, SourceLine};
+use crate::block::{Draft, DraftBlock, Label, SourceLine};
 use crate::fault::{CompileError, CompileFaultKind, CompileRefusal};
-use code_items::{FlowInstr, Instr, State, ValueInstr};
+use code_items::{FlowInstr, Instr, Map, ValueInstr};
 use std::alloc::{AllocError, Global};
 
 /// The most instructions of a code.
@@ -11,20 +11,27 @@ const MOST_INSTRUCTIONS: usize = 65535;
 /// The most maps of a code.
 const MOST_MAPS: usize = 4096;
 
-/// Instructions from place 0 on, and what is known at places to which jumps lead, by rising place.
+/// Instructions from place 0 on, and what is known at places to which jumps lead, by rising place, of so many slots.
 #[derive(Drop)]
 pub struct LaidOut {
     pub instrs: Vec<Instr>,
-    pub maps: Vec<(usize, State)>,
+    pub maps: Vec<Map>,
+    slots: usize,
 }
 
 impl LaidOut {
-    /// Nothing yet.
-    pub fn new(alloc: Global) -> LaidOut {
-        LaidOut {
-            instrs: Vec::new(alloc),
-            maps: Vec::new(alloc),
-        }
+    /// Nothing yet of a code with so many slots, with room for so many instructions and maps.
+    pub fn new(
+        alloc: Global,
+        slots: usize,
+        instrs: usize,
+        maps: usize,
+    ) -> Result<LaidOut, AllocError> {
+        Ok(LaidOut {
+            instrs: Vec::with_capacity(alloc, instrs)?,
+            maps: Vec::with_capacity(alloc, maps)?,
+            slots,
+        })
     }
 
     /// Limit in this line, where there are more instructions or maps than a code may have.
@@ -46,10 +53,25 @@ fn size_of(draft: Draft, own: usize) -> usize {
     }
 }
 
+/// How many instructions and maps the block has at most, if it has so many slots of its own.
+pub fn room_of(block: &DraftBlock, own: usize) -> (usize, usize) {
+    let mut instrs = 0usize;
+    let mut maps = 0usize;
+    for piece in &block.pieces {
+        instrs = instrs.saturating_add(size_of(piece.draft, own));
+        if let Draft::Label(label) = piece.draft
+            && let Some(Label { jumped: true, .. }) = block.labels.get(label as usize)
+        {
+            maps = maps.saturating_add(1);
+        }
+    }
+    (instrs, maps)
+}
+
 /// The places of the labels, if the block begins at this place.
 fn places(
     alloc: Global,
-    block: &Block,
+    block: &DraftBlock,
     own: usize,
     first: usize,
 ) -> Result<Vec<usize>, AllocError> {
@@ -57,7 +79,7 @@ fn places(
     let mut place = first;
     for piece in &block.pieces {
         if let Draft::Label(label) = piece.draft {
-            set(&mut places, label, place);
+            set(&mut places, label as usize, place);
         }
         place = place.saturating_add(size_of(piece.draft, own));
     }
@@ -70,8 +92,8 @@ fn set(places: &mut Vec<usize>, label: usize, place: usize) {
     }
 }
 
-fn target(places: &[usize], label: usize) -> u32 {
-    match places.get(label) {
+fn target(places: &[usize], label: u32) -> u32 {
+    match places.get(label as usize) {
         Some(place) => u32::try_from(*place).unwrap_or(u32::MAX),
         None => u32::MAX,
     }
@@ -86,9 +108,9 @@ fn put_return(instrs: &mut Vec<Instr>, own: &[u8]) -> Result<(), AllocError> {
 }
 
 /// Leaves out the last map where it is of this place: what is known there flows into the label that stands behind it.
-fn drop_last_at(maps: &mut Vec<(usize, State)>, place: usize) {
+fn drop_last_at(maps: &mut Vec<Map>, place: u16) {
     let is_there = match maps.last() {
-        Some((last, _)) => *last == place,
+        Some(last) => last.place == place,
         None => false,
     };
     if is_there {
@@ -99,19 +121,20 @@ fn drop_last_at(maps: &mut Vec<(usize, State)>, place: usize) {
 fn put_map(
     alloc: Global,
     laid: &mut LaidOut,
-    block: &Block,
-    label: usize,
+    block: &DraftBlock,
+    label: u32,
 ) -> Result<(), AllocError> {
-    let Some(there) = block.labels.get(label) else {
+    let Some(there) = block.labels.get(label as usize) else {
         return Ok(());
     };
     if !there.jumped {
         return Ok(());
     }
-    if let Some(state) = &there.state {
-        let place = laid.instrs.len();
+    if let Some(seen) = &there.state {
+        let place = u16::try_from(laid.instrs.len()).unwrap_or(u16::MAX);
+        let state = seen.state(alloc, laid.slots)?;
         drop_last_at(&mut laid.maps, place);
-        laid.maps.push((place, state.copied(alloc)?))?;
+        laid.maps.push(Map { place, state })?;
     }
     Ok(())
 }
@@ -119,7 +142,7 @@ fn put_map(
 fn put(
     alloc: Global,
     laid: &mut LaidOut,
-    block: &Block,
+    block: &DraftBlock,
     places: &[usize],
     own: &[u8],
     draft: Draft,
@@ -145,14 +168,14 @@ fn put(
 pub fn lay(
     alloc: Global,
     laid: &mut LaidOut,
-    block: &Block,
+    block: &DraftBlock,
     own: &[u8],
     file: usize,
 ) -> Result<(), CompileRefusal> {
     let places = places(alloc, block, own.len(), laid.instrs.len())?;
     for piece in &block.pieces {
         put(alloc, laid, block, &places, own, piece.draft)?;
-        let line = piece.line;
+        let line = piece.line();
         laid.fits(SourceLine { file, line })?;
     }
     Ok(())

@@ -1,6 +1,6 @@
 //! What is being written.
 
-use crate::block::{Block, SourceLine};
+use crate::block::{DraftBlock, SourceLine};
 use crate::filters::Filters;
 use crate::lists::Lists;
 use crate::names::Names;
@@ -36,7 +36,7 @@ pub struct Work {
     pub file: usize,
     /// Whether it is the main procedure.
     pub is_main: bool,
-    pub block: Block,
+    pub block: DraftBlock,
     /// The variables that it sees.
     pub names: Names,
     /// The slots that are its own, rising.
@@ -72,7 +72,7 @@ impl Work {
     }
 
     /// A copy that begins with this block and these names.
-    pub fn new(alloc: Global, file: usize, is_main: bool, block: Block, names: Names) -> Work {
+    pub fn new(alloc: Global, file: usize, is_main: bool, block: DraftBlock, names: Names) -> Work {
         Work {
             alloc,
             file,

@@ -6,7 +6,7 @@ use arrayvec::ArrayVec;
 use code_items::{Instr, KeyPart, Name, RecordInstr, Shape};
 use dbf_file::Field;
 use prg_code::{CompileError, CompileFaultKind, Output, Work};
-use prg_expr::{Expr, Function, Operator};
+use prg_expr::{BinaryOperator, Expr, Function};
 
 fn is_field(fields: &[Field], number: u8, name: &[u8]) -> bool {
     match fields.get(usize::from(number)) {
@@ -42,7 +42,7 @@ fn is_part(fields: &[Field], part: KeyPart, e: &Expr) -> bool {
 /// Whether the expression is the key of these parts, joined by plus signs.
 fn is_key(e: &Expr, fields: &[Field], parts: &[KeyPart]) -> bool {
     match e {
-        Expr::Binary(Operator::Plus, left, right) => match parts.split_last() {
+        Expr::Binary(BinaryOperator::Plus, left, right) => match parts.split_last() {
             Some((last, others)) => is_part(fields, *last, right) && is_key(left, fields, others),
             None => false,
         },

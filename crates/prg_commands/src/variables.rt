@@ -119,8 +119,8 @@ pub fn argument_slot(shape: &Shape, work: &Work, e: &Expr) -> Result<Option<u8>,
             Some(_) => Ok(None),
             None => Ok(Some(variable_slot(&scope, name)?)),
         },
-        Expr::Qualified(alias, name) if alias.as_slice() == b"M".as_slice() => {
-            Ok(Some(variable_slot(&scope, name)?))
+        Expr::Qualified(aliased) if aliased.alias.as_slice() == b"M".as_slice() => {
+            Ok(Some(variable_slot(&scope, &aliased.name)?))
         }
         _ => Ok(None),
     }

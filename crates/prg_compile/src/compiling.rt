@@ -9,11 +9,13 @@ ghost use Rattle.met_areas.specs.Met.{AreasOfShape};
 use crate::ways::areas_at;
 use code_items::{Code, Shape};
 use met_areas::MetAreas;
-use prg_code::{Block, CompileFault, CompileFaultKind, CompileRefusal, Names, Output, Work};
+use prg_code::{CompileFault, CompileFaultKind, CompileRefusal, DraftBlock, Names, Output, Work};
 use prg_control::{commands, end_copy, end_procedure};
 use prg_laid::{LayoutFault, judge};
 use prg_parser::Program;
-use prg_writer::{FaultList, ProcedureCopy, Source, Target, Writer, assemble, copy_of_shape};
+use prg_writer::{
+    FaultList, NamedProcedures, ProcedureCopy, Source, Target, Writer, assemble, copy_of_shape,
+};
 use std::alloc::{AllocError, Global};
 use xverify::{Verified, VerifyError, verify};
 
@@ -24,13 +26,13 @@ const MAIN: Target = Target {
 };
 
 fn empty_work(alloc: Global) -> Result<Work, AllocError> {
-    let block = Block::main(alloc)?;
+    let block = DraftBlock::main(alloc)?;
     Ok(Work::new(alloc, 0, true, block, Names::new(alloc)))
 }
 
 /// The main procedure as the first copy, of which nothing is written yet.
-fn begun(alloc: Global) -> Result<Writer, AllocError> {
-    let block = Block::main(alloc)?;
+fn begun(alloc: Global, programs: &[Program]) -> Result<Writer, AllocError> {
+    let block = DraftBlock::main(alloc)?;
     let entry = block.state.copied(alloc)?;
     let mut copies = Vec::new(alloc);
     copies.push(ProcedureCopy {
@@ -50,6 +52,7 @@ fn begun(alloc: Global) -> Result<Writer, AllocError> {
         out: Output::new(alloc),
         work: empty_work(alloc)?,
         copies,
+        procedures: NamedProcedures::of(alloc, programs)?,
         active,
         heads: Vec::new(alloc),
         listed: None,
@@ -76,7 +79,7 @@ fn written(
     s: &Source,
     listed: Option<FaultList>,
 ) -> Result<WrittenCode, CompileRefusal> {
-    let mut w = begun(alloc)?;
+    let mut w = begun(alloc, s.programs)?;
     w.listed = listed;
     write_main(&mut w, s)?;
     let names = w.work.names.copied(alloc)?;
@@ -137,24 +140,42 @@ fn accepted(
     }
 }
 
+/// The written blocks put together as a code for tables and indexes of this shape, judged and verified. (Apart from
+/// `finished`, so that nothing of the writer is freed beside it.)
+fn assembled(
+    alloc: Global,
+    out: Output,
+    copies: Vec<ProcedureCopy>,
+    programs: &[Program],
+    names: &Names,
+    shape: Shape,
+) -> Result<Verified, CompileRefusal>
+    ensures shape { IfOk result (λ verified. verified.declared.shape ≡ shape) }
+    ensures laid { IfOk result (λ verified. IsLaidAlone verified programs.now) }
+{
+    let code = assemble(alloc, shape, out, copies)?;
+    accepted(alloc, code, programs, names)
+}
+
 /// What is written as a code for tables and indexes of this shape, judged and verified.
 fn finished(
     alloc: Global,
-    drafted: &WrittenCode,
+    drafted: WrittenCode,
     programs: &[Program],
     shape: Shape,
 ) -> Result<Verified, CompileRefusal>
     ensures shape { IfOk result (λ verified. verified.declared.shape ≡ shape) }
     ensures laid { IfOk result (λ verified. IsLaidAlone verified programs.now) }
 {
-    let code = assemble(alloc, shape, &drafted.writer.out, &drafted.writer.copies)?;
-    accepted(alloc, code, programs, &drafted.names)
+    let WrittenCode { writer, names } = drafted;
+    let Writer { out, copies, .. } = writer;
+    assembled(alloc, out, copies, programs, &names, shape)
 }
 
 /// The same for a copy of the shape.
 fn finished_for(
     alloc: Global,
-    drafted: &WrittenCode,
+    drafted: WrittenCode,
     programs: &[Program],
     shape: &Shape,
 ) -> Result<Verified, CompileRefusal>
@@ -185,7 +206,7 @@ pub fn compile(
     ensures laid { IfOk result (λ verified. IsLaidAlone verified programs.now) }
 {
     let code = written(alloc, &Source { programs, shape }, None)?;
-    finished_for(alloc, &code, programs, shape)
+    finished_for(alloc, code, programs, shape)
 }
 
 /// The fault that is told, and these behind it.
@@ -272,7 +293,7 @@ pub fn areas_at_fault(
     // Tables go by the names that are declared.
     ensures told { IfOk result (λ found. IfSome found (AreasOfShape shape.now)) }
 {
-    let mut w = begun(alloc)?;
+    let mut w = begun(alloc, programs)?;
     match write_main(&mut w, &Source { programs, shape }) {
         Ok(()) => Ok(None),
         Err(CompileRefusal::Fault(fault)) => Ok(Some(areas_at(&w, shape, fault.kind)?)),

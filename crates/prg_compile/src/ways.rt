@@ -6,7 +6,7 @@ ghost use Rattle.met_areas.specs.Met.{AreasOfShape};
 use code_items::{AreaState, Desk, FlowInstr, Instr, Shape};
 use code_rules::flow::change_desk;
 use met_areas::{MetAreas, met_areas};
-use prg_code::{Block, CompileFaultKind, Draft, Label};
+use prg_code::{CompileFaultKind, Draft, DraftBlock, Label};
 use prg_writer::{ProcedureCopy, Writer};
 use std::alloc::{AllocError, Global};
 
@@ -66,12 +66,12 @@ impl Walk {
         self.meet(label);
         if let Some(
             Label {
-                state: Some(state),
+                state: Some(seen),
                 ..
             },
         ) = labels.get(label)
         {
-            self.desk = state.desk.copied(alloc)?;
+            self.desk = seen.desk(alloc)?;
             self.reached = true;
         }
         Ok(())
@@ -95,10 +95,12 @@ impl Walk {
     /// One more piece is passed.
     fn pass(&mut self, w: &Writer, draft: Draft) -> Result<(), AllocError> {
         match draft {
-            Draft::Label(label) => self.arrive(w.alloc, &w.work.block.labels, label)?,
-            Draft::JumpFalse(label) => self.meet(label),
+            Draft::Label(label) => {
+                self.arrive(w.alloc, &w.work.block.labels, label as usize)?;
+            }
+            Draft::JumpFalse(label) => self.meet(label as usize),
             Draft::Jump(label) => {
-                self.meet(label);
+                self.meet(label as usize);
                 self.reached = false;
             }
             Draft::Return | Draft::Instr(Instr::Flow(FlowInstr::End)) => self.reached = false,
@@ -138,19 +140,19 @@ fn ways_to(w: &Writer, label: usize) -> Result<Ways, AllocError> {
 }
 
 /// The label, if different work areas are selected on ways to it.
-fn split_label(block: &Block, draft: Draft) -> Option<usize> {
+fn split_label(block: &DraftBlock, draft: Draft) -> Option<usize> {
     let Draft::Label(label) = draft else {
         return None;
     };
-    match block.labels.get(label) {
-        Some(Label { split: true, .. }) => Some(label),
+    match block.labels.get(label as usize) {
+        Some(Label { split: true, .. }) => Some(label as usize),
         _ => None,
     }
 }
 
 /// The label at which ways meet with different work areas: the last piece; or where nothing behind the pieces is
 /// reached, the head of the loop that ends there.
-fn meeting(block: &Block) -> Option<usize> {
+fn meeting(block: &DraftBlock) -> Option<usize> {
     let last = split_label(block, block.pieces.last()?.draft);
     if last.is_some() || block.reached {
         return last;

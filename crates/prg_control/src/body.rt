@@ -3,7 +3,7 @@
 use crate::calling::OpenCopy;
 use crate::choices::Choice;
 use crate::loops::Round;
-use crate::steps::Leaps;
+use crate::steps::LeapLabels;
 use prg_parser::Command;
 
 /// Commands that stand within a command: those of a part of its block, or of the procedure that it calls. What goes
@@ -14,7 +14,7 @@ pub struct Body<'a> {
     /// The line that ends the part; none of a procedure.
     pub end: Option<usize>,
     /// The loop in which they stand, if they stand in one.
-    pub leaps: Option<Leaps>,
+    pub leaps: Option<LeapLabels>,
     pub behind: Behind<'a>,
 }
 

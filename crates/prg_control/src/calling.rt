@@ -4,10 +4,11 @@ use crate::body::{Behind, Body};
 use crate::ends::end_procedure;
 use code_items::{FlowInstr, Instr, Name, State, ValueInstr};
 use prg_code::{
-    Block, CompileError, CompileFaultKind, CompileRefusal, Names, Variable, Work, is_state_same,
+    CompileError, CompileFaultKind, CompileRefusal, DraftBlock, Names, Variable, Work,
+    is_state_same,
 };
 use prg_commands::{argument_slot, new_slot, value};
-use prg_parser::{Expr, Procedure, Program};
+use prg_parser::{Expr, Program};
 use prg_writer::{ProcedureCopy, Source, Target, Writer, parameters};
 
 /// The most procedures of a code, copies counted.
@@ -15,25 +16,6 @@ const MOST_COPIES: usize = 256;
 
 /// The most calls within one another.
 const MOST_CALLS: usize = 20;
-
-fn procedure_named(procedures: &[Procedure], name: &[u8]) -> Option<usize> {
-    for (number, procedure) in procedures.iter().enumerate() {
-        if procedure.name.as_slice() == name {
-            return Some(number);
-        }
-    }
-    None
-}
-
-fn procedure_in(programs: &[Program], name: &[u8]) -> Option<Target> {
-    for (file, program) in programs.iter().enumerate() {
-        let procedure = procedure_named(&program.procedures, name);
-        if procedure.is_some() {
-            return Some(Target { file, procedure });
-        }
-    }
-    None
-}
 
 fn file_named(programs: &[Program], name: &[u8]) -> Option<Target> {
     for (file, program) in programs.iter().enumerate() {
@@ -49,11 +31,11 @@ fn file_named(programs: &[Program], name: &[u8]) -> Option<Target> {
 
 /// What `DO name` runs: the first PROCEDURE of that name in the files, in their order, else the first file of that
 /// name.
-fn target_named(programs: &[Program], name: &[u8]) -> Result<Target, CompileFaultKind> {
-    if let Some(target) = procedure_in(programs, name) {
+fn target_named(s: &Source, w: &Writer, name: &Name) -> Result<Target, CompileFaultKind> {
+    if let Some(target) = w.procedures.named(name) {
         return Ok(target);
     }
-    match file_named(programs, name) {
+    match file_named(s.programs, name.as_slice()) {
         Some(target) => Ok(target),
         None => Err(CompileFaultKind::Name),
     }
@@ -68,10 +50,10 @@ fn is_active(active: &[Target], target: Target) -> bool {
 fn target_of(
     s: &Source,
     w: &Writer,
-    name: &[u8],
+    name: &Name,
     arguments: usize,
 ) -> Result<Target, CompileError> {
-    let target = target_named(s.programs, name)?;
+    let target = target_named(s, w, name)?;
     if is_active(&w.active, target) {
         return Err(CompileError::Fault(CompileFaultKind::Recursion));
     }
@@ -186,10 +168,10 @@ fn begin_copy(
         exit: None,
         level: 0,
         own: Vec::new(w.alloc),
-        block: Block::entered(w.alloc, begun.copied(w.alloc)?),
+        block: DraftBlock::entered(w.alloc, begun.copied(w.alloc)?),
         done: false,
     })?;
-    let block = Block::entered(w.alloc, begun);
+    let block = DraftBlock::entered(w.alloc, begun);
     let mut work = Work::new(w.alloc, target.file, false, block, seen);
     work.own = own;
     w.active.push(target)?;
@@ -272,7 +254,7 @@ pub fn open_call<'a>(
     procedure: &Name,
     arguments: &[Expr],
 ) -> Result<Option<Body<'a>>, CompileRefusal> {
-    let result = target_of(s, w, procedure.as_slice(), arguments.len());
+    let result = target_of(s, w, procedure, arguments.len());
     let target = w.told(line, result)?;
     let result = hand_all_over(s, w, arguments);
     let Handed { slots, own } = w.told(line, result)?;

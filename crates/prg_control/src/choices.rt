@@ -1,7 +1,7 @@
 //! IF and DO CASE.
 
 use crate::body::{Behind, Body};
-use crate::steps::{Leaps, Span, jump, new_label, place, put_condition};
+use crate::steps::{LeapLabels, Span, jump, new_label, place, put_condition};
 use prg_code::CompileRefusal;
 use prg_expr::Expr;
 use prg_parser::{Branch, Case, Command};
@@ -18,7 +18,7 @@ pub struct Choice<'a> {
     /// The label behind the choice. An IF without ELSE needs none.
     out: Option<usize>,
     /// The loop in which the choice stands, if it stands in one.
-    leaps: Option<Leaps>,
+    leaps: Option<LeapLabels>,
 }
 
 /// Commands for where a condition holds.
@@ -49,7 +49,7 @@ impl Choice<'_> {
 pub fn open_if<'a>(
     s: &Source,
     w: &mut Writer,
-    leaps: Option<Leaps>,
+    leaps: Option<LeapLabels>,
     span: Span,
     condition: &'a Expr,
     then: &'a [Command],
@@ -79,7 +79,7 @@ pub fn open_if<'a>(
 pub fn open_do_case<'a>(
     s: &Source,
     w: &mut Writer,
-    leaps: Option<Leaps>,
+    leaps: Option<LeapLabels>,
     cases: &'a [Case],
     otherwise: &'a Option<Branch>,
     end: usize,

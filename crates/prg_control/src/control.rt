@@ -8,7 +8,7 @@ use crate::calling::{end_call, open_call};
 use crate::choices::{end_choice, end_part, open_do_case, open_if};
 use crate::ends::{again_of, leap, no_get_waits, out_of, put_return};
 use crate::loops::{LoopTest, end_round, open_loop};
-use crate::steps::{Leaps, Span};
+use crate::steps::{LeapLabels, Span};
 use prg_code::{CompileFaultKind, CompileRefusal};
 use prg_commands::{Turn, may_stand_before_read, put_statement};
 use prg_line::Statement;
@@ -123,7 +123,7 @@ fn enter<'a>(
 fn opened<'a>(
     s: &'a Source,
     w: &mut Writer,
-    leaps: Option<Leaps>,
+    leaps: Option<LeapLabels>,
     command: &'a Command,
 ) -> Result<Option<Body<'a>>, CompileRefusal> {
     let line = command.line;
@@ -176,7 +176,7 @@ fn may_begin(w: &mut Writer, command: &Command) -> Result<(), CompileRefusal> {
 fn open_statement<'a>(
     s: &'a Source,
     w: &mut Writer,
-    leaps: Option<Leaps>,
+    leaps: Option<LeapLabels>,
     line: usize,
     statement: &Statement,
 ) -> Result<Option<Body<'a>>, CompileRefusal> {

@@ -1,6 +1,6 @@
 //! Where ways end: LOOP and EXIT, RETURN, and the end of a procedure.
 
-use crate::steps::Leaps;
+use crate::steps::LeapLabels;
 use code_items::State;
 use prg_code::{CompileError, CompileFaultKind, CompileRefusal, Work, is_selection_same, merged};
 use prg_writer::Writer;
@@ -37,7 +37,7 @@ pub fn leap(work: &mut Work, label: Option<usize>) -> Result<(), CompileError> {
 }
 
 /// Where LOOP leads, in a loop.
-pub fn again_of(leaps: Option<Leaps>) -> Option<usize> {
+pub fn again_of(leaps: Option<LeapLabels>) -> Option<usize> {
     match leaps {
         Some(leaps) => Some(leaps.again),
         None => None,
@@ -45,7 +45,7 @@ pub fn again_of(leaps: Option<Leaps>) -> Option<usize> {
 }
 
 /// Where EXIT leads, in a loop.
-pub fn out_of(leaps: Option<Leaps>) -> Option<usize> {
+pub fn out_of(leaps: Option<LeapLabels>) -> Option<usize> {
     match leaps {
         Some(leaps) => Some(leaps.out),
         None => None,

@@ -1,13 +1,13 @@
 //! DO WHILE and SCAN: a loop is written round by round, until what is known at its head holds.
 
 use crate::body::{Behind, Body};
-use crate::steps::{Leaps, Span, jump, new_label, place, put_condition};
+use crate::steps::{LeapLabels, Span, jump, new_label, place, put_condition};
 use code_items::{Instr, Question, RecordInstr, State, ValueInstr};
-use prg_code::{CompileError, CompileFaultKind, CompileRefusal, is_state_same};
+use prg_code::{CompileError, CompileFaultKind, CompileRefusal, MOST_SLOTS, is_state_same};
 use prg_commands::{put_skip_on, put_top};
 use prg_expr::Expr;
 use prg_parser::Command;
-use prg_writer::{Mark, Source, Writer};
+use prg_writer::{Source, Writer, WrittenMark};
 use xvalue::Fun;
 
 /// The most rounds of a loop: each one but the last loses what is known of a slot or a work area.
@@ -29,7 +29,7 @@ pub struct Loop<'a> {
     test: LoopTest<'a>,
     body: &'a [Command],
     /// What stood before its first round, and what was known there.
-    mark: Mark,
+    mark: WrittenMark,
     entry: State,
     /// What was found to be known at its head at the end of a round, if that was less than at its beginning.
     head: Option<State>,
@@ -44,7 +44,7 @@ pub struct Round<'a> {
     /// What is known at the loop's head in this round, and its label.
     held: State,
     top: usize,
-    leaps: Leaps,
+    leaps: LeapLabels,
 }
 
 /// Begins a loop.
@@ -112,13 +112,13 @@ fn leaps_of(
     line: usize,
     test: LoopTest,
     top: usize,
-) -> Result<Leaps, CompileRefusal> {
+) -> Result<LeapLabels, CompileRefusal> {
     let again = match test {
         LoopTest::While(_) => top,
         LoopTest::Rows(_) => new_label(w, line)?,
     };
     let out = new_label(w, line)?;
-    Ok(Leaps { again, out })
+    Ok(LeapLabels { again, out })
 }
 
 /// Puts the test of a SCAN, which leads out where there is no row, and on to the next row where the condition of its
@@ -128,7 +128,7 @@ fn put_row_test(
     w: &mut Writer,
     line: usize,
     only_if: &Option<Expr>,
-    leaps: Leaps,
+    leaps: LeapLabels,
 ) -> Result<(), CompileRefusal> {
     let result = put_scan_test(w);
     w.told(line, result)?;
@@ -225,10 +225,14 @@ fn wider(
         w.passed(outcome)?;
         return Ok(None);
     }
-    match &label.state {
-        Some(state) if !is_state_same(state, held) => Ok(Some(state.copied(w.alloc)?)),
-        _ => Ok(None),
+    let Some(seen) = &label.state else {
+        return Ok(None);
+    };
+    let state = seen.state(w.alloc, MOST_SLOTS)?;
+    if is_state_same(&state, held) {
+        return Ok(None);
     }
+    Ok(Some(state))
 }
 
 /// Gives the round up, and begins another one with what is known at the head. Limit where there were too many.

@@ -8,7 +8,7 @@ use xvalue::Value;
 
 /// Where LOOP and EXIT of the innermost loop lead: the numbers of labels.
 #[derive(Clone, Copy, Debug, PartialEq, Eq)]
-pub struct Leaps {
+pub struct LeapLabels {
     pub again: usize,
     pub out: usize,
 }

@@ -5,7 +5,7 @@ use Rattle.std.specs.Char.{to_ascii_lowercase}
 use Rattle.std.specs.List.{prefix_len}
 use Rattle.std.proofs.lemmas.Bool.Decides.{eqb_tells}
 use Rattle.prg_expr.specs.Word.{Word}
-use Rattle.prg_expr.specs.Lexicon.{after_word, Listed, Each, Stops}
+use Rattle.prg_expr.specs.Lexicon.{after_word, IsOneOf, EachPasses, FirstFails}
 use Rattle.prg_expr.proofs.Sound.{bool_tells}
 
 pub cond_true : {A : Type 0} (c : Bool) (p q : A) → c ≡ true → cond c p q ≡ p
@@ -24,21 +24,21 @@ one_more p x xs y = rw y (omega arith)
 no_more : (p : ℕ → Bool) (x : ℕ) (xs : List ℕ) → p x ≡ false → prefix_len p (x ∷ xs) ≡ 0
 no_more p x xs n = rw n refl
 
-pub front_each : (p : ℕ → Bool) (xs : List ℕ) → Each p (take (prefix_len p xs) xs)
+pub front_each : (p : ℕ → Bool) (xs : List ℕ) → EachPasses p (take (prefix_len p xs) xs)
 front_each p [] = tt
 front_each p (x ∷ xs) = elim (bool_tells (p x)) [
-  | inl y ↦ (let P : ℕ → Type 0 = λ n. Each p (take n (x ∷ xs)) in subst P (sym (one_more p x xs y)) (y, front_each p xs))
-  | inr n ↦ (let P : ℕ → Type 0 = λ n. Each p (take n (x ∷ xs)) in subst P (sym (no_more p x xs n)) tt)
+  | inl y ↦ (let P : ℕ → Type 0 = λ n. EachPasses p (take n (x ∷ xs)) in subst P (sym (one_more p x xs y)) (y, front_each p xs))
+  | inr n ↦ (let P : ℕ → Type 0 = λ n. EachPasses p (take n (x ∷ xs)) in subst P (sym (no_more p x xs n)) tt)
 ]
 
-pub back_stops : (p : ℕ → Bool) (xs : List ℕ) → Stops p (drop (prefix_len p xs) xs)
+pub back_stops : (p : ℕ → Bool) (xs : List ℕ) → FirstFails p (drop (prefix_len p xs) xs)
 back_stops p [] = tt
 back_stops p (x ∷ xs) = elim (bool_tells (p x)) [
-  | inl y ↦ (let P : ℕ → Type 0 = λ n. Stops p (drop n (x ∷ xs)) in subst P (sym (one_more p x xs y)) (back_stops p xs))
-  | inr n ↦ (let P : ℕ → Type 0 = λ n. Stops p (drop n (x ∷ xs)) in subst P (sym (no_more p x xs n)) n)
+  | inl y ↦ (let P : ℕ → Type 0 = λ n. FirstFails p (drop n (x ∷ xs)) in subst P (sym (one_more p x xs y)) (back_stops p xs))
+  | inr n ↦ (let P : ℕ → Type 0 = λ n. FirstFails p (drop n (x ∷ xs)) in subst P (sym (no_more p x xs n)) n)
 ]
 
-pub prefix_is : (p : ℕ → Bool) (front rest : List ℕ) → Each p front → Stops p rest → prefix_len p (front ++ rest) ≡ length front
+pub prefix_is : (p : ℕ → Bool) (front rest : List ℕ) → EachPasses p front → FirstFails p rest → prefix_len p (front ++ rest) ≡ length front
 prefix_is p [] [] e s = refl
 prefix_is p [] (b ∷ bs) e s = no_more p b bs s
 prefix_is p (b ∷ front) rest e s = one_more p b (front ++ rest) e.0 ∙ ap suc (prefix_is p front rest e.1 s)
@@ -91,7 +91,7 @@ abbrev pub Apart : List Entry → Type 0
 Apart [] = Unit {0}
 Apart (x ∷ xs) = AllDiffer x.0 xs × Apart xs
 
-pub differs_listed : (w v : List ℕ) (t : Word) (table : List Entry) → AllDiffer w table → Listed (entry v t) table → differs w v ≡ true
+pub differs_listed : (w v : List ℕ) (t : Word) (table : List Entry) → AllDiffer w table → IsOneOf (entry v t) table → differs w v ≡ true
 differs_listed w v t [] a i = absurd i
 differs_listed w v t (x ∷ xs) a (inl i) = subst (λ (x : Entry). differs w x.0 ≡ true) (sym i) a.0
 differs_listed w v t (x ∷ xs) a (inr i) = differs_listed w v t xs a.1 i

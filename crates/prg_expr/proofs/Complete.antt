@@ -3,24 +3,24 @@ use Rattle.std.proofs.Common.{◌≡◌, ◌≢◌, ℕ, zero, suc, ◌<◌, ◌
 use Rattle.std.proofs.lemmas.List.{append-nil}
 use Rattle.prg_expr.specs.declared.fault.ParseFaultKind.{ParseFaultKind}
 use Rattle.prg_expr.specs.declared.function.Function.{Function}
-use Rattle.prg_expr.specs.declared.tree.Operator.{Operator}
+use Rattle.prg_expr.specs.declared.tree.BinaryOperator.{BinaryOperator}
 use Rattle.prg_expr.specs.declared.tree.Prefix.{Prefix}
-use Rattle.prg_expr.specs.Functions.{function_named, takes}
+use Rattle.prg_expr.specs.Functions.{function_named, takes_so_many}
 use Rattle.prg_expr.specs.Tree.{Tree, Trees, count}
 use Rattle.prg_expr.specs.Tree as tree
 use Rattle.prg_expr.specs.Word.{Word}
 use Rattle.prg_expr.specs.Word as word
 use Rattle.prg_expr.specs.Grammar.{looseness, prefix_of, prefix_level, Free, Stands, number, text, logical, name, qualified, parentheses, looser, grouped, compared, prefixed, called, called_bare, Arguments, last, more, max_depth, Spells}
-use Rattle.prg_expr.specs.Reading.{Read, Reader, turns, chain, comparison, prefix_at, prefixes, close, separator, arguments, call_of, called_at, qualified_at, named, operand, stage, reader, inside, level_at, parse}
+use Rattle.prg_expr.specs.Reading.{TreeRead, TreeReader, turns, chain, comparison_read, prefix_at, prefixes, parenthesis_closed, separator, arguments, call_read, called_at, qualified_at, named, operand, stage, reader, inside, level_at, parse}
 use Rattle.prg_expr.proofs.Grammar.{free_less, no_operator, an_operator, Plain, plain_append, prefixes_plain, plain, some_at, prefix_levels, never_one, never_five, Unclosed, unclosed_append, unclosed_all, called_unclosed, named_free}
 use Rattle.prg_expr.proofs.Sound.{Shorter, shorter, operator_tells, reader_sound, stage_chain}
 
-result_tells : (r : Read) → ((x : Tree × List Word) × (r ≡ Ok x)) ⊎ ((f : ParseFaultKind) × (r ≡ Err f))
+result_tells : (r : TreeRead) → ((x : Tree × List Word) × (r ≡ Ok x)) ⊎ ((f : ParseFaultKind) × (r ≡ Err f))
 result_tells (Ok x) = inl (x, refl)
 result_tells (Err f) = inr (f, refl)
 
 -- the bound doesn't matter, once it is enough
-turns_same : (next : Reader) (l : ℕ) → Shorter next → (n m : ℕ) (left : Tree) (ws : List Word) → length ws < n → length ws < m → turns n next l left ws ≡ turns m next l left ws
+turns_same : (next : TreeReader) (l : ℕ) → Shorter next → (n m : ℕ) (left : Tree) (ws : List Word) → length ws < n → length ws < m → turns n next l left ws ≡ turns m next l left ws
 unfolding turns
 turns_same next l sh zero m left ws p q = absurd (omega arith)
 turns_same next l sh (suc n) zero left ws p q = absurd (omega arith)
@@ -32,7 +32,7 @@ turns_same next l sh (suc n) (suc m) left ws p q = elim (operator_tells l ws) [
   ])
 ]
 
-module _ (next : Reader) (e : Tree) (ws rest : List Word) (h : next (ws ++ rest) ≡ Ok (e, rest)) where
+module _ (next : TreeReader) (e : Tree) (ws rest : List Word) (h : next (ws ++ rest) ≡ Ok (e, rest)) where
   chain_loops : (l : ℕ) → chain next l (ws ++ rest) ≡ turns (suc (length rest)) next l e rest
   unfolding chain
   chain_loops l = rw h refl
@@ -41,8 +41,8 @@ module _ (next : Reader) (e : Tree) (ws rest : List Word) (h : next (ws ++ rest)
   unfolding turns
   chain_climbs l f = let n = no_operator l rest f in chain_loops l ∙ rw n refl
 
-  comparison_climbs : Free 4 rest → comparison next (ws ++ rest) ≡ Ok (e, rest)
-  unfolding comparison
+  comparison_climbs : Free 4 rest → comparison_read next (ws ++ rest) ≡ Ok (e, rest)
+  unfolding comparison_read
   comparison_climbs f = let n = no_operator 4 rest f in rw (h, n) refl
 
   climbs : (l : ℕ) → Plain l (ws ++ rest) → Free (suc l) rest → stage (suc l) next (ws ++ rest) ≡ Ok (e, rest)
@@ -56,10 +56,10 @@ module _ (next : Reader) (e : Tree) (ws rest : List Word) (h : next (ws ++ rest)
       let one : suc (suc (suc (suc (suc (suc l))))) ≢ 1 = λ e. omega arith in
       let four : suc (suc (suc (suc (suc (suc l))))) ≢ 4 = λ e. omega arith in
       let five : suc (suc (suc (suc (suc (suc l))))) ≢ 5 = λ e. omega arith in
-      ap (λ (r : Reader). r (ws ++ rest)) (stage_chain _ next one four five) ∙ chain_climbs _ f
+      ap (λ (r : TreeReader). r (ws ++ rest)) (stage_chain _ next one four five) ∙ chain_climbs _ f
 
 -- a further operand of the same level
-module _ (next : Reader) (l : ℕ) (o : Operator) (a b : Tree) (aw bw rest : List Word) (level : looseness o ≡ l) (sh : Shorter next)
+module _ (next : TreeReader) (l : ℕ) (o : BinaryOperator) (a b : Tree) (aw bw rest : List Word) (level : looseness o ≡ l) (sh : Shorter next)
     (left : chain next l (aw ++ (word.Sign o ∷ (bw ++ rest))) ≡ turns (suc (length (word.Sign o ∷ (bw ++ rest)))) next l a (word.Sign o ∷ (bw ++ rest)))
     (right : next (bw ++ rest) ≡ Ok (b, rest)) where
   one_more : chain next l ((aw ++ word.Sign o ∷ bw) ++ rest) ≡ turns (suc (length rest)) next l (tree.Binary o a b) rest
@@ -70,7 +70,7 @@ module _ (next : Reader) (l : ℕ) (o : Operator) (a b : Tree) (aw bw rest : Lis
       let same = turns_same next l sh (length (word.Sign o ∷ (bw ++ rest))) (suc (length rest)) (tree.Binary o a b) rest (omega (arith, length-append bw rest)) (omega arith) in
       ap (chain next l) (append_assoc aw (word.Sign o ∷ bw) rest) ∙ left ∙ step ∙ same
 
-ends : (next : Reader) (l : ℕ) (e : Tree) (rest : List Word) → Free l rest → turns (suc (length rest)) next l e rest ≡ Ok (e, rest)
+ends : (next : TreeReader) (l : ℕ) (e : Tree) (rest : List Word) → Free l rest → turns (suc (length rest)) next l e rest ≡ Ok (e, rest)
 unfolding turns
 ends next l e rest f = let n = no_operator l rest f in rw n refl
 
@@ -80,15 +80,15 @@ reader_shorter d l = shorter (reader_sound d l)
 -- a level whose operators group
 pub reader_chain : (d l : ℕ) → suc l ≢ 1 → suc l ≢ 4 → suc l ≢ 5 → (ws : List Word) → level_at d (suc l) ws ≡ chain (level_at d l) (suc l) ws
 unfolding reader
-reader_chain d l n m k ws = ap (λ (r : Reader). r ws) (stage_chain (suc l) (level_at d l) n m k)
+reader_chain d l n m k ws = ap (λ (r : TreeReader). r ws) (stage_chain (suc l) (level_at d l) n m k)
 
-pub not_one : (o : Operator) (l : ℕ) → looseness o ≡ l → l ≢ 1
+pub not_one : (o : BinaryOperator) (l : ℕ) → looseness o ≡ l → l ≢ 1
 not_one o l h e = never_one o (h ∙ e)
 
-pub not_five : (o : Operator) (l : ℕ) → looseness o ≡ l → l ≢ 5
+pub not_five : (o : BinaryOperator) (l : ℕ) → looseness o ≡ l → l ≢ 5
 not_five o l h e = never_five o (h ∙ e)
 
-pub fourth : (d : ℕ) → level_at d 4 ≡ comparison (level_at d 3)
+pub fourth : (d : ℕ) → level_at d 4 ≡ comparison_read (level_at d 3)
 unfolding reader stage
 fourth d = refl
 
@@ -100,22 +100,22 @@ pub fifth : (d : ℕ) → level_at d 5 ≡ prefixes (level_at d 4) 5
 unfolding reader stage
 fifth d = refl
 
-compares : (next : Reader) (o : Operator) (a b : Tree) (aw bw rest : List Word) → looseness o ≡ 4 → next (aw ++ (word.Sign o ∷ (bw ++ rest))) ≡ Ok (a, word.Sign o ∷ (bw ++ rest)) → next (bw ++ rest) ≡ Ok (b, rest)
-    → comparison next ((aw ++ word.Sign o ∷ bw) ++ rest) ≡ Ok (tree.Binary o a b, rest)
-unfolding comparison
+compares : (next : TreeReader) (o : BinaryOperator) (a b : Tree) (aw bw rest : List Word) → looseness o ≡ 4 → next (aw ++ (word.Sign o ∷ (bw ++ rest))) ≡ Ok (a, word.Sign o ∷ (bw ++ rest)) → next (bw ++ rest) ≡ Ok (b, rest)
+    → comparison_read next ((aw ++ word.Sign o ∷ bw) ++ rest) ≡ Ok (tree.Binary o a b, rest)
+unfolding comparison_read
 compares next o a b aw bw rest level left right =
     let at = an_operator 4 o (bw ++ rest) level in
-    ap (comparison next) (append_assoc aw (word.Sign o ∷ bw) rest) ∙ rw (left, at, right) refl
+    ap (comparison_read next) (append_assoc aw (word.Sign o ∷ bw) rest) ∙ rw (left, at, right) refl
 
-compares_at : (d : ℕ) (o : Operator) (a b : Tree) (aw bw rest : List Word) → looseness o ≡ 4 → level_at d 3 (aw ++ (word.Sign o ∷ (bw ++ rest))) ≡ Ok (a, word.Sign o ∷ (bw ++ rest)) → level_at d 3 (bw ++ rest) ≡ Ok (b, rest)
+compares_at : (d : ℕ) (o : BinaryOperator) (a b : Tree) (aw bw rest : List Word) → looseness o ≡ 4 → level_at d 3 (aw ++ (word.Sign o ∷ (bw ++ rest))) ≡ Ok (a, word.Sign o ∷ (bw ++ rest)) → level_at d 3 (bw ++ rest) ≡ Ok (b, rest)
     → level_at d 4 ((aw ++ word.Sign o ∷ bw) ++ rest) ≡ Ok (tree.Binary o a b, rest)
-compares_at d o a b aw bw rest level left right = ap (λ (r : Reader). r ((aw ++ word.Sign o ∷ bw) ++ rest)) (fourth d) ∙ compares (level_at d 3) o a b aw bw rest level left right
+compares_at d o a b aw bw rest level left right = ap (λ (r : TreeReader). r ((aw ++ word.Sign o ∷ bw) ++ rest)) (fourth d) ∙ compares (level_at d 3) o a b aw bw rest level left right
 
 pub closes : (d : ℕ) (e : Tree) (ws rest : List Word) → level_at d 7 (ws ++ (word.Close ∷ rest)) ≡ Ok (e, word.Close ∷ rest) → level_at (suc d) 0 ((word.Open ∷ (ws ++ word.Close ∷ [])) ++ rest) ≡ Ok (tree.Parentheses e, rest)
-unfolding reader operand inside close
+unfolding reader operand inside parenthesis_closed
 closes d e ws rest h = ap (λ ws. operand (suc d) (inside (suc d)) (word.Open ∷ ws)) (append_assoc ws (word.Close ∷ []) rest) ∙ rw h refl
 
-prefixes_on : (next : Reader) (l : ℕ) (w : Word) (p : Prefix) (e : Tree) (ws rest : List Word) → prefix_at l w ≡ Some p → prefixes next l (ws ++ rest) ≡ Ok (e, rest) → prefixes next l (w ∷ (ws ++ rest)) ≡ Ok (tree.Prefixed p e, rest)
+prefixes_on : (next : TreeReader) (l : ℕ) (w : Word) (p : Prefix) (e : Tree) (ws rest : List Word) → prefix_at l w ≡ Some p → prefixes next l (ws ++ rest) ≡ Ok (e, rest) → prefixes next l (w ∷ (ws ++ rest)) ≡ Ok (tree.Prefixed p e, rest)
 unfolding prefixes
 prefixes_on next l w p e ws rest i h = rw (i, h) refl
 
@@ -124,10 +124,10 @@ abbrev Goes : ℕ → Word → Prefix → Tree → List Word → List Word → �
 Goes d w p e ws rest l = prefix_at l w ≡ Some p → level_at d l (ws ++ rest) ≡ Ok (e, rest) → level_at d l (w ∷ (ws ++ rest)) ≡ Ok (tree.Prefixed p e, rest)
 
 goes_first : (d : ℕ) (w : Word) (p : Prefix) (e : Tree) (ws rest : List Word) → Goes d w p e ws rest 1
-goes_first d w p e ws rest i h = ap (λ (r : Reader). r (w ∷ (ws ++ rest))) (first d) ∙ prefixes_on (level_at d 0) 1 w p e ws rest i (sym (ap (λ (r : Reader). r (ws ++ rest)) (first d)) ∙ h)
+goes_first d w p e ws rest i h = ap (λ (r : TreeReader). r (w ∷ (ws ++ rest))) (first d) ∙ prefixes_on (level_at d 0) 1 w p e ws rest i (sym (ap (λ (r : TreeReader). r (ws ++ rest)) (first d)) ∙ h)
 
 goes_fifth : (d : ℕ) (w : Word) (p : Prefix) (e : Tree) (ws rest : List Word) → Goes d w p e ws rest 5
-goes_fifth d w p e ws rest i h = ap (λ (r : Reader). r (w ∷ (ws ++ rest))) (fifth d) ∙ prefixes_on (level_at d 4) 5 w p e ws rest i (sym (ap (λ (r : Reader). r (ws ++ rest)) (fifth d)) ∙ h)
+goes_fifth d w p e ws rest i h = ap (λ (r : TreeReader). r (w ∷ (ws ++ rest))) (fifth d) ∙ prefixes_on (level_at d 4) 5 w p e ws rest i (sym (ap (λ (r : TreeReader). r (ws ++ rest)) (fifth d)) ∙ h)
 
 goes : (d l : ℕ) (w : Word) (p : Prefix) (e : Tree) (ws rest : List Word) → prefix_of w ≡ Some p → prefix_level p ≡ l → level_at d l (ws ++ rest) ≡ Ok (e, rest) → level_at d l (w ∷ (ws ++ rest)) ≡ Ok (tree.Prefixed p e, rest)
 goes d l w p e ws rest i v h = elim (prefix_levels p) [
@@ -135,29 +135,29 @@ goes d l w p e ws rest i v h = elim (prefix_levels p) [
   | inr five ↦ subst (Goes d w p e ws rest) (sym five ∙ v) (goes_fifth d w p e ws rest) (some_at l w p i v) h
 ]
 
-call_on : (f : Function) (es : Trees) (rest : List Word) → takes f (count es) ≡ true → call_of f es rest ≡ Ok (tree.Call f es, rest)
-unfolding call_of
+call_on : (f : Function) (es : Trees) (rest : List Word) → takes_so_many f (count es) ≡ true → call_read f es rest ≡ Ok (tree.Call f es, rest)
+unfolding call_read
 call_on f es rest t = rw t refl
 
-bare : (d : ℕ) (r : Reader) (f : Function) (rest : List Word) → called_at (suc d) r f (word.Close ∷ rest) ≡ call_of f tree.None rest
+bare : (d : ℕ) (r : TreeReader) (f : Function) (rest : List Word) → called_at (suc d) r f (word.Close ∷ rest) ≡ call_read f tree.None rest
 unfolding called_at
 bare d r f rest = refl
 
-opens : (d : ℕ) (r : Reader) (s : List ℕ) (f : Function) (ws : List Word) → function_named s ≡ Some f → named d r s (word.Open ∷ ws) ≡ called_at d r f ws
+opens : (d : ℕ) (r : TreeReader) (s : List ℕ) (f : Function) (ws : List Word) → function_named s ≡ Some f → named d r s (word.Open ∷ ws) ≡ called_at d r f ws
 unfolding named
 opens d r s f ws i = rw i refl
 
-pub bare_calls : (d : ℕ) (s : List ℕ) (f : Function) (rest : List Word) → function_named s ≡ Some f → takes f 0 ≡ true → named (suc d) (inside (suc d)) s (word.Open ∷ word.Close ∷ rest) ≡ Ok (tree.Call f tree.None, rest)
+pub bare_calls : (d : ℕ) (s : List ℕ) (f : Function) (rest : List Word) → function_named s ≡ Some f → takes_so_many f 0 ≡ true → named (suc d) (inside (suc d)) s (word.Open ∷ word.Close ∷ rest) ≡ Ok (tree.Call f tree.None, rest)
 bare_calls d s f rest i t = opens (suc d) (inside (suc d)) s f (word.Close ∷ rest) i ∙ bare d (inside (suc d)) f rest ∙ call_on f tree.None rest t
 
-pub joins : (d : ℕ) (r : Reader) (a s : List ℕ) (rest : List Word) → named d r a (word.Arrow ∷ word.Name s ∷ rest) ≡ Ok (tree.Qualified (take 10 a) (take 10 s), rest)
+pub joins : (d : ℕ) (r : TreeReader) (a s : List ℕ) (rest : List Word) → named d r a (word.Arrow ∷ word.Name s ∷ rest) ≡ Ok (tree.Qualified (take 10 a) (take 10 s), rest)
 unfolding named qualified_at
 joins d r a s rest = refl
 
-calls_on : (d : ℕ) (r : Reader) (f : Function) (es : Trees) (ws rest : List Word) → Unclosed ws → takes f (count es) ≡ true → arguments (suc (length ws)) r ws ≡ Ok (es, rest) → called_at (suc d) r f ws ≡ Ok (tree.Call f es, rest)
+calls_on : (d : ℕ) (r : TreeReader) (f : Function) (es : Trees) (ws rest : List Word) → Unclosed ws → takes_so_many f (count es) ≡ true → arguments (suc (length ws)) r ws ≡ Ok (es, rest) → called_at (suc d) r f ws ≡ Ok (tree.Call f es, rest)
 calls_on d r f es ws rest u t h = let c = call_on f es rest t in called_unclosed d r f ws u ∙ rw h c
 
-pub calls : (d : ℕ) (s : List ℕ) (f : Function) (es : Trees) (ws rest : List Word) → function_named s ≡ Some f → takes f (count es) ≡ true → Unclosed ws → arguments (suc (length (ws ++ word.Close ∷ rest))) (inside (suc d)) (ws ++ word.Close ∷ rest) ≡ Ok (es, rest)
+pub calls : (d : ℕ) (s : List ℕ) (f : Function) (es : Trees) (ws rest : List Word) → function_named s ≡ Some f → takes_so_many f (count es) ≡ true → Unclosed ws → arguments (suc (length (ws ++ word.Close ∷ rest))) (inside (suc d)) (ws ++ word.Close ∷ rest) ≡ Ok (es, rest)
     → named (suc d) (inside (suc d)) s ((word.Open ∷ (ws ++ word.Close ∷ [])) ++ rest) ≡ Ok (tree.Call f es, rest)
 calls d s f es ws rest i t u h =
     ap (λ w. named (suc d) (inside (suc d)) s (word.Open ∷ w)) (append_assoc ws (word.Close ∷ []) rest) ∙ opens (suc d) (inside (suc d)) s f (ws ++ word.Close ∷ rest) i

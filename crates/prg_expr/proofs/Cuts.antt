@@ -3,8 +3,8 @@ use Rattle.std.proofs.Common.{◌≡◌, ℕ, zero, suc, ◌<◌, inl, inr, List
 use Rattle.std.specs.Prelude.{◌==◌, ◌&&◌, ◌||◌, nat_le}
 use Rattle.std.proofs.lemmas.Bool.Decides.{eqb_tells, nat_tests}
 use Rattle.prg_expr.specs.declared.function.Function.{Function}
-use Rattle.prg_expr.specs.Functions.{is_front, is_cut, Entry, called, or_else, of_texts, of_parts, of_bytes, of_numbers, of_dates, of_tables, all_functions, function_named}
-use Rattle.prg_expr.specs.Lexicon.{Listed}
+use Rattle.prg_expr.specs.Functions.{is_front, is_cut, FunctionWord, function_of_word, or_function, of_texts, of_parts, of_bytes, of_numbers, of_dates, of_tables, function_words, function_named}
+use Rattle.prg_expr.specs.Lexicon.{IsOneOf}
 use Rattle.prg_expr.proofs.Sound.{bool_tells}
 use Rattle.prg_expr.proofs.Bytes.{cond_true, cond_false}
 
@@ -49,45 +49,45 @@ not_cut s u v p c = elim (bool_tells (is_cut s u)) [
       absurd (let f = sym a.1 ∙ cut_long s u r.0 r.1 in cc))
 ]
 
-abbrev splits_all : List ℕ → List Entry → Bool
+abbrev splits_all : List ℕ → List FunctionWord → Bool
 splits_all u [] = true
 splits_all u (y ∷ ys) = splits 4 u y.0 && splits_all u ys
 
-abbrev apart : List Entry → Bool
+abbrev apart : List FunctionWord → Bool
 apart [] = true
 apart (x ∷ xs) = splits_all x.0 xs && apart xs
 
-splits_listed : (u : List ℕ) (y : Entry) (ys : List Entry) → splits_all u ys ≡ true → Listed y ys → splits 4 u y.0 ≡ true
+splits_listed : (u : List ℕ) (y : FunctionWord) (ys : List FunctionWord) → splits_all u ys ≡ true → IsOneOf y ys → splits 4 u y.0 ≡ true
 splits_listed u y [] h i = absurd i
-splits_listed u y (z ∷ ys) h (inl i) = subst (λ (z : Entry). splits 4 u z.0 ≡ true) (sym i) (and_true (splits 4 u z.0) (splits_all u ys) h).0
+splits_listed u y (z ∷ ys) h (inl i) = subst (λ (z : FunctionWord). splits 4 u z.0 ≡ true) (sym i) (and_true (splits 4 u z.0) (splits_all u ys) h).0
 splits_listed u y (z ∷ ys) h (inr i) = splits_listed u y ys (and_true (splits 4 u z.0) (splits_all u ys) h).1 i
 
-called_finds : (s : List ℕ) (x : Entry) (table : List Entry) → apart table ≡ true → Listed x table → is_cut s x.0 ≡ true → called table s ≡ Some x.1
+called_finds : (s : List ℕ) (x : FunctionWord) (table : List FunctionWord) → apart table ≡ true → IsOneOf x table → is_cut s x.0 ≡ true → function_of_word table s ≡ Some x.1
 called_finds s x [] a i c = absurd i
-called_finds s x (y ∷ ys) a (inl i) c = let d : is_cut s y.0 ≡ true = subst (λ (z : Entry). is_cut s z.0 ≡ true) i c in cond_true (is_cut s y.0) (Some y.1) (called ys s) d ∙ ap (λ (z : Entry). Some z.1) (sym i)
+called_finds s x (y ∷ ys) a (inl i) c = let d : is_cut s y.0 ≡ true = subst (λ (z : FunctionWord). is_cut s z.0 ≡ true) i c in cond_true (is_cut s y.0) (Some y.1) (function_of_word ys s) d ∙ ap (λ (z : FunctionWord). Some z.1) (sym i)
 called_finds s x (y ∷ ys) a (inr i) c =
     let t = and_true (splits_all y.0 ys) (apart ys) a in
-    cond_false (is_cut s y.0) (Some y.1) (called ys s) (not_cut s y.0 x.0 (splits_listed y.0 x ys t.0 i) c) ∙ called_finds s x ys t.1 i c
+    cond_false (is_cut s y.0) (Some y.1) (function_of_word ys s) (not_cut s y.0 x.0 (splits_listed y.0 x ys t.0 i) c) ∙ called_finds s x ys t.1 i c
 
-called_append : (s : List ℕ) (t u : List Entry) → called (t ++ u) s ≡ or_else (called t s) (called u s)
+called_append : (s : List ℕ) (t u : List FunctionWord) → function_of_word (t ++ u) s ≡ or_function (function_of_word t s) (function_of_word u s)
 called_append s [] u = refl
 called_append s (x ∷ t) u = elim (bool_tells (is_cut s x.0)) [
-  | inl y ↦ cond_true (is_cut s x.0) _ _ y ∙ ap (λ (o : Option Function). or_else o (called u s)) (sym (cond_true (is_cut s x.0) (Some x.1) (called t s) y))
-  | inr n ↦ cond_false (is_cut s x.0) _ _ n ∙ called_append s t u ∙ ap (λ (o : Option Function). or_else o (called u s)) (sym (cond_false (is_cut s x.0) (Some x.1) (called t s) n))
+  | inl y ↦ cond_true (is_cut s x.0) _ _ y ∙ ap (λ (o : Option Function). or_function o (function_of_word u s)) (sym (cond_true (is_cut s x.0) (Some x.1) (function_of_word t s) y))
+  | inr n ↦ cond_false (is_cut s x.0) _ _ n ∙ called_append s t u ∙ ap (λ (o : Option Function). or_function o (function_of_word u s)) (sym (cond_false (is_cut s x.0) (Some x.1) (function_of_word t s) n))
 ]
 
-named_all : (s : List ℕ) → called all_functions s ≡ function_named s
+named_all : (s : List ℕ) → function_of_word function_words s ≡ function_named s
 unfolding function_named
 named_all s =
-    let dates : List Entry = of_dates ++ of_tables in
-    let numbers : List Entry = of_numbers ++ dates in
-    let bytes : List Entry = of_bytes ++ numbers in
-    let parts : List Entry = of_parts ++ bytes in
-    called_append s of_texts parts ∙ ap (or_else (called of_texts s)) (called_append s of_parts bytes ∙ ap (or_else (called of_parts s)) (called_append s of_bytes numbers ∙ ap (or_else (called of_bytes s)) (called_append s of_numbers dates ∙ ap (or_else (called of_numbers s)) (called_append s of_dates of_tables))))
+    let dates : List FunctionWord = of_dates ++ of_tables in
+    let numbers : List FunctionWord = of_numbers ++ dates in
+    let bytes : List FunctionWord = of_bytes ++ numbers in
+    let parts : List FunctionWord = of_parts ++ bytes in
+    called_append s of_texts parts ∙ ap (or_function (function_of_word of_texts s)) (called_append s of_parts bytes ∙ ap (or_function (function_of_word of_parts s)) (called_append s of_bytes numbers ∙ ap (or_function (function_of_word of_bytes s)) (called_append s of_numbers dates ∙ ap (or_function (function_of_word of_numbers s)) (called_append s of_dates of_tables))))
 
-all_apart : apart all_functions ≡ true
+all_apart : apart function_words ≡ true
 unfolding splits
 all_apart = refl
 
-pub names : (s : List ℕ) (x : Entry) → Listed x all_functions → is_cut s x.0 ≡ true → function_named s ≡ Some x.1
-names s x i c = sym (named_all s) ∙ called_finds s x all_functions all_apart i c
+pub names : (s : List ℕ) (x : FunctionWord) → IsOneOf x function_words → is_cut s x.0 ≡ true → function_named s ≡ Some x.1
+names s x i c = sym (named_all s) ∙ called_finds s x function_words all_apart i c

@@ -10,8 +10,8 @@ use Rattle.std.proofs.lemmas.Bool.Decides.{nat_tests}
 use Rattle.std.proofs.lemmas.Bool.{ne_eqb}
 use Rattle.prg_expr.specs.declared.fault.ParseFaultKind.TheVariants as fault
 use Rattle.prg_expr.specs.Word.{Word, Number, Text, Name, Outside, Point, Macro, Faulty}
-use Rattle.prg_expr.specs.Lexicon.{is_name, is_blank, is_quote, digit_first, decimals, singles, single_in, pairs, pair_in, pointed, Listed, NoneInFront, Each, Stops, Alone, over, number_fault}
-use Rattle.prg_expr.specs.Scanning.{found, clean_at, number_len, number_at, name_at, text_end, text_at, pick, single_at, symbol_at, word_at}
+use Rattle.prg_expr.specs.Lexicon.{goes_on_name, is_blank_or_tab, is_quote, digit_first, decimals, singles, single_in, pairs, pair_in, pointed, IsOneOf, NoneInFront, EachPasses, FirstFails, Alone, over, number_fault}
+use Rattle.prg_expr.specs.Scanning.{found, clean_at, number_len, number_scanned, name_scanned, text_end, text_scanned, pick, single_at, symbol_at, word_at}
 use Rattle.prg_expr.specs.Reading.{if_some}
 use Rattle.prg_expr.proofs.Bytes.{prefix_is, cond_false, Entry, entry, after_finds, differs, Apart, differs_listed, after_differs}
 
@@ -27,23 +27,23 @@ drop_over (x ∷ xs) ys m zero e = absurd (omega (arith, e))
 drop_over (x ∷ xs) ys m (suc n) e = drop_over xs ys m n (omega (arith, e))
 
 number_is : (n k len : ℕ) (bytes digits behind front rest : List ℕ) → prefix_len is_ascii_digit bytes ≡ n → drop n bytes ≡ behind → decimals behind ≡ k → number_len n k ≡ len → take len bytes ≡ front → drop len bytes ≡ rest
-    → number_at bytes ≡ found (Number (parsed front)) (number_fault n k) rest
-unfolding number_at
+    → number_scanned bytes ≡ found (Number (parsed front)) (number_fault n k) rest
+unfolding number_scanned
 number_is n k len bytes digits behind front rest p d q l t r = rw (p, d, q, l, t, r) refl
 
 len_some : (n k : ℕ) → 0 < k → number_len n k ≡ n + (1 + k)
 len_some n k p = let no : eqb k 0 ≡ false = ne_eqb k 0 (λ e. omega arith) in rw no refl
 
-point_decimals : (behind rest : List ℕ) → Each is_ascii_digit behind → Stops is_ascii_digit rest → decimals (46 ∷ (behind ++ rest)) ≡ length behind
+point_decimals : (behind rest : List ℕ) → EachPasses is_ascii_digit behind → FirstFails is_ascii_digit rest → decimals (46 ∷ (behind ++ rest)) ≡ length behind
 unfolding decimals
 point_decimals behind rest e s = prefix_is is_ascii_digit behind rest e s
 
-pub whole_read : (digits rest : List ℕ) → Each is_ascii_digit digits → Stops is_ascii_digit rest → decimals rest ≡ 0 → number_at (digits ++ rest) ≡ found (Number (parsed digits)) (number_fault (length digits) 0) rest
+pub whole_read : (digits rest : List ℕ) → EachPasses is_ascii_digit digits → FirstFails is_ascii_digit rest → decimals rest ≡ 0 → number_scanned (digits ++ rest) ≡ found (Number (parsed digits)) (number_fault (length digits) 0) rest
 whole_read digits rest e s z =
     number_is (length digits) 0 (length digits) (digits ++ rest) digits rest digits rest (prefix_is is_ascii_digit digits rest e s) (drop-append_seam digits rest) z refl (take-append_seam digits rest) (drop-append_seam digits rest)
 
-pub decimal_read : (digits behind rest : List ℕ) → Each is_ascii_digit digits → 0 < length behind → Each is_ascii_digit behind → Stops is_ascii_digit rest
-    → number_at (digits ++ (46 ∷ (behind ++ rest))) ≡ found (Number (parsed (digits ++ 46 ∷ behind))) (number_fault (length digits) (length behind)) rest
+pub decimal_read : (digits behind rest : List ℕ) → EachPasses is_ascii_digit digits → 0 < length behind → EachPasses is_ascii_digit behind → FirstFails is_ascii_digit rest
+    → number_scanned (digits ++ (46 ∷ (behind ++ rest))) ≡ found (Number (parsed (digits ++ 46 ∷ behind))) (number_fault (length digits) (length behind)) rest
 decimal_read digits behind rest e p f s =
     let n = length digits in
     let k = length behind in
@@ -54,33 +54,33 @@ decimal_read digits behind rest e p f s =
     (drop_over digits (46 ∷ (behind ++ rest)) (1 + k) (n + (1 + k)) refl ∙ drop_over (46 ∷ []) (behind ++ rest) k (1 + k) (omega arith) ∙ drop-append_seam behind rest)
 
 -- names
-name_is : (n : ℕ) (bytes front rest : List ℕ) → prefix_len is_name bytes ≡ n → take n bytes ≡ front → drop n bytes ≡ rest → name_at bytes ≡ found (Name (map to_ascii_uppercase front)) (over 10 n) rest
-unfolding name_at
+name_is : (n : ℕ) (bytes front rest : List ℕ) → prefix_len goes_on_name bytes ≡ n → take n bytes ≡ front → drop n bytes ≡ rest → name_scanned bytes ≡ found (Name (map to_ascii_uppercase front)) (over 10 n) rest
+unfolding name_scanned
 name_is n bytes front rest p t d = rw (p, t, d) refl
 
-pub name_read : (letters rest : List ℕ) → Each is_name letters → Stops is_name rest → name_at (letters ++ rest) ≡ found (Name (map to_ascii_uppercase letters)) (over 10 (length letters)) rest
-name_read letters rest e s = name_is (length letters) (letters ++ rest) letters rest (prefix_is is_name letters rest e s) (take-append_seam letters rest) (drop-append_seam letters rest)
+pub name_read : (letters rest : List ℕ) → EachPasses goes_on_name letters → FirstFails goes_on_name rest → name_scanned (letters ++ rest) ≡ found (Name (map to_ascii_uppercase letters)) (over 10 (length letters)) rest
+name_read letters rest e s = name_is (length letters) (letters ++ rest) letters rest (prefix_is goes_on_name letters rest e s) (take-append_seam letters rest) (drop-append_seam letters rest)
 
 -- texts
-text_is : (n c : ℕ) (bytes s rest : List ℕ) → prefix_len (λ b. not (b == c)) bytes ≡ n → take n bytes ≡ s → drop n bytes ≡ rest → text_at c bytes ≡ text_end s rest
-unfolding text_at
+text_is : (n c : ℕ) (bytes s rest : List ℕ) → prefix_len (λ b. not (b == c)) bytes ≡ n → take n bytes ≡ s → drop n bytes ≡ rest → text_scanned c bytes ≡ text_end s rest
+unfolding text_scanned
 text_is n c bytes s rest p t d = rw (p, t, d) refl
 
-pub text_read : (c : ℕ) (s rest : List ℕ) → Each (λ b. not (b == c)) s → text_at c (s ++ (c ∷ rest)) ≡ found (Text (take 254 s)) (over 254 (length s)) rest
+pub text_read : (c : ℕ) (s rest : List ℕ) → EachPasses (λ b. not (b == c)) s → text_scanned c (s ++ (c ∷ rest)) ≡ found (Text (take 254 s)) (over 254 (length s)) rest
 text_read c s rest e =
     let test = λ (b : ℕ). not (b == c) in
-    let stop : Stops test (c ∷ rest) = ap not (eq-eqb c c refl) in
+    let stop : FirstFails test (c ∷ rest) = ap not (eq-eqb c c refl) in
     text_is (length s) c (s ++ (c ∷ rest)) s (c ∷ rest) (prefix_is test s (c ∷ rest) e stop) (take-append_seam s (c ∷ rest)) (drop-append_seam s (c ∷ rest))
 
-unended_at : (c : ℕ) (s : List ℕ) → Each (λ b. not (b == c)) s → text_at c (s ++ []) ≡ found (Text (take 254 s)) (Some fault.Text) []
+unended_at : (c : ℕ) (s : List ℕ) → EachPasses (λ b. not (b == c)) s → text_scanned c (s ++ []) ≡ found (Text (take 254 s)) (Some fault.Text) []
 unended_at c s e = let test = λ (b : ℕ). not (b == c) in
     text_is (length s) c (s ++ []) s [] (prefix_is test s [] e tt) (take-append_seam s []) (drop-append_seam s [])
 
-pub unended_read : (c : ℕ) (s : List ℕ) → Each (λ b. not (b == c)) s → text_at c s ≡ found (Text (take 254 s)) (Some fault.Text) []
-unended_read c s e = ap (text_at c) (sym (append-nil s)) ∙ unended_at c s e
+pub unended_read : (c : ℕ) (s : List ℕ) → EachPasses (λ b. not (b == c)) s → text_scanned c s ≡ found (Text (take 254 s)) (Some fault.Text) []
+unended_read c s e = ap (text_scanned c) (sym (append-nil s)) ∙ unended_at c s e
 
 -- words behind a point
-pub pick_finds : (table : List Entry) (letters rest : List ℕ) (t : Word) → Apart table → Listed (entry (map to_ascii_lowercase letters) t) table → pick table (letters ++ rest) ≡ clean_at t rest
+pub pick_finds : (table : List Entry) (letters rest : List ℕ) (t : Word) → Apart table → IsOneOf (entry (map to_ascii_lowercase letters) t) table → pick table (letters ++ rest) ≡ clean_at t rest
 pick_finds [] letters rest t a i = absurd i
 pick_finds (x ∷ xs) letters rest t a (inl i) =
     let h : pick (entry (map to_ascii_lowercase letters) t ∷ xs) (letters ++ rest) ≡ clean_at t rest = rw (after_finds letters rest) refl in
@@ -106,7 +106,7 @@ abbrev AllHigh : List Entry → Type 0
 AllHigh [] = Unit {0}
 AllHigh (x ∷ xs) = High x.0 × AllHigh xs
 
-listed_high : (v : List ℕ) (t : Word) (table : List Entry) → AllHigh table → Listed (entry v t) table → High v
+listed_high : (v : List ℕ) (t : Word) (table : List Entry) → AllHigh table → IsOneOf (entry v t) table → High v
 listed_high v t [] a i = absurd i
 listed_high v t (x ∷ xs) a (inl i) = subst (λ (x : Entry). High x.0) (sym i) a.0
 listed_high v t (x ∷ xs) a (inr i) = listed_high v t xs a.1 i
@@ -121,7 +121,7 @@ high_digit : (letters rest : List ℕ) → High (map to_ascii_lowercase letters)
 high_digit [] rest h = absurd h
 high_digit (b ∷ letters) rest h = no_digit b h
 
-pub pointed_digit : (letters rest : List ℕ) (t : Word) → Listed (entry (map to_ascii_lowercase letters) t) pointed → digit_first (letters ++ rest) ≡ false
+pub pointed_digit : (letters rest : List ℕ) (t : Word) → IsOneOf (entry (map to_ascii_lowercase letters) t) pointed → digit_first (letters ++ rest) ≡ false
 pointed_digit letters rest t i = high_digit letters rest (listed_high (map to_ascii_lowercase letters) t pointed pointed_high i)
 
 -- symbols
@@ -152,7 +152,7 @@ macro_read rest = symbol_alone 38 rest (macro_alone rest)
 
 -- a byte that begins a symbol or nothing
 pub record Other (b : ℕ) : Type 0 where
-  pub no_blank : is_blank b ≡ false
+  pub no_blank : is_blank_or_tab b ≡ false
   pub no_digit : is_ascii_digit b ≡ false
   pub no_letter : is_ascii_alphabetic b ≡ false
   pub no_point : (b == 46) ≡ false

@@ -4,8 +4,8 @@ use Rattle.std.specs.Prelude.{◌==◌, if◌then◌else◌}
 use Rattle.std.proofs.lemmas.Bool.{ne_eqb}
 use Rattle.std.proofs.lemmas.Bool.Decides.{eqb_tells}
 use Rattle.prg_expr.specs.declared.function.Function.{Function}
-use Rattle.prg_expr.specs.declared.tree.Operator.{Operator}
-use Rattle.prg_expr.specs.declared.tree.Operator.TheVariants.{Or, And, Equal, NotEqual, Less, Greater, AtMost, AtLeast, Contains, Plus, Minus, Times, Over}
+use Rattle.prg_expr.specs.declared.tree.BinaryOperator.{BinaryOperator}
+use Rattle.prg_expr.specs.declared.tree.BinaryOperator.TheVariants.{Or, And, Equal, NotEqual, Less, Greater, AtMost, AtLeast, Contains, Plus, Minus, Times, Over}
 use Rattle.prg_expr.specs.declared.tree.Prefix.{Prefix}
 use Rattle.prg_expr.specs.declared.tree.Prefix.TheVariants as prefix
 use Rattle.prg_expr.specs.Tree.{Tree, Trees, count}
@@ -13,7 +13,7 @@ use Rattle.prg_expr.specs.Tree as tree
 use Rattle.prg_expr.specs.Word.{Word}
 use Rattle.prg_expr.specs.Word as word
 use Rattle.prg_expr.specs.Grammar.{looseness, prefix_of, prefix_level, Free, Stands, number, text, logical, name, qualified, parentheses, looser, grouped, compared, prefixed, called, called_bare, Arguments, last, more}
-use Rattle.prg_expr.specs.Reading.{Reader, ◌>>=◌, if_some, operator_at, prefix_at, prefixes, arguments, call_of, called_at, named}
+use Rattle.prg_expr.specs.Reading.{TreeReader, ◌>>=◌, if_some, operator_at, prefix_at, prefixes, arguments, call_read, called_at, named}
 
 pub free_less : (l m : ℕ) (ws : List Word) → l ≤ m → Free m ws → Free l ws
 free_less l m (word.Sign o ∷ ws) le f = omega arith
@@ -44,7 +44,7 @@ no_operator l (word.Close ∷ ws) f = refl
 no_operator l (word.Comma ∷ ws) f = refl
 no_operator l (word.Outside mk ∷ ws) f = refl
 
-pub an_operator : (l : ℕ) (o : Operator) (ws : List Word) → looseness o ≡ l → operator_at l (word.Sign o ∷ ws) ≡ Some (o, ws)
+pub an_operator : (l : ℕ) (o : BinaryOperator) (ws : List Word) → looseness o ≡ l → operator_at l (word.Sign o ∷ ws) ≡ Some (o, ws)
 unfolding operator_at
 an_operator l o ws e = let yes : eqb (looseness o) l ≡ true = eq-eqb (looseness o) l e in rw yes refl
 
@@ -120,12 +120,12 @@ prefix_levels prefix.Not = inr refl
 prefix_levels prefix.Negative = inl refl
 prefix_levels prefix.Positive = inl refl
 
-pub prefixes_plain : (next : Reader) (l : ℕ) (ws : List Word) → Plain l ws → prefixes next (suc l) ws ≡ next ws
+pub prefixes_plain : (next : TreeReader) (l : ℕ) (ws : List Word) → Plain l ws → prefixes next (suc l) ws ≡ next ws
 unfolding prefixes
 prefixes_plain next l [] p = absurd p
 prefixes_plain next l (w ∷ ws) p = let n = none_at l w p in rw n refl
 
-pub never_one : (o : Operator) → looseness o ≢ 1
+pub never_one : (o : BinaryOperator) → looseness o ≢ 1
 never_one Or e = omega arith
 never_one And e = omega arith
 never_one Equal e = omega arith
@@ -140,7 +140,7 @@ never_one Minus e = omega arith
 never_one Times e = omega arith
 never_one Over e = omega arith
 
-pub never_five : (o : Operator) → looseness o ≢ 5
+pub never_five : (o : BinaryOperator) → looseness o ≢ 5
 never_five Or e = omega arith
 never_five And e = omega arith
 never_five Equal e = omega arith
@@ -206,7 +206,7 @@ pub unclosed_all : {d : ℕ} {es : Trees} {ws : List Word} → Arguments d es ws
 unclosed_all (last s) = unclosed s
 unclosed_all (more s a) = unclosed_append _ _ (unclosed s)
 
-pub called_unclosed : (d : ℕ) (r : Reader) (f : Function) (ws : List Word) → Unclosed ws → called_at (suc d) r f ws ≡ (arguments (suc (length ws)) r ws >>= λ x. call_of f x.0 x.1)
+pub called_unclosed : (d : ℕ) (r : TreeReader) (f : Function) (ws : List Word) → Unclosed ws → called_at (suc d) r f ws ≡ (arguments (suc (length ws)) r ws >>= λ x. call_read f x.0 x.1)
 unfolding called_at
 called_unclosed d r f [] p = absurd p
 called_unclosed d r f (word.Close ∷ ws) p = absurd p
@@ -221,7 +221,7 @@ called_unclosed d r f (word.Open ∷ ws) p = refl
 called_unclosed d r f (word.Comma ∷ ws) p = refl
 called_unclosed d r f (word.Outside mk ∷ ws) p = refl
 
-pub named_free : (d : ℕ) (r : Reader) (s : List ℕ) (l : ℕ) (ws : List Word) → Free l ws → named d r s ws ≡ Ok (tree.Name (take 10 s), ws)
+pub named_free : (d : ℕ) (r : TreeReader) (s : List ℕ) (l : ℕ) (ws : List Word) → Free l ws → named d r s ws ≡ Ok (tree.Name (take 10 s), ws)
 unfolding named
 named_free d r s l (word.Open ∷ ws) f = absurd f
 named_free d r s l (word.Arrow ∷ ws) f = absurd f

@@ -8,20 +8,20 @@ use Rattle.std.proofs.Common.{Result, Ok, Err}
 use Rattle.std.specs.declared.alloc.AllocError.{AllocError}
 use Rattle.std.specs.Prelude.{IfOk}
 use Rattle.prg_expr.specs.declared.token.Line.{Line}
-use Rattle.prg_expr.specs.Scanning.{IsScan, IsWordsOf}
+use Rattle.prg_expr.specs.Scanning.{IsScanned, IsWordsOf}
 use Rattle.prg_expr.specs.declared.fault.ParseFaultKind.{ParseFaultKind}
 use Rattle.prg_expr.specs.Word.{Word}
-use Rattle.prg_expr.specs.Lexicon.{is_blank, is_quote, is_comment, digit_first, closing, singles, single_in, pairs, pair_in, pointed, Each, Stops, IsWord, whole, decimal, name, text, unended, behind_point, lone_point, pair, single, macro, strange, Spot, spot, IsLine, nothing, comment, blank, word}
-use Rattle.prg_expr.specs.Scanning.{found, number_at, name_at, text_at, pick, symbol_at, word_at, with_word, spots_at, scan}
+use Rattle.prg_expr.specs.Lexicon.{is_blank_or_tab, is_quote, is_comment, digit_first, closing, singles, single_in, pairs, pair_in, pointed, EachPasses, FirstFails, IsWord, whole, decimal, name, text, unended, behind_point, lone_point, pair, single, macro, strange, Spot, spot, IsLine, nothing, comment, blank, word}
+use Rattle.prg_expr.specs.Scanning.{found, number_scanned, name_scanned, text_scanned, pick, symbol_at, word_at, with_word, spots_at, scan}
 use Rattle.prg_expr.proofs.Sound.{bool_tells}
 use Rattle.prg_expr.proofs.Bytes.{cond_true, cond_false}
 use Rattle.prg_expr.proofs.Finds.{whole_read, decimal_read, name_read, text_read, unended_read, pick_finds, pointed_apart, pointed_digit, pick_none, single_read, other_read, symbol_alone, symbol_pair, macro_read, Other, other_word}
 use Rattle.prg_expr.proofs.Takes.{letter_is_name, takes_word, word_shorter}
 
-digit_blank : (b : ℕ) → is_ascii_digit b ≡ true → is_blank b ≡ false
+digit_blank : (b : ℕ) → is_ascii_digit b ≡ true → is_blank_or_tab b ≡ false
 digit_blank b h = grind (arith, nat_tests)
 
-letter_blank : (b : ℕ) → is_ascii_alphabetic b ≡ true → is_blank b ≡ false
+letter_blank : (b : ℕ) → is_ascii_alphabetic b ≡ true → is_blank_or_tab b ≡ false
 letter_blank b h = grind (arith, nat_tests)
 
 letter_digit : (b : ℕ) → is_ascii_alphabetic b ≡ true → is_ascii_digit b ≡ false
@@ -34,7 +34,7 @@ letter_macro : (b : ℕ) → is_ascii_alphabetic b ≡ true → (b == 38) ≡ fa
 letter_macro b h = grind (arith, nat_tests)
 
 record Plain (b : ℕ) : Type 0 where
-  no_blank : is_blank b ≡ false
+  no_blank : is_blank_or_tab b ≡ false
   no_digit : is_ascii_digit b ≡ false
   no_letter : is_ascii_alphabetic b ≡ false
   no_point : (b == 46) ≡ false
@@ -52,7 +52,7 @@ record Begins (w : Word) (f : Option ParseFaultKind) (front rest : List ℕ) : T
   first : ℕ
   others : List ℕ
   is : front ≡ first ∷ others
-  not_blank : is_blank first ≡ false
+  not_blank : is_blank_or_tab first ≡ false
   not_comment : is_comment first (others ++ rest) ≡ false
   read : word_at first (others ++ rest) ≡ found w f rest
 
@@ -98,23 +98,23 @@ symbol_begins b others rest w f o h = record {
   read = other_word b (others ++ rest) o.no_digit o.no_letter o.no_point o.no_quote ∙ h;
 }
 
-macro_comment : (rest : List ℕ) → Stops (λ c. c == 38) rest → is_comment 38 rest ≡ false
+macro_comment : (rest : List ℕ) → FirstFails (λ c. c == 38) rest → is_comment 38 rest ≡ false
 macro_comment [] s = refl
 macro_comment (c ∷ rest) s = s
 
-digit_word : (b : ℕ) (bytes : List ℕ) → is_ascii_digit b ≡ true → word_at b bytes ≡ number_at (b ∷ bytes)
+digit_word : (b : ℕ) (bytes : List ℕ) → is_ascii_digit b ≡ true → word_at b bytes ≡ number_scanned (b ∷ bytes)
 unfolding word_at
 digit_word b bytes d = cond_true (is_ascii_digit b) _ _ d
 
-letter_word : (b : ℕ) (bytes : List ℕ) → is_ascii_alphabetic b ≡ true → word_at b bytes ≡ name_at (b ∷ bytes)
+letter_word : (b : ℕ) (bytes : List ℕ) → is_ascii_alphabetic b ≡ true → word_at b bytes ≡ name_scanned (b ∷ bytes)
 unfolding word_at
 letter_word b bytes l = cond_false (is_ascii_digit b) _ _ (letter_digit b l) ∙ cond_true (is_ascii_alphabetic b) _ _ l
 
-quote_word : (b : ℕ) (bytes : List ℕ) → is_quote b ≡ true → word_at b bytes ≡ text_at (closing b) bytes
+quote_word : (b : ℕ) (bytes : List ℕ) → is_quote b ≡ true → word_at b bytes ≡ text_scanned (closing b) bytes
 unfolding word_at
 quote_word b bytes q = let p = quote_plain b q in cond_false (is_ascii_digit b) _ _ p.no_digit ∙ cond_false (is_ascii_alphabetic b) _ _ p.no_letter ∙ cond_false (b == 46) _ _ p.no_point ∙ cond_true (is_quote b) _ _ q
 
-point_digit : (bytes : List ℕ) → digit_first bytes ≡ true → word_at 46 bytes ≡ number_at (46 ∷ bytes)
+point_digit : (bytes : List ℕ) → digit_first bytes ≡ true → word_at 46 bytes ≡ number_scanned (46 ∷ bytes)
 unfolding word_at
 point_digit bytes d = cond_true (digit_first bytes) _ _ d
 
@@ -126,7 +126,7 @@ macro_word : (bytes : List ℕ) → word_at 38 bytes ≡ symbol_at 38 bytes
 unfolding word_at
 macro_word bytes = refl
 
-quote_begins : (b : ℕ) (s rest : List ℕ) (w : Word) (f : Option ParseFaultKind) → is_quote b ≡ true → text_at (closing b) (s ++ rest) ≡ found w f rest → Begins w f (b ∷ s) rest
+quote_begins : (b : ℕ) (s rest : List ℕ) (w : Word) (f : Option ParseFaultKind) → is_quote b ≡ true → text_scanned (closing b) (s ++ rest) ≡ found w f rest → Begins w f (b ∷ s) rest
 quote_begins b s rest w f q h = let p = quote_plain b q in record {
   first = b;
   others = s;
@@ -136,7 +136,7 @@ quote_begins b s rest w f q h = let p = quote_plain b q in record {
   read = quote_word b (s ++ rest) q ∙ h;
 }
 
-digit_begins : (b : ℕ) (ds rest : List ℕ) (w : Word) (f : Option ParseFaultKind) → is_ascii_digit b ≡ true → number_at (b ∷ (ds ++ rest)) ≡ found w f rest → Begins w f (b ∷ ds) rest
+digit_begins : (b : ℕ) (ds rest : List ℕ) (w : Word) (f : Option ParseFaultKind) → is_ascii_digit b ≡ true → number_scanned (b ∷ (ds ++ rest)) ≡ found w f rest → Begins w f (b ∷ ds) rest
 digit_begins b ds rest w f d h = record {
   first = b;
   others = ds;
@@ -149,7 +149,7 @@ digit_begins b ds rest w f d h = record {
 point_begins : (behind rest : List ℕ) (w : Word) (f : Option ParseFaultKind) → word_at 46 (behind ++ rest) ≡ found w f rest → Begins w f (46 ∷ behind) rest
 point_begins behind rest w f h = record { first = 46; others = behind; is = refl; not_blank = refl; not_comment = no_comment 46 (behind ++ rest) refl; read = h }
 
-some_digit : (behind rest : List ℕ) → 0 < length behind → Each is_ascii_digit behind → digit_first (behind ++ rest) ≡ true
+some_digit : (behind rest : List ℕ) → 0 < length behind → EachPasses is_ascii_digit behind → digit_first (behind ++ rest) ≡ true
 some_digit [] rest p e = absurd (omega (arith, p))
 some_digit (b ∷ behind) rest p e = e.0
 
@@ -158,7 +158,7 @@ begins (whole {digits = []} p e s z) = absurd (omega (arith, p))
 begins (whole {digits = b ∷ ds} {rest} p e s z) = digit_begins b ds rest _ _ e.0 (whole_read (b ∷ ds) rest e s z)
 begins (decimal [] behind {rest} e p f s) = point_begins behind rest _ _ (point_digit (behind ++ rest) (some_digit behind rest p f) ∙ decimal_read [] behind rest e p f s)
 begins (decimal (b ∷ ds) behind {rest} e p f s) =
-    digit_begins b (ds ++ 46 ∷ behind) rest _ _ e.0 (ap (λ (l : List ℕ). number_at (b ∷ l)) (append_assoc ds (46 ∷ behind) rest) ∙ decimal_read (b ∷ ds) behind rest e p f s)
+    digit_begins b (ds ++ 46 ∷ behind) rest _ _ e.0 (ap (λ (l : List ℕ). number_scanned (b ∷ l)) (append_assoc ds (46 ∷ behind) rest) ∙ decimal_read (b ∷ ds) behind rest e p f s)
 begins (name {b} {others} {rest} p e s) = record {
   first = b;
   others = others;
@@ -167,8 +167,8 @@ begins (name {b} {others} {rest} p e s) = record {
   not_comment = no_comment b (others ++ rest) (letter_macro b p);
   read = letter_word b (others ++ rest) p ∙ name_read (b ∷ others) rest (letter_is_name b p, e) s;
 }
-begins (text {b} s {rest} q e) = quote_begins b (s ++ closing b ∷ []) rest _ _ q (ap (text_at (closing b)) (append_assoc s (closing b ∷ []) rest) ∙ text_read (closing b) s rest e)
-begins (unended {b} {s} q e) = quote_begins b s [] _ _ q (ap (text_at (closing b)) (append-nil s) ∙ unended_read (closing b) s e)
+begins (text {b} s {rest} q e) = quote_begins b (s ++ closing b ∷ []) rest _ _ q (ap (text_scanned (closing b)) (append_assoc s (closing b ∷ []) rest) ∙ text_read (closing b) s rest e)
+begins (unended {b} {s} q e) = quote_begins b s [] _ _ q (ap (text_scanned (closing b)) (append-nil s) ∙ unended_read (closing b) s e)
 begins (behind_point {w} {letters} {rest} i) = point_begins letters rest w None (point_word (letters ++ rest) (pointed_digit letters rest w i) ∙ pick_finds pointed letters rest w pointed_apart i)
 begins (lone_point {rest} d n) = point_begins [] rest _ None (point_word rest d ∙ pick_none pointed rest n)
 begins (pair {b} {c} {w} {rest} h) = symbol_begins b (c ∷ []) rest w None (paired_up Other pairs b c w pairs_other h) (symbol_pair b c w rest h)
@@ -183,17 +183,17 @@ unfolding spots_at
 nothing_on zero = refl
 nothing_on (suc n) = refl
 
-pub blank_on : (n b : ℕ) (bytes : List ℕ) → is_blank b ≡ true → spots_at (suc n) (b ∷ bytes) ≡ spots_at n bytes
+pub blank_on : (n b : ℕ) (bytes : List ℕ) → is_blank_or_tab b ≡ true → spots_at (suc n) (b ∷ bytes) ≡ spots_at n bytes
 unfolding spots_at
-blank_on n b bytes h = cond_true (is_blank b) _ _ h
+blank_on n b bytes h = cond_true (is_blank_or_tab b) _ _ h
 
-pub comment_on : (n b : ℕ) (bytes : List ℕ) → is_blank b ≡ false → is_comment b bytes ≡ true → spots_at (suc n) (b ∷ bytes) ≡ []
+pub comment_on : (n b : ℕ) (bytes : List ℕ) → is_blank_or_tab b ≡ false → is_comment b bytes ≡ true → spots_at (suc n) (b ∷ bytes) ≡ []
 unfolding spots_at
-comment_on n b bytes h c = cond_false (is_blank b) _ _ h ∙ cond_true (is_comment b bytes) _ _ c
+comment_on n b bytes h c = cond_false (is_blank_or_tab b) _ _ h ∙ cond_true (is_comment b bytes) _ _ c
 
-pub word_on : (n b : ℕ) (bytes : List ℕ) → is_blank b ≡ false → is_comment b bytes ≡ false → spots_at (suc n) (b ∷ bytes) ≡ with_word (spots_at n) (word_at b bytes)
+pub word_on : (n b : ℕ) (bytes : List ℕ) → is_blank_or_tab b ≡ false → is_comment b bytes ≡ false → spots_at (suc n) (b ∷ bytes) ≡ with_word (spots_at n) (word_at b bytes)
 unfolding spots_at
-word_on n b bytes h c = cond_false (is_blank b) _ _ h ∙ cond_false (is_comment b bytes) _ _ c
+word_on n b bytes h c = cond_false (is_blank_or_tab b) _ _ h ∙ cond_false (is_comment b bytes) _ _ c
 
 -- sound
 and_true : (a b : Bool) → (a && b) ≡ true → (a ≡ true) × (b ≡ true)
@@ -212,7 +212,7 @@ comment_is b (c ∷ rest) h =
 spots_sound : (n : ℕ) (bytes : List ℕ) → length bytes ≤ n → IsLine (spots_at n bytes) bytes
 spots_sound n [] le = subst (λ (s : List Spot). IsLine s []) (sym (nothing_on n)) nothing
 spots_sound zero (b ∷ bytes) le = absurd (omega arith)
-spots_sound (suc n) (b ∷ bytes) le = elim (bool_tells (is_blank b)) [
+spots_sound (suc n) (b ∷ bytes) le = elim (bool_tells (is_blank_or_tab b)) [
   | inl y ↦ subst (λ (s : List Spot). IsLine s (b ∷ bytes)) (sym (blank_on n b bytes y)) (blank y (spots_sound n bytes (omega arith)))
   | inr y ↦ elim (bool_tells (is_comment b bytes)) [
     | inl c ↦ (let k = comment_is b bytes c in subst (λ (s : List Spot). IsLine s (b ∷ bytes)) (sym (comment_on n b bytes y c)) (subst (λ (l : List ℕ). IsLine [] l) (sym k.1) comment))
@@ -228,7 +228,7 @@ unfolding scan
 scan_sound bytes = spots_sound (length bytes) bytes (omega arith)
 
 -- complete
-blank_by : (n b : ℕ) (bytes : List ℕ) (spots : List Spot) → is_blank b ≡ true → length (b ∷ bytes) ≤ n → ((m : ℕ) → length bytes ≤ m → spots_at m bytes ≡ spots) → spots_at n (b ∷ bytes) ≡ spots
+blank_by : (n b : ℕ) (bytes : List ℕ) (spots : List Spot) → is_blank_or_tab b ≡ true → length (b ∷ bytes) ≤ n → ((m : ℕ) → length bytes ≤ m → spots_at m bytes ≡ spots) → spots_at n (b ∷ bytes) ≡ spots
 blank_by zero b bytes spots h le go = absurd (omega arith)
 blank_by (suc n) b bytes spots h le go = blank_on n b bytes h ∙ go n (omega arith)
 
@@ -236,7 +236,7 @@ comment_by : (n : ℕ) (bytes : List ℕ) → length (38 ∷ 38 ∷ bytes) ≤ n
 comment_by zero bytes le = absurd (omega arith)
 comment_by (suc n) bytes le = comment_on n 38 (38 ∷ bytes) refl refl
 
-word_from : (n : ℕ) (w : Word) (f : Option ParseFaultKind) (spots : List Spot) (b : ℕ) (others rest : List ℕ) → is_blank b ≡ false → is_comment b (others ++ rest) ≡ false → word_at b (others ++ rest) ≡ found w f rest
+word_from : (n : ℕ) (w : Word) (f : Option ParseFaultKind) (spots : List Spot) (b : ℕ) (others rest : List ℕ) → is_blank_or_tab b ≡ false → is_comment b (others ++ rest) ≡ false → word_at b (others ++ rest) ≡ found w f rest
     → length (b ∷ (others ++ rest)) ≤ n → ((m : ℕ) → length rest ≤ m → spots_at m rest ≡ spots) → spots_at n (b ∷ (others ++ rest)) ≡ spot w f ∷ spots
 word_from zero w f spots b others rest h c r le go = absurd (omega arith)
 word_from (suc n) w f spots b others rest h c r le go =
@@ -259,7 +259,7 @@ scan_complete spots bytes t = spots_complete t (length bytes) (omega arith)
 pub one_line : (line : List ℕ) (a b : List Spot) → IsLine a line → IsLine b line → a ≡ b
 one_line line a b s t = sym (scan_complete a line s) ∙ scan_complete b line t
 
-pub of_scan : (bytes : List ℕ) (r : Result Line AllocError) → IfOk r (IsScan bytes) → IfOk r (IsWordsOf bytes)
+pub of_scan : (bytes : List ℕ) (r : Result Line AllocError) → IfOk r (IsScanned bytes) → IfOk r (IsWordsOf bytes)
 of_scan bytes (Ok line) h = (scan bytes, scan_sound bytes, h)
 of_scan bytes (Err e) h = tt
 
@@ -269,7 +269,7 @@ unfolding spots_at
 few_spots_at zero [] = omega arith
 few_spots_at (suc n) [] = omega arith
 few_spots_at zero (b ∷ bytes) = omega arith
-few_spots_at (suc n) (b ∷ bytes) = elim (bool_tells (is_blank b)) [
+few_spots_at (suc n) (b ∷ bytes) = elim (bool_tells (is_blank_or_tab b)) [
   | inl y ↦ (let e : spots_at (suc n) (b ∷ bytes) ≡ spots_at n bytes = rw y refl in let m = few_spots_at n bytes in rw e (omega (arith, m)))
   | inr k ↦ elim (bool_tells (is_comment b bytes)) [
     | inl y ↦ (let e : spots_at (suc n) (b ∷ bytes) ≡ [] = rw (k, y) refl in rw e (omega arith))

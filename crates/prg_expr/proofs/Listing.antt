@@ -5,7 +5,7 @@ use Rattle.prg_expr.specs.declared.fault.FormFault.TheVariants as form_fault
 use Rattle.prg_expr.specs.declared.tree.Expr.{Expr}
 use Rattle.prg_expr.specs.Tree.{Tree, Trees, None, More, tree_of, trees_of}
 use Rattle.prg_expr.specs.Word.{Word}
-use Rattle.prg_expr.specs.Reading.{Reader, Listing, Fails, ◌>>=◌, separator, after_argument, arguments}
+use Rattle.prg_expr.specs.Reading.{TreeReader, Listing, WordsFail, ◌>>=◌, separator, after_argument, arguments}
 
 abbrev pub join : Trees → Trees → Trees
 join None u = u
@@ -31,14 +31,14 @@ front_more ts e (Ok x) = ap (λ (t : Trees). Ok (t, x.1)) (sym (join_assoc ts (M
 front_more ts e (Err f) = refl
 
 -- what is read so far, where more is to come or not
-abbrev pub SoFar : Reader → Listing → Bool → Trees → List Word → Type 0
+abbrev pub SoFar : TreeReader → Listing → Bool → Trees → List Word → Type 0
 SoFar r total true found rest = (n : ℕ) × (length rest < n) × (with_front found (arguments n r rest) ≡ total)
 SoFar r total false found rest = total ≡ Ok (found, rest)
 
-pub starts : (r : Reader) (ws : List Word) → SoFar r (arguments (suc (length ws)) r ws) true None ws
+pub starts : (r : TreeReader) (ws : List Word) → SoFar r (arguments (suc (length ws)) r ws) true None ws
 starts r ws = (suc (length ws), omega arith, front_none (arguments (suc (length ws)) r ws))
 
-module _ (r : Reader) (total : Listing) (found : Trees) (rest : List Word) where
+module _ (r : TreeReader) (total : Listing) (found : Trees) (rest : List Word) where
   step_at : (n : ℕ) (e : Tree) (after others : List Word) (b : Bool) → length rest < n → r rest ≡ Ok (e, after) → separator after ≡ Ok (b, others)
       → (m : ℕ) × (n ≡ suc m) × (arguments n r rest ≡ after_argument (arguments m r) e (b, others))
   unfolding arguments
@@ -51,24 +51,24 @@ module _ (r : Reader) (total : Listing) (found : Trees) (rest : List Word) where
   steps e after others false so h g lt = let s = step_at so.0 e after others false so.1 h g in
       sym so.2 ∙ ap (with_front found) s.2
 
-  fails_as : (a b : Listing) (f : FormFault) → a ≡ b → Fails f a → Fails f b
+  fails_as : (a b : Listing) (f : FormFault) → a ≡ b → WordsFail f a → WordsFail f b
   fails_as a b form_fault.Memory p h = tt
   fails_as a b (form_fault.Kind f) p h = sym p ∙ h
 
-  fails_at : (n : ℕ) (f : FormFault) → length rest < n → Fails f (r rest) → Fails f (with_front found (arguments n r rest))
+  fails_at : (n : ℕ) (f : FormFault) → length rest < n → WordsFail f (r rest) → WordsFail f (with_front found (arguments n r rest))
   unfolding arguments
   fails_at zero f lt h = absurd (omega arith)
   fails_at (suc m) form_fault.Memory lt h = tt
   fails_at (suc m) (form_fault.Kind f) lt h = rw h refl
 
-  pub fails : (f : FormFault) → SoFar r total true found rest → Fails f (r rest) → Fails f total
+  pub fails : (f : FormFault) → SoFar r total true found rest → WordsFail f (r rest) → WordsFail f total
   fails f so h = fails_as _ _ f so.2 (fails_at so.0 f so.1 h)
 
-  unparted_at : (n : ℕ) (f : FormFault) (e : Tree) (after : List Word) → length rest < n → r rest ≡ Ok (e, after) → Fails f (separator after) → Fails f (with_front found (arguments n r rest))
+  unparted_at : (n : ℕ) (f : FormFault) (e : Tree) (after : List Word) → length rest < n → r rest ≡ Ok (e, after) → WordsFail f (separator after) → WordsFail f (with_front found (arguments n r rest))
   unfolding arguments
   unparted_at zero f e after lt h g = absurd (omega arith)
   unparted_at (suc m) form_fault.Memory e after lt h g = tt
   unparted_at (suc m) (form_fault.Kind f) e after lt h g = rw (h, g) refl
 
-  pub unparted : (f : FormFault) (e : Tree) (after : List Word) → SoFar r total true found rest → r rest ≡ Ok (e, after) → Fails f (separator after) → Fails f total
+  pub unparted : (f : FormFault) (e : Tree) (after : List Word) → SoFar r total true found rest → r rest ≡ Ok (e, after) → WordsFail f (separator after) → WordsFail f total
   unparted f e after so h g = fails_as _ _ f so.2 (unparted_at so.0 f e after so.1 h g)

@@ -15,7 +15,7 @@ use Rattle.prg_expr.specs.Word.{Word}
 use Rattle.prg_expr.specs.Lexicon.{Spot, spot, spot_word, spot_fault, clean, IsLine}
 use Rattle.prg_expr.specs.Reading.{parse}
 use Rattle.prg_expr.specs.Scanning.{scan}
-use Rattle.prg_expr.specs.Spelling.{Spells, refuse, told_of, form_of, fault_of, read, in_first_line, fault_told, Answered, Answers}
+use Rattle.prg_expr.specs.Spelling.{Spells, refuse, told_of, tree_of_words, text_fault, read, in_first_line, fault_told, Answered, Answers}
 use Rattle.prg_expr.proofs.Sound.{bool_tells, parse_sound}
 use Rattle.prg_expr.proofs.Complete.{parse_complete}
 use Rattle.prg_expr.proofs.Lines.{scan_sound, scan_complete, few_spots}
@@ -65,16 +65,16 @@ short bytes h = elim (bool_tells (nat_lt 1024 bytes)) [
   | inr n ↦ ltb-false 1024 bytes n
 ]
 
-form_ok : (ws : List Word) (e : Tree) → form_of ws ≡ Ok e → parse ws ≡ Ok e
+form_ok : (ws : List Word) (e : Tree) → tree_of_words ws ≡ Ok e → parse ws ≡ Ok e
 form_ok ws e h = elim (bool_tells (nat_lt 4096 (length ws))) [
-  | inl y ↦ absurd (let g : form_of ws ≡ Err fault.TooLong = rw y refl in let k = sym g ∙ h in cc)
-  | inr n ↦ (let g : form_of ws ≡ parse ws = rw n refl in sym g ∙ h)
+  | inl y ↦ absurd (let g : tree_of_words ws ≡ Err fault.TooLong = rw y refl in let k = sym g ∙ h in cc)
+  | inr n ↦ (let g : tree_of_words ws ≡ parse ws = rw n refl in sym g ∙ h)
 ]
 
 read_sound : (text : List ℕ) (e : Tree) → read text ≡ Ok e → Spells e text
 unfolding read
 read_sound text e h =
-    let t = told_ok (fault_of text) (form_of (map spot_word (scan text))) e h in
+    let t = told_ok (text_fault text) (tree_of_words (map spot_word (scan text))) e h in
     let f = least_none (least_of None (map spot_fault (scan text))) (length_fault (length text)) t.0 in
     let a = all_none None (scan text) f.0 in
     let line = subst (λ (s : List Spot). IsLine s text) (cleaned (scan text) a.1) (scan_sound text) in
@@ -83,7 +83,7 @@ read_sound text e h =
 short_on : (bytes : ℕ) → bytes ≤ 1024 → length_fault bytes ≡ None
 short_on bytes le = let n : nat_lt 1024 bytes ≡ false = le-ltb 1024 bytes le in rw n refl
 
-form_on : (ws : List Word) (e : Tree) → length ws ≤ 1024 → parse ws ≡ Ok e → form_of ws ≡ Ok e
+form_on : (ws : List Word) (e : Tree) → length ws ≤ 1024 → parse ws ≡ Ok e → tree_of_words ws ≡ Ok e
 form_on ws e le p = let n : nat_lt 4096 (length ws) ≡ false = le-ltb 4096 (length ws) (omega (arith, le)) in rw n p
 
 -- clean words are as many as are found, no more than the bytes
@@ -100,10 +100,10 @@ read_complete text e s =
     let w : map spot_word (scan text) ≡ s.0 = ap (map spot_word) a ∙ words_clean s.0 in
     let f : least_of None (map spot_fault (scan text)) ≡ None = ap (λ (l : List Spot). least_of None (map spot_fault l)) a ∙ faults_clean s.0 in
     let p = form_on s.0 e (few_words text s.0 a s.1) (parse_complete s.0 e s.3) in
-    let form = form_of (map spot_word (scan text)) in
+    let form = tree_of_words (map spot_word (scan text)) in
     ap (λ (o : Option ParseFaultKind). told_of (least o (length_fault (length text))) form) f
     ∙ ap (λ (o : Option ParseFaultKind). told_of o form) (short_on (length text) s.1)
-    ∙ ap (λ (ws : List Word). told_of None (form_of ws)) w
+    ∙ ap (λ (ws : List Word). told_of None (tree_of_words ws)) w
     ∙ ap (told_of None) p
 
 -- where a tree was read no fault is told

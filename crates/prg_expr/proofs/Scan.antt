@@ -5,8 +5,8 @@ use Rattle.prg_expr.specs.declared.fault.ParseFaultKind.{ParseFaultKind}
 use Rattle.prg_expr.specs.declared.token.Line.{Line}
 use Rattle.prg_expr.specs.Faults.{least, least_of}
 use Rattle.prg_expr.specs.Word.{Word, words}
-use Rattle.prg_expr.specs.Lexicon.{is_blank, is_comment, Spot, spot, spot_word, spot_fault}
-use Rattle.prg_expr.specs.Scanning.{Found, found, with_word, word_at, spots_at, scan, Holds}
+use Rattle.prg_expr.specs.Lexicon.{is_blank_or_tab, is_comment, Spot, spot, spot_word, spot_fault}
+use Rattle.prg_expr.specs.Scanning.{FoundWord, found, with_word, word_at, spots_at, scan, HoldsWords}
 use Rattle.prg_expr.proofs.Takes.{word_shorter}
 use Rattle.prg_expr.proofs.Lines.{nothing_on, blank_on, comment_on, word_on}
 
@@ -31,7 +31,7 @@ some_bound b rest zero le = absurd (omega arith)
 some_bound b rest (suc m) le = (m, refl)
 
 module _ (text : List ℕ) (ws : List Word) (told : Option ParseFaultKind) where
-  pub skips : (b : ℕ) (rest : List ℕ) → SoFar text ws told (b ∷ rest) → is_blank b ≡ true → SoFar text ws told rest
+  pub skips : (b : ℕ) (rest : List ℕ) → SoFar text ws told (b ∷ rest) → is_blank_or_tab b ≡ true → SoFar text ws told rest
   skips b rest so h =
       let n = some_bound b rest so.bound so.enough in
       record {
@@ -43,30 +43,30 @@ module _ (text : List ℕ) (ws : List Word) (told : Option ParseFaultKind) where
         reads = ap (λ (s : List Spot). so.front ++ s) (sym (blank_on n.0 b rest h)) ∙ ap (λ k. so.front ++ spots_at k (b ∷ rest)) (sym n.1) ∙ so.reads;
       }
 
-  pub takes : (b : ℕ) (rest : List ℕ) (w : Word) (f : Option ParseFaultKind) (after : List ℕ) → SoFar text ws told (b ∷ rest) → is_blank b ≡ false → is_comment b rest ≡ false → found w f after ≡ word_at b rest → SoFar text (ws ++ w ∷ []) (least told f) after
+  pub takes : (b : ℕ) (rest : List ℕ) (w : Word) (f : Option ParseFaultKind) (after : List ℕ) → SoFar text ws told (b ∷ rest) → is_blank_or_tab b ≡ false → is_comment b rest ≡ false → found w f after ≡ word_at b rest → SoFar text (ws ++ w ∷ []) (least told f) after
   takes b rest w f after so h c r =
       let n = some_bound b rest so.bound so.enough in
       let lt = word_shorter b rest h c in
-      let len : length after ≡ length (word_at b rest).2 = ap (λ (x : Found). length x.2) r in
+      let len : length after ≡ length (word_at b rest).2 = ap (λ (x : FoundWord). length x.2) r in
       record {
         front = so.front ++ spot w f ∷ [];
         bound = n.0;
         enough = omega (arith, so.enough, n.1, lt, len);
         tokens = ap (λ (l : List Word). l ++ w ∷ []) so.tokens ∙ sym (map_push spot_word so.front (spot w f));
         faults = ap (λ (t : Option ParseFaultKind). least t f) so.faults ∙ sym (least_push None (map spot_fault so.front) f) ∙ ap (least_of None) (sym (map_push spot_fault so.front (spot w f)));
-        reads = append_assoc so.front (spot w f ∷ []) (spots_at n.0 after) ∙ ap (λ (x : Found). so.front ++ with_word (spots_at n.0) x) r ∙ ap (λ (s : List Spot). so.front ++ s) (sym (word_on n.0 b rest h c)) ∙ ap (λ k. so.front ++ spots_at k (b ∷ rest)) (sym n.1) ∙ so.reads;
+        reads = append_assoc so.front (spot w f ∷ []) (spots_at n.0 after) ∙ ap (λ (x : FoundWord). so.front ++ with_word (spots_at n.0) x) r ∙ ap (λ (s : List Spot). so.front ++ s) (sym (word_on n.0 b rest h c)) ∙ ap (λ k. so.front ++ spots_at k (b ∷ rest)) (sym n.1) ∙ so.reads;
       }
 
   at_end : (rest : List ℕ) → (so : SoFar text ws told rest) → spots_at so.bound rest ≡ [] → so.front ≡ scan text
   at_end rest so e = sym (append-nil so.front) ∙ ap (λ (s : List Spot). so.front ++ s) (sym e) ∙ so.reads
 
-holds : (line : Line) (spots front : List Spot) → words line.words.items ≡ map spot_word front → line.fault ≡ least_of None (map spot_fault front) → front ≡ spots → Holds spots line
+holds : (line : Line) (spots front : List Spot) → words line.words.items ≡ map spot_word front → line.fault ≡ least_of None (map spot_fault front) → front ≡ spots → HoldsWords spots line
 holds line spots front t f e = record { tokens = t ∙ ap (map spot_word) e; told = f ∙ ap (λ (s : List Spot). least_of None (map spot_fault s)) e }
 
-pub ends : (text : List ℕ) (line : Line) → SoFar text (words line.words.items) line.fault [] → Holds (scan text) line
+pub ends : (text : List ℕ) (line : Line) → SoFar text (words line.words.items) line.fault [] → HoldsWords (scan text) line
 ends text line so = holds line (scan text) so.front so.tokens so.faults (at_end text _ _ [] so (nothing_on so.bound))
 
-pub stops : (text : List ℕ) (line : Line) (b : ℕ) (rest : List ℕ) → SoFar text (words line.words.items) line.fault (b ∷ rest) → is_blank b ≡ false → is_comment b rest ≡ true → Holds (scan text) line
+pub stops : (text : List ℕ) (line : Line) (b : ℕ) (rest : List ℕ) → SoFar text (words line.words.items) line.fault (b ∷ rest) → is_blank_or_tab b ≡ false → is_comment b rest ≡ true → HoldsWords (scan text) line
 stops text line b rest so h c =
     let n = some_bound b rest so.bound so.enough in
     holds line (scan text) so.front so.tokens so.faults (at_end text _ _ (b ∷ rest) so (ap (λ k. spots_at k (b ∷ rest)) n.1 ∙ comment_on n.0 b rest h c))

@@ -6,14 +6,14 @@ use Rattle.std.proofs.lemmas.Bool.{ne_eqb}
 use Rattle.prg_expr.specs.declared.fault.ParseFaultKind.{ParseFaultKind}
 use Rattle.prg_expr.specs.declared.fault.ParseFaultKind.TheVariants as fault
 use Rattle.prg_expr.specs.declared.function.Function.{Function}
-use Rattle.prg_expr.specs.declared.tree.Operator.{Operator}
-use Rattle.prg_expr.specs.Functions.{function_named, takes}
+use Rattle.prg_expr.specs.declared.tree.BinaryOperator.{BinaryOperator}
+use Rattle.prg_expr.specs.Functions.{function_named, takes_so_many}
 use Rattle.prg_expr.specs.Tree.{Tree, Trees, count}
 use Rattle.prg_expr.specs.Tree as tree
 use Rattle.prg_expr.specs.Word.{Word}
 use Rattle.prg_expr.specs.Word as word
 use Rattle.prg_expr.specs.Grammar.{looseness, Stands, number, text, logical, name, qualified, parentheses, looser, grouped, compared, prefixed, called, called_bare, Arguments, last, more, max_depth, Spells}
-use Rattle.prg_expr.specs.Reading.{Read, Reader, ◌>>=◌, if_some, operator_at, turns, chain, comparison, prefixes, close, separator, after_argument, arguments, call_of, called_at, qualified_at, named, operand, stage, reader, inside, level_at, whole, all_read, parse}
+use Rattle.prg_expr.specs.Reading.{TreeRead, TreeReader, ◌>>=◌, if_some, operator_at, turns, chain, comparison_read, prefixes, parenthesis_closed, separator, after_argument, arguments, call_read, called_at, qualified_at, named, operand, stage, reader, inside, level_at, whole_tree, all_read, parse}
 use Rattle.prg_expr.proofs.Grammar.{prefix_tells}
 
 pub bind_ok : {A B : Type 0} → (r : Result A ParseFaultKind) (f : A → Result B ParseFaultKind) (y : B) → (r >>= f) ≡ Ok y → (x : A) × (r ≡ Ok x) × (f x ≡ Ok y)
@@ -26,11 +26,11 @@ pub record Takes (d l : ℕ) (ws : List Word) (x : Tree × List Word) : Type 0 w
   pub stands : Stands d l x.0 front
   pub is : ws ≡ front ++ x.1
 
-pub record IsSound (d l : ℕ) (r : Reader) : Type 0 where
+pub record IsSound (d l : ℕ) (r : TreeReader) : Type 0 where
   pub at : (ws : List Word) (x : Tree × List Word) → r ws ≡ Ok x → Takes d l ws x
 
 -- something is taken
-pub record Shorter (r : Reader) : Type 0 where
+pub record Shorter (r : TreeReader) : Type 0 where
   pub at : (ws : List Word) (x : Tree × List Word) → r ws ≡ Ok x → length x.1 < length ws
 
 pub some_words : {d l : ℕ} {e : Tree} {ws : List Word} → Stands d l e ws → 0 < length ws
@@ -50,25 +50,25 @@ some_words (prefixed i v s) = omega arith
 takes_shorter : {d l : ℕ} {ws : List Word} {x : Tree × List Word} → Takes d l ws x → length x.1 < length ws
 takes_shorter {d} {l} {ws} {x} t = rw t.is (omega (arith, some_words t.stands, length-append t.front x.1))
 
-pub shorter : {d l : ℕ} {r : Reader} → IsSound d l r → Shorter r
+pub shorter : {d l : ℕ} {r : TreeReader} → IsSound d l r → Shorter r
 shorter s = record { at = λ ws x h. takes_shorter (s.at ws x h) }
 
 up : {d l : ℕ} {ws : List Word} {x : Tree × List Word} → Takes d l ws x → Takes d (suc l) ws x
 up t = record { front = t.front; stands = looser t.stands; is = t.is }
 
-regroup : (whole seen ws : List Word) (w : Word) (after front rest : List Word) → whole ≡ seen ++ ws → ws ≡ w ∷ after → after ≡ front ++ rest → whole ≡ (seen ++ w ∷ front) ++ rest
-regroup whole seen ws w after front rest p q r = rw (p, q, r) (simp append_assoc)
+regroup : (whole_tree seen ws : List Word) (w : Word) (after front rest : List Word) → whole_tree ≡ seen ++ ws → ws ≡ w ∷ after → after ≡ front ++ rest → whole_tree ≡ (seen ++ w ∷ front) ++ rest
+regroup whole_tree seen ws w after front rest p q r = rw (p, q, r) (simp append_assoc)
 
 closed : (ws front r rest : List Word) → ws ≡ front ++ r → r ≡ word.Close ∷ rest → word.Open ∷ ws ≡ (word.Open ∷ (front ++ word.Close ∷ [])) ++ rest
 closed ws front r rest p q = rw (p, q) (simp append_assoc)
 
 -- the operator at the front
-pub record HasOperator (l : ℕ) (ws : List Word) (o : Operator) (rest : List Word) : Type 0 where
+pub record HasOperator (l : ℕ) (ws : List Word) (o : BinaryOperator) (rest : List Word) : Type 0 where
   pub read : operator_at l ws ≡ Some (o, rest)
   pub level : looseness o ≡ l
   pub is : ws ≡ word.Sign o ∷ rest
 
-pub operator_tells : (l : ℕ) (ws : List Word) → (operator_at l ws ≡ None) ⊎ ((o : Operator) × (rest : List Word) × HasOperator l ws o rest)
+pub operator_tells : (l : ℕ) (ws : List Word) → (operator_at l ws ≡ None) ⊎ ((o : BinaryOperator) × (rest : List Word) × HasOperator l ws o rest)
 unfolding operator_at
 operator_tells l (word.Sign o ∷ ws) = elim (eqb_tells (looseness o) l) [ inl p ↦ (let y : eqb (looseness o) l ≡ true = p.0 in inr (o, ws, record { read = rw y refl; level = p.1; is = refl })) | inr p ↦ (let n : eqb (looseness o) l ≡ false = p.0 in inl (rw n refl)) ]
 operator_tells l [] = inl refl
@@ -83,7 +83,7 @@ operator_tells l (word.Close ∷ ws) = inl refl
 operator_tells l (word.Comma ∷ ws) = inl refl
 operator_tells l (word.Outside mk ∷ ws) = inl refl
 
-abbrev ok : Tree × List Word → Read
+abbrev ok : Tree × List Word → TreeRead
 ok x = Ok x
 
 -- a tree that is read whole
@@ -92,15 +92,15 @@ taken {d} {l} e front rest ws x s h eq =
     let p : (e, rest) ≡ x = cc in
     subst (λ x. Takes d l ws x) p (record { front = front; stands = s; is = h })
 
-module _ (d l : ℕ) (next : Reader) (sound : IsSound d l next) where
-  turns_sound : suc l ≢ 4 → (n : ℕ) (left : Tree) (seen ws whole : List Word) (x : Tree × List Word) → Stands d (suc l) left seen → whole ≡ seen ++ ws → turns n next (suc l) left ws ≡ Ok x → Takes d (suc l) whole x
+module _ (d l : ℕ) (next : TreeReader) (sound : IsSound d l next) where
+  turns_sound : suc l ≢ 4 → (n : ℕ) (left : Tree) (seen ws whole_tree : List Word) (x : Tree × List Word) → Stands d (suc l) left seen → whole_tree ≡ seen ++ ws → turns n next (suc l) left ws ≡ Ok x → Takes d (suc l) whole_tree x
   unfolding turns
-  turns_sound ne zero left seen ws whole x s w h = absurd cc
-  turns_sound ne (suc n) left seen ws whole x s w h = elim (operator_tells (suc l) ws) [
-    | inl none ↦ taken left seen ws whole x s w (sym (rw none refl) ∙ h)
+  turns_sound ne zero left seen ws whole_tree x s w h = absurd cc
+  turns_sound ne (suc n) left seen ws whole_tree x s w h = elim (operator_tells (suc l) ws) [
+    | inl none ↦ taken left seen ws whole_tree x s w (sym (rw none refl) ∙ h)
     | inr p ↦ (let op = p.2 in let b = bind_ok (next p.1) (λ y. turns n next (suc l) (tree.Binary p.0 left y.0) y.1) x (sym (rw op.read refl) ∙ h) in
         let t = sound.at p.1 b.0 b.1 in
-        turns_sound ne n (tree.Binary p.0 left b.0.0) (seen ++ word.Sign p.0 ∷ t.front) b.0.1 whole x (grouped op.level ne s t.stands) (regroup whole seen ws (word.Sign p.0) p.1 t.front b.0.1 w op.is t.is) b.2)
+        turns_sound ne n (tree.Binary p.0 left b.0.0) (seen ++ word.Sign p.0 ∷ t.front) b.0.1 whole_tree x (grouped op.level ne s t.stands) (regroup whole_tree seen ws (word.Sign p.0) p.1 t.front b.0.1 w op.is t.is) b.2)
   ]
 
   chain_sound : suc l ≢ 4 → IsSound d (suc l) (chain next (suc l))
@@ -111,9 +111,9 @@ module _ (d l : ℕ) (next : Reader) (sound : IsSound d l next) where
         turns_sound ne (suc (length b.0.1)) b.0.0 t.front b.0.1 ws x (looser t.stands) t.is b.2;
   }
 
-module _ (d : ℕ) (next : Reader) where
-  comparison_sound : IsSound d 3 next → IsSound d 4 (comparison next)
-  unfolding comparison
+module _ (d : ℕ) (next : TreeReader) where
+  comparison_sound : IsSound d 3 next → IsSound d 4 (comparison_read next)
+  unfolding comparison_read
   comparison_sound sound = record {
     at = λ ws x h. let b = bind_ok (next ws) (λ x. if_some (operator_at 4 x.1) (Ok x) (λ o. next o.1 >>= λ y. Ok (tree.Binary o.0 x.0 y.0, y.1))) x h in
         let t = sound.at ws b.0 b.1 in
@@ -135,8 +135,8 @@ module _ (d : ℕ) (next : Reader) where
         taken (tree.Prefixed p.0 b.0.0) (w ∷ t.front) b.0.1 (w ∷ ws) x (prefixed p.2 p.3 t.stands) (ap (λ ws. w ∷ ws) t.is) b.2)
   ]
 
-close_ok : (e : Tree) (ws : List Word) (x : Tree × List Word) → close e ws ≡ Ok x → (rest : List Word) × (ws ≡ word.Close ∷ rest) × (ok (tree.Parentheses e, rest) ≡ Ok x)
-unfolding close
+close_ok : (e : Tree) (ws : List Word) (x : Tree × List Word) → parenthesis_closed e ws ≡ Ok x → (rest : List Word) × (ws ≡ word.Close ∷ rest) × (ok (tree.Parentheses e, rest) ≡ Ok x)
+unfolding parenthesis_closed
 close_ok e (word.Close ∷ ws) x h = (ws, refl, h)
 close_ok e [] x h = absurd cc
 close_ok e (word.Number n ∷ ws) x h = absurd cc
@@ -151,10 +151,10 @@ close_ok e (word.Comma ∷ ws) x h = absurd cc
 close_ok e (word.Outside mk ∷ ws) x h = absurd cc
 
 -- what is read inside of parentheses stands there
-pub record IsInside (d : ℕ) (r : Reader) : Type 0 where
+pub record IsInside (d : ℕ) (r : TreeReader) : Type 0 where
   pub at : (ws : List Word) (x : Tree × List Word) → r ws ≡ Ok x → (k : ℕ) × (d ≡ suc k) × Takes k 7 ws x
 
-in_parentheses : (d : ℕ) (r : Reader) → IsInside d r → (ws : List Word) (y x : Tree × List Word) → r ws ≡ Ok y → close y.0 y.1 ≡ Ok x → Takes d 0 (word.Open ∷ ws) x
+in_parentheses : (d : ℕ) (r : TreeReader) → IsInside d r → (ws : List Word) (y x : Tree × List Word) → r ws ≡ Ok y → parenthesis_closed y.0 y.1 ≡ Ok x → Takes d 0 (word.Open ∷ ws) x
 in_parentheses d r ins ws y x h g =
     let i = ins.at ws y h in
     let t = i.2 in
@@ -207,7 +207,7 @@ pub record TakesAll (d : ℕ) (ws : List Word) (x : Trees × List Word) : Type 0
 taken_all : {d k : ℕ} (es : Trees) (front rest ws : List Word) (x : Trees × List Word) → d ≡ suc k → Arguments k es front → ws ≡ front ++ word.Close ∷ rest → all_ok' (es, rest) ≡ Ok x → TakesAll d ws x
 taken_all {d} {k} es front rest ws x e s i h = subst (λ x. TakesAll d ws x) (all_same (es, rest) x h) (record { depth = k; deeper = e; front = front; stands = s; is = i })
 
-arguments_on : (n d : ℕ) (r : Reader) → ((ws : List Word) (x : Trees × List Word) → arguments n r ws ≡ Ok x → TakesAll d ws x) → (ws : List Word) (y : Tree × List Word) (s : Bool × List Word) (x : Trees × List Word)
+arguments_on : (n d : ℕ) (r : TreeReader) → ((ws : List Word) (x : Trees × List Word) → arguments n r ws ≡ Ok x → TakesAll d ws x) → (ws : List Word) (y : Tree × List Word) (s : Bool × List Word) (x : Trees × List Word)
     → (k : ℕ) → d ≡ suc k → Takes k 7 ws y → separator y.1 ≡ Ok s → after_argument (arguments n r) y.0 s ≡ Ok x → TakesAll d ws x
 arguments_on n d r again ws y s x k e t h g = elim (separator_tells y.1 s h) [
   | inl p ↦ (let g' : after_argument (arguments n r) y.0 (flag true p.0) ≡ Ok x = ap (after_argument (arguments n r) y.0) p.2 ∙ g in
@@ -220,7 +220,7 @@ arguments_on n d r again ws y s x k e t h g = elim (separator_tells y.1 s h) [
       taken_all (tree.More y.0 tree.None) t.front p.0 ws x e (last t.stands) (t.is ∙ ap (λ w. t.front ++ w) p.1) g')
 ]
 
-arguments_take : (n d : ℕ) (r : Reader) → IsInside d r → (ws : List Word) (x : Trees × List Word) → arguments n r ws ≡ Ok x → TakesAll d ws x
+arguments_take : (n d : ℕ) (r : TreeReader) → IsInside d r → (ws : List Word) (x : Trees × List Word) → arguments n r ws ≡ Ok x → TakesAll d ws x
 unfolding arguments
 arguments_take zero d r ins ws x h = absurd cc
 arguments_take (suc n) d r ins ws x h =
@@ -238,27 +238,27 @@ option_tells None = inl refl
 option_tells (Some x) = inr (x, refl)
 
 -- a call that is read has as many arguments as its function takes
-call_ok : (f : Function) (es : Trees) (ws : List Word) (x : Tree × List Word) → call_of f es ws ≡ Ok x → (takes f (count es) ≡ true) × (ok (tree.Call f es, ws) ≡ Ok x)
-unfolding call_of
-call_ok f es ws x h = elim (bool_tells (takes f (count es))) [
+call_ok : (f : Function) (es : Trees) (ws : List Word) (x : Tree × List Word) → call_read f es ws ≡ Ok x → (takes_so_many f (count es) ≡ true) × (ok (tree.Call f es, ws) ≡ Ok x)
+unfolding call_read
+call_ok f es ws x h = elim (bool_tells (takes_so_many f (count es))) [
   | inl y ↦ (y, sym (rw y refl) ∙ h)
-  | inr n ↦ (let g : call_of f es ws ≡ Err Rattle.prg_expr.specs.declared.fault.ParseFaultKind.TheVariants.Expression = rw n refl in absurd (let k = sym g ∙ h in cc))
+  | inr n ↦ (let g : call_read f es ws ≡ Err Rattle.prg_expr.specs.declared.fault.ParseFaultKind.TheVariants.Expression = rw n refl in absurd (let k = sym g ∙ h in cc))
 ]
 
-call_takes : (d : ℕ) (r : Reader) → IsInside d r → (s : List ℕ) (f : Function) → function_named s ≡ Some f → (ws : List Word) (x : Tree × List Word) → (arguments (suc (length ws)) r ws >>= λ x. call_of f x.0 x.1) ≡ Ok x → Takes d 0 (word.Name s ∷ word.Open ∷ ws) x
+call_takes : (d : ℕ) (r : TreeReader) → IsInside d r → (s : List ℕ) (f : Function) → function_named s ≡ Some f → (ws : List Word) (x : Tree × List Word) → (arguments (suc (length ws)) r ws >>= λ x. call_read f x.0 x.1) ≡ Ok x → Takes d 0 (word.Name s ∷ word.Open ∷ ws) x
 call_takes d r ins s f i ws x h =
-    let b = bind_ok (arguments (suc (length ws)) r ws) (λ x. call_of f x.0 x.1) x h in
+    let b = bind_ok (arguments (suc (length ws)) r ws) (λ x. call_read f x.0 x.1) x h in
     let t = arguments_take (suc (length ws)) d r ins ws b.0 b.1 in
     let c = call_ok f b.0.0 b.0.1 x b.2 in
     let st : Stands d 0 (tree.Call f b.0.0) (word.Name s ∷ word.Open ∷ (t.front ++ word.Close ∷ [])) = subst (λ d. Stands d 0 (tree.Call f b.0.0) (word.Name s ∷ word.Open ∷ (t.front ++ word.Close ∷ []))) (sym t.deeper) (called i c.0 t.stands) in
     taken (tree.Call f b.0.0) (word.Name s ∷ word.Open ∷ (t.front ++ word.Close ∷ [])) b.0.1 (word.Name s ∷ word.Open ∷ ws) x st
     (ap (λ ws. word.Name s ∷ word.Open ∷ ws) (t.is ∙ sym (append_assoc t.front (word.Close ∷ []) b.0.1))) c.1
 
-bare_takes : (d : ℕ) (s : List ℕ) (f : Function) → function_named s ≡ Some f → (ws : List Word) (x : Tree × List Word) → call_of f tree.None ws ≡ Ok x → Takes (suc d) 0 (word.Name s ∷ word.Open ∷ word.Close ∷ ws) x
+bare_takes : (d : ℕ) (s : List ℕ) (f : Function) → function_named s ≡ Some f → (ws : List Word) (x : Tree × List Word) → call_read f tree.None ws ≡ Ok x → Takes (suc d) 0 (word.Name s ∷ word.Open ∷ word.Close ∷ ws) x
 bare_takes d s f i ws x h = let c = call_ok f tree.None ws x h in
     taken (tree.Call f tree.None) (word.Name s ∷ word.Open ∷ word.Close ∷ []) ws (word.Name s ∷ word.Open ∷ word.Close ∷ ws) x (called_bare i c.0) refl c.1
 
-called_takes : (d : ℕ) (r : Reader) → IsInside d r → (s : List ℕ) (f : Function) → function_named s ≡ Some f → (ws : List Word) (x : Tree × List Word) → called_at d r f ws ≡ Ok x → Takes d 0 (word.Name s ∷ word.Open ∷ ws) x
+called_takes : (d : ℕ) (r : TreeReader) → IsInside d r → (s : List ℕ) (f : Function) → function_named s ≡ Some f → (ws : List Word) (x : Tree × List Word) → called_at d r f ws ≡ Ok x → Takes d 0 (word.Name s ∷ word.Open ∷ ws) x
 unfolding called_at
 called_takes zero r ins s f i ws x h = absurd cc
 called_takes (suc d) r ins s f i (word.Close ∷ ws) x h = bare_takes d s f i ws x h
@@ -289,7 +289,7 @@ qualified_takes d a (word.Close ∷ ws) x h = absurd cc
 qualified_takes d a (word.Comma ∷ ws) x h = absurd cc
 qualified_takes d a (word.Outside mk ∷ ws) x h = absurd cc
 
-named_takes : (d : ℕ) (r : Reader) → IsInside d r → (s : List ℕ) (ws : List Word) (x : Tree × List Word) → named d r s ws ≡ Ok x → Takes d 0 (word.Name s ∷ ws) x
+named_takes : (d : ℕ) (r : TreeReader) → IsInside d r → (s : List ℕ) (ws : List Word) (x : Tree × List Word) → named d r s ws ≡ Ok x → Takes d 0 (word.Name s ∷ ws) x
 unfolding named
 named_takes d r ins s (word.Open ∷ ws) x h = elim (option_tells (function_named s)) [
   | inl none ↦ absurd (let g : named d r s (word.Open ∷ ws) ≡ Err Rattle.prg_expr.specs.declared.fault.ParseFaultKind.TheVariants.Expression = rw none refl in let k = sym g ∙ h in cc)
@@ -307,13 +307,13 @@ named_takes d r ins s (word.Close ∷ ws) x h = taken (tree.Name (take 10 s)) (w
 named_takes d r ins s (word.Comma ∷ ws) x h = taken (tree.Name (take 10 s)) (word.Name s ∷ []) (word.Comma ∷ ws) _ x name refl h
 named_takes d r ins s (word.Outside mk ∷ ws) x h = taken (tree.Name (take 10 s)) (word.Name s ∷ []) (word.Outside mk ∷ ws) _ x name refl h
 
-operand_takes : (d : ℕ) (r : Reader) → IsInside d r → (ws : List Word) (x : Tree × List Word) → operand d r ws ≡ Ok x → Takes d 0 ws x
+operand_takes : (d : ℕ) (r : TreeReader) → IsInside d r → (ws : List Word) (x : Tree × List Word) → operand d r ws ≡ Ok x → Takes d 0 ws x
 unfolding operand
 operand_takes d r ins (word.Logical b ∷ ws) x h = taken (tree.Logical b) (word.Logical b ∷ []) ws _ x logical refl h
 operand_takes d r ins (word.Number n ∷ ws) x h = taken (tree.Number n) (word.Number n ∷ []) ws _ x number refl h
 operand_takes d r ins (word.Text s ∷ ws) x h = taken (tree.Text s) (word.Text s ∷ []) ws _ x text refl h
 operand_takes d r ins (word.Name s ∷ ws) x h = named_takes d r ins s ws x h
-operand_takes d r ins (word.Open ∷ ws) x h = let b = bind_ok (r ws) (λ x. close x.0 x.1) x h in in_parentheses d r ins ws b.0 x b.1 b.2
+operand_takes d r ins (word.Open ∷ ws) x h = let b = bind_ok (r ws) (λ x. parenthesis_closed x.0 x.1) x h in in_parentheses d r ins ws b.0 x b.1 b.2
 operand_takes d r ins [] x h = absurd cc
 operand_takes d r ins (word.Not ∷ ws) x h = absurd cc
 operand_takes d r ins (word.Sign o ∷ ws) x h = absurd cc
@@ -322,7 +322,7 @@ operand_takes d r ins (word.Close ∷ ws) x h = absurd cc
 operand_takes d r ins (word.Comma ∷ ws) x h = absurd cc
 operand_takes d r ins (word.Outside mk ∷ ws) x h = absurd cc
 
-pub stage_chain : (l : ℕ) (next : Reader) → l ≢ 1 → l ≢ 4 → l ≢ 5 → stage l next ≡ chain next l
+pub stage_chain : (l : ℕ) (next : TreeReader) → l ≢ 1 → l ≢ 4 → l ≢ 5 → stage l next ≡ chain next l
 unfolding stage
 stage_chain l next c a b =
     let x : eqb l 4 ≡ false = ne_eqb l 4 a in
@@ -330,7 +330,7 @@ stage_chain l next c a b =
     let z : eqb l 1 ≡ false = ne_eqb l 1 c in
     rw (x, y, z) refl
 
-module _ (d : ℕ) (next : Reader) where
+module _ (d : ℕ) (next : TreeReader) where
   stage_sound : (l : ℕ) → IsSound d l next → IsSound d (suc l) (stage (suc l) next)
   unfolding stage
   stage_sound zero s = record { at = prefixes_take d next 0 s }
@@ -344,7 +344,7 @@ module _ (d : ℕ) (next : Reader) where
       let five : suc (suc (suc (suc (suc (suc l))))) ≢ 5 = λ e. omega arith in
       subst (IsSound d (suc (suc (suc (suc (suc (suc l))))))) (sym (stage_chain _ next one four five)) (chain_sound d _ next s four)
 
-reader_from : (d : ℕ) (r : Reader) → IsInside d r → (l : ℕ) → IsSound d l (reader d r l)
+reader_from : (d : ℕ) (r : TreeReader) → IsInside d r → (l : ℕ) → IsSound d l (reader d r l)
 unfolding reader
 reader_from d r ins zero = record { at = operand_takes d r ins }
 reader_from d r ins (suc l) = stage_sound d (reader d r l) l (reader_from d r ins l)
@@ -357,7 +357,7 @@ inside_sound (suc d) = record { at = λ ws x h. (d, refl, (reader_from d (inside
 pub reader_sound : (d l : ℕ) → IsSound d l (level_at d l)
 reader_sound d l = reader_from d (inside d) (inside_sound d) l
 
-all_ok : (e : Tree) (rest : List Word) (e' : Tree) → whole e rest ≡ Ok e' → (e ≡ e') × (rest ≡ [])
+all_ok : (e : Tree) (rest : List Word) (e' : Tree) → whole_tree e rest ≡ Ok e' → (e ≡ e') × (rest ≡ [])
 all_ok e [] e' h = (cc, refl)
 all_ok e (w ∷ ws) e' h = absurd cc
 

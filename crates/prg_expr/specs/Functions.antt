@@ -19,51 +19,52 @@ is_front (b ∷ letters) (c ∷ whole) = (b == c) && is_front letters whole
 abbrev pub is_cut : List ℕ → List ℕ → Bool
 is_cut letters whole = is_front letters whole && ((length letters == length whole) || nat_le 4 (length letters))
 
-abbrev pub Entry : Type 0
-Entry = List ℕ × Function
+abbrev pub FunctionWord : Type 0
+FunctionWord = List ℕ × Function
 
 -- the first function of a table whose name, perhaps cut, this is
-abbrev pub called : List Entry → List ℕ → Option Function
-called [] letters = None
-called (x ∷ xs) letters = if is_cut letters x.0 then Some x.1 else called xs letters
+abbrev pub function_of_word : List FunctionWord → List ℕ → Option Function
+function_of_word [] letters = None
+function_of_word (x ∷ xs) letters = if is_cut letters x.0 then Some x.1 else function_of_word xs letters
 
-abbrev pub of_texts : List Entry
+abbrev pub of_texts : List FunctionWord
 of_texts = (codes "LEN", Len) ∷ (codes "TRIM", Trim) ∷ (codes "RTRIM", Trim) ∷ (codes "LTRIM", Ltrim)
     ∷ (codes "UPPER", Upper) ∷ (codes "LOWER", Lower) ∷ (codes "SPACE", Space) ∷ (codes "REPLICATE", Replicate) ∷ []
 
-abbrev pub of_parts : List Entry
+abbrev pub of_parts : List FunctionWord
 of_parts = (codes "SUBSTR", Substr) ∷ (codes "LEFT", Left) ∷ (codes "RIGHT", Right) ∷ (codes "AT", At)
     ∷ (codes "STUFF", Stuff) ∷ (codes "IIF", Iif) ∷ []
 
-abbrev pub of_bytes : List Entry
+abbrev pub of_bytes : List FunctionWord
 of_bytes = (codes "ASC", Asc) ∷ (codes "CHR", Chr) ∷ (codes "VAL", Val) ∷ (codes "STR", Str)
     ∷ (codes "ISALPHA", IsAlpha) ∷ (codes "ISUPPER", IsUpper) ∷ (codes "ISLOWER", IsLower) ∷ []
 
-abbrev pub of_numbers : List Entry
+abbrev pub of_numbers : List FunctionWord
 of_numbers = (codes "ABS", Abs) ∷ (codes "INT", Int) ∷ (codes "MOD", Mod) ∷ (codes "ROUND", Round) ∷ (codes "MAX", Max)
     ∷ (codes "MIN", Min) ∷ []
 
-abbrev pub of_dates : List Entry
+abbrev pub of_dates : List FunctionWord
 of_dates = (codes "CTOD", Ctod) ∷ (codes "DTOC", Dtoc) ∷ (codes "DAY", Day) ∷ (codes "MONTH", Month)
     ∷ (codes "YEAR", Year) ∷ (codes "DOW", Dow) ∷ (codes "CDOW", Cdow) ∷ (codes "CMONTH", Cmonth) ∷ []
 
-abbrev pub of_tables : List Entry
+abbrev pub of_tables : List FunctionWord
 of_tables = (codes "RECNO", Recno) ∷ (codes "RECCOUNT", Reccount) ∷ (codes "EOF", Eof) ∷ (codes "BOF", Bof)
     ∷ (codes "FOUND", Found) ∷ (codes "DELETED", Deleted) ∷ (codes "DATE", Date) ∷ []
 
 -- all words that name functions
-abbrev pub all_functions : List Entry
-all_functions = of_texts ++ (of_parts ++ (of_bytes ++ (of_numbers ++ (of_dates ++ of_tables))))
+abbrev pub function_words : List FunctionWord
+function_words = of_texts ++ (of_parts ++ (of_bytes ++ (of_numbers ++ (of_dates ++ of_tables))))
 
-abbrev pub or_else : Option Function → Option Function → Option Function
-or_else None other = other
-or_else (Some f) other = Some f
+abbrev pub or_function : Option Function → Option Function → Option Function
+or_function None other = other
+or_function (Some f) other = Some f
 
 -- the function that capitals name
 unfoldable pub function_named : List ℕ → Option Function
-function_named s = or_else (called of_texts s)
-    (or_else (called of_parts s) (or_else (called of_bytes s)
-    (or_else (called of_numbers s) (or_else (called of_dates s) (called of_tables s)))))
+function_named s = or_function (function_of_word of_texts s)
+    (or_function (function_of_word of_parts s) (or_function (function_of_word of_bytes s)
+    (or_function (function_of_word of_numbers s)
+    (or_function (function_of_word of_dates s) (function_of_word of_tables s)))))
 
 abbrev pub fewest : Function → ℕ
 fewest Iif = 3
@@ -115,5 +116,5 @@ most Str = 3
 most f = fewest f
 
 -- whether a function takes so many arguments
-unfoldable pub takes : Function → ℕ → Bool
-takes f n = nat_le (fewest f) n && nat_le n (most f)
+unfoldable pub takes_so_many : Function → ℕ → Bool
+takes_so_many f n = nat_le (fewest f) n && nat_le n (most f)

@@ -2,20 +2,21 @@
 -- 4 a comparison, 5 a negation, 6 a conjunction, 7 a disjunction.
 use Rattle.std.specs.Prelude.{◌≡◌, ◌≢◌, ◌<◌, ℕ, suc, List, [], ◌∷◌, ◌++◌, take, Bool, true, Option, Some, None}
 use Rattle.fixed_num.specs.Number.{Number as Decimal}
-use Rattle.prg_expr.specs.declared.tree.Operator.{Operator}
-use Rattle.prg_expr.specs.declared.tree.Operator.TheVariants.{Or, And, Equal, NotEqual, Less, Greater, AtMost, AtLeast}
-use Rattle.prg_expr.specs.declared.tree.Operator.TheVariants.{Contains, Plus, Minus, Times, Over}
+use Rattle.prg_expr.specs.declared.tree.BinaryOperator.{BinaryOperator}
+use Rattle.prg_expr.specs.declared.tree.BinaryOperator.TheVariants.{Or, And, Equal, NotEqual, Less, Greater, AtMost}
+use Rattle.prg_expr.specs.declared.tree.BinaryOperator.TheVariants.{AtLeast}
+use Rattle.prg_expr.specs.declared.tree.BinaryOperator.TheVariants.{Contains, Plus, Minus, Times, Over}
 use Rattle.prg_expr.specs.declared.tree.Prefix.{Prefix}
 use Rattle.prg_expr.specs.declared.tree.Prefix.TheVariants as prefix
 use Rattle.prg_expr.specs.declared.function.Function.{Function}
-use Rattle.prg_expr.specs.Functions.{function_named, takes}
+use Rattle.prg_expr.specs.Functions.{function_named, takes_so_many}
 use Rattle.prg_expr.specs.Tree.{Tree, Trees, count}
 use Rattle.prg_expr.specs.Tree as tree
 use Rattle.prg_expr.specs.Word.{Word}
 use Rattle.prg_expr.specs.Word as word
 
 -- the level of an operator
-abbrev pub looseness : Operator → ℕ
+abbrev pub looseness : BinaryOperator → ℕ
 looseness Times = 2
 looseness Over = 2
 looseness Plus = 3
@@ -60,18 +61,18 @@ mutual
     -- what stands at a level stands at the next looser one
     looser : {d l : ℕ} {e : Tree} {ws : List Word} → Stands d l e ws → Stands d (suc l) e ws
     -- operators of one level group from the left; of comparisons there is one
-    grouped : {d l : ℕ} {o : Operator} {a b : Tree} {aw bw : List Word} → looseness o ≡ suc l → suc l ≢ 4
+    grouped : {d l : ℕ} {o : BinaryOperator} {a b : Tree} {aw bw : List Word} → looseness o ≡ suc l → suc l ≢ 4
         → Stands d (suc l) a aw → Stands d l b bw → Stands d (suc l) (tree.Binary o a b) (aw ++ word.Sign o ∷ bw)
-    compared : {d : ℕ} {o : Operator} {a b : Tree} {aw bw : List Word} → looseness o ≡ 4
+    compared : {d : ℕ} {o : BinaryOperator} {a b : Tree} {aw bw : List Word} → looseness o ≡ 4
         → Stands d 3 a aw → Stands d 3 b bw → Stands d 4 (tree.Binary o a b) (aw ++ word.Sign o ∷ bw)
     -- a sign or a negation, before an operand that may have one too
     prefixed : {d l : ℕ} {w : Word} {p : Prefix} {e : Tree} {ws : List Word} → prefix_of w ≡ Some p → prefix_level p ≡ l
         → Stands d l e ws → Stands d l (tree.Prefixed p e) (w ∷ ws)
     -- a function and as many arguments as it takes
     called : {d : ℕ} {s : List ℕ} {f : Function} {es : Trees} {ws : List Word} → function_named s ≡ Some f
-        → takes f (count es) ≡ true
+        → takes_so_many f (count es) ≡ true
         → Arguments d es ws → Stands (suc d) 0 (tree.Call f es) (word.Name s ∷ word.Open ∷ (ws ++ word.Close ∷ []))
-    called_bare : {d : ℕ} {s : List ℕ} {f : Function} → function_named s ≡ Some f → takes f 0 ≡ true
+    called_bare : {d : ℕ} {s : List ℕ} {f : Function} → function_named s ≡ Some f → takes_so_many f 0 ≡ true
         → Stands (suc d) 0 (tree.Call f tree.None) (word.Name s ∷ word.Open ∷ word.Close ∷ [])
 
   -- one expression or more, with commas between

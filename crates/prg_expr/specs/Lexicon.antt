@@ -7,18 +7,19 @@ use Rattle.std.specs.List.{prefix_len}
 use Rattle.fixed_num.specs.Reading.{parsed}
 use Rattle.prg_expr.specs.declared.fault.ParseFaultKind.{ParseFaultKind}
 use Rattle.prg_expr.specs.declared.fault.ParseFaultKind.TheVariants as fault
-use Rattle.prg_expr.specs.declared.tree.Operator.TheVariants.{Or, And, Equal, NotEqual, Less, Greater, AtMost, AtLeast}
-use Rattle.prg_expr.specs.declared.tree.Operator.TheVariants.{Contains, Plus, Minus, Times, Over}
+use Rattle.prg_expr.specs.declared.tree.BinaryOperator.TheVariants.{Or, And, Equal, NotEqual, Less, Greater, AtMost}
+use Rattle.prg_expr.specs.declared.tree.BinaryOperator.TheVariants.{AtLeast}
+use Rattle.prg_expr.specs.declared.tree.BinaryOperator.TheVariants.{Contains, Plus, Minus, Times, Over}
 use Rattle.prg_expr.specs.Word.{Word, Number, Text, Logical, Name, Not, Sign, Arrow, Open, Close, Comma, Outside, Show}
 use Rattle.prg_expr.specs.Word.{ShowOn, At, Point, Macro, Faulty}
 
 -- letters, digits and the underscore
-abbrev pub is_name : ℕ → Bool
-is_name b = is_ascii_alphanumeric b || b == 95
+abbrev pub goes_on_name : ℕ → Bool
+goes_on_name b = is_ascii_alphanumeric b || b == 95
 
 -- a blank or a tab
-abbrev pub is_blank : ℕ → Bool
-is_blank b = b == 32 || b == 9
+abbrev pub is_blank_or_tab : ℕ → Bool
+is_blank_or_tab b = b == 32 || b == 9
 
 -- ' " and [
 abbrev pub is_quote : ℕ → Bool
@@ -68,9 +69,9 @@ pointed =
     (codes "t.", Logical true) ∷ (codes "y.", Logical true) ∷ (codes "f.", Logical false) ∷ (codes "n.", Logical false)
     ∷ (codes "not.", Not) ∷ (codes "and.", Sign And) ∷ (codes "or.", Sign Or) ∷ []
 
-abbrev pub Listed : {A : Type 0} → A → List A → Type 0
-Listed x [] = ⊥
-Listed x (y ∷ ys) = (x ≡ y) ⊎ Listed x ys
+abbrev pub IsOneOf : {A : Type 0} → A → List A → Type 0
+IsOneOf x [] = ⊥
+IsOneOf x (y ∷ ys) = (x ≡ y) ⊎ IsOneOf x ys
 
 -- what is behind these small letters, in capitals or not
 unfoldable pub after_word : List ℕ → List ℕ → Option (List ℕ)
@@ -83,13 +84,13 @@ abbrev pub NoneInFront : List (List ℕ × Word) → List ℕ → Type 0
 NoneInFront [] bytes = Unit {0}
 NoneInFront (x ∷ xs) bytes = (after_word x.0 bytes ≡ None) × NoneInFront xs bytes
 
-abbrev pub Each : (ℕ → Bool) → List ℕ → Type 0
-Each p [] = Unit {0}
-Each p (b ∷ bs) = (p b ≡ true) × Each p bs
+abbrev pub EachPasses : (ℕ → Bool) → List ℕ → Type 0
+EachPasses p [] = Unit {0}
+EachPasses p (b ∷ bs) = (p b ≡ true) × EachPasses p bs
 
-abbrev pub Stops : (ℕ → Bool) → List ℕ → Type 0
-Stops p [] = Unit {0}
-Stops p (b ∷ bs) = p b ≡ false
+abbrev pub FirstFails : (ℕ → Bool) → List ℕ → Type 0
+FirstFails p [] = Unit {0}
+FirstFails p (b ∷ bs) = p b ≡ false
 
 -- the byte and the one behind it are no word of two bytes
 abbrev pub Alone : ℕ → List ℕ → Type 0
@@ -98,7 +99,7 @@ Alone b (c ∷ rest) = pair_in pairs b c ≡ None
 
 -- the byte begins no word
 pub record Strange (b : ℕ) : Type 0 where
-  pub no_blank : is_blank b ≡ false
+  pub no_blank : is_blank_or_tab b ≡ false
   pub no_digit : is_ascii_digit b ≡ false
   pub no_letter : is_ascii_alphabetic b ≡ false
   pub no_quote : is_quote b ≡ false
@@ -118,28 +119,29 @@ number_fault whole fraction = if nat_lt 15 fraction || nat_lt 19 (whole + fracti
 -- with it.
 pub data IsWord : Word → Option ParseFaultKind → List ℕ → List ℕ → Type 0 where
   -- A number goes on as far as it can: its digits, then a point and digits if there are any.
-  whole : {digits rest : List ℕ} → 0 < length digits → Each is_ascii_digit digits → Stops is_ascii_digit rest
+  whole : {digits rest : List ℕ} → 0 < length digits → EachPasses is_ascii_digit digits → FirstFails is_ascii_digit rest
       → decimals rest ≡ 0
       → IsWord (Number (parsed digits)) (number_fault (length digits) 0) digits rest
-  decimal : (digits behind : List ℕ) {rest : List ℕ} → Each is_ascii_digit digits → 0 < length behind
-      → Each is_ascii_digit behind → Stops is_ascii_digit rest
+  decimal : (digits behind : List ℕ) {rest : List ℕ} → EachPasses is_ascii_digit digits → 0 < length behind
+      → EachPasses is_ascii_digit behind → FirstFails is_ascii_digit rest
       → IsWord (Number (parsed (digits ++ 46 ∷ behind))) (number_fault (length digits) (length behind))
       (digits ++ 46 ∷ behind) rest
-  name : {b : ℕ} {others rest : List ℕ} → is_ascii_alphabetic b ≡ true → Each is_name others → Stops is_name rest
+  name : {b : ℕ} {others rest : List ℕ} → is_ascii_alphabetic b ≡ true → EachPasses goes_on_name others
+      → FirstFails goes_on_name rest
       → IsWord (Name (map to_ascii_uppercase (b ∷ others))) (over 10 (length (b ∷ others))) (b ∷ others) rest
   -- A text ends at the first mark of its own kind.
-  text : {b : ℕ} (s : List ℕ) {rest : List ℕ} → is_quote b ≡ true → Each (λ c. not (c == closing b)) s
+  text : {b : ℕ} (s : List ℕ) {rest : List ℕ} → is_quote b ≡ true → EachPasses (λ c. not (c == closing b)) s
       → IsWord (Text (take 254 s)) (over 254 (length s)) (b ∷ (s ++ closing b ∷ [])) rest
-  unended : {b : ℕ} {s : List ℕ} → is_quote b ≡ true → Each (λ c. not (c == closing b)) s
+  unended : {b : ℕ} {s : List ℕ} → is_quote b ≡ true → EachPasses (λ c. not (c == closing b)) s
       → IsWord (Text (take 254 s)) (Some fault.Text) (b ∷ s) []
-  behind_point : {w : Word} {letters rest : List ℕ} → Listed (map to_ascii_lowercase letters, w) pointed
+  behind_point : {w : Word} {letters rest : List ℕ} → IsOneOf (map to_ascii_lowercase letters, w) pointed
       → IsWord w None (46 ∷ letters) rest
   lone_point : {rest : List ℕ} → digit_first rest ≡ false → NoneInFront pointed rest
       → IsWord (Outside Point) None (46 ∷ []) rest
   pair : {b c : ℕ} {w : Word} {rest : List ℕ} → pair_in pairs b c ≡ Some w → IsWord w None (b ∷ c ∷ []) rest
   single : {b : ℕ} {w : Word} {rest : List ℕ} → single_in singles b ≡ Some w → Alone b rest
       → IsWord w None (b ∷ []) rest
-  macro : {rest : List ℕ} → Stops (λ c. c == 38) rest → IsWord (Outside Macro) (Some fault.Macro) (38 ∷ []) rest
+  macro : {rest : List ℕ} → FirstFails (λ c. c == 38) rest → IsWord (Outside Macro) (Some fault.Macro) (38 ∷ []) rest
   strange : {b : ℕ} {rest : List ℕ} → Strange b → Alone b rest
       → IsWord (Outside Faulty) (Some fault.Character) (b ∷ []) rest
 
@@ -161,7 +163,7 @@ spot_fault x = x.1
 pub data IsLine : List Spot → List ℕ → Type 0 where
   nothing : IsLine [] []
   comment : {bytes : List ℕ} → IsLine [] (38 ∷ 38 ∷ bytes)
-  blank : {b : ℕ} {spots : List Spot} {bytes : List ℕ} → is_blank b ≡ true → IsLine spots bytes
+  blank : {b : ℕ} {spots : List Spot} {bytes : List ℕ} → is_blank_or_tab b ≡ true → IsLine spots bytes
       → IsLine spots (b ∷ bytes)
   word : {w : Word} {f : Option ParseFaultKind} {spots : List Spot} {bytes rest : List ℕ} → IsWord w f bytes rest
       → IsLine spots rest → IsLine (spot w f ∷ spots) (bytes ++ rest)

@@ -39,16 +39,16 @@ told_of fault (Ok e) = refuse fault (Ok e)
 told_of fault (Err g) = refuse (least fault (Some g)) (Err g)
 
 -- What reading the words of a text finds. More than 4,096 words, which are too long anyway, aren't read.
-abbrev pub form_of : List Word → Result Tree ParseFaultKind
-form_of ws = if nat_lt 4096 (length ws) then Err fault.TooLong else parse ws
+abbrev pub tree_of_words : List Word → Result Tree ParseFaultKind
+tree_of_words ws = if nat_lt 4096 (length ws) then Err fault.TooLong else parse ws
 
 -- the least fault of a text's words and of its length
-abbrev pub fault_of : List ℕ → Option ParseFaultKind
-fault_of text = least (least_of None (map spot_fault (scan text))) (length_fault (length text))
+abbrev pub text_fault : List ℕ → Option ParseFaultKind
+text_fault text = least (least_of None (map spot_fault (scan text))) (length_fault (length text))
 
 -- what reading finds, from left to right
 unfoldable pub read : List ℕ → Result Tree ParseFaultKind
-read text = told_of (fault_of text) (form_of (map spot_word (scan text)))
+read text = told_of (text_fault text) (tree_of_words (map spot_word (scan text)))
 
 -- the fault of a text, which is one line
 abbrev pub in_first_line : Result Tree ParseFaultKind → Option ParseFault

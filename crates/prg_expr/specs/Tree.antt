@@ -1,7 +1,7 @@
 -- A tree, without where it lies in memory.
 use Rattle.std.specs.Prelude.{ℕ, zero, suc, List, [], ◌∷◌, Bool, map}
 use Rattle.fixed_num.specs.Number.{Number as Decimal}
-use Rattle.prg_expr.specs.declared.tree.Operator.{Operator}
+use Rattle.prg_expr.specs.declared.tree.BinaryOperator.{BinaryOperator}
 use Rattle.prg_expr.specs.declared.tree.Prefix.{Prefix}
 use Rattle.prg_expr.specs.declared.function.Function.{Function}
 use Rattle.prg_expr.specs.declared.tree.Expr.{Expr}
@@ -20,7 +20,7 @@ mutual
     -- an expression in parentheses
     Parentheses : Tree → Tree
     Prefixed : Prefix → Tree → Tree
-    Binary : Operator → Tree → Tree → Tree
+    Binary : BinaryOperator → Tree → Tree → Tree
 
   pub data Trees : Type 0 where
     None : Trees
@@ -37,10 +37,10 @@ count (More t ts) = suc (count ts)
 -- one node, with the tree of each child in its place
 abbrev pub node_tree : Expr-F Tree → Tree
 node_tree (Expr-F.Number n) = Number n
-node_tree (Expr-F.Text s) = Text s.items
+node_tree (Expr-F.Text s) = Text s
 node_tree (Expr-F.Logical b) = Logical b
 node_tree (Expr-F.Name s) = Name s.items
-node_tree (Expr-F.Qualified a s) = Qualified a.items s.items
+node_tree (Expr-F.Qualified q) = Qualified q.value.alias.items q.value.name.items
 node_tree (Expr-F.Call f es) = Call f (trees es.items)
 node_tree (Expr-F.Parentheses e) = Parentheses e.value
 node_tree (Expr-F.Prefixed p e) = Prefixed p e.value

@@ -3,7 +3,7 @@ use Rattle.std.specs.Prelude.{ℕ, List, Bool, map, take}
 use Rattle.std.specs.Char.{to_ascii_uppercase}
 use Rattle.fixed_num.specs.Number.{Number as Decimal}
 use Rattle.fixed_num.specs.Reading.{parsed}
-use Rattle.prg_expr.specs.declared.tree.Operator.{Operator}
+use Rattle.prg_expr.specs.declared.tree.BinaryOperator.{BinaryOperator}
 use Rattle.prg_expr.specs.declared.token.Token.{Token}
 use Rattle.prg_expr.specs.declared.token.Token.TheVariants as token
 
@@ -22,7 +22,7 @@ pub data Word : Type 0 where
   Logical : Bool → Word
   Name : List ℕ → Word
   Not : Word
-  Sign : Operator → Word
+  Sign : BinaryOperator → Word
   Arrow : Word
   Open : Word
   Close : Word

@@ -3,7 +3,7 @@
 ghost use Rattle.std.specs.Prelude.{◌≡◌, ℕ, List, Some, true, map};
 ghost use Rattle.std.specs.Char.{to_ascii_uppercase};
 ghost use Rattle.prg_expr.specs.Functions as functions;
-ghost use Rattle.prg_expr.specs.Lexicon.{Listed};
+ghost use Rattle.prg_expr.specs.Lexicon.{IsOneOf};
 
 use crate::names::is_word;
 
@@ -55,9 +55,9 @@ pub enum Function {
 }
 
 /// Whether the function takes so many arguments.
-#[tactic(auto, unfolding(crate::specs::Functions::takes))]
+#[tactic(auto, unfolding(crate::specs::Functions::takes_so_many))]
 pub fn takes(function: Function, arguments: usize) -> bool
-    ensures { result ≡ functions.takes function arguments }
+    ensures { result ≡ functions.takes_so_many function arguments }
 {
     fewest(function) <= arguments && arguments <= most(function)
 }
@@ -124,7 +124,7 @@ pub fn function_named(name: &[u8]) -> Option<Function>
 
 /// The functions of whole texts.
 fn text_function(name: &[u8]) -> Option<Function>
-    ensures { result ≡ functions.called functions.of_texts (map to_ascii_uppercase name.now) }
+    ensures { result ≡ functions.function_of_word functions.of_texts (map to_ascii_uppercase name.now) }
 {
     if is_word(name, b"LEN") {
         return Some(Function::Len);
@@ -155,7 +155,7 @@ fn text_function(name: &[u8]) -> Option<Function>
 
 /// The functions of parts of texts.
 fn part_function(name: &[u8]) -> Option<Function>
-    ensures { result ≡ functions.called functions.of_parts (map to_ascii_uppercase name.now) }
+    ensures { result ≡ functions.function_of_word functions.of_parts (map to_ascii_uppercase name.now) }
 {
     if is_word(name, b"SUBSTR") {
         return Some(Function::Substr);
@@ -180,7 +180,7 @@ fn part_function(name: &[u8]) -> Option<Function>
 
 /// The functions of first bytes, and between texts and numbers.
 fn byte_function(name: &[u8]) -> Option<Function>
-    ensures { result ≡ functions.called functions.of_bytes (map to_ascii_uppercase name.now) }
+    ensures { result ≡ functions.function_of_word functions.of_bytes (map to_ascii_uppercase name.now) }
 {
     if is_word(name, b"ASC") {
         return Some(Function::Asc);
@@ -208,7 +208,7 @@ fn byte_function(name: &[u8]) -> Option<Function>
 
 /// The functions of numbers.
 fn number_function(name: &[u8]) -> Option<Function>
-    ensures { result ≡ functions.called functions.of_numbers (map to_ascii_uppercase name.now) }
+    ensures { result ≡ functions.function_of_word functions.of_numbers (map to_ascii_uppercase name.now) }
 {
     if is_word(name, b"ABS") {
         return Some(Function::Abs);
@@ -233,7 +233,7 @@ fn number_function(name: &[u8]) -> Option<Function>
 
 /// The functions of dates.
 fn date_function(name: &[u8]) -> Option<Function>
-    ensures { result ≡ functions.called functions.of_dates (map to_ascii_uppercase name.now) }
+    ensures { result ≡ functions.function_of_word functions.of_dates (map to_ascii_uppercase name.now) }
 {
     if is_word(name, b"CTOD") {
         return Some(Function::Ctod);
@@ -264,7 +264,7 @@ fn date_function(name: &[u8]) -> Option<Function>
 
 /// The functions of the selected area, and of the day.
 fn table_function(name: &[u8]) -> Option<Function>
-    ensures { result ≡ functions.called functions.of_tables (map to_ascii_uppercase name.now) }
+    ensures { result ≡ functions.function_of_word functions.of_tables (map to_ascii_uppercase name.now) }
 {
     if is_word(name, b"RECNO") {
         return Some(Function::Recno);
@@ -292,7 +292,7 @@ fn table_function(name: &[u8]) -> Option<Function>
 
 /// Each function's word names it, whole or cut, so that no word names two.
 pub fn one_function()
-    ensures { (word : List ℕ) (x : functions.Entry) → Listed x functions.all_functions
+    ensures { (word : List ℕ) (x : functions.FunctionWord) → IsOneOf x functions.function_words
         → functions.is_cut word x.0 ≡ true
         → functions.function_named word ≡ Some x.1 }
 {}

@@ -6,12 +6,12 @@ ghost use Rattle.std.specs.List.{prefix_len};
 ghost use Rattle.prg_expr.specs.Word.{word_of};
 ghost use Rattle.prg_expr.specs.Lexicon as lexicon;
 ghost use Rattle.prg_expr.specs.Scanning as spec;
-ghost use Rattle.prg_expr.specs.Scanning.{scan, seen, IsScan, IsWordsOf};
+ghost use Rattle.prg_expr.specs.Scanning.{scan, seen, IsScanned, IsWordsOf};
 ghost use Rattle.prg_expr.specs.Lexicon.{Spot, IsLine};
 
 use crate::fault::{ParseFaultKind, least};
 use crate::token::{Line, Token};
-use crate::tree::{MOST_LETTERS, MOST_TEXT, Operator};
+use crate::tree::{BinaryOperator, MOST_LETTERS, MOST_TEXT};
 use std::alloc::{AllocError, Global};
 
 /// The most digits of a number.
@@ -29,13 +29,13 @@ pub(crate) struct Scanned<'a> {
 }
 
 fn is_name(b: u8) -> bool
-    ensures { result ≡ lexicon.is_name b }
+    ensures { result ≡ lexicon.goes_on_name b }
 {
     b.is_ascii_alphanumeric() || b == b'_'
 }
 
 fn is_blank(b: u8) -> bool
-    ensures { result ≡ lexicon.is_blank b }
+    ensures { result ≡ lexicon.is_blank_or_tab b }
 {
     b == b' ' || b == b'\t'
 }
@@ -61,7 +61,7 @@ fn digits_len(bytes: &[u8]) -> usize
 }
 
 fn name_len(bytes: &[u8]) -> usize
-    ensures value { result ≡ prefix_len lexicon.is_name bytes.now }
+    ensures value { result ≡ prefix_len lexicon.goes_on_name bytes.now }
     ensures within { result ≤ length bytes.now }
 {
     bytes.iter().take_while(|b| is_name(**b)).count()
@@ -111,9 +111,9 @@ fn number_fault(whole: usize, fraction: usize) -> Option<ParseFaultKind>
 }
 
 /// The number at the front.
-#[tactic(auto, unfolding(crate::specs::Scanning::number_at))]
+#[tactic(auto, unfolding(crate::specs::Scanning::number_scanned))]
 fn number_at<'a>(bytes: &'a [u8]) -> Scanned<'a>
-    ensures { seen result ≡ spec.number_at bytes.now }
+    ensures { seen result ≡ spec.number_scanned bytes.now }
 {
     let whole = digits_len(bytes);
     let fraction = decimals(&bytes[whole..]);
@@ -131,9 +131,9 @@ fn number_at<'a>(bytes: &'a [u8]) -> Scanned<'a>
 }
 
 /// The name at the front.
-#[tactic(auto, unfolding(crate::specs::Scanning::name_at))]
+#[tactic(auto, unfolding(crate::specs::Scanning::name_scanned))]
 fn name_at<'a>(bytes: &'a [u8]) -> Scanned<'a>
-    ensures { seen result ≡ spec.name_at bytes.now }
+    ensures { seen result ≡ spec.name_scanned bytes.now }
 {
     let len = name_len(bytes);
     let (name, rest) = bytes.split_at(len);
@@ -163,9 +163,9 @@ fn text_end<'a>(text: &'a [u8], rest: &'a [u8]) -> Scanned<'a>
 }
 
 /// The text in front of this mark.
-#[tactic(auto, unfolding(crate::specs::Scanning::text_at))]
+#[tactic(auto, unfolding(crate::specs::Scanning::text_scanned))]
 fn text_at<'a>(close: u8, bytes: &'a [u8]) -> Scanned<'a>
-    ensures { seen result ≡ spec.text_at close bytes.now }
+    ensures { seen result ≡ spec.text_scanned close bytes.now }
 {
     let len = text_len(close, bytes);
     let (text, rest) = bytes.split_at(len);
@@ -221,10 +221,10 @@ fn pointed_at<'a>(bytes: &'a [u8]) -> Scanned<'a>
         return clean_at(Token::Not, rest);
     }
     if let Some(rest) = after_word(b"and.", bytes) {
-        return clean_at(Token::Operator(Operator::And), rest);
+        return clean_at(Token::Operator(BinaryOperator::And), rest);
     }
     if let Some(rest) = after_word(b"or.", bytes) {
-        return clean_at(Token::Operator(Operator::Or), rest);
+        return clean_at(Token::Operator(BinaryOperator::Or), rest);
     }
     clean_at(Token::Point, bytes)
 }
@@ -247,13 +247,13 @@ fn pair_of<'a>(b: u8, c: u8) -> Option<Token<'a>>
         return Some(Token::Arrow);
     }
     if b == b'<' && c == b'>' {
-        return Some(Token::Operator(Operator::NotEqual));
+        return Some(Token::Operator(BinaryOperator::NotEqual));
     }
     if b == b'<' && c == b'=' {
-        return Some(Token::Operator(Operator::AtMost));
+        return Some(Token::Operator(BinaryOperator::AtMost));
     }
     if b == b'>' && c == b'=' {
-        return Some(Token::Operator(Operator::AtLeast));
+        return Some(Token::Operator(BinaryOperator::AtLeast));
     }
     if b == b'?' && c == b'?' {
         return Some(Token::ShowOn);
@@ -268,16 +268,16 @@ fn single_of<'a>(b: u8) -> Option<Token<'a>>
     match b {
         b'(' => Some(Token::Open),
         b')' => Some(Token::Close),
-        b'*' => Some(Token::Operator(Operator::Times)),
-        b'+' => Some(Token::Operator(Operator::Plus)),
+        b'*' => Some(Token::Operator(BinaryOperator::Times)),
+        b'+' => Some(Token::Operator(BinaryOperator::Plus)),
         b',' => Some(Token::Comma),
-        b'-' => Some(Token::Operator(Operator::Minus)),
-        b'/' => Some(Token::Operator(Operator::Over)),
-        b'<' => Some(Token::Operator(Operator::Less)),
-        b'=' => Some(Token::Operator(Operator::Equal)),
-        b'>' => Some(Token::Operator(Operator::Greater)),
-        b'#' => Some(Token::Operator(Operator::NotEqual)),
-        b'$' => Some(Token::Operator(Operator::Contains)),
+        b'-' => Some(Token::Operator(BinaryOperator::Minus)),
+        b'/' => Some(Token::Operator(BinaryOperator::Over)),
+        b'<' => Some(Token::Operator(BinaryOperator::Less)),
+        b'=' => Some(Token::Operator(BinaryOperator::Equal)),
+        b'>' => Some(Token::Operator(BinaryOperator::Greater)),
+        b'#' => Some(Token::Operator(BinaryOperator::NotEqual)),
+        b'$' => Some(Token::Operator(BinaryOperator::Contains)),
         b'?' => Some(Token::Show),
         b'@' => Some(Token::At),
         _ => None,
@@ -363,7 +363,7 @@ fn is_comment(b: u8, rest: &[u8]) -> bool
 
 /// The words of a line, read from left to right.
 pub(crate) fn cut<'a>(alloc: Global, line: &'a [u8]) -> Result<Line<'a>, AllocError>
-    ensures { IfOk result (IsScan line.now) }
+    ensures { IfOk result (IsScanned line.now) }
 {
     let mut words = Vec::new(alloc);
     let mut fault = None;
@@ -389,7 +389,7 @@ pub fn words<'a>(alloc: Global, line: &'a [u8]) -> Result<Line<'a>, AllocError>
     // Each word stands for its bytes, in order, with blanks between, and the fault told is the least of theirs.
     ensures words { IfOk result (IsWordsOf line.now) }
     // They are the ones that reading from left to right finds.
-    ensures scanned { IfOk result (IsScan line.now) }
+    ensures scanned { IfOk result (IsScanned line.now) }
 {
     cut(alloc, line)
 }

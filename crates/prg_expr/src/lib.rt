@@ -20,4 +20,6 @@ pub use names::{is_word, name_of};
 pub use parser::expression;
 pub use reading::{expr, expressions_are_read, one_tree};
 pub use token::{Line, Token};
-pub use tree::{Expr, MOST_LETTERS, MOST_TEXT, Name, Operator, Prefix, Text};
+pub use tree::{
+    AliasedName, BinaryOperator, Expr, Literal, MOST_LETTERS, MOST_TEXT, Name, Prefix, Text,
+};

@@ -1,21 +1,20 @@
 //! Reading a tree from words, by recursive descent.
 
 ghost use Rattle.std.specs.Prelude.{◌≡◌, ◌-◌, ◌<◌, ◌≤◌, ◌++◌, length, IfOk, IfSome, List, Ok, map, option_map, suc};
-ghost use Rattle.std.specs.Prelude.{take};
 ghost use Rattle.std.specs.Char.{to_ascii_uppercase};
 ghost use Rattle.prg_expr.specs.declared.fault.FormFault.TheVariants as form_fault;
 ghost use Rattle.prg_expr.specs.Tree.{Tree, tree_of, trees_of};
 ghost use Rattle.prg_expr.specs.Word.{Word, word_of, words};
 ghost use Rattle.prg_expr.specs.Grammar as grammar;
 ghost use Rattle.prg_expr.specs.Reading as spec;
-ghost use Rattle.prg_expr.specs.Reading.{Gives};
+ghost use Rattle.prg_expr.specs.Reading.{WordsGive};
 ghost use Rattle.prg_expr.specs.Spelling.{InFront, NoneLonger};
 
 use crate::fault::{FormFault, ParseFaultKind};
 use crate::function::{Function, function_named, takes};
-use crate::names::{front, name_of};
+use crate::names::name_of;
 use crate::token::Token;
-use crate::tree::{Expr, MOST_TEXT, Operator, Prefix, Text};
+use crate::tree::{AliasedName, BinaryOperator, Expr, Literal, Prefix};
 use fixed_num::Num;
 use std::alloc::Global;
 
@@ -31,21 +30,21 @@ const NEGATION: u8 = 5;
 const LOOSEST: u8 = 7;
 
 /// The level of an operator, from the tightest.
-fn looseness(operator: Operator) -> u8
+fn looseness(operator: BinaryOperator) -> u8
     ensures { result ≡ grammar.looseness operator }
 {
     match operator {
-        Operator::Times | Operator::Over => 2,
-        Operator::Plus | Operator::Minus => 3,
-        Operator::Equal
-        | Operator::NotEqual
-        | Operator::Less
-        | Operator::Greater
-        | Operator::AtMost
-        | Operator::AtLeast
-        | Operator::Contains => COMPARISON,
-        Operator::And => 6,
-        Operator::Or => LOOSEST,
+        BinaryOperator::Times | BinaryOperator::Over => 2,
+        BinaryOperator::Plus | BinaryOperator::Minus => 3,
+        BinaryOperator::Equal
+        | BinaryOperator::NotEqual
+        | BinaryOperator::Less
+        | BinaryOperator::Greater
+        | BinaryOperator::AtMost
+        | BinaryOperator::AtLeast
+        | BinaryOperator::Contains => COMPARISON,
+        BinaryOperator::And => 6,
+        BinaryOperator::Or => LOOSEST,
     }
 }
 
@@ -55,8 +54,8 @@ fn prefix_of(token: &Token) -> Option<Prefix>
 {
     match token {
         Token::Not => Some(Prefix::Not),
-        Token::Operator(Operator::Minus) => Some(Prefix::Negative),
-        Token::Operator(Operator::Plus) => Some(Prefix::Positive),
+        Token::Operator(BinaryOperator::Minus) => Some(Prefix::Negative),
+        Token::Operator(BinaryOperator::Plus) => Some(Prefix::Positive),
         _ => None,
     }
 }
@@ -87,9 +86,9 @@ fn prefix_at(level: u8, token: &Token) -> Option<Prefix>
 }
 
 /// The refusal of words that don't go on as they have to.
-#[tactic(auto, unfolding(crate::specs::Reading::wrong))]
+#[tactic(auto, unfolding(crate::specs::Reading::wrong_word))]
 fn wrong(tokens: &[Token]) -> FormFault
-    ensures { result ≡ form_fault.Kind (spec.wrong (words tokens.now)) }
+    ensures { result ≡ form_fault.Kind (spec.wrong_word (words tokens.now)) }
 {
     match tokens {
         [Token::Macro, ..] => FormFault::Kind(ParseFaultKind::Macro),
@@ -99,7 +98,7 @@ fn wrong(tokens: &[Token]) -> FormFault
 
 /// The operator at the front and the words after it, if it is of the level.
 #[tactic(auto, unfolding(crate::specs::Reading::operator_at))]
-fn operator_at<'a>(level: u8, tokens: &'a [Token<'a>]) -> Option<(Operator, &'a [Token<'a>])>
+fn operator_at<'a>(level: u8, tokens: &'a [Token<'a>]) -> Option<(BinaryOperator, &'a [Token<'a>])>
     ensures found { option_map (λ x. (x.0, words x.1.now)) result ≡ spec.operator_at level (words tokens.now) }
     ensures shorter { IfSome result (λ x. length x.1.now < length tokens.now) }
 {
@@ -116,13 +115,14 @@ fn operator_at<'a>(level: u8, tokens: &'a [Token<'a>]) -> Option<(Operator, &'a 
 }
 
 /// The expression in parentheses, of which the closing one stands at the front, and the words after that.
-#[tactic(auto, using(crate::proofs::Equations::tree_equations), unfolding(crate::specs::Reading::close))]
+#[tactic(auto, using(crate::proofs::Equations::tree_equations), unfolding(crate::specs::Reading::parenthesis_closed))]
 fn close<'a>(
     alloc: Global,
     inner: Expr,
     tokens: &'a [Token<'a>],
 ) -> Result<(Expr, &'a [Token<'a>]), FormFault>
-    ensures gives { Gives (λ x. (tree_of x.0, words x.1.now)) result (spec.close (tree_of inner) (words tokens.now)) }
+    ensures gives { WordsGive (λ x. (tree_of x.0, words x.1.now)) result
+        (spec.parenthesis_closed (tree_of inner) (words tokens.now)) }
     ensures shorter { IfOk result (λ x. length x.1.now < length tokens.now) }
 {
     match tokens {
@@ -134,7 +134,7 @@ fn close<'a>(
 /// Whether a comma is at the front, or else a closing parenthesis, and the words after it.
 #[tactic(auto, unfolding(crate::specs::Reading::separator))]
 fn separator<'a>(tokens: &'a [Token<'a>]) -> Result<(bool, &'a [Token<'a>]), FormFault>
-    ensures gives { Gives (λ x. (x.0, words x.1.now)) result (spec.separator (words tokens.now)) }
+    ensures gives { WordsGive (λ x. (x.0, words x.1.now)) result (spec.separator (words tokens.now)) }
     ensures shorter { IfOk result (λ x. length x.1.now < length tokens.now) }
 {
     match tokens {
@@ -144,26 +144,15 @@ fn separator<'a>(tokens: &'a [Token<'a>]) -> Result<(bool, &'a [Token<'a>]), For
     }
 }
 
-/// The text of a word: its bytes, 254 of them where there are more.
-fn cut_text(bytes: &[u8]) -> Text
-    ensures { result.items ≡ take 254 bytes.now }
-{
-    let mut text = Text::new();
-    match text.try_extend_from_slice(front(bytes, MOST_TEXT)) {
-        Ok(()) => text,
-        Err(_) => unreachable!(),
-    }
-}
-
 /// The call of a function, if it takes so many arguments.
-#[tactic(auto, using(crate::proofs::Equations::tree_equations, crate::proofs::Equations::count_trees), unfolding(crate::specs::Reading::call_of))]
+#[tactic(auto, using(crate::proofs::Equations::tree_equations, crate::proofs::Equations::count_trees), unfolding(crate::specs::Reading::call_read))]
 fn call_of<'a>(
     function: Function,
     arguments: Vec<Expr>,
     rest: &'a [Token<'a>],
 ) -> Result<(Expr, &'a [Token<'a>]), FormFault>
-    ensures gives { Gives (λ x. (tree_of x.0, words x.1.now)) result
-        (spec.call_of function (trees_of arguments.items) (words rest.now)) }
+    ensures gives { WordsGive (λ x. (tree_of x.0, words x.1.now)) result
+        (spec.call_read function (trees_of arguments.items) (words rest.now)) }
     ensures same { IfOk result (λ x. x.1.now ≡ rest.now) }
 {
     if takes(function, arguments.len()) {
@@ -176,18 +165,22 @@ fn call_of<'a>(
 /// The name behind an arrow.
 #[tactic(auto, using(crate::proofs::Equations::tree_equations), unfolding(crate::specs::Reading::qualified_at))]
 fn qualified_at<'a>(
+    alloc: Global,
     alias: &[u8],
     tokens: &'a [Token<'a>],
 ) -> Result<(Expr, &'a [Token<'a>]), FormFault>
-    ensures gives { Gives (λ x. (tree_of x.0, words x.1.now)) result
+    ensures gives { WordsGive (λ x. (tree_of x.0, words x.1.now)) result
         (spec.qualified_at (map to_ascii_uppercase alias.now) (words tokens.now)) }
     ensures shorter { IfOk result (λ x. length x.1.now < length tokens.now) }
 {
     match tokens {
-        [Token::Name(name), rest @ ..] => Ok((
-            Expr::Qualified(name_of(alias), name_of(*name)),
-            rest,
-        )),
+        [Token::Name(name), rest @ ..] => {
+            let aliased = AliasedName {
+                alias: name_of(alias),
+                name: name_of(*name),
+            };
+            Ok((Expr::Qualified(Box::new(alloc, aliased)?), rest))
+        }
         _ => Err(wrong(tokens)),
     }
 }
@@ -200,7 +193,7 @@ fn inside<'a>(
     depth: u8,
     tokens: &'a [Token<'a>],
 ) -> Result<(Expr, &'a [Token<'a>]), FormFault>
-    ensures gives { Gives (λ x. (tree_of x.0, words x.1.now)) result (spec.inside depth (words tokens.now)) }
+    ensures gives { WordsGive (λ x. (tree_of x.0, words x.1.now)) result (spec.inside depth (words tokens.now)) }
     ensures shorter { IfOk result (λ x. length x.1.now < length tokens.now) }
 {
     if depth == 0 {
@@ -218,7 +211,7 @@ fn named<'a>(
     name: &[u8],
     tokens: &'a [Token<'a>],
 ) -> Result<(Expr, &'a [Token<'a>]), FormFault>
-    ensures gives { Gives (λ x. (tree_of x.0, words x.1.now)) result
+    ensures gives { WordsGive (λ x. (tree_of x.0, words x.1.now)) result
         (spec.named depth (spec.inside depth) (map to_ascii_uppercase name.now) (words tokens.now)) }
     ensures shorter { IfOk result (λ x. length x.1.now ≤ length tokens.now) }
 {
@@ -229,7 +222,7 @@ fn named<'a>(
             };
             Ok(called(alloc, depth, function, rest)?)
         }
-        [Token::Arrow, rest @ ..] => Ok(qualified_at(name, rest)?),
+        [Token::Arrow, rest @ ..] => Ok(qualified_at(alloc, name, rest)?),
         _ => Ok((Expr::Name(name_of(name)), tokens)),
     }
 }
@@ -243,7 +236,7 @@ fn called<'a>(
     function: Function,
     tokens: &'a [Token<'a>],
 ) -> Result<(Expr, &'a [Token<'a>]), FormFault>
-    ensures gives { Gives (λ x. (tree_of x.0, words x.1.now)) result
+    ensures gives { WordsGive (λ x. (tree_of x.0, words x.1.now)) result
         (spec.called_at depth (spec.inside depth) function (words tokens.now)) }
     ensures shorter { IfOk result (λ x. length x.1.now ≤ length tokens.now) }
 {
@@ -266,7 +259,7 @@ fn arguments<'a>(
     depth: u8,
     tokens: &'a [Token<'a>],
 ) -> Result<(Vec<Expr>, &'a [Token<'a>]), FormFault>
-    ensures gives { Gives (λ x. (trees_of x.0.items, words x.1.now)) result
+    ensures gives { WordsGive (λ x. (trees_of x.0.items, words x.1.now)) result
         (spec.arguments (suc (length (words tokens.now))) (spec.inside depth) (words tokens.now)) }
     ensures shorter { IfOk result (λ x. length x.1.now ≤ length tokens.now) }
 {
@@ -292,14 +285,14 @@ fn operand<'a>(
     depth: u8,
     tokens: &'a [Token<'a>],
 ) -> Result<(Expr, &'a [Token<'a>]), FormFault>
-    ensures gives { Gives (λ x. (tree_of x.0, words x.1.now)) result
+    ensures gives { WordsGive (λ x. (tree_of x.0, words x.1.now)) result
         (spec.operand depth (spec.inside depth) (words tokens.now)) }
     ensures shorter { IfOk result (λ x. length x.1.now < length tokens.now) }
 {
     match tokens {
         [Token::Logical(b), rest @ ..] => Ok((Expr::Logical(*b), rest)),
         [Token::Number(digits), rest @ ..] => Ok((Expr::Number(Num::parse(*digits)), rest)),
-        [Token::Text(s), rest @ ..] => Ok((Expr::Text(cut_text(*s)), rest)),
+        [Token::Text(s), rest @ ..] => Ok((Expr::Text(Literal::of(alloc, *s)?), rest)),
         [Token::Name(s), rest @ ..] => Ok(named(alloc, depth, *s, rest)?),
         [Token::Open, rest @ ..] => {
             let (inner, rest) = inside(alloc, depth, rest)?;
@@ -320,7 +313,7 @@ fn chain<'a>(
 ) -> Result<(Expr, &'a [Token<'a>]), FormFault>
     requires least { 0 < level }
     requires most { level ≤ 7 }
-    ensures gives { Gives (λ x. (tree_of x.0, words x.1.now)) result
+    ensures gives { WordsGive (λ x. (tree_of x.0, words x.1.now)) result
         (spec.chain (spec.level_at depth (level - 1)) level (words tokens.now)) }
     ensures shorter { IfOk result (λ x. length x.1.now < length tokens.now) }
 {
@@ -335,14 +328,14 @@ fn chain<'a>(
 
 /// One sum, or two with a comparison between.
 #[cycle(expression)]
-#[tactic(auto, using(crate::proofs::Equations::tree_equations), unfolding(crate::specs::Reading::comparison))]
+#[tactic(auto, using(crate::proofs::Equations::tree_equations), unfolding(crate::specs::Reading::comparison_read))]
 fn comparison<'a>(
     alloc: Global,
     depth: u8,
     tokens: &'a [Token<'a>],
 ) -> Result<(Expr, &'a [Token<'a>]), FormFault>
-    ensures gives { Gives (λ x. (tree_of x.0, words x.1.now)) result
-        (spec.comparison (spec.level_at depth 3) (words tokens.now)) }
+    ensures gives { WordsGive (λ x. (tree_of x.0, words x.1.now)) result
+        (spec.comparison_read (spec.level_at depth 3) (words tokens.now)) }
     ensures shorter { IfOk result (λ x. length x.1.now < length tokens.now) }
 {
     let (left, rest) = reader(alloc, depth, COMPARISON - 1, tokens)?;
@@ -367,7 +360,7 @@ fn prefixes<'a>(
 ) -> Result<(Expr, &'a [Token<'a>]), FormFault>
     requires least { 0 < level }
     requires most { level ≤ 7 }
-    ensures gives { Gives (λ x. (tree_of x.0, words x.1.now)) result
+    ensures gives { WordsGive (λ x. (tree_of x.0, words x.1.now)) result
         (spec.prefixes (spec.level_at depth (level - 1)) level (words tokens.now)) }
     ensures shorter { IfOk result (λ x. length x.1.now < length tokens.now) }
 {
@@ -391,7 +384,8 @@ fn reader<'a>(
     tokens: &'a [Token<'a>],
 ) -> Result<(Expr, &'a [Token<'a>]), FormFault>
     requires { level ≤ 7 }
-    ensures gives { Gives (λ x. (tree_of x.0, words x.1.now)) result (spec.level_at depth level (words tokens.now)) }
+    ensures gives { WordsGive (λ x. (tree_of x.0, words x.1.now)) result
+        (spec.level_at depth level (words tokens.now)) }
     ensures shorter { IfOk result (λ x. length x.1.now < length tokens.now) }
 {
     match level {
@@ -404,7 +398,7 @@ fn reader<'a>(
 
 /// What the words begin with.
 fn loosest<'a>(alloc: Global, tokens: &'a [Token<'a>]) -> Result<(Expr, &'a [Token<'a>]), FormFault>
-    ensures gives { Gives (λ x. (tree_of x.0, words x.1.now)) result
+    ensures gives { WordsGive (λ x. (tree_of x.0, words x.1.now)) result
         (spec.level_at grammar.max_depth 7 (words tokens.now)) }
     ensures shorter { IfOk result (λ x. length x.1.now < length tokens.now) }
 {
@@ -420,7 +414,7 @@ pub fn expression<'a>(
     tokens: &'a [Token<'a>],
 ) -> Result<(Expr, &'a [Token<'a>]), FormFault>
     // What is answered, a fault too, is what reading from left to right finds.
-    ensures gives { Gives (λ x. (tree_of x.0, words x.1.now)) result (spec.front (words tokens.now)) }
+    ensures gives { WordsGive (λ x. (tree_of x.0, words x.1.now)) result (spec.front (words tokens.now)) }
     // The words before the rest spell the tree.
     ensures stands { IfOk result (λ x. InFront (tree_of x.0) (words tokens.now) (words x.1.now)) }
     // No further words with them spell one.
@@ -428,7 +422,7 @@ pub fn expression<'a>(
     // An expression with nothing behind it that could go on with it is answered, unless memory runs out.
     ensures only { (e : Tree) → (ws rest : List Word) → grammar.Spells e ws → grammar.Free 7 rest
         → words tokens.now ≡ ws ++ rest
-        → (let x : Tree × List Word = (e, rest) in Gives (λ y. (tree_of y.0, words y.1.now)) result (Ok x)) }
+        → (let x : Tree × List Word = (e, rest) in WordsGive (λ y. (tree_of y.0, words y.1.now)) result (Ok x)) }
     ensures shorter { IfOk result (λ x. length x.1.now < length tokens.now) }
 {
     loosest(alloc, tokens)
@@ -437,7 +431,7 @@ pub fn expression<'a>(
 /// The expression that all of the words are.
 #[tactic(auto, unfolding(crate::specs::Reading::parse))]
 pub(crate) fn parse<'a>(alloc: Global, tokens: &'a [Token<'a>]) -> Result<Expr, FormFault>
-    ensures { Gives tree_of result (spec.parse (words tokens.now)) }
+    ensures { WordsGive tree_of result (spec.parse (words tokens.now)) }
 {
     let (tree, rest) = loosest(alloc, tokens)?;
     match rest {

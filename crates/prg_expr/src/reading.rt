@@ -8,7 +8,7 @@ ghost use Rattle.prg_expr.specs.Faults.{OnFault, Tells};
 ghost use Rattle.prg_expr.specs.Spelling as spec;
 ghost use Rattle.prg_expr.specs.Grammar as grammar;
 ghost use Rattle.prg_expr.specs.Word.{Word, words};
-ghost use Rattle.prg_expr.specs.Reading.{Gives, front};
+ghost use Rattle.prg_expr.specs.Reading.{WordsGive, front};
 
 use crate::fault::{
     FormFault, MOST_WORDS, ParseFault, ParseFaultKind, ParseRefusal, least, length_fault,
@@ -21,7 +21,7 @@ use std::alloc::Global;
 
 /// Reads the form of a text of these words.
 fn read_form(alloc: Global, tokens: &[Token<'_>]) -> Result<Expr, FormFault>
-    ensures { Gives tree_of result (spec.form_of (words tokens.now)) }
+    ensures { WordsGive tree_of result (spec.tree_of_words (words tokens.now)) }
 {
     if MOST_WORDS < tokens.len() {
         return Err(FormFault::Kind(ParseFaultKind::TooLong));
@@ -31,7 +31,8 @@ fn read_form(alloc: Global, tokens: &[Token<'_>]) -> Result<Expr, FormFault>
 
 /// What was read, or the least of its fault and another.
 fn told(fault: Option<ParseFaultKind>, form: Result<Expr, FormFault>) -> Result<Expr, FormFault>
-    ensures { (read : Result Tree AnyFault) → Gives tree_of form read → Gives tree_of result (told_of fault read) }
+    ensures { (read : Result Tree AnyFault) → WordsGive tree_of form read
+        → WordsGive tree_of result (told_of fault read) }
 {
     match form {
         Ok(tree) => match fault {
@@ -49,7 +50,7 @@ fn told(fault: Option<ParseFaultKind>, form: Result<Expr, FormFault>) -> Result<
 /// What a text is read as.
 #[tactic(auto, unfolding(crate::specs::Spelling::read))]
 fn read_all(alloc: Global, text: &[u8]) -> Result<Expr, FormFault>
-    ensures { Gives tree_of result (read text.now) }
+    ensures { WordsGive tree_of result (read text.now) }
 {
     let line = cut(alloc, text)?;
     let fault = least(line.fault, length_fault(text));
@@ -58,7 +59,7 @@ fn read_all(alloc: Global, text: &[u8]) -> Result<Expr, FormFault>
 
 /// What was read of a text, which is one line.
 fn answered(form: Result<Expr, FormFault>) -> Result<Expr, ParseRefusal>
-    ensures { (read : Result Tree AnyFault) → Gives tree_of form read → Answers result read }
+    ensures { (read : Result Tree AnyFault) → WordsGive tree_of form read → Answers result read }
 {
     match form {
         Ok(tree) => Ok(tree),

@@ -1,7 +1,7 @@
 //! The words of a line.
 
 use crate::fault::ParseFaultKind;
-use crate::tree::Operator;
+use crate::tree::BinaryOperator;
 
 /// A word of a line, which borrows the bytes of a name or a text.
 #[derive(Clone, Copy, Debug)]
@@ -14,7 +14,7 @@ pub enum Token<'a> {
     /// As written; more than ten letters only where the line's fault is TooLong or a lesser one.
     Name(&'a [u8]),
     Not,
-    Operator(Operator),
+    Operator(BinaryOperator),
     /// `->`
     Arrow,
     Open,

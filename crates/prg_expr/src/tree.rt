@@ -1,8 +1,13 @@
 //! The tree of an expression.
 
+ghost use Rattle.std.specs.Prelude.{◌≡◌, ◌≤◌, length, take, IfOk};
+
 use crate::function::Function;
+use crate::names::front;
 use arrayvec::ArrayVec;
 use fixed_num::Num;
+use std::alloc::{AllocError, Global};
+use std::marker::Model;
 
 /// The most letters of a name.
 pub const MOST_LETTERS: usize = 10;
@@ -16,9 +21,53 @@ pub type Name = ArrayVec<u8, 10>;
 /// A text: at most 254 bytes, of any values.
 pub type Text = ArrayVec<u8, 254>;
 
+/// A text of an expression: at most 254 bytes, of any values, in a row of its own length; seen as their list.
+#[derive(Debug, Drop)]
+pub struct Literal {
+    bytes: Vec<u8>,
+}
+
+impl Model for Literal {
+    ghost use Rattle.std.specs.Prelude.{List, ℕ, ◌≤◌, length};
+
+    ghost Value = { List ℕ };
+
+    ghost view = { λ t. t.bytes.items };
+
+    ghost invariant = { λ t. length t.bytes.items ≤ 254 };
+}
+
+impl Literal {
+    /// The text of these bytes, 254 of them where there are more.
+    pub(crate) fn of(alloc: Global, bytes: &[u8]) -> Result<Literal, AllocError>
+        ensures { IfOk result (λ text. text ≡ take 254 bytes.now) }
+    {
+        Ok(Literal {
+            bytes: Vec::from_slice(alloc, front(bytes, MOST_TEXT))?,
+        })
+    }
+
+    /// Its bytes.
+    pub fn as_slice(&self) -> &[u8]
+        ensures same { result.now ≡ self.now }
+        ensures within { length result.now ≤ 254 }
+    {
+        self.bytes.as_slice()
+    }
+}
+
+/// A name behind an alias.
+#[derive(Debug, Drop)]
+pub struct AliasedName {
+    /// The work area, or `M` for a variable.
+    pub alias: Name,
+    /// The name behind the arrow.
+    pub name: Name,
+}
+
 /// An operator between two operands.
 #[derive(Clone, Copy, Debug, PartialEq, Eq)]
-pub enum Operator {
+pub enum BinaryOperator {
     /// `.OR.`
     Or,
     /// `.AND.`
@@ -62,16 +111,16 @@ pub enum Prefix {
 #[derive(Debug, Drop)]
 pub enum Expr {
     Number(Num),
-    Text(Text),
+    Text(Literal),
     Logical(bool),
     /// A field of the selected area, or a variable.
     Name(Name),
     /// `alias->name`, and `M->name` for a variable.
-    Qualified(Name, Name),
+    Qualified(Box<AliasedName>),
     /// A function with as many arguments as it takes.
     Call(Function, Vec<Expr>),
     /// `( expression )`
     Parentheses(Box<Expr>),
     Prefixed(Prefix, Box<Expr>),
-    Binary(Operator, Box<Expr>, Box<Expr>),
+    Binary(BinaryOperator, Box<Expr>, Box<Expr>),
 }

@@ -4,7 +4,7 @@ use Rattle.std.specs.Prelude.{is_some, option_map}
 use Rattle.prg_line.specs.Act.{Act}
 use Rattle.prg_parser.specs.Commands.{Cmd, Single}
 use Rattle.prg_laid.specs.Choices.{Finishes}
-use Rattle.prg_laid.specs.Commands.{Laid, ends, is_end}
+use Rattle.prg_laid.specs.Commands.{Laid, ends, ends_run}
 use Rattle.laid_lines.specs.Layout.{Laying}
 use Rattle.prg_laid.specs.declared.way.Leaps.{Leaps}
 use Rattle.prg_laid.specs.declared.way.Way.{Way}
@@ -21,5 +21,5 @@ on_done (Err e) f h = tt
 pub way_as : {f : Laying} {l : Option Leaps} {gets : List (List ℕ)} {a : ℕ} {x : Cmd} {r w : Way} → r ≡ w → Laid f l gets a x w → Laid f l gets a x r
 way_as {f} {l} {gets} {a} {x} {r} {w} e h = subst (λ r. Laid f l gets a x r) (sym e) h
 
-pub finishes : (f : Laying) (l : Option Leaps) (a : ℕ) (act : Act) (w : Way) → is_end act ≡ true → Finishes f a w → (n : ℕ) → Laid f l [] a (Single n act) w
+pub finishes : (f : Laying) (l : Option Leaps) (a : ℕ) (act : Act) (w : Way) → ends_run act ≡ true → Finishes f a w → (n : ℕ) → Laid f l [] a (Single n act) w
 finishes f l a act w is h n = way_as h.2 (ends is h.1)

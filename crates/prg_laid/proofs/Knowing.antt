@@ -9,8 +9,8 @@ use Rattle.code_items.specs.declared.instr.Instr.{Instr}
 use Rattle.xvalue.specs.declared.value.Value.{Value}
 use Rattle.prg_code.specs.Bindings.{NamedVariables}
 use Rattle.prg_parser.specs.Commands.{Cmds}
-use Rattle.prg_laid.specs.Commands.{AreKnown, IsWhole, laying_of}
-use Rattle.code_rules.specs.Places.{instr_at, block_at, or_state, map_at, start_of, begun, incoming_at, state_at}
+use Rattle.prg_laid.specs.Commands.{AreKnown, IsLaidWhole, laying_of}
+use Rattle.code_rules.specs.Places.{instr_at, block_at, or_state, map_at, start_of, state_entered, incoming_at, state_at}
 
 pub first_flow : (code : Code) → start_of code (block_at code 0).number ≡ incoming_at code 0
 unfolding incoming_at
@@ -20,10 +20,10 @@ pub state_is : (code : Code) (place : ℕ) → or_state (map_at code place) (inc
 unfolding state_at
 state_is code place = refl
 
-pub flows : (code : Code) (place : ℕ) (s : State) → s ≡ state_at code place → begun code (block_at code (place + 1)) (place + 1) (flow code (instr_at code place) s) ≡ incoming_at code (place + 1)
+pub flows : (code : Code) (place : ℕ) (s : State) → s ≡ state_at code place → state_entered code (block_at code (place + 1)) (place + 1) (flow code (instr_at code place) s) ≡ incoming_at code (place + 1)
 unfolding incoming_at state_at
 flows code place s e =
-    rw add-one (ap (λ x. begun code (block_at code (suc place)) (suc place) (flow code (instr_at code place) x)) e)
+    rw add-one (ap (λ x. state_entered code (block_at code (suc place)) (suc place) (flow code (instr_at code place) x)) e)
 
 only : {A : Type 0} (x y : A) → Some x ≡ Some y → y ≡ x
 only x y e = cc
@@ -46,10 +46,10 @@ none_known code place s e = absurd (let k = e in cc)
 
 -- the same code, known and numbered the same
 pub whole_as : (code : Code) (names : NamedVariables) (is : List Instr) (vs : List Value) (known known' : List State) (filters filters' : List Block) (cs : Cmds) (n m : ℕ) → is ≡ code.instructions → vs ≡ code.declared.constants → known ≡ known' → filters ≡ filters' → n ≡ m
-    → IsWhole (record { text = record { instrs = is; constants = vs }; declared = code.declared; names = names; known = known; filters = filters }) cs n → IsWhole (laying_of code names known' filters') cs m
+    → IsLaidWhole (record { text = record { instrs = is; constants = vs }; declared = code.declared; names = names; known = known; filters = filters }) cs n → IsLaidWhole (laying_of code names known' filters') cs m
 whole_as code names is vs known known' filters filters' cs n m a b c d e h =
-    subst (λ (k : ℕ). IsWhole (laying_of code names known' filters') cs k) e
-    (subst (λ (fs : List Block). IsWhole (laying_of code names known' fs) cs n) d
-    (subst (λ (ss : List State). IsWhole (laying_of code names ss filters) cs n) c
-    (subst (λ (ws : List Value). IsWhole (record { text = record { instrs = code.instructions; constants = ws }; declared = code.declared; names = names; known = known; filters = filters }) cs n) b
-    (subst (λ (js : List Instr). IsWhole (record { text = record { instrs = js; constants = vs }; declared = code.declared; names = names; known = known; filters = filters }) cs n) a h))))
+    subst (λ (k : ℕ). IsLaidWhole (laying_of code names known' filters') cs k) e
+    (subst (λ (fs : List Block). IsLaidWhole (laying_of code names known' fs) cs n) d
+    (subst (λ (ss : List State). IsLaidWhole (laying_of code names ss filters) cs n) c
+    (subst (λ (ws : List Value). IsLaidWhole (record { text = record { instrs = code.instructions; constants = ws }; declared = code.declared; names = names; known = known; filters = filters }) cs n) b
+    (subst (λ (js : List Instr). IsLaidWhole (record { text = record { instrs = js; constants = vs }; declared = code.declared; names = names; known = known; filters = filters }) cs n) a h))))

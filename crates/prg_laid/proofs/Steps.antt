@@ -162,7 +162,7 @@ while_laid f a test b cs w r k g e s l n end t h =
     subst (λ (z : Way). Laid f l [] a (DoWhile n t cs end) z) (sym (s ∙ ap to e)) (while h k (subst (λ o. Goes f w.place w.on a o) e g))
 
 pub scan_laid : (f : Laying) (a top : ℕ) (test : Test) (m b next : ℕ) (only_if : Option Tree) (cs : Cmds) (w r : Way) (chooses : Bool) → chooses ≡ is_some only_if
-    → Rattle.prg_values.specs.Placed.Stands f.text a (Rattle.code_items.specs.declared.instr.Instr.TheVariants.Moves Rattle.code_items.specs.declared.instr.MoveInstr.TheVariants.Top) top
+    → Rattle.prg_values.specs.Placed.InstrStands f.text a (Rattle.code_items.specs.declared.instr.Instr.TheVariants.Moves Rattle.code_items.specs.declared.instr.MoveInstr.TheVariants.Top) top
     → HasRow f top test.out test.end → Chooses f test.end only_if next m → LaidAll f (Some (record { again = next; out = test.out })) [] m cs w → ComesBack f w chooses next top b → b ≡ test.out → r ≡ to b
     → (l : Option Leaps) (n end : ℕ) → Laid f l [] a (Scan n only_if cs end) r
 scan_laid f a top test m b next only_if cs w r chooses is first row choose k back e s l n end =

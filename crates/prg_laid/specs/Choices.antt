@@ -7,7 +7,7 @@ use Rattle.prg_line.specs.Act.{Letters}
 use Rattle.laid_lines.specs.Acts.{is_none_waiting}
 use Rattle.prg_parser.specs.Commands.{Cmds, Part, Absent, Otherwise, DoWhile, cases_of}
 use Rattle.prg_parser.specs.declared.command.Case.{Case}
-use Rattle.prg_values.specs.Placed.{Stands}
+use Rattle.prg_values.specs.Placed.{InstrStands}
 use Rattle.prg_laid.specs.declared.control.ChoicePart.{ChoicePart}
 use Rattle.prg_laid.specs.declared.control.Test.{Test}
 use Rattle.prg_laid.specs.declared.way.Leaps.{Leaps}
@@ -23,7 +23,7 @@ ComesBack f w chooses again top b =
 
 -- END stands there
 abbrev pub Finishes : Laying → ℕ → Way → Type 0
-Finishes f a w = (b : ℕ) × Stands f.text a (Flow End) b × (w ≡ stopped b false)
+Finishes f a w = (b : ℕ) × InstrStands f.text a (Flow End) b × (w ≡ stopped b false)
 
 -- the end of a choice, as far as a JUMP told it
 abbrev pub Told : Option ℕ → ℕ → Type 0

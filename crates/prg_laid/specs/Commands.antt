@@ -24,10 +24,10 @@ use Rattle.prg_parser.specs.Commands.{Cmd, Cmds, Cases, Part, Single, If, DoCase
 use Rattle.prg_parser.specs.Commands.{When, Absent, Otherwise}
 use Rattle.prg_code.specs.Bindings.{NamedVariables}
 use Rattle.prg_code.specs.declared.names.Variable.{Variable}
-use Rattle.prg_values.specs.Written.{whole as whole_number}
-use Rattle.prg_values.specs.Placed.{Stands}
-use Rattle.laid_lines.specs.Acts.{Does, Puts, may_stand, waiting}
-use Rattle.laid_lines.specs.Layout.{Laying, Gives}
+use Rattle.prg_values.specs.Written.{whole_as_value as whole_number}
+use Rattle.prg_values.specs.Placed.{InstrStands}
+use Rattle.laid_lines.specs.Acts.{ActLaid, Puts, may_follow_gets, waiting}
+use Rattle.laid_lines.specs.Layout.{Laying, ExprLaid}
 use Rattle.prg_laid.specs.declared.way.Leaps.{Leaps}
 use Rattle.prg_laid.specs.declared.way.Way.{Way}
 
@@ -49,7 +49,7 @@ either_way v w = record { place = w.place; on = v.on || w.on; again = v.again ||
 -- a part that goes on at `out` where its end is reached
 abbrev pub Goes : Laying → ℕ → Bool → ℕ → ℕ → Type 0
 Goes f a false out b = b ≡ a
-Goes f a true out b = Stands f.text a (Flow (Jump out)) b
+Goes f a true out b = InstrStands f.text a (Flow (Jump out)) b
 
 -- a part of a choice goes on behind the choice, which the last one without ELSE or OTHERWISE does by itself
 abbrev pub Follows : Laying → Bool → ℕ → Bool → ℕ → ℕ → Type 0
@@ -58,7 +58,7 @@ Follows f false a on out b = Goes f a on out b
 
 -- a condition, and where it leads if it doesn't hold
 abbrev pub Tests : Laying → ℕ → Tree → ℕ → ℕ → Type 0
-Tests f a e out b = (t : ℕ) × Gives f a e kind.Logical t × Stands f.text t (Flow (JumpFalse out)) b
+Tests f a e out b = (t : ℕ) × ExprLaid f a e kind.Logical t × InstrStands f.text t (Flow (JumpFalse out)) b
 
 -- the condition of FOR
 abbrev pub Chooses : Laying → ℕ → Option Tree → ℕ → ℕ → Type 0
@@ -67,14 +67,15 @@ Chooses f a (Some e) next b = Tests f a e next b
 
 -- whether there is a row
 abbrev pub HasRow : Laying → ℕ → ℕ → ℕ → Type 0
-HasRow f a out b = (m : ℕ) × (n : ℕ) × Stands f.text a (Records (Ask Eof)) m × Stands f.text m (Values (Function Not)) n
-    × Stands f.text n (Flow (JumpFalse out)) b
+HasRow f a out b = (m : ℕ) × (n : ℕ) × InstrStands f.text a (Records (Ask Eof)) m
+    × InstrStands f.text m (Values (Function Not)) n
+    × InstrStands f.text n (Flow (JumpFalse out)) b
 
 -- the next row of a SCAN and the way back, where they are reached
 abbrev pub Advances : Laying → ℕ → Bool → ℕ → ℕ → Type 0
 Advances f a false top b = b ≡ a
-Advances f a true top b = (m : ℕ) × (n : ℕ) × Puts f a (whole_number 1) m × Stands f.text m (Moves Skip) n
-    × Stands f.text n (Flow (Jump top)) b
+Advances f a true top b = (m : ℕ) × (n : ℕ) × Puts f a (whole_number 1) m × InstrStands f.text m (Moves Skip) n
+    × InstrStands f.text n (Flow (Jump top)) b
 
 -- they stand where LOOP leads
 abbrev pub Meets : Bool → ℕ → ℕ → Type 0
@@ -99,22 +100,22 @@ abbrev pub exit_act : Act
 exit_act = Exit
 
 -- the commands that end the run: in the main procedure a RETURN is one of them
-abbrev pub is_end : Act → Bool
-is_end Return = true
-is_end Quit = true
-is_end Cancel = true
-is_end _ = false
+abbrev pub ends_run : Act → Bool
+ends_run Return = true
+ends_run Quit = true
+ends_run Cancel = true
+ends_run _ = false
 
 mutual
   -- a command in a loop whose LOOP and EXIT lead there, or in none, where these GETs wait
   pub data Laid (f : Laying) : Option Leaps → List Letters → ℕ → Cmd → Way → Type 0 where
-    does : {l : Option Leaps} {gets : List Letters} {a b n : ℕ} {act : Act} → may_stand gets act ≡ true
-        → Does f gets a act b → Laid f l gets a (Single n act) (to b)
-    loops : {t : Leaps} {a b n : ℕ} → Stands f.text a (Flow (Jump t.again)) b
+    does : {l : Option Leaps} {gets : List Letters} {a b n : ℕ} {act : Act} → may_follow_gets gets act ≡ true
+        → ActLaid f gets a act b → Laid f l gets a (Single n act) (to b)
+    loops : {t : Leaps} {a b n : ℕ} → InstrStands f.text a (Flow (Jump t.again)) b
         → Laid f (Some t) [] a (Single n Loop) (stopped b true)
-    exits : {t : Leaps} {a b n : ℕ} → Stands f.text a (Flow (Jump t.out)) b
+    exits : {t : Leaps} {a b n : ℕ} → InstrStands f.text a (Flow (Jump t.out)) b
         → Laid f (Some t) [] a (Single n Exit) (stopped b false)
-    ends : {l : Option Leaps} {a b n : ℕ} {act : Act} → is_end act ≡ true → Stands f.text a (Flow End) b
+    ends : {l : Option Leaps} {a b n : ℕ} {act : Act} → ends_run act ≡ true → InstrStands f.text a (Flow End) b
         → Laid f l [] a (Single n act) (stopped b false)
     -- IF is a choice of one case
     chosen : {l : Option Leaps} {a n end : ℕ} {e : Tree} {cs : Cmds} {part : Part} {w : Way}
@@ -125,7 +126,7 @@ mutual
         → Tests f a e b m → LaidAll f (Some (record { again = a; out = b })) [] m body w → Goes f w.place w.on a b
         → Laid f l [] a (DoWhile n e body end) (to b)
     scan : {l : Option Leaps} {a top r m b next n end : ℕ} {only_if : Option Tree} {body : Cmds} {w : Way}
-        → Stands f.text a (Moves Top) top → HasRow f top b r → Chooses f r only_if next m
+        → InstrStands f.text a (Moves Top) top → HasRow f top b r → Chooses f r only_if next m
         → LaidAll f (Some (record { again = next; out = b })) [] m body w
         → Meets (w.on || (w.again || is_some only_if)) w.place next
         → Advances f w.place (w.on || (w.again || is_some only_if)) top b
@@ -159,7 +160,7 @@ mutual
 -- END where the end is reached
 abbrev pub Closes : Laying → ℕ → Bool → ℕ → Type 0
 Closes f a false b = b ≡ a
-Closes f a true b = Stands f.text a (Flow End) b
+Closes f a true b = InstrStands f.text a (Flow End) b
 
 abbrev pub has_slot : ℕ → Variable → Bool
 has_slot slot v = v.slot == slot
@@ -181,8 +182,8 @@ abbrev pub AreFilters : Code → List Block → Type 0
 AreFilters code filters = (n : ℕ) (b : Block) → slice_get filters n ≡ Some b → IsFilterBlock code n b
 
 -- commands from the first place on, and END up to this length where their end is reached
-abbrev pub IsWhole : Laying → Cmds → ℕ → Type 0
-IsWhole f cs length = (way : Way) × LaidAll f None [] 0 cs way × Closes f way.place way.on length
+abbrev pub IsLaidWhole : Laying → Cmds → ℕ → Type 0
+IsLaidWhole f cs length = (way : Way) × LaidAll f None [] 0 cs way × Closes f way.place way.on length
 
 -- what is known of a code with these slots of its variables
 abbrev pub laying_of : Code → NamedVariables → List State → List Block → Laying
@@ -204,4 +205,4 @@ pub record IsLaid (code : Code) (names : NamedVariables) (cs : Cmds) : Type 0 wh
   pub slots : slots_differ (values_of names) ≡ true
   pub main : Proc
   pub first : slice_get code.procedures 0 ≡ Some main
-  pub whole : IsWhole (laying_of code names known filters) cs main.length
+  pub whole : IsLaidWhole (laying_of code names known filters) cs main.length

@@ -11,9 +11,9 @@ ghost use Rattle.prg_laid.specs.Commands as spec;
 ghost use Rattle.laid_lines.specs.Layout.{laying};
 ghost use Rattle.prg_laid.specs.declared.way.Leaps.{Leaps as Looped};
 ghost use Rattle.prg_line.specs.Act.{act_of};
-ghost use Rattle.prg_parser.specs.Commands.{Single, If, DoCase, DoWhile, Scan, form_of, command_of, commands_of};
+ghost use Rattle.prg_parser.specs.Commands.{Single, If, DoCase, DoWhile, Scan, form_command, command_of, commands_of};
 ghost use Rattle.prg_parser.specs.Commands.{cases_of, part_of};
-ghost use Rattle.prg_values.specs.Placed.{Stands};
+ghost use Rattle.prg_values.specs.Placed.{InstrStands};
 
 use crate::fault::LayoutFault;
 use crate::way::{Leaps, Way};
@@ -45,7 +45,7 @@ pub struct ChoicePart {
 
 /// The place behind a JUMP to the other place, if one stands at this place.
 fn jumps(l: &Layout, place: usize, to: usize) -> Option<usize>
-    ensures { IfSome result (λ b. Stands (laying l.now).text place (Flow (Jump to)) b) }
+    ensures { IfSome result (λ b. InstrStands (laying l.now).text place (Flow (Jump to)) b) }
 {
     match l.text.instrs.get(place) {
         Some(Instr::Flow(FlowInstr::Jump(there))) if *there as usize == to => Some(place + 1),
@@ -55,7 +55,7 @@ fn jumps(l: &Layout, place: usize, to: usize) -> Option<usize>
 
 /// Where the JUMP at this place leads.
 fn jump_at(l: &Layout, place: usize) -> Option<Test>
-    ensures { IfSome result (λ t. Stands (laying l.now).text place (Flow (Jump t.out)) t.end) }
+    ensures { IfSome result (λ t. InstrStands (laying l.now).text place (Flow (Jump t.out)) t.end) }
 {
     match l.text.instrs.get(place) {
         Some(Instr::Flow(FlowInstr::Jump(there))) => Some(Test {
@@ -68,7 +68,7 @@ fn jump_at(l: &Layout, place: usize) -> Option<Test>
 
 /// Where the JUMPF at this place leads.
 fn fork_at(l: &Layout, place: usize) -> Option<Test>
-    ensures { IfSome result (λ t. Stands (laying l.now).text place (Flow (JumpFalse t.out)) t.end) }
+    ensures { IfSome result (λ t. InstrStands (laying l.now).text place (Flow (JumpFalse t.out)) t.end) }
 {
     match l.text.instrs.get(place) {
         Some(Instr::Flow(FlowInstr::JumpFalse(there))) => Some(Test {
@@ -444,7 +444,7 @@ fn scanned(
 
 #[cycle(laid)]
 fn block(l: &Layout, leaps: Option<Leaps>, place: usize, form: &Form) -> Result<Way, LayoutFault>
-    ensures { IfOk result (λ way. (n : ℕ) → spec.Laid (laying l.now) leaps [] place (form_of form.now n) way) }
+    ensures { IfOk result (λ way. (n : ℕ) → spec.Laid (laying l.now) leaps [] place (form_command form.now n) way) }
 {
     match form {
         Form::Statement(_) => Err(LayoutFault::Otherwise),

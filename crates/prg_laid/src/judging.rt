@@ -17,7 +17,7 @@ use code_items::laws::legal_codes;
 use code_items::{Code, FlowInstr, Instr, Proc, State};
 use code_rules::blocks::{Block, block_at, map_at, start_of};
 use code_rules::flow::flow;
-use laid_lines::{Layout, after};
+use laid_lines::{KnownStates, Layout, after};
 use prg_code::{Names, Variable};
 use prg_parser::Command;
 use prg_values::Finished;
@@ -63,11 +63,11 @@ fn flowing(
 }
 
 /// What is known before each of the first so many places.
-fn known_places(alloc: Global, code: &Code, count: usize) -> Result<Vec<State>, AllocError>
+fn known_places(alloc: Global, code: &Code, count: usize) -> Result<KnownStates, AllocError>
     requires { IsCode code.now }
-    ensures { IfOk result (λ known. spec.AreKnown code.now known.items) }
+    ensures { IfOk result (λ known. spec.AreKnown code.now known) }
 {
-    let mut known = Vec::new(alloc);
+    let mut known = KnownStates::new(alloc);
     let mut incoming = start_of(alloc, code, block_at(code, 0).number)?;
     for place in 0..count {
         let state = settled(alloc, code, place, incoming)?;
@@ -145,7 +145,7 @@ fn is_closed(l: &Layout, way: Way, length: usize) -> bool
 }
 
 fn is_whole(l: &Layout, list: &[Command], length: usize) -> Result<(), LayoutFault>
-    ensures { IfOk result (λ _. spec.IsWhole (laying l.now) (commands_of list.now) length) }
+    ensures { IfOk result (λ _. spec.IsLaidWhole (laying l.now) (commands_of list.now) length) }
 {
     let way = way_of(l, list)?;
     if is_closed(l, way, length) {

@@ -3,9 +3,9 @@ use Rattle.std.proofs.Common.{◌≡◌, ℕ, zero, suc, ◌<◌, ◌⊎◌, inl
 use Rattle.std.specs.Prelude.{◌==◌, ◌&&◌, ◌||◌, nat_le, if◌then◌else◌}
 use Rattle.std.proofs.lemmas.Bool.Decides.{eqb_tells, nat_tests}
 use Rattle.prg_expr.specs.Functions.{is_front, is_cut}
-use Rattle.prg_expr.specs.Lexicon.{Listed}
+use Rattle.prg_expr.specs.Lexicon.{IsOneOf}
 use Rattle.prg_line.specs.declared.verb.Verb.{Verb}
-use Rattle.prg_line.specs.Verbs.{Entry, called, or_else, or_unknown, of_screen, of_variables, of_branches, of_loops, of_calls, of_areas, of_moves, of_changes, all_commands, command_of}
+use Rattle.prg_line.specs.Verbs.{VerbWord, verb_of_table, or_verb, or_unknown, of_screen, of_variables, of_branches, of_loops, of_calls, of_areas, of_moves, of_changes, all_commands, verb_of_word}
 
 bool_tells : (b : Bool) → (b ≡ true) ⊎ (b ≡ false)
 bool_tells true = inl refl
@@ -65,50 +65,50 @@ not_cut s u v p c = elim (bool_tells (is_cut s u)) [
       ])
 ]
 
-abbrev splits_all : List ℕ → List Entry → Bool
+abbrev splits_all : List ℕ → List VerbWord → Bool
 splits_all u [] = true
 splits_all u (y ∷ ys) = splits 4 u y.0 && splits_all u ys
 
-abbrev apart : List Entry → Bool
+abbrev apart : List VerbWord → Bool
 apart [] = true
 apart (x ∷ xs) = splits_all x.0 xs && apart xs
 
-splits_listed : (u : List ℕ) (y : Entry) (ys : List Entry) → splits_all u ys ≡ true → Listed y ys → splits 4 u y.0 ≡ true
+splits_listed : (u : List ℕ) (y : VerbWord) (ys : List VerbWord) → splits_all u ys ≡ true → IsOneOf y ys → splits 4 u y.0 ≡ true
 splits_listed u y [] h i = absurd i
-splits_listed u y (z ∷ ys) h (inl i) = subst (λ (z : Entry). splits 4 u z.0 ≡ true) (sym i) (and_true (splits 4 u z.0) (splits_all u ys) h).0
+splits_listed u y (z ∷ ys) h (inl i) = subst (λ (z : VerbWord). splits 4 u z.0 ≡ true) (sym i) (and_true (splits 4 u z.0) (splits_all u ys) h).0
 splits_listed u y (z ∷ ys) h (inr i) = splits_listed u y ys (and_true (splits 4 u z.0) (splits_all u ys) h).1 i
 
-called_finds : (s : List ℕ) (x : Entry) (table : List Entry) → apart table ≡ true → Listed x table → is_cut s x.0 ≡ true → called table s ≡ Some x.1
+called_finds : (s : List ℕ) (x : VerbWord) (table : List VerbWord) → apart table ≡ true → IsOneOf x table → is_cut s x.0 ≡ true → verb_of_table table s ≡ Some x.1
 called_finds s x [] a i c = absurd i
-called_finds s x (y ∷ ys) a (inl i) c = let d : is_cut s y.0 ≡ true = subst (λ (z : Entry). is_cut s z.0 ≡ true) i c in on_true (is_cut s y.0) (Some y.1) (called ys s) d ∙ ap (λ (z : Entry). Some z.1) (sym i)
+called_finds s x (y ∷ ys) a (inl i) c = let d : is_cut s y.0 ≡ true = subst (λ (z : VerbWord). is_cut s z.0 ≡ true) i c in on_true (is_cut s y.0) (Some y.1) (verb_of_table ys s) d ∙ ap (λ (z : VerbWord). Some z.1) (sym i)
 called_finds s x (y ∷ ys) a (inr i) c =
     let t = and_true (splits_all y.0 ys) (apart ys) a in
-    on_false (is_cut s y.0) (Some y.1) (called ys s) (not_cut s y.0 x.0 (splits_listed y.0 x ys t.0 i) c) ∙ called_finds s x ys t.1 i c
+    on_false (is_cut s y.0) (Some y.1) (verb_of_table ys s) (not_cut s y.0 x.0 (splits_listed y.0 x ys t.0 i) c) ∙ called_finds s x ys t.1 i c
 
-called_append : (s : List ℕ) (t u : List Entry) → called (t ++ u) s ≡ or_else (called t s) (called u s)
+called_append : (s : List ℕ) (t u : List VerbWord) → verb_of_table (t ++ u) s ≡ or_verb (verb_of_table t s) (verb_of_table u s)
 called_append s [] u = refl
 called_append s (x ∷ t) u = elim (bool_tells (is_cut s x.0)) [
-  | inl y ↦ on_true (is_cut s x.0) _ _ y ∙ ap (λ (o : Option Verb). or_else o (called u s)) (sym (on_true (is_cut s x.0) (Some x.1) (called t s) y))
-  | inr n ↦ on_false (is_cut s x.0) _ _ n ∙ called_append s t u ∙ ap (λ (o : Option Verb). or_else o (called u s)) (sym (on_false (is_cut s x.0) (Some x.1) (called t s) n))
+  | inl y ↦ on_true (is_cut s x.0) _ _ y ∙ ap (λ (o : Option Verb). or_verb o (verb_of_table u s)) (sym (on_true (is_cut s x.0) (Some x.1) (verb_of_table t s) y))
+  | inr n ↦ on_false (is_cut s x.0) _ _ n ∙ called_append s t u ∙ ap (λ (o : Option Verb). or_verb o (verb_of_table u s)) (sym (on_false (is_cut s x.0) (Some x.1) (verb_of_table t s) n))
 ]
 
-begun_all : (s : List ℕ) → or_unknown (called all_commands s) ≡ command_of s
-unfolding command_of
+begun_all : (s : List ℕ) → or_unknown (verb_of_table all_commands s) ≡ verb_of_word s
+unfolding verb_of_word
 begun_all s =
-    let moves : List Entry = of_moves ++ of_changes in
-    let areas : List Entry = of_areas ++ moves in
-    let calls : List Entry = of_calls ++ areas in
-    let loops : List Entry = of_loops ++ calls in
-    let branches : List Entry = of_branches ++ loops in
-    let variables : List Entry = of_variables ++ branches in
-    ap or_unknown (called_append s of_screen variables ∙ ap (or_else (called of_screen s)) (called_append s of_variables branches ∙ ap (or_else (called of_variables s)) (called_append s of_branches loops ∙ ap (or_else (called of_branches s))
-    (called_append s of_loops calls ∙ ap (or_else (called of_loops s)) (called_append s of_calls areas ∙ ap (or_else (called of_calls s)) (called_append s of_areas moves ∙ ap (or_else (called of_areas s)) (called_append s of_moves of_changes)))))))
+    let moves : List VerbWord = of_moves ++ of_changes in
+    let areas : List VerbWord = of_areas ++ moves in
+    let calls : List VerbWord = of_calls ++ areas in
+    let loops : List VerbWord = of_loops ++ calls in
+    let branches : List VerbWord = of_branches ++ loops in
+    let variables : List VerbWord = of_variables ++ branches in
+    ap or_unknown (called_append s of_screen variables ∙ ap (or_verb (verb_of_table of_screen s)) (called_append s of_variables branches ∙ ap (or_verb (verb_of_table of_variables s)) (called_append s of_branches loops ∙ ap (or_verb (verb_of_table of_branches s))
+    (called_append s of_loops calls ∙ ap (or_verb (verb_of_table of_loops s)) (called_append s of_calls areas ∙ ap (or_verb (verb_of_table of_calls s)) (called_append s of_areas moves ∙ ap (or_verb (verb_of_table of_areas s)) (called_append s of_moves of_changes)))))))
 
 all_apart : apart all_commands ≡ true
 unfolding splits
 all_apart = refl
 
-pub begins : (s : List ℕ) (x : Entry) → Listed x all_commands → is_cut s x.0 ≡ true → command_of s ≡ x.1
+pub begins : (s : List ℕ) (x : VerbWord) → IsOneOf x all_commands → is_cut s x.0 ≡ true → verb_of_word s ≡ x.1
 begins s x i c = sym (begun_all s) ∙ ap or_unknown (called_finds s x all_commands all_apart i c)
 
 -- no command begins as a comment does
@@ -117,5 +117,5 @@ no_note_all : splits_all (codes "NOTE") all_commands ≡ true
 unfolding splits
 no_note_all = refl
 
-pub no_note : (s : List ℕ) (x : Entry) → Listed x all_commands → is_cut s x.0 ≡ true → is_cut s (codes "NOTE") ≡ false
+pub no_note : (s : List ℕ) (x : VerbWord) → IsOneOf x all_commands → is_cut s x.0 ≡ true → is_cut s (codes "NOTE") ≡ false
 no_note s x i c = not_cut s (codes "NOTE") x.0 (splits_listed (codes "NOTE") x all_commands no_note_all i) c

@@ -4,9 +4,9 @@ use Rattle.std.specs.Prelude.{if◌then◌else◌, ◌&&◌, ◌||◌, nat_le}
 use Rattle.std.proofs.lemmas.Bool.{le-leb}
 use Rattle.std.proofs.lemmas.List.{length-append}
 use Rattle.fixed_num.specs.Number.{Number as Decimal}
-use Rattle.prg_expr.specs.declared.tree.Operator.TheVariants.{Equal}
+use Rattle.prg_expr.specs.declared.tree.BinaryOperator.TheVariants.{Equal}
 use Rattle.prg_expr.specs.Grammar.{Spells, Free}
-use Rattle.prg_expr.specs.Reading.{front, reader, stage, chain, comparison, prefixes, operand, wrong}
+use Rattle.prg_expr.specs.Reading.{front, reader, stage, chain, comparison_read, prefixes, operand, wrong_word}
 use Rattle.prg_expr.specs.Tree.{Tree}
 use Rattle.prg_expr.specs.Word.{Word}
 use Rattle.prg_expr.specs.Word as word
@@ -15,9 +15,9 @@ use Rattle.prg_expr.specs.declared.fault.ParseFaultKind.TheVariants as kind
 use Rattle.prg_line.specs.Act.{Act, Letters}
 use Rattle.prg_line.specs.Act as act
 use Rattle.prg_line.specs.Forms as f
-use Rattle.prg_line.specs.Forms.{At, at, Reader, Taken, on_taken, unexpected, is_at, is_at_end, is_nil, is_word_in, ◌>>=◌}
+use Rattle.prg_line.specs.Forms.{At, at, FormReader, WordTaken, on_taken, unexpected, is_at, is_at_end, is_nil, is_word_in, ◌>>=◌}
 use Rattle.prg_line.specs.Commands as c
-use Rattle.prg_line.specs.Commands.{Phrase, Is, Then, Key, Mark, But, Where, Either, Name, Whole, Several, SelectNumber}
+use Rattle.prg_line.specs.Commands.{Phrase, Is, Then, Key, MarkThen, But, Where, Either, Name, Whole, Several, SelectNumber}
 use Rattle.prg_line.proofs.Sound.{ok, fine, failed, taken, apart}
 use Rattle.prg_line.proofs.Full.{Reaches, Full, Ended, Anything, Filled, bind_to, mark_finds, test_to, taken_to, then_full}
 
@@ -86,9 +86,9 @@ comma_there a ws e = ap (f.comma_in a) e ∙ comma_at a ws
 between_there : (a : At) (ws : List Word) → a.words ≡ word.Comma ∷ ws → (b : At) × (f.comma_between a ≡ fine b) × (b.words ≡ ws)
 unfolding f.comma_between
 between_there a ws e =
-    (at ws false, ap (λ (t : Taken). on_taken t (λ b. fine b) (λ b. if is_at_end b then failed kind.Expression else failed (unexpected b))) (comma_there a ws e), refl)
+    (at ws false, ap (λ (t : WordTaken). on_taken t (λ b. fine b) (λ b. if is_at_end b then failed kind.Expression else failed (unexpected b))) (comma_there a ws e), refl)
 
-pub comma_full : {B : Type 0} {r : Reader B} {P : Phrase B} {G : List Word → Type 0} → Full r P G → Full (λ a. f.comma_between a >>= r) (Mark word.Comma P) G
+pub comma_full : {B : Type 0} {r : FormReader B} {P : Phrase B} {G : List Word → Type 0} → Full r P G → Full (λ a. f.comma_between a >>= r) (MarkThen word.Comma P) G
 comma_full {B} {r} {P} {G} behind = record { finds = mark_finds word.Comma f.comma_between r P G between_there behind }
 
 equal_at : (a : At) (ws : List Word) → f.equal_in a (word.Sign Equal ∷ ws) ≡ fine (at ws a.behind)
@@ -98,7 +98,7 @@ equal_at a ws = refl
 equal_there : (a : At) (ws : List Word) → a.words ≡ word.Sign Equal ∷ ws → (b : At) × (f.equal a ≡ fine b) × (b.words ≡ ws)
 equal_there a ws e = (at ws a.behind, ap (f.equal_in a) e ∙ equal_at a ws, refl)
 
-pub equal_full : {B : Type 0} {r : Reader B} {P : Phrase B} {G : List Word → Type 0} → Full r P G → Full (λ a. f.equal a >>= r) (Mark (word.Sign Equal) P) G
+pub equal_full : {B : Type 0} {r : FormReader B} {P : Phrase B} {G : List Word → Type 0} → Full r P G → Full (λ a. f.equal a >>= r) (MarkThen (word.Sign Equal) P) G
 equal_full {B} {r} {P} {G} behind = record { finds = mark_finds (word.Sign Equal) f.equal r P G equal_there behind }
 
 -- lists
@@ -126,7 +126,7 @@ comma_absent a (word.Outside m ∷ ws) h = refl
 abbrev pub Behind : (List Word → Type 0) → List Word → Type 0
 Behind F rest = F rest × NoComma rest
 
-module _ {A : Type 0} (read : Reader A) (P : Phrase A) (F : List Word → Type 0) (first : Full read P F) (at_comma : (ws : List Word) → F (word.Comma ∷ ws)) where
+module _ {A : Type 0} (read : FormReader A) (P : Phrase A) (F : List Word → Type 0) (first : Full read P F) (at_comma : (ws : List Word) → F (word.Comma ∷ ws)) where
   more_ends : (n : ℕ) (found : List A) (a : At) (rest : List Word) → a.words ≡ rest → NoComma rest → Reaches (f.more read (suc n) found) a found rest
   unfolding f.more
   more_ends n found a rest w free =
@@ -158,8 +158,8 @@ module _ {A : Type 0} (read : Reader A) (P : Phrase A) (F : List Word → Type 0
       (more_goes n found ((found ++ x ∷ []) ++ xs) a (at (aw ++ (word.Comma ∷ (bw ++ rest))) false) t.place x rest (comma_there a (aw ++ (word.Comma ∷ (bw ++ rest))) w') t.reads
       (more_finds {xs = xs} {ws = bw} s n (found ++ x ∷ []) t.place rest (omega (arith, lt, size, ap length t.left)) t.left g))
 
-  several_finds : (a : At) (all : List A) (ws rest : List Word) → Several P all ws → a.words ≡ ws ++ rest → Behind F rest → Reaches (f.several read) a all rest
-  unfolding f.several
+  several_finds : (a : At) (all : List A) (ws rest : List Word) → Several P all ws → a.words ≡ ws ++ rest → Behind F rest → Reaches (f.several_forms read) a all rest
+  unfolding f.several_forms
   several_finds a all ws rest (c.last {x = x} {ws = ws'} p) w g =
       let t = first.finds a x ws rest p w g.0 in
       let m = more_ends (length t.place.words) (x ∷ []) t.place rest t.left g.1 in
@@ -169,13 +169,13 @@ module _ {A : Type 0} (read : Reader A) (P : Phrase A) (F : List Word → Type 0
       let m = more_finds {xs = xs} {ws = bw} s (suc (length t.place.words)) (x ∷ []) t.place rest (omega arith) t.left g in
       record { place = m.place; reads = bind_to (read a) (λ y. f.more read (suc (length y.1.words)) (y.0 ∷ []) y.1) (x, t.place) (x ∷ xs, m.place) t.reads m.reads; left = m.left }
 
-  pub several_full : Full (f.several read) (Several P) (Behind F)
+  pub several_full : Full (f.several_forms read) (Several P) (Behind F)
   several_full = record { finds = several_finds }
 
 -- what begins with an expression or a name isn't empty
 
 front_nothing : front [] ≡ Err kind.Expression
-unfolding reader stage chain comparison prefixes operand wrong
+unfolding reader stage chain comparison_read prefixes operand wrong_word
 front_nothing = refl
 
 abbrev bad : ParseFaultKind → Result (Tree × List Word) ParseFaultKind
@@ -245,7 +245,7 @@ same_begins {B} {x} {F} = record { begins = λ y front rest q g. subst F (sym (a
 pub key_begins : {B : Type 0} (whole : List ℕ) {P : Phrase B} {F G : List Word → Type 0} → Open F → Begins (Key whole P) G F
 key_begins whole {P} {F} {G} o = record { begins = λ y front rest q g. subst F (sym (ap (λ (l : List Word). l ++ rest) q.4)) (o.name q.0 (q.1 ++ rest)) }
 
-pub comma_begins : {B : Type 0} {P : Phrase B} {G : List Word → Type 0} → Begins (Mark word.Comma P) G (Free 7)
+pub comma_begins : {B : Type 0} {P : Phrase B} {G : List Word → Type 0} → Begins (MarkThen word.Comma P) G (Free 7)
 comma_begins {B} {P} {G} = record { begins = λ y front rest q g. subst (Free 7) (sym (ap (λ (l : List Word). l ++ rest) q.2)) tt }
 
 one_begins : {B : Type 0} (whole : List ℕ) (P Q : Phrase B) (F G : List Word → Type 0) → Open F → Begins Q G F → (y : B) (front rest : List Word) → Where whole P Q y front → G rest → F (front ++ rest)
@@ -256,7 +256,7 @@ pub where_begins : {B : Type 0} (whole : List ℕ) {P Q : Phrase B} {F G : List 
 where_begins whole {P} {Q} {F} {G} o b = record { begins = one_begins whole P Q F G o b }
 
 -- one phrase and then another
-pub both_full : {A B : Type 0} {r : Reader A} {f : A → Reader B} {P : Phrase A} {Q : A → Phrase B} {F G : List Word → Type 0} → Full r P F → ((x : A) → Full (f x) (Q x) G)
+pub both_full : {A B : Type 0} {r : FormReader A} {f : A → FormReader B} {P : Phrase A} {Q : A → Phrase B} {F G : List Word → Type 0} → Full r P F → ((x : A) → Full (f x) (Q x) G)
     → ((x : A) → Begins (Q x) G F) → Full (λ a. r a >>= λ x. f x.0 x.1) (Then P Q) G
 both_full first second b = then_full first second (λ x. (b x).begins)
 
@@ -279,7 +279,7 @@ stops : (a : At) (rest : List Word) → a.words ≡ rest → BehindPrompt rest �
 stops a rest w (inl n) = or_right (is_at (codes "TO") a) (is_at_end a) (ap is_nil (w ∙ n))
 stops a rest w (inr t) = or_left (is_at (codes "TO") a) (is_at_end a) (ap (is_word_in (codes "TO")) w ∙ t)
 
-prompt_finds : (r : Reader (Option Tree)) (P : Phrase (Option Tree)) → Filled P → Full r P BehindPrompt → (a : At) (y : Option Tree) (front rest : List Word) → Either (Is None) (But (codes "TO") P) y front → a.words ≡ front ++ rest
+prompt_finds : (r : FormReader (Option Tree)) (P : Phrase (Option Tree)) → Filled P → Full r P BehindPrompt → (a : At) (y : Option Tree) (front rest : List Word) → Either (Is None) (But (codes "TO") P) y front → a.words ≡ front ++ rest
     → BehindPrompt rest → Reaches (λ a. if is_at (codes "TO") a || is_at_end a then ok None a else r a) a y rest
 prompt_finds r P some first a y front rest (inl (e, n)) w g =
     let here = w ∙ ap (λ (l : List Word). l ++ rest) n in
@@ -294,7 +294,7 @@ prompt_finds r P some first a y (v ∷ front) rest (inr (h, p)) w g =
       left = t.left;
     }
 
-pub prompted : {r : Reader (Option Tree)} {P : Phrase (Option Tree)} → Filled P → Full r P BehindPrompt
+pub prompted : {r : FormReader (Option Tree)} {P : Phrase (Option Tree)} → Filled P → Full r P BehindPrompt
     → Full (λ a. if is_at (codes "TO") a || is_at_end a then ok None a else r a) (Either (Is None) (But (codes "TO") P)) BehindPrompt
 prompted {r} {P} some first = record { finds = prompt_finds r P some first }
 
@@ -331,7 +331,7 @@ to_or_end {B} {P} {x} = record { begins = either_to P x }
 
 -- a number or a name
 
-choice_finds : (r s : Reader Act) (P : ℕ → Phrase Act) (Q : Letters → Phrase Act) → Full r (Then Whole P) Ended → Full s (Then Name Q) Ended → (a : At) (y : Act) (front rest : List Word)
+choice_finds : (r s : FormReader Act) (P : ℕ → Phrase Act) (Q : Letters → Phrase Act) → Full r (Then Whole P) Ended → Full s (Then Name Q) Ended → (a : At) (y : Act) (front rest : List Word)
     → Either (Then Whole P) (Then Name Q) y front → a.words ≡ front ++ rest → Ended rest → Reaches (λ a. if f.is_at_number a then r a else s a) a y rest
 choice_finds r s P Q first second a y front rest (inl p) w g =
     let t = first.finds a y front rest p w g in
@@ -342,7 +342,7 @@ choice_finds r s P Q first second a y front rest (inr p) w g =
     let there = w ∙ ap (λ (l : List Word). l ++ rest) (p.5 ∙ ap (λ (l : List Word). l ++ p.2) p.3.2) in
     record { place = t.place; reads = test_to (f.is_at_number a) false (r a) (s a) (fine (y, t.place)) (ap f.is_number there) t.reads; left = t.left }
 
-pub choice_full : {r s : Reader Act} {P : ℕ → Phrase Act} {Q : Letters → Phrase Act} → Full r (Then Whole P) Ended → Full s (Then Name Q) Ended
+pub choice_full : {r s : FormReader Act} {P : ℕ → Phrase Act} {Q : Letters → Phrase Act} → Full r (Then Whole P) Ended → Full s (Then Name Q) Ended
     → Full (λ a. if f.is_at_number a then r a else s a) (Either (Then Whole P) (Then Name Q)) Ended
 choice_full {r} {s} {P} {Q} first second = record { finds = choice_finds r s P Q first second }
 

@@ -4,7 +4,7 @@ use Rattle.std.specs.Prelude.{if◌then◌else◌, nat_le, ◌&&◌, ◌||◌}
 use Rattle.std.proofs.lemmas.Bool.{leb-true}
 use Rattle.std.proofs.lemmas.List.{append-nil}
 use Rattle.fixed_num.specs.Number.{Number as Decimal}
-use Rattle.prg_expr.specs.declared.tree.Operator.TheVariants.{Or, And, Equal, NotEqual, Less, Greater, AtMost, AtLeast, Contains, Plus, Minus, Times, Over}
+use Rattle.prg_expr.specs.declared.tree.BinaryOperator.TheVariants.{Or, And, Equal, NotEqual, Less, Greater, AtMost, AtLeast, Contains, Plus, Minus, Times, Over}
 use Rattle.prg_expr.specs.Grammar.{Spells}
 use Rattle.prg_expr.specs.Reading.{front}
 use Rattle.prg_expr.specs.Spelling.{InFront}
@@ -16,9 +16,9 @@ use Rattle.prg_expr.specs.declared.fault.ParseFaultKind.TheVariants as kind
 use Rattle.prg_line.specs.Act.{Act, Letters}
 use Rattle.prg_line.specs.Act as act
 use Rattle.prg_line.specs.Forms as f
-use Rattle.prg_line.specs.Forms.{At, at, Reader, Taken, on_taken, unexpected, is_at, is_at_end, is_nil, is_it, is_word_in, ◌>>=◌}
+use Rattle.prg_line.specs.Forms.{At, at, FormReader, WordTaken, on_taken, unexpected, is_at, is_at_end, is_nil, is_it, is_word_in, ◌>>=◌}
 use Rattle.prg_line.specs.Commands as c
-use Rattle.prg_line.specs.Commands.{Phrase, Is, Then, Mark, But, Either, Name, Whole, Several, Expressions, Names, Prompt, SelectNumber}
+use Rattle.prg_line.specs.Commands.{Phrase, Is, Then, MarkThen, But, Either, Name, Whole, Several, Expressions, Names, Prompt, SelectNumber}
 use Rattle.prg_line.proofs.Sound.{Sound, Front, ok, fine, failed, taken, not_ok, ok_same, bind_ok, same_said, same_place, same_words, but_front, is_sound, mark_sound, apart, not-taken, not-left, same-taken}
 
 -- that reading finds what words spell, which the crate of expressions proves
@@ -133,7 +133,7 @@ between_in : (a d : At) → f.comma_between a ≡ Ok d → a.words ≡ word.Comm
 unfolding f.comma_between
 between_in a d h = between_took (f.comma a).0 a (f.comma a).1 d refl h
 
-pub comma_sound : {B : Type 0} {r : Reader B} {P : Phrase B} → Sound r P → Sound (λ a. f.comma_between a >>= r) (Mark word.Comma P)
+pub comma_sound : {B : Type 0} {r : FormReader B} {P : Phrase B} → Sound r P → Sound (λ a. f.comma_between a >>= r) (MarkThen word.Comma P)
 comma_sound {B} {r} {P} behind = mark_sound word.Comma f.comma_between between_in behind
 
 equal_in : (a : At) (ws : List Word) (d : At) → f.equal_in a ws ≡ Ok d → ws ≡ word.Sign Equal ∷ d.words
@@ -163,7 +163,7 @@ equal_in a (word.Sign Minus ∷ ws) d h = absurd (not_ok _ d h)
 equal_in a (word.Sign Times ∷ ws) d h = absurd (not_ok _ d h)
 equal_in a (word.Sign Over ∷ ws) d h = absurd (not_ok _ d h)
 
-pub equal_sound : {B : Type 0} {r : Reader B} {P : Phrase B} → Sound r P → Sound (λ a. f.equal a >>= r) (Mark (word.Sign Equal) P)
+pub equal_sound : {B : Type 0} {r : FormReader B} {P : Phrase B} → Sound r P → Sound (λ a. f.equal a >>= r) (MarkThen (word.Sign Equal) P)
 equal_sound {B} {r} {P} behind = mark_sound (word.Sign Equal) f.equal (λ a d h. equal_in a a.words d h) behind
 
 -- lists
@@ -211,17 +211,17 @@ more_goes P found x a b c all d e p m =
     }
 
 -- what reading on finds, where the next turn is known to find it
-abbrev Turn : {A : Type 0} (one : Reader A) (P : Phrase A) (n : ℕ) → Type 0
+abbrev Turn : {A : Type 0} (one : FormReader A) (P : Phrase A) (n : ℕ) → Type 0
 Turn {A} one P n = (found : List A) (a : At) (all : List A) (d : At) → f.more one n found a ≡ Ok (all, d) → MoreRead P found a.words all d.words
 
-turn_by : {A : Type 0} (one : Reader A) (P : Phrase A) → Sound one P → (n : ℕ) → Turn one P n → (found : List A) (a : At) (all : List A) (d : At) (x : Bool) (b : At)
+turn_by : {A : Type 0} (one : FormReader A) (P : Phrase A) → Sound one P → (n : ℕ) → Turn one P n → (found : List A) (a : At) (all : List A) (d : At) (x : Bool) (b : At)
     → f.comma a ≡ taken x b → on_taken (taken x b) (λ p. one p >>= λ y. f.more one n (found ++ y.0 ∷ []) y.1) (λ p. ok found p) ≡ Ok (all, d) → MoreRead P found a.words all d.words
 turn_by one P first n again found a all d true b t h =
     let y = bind_ok (one b) (λ y. f.more one n (found ++ y.0 ∷ []) y.1) (all, d) h in
     more_goes P found y.0.0 a b y.0.1 all d (comma_took a a.words b t) (first.reads b y.0.0 y.0.1 y.1) (again (found ++ y.0.0 ∷ []) y.0.1 all d y.2)
 turn_by one P first n again found a all d false b t h = more_stops P found a b all d (comma_stood a a.words b t) h
 
-more_front : {A : Type 0} (one : Reader A) (P : Phrase A) → Sound one P → (n : ℕ) (found : List A) (a : At) (all : List A) (d : At) → f.more one n found a ≡ Ok (all, d) → MoreRead P found a.words all d.words
+more_front : {A : Type 0} (one : FormReader A) (P : Phrase A) → Sound one P → (n : ℕ) (found : List A) (a : At) (all : List A) (d : At) → f.more one n found a ≡ Ok (all, d) → MoreRead P found a.words all d.words
 unfolding f.more
 more_front one P first zero found a all d h = absurd (not_ok kind.Word (all, d) h)
 more_front one P first (suc n) found a all d h = turn_by one P first n (more_front one P first n) found a all d (f.comma a).0 (f.comma a).1 refl h
@@ -230,8 +230,8 @@ several_of : {A : Type 0} (P : Phrase A) (x : A) (aw : List Word) → P x aw →
 several_of P x aw p none = subst (λ (l : List Word). Several P (x ∷ []) l) (sym (append-nil aw)) (c.last p)
 several_of P x aw p (further {x = y} {xs = ys} {aw = cw} {bw = dw} q b) = c.next p (several_of P y cw q b)
 
-several_front : {A : Type 0} (one : Reader A) (P : Phrase A) → Sound one P → (a : At) (all : List A) (d : At) → f.several one a ≡ Ok (all, d) → Front (Several P all) a.words d.words
-unfolding f.several
+several_front : {A : Type 0} (one : FormReader A) (P : Phrase A) → Sound one P → (a : At) (all : List A) (d : At) → f.several_forms one a ≡ Ok (all, d) → Front (Several P all) a.words d.words
+unfolding f.several_forms
 several_front one P first a all d h =
     let y = bind_ok (one a) (λ y. f.more one (suc (length y.1.words)) (y.0 ∷ []) y.1) (all, d) h in
     let p = first.reads a y.0.0 y.0.1 y.1 in
@@ -242,24 +242,24 @@ several_front one P first a all d h =
       splits = p.splits ∙ ap (λ (l : List Word). p.front ++ l) m.splits ∙ sym (append_assoc p.front m.front d.words);
     }
 
-pub several_sound : {A : Type 0} {one : Reader A} {P : Phrase A} → Sound one P → Sound (f.several one) (Several P)
+pub several_sound : {A : Type 0} {one : FormReader A} {P : Phrase A} → Sound one P → Sound (f.several_forms one) (Several P)
 several_sound {A} {one} {P} first = record { reads = several_front one P first }
 
 -- a phrase that doesn't begin with a word
 
-refused_front : {B : Type 0} (whole : List ℕ) (r : Reader B) (P : Phrase B) → Sound r P → (x : Bool) (a : At) → is_word_in whole a.words ≡ x → (y : B) (d : At)
+refused_front : {B : Type 0} (whole : List ℕ) (r : FormReader B) (P : Phrase B) → Sound r P → (x : Bool) (a : At) → is_word_in whole a.words ≡ x → (y : B) (d : At)
     → (if x then failed kind.Word else r a) ≡ Ok (y, d) → Front (But whole P y) a.words d.words
 refused_front whole r P first true a n y d h = absurd (not_ok kind.Word (y, d) h)
 refused_front whole r P first false a n y d h = but_front whole P y a.words d.words n (first.reads a y d h)
 
-pub refused_sound : {B : Type 0} (whole : List ℕ) {r : Reader B} {P : Phrase B} → Sound r P → Sound (λ a. if is_at whole a then Err kind.Word else r a) (But whole P)
+pub refused_sound : {B : Type 0} (whole : List ℕ) {r : FormReader B} {P : Phrase B} → Sound r P → Sound (λ a. if is_at whole a then Err kind.Word else r a) (But whole P)
 refused_sound whole {r} {P} first = record { reads = λ a y d h. refused_front whole r P first (is_at whole a) a refl y d h }
 
 or_neither : (x y : Bool) → (x || y) ≡ false → x ≡ false
 or_neither false y h = refl
 or_neither true y h = h
 
-prompt_front : (r : Reader (Option Tree)) (P : Phrase (Option Tree)) (whole : List ℕ) → Sound r P → (x : Bool) (a : At) → (is_at whole a || is_at_end a) ≡ x → (y : Option Tree) (d : At)
+prompt_front : (r : FormReader (Option Tree)) (P : Phrase (Option Tree)) (whole : List ℕ) → Sound r P → (x : Bool) (a : At) → (is_at whole a || is_at_end a) ≡ x → (y : Option Tree) (d : At)
     → (if x then fine (None, a) else r a) ≡ Ok (y, d) → Front (Either (Is None) (But whole P) y) a.words d.words
 prompt_front r P whole first true a n y d h =
     let p = (is_sound None).reads a y d h in record { front = p.front; holds = inl p.holds; splits = p.splits }
@@ -267,6 +267,6 @@ prompt_front r P whole first false a n y d h =
     let p = but_front whole P y a.words d.words (or_neither (is_at whole a) (is_at_end a) n) (first.reads a y d h) in
     record { front = p.front; holds = inr p.holds; splits = p.splits }
 
-pub prompt_sound : {r : Reader (Option Tree)} {P : Phrase (Option Tree)} (whole : List ℕ) → Sound r P
+pub prompt_sound : {r : FormReader (Option Tree)} {P : Phrase (Option Tree)} (whole : List ℕ) → Sound r P
     → Sound (λ a. if is_at whole a || is_at_end a then Ok (None, a) else r a) (Either (Is None) (But whole P))
 prompt_sound {r} {P} whole first = record { reads = λ a y d h. prompt_front r P whole first (is_at whole a || is_at_end a) a refl y d h }

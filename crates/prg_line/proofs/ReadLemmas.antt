@@ -11,10 +11,10 @@ use Rattle.prg_expr.specs.declared.fault.ParseFaultKind.TheVariants.{TooLong}
 use Rattle.prg_line.specs.declared.verb.Verb.{Verb}
 use Rattle.prg_line.specs.Commands.{Says}
 use Rattle.prg_line.specs.Forms.{At, at, sentence}
-use Rattle.prg_line.specs.LineSays.{Faultless, Counts, LineSays, begun}
-use Rattle.prg_line.specs.OneLine.{form, fault_in, saying_in, found_in, role_at, fault_at, saying_at, word_fault}
+use Rattle.prg_line.specs.LineSays.{Faultless, Counts, LineSays, verb_begun}
+use Rattle.prg_line.specs.OneLine.{form, saying_fault, saying_in, found_in, role_at, fault_at, saying_at, word_fault}
 use Rattle.prg_line.specs.Saying.{Saying, role_of}
-use Rattle.prg_line.specs.Verbs.{Found, ignores_rest, has_expressions}
+use Rattle.prg_line.specs.Verbs.{FoundVerb, ignores_rest, has_expressions}
 use Rattle.prg_line.proofs.PartsFull.{FoundLaw}
 use Rattle.prg_line.proofs.PartsSound.{Law}
 use Rattle.prg_line.proofs.SaysFull.{says_full}
@@ -88,15 +88,15 @@ form_read : (v : Verb) (a : At) (s : Saying) (x : Bool) → (if x then failed To
 form_read v a s true h = absurd (not_ok TooLong s h)
 form_read v a s false h = h
 
-form_in : (n : ℕ) (f : Found) (s : Saying) → form n f ≡ fine s → sentence f.0 (at f.1 false) ≡ fine s
+form_in : (n : ℕ) (f : FoundVerb) (s : Saying) → form n f ≡ fine s → sentence f.0 (at f.1 false) ≡ fine s
 unfolding form
 form_in n f s h = form_read f.0 (at f.1 false) s (has_expressions f.0 && nat_lt 4096 n) h
 
-formed : (r : Result Saying ParseFaultKind) → fault_in r ≡ None → r ≡ fine (saying_in r)
+formed : (r : Result Saying ParseFaultKind) → saying_fault r ≡ None → r ≡ fine (saying_in r)
 formed (Ok s) h = refl
 formed (Err k) h = absurd (some_kind k h)
 
-says_form : Law → (n : ℕ) (f : Found) → fault_in (form n f) ≡ None → Says f.0 (saying_in (form n f)) f.1
+says_form : Law → (n : ℕ) (f : FoundVerb) → saying_fault (form n f) ≡ None → Says f.0 (saying_in (form n f)) f.1
 says_form law n f h = says_sound law f.0 (at f.1 false) (saying_in (form n f)) (form_in n f (saying_in (form n f)) (formed (form n f) h))
 
 pub line_says : Law → CutLaw → (text : List ℕ) → fault_at text ≡ None → LineSays (saying_at text) text
@@ -104,13 +104,13 @@ unfolding fault_at saying_at
 line_says law cut text h =
     let spots = scan text in
     let f = found_in spots in
-    let own = own_fault (least (word_fault f.0 spots) (fault_in (form (length (map spot_word (scan text))) f))) (length_fault (length text)) h in
+    let own = own_fault (least (word_fault f.0 spots) (saying_fault (form (length (map spot_word (scan text))) f))) (length_fault (length text)) h in
     record {
       spots = spots;
       are_words = cut text;
-      short = short (length text) (nat_lt 1024 (length text)) refl (no_fault (least (word_fault f.0 spots) (fault_in (form (length (map spot_word (scan text))) f))) (length_fault (length text)) h);
-      counts = counted (ignores_rest f.0) spots (own_fault (word_fault f.0 spots) (fault_in (form (length (map spot_word (scan text))) f)) own);
-      says = says_form law (length (map spot_word (scan text))) f (no_fault (word_fault f.0 spots) (fault_in (form (length (map spot_word (scan text))) f)) own);
+      short = short (length text) (nat_lt 1024 (length text)) refl (no_fault (least (word_fault f.0 spots) (saying_fault (form (length (map spot_word (scan text))) f))) (length_fault (length text)) h);
+      counts = counted (ignores_rest f.0) spots (own_fault (word_fault f.0 spots) (saying_fault (form (length (map spot_word (scan text))) f)) own);
+      says = says_form law (length (map spot_word (scan text))) f (no_fault (word_fault f.0 spots) (saying_fault (form (length (map spot_word (scan text))) f)) own);
     }
 
 pub line_placed : Law → (text : List ℕ) → fault_at text ≡ None → role_at text ≡ role_of (saying_at text)
@@ -118,8 +118,8 @@ unfolding fault_at role_at saying_at
 line_placed law text h =
     let spots = scan text in
     let f = found_in spots in
-    let own = own_fault (least (word_fault f.0 spots) (fault_in (form (length (map spot_word (scan text))) f))) (length_fault (length text)) h in
-    role_agrees f.0 (saying_in (form (length (map spot_word (scan text))) f)) f.1 (says_form law (length (map spot_word (scan text))) f (no_fault (word_fault f.0 spots) (fault_in (form (length (map spot_word (scan text))) f)) own))
+    let own = own_fault (least (word_fault f.0 spots) (saying_fault (form (length (map spot_word (scan text))) f))) (length_fault (length text)) h in
+    role_agrees f.0 (saying_in (form (length (map spot_word (scan text))) f)) f.1 (says_form law (length (map spot_word (scan text))) f (no_fault (word_fault f.0 spots) (saying_fault (form (length (map spot_word (scan text))) f)) own))
 
 -- the other way
 
@@ -138,7 +138,7 @@ counted_to false spots h = faultless_to spots h
 form_read_to : (r : Result Saying ParseFaultKind) (x : Bool) → x ≡ false → (if x then failed TooLong else r) ≡ r
 form_read_to r x e = ap (λ (z : Bool). if z then failed TooLong else r) e
 
-form_to : (n : ℕ) (f : Found) (s : Saying) → n ≤ 1024 → sentence f.0 (at f.1 false) ≡ fine s → form n f ≡ fine s
+form_to : (n : ℕ) (f : FoundVerb) (s : Saying) → n ≤ 1024 → sentence f.0 (at f.1 false) ≡ fine s → form n f ≡ fine s
 unfolding form
 form_to n f s l h = form_read_to (sentence f.0 (at f.1 false)) (has_expressions f.0 && nat_lt 4096 n) (never (has_expressions f.0) (nat_lt 4096 n) (le-ltb 4096 n (omega (arith, l)))) ∙ h
   where
@@ -165,10 +165,10 @@ line_found found cut few one text s l =
     let spots = scan text in
     let f = found_in spots in
     let same : l.spots ≡ spots = one text l.spots spots l.are_words (cut text) in
-    let says = subst (λ (ss : List Spot). Says (begun ss).0 s (begun ss).1) same l.says in
-    let counts = subst (λ (ss : List Spot). Counts (ignores_rest (begun ss).0) ss) same l.counts in
+    let says = subst (λ (ss : List Spot). Says (verb_begun ss).0 s (verb_begun ss).1) same l.says in
+    let counts = subst (λ (ss : List Spot). Counts (ignores_rest (verb_begun ss).0) ss) same l.counts in
     let read : form (length (map spot_word (scan text))) f ≡ fine s = form_to (length (map spot_word (scan text))) f s (few_words text (few text) l.short) (says_full found f.0 (at f.1 false) s says) in (
-      none_of (word_fault f.0 spots) (fault_in (form (length (map spot_word (scan text))) f)) (length_fault (length text)) (counted_to (ignores_rest f.0) spots counts) (ap fault_in read)
+      none_of (word_fault f.0 spots) (saying_fault (form (length (map spot_word (scan text))) f)) (length_fault (length text)) (counted_to (ignores_rest f.0) spots counts) (ap saying_fault read)
           (short_to (nat_lt 1024 (length text)) (le-ltb 1024 (length text) l.short)),
       ap saying_in read,
     )

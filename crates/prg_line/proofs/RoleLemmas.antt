@@ -12,7 +12,7 @@ use Rattle.prg_line.specs.Saying.{Saying, role_of}
 use Rattle.prg_line.specs.Saying as saying
 use Rattle.prg_line.specs.Verbs as verbs
 use Rattle.prg_line.specs.Commands as c
-use Rattle.prg_line.specs.Commands.{Phrase, Is, Then, Key, Mark, Either, But, Where}
+use Rattle.prg_line.specs.Commands.{Phrase, Is, Then, Key, MarkThen, Either, But, Where}
 
 -- a phrase that says no LOOP and no EXIT
 record Plain (P : Phrase Act) : Type 0 where
@@ -30,7 +30,7 @@ then_plain h = record { plain = λ y ws p. (h p.0).plain y p.2 p.4 }
 key_plain : (whole : List ℕ) {P : Phrase Act} → Plain P → Plain (Key whole P)
 key_plain whole h = record { plain = λ y ws p. h.plain y p.1 p.3 }
 
-mark_plain : (w : Word) {P : Phrase Act} → Plain P → Plain (Mark w P)
+mark_plain : (w : Word) {P : Phrase Act} → Plain P → Plain (MarkThen w P)
 mark_plain w h = record { plain = λ y ws p. h.plain y p.0 p.1 }
 
 but_plain : (whole : List ℕ) {P : Phrase Act} → Plain P → Plain (But whole P)

@@ -18,7 +18,7 @@ use Rattle.prg_line.proofs.PartsFull.{FoundLaw, expression_full, name_full, any_
 use Rattle.prg_line.proofs.FormsFull as form
 
 -- what nothing says
-never : {P : Phrase Act} {r : f.Reader Act} → ((y : Act) (ws : List Word) → P y ws → ⊥) → Full r P Ended
+never : {P : Phrase Act} {r : f.FormReader Act} → ((y : Act) (ws : List Word) → P y ws → ⊥) → Full r P Ended
 never h = record { finds = λ a y front rest p w g. absurd (h y front p) }
 
 pub phrase_full : FoundLaw → (v : Verb) → Full (f.phrase v) (c.Longer v) Ended
@@ -81,7 +81,7 @@ statement_full : FoundLaw → (v : Verb) → Full (f.statement v) (c.Command v) 
 unfolding f.statement
 statement_full law v = or_phrase_full law v (f.single v)
 
-whole_full : FoundLaw → (v : Verb) → Full (f.whole v) (c.CommandLine v) Ended
+whole_full : FoundLaw → (v : Verb) → Full (f.whole_line v) (c.CommandLine v) Ended
 whole_full law v = both_full (statement_full law v) (λ s. is_full (saying.Whole s)) (λ s. end_begins)
 
 pub line_full : FoundLaw → (v : Verb) → Full (f.block_line v) (c.Line v) Ended

@@ -76,7 +76,7 @@ statement_sound : Law → (v : Verb) → Sound (f.statement v) (c.Command v)
 unfolding f.statement
 statement_sound law v = or_phrase_sound law v (f.single v)
 
-whole_sound : Law → (v : Verb) → Sound (f.whole v) (c.CommandLine v)
+whole_sound : Law → (v : Verb) → Sound (f.whole_line v) (c.CommandLine v)
 whole_sound law v = then_sound (statement_sound law v) (λ s. is_sound (saying.Whole s))
 
 pub line_sound : Law → (v : Verb) → Sound (f.block_line v) (c.Line v)

@@ -5,8 +5,8 @@ use Rattle.prg_expr.specs.Functions.{is_cut}
 use Rattle.prg_expr.specs.Word.{Word}
 use Rattle.prg_expr.specs.Word as word
 use Rattle.prg_expr.specs.declared.fault.ParseFaultKind.{ParseFaultKind}
-use Rattle.prg_line.specs.Forms.{At, at, Reader, Taken, on_taken, takes, takes_in, is_word_in, clause, unexpected, ◌>>=◌}
-use Rattle.prg_line.specs.Commands.{Phrase, Is, Then, Key, Mark, Either, But, Where}
+use Rattle.prg_line.specs.Forms.{At, at, FormReader, WordTaken, on_taken, takes, takes_in, is_word_in, clause, unexpected, ◌>>=◌}
+use Rattle.prg_line.specs.Commands.{Phrase, Is, Then, Key, MarkThen, Either, But, Where}
 
 -- words in front of a rest that are as they have to be
 pub record Front (P : List Word → Type 0) (ws rest : List Word) : Type 0 where
@@ -15,11 +15,11 @@ pub record Front (P : List Word → Type 0) (ws rest : List Word) : Type 0 where
   pub splits : ws ≡ front ++ rest
 
 -- what a reader answers is said by the words that it read
-pub record Sound {A : Type 0} (r : Reader A) (P : Phrase A) : Type 0 where
+pub record Sound {A : Type 0} (r : FormReader A) (P : Phrase A) : Type 0 where
   pub reads : (a : At) (x : A) (b : At) → r a ≡ Ok (x, b) → Front (P x) a.words b.words
 
 -- what is read without reading on
-abbrev pub ok : {A : Type 0} → A → Reader A
+abbrev pub ok : {A : Type 0} → A → FormReader A
 ok x a = Ok (x, a)
 
 abbrev pub fine : {A : Type 0} → A → Result A ParseFaultKind
@@ -28,7 +28,7 @@ fine x = Ok x
 abbrev pub failed : {A : Type 0} → ParseFaultKind → Result A ParseFaultKind
 failed e = Err e
 
-abbrev pub taken : Bool → At → Taken
+abbrev pub taken : Bool → At → WordTaken
 taken x a = (x, a)
 
 pub not_ok : {B : Type 0} (e : ParseFaultKind) (y : B) → failed e ≡ fine y → ⊥
@@ -52,13 +52,13 @@ pub apart : (false ≡ true) → ⊥
 apart h = cc
 
 pub not-taken : (a b : At) → taken false a ≡ taken true b → ⊥
-not-taken a b h = apart (ap (λ (t : Taken). t.0) h)
+not-taken a b h = apart (ap (λ (t : WordTaken). t.0) h)
 
 pub not-left : (a b : At) → taken true a ≡ taken false b → ⊥
-not-left a b h = apart (sym (ap (λ (t : Taken). t.0) h))
+not-left a b h = apart (sym (ap (λ (t : WordTaken). t.0) h))
 
 pub same-taken : (x : Bool) (a b : At) → taken x a ≡ taken x b → a ≡ b
-same-taken x a b h = ap (λ (t : Taken). t.1) h
+same-taken x a b h = ap (λ (t : WordTaken). t.1) h
 
 pub same_words : (a b : At) → a ≡ b → a.words ≡ b.words
 same_words a b e = ap (λ (p : At). p.words) e
@@ -66,7 +66,7 @@ same_words a b e = ap (λ (p : At). p.words) e
 pub is_sound : {A : Type 0} (x : A) → Sound (ok x) (Is x)
 is_sound x = record { reads = λ a y b h. record { front = []; holds = (sym (same_said x y a b h), refl); splits = same_words a b (same_place x y a b h) } }
 
-then_front : {A B : Type 0} (r : Reader A) (f : A → Reader B) (P : Phrase A) (Q : A → Phrase B) → Sound r P → ((x : A) → Sound (f x) (Q x)) → (a : At) (y : B) (d : At)
+then_front : {A B : Type 0} (r : FormReader A) (f : A → FormReader B) (P : Phrase A) (Q : A → Phrase B) → Sound r P → ((x : A) → Sound (f x) (Q x)) → (a : At) (y : B) (d : At)
     → (r a >>= λ x. f x.0 x.1) ≡ Ok (y, d) → Front (Then P Q y) a.words d.words
 then_front r f P Q first second a y d h =
     let b = bind_ok (r a) (λ x. f x.0 x.1) (y, d) h in
@@ -78,12 +78,12 @@ then_front r f P Q first second a y d h =
       splits = p.splits ∙ ap (λ (l : List Word). p.front ++ l) q.splits ∙ sym (append_assoc p.front q.front d.words);
     }
 
-pub then_sound : {A B : Type 0} {r : Reader A} {f : A → Reader B} {P : Phrase A} {Q : A → Phrase B} → Sound r P → ((x : A) → Sound (f x) (Q x)) → Sound (λ a. r a >>= λ x. f x.0 x.1) (Then P Q)
+pub then_sound : {A B : Type 0} {r : FormReader A} {f : A → FormReader B} {P : Phrase A} {Q : A → Phrase B} → Sound r P → ((x : A) → Sound (f x) (Q x)) → Sound (λ a. r a >>= λ x. f x.0 x.1) (Then P Q)
 then_sound {r} {f} {P} {Q} first second = record { reads = then_front r f P Q first second }
 
 -- a step that reads one word
-mark_front : {B : Type 0} (w : Word) (step : At → Result At ParseFaultKind) (r : Reader B) (P : Phrase B)
-    → ((a b : At) → step a ≡ Ok b → a.words ≡ w ∷ b.words) → Sound r P → (a : At) (y : B) (d : At) → (step a >>= r) ≡ Ok (y, d) → Front (Mark w P y) a.words d.words
+mark_front : {B : Type 0} (w : Word) (step : At → Result At ParseFaultKind) (r : FormReader B) (P : Phrase B)
+    → ((a b : At) → step a ≡ Ok b → a.words ≡ w ∷ b.words) → Sound r P → (a : At) (y : B) (d : At) → (step a >>= r) ≡ Ok (y, d) → Front (MarkThen w P y) a.words d.words
 mark_front w step r P one behind a y d h =
     let b = bind_ok (step a) r (y, d) h in
     let q = behind.reads b.0 y d b.2 in
@@ -145,11 +145,11 @@ either_left P Q y ws rest f = record { front = f.front; holds = inl f.holds; spl
 either_right : {B : Type 0} (P Q : Phrase B) (y : B) (ws rest : List Word) → Front (Q y) ws rest → Front (Either P Q y) ws rest
 either_right P Q y ws rest f = record { front = f.front; holds = inr f.holds; splits = f.splits }
 
-if_front : {B : Type 0} (r s : Reader B) (P Q : Phrase B) → Sound r P → Sound s Q → (x : Bool) (a : At) (y : B) (d : At) → (if x then r a else s a) ≡ Ok (y, d) → Front (Either P Q y) a.words d.words
+if_front : {B : Type 0} (r s : FormReader B) (P Q : Phrase B) → Sound r P → Sound s Q → (x : Bool) (a : At) (y : B) (d : At) → (if x then r a else s a) ≡ Ok (y, d) → Front (Either P Q y) a.words d.words
 if_front r s P Q first second true a y d e = either_left P Q y a.words d.words (first.reads a y d e)
 if_front r s P Q first second false a y d e = either_right P Q y a.words d.words (second.reads a y d e)
 
-pub if_sound : {B : Type 0} (test : At → Bool) {r s : Reader B} {P Q : Phrase B} → Sound r P → Sound s Q → Sound (λ a. if test a then r a else s a) (Either P Q)
+pub if_sound : {B : Type 0} (test : At → Bool) {r s : FormReader B} {P Q : Phrase B} → Sound r P → Sound s Q → Sound (λ a. if test a then r a else s a) (Either P Q)
 if_sound test {r} {s} {P} {Q} first second = record { reads = λ a y d h. if_front r s P Q first second (test a) a y d h }
 
 -- a phrase that doesn't begin with a word
@@ -181,7 +181,7 @@ absent_in whole a b (word.Close ∷ ws) h = refl
 absent_in whole a b (word.Comma ∷ ws) h = refl
 absent_in whole a b (word.Outside m ∷ ws) h = refl
 
-taken_front : {B : Type 0} (whole : List ℕ) (r s : Reader B) (P Q : Phrase B) → Sound r P → Sound s Q → (x : Bool) (a b : At) (y : B) (d : At)
+taken_front : {B : Type 0} (whole : List ℕ) (r s : FormReader B) (P Q : Phrase B) → Sound r P → Sound s Q → (x : Bool) (a b : At) (y : B) (d : At)
     → takes whole a ≡ taken x b → on_taken (taken x b) r s ≡ Ok (y, d) → Front (Where whole P Q y) a.words d.words
 taken_front whole r s P Q first second true a b y d t e =
     either_left (Key whole P) (But whole Q) y a.words d.words (key_front whole P y a.words b.words d.words (took-in whole a b a.words t) (first.reads b y d e))
@@ -190,7 +190,7 @@ taken_front whole r s P Q first second false a b y d t e =
     (but_front whole Q y a.words d.words (absent_in whole a b a.words t)
     (subst (λ (ws : List Word). Front (Q y) ws d.words) (sym (same_words a b (stood-in whole a b a.words t))) (second.reads b y d e)))
 
-pub taken_sound : {B : Type 0} (whole : List ℕ) {r s : Reader B} {P Q : Phrase B} → Sound r P → Sound s Q → Sound (λ a. on_taken (takes whole a) r s) (Where whole P Q)
+pub taken_sound : {B : Type 0} (whole : List ℕ) {r s : FormReader B} {P Q : Phrase B} → Sound r P → Sound s Q → Sound (λ a. on_taken (takes whole a) r s) (Where whole P Q)
 taken_sound whole {r} {s} {P} {Q} first second = record { reads = λ a y d h. taken_front whole r s P Q first second (takes whole a).0 a (takes whole a).1 y d refl h }
 
 -- a word that must stand in front
@@ -203,16 +203,16 @@ clause_in : (whole : List ℕ) (a d : At) → clause whole a ≡ Ok d → Took w
 unfolding clause
 clause_in whole a d h = clause_took whole (takes whole a).0 a (takes whole a).1 d refl h
 
-clause_front : {B : Type 0} (whole : List ℕ) (r : Reader B) (P : Phrase B) → Sound r P → (a : At) (y : B) (d : At) → (clause whole a >>= r) ≡ Ok (y, d) → Front (Key whole P y) a.words d.words
+clause_front : {B : Type 0} (whole : List ℕ) (r : FormReader B) (P : Phrase B) → Sound r P → (a : At) (y : B) (d : At) → (clause whole a >>= r) ≡ Ok (y, d) → Front (Key whole P y) a.words d.words
 clause_front whole r P behind a y d h =
     let b = bind_ok (clause whole a) r (y, d) h in
     key_front whole P y a.words b.0.words d.words (clause_in whole a b.0 b.1) (behind.reads b.0 y d b.2)
 
-pub clause_sound : {B : Type 0} (whole : List ℕ) {r : Reader B} {P : Phrase B} → Sound r P → Sound (λ a. clause whole a >>= r) (Key whole P)
+pub clause_sound : {B : Type 0} (whole : List ℕ) {r : FormReader B} {P : Phrase B} → Sound r P → Sound (λ a. clause whole a >>= r) (Key whole P)
 clause_sound whole {r} {P} behind = record { reads = clause_front whole r P behind }
 
-pub mark_sound : {B : Type 0} (w : Word) (step : At → Result At ParseFaultKind) → ((a b : At) → step a ≡ Ok b → a.words ≡ w ∷ b.words) → {r : Reader B} {P : Phrase B} → Sound r P
-    → Sound (λ a. step a >>= r) (Mark w P)
+pub mark_sound : {B : Type 0} (w : Word) (step : At → Result At ParseFaultKind) → ((a b : At) → step a ≡ Ok b → a.words ≡ w ∷ b.words) → {r : FormReader B} {P : Phrase B} → Sound r P
+    → Sound (λ a. step a >>= r) (MarkThen w P)
 mark_sound w step one {r} {P} behind = record { reads = mark_front w step r P one behind }
 
 -- a reader that refuses all

@@ -74,9 +74,9 @@ pub data Act : Type 0 where
 abbrev pub letters_of : ArrayVec ℕ → Letters
 letters_of name = name.items
 
-abbrev pub area_of : Selected → Area
-area_of (selected.Number n) = Number n
-area_of (selected.Name name) = Named name.items
+abbrev pub area_said : Selected → Area
+area_said (selected.Number n) = Number n
+area_said (selected.Name name) = Named name.items
 
 abbrev pub goal_of : Move → Goal
 goal_of move.Top = Top
@@ -111,7 +111,7 @@ act_of statement.Quit = Quit
 act_of statement.Cancel = Cancel
 act_of statement.Close = Close
 act_of (statement.Use table indexes) = Use table.items (map letters_of indexes.items)
-act_of (statement.Select area) = Select (area_of area)
+act_of (statement.Select area) = Select (area_said area)
 act_of statement.CloseAll = CloseAll
 act_of (statement.SetOrder order) = SetOrder order
 act_of (statement.SetFilter condition) = SetFilter (option_map tree_of condition)

@@ -2,7 +2,7 @@
 -- words.
 use Rattle.std.specs.Prelude.{◌≡◌, ◌≤◌, ◌⊎◌, ℕ, List, [], ◌∷◌, ◌++◌, take, codes, true, false, Option, Some, None, Ok}
 use Rattle.fixed_num.specs.Number.{Number as Decimal}
-use Rattle.prg_expr.specs.declared.tree.Operator.TheVariants.{Equal}
+use Rattle.prg_expr.specs.declared.tree.BinaryOperator.TheVariants.{Equal}
 use Rattle.prg_expr.specs.Functions.{is_cut}
 use Rattle.prg_expr.specs.Grammar.{Spells}
 use Rattle.prg_expr.specs.Tree.{Tree}
@@ -35,8 +35,8 @@ abbrev pub Key : {B : Type 0} → List ℕ → Phrase B → Phrase B
 Key whole P y ws = (s : List ℕ) × (rest : List Word) × (is_cut s whole ≡ true) × P y rest × (ws ≡ word.Name s ∷ rest)
 
 -- a mark, then a phrase
-abbrev pub Mark : {B : Type 0} → Word → Phrase B → Phrase B
-Mark mark P y ws = (rest : List Word) × P y rest × (ws ≡ mark ∷ rest)
+abbrev pub MarkThen : {B : Type 0} → Word → Phrase B → Phrase B
+MarkThen mark P y ws = (rest : List Word) × P y rest × (ws ≡ mark ∷ rest)
 
 -- one phrase or another
 abbrev pub Either : {B : Type 0} → Phrase B → Phrase B → Phrase B
@@ -88,7 +88,7 @@ Say row column =
 
 -- @ row,column and what stands there
 abbrev pub At : Phrase Act
-At = Then Spells (λ row. Mark word.Comma
+At = Then Spells (λ row. MarkThen word.Comma
     (Then Spells (λ column. Where (codes "GET") (Then Name (λ v. Is (act.Get row column v))) (Say row column))))
 
 -- a text to be shown; TO is never its first word
@@ -102,7 +102,7 @@ abbrev pub Wait : Phrase Act
 Wait = Then Prompt (λ p. Where (codes "TO") (Then Name (λ v. Is (act.Wait p (Some v)))) (Is (act.Wait p None)))
 
 abbrev pub Assign : Phrase Act
-Assign = Then Name (λ v. Mark (word.Sign Equal) (Then Spells (λ e. Is (act.Assign v e))))
+Assign = Then Name (λ v. MarkThen (word.Sign Equal) (Then Spells (λ e. Is (act.Assign v e))))
 
 abbrev pub Store : Phrase Act
 Store = Then Spells (λ e. Key (codes "TO") (Then Names (λ vs. Is (act.Store e vs))))

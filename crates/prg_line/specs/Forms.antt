@@ -2,7 +2,7 @@
 use Rattle.std.specs.Prelude.{ℕ, zero, suc, List, [], ◌∷◌, ◌++◌, length, take, codes, Bool, true, false, ◌&&◌, ◌||◌}
 use Rattle.std.specs.Prelude.{nat_lt, nat_le, Option, Some, None, Result, Ok, Err, if◌then◌else◌, unsigned_abs, ◌==◌}
 use Rattle.fixed_num.specs.Number.{Number as Decimal, asterisk, finite}
-use Rattle.prg_expr.specs.declared.tree.Operator.TheVariants.{Equal}
+use Rattle.prg_expr.specs.declared.tree.BinaryOperator.TheVariants.{Equal}
 use Rattle.prg_expr.specs.Functions.{is_cut}
 use Rattle.prg_expr.specs.Reading.{front}
 use Rattle.prg_expr.specs.Tree.{Tree}
@@ -28,11 +28,11 @@ abbrev pub at : List Word → Bool → At
 at ws b = record { words = ws; behind = b }
 
 -- what was read, and where reading goes on
-abbrev pub Read : Type 0 → Type 0
-Read A = Result (A × At) ParseFaultKind
+abbrev pub FormRead : Type 0 → Type 0
+FormRead A = Result (A × At) ParseFaultKind
 
-abbrev pub Reader : Type 0 → Type 0
-Reader A = At → Read A
+abbrev pub FormReader : Type 0 → Type 0
+FormReader A = At → FormRead A
 
 infixl 10 ◌>>=◌
 abbrev pub ◌>>=◌ : {A B : Type 0} → Result A ParseFaultKind → (A → Result B ParseFaultKind) → Result B ParseFaultKind
@@ -63,14 +63,14 @@ no_constant (word.Outside word.Macro ∷ ws) = kind.Macro
 no_constant ws = kind.Word
 
 -- the longest expression at the front
-unfoldable pub expression : Reader Tree
+unfoldable pub expression : FormReader Tree
 expression a = front a.words >>= λ x. Ok (x.0, at x.1 true)
 
-unfoldable pub name_in : List Word → Read Letters
+unfoldable pub name_in : List Word → FormRead Letters
 name_in (word.Name s ∷ ws) = Ok (take 10 s, at ws false)
 name_in ws = Err (no_constant ws)
 
-abbrev pub name : Reader Letters
+abbrev pub name : FormReader Letters
 name a = name_in a.words
 
 -- a number that is whole and below 2^16 (the number of a word has no sign)
@@ -78,11 +78,11 @@ abbrev pub whole_of : Decimal → Result ℕ ParseFaultKind
 whole_of asterisk = Err kind.Word
 whole_of (finite m d) = if d == 0 && nat_lt (unsigned_abs m) 65536 then Ok (unsigned_abs m) else Err kind.Word
 
-unfoldable pub whole_number_in : List Word → Read ℕ
+unfoldable pub whole_number_in : List Word → FormRead ℕ
 whole_number_in (word.Number n ∷ ws) = whole_of n >>= λ k. Ok (k, at ws false)
 whole_number_in ws = Err (no_constant ws)
 
-abbrev pub whole_number : Reader ℕ
+abbrev pub whole_number : FormReader ℕ
 whole_number a = whole_number_in a.words
 
 abbrev pub is_number : List Word → Bool
@@ -93,41 +93,41 @@ abbrev pub is_at_number : At → Bool
 is_at_number a = is_number a.words
 
 abbrev pub is_it : List ℕ → Word → Bool
-is_it whole (word.Name s) = is_cut s whole
-is_it whole w = false
+is_it whole_line (word.Name s) = is_cut s whole_line
+is_it whole_line w = false
 
 -- whether the first word is this one of the command, perhaps cut
 abbrev pub is_word_in : List ℕ → List Word → Bool
-is_word_in whole [] = false
-is_word_in whole (w ∷ ws) = is_it whole w
+is_word_in whole_line [] = false
+is_word_in whole_line (w ∷ ws) = is_it whole_line w
 
 abbrev pub is_at : List ℕ → At → Bool
-is_at whole a = is_word_in whole a.words
+is_at whole_line a = is_word_in whole_line a.words
 
 -- whether a word was there, and where reading goes on
-abbrev pub Taken : Type 0
-Taken = Bool × At
+abbrev pub WordTaken : Type 0
+WordTaken = Bool × At
 
-unfoldable pub takes_in : List ℕ → At → List Word → Taken
-takes_in whole a (word.Name s ∷ ws) = if is_cut s whole then (true, at ws false) else (false, a)
-takes_in whole a ws = (false, a)
+unfoldable pub takes_in : List ℕ → At → List Word → WordTaken
+takes_in whole_line a (word.Name s ∷ ws) = if is_cut s whole_line then (true, at ws false) else (false, a)
+takes_in whole_line a ws = (false, a)
 
 -- a word of the command, if it stands in front
-abbrev pub takes : List ℕ → At → Taken
-takes whole a = takes_in whole a a.words
+abbrev pub takes : List ℕ → At → WordTaken
+takes whole_line a = takes_in whole_line a a.words
 
-abbrev pub on_taken : {B : Type 0} → Taken → (At → B) → (At → B) → B
+abbrev pub on_taken : {B : Type 0} → WordTaken → (At → B) → (At → B) → B
 on_taken t there absent = if t.0 then there t.1 else absent t.1
 
 -- a word of the command, which must stand in front
 unfoldable pub clause : List ℕ → At → Result At ParseFaultKind
-clause whole a = on_taken (takes whole a) (λ b. Ok b) (λ b. Err (unexpected b))
+clause whole_line a = on_taken (takes whole_line a) (λ b. Ok b) (λ b. Err (unexpected b))
 
-unfoldable pub comma_in : At → List Word → Taken
+unfoldable pub comma_in : At → List Word → WordTaken
 comma_in a (word.Comma ∷ ws) = (true, at ws false)
 comma_in a ws = (false, a)
 
-abbrev pub comma : At → Taken
+abbrev pub comma : At → WordTaken
 comma a = comma_in a a.words
 
 -- the comma that must stand between two expressions
@@ -143,85 +143,85 @@ abbrev pub equal : At → Result At ParseFaultKind
 equal a = equal_in a a.words
 
 -- further ones, each behind a comma; the number bounds how many
-unfoldable pub more : {A : Type 0} → Reader A → ℕ → List A → Reader (List A)
+unfoldable pub more : {A : Type 0} → FormReader A → ℕ → List A → FormReader (List A)
 more one zero found a = Err kind.Word
 more one (suc n) found a =
     on_taken (comma a) (λ b. one b >>= λ x. more one n (found ++ x.0 ∷ []) x.1) (λ b. Ok (found, b))
 
 -- one or more with commas between
-unfoldable pub several : {A : Type 0} → Reader A → Reader (List A)
-several one a = one a >>= λ x. more one (suc (length x.1.words)) (x.0 ∷ []) x.1
+unfoldable pub several_forms : {A : Type 0} → FormReader A → FormReader (List A)
+several_forms one a = one a >>= λ x. more one (suc (length x.1.words)) (x.0 ∷ []) x.1
 
-abbrev pub expressions : Reader (List Tree)
-expressions = several expression
+abbrev pub expressions : FormReader (List Tree)
+expressions = several_forms expression
 
-abbrev pub names : Reader (List Letters)
-names = several name
+abbrev pub names : FormReader (List Letters)
+names = several_forms name
 
 -- a command of the screen
 
-unfoldable pub show : Reader Act
+unfoldable pub show : FormReader Act
 show a = if is_at_end a then Ok (act.Show [], a) else (expressions a >>= λ x. Ok (act.Show x.0, x.1))
 
-unfoldable pub show_on : Reader Act
+unfoldable pub show_on : FormReader Act
 show_on a = expressions a >>= λ x. Ok (act.ShowOn x.0, x.1)
 
-unfoldable pub get : Tree → Tree → Reader Act
+unfoldable pub get : Tree → Tree → FormReader Act
 get row column a = name a >>= λ x. Ok (act.Get row column x.0, x.1)
 
-unfoldable pub say_get : Tree → Tree → Tree → Reader Act
+unfoldable pub say_get : Tree → Tree → Tree → FormReader Act
 say_get row column value a = name a >>= λ x. Ok (act.SayGet row column value x.0, x.1)
 
-unfoldable pub say : Tree → Tree → Reader Act
+unfoldable pub say : Tree → Tree → FormReader Act
 say row column a =
     clause (codes "SAY") a >>= λ b. expression b >>= λ x.
     on_taken (takes (codes "GET") x.1) (say_get row column x.0) (λ c. Ok (act.Say row column x.0, c))
 
-unfoldable pub at_place : Reader Act
+unfoldable pub at_place : FormReader Act
 at_place a =
     expression a >>= λ row. comma_between row.1 >>= λ b. expression b >>= λ column.
     on_taken (takes (codes "GET") column.1) (get row.0 column.0) (say row.0 column.0)
 
 -- a text to be shown, unless the line ends or goes on with TO
-unfoldable pub prompt : Reader (Option Tree)
+unfoldable pub prompt : FormReader (Option Tree)
 prompt a = if is_at (codes "TO") a || is_at_end a then Ok (None, a) else (expression a >>= λ x. Ok (Some x.0, x.1))
 
-unfoldable pub accept : Reader Act
+unfoldable pub accept : FormReader Act
 accept a = prompt a >>= λ p. clause (codes "TO") p.1 >>= λ b. name b >>= λ v. Ok (act.Accept p.0 v.0, v.1)
 
-unfoldable pub wait : Reader Act
+unfoldable pub wait : FormReader Act
 wait a = prompt a >>= λ p. on_taken (takes (codes "TO") p.1) (λ b. name b >>= λ v. Ok (act.Wait p.0 (Some v.0), v.1))
     (λ b. Ok (act.Wait p.0 None, b))
 
 -- a command of variables
 
-unfoldable pub assign : Reader Act
+unfoldable pub assign : FormReader Act
 assign a = name a >>= λ v. equal v.1 >>= λ b. expression b >>= λ x. Ok (act.Assign v.0 x.0, x.1)
 
-unfoldable pub store : Reader Act
+unfoldable pub store : FormReader Act
 store a = expression a >>= λ x. clause (codes "TO") x.1 >>= λ b. names b >>= λ vs. Ok (act.Store x.0 vs.0, vs.1)
 
-unfoldable pub release : Reader Act
+unfoldable pub release : FormReader Act
 release a = if is_at (codes "ALL") a then Err kind.Word else (names a >>= λ vs. Ok (act.Release vs.0, vs.1))
 
-unfoldable pub private : Reader Act
+unfoldable pub private : FormReader Act
 private a = names a >>= λ vs. Ok (act.Private vs.0, vs.1)
 
-unfoldable pub parameters : Reader Act
+unfoldable pub parameters : FormReader Act
 parameters a = names a >>= λ vs. Ok (act.Parameters vs.0, vs.1)
 
 -- a command that leads elsewhere
 
-unfoldable pub call : Reader Act
+unfoldable pub call : FormReader Act
 call a = name a >>= λ p. on_taken (takes (codes "WITH") p.1) (λ b. expressions b >>= λ xs. Ok (act.Do p.0 xs.0, xs.1))
     (λ b. Ok (act.Do p.0 [], b))
 
-unfoldable pub scan_condition : Reader (Option Tree)
+unfoldable pub scan_condition : FormReader (Option Tree)
 scan_condition a = on_taken (takes (codes "FOR") a) (λ b. expression b >>= λ x. Ok (Some x.0, x.1)) (λ b. Ok (None, b))
 
 -- a command of work areas and settings
 
-unfoldable pub use_table : Reader Act
+unfoldable pub use_table : FormReader Act
 use_table a =
     if is_at_end a then Ok (act.Close, a)
     else (name a >>= λ t. on_taken (takes (codes "INDEX") t.1) (λ b. names b >>= λ is. Ok (act.Use t.0 is.0, is.1))
@@ -231,64 +231,64 @@ use_table a =
 abbrev pub area_number : ℕ → Result ℕ ParseFaultKind
 area_number n = if nat_le 1 n && nat_le n 10 then Ok n else Err kind.Word
 
-unfoldable pub select : Reader Act
+unfoldable pub select : FormReader Act
 select a =
     if is_at_number a then (whole_number a >>= λ n. area_number n.0 >>= λ k. Ok (act.Select (act.Number k), n.1))
     else (name a >>= λ s. Ok (act.Select (act.Named s.0), s.1))
 
-unfoldable pub close : Reader Act
+unfoldable pub close : FormReader Act
 close a = on_taken (takes (codes "ALL") a) (λ b. Ok (act.CloseAll, b))
     (λ b. clause (codes "DATABASES") b >>= λ c. Ok (act.CloseAll, c))
 
-unfoldable pub order : Reader Act
+unfoldable pub order : FormReader Act
 order a = clause (codes "TO") a >>= λ b. whole_number b >>= λ n. Ok (act.SetOrder n.0, n.1)
 
-unfoldable pub filter : Reader Act
+unfoldable pub filter : FormReader Act
 filter a = clause (codes "TO") a >>= λ b. if is_at_end b then Ok (act.SetFilter None, b)
     else (expression b >>= λ x. Ok (act.SetFilter (Some x.0), x.1))
 
-unfoldable pub switch : Toggle → Reader Act
+unfoldable pub switch : Toggle → FormReader Act
 switch s a = on_taken (takes (codes "ON") a) (λ b. Ok (act.Set s true, b))
     (λ b. clause (codes "OFF") b >>= λ c. Ok (act.Set s false, c))
 
-unfoldable pub century : Reader Act
+unfoldable pub century : FormReader Act
 century a = clause (codes "CENTURY") a >>= λ b. switch Century b
 
-unfoldable pub set_switch : Reader Act
+unfoldable pub set_switch : FormReader Act
 set_switch a = on_taken (takes (codes "EXACT") a) (switch Exact)
     (λ b. on_taken (takes (codes "DELETED") b) (switch Deleted) century)
 
-unfoldable pub set : Reader Act
+unfoldable pub set : FormReader Act
 set a = on_taken (takes (codes "ORDER") a) order (λ b. on_taken (takes (codes "FILTER") b) filter set_switch)
 
 -- a command of records
 
-unfoldable pub go_record : Reader Act
+unfoldable pub go_record : FormReader Act
 go_record a = expression a >>= λ x. Ok (act.Go (act.Record x.0), x.1)
 
-unfoldable pub go : Reader Act
+unfoldable pub go : FormReader Act
 go a = on_taken (takes (codes "TOP") a) (λ b. Ok (act.Go act.Top, b))
     (λ b. on_taken (takes (codes "BOTTOM") b) (λ c. Ok (act.Go act.Bottom, c)) go_record)
 
-unfoldable pub skip : Reader Act
+unfoldable pub skip : FormReader Act
 skip a = if is_at_end a then Ok (act.Skip None, a) else (expression a >>= λ x. Ok (act.Skip (Some x.0), x.1))
 
-unfoldable pub seek : Reader Act
+unfoldable pub seek : FormReader Act
 seek a = expression a >>= λ x. Ok (act.Seek x.0, x.1)
 
-unfoldable pub append : Reader Act
+unfoldable pub append : FormReader Act
 append a = clause (codes "BLANK") a >>= λ b. Ok (act.AppendBlank, b)
 
 abbrev pub change : Letters → Tree → Change
 change s e = record { field = s; value = e }
 
-unfoldable pub replacement : Reader Change
+unfoldable pub replacement : FormReader Change
 replacement a = name a >>= λ f. clause (codes "WITH") f.1 >>= λ b. expression b >>= λ x. Ok (change f.0 x.0, x.1)
 
-unfoldable pub replace : Reader Act
-replace a = several replacement a >>= λ cs. Ok (act.Replace cs.0, cs.1)
+unfoldable pub replace : FormReader Act
+replace a = several_forms replacement a >>= λ cs. Ok (act.Replace cs.0, cs.1)
 
-unfoldable pub index : Reader Act
+unfoldable pub index : FormReader Act
 index a = clause (codes "ON") a >>= λ b. expression b >>= λ k. clause (codes "TO") k.1 >>= λ c. name c >>= λ s. Ok
     (act.IndexOn k.0 s.0, s.1)
 
@@ -309,7 +309,7 @@ single verb.Reindex = Some act.Reindex
 single _ = None
 
 -- a command of more words
-unfoldable pub phrase : Verb → Reader Act
+unfoldable pub phrase : Verb → FormReader Act
 phrase verb.Show = show
 phrase verb.ShowOn = show_on
 phrase verb.At = at_place
@@ -333,19 +333,19 @@ phrase verb.Replace = replace
 phrase verb.Index = index
 phrase _ = λ a. Err kind.Word
 
-abbrev pub or_phrase : Option Act → Verb → Reader Act
+abbrev pub or_phrase : Option Act → Verb → FormReader Act
 or_phrase (Some s) v a = Ok (s, a)
 or_phrase None v a = phrase v a
 
 -- a command of one line, behind its first words
-unfoldable pub statement : Verb → Reader Act
+unfoldable pub statement : Verb → FormReader Act
 statement v a = or_phrase (single v) v a
 
-abbrev pub whole : Verb → Reader Saying
-whole v a = statement v a >>= λ s. Ok (saying.Whole s.0, s.1)
+abbrev pub whole_line : Verb → FormReader Saying
+whole_line v a = statement v a >>= λ s. Ok (saying.Whole s.0, s.1)
 
 -- a line of a block or of a procedure or a command, behind its first words
-unfoldable pub block_line : Verb → Reader Saying
+unfoldable pub block_line : Verb → FormReader Saying
 block_line verb.If a = expression a >>= λ x. Ok (saying.If x.0, x.1)
 block_line verb.Else a = Ok (saying.Else, a)
 block_line verb.DoCase a = Ok (saying.DoCase, a)
@@ -354,7 +354,7 @@ block_line verb.Otherwise a = Ok (saying.Otherwise, a)
 block_line verb.DoWhile a = expression a >>= λ x. Ok (saying.DoWhile x.0, x.1)
 block_line verb.Scan a = scan_condition a >>= λ x. Ok (saying.Scan x.0, x.1)
 block_line verb.Procedure a = name a >>= λ s. Ok (saying.Procedure s.0, s.1)
-block_line v a = whole v a
+block_line v a = whole_line v a
 
 -- nothing may be left of the line
 unfoldable pub ended : Saying × At → Result Saying ParseFaultKind

@@ -10,7 +10,7 @@ use Rattle.prg_line.specs.declared.role.Role.{Role}
 use Rattle.prg_line.specs.declared.verb.Verb.{Verb}
 use Rattle.prg_line.specs.Forms.{sentence, at}
 use Rattle.prg_line.specs.Saying.{Saying, Nothing}
-use Rattle.prg_line.specs.Verbs.{Found, verb_of, role_of, ignores_rest, has_expressions}
+use Rattle.prg_line.specs.Verbs.{FoundVerb, verb_of, role_of, ignores_rest, has_expressions}
 
 -- the least fault of the words, where they count
 abbrev pub word_fault : Verb → List Spot → Option ParseFaultKind
@@ -18,12 +18,12 @@ word_fault v spots = if ignores_rest v then None else least_of None (map spot_fa
 
 -- What the words behind the first ones say. Of a line of more than 4,096 words, which is too long anyway, a command
 -- with expressions isn't read.
-unfoldable pub form : ℕ → Found → Result Saying ParseFaultKind
+unfoldable pub form : ℕ → FoundVerb → Result Saying ParseFaultKind
 form count f = if has_expressions f.0 && nat_lt 4096 count then Err kind.TooLong else sentence f.0 (at f.1 false)
 
-abbrev pub fault_in : Result Saying ParseFaultKind → Option ParseFaultKind
-fault_in (Ok s) = None
-fault_in (Err k) = Some k
+abbrev pub saying_fault : Result Saying ParseFaultKind → Option ParseFaultKind
+saying_fault (Ok s) = None
+saying_fault (Err k) = Some k
 
 -- a line with a fault says nothing
 abbrev pub saying_in : Result Saying ParseFaultKind → Saying
@@ -31,11 +31,11 @@ saying_in (Ok s) = s
 saying_in (Err k) = Nothing
 
 -- the least fault of a line of so many bytes, with these words, the first of which begin this command
-abbrev pub fault_with : ℕ → List Spot → Found → Option ParseFaultKind
+abbrev pub fault_with : ℕ → List Spot → FoundVerb → Option ParseFaultKind
 fault_with bytes spots f =
-    least (least (word_fault f.0 spots) (fault_in (form (length (map spot_word spots)) f))) (length_fault bytes)
+    least (least (word_fault f.0 spots) (saying_fault (form (length (map spot_word spots)) f))) (length_fault bytes)
 
-abbrev pub found_in : List Spot → Found
+abbrev pub found_in : List Spot → FoundVerb
 found_in spots = verb_of (map spot_word spots)
 
 -- what a line of these bytes is to the blocks around it

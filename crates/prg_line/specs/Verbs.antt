@@ -3,74 +3,75 @@ use Rattle.std.specs.Prelude.{ℕ, List, [], ◌∷◌, ◌++◌, Bool, true, fa
 use Rattle.prg_expr.specs.Functions.{is_cut}
 use Rattle.prg_expr.specs.Word.{Word}
 use Rattle.prg_expr.specs.Word as word
-use Rattle.prg_expr.specs.declared.tree.Operator.TheVariants.{Equal, Times}
+use Rattle.prg_expr.specs.declared.tree.BinaryOperator.TheVariants.{Equal, Times}
 use Rattle.prg_line.specs.declared.role.Role.{Role}
 use Rattle.prg_line.specs.declared.role.Role.TheVariants as role
 use Rattle.prg_line.specs.declared.verb.Verb.{Verb}
 use Rattle.prg_line.specs.declared.verb.Verb.TheVariants as verb
 
-abbrev pub Entry : Type 0
-Entry = List ℕ × Verb
+abbrev pub VerbWord : Type 0
+VerbWord = List ℕ × Verb
 
 -- the first command of a table whose word, perhaps cut, this is
-abbrev pub called : List Entry → List ℕ → Option Verb
-called [] letters = None
-called (x ∷ xs) letters = if is_cut letters x.0 then Some x.1 else called xs letters
+abbrev pub verb_of_table : List VerbWord → List ℕ → Option Verb
+verb_of_table [] letters = None
+verb_of_table (x ∷ xs) letters = if is_cut letters x.0 then Some x.1 else verb_of_table xs letters
 
-abbrev pub of_screen : List Entry
+abbrev pub of_screen : List VerbWord
 of_screen = (codes "READ", verb.Read) ∷ (codes "ACCEPT", verb.Accept) ∷ (codes "WAIT", verb.Wait)
     ∷ (codes "CLEAR", verb.Clear) ∷ []
 
-abbrev pub of_variables : List Entry
+abbrev pub of_variables : List VerbWord
 of_variables = (codes "STORE", verb.Store) ∷ (codes "RELEASE", verb.Release) ∷ (codes "PRIVATE", verb.Private)
     ∷ (codes "PARAMETERS", verb.Parameters) ∷ []
 
-abbrev pub of_branches : List Entry
+abbrev pub of_branches : List VerbWord
 of_branches =
     (codes "IF", verb.If) ∷ (codes "ELSE", verb.Else) ∷ (codes "ENDIF", verb.EndIf) ∷ (codes "CASE", verb.Case)
     ∷ (codes "OTHERWISE", verb.Otherwise) ∷ (codes "ENDCASE", verb.EndCase) ∷ []
 
-abbrev pub of_loops : List Entry
+abbrev pub of_loops : List VerbWord
 of_loops = (codes "ENDDO", verb.EndDo) ∷ (codes "SCAN", verb.Scan) ∷ (codes "ENDSCAN", verb.EndScan)
     ∷ (codes "LOOP", verb.Loop) ∷ (codes "EXIT", verb.Exit) ∷ []
 
-abbrev pub of_calls : List Entry
+abbrev pub of_calls : List VerbWord
 of_calls = (codes "PROCEDURE", verb.Procedure) ∷ (codes "DO", verb.Do) ∷ (codes "RETURN", verb.Return)
     ∷ (codes "QUIT", verb.Quit) ∷ (codes "CANCEL", verb.Cancel) ∷ []
 
-abbrev pub of_areas : List Entry
+abbrev pub of_areas : List VerbWord
 of_areas =
     (codes "USE", verb.Use) ∷ (codes "SELECT", verb.Select) ∷ (codes "CLOSE", verb.Close) ∷ (codes "SET", verb.Set) ∷ []
 
-abbrev pub of_moves : List Entry
+abbrev pub of_moves : List VerbWord
 of_moves = (codes "GO", verb.Go) ∷ (codes "GOTO", verb.Go) ∷ (codes "SKIP", verb.Skip) ∷ (codes "SEEK", verb.Seek)
     ∷ (codes "APPEND", verb.Append) ∷ []
 
-abbrev pub of_changes : List Entry
+abbrev pub of_changes : List VerbWord
 of_changes =
     (codes "REPLACE", verb.Replace) ∷ (codes "DELETE", verb.Delete) ∷ (codes "RECALL", verb.Recall)
     ∷ (codes "PACK", verb.Pack)
     ∷ (codes "ZAP", verb.Zap) ∷ (codes "REINDEX", verb.Reindex) ∷ (codes "INDEX", verb.Index) ∷ []
 
 -- all words that begin commands
-abbrev pub all_commands : List Entry
+abbrev pub all_commands : List VerbWord
 all_commands =
     of_screen ++ (of_variables ++ (of_branches ++ (of_loops ++ (of_calls ++ (of_areas ++ (of_moves ++ of_changes))))))
 
-abbrev pub or_else : Option Verb → Option Verb → Option Verb
-or_else None other = other
-or_else (Some v) other = Some v
+abbrev pub or_verb : Option Verb → Option Verb → Option Verb
+or_verb None other = other
+or_verb (Some v) other = Some v
 
 abbrev pub or_unknown : Option Verb → Verb
 or_unknown None = verb.Unknown
 or_unknown (Some v) = v
 
 -- the command that a word of capitals begins
-unfoldable pub command_of : List ℕ → Verb
-command_of s =
-    or_unknown (or_else (called of_screen s)
-    (or_else (called of_variables s) (or_else (called of_branches s) (or_else (called of_loops s)
-    (or_else (called of_calls s) (or_else (called of_areas s) (or_else (called of_moves s) (called of_changes s))))))))
+unfoldable pub verb_of_word : List ℕ → Verb
+verb_of_word s =
+    or_unknown (or_verb (verb_of_table of_screen s)
+    (or_verb (verb_of_table of_variables s) (or_verb (verb_of_table of_branches s) (or_verb (verb_of_table of_loops s)
+    (or_verb (verb_of_table of_calls s)
+    (or_verb (verb_of_table of_areas s) (or_verb (verb_of_table of_moves s) (verb_of_table of_changes s))))))))
 
 -- whether a word is one of these, perhaps cut
 abbrev pub among : List (List ℕ) → List ℕ → Bool
@@ -92,35 +93,35 @@ unfoldable pub is_ignored : List ℕ → Bool
 is_ignored s = among looks s || among habits s
 
 -- the command and the words behind those that say which one it is
-abbrev pub Found : Type 0
-Found = Verb × List Word
+abbrev pub FoundVerb : Type 0
+FoundVerb = Verb × List Word
 
 -- DO before a further name
-unfoldable pub do_before : List ℕ → List Word → List Word → Found
+unfoldable pub do_before : List ℕ → List Word → List Word → FoundVerb
 do_before second rest others =
     if is_cut second (codes "CASE") then (verb.DoCase, others)
     else if is_cut second (codes "WHILE") then (verb.DoWhile, others)
     else (verb.Do, rest)
 
 -- a command before a further name
-unfoldable pub before_name : Verb → List ℕ → List Word → List Word → Found
+unfoldable pub before_name : Verb → List ℕ → List Word → List Word → FoundVerb
 before_name verb.Do second rest others = do_before second rest others
 before_name verb.Set second rest others = if is_ignored second then (verb.Ignored, rest) else (verb.Set, rest)
 before_name v second rest others = (v, rest)
 
 -- a line that begins with a name: an equal sign behind it makes it an assignment, of which no word counts as read
-unfoldable pub behind_first : List Word → List ℕ → List Word → Found
+unfoldable pub behind_first : List Word → List ℕ → List Word → FoundVerb
 behind_first all first (word.Sign Equal ∷ others) = (verb.Assign, all)
 behind_first all first (word.Name second ∷ others) =
-    before_name (command_of first) second (word.Name second ∷ others) others
-behind_first all first rest = (command_of first, rest)
+    before_name (verb_of_word first) second (word.Name second ∷ others) others
+behind_first all first rest = (verb_of_word first, rest)
 
 -- a line that begins with NOTE is a comment, of which nothing means anything
-unfoldable pub at_first : List Word → List ℕ → List Word → Found
+unfoldable pub at_first : List Word → List ℕ → List Word → FoundVerb
 at_first all first rest = if is_cut first (codes "NOTE") then (verb.Ignored, rest) else behind_first all first rest
 
 -- a line that begins with an asterisk is a comment too
-unfoldable pub verb_of : List Word → Found
+unfoldable pub verb_of : List Word → FoundVerb
 verb_of [] = (verb.Nothing, [])
 verb_of (word.Name first ∷ rest) = at_first (word.Name first ∷ rest) first rest
 verb_of (word.Sign Times ∷ rest) = (verb.Ignored, rest)

@@ -1,17 +1,17 @@
 //! Reading the words of a command one after another.
 
 ghost use Rattle.std.specs.Prelude.{◌≡◌, ◌<◌, ◌≤◌, ◌-◌, suc, length, map, drop, IfOk, OnOk};
-ghost use Rattle.prg_expr.specs.Reading.{Gives, front};
+ghost use Rattle.prg_expr.specs.Reading.{WordsGive, front};
 ghost use Rattle.prg_expr.specs.Tree.{tree_of};
 ghost use Rattle.prg_expr.specs.Word.{words};
 ghost use Rattle.prg_line.specs.Act.{letters_of};
 ghost use Rattle.prg_line.specs.Forms as spec;
-ghost use Rattle.prg_line.specs.Gives.{at_of, Reads, Leads, Ends};
+ghost use Rattle.prg_line.specs.Gives.{at_of, ReadsAs, LeavesReader, Ends};
 ghost use Rattle.prg_expr.specs.declared.fault.FormFault.TheVariants.{Kind};
 
 use fixed_num::Num;
 use prg_expr::{
-    Expr, FormFault, Name, Operator, ParseFaultKind, Token, expression, is_word, name_of,
+    BinaryOperator, Expr, FormFault, Name, ParseFaultKind, Token, expression, is_word, name_of,
 };
 use std::alloc::Global;
 
@@ -20,7 +20,7 @@ const WORD: FormFault = FormFault::Kind(ParseFaultKind::Word);
 
 /// The longest expression at the front of the words, and how many words are behind it.
 fn expression_at(alloc: Global, tokens: &[Token<'_>]) -> Result<(Expr, usize), FormFault>
-    ensures gives { Gives (λ x. (tree_of x.0, drop (length tokens.now - x.1) (words tokens.now))) result
+    ensures gives { WordsGive (λ x. (tree_of x.0, drop (length tokens.now - x.1) (words tokens.now))) result
         (front (words tokens.now)) }
     ensures shorter { IfOk result (λ x. x.1 < length tokens.now) }
 {
@@ -74,7 +74,7 @@ impl<'a> Reader<'a> {
     /// Reads the longest expression at the front.
     #[tactic(auto, unfolding(crate::specs::Forms::expression))]
     pub fn expression(&mut self) -> Result<Expr, FormFault>
-        ensures reads { Reads tree_of result self.new (spec.expression (at_of self.old)) }
+        ensures reads { ReadsAs tree_of result self.new (spec.expression (at_of self.old)) }
         ensures shorter { OnOk result (length self.new.words.now < length self.old.words.now) }
     {
         let (found, left) = expression_at(self.alloc, self.words)?;
@@ -86,7 +86,7 @@ impl<'a> Reader<'a> {
     /// Reads a name.
     #[tactic(auto, unfolding(crate::specs::Forms::name_in))]
     pub fn name(&mut self) -> Result<Name, FormFault>
-        ensures reads { Reads letters_of result self.new (spec.name (at_of self.old)) }
+        ensures reads { ReadsAs letters_of result self.new (spec.name (at_of self.old)) }
         ensures shorter { OnOk result (length self.new.words.now < length self.old.words.now) }
     {
         match self.words {
@@ -102,7 +102,7 @@ impl<'a> Reader<'a> {
     /// Reads a whole number below 2^16 that is written without a sign.
     #[tactic(auto, unfolding(crate::specs::Forms::whole_number_in))]
     pub fn whole_number(&mut self) -> Result<u16, FormFault>
-        ensures reads { Reads (λ n. n) result self.new (spec.whole_number (at_of self.old)) }
+        ensures reads { ReadsAs (λ n. n) result self.new (spec.whole_number (at_of self.old)) }
         ensures shorter { OnOk result (length self.new.words.now < length self.old.words.now) }
     {
         match self.words {
@@ -162,7 +162,7 @@ impl<'a> Reader<'a> {
     /// Reads this word, which must stand in front.
     #[tactic(auto, unfolding(crate::specs::Forms::clause))]
     pub fn clause(&mut self, whole: &[u8]) -> Result<(), FormFault>
-        ensures leads { Leads result self.new (spec.clause whole.now (at_of self.old)) }
+        ensures leads { LeavesReader result self.new (spec.clause whole.now (at_of self.old)) }
         ensures no_longer { length self.new.words.now ≤ length self.old.words.now }
     {
         if self.takes(whole) {
@@ -191,7 +191,7 @@ impl<'a> Reader<'a> {
     /// Reads the comma that must stand between two expressions.
     #[tactic(auto, unfolding(crate::specs::Forms::comma_between))]
     pub fn comma_between(&mut self) -> Result<(), FormFault>
-        ensures leads { Leads result self.new (spec.comma_between (at_of self.old)) }
+        ensures leads { LeavesReader result self.new (spec.comma_between (at_of self.old)) }
         ensures no_longer { length self.new.words.now ≤ length self.old.words.now }
     {
         if self.comma() {
@@ -206,11 +206,11 @@ impl<'a> Reader<'a> {
     /// Reads the `=` of an assignment.
     #[tactic(auto, unfolding(crate::specs::Forms::equal_in))]
     pub fn equal(&mut self) -> Result<(), FormFault>
-        ensures leads { Leads result self.new (spec.equal (at_of self.old)) }
+        ensures leads { LeavesReader result self.new (spec.equal (at_of self.old)) }
         ensures no_longer { length self.new.words.now ≤ length self.old.words.now }
     {
         match self.words {
-            [Token::Operator(Operator::Equal), rest @ ..] => {
+            [Token::Operator(BinaryOperator::Equal), rest @ ..] => {
                 self.words = rest;
                 Ok(())
             }
@@ -219,9 +219,9 @@ impl<'a> Reader<'a> {
     }
 
     /// Reads expressions with commas between, at least one.
-    #[tactic(auto, unfolding(crate::specs::Forms::several))]
+    #[tactic(auto, unfolding(crate::specs::Forms::several_forms))]
     pub fn expressions(&mut self) -> Result<Vec<Expr>, FormFault>
-        ensures { Reads (λ found. map tree_of found.items) result self.new (spec.expressions (at_of self.old)) }
+        ensures { ReadsAs (λ found. map tree_of found.items) result self.new (spec.expressions (at_of self.old)) }
     {
         let first = self.expression()?;
         let mut found = Vec::new(self.alloc);
@@ -231,7 +231,7 @@ impl<'a> Reader<'a> {
 
     /// Reads further expressions, each behind a comma.
     fn more_expressions(&mut self, found: Vec<Expr>) -> Result<Vec<Expr>, FormFault>
-        ensures { Reads (λ all. map tree_of all.items) result self.new
+        ensures { ReadsAs (λ all. map tree_of all.items) result self.new
             (spec.more spec.expression (suc (length (words self.old.words.now))) (map tree_of found.items)
             (at_of self.old)) }
     {
@@ -244,9 +244,9 @@ impl<'a> Reader<'a> {
     }
 
     /// Reads names with commas between, at least one.
-    #[tactic(auto, unfolding(crate::specs::Forms::several))]
+    #[tactic(auto, unfolding(crate::specs::Forms::several_forms))]
     pub fn names(&mut self) -> Result<Vec<Name>, FormFault>
-        ensures { Reads (λ found. map letters_of found.items) result self.new (spec.names (at_of self.old)) }
+        ensures { ReadsAs (λ found. map letters_of found.items) result self.new (spec.names (at_of self.old)) }
     {
         let first = self.name()?;
         let mut found = Vec::new(self.alloc);
@@ -256,7 +256,7 @@ impl<'a> Reader<'a> {
 
     /// Reads further names, each behind a comma.
     fn more_names(&mut self, found: Vec<Name>) -> Result<Vec<Name>, FormFault>
-        ensures { Reads (λ all. map letters_of all.items) result self.new
+        ensures { ReadsAs (λ all. map letters_of all.items) result self.new
             (spec.more spec.name (suc (length (words self.old.words.now))) (map letters_of found.items)
             (at_of self.old)) }
     {
@@ -282,7 +282,7 @@ impl<'a> Reader<'a> {
 
 /// The number, if it is whole and below 2^16.
 fn whole_of(number: Num) -> Result<u16, FormFault>
-    ensures { Gives (λ n. n) result (spec.whole_of number) }
+    ensures { WordsGive (λ n. n) result (spec.whole_of number) }
 {
     let Some(parts) = number.parts() else {
         return Err(WORD);

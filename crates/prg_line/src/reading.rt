@@ -1,7 +1,7 @@
 //! What a line says, and which fault it has.
 
 ghost use Rattle.std.specs.Prelude.{◌≡◌, ℕ, List, length, IfOk, Result, if◌then◌else◌, None};
-ghost use Rattle.prg_expr.specs.Reading.{Gives};
+ghost use Rattle.prg_expr.specs.Reading.{WordsGive};
 ghost use Rattle.prg_expr.specs.Word.{words as tokens_of};
 ghost use Rattle.prg_line.specs.LineSays.{LineSays};
 ghost use Rattle.prg_line.specs.OneLine as spec;
@@ -47,7 +47,7 @@ fn read_form(
     rest: &[Token<'_>],
     count: usize,
 ) -> Result<Sentence, FormFault>
-    ensures { Gives saying_of result (spec.form count (verb, tokens_of rest.now)) }
+    ensures { WordsGive saying_of result (spec.form count (verb, tokens_of rest.now)) }
 {
     if verb.has_expressions() && MOST_WORDS < count {
         return Err(FormFault::Kind(ParseFaultKind::TooLong));
@@ -69,8 +69,8 @@ fn word_fault(verb: Verb, fault: Option<ParseFaultKind>) -> Option<ParseFaultKin
 
 /// What was read of a line's form, and its fault.
 fn told(form: Result<Sentence, FormFault>) -> Result<(Sentence, Option<ParseFaultKind>), AllocError>
-    ensures { (read : Result Saying AnyKind) → Gives saying_of form read
-        → IfOk result (λ x. (saying_of x.0 ≡ spec.saying_in read) × (x.1 ≡ spec.fault_in read)) }
+    ensures { (read : Result Saying AnyKind) → WordsGive saying_of form read
+        → IfOk result (λ x. (saying_of x.0 ≡ spec.saying_in read) × (x.1 ≡ spec.saying_fault read)) }
 {
     match form {
         Ok(sentence) => Ok((sentence, None)),

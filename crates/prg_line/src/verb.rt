@@ -3,13 +3,13 @@
 ghost use Rattle.std.specs.Prelude.{◌≡◌, ℕ, List, codes, false, map, true};
 ghost use Rattle.std.specs.Char.{to_ascii_uppercase};
 ghost use Rattle.prg_expr.specs.Functions.{is_cut};
-ghost use Rattle.prg_expr.specs.Lexicon.{Listed};
+ghost use Rattle.prg_expr.specs.Lexicon.{IsOneOf};
 ghost use Rattle.prg_expr.specs.Word.{words};
 ghost use Rattle.prg_line.specs.Verbs as spec;
 ghost use Rattle.prg_line.specs.Beginning.{found_of};
 
 use crate::role::Role;
-use prg_expr::{Operator, Token, is_word};
+use prg_expr::{BinaryOperator, Token, is_word};
 
 /// Which command a line begins.
 #[derive(Clone, Copy, Debug, PartialEq, Eq)]
@@ -71,7 +71,7 @@ pub enum Verb {
 
 /// The commands of the screen.
 fn screen_command(word: &[u8]) -> Option<Verb>
-    ensures { result ≡ spec.called spec.of_screen (map to_ascii_uppercase word.now) }
+    ensures { result ≡ spec.verb_of_table spec.of_screen (map to_ascii_uppercase word.now) }
 {
     if is_word(word, b"READ") {
         return Some(Verb::Read);
@@ -90,7 +90,7 @@ fn screen_command(word: &[u8]) -> Option<Verb>
 
 /// The commands of variables.
 fn variable_command(word: &[u8]) -> Option<Verb>
-    ensures { result ≡ spec.called spec.of_variables (map to_ascii_uppercase word.now) }
+    ensures { result ≡ spec.verb_of_table spec.of_variables (map to_ascii_uppercase word.now) }
 {
     if is_word(word, b"STORE") {
         return Some(Verb::Store);
@@ -109,7 +109,7 @@ fn variable_command(word: &[u8]) -> Option<Verb>
 
 /// The lines of `IF` and of `DO CASE`, but for `DO CASE` itself.
 fn branch_command(word: &[u8]) -> Option<Verb>
-    ensures { result ≡ spec.called spec.of_branches (map to_ascii_uppercase word.now) }
+    ensures { result ≡ spec.verb_of_table spec.of_branches (map to_ascii_uppercase word.now) }
 {
     if is_word(word, b"IF") {
         return Some(Verb::If);
@@ -134,7 +134,7 @@ fn branch_command(word: &[u8]) -> Option<Verb>
 
 /// The lines of loops, but for `DO WHILE`.
 fn loop_command(word: &[u8]) -> Option<Verb>
-    ensures { result ≡ spec.called spec.of_loops (map to_ascii_uppercase word.now) }
+    ensures { result ≡ spec.verb_of_table spec.of_loops (map to_ascii_uppercase word.now) }
 {
     if is_word(word, b"ENDDO") {
         return Some(Verb::EndDo);
@@ -156,7 +156,7 @@ fn loop_command(word: &[u8]) -> Option<Verb>
 
 /// The commands that lead elsewhere; of `DO` this is told by the next word.
 fn call_command(word: &[u8]) -> Option<Verb>
-    ensures { result ≡ spec.called spec.of_calls (map to_ascii_uppercase word.now) }
+    ensures { result ≡ spec.verb_of_table spec.of_calls (map to_ascii_uppercase word.now) }
 {
     if is_word(word, b"PROCEDURE") {
         return Some(Verb::Procedure);
@@ -178,7 +178,7 @@ fn call_command(word: &[u8]) -> Option<Verb>
 
 /// The commands of work areas and settings.
 fn area_command(word: &[u8]) -> Option<Verb>
-    ensures { result ≡ spec.called spec.of_areas (map to_ascii_uppercase word.now) }
+    ensures { result ≡ spec.verb_of_table spec.of_areas (map to_ascii_uppercase word.now) }
 {
     if is_word(word, b"USE") {
         return Some(Verb::Use);
@@ -197,7 +197,7 @@ fn area_command(word: &[u8]) -> Option<Verb>
 
 /// The commands that move to a record.
 fn move_command(word: &[u8]) -> Option<Verb>
-    ensures { result ≡ spec.called spec.of_moves (map to_ascii_uppercase word.now) }
+    ensures { result ≡ spec.verb_of_table spec.of_moves (map to_ascii_uppercase word.now) }
 {
     if is_word(word, b"GO") {
         return Some(Verb::Go);
@@ -219,7 +219,7 @@ fn move_command(word: &[u8]) -> Option<Verb>
 
 /// The commands that change tables and indexes.
 fn change_command(word: &[u8]) -> Option<Verb>
-    ensures { result ≡ spec.called spec.of_changes (map to_ascii_uppercase word.now) }
+    ensures { result ≡ spec.verb_of_table spec.of_changes (map to_ascii_uppercase word.now) }
 {
     if is_word(word, b"REPLACE") {
         return Some(Verb::Replace);
@@ -246,9 +246,9 @@ fn change_command(word: &[u8]) -> Option<Verb>
 }
 
 /// The command that this word begins.
-#[tactic(auto, unfolding(crate::specs::Verbs::command_of))]
+#[tactic(auto, unfolding(crate::specs::Verbs::verb_of_word))]
 fn command_of(word: &[u8]) -> Verb
-    ensures { result ≡ spec.command_of (map to_ascii_uppercase word.now) }
+    ensures { result ≡ spec.verb_of_word (map to_ascii_uppercase word.now) }
 {
     if let Some(verb) = screen_command(word) {
         return verb;
@@ -279,9 +279,9 @@ fn command_of(word: &[u8]) -> Verb
 
 /// Each command's word begins it, whole or cut, so that no word begins two; and none begins a comment.
 pub fn one_command()
-    ensures begins { (word : List ℕ) (x : spec.Entry) → Listed x spec.all_commands → is_cut word x.0 ≡ true
-        → spec.command_of word ≡ x.1 }
-    ensures no_note { (word : List ℕ) (x : spec.Entry) → Listed x spec.all_commands → is_cut word x.0 ≡ true
+    ensures begins { (word : List ℕ) (x : spec.VerbWord) → IsOneOf x spec.all_commands → is_cut word x.0 ≡ true
+        → spec.verb_of_word word ≡ x.1 }
+    ensures no_note { (word : List ℕ) (x : spec.VerbWord) → IsOneOf x spec.all_commands → is_cut word x.0 ≡ true
         → is_cut word (codes "NOTE") ≡ false }
 {}
 
@@ -378,7 +378,7 @@ fn behind_first<'a>(all: &'a [Token<'a>], first: &[u8], rest: &'a [Token<'a>]) -
     ensures { found_of result ≡ spec.behind_first (words all.now) (map to_ascii_uppercase first.now) (words rest.now) }
 {
     match rest {
-        [Token::Operator(Operator::Equal), ..] => Found {
+        [Token::Operator(BinaryOperator::Equal), ..] => Found {
             verb: Verb::Assign,
             rest: all,
         },
@@ -427,7 +427,7 @@ pub fn verb_of<'a>(line: &'a [Token<'a>]) -> Found<'a>
             rest: line,
         },
         [Token::Name(first), rest @ ..] => at_first(line, *first, rest),
-        [Token::Operator(Operator::Times), rest @ ..] => Found {
+        [Token::Operator(BinaryOperator::Times), rest @ ..] => Found {
             verb: Verb::Ignored,
             rest,
         },

@@ -36,9 +36,9 @@ use Rattle.prg_parser.specs.declared.command.Form.TheVariants.{Statement}
 use Rattle.prg_parser.specs.Layout.{Lines, all_of, body_lines, cases_lines, form_lines, procedure_lines, procedures_lines, program_lines}
 use Rattle.prg_parser.proofs.LayoutLemmas.{form_statement, procedures_more}
 use Rattle.prg_parser.specs.Blocks as spec
-use Rattle.prg_parser.specs.Blocks.{fault_of, parts_after, innermost, outer, may_stand}
-use Rattle.prg_parser.specs.Building.{IsChoice, Took, current_lines, finished_lines, open_lines, opens_lines, built_lines, built_parts, head_lines, ending, is_ending, place_of, part_of_block, awaited}
-use Rattle.prg_parser.specs.Layout.{said}
+use Rattle.prg_parser.specs.Blocks.{fault_of_place, parts_after, innermost, outer, may_stand}
+use Rattle.prg_parser.specs.Building.{IsChoice, Took, current_lines, finished_lines, open_lines, opens_lines, built_lines, built_parts, head_lines, block_ending, is_ending, place_of_open, part_of_block, awaited}
+use Rattle.prg_parser.specs.Layout.{lines_of_saying}
 
 -- one more at the end
 pub lines_more : {A : Type 0} (f : A → Lines) (xs : List A) (x : A) → all_of (map f (xs ++ x ∷ [])) ≡ all_of (map f xs) ++ f x
@@ -66,8 +66,8 @@ passes true k o e = refl
 passes false k o e = cc
 
 -- a line without fault may stand where it does
-pub standing : (ps : List Part) (r : Role) → fault_of ps r ≡ None → may_stand r (option_map (λ part. part.place) (innermost ps)) ≡ true
-unfolding fault_of
+pub standing : (ps : List Part) (r : Role) → fault_of_place ps r ≡ None → may_stand r (option_map (λ part. part.place) (innermost ps)) ≡ true
+unfolding fault_of_place
 standing ps r e = passes (may_stand r (option_map (λ part. part.place) (innermost ps))) _ _ e
 
 -- whatever a command of one line says, it is LOOP or EXIT, or an other command
@@ -189,7 +189,7 @@ pub no_case_then : (ps : List Part) (c : Current) → spec.is_then (option_map (
 no_case_then ps (Commands cs) e = refl
 no_case_then ps (DoCase n cs) e = let i = ap (λ (o : Option Part). spec.is_then (option_map (λ part. part.place) o)) (innermost_last ps (record { place = place.BeforeCases; line = n })) in cc
 
-pub then_open : (h : Open) → spec.is_then (Some (place_of h)) ≡ true → place_of h ≡ place.InThen
+pub then_open : (h : Open) → spec.is_then (Some (place_of_open h)) ≡ true → place_of_open h ≡ place.InThen
 then_open (begun.Then _) e = refl
 then_open (begun.Else _ _ _) e = cc
 then_open (begun.Case _ _ _) e = cc
@@ -197,7 +197,7 @@ then_open (begun.Otherwise _ _) e = cc
 then_open (begun.While _) e = cc
 then_open (begun.Scan _) e = cc
 
-pub case_open : (h : Open) → spec.takes_cases (Some (place_of h)) ≡ true → place_of h ≡ place.InCase
+pub case_open : (h : Open) → spec.takes_cases (Some (place_of_open h)) ≡ true → place_of_open h ≡ place.InCase
 case_open (begun.Then _) e = cc
 case_open (begun.Else _ _ _) e = cc
 case_open (begun.Case _ _ _) e = refl
@@ -205,7 +205,7 @@ case_open (begun.Otherwise _ _) e = cc
 case_open (begun.While _) e = cc
 case_open (begun.Scan _) e = cc
 
-ends_if : (h : Open) → spec.is_if (Some (place_of h)) ≡ true → ending h ≡ saying.EndIf
+ends_if : (h : Open) → spec.is_if (Some (place_of_open h)) ≡ true → block_ending h ≡ saying.EndIf
 ends_if (begun.Then _) e = refl
 ends_if (begun.Else _ _ _) e = refl
 ends_if (begun.Case _ _ _) e = cc
@@ -213,7 +213,7 @@ ends_if (begun.Otherwise _ _) e = cc
 ends_if (begun.While _) e = cc
 ends_if (begun.Scan _) e = cc
 
-ends_case : (h : Open) → spec.is_case (Some (place_of h)) ≡ true → ending h ≡ saying.EndCase
+ends_case : (h : Open) → spec.is_case (Some (place_of_open h)) ≡ true → block_ending h ≡ saying.EndCase
 ends_case (begun.Then _) e = cc
 ends_case (begun.Else _ _ _) e = cc
 ends_case (begun.Case _ _ _) e = refl
@@ -221,7 +221,7 @@ ends_case (begun.Otherwise _ _) e = refl
 ends_case (begun.While _) e = cc
 ends_case (begun.Scan _) e = cc
 
-ends_while : (h : Open) → spec.is_while (Some (place_of h)) ≡ true → ending h ≡ saying.EndDo
+ends_while : (h : Open) → spec.is_while (Some (place_of_open h)) ≡ true → block_ending h ≡ saying.EndDo
 ends_while (begun.Then _) e = cc
 ends_while (begun.Else _ _ _) e = cc
 ends_while (begun.Case _ _ _) e = cc
@@ -229,7 +229,7 @@ ends_while (begun.Otherwise _ _) e = cc
 ends_while (begun.While _) e = refl
 ends_while (begun.Scan _) e = cc
 
-ends_scan : (h : Open) → spec.is_scan (Some (place_of h)) ≡ true → ending h ≡ saying.EndScan
+ends_scan : (h : Open) → spec.is_scan (Some (place_of_open h)) ≡ true → block_ending h ≡ saying.EndScan
 ends_scan (begun.Then _) e = cc
 ends_scan (begun.Else _ _ _) e = cc
 ends_scan (begun.Case _ _ _) e = cc
@@ -238,7 +238,7 @@ ends_scan (begun.While _) e = cc
 ends_scan (begun.Scan _) e = refl
 
 -- what ends a block where it may stand is the block's ending
-pub ending_said : (h : Open) (s : Saying) (n : ℕ) → is_ending s ≡ true → may_stand (role_of s) (Some (place_of h)) ≡ true → said n s ≡ line n (ending h) ∷ []
+pub ending_said : (h : Open) (s : Saying) (n : ℕ) → is_ending s ≡ true → may_stand (role_of s) (Some (place_of_open h)) ≡ true → lines_of_saying n s ≡ line n (block_ending h) ∷ []
 ending_said h saying.Nothing n e m = absurd cc
 ending_said h (saying.Whole _) n e m = absurd cc
 ending_said h (saying.If _) n e m = absurd cc
@@ -255,7 +255,7 @@ ending_said h saying.EndScan n e m = ap (λ s. line n s ∷ []) (sym (ends_scan 
 ending_said h (saying.Procedure _) n e m = absurd cc
 
 -- behind DO CASE only ENDCASE ends the block
-pub choice_ending : (s : Saying) (n : ℕ) → is_ending s ≡ true → may_stand (role_of s) (Some place.BeforeCases) ≡ true → said n s ≡ line n saying.EndCase ∷ []
+pub choice_ending : (s : Saying) (n : ℕ) → is_ending s ≡ true → may_stand (role_of s) (Some place.BeforeCases) ≡ true → lines_of_saying n s ≡ line n saying.EndCase ∷ []
 choice_ending saying.Nothing n e m = absurd cc
 choice_ending (saying.Whole _) n e m = absurd cc
 choice_ending (saying.If _) n e m = absurd cc
@@ -321,7 +321,7 @@ pub part_awaited : (ps others : List Part) (p : Part) → others ≡ [] → ps +
 part_awaited ps others p n = sym (ap (λ (qs : List Part). qs ++ p ∷ []) (ap (λ (qs : List Part). ps ++ qs) n ∙ append-nil ps))
 
 -- the innermost block goes on with another part
-pub parts_divided : (n bs cs : List OpenBlock) (b c : OpenBlock) (others : List Part) (next : Place) → bs ≡ n ++ b ∷ [] → others ≡ [] → cs ≡ n ++ c ∷ [] → place_of c.head ≡ next → c.line ≡ b.line
+pub parts_divided : (n bs cs : List OpenBlock) (b c : OpenBlock) (others : List Part) (next : Place) → bs ≡ n ++ b ∷ [] → others ≡ [] → cs ≡ n ++ c ∷ [] → place_of_open c.head ≡ next → c.line ≡ b.line
     → map part_of_block cs ++ [] ≡ spec.divide_at (map part_of_block bs ++ others) (innermost (map part_of_block bs ++ others)) next
 parts_divided n bs cs b c others next e o f p l =
     append-nil (map part_of_block cs) ∙ part_more n cs c f
@@ -348,14 +348,14 @@ map_nil f [] e = refl
 map_nil f (x ∷ xs) e = cc
 
 -- a command of one line was taken
-pub whole_stands : (ps : List Part) (a : Act) → fault_of ps (role_of (saying.Whole a)) ≡ None → spec.holds_commands (option_map (λ part. part.place) (innermost ps)) ≡ true
-whole_stands ps a e = let w = whole_role a in stands w.0 (ap (fault_of ps) (sym w.1) ∙ e)
+pub whole_stands : (ps : List Part) (a : Act) → fault_of_place ps (role_of (saying.Whole a)) ≡ None → spec.holds_commands (option_map (λ part. part.place) (innermost ps)) ≡ true
+whole_stands ps a e = let w = whole_role a in stands w.0 (ap (fault_of_place ps) (sym w.1) ∙ e)
   where
-    stands : (b : Bool) → fault_of ps (if b then role.Leap else role.Plain) ≡ None → spec.holds_commands (option_map (λ part. part.place) (innermost ps)) ≡ true
+    stands : (b : Bool) → fault_of_place ps (if b then role.Leap else role.Plain) ≡ None → spec.holds_commands (option_map (λ part. part.place) (innermost ps)) ≡ true
     stands true e = standing ps role.Leap e
     stands false e = standing ps role.Plain e
 
-pub whole_took : {E : Type 0} (b : Builder) (n : ℕ) (s : Single) (r : Result Builder E) → fault_of (built_parts b) (role_of (saying.Whole (act_of s))) ≡ None
+pub whole_took : {E : Type 0} (b : Builder) (n : ℕ) (s : Single) (r : Result Builder E) → fault_of_place (built_parts b) (role_of (saying.Whole (act_of s))) ≡ None
     → (awaited b.current ≡ [] → IfOk r (λ c. (built_lines c ≡ built_lines b ++ form_lines (Statement s) n) × (built_parts c ≡ built_parts b)))
     → IfOk r (Took b n (saying.Whole (act_of s)))
 whole_took b n s (Ok c) e h =
@@ -365,27 +365,27 @@ whole_took b n s (Err x) e h = tt
 
 -- a line that opens a block was taken
 pub open_took : {E : Type 0} (b : Builder) (n : ℕ) (h : Open) (s : Saying) (r : Result Builder E) → spec.holds_commands (option_map (λ part. part.place) (innermost (built_parts b))) ≡ true
-    → said n s ≡ head_lines n h → parts_after (built_parts b) n (role_of s) ≡ built_parts b ++ (record { place = place_of h; line = n }) ∷ []
-    → (awaited b.current ≡ [] → IfOk r (λ c. (built_lines c ≡ built_lines b ++ head_lines n h) × (built_parts c ≡ built_parts b ++ (record { place = place_of h; line = n }) ∷ [])))
+    → lines_of_saying n s ≡ head_lines n h → parts_after (built_parts b) n (role_of s) ≡ built_parts b ++ (record { place = place_of_open h; line = n }) ∷ []
+    → (awaited b.current ≡ [] → IfOk r (λ c. (built_lines c ≡ built_lines b ++ head_lines n h) × (built_parts c ≡ built_parts b ++ (record { place = place_of_open h; line = n }) ∷ [])))
     → IfOk r (Took b n s)
 open_took b n h s (Ok c) m e p k =
-    let w : (built_lines c ≡ built_lines b ++ head_lines n h) × (built_parts c ≡ built_parts b ++ (record { place = place_of h; line = n }) ∷ []) = k (no_case (map part_of_block b.blocks.items) b.current m) in
+    let w : (built_lines c ≡ built_lines b ++ head_lines n h) × (built_parts c ≡ built_parts b ++ (record { place = place_of_open h; line = n }) ∷ []) = k (no_case (map part_of_block b.blocks.items) b.current m) in
     record { lines = w.0 ∙ ap (λ (ls : Lines). built_lines b ++ ls) (sym e); parts = w.1 ∙ sym p }
 open_took b n h s (Err x) m e p k = tt
 
 -- the contract of a line that is taken
 abbrev pub Takes : {E : Type 0} → Builder → ℕ → Result Builder E → Sentence → Type 0
-Takes b n r s = fault_of (built_parts b) (role_of (saying_of s)) ≡ None → (spec.is_procedure (role_of (saying_of s)) ≡ true → built_parts b ≡ []) → IfOk r (Took b n (saying_of s))
+Takes b n r s = fault_of_place (built_parts b) (role_of (saying_of s)) ≡ None → (spec.begins_procedure (role_of (saying_of s)) ≡ true → built_parts b ≡ []) → IfOk r (Took b n (saying_of s))
 
 pub nothing_took : (b : Builder) (n : ℕ) (s : Sentence) → s ≡ sentence.Nothing
-    → fault_of (built_parts b) (role_of (saying_of s)) ≡ None → (spec.is_procedure (role_of (saying_of s)) ≡ true → built_parts b ≡ []) → Took b n (saying_of s) b
+    → fault_of_place (built_parts b) (role_of (saying_of s)) ≡ None → (spec.begins_procedure (role_of (saying_of s)) ≡ true → built_parts b ≡ []) → Took b n (saying_of s) b
 nothing_took b n s i e p = subst (λ (t : Sentence). Took b n (saying_of t) b) (sym i) (record { lines = sym (append-nil (built_lines b)); parts = sym (after_nothing (built_parts b) n) })
 
 pub choice_took : (b : Builder) (n : ℕ) (s : Sentence) (c : Builder) → s ≡ sentence.DoCase → (awaited b.current ≡ [] → Took b n saying.DoCase c)
-    → fault_of (built_parts b) (role_of (saying_of s)) ≡ None → (spec.is_procedure (role_of (saying_of s)) ≡ true → built_parts b ≡ []) → Took b n (saying_of s) c
+    → fault_of_place (built_parts b) (role_of (saying_of s)) ≡ None → (spec.begins_procedure (role_of (saying_of s)) ≡ true → built_parts b ≡ []) → Took b n (saying_of s) c
 choice_took b n s c i h e p =
     subst (λ (t : Sentence). Took b n (saying_of t) c) (sym i)
-    (h (no_case (map part_of_block b.blocks.items) b.current (standing (built_parts b) role.DoCase (subst (λ (t : Sentence). fault_of (built_parts b) (role_of (saying_of t)) ≡ None) i e))))
+    (h (no_case (map part_of_block b.blocks.items) b.current (standing (built_parts b) role.DoCase (subst (λ (t : Sentence). fault_of_place (built_parts b) (role_of (saying_of t)) ≡ None) i e))))
 
 pub last_case : (n o b h t x : Lines) → o ≡ n ++ (b ++ h) → h ++ t ≡ x → o ++ t ≡ n ++ (b ++ x)
 last_case n o b h t x eo ex = rw (eo, ← ex) (simp append_assoc)
@@ -440,33 +440,33 @@ started p b o c l ep eo ec = rw (ep, eo, ec) (append-nil (b ++ l))
 -- the innermost block was ended
 pub block_ended : {E : Type 0} (bs n : Vec OpenBlock Global) (b : OpenBlock) (body : Vec Command Global) (end : ℕ) (s : Saying) (f : Form) (r : Result (Vec Command Global) E) → bs.items ≡ n.items ++ b ∷ []
     → is_ending s ≡ true → may_stand (role_of s) (option_map (λ part. part.place) (innermost (map part_of_block bs.items))) ≡ true
-    → ((k : ℕ) → form_lines f k ≡ head_lines k b.head ++ (body_lines body.items ++ line end (ending b.head) ∷ []))
+    → ((k : ℕ) → form_lines f k ≡ head_lines k b.head ++ (body_lines body.items ++ line end (block_ending b.head) ∷ []))
     → IfOk r (λ cs. body_lines cs.items ≡ body_lines b.before.items ++ form_lines f b.line)
-    → IfOk r (λ cs. (opens_lines n.items ++ body_lines cs.items ≡ (opens_lines bs.items ++ body_lines body.items) ++ said end s)
+    → IfOk r (λ cs. (opens_lines n.items ++ body_lines cs.items ≡ (opens_lines bs.items ++ body_lines body.items) ++ lines_of_saying end s)
     × (map part_of_block n.items ≡ outer (map part_of_block bs.items)))
 block_ended bs n b body end s f (Err x) o e m g h = tt
 block_ended bs n b body end s f (Ok cs) o e m g h =
     let p = part_more n.items bs.items b o in
     let i = ap innermost p ∙ innermost_last (map part_of_block n.items) (part_of_block b) in
     let w = ending_said b.head s end e (ap (λ (x : Option Part). may_stand (role_of s) (option_map (λ part. part.place) x)) (sym i) ∙ m) in (
-      ended_lines (opens_lines n.items) (opens_lines bs.items) (body_lines cs.items) (body_lines b.before.items) (head_lines b.line b.head) (body_lines body.items) (said end s) (form_lines f b.line)
+      ended_lines (opens_lines n.items) (opens_lines bs.items) (body_lines cs.items) (body_lines b.before.items) (head_lines b.line b.head) (body_lines body.items) (lines_of_saying end s) (form_lines f b.line)
           h (g b.line ∙ ap (λ (ls : Lines). head_lines b.line b.head ++ (body_lines body.items ++ ls)) (sym w))
           (put_more open_lines n.items bs.items b (body_lines b.before.items ++ head_lines b.line b.head) o refl),
       sym (ap outer p ∙ outer_last (map part_of_block n.items) (part_of_block b)),
     )
 
 -- an ending line was taken, behind commands
-pub ended_last : (b : Builder) (bs : Vec OpenBlock Global) (body commands : Vec Command Global) (n : ℕ) (s : Saying) → b.current ≡ Commands body → is_ending s ≡ true → fault_of (built_parts b) (role_of s) ≡ None
+pub ended_last : (b : Builder) (bs : Vec OpenBlock Global) (body commands : Vec Command Global) (n : ℕ) (s : Saying) → b.current ≡ Commands body → is_ending s ≡ true → fault_of_place (built_parts b) (role_of s) ≡ None
     → (may_stand (role_of s) (option_map (λ part. part.place) (innermost (map part_of_block b.blocks.items))) ≡ true
-    → (opens_lines bs.items ++ body_lines commands.items ≡ (opens_lines b.blocks.items ++ body_lines body.items) ++ said n s) × (map part_of_block bs.items ≡ outer (map part_of_block b.blocks.items)))
+    → (opens_lines bs.items ++ body_lines commands.items ≡ (opens_lines b.blocks.items ++ body_lines body.items) ++ lines_of_saying n s) × (map part_of_block bs.items ≡ outer (map part_of_block b.blocks.items)))
     → Took b n s (record { alloc = b.alloc; finished = b.finished; blocks = bs; current = Commands commands })
 ended_last b bs body commands n s i e f h =
     let p : built_parts b ≡ map part_of_block b.blocks.items = ap (λ (k : Current). map part_of_block b.blocks.items ++ awaited k) i ∙ append-nil (map part_of_block b.blocks.items) in
-    let w : (opens_lines bs.items ++ body_lines commands.items ≡ (opens_lines b.blocks.items ++ body_lines body.items) ++ said n s) × (map part_of_block bs.items ≡ outer (map part_of_block b.blocks.items))
+    let w : (opens_lines bs.items ++ body_lines commands.items ≡ (opens_lines b.blocks.items ++ body_lines body.items) ++ lines_of_saying n s) × (map part_of_block bs.items ≡ outer (map part_of_block b.blocks.items))
     = h (ap (λ (ps : List Part). may_stand (role_of s) (option_map (λ part. part.place) (innermost ps))) (sym p) ∙ standing (built_parts b) (role_of s) f) in
     record {
-      lines = grown (finished_lines b.finished) (opens_lines b.blocks.items) (current_lines b.current) (opens_lines bs.items) (body_lines commands.items) (said n s)
-          (w.0 ∙ ap (λ (k : Current). (opens_lines b.blocks.items ++ current_lines k) ++ said n s) (sym i));
+      lines = grown (finished_lines b.finished) (opens_lines b.blocks.items) (current_lines b.current) (opens_lines bs.items) (body_lines commands.items) (lines_of_saying n s)
+          (w.0 ∙ ap (λ (k : Current). (opens_lines b.blocks.items ++ current_lines k) ++ lines_of_saying n s) (sym i));
       parts = append-nil (map part_of_block bs.items) ∙ w.1 ∙ ap outer (sym p) ∙ sym (after_ending (built_parts b) n s e);
     }
 
@@ -474,7 +474,7 @@ choice_lines : (o p b f d y : Lines) → p ≡ b ++ f → f ≡ d ++ y → o ++ 
 choice_lines o p b f d y ep ef = rw (ep, ef) (regrouped_choice o b d y)
 
 -- ENDCASE was taken directly behind DO CASE
-pub ended_choice : (b : Builder) (opening : ℕ) (before commands : Vec Command Global) (cases : Vec Case Global) (f : Form) (n : ℕ) (s : Saying) → b.current ≡ DoCase opening before → is_ending s ≡ true → fault_of (built_parts b) (role_of s) ≡ None
+pub ended_choice : (b : Builder) (opening : ℕ) (before commands : Vec Command Global) (cases : Vec Case Global) (f : Form) (n : ℕ) (s : Saying) → b.current ≡ DoCase opening before → is_ending s ≡ true → fault_of_place (built_parts b) (role_of s) ≡ None
     → cases.items ≡ [] → ((k : ℕ) → form_lines f k ≡ line k saying.DoCase ∷ (cases_lines cases.items ++ line n saying.EndCase ∷ []))
     → body_lines commands.items ≡ body_lines before.items ++ form_lines f opening
     → Took b n s (record { alloc = b.alloc; finished = b.finished; blocks = b.blocks; current = Commands commands })
@@ -482,11 +482,11 @@ ended_choice b opening before commands cases f n s i e t none g h =
     let p : built_parts b ≡ map part_of_block b.blocks.items ++ (record { place = place.BeforeCases; line = opening }) ∷ [] = ap (λ (k : Current). map part_of_block b.blocks.items ++ awaited k) i in
     let last = ap innermost p ∙ innermost_last (map part_of_block b.blocks.items) (record { place = place.BeforeCases; line = opening }) in
     let w = choice_ending s n e (ap (λ (o : Option Part). may_stand (role_of s) (option_map (λ part. part.place) o)) (sym last) ∙ standing (built_parts b) (role_of s) t) in
-    let form : form_lines f opening ≡ line opening saying.DoCase ∷ said n s = g opening ∙ ap (λ (cs : List Case). line opening saying.DoCase ∷ (cases_lines cs ++ line n saying.EndCase ∷ [])) none ∙ ap (λ (ls : Lines). line opening saying.DoCase ∷ ls) (sym w) in
+    let form : form_lines f opening ≡ line opening saying.DoCase ∷ lines_of_saying n s = g opening ∙ ap (λ (cs : List Case). line opening saying.DoCase ∷ (cases_lines cs ++ line n saying.EndCase ∷ [])) none ∙ ap (λ (ls : Lines). line opening saying.DoCase ∷ ls) (sym w) in
     record {
-      lines = grown (finished_lines b.finished) (opens_lines b.blocks.items) (current_lines b.current) (opens_lines b.blocks.items) (body_lines commands.items) (said n s)
-          (choice_lines (opens_lines b.blocks.items) (body_lines commands.items) (body_lines before.items) (form_lines f opening) (line opening saying.DoCase ∷ []) (said n s) h form
-          ∙ ap (λ (k : Current). (opens_lines b.blocks.items ++ current_lines k) ++ said n s) (sym i));
+      lines = grown (finished_lines b.finished) (opens_lines b.blocks.items) (current_lines b.current) (opens_lines b.blocks.items) (body_lines commands.items) (lines_of_saying n s)
+          (choice_lines (opens_lines b.blocks.items) (body_lines commands.items) (body_lines before.items) (form_lines f opening) (line opening saying.DoCase ∷ []) (lines_of_saying n s) h form
+          ∙ ap (λ (k : Current). (opens_lines b.blocks.items ++ current_lines k) ++ lines_of_saying n s) (sym i));
       parts = append-nil (map part_of_block b.blocks.items)
           ∙ sym (after_ending (built_parts b) n s e ∙ ap outer p ∙ outer_last (map part_of_block b.blocks.items) (record { place = place.BeforeCases; line = opening }));
     }

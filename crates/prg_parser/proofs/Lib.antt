@@ -1,10 +1,10 @@
 pub mod BuildLemmas
 pub mod FileLemmas
+pub mod HalfReadLemmas
 pub mod JoinLemmas
 pub mod LayoutLemmas
 pub mod ListingLemmas
-pub mod MarkLemmas
 pub mod OneProgram
+pub mod ParseLemmas
 pub mod RangeLemmas
-pub mod TakingLemmas
 pub mod VerdictLemmas

@@ -12,11 +12,11 @@ use Rattle.prg_parser.specs.declared.blocks.Place.{Place}
 use Rattle.prg_parser.specs.declared.blocks.Place.TheVariants.{InThen, InElse, BeforeCases, InCase, InOtherwise, InWhile, InScan}
 use Rattle.prg_line.specs.declared.role.Role.{Role}
 use Rattle.prg_line.specs.declared.role.Role.TheVariants.{Nothing, Plain, Leap, Procedure, If, Else, EndIf, DoCase, Case, Otherwise, EndCase, DoWhile, EndDo, Scan, EndScan}
-use Rattle.prg_parser.specs.declared.judging.Mark.{Mark}
+use Rattle.prg_parser.specs.declared.judging.LineMark.{LineMark}
 use Rattle.prg_parser.specs.Lines as lines
 use Rattle.text_lines.specs.Lines as text
 use Rattle.prg_parser.specs.Lines.{Joined}
-use Rattle.prg_parser.specs.Marks.{mark_of, marks}
+use Rattle.prg_parser.specs.Marks.{line_mark, marks}
 use Rattle.prg_parser.specs.Verdict as spec
 use Rattle.prg_parser.specs.Verdict.{IsLineOf, verdict}
 use Rattle.prg_parser.specs.Blocks as blocks
@@ -111,43 +111,43 @@ unended-in : (count : ℕ) (parts : List Part) (unended : Option ℕ) (x : Bool)
 unended-in count parts unended true h u = earlier-in count unended (spec.opening_line parts) u (opening-in count parts (slice_get parts 0) h refl)
 unended-in count parts unended false h u = u
 
-block-in : (count : ℕ) (o : Option ℕ) → LineIn count o → FaultIn count (option_map spec.block_at o)
+block-in : (count : ℕ) (o : Option ℕ) → LineIn count o → FaultIn count (option_map spec.block_fault_at o)
 block-in count None h = tt
 block-in count (Some line) h = h
 
-or-in : (count line : ℕ) (o : Option ParseFaultKind) (others : Option ParseFault) → IsLineOf count line → FaultIn count others → FaultIn count (spec.or_else o line others)
+or-in : (count line : ℕ) (o : Option ParseFaultKind) (others : Option ParseFault) → IsLineOf count line → FaultIn count others → FaultIn count (spec.or_fault o line others)
 or-in count line None others l h = h
 or-in count line (Some kind) others l h = l
 
-verdict-in : (count : ℕ) (parts : List Part) (unended : Option ℕ) (marks : List Mark) → InFile count parts → LineIn count unended → All (λ mark. IsLineOf count mark.line) marks → FaultIn count (verdict parts unended marks)
+verdict-in : (count : ℕ) (parts : List Part) (unended : Option ℕ) (marks : List LineMark) → InFile count parts → LineIn count unended → All (λ mark. IsLineOf count mark.line) marks → FaultIn count (verdict parts unended marks)
 unfolding verdict
 verdict-in count parts unended [] h u m = block-in count (spec.earlier unended (spec.opening_line parts)) (earlier-in count unended (spec.opening_line parts) u (opening-in count parts (slice_get parts 0) h refl))
 verdict-in count parts unended (mark ∷ others) h u m =
-    let l : IsLineOf count mark.line = All-head (λ (x : Mark). IsLineOf count x.line) mark others m in
-    or-in count mark.line (spec.wrong parts mark) (verdict (parts_after parts mark.line mark.role) (spec.unended_after parts unended mark) others) l
+    let l : IsLineOf count mark.line = All-head (λ (x : LineMark). IsLineOf count x.line) mark others m in
+    or-in count mark.line (spec.wrong_in_line parts mark) (verdict (parts_after parts mark.line mark.role) (spec.unended_after parts unended mark) others) l
     (verdict-in count (parts_after parts mark.line mark.role) (spec.unended_after parts unended mark) others
     (after-in count mark.line parts mark.role h l)
-    (unended-in count parts unended (blocks.is_procedure mark.role) h u)
-    (All-tail (λ (x : Mark). IsLineOf count x.line) mark others m))
+    (unended-in count parts unended (blocks.begins_procedure mark.role) h u)
+    (All-tail (λ (x : LineMark). IsLineOf count x.line) mark others m))
 
 -- from a list of numbers to the elements that they are of
 by_number : {X : Type 0} (P : ℕ → Type 0) (f : X → ℕ) (xs : List X) → All P (map f xs) → All (λ x. P (f x)) xs
 by_number P f [] h = All-nil (λ x. P (f x))
 by_number P f (x ∷ xs) h = All-cons (λ x. P (f x)) x xs (All-head P (f x) (map f xs) h) (by_number P f xs (All-tail P (f x) (map f xs) h))
 
-pub marked-lines : (ls : List Joined) → map (λ (m : Mark). m.line) (map mark_of ls) ≡ map (λ (j : Joined). j.first) ls
+pub marked-lines : (ls : List Joined) → map (λ (m : LineMark). m.line) (map line_mark ls) ≡ map (λ (j : Joined). j.first) ls
 marked-lines [] = refl
 marked-lines (j ∷ ls) = ap (λ (ns : List ℕ). j.first ∷ ns) (marked-lines ls)
 
 -- the lines of a file's marks
-pub marked : (bytes : List ℕ) → All (λ (x : Mark). IsLineOf (length (text.lines (lines.before_end bytes))) x.line) (marks bytes)
+pub marked : (bytes : List ℕ) → All (λ (x : LineMark). IsLineOf (length (text.lines (lines.before_end bytes))) x.line) (marks bytes)
 marked bytes =
     let count = length (text.lines (lines.before_end bytes)) in
     let all : All (λ (x : Joined). IsLineOf count x.first) (lines.joined_lines bytes) =
     All-weaker (Numbered 1 count) (λ (x : Joined). IsLineOf count x.first) (λ x h. numbered-line count x.first h) (lines.joined_lines bytes) (joined-in 1 (text.lines (lines.before_end bytes))) in
     let numbers : All (IsLineOf count) (map (λ (x : Joined). x.first) (lines.joined_lines bytes)) = All-map (IsLineOf count) (λ (x : Joined). x.first) (lines.joined_lines bytes) all in
-    by_number (IsLineOf count) (λ (x : Mark). x.line) (marks bytes)
-    (All-same (IsLineOf count) (map (λ (x : Mark). x.line) (marks bytes)) (map (λ (x : Joined). x.first) (lines.joined_lines bytes)) (marked-lines (lines.joined_lines bytes)) numbers)
+    by_number (IsLineOf count) (λ (x : LineMark). x.line) (marks bytes)
+    (All-same (IsLineOf count) (map (λ (x : LineMark). x.line) (marks bytes)) (map (λ (x : Joined). x.first) (lines.joined_lines bytes)) (marked-lines (lines.joined_lines bytes)) numbers)
 
 pub names_line : (bytes : List ℕ) (fault : ParseFault) → verdict [] None (marks bytes) ≡ Some fault → IsLineOf (length (text.lines (lines.before_end bytes))) fault.line
 names_line bytes fault v =
@@ -170,34 +170,34 @@ opened-by-in count line parts (Some place) h l = opened-in count line parts plac
 behind-in : (count line : ℕ) (parts : List Part) (deeper : ℕ) (role : Role) → InFile count parts → IsLineOf count line → InFile count (listing.parts_behind parts deeper line role)
 unfolding listing.parts_behind
 behind-in count line parts deeper role h l =
-    one-of (InFile count) (blocks.is_procedure role) _ _ (All-nil (λ (p : Part). IsLineOf count p.line))
+    one-of (InFile count) (blocks.begins_procedure role) _ _ (All-nil (λ (p : Part). IsLineOf count p.line))
     (one-of (InFile count) (nat_lt 0 deeper) _ _ h
-    (one-of (InFile count) (is_none (blocks.fault_of parts role)) _ _ (after-in count line parts role h l)
-    (one-of (InFile count) (nat_le 32 (length parts)) _ _ h (opened-by-in count line parts (blocks.opened role) h l))))
+    (one-of (InFile count) (is_none (blocks.fault_of_place parts role)) _ _ (after-in count line parts role h l)
+    (one-of (InFile count) (nat_le 32 (length parts)) _ _ h (opened-by-in count line parts (blocks.place_opened role) h l))))
 
-listed-in : (count line : ℕ) (o : Option ParseFaultKind) → IsLineOf count line → All (Named count) (listing.listed line o)
+listed-in : (count line : ℕ) (o : Option ParseFaultKind) → IsLineOf count line → All (Named count) (listing.listed_fault line o)
 listed-in count line None l = All-nil (Named count)
 listed-in count line (Some kind) l = All-cons (Named count) (record { line = line; kind = kind }) [] l (All-nil (Named count))
 
-lines-in : (count : ℕ) (parts : List Part) (deeper : ℕ) (marks : List Mark) → All (λ mark. IsLineOf count mark.line) marks → All (Named count) (listing.line_faults parts deeper marks)
+lines-in : (count : ℕ) (parts : List Part) (deeper : ℕ) (marks : List LineMark) → All (λ mark. IsLineOf count mark.line) marks → All (Named count) (listing.line_faults parts deeper marks)
 unfolding listing.line_faults
 lines-in count parts deeper [] m = All-nil (Named count)
 lines-in count parts deeper (mark ∷ others) m =
-    All-append (Named count) (listing.listed mark.line (listing.wrong_at parts deeper mark)) (listing.line_faults (listing.parts_behind parts deeper mark.line mark.role) (listing.deeper_behind parts deeper mark.role) others)
-    (listed-in count mark.line (listing.wrong_at parts deeper mark) (All-head (λ (x : Mark). IsLineOf count x.line) mark others m))
-    (lines-in count (listing.parts_behind parts deeper mark.line mark.role) (listing.deeper_behind parts deeper mark.role) others (All-tail (λ (x : Mark). IsLineOf count x.line) mark others m))
+    All-append (Named count) (listing.listed_fault mark.line (listing.wrong_at parts deeper mark)) (listing.line_faults (listing.parts_behind parts deeper mark.line mark.role) (listing.deeper_behind parts deeper mark.role) others)
+    (listed-in count mark.line (listing.wrong_at parts deeper mark) (All-head (λ (x : LineMark). IsLineOf count x.line) mark others m))
+    (lines-in count (listing.parts_behind parts deeper mark.line mark.role) (listing.deeper_behind parts deeper mark.role) others (All-tail (λ (x : LineMark). IsLineOf count x.line) mark others m))
 
 ended-in : (count : ℕ) (parts : List Part) → InFile count parts → All (Named count) (listing.unended parts)
-ended-in count parts h = All-map (Named count) (λ (p : Part). spec.block_at p.line) parts h
+ended-in count parts h = All-map (Named count) (λ (p : Part). spec.block_fault_at p.line) parts h
 
-left-in : (count : ℕ) (parts : List Part) (deeper : ℕ) (marks : List Mark) → InFile count parts → All (λ mark. IsLineOf count mark.line) marks → All (Named count) (listing.left_open parts deeper marks)
+left-in : (count : ℕ) (parts : List Part) (deeper : ℕ) (marks : List LineMark) → InFile count parts → All (λ mark. IsLineOf count mark.line) marks → All (Named count) (listing.left_open parts deeper marks)
 unfolding listing.left_open
 left-in count parts deeper [] h m = ended-in count parts h
 left-in count parts deeper (mark ∷ others) h m =
-    let l : IsLineOf count mark.line = All-head (λ (x : Mark). IsLineOf count x.line) mark others m in
+    let l : IsLineOf count mark.line = All-head (λ (x : LineMark). IsLineOf count x.line) mark others m in
     All-append (Named count) (listing.unended_before parts mark.role) (listing.left_open (listing.parts_behind parts deeper mark.line mark.role) (listing.deeper_behind parts deeper mark.role) others)
-    (one-of (All (Named count)) (blocks.is_procedure mark.role) (listing.unended parts) [] (ended-in count parts h) (All-nil (Named count)))
-    (left-in count (listing.parts_behind parts deeper mark.line mark.role) (listing.deeper_behind parts deeper mark.role) others (behind-in count mark.line parts deeper mark.role h l) (All-tail (λ (x : Mark). IsLineOf count x.line) mark others m))
+    (one-of (All (Named count)) (blocks.begins_procedure mark.role) (listing.unended parts) [] (ended-in count parts h) (All-nil (Named count)))
+    (left-in count (listing.parts_behind parts deeper mark.line mark.role) (listing.deeper_behind parts deeper mark.role) others (behind-in count mark.line parts deeper mark.role h l) (All-tail (λ (x : LineMark). IsLineOf count x.line) mark others m))
 
 pub names_lines : (bytes : List ℕ) → All (λ (fault : ParseFault). IsLineOf (length (text.lines (lines.before_end bytes))) fault.line) (listing.all_faults (marks bytes))
 names_lines bytes =

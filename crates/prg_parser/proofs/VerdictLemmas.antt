@@ -1,52 +1,34 @@
 -- Lemmas on the fault that is told.
 
-use Rattle.std.proofs.Common.{◌≡◌, ℕ, ◌+◌, ◌<◌, List, [], ◌∷◌, Option, Some, None, length, drop, get_or, refl, sym, ◌∙◌, ap, add-one, drop-cons, Bool, true, false}
+use Rattle.std.proofs.Common.{◌≡◌, ℕ, ◌+◌, ◌<◌, List, [], ◌∷◌, Option, Some, None, length, drop, get_or, refl, add-one, drop-cons, Bool, true, false}
 use Rattle.std.specs.Prelude.{option_map, nat_le, if◌then◌else◌}
 use Rattle.prg_expr.specs.declared.fault.ParseFaultKind.{ParseFaultKind}
 use Rattle.prg_expr.specs.declared.fault.ParseFault.{ParseFault}
 use Rattle.prg_parser.specs.declared.blocks.Part.{Part}
-use Rattle.prg_parser.specs.declared.judging.Mark.{Mark}
+use Rattle.prg_parser.specs.declared.judging.LineMark.{LineMark}
 use Rattle.prg_parser.specs.Verdict as spec
 use Rattle.prg_parser.specs.Verdict.{verdict}
 use Rattle.prg_parser.specs.Blocks.{parts_after}
 use Rattle.prg_expr.specs.Faults.{least, rank}
 
-front-told : (parts : List Part) (unended : Option ℕ) (mark : Mark) (others : List Mark) (kind : ParseFaultKind) → spec.wrong parts mark ≡ Some kind
+-- a line with a fault
+pub front-told : (parts : List Part) (unended : Option ℕ) (mark : LineMark) (others : List LineMark) (kind : ParseFaultKind) → spec.wrong_in_line parts mark ≡ Some kind
     → verdict parts unended (mark ∷ others) ≡ Some (record { line = mark.line; kind = kind })
 unfolding verdict
 front-told parts unended mark others kind e = rw (e) refl
 
-front-passed : (parts : List Part) (unended : Option ℕ) (mark : Mark) (others : List Mark) → spec.wrong parts mark ≡ None
+-- a line without one
+pub front-passed : (parts : List Part) (unended : Option ℕ) (mark : LineMark) (others : List LineMark) → spec.wrong_in_line parts mark ≡ None
     → verdict parts unended (mark ∷ others) ≡ verdict (parts_after parts mark.line mark.role) (spec.unended_after parts unended mark) others
 unfolding verdict
 front-passed parts unended mark others e = rw (e) refl
 
-pub at-end : (parts : List Part) (unended : Option ℕ) → verdict parts unended [] ≡ option_map spec.block_at (spec.earlier unended (spec.opening_line parts))
+pub at-end : (parts : List Part) (unended : Option ℕ) → verdict parts unended [] ≡ option_map spec.block_fault_at (spec.earlier unended (spec.opening_line parts))
 unfolding verdict
 at-end parts unended = refl
 
-pub split : (marks : List Mark) (i : ℕ) (d : Mark) → i < length marks → get_or marks i d ∷ drop (i + 1) marks ≡ drop i marks
+pub split : (marks : List LineMark) (i : ℕ) (d : LineMark) → i < length marks → get_or marks i d ∷ drop (i + 1) marks ≡ drop i marks
 split marks i d below = rw (add-one, drop-cons marks i d) refl
-
--- a line with a fault
-pub told : (parts : List Part) (unended : Option ℕ) (marks : List Mark) (i : ℕ) (d : Mark) (kind : ParseFaultKind) (whole : Option ParseFault) → i < length marks
-    → spec.wrong parts (get_or marks i d) ≡ Some kind → verdict parts unended (drop i marks) ≡ whole
-    → Some (record { line = (get_or marks i d).line; kind = kind }) ≡ whole
-told parts unended marks i d kind whole below e h =
-    sym (front-told parts unended (get_or marks i d) (drop (i + 1) marks) kind e)
-    ∙ ap (verdict parts unended) (split marks i d below)
-    ∙ h
-
--- a line without one
-pub passed : (parts next : List Part) (unended after : Option ℕ) (marks : List Mark) (i : ℕ) (d : Mark) (whole : Option ParseFault) → i < length marks
-    → spec.wrong parts (get_or marks i d) ≡ None → next ≡ parts_after parts (get_or marks i d).line (get_or marks i d).role → after ≡ spec.unended_after parts unended (get_or marks i d)
-    → verdict parts unended (drop i marks) ≡ whole → verdict next after (drop (i + 1) marks) ≡ whole
-passed parts next unended after marks i d whole below e n a h =
-    ap (λ (p : List Part). verdict p after (drop (i + 1) marks)) n
-    ∙ ap (λ (o : Option ℕ). verdict (parts_after parts (get_or marks i d).line (get_or marks i d).role) o (drop (i + 1) marks)) a
-    ∙ sym (front-passed parts unended (get_or marks i d) (drop (i + 1) marks) e)
-    ∙ ap (verdict parts unended) (split marks i d below)
-    ∙ h
 
 some_told : (b : Bool) (k l : ParseFaultKind) → (if b then Some k else Some l) ≡ None → ⊥
 some_told true k l e = cc

@@ -75,12 +75,12 @@ is_leap Leap = true
 is_leap _ = false
 
 -- the part behind a line that opens a block
-abbrev pub opened : Role → Option Place
-opened If = Some InThen
-opened DoCase = Some BeforeCases
-opened DoWhile = Some InWhile
-opened Scan = Some InScan
-opened _ = None
+abbrev pub place_opened : Role → Option Place
+place_opened If = Some InThen
+place_opened DoCase = Some BeforeCases
+place_opened DoWhile = Some InWhile
+place_opened Scan = Some InScan
+place_opened _ = None
 
 -- the part behind a line that divides a block
 abbrev pub divided : Role → Option Place
@@ -89,16 +89,16 @@ divided Case = Some InCase
 divided Otherwise = Some InOtherwise
 divided _ = None
 
-abbrev pub is_end : Role → Bool
-is_end EndIf = true
-is_end EndCase = true
-is_end EndDo = true
-is_end EndScan = true
-is_end _ = false
+abbrev pub ends_block : Role → Bool
+ends_block EndIf = true
+ends_block EndCase = true
+ends_block EndDo = true
+ends_block EndScan = true
+ends_block _ = false
 
-abbrev pub is_procedure : Role → Bool
-is_procedure Procedure = true
-is_procedure _ = false
+abbrev pub begins_procedure : Role → Bool
+begins_procedure Procedure = true
+begins_procedure _ = false
 
 -- the innermost of the open parts, which stand in a list from the outermost on
 abbrev pub innermost : List Part → Option Part
@@ -106,11 +106,11 @@ innermost parts = slice_get parts (length parts - 1)
 
 -- the fault of a line where these parts are open: it must fit its place, LOOP and EXIT stand in a loop, and no more
 -- than 32 blocks are open
-unfoldable pub fault_of : List Part → Role → Option ParseFaultKind
-fault_of parts role =
+unfoldable pub fault_of_place : List Part → Role → Option ParseFaultKind
+fault_of_place parts role =
     if not (may_stand role (option_map (λ part. part.place) (innermost parts))) then Some Block
     else if is_leap role && not (list_any (λ part. is_loop part.place) parts) then Some Block
-    else if is_some (opened role) && nat_le 32 (length parts) then Some TooDeep
+    else if is_some (place_opened role) && nat_le 32 (length parts) then Some TooDeep
     else None
 
 -- the parts without the innermost
@@ -134,7 +134,7 @@ open_in parts line (Some place) = parts ++ (record { place = place; line = line 
 -- the parts that are open behind a line
 unfoldable pub parts_after : List Part → ℕ → Role → List Part
 parts_after parts line role =
-    if is_procedure role then []
-    else if is_end role then outer parts
+    if begins_procedure role then []
+    else if ends_block role then outer parts
     else if is_some (divided role) then divide parts (divided role)
-    else open_in parts line (opened role)
+    else open_in parts line (place_opened role)

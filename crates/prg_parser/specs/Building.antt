@@ -17,7 +17,7 @@ use Rattle.std.specs.Global.{Vec}
 use Rattle.prg_parser.specs.Blocks.{parts_after, innermost, divide_at}
 use Rattle.prg_line.specs.Saying.{Saying, line, role_of}
 use Rattle.prg_line.specs.Saying as saying
-use Rattle.prg_parser.specs.Layout.{Lines, all_of, body_lines, cases_lines, procedures_lines, said}
+use Rattle.prg_parser.specs.Layout.{Lines, all_of, body_lines, cases_lines, procedures_lines, lines_of_saying}
 
 -- the lines of an open block that begins in this line, up to the one that begins its innermost part
 abbrev pub head_lines : ℕ → Open → Lines
@@ -32,13 +32,13 @@ head_lines n (begun.While e) = line n (saying.DoWhile (tree_of e)) ∷ []
 head_lines n (begun.Scan e) = line n (saying.Scan (option_map tree_of e)) ∷ []
 
 -- what ends the block
-abbrev pub ending : Open → Saying
-ending (begun.Then e) = saying.EndIf
-ending (begun.Else e then at) = saying.EndIf
-ending (begun.Case cases at e) = saying.EndCase
-ending (begun.Otherwise cases at) = saying.EndCase
-ending (begun.While e) = saying.EndDo
-ending (begun.Scan e) = saying.EndScan
+abbrev pub block_ending : Open → Saying
+block_ending (begun.Then e) = saying.EndIf
+block_ending (begun.Else e then at) = saying.EndIf
+block_ending (begun.Case cases at e) = saying.EndCase
+block_ending (begun.Otherwise cases at) = saying.EndCase
+block_ending (begun.While e) = saying.EndDo
+block_ending (begun.Scan e) = saying.EndScan
 
 -- whether a saying ends a block
 abbrev pub is_ending : Saying → Bool
@@ -48,13 +48,13 @@ is_ending saying.EndDo = true
 is_ending saying.EndScan = true
 is_ending _ = false
 
-abbrev pub place_of : Open → Place
-place_of (begun.Then e) = place.InThen
-place_of (begun.Else e then at) = place.InElse
-place_of (begun.Case cases at e) = place.InCase
-place_of (begun.Otherwise cases at) = place.InOtherwise
-place_of (begun.While e) = place.InWhile
-place_of (begun.Scan e) = place.InScan
+abbrev pub place_of_open : Open → Place
+place_of_open (begun.Then e) = place.InThen
+place_of_open (begun.Else e then at) = place.InElse
+place_of_open (begun.Case cases at e) = place.InCase
+place_of_open (begun.Otherwise cases at) = place.InOtherwise
+place_of_open (begun.While e) = place.InWhile
+place_of_open (begun.Scan e) = place.InScan
 
 -- the lines of the commands before an open block, and its own up to the one that begins its innermost part
 abbrev pub open_lines : OpenBlock → Lines
@@ -78,7 +78,7 @@ abbrev pub built_lines : Builder → Lines
 built_lines b = finished_lines b.finished ++ (opens_lines b.blocks.items ++ current_lines b.current)
 
 abbrev pub part_of_block : OpenBlock → Part
-part_of_block b = record { place = place_of b.head; line = b.line }
+part_of_block b = record { place = place_of_open b.head; line = b.line }
 
 -- the part behind a DO CASE whose first CASE is awaited
 abbrev pub awaited : Current → List Part
@@ -91,7 +91,7 @@ built_parts b = map part_of_block b.blocks.items ++ awaited b.current
 
 -- a line was taken: its saying comes behind the lines before, and the open parts are those behind it
 pub record Took (before : Builder) (n : ℕ) (s : Saying) (after : Builder) : Type 0 where
-  pub lines : built_lines after ≡ built_lines before ++ said n s
+  pub lines : built_lines after ≡ built_lines before ++ lines_of_saying n s
   pub parts : built_parts after ≡ parts_after (built_parts before) n (role_of s)
 
 -- the innermost block is a DO CASE, whose cases are all ended

@@ -55,9 +55,9 @@ in_turn [] = Done
 in_turn (c ∷ cs) = Then c (in_turn cs)
 
 -- cases, each of which is put in front of those behind it
-abbrev pub in_order : List (Cases → Cases) → Cases
-in_order [] = Neither
-in_order (put ∷ others) = put (in_order others)
+abbrev pub cases_in_order : List (Cases → Cases) → Cases
+cases_in_order [] = Neither
+cases_in_order (put ∷ others) = put (cases_in_order others)
 
 abbrev pub or_absent : Option Part → Part
 or_absent None = Absent
@@ -68,7 +68,7 @@ or_absent (Some part) = part
 abbrev pub form_node : Form-F (ℕ → Cmd) Part (Cases → Cases) Cmd → ℕ → Cmd
 form_node (Form-F.Statement s) n = Single n (act_of s)
 form_node (Form-F.If e then otherwise end) n = If n (tree_of e) (in_turn then.items) (or_absent otherwise) end
-form_node (Form-F.DoCase cases otherwise end) n = DoCase n (in_order cases.items) (or_absent otherwise) end
+form_node (Form-F.DoCase cases otherwise end) n = DoCase n (cases_in_order cases.items) (or_absent otherwise) end
 form_node (Form-F.DoWhile e body end) n = DoWhile n (tree_of e) (in_turn body.items) end
 form_node (Form-F.Scan e body end) n = Scan n (option_map tree_of e) (in_turn body.items) end
 
@@ -82,8 +82,8 @@ abbrev pub command_node : Command-F (ℕ → Cmd) Part (Cases → Cases) Cmd →
 command_node c = c.form c.line
 
 -- the command that a form is in a line
-abbrev pub form_of : Form → ℕ → Cmd
-form_of = fold-Form (ℕ → Cmd) Part (Cases → Cases) Cmd form_node branch_node case_node command_node
+abbrev pub form_command : Form → ℕ → Cmd
+form_command = fold-Form (ℕ → Cmd) Part (Cases → Cases) Cmd form_node branch_node case_node command_node
 
 abbrev pub branch_of : Branch → Part
 branch_of = fold-Branch (ℕ → Cmd) Part (Cases → Cases) Cmd form_node branch_node case_node command_node
@@ -99,7 +99,7 @@ abbrev pub commands_of : List Command → Cmds
 commands_of commands = in_turn (map command_of commands)
 
 abbrev pub cases_of : List Case → Cases
-cases_of cases = in_order (map case_of cases)
+cases_of cases = cases_in_order (map case_of cases)
 
 abbrev pub part_of : Option Branch → Part
 part_of branch = or_absent (option_map branch_of branch)

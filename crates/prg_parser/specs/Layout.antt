@@ -6,7 +6,8 @@ use Rattle.prg_parser.specs.declared.command.Branch.{Branch}
 use Rattle.prg_parser.specs.declared.command.Form.{Form}
 use Rattle.prg_parser.specs.declared.program.Procedure.{Procedure}
 use Rattle.prg_parser.specs.declared.program.Program.{Program}
-use Rattle.prg_parser.specs.Commands.{Cmd, Cmds, Cases, Part, ProcedureTree, ProgramTree, form_of, part_of, case_of}
+use Rattle.prg_parser.specs.Commands.{Cmd, Cmds, Cases, Part, ProcedureTree, ProgramTree, form_command, part_of}
+use Rattle.prg_parser.specs.Commands.{case_of}
 use Rattle.prg_parser.specs.Commands.{command_of, commands_of, cases_of, procedure_of, program_of}
 use Rattle.prg_parser.specs.Commands as tree
 use Rattle.prg_line.specs.Saying.{Saying, Line, line}
@@ -57,7 +58,7 @@ laid_program p = laid_in_turn p.main ++ laid_procedures p.procedures
 
 -- the lines of a form whose first one has this number
 abbrev pub form_lines : Form → ℕ → Lines
-form_lines form n = laid (form_of form n)
+form_lines form n = laid (form_command form n)
 
 abbrev pub command_lines : Command → Lines
 command_lines command = laid (command_of command)
@@ -87,12 +88,12 @@ abbrev pub program_lines : Program → Lines
 program_lines p = laid_program (program_of p)
 
 -- what one line says; nothing of a line without meaning
-abbrev pub said : ℕ → Saying → Lines
-said n saying.Nothing = []
-said n s = line n s ∷ []
+abbrev pub lines_of_saying : ℕ → Saying → Lines
+lines_of_saying n saying.Nothing = []
+lines_of_saying n s = line n s ∷ []
 
 -- what lines with these numbers say, one after another
 abbrev pub said_lines : List ℕ → List Saying → Lines
 said_lines [] says = []
 said_lines (n ∷ numbers) [] = []
-said_lines (n ∷ numbers) (s ∷ says) = said n s ++ said_lines numbers says
+said_lines (n ∷ numbers) (s ∷ says) = lines_of_saying n s ++ said_lines numbers says

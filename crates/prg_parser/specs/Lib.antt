@@ -2,6 +2,7 @@ pub mod Blocks
 pub mod Building
 pub mod Commands
 pub mod Files
+pub mod HalfRead
 pub mod Joined
 pub mod Layout
 pub mod Lines

@@ -9,13 +9,13 @@ use Rattle.text_lines.specs.Lines.{lines}
 abbrev pub before_end : List ℕ → List ℕ
 before_end bytes = take (prefix_len (λ b. not (b == 26)) bytes) bytes
 
-abbrev pub is_blank : ℕ → Bool
-is_blank b = b == 32 || b == 9
+abbrev pub is_blank_or_tab : ℕ → Bool
+is_blank_or_tab b = b == 32 || b == 9
 
 -- a text without the blanks and tabs in front
-unfoldable pub without_blanks : List ℕ → List ℕ
-without_blanks [] = []
-without_blanks (b ∷ rest) = if is_blank b then without_blanks rest else b ∷ rest
+unfoldable pub without_indent : List ℕ → List ℕ
+without_indent [] = []
+without_indent (b ∷ rest) = if is_blank_or_tab b then without_indent rest else b ∷ rest
 
 -- what follows a semicolon in front, in the order from the end
 abbrev pub behind_semicolon : List ℕ → Option (List ℕ)
@@ -24,7 +24,7 @@ behind_semicolon (b ∷ rest) = if b == 59 then Some (reverse rest) else None
 
 -- what stands before the semicolon that is a line's last byte but blanks
 unfoldable pub continued : List ℕ → Option (List ℕ)
-continued line = behind_semicolon (without_blanks (reverse line))
+continued line = behind_semicolon (without_indent (reverse line))
 
 -- a joined line: the number of its first line, and its bytes
 pub record Joined : Type 0 where

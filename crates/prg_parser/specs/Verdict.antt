@@ -7,8 +7,8 @@ use Rattle.prg_expr.specs.declared.fault.ParseFault.{ParseFault}
 use Rattle.prg_expr.specs.declared.fault.ParseRefusal.{ParseRefusal}
 use Rattle.prg_expr.specs.declared.fault.ParseRefusal.TheVariants.{Fault, Memory}
 use Rattle.prg_parser.specs.declared.blocks.Part.{Part}
-use Rattle.prg_parser.specs.declared.judging.Mark.{Mark}
-use Rattle.prg_parser.specs.Blocks.{fault_of, parts_after, is_procedure}
+use Rattle.prg_parser.specs.declared.judging.LineMark.{LineMark}
+use Rattle.prg_parser.specs.Blocks.{fault_of_place, parts_after, begins_procedure}
 use Rattle.prg_expr.specs.Faults.{least}
 
 -- a line of a file of so many
@@ -31,23 +31,23 @@ opening_line parts = option_map (λ part. part.line) (slice_get parts 0)
 
 -- the block that was left open first, behind a line: a procedure begins without blocks, so those that are open before
 -- it stay unended
-abbrev pub unended_after : List Part → Option ℕ → Mark → Option ℕ
-unended_after parts unended mark = if is_procedure mark.role then earlier unended (opening_line parts) else unended
+abbrev pub unended_after : List Part → Option ℕ → LineMark → Option ℕ
+unended_after parts unended mark = if begins_procedure mark.role then earlier unended (opening_line parts) else unended
 
-abbrev pub block_at : ℕ → ParseFault
-block_at line = record { line = line; kind = Block }
+abbrev pub block_fault_at : ℕ → ParseFault
+block_fault_at line = record { line = line; kind = Block }
 
 -- what is wrong with a line: the least of its own fault and of that of its place
-abbrev pub wrong : List Part → Mark → Option ParseFaultKind
-wrong parts mark = least mark.fault (fault_of parts mark.role)
+abbrev pub wrong_in_line : List Part → LineMark → Option ParseFaultKind
+wrong_in_line parts mark = least mark.fault (fault_of_place parts mark.role)
 
-abbrev pub or_else : Option ParseFaultKind → ℕ → Option ParseFault → Option ParseFault
-or_else (Some kind) line others = Some (record { line = line; kind = kind })
-or_else None line others = others
+abbrev pub or_fault : Option ParseFaultKind → ℕ → Option ParseFault → Option ParseFault
+or_fault (Some kind) line others = Some (record { line = line; kind = kind })
+or_fault None line others = others
 
 -- the fault that is told: that of the first line with one; without any, the first block that is left open
-unfoldable pub verdict : List Part → Option ℕ → List Mark → Option ParseFault
-verdict parts unended [] = option_map block_at (earlier unended (opening_line parts))
+unfoldable pub verdict : List Part → Option ℕ → List LineMark → Option ParseFault
+verdict parts unended [] = option_map block_fault_at (earlier unended (opening_line parts))
 verdict parts unended (mark ∷ others) =
-    or_else (wrong parts mark) mark.line
+    or_fault (wrong_in_line parts mark) mark.line
     (verdict (parts_after parts mark.line mark.role) (unended_after parts unended mark) others)

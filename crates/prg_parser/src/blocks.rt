@@ -42,7 +42,7 @@ pub struct Part {
 }
 
 /// The parts of the open blocks, from the outermost block on.
-pub type Parts = ArrayVec<Part, MOST_BLOCKS>;
+pub type OpenParts = ArrayVec<Part, MOST_BLOCKS>;
 
 /// Whether commands may stand in this part, or outside all blocks.
 fn holds_commands(inner: Option<Place>) -> bool
@@ -81,7 +81,7 @@ fn is_loop(place: Place) -> bool
 
 /// The part behind a line that opens a block.
 pub fn opened(role: Role) -> Option<Place>
-    ensures { result ≡ spec.opened role }
+    ensures { result ≡ spec.place_opened role }
 {
     match role {
         Role::If => Some(Place::InThen),
@@ -111,9 +111,9 @@ fn innermost(parts: &[Part]) -> Option<Place>
 
 /// What is wrong with a line where these blocks are open, from the outermost on: Block where it doesn't fit its place,
 /// TooDeep where it opens a 33rd block.
-#[tactic(auto, unfolding(crate::specs::Blocks::fault_of))]
+#[tactic(auto, unfolding(crate::specs::Blocks::fault_of_place))]
 pub fn block_fault(parts: &[Part], role: Role) -> Option<ParseFaultKind>
-    ensures { result ≡ spec.fault_of parts.now role }
+    ensures { result ≡ spec.fault_of_place parts.now role }
 {
     if !may_stand(role, innermost(parts)) {
         return Some(ParseFaultKind::Block);
@@ -129,7 +129,7 @@ pub fn block_fault(parts: &[Part], role: Role) -> Option<ParseFaultKind>
 
 /// Whether the line ends a block.
 pub fn is_end(role: Role) -> bool
-    ensures { result ≡ spec.is_end role }
+    ensures { result ≡ spec.ends_block role }
 {
     matches!(
         role,
@@ -145,7 +145,7 @@ fn is_leap(role: Role) -> bool
 }
 
 /// Goes on to another part of the innermost block.
-fn divide(parts: &mut Parts, place: Place)
+fn divide(parts: &mut OpenParts, place: Place)
     ensures { parts.new.items ≡ spec.divide_at parts.old.items (spec.innermost parts.old.items) place }
 {
     let Some(part) = parts.as_slice().last().copied() else {
@@ -159,9 +159,9 @@ fn divide(parts: &mut Parts, place: Place)
 }
 
 /// What is open behind a line that has no fault there.
-#[tactic(auto, unfolding(crate::specs::Blocks::fault_of, crate::specs::Blocks::parts_after))]
-pub fn enter(parts: &mut Parts, line: usize, role: Role)
-    requires { spec.fault_of parts.old.items role ≡ None }
+#[tactic(auto, unfolding(crate::specs::Blocks::fault_of_place, crate::specs::Blocks::parts_after))]
+pub fn enter(parts: &mut OpenParts, line: usize, role: Role)
+    requires { spec.fault_of_place parts.old.items role ≡ None }
     ensures { parts.new.items ≡ spec.parts_after parts.old.items line role }
 {
     match role {
@@ -181,7 +181,7 @@ pub fn enter(parts: &mut Parts, line: usize, role: Role)
 }
 
 /// Opens a block in this line.
-pub fn open(parts: &mut Parts, line: usize, place: Place)
+pub fn open(parts: &mut OpenParts, line: usize, place: Place)
     requires { array_vec_len parts.old < 32 }
     ensures { parts.new.items ≡ parts.old.items ++ (record { place = place; line = line }) ∷ [] }
 {

@@ -3,11 +3,13 @@
 
 ghost use Rattle.std.specs.Prelude.{◌≡◌, ◌++◌, ◌∷◌, [], ℕ, true, None, Some, IfOk, map, option_map};
 ghost use Rattle.prg_expr.specs.Tree.{tree_of};
-ghost use Rattle.prg_parser.specs.Blocks.{divide_at, fault_of, innermost, is_procedure, may_stand, outer, takes_cases};
-ghost use Rattle.prg_parser.specs.Building.{IsChoice, Took, awaited, built_lines, built_parts, current_lines, ending};
+ghost use Rattle.prg_parser.specs.Blocks.{divide_at, fault_of_place, innermost, begins_procedure, may_stand, outer};
+ghost use Rattle.prg_parser.specs.Blocks.{takes_cases};
+ghost use Rattle.prg_parser.specs.Building.{IsChoice, Took, awaited, built_lines, built_parts, current_lines};
+ghost use Rattle.prg_parser.specs.Building.{block_ending};
 ghost use Rattle.prg_parser.specs.Building.{finished_lines, head_lines, is_ending, opens_lines, part_of_block};
-ghost use Rattle.prg_parser.specs.Building.{place_of};
-ghost use Rattle.prg_parser.specs.Layout.{said};
+ghost use Rattle.prg_parser.specs.Building.{place_of_open};
+ghost use Rattle.prg_parser.specs.Layout.{lines_of_saying};
 ghost use Rattle.prg_parser.specs.Layout.{body_lines, cases_lines, command_lines, case_lines, form_lines, part_lines};
 ghost use Rattle.prg_parser.specs.Layout.{program_lines};
 ghost use Rattle.prg_line.specs.Saying.{Saying, line as said_line, role_of, saying_of};
@@ -111,8 +113,8 @@ impl Builder {
 
     /// Takes what the next line says.
     pub fn take(self, line: usize, sentence: Sentence) -> Result<Builder, AllocError>
-        ensures { fault_of (built_parts self) (role_of (saying_of sentence)) ≡ None
-            → (is_procedure (role_of (saying_of sentence)) ≡ true → built_parts self ≡ [])
+        ensures { fault_of_place (built_parts self) (role_of (saying_of sentence)) ≡ None
+            → (begins_procedure (role_of (saying_of sentence)) ≡ true → built_parts self ≡ [])
             → IfOk result (Took self line (saying_of sentence)) }
     {
         match sentence {
@@ -157,7 +159,7 @@ impl Builder {
     fn open(self, line: usize, head: Open) -> Result<Builder, AllocError>
         ensures { awaited self.current ≡ []
             → IfOk result (λ b. (built_lines b ≡ built_lines self ++ head_lines line head)
-            × (built_parts b ≡ built_parts self ++ (record { place = place_of head; line = line }) ∷ [])) }
+            × (built_parts b ≡ built_parts self ++ (record { place = place_of_open head; line = line }) ∷ [])) }
     {
         let Builder {
             alloc,
@@ -197,7 +199,8 @@ impl Builder {
 
     /// Goes on behind `ELSE`.
     fn divide_if(self, line: usize) -> Result<Builder, AllocError>
-        ensures { fault_of (built_parts self) (role_of saying.Else) ≡ None → IfOk result (Took self line saying.Else) }
+        ensures { fault_of_place (built_parts self) (role_of saying.Else) ≡ None
+            → IfOk result (Took self line saying.Else) }
     {
         let Builder {
             alloc,
@@ -230,7 +233,7 @@ impl Builder {
 
     /// Goes on behind a `CASE` with this condition.
     fn next_case(self, line: usize, condition: Expr) -> Result<Builder, AllocError>
-        ensures { fault_of (built_parts self) (role_of (saying.Case (tree_of condition))) ≡ None
+        ensures { fault_of_place (built_parts self) (role_of (saying.Case (tree_of condition))) ≡ None
             → IfOk result (Took self line (saying.Case (tree_of condition))) }
     {
         let Builder {
@@ -261,7 +264,7 @@ impl Builder {
 
     /// Goes on behind `OTHERWISE`.
     fn otherwise(self, line: usize) -> Result<Builder, AllocError>
-        ensures { fault_of (built_parts self) (role_of saying.Otherwise) ≡ None
+        ensures { fault_of_place (built_parts self) (role_of saying.Otherwise) ≡ None
             → IfOk result (Took self line saying.Otherwise) }
     {
         let Builder {
@@ -288,7 +291,7 @@ impl Builder {
 
     /// Ends the innermost block in this line.
     fn end(self, line: usize) -> Result<Builder, AllocError>
-        ensures { (s : Saying) → is_ending s ≡ true → fault_of (built_parts self) (role_of s) ≡ None
+        ensures { (s : Saying) → is_ending s ≡ true → fault_of_place (built_parts self) (role_of s) ≡ None
             → IfOk result (Took self line s) }
     {
         let Builder {
@@ -353,7 +356,7 @@ impl Builder {
             blocks: _,
             current,
         } = self;
-        ended(alloc, finished, commands_of(current))
+        ended(alloc, finished, last_commands(current))
     }
 }
 
@@ -367,6 +370,13 @@ fn commands_of(current: Current) -> Vec<Command>
     }
 }
 
+/// The commands behind which nothing comes, where no `CASE` is awaited.
+fn last_commands(current: Current) -> Vec<Command>
+    ensures { awaited current ≡ [] → current_lines current ≡ body_lines result.items }
+{
+    trimmed(commands_of(current))
+}
+
 /// Ends the innermost block, whose last part is these commands: the commands up to it.
 fn end_last(
     blocks: &mut Vec<OpenBlock>,
@@ -377,7 +387,7 @@ fn end_last(
         → may_stand (role_of s) (option_map (λ part. part.place) (innermost (map part_of_block blocks.old.items)))
         ≡ true
         → IfOk result (λ cs. (opens_lines blocks.new.items ++ body_lines cs.items
-        ≡ (opens_lines blocks.old.items ++ body_lines body.items) ++ said end s)
+        ≡ (opens_lines blocks.old.items ++ body_lines body.items) ++ lines_of_saying end s)
         × (map part_of_block blocks.new.items ≡ outer (map part_of_block blocks.old.items))) }
 {
     let Some(block) = blocks.pop() else {
@@ -412,6 +422,14 @@ fn ended(alloc: Global, finished: Finished, body: Vec<Command>) -> Result<Progra
             })
         }
     }
+}
+
+/// The commands, without room for further ones.
+fn trimmed(mut commands: Vec<Command>) -> Vec<Command>
+    ensures { result.items ≡ commands.items }
+{
+    commands.shrink_to_fit();
+    commands
 }
 
 /// A command of this form.
@@ -452,7 +470,7 @@ fn one_case(line: usize, condition: Expr, body: Vec<Command>) -> Case
     Case {
         line,
         condition,
-        body,
+        body: trimmed(body),
     }
 }
 
@@ -472,9 +490,9 @@ fn put_case(
 
 /// An `IF` behind its `ELSE`.
 fn else_of(head: Open, then: Vec<Command>, line: usize) -> Open
-    ensures lines { place_of head ≡ within.InThen → (n : ℕ)
+    ensures lines { place_of_open head ≡ within.InThen → (n : ℕ)
         → head_lines n result ≡ head_lines n head ++ (body_lines then.items ++ said_line line saying.Else ∷ []) }
-    ensures place { place_of head ≡ within.InThen → place_of result ≡ within.InElse }
+    ensures place { place_of_open head ≡ within.InThen → place_of_open result ≡ within.InElse }
 {
     match head {
         Open::Then { condition } => Open::Else {
@@ -548,7 +566,7 @@ fn ended_case(
 
 /// The cases up to the end of this one.
 fn cases_of(alloc: Global, head: Open, body: Vec<Command>) -> Result<Vec<Case>, AllocError>
-    ensures { place_of head ≡ within.InCase
+    ensures { place_of_open head ≡ within.InCase
         → IfOk result (λ cs. (n : ℕ)
         → head_lines n head ++ body_lines body.items ≡ said_line n saying.DoCase ∷ cases_lines cs.items) }
 {
@@ -583,7 +601,7 @@ fn if_of(condition: Expr, then: Vec<Command>, otherwise: Option<Branch>, end: us
 {
     Form::If {
         condition,
-        then,
+        then: trimmed(then),
         otherwise,
         end,
     }
@@ -594,13 +612,16 @@ fn if_of(condition: Expr, then: Vec<Command>, otherwise: Option<Branch>, end: us
 fn branch_of(line: usize, body: Vec<Command>) -> Branch
     ensures { (s : Saying) → part_lines s (Some result) ≡ said_line line s ∷ body_lines body.items }
 {
-    Branch { line, body }
+    Branch {
+        line,
+        body: trimmed(body),
+    }
 }
 
 /// The command that a block is, of which this is the last part.
 fn form_of(head: Open, body: Vec<Command>, end: usize) -> Result<Form, AllocError>
     ensures { IfOk result (λ form. (n : ℕ)
-        → form_lines form n ≡ head_lines n head ++ (body_lines body.items ++ said_line end (ending head) ∷ [])) }
+        → form_lines form n ≡ head_lines n head ++ (body_lines body.items ++ said_line end (block_ending head) ∷ [])) }
 {
     Ok(match head {
         Open::Then { condition } => if_of(condition, body, None, end),
@@ -628,7 +649,7 @@ fn while_of(condition: Expr, body: Vec<Command>, end: usize) -> Form
 {
     Form::DoWhile {
         condition,
-        body,
+        body: trimmed(body),
         end,
     }
 }
@@ -641,7 +662,7 @@ fn scan_of(condition: Option<Expr>, body: Vec<Command>, end: usize) -> Form
 {
     Form::Scan {
         condition,
-        body,
+        body: trimmed(body),
         end,
     }
 }

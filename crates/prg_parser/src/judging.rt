@@ -1,16 +1,16 @@
 //! Which fault of a file is told.
 
-ghost use Rattle.std.specs.Prelude.{◌≡◌, None, Some, [], option_map};
+ghost use Rattle.std.specs.Prelude.{◌≡◌, option_map};
 ghost use Rattle.prg_parser.specs.Verdict as spec;
-ghost use Rattle.prg_parser.specs.Blocks.{is_procedure};
+ghost use Rattle.prg_parser.specs.Blocks.{begins_procedure};
 
-use crate::blocks::{Part, Parts, block_fault, enter};
-use prg_expr::{ParseFault, ParseFaultKind, least};
+use crate::blocks::Part;
+use prg_expr::{ParseFault, ParseFaultKind};
 use prg_line::Role;
 
 /// What of a line decides on its fault.
 #[derive(Clone, Copy, Debug, PartialEq, Eq)]
-pub struct Mark {
+pub struct LineMark {
     /// The number of the line.
     pub line: usize,
     /// What it is to the blocks around it.
@@ -20,7 +20,7 @@ pub struct Mark {
 }
 
 /// The line that opened the outermost open block.
-fn opening_line(parts: &[Part]) -> Option<usize>
+pub fn opening_line(parts: &[Part]) -> Option<usize>
     ensures { result ≡ spec.opening_line parts.now }
 {
     match parts.first() {
@@ -30,7 +30,7 @@ fn opening_line(parts: &[Part]) -> Option<usize>
 }
 
 /// The first of two lines, where there is any.
-fn earlier(line: Option<usize>, other: Option<usize>) -> Option<usize>
+pub fn earlier(line: Option<usize>, other: Option<usize>) -> Option<usize>
     ensures { result ≡ spec.earlier line other }
 {
     match line {
@@ -41,13 +41,13 @@ fn earlier(line: Option<usize>, other: Option<usize>) -> Option<usize>
 
 /// Whether the line is `PROCEDURE`.
 pub fn is_procedure_line(role: Role) -> bool
-    ensures { result ≡ is_procedure role }
+    ensures { result ≡ begins_procedure role }
 {
     matches!(role, Role::Procedure)
 }
 
 /// The block that was left open first, behind this line.
-fn unended_after(parts: &[Part], unended: Option<usize>, mark: Mark) -> Option<usize>
+pub fn unended_after(parts: &[Part], unended: Option<usize>, mark: LineMark) -> Option<usize>
     ensures { result ≡ spec.unended_after parts.now unended mark }
 {
     if is_procedure_line(mark.role) {
@@ -58,8 +58,8 @@ fn unended_after(parts: &[Part], unended: Option<usize>, mark: Mark) -> Option<u
 }
 
 /// The fault of a block that is left open, if one is.
-fn left_open(line: Option<usize>) -> Option<ParseFault>
-    ensures { result ≡ option_map spec.block_at line }
+pub fn left_open(line: Option<usize>) -> Option<ParseFault>
+    ensures { result ≡ option_map spec.block_fault_at line }
 {
     match line {
         Some(line) => Some(ParseFault {
@@ -68,24 +68,4 @@ fn left_open(line: Option<usize>) -> Option<ParseFault>
         }),
         None => None,
     }
-}
-
-/// The fault of a file that is told: that of the first line with one, and there the least kind; without any, Block at
-/// the line of the first block that is left open.
-pub fn judge(marks: &[Mark]) -> Option<ParseFault>
-    ensures { result ≡ spec.verdict [] None marks.now }
-{
-    let mut parts = Parts::new();
-    let mut unended = None;
-    for mark in marks {
-        if let Some(kind) = least(mark.fault, block_fault(&parts, mark.role)) {
-            return Some(ParseFault {
-                line: mark.line,
-                kind,
-            });
-        }
-        unended = unended_after(&parts, unended, *mark);
-        enter(&mut parts, mark.line, mark.role);
-    }
-    left_open(earlier(unended, opening_line(&parts)))
 }

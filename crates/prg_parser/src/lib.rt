@@ -4,6 +4,7 @@
 mod blocks;
 mod builder;
 mod command;
+mod half_read;
 mod judging;
 mod lines;
 mod listing;
@@ -14,6 +15,7 @@ pub use crate::command::{Branch, Case, Command, Form};
 pub use crate::parsing::{line_faults, one_program, parse};
 pub use crate::program::{Procedure, Program};
 pub use prg_expr::{
-    Expr, Function, Name, Operator, ParseFault, ParseFaultKind, ParseRefusal, Prefix, Text, expr,
+    BinaryOperator, Expr, Function, Name, ParseFault, ParseFaultKind, ParseRefusal, Prefix, Text,
+    expr,
 };
 pub use prg_line::{Move, Replacement, Selected, Statement, Toggle, one_saying};

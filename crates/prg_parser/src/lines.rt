@@ -1,6 +1,6 @@
 //! Lines of a command file, and how they are joined.
 
-ghost use Rattle.std.specs.Prelude.{◌≡◌, ◌+◌, ◌<◌, ◌≤◌, ◌^◌, ◌==◌, ◌∷◌, not, length, map, reverse, option_map, IfOk};
+ghost use Rattle.std.specs.Prelude.{◌≡◌, ◌+◌, ◌<◌, ◌≤◌, ◌^◌, ◌==◌, ◌∷◌, not, length, reverse, option_map, IfOk};
 ghost use Rattle.std.specs.List.{prefix_len};
 ghost use Rattle.prg_parser.specs.Lines as spec;
 ghost use Rattle.text_lines.specs.Lines.{lines};
@@ -33,16 +33,16 @@ fn text_length(bytes: &[u8]) -> usize
 }
 
 /// The bytes before the one that ends the file.
-fn before_end(bytes: &[u8]) -> &[u8]
+pub fn before_end(bytes: &[u8]) -> &[u8]
     ensures { result.now ≡ spec.before_end bytes.now }
 {
     &bytes[..text_length(bytes)]
 }
 
 /// The line without the blanks and tabs at its end.
-#[tactic(auto, unfolding(crate::specs::Lines::without_blanks))]
+#[tactic(auto, unfolding(crate::specs::Lines::without_indent))]
 fn without_last_blanks(line: &[u8]) -> &[u8]
-    ensures { reverse result.now ≡ spec.without_blanks (reverse line.now) }
+    ensures { reverse result.now ≡ spec.without_indent (reverse line.now) }
 {
     let mut text = line;
     while let [others @ .., b' ' | b'\t'] = text {
@@ -64,14 +64,18 @@ fn continued(line: &[u8]) -> Option<&[u8]>
 
 /// A joined line, the number of the line behind it, and the bytes behind it.
 #[derive(Debug, Drop)]
-struct Joining<'a> {
-    joined: JoinedLine,
-    line: usize,
-    rest: &'a [u8],
+pub struct Joining<'a> {
+    pub joined: JoinedLine,
+    pub line: usize,
+    pub rest: &'a [u8],
 }
 
 /// The first line, whose number is `first`, joined with those that continue it.
-fn join_line<'a>(alloc: Global, first: usize, bytes: &'a [u8]) -> Result<Joining<'a>, AllocError>
+pub fn join_line<'a>(
+    alloc: Global,
+    first: usize,
+    bytes: &'a [u8],
+) -> Result<Joining<'a>, AllocError>
     requires some { 0 < length bytes.now }
     requires room { first + length bytes.now ≤ 2 ^ 63 }
     ensures joined { IfOk result (λ found. spec.joined first (lines bytes.now) ≡ joined_of found.joined
@@ -101,21 +105,4 @@ fn join_line<'a>(alloc: Global, first: usize, bytes: &'a [u8]) -> Result<Joining
         line,
         rest,
     })
-}
-
-/// The lines of a file, each joined with those that continue it.
-pub fn joined_lines(alloc: Global, bytes: &[u8]) -> Result<Vec<JoinedLine>, AllocError>
-    // They are what the definition makes of the whole file.
-    ensures { IfOk result (λ joined. map joined_of joined.items ≡ spec.joined_lines bytes.now) }
-{
-    let mut rest = before_end(bytes);
-    let mut joined = Vec::new(alloc);
-    let mut line = 1;
-    while !rest.is_empty() {
-        let found = join_line(alloc, line, rest)?;
-        joined.push(found.joined)?;
-        line = found.line;
-        rest = found.rest;
-    }
-    Ok(joined)
 }

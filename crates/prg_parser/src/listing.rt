@@ -3,8 +3,8 @@
 ghost use Rattle.std.specs.Prelude.{◌≡◌, ◌+◌, ◌<◌, ◌^◌, ◌++◌, IfOk, OnOk};
 ghost use Rattle.prg_parser.specs.Listing as spec;
 
-use crate::blocks::{MOST_BLOCKS, Part, Parts, block_fault, enter, is_end, open, opened};
-use crate::judging::{Mark, is_procedure_line};
+use crate::blocks::{MOST_BLOCKS, OpenParts, Part, block_fault, enter, is_end, open, opened};
+use crate::judging::{LineMark, is_procedure_line};
 use prg_expr::{ParseFault, ParseFaultKind, least};
 use prg_line::Role;
 use std::alloc::{AllocError, Global};
@@ -24,7 +24,7 @@ fn place_fault(parts: &[Part], deeper: usize, role: Role) -> Option<ParseFaultKi
 
 /// Goes on behind a line: what is open there.
 #[tactic(auto, unfolding(crate::specs::Listing::parts_behind))]
-fn pass(parts: &mut Parts, deeper: usize, line: usize, role: Role)
+fn pass(parts: &mut OpenParts, deeper: usize, line: usize, role: Role)
     ensures { parts.new.items ≡ spec.parts_behind parts.old.items deeper line role }
 {
     if is_procedure_line(role) {
@@ -70,7 +70,7 @@ fn list(
     line: usize,
     kind: Option<ParseFaultKind>,
 ) -> Result<(), AllocError>
-    ensures { OnOk result (faults.new.items ≡ faults.old.items ++ spec.listed line kind) }
+    ensures { OnOk result (faults.new.items ≡ faults.old.items ++ spec.listed_fault line kind) }
 {
     let Some(kind) = kind else {
         return Ok(());
@@ -104,10 +104,10 @@ fn list_before(faults: &mut Vec<ParseFault>, parts: &[Part], role: Role) -> Resu
 }
 
 /// All faults of a file with these lines: those of its lines in turn, then the blocks that are left open.
-pub fn list_faults(alloc: Global, marks: &[Mark]) -> Result<Vec<ParseFault>, AllocError>
+pub fn list_faults(alloc: Global, marks: &[LineMark]) -> Result<Vec<ParseFault>, AllocError>
     ensures { IfOk result (λ faults. faults.items ≡ spec.all_faults marks.now) }
 {
-    let mut parts = Parts::new();
+    let mut parts = OpenParts::new();
     let mut deeper = 0;
     let mut faults = Vec::new(alloc);
     let mut unended = Vec::new(alloc);

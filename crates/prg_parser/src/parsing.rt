@@ -1,14 +1,12 @@
 //! From the bytes of a command file to its tree.
 
-ghost use Rattle.std.specs.Prelude.{◌≡◌, ℕ, List, length, map, IfOk, IfErr, None, [], slice_get};
+ghost use Rattle.std.specs.Prelude.{◌≡◌, ℕ, List, length, IfOk, IfErr, None, [], slice_get};
 ghost use Rattle.std.specs.List.{All};
 ghost use Rattle.prg_expr.specs.Faults.{OnFault, Tells};
-ghost use Rattle.prg_line.specs.OneLine.{saying_at};
-ghost use Rattle.prg_line.specs.Saying.{Saying, role_of, saying_of};
-ghost use Rattle.prg_parser.specs.Files.{IsProgramOf, Fits};
-ghost use Rattle.prg_parser.specs.Joined.{joined_of};
+ghost use Rattle.prg_line.specs.Saying.{Saying};
+ghost use Rattle.prg_parser.specs.Files.{IsProgramOf, LinesFit};
 ghost use Rattle.prg_parser.specs.Commands.{ProgramTree, program_of};
-ghost use Rattle.prg_parser.specs.Layout.{laid_program, program_lines, said_lines};
+ghost use Rattle.prg_parser.specs.Layout.{laid_program};
 ghost use Rattle.prg_parser.specs.declared.program.Program.{Program as AnyProgram};
 ghost use Rattle.prg_parser.specs.Lines.{before_end};
 ghost use Rattle.text_lines.specs.Lines.{lines as line_list};
@@ -16,57 +14,12 @@ ghost use Rattle.prg_parser.specs.Marks as spec;
 ghost use Rattle.prg_parser.specs.Verdict.{IsLineOf, NamesLine, verdict};
 ghost use Rattle.prg_parser.specs.Listing.{all_faults};
 
-use crate::builder::Builder;
-use crate::judging::{Mark, judge};
-use crate::lines::{JoinedLine, joined_lines};
+use crate::half_read::{file_marks, finished, read_file};
 use crate::listing::list_faults;
 use crate::program::Program;
 use prg_expr::{ParseFault, ParseRefusal};
-use prg_line::{ReadLine, Sentence, lines_are_read, one_saying, read_line};
+use prg_line::{lines_are_read, one_saying};
 use std::alloc::{AllocError, Global};
-
-/// The lines of a file that were read.
-#[derive(Debug, Drop)]
-struct ReadLines {
-    marks: Vec<Mark>,
-    sentences: Vec<Sentence>,
-}
-
-/// Reads lines one by one.
-fn read_lines(alloc: Global, lines: &[JoinedLine]) -> Result<ReadLines, AllocError>
-    ensures marks { IfOk result (λ read. read.marks.items ≡ map (λ line. spec.mark_of (joined_of line)) lines.now) }
-    ensures sayings { IfOk result (λ read. map saying_of read.sentences.items
-        ≡ map (λ line. saying_at line.text.items) lines.now) }
-{
-    let mut marks = Vec::new(alloc);
-    let mut sentences = Vec::new(alloc);
-    for line in lines {
-        let ReadLine {
-            role,
-            fault,
-            sentence,
-        } = read_line(alloc, &line.text)?;
-        let line = line.first;
-        marks.push(Mark { line, role, fault })?;
-        sentences.push(sentence)?;
-    }
-    Ok(ReadLines { marks, sentences })
-}
-
-/// The tree of lines that were judged to be without fault.
-fn build(alloc: Global, marks: &[Mark], sentences: Vec<Sentence>) -> Result<Program, AllocError>
-    ensures laid_out { verdict [] None marks.now ≡ None
-        → map (λ mark. mark.role) marks.now ≡ map (λ s. role_of (saying_of s)) sentences.items
-        → IfOk result (λ p. program_lines p
-        ≡ said_lines (map (λ mark. mark.line) marks.now) (map saying_of sentences.items)) }
-    ensures unnamed { IfOk result (λ p. p.name.items ≡ []) }
-{
-    let mut builder = Builder::new(alloc);
-    for (mark, sentence) in marks.iter().zip(sentences) {
-        builder = builder.take(mark.line, sentence)?;
-    }
-    builder.finish()
-}
 
 /// The program of a command file.
 ///
@@ -84,14 +37,13 @@ pub fn parse(alloc: Global, bytes: &[u8]) -> Result<Program, ParseRefusal>
     // Each line is spelled as the form of its command says and stands where it may, and the program is what they say.
     ensures spelled { IfOk result (IsProgramOf bytes.now) }
     // A file is refused for another cause than memory only where its lines don't all say something that fits.
-    ensures refused { IfErr result (λ refusal. OnFault refusal ((sayings : List Saying) → Fits bytes.now sayings → ⊥)) }
+    ensures refused { IfErr result
+        (λ refusal. OnFault refusal ((sayings : List Saying) → LinesFit bytes.now sayings → ⊥)) }
 {
     lines_are_read();
-    let lines = joined_lines(alloc, bytes)?;
-    let ReadLines { marks, sentences } = read_lines(alloc, &lines)?;
-    match judge(&marks) {
-        Some(fault) => Err(ParseRefusal::Fault(fault)),
-        None => Ok(build(alloc, &marks, sentences)?),
+    match read_file(alloc, bytes) {
+        Ok(half) => finished(half),
+        Err(refusal) => Err(refusal),
     }
 }
 
@@ -111,8 +63,7 @@ pub fn line_faults(alloc: Global, bytes: &[u8]) -> Result<Vec<ParseFault>, Alloc
     ensures named { IfOk result (λ faults.
         All (λ fault. IsLineOf (length (line_list (before_end bytes.now))) fault.line) faults.items) }
 {
-    let lines = joined_lines(alloc, bytes)?;
-    let ReadLines { marks, .. } = read_lines(alloc, &lines)?;
+    let marks = file_marks(alloc, bytes)?;
     list_faults(alloc, &marks)
 }
 

@@ -7,7 +7,7 @@ use Rattle.code_items.specs.declared.instr.Instr.{Instr}
 use Rattle.code_items.specs.declared.instr.ValueInstr.TheVariants as value_instr
 use Rattle.code_items.specs.declared.instr.Instr.TheVariants.{Values}
 use Rattle.prg_code.specs.Numbers.{Grows}
-use Rattle.prg_values.specs.declared.operators.Operation.{Operation}
+use Rattle.prg_values.specs.declared.operators.OperatorMeaning.{OperatorMeaning}
 use Rattle.prg_values.specs.Written.{Piece, Constant, Does, IsPiece, Emits, operation_pieces, operator_pieces, turned}
 
 -- a constant keeps its number
@@ -63,16 +63,16 @@ pub constant_put : (constants : List Value) (n : ℕ) (v : Value) (old new : Lis
 constant_put constants n v old new there a = record { more = a.more; joined = a.joined; are = one_constant constants n v a.more there a.are }
 
 -- two operands and the function, in either order
-both_put : (o : Option Operation) (op : Operation) (swapped : Bool) (a b : List Piece) (constants : List Value) (old between new : List Instr) → o ≡ Some op → op.swapped ≡ swapped
+both_put : (o : Option OperatorMeaning) (op : OperatorMeaning) (swapped : Bool) (a b : List Piece) (constants : List Value) (old between new : List Instr) → o ≡ Some op → op.swapped ≡ swapped
     → Emits (turned swapped a b) constants old between → Emits (operation_pieces op) constants between new → Emits (operator_pieces o a b) constants old new
 both_put o op swapped a b constants old between new is order first last =
     subst (λ x. Emits (operator_pieces x a b) constants old new) (sym is)
     (subst (λ y. Emits (turned y a b ++ operation_pieces op) constants old new) (sym order) (then_same (turned swapped a b) (operation_pieces op) constants old between new first last))
 
-pub swapped_put : (o : Option Operation) (op : Operation) (a b : List Piece) (earlier later : List Value) (old middle between new : List Instr) → o ≡ Some op → op.swapped ≡ true
+pub swapped_put : (o : Option OperatorMeaning) (op : OperatorMeaning) (a b : List Piece) (earlier later : List Value) (old middle between new : List Instr) → o ≡ Some op → op.swapped ≡ true
     → Emits b earlier old middle → Grows earlier later → Emits a later middle between → Emits (operation_pieces op) later between new → Emits (operator_pieces o a b) later old new
 swapped_put o op a b earlier later old middle between new is order one grown other last = both_put o op true a b later old between new is order (then b a earlier later old middle between one grown other) last
 
-pub straight_put : (o : Option Operation) (op : Operation) (a b : List Piece) (earlier later : List Value) (old middle between new : List Instr) → o ≡ Some op → op.swapped ≡ false
+pub straight_put : (o : Option OperatorMeaning) (op : OperatorMeaning) (a b : List Piece) (earlier later : List Value) (old middle between new : List Instr) → o ≡ Some op → op.swapped ≡ false
     → Emits a earlier old middle → Grows earlier later → Emits b later middle between → Emits (operation_pieces op) later between new → Emits (operator_pieces o a b) later old new
 straight_put o op a b earlier later old middle between new is order one grown other last = both_put o op false a b later old between new is order (then a b earlier later old middle between one grown other) last

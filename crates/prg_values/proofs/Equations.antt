@@ -5,8 +5,9 @@ use Rattle.fixed_num.specs.Number.{Number as Decimal}
 use Rattle.prg_expr.specs.Tree.{Tree, tree_of, node_tree, trees_of, count}
 use Rattle.prg_expr.specs.Tree as tree
 use Rattle.prg_expr.specs.declared.function.Function.{Function}
-use Rattle.prg_expr.specs.declared.tree.Operator.{Operator}
+use Rattle.prg_expr.specs.declared.tree.BinaryOperator.{BinaryOperator}
 use Rattle.prg_expr.specs.declared.tree.Prefix.{Prefix}
+use Rattle.prg_expr.specs.declared.tree.AliasedName.{AliasedName}
 use Rattle.prg_expr.specs.declared.tree.Expr.{Expr, Expr-F, fold-roll-Expr}
 use Rattle.prg_expr.specs.declared.tree.Expr.TheVariants.{Number, Text, Logical, Name, Qualified, Call, Parentheses, Prefixed, Binary, rolls-Number, rolls-Text, rolls-Logical, rolls-Name, rolls-Qualified, rolls-Call, rolls-Parentheses, rolls-Prefixed, rolls-Binary}
 
@@ -25,17 +26,17 @@ tree_parentheses b = ap tree_of (sym (rolls-Parentheses b)) ∙ fold-roll-Expr T
 pub tree_prefixed : (p : Prefix) (b : Box Expr Global) → tree_of (Prefixed p b) ≡ tree.Prefixed p (tree_of b.value)
 tree_prefixed p b = ap tree_of (sym (rolls-Prefixed p b)) ∙ fold-roll-Expr Tree node_tree (Expr-F.Prefixed p b)
 
-pub tree_binary : (o : Operator) (a b : Box Expr Global) → tree_of (Binary o a b) ≡ tree.Binary o (tree_of a.value) (tree_of b.value)
+pub tree_binary : (o : BinaryOperator) (a b : Box Expr Global) → tree_of (Binary o a b) ≡ tree.Binary o (tree_of a.value) (tree_of b.value)
 tree_binary o a b = ap tree_of (sym (rolls-Binary o a b)) ∙ fold-roll-Expr Tree node_tree (Expr-F.Binary o a b)
 
-pub tree_text : (s : ArrayVec ℕ) → tree_of (Text s) ≡ tree.Text s.items
+pub tree_text : (s : List ℕ) → tree_of (Text s) ≡ tree.Text s
 tree_text s = ap tree_of (sym (rolls-Text s)) ∙ fold-roll-Expr Tree node_tree (Expr-F.Text s)
 
 pub tree_name : (s : ArrayVec ℕ) → tree_of (Name s) ≡ tree.Name s.items
 tree_name s = ap tree_of (sym (rolls-Name s)) ∙ fold-roll-Expr Tree node_tree (Expr-F.Name s)
 
-pub tree_qualified : (a s : ArrayVec ℕ) → tree_of (Qualified a s) ≡ tree.Qualified a.items s.items
-tree_qualified a s = ap tree_of (sym (rolls-Qualified a s)) ∙ fold-roll-Expr Tree node_tree (Expr-F.Qualified a s)
+pub tree_qualified : (b : Box AliasedName Global) → tree_of (Qualified b) ≡ tree.Qualified b.value.alias.items b.value.name.items
+tree_qualified b = ap tree_of (sym (rolls-Qualified b)) ∙ fold-roll-Expr Tree node_tree (Expr-F.Qualified b)
 
 pub count_trees : (es : List Expr) → count (trees_of es) ≡ length es
 count_trees [] = refl

@@ -1,6 +1,6 @@
 -- Pieces that stand one behind the other.
 use Rattle.std.proofs.Common.{◌≡◌, ℕ, List, [], ◌∷◌, ◌++◌, Bool, Option, Some, None, IfSome, sym, subst}
-use Rattle.prg_values.specs.declared.operators.Operation.{Operation}
+use Rattle.prg_values.specs.declared.operators.OperatorMeaning.{OperatorMeaning}
 use Rattle.prg_values.specs.Written.{Piece, operation_pieces, operator_pieces, turned}
 use Rattle.prg_values.specs.Placed.{Text, StandAll}
 
@@ -18,7 +18,7 @@ pub behind_pieces : (t : Text) (ps qs : List Piece) (a m : ℕ) (r : Option ℕ)
 behind_pieces t ps qs a m r one h = on_found r (λ b other. joined t ps qs a m b one other) h
 
 -- two operands and the function, in either order
-pub operated : (t : Text) (o : Option Operation) (op : Operation) (swapped : Bool) (x y : List Piece) (a n : ℕ) (r : Option ℕ) → o ≡ Some op → op.swapped ≡ swapped
+pub operated : (t : Text) (o : Option OperatorMeaning) (op : OperatorMeaning) (swapped : Bool) (x y : List Piece) (a n : ℕ) (r : Option ℕ) → o ≡ Some op → op.swapped ≡ swapped
     → StandAll t a (turned swapped x y) n → IfSome r (λ b. StandAll t n (operation_pieces op) b) → IfSome r (λ b. StandAll t a (operator_pieces o x y) b)
 operated t o op swapped x y a n r is order both h =
     subst (λ z. IfSome r (λ b. StandAll t a (operator_pieces z x y) b)) (sym is)

@@ -5,21 +5,22 @@ use Rattle.xvalue.specs.declared.kind.Kind.TheVariants.{Number, Text, Date, Logi
 use Rattle.xvalue.specs.declared.fun.Fun.{Fun}
 use Rattle.xvalue.specs.declared.fun.Fun.TheVariants as fun
 use Rattle.xvalue.specs.Kinds.{same_kind}
-use Rattle.prg_expr.specs.declared.tree.Operator.{Operator}
-use Rattle.prg_expr.specs.declared.tree.Operator.TheVariants.{Or, And, Equal, NotEqual, Less, Greater, AtMost, AtLeast}
-use Rattle.prg_expr.specs.declared.tree.Operator.TheVariants.{Contains, Plus, Minus, Times, Over}
+use Rattle.prg_expr.specs.declared.tree.BinaryOperator.{BinaryOperator}
+use Rattle.prg_expr.specs.declared.tree.BinaryOperator.TheVariants.{Or, And, Equal, NotEqual, Less, Greater, AtMost}
+use Rattle.prg_expr.specs.declared.tree.BinaryOperator.TheVariants.{AtLeast}
+use Rattle.prg_expr.specs.declared.tree.BinaryOperator.TheVariants.{Contains, Plus, Minus, Times, Over}
 use Rattle.prg_expr.specs.declared.tree.Prefix.{Prefix}
 use Rattle.prg_expr.specs.declared.tree.Prefix.TheVariants.{Not, Negative, Positive}
-use Rattle.prg_values.specs.declared.operators.Operation.{Operation}
+use Rattle.prg_values.specs.declared.operators.OperatorMeaning.{OperatorMeaning}
 
 -- the function itself, the function denied, and the function of the operands in the other order
-abbrev pub plain : Fun → Operation
+abbrev pub plain : Fun → OperatorMeaning
 plain f = record { fun = f; negated = false; swapped = false }
 
-abbrev pub denied : Fun → Operation
+abbrev pub denied : Fun → OperatorMeaning
 denied f = record { fun = f; negated = true; swapped = false }
 
-abbrev pub turned : Fun → Operation
+abbrev pub turned : Fun → OperatorMeaning
 turned f = record { fun = f; negated = false; swapped = true }
 
 -- two values of one kind are equal, the first is less, the first is greater; logical values aren't compared
@@ -41,32 +42,32 @@ greater Text = Some fun.TextGreater
 greater Date = Some fun.DateGreater
 greater Logical = None
 
-abbrev pub if_some : (Fun → Operation) → Option Fun → Option Operation
-if_some form None = None
-if_some form (Some f) = Some (form f)
+abbrev pub operation_if_some : (Fun → OperatorMeaning) → Option Fun → Option OperatorMeaning
+operation_if_some form None = None
+operation_if_some form (Some f) = Some (form f)
 
 -- `<=` denies greater, `>=` denies less, `<>` denies equality
-abbrev pub comparison : Operator → Kind → Option Operation
-comparison Equal kind = if_some plain (equality kind)
-comparison NotEqual kind = if_some denied (equality kind)
-comparison Less kind = if_some plain (less kind)
-comparison Greater kind = if_some plain (greater kind)
-comparison AtMost kind = if_some denied (greater kind)
-comparison AtLeast kind = if_some denied (less kind)
+abbrev pub comparison : BinaryOperator → Kind → Option OperatorMeaning
+comparison Equal kind = operation_if_some plain (equality kind)
+comparison NotEqual kind = operation_if_some denied (equality kind)
+comparison Less kind = operation_if_some plain (less kind)
+comparison Greater kind = operation_if_some plain (greater kind)
+comparison AtMost kind = operation_if_some denied (greater kind)
+comparison AtLeast kind = operation_if_some denied (less kind)
 comparison _ kind = None
 
-abbrev pub compared : Operator → Kind → Kind → Option Operation
-compared operator left right = if same_kind left right then comparison operator left else None
+abbrev pub compared_kinds : BinaryOperator → Kind → Kind → Option OperatorMeaning
+compared_kinds operator left right = if same_kind left right then comparison operator left else None
 
 -- numbers, texts, and days with numbers in either order
-abbrev pub added : Kind → Kind → Option Operation
+abbrev pub added : Kind → Kind → Option OperatorMeaning
 added Number Number = Some (plain fun.Add)
 added Text Text = Some (plain fun.Join)
 added Date Number = Some (plain fun.DateAdd)
 added Number Date = Some (turned fun.DateAdd)
 added _ _ = None
 
-abbrev pub subtracted : Kind → Kind → Option Operation
+abbrev pub subtracted : Kind → Kind → Option OperatorMeaning
 subtracted Number Number = Some (plain fun.Sub)
 subtracted Text Text = Some (plain fun.JoinMoved)
 subtracted Date Number = Some (plain fun.DateSub)
@@ -74,10 +75,10 @@ subtracted Date Date = Some (plain fun.DateDiff)
 subtracted _ _ = None
 
 -- the function of two operands of this kind
-abbrev pub of_both : Fun → Kind → Kind → Kind → Option Operation
+abbrev pub of_both : Fun → Kind → Kind → Kind → Option OperatorMeaning
 of_both f kind left right = if same_kind left kind && same_kind right kind then Some (plain f) else None
 
-abbrev pub operated : Operator → Kind → Kind → Option Operation
+abbrev pub operated : BinaryOperator → Kind → Kind → Option OperatorMeaning
 operated Or left right = of_both fun.Or Logical left right
 operated And left right = of_both fun.And Logical left right
 operated Contains left right = of_both fun.In Text left right
@@ -85,12 +86,12 @@ operated Times left right = of_both fun.Mul Number left right
 operated Over left right = of_both fun.Div Number left right
 operated Plus left right = added left right
 operated Minus left right = subtracted left right
-operated Equal left right = compared Equal left right
-operated NotEqual left right = compared NotEqual left right
-operated Less left right = compared Less left right
-operated Greater left right = compared Greater left right
-operated AtMost left right = compared AtMost left right
-operated AtLeast left right = compared AtLeast left right
+operated Equal left right = compared_kinds Equal left right
+operated NotEqual left right = compared_kinds NotEqual left right
+operated Less left right = compared_kinds Less left right
+operated Greater left right = compared_kinds Greater left right
+operated AtMost left right = compared_kinds AtMost left right
+operated AtLeast left right = compared_kinds AtLeast left right
 
 -- `.NOT.` takes a logical value, signs take a number
 abbrev pub prefix_kind : Prefix → Kind

@@ -17,13 +17,13 @@ abbrev pub text : Finished → Text
 text f = record { instrs = f.instrs.now; constants = f.constants.now }
 
 -- the instruction stands at a place, and behind it is another place
-abbrev pub Stands : Text → ℕ → Instr → ℕ → Type 0
-Stands t a i b = (slice_get t.instrs a ≡ Some i) × (b ≡ suc a)
+abbrev pub InstrStands : Text → ℕ → Instr → ℕ → Type 0
+InstrStands t a i b = (slice_get t.instrs a ≡ Some i) × (b ≡ suc a)
 
 -- the pieces stand one behind the other, from a place up to another
 abbrev pub StandAll : Text → ℕ → List Piece → ℕ → Type 0
 StandAll t a [] b = b ≡ a
-StandAll t a (p ∷ ps) b = (i : Instr) × (m : ℕ) × IsPiece t.constants p i × Stands t a i m × StandAll t m ps b
+StandAll t a (p ∷ ps) b = (i : Instr) × (m : ℕ) × IsPiece t.constants p i × InstrStands t a i m × StandAll t m ps b
 
 -- the code of an expression of this kind stands from a place up to another
 pub record Leaves (t : Text) (s : Scoped) (a : ℕ) (e : Tree) (kind : Kind) (b : ℕ) : Type 0 where

@@ -39,24 +39,25 @@ on_some None b f = b
 on_some (Some a) b f = f a
 
 -- what was found is the definition's, and there is none of it where nothing was found
-abbrev pub Reads : {A : Type 0} → Result A CompileFaultKind → Option A → Type 0
-Reads (Ok a) found = found ≡ Some a
-Reads (Err fault) found = found ≡ None
+abbrev pub FindsReading : {A : Type 0} → Result A CompileFaultKind → Option A → Type 0
+FindsReading (Ok a) found = found ≡ Some a
+FindsReading (Err fault) found = found ≡ None
 
 -- ---- fields
 
 -- the field of this number, if an instruction can name it
-abbrev pub place_of : ℕ → Field → Option FieldPlace
-place_of number f = if nat_lt number 65536 then Some (record { number = number; kind = kind_for f.letter }) else None
+abbrev pub nameable_field : ℕ → Field → Option FieldPlace
+nameable_field number f = if nat_lt number 65536 then Some
+    (record { number = number; kind = kind_for f.letter }) else None
 
 -- the first field of this name, where the first of them has this number
-abbrev pub field_from : ℕ → List Field → List ℕ → Option FieldPlace
-field_from number [] name = None
-field_from number (f ∷ fs) name = if bytes_eq f.name.items name then place_of number f
-    else field_from (number + 1) fs name
+abbrev pub field_named_from : ℕ → List Field → List ℕ → Option FieldPlace
+field_named_from number [] name = None
+field_named_from number (f ∷ fs) name = if bytes_eq f.name.items name then nameable_field number f
+    else field_named_from (number + 1) fs name
 
 abbrev pub field_named : List Field → List ℕ → Option FieldPlace
-field_named fields name = field_from 0 fields name
+field_named fields name = field_named_from 0 fields name
 
 -- the fields of a declared table by its number, counted from 0
 abbrev pub table_fields : Shape → ℕ → List Field
@@ -80,13 +81,13 @@ area_at desk zero = Closed
 area_at desk (suc n) = or_closed (slice_get desk.areas n)
 
 -- a number that an instruction can name
-abbrev pub below : ℕ → ℕ → Option ℕ
-below limit number = if nat_lt number limit then Some number else None
+abbrev pub number_below : ℕ → ℕ → Option ℕ
+number_below limit number = if nat_lt number limit then Some number else None
 
 -- the declared table of this name: its number, where the first of these has this one
 abbrev pub table_from : ℕ → List TableShape → List ℕ → Option ℕ
 table_from number [] name = None
-table_from number (s ∷ ss) name = if bytes_eq s.name.items name then below 65536 number
+table_from number (s ∷ ss) name = if bytes_eq s.name.items name then number_below 65536 number
     else table_from (number + 1) ss name
 
 abbrev pub table_named : Shape → List ℕ → Option ℕ
@@ -100,7 +101,7 @@ is_of table Unsure = false
 -- the first work area that is known to hold the table, where the first of these has this number
 abbrev pub holder_from : ℕ → List AreaState → ℕ → Option ℕ
 holder_from number [] table = None
-holder_from number (a ∷ others) table = if is_of table a then below 256 number
+holder_from number (a ∷ others) table = if is_of table a then number_below 256 number
     else holder_from (number + 1) others table
 
 -- an alias of one letter A to J

@@ -21,13 +21,13 @@ use Rattle.code_items.specs.declared.instr.Instr.{Instr}
 use Rattle.code_items.specs.declared.instr.Instr.TheVariants.{Values, Records}
 use Rattle.prg_expr.specs.declared.function.Function.{Function}
 use Rattle.prg_expr.specs.declared.function.Function.TheVariants as function
-use Rattle.prg_expr.specs.declared.tree.Operator.{Operator}
+use Rattle.prg_expr.specs.declared.tree.BinaryOperator.{BinaryOperator}
 use Rattle.prg_expr.specs.declared.tree.Prefix.{Prefix}
 use Rattle.prg_expr.specs.Tree.{Tree, Trees, count}
 use Rattle.prg_expr.specs.Tree as tree
 use Rattle.prg_values.specs.declared.calls.Called.{Called}
 use Rattle.prg_values.specs.declared.calls.Called.TheVariants as called
-use Rattle.prg_values.specs.declared.operators.Operation.{Operation}
+use Rattle.prg_values.specs.declared.operators.OperatorMeaning.{OperatorMeaning}
 use Rattle.prg_values.specs.declared.scope.Reading.{Reading}
 use Rattle.prg_values.specs.Operators.{operated, prefix_kind, prefix_fun}
 use Rattle.prg_values.specs.Readings.{Scoped, on_some, read_name, read_qualified}
@@ -35,27 +35,27 @@ use Rattle.prg_values.specs.Readings.{Scoped, on_some, read_name, read_qualified
 -- ---- functions by name
 
 -- what functions by name do: those of texts
-abbrev pub of_texts : Function → Option Fun
-of_texts function.Len = Some fun.Len
-of_texts function.Substr = Some fun.Substr
-of_texts function.Left = Some fun.Left
-of_texts function.Right = Some fun.Right
-of_texts function.Trim = Some fun.Trim
-of_texts function.Ltrim = Some fun.Ltrim
-of_texts function.Upper = Some fun.Upper
-of_texts function.Lower = Some fun.Lower
-of_texts function.Space = Some fun.Space
-of_texts function.Replicate = Some fun.Replicate
-of_texts function.At = Some fun.At
-of_texts function.Stuff = Some fun.Stuff
-of_texts function.Asc = Some fun.Asc
-of_texts function.Chr = Some fun.Chr
-of_texts function.Val = Some fun.Val
-of_texts function.Str = Some fun.Str
-of_texts function.IsAlpha = Some fun.IsAlpha
-of_texts function.IsUpper = Some fun.IsUpper
-of_texts function.IsLower = Some fun.IsLower
-of_texts _ = None
+abbrev pub fun_of_texts : Function → Option Fun
+fun_of_texts function.Len = Some fun.Len
+fun_of_texts function.Substr = Some fun.Substr
+fun_of_texts function.Left = Some fun.Left
+fun_of_texts function.Right = Some fun.Right
+fun_of_texts function.Trim = Some fun.Trim
+fun_of_texts function.Ltrim = Some fun.Ltrim
+fun_of_texts function.Upper = Some fun.Upper
+fun_of_texts function.Lower = Some fun.Lower
+fun_of_texts function.Space = Some fun.Space
+fun_of_texts function.Replicate = Some fun.Replicate
+fun_of_texts function.At = Some fun.At
+fun_of_texts function.Stuff = Some fun.Stuff
+fun_of_texts function.Asc = Some fun.Asc
+fun_of_texts function.Chr = Some fun.Chr
+fun_of_texts function.Val = Some fun.Val
+fun_of_texts function.Str = Some fun.Str
+fun_of_texts function.IsAlpha = Some fun.IsAlpha
+fun_of_texts function.IsUpper = Some fun.IsUpper
+fun_of_texts function.IsLower = Some fun.IsLower
+fun_of_texts _ = None
 
 -- those of numbers and dates
 abbrev pub of_numbers_and_dates : Function → Option Fun
@@ -91,17 +91,17 @@ otherwise function.Date = called.Today
 otherwise _ = called.Choice
 
 abbrev pub meaning : Function → Called
-meaning f = on_some (of_texts f) (on_some (of_numbers_and_dates f)
+meaning f = on_some (fun_of_texts f) (on_some (of_numbers_and_dates f)
     (on_some (question_of f) (otherwise f) called.Question) called.Function) called.Function
 
-abbrev pub whole : ℕ → Value
-whole n = value.Number (finite (pos n) 0)
+abbrev pub whole_as_value : ℕ → Value
+whole_as_value n = value.Number (finite (pos n) 0)
 
 -- the values of arguments that are left out, behind so many that are there
 abbrev pub defaults : Function → ℕ → List Value
-defaults function.Substr (suc (suc zero)) = whole 254 ∷ []
-defaults function.Str (suc zero) = whole 10 ∷ whole 0 ∷ []
-defaults function.Str (suc (suc zero)) = whole 0 ∷ []
+defaults function.Substr (suc (suc zero)) = whole_as_value 254 ∷ []
+defaults function.Str (suc zero) = whole_as_value 10 ∷ whole_as_value 0 ∷ []
+defaults function.Str (suc (suc zero)) = whole_as_value 0 ∷ []
 defaults _ n = []
 
 -- IIF by the kind of what it chooses from
@@ -161,7 +161,7 @@ called_kind s f called.Choice kinds = on_some (choice kinds) None (λ g. Some (g
 abbrev pub prefixed_kind : Prefix → Kind → Option Kind
 prefixed_kind p k = if same_kind k (prefix_kind p) then Some (prefix_kind p) else None
 
-abbrev pub operated_kind : Operator → Kind → Kind → Option Kind
+abbrev pub operated_kind : BinaryOperator → Kind → Kind → Option Kind
 operated_kind o a b = on_some (operated o a b) None (λ operation. Some (gives_of operation.fun))
 
 abbrev mutual
@@ -223,7 +223,7 @@ abbrev pub denial : Bool → List Piece
 denial true = calls fun.Not ∷ []
 denial false = []
 
-abbrev pub operation_pieces : Operation → List Piece
+abbrev pub operation_pieces : OperatorMeaning → List Piece
 operation_pieces o = calls o.fun ∷ denial o.negated
 
 abbrev pub turned : Bool → List Piece → List Piece → List Piece
@@ -231,11 +231,11 @@ turned true a b = b ++ a
 turned false a b = a ++ b
 
 -- what an operator does between operands of these kinds, if it is known
-abbrev pub operation_in : Operator → Option Kind → Option Kind → Option Operation
+abbrev pub operation_in : BinaryOperator → Option Kind → Option Kind → Option OperatorMeaning
 operation_in o a b = on_some a None (λ one. on_some b None (operated o one))
 
 -- the operands in the order that the function takes them, and the function
-abbrev pub operator_pieces : Option Operation → List Piece → List Piece → List Piece
+abbrev pub operator_pieces : Option OperatorMeaning → List Piece → List Piece → List Piece
 operator_pieces None a b = []
 operator_pieces (Some o) a b = turned o.swapped a b ++ operation_pieces o
 
@@ -264,6 +264,7 @@ pub record Emits (pieces : List Piece) (constants : List Value) (old new : List 
   pub are : AllZip (IsPiece constants) pieces more
 
 -- the code is the expression's, with these constants, and its value is of this kind
-pub record IsWritten (s : Scoped) (e : Tree) (kind : Kind) (constants : List Value) (code : List Instr) : Type 0 where
+pub record IsWrittenExpr (s : Scoped) (e : Tree) (kind : Kind) (constants : List Value)
+    (code : List Instr) : Type 0 where
   pub kind_is : kind_in s e ≡ Some kind
   pub pieces : AllZip (IsPiece constants) (pieces_in s e) code

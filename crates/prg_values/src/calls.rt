@@ -3,7 +3,7 @@
 ghost use Rattle.std.specs.Prelude.{◌≡◌, ◌++◌, ◌≤◌, map, length};
 ghost use Rattle.code_items.specs.Kinds.{same_kinds};
 ghost use Rattle.xvalue.specs.Kinds.{kind_of};
-ghost use Rattle.prg_values.specs.Readings.{scoped, Reads};
+ghost use Rattle.prg_values.specs.Readings.{scoped, FindsReading};
 ghost use Rattle.prg_values.specs.Written as spec;
 
 use crate::arguments::Kinds;
@@ -27,7 +27,7 @@ pub enum Called {
 }
 
 fn of_texts(function: Function) -> Option<Fun>
-    ensures { result ≡ spec.of_texts function }
+    ensures { result ≡ spec.fun_of_texts function }
 {
     match function {
         Function::Len => Some(Fun::Len),
@@ -197,7 +197,7 @@ fn answer_kind(question: Question) -> Kind
 /// The kind of a question's answer: ClosedArea where the selected area isn't known to be open, Filter where a filter
 /// may not ask it.
 fn asked(scope: &Scope, question: Question) -> Result<Kind, CompileFaultKind>
-    ensures { Reads result (spec.question_kind (scoped scope.now) question) }
+    ensures { FindsReading result (spec.question_kind (scoped scope.now) question) }
 {
     if scope.state.desk.selected_area().is_none() {
         return Err(CompileFaultKind::ClosedArea);
@@ -211,7 +211,7 @@ fn asked(scope: &Scope, question: Question) -> Result<Kind, CompileFaultKind>
 
 /// The kind that a function gives, if it takes arguments of these kinds, with those that are left out.
 fn function_kind(function: Function, fun: Fun, kinds: &mut Kinds) -> Result<Kind, CompileFaultKind>
-    ensures { Reads result (spec.function_kind function fun kinds.old) }
+    ensures { FindsReading result (spec.function_kind function fun kinds.old) }
 {
     completed(function, kinds);
     if are_same(fun.takes(), kinds.as_slice()) {
@@ -227,7 +227,7 @@ pub fn call_kind(
     function: Function,
     kinds: &mut Kinds,
 ) -> Result<Kind, CompileFaultKind>
-    ensures { Reads result (spec.called_kind (scoped scope.now) function (spec.meaning function) kinds.old) }
+    ensures { FindsReading result (spec.called_kind (scoped scope.now) function (spec.meaning function) kinds.old) }
 {
     match meaning_of(function) {
         Called::Function(fun) => function_kind(function, fun, kinds),

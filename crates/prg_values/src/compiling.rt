@@ -2,25 +2,33 @@
 
 ghost use Rattle.std.specs.Prelude.{◌≡◌, List, [], ◌∷◌, ◌++◌, Option, Some, IfOk, OnOk, length};
 ghost use Rattle.xvalue.specs.declared.value.Value.{Value as Constant};
+ghost use Rattle.xvalue.specs.declared.value.Value.TheVariants as constant;
 ghost use Rattle.prg_code.specs.Numbers.{Grows};
 ghost use Rattle.prg_expr.specs.Tree.{tree_of, trees_of};
 ghost use Rattle.xvalue.specs.declared.kind.Kind.{Kind as AnyKind};
 ghost use Rattle.prg_values.specs.declared.scope.Reading.{Reading as TheReading};
 ghost use Rattle.prg_values.specs.Operators.{prefix_fun as prefix_fun_of};
-ghost use Rattle.prg_values.specs.Readings.{scoped, Reads};
+ghost use Rattle.prg_values.specs.Readings.{scoped, FindsReading};
 ghost use Rattle.prg_values.specs.Written as spec;
-ghost use Rattle.prg_values.specs.Written.{Does, Emits, IsWritten};
+ghost use Rattle.prg_values.specs.Written.{Does, Emits, IsWrittenExpr};
 
 use crate::calls::{Called, choice, meaning_of};
 use crate::kinds::{kind_of, kinds_of};
-use crate::operators::{Operation, operated, prefix_fun};
+use crate::operators::{OperatorMeaning, operated, prefix_fun};
 use crate::scope::{Reading, Scope, read_name, read_qualified};
 use code_items::{Instr, RecordInstr, ValueInstr};
 use fixed_num::Num;
 use prg_code::{CompileError, CompileFaultKind, CompileRefusal, Pool};
-use prg_expr::{Expr, Function};
+use prg_expr::{AliasedName, Expr, Function, Literal};
 use std::alloc::Global;
-use xvalue::{Fun, Kind, Value, copy_of};
+use xvalue::{Fun, Kind, Value, text_from};
+
+/// The value that a text of an expression is.
+pub fn text_value(text: &Literal) -> Value
+    ensures { result ≡ constant.Text (record { items = text.now }) }
+{
+    Value::Text(text_from(text.as_slice()))
+}
 
 fn put(code: &mut Vec<Instr>, instr: Instr) -> Result<(), CompileError>
     ensures { OnOk result ((constants : List Constant)
@@ -39,7 +47,8 @@ fn put_constant(code: &mut Vec<Instr>, pool: &mut Pool, value: Value) -> Result<
 }
 
 fn put_whole(code: &mut Vec<Instr>, pool: &mut Pool, whole: u32) -> Result<(), CompileError>
-    ensures ok { OnOk result (Emits (spec.Constant (spec.whole whole) ∷ []) pool.new code.old.items code.new.items) }
+    ensures ok { OnOk result
+        (Emits (spec.Constant (spec.whole_as_value whole) ∷ []) pool.new code.old.items code.new.items) }
     ensures grown { Grows pool.old pool.new }
 {
     put_constant(code, pool, Value::Number(Num::from(whole)))
@@ -56,7 +65,7 @@ fn put_reading(
     code: &mut Vec<Instr>,
     reading: Result<Reading, CompileFaultKind>,
 ) -> Result<(), CompileError>
-    ensures { OnOk result ((found : Option TheReading) (constants : List Constant) → Reads reading found
+    ensures { OnOk result ((found : Option TheReading) (constants : List Constant) → FindsReading reading found
         → Emits (spec.reading_pieces found) constants code.old.items code.new.items) }
 {
     match reading {
@@ -72,7 +81,7 @@ fn put_both(
     one: u32,
     other: u32,
 ) -> Result<(), CompileError>
-    ensures ok { OnOk result (Emits (spec.Constant (spec.whole one) ∷ spec.Constant (spec.whole other)
+    ensures ok { OnOk result (Emits (spec.Constant (spec.whole_as_value one) ∷ spec.Constant (spec.whole_as_value other)
         ∷ []) pool.new code.old.items code.new.items) }
     ensures grown { Grows pool.old pool.new }
 {
@@ -132,7 +141,7 @@ fn put_denial(code: &mut Vec<Instr>, negated: bool) -> Result<(), CompileError>
 }
 
 /// The function of an operator, behind its operands.
-fn put_operation(code: &mut Vec<Instr>, operation: Operation) -> Result<(), CompileError>
+fn put_operation(code: &mut Vec<Instr>, operation: OperatorMeaning) -> Result<(), CompileError>
     ensures { OnOk result ((constants : List Constant)
         → Emits (spec.operation_pieces operation) constants code.old.items code.new.items) }
 {
@@ -153,10 +162,10 @@ fn put_prefix(code: &mut Vec<Instr>, fun: Option<Fun>) -> Result<(), CompileErro
 /// What an operator does between these operands.
 pub fn operation_of(
     scope: &Scope,
-    operator: prg_expr::Operator,
+    operator: prg_expr::BinaryOperator,
     left: &Expr,
     right: &Expr,
-) -> Result<Operation, CompileError>
+) -> Result<OperatorMeaning, CompileError>
     ensures { IfOk result (λ operation. spec.operation_in operator (spec.kind_in (scoped scope.now) (tree_of left.now))
         (spec.kind_in (scoped scope.now) (tree_of right.now)) ≡ Some operation) }
 {
@@ -250,10 +259,11 @@ fn emit(code: &mut Vec<Instr>, pool: &mut Pool, scope: &Scope, e: &Expr) -> Resu
 {
     match e {
         Expr::Number(number) => put_constant(code, pool, Value::Number(*number)),
-        Expr::Text(text) => put_constant(code, pool, Value::Text(copy_of(text))),
+        Expr::Text(text) => put_constant(code, pool, text_value(text)),
         Expr::Logical(truth) => put_constant(code, pool, Value::Logical(*truth)),
         Expr::Name(name) => put_reading(code, read_name(scope, name)),
-        Expr::Qualified(alias, name) => {
+        Expr::Qualified(aliased) => {
+            let AliasedName { alias, name } = &**aliased;
             put_reading(code, read_qualified(scope, alias.as_slice(), name))
         }
         Expr::Call(function, arguments) => emit_call(code, pool, scope, *function, arguments),
@@ -281,7 +291,7 @@ fn written(
     pool: &mut Pool,
 ) -> Result<Vec<Instr>, CompileError>
     ensures ok { IfOk result (λ code. (kind : AnyKind)
-        × IsWritten (scoped scope.now) (tree_of e.now) kind pool.new code.items) }
+        × IsWrittenExpr (scoped scope.now) (tree_of e.now) kind pool.new code.items) }
     ensures grown { Grows pool.old pool.new }
 {
     let _kind = kind_of(scope, e)?;
@@ -303,7 +313,7 @@ pub fn compile_expr(
     pool: &mut Pool,
 ) -> Result<Vec<Instr>, CompileRefusal>
     ensures ok { IfOk result (λ code. (kind : AnyKind)
-        × IsWritten (scoped scope.now) (tree_of e.now) kind pool.new code.items) }
+        × IsWrittenExpr (scoped scope.now) (tree_of e.now) kind pool.new code.items) }
     ensures grown { Grows pool.old pool.new }
 {
     match written(alloc, e, scope, pool) {

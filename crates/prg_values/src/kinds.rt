@@ -2,7 +2,7 @@
 
 ghost use Rattle.std.specs.Prelude.{◌≡◌, Some, IfOk};
 ghost use Rattle.prg_expr.specs.Tree.{tree_of, trees_of};
-ghost use Rattle.prg_values.specs.Readings.{scoped, Reads, read_name as read_name_of};
+ghost use Rattle.prg_values.specs.Readings.{scoped, FindsReading, read_name as read_name_of};
 ghost use Rattle.prg_values.specs.Readings.{read_qualified as read_qualified_of};
 ghost use Rattle.prg_values.specs.Written as spec;
 
@@ -11,25 +11,25 @@ use crate::calls::call_kind;
 use crate::operators::{operated, prefix_kind};
 use crate::scope::{Reading, Scope, read_name, read_qualified};
 use prg_code::CompileFaultKind;
-use prg_expr::{Expr, Name, Operator, Prefix};
+use prg_expr::{AliasedName, BinaryOperator, Expr, Name, Prefix};
 use xvalue::Kind;
 
 fn name_kind(scope: &Scope, name: &Name) -> Result<Kind, CompileFaultKind>
-    ensures { Reads result (spec.reading_kind (read_name_of (scoped scope.now) name.now.items)) }
+    ensures { FindsReading result (spec.reading_kind (read_name_of (scoped scope.now) name.now.items)) }
 {
     let Reading { kind, .. } = read_name(scope, name)?;
     Ok(kind)
 }
 
 fn qualified_kind(scope: &Scope, alias: &[u8], name: &Name) -> Result<Kind, CompileFaultKind>
-    ensures { Reads result (spec.reading_kind (read_qualified_of (scoped scope.now) alias.now name.now.items)) }
+    ensures { FindsReading result (spec.reading_kind (read_qualified_of (scoped scope.now) alias.now name.now.items)) }
 {
     let Reading { kind, .. } = read_qualified(scope, alias, name)?;
     Ok(kind)
 }
 
 fn prefixed_kind(prefix: Prefix, kind: Kind) -> Result<Kind, CompileFaultKind>
-    ensures { Reads result (spec.prefixed_kind prefix kind) }
+    ensures { FindsReading result (spec.prefixed_kind prefix kind) }
 {
     let wanted = prefix_kind(prefix);
     if kind.is(wanted) {
@@ -39,8 +39,12 @@ fn prefixed_kind(prefix: Prefix, kind: Kind) -> Result<Kind, CompileFaultKind>
     }
 }
 
-fn operated_kind(operator: Operator, left: Kind, right: Kind) -> Result<Kind, CompileFaultKind>
-    ensures { Reads result (spec.operated_kind operator left right) }
+fn operated_kind(
+    operator: BinaryOperator,
+    left: Kind,
+    right: Kind,
+) -> Result<Kind, CompileFaultKind>
+    ensures { FindsReading result (spec.operated_kind operator left right) }
 {
     match operated(operator, left, right) {
         Some(operation) => Ok(operation.fun.gives()),
@@ -59,7 +63,10 @@ pub fn kind_of(scope: &Scope, e: &Expr) -> Result<Kind, CompileFaultKind>
         Expr::Text(_) => Ok(Kind::Text),
         Expr::Logical(_) => Ok(Kind::Logical),
         Expr::Name(name) => name_kind(scope, name),
-        Expr::Qualified(alias, name) => qualified_kind(scope, alias.as_slice(), name),
+        Expr::Qualified(aliased) => {
+            let AliasedName { alias, name } = &**aliased;
+            qualified_kind(scope, alias.as_slice(), name)
+        }
         Expr::Call(function, arguments) => {
             let mut kinds = kinds_of(scope, arguments)?;
             call_kind(scope, *function, &mut kinds)

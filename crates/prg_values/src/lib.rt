@@ -12,7 +12,7 @@ mod standing;
 
 pub use compiling::compile_expr;
 pub use kinds::kind_of;
-pub use operators::{Operation, operated};
+pub use operators::{OperatorMeaning, operated};
 pub use scope::{
     FieldPlace, Reading, Scope, area_of_alias, field_of, read_name, read_qualified, selected_field,
     table_named, variable_slot,

@@ -3,31 +3,31 @@
 ghost use Rattle.std.specs.Prelude.{◌≡◌};
 ghost use Rattle.prg_values.specs.Operators as spec;
 
-use prg_expr::{Operator, Prefix};
+use prg_expr::{BinaryOperator, Prefix};
 use xvalue::{Fun, Kind};
 
 /// What an operator does: the function, whether its truth value is turned, and whether the right operand comes first.
 #[derive(Clone, Copy, Debug, PartialEq, Eq)]
-pub struct Operation {
+pub struct OperatorMeaning {
     pub fun: Fun,
     pub negated: bool,
     pub swapped: bool,
 }
 
-fn plain(fun: Fun) -> Operation
+fn plain(fun: Fun) -> OperatorMeaning
     ensures { result ≡ spec.plain fun }
 {
-    Operation {
+    OperatorMeaning {
         fun,
         negated: false,
         swapped: false,
     }
 }
 
-fn negated(fun: Fun) -> Operation
+fn negated(fun: Fun) -> OperatorMeaning
     ensures { result ≡ spec.denied fun }
 {
-    Operation {
+    OperatorMeaning {
         fun,
         negated: true,
         swapped: false,
@@ -67,8 +67,8 @@ fn greater(kind: Kind) -> Option<Fun>
     }
 }
 
-fn plain_if(fun: Option<Fun>) -> Option<Operation>
-    ensures { result ≡ spec.if_some spec.plain fun }
+fn plain_if(fun: Option<Fun>) -> Option<OperatorMeaning>
+    ensures { result ≡ spec.operation_if_some spec.plain fun }
 {
     match fun {
         Some(fun) => Some(plain(fun)),
@@ -76,8 +76,8 @@ fn plain_if(fun: Option<Fun>) -> Option<Operation>
     }
 }
 
-fn negated_if(fun: Option<Fun>) -> Option<Operation>
-    ensures { result ≡ spec.if_some spec.denied fun }
+fn negated_if(fun: Option<Fun>) -> Option<OperatorMeaning>
+    ensures { result ≡ spec.operation_if_some spec.denied fun }
 {
     match fun {
         Some(fun) => Some(negated(fun)),
@@ -86,22 +86,22 @@ fn negated_if(fun: Option<Fun>) -> Option<Operation>
 }
 
 /// What a comparison does between values of this kind; none of another operator.
-fn comparison(operator: Operator, kind: Kind) -> Option<Operation>
+fn comparison(operator: BinaryOperator, kind: Kind) -> Option<OperatorMeaning>
     ensures { result ≡ spec.comparison operator kind }
 {
     match operator {
-        Operator::Equal => plain_if(equality(kind)),
-        Operator::NotEqual => negated_if(equality(kind)),
-        Operator::Less => plain_if(less(kind)),
-        Operator::Greater => plain_if(greater(kind)),
-        Operator::AtMost => negated_if(greater(kind)),
-        Operator::AtLeast => negated_if(less(kind)),
+        BinaryOperator::Equal => plain_if(equality(kind)),
+        BinaryOperator::NotEqual => negated_if(equality(kind)),
+        BinaryOperator::Less => plain_if(less(kind)),
+        BinaryOperator::Greater => plain_if(greater(kind)),
+        BinaryOperator::AtMost => negated_if(greater(kind)),
+        BinaryOperator::AtLeast => negated_if(less(kind)),
         _ => None,
     }
 }
 
-fn compared(operator: Operator, left: Kind, right: Kind) -> Option<Operation>
-    ensures { result ≡ spec.compared operator left right }
+fn compared(operator: BinaryOperator, left: Kind, right: Kind) -> Option<OperatorMeaning>
+    ensures { result ≡ spec.compared_kinds operator left right }
 {
     if left.is(right) {
         comparison(operator, left)
@@ -110,14 +110,14 @@ fn compared(operator: Operator, left: Kind, right: Kind) -> Option<Operation>
     }
 }
 
-fn added(left: Kind, right: Kind) -> Option<Operation>
+fn added(left: Kind, right: Kind) -> Option<OperatorMeaning>
     ensures { result ≡ spec.added left right }
 {
     match (left, right) {
         (Kind::Number, Kind::Number) => Some(plain(Fun::Add)),
         (Kind::Text, Kind::Text) => Some(plain(Fun::Join)),
         (Kind::Date, Kind::Number) => Some(plain(Fun::DateAdd)),
-        (Kind::Number, Kind::Date) => Some(Operation {
+        (Kind::Number, Kind::Date) => Some(OperatorMeaning {
             fun: Fun::DateAdd,
             negated: false,
             swapped: true,
@@ -126,7 +126,7 @@ fn added(left: Kind, right: Kind) -> Option<Operation>
     }
 }
 
-fn subtracted(left: Kind, right: Kind) -> Option<Operation>
+fn subtracted(left: Kind, right: Kind) -> Option<OperatorMeaning>
     ensures { result ≡ spec.subtracted left right }
 {
     match (left, right) {
@@ -139,7 +139,7 @@ fn subtracted(left: Kind, right: Kind) -> Option<Operation>
 }
 
 /// The function where both operands are of this kind.
-fn of_both(fun: Fun, kind: Kind, left: Kind, right: Kind) -> Option<Operation>
+fn of_both(fun: Fun, kind: Kind, left: Kind, right: Kind) -> Option<OperatorMeaning>
     ensures { result ≡ spec.of_both fun kind left right }
 {
     if left.is(kind) && right.is(kind) {
@@ -150,17 +150,17 @@ fn of_both(fun: Fun, kind: Kind, left: Kind, right: Kind) -> Option<Operation>
 }
 
 /// What the operator does between operands of these kinds; none where it takes other kinds.
-pub fn operated(operator: Operator, left: Kind, right: Kind) -> Option<Operation>
+pub fn operated(operator: BinaryOperator, left: Kind, right: Kind) -> Option<OperatorMeaning>
     ensures { result ≡ spec.operated operator left right }
 {
     match operator {
-        Operator::Or => of_both(Fun::Or, Kind::Logical, left, right),
-        Operator::And => of_both(Fun::And, Kind::Logical, left, right),
-        Operator::Contains => of_both(Fun::In, Kind::Text, left, right),
-        Operator::Times => of_both(Fun::Mul, Kind::Number, left, right),
-        Operator::Over => of_both(Fun::Div, Kind::Number, left, right),
-        Operator::Plus => added(left, right),
-        Operator::Minus => subtracted(left, right),
+        BinaryOperator::Or => of_both(Fun::Or, Kind::Logical, left, right),
+        BinaryOperator::And => of_both(Fun::And, Kind::Logical, left, right),
+        BinaryOperator::Contains => of_both(Fun::In, Kind::Text, left, right),
+        BinaryOperator::Times => of_both(Fun::Mul, Kind::Number, left, right),
+        BinaryOperator::Over => of_both(Fun::Div, Kind::Number, left, right),
+        BinaryOperator::Plus => added(left, right),
+        BinaryOperator::Minus => subtracted(left, right),
         _ => compared(operator, left, right),
     }
 }

@@ -3,7 +3,7 @@
 ghost use Rattle.std.specs.Prelude.{◌≡◌};
 ghost use Rattle.std.specs.List.{list_any};
 ghost use Rattle.prg_values.specs.Readings as readings;
-ghost use Rattle.prg_values.specs.Readings.{scoped, Reads};
+ghost use Rattle.prg_values.specs.Readings.{scoped, FindsReading};
 ghost use Rattle.prg_code.specs.Bindings.{slot_named};
 
 use code_items::{
@@ -39,7 +39,7 @@ pub struct FieldPlace {
 
 /// A field by its number, if an instruction can name it.
 fn field_place(number: usize, field: &Field) -> Option<FieldPlace>
-    ensures { result ≡ readings.place_of number field.now }
+    ensures { result ≡ readings.nameable_field number field.now }
 {
     match u16::try_from(number) {
         Ok(number) => {
@@ -110,7 +110,7 @@ fn area_at(desk: &Desk, number: u8) -> AreaState
 
 /// Reads a field of a work area; in a filter's condition only the row tried has fields.
 fn read_field(scope: &Scope, area: u8, field: FieldPlace) -> Result<Reading, CompileFaultKind>
-    ensures { Reads result (readings.field_reading (scoped scope.now) area field) }
+    ensures { FindsReading result (readings.field_reading (scoped scope.now) area field) }
 {
     let FieldPlace { number, kind } = field;
     if !scope.in_filter {
@@ -129,7 +129,7 @@ fn read_field(scope: &Scope, area: u8, field: FieldPlace) -> Result<Reading, Com
 
 /// The slot of a variable, which need not have a value: Name where there is no such variable.
 pub fn variable_slot(scope: &Scope, name: &Name) -> Result<u8, CompileFaultKind>
-    ensures { Reads result (slot_named (scoped scope.now).names name.now.items) }
+    ensures { FindsReading result (slot_named (scoped scope.now).names name.now.items) }
 {
     match scope.names.slot(name) {
         Some(slot) => Ok(slot),
@@ -139,7 +139,7 @@ pub fn variable_slot(scope: &Scope, name: &Name) -> Result<u8, CompileFaultKind>
 
 /// Reads a variable: Name where there is none of this name, Unset where it may have no value.
 fn read_variable(scope: &Scope, name: &Name) -> Result<Reading, CompileFaultKind>
-    ensures { Reads result (readings.variable (scoped scope.now) name.now.items) }
+    ensures { FindsReading result (readings.variable (scoped scope.now) name.now.items) }
 {
     let slot = variable_slot(scope, name)?;
     match scope.state.slots.kinds().get(usize::from(slot)) {
@@ -155,7 +155,7 @@ fn read_variable(scope: &Scope, name: &Name) -> Result<Reading, CompileFaultKind
 /// The field that a name without alias is, if it is one: that of the selected area's table. Where nothing is known of
 /// the selected area, the name of any declared table's field is ClosedArea.
 pub fn selected_field(scope: &Scope, name: &[u8]) -> Result<Option<FieldPlace>, CompileFaultKind>
-    ensures { Reads result (readings.field_here (scoped scope.now) name.now) }
+    ensures { FindsReading result (readings.field_here (scoped scope.now) name.now) }
 {
     match area_at(&scope.state.desk, scope.state.desk.selected) {
         AreaState::Closed => Ok(None),
@@ -172,7 +172,7 @@ pub fn selected_field(scope: &Scope, name: &[u8]) -> Result<Option<FieldPlace>, 
 /// Reads a name without alias: a field of the selected area's table, else a variable.
 #[tactic(auto, unfolding(crate::specs::Readings::read_name))]
 pub fn read_name(scope: &Scope, name: &Name) -> Result<Reading, CompileFaultKind>
-    ensures { Reads result (readings.read_name (scoped scope.now) name.now.items) }
+    ensures { FindsReading result (readings.read_name (scoped scope.now) name.now.items) }
 {
     match selected_field(scope, name.as_slice())? {
         Some(field) => read_field(scope, scope.state.desk.selected, field),
@@ -192,7 +192,7 @@ pub fn area_of_letter(alias: &[u8]) -> Option<u8>
 
 /// A number, if an instruction can name a table by it.
 fn table_number(number: usize) -> Option<u16>
-    ensures { result ≡ readings.below 65536 number }
+    ensures { result ≡ readings.number_below 65536 number }
 {
     match u16::try_from(number) {
         Ok(number) => Some(number),
@@ -218,7 +218,7 @@ pub fn table_named(shape: &Shape, name: &[u8]) -> Option<u16>
 
 /// A number, if an instruction can name a work area by it.
 fn area_number(number: usize) -> Option<u8>
-    ensures { result ≡ readings.below 256 number }
+    ensures { result ≡ readings.number_below 256 number }
 {
     match u8::try_from(number) {
         Ok(number) => Some(number),
@@ -268,7 +268,7 @@ fn not_held(areas: &[AreaState]) -> CompileFaultKind {
 /// The work area of a table, by the table's name: Name where no table of this name is open, but ClosedArea where one is
 /// declared and nothing is known of some area.
 pub fn area_of_table(scope: &Scope, alias: &[u8]) -> Result<u8, CompileFaultKind>
-    ensures { Reads result (readings.holder_of (scoped scope.now)
+    ensures { FindsReading result (readings.holder_of (scoped scope.now)
         (readings.table_named (scoped scope.now).shape alias.now)) }
 {
     let Some(table) = table_named(scope.shape, alias) else {
@@ -283,7 +283,7 @@ pub fn area_of_table(scope: &Scope, alias: &[u8]) -> Result<u8, CompileFaultKind
 
 /// The work area that an alias names, by its letter or its table.
 pub fn area_of_alias(scope: &Scope, alias: &[u8]) -> Result<u8, CompileFaultKind>
-    ensures { Reads result (readings.alias_area (scoped scope.now) alias.now) }
+    ensures { FindsReading result (readings.alias_area (scoped scope.now) alias.now) }
 {
     match area_of_letter(alias) {
         Some(area) => Ok(area),
@@ -298,7 +298,7 @@ fn read_of_area(
     number: u8,
     area: AreaState,
 ) -> Result<Reading, CompileFaultKind>
-    ensures { Reads result (readings.field_of_area (scoped scope.now) name.now number area) }
+    ensures { FindsReading result (readings.field_of_area (scoped scope.now) name.now number area) }
 {
     let AreaState::Open(area) = area else {
         return Err(CompileFaultKind::ClosedArea);
@@ -312,7 +312,7 @@ fn read_of_area(
 /// Reads a name behind an alias: the variable behind `M`, else the field of the alias's area.
 #[tactic(auto, unfolding(crate::specs::Readings::read_qualified))]
 pub fn read_qualified(scope: &Scope, alias: &[u8], name: &Name) -> Result<Reading, CompileFaultKind>
-    ensures { Reads result (readings.read_qualified (scoped scope.now) alias.now name.now.items) }
+    ensures { FindsReading result (readings.read_qualified (scoped scope.now) alias.now name.now.items) }
 {
     if alias == b"M".as_slice() {
         return read_variable(scope, name);

@@ -5,21 +5,21 @@ ghost use Rattle.prg_expr.specs.Tree.{tree_of, trees_of};
 ghost use Rattle.prg_values.specs.Operators.{prefix_fun as prefix_fun_of};
 ghost use Rattle.prg_values.specs.Readings as readings;
 ghost use Rattle.prg_values.specs.Readings.{scoped};
-ghost use Rattle.prg_values.specs.Placed.{text, Stands, StandAll, Leaves};
+ghost use Rattle.prg_values.specs.Placed.{text, InstrStands, StandAll, Leaves};
 ghost use Rattle.prg_values.specs.Written as spec;
 ghost use Rattle.prg_values.specs.Written.{Does};
 
 use crate::calls::{Called, meaning_of};
-use crate::compiling::{choice_of, operation_of};
+use crate::compiling::{choice_of, operation_of, text_value};
 use crate::kinds::kind_of;
-use crate::operators::{Operation, prefix_fun};
+use crate::operators::{OperatorMeaning, prefix_fun};
 use crate::sameness::are_same;
 use crate::scope::{Reading, Scope, read_name, read_qualified};
 use code_items::{Instr, RecordInstr, ValueInstr};
 use fixed_num::Num;
 use prg_code::{CompileFaultKind, is_same_constant};
-use prg_expr::{Expr, Function, Name};
-use xvalue::{Fun, Kind, Value, copy_of};
+use prg_expr::{AliasedName, Expr, Function, Name};
+use xvalue::{Fun, Kind, Value};
 
 /// A finished code: its instructions by place, and its constants by number, both counted from 0.
 #[derive(Clone, Copy)]
@@ -37,7 +37,7 @@ pub struct Given {
 
 /// The place behind the instruction, if it stands at this place.
 pub fn behind(f: &Finished, place: usize, instr: Instr) -> Option<usize>
-    ensures { IfSome result (λ b. Stands (text f.now) place instr b) }
+    ensures { IfSome result (λ b. InstrStands (text f.now) place instr b) }
 {
     match f.instrs.get(place) {
         Some(there) if are_same(*there, instr) => Some(place + 1),
@@ -66,7 +66,7 @@ pub fn behind_constant(f: &Finished, place: usize, value: &Value) -> Option<usiz
 }
 
 fn behind_whole(f: &Finished, place: usize, whole: u32) -> Option<usize>
-    ensures { IfSome result (λ b. StandAll (text f.now) place (spec.Constant (spec.whole whole) ∷ []) b) }
+    ensures { IfSome result (λ b. StandAll (text f.now) place (spec.Constant (spec.whole_as_value whole) ∷ []) b) }
 {
     behind_constant(f, place, &Value::Number(Num::from(whole)))
 }
@@ -111,7 +111,7 @@ fn behind_qualified(
 
 fn behind_both(f: &Finished, place: usize, one: u32, other: u32) -> Option<usize>
     ensures { IfSome result (λ b. StandAll (text f.now) place
-        (spec.Constant (spec.whole one) ∷ spec.Constant (spec.whole other) ∷ []) b) }
+        (spec.Constant (spec.whole_as_value one) ∷ spec.Constant (spec.whole_as_value other) ∷ []) b) }
 {
     let between = behind_whole(f, place, one)?;
     behind_whole(f, between, other)
@@ -160,7 +160,7 @@ fn behind_denial(f: &Finished, place: usize, negated: bool) -> Option<usize>
 }
 
 /// The place behind the function of an operator, which stands behind its operands.
-fn behind_operation(f: &Finished, place: usize, operation: Operation) -> Option<usize>
+fn behind_operation(f: &Finished, place: usize, operation: OperatorMeaning) -> Option<usize>
     ensures { IfSome result (λ b. StandAll (text f.now) place (spec.operation_pieces operation) b) }
 {
     let between = behind_function(f, place, operation.fun)?;
@@ -232,10 +232,11 @@ fn behind_code(f: &Finished, scope: &Scope, place: usize, e: &Expr) -> Option<us
 {
     match e {
         Expr::Number(number) => behind_constant(f, place, &Value::Number(*number)),
-        Expr::Text(text) => behind_constant(f, place, &Value::Text(copy_of(text))),
+        Expr::Text(text) => behind_constant(f, place, &text_value(text)),
         Expr::Logical(truth) => behind_constant(f, place, &Value::Logical(*truth)),
         Expr::Name(name) => behind_name(f, scope, place, name),
-        Expr::Qualified(alias, name) => {
+        Expr::Qualified(aliased) => {
+            let AliasedName { alias, name } = &**aliased;
             behind_qualified(f, scope, place, alias.as_slice(), name)
         }
         Expr::Call(function, arguments) => behind_call(f, scope, place, *function, arguments),

@@ -10,7 +10,7 @@ use code_items::{
 };
 use prg_code::{
     CompileError, CompileFaultKind, CompileRefusal, Constant, FilterBlock, LaidOut, ListedIndexes,
-    Output, lay,
+    Output, lay, room_of,
 };
 use std::alloc::{AllocError, Global};
 use xvalue::{Kind, Value};
@@ -64,18 +64,39 @@ fn lay_copy(
     })
 }
 
+/// The procedures of the copies, each of which is freed once it is laid out.
 fn lay_copies(
     alloc: Global,
     laid: &mut LaidOut,
-    copies: &[ProcedureCopy],
+    copies: Vec<ProcedureCopy>,
     slots: usize,
 ) -> Result<Vec<Proc>, CompileRefusal> {
-    let mut procedures = Vec::new(alloc);
+    let mut procedures = Vec::with_capacity(alloc, copies.len())?;
     for copy in copies {
-        let procedure = lay_copy(alloc, laid, copy, slots)?;
+        let procedure = lay_copy(alloc, laid, &copy, slots)?;
         procedures.push(procedure)?;
     }
     Ok(procedures)
+}
+
+/// Nothing yet of a code with so many slots, with room for the copies and the filters.
+fn begun(
+    alloc: Global,
+    copies: &[ProcedureCopy],
+    filters: &[FilterBlock],
+    slots: usize,
+) -> Result<LaidOut, AllocError> {
+    let mut instrs = 0usize;
+    let mut maps = 0usize;
+    for copy in copies {
+        let (places, met) = room_of(&copy.block, copy.own.len());
+        instrs = instrs.saturating_add(places);
+        maps = maps.saturating_add(met);
+    }
+    for filter in filters {
+        instrs = instrs.saturating_add(filter.block.len());
+    }
+    LaidOut::new(alloc, slots, instrs, maps)
 }
 
 fn lay_filters(
@@ -94,21 +115,6 @@ fn lay_filters(
         })?;
     }
     Ok(filters)
-}
-
-fn trimmed_maps(
-    alloc: Global,
-    maps: &[(usize, State)],
-    slots: usize,
-) -> Result<Vec<Map>, CompileRefusal> {
-    let mut trims = Vec::new(alloc);
-    for (place, state) in maps {
-        trims.push(Map {
-            place: two_bytes(*place)?,
-            state: trimmed(alloc, state, slots)?,
-        })?;
-    }
-    Ok(trims)
 }
 
 fn copies_of_constants(alloc: Global, constants: &[Constant]) -> Result<Vec<Value>, AllocError>
@@ -178,17 +184,17 @@ fn bound_of(highest: usize, copies: &[ProcedureCopy]) -> usize {
 pub fn assemble(
     alloc: Global,
     shape: Shape,
-    out: &Output,
-    copies: &[ProcedureCopy],
+    out: Output,
+    copies: Vec<ProcedureCopy>,
 ) -> Result<Code, CompileRefusal>
     ensures { IfOk result (λ code. code.declared.shape ≡ shape) }
 {
     let slots = usize::from(out.slots);
-    let mut laid = LaidOut::new(alloc);
+    let bound = bound_of(out.highest, &copies);
+    let mut laid = begun(alloc, &copies, out.filters.as_slice(), slots)?;
     let procedures = lay_copies(alloc, &mut laid, copies, slots)?;
     let filters = lay_filters(alloc, &mut laid, out.filters.as_slice())?;
-    let maps = trimmed_maps(alloc, &laid.maps, slots)?;
-    let bound = bound_of(out.highest, copies);
+    let LaidOut { instrs, maps, .. } = laid;
     Ok(Code {
         declared: Declared {
             version: version_of(out.century, &procedures, &maps),
@@ -201,6 +207,6 @@ pub fn assemble(
         },
         procedures: Items::of(procedures),
         maps: Items::of(maps),
-        instructions: Items::of(laid.instrs),
+        instructions: Items::of(instrs),
     })
 }

@@ -3,7 +3,7 @@
 //! A loop within another one is compiled again with each of its rounds. What held at its head once holds again, as far
 //! as nothing more is known where it begins; so it need not be found a second time.
 
-use crate::writer::{Mark, Writer};
+use crate::writer::{Writer, WrittenMark};
 use code_items::State;
 use prg_code::{Names, merged};
 use std::alloc::AllocError;
@@ -56,7 +56,7 @@ impl Writer {
     pub fn remember(
         &mut self,
         line: usize,
-        mark: &Mark,
+        mark: &WrittenMark,
         entry: State,
         head: Option<State>,
     ) -> Result<(), AllocError> {

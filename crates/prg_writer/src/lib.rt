@@ -4,11 +4,15 @@
 mod assembling;
 mod fault_list;
 mod heads;
+mod procedures;
 mod shapes;
 mod writer;
 
 pub use assembling::assemble;
 pub use fault_list::FaultList;
 pub use heads::LoopHead;
+pub use procedures::NamedProcedures;
 pub use shapes::copy_of_shape;
-pub use writer::{Begun, Mark, ProcedureCopy, Source, Target, Writer, copy_of_state, parameters};
+pub use writer::{
+    Begun, ProcedureCopy, Source, Target, Writer, WrittenMark, copy_of_state, parameters,
+};

@@ -2,8 +2,9 @@
 
 use crate::fault_list::FaultList;
 use crate::heads::LoopHead;
+use crate::procedures::NamedProcedures;
 use code_items::State;
-use prg_code::{Block, CompileError, CompileFaultKind, CompileRefusal, Names, Output, Work};
+use prg_code::{CompileError, CompileFaultKind, CompileRefusal, DraftBlock, Names, Output, Work};
 use prg_line::Statement;
 use prg_parser::{Command, Form, Program};
 use shape::Shape;
@@ -38,7 +39,7 @@ pub struct ProcedureCopy {
     pub level: u8,
     /// The slots that are its own, rising.
     pub own: Vec<u8>,
-    pub block: Block,
+    pub block: DraftBlock,
     /// Whether all of it is written.
     pub done: bool,
 }
@@ -51,6 +52,8 @@ pub struct Writer {
     /// The copy that is being written.
     pub work: Work,
     pub copies: Vec<ProcedureCopy>,
+    /// The procedures that calls may name.
+    pub procedures: NamedProcedures,
     /// The procedures that are being written, from the main one on.
     pub active: Vec<Target>,
     /// What held at the heads of loops.
@@ -62,14 +65,14 @@ pub struct Writer {
 /// What stood before a command.
 #[derive(Drop)]
 pub struct Begun {
-    mark: Mark,
+    mark: WrittenMark,
     state: State,
     gets: usize,
 }
 
 /// How much was written at some time.
 #[derive(Drop)]
-pub struct Mark {
+pub struct WrittenMark {
     pieces: usize,
     labels: usize,
     constants: usize,
@@ -137,8 +140,8 @@ pub fn parameters(commands: &[Command]) -> (&[prg_parser::Name], &[Command]) {
 
 impl Writer {
     /// How much is written.
-    pub fn mark(&self) -> Result<Mark, AllocError> {
-        Ok(Mark {
+    pub fn mark(&self) -> Result<WrittenMark, AllocError> {
+        Ok(WrittenMark {
             pieces: self.work.block.pieces.len(),
             labels: self.work.block.labels.len(),
             constants: self.out.pool.len(),
@@ -155,7 +158,7 @@ impl Writer {
     }
 
     /// Gives up what was written since, and goes on with what is known now.
-    pub fn give_up(&mut self, mark: &Mark, state: State) -> Result<(), AllocError> {
+    pub fn give_up(&mut self, mark: &WrittenMark, state: State) -> Result<(), AllocError> {
         self.work.block.cut(mark.pieces, mark.labels, state);
         self.out.pool.cut(mark.constants);
         self.out.lists.cut(mark.lists);

@@ -4,7 +4,7 @@
 use std::alloc::{AllocError, Global};
 
 /// An instruction's operation and operands, as they stand in the file.
-pub type Parts = (u8, u8, u16, u32);
+pub type RawInstr = (u8, u8, u16, u32);
 
 /// A map: its place, the slots' kinds and the stack's, as they stand in the file.
 #[derive(Clone, Copy, Debug)]
@@ -27,11 +27,11 @@ pub struct HandCode<'a> {
     /// None where the instructions are one procedure's, of level 0.
     pub procedures: &'a [HandProcedure],
     pub maps: &'a [HandMap<'a>],
-    pub instructions: &'a [Parts],
+    pub instructions: &'a [RawInstr],
 }
 
 /// A code of one procedure without tables, constants and maps.
-pub fn plain<'a>(stack_bound: u16, slots: u16, instructions: &'a [Parts]) -> HandCode<'a> {
+pub fn plain<'a>(stack_bound: u16, slots: u16, instructions: &'a [RawInstr]) -> HandCode<'a> {
     HandCode {
         stack_bound,
         slots,

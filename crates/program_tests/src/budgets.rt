@@ -1,7 +1,7 @@
 // Both machines over tables at each budget up to what a run costs.
 #![tactic(auto)]
 
-use super::cases::{CODE, Case, compiled, entries, run_case};
+use super::cases::{CODE, RunCase, compiled, entries, run_case};
 use super::moves::{filtered, first_smith, reopened, shrinking, smiths};
 use super::records::{bill, customer, full, keys, letters, of_t, removed};
 use super::screens::{centuries, numbers, scrolling, texts_and_dates, typed};
@@ -23,7 +23,7 @@ fn told(alloc: Global, report: &Report) -> Result<String, AllocError> {
 /// Whether two runs printed and ended alike, spent below the whole cost and else as the case says.
 fn are_alike(
     alloc: Global,
-    case: &Case<'_>,
+    case: &RunCase<'_>,
     one: &Report,
     other: &Report,
     whole: bool,
@@ -42,7 +42,7 @@ fn are_alike(
 fn runs_alike(
     alloc: Global,
     entries: &[MemoryEntry<'_>],
-    case: &Case<'_>,
+    case: &RunCase<'_>,
     budget: u64,
     whole: bool,
 ) -> Result<bool, AllocError> {
@@ -50,7 +50,7 @@ fn runs_alike(
     if !compiled(alloc, &mut files) {
         return Ok(false);
     }
-    let case = Case { budget, ..*case };
+    let case = RunCase { budget, ..*case };
     let checked = run_case(alloc, &mut files, &case, true);
     let untagged = run_case(alloc, &mut files, &case, false);
     match (checked, untagged) {
@@ -60,7 +60,7 @@ fn runs_alike(
 }
 
 /// The first budget, up to the whole cost, at which the machines run a case otherwise.
-fn first_unlike(alloc: Global, case: &Case<'_>, cost: u64) -> Result<Option<u64>, AllocError> {
+fn first_unlike(alloc: Global, case: &RunCase<'_>, cost: u64) -> Result<Option<u64>, AllocError> {
     let entries = entries(alloc, case)?;
     for budget in 0..=cost {
         if !runs_alike(alloc, entries.as_slice(), case, budget, budget == cost)? {
@@ -73,7 +73,7 @@ fn first_unlike(alloc: Global, case: &Case<'_>, cost: u64) -> Result<Option<u64>
 /// The first case, by its place, and the first budget up to its whole cost at which the machines run it otherwise.
 fn first_unlike_of(
     alloc: Global,
-    cases: &[Case<'_>],
+    cases: &[RunCase<'_>],
     costs: &[u64],
 ) -> Result<Option<(usize, u64)>, AllocError> {
     for (place, (case, cost)) in cases.iter().zip(costs).enumerate() {

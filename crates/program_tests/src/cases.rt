@@ -17,7 +17,7 @@ pub const CODE: &str = "MAIN.XBC";
 
 /// A command file over tables, and what a run of it comes to.
 #[derive(Clone, Copy)]
-pub struct Case<'a> {
+pub struct RunCase<'a> {
     pub declarations: &'a str,
     pub source: &'a str,
     /// The tables and indexes before the run.
@@ -36,8 +36,8 @@ pub struct Case<'a> {
 }
 
 /// A case without tables and lines of the operator.
-pub fn printing<'a>(source: &'a str, rows: &'a str, ended: &'a str) -> Case<'a> {
-    Case {
+pub fn printing<'a>(source: &'a str, rows: &'a str, ended: &'a str) -> RunCase<'a> {
+    RunCase {
         declarations: "",
         source,
         files: &[],
@@ -51,7 +51,7 @@ pub fn printing<'a>(source: &'a str, rows: &'a str, ended: &'a str) -> Case<'a> 
 }
 
 /// The files before a case is compiled.
-pub fn entries<'a>(alloc: Global, case: &Case<'a>) -> Result<Vec<MemoryEntry<'a>>, AllocError> {
+pub fn entries<'a>(alloc: Global, case: &RunCase<'a>) -> Result<Vec<MemoryEntry<'a>>, AllocError> {
     let mut entries = Vec::new(alloc);
     entries.push(MemoryEntry {
         name: DECLARATIONS,
@@ -74,7 +74,7 @@ pub fn compiled(alloc: Global, files: &mut MemoryFiles<'_>) -> bool {
 pub fn run_case(
     alloc: Global,
     files: &mut MemoryFiles<'_>,
-    case: &Case<'_>,
+    case: &RunCase<'_>,
     checked: bool,
 ) -> Option<Report> {
     let job = Job {
@@ -89,7 +89,7 @@ pub fn run_case(
 }
 
 /// Whether a run printed and ended as the case says.
-fn is_as_said(alloc: Global, report: &Report, case: &Case<'_>) -> Result<bool, AllocError> {
+fn is_as_said(alloc: Global, report: &Report, case: &RunCase<'_>) -> Result<bool, AllocError> {
     let told = match &report.result {
         Ok(ended) => ended.to_string(alloc)?,
         Err(refusal) => refusal.told(CODE).to_string(alloc)?,
@@ -123,7 +123,7 @@ fn first_unlisted<'a>(
 
 /// What isn't as the case says, run by the checking machine and then by the one without tags: nothing, or a word for
 /// it.
-pub fn wrong_in<'a>(alloc: Global, case: &Case<'a>) -> Result<Option<&'a str>, AllocError> {
+pub fn wrong_in<'a>(alloc: Global, case: &RunCase<'a>) -> Result<Option<&'a str>, AllocError> {
     let entries = entries(alloc, case)?;
     let mut files = MemoryFiles::new(alloc, entries.as_slice(), WORKS_FOR_EVER);
     if !compiled(alloc, &mut files) {
@@ -145,7 +145,7 @@ pub fn wrong_in<'a>(alloc: Global, case: &Case<'a>) -> Result<Option<&'a str>, A
 }
 
 /// How the refusal of a case's command file is told; none where it is compiled.
-pub fn refused(alloc: Global, case: &Case<'_>) -> Result<Option<String>, AllocError> {
+pub fn refused(alloc: Global, case: &RunCase<'_>) -> Result<Option<String>, AllocError> {
     let entries = entries(alloc, case)?;
     let mut files = MemoryFiles::new(alloc, entries.as_slice(), WORKS_FOR_EVER);
     match compile_files(alloc, &mut files, DECLARATIONS, CODE, &[SOURCE]) {

@@ -1,7 +1,7 @@
 // Small codes by hand: what the checking machine and the verifier say of them.
 #![tactic(auto)]
 
-use super::assembler::{HandCode, HandMap, Parts, assembled, plain as bare};
+use super::assembler::{HandCode, HandMap, RawInstr, assembled, plain as bare};
 use super::records::{keys, of_t};
 use super::stored::{NAME, entry, job, stored, verdict};
 use code_rules::Rule;
@@ -9,30 +9,30 @@ use run_commands::{Ended, How, run_files};
 use run_steps::FaultKind;
 use std::alloc::{AllocError, Global};
 use std::test::Fail;
-use xverify::Refused;
+use xverify::FailedRule;
 
 const LOGICAL: u8 = 4;
 
 const TRUE: &[u8] = &[LOGICAL, 1];
 
 /// OPEN of the first table, TOP, SEEK, CALL of the first procedure, RETURN and END.
-const OPEN: Parts = (0x20, 0, 0, 0);
+const OPEN: RawInstr = (0x20, 0, 0, 0);
 
-const TOP: Parts = (0x26, 0, 0, 0);
+const TOP: RawInstr = (0x26, 0, 0, 0);
 
-const SEEK: Parts = (0x2a, 0, 0, 0);
+const SEEK: RawInstr = (0x2a, 0, 0, 0);
 
-const CALL: Parts = (0x12, 0, 0, 0);
+const CALL: RawInstr = (0x12, 0, 0, 0);
 
-const BACK: Parts = (0x13, 0, 0, 0);
+const BACK: RawInstr = (0x13, 0, 0, 0);
 
-const LAST: Parts = (0x14, 0, 0, 0);
+const LAST: RawInstr = (0x14, 0, 0, 0);
 
 /// A table T of one field of texts K, one byte wide, as it stands in the code's file.
 const TABLE: &[u8] = b"\x01T\x01\x01KC\x01\x00";
 
 /// A code without maps, with the constant `.T.`.
-fn plain<'a>(stack_bound: u16, slots: u16, instructions: &'a [Parts]) -> HandCode<'a> {
+fn plain<'a>(stack_bound: u16, slots: u16, instructions: &'a [RawInstr]) -> HandCode<'a> {
     HandCode {
         constants: &[TRUE],
         ..bare(stack_bound, slots, instructions)
@@ -40,7 +40,7 @@ fn plain<'a>(stack_bound: u16, slots: u16, instructions: &'a [Parts]) -> HandCod
 }
 
 /// The same over the table T.
-fn tabled<'a>(stack_bound: u16, instructions: &'a [Parts]) -> HandCode<'a> {
+fn tabled<'a>(stack_bound: u16, instructions: &'a [RawInstr]) -> HandCode<'a> {
     HandCode {
         tables: &[TABLE],
         ..plain(stack_bound, 0, instructions)
@@ -154,7 +154,7 @@ fn faults_of_areas() -> [Faulty; 5] {
 
 /// Instructions on values with two faults, of which the first in the order of faults is told.
 fn two_faults_of_values() -> [Faulty; 3] {
-    let loading: &[Parts] = &[
+    let loading: &[RawInstr] = &[
         (0x01, 0, 0, 0),
         (0x03, LOGICAL, 0, 0),
         (0x01, 0, 0, 0),
@@ -201,7 +201,7 @@ fn meets_faults(rt: HostRuntime) -> Result<(), Fail> {
 }
 
 /// A code of calls, what the verifier refuses in it, and how its end on the checking machine is told.
-type Calling = (HandCode<'static>, Option<Refused>, &'static str);
+type Calling = (HandCode<'static>, Option<FailedRule>, &'static str);
 
 /// A main procedure of this level that calls another one.
 fn calling(level: u8) -> HandCode<'static> {
@@ -222,8 +222,8 @@ fn leaving() -> HandCode<'static> {
     }
 }
 
-fn refused(rule: Rule, at: usize) -> Option<Refused> {
-    Some(Refused { rule, at })
+fn refused(rule: Rule, at: usize) -> Option<FailedRule> {
+    Some(FailedRule { rule, at })
 }
 
 fn calls() -> [Calling; 5] {
@@ -271,7 +271,7 @@ type Broken = (HandCode<'static>, Rule, usize);
 fn breaks(alloc: Global, broken: &Broken) -> Result<bool, AllocError> {
     let (code, rule, at) = broken;
     let bytes = assembled(alloc, code)?;
-    let refused = Refused {
+    let refused = FailedRule {
         rule: *rule,
         at: *at,
     };

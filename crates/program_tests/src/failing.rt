@@ -1,7 +1,7 @@
 // The device fails in each call of a run in turn: the run says so, and the next one loads what is there.
 #![tactic(auto)]
 
-use super::cases::{Case, compiled, entries, run_case};
+use super::cases::{RunCase, compiled, entries, run_case};
 use super::moves::{endless, opened, reopened, shrinking};
 use super::records::{customer, keys, letters, of_t};
 use super::tables::table;
@@ -24,7 +24,7 @@ fn has_failed(report: &Report) -> bool {
 fn failures(
     alloc: Global,
     entries: &[MemoryEntry<'_>],
-    case: &Case<'_>,
+    case: &RunCase<'_>,
     calls: u64,
 ) -> Option<(bool, bool)> {
     let mut files = MemoryFiles::new(alloc, entries, WORKS_FOR_EVER);
@@ -39,7 +39,7 @@ fn failures(
 }
 
 /// How many calls of the device a run of a case makes: with fewer it fails, and whenever it failed the next run loads.
-fn calls_of(alloc: Global, case: &Case<'_>) -> Result<Option<u64>, AllocError> {
+fn calls_of(alloc: Global, case: &RunCase<'_>) -> Result<Option<u64>, AllocError> {
     let entries = entries(alloc, case)?;
     for calls in 0..20 {
         match failures(alloc, entries.as_slice(), case, calls) {

@@ -1,7 +1,7 @@
 // Moves of command files in orders of keys, and what indexes hold behind a run.
 #![tactic(auto)]
 
-use super::cases::{Case, printing, wrong_in};
+use super::cases::{RunCase, printing, wrong_in};
 use super::records::{keys, letters, of_t};
 use super::tables::table;
 use file_access::MemoryEntry;
@@ -9,8 +9,8 @@ use std::alloc::{AllocError, Global};
 use std::test::Fail;
 
 /// The first of thirty equal keys whose record isn't marked.
-pub fn first_smith<'a>(files: &'a [MemoryEntry<'a>]) -> Case<'a> {
-    Case {
+pub fn first_smith<'a>(files: &'a [MemoryEntry<'a>]) -> RunCase<'a> {
+    RunCase {
         declarations: "TABLE P\nINDEX PN ON P KEY NAME\n",
         files,
         ..printing(
@@ -41,8 +41,8 @@ fn seeks_past_marked_records(rt: HostRuntime) -> Result<(), Fail> {
 }
 
 /// A scan that lowers each key that it meets, so that it meets the records in turn until the budget is spent.
-pub fn shrinking<'a>(files: &'a [MemoryEntry<'a>]) -> Case<'a> {
-    Case {
+pub fn shrinking<'a>(files: &'a [MemoryEntry<'a>]) -> RunCase<'a> {
+    RunCase {
         declarations: "TABLE T\nINDEX KI ON T KEY K\n",
         files,
         budget: 200,
@@ -70,8 +70,8 @@ fn keeps_the_order_of_changed_keys(rt: HostRuntime) -> Result<(), Fail> {
 }
 
 /// A key is changed while its index is closed, and sought when it is open again.
-pub fn reopened<'a>(files: &'a [MemoryEntry<'a>]) -> Case<'a> {
-    Case {
+pub fn reopened<'a>(files: &'a [MemoryEntry<'a>]) -> RunCase<'a> {
+    RunCase {
         declarations: "TABLE T\nINDEX KI ON T KEY K\n",
         files,
         listed: &[("KI.NDX", "K 1\n      2 B\n      3 C\n      1 Z\n")],
@@ -106,8 +106,8 @@ pub fn endless() -> [u8; 1024] {
 }
 
 /// A faulty index is stale: it is made anew where it is opened.
-pub fn opened<'a>(files: &'a [MemoryEntry<'a>]) -> Case<'a> {
-    Case {
+pub fn opened<'a>(files: &'a [MemoryEntry<'a>]) -> RunCase<'a> {
+    RunCase {
         declarations: "TABLE T\nINDEX KI ON T KEY K\n",
         files,
         listed: &[("KI.NDX", "K 1\n      1 A\n      2 B\n      3 C\n")],
@@ -132,8 +132,8 @@ fn mends_a_faulty_index(rt: HostRuntime) -> Result<(), Fail> {
 
 /// Filters that read the row tried, its number, its mark, the count of rows, a variable and the day, as they are at
 /// each move.
-pub fn filtered<'a>(files: &'a [MemoryEntry<'a>]) -> Case<'a> {
-    Case {
+pub fn filtered<'a>(files: &'a [MemoryEntry<'a>]) -> RunCase<'a> {
+    RunCase {
         declarations: "TABLE T\n",
         files,
         ..printing(

@@ -1,7 +1,7 @@
 // Conversations: an operator types the lines of a run while it goes on, and a journal keeps them.
 #![tactic(auto)]
 
-use super::cases::{CODE, Case, compiled, entries, listing, printing};
+use super::cases::{CODE, RunCase, compiled, entries, listing, printing};
 use super::stored::day_of;
 use super::tables::table;
 use code_items::Code;
@@ -39,6 +39,8 @@ struct Script<'a> {
     /// How many of them are typed.
     typed: usize,
     fails: bool,
+    /// What the run goes on for before it is told again.
+    part: u64,
     /// The first row of the screen before each line, and at the end.
     seen: Vec<[u8; 80]>,
 }
@@ -60,8 +62,16 @@ impl Operator for Script<'_> {
         Ok(Vec::new(self.alloc))
     }
 
+    fn hear(&mut self, _: u64, _: u64) -> u64 {
+        self.part
+    }
+
     fn see(&mut self, _: &Scene<'_>) -> Result<(), OperatorFailed> {
         Ok(())
+    }
+
+    fn miss(&mut self, scene: &Scene<'_>) -> Result<(), OperatorFailed> {
+        self.look(scene)
     }
 
     fn ask(&mut self, scene: &Scene<'_>, _: usize) -> Result<Answer, OperatorFailed> {
@@ -95,6 +105,8 @@ struct Typing<'a> {
     /// Whether the operator fails behind these lines.
     fails: bool,
     room: usize,
+    /// What the run goes on for before the operator is told again.
+    part: u64,
 }
 
 /// Lines that are typed, where nothing fails.
@@ -104,6 +116,7 @@ fn typed_in<'a>(handed: &'a str, lines: &'a [&'a str]) -> Typing<'a> {
         lines,
         fails: false,
         room: 100,
+        part: u64::MAX,
     }
 }
 
@@ -135,7 +148,7 @@ fn why(alloc: Global, refusal: &OperateRefusal) -> Result<String, AllocError> {
 fn operated(
     alloc: Global,
     files: &mut MemoryFiles<'_>,
-    case: &Case<'_>,
+    case: &RunCase<'_>,
     typing: Typing<'_>,
     rehearsed: bool,
 ) -> Result<Option<Came>, AllocError> {
@@ -159,6 +172,7 @@ fn operated(
         lines: typing.lines,
         typed: 0,
         fails: typing.fails,
+        part: typing.part,
         seen: Vec::new(alloc),
     };
     let (rows, told) = if rehearsed {
@@ -202,8 +216,8 @@ const NONE: &str = "NAME C 10 0\nrecords 0\n";
 const ANN: &str = "NAME C 10 0\nrecords 1\n      1   Ann       \n";
 
 /// A case over the empty table CUST.
-fn over_customers<'a>(files: &'a [MemoryEntry<'a>], source: &'a str) -> Case<'a> {
-    Case {
+fn over_customers<'a>(files: &'a [MemoryEntry<'a>], source: &'a str) -> RunCase<'a> {
+    RunCase {
         declarations: "TABLE CUST\n",
         files,
         ..printing(source, "", "")
@@ -242,7 +256,7 @@ fn first_wrong(came: &Came, wanted: &Wanted<'_>, is_listed: bool) -> Option<&'st
 /// What isn't as wanted of a conversation: nothing, or a word for it.
 fn wrong_in_talk(
     alloc: Global,
-    case: &Case<'_>,
+    case: &RunCase<'_>,
     typing: Typing<'_>,
     rehearsed: bool,
     wanted: Wanted<'_>,
@@ -289,10 +303,13 @@ fn runs_over_the_lines_of_its_journal(rt: HostRuntime) -> Result<(), Fail> {
     };
     let wrong = wrong_in_talk(rt.alloc(), &case, second, false, fewer)?;
     assert_eq!(rt; wrong, None);
+    let stepwise = Typing { part: 0, ..all };
+    let wrong = wrong_in_talk(rt.alloc(), &case, stepwise, false, wanted)?;
+    assert_eq!(rt; wrong, None);
     Ok(())
 }
 
-/// Behind the end of the input each line is empty.
+/// Behind the end of the input each line is empty, and the operator sees the screen before each.
 #[test]
 fn goes_on_behind_the_end_of_the_input(rt: HostRuntime) -> Result<(), Fail> {
     let bytes = customers(rt.alloc())?;
@@ -300,15 +317,20 @@ fn goes_on_behind_the_end_of_the_input(rt: HostRuntime) -> Result<(), Fail> {
         name: "CUST.DBF",
         bytes: &bytes,
     }];
-    let case = over_customers(&files, "ACCEPT \"Name? \" TO N\n? LEN(N)\n");
+    let source = "ACCEPT \"Name? \" TO N\nACCEPT TO N\nACCEPT TO M\n? LEN(N)\n";
+    let case = over_customers(&files, source);
     let wanted = Wanted {
-        rows: "Name?\n         0\n",
-        told: "finished 10",
+        rows: "Name?\n\n\n         0\n",
+        told: "finished 1",
         kept: "",
-        screens: 2,
+        screens: 4,
         listed: NONE,
     };
-    let wrong = wrong_in_talk(rt.alloc(), &case, typed_in("", &[]), false, wanted)?;
+    let at_once = typed_in("", &[]);
+    let wrong = wrong_in_talk(rt.alloc(), &case, at_once, false, wanted)?;
+    assert_eq!(rt; wrong, None);
+    let stepwise = Typing { part: 0, ..at_once };
+    let wrong = wrong_in_talk(rt.alloc(), &case, stepwise, false, wanted)?;
     assert_eq!(rt; wrong, None);
     Ok(())
 }
@@ -387,7 +409,7 @@ fn is_spent_before_it_asks(rt: HostRuntime) -> Result<(), Fail> {
         name: "CUST.DBF",
         bytes: &bytes,
     }];
-    let case = Case {
+    let case = RunCase {
         budget: 1,
         ..over_customers(&files, "ACCEPT \"Name? \" TO N\n")
     };

@@ -1,7 +1,7 @@
 // Records added, changed and removed by command files, and what the tables hold behind a run.
 #![tactic(auto)]
 
-use super::cases::{Case, printing, refused, wrong_in};
+use super::cases::{RunCase, printing, refused, wrong_in};
 use super::tables::table;
 use file_access::MemoryEntry;
 use std::alloc::{AllocError, Global};
@@ -26,8 +26,8 @@ pub fn letters() -> [&'static [u8]; 3] {
 }
 
 /// The first customer is added to a table without records.
-pub fn customer<'a>(files: &'a [MemoryEntry<'a>]) -> Case<'a> {
-    Case {
+pub fn customer<'a>(files: &'a [MemoryEntry<'a>]) -> RunCase<'a> {
+    RunCase {
         declarations: "TABLE CUST\n",
         files,
         listed: &[("CUST.DBF", "NAME C 10 0\nrecords 1\n      1   Ann       \n")],
@@ -51,8 +51,8 @@ fn adds_a_customer(rt: HostRuntime) -> Result<(), Fail> {
 }
 
 /// A number that doesn't fit its field.
-pub fn bill<'a>(files: &'a [MemoryEntry<'a>]) -> Case<'a> {
-    Case {
+pub fn bill<'a>(files: &'a [MemoryEntry<'a>]) -> RunCase<'a> {
+    RunCase {
         declarations: "TABLE BILL\n",
         files,
         listed: &[("BILL.DBF", "AMT N 5 2\nrecords 1\n      1   **********\n")],
@@ -76,8 +76,8 @@ fn fills_a_field_with_asterisks(rt: HostRuntime) -> Result<(), Fail> {
 }
 
 /// A third record where two are the limit.
-pub fn full<'a>(files: &'a [MemoryEntry<'a>]) -> Case<'a> {
-    Case {
+pub fn full<'a>(files: &'a [MemoryEntry<'a>]) -> RunCase<'a> {
+    RunCase {
         declarations: "TABLE T\n",
         files,
         limit: 2,
@@ -99,8 +99,8 @@ fn tells_a_full_table(rt: HostRuntime) -> Result<(), Fail> {
 }
 
 /// A record is removed, and then all.
-pub fn removed<'a>(files: &'a [MemoryEntry<'a>]) -> Case<'a> {
-    Case {
+pub fn removed<'a>(files: &'a [MemoryEntry<'a>]) -> RunCase<'a> {
+    RunCase {
         declarations: "TABLE T\nINDEX KI ON T KEY K\n",
         files,
         listed: &[("T.DBF", "K C 1 0\nrecords 0\n"), ("KI.NDX", "K 1\n")],
@@ -121,8 +121,8 @@ fn packs_and_clears(rt: HostRuntime) -> Result<(), Fail> {
 }
 
 /// The variable of a filter is released before a move.
-fn released<'a>(files: &'a [MemoryEntry<'a>]) -> Case<'a> {
-    Case {
+fn released<'a>(files: &'a [MemoryEntry<'a>]) -> RunCase<'a> {
+    RunCase {
         declarations: "TABLE CUST2\n",
         files,
         ..printing(

@@ -5,7 +5,7 @@ ghost use Rattle.std.specs.Prelude.{IfSome};
 ghost use Rattle.machine.specs.Twins.{Begins};
 ghost use Rattle.run_steps.specs.World.{World};
 
-use super::cases::{CODE, Case, compiled, entries};
+use super::cases::{CODE, RunCase, compiled, entries};
 use super::moves::{first_smith, reopened, smiths};
 use super::records::{full, keys, letters, of_t, removed};
 use super::screens::typed;
@@ -51,7 +51,7 @@ fn begun(
     alloc: Global,
     files: &mut MemoryFiles<'_>,
     verified: &Verified,
-    case: &Case<'_>,
+    case: &RunCase<'_>,
 ) -> Option<Banks<NdxTree>>
     ensures { IfSome result (λ banks. (w : World) × Begins verified.now w banks) }
 {
@@ -99,7 +99,7 @@ fn in_parts(
 fn parts_of(
     alloc: Global,
     entries: &[MemoryEntry<'_>],
-    case: &Case<'_>,
+    case: &RunCase<'_>,
     first: u64,
     whole: u64,
 ) -> Option<InParts> {
@@ -119,7 +119,7 @@ fn took_its_steps(parts: &InParts, first: u64, whole: u64) -> bool {
 }
 
 /// The first budget below its whole cost at which a case's run in parts isn't the whole one.
-fn first_other(alloc: Global, case: &Case<'_>, cost: u64) -> Result<Option<u64>, AllocError> {
+fn first_other(alloc: Global, case: &RunCase<'_>, cost: u64) -> Result<Option<u64>, AllocError> {
     let entries = entries(alloc, case)?;
     for first in 0..cost {
         let Some(parts) = parts_of(alloc, entries.as_slice(), case, first, cost) else {

@@ -1,14 +1,14 @@
 // What command files print and take from the operator.
 #![tactic(auto)]
 
-use super::cases::{Case, printing, refused, wrong_in};
+use super::cases::{RunCase, printing, refused, wrong_in};
 use std::alloc::{AllocError, Global};
 use std::test::Fail;
 
 /// The first of the cases that doesn't come to what it says, and what isn't so.
 fn first_wrong<'a>(
     alloc: Global,
-    cases: &[Case<'a>],
+    cases: &[RunCase<'a>],
 ) -> Result<Option<(usize, &'a str)>, AllocError> {
     for (place, case) in cases.iter().enumerate() {
         if let Some(word) = wrong_in(alloc, case)? {
@@ -18,7 +18,7 @@ fn first_wrong<'a>(
     Ok(None)
 }
 
-pub fn numbers() -> [Case<'static>; 3] {
+pub fn numbers() -> [RunCase<'static>; 3] {
     [
         printing(
             "? 1/3, 2/3, -2/3\n",
@@ -44,7 +44,7 @@ fn prints_numbers(rt: HostRuntime) -> Result<(), Fail> {
     Ok(())
 }
 
-pub fn texts_and_dates() -> [Case<'static>; 2] {
+pub fn texts_and_dates() -> [RunCase<'static>; 2] {
     [
         printing(
             "? \"ABC\" = \"AB\", \"AB\" = \"ABC\", \"AB\" = \"\"\nSET EXACT ON\n? \"AB \" = \"AB\"\n",
@@ -66,7 +66,7 @@ fn prints_texts_and_dates(rt: HostRuntime) -> Result<(), Fail> {
 }
 
 /// Dates with the century and without it.
-pub fn centuries() -> [Case<'static>; 1] {
+pub fn centuries() -> [RunCase<'static>; 1] {
     [printing(
         "SET CENTURY ON\n? CTOD(\"02/29/88\") + 366, LEN(DTOC(CTOD(\"\")))\nSET CENTURY OFF\n? CTOD(\"12/31/2001\")\n",
         "03/01/1989         10\n12/31/01\n",
@@ -80,7 +80,7 @@ fn prints_centuries(rt: HostRuntime) -> Result<(), Fail> {
     Ok(())
 }
 
-pub fn typed() -> [Case<'static>; 2] {
+pub fn typed() -> [RunCase<'static>; 2] {
     let get = printing(
         "X = 5\n@ 2,0 GET X\nREAD\n? X\n",
         "\n\n         5\n         5\n",
@@ -92,7 +92,7 @@ pub fn typed() -> [Case<'static>; 2] {
             "Name?\n         0\n",
             "finished 10",
         ),
-        Case {
+        RunCase {
             typed: "12x\n",
             ..get
         },
@@ -106,7 +106,7 @@ fn takes_lines(rt: HostRuntime) -> Result<(), Fail> {
 }
 
 /// Twenty-six rows on a screen of twenty-five, which is cleared then.
-pub fn scrolling() -> [Case<'static>; 1] {
+pub fn scrolling() -> [RunCase<'static>; 1] {
     [printing(
         "I = 1\nDO WHILE I <= 26\n? STR(I,2)\nI = I + 1\nENDDO\nCLEAR\n? \"Z\"\n",
         " 1\n 2\n 3\n 4\n 5\n 6\n 7\n 8\n 9\n10\n11\n12\n13\n14\n15\n16\n17\n18\n19\n20\n21\n22\n23\n24\n25\n26\nZ\n",

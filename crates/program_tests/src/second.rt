@@ -2,7 +2,7 @@
 // century.
 #![tactic(auto)]
 
-use super::cases::{Case, printing, wrong_in};
+use super::cases::{RunCase, printing, wrong_in};
 use super::records::{keys, of_t};
 use super::tables::table;
 use file_access::MemoryEntry;
@@ -10,8 +10,8 @@ use std::alloc::{AllocError, Global};
 use std::test::Fail;
 
 /// One of two tables is opened, and then a third one in that work area.
-pub fn unsure<'a>(files: &'a [MemoryEntry<'a>]) -> Case<'a> {
-    Case {
+pub fn unsure<'a>(files: &'a [MemoryEntry<'a>]) -> RunCase<'a> {
+    RunCase {
         declarations: "TABLE AA\nTABLE BB\nTABLE CC\n",
         files,
         ..printing(
@@ -36,8 +36,8 @@ fn knows_nothing_of_an_area(rt: HostRuntime) -> Result<(), Fail> {
 }
 
 /// A filter on the text of a date shows other rows after the setting changes.
-pub fn dated<'a>(files: &'a [MemoryEntry<'a>]) -> Case<'a> {
-    Case {
+pub fn dated<'a>(files: &'a [MemoryEntry<'a>]) -> RunCase<'a> {
+    RunCase {
         declarations: "TABLE T\n",
         files,
         ..printing(

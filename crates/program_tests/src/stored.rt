@@ -6,7 +6,7 @@ use file_access::{MemoryEntry, MemoryFiles, WORKS_FOR_EVER};
 use file_commands::{Refusal, verify_file};
 use run_commands::{Ended, How, Job, RecordLimit, Report, RunDay, RunRefusal, run_files};
 use std::alloc::Global;
-use xverify::Refused;
+use xverify::FailedRule;
 
 /// The name of a file that stands alone.
 pub const NAME: &str = "hand.xbc";
@@ -68,7 +68,7 @@ pub fn run_on(
 }
 
 /// What the verifier says of a file.
-pub fn verdict(alloc: Global, bytes: &[u8]) -> Result<Option<Refused>, Refusal<'static>> {
+pub fn verdict(alloc: Global, bytes: &[u8]) -> Result<Option<FailedRule>, Refusal<'static>> {
     let entries = [entry(bytes)];
     verify_file(alloc, &mut stored(alloc, &entries), NAME)
 }

@@ -1,7 +1,7 @@
 // The loop that prints three rows `A`, and the same with a load of the wrong kind.
 #![tactic(auto)]
 
-use super::assembler::{HandCode, HandMap, Parts, assembled, plain};
+use super::assembler::{HandCode, HandMap, RawInstr, assembled, plain};
 use super::stored::{
     NAME, comes_to, day_of, entry, is_refused, job, run, run_alike, stored, verdict,
 };
@@ -13,7 +13,7 @@ use run_steps::FaultKind;
 use std::alloc::{AllocError, Global};
 use std::test::Fail;
 use xcode::CodeFault;
-use xverify::Refused;
+use xverify::FailedRule;
 
 /// A kind's number in the file.
 const TEXT: u8 = 2;
@@ -21,13 +21,13 @@ const TEXT: u8 = 2;
 pub const LOGICAL: u8 = 4;
 
 /// The rule that the load of the wrong kind breaks.
-const BROKEN: Refused = Refused {
+const BROKEN: FailedRule = FailedRule {
     rule: Rule::Kind,
     at: 7,
 };
 
 /// The loop's instructions; its load of slot 0 takes a value of this kind.
-fn instructions(kind: u8) -> [Parts; 15] {
+fn instructions(kind: u8) -> [RawInstr; 15] {
     [
         (0x01, 0, 0, 0),
         (0x03, LOGICAL, 0, 0),
@@ -221,7 +221,7 @@ fn verdict_with(
     alloc: Global,
     version: u8,
     areas: &[usize],
-) -> Result<Result<Option<Refused>, Refusal<'static>>, AllocError> {
+) -> Result<Result<Option<FailedRule>, Refusal<'static>>, AllocError> {
     let bytes = of_version(alloc, version, areas)?;
     Ok(verdict(alloc, &bytes))
 }
@@ -233,7 +233,7 @@ const IN_MAPS: [usize; 2] = [67, 83];
 fn verifies_the_second_version(rt: HostRuntime) -> Result<(), Fail> {
     let alloc = rt.alloc();
     assert!(rt; verdict_with(alloc, 2, &[])? == Ok(None));
-    let refused = Refused {
+    let refused = FailedRule {
         rule: Rule::OtherTable,
         at: 8,
     };

@@ -1,7 +1,7 @@
 // Small codes by hand over numbers, dates, settings and functions, by both machines.
 #![tactic(auto)]
 
-use super::assembler::{HandCode, Parts, assembled, plain};
+use super::assembler::{HandCode, RawInstr, assembled, plain};
 use super::stored::{comes_to, day_of, ends, run_alike, run_on};
 use calendar::DayParts;
 use run_commands::{How, RunDay};
@@ -76,18 +76,18 @@ fn ends_so(alloc: Global, code: &HandCode<'_>, rows: &str, steps: u64) -> Result
     }
 }
 
-fn hand<'a>(constants: &'a [&'a [u8]], instructions: &'a [Parts]) -> HandCode<'a> {
+fn hand<'a>(constants: &'a [&'a [u8]], instructions: &'a [RawInstr]) -> HandCode<'a> {
     HandCode {
         constants,
         ..plain(2, 0, instructions)
     }
 }
 
-fn call(fun: Fun) -> Parts {
+fn call(fun: Fun) -> RawInstr {
     (FUNCTION, fun.number(), 0, 0)
 }
 
-fn division() -> [Parts; 6] {
+fn division() -> [RawInstr; 6] {
     [
         (CONSTANT, 0, 0, 0),
         (CONSTANT, 0, 1, 0),
@@ -106,7 +106,7 @@ fn divides(rt: HostRuntime) -> Result<(), Fail> {
     Ok(())
 }
 
-fn question() -> [Parts; 4] {
+fn question() -> [RawInstr; 4] {
     [
         (NEW_LINE, 0, 0, 0),
         (ASK, 7, 0, 0),
@@ -124,7 +124,7 @@ fn asks_for_the_day(rt: HostRuntime) -> Result<(), Fail> {
     Ok(())
 }
 
-fn counting() -> [Parts; 7] {
+fn counting() -> [RawInstr; 7] {
     [
         (CONSTANT, 0, 0, 0),
         call(Fun::Ctod),
@@ -148,7 +148,7 @@ fn counts_days(rt: HostRuntime) -> Result<(), Fail> {
 }
 
 /// Two texts compared, with EXACT on or off, and DELETED on.
-fn comparison(exact: u16) -> [Parts; 8] {
+fn comparison(exact: u16) -> [RawInstr; 8] {
     [
         (SET, 1, exact, 0),
         (SET, 2, 1, 0),
@@ -200,7 +200,7 @@ fn settings_are_apart(rt: HostRuntime) -> Result<(), Fail> {
 }
 
 /// A call with arguments of several kinds, the second kind twice.
-fn stuffing() -> [Parts; 8] {
+fn stuffing() -> [RawInstr; 8] {
     [
         (CONSTANT, 0, 0, 0),
         (CONSTANT, 0, 1, 0),

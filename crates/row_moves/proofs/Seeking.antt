@@ -6,8 +6,8 @@ use Rattle.key_lists.specs.KeyForm.{IsPairOf}
 use Rattle.key_lists.specs.Laws.{MeetsEach, StandTogether, begins_with}
 use Rattle.key_lists.specs.Order.{Each, above, first}
 use Rattle.key_lists.specs.Pairs.{Pair, is_before, pairs_from}
-use Rattle.row_moves.specs.Moves.{is_blank, is_same, matching}
-use Rattle.row_moves.specs.Seeking.{begun, begun_or_none, cut_or_filled, front_run, starting}
+use Rattle.row_moves.specs.Moves.{is_all_blanks, is_same, matching}
+use Rattle.row_moves.specs.Seeking.{all_starting, begun_or_none, cut_or_filled, front_run, starting}
 use Rattle.row_moves.proofs.Steps.{Turn, turn_cons, each_listed, filter_each, first_each}
 
 pub starts_is : (start key : List ℕ) → starts_with nat_eq key start ≡ begins_with start key
@@ -69,10 +69,10 @@ run_of start [] [] e f = refl
 run_of start [] (y ∷ ys) e f = rw (not_true f.0) refl
 run_of start (x ∷ xs) ys e f = rw e.0 (ap (λ (ps : List Pair). x ∷ ps) (run_of start xs ys e.1 f))
 
-pub starting_all : (start : List ℕ) (pairs : List Pair) → StandTogether pairs → starting start None pairs ≡ begun start pairs
+pub starting_all : (start : List ℕ) (pairs : List Pair) → StandTogether pairs → starting start None pairs ≡ all_starting start pairs
 starting_all start pairs t =
     ap (front_run start) (t start)
-    ∙ run_of start (begun start pairs) (filter (λ p. not (begins_with start p.0)) (pairs_from start pairs)) (filter_pass (λ p. begins_with start p.0) pairs) (filter_pass (λ p. not (begins_with start p.0)) (pairs_from start pairs))
+    ∙ run_of start (all_starting start pairs) (filter (λ p. not (begins_with start p.0)) (pairs_from start pairs)) (filter_pass (λ p. begins_with start p.0) pairs) (filter_pass (λ p. not (begins_with start p.0)) (pairs_from start pairs))
 
 -- ---- EXACT
 
@@ -96,32 +96,32 @@ and_apart : (a b d : Bool) → (a && (b && d)) ≡ ((a && b) && d)
 and_apart true b d = refl
 and_apart false b d = refl
 
-blank_cut_or_filled : (key : List ℕ) → is_blank key ≡ begins_with (cut_or_filled (length key) []) key
+blank_cut_or_filled : (key : List ℕ) → is_all_blanks key ≡ begins_with (cut_or_filled (length key) []) key
 blank_cut_or_filled [] = refl
 blank_cut_or_filled (b ∷ key) = ap (λ t. eqb 32 b && t) (blank_cut_or_filled key)
 
 -- a key is the text but for blanks where it begins with the text, cut or filled to its length, and the text goes on blank
-same_cut_or_filled : (text key : List ℕ) → is_same text key ≡ (begins_with (cut_or_filled (length key) text) key && is_blank (drop (length key) text))
-same_cut_or_filled [] key = blank_cut_or_filled key ∙ and_true (begins_with (cut_or_filled (length key) []) key) ∙ ap (λ (bs : List ℕ). begins_with (cut_or_filled (length key) []) key && is_blank bs) (sym (drop_all [] (length key) (omega arith)))
+same_cut_or_filled : (text key : List ℕ) → is_same text key ≡ (begins_with (cut_or_filled (length key) text) key && is_all_blanks (drop (length key) text))
+same_cut_or_filled [] key = blank_cut_or_filled key ∙ and_true (begins_with (cut_or_filled (length key) []) key) ∙ ap (λ (bs : List ℕ). begins_with (cut_or_filled (length key) []) key && is_all_blanks bs) (sym (drop_all [] (length key) (omega arith)))
 same_cut_or_filled (a ∷ text) [] = refl
-same_cut_or_filled (a ∷ text) (b ∷ key) = ap (λ t. eqb a b && t) (same_cut_or_filled text key) ∙ and_apart (eqb a b) (begins_with (cut_or_filled (length key) text) key) (is_blank (drop (length key) text))
+same_cut_or_filled (a ∷ text) (b ∷ key) = ap (λ t. eqb a b && t) (same_cut_or_filled text key) ∙ and_apart (eqb a b) (begins_with (cut_or_filled (length key) text) key) (is_all_blanks (drop (length key) text))
 
-matching_each : (n : ℕ) (text : List ℕ) (pairs : List Pair) → Each (IsPairOf n) pairs → (b : Bool) → is_blank (drop n text) ≡ b → matching true text pairs ≡ cond b (begun (cut_or_filled n text) pairs) []
+matching_each : (n : ℕ) (text : List ℕ) (pairs : List Pair) → Each (IsPairOf n) pairs → (b : Bool) → is_all_blanks (drop n text) ≡ b → matching true text pairs ≡ cond b (all_starting (cut_or_filled n text) pairs) []
 matching_each n text [] e true t = refl
 matching_each n text [] e false t = refl
 matching_each n text (p ∷ pairs) e true t =
-    let one : is_same text p.0 ≡ begins_with (cut_or_filled n text) p.0 = same_cut_or_filled text p.0 ∙ ap (λ k. begins_with (cut_or_filled k text) p.0 && is_blank (drop k text)) e.0.0 ∙ ap (λ b. begins_with (cut_or_filled n text) p.0 && b) t ∙ sym (and_true (begins_with (cut_or_filled n text) p.0)) in
+    let one : is_same text p.0 ≡ begins_with (cut_or_filled n text) p.0 = same_cut_or_filled text p.0 ∙ ap (λ k. begins_with (cut_or_filled k text) p.0 && is_all_blanks (drop k text)) e.0.0 ∙ ap (λ b. begins_with (cut_or_filled n text) p.0 && b) t ∙ sym (and_true (begins_with (cut_or_filled n text) p.0)) in
     rw (one, matching_each n text pairs e.1 true t) refl
 matching_each n text (p ∷ pairs) e false t =
-    let one : is_same text p.0 ≡ false = same_cut_or_filled text p.0 ∙ ap (λ k. begins_with (cut_or_filled k text) p.0 && is_blank (drop k text)) e.0.0 ∙ ap (λ b. begins_with (cut_or_filled n text) p.0 && b) t ∙ and_false (begins_with (cut_or_filled n text) p.0) in
+    let one : is_same text p.0 ≡ false = same_cut_or_filled text p.0 ∙ ap (λ k. begins_with (cut_or_filled k text) p.0 && is_all_blanks (drop k text)) e.0.0 ∙ ap (λ b. begins_with (cut_or_filled n text) p.0 && b) t ∙ and_false (begins_with (cut_or_filled n text) p.0) in
     rw one (matching_each n text pairs e.1 false t)
   where
     and_false : (a : Bool) → (a && false) ≡ false
     and_false true = refl
     and_false false = refl
 
-pub matching_cut_or_filled : (n : ℕ) (text : List ℕ) (pairs : List Pair) → Each (IsPairOf n) pairs → is_blank (drop n text) ≡ true → matching true text pairs ≡ begun (cut_or_filled n text) pairs
+pub matching_cut_or_filled : (n : ℕ) (text : List ℕ) (pairs : List Pair) → Each (IsPairOf n) pairs → is_all_blanks (drop n text) ≡ true → matching true text pairs ≡ all_starting (cut_or_filled n text) pairs
 matching_cut_or_filled n text pairs e t = matching_each n text pairs e true t
 
-pub matching_none : (n : ℕ) (text : List ℕ) (pairs : List Pair) → Each (IsPairOf n) pairs → is_blank (drop n text) ≡ false → matching true text pairs ≡ []
+pub matching_none : (n : ℕ) (text : List ℕ) (pairs : List Pair) → Each (IsPairOf n) pairs → is_all_blanks (drop n text) ≡ false → matching true text pairs ≡ []
 matching_none n text pairs e t = matching_each n text pairs e false t

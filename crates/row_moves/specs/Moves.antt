@@ -54,14 +54,14 @@ skipped shown (pos n) at pairs = hops shown true n at pairs
 skipped shown (negsuc n) at pairs = hops shown false (suc n) at pairs
 
 -- nothing but blanks
-abbrev pub is_blank : List ℕ → Bool
-is_blank [] = true
-is_blank (b ∷ bytes) = 32 == b && is_blank bytes
+abbrev pub is_all_blanks : List ℕ → Bool
+is_all_blanks [] = true
+is_all_blanks (b ∷ bytes) = 32 == b && is_all_blanks bytes
 
 -- the same but for blanks at the end of either
 abbrev pub is_same : List ℕ → List ℕ → Bool
-is_same [] key = is_blank key
-is_same (a ∷ text) [] = is_blank (a ∷ text)
+is_same [] key = is_all_blanks key
+is_same (a ∷ text) [] = is_all_blanks (a ∷ text)
 is_same (a ∷ text) (b ∷ key) = a == b && is_same text key
 
 -- whether a text that is sought matches a key: with EXACT on they are the same but for blanks at their ends; with EXACT

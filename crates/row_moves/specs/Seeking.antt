@@ -26,5 +26,5 @@ starting start None pairs = front_run start (pairs_from start pairs)
 starting start (Some p) pairs = front_run start (above is_before p pairs)
 
 -- all of them
-abbrev pub begun : List ℕ → List Pair → List Pair
-begun start pairs = filter (λ p. begins_with start p.0) pairs
+abbrev pub all_starting : List ℕ → List Pair → List Pair
+all_starting start pairs = filter (λ p. begins_with start p.0) pairs

@@ -6,7 +6,7 @@ ghost use Rattle.key_lists.specs.Order.{IsAscending, first};
 ghost use Rattle.key_lists.specs.Pairs.{is_before};
 ghost use Rattle.row_moves.specs.Orders.{MayTry, Sees};
 ghost use Rattle.row_moves.specs.Moves.{IsMove, IsScan, matching, sought};
-ghost use Rattle.row_moves.specs.Seeking.{begun, begun_or_none, starting};
+ghost use Rattle.row_moves.specs.Seeking.{all_starting, begun_or_none, starting};
 
 use crate::keys::{cut_or_filled, is_blank_behind};
 use crate::places::record_of;
@@ -81,7 +81,7 @@ fn seek_start<K: KeyList, F: Fn(u32) -> bool>(
     requires callable { MayTry F.pre see.now (K.pairs keys.old) }
     requires in_budget { 1 ≤ budget }
     ensures scan { (shown : ℕ → Bool) → Sees F.post see.now (K.pairs keys.old) shown
-        → IsScan shown (begun start.now (K.pairs keys.old)) 1 budget result }
+        → IsScan shown (all_starting start.now (K.pairs keys.old)) 1 budget result }
     ensures pairs { K.pairs keys.new ≡ K.pairs keys.old }
     ensures form { K.form keys.new ≡ K.form keys.old }
     ensures spare { K.spare keys.new ≡ K.spare keys.old }

@@ -1,7 +1,7 @@
 //! What a text that is sought must be at the front of keys.
 
 ghost use Rattle.std.specs.Prelude.{◌≡◌, ℕ, ◌≤◌, drop, slice_index_or};
-ghost use Rattle.row_moves.specs.Moves.{is_blank};
+ghost use Rattle.row_moves.specs.Moves.{is_all_blanks};
 ghost use Rattle.row_moves.specs.Seeking.{cut_or_filled};
 
 use arrayvec::ArrayVec;
@@ -30,7 +30,7 @@ fn byte_at(text: &[u8], place: usize) -> u8
 
 /// Whether nothing but blanks stands behind a length of the text.
 pub(crate) fn is_blank_behind(text: &[u8], length: usize) -> bool
-    ensures { result ≡ is_blank (drop length text.now) }
+    ensures { result ≡ is_all_blanks (drop length text.now) }
 {
     if text.len() <= length {
         return true;
@@ -40,7 +40,7 @@ pub(crate) fn is_blank_behind(text: &[u8], length: usize) -> bool
 
 // Whether the text is nothing but blanks.
 fn is_blank(text: &[u8]) -> bool
-    ensures { result ≡ is_blank text.now }
+    ensures { result ≡ is_all_blanks text.now }
 {
     let mut rest = text;
     while let [byte, others @ ..] = rest {

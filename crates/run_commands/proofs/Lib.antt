@@ -3,3 +3,4 @@ pub mod Reported
 pub mod Same
 pub mod Rehearsed
 pub mod Operated
+pub mod TestedParts

@@ -24,7 +24,7 @@ use Rattle.table_files.specs.declared.refusal.TableFault.{TableFault}
 use Rattle.table_files.specs.declared.refusal.TableFault.TheVariants.{Absent, TooLong, OfTable, Structure}
 use Rattle.table_files.specs.Loading.{IsTableOf, IsListOf, AreListsOf, Loaded}
 use Rattle.table_files.specs.Names.{table_file, index_file}
-use Rattle.table_files.specs.Refusals.{IsFault, MayHold, LoadRefused}
+use Rattle.table_files.specs.Refusals.{IsTableFault, MayHold, LoadRefused}
 use Rattle.table_files.specs.Saving.{AreReplaced, AreSaved, EndedAt, SaveRefused}
 use Rattle.work_area.specs.Areas.{StoreState}
 
@@ -74,7 +74,7 @@ loaded_same a b same shape limit store h = record {
 may_hold : (a b : Option (List ℕ) → Type 0) → ((found : Option (List ℕ)) → b found → a found) → (P : List ℕ → Type 0) → MayHold b P → MayHold a P
 may_hold a b f P h = record { bytes = h.bytes; held = f (Some h.bytes) h.held; fact = h.fact }
 
-fault_same : (a b : Option (List ℕ) → Type 0) → ((found : Option (List ℕ)) → b found → a found) → (limit : ℕ) (s : TableShape) (fault : TableFault) → IsFault b limit s fault → IsFault a limit s fault
+fault_same : (a b : Option (List ℕ) → Type 0) → ((found : Option (List ℕ)) → b found → a found) → (limit : ℕ) (s : TableShape) (fault : TableFault) → IsTableFault b limit s fault → IsTableFault a limit s fault
 fault_same a b f limit s Absent h = f None h
 fault_same a b f limit s TooLong h = may_hold a b f _ h
 fault_same a b f limit s (OfTable fault) h = may_hold a b f _ h

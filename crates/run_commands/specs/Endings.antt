@@ -8,14 +8,14 @@ use Rattle.run_steps.specs.declared.ending.End.TheVariants.{NoMemory as EndNoMem
 use Rattle.run_commands.specs.declared.ending.How.{How}
 use Rattle.run_commands.specs.declared.ending.How.TheVariants.{Finished, Spent, Full, NoMemory, Fault}
 
-abbrev pub name_of : Option TableShape → List ℕ
-name_of None = []
-name_of (Some t) = t.name.items
+abbrev pub name_of_table : Option TableShape → List ℕ
+name_of_table None = []
+name_of_table (Some t) = t.name.items
 
 abbrev pub TellsHow : Shape → End → How → Type 0
 TellsHow shape EndFinished Finished = Unit {0}
 TellsHow shape EndSpent Spent = Unit {0}
-TellsHow shape (EndFull table) (Full name) = name.items ≡ name_of (slice_get shape.tables table)
+TellsHow shape (EndFull table) (Full name) = name.items ≡ name_of_table (slice_get shape.tables table)
 TellsHow shape EndNoMemory NoMemory = Unit {0}
 TellsHow shape (EndFault kind at) (Fault told place) = (told ≡ kind) × (place ≡ at)
 TellsHow shape _ _ = ⊥

@@ -2,7 +2,7 @@
 #![tactic(auto)]
 
 ghost use Rattle.std.specs.Prelude.{◌≡◌, slice_get};
-ghost use Rattle.run_commands.specs.Endings.{name_of, is_saved, TellsHow};
+ghost use Rattle.run_commands.specs.Endings.{name_of_table, is_saved, TellsHow};
 
 use file_commands::Status;
 use run_steps::{End, FaultKind, Outcome};
@@ -41,7 +41,7 @@ pub(crate) fn copy_of(name: &Name) -> Name
 }
 
 fn name_of(shape: &Shape, table: u16) -> Name
-    ensures { result.items ≡ name_of (slice_get shape.now.tables table) }
+    ensures { result.items ≡ name_of_table (slice_get shape.now.tables table) }
 {
     match shape.tables.as_slice().get(usize::from(table)) {
         Some(declared) => copy_of(&declared.name),

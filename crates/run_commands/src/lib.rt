@@ -13,6 +13,7 @@ mod refusal;
 mod rehearsed_talk;
 mod rehearsing;
 mod running;
+mod testing;
 
 pub use crate::conversation::{OperateRefusal, OperationReport, operate_files};
 pub use crate::ending::{Ended, How};

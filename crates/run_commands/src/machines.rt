@@ -8,13 +8,14 @@ ghost use Rattle.run_commands.specs.Runs.{IsLeft, IsSoundRun};
 ghost use Rattle.text_lines.specs.Lines.{short_lines};
 
 use crate::job::Job;
+use crate::testing::run_checked_in_parts;
 use code_items::Code;
 use machine::Banks;
 use ndx_tree::NdxTree;
 use run_parts::{Watcher, run_in_parts};
 use run_steps::Outcome;
 use std::alloc::{AllocError, Global};
-use tagged_machine::{World, run_checked};
+use tagged_machine::World;
 use text_lines::TypedLines;
 use work_area::Store;
 use xverify::Verified;
@@ -46,12 +47,13 @@ fn typed(alloc: Global, bytes: &[u8]) -> Result<TypedLines, AllocError>
     Ok(TypedLines::new(Vec::from_slice(alloc, bytes)?))
 }
 
-/// Runs a code, accepted or not, on the checking machine.
-pub(crate) fn run_any(
+/// Runs a code, accepted or not, on the checking machine, in the parts that the watcher says.
+pub(crate) fn run_any<W: Watcher>(
     alloc: Global,
     code: &Code,
     store: Store<NdxTree>,
     job: &Job<'_>,
+    watcher: &mut W,
 ) -> Result<TestedRun, AllocError>
     requires legal { IsCode code.now }
     requires fits { StoreFits code.now.declared store }
@@ -60,7 +62,7 @@ pub(crate) fn run_any(
 {
     let lines = typed(alloc, job.input)?;
     let mut world = World::opening(alloc, code, store, job.day.day(), lines)?;
-    let outcome = run_checked(alloc, code, &mut world, job.budget);
+    let outcome = run_checked_in_parts(alloc, code, &mut world, job.budget, watcher);
     let rows = world.finish(alloc)?;
     Ok(TestedRun {
         run: Run { rows, outcome },

@@ -7,7 +7,7 @@ use file_commands::{Fault, Status};
 use std::alloc::AllocError;
 use std::fmt;
 use table_files::FilesRefusal;
-use xverify::Refused;
+use xverify::FailedRule;
 
 /// Why a run isn't carried out, or not all of its tables are saved. The code's file is the one that was asked for.
 #[derive(Clone, Copy, PartialEq, Eq, Debug)]
@@ -15,7 +15,7 @@ pub enum RunRefusal {
     /// The code's file has this fault.
     File(Fault),
     /// The code isn't accepted.
-    Rule(Refused),
+    Rule(FailedRule),
     /// The device failed where the code's file was read.
     Disk,
     /// A table or an index wasn't loaded or saved.

@@ -71,11 +71,12 @@ fn index_names(alloc: Global, indexes: &[IndexShape]) -> Result<Vec<Name>, Alloc
 }
 
 /// Runs a code on the checking machine, over the tables that it declares.
-fn compare_any<F: Files>(
+fn compare_any<F: Files, W: Watcher>(
     alloc: Global,
     files: &mut F,
     code: &Code,
     job: &Job<'_>,
+    watcher: &mut W,
 ) -> Result<Compared, RunRefusal>
     requires { IsCode code.now }
     ensures done { IfOk result (λ done. LeavesTables (F.holds files.old) job.now code.now done.outcome
@@ -90,7 +91,7 @@ fn compare_any<F: Files>(
     let shape = &code.declared.shape;
     let store = load(alloc, files, shape, job.limit.records())?;
     let kept = keep(alloc, shape, &store)?;
-    let done = run_any(alloc, code, store, job)?;
+    let done = run_any(alloc, code, store, job, watcher)?;
     let changes = changes_since(alloc, shape, kept, done.world.store())?;
     Ok(Compared {
         rows: done.run.rows,
@@ -143,11 +144,12 @@ pub(crate) fn told_of(alloc: Global, shape: &Shape, done: Compared) -> Result<Re
 }
 
 /// Rehearses a code, accepted or not, for a job that tests each instruction.
-fn rehearse_any<F: Files>(
+fn rehearse_any<F: Files, W: Watcher>(
     alloc: Global,
     files: &mut F,
     code: &Code,
     job: &Job<'_>,
+    watcher: &mut W,
 ) -> Result<Rehearsal, RunRefusal>
     requires legal { IsCode code.now }
     requires checked { job.now.checked ≡ true }
@@ -157,7 +159,7 @@ fn rehearse_any<F: Files>(
     ensures kept { SameFiles (F.holds files.old) (F.holds files.new) }
     ensures counted { F.failed files.old ≤ F.failed files.new }
 {
-    match compare_any(alloc, files, code, job) {
+    match compare_any(alloc, files, code, job, watcher) {
         Ok(done) => told_of(alloc, &code.declared.shape, done),
         Err(refusal) => Err(refusal),
     }
@@ -201,14 +203,14 @@ fn rehearse_code<F: Files, W: Watcher>(
     ensures counted { F.failed files.old ≤ F.failed files.new }
 {
     if job.checked {
-        return rehearse_any(alloc, files, &code, job);
+        return rehearse_any(alloc, files, &code, job, watcher);
     }
     let verified = accept(alloc, code)?;
     rehearse_accepted(alloc, files, &verified, job, watcher)
 }
 
-/// Rehearses the code in a file as `rehearse_files` does. Where the job isn't tested the run is told to the watcher, in
-/// the parts that it says; that changes nothing of what is answered.
+/// Rehearses the code in a file as `rehearse_files` does. The run is told to the watcher, in the parts that it says;
+/// that changes nothing of what is answered.
 ///
 /// # Errors
 /// Those for which `run_files` runs nothing.

@@ -60,11 +60,12 @@ pub(crate) fn accept(alloc: Global, code: Code) -> Result<Verified, RunRefusal>
 }
 
 /// Runs a code on the checking machine, over the tables that it declares.
-fn test_run<F: Files>(
+fn test_run<F: Files, W: Watcher>(
     alloc: Global,
     files: &mut F,
     code: &Code,
     job: &Job<'_>,
+    watcher: &mut W,
 ) -> Result<Report, RunRefusal>
     requires legal { IsCode code.now }
     ensures done { IfOk result (λ report. IfOk report.result
@@ -79,7 +80,7 @@ fn test_run<F: Files>(
     new_stores_fit();
     let shape = &code.declared.shape;
     let store = load(alloc, files, shape, job.limit.records())?;
-    let tested = run_any(alloc, code, store, job)?;
+    let tested = run_any(alloc, code, store, job, watcher)?;
     Ok(Report {
         rows: tested.run.rows,
         result: Ok(ended_of(tested.run.outcome, shape)),
@@ -163,7 +164,7 @@ fn run_code<F: Files, W: Watcher>(
     ensures counted { F.failed files.old ≤ F.failed files.new }
 {
     if job.checked {
-        return test_run(alloc, files, &code, job);
+        return test_run(alloc, files, &code, job, watcher);
     }
     let verified = accept(alloc, code)?;
     full_run(alloc, files, &verified, job, watcher)
@@ -190,8 +191,8 @@ fn report_of<F: Files, W: Watcher>(
     }
 }
 
-/// Runs the code in a file as `run_files` does. Where the job isn't tested the run is told to the watcher, in the parts
-/// that it says; that changes nothing of what is printed and saved.
+/// Runs the code in a file as `run_files` does. The run is told to the watcher, in the parts that it says; that changes
+/// nothing of what is printed and saved.
 pub fn run_files_watched<F: Files, W: Watcher>(
     alloc: Global,
     files: &mut F,

@@ -31,11 +31,11 @@ use Rattle.code_items.specs.declared.instr.RecordInstr.TheVariants.{Field, RowFi
 use Rattle.code_items.specs.Declarations.{list_of, filter_of}
 use Rattle.code_items.specs.Desks.{open_at}
 use Rattle.code_items.specs.Facts.{Facts}
-use Rattle.code_items.specs.States.{is_list_of, is_filter_of, how_many, opened}
-use Rattle.code_rules.specs.Rules.{has_table, is_no_list, is_no_index, is_other_list, is_other_filter, if_open}
+use Rattle.code_items.specs.States.{is_list_of, is_filter_of, how_many, opened_by}
+use Rattle.code_rules.specs.Rules.{declares_table, is_no_list, is_no_index, is_other_list, is_other_filter, fails_if_open}
 use Rattle.run_values.specs.Tagged.{TaggedValues}
 use Rattle.run_steps.specs.World.{World, EnvState, desk_of, with_screen}
-use Rattle.run_steps.specs.Effects.{top, whole_of, record_number, move_landing, on_value, on_table, numbers_in, list_numbers, index_in, value_env, screen_env, open_landing, store_opened, store_by_area, moved, store_by_move, shown_here, closing_store, store_by_record, env_after, filter_here}
+use Rattle.run_steps.specs.Effects.{top, whole_on_top, record_number, move_landing, on_value, on_table, indexes_in, list_numbers, index_in, value_env, screen_env, open_landing, store_opened, store_by_area, moved, store_by_move, shown_here, closing_store, store_by_record, env_after, filter_here}
 use Rattle.run_steps.specs.Filters.{shown_by, viewer}
 use Rattle.run_steps.specs.Faults.{IsClear}
 use Rattle.run_steps.specs.Needs.{AreaNeeds, Needs}
@@ -91,7 +91,7 @@ shown_store (Some v) e f same = same v
 screen_store : (i : ScreenInstr) (t : TaggedValues) (e : EnvState) → (screen_env i t e).store ≡ e.store
 screen_store NewLine t e = refl
 screen_store (Print k) t e = shown_store (top t) e (λ value. with_screen (printed (shown_value e.settings value) e.screen) e) (λ v. refl)
-screen_store (Say k) t e = shown_store (top t) e (λ value. with_screen (said (whole_of (slice_get t.stack 2)) (whole_of (slice_get t.stack 1)) (shown_value e.settings value) e.screen) e) (λ v. refl)
+screen_store (Say k) t e = shown_store (top t) e (λ value. with_screen (said (whole_on_top (slice_get t.stack 2)) (whole_on_top (slice_get t.stack 1)) (shown_value e.settings value) e.screen) e) (λ v. refl)
 screen_store (SayOn k) t e = shown_store (top t) e (λ value. with_screen (said_on (shown_value e.settings value) e.screen) e) (λ v. refl)
 screen_store (Input k) t e = refl
 screen_store Line t e = refl
@@ -99,7 +99,7 @@ screen_store Clear t e = refl
 
 -- ---- work areas
 
-counts : (x : Option IndexList) → how_many x ≡ length (numbers_in x)
+counts : (x : Option IndexList) → how_many x ≡ length (indexes_in x)
 counts None = refl
 counts (Some l) = refl
 
@@ -125,15 +125,15 @@ open_leaves code w t l stay h c needs =
     let d = code.declared in
     let s = w.env.store in
     let ns = list_numbers d l in
-    let p = or_parts (not (has_table d t) || (not (l == 0) && is_no_list d l)) (has_table d t && is_other_list d t l) c.declared in
-    let q = or_parts (not (has_table d t)) (not (l == 0) && is_no_list d l) p.0 in
-    let table : has_table d t ≡ true = not-false (has_table d t) q.0 in
+    let p = or_parts (not (declares_table d t) || (not (l == 0) && is_no_list d l)) (declares_table d t && is_other_list d t l) c.declared in
+    let q = or_parts (not (declares_table d t)) (not (l == 0) && is_no_list d l) p.0 in
+    let table : declares_table d t ≡ true = not-false (declares_table d t) q.0 in
     let there = is_there s.tables t needs.0 in
     let o : OpenState = there.0 in
     let landing : Landing = open_landing code l w.env o in
     let held : Use = record { table = t; list = l; filter = 0 } in
-    let le : first_order ns ≤ opened d l = omega (arith, first_within ns, counts (list_of d l)) in
-    let legal = legal_from d held (first_order ns) (ltb-true t (length d.shape.tables) table) (legal_list d t l q.1 (then_no (has_table d t) (is_other_list d t l) table p.1)) le (or_left (0 == 0) (is_filter_of d t 0) (eq-eqb 0 0 refl)) in
+    let le : first_order ns ≤ opened_by d l = omega (arith, first_within ns, counts (list_of d l)) in
+    let legal = legal_from d held (first_order ns) (ltb-true t (length d.shape.tables) table) (legal_list d t l q.1 (then_no (declares_table d t) (is_other_list d t l) table p.1)) le (or_left (0 == 0) (is_filter_of d t 0) (eq-eqb 0 0 refl)) in
     let kind : IsSameKind o (landed (opened_with ns o) landing) = (stay o).chain (opened_with ns o) (landed (opened_with ns o) landing) ((stay o).by_open ns) ((stay (opened_with ns o)).by_move landing) in
     subst (λ x. IsSound d (on_table x s (λ o. used_here t l (landed (opened_with ns o) (open_landing code l w.env o)) s))) (sym there.1)
     (opens d s t l o (landed (opened_with ns o) landing) stay h there.1 kind needs.1 (record { list = refl; legal = legal }))
@@ -148,7 +148,7 @@ order_leaves d s n stay h o le =
     again u k =
         let stands : o.table.list ≡ list_numbers d u.list = k.list in
         let l = legal_parts d u o.table.order k.legal in
-        let within : n ≤ opened d u.list = omega (arith, le, counts (list_of d u.list), ap (λ (ns : List ℕ). length ns) stands) in
+        let within : n ≤ opened_by d u.list = omega (arith, le, counts (list_of d u.list), ap (λ (ns : List ℕ). length ns) stands) in
         record { list = stands; legal = legal_from d u n l.table l.list within l.filter }
 
 filter_leaves : (d : Declared) (s : StoreState) (n : ℕ) → IsSound d s → (o : OpenThere d s s.selected) → not (n == 0) && is_none (filter_of d n) ≡ false → is_other_filter d o.use_of.table n ≡ false → IsSound d (with_use s s.selected (with_filter n (selected_use s)))
@@ -176,8 +176,8 @@ area_leaves code w (Filter n) stay h is_open c needs =
     let s = w.env.store in
     let o = is_open c.area in
     let named = first_no (not (n == 0) && is_none (filter_of d n)) false c.declared in
-    let other = first_no (if_open (λ a. is_other_filter d a.table n) (open_at (desk_of s) s.selected)) false c.filter in
-    filter_leaves d s n h o named (ap (if_open (λ a. is_other_filter d a.table n)) (sym o.known) ∙ other)
+    let other = first_no (fails_if_open (λ a. is_other_filter d a.table n) (open_at (desk_of s) s.selected)) false c.filter in
+    filter_leaves d s n h o named (ap (fails_if_open (λ a. is_other_filter d a.table n)) (sym o.known) ∙ other)
 
 -- ---- moves
 
@@ -185,7 +185,7 @@ moved_alike : (i : MoveInstr) (given : Option Value) (exact : Bool) (o : OpenSta
 moved_alike Top given exact o shown stay = record { kind = (stay o).by_move (move_landing Top given exact o shown); list = refl; order = refl }
 moved_alike Bottom given exact o shown stay = record { kind = (stay o).by_move (move_landing Bottom given exact o shown); list = refl; order = refl }
 moved_alike Skip given exact o shown stay = record { kind = (stay o).by_move (move_landing Skip given exact o shown); list = refl; order = refl }
-moved_alike Go given exact o shown stay = record { kind = (stay o).by_go (record_number (whole_of given)); list = refl; order = refl }
+moved_alike Go given exact o shown stay = record { kind = (stay o).by_go (record_number (whole_on_top given)); list = refl; order = refl }
 moved_alike Seek given exact o shown stay = record { kind = (stay o).by_move (move_landing Seek given exact o shown); list = refl; order = refl }
 
 move_leaves : (code : Code) (i : MoveInstr) (t : TaggedValues) (e : EnvState) → Stay → IsSound code.declared e.store → IsSound code.declared (store_by_move code i t e)
@@ -217,10 +217,10 @@ index_leaves code w l shown f stay h o c =
     let u = o.use_of in
     let number = index_in d l in
     let p = or_parts (is_no_list d l) (is_no_index d (desk_of s) l) c.declared in
-    let q = or_parts (nat_lt 1 (opened d l)) (if_open (λ a. is_other_list d a.table l) (open_at (desk_of s) s.selected)) p.1 in
-    let own : is_other_list d u.table l ≡ false = ap (if_open (λ a. is_other_list d a.table l)) (sym o.known) ∙ q.1 in
+    let q = or_parts (nat_lt 1 (opened_by d l)) (fails_if_open (λ a. is_other_list d a.table l) (open_at (desk_of s) s.selected)) p.1 in
+    let own : is_other_list d u.table l ≡ false = ap (fails_if_open (λ a. is_other_list d a.table l)) (sym o.known) ∙ q.1 in
     let some = some_index d l u.table p.0 own in
-    let few = ltb-false 1 (opened d l) q.0 in
+    let few = ltb-false 1 (opened_by d l) q.0 in
     let count = counts (list_of d l) in
     let same : number ∷ [] ≡ list_numbers d l = alone (list_numbers d l) some (omega (arith, few, count)) in
     let landing : Landing = index_on_of number o.table (shown o.table.table.structure (all_rows o.table)) in

@@ -27,7 +27,7 @@ use Rattle.code_items.specs.declared.instr.RecordInstr.{RecordInstr}
 use Rattle.code_items.specs.declared.instr.RecordInstr.TheVariants.{Field, RowField, Ask, Append, Replace, Delete, Recall, Pack, Zap, Reindex, Index}
 use Rattle.code_items.specs.Legal.{places_of}
 use Rattle.code_rules.specs.Signature.{call_of, move_signature}
-use Rattle.code_rules.specs.Rules.{if_some, no_procedure, height_after}
+use Rattle.code_rules.specs.Rules.{fails_if_named, no_procedure, height_after}
 use Rattle.run_values.specs.Tagged.{TaggedValues, HasOnTop, HoldsKind, pushed, dropped, loaded_value, stored_top}
 use Rattle.run_steps.specs.World.{World, EnvState}
 use Rattle.run_steps.specs.Control.{next_place, next_returns, finishes}
@@ -204,9 +204,9 @@ three_no false false c f g h = h
 three_no false true c f g h = absurd (cc)
 three_no true b c f g h = absurd (cc)
 
-calls_one : (code : Code) (w : World) (i : Instr) → IsClear code w i → if_some (no_procedure code) (call_of i) ≡ false
+calls_one : (code : Code) (w : World) (i : Instr) → IsClear code w i → fails_if_named (no_procedure code) (call_of i) ≡ false
 calls_one code w (Values i) c = refl
-calls_one code w (Flow i) c = first_no (if_some (no_procedure code) (call_of (Flow i))) false c.declared
+calls_one code w (Flow i) c = first_no (fails_if_named (no_procedure code) (call_of (Flow i))) false c.declared
 calls_one code w (Screen i) c = refl
 calls_one code w (Areas i) c = refl
 calls_one code w (Moves i) c = refl
@@ -214,7 +214,7 @@ calls_one code w (Records i) c = refl
 
 pub goes_within : (code : Code) (w : World) (i : Instr) → IsClear code w i → finishes w i ≡ false → next_place code w i < places_of code.procedures
 goes_within code w i c e =
-    leb-false (places_of code.procedures) (next_place code w i) (three_no (finishes w i) (if_some (no_procedure code) (call_of i)) (nat_le (places_of code.procedures) (next_place code w i)) e (calls_one code w i c) c.jump)
+    leb-false (places_of code.procedures) (next_place code w i) (three_no (finishes w i) (fails_if_named (no_procedure code) (call_of i)) (nat_le (places_of code.procedures) (next_place code w i)) e (calls_one code w i c) c.jump)
 
 pub few_calls : (code : Code) (w : World) (i : Instr) → length w.returns ≤ 20 → IsClear code w i → length (next_returns w i) ≤ 20
 few_calls code w (Values i) le c = le

@@ -11,7 +11,7 @@ use Rattle.code_items.specs.declared.declared.Declared.{Declared}
 use Rattle.code_items.specs.declared.desk.OpenArea.{OpenArea}
 use Rattle.code_items.specs.declared.state.State.{State}
 use Rattle.code_items.specs.Desks.{open_at, if_open as open_in}
-use Rattle.code_items.specs.States.{is_list_of, is_filter_of, opened, is_open, is_area_state, is_desk, is_state}
+use Rattle.code_items.specs.States.{is_list_of, is_filter_of, opened_by, is_open, is_area_state, is_desk, is_state}
 use Rattle.run_steps.specs.World.{order_of, area_state, desk_of}
 use Rattle.run_steps.specs.Effects.{list_numbers}
 use Rattle.run_steps.specs.Shapes.{StoreFits, ListStands}
@@ -46,8 +46,8 @@ known_of d s e =
 -- a declared table
 pub declared_table : (d : Declared) (a : OpenArea) → is_open d a ≡ true → a.table < length d.shape.tables
 declared_table d a e =
-    let x = and_parts (nat_lt a.table (length d.shape.tables) && (a.list == 0 || is_list_of d a.table a.list) && nat_le a.order (opened d a.list)) (a.filter == 0 || is_filter_of d a.table a.filter) e in
-    let y = and_parts (nat_lt a.table (length d.shape.tables) && (a.list == 0 || is_list_of d a.table a.list)) (nat_le a.order (opened d a.list)) x.0 in
+    let x = and_parts (nat_lt a.table (length d.shape.tables) && (a.list == 0 || is_list_of d a.table a.list) && nat_le a.order (opened_by d a.list)) (a.filter == 0 || is_filter_of d a.table a.filter) e in
+    let y = and_parts (nat_lt a.table (length d.shape.tables) && (a.list == 0 || is_list_of d a.table a.list)) (nat_le a.order (opened_by d a.list)) x.0 in
     let z = and_parts (nat_lt a.table (length d.shape.tables)) (a.list == 0 || is_list_of d a.table a.list) y.0 in
     ltb-true a.table (length d.shape.tables) z.0
 

@@ -19,10 +19,10 @@ use Rattle.code_items.specs.Declarations.{list_of}
 use Rattle.code_items.specs.Desks.{open_at}
 use Rattle.code_items.specs.Facts.{Facts}
 use Rattle.code_items.specs.Instrs.{is_instr}
-use Rattle.code_items.specs.States.{is_number, lists_table, how_many, opened}
-use Rattle.code_rules.specs.Rules.{may_hold, others_hold, is_no_list, has_table, is_other_list, if_open}
+use Rattle.code_items.specs.States.{is_this_number, lists_table, how_many, opened_by}
+use Rattle.code_rules.specs.Rules.{may_hold, others_hold, is_no_list, declares_table, is_other_list, fails_if_open}
 use Rattle.run_steps.specs.World.{World, state_of, desk_of, area_state}
-use Rattle.run_steps.specs.Effects.{numbers_in, list_numbers}
+use Rattle.run_steps.specs.Effects.{indexes_in, list_numbers}
 use Rattle.run_steps.specs.Faults.{IsClear}
 use Rattle.run_steps.specs.Needs.{AreIndexes, OpenNeeds, ChangeNeeds, AreaNeeds}
 use Rattle.run_steps.specs.Shapes.{StoreFits}
@@ -90,11 +90,11 @@ listed d (suc n) l all e = all_at (is_list d.shape.indexes) d.lists n l all e
 pub few_numbers : (d : Declared) (n : ℕ) → list_all (is_list d.shape.indexes) d.lists ≡ true → length (list_numbers d n) ≤ 7
 few_numbers d n all = from (list_of d n) refl
   where
-    from : (x : Option IndexList) → list_of d n ≡ x → length (numbers_in x) ≤ 7
+    from : (x : Option IndexList) → list_of d n ≡ x → length (indexes_in x) ≤ 7
     from None e = omega arith
     from (Some l) e = short_list d.shape.indexes l (listed d n l all e)
 
-is_that : (t : ℕ) (x : Option ℕ) → is_number t x ≡ true → x ≡ Some t
+is_that : (t : ℕ) (x : Option ℕ) → is_this_number t x ≡ true → x ≡ Some t
 is_that t None e = absurd (cc)
 is_that t (Some m) e = ap (λ k. Some k) (eqb-true m t e)
 
@@ -102,10 +102,10 @@ is_that t (Some m) e = ap (λ k. Some k) (eqb-true m t e)
 pub own_indexes : (d : Declared) (t n : ℕ) → list_all (is_list d.shape.indexes) d.lists ≡ true → is_other_list d t n ≡ false → list_all (is_index_of d.shape.indexes t) (list_numbers d n) ≡ true
 own_indexes d t n all e = from (list_of d n) refl e
   where
-    from : (x : Option IndexList) → list_of d n ≡ x → not (is_none x) && not (lists_table d.shape.indexes t x) ≡ false → list_all (is_index_of d.shape.indexes t) (numbers_in x) ≡ true
+    from : (x : Option IndexList) → list_of d n ≡ x → not (is_none x) && not (lists_table d.shape.indexes t x) ≡ false → list_all (is_index_of d.shape.indexes t) (indexes_in x) ≡ true
     from None at e = refl
     from (Some l) at e =
-        of_its_table d.shape.indexes l t (listed d n l all at) (is_that t (list_table d.shape.indexes l) (not-false (is_number t (list_table d.shape.indexes l)) (then_no true (not (is_number t (list_table d.shape.indexes l))) refl e)))
+        of_its_table d.shape.indexes l t (listed d n l all at) (is_that t (list_table d.shape.indexes l) (not-false (is_this_number t (list_table d.shape.indexes l)) (then_no true (not (is_this_number t (list_table d.shape.indexes l))) refl e)))
 
 -- a list that is there and isn't another table's has an index
 pub some_index : (d : Declared) (n t : ℕ) → is_no_list d n ≡ false → is_other_list d t n ≡ false → 1 ≤ length (list_numbers d n)
@@ -115,10 +115,10 @@ some_index d n t named e = from (list_of d n) named e
     of_first indexes [] t e = absurd (cc)
     of_first indexes (n ∷ ns) t e = omega arith
 
-    from : (x : Option IndexList) → is_none x ≡ false → not (is_none x) && not (lists_table d.shape.indexes t x) ≡ false → 1 ≤ length (numbers_in x)
+    from : (x : Option IndexList) → is_none x ≡ false → not (is_none x) && not (lists_table d.shape.indexes t x) ≡ false → 1 ≤ length (indexes_in x)
     from None named e = absurd (cc)
     from (Some l) named e =
-        of_first d.shape.indexes l.indexes.items t (is_that t (list_table d.shape.indexes l) (not-false (is_number t (list_table d.shape.indexes l)) (then_no true (not (is_number t (list_table d.shape.indexes l))) refl e)))
+        of_first d.shape.indexes l.indexes.items t (is_that t (list_table d.shape.indexes l) (not-false (is_this_number t (list_table d.shape.indexes l)) (then_no true (not (is_this_number t (list_table d.shape.indexes l))) refl e)))
 
 -- ---- OPEN
 
@@ -126,13 +126,13 @@ pub open_ready : (code : Code) (w : World) → Facts code → Known code.declare
 open_ready code w f k fits t l c =
     let d = code.declared in
     let s = w.env.store in
-    let p = or_parts (not (has_table d t) || (not (l == 0) && is_no_list d l)) (has_table d t && is_other_list d t l) c.declared in
-    let table : has_table d t ≡ true = not-false (has_table d t) (first_no (not (has_table d t)) (not (l == 0) && is_no_list d l) p.0) in
+    let p = or_parts (not (declares_table d t) || (not (l == 0) && is_no_list d l)) (declares_table d t && is_other_list d t l) c.declared in
+    let table : declares_table d t ≡ true = not-false (declares_table d t) (first_no (not (declares_table d t)) (not (l == 0) && is_no_list d l) p.0) in
     let there = is_there s.tables t (omega (arith, ltb-true t (length d.shape.tables) table, fits.count)) in (
       omega (arith, ltb-true t (length d.shape.tables) table, fits.count),
       none_elsewhere s.tables t s.selected 1 (s.selected - 1) s.areas (omega (arith, k.one)) c.once,
       few_numbers d l f.lists,
-      subst (AreIndexes (list_numbers d l)) (sym there.1) (marks_there d s t there.0 (list_numbers d l) fits there.1 (own_indexes d t l f.lists (then_no (has_table d t) (is_other_list d t l) table p.1))),
+      subst (AreIndexes (list_numbers d l)) (sym there.1) (marks_there d s t there.0 (list_numbers d l) fits there.1 (own_indexes d t l f.lists (then_no (declares_table d t) (is_other_list d t l) table p.1))),
     )
 
 -- ---- the others
@@ -144,17 +144,17 @@ selected_there code w k fits e = open_there code.declared w.env.store w.env.stor
 pub is_here : (d : Declared) (s : StoreState) → OpenThere d s s.selected → IsSome (here s)
 is_here d s o = ap is_some o.there
 
-pub order_ready : (code : Code) (w : World) → Facts code → (o : OpenThere code.declared w.env.store w.env.store.selected) → (n : ℕ) → if_open (λ a. nat_lt (opened code.declared a.list) n) (open_at (desk_of w.env.store) w.env.store.selected) ≡ false → ChangeNeeds (Order n) w.env.store
+pub order_ready : (code : Code) (w : World) → Facts code → (o : OpenThere code.declared w.env.store w.env.store.selected) → (n : ℕ) → fails_if_open (λ a. nat_lt (opened_by code.declared a.list) n) (open_at (desk_of w.env.store) w.env.store.selected) ≡ false → ChangeNeeds (Order n) w.env.store
 order_ready code w f o n e =
     let d = code.declared in
     let u = o.use_of in
-    let fails : nat_lt (opened d u.list) n ≡ false = ap (if_open (λ a. nat_lt (opened d a.list) n)) (sym o.known) ∙ e in
-    let le = ltb-false (opened d u.list) n fails in
+    let fails : nat_lt (opened_by d u.list) n ≡ false = ap (fails_if_open (λ a. nat_lt (opened_by d a.list) n)) (sym o.known) ∙ e in
+    let le = ltb-false (opened_by d u.list) n fails in
     let count = counts (list_of d u.list) in
     let same = ap (λ (ns : List ℕ). length ns) o.list in
     (is_here d w.env.store o, omega (arith, le, count, few_numbers d u.list f.lists), subst (λ (x : Option OpenState). IfSome x (λ (o : OpenState). n ≤ length o.list)) (sym o.there) (omega (arith, le, count, same)))
   where
-    counts : (x : Option IndexList) → how_many x ≡ length (numbers_in x)
+    counts : (x : Option IndexList) → how_many x ≡ length (indexes_in x)
     counts None = refl
     counts (Some l) = refl
 

@@ -20,7 +20,7 @@ use Rattle.code_items.specs.Kinds.{clashes}
 use Rattle.code_rules.specs.Signature.{signature}
 use Rattle.code_rules.specs.Wants.{wants}
 use Rattle.code_rules.specs.Flow.{slots_after, left_by}
-use Rattle.code_rules.specs.Rules.{filters, height_after, has_other, is_free, loads_other, loads_free, filter_lacks, undeclared, if_open}
+use Rattle.code_rules.specs.Rules.{filters, height_after, has_other, is_free, loads_other, loads_free, filter_lacks, undeclared, fails_if_open}
 use Rattle.run_values.specs.Tagged.{TaggedValues}
 use Rattle.run_steps.specs.World.{World, state_of, desk_of, kind_held}
 use Rattle.run_steps.specs.Effects.{filter_in, filter_here}
@@ -112,11 +112,11 @@ filter_ready same code t n (suc number) e = from (filter_of code.declared (suc n
 -- ---- moves
 
 -- a table is in use, and its filter can be run, where an instruction that may move the pointer has no fault
-pub walks : Same → (code : Code) (w : World) → Known code.declared (state_of w) → OpenThere code.declared w.env.store w.env.store.selected → if_open (λ a. not (is_sound code (state_of w).slots a.filter)) (open_at (desk_of w.env.store) w.env.store.selected) ≡ false → Walks code w.values w.env
+pub walks : Same → (code : Code) (w : World) → Known code.declared (state_of w) → OpenThere code.declared w.env.store w.env.store.selected → fails_if_open (λ a. not (is_sound code (state_of w).slots a.filter)) (open_at (desk_of w.env.store) w.env.store.selected) ≡ false → Walks code w.values w.env
 walks same code w k o e =
     let s = w.env.store in
     let sound : is_sound code (map kind_held w.values.slots) o.use_of.filter ≡ true =
-    not-false (is_sound code (map kind_held w.values.slots) o.use_of.filter) (ap (if_open (λ a. not (is_sound code (map kind_held w.values.slots) a.filter))) (sym o.known) ∙ e) in
+    not-false (is_sound code (map kind_held w.values.slots) o.use_of.filter) (ap (fails_if_open (λ a. not (is_sound code (map kind_held w.values.slots) a.filter))) (sym o.known) ∙ e) in
     let number : filter_here s ≡ o.use_of.filter = ap filter_in o.held in
     let slots : length w.values.slots ≡ code.declared.slots = omega (arith, k.slots, length-map w.values.slots kind_held) in
     (is_here code.declared s o, subst (FilterNeeds code w.values) (sym number) (filter_ready same code w.values slots o.use_of.filter sound))
@@ -138,7 +138,7 @@ seek_ready code w Bottom o c = tt
 seek_ready code w Skip o c = tt
 seek_ready code w Go o c = tt
 seek_ready code w Seek o c =
-    let ordered : o.table.order == 0 ≡ false = ap (if_open (λ a. a.order == 0)) (sym o.known) ∙ c.order in
+    let ordered : o.table.order == 0 ≡ false = ap (fails_if_open (λ a. a.order == 0)) (sym o.known) ∙ c.order in
     subst (λ x. IfSome x (λ o. 1 ≤ o.order)) (sym o.there) (some_order o.table.order ordered)
 
 moves_of : (i : MoveInstr) → (signature (Moves i)).moves ≡ true
@@ -151,5 +151,5 @@ moves_of Seek = refl
 pub move_ready : Same → (code : Code) (w : World) → Known code.declared (state_of w) → StoreFits code.declared w.env.store → (i : MoveInstr) → IsClear code w (Moves i) → MoveNeeds code i w.values w.env
 move_ready same code w k fits i c =
     let o = selected_there code w k fits c.area in
-    let blind = if_open (λ a. not (is_sound code (state_of w).slots a.filter)) (open_at (desk_of w.env.store) w.env.store.selected) in
+    let blind = fails_if_open (λ a. not (is_sound code (state_of w).slots a.filter)) (open_at (desk_of w.env.store) w.env.store.selected) in
     (walks same code w k o (then_no (signature (Moves i)).moves blind (moves_of i) c.filter), given_ready same code w i c, seek_ready code w i o c)

@@ -12,7 +12,7 @@ use Rattle.dbf_file.specs.Values.{kind_for}
 use Rattle.shape.specs.declared.tables.TableShape.{TableShape}
 use Rattle.open_table.specs.Marks.{mark_at}
 use Rattle.open_table.specs.Open.{OpenState}
-use Rattle.work_area.specs.Making.{AreAlike}
+use Rattle.work_area.specs.Making.{HaveAlikeFields}
 use Rattle.work_area.specs.Areas.{StoreState, area_table, here}
 use Rattle.code_items.specs.declared.code.Code.{Code}
 use Rattle.code_items.specs.declared.declared.Declared.{Declared}
@@ -23,9 +23,9 @@ use Rattle.code_items.specs.Desks.{open_at}
 use Rattle.code_items.specs.Facts.{Facts}
 use Rattle.code_items.specs.Instrs.{is_instr, is_area, is_two}
 use Rattle.code_items.specs.Kinds.{clashes}
-use Rattle.code_items.specs.States.{opened}
-use Rattle.code_rules.specs.Wants.{fields_in, fields_at, kind_of_field, field_kind, if_known}
-use Rattle.code_rules.specs.Rules.{is_other_list, is_no_list, is_no_index, no_field, if_open}
+use Rattle.code_items.specs.States.{opened_by}
+use Rattle.code_rules.specs.Wants.{fields_declared, fields_at, kind_of_field, field_kind, if_known}
+use Rattle.code_rules.specs.Rules.{is_other_list, is_no_list, is_no_index, no_field, fails_if_open}
 use Rattle.run_steps.specs.World.{World, state_of, desk_of}
 use Rattle.run_steps.specs.Effects.{list_numbers, index_in}
 use Rattle.run_steps.specs.Faults.{IsClear}
@@ -39,22 +39,22 @@ use Rattle.run_laws.proofs.OnMoves.{walks}
 -- ---- fields
 
 -- the fields of an open area's table hold what the declared ones do
-fields_alike : (d : Declared) (s : StoreState) (a : ℕ) → StoreFits d s → (o : OpenThere d s a) → AreAlike o.table.table.structure.fields (fields_in (slice_get d.shape.tables o.use_of.table))
+fields_alike : (d : Declared) (s : StoreState) (a : ℕ) → StoreFits d s → (o : OpenThere d s a) → HaveAlikeFields o.table.table.structure.fields (fields_declared (slice_get d.shape.tables o.use_of.table))
 fields_alike d s a fits o =
     let shape = is_there d.shape.tables o.use_of.table o.declared in
     let stands = fits.fields o.use_of.table (omega (arith, o.declared, fits.count)) in
-    let by_table = subst (λ x. IfSome x (λ (p : OpenState). IfSome (slice_get d.shape.tables o.use_of.table) (λ (t : TableShape). AreAlike p.table.structure.fields t.fields))) o.at stands in
-    let alike : AreAlike o.table.table.structure.fields shape.0.fields = subst (λ x. IfSome x (λ (t : TableShape). AreAlike o.table.table.structure.fields t.fields)) shape.1 by_table in
-    subst (λ (fs : List TableField). AreAlike o.table.table.structure.fields fs) (sym (ap fields_in shape.1)) alike
+    let by_table = subst (λ x. IfSome x (λ (p : OpenState). IfSome (slice_get d.shape.tables o.use_of.table) (λ (t : TableShape). HaveAlikeFields p.table.structure.fields t.fields))) o.at stands in
+    let alike : HaveAlikeFields o.table.table.structure.fields shape.0.fields = subst (λ x. IfSome x (λ (t : TableShape). HaveAlikeFields o.table.table.structure.fields t.fields)) shape.1 by_table in
+    subst (λ (fs : List TableField). HaveAlikeFields o.table.table.structure.fields fs) (sym (ap fields_declared shape.1)) alike
 
-fields_known : (d : Declared) (s : StoreState) (a : ℕ) → (o : OpenThere d s a) → fields_at d (open_at (desk_of s) a) ≡ fields_in (slice_get d.shape.tables o.use_of.table)
+fields_known : (d : Declared) (s : StoreState) (a : ℕ) → (o : OpenThere d s a) → fields_at d (open_at (desk_of s) a) ≡ fields_declared (slice_get d.shape.tables o.use_of.table)
 fields_known d s a o = ap (fields_at d) o.known
 
 field_there : (d : Declared) (s : StoreState) (a f : ℕ) → StoreFits d s → (o : OpenThere d s a) → no_field d (desk_of s) a f ≡ false → f < length o.table.table.structure.fields
 field_there d s a f fits o e =
-    let fails : nat_le (length (fields_in (slice_get d.shape.tables o.use_of.table))) f ≡ false = ap (if_open (λ b. nat_le (length (fields_at d (Some b))) f)) (sym o.known) ∙ e in
+    let fails : nat_le (length (fields_declared (slice_get d.shape.tables o.use_of.table))) f ≡ false = ap (fails_if_open (λ b. nat_le (length (fields_at d (Some b))) f)) (sym o.known) ∙ e in
     let alike = fields_alike d s a fits o in
-    omega (arith, leb-false (length (fields_in (slice_get d.shape.tables o.use_of.table))) f fails, alike.count)
+    omega (arith, leb-false (length (fields_declared (slice_get d.shape.tables o.use_of.table))) f fails, alike.count)
 
 has_field : (s : StoreState) (f : ℕ) (x : Option OpenState) (o : OpenState) → x ≡ Some o → f < length o.table.structure.fields → HasField f x
 has_field s f x o e lt = subst (HasField f) (sym e) (refl, lt)
@@ -74,7 +74,7 @@ letter_there (g ∷ fs) (suc f) d lt = letter_there fs f d (omega (arith, lt))
 pub field_known : (d : Declared) (s : StoreState) (a f : ℕ) → StoreFits d s → (o : OpenThere d s a) → no_field d (desk_of s) a f ≡ false → field_kind d (desk_of s) a f ≡ Some (kind_for (letter_at o.table.table.structure f))
 field_known d s a f fits o e =
     let lt = field_there d s a f fits o e in
-    let fs = fields_in (slice_get d.shape.tables o.use_of.table) in
+    let fs = fields_declared (slice_get d.shape.tables o.use_of.table) in
     let gs = o.table.table.structure.fields in
     let alike = fields_alike d s a fits o in
     let within : f < length fs = omega (arith, lt, alike.count) in
@@ -108,8 +108,8 @@ index_ready code w f fits l o c =
     let d = code.declared in
     let s = w.env.store in
     let p = or_parts (is_no_list d l) (is_no_index d (desk_of s) l) c.declared in
-    let q = or_parts (nat_lt 1 (opened d l)) (if_open (λ a. is_other_list d a.table l) (open_at (desk_of s) s.selected)) p.1 in
-    let own : is_other_list d o.use_of.table l ≡ false = ap (if_open (λ a. is_other_list d a.table l)) (sym o.known) ∙ q.1 in
+    let q = or_parts (nat_lt 1 (opened_by d l)) (fails_if_open (λ a. is_other_list d a.table l) (open_at (desk_of s) s.selected)) p.1 in
+    let own : is_other_list d o.use_of.table l ≡ false = ap (fails_if_open (λ a. is_other_list d a.table l)) (sym o.known) ∙ q.1 in
     let marks = marks_there d s o.use_of.table o.table (list_numbers d l) fits o.at (own_indexes d o.use_of.table l f.lists own) in
     subst (λ x. IfSome x (λ (o : OpenState). is_some (mark_at o.table.marks (index_in d l)) ≡ true)) (sym o.there)
     (first_passes (λ n. is_some (mark_at o.table.table.marks n)) (list_numbers d l) (some_index d l o.use_of.table p.0 own) marks)

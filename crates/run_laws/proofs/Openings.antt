@@ -13,8 +13,8 @@ use Rattle.open_table.specs.Open.{OpenState}
 use Rattle.open_table.specs.Marks.{mark_at}
 use Rattle.work_area.specs.declared.uses.Use.{Use}
 use Rattle.work_area.specs.Areas.{StoreState, AreApart, closed_all, used_table, table_at}
-use Rattle.work_area.specs.Making.{AreAlike}
-use Rattle.work_area.specs.Shapes.{HasShape as StoreHasShape, ShapesStay}
+use Rattle.work_area.specs.Making.{HaveAlikeFields}
+use Rattle.work_area.specs.Shapes.{StoreHasShape, ShapesStay}
 use Rattle.code_items.specs.declared.declared.Declared.{Declared}
 use Rattle.code_items.specs.declared.code.Code.{Code}
 use Rattle.code_items.specs.declared.code.Proc.{Proc}
@@ -75,7 +75,7 @@ new_fits d s stay h closed = record {
   lists = λ a. subst (λ (x : Option Use). IfSome x (λ (u : Use). IfSome (used_table s x) (ListStands d u))) (sym (ap (λ (areas : List (Option Use)). slice_index_or areas (a - 1) None) closed ∙ none_there 10 (a - 1))) tt;
 }
   where
-    fields_at : (t : ℕ) (x : Option OpenState) → slice_get s.tables t ≡ x → (y : Option TableShape) → slice_get d.shape.tables t ≡ y → IfSome x (λ (o : OpenState). IfSome y (λ (declared : TableShape). AreAlike o.table.structure.fields declared.fields))
+    fields_at : (t : ℕ) (x : Option OpenState) → slice_get s.tables t ≡ x → (y : Option TableShape) → slice_get d.shape.tables t ≡ y → IfSome x (λ (o : OpenState). IfSome y (λ (declared : TableShape). HaveAlikeFields o.table.structure.fields declared.fields))
     fields_at t None e y f = tt
     fields_at t (Some o) e None f = tt
     fields_at t (Some o) e (Some shape) f = h.fields t o shape e f

@@ -11,7 +11,7 @@ use Rattle.open_table.specs.Open.{OpenState}
 use Rattle.open_table.specs.Marks.{mark_at}
 use Rattle.work_area.specs.declared.uses.Use.{Use}
 use Rattle.work_area.specs.Areas.{StoreState, AreApart, use_at, used_table, table_at}
-use Rattle.work_area.specs.Making.{AreAlike}
+use Rattle.work_area.specs.Making.{HaveAlikeFields}
 use Rattle.code_items.specs.declared.declared.Declared.{Declared}
 use Rattle.code_items.specs.declared.state.State.{State}
 use Rattle.code_items.specs.States.{is_open, is_area_state, is_desk, is_state}
@@ -28,7 +28,7 @@ use_there (x ∷ areas) (suc n) u e = use_there areas n u e
 
 pub kinds_from : (d : Declared) (s : StoreState) → StoreFits d s → (t : ℕ) (o : OpenState) → slice_get s.tables t ≡ Some o → KindFits d t o
 kinds_from d s fits t o at = record {
-  fields = subst (λ x. IfSome x (λ (p : OpenState). IfSome (slice_get d.shape.tables t) (λ (declared : TableShape). AreAlike p.table.structure.fields declared.fields))) at (fits.fields t (slice_get_within s.tables t o at));
+  fields = subst (λ x. IfSome x (λ (p : OpenState). IfSome (slice_get d.shape.tables t) (λ (declared : TableShape). HaveAlikeFields p.table.structure.fields declared.fields))) at (fits.fields t (slice_get_within s.tables t o at));
   indexes = λ n x is same. subst (λ y. IfSome y (λ (p : OpenState). is_some (mark_at p.table.marks n) ≡ true)) (ap (slice_get s.tables) same ∙ at)
       (subst (λ y. IfSome y (λ (x : IndexShape). IfSome (table_at s x.table) (λ (p : OpenState). is_some (mark_at p.table.marks n) ≡ true))) is (fits.indexes n));
 }
@@ -56,7 +56,7 @@ fits_of d s h = record {
   lists = λ a. list_at a (use_at s a) refl;
 }
   where
-    fields_at : (t : ℕ) (x : Option OpenState) → slice_get s.tables t ≡ x → IfSome x (λ (o : OpenState). IfSome (slice_get d.shape.tables t) (λ (declared : TableShape). AreAlike o.table.structure.fields declared.fields))
+    fields_at : (t : ℕ) (x : Option OpenState) → slice_get s.tables t ≡ x → IfSome x (λ (o : OpenState). IfSome (slice_get d.shape.tables t) (λ (declared : TableShape). HaveAlikeFields o.table.structure.fields declared.fields))
     fields_at t None e = tt
     fields_at t (Some o) e = (h.kinds t o e).fields
 

@@ -13,10 +13,10 @@ use Rattle.open_table.specs.Marks.{IndexMark, mark_at}
 use Rattle.work_area.specs.declared.uses.Use.{Use}
 use Rattle.work_area.specs.Areas.{StoreState, AreApart, selected_use, used_table, here, holds, is_elsewhere, with_table, with_use, with_used, with_selected, changed_found, closed_here, closed_all}
 use Rattle.work_area.specs.Calls.{used_here}
-use Rattle.work_area.specs.Making.{AreAlike}
+use Rattle.work_area.specs.Making.{HaveAlikeFields}
 use Rattle.work_area.specs.Shapes.{still, IsSameKind, KindsStay}
 use Rattle.code_items.specs.declared.declared.Declared.{Declared}
-use Rattle.code_items.specs.States.{is_list_of, is_filter_of, opened, is_open}
+use Rattle.code_items.specs.States.{is_list_of, is_filter_of, opened_by, is_open}
 use Rattle.run_steps.specs.World.{order_of}
 use Rattle.run_steps.specs.Effects.{list_numbers}
 use Rattle.run_steps.specs.Shapes.{ListStands}
@@ -25,7 +25,7 @@ use Rattle.run_laws.proofs.Tests.{first_no, second_no, is_there}
 
 -- a table holds what is declared, and has its declared indexes
 pub record KindFits (d : Declared) (t : ℕ) (o : OpenState) : Type 0 where
-  pub fields : IfSome (slice_get d.shape.tables t) (λ (declared : TableShape). AreAlike o.table.structure.fields declared.fields)
+  pub fields : IfSome (slice_get d.shape.tables t) (λ (declared : TableShape). HaveAlikeFields o.table.structure.fields declared.fields)
   pub indexes : (n : ℕ) (x : IndexShape) → slice_get d.shape.indexes n ≡ Some x → x.table ≡ t → is_some (mark_at o.table.marks n) ≡ true
 
 -- what an area holds, by the table that is there: the indexes of its list are open, and list, order and filter are legal
@@ -97,7 +97,7 @@ still_there n (m ∷ ms) = elim (m.number == n) as (λ b. is_some (cond b (Some 
 
 kind_stays : (d : Declared) (t : ℕ) (o p : OpenState) → IsSameKind o p → KindFits d t o → KindFits d t p
 kind_stays d t o p same h = record {
-  fields = subst (λ (st : StructureState). IfSome (slice_get d.shape.tables t) (λ (declared : TableShape). AreAlike st.fields declared.fields)) (sym same.structure) h.fields;
+  fields = subst (λ (st : StructureState). IfSome (slice_get d.shape.tables t) (λ (declared : TableShape). HaveAlikeFields st.fields declared.fields)) (sym same.structure) h.fields;
   indexes = λ n x at is. sym (still_there n p.table.marks) ∙ ap (λ (ms : List IndexMark). is_some (mark_at ms n)) same.marks ∙ still_there n o.table.marks ∙ h.indexes n x at is;
 }
 
@@ -268,23 +268,23 @@ opens d s t l o p stay h at same elsewhere fits =
 
 -- ---- orders, lists and filters that are legal
 
-pub legal_from : (d : Declared) (u : Use) (order : ℕ) → u.table < length d.shape.tables → u.list == 0 || is_list_of d u.table u.list ≡ true → order ≤ opened d u.list → u.filter == 0 || is_filter_of d u.table u.filter ≡ true → is_open d (area_by u order) ≡ true
+pub legal_from : (d : Declared) (u : Use) (order : ℕ) → u.table < length d.shape.tables → u.list == 0 || is_list_of d u.table u.list ≡ true → order ≤ opened_by d u.list → u.filter == 0 || is_filter_of d u.table u.filter ≡ true → is_open d (area_by u order) ≡ true
 legal_from d u order table list le filter =
-    and_from (nat_lt u.table (length d.shape.tables) && (u.list == 0 || is_list_of d u.table u.list) && nat_le order (opened d u.list)) (u.filter == 0 || is_filter_of d u.table u.filter)
-    (and_from (nat_lt u.table (length d.shape.tables) && (u.list == 0 || is_list_of d u.table u.list)) (nat_le order (opened d u.list))
+    and_from (nat_lt u.table (length d.shape.tables) && (u.list == 0 || is_list_of d u.table u.list) && nat_le order (opened_by d u.list)) (u.filter == 0 || is_filter_of d u.table u.filter)
+    (and_from (nat_lt u.table (length d.shape.tables) && (u.list == 0 || is_list_of d u.table u.list)) (nat_le order (opened_by d u.list))
     (and_from (nat_lt u.table (length d.shape.tables)) (u.list == 0 || is_list_of d u.table u.list) (lt-ltb u.table (length d.shape.tables) table) list)
-    (le-leb order (opened d u.list) le)) filter
+    (le-leb order (opened_by d u.list) le)) filter
 
 -- what a legal area has
 pub record Legal (d : Declared) (u : Use) (order : ℕ) : Type 0 where
   pub table : u.table < length d.shape.tables
   pub list : u.list == 0 || is_list_of d u.table u.list ≡ true
-  pub order_within : order ≤ opened d u.list
+  pub order_within : order ≤ opened_by d u.list
   pub filter : u.filter == 0 || is_filter_of d u.table u.filter ≡ true
 
 pub legal_parts : (d : Declared) (u : Use) (order : ℕ) → is_open d (area_by u order) ≡ true → Legal d u order
 legal_parts d u order e =
-    let a = and_parts (nat_lt u.table (length d.shape.tables) && (u.list == 0 || is_list_of d u.table u.list) && nat_le order (opened d u.list)) (u.filter == 0 || is_filter_of d u.table u.filter) e in
-    let b = and_parts (nat_lt u.table (length d.shape.tables) && (u.list == 0 || is_list_of d u.table u.list)) (nat_le order (opened d u.list)) a.0 in
+    let a = and_parts (nat_lt u.table (length d.shape.tables) && (u.list == 0 || is_list_of d u.table u.list) && nat_le order (opened_by d u.list)) (u.filter == 0 || is_filter_of d u.table u.filter) e in
+    let b = and_parts (nat_lt u.table (length d.shape.tables) && (u.list == 0 || is_list_of d u.table u.list)) (nat_le order (opened_by d u.list)) a.0 in
     let c = and_parts (nat_lt u.table (length d.shape.tables)) (u.list == 0 || is_list_of d u.table u.list) b.0 in
-    record { table = ltb-true u.table (length d.shape.tables) c.0; list = c.1; order_within = leb-true order (opened d u.list) b.1; filter = a.1 }
+    record { table = ltb-true u.table (length d.shape.tables) c.0; list = c.1; order_within = leb-true order (opened_by d u.list) b.1; filter = a.1 }

@@ -20,7 +20,7 @@ ghost use Rattle.run_steps.specs.Safe.{IsSafe, IsSafeHere};
 ghost use Rattle.run_steps.specs.Shapes.{HasShape, StoreFits};
 ghost use Rattle.run_steps.specs.World.{World};
 ghost use Rattle.work_area.specs.Areas.{AreApart, StoreState};
-ghost use Rattle.work_area.specs.Shapes.{HasShape as StoreHasShape};
+ghost use Rattle.work_area.specs.Shapes.{StoreHasShape};
 ghost use Rattle.calendar.specs.declared.day.DayParts.{DayParts};
 
 use code_items::laws::legal_codes;

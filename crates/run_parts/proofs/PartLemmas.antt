@@ -72,7 +72,7 @@ stops_wider code w left more (Full table) le same s = (s.0, (let cost = s.1 in o
 stops_wider code w left more NoMemory le same s = (s.0, (let cost = s.1 in omega (arith, cost, le)), s.2, s.3)
 stops_wider code w left more (Fault kind at) le same s = s
 
-ran_wider : (code : Code) (w v : World) (budget more : ℕ) (outcome : Outcome) → budget ≤ more → (outcome.end ≡ Spent → budget ≡ more) → Ran code w budget outcome v → Ran code w more outcome v
+pub ran_wider : (code : Code) (w v : World) (budget more : ℕ) (outcome : Outcome) → budget ≤ more → (outcome.end ≡ Spent → budget ≡ more) → Ran code w budget outcome v → Ran code w more outcome v
 ran_wider code w v budget more outcome le same r = record {
   count = r.count;
   reached = r.reached;

@@ -15,13 +15,14 @@ use std::alloc::Global;
 use xverify::Verified;
 
 /// How a part of a run ended, and the budget that it had.
-#[derive(Clone, Copy)]
-struct Part {
-    outcome: Outcome,
-    budget: u64,
+#[derive(Clone, Copy, Debug)]
+pub struct RunPart {
+    pub outcome: Outcome,
+    pub budget: u64,
 }
 
-fn is_spent(end: End) -> bool
+/// Whether a run ended since its budget was spent.
+pub fn is_spent(end: End) -> bool
     ensures spent { result ≡ true → end ≡ Spent }
     ensures other { result ≡ false → end ≡ Spent → ⊥ }
 {
@@ -32,14 +33,14 @@ fn is_spent(end: End) -> bool
 }
 
 /// The lesser of what a part is to cost at most and all that is left.
-fn lesser(most: u64, left: u64) -> u64
+pub fn lesser(most: u64, left: u64) -> u64
     ensures { result ≤ left }
 {
     if most < left { most } else { left }
 }
 
 /// Whether a part is the last one: it wasn't spent, or had all that was left.
-fn is_last(part: Part, left: u64) -> bool
+pub fn is_last(part: RunPart, left: u64) -> bool
     requires { part.budget ≤ left }
     ensures last { result ≡ true → part.outcome.end ≡ Spent → part.budget ≡ left }
     ensures spent { result ≡ false → part.outcome.end ≡ Spent }
@@ -49,7 +50,7 @@ fn is_last(part: Part, left: u64) -> bool
 }
 
 /// A greater budget, up to all that is left: twice as great where that is left.
-fn wider(budget: u64, left: u64) -> u64
+pub fn wider(budget: u64, left: u64) -> u64
     requires { budget < left }
     ensures wider { budget < result }
     ensures within { result ≤ left }
@@ -65,13 +66,13 @@ fn wider(budget: u64, left: u64) -> u64
 
 /// Goes on with a run for a part of what is left of its budget. Where the next step is dearer than the part, the part
 /// grows until it pays for it, or is all that is left.
-fn take_part<K: KeyList>(
+pub fn take_part<K: KeyList>(
     alloc: Global,
     verified: &Verified,
     banks: &mut Banks<K>,
     left: u64,
     most: u64,
-) -> Part
+) -> RunPart
     requires twin { (w : World) × Twin verified.now w banks.old }
     ensures ran { (w : World) → Twin verified.now w banks.old
         → RunsTo verified.now w result.budget result.outcome banks.new }
@@ -86,7 +87,7 @@ fn take_part<K: KeyList>(
         budget = wider(budget, left);
         outcome = resume(alloc, verified, banks, budget);
     }
-    Part { outcome, budget }
+    RunPart { outcome, budget }
 }
 
 /// Goes on with a run as `machine::resume` does, in parts: the watcher is told before each part what the steps cost so

@@ -1,5 +1,6 @@
-mod QuickSteps
-mod FindingForms
+mod LeadingSteps
+mod OperationSteps
+mod FindingOperations
 pub mod Walks
 pub mod Steps
 pub mod Runs

@@ -3,11 +3,11 @@ pub mod Effects
 pub mod Executed
 pub mod Faults
 pub mod Filters
-pub mod Forms
 pub mod Needs
 pub mod Opening
 pub mod Pausing
-pub mod Quick
+pub mod Leading
+pub mod Operations
 pub mod Run
 pub mod Safe
 pub mod Shapes

@@ -1,7 +1,7 @@
 //! How runs end.
 
 ghost use Rattle.std.specs.Prelude.{◌≡◌};
-ghost use Rattle.run_steps.specs.Run.{end_of};
+ghost use Rattle.run_steps.specs.Run.{stop_ending};
 
 use crate::fault::FaultKind;
 
@@ -41,7 +41,7 @@ pub enum Stop {
 impl Stop {
     /// How a run ends that stops so.
     pub fn end(self) -> End
-        ensures { result ≡ end_of self }
+        ensures { result ≡ stop_ending self }
     {
         match self {
             Stop::Spent => End::Spent,

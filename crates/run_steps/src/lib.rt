@@ -1,11 +1,12 @@
 //! Steps of a run over tables: the world, what each instruction makes of it, and both machines' way through a code.
 #![tactic(auto)]
 
+mod carrying;
+mod decoding;
 mod ending;
 mod environment;
 mod fault;
 mod filtering;
-mod forms;
 mod lent_blocks;
 mod machine;
 mod on_areas;
@@ -13,8 +14,8 @@ mod on_moves;
 mod on_records;
 mod on_screen;
 mod on_values;
+mod operations;
 mod pausing;
-mod quick;
 mod returns;
 pub mod running;
 

@@ -10,7 +10,7 @@ ghost use Rattle.code_rules.specs.Signature.{move_signature};
 ghost use Rattle.code_items.specs.Legal.{IsCode};
 ghost use Rattle.code_items.specs.declared.instr.Instr.TheVariants.{Moves as OfMoves};
 ghost use Rattle.run_values.specs.Tagged.{TaggedValues, dropped};
-ghost use Rattle.run_steps.specs.Effects.{whole_of, given_text, record_number};
+ghost use Rattle.run_steps.specs.Effects.{whole_on_top, given_text, record_number};
 ghost use Rattle.run_steps.specs.Executed.{Executed};
 ghost use Rattle.run_steps.specs.Filters.{viewing, shown_by, is_visible as visible};
 ghost use Rattle.run_steps.specs.Needs.{FilterNeeds, MoveNeeds, SeekNeeds, GivenNeeds, given_of};
@@ -31,7 +31,7 @@ use xvalue::{Kind, Value};
 
 /// The whole part of a number; without one, 0.
 fn steps(given: &Option<Value>) -> i128
-    ensures { result ≡ whole_of given.now }
+    ensures { result ≡ whole_on_top given.now }
 {
     match given {
         Some(value) => whole(value),
@@ -41,7 +41,7 @@ fn steps(given: &Option<Value>) -> i128
 
 /// The record of a number's whole part; no table has one below 0 or from 2^32 on.
 fn record_given(given: &Option<Value>) -> Option<u32>
-    ensures { result ≡ record_number (whole_of given.now) }
+    ensures { result ≡ record_number (whole_on_top given.now) }
 {
     let whole = steps(given);
     if 0 <= whole && whole < 1 << 32 {
@@ -104,7 +104,7 @@ fn skip<K: KeyList, F: Fn(&Row<'_>) -> bool>(
 ) -> Result<u64, Spent>
     requires open { IsSome (here store.old) }
     requires callable { F.IsAlwaysCallable see }
-    ensures { MovesHere (FnReturnsAt F.Fn) see (skip_of (whole_of given.now)) store.old store.new left result }
+    ensures { MovesHere (FnReturnsAt F.Fn) see (skip_of (whole_on_top given.now)) store.old store.new left result }
 {
     store.skip(steps(given), see, left)
 }

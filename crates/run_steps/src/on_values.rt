@@ -4,7 +4,7 @@ ghost use Rattle.std.specs.Prelude.{◌≡◌, ◌<◌, length, Some};
 ghost use Rattle.code_items.specs.declared.instr.Instr.TheVariants.{Values as OfValues};
 ghost use Rattle.run_values.specs.Tagged.{TaggedValues, pushed};
 ghost use Rattle.xvalue.specs.declared.value.Value.TheVariants.{Date};
-ghost use Rattle.run_steps.specs.Effects.{whole_of, value_values, value_env};
+ghost use Rattle.run_steps.specs.Effects.{whole_on_top, value_values, value_env};
 ghost use Rattle.run_steps.specs.Needs.{ValueNeeds};
 ghost use Rattle.run_steps.specs.Executed.{Executed};
 
@@ -19,7 +19,7 @@ use xvalue::Value;
 
 /// The whole part of a number, 0 of the asterisk value.
 pub(crate) fn whole(value: &Value) -> i128
-    ensures { result ≡ whole_of (Some value.now) }
+    ensures { result ≡ whole_on_top (Some value.now) }
 {
     match value {
         Value::Number(number) => number.whole(),

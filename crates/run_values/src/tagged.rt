@@ -67,6 +67,28 @@ impl Values for Tagged {
         }
     }
 
+    fn push_number(&mut self, number: Num) {
+        self.stack.push(Value::Number(number));
+    }
+
+    fn pop_number(&mut self) -> Num {
+        match self.stack.pop() {
+            Value::Number(number) => number,
+            _ => unreachable!(),
+        }
+    }
+
+    fn push_truth(&mut self, truth: bool) {
+        self.stack.push(Value::Logical(truth));
+    }
+
+    fn pop_truth(&mut self) -> bool {
+        match self.stack.pop() {
+            Value::Logical(truth) => truth,
+            _ => unreachable!(),
+        }
+    }
+
     fn discard(&mut self, _kind: Kind) {
         self.stack.drop_top(1);
     }
@@ -78,6 +100,13 @@ impl Values for Tagged {
     fn number(&self, slot: usize) -> &Num {
         match self.slots.get(slot) {
             Some(Value::Number(number)) => number,
+            _ => unreachable!(),
+        }
+    }
+
+    fn held_truth(&self, slot: usize) -> bool {
+        match self.slots.get(slot) {
+            Some(Value::Logical(truth)) => *truth,
             _ => unreachable!(),
         }
     }

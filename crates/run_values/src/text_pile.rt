@@ -3,7 +3,7 @@
 ghost use Rattle.std.specs.Prelude.{◌≡◌, ◌+◌, ◌<◌, ◌≤◌, [], ◌∷◌, length, IfOk, reverse, take, drop, slice_get};
 ghost use Rattle.std.specs.Prelude.{slice_set, Some, ℕ};
 ghost use Rattle.arrayvec.specs.ArrayVec.{ArrayVec as Held};
-ghost use Rattle.run_values.specs.TextPile.{both, part_of, top_joined, top_cut};
+ghost use Rattle.run_values.specs.TextPile.{texts_joined, text_part, top_joined, top_cut};
 
 use crate::pile::STACK_LIMIT;
 use std::alloc::{AllocError, Global};
@@ -113,7 +113,8 @@ fn append_next(texts: &mut [Text], place: usize)
     requires { place + 1 < length texts.old }
     ensures same_length { length texts.new ≡ length texts.old }
     ensures appended { (first second : Held ℕ) → slice_get texts.old place ≡ Some first
-        → slice_get texts.old (place + 1) ≡ Some second → texts.new ≡ slice_set texts.old place (both first second) }
+        → slice_get texts.old (place + 1) ≡ Some second
+        → texts.new ≡ slice_set texts.old place (texts_joined first second) }
 {
     let (front, behind) = texts.split_at_mut(place + 1);
     append(&mut front[place], behind[0].as_slice());
@@ -121,7 +122,7 @@ fn append_next(texts: &mut [Text], place: usize)
 
 /// Leaves of a text so many bytes behind those that are skipped, or as many as there are.
 fn cut(text: &mut Text, skipped: usize, count: usize)
-    ensures { text.new ≡ part_of skipped count text.old }
+    ensures { text.new ≡ text_part skipped count text.old }
 {
     let start = skipped.min(text.len());
     let kept = count.min(text.len() - start);

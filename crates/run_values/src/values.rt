@@ -37,6 +37,28 @@ pub trait Values: Drop {
         ensures { (t : TaggedValues) → stands self.now t → HasOnTop (OfLogical ∷ []) t.stack
             → slice_get t.stack 0 ≡ Some (IsLogical result) };
 
+    /// Puts a number on the stack.
+    fn push_number(&mut self, number: Num)
+        requires { (t : TaggedValues) × (stands self.old t × (length t.stack < 64)) }
+        ensures { (t : TaggedValues) → stands self.old t → stands self.new (pushed (IsNumber number) t) };
+
+    /// Takes the number on top off the stack.
+    fn pop_number(&mut self) -> Num
+        requires { (t : TaggedValues) × (stands self.old t × HasOnTop (OfNumber ∷ []) t.stack) }
+        ensures { (t : TaggedValues) → stands self.old t → HasOnTop (OfNumber ∷ []) t.stack
+            → (slice_get t.stack 0 ≡ Some (IsNumber result)) × stands self.new (dropped 1 t) };
+
+    /// Puts a truth value on the stack.
+    fn push_truth(&mut self, truth: bool)
+        requires { (t : TaggedValues) × (stands self.old t × (length t.stack < 64)) }
+        ensures { (t : TaggedValues) → stands self.old t → stands self.new (pushed (IsLogical truth) t) };
+
+    /// Takes the truth value on top off the stack.
+    fn pop_truth(&mut self) -> bool
+        requires { (t : TaggedValues) × (stands self.old t × HasOnTop (OfLogical ∷ []) t.stack) }
+        ensures { (t : TaggedValues) → stands self.old t → HasOnTop (OfLogical ∷ []) t.stack
+            → (slice_get t.stack 0 ≡ Some (IsLogical result)) × stands self.new (dropped 1 t) };
+
     /// Takes the value on top, which is of this kind, away.
     fn discard(&mut self, kind: Kind)
         requires { (t : TaggedValues) × (stands self.old t × HasOnTop (kind ∷ []) t.stack) }
@@ -54,6 +76,12 @@ pub trait Values: Drop {
         requires { (t : TaggedValues) × (stands self.now t × HoldsKind OfNumber (slice_get t.slots slot)) }
         ensures { (t : TaggedValues) → stands self.now t → HoldsKind OfNumber (slice_get t.slots slot)
             → slice_get t.slots slot ≡ Some (Some (IsNumber result.now)) };
+
+    /// The truth value that the slot holds.
+    fn held_truth(&self, slot: usize) -> bool
+        requires { (t : TaggedValues) × (stands self.now t × HoldsKind OfLogical (slice_get t.slots slot)) }
+        ensures { (t : TaggedValues) → stands self.now t → HoldsKind OfLogical (slice_get t.slots slot)
+            → slice_get t.slots slot ≡ Some (Some (IsLogical result)) };
 
     /// Puts a number into the slot, which is there.
     fn set_number(&mut self, slot: usize, number: Num)

@@ -6,7 +6,7 @@ use Rattle.std.proofs.lemmas.Bool.{cases_lt, ltb-false, le-ltb}
 use Rattle.std.proofs.lemmas.List.{take_at, drop_at, take-append-drop, length-append, length-take, get_or-drop, get_or-take, get_or_past}
 use Rattle.std.proofs.lemmas.Nat.{be_bytes_4, from_be_bytes-to_be_bytes_4}
 use Rattle.save_papers.specs.Papers.{string, flagged_sum}
-use Rattle.save_papers.specs.Reading.{◌>>=◌, number_at, string_at, sum_at, flagged_sum_at}
+use Rattle.save_papers.specs.Reading.{◌>>=◌, number_in_front, string_at, sum_at, flagged_sum_at}
 
 abbrev pub IsBytes : List ℕ → Type 0
 IsBytes bytes = (i : ℕ) → get_or bytes i 0 < 256
@@ -61,7 +61,7 @@ wide32 = record {
   below = λ bytes fits. omega (arith, fits 0, fits 1, fits 2, fits 3);
 }
 
-wide_takes : (w : Width) (limit : ℕ) (wide : IsWide w limit) (bytes : List ℕ) (n : ℕ) (rest : List ℕ) → IsBytes bytes → number_at w bytes ≡ Some (n, rest) → Takes bytes (to_be_bytes w n) rest × (n < limit)
+wide_takes : (w : Width) (limit : ℕ) (wide : IsWide w limit) (bytes : List ℕ) (n : ℕ) (rest : List ℕ) → IsBytes bytes → number_in_front w bytes ≡ Some (n, rest) → Takes bytes (to_be_bytes w n) rest × (n < limit)
 wide_takes w limit wide bytes n rest fits e =
     let g = guard_some (ltb (length bytes) (byte_len w)) (from_be_bytes w (take (byte_len w) bytes), drop (byte_len w) bytes) (n, rest) e in
     let long : byte_len w ≤ length bytes = ltb-false _ _ g.0 in
@@ -70,16 +70,16 @@ wide_takes w limit wide bytes n rest fits e =
     let front : to_be_bytes w n ≡ take (byte_len w) bytes = rw (← n-is) (wide.back (take (byte_len w) bytes) (omega (arith, length-take (byte_len w) bytes)) (IsBytes-take (byte_len w) bytes fits)) in
     (record { parts = rw (front, ← rest-is) (sym (take-append-drop (byte_len w) bytes)); rest_fits = rw (← rest-is) (IsBytes-drop (byte_len w) bytes fits) }, rw (← n-is) (wide.below (take (byte_len w) bytes) (IsBytes-take (byte_len w) bytes fits)))
 
-wide_again : (w : Width) (limit : ℕ) (wide : IsWide w limit) (n : ℕ) (rest : List ℕ) → n < limit → number_at w (to_be_bytes w n ++ rest) ≡ Some (n, rest)
+wide_again : (w : Width) (limit : ℕ) (wide : IsWide w limit) (n : ℕ) (rest : List ℕ) → n < limit → number_in_front w (to_be_bytes w n ++ rest) ≡ Some (n, rest)
 wide_again w limit wide n rest lt =
     let len = wide.len n in
     let long : ltb (length (to_be_bytes w n ++ rest)) (byte_len w) ≡ false = le-ltb _ _ (omega (arith, length-append (to_be_bytes w n) rest)) in
     rw (long, take_at (to_be_bytes w n) rest (byte_len w) len, drop_at (to_be_bytes w n) rest (byte_len w) len, wide.again n lt) refl
 
-pub number_takes : (bytes : List ℕ) (n : ℕ) (rest : List ℕ) → IsBytes bytes → number_at w32 bytes ≡ Some (n, rest) → Takes bytes (to_be_bytes w32 n) rest × (n < 2 ^ 32)
+pub number_takes : (bytes : List ℕ) (n : ℕ) (rest : List ℕ) → IsBytes bytes → number_in_front w32 bytes ≡ Some (n, rest) → Takes bytes (to_be_bytes w32 n) rest × (n < 2 ^ 32)
 number_takes bytes n rest = wide_takes w32 (2 ^ 32) wide32 bytes n rest
 
-pub number_again : (n : ℕ) (rest : List ℕ) → n < 2 ^ 32 → number_at w32 (to_be_bytes w32 n ++ rest) ≡ Some (n, rest)
+pub number_again : (n : ℕ) (rest : List ℕ) → n < 2 ^ 32 → number_in_front w32 (to_be_bytes w32 n ++ rest) ≡ Some (n, rest)
 number_again n rest = wide_again w32 (2 ^ 32) wide32 n rest
 
 -- ---- strings
@@ -87,7 +87,7 @@ number_again n rest = wide_again w32 (2 ^ 32) wide32 n rest
 pub string_takes : (bytes text rest : List ℕ) → IsBytes bytes → string_at bytes ≡ Some (text, rest) → Takes bytes (string text) rest × (length text < 2 ^ 32)
 unfolding string_at
 string_takes bytes text rest fits e =
-    let b = bind_some (number_at w32 bytes) (λ n. cond (ltb (length n.1) n.0) None (Some (take n.0 n.1, drop n.0 n.1))) (text, rest) e in
+    let b = bind_some (number_in_front w32 bytes) (λ n. cond (ltb (length n.1) n.0) None (Some (take n.0 n.1, drop n.0 n.1))) (text, rest) e in
     let n = b.0 in
     let t = number_takes bytes n.0 n.1 fits b.1 in
     let g = guard_some (ltb (length n.1) n.0) (take n.0 n.1, drop n.0 n.1) (text, rest) b.2 in

@@ -4,7 +4,7 @@ use Rattle.std.proofs.lemmas.List.{append-nil}
 use Rattle.save_papers.specs.declared.paper.PaperError.{PaperError}
 use Rattle.save_papers.specs.declared.paper.PaperError.TheVariants as errors
 use Rattle.save_papers.specs.Papers.{EntrySays}
-use Rattle.save_papers.specs.Reading.{◌>>=◌, Fails, paper_entry_at, paper_entries_at}
+use Rattle.save_papers.specs.Reading.{◌>>=◌, PaperFails, paper_entry_at, paper_entries_at}
 
 -- what was read before, and what is still read
 abbrev pub with_front : List EntrySays → Option (List EntrySays × List ℕ) → Option (List EntrySays × List ℕ)
@@ -22,8 +22,8 @@ goes_on front count i bytes n after total lt h so_far =
     let one : with_front front (paper_entries_at (count - i) bytes) ≡ with_front (front ++ n ∷ []) (paper_entries_at (count - (i + 1)) after) = rw (k, h) (regroup front n (paper_entries_at (count - (i + 1)) after)) in
     sym one ∙ so_far
 
-pub ends : (e : PaperError) (front : List EntrySays) (count i : ℕ) (bytes : List ℕ) (total : Option (List EntrySays × List ℕ)) → i < count → Fails e (paper_entry_at bytes)
-    → with_front front (paper_entries_at (count - i) bytes) ≡ total → Fails e total
+pub ends : (e : PaperError) (front : List EntrySays) (count i : ℕ) (bytes : List ℕ) (total : Option (List EntrySays × List ℕ)) → i < count → PaperFails e (paper_entry_at bytes)
+    → with_front front (paper_entries_at (count - i) bytes) ≡ total → PaperFails e total
 unfolding paper_entries_at
 ends errors.Memory front count i bytes total lt h so_far = tt
 ends errors.Foreign front count i bytes total lt h so_far =

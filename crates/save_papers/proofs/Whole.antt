@@ -10,7 +10,7 @@ use Rattle.std.proofs.lemmas.Slice.Eq.{bytes_eq-Decides}
 use Rattle.save_papers.specs.declared.paper.PaperError.{PaperError}
 use Rattle.save_papers.specs.declared.paper.SavePaper.{SavePaper}
 use Rattle.save_papers.specs.Papers.{EntrySays, PaperSays, head, seal_of, noted_text, paper_entry_text, sealed_text, paper_view, IsPaper, IsPaperText, FitsEntry}
-use Rattle.save_papers.specs.Reading.{◌>>=◌, Gives, number_at, noted_at, after_head, paper_entries_at, body_of, unsealed, paper_of}
+use Rattle.save_papers.specs.Reading.{◌>>=◌, PaperGives, number_in_front, noted_at, after_head, paper_entries_at, body_of, unsealed, paper_of}
 use Rattle.save_papers.proofs.Fields.{IsBytes, IsBytes-take, IsBytes-drop, bind_some, guard_some, some_is, Takes, Takes-then, number_takes, number_again}
 use Rattle.save_papers.proofs.Entries.{entries_take, entries_again}
 
@@ -56,9 +56,9 @@ kind_again false rest = refl
 pub body_takes : (bytes : List ℕ) (p : PaperSays) → IsBytes bytes → body_of bytes ≡ Some p → IsPaper p × (bytes ≡ sealed_text p)
 unfolding body_of
 body_takes bytes p fits e =
-    let a = bind_some (after_head bytes) (λ rest. noted_at rest >>= λ kind. number_at w32 kind.1 >>= λ n. paper_entries_at n.0 n.1 >>= λ es. cond (eqb (length es.1) 0) (Some (record { noted = kind.0; entries = es.0 })) None) p e in
-    let b = bind_some (noted_at a.0) (λ kind. number_at w32 kind.1 >>= λ n. paper_entries_at n.0 n.1 >>= λ es. cond (eqb (length es.1) 0) (Some (record { noted = kind.0; entries = es.0 })) None) p a.2 in
-    let c = bind_some (number_at w32 b.0.1) (λ n. paper_entries_at n.0 n.1 >>= λ es. cond (eqb (length es.1) 0) (Some (record { noted = b.0.0; entries = es.0 })) None) p b.2 in
+    let a = bind_some (after_head bytes) (λ rest. noted_at rest >>= λ kind. number_in_front w32 kind.1 >>= λ n. paper_entries_at n.0 n.1 >>= λ es. cond (eqb (length es.1) 0) (Some (record { noted = kind.0; entries = es.0 })) None) p e in
+    let b = bind_some (noted_at a.0) (λ kind. number_in_front w32 kind.1 >>= λ n. paper_entries_at n.0 n.1 >>= λ es. cond (eqb (length es.1) 0) (Some (record { noted = kind.0; entries = es.0 })) None) p a.2 in
+    let c = bind_some (number_in_front w32 b.0.1) (λ n. paper_entries_at n.0 n.1 >>= λ es. cond (eqb (length es.1) 0) (Some (record { noted = b.0.0; entries = es.0 })) None) p b.2 in
     let d = bind_some (paper_entries_at c.0.0 c.0.1) (λ es. cond (eqb (length es.1) 0) (Some (record { noted = b.0.0; entries = es.0 })) None) p c.2 in
     let made : PaperSays = record { noted = b.0.0; entries = d.0.0 } in
     let g = held_some (eqb (length d.0.1) 0) made p d.2 in
@@ -137,6 +137,6 @@ unfolding paper_of
 paper_again p bytes fits text =
     ap paper_of text.whole ∙ rw (unsealed_again (sealed_text p) text.seal text.is text.len) (body_again p fits)
 
-pub is_found : (bytes : List ℕ) (r : Result SavePaper PaperError) → IsBytes bytes → Gives paper_view r (paper_of bytes) → IfOk r (λ p. IsPaper (paper_view p) × IsPaperText (paper_view p) bytes)
+pub is_found : (bytes : List ℕ) (r : Result SavePaper PaperError) → IsBytes bytes → PaperGives paper_view r (paper_of bytes) → IfOk r (λ p. IsPaper (paper_view p) × IsPaperText (paper_view p) bytes)
 is_found bytes (Ok p) fits given = paper_takes bytes (paper_view p) fits given
 is_found bytes (Err e) fits given = tt

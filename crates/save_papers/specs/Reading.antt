@@ -13,23 +13,23 @@ abbrev pub ◌>>=◌ : {A B : Type 0} → Option A → (A → Option B) → Opti
 None >>= f = None
 
 -- What a function returned, seen by view, is what reading gives, unless memory ran out.
-abbrev pub Fails : {Y : Type 0} → PaperError → Option Y → Type 0
-Fails Memory read = Unit {0}
-Fails Foreign read = read ≡ None
+abbrev pub PaperFails : {Y : Type 0} → PaperError → Option Y → Type 0
+PaperFails Memory read = Unit {0}
+PaperFails Foreign read = read ≡ None
 
-abbrev pub Gives : {X Y : Type 0} → (X → Y) → Result X PaperError → Option Y → Type 0
-Gives view (Ok x) read = read ≡ Some (view x)
-Gives view (Err e) read = Fails e read
+abbrev pub PaperGives : {X Y : Type 0} → (X → Y) → Result X PaperError → Option Y → Type 0
+PaperGives view (Ok x) read = read ≡ Some (view x)
+PaperGives view (Err e) read = PaperFails e read
 
 -- A field is a value and the bytes after it.
-abbrev pub number_at : Width → List ℕ → Option (ℕ × List ℕ)
-number_at w bytes =
+abbrev pub number_in_front : Width → List ℕ → Option (ℕ × List ℕ)
+number_in_front w bytes =
     if nat_lt (length bytes) (byte_len w) then None
     else Some (from_be_bytes w (take (byte_len w) bytes), drop (byte_len w) bytes)
 
 unfoldable pub string_at : List ℕ → Option (List ℕ × List ℕ)
 string_at bytes = do
-  n ← number_at w32 bytes
+  n ← number_in_front w32 bytes
   if nat_lt (length n.1) n.0 then None else Some (take n.0 n.1, drop n.0 n.1)
 
 abbrev pub sum_at : List ℕ → Option (List ℕ × List ℕ)
@@ -72,7 +72,7 @@ unfoldable pub body_of : List ℕ → Option PaperSays
 body_of bytes = do
   rest ← after_head bytes
   kind ← noted_at rest
-  n ← number_at w32 kind.1
+  n ← number_in_front w32 kind.1
   es ← paper_entries_at n.0 n.1
   if length es.1 == 0 then Some (record { noted = kind.0; entries = es.0 }) else None
 

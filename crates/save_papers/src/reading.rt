@@ -3,7 +3,8 @@
 ghost use Rattle.std.specs.Prelude.{◌≡◌, length, IfOk, Some};
 ghost use Rattle.std.specs.Int.{w32};
 ghost use Rattle.save_papers.specs.Papers.{PaperSays, IsPaper, IsPaperText, entry_view, entry_views, paper_view};
-ghost use Rattle.save_papers.specs.Reading.{Gives, after_head, noted_at, number_at, string_at, sum_at, flagged_sum_at};
+ghost use Rattle.save_papers.specs.Reading.{PaperGives, after_head, noted_at, number_in_front, string_at, sum_at};
+ghost use Rattle.save_papers.specs.Reading.{flagged_sum_at};
 ghost use Rattle.save_papers.specs.Reading.{paper_entry_at, paper_entries_at, body_of, unsealed, paper_of};
 
 use crate::paper::{PaperEntry, PaperError, SavePaper};
@@ -15,7 +16,7 @@ use std::alloc::Global;
 const SUM: usize = 32;
 
 fn number_of(bytes: &[u8]) -> Result<(u32, &[u8]), PaperError>
-    ensures { Gives (λ x. (x.0, x.1.now)) result (number_at w32 bytes.now) }
+    ensures { PaperGives (λ x. (x.0, x.1.now)) result (number_in_front w32 bytes.now) }
 {
     if bytes.len() < 4 {
         return Err(PaperError::Foreign);
@@ -27,7 +28,7 @@ fn number_of(bytes: &[u8]) -> Result<(u32, &[u8]), PaperError>
 
 #[tactic(auto, unfolding(crate::specs::Reading::string_at))]
 fn string_of(alloc: Global, bytes: &[u8]) -> Result<(Vec<u8>, &[u8]), PaperError>
-    ensures { Gives (λ x. (x.0.items, x.1.now)) result (string_at bytes.now) }
+    ensures { PaperGives (λ x. (x.0.items, x.1.now)) result (string_at bytes.now) }
 {
     let (len, rest) = number_of(bytes)?;
     let len = len as usize;
@@ -39,7 +40,7 @@ fn string_of(alloc: Global, bytes: &[u8]) -> Result<(Vec<u8>, &[u8]), PaperError
 }
 
 fn sum_in(bytes: &[u8]) -> Result<(Sum, &[u8]), PaperError>
-    ensures { Gives (λ x. (x.0, x.1.now)) result (sum_at bytes.now) }
+    ensures { PaperGives (λ x. (x.0, x.1.now)) result (sum_at bytes.now) }
 {
     if bytes.len() < SUM {
         return Err(PaperError::Foreign);
@@ -52,7 +53,7 @@ fn sum_in(bytes: &[u8]) -> Result<(Sum, &[u8]), PaperError>
 
 #[tactic(auto, unfolding(crate::specs::Reading::flagged_sum_at))]
 fn flagged_sum_of(bytes: &[u8]) -> Result<(Option<Sum>, &[u8]), PaperError>
-    ensures { Gives (λ x. (x.0, x.1.now)) result (flagged_sum_at bytes.now) }
+    ensures { PaperGives (λ x. (x.0, x.1.now)) result (flagged_sum_at bytes.now) }
 {
     match bytes {
         [] => Err(PaperError::Foreign),
@@ -67,7 +68,7 @@ fn flagged_sum_of(bytes: &[u8]) -> Result<(Option<Sum>, &[u8]), PaperError>
 
 #[tactic(auto, unfolding(crate::specs::Reading::paper_entry_at))]
 fn entry_of(alloc: Global, bytes: &[u8]) -> Result<(PaperEntry, &[u8]), PaperError>
-    ensures { Gives (λ x. (entry_view x.0, x.1.now)) result (paper_entry_at bytes.now) }
+    ensures { PaperGives (λ x. (entry_view x.0, x.1.now)) result (paper_entry_at bytes.now) }
 {
     let (name, rest) = string_of(alloc, bytes)?;
     let (beside, rest) = string_of(alloc, rest)?;
@@ -87,7 +88,7 @@ fn entries_of(
     count: u32,
     bytes: &[u8],
 ) -> Result<(Vec<PaperEntry>, &[u8]), PaperError>
-    ensures { Gives (λ x. (entry_views x.0.items, x.1.now)) result (paper_entries_at count bytes.now) }
+    ensures { PaperGives (λ x. (entry_views x.0.items, x.1.now)) result (paper_entries_at count bytes.now) }
 {
     let mut entries = Vec::new(alloc);
     let mut rest = bytes;
@@ -100,7 +101,7 @@ fn entries_of(
 }
 
 fn kind_of(bytes: &[u8]) -> Result<(bool, &[u8]), PaperError>
-    ensures { Gives (λ x. (x.0, x.1.now)) result (noted_at bytes.now) }
+    ensures { PaperGives (λ x. (x.0, x.1.now)) result (noted_at bytes.now) }
 {
     match bytes {
         [] => Err(PaperError::Foreign),
@@ -111,7 +112,7 @@ fn kind_of(bytes: &[u8]) -> Result<(bool, &[u8]), PaperError>
 }
 
 fn behind_head(bytes: &[u8]) -> Result<&[u8], PaperError>
-    ensures { Gives (λ x. x.now) result (after_head bytes.now) }
+    ensures { PaperGives (λ x. x.now) result (after_head bytes.now) }
 {
     match bytes.strip_prefix(head()) {
         Some(rest) => Ok(rest),
@@ -121,7 +122,7 @@ fn behind_head(bytes: &[u8]) -> Result<&[u8], PaperError>
 
 #[tactic(auto, unfolding(crate::specs::Reading::body_of))]
 fn paper_in(alloc: Global, body: &[u8]) -> Result<SavePaper, PaperError>
-    ensures { Gives paper_view result (body_of body.now) }
+    ensures { PaperGives paper_view result (body_of body.now) }
 {
     let rest = behind_head(body)?;
     let (noted, rest) = kind_of(rest)?;
@@ -135,7 +136,7 @@ fn paper_in(alloc: Global, body: &[u8]) -> Result<SavePaper, PaperError>
 
 #[tactic(auto, unfolding(crate::specs::Reading::unsealed))]
 fn unseal(bytes: &[u8]) -> Result<&[u8], PaperError>
-    ensures { Gives (λ x. x.now) result (unsealed bytes.now) }
+    ensures { PaperGives (λ x. x.now) result (unsealed bytes.now) }
 {
     if bytes.len() < SUM {
         return Err(PaperError::Foreign);
@@ -149,7 +150,7 @@ fn unseal(bytes: &[u8]) -> Result<&[u8], PaperError>
 
 #[tactic(auto, unfolding(crate::specs::Reading::paper_of))]
 fn whole(alloc: Global, bytes: &[u8]) -> Result<SavePaper, PaperError>
-    ensures { Gives paper_view result (paper_of bytes.now) }
+    ensures { PaperGives paper_view result (paper_of bytes.now) }
 {
     let body = unseal(bytes)?;
     paper_in(alloc, body)
@@ -164,7 +165,7 @@ pub fn read(alloc: Global, bytes: &[u8]) -> Result<SavePaper, PaperError>
     ensures found { IfOk result (λ paper. IsPaper (paper_view paper) × IsPaperText (paper_view paper) bytes.now) }
     // What is spelled so is read, unless memory runs out.
     ensures only { (says : PaperSays) → IsPaper says → IsPaperText says bytes.now
-        → Gives paper_view result (Some says) }
+        → PaperGives paper_view result (Some says) }
 {
     whole(alloc, bytes)
 }

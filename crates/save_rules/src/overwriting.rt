@@ -14,6 +14,8 @@ pub enum Overwritten {
     Source { file: usize },
     /// What tells of a save that was cut off.
     Save,
+    /// A journal, or what tells of its conversation's beginning or end.
+    Talk,
     /// A table, by its ending.
     Table,
     /// An index, by its ending.
@@ -22,11 +24,11 @@ pub enum Overwritten {
     Commands,
 }
 
-/// The last four bytes of a name, or all of a shorter one.
-fn last_four(name: &[u8]) -> &[u8]
-    ensures { result.now ≡ drop (length name.now - 4) name.now }
+/// The last bytes of a name, so many, or all of a shorter one.
+fn last_of(name: &[u8], count: usize) -> &[u8]
+    ensures { result.now ≡ drop (length name.now - count) name.now }
 {
-    &name[name.len().saturating_sub(4)..]
+    &name[name.len().saturating_sub(count)..]
 }
 
 /// Whether a name is another one in any case of letters.
@@ -36,11 +38,18 @@ fn is_alike(name: &[u8], other: &[u8]) -> bool
     name.eq_ignore_ascii_case(other)
 }
 
-/// Whether a name ends with four bytes, in any case of letters.
+/// Whether a name ends with these bytes, in any case of letters.
 fn ends_in(name: &str, ending: &str) -> bool
     ensures { result ≡ spec.ends_in name.now ending.now }
 {
-    is_alike(last_four(name.as_bytes()), ending.as_bytes())
+    is_alike(last_of(name.as_bytes(), ending.len()), ending.as_bytes())
+}
+
+/// Whether a file of this name tells of a conversation's beginning or end.
+fn tells_of_talk(name: &str) -> bool
+    ensures { result ≡ spec.tells_of_talk name.now }
+{
+    ends_in(name, ".begun") || ends_in(name, ".done")
 }
 
 /// What a file of this name is by its ending.
@@ -67,13 +76,17 @@ fn begins_with(name: &[u8], front: &[u8]) -> bool
     &name[..front.len().min(name.len())] == front
 }
 
-/// What a file of this name is, where the files that tell of a save have names that begin with `paper`.
+/// What a file of this name is, where the files that tell of a save have names that begin with `paper`, and where a
+/// conversation has been `recorded` beside a file of this name or hasn't.
 #[tactic(auto, unfolding(crate::specs::Overwriting::by_name))]
-fn by_name(name: &str, paper: &str) -> Option<Overwritten>
-    ensures { result ≡ spec.by_name name.now paper.now }
+fn by_name(name: &str, paper: &str, recorded: bool) -> Option<Overwritten>
+    ensures { result ≡ spec.by_name name.now paper.now recorded }
 {
     if begins_with(name.as_bytes(), paper.as_bytes()) {
         return Some(Overwritten::Save);
+    }
+    if recorded || tells_of_talk(name) {
+        return Some(Overwritten::Talk);
     }
     by_ending(name)
 }
@@ -93,17 +106,24 @@ fn first_written(out: &[u8], names: &[&str]) -> Option<usize>
 }
 
 /// What a code file of this name would overwrite, if anything: the declaration file, a command file, or a file that its
-/// name tells of. The files that tell of a save have names that begin with `paper`.
+/// name tells of. The files that tell of a save have names that begin with `paper`; where a conversation has been
+/// `recorded` beside a file of this name, that file is its journal.
 #[tactic(auto, unfolding(crate::specs::Overwriting::overwritten_by))]
-pub fn overwritten_by(out: &str, decl: &str, sources: &[&str], paper: &str) -> Option<Overwritten>
+pub fn overwritten_by(
+    out: &str,
+    decl: &str,
+    sources: &[&str],
+    paper: &str,
+    recorded: bool,
+) -> Option<Overwritten>
     ensures { result ≡ spec.overwritten_by out.now decl.now
-        (position (λ name. bytes_eq name.now out.now) sources.now) paper.now }
+        (position (λ name. bytes_eq name.now out.now) sources.now) paper.now recorded }
 {
     if is_named(decl.as_bytes(), out.as_bytes()) {
         return Some(Overwritten::Declarations);
     }
     match first_written(out.as_bytes(), sources) {
         Some(file) => Some(Overwritten::Source { file }),
-        None => by_name(out, paper),
+        None => by_name(out, paper, recorded),
     }
 }

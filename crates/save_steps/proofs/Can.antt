@@ -7,7 +7,7 @@ use Rattle.std.proofs.lemmas.Slice.Eq.{bytes_eq-Decides}
 use Rattle.save_steps.specs.declared.steps.Paper.TheVariants.{Absent, Plan, Note}
 use Rattle.save_steps.specs.declared.steps.Step.{Step}
 use Rattle.save_steps.specs.declared.steps.Step.TheVariants.{WritePlan, Make, Sync, WriteNote, Place, Unmake, RemovePaper, RemoveDraft}
-use Rattle.save_steps.specs.Folders.{Files, Stands, Renewal, AreApart, Same, IsPut, IsRenamed, IsPlacing, Did, DidAll}
+use Rattle.save_steps.specs.Folders.{Files, FolderStands, Renewal, NamesAreApart, Same, IsPut, IsRenamed, IsPlacing, Did, DidAll}
 use Rattle.save_steps.specs.Steps.{for_each, make_steps, places, unmakes, plan_steps, place_steps, save_steps, back_steps, on_steps, without_steps}
 use Rattle.save_steps.proofs.Runs.{all_and}
 
@@ -55,8 +55,8 @@ placing : (f : Files) (c : Renewal) → c.beside ≢ c.name → (found : Option 
 placing f c ne None = (f, λ n. refl)
 placing f c ne (Some bytes) = (put (put f c.name (f c.beside)) c.beside None, renamed_is f c.beside c.name ne)
 
-module _ (cs : List Renewal) (apart : AreApart cs) where
-  can_do : (x : Step) → IsWithin (length cs) x → (s : Stands) → (t : Stands) × Did cs x s t
+module _ (cs : List Renewal) (apart : NamesAreApart cs) where
+  can_do : (x : Step) → IsWithin (length cs) x → (s : FolderStands) → (t : FolderStands) × Did cs x s t
   can_do WritePlan h s = (record { paper = Plan; draft = false; file = s.file }, (refl, refl, λ n. refl))
   can_do WriteNote h s = (record { paper = Note; draft = false; file = s.file }, (refl, refl, λ n. refl))
   can_do Sync h s = (s, ((refl, refl), λ n. refl))
@@ -77,7 +77,7 @@ module _ (cs : List Renewal) (apart : AreApart cs) where
       let g = placing s.file c.0 (λ e. apart.crossed k k c.0 c.0 c.1 c.1 (sym e)) (s.file c.0.beside) in
       (record { paper = s.paper; draft = s.draft; file = g.0 }, ((refl, refl), (c.0, c.1, g.1)))
 
-  pub can_all : (xs : List Step) → AllByRecursion (IsWithin (length cs)) xs → (s : Stands) → (t : Stands) × DidAll cs xs s t
+  pub can_all : (xs : List Step) → AllByRecursion (IsWithin (length cs)) xs → (s : FolderStands) → (t : FolderStands) × DidAll cs xs s t
   can_all [] h s = (s, refl)
   can_all (x ∷ xs) (here, h) s =
       let first = can_do x here s in

@@ -7,7 +7,7 @@ use Rattle.std.specs.Option.{option_map, option_eq}
 use Rattle.save_steps.specs.declared.slots.Slot.{Slot}
 use Rattle.save_steps.specs.declared.slots.Slot.TheVariants.{Waiting, Placed, Foreign}
 use Rattle.save_steps.specs.Finishing.{is_foreign, same_sum, slot_of}
-use Rattle.save_steps.specs.Folders.{Stands, Renewal}
+use Rattle.save_steps.specs.Folders.{FolderStands, Renewal}
 use Rattle.save_steps.specs.Points.{slot_now, IsPlaced}
 
 same_bytes : (s : List ℕ) → bytes_eq s s ≡ true

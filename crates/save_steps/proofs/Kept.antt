@@ -11,57 +11,57 @@ use Rattle.save_steps.specs.declared.steps.Paper.TheVariants.{Absent, Plan, Note
 use Rattle.save_steps.specs.declared.steps.Step.{Step}
 use Rattle.save_steps.specs.declared.steps.Step.TheVariants.{WritePlan, Make, Sync, WriteNote, Place, Unmake, RemovePaper, RemoveDraft}
 use Rattle.save_steps.specs.Finishing.{finish_of, is_foreign}
-use Rattle.save_steps.specs.Folders.{Files, Stands, Renewal, AreApart, Same, IsPut, IsRenamed, IsPlacing, Did, DidAll, MayLeave, StopsAt}
+use Rattle.save_steps.specs.Folders.{Files, FolderStands, Renewal, NamesAreApart, Same, IsPut, IsRenamed, IsPlacing, Did, DidAll, MayLeave, StopsAt}
 use Rattle.save_steps.specs.Points.{IsNoNew, IsElse, IsReady, IsAllOld, IsPlaced, IsAllNew, slot_now, next_steps, StopsAgain, NextEnds, IsAllOrNothing}
 use Rattle.save_steps.specs.Steps.{for_each, make_steps, places, unmakes, plan_steps, place_steps, save_steps, back_steps, on_steps, without_steps}
 use Rattle.save_steps.proofs.Runs.{did_cut, stops_cut, KeepsWhole, Keeps, all_and, all_each, did_keeps, stops_keeps}
 use Rattle.save_steps.proofs.Judged.{waits, is_placed, none_foreign}
 
 -- a plan stands, and each file but the new ones is as it was
-pub record IsPlanned (cs : List Renewal) (start now : Stands) : Type 0 where
+pub record IsPlanned (cs : List Renewal) (start now : FolderStands) : Type 0 where
   pub paper : now.paper ≡ Plan
   pub others : (n : List ℕ) → IsNoNew cs n → now.file n ≡ start.file n
 
 -- the file is as it was, and its new file stands beside it
-abbrev pub IsWaiting : Stands → Renewal → Type 0
+abbrev pub IsWaiting : FolderStands → Renewal → Type 0
 IsWaiting now c = (now.file c.name ≡ c.old) × (now.file c.beside ≡ Some c.new)
 
 -- a note stands, each file is as it was or new, and each other file is as it was
-pub record IsNoted (cs : List Renewal) (start now : Stands) : Type 0 where
+pub record IsNoted (cs : List Renewal) (start now : FolderStands) : Type 0 where
   pub paper : now.paper ≡ Note
   pub each : (k : ℕ) (c : Renewal) → slice_get cs k ≡ Some c → IsWaiting now c ⊎ IsPlaced now c
   pub others : (n : List ℕ) → IsElse cs n → now.file n ≡ start.file n
 
 -- before the note, and behind it
-abbrev pub IsBefore : List Renewal → Stands → Stands → Type 0
+abbrev pub IsBefore : List Renewal → FolderStands → FolderStands → Type 0
 IsBefore cs start now = IsAllOld cs start now ⊎ IsPlanned cs start now
 
-abbrev pub IsBehind : List Renewal → Stands → Stands → Type 0
+abbrev pub IsBehind : List Renewal → FolderStands → FolderStands → Type 0
 IsBehind cs start now = IsNoted cs start now ⊎ IsAllNew cs start now
 
 -- the new files of the first n changes hold this
-abbrev pub HoldBeside : List Renewal → (Renewal → Option (List ℕ)) → ℕ → Stands → Type 0
+abbrev pub HoldBeside : List Renewal → (Renewal → Option (List ℕ)) → ℕ → FolderStands → Type 0
 HoldBeside cs found n now =
     (k : ℕ) (c : Renewal) → k < n → slice_get cs k ≡ Some c → now.file c.beside ≡ found c
 
 -- the first n changes are in place
-abbrev pub ArePlaced : List Renewal → ℕ → Stands → Type 0
+abbrev pub ArePlaced : List Renewal → ℕ → FolderStands → Type 0
 ArePlaced cs n now = (k : ℕ) (c : Renewal) → k < n → slice_get cs k ≡ Some c → IsPlaced now c
 
-module _ (cs : List Renewal) (start : Stands) where
+module _ (cs : List Renewal) (start : FolderStands) where
   -- ---- where no file changes
 
-  pub old_same : (s t : Stands) → IsAllOld cs start s → t.paper ≡ s.paper → Same s.file t.file → IsAllOld cs start t
+  pub old_same : (s t : FolderStands) → IsAllOld cs start s → t.paper ≡ s.paper → Same s.file t.file → IsAllOld cs start t
   old_same s t p e same = record {
     paper = e ∙ p.paper;
     free = λ k c at. same c.beside ∙ p.free k c at;
     others = λ n free. same n ∙ p.others n free;
   }
 
-  pub planned_same : (s t : Stands) → IsPlanned cs start s → t.paper ≡ s.paper → Same s.file t.file → IsPlanned cs start t
+  pub planned_same : (s t : FolderStands) → IsPlanned cs start s → t.paper ≡ s.paper → Same s.file t.file → IsPlanned cs start t
   planned_same s t p e same = record { paper = e ∙ p.paper; others = λ n free. same n ∙ p.others n free }
 
-  pub noted_same : (s t : Stands) → IsNoted cs start s → t.paper ≡ s.paper → Same s.file t.file → IsNoted cs start t
+  pub noted_same : (s t : FolderStands) → IsNoted cs start s → t.paper ≡ s.paper → Same s.file t.file → IsNoted cs start t
   noted_same s t p e same = record {
     paper = e ∙ p.paper;
     each = λ k c at. elim (p.each k c at) [
@@ -71,7 +71,7 @@ module _ (cs : List Renewal) (start : Stands) where
     others = λ n free. same n ∙ p.others n free;
   }
 
-  pub new_same : (s t : Stands) → IsAllNew cs start s → t.paper ≡ s.paper → Same s.file t.file → IsAllNew cs start t
+  pub new_same : (s t : FolderStands) → IsAllNew cs start s → t.paper ≡ s.paper → Same s.file t.file → IsAllNew cs start t
   new_same s t p e same = record {
     paper = e ∙ p.paper;
     each = λ k c at. (same c.name ∙ (p.each k c at).0, same c.beside ∙ (p.each k c at).1);
@@ -80,7 +80,7 @@ module _ (cs : List Renewal) (start : Stands) where
 
   -- ---- new files come and go while a plan stands
 
-  pub planned_put : (s t : Stands) (found : Option (List ℕ)) (k : ℕ) (c : Renewal) → IsPlanned cs start s
+  pub planned_put : (s t : FolderStands) (found : Option (List ℕ)) (k : ℕ) (c : Renewal) → IsPlanned cs start s
       → t.paper ≡ s.paper → slice_get cs k ≡ Some c → IsPut s.file c.beside found t.file → IsPlanned cs start t
   planned_put s t found k c p e at put = record {
     paper = e ∙ p.paper;
@@ -120,9 +120,9 @@ module _ (cs : List Renewal) (start : Stands) where
   sync_keeps_noted s t p (inl (paper, same)) = noted_same s t p paper same
   sync_keeps_noted s t p (inr (papers, same)) = noted_same s t p papers.0 same
 
-  module _ (apart : AreApart cs) where
+  module _ (apart : NamesAreApart cs) where
     -- one more new file holds it
-    pub one_more : (found : Renewal → Option (List ℕ)) (n : ℕ) (s t : Stands) (b : Renewal) → HoldBeside cs found n s
+    pub one_more : (found : Renewal → Option (List ℕ)) (n : ℕ) (s t : FolderStands) (b : Renewal) → HoldBeside cs found n s
         → slice_get cs n ≡ Some b → IsPut s.file b.beside (found b) t.file → HoldBeside cs found (suc n) t
     one_more found n s t b h at put k c below here = elim (cases_eq k n) [
       | inl e ↦
@@ -131,7 +131,7 @@ module _ (cs : List Renewal) (start : Stands) where
       | inr ne ↦ put.others c.beside (apart.besides k n c b here at ne) ∙ h k c (omega arith) here
     ]
 
-    pub all_made : (n : ℕ) (s t : Stands) → DidAll cs (make_steps n) s t → HoldBeside cs (λ c. Some c.new) n t
+    pub all_made : (n : ℕ) (s t : FolderStands) → DidAll cs (make_steps n) s t → HoldBeside cs (λ c. Some c.new) n t
     all_made zero s t h = λ k c below at. absurd (omega arith)
     all_made (suc n) s t h =
         let cut = did_cut cs (make_steps n) (Make n ∷ []) s t h in
@@ -140,7 +140,7 @@ module _ (cs : List Renewal) (start : Stands) where
         one_more (λ c. Some c.new) n cut.0 last.0 last.1.1.0 (all_made n s cut.0 cut.1) last.1.1.1 last.1.1.2 in
         subst (HoldBeside cs (λ c. Some c.new) (suc n)) (sym last.2) more
 
-    pub all_unmade : (n : ℕ) (s t : Stands) → DidAll cs (unmakes n) s t → HoldBeside cs (λ _. None) n t
+    pub all_unmade : (n : ℕ) (s t : FolderStands) → DidAll cs (unmakes n) s t → HoldBeside cs (λ _. None) n t
     all_unmade zero s t h = λ k c below at. absurd (omega arith)
     all_unmade (suc n) s t h =
         let cut = did_cut cs (unmakes n) (Unmake n ∷ []) s t h in
@@ -151,7 +151,7 @@ module _ (cs : List Renewal) (start : Stands) where
 
     -- ---- a new file takes its place
 
-    module _ (s t : Stands) (k : ℕ) (c : Renewal) (noted : IsNoted cs start s) (at : slice_get cs k ≡ Some c)
+    module _ (s t : FolderStands) (k : ℕ) (c : Renewal) (noted : IsNoted cs start s) (at : slice_get cs k ≡ Some c)
         (placing : IsPlacing s.file c t.file) where
       -- the new file stands, and is renamed, or it is in place already
       how : (IsWaiting s c × IsRenamed s.file c.beside c.name t.file) ⊎ (IsPlaced s c × Same s.file t.file)
@@ -212,11 +212,11 @@ module _ (cs : List Renewal) (start : Stands) where
     place_keeps k s t p (inl (paper, same)) = noted_same s t p paper same
     place_keeps k s t p (inr (papers, (c, at, placing))) = place_noted s t k c p at placing papers.0
 
-    pub places_keep : (n : ℕ) (s t : Stands) → IsNoted cs start s → DidAll cs (places n) s t → IsNoted cs start t
+    pub places_keep : (n : ℕ) (s t : FolderStands) → IsNoted cs start s → DidAll cs (places n) s t → IsNoted cs start t
     places_keep n s t p h = did_keeps cs (IsNoted cs start) (places n) s t
         (all_each (KeepsWhole cs (IsNoted cs start)) Place n (λ k a b q did. place_keeps k a b q (inr did))) p h
 
-    pub all_placed : (n : ℕ) (s t : Stands) → IsNoted cs start s → DidAll cs (places n) s t → ArePlaced cs n t
+    pub all_placed : (n : ℕ) (s t : FolderStands) → IsNoted cs start s → DidAll cs (places n) s t → ArePlaced cs n t
     all_placed zero s t p h = λ k c below at. absurd (omega arith)
     all_placed (suc n) s t p h =
         let cut = did_cut cs (places n) (Place n ∷ []) s t h in

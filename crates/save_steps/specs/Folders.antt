@@ -12,7 +12,7 @@ abbrev pub Files : Type 0
 Files = List ℕ → Option (List ℕ)
 
 -- the folder: which paper tells of a save, whether a draft of one stands, and all other files
-pub record Stands : Type 0 where
+pub record FolderStands : Type 0 where
   pub paper : Paper
   pub draft : Bool
   pub file : Files
@@ -25,7 +25,7 @@ pub record Renewal : Type 0 where
   pub new : List ℕ
 
 -- no two of these names are one
-pub record AreApart (changes : List Renewal) : Type 0 where
+pub record NamesAreApart (changes : List Renewal) : Type 0 where
   pub names : (j k : ℕ) (a b : Renewal) → slice_get changes j ≡ Some a → slice_get changes k ≡ Some b → j ≢ k
       → a.name ≢ b.name
   pub besides : (j k : ℕ) (a b : Renewal) → slice_get changes j ≡ Some a → slice_get changes k ≡ Some b → j ≢ k
@@ -56,7 +56,7 @@ OfRenewal changes k P = (c : Renewal) × (slice_get changes k ≡ Some c) × P c
 -- ---- what a step does
 
 -- paper and draft stay
-abbrev pub KeepsPapers : Stands → Stands → Type 0
+abbrev pub KeepsPapers : FolderStands → FolderStands → Type 0
 KeepsPapers s t = (t.paper ≡ s.paper) × (t.draft ≡ s.draft)
 
 -- a new file, if it stands, takes the file's place
@@ -65,7 +65,7 @@ IsPlacing before c after =
     MatchOption (before c.beside) (Same before after) (λ _. IsRenamed before c.beside c.name after)
 
 -- the whole step leads from the one folder to the other
-abbrev pub Did : List Renewal → Step → Stands → Stands → Type 0
+abbrev pub Did : List Renewal → Step → FolderStands → FolderStands → Type 0
 Did changes WritePlan s t = (t.paper ≡ Plan) × (t.draft ≡ false) × Same s.file t.file
 Did changes (Make k) s t =
     KeepsPapers s t × OfRenewal changes k (λ c. IsPut s.file c.beside (Some c.new) t.file)
@@ -77,24 +77,24 @@ Did changes RemoveDraft s t = (t.paper ≡ s.paper) × (t.draft ≡ false) × Sa
 Did changes RemovePaper s t = (t.paper ≡ Absent) × (t.draft ≡ s.draft) × Same s.file t.file
 
 -- A stop before the step's last call leaves this. A new file may stand in part, and a draft may stand.
-abbrev pub DidInPart : List Renewal → Step → Stands → Stands → Type 0
+abbrev pub DidInPart : List Renewal → Step → FolderStands → FolderStands → Type 0
 DidInPart changes (Make k) s t = (t.paper ≡ s.paper) × (Same s.file t.file ⊎
     OfRenewal changes k (λ c. (part : List ℕ) × IsPut s.file c.beside (Some part) t.file))
 DidInPart changes step s t = (t.paper ≡ s.paper) × Same s.file t.file
 
 -- a stop at any moment of the step leaves this
-abbrev pub MayLeave : List Renewal → Step → Stands → Stands → Type 0
+abbrev pub MayLeave : List Renewal → Step → FolderStands → FolderStands → Type 0
 MayLeave changes step s t = DidInPart changes step s t ⊎ Did changes step s t
 
 -- ---- what steps in a row do
 
 -- all of them
-abbrev pub DidAll : List Renewal → List Step → Stands → Stands → Type 0
+abbrev pub DidAll : List Renewal → List Step → FolderStands → FolderStands → Type 0
 DidAll changes [] s t = t ≡ s
-DidAll changes (step ∷ steps) s t = (m : Stands) × Did changes step s m × DidAll changes steps m t
+DidAll changes (step ∷ steps) s t = (m : FolderStands) × Did changes step s m × DidAll changes steps m t
 
 -- a stop at any moment leaves this: before the first, within one, or behind the last
-abbrev pub StopsAt : List Renewal → List Step → Stands → Stands → Type 0
+abbrev pub StopsAt : List Renewal → List Step → FolderStands → FolderStands → Type 0
 StopsAt changes [] s t = t ≡ s
 StopsAt changes (step ∷ steps) s t =
-    MayLeave changes step s t ⊎ ((m : Stands) × Did changes step s m × StopsAt changes steps m t)
+    MayLeave changes step s t ⊎ ((m : FolderStands) × Did changes step s m × StopsAt changes steps m t)

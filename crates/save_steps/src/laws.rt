@@ -1,7 +1,7 @@
 //! What follows of the steps. The function does nothing: its contract is the law.
 
 ghost use Rattle.std.specs.Prelude.{ℕ, List};
-ghost use Rattle.save_steps.specs.Folders.{AreApart, Renewal, Stands};
+ghost use Rattle.save_steps.specs.Folders.{NamesAreApart, Renewal, FolderStands};
 ghost use Rattle.save_steps.specs.Points.{IsAllOrNothing, IsReady};
 
 /// A save that is stopped at any moment is all or nothing: however often the commands behind it are stopped while they
@@ -9,6 +9,6 @@ ghost use Rattle.save_steps.specs.Points.{IsAllOrNothing, IsReady};
 /// left. All are new exactly where the note had taken the plan's place. No other file is ever touched. That is so
 /// for whatever sums tell files apart.
 pub fn a_save_is_all_or_nothing()
-    ensures { (sum : List ℕ → List ℕ) (changes : List Renewal) (start : Stands) → AreApart changes
+    ensures { (sum : List ℕ → List ℕ) (changes : List Renewal) (start : FolderStands) → NamesAreApart changes
         → IsReady changes start → IsAllOrNothing sum changes start }
 {}

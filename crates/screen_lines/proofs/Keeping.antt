@@ -6,7 +6,7 @@ use Rattle.std.proofs.lemmas.List.Elements.{All-set, All-get_or, All-append, All
 use Rattle.std.proofs.lemmas.Bool.Decides.{nat_tests}
 use Rattle.screen_lines.specs.declared.cursor.Cursor.{Cursor}
 use Rattle.screen_lines.specs.declared.cursor.Cursor.TheVariants.{BeforeFirst, At}
-use Rattle.screen_lines.specs.Roll.{Roll, blank_row, row_with, shown_byte, shown_at, scrolled, line, lines, blank_rows, blank_roll, rows_shown, without_end, is_blank_row, roll_cleared}
+use Rattle.screen_lines.specs.Roll.{Roll, blank_screen_row, row_with, shown_byte, shown_at, scrolled, line_sent, lines_sent, blank_rows, blank_roll, rows_shown, without_end, is_blank_row, roll_cleared}
 use Rattle.screen_lines.specs.Kept.{rows_sent, roll_with, AreLines, Keeps}
 use Rattle.screen_lines.specs.Shape.{Shows, IsRow}
 use Rattle.screen_lines.proofs.Sending.{length-blank_row, get_or-blank_row, rows_sent-append, AreLines-append, AreLines-nil}
@@ -14,10 +14,10 @@ use Rattle.screen_lines.proofs.Sending.{length-blank_row, get_or-blank_row, rows
 shown_byte-Shows : (byte : ℕ) → Shows (shown_byte byte)
 shown_byte-Shows byte = (grind (arith, nat_tests), λ is. grind (arith, nat_tests))
 
-pub IsRow-blank : IsRow blank_row
+pub IsRow-blank : IsRow blank_screen_row
 IsRow-blank =
-    let all : (i : ℕ) (d : ℕ) → i < length blank_row → Shows (get_or blank_row i d) =
-    λ i d h. let at : get_or blank_row i d ≡ 32 = get_or-blank_row i d (omega (arith, length-blank_row)) in
+    let all : (i : ℕ) (d : ℕ) → i < length blank_screen_row → Shows (get_or blank_screen_row i d) =
+    λ i d h. let at : get_or blank_screen_row i d ≡ 32 = get_or-blank_row i d (omega (arith, length-blank_row)) in
     (omega arith, λ is. absurd (omega arith)) in
     record { wide = length-blank_row; plain = all }
 
@@ -54,8 +54,8 @@ pub roll-show : (sent : List ℕ) (seen : List (List ℕ)) (cursor : Cursor) (ro
 roll-show sent seen cursor row column end text now count low is behind =
     let past = rows_sent sent in
     let inside : row < length seen = omega arith in
-    let at : get_or (past ++ seen) (length past + row) blank_row ≡ now =
-    get_or-append-add past seen row blank_row ∙ get_or_default seen row blank_row now inside ∙ sym is in
+    let at : get_or (past ++ seen) (length past + row) blank_screen_row ≡ now =
+    get_or-append-add past seen row blank_screen_row ∙ get_or_default seen row blank_screen_row now inside ∙ sym is in
     let off : length past + row - length past ≡ row = omega arith in
     let put : set (past ++ seen) (length past + row) (row_with column text now) ≡ past ++ set seen row (row_with column text now) =
     set-append_right past seen (length past) (length past + row) (row_with column text now) refl (omega arith) ∙ rw off refl in
@@ -74,8 +74,8 @@ sent_top seen top some is = drop_more seen 0 top some ∙ ap (λ t. t ∷ drop 1
 pub All-one : (row : List ℕ) → IsRow row → All IsRow (row ∷ [])
 All-one row is = All-cons IsRow row [] is (All-nil IsRow)
 
-line_alone : (sent now top : List ℕ) → now ≡ sent ++ line top → now ≡ sent ++ lines (top ∷ [])
-line_alone sent now top sends = sends ∙ ap (λ l. sent ++ l) (sym (append-nil (line top)))
+line_alone : (sent now top : List ℕ) → now ≡ sent ++ line_sent top → now ≡ sent ++ lines_sent (top ∷ [])
+line_alone sent now top sends = sends ∙ ap (λ l. sent ++ l) (sym (append-nil (line_sent top)))
 
 top_row : (sent : List ℕ) (seen : List (List ℕ)) (place : Cursor) (top : List ℕ) → Keeps sent seen place → top ≡ get_or seen 0 top → IsRow top
 top_row sent seen place top kept is =
@@ -83,24 +83,24 @@ top_row sent seen place top kept is =
     let here : IsRow (get_or seen 0 top) = All-get_or IsRow seen 0 top (omega arith) kept.rows in
     rw (← is) at here
 
-moved_up : (seen moved : List (List ℕ)) (blank : List ℕ) → length seen ≡ 25 → moved ≡ drop 1 seen ++ take 1 seen → blank ≡ blank_row →
-    set moved 24 blank ≡ drop 1 seen ++ blank_row ∷ []
-moved_up seen moved blank count moves shows = rw (moves, shows) (seen_scrolled seen blank_row count)
+moved_up : (seen moved : List (List ℕ)) (blank : List ℕ) → length seen ≡ 25 → moved ≡ drop 1 seen ++ take 1 seen → blank ≡ blank_screen_row →
+    set moved 24 blank ≡ drop 1 seen ++ blank_screen_row ∷ []
+moved_up seen moved blank count moves shows = rw (moves, shows) (seen_scrolled seen blank_screen_row count)
 
 same_split : (past seen rest : List (List ℕ)) (top : List ℕ) → seen ≡ top ∷ rest →
-    (past ++ top ∷ []) ++ (rest ++ blank_row ∷ []) ≡ (past ++ seen) ++ blank_row ∷ []
+    (past ++ top ∷ []) ++ (rest ++ blank_screen_row ∷ []) ≡ (past ++ seen) ++ blank_screen_row ∷ []
 same_split past seen rest top split = rw split (simp append_assoc)
 
 -- the top row sent, and a blank row below the others
 pub Keeps-scroll : (sent now : List ℕ) (seen moved : List (List ℕ)) (place : Cursor) (top blank : List ℕ) → Keeps sent seen place →
-    now ≡ sent ++ line top → moved ≡ drop 1 seen ++ take 1 seen → top ≡ get_or seen 0 top → blank ≡ blank_row → Keeps now (set moved 24 blank) place
+    now ≡ sent ++ line_sent top → moved ≡ drop 1 seen ++ take 1 seen → top ≡ get_or seen 0 top → blank ≡ blank_screen_row → Keeps now (set moved 24 blank) place
 Keeps-scroll sent now seen moved place top blank kept sends moves is shows =
     let count = kept.count in
     let row = top_row sent seen place top kept is in
     let up = moved_up seen moved blank kept.count moves shows in
-    let all : All IsRow (drop 1 seen ++ blank_row ∷ []) =
-    All-append IsRow (drop 1 seen) (blank_row ∷ []) (All-drop IsRow 1 seen kept.rows) (All-one blank_row IsRow-blank) in
-    let len : length (drop 1 seen ++ blank_row ∷ []) ≡ 25 = simp (length-append, length-drop) (omega arith) in
+    let all : All IsRow (drop 1 seen ++ blank_screen_row ∷ []) =
+    All-append IsRow (drop 1 seen) (blank_screen_row ∷ []) (All-drop IsRow 1 seen kept.rows) (All-one blank_screen_row IsRow-blank) in
+    let len : length (drop 1 seen ++ blank_screen_row ∷ []) ≡ 25 = simp (length-append, length-drop) (omega arith) in
     record {
       count = rw up len;
       rows = rw up all;
@@ -109,7 +109,7 @@ Keeps-scroll sent now seen moved place top blank kept sends moves is shows =
     }
 
 pub roll-scroll : (sent now : List ℕ) (seen moved : List (List ℕ)) (place : Cursor) (top blank : List ℕ) → Keeps sent seen place →
-    now ≡ sent ++ line top → moved ≡ drop 1 seen ++ take 1 seen → top ≡ get_or seen 0 top → blank ≡ blank_row →
+    now ≡ sent ++ line_sent top → moved ≡ drop 1 seen ++ take 1 seen → top ≡ get_or seen 0 top → blank ≡ blank_screen_row →
     roll_with now (set moved 24 blank) place ≡ scrolled (roll_with sent seen place)
 roll-scroll sent now seen moved place top blank kept sends moves is shows =
     let count = kept.count in
@@ -119,7 +119,7 @@ roll-scroll sent now seen moved place top blank kept sends moves is shows =
     let reads : rows_sent now ≡ past ++ top ∷ [] =
     ap rows_sent (line_alone sent now top sends) ∙ rows_sent-append sent (top ∷ []) kept.lines (All-one top row) in
     let split : seen ≡ top ∷ drop 1 seen = sent_top seen top (omega arith) is in
-    let all : rows_sent now ++ set moved 24 blank ≡ (past ++ seen) ++ blank_row ∷ [] =
+    let all : rows_sent now ++ set moved 24 blank ≡ (past ++ seen) ++ blank_screen_row ∷ [] =
     ap (λ r. r ++ set moved 24 blank) reads ∙ ap (λ r. (past ++ top ∷ []) ++ r) up
     ∙ same_split past seen (drop 1 seen) top split in
     let base : length (rows_sent now) ≡ length past + 1 = ap length reads ∙ length_push past top in
@@ -132,7 +132,7 @@ length-blank_rows = refl
 
 pub All-blank_rows : All IsRow blank_rows
 unfolding blank_rows
-All-blank_rows = All-replicate IsRow 25 blank_row IsRow-blank
+All-blank_rows = All-replicate IsRow 25 blank_screen_row IsRow-blank
 
 pub Keeps-blank : (sent : List ℕ) → AreLines sent → Keeps sent blank_rows BeforeFirst
 Keeps-blank sent are = record {
@@ -157,9 +157,9 @@ seen_blank count old now blank wide all =
     take_at now (drop (length now) old) count (sym same) ∙ blank
 
 pub Keeps-clear : (sent now : List ℕ) (seen left : List (List ℕ)) (place : Cursor) (n : ℕ) → Keeps sent seen place →
-    now ≡ sent ++ lines (take n seen) → left ≡ blank_rows → Keeps now left BeforeFirst
+    now ≡ sent ++ lines_sent (take n seen) → left ≡ blank_rows → Keeps now left BeforeFirst
 Keeps-clear sent now seen left place n kept sends blank =
-    rw (sends, blank) (Keeps-blank (sent ++ lines (take n seen)) (AreLines-append sent (take n seen) kept.lines (All-take IsRow n seen kept.rows)))
+    rw (sends, blank) (Keeps-blank (sent ++ lines_sent (take n seen)) (AreLines-append sent (take n seen) kept.lines (All-take IsRow n seen kept.rows)))
 
 rows_shown-with : (past seen : List (List ℕ)) (place : Cursor) →
     rows_shown (record { rows = past ++ seen; base = length past; cursor = place }) ≡ past ++ without_end is_blank_row seen
@@ -169,7 +169,7 @@ rows_shown-with past seen place =
     rw (front, back) refl
 
 pub roll-clear : (sent now : List ℕ) (seen left : List (List ℕ)) (place : Cursor) (n : ℕ) → Keeps sent seen place →
-    now ≡ sent ++ lines (take n seen) → left ≡ blank_rows → n ≡ length seen - suffix_len is_blank_row seen →
+    now ≡ sent ++ lines_sent (take n seen) → left ≡ blank_rows → n ≡ length seen - suffix_len is_blank_row seen →
     roll_with now left BeforeFirst ≡ roll_cleared (roll_with sent seen place)
 unfolding roll_cleared
 roll-clear sent now seen left place n kept sends blank used =

@@ -5,11 +5,11 @@ use Rattle.std.specs.List.{All, flat_map, suffix_len}
 use Rattle.std.proofs.lemmas.List.Elements.{All-take, All-map, All-weaker}
 use Rattle.std.proofs.lemmas.List.Sums.{prefix_len_stops, suffix_len_is}
 use Rattle.std.proofs.lemmas.List.{length-reverse, get_or-reverse, get_or-take}
-use Rattle.screen_lines.specs.declared.commands.Command.{Command}
-use Rattle.screen_lines.specs.Roll.{Roll, is_blank, without_end, line, lines, roll_cleared, roll_sent}
+use Rattle.screen_lines.specs.declared.commands.ScreenCommand.{ScreenCommand}
+use Rattle.screen_lines.specs.Roll.{Roll, is_blank, without_end, line_sent, lines_sent, roll_cleared, roll_sent}
 use Rattle.screen_lines.specs.State.{blank_screen}
-use Rattle.screen_lines.specs.Commands.{after, bytes_of}
-use Rattle.screen_lines.specs.Shape.{Shows, IsRow, IsWhole, IsLine, IsListing}
+use Rattle.screen_lines.specs.Commands.{screen_after, bytes_sent}
+use Rattle.screen_lines.specs.Shape.{Shows, IsRow, IsWhole, IsSentLine, IsListing}
 use Rattle.screen_lines.proofs.Stepping.{IsWhole-after, cleared-Steps}
 
 -- the byte before the part that is cut off stays
@@ -31,7 +31,7 @@ trimmed row =
     let none = suffix_len_is is_blank (take n row) n 0 (omega arith) (λ k low high. absurd (omega arith)) (λ some. last_shows row n 0 refl some) in
     none ∙ omega arith
 
-IsLine-without_end : (row : List ℕ) → IsRow row → IsLine (without_end is_blank row)
+IsLine-without_end : (row : List ℕ) → IsRow row → IsSentLine (without_end is_blank row)
 IsLine-without_end row is =
     let wide = is.wide in
     record {
@@ -40,9 +40,9 @@ IsLine-without_end row is =
       trimmed = trimmed row;
     }
 
-lines-texts : (rows : List (List ℕ)) → lines rows ≡ flat_map (λ text. text ++ 10 ∷ []) (map (without_end is_blank) rows)
+lines-texts : (rows : List (List ℕ)) → lines_sent rows ≡ flat_map (λ text. text ++ 10 ∷ []) (map (without_end is_blank) rows)
 lines-texts [] = refl
-lines-texts (row ∷ rows) = ap (λ l. line row ++ l) (lines-texts rows)
+lines-texts (row ∷ rows) = ap (λ l. line_sent row ++ l) (lines-texts rows)
 
 pub IsListing-sent : (roll : Roll) → IsWhole roll → IsListing (roll_sent roll)
 unfolding roll_sent roll_cleared
@@ -50,7 +50,7 @@ IsListing-sent roll whole =
     let end = roll_cleared roll in
     let rows = take end.base end.rows in
     let all : All IsRow rows = All-take IsRow end.base end.rows (cleared-Steps roll whole).whole.rows in
-    (map (without_end is_blank) rows, All-map IsLine (without_end is_blank) rows (All-weaker IsRow (λ row. IsLine (without_end is_blank row)) IsLine-without_end rows all), lines-texts rows)
+    (map (without_end is_blank) rows, All-map IsSentLine (without_end is_blank) rows (All-weaker IsRow (λ row. IsSentLine (without_end is_blank row)) IsLine-without_end rows all), lines-texts rows)
 
-pub IsListing-bytes_of : (commands : List Command) → IsListing (bytes_of commands)
-IsListing-bytes_of commands = IsListing-sent (after commands blank_screen).roll (IsWhole-after commands)
+pub IsListing-bytes_of : (commands : List ScreenCommand) → IsListing (bytes_sent commands)
+IsListing-bytes_of commands = IsListing-sent (screen_after commands blank_screen).roll (IsWhole-after commands)

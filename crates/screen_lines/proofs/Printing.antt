@@ -7,7 +7,7 @@ use Rattle.std.proofs.lemmas.Bool.{cases_lt}
 use Rattle.std.proofs.lemmas.Bool.Decides.{nat_tests}
 use Rattle.screen_lines.specs.declared.cursor.Cursor.{Cursor}
 use Rattle.screen_lines.specs.declared.cursor.Cursor.TheVariants.{BeforeFirst, At}
-use Rattle.screen_lines.specs.Roll.{Roll, blank_row, row_with, shown_byte, shown_at, next_line_from, next_line, byte_printed_from, text_printed}
+use Rattle.screen_lines.specs.Roll.{Roll, blank_screen_row, row_with, shown_byte, shown_at, next_line_from, on_next_line, byte_printed_from, text_printed}
 use Rattle.screen_lines.specs.Shape.{IsRow, IsWhole}
 use Rattle.screen_lines.proofs.Stepping.{shown_at-Steps}
 
@@ -51,10 +51,10 @@ shown_at-more : (row column byte : ℕ) (text : List ℕ) (roll : Roll) → IsWh
 shown_at-more row column byte text roll whole low fits =
     let seen = whole.seen in
     let at = roll.base + row in
-    let old = get_or roll.rows at blank_row in
-    let is : IsRow old = All-get_or IsRow roll.rows at blank_row (omega arith) whole.rows in
+    let old = get_or roll.rows at blank_screen_row in
+    let is : IsRow old = All-get_or IsRow roll.rows at blank_screen_row (omega arith) whole.rows in
     let new = row_with column (byte ∷ []) old in
-    let got = get_or-set_same roll.rows at new blank_row (omega arith) in
+    let got = get_or-set_same roll.rows at new blank_screen_row (omega arith) in
     let more = row_with-more column byte text old is.wide fits in
     let twice = set-set roll.rows at new (row_with column (byte ∷ text) old) in
     let places : min (column + 1 + length text) 80 ≡ min (column + length (byte ∷ text)) 80 = omega arith in
@@ -64,10 +64,10 @@ shown_at-nil : (row column : ℕ) (roll : Roll) → IsWhole roll → row < 25 �
 shown_at-nil row column roll whole low inside here =
     let seen = whole.seen in
     let at = roll.base + row in
-    let old = get_or roll.rows at blank_row in
-    let is : IsRow old = All-get_or IsRow roll.rows at blank_row (omega arith) whole.rows in
+    let old = get_or roll.rows at blank_screen_row in
+    let is : IsRow old = All-get_or IsRow roll.rows at blank_screen_row (omega arith) whole.rows in
     let same = row_with-nil column old is.wide inside in
-    let put = set-get_or roll.rows at blank_row in
+    let put = set-get_or roll.rows at blank_screen_row in
     let place : min (column + 0) 80 ≡ column = omega arith in
     rw (same, put, place, ← here) refl
 
@@ -117,27 +117,27 @@ next_row row column roll low =
     ]
 
 byte_wraps : (byte : ℕ) (roll : Roll) (row : ℕ) → row < 25 → roll.cursor ≡ At row 80 →
-    byte_printed_from roll.cursor byte roll ≡ byte_printed_from (next_line roll).cursor byte (next_line roll)
-unfolding next_line
+    byte_printed_from roll.cursor byte roll ≡ byte_printed_from (on_next_line roll).cursor byte (on_next_line roll)
+unfolding on_next_line
 byte_wraps byte roll row low here =
-    let there : (next_line roll).cursor ≡ At (min (row + 1) 24) 0 =
+    let there : (on_next_line roll).cursor ≡ At (min (row + 1) 24) 0 =
     ap (λ (place : Cursor). (next_line_from place roll).cursor) here ∙ next_row row 80 roll low in
-    ap (λ (place : Cursor). byte_printed_from place byte roll) here ∙ sym (byte_on_line byte (next_line roll) (min (row + 1) 24) there)
+    ap (λ (place : Cursor). byte_printed_from place byte roll) here ∙ sym (byte_on_line byte (on_next_line roll) (min (row + 1) 24) there)
 
 pub text_printed-wraps : (byte : ℕ) (text : List ℕ) (roll : Roll) (row : ℕ) → IsWhole roll → roll.cursor ≡ At row 80 →
-    text_printed (byte ∷ text) roll ≡ text_printed (byte ∷ text) (next_line roll)
+    text_printed (byte ∷ text) roll ≡ text_printed (byte ∷ text) (on_next_line roll)
 unfolding text_printed
 text_printed-wraps byte text roll row whole here =
     ap (text_printed text) (byte_wraps byte roll row (low_row roll row 80 whole here).0 here)
 
 byte_begins : (byte : ℕ) (roll : Roll) → roll.cursor ≡ BeforeFirst →
-    byte_printed_from roll.cursor byte roll ≡ byte_printed_from (next_line roll).cursor byte (next_line roll)
-unfolding next_line
+    byte_printed_from roll.cursor byte roll ≡ byte_printed_from (on_next_line roll).cursor byte (on_next_line roll)
+unfolding on_next_line
 byte_begins byte roll here =
-    let there : (next_line roll).cursor ≡ At 0 0 = ap (λ (place : Cursor). (next_line_from place roll).cursor) here in
-    ap (λ (place : Cursor). byte_printed_from place byte roll) here ∙ sym (byte_on_line byte (next_line roll) 0 there)
+    let there : (on_next_line roll).cursor ≡ At 0 0 = ap (λ (place : Cursor). (next_line_from place roll).cursor) here in
+    ap (λ (place : Cursor). byte_printed_from place byte roll) here ∙ sym (byte_on_line byte (on_next_line roll) 0 there)
 
 pub text_printed-begins : (byte : ℕ) (text : List ℕ) (roll : Roll) → roll.cursor ≡ BeforeFirst →
-    text_printed (byte ∷ text) roll ≡ text_printed (byte ∷ text) (next_line roll)
+    text_printed (byte ∷ text) roll ≡ text_printed (byte ∷ text) (on_next_line roll)
 unfolding text_printed
 text_printed-begins byte text roll here = ap (text_printed text) (byte_begins byte roll here)

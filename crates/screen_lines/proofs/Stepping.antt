@@ -8,11 +8,11 @@ use Rattle.std.proofs.lemmas.Bool.{false≢true}
 use borrow.Author.Tests.{ltb-true}
 use Rattle.screen_lines.specs.declared.cursor.Cursor.{Cursor}
 use Rattle.screen_lines.specs.declared.cursor.Cursor.TheVariants.{BeforeFirst, At}
-use Rattle.screen_lines.specs.declared.commands.Command.{Command}
-use Rattle.screen_lines.specs.declared.commands.Command.TheVariants.{NewLine, Print, Say, SayOn, Clear}
-use Rattle.screen_lines.specs.Roll.{Roll, blank_row, blank_rows, blank_roll, row_with, shown_at, scrolled, next_line_from, next_line, byte_printed_from, text_printed, text_said, text_said_on_from, text_said_on, rows_shown, without_end, is_blank_row, roll_cleared}
+use Rattle.screen_lines.specs.declared.commands.ScreenCommand.{ScreenCommand}
+use Rattle.screen_lines.specs.declared.commands.ScreenCommand.TheVariants.{NewLine, Print, Say, SayOn, Clear}
+use Rattle.screen_lines.specs.Roll.{Roll, blank_screen_row, blank_rows, blank_roll, row_with, shown_at, scrolled, next_line_from, on_next_line, byte_printed_from, text_printed, text_said, text_said_on_from, text_said_on, rows_shown, without_end, is_blank_row, roll_cleared}
 use Rattle.screen_lines.specs.State.{ScreenState, blank_screen}
-use Rattle.screen_lines.specs.Commands.{obeyed, after}
+use Rattle.screen_lines.specs.Commands.{obeyed, screen_after}
 use Rattle.screen_lines.specs.Shape.{IsRow, IsOnScreen, IsWhole, KeepsSent}
 use Rattle.screen_lines.proofs.Keeping.{IsRow-blank, IsRow-with, All-one, All-blank_rows, length-blank_rows}
 
@@ -61,11 +61,11 @@ scrolls roll row whole low =
     let seen = whole.seen in
     record {
       whole = record {
-        seen = length-append roll.rows (blank_row ∷ []) ∙ omega arith;
-        rows = All-append IsRow roll.rows (blank_row ∷ []) whole.rows (All-one blank_row IsRow-blank);
+        seen = length-append roll.rows (blank_screen_row ∷ []) ∙ omega arith;
+        rows = All-append IsRow roll.rows (blank_screen_row ∷ []) whole.rows (All-one blank_screen_row IsRow-blank);
         cursor = (low, omega arith);
       };
-      kept = record { more = omega arith; same = take-append-le roll.base roll.rows (blank_row ∷ []) (omega arith) };
+      kept = record { more = omega arith; same = take-append-le roll.base roll.rows (blank_screen_row ∷ []) (omega arith) };
     }
 
 next_line_from-Steps : (place : Cursor) (roll : Roll) → IsOnScreen place → IsWhole roll → Steps roll (next_line_from place roll)
@@ -75,15 +75,15 @@ next_line_from-Steps (At row column) roll inside whole =
     (λ is. moved roll (At (row + 1) 0) whole (ltb-true (row + 1) 25 is, omega arith))
     (λ _. scrolls roll row whole inside.0)
 
-pub next_line-Steps : (roll : Roll) → IsWhole roll → Steps roll (next_line roll)
-unfolding next_line
+pub next_line-Steps : (roll : Roll) → IsWhole roll → Steps roll (on_next_line roll)
+unfolding on_next_line
 next_line-Steps roll whole = next_line_from-Steps roll.cursor roll whole.cursor whole
 
 pub shown_at-Steps : (row column : ℕ) (text : List ℕ) (roll : Roll) → row < 25 → column ≤ 80 → IsWhole roll → Steps roll (shown_at row column text roll)
 shown_at-Steps row column text roll low inside whole =
     let seen = whole.seen in
-    let old = get_or roll.rows (roll.base + row) blank_row in
-    let is : IsRow old = All-get_or IsRow roll.rows (roll.base + row) blank_row (omega arith) whole.rows in
+    let old = get_or roll.rows (roll.base + row) blank_screen_row in
+    let is : IsRow old = All-get_or IsRow roll.rows (roll.base + row) blank_screen_row (omega arith) whole.rows in
     record {
       whole = record {
         seen = length-set roll.rows (roll.base + row) (row_with column text old) ∙ whole.seen;
@@ -99,12 +99,12 @@ shown_at-Steps row column text roll low inside whole =
 byte_printed-Steps : (place : Cursor) (byte : ℕ) (roll : Roll) → IsOnScreen place → IsWhole roll → Steps roll (byte_printed_from place byte roll)
 byte_printed-Steps BeforeFirst byte roll inside whole =
     let ready = next_line-Steps roll whole in
-    on roll (next_line roll) _ ready (shown_at-Steps 0 0 (byte ∷ []) (next_line roll) (omega arith) (omega arith) ready.whole)
+    on roll (on_next_line roll) _ ready (shown_at-Steps 0 0 (byte ∷ []) (on_next_line roll) (omega arith) (omega arith) ready.whole)
 byte_printed-Steps (At row column) byte roll inside whole =
     let ready = next_line-Steps roll whole in
     either (nat_lt column 80) roll _ _
     (λ is. shown_at-Steps row column (byte ∷ []) roll inside.0 inside.1 whole)
-    (λ _. on roll (next_line roll) _ ready (shown_at-Steps (min (row + 1) 24) 0 (byte ∷ []) (next_line roll) (omega arith) (omega arith) ready.whole))
+    (λ _. on roll (on_next_line roll) _ ready (shown_at-Steps (min (row + 1) 24) 0 (byte ∷ []) (on_next_line roll) (omega arith) (omega arith) ready.whole))
 
 text_printed-Steps : (text : List ℕ) (roll : Roll) → IsWhole roll → Steps roll (text_printed text roll)
 unfolding text_printed
@@ -152,7 +152,7 @@ cleared-Steps roll whole =
       };
     }
 
-pub obeyed-Steps : (command : Command) (screen : ScreenState) → IsWhole screen.roll → Steps screen.roll (obeyed command screen).roll
+pub obeyed-Steps : (command : ScreenCommand) (screen : ScreenState) → IsWhole screen.roll → Steps screen.roll (obeyed command screen).roll
 unfolding text_said_on
 obeyed-Steps NewLine screen whole = next_line-Steps screen.roll whole
 obeyed-Steps (Print text) screen whole = text_printed-Steps text.items screen.roll whole
@@ -160,7 +160,7 @@ obeyed-Steps (Say row column text) screen whole = text_said-Steps row column tex
 obeyed-Steps (SayOn text) screen whole = text_said_on-Steps screen.roll.cursor text.items screen.roll whole.cursor whole
 obeyed-Steps Clear screen whole = cleared-Steps screen.roll whole
 
-pub after-Steps : (commands : List Command) (screen : ScreenState) → IsWhole screen.roll → Steps screen.roll (after commands screen).roll
+pub after-Steps : (commands : List ScreenCommand) (screen : ScreenState) → IsWhole screen.roll → Steps screen.roll (screen_after commands screen).roll
 after-Steps [] screen whole = stays screen.roll whole
 after-Steps (command ∷ commands) screen whole =
     let first = obeyed-Steps command screen whole in
@@ -170,13 +170,13 @@ pub IsWhole-blank : IsWhole blank_roll
 IsWhole-blank = record { seen = length-blank_rows; rows = All-blank_rows; cursor = tt }
 
 -- the laws
-pub IsWhole-after : (commands : List Command) → IsWhole (after commands blank_screen).roll
+pub IsWhole-after : (commands : List ScreenCommand) → IsWhole (screen_after commands blank_screen).roll
 IsWhole-after commands = (after-Steps commands blank_screen IsWhole-blank).whole
 
-after-append : (first more : List Command) (screen : ScreenState) → after (first ++ more) screen ≡ after more (after first screen)
+after-append : (first more : List ScreenCommand) (screen : ScreenState) → screen_after (first ++ more) screen ≡ screen_after more (screen_after first screen)
 after-append [] more screen = refl
 after-append (command ∷ first) more screen = after-append first more (obeyed command screen)
 
-pub KeepsSent-after : (first more : List Command) → KeepsSent (after first blank_screen).roll (after (first ++ more) blank_screen).roll
+pub KeepsSent-after : (first more : List ScreenCommand) → KeepsSent (screen_after first blank_screen).roll (screen_after (first ++ more) blank_screen).roll
 KeepsSent-after first more =
-    rw (after-append first more blank_screen) ((after-Steps more (after first blank_screen) (IsWhole-after first)).kept)
+    rw (after-append first more blank_screen) ((after-Steps more (screen_after first blank_screen) (IsWhole-after first)).kept)

@@ -3,21 +3,21 @@
 use Rattle.std.specs.Prelude.{◌≡◌, ℕ, ◌+◌, ◌-◌, ◌*◌, ◌/◌, List, [], ◌∷◌, ◌++◌, length, take, if◌then◌else◌, nat_eq}
 use Rattle.std.specs.Prelude.{vec_len, vec_capacity}
 use Rattle.std.specs.List.{All}
-use Rattle.screen_lines.specs.Roll.{Roll, blank_row, lines}
+use Rattle.screen_lines.specs.Roll.{Roll, blank_screen_row, lines_sent}
 use Rattle.screen_lines.specs.Shape.{IsRow, IsOnScreen}
 use Rattle.screen_lines.specs.declared.cursor.Cursor.{Cursor}
 use Rattle.screen_lines.specs.declared.cursor.Cursor.TheVariants.{BeforeFirst, At}
 use Rattle.screen_lines.specs.declared.display.Display.{Display}
 
 -- the row of which this is sent
-abbrev pub padded : List ℕ → List ℕ
-padded text = take 80 (text ++ blank_row)
+abbrev pub padded_row : List ℕ → List ℕ
+padded_row text = take 80 (text ++ blank_screen_row)
 
 -- the rows of which these bytes are the lines; the first line's bytes so far stand apart
 abbrev pub rows_from : List ℕ → List ℕ → List (List ℕ)
 rows_from line [] = []
 rows_from line (byte ∷ bytes) =
-    if nat_eq byte 10 then padded line ∷ rows_from [] bytes else rows_from (line ++ byte ∷ []) bytes
+    if nat_eq byte 10 then padded_row line ∷ rows_from [] bytes else rows_from (line ++ byte ∷ []) bytes
 
 abbrev pub rows_sent : List ℕ → List (List ℕ)
 rows_sent bytes = rows_from [] bytes
@@ -31,7 +31,7 @@ roll_of display = roll_with display.sent.items display.rows.items display.cursor
 
 -- the bytes are whole lines of rows
 pub record AreLines (bytes : List ℕ) : Type 0 where
-  pub whole : bytes ≡ lines (rows_sent bytes)
+  pub whole : bytes ≡ lines_sent (rows_sent bytes)
   pub rows : All IsRow (rows_sent bytes)
 
 pub record Keeps (sent : List ℕ) (seen : List (List ℕ)) (place : Cursor) : Type 0 where
@@ -40,8 +40,8 @@ pub record Keeps (sent : List ℕ) (seen : List (List ℕ)) (place : Cursor) : T
   pub cursor : IsOnScreen place
   pub lines : AreLines sent
 
-abbrev pub IsKept : Display → Type 0
-IsKept display = Keeps display.sent.items display.rows.items display.cursor
+abbrev pub IsKeptDisplay : Display → Type 0
+IsKeptDisplay display = Keeps display.sent.items display.rows.items display.cursor
 
 -- how many more rows, of 80 bytes and LF at most, can be sent without memory
 abbrev pub lines_free : Display → ℕ

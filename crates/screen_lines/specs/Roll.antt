@@ -11,11 +11,11 @@ pub record Roll : Type 0 where
   pub base : ℕ
   pub cursor : Cursor
 
-unfoldable pub blank_row : List ℕ
-blank_row = replicate 80 32
+unfoldable pub blank_screen_row : List ℕ
+blank_screen_row = replicate 80 32
 
 unfoldable pub blank_rows : List (List ℕ)
-blank_rows = replicate 25 blank_row
+blank_rows = replicate 25 blank_screen_row
 
 -- at the start
 abbrev pub blank_roll : Roll
@@ -23,7 +23,7 @@ blank_roll = record { rows = blank_rows; base = 0; cursor = BeforeFirst }
 
 -- the top row is sent out, all move up, and a blank row begins
 abbrev pub scrolled : Roll → Roll
-scrolled roll = record { rows = roll.rows ++ blank_row ∷ []; base = roll.base + 1; cursor = roll.cursor }
+scrolled roll = record { rows = roll.rows ++ blank_screen_row ∷ []; base = roll.base + 1; cursor = roll.cursor }
 
 -- column 0 of the next row, below the last row after a scroll
 abbrev pub next_line_from : Cursor → Roll → Roll
@@ -33,8 +33,8 @@ next_line_from (At row column) roll =
     then record roll { cursor = At (row + 1) 0 }
     else record (scrolled roll) { cursor = At row 0 }
 
-unfoldable pub next_line : Roll → Roll
-next_line roll = next_line_from roll.cursor roll
+unfoldable pub on_next_line : Roll → Roll
+on_next_line roll = next_line_from roll.cursor roll
 
 -- control bytes show as a blank
 abbrev pub shown_byte : ℕ → ℕ
@@ -48,18 +48,19 @@ row_with column text row = take 80 (take column row ++ map shown_byte text ++ dr
 abbrev pub shown_at : ℕ → ℕ → List ℕ → Roll → Roll
 shown_at row column text roll =
     record {
-      rows = set roll.rows (roll.base + row) (row_with column text (get_or roll.rows (roll.base + row) blank_row));
+      rows = set roll.rows (roll.base + row)
+          (row_with column text (get_or roll.rows (roll.base + row) blank_screen_row));
       base = roll.base;
       cursor = At row (min (column + length text) 80);
     }
 
 -- a byte printed at column 80, or with the cursor before the first row, first begins a new line
 abbrev pub byte_printed_from : Cursor → ℕ → Roll → Roll
-byte_printed_from BeforeFirst byte roll = shown_at 0 0 (byte ∷ []) (next_line roll)
+byte_printed_from BeforeFirst byte roll = shown_at 0 0 (byte ∷ []) (on_next_line roll)
 byte_printed_from (At row column) byte roll =
     if nat_lt column 80
     then shown_at row column (byte ∷ []) roll
-    else shown_at (min (row + 1) 24) 0 (byte ∷ []) (next_line roll)
+    else shown_at (min (row + 1) 24) 0 (byte ∷ []) (on_next_line roll)
 
 -- a text printed, byte by byte
 unfoldable pub text_printed : List ℕ → Roll → Roll
@@ -106,12 +107,12 @@ roll_cleared roll =
     }
 
 -- a row as it is sent: no blanks at its end, and LF
-abbrev pub line : List ℕ → List ℕ
-line row = without_end is_blank row ++ 10 ∷ []
+abbrev pub line_sent : List ℕ → List ℕ
+line_sent row = without_end is_blank row ++ 10 ∷ []
 
-abbrev pub lines : List (List ℕ) → List ℕ
-lines rows = flat_map line rows
+abbrev pub lines_sent : List (List ℕ) → List ℕ
+lines_sent rows = flat_map line_sent rows
 
 -- the bytes sent in all: the screen is cleared once more at the end
 unfoldable pub roll_sent : Roll → List ℕ
-roll_sent roll = let end = roll_cleared roll in lines (take end.base end.rows)
+roll_sent roll = let end = roll_cleared roll in lines_sent (take end.base end.rows)

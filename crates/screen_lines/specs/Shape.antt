@@ -30,11 +30,11 @@ pub record KeepsSent (old new : Roll) : Type 0 where
   pub same : take old.base new.rows ≡ take old.base old.rows
 
 -- what a line sent shows: at most 80 columns, and no blank at the end
-pub record IsLine (text : List ℕ) : Type 0 where
+pub record IsSentLine (text : List ℕ) : Type 0 where
   pub short : length text ≤ 80
   pub plain : All Shows text
   pub trimmed : suffix_len is_blank text ≡ 0
 
 -- such texts, with LF behind each
 abbrev pub IsListing : List ℕ → Type 0
-IsListing bytes = (texts : List (List ℕ)) × All IsLine texts × (bytes ≡ flat_map (λ text. text ++ 10 ∷ []) texts)
+IsListing bytes = (texts : List (List ℕ)) × All IsSentLine texts × (bytes ≡ flat_map (λ text. text ++ 10 ∷ []) texts)

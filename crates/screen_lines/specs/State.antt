@@ -1,6 +1,6 @@
 -- What a contract sees of a screen, and what each call makes of it.
 use Rattle.std.specs.Prelude.{ℕ, ℤ, List, Bool, true, false}
-use Rattle.screen_lines.specs.Roll.{Roll, blank_roll, next_line, text_printed, text_said, text_said_on, roll_cleared}
+use Rattle.screen_lines.specs.Roll.{Roll, blank_roll, on_next_line, text_printed, text_said, text_said_on, roll_cleared}
 use Rattle.screen_lines.specs.Roll.{roll_sent}
 
 -- the roll of rows, and whether memory is reserved for one new line or one print
@@ -15,7 +15,7 @@ abbrev pub reserved_screen : ScreenState → ScreenState
 reserved_screen screen = record screen { reserved = true }
 
 abbrev pub new_line : ScreenState → ScreenState
-new_line screen = record { roll = next_line screen.roll; reserved = false }
+new_line screen = record { roll = on_next_line screen.roll; reserved = false }
 
 abbrev pub printed : List ℕ → ScreenState → ScreenState
 printed text screen = record { roll = text_printed text screen.roll; reserved = false }

@@ -2,7 +2,7 @@
 #![tactic(auto)]
 
 ghost use Rattle.std.specs.Prelude.{◌≡◌, IfOk, OnOk, OnErr};
-ghost use Rattle.screen_lines.specs.Commands.{obeyed, bytes_of};
+ghost use Rattle.screen_lines.specs.Commands.{obeyed, bytes_sent};
 
 use crate::screen::Screen;
 use std::alloc::{AllocError, Global};
@@ -10,7 +10,7 @@ use xvalue::Text;
 
 /// What a run may ask of the screen.
 #[derive(Drop)]
-pub enum Command {
+pub enum ScreenCommand {
     NewLine,
     Print(Text),
     Say { row: i128, column: i128, text: Text },
@@ -19,28 +19,28 @@ pub enum Command {
 }
 
 /// Does what a command asks. Where memory is refused the screen is as it was.
-pub fn obey(screen: &mut Screen, command: &Command) -> Result<(), AllocError>
+pub fn obey(screen: &mut Screen, command: &ScreenCommand) -> Result<(), AllocError>
     ensures ok { OnOk result (screen.new ≡ obeyed command.now screen.old) }
     ensures err { OnErr result (screen.new ≡ screen.old) }
 {
     match command {
-        Command::NewLine => screen.try_new_line(),
-        Command::Print(text) => screen.try_print(text),
-        Command::Say { row, column, text } => {
+        ScreenCommand::NewLine => screen.try_new_line(),
+        ScreenCommand::Print(text) => screen.try_print(text),
+        ScreenCommand::Say { row, column, text } => {
             screen.say(*row, *column, text);
             Ok(())
         }
-        Command::SayOn(text) => {
+        ScreenCommand::SayOn(text) => {
             screen.say_on(text);
             Ok(())
         }
-        Command::Clear => screen.clear(),
+        ScreenCommand::Clear => screen.clear(),
     }
 }
 
 /// The bytes that a new screen has sent at the end of these commands.
-pub fn run(alloc: Global, commands: &[Command]) -> Result<Vec<u8>, AllocError>
-    ensures { IfOk result (λ bytes. bytes.items ≡ bytes_of commands.now) }
+pub fn run(alloc: Global, commands: &[ScreenCommand]) -> Result<Vec<u8>, AllocError>
+    ensures { IfOk result (λ bytes. bytes.items ≡ bytes_sent commands.now) }
 {
     let mut screen = Screen::new(alloc)?;
     for command in commands {

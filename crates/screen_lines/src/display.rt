@@ -2,30 +2,30 @@
 #![tactic(auto)]
 
 ghost use Rattle.std.specs.Prelude.{◌≡◌, ◌+◌, ◌<◌, ◌≤◌, length};
-ghost use Rattle.screen_lines.specs.Roll.{scrolled, next_line as next_line_of, shown_at, byte_printed_from};
+ghost use Rattle.screen_lines.specs.Roll.{scrolled, on_next_line as next_line_of, shown_at, byte_printed_from};
 ghost use Rattle.screen_lines.specs.Roll.{text_printed, text_said, text_said_on, roll_cleared};
 
 use crate::cursor::Cursor;
 use crate::rows::{
-    COLUMNS, ROWS, Row, blank_out, blank_row, send_row, send_rows, show_in_row, used_rows,
+    COLUMNS, ROWS, ScreenRow, blank_out, blank_row, send_row, send_rows, show_in_row, used_rows,
 };
 
 /// The 25 rows seen, the bytes of the rows sent before them, and the cursor.
 #[derive(Drop)]
 pub struct Display {
     pub sent: Vec<u8>,
-    pub rows: Vec<Row>,
+    pub rows: Vec<ScreenRow>,
     pub cursor: Cursor,
 }
 
 impl Display {
-    ghost use Rattle.screen_lines.specs.Kept.{roll_of, IsKept, lines_free, cells_free};
+    ghost use Rattle.screen_lines.specs.Kept.{roll_of, IsKeptDisplay, lines_free, cells_free};
 
     /// Sends the top row; the others move up, and a blank row begins.
     fn scroll(&mut self)
-        requires kept { IsKept self.old }
+        requires kept { IsKeptDisplay self.old }
         requires room { 0 < lines_free self.old }
-        ensures kept { IsKept self.new }
+        ensures kept { IsKeptDisplay self.new }
         ensures roll { roll_of self.new ≡ scrolled (roll_of self.old) }
         ensures room { lines_free self.old ≤ lines_free self.new + 1 }
     {
@@ -35,11 +35,11 @@ impl Display {
     }
 
     /// Goes to column 0 of the next row.
-    #[tactic(auto, unfolding(crate::specs::Roll::next_line))]
+    #[tactic(auto, unfolding(crate::specs::Roll::on_next_line))]
     pub fn next_line(&mut self)
-        requires kept { IsKept self.old }
+        requires kept { IsKeptDisplay self.old }
         requires room { 0 < lines_free self.old }
-        ensures kept { IsKept self.new }
+        ensures kept { IsKeptDisplay self.new }
         ensures roll { roll_of self.new ≡ next_line_of (roll_of self.old) }
         ensures room { lines_free self.old ≤ lines_free self.new + 1 }
     {
@@ -60,10 +60,10 @@ impl Display {
 
     /// Shows a text from a row and column on, and puts the cursor behind it.
     pub fn show(&mut self, row: usize, column: usize, text: &[u8])
-        requires kept { IsKept self.old }
+        requires kept { IsKeptDisplay self.old }
         requires row { row < 25 }
         requires column { column < 80 }
-        ensures kept { IsKept self.new }
+        ensures kept { IsKeptDisplay self.new }
         ensures roll { roll_of self.new ≡ shown_at row column text.now (roll_of self.old) }
         ensures room { lines_free self.new ≡ lines_free self.old }
     {
@@ -74,9 +74,9 @@ impl Display {
 
     /// Prints a byte at the cursor.
     fn print_byte(&mut self, byte: u8)
-        requires kept { IsKept self.old }
+        requires kept { IsKeptDisplay self.old }
         requires room { 0 < cells_free self.old }
-        ensures kept { IsKept self.new }
+        ensures kept { IsKeptDisplay self.new }
         ensures roll { roll_of self.new ≡ byte_printed_from self.old.cursor byte (roll_of self.old) }
         ensures room { cells_free self.old ≤ cells_free self.new + 1 }
     {
@@ -96,9 +96,9 @@ impl Display {
     /// Prints a text at the cursor.
     #[tactic(auto, unfolding(crate::specs::Roll::text_printed))]
     pub fn print(&mut self, text: &[u8])
-        requires kept { IsKept self.old }
+        requires kept { IsKeptDisplay self.old }
         requires room { length text.now ≤ cells_free self.old }
-        ensures kept { IsKept self.new }
+        ensures kept { IsKeptDisplay self.new }
         ensures roll { roll_of self.new ≡ text_printed text.now (roll_of self.old) }
     {
         for byte in text {
@@ -109,8 +109,8 @@ impl Display {
     /// Shows a text from a row and column that lie on the screen; elsewhere nothing happens.
     #[tactic(auto, unfolding(crate::specs::Roll::text_said))]
     pub fn say(&mut self, row: i128, column: i128, text: &[u8])
-        requires { IsKept self.old }
-        ensures kept { IsKept self.new }
+        requires { IsKeptDisplay self.old }
+        ensures kept { IsKeptDisplay self.new }
         ensures roll { roll_of self.new ≡ text_said row column text.now (roll_of self.old) }
         ensures room { lines_free self.new ≡ lines_free self.old }
     {
@@ -123,8 +123,8 @@ impl Display {
     /// Shows a text from one column after the cursor on, where that lies on the screen.
     #[tactic(auto, unfolding(crate::specs::Roll::text_said_on))]
     pub fn say_on(&mut self, text: &[u8])
-        requires { IsKept self.old }
-        ensures kept { IsKept self.new }
+        requires { IsKeptDisplay self.old }
+        ensures kept { IsKeptDisplay self.new }
         ensures roll { roll_of self.new ≡ text_said_on text.now (roll_of self.old) }
         ensures room { lines_free self.new ≡ lines_free self.old }
     {
@@ -136,9 +136,9 @@ impl Display {
 
     /// Sends the rows up to the last that isn't blank, and begins 25 blank ones.
     pub fn clear(&mut self)
-        requires kept { IsKept self.old }
+        requires kept { IsKeptDisplay self.old }
         requires room { 25 ≤ lines_free self.old }
-        ensures kept { IsKept self.new }
+        ensures kept { IsKeptDisplay self.new }
         ensures roll { roll_of self.new ≡ roll_cleared (roll_of self.old) }
         ensures room { lines_free self.old ≤ lines_free self.new + 25 }
     {

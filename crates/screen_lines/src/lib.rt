@@ -11,7 +11,7 @@ pub mod laws;
 mod rows;
 mod screen;
 
-pub use commands::{Command, obey, run};
+pub use commands::{ScreenCommand, obey, run};
 pub use cursor::Cursor;
-pub use rows::Row;
+pub use rows::ScreenRow;
 pub use screen::Screen;

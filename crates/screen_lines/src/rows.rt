@@ -3,9 +3,10 @@
 
 ghost use Rattle.std.specs.Prelude.{◌≡◌, ◌+◌, ◌-◌, ◌*◌, ◌≤◌, ◌++◌, length, vec_len, vec_capacity, IfOk};
 ghost use Rattle.std.specs.List.{suffix_len};
-ghost use Rattle.screen_lines.specs.Roll.{blank_row as blank_row_of, blank_rows as blank_rows_of, row_with};
-ghost use Rattle.screen_lines.specs.Roll.{shown_byte as shown_byte_of, is_blank, is_blank_row as is_blank_row_of, line};
-ghost use Rattle.screen_lines.specs.Roll.{lines};
+ghost use Rattle.screen_lines.specs.Roll.{blank_screen_row as blank_row_of, blank_rows as blank_rows_of, row_with};
+ghost use Rattle.screen_lines.specs.Roll.{shown_byte as shown_byte_of, is_blank, is_blank_row as is_blank_row_of};
+ghost use Rattle.screen_lines.specs.Roll.{line_sent};
+ghost use Rattle.screen_lines.specs.Roll.{lines_sent};
 
 use std::alloc::{AllocError, Global};
 
@@ -14,19 +15,19 @@ pub const ROWS: usize = 25;
 pub const COLUMNS: usize = 80;
 
 /// One row of the screen.
-pub type Row = [u8; COLUMNS];
+pub type ScreenRow = [u8; COLUMNS];
 
 const BLANK: u8 = b' ';
 
 /// A row that shows nothing.
-pub fn blank_row() -> Row
+pub fn blank_row() -> ScreenRow
     ensures { result ≡ blank_row_of }
 {
     [BLANK; COLUMNS]
 }
 
 /// As many blank rows as the screen has.
-pub fn blank_rows(alloc: Global) -> Result<Vec<Row>, AllocError>
+pub fn blank_rows(alloc: Global) -> Result<Vec<ScreenRow>, AllocError>
     ensures { IfOk result (λ rows. rows.items ≡ blank_rows_of) }
 {
     let mut rows = Vec::with_capacity(alloc, ROWS)?;
@@ -37,7 +38,7 @@ pub fn blank_rows(alloc: Global) -> Result<Vec<Row>, AllocError>
 }
 
 /// Makes all rows of the screen blank.
-pub fn blank_out(rows: &mut [Row])
+pub fn blank_out(rows: &mut [ScreenRow])
     requires { length rows.old ≡ 25 }
     ensures { rows.new ≡ blank_rows_of }
 {
@@ -88,7 +89,7 @@ pub fn is_blank_row(row: &[u8]) -> bool
 }
 
 /// How many rows come before the blank rows at the end.
-pub fn used_rows(rows: &[Row]) -> usize
+pub fn used_rows(rows: &[ScreenRow]) -> usize
     ensures { result ≡ length rows.now - suffix_len is_blank_row_of rows.now }
 {
     let mut used = rows.len();
@@ -102,7 +103,7 @@ pub fn used_rows(rows: &[Row]) -> usize
 pub fn send_row(sent: &mut Vec<u8>, row: &[u8])
     requires wide { length row.now ≤ 80 }
     requires room { vec_len sent.old + 81 ≤ vec_capacity sent.old }
-    ensures items { sent.new.items ≡ sent.old.items ++ line row.now }
+    ensures items { sent.new.items ≡ sent.old.items ++ line_sent row.now }
     ensures len { vec_len sent.new ≤ vec_len sent.old + 81 }
     ensures capacity { vec_capacity sent.old ≤ vec_capacity sent.new }
 {
@@ -117,9 +118,9 @@ pub fn send_row(sent: &mut Vec<u8>, row: &[u8])
 }
 
 /// Sends rows, for which there is room: it takes no memory.
-pub fn send_rows(sent: &mut Vec<u8>, rows: &[Row])
+pub fn send_rows(sent: &mut Vec<u8>, rows: &[ScreenRow])
     requires { vec_len sent.old + 81 * length rows.now ≤ vec_capacity sent.old }
-    ensures items { sent.new.items ≡ sent.old.items ++ lines rows.now }
+    ensures items { sent.new.items ≡ sent.old.items ++ lines_sent rows.now }
     ensures len { vec_len sent.new ≤ vec_len sent.old + 81 * length rows.now }
     ensures capacity { vec_capacity sent.old ≤ vec_capacity sent.new }
 {

@@ -4,11 +4,11 @@
 ghost use Rattle.std.specs.Prelude.{◌≡◌, IsTrue, IfOk, OnOk, OnErr, drop, take};
 ghost use Rattle.screen_lines.specs.State.{blank_screen, reserved_screen, new_line as new_line_of, printed, said};
 ghost use Rattle.screen_lines.specs.State.{said_on, cleared, sent};
-ghost use Rattle.screen_lines.specs.Roll.{lines};
+ghost use Rattle.screen_lines.specs.Roll.{lines_sent};
 
 use crate::cursor::Cursor;
 use crate::display::Display;
-use crate::rows::{ROWS, Row, blank_rows, send_rows, used_rows};
+use crate::rows::{ROWS, ScreenRow, blank_rows, send_rows, used_rows};
 use std::alloc::{AllocError, Global};
 use std::marker::Model;
 use xvalue::Text;
@@ -32,13 +32,13 @@ pub struct Screen {
 impl Model for Screen {
     ghost use Rattle.std.specs.Prelude.{◌≤◌, IsTrue};
     ghost use Rattle.screen_lines.specs.State.{ScreenState};
-    ghost use Rattle.screen_lines.specs.Kept.{roll_of, IsKept, lines_free};
+    ghost use Rattle.screen_lines.specs.Kept.{roll_of, IsKeptDisplay, lines_free};
 
     ghost Value = { ScreenState };
 
     ghost view = { λ s. record { roll = roll_of s.display; reserved = s.reserved } };
 
-    ghost invariant = { λ s. IsKept s.display × (IsTrue s.reserved → 4 ≤ lines_free s.display) };
+    ghost invariant = { λ s. IsKeptDisplay s.display × (IsTrue s.reserved → 4 ≤ lines_free s.display) };
 }
 
 impl Screen {
@@ -148,7 +148,7 @@ impl Screen {
     }
 
     /// The 25 rows that are seen, from the top, of 80 bytes each.
-    pub fn rows(&self) -> &[Row]
+    pub fn rows(&self) -> &[ScreenRow]
         ensures { result.now ≡ drop self.now.roll.base self.now.roll.rows }
     {
         self.display.rows.as_slice()
@@ -164,7 +164,7 @@ impl Screen {
     /// The bytes of the rows that were sent so far, each without the blanks at its end and with LF. Those that are seen
     /// aren't among them.
     pub fn sent(&self) -> &[u8]
-        ensures { result.now ≡ lines (take self.now.roll.base self.now.roll.rows) }
+        ensures { result.now ≡ lines_sent (take self.now.roll.base self.now.roll.rows) }
     {
         self.display.sent.as_slice()
     }

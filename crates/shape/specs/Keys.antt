@@ -47,9 +47,9 @@ holds_text N = false
 holds_text D = false
 holds_text L = false
 
-abbrev pub is_text : Option Field → Bool
-is_text None = false
-is_text (Some f) = holds_text f.letter
+abbrev pub is_text_field : Option Field → Bool
+is_text_field None = false
+is_text_field (Some f) = holds_text f.letter
 
 abbrev pub width_of : Option Field → ℕ
 width_of None = 0
@@ -57,17 +57,17 @@ width_of (Some f) = f.width
 
 -- the part names a field that holds texts
 abbrev pub names_text : List Field → KeyPart → Bool
-names_text fields part = is_text (slice_get fields part.field)
+names_text fields part = is_text_field (slice_get fields part.field)
 
 -- the bytes of the fields named
-abbrev pub bytes_of : List Field → List KeyPart → ℕ
-bytes_of fields [] = 0
-bytes_of fields (part ∷ parts) = width_of (slice_get fields part.field) + bytes_of fields parts
+abbrev pub key_bytes : List Field → List KeyPart → ℕ
+key_bytes fields [] = 0
+key_bytes fields (part ∷ parts) = width_of (slice_get fields part.field) + key_bytes fields parts
 
 -- one to eight parts, each a field that holds texts, of 1 to 100 bytes together
 unfoldable pub is_key : List Field → List KeyPart → Bool
 is_key fields parts = nat_le 1 (length parts) && nat_le (length parts) 8 && list_all (names_text fields) parts
-    && nat_le 1 (bytes_of fields parts) && nat_le (bytes_of fields parts) 100
+    && nat_le 1 (key_bytes fields parts) && nat_le (key_bytes fields parts) 100
 
 -- ---- how a key is spelled
 

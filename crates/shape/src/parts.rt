@@ -6,7 +6,7 @@ ghost use Rattle.dbf_file.specs.Rows.{row_at};
 ghost use Rattle.dbf_file.specs.Tables.{row_widths};
 ghost use Rattle.std.specs.Prelude.{◌∷◌, ◌*◌, slice_get};
 ghost use Rattle.std.specs.List.{list_all};
-ghost use Rattle.shape.specs.Keys.{IsKey, cased, key_of, key_length, width_of as width_of_field, names_text, bytes_of};
+ghost use Rattle.shape.specs.Keys.{IsKey, cased, key_of, key_length, width_of as width_of_field, names_text, key_bytes};
 ghost use Rattle.shape.specs.Keys.{is_key, name_of, part_spelled, more_spelled, key_text};
 
 use arrayvec::ArrayVec;
@@ -88,7 +88,7 @@ impl KeyParts {
 
     /// How many bytes the key has over these fields; a part that names no field gives none.
     pub fn bytes(&self, fields: &[Field]) -> usize
-        ensures { result ≡ bytes_of fields.now self.now }
+        ensures { result ≡ key_bytes fields.now self.now }
     {
         bytes_in(fields, self.parts())
     }
@@ -171,7 +171,7 @@ fn width_in(fields: &[Field], part: KeyPart) -> u8
 
 fn bytes_in(fields: &[Field], parts: &[KeyPart]) -> usize
     requires { length parts.now ≤ 8 }
-    ensures { result ≡ bytes_of fields.now parts.now }
+    ensures { result ≡ key_bytes fields.now parts.now }
 {
     let mut bytes = 0;
     let mut rest = parts;

@@ -6,7 +6,7 @@ use Rattle.text_lines.specs.Lines.{lines}
 use Rattle.shape_files.specs.declared.refusal.DeclFault.TheVariants.{Absent, TooLong, Line}
 use Rattle.shape_files.specs.declared.refusal.ShapeRefusal.{ShapeRefusal}
 use Rattle.shape_files.specs.declared.refusal.ShapeRefusal.TheVariants.{Refused, Disk, TableDisk, Memory}
-use Rattle.shape_files.specs.Lines.{Said, Nothing, Table, Index, Other, said}
+use Rattle.shape_files.specs.Lines.{Said, Nothing, Table, Index, Other, said_in_line}
 use Rattle.shape_files.specs.Refusals.{AtLineIs, LinesRefusalIs, ShapeRefusalIs}
 use Rattle.shape_files.specs.Shapes.{Declare, Declares, DeclaresTable, file_name, no_shape}
 
@@ -39,7 +39,7 @@ declares_before a b Other before after same d = d
 
 pub declare_before : (a b : Holds) (ls : List (List ℕ)) (before after : Shape) → SameFiles a b → Declare b ls before after → Declare a ls before after
 declare_before a b [] before after same d = d
-declare_before a b (l ∷ ls) before after same d = (d.0, declares_before a b (said l) before d.0 same d.1, declare_before a b ls d.0 after same d.2)
+declare_before a b (l ∷ ls) before after same d = (d.0, declares_before a b (said_in_line l) before d.0 same d.1, declare_before a b ls d.0 after same d.2)
 
 pub no_lines : (rest : List ℕ) → length rest ≡ 0 → lines rest ≡ []
 unfolding lines
@@ -48,8 +48,8 @@ no_lines (b ∷ rest) e = absurd (omega (arith, e))
 
 -- ---- lines that were taken
 
-pub declare_more : (a : Holds) (ls : List (List ℕ)) (l : List ℕ) (s t u : Shape) → Declare a ls s t → Declares a (said l) t u → Declare a (ls ++ l ∷ []) s u
-declare_more a [] l s t u d e = (u, subst (λ (x : Shape). Declares a (said l) x u) (sym d) e, refl)
+pub declare_more : (a : Holds) (ls : List (List ℕ)) (l : List ℕ) (s t u : Shape) → Declare a ls s t → Declares a (said_in_line l) t u → Declare a (ls ++ l ∷ []) s u
+declare_more a [] l s t u d e = (u, subst (λ (x : Shape). Declares a (said_in_line l) x u) (sym d) e, refl)
 declare_more a (m ∷ ls) l s t u d e = (d.0, d.1, declare_more a ls l d.0 t u d.2 e)
 
 -- of all lines so many are taken, which declare the shape, and the rest are left
@@ -62,7 +62,7 @@ pub record Passed (holds : Holds) (all rest : List (List ℕ)) (number : ℕ) (s
 pub none_passed : (a : Holds) (all : List (List ℕ)) → Passed a all all 0 no_shape
 none_passed a all = record { front = []; cut = refl; count = refl; declared = refl }
 
-pub one_passed : (a : Holds) (all rest behind : List (List ℕ)) (text : List ℕ) (n : ℕ) (s t : Shape) → rest ≡ text ∷ behind → Passed a all rest n s → Declares a (said text) s t → Passed a all behind (n + 1) t
+pub one_passed : (a : Holds) (all rest behind : List (List ℕ)) (text : List ℕ) (n : ℕ) (s t : Shape) → rest ≡ text ∷ behind → Passed a all rest n s → Declares a (said_in_line text) s t → Passed a all behind (n + 1) t
 one_passed a all rest behind text n s t e p d = record {
   front = p.front ++ text ∷ [];
   cut = p.cut ∙ ap (λ r. p.front ++ r) e ∙ sym (append_assoc p.front (text ∷ []) behind);
@@ -76,7 +76,7 @@ all_passed a all rest n s e p =
 
 -- ---- what is told
 
-pub line_told : (r : ShapeRefusal) (holds : Holds) (all rest behind : List (List ℕ)) (text : List ℕ) (n : ℕ) (s : Shape) (a b c : ℕ) → rest ≡ text ∷ behind → Passed holds all rest n s → a ≤ b → b ≤ c → AtLineIs (n + 1) s (said text) b c r → LinesRefusalIs holds all a c r
+pub line_told : (r : ShapeRefusal) (holds : Holds) (all rest behind : List (List ℕ)) (text : List ℕ) (n : ℕ) (s : Shape) (a b c : ℕ) → rest ≡ text ∷ behind → Passed holds all rest n s → a ≤ b → b ≤ c → AtLineIs (n + 1) s (said_in_line text) b c r → LinesRefusalIs holds all a c r
 line_told (Refused Absent) holds all rest behind text n s a b c e p l m t = absurd t
 line_told (Refused TooLong) holds all rest behind text n s a b c e p l m t = absurd t
 line_told (Refused (Line told f)) holds all rest behind text n s a b c e p l m t = record {

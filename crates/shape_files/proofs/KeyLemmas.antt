@@ -1,7 +1,7 @@
 -- A part more of a key.
 use Rattle.std.proofs.Common.{◌≡◌, ◌≤◌, List, [], ◌∷◌, ◌++◌, length, sym, ap, ◌∙◌, append_assoc, append-nil, arith}
 use Rattle.dbf_file.specs.declared.field.Field.{Field}
-use Rattle.prg_expr.specs.declared.tree.Operator.TheVariants.{Plus}
+use Rattle.prg_expr.specs.declared.tree.BinaryOperator.TheVariants.{Plus}
 use Rattle.prg_expr.specs.Word.{Word, Sign}
 use Rattle.shape.specs.declared.parts.KeyPart.{KeyPart}
 use Rattle.shape_files.specs.Keys.{key_words, more_words, part_words}

@@ -11,7 +11,7 @@ use Rattle.shape.specs.Indexes.{fits_table, has_declared_key, has_index_name, is
 use Rattle.shape.specs.Names.{is_file_name}
 use Rattle.shape.specs.Tables.{is_next_table, tables_go_on}
 use Rattle.shape.specs.Whole.{is_shape}
-use Rattle.shape_files.specs.Shapes.{no_shape, with_index, with_table}
+use Rattle.shape_files.specs.Shapes.{no_shape, with_index, with_declared_table}
 
 pub both : (a b : Bool) → a && b ≡ true → (a ≡ true) × (b ≡ true)
 both true b e = (refl, e)
@@ -93,10 +93,10 @@ whole_of s h =
 one_more : {X : Type 0} → (xs : List X) (x : X) (most : ℕ) → length xs < most → nat_le (length (xs ++ x ∷ [])) most ≡ true
 one_more xs x most h = le-leb (length (xs ++ x ∷ [])) most (omega (arith, length-append xs (x ∷ []), h))
 
-pub table_added : (s : Shape) (t : TableShape) → length s.tables < 32 → is_next_table s.tables t ≡ true → is_shape s ≡ true → is_shape (with_table s t) ≡ true
+pub table_added : (s : Shape) (t : TableShape) → length s.tables < 32 → is_next_table s.tables t ≡ true → is_shape s ≡ true → is_shape (with_declared_table s t) ≡ true
 table_added s t room n e =
     let h = parts_of s e in
-    whole_of (with_table s t) (record {
+    whole_of (with_declared_table s t) (record {
       few_tables = one_more s.tables t 32 room;
       few_indexes = h.few_indexes;
       tables = tables_more [] s.tables t h.tables n;

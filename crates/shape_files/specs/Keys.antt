@@ -1,7 +1,7 @@
 -- The words that spell a key.
 use Rattle.std.specs.Prelude.{◌≡◌, ℕ, List, [], ◌∷◌, ◌++◌, None, slice_get, map, codes, if◌then◌else◌}
 use Rattle.dbf_file.specs.declared.field.Field.{Field}
-use Rattle.prg_expr.specs.declared.tree.Operator.TheVariants.{Plus}
+use Rattle.prg_expr.specs.declared.tree.BinaryOperator.TheVariants.{Plus}
 use Rattle.prg_expr.specs.Faults.{least_of}
 use Rattle.prg_expr.specs.Lexicon.{spot_fault, spot_word}
 use Rattle.prg_expr.specs.Scanning.{scan}

@@ -2,17 +2,17 @@
 use Rattle.std.specs.Prelude.{ℕ, Bool, true, false, not, ◌==◌, ◌&&◌, List, [], ◌∷◌, take, drop, codes, if◌then◌else◌}
 use Rattle.std.specs.List.{prefix_len}
 use Rattle.std.specs.Str.{bytes_eq}
-use Rattle.prg_expr.specs.Lexicon.{is_blank}
-use Rattle.shape_files.specs.declared.line.Line.{Line}
-use Rattle.shape_files.specs.declared.line.Line.TheVariants as line
+use Rattle.prg_expr.specs.Lexicon.{is_blank_or_tab}
+use Rattle.shape_files.specs.declared.line.DeclarationLine.{DeclarationLine}
+use Rattle.shape_files.specs.declared.line.DeclarationLine.TheVariants as line
 
 -- ---- words, with blanks between
 
 unfoldable pub behind_blanks : List ℕ → List ℕ
-behind_blanks text = drop (prefix_len is_blank text) text
+behind_blanks text = drop (prefix_len is_blank_or_tab text) text
 
 abbrev pub word_length : List ℕ → ℕ
-word_length text = prefix_len (λ b. not (is_blank b)) text
+word_length text = prefix_len (λ b. not (is_blank_or_tab b)) text
 
 unfoldable pub first_word : List ℕ → List ℕ
 first_word text = take (word_length text) text
@@ -35,7 +35,7 @@ pub data Said : Type 0 where
   -- none of these
   Other : Said
 
-abbrev pub said_of : Line → Said
+abbrev pub said_of : DeclarationLine → Said
 said_of line.Nothing = Nothing
 said_of (line.Table name) = Table name.now
 said_of (line.Index name table key) = Index name.now table.now key.now
@@ -77,5 +77,5 @@ spoken text =
     else Other
 
 -- `TABLE name`, `INDEX name ON table KEY key`, or nothing
-unfoldable pub said : List ℕ → Said
-said text = spoken (behind_blanks text)
+unfoldable pub said_in_line : List ℕ → Said
+said_in_line text = spoken (behind_blanks text)

@@ -11,7 +11,7 @@ use Rattle.shape_files.specs.declared.refusal.LineRefusal.{LineRefusal}
 use Rattle.shape_files.specs.declared.refusal.LineRefusal.TheVariants as line
 use Rattle.shape_files.specs.declared.refusal.ShapeRefusal.{ShapeRefusal}
 use Rattle.shape_files.specs.declared.refusal.ShapeRefusal.TheVariants.{Refused, Disk, TableDisk, Memory}
-use Rattle.shape_files.specs.Lines.{Said, Nothing, Table, Index, Other, said}
+use Rattle.shape_files.specs.Lines.{Said, Nothing, Table, Index, Other, said_in_line}
 use Rattle.shape_files.specs.Shapes.{Declare, no_shape}
 
 -- a file longer than 64 MiB
@@ -49,7 +49,7 @@ pub record IsFaultyLine (holds : Holds) (all : List (List ℕ)) (number : ℕ) (
   pub place : number ≡ length front + 1
   pub shape : Shape
   pub declared : Declare holds front no_shape shape
-  pub faulty : LineFaultIs shape (said text) f
+  pub faulty : LineFaultIs shape (said_in_line text) f
 
 -- so has the file of that name
 pub record IsFaulty (holds : Holds) (name : List ℕ) (number : ℕ) (f : LineFault) : Type 0 where

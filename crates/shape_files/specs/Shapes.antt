@@ -13,7 +13,7 @@ use Rattle.shape.specs.declared.whole.Shape.{Shape}
 use Rattle.text_lines.specs.Lines.{lines}
 use Rattle.shape_files.specs.declared.declarations.Declarations.{Declarations}
 use Rattle.shape_files.specs.Keys.{SpellsKey}
-use Rattle.shape_files.specs.Lines.{Said, Nothing, Table, Index, Other, said}
+use Rattle.shape_files.specs.Lines.{Said, Nothing, Table, Index, Other, said_in_line}
 
 -- the shape as far as it is declared
 abbrev pub shape_of : Declarations → Shape
@@ -22,8 +22,8 @@ shape_of d = record { tables = d.tables.items; indexes = d.indexes.items }
 abbrev pub no_shape : Shape
 no_shape = record { tables = []; indexes = [] }
 
-abbrev pub with_table : Shape → TableShape → Shape
-with_table s t = record { tables = s.tables ++ t ∷ []; indexes = s.indexes }
+abbrev pub with_declared_table : Shape → TableShape → Shape
+with_declared_table s t = record { tables = s.tables ++ t ∷ []; indexes = s.indexes }
 
 abbrev pub with_index : Shape → IndexShape → Shape
 with_index s x = record { tables = s.tables; indexes = s.indexes ++ x ∷ [] }
@@ -33,27 +33,27 @@ with_index s x = record { tables = s.tables; indexes = s.indexes ++ x ∷ [] }
 abbrev pub file_name : List ℕ → List ℕ
 file_name name = name ++ codes ".DBF"
 
-abbrev pub plain : Field → List ℕ × Letter × ℕ × ℕ
-plain f = (f.name.items, f.letter, f.width, f.decimals)
+abbrev pub plain_field : Field → List ℕ × Letter × ℕ × ℕ
+plain_field f = (f.name.items, f.letter, f.width, f.decimals)
 
 abbrev pub in_capitals : Field → List ℕ × Letter × ℕ × ℕ
 in_capitals f = (map to_ascii_uppercase f.name.items, f.letter, f.width, f.decimals)
 
 -- The bytes are the file of a table of at most a million rows that has these fields, with their names in capitals here.
-pub record IsTableOf (bytes : List ℕ) (fields : List Field) : Type 0 where
+pub record IsTableWithFields (bytes : List ℕ) (fields : List Field) : Type 0 where
   pub structure : StructureState
   pub rows : List Row
   pub stamp : Stamp
   pub text : DbfText structure rows stamp bytes
   pub few : length rows ≤ 1000000
-  pub same : map plain fields ≡ map in_capitals structure.fields
+  pub same : map plain_field fields ≡ map in_capitals structure.fields
 
 -- the file may hold such a table in at most 64 MiB
 pub record HasFields (holds : Option (List ℕ) → Type 0) (fields : List Field) : Type 0 where
   pub bytes : List ℕ
   pub held : holds (Some bytes)
   pub short : length bytes ≤ 67108864
-  pub table : IsTableOf bytes fields
+  pub table : IsTableWithFields bytes fields
 
 -- ---- what lines declare
 
@@ -62,7 +62,7 @@ pub record DeclaresTable (holds : Holds) (name : List ℕ) (before after : Shape
   pub table : TableShape
   pub named : table.name.items ≡ name
   pub file : HasFields (holds (file_name name)) table.fields
-  pub added : after ≡ with_table before table
+  pub added : after ≡ with_declared_table before table
 
 -- the table of that number has that name and those fields
 pub record NamesTable (tables : List TableShape) (number : ℕ) (name : List ℕ) (fields : List Field) : Type 0 where
@@ -90,7 +90,7 @@ Declares holds Other before after = ⊥
 abbrev pub Declare : Holds → List (List ℕ) → Shape → Shape → Type 0
 Declare holds [] before after = before ≡ after
 Declare holds (line ∷ others) before after =
-    (next : Shape) × Declares holds (said line) before next × Declare holds others next after
+    (next : Shape) × Declares holds (said_in_line line) before next × Declare holds others next after
 
 -- the file of that name may hold lines that declare the shape, each in its turn
 pub record IsDeclared (holds : Holds) (name : List ℕ) (shape : Shape) : Type 0 where

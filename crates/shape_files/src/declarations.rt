@@ -4,7 +4,7 @@ ghost use Rattle.std.specs.Prelude.{◌≡◌, ◌<◌, ℕ, List, true, length,
 ghost use Rattle.shape.specs.Whole.{is_shape};
 ghost use Rattle.shape_files.specs.Lines.{Index, Table};
 ghost use Rattle.shape_files.specs.Refusals.{LineRefusalIs};
-ghost use Rattle.shape_files.specs.Shapes.{NamesTable, no_shape, shape_of, with_index, with_table};
+ghost use Rattle.shape_files.specs.Shapes.{NamesTable, no_shape, shape_of, with_index, with_declared_table};
 
 use crate::names::{as_byte, is_word, name_in};
 use crate::refusal::{LineFault, LineRefusal};
@@ -80,7 +80,7 @@ impl Declarations {
     /// Adds a table, for which there is room. Table where it can't be declared.
     pub fn add_table(&mut self, table: TableShape) -> Result<(), LineRefusal>
         requires { length self.old.tables.items < 32 }
-        ensures added { OnOk result (shape_of self.new ≡ with_table (shape_of self.old) table) }
+        ensures added { OnOk result (shape_of self.new ≡ with_declared_table (shape_of self.old) table) }
         ensures legal { is_shape (shape_of self.old) ≡ true → OnOk result (is_shape (shape_of self.new) ≡ true) }
         ensures refused { (says : List ℕ) (before after : ℕ)
             → IfErr result (LineRefusalIs (shape_of self.old) (Table says) before after) }

@@ -3,7 +3,7 @@
 ghost use Rattle.std.specs.Prelude.{◌≡◌, ◌<◌, ◌≤◌, ◌∷◌, ◌++◌, ℕ, List, length, map, slice_get, codes, IfErr, IfOk};
 ghost use Rattle.std.specs.Prelude.{IfSome, IsTrue, Some};
 ghost use Rattle.std.specs.Char.{to_ascii_uppercase};
-ghost use Rattle.prg_expr.specs.declared.tree.Operator.TheVariants.{Plus};
+ghost use Rattle.prg_expr.specs.declared.tree.BinaryOperator.TheVariants.{Plus};
 ghost use Rattle.prg_expr.specs.Word.{Name as NameWord, Sign, Open as OpenWord, words as words_of};
 ghost use Rattle.shape.specs.Keys.{name_of as name_of_field};
 ghost use Rattle.shape_files.specs.Keys.{SpellsKey, key_words, part_words};
@@ -15,7 +15,7 @@ use crate::names::{as_byte, is_word};
 use crate::refusal::{LineFault, LineRefusal};
 use arrayvec::ArrayVec;
 use dbf_file::Field;
-use prg_expr::{MOST_LETTERS, Operator, Token, name_of, words};
+use prg_expr::{BinaryOperator, MOST_LETTERS, Token, name_of, words};
 use shape::{KeyPart, KeyParts, Name};
 use std::alloc::Global;
 
@@ -104,10 +104,10 @@ fn part_at<'t>(fields: &[Field], tokens: &'t [Token<'t>]) -> Option<(KeyPart, &'
     }
 }
 
-fn is_plus(operator: Operator) -> bool
+fn is_plus(operator: BinaryOperator) -> bool
     ensures { IsTrue result → operator ≡ Plus }
 {
-    matches!(operator, Operator::Plus)
+    matches!(operator, BinaryOperator::Plus)
 }
 
 /// The words behind a plus sign in front.

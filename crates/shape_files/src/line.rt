@@ -3,12 +3,12 @@
 ghost use Rattle.std.specs.Prelude.{◌≡◌, ◌≤◌, ◌==◌, not, length};
 ghost use Rattle.std.specs.List.{prefix_len};
 ghost use Rattle.std.specs.Str.{bytes_eq};
-ghost use Rattle.prg_expr.specs.Lexicon.{is_blank};
+ghost use Rattle.prg_expr.specs.Lexicon.{is_blank_or_tab};
 ghost use Rattle.shape_files.specs.Lines as spec;
 
 /// What a line says.
 #[derive(Clone, Copy, Debug)]
-pub enum Line<'a> {
+pub enum DeclarationLine<'a> {
     /// Nothing: it is empty, or begins with a star.
     Nothing,
     /// `TABLE name`
@@ -24,14 +24,14 @@ pub enum Line<'a> {
 }
 
 fn is_blank(byte: u8) -> bool
-    ensures { result ≡ is_blank byte }
+    ensures { result ≡ is_blank_or_tab byte }
 {
     byte == b' ' || byte == b'\t'
 }
 
 /// How many blanks stand in front.
 fn blanks(text: &[u8]) -> usize
-    ensures value { result ≡ prefix_len is_blank text.now }
+    ensures value { result ≡ prefix_len is_blank_or_tab text.now }
     ensures within { result ≤ length text.now }
 {
     text.iter().take_while(|byte| is_blank(**byte)).count()
@@ -93,13 +93,13 @@ fn begins_with(text: &[u8], word: &[u8]) -> bool
 }
 
 #[tactic(auto, unfolding(crate::specs::Lines::table_said))]
-fn table_said(rest: &[u8]) -> Line<'_>
+fn table_said(rest: &[u8]) -> DeclarationLine<'_>
     ensures { spec.said_of result ≡ spec.table_said rest.now }
 {
     if !is_nothing(rest) && is_nothing(behind_word(rest)) {
-        return Line::Table(first_word(rest));
+        return DeclarationLine::Table(first_word(rest));
     }
-    Line::Other
+    DeclarationLine::Other
 }
 
 /// The name behind ON, and all behind it.
@@ -130,27 +130,27 @@ fn is_key_word(rest: &[u8]) -> bool
 }
 
 #[tactic(auto, unfolding(crate::specs::Lines::index_said))]
-fn index_said(rest: &[u8]) -> Line<'_>
+fn index_said(rest: &[u8]) -> DeclarationLine<'_>
     ensures { spec.said_of result ≡ spec.index_said rest.now }
 {
     if is_on(rest) && is_key_word(rest) && !is_nothing(key_in(rest)) {
-        return Line::Index {
+        return DeclarationLine::Index {
             name: first_word(rest),
             table: first_word(of_table(rest)),
             key: key_in(rest),
         };
     }
-    Line::Other
+    DeclarationLine::Other
 }
 
 /// What a line says.
-#[tactic(auto, unfolding(crate::specs::Lines::said))]
-pub fn line_of(text: &[u8]) -> Line<'_>
-    ensures { spec.said_of result ≡ spec.said text.now }
+#[tactic(auto, unfolding(crate::specs::Lines::said_in_line))]
+pub fn line_of(text: &[u8]) -> DeclarationLine<'_>
+    ensures { spec.said_of result ≡ spec.said_in_line text.now }
 {
     let text = behind_blanks(text);
     if is_skipped(text) {
-        return Line::Nothing;
+        return DeclarationLine::Nothing;
     }
     if begins_with(text, b"TABLE") {
         return table_said(behind_word(text));
@@ -158,5 +158,5 @@ pub fn line_of(text: &[u8]) -> Line<'_>
     if begins_with(text, b"INDEX") {
         return index_said(behind_word(text));
     }
-    Line::Other
+    DeclarationLine::Other
 }

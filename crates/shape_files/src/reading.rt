@@ -4,13 +4,13 @@ ghost use Rattle.std.specs.Prelude.{◌≡◌, ◌≤◌, ℕ, true, Some, lengt
 ghost use Rattle.file_access.specs.Holding.{SameFiles};
 ghost use Rattle.shape.specs.Whole.{is_shape};
 ghost use Rattle.text_lines.specs.Lines.{lines};
-ghost use Rattle.shape_files.specs.Lines.{Index as IndexSaid, Table as TableSaid, said};
+ghost use Rattle.shape_files.specs.Lines.{Index as IndexSaid, Table as TableSaid, said_in_line};
 ghost use Rattle.shape_files.specs.Refusals.{AtLineIs, LineRefusalIs, LinesRefusalIs, ShapeRefusalIs};
 ghost use Rattle.shape_files.specs.Shapes.{Declare, Declares, DeclaresIndex, IsDeclared, no_shape, shape_of};
 
 use crate::declarations::{Declarations, MOST_TABLES};
 use crate::key::key_of;
-use crate::line::{Line, line_of};
+use crate::line::{DeclarationLine, line_of};
 use crate::refusal::{DeclFault, LineFault, LineRefusal, ShapeRefusal};
 use crate::tables::read_fields;
 use file_access::{Files, ReadFault};
@@ -86,20 +86,27 @@ fn declare<F: Files>(
     declarations: &mut Declarations,
     text: &[u8],
 ) -> Result<(), LineRefusal>
-    ensures declared { OnOk result (Declares (F.holds files.old) (said text.now) (shape_of declarations.old)
+    ensures declared { OnOk result (Declares (F.holds files.old) (said_in_line text.now) (shape_of declarations.old)
         (shape_of declarations.new)) }
     ensures legal { is_shape (shape_of declarations.old) ≡ true
         → OnOk result (is_shape (shape_of declarations.new) ≡ true) }
-    ensures refused { IfErr result (LineRefusalIs (shape_of declarations.old) (said text.now) (F.failed files.old)
+    ensures refused { IfErr result
+        (LineRefusalIs (shape_of declarations.old) (said_in_line text.now) (F.failed files.old)
         (F.failed files.new)) }
     ensures counted { F.failed files.old ≤ F.failed files.new }
     ensures kept { SameFiles (F.holds files.old) (F.holds files.new) }
 {
     match line_of(text) {
-        Line::Nothing => Ok(()),
-        Line::Table(name) => declare_table(alloc, files, declarations, name),
-        Line::Index { name, table, key } => declare_index(alloc, declarations, name, table, key),
-        Line::Other => Err(LineRefusal::Fault(LineFault::Word)),
+        DeclarationLine::Nothing => Ok(()),
+        DeclarationLine::Table(name) => declare_table(alloc, files, declarations, name),
+        DeclarationLine::Index { name, table, key } => declare_index(
+            alloc,
+            declarations,
+            name,
+            table,
+            key,
+        ),
+        DeclarationLine::Other => Err(LineRefusal::Fault(LineFault::Word)),
     }
 }
 
@@ -111,11 +118,12 @@ fn declare_at<F: Files>(
     text: &[u8],
     line: usize,
 ) -> Result<(), ShapeRefusal>
-    ensures declared { OnOk result (Declares (F.holds files.old) (said text.now) (shape_of declarations.old)
+    ensures declared { OnOk result (Declares (F.holds files.old) (said_in_line text.now) (shape_of declarations.old)
         (shape_of declarations.new)) }
     ensures legal { is_shape (shape_of declarations.old) ≡ true
         → OnOk result (is_shape (shape_of declarations.new) ≡ true) }
-    ensures refused { IfErr result (AtLineIs line (shape_of declarations.old) (said text.now) (F.failed files.old)
+    ensures refused { IfErr result
+        (AtLineIs line (shape_of declarations.old) (said_in_line text.now) (F.failed files.old)
         (F.failed files.new)) }
     ensures counted { F.failed files.old ≤ F.failed files.new }
     ensures kept { SameFiles (F.holds files.old) (F.holds files.new) }

@@ -5,7 +5,7 @@ ghost use Rattle.file_access.specs.Holding.{SameFiles};
 ghost use Rattle.shape.specs.declared.whole.Shape.{Shape as AnyShape};
 ghost use Rattle.shape_files.specs.Lines.{Table};
 ghost use Rattle.shape_files.specs.Refusals.{LineRefusalIs};
-ghost use Rattle.shape_files.specs.Shapes.{HasFields, IsTableOf, file_name, in_capitals, plain};
+ghost use Rattle.shape_files.specs.Shapes.{HasFields, IsTableWithFields, file_name, in_capitals, plain_field};
 
 use crate::names::file_of;
 use crate::reading::FILE_LIMIT;
@@ -20,7 +20,7 @@ const MOST_ROWS: usize = 1_000_000;
 
 /// The same field with its name in capitals.
 fn with_capitals(field: &Field) -> Field
-    ensures { plain result ≡ in_capitals field.now }
+    ensures { plain_field result ≡ in_capitals field.now }
 {
     Field {
         name: name_of(field.name.as_slice()),
@@ -32,7 +32,7 @@ fn with_capitals(field: &Field) -> Field
 
 /// The same fields with their names in capitals.
 fn fields_of(alloc: Global, fields: &[Field]) -> Result<Vec<Field>, AllocError>
-    ensures { IfOk result (λ copies. map plain copies.items ≡ map in_capitals fields.now) }
+    ensures { IfOk result (λ copies. map plain_field copies.items ≡ map in_capitals fields.now) }
 {
     let mut copies = Vec::with_capacity(alloc, fields.len())?;
     for field in fields {
@@ -64,7 +64,7 @@ fn table_bytes<F: Files>(alloc: Global, files: &mut F, name: &[u8]) -> Result<Ve
 
 /// The fields of the table in a file, with their names in capitals.
 fn fields_in(alloc: Global, bytes: &[u8]) -> Result<Vec<Field>, LineRefusal>
-    ensures fields { IfOk result (λ fields. IsTableOf bytes.now fields.items) }
+    ensures fields { IfOk result (λ fields. IsTableWithFields bytes.now fields.items) }
     ensures refused { (s : AnyShape) (says : List ℕ) (before after : ℕ)
         → IfErr result (LineRefusalIs s (Table says) before after) }
 {

@@ -20,7 +20,7 @@ use Rattle.table_files.specs.declared.refusal.TableFault.{TableFault}
 use Rattle.table_files.specs.declared.refusal.TableFault.TheVariants.{Absent, TooLong, OfTable, Structure}
 use Rattle.table_files.specs.Loading.{IsTableOf, IsListOf, AreListsOf}
 use Rattle.table_files.specs.Names.{table_file, index_file, files_of}
-use Rattle.table_files.specs.Refusals.{FaultIn, IsShort, IsFault, IsMissing, RefusedIn, BytesRefused, TableRefused, LoadRefused, ListRefused, ListsRefused}
+use Rattle.table_files.specs.Refusals.{FaultIn, IsShort, IsTableFault, IsMissing, RefusedIn, BytesRefused, TableRefused, LoadRefused, ListRefused, ListsRefused}
 
 pub kept_on : (a b c : Holds) → SameFiles a b → SameFiles b c → SameFiles a c
 kept_on a b c f g name found = (λ h. (g name found).0 ((f name found).0 h), λ h. (f name found).1 ((g name found).1 h))
@@ -65,7 +65,7 @@ list_before before mid s x list kept h = record { found = h.found; held = (kept 
 
 -- ---- refusals
 
-fault_before : (P Q : Option (List ℕ) → Type 0) (limit : ℕ) (s : TableShape) → ((o : Option (List ℕ)) → P o → Q o) → (fault : TableFault) → IsFault P limit s fault → IsFault Q limit s fault
+fault_before : (P Q : Option (List ℕ) → Type 0) (limit : ℕ) (s : TableShape) → ((o : Option (List ℕ)) → P o → Q o) → (fault : TableFault) → IsTableFault P limit s fault → IsTableFault Q limit s fault
 fault_before P Q limit s to Absent h = to None h
 fault_before P Q limit s to TooLong h = record { bytes = h.bytes; held = to (Some h.bytes) h.held; fact = h.fact }
 fault_before P Q limit s to (OfTable fault) h = record { bytes = h.bytes; held = to (Some h.bytes) h.held; fact = h.fact }
@@ -82,7 +82,7 @@ load_refused holds shape limit t s tables B here earlier (Refused name fault) h 
 load_refused holds shape limit t s tables B here earlier (Disk name) h = (t, table_place shape t s here ∙ ap Some (sym h.0), h.1)
 load_refused holds shape limit t s tables B here earlier Memory h = tt
 
-missing_fault : (holds : Option (List ℕ) → Type 0) (limit : ℕ) (s : TableShape) (fault : TableFault) → IsMissing holds fault → IsFault holds limit s fault
+missing_fault : (holds : Option (List ℕ) → Type 0) (limit : ℕ) (s : TableShape) (fault : TableFault) → IsMissing holds fault → IsTableFault holds limit s fault
 missing_fault holds limit s Absent h = h
 missing_fault holds limit s TooLong h = h
 missing_fault holds limit s (OfTable fault) h = absurd h
@@ -93,7 +93,7 @@ bytes_refused holds limit s file B same (Refused name fault) h = (h.0 ∙ same, 
 bytes_refused holds limit s file B same (Disk name) h = (h.0 ∙ same, h.1)
 bytes_refused holds limit s file B same Memory h = tt
 
-inside_fault : (holds : Option (List ℕ) → Type 0) (limit : ℕ) (s : TableShape) (bytes : List ℕ) → holds (Some bytes) → IsShort bytes → (fault : TableFault) → FaultIn limit s bytes fault → IsFault holds limit s fault
+inside_fault : (holds : Option (List ℕ) → Type 0) (limit : ℕ) (s : TableShape) (bytes : List ℕ) → holds (Some bytes) → IsShort bytes → (fault : TableFault) → FaultIn limit s bytes fault → IsTableFault holds limit s fault
 inside_fault holds limit s bytes held short Absent h = absurd h
 inside_fault holds limit s bytes held short TooLong h = absurd h
 inside_fault holds limit s bytes held short (OfTable fault) h = record { bytes = bytes; held = held; fact = (short, h) }

@@ -21,11 +21,11 @@ use Rattle.shape.specs.Whole.{is_shape}
 use Rattle.open_table.specs.Open.{OpenState}
 use Rattle.open_table.specs.Marks.{IndexMark, mark_at, is_fresh, parts_in, form_in}
 use Rattle.work_area.specs.Areas.{StoreState, index_table, mark_in}
-use Rattle.work_area.specs.Making.{AreMarks, FirstIs as FirstMark, IsMarkOf, form_of, lists_just}
+use Rattle.work_area.specs.Making.{AreMarks, FirstIs as FirstMark, IsMarkOf, key_form, lists_just}
 use Rattle.work_area.specs.Shapes.{AreFound, IsFoundIn}
 use Rattle.table_files.specs.Loading.{FoundList, Loaded}
 use Rattle.table_files.specs.Names.{index_file}
-use Rattle.table_files.specs.Saving.{Write, table_writes, is_listed, FirstIs, IsIndexWrite, AreIndexWrites, AreSaved, HoldsLists, FindsLists}
+use Rattle.table_files.specs.Saving.{Write, table_writes, has_fresh_index, FirstWriteIs, IsIndexWrite, AreIndexWrites, AreSaved, HoldsLists, FindsLists}
 use Rattle.table_files.proofs.LawLemmas.{some_same, get_taken, marks_at, finds_saved}
 use Rattle.table_files.proofs.WriteLemmas.{all_split}
 
@@ -35,43 +35,43 @@ use Rattle.table_files.proofs.WriteLemmas.{all_split}
 abbrev IsAmong : (Write → Type 0) → StoreState → ℕ → IndexShape → Type 0
 IsAmong P store m x = (w : Write) × IsIndexWrite store m x w × P w
 
-first_written : (P : Write → Type 0) (store : StoreState) (m : ℕ) (x : IndexShape) (Q : List Write → Type 0) (ws : List Write) → AllByRecursion P ws → FirstIs (IsIndexWrite store m x) Q ws → IsAmong P store m x
+first_written : (P : Write → Type 0) (store : StoreState) (m : ℕ) (x : IndexShape) (Q : List Write → Type 0) (ws : List Write) → AllByRecursion P ws → FirstWriteIs (IsIndexWrite store m x) Q ws → IsAmong P store m x
 first_written P store m x Q [] all h = absurd h
 first_written P store m x Q (w ∷ ws) all h = (w, h.0, all.0)
 
-behind_written : (P R : Write → Type 0) (A : Type 0) (Q : List Write → Type 0) (ws : List Write) → AllByRecursion P ws → ((vs : List Write) → AllByRecursion P vs → Q vs → A) → FirstIs R Q ws → A
+behind_written : (P R : Write → Type 0) (A : Type 0) (Q : List Write → Type 0) (ws : List Write) → AllByRecursion P ws → ((vs : List Write) → AllByRecursion P vs → Q vs → A) → FirstWriteIs R Q ws → A
 behind_written P R A Q [] all more h = absurd h
 behind_written P R A Q (w ∷ ws) all more h = more ws all.1 h.1
 
-index_written : (P : Write → Type 0) (store : StoreState) (n m i : ℕ) (xs : List IndexShape) (x : IndexShape) (ws : List Write) → n + i ≡ m → slice_get xs i ≡ Some x → is_listed store m ≡ true
+index_written : (P : Write → Type 0) (store : StoreState) (n m i : ℕ) (xs : List IndexShape) (x : IndexShape) (ws : List Write) → n + i ≡ m → slice_get xs i ≡ Some x → has_fresh_index store m ≡ true
     → AllByRecursion P ws → AreIndexWrites store n xs ws → IsAmong P store m x
 index_written P store n m i [] x ws e at listed all h = absurd (cc)
 index_written P store n m zero (y ∷ xs) x ws e at listed all h =
     let same : n ≡ m = omega arith in
-    let here : is_listed store n ≡ true = ap (is_listed store) same ∙ listed in
-    let first : FirstIs (IsIndexWrite store n y) (AreIndexWrites store (n + 1) xs) ws = subst (λ b. MatchBool b (FirstIs (IsIndexWrite store n y) (AreIndexWrites store (n + 1) xs) ws) (AreIndexWrites store (n + 1) xs ws)) here h in
+    let here : has_fresh_index store n ≡ true = ap (has_fresh_index store) same ∙ listed in
+    let first : FirstWriteIs (IsIndexWrite store n y) (AreIndexWrites store (n + 1) xs) ws = subst (λ b. MatchBool b (FirstWriteIs (IsIndexWrite store n y) (AreIndexWrites store (n + 1) xs) ws) (AreIndexWrites store (n + 1) xs ws)) here h in
     subst (λ k. IsAmong P store k x) same
     (subst (IsAmong P store n) (some_same y x at) (first_written P store n y (AreIndexWrites store (n + 1) xs) ws all first))
 index_written P store n m (suc i) (y ∷ xs) x ws e at listed all h =
     let more : (vs : List Write) → AllByRecursion P vs → AreIndexWrites store (n + 1) xs vs → IsAmong P store m x = λ vs some. index_written P store (n + 1) m i xs x vs (omega arith) at listed some in
-    (elim (is_listed store n) as (λ b. MatchBool b (FirstIs (IsIndexWrite store n y) (AreIndexWrites store (n + 1) xs) ws) (AreIndexWrites store (n + 1) xs ws) → IsAmong P store m x) [
+    (elim (has_fresh_index store n) as (λ b. MatchBool b (FirstWriteIs (IsIndexWrite store n y) (AreIndexWrites store (n + 1) xs) ws) (AreIndexWrites store (n + 1) xs ws) → IsAmong P store m x) [
       | true ↦ λ p. behind_written P (IsIndexWrite store n y) (IsAmong P store m x) (AreIndexWrites store (n + 1) xs) ws all more p
       | false ↦ λ p. more ws all p
     ]) h
 
 declared_text : (store : StoreState) (n : ℕ) (x : IndexShape) (s : TableShape) (o : OpenState) (bytes : List ℕ) → IsFoundIn store n x s o
     → IsSomeAnd (index_table store n) (λ u. IsIndexText bytes (form_in u.table.structure (mark_at u.table.marks n)) (index_list (parts_in (mark_at u.table.marks n)) u.table.rows))
-    → IsIndexText bytes (form_of s x) (index_list x.key o.table.rows)
+    → IsIndexText bytes (key_form s x) (index_list x.key o.table.rows)
 declared_text store n x s o bytes is text =
     let here : IsIndexText bytes (form_in o.table.structure (mark_at o.table.marks n)) (index_list (parts_in (mark_at o.table.marks n)) o.table.rows) =
     subst (λ (u : Option OpenState). IsSomeAnd u (λ u. IsIndexText bytes (form_in u.table.structure (mark_at u.table.marks n)) (index_list (parts_in (mark_at u.table.marks n)) u.table.rows))) is.found text in
-    subst (λ (key : List KeyPart). IsIndexText bytes (form_of s x) (index_list key o.table.rows)) is.parts
+    subst (λ (key : List KeyPart). IsIndexText bytes (key_form s x) (index_list key o.table.rows)) is.parts
     (subst (λ (form : KeyForm). IsIndexText bytes form (index_list (parts_in (mark_at o.table.marks n)) o.table.rows)) is.form here)
 
 pub holds_lists : (before after : Holds) (shape : Shape) (store : StoreState) (stamp : Stamp) (k : ℕ) → AreFound shape store → AreSaved shape store stamp k before after → HoldsLists after shape store k
 holds_lists before after shape store stamp k found h n x s o saved =
     let is : IsFoundIn store n x s o = found n x o s saved.index saved.table saved.declared in
-    let listed : is_listed store n ≡ true = ap (λ (u : Option OpenState). is_fresh (mark_in u n)) is.found ∙ saved.fresh in
+    let listed : has_fresh_index store n ≡ true = ap (λ (u : Option OpenState). is_fresh (mark_in u n)) is.found ∙ saved.fresh in
     let written : AllByRecursion (λ (w : Write). after w.0 (Some w.1)) h.are.of_indexes =
     (all_split (λ (w : Write). after w.0 (Some w.1)) (table_writes stamp (take k shape.tables) store.tables) h.are.of_indexes
     (subst (λ (ws : List Write). AllByRecursion (λ (w : Write). after w.0 (Some w.1)) ws) h.are.whole h.replaced.written)).1 in
@@ -124,7 +124,7 @@ finds_lists before after shape store loaded stamp k limit one legal h g n x s o 
     let rows : l.table.rows ≡ o.table.rows = ((finds_saved before after shape store loaded stamp k limit one legal h g).saved x.table s o l low saved.declared saved.table there few).1 in
     let list = g.listed.each n x s saved.index saved.declared in
     let same : list.found ≡ Some file.bytes = one (index_file x) list.found (Some file.bytes) list.held file.held in
-    let just = (list.just (index_list x.key o.table.rows)).1 (subst (λ (f : Option (List ℕ)). FoundList f (form_of s x) (index_list x.key o.table.rows)) (sym same) (short, file.text.file)) in
+    let just = (list.just (index_list x.key o.table.rows)).1 (subst (λ (f : Option (List ℕ)). FoundList f (key_form s x) (index_list x.key o.table.rows)) (sym same) (short, file.text.file)) in
     let m = marked (lists_just (λ (k : TreeView). k.pairs) g.lists) s.fields l.table.rows x.table 0 n n shape.indexes x l.table.marks (omega arith) saved.index refl (marks_at after shape limit loaded x.table s l g saved.declared there) in
     let stale : m.0.stale ≡ false = m.2.fresh.1 (subst (λ (rs : List Row). lists_just (λ (k : TreeView). k.pairs) g.lists n (index_list x.key rs)) (sym rows) just) in
     ap is_fresh m.1 ∙ ap not stale

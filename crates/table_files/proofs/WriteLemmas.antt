@@ -24,7 +24,7 @@ use Rattle.work_area.specs.Areas.{StoreState, index_table, mark_in}
 use Rattle.table_files.specs.declared.refusal.FilesRefusal.{FilesRefusal}
 use Rattle.table_files.specs.declared.refusal.FilesRefusal.TheVariants.{Refused, Disk, Memory}
 use Rattle.table_files.specs.Names.{table_file, index_file, files_of}
-use Rattle.table_files.specs.Saving.{Write, IsReadable, AreReplaced, table_writes, IsIndexWrite, FirstIs, is_listed, AreIndexWrites, AreSaved, WriteRefused, SaveRefused, EndedAt, TablesEnded, ListSaved, ListsSaved, ListsEnded}
+use Rattle.table_files.specs.Saving.{Write, IsReadable, AreReplaced, table_writes, IsIndexWrite, FirstWriteIs, has_fresh_index, AreIndexWrites, AreSaved, WriteRefused, SaveRefused, EndedAt, TablesEnded, ListSaved, ListsSaved, ListsEnded}
 use Rattle.table_files.proofs.FileLemmas.{take_next, table_place, index_place}
 use Rattle.table_files.proofs.ShapeLemmas.{other_kinds}
 
@@ -105,7 +105,7 @@ table_names Q stamp (s ∷ ss) (o ∷ os) h = (h.0, table_names Q stamp ss os h.
 -- ---- indexes
 
 first_named : (Q : List ℕ → Type 0) (store : StoreState) (n : ℕ) (x : IndexShape) (R : List Write → Type 0) → Q (index_file x) → ((ws : List Write) → R ws → AllByRecursion (λ w. Q w.0) ws)
-    → (ws : List Write) → FirstIs (IsIndexWrite store n x) R ws → AllByRecursion (λ w. Q w.0) ws
+    → (ws : List Write) → FirstWriteIs (IsIndexWrite store n x) R ws → AllByRecursion (λ w. Q w.0) ws
 first_named Q store n x R here rest [] h = absurd h
 first_named Q store n x R here rest (w ∷ ws) h = (subst Q (sym h.0.name) here, rest ws h.1)
 
@@ -116,16 +116,16 @@ either_named Q false P R ws f g h = g h
 pub index_names : (Q : List ℕ → Type 0) (store : StoreState) (n : ℕ) (xs : List IndexShape) (ws : List Write) → AllByRecursion (λ x. Q (index_file x)) xs → AreIndexWrites store n xs ws → AllByRecursion (λ w. Q w.0) ws
 index_names Q store n [] ws h are = subst (λ l. AllByRecursion (λ w. Q w.0) l) (sym are) tt
 index_names Q store n (x ∷ xs) ws h are =
-    either_named Q (is_listed store n) (FirstIs (IsIndexWrite store n x) (AreIndexWrites store (n + 1) xs) ws) (AreIndexWrites store (n + 1) xs ws) ws
+    either_named Q (has_fresh_index store n) (FirstWriteIs (IsIndexWrite store n x) (AreIndexWrites store (n + 1) xs) ws) (AreIndexWrites store (n + 1) xs ws) ws
     (first_named Q store n x (AreIndexWrites store (n + 1) xs) h.0 (λ vs. index_names Q store (n + 1) xs vs h.1) ws)
     (index_names Q store (n + 1) xs ws h.1)
     are
 
-first_more : (P : Write → Type 0) (Q R : List Write → Type 0) (w : Write) → ((ws : List Write) → Q ws → R (ws ++ w ∷ [])) → (ws : List Write) → FirstIs P Q ws → FirstIs P R (ws ++ w ∷ [])
+first_more : (P : Write → Type 0) (Q R : List Write → Type 0) (w : Write) → ((ws : List Write) → Q ws → R (ws ++ w ∷ [])) → (ws : List Write) → FirstWriteIs P Q ws → FirstWriteIs P R (ws ++ w ∷ [])
 first_more P Q R w to [] h = absurd h
 first_more P Q R w to (v ∷ ws) h = (h.0, to ws h.1)
 
-first_on : (P : Write → Type 0) (Q R : List Write → Type 0) → ((ws : List Write) → Q ws → R ws) → (ws : List Write) → FirstIs P Q ws → FirstIs P R ws
+first_on : (P : Write → Type 0) (Q R : List Write → Type 0) → ((ws : List Write) → Q ws → R ws) → (ws : List Write) → FirstWriteIs P Q ws → FirstWriteIs P R ws
 first_on P Q R to [] h = absurd h
 first_on P Q R to (v ∷ ws) h = (h.0, to ws h.1)
 
@@ -133,29 +133,29 @@ either_on : (b : Bool) (P Q R S : Type 0) → (P → R) → (Q → S) → MatchB
 either_on true P Q R S f g h = f h
 either_on false P Q R S f g h = g h
 
-pub index_more : (store : StoreState) (n m : ℕ) (xs : List IndexShape) (x : IndexShape) (ws : List Write) (w : Write) → m ≡ n + length xs → is_listed store m ≡ true → IsIndexWrite store m x w
+pub index_more : (store : StoreState) (n m : ℕ) (xs : List IndexShape) (x : IndexShape) (ws : List Write) (w : Write) → m ≡ n + length xs → has_fresh_index store m ≡ true → IsIndexWrite store m x w
     → AreIndexWrites store n xs ws → AreIndexWrites store n (xs ++ x ∷ []) (ws ++ w ∷ [])
 index_more store n m [] x ws w at listed here are =
     let same : n ≡ m = omega arith in
     subst (λ (k : ℕ). AreIndexWrites store k (x ∷ []) (ws ++ w ∷ [])) (sym same)
     (subst (λ (l : List Write). AreIndexWrites store m (x ∷ []) (l ++ w ∷ [])) (sym are)
-    (subst (λ (b : Bool). MatchBool b (FirstIs (IsIndexWrite store m x) (AreIndexWrites store (m + 1) []) (w ∷ [])) (AreIndexWrites store (m + 1) [] (w ∷ []))) (sym listed) (here, refl)))
+    (subst (λ (b : Bool). MatchBool b (FirstWriteIs (IsIndexWrite store m x) (AreIndexWrites store (m + 1) []) (w ∷ [])) (AreIndexWrites store (m + 1) [] (w ∷ []))) (sym listed) (here, refl)))
 index_more store n m (y ∷ xs) x ws w at listed here are =
     let next : m ≡ (n + 1) + length xs = omega arith in
-    either_on (is_listed store n) _ _ _ _
+    either_on (has_fresh_index store n) _ _ _ _
     (first_more (IsIndexWrite store n y) (AreIndexWrites store (n + 1) xs) (AreIndexWrites store (n + 1) (xs ++ x ∷ [])) w (λ vs. index_more store (n + 1) m xs x vs w next listed here) ws)
     (index_more store (n + 1) m xs x ws w next listed here)
     are
 
-pub index_stale : (store : StoreState) (n m : ℕ) (xs : List IndexShape) (x : IndexShape) (ws : List Write) → m ≡ n + length xs → is_listed store m ≡ false
+pub index_stale : (store : StoreState) (n m : ℕ) (xs : List IndexShape) (x : IndexShape) (ws : List Write) → m ≡ n + length xs → has_fresh_index store m ≡ false
     → AreIndexWrites store n xs ws → AreIndexWrites store n (xs ++ x ∷ []) ws
 index_stale store n m [] x ws at stale are =
     let same : n ≡ m = omega arith in
     subst (λ (k : ℕ). AreIndexWrites store k (x ∷ []) ws) (sym same)
-    (subst (λ (b : Bool). MatchBool b (FirstIs (IsIndexWrite store m x) (AreIndexWrites store (m + 1) []) ws) (AreIndexWrites store (m + 1) [] ws)) (sym stale) are)
+    (subst (λ (b : Bool). MatchBool b (FirstWriteIs (IsIndexWrite store m x) (AreIndexWrites store (m + 1) []) ws) (AreIndexWrites store (m + 1) [] ws)) (sym stale) are)
 index_stale store n m (y ∷ xs) x ws at stale are =
     let next : m ≡ (n + 1) + length xs = omega arith in
-    either_on (is_listed store n) _ _ _ _
+    either_on (has_fresh_index store n) _ _ _ _
     (first_on (IsIndexWrite store n y) (AreIndexWrites store (n + 1) xs) (AreIndexWrites store (n + 1) (xs ++ x ∷ [])) (λ vs. index_stale store (n + 1) m xs x vs next stale) ws)
     (index_stale store (n + 1) m xs x ws next stale)
     are
@@ -246,7 +246,7 @@ copied_fact (Some x) P h = h
 none_kept : (a b : Holds) → AreReplaced a [] b → SameFiles a b
 none_kept a b h name found = h.others name tt found
 
-pub list_saved : (before mid after : Holds) (shape : Shape) (store : StoreState) (n : ℕ) (x : IndexShape) (list : Option TreeView) → is_some list ≡ is_listed store n
+pub list_saved : (before mid after : Holds) (shape : Shape) (store : StoreState) (n : ℕ) (x : IndexShape) (list : Option TreeView) → is_some list ≡ has_fresh_index store n
     → IfSome list (λ k. IfSome (index_table store n) (λ o. k.pairs ≡ index_list (parts_in (mark_at o.table.marks n)) o.table.rows))
     → IfSome list (λ k. IfSome (index_table store n) (λ o. k.form ≡ form_in o.table.structure (mark_at o.table.marks n)))
     → slice_get shape.indexes n ≡ Some x → AllByRecursion (λ y. index_file y ≢ index_file x) (take n shape.indexes)

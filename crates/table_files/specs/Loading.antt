@@ -16,7 +16,7 @@ use Rattle.shape.specs.declared.indexes.IndexShape.{IndexShape}
 use Rattle.shape.specs.declared.tables.TableShape.{TableShape}
 use Rattle.shape.specs.declared.whole.Shape.{Shape}
 use Rattle.work_area.specs.Areas.{StoreState}
-use Rattle.work_area.specs.Making.{AreAlike, IsNewStore, form_of, lists_just}
+use Rattle.work_area.specs.Making.{HaveAlikeFields, IsNewStore, key_form, lists_just}
 use Rattle.table_files.specs.Names.{table_file, index_file}
 
 -- ---- tables
@@ -29,7 +29,7 @@ AreNamed fields others = (k : ℕ) (d : Field) → k < length fields
 
 -- the declared fields in their order
 pub record AreDeclared (fields declared : List Field) : Type 0 where
-  pub alike : AreAlike fields declared
+  pub alike : HaveAlikeFields fields declared
   pub named : AreNamed fields declared
 
 -- the table that stands in the bytes of a file, and no other, with the declared fields and no more rows than the limit
@@ -60,8 +60,8 @@ FoundList (Some bytes) form pairs = (length bytes ≤ 67108864) × IsIndexFile b
 pub record IsListOf (holds : Holds) (s : TableShape) (x : IndexShape) (list : Option TreeView) : Type 0 where
   pub found : Option (List ℕ)
   pub held : holds (index_file x) found
-  pub form : IfSome list (λ k. k.form ≡ form_of s x)
-  pub just : (pairs : List Pair) → IsSomeAnd list (λ k. k.pairs ≡ pairs) ↔ FoundList found (form_of s x) pairs
+  pub form : IfSome list (λ k. k.form ≡ key_form s x)
+  pub just : (pairs : List Pair) → IsSomeAnd list (λ k. k.pairs ≡ pairs) ↔ FoundList found (key_form s x) pairs
 
 -- what was read for each index of a shape
 pub record AreListsOf (holds : Holds) (shape : Shape) (lists : List (Option TreeView)) : Type 0 where

@@ -45,11 +45,12 @@ abbrev pub IsLong : List ℕ → Type 0
 IsLong bytes = 67108864 < length bytes
 
 -- what is wrong with a table's file, which may hold that
-abbrev pub IsFault : (Option (List ℕ) → Type 0) → ℕ → TableShape → TableFault → Type 0
-IsFault holds limit s Absent = holds None
-IsFault holds limit s TooLong = MayHold holds IsLong
-IsFault holds limit s (OfTable fault) = MayHold holds (λ bytes. IsShort bytes × FaultIn limit s bytes (OfTable fault))
-IsFault holds limit s Structure = MayHold holds (λ bytes. IsShort bytes × FaultIn limit s bytes Structure)
+abbrev pub IsTableFault : (Option (List ℕ) → Type 0) → ℕ → TableShape → TableFault → Type 0
+IsTableFault holds limit s Absent = holds None
+IsTableFault holds limit s TooLong = MayHold holds IsLong
+IsTableFault holds limit s (OfTable fault) = MayHold holds (λ bytes. IsShort bytes
+    × FaultIn limit s bytes (OfTable fault))
+IsTableFault holds limit s Structure = MayHold holds (λ bytes. IsShort bytes × FaultIn limit s bytes Structure)
 
 -- the same where bytes are there, of a file of this name
 abbrev pub RefusedIn : ℕ → TableShape → List ℕ → List ℕ → FilesRefusal → Type 0
@@ -72,7 +73,7 @@ BytesRefused holds file broke Memory = ⊤
 -- why a declared table isn't loaded; `broke` says that the device failed
 abbrev pub TableRefused : Holds → ℕ → TableShape → Type 0 → FilesRefusal → Type 0
 TableRefused holds limit s broke (Refused name fault) =
-    (name.bytes ≡ table_file s) × IsFault (holds (table_file s)) limit s fault
+    (name.bytes ≡ table_file s) × IsTableFault (holds (table_file s)) limit s fault
 TableRefused holds limit s broke (Disk name) = (name.bytes ≡ table_file s) × broke
 TableRefused holds limit s broke Memory = ⊤
 
@@ -85,7 +86,7 @@ pub record IsRefusedTable (holds : Holds) (shape : Shape) (limit : ℕ) (file : 
   pub tables : List TableState
   pub earlier : AllZip (IsTableOf holds limit) (take t shape.tables) tables
   pub named : file ≡ table_file s
-  pub fault_is : IsFault (holds (table_file s)) limit s fault
+  pub fault_is : IsTableFault (holds (table_file s)) limit s fault
 
 -- why what is declared isn't loaded: the first table with a fault has it, or the device failed at a declared file
 abbrev pub LoadRefused : Holds → Shape → ℕ → Type 0 → FilesRefusal → Type 0

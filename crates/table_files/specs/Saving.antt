@@ -14,7 +14,7 @@ use Rattle.shape.specs.declared.whole.Shape.{Shape}
 use Rattle.open_table.specs.Open.{OpenState}
 use Rattle.open_table.specs.Marks.{mark_at, is_fresh, parts_in, form_in}
 use Rattle.work_area.specs.Areas.{StoreState, table_at, index_table, mark_in}
-use Rattle.work_area.specs.Making.{form_of}
+use Rattle.work_area.specs.Making.{key_form}
 use Rattle.table_files.specs.declared.refusal.FilesRefusal.{FilesRefusal}
 use Rattle.table_files.specs.declared.refusal.FilesRefusal.TheVariants.{Refused, Disk, Memory}
 use Rattle.table_files.specs.Loading.{IsTableOf}
@@ -53,19 +53,19 @@ pub record IsIndexWrite (store : StoreState) (n : ℕ) (x : IndexShape) (w : Wri
       (index_list (parts_in (mark_at o.table.marks n)) o.table.rows))
 
 -- a fact of the first, and one of the others
-abbrev pub FirstIs : (Write → Type 0) → (List Write → Type 0) → List Write → Type 0
-FirstIs P Q [] = ⊥
-FirstIs P Q (w ∷ writes) = P w × Q writes
+abbrev pub FirstWriteIs : (Write → Type 0) → (List Write → Type 0) → List Write → Type 0
+FirstWriteIs P Q [] = ⊥
+FirstWriteIs P Q (w ∷ writes) = P w × Q writes
 
 -- whether index n is there and isn't stale
-abbrev pub is_listed : StoreState → ℕ → Bool
-is_listed store n = is_fresh (mark_in (index_table store n) n)
+abbrev pub has_fresh_index : StoreState → ℕ → Bool
+has_fresh_index store n = is_fresh (mark_in (index_table store n) n)
 
 -- the file of each index that isn't stale, in their order, the first index being index n
 abbrev pub AreIndexWrites : StoreState → ℕ → List IndexShape → List Write → Type 0
 AreIndexWrites store n [] writes = writes ≡ []
-AreIndexWrites store n (x ∷ xs) writes = MatchBool (is_listed store n)
-    (FirstIs (IsIndexWrite store n x) (AreIndexWrites store (n + 1) xs) writes)
+AreIndexWrites store n (x ∷ xs) writes = MatchBool (has_fresh_index store n)
+    (FirstWriteIs (IsIndexWrite store n x) (AreIndexWrites store (n + 1) xs) writes)
     (AreIndexWrites store (n + 1) xs writes)
 
 -- ---- parts of it
@@ -156,7 +156,7 @@ pub record FindsSaved (before : Holds) (shape : Shape) (store : StoreState) (k l
 pub record IsListFile (holds : Holds) (s : TableShape) (x : IndexShape) (o : OpenState) : Type 0 where
   pub bytes : List ℕ
   pub held : holds (index_file x) (Some bytes)
-  pub text : IsIndexText bytes (form_of s x) (index_list x.key o.table.rows)
+  pub text : IsIndexText bytes (key_form s x) (index_list x.key o.table.rows)
 
 -- index n, of table o that is declared as s, isn't stale, and its file is one of the first k
 pub record IsSaved (shape : Shape) (store : StoreState) (k n : ℕ) (x : IndexShape) (s : TableShape)

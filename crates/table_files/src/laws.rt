@@ -6,7 +6,7 @@ ghost use Rattle.file_access.specs.Holding.{HoldsOneThing};
 ghost use Rattle.shape.specs.Whole.{is_shape};
 ghost use Rattle.shape.specs.declared.whole.Shape.{Shape as TheShape};
 ghost use Rattle.work_area.specs.Areas.{StoreState};
-ghost use Rattle.work_area.specs.Shapes.{HasShape};
+ghost use Rattle.work_area.specs.Shapes.{StoreHasShape};
 ghost use Rattle.table_files.specs.Loading.{Loaded};
 ghost use Rattle.table_files.specs.Saving.{AreSaved, FindsLists, FindsSaved, HoldsLists};
 
@@ -28,7 +28,7 @@ pub fn loads_find_what_was_saved<F: Files>()
 /// made.
 pub fn saved_indexes_have_their_declared_keys<F: Files>()
     ensures { (before after : F) (shape : TheShape) (store : StoreState) (stamp : TheStamp) (k : ℕ)
-        → HasShape shape store
+        → StoreHasShape shape store
         → AreSaved shape store stamp k (F.holds before) (F.holds after) → HoldsLists (F.holds after) shape store k }
 {
     indexes_have_their_declared_keys();

@@ -7,7 +7,7 @@ ghost use Rattle.ndx_tree.specs.IndexFile.{IsIndexFile};
 ghost use Rattle.key_lists.specs.Pairs.{Pair};
 ghost use Rattle.shape.specs.Names.{is_file_name};
 ghost use Rattle.shape.specs.Whole.{is_shape};
-ghost use Rattle.work_area.specs.Making.{form_of};
+ghost use Rattle.work_area.specs.Making.{key_form};
 ghost use Rattle.table_files.specs.Loading.{IsListOf, AreListsOf};
 ghost use Rattle.table_files.specs.Names.{index_file};
 ghost use Rattle.table_files.specs.Refusals.{ListRefused, ListsRefused};
@@ -37,9 +37,9 @@ fn list_in(
     index: &IndexShape,
 ) -> Result<Option<NdxTree>, AllocError>
     requires { length bytes.now ≤ 67108864 }
-    ensures form { IfOk result (λ list. IfSome list (λ k. k.form ≡ form_of table.now index.now)) }
+    ensures form { IfOk result (λ list. IfSome list (λ k. k.form ≡ key_form table.now index.now)) }
     ensures just { IfOk result (λ list. (pairs : List Pair)
-        → IsSomeAnd list (λ k. k.pairs ≡ pairs) ↔ IsIndexFile bytes.now (form_of table.now index.now) pairs) }
+        → IsSomeAnd list (λ k. k.pairs ≡ pairs) ↔ IsIndexFile bytes.now (key_form table.now index.now) pairs) }
 {
     let tree = match NdxTree::read(alloc, bytes) {
         Ok(tree) => tree,

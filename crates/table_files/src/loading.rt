@@ -3,7 +3,7 @@
 ghost use Rattle.std.specs.Prelude.{◌≡◌, ◌≤◌, true, IfOk, IfErr};
 ghost use Rattle.file_access.specs.Holding.{Rose, SameFiles};
 ghost use Rattle.shape.specs.Whole.{is_shape};
-ghost use Rattle.work_area.specs.Shapes.{HasShape};
+ghost use Rattle.work_area.specs.Shapes.{StoreHasShape};
 ghost use Rattle.table_files.specs.Loading.{Loaded};
 ghost use Rattle.table_files.specs.Refusals.{LoadRefused};
 
@@ -34,7 +34,7 @@ pub fn load<F: Files>(
     requires legal { is_shape shape.now ≡ true }
     requires few { limit ≤ 1000000 }
     ensures loaded { IfOk result (Loaded (F.holds files.old) shape.now limit) }
-    ensures shape { IfOk result (HasShape shape.now) }
+    ensures shape { IfOk result (StoreHasShape shape.now) }
     ensures refused { IfErr result (LoadRefused (F.holds files.old) shape.now limit
         (Rose (F.failed files.old) (F.failed files.new))) }
     ensures kept { SameFiles (F.holds files.old) (F.holds files.new) }

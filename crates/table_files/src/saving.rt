@@ -8,7 +8,7 @@ ghost use Rattle.dbf_file.specs.Tables.{DbfText, dbf_text};
 ghost use Rattle.file_access.specs.Holding.{Rose, SameFiles};
 ghost use Rattle.shape.specs.Names.{is_file_name};
 ghost use Rattle.shape.specs.Whole.{is_shape};
-ghost use Rattle.work_area.specs.Shapes.{HasShape};
+ghost use Rattle.work_area.specs.Shapes.{StoreHasShape};
 ghost use Rattle.table_files.specs.Names.{files_of, table_file, index_file};
 ghost use Rattle.table_files.specs.Saving.{AreReplaced, AreSaved, IsReadable, EndedAt, WriteRefused, table_writes};
 ghost use Rattle.table_files.specs.Saving.{ListSaved, TablesEnded, ListsSaved, ListsEnded};

@@ -1,7 +1,7 @@
 //! Where a code's blocks stand: the place at which a procedure begins, and the instructions of a filter.
 
 ghost use Rattle.std.specs.Prelude.{◌≡◌, ◌≤◌, length, take, drop, map};
-ghost use Rattle.code_items.specs.Legal.{IsCode, total};
+ghost use Rattle.code_items.specs.Legal.{IsCode, places_in_all};
 ghost use Rattle.run_steps.specs.Control.{entry_place as entry_place_of};
 ghost use Rattle.run_steps.specs.Filters.{filter_block};
 
@@ -29,7 +29,7 @@ pub fn entry_place(code: &Code, number: u16) -> usize
 /// How many instructions the blocks of some filters have.
 fn places_of_filters(filters: &[Filter]) -> usize
     requires { length filters.now ≤ 64 }
-    ensures value { result ≡ total (map (λ f. f.length) filters.now) }
+    ensures value { result ≡ places_in_all (map (λ f. f.length) filters.now) }
     ensures few { result ≤ 4194304 }
 {
     let mut places = 0;

@@ -1,7 +1,7 @@
 //! Tests of where an instruction leads.
 
 ghost use Rattle.std.specs.Prelude.{◌≡◌, ◌<◌, length, nat_le};
-ghost use Rattle.code_rules.specs.Rules.{if_some};
+ghost use Rattle.code_rules.specs.Rules.{fails_if_named};
 ghost use Rattle.code_rules.specs.Signature.{call_of};
 ghost use Rattle.code_items.specs.Legal.{IsCode};
 ghost use Rattle.run_steps.specs.Control.{is_false as is_false_of, flow_place as flow_place_of, place_after};
@@ -94,7 +94,7 @@ pub fn bad_jump(
 
 /// Whether it calls where 20 calls haven't returned.
 pub fn deep_call(returns: &ReturnPlaces, instr: Instr) -> bool
-    ensures { result ≡ if_some (λ n. nat_le 20 (length returns.now)) (call_of instr) }
+    ensures { result ≡ fails_if_named (λ n. nat_le 20 (length returns.now)) (call_of instr) }
 {
     match called(instr) {
         Some(_) => 20 <= returns.len(),

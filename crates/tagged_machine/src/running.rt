@@ -10,7 +10,7 @@ ghost use Rattle.tagged_machine.specs.Seen.{world_of};
 ghost use Rattle.work_area.specs.Areas.{AreApart};
 
 use crate::faults::fault;
-use crate::scratch::Scratch;
+use crate::scratch::TestScratch;
 use crate::world::World;
 use code_items::Code;
 use code_items::laws::legal_codes;
@@ -29,7 +29,7 @@ fn run_on<K: KeyList>(
     alloc: Global,
     code: &Code,
     machine: &mut Machine<Tagged, K>,
-    scratch: &mut Scratch,
+    scratch: &mut TestScratch,
     budget: u64,
 ) -> Outcome
     requires legal { IsCode code.now }

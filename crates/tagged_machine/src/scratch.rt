@@ -14,15 +14,15 @@ pub struct BlockScratch {
 
 /// Room for the tests of an instruction: the work areas as they are, and what the test of a filter needs.
 #[derive(Drop)]
-pub struct Scratch {
+pub struct TestScratch {
     pub areas: TenAreas,
     pub block: BlockScratch,
 }
 
-impl Scratch {
+impl TestScratch {
     /// All the room that the tests of a run need.
-    pub fn new(alloc: Global) -> Result<Scratch, AllocError> {
-        Ok(Scratch {
+    pub fn new(alloc: Global) -> Result<TestScratch, AllocError> {
+        Ok(TestScratch {
             areas: TenAreas::new(alloc)?,
             block: BlockScratch {
                 areas: TenAreas::new(alloc)?,

@@ -7,7 +7,7 @@ ghost use Rattle.run_steps.specs.Shapes.{HasShape, StoreFits};
 ghost use Rattle.screen_lines.specs.State.{sent};
 ghost use Rattle.work_area.specs.Areas.{AreApart};
 
-use crate::scratch::Scratch;
+use crate::scratch::TestScratch;
 use calendar::Day;
 use code_items::Code;
 use key_lists::KeyList;
@@ -23,7 +23,7 @@ use work_area::Store;
 #[derive(Drop)]
 pub struct World<K: KeyList> {
     pub(crate) machine: Machine<Tagged, K>,
-    pub(crate) scratch: Scratch,
+    pub(crate) scratch: TestScratch,
 }
 
 impl<K: KeyList> Model for World<K> {
@@ -55,7 +55,7 @@ impl<K: KeyList> World<K> {
         let values = Tagged::new(alloc, usize::from(code.declared.slots))?;
         Ok(World {
             machine: Machine::opening(alloc, values, store, lines, today)?,
-            scratch: Scratch::new(alloc)?,
+            scratch: TestScratch::new(alloc)?,
         })
     }
 

@@ -1,5 +1,7 @@
 //! What a terminal is sent to show rows.
 
+ghost use Rattle.std.specs.Prelude.{◌≡◌, ◌+◌, ◌≤◌};
+
 use crate::fields::ShownField;
 use crate::printable::put_shown;
 use code_pages::CodePage;
@@ -80,13 +82,15 @@ fn put_cells(
     Ok(())
 }
 
-/// The first row that is drawn: in a window of 24 rows the first or the second, so that the cursor's row is drawn.
-fn first_row(drawing: &Drawing<'_>) -> usize {
-    if drawing.window.rows < ROWS && drawing.cursor.0 >= ROWS - 1 {
-        1
-    } else {
-        0
-    }
+/// The first row that is drawn, so that a line of the window is left below the cursor's: Enter there moves no row out
+/// of the window.
+fn first_row(drawing: &Drawing<'_>) -> usize
+    ensures below { 2 ≤ drawing.now.window.rows → drawing.now.cursor.0 + 2 ≤ result + drawing.now.window.rows }
+    ensures least { drawing.now.cursor.0 + 2 ≤ drawing.now.window.rows → result ≡ 0 }
+    ensures drawn { 2 ≤ drawing.now.window.rows → result ≤ drawing.now.cursor.0 }
+{
+    let last = drawing.window.rows.saturating_sub(2);
+    drawing.cursor.0.saturating_sub(last)
 }
 
 /// Puts the rows that were sent out, so that they leave the window upwards.
@@ -101,18 +105,13 @@ fn put_sent(out: &mut String, drawing: &Drawing<'_>) -> Result<(), AllocError> {
     Ok(())
 }
 
-/// The line of the window in which the note stands, if there is one: below the rows, or over the last one that hasn't
-/// the cursor where no line is left below them.
-fn note_line(drawing: &Drawing<'_>, first: usize) -> Option<usize> {
+/// The line of the window in which the note stands, if there is one: below the rows, or over the last one where no line
+/// is left below them.
+fn note_line(drawing: &Drawing<'_>) -> Option<usize> {
     if drawing.note.is_empty() {
         return None;
     }
-    let last = drawing.window.rows.saturating_sub(1).min(ROWS);
-    if drawing.cursor.0.saturating_sub(first) == last {
-        Some(last.saturating_sub(1))
-    } else {
-        Some(last)
-    }
+    Some(drawing.window.rows.saturating_sub(1).min(ROWS))
 }
 
 /// How many lines are drawn: those of the rows and the note, or, where rows that were sent out have to leave the window,
@@ -127,7 +126,7 @@ fn lines_drawn(drawing: &Drawing<'_>) -> usize {
 
 /// Puts the rows from the window's top on, and the note, and clears what is below.
 fn put_rows(out: &mut String, drawing: &Drawing<'_>, first: usize) -> Result<(), AllocError> {
-    let note = note_line(drawing, first);
+    let note = note_line(drawing);
     for line in 0..lines_drawn(drawing) {
         if line > 0 {
             out.push_str("\r\n")?;
@@ -159,7 +158,8 @@ fn put_cursor(
 }
 
 /// What a terminal is sent to show the rows as they stand, at the top of its window. Rows that were sent out since the
-/// last drawing scroll out of it into the terminal's scrollback. (A line typed in the window's last row scrolls one more.)
+/// last drawing scroll out of it into the terminal's scrollback, and no others do: the cursor's line isn't the window's
+/// last one.
 pub fn drawn(alloc: Global, drawing: &Drawing<'_>) -> Result<String, AllocError> {
     let mut out = String::new(alloc);
     let first = first_row(drawing);

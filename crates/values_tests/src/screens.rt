@@ -1,7 +1,7 @@
 // Screens of command files, by the calls that their commands make.
 
 use crate::spelled::text_made;
-use screen_lines::{Command, Screen, obey, run};
+use screen_lines::{Screen, ScreenCommand, obey, run};
 use std::alloc::{AllocError, Global};
 use std::test::Fail;
 
@@ -17,18 +17,18 @@ enum Ask {
     Clear,
 }
 
-fn command_of(ask: Ask) -> Command {
+fn command_of(ask: Ask) -> ScreenCommand {
     match ask {
-        Ask::Line => Command::NewLine,
-        Ask::Print(text) => Command::Print(text_made(text.as_bytes())),
-        Ask::Many(text, count) => Command::Print(text_made(many(text, count).as_slice())),
-        Ask::Say(row, column, text) => Command::Say {
+        Ask::Line => ScreenCommand::NewLine,
+        Ask::Print(text) => ScreenCommand::Print(text_made(text.as_bytes())),
+        Ask::Many(text, count) => ScreenCommand::Print(text_made(many(text, count).as_slice())),
+        Ask::Say(row, column, text) => ScreenCommand::Say {
             row,
             column,
             text: text_made(text.as_bytes()),
         },
-        Ask::SayOn(text) => Command::SayOn(text_made(text.as_bytes())),
-        Ask::Clear => Command::Clear,
+        Ask::SayOn(text) => ScreenCommand::SayOn(text_made(text.as_bytes())),
+        Ask::Clear => ScreenCommand::Clear,
     }
 }
 

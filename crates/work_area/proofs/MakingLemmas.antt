@@ -12,14 +12,14 @@ use Rattle.shape.specs.declared.indexes.IndexShape.{IndexShape}
 use Rattle.shape.specs.declared.tables.TableShape.{TableShape}
 use Rattle.shape.specs.declared.whole.Shape.{Shape}
 use Rattle.shape.specs.declared.parts.KeyPart.{KeyPart}
-use Rattle.shape.specs.Keys.{is_text, holds_text, width_of, names_text, bytes_of, is_key}
+use Rattle.shape.specs.Keys.{is_text_field, holds_text, width_of, names_text, key_bytes, is_key}
 use Rattle.dbf_file.specs.Fields.{widths_of}
 use Rattle.std.specs.List.{list_all}
 use Rattle.row_keys.specs.Lists.{index_list}
 use Rattle.open_table.specs.Marks.{IndexMark, with_stale}
 use Rattle.open_table.specs.Tables.{IndexedState}
-use Rattle.open_table.specs.Open.{OpenState, with_table}
-use Rattle.work_area.specs.Making.{IsAlike, AreAlike, AreOfShape, AreReady, mark_for, Declares, IsMarkOf, FirstIs, AreMarks, IsNewTable, AreNewTables, unused}
+use Rattle.open_table.specs.Open.{OpenState, in_table}
+use Rattle.work_area.specs.Making.{IsAlike, HaveAlikeFields, AreOfShape, AreReady, mark_for, Declares, IsMarkOf, FirstIs, AreMarks, IsNewTable, AreNewTables, unused}
 
 -- ---- marks of the indexes so far
 
@@ -73,7 +73,7 @@ declared_here shape lists xs x t s table old new o h there of_table here is =
     record {
       structure = ap (λ (s : IndexedState). s.structure) more.added ∙ is.structure;
       rows = ap (λ (s : IndexedState). s.rows) more.added ∙ is.rows;
-      unused = h.same o there ∙ ap (λ p. with_table p h.fresh.table) is.unused;
+      unused = h.same o there ∙ ap (λ p. in_table p h.fresh.table) is.unused;
       marks = subst (AreMarks lists s.fields table.rows t 0 (xs ++ x ∷ [])) (sym (ap (λ (s : IndexedState). s.marks) more.added))
           (marks_push lists s.fields table.rows t 0 (length xs) xs x mark o.table.marks (omega arith) here made is.marks);
     }
@@ -134,10 +134,10 @@ got (x ∷ xs) (suc k) y (suc t) o e = elim (got xs k y t o e) as (λ _. (slice_
 pub still_ready : (lists : List Pair → Type 0) (n : ℕ) (x : IndexShape) (shape : Shape) (old new : List OpenState) → AreReady shape old → Declares shape lists n x old new → AreReady shape new
 still_ready lists n x shape old new ready h = record {
   count = ap (λ (os : List OpenState). length os) h.put ∙ length-set old x.table h.fresh ∙ ready.count;
-  fields = λ t o s there is. elim (got old x.table h.fresh t o (ap (λ (os : List OpenState). slice_get os t) (sym h.put) ∙ there)) as (λ _. AreAlike o.table.structure.fields s.fields) [
+  fields = λ t o s there is. elim (got old x.table h.fresh t o (ap (λ (os : List OpenState). slice_get os t) (sym h.put) ∙ there)) as (λ _. HaveAlikeFields o.table.structure.fields s.fields) [
     | inl f ↦ ready.fields t o s f is
     | inr f ↦ (let at : slice_get shape.tables x.table ≡ Some s = ap (slice_get shape.tables) (sym f.0) ∙ is in
-        subst (λ (st : StructureState). AreAlike st.fields s.fields) (sym (ap (λ (p : OpenState). p.table.structure) f.1 ∙ ap (λ (i : IndexedState). i.structure) (h.mark f.2.0 s f.2.1 at).added)) (ready.fields x.table f.2.0 s f.2.1 at))
+        subst (λ (st : StructureState). HaveAlikeFields st.fields s.fields) (sym (ap (λ (p : OpenState). p.table.structure) f.1 ∙ ap (λ (i : IndexedState). i.structure) (h.mark f.2.0 s f.2.1 at).added)) (ready.fields x.table f.2.0 s f.2.1 at))
   ];
   unused = λ t o there. elim (got old x.table h.fresh t o (ap (λ (os : List OpenState). slice_get os t) (sym h.put) ∙ there)) as (λ _. o.list ≡ []) [
     | inl f ↦ ready.unused t o f
@@ -154,7 +154,7 @@ pub first_ready : (shape : Shape) (limit : ℕ) (tables : List TableState) (made
 first_ready shape limit tables made e of_shape = subst (AreReady shape) (sym e) (record {
   count = length-map tables unused ∙ of_shape.count;
   fields = λ t o s there is. (let w = map_got tables t o there in
-      subst (λ (st : StructureState). AreAlike st.fields s.fields) (ap (λ (table : TableState). table.structure) (get_or_from_slice_get tables t w.0 w.0 w.1) ∙ ap (λ (p : OpenState). p.table.structure) (sym w.2)) (of_shape.fields t w.0 s is));
+      subst (λ (st : StructureState). HaveAlikeFields st.fields s.fields) (ap (λ (table : TableState). table.structure) (get_or_from_slice_get tables t w.0 w.0 w.1) ∙ ap (λ (p : OpenState). p.table.structure) (sym w.2)) (of_shape.fields t w.0 s is));
   unused = λ t o there. ap (λ (p : OpenState). p.list) (map_got tables t o there).2;
 })
 
@@ -166,45 +166,45 @@ first_tables shape lists tables made e = subst (AreNewTables shape lists [] tabl
 
 -- ---- fields that hold the same
 
-tail_alike : (f g : Field) (fields others : List Field) → AreAlike (f ∷ fields) (g ∷ others) → AreAlike fields others
+tail_alike : (f g : Field) (fields others : List Field) → HaveAlikeFields (f ∷ fields) (g ∷ others) → HaveAlikeFields fields others
 tail_alike f g fields others alike = record { count = omega (arith, alike.count); each = λ k d lt. alike.each (suc k) d (omega arith) }
 
-first_alike : (f g : Field) (fields others : List Field) → AreAlike (f ∷ fields) (g ∷ others) → IsAlike f g
+first_alike : (f g : Field) (fields others : List Field) → HaveAlikeFields (f ∷ fields) (g ∷ others) → IsAlike f g
 first_alike f g fields others alike = alike.each 0 f (omega arith)
 
-pub alike_widths : (fields others : List Field) → AreAlike fields others → widths_of fields ≡ widths_of others
+pub alike_widths : (fields others : List Field) → HaveAlikeFields fields others → widths_of fields ≡ widths_of others
 alike_widths [] [] alike = refl
 alike_widths [] (g ∷ others) alike = absurd (omega (arith, alike.count))
 alike_widths (f ∷ fields) [] alike = absurd (omega (arith, alike.count))
 alike_widths (f ∷ fields) (g ∷ others) alike = ap (λ w. w ∷ widths_of fields) (first_alike f g fields others alike).width ∙ ap (λ ws. g.width ∷ ws) (alike_widths fields others (tail_alike f g fields others alike))
 
-text_same : (fields others : List Field) (n : ℕ) → AreAlike fields others → is_text (slice_get fields n) ≡ is_text (slice_get others n)
+text_same : (fields others : List Field) (n : ℕ) → HaveAlikeFields fields others → is_text_field (slice_get fields n) ≡ is_text_field (slice_get others n)
 text_same [] [] n alike = refl
 text_same [] (g ∷ others) n alike = absurd (omega (arith, alike.count))
 text_same (f ∷ fields) [] n alike = absurd (omega (arith, alike.count))
 text_same (f ∷ fields) (g ∷ others) zero alike = ap holds_text (first_alike f g fields others alike).letter
 text_same (f ∷ fields) (g ∷ others) (suc n) alike = text_same fields others n (tail_alike f g fields others alike)
 
-width_same : (fields others : List Field) (n : ℕ) → AreAlike fields others → width_of (slice_get fields n) ≡ width_of (slice_get others n)
+width_same : (fields others : List Field) (n : ℕ) → HaveAlikeFields fields others → width_of (slice_get fields n) ≡ width_of (slice_get others n)
 width_same [] [] n alike = refl
 width_same [] (g ∷ others) n alike = absurd (omega (arith, alike.count))
 width_same (f ∷ fields) [] n alike = absurd (omega (arith, alike.count))
 width_same (f ∷ fields) (g ∷ others) zero alike = (first_alike f g fields others alike).width
 width_same (f ∷ fields) (g ∷ others) (suc n) alike = width_same fields others n (tail_alike f g fields others alike)
 
-names_same : (fields others : List Field) (parts : List KeyPart) → AreAlike fields others → list_all (names_text fields) parts ≡ list_all (names_text others) parts
+names_same : (fields others : List Field) (parts : List KeyPart) → HaveAlikeFields fields others → list_all (names_text fields) parts ≡ list_all (names_text others) parts
 names_same fields others [] alike = refl
 names_same fields others (part ∷ parts) alike = ap (λ b. b && list_all (names_text fields) parts) (text_same fields others part.field alike) ∙ ap (λ b. names_text others part && b) (names_same fields others parts alike)
 
-bytes_same : (fields others : List Field) (parts : List KeyPart) → AreAlike fields others → bytes_of fields parts ≡ bytes_of others parts
+bytes_same : (fields others : List Field) (parts : List KeyPart) → HaveAlikeFields fields others → key_bytes fields parts ≡ key_bytes others parts
 bytes_same fields others [] alike = refl
-bytes_same fields others (part ∷ parts) alike = ap (λ n. n + bytes_of fields parts) (width_same fields others part.field alike) ∙ ap (λ n. width_of (slice_get others part.field) + n) (bytes_same fields others parts alike)
+bytes_same fields others (part ∷ parts) alike = ap (λ n. n + key_bytes fields parts) (width_same fields others part.field alike) ∙ ap (λ n. width_of (slice_get others part.field) + n) (bytes_same fields others parts alike)
 
 -- a key that fits fields fits others that hold the same
-pub key_same : (fields others : List Field) (parts : List KeyPart) → AreAlike fields others → is_key others parts ≡ true → is_key fields parts ≡ true
+pub key_same : (fields others : List Field) (parts : List KeyPart) → HaveAlikeFields fields others → is_key others parts ≡ true → is_key fields parts ≡ true
 unfolding is_key
 key_same fields others parts alike e =
     let names : list_all (names_text fields) parts ≡ list_all (names_text others) parts = names_same fields others parts alike in
-    let bytes : bytes_of fields parts ≡ bytes_of others parts = bytes_same fields others parts alike in
-    ap (λ b. nat_le 1 (length parts) && nat_le (length parts) 8 && b && nat_le 1 (bytes_of fields parts) && nat_le (bytes_of fields parts) 100) names
+    let bytes : key_bytes fields parts ≡ key_bytes others parts = bytes_same fields others parts alike in
+    ap (λ b. nat_le 1 (length parts) && nat_le (length parts) 8 && b && nat_le 1 (key_bytes fields parts) && nat_le (key_bytes fields parts) 100) names
     ∙ ap (λ n. nat_le 1 (length parts) && nat_le (length parts) 8 && list_all (names_text others) parts && nat_le 1 n && nat_le n 100) bytes ∙ e

@@ -18,8 +18,8 @@ use Rattle.open_table.specs.Open.{OpenState, closed, place_in, replaced_at, rema
 use Rattle.work_area.specs.declared.uses.Use.{Use}
 use Rattle.work_area.specs.Areas.{StoreState, selected_use, used_table, table_at, here, with_table, with_used, with_use, changed_found, change_here, closed_at, closed_other, closed_here, closed_all}
 use Rattle.work_area.specs.Calls.{used_here}
-use Rattle.work_area.specs.Making.{AreAlike, AreOfShape, AreMarks, FirstIs, IsMarkOf, IsNewStore, IsNewTable, mark_for}
-use Rattle.work_area.specs.Shapes.{still, AreFound, HasShape, IsSameKind, KindsStay, ShapesStay}
+use Rattle.work_area.specs.Making.{HaveAlikeFields, AreOfShape, AreMarks, FirstIs, IsMarkOf, IsNewStore, IsNewTable, mark_for}
+use Rattle.work_area.specs.Shapes.{still, AreFound, StoreHasShape, IsSameKind, KindsStay, ShapesStay}
 use Rattle.work_area.proofs.AreaLemmas.{let_go}
 use Rattle.work_area.proofs.MakingLemmas.{alike_widths, got}
 
@@ -57,7 +57,7 @@ kinds_stay o = record {
 -- ---- the store
 
 module _ (shape : Shape) where
-  same_tables : (s s' : StoreState) → s'.tables ≡ s.tables → HasShape shape s → HasShape shape s'
+  same_tables : (s s' : StoreState) → s'.tables ≡ s.tables → StoreHasShape shape s → StoreHasShape shape s'
   same_tables s s' e h = record {
     count = ap (λ (ts : List OpenState). length ts) e ∙ h.count;
     fields = λ t o d there is. h.fields t o d (ap (λ (ts : List OpenState). slice_get ts t) (sym e) ∙ there) is;
@@ -65,12 +65,12 @@ module _ (shape : Shape) where
     alone = λ n x t o index there has. h.alone n x t o index (ap (λ (ts : List OpenState). slice_get ts t) (sym e) ∙ there) has;
   }
 
-  at_table : (s : StoreState) (t : ℕ) (o p : OpenState) → HasShape shape s → table_at s t ≡ Some o → IsSameKind o p → HasShape shape (with_table s t p)
+  at_table : (s : StoreState) (t : ℕ) (o p : OpenState) → StoreHasShape shape s → table_at s t ≡ Some o → IsSameKind o p → StoreHasShape shape (with_table s t p)
   at_table s t o p h at same = record {
     count = length-set s.tables t p ∙ h.count;
-    fields = λ k a d there is. elim (got s.tables t p k a there) as (λ _. AreAlike a.table.structure.fields d.fields) [
+    fields = λ k a d there is. elim (got s.tables t p k a there) as (λ _. HaveAlikeFields a.table.structure.fields d.fields) [
       | inl e ↦ h.fields k a d e is
-      | inr e ↦ subst (λ (st : StructureState). AreAlike st.fields d.fields) (sym (ap (λ (b : OpenState). b.table.structure) e.1 ∙ same.structure)) (h.fields t o d at (ap (slice_get shape.tables) (sym e.0) ∙ is))
+      | inr e ↦ subst (λ (st : StructureState). HaveAlikeFields st.fields d.fields) (sym (ap (λ (b : OpenState). b.table.structure) e.1 ∙ same.structure)) (h.fields t o d at (ap (slice_get shape.tables) (sym e.0) ∙ is))
     ];
     indexes = λ n x a d index there is. elim (got s.tables t p x.table a there) as (λ _. mark_at (map still a.table.marks) n ≡ Some (mark_for n d.fields x)) [
       | inl e ↦ h.indexes n x a d index e is
@@ -82,18 +82,18 @@ module _ (shape : Shape) where
     ];
   }
 
-  at_used : (s : StoreState) (u : Option Use) (o p : OpenState) → HasShape shape s → used_table s u ≡ Some o → IsSameKind o p → HasShape shape (with_used u p s)
+  at_used : (s : StoreState) (u : Option Use) (o p : OpenState) → StoreHasShape shape s → used_table s u ≡ Some o → IsSameKind o p → StoreHasShape shape (with_used u p s)
   at_used s None o p h at same = absurd (cc)
   at_used s (Some v) o p h at same = at_table s v.table o p h at same
 
-  by_found : (s : StoreState) (f : OpenState → OpenState) (found : Option OpenState) → ((o : OpenState) → IsSameKind o (f o)) → here s ≡ found → HasShape shape s → HasShape shape (changed_found f found s)
+  by_found : (s : StoreState) (f : OpenState → OpenState) (found : Option OpenState) → ((o : OpenState) → IsSameKind o (f o)) → here s ≡ found → StoreHasShape shape s → StoreHasShape shape (changed_found f found s)
   by_found s f None same at h = h
   by_found s f (Some o) same at h = at_used s (selected_use s) o (f o) h at (same o)
 
-  by_change : (s : StoreState) (f : OpenState → OpenState) → ((o : OpenState) → IsSameKind o (f o)) → HasShape shape s → HasShape shape (change_here f s)
+  by_change : (s : StoreState) (f : OpenState → OpenState) → ((o : OpenState) → IsSameKind o (f o)) → StoreHasShape shape s → StoreHasShape shape (change_here f s)
   by_change s f same h = by_found s f (here s) same refl h
 
-  by_close : (s : StoreState) → HasShape shape s → HasShape shape (closed_here s)
+  by_close : (s : StoreState) → StoreHasShape shape s → StoreHasShape shape (closed_here s)
   by_close s h = same_tables (change_here closed s) (closed_here s) refl (by_change s closed (λ o. record { structure = refl; marks = refl }) h)
 
   closed_got : (tables : List OpenState) (t : ℕ) (a : OpenState) → slice_get (map closed tables) t ≡ Some a → (o : OpenState) × (slice_get tables t ≡ Some o) × (a ≡ closed o)
@@ -101,30 +101,30 @@ module _ (shape : Shape) where
   closed_got (o ∷ tables) zero a e = (o, refl, (let same : a ≡ closed o = cc in same))
   closed_got (o ∷ tables) (suc t) a e = closed_got tables t a e
 
-  by_close_all : (s : StoreState) → HasShape shape s → HasShape shape (closed_all s)
+  by_close_all : (s : StoreState) → StoreHasShape shape s → StoreHasShape shape (closed_all s)
   by_close_all s h = record {
     count = length-map s.tables closed ∙ h.count;
     fields = λ t a d there is. (let w = closed_got s.tables t a there in
-        subst (λ (b : OpenState). AreAlike b.table.structure.fields d.fields) (sym w.2) (h.fields t w.0 d w.1 is));
+        subst (λ (b : OpenState). HaveAlikeFields b.table.structure.fields d.fields) (sym w.2) (h.fields t w.0 d w.1 is));
     indexes = λ n x a d index there is. (let w = closed_got s.tables x.table a there in
         ap (λ (b : OpenState). mark_at (map still b.table.marks) n) w.2 ∙ h.indexes n x w.0 d index w.1 is);
     alone = λ n x t a index there has. (let w = closed_got s.tables t a there in
         h.alone n x t w.0 index w.1 (ap (λ (b : OpenState). is_some (mark_at (map still b.table.marks) n)) (sym w.2) ∙ has));
   }
 
-  at_closed : (s : StoreState) (t : ℕ) (found : Option OpenState) → table_at s t ≡ found → HasShape shape s → HasShape shape (closed_at t found s)
+  at_closed : (s : StoreState) (t : ℕ) (found : Option OpenState) → table_at s t ≡ found → StoreHasShape shape s → StoreHasShape shape (closed_at t found s)
   at_closed s t None at h = h
   at_closed s t (Some o) at h = at_table s t o (closed o) h at (record { structure = refl; marks = refl })
 
-  by_let_go : (s : StoreState) (t : ℕ) (u : Option Use) → HasShape shape s → HasShape shape (closed_other t u s)
+  by_let_go : (s : StoreState) (t : ℕ) (u : Option Use) → StoreHasShape shape s → StoreHasShape shape (closed_other t u s)
   by_let_go s t None h = h
-  by_let_go s t (Some u) h = elim (u.table == t) as (λ b. HasShape shape (cond b s (closed_at u.table (table_at s u.table) s))) [ true ↦ h | false ↦ at_closed s u.table (table_at s u.table) refl h ]
+  by_let_go s t (Some u) h = elim (u.table == t) as (λ b. StoreHasShape shape (cond b s (closed_at u.table (table_at s u.table) s))) [ true ↦ h | false ↦ at_closed s u.table (table_at s u.table) refl h ]
 
-  by_open : (s : StoreState) (t list : ℕ) (o p : OpenState) → HasShape shape s → table_at s t ≡ Some o → IsSameKind o p → HasShape shape (used_here t list p s)
+  by_open : (s : StoreState) (t list : ℕ) (o p : OpenState) → StoreHasShape shape s → table_at s t ≡ Some o → IsSameKind o p → StoreHasShape shape (used_here t list p s)
   by_open s t list o p h at same =
       let held : Use = record { table = t; list = list; filter = 0 } in
       let mid : StoreState = closed_other t (selected_use s) (with_table s t p) in
-      subst (HasShape shape) (let_go s t p held)
+      subst (StoreHasShape shape) (let_go s t p held)
       (same_tables mid (with_use mid s.selected (Some held)) refl (by_let_go (with_table s t p) t (selected_use s) (at_table s t o p h at same)))
 
   there_still : (marks : List IndexMark) (n : ℕ) → is_some (mark_at (map still marks) n) ≡ is_some (mark_at marks n)
@@ -218,13 +218,13 @@ table_there [] t lt = absurd (omega (arith, lt))
 table_there (d ∷ xs) zero lt = (d, refl)
 table_there (d ∷ xs) (suc t) lt = table_there xs t (omega (arith, lt))
 
-pub starts : (shape : Shape) (lists : ℕ → List Pair → Type 0) (handed : List TableState) (most : ℕ) (s : StoreState) → AreOfShape shape most handed → IsNewStore lists shape handed most s → HasShape shape s
+pub starts : (shape : Shape) (lists : ℕ → List Pair → Type 0) (handed : List TableState) (most : ℕ) (s : StoreState) → AreOfShape shape most handed → IsNewStore lists shape handed most s → StoreHasShape shape s
 starts shape lists handed most s of_shape made =
     let none : OpenState → TableState = λ o. record { structure = o.table.structure; rows = []; spare = 0 } in
     record {
       count = made.tables.count ∙ of_shape.count;
       fields = λ t o d at is. (let new = new_at lists shape handed most s t o d (none o) made at is in
-          subst (λ (st : StructureState). AreAlike st.fields d.fields) (sym new.structure) (of_shape.fields t (none o) d is));
+          subst (λ (st : StructureState). HaveAlikeFields st.fields d.fields) (sym new.structure) (of_shape.fields t (none o) d is));
       indexes = λ n x o d index at is. (let new = new_at lists shape handed most s x.table o d (none o) made at is in
           mark_found lists d.fields (get_or handed x.table (none o)).rows x.table 0 n n shape.indexes x o.table.marks (omega arith) index refl new.marks);
       alone = λ n x t o index at has.
@@ -253,7 +253,7 @@ find_only p (y ∷ xs) (suc k) x at here only =
     let other : p y ≡ false = elim (p y) as (λ b. p y ≡ b → b ≡ false) [ true ↦ λ e. absurd (omega (arith, only zero y refl e)) | false ↦ λ e. refl ] refl in
     ap (λ b. cond b (Some y) (find p xs)) other ∙ find_only p xs k x at here (λ t z there has. omega (arith, only (suc t) z there has))
 
-pub are_found : (shape : Shape) (s : StoreState) → HasShape shape s → AreFound shape s
+pub are_found : (shape : Shape) (s : StoreState) → StoreHasShape shape s → AreFound shape s
 are_found shape s h n x o d index at is =
     let mark : mark_at (map still o.table.marks) n ≡ Some (mark_for n d.fields x) = h.indexes n x o d index at is in
     let parts : parts_in (mark_at o.table.marks n) ≡ x.key = same_parts o.table.marks n ∙ ap (λ (m : Option IndexMark). parts_in m) mark in

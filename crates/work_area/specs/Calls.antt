@@ -6,10 +6,10 @@ use Rattle.row_moves.specs.declared.landed.Spent.{Spent}
 use Rattle.row_moves.specs.Moves.{Landing, end_of, skipped, sought}
 use Rattle.open_table.specs.declared.refused.Refused.{Refused}
 use Rattle.open_table.specs.Marks.{count_stale}
-use Rattle.open_table.specs.Passes.{behind}
-use Rattle.open_table.specs.Tables.{order_pairs, pairs_in, pair_at, packed, cleared, remade}
+use Rattle.open_table.specs.Passes.{at_higher_cost}
+use Rattle.open_table.specs.Tables.{order_pairs, pairs_in_order, pair_at, packed, emptied, remade}
 use Rattle.open_table.specs.Tried.{TriedRow, ShowsRows}
-use Rattle.open_table.specs.Open.{OpenState, IsMoved, IsEnded, landed, order_index, with_table as with_rows}
+use Rattle.open_table.specs.Open.{OpenState, IsMoved, IsEnded, landed, order_index, in_table as with_rows}
 use Rattle.work_area.specs.declared.uses.Use.{Use}
 use Rattle.work_area.specs.Areas.{StoreState, selected_use, here, with_here, with_use, with_table, closed_here}
 
@@ -52,11 +52,11 @@ abbrev pub packed_in : OpenState → OpenState
 packed_in o = with_rows o (packed o.list o.table)
 
 abbrev pub pack_of : OpenState → (ℕ → Bool) → Landing
-pack_of o shown = behind (length o.table.rows + length (unmarked o.table.rows) * length o.list)
-    (end_of shown true (pairs_in (order_index o.order o.list) o.table.marks (unmarked o.table.rows)))
+pack_of o shown = at_higher_cost (length o.table.rows + length (unmarked o.table.rows) * length o.list)
+    (end_of shown true (pairs_in_order (order_index o.order o.list) o.table.marks (unmarked o.table.rows)))
 
 abbrev pub zapped_in : OpenState → OpenState
-zapped_in o = with_rows o (cleared o.list o.table)
+zapped_in o = with_rows o (emptied o.list o.table)
 
 -- TOP where there is no row
 abbrev pub zap_landing : Landing
@@ -66,16 +66,17 @@ abbrev pub reindexed_in : OpenState → OpenState
 reindexed_in o = with_rows o (remade o.list o.table)
 
 abbrev pub reindex_of : OpenState → (ℕ → Bool) → Landing
-reindex_of o shown = behind (length o.table.rows * length o.list) (top_of o shown)
+reindex_of o shown = at_higher_cost (length o.table.rows * length o.list) (top_of o shown)
 
 -- INDEX ON makes an index anew and opens it alone
 abbrev pub index_on_of : ℕ → OpenState → (ℕ → Bool) → Landing
-index_on_of number o shown = behind (length o.table.rows) (end_of shown true (order_pairs (Some number) o.table))
+index_on_of number o shown = at_higher_cost (length o.table.rows)
+    (end_of shown true (order_pairs (Some number) o.table))
 
 -- USE opens these indexes, and makes the stale ones of them anew
 abbrev pub open_of : List ℕ → OpenState → (ℕ → Bool) → Landing
 open_of indexes o shown =
-    behind (length o.table.rows * count_stale indexes o.table.marks)
+    at_higher_cost (length o.table.rows * count_stale indexes o.table.marks)
     (end_of shown true (order_pairs (slice_get indexes 0) o.table))
 
 abbrev pub with_list : ℕ → Option Use → Option Use

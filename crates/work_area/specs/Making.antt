@@ -14,7 +14,7 @@ use Rattle.shape.specs.Keys.{key_length, key_text}
 use Rattle.row_keys.specs.Lists.{index_list}
 use Rattle.open_table.specs.Marks.{IndexMark}
 use Rattle.open_table.specs.Tables.{HasDeclared}
-use Rattle.open_table.specs.Open.{OpenState, closed, with_table}
+use Rattle.open_table.specs.Open.{OpenState, closed, in_table}
 use Rattle.work_area.specs.Areas.{StoreState}
 
 -- ---- what a store is made of
@@ -25,7 +25,7 @@ pub record IsAlike (a b : Field) : Type 0 where
   pub width : a.width ≡ b.width
   pub decimals : a.decimals ≡ b.decimals
 
-pub record AreAlike (fields others : List Field) : Type 0 where
+pub record HaveAlikeFields (fields others : List Field) : Type 0 where
   pub count : length fields ≡ length others
   pub each : (k : ℕ) (d : Field) → k < length fields → IsAlike (slice_index_or fields k d) (slice_index_or others k d)
 
@@ -33,18 +33,18 @@ pub record AreAlike (fields others : List Field) : Type 0 where
 pub record AreOfShape (shape : Shape) (limit : ℕ) (tables : List TableState) : Type 0 where
   pub count : length tables ≡ length shape.tables
   pub fields : (t : ℕ) (d : TableState) (s : TableShape) → slice_get shape.tables t ≡ Some s
-      → AreAlike (slice_index_or tables t d).structure.fields s.fields
+      → HaveAlikeFields (slice_index_or tables t d).structure.fields s.fields
   pub few : All (λ t. length t.rows ≤ limit) tables
 
 -- the length of an index's keys, and the text that says how they are made
-abbrev pub form_of : TableShape → IndexShape → KeyForm
-form_of s x = record { key_length = key_length x.key (widths_of s.fields); key_text = key_text s.fields x.key }
+abbrev pub key_form : TableShape → IndexShape → KeyForm
+key_form s x = record { key_length = key_length x.key (widths_of s.fields); key_text = key_text s.fields x.key }
 
 -- for each declared index a list of its key, or none
 pub record AreLists {X : Type 0} (form : X → KeyForm) (shape : Shape) (keys : List (Option X)) : Type 0 where
   pub count : length keys ≡ length shape.indexes
   pub formed : (n : ℕ) (x : IndexShape) (s : TableShape) → slice_get shape.indexes n ≡ Some x
-      → slice_get shape.tables x.table ≡ Some s → IfSome (slice_index_or keys n None) (λ k. form k ≡ form_of s x)
+      → slice_get shape.tables x.table ≡ Some s → IfSome (slice_index_or keys n None) (λ k. form k ≡ key_form s x)
 
 -- the list for index n is there, and has just these pairs
 abbrev pub lists_just : {X : Type 0} → (X → List Pair) → List (Option X) → ℕ → List Pair → Type 0
@@ -54,7 +54,7 @@ lists_just pairs keys n wanted = IsSomeAnd (slice_index_or keys n None) (λ k. p
 pub record AreReady (shape : Shape) (made : List OpenState) : Type 0 where
   pub count : length made ≡ length shape.tables
   pub fields : (t : ℕ) (o : OpenState) (s : TableShape) → slice_get made t ≡ Some o → slice_get shape.tables t ≡ Some s
-      → AreAlike o.table.structure.fields s.fields
+      → HaveAlikeFields o.table.structure.fields s.fields
   pub unused : (t : ℕ) (o : OpenState) → slice_get made t ≡ Some o → o.list ≡ []
 
 -- a table in no area, without indexes
@@ -77,7 +77,7 @@ pub record Declares (shape : Shape) (lists : List Pair → Type 0) (n : ℕ) (x 
     (old new : List OpenState) : Type 0 where
   pub fresh : OpenState
   pub put : new ≡ slice_set old x.table fresh
-  pub same : (o : OpenState) → slice_get old x.table ≡ Some o → fresh ≡ with_table o fresh.table
+  pub same : (o : OpenState) → slice_get old x.table ≡ Some o → fresh ≡ in_table o fresh.table
   pub mark : (o : OpenState) (s : TableShape) → slice_get old x.table ≡ Some o → slice_get shape.tables x.table ≡ Some s
       → HasDeclared (lists (index_list x.key o.table.rows)) (mark_for n s.fields x) o.table fresh.table
 

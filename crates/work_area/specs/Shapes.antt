@@ -12,17 +12,17 @@ use Rattle.work_area.specs.declared.uses.Use.{Use}
 use Rattle.work_area.specs.Areas.{StoreState, table_at, index_table, here, with_table, with_use, with_selected}
 use Rattle.work_area.specs.Areas.{with_here, change_here, closed_here, closed_all}
 use Rattle.work_area.specs.Calls.{packed_in, zapped_in, reindexed_in, indexed_here, used_here}
-use Rattle.work_area.specs.Making.{AreAlike, form_of, mark_for}
+use Rattle.work_area.specs.Making.{HaveAlikeFields, key_form, mark_for}
 
 -- a mark as if it were stale
 abbrev pub still : IndexMark → IndexMark
 still m = with_stale m true
 
 -- the tables hold what is declared, and have the declared indexes
-pub record HasShape (shape : Shape) (s : StoreState) : Type 0 where
+pub record StoreHasShape (shape : Shape) (s : StoreState) : Type 0 where
   pub count : length s.tables ≡ length shape.tables
   pub fields : (t : ℕ) (o : OpenState) (d : TableShape) → table_at s t ≡ Some o → slice_get shape.tables t ≡ Some d
-      → AreAlike o.table.structure.fields d.fields
+      → HaveAlikeFields o.table.structure.fields d.fields
   pub indexes : (n : ℕ) (x : IndexShape) (o : OpenState) (d : TableShape) → slice_get shape.indexes n ≡ Some x
       → table_at s x.table ≡ Some o → slice_get shape.tables x.table ≡ Some d
       → mark_at (map still o.table.marks) n ≡ Some (mark_for n d.fields x)
@@ -52,21 +52,22 @@ pub record KindsStay (o : OpenState) : Type 0 where
 
 -- a store keeps its shape through each change
 pub record ShapesStay (shape : Shape) (s : StoreState) : Type 0 where
-  pub at_table : (t : ℕ) (o p : OpenState) → HasShape shape s → table_at s t ≡ Some o → IsSameKind o p
-      → HasShape shape (with_table s t p)
-  pub at_here : (o p : OpenState) → HasShape shape s → here s ≡ Some o → IsSameKind o p → HasShape shape (with_here p s)
-  pub by_change : (f : OpenState → OpenState) → ((o : OpenState) → IsSameKind o (f o)) → HasShape shape s
-      → HasShape shape (change_here f s)
-  pub by_use : (area : ℕ) (u : Option Use) → HasShape shape s → HasShape shape (with_use s area u)
-  pub by_select : (area : ℕ) → HasShape shape s → HasShape shape (with_selected area s)
-  pub by_close : HasShape shape s → HasShape shape (closed_here s)
-  pub by_close_all : HasShape shape s → HasShape shape (closed_all s)
-  pub by_index : (list : ℕ) (o p : OpenState) → HasShape shape s → here s ≡ Some o → IsSameKind o p
-      → HasShape shape (indexed_here list p s)
-  pub by_open : (t list : ℕ) (o p : OpenState) → HasShape shape s → table_at s t ≡ Some o → IsSameKind o p
-      → HasShape shape (used_here t list p s)
+  pub at_table : (t : ℕ) (o p : OpenState) → StoreHasShape shape s → table_at s t ≡ Some o → IsSameKind o p
+      → StoreHasShape shape (with_table s t p)
+  pub at_here : (o p : OpenState) → StoreHasShape shape s → here s ≡ Some o → IsSameKind o p
+      → StoreHasShape shape (with_here p s)
+  pub by_change : (f : OpenState → OpenState) → ((o : OpenState) → IsSameKind o (f o)) → StoreHasShape shape s
+      → StoreHasShape shape (change_here f s)
+  pub by_use : (area : ℕ) (u : Option Use) → StoreHasShape shape s → StoreHasShape shape (with_use s area u)
+  pub by_select : (area : ℕ) → StoreHasShape shape s → StoreHasShape shape (with_selected area s)
+  pub by_close : StoreHasShape shape s → StoreHasShape shape (closed_here s)
+  pub by_close_all : StoreHasShape shape s → StoreHasShape shape (closed_all s)
+  pub by_index : (list : ℕ) (o p : OpenState) → StoreHasShape shape s → here s ≡ Some o → IsSameKind o p
+      → StoreHasShape shape (indexed_here list p s)
+  pub by_open : (t list : ℕ) (o p : OpenState) → StoreHasShape shape s → table_at s t ≡ Some o → IsSameKind o p
+      → StoreHasShape shape (used_here t list p s)
   -- the declared indexes are there
-  pub declared : (n : ℕ) (x : IndexShape) (o : OpenState) (d : TableShape) → HasShape shape s
+  pub declared : (n : ℕ) (x : IndexShape) (o : OpenState) (d : TableShape) → StoreHasShape shape s
       → slice_get shape.indexes n ≡ Some x → table_at s x.table ≡ Some o → slice_get shape.tables x.table ≡ Some d
       → is_some (mark_at o.table.marks n) ≡ true
 
@@ -74,7 +75,7 @@ pub record ShapesStay (shape : Shape) (s : StoreState) : Type 0 where
 pub record IsFoundIn (s : StoreState) (n : ℕ) (x : IndexShape) (d : TableShape) (o : OpenState) : Type 0 where
   pub found : index_table s n ≡ Some o
   pub parts : parts_in (mark_at o.table.marks n) ≡ x.key
-  pub form : form_in o.table.structure (mark_at o.table.marks n) ≡ form_of d x
+  pub form : form_in o.table.structure (mark_at o.table.marks n) ≡ key_form d x
 
 -- each declared index is found so
 abbrev pub AreFound : Shape → StoreState → Type 0

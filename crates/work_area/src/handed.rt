@@ -3,7 +3,7 @@
 ghost use Rattle.std.specs.Prelude.{◌≡◌, ◌<◌, ◌≤◌, ◌↔◌, IsTrue, IfSome, Some, length, slice_get};
 ghost use Rattle.shape.specs.declared.indexes.IndexShape.{IndexShape as TheIndex};
 ghost use Rattle.shape.specs.declared.tables.TableShape.{TableShape as TheTable};
-ghost use Rattle.work_area.specs.Making.{IsAlike, AreAlike, AreOfShape, AreLists, form_of};
+ghost use Rattle.work_area.specs.Making.{IsAlike, HaveAlikeFields, AreOfShape, AreLists, key_form};
 
 use dbf_file::{Field, Table};
 use key_lists::KeyList;
@@ -18,7 +18,7 @@ fn is_alike(field: &Field, other: &Field) -> bool
 
 /// Whether fields hold the same, each as the other in its place; their names may differ.
 pub fn are_alike(fields: &[Field], others: &[Field]) -> bool
-    ensures { IsTrue result ↔ AreAlike fields.now others.now }
+    ensures { IsTrue result ↔ HaveAlikeFields fields.now others.now }
 {
     if fields.len() != others.len() {
         return false;
@@ -33,7 +33,7 @@ pub fn are_alike(fields: &[Field], others: &[Field]) -> bool
 
 /// Whether a table has fields that hold what is declared, and no more rows than a limit.
 fn is_declared(table: &Table, declared: &TableShape, limit: u32) -> bool
-    ensures fields { IsTrue result → AreAlike table.now.structure.fields declared.now.fields }
+    ensures fields { IsTrue result → HaveAlikeFields table.now.structure.fields declared.now.fields }
     ensures few { IsTrue result → length table.now.rows ≤ limit }
 {
     if table.rows() > limit as usize {
@@ -65,7 +65,7 @@ fn is_same(text: &[u8], other: &[u8]) -> bool
 
 /// Whether a list is of the declared key: its keys have that length, and it names that key.
 pub fn is_list_of<K: KeyList>(keys: &K, table: &TableShape, index: &IndexShape) -> bool
-    ensures { IsTrue result ↔ (K.form keys.now ≡ form_of table.now index.now) }
+    ensures { IsTrue result ↔ (K.form keys.now ≡ key_form table.now index.now) }
 {
     let fields = table.fields.as_slice();
     if keys.key_length() != index.key.bytes(fields) {
@@ -79,7 +79,7 @@ fn is_formed<K: KeyList>(shape: &Shape, n: usize, list: &Option<K>) -> bool
     requires { n < length shape.now.indexes }
     ensures { IsTrue result → (x : TheIndex) (s : TheTable) → slice_get shape.now.indexes n ≡ Some x
         → slice_get shape.now.tables x.table ≡ Some s
-        → IfSome list.now (λ k. K.form k ≡ form_of s x) }
+        → IfSome list.now (λ k. K.form k ≡ key_form s x) }
 {
     let Some(keys) = list else {
         return true;

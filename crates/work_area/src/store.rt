@@ -20,7 +20,7 @@ ghost use Rattle.work_area.specs.Calls.{packed_rows, all_rows, packed_in, pack_o
 ghost use Rattle.work_area.specs.Calls.{index_on_of, open_of, indexed_here, used_here, with_filter, with_list};
 ghost use Rattle.work_area.specs.Calls.{zap_landing};
 ghost use Rattle.work_area.specs.Making.{AreOfShape, AreLists, IsNewStore, lists_just};
-ghost use Rattle.work_area.specs.Shapes.{HasShape};
+ghost use Rattle.work_area.specs.Shapes.{StoreHasShape};
 ghost use Rattle.shape.specs.Whole.{is_shape};
 ghost use Rattle.xvalue.specs.Kinds.{kind_of};
 
@@ -85,7 +85,7 @@ impl<K: KeyList> Store<K> {
         requires tables { AreOfShape shape.now limit tables.items }
         requires lists { AreLists K.form shape.now keys.items }
         ensures made { IfOk result (IsNewStore (lists_just K.pairs keys.items) shape.now tables.items limit) }
-        ensures shape { IfOk result (HasShape shape.now) }
+        ensures shape { IfOk result (StoreHasShape shape.now) }
     {
         legal_shapes_have_keys();
         let mut made = unused_tables(alloc, tables)?;

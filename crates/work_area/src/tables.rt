@@ -5,12 +5,13 @@ ghost use Rattle.std.specs.Prelude.{slice_get};
 ghost use Rattle.shape.specs.Keys.{key_text};
 ghost use Rattle.shape.specs.Whole.{IsLegal, HasKeyOf};
 ghost use Rattle.row_keys.specs.Lists.{index_list};
-ghost use Rattle.open_table.specs.Open.{with_table};
+ghost use Rattle.open_table.specs.Open.{in_table};
 ghost use Rattle.open_table.specs.Tables.{HasDeclared};
 ghost use Rattle.shape.specs.declared.indexes.IndexShape.{IndexShape as TheIndex};
 ghost use Rattle.shape.specs.declared.tables.TableShape.{TableShape as TheTable};
 ghost use Rattle.dbf_file.specs.Tables.{TableState};
-ghost use Rattle.work_area.specs.Making.{AreAlike, AreLists, AreNewTables, AreReady, Declares, form_of, lists_just};
+ghost use Rattle.work_area.specs.Making.{HaveAlikeFields, AreLists, AreNewTables, AreReady, Declares, key_form};
+ghost use Rattle.work_area.specs.Making.{lists_just};
 ghost use Rattle.work_area.specs.Making.{mark_for, unused};
 
 use arrayvec::ArrayVec;
@@ -57,10 +58,10 @@ fn declare_of<K: KeyList>(
 ) -> Result<(), AllocError>
     requires key { HasKeyOf table.now index.now }
     requires few { n < 64 }
-    requires fields { AreAlike made.old.table.structure.fields table.now.fields }
+    requires fields { HaveAlikeFields made.old.table.structure.fields table.now.fields }
     requires unused { made.old.list ≡ [] }
-    requires form { IfSome list (λ k. K.form k ≡ form_of table.now index.now) }
-    ensures table { made.new ≡ with_table made.old made.new.table }
+    requires form { IfSome list (λ k. K.form k ≡ key_form table.now index.now) }
+    ensures table { made.new ≡ in_table made.old made.new.table }
     ensures ok { OnOk result (HasDeclared
         (IsSomeAnd list (λ k. K.pairs k ≡ index_list index.now.key made.old.table.rows))
         (mark_for n table.now.fields index.now) made.old.table made.new.table) }
@@ -82,7 +83,7 @@ fn declare<K: KeyList>(
     requires ready { AreReady shape.now made.old.items }
     requires form { (x : TheIndex) (s : TheTable) → slice_get shape.now.indexes n ≡ Some x
         → slice_get shape.now.tables x.table ≡ Some s
-        → IfSome list (λ k. K.form k ≡ form_of s x) }
+        → IfSome list (λ k. K.form k ≡ key_form s x) }
     ensures { OnOk result (IfSome (slice_get shape.now.indexes n)
         (λ x. Declares shape.now (λ wanted. IsSomeAnd list
         (λ k. K.pairs k ≡ wanted)) n x made.old.items made.new.items)) }

@@ -15,8 +15,8 @@ use Rattle.code_items.specs.declared.code.Code.{Code}
 use Rattle.code_items.specs.Constants.{is_constant}
 use Rattle.code_items.specs.Declarations.{is_filter, lists_are_legal, constants_are_legal, filters_are_legal, are_declared}
 use Rattle.code_items.specs.Instrs.{is_instr}
-use Rattle.code_items.specs.States.{is_blank}
-use Rattle.code_items.specs.Legal.{is_procedure, is_map, total, places_of, blocks_of, blocks_fill, maps_rise, begins_blank, procedures_are_legal, maps_are_legal, instructions_are_legal, is_code}
+use Rattle.code_items.specs.States.{is_state_of_start}
+use Rattle.code_items.specs.Legal.{is_procedure, is_map, places_in_all, places_of, blocks_of, blocks_fill, maps_rise, begins_blank, procedures_are_legal, maps_are_legal, instructions_are_legal, is_code}
 use Rattle.xcode.specs.declared.fault.CodeFault.TheVariants.{Shape, Extra}
 use Rattle.xcode.specs.Decoding.{bind, checked, procedure_follows, is_laid, whole_at, code_at}
 use Rattle.xcode.specs.declared.fault.CodeFault.{CodeFault}
@@ -100,7 +100,7 @@ procedures_follow : (d : Declared) (ps : List Proc) → list_all (is_procedure d
 procedures_follow d [] h blank = refl
 procedures_follow d (p ∷ ps) h blank =
     let a = and_parts (is_procedure d p) (list_all (is_procedure d) ps) h in
-    and_from (is_procedure d p && is_blank p.entry) (go_on (procedure_follows d) (p ∷ []) ps) (and_from (is_procedure d p) (is_blank p.entry) a.0 blank) (sym (further_same d p [] ps) ∙ a.1)
+    and_from (is_procedure d p && is_state_of_start p.entry) (go_on (procedure_follows d) (p ∷ []) ps) (and_from (is_procedure d p) (is_state_of_start p.entry) a.0 blank) (sym (further_same d p [] ps) ∙ a.1)
 
 within : (code : Code) → Keeps code → WithinLimits (counts_of code)
 within code k =
@@ -179,11 +179,11 @@ whole_fits code k =
       );
     }
   where
-    behind_few : (bound left behind total : ℕ) → behind + total ≡ left → left ≤ bound → behind ≤ bound
-    behind_few bound left behind total e h = omega arith
+    behind_few : (bound left behind places_in_all : ℕ) → behind + places_in_all ≡ left → left ≤ bound → behind ≤ bound
+    behind_few bound left behind places_in_all e h = omega arith
 
-    places_few : (bound left behind total : ℕ) → behind + total ≡ left → left ≤ bound → total ≤ bound
-    places_few bound left behind total e h = omega arith
+    places_few : (bound left behind places_in_all : ℕ) → behind + places_in_all ≡ left → left ≤ bound → places_in_all ≤ bound
+    places_few bound left behind places_in_all e h = omega arith
 
     always_go : {A : Type 0} (earlier xs : List A) → go_on (λ (e : List A) (x : A). true) earlier xs ≡ true
     always_go earlier [] = refl

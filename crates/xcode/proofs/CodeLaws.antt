@@ -15,7 +15,7 @@ use Rattle.code_items.specs.declared.code.Code.{Code}
 use Rattle.code_items.specs.declared.instr.Instr.{Instr}
 use Rattle.code_parts.specs.Laws.{Spells, Any, TableFits, IndexFits, ListFits, IsLegalConstant, FilterFits, ProcedureFits, MapFits, IsLegalInstr}
 use Rattle.code_parts.specs.Texts.{table_text, index_text, list_text, constant_text, filter_text, procedure_text, map_text}
-use Rattle.code_parts.specs.Items.{table_at, index_at, list_at, constant_at, filter_at, procedure_at, map_read_at}
+use Rattle.code_parts.specs.Items.{table_read_at, index_at, list_at, constant_at, filter_at, procedure_read_at, map_read_at}
 use Rattle.code_parts.specs.Instructions.{instr_read_at, instr_text}
 use Rattle.xcode.specs.declared.header.Counts.{Counts}
 use Rattle.xcode.specs.declared.header.Header.{Header}
@@ -28,12 +28,12 @@ use Rattle.xcode.proofs.WholeLaws.{NumberLaws, HeaderFits, CountsRead, header_sp
 -- the lower crate's laws of items
 pub record ItemLaws : Type 0 where
   pub numbers : NumberLaws
-  pub tables : Spells table_at table_text TableFits Any
+  pub tables : Spells table_read_at table_text TableFits Any
   pub indexes : Spells index_at index_text IndexFits Any
   pub lists : Spells list_at list_text ListFits Any
   pub constants : Spells constant_at constant_text IsLegalConstant IsLegalConstant
   pub filters : Spells filter_at filter_text FilterFits Any
-  pub procedures : (version : Version) (slots : ℕ) → Spells (procedure_at version slots) procedure_text (ProcedureFits version slots) Any
+  pub procedures : (version : Version) (slots : ℕ) → Spells (procedure_read_at version slots) procedure_text (ProcedureFits version slots) Any
   pub maps : (version : Version) (slots : ℕ) → Spells (map_read_at version slots) map_text (MapFits version slots) Any
   pub instructions : (version : Version) → Spells (instr_read_at version) instr_text (IsLegalInstr version) (IsLegalInstr version)
 

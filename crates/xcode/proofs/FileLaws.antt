@@ -17,7 +17,7 @@ use Rattle.code_items.specs.declared.code.Code.{Code}
 use Rattle.code_items.specs.Constants.{is_constant}
 use Rattle.code_items.specs.Declarations.{is_filter, lists_are_legal, constants_are_legal, filters_are_legal, are_declared}
 use Rattle.code_items.specs.Instrs.{is_instr}
-use Rattle.code_items.specs.States.{is_blank}
+use Rattle.code_items.specs.States.{is_state_of_start}
 use Rattle.code_items.specs.Legal.{is_procedure, is_map, places_of, blocks_of, blocks_fill, maps_rise, begins_blank, procedures_are_legal, maps_are_legal, instructions_are_legal, is_code}
 use Rattle.code_parts.specs.Laws.{AreBytes}
 use Rattle.xcode.specs.declared.fault.CodeFault.{CodeFault}
@@ -55,8 +55,8 @@ all_pass p (x ∷ xs) h = and_from (p x) (list_all p xs) h.0 (all_pass p xs h.1)
 procedures_pass : (d : Declared) (ps : List Proc) → nat_le 1 (length ps) ≡ true → go_on (procedure_follows d) [] ps ≡ true → (list_all (is_procedure d) ps ≡ true) × (begins_blank ps ≡ true)
 procedures_pass d [] some h = absurd cc
 procedures_pass d (p ∷ ps) some h =
-    let a = and_parts (is_procedure d p && is_blank p.entry) (go_on (procedure_follows d) (p ∷ []) ps) h in
-    let b = and_parts (is_procedure d p) (is_blank p.entry) a.0 in
+    let a = and_parts (is_procedure d p && is_state_of_start p.entry) (go_on (procedure_follows d) (p ∷ []) ps) h in
+    let b = and_parts (is_procedure d p) (is_state_of_start p.entry) a.0 in
     (and_from (is_procedure d p) (list_all (is_procedure d) ps) b.0 (further_same d p [] ps ∙ a.1), b.1)
 
 -- the limits one by one

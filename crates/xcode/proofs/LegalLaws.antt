@@ -5,7 +5,7 @@ use Rattle.std.specs.List.{AllByRecursion, list_all}
 use Rattle.std.proofs.lemmas.Bool.{eqb-true, leb-true, ltb-true, and_parts}
 use Rattle.dbf_file.specs.declared.field.Field.{Field}
 use Rattle.dbf_file.specs.Names.{is_name}
-use Rattle.dbf_file.specs.Fields.{is_field, are_fields, go_on as fields_go_on}
+use Rattle.dbf_file.specs.Fields.{is_field, are_fields, fields_go_on}
 use Rattle.shape.specs.declared.parts.KeyPart.{KeyPart}
 use Rattle.shape.specs.declared.tables.TableShape.{TableShape}
 use Rattle.shape.specs.declared.indexes.IndexShape.{IndexShape}
@@ -25,7 +25,7 @@ use Rattle.code_items.specs.declared.code.Proc.{Proc}
 use Rattle.code_items.specs.declared.code.Map.{Map}
 use Rattle.code_items.specs.Declarations.{needs_rise, is_filter}
 use Rattle.code_items.specs.States.{may_be_unsure, is_area_state, is_desk, is_state}
-use Rattle.code_items.specs.Legal.{is_procedure, is_map, total, blocks_fill, maps_rise}
+use Rattle.code_items.specs.Legal.{is_procedure, is_map, places_in_all, blocks_fill, maps_rise}
 use Rattle.code_parts.specs.Laws.{FieldFits, TableFits, IndexFits, ListFits, FilterFits, AreaFits, StateFits, ProcedureFits, MapFits}
 
 -- the first of tests joined is the outermost left
@@ -91,7 +91,7 @@ pub record Front (bound left : ℕ) (xs ys : List ℕ) : Type 0 where
   pub each : AllByRecursion (UpTo bound) xs
   pub behind : ℕ
   pub fills : blocks_fill behind ys ≡ true
-  pub sum : behind + total xs ≡ left
+  pub sum : behind + places_in_all xs ≡ left
 
 pub front_blocks : (bound left : ℕ) (xs ys : List ℕ) → left ≤ bound → blocks_fill left (xs ++ ys) ≡ true → Front bound left xs ys
 front_blocks bound left [] ys within h = record { each = tt; behind = left; fills = h; sum = omega arith }

@@ -3,13 +3,13 @@ use Rattle.std.proofs.Common.{◌≡◌, ℕ, suc, ◌-◌, ◌+◌, ◌≤◌, 
 use Rattle.code_parts.specs.Reading.{Reader, Judged}
 use Rattle.xcode.specs.declared.fault.CodeFault.{CodeFault}
 use Rattle.xcode.specs.declared.fault.CodeFault.TheVariants.{Magic, Version, Short, Limit, Operation, Shape, Extra, Memory}
-use Rattle.xcode.specs.Decoding.{Fails, bind, checked, told, items_at}
+use Rattle.xcode.specs.Decoding.{FileFails, bind, checked, item_told, items_at}
 
 -- what is still read behind the items so far
 abbrev pub LeadsTo : {A : Type 0} → Reader (Judged A) → (List A → A → Bool) → ℕ → List A → List ℕ → Result (List A × List ℕ) CodeFault → Type 0
 LeadsTo one follows left earlier bytes total = items_at one follows left earlier bytes ≡ total
 
-pub goes_on : {A : Type 0} (one : Reader (Judged A)) (follows : List A → A → Bool) (count i : ℕ) (earlier : List A) (bytes : List ℕ) (n : A) (after : List ℕ) (total : Result (List A × List ℕ) CodeFault) → i < count → told (one bytes) ≡ Ok (n, after) → follows earlier n ≡ true
+pub goes_on : {A : Type 0} (one : Reader (Judged A)) (follows : List A → A → Bool) (count i : ℕ) (earlier : List A) (bytes : List ℕ) (n : A) (after : List ℕ) (total : Result (List A × List ℕ) CodeFault) → i < count → item_told (one bytes) ≡ Ok (n, after) → follows earlier n ≡ true
     → items_at one follows (count - i) earlier bytes ≡ total → items_at one follows (count - (i + 1)) (earlier ++ n ∷ []) after ≡ total
 unfolding items_at
 goes_on one follows count i earlier bytes n after total lt h legal so_far =
@@ -17,7 +17,7 @@ goes_on one follows count i earlier bytes n after total lt h legal so_far =
     let step : items_at one follows (count - i) earlier bytes ≡ items_at one follows (count - (i + 1)) (earlier ++ n ∷ []) after = rw (k, h, legal) refl in
     sym step ∙ so_far
 
-fault_of : {A : Type 0} (e : CodeFault) (first : Result A CodeFault) → Fails e first → {B : Type 0} (f : A → Result B CodeFault) → Fails e (bind first f)
+fault_of : {A : Type 0} (e : CodeFault) (first : Result A CodeFault) → FileFails e first → {B : Type 0} (f : A → Result B CodeFault) → FileFails e (bind first f)
 fault_of Magic first h f = rw h refl
 fault_of Version first h f = rw h refl
 fault_of Short first h f = rw h refl
@@ -27,17 +27,17 @@ fault_of Shape first h f = rw h refl
 fault_of Extra first h f = rw h refl
 fault_of Memory first h f = tt
 
-pub ends : {A : Type 0} (one : Reader (Judged A)) (follows : List A → A → Bool) (e : CodeFault) (count i : ℕ) (earlier : List A) (bytes : List ℕ) (total : Result (List A × List ℕ) CodeFault) → i < count → Fails e (told (one bytes))
-    → items_at one follows (count - i) earlier bytes ≡ total → Fails e total
+pub ends : {A : Type 0} (one : Reader (Judged A)) (follows : List A → A → Bool) (e : CodeFault) (count i : ℕ) (earlier : List A) (bytes : List ℕ) (total : Result (List A × List ℕ) CodeFault) → i < count → FileFails e (item_told (one bytes))
+    → items_at one follows (count - i) earlier bytes ≡ total → FileFails e total
 unfolding items_at
 ends {A} one follows e count i earlier bytes total lt h so_far =
     let k : count - i ≡ suc (count - (i + 1)) = omega arith in
     let more = λ (x : A × List ℕ). bind (checked Shape (follows earlier x.0) x) (λ y. items_at one follows (count - (i + 1)) (earlier ++ y.0 ∷ []) y.1) in
-    let unrolled : bind (told (one bytes)) more ≡ total = rw k at so_far in
-    let here : Fails e (bind (told (one bytes)) more) = fault_of e (told (one bytes)) h more in
+    let unrolled : bind (item_told (one bytes)) more ≡ total = rw k at so_far in
+    let here : FileFails e (bind (item_told (one bytes)) more) = fault_of e (item_told (one bytes)) h more in
     rw unrolled at here
 
-pub is_refused : {A : Type 0} (one : Reader (Judged A)) (follows : List A → A → Bool) (count i : ℕ) (earlier : List A) (bytes : List ℕ) (n : A) (after : List ℕ) (total : Result (List A × List ℕ) CodeFault) → i < count → told (one bytes) ≡ Ok (n, after) → follows earlier n ≡ false
+pub is_refused : {A : Type 0} (one : Reader (Judged A)) (follows : List A → A → Bool) (count i : ℕ) (earlier : List A) (bytes : List ℕ) (n : A) (after : List ℕ) (total : Result (List A × List ℕ) CodeFault) → i < count → item_told (one bytes) ≡ Ok (n, after) → follows earlier n ≡ false
     → items_at one follows (count - i) earlier bytes ≡ total → total ≡ Err Shape
 unfolding items_at
 is_refused {A} one follows count i earlier bytes n after total lt h illegal so_far =

@@ -8,7 +8,7 @@ use Rattle.code_parts.specs.Reading.{Front, Reader, Judged}
 use Rattle.code_parts.specs.Laws.{AreBytes, Spells}
 use Rattle.xcode.specs.declared.fault.CodeFault.{CodeFault}
 use Rattle.xcode.specs.declared.fault.CodeFault.TheVariants.{Short, Shape}
-use Rattle.xcode.specs.Decoding.{Part, bind, checked, fault_of, told, joint, shaped, items_at}
+use Rattle.xcode.specs.Decoding.{FilePart, bind, checked, flaw_fault, item_told, joint, shaped, items_at}
 use Rattle.xcode.specs.Laws.{Lasts, IsSpelled, go_on}
 
 abbrev pub fine : {A : Type 0} → A → Result A CodeFault
@@ -47,7 +47,7 @@ are_left bytes text rest e fit i =
 
 -- ---- one part behind another
 
-pub joint_spelled : {A B : Type 0} {r : Part A} {s : A → Part B} {t : A → List ℕ} {u : B → List ℕ} {P G : A → Type 0} {Q H : A → B → Type 0} → IsSpelled r t P G → ((a : A) → IsSpelled (s a) u (Q a) (H a))
+pub joint_spelled : {A B : Type 0} {r : FilePart A} {s : A → FilePart B} {t : A → List ℕ} {u : B → List ℕ} {P G : A → Type 0} {Q H : A → B → Type 0} → IsSpelled r t P G → ((a : A) → IsSpelled (s a) u (Q a) (H a))
     → IsSpelled (joint r s) (λ p. t p.0 ++ u p.1) (λ p. P p.0 × Q p.0 p.1) (λ p. G p.0 × H p.0 p.1)
 joint_spelled {A} {B} {r} {s} {t} {u} {P} {G} {Q} {H} first second = record {
   again = λ p rest h. ap (joint r s) (append_assoc (t p.0) (u p.1) rest) ∙ rw (first.again p.0 (u p.1 ++ rest) h.0, (second p.0).again p.1 rest h.1) refl;
@@ -75,7 +75,7 @@ joint_spelled {A} {B} {r} {s} {t} {u} {P} {G} {Q} {H} first second = record {
 }
 
 -- what is made of a part
-pub made_spelled : {A B : Type 0} {r : Part A} {t : A → List ℕ} {P G : A → Type 0} → IsSpelled r t P G → (make : A → Result B CodeFault) (v : B → List ℕ) (Q H : B → Type 0)
+pub made_spelled : {A B : Type 0} {r : FilePart A} {t : A → List ℕ} {P G : A → Type 0} → IsSpelled r t P G → (make : A → Result B CodeFault) (v : B → List ℕ) (Q H : B → Type 0)
     → ((x : A) (y : B) → G x → make x ≡ Ok y → (t x ≡ v y) × H y)
     → ((y : B) → Q y → (x : A) × P x × (make x ≡ Ok y) × (v y ≡ t x))
     → IsSpelled (λ bytes. bind (r bytes) (λ x. bind (make x.0) (λ y. Ok (y, x.1)))) v Q H
@@ -105,7 +105,7 @@ made_spelled {A} {B} {r} {t} {P} {G} law make v Q H back forth = record {
       ];
 }
 
-pub shaped_spelled : {A B : Type 0} {r : Part A} {t : A → List ℕ} {P G : A → Type 0} → IsSpelled r t P G → (make : A → B) (v : B → List ℕ) (Q H : B → Type 0)
+pub shaped_spelled : {A B : Type 0} {r : FilePart A} {t : A → List ℕ} {P G : A → Type 0} → IsSpelled r t P G → (make : A → B) (v : B → List ℕ) (Q H : B → Type 0)
     → ((x : A) → G x → (t x ≡ v (make x)) × H (make x))
     → ((y : B) → Q y → (x : A) × P x × (make x ≡ y) × (v y ≡ t x))
     → IsSpelled (shaped r make) v Q H
@@ -122,7 +122,7 @@ pub still : {B : Type 0} (b : Bool) (fault f : CodeFault) (x y : B) → checked 
 still true fault f x y e = absurd (not_both x f e)
 still {B} false fault f x y e = ap (λ (g : CodeFault). bad {A = B} g) (bad_is {A = B} fault f e)
 
-pub checked_spelled : {A : Type 0} {r : Part A} {t : A → List ℕ} {P G : A → Type 0} → IsSpelled r t P G → (fault : CodeFault) (test : A → Bool) → IsSpelled (λ bytes. bind (r bytes) (λ x. checked fault (test x.0) x)) t (λ x. P x × (test x ≡ true)) (λ x. G x × (test x ≡ true))
+pub checked_spelled : {A : Type 0} {r : FilePart A} {t : A → List ℕ} {P G : A → Type 0} → IsSpelled r t P G → (fault : CodeFault) (test : A → Bool) → IsSpelled (λ bytes. bind (r bytes) (λ x. checked fault (test x.0) x)) t (λ x. P x × (test x ≡ true)) (λ x. G x × (test x ≡ true))
 checked_spelled {A} {r} {t} {P} {G} law fault test = record {
   again = λ x rest h. rw (law.again x rest h.0, h.1) refl;
   takes = λ bytes rest x fit e.
@@ -146,7 +146,7 @@ checked_spelled {A} {r} {t} {P} {G} law fault test = record {
 
 -- ---- items
 
-pub told_spelled : {A : Type 0} {one : Reader (Judged A)} {t : A → List ℕ} {P G : A → Type 0} → Spells one t P G → IsSpelled (λ bytes. told (one bytes)) t P G
+pub told_spelled : {A : Type 0} {one : Reader (Judged A)} {t : A → List ℕ} {P G : A → Type 0} → Spells one t P G → IsSpelled (λ bytes. item_told (one bytes)) t P G
 told_spelled {A} {one} {t} {P} {G} law = record {
   again = λ x rest h. rw (law.again x rest h) refl;
   takes = λ bytes rest x fit e. law.takes bytes rest x fit (front_fine (one bytes) (x, rest) e);
@@ -156,15 +156,15 @@ told_spelled {A} {one} {t} {P} {G} law = record {
       rw (law.steady.stays bytes more w.1 (Err w.0) w.2) (ap (λ (g : CodeFault). bad g) w.3);
 }
   where
-    front_fine : {B : Type 0} (front : Front (Judged B)) (x : B × List ℕ) → told front ≡ Ok x → front ≡ Some (Ok x.0, x.1)
+    front_fine : {B : Type 0} (front : Front (Judged B)) (x : B × List ℕ) → item_told front ≡ Ok x → front ≡ Some (Ok x.0, x.1)
     front_fine None x e = absurd cc
     front_fine {B} (Some (Ok y, rest)) x e = ap (λ (p : B × List ℕ). Some (Ok p.0, p.1)) (fine_is (y, rest) x e)
     front_fine (Some (Err f, rest)) x e = absurd cc
 
-    front_bad : {B : Type 0} (front : Front (Judged B)) (e : CodeFault) → Lasts e → told front ≡ Err e → (f : Flaw) × (rest : List ℕ) × (front ≡ Some (Err f, rest)) × (fault_of f ≡ e)
+    front_bad : {B : Type 0} (front : Front (Judged B)) (e : CodeFault) → Lasts e → item_told front ≡ Err e → (f : Flaw) × (rest : List ℕ) × (front ≡ Some (Err f, rest)) × (flaw_fault f ≡ e)
     front_bad {B} None e lasts h = absurd (subst Lasts (sym (bad_is {A = B × List ℕ} Short e h)) lasts)
     front_bad (Some (Ok y, rest)) e lasts h = absurd (not_both (y, rest) e h)
-    front_bad {B} (Some (Err f, rest)) e lasts h = (f, rest, refl, bad_is {A = B × List ℕ} (fault_of f) e h)
+    front_bad {B} (Some (Err f, rest)) e lasts h = (f, rest, refl, bad_is {A = B × List ℕ} (flaw_fault f) e h)
 
 items_again : {A : Type 0} {one : Reader (Judged A)} {t : A → List ℕ} {P G : A → Type 0} → Spells one t P G → (follows : List A → A → Bool) (xs earlier : List A) (rest : List ℕ) → go_on follows earlier xs ≡ true → AllByRecursion P xs → items_at one follows (length xs) earlier (flat_map t xs ++ rest) ≡ Ok (earlier ++ xs, rest)
 unfolding items_at
@@ -190,7 +190,7 @@ items_take {A} {one} {t} law follows zero earlier bytes rest all fit e =
     record { xs = []; all_are = append-nil earlier ∙ end.0; spelled = end.1; count = refl; legal = refl; each = tt }
 items_take {A} {one} {t} law follows (suc n) earlier bytes rest all fit e =
     let more = λ (y : A × List ℕ). items_at one follows n (earlier ++ y.0 ∷ []) y.1 in
-    let a = bind_fine (told (one bytes)) (λ x. bind (checked Shape (follows earlier x.0) x) more) (all, rest) e in
+    let a = bind_fine (item_told (one bytes)) (λ x. bind (checked Shape (follows earlier x.0) x) more) (all, rest) e in
     let b = bind_fine (checked Shape (follows earlier a.0.0) a.0) more (all, rest) a.2 in
     let c = checked_fine Shape (follows earlier a.0.0) a.0 b.0 b.1 in
     let front = (told_spelled law).takes bytes a.0.1 a.0.0 fit a.1 in
@@ -212,7 +212,7 @@ items_stay {A} law follows zero earlier bytes more rest all e =
     ap (λ (l : List A). fine (l, bytes ++ more)) end.0 ∙ ap (λ (l : List ℕ). fine (all, l ++ more)) end.1
 items_stay {A} {one} law follows (suc n) earlier bytes more rest all e =
     let next = λ (y : A × List ℕ). items_at one follows n (earlier ++ y.0 ∷ []) y.1 in
-    let a = bind_fine (told (one bytes)) (λ x. bind (checked Shape (follows earlier x.0) x) next) (all, rest) e in
+    let a = bind_fine (item_told (one bytes)) (λ x. bind (checked Shape (follows earlier x.0) x) next) (all, rest) e in
     let b = bind_fine (checked Shape (follows earlier a.0.0) a.0) next (all, rest) a.2 in
     let c = checked_fine Shape (follows earlier a.0.0) a.0 b.0 b.1 in
     let others : items_at one follows n (earlier ++ a.0.0 ∷ []) a.0.1 ≡ Ok (all, rest) = ap next c.1 ∙ b.2 in
@@ -223,7 +223,7 @@ unfolding items_at
 items_fail law follows zero earlier bytes more f lasts e = absurd (not_both (earlier, bytes) f e)
 items_fail {A} {one} law follows (suc n) earlier bytes more f lasts e =
     let next = λ (y : A × List ℕ). items_at one follows n (earlier ++ y.0 ∷ []) y.1 in
-    elim (bind_bad (told (one bytes)) (λ x. bind (checked Shape (follows earlier x.0) x) next) f e) [
+    elim (bind_bad (item_told (one bytes)) (λ x. bind (checked Shape (follows earlier x.0) x) next) f e) [
       | inl h ↦ rw ((told_spelled law).fails bytes more f lasts h) refl
       | inr a ↦ rw ((told_spelled law).stays bytes more a.0.1 a.0.0 a.1) (elim (bind_bad (checked Shape (follows earlier a.0.0) a.0) next f a.2) [
         | inl h ↦ ap (λ (r : Result (A × List ℕ) CodeFault). bind r next) (still (follows earlier a.0.0) Shape f a.0 (a.0.0, a.0.1 ++ more) h)

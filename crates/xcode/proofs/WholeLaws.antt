@@ -5,7 +5,7 @@ use Rattle.std.specs.Int.{w16, w32, to_le_bytes}
 use Rattle.std.proofs.lemmas.Bool.{eqb-true}
 use Rattle.code_items.specs.declared.declared.Version.{Version}
 use Rattle.code_items.specs.declared.declared.Version.TheVariants.{One, Two}
-use Rattle.code_parts.specs.Reading.{Front, Reader, Judged, behind, give, sure, number_at}
+use Rattle.code_parts.specs.Reading.{Front, Reader, Judged, read_behind, give, sure, number_read_at}
 use Rattle.code_parts.specs.Laws.{Spells, Any}
 use Rattle.code_parts.specs.Texts.{two}
 use Rattle.xcode.specs.declared.fault.CodeFault.{CodeFault}
@@ -31,13 +31,13 @@ done x = Ok x
 done_is : {A : Type 0} (x y : A) → done x ≡ done y → x ≡ y
 done_is x y e = cc
 
-surely : {A : Type 0} (front : Front A) (x : A) (rest : List ℕ) → behind {B = Judged A} front (λ y. give (done y)) ≡ Some (Ok x, rest) → front ≡ Some (x, rest)
+surely : {A : Type 0} (front : Front A) (x : A) (rest : List ℕ) → read_behind {B = Judged A} front (λ y. give (done y)) ≡ Some (Ok x, rest) → front ≡ Some (x, rest)
 surely None x rest e = absurd cc
 surely {A} (Some p) x rest e =
     let same : (done p.0, p.1) ≡ (done x, rest) = some_is {A = Judged A × List ℕ} (done p.0, p.1) (done x, rest) e in
     ap (λ (y : A). Some (y, p.1)) (done_is p.0 x (ap (λ (q : Judged A × List ℕ). q.0) same)) ∙ ap (λ (l : List ℕ). Some (x, l)) (ap (λ (q : Judged A × List ℕ). q.1) same)
 
-there_fine : {A : Type 0} (fault : CodeFault) (front : Front A) (x : A) (rest : List ℕ) → there_or fault front ≡ Ok (x, rest) → behind {B = Judged A} front (λ y. give (done y)) ≡ Some (Ok x, rest)
+there_fine : {A : Type 0} (fault : CodeFault) (front : Front A) (x : A) (rest : List ℕ) → there_or fault front ≡ Ok (x, rest) → read_behind {B = Judged A} front (λ y. give (done y)) ≡ Some (Ok x, rest)
 there_fine fault None x rest e = absurd cc
 there_fine {A} fault (Some p) x rest e = ap (λ (q : A × List ℕ). Some (done q.0, q.1)) (fine_is p (x, rest) e)
 
@@ -55,15 +55,15 @@ there_spelled {A} r {t} {P} {G} law fault brief = record {
 
 -- numbers of two and four bytes, by the lower crate's law
 pub record NumberLaws : Type 0 where
-  pub two : Spells (sure (number_at w16)) (to_le_bytes w16) (λ n. n < 2 ^ 16) (λ n. n < 2 ^ 16)
-  pub four : Spells (sure (number_at w32)) (to_le_bytes w32) (λ n. n < 2 ^ 32) (λ n. n < 2 ^ 32)
+  pub two : Spells (sure (number_read_at w16)) (to_le_bytes w16) (λ n. n < 2 ^ 16) (λ n. n < 2 ^ 16)
+  pub four : Spells (sure (number_read_at w32)) (to_le_bytes w32) (λ n. n < 2 ^ 32) (λ n. n < 2 ^ 32)
 
 abbrev pub Small : ℕ → Type 0
 Small n = n < 2 ^ 16
 
 number_spelled : NumberLaws → IsSpelled number_at_front two Small Small
 unfolding number_at_front
-number_spelled laws = there_spelled (number_at w16) laws.two Short (λ h. h)
+number_spelled laws = there_spelled (number_read_at w16) laws.two Short (λ h. h)
 
 abbrev pub CountsFit : Counts → Type 0
 CountsFit c = Small c.stack_bound × (Small c.slots × (Small c.tables × (Small c.indexes × (Small c.lists × (Small c.constants × (Small c.filters × (Small c.procedures × (Small c.maps × Small c.instructions))))))))
@@ -93,7 +93,7 @@ IsMagic n = (n == 0x46434258) ≡ true
 
 magic_spelled : NumberLaws → IsSpelled magic_at (to_le_bytes w32) (λ n. (n < 2 ^ 32) × IsMagic n) (λ n. (n < 2 ^ 32) × IsMagic n)
 unfolding magic_at
-magic_spelled laws = checked_spelled (there_spelled (number_at w32) laws.four Magic (λ h. h)) Magic (λ n. n == 0x46434258)
+magic_spelled laws = checked_spelled (there_spelled (number_read_at w32) laws.four Magic (λ h. h)) Magic (λ n. n == 0x46434258)
 
 version_was : (n : ℕ) (v : Version) → version_from n ≡ Ok v → n ≡ version_number v
 version_was n v e = first (eqb n 1) refl e
@@ -112,7 +112,7 @@ version_is Two = (omega arith, refl)
 
 version_spelled : NumberLaws → IsSpelled version_at (λ v. two (version_number v)) Any Any
 unfolding version_at
-version_spelled laws = made_spelled (there_spelled (number_at w16) laws.two OtherVersion (λ h. h)) version_from (λ v. two (version_number v)) Any Any
+version_spelled laws = made_spelled (there_spelled (number_read_at w16) laws.two OtherVersion (λ h. h)) version_from (λ v. two (version_number v)) Any Any
     (λ n v h e. (ap two (version_was n v e), tt))
     (λ v h. (version_number v, (version_is v).0, (version_is v).1, refl))
 

@@ -18,10 +18,10 @@ use Rattle.code_items.specs.declared.code.Proc.{Proc}
 use Rattle.code_items.specs.declared.code.Map.{Map}
 use Rattle.code_items.specs.declared.code.Code.{Code}
 use Rattle.code_items.specs.Declarations.{is_filter}
-use Rattle.code_items.specs.States.{lists_table, is_list_of, filters_table, is_filter_of, how_many, opened, is_area_state, is_desk, is_state}
+use Rattle.code_items.specs.States.{lists_table, is_list_of, filters_table, is_filter_of, how_many, opened_by, is_area_state, is_desk, is_state}
 use Rattle.code_items.specs.Legal.{is_procedure, is_map, is_code}
 use Rattle.code_parts.specs.Laws.{ListFits}
-use Rattle.xcode.specs.Fitting.{AreaFits, StateFits, ProcedureFits}
+use Rattle.xcode.specs.Fitting.{AreaFitsBytes, StateFitsBytes, ProcedureFitsBytes}
 use Rattle.xcode.specs.Writing.{Writable}
 use Rattle.xcode.proofs.LegalLaws.{needs_few, lists_fit}
 use Rattle.xcode.proofs.AgainLaws.{keeps}
@@ -76,7 +76,7 @@ few_opened [] h n = omega arith
 few_opened (l ∷ ls) h zero = h.0
 few_opened (l ∷ ls) h (suc n) = few_opened ls h.1 n
 
-opened_few : (d : Declared) → AllByRecursion ListFits d.lists → (list : ℕ) → opened d list ≤ 7
+opened_few : (d : Declared) → AllByRecursion ListFits d.lists → (list : ℕ) → opened_by d list ≤ 7
 opened_few d h zero = omega arith
 opened_few d h (suc n) = few_opened d.lists h n
 
@@ -89,14 +89,14 @@ record Few (d : Declared) : Type 0 where
   bound : d.stack_bound ≤ 64
   each : AllByRecursion ListFits d.lists
 
-area_writes : (d : Declared) (area : AreaState) → Few d → is_area_state d area ≡ true → AreaFits area
+area_writes : (d : Declared) (area : AreaState) → Few d → is_area_state d area ≡ true → AreaFitsBytes area
 area_writes d Closed few h = tt
 area_writes d (Open a) few h =
     let p = and_parts _ (eqb a.filter 0 || is_filter_of d a.table a.filter) h in
-    let q = and_parts _ (nat_le a.order (opened d a.list)) p.0 in
+    let q = and_parts _ (nat_le a.order (opened_by d a.list)) p.0 in
     let r = and_parts (nat_lt a.table (length d.shape.tables)) (eqb a.list 0 || is_list_of d a.table a.list) q.0 in
     let table = ltb-true a.table (length d.shape.tables) r.0 in
-    let order = leb-true a.order (opened d a.list) q.1 in
+    let order = leb-true a.order (opened_by d a.list) q.1 in
     let most = opened_few d few.each a.list in
     let t = few.tables in
     (omega (arith, table, t), list_small (either_true (eqb a.list 0) (is_list_of d a.table a.list) r.1), omega (arith, order, most), filter_small (either_true (eqb a.filter 0) (is_filter_of d a.table a.filter) p.1))
@@ -110,27 +110,27 @@ area_writes d (Open a) few h =
     filter_small (inr e) = let n = filter_named d a.table a.filter e in let l = few.filters in omega (arith, n, l)
 area_writes d Unsure few h = tt
 
-areas_write : (d : Declared) (areas : List AreaState) → Few d → list_all (is_area_state d) areas ≡ true → All AreaFits areas
-areas_write d [] few h = All-nil AreaFits
-areas_write d (a ∷ areas) few h = All-cons AreaFits a areas (area_writes d a few (first_true _ _ h)) (areas_write d areas few (second_true _ _ h))
+areas_write : (d : Declared) (areas : List AreaState) → Few d → list_all (is_area_state d) areas ≡ true → All AreaFitsBytes areas
+areas_write d [] few h = All-nil AreaFitsBytes
+areas_write d (a ∷ areas) few h = All-cons AreaFitsBytes a areas (area_writes d a few (first_true _ _ h)) (areas_write d areas few (second_true _ _ h))
 
-state_writes : (d : Declared) (s : State) → Few d → is_state d s ≡ true → StateFits s
+state_writes : (d : Declared) (s : State) → Few d → is_state d s ≡ true → StateFitsBytes s
 unfolding is_state is_desk
 state_writes d s few h =
     let height = leb-true (length s.stack) d.stack_bound (second_true _ _ h) in
     let bound = few.bound in
     record { areas = areas_write d s.desk.areas few (second_true _ _ (first_true _ _ (first_true _ _ h))); height = omega (arith, height, bound) }
 
-procedures_write : (d : Declared) (ps : List Proc) → Few d → list_all (is_procedure d) ps ≡ true → All ProcedureFits ps
+procedures_write : (d : Declared) (ps : List Proc) → Few d → list_all (is_procedure d) ps ≡ true → All ProcedureFitsBytes ps
 unfolding is_procedure
-procedures_write d [] few h = All-nil ProcedureFits
+procedures_write d [] few h = All-nil ProcedureFitsBytes
 procedures_write d (p ∷ ps) few h =
     let states = first_true _ _ (first_true _ _ (first_true _ _ h)) in
-    All-cons ProcedureFits p ps (record { entry = state_writes d p.entry few (second_true _ _ (first_true _ _ states)); exit = state_writes d p.exit few (second_true _ _ states) }) (procedures_write d ps few (second_true _ _ h))
+    All-cons ProcedureFitsBytes p ps (record { entry = state_writes d p.entry few (second_true _ _ (first_true _ _ states)); exit = state_writes d p.exit few (second_true _ _ states) }) (procedures_write d ps few (second_true _ _ h))
 
-maps_write : (d : Declared) (ms : List Map) → Few d → list_all (is_map d) ms ≡ true → All (λ m. StateFits m.state) ms
-maps_write d [] few h = All-nil (λ m. StateFits m.state)
-maps_write d (m ∷ ms) few h = All-cons (λ m. StateFits m.state) m ms (state_writes d m.state few (first_true _ _ h)) (maps_write d ms few (second_true _ _ h))
+maps_write : (d : Declared) (ms : List Map) → Few d → list_all (is_map d) ms ≡ true → All (λ m. StateFitsBytes m.state) ms
+maps_write d [] few h = All-nil (λ m. StateFitsBytes m.state)
+maps_write d (m ∷ ms) few h = All-cons (λ m. StateFitsBytes m.state) m ms (state_writes d m.state few (first_true _ _ h)) (maps_write d ms few (second_true _ _ h))
 
 up_to : (n bound : ℕ) → bound ≤ 65535 → nat_le n bound ≡ true → n < 2 ^ 16
 up_to n bound low h = let le = leb-true n bound h in omega (arith, le, low)

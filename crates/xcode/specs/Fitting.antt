@@ -5,15 +5,15 @@ use Rattle.code_items.specs.declared.desk.AreaState.TheVariants.{Closed, Open, U
 use Rattle.code_items.specs.declared.state.State.{State}
 use Rattle.code_items.specs.declared.code.Proc.{Proc}
 
-abbrev pub AreaFits : AreaState → Type 0
-AreaFits Closed = Unit {0}
-AreaFits (Open a) = (a.table < 255) × (a.list < 256) × (a.order < 256) × (a.filter < 256)
-AreaFits Unsure = Unit {0}
+abbrev pub AreaFitsBytes : AreaState → Type 0
+AreaFitsBytes Closed = Unit {0}
+AreaFitsBytes (Open a) = (a.table < 255) × (a.list < 256) × (a.order < 256) × (a.filter < 256)
+AreaFitsBytes Unsure = Unit {0}
 
-pub record StateFits (s : State) : Type 0 where
-  pub areas : All AreaFits s.desk.areas
+pub record StateFitsBytes (s : State) : Type 0 where
+  pub areas : All AreaFitsBytes s.desk.areas
   pub height : length s.stack < 256
 
-pub record ProcedureFits (p : Proc) : Type 0 where
-  pub entry : StateFits p.entry
-  pub exit : StateFits p.exit
+pub record ProcedureFitsBytes (p : Proc) : Type 0 where
+  pub entry : StateFitsBytes p.entry
+  pub exit : StateFitsBytes p.exit

@@ -4,7 +4,7 @@ use Rattle.code_parts.specs.Laws.{AreBytes}
 use Rattle.xcode.specs.declared.fault.CodeFault.{CodeFault}
 use Rattle.xcode.specs.declared.fault.CodeFault.TheVariants.{Magic, Version, Short, Limit, Operation, Shape, Extra}
 use Rattle.xcode.specs.declared.fault.CodeFault.TheVariants.{Memory}
-use Rattle.xcode.specs.Decoding.{Part}
+use Rattle.xcode.specs.Decoding.{FilePart}
 
 -- a fault that is told of bytes that are there
 abbrev pub Lasts : CodeFault → Type 0
@@ -17,7 +17,7 @@ Lasts Shape = Unit {0}
 Lasts Extra = Unit {0}
 Lasts Memory = ⊥
 
-pub record IsSpelled {A : Type 0} (r : Part A) (text : A → List ℕ) (IsLegal IsRead : A → Type 0) : Type 0 where
+pub record IsSpelled {A : Type 0} (r : FilePart A) (text : A → List ℕ) (IsLegal IsRead : A → Type 0) : Type 0 where
   -- what is written is read
   pub again : (x : A) (rest : List ℕ) → IsLegal x → r (text x ++ rest) ≡ Ok (x, rest)
   -- what is read was written

@@ -9,3 +9,4 @@ pub use Rattle.code_items.specs.Legal
 pub use Rattle.code_rules.specs.Flow
 pub use Rattle.code_rules.specs.Kept
 pub use Rattle.code_rules.specs.Places
+pub use Rattle.code_rules.specs.Rules

@@ -71,10 +71,10 @@ name_of_records Zap = codes "ZAP"
 name_of_records Reindex = codes "REINDEX"
 name_of_records (Index list) = codes "INDEX"
 
-abbrev pub name_of : Instr → List ℕ
-name_of (Values i) = name_of_values i
-name_of (Flow i) = name_of_flow i
-name_of (Screen i) = name_of_screen i
-name_of (Areas i) = name_of_areas i
-name_of (Moves i) = name_of_moves i
-name_of (Records i) = name_of_records i
+abbrev pub instr_name : Instr → List ℕ
+instr_name (Values i) = name_of_values i
+instr_name (Flow i) = name_of_flow i
+instr_name (Screen i) = name_of_screen i
+instr_name (Areas i) = name_of_areas i
+instr_name (Moves i) = name_of_moves i
+instr_name (Records i) = name_of_records i

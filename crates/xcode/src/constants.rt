@@ -1,7 +1,7 @@
 //! Writing constants and filters.
 
 ghost use Rattle.std.specs.Prelude.{◌≡◌, ◌<◌, ◌^◌, ◌++◌, length, OnOk};
-ghost use Rattle.code_parts.specs.Texts.{number_text, date_text, constant_text, need_text, filter_text};
+ghost use Rattle.code_parts.specs.Texts.{decimal_text, date_text, constant_text, need_text, filter_text};
 
 use crate::shapes::put_counted;
 use crate::writing::{Writes, put_all, put_two};
@@ -13,7 +13,7 @@ use std::alloc::AllocError;
 use xvalue::Value;
 
 fn put_number(out: &mut Vec<u8>, number: Num) -> Result<(), AllocError>
-    ensures { OnOk result (out.new.items ≡ out.old.items ++ number_text number) }
+    ensures { OnOk result (out.new.items ≡ out.old.items ++ decimal_text number) }
 {
     let Some(parts) = number.parts() else {
         return Ok(());

@@ -6,7 +6,7 @@ ghost use Rattle.xcode.specs.declared.fault.CodeFault.TheVariants.{Extra};
 ghost use Rattle.xcode.specs.declared.fault.CodeFault.{CodeFault as AnyFault};
 ghost use Rattle.xcode.specs.CodeFile.{CodeText};
 ghost use Rattle.xcode.specs.Laws.{Lasts};
-ghost use Rattle.xcode.specs.Decoding.{Gives, declared_at, body_at, is_laid as is_laid_code, whole_at, code_at};
+ghost use Rattle.xcode.specs.Decoding.{FileGives, declared_at, body_at, is_laid as is_laid_code, whole_at, code_at};
 
 use crate::fault::CodeFault;
 use crate::header::{Counts, Header, header_of};
@@ -18,7 +18,9 @@ use code_parts::laws::{
     constants_and_filters_are_spelled, declarations_are_spelled, instructions_are_spelled,
     numbers_are_spelled, procedures_and_maps_are_spelled,
 };
-use code_parts::{Constants, Filters, Indexes, Instrs, Lists, Maps, Procedures, States, Tables};
+use code_parts::{
+    Constants, FilterItems, Indexes, Instrs, ListItems, Maps, Procedures, States, Tables,
+};
 use std::alloc::Global;
 
 /// What is declared, and the bytes behind it.
@@ -28,20 +30,20 @@ fn declared_of<'a>(
     header: &Header,
     bytes: &'a [u8],
 ) -> Result<(Declared, &'a [u8]), CodeFault>
-    ensures { Gives (λ x. (x.0, x.1.now)) result (declared_at header.now bytes.now) }
+    ensures { FileGives (λ x. (x.0, x.1.now)) result (declared_at header.now bytes.now) }
 {
     let counts = header.counts;
     let (tables, rest) = items_of(alloc, &Tables, &NextTables, counts.tables, bytes)?;
     let next = NextIndexes { tables: &tables };
     let (indexes, rest) = items_of(alloc, &Indexes, &next, counts.indexes, rest)?;
     let legal = LegalLists { indexes: &indexes };
-    let (lists, rest) = items_of(alloc, &Lists, &legal, counts.lists, rest)?;
+    let (lists, rest) = items_of(alloc, &ListItems, &legal, counts.lists, rest)?;
     let (constants, rest) = items_of(alloc, &Constants, &Anything, counts.constants, rest)?;
     let legal = LegalFilters {
         tables: tables.len(),
         slots: counts.slots,
     };
-    let (filters, rest) = items_of(alloc, &Filters, &legal, counts.filters, rest)?;
+    let (filters, rest) = items_of(alloc, &FilterItems, &legal, counts.filters, rest)?;
     let declared = Declared {
         version: header.version,
         stack_bound: counts.stack_bound,
@@ -65,7 +67,7 @@ fn body_of<'a>(
     declared: Declared,
     bytes: &'a [u8],
 ) -> Result<(Code, &'a [u8]), CodeFault>
-    ensures { Gives (λ x. (x.0, x.1.now)) result (body_at counts.now declared bytes.now) }
+    ensures { FileGives (λ x. (x.0, x.1.now)) result (body_at counts.now declared bytes.now) }
 {
     let states = States {
         version: declared.version,
@@ -92,7 +94,7 @@ fn body_of<'a>(
 
 #[tactic(auto, unfolding(crate::specs::Decoding::whole_at))]
 fn whole_of(alloc: Global, bytes: &[u8]) -> Result<(Code, &[u8]), CodeFault>
-    ensures { Gives (λ x. (x.0, x.1.now)) result (whole_at bytes.now) }
+    ensures { FileGives (λ x. (x.0, x.1.now)) result (whole_at bytes.now) }
 {
     let (header, rest) = header_of(bytes)?;
     let (declared, rest) = declared_of(alloc, &header, rest)?;
@@ -115,7 +117,7 @@ fn is_laid(code: &Code) -> bool
 
 #[tactic(auto, unfolding(crate::specs::Decoding::code_at))]
 fn code_of(alloc: Global, bytes: &[u8]) -> Result<Code, CodeFault>
-    ensures { Gives (λ x. x) result (code_at bytes.now) }
+    ensures { FileGives (λ x. x) result (code_at bytes.now) }
 {
     let (code, rest) = whole_of(alloc, bytes)?;
     if !is_laid(&code) {
@@ -133,9 +135,9 @@ pub fn decode(alloc: Global, bytes: &[u8]) -> Result<Code, CodeFault>
     // The bytes are the file of the code that is read.
     ensures found { IfOk result (λ code. CodeText bytes.now code) }
     // A code's file is read as that code, unless memory runs out.
-    ensures only { (code : AnyCode) → CodeText bytes.now code → Gives (λ x. x) result (Ok code) }
+    ensures only { (code : AnyCode) → CodeText bytes.now code → FileGives (λ x. x) result (Ok code) }
     // Which fault it is.
-    ensures exact { Gives (λ x. x) result (code_at bytes.now) }
+    ensures exact { FileGives (λ x. x) result (code_at bytes.now) }
 {
     numbers_are_spelled();
     declarations_are_spelled();

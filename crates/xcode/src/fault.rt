@@ -2,7 +2,7 @@
 
 ghost use Rattle.std.specs.Prelude.{◌≡◌};
 ghost use Rattle.xcode.specs.declared.fault.CodeFault.TheVariants.{Memory};
-ghost use Rattle.xcode.specs.Decoding.{fault_of};
+ghost use Rattle.xcode.specs.Decoding.{flaw_fault};
 
 use code_parts::Flaw;
 use std::alloc::{AllocError, AllocFailed};
@@ -57,7 +57,7 @@ impl<T: Drop> From<AllocFailed<T>> for CodeFault {
 impl CodeFault {
     /// The fault of an item with this flaw.
     pub(crate) fn of(flaw: Flaw) -> CodeFault
-        ensures { result ≡ fault_of flaw }
+        ensures { result ≡ flaw_fault flaw }
     {
         match flaw {
             Flaw::Limit => CodeFault::Limit,

@@ -3,7 +3,7 @@
 ghost use Rattle.std.specs.Prelude.{◌≡◌, ◌++◌, OnOk};
 ghost use Rattle.code_parts.specs.Instructions.{instr_text};
 ghost use Rattle.xcode.specs.Names.{name_of_values, name_of_flow, name_of_screen, name_of_areas, name_of_moves};
-ghost use Rattle.xcode.specs.Names.{name_of_records, name_of};
+ghost use Rattle.xcode.specs.Names.{name_of_records, instr_name};
 
 use crate::writing::Writes;
 use code_items::{AreaInstr, FlowInstr, Instr, MoveInstr, RecordInstr, ScreenInstr, ValueInstr};
@@ -110,7 +110,7 @@ fn name_of_record_instr(instr: RecordInstr) -> &'static [u8]
 
 /// The name of the instruction's operation.
 pub fn operation_name(instr: Instr) -> &'static [u8]
-    ensures { result.now ≡ name_of instr }
+    ensures { result.now ≡ instr_name instr }
 {
     match instr {
         Instr::Values(instr) => name_of_value_instr(instr),

@@ -2,11 +2,11 @@
 
 ghost use Rattle.std.specs.Prelude.{◌≡◌, ◌++◌, ◌∷◌, IfOk, OnOk};
 ghost use Rattle.std.specs.Fmt.{decimal};
-ghost use Rattle.xcode.specs.Listing.{place_text, operands_text, line, lines_from};
+ghost use Rattle.xcode.specs.Listing.{place_text, operands_text, listing_line, lines_from};
 
 use crate::operation_name;
 use code_items::{Code, Instr};
-use code_parts::{Parts, parts_of_instr};
+use code_parts::{InstrParts, parts_of_instr};
 use std::alloc::{AllocError, Global};
 /// Five places wide, with blanks in front.
 fn put_place(alloc: Global, out: &mut Vec<u8>, place: usize) -> Result<(), AllocError>
@@ -27,7 +27,7 @@ fn put_operand(alloc: Global, out: &mut Vec<u8>, operand: u32) -> Result<(), All
     out.extend_from_slice(digits.as_bytes())
 }
 
-fn put_operands(alloc: Global, out: &mut Vec<u8>, parts: Parts) -> Result<(), AllocError>
+fn put_operands(alloc: Global, out: &mut Vec<u8>, parts: InstrParts) -> Result<(), AllocError>
     ensures { OnOk result (out.new.items ≡ out.old.items ++ operands_text parts) }
 {
     put_operand(alloc, out, u32::from(parts.a))?;
@@ -36,9 +36,9 @@ fn put_operands(alloc: Global, out: &mut Vec<u8>, parts: Parts) -> Result<(), Al
     Ok(())
 }
 
-#[tactic(auto, unfolding(crate::specs::Listing::line))]
+#[tactic(auto, unfolding(crate::specs::Listing::listing_line))]
 fn put_line(alloc: Global, out: &mut Vec<u8>, place: usize, instr: &Instr) -> Result<(), AllocError>
-    ensures { OnOk result (out.new.items ≡ out.old.items ++ line place instr.now) }
+    ensures { OnOk result (out.new.items ≡ out.old.items ++ listing_line place instr.now) }
 {
     put_place(alloc, out, place)?;
     out.push(b' ')?;

@@ -1,7 +1,7 @@
 //! Sections of a code file: so many items of one kind, each judged when it is read.
 
 ghost use Rattle.std.specs.Prelude.{◌≡◌, List, [], Bool};
-ghost use Rattle.xcode.specs.Decoding.{Gives, told, items_at};
+ghost use Rattle.xcode.specs.Decoding.{FileGives, item_told, items_at};
 
 use crate::fault::CodeFault;
 use code_parts::{Reads, Unread};
@@ -22,7 +22,7 @@ pub(crate) fn item_of<'a, R: Reads>(
     reader: &R,
     bytes: &'a [u8],
 ) -> Result<(R::Thing, &'a [u8]), CodeFault>
-    ensures { Gives (λ x. (x.0, x.1.now)) result (told (R.at reader.now bytes.now)) }
+    ensures { FileGives (λ x. (x.0, x.1.now)) result (item_told (R.at reader.now bytes.now)) }
 {
     match reader.read(alloc, bytes) {
         Err(Unread::Short) => Err(CodeFault::Short),
@@ -42,7 +42,7 @@ pub(crate) fn items_of<'a, R: Reads, J: Judges<R::Thing>>(
     count: u16,
     bytes: &'a [u8],
 ) -> Result<(Vec<R::Thing>, &'a [u8]), CodeFault>
-    ensures { Gives (λ x. (x.0.items, x.1.now)) result
+    ensures { FileGives (λ x. (x.0.items, x.1.now)) result
         (items_at (R.at reader.now) (J.follows judge.now) count [] bytes.now) }
 {
     let mut things = Vec::new(alloc);

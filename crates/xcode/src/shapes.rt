@@ -1,7 +1,7 @@
 //! Writing tables, indexes and lists of indexes.
 
 ghost use Rattle.std.specs.Prelude.{◌≡◌, ◌<◌, ◌++◌, length, OnOk};
-ghost use Rattle.code_parts.specs.Texts.{counted_text, field_text, table_text, part_text, index_text, list_text};
+ghost use Rattle.code_parts.specs.Texts.{counted_text, field_text, table_text, key_part_text, index_text, list_text};
 
 use crate::writing::{Writes, put_all};
 use dbf_file::Field;
@@ -44,7 +44,7 @@ impl Writes for TableShape {
 }
 
 impl Writes for KeyPart {
-    ghost text = { part_text };
+    ghost text = { key_part_text };
 
     ghost fits = { λ _. Unit {0} };
 

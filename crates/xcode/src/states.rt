@@ -2,7 +2,7 @@
 
 ghost use Rattle.std.specs.Prelude.{◌≡◌, ◌<◌, ◌++◌, length, OnOk};
 ghost use Rattle.code_parts.specs.Texts.{kind_text, slot_text, area_text, state_text, procedure_text, map_text};
-ghost use Rattle.xcode.specs.Fitting.{AreaFits, StateFits, ProcedureFits};
+ghost use Rattle.xcode.specs.Fitting.{AreaFitsBytes, StateFitsBytes, ProcedureFitsBytes};
 
 use crate::writing::{Writes, put_all, put_two};
 use code_items::{AreaState, Map, Proc, State};
@@ -35,7 +35,7 @@ impl Writes for Option<Kind> {
 impl Writes for AreaState {
     ghost text = { area_text };
 
-    ghost fits = { AreaFits };
+    ghost fits = { AreaFitsBytes };
 
     fn put(&self, out: &mut Vec<u8>) -> Result<(), AllocError> {
         match self {
@@ -61,7 +61,7 @@ impl Writes for AreaState {
 impl Writes for State {
     ghost text = { state_text };
 
-    ghost fits = { StateFits };
+    ghost fits = { StateFitsBytes };
 
     fn put(&self, out: &mut Vec<u8>) -> Result<(), AllocError> {
         out.push(self.desk.selected)?;
@@ -75,7 +75,7 @@ impl Writes for State {
 impl Writes for Proc {
     ghost text = { procedure_text };
 
-    ghost fits = { ProcedureFits };
+    ghost fits = { ProcedureFitsBytes };
 
     fn put(&self, out: &mut Vec<u8>) -> Result<(), AllocError> {
         put_two(out, self.length)?;
@@ -88,7 +88,7 @@ impl Writes for Proc {
 impl Writes for Map {
     ghost text = { map_text };
 
-    ghost fits = { λ m. StateFits m.state };
+    ghost fits = { λ m. StateFitsBytes m.state };
 
     fn put(&self, out: &mut Vec<u8>) -> Result<(), AllocError> {
         put_two(out, self.place)?;

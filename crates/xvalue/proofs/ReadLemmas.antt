@@ -3,7 +3,7 @@ use Rattle.std.proofs.Common.{◌≡◌, ℕ, suc, ◌+◌, List, ◌++◌, leng
 use Rattle.std.proofs.Math.Seq.{take-append_seam, drop-append_seam}
 use Rattle.xvalue.specs.declared.settings.Settings.{Settings}
 use Rattle.xvalue.specs.Functions.{applied}
-use Rattle.xvalue.specs.Texts.{part_from, bytes_before, stuffed}
+use Rattle.xvalue.specs.Texts.{bytes_cut_from, bytes_before, stuffed}
 use Rattle.xvalue.specs.Laws.{AreReadAsWritten}
 
 pub as_written : (settings : Settings) → AreReadAsWritten settings
@@ -21,9 +21,9 @@ as_written settings = record {
   date_chosen = λ truth x y. refl;
 }
 
-pub part-taken : (front part rest : List ℕ) → part_from (length front + 1) (length part) (front ++ part ++ rest) ≡ part
+pub part-taken : (front part rest : List ℕ) → bytes_cut_from (length front + 1) (length part) (front ++ part ++ rest) ≡ part
 part-taken front part rest =
-    ap (λ n. part_from n (length part) (front ++ part ++ rest)) (let h : length front + 1 ≡ suc (length front) = omega arith in h)
+    ap (λ n. bytes_cut_from n (length part) (front ++ part ++ rest)) (let h : length front + 1 ≡ suc (length front) = omega arith in h)
     ∙ ap (λ xs. take (length part) (drop (length front) xs)) (append_assoc front part rest)
     ∙ ap (take (length part)) (drop-append_seam front (part ++ rest))
     ∙ take-append_seam part rest

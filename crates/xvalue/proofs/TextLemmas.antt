@@ -6,9 +6,9 @@ use Rattle.std.specs.List.{refill}
 use Rattle.std.proofs.lemmas.Bool.{cases_lt}
 use Rattle.std.proofs.lemmas.List.{drop_more, take-append-le, take_all, take-replicate, take-map, drop_all, length-replicate}
 use Rattle.fixed_num.specs.Number.{Number}
-use Rattle.fixed_num.specs.Text.{printed}
+use Rattle.fixed_num.specs.Text.{printed_in}
 use Rattle.xvalue.specs.Shown.{in_ten_places}
-use Rattle.xvalue.specs.Texts.{fitting, begins_with, repeated, first_place, further}
+use Rattle.xvalue.specs.Texts.{fitting, text_begins_with, repeated, first_place, further}
 
 -- a text that is cut is none too long
 pub fitting_short : (cs : List ℕ) → length (fitting cs) ≤ 254
@@ -89,21 +89,21 @@ further-add : (n m : ℕ) (o : Option ℕ) → further n (further m o) ≡ furth
 further-add n m None = refl
 further-add n m (Some before) = ap Some (let h : n + (m + before) ≡ n + m + before = omega arith in h)
 
-first_place-else : (part : List ℕ) (c : ℕ) (cs : List ℕ) → begins_with (c ∷ cs) part ≡ false → first_place part (c ∷ cs) ≡ further 1 (first_place part cs)
+first_place-else : (part : List ℕ) (c : ℕ) (cs : List ℕ) → text_begins_with (c ∷ cs) part ≡ false → first_place part (c ∷ cs) ≡ further 1 (first_place part cs)
 first_place-else part c cs e = ap (λ t. if t then Some 0 else further 1 (first_place part cs)) e
 
-pub first_place-passed : (part whole : List ℕ) (n : ℕ) → n < length whole → begins_with (drop n whole) part ≡ false → further (n + 1) (first_place part (drop (n + 1) whole)) ≡ further n (first_place part (drop n whole))
+pub first_place-passed : (part whole : List ℕ) (n : ℕ) → n < length whole → text_begins_with (drop n whole) part ≡ false → further (n + 1) (first_place part (drop (n + 1) whole)) ≡ further n (first_place part (drop n whole))
 first_place-passed part whole n inside h =
     let here : drop n whole ≡ get_or whole n 0 ∷ drop (n + 1) whole = drop_more whole n 0 inside in
-    let none : begins_with (get_or whole n 0 ∷ drop (n + 1) whole) part ≡ false = ap (λ ds. begins_with ds part) (sym here) ∙ h in
+    let none : text_begins_with (get_or whole n 0 ∷ drop (n + 1) whole) part ≡ false = ap (λ ds. text_begins_with ds part) (sym here) ∙ h in
     sym (ap (λ ds. further n (first_place part ds)) here ∙ ap (further n) (first_place-else part (get_or whole n 0) (drop (n + 1) whole) none) ∙ further-add n 1 (first_place part (drop (n + 1) whole)))
 
-first_place-then : (part cs : List ℕ) → begins_with cs part ≡ true → first_place part cs ≡ Some 0
+first_place-then : (part cs : List ℕ) → text_begins_with cs part ≡ true → first_place part cs ≡ Some 0
 first_place-then part [] e = ap (λ t. if t then Some 0 else None) e
 first_place-then part (c ∷ cs) e = ap (λ t. if t then Some 0 else further 1 (first_place part cs)) e
 
 -- a place at which it stands
-pub first_place-there : (part cs : List ℕ) (n : ℕ) (o : Option ℕ) → begins_with cs part ≡ true → further n (first_place part cs) ≡ o → Some n ≡ o
+pub first_place-there : (part cs : List ℕ) (n : ℕ) (o : Option ℕ) → text_begins_with cs part ≡ true → further n (first_place part cs) ≡ o → Some n ≡ o
 first_place-there part cs n o e f = ap Some (let h : n ≡ n + 0 = omega arith in h) ∙ sym (ap (further n) (first_place-then part cs e)) ∙ f
 
 -- letters of a text that is cut
@@ -120,15 +120,15 @@ refilled n old new e f =
     ap (λ rest. take n (new ++ rest)) (drop_all (length new) old (omega (arith, e, f))) ∙ ap (take n) (append-nil new) ∙ take_all n new (omega (arith, f))
 
 -- a number in a field of blanks
-pub field_filled : ((width decimals : ℕ) (x : Number) → length (printed width decimals x) ≡ width) → (n width d decimals : ℕ) (x : Number) (old new : List ℕ) → n ≡ min width 254 → d ≡ min decimals 15 → old ≡ fitting (replicate n 32) → new ≡ printed n d x → refill (length old) old new ≡ fitting (printed (min width 254) (min decimals 15) x)
+pub field_filled : ((width decimals : ℕ) (x : Number) → length (printed_in width decimals x) ≡ width) → (n width d decimals : ℕ) (x : Number) (old new : List ℕ) → n ≡ min width 254 → d ≡ min decimals 15 → old ≡ fitting (replicate n 32) → new ≡ printed_in n d x → refill (length old) old new ≡ fitting (printed_in (min width 254) (min decimals 15) x)
 field_filled fills n width d decimals x old new e f g h =
-    let long : length (printed n d x) ≤ 254 = omega (arith, e, fills n d x) in
+    let long : length (printed_in n d x) ≤ 254 = omega (arith, e, fills n d x) in
     let room : length old ≡ n = field_length n width old e g in
     refilled (length old) old new refl (ap length h ∙ fills n d x ∙ sym room)
     ∙ h
-    ∙ sym (take_all 254 (printed n d x) long)
-    ∙ ap (λ k. fitting (printed k d x)) e
-    ∙ ap (λ k. fitting (printed (min width 254) k x)) f
+    ∙ sym (take_all 254 (printed_in n d x) long)
+    ∙ ap (λ k. fitting (printed_in k d x)) e
+    ∙ ap (λ k. fitting (printed_in (min width 254) k x)) f
 
 -- a short text in ten places is not cut
 pub ten_places : (text front : List ℕ) (k : ℕ) → length text ≤ 24 → k ≡ 10 - length text → front ≡ fitting (replicate k 32) → fitting (front ++ text) ≡ in_ten_places text

@@ -9,7 +9,7 @@ use Rattle.xvalue.specs.declared.fun.Fun.TheVariants.{Substr, Left, Right, Repli
 use Rattle.xvalue.specs.declared.fun.Fun.TheVariants.{IifNumber, IifText, IifDate}
 use Rattle.xvalue.specs.Functions.{applied, text_value}
 use Rattle.xvalue.specs.Given.{by_kind}
-use Rattle.xvalue.specs.Texts.{count_of, part_from, last_part, repeated, stuffed}
+use Rattle.xvalue.specs.Texts.{count_of, bytes_cut_from, last_part, repeated, stuffed}
 use Rattle.xvalue.specs.declared.value.Value.{Value}
 use Rattle.xvalue.specs.declared.value.Value.TheVariants.{Number, Text, Date, Logical}
 use Rattle.calendar.specs.declared.day.DayParts.{DayParts}
@@ -37,7 +37,7 @@ pub record AreReadAsWritten (settings : Settings) : Type 0 where
       ≡ text_value (stuffed (count_said place) (count_said count) others.items text.items)
   pub substr : (text : ArrayVec ℕ) (place count : Decimal)
       → of_written Substr settings (Text text ∷ Number place ∷ Number count ∷ [])
-      ≡ text_value (part_from (count_said place) (count_said count) text.items)
+      ≡ text_value (bytes_cut_from (count_said place) (count_said count) text.items)
   pub left : (text : ArrayVec ℕ) (count : Decimal)
       → of_written Left settings (Text text ∷ Number count ∷ []) ≡ text_value (take (count_said count) text.items)
   pub right : (text : ArrayVec ℕ) (count : Decimal)

@@ -13,86 +13,86 @@ use Rattle.xvalue.specs.declared.fun.Fun.TheVariants.{Val, Str, IsAlpha, IsUpper
 use Rattle.xvalue.specs.declared.fun.Fun.TheVariants.{Min, Ctod, Dtoc, Day, Month, Year, Dow, Cdow, Cmonth}
 
 -- a line of the table
-pub record Entry : Type 0 where
+pub record SignatureLine : Type 0 where
   pub number : ℕ
   pub takes : List Kind
   pub gives : Kind
 
-abbrev pub entry : ℕ → List Kind → Kind → Entry
+abbrev pub entry : ℕ → List Kind → Kind → SignatureLine
 entry number takes gives = record { number = number; takes = takes; gives = gives }
 
-abbrev pub entry_of : Fun → Entry
-entry_of Add = entry 1 (Number ∷ Number ∷ []) Number
-entry_of Sub = entry 2 (Number ∷ Number ∷ []) Number
-entry_of Mul = entry 3 (Number ∷ Number ∷ []) Number
-entry_of Div = entry 4 (Number ∷ Number ∷ []) Number
-entry_of Neg = entry 5 (Number ∷ []) Number
-entry_of NumberEq = entry 6 (Number ∷ Number ∷ []) Logical
-entry_of NumberLess = entry 7 (Number ∷ Number ∷ []) Logical
-entry_of NumberGreater = entry 8 (Number ∷ Number ∷ []) Logical
-entry_of TextEq = entry 9 (Text ∷ Text ∷ []) Logical
-entry_of TextLess = entry 10 (Text ∷ Text ∷ []) Logical
-entry_of TextGreater = entry 11 (Text ∷ Text ∷ []) Logical
-entry_of DateEq = entry 12 (Date ∷ Date ∷ []) Logical
-entry_of DateLess = entry 13 (Date ∷ Date ∷ []) Logical
-entry_of DateGreater = entry 14 (Date ∷ Date ∷ []) Logical
-entry_of Not = entry 15 (Logical ∷ []) Logical
-entry_of And = entry 16 (Logical ∷ Logical ∷ []) Logical
-entry_of Or = entry 17 (Logical ∷ Logical ∷ []) Logical
-entry_of Join = entry 18 (Text ∷ Text ∷ []) Text
-entry_of JoinMoved = entry 19 (Text ∷ Text ∷ []) Text
-entry_of In = entry 20 (Text ∷ Text ∷ []) Logical
-entry_of DateAdd = entry 21 (Date ∷ Number ∷ []) Date
-entry_of DateSub = entry 22 (Date ∷ Number ∷ []) Date
-entry_of DateDiff = entry 23 (Date ∷ Date ∷ []) Number
-entry_of IifNumber = entry 24 (Logical ∷ Number ∷ Number ∷ []) Number
-entry_of IifText = entry 25 (Logical ∷ Text ∷ Text ∷ []) Text
-entry_of IifDate = entry 26 (Logical ∷ Date ∷ Date ∷ []) Date
-entry_of IifLogical = entry 27 (Logical ∷ Logical ∷ Logical ∷ []) Logical
-entry_of Len = entry 28 (Text ∷ []) Number
-entry_of Substr = entry 29 (Text ∷ Number ∷ Number ∷ []) Text
-entry_of Left = entry 30 (Text ∷ Number ∷ []) Text
-entry_of Right = entry 31 (Text ∷ Number ∷ []) Text
-entry_of Trim = entry 32 (Text ∷ []) Text
-entry_of Ltrim = entry 33 (Text ∷ []) Text
-entry_of Upper = entry 34 (Text ∷ []) Text
-entry_of Lower = entry 35 (Text ∷ []) Text
-entry_of Space = entry 36 (Number ∷ []) Text
-entry_of Replicate = entry 37 (Text ∷ Number ∷ []) Text
-entry_of At = entry 38 (Text ∷ Text ∷ []) Number
-entry_of Stuff = entry 39 (Text ∷ Number ∷ Number ∷ Text ∷ []) Text
-entry_of Asc = entry 40 (Text ∷ []) Number
-entry_of Chr = entry 41 (Number ∷ []) Text
-entry_of Val = entry 42 (Text ∷ []) Number
-entry_of Str = entry 43 (Number ∷ Number ∷ Number ∷ []) Text
-entry_of IsAlpha = entry 44 (Text ∷ []) Logical
-entry_of IsUpper = entry 45 (Text ∷ []) Logical
-entry_of IsLower = entry 46 (Text ∷ []) Logical
-entry_of Abs = entry 47 (Number ∷ []) Number
-entry_of Int = entry 48 (Number ∷ []) Number
-entry_of Mod = entry 49 (Number ∷ Number ∷ []) Number
-entry_of Round = entry 50 (Number ∷ Number ∷ []) Number
-entry_of Max = entry 51 (Number ∷ Number ∷ []) Number
-entry_of Min = entry 52 (Number ∷ Number ∷ []) Number
-entry_of Ctod = entry 53 (Text ∷ []) Date
-entry_of Dtoc = entry 54 (Date ∷ []) Text
-entry_of Day = entry 55 (Date ∷ []) Number
-entry_of Month = entry 56 (Date ∷ []) Number
-entry_of Year = entry 57 (Date ∷ []) Number
-entry_of Dow = entry 58 (Date ∷ []) Number
-entry_of Cdow = entry 59 (Date ∷ []) Text
-entry_of Cmonth = entry 60 (Date ∷ []) Text
+abbrev pub signature_line : Fun → SignatureLine
+signature_line Add = entry 1 (Number ∷ Number ∷ []) Number
+signature_line Sub = entry 2 (Number ∷ Number ∷ []) Number
+signature_line Mul = entry 3 (Number ∷ Number ∷ []) Number
+signature_line Div = entry 4 (Number ∷ Number ∷ []) Number
+signature_line Neg = entry 5 (Number ∷ []) Number
+signature_line NumberEq = entry 6 (Number ∷ Number ∷ []) Logical
+signature_line NumberLess = entry 7 (Number ∷ Number ∷ []) Logical
+signature_line NumberGreater = entry 8 (Number ∷ Number ∷ []) Logical
+signature_line TextEq = entry 9 (Text ∷ Text ∷ []) Logical
+signature_line TextLess = entry 10 (Text ∷ Text ∷ []) Logical
+signature_line TextGreater = entry 11 (Text ∷ Text ∷ []) Logical
+signature_line DateEq = entry 12 (Date ∷ Date ∷ []) Logical
+signature_line DateLess = entry 13 (Date ∷ Date ∷ []) Logical
+signature_line DateGreater = entry 14 (Date ∷ Date ∷ []) Logical
+signature_line Not = entry 15 (Logical ∷ []) Logical
+signature_line And = entry 16 (Logical ∷ Logical ∷ []) Logical
+signature_line Or = entry 17 (Logical ∷ Logical ∷ []) Logical
+signature_line Join = entry 18 (Text ∷ Text ∷ []) Text
+signature_line JoinMoved = entry 19 (Text ∷ Text ∷ []) Text
+signature_line In = entry 20 (Text ∷ Text ∷ []) Logical
+signature_line DateAdd = entry 21 (Date ∷ Number ∷ []) Date
+signature_line DateSub = entry 22 (Date ∷ Number ∷ []) Date
+signature_line DateDiff = entry 23 (Date ∷ Date ∷ []) Number
+signature_line IifNumber = entry 24 (Logical ∷ Number ∷ Number ∷ []) Number
+signature_line IifText = entry 25 (Logical ∷ Text ∷ Text ∷ []) Text
+signature_line IifDate = entry 26 (Logical ∷ Date ∷ Date ∷ []) Date
+signature_line IifLogical = entry 27 (Logical ∷ Logical ∷ Logical ∷ []) Logical
+signature_line Len = entry 28 (Text ∷ []) Number
+signature_line Substr = entry 29 (Text ∷ Number ∷ Number ∷ []) Text
+signature_line Left = entry 30 (Text ∷ Number ∷ []) Text
+signature_line Right = entry 31 (Text ∷ Number ∷ []) Text
+signature_line Trim = entry 32 (Text ∷ []) Text
+signature_line Ltrim = entry 33 (Text ∷ []) Text
+signature_line Upper = entry 34 (Text ∷ []) Text
+signature_line Lower = entry 35 (Text ∷ []) Text
+signature_line Space = entry 36 (Number ∷ []) Text
+signature_line Replicate = entry 37 (Text ∷ Number ∷ []) Text
+signature_line At = entry 38 (Text ∷ Text ∷ []) Number
+signature_line Stuff = entry 39 (Text ∷ Number ∷ Number ∷ Text ∷ []) Text
+signature_line Asc = entry 40 (Text ∷ []) Number
+signature_line Chr = entry 41 (Number ∷ []) Text
+signature_line Val = entry 42 (Text ∷ []) Number
+signature_line Str = entry 43 (Number ∷ Number ∷ Number ∷ []) Text
+signature_line IsAlpha = entry 44 (Text ∷ []) Logical
+signature_line IsUpper = entry 45 (Text ∷ []) Logical
+signature_line IsLower = entry 46 (Text ∷ []) Logical
+signature_line Abs = entry 47 (Number ∷ []) Number
+signature_line Int = entry 48 (Number ∷ []) Number
+signature_line Mod = entry 49 (Number ∷ Number ∷ []) Number
+signature_line Round = entry 50 (Number ∷ Number ∷ []) Number
+signature_line Max = entry 51 (Number ∷ Number ∷ []) Number
+signature_line Min = entry 52 (Number ∷ Number ∷ []) Number
+signature_line Ctod = entry 53 (Text ∷ []) Date
+signature_line Dtoc = entry 54 (Date ∷ []) Text
+signature_line Day = entry 55 (Date ∷ []) Number
+signature_line Month = entry 56 (Date ∷ []) Number
+signature_line Year = entry 57 (Date ∷ []) Number
+signature_line Dow = entry 58 (Date ∷ []) Number
+signature_line Cdow = entry 59 (Date ∷ []) Text
+signature_line Cmonth = entry 60 (Date ∷ []) Text
 
 abbrev pub function_number : Fun → ℕ
-function_number fun = (entry_of fun).number
+function_number fun = (signature_line fun).number
 
 -- the kinds of its arguments, in their order
 abbrev pub takes_of : Fun → List Kind
-takes_of fun = (entry_of fun).takes
+takes_of fun = (signature_line fun).takes
 
 -- the kind of its result
 abbrev pub gives_of : Fun → Kind
-gives_of fun = (entry_of fun).gives
+gives_of fun = (signature_line fun).gives
 
 -- all functions, by their numbers from 1 on
 abbrev pub all_functions : List Fun

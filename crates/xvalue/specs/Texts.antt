@@ -18,13 +18,13 @@ abbrev pub last_blanks : List ℕ → List ℕ
 last_blanks cs = drop (length (without_last_blanks cs)) cs
 
 -- a text begins with another
-abbrev pub begins_with : List ℕ → List ℕ → Bool
-begins_with cs front = starts_with nat_eq cs front
+abbrev pub text_begins_with : List ℕ → List ℕ → Bool
+text_begins_with cs front = starts_with nat_eq cs front
 
 -- with EXACT on both are the same but for the blanks at their ends; with EXACT off the first begins with the second
 abbrev pub equal_texts : Bool → List ℕ → List ℕ → Bool
 equal_texts true cs ds = bytes_eq (without_last_blanks cs) (without_last_blanks ds)
-equal_texts false cs ds = begins_with cs ds
+equal_texts false cs ds = text_begins_with cs ds
 
 -- the first byte, or a blank where there is none
 abbrev pub first_or_blank : List ℕ → ℕ
@@ -32,11 +32,11 @@ first_or_blank [] = 32
 first_or_blank (c ∷ cs) = c
 
 -- the first text is before the second by bytes, the shorter one going on with blanks
-abbrev pub is_before : List ℕ → List ℕ → Bool
-is_before [] [] = false
-is_before [] (d ∷ ds) = if 32 == d then is_before [] ds else nat_lt 32 d
-is_before (c ∷ cs) [] = if c == 32 then is_before cs [] else nat_lt c 32
-is_before (c ∷ cs) (d ∷ ds) = if c == d then is_before cs ds else nat_lt c d
+abbrev pub is_text_before : List ℕ → List ℕ → Bool
+is_text_before [] [] = false
+is_text_before [] (d ∷ ds) = if 32 == d then is_text_before [] ds else nat_lt 32 d
+is_text_before (c ∷ cs) [] = if c == 32 then is_text_before cs [] else nat_lt c 32
+is_text_before (c ∷ cs) (d ∷ ds) = if c == d then is_text_before cs ds else nat_lt c d
 
 -- the first text, the second, and then the blanks from the end of the first
 abbrev pub joined_moved : List ℕ → List ℕ → List ℕ
@@ -48,9 +48,9 @@ count_of (pos n) = n
 count_of (negsuc n) = 0
 
 -- so many bytes from a place on, places being counted from 1; there is no place 0
-abbrev pub part_from : ℕ → ℕ → List ℕ → List ℕ
-part_from zero count cs = []
-part_from (suc skipped) count cs = take count (drop skipped cs)
+abbrev pub bytes_cut_from : ℕ → ℕ → List ℕ → List ℕ
+bytes_cut_from zero count cs = []
+bytes_cut_from (suc skipped) count cs = take count (drop skipped cs)
 
 -- the last bytes
 abbrev pub last_part : ℕ → List ℕ → List ℕ
@@ -77,8 +77,8 @@ further n (Some before) = Some (n + before)
 
 -- how many bytes stand before the first place at which a text stands in another, if there is one
 abbrev pub first_place : List ℕ → List ℕ → Option ℕ
-first_place part [] = if begins_with [] part then Some 0 else None
-first_place part (c ∷ cs) = if begins_with (c ∷ cs) part then Some 0 else further 1 (first_place part cs)
+first_place part [] = if text_begins_with [] part then Some 0 else None
+first_place part (c ∷ cs) = if text_begins_with (c ∷ cs) part then Some 0 else further 1 (first_place part cs)
 
 -- the place, counted from 1, and 0 for none
 abbrev pub place_number : Option ℕ → ℕ

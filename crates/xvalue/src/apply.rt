@@ -5,7 +5,7 @@ ghost use Rattle.std.specs.Prelude.{◌≡◌, ◌+◌, ◌≤◌, if◌then◌e
 ghost use Rattle.fixed_num.specs.Arithmetic.{AreAlike};
 ghost use Rattle.xvalue.specs.declared.settings.Settings.{Settings as AnySettings};
 ghost use Rattle.xvalue.specs.Given.{given, two_numbers};
-ghost use Rattle.xvalue.specs.Functions.{applied, truth_at};
+ghost use Rattle.xvalue.specs.Functions.{applied, truth_given};
 ghost use Rattle.xvalue.specs.Signature.{takes_of, gives_of};
 
 use crate::arguments::Arguments;
@@ -192,7 +192,7 @@ pub fn truth_given(fun: Fun, settings: Settings, arguments: &Arguments<'_>) -> b
 /// The place of the argument that an IIF gives, of those two that begin at a place.
 fn chosen(arguments: &Arguments<'_>, first: usize) -> usize
     requires { first ≤ 1 }
-    ensures { result ≡ (if truth_at 0 (given arguments.now) then first else first + 1) }
+    ensures { result ≡ (if truth_given 0 (given arguments.now) then first else first + 1) }
 {
     if arguments.truth(0) { first } else { first + 1 }
 }

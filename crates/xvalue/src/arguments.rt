@@ -70,11 +70,11 @@ impl Gathered {
 }
 
 impl Arguments<'_> {
-    ghost use Rattle.xvalue.specs.Functions.{number_at, text_at, date_at, truth_at, count_at};
+    ghost use Rattle.xvalue.specs.Functions.{number_given, text_given, date_given, truth_given, count_at};
 
     /// The number argument of this place among those of its kind, counted from 0.
     pub fn number(&self, place: usize) -> Num
-        ensures { result ≡ number_at place (given self.now) }
+        ensures { result ≡ number_given place (given self.now) }
     {
         match self.numbers.get(place) {
             Some(number) => *number,
@@ -84,7 +84,7 @@ impl Arguments<'_> {
 
     /// The text argument of this place among those of its kind, counted from 0.
     pub fn text(&self, place: usize) -> &[u8]
-        ensures same { result.now ≡ text_at place (given self.now) }
+        ensures same { result.now ≡ text_given place (given self.now) }
         ensures short { length result.now ≤ 254 }
     {
         match self.texts.get(place) {
@@ -95,7 +95,7 @@ impl Arguments<'_> {
 
     /// The date argument of this place among those of its kind, counted from 0.
     pub fn date(&self, place: usize) -> Day
-        ensures { result ≡ date_at place (given self.now) }
+        ensures { result ≡ date_given place (given self.now) }
     {
         match self.dates.get(place) {
             Some(day) => *day,
@@ -105,7 +105,7 @@ impl Arguments<'_> {
 
     /// The logical argument of this place among those of its kind, counted from 0.
     pub fn truth(&self, place: usize) -> bool
-        ensures { result ≡ truth_at place (given self.now) }
+        ensures { result ≡ truth_given place (given self.now) }
     {
         match self.truths.get(place) {
             Some(truth) => *truth,

@@ -12,8 +12,8 @@ ghost use Rattle.xvalue.specs.declared.kind.Kind.{Kind as AnyKind};
 ghost use Rattle.xvalue.specs.Kinds.{kind_of, same_kind};
 ghost use Rattle.xvalue.specs.Signature.{takes_of, gives_of, NumbersAgree};
 ghost use Rattle.xvalue.specs.Functions.{applied};
-ghost use Rattle.xvalue.specs.Texts.{equal_texts, is_before, without_last_blanks, first_place, place_number};
-ghost use Rattle.xvalue.specs.Texts.{begins_with, stuffed, part_from};
+ghost use Rattle.xvalue.specs.Texts.{equal_texts, is_text_before, without_last_blanks, first_place, place_number};
+ghost use Rattle.xvalue.specs.Texts.{text_begins_with, stuffed, bytes_cut_from};
 ghost use Rattle.xvalue.specs.Laws.{HasShortText, AreReadAsWritten};
 ghost use Rattle.xvalue.specs.declared.value.Value.{Value as AnyValue};
 ghost use Rattle.xvalue.specs.Shown.{shown_day};
@@ -48,38 +48,41 @@ pub fn equals_what_it_begins_with()
 
 /// No text is before itself.
 pub fn order_is_strict()
-    ensures { (cs : List ℕ) → is_before cs cs ≡ false }
+    ensures { (cs : List ℕ) → is_text_before cs cs ≡ false }
 {}
 
 /// What is before a text that is before another is before that one.
 pub fn order_goes_on()
-    ensures { (cs ds es : List ℕ) → is_before cs ds ≡ true → is_before ds es ≡ true → is_before cs es ≡ true }
+    ensures { (cs ds es : List ℕ) → is_text_before cs ds ≡ true → is_text_before ds es ≡ true
+        → is_text_before cs es ≡ true }
 {}
 
 /// Blanks at the end of a text change nothing in the order.
 pub fn order_goes_on_with_blanks()
-    ensures first { (cs ds : List ℕ) → is_before (cs ++ 32 ∷ []) ds ≡ is_before cs ds }
-    ensures second { (cs ds : List ℕ) → is_before cs (ds ++ 32 ∷ []) ≡ is_before cs ds }
+    ensures first { (cs ds : List ℕ) → is_text_before (cs ++ 32 ∷ []) ds ≡ is_text_before cs ds }
+    ensures second { (cs ds : List ℕ) → is_text_before cs (ds ++ 32 ∷ []) ≡ is_text_before cs ds }
 {}
 
 /// The first place at which a text stands in another is the least one at which the rest begins with it.
 pub fn first_place_is_least()
-    ensures there { (part cs : List ℕ) (n : ℕ) → first_place part cs ≡ Some n → begins_with (drop n cs) part ≡ true }
+    ensures there { (part cs : List ℕ) (n : ℕ) → first_place part cs ≡ Some n
+        → text_begins_with (drop n cs) part ≡ true }
     ensures least { (part cs : List ℕ) (n k : ℕ) → first_place part cs ≡ Some n → k < n
-        → begins_with (drop k cs) part ≡ false }
+        → text_begins_with (drop k cs) part ≡ false }
 {}
 
 /// Of two texts neither is before the other where they are the same but for the blanks at their ends, and nowhere else.
 pub fn order_leaves_blanks_alone()
     ensures { (cs ds : List ℕ)
-        → ((is_before cs ds ≡ false) × (is_before ds cs ≡ false)) ↔ (without_last_blanks cs ≡ without_last_blanks ds) }
+        → ((is_text_before cs ds ≡ false)
+        × (is_text_before ds cs ≡ false)) ↔ (without_last_blanks cs ≡ without_last_blanks ds) }
 {}
 
 /// A text stands at a place of another exactly where it has a first place: AT gives 0 and `$` false where the rest
 /// begins with it nowhere.
 pub fn nowhere_is_no_place()
     ensures nowhere { (part cs : List ℕ)
-        → (first_place part cs ≡ None) ↔ ((k : ℕ) → begins_with (drop k cs) part ≡ false) }
+        → (first_place part cs ≡ None) ↔ ((k : ℕ) → text_begins_with (drop k cs) part ≡ false) }
     ensures zero { (part cs : List ℕ) → (place_number (first_place part cs) ≡ 0) ↔ (first_place part cs ≡ None) }
     ensures inside { (part cs : List ℕ) → (is_some (first_place part cs) ≡ false) ↔ (first_place part cs ≡ None) }
 {}
@@ -92,7 +95,7 @@ pub fn arguments_are_read_as_written()
 /// SUBSTR takes a part out of a text, and STUFF puts another in its place.
 pub fn parts_are_taken_and_stuffed()
     ensures taken { (front part rest : List ℕ)
-        → part_from (length front + 1) (length part) (front ++ part ++ rest) ≡ part }
+        → bytes_cut_from (length front + 1) (length part) (front ++ part ++ rest) ≡ part }
     ensures stuffed { (front part rest others : List ℕ)
         → stuffed (length front + 1) (length part) others (front ++ part ++ rest) ≡ front ++ others ++ rest }
 {}

@@ -6,9 +6,9 @@ ghost use Rattle.std.specs.Char.{to_ascii_uppercase, to_ascii_lowercase, is_asci
 ghost use Rattle.std.specs.Char.{is_ascii_lowercase};
 ghost use Rattle.fixed_num.specs.Reading.{without_blanks};
 ghost use Rattle.fixed_num.specs.Rounding.{whole_part};
-ghost use Rattle.fixed_num.specs.Text.{printed};
-ghost use Rattle.xvalue.specs.Texts.{fitting, without_last_blanks, equal_texts, first_or_blank, is_before};
-ghost use Rattle.xvalue.specs.Texts.{joined_moved, count_of, part_from, last_part, repeated, stuffed, first_place};
+ghost use Rattle.fixed_num.specs.Text.{printed_in};
+ghost use Rattle.xvalue.specs.Texts.{fitting, without_last_blanks, equal_texts, first_or_blank, is_text_before};
+ghost use Rattle.xvalue.specs.Texts.{joined_moved, count_of, bytes_cut_from, last_part, repeated, stuffed, first_place};
 ghost use Rattle.xvalue.specs.Texts.{place_number, first_is, first_byte, byte_text};
 
 use crate::text::{Text, text_from};
@@ -32,7 +32,7 @@ pub fn eq_text(left: &[u8], right: &[u8], exact: bool) -> bool
 
 /// Whether the first text is before the second, by bytes, the shorter one going on with blanks.
 pub fn less_text(left: &[u8], right: &[u8]) -> bool
-    ensures { result ≡ is_before left.now right.now }
+    ensures { result ≡ is_text_before left.now right.now }
 {
     let mut first = left;
     let mut second = right;
@@ -81,7 +81,7 @@ pub fn last_part(bytes: &[u8], count: usize) -> &[u8]
 
 /// `count` bytes from a place on, or as many as there are. The place counts from 1; none where it is 0.
 pub fn part_from(bytes: &[u8], place: usize, count: usize) -> &[u8]
-    ensures { result.now ≡ part_from place count bytes.now }
+    ensures { result.now ≡ bytes_cut_from place count bytes.now }
 {
     match place.checked_sub(1) {
         Some(skipped) => front(behind(bytes, skipped), count),
@@ -271,7 +271,7 @@ pub fn byte_text(number: Num) -> Text
 /// A number right in so many places (at most 254) with so many decimals (at most 15); asterisks where it is longer, and
 /// of the asterisk value.
 pub fn printed(number: Num, width: usize, decimals: usize) -> Text
-    ensures { result.items ≡ fitting (printed (min width 254) (min decimals 15) number) }
+    ensures { result.items ≡ fitting (printed_in (min width 254) (min decimals 15) number) }
 {
     print_fills_its_field();
     let width = width.min(MOST_BYTES);

@@ -9,7 +9,7 @@ use Rattle.code_items.specs.declared.state.State.{State}
 use Rattle.code_rules.specs.declared.blocks.Block.{Block}
 use Rattle.code_rules.specs.declared.rule.Rule.{Rule}
 use Rattle.code_rules.specs.Flow.{flow}
-use Rattle.code_rules.specs.Places.{instr_at, block_at, or_state, map_at, start_of, begun, incoming_at, state_at}
+use Rattle.code_rules.specs.Places.{instr_at, block_at, or_state, map_at, start_of, state_entered, incoming_at, state_at}
 use Rattle.code_rules.specs.Rules.{Here, refusal_of, refusal_at}
 
 -- what is found at a place, as the rules see it
@@ -20,15 +20,15 @@ pub rule_found : (code : Code) (place : ℕ) (instr : Instr) (incoming before af
 unfolding refusal_at state_at
 rule_found code place instr incoming before after rule a b c d e = rw (e, d, c, b, a) refl
 
-pub next_found : (code : Code) (place : ℕ) (instr : Instr) (incoming before after next : State) → incoming ≡ incoming_at code place → before ≡ or_state (map_at code place) incoming → instr ≡ instr_at code place → after ≡ flow code instr before → next ≡ begun code (block_at code (place + 1)) (place + 1) after → next ≡ incoming_at code (place + 1)
+pub next_found : (code : Code) (place : ℕ) (instr : Instr) (incoming before after next : State) → incoming ≡ incoming_at code place → before ≡ or_state (map_at code place) incoming → instr ≡ instr_at code place → after ≡ flow code instr before → next ≡ state_entered code (block_at code (place + 1)) (place + 1) after → next ≡ incoming_at code (place + 1)
 unfolding incoming_at
 next_found code place instr incoming before after next a b c d e =
     let left : after ≡ flow code (instr_at code place) (or_state (map_at code place) (incoming_at code place)) = rw (d, c, b, a) refl in
-    let at : next ≡ begun code (block_at code (suc place)) (suc place) after = rw add-one at e in
-    rw add-one (at ∙ ap (begun code (block_at code (suc place)) (suc place)) left)
+    let at : next ≡ state_entered code (block_at code (suc place)) (suc place) after = rw add-one at e in
+    rw add-one (at ∙ ap (state_entered code (block_at code (suc place)) (suc place)) left)
 
 -- at a block's beginning that is what is known there
-begun_there : (code : Code) (b : Block) (place : ℕ) (left : State) → b.first ≡ place → begun code b place left ≡ start_of code b.number
+begun_there : (code : Code) (b : Block) (place : ℕ) (left : State) → b.first ≡ place → state_entered code b place left ≡ start_of code b.number
 begun_there code b place left e = let t : (b.first == place) ≡ true = eq-eqb b.first place e in rw t refl
 
 pub start_found : (code : Code) (place : ℕ) → (block_at code place).first ≡ place → incoming_at code place ≡ start_of code (block_at code place).number

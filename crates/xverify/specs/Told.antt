@@ -5,8 +5,8 @@ use Rattle.code_rules.specs.Places.{start_of}
 use Rattle.code_rules.specs.Rules.{Here as Place}
 use Rattle.xverify.specs.declared.here.Here.{Here}
 
-abbrev pub told : Here → Place
-told h = record { place = h.place; block = h.block; instr = h.instr; before = h.before.now; after = h.after.now }
+abbrev pub place_told : Here → Place
+place_told h = record { place = h.place; block = h.block; instr = h.instr; before = h.before.now; after = h.after.now }
 
 -- it is a place of a legal code, and where the block begins there, what is known there is told
 pub record IsPlace (h : Here) : Type 0 where

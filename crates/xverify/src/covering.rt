@@ -10,7 +10,7 @@ ghost use Rattle.std.specs.Option.{option_copied};
 ghost use Rattle.code_items.specs.Legal.{IsCode};
 ghost use Rattle.code_rules.specs.Places.{map_at as map_at_of};
 ghost use Rattle.code_rules.specs.Wants.{gives as gives_of, unknown as unknown_of};
-ghost use Rattle.xverify.specs.Told.{told, IsPlace};
+ghost use Rattle.xverify.specs.Told.{place_told, IsPlace};
 
 use crate::here::Here;
 use code_items::{Code, Instr, State};
@@ -82,7 +82,7 @@ pub fn unknown(h: &Here) -> usize
 fn next_slots_fail(h: &Here) -> bool
     requires { IsPlace h.now }
     ensures { result ≡ some_next h.now.code.now (λ t. slots_fail_of (map_at_of h.now.code.now t) h.now.after.now)
-        (told h.now) }
+        (place_told h.now) }
 {
     if let Some(place) = target(h.instr)
         && slots_fail(h.code, place as usize, h.after)
@@ -95,7 +95,7 @@ fn next_slots_fail(h: &Here) -> bool
 fn next_desk_fails(h: &Here) -> bool
     requires { IsPlace h.now }
     ensures { result ≡ some_next h.now.code.now (λ t. desk_fails_of (map_at_of h.now.code.now t) h.now.after.now)
-        (told h.now) }
+        (place_told h.now) }
 {
     if let Some(place) = target(h.instr)
         && desk_fails(h.code, place as usize, h.after)
@@ -108,7 +108,7 @@ fn next_desk_fails(h: &Here) -> bool
 fn next_stack_fails(h: &Here, unknown: usize) -> bool
     requires { IsPlace h.now }
     ensures { result ≡ some_next h.now.code.now
-        (λ t. stack_fails_of unknown (map_at_of h.now.code.now t) h.now.after.now) (told h.now) }
+        (λ t. stack_fails_of unknown (map_at_of h.now.code.now t) h.now.after.now) (place_told h.now) }
 {
     if let Some(place) = target(h.instr)
         && stack_fails(h.code, unknown, place as usize, h.after)
@@ -148,7 +148,7 @@ fn entry_stack_fails(h: &Here) -> bool
 /// Whether slots aren't covered where the block begins, in the procedure that is called, or at a next place.
 pub fn some_slots_fail(h: &Here) -> bool
     requires { IsPlace h.now }
-    ensures { result ≡ some_slots_fail_of h.now.code.now (told h.now) }
+    ensures { result ≡ some_slots_fail_of h.now.code.now (place_told h.now) }
 {
     (h.block.first == h.place && slots_fail(h.code, h.place, h.start))
         || entry_slots_fail(h)
@@ -158,7 +158,7 @@ pub fn some_slots_fail(h: &Here) -> bool
 /// The same for work areas.
 pub fn some_desk_fails(h: &Here) -> bool
     requires { IsPlace h.now }
-    ensures { result ≡ some_desk_fails_of h.now.code.now (told h.now) }
+    ensures { result ≡ some_desk_fails_of h.now.code.now (place_told h.now) }
 {
     (h.block.first == h.place && desk_fails(h.code, h.place, h.start))
         || entry_desk_fails(h)
@@ -168,7 +168,7 @@ pub fn some_desk_fails(h: &Here) -> bool
 /// The same for the stack.
 pub fn some_stack_fails(h: &Here) -> bool
     requires { IsPlace h.now }
-    ensures { result ≡ some_stack_fails_of h.now.code.now (told h.now) }
+    ensures { result ≡ some_stack_fails_of h.now.code.now (place_told h.now) }
 {
     (h.block.first == h.place && stack_fails(h.code, 0, h.place, h.start))
         || entry_stack_fails(h)

@@ -3,7 +3,7 @@
 ghost use Rattle.std.specs.Prelude.{◌≡◌};
 ghost use Rattle.code_rules.specs.Rules.{closed_fails as closed_fails_of, area_is_other as area_is_other_of};
 ghost use Rattle.code_rules.specs.Rules.{names_other as names_other_of, table_fails as table_fails_of};
-ghost use Rattle.xverify.specs.Told.{told, IsPlace};
+ghost use Rattle.xverify.specs.Told.{place_told, IsPlace};
 
 use crate::covering::some_desk_fails;
 use crate::here::Here;
@@ -12,7 +12,7 @@ use code_rules::desks::{has_table, is_closed, is_other_filter, is_other_list, re
 
 /// Whether the work area that has to be open isn't known to be.
 pub fn closed_fails(h: &Here) -> bool
-    ensures { result ≡ closed_fails_of (told h.now) }
+    ensures { result ≡ closed_fails_of (place_told h.now) }
 {
     is_closed(&h.before.desk, h.instr)
 }
@@ -45,7 +45,7 @@ fn names_other(declared: &Declared, desk: &Desk, instr: Instr) -> bool
 /// Whether a list or filter is of another table, or work areas aren't covered.
 pub fn table_fails(h: &Here) -> bool
     requires { IsPlace h.now }
-    ensures { result ≡ table_fails_of h.now.code.now (told h.now) }
+    ensures { result ≡ table_fails_of h.now.code.now (place_told h.now) }
 {
     names_other(&h.code.declared, &h.before.desk, h.instr) || some_desk_fails(h)
 }

@@ -15,5 +15,5 @@ mod verified;
 mod verifying;
 
 pub use code_rules::Rule;
-pub use verified::{Refused, Verified, VerifyError};
+pub use verified::{FailedRule, Verified, VerifyError};
 pub use verifying::{begun, verify};

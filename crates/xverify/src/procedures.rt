@@ -9,9 +9,9 @@ ghost use Rattle.code_rules.specs.Rules.{fall_fails as fall_fails_of, level_of a
 ghost use Rattle.code_rules.specs.Rules.{level_fails as level_fails_of, not_covered, covers as covers_of};
 ghost use Rattle.code_rules.specs.Rules.{exit_fails as exit_fails_of, lacks as lacks_of};
 ghost use Rattle.code_rules.specs.Rules.{filter_lacks as filter_lacks_of, moves_blindly as moves_blindly_of};
-ghost use Rattle.code_rules.specs.Rules.{is_truth as is_truth_of, ends_untrue as ends_untrue_of};
+ghost use Rattle.code_rules.specs.Rules.{leaves_truth as is_truth_of, ends_untrue as ends_untrue_of};
 ghost use Rattle.code_rules.specs.Rules.{filter_fails as filter_fails_of, returns as returns_of};
-ghost use Rattle.xverify.specs.Told.{told, IsPlace};
+ghost use Rattle.xverify.specs.Told.{place_told, IsPlace};
 
 use crate::covering::unknown;
 use crate::here::Here;
@@ -34,7 +34,7 @@ fn is_outside(block: Block, place: usize) -> bool
 /// Whether it jumps out of its block, or to a place without a map.
 pub fn jump_fails(h: &Here) -> bool
     requires { IsPlace h.now }
-    ensures { result ≡ jump_fails_of h.now.code.now (told h.now) }
+    ensures { result ≡ jump_fails_of h.now.code.now (place_told h.now) }
 {
     match target(h.instr) {
         Some(place) => {
@@ -52,7 +52,7 @@ fn is_filters(code: &Code, block: Block) -> bool
 
 fn runs_over(h: &Here) -> bool
     requires { IsPlace h.now }
-    ensures { result ≡ runs_over_of h.now.code.now (told h.now) }
+    ensures { result ≡ runs_over_of h.now.code.now (place_told h.now) }
 {
     if Signature::of(h.instr).falls {
         h.block.end <= h.place + 1
@@ -65,7 +65,7 @@ fn runs_over(h: &Here) -> bool
 /// map.
 pub fn fall_fails(h: &Here) -> bool
     requires { IsPlace h.now }
-    ensures { result ≡ fall_fails_of h.now.code.now (told h.now) }
+    ensures { result ≡ fall_fails_of h.now.code.now (place_told h.now) }
 {
     !is_filters(h.code, h.block) && runs_over(h)
 }
@@ -90,7 +90,7 @@ fn is_not_below(code: &Code, level: u8, number: u16) -> bool
 
 /// Whether a procedure calls one whose level isn't below its own.
 pub fn level_fails(h: &Here) -> bool
-    ensures { result ≡ level_fails_of h.now.code.now (told h.now) }
+    ensures { result ≡ level_fails_of h.now.code.now (place_told h.now) }
 {
     if is_filters(h.code, h.block) {
         return false;
@@ -126,7 +126,7 @@ fn is_not_covered(code: &Code, number: usize, state: &State) -> bool
 
 /// Whether a procedure returns from another state than its exit state covers.
 pub fn exit_fails(h: &Here) -> bool
-    ensures { result ≡ exit_fails_of h.now.code.now (told h.now) }
+    ensures { result ≡ exit_fails_of h.now.code.now (place_told h.now) }
 {
     !is_filters(h.code, h.block)
         && returns(h.instr)
@@ -177,7 +177,7 @@ fn is_truth(unknown: usize, stack: &KindStack) -> bool
 
 fn ends_untrue(h: &Here) -> bool
     requires { IsPlace h.now }
-    ensures { result ≡ ends_untrue_of h.now.code.now (told h.now) }
+    ensures { result ≡ ends_untrue_of h.now.code.now (place_told h.now) }
 {
     h.block.end == h.place + 1 && !is_truth(unknown(h), &h.after.stack)
 }
@@ -186,7 +186,7 @@ fn ends_untrue(h: &Here) -> bool
 /// procedure moves under a filter whose needs aren't met, or reads a field of the row tried.
 pub fn filter_fails(h: &Here) -> bool
     requires { IsPlace h.now }
-    ensures { result ≡ filter_fails_of h.now.code.now (told h.now) }
+    ensures { result ≡ filter_fails_of h.now.code.now (place_told h.now) }
 {
     if is_filters(h.code, h.block) {
         !filters(h.instr) || ends_untrue(h)

@@ -2,7 +2,7 @@
 
 ghost use Rattle.std.specs.Prelude.{◌≡◌};
 ghost use Rattle.code_rules.specs.Rules.{refusal_of};
-ghost use Rattle.xverify.specs.Told.{told, IsPlace};
+ghost use Rattle.xverify.specs.Told.{place_told, IsPlace};
 
 use crate::desks::{closed_fails, table_fails};
 use crate::here::Here;
@@ -16,7 +16,7 @@ use code_rules::operands::undeclared;
 #[tactic(auto, unfolding(code_rules::specs::Rules::refusal_of))]
 pub fn refusal(h: &Here) -> Option<Rule>
     requires { IsPlace h.now }
-    ensures { result ≡ refusal_of h.now.code.now (told h.now) }
+    ensures { result ≡ refusal_of h.now.code.now (place_told h.now) }
 {
     if kind_fails(h) {
         Some(Rule::Kind)

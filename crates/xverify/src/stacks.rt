@@ -5,7 +5,7 @@ ghost use Rattle.code_rules.specs.Rules.{loads_other as loads_other_of, loads_fr
 ghost use Rattle.code_rules.specs.Rules.{under_fails as under_fails_of, over_fails as over_fails_of};
 ghost use Rattle.code_rules.specs.Rules.{leaves_values as leaves_values_of, kind_fails as kind_fails_of};
 ghost use Rattle.code_rules.specs.Rules.{empty_fails as empty_fails_of};
-ghost use Rattle.xverify.specs.Told.{told, IsPlace};
+ghost use Rattle.xverify.specs.Told.{place_told, IsPlace};
 
 use crate::covering::{some_slots_fail, some_stack_fails};
 use crate::here::Here;
@@ -53,7 +53,7 @@ pub fn loads_free(state: &State, instr: Instr) -> bool
 /// Whether a value taken or a slot loaded has another kind, or a slot isn't covered.
 pub fn kind_fails(h: &Here) -> bool
     requires { IsPlace h.now }
-    ensures { result ≡ kind_fails_of h.now.code.now (told h.now) }
+    ensures { result ≡ kind_fails_of h.now.code.now (place_told h.now) }
 {
     h.before
         .stack
@@ -64,20 +64,20 @@ pub fn kind_fails(h: &Here) -> bool
 
 /// Whether there are fewer values than are taken.
 pub fn under_fails(h: &Here) -> bool
-    ensures { result ≡ under_fails_of (told h.now) }
+    ensures { result ≡ under_fails_of (place_told h.now) }
 {
     is_under(h.before.stack.len(), h.instr)
 }
 
 /// Whether the stack is higher than the bound afterwards.
 pub fn over_fails(h: &Here) -> bool
-    ensures { result ≡ over_fails_of h.now.code.now (told h.now) }
+    ensures { result ≡ over_fails_of h.now.code.now (place_told h.now) }
 {
     is_over(&h.code.declared, h.before.stack.len(), h.instr)
 }
 
 fn leaves_values(h: &Here) -> bool
-    ensures { result ≡ leaves_values_of (told h.now) }
+    ensures { result ≡ leaves_values_of (place_told h.now) }
 {
     let signature = Signature::of(h.instr);
     signature.empties && !(h.before.stack.len().saturating_sub(signature.taken) == 0)
@@ -86,7 +86,7 @@ fn leaves_values(h: &Here) -> bool
 /// Whether values are left where none may be, or the stack isn't covered.
 pub fn empty_fails(h: &Here) -> bool
     requires { IsPlace h.now }
-    ensures { result ≡ empty_fails_of h.now.code.now (told h.now) }
+    ensures { result ≡ empty_fails_of h.now.code.now (place_told h.now) }
 {
     leaves_values(h) || some_stack_fails(h)
 }

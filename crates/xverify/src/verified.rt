@@ -29,12 +29,12 @@ impl Model for Verified {
 
 /// A rule that fails, and the place at which it does, counted from 0.
 #[derive(Clone, Copy, PartialEq, Eq, Debug)]
-pub struct Refused {
+pub struct FailedRule {
     pub rule: Rule,
     pub at: usize,
 }
 
-impl fmt::Display for Refused {
+impl fmt::Display for FailedRule {
     fn fmt<W: fmt::Write>(&self, f: &mut fmt::Formatter<W>) -> fmt::Result {
         let rule = self.rule;
         let at = self.at;
@@ -45,7 +45,7 @@ impl fmt::Display for Refused {
 /// Why there is no answer of yes: a rule fails, or memory ran out before that could be told.
 #[derive(Clone, Copy, PartialEq, Eq, Debug)]
 pub enum VerifyError {
-    Refused(Refused),
+    Refused(FailedRule),
     NoMemory,
 }
 

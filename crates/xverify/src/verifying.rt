@@ -2,14 +2,15 @@
 
 ghost use Rattle.std.specs.Prelude.{◌≡◌, ◌+◌, ◌<◌, length, IfOk, IfErr};
 ghost use Rattle.code_items.specs.Legal.{IsCode};
-ghost use Rattle.code_rules.specs.Places.{block_at as block_at_of, map_at as map_at_of, or_state, begun as begun_at};
+ghost use Rattle.code_rules.specs.Places.{block_at as block_at_of, map_at as map_at_of, or_state};
+ghost use Rattle.code_rules.specs.Places.{state_entered as begun_at};
 ghost use Rattle.code_rules.specs.Places.{incoming_at};
 ghost use Rattle.code_rules.specs.Rules.{refusal_at, Accepted};
 ghost use Rattle.xverify.specs.Verdict.{Refuses};
 
 use crate::here::Here;
 use crate::rules::refusal;
-use crate::verified::{Refused, Verified, VerifyError};
+use crate::verified::{FailedRule, Verified, VerifyError};
 use code_items::laws::legal_codes;
 use code_items::{Code, State};
 use code_rules::Rule;
@@ -89,7 +90,7 @@ pub fn verify(alloc: Global, code: Code) -> Result<Verified, VerifyError>
             return Err(VerifyError::NoMemory);
         };
         if let Some(rule) = finding.rule {
-            return Err(VerifyError::Refused(Refused { rule, at: place }));
+            return Err(VerifyError::Refused(FailedRule { rule, at: place }));
         }
         incoming = finding.after;
     }

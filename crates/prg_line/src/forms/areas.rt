@@ -2,8 +2,8 @@
 
 ghost use Rattle.prg_line.specs.Act.{act_of};
 ghost use Rattle.prg_line.specs.Forms as spec;
-ghost use Rattle.prg_expr.specs.Reading.{Gives};
-ghost use Rattle.prg_line.specs.Gives.{at_of, Reads};
+ghost use Rattle.prg_expr.specs.Reading.{WordsGive};
+ghost use Rattle.prg_line.specs.Gives.{at_of, ReadsAs};
 
 use crate::reader::Reader;
 use crate::statement::{Selected, Statement, Toggle};
@@ -15,7 +15,7 @@ const LAST_AREA: u16 = 10;
 /// `USE [table [INDEX indexes]]`.
 #[tactic(auto, unfolding(crate::specs::Forms::use_table))]
 pub fn use_table(reader: &mut Reader<'_>) -> Result<Statement, FormFault>
-    ensures { Reads act_of result reader.new (spec.use_table (at_of reader.old)) }
+    ensures { ReadsAs act_of result reader.new (spec.use_table (at_of reader.old)) }
 {
     if reader.is_at_end() {
         return Ok(Statement::Close);
@@ -34,7 +34,7 @@ pub fn use_table(reader: &mut Reader<'_>) -> Result<Statement, FormFault>
 /// `SELECT area`.
 #[tactic(auto, unfolding(crate::specs::Forms::select))]
 pub fn select(reader: &mut Reader<'_>) -> Result<Statement, FormFault>
-    ensures { Reads act_of result reader.new (spec.select (at_of reader.old)) }
+    ensures { ReadsAs act_of result reader.new (spec.select (at_of reader.old)) }
 {
     if reader.is_at_number() {
         let number = reader.whole_number()?;
@@ -51,7 +51,7 @@ pub fn select(reader: &mut Reader<'_>) -> Result<Statement, FormFault>
 
 /// The number of an area, 1 to 10.
 fn area_number(number: u16) -> Result<u8, FormFault>
-    ensures { Gives (λ n. n) result (spec.area_number number) }
+    ensures { WordsGive (λ n. n) result (spec.area_number number) }
 {
     if 1 <= number && number <= LAST_AREA {
         Ok(number as u8)
@@ -63,7 +63,7 @@ fn area_number(number: u16) -> Result<u8, FormFault>
 /// `CLOSE ALL` and `CLOSE DATABASES`.
 #[tactic(auto, unfolding(crate::specs::Forms::close))]
 pub fn close(reader: &mut Reader<'_>) -> Result<Statement, FormFault>
-    ensures { Reads act_of result reader.new (spec.close (at_of reader.old)) }
+    ensures { ReadsAs act_of result reader.new (spec.close (at_of reader.old)) }
 {
     if reader.takes(b"ALL") {
         return Ok(Statement::CloseAll);
@@ -75,7 +75,7 @@ pub fn close(reader: &mut Reader<'_>) -> Result<Statement, FormFault>
 /// `SET` and what it sets.
 #[tactic(auto, unfolding(crate::specs::Forms::set))]
 pub fn set(reader: &mut Reader<'_>) -> Result<Statement, FormFault>
-    ensures { Reads act_of result reader.new (spec.set (at_of reader.old)) }
+    ensures { ReadsAs act_of result reader.new (spec.set (at_of reader.old)) }
 {
     if reader.takes(b"ORDER") {
         return order(reader);
@@ -89,7 +89,7 @@ pub fn set(reader: &mut Reader<'_>) -> Result<Statement, FormFault>
 /// `SET ORDER TO order`.
 #[tactic(auto, unfolding(crate::specs::Forms::order))]
 fn order(reader: &mut Reader<'_>) -> Result<Statement, FormFault>
-    ensures { Reads act_of result reader.new (spec.order (at_of reader.old)) }
+    ensures { ReadsAs act_of result reader.new (spec.order (at_of reader.old)) }
 {
     reader.clause(b"TO")?;
     let order = reader.whole_number()?;
@@ -99,7 +99,7 @@ fn order(reader: &mut Reader<'_>) -> Result<Statement, FormFault>
 /// `SET FILTER TO [condition]`.
 #[tactic(auto, unfolding(crate::specs::Forms::filter))]
 fn filter(reader: &mut Reader<'_>) -> Result<Statement, FormFault>
-    ensures { Reads act_of result reader.new (spec.filter (at_of reader.old)) }
+    ensures { ReadsAs act_of result reader.new (spec.filter (at_of reader.old)) }
 {
     reader.clause(b"TO")?;
     if reader.is_at_end() {
@@ -114,7 +114,7 @@ fn filter(reader: &mut Reader<'_>) -> Result<Statement, FormFault>
 /// What `SET` switches.
 #[tactic(auto, unfolding(crate::specs::Forms::set_switch))]
 fn set_switch(reader: &mut Reader<'_>) -> Result<Statement, FormFault>
-    ensures { Reads act_of result reader.new (spec.set_switch (at_of reader.old)) }
+    ensures { ReadsAs act_of result reader.new (spec.set_switch (at_of reader.old)) }
 {
     if reader.takes(b"EXACT") {
         return switch(Toggle::Exact, reader);
@@ -128,7 +128,7 @@ fn set_switch(reader: &mut Reader<'_>) -> Result<Statement, FormFault>
 /// `SET CENTURY`.
 #[tactic(auto, unfolding(crate::specs::Forms::century))]
 fn century(reader: &mut Reader<'_>) -> Result<Statement, FormFault>
-    ensures { Reads act_of result reader.new (spec.century (at_of reader.old)) }
+    ensures { ReadsAs act_of result reader.new (spec.century (at_of reader.old)) }
 {
     reader.clause(b"CENTURY")?;
     switch(Toggle::Century, reader)
@@ -137,7 +137,7 @@ fn century(reader: &mut Reader<'_>) -> Result<Statement, FormFault>
 /// `ON` or `OFF`.
 #[tactic(auto, unfolding(crate::specs::Forms::switch))]
 fn switch(setting: Toggle, reader: &mut Reader<'_>) -> Result<Statement, FormFault>
-    ensures { Reads act_of result reader.new (spec.switch setting (at_of reader.old)) }
+    ensures { ReadsAs act_of result reader.new (spec.switch setting (at_of reader.old)) }
 {
     if reader.takes(b"ON") {
         return Ok(Statement::Set { setting, on: true });

@@ -1,11 +1,11 @@
 //! The forms of the commands, a function each.
 
 ghost use Rattle.std.specs.Prelude.{◌≡◌, option_map};
-ghost use Rattle.prg_expr.specs.Reading.{Gives};
+ghost use Rattle.prg_expr.specs.Reading.{WordsGive};
 ghost use Rattle.prg_line.specs.Act.{act_of};
 ghost use Rattle.prg_line.specs.Saying.{saying_of};
 ghost use Rattle.prg_line.specs.Forms as spec;
-ghost use Rattle.prg_line.specs.Gives.{at_of, Reads};
+ghost use Rattle.prg_line.specs.Gives.{at_of, ReadsAs};
 
 mod areas;
 mod control;
@@ -42,7 +42,7 @@ fn single(verb: Verb) -> Option<Statement>
 /// A command of more words than one, behind its first words.
 #[tactic(auto, unfolding(crate::specs::Forms::phrase))]
 fn phrase(verb: Verb, reader: &mut Reader<'_>) -> Result<Statement, FormFault>
-    ensures { Reads act_of result reader.new (spec.phrase verb (at_of reader.old)) }
+    ensures { ReadsAs act_of result reader.new (spec.phrase verb (at_of reader.old)) }
 {
     match verb {
         Verb::Show => screen::show(reader),
@@ -73,7 +73,7 @@ fn phrase(verb: Verb, reader: &mut Reader<'_>) -> Result<Statement, FormFault>
 /// A command of one line, behind its first words.
 #[tactic(auto, unfolding(crate::specs::Forms::statement))]
 fn statement(verb: Verb, reader: &mut Reader<'_>) -> Result<Statement, FormFault>
-    ensures { Reads act_of result reader.new (spec.statement verb (at_of reader.old)) }
+    ensures { ReadsAs act_of result reader.new (spec.statement verb (at_of reader.old)) }
 {
     if let Some(statement) = single(verb) {
         return Ok(statement);
@@ -83,7 +83,7 @@ fn statement(verb: Verb, reader: &mut Reader<'_>) -> Result<Statement, FormFault
 
 /// A command of one line as what its line says.
 fn whole(verb: Verb, reader: &mut Reader<'_>) -> Result<Sentence, FormFault>
-    ensures { Reads saying_of result reader.new (spec.whole verb (at_of reader.old)) }
+    ensures { ReadsAs saying_of result reader.new (spec.whole_line verb (at_of reader.old)) }
 {
     let statement = statement(verb, reader)?;
     Ok(Sentence::Whole(statement))
@@ -92,7 +92,7 @@ fn whole(verb: Verb, reader: &mut Reader<'_>) -> Result<Sentence, FormFault>
 /// A line of a block or of a procedure or a command, behind its first words.
 #[tactic(auto, unfolding(crate::specs::Forms::block_line))]
 fn block_line(verb: Verb, reader: &mut Reader<'_>) -> Result<Sentence, FormFault>
-    ensures { Reads saying_of result reader.new (spec.block_line verb (at_of reader.old)) }
+    ensures { ReadsAs saying_of result reader.new (spec.block_line verb (at_of reader.old)) }
 {
     match verb {
         Verb::If => Ok(Sentence::If(reader.expression()?)),
@@ -110,7 +110,7 @@ fn block_line(verb: Verb, reader: &mut Reader<'_>) -> Result<Sentence, FormFault
 /// A line of which all words are read.
 #[tactic(auto, unfolding(crate::specs::Forms::ended))]
 fn read_whole(verb: Verb, reader: &mut Reader<'_>) -> Result<Sentence, FormFault>
-    ensures { Gives saying_of result (spec.read_whole verb (at_of reader.old)) }
+    ensures { WordsGive saying_of result (spec.read_whole verb (at_of reader.old)) }
 {
     let found = block_line(verb, reader)?;
     reader.end()?;
@@ -120,7 +120,7 @@ fn read_whole(verb: Verb, reader: &mut Reader<'_>) -> Result<Sentence, FormFault
 /// What a line says, of which the first words are read; what follows the word that ends a block isn't looked at.
 #[tactic(auto, unfolding(crate::specs::Forms::sentence))]
 pub fn sentence(verb: Verb, reader: &mut Reader<'_>) -> Result<Sentence, FormFault>
-    ensures { Gives saying_of result (spec.sentence verb (at_of reader.old)) }
+    ensures { WordsGive saying_of result (spec.sentence verb (at_of reader.old)) }
 {
     match verb {
         Verb::Nothing | Verb::Ignored => Ok(Sentence::Nothing),

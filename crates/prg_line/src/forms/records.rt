@@ -4,7 +4,7 @@ ghost use Rattle.std.specs.Prelude.{◌<◌, suc, length, map, OnOk};
 ghost use Rattle.prg_expr.specs.Word.{words};
 ghost use Rattle.prg_line.specs.Act.{act_of, change_of};
 ghost use Rattle.prg_line.specs.Forms as spec;
-ghost use Rattle.prg_line.specs.Gives.{at_of, Reads};
+ghost use Rattle.prg_line.specs.Gives.{at_of, ReadsAs};
 
 use crate::reader::Reader;
 use crate::statement::{Move, Replacement, Statement};
@@ -13,7 +13,7 @@ use prg_expr::FormFault;
 /// `GO TOP`, `GO BOTTOM` and `GO record`.
 #[tactic(auto, unfolding(crate::specs::Forms::go))]
 pub fn go(reader: &mut Reader<'_>) -> Result<Statement, FormFault>
-    ensures { Reads act_of result reader.new (spec.go (at_of reader.old)) }
+    ensures { ReadsAs act_of result reader.new (spec.go (at_of reader.old)) }
 {
     if reader.takes(b"TOP") {
         return Ok(Statement::Go { to: Move::Top });
@@ -27,7 +27,7 @@ pub fn go(reader: &mut Reader<'_>) -> Result<Statement, FormFault>
 /// `GO record`.
 #[tactic(auto, unfolding(crate::specs::Forms::go_record))]
 fn go_record(reader: &mut Reader<'_>) -> Result<Statement, FormFault>
-    ensures { Reads act_of result reader.new (spec.go_record (at_of reader.old)) }
+    ensures { ReadsAs act_of result reader.new (spec.go_record (at_of reader.old)) }
 {
     let record = reader.expression()?;
     Ok(Statement::Go {
@@ -38,7 +38,7 @@ fn go_record(reader: &mut Reader<'_>) -> Result<Statement, FormFault>
 /// `SKIP [rows]`.
 #[tactic(auto, unfolding(crate::specs::Forms::skip))]
 pub fn skip(reader: &mut Reader<'_>) -> Result<Statement, FormFault>
-    ensures { Reads act_of result reader.new (spec.skip (at_of reader.old)) }
+    ensures { ReadsAs act_of result reader.new (spec.skip (at_of reader.old)) }
 {
     if reader.is_at_end() {
         return Ok(Statement::Skip { rows: None });
@@ -50,7 +50,7 @@ pub fn skip(reader: &mut Reader<'_>) -> Result<Statement, FormFault>
 /// `SEEK key`.
 #[tactic(auto, unfolding(crate::specs::Forms::seek))]
 pub fn seek(reader: &mut Reader<'_>) -> Result<Statement, FormFault>
-    ensures { Reads act_of result reader.new (spec.seek (at_of reader.old)) }
+    ensures { ReadsAs act_of result reader.new (spec.seek (at_of reader.old)) }
 {
     let key = reader.expression()?;
     Ok(Statement::Seek { key })
@@ -59,7 +59,7 @@ pub fn seek(reader: &mut Reader<'_>) -> Result<Statement, FormFault>
 /// `APPEND BLANK`.
 #[tactic(auto, unfolding(crate::specs::Forms::append))]
 pub fn append(reader: &mut Reader<'_>) -> Result<Statement, FormFault>
-    ensures { Reads act_of result reader.new (spec.append (at_of reader.old)) }
+    ensures { ReadsAs act_of result reader.new (spec.append (at_of reader.old)) }
 {
     reader.clause(b"BLANK")?;
     Ok(Statement::AppendBlank)
@@ -68,7 +68,7 @@ pub fn append(reader: &mut Reader<'_>) -> Result<Statement, FormFault>
 /// `field WITH value`.
 #[tactic(auto, unfolding(crate::specs::Forms::replacement))]
 fn replacement(reader: &mut Reader<'_>) -> Result<Replacement, FormFault>
-    ensures reads { Reads change_of result reader.new (spec.replacement (at_of reader.old)) }
+    ensures reads { ReadsAs change_of result reader.new (spec.replacement (at_of reader.old)) }
     ensures shorter { OnOk result (length reader.new.words.now < length reader.old.words.now) }
 {
     let field = reader.name()?;
@@ -78,10 +78,10 @@ fn replacement(reader: &mut Reader<'_>) -> Result<Replacement, FormFault>
 }
 
 /// `field WITH value, ..`, at least one.
-#[tactic(auto, unfolding(crate::specs::Forms::several))]
+#[tactic(auto, unfolding(crate::specs::Forms::several_forms))]
 fn replacements(reader: &mut Reader<'_>) -> Result<Vec<Replacement>, FormFault>
-    ensures { Reads (λ found. map change_of found.items) result reader.new
-        (spec.several spec.replacement (at_of reader.old)) }
+    ensures { ReadsAs (λ found. map change_of found.items) result reader.new
+        (spec.several_forms spec.replacement (at_of reader.old)) }
 {
     let first = replacement(reader)?;
     let mut found = Vec::new(reader.alloc);
@@ -94,7 +94,7 @@ fn more_replacements(
     reader: &mut Reader<'_>,
     found: Vec<Replacement>,
 ) -> Result<Vec<Replacement>, FormFault>
-    ensures { Reads (λ all. map change_of all.items) result reader.new
+    ensures { ReadsAs (λ all. map change_of all.items) result reader.new
         (spec.more spec.replacement (suc (length (words reader.old.words.now))) (map change_of found.items)
         (at_of reader.old)) }
 {
@@ -109,7 +109,7 @@ fn more_replacements(
 /// `REPLACE field WITH value, ..`.
 #[tactic(auto, unfolding(crate::specs::Forms::replace))]
 pub fn replace(reader: &mut Reader<'_>) -> Result<Statement, FormFault>
-    ensures { Reads act_of result reader.new (spec.replace (at_of reader.old)) }
+    ensures { ReadsAs act_of result reader.new (spec.replace (at_of reader.old)) }
 {
     let replacements = replacements(reader)?;
     Ok(Statement::Replace { replacements })
@@ -118,7 +118,7 @@ pub fn replace(reader: &mut Reader<'_>) -> Result<Statement, FormFault>
 /// `INDEX ON key TO index`.
 #[tactic(auto, unfolding(crate::specs::Forms::index))]
 pub fn index(reader: &mut Reader<'_>) -> Result<Statement, FormFault>
-    ensures { Reads act_of result reader.new (spec.index (at_of reader.old)) }
+    ensures { ReadsAs act_of result reader.new (spec.index (at_of reader.old)) }
 {
     reader.clause(b"ON")?;
     let key = reader.expression()?;

@@ -2,7 +2,7 @@
 
 ghost use Rattle.prg_line.specs.Act.{act_of};
 ghost use Rattle.prg_line.specs.Forms as spec;
-ghost use Rattle.prg_line.specs.Gives.{at_of, Reads};
+ghost use Rattle.prg_line.specs.Gives.{at_of, ReadsAs};
 
 use crate::reader::Reader;
 use crate::statement::Statement;
@@ -11,7 +11,7 @@ use prg_expr::{FormFault, ParseFaultKind};
 /// `variable = value`, of which no word is read yet.
 #[tactic(auto, unfolding(crate::specs::Forms::assign))]
 pub fn assign(reader: &mut Reader<'_>) -> Result<Statement, FormFault>
-    ensures { Reads act_of result reader.new (spec.assign (at_of reader.old)) }
+    ensures { ReadsAs act_of result reader.new (spec.assign (at_of reader.old)) }
 {
     let variable = reader.name()?;
     reader.equal()?;
@@ -22,7 +22,7 @@ pub fn assign(reader: &mut Reader<'_>) -> Result<Statement, FormFault>
 /// `STORE value TO variables`.
 #[tactic(auto, unfolding(crate::specs::Forms::store))]
 pub fn store(reader: &mut Reader<'_>) -> Result<Statement, FormFault>
-    ensures { Reads act_of result reader.new (spec.store (at_of reader.old)) }
+    ensures { ReadsAs act_of result reader.new (spec.store (at_of reader.old)) }
 {
     let value = reader.expression()?;
     reader.clause(b"TO")?;
@@ -33,7 +33,7 @@ pub fn store(reader: &mut Reader<'_>) -> Result<Statement, FormFault>
 /// `RELEASE variables`; `RELEASE ALL` is no command of this language.
 #[tactic(auto, unfolding(crate::specs::Forms::release))]
 pub fn release(reader: &mut Reader<'_>) -> Result<Statement, FormFault>
-    ensures { Reads act_of result reader.new (spec.release (at_of reader.old)) }
+    ensures { ReadsAs act_of result reader.new (spec.release (at_of reader.old)) }
 {
     if reader.is_at(b"ALL") {
         return Err(FormFault::Kind(ParseFaultKind::Word));
@@ -45,7 +45,7 @@ pub fn release(reader: &mut Reader<'_>) -> Result<Statement, FormFault>
 /// `PRIVATE variables`.
 #[tactic(auto, unfolding(crate::specs::Forms::private))]
 pub fn private(reader: &mut Reader<'_>) -> Result<Statement, FormFault>
-    ensures { Reads act_of result reader.new (spec.private (at_of reader.old)) }
+    ensures { ReadsAs act_of result reader.new (spec.private (at_of reader.old)) }
 {
     let variables = reader.names()?;
     Ok(Statement::Private { variables })
@@ -54,7 +54,7 @@ pub fn private(reader: &mut Reader<'_>) -> Result<Statement, FormFault>
 /// `PARAMETERS variables`.
 #[tactic(auto, unfolding(crate::specs::Forms::parameters))]
 pub fn parameters(reader: &mut Reader<'_>) -> Result<Statement, FormFault>
-    ensures { Reads act_of result reader.new (spec.parameters (at_of reader.old)) }
+    ensures { ReadsAs act_of result reader.new (spec.parameters (at_of reader.old)) }
 {
     let variables = reader.names()?;
     Ok(Statement::Parameters { variables })

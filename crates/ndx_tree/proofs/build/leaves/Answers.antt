@@ -1,6 +1,6 @@
 use Rattle.std.proofs.Common.{◌≡◌, ◌-◌, ◌+◌, ◌∷◌, length, take, drop, reverse, subst, sym, arith}
 use Rattle.std.specs.Vec.{vec_len}
-use Rattle.ndx_tree.specs.Pages.{AreChildren, joined}
+use Rattle.ndx_tree.specs.Pages.{AreChildren, pairs_of_pages}
 use Rattle.ndx_tree.proofs.Building.{piece_of, part_length, leaf_child, leaf_whole, reverse_more, two_more, all_whole, none_made}
 use Rattle.ndx_tree.proofs.build.leaves.Goals as goal
 
@@ -25,7 +25,7 @@ loop-left-preserved c =
     let count = c.share-count.result in
     let less = left - count in
     let sum : less + count ≡ left = omega (arith, share.within) in
-    let piece = piece_of c.args.most l (joined (reverse c.loop-left.row.items)) left count less sum inv.whole c.requires.rising c.requires.keyed in
+    let piece = piece_of c.args.most l (pairs_of_pages (reverse c.loop-left.row.items)) left count less sum inv.whole c.requires.rising c.requires.keyed in
     let page = c.in_ok-leaf_with.field-0 in
     let size : length (take count (drop less l)) ≡ count = part_length less count l (omega (arith, inv.within, sum)) in
     let more : reverse c.push.new.self.items ≡ page ∷ reverse c.loop-left.row.items = reverse_more c.loop-left.row.items c.push.new.self.items page c.in_ok-push.ensures.items in

@@ -3,7 +3,7 @@ use Rattle.std.specs.Vec.{vec_len}
 use Rattle.key_rows.specs.Flat.{HaveKeys}
 use Rattle.ndx_tree.specs.Levels.{IsAbove}
 use Rattle.key_lists.specs.Order.{Each}
-use Rattle.ndx_tree.specs.Pages.{PageView, IsCut, joined}
+use Rattle.ndx_tree.specs.Pages.{PageView, IsCut, pairs_of_pages}
 use Rattle.ndx_tree.proofs.Cut.{cut_length}
 use Rattle.ndx_tree.proofs.Keyed.{entries_room}
 use Rattle.ndx_tree.proofs.Building.{are_last, children_some, parent_page, is_above}
@@ -21,7 +21,7 @@ separate-requires-clause-keyed c =
     let k = c.requires.keyed.key_length in
     let last = are_last c.requires.level.0 c.args.most k c.args.count (vec_len c.args.row.now - c.args.count) c.args.row.now.items c.move_tail.new.to.items is (omega (arith, c.requires.within)) c.requires.level.1 c.requires.rising c.requires.keyed.keys in
     let number : length c.deref.result.now ≡ c.args.count = ap (λ (m : List PageView). length m) c.deref.ensures.value ∙ last.number in
-    (k, subst (λ (m : List PageView). HaveKeys k (joined m)) (sym c.deref.ensures.value) last.keyed, entries_room c.args.most k (length c.deref.result.now) _ (omega (arith, c.requires.most.0)) c.requires.keyed.fits (omega (arith, number, c.requires.full)) c.in_ok-entries.ensures.blank.entry_room)
+    (k, subst (λ (m : List PageView). HaveKeys k (pairs_of_pages m)) (sym c.deref.ensures.value) last.keyed, entries_room c.args.most k (length c.deref.result.now) _ (omega (arith, c.requires.most.0)) c.requires.keyed.fits (omega (arith, number, c.requires.full)) c.in_ok-entries.ensures.blank.entry_room)
 
 pub of_parts-requires-clause-parts : goal.of_parts-requires-clause-parts
 of_parts-requires-clause-parts c =

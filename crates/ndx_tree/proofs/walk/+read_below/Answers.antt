@@ -6,7 +6,7 @@ use Rattle.ndx_tree.specs.IndexFile.{page_count, links}
 use Rattle.ndx_tree.specs.Walk.{Seen, walk, pages_of, visit, walk_all, with_separator}
 use Rattle.key_lists.specs.Pairs.{Pair}
 use Rattle.key_rows.specs.Flat.{HaveKeys}
-use Rattle.ndx_tree.specs.Reads.{Shows, Marks, Gives, unset}
+use Rattle.ndx_tree.specs.Reads.{ShowsSeen, Marks, WalkGives, unset}
 use Rattle.ndx_tree.specs.declared.fault.TreeFault.{TreeFault}
 use Rattle.ndx_tree.specs.declared.walk.Found.{Found}
 use Rattle.ndx_tree.proofs.PageOf.{most_entries-bound}
@@ -22,7 +22,7 @@ returns-then-last-eq0-clause-walked t c =
     let within : c.args.number < length c.args.found.now.reached.items = omega (arith, c.in_ok-page.ensures.within, c.requires.bits) in
     λ s h.
     let whole = walk_opened c.args.head.now.length c.args.bytes.now c.args.left c.args.number s c.in_ok-page.page (omega arith) (c.in_ok-page.ensures.opens s.reached (subst (λ (m : List Bool). Marks (page_count c.args.bytes.now) m s.reached) (sym c.deref.ensures.value) h.marked)) ∙ ap (λ l. visit (walk (pages_of c.args.head.now.length c.args.bytes.now) (page_count c.args.bytes.now) (c.args.left - 1)) (c.args.left - 1) c.in_ok-page.page l (let u : Seen = record { reached = s.reached ++ c.args.number ∷ []; items = s.items; level = s.level } in u)) c.if-last-eq0.true in
-    subst (λ (r : Result Seen TreeFault). Gives c.args.head.now.length (page_count c.args.bytes.now) c.take_leaf.result c.take_leaf.new.found r) (sym whole) (c.take_leaf.ensures.leaf c.args.head.now.length (page_count c.args.bytes.now) (let u : Seen = record { reached = s.reached ++ c.args.number ∷ []; items = s.items; level = s.level } in u) (walk (pages_of c.args.head.now.length c.args.bytes.now) (page_count c.args.bytes.now) (c.args.left - 1)) (leaf_fits c.args.head.now.length c.in_ok-page.page c.in_ok-page.ensures.fits c.if-last-eq0.true) (shows_reached c.args.head.now.length (page_count c.args.bytes.now) c.args.found.now (let x : Found = record { reached = with_item c.args.found.now.reached c.args.number true; level = c.args.found.now.level; entries = c.args.found.now.entries; separators = c.args.found.now.separators } in x) s c.args.number h within refl refl refl refl))
+    subst (λ (r : Result Seen TreeFault). WalkGives c.args.head.now.length (page_count c.args.bytes.now) c.take_leaf.result c.take_leaf.new.found r) (sym whole) (c.take_leaf.ensures.leaf c.args.head.now.length (page_count c.args.bytes.now) (let u : Seen = record { reached = s.reached ++ c.args.number ∷ []; items = s.items; level = s.level } in u) (walk (pages_of c.args.head.now.length c.args.bytes.now) (page_count c.args.bytes.now) (c.args.left - 1)) (leaf_fits c.args.head.now.length c.in_ok-page.page c.in_ok-page.ensures.fits c.if-last-eq0.true) (shows_reached c.args.head.now.length (page_count c.args.bytes.now) c.args.found.now (let x : Found = record { reached = with_item c.args.found.now.reached c.args.number true; level = c.args.found.now.level; entries = c.args.found.now.entries; separators = c.args.found.now.separators } in x) s c.args.number h within refl refl refl refl))
 
 pub returns-then-last-eq0-clause-few : goal.returns-then-last-eq0-clause-few
 returns-then-last-eq0-clause-few t c =
@@ -60,7 +60,7 @@ loop-entry-preserved t c =
       left = λ s h.
           let l = c.loop-entry.invariant.left s h in
           left_step c.args.head.now.length (page_count c.args.bytes.now) c.loop-entry.found c.read_below.new.found c.take_separator.new.found (walk (pages_of c.args.head.now.length c.args.bytes.now) (page_count c.args.bytes.now) c.args.left c.args.number s) (walk (pages_of c.args.head.now.length c.args.bytes.now) (page_count c.args.bytes.now) (c.args.left - 1)) c.as_slice-entry-items.result.now c.loop-entry.entry-index c.in_ok-page.page.last c.entry-item.result (omega arith) c.entry-item.is l (c.in_ok-read_below.ensures.walked l.now l.shown)
-          (λ u shown. subst (λ (m : List ℕ). Shows c.args.head.now.length (page_count c.args.bytes.now) c.take_separator.new.found (with_separator (Some m) u)) c.as_slice.ensures.value (c.in_ok-take_separator.ensures.shown c.args.head.now.length (page_count c.args.bytes.now) u shown));
+          (λ u shown. subst (λ (m : List ℕ). ShowsSeen c.args.head.now.length (page_count c.args.bytes.now) c.take_separator.new.found (with_separator (Some m) u)) c.as_slice.ensures.value (c.in_ok-take_separator.ensures.shown c.args.head.now.length (page_count c.args.bytes.now) u shown));
       bits = ap (λ (v : List Bool). length v) c.take_separator.ensures.bits ∙ c.read_below.ensures.bits;
       alike = subst (λ (m : List Pair). HaveKeys c.args.head.now.length m) (sym c.take_separator.ensures.entries) c.in_ok-read_below.ensures.alike;
       few =
@@ -74,7 +74,7 @@ returns-clause-walked t c =
     λ s h.
     let l = c.loop-entry.invariant.left s h in
     let rest = l.rest ∙ ap (λ cs. walk_all (walk (pages_of c.args.head.now.length c.args.bytes.now) (page_count c.args.bytes.now) (c.args.left - 1)) cs l.now) (links_end c.as_slice-entry-items.result.now c.loop-entry.entry-index c.in_ok-page.page.last (omega arith)) in
-    subst (λ (r : Result Seen TreeFault). Gives c.args.head.now.length (page_count c.args.bytes.now) c.read_below-2.result c.read_below-2.new.found r) (sym rest) (gives_last c.args.head.now.length (page_count c.args.bytes.now) c.read_below-2.result c.read_below-2.new.found (walk (pages_of c.args.head.now.length c.args.bytes.now) (page_count c.args.bytes.now) (c.args.left - 1)) c.in_ok-page.page.last l.now (c.read_below-2.ensures.walked l.now l.shown))
+    subst (λ (r : Result Seen TreeFault). WalkGives c.args.head.now.length (page_count c.args.bytes.now) c.read_below-2.result c.read_below-2.new.found r) (sym rest) (gives_last c.args.head.now.length (page_count c.args.bytes.now) c.read_below-2.result c.read_below-2.new.found (walk (pages_of c.args.head.now.length c.args.bytes.now) (page_count c.args.bytes.now) (c.args.left - 1)) c.in_ok-page.page.last l.now (c.read_below-2.ensures.walked l.now l.shown))
 
 pub take_leaf-requires : goal.take_leaf-requires
 take_leaf-requires t c = record { alike = (c.args.head.now.length, c.args.head.now.short_key, c.requires.alike, leaf_keys c.args.head.now.length c.in_ok-page.page c.in_ok-page.ensures.fits) }

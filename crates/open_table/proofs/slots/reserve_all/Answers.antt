@@ -1,6 +1,6 @@
 use Rattle.std.proofs.Common.{◌≡◌, ◌+◌, length, set, sym, subst, arith, rules, refl}
 use Rattle.row_keys.specs.Lists.{IndexState, IsAsBefore}
-use Rattle.open_table.specs.Slots.{SlotState, GoesBy, HasRoom, Along}
+use Rattle.open_table.specs.Slots.{SlotState, GoesBy, HasRoomForPair, Along}
 use Rattle.open_table.proofs.SlotLemmas.{turned, taken, ended, ended_early, room_turned, both_same}
 use Rattle.open_table.proofs.slots.reserve_all.Goals as goal
 
@@ -13,7 +13,7 @@ as_before a = record { same = record { number = refl; parts = refl; text = refl 
 pub loop-slot-preserved : goal.loop-slot-preserved
 loop-slot-preserved g c = record {
   same = turned (GoesBy IsAsBefore) c.args.slots.now.items c.loop-slot.slot-items c.loop-slot.slot-index c.slot-item.result c.reserve.new.self c.loop-slot.invariant.same (omega arith) c.in_ok-reserve.ensures.same;
-  room = room_turned (HasRoom c.args.list.now) c.loop-slot.slot-items c.loop-slot.slot-index c.reserve.new.self c.loop-slot.invariant.room (omega arith) c.in_ok-reserve.ensures.ok;
+  room = room_turned (HasRoomForPair c.args.list.now) c.loop-slot.slot-items c.loop-slot.slot-index c.reserve.new.self c.loop-slot.invariant.room (omega arith) c.in_ok-reserve.ensures.ok;
 }
 
 pub returns-in_err-reserve-clause-same : goal.returns-in_err-reserve-clause-same

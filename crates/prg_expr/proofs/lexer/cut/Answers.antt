@@ -1,7 +1,7 @@
 use Rattle.std.proofs.Common.{arith, ap, sym, subst, ◌∙◌, ◌≡◌, ◌∷◌, [], length}
 use Rattle.std.proofs.lemmas.List.{map_push}
 use Rattle.prg_expr.specs.Word.{word_of, words}
-use Rattle.prg_expr.specs.Scanning.{Found, word_at}
+use Rattle.prg_expr.specs.Scanning.{FoundWord, word_at}
 use Rattle.prg_expr.proofs.Takes.{word_shorter}
 use Rattle.prg_expr.proofs.Scan.{SoFar, starts, skips, takes, ends, stops, no_length}
 use Rattle.prg_expr.proofs.lexer.cut.Goals as goal
@@ -22,7 +22,7 @@ returns-then-is_comment c =
 pub loop-b-smaller : goal.loop-b-smaller
 loop-b-smaller c =
     let lt = word_shorter c.in-Some.b.now c.in-Some.after.now (sym c.is_blank.ensures ∙ c.if-is_blank.false) (sym c.is_comment.ensures ∙ c.if-is_comment.false) in
-    let len : length c.word_at-found.result.rest.now ≡ length (word_at c.in-Some.b.now c.in-Some.after.now).2 = ap (λ (x : Found). length x.2) c.word_at-found.ensures in
+    let len : length c.word_at-found.result.rest.now ≡ length (word_at c.in-Some.b.now c.in-Some.after.now).2 = ap (λ (x : FoundWord). length x.2) c.word_at-found.ensures in
     omega (arith, lt, len, c.in-Some.ensures.cases)
 
 pub loop-b-preserved : goal.loop-b-preserved

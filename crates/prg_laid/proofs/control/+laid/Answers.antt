@@ -1,6 +1,6 @@
 use Rattle.std.proofs.Common.{rules, [], Option, sym, ap, ◌∙◌, subst, option_map}
 use Rattle.prg_expr.specs.Tree.{tree_of}
-use Rattle.prg_parser.specs.Commands.{Cmd, Part, commands_of, cases_of, part_of, form_of}
+use Rattle.prg_parser.specs.Commands.{Cmd, Part, commands_of, cases_of, part_of, form_command}
 use Rattle.prg_parser.specs.declared.command.Branch.{Branch}
 use Rattle.laid_lines.specs.Acts.{names_of}
 use Rattle.prg_laid.specs.Commands.{Laid, LaidAll, LaidPart, absent, either_way}
@@ -24,20 +24,20 @@ all-returns t c =
 pub block-returns-in_ok-other-in-If : goal.block-returns-in_ok-other-in-If
 block-returns-in_ok-other-in-If t c = λ n.
     way_as c.or.ensures
-    (subst (λ (x : Cmd). Laid (laying c.args.l.now) c.args.leaps [] c.args.place x (either_way c.in_ok-part-in-If.part.way c.in_ok-other-in-If.other)) (sym (ap (λ f. form_of f n) c.in-If.is ∙ form_if c.in-If.condition c.in-If.then c.in-If.branch c.in-If.end n))
+    (subst (λ (x : Cmd). Laid (laying c.args.l.now) c.args.leaps [] c.args.place x (either_way c.in_ok-part-in-If.part.way c.in_ok-other-in-If.other)) (sym (ap (λ f. form_command f n) c.in-If.is ∙ form_if c.in-If.condition c.in-If.then c.in-If.branch c.in-If.end n))
     (if_laid (laying c.args.l.now) c.args.leaps c.args.place n c.in-If.end (tree_of c.in-If.condition) c.in_ok-test-in-If.test c.in-If.then.items c.deref.result.now c.in-If.branch c.is_none.result c.in_ok-part-in-If.part c.in_ok-other-in-If.other
     c.deref.ensures.value c.in_ok-test-in-If.ensures c.in_ok-part-in-If.ensures c.is_none.ensures c.in_ok-other-in-If.ensures.told c.in_ok-other-in-If.ensures.laid))
 
 pub block-returns-in_ok-other-in-DoCase : goal.block-returns-in_ok-other-in-DoCase
 block-returns-in_ok-other-in-DoCase t c = λ n.
     way_as c.or-in-DoCase.ensures
-    (subst (λ (x : Cmd). Laid (laying c.args.l.now) c.args.leaps [] c.args.place x (either_way c.in_ok-part-in-DoCase.part.way c.in_ok-other-in-DoCase.other)) (sym (ap (λ f. form_of f n) c.in-DoCase.is ∙ form_do_case c.in-DoCase.cases c.in-DoCase.branch c.in-DoCase.end n))
+    (subst (λ (x : Cmd). Laid (laying c.args.l.now) c.args.leaps [] c.args.place x (either_way c.in_ok-part-in-DoCase.part.way c.in_ok-other-in-DoCase.other)) (sym (ap (λ f. form_command f n) c.in-DoCase.is ∙ form_do_case c.in-DoCase.cases c.in-DoCase.branch c.in-DoCase.end n))
     (case_laid (laying c.args.l.now) c.args.leaps c.args.place n c.in-DoCase.end c.in-DoCase.cases.items c.deref-in-DoCase.result.now c.in-DoCase.branch c.is_none-in-DoCase.result c.in_ok-part-in-DoCase.part c.in_ok-other-in-DoCase.other
     c.deref-in-DoCase.ensures.value c.in_ok-part-in-DoCase.ensures c.is_none-in-DoCase.ensures c.in_ok-other-in-DoCase.ensures.told c.in_ok-other-in-DoCase.ensures.laid))
 
 pub block-returns-in-Scan : goal.block-returns-in-Scan
 block-returns-in-Scan t c = on_done c.scanned.result (λ w h n.
-    subst (λ (x : Cmd). Laid (laying c.args.l.now) c.args.leaps [] c.args.place x w) (sym (ap (λ f. form_of f n) c.in-Scan.is ∙ form_scan c.in-Scan.condition c.in-Scan.body c.in-Scan.end n ∙ ap (λ xs. Rattle.prg_parser.specs.Commands.Scan n (option_map tree_of c.in-Scan.condition) (commands_of xs) c.in-Scan.end) (sym c.deref-in-Scan.ensures.value)))
+    subst (λ (x : Cmd). Laid (laying c.args.l.now) c.args.leaps [] c.args.place x w) (sym (ap (λ f. form_command f n) c.in-Scan.is ∙ form_scan c.in-Scan.condition c.in-Scan.body c.in-Scan.end n ∙ ap (λ xs. Rattle.prg_parser.specs.Commands.Scan n (option_map tree_of c.in-Scan.condition) (commands_of xs) c.in-Scan.end) (sym c.deref-in-Scan.ensures.value)))
     (h c.args.leaps n c.in-Scan.end)) c.scanned.ensures
 
 pub chain-loop-number-preserved : goal.chain-loop-number-preserved

@@ -5,7 +5,7 @@ use Rattle.prg_laid.proofs.judging.known_places.Given as goal
 
 abbrev pub invariant-loop-place : goal.invariant-loop-place
 invariant-loop-place l = record {
-  many : length l.known.items ≡ l.place;
+  many : length l.known ≡ l.place;
   incoming : l.incoming ≡ incoming_at l.code l.place;
-  are : AreKnown l.code l.known.items;
+  are : AreKnown l.code l.known;
 }

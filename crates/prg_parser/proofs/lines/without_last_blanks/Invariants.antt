@@ -1,9 +1,9 @@
 use Rattle.std.proofs.Common.{◌≡◌, length, reverse}
-use Rattle.prg_parser.specs.Lines.{without_blanks}
+use Rattle.prg_parser.specs.Lines.{without_indent}
 use Rattle.prg_parser.proofs.lines.without_last_blanks.Given as goal
 
 abbrev pub invariant-loop-text : goal.invariant-loop-text
-invariant-loop-text l = without_blanks (reverse l.text) ≡ without_blanks (reverse l.line)
+invariant-loop-text l = without_indent (reverse l.text) ≡ without_indent (reverse l.line)
 
 abbrev pub decreases-loop-text : goal.decreases-loop-text
 decreases-loop-text l = length l.text

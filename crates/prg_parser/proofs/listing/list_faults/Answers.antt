@@ -5,14 +5,14 @@ use Rattle.prg_expr.specs.declared.fault.ParseFaultKind.{ParseFaultKind}
 use Rattle.prg_expr.specs.declared.fault.ParseFault.{ParseFault}
 use Rattle.prg_line.specs.declared.role.Role.TheVariants.{Nothing}
 use Rattle.prg_parser.specs.declared.blocks.Part.{Part}
-use Rattle.prg_parser.specs.declared.judging.Mark.{Mark}
+use Rattle.prg_parser.specs.declared.judging.LineMark.{LineMark}
 use Rattle.prg_parser.specs.Listing as spec
 use Rattle.prg_parser.proofs.ListingLemmas.{lines_step, open_step, both_end, behind_rise}
 use Rattle.prg_parser.proofs.listing.list_faults.Goals as goal
 
 pub loop-mark-preserved : goal.loop-mark-preserved
 loop-mark-preserved c =
-    let d : Mark = record { line = 0; role = Nothing; fault = None } in
+    let d : LineMark = record { line = 0; role = Nothing; fault = None } in
     let marks = c.args.marks.now in
     let i = c.loop-mark.mark-index in
     let m = get_or marks i d in
@@ -24,8 +24,8 @@ loop-mark-preserved c =
     let wrong : c.least-kind.result ≡ spec.wrong_at parts deeper m = c.least-kind.ensures ∙ ap (λ (o : Option ParseFaultKind). least m.fault o) place in
     let behind : c.deeper_behind-behind.result ≡ spec.deeper_behind parts deeper m.role =
     c.deeper_behind-behind.ensures ∙ ap (λ (p : List Part). spec.deeper_behind p deeper m.role) c.deref-in-loop-mark-2.ensures.0 in
-    let told : c.list.new.faults.items ≡ c.loop-mark.faults.items ++ spec.listed m.line (spec.wrong_at parts deeper m) =
-    c.in_ok-list.ensures ∙ ap (λ (o : Option ParseFaultKind). c.loop-mark.faults.items ++ spec.listed m.line o) wrong in
+    let told : c.list.new.faults.items ≡ c.loop-mark.faults.items ++ spec.listed_fault m.line (spec.wrong_at parts deeper m) =
+    c.in_ok-list.ensures ∙ ap (λ (o : Option ParseFaultKind). c.loop-mark.faults.items ++ spec.listed_fault m.line o) wrong in
     let blocked : c.list_before.new.faults.items ≡ c.loop-mark.unended.items ++ spec.unended_before parts m.role =
     c.in_ok-list_before.ensures ∙ ap (λ (p : List Part). c.loop-mark.unended.items ++ spec.unended_before p m.role) c.deref-in-loop-mark.ensures.0 in
     record {

@@ -7,17 +7,15 @@ use Rattle.prg_parser.specs.Lines.{before_end}
 use Rattle.prg_parser.specs.Listing.{all_faults}
 use Rattle.prg_parser.specs.Marks.{marks}
 use Rattle.prg_parser.specs.Verdict.{IsLineOf}
-use Rattle.prg_parser.specs.declared.judging.Mark.{Mark}
+use Rattle.prg_parser.specs.declared.judging.LineMark.{LineMark}
 use Rattle.text_lines.specs.Lines.{lines}
 use Rattle.prg_parser.proofs.ListingLemmas.{first_told}
-use Rattle.prg_parser.proofs.MarkLemmas.{all_marks}
 use Rattle.prg_parser.proofs.RangeLemmas.{names_lines}
 use Rattle.prg_parser.proofs.parsing.line_faults.Goals as goal
 
 pub returns-clause-all : goal.returns-clause-all
 returns-clause-all c =
-    let same = all_marks c.args.bytes.now c.in_ok-lines.lines.items c.deref.result.now c.in_ok-marks.field-0.marks.items c.in_ok-lines.ensures c.deref.ensures.value c.in_ok-marks.ensures.marks in
-    IfOk-weaker c.list_faults.result _ _ (λ faults e. e ∙ ap (λ (ms : List Mark). all_faults ms) (c.deref-2.ensures.value ∙ same)) c.list_faults.ensures
+    IfOk-weaker c.list_faults.result _ _ (λ faults e. e ∙ ap (λ (ms : List LineMark). all_faults ms) (c.deref.ensures.value ∙ c.in_ok-marks.ensures)) c.list_faults.ensures
 
 pub returns-clause-told : goal.returns-clause-told
 returns-clause-told c =

@@ -1,39 +1,32 @@
-use Rattle.std.proofs.Common.{◌∙◌, ap, sym, map, List, [], None}
-use Rattle.prg_parser.specs.declared.judging.Mark.{Mark}
+use Rattle.std.proofs.Common.{◌≡◌, ◌∙◌, sym, None, []}
+use Rattle.std.proofs.lemmas.Result.{IfOk-weaker, IfErr-weaker}
+use Rattle.prg_parser.specs.Marks.{marks}
 use Rattle.prg_parser.specs.Verdict.{verdict}
-use Rattle.prg_parser.proofs.RangeLemmas.{names_line}
-use Rattle.prg_parser.proofs.FileLemmas.{roles_agree, is_program, not_refused}
-use Rattle.prg_parser.proofs.MarkLemmas.{all_marks, all_sayings}
-use Rattle.prg_line.specs.Saying.{saying_of}
+use Rattle.prg_parser.proofs.HalfReadLemmas.{tells_end}
+use Rattle.prg_parser.proofs.ParseLemmas as by
 use Rattle.prg_parser.proofs.parsing.parse.Goals as goal
 
-pub returns-in-Some-clause-told : goal.returns-in-Some-clause-told
-returns-in-Some-clause-told c =
-    let same = all_marks c.args.bytes.now c.in_ok-lines.lines.items c.deref.result.now c.in_ok-marks.field-0.marks.items c.in_ok-lines.ensures c.deref.ensures.value c.in_ok-marks.ensures.marks in
-    ap (λ (ms : List Mark). verdict [] None ms) (sym same ∙ sym c.deref-2.ensures.value) ∙ sym c.judge.ensures ∙ c.in-Some.is
+pub returns-in-Ok-clause-told : goal.returns-in-Ok-clause-told
+returns-in-Ok-clause-told c =
+    IfErr-weaker c.finished.result _ _ (λ e h. tells_end (verdict [] None (marks c.args.bytes.now)) c.in-Ok.half.parts.items c.in-Ok.half.unended e c.in-Ok.ensures.read.fault h) c.finished.ensures.told
 
-pub returns-in-Some-clause-named : goal.returns-in-Some-clause-named
-returns-in-Some-clause-named c = names_line c.args.bytes.now c.in-Some.fault (returns-in-Some-clause-told c)
+pub returns-in-Ok-clause-named : goal.returns-in-Ok-clause-named
+returns-in-Ok-clause-named c = IfErr-weaker c.finished.result _ _ (λ e h. by.named c.args.bytes.now e h) (returns-in-Ok-clause-told c)
 
-pub returns-clause-faultless : goal.returns-clause-faultless
-returns-clause-faultless c =
-    let same = all_marks c.args.bytes.now c.in_ok-lines.lines.items c.deref.result.now c.in_ok-marks.field-0.marks.items c.in_ok-lines.ensures c.deref.ensures.value c.in_ok-marks.ensures.marks in
-    ap (λ (ms : List Mark). verdict [] None ms) (sym same ∙ sym c.deref-2.ensures.value) ∙ sym c.judge.ensures ∙ c.in-None.is
+pub returns-in-Ok-clause-refused : goal.returns-in-Ok-clause-refused
+returns-in-Ok-clause-refused c =
+    IfErr-weaker c.finished.result _ _ (λ e h. by.refused c.lines_are_read.ensures.placed c.lines_are_read.ensures.complete c.args.bytes.now e h) (returns-in-Ok-clause-told c)
 
-pub returns-clause-spelled : goal.returns-clause-spelled
-returns-clause-spelled c =
-    let bytes = c.args.bytes.now in
-    let ls = c.in_ok-lines.lines.items in
-    let ms = c.in_ok-marks.field-0.marks.items in
-    let ss = c.in_ok-marks.field-0.sentences.items in
-    let placed = c.lines_are_read.ensures.placed in
-    let same = all_marks bytes ls c.deref.result.now ms c.in_ok-lines.ensures c.deref.ensures.value c.in_ok-marks.ensures.marks in
-    let says = all_sayings bytes ls c.deref.result.now (map saying_of ss) c.in_ok-lines.ensures c.deref.ensures.value c.in_ok-marks.ensures.sayings in
-    let none = returns-clause-faultless c in
-    let lent = c.deref-in-None.ensures.value ∙ same in
-    let built = c.in_ok-build-in-None.ensures.laid_out (ap (λ (l : List Mark). verdict [] None l) lent ∙ none) (roles_agree placed bytes c.deref-in-None.result.now ss lent says none) in
-    is_program c.lines_are_read.ensures.sound placed bytes c.deref-in-None.result.now ss c.in_ok-build-in-None.field-0 lent says none c.in_ok-build-in-None.ensures.unnamed built
+pub returns-in-Ok-clause-faultless : goal.returns-in-Ok-clause-faultless
+returns-in-Ok-clause-faultless c =
+    IfOk-weaker c.finished.result _ _ (λ p e. by.faultless c.args.bytes.now c.in-Ok.half.parts.items c.in-Ok.half.unended c.in-Ok.half.builder p c.in-Ok.ensures.read e) c.finished.ensures.whole
 
-pub returns-in-Some-clause-refused : goal.returns-in-Some-clause-refused
-returns-in-Some-clause-refused c =
-    not_refused c.lines_are_read.ensures.placed c.lines_are_read.ensures.complete c.args.bytes.now c.in-Some.fault (returns-in-Some-clause-told c)
+pub returns-in-Ok-clause-spelled : goal.returns-in-Ok-clause-spelled
+returns-in-Ok-clause-spelled c =
+    IfOk-weaker c.finished.result _ _ (λ p e. by.spelled c.lines_are_read.ensures.sound c.lines_are_read.ensures.placed c.args.bytes.now c.in-Ok.half.parts.items c.in-Ok.half.unended c.in-Ok.half.builder p c.in-Ok.ensures.read e) c.finished.ensures.whole
+
+pub returns-in-Err-clause-named : goal.returns-in-Err-clause-named
+returns-in-Err-clause-named c = by.named c.args.bytes.now c.in-Err.refusal c.in-Err.ensures.told
+
+pub returns-in-Err-clause-refused : goal.returns-in-Err-clause-refused
+returns-in-Err-clause-refused c = by.refused c.lines_are_read.ensures.placed c.lines_are_read.ensures.complete c.args.bytes.now c.in-Err.refusal c.in-Err.ensures.told

@@ -3,7 +3,7 @@ use Rattle.std.specs.Fn.{FnReturnsAt}
 use Rattle.code_items.specs.declared.instr.MoveInstr.TheVariants.{Top, Bottom, Skip, Seek}
 use Rattle.open_table.specs.Open.{landed}
 use Rattle.work_area.specs.Calls.{top_of, bottom_of, skip_of, seek_of}
-use Rattle.run_steps.specs.Effects.{whole_of}
+use Rattle.run_steps.specs.Effects.{whole_on_top}
 use Rattle.run_steps.proofs.Walks.{walks_here, goes_here}
 use Rattle.run_steps.proofs.on_moves.walk.Goals as goal
 
@@ -19,7 +19,7 @@ returns-in-Bottom g c =
 
 pub returns-in-Skip : goal.returns-in-Skip
 returns-in-Skip g c =
-    rw c.in-Skip.is (walks_here (FnReturnsAt g.F.Fn) c.args.see Skip c.args.given.now c.args.exact c.args.left (skip_of (whole_of c.args.given.now)) c.args.store.now c.skip.new.store c.skip.result c.settled-in-Skip.result
+    rw c.in-Skip.is (walks_here (FnReturnsAt g.F.Fn) c.args.see Skip c.args.given.now c.args.exact c.args.left (skip_of (whole_on_top c.args.given.now)) c.args.store.now c.skip.new.store c.skip.result c.settled-in-Skip.result
     (λ o shown. refl) (λ o shown. refl) c.skip.ensures c.settled-in-Skip.ensures)
 
 pub returns-in-Seek : goal.returns-in-Seek

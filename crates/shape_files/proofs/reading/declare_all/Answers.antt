@@ -6,7 +6,7 @@ use Rattle.std.proofs.lemmas.Result.{err_from_is_err_and}
 use Rattle.shape.specs.declared.whole.Shape.{Shape}
 use Rattle.shape.specs.Whole.{is_shape}
 use Rattle.text_lines.specs.Lines.{lines}
-use Rattle.shape_files.specs.Lines.{said}
+use Rattle.shape_files.specs.Lines.{said_in_line}
 use Rattle.shape_files.specs.Shapes.{shape_of}
 use Rattle.shape_files.proofs.FileLemmas.{Passed, same_self, same_then, declares_before, no_lines, none_passed, one_passed, all_passed, line_told}
 use Rattle.shape_files.proofs.ShapeLemmas.{nothing_legal}
@@ -39,7 +39,7 @@ loop-rest-preserved g c =
       room = omega (arith, i.room, c.first_line.ensures.shorter);
       passed =
           one_passed first (lines c.args.bytes.now) (lines c.loop-rest.rest.now) (lines c.first_line.result.1.now) text c.loop-rest.line before after c.first_line.ensures.first i.passed
-          (declares_before first now (said text) before after i.kept c.in_ok-declare_at.ensures.declared);
+          (declares_before first now (said_in_line text) before after i.kept c.in_ok-declare_at.ensures.declared);
     }
 
 pub returns-in_err-declare_at-clause-refused : goal.returns-in_err-declare_at-clause-refused

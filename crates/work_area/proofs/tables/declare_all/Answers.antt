@@ -4,7 +4,7 @@ use Rattle.std.proofs.lemmas.List.{get_or_default, get_or-set_other, length-set}
 use Rattle.key_lists.specs.Pairs.{Pair}
 use Rattle.shape.specs.declared.indexes.IndexShape.{IndexShape}
 use Rattle.open_table.specs.Open.{OpenState}
-use Rattle.work_area.specs.Making.{AreNewTables, AreReady, Declares, form_of, lists_just}
+use Rattle.work_area.specs.Making.{AreNewTables, AreReady, Declares, key_form, lists_just}
 use Rattle.work_area.proofs.MakingLemmas.{index_declared, still_ready}
 use Rattle.work_area.proofs.tables.declare_all.Goals as goal
 
@@ -21,7 +21,7 @@ pub declare-requires-clause-form : goal.declare-requires-clause-form
 declare-requires-clause-form g c = λ x s there is.
     let n = c.loop-n.n in
     let list = taken c.loop-n.keys.items c.args.keys.items n c.take-list.result c.index_mut.result.now (omega (arith, c.loop-n.invariant.count, c.len-n-end.ensures, c.loop-n-test.true)) c.take-list.ensures.value c.index_mut.ensures.value (c.loop-n.invariant.later n (omega arith)) in
-    subst (λ o. IfSome o (λ k. g.K.KeyList.form k ≡ form_of s x)) (sym list) (c.requires.lists.formed n x s there is)
+    subst (λ o. IfSome o (λ k. g.K.KeyList.form k ≡ key_form s x)) (sym list) (c.requires.lists.formed n x s there is)
 
 pub loop-n-preserved : goal.loop-n-preserved
 loop-n-preserved g c =

@@ -2,7 +2,7 @@ use Rattle.std.proofs.Common.{subst, Result, Ok, Err, List, ℕ, arith}
 use Rattle.std.specs.Prelude.{IfOk}
 use Rattle.code_items.specs.declared.code.Code.{Code}
 use Rattle.xcode.specs.declared.fault.CodeFault.{CodeFault}
-use Rattle.xcode.specs.Decoding.{Gives, code_at}
+use Rattle.xcode.specs.Decoding.{FileGives, code_at}
 use Rattle.xcode.specs.CodeFile.{CodeText}
 use Rattle.code_parts.specs.Laws.{AreBytes}
 use Rattle.xcode.proofs.CodeLaws.{ItemLaws}
@@ -10,7 +10,7 @@ use Rattle.xcode.proofs.FileLaws.{code_found}
 use Rattle.xcode.proofs.AgainLaws.{code_only}
 use Rattle.xcode.proofs.decoding.decode.Goals as goal
 
-found_in : ItemLaws → (bytes : List ℕ) (r : Result Code CodeFault) → AreBytes bytes → Gives (λ x. x) r (code_at bytes) → IfOk r (λ code. CodeText bytes code)
+found_in : ItemLaws → (bytes : List ℕ) (r : Result Code CodeFault) → AreBytes bytes → FileGives (λ x. x) r (code_at bytes) → IfOk r (λ code. CodeText bytes code)
 found_in laws bytes (Ok code) fit h = code_found laws bytes code fit h
 found_in laws bytes (Err e) fit h = tt
 
@@ -42,4 +42,4 @@ returns-clause-only c = λ code text.
       maps = c.procedures_and_maps_are_spelled.ensures.maps;
       instructions = c.instructions_are_spelled.ensures;
     } in
-    subst (λ (read : Result Code CodeFault). Gives (λ x. x) c.code_of.result read) (code_only laws c.args.bytes.now code text) c.code_of.ensures
+    subst (λ (read : Result Code CodeFault). FileGives (λ x. x) c.code_of.result read) (code_only laws c.args.bytes.now code text) c.code_of.ensures

@@ -3,7 +3,7 @@ use Rattle.std.proofs.lemmas.Bool.{eqb-true, eqb-false}
 use Rattle.std.proofs.lemmas.List.{nil_from_length}
 use Rattle.key_lists.specs.Pairs.{Pair}
 use Rattle.key_lists.specs.Rising.{first_from, place_of, IsRising}
-use Rattle.ndx_tree.specs.Pages.{PageView, pairs_of, joined, IsChild}
+use Rattle.ndx_tree.specs.Pages.{PageView, pairs_of, pairs_of_pages, IsChild}
 use Rattle.ndx_tree.proofs.Cut.{pairs_from, cut_from}
 use Rattle.ndx_tree.proofs.Search.{first_at_place, none_at_place, first_in_child}
 use Rattle.ndx_tree.proofs.Cut.{entries_rising}
@@ -51,10 +51,10 @@ returns-clause-found t c =
     let is : c.index.result.now ≡ get_or c.self.inside.children.items c.place-at.result c.index.result.now = c.index.ensures in
     let one : IsChild child.2.0 c.self.inside.most c.index.result.now = subst (IsChild child.2.0 c.self.inside.most) (sym is) child.2.2 in
     let height : c.args.self.now.height ≡ c.index.result.now.height + 1 = sym (ap (λ (v : PageView). v.height) c.self.view_is) ∙ child.2.1 ∙ ap (λ k. k + 1) (sym one.level) in
-    let joins : c.args.self.now.pairs ≡ joined c.self.inside.children.items = sym (ap (λ (v : PageView). v.pairs) c.self.view_is) ∙ pairs_from c.self.inside.entries.items c.self.inside.children.items some in
+    let joins : c.args.self.now.pairs ≡ pairs_of_pages c.self.inside.children.items = sym (ap (λ (v : PageView). v.pairs) c.self.view_is) ∙ pairs_from c.self.inside.entries.items c.self.inside.children.items some in
     let x : Pair = (c.args.key.now, c.args.number) in
     let d = c.index.result.now in
-    let rising : IsRising (joined c.self.inside.children.items) = subst IsRising (pairs_from c.self.inside.entries.items c.self.inside.children.items some) c.self.invariant.0.rising in
+    let rising : IsRising (pairs_of_pages c.self.inside.children.items) = subst IsRising (pairs_from c.self.inside.entries.items c.self.inside.children.items some) c.self.invariant.0.rising in
     let there : d ≡ get_or c.self.inside.children.items (place_of x c.self.inside.entries.items) d = is ∙ ap (λ i. get_or c.self.inside.children.items i d) placed in
     c.first_from.ensures.found ∙ ap (λ (v : PageView). first_from x v.pairs) there ∙ sym (first_in_child x c.self.inside.entries.items c.self.inside.children.items d (cut_from c.self.inside.most c.self.inside.entries.items c.self.inside.children.items c.self.invariant.0.framed some) rising) ∙ ap (first_from x) (sym joins)
 

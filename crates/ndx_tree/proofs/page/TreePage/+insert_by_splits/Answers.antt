@@ -4,7 +4,7 @@ use Rattle.std.proofs.lemmas.List.{nil_from_length}
 use Rattle.std.proofs.lemmas.List.Edits.{length-insert}
 use Rattle.key_lists.specs.Pairs.{Pair}
 use Rattle.ndx_tree.specs.Blanks.{IsPool}
-use Rattle.ndx_tree.specs.Pages.{PageView, IsPage}
+use Rattle.ndx_tree.specs.Pages.{PageView, IsFramedPage}
 use Rattle.ndx_tree.proofs.Cut.{entries_rising}
 use Rattle.ndx_tree.proofs.Take.{leaf_takes, placed_child, child_grows, child_parts, done_inserts, split_inserts, absent_within, child_ready}
 use Rattle.ndx_tree.proofs.Keyed.{page_keyed, below_keyed, parted_keyed, entries_room, most_is, put_keyed}
@@ -33,7 +33,7 @@ split_leaf-requires-clause-parts t c =
     let placed = c.place_for-at.ensures.value in
     let takes = leaf_takes c.self.inside.most c.self.inside.entries.items c.put.new.self.items c.self.inside.children.items c.args.entry c.place_for-at.result c.self.invariant.0 none (absent_within c.args.self.now _ _ _ _ c.self.view_is c.requires.absent) placed c.put.ensures.items in
     let longer : length c.put.new.self.items ≡ length c.self.inside.entries.items + 1 = ap (λ (m : List Pair). length m) c.put.ensures.items ∙ length-insert c.self.inside.entries.items c.place_for-at.result c.args.entry (omega arith) in
-    subst (IsPage c.self.inside.most c.put.new.self.items) none takes.page
+    subst (IsFramedPage c.self.inside.most c.put.new.self.items) none takes.page
 
 pub returns-then-is_empty-clause-inserts : goal.returns-then-is_empty-clause-inserts
 returns-then-is_empty-clause-inserts t c =

@@ -3,7 +3,7 @@ use Rattle.std.proofs.lemmas.Bool.{eqb-true, eqb-false}
 use Rattle.std.proofs.lemmas.List.{nil_from_length, set-get_or}
 use Rattle.std.proofs.lemmas.List.Edits.{length-insert}
 use Rattle.key_lists.specs.Pairs.{Pair}
-use Rattle.ndx_tree.specs.Pages.{PageView, IsPage, Inserts, InsertsInRoom, view_of}
+use Rattle.ndx_tree.specs.Pages.{PageView, IsFramedPage, Inserts, InsertsInRoom, view_of}
 use Rattle.ndx_tree.proofs.Cut.{entries_rising, height_of-pos}
 use Rattle.ndx_tree.proofs.Take.{leaf_takes, placed_child, child_grows, done_inserts, absent_within, child_ready}
 use Rattle.ndx_tree.proofs.Keyed.{below_keyed, entries_room, most_is}
@@ -70,7 +70,7 @@ invariant_of-self-then-not-insert_in_room t c =
     let placed = c.place_of_pair-at.ensures.value in
     let same : c.insert_in_room.new.self ≡ c.index_mut.result.now = subst (λ b. InsertsInRoom c.index_mut.result.now x c.insert_in_room.new.self b) c.if-not-insert_in_room.true c.insert_in_room.ensures in
     let all : set c.self.inside.children.items c.place_of_pair-at.result c.insert_in_room.new.self ≡ c.self.inside.children.items = ap (set c.self.inside.children.items c.place_of_pair-at.result) (same ∙ c.index_mut.ensures.value) ∙ set-get_or c.self.inside.children.items c.place_of_pair-at.result c.index_mut.result.now in
-    (subst (IsPage c.self.inside.most c.self.inside.entries.items) (sym all) c.self.invariant.0, c.self.invariant.1, c.self.invariant.2, λ _. c.self.invariant.3 some)
+    (subst (IsFramedPage c.self.inside.most c.self.inside.entries.items) (sym all) c.self.invariant.0, c.self.invariant.1, c.self.invariant.2, λ _. c.self.invariant.3 some)
 
 pub invariant_of-self-2 : goal.invariant_of-self-2
 invariant_of-self-2 t c =

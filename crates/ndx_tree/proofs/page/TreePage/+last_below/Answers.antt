@@ -3,7 +3,7 @@ use Rattle.std.specs.Prelude.{is_some}
 use Rattle.std.proofs.lemmas.Bool.{eqb-false}
 use Rattle.key_lists.specs.Pairs.{Pair}
 use Rattle.key_lists.specs.Rising.{last_below, last_of, place_of, IsRising}
-use Rattle.ndx_tree.specs.Pages.{PageView, joined, view_of, IsPage, IsChild}
+use Rattle.ndx_tree.specs.Pages.{PageView, pairs_of_pages, view_of, IsFramedPage, IsChild}
 use Rattle.ndx_tree.proofs.Cut.{pairs_from, cut_from, entries_rising}
 use Rattle.ndx_tree.proofs.Search.{below_in_child, below_at_place}
 use Rattle.ndx_tree.proofs.Take.{placed_child}
@@ -19,12 +19,12 @@ record IsInto (now : PageView) (m : ℕ) (es : List Pair) (cs : List PageView) (
   found : (t : Pair) → last_below x d.pairs ≡ Some t → last_below x now.pairs ≡ Some t
   none : last_below x d.pairs ≡ None → last_below x now.pairs ≡ last_of (take at es)
 
-into : (now : PageView) (m : ℕ) (es : List Pair) (cs : List PageView) (x : Pair) (at : ℕ) (d : PageView) → view_of m es cs ≡ now → IsPage m es cs → 0 < length cs → at ≡ place_of x es → d ≡ get_or cs at d → IsInto now m es cs x at d
+into : (now : PageView) (m : ℕ) (es : List Pair) (cs : List PageView) (x : Pair) (at : ℕ) (d : PageView) → view_of m es cs ≡ now → IsFramedPage m es cs → 0 < length cs → at ≡ place_of x es → d ≡ get_or cs at d → IsInto now m es cs x at d
 into now m es cs x at d e p some placed is =
     let child = placed_child m es cs x at d p some placed in
     let one : IsChild child.2.0 m d = subst (IsChild child.2.0 m) (sym is) child.2.2 in
-    let joins : now.pairs ≡ joined cs = sym (ap (λ (v : PageView). v.pairs) e) ∙ pairs_from es cs some in
-    let rising : IsRising (joined cs) = subst IsRising (pairs_from es cs some) p.rising in
+    let joins : now.pairs ≡ pairs_of_pages cs = sym (ap (λ (v : PageView). v.pairs) e) ∙ pairs_from es cs some in
+    let rising : IsRising (pairs_of_pages cs) = subst IsRising (pairs_from es cs some) p.rising in
     let cut = cut_from m es cs p.framed some in
     let there : d.pairs ≡ (get_or cs (place_of x es) d).pairs = ap (λ (v : PageView). v.pairs) (is ∙ ap (λ i. get_or cs i d) placed) in
     record {

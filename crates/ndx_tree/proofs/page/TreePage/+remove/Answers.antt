@@ -3,7 +3,7 @@ use Rattle.std.proofs.lemmas.Bool.{eqb-true, eqb-false}
 use Rattle.std.proofs.lemmas.List.{nil_from_length}
 use Rattle.key_lists.specs.Pairs.{Pair, is_before}
 use Rattle.key_lists.specs.Rising.{has, place_of}
-use Rattle.ndx_tree.specs.Pages.{PageView, joined, view_of, pairs_of, IsCut, Removes}
+use Rattle.ndx_tree.specs.Pages.{PageView, pairs_of_pages, view_of, pairs_of, IsCut, Removes}
 use Rattle.ndx_tree.proofs.Cut.{entries_rising}
 use Rattle.ndx_tree.proofs.Take.{placed_child}
 use Rattle.ndx_tree.proofs.Remove.{has_past, has_at_place}
@@ -155,7 +155,7 @@ refresh-requires-clause-alike t c =
     let keys : HaveKeys k es = page_keyed c.args.self.now k m es cs c.self.view_is c.self.invariant.0 c.requires.keyed.keys in
     let below = below_keyed c.args.self.now k m es cs c.place_of_pair-at.result c.index_mut.result.now c.self.view_is child.0 c.index_mut.ensures.value c.requires.keyed.keys in
     let left = lost_keyed k cs c.place_of_pair-at.result (c.args.key.now, c.args.number) c.index_mut.result.now c.remove-2.new.self (all_keyed c.args.self.now k m es cs c.self.view_is some c.requires.keyed.keys) below r in
-    (k, keys, subst (λ (l : List PageView). HaveKeys k (joined l)) (sym c.deref.ensures.value) left, entries_room m k (length es) _ (omega (arith, c.self.invariant.0.four)) fits (omega (arith, c.self.invariant.1)) c.self.invariant.2)
+    (k, keys, subst (λ (l : List PageView). HaveKeys k (pairs_of_pages l)) (sym c.deref.ensures.value) left, entries_room m k (length es) _ (omega (arith, c.self.invariant.0.four)) fits (omega (arith, c.self.invariant.1)) c.self.invariant.2)
 
 pub mend-requires-clause-keyed : goal.mend-requires-clause-keyed
 mend-requires-clause-keyed t c =

@@ -6,7 +6,7 @@ use Rattle.key_lists.specs.Order.{Each}
 use Rattle.key_lists.specs.Pairs.{Pair}
 use Rattle.key_lists.specs.KeyForm.{IsPairOf}
 use Rattle.ndx_tree.specs.IndexFile.{leaf_pairs}
-use Rattle.ndx_tree.specs.Pages.{PageView, view_of, pairs_of, IsPage, joined, height_of}
+use Rattle.ndx_tree.specs.Pages.{PageView, view_of, pairs_of, IsFramedPage, pairs_of_pages, height_of}
 use Rattle.ndx_tree.specs.Writes.{AreWritten, IsWritten, IsPageText}
 use Rattle.ndx_tree.proofs.Cut.{cut_length, cut_from, pairs_from}
 use Rattle.ndx_tree.proofs.Between.{take_next}
@@ -61,7 +61,7 @@ loop-at-init t c =
     let cs = c.as_slice-children.result.now in
     let some : 0 < length cs = omega (arith, c.as_slice-children.ensures.len, eqb-false _ 0 (sym c.is_empty.ensures ∙ c.if-is_empty.false)) in
     let view : view_of c.self.inside.most es cs ≡ c.args.self.now = ap (view_of c.self.inside.most c.self.inside.entries.items) c.as_slice-children.ensures.value ∙ c.self.view_is in
-    let page : IsPage c.self.inside.most es cs = subst (IsPage c.self.inside.most c.self.inside.entries.items) (sym c.as_slice-children.ensures.value) c.self.invariant.0 in
+    let page : IsFramedPage c.self.inside.most es cs = subst (IsFramedPage c.self.inside.most c.self.inside.entries.items) (sym c.as_slice-children.ensures.value) c.self.invariant.0 in
     let more : length cs ≡ length es + 1 = cut_length es cs (cut_from c.self.inside.most es cs page.framed some) in
     record {
       written = subst (λ (m : List PageEntry). AreWritten c.args.head.now.length (c.args.self.now.height - 1) c.args.pages c.args.pages c.args.body.now.items m []) (sym c.new.ensures) (none_written c.args.head.now.length (c.args.self.now.height - 1) c.args.pages c.args.body.now.items);
@@ -78,7 +78,7 @@ bounds-children-at t c =
     let cs = c.as_slice-children.result.now in
     let some : 0 < length cs = omega (arith, c.as_slice-children.ensures.len, eqb-false _ 0 (sym c.is_empty.ensures ∙ c.if-is_empty.false)) in
     let view : view_of c.self.inside.most es cs ≡ c.args.self.now = ap (view_of c.self.inside.most c.self.inside.entries.items) c.as_slice-children.ensures.value ∙ c.self.view_is in
-    let page : IsPage c.self.inside.most es cs = subst (IsPage c.self.inside.most c.self.inside.entries.items) (sym c.as_slice-children.ensures.value) c.self.invariant.0 in
+    let page : IsFramedPage c.self.inside.most es cs = subst (IsFramedPage c.self.inside.most c.self.inside.entries.items) (sym c.as_slice-children.ensures.value) c.self.invariant.0 in
     let more : length cs ≡ length es + 1 = cut_length es cs (cut_from c.self.inside.most es cs page.framed some) in
     omega (arith, more)
 
@@ -88,7 +88,7 @@ write-requires t c =
     let cs = c.as_slice-children.result.now in
     let some : 0 < length cs = omega (arith, c.as_slice-children.ensures.len, eqb-false _ 0 (sym c.is_empty.ensures ∙ c.if-is_empty.false)) in
     let view : view_of c.self.inside.most es cs ≡ c.args.self.now = ap (view_of c.self.inside.most c.self.inside.entries.items) c.as_slice-children.ensures.value ∙ c.self.view_is in
-    let page : IsPage c.self.inside.most es cs = subst (IsPage c.self.inside.most c.self.inside.entries.items) (sym c.as_slice-children.ensures.value) c.self.invariant.0 in
+    let page : IsFramedPage c.self.inside.most es cs = subst (IsFramedPage c.self.inside.most c.self.inside.entries.items) (sym c.as_slice-children.ensures.value) c.self.invariant.0 in
     let more : length cs ≡ length es + 1 = cut_length es cs (cut_from c.self.inside.most es cs page.framed some) in
     let q = child_at_place c.args.head.now.length c.self.inside.most c.args.self.now es cs c.loop-at.at c.index-children-at.result view page c.requires.keys (omega (arith, more)) c.index-children-at.is in
     (omega (arith, c.decreases, q.level), (λ _. q.some, (q.most ∙ c.requires.most, (q.keys, (omega (arith, c.loop-at.invariant.few, q.fits, c.requires.room), (omega (arith, c.loop-at.invariant.few, q.fits, q.two, c.requires.room), c.loop-at.invariant.end))))))
@@ -99,7 +99,7 @@ push-requires t c =
     let cs = c.as_slice-children.result.now in
     let some : 0 < length cs = omega (arith, c.as_slice-children.ensures.len, eqb-false _ 0 (sym c.is_empty.ensures ∙ c.if-is_empty.false)) in
     let view : view_of c.self.inside.most es cs ≡ c.args.self.now = ap (view_of c.self.inside.most c.self.inside.entries.items) c.as_slice-children.ensures.value ∙ c.self.view_is in
-    let page : IsPage c.self.inside.most es cs = subst (IsPage c.self.inside.most c.self.inside.entries.items) (sym c.as_slice-children.ensures.value) c.self.invariant.0 in
+    let page : IsFramedPage c.self.inside.most es cs = subst (IsFramedPage c.self.inside.most c.self.inside.entries.items) (sym c.as_slice-children.ensures.value) c.self.invariant.0 in
     let more : length cs ≡ length es + 1 = cut_length es cs (cut_from c.self.inside.most es cs page.framed some) in
     let most = most_entries-bound c.args.head.now.length c.args.head.now.some_key in
     let same : c.self.inside.most ≡ c.args.self.now.most = ap (λ (v : PageView). v.most) c.self.view_is in
@@ -111,7 +111,7 @@ loop-at-preserved t c =
     let cs = c.as_slice-children.result.now in
     let some : 0 < length cs = omega (arith, c.as_slice-children.ensures.len, eqb-false _ 0 (sym c.is_empty.ensures ∙ c.if-is_empty.false)) in
     let view : view_of c.self.inside.most es cs ≡ c.args.self.now = ap (view_of c.self.inside.most c.self.inside.entries.items) c.as_slice-children.ensures.value ∙ c.self.view_is in
-    let page : IsPage c.self.inside.most es cs = subst (IsPage c.self.inside.most c.self.inside.entries.items) (sym c.as_slice-children.ensures.value) c.self.invariant.0 in
+    let page : IsFramedPage c.self.inside.most es cs = subst (IsFramedPage c.self.inside.most c.self.inside.entries.items) (sym c.as_slice-children.ensures.value) c.self.invariant.0 in
     let more : length cs ≡ length es + 1 = cut_length es cs (cut_from c.self.inside.most es cs page.framed some) in
     let q = child_at_place c.args.head.now.length c.self.inside.most c.args.self.now es cs c.loop-at.at c.index-children-at.result view page c.requires.keys (omega (arith, more)) c.index-children-at.is in
     let inv = c.loop-at.invariant in
@@ -129,7 +129,7 @@ loop-at-preserved t c =
       text = more_pages c.args.head.now.length c.args.pages c.loop-at.number c.in_ok-child.child d.count c.args.body.now.items c.loop-at.body.items c.write.new.body.items inv.text g (subst (λ m. m / 2 ≤ d.count) c.requires.most q.half);
       end = c.in_ok-child.ensures.end;
       later = omega (arith, inv.later, c.in_ok-child.ensures.later);
-      few = omega (arith, inv.few, c.in_ok-child.ensures.few q.two, ap (λ (m : List Pair). length m) q.more, length-append (joined (take c.loop-at.at cs)) d.pairs);
+      few = omega (arith, inv.few, c.in_ok-child.ensures.few q.two, ap (λ (m : List Pair). length m) q.more, length-append (pairs_of_pages (take c.loop-at.at cs)) d.pairs);
       count = ap (λ (m : List PageEntry). length m) c.push.ensures.items ∙ length-append c.loop-at.page.entries.items (c.between.result ∷ []) ∙ omega (arith, inv.count);
     }
 
@@ -139,7 +139,7 @@ bounds-children-len t c =
     let cs = c.as_slice-children.result.now in
     let some : 0 < length cs = omega (arith, c.as_slice-children.ensures.len, eqb-false _ 0 (sym c.is_empty.ensures ∙ c.if-is_empty.false)) in
     let view : view_of c.self.inside.most es cs ≡ c.args.self.now = ap (view_of c.self.inside.most c.self.inside.entries.items) c.as_slice-children.ensures.value ∙ c.self.view_is in
-    let page : IsPage c.self.inside.most es cs = subst (IsPage c.self.inside.most c.self.inside.entries.items) (sym c.as_slice-children.ensures.value) c.self.invariant.0 in
+    let page : IsFramedPage c.self.inside.most es cs = subst (IsFramedPage c.self.inside.most c.self.inside.entries.items) (sym c.as_slice-children.ensures.value) c.self.invariant.0 in
     let more : length cs ≡ length es + 1 = cut_length es cs (cut_from c.self.inside.most es cs page.framed some) in
     omega (arith, more)
 
@@ -149,13 +149,13 @@ write-requires-2 t c =
     let cs = c.as_slice-children.result.now in
     let some : 0 < length cs = omega (arith, c.as_slice-children.ensures.len, eqb-false _ 0 (sym c.is_empty.ensures ∙ c.if-is_empty.false)) in
     let view : view_of c.self.inside.most es cs ≡ c.args.self.now = ap (view_of c.self.inside.most c.self.inside.entries.items) c.as_slice-children.ensures.value ∙ c.self.view_is in
-    let page : IsPage c.self.inside.most es cs = subst (IsPage c.self.inside.most c.self.inside.entries.items) (sym c.as_slice-children.ensures.value) c.self.invariant.0 in
+    let page : IsFramedPage c.self.inside.most es cs = subst (IsFramedPage c.self.inside.most c.self.inside.entries.items) (sym c.as_slice-children.ensures.value) c.self.invariant.0 in
     let more : length cs ≡ length es + 1 = cut_length es cs (cut_from c.self.inside.most es cs page.framed some) in
     let at : c.loop-at.at ≡ length es = omega arith in
     let inv = c.loop-at.invariant in
     let d = c.index-children-len.result in
     let q = child_at_place c.args.head.now.length c.self.inside.most c.args.self.now es cs (length es) d view page c.requires.keys (omega (arith, more)) (subst (λ i. c.index-children-len.result ≡ get_or cs i c.index-children-len.result) c.len.ensures c.index-children-len.is) in
-    let few : c.loop-at.number + length es ≤ c.args.pages + length (joined (take (length es) cs)) = subst (λ n. c.loop-at.number + n ≤ c.args.pages + length (joined (take n cs))) at inv.few in
+    let few : c.loop-at.number + length es ≤ c.args.pages + length (pairs_of_pages (take (length es) cs)) = subst (λ n. c.loop-at.number + n ≤ c.args.pages + length (pairs_of_pages (take n cs))) at inv.few in
     (omega (arith, c.decreases, q.level), (λ _. q.some, (q.most ∙ c.requires.most, (q.keys, (omega (arith, few, q.fits, c.requires.room), (omega (arith, few, q.fits, q.two, c.requires.room), inv.end))))))
 
 pub append_page-requires-2-clause-room : goal.append_page-requires-2-clause-room
@@ -164,13 +164,13 @@ append_page-requires-2-clause-room t c =
     let cs = c.as_slice-children.result.now in
     let some : 0 < length cs = omega (arith, c.as_slice-children.ensures.len, eqb-false _ 0 (sym c.is_empty.ensures ∙ c.if-is_empty.false)) in
     let view : view_of c.self.inside.most es cs ≡ c.args.self.now = ap (view_of c.self.inside.most c.self.inside.entries.items) c.as_slice-children.ensures.value ∙ c.self.view_is in
-    let page : IsPage c.self.inside.most es cs = subst (IsPage c.self.inside.most c.self.inside.entries.items) (sym c.as_slice-children.ensures.value) c.self.invariant.0 in
+    let page : IsFramedPage c.self.inside.most es cs = subst (IsFramedPage c.self.inside.most c.self.inside.entries.items) (sym c.as_slice-children.ensures.value) c.self.invariant.0 in
     let more : length cs ≡ length es + 1 = cut_length es cs (cut_from c.self.inside.most es cs page.framed some) in
     let at : c.loop-at.at ≡ length es = omega arith in
     let inv = c.loop-at.invariant in
     let d = c.index-children-len.result in
     let q = child_at_place c.args.head.now.length c.self.inside.most c.args.self.now es cs (length es) d view page c.requires.keys (omega (arith, more)) (subst (λ i. c.index-children-len.result ≡ get_or cs i c.index-children-len.result) c.len.ensures c.index-children-len.is) in
-    let few : c.loop-at.number + length es ≤ c.args.pages + length (joined (take (length es) cs)) = subst (λ n. c.loop-at.number + n ≤ c.args.pages + length (joined (take n cs))) at inv.few in
+    let few : c.loop-at.number + length es ≤ c.args.pages + length (pairs_of_pages (take (length es) cs)) = subst (λ n. c.loop-at.number + n ≤ c.args.pages + length (pairs_of_pages (take n cs))) at inv.few in
     omega (arith, few, q.fits, c.requires.room, c.in_ok-page.ensures.few q.two)
 
 pub append_page-requires-2-clause-fits : goal.append_page-requires-2-clause-fits
@@ -179,13 +179,13 @@ append_page-requires-2-clause-fits t c =
     let cs = c.as_slice-children.result.now in
     let some : 0 < length cs = omega (arith, c.as_slice-children.ensures.len, eqb-false _ 0 (sym c.is_empty.ensures ∙ c.if-is_empty.false)) in
     let view : view_of c.self.inside.most es cs ≡ c.args.self.now = ap (view_of c.self.inside.most c.self.inside.entries.items) c.as_slice-children.ensures.value ∙ c.self.view_is in
-    let page : IsPage c.self.inside.most es cs = subst (IsPage c.self.inside.most c.self.inside.entries.items) (sym c.as_slice-children.ensures.value) c.self.invariant.0 in
+    let page : IsFramedPage c.self.inside.most es cs = subst (IsFramedPage c.self.inside.most c.self.inside.entries.items) (sym c.as_slice-children.ensures.value) c.self.invariant.0 in
     let more : length cs ≡ length es + 1 = cut_length es cs (cut_from c.self.inside.most es cs page.framed some) in
     let at : c.loop-at.at ≡ length es = omega arith in
     let inv = c.loop-at.invariant in
     let d = c.index-children-len.result in
     let q = child_at_place c.args.head.now.length c.self.inside.most c.args.self.now es cs (length es) d view page c.requires.keys (omega (arith, more)) (subst (λ i. c.index-children-len.result ≡ get_or cs i c.index-children-len.result) c.len.ensures c.index-children-len.is) in
-    let few : c.loop-at.number + length es ≤ c.args.pages + length (joined (take (length es) cs)) = subst (λ n. c.loop-at.number + n ≤ c.args.pages + length (joined (take n cs))) at inv.few in
+    let few : c.loop-at.number + length es ≤ c.args.pages + length (pairs_of_pages (take (length es) cs)) = subst (λ n. c.loop-at.number + n ≤ c.args.pages + length (pairs_of_pages (take n cs))) at inv.few in
     let same : c.self.inside.most ≡ c.args.self.now.most = ap (λ (v : PageView). v.most) c.self.view_is in
     inner_fits c.args.head.now.length _ inv.written.entries (omega (arith, inv.count, at, c.self.invariant.1, c.requires.most, same)) (omega (arith, c.in_ok-page.ensures.later))
 
@@ -195,17 +195,17 @@ returns-clause-written t c =
     let cs = c.as_slice-children.result.now in
     let some : 0 < length cs = omega (arith, c.as_slice-children.ensures.len, eqb-false _ 0 (sym c.is_empty.ensures ∙ c.if-is_empty.false)) in
     let view : view_of c.self.inside.most es cs ≡ c.args.self.now = ap (view_of c.self.inside.most c.self.inside.entries.items) c.as_slice-children.ensures.value ∙ c.self.view_is in
-    let page : IsPage c.self.inside.most es cs = subst (IsPage c.self.inside.most c.self.inside.entries.items) (sym c.as_slice-children.ensures.value) c.self.invariant.0 in
+    let page : IsFramedPage c.self.inside.most es cs = subst (IsFramedPage c.self.inside.most c.self.inside.entries.items) (sym c.as_slice-children.ensures.value) c.self.invariant.0 in
     let more : length cs ≡ length es + 1 = cut_length es cs (cut_from c.self.inside.most es cs page.framed some) in
     let at : c.loop-at.at ≡ length es = omega arith in
     let inv = c.loop-at.invariant in
     let d = c.index-children-len.result in
     let q = child_at_place c.args.head.now.length c.self.inside.most c.args.self.now es cs (length es) d view page c.requires.keys (omega (arith, more)) (subst (λ i. c.index-children-len.result ≡ get_or cs i c.index-children-len.result) c.len.ensures c.index-children-len.is) in
-    let few : c.loop-at.number + length es ≤ c.args.pages + length (joined (take (length es) cs)) = subst (λ n. c.loop-at.number + n ≤ c.args.pages + length (joined (take n cs))) at inv.few in
+    let few : c.loop-at.number + length es ≤ c.args.pages + length (pairs_of_pages (take (length es) cs)) = subst (λ n. c.loop-at.number + n ≤ c.args.pages + length (pairs_of_pages (take n cs))) at inv.few in
     let g = c.in_ok-page.ensures.text in
     let n = c.in_ok-page.field-0 in
     let written = subst (λ i. AreWritten c.args.head.now.length (c.args.self.now.height - 1) c.args.pages c.loop-at.number c.loop-at.body.items c.loop-at.page.entries.items (take i cs)) at inv.written in
-    let pairs : c.args.self.now.pairs ≡ joined (take (length es) cs ++ d ∷ []) = sym (ap (λ (v : PageView). v.pairs) view) ∙ pairs_from es cs some ∙ ap joined (sym (take_all (length es + 1) cs (omega (arith, more))) ∙ take_next cs (length es) d (omega (arith, more)) (subst (λ i. c.index-children-len.result ≡ get_or cs i c.index-children-len.result) c.len.ensures c.index-children-len.is)) in
+    let pairs : c.args.self.now.pairs ≡ pairs_of_pages (take (length es) cs ++ d ∷ []) = sym (ap (λ (v : PageView). v.pairs) view) ∙ pairs_from es cs some ∙ ap pairs_of_pages (sym (take_all (length es + 1) cs (omega (arith, more))) ∙ take_next cs (length es) d (omega (arith, more)) (subst (λ i. c.index-children-len.result ≡ get_or cs i c.index-children-len.result) c.len.ensures c.index-children-len.is)) in
     subst (λ m. IsWritten c.args.head.now.length c.args.pages m c.append_page-2.new.body.items c.args.self.now) (sym c.in_ok-own-2.ensures.number)
     (inner_written c.args.head.now.length (c.args.self.now.height - 1) c.args.pages c.loop-at.number n c.loop-at.body.items (pages_text c.args.head.now.length (g.pages ++ g.page ∷ [])) c.write-2.new.body.items c.append_page-2.new.body.items (take (length es) cs) d c.args.self.now _ written c.in_ok-page.ensures.written g.items (omega (arith, q.level)) inv.later c.in_ok-page.ensures.later c.in_ok-own-2.ensures.text refl (omega (arith, c.in_ok-page.ensures.end)) (omega (arith, q.level)) pairs)
 
@@ -215,13 +215,13 @@ returns-clause-text t c =
     let cs = c.as_slice-children.result.now in
     let some : 0 < length cs = omega (arith, c.as_slice-children.ensures.len, eqb-false _ 0 (sym c.is_empty.ensures ∙ c.if-is_empty.false)) in
     let view : view_of c.self.inside.most es cs ≡ c.args.self.now = ap (view_of c.self.inside.most c.self.inside.entries.items) c.as_slice-children.ensures.value ∙ c.self.view_is in
-    let page : IsPage c.self.inside.most es cs = subst (IsPage c.self.inside.most c.self.inside.entries.items) (sym c.as_slice-children.ensures.value) c.self.invariant.0 in
+    let page : IsFramedPage c.self.inside.most es cs = subst (IsFramedPage c.self.inside.most c.self.inside.entries.items) (sym c.as_slice-children.ensures.value) c.self.invariant.0 in
     let more : length cs ≡ length es + 1 = cut_length es cs (cut_from c.self.inside.most es cs page.framed some) in
     let at : c.loop-at.at ≡ length es = omega arith in
     let inv = c.loop-at.invariant in
     let d = c.index-children-len.result in
     let q = child_at_place c.args.head.now.length c.self.inside.most c.args.self.now es cs (length es) d view page c.requires.keys (omega (arith, more)) (subst (λ i. c.index-children-len.result ≡ get_or cs i c.index-children-len.result) c.len.ensures c.index-children-len.is) in
-    let few : c.loop-at.number + length es ≤ c.args.pages + length (joined (take (length es) cs)) = subst (λ n. c.loop-at.number + n ≤ c.args.pages + length (joined (take n cs))) at inv.few in
+    let few : c.loop-at.number + length es ≤ c.args.pages + length (pairs_of_pages (take (length es) cs)) = subst (λ n. c.loop-at.number + n ≤ c.args.pages + length (pairs_of_pages (take n cs))) at inv.few in
     let g = c.in_ok-page.ensures.text in
     let k = c.args.head.now.length in
     let same : c.self.inside.most ≡ c.args.self.now.most = ap (λ (v : PageView). v.most) c.self.view_is in
@@ -236,13 +236,13 @@ returns-clause-few t c =
     let cs = c.as_slice-children.result.now in
     let some : 0 < length cs = omega (arith, c.as_slice-children.ensures.len, eqb-false _ 0 (sym c.is_empty.ensures ∙ c.if-is_empty.false)) in
     let view : view_of c.self.inside.most es cs ≡ c.args.self.now = ap (view_of c.self.inside.most c.self.inside.entries.items) c.as_slice-children.ensures.value ∙ c.self.view_is in
-    let page : IsPage c.self.inside.most es cs = subst (IsPage c.self.inside.most c.self.inside.entries.items) (sym c.as_slice-children.ensures.value) c.self.invariant.0 in
+    let page : IsFramedPage c.self.inside.most es cs = subst (IsFramedPage c.self.inside.most c.self.inside.entries.items) (sym c.as_slice-children.ensures.value) c.self.invariant.0 in
     let more : length cs ≡ length es + 1 = cut_length es cs (cut_from c.self.inside.most es cs page.framed some) in
     let at : c.loop-at.at ≡ length es = omega arith in
     let inv = c.loop-at.invariant in
     let d = c.index-children-len.result in
     let q = child_at_place c.args.head.now.length c.self.inside.most c.args.self.now es cs (length es) d view page c.requires.keys (omega (arith, more)) (subst (λ i. c.index-children-len.result ≡ get_or cs i c.index-children-len.result) c.len.ensures c.index-children-len.is) in
-    let few : c.loop-at.number + length es ≤ c.args.pages + length (joined (take (length es) cs)) = subst (λ n. c.loop-at.number + n ≤ c.args.pages + length (joined (take n cs))) at inv.few in
+    let few : c.loop-at.number + length es ≤ c.args.pages + length (pairs_of_pages (take (length es) cs)) = subst (λ n. c.loop-at.number + n ≤ c.args.pages + length (pairs_of_pages (take n cs))) at inv.few in
     let count : c.args.self.now.count ≡ length es = sym (ap (λ (v : PageView). v.count) view) in
     let two : 0 < length es = subst (λ n. 0 < n) count (c.requires.inner (omega (arith, q.level, q.deep))) in
     λ _. omega (arith, few, q.fits, two, c.in_ok-page.ensures.few q.two, c.in_ok-own-2.ensures.number)
@@ -253,11 +253,11 @@ returns-clause-fits t c =
     let cs = c.as_slice-children.result.now in
     let some : 0 < length cs = omega (arith, c.as_slice-children.ensures.len, eqb-false _ 0 (sym c.is_empty.ensures ∙ c.if-is_empty.false)) in
     let view : view_of c.self.inside.most es cs ≡ c.args.self.now = ap (view_of c.self.inside.most c.self.inside.entries.items) c.as_slice-children.ensures.value ∙ c.self.view_is in
-    let page : IsPage c.self.inside.most es cs = subst (IsPage c.self.inside.most c.self.inside.entries.items) (sym c.as_slice-children.ensures.value) c.self.invariant.0 in
+    let page : IsFramedPage c.self.inside.most es cs = subst (IsFramedPage c.self.inside.most c.self.inside.entries.items) (sym c.as_slice-children.ensures.value) c.self.invariant.0 in
     let more : length cs ≡ length es + 1 = cut_length es cs (cut_from c.self.inside.most es cs page.framed some) in
     let at : c.loop-at.at ≡ length es = omega arith in
     let inv = c.loop-at.invariant in
     let d = c.index-children-len.result in
     let q = child_at_place c.args.head.now.length c.self.inside.most c.args.self.now es cs (length es) d view page c.requires.keys (omega (arith, more)) (subst (λ i. c.index-children-len.result ≡ get_or cs i c.index-children-len.result) c.len.ensures c.index-children-len.is) in
-    let few : c.loop-at.number + length es ≤ c.args.pages + length (joined (take (length es) cs)) = subst (λ n. c.loop-at.number + n ≤ c.args.pages + length (joined (take n cs))) at inv.few in
+    let few : c.loop-at.number + length es ≤ c.args.pages + length (pairs_of_pages (take (length es) cs)) = subst (λ n. c.loop-at.number + n ≤ c.args.pages + length (pairs_of_pages (take n cs))) at inv.few in
     omega (arith, few, q.fits, c.in_ok-page.ensures.few q.two, c.in_ok-own-2.ensures.number)

@@ -3,7 +3,7 @@ use Rattle.std.proofs.lemmas.Bool.{false≢true}
 use Rattle.key_lists.specs.Pairs.{Pair}
 use Rattle.key_lists.specs.Rising.{IsRising}
 use Rattle.ndx_tree.specs.IndexFile.{AreInOrder}
-use Rattle.ndx_tree.specs.Reads.{AreInside, marks}
+use Rattle.ndx_tree.specs.Reads.{AreInside, separators_at}
 use Rattle.ndx_tree.specs.declared.walk.Separator.{Separator}
 use Rattle.ndx_tree.proofs.Between.{are_inside}
 use Rattle.std.proofs.lemmas.Result.{err_from_is_err_and}
@@ -26,7 +26,7 @@ is_in_order-requires c =
     let t = c.in_ok-found.ensures.met.0 in
     let walked = c.in_ok-found.ensures.met.1 in
     let shown = c.in_ok-found.ensures.met.2 in
-    subst (λ (m : List Separator). AreInside (length c.in_ok-found.found.entries.items) m) (sym shown.separators) (subst (λ (m : List Pair). AreInside (length m) (marks 0 t.items)) (sym shown.entries) (are_inside t.items))
+    subst (λ (m : List Separator). AreInside (length c.in_ok-found.found.entries.items) m) (sym shown.separators) (subst (λ (m : List Pair). AreInside (length m) (separators_at 0 t.items)) (sym shown.entries) (are_inside t.items))
 
 pub returns-then-not-is_in_order-clause-only : goal.returns-then-not-is_in_order-clause-only
 returns-then-not-is_in_order-clause-only c = λ form pairs f.

@@ -3,7 +3,7 @@ use Rattle.std.specs.List.{All}
 use Rattle.std.specs.Fn.{FnReturnsAt}
 use Rattle.row_moves.specs.Moves.{Landing, Lands, end_of}
 use Rattle.open_table.specs.Marks.{mark_at}
-use Rattle.open_table.specs.Passes.{behind, IsRefusal}
+use Rattle.open_table.specs.Passes.{at_higher_cost, IsRefusal}
 use Rattle.open_table.specs.Tables.{IndexedState, remade, order_pairs}
 use Rattle.open_table.specs.Tried.{ShowsRows}
 use Rattle.open_table.specs.Open.{OpenState, IsOpen, opened, landed}
@@ -30,8 +30,8 @@ returns-in-Ok g c = λ shown sees.
     let now : OpenState = c.args.self.now in
     let list : List ℕ = c.args.number ∷ [] in
     let table : c.self.inside.table ≡ now.table = ap (λ (s : OpenState). s.table) c.self.view_is in
-    let landing : Option ℕ → Landing = λ o. behind (length now.table.rows) (end_of shown true (order_pairs o now.table)) in
-    let said = subst (λ (t : IndexedState). ShowsRows (FnReturnsAt g.F.Fn) c.args.see t.structure t.rows shown → Lands (behind (length t.rows) (end_of shown true (order_pairs (Some c.args.number) t))) c.args.budget c.in-Ok.landed) table (c.in-Ok.ensures.lands shown) sees in
+    let landing : Option ℕ → Landing = λ o. at_higher_cost (length now.table.rows) (end_of shown true (order_pairs o now.table)) in
+    let said = subst (λ (t : IndexedState). ShowsRows (FnReturnsAt g.F.Fn) c.args.see t.structure t.rows shown → Lands (at_higher_cost (length t.rows) (end_of shown true (order_pairs (Some c.args.number) t))) c.args.budget c.in-Ok.landed) table (c.in-Ok.ensures.lands shown) sees in
     let lands = said in
     let made : c.index_on.new.self ≡ remade list now.table = c.in-Ok.ensures.ok ∙ ap (remade list) table in
     let there : c.land.new.self ≡ landed (opened list now) (landing (Some c.args.number)) = c.land.ensures.there
@@ -45,5 +45,5 @@ returns g c = λ shown sees.
     let inside = c.self.inside in
     let table : inside.table ≡ now.table = ap (λ (s : OpenState). s.table) c.self.view_is in
     let with_it : IndexedState → OpenState = λ t. record { table = t; list = inside.list.items; order = inside.order; pointer = inside.pointer; bof = inside.bof; found = inside.found } in
-    let said = subst (λ (t : IndexedState). ShowsRows (FnReturnsAt g.F.Fn) c.args.see t.structure t.rows shown → IsRefusal (behind (length t.rows) (end_of shown true (order_pairs (Some c.args.number) t))) c.args.budget c.in-Err.refused) table (c.in-Err.ensures.lands shown) sees in
+    let said = subst (λ (t : IndexedState). ShowsRows (FnReturnsAt g.F.Fn) c.args.see t.structure t.rows shown → IsRefusal (at_higher_cost (length t.rows) (end_of shown true (order_pairs (Some c.args.number) t))) c.args.budget c.in-Err.refused) table (c.in-Err.ensures.lands shown) sees in
     (said, ap with_it c.in-Err.ensures.err ∙ c.self.view_is)

@@ -4,7 +4,7 @@ use Rattle.std.specs.Prelude.{slice_get}
 use Rattle.std.specs.Fn.{FnReturnsAt}
 use Rattle.row_moves.specs.Moves.{Landing, Lands, end_of}
 use Rattle.open_table.specs.Marks.{mark_at, count_stale}
-use Rattle.open_table.specs.Passes.{behind, IsRefusal}
+use Rattle.open_table.specs.Passes.{at_higher_cost, IsRefusal}
 use Rattle.open_table.specs.Tables.{IndexedState, remade, order_pairs}
 use Rattle.open_table.specs.Tried.{ShowsRows}
 use Rattle.open_table.specs.Open.{OpenState, IsOpen, opened, landed}
@@ -26,8 +26,8 @@ returns-in-Ok g c = λ shown sees.
     let now : OpenState = c.args.self.now in
     let list = c.args.list.now in
     let table : c.self.inside.table ≡ now.table = ap (λ (s : OpenState). s.table) c.self.view_is in
-    let landing : Option ℕ → Landing = λ o. behind (length now.table.rows * count_stale list now.table.marks) (end_of shown true (order_pairs o now.table)) in
-    let lands = subst (λ (t : IndexedState). ShowsRows (FnReturnsAt g.F.Fn) c.args.see t.structure t.rows shown → Lands (behind (length t.rows * count_stale list t.marks) (end_of shown true (order_pairs (slice_get list 0) t))) c.args.budget c.in-Ok.landed) table (c.in-Ok.ensures.lands shown) sees in
+    let landing : Option ℕ → Landing = λ o. at_higher_cost (length now.table.rows * count_stale list now.table.marks) (end_of shown true (order_pairs o now.table)) in
+    let lands = subst (λ (t : IndexedState). ShowsRows (FnReturnsAt g.F.Fn) c.args.see t.structure t.rows shown → Lands (at_higher_cost (length t.rows * count_stale list t.marks) (end_of shown true (order_pairs (slice_get list 0) t))) c.args.budget c.in-Ok.landed) table (c.in-Ok.ensures.lands shown) sees in
     let made : c.open.new.self ≡ remade list now.table = c.in-Ok.ensures.ok ∙ ap (remade list) table in
     let there : c.land.new.self ≡ landed (opened list now) (landing (slice_get list 0)) = c.land.ensures.there
     ∙ (λ i. record { table = made i; list = c.held-self-inside.ensures i; order = c.order_of-self-inside.ensures.value i; pointer = lands.row i; bof = lands.bof i; found = lands.found i }) in
@@ -40,5 +40,5 @@ returns g c = λ shown sees.
     let inside = c.self.inside in
     let table : inside.table ≡ now.table = ap (λ (s : OpenState). s.table) c.self.view_is in
     let with_it : IndexedState → OpenState = λ t. record { table = t; list = inside.list.items; order = inside.order; pointer = inside.pointer; bof = inside.bof; found = inside.found } in
-    let refused = subst (λ (t : IndexedState). ShowsRows (FnReturnsAt g.F.Fn) c.args.see t.structure t.rows shown → IsRefusal (behind (length t.rows * count_stale list t.marks) (end_of shown true (order_pairs (slice_get list 0) t))) c.args.budget c.in-Err.refused) table (c.in-Err.ensures.lands shown) sees in
+    let refused = subst (λ (t : IndexedState). ShowsRows (FnReturnsAt g.F.Fn) c.args.see t.structure t.rows shown → IsRefusal (at_higher_cost (length t.rows * count_stale list t.marks) (end_of shown true (order_pairs (slice_get list 0) t))) c.args.budget c.in-Err.refused) table (c.in-Err.ensures.lands shown) sees in
     (refused, ap with_it c.in-Err.ensures.err ∙ c.self.view_is)

@@ -2,10 +2,10 @@ use Rattle.std.proofs.Common.{◌≡◌, ℕ, ◌+◌, ◌*◌, true, Option, Li
 use Rattle.std.specs.Fn.{FnReturnsAt}
 use Rattle.dbf_file.specs.Rows.{unmarked}
 use Rattle.row_moves.specs.Moves.{Landing, end_of}
-use Rattle.open_table.specs.Passes.{behind, IsClosing}
-use Rattle.open_table.specs.Tables.{IndexedState, packed, pairs_in}
+use Rattle.open_table.specs.Passes.{at_higher_cost, EndsWithMove}
+use Rattle.open_table.specs.Tables.{IndexedState, packed, pairs_in_order}
 use Rattle.open_table.specs.Tried.{ShowsRows}
-use Rattle.open_table.specs.Open.{OpenState, IsOpen, with_table, order_index}
+use Rattle.open_table.specs.Open.{OpenState, IsOpen, in_table, order_index}
 use Rattle.open_table.proofs.OpenLemmas.{open_packed, either, ended_by, on_ok, on_err}
 use Rattle.open_table.proofs.opened.OpenTable.pack.Goals as goal
 
@@ -26,12 +26,12 @@ returns g c = λ shown sees.
     let table : inside.table ≡ now.table = ap (λ (s : OpenState). s.table) c.self.view_is in
     let list : numbers ≡ now.list = c.as_slice.ensures.value ∙ ap (λ (s : OpenState). s.list) c.self.view_is in
     let with_it : IndexedState → OpenState = λ t. record { table = t; list = inside.list.items; order = inside.order; pointer = inside.pointer; bof = inside.bof; found = inside.found } in
-    let changed : OpenState → OpenState = λ a. with_table a (packed a.list a.table) in
+    let changed : OpenState → OpenState = λ a. in_table a (packed a.list a.table) in
     let made : with_it (packed numbers inside.table) ≡ changed now = ap (λ l. with_it (packed l inside.table)) c.as_slice.ensures.value ∙ ap changed c.self.view_is in
     let ok = on_ok c.pack-ended.result (c.pack-ended.new.self ≡ packed numbers inside.table) (with_it c.pack-ended.new.self ≡ changed now) (λ e. ap with_it e ∙ made) c.pack-ended.ensures.ok in
     let err = on_err c.pack-ended.result (c.pack-ended.new.self ≡ inside.table) (with_it c.pack-ended.new.self ≡ now) (λ e. ap with_it e ∙ c.self.view_is) c.pack-ended.ensures.err in
-    let said = subst (λ (t : IndexedState). ShowsRows (FnReturnsAt g.F.Fn) c.args.see t.structure (unmarked t.rows) shown → IsClosing (behind (length t.rows + length (unmarked t.rows) * length numbers) (end_of shown true (pairs_in c.order_index-order.result t.marks (unmarked t.rows)))) c.args.budget c.pack-ended.result) table (c.pack-ended.ensures.lands shown) sees in
-    let listed = subst (λ (l : List ℕ). IsClosing (behind (length now.table.rows + length (unmarked now.table.rows) * length l) (end_of shown true (pairs_in c.order_index-order.result now.table.marks (unmarked now.table.rows)))) c.args.budget c.pack-ended.result) list said in
-    let ordered = subst (λ (o : Option ℕ). IsClosing (behind (length now.table.rows + length (unmarked now.table.rows) * length now.list) (end_of shown true (pairs_in o now.table.marks (unmarked now.table.rows)))) c.args.budget c.pack-ended.result) c.order_index-order.ensures.value listed in
-    let landing : Landing = behind (length now.table.rows + length (unmarked now.table.rows) * length now.list) (end_of shown true (pairs_in (order_index now.order now.list) now.table.marks (unmarked now.table.rows))) in
+    let said = subst (λ (t : IndexedState). ShowsRows (FnReturnsAt g.F.Fn) c.args.see t.structure (unmarked t.rows) shown → EndsWithMove (at_higher_cost (length t.rows + length (unmarked t.rows) * length numbers) (end_of shown true (pairs_in_order c.order_index-order.result t.marks (unmarked t.rows)))) c.args.budget c.pack-ended.result) table (c.pack-ended.ensures.lands shown) sees in
+    let listed = subst (λ (l : List ℕ). EndsWithMove (at_higher_cost (length now.table.rows + length (unmarked now.table.rows) * length l) (end_of shown true (pairs_in_order c.order_index-order.result now.table.marks (unmarked now.table.rows)))) c.args.budget c.pack-ended.result) list said in
+    let ordered = subst (λ (o : Option ℕ). EndsWithMove (at_higher_cost (length now.table.rows + length (unmarked now.table.rows) * length now.list) (end_of shown true (pairs_in_order o now.table.marks (unmarked now.table.rows)))) c.args.budget c.pack-ended.result) c.order_index-order.ensures.value listed in
+    let landing : Landing = at_higher_cost (length now.table.rows + length (unmarked now.table.rows) * length now.list) (end_of shown true (pairs_in_order (order_index now.order now.list) now.table.marks (unmarked now.table.rows))) in
     ended_by c.pack-ended.result c.finish.result now (with_it c.pack-ended.new.self) (changed now) c.finish.new.self landing c.args.budget ok err c.finish.ensures.same (c.finish.ensures.ends landing c.args.budget ordered)
