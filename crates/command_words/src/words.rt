@@ -93,7 +93,7 @@ pub struct Listing<'a> {
 pub enum Words<'a> {
     /// Compile command files, with these declarations, to this code file.
     Compile { decl: &'a str, out: &'a str },
-    /// List the faults of command files, with these declarations.
+    /// List the faults of a declaration file and of command files.
     Faults { decl: &'a str },
     /// Run a code file.
     Run(RunWords<'a>),
@@ -289,7 +289,7 @@ fn compiler<'a>(alloc: Global) -> Result<Command<'a>, AllocError> {
 
 fn checker<'a>(alloc: Global) -> Result<Command<'a>, AllocError> {
     Command::new(alloc, "faults")
-        .about("Lists the faults of command files, and writes nothing")
+        .about("Lists all faults of DECL and of command files, and writes nothing")
         .after_help(
             "Example: dbrun faults FIRM.DCL DAY.PRG ENTRY.PRG POST.PRG REPORT.PRG REORDER.PRG PRICES.PRG",
         )

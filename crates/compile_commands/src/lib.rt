@@ -9,6 +9,6 @@ mod sources;
 
 pub use areas::areas_where_refused;
 pub use compiling::compile_files;
-pub use listing::{FileFault, faults_of};
+pub use listing::{FileFault, FoundFaults, faults_of};
 pub use met_areas::{HeldTable, MetAreas};
 pub use refusal::{CompileFilesRefusal, CompileTold, CompileWords, SourceFault};

@@ -1,6 +1,6 @@
-//! All faults of command files.
+//! All faults of a declaration file and of command files.
 
-ghost use Rattle.std.specs.Prelude.{◌≡◌, ◌<◌, ◌≤◌, ◌∷◌, ◌⊎◌, [], List, length, map, IfErr, IfOk, OnOk};
+ghost use Rattle.std.specs.Prelude.{◌≡◌, ◌<◌, ◌≤◌, ◌∷◌, ◌⊎◌, [], List, length, map, IfErr, IfOk, IsTrue, OnOk};
 ghost use Rattle.file_access.specs.Holding.{SameFiles};
 ghost use Rattle.prg_compile.specs.Alone.{IsCompilable};
 ghost use Rattle.prg_parser.specs.Listing.{all_faults};
@@ -9,6 +9,8 @@ ghost use Rattle.compile_commands.specs.Listing as spec;
 ghost use Rattle.compile_commands.specs.Listing.{AreFaultless, AreListed, IsListed, IsListedBehind, command_fault};
 ghost use Rattle.compile_commands.specs.Refusals.{CompileFilesRefusalIs, SourceRefusalIs, SourcesRefusalIs};
 ghost use Rattle.compile_commands.specs.declared.listing.FileFault.{FileFault as OneFault};
+ghost use Rattle.shape.specs.declared.whole.Shape.{Shape as AnyShape};
+ghost use Rattle.shape_files.specs.Listing.{JudgedFile};
 
 use crate::refusal::{CompileFilesRefusal, SourceFault};
 use crate::sources::programs_of;
@@ -16,7 +18,7 @@ use file_access::{Files, ReadFault};
 use prg_compile::{CompileFault, find_faults};
 use prg_parser::{ParseFault, Program, line_faults};
 use shape::Shape;
-use shape_files::{FILE_LIMIT, read_shape};
+use shape_files::{DeclFault, FILE_LIMIT, ListedShape, list_shape};
 use std::alloc::{AllocError, Global};
 
 /// A fault of a command file, which goes by its number, counted from 0.
@@ -24,6 +26,24 @@ use std::alloc::{AllocError, Global};
 pub struct FileFault {
     pub file: usize,
     pub fault: SourceFault,
+}
+
+/// All faults that were found.
+#[derive(Drop)]
+pub struct FoundFaults {
+    /// Those of the declaration file, line by line.
+    pub declarations: Vec<DeclFault>,
+    /// Those of command files, file by file.
+    pub commands: Vec<FileFault>,
+}
+
+impl FoundFaults {
+    /// Whether there is none.
+    pub fn is_empty(&self) -> bool
+        ensures { IsTrue result → (self.now.declarations.items ≡ []) × (self.now.commands.items ≡ []) }
+    {
+        self.declarations.is_empty() && self.commands.is_empty()
+    }
 }
 
 /// A fault of a line of this file.
@@ -176,44 +196,53 @@ fn faults_of_commands(
     of_commands(alloc, &faults)
 }
 
-/// All faults of command files, the main one first, for the tables and indexes of a declaration file: those of every
-/// file's lines, file by file, and where there are none those that the compiler finds, one of each line, the one that
-/// `compile_files` tells first. A file that isn't there or is too long is listed with that as its fault. No file
-/// changes.
+/// All faults of a declaration file and of command files, the main one first: those of every file's lines, file by file,
+/// and where there are none those that the compiler finds, one of each line, the one that `compile_files` tells first. A
+/// line of the declaration file that has a fault declares nothing. A command file that isn't there or is too long is listed
+/// with that as its fault. No file changes.
 ///
 /// # Errors
 ///
-/// What is wrong with the declaration file or a table's file, a device that failed, want of memory.
+/// A declaration file that isn't there or is too long, a device that failed, want of memory.
 pub fn faults_of<F: Files>(
     alloc: Global,
     files: &mut F,
     decl: &str,
     names: &[&str],
-) -> Result<Vec<FileFault>, CompileFilesRefusal>
+) -> Result<FoundFaults, CompileFilesRefusal>
     requires { 0 < length names.now }
-    // All faults of lines are listed, and other faults only where no line has one.
+    // All faults of the declaration file are listed.
+    ensures declared { IfOk result (λ found. (shape : AnyShape)
+        × JudgedFile (F.holds files.old) decl.now shape found.declarations.items) }
+    // So are all faults of lines of command files, and other faults only where no line has one.
     ensures lines { IfOk result (λ found. (lines : List OneFault)
         × AreListed (F.holds files.old) (map (λ name. name.now) names.now) (length names.now) lines
-        × ((found.items ≡ lines) ⊎ (lines ≡ []))) }
+        × ((found.commands.items ≡ lines) ⊎ ((lines ≡ []) × (found.declarations.items ≡ [])))) }
     // None is listed only where the files are compiled.
-    ensures faultless { IfOk result (λ found. found.items ≡ []
+    ensures faultless { IfOk result (λ found. found.declarations.items ≡ [] → found.commands.items ≡ []
         → AreFaultless (F.holds files.old) decl.now (map (λ name. name.now) names.now)) }
     ensures refused { IfErr result (CompileFilesRefusalIs (F.holds files.old) decl.now
         (map (λ name. name.now) names.now) (F.failed files.old) (F.failed files.new)) }
     ensures kept { SameFiles (F.holds files.old) (F.holds files.new) }
     ensures counted { F.failed files.old ≤ F.failed files.new }
 {
-    let shape = match read_shape(alloc, files, decl) {
-        Ok(shape) => shape,
+    let ListedShape { shape, faults } = match list_shape(alloc, files, decl) {
+        Ok(listed) => listed,
         Err(refusal) => return Err(CompileFilesRefusal::Declarations(refusal)),
     };
     let lines = list_files(alloc, files, names)?;
-    if !lines.is_empty() {
-        return Ok(lines);
+    if !faults.is_empty() || !lines.is_empty() {
+        return Ok(FoundFaults {
+            declarations: faults,
+            commands: lines,
+        });
     }
     let programs = programs_of(alloc, files, names)?;
     match faults_of_commands(alloc, &programs, &shape) {
-        Ok(found) => Ok(found),
+        Ok(commands) => Ok(FoundFaults {
+            declarations: faults,
+            commands,
+        }),
         Err(_) => Err(CompileFilesRefusal::Memory),
     }
 }

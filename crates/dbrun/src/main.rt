@@ -6,19 +6,20 @@
 #![tactic(auto)]
 
 mod areas;
+mod faults;
 mod operate;
 mod progress;
 mod screens;
 mod shown;
 
 use crate::areas::tell_areas;
+use crate::faults::faults;
 use crate::operate::{begun_name, done_name, operate};
 use crate::progress::run_told;
 use crate::screens::{is_new_name, rehearse_shown, run_shown};
 use crate::shown::{
     Audience, FaultyLine, NameTold, OutTold, Progress, UnwrittenTold, absent_file, faulty_line,
-    hint_of, letters_alone, line_among, line_at, line_of, lines_of, of_end, of_file, printable,
-    why_hindered,
+    hint_of, letters_alone, line_at, of_end, of_file, printable, why_hindered,
 };
 use clap::error::ErrorKind;
 use clap::{ArgMatches, Command};
@@ -26,9 +27,7 @@ use code_pages::{CodePage, in_utf8};
 use command_words::{
     Listing, Outcomes, RunWords, SaveWords, Words, WordsFault, command, sources_of, words_of,
 };
-use compile_commands::{
-    CompileFilesRefusal, CompileTold, CompileWords, FileFault, compile_files, faults_of,
-};
+use compile_commands::{CompileFilesRefusal, CompileTold, CompileWords, compile_files};
 use file_access::{Files, ReadFault, read_in_turns, read_within};
 use file_commands::{
     FILE_LIMIT, Refusal, Status, list_code, list_index, list_table, of_refusal, read_code,
@@ -238,7 +237,7 @@ fn show_uncompiled<R: Runtime<A = Global>>(
 }
 
 /// Tells on standard error why files aren't compiled; a person is shown what to do about it too.
-fn tell_uncompiled<R: Runtime<A = Global>>(
+pub fn tell_uncompiled<R: Runtime<A = Global>>(
     rt: &R,
     audience: Audience,
     refusal: &CompileFilesRefusal,
@@ -251,67 +250,6 @@ fn tell_uncompiled<R: Runtime<A = Global>>(
         show_uncompiled(rt, refusal, words, unreplaced);
     }
     of_compiling(refusal)
-}
-
-/// Prints the faults of the command file of this name and number, each with its line where that can still be read.
-fn print_faults<R: Runtime<A = Global>>(
-    rt: &R,
-    name: &str,
-    number: usize,
-    faults: &[FileFault],
-) -> Status {
-    let mut folder = Folder::new(rt, Nobody);
-    let bytes = folder
-        .read(rt.alloc(), name, FILE_LIMIT)
-        .unwrap_or(Vec::new(rt.alloc()));
-    let Ok(lines) = lines_of(rt.alloc(), bytes.as_slice()) else {
-        return no_memory(rt);
-    };
-    for FileFault { file, fault } in faults {
-        if *file != number {
-            continue;
-        }
-        let printed = match line_among(&lines, line_of(*fault)) {
-            Some(line) => println!(rt; "{name} {fault}  {line}"),
-            None => println!(rt; "{name} {fault}"),
-        };
-        if printed.is_err() {
-            return Status::Disk;
-        }
-    }
-    Status::Done
-}
-
-/// Lists the faults of command files on standard output, file by file.
-fn faults<'a, R: Runtime<A = Global, File = File>>(
-    rt: &R,
-    audience: Audience,
-    decl: &'a str,
-    names: &'a [&'a str],
-) -> Result<Status, WordsFault> {
-    if names.is_empty() {
-        return Err(WordsFault::Missing);
-    }
-    settle(rt, audience);
-    let mut folder = folder(rt, audience);
-    let found = match faults_of(rt.alloc(), &mut folder, decl, names) {
-        Ok(found) => found,
-        Err(refusal) => {
-            let out = "";
-            let words = CompileWords { decl, out, names };
-            return Ok(tell_uncompiled(rt, audience, &refusal, words, None));
-        }
-    };
-    if found.is_empty() {
-        return Ok(Status::Done);
-    }
-    for (number, name) in names.iter().enumerate() {
-        match print_faults(rt, name, number, &found) {
-            Status::Done => {}
-            status => return Ok(status),
-        }
-    }
-    Ok(Status::Refused)
 }
 
 /// Prints bytes on standard output. A terminal gets a question mark in place of each byte that isn't printed.
@@ -420,7 +358,7 @@ pub fn finish_before<R: Runtime<A = Global>>(rt: &R, audience: Audience) -> Opti
 
 /// Before tables are only read, a save that had come to its note is finished. Where that can't be, it is told on
 /// standard error, and what stands is read.
-fn settle<R: Runtime<A = Global, File = File>>(rt: &R, audience: Audience) {
+pub fn settle<R: Runtime<A = Global, File = File>>(rt: &R, audience: Audience) {
     if !note_stands(rt) {
         return;
     }
@@ -919,7 +857,7 @@ fn carry_out_all<R: Runtime<A = Global, File = File>>(
 }
 
 /// Tells on standard error that memory was refused.
-fn no_memory(rt: &impl Runtime) -> Status {
+pub fn no_memory(rt: &impl Runtime) -> Status {
     refuse(rt, Refusal::Memory)
 }
 

@@ -3,7 +3,7 @@
 
 use compile_commands::{CompileFilesRefusal, CompileWords, SourceFault};
 use file_access::Files;
-use folder_files::{Doing, FileSum, Harm, Hindrance, Listener, Sum, Unreplaced};
+use folder_files::{Doing, FileSum, Harm, Hindrance, Listener, Unreplaced, sum_of};
 use hints::{of_command, of_compiled_line, of_declaration, of_line, of_table_line};
 use run_commands::How;
 use save_rules::Overwritten;
@@ -47,10 +47,11 @@ impl<R: Eprint + Alloc<A = Global>> Listener for Progress<'_, R> {
         }
     }
 
-    fn found(&self, name: &str, sum: Option<Sum>) {
+    fn found(&self, name: &str, bytes: Option<&[u8]>) {
         let Some(sums) = self.sums else {
             return;
         };
+        let sum = bytes.map(|bytes| sum_of(bytes));
         if let (Ok(mut sums), Ok(name)) = (
             sums.try_borrow_mut(),
             String::from_str(self.rt.alloc(), name),
@@ -72,6 +73,14 @@ pub fn line_of(fault: SourceFault) -> usize {
     match fault {
         SourceFault::Parse { line, .. } | SourceFault::Compile { line, .. } => line,
         SourceFault::Absent | SourceFault::TooLong => 0,
+    }
+}
+
+/// The line that a fault of a declaration file names, from 1; 0 where it names none.
+pub fn declared_line(fault: DeclFault) -> usize {
+    match fault {
+        DeclFault::Line { line, .. } => line,
+        DeclFault::Absent | DeclFault::TooLong => 0,
     }
 }
 

@@ -1,6 +1,8 @@
 //! Files made, summed and removed, and what stands in the folder brought to the device.
 #![tactic(auto)]
 
+ghost use Rattle.std.specs.Prelude.{◌≡◌, ◌≤◌, length, IfOk};
+
 use crate::papers::PAPER;
 use save_steps::Sum;
 use sha2::{Digest, Sha256};
@@ -22,7 +24,7 @@ const TRIES: u32 = 10_000;
 /// The most bytes that one read of a sum asks for.
 const CHUNK: usize = 65_536;
 
-/// The most reads of one sum, with as many for interruptions.
+/// The most reads of one file, with as many for interruptions of each.
 const READS: u32 = 1_000_000;
 
 /// Brings a file, or a folder's names, to the device.
@@ -141,24 +143,69 @@ pub(crate) fn write_beside<R: Disk>(
     write_new(rt, beside, bytes, old)
 }
 
+/// Reads as many bytes as come at once, none at the end; an interruption is no failure.
+fn read_some<F: Read>(reader: &mut F, chunk: &mut [u8]) -> io::Result<usize>
+    ensures within { IfOk result (λ count. count ≤ length chunk.new) }
+    ensures long { length chunk.new ≡ length chunk.old }
+{
+    for _ in 0..READS {
+        match reader.read(chunk) {
+            Ok(count) => return Ok(count),
+            Err(error) => match error.kind() {
+                ErrorKind::Interrupted => {}
+                _ => return Err(error),
+            },
+        }
+    }
+    Err(io::Error::from(ErrorKind::Interrupted))
+}
+
 /// The sum of all that a reader gives.
 fn sum_of_all<F: Read>(reader: &mut F) -> io::Result<Sum> {
     let mut hasher = Sha256::new();
     let mut chunk = [0u8; CHUNK];
     for _ in 0..READS {
-        let count = match reader.read(&mut chunk) {
-            Ok(count) => count,
-            Err(error) => match error.kind() {
-                ErrorKind::Interrupted => continue,
-                _ => return Err(error),
-            },
-        };
+        let count = read_some(reader, &mut chunk)?;
         if count == 0 {
             return Ok(hasher.finalize());
         }
         hasher.update(&chunk[..count]);
     }
     Err(io::Error::from(ErrorKind::FileTooLarge))
+}
+
+/// Whether a reader gives just these bytes.
+fn gives<F: Read>(reader: &mut F, bytes: &[u8]) -> io::Result<bool> {
+    let mut chunk = [0u8; CHUNK];
+    let mut rest = bytes;
+    for _ in 0..READS {
+        let count = read_some(reader, &mut chunk)?;
+        if count == 0 {
+            return Ok(rest.is_empty());
+        }
+        if rest.len() < count || rest[..count] != chunk[..count] {
+            return Ok(false);
+        }
+        rest = &rest[count..];
+    }
+    Err(io::Error::from(ErrorKind::FileTooLarge))
+}
+
+/// Whether the file of a name holds just these bytes; of none, whether there is no such file.
+pub(crate) fn holds<R: Disk>(rt: &R, path: &str, bytes: Option<&[u8]>) -> io::Result<bool> {
+    match fs::open(rt, path) {
+        Ok(file) => {
+            let Some(bytes) = bytes else {
+                return Ok(false);
+            };
+            let mut file = file;
+            gives(&mut file, bytes)
+        }
+        Err(error) => match error.kind() {
+            ErrorKind::NotFound => Ok(bytes.is_none()),
+            _ => Err(error),
+        },
+    }
 }
 
 /// The sum of the file of a name, none where there is no such file.

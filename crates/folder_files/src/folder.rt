@@ -8,7 +8,6 @@ use crate::papers::PAPER;
 use crate::replacing::{Unreplaced, replace_file};
 use file_access::{Device, Files, ReadFault, read_within};
 use save_rules::{Overwritten, overwritten_by};
-use save_steps::Sum;
 use std::alloc::{Alloc, Global};
 use std::fs::{self, OpenFile};
 use std::io::ErrorKind;
@@ -28,8 +27,8 @@ pub trait Listener {
     /// A file of so many bytes is read or written now.
     fn hear(&self, doing: Doing, name: &str, size: u64);
 
-    /// A file of a run was read, and what it holds has this sum; none where there is no such file.
-    fn found(&self, name: &str, sum: Option<Sum>);
+    /// A file of a run was read, and holds these bytes; none where there is no such file.
+    fn found(&self, name: &str, bytes: Option<&[u8]>);
 }
 
 /// Nobody hears it.
@@ -39,7 +38,7 @@ pub struct Nobody;
 impl Listener for Nobody {
     fn hear(&self, _doing: Doing, _name: &str, _size: u64) {}
 
-    fn found(&self, _name: &str, _sum: Option<Sum>) {}
+    fn found(&self, _name: &str, _bytes: Option<&[u8]>) {}
 }
 
 /// The files of the folder in which the program runs: names are those of its files. A file that is replaced has its new

@@ -5,7 +5,9 @@ ghost use Rattle.std.specs.Prelude.{◌≡◌, ◌≤◌};
 ghost use Rattle.file_access.specs.Holding.{Rose};
 
 use crate::backup::{copy_file, make_folder};
-use crate::disk::{fresh_name, remove_if_there, sum_of_file, sync_folder, sync_path, write_beside};
+use crate::disk::{
+    fresh_name, holds, remove_if_there, sum_of_file, sync_folder, sync_path, write_beside,
+};
 use crate::folder::{Doing, Folder, Listener};
 use crate::papers::{Written, put_paper, remove_draft, remove_paper};
 use crate::targets::{Hindrance, Target, target_of};
@@ -18,13 +20,12 @@ use std::alloc::{Alloc, AllocError, Global};
 use std::rt::Files as Disk;
 use std::{fs, io};
 
-/// A file that was read: its name, what stands under it, and the sum of what it held, none where there was no such
-/// file.
+/// A file that was read: its name, what stands under it, and what it held, none where there was no such file.
 #[derive(Drop)]
 struct Loaded {
     name: String,
     target: Target,
-    sum: Option<Sum>,
+    bytes: Option<Vec<u8>>,
 }
 
 /// A file that is to be replaced: its name, the name behind its links, and its new bytes.
@@ -80,6 +81,8 @@ pub struct SavingFolder<'a, R, L> {
 #[derive(Drop)]
 struct Progress {
     paper: SavePaper,
+    /// The files of the plan, each by its number among those that were handed in.
+    files: Vec<usize>,
     /// The names of the new files.
     besides: Vec<String>,
     /// How many new files stand.
@@ -150,23 +153,29 @@ impl<'a, R: Disk + Alloc<A = Global>, L: Listener> SavingFolder<'a, R, L> {
         Ok(target)
     }
 
-    /// Remembers what a file held when it was read.
-    fn note(&mut self, name: &str, target: Target, sum: Option<Sum>) -> Result<(), AllocError>
+    /// Remembers what a file held when it was read. Only a save asks for its bytes again.
+    fn note(&mut self, name: &str, target: Target, held: Option<&[u8]>) -> Result<(), AllocError>
         ensures { self.new.folder.failures ≡ self.old.folder.failures }
     {
-        self.folder.listener.found(name, sum);
-        let name = String::from_str(self.folder.rt.alloc(), name)?;
-        self.loaded.push(Loaded { name, target, sum })?;
+        self.folder.listener.found(name, held);
+        let alloc = self.folder.rt.alloc();
+        let name = String::from_str(alloc, name)?;
+        let bytes = match held {
+            Some(held) if self.terms.saves => Some(Vec::from_slice(alloc, held)?),
+            _ => None,
+        };
+        self.loaded.push(Loaded {
+            name,
+            target,
+            bytes,
+        })?;
         Ok(())
     }
 
-    /// Tells the sum of a file that was read, or that there is no such file.
+    /// Tells what a file that was read holds, or that there is no such file.
     fn tell_found(&self, name: &str, read: &Result<Vec<u8>, ReadFault>) {
         match read {
-            Ok(bytes) => {
-                let sum = sum_of(bytes.as_slice());
-                self.folder.listener.found(name, Some(sum));
-            }
+            Ok(bytes) => self.folder.listener.found(name, Some(bytes.as_slice())),
             Err(ReadFault::Absent) => self.folder.listener.found(name, None),
             Err(ReadFault::Device | ReadFault::TooLong | ReadFault::Memory) => {}
         }
@@ -209,14 +218,32 @@ impl<'a, R: Disk + Alloc<A = Global>, L: Listener> SavingFolder<'a, R, L> {
         Ok(())
     }
 
-    /// The sum of what a file held when it was read, if it was.
-    fn sum_at_load(&self, name: &str) -> Option<Option<Sum>> {
-        for loaded in &self.loaded {
-            if loaded.name.as_str() == name {
-                return Some(loaded.sum);
-            }
+    /// The file of that name, if it was read.
+    fn loaded(&self, name: &str) -> Option<&Loaded> {
+        self.loaded
+            .iter()
+            .find(|loaded| loaded.name.as_str() == name)
+    }
+
+    /// Whether a file is to hold other bytes than it held when it was read.
+    fn is_changed(&self, pending: &Pending) -> bool {
+        match self.loaded(pending.name.as_str()) {
+            Some(
+                Loaded {
+                    bytes: Some(held),
+                    ..
+                },
+            ) => held.as_slice() != pending.bytes.as_slice(),
+            _ => true,
         }
-        None
+    }
+
+    /// The sum of what a file held when it was read, or of what it holds now where it wasn't.
+    fn old_sum(&self, pending: &Pending) -> io::Result<Option<Sum>> {
+        match self.loaded(pending.name.as_str()) {
+            Some(Loaded { bytes, .. }) => Ok(bytes.as_ref().map(|held| sum_of(held.as_slice()))),
+            None => sum_of_file(self.folder.rt, pending.target.as_str()),
+        }
     }
 
     /// A file's name and its new file's, and the sums of what it held and is to hold.
@@ -227,16 +254,11 @@ impl<'a, R: Disk + Alloc<A = Global>, L: Listener> SavingFolder<'a, R, L> {
         beside: &str,
     ) -> Result<PaperEntry, Unsaved> {
         let alloc = self.folder.rt.alloc();
-        let name = pending.target.as_str();
-        let old = match self.sum_at_load(pending.name.as_str()) {
-            Some(sum) => sum,
-            None => match sum_of_file(self.folder.rt, name) {
-                Ok(sum) => sum,
-                Err(_) => return Err(Unsaved::Disk { file }),
-            },
+        let Ok(old) = self.old_sum(pending) else {
+            return Err(Unsaved::Disk { file });
         };
         let (Ok(name), Ok(beside)) = (
-            Vec::from_slice(alloc, name.as_bytes()),
+            Vec::from_slice(alloc, pending.target.as_bytes()),
             Vec::from_slice(alloc, beside.as_bytes()),
         ) else {
             return Err(Unsaved::Memory);
@@ -249,32 +271,48 @@ impl<'a, R: Disk + Alloc<A = Global>, L: Listener> SavingFolder<'a, R, L> {
         })
     }
 
-    /// The plan of all files that are to be replaced.
+    /// Adds a file to the plan.
+    fn plan_file(
+        &self,
+        file: usize,
+        pending: &Pending,
+        progress: &mut Progress,
+    ) -> Result<(), Unsaved> {
+        let Ok(fresh) = fresh_name(self.folder.rt, pending.target.as_str()) else {
+            return Err(Unsaved::Memory);
+        };
+        let Some(beside) = fresh else {
+            return Err(Unsaved::Disk { file });
+        };
+        let entry = self.entry_of(file, pending, beside.as_str())?;
+        if progress.paper.entries.push(entry).is_err()
+            || progress.besides.push(beside).is_err()
+            || progress.files.push(file).is_err()
+        {
+            return Err(Unsaved::Memory);
+        }
+        Ok(())
+    }
+
+    /// The plan of all files that are to be replaced: those whose bytes are new.
     fn plan(&self) -> Result<Progress, Unsaved> {
         let alloc = self.folder.rt.alloc();
-        let mut entries = Vec::new(alloc);
-        let mut besides = Vec::new(alloc);
-        for (file, pending) in self.pending.iter().enumerate() {
-            let Ok(fresh) = fresh_name(self.folder.rt, pending.target.as_str()) else {
-                return Err(Unsaved::Memory);
-            };
-            let Some(beside) = fresh else {
-                return Err(Unsaved::Disk { file });
-            };
-            let entry = self.entry_of(file, pending, beside.as_str())?;
-            if entries.push(entry).is_err() || besides.push(beside).is_err() {
-                return Err(Unsaved::Memory);
-            }
-        }
-        Ok(Progress {
+        let mut progress = Progress {
             paper: SavePaper {
                 noted: false,
-                entries,
+                entries: Vec::new(alloc),
             },
-            besides,
+            files: Vec::new(alloc),
+            besides: Vec::new(alloc),
             made: 0,
             noted: false,
-        })
+        };
+        for (file, pending) in self.pending.iter().enumerate() {
+            if self.is_changed(pending) {
+                self.plan_file(file, pending, &mut progress)?;
+            }
+        }
+        Ok(progress)
     }
 
     /// Writes the plan, or the note in its place.
@@ -293,10 +331,21 @@ impl<'a, R: Disk + Alloc<A = Global>, L: Listener> SavingFolder<'a, R, L> {
         }
     }
 
-    /// Makes the new file beside a file.
-    fn make(&self, file: usize, progress: &mut Progress) -> Result<(), Unsaved> {
-        let (Some(pending), Some(beside)) = (self.pending.get(file), progress.besides.get(file))
-        else {
+    /// A file of the plan: its number, what it is to hold, and the name of its new file.
+    fn planned<'p>(
+        &'p self,
+        place: usize,
+        progress: &'p Progress,
+    ) -> Option<(usize, &'p Pending, &'p str)> {
+        let file = *progress.files.get(place)?;
+        let pending = self.pending.get(file)?;
+        let beside = progress.besides.get(place)?;
+        Some((file, pending, beside.as_str()))
+    }
+
+    /// Makes the new file beside a file of the plan.
+    fn make(&self, place: usize, progress: &mut Progress) -> Result<(), Unsaved> {
+        let Some((file, pending, beside)) = self.planned(place, progress) else {
             return Ok(());
         };
         let name = pending.name.as_str();
@@ -304,50 +353,71 @@ impl<'a, R: Disk + Alloc<A = Global>, L: Listener> SavingFolder<'a, R, L> {
         self.folder.listener.hear(Doing::Writing, name, size);
         let (target, bytes) = (pending.target.as_str(), pending.bytes.as_slice());
         let taken_over = self.terms.takes_over;
-        if write_beside(self.folder.rt, target, beside.as_str(), bytes, taken_over).is_err() {
+        if write_beside(self.folder.rt, target, beside, bytes, taken_over).is_err() {
             return Err(Unsaved::Disk { file });
         }
-        progress.made = file + 1;
+        progress.made = place.saturating_add(1);
         Ok(())
     }
 
-    /// Tells whether each file still is what it was when it was read.
-    fn look_again(&self, progress: &Progress) -> Result<(), Unsaved> {
-        for (file, entry) in progress.paper.entries.iter().enumerate() {
-            let target = match self.pending.get(file) {
-                Some(pending) => pending.target.as_str(),
-                None => continue,
-            };
-            match sum_of_file(self.folder.rt, target) {
-                Ok(sum) => {
-                    if sum != entry.old {
-                        return Err(Unsaved::Changed { file });
-                    }
-                }
-                Err(_) => return Err(Unsaved::Disk { file }),
+    /// Whether a file that was read still holds what it held then.
+    fn is_as_read(&self, pending: &Pending) -> io::Result<bool> {
+        match self.loaded(pending.name.as_str()) {
+            Some(Loaded { bytes, .. }) => {
+                let held = bytes.as_ref().map(|held| held.as_slice());
+                holds(self.folder.rt, pending.target.as_str(), held)
+            }
+            None => Ok(true),
+        }
+    }
+
+    /// Whether a file that wasn't read still has the sum that the plan says.
+    fn is_as_planned(&self, pending: &Pending, old: Option<Sum>) -> io::Result<bool> {
+        match self.loaded(pending.name.as_str()) {
+            Some(_) => Ok(true),
+            None => Ok(sum_of_file(self.folder.rt, pending.target.as_str())? == old),
+        }
+    }
+
+    /// Tells whether each file still holds what it held when it was read, also where it isn't replaced.
+    fn look_again(&self) -> Result<(), Unsaved> {
+        for (file, pending) in self.pending.iter().enumerate() {
+            still(file, self.is_as_read(pending))?;
+        }
+        Ok(())
+    }
+
+    /// Tells whether the files of the plan that weren't read are as it says.
+    fn look_at_others(&self, progress: &Progress) -> Result<(), Unsaved> {
+        for (place, file) in progress.files.iter().enumerate() {
+            if let (Some(pending), Some(entry)) = (
+                self.pending.get(*file),
+                progress.paper.entries.get(place),
+            ) {
+                still(*file, self.is_as_planned(pending, entry.old))?;
             }
         }
         Ok(())
     }
 
     /// Puts a new file in its file's place.
-    fn place(&self, file: usize, progress: &Progress) -> Result<(), Unsaved> {
-        let (Some(pending), Some(beside)) = (self.pending.get(file), progress.besides.get(file))
-        else {
+    fn place(&self, place: usize, progress: &Progress) -> Result<(), Unsaved> {
+        let Some((file, pending, beside)) = self.planned(place, progress) else {
             return Ok(());
         };
-        if fs::rename(self.folder.rt, beside.as_str(), pending.target.as_str()).is_err() {
+        if fs::rename(self.folder.rt, beside, pending.target.as_str()).is_err() {
             return Err(Unsaved::Disk { file });
         }
         Ok(())
     }
 
     /// Removes a new file that was made.
-    fn unmake(&self, file: usize, progress: &Progress) -> Result<(), Unsaved> {
-        if let Some(beside) = progress.besides.get(file) {
-            if file < progress.made && remove_if_there(self.folder.rt, beside.as_str()).is_err() {
-                return Err(Unsaved::Disk { file });
-            }
+    fn unmake(&self, place: usize, progress: &Progress) -> Result<(), Unsaved> {
+        let Some((file, _, beside)) = self.planned(place, progress) else {
+            return Ok(());
+        };
+        if place < progress.made && remove_if_there(self.folder.rt, beside).is_err() {
+            return Err(Unsaved::Disk { file });
         }
         Ok(())
     }
@@ -359,7 +429,8 @@ impl<'a, R: Disk + Alloc<A = Global>, L: Listener> SavingFolder<'a, R, L> {
             Step::WritePlan => return self.write_paper(progress),
             Step::Make(file) => return self.make(file, progress),
             Step::WriteNote => {
-                self.look_again(progress)?;
+                self.look_again()?;
+                self.look_at_others(progress)?;
                 progress.paper.noted = true;
                 return self.write_paper(progress);
             }
@@ -411,7 +482,8 @@ impl<'a, R: Disk + Alloc<A = Global>, L: Listener> SavingFolder<'a, R, L> {
         sync_folder(rt)
     }
 
-    /// Replaces all files that were handed in, or none, copied first where the terms say so.
+    /// Replaces all files that were handed in, or none, copied first where the terms say so. A file that is to hold what
+    /// it held when it was read stays; it must hold that still.
     pub fn commit(&self) -> Result<(), Unsaved> {
         if self.pending.is_empty() {
             return Ok(());
@@ -421,10 +493,13 @@ impl<'a, R: Disk + Alloc<A = Global>, L: Listener> SavingFolder<'a, R, L> {
                 return Err(Unsaved::Backup);
             }
         }
-        let Ok(steps) = steps_of_save(self.folder.rt.alloc(), self.pending.len()) else {
+        let mut progress = self.plan()?;
+        if progress.files.is_empty() {
+            return self.look_again();
+        }
+        let Ok(steps) = steps_of_save(self.folder.rt.alloc(), progress.files.len()) else {
             return Err(Unsaved::Memory);
         };
-        let mut progress = self.plan()?;
         match self.carry_out_all(steps.as_slice(), &mut progress) {
             Ok(()) => Ok(()),
             Err(unsaved) => {
@@ -441,6 +516,15 @@ impl<'a, R: Disk + Alloc<A = Global>, L: Listener> SavingFolder<'a, R, L> {
 /// Whether a file of this name is one that a run saves: a table's or an index's.
 fn is_saved(name: &str) -> bool {
     name.ends_with(".DBF") || name.ends_with(".NDX")
+}
+
+/// Refuses a file that isn't as it was, or that the device doesn't give.
+fn still(file: usize, as_it_was: io::Result<bool>) -> Result<(), Unsaved> {
+    match as_it_was {
+        Ok(true) => Ok(()),
+        Ok(false) => Err(Unsaved::Changed { file }),
+        Err(_) => Err(Unsaved::Disk { file }),
+    }
 }
 
 /// What a failure is called behind the note.
@@ -479,10 +563,7 @@ impl<R: Disk + Alloc<A = Global>, L: Listener> Files for SavingFolder<'_, R, L> 
         };
         match self.folder.read(alloc, name, limit) {
             Ok(bytes) => {
-                if self
-                    .note(name, target, Some(sum_of(bytes.as_slice())))
-                    .is_err()
-                {
+                if self.note(name, target, Some(bytes.as_slice())).is_err() {
                     return Err(ReadFault::Memory);
                 }
                 Ok(bytes)

@@ -7,6 +7,7 @@ use super::records::{bill, customer, full, keys, letters, of_t, removed};
 use super::screens::{centuries, numbers, scrolling, texts_and_dates, typed};
 use super::second::{dated, days, three_tables, unsure};
 use super::tables::table;
+use super::tested::{left_alike, saved_by_checking};
 use file_access::{MemoryEntry, MemoryFiles, WORKS_FOR_EVER};
 use run_commands::Report;
 use std::alloc::{AllocError, Global};
@@ -38,7 +39,8 @@ fn are_alike(
     Ok(ended && first.as_str() == second.as_str() && one.rows.as_slice() == other.rows.as_slice())
 }
 
-/// Whether both machines run a case alike at this budget, each from the same files.
+/// Whether both machines run a case alike at this budget, each from the same files: both print the same and end alike,
+/// and leave the same tables and the same indexes, stale ones among them.
 fn runs_alike(
     alloc: Global,
     entries: &[MemoryEntry<'_>],
@@ -53,8 +55,12 @@ fn runs_alike(
     let case = RunCase { budget, ..*case };
     let checked = run_case(alloc, &mut files, &case, true);
     let untagged = run_case(alloc, &mut files, &case, false);
-    match (checked, untagged) {
-        (Some(one), Some(other)) => are_alike(alloc, &case, &one, &other, whole),
+    let tested = saved_by_checking(alloc, entries, &case);
+    match (checked, untagged, tested) {
+        (Some(one), Some(other), Some(tested)) => {
+            let left = left_alike(&files.written, &tested.written);
+            Ok(left && are_alike(alloc, &case, &one, &other, whole)?)
+        }
         _ => Ok(false),
     }
 }

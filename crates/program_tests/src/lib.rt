@@ -32,6 +32,8 @@ mod stored;
 #[cfg(test)]
 mod tables;
 #[cfg(test)]
+mod tested;
+#[cfg(test)]
 mod three_rows;
 #[cfg(test)]
 mod values;

@@ -1,3 +1,4 @@
 pub mod FileLemmas
 pub mod KeyLemmas
+pub mod ListingLemmas
 pub mod ShapeLemmas

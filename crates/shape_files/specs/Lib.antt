@@ -1,4 +1,5 @@
 pub mod Keys
 pub mod Lines
+pub mod Listing
 pub mod Refusals
 pub mod Shapes

@@ -1,6 +1,6 @@
 //! What is declared by the lines so far.
 
-ghost use Rattle.std.specs.Prelude.{◌≡◌, ◌<◌, ℕ, List, true, length, IfErr, IfSome, OnOk};
+ghost use Rattle.std.specs.Prelude.{◌≡◌, ◌<◌, ℕ, List, true, length, IfErr, IfSome, OnErr, OnOk};
 ghost use Rattle.shape.specs.Whole.{is_shape};
 ghost use Rattle.shape_files.specs.Lines.{Index, Table};
 ghost use Rattle.shape_files.specs.Refusals.{LineRefusalIs};
@@ -84,6 +84,7 @@ impl Declarations {
         ensures legal { is_shape (shape_of self.old) ≡ true → OnOk result (is_shape (shape_of self.new) ≡ true) }
         ensures refused { (says : List ℕ) (before after : ℕ)
             → IfErr result (LineRefusalIs (shape_of self.old) (Table says) before after) }
+        ensures kept { OnErr result (shape_of self.new ≡ shape_of self.old) }
     {
         if !table.is_next(self.tables.as_slice()) {
             return Err(LineRefusal::Fault(LineFault::Table));
@@ -98,6 +99,7 @@ impl Declarations {
         ensures legal { is_shape (shape_of self.old) ≡ true → OnOk result (is_shape (shape_of self.new) ≡ true) }
         ensures refused { (name of says : List ℕ) (before after : ℕ)
             → IfErr result (LineRefusalIs (shape_of self.old) (Index name of says) before after) }
+        ensures kept { OnErr result (shape_of self.new ≡ shape_of self.old) }
     {
         if !index.is_next(self.tables.as_slice(), self.indexes.as_slice()) {
             return Err(LineRefusal::Fault(LineFault::Key));

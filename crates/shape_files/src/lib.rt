@@ -7,11 +7,13 @@
 mod declarations;
 mod key;
 mod line;
+mod listing;
 mod names;
 mod reading;
 mod refusal;
 mod tables;
 
+pub use listing::{ListedShape, list_shape};
 pub use names::{FileName, file_of};
 pub use reading::{FILE_LIMIT, read_shape};
 pub use refusal::{DeclFault, LineFault, ShapeRefusal};

@@ -1,10 +1,11 @@
 //! A declaration file read.
 
-ghost use Rattle.std.specs.Prelude.{◌≡◌, ◌≤◌, ℕ, true, Some, length, IfErr, IfOk, OnOk};
+ghost use Rattle.std.specs.Prelude.{◌≡◌, ◌≤◌, ℕ, true, Some, length, IfErr, IfOk, OnErr, OnOk};
 ghost use Rattle.file_access.specs.Holding.{SameFiles};
 ghost use Rattle.shape.specs.Whole.{is_shape};
 ghost use Rattle.text_lines.specs.Lines.{lines};
 ghost use Rattle.shape_files.specs.Lines.{Index as IndexSaid, Table as TableSaid, said_in_line};
+ghost use Rattle.shape_files.specs.Listing.{IsNoLine};
 ghost use Rattle.shape_files.specs.Refusals.{AtLineIs, LineRefusalIs, LinesRefusalIs, ShapeRefusalIs};
 ghost use Rattle.shape_files.specs.Shapes.{Declare, Declares, DeclaresIndex, IsDeclared, no_shape, shape_of};
 
@@ -34,6 +35,7 @@ fn declare_table<F: Files>(
         → OnOk result (is_shape (shape_of declarations.new) ≡ true) }
     ensures refused { IfErr result (LineRefusalIs (shape_of declarations.old) (TableSaid word.now) (F.failed files.old)
         (F.failed files.new)) }
+    ensures same { OnErr result (shape_of declarations.new ≡ shape_of declarations.old) }
     ensures counted { F.failed files.old ≤ F.failed files.new }
     ensures kept { SameFiles (F.holds files.old) (F.holds files.new) }
 {
@@ -66,6 +68,7 @@ fn declare_index(
         → OnOk result (is_shape (shape_of declarations.new) ≡ true) }
     ensures refused { (before after : ℕ)
         → IfErr result (LineRefusalIs (shape_of declarations.old) (IndexSaid word.now of.now text.now) before after) }
+    ensures same { OnErr result (shape_of declarations.new ≡ shape_of declarations.old) }
 {
     let Some(name) = declarations.index_name(word) else {
         return Err(LineRefusal::Fault(LineFault::Name));
@@ -80,7 +83,7 @@ fn declare_index(
 }
 
 /// Takes a line.
-fn declare<F: Files>(
+pub(crate) fn declare<F: Files>(
     alloc: Global,
     files: &mut F,
     declarations: &mut Declarations,
@@ -93,6 +96,7 @@ fn declare<F: Files>(
     ensures refused { IfErr result
         (LineRefusalIs (shape_of declarations.old) (said_in_line text.now) (F.failed files.old)
         (F.failed files.new)) }
+    ensures same { OnErr result (shape_of declarations.new ≡ shape_of declarations.old) }
     ensures counted { F.failed files.old ≤ F.failed files.new }
     ensures kept { SameFiles (F.holds files.old) (F.holds files.new) }
 {
@@ -165,7 +169,7 @@ fn declare_all<F: Files>(
 }
 
 /// The bytes of the declaration file.
-fn declaration_bytes<F: Files>(
+pub(crate) fn declaration_bytes<F: Files>(
     alloc: Global,
     files: &mut F,
     decl: &str,
@@ -174,6 +178,7 @@ fn declaration_bytes<F: Files>(
     ensures short { IfOk result (λ bytes. length bytes.items ≤ 67108864) }
     ensures refused { IfErr result (ShapeRefusalIs (F.holds files.old) decl.now (F.failed files.old)
         (F.failed files.new)) }
+    ensures lines { IfErr result IsNoLine }
     ensures counted { F.failed files.old ≤ F.failed files.new }
     ensures kept { SameFiles (F.holds files.old) (F.holds files.new) }
 {
