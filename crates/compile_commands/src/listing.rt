@@ -10,7 +10,7 @@ ghost use Rattle.compile_commands.specs.Listing.{AreFaultless, AreListed, IsList
 ghost use Rattle.compile_commands.specs.Refusals.{CompileFilesRefusalIs, SourceRefusalIs, SourcesRefusalIs};
 ghost use Rattle.compile_commands.specs.declared.listing.FileFault.{FileFault as OneFault};
 ghost use Rattle.shape.specs.declared.whole.Shape.{Shape as AnyShape};
-ghost use Rattle.shape_files.specs.Listing.{JudgedFile};
+ghost use Rattle.shape_files.specs.Listing.{JudgedDeclarations};
 
 use crate::refusal::{CompileFilesRefusal, SourceFault};
 use crate::sources::programs_of;
@@ -196,10 +196,10 @@ fn faults_of_commands(
     of_commands(alloc, &faults)
 }
 
-/// All faults of a declaration file and of command files, the main one first: those of every file's lines, file by file,
-/// and where there are none those that the compiler finds, one of each line, the one that `compile_files` tells first. A
-/// line of the declaration file that has a fault declares nothing. A command file that isn't there or is too long is listed
-/// with that as its fault. No file changes.
+/// All faults of a declaration file and of command files, the main one first: those of every file's lines, file by
+/// file, and where there are none those that the compiler finds, one of each line, the one that `compile_files` tells
+/// first. A line of the declaration file that has a fault declares nothing. A command file that isn't there or is too
+/// long is listed with that as its fault. No file changes.
 ///
 /// # Errors
 ///
@@ -213,7 +213,7 @@ pub fn faults_of<F: Files>(
     requires { 0 < length names.now }
     // All faults of the declaration file are listed.
     ensures declared { IfOk result (λ found. (shape : AnyShape)
-        × JudgedFile (F.holds files.old) decl.now shape found.declarations.items) }
+        × JudgedDeclarations (F.holds files.old) decl.now shape found.declarations.items) }
     // So are all faults of lines of command files, and other faults only where no line has one.
     ensures lines { IfOk result (λ found. (lines : List OneFault)
         × AreListed (F.holds files.old) (map (λ name. name.now) names.now) (length names.now) lines

@@ -482,8 +482,8 @@ impl<'a, R: Disk + Alloc<A = Global>, L: Listener> SavingFolder<'a, R, L> {
         sync_folder(rt)
     }
 
-    /// Replaces all files that were handed in, or none, copied first where the terms say so. A file that is to hold what
-    /// it held when it was read stays; it must hold that still.
+    /// Replaces all files that were handed in, or none, copied first where the terms say so. A file that is to hold
+    /// what it held when it was read stays; it must hold that still.
     pub fn commit(&self) -> Result<(), Unsaved> {
         if self.pending.is_empty() {
             return Ok(());

@@ -13,7 +13,8 @@ use Rattle.shape_files.specs.Refusals.{LineFaultIs}
 use Rattle.shape_files.specs.Shapes.{Declares, no_shape}
 
 -- A line more, that of this number: it declares something, or it has a fault, is listed with it, and declares nothing.
-pub data JudgedLine (holds : Holds) (number : ℕ) (text : List ℕ) (before after : Shape) (found more : List DeclFault) : Type 0 where
+pub data JudgedLine (holds : Holds) (number : ℕ) (text : List ℕ) (before after : Shape) (found more : List DeclFault)
+    : Type 0 where
   Good : Declares holds (said_in_line text) before after → more ≡ found
       → JudgedLine holds number text before after found more
   Faulty : (f : LineFault) → LineFaultIs before (said_in_line text) f → after ≡ before
@@ -27,7 +28,7 @@ pub data JudgedLines (holds : Holds) : List (List ℕ) → Shape → List DeclFa
       → JudgedLines holds (front ++ text ∷ []) after more
 
 -- all faults of the file of that name, and what its other lines declare
-pub record JudgedFile (holds : Holds) (name : List ℕ) (shape : Shape) (faults : List DeclFault) : Type 0 where
+pub record JudgedDeclarations (holds : Holds) (name : List ℕ) (shape : Shape) (faults : List DeclFault) : Type 0 where
   pub bytes : List ℕ
   pub held : holds name (Some bytes)
   pub short : length bytes ≤ 67108864

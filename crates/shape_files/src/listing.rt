@@ -4,7 +4,7 @@ ghost use Rattle.std.specs.Prelude.{◌≡◌, ◌≤◌, [], true, IfErr, IfOk,
 ghost use Rattle.file_access.specs.Holding.{SameFiles};
 ghost use Rattle.shape.specs.Whole.{is_shape};
 ghost use Rattle.text_lines.specs.Lines.{lines};
-ghost use Rattle.shape_files.specs.Listing.{IsNoLine, IsOfDevice, JudgedFile, JudgedLine, JudgedLines};
+ghost use Rattle.shape_files.specs.Listing.{IsNoLine, IsOfDevice, JudgedDeclarations, JudgedLine, JudgedLines};
 ghost use Rattle.shape_files.specs.Refusals.{ShapeRefusalIs};
 ghost use Rattle.shape_files.specs.Shapes.{IsDeclared, shape_of};
 
@@ -59,7 +59,8 @@ fn judge_all<F: Files>(
     files: &mut F,
     bytes: &[u8],
 ) -> Result<ListedShape, ShapeRefusal>
-    ensures judged { IfOk result (λ listed. JudgedLines (F.holds files.old) (lines bytes.now) listed.shape listed.faults.items) }
+    ensures judged { IfOk result (λ listed. JudgedLines (F.holds files.old) (lines bytes.now) listed.shape
+        listed.faults.items) }
     ensures legal { IfOk result (λ listed. is_shape listed.shape ≡ true) }
     ensures refused { IfErr result (IsOfDevice (F.failed files.old) (F.failed files.new)) }
     ensures counted { F.failed files.old ≤ F.failed files.new }
@@ -92,7 +93,8 @@ pub fn list_shape<F: Files>(
     files: &mut F,
     decl: &str,
 ) -> Result<ListedShape, ShapeRefusal>
-    ensures judged { IfOk result (λ listed. JudgedFile (F.holds files.old) decl.now listed.shape listed.faults.items) }
+    ensures judged { IfOk result (λ listed. JudgedDeclarations (F.holds files.old) decl.now listed.shape
+        listed.faults.items) }
     // Where no line has a fault, all of them declare the shape.
     ensures declared { IfOk result (λ listed. listed.faults.items ≡ []
         → IsDeclared (F.holds files.old) decl.now listed.shape) }
