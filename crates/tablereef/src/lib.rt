@@ -10,6 +10,7 @@
 //! | `parser`, `compiler` | command files read to trees, and trees compiled to accepted code |
 //! | `files`, `folder` | what is asked of files; files in memory, and those of a folder of the disk |
 //! | `declarations`, `stored`, `compiling`, `listings`, `runs` | from files to files: what the program's commands do |
+//! | `conversations`, `journals` | runs that ask an operator for each line, and lines that are kept before a run sees them |
 //!
 //! A program that compiles, verifies and runs needs `files`, `compiling`, `listings` and `runs` alone; the crate
 //! `embedded` is one. What a run of accepted code promises is the contract of `machine_for_accepted::run`.
@@ -22,8 +23,10 @@ pub use file_access as files;
 pub use file_commands as listings;
 pub use fixed_num as numbers;
 pub use folder_files as folder;
+pub use line_journal as journals;
 pub use machine as machine_for_accepted;
 pub use ndx_tree as indexes;
+pub use operating as conversations;
 pub use prg_compile as compiler;
 pub use prg_parser as parser;
 pub use run_commands as runs;
