@@ -35,8 +35,8 @@ use file_commands::{
 };
 use folder_files::{
     FinishedSave, Folder, Held, Hindrance, Nobody, SaveTerms, SavingFolder, UnfinishedSave,
-    Unreplaced, Unsaved, behind_links, finish, forget, is_empty_folder, is_same_file,
-    name_in_folder, note_stands, paper_name, save_stands, stands, take_folder,
+    Unreplaced, Unsaved, behind_links, finish, forget, hindered_plan, is_empty_folder,
+    is_same_file, name_in_folder, note_stands, paper_name, save_stands, stands, take_folder,
 };
 use folder_shapes::{LineTold, declare};
 use run_commands::{Ended, Job, Report, RunRefusal};
@@ -47,7 +47,7 @@ use std::fs::File;
 use std::io::IsTerminal;
 use std::process::ExitCode;
 use std::rt::Runtime;
-use std::{env, io};
+use std::{env, io, str};
 use table_csv::list_csv;
 
 /// The most bytes that an operator may type for a run: 1 MiB.
@@ -151,6 +151,24 @@ fn overwritten_names<R: Runtime<A = Global>>(
     Ok(overwritten_by(name, "", &[], paper_name(), recorded))
 }
 
+/// What a file is that stands under the name of a table or an index in the folder too, if it does.
+fn kept_as<R: Runtime<A = Global>>(rt: &R, out: &str) -> Option<Overwritten> {
+    if !stands(rt, out) {
+        return None;
+    }
+    let bytes = folder_names(rt).ok()?;
+    for bytes in bytes.split(|byte| *byte == 0) {
+        let name = str::from_utf8(bytes).unwrap_or("");
+        let what = overwritten_by(name, "", &[], paper_name(), false);
+        if let Some(Overwritten::Table | Overwritten::Index) = what
+            && is_same_file(rt, out, name)
+        {
+            return what;
+        }
+    }
+    None
+}
+
 /// What a code file would overwrite by the files themselves.
 fn overwritten_files<R: Runtime<A = Global>>(
     rt: &R,
@@ -169,7 +187,7 @@ fn overwritten_files<R: Runtime<A = Global>>(
             return Some(Overwritten::Source { file });
         }
     }
-    None
+    kept_as(rt, out)
 }
 
 fn compile<'a, R: Runtime<A = Global, File = File>>(
@@ -369,7 +387,7 @@ pub fn settle<R: Runtime<A = Global, File = File>>(rt: &R, audience: Audience) {
                 let _ = tell_unfinished(rt, audience, &unfinished);
             }
         }
-        Held::NoLocks => {
+        Held::NoLocks | Held::Closed => {
             let _ = tell_unfinished(rt, audience, &UnfinishedSave::PaperDisk);
         }
         Held::Taken => {}
@@ -510,6 +528,7 @@ pub fn hindered(held: &Held, no_lock: bool) -> Option<Hindrance> {
                 Some(Hindrance::NoLocks)
             }
         }
+        Held::Closed => Some(Hindrance::Closed),
     }
 }
 
@@ -558,6 +577,7 @@ fn run_alone<R: Runtime<A = Global, File = File>>(
             return status;
         }
     }
+    let closed = closed.or(hindered_plan(rt));
     run_and_save(rt, audience, job, save, screens, closed)
 }
 
@@ -569,11 +589,11 @@ fn forget_save<R: Runtime<A = Global, File = File>>(
 ) -> Status {
     let held = take_folder(rt);
     if let Some(hindrance) = hindered(&held, no_lock) {
-        let status = tell_unfinished(rt, audience, &UnfinishedSave::PaperDisk);
+        let _ = eprintln!(rt; "disk {}", paper_name());
         if audience.person {
-            let _ = eprintln!(rt; "{}", why_hindered(hindrance));
+            let _ = eprintln!(rt; "{}; no file was changed", why_hindered(hindrance));
         }
-        return status;
+        return Status::Disk;
     }
     match forget(rt) {
         Ok(_) => Status::Done,

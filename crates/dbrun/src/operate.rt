@@ -14,7 +14,8 @@ use file_access::Files;
 use file_commands::{FILE_LIMIT, Refusal, Status};
 use folder_files::{
     FileSum, Folder, Held, Hindrance, JournalFault, JournalFile, Listener, SaveTerms, SavingFolder,
-    Tail, UnfinishedSave, note_stands, paper_name, put_new_file, stands, sum_of, take_folder,
+    Tail, UnfinishedSave, hindered_plan, note_stands, paper_name, put_new_file, stands, sum_of,
+    take_folder,
 };
 use journal_papers::{JournalPaper, first_changed};
 use journal_steps::{Next, Remains, next_of};
@@ -690,6 +691,11 @@ fn operate_talk<'a, R: Runtime<A = Global, File = File>>(
             return status;
         }
     }
+    let closed = if open.talk.save.is_some() {
+        closed.or(hindered_plan(rt))
+    } else {
+        closed
+    };
     match open_journal(rt, names.journal.as_str(), goes_on, open.talk.no_lock()) {
         Ok((journal, tail)) => converse(rt, audience, open, journal, tail, closed),
         Err(fault) => {

@@ -254,10 +254,18 @@ pub fn why_hindered(hindrance: Hindrance) -> &'static str {
     match hindrance {
         Hindrance::Taken => "another run has the folder",
         Hindrance::NoLocks => "this file system knows no locks; --no-lock saves without one",
+        Hindrance::Closed => "the folder can't be read",
+        Hindrance::NoRoom => "no file can be made in this folder",
+        Hindrance::Draft => "another program's file dbrun.save.new stands here; move it away",
         Hindrance::Harm(Harm::NoFile) => "a folder, a device or a pipe stands under this name",
         Hindrance::Harm(Harm::NotWritable) => "nobody may write this file",
         Hindrance::Harm(Harm::Links) =>
             "the file has further names, which would keep what it holds now",
+        Hindrance::Harm(Harm::Mounted) =>
+            "the file is mounted here, so no other can take its place",
+        Hindrance::Harm(Harm::Guarded) =>
+            "in this folder only its owner or the file's may replace the file",
+        Hindrance::Frozen => "the system lets nobody write this file",
         Hindrance::Harm(Harm::Owner) => "the file is another user's; --new-owner makes it yours",
         Hindrance::Harm(Harm::Group) =>
             "the file is of a group that isn't yours; --new-owner makes it yours",

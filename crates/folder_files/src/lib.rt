@@ -21,7 +21,7 @@ pub use folder::{Doing, Folder, Listener, Nobody};
 pub use journal::{JournalFault, JournalFile, Tail, TakenUp, stands};
 pub use journal_papers::FileSum;
 pub use lock::{Held, Hold, take_folder};
-pub use papers::{note_stands, save_stands};
+pub use papers::{hindered_plan, note_stands, save_stands};
 pub use replacing::Unreplaced;
 pub use save_papers::sum_of;
 pub use save_rules::Harm;

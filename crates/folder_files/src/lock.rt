@@ -21,6 +21,8 @@ pub enum Held {
     Taken,
     /// The file system knows no locks.
     NoLocks,
+    /// The folder can't be read.
+    Closed,
 }
 
 /// The folder that was opened and locked.
@@ -32,7 +34,7 @@ fn locked(folder: File) -> Held {
 /// waits for another one only while that one's note stands, that is, until that save is at its end.
 pub fn take_folder<R: Disk<File = File> + Alloc<A = Global>>(rt: &R) -> Held {
     let Ok(folder) = fs::open(rt, ".") else {
-        return Held::NoLocks;
+        return Held::Closed;
     };
     match folder.try_lock() {
         Ok(()) => locked(folder),

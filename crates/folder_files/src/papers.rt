@@ -2,6 +2,7 @@
 #![tactic(auto)]
 
 use crate::disk::{is_free, remove_if_there, sync_folder, write_new};
+use crate::targets::Hindrance;
 use file_access::{ReadFault, read_within};
 use save_papers::{PaperError, SavePaper, may_begin_paper, read, write};
 use std::alloc::{Alloc, Global};
@@ -95,6 +96,21 @@ pub fn note_stands<R: Disk + Alloc<A = Global>>(rt: &R) -> bool {
 /// Whether a save was cut off, or goes on: something stands of its plan or its note.
 pub fn save_stands(rt: &impl Disk) -> bool {
     !is_free(rt, PAPER) || !is_free(rt, DRAFT)
+}
+
+/// Why no save could begin in the folder, if none could: the file of a plan's draft is made there, and removed.
+pub fn hindered_plan<R: Disk>(rt: &R) -> Option<Hindrance> {
+    if !is_free(rt, DRAFT) {
+        return Some(Hindrance::Draft);
+    }
+    if write_new(rt, DRAFT, &[], None).is_err() {
+        return Some(Hindrance::NoRoom);
+    }
+    // a removal that failed is tried again, so that nothing is left
+    if remove_if_there(rt, DRAFT).is_err() && remove_if_there(rt, DRAFT).is_err() {
+        return Some(Hindrance::NoRoom);
+    }
+    None
 }
 
 /// Removes the plan or the note.

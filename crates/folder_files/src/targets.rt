@@ -3,10 +3,10 @@
 
 use crate::disk::standing;
 use crate::user::Who;
-use save_rules::{Harm, Standing, harm_of, is_in_folder};
+use save_rules::{FileFolder, Harm, Standing, harm_of, is_in_folder};
 use std::alloc::{Alloc, AllocError, Global};
-use std::fs::{self, Metadata};
-use std::io::ErrorKind;
+use std::fs::{self, Metadata, OpenFile, OpenOptions};
+use std::io::{self, ErrorKind};
 use std::os::unix::fs::MetadataExt;
 use std::rt::Files as Disk;
 
@@ -20,8 +20,16 @@ pub enum Hindrance {
     Taken,
     /// The file system knows no locks.
     NoLocks,
+    /// The folder can't be read.
+    Closed,
+    /// No file can be made in the folder.
+    NoRoom,
+    /// Another program's file stands where a plan would be written.
+    Draft,
     /// The file can't be replaced as it was.
     Harm(Harm),
+    /// The system lets nobody write the file, or rename it.
+    Frozen,
     /// The file is a link that leaves the folder.
     LeavesFolder,
     /// The file is one that was read already, under another name.
@@ -122,6 +130,33 @@ fn standing_of(data: &Metadata) -> Standing {
         owner: data.uid(),
         group: data.gid(),
         links: data.nlink(),
+        device: data.dev(),
+    }
+}
+
+/// What the rules of a save know of the folder of a file.
+fn folder_standing<R: Disk>(rt: &R, name: &str) -> io::Result<FileFolder> {
+    let data = fs::metadata(rt, folder_of(name))?;
+    Ok(FileFolder {
+        mode: data.mode(),
+        owner: data.uid(),
+        device: data.dev(),
+    })
+}
+
+/// The system's number of what is permitted to nobody: a file that is immutable or only grows.
+const NOT_PERMITTED: i32 = 1;
+
+/// Whether the system lets nobody write a file, whatever its mode says.
+fn is_frozen<R: Disk>(rt: &R, name: &str) -> bool {
+    let mut options = OpenOptions::new();
+    options.write(true);
+    match options.open(rt, name) {
+        Ok(_) => false,
+        Err(error) => {
+            error.raw_os_error() == Some(NOT_PERMITTED)
+                || error.kind() == ErrorKind::ReadOnlyFilesystem
+        }
     }
 }
 
@@ -139,9 +174,15 @@ pub(crate) fn target_of<R: Disk + Alloc<A = Global>>(
     let Some(data) = found else {
         return Ok(Target { name, file: None });
     };
+    let Ok(folder) = folder_standing(rt, name.as_str()) else {
+        return Err(Hindrance::Disk);
+    };
     let user = who.user();
-    if let Some(harm) = harm_of(&standing_of(&data), &user, takes_over) {
+    if let Some(harm) = harm_of(&standing_of(&data), &folder, &user, takes_over) {
         return Err(Hindrance::Harm(harm));
+    }
+    if is_frozen(rt, name.as_str()) {
+        return Err(Hindrance::Frozen);
     }
     let file = Some((data.dev(), data.ino()));
     Ok(Target { name, file })

@@ -12,6 +12,9 @@ const STATUS: &str = "/proc/self/status";
 /// The bit of the right to give files to others.
 const CHOWN: u64 = 1;
 
+/// The bit of the right to do with each file what its owner may.
+const FOWNER: u64 = 8;
+
 /// Who runs the program, as the system tells it. Where it doesn't, files are taken to be given away, and the save shows
 /// whether they can be.
 #[derive(Drop)]
@@ -20,6 +23,7 @@ pub(crate) struct Who {
     group: u32,
     groups: Vec<u32>,
     gives_away: bool,
+    acts_for_owners: bool,
 }
 
 /// The effective one of a line's four numbers.
@@ -70,6 +74,7 @@ fn told(alloc: Global, text: &str) -> Result<Option<Who>, AllocError> {
         group,
         groups: numbers(alloc, groups)?,
         gives_away: rights & CHOWN != 0,
+        acts_for_owners: rights & FOWNER != 0,
     }))
 }
 
@@ -92,6 +97,7 @@ impl Who {
                 group: 0,
                 groups: Vec::new(rt.alloc()),
                 gives_away: true,
+                acts_for_owners: true,
             },
         }
     }
@@ -103,6 +109,7 @@ impl Who {
             group: self.group,
             groups: self.groups.as_slice(),
             gives_away: self.gives_away,
+            acts_for_owners: self.acts_for_owners,
         }
     }
 }

@@ -72,13 +72,28 @@ fn put_index<W: Write>(f: &mut Formatter<W>, declared: &FolderDeclared, i: usize
     write!(f, "INDEX {name} ON {of} KEY {key}")
 }
 
-fn put_note<W: Write>(f: &mut Formatter<W>, name: &[u8], note: Note) -> fmt::Result {
+/// Whether a name is another one in capitals.
+fn is_in_capitals(name: &[u8], other: &[u8]) -> bool {
+    name.eq_ignore_ascii_case(other) && !name.iter().any(|byte| byte.is_ascii_lowercase())
+}
+
+/// What is noted of a file of a folder of these names.
+fn put_note<W: Write>(
+    f: &mut Formatter<W>,
+    names: &[&[u8]],
+    name: &[u8],
+    note: Note,
+) -> fmt::Result {
     let shown = Shown(name);
     write!(f, "* {shown}: {note}")?;
     match note {
         Note::SmallLetters => {
             let capitals = Capitals(name);
-            write!(f, ", rename it to {capitals}")
+            if names.iter().any(|other| is_in_capitals(other, name)) {
+                write!(f, ", and {capitals} stands too; give it another name")
+            } else {
+                write!(f, ", rename it to {capitals}")
+            }
         }
         Note::Version(MEMO) => f.write_str(" (memo)"),
         _ => Ok(()),
@@ -91,7 +106,7 @@ impl Display for LineTold<'_, '_> {
             FolderLine::Table(t) => put_table(f, self.declared, t),
             FolderLine::Index(i) => put_index(f, self.declared, i),
             FolderLine::Noted(file, note) => match self.names.get(file) {
-                Some(name) => put_note(f, name, note),
+                Some(name) => put_note(f, self.names, name, note),
                 None => Ok(()),
             },
         }

@@ -40,7 +40,7 @@ forms = (codes "REPORT", it.Reports) ∷ (codes "LABEL", it.Reports) ∷ (codes 
 
 abbrev pub programs : List NamedThing
 programs = (codes "RUN", it.Others) ∷ (codes "CALL", it.Others) ∷ (codes "LOAD", it.Others) ∷ (codes "DIR", it.Others)
-    ∷ (codes "ERASE", it.Others) ∷ (codes "RENAME", it.Others) ∷ []
+    ∷ (codes "DIRECTORY", it.Others) ∷ (codes "ERASE", it.Others) ∷ (codes "RENAME", it.Others) ∷ []
 
 abbrev pub variables : List NamedThing
 variables = (codes "PUBLIC", it.Public) ∷ (codes "DECLARE", it.Arrays) ∷ (codes "DIMENSION", it.Arrays)

@@ -238,6 +238,9 @@ fn of_programs(word: &[u8]) -> Option<LeftOut>
     if is_word(word, b"DIR") {
         return Some(LeftOut::Others);
     }
+    if is_word(word, b"DIRECTORY") {
+        return Some(LeftOut::Others);
+    }
     if is_word(word, b"ERASE") {
         return Some(LeftOut::Others);
     }

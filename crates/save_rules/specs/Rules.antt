@@ -3,8 +3,9 @@ use Rattle.std.specs.Prelude.{◌==◌, ◌&&◌, ◌||◌, not, ℕ, Bool, List
 use Rattle.std.specs.Prelude.{if◌then◌else◌, nat_lt, bit_and, codes, length, take, drop}
 use Rattle.std.specs.List.{list_any}
 use Rattle.std.specs.Str.{bytes_eq}
+use Rattle.save_rules.specs.declared.rules.FileFolder.{FileFolder}
 use Rattle.save_rules.specs.declared.rules.Harm.{Harm}
-use Rattle.save_rules.specs.declared.rules.Harm.TheVariants.{NoFile, NotWritable, Links, Owner, Group}
+use Rattle.save_rules.specs.declared.rules.Harm.TheVariants.{NoFile, NotWritable, Links, Mounted, Guarded, Owner, Group}
 use Rattle.save_rules.specs.declared.rules.Standing.{Standing}
 use Rattle.save_rules.specs.declared.rules.User.{User}
 
@@ -15,17 +16,26 @@ is_one_of group groups = list_any (λ other. other == group) groups
 abbrev pub may_give : User → ℕ → Bool
 may_give user group = user.group == group || is_one_of group user.groups.now
 
+-- whether the folder's sticky bit keeps a user from renaming a file: neither is theirs, and they don't act for owners
+abbrev pub is_guarded : Standing → FileFolder → User → Bool
+is_guarded file folder user =
+    not (bit_and folder.mode 512 == 0) && not user.acts_for_owners
+    && not (user.id == folder.owner) && not (user.id == file.owner)
+
 -- Why a file can't be replaced as it was: it is a folder, a device or a pipe, nobody may write it, it has further
--- names, or another user's new file would have to be given its owner or its group. A user who gives files away can give
--- both, and one who takes files over asks for neither.
-unfoldable pub harm_of : Standing → User → Bool → Option Harm
-harm_of file user takes_over =
+-- names, it lies on another device than its folder, its folder's sticky bit guards it, or another user's new file would
+-- have to be given its owner or its group. A user who gives files away can give both, and one who takes files over asks
+-- for neither.
+unfoldable pub harm_of : Standing → FileFolder → User → Bool → Option Harm
+harm_of file folder user takes_over =
     if not file.is_plain then Some NoFile else
     (if bit_and file.mode 146 == 0 then Some NotWritable else
     (if nat_lt 1 file.links then Some Links else
+    (if not (file.device == folder.device) then Some Mounted else
+    (if is_guarded file folder user then Some Guarded else
     (if takes_over || user.gives_away then None else
     (if not (user.id == file.owner) then Some Owner else
-    (if not (may_give user file.group) then Some Group else None)))))
+    (if not (may_give user file.group) then Some Group else None)))))))
 
 abbrev pub leads_away : ℕ → Bool
 leads_away byte = byte == 47 || byte == 0

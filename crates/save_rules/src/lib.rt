@@ -6,4 +6,4 @@ mod overwriting;
 mod rules;
 
 pub use overwriting::{Overwritten, overwritten_by};
-pub use rules::{Harm, Standing, User, harm_of, is_beside, is_in_folder};
+pub use rules::{FileFolder, Harm, Standing, User, harm_of, is_beside, is_in_folder};

@@ -16,6 +16,18 @@ pub struct Standing {
     pub group: u32,
     /// How many names it has.
     pub links: u64,
+    /// The device on which it lies.
+    pub device: u64,
+}
+
+/// What is known of the folder in which a file is to be replaced.
+#[derive(Clone, Copy, PartialEq, Eq, Debug)]
+pub struct FileFolder {
+    /// Its permission bits.
+    pub mode: u32,
+    pub owner: u32,
+    /// The device on which it lies.
+    pub device: u64,
 }
 
 /// Who runs the program.
@@ -27,6 +39,8 @@ pub struct User<'a> {
     pub groups: &'a [u32],
     /// Whether this user may give files to other users and to any group.
     pub gives_away: bool,
+    /// Whether this user may do with each file what its owner may.
+    pub acts_for_owners: bool,
 }
 
 /// Why a file can't be replaced as it was.
@@ -38,6 +52,10 @@ pub enum Harm {
     NotWritable,
     /// It has further names, which would keep the old file.
     Links,
+    /// It lies on another device than its folder: it is mounted there, and no file can take its place.
+    Mounted,
+    /// Its folder lets only owners rename files, and neither is this user's.
+    Guarded,
     /// It is another user's, to whom this one can't give the new file.
     Owner,
     /// It is of a group to which this user can't give the new file.
@@ -58,10 +76,26 @@ fn may_give(user: &User<'_>, group: u32) -> bool
     user.group == group || is_one_of(group, user.groups)
 }
 
-/// Why a file can't be replaced as it was, if it can't. Who takes files over doesn't ask for their owners and groups.
+/// Whether a folder with the sticky bit keeps a user from renaming a file that isn't theirs.
+fn is_guarded(file: &Standing, folder: &FileFolder, user: &User<'_>) -> bool
+    ensures { result ≡ spec.is_guarded file.now folder.now user.now }
+{
+    folder.mode & 0o1000 != 0
+        && !user.acts_for_owners
+        && user.id != folder.owner
+        && user.id != file.owner
+}
+
+/// Why a file of a folder can't be replaced as it was, if it can't. Who takes files over doesn't ask for their owners
+/// and groups.
 #[tactic(auto, unfolding(crate::specs::Rules::harm_of))]
-pub fn harm_of(file: &Standing, user: &User<'_>, takes_over: bool) -> Option<Harm>
-    ensures { result ≡ spec.harm_of file.now user.now takes_over }
+pub fn harm_of(
+    file: &Standing,
+    folder: &FileFolder,
+    user: &User<'_>,
+    takes_over: bool,
+) -> Option<Harm>
+    ensures { result ≡ spec.harm_of file.now folder.now user.now takes_over }
 {
     if !file.is_plain {
         return Some(Harm::NoFile);
@@ -71,6 +105,12 @@ pub fn harm_of(file: &Standing, user: &User<'_>, takes_over: bool) -> Option<Har
     }
     if file.links > 1 {
         return Some(Harm::Links);
+    }
+    if file.device != folder.device {
+        return Some(Harm::Mounted);
+    }
+    if is_guarded(file, folder, user) {
+        return Some(Harm::Guarded);
     }
     if takes_over || user.gives_away {
         return None;
