@@ -47,17 +47,17 @@ impl<R: Eprint + Alloc<A = Global>> Listener for Progress<'_, R> {
         }
     }
 
-    fn found(&self, name: &str, bytes: Option<&[u8]>) {
+    fn found(&self, name: &str, bytes: Option<&[u8]>) -> Result<(), AllocError> {
         let Some(sums) = self.sums else {
-            return;
+            return Ok(());
         };
         let sum = bytes.map(|bytes| sum_of(bytes));
-        if let (Ok(mut sums), Ok(name)) = (
-            sums.try_borrow_mut(),
-            String::from_str(self.rt.alloc(), name),
-        ) {
-            let _ = sums.push(FileSum { name, sum });
-        }
+        let name = String::from_str(self.rt.alloc(), name)?;
+        let Ok(mut sums) = sums.try_borrow_mut() else {
+            return Err(AllocError);
+        };
+        sums.push(FileSum { name, sum })?;
+        Ok(())
     }
 }
 

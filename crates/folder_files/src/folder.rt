@@ -8,7 +8,7 @@ use crate::papers::PAPER;
 use crate::replacing::{Unreplaced, replace_file};
 use file_access::{Device, Files, ReadFault, read_within};
 use save_rules::{Overwritten, overwritten_by};
-use std::alloc::{Alloc, Global};
+use std::alloc::{Alloc, AllocError, Global};
 use std::fs::{self, OpenFile};
 use std::io::ErrorKind;
 use std::rt::Files as Disk;
@@ -27,8 +27,9 @@ pub trait Listener {
     /// A file of so many bytes is read or written now.
     fn hear(&self, doing: Doing, name: &str, size: u64);
 
-    /// A file of a run was read, and holds these bytes; none where there is no such file.
-    fn found(&self, name: &str, bytes: Option<&[u8]>);
+    /// A file of a run was read, and holds these bytes; none where there is no such file. Where memory is refused for
+    /// what is kept of it, the file counts as not read.
+    fn found(&self, name: &str, bytes: Option<&[u8]>) -> Result<(), AllocError>;
 }
 
 /// Nobody hears it.
@@ -38,7 +39,9 @@ pub struct Nobody;
 impl Listener for Nobody {
     fn hear(&self, _doing: Doing, _name: &str, _size: u64) {}
 
-    fn found(&self, _name: &str, _bytes: Option<&[u8]>) {}
+    fn found(&self, _name: &str, _bytes: Option<&[u8]>) -> Result<(), AllocError> {
+        Ok(())
+    }
 }
 
 /// The files of the folder in which the program runs: names are those of its files. A file that is replaced has its new

@@ -240,7 +240,7 @@ impl JournalFile {
     }
 }
 
-/// Whether nothing stands under a name.
+/// Whether something stands under a name: a file, a folder, or a link that leads nowhere.
 pub fn stands<R: Disk>(rt: &R, name: &str) -> bool {
     !is_free(rt, name)
 }

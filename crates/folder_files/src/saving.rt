@@ -157,7 +157,7 @@ impl<'a, R: Disk + Alloc<A = Global>, L: Listener> SavingFolder<'a, R, L> {
     fn note(&mut self, name: &str, target: Target, held: Option<&[u8]>) -> Result<(), AllocError>
         ensures { self.new.folder.failures ≡ self.old.folder.failures }
     {
-        self.folder.listener.found(name, held);
+        self.folder.listener.found(name, held)?;
         let alloc = self.folder.rt.alloc();
         let name = String::from_str(alloc, name)?;
         let bytes = match held {
@@ -173,11 +173,11 @@ impl<'a, R: Disk + Alloc<A = Global>, L: Listener> SavingFolder<'a, R, L> {
     }
 
     /// Tells what a file that was read holds, or that there is no such file.
-    fn tell_found(&self, name: &str, read: &Result<Vec<u8>, ReadFault>) {
+    fn tell_found(&self, name: &str, read: &Result<Vec<u8>, ReadFault>) -> Result<(), AllocError> {
         match read {
             Ok(bytes) => self.folder.listener.found(name, Some(bytes.as_slice())),
             Err(ReadFault::Absent) => self.folder.listener.found(name, None),
-            Err(ReadFault::Device | ReadFault::TooLong | ReadFault::Memory) => {}
+            Err(ReadFault::Device | ReadFault::TooLong | ReadFault::Memory) => Ok(()),
         }
     }
 
@@ -554,7 +554,9 @@ impl<R: Disk + Alloc<A = Global>, L: Listener> Files for SavingFolder<'_, R, L> 
     fn read(&mut self, alloc: Global, name: &str, limit: usize) -> Result<Vec<u8>, ReadFault> {
         if !is_saved(name) {
             let read = self.folder.read(alloc, name, limit);
-            self.tell_found(name, &read);
+            if self.tell_found(name, &read).is_err() {
+                return Err(ReadFault::Memory);
+            }
             return read;
         }
         let target = match self.looked_at(name) {
