@@ -2,7 +2,7 @@
 #![tactic(auto)]
 
 use crate::words::{
-    BACKUP, FILE, NEW_OWNER, NO_LOCK, ONLY_FINISHED, Outcomes, REHEARSE, WordsFault, flag,
+    BACKUP, FILE, NEW_OWNER, NO_LOCK, ONLY_FINISHED, Outcomes, REHEARSE, RunHelp, WordsFault, flag,
     limit_of, page_of, run_outcomes, runner, saver, word_of,
 };
 use clap::{Arg, ArgAction, ArgMatches, Command};
@@ -64,14 +64,20 @@ pub struct OperateWords<'a> {
     pub shown: ShownWords<'a>,
 }
 
+/// What help says of the budget and the day of a conversation.
+const HELP: RunHelp<'static> = RunHelp {
+    budget: "The most that the run may cost, below 2^64 (left out: 1000000, and where a person types the greatest)",
+    today: "The day of the run, in the years 1900 to 2155 (left out: the computer's, in the zone of TZ)",
+};
+
 /// The words of `operate`.
 pub(crate) fn operator<'a>(alloc: Global) -> Result<Command<'a>, AllocError> {
     let run = runner(
         alloc,
         "operate",
         "Runs a code file in conversation with an operator, whose lines a journal keeps",
-        "Left out, --today is the computer's day in the zone of TZ, and where a person types, --budget is the greatest number.\n\n\
-         Example, behind that of compile: dbrun operate DAY.XBC --journal MONDAY.TXT",
+        "Example, behind that of compile: dbrun operate DAY.XBC --journal MONDAY.TXT",
+        &HELP,
     )?;
     let journal = Arg::new(alloc, JOURNAL)
         .long(JOURNAL)

@@ -191,17 +191,30 @@ fn lister<'a>(alloc: Global) -> Result<Command<'a>, AllocError> {
     .arg(page)
 }
 
+/// What help says of a run's budget and its day.
+pub(crate) struct RunHelp<'a> {
+    pub(crate) budget: &'a str,
+    pub(crate) today: &'a str,
+}
+
+/// What it says of runs that take all lines beforehand.
+const HELP: RunHelp<'static> = RunHelp {
+    budget: "The most that the run may cost, below 2^64 (1000000 if left out)",
+    today: "The day of the run, in the years 1900 to 2155 (1985-01-01 if left out)",
+};
+
 pub(crate) fn runner<'a>(
     alloc: Global,
     name: &'a str,
     about: &'a str,
     example: &'a str,
+    help: &RunHelp<'a>,
 ) -> Result<Command<'a>, AllocError> {
     let budget = Arg::new(alloc, "budget")
         .long("budget")
         .value_name("N")
         .value_parser(value_parser!(u64))
-        .help("The most that the run may cost, below 2^64 (1000000 if left out)");
+        .help(help.budget);
     let limit = Arg::new(alloc, "limit")
         .long("limit")
         .value_name("N")
@@ -210,7 +223,7 @@ pub(crate) fn runner<'a>(
     let today = Arg::new(alloc, "today")
         .long("today")
         .value_name("YYYY-MM-DD")
-        .help("The day of the run, in the years 1900 to 2155 (1985-01-01 if left out)");
+        .help(help.today);
     reader(alloc, name, about, "CODE", example)?
         .arg(budget)?
         .arg(limit)?
@@ -303,12 +316,14 @@ fn with_runners<'a>(alloc: Global, command: Command<'a>) -> Result<Command<'a>, 
         "run",
         "Runs a code file that the verifier accepts, and saves its tables",
         "Example, behind that of compile: dbrun run DAY.XBC --today 1985-01-15 < day.txt",
+        &HELP,
     )?;
     let check = runner(
         alloc,
         "check-run",
         "Runs any code file, testing each instruction first; saves nothing",
         "Example, behind that of compile: dbrun check-run DAY.XBC --changes < day.txt",
+        &HELP,
     )?;
     let changes = flag(alloc, CHANGES, "Tells what a run would save");
     command

@@ -340,6 +340,11 @@ fn wipe(rt: &impl Runtime, window: Window) {
     let _ = eprint!(rt; "\x1b[H");
 }
 
+/// Goes below a drawing, which stays.
+fn leave_drawing(rt: &impl Runtime) {
+    let _ = eprint!(rt; "\x1b[0m\x1b[25;1H\r\n");
+}
+
 /// Prints the rows that aren't printed yet. What was drawn gives way to them.
 fn print_rest<R: Runtime<A = Global, File = File>>(
     rt: &R,
@@ -351,7 +356,7 @@ fn print_rest<R: Runtime<A = Global, File = File>>(
         if desk.manner.one_terminal {
             wipe(rt, window);
         } else {
-            let _ = eprint!(rt; "\x1b[0m\x1b[25;1H\r\n");
+            leave_drawing(rt);
         }
     }
     let rest = &rows[desk.shown.min(rows.len())..];
@@ -413,10 +418,13 @@ fn tell_broken<'a, R: Runtime<A = Global, File = File>>(
     rt: &'a R,
     audience: Audience,
     open: &Open<'_>,
-    record: &Record<'_, R>,
+    desk: &OperatorDesk<'_, R>,
     saving: &SavingFolder<'_, R, Progress<'a, R>>,
     refusal: &OperateRefusal,
 ) -> Status {
+    if let (OperateRefusal::Broke(Broken::Journal), Some(_)) = (refusal, desk.manner.window) {
+        leave_drawing(rt);
+    }
     match refusal {
         OperateRefusal::Run(refusal) => {
             tell_no_run(rt, audience, open, refusal, saving.hindrance())
@@ -429,7 +437,7 @@ fn tell_broken<'a, R: Runtime<A = Global, File = File>>(
             },
         ),
         OperateRefusal::Broke(Broken::Memory) => refuse(rt, Refusal::Memory),
-        OperateRefusal::Broke(Broken::Operator | Broken::Line) => tell_desk(rt, record),
+        OperateRefusal::Broke(Broken::Operator | Broken::Line) => tell_desk(rt, &desk.record),
     }
 }
 
@@ -567,7 +575,7 @@ fn conclude<'a, R: Runtime<A = Global, File = File>>(
     let rows = told.rows.as_slice();
     let ended = match &told.result {
         Ok(ended) => ended,
-        Err(refusal) => return tell_broken(rt, audience, open, &desk.record, saving, refusal),
+        Err(refusal) => return tell_broken(rt, audience, open, desk, saving, refusal),
     };
     match &open.talk.save {
         Some(save) if ended.is_saved(save.only_finished) => {
@@ -651,7 +659,7 @@ fn converse<'a, R: Runtime<A = Global, File = File>>(
     if open.talk.save.is_none() {
         return match rehearse_talk(alloc, &mut saving, &job, &mut journal, &mut desk) {
             Ok(told) => end_rehearsed(rt, audience, open, &journal, &desk, &told),
-            Err(refusal) => tell_broken(rt, audience, open, &desk.record, &saving, &refusal),
+            Err(refusal) => tell_broken(rt, audience, open, &desk, &saving, &refusal),
         };
     }
     let told = operate_files(alloc, &mut saving, &job, &mut journal, &mut desk);
