@@ -577,8 +577,11 @@ fn run_alone<R: Runtime<A = Global, File = File>>(
             return status;
         }
     }
-    let closed = closed.or(hindered_plan(rt));
-    run_and_save(rt, audience, job, save, screens, closed)
+    let hindrance = match closed {
+        Some(hindrance) => Some(hindrance),
+        None => hindered_plan(rt),
+    };
+    run_and_save(rt, audience, job, save, screens, hindrance)
 }
 
 /// Takes away a save that was cut off, and no table.

@@ -699,10 +699,9 @@ fn operate_talk<'a, R: Runtime<A = Global, File = File>>(
             return status;
         }
     }
-    let closed = if open.talk.save.is_some() {
-        closed.or(hindered_plan(rt))
-    } else {
-        closed
+    let closed = match closed {
+        None if open.talk.save.is_some() => hindered_plan(rt),
+        closed => closed,
     };
     match open_journal(rt, names.journal.as_str(), goes_on, open.talk.no_lock()) {
         Ok((journal, tail)) => converse(rt, audience, open, journal, tail, closed),
