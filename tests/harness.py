@@ -19,23 +19,28 @@ def program(kind=None):
     return path
 
 
+def shown_at(terminal):
+    """What is written at a terminal until nobody has its other end any more, line by line."""
+    told = b""
+    while True:
+        try:
+            more = os.read(terminal, 65536)
+        except OSError:
+            more = b""
+        if not more:
+            break
+        told += more
+    os.close(terminal)
+    return told.decode("utf-8", "replace").replace("\r\n", "\n").splitlines()
+
+
 def at_terminal(words, folder):
     """What a program that ends by itself writes at a terminal, line by line. (The terminal doesn't control the program: a
     terminal that does is hung up when the program ends, and what nobody has read by then is lost.)"""
     terminal, at_it = pty.openpty()
     with subprocess.Popen(words, cwd=folder, stdin=at_it, stdout=at_it, stderr=at_it):
         os.close(at_it)
-        told = b""
-        while True:
-            try:
-                more = os.read(terminal, 65536)
-            except OSError:
-                more = b""
-            if not more:
-                break
-            told += more
-        os.close(terminal)
-    return told.decode("utf-8", "replace").replace("\r\n", "\n").splitlines()
+        return shown_at(terminal)
 
 
 def verdict(passed, failed):
