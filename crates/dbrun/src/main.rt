@@ -320,23 +320,27 @@ fn report<R: Runtime<A = Global>>(
     }
 }
 
-/// What to do about a save that was cut off and isn't finished, in one sentence without its point.
-fn why_unfinished(unfinished: &UnfinishedSave) -> Option<&'static str> {
+/// What to do about a save that was cut off, of which maybe a note stands, and that isn't finished, in one sentence
+/// without its point.
+fn why_unfinished(unfinished: &UnfinishedSave, noted: bool) -> Option<&'static str> {
     match unfinished {
         UnfinishedSave::Foreign => Some("this file isn't a save's; give it another name"),
         UnfinishedSave::Changed { .. } => Some(
             "another program changed this file behind the save; dbrun forget takes the save away, and no table",
         ),
-        UnfinishedSave::Disk { .. } | UnfinishedSave::PaperDisk => Some(
+        UnfinishedSave::Disk { .. } | UnfinishedSave::PaperDisk if noted => Some(
             "the next command finishes this save; do not repeat the run",
+        ),
+        UnfinishedSave::Disk { .. } | UnfinishedSave::PaperDisk => Some(
+            "what is left of a save can't be taken away; no table was changed",
         ),
         UnfinishedSave::Memory => None,
     }
 }
 
 /// Tells on standard error why a save that was cut off isn't finished.
-pub fn tell_unfinished(
-    rt: &impl Runtime,
+pub fn tell_unfinished<R: Runtime<A = Global>>(
+    rt: &R,
     audience: Audience,
     unfinished: &UnfinishedSave,
 ) -> Status {
@@ -354,7 +358,7 @@ pub fn tell_unfinished(
         UnfinishedSave::Memory => (eprintln!(rt; "memory"), Status::Memory),
     };
     if audience.person {
-        let _ = match why_unfinished(unfinished) {
+        let _ = match why_unfinished(unfinished, note_stands(rt)) {
             Some(sentence) => eprintln!(rt; "  {sentence}."),
             None => Ok(()),
         };

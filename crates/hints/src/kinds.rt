@@ -72,13 +72,13 @@ pub fn of_command(kind: CompileFaultKind) -> &'static str {
             "procedures are called in more than 256 ways; call them with the same areas open and the same variables set"
         }
         CompileFaultKind::Limit => {
-            "a program has at most 256 variables, 4,096 constants, 64 filters, 65,535 instructions and 20 calls within one another; cut it into several"
+            "a program has at most 256 variables, 4,096 constants, 64 filters, 65,535 instructions, 4,096 places of jumps and 20 calls within one another, and a USE 7 indexes; cut it into several"
         }
         CompileFaultKind::Parameters => {
             "WITH must hand over as many values as PARAMETERS names, and PARAMETERS must be the procedure's first command"
         }
         CompileFaultKind::Get => {
-            "only @, ? and ?? stand between a GET and its READ; put other commands before the first GET or behind the READ"
+            "a READ stands behind the GETs, and only @, ? and ?? between; put other commands before the first GET or behind the READ"
         }
         CompileFaultKind::Index => {
             "the index is declared for another table or with another key; INDEX ON must spell the declared key"
@@ -91,7 +91,7 @@ pub fn of_declaration(fault: LineFault) -> &'static str {
     match fault {
         LineFault::Word => "write TABLE name, INDEX name ON table KEY key, or a comment behind *",
         LineFault::Name => {
-            "a name has up to eight capitals, digits and underscores, a letter first, and stands once; declare a table before its indexes"
+            "a name has up to eight capitals, digits and underscores, a letter first, isn't A to J or M alone, and stands once; declare a table before its indexes"
         }
         LineFault::Key => {
             "a key is one to eight text fields of the table joined by +, each plain or in UPPER(), at most 100 bytes long"
