@@ -180,22 +180,29 @@ unsaved f (inr (once, inr is)) noted done = absurd cc
 no_journal : (f g : Folder) → f.journal ≡ None → Grows f g
 no_journal f g none j is = absurd cc
 
-begin_stops : (f : Folder) (s : Session) (n : Moment) → AllByRecursion IsClean s.typed → f.journal ≡ None → f.saves ≡ 0
+empty_journal : (f : Folder) → f.journal ≡ Some [] → Grows f (behind_deed MakeJournal f)
+empty_journal f here = grows_same f (behind_deed MakeJournal f) (sym here)
+
+begin_stops : (f : Folder) (s : Session) (n : Moment) → AllByRecursion IsClean s.typed
+    → Grows f (behind_deed MakeJournal f) → f.saves ≡ 0
     → f.noted ≡ false → StoppedAt (MakeJournal ∷ WriteBegun ∷ talk s.typed ++ last_deeds s.saves) (begins f) n → Result f n
-begin_stops f s n clean none saves noted (inl (inl e, t)) =
+begin_stops f s n clean fresh saves noted (inl (inl e, t)) =
     took_none f f n e t (grows_same f f refl) (inl (saves, noted))
-begin_stops f s n clean none saves noted (inl (inr e, t)) =
-    took_none f (behind_deed MakeJournal f) n e t (no_journal f (behind_deed MakeJournal f) none) (inl (saves, noted))
-begin_stops f s n clean none saves noted (inr (inl (inl e, t))) =
-    took_none f (behind_deed MakeJournal f) n e t (no_journal f (behind_deed MakeJournal f) none) (inl (saves, noted))
-begin_stops f s n clean none saves noted (inr (inl (inr e, t))) =
-    took_none f (behind_deed WriteBegun (behind_deed MakeJournal f)) n e t
-    (no_journal f (behind_deed WriteBegun (behind_deed MakeJournal f)) none) (inl (saves, noted))
-begin_stops f s n clean none saves noted (inr (inr h)) =
+begin_stops f s n clean fresh saves noted (inl (inr e, t)) =
+    took_none f (behind_deed MakeJournal f) n e t fresh (inl (saves, noted))
+begin_stops f s n clean fresh saves noted (inr (inl (inl e, t))) =
+    took_none f (behind_deed MakeJournal f) n e t fresh (inl (saves, noted))
+begin_stops f s n clean fresh saves noted (inr (inl (inr e, t))) =
+    took_none f (behind_deed WriteBegun (behind_deed MakeJournal f)) n e t fresh (inl (saves, noted))
+begin_stops f s n clean fresh saves noted (inr (inr h)) =
     let exact : IsExact (begins (behind_deed WriteBegun (behind_deed MakeJournal f))) =
     record { journal = refl; clean = tt; saves = saves; noted = noted } in
     let r = talk_stops s.typed s.saves (begins (behind_deed WriteBegun (behind_deed MakeJournal f))) n clean exact h in
-    record { grows = no_journal f n.folder none; kept = r.kept; sound = r.sound }
+    record {
+      grows = grows_then f (behind_deed WriteBegun (behind_deed MakeJournal f)) n.folder fresh r.grows;
+      kept = r.kept;
+      sound = r.sound;
+    }
 
 -- the journal cut behind its last LF
 cut_grows : (f : Folder) (j : List ℕ) → f.journal ≡ Some j → Grows f (behind_deed CutJournal f)
@@ -278,24 +285,42 @@ by_cases journal begun true done saves goes_on typed at_end n sound h =
     (λ _. r.0, λ _. r.1)
 by_cases journal begun false true saves true typed at_end n sound h =
     let r = idle (folder_of journal begun false true saves) n sound h in (λ _. r.0, λ _. r.1)
-by_cases (Some j) true false false saves true typed at_end n sound h =
-    let none : saves ≡ 0 = unsaved (folder_of (Some j) true false false saves) sound refl refl in (
-      λ clean. go_on_stops (folder_of (Some j) true false false saves) j (record { goes_on = true; typed = typed; saves = at_end }) n clean refl none refl h,
+by_cases (Some []) true false false saves true typed at_end n sound h =
+    let none : saves ≡ 0 = unsaved (folder_of (Some []) true false false saves) sound refl refl in (
+      λ clean. go_on_stops (folder_of (Some []) true false false saves) [] (record { goes_on = true; typed = typed; saves = at_end }) n clean refl none refl h,
       λ once. absurd cc,
     )
-by_cases (Some j) false false false saves true typed at_end n sound h =
-    let r = idle (folder_of (Some j) false false false saves) n sound h in (λ _. r.0, λ _. r.1)
+by_cases (Some (b ∷ bs)) true false false saves true typed at_end n sound h =
+    let none : saves ≡ 0 = unsaved (folder_of (Some (b ∷ bs)) true false false saves) sound refl refl in (
+      λ clean. go_on_stops (folder_of (Some (b ∷ bs)) true false false saves) (b ∷ bs) (record { goes_on = true; typed = typed; saves = at_end }) n clean refl none refl h,
+      λ once. absurd cc,
+    )
+by_cases (Some []) false false false saves true typed at_end n sound h =
+    let r = idle (folder_of (Some []) false false false saves) n sound h in (λ _. r.0, λ _. r.1)
+by_cases (Some (b ∷ bs)) false false false saves true typed at_end n sound h =
+    let r = idle (folder_of (Some (b ∷ bs)) false false false saves) n sound h in (λ _. r.0, λ _. r.1)
 by_cases None begun false false saves true typed at_end n sound h =
     let r = idle (folder_of None begun false false saves) n sound h in (λ _. r.0, λ _. r.1)
-by_cases (Some j) begun false done saves false typed at_end n sound h =
-    let r = idle (folder_of (Some j) begun false done saves) n sound h in (λ _. r.0, λ _. r.1)
+by_cases (Some (b ∷ bs)) begun false done saves false typed at_end n sound h =
+    let r = idle (folder_of (Some (b ∷ bs)) begun false done saves) n sound h in (λ _. r.0, λ _. r.1)
+by_cases (Some []) true false done saves false typed at_end n sound h =
+    let r = idle (folder_of (Some []) true false done saves) n sound h in (λ _. r.0, λ _. r.1)
+by_cases (Some []) false false true saves false typed at_end n sound h =
+    let r = idle (folder_of (Some []) false false true saves) n sound h in (λ _. r.0, λ _. r.1)
+by_cases (Some []) false false false saves false typed at_end n sound h =
+    let none : saves ≡ 0 = unsaved (folder_of (Some []) false false false saves) sound refl refl in (
+      λ clean. begin_stops (folder_of (Some []) false false false saves) (record { goes_on = false; typed = typed; saves = at_end }) n clean
+          (empty_journal (folder_of (Some []) false false false saves) refl) none refl h,
+      λ once. absurd cc,
+    )
 by_cases None true false done saves false typed at_end n sound h =
     let r = idle (folder_of None true false done saves) n sound h in (λ _. r.0, λ _. r.1)
 by_cases None false false true saves false typed at_end n sound h =
     let r = idle (folder_of None false false true saves) n sound h in (λ _. r.0, λ _. r.1)
 by_cases None false false false saves false typed at_end n sound h =
     let none : saves ≡ 0 = unsaved (folder_of None false false false saves) sound refl refl in (
-      λ clean. begin_stops (folder_of None false false false saves) (record { goes_on = false; typed = typed; saves = at_end }) n clean refl none refl h,
+      λ clean. begin_stops (folder_of None false false false saves) (record { goes_on = false; typed = typed; saves = at_end }) n clean
+          (no_journal (folder_of None false false false saves) (behind_deed MakeJournal (folder_of None false false false saves)) refl) none refl h,
       λ once. absurd cc,
     )
 

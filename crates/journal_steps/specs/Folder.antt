@@ -1,6 +1,6 @@
 -- What stands of a conversation in the folder, and what its sessions make of it.
 use Rattle.std.specs.Prelude.{◌≡◌, ◌⊎◌, ◌++◌, ℕ, suc, Bool, true, false, List, [], ◌∷◌, Option, Some, None, take}
-use Rattle.std.specs.Prelude.{is_some, ◌==◌, if◌then◌else◌}
+use Rattle.std.specs.Prelude.{◌||◌, ◌==◌, if◌then◌else◌}
 use Rattle.std.specs.Option.{option_map}
 use Rattle.journal_steps.specs.declared.next.Remains.{Remains}
 use Rattle.journal_steps.specs.declared.next.Next.{Next}
@@ -37,8 +37,14 @@ pub record Folder : Type 0 where
 abbrev pub empty_folder : Folder
 empty_folder = record { journal = None; begun = false; noted = false; done = false; saves = 0 }
 
+-- an empty journal without a text of its beginning or of its end counts as none: nothing was ever asked
+abbrev pub counts : Option (List ℕ) → Bool → Bool → Bool
+counts None begun done = false
+counts (Some []) begun done = begun || done
+counts (Some (byte ∷ bytes)) begun done = true
+
 abbrev pub remains_in : Folder → Remains
-remains_in f = record { journal = is_some f.journal; begun = f.begun; noted = f.noted; done = f.done }
+remains_in f = record { journal = counts f.journal f.begun f.done; begun = f.begun; noted = f.noted; done = f.done }
 
 -- the folder, and the lines that the session's machine has taken, in order
 pub record Moment : Type 0 where

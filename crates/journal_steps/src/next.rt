@@ -6,7 +6,7 @@ ghost use Rattle.journal_steps.specs.Next.{next_of as next_for};
 /// What stands of a conversation in the folder.
 #[derive(Clone, Copy, PartialEq, Eq, Debug)]
 pub struct Remains {
-    /// Whether the journal stands.
+    /// Whether the journal stands. An empty one alone, without a text of its beginning or of its end, counts as none.
     pub journal: bool,
     /// Whether the text of its beginning stands.
     pub begun: bool,

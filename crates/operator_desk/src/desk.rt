@@ -15,11 +15,10 @@ use std::alloc::{AllocError, Global};
 use std::fs::File;
 use std::rt::Runtime;
 use std::str;
-use terminal_screen::{Drawing, Window, drawn, plain_lines, sent_lines};
+use terminal_screen::{Drawing, Window, drawn, left, plain_lines, sent_lines};
 
 /// What a person at a terminal is told who ends the input.
-const AT_END: &str =
-    "Ctrl-C leaves everything as it is, for --continue; END typed here means that no more lines come";
+const AT_END: &str = "Ctrl-C leaves everything for --continue; END typed means no more lines come";
 
 /// The most bytes that are read of a line: a letter in UTF-8 has up to three for one of its page.
 const MOST_READ: usize = 3 * MOST_TYPED;
@@ -57,7 +56,7 @@ pub struct OperatorDesk<'a, R: Runtime<A = Global, File = File>> {
     pub before: Vec<[u8; 80]>,
     /// The line below the drawing.
     pub note: &'static str,
-    /// The same of a line that was cut off, until the first answer; empty where none was.
+    /// The same of a line that was cut off, until another one or the first answer; empty where none was.
     pub cut: String,
     /// Whether a person ended the input at this question.
     pub ended: bool,
@@ -103,12 +102,28 @@ impl<R: Runtime<A = Global, File = File>> OperatorDesk<'_, R> {
         }
     }
 
-    /// What stands below the drawing.
+    /// What stands below the drawing: the newest note.
     pub fn told(&self) -> &str {
-        if self.cut.is_empty() {
-            self.note
-        } else {
+        if self.note.is_empty() {
             self.cut.as_str()
+        } else {
+            self.note
+        }
+    }
+
+    /// The same in the page, in which each letter is a byte and takes a column.
+    fn told_in_page(&self, alloc: Global) -> Result<Vec<u8>, OperatorFailed> {
+        let told = self.told();
+        let Ok(bytes) = Vec::from_slice(alloc, told.as_bytes()) else {
+            return Err(OperatorFailed);
+        };
+        let Some(page) = self.manner.page else {
+            return Ok(bytes);
+        };
+        match in_page(alloc, page, told) {
+            Ok(bytes) => Ok(bytes),
+            Err(LetterFault::Lacks(_)) => Ok(bytes),
+            Err(LetterFault::Memory) => Err(OperatorFailed),
         }
     }
 
@@ -138,6 +153,7 @@ impl<R: Runtime<A = Global, File = File>> OperatorDesk<'_, R> {
         } else {
             &[]
         };
+        let note = self.told_in_page(alloc)?;
         let drawing = Drawing {
             sent,
             rows: rows.as_slice(),
@@ -145,9 +161,20 @@ impl<R: Runtime<A = Global, File = File>> OperatorDesk<'_, R> {
             cursor: self.cursor(seen),
             window,
             page: self.manner.page,
-            note: self.told(),
+            note: note.as_slice(),
         };
         match drawn(alloc, &drawing) {
+            Ok(text) => self.show(text.as_str()),
+            Err(_) => Err(OperatorFailed),
+        }
+    }
+
+    /// Clears the line below the drawing, where something is drawn, and puts the cursor there.
+    fn leave(&self, alloc: Global) -> Result<(), OperatorFailed> {
+        let Some(window) = self.manner.window else {
+            return Ok(());
+        };
+        match left(alloc, window) {
             Ok(text) => self.show(text.as_str()),
             Err(_) => Err(OperatorFailed),
         }
@@ -228,6 +255,7 @@ impl<R: Runtime<A = Global, File = File>> OperatorDesk<'_, R> {
             return Ok(Some(Answer::End));
         }
         if self.ended {
+            let _ = self.leave(self.rt.alloc());
             return Err(OperatorFailed);
         }
         self.ended = true;
@@ -426,6 +454,9 @@ impl<R: Runtime<A = Global, File = File>> Operator for OperatorDesk<'_, R> {
     }
 
     fn end(&mut self, seen: &Scene<'_>) -> Result<(), OperatorFailed> {
-        self.write_screen(self.rt.alloc(), seen.screen.rows(), None)
+        let alloc = self.rt.alloc();
+        // what is saved doesn't hang on this line
+        let _ = self.leave(alloc);
+        self.write_screen(alloc, seen.screen.rows(), None)
     }
 }

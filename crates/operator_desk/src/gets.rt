@@ -23,12 +23,21 @@ pub enum WaitingPlace {
     Unknown,
 }
 
+/// What the code says of a row or of a column.
+#[derive(Clone, Copy)]
+enum Said {
+    /// That it is computed.
+    Computed,
+    /// Its number, which may lie outside the screen.
+    At(usize),
+}
+
 /// An instruction that shows a value, and where it showed it last.
 #[derive(Clone, Copy)]
 struct Shown {
     show: Show,
-    /// Its column, where the code says it.
-    column: Option<usize>,
+    row: Said,
+    column: Said,
     /// Where it stands, counted from the first row that was ever sent out.
     field: Option<ShownField>,
 }
@@ -57,7 +66,7 @@ struct Laid {
     /// Its field, counted from the first row that was ever sent out.
     field: ShownField,
     text: Vec<u8>,
-    /// What the row below it held.
+    /// The row below it as it was then.
     under: [u8; 80],
 }
 
@@ -67,8 +76,9 @@ pub struct Gets {
     reads: Vec<Asking>,
     /// What takes a line, place by place.
     takers: Vec<Taker>,
-    /// The column one behind the cursor, before a value was shown there.
-    behind: usize,
+    /// The place that was looked at last, and where the cursor was then.
+    last: Option<usize>,
+    before: Cursor,
     /// The fields of the READ that waits, and their answers.
     pub fields: Vec<ShownField>,
     answers: Vec<Laid>,
@@ -124,31 +134,89 @@ impl RowCount {
     }
 }
 
-/// The whole part of a constant, where it is a column of the screen.
-fn column_of(code: &Code, number: Option<u16>) -> Option<usize> {
-    match code
-        .declared
-        .constants
-        .as_slice()
-        .get(usize::from(number?))?
-    {
-        Value::Number(column) => usize::try_from(column.whole()).ok(),
+/// What the code says of a row or of a column: the whole part of a constant.
+fn said_by(code: &Code, number: Option<u16>) -> Said {
+    let Some(number) = number else {
+        return Said::Computed;
+    };
+    match code.declared.constants.as_slice().get(usize::from(number)) {
+        Some(Value::Number(said)) => match usize::try_from(said.whole()) {
+            Ok(place) => Said::At(place),
+            Err(_) => Said::At(usize::MAX),
+        },
+        _ => Said::Computed,
+    }
+}
+
+/// The first column of a number that is shown up to an end: its text has ten columns, or more where it has no blank.
+fn number_from(row: &[u8], end: usize) -> Option<usize> {
+    let first = end.checked_sub(10)?;
+    let Some(before) = first.checked_sub(1) else {
+        return Some(first);
+    };
+    if row.get(first) == Some(&b' ') || row.get(before) == Some(&b' ') {
+        return Some(first);
+    }
+    None
+}
+
+/// The first column of a value of a kind that is shown up to an end, where its text tells it: not that of a text, and
+/// none where the text may have been cut at the row's end.
+fn shown_from(kind: Kind, row: &[u8], end: usize) -> Option<usize> {
+    if end >= 80 {
+        return None;
+    }
+    match kind {
+        Kind::Number => number_from(row, end),
+        Kind::Logical => end.checked_sub(3),
+        Kind::Date => {
+            let has_short_year = row.get(end.checked_sub(3)?) == Some(&b'/');
+            end.checked_sub(if has_short_year { 8 } else { 10 })
+        }
+        Kind::Text => None,
+    }
+}
+
+/// The first column of a value that an instruction showed one column behind the cursor.
+fn first_on(before: Cursor) -> Option<usize> {
+    match before {
+        Cursor::At { column, .. } if column < 79 => Some(column + 1),
         _ => None,
     }
 }
 
-/// The field that ends at the cursor, if one does, counted from the first row ever sent out.
-fn field_to(seen: &Scene<'_>, first: usize, sent: usize) -> Option<ShownField> {
+/// The first column of a value that an instruction showed at its row and column, if it did: where these lie outside the
+/// screen it shows nothing and leaves the cursor. So a cursor that didn't move tells nothing of a computed place.
+fn first_at(shown: &Shown, before: Cursor, seen: &Scene<'_>) -> Option<usize> {
+    let after = seen.screen.cursor();
+    let Cursor::At { row, column: end } = after else {
+        return None;
+    };
+    match shown.row {
+        Said::At(said) if said != row => return None,
+        Said::Computed if before == after => return None,
+        _ => {}
+    }
+    match shown.column {
+        Said::At(column) => Some(column),
+        Said::Computed => shown_from(shown.show.kind, seen.screen.rows().get(row)?, end),
+    }
+}
+
+/// The field in which an instruction showed a value, as it stands on the screen behind it; none where it showed none, or
+/// its place can't be told.
+fn field_of(shown: &Shown, before: Cursor, seen: &Scene<'_>) -> Option<ShownField> {
+    let first = if shown.show.on {
+        first_on(before)?
+    } else {
+        first_at(shown, before, seen)?
+    };
     match seen.screen.cursor() {
-        Cursor::At { row, column } if first < column => {
-            let length = column - first;
-            let field = ShownField {
-                row,
-                column: first,
-                length,
-            };
-            Some(among_all(field, sent))
-        }
+        Cursor::At { row, column } if first < column => Some(ShownField {
+            row,
+            column: first,
+            length: column - first,
+        }),
         _ => None,
     }
 }
@@ -197,6 +265,13 @@ fn meets(one: ShownField, other: ShownField) -> bool {
         && other.column < one.column.saturating_add(one.length)
 }
 
+/// The cells of a field in its row.
+fn cells_of(row: &[u8; 80], field: ShownField) -> &[u8] {
+    let first = field.column.min(80);
+    let end = field.column.saturating_add(field.length).min(80);
+    &row[first..end.max(first)]
+}
+
 /// The row of the screen on which a field lies that is counted from the first row that was ever sent out.
 fn row_under<'a>(seen: &Scene<'a>, field: ShownField, sent: usize) -> Option<&'a [u8; 80]> {
     seen.screen.rows().get(on_screen(field, sent)?.row)
@@ -208,7 +283,8 @@ impl Gets {
         Gets {
             reads: Vec::new(alloc),
             takers: Vec::new(alloc),
-            behind: 0,
+            last: None,
+            before: Cursor::BeforeFirst,
             fields: Vec::new(alloc),
             answers: Vec::new(alloc),
             sent: RowCount { bytes: 0, rows: 0 },
@@ -228,7 +304,8 @@ impl Gets {
             for show in &read.shows {
                 shows.push(Shown {
                     show: *show,
-                    column: column_of(code, show.column),
+                    row: said_by(code, show.row),
+                    column: said_by(code, show.column),
                     field: None,
                 })?;
             }
@@ -252,7 +329,7 @@ impl Gets {
             || self.reads.iter().any(|read| {
                 read.shows.iter().any(|shown| {
                     let at = shown.show.place;
-                    at.saturating_add(1) == place || (shown.show.on && at == place)
+                    at == place || at.saturating_add(1) == place
                 })
             })
     }
@@ -265,33 +342,31 @@ impl Gets {
         Ok(marks)
     }
 
-    /// Looks at the cursor before or behind an instruction that shows a value.
+    /// Looks at the cursor before or behind an instruction that shows a value. Behind one that wasn't carried out, since
+    /// the run came there by a jump, nothing is known of its field.
     pub fn look(&mut self, alloc: Global, seen: &Scene<'_>) -> Result<(), AllocError> {
         self.sent.count(seen.screen.sent());
-        let (behind, sent) = (self.behind, self.sent.rows);
+        let (last, before, sent) = (self.last, self.before, self.sent.rows);
         let mut written = Vec::new(alloc);
         for read in &mut self.reads {
             for shown in &mut read.shows {
-                if shown.show.place.saturating_add(1) == seen.place {
-                    let first = if shown.show.on {
-                        Some(behind)
-                    } else {
-                        shown.column
-                    };
-                    shown.field = match first {
-                        Some(first) => field_to(seen, first, sent),
-                        None => None,
-                    };
-                    if let Some(field) = shown.field {
+                let place = shown.show.place;
+                if place.saturating_add(1) != seen.place {
+                    continue;
+                }
+                shown.field = None;
+                if last == Some(place) {
+                    if let Some(field) = field_of(&*shown, before, seen) {
+                        let field = among_all(field, sent);
+                        shown.field = Some(field);
                         written.push(field)?;
                     }
                 }
             }
         }
         self.leave_out(alloc, &written)?;
-        if let Cursor::At { column, .. } = seen.screen.cursor() {
-            self.behind = column.saturating_add(1);
-        }
+        self.last = Some(seen.place);
+        self.before = seen.screen.cursor();
         Ok(())
     }
 
@@ -364,12 +439,18 @@ impl Gets {
         Ok(())
     }
 
-    /// Takes away the answers where the program wrote since.
+    /// Takes away the answers in whose fields the program wrote since.
     fn keep_those_under(&mut self, alloc: Global, seen: &Scene<'_>) -> Result<(), AllocError> {
         let sent = self.sent.rows;
         let mut kept = Vec::new(alloc);
         for answer in &self.answers {
-            if row_under(seen, answer.field, sent) == Some(&answer.under) {
+            let same = match row_under(seen, answer.field, sent) {
+                Some(row) => {
+                    cells_of(row, answer.field) == cells_of(&answer.under, answer.field)
+                }
+                None => false,
+            };
+            if same {
                 kept.push(answer.copied()?)?;
             }
         }

@@ -17,6 +17,9 @@ pub struct Window {
 /// The rows of a screen.
 const ROWS: usize = 25;
 
+/// A line of which each terminal makes its window's last one.
+const BELOW_ALL: usize = 998;
+
 impl Window {
     /// Whether a screen's rows can be drawn in it: 24 rows of 80 columns at least.
     pub fn fits(self) -> bool {
@@ -36,8 +39,8 @@ pub struct Drawing<'a> {
     pub window: Window,
     /// What bytes from 128 on stand for.
     pub page: Option<CodePage>,
-    /// A line below the rows.
-    pub note: &'a str,
+    /// A line below the rows, in the page. It is cut where it is longer than a line of the window.
+    pub note: &'a [u8],
 }
 
 /// Whether a place of the screen is in a field that waits.
@@ -93,56 +96,14 @@ fn first_row(drawing: &Drawing<'_>) -> usize
     drawing.cursor.0.saturating_sub(last)
 }
 
-/// Puts the rows that were sent out, so that they leave the window upwards.
-fn put_sent(out: &mut String, drawing: &Drawing<'_>) -> Result<(), AllocError> {
-    for line in drawing.sent.split_inclusive(|byte| *byte == b'\n') {
-        match line {
-            [text @ .., b'\n'] => put_shown(out, drawing.page, text)?,
-            _ => put_shown(out, drawing.page, line)?,
-        }
-        out.push_str("\x1b[K\r\n")?;
-    }
-    Ok(())
+/// The line of the window in which the note stands: below the rows, or over the last one where no line is left below
+/// them.
+fn note_line(window: Window) -> usize {
+    window.rows.saturating_sub(1).min(ROWS)
 }
 
-/// The line of the window in which the note stands, if there is one: below the rows, or over the last one where no line
-/// is left below them.
-fn note_line(drawing: &Drawing<'_>) -> Option<usize> {
-    if drawing.note.is_empty() {
-        return None;
-    }
-    Some(drawing.window.rows.saturating_sub(1).min(ROWS))
-}
-
-/// How many lines are drawn: those of the rows and the note, or, where rows that were sent out have to leave the window,
-/// all of its lines.
-fn lines_drawn(drawing: &Drawing<'_>) -> usize {
-    if drawing.sent.is_empty() {
-        drawing.window.rows.min(ROWS + 1)
-    } else {
-        drawing.window.rows
-    }
-}
-
-/// Puts the rows from the window's top on, and the note, and clears what is below.
-fn put_rows(out: &mut String, drawing: &Drawing<'_>, first: usize) -> Result<(), AllocError> {
-    let note = note_line(drawing);
-    for line in 0..lines_drawn(drawing) {
-        if line > 0 {
-            out.push_str("\r\n")?;
-        }
-        let number = first.saturating_add(line);
-        if note == Some(line) {
-            put_shown(out, None, drawing.note.as_bytes())?;
-        } else if let Some(row) = drawing.rows.get(number) {
-            put_cells(out, drawing, number, row)?;
-        }
-        out.push_str("\x1b[K")?;
-    }
-    out.push_str("\x1b[J")
-}
-
-/// Puts the order that moves the cursor to a place of the window, counted from 0.
+/// Puts the order that moves the cursor to a place of the window, counted from 0. Where the window has become smaller, a
+/// line below its last one is its last one.
 fn put_cursor(
     alloc: Global,
     out: &mut String,
@@ -157,17 +118,96 @@ fn put_cursor(
     out.push_str(order.as_str())
 }
 
+/// Puts the orders that go to a line of the window and clear it. It is cleared before anything is written: a terminal
+/// that wraps late is still in the last column behind a full line, and would clear that.
+fn put_line(alloc: Global, out: &mut String, line: usize) -> Result<(), AllocError> {
+    put_cursor(alloc, &mut *out, line, 0)?;
+    out.push_str("\x1b[2K")
+}
+
+/// Puts the rows that were sent out: each in the window's first line, from which it leaves the window upwards when the
+/// last line of the window, wherever that is by now, is ended.
+fn put_sent(alloc: Global, out: &mut String, drawing: &Drawing<'_>) -> Result<(), AllocError> {
+    for line in drawing.sent.split_inclusive(|byte| *byte == b'\n') {
+        put_line(alloc, &mut *out, 0)?;
+        match line {
+            [text @ .., b'\n'] => put_shown(&mut *out, drawing.page, text)?,
+            _ => put_shown(&mut *out, drawing.page, line)?,
+        }
+        put_cursor(alloc, &mut *out, BELOW_ALL, 0)?;
+        out.push('\n')?;
+    }
+    Ok(())
+}
+
+/// Puts a row in its line of the window.
+fn put_row(
+    alloc: Global,
+    out: &mut String,
+    drawing: &Drawing<'_>,
+    first: usize,
+    number: usize,
+) -> Result<(), AllocError> {
+    put_line(alloc, &mut *out, number.saturating_sub(first))?;
+    match drawing.rows.get(number) {
+        Some(row) => put_cells(&mut *out, drawing, number, row),
+        None => Ok(()),
+    }
+}
+
+/// Puts the rows from the first one that is drawn on, and clears what is below. The last one comes first: where the
+/// window has become smaller, so that lines lie on one another, the row that belongs in its last line is what stays.
+fn put_rows(
+    alloc: Global,
+    out: &mut String,
+    drawing: &Drawing<'_>,
+    first: usize,
+) -> Result<(), AllocError> {
+    let lines = drawing.window.rows.min(ROWS + 1);
+    put_cursor(alloc, &mut *out, lines, 0)?;
+    out.push_str("\x1b[J")?;
+    for above in 0..lines {
+        let line = lines.saturating_sub(above).saturating_sub(1);
+        put_row(alloc, &mut *out, drawing, first, first.saturating_add(line))?;
+    }
+    Ok(())
+}
+
+/// Puts the note, if there is one, cut so that it doesn't come to the end of its line.
+fn put_note(alloc: Global, out: &mut String, drawing: &Drawing<'_>) -> Result<(), AllocError> {
+    if drawing.note.is_empty() {
+        return Ok(());
+    }
+    let most = drawing.window.columns.saturating_sub(1);
+    put_line(alloc, &mut *out, note_line(drawing.window))?;
+    put_shown(
+        &mut *out,
+        drawing.page,
+        &drawing.note[..most.min(drawing.note.len())],
+    )
+}
+
 /// What a terminal is sent to show the rows as they stand, at the top of its window. Rows that were sent out since the
 /// last drawing scroll out of it into the terminal's scrollback, and no others do: the cursor's line isn't the window's
-/// last one.
+/// last one. The cursor's row is put last, so that it stands under the cursor in a window of any size.
 pub fn drawn(alloc: Global, drawing: &Drawing<'_>) -> Result<String, AllocError> {
     let mut out = String::new(alloc);
     let first = first_row(drawing);
-    out.push_str("\x1b[0m\x1b[H")?;
-    put_sent(&mut out, drawing)?;
-    put_rows(&mut out, drawing, first)?;
     let (row, column) = drawing.cursor;
+    out.push_str("\x1b[0m\x1b[H")?;
+    put_sent(alloc, &mut out, drawing)?;
+    put_rows(alloc, &mut out, drawing, first)?;
+    put_note(alloc, &mut out, drawing)?;
+    put_row(alloc, &mut out, drawing, first, row)?;
     put_cursor(alloc, &mut out, row.saturating_sub(first), column.min(79))?;
+    Ok(out)
+}
+
+/// What a terminal is sent where nothing more is drawn: the note's line is cleared, and the cursor stands in it.
+pub fn left(alloc: Global, window: Window) -> Result<String, AllocError> {
+    let mut out = String::new(alloc);
+    out.push_str("\x1b[0m")?;
+    put_line(alloc, &mut out, note_line(window))?;
     Ok(out)
 }
 

@@ -7,6 +7,6 @@ mod drawing;
 mod fields;
 mod printable;
 
-pub use drawing::{Drawing, Window, drawn, plain_lines, sent_lines};
+pub use drawing::{Drawing, Window, drawn, left, plain_lines, sent_lines};
 pub use fields::{ShownField, lay_over};
 pub use printable::put_shown;

@@ -3,14 +3,19 @@
 use code_items::Code;
 use code_items::instr::{FlowInstr, Instr, RecordInstr, ScreenInstr, ValueInstr};
 use std::alloc::{AllocError, Global};
+use xvalue::Kind;
 
 /// An instruction that shows the value of a GET.
 #[derive(Clone, Copy, PartialEq, Eq, Debug)]
 pub struct Show {
     /// Its place in the code.
     pub place: usize,
+    /// What kind of value it shows.
+    pub kind: Kind,
     /// Whether it shows the value one column behind the cursor; else where row and column say.
     pub on: bool,
+    /// The number of the constant that is its row, where row and column are constants.
+    pub row: Option<u16>,
     /// The number of the constant that is its column, where it is one.
     pub column: Option<u16>,
 }
@@ -96,20 +101,36 @@ fn ends_straight(instr: Instr) -> bool {
     }
 }
 
-/// What is shown at a place, if a value is shown there.
+/// The number of the constant that stands so far before a place, if one does.
+fn constant_before(code: &[Instr], place: usize, distance: usize) -> Option<u16> {
+    match code.get(place.checked_sub(distance)?)? {
+        Instr::Values(ValueInstr::Constant(number)) => Some(*number),
+        _ => None,
+    }
+}
+
+/// What is shown at a place, if a value is shown there. Before it stand its row, its column and its value, which is one
+/// instruction; a value whose last instruction is a constant is that constant.
 fn show_at(code: &[Instr], place: usize) -> Option<Show> {
     match code.get(place)? {
-        Instr::Screen(ScreenInstr::Say(_)) => Some(Show {
+        Instr::Screen(ScreenInstr::Say(kind)) => {
+            let column = constant_before(code, place, 2);
+            Some(Show {
+                place,
+                kind: *kind,
+                on: false,
+                row: match column {
+                    Some(_) => constant_before(code, place, 3),
+                    None => None,
+                },
+                column,
+            })
+        }
+        Instr::Screen(ScreenInstr::SayOn(kind)) => Some(Show {
             place,
-            on: false,
-            column: match code.get(place.checked_sub(2)?)? {
-                Instr::Values(ValueInstr::Constant(number)) => Some(*number),
-                _ => None,
-            },
-        }),
-        Instr::Screen(ScreenInstr::SayOn(_)) => Some(Show {
-            place,
+            kind: *kind,
             on: true,
+            row: None,
             column: None,
         }),
         _ => None,
