@@ -203,8 +203,8 @@ fn first_at(shown: &Shown, before: Cursor, seen: &Scene<'_>) -> Option<usize> {
     }
 }
 
-/// The field in which an instruction showed a value, as it stands on the screen behind it; none where it showed none, or
-/// its place can't be told.
+/// The field in which an instruction showed a value, as it stands on the screen behind it; none where it showed none,
+/// or its place can't be told.
 fn field_of(shown: &Shown, before: Cursor, seen: &Scene<'_>) -> Option<ShownField> {
     let first = if shown.show.on {
         first_on(before)?
@@ -342,8 +342,8 @@ impl Gets {
         Ok(marks)
     }
 
-    /// Looks at the cursor before or behind an instruction that shows a value. Behind one that wasn't carried out, since
-    /// the run came there by a jump, nothing is known of its field.
+    /// Looks at the cursor before or behind an instruction that shows a value. Behind one that wasn't carried out,
+    /// since the run came there by a jump, nothing is known of its field.
     pub fn look(&mut self, alloc: Global, seen: &Scene<'_>) -> Result<(), AllocError> {
         self.sent.count(seen.screen.sent());
         let (last, before, sent) = (self.last, self.before, self.sent.rows);

@@ -10,7 +10,7 @@
 //! | `parser`, `compiler` | command files read to trees, and trees compiled to accepted code |
 //! | `files`, `folder` | what is asked of files; files in memory, and those of a folder of the disk |
 //! | `declarations`, `stored`, `compiling`, `listings`, `runs` | from files to files: what the program's commands do |
-//! | `conversations`, `journals` | runs that ask an operator for each line, and lines that are kept before a run sees them |
+//! | `conversations`, `journals` | runs that ask an operator for each line, and lines kept before a run sees them |
 //!
 //! A program that compiles, verifies and runs needs `files`, `compiling`, `listings` and `runs` alone; the crate
 //! `embedded` is one. What a run of accepted code promises is the contract of `machine_for_accepted::run`.

@@ -102,8 +102,8 @@ fn note_line(window: Window) -> usize {
     window.rows.saturating_sub(1).min(ROWS)
 }
 
-/// Puts the order that moves the cursor to a place of the window, counted from 0. Where the window has become smaller, a
-/// line below its last one is its last one.
+/// Puts the order that moves the cursor to a place of the window, counted from 0. Where the window has become smaller,
+/// a line below its last one is its last one.
 fn put_cursor(
     alloc: Global,
     out: &mut String,
