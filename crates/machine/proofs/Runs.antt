@@ -2,7 +2,7 @@
 use Rattle.std.proofs.Common.{◌≡◌, ◌≤◌, ◌∙◌, ◌++◌, ℕ, List, [], ◌∷◌, Bool, true, Option, Some, length, refl, ap, sym, subst, arith}
 use Rattle.shape.specs.declared.whole.Shape.{Shape}
 use Rattle.calendar.specs.declared.day.DayParts.{DayParts}
-use Rattle.work_area.specs.Areas.{StoreState}
+use Rattle.work_area.specs.Areas.{StoreState, OpenIndexesList}
 use Rattle.work_area.specs.Shapes.{StoreHasShape}
 use Rattle.code_items.specs.declared.code.Code.{Code}
 use Rattle.run_values.specs.Standing.{IsByKind}
@@ -61,8 +61,10 @@ pub record Laws (code : Code) : Type 0 where
   pub end : (w : World) (budget : ℕ) (outcome : Outcome) (v : World) → IsSafe code w → Ran code w budget outcome v → ¬ IsFault outcome.end
   pub few : (w : World) (n : ℕ) (v : World) → after code w n ≡ Some v → n ≤ spent code w n
 
-unfoldable pub headline : (code : Code) → Laws code → (from : World) (budget : ℕ) (outcome : Outcome) (b : BankState) → IsFitting code from → Ends code from budget outcome (IsByKind b.values) b.place b.returns b.env → Headline code from budget outcome b
-headline code laws from budget outcome b fit ends =
+unfoldable pub headline : (code : Code) → Laws code → (from : World) (budget : ℕ) (outcome : Outcome) (b : BankState)
+    → IsFitting code from → OpenIndexesList b.env.store
+    → Ends code from budget outcome (IsByKind b.values) b.place b.returns b.env → Headline code from budget outcome b
+headline code laws from budget outcome b fit lists ends =
     let there = laws.fits from fit ends.ran.count ends.last ends.ran.reached in
     let same = agrees b ends.last ends.stands in
     let safe = laws.safe from fit in
@@ -78,14 +80,18 @@ headline code laws from budget outcome b fit ends =
       within_the_budget = ends.ran.within;
       few_steps = (let few = laws.few from ends.ran.count ends.last ends.ran.reached in omega (arith, few, ends.ran.steps, ends.ran.within));
       keeps_tables_and_indexes = λ shape h. subst (λ s. StoreHasShape shape s) (sym same.store) (kept shape code from ends.ran.count ends.last (laws.keeps shape) ends.ran.reached h);
+      lists_keys = lists;
       as_declared = subst (λ s. StoreFits code.declared s) (sym same.store) there.shape.store;
       goes_on = record { agrees = same; fits = there };
     }
 
 -- ---- pauses
 
-unfoldable pub paused : (code : Code) → Laws code → (from : World) (budget steps : ℕ) (b : BankState) → IsFitting code from → (p : Pauses code from budget steps (IsByKind b.values) b.place b.returns b.env) → PausesAt code from budget steps b
-paused code laws from budget steps b fit p =
+unfoldable pub paused : (code : Code) → Laws code → (from : World) (budget steps : ℕ) (b : BankState)
+    → IsFitting code from → OpenIndexesList b.env.store
+    → (p : Pauses code from budget steps (IsByKind b.values) b.place b.returns b.env)
+    → PausesAt code from budget steps b
+paused code laws from budget steps b fit lists p =
     let there = laws.fits from fit p.came.count p.last p.came.reached in
     let same = agrees b p.last p.stands in
     let safe = laws.safe from fit in
@@ -100,15 +106,21 @@ paused code laws from budget steps b fit p =
       within_the_budget = p.within;
       few_steps = (let few = laws.few from p.came.count p.last p.came.reached in omega (arith, few, p.came.steps_are, p.within));
       keeps_tables_and_indexes = λ shape h. subst (λ s. StoreHasShape shape s) (sym same.store) (kept shape code from p.came.count p.last (laws.keeps shape) p.came.reached h);
+      lists_keys = lists;
       as_declared = subst (λ s. StoreFits code.declared s) (sym same.store) there.shape.store;
       goes_on = record { agrees = same; fits = there };
     }
 
-pub goes_to : (code : Code) → Laws code → (from : World) (budget : ℕ) (marks : List Bool) (leg : Leg) (b : BankState) → IsFitting code from → IsLeg code from budget marks leg (IsByKind b.values) b.place b.returns b.env → GoesTo code from budget marks leg b
+pub goes_to : (code : Code) → Laws code → (from : World) (budget : ℕ) (marks : List Bool) (leg : Leg) (b : BankState)
+    → IsFitting code from → OpenIndexesList b.env.store
+    → IsLeg code from budget marks leg (IsByKind b.values) b.place b.returns b.env → GoesTo code from budget marks leg b
 unfolding headline paused
-goes_to code laws from budget marks (Ended outcome) b fit g = (headline code laws from budget outcome b fit g.0, g.1)
-goes_to code laws from budget marks (Waits steps) b fit g = (paused code laws from budget steps b fit g.0, g.1)
-goes_to code laws from budget marks (Marked steps) b fit g = (paused code laws from budget steps b fit g.0, g.1)
+goes_to code laws from budget marks (Ended outcome) b fit lists g =
+    (headline code laws from budget outcome b fit lists g.0, g.1)
+goes_to code laws from budget marks (Waits steps) b fit lists g =
+    (paused code laws from budget steps b fit lists g.0, g.1)
+goes_to code laws from budget marks (Marked steps) b fit lists g =
+    (paused code laws from budget steps b fit lists g.0, g.1)
 
 -- ---- lines
 

@@ -36,7 +36,9 @@ fn go_on<K: KeyList>(alloc: Global, code: &Code, banks: &mut Banks<K>, budget: u
     tables_keep_their_kind();
     runs_cost_their_steps();
     safe_runs_meet_no_fault();
-    run_untested(alloc, code, &mut banks.machine, budget)
+    let outcome = run_untested(alloc, code, &mut banks.machine, budget);
+    banks.machine.store().open_indexes_list_keys();
+    outcome
 }
 
 /// Goes on with a run of accepted code until it ends, within a further budget, from banks that a run left, or any that
@@ -112,7 +114,9 @@ fn go_to_line<K: KeyList>(
     tables_keep_their_kind();
     runs_cost_their_steps();
     safe_runs_meet_no_fault();
-    run_to_line(alloc, code, marks, &mut banks.machine, budget)
+    let leg = run_to_line(alloc, code, marks, &mut banks.machine, budget);
+    banks.machine.store().open_indexes_list_keys();
+    leg
 }
 
 /// Banks from which a run begins agree with a world of the code's runs, and so do those that took lines: with the same

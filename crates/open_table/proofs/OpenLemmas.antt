@@ -1,7 +1,8 @@
 -- Open indexes stay open.
 use Rattle.std.proofs.Common.{◌≡◌, ℕ, ◌<◌, ◌≤◌, Bool, true, false, not, ◌||◌, ◌&&◌, ◌==◌, Option, Some, List, [], ◌∷◌, length, get_or, map, cond, refl, sym, ap, ◌∙◌, subst, Result, Ok, Err, is_ok, is_some}
 use Rattle.std.specs.Prelude.{OnOk, OnErr}
-use Rattle.open_table.specs.Tables.{IndexedState}
+use Rattle.open_table.specs.Tables.{IndexedState, listed}
+use Rattle.row_keys.specs.Lists.{index_list}
 use Rattle.row_moves.specs.declared.landed.Landed.{Landed}
 use Rattle.row_moves.specs.Moves.{Landing}
 use Rattle.open_table.specs.declared.refused.Refused.{Refused}
@@ -9,7 +10,9 @@ use Rattle.open_table.specs.Open.{OpenState, IsOpen, IsEnded, landed}
 use Rattle.std.specs.List.{All}
 use Rattle.std.proofs.lemmas.Bool.{eqb-true, eq-eqb}
 use Rattle.std.proofs.lemmas.List.Folds.{list_any_at}
-use Rattle.open_table.specs.Marks.{IndexMark, is_among, mark_at, is_fresh, with_stale, left_stale, only_fresh, made_fresh}
+use Rattle.open_table.specs.Marks.{IndexMark, is_among, mark_at, is_fresh, with_stale, parts_in}
+use Rattle.open_table.specs.Marks.{left_stale, only_fresh, made_fresh}
+use Rattle.std.proofs.lemmas.List.Elements.{All-weaker}
 
 -- each of some numbers is among them
 pub among : (numbers : List ℕ) (k d : ℕ) → k < length numbers → is_among numbers (get_or numbers k d) ≡ true
@@ -98,3 +101,14 @@ open_made t u list order few within declared e = record {
       (λ m at. ap (λ x. m.stale && not (is_among list x)) at ∙ ap (λ b. m.stale && not b) (among list k d lt) ∙ and_false m.stale) (declared k d lt));
   order_within = within;
 }
+
+-- ---- what open indexes list
+
+listed_fresh : (t : IndexedState) (n : ℕ) → is_fresh (mark_at t.marks n) ≡ true
+    → listed t n ≡ Some (index_list (parts_in (mark_at t.marks n)) t.rows)
+listed_fresh t n e = rw e refl
+
+pub list_keys : (t : IndexedState) (ns : List ℕ) → All (λ n. is_fresh (mark_at t.marks n) ≡ true) ns
+    → All (λ n. listed t n ≡ Some (index_list (parts_in (mark_at t.marks n)) t.rows)) ns
+list_keys t ns fresh = All-weaker (λ n. is_fresh (mark_at t.marks n) ≡ true)
+    (λ n. listed t n ≡ Some (index_list (parts_in (mark_at t.marks n)) t.rows)) (listed_fresh t) ns fresh

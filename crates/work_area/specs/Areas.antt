@@ -1,9 +1,11 @@
 -- The ten work areas over the declared tables. Areas count from 1, tables from 0.
 use Rattle.std.specs.Prelude.{◌≡◌, ℕ, ◌-◌, ◌<◌, ◌≤◌, Bool, false, ◌==◌, Option, Some, None, List, length, map, find}
-use Rattle.std.specs.Prelude.{is_some, slice_get, slice_index_or, slice_set, replicate, if◌then◌else◌}
+use Rattle.std.specs.Prelude.{All, is_some, slice_get, slice_index_or, slice_set, replicate, if◌then◌else◌}
 use Rattle.std.specs.List.{list_any}
 use Rattle.open_table.specs.Open.{OpenState, closed}
-use Rattle.open_table.specs.Marks.{IndexMark, mark_at}
+use Rattle.open_table.specs.Marks.{IndexMark, mark_at, parts_in}
+use Rattle.open_table.specs.Tables.{listed}
+use Rattle.row_keys.specs.Lists.{index_list}
 use Rattle.work_area.specs.declared.uses.Use.{Use}
 
 -- what callers see: each declared table with its open indexes, order and pointer, in use or not; what each of the ten
@@ -115,3 +117,8 @@ pub record IsStore (tables : List OpenState) (areas : List (Option Use)) (select
   -- an area holds a declared table
   pub declared : (a : ℕ) (u : Use) → slice_index_or areas a None ≡ Some u → u.table < length tables
   pub apart : AreApart areas
+
+-- every open index of every table lists the table's keys in order
+abbrev pub OpenIndexesList : StoreState → Type 0
+OpenIndexesList s = (t : ℕ) (o : OpenState) → table_at s t ≡ Some o
+    → All (λ n. listed o.table n ≡ Some (index_list (parts_in (mark_at o.table.marks n)) o.table.rows)) o.list

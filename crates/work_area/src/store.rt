@@ -14,7 +14,7 @@ ghost use Rattle.open_table.specs.Marks.{mark_at, is_fresh, parts_in, form_in};
 ghost use Rattle.open_table.specs.Tried.{ShowsRows};
 ghost use Rattle.work_area.specs.Areas.{use_at, selected_use, table_at, area_table, here, with_use, with_selected};
 ghost use Rattle.work_area.specs.Areas.{with_here, change_here, closed_here, closed_all, is_elsewhere, holds};
-ghost use Rattle.work_area.specs.Areas.{index_table, mark_in, closed_other};
+ghost use Rattle.work_area.specs.Areas.{index_table, mark_in, closed_other, OpenIndexesList};
 ghost use Rattle.work_area.specs.Calls.{MovesHere, EndsHere, put_landed, top_of, bottom_of, skip_of, seek_of};
 ghost use Rattle.work_area.specs.Calls.{packed_rows, all_rows, packed_in, pack_of, zapped_in, reindexed_in, reindex_of};
 ghost use Rattle.work_area.specs.Calls.{index_on_of, open_of, indexed_here, used_here, with_filter, with_list};
@@ -607,6 +607,15 @@ impl<K: KeyList> Store<K> {
         match self.tables.get(usize::from(t)) {
             Some(table) => table.open_keys(k),
             None => None,
+        }
+    }
+
+    /// Every open index of every table lists the table's keys in order: none is stale. `open_keys` lends such a list.
+    pub fn open_indexes_list_keys(&self)
+        ensures { OpenIndexesList self.now }
+    {
+        for t in 0..self.tables.len() {
+            self.tables[t].open_indexes_list_keys();
         }
     }
 

@@ -31,4 +31,4 @@ returns g c = λ w t.
       end = c.safe_runs_meet_no_fault.ensures.end code;
       few = c.runs_cost_their_steps.ensures code;
       keeps = λ shape. record { stores = c.stores_keep_their_shape.ensures shape; tables = c.tables_keep_their_kind.ensures };
-    }) w c.args.budget c.args.marks.now c.run_to_line.result (banks_of n.place n.returns n.values n.env) t.fits ends
+    }) w c.args.budget c.args.marks.now c.run_to_line.result (banks_of n.place n.returns n.values n.env) t.fits c.open_indexes_list_keys.ensures ends
