@@ -10,6 +10,7 @@ use prg_code::{
 use prg_commands::{argument_slot, new_slot, value};
 use prg_parser::{Expr, Program};
 use prg_writer::{ProcedureCopy, Source, Target, Writer, parameters};
+use std::alloc::AllocError;
 
 /// The most procedures of a code, copies counted.
 const MOST_COPIES: usize = 256;
@@ -143,6 +144,49 @@ fn copy_for(w: &Writer, target: Target, names: &Names) -> Option<usize> {
     None
 }
 
+/// The number of the next copy: Copies where there are too many, Limit where there are too many calls within one
+/// another.
+fn next_copy(w: &Writer) -> Result<usize, CompileError> {
+    let number = w.copies.len();
+    if number >= MOST_COPIES {
+        return Err(CompileError::Fault(CompileFaultKind::Copies));
+    }
+    if w.active.len() > MOST_CALLS {
+        return Err(CompileError::Fault(CompileFaultKind::Limit));
+    }
+    Ok(number)
+}
+
+/// A block of a copy that begins with what is known here.
+fn block_from_here(w: &Writer) -> Result<DraftBlock, AllocError> {
+    let begun = w.work.block.state.copied(w.alloc)?;
+    Ok(DraftBlock::entered(w.alloc, begun))
+}
+
+/// What is written of a copy with these names at its beginning.
+fn work_from_here(w: &Writer, target: Target, names: &Names) -> Result<Work, AllocError> {
+    let block = block_from_here(w)?;
+    let seen = names.copied(w.alloc)?;
+    Ok(Work::new(w.alloc, target.file, false, block, seen))
+}
+
+/// Notes a copy that isn't written yet.
+fn push_copy(w: &mut Writer, target: Target, names: Names) -> Result<(), AllocError> {
+    let entry = w.work.block.state.copied(w.alloc)?;
+    let block = block_from_here(w)?;
+    w.copies.push(ProcedureCopy {
+        target,
+        names,
+        entry,
+        exit: None,
+        level: 0,
+        own: Vec::new(w.alloc),
+        block,
+        done: false,
+    })?;
+    Ok(())
+}
+
 /// Begins a copy with these names and what is known here: Copies where there are too many, Limit where there are too
 /// many calls within one another. Gives its number and the copy that was being written.
 fn begin_copy(
@@ -151,29 +195,10 @@ fn begin_copy(
     names: Names,
     own: Vec<u8>,
 ) -> Result<(usize, Work), CompileError> {
-    let number = w.copies.len();
-    if number >= MOST_COPIES {
-        return Err(CompileError::Fault(CompileFaultKind::Copies));
-    }
-    if w.active.len() > MOST_CALLS {
-        return Err(CompileError::Fault(CompileFaultKind::Limit));
-    }
-    let entry = w.work.block.state.copied(w.alloc)?;
-    let begun = w.work.block.state.copied(w.alloc)?;
-    let seen = names.copied(w.alloc)?;
-    w.copies.push(ProcedureCopy {
-        target,
-        names,
-        entry,
-        exit: None,
-        level: 0,
-        own: Vec::new(w.alloc),
-        block: DraftBlock::entered(w.alloc, begun.copied(w.alloc)?),
-        done: false,
-    })?;
-    let block = DraftBlock::entered(w.alloc, begun);
-    let mut work = Work::new(w.alloc, target.file, false, block, seen);
+    let number = next_copy(w)?;
+    let mut work = work_from_here(w, target, &names)?;
     work.own = own;
+    push_copy(w, target, names)?;
     w.active.push(target)?;
     Ok((number, w.begin(work)))
 }
@@ -246,6 +271,19 @@ fn put_call(w: &mut Writer, number: usize) -> Result<(), CompileError> {
     Ok(())
 }
 
+/// Hands the arguments over to a procedure. Gives the variables that it sees, and the slots that are its own.
+fn handed_to(
+    s: &Source,
+    w: &mut Writer,
+    target: Target,
+    arguments: &[Expr],
+) -> Result<(Names, Vec<u8>), CompileError> {
+    let Handed { slots, own } = hand_all_over(s, w, arguments)?;
+    let (variables, _) = parameters(s.commands(target));
+    let names = names_in(w, variables, &slots)?;
+    Ok((names, own))
+}
+
 /// `DO procedure [WITH arguments]`: begins a copy of the procedure. Where there is one already, the whole call is put.
 pub fn open_call<'a>(
     s: &'a Source,
@@ -256,16 +294,14 @@ pub fn open_call<'a>(
 ) -> Result<Option<Body<'a>>, CompileRefusal> {
     let result = target_of(s, w, procedure, arguments.len());
     let target = w.told(line, result)?;
-    let result = hand_all_over(s, w, arguments);
-    let Handed { slots, own } = w.told(line, result)?;
-    let (variables, list) = parameters(s.commands(target));
-    let result = names_in(w, variables, &slots);
-    let names = w.told(line, result)?;
+    let result = handed_to(s, w, target, arguments);
+    let (names, own) = w.told(line, result)?;
     if let Some(number) = copy_for(w, target, &names) {
         let result = put_call(w, number);
         w.told(line, result)?;
         return Ok(None);
     }
+    let (_, list) = parameters(s.commands(target));
     let result = begin_copy(w, target, names, own);
     let (number, before) = w.told(line, result)?;
     Ok(Some(Body {

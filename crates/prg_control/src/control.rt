@@ -202,18 +202,8 @@ fn ended<'a>(
     w: &mut Writer,
     body: Body<'a>,
 ) -> Result<Option<Body<'a>>, CompileRefusal> {
-    let Body {
-        list,
-        end,
-        behind,
-        ..
-    } = body;
-    if let Some(line) = end
-        && list.is_empty()
-    {
-        no_get_waits(w, line)?;
-    }
-    match behind {
+    no_get_waits_behind(w, &body)?;
+    match body.behind {
         Behind::Nothing => Ok(None),
         Behind::Case(choice, other) => end_part(s, w, choice, other),
         Behind::Otherwise(choice) => {
@@ -225,5 +215,13 @@ fn ended<'a>(
             end_call(w, copy)?;
             Ok(None)
         }
+    }
+}
+
+/// Get in the line that ends a part of a block if a READ is awaited there and all of it was written.
+fn no_get_waits_behind(w: &mut Writer, body: &Body) -> Result<(), CompileRefusal> {
+    match body.end {
+        Some(line) if body.list.is_empty() => no_get_waits(w, line),
+        _ => Ok(()),
     }
 }

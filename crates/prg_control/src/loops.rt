@@ -8,6 +8,7 @@ use prg_commands::{put_skip_on, put_top};
 use prg_expr::Expr;
 use prg_parser::Command;
 use prg_writer::{Source, Writer, WrittenMark};
+use std::alloc::AllocError;
 use xvalue::Fun;
 
 /// The most rounds of a loop: each one but the last loses what is known of a slot or a work area.
@@ -37,14 +38,20 @@ pub struct Loop<'a> {
     rounds: u16,
 }
 
+/// The label of a loop's head in a round, and where LOOP and EXIT lead.
+#[derive(Clone, Copy)]
+struct Head {
+    top: usize,
+    leaps: LeapLabels,
+}
+
 /// A round of a loop.
 #[derive(Drop)]
 pub struct Round<'a> {
     of: Loop<'a>,
-    /// What is known at the loop's head in this round, and its label.
+    /// What is known at the loop's head in this round.
     held: State,
-    top: usize,
-    leaps: LeapLabels,
+    head: Head,
 }
 
 /// Begins a loop.
@@ -56,10 +63,21 @@ pub fn open_loop<'a>(
     body: &'a [Command],
 ) -> Result<Option<Body<'a>>, CompileRefusal> {
     put_first_row(w, span.first, test)?;
+    let of = begun_loop(w, span, test, body)?;
+    Ok(Some(open_round(s, w, of)?))
+}
+
+/// A loop before its first round, which begins with what is known at its head.
+fn begun_loop<'a>(
+    w: &mut Writer,
+    span: Span,
+    test: LoopTest<'a>,
+    body: &'a [Command],
+) -> Result<Loop<'a>, AllocError> {
     let mark = w.mark()?;
     let entry = w.work.block.state.copied(w.alloc)?;
     w.work.block.state = w.known_at_head(span.first)?;
-    let of = Loop {
+    Ok(Loop {
         span,
         test,
         body,
@@ -67,8 +85,7 @@ pub fn open_loop<'a>(
         entry,
         head: None,
         rounds: MOST_ROUNDS - 1,
-    };
-    Ok(Some(open_round(s, w, of)?))
+    })
 }
 
 /// Goes to the first row, for a SCAN in this line; a DO WHILE begins with nothing.
@@ -85,6 +102,17 @@ fn put_first_row(w: &mut Writer, line: usize, test: LoopTest) -> Result<(), Comp
 /// Begins a round.
 fn open_round<'a>(s: &Source, w: &mut Writer, of: Loop<'a>) -> Result<Body<'a>, CompileRefusal> {
     let held = w.work.block.state.copied(w.alloc)?;
+    let head = put_head(s, w, &of)?;
+    Ok(Body {
+        list: of.body,
+        end: Some(of.span.end),
+        leaps: Some(head.leaps),
+        behind: Behind::Round(Round { of, held, head }),
+    })
+}
+
+/// Puts what goes before the commands of a round.
+fn put_head(s: &Source, w: &mut Writer, of: &Loop) -> Result<Head, CompileRefusal> {
     let line = of.span.first;
     let top = new_label(w, line)?;
     let leaps = leaps_of(w, line, of.test, top)?;
@@ -93,17 +121,7 @@ fn open_round<'a>(s: &Source, w: &mut Writer, of: Loop<'a>) -> Result<Body<'a>, 
         LoopTest::While(e) => put_condition(s, w, line, e, leaps.out)?,
         LoopTest::Rows(only_if) => put_row_test(s, w, line, only_if, leaps)?,
     }
-    Ok(Body {
-        list: of.body,
-        end: Some(of.span.end),
-        leaps: Some(leaps),
-        behind: Behind::Round(Round {
-            of,
-            held,
-            top,
-            leaps,
-        }),
-    })
+    Ok(Head { top, leaps })
 }
 
 /// Where LOOP and EXIT lead, in a loop whose head has this label. LOOP of a SCAN leads to the next row.
@@ -159,27 +177,41 @@ pub fn end_round<'a>(
     w: &mut Writer,
     round: Round<'a>,
 ) -> Result<Option<Body<'a>>, CompileRefusal> {
-    let Round {
-        of,
-        held,
-        top,
-        leaps,
-    } = round;
+    match known_again(w, &round)? {
+        Some(state) => Ok(Some(again(s, w, round.of, state)?)),
+        None => {
+            end_loop(w, round.of)?;
+            Ok(None)
+        }
+    }
+}
+
+/// Leads back to the loop's head, and gives what is known there by then, if that is less than in this round. Else the
+/// place behind the loop is here. Limit where there were too many rounds.
+fn known_again(w: &mut Writer, round: &Round) -> Result<Option<State>, CompileRefusal> {
+    let (of, head) = (&round.of, round.head);
     let end = of.span.end;
-    put_way_back(w, end, of.test, top, leaps.again)?;
-    let Some(state) = wider(w, end, top, &held)? else {
-        place(w, end, leaps.out)?;
-        let Loop {
-            span,
-            mark,
-            entry,
-            head,
-            ..
-        } = of;
-        w.remember(span.first, &mark, entry, head)?;
+    put_way_back(w, end, of.test, head.top, head.leaps.again)?;
+    let Some(state) = wider(w, end, head.top, &round.held)? else {
+        place(w, end, head.leaps.out)?;
         return Ok(None);
     };
-    Ok(Some(again(s, w, of, state)?))
+    if of.rounds == 0 {
+        return Err(w.faulty(end, CompileFaultKind::Limit));
+    }
+    Ok(Some(state))
+}
+
+/// Remembers what held at the head of a loop that is written.
+fn end_loop(w: &mut Writer, of: Loop) -> Result<(), AllocError> {
+    let Loop {
+        span,
+        mark,
+        entry,
+        head,
+        ..
+    } = of;
+    w.remember(span.first, &mark, entry, head)
 }
 
 /// Leads back to the loop's head, in a SCAN by the next row.
@@ -235,7 +267,7 @@ fn wider(
     Ok(Some(state))
 }
 
-/// Gives the round up, and begins another one with what is known at the head. Limit where there were too many.
+/// Gives the round up, and begins another one with what is known at the head.
 fn again<'a>(
     s: &Source,
     w: &mut Writer,
@@ -243,11 +275,14 @@ fn again<'a>(
     state: State,
 ) -> Result<Body<'a>, CompileRefusal> {
     let mut of = of;
-    if of.rounds == 0 {
-        return Err(w.faulty(of.span.end, CompileFaultKind::Limit));
-    }
-    of.rounds -= 1;
-    of.head = Some(state.copied(w.alloc)?);
-    w.give_up(&of.mark, state)?;
+    of.head = Some(given_up(w, &of.mark, state)?);
+    of.rounds = of.rounds.saturating_sub(1);
     open_round(s, w, of)
+}
+
+/// Gives up what was written since the mark, goes on with this state, and gives it.
+fn given_up(w: &mut Writer, mark: &WrittenMark, state: State) -> Result<State, AllocError> {
+    let known = state.copied(w.alloc)?;
+    w.give_up(mark, state)?;
+    Ok(known)
 }
