@@ -1,6 +1,7 @@
 mod LeadingSteps
-mod OperationSteps
-mod FindingOperations
+mod Rows
+mod BlockSteps
+mod Drafts
 pub mod Walks
 pub mod Steps
 pub mod Runs

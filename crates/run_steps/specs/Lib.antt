@@ -7,7 +7,9 @@ pub mod Needs
 pub mod Opening
 pub mod Pausing
 pub mod Leading
-pub mod Operations
+pub mod Blocks
+pub mod Registers
+pub mod Tables
 pub mod Run
 pub mod Safe
 pub mod Shapes

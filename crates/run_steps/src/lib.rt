@@ -1,8 +1,10 @@
 //! Steps of a run over tables: the world, what each instruction makes of it, and both machines' way through a code.
 #![tactic(auto)]
 
+mod blocks;
 mod carrying;
 mod decoding;
+mod drafting;
 mod ending;
 mod environment;
 mod fault;
@@ -14,8 +16,8 @@ mod on_moves;
 mod on_records;
 mod on_screen;
 mod on_values;
-mod operations;
 mod pausing;
+mod registers;
 mod returns;
 pub mod running;
 

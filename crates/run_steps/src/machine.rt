@@ -93,7 +93,7 @@ fn first_procedures(procedures: &[Proc], count: usize) -> &[Proc]
 }
 
 /// Where the block of a procedure begins.
-fn entry_place(code: &Code, number: u16) -> usize
+pub(crate) fn entry_place(code: &Code, number: u16) -> usize
     requires { IsCode code.now }
     ensures { result ≡ entry_place_of code.now number }
 {
