@@ -1,10 +1,7 @@
--- Where the next instruction shows a value, by the values of the world that the banks agree with.
-use Rattle.std.proofs.Common.{◌≡◌, ◌∙◌, ◌+◌, ◌-◌, ◌&&◌, ap, refl, sym, subst, ℕ, Bool, true, false, List, Option, Some, None, length}
-use Rattle.std.specs.Prelude.{ℤ, pos, negsuc, if◌then◌else◌, min, nat_lt, slice_get}
-use Rattle.fixed_num.specs.Number.{Number as Decimal}
-use Rattle.fixed_num.specs.Rounding.{whole_part}
+-- Where the next instruction shows a value, and what its step makes of the screen.
+use Rattle.std.proofs.Common.{◌≡◌, ◌+◌, ◌&&◌, refl, sym, subst, ℕ, Bool, true, false, List, Option, Some, None, length}
+use Rattle.std.specs.Prelude.{ℤ, pos, negsuc, if◌then◌else◌, nat_lt, slice_get}
 use Rattle.xvalue.specs.declared.value.Value.{Value}
-use Rattle.xvalue.specs.declared.value.Value.TheVariants.{Number}
 use Rattle.xvalue.specs.Shown.{shown}
 use Rattle.code_items.specs.declared.code.Code.{Code}
 use Rattle.code_items.specs.declared.instr.Instr.{Instr}
@@ -12,10 +9,8 @@ use Rattle.code_items.specs.declared.instr.Instr.TheVariants.{Values, Flow, Scre
 use Rattle.code_items.specs.declared.instr.ScreenInstr.{ScreenInstr}
 use Rattle.code_items.specs.declared.instr.ScreenInstr.TheVariants.{NewLine, Print, Say, SayOn, Input, Line, Clear}
 use Rattle.code_rules.specs.Places.{instr_at}
-use Rattle.run_steps.specs.Control.{effect, finishes}
+use Rattle.run_steps.specs.Control.{effect}
 use Rattle.run_steps.specs.Effects.{on_value, whole_on_top}
-use Rattle.run_steps.specs.Needs.{Needs, ScreenNeeds}
-use Rattle.run_steps.specs.Safe.{IsSafeHere}
 use Rattle.run_steps.specs.World.{World, EnvState, with_screen}
 use Rattle.screen_lines.specs.Roll.{shown_at, text_said, text_said_on, text_said_on_from}
 use Rattle.screen_lines.specs.State.{ScreenState, said as said_on_screen, said_on}
@@ -23,22 +18,6 @@ use Rattle.screen_lines.specs.declared.cursor.Cursor.{Cursor}
 use Rattle.screen_lines.specs.declared.cursor.Cursor.TheVariants.{BeforeFirst, At}
 use Rattle.machine.specs.declared.showing.ShownAt.{ShownAt}
 use Rattle.machine.specs.Showing.{Shows, StepShows, placed, said_at, said_behind, says, screen_says, shown_by, shown_by_instr, shown_next}
-
--- an instruction on the screen that comes next has what it needs
-pub screen_needs : (code : Code) (w : World) (i : ScreenInstr) → instr_at code w.place ≡ Screen i → IsSafeHere code w → ScreenNeeds i w.values
-screen_needs code w i e safe =
-    let on = subst (λ (x : Instr). finishes w x ≡ false) (sym e) refl in
-    subst (λ (x : Instr). Needs code x w.values w.env) e (safe.ready on).needs
-
-pub screen_shown : (code : Code) (w : World) (i : ScreenInstr) (at : Option ShownAt) → instr_at code w.place ≡ Screen i → at ≡ shown_by i w.values w.env → at ≡ shown_next code w
-screen_shown code w i at e is = subst (λ (x : Instr). at ≡ shown_by_instr x w.values w.env) (sym e) is
-
--- SAY, of what stands on the stack
-pub said : (e : EnvState) (top below lower : Option Value) (value : Value) (column row : Decimal) → top ≡ Some value → below ≡ Some (Number column) → lower ≡ Some (Number row)
-    → said_at (whole_part row) (whole_part column) (length (shown e.settings value)) ≡ on_value top None (λ v. said_at (whole_on_top lower) (whole_on_top below) (length (shown e.settings v)))
-said e top below lower value column row a b c = rw (a, b, c) refl
-
--- ---- what the step makes of the screen
 
 by_test : (b : Bool) (row column : ℕ) (text : List ℕ) (s : ScreenState) → Shows s (if b then Some (placed row column (length text)) else None) (record s { roll = if b then shown_at row column text s.roll else s.roll })
 by_test true row column text s = (text, (refl, refl))

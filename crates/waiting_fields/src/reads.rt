@@ -131,24 +131,40 @@ fn shows_at(code: &[Instr], place: usize) -> bool
     }
 }
 
-/// Whether two instructions put the value of one variable or of one field on the stack.
-fn is_same_source(one: Instr, other: Instr) -> bool
+/// Whether two instructions put the value of one variable on the stack.
+fn is_same_variable(one: ValueInstr, other: ValueInstr) -> bool
     ensures { result ≡ true → one ≡ other }
 {
     same_kinds_are_equal();
     match (one, other) {
-        (Instr::Values(ValueInstr::Load(kind, slot)), Instr::Values(ValueInstr::Load(of, at))) => {
-            kind.is(of) && slot == at
-        }
+        (ValueInstr::Load(kind, slot), ValueInstr::Load(of, at)) => kind.is(of) && slot == at,
+        _ => false,
+    }
+}
+
+/// Whether two instructions put the value of one field on the stack.
+fn is_same_field(one: RecordInstr, other: RecordInstr) -> bool
+    ensures { result ≡ true → one ≡ other }
+{
+    match (one, other) {
         (
-            Instr::Records(RecordInstr::Field { area, field }),
-            Instr::Records(
-                RecordInstr::Field {
-                    area: of,
-                    field: at,
-                },
-            ),
+            RecordInstr::Field { area, field },
+            RecordInstr::Field {
+                area: of,
+                field: at,
+            },
         ) => area == of && field == at,
+        _ => false,
+    }
+}
+
+/// Whether two instructions put the value of one variable or of one field on the stack.
+fn is_same_source(one: Instr, other: Instr) -> bool
+    ensures { result ≡ true → one ≡ other }
+{
+    match (one, other) {
+        (Instr::Values(one), Instr::Values(other)) => is_same_variable(one, other),
+        (Instr::Records(one), Instr::Records(other)) => is_same_field(one, other),
         _ => false,
     }
 }
@@ -236,9 +252,11 @@ pub fn reads_of(alloc: Global, code: &Code) -> Result<Vec<Read>, AllocError>
     let instrs = code.instructions.as_slice();
     let mut reads = Vec::new(alloc);
     for place in 0..instrs.len() {
-        if begins_at(instrs, place) {
-            reads.push(read_at(alloc, instrs, place)?)?;
+        if !begins_at(instrs, place) {
+            continue;
         }
+        let read = read_at(alloc, instrs, place)?;
+        reads.push(read)?;
     }
     Ok(reads)
 }
