@@ -284,7 +284,6 @@ fn record_of<'a, R: Runtime<A = Global, File = File>>(
 ) -> Result<Record<'a, R>, AllocError> {
     Ok(Record {
         rt,
-        sums: open.sums,
         journal: open.names.journal.clone()?,
         tail,
         begun: open.names.begun.clone()?,
@@ -317,6 +316,7 @@ fn desk_of<'a, R: Runtime<A = Global, File = File>>(
             page: open.talk.page,
         },
         talk: open.talk,
+        sums: open.sums,
         record: record_of(rt, open, tail)?,
         screens: Screens::to(screens),
         gets: Gets::new(alloc),

@@ -3,3 +3,4 @@ pub mod Pauses
 pub mod Twins
 pub use Rattle.run_steps.specs.Run
 pub use Rattle.run_steps.specs.World
+pub mod Showing

@@ -1,17 +1,24 @@
 //! The banks: a stack for each kind, slots with a place for each kind, and all else that a run changes.
 
 ghost use Rattle.std.specs.Prelude.{◌≡◌, true, IfOk, IsSomeAnd, MatchOption, None, slice_get};
-ghost use Rattle.machine.specs.Twins.{Begins};
+ghost use Rattle.code_items.specs.Legal.{IsCode};
+ghost use Rattle.code_rules.specs.Rules.{Accepted};
+ghost use Rattle.machine.specs.Showing.{StepShows, shown_next as shown_next_of};
+ghost use Rattle.machine.specs.Twins.{Begins, Twin};
 ghost use Rattle.row_keys.specs.Lists.{index_list};
 ghost use Rattle.run_steps.specs.Opening.{opening as opening_of};
 ghost use Rattle.run_steps.specs.Shapes.{StoreFits};
-ghost use Rattle.run_steps.specs.World.{with_lines};
+ghost use Rattle.run_steps.specs.World.{World, with_lines};
 ghost use Rattle.screen_lines.specs.State.{sent};
 ghost use Rattle.text_lines.specs.Lines.{is_out, short_lines};
 ghost use Rattle.open_table.specs.Marks.{mark_at, parts_in};
 ghost use Rattle.work_area.specs.Areas.{table_at};
 
+use crate::showing::{ShownAt, shown_by};
 use calendar::Day;
+use code_items::Code;
+use code_items::instr::Instr;
+use fit_laws::laws::fitting_worlds_are_safe_here;
 use key_lists::KeyList;
 use line_journal::KeptLine;
 use run_steps::Machine;
@@ -107,5 +114,31 @@ impl<K: KeyList> Banks<K> {
         self.machine
             .env
             .add_lines(TypedLines::new(line.into_bytes()));
+    }
+
+    /// Where the next instruction of the code shows a value at a place of the screen; none where it is another one, or
+    /// the place lies outside the screen, or is to be behind a cursor that is before the first row.
+    pub fn next_shown(&self, verified: &Verified) -> Option<ShownAt>
+        requires { (w : World) × Twin verified.now w self.now }
+        ensures place { (w : World) → Twin verified.now w self.now → result ≡ shown_next_of verified.now w }
+
+        // So it is by what the step makes of the screen.
+        ensures step { (w : World) → Twin verified.now w self.now → StepShows verified.now w result }
+    {
+        self.shown_next(verified.code())
+    }
+
+    /// `next_shown` of an accepted code.
+    fn shown_next(&self, code: &Code) -> Option<ShownAt>
+        requires legal { IsCode code.now }
+        requires accepted { Accepted code.now }
+        requires twin { (w : World) × Twin code.now w self.now }
+        ensures { (w : World) → Twin code.now w self.now → result ≡ shown_next_of code.now w }
+    {
+        fitting_worlds_are_safe_here();
+        match *code.instructions.get(self.machine.place) {
+            Instr::Screen(instr) => shown_by(instr, &self.machine.values, &self.machine.env),
+            _ => None,
+        }
     }
 }

@@ -7,7 +7,9 @@
 
 mod banks;
 mod running;
+mod showing;
 
 pub use banks::Banks;
 pub use run_steps::{End, Leg, Outcome, takes_line};
 pub use running::{banks_go_on, resume, resume_to_line, run};
+pub use showing::ShownAt;

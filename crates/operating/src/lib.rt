@@ -6,5 +6,6 @@ mod pieces;
 mod silence;
 mod talking;
 
+pub use machine::ShownAt;
 pub use operator::{Answer, Broken, Operator, OperatorFailed, Scene};
-pub use talking::{EndedTalk, MOST_TYPED, can_go_on, converse};
+pub use talking::{EndedTalk, MOST_KEPT, MOST_TYPED, can_go_on, converse};

@@ -1,6 +1,7 @@
 //! Who types the lines of a run, and what is seen of it.
 
 use code_items::Code;
+use machine::ShownAt;
 use screen_lines::Screen;
 use std::alloc::AllocError;
 
@@ -13,6 +14,8 @@ pub struct Scene<'a> {
     pub screen: &'a Screen,
     /// The place of the next instruction in the code.
     pub place: usize,
+    /// At a marked place, where the next instruction shows a value on the screen, if it does; else none.
+    pub shown: Option<ShownAt>,
 }
 
 /// What an operator answers.

@@ -2,8 +2,11 @@
 
 ghost use Rattle.std.specs.Prelude.{◌≡◌, ◌≤◌, ℕ, true, List, Option, length, IfOk};
 ghost use Rattle.calendar.specs.declared.day.DayParts.{DayParts};
+ghost use Rattle.machine.specs.Showing.{shown_next};
+ghost use Rattle.machine.specs.Twins.{Twin};
 ghost use Rattle.operating.specs.Talks.{ComesTo, IsNearer, Talked, TookLine, Turned};
 ghost use Rattle.run_steps.specs.Shapes.{StoreFits};
+ghost use Rattle.run_steps.specs.World.{World};
 ghost use Rattle.text_lines.specs.Lines.{is_ended as is_ended_text, is_out, short_lines};
 ghost use Rattle.work_area.specs.Areas.{StoreState};
 
@@ -22,8 +25,12 @@ use text_lines::{TypedLines, is_ended};
 use work_area::Store;
 use xverify::Verified;
 
-/// The most bytes that all lines of a conversation have together, each with its LF.
+/// The most bytes that are typed in a conversation: 1 MiB.
 pub const MOST_TYPED: usize = 1_048_576;
+
+/// The most bytes that all lines have together, each with its LF: those that are typed, and the LF of a last line that
+/// was typed without one.
+pub const MOST_KEPT: usize = MOST_TYPED + 1;
 
 /// What a turn of the conversation leads to.
 #[derive(Clone, Copy)]
@@ -40,7 +47,18 @@ fn view_of<'a, K: KeyList>(verified: &'a Verified, banks: &'a Banks<K>) -> Scene
         code: verified.code(),
         screen: banks.screen(),
         place: banks.place(),
+        shown: None,
     }
+}
+
+/// What an operator sees at a marked place: also where the next instruction shows a value.
+fn marked_view<'a, K: KeyList>(verified: &'a Verified, banks: &'a Banks<K>) -> Scene<'a>
+    requires { (w : World) × Twin verified.now w banks.now }
+    ensures { (w : World) → Twin verified.now w banks.now → result.shown ≡ shown_next verified.now w }
+{
+    let mut view = view_of(verified, banks);
+    view.shown = banks.next_shown(verified);
+    view
 }
 
 /// Asks for a line, keeps it and gives it to the banks, where none is left. Answers how many bytes all lines have then,
@@ -53,11 +71,11 @@ fn take_one<J: Journal, O: Operator, K: KeyList>(
     used: usize,
 ) -> Result<Option<usize>, Broken>
     requires out { is_out banks.old.env.lines ≡ true }
-    requires few { used ≤ 1048576 }
-    ensures { IfOk result (λ longer. TookLine (J.holds journal.old) banks.old used 1048576 longer
+    requires few { used ≤ 1048577 }
+    ensures { IfOk result (λ longer. TookLine (J.holds journal.old) banks.old used 1048577 longer
         (J.holds journal.new) banks.new) }
 {
-    let room = MOST_TYPED - used;
+    let room = MOST_KEPT - used;
     let line = match operator.ask(&view_of(verified, banks), room) {
         Ok(Answer::Line(line)) => line,
         Ok(Answer::End) => return Ok(None),
@@ -80,8 +98,10 @@ pub(crate) fn show<O: Operator, K: KeyList>(
     verified: &Verified,
     operator: &mut O,
     banks: &Banks<K>,
-) -> Result<(), Broken> {
-    match operator.see(&view_of(verified, banks)) {
+) -> Result<(), Broken>
+    requires { (w : World) × Twin verified.now w banks.now }
+{
+    match operator.see(&marked_view(verified, banks)) {
         Ok(()) => Ok(()),
         Err(_) => Err(Broken::Operator),
     }
@@ -124,14 +144,14 @@ fn answer<J: Journal, O: Operator, K: KeyList>(
     used: usize,
 ) -> Result<Turn, Broken>
     requires within { steps ≤ budget }
-    requires few { used ≤ 1048576 }
+    requires few { used ≤ 1048577 }
     requires out { is_out banks.old.env.lines ≡ true }
     requires talked { (store : StoreState) × (today : Option DayParts)
         × Talked verified.now store today (J.holds journal.old) steps banks.old }
     ensures turned { IfOk result (λ turn. (store : StoreState) (today : Option DayParts)
         → Talked verified.now store today (J.holds journal.old) steps banks.old
         → Turned verified.now store today (J.holds journal.new) budget turn banks.new) }
-    ensures nearer { IfOk result (IsNearer budget 1048576 steps used) }
+    ensures nearer { IfOk result (IsNearer budget 1048577 steps used) }
 {
     banks_go_on(verified);
     lines_behind_change_no_step();
@@ -163,13 +183,13 @@ fn take_turn<J: Journal, O: Operator, K: KeyList>(
     used: usize,
 ) -> Result<Turn, Broken>
     requires within { steps ≤ budget }
-    requires few { used ≤ 1048576 }
+    requires few { used ≤ 1048577 }
     requires talked { (store : StoreState) × (today : Option DayParts)
         × Talked verified.now store today (J.holds journal.old) steps banks.old }
     ensures turned { IfOk result (λ turn. (store : StoreState) (today : Option DayParts)
         → Talked verified.now store today (J.holds journal.old) steps banks.old
         → Turned verified.now store today (J.holds journal.new) budget turn banks.new) }
-    ensures nearer { IfOk result (IsNearer budget 1048576 steps used) }
+    ensures nearer { IfOk result (IsNearer budget 1048577 steps used) }
 {
     pieces_make_the_whole();
     let left = budget - steps;
@@ -215,7 +235,7 @@ fn take_turns<J: Journal, O: Operator, K: KeyList>(
     budget: u64,
     used: usize,
 ) -> Result<Outcome, Broken>
-    requires few { used ≤ 1048576 }
+    requires few { used ≤ 1048577 }
     requires talked { (store : StoreState) × (today : Option DayParts)
         × Talked verified.now store today (J.holds journal.old) 0 banks.old }
     ensures { IfOk result (λ outcome. (store : StoreState) (today : Option DayParts)

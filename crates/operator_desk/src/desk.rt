@@ -9,9 +9,11 @@ use crate::screens::Screens;
 use crate::typing::{Typed, next_line};
 use code_items::Code;
 use code_pages::{CodePage, LetterFault, in_page};
-use operating::{Answer, MOST_TYPED, Operator, OperatorFailed, Scene};
+use folder_files::FileSum;
+use operating::{Answer, MOST_KEPT, MOST_TYPED, Operator, OperatorFailed, Scene};
 use screen_lines::Cursor;
 use std::alloc::{AllocError, Global};
+use std::cell::RefCell;
 use std::fs::File;
 use std::rt::Runtime;
 use std::str;
@@ -43,6 +45,8 @@ pub struct OperatorDesk<'a, R: Runtime<A = Global, File = File>> {
     pub rt: &'a R,
     pub manner: Manner,
     pub talk: &'a Talk,
+    /// The sums of the files of its run as they were read, first that of its code.
+    pub sums: &'a RefCell<Vec<FileSum>>,
     pub record: Record<'a, R>,
     pub screens: Screens,
     pub gets: Gets,
@@ -355,6 +359,14 @@ impl<R: Runtime<A = Global, File = File>> OperatorDesk<'_, R> {
         Ok(())
     }
 
+    /// Says beside the journal how the conversation begins, or looks whether it may go on.
+    fn open(&mut self, alloc: Global) -> Result<(), OperatorFailed> {
+        match self.sums.try_borrow() {
+            Ok(sums) => self.record.begin(alloc, self.talk, sums.as_slice()),
+            Err(_) => Err(OperatorFailed),
+        }
+    }
+
     /// Cuts off what stands behind the journal's lines, and shows it.
     fn cut_tail(&mut self, alloc: Global) -> Result<(), OperatorFailed> {
         let Some(tail) = self.record.cut_tail()? else {
@@ -409,7 +421,7 @@ impl<R: Runtime<A = Global, File = File>> OperatorDesk<'_, R> {
 impl<R: Runtime<A = Global, File = File>> Operator for OperatorDesk<'_, R> {
     fn begin(&mut self, code: &Code) -> Result<Vec<bool>, OperatorFailed> {
         let alloc = self.rt.alloc();
-        self.record.begin(alloc, self.talk)?;
+        self.open(alloc)?;
         self.cut_tail(alloc)?;
         self.make_screens()?;
         let Ok(marks) = self.gets.begin(alloc, code) else {
@@ -439,6 +451,8 @@ impl<R: Runtime<A = Global, File = File>> Operator for OperatorDesk<'_, R> {
         if self.gets.wait(alloc, seen).is_err() {
             return Err(OperatorFailed);
         }
+        // the journal is given to `run`, so it has no more than is typed for one
+        let room = room.saturating_sub(MOST_KEPT - MOST_TYPED);
         for _ in 0..u32::MAX {
             self.show_all(alloc, seen)?;
             if let Some(answer) = self.read(alloc, room)? {

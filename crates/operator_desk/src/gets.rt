@@ -5,12 +5,11 @@ use calendar::Day;
 use code_items::Code;
 use code_items::instr::{Instr, ScreenInstr};
 use fixed_num::Num;
-use operating::Scene;
-use screen_lines::Cursor;
+use operating::{Scene, ShownAt};
 use std::alloc::{AllocError, Global};
 use terminal_screen::{ShownField, lay_over};
-use waiting_fields::{Show, reads_of};
-use xvalue::{Kind, Value};
+use waiting_fields::reads_of;
+use xvalue::Kind;
 
 /// Where the line that is wanted is typed.
 #[derive(Clone, Copy)]
@@ -19,27 +18,8 @@ pub enum WaitingPlace {
     Field(ShownField),
     /// Behind what was printed last.
     Behind,
-    /// In a field of which nothing is known.
+    /// In a field that isn't on the screen, or of which nothing is known.
     Unknown,
-}
-
-/// What the code says of a row or of a column.
-#[derive(Clone, Copy)]
-enum Said {
-    /// That it is computed.
-    Computed,
-    /// Its number, which may lie outside the screen.
-    At(usize),
-}
-
-/// An instruction that shows a value, and where it showed it last.
-#[derive(Clone, Copy)]
-struct Shown {
-    show: Show,
-    row: Said,
-    column: Said,
-    /// Where it stands, counted from the first row that was ever sent out.
-    field: Option<ShownField>,
 }
 
 /// What an instruction takes a line for.
@@ -53,12 +33,23 @@ enum Taker {
     Value(Kind),
 }
 
-/// A READ.
-#[derive(Drop)]
-struct Asking {
-    takes: Vec<usize>,
-    shows: Vec<Shown>,
+/// Which READ an instruction belongs to, and the number of its field there, both from 0.
+#[derive(Clone, Copy)]
+struct Member {
+    read: usize,
+    field: usize,
 }
+
+/// What is known of a place of the code.
+#[derive(Clone, Copy)]
+struct Place {
+    takes: Taker,
+    /// Where it shows a value that a READ asks for, or takes a line for it.
+    member: Option<Member>,
+}
+
+/// A field whose row is counted from the first row that was ever sent out; none where it isn't shown.
+type Standing = Option<ShownField>;
 
 /// An answer that lies over the drawing.
 #[derive(Drop)]
@@ -73,13 +64,13 @@ struct Laid {
 /// What is known of the fields of a code.
 #[derive(Drop)]
 pub struct Gets {
-    reads: Vec<Asking>,
-    /// What takes a line, place by place.
-    takers: Vec<Taker>,
-    /// The place that was looked at last, and where the cursor was then.
-    last: Option<usize>,
-    before: Cursor,
-    /// The fields of the READ that waits, and their answers.
+    places: Vec<Place>,
+    /// By READ, where its fields were shown since it took lines last; none where they can't be told apart.
+    shown: Vec<Vec<Standing>>,
+    /// The READ that waits, and where its fields were shown before it.
+    asking: Option<usize>,
+    asked: Vec<Standing>,
+    /// Those of them that are on the screen.
     pub fields: Vec<ShownField>,
     answers: Vec<Laid>,
     sent: RowCount,
@@ -134,93 +125,6 @@ impl RowCount {
     }
 }
 
-/// What the code says of a row or of a column: the whole part of a constant.
-fn said_by(code: &Code, number: Option<u16>) -> Said {
-    let Some(number) = number else {
-        return Said::Computed;
-    };
-    match code.declared.constants.as_slice().get(usize::from(number)) {
-        Some(Value::Number(said)) => match usize::try_from(said.whole()) {
-            Ok(place) => Said::At(place),
-            Err(_) => Said::At(usize::MAX),
-        },
-        _ => Said::Computed,
-    }
-}
-
-/// The first column of a number that is shown up to an end: its text has ten columns, or more where it has no blank.
-fn number_from(row: &[u8], end: usize) -> Option<usize> {
-    let first = end.checked_sub(10)?;
-    let Some(before) = first.checked_sub(1) else {
-        return Some(first);
-    };
-    if row.get(first) == Some(&b' ') || row.get(before) == Some(&b' ') {
-        return Some(first);
-    }
-    None
-}
-
-/// The first column of a value of a kind that is shown up to an end, where its text tells it: not that of a text, and
-/// none where the text may have been cut at the row's end.
-fn shown_from(kind: Kind, row: &[u8], end: usize) -> Option<usize> {
-    if end >= 80 {
-        return None;
-    }
-    match kind {
-        Kind::Number => number_from(row, end),
-        Kind::Logical => end.checked_sub(3),
-        Kind::Date => {
-            let has_short_year = row.get(end.checked_sub(3)?) == Some(&b'/');
-            end.checked_sub(if has_short_year { 8 } else { 10 })
-        }
-        Kind::Text => None,
-    }
-}
-
-/// The first column of a value that an instruction showed one column behind the cursor.
-fn first_on(before: Cursor) -> Option<usize> {
-    match before {
-        Cursor::At { column, .. } if column < 79 => Some(column + 1),
-        _ => None,
-    }
-}
-
-/// The first column of a value that an instruction showed at its row and column, if it did: where these lie outside the
-/// screen it shows nothing and leaves the cursor. So a cursor that didn't move tells nothing of a computed place.
-fn first_at(shown: &Shown, before: Cursor, seen: &Scene<'_>) -> Option<usize> {
-    let after = seen.screen.cursor();
-    let Cursor::At { row, column: end } = after else {
-        return None;
-    };
-    match shown.row {
-        Said::At(said) if said != row => return None,
-        Said::Computed if before == after => return None,
-        _ => {}
-    }
-    match shown.column {
-        Said::At(column) => Some(column),
-        Said::Computed => shown_from(shown.show.kind, seen.screen.rows().get(row)?, end),
-    }
-}
-
-/// The field in which an instruction showed a value, as it stands on the screen behind it; none where it showed none,
-/// or its place can't be told.
-fn field_of(shown: &Shown, before: Cursor, seen: &Scene<'_>) -> Option<ShownField> {
-    let first = if shown.show.on {
-        first_on(before)?
-    } else {
-        first_at(shown, before, seen)?
-    };
-    match seen.screen.cursor() {
-        Cursor::At { row, column } if first < column => Some(ShownField {
-            row,
-            column: first,
-            length: column - first,
-        }),
-        _ => None,
-    }
-}
-
 /// What an instruction takes a line for.
 fn taker_at(instr: &Instr) -> Taker {
     match instr {
@@ -230,12 +134,12 @@ fn taker_at(instr: &Instr) -> Taker {
     }
 }
 
-/// A field of the screen, counted from the first row that was ever sent out.
-fn among_all(field: ShownField, sent: usize) -> ShownField {
+/// The field where a value is shown, counted from the first row that was ever sent out.
+fn among_all(shown: ShownAt, sent: usize) -> ShownField {
     ShownField {
-        row: sent.saturating_add(field.row),
-        column: field.column,
-        length: field.length,
+        row: sent.saturating_add(shown.row),
+        column: shown.column,
+        length: shown.length,
     }
 }
 
@@ -277,14 +181,32 @@ fn row_under<'a>(seen: &Scene<'a>, field: ShownField, sent: usize) -> Option<&'a
     seen.screen.rows().get(on_screen(field, sent)?.row)
 }
 
+/// Says of places that they belong to the fields of a READ, in their order.
+fn join(places: &mut [Place], of_read: &[usize], read: usize) {
+    for (field, place) in of_read.iter().enumerate() {
+        if let Some(known) = places.get_mut(*place) {
+            known.member = Some(Member { read, field });
+        }
+    }
+}
+
+/// As many fields that aren't shown.
+fn unshown(alloc: Global, count: usize) -> Result<Vec<Standing>, AllocError> {
+    let mut fields = Vec::new(alloc);
+    for _ in 0..count {
+        fields.push(None)?;
+    }
+    Ok(fields)
+}
+
 impl Gets {
     /// Of a code that isn't known yet.
     pub fn new(alloc: Global) -> Gets {
         Gets {
-            reads: Vec::new(alloc),
-            takers: Vec::new(alloc),
-            last: None,
-            before: Cursor::BeforeFirst,
+            places: Vec::new(alloc),
+            shown: Vec::new(alloc),
+            asking: None,
+            asked: Vec::new(alloc),
             fields: Vec::new(alloc),
             answers: Vec::new(alloc),
             sent: RowCount { bytes: 0, rows: 0 },
@@ -294,90 +216,74 @@ impl Gets {
         }
     }
 
-    /// Learns the READs of a code. Answers the places at which the run is to be looked at.
+    /// Learns the READs of a code. Answers the places at which the run is to be looked at: those that take a line, and
+    /// those that show a value which a READ asks for.
     pub fn begin(&mut self, alloc: Global, code: &Code) -> Result<Vec<bool>, AllocError> {
         for instr in code.instructions.as_slice() {
-            self.takers.push(taker_at(instr))?;
+            let takes = taker_at(instr);
+            self.places.push(Place {
+                takes,
+                member: None,
+            })?;
         }
-        for read in &reads_of(alloc, code)? {
-            let mut shows = Vec::new(alloc);
-            for show in &read.shows {
-                shows.push(Shown {
-                    show: *show,
-                    row: said_by(code, show.row),
-                    column: said_by(code, show.column),
-                    field: None,
-                })?;
-            }
-            let takes = Vec::from_slice(alloc, read.takes.as_slice())?;
-            self.reads.push(Asking { takes, shows })?;
+        for (number, read) in reads_of(alloc, code)?.iter().enumerate() {
+            join(&mut self.places, read.takes.as_slice(), number);
+            join(&mut self.places, read.shows.as_slice(), number);
+            self.shown.push(unshown(alloc, read.shows.len())?)?;
         }
-        self.marks(alloc, code.instructions.as_slice().len())
+        self.marks(alloc)
     }
 
     /// Whether a line is taken at a place.
     pub fn takes_line(&self, place: usize) -> bool {
-        match self.takers.get(place) {
-            Some(taker) => *taker != Taker::Nothing,
+        match self.places.get(place) {
+            Some(known) => known.takes != Taker::Nothing,
             None => false,
         }
     }
 
-    /// Whether the run is to be looked at before a place.
-    fn is_mark(&self, place: usize) -> bool {
-        self.takes_line(place)
-            || self.reads.iter().any(|read| {
-                read.shows.iter().any(|shown| {
-                    let at = shown.show.place;
-                    at == place || at.saturating_add(1) == place
-                })
-            })
-    }
-
-    fn marks(&self, alloc: Global, count: usize) -> Result<Vec<bool>, AllocError> {
+    fn marks(&self, alloc: Global) -> Result<Vec<bool>, AllocError> {
         let mut marks = Vec::new(alloc);
-        for place in 0..count {
-            marks.push(self.is_mark(place))?;
+        for known in &self.places {
+            marks.push(known.takes != Taker::Nothing || known.member.is_some())?;
         }
         Ok(marks)
     }
 
-    /// Looks at the cursor before or behind an instruction that shows a value. Behind one that wasn't carried out,
-    /// since the run came there by a jump, nothing is known of its field.
-    pub fn look(&mut self, alloc: Global, seen: &Scene<'_>) -> Result<(), AllocError> {
-        self.sent.count(seen.screen.sent());
-        let (last, before, sent) = (self.last, self.before, self.sent.rows);
-        let mut written = Vec::new(alloc);
-        for read in &mut self.reads {
-            for shown in &mut read.shows {
-                let place = shown.show.place;
-                if place.saturating_add(1) != seen.place {
-                    continue;
-                }
-                shown.field = None;
-                if last == Some(place) {
-                    if let Some(field) = field_of(&*shown, before, seen) {
-                        let field = among_all(field, sent);
-                        shown.field = Some(field);
-                        written.push(field)?;
-                    }
-                }
-            }
-        }
-        self.leave_out(alloc, &written)?;
-        self.last = Some(seen.place);
-        self.before = seen.screen.cursor();
-        Ok(())
+    /// The READ and the field of a place.
+    fn member(&self, place: usize) -> Option<Member> {
+        self.places.get(place)?.member
     }
 
-    /// Takes away the answers that lie over fields which the program wrote now.
-    fn leave_out(&mut self, alloc: Global, written: &[ShownField]) -> Result<(), AllocError> {
-        if written.is_empty() {
+    /// Learns where the value is shown that the next instruction shows, where a READ asks for it.
+    pub fn look(&mut self, alloc: Global, seen: &Scene<'_>) -> Result<(), AllocError> {
+        self.sent.count(seen.screen.sent());
+        if self.takes_line(seen.place) {
             return Ok(());
         }
+        let Some(Member { read, field }) = self.member(seen.place) else {
+            return Ok(());
+        };
+        let standing = match seen.shown {
+            Some(shown) => Some(among_all(shown, self.sent.rows)),
+            None => None,
+        };
+        if let Some(fields) = self.shown.get_mut(read) {
+            if let Some(known) = fields.get_mut(field) {
+                *known = standing;
+            }
+        }
+        match standing {
+            Some(written) => self.leave_out(alloc, written),
+            None => Ok(()),
+        }
+    }
+
+    /// Takes away the answers that lie over a field which the program writes now.
+    fn leave_out(&mut self, alloc: Global, written: ShownField) -> Result<(), AllocError> {
         let mut kept = Vec::new(alloc);
         for answer in &self.answers {
-            if !written.iter().any(|field| meets(*field, answer.field)) {
+            if !meets(written, answer.field) {
                 kept.push(answer.copied()?)?;
             }
         }
@@ -385,30 +291,12 @@ impl Gets {
         Ok(())
     }
 
-    /// Which READ takes a line at a place, and the number of the line.
-    fn asking(&self, place: usize) -> Option<(usize, usize)> {
-        for (number, read) in self.reads.iter().enumerate() {
-            if let Some(line) = read.takes.iter().position(|take| *take == place) {
-                return Some((number, line));
-            }
-        }
-        None
-    }
-
-    /// The fields of a READ as they stand on the screen now.
-    fn fields_of(
-        &self,
-        alloc: Global,
-        read: usize,
-        sent: usize,
-    ) -> Result<Vec<ShownField>, AllocError> {
+    /// The fields of the READ that waits as they stand on the screen now.
+    fn fields_now(&self, alloc: Global) -> Result<Vec<ShownField>, AllocError> {
         let mut fields = Vec::new(alloc);
-        let Some(read) = self.reads.get(read) else {
-            return Ok(fields);
-        };
-        for shown in &read.shows {
-            if let Some(field) = shown.field {
-                if let Some(field) = on_screen(field, sent) {
+        for standing in &self.asked {
+            if let Some(field) = *standing {
+                if let Some(field) = on_screen(field, self.sent.rows) {
                     fields.push(field)?;
                 }
             }
@@ -416,27 +304,63 @@ impl Gets {
         Ok(fields)
     }
 
+    /// Learns that a READ begins to take lines: where its fields were shown is known, and what is shown from now on is
+    /// for the next time.
+    fn begin_read(&mut self, alloc: Global, read: usize) -> Result<(), AllocError> {
+        self.asking = Some(read);
+        self.asked = Vec::new(alloc);
+        if let Some(fields) = self.shown.get_mut(read) {
+            for known in fields.iter_mut() {
+                self.asked.push(*known)?;
+                *known = None;
+            }
+        }
+        Ok(())
+    }
+
+    /// Where a field of the READ that waits is typed.
+    fn place_of(&self, field: usize) -> WaitingPlace {
+        match self.asked.get(field) {
+            Some(Some(field)) => match on_screen(*field, self.sent.rows) {
+                Some(field) => WaitingPlace::Field(field),
+                None => WaitingPlace::Unknown,
+            },
+            _ => WaitingPlace::Unknown,
+        }
+    }
+
+    /// Learns that a field of a READ is asked for.
+    fn wait_for(&mut self, alloc: Global, member: Member) -> Result<(), AllocError> {
+        if member.field == 0 || self.asking != Some(member.read) {
+            self.begin_read(alloc, member.read)?;
+        }
+        self.number = member.field.saturating_add(1);
+        self.fields = self.fields_now(alloc)?;
+        self.waiting = self.place_of(member.field);
+        Ok(())
+    }
+
     /// Learns which line is wanted, and where it is typed.
     pub fn wait(&mut self, alloc: Global, seen: &Scene<'_>) -> Result<(), AllocError> {
-        self.kind = match self.takers.get(seen.place) {
-            Some(Taker::Value(kind)) => Some(*kind),
+        self.kind = match self.places.get(seen.place) {
+            Some(
+                Place {
+                    takes: Taker::Value(kind),
+                    ..
+                },
+            ) => Some(*kind),
             _ => None,
         };
         self.sent.count(seen.screen.sent());
         self.keep_those_under(alloc, seen)?;
-        let Some((read, line)) = self.asking(seen.place) else {
-            self.waiting = WaitingPlace::Behind;
-            self.fields = Vec::new(alloc);
-            return Ok(());
-        };
-        self.number = line.saturating_add(1);
-        self.fields = self.fields_of(alloc, read, self.sent.rows)?;
-        let all = self.reads.get(read).map(|read| read.takes.len()) == Some(self.fields.len());
-        self.waiting = match self.fields.get(line) {
-            Some(field) if all => WaitingPlace::Field(*field),
-            _ => WaitingPlace::Unknown,
-        };
-        Ok(())
+        match self.member(seen.place) {
+            Some(member) => self.wait_for(alloc, member),
+            None => {
+                self.waiting = WaitingPlace::Behind;
+                self.fields = Vec::new(alloc);
+                Ok(())
+            }
+        }
     }
 
     /// Takes away the answers in whose fields the program wrote since.
@@ -480,7 +404,11 @@ impl Gets {
             return Ok(());
         }
         self.answers.push(Laid {
-            field: among_all(field, self.sent.rows),
+            field: ShownField {
+                row: self.sent.rows.saturating_add(field.row),
+                column: field.column,
+                length: field.length,
+            },
             text: Vec::from_slice(alloc, line)?,
             under: *row,
         })?;

@@ -1,6 +1,10 @@
 //! Lines of a text that is there already.
 #![tactic(auto)]
 
+ghost use Rattle.operator_desk.specs.Held.{behind_first, first_line, left_of, left_of_own};
+ghost use Rattle.operator_desk.specs.Held.{line_length as line_length_of};
+ghost use Rattle.std.specs.Prelude.{◌≡◌, ◌≤◌, ◌≢◌, [], IfOk, IfSome, IsNone, MatchOption, OnErr, length};
+
 use std::alloc::{AllocError, Global};
 
 /// The lines of a text, one after another. The last one needs no line end.
@@ -9,20 +13,33 @@ pub struct HeldLines<'a> {
     left: &'a [u8],
 }
 
+/// How many bytes come before the first line end.
+fn line_length(text: &[u8]) -> usize
+    ensures value { result ≡ line_length_of text.now }
+    ensures within { result ≤ length text.now }
+{
+    text.iter().take_while(|byte| **byte != b'\n').count()
+}
+
 impl<'a> HeldLines<'a> {
     /// All lines of this text.
-    pub fn of(text: &'a [u8]) -> HeldLines<'a> {
+    pub fn of(text: &'a [u8]) -> HeldLines<'a>
+        ensures { left_of result ≡ text.now }
+    {
         HeldLines { left: text }
     }
 
     /// The next line, without its end; none where the text has ended.
-    pub fn next(&mut self) -> Option<&'a [u8]> {
+    pub fn next(&mut self) -> Option<&'a [u8]>
+        ensures none { IsNone result ↔ (left_of self.old ≡ []) }
+        ensures line { IfSome result (λ line. line.now ≡ first_line (left_of self.old)) }
+        ensures rest { left_of self.new ≡ behind_first (left_of self.old) }
+    {
         let left = self.left;
         if left.is_empty() {
             return None;
         }
-        let length = left.iter().take_while(|byte| **byte != b'\n').count();
-        let (line, rest) = left.split_at(length);
+        let (line, rest) = left.split_at(line_length(left));
         self.left = &rest[1.min(rest.len())..];
         Some(line)
     }
@@ -38,12 +55,22 @@ pub struct OwnLines {
 
 impl OwnLines {
     /// All lines of this text.
-    pub fn of(text: Vec<u8>) -> OwnLines {
+    pub fn of(text: Vec<u8>) -> OwnLines
+        ensures { left_of_own result ≡ text.items }
+    {
         OwnLines { text, used: 0 }
     }
 
     /// The next line, without its end; none where the text has ended.
-    pub fn next(&mut self, alloc: Global) -> Result<Option<Vec<u8>>, AllocError> {
+    ///
+    /// # Errors
+    /// Memory was refused, and the line stays.
+    pub fn next(&mut self, alloc: Global) -> Result<Option<Vec<u8>>, AllocError>
+        ensures line { IfOk result (λ line. MatchOption line (left_of_own self.old ≡ [])
+            (λ line. line.items ≡ first_line (left_of_own self.old))) }
+        ensures rest { IfOk result (λ _. left_of_own self.new ≡ behind_first (left_of_own self.old)) }
+        ensures err { OnErr result (self.new ≡ self.old) }
+    {
         let left = &self.text[self.used.min(self.text.len())..];
         let Some(line) = HeldLines::of(left).next() else {
             return Ok(None);

@@ -1,13 +1,16 @@
 //! What stands beside a journal.
 #![tactic(auto)]
 
+ghost use Rattle.journal_papers.specs.Papers.{changed_of};
+ghost use Rattle.std.specs.Prelude.{◌≡◌, IfOk, IfSome, IsErr, IsOk, MatchOption, None, OnErr, OnOk, slice_get};
+ghost use Rattle.std.specs.Prelude.{string_bytes};
+
 use crate::begun::{Talk, put_talk};
 use folder_files::{FileSum, JournalFile, Tail, put_new_file};
 use journal_papers::{JournalPaper, PaperFault, first_changed};
 use line_journal::{Journal, JournalFailed};
 use operating::OperatorFailed;
 use std::alloc::{AllocError, Global};
-use std::cell::RefCell;
 use std::fs::File;
 use std::rt::Runtime;
 
@@ -36,8 +39,6 @@ impl Journal for KeptJournal {
 #[derive(Drop)]
 pub struct Record<'a, R: Runtime<A = Global, File = File>> {
     pub rt: &'a R,
-    /// The sums of the files of its run as they were read, first that of its code.
-    pub sums: &'a RefCell<Vec<FileSum>>,
     /// The name of the journal.
     pub journal: String,
     /// What stands behind the journal's lines.
@@ -68,24 +69,50 @@ fn begun_text(alloc: Global, talk: &Talk, sums: &[FileSum]) -> Result<String, Pa
 
 impl<R: Runtime<A = Global, File = File>> Record<'_, R> {
     /// Writes the text of the beginning, or, where the conversation goes on, looks whether all files are as it says.
-    pub fn begin(&mut self, alloc: Global, talk: &Talk) -> Result<(), OperatorFailed> {
-        let Ok(sums) = self.sums.try_borrow() else {
-            return Err(OperatorFailed);
-        };
+    /// The sums are those of the files of its run as they were read, first that of its code.
+    ///
+    /// # Errors
+    /// The first file that isn't as it was is named by `changed`, a text that can't be written by `unwritten`. Where
+    /// neither names one, memory was refused.
+    pub fn begin(
+        &mut self,
+        alloc: Global,
+        talk: &Talk,
+        sums: &[FileSum],
+    ) -> Result<(), OperatorFailed>
+        ensures ok { OnOk result (self.new ≡ self.old) }
+        ensures err { OnErr result (self.new
+            ≡ record self.old { changed = self.new.changed; unwritten = self.new.unwritten }) }
+
+        // It goes on exactly where no file has changed.
+        ensures goes_on { IfSome self.old.said (λ said. MatchOption (changed_of said.now sums.now) (IsOk result)
+            (λ _. IsErr result)) }
+        ensures named { IfSome self.old.said (λ said. IfSome (changed_of said.now sums.now)
+            (λ n. IfSome self.new.changed (λ name. IfSome (slice_get sums.now n)
+            (λ file. string_bytes name ≡ string_bytes file.name)))) }
+    {
         match self.said {
-            Some(said) => match first_changed(said, sums.as_slice()) {
+            Some(said) => match first_changed(said, sums) {
                 Some(number) => {
-                    self.changed = name_at(alloc, sums.as_slice(), number);
+                    self.changed = name_at(alloc, sums, number);
                     Err(OperatorFailed)
                 }
                 None => Ok(()),
             },
-            None => self.write(alloc, talk, sums.as_slice()),
+            None => self.write(alloc, talk, sums),
         }
     }
 
     /// Cuts off what stands behind the journal's lines. Answers it.
-    pub fn cut_tail(&mut self) -> Result<Option<Tail>, OperatorFailed> {
+    ///
+    /// # Errors
+    /// The journal can't be written, and `unwritten` names it, unless memory was refused.
+    pub fn cut_tail(&mut self) -> Result<Option<Tail>, OperatorFailed>
+        ensures cut { IfOk result (λ tail. tail ≡ self.old.tail) }
+        ensures ok { OnOk result (self.new ≡ record self.old { tail = None }) }
+        ensures err { OnErr result (self.new
+            ≡ record self.old { tail = None; unwritten = self.new.unwritten }) }
+    {
         let Some(tail) = self.tail.take() else {
             return Ok(None);
         };
@@ -96,12 +123,11 @@ impl<R: Runtime<A = Global, File = File>> Record<'_, R> {
         Ok(Some(tail))
     }
 
-    fn write(
-        &mut self,
-        alloc: Global,
-        talk: &Talk,
-        sums: &[FileSum],
-    ) -> Result<(), OperatorFailed> {
+    /// Writes the text of the beginning.
+    fn write(&mut self, alloc: Global, talk: &Talk, sums: &[FileSum]) -> Result<(), OperatorFailed>
+        ensures ok { OnOk result (self.new ≡ self.old) }
+        ensures err { OnErr result (self.new ≡ record self.old { unwritten = self.new.unwritten }) }
+    {
         let Ok(text) = begun_text(alloc, talk, sums) else {
             return Err(OperatorFailed);
         };
@@ -114,7 +140,10 @@ impl<R: Runtime<A = Global, File = File>> Record<'_, R> {
 }
 
 /// The name of a file by its number.
-fn name_at(alloc: Global, sums: &[FileSum], number: usize) -> Option<String> {
+fn name_at(alloc: Global, sums: &[FileSum], number: usize) -> Option<String>
+    ensures { IfSome result (λ name. IfSome (slice_get sums.now number)
+        (λ file. string_bytes name ≡ string_bytes file.name)) }
+{
     let file = sums.get(number)?;
     String::from_str(alloc, file.name.as_str()).ok()
 }

@@ -229,8 +229,8 @@ fn told(run: Result<Ended, RunRefusal>) -> Result<Ended, OperateRefusal>
 /// are the job's input, and goes on with those that the operator answers; each is kept in the journal before the run
 /// sees it, and behind the end of the input each further line is empty. What is printed and saved is what `run_files`
 /// prints and saves for the same job with what the journal holds then as its input. Where the operator or the journal
-/// fails, or a line isn't one, nothing is printed or saved. All lines together have at most 1,048,576 bytes, each with
-/// its LF.
+/// fails, or a line isn't one, nothing is printed or saved. All lines together have at most 1,048,577 bytes, each with
+/// its LF: so an input of 1 MiB whose last line has none can be typed.
 pub fn operate_files<F: Files, J: Journal, O: Operator>(
     alloc: Global,
     files: &mut F,

@@ -5,3 +5,4 @@ pub mod Tops
 pub mod TextCalls
 pub mod TextTops
 pub mod CutBytes
+pub mod Said

@@ -25,5 +25,5 @@ pub use scratch::Scratch;
 pub use slots::Slots;
 pub use stacks::Stacks;
 pub use tagged::Tagged;
-pub use untagged::Untagged;
+pub use untagged::{SaidPlace, Untagged};
 pub use values::Values;

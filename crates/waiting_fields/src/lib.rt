@@ -7,4 +7,4 @@
 
 mod reads;
 
-pub use reads::{Read, Show, reads_of};
+pub use reads::{Read, reads_of};

@@ -1,35 +1,27 @@
 //! The READs of a code.
 
+ghost use Rattle.std.specs.Prelude.{◌≡◌, true, IfOk};
+ghost use Rattle.std.specs.List.{All};
+ghost use Rattle.waiting_fields.specs.Reads as spec;
+ghost use Rattle.waiting_fields.specs.Reads.{AreMatched, IsRead};
+
 use code_items::Code;
 use code_items::instr::{FlowInstr, Instr, RecordInstr, ScreenInstr, ValueInstr};
 use std::alloc::{AllocError, Global};
-use xvalue::Kind;
+use xvalue::laws::same_kinds_are_equal;
 
-/// An instruction that shows the value of a GET.
-#[derive(Clone, Copy, PartialEq, Eq, Debug)]
-pub struct Show {
-    /// Its place in the code.
-    pub place: usize,
-    /// What kind of value it shows.
-    pub kind: Kind,
-    /// Whether it shows the value one column behind the cursor; else where row and column say.
-    pub on: bool,
-    /// The number of the constant that is its row, where row and column are constants.
-    pub row: Option<u16>,
-    /// The number of the constant that is its column, where it is one.
-    pub column: Option<u16>,
-}
-
-/// A READ: the places at which it takes lines, and what showed the values that it asks for, in their order; none of
-/// these where they can't be told apart.
+/// A READ: the places at which it takes lines, and those of the instructions that show the values it asks for, in their
+/// order; none of these where they can't be told apart.
 #[derive(Drop)]
 pub struct Read {
     pub takes: Vec<usize>,
-    pub shows: Vec<Show>,
+    pub shows: Vec<usize>,
 }
 
 /// Whether an instruction puts the value of a variable or of a field on the stack.
-fn is_source(instr: Instr) -> bool {
+fn is_source(instr: Instr) -> bool
+    ensures { result ≡ spec.is_source instr }
+{
     matches!(
         instr,
         Instr::Values(ValueInstr::Load(_, _)) | Instr::Records(RecordInstr::Field { .. })
@@ -44,13 +36,29 @@ fn is_sink(instr: Instr) -> bool {
     )
 }
 
+/// Whether an instruction takes a line for a value.
+fn is_input(instr: Instr) -> bool
+    ensures { result ≡ spec.is_input instr }
+{
+    matches!(instr, Instr::Screen(ScreenInstr::Input(_)))
+}
+
+/// The instruction before a place.
+fn before(code: &[Instr], place: usize) -> Option<Instr>
+    ensures { result ≡ spec.before code.now place }
+{
+    if place == 0 {
+        return None;
+    }
+    code.get(place - 1).copied()
+}
+
 /// Whether a line is taken at a place for the value before it.
-fn takes_at(code: &[Instr], place: usize) -> bool {
-    let Some(before) = place.checked_sub(1) else {
-        return false;
-    };
-    match (code.get(before), code.get(place)) {
-        (Some(source), Some(Instr::Screen(ScreenInstr::Input(_)))) => is_source(*source),
+fn takes_at(code: &[Instr], place: usize) -> bool
+    ensures { result ≡ spec.takes_at code.now place }
+{
+    match (before(code, place), code.get(place)) {
+        (Some(source), Some(instr)) => is_source(source) && is_input(*instr),
         _ => false,
     }
 }
@@ -70,7 +78,9 @@ fn begins_at(code: &[Instr], place: usize) -> bool {
 }
 
 /// The places at which the READ that begins at a place takes its lines.
-fn takes_from(alloc: Global, code: &[Instr], first: usize) -> Result<Vec<usize>, AllocError> {
+fn takes_from(alloc: Global, code: &[Instr], first: usize) -> Result<Vec<usize>, AllocError>
+    ensures { IfOk result (λ takes. All (λ place. spec.takes_at code.now place ≡ true) takes.items) }
+{
     let mut takes = Vec::new(alloc);
     let mut next = first;
     for place in first..code.len() {
@@ -101,53 +111,77 @@ fn ends_straight(instr: Instr) -> bool {
     }
 }
 
-/// The number of the constant that stands so far before a place, if one does.
-fn constant_before(code: &[Instr], place: usize, distance: usize) -> Option<u16> {
-    match code.get(place.checked_sub(distance)?)? {
-        Instr::Values(ValueInstr::Constant(number)) => Some(*number),
-        _ => None,
+/// Whether an instruction shows a value at a place of the screen.
+fn shows(instr: Instr) -> bool
+    ensures { result ≡ spec.shows instr }
+{
+    matches!(
+        instr,
+        Instr::Screen(ScreenInstr::Say(_)) | Instr::Screen(ScreenInstr::SayOn(_))
+    )
+}
+
+/// Whether the instruction at a place shows a value at a place of the screen.
+fn shows_at(code: &[Instr], place: usize) -> bool
+    ensures { result ≡ spec.shows_at code.now place }
+{
+    match code.get(place) {
+        Some(instr) => shows(*instr),
+        None => false,
     }
 }
 
-/// What is shown at a place, if a value is shown there. Before it stand its row, its column and its value, which is one
-/// instruction; a value whose last instruction is a constant is that constant.
-fn show_at(code: &[Instr], place: usize) -> Option<Show> {
-    match code.get(place)? {
-        Instr::Screen(ScreenInstr::Say(kind)) => {
-            let column = constant_before(code, place, 2);
-            Some(Show {
-                place,
-                kind: *kind,
-                on: false,
-                row: match column {
-                    Some(_) => constant_before(code, place, 3),
-                    None => None,
-                },
-                column,
-            })
-        }
-        Instr::Screen(ScreenInstr::SayOn(kind)) => Some(Show {
-            place,
-            kind: *kind,
-            on: true,
-            row: None,
-            column: None,
-        }),
-        _ => None,
+/// Whether two instructions put the value of one variable on the stack.
+fn is_same_variable(one: ValueInstr, other: ValueInstr) -> bool
+    ensures { result ≡ true → one ≡ other }
+{
+    same_kinds_are_equal();
+    match (one, other) {
+        (ValueInstr::Load(kind, slot), ValueInstr::Load(of, at)) => kind.is(of) && slot == at,
+        _ => false,
     }
 }
 
-/// The value that is on the stack at a place.
-fn source_before(code: &[Instr], place: usize) -> Option<Instr> {
-    code.get(place.checked_sub(1)?).copied()
+/// Whether two instructions put the value of one field on the stack.
+fn is_same_field(one: RecordInstr, other: RecordInstr) -> bool
+    ensures { result ≡ true → one ≡ other }
+{
+    match (one, other) {
+        (
+            RecordInstr::Field { area, field },
+            RecordInstr::Field {
+                area: of,
+                field: at,
+            },
+        ) => area == of && field == at,
+        _ => false,
+    }
+}
+
+/// Whether two instructions put the value of one variable or of one field on the stack.
+fn is_same_source(one: Instr, other: Instr) -> bool
+    ensures { result ≡ true → one ≡ other }
+{
+    match (one, other) {
+        (Instr::Values(one), Instr::Values(other)) => is_same_variable(one, other),
+        (Instr::Records(one), Instr::Records(other)) => is_same_field(one, other),
+        _ => false,
+    }
+}
+
+/// Whether the values before two places are those of one variable or of one field.
+fn are_same(code: &[Instr], one: usize, other: usize) -> bool
+    ensures { result ≡ true → spec.before code.now one ≡ spec.before code.now other }
+{
+    match (before(code, one), before(code, other)) {
+        (Some(one), Some(other)) => is_same_source(one, other),
+        _ => false,
+    }
 }
 
 /// Whether a READ asks for the value that is shown at a place.
 fn is_asked(code: &[Instr], takes: &[usize], place: usize) -> bool {
-    let source = source_before(code, place);
-    takes
-        .iter()
-        .any(|take| source_before(code, *take) == source)
+    takes.iter().any(|take| are_same(code, place, *take))
 }
 
 /// Where the straight code before a place begins.
@@ -163,33 +197,43 @@ fn straight_from(code: &[Instr], place: usize) -> usize {
     first
 }
 
-/// The instructions before a READ that show values it asks for.
+/// The places of the instructions before a READ that show values it asks for.
 fn shown_before(
     alloc: Global,
     code: &[Instr],
     takes: &[usize],
     first: usize,
-) -> Result<Vec<Show>, AllocError> {
+) -> Result<Vec<usize>, AllocError>
+    ensures { IfOk result (λ shows. All (λ place. spec.shows_at code.now place ≡ true) shows.items) }
+{
     let mut shows = Vec::new(alloc);
     for place in straight_from(code, first)..first {
-        if let Some(show) = show_at(code, place) {
-            if is_asked(code, takes, place) {
-                shows.push(show)?;
-            }
+        if shows_at(code, place) && is_asked(code, takes, place) {
+            shows.push(place)?;
         }
     }
     Ok(shows)
 }
 
 /// Whether each line of a READ has its shown value, in order.
-fn are_matched(code: &[Instr], takes: &[usize], shows: &[Show]) -> bool {
-    takes.len() == shows.len()
-        && takes.iter().zip(shows.iter()).all(|(take, show)| source_before(code, *take)
-            == source_before(code, show.place))
+fn are_matched(code: &[Instr], takes: &[usize], shows: &[usize]) -> bool
+    ensures { result ≡ true → AreMatched code.now takes.now shows.now }
+{
+    if takes.len() != shows.len() {
+        return false;
+    }
+    for number in 0..takes.len() {
+        if !are_same(code, shows[number], takes[number]) {
+            return false;
+        }
+    }
+    true
 }
 
 /// The READ whose first line is taken at a place.
-fn read_at(alloc: Global, code: &[Instr], place: usize) -> Result<Read, AllocError> {
+fn read_at(alloc: Global, code: &[Instr], place: usize) -> Result<Read, AllocError>
+    ensures { IfOk result (IsRead code.now) }
+{
     let takes = takes_from(alloc, code, place)?;
     let shows = shown_before(alloc, code, takes.as_slice(), place.saturating_sub(1))?;
     if are_matched(code, takes.as_slice(), shows.as_slice()) {
@@ -201,14 +245,18 @@ fn read_at(alloc: Global, code: &[Instr], place: usize) -> Result<Read, AllocErr
     })
 }
 
-/// The READs of a code, by rising place.
-pub fn reads_of(alloc: Global, code: &Code) -> Result<Vec<Read>, AllocError> {
-    let code = code.instructions.as_slice();
+/// The READs of a code, by rising place. Those whose fields can't be told apart have no shows.
+pub fn reads_of(alloc: Global, code: &Code) -> Result<Vec<Read>, AllocError>
+    ensures { IfOk result (λ reads. All (IsRead code.now.instructions) reads.items) }
+{
+    let instrs = code.instructions.as_slice();
     let mut reads = Vec::new(alloc);
-    for place in 0..code.len() {
-        if begins_at(code, place) {
-            reads.push(read_at(alloc, code, place)?)?;
+    for place in 0..instrs.len() {
+        if !begins_at(instrs, place) {
+            continue;
         }
+        let read = read_at(alloc, instrs, place)?;
+        reads.push(read)?;
     }
     Ok(reads)
 }

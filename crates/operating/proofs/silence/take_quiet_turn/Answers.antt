@@ -21,3 +21,9 @@ pub returns-in-Waits-clause-turned : goal.returns-in-Waits-clause-turned
 returns-in-Waits-clause-turned g c = turned_all _ _ _ _ _ _ _ c.take_empty.result
     (λ store today bytes s. stood_on _ store today bytes _ _ _ _ _ (record { joined = c.pieces_make_the_whole.ensures.joined; ended = c.pieces_make_the_whole.ensures.ended }) s (c.in-Waits.ensures.goes s.world s.twin).0)
     c.take_empty.ensures.turned
+
+pub show-requires : goal.show-requires
+show-requires g c =
+    let s = c.requires.stood in
+    let r = (c.in-Marked.ensures.goes s.3.world s.3.twin).0 in
+    (r.world, r.twin)

@@ -19,3 +19,9 @@ pub returns-in-Waits-clause-turned : goal.returns-in-Waits-clause-turned
 returns-in-Waits-clause-turned g c = turned_all _ _ _ _ _ _ _ _ _ _ c.answer.result
     (λ store today t. talked_on _ store today _ _ _ _ _ _ (record { joined = c.pieces_make_the_whole.ensures.joined; ended = c.pieces_make_the_whole.ensures.ended }) t (c.in-Waits.ensures.goes t.world t.twin).0)
     c.answer.ensures.turned
+
+pub show-requires : goal.show-requires
+show-requires g c =
+    let s = c.requires.talked in
+    let r = (c.in-Marked.ensures.goes s.2.world s.2.twin).0 in
+    (r.world, r.twin)

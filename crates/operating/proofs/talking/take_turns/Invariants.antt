@@ -9,8 +9,8 @@ abbrev pub invariant-loop-turned : goal.invariant-loop-turned
 invariant-loop-turned g l = record {
   talked : (store : StoreState) (today : Option DayParts) → Talked l.fn.verified store today (g.J.Journal.holds l.fn.journal) 0 l.fn.banks → Talked l.fn.verified store today (g.J.Journal.holds l.journal) l.steps l.banks;
   within : l.steps ≤ l.budget;
-  few : l.used ≤ 1048576;
+  few : l.used ≤ 1048577;
 }
 
 abbrev pub decreases-loop-turned : goal.decreases-loop-turned
-decreases-loop-turned g l = (l.budget - l.steps) + (1048576 - l.used)
+decreases-loop-turned g l = (l.budget - l.steps) + (1048577 - l.used)
