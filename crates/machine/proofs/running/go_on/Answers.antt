@@ -1,10 +1,11 @@
 use Rattle.std.proofs.Common.{sym, subst}
+use Rattle.work_area.specs.Areas.{OpenIndexesList}
 use Rattle.machine.specs.Twins.{banks_of, AgreesWith}
 use Rattle.machine.proofs.Runs.{stands, headline}
 use Rattle.machine.proofs.running.go_on.Goals as goal
 
-pub run-requires-clause-safe : goal.run-requires-clause-safe
-run-requires-clause-safe g c =
+pub run-outcome-requires-clause-safe : goal.run-outcome-requires-clause-safe
+run-outcome-requires-clause-safe g c =
     let code = c.args.code.now in
     let m = c.banks.inside.machine in
     let w = c.requires.twin.0 in
@@ -18,10 +19,10 @@ returns g c = λ w t.
     let legal = c.requires.legal in
     let accepted = c.requires.accepted in
     let m = c.banks.inside.machine in
-    let n = c.run.new.machine in
+    let n = c.run-outcome.new.machine in
     let a : AgreesWith (banks_of m.place m.returns m.values m.env) w = subst (λ b. AgreesWith b w) (sym c.banks.view_is) t.agrees in
     let safe = c.fitting_worlds_are_safe.ensures code legal accepted in
-    let ends = c.run.ensures w (stands (banks_of m.place m.returns m.values m.env) w a) (safe w t.fits) in
+    let ends = c.run-outcome.ensures w (stands (banks_of m.place m.returns m.values m.env) w a) (safe w t.fits) in
     headline code (record {
       safe = safe;
       fits = c.runs_keep_fitting.ensures code legal accepted;
@@ -31,4 +32,4 @@ returns g c = λ w t.
       end = c.safe_runs_meet_no_fault.ensures.end code;
       few = c.runs_cost_their_steps.ensures code;
       keeps = λ shape. record { stores = c.stores_keep_their_shape.ensures shape; tables = c.tables_keep_their_kind.ensures };
-    }) w c.args.budget c.run.result (banks_of n.place n.returns n.values n.env) t.fits c.open_indexes_list_keys.ensures ends
+    }) w c.args.budget c.run-outcome.result (banks_of n.place n.returns n.values n.env) t.fits (subst OpenIndexesList c.store.ensures c.open_indexes_list_keys.ensures) ends
