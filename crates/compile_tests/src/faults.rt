@@ -95,6 +95,7 @@ fn areas() -> &'static str {
      USE AA^INDEX ON A->K TO AK|0 2 Index\n\
      USE AA^INDEX ON K + P TO AP|0 2 Index\n\
      USE AA^INDEX ON K TO BK|0 2 Index\n\
+     USE AA^INDEX ON K + K TO AK|0 2 Index\n\
      USE AA^SET FILTER TO EOF()|0 2 Filter\n\
      USE AA^SET FILTER TO BOF()|0 2 Filter\n\
      USE AA^SET FILTER TO FOUND()|0 2 Filter\n\

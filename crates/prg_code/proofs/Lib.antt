@@ -1,3 +1,4 @@
+pub mod Growth
 pub mod Meeting
 mod Constants
 mod Numbers

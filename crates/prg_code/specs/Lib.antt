@@ -1,4 +1,6 @@
 pub mod Bindings
+pub mod Growth
 pub mod Numbers
+pub mod Parts
 pub mod Pools
 pub mod Merging

@@ -1,5 +1,11 @@
 //! A procedure's block that is being written.
 
+ghost use Rattle.std.specs.Prelude.{◌≡◌, ◌<◌, ◌^◌, [], ◌∷◌, ◌++◌, true, false, length, take, IfOk, OnOk, OnErr};
+ghost use Rattle.code_items.specs.declared.instr.FlowInstr.TheVariants.{End};
+ghost use Rattle.code_items.specs.declared.instr.Instr.TheVariants.{Flow};
+ghost use Rattle.prg_code.specs.Growth.{BlockGrows, Begins, IsBesidePieces, Puts, drafts_of, is_met_at};
+ghost use Rattle.prg_code.specs.declared.block.Draft.TheVariants as draft;
+
 use crate::fault::{CompileError, CompileFaultKind};
 use crate::merging::{is_selection_same, merged};
 use crate::seen::Seen;
@@ -44,7 +50,9 @@ pub struct BlockPiece {
 }
 
 /// A number of a line or of a label, in four bytes. No file has so many lines that one doesn't fit.
-fn four_bytes(number: usize) -> u32 {
+fn four_bytes(number: usize) -> u32
+    ensures { number < 2 ^ 32 → result ≡ number }
+{
     u32::try_from(number).unwrap_or(u32::MAX)
 }
 
@@ -97,12 +105,16 @@ fn blank(alloc: Global) -> Result<State, AllocError> {
 
 impl DraftBlock {
     /// An empty block of the main procedure.
-    pub fn main(alloc: Global) -> Result<DraftBlock, AllocError> {
+    pub fn main(alloc: Global) -> Result<DraftBlock, AllocError>
+        ensures { IfOk result (λ block. Begins block.state block) }
+    {
         Ok(DraftBlock::entered(alloc, blank(alloc)?))
     }
 
     /// An empty block, at whose beginning this is known.
-    pub fn entered(alloc: Global, state: State) -> DraftBlock {
+    pub fn entered(alloc: Global, state: State) -> DraftBlock
+        ensures { Begins state result }
+    {
         DraftBlock {
             alloc,
             pieces: Vec::new(alloc),
@@ -115,14 +127,25 @@ impl DraftBlock {
         }
     }
 
-    fn push(&mut self, draft: Draft) -> Result<(), AllocError> {
+    fn push(&mut self, draft: Draft) -> Result<(), AllocError>
+        ensures put { OnOk result (drafts_of self.new ≡ drafts_of self.old ++ draft ∷ []) }
+        ensures grown { BlockGrows self.old self.new }
+        ensures refused { OnErr result (drafts_of self.new ≡ drafts_of self.old) }
+        ensures same { IsBesidePieces self.old self.new }
+    {
         let line = four_bytes(self.line);
         self.pieces.push(BlockPiece { draft, line })?;
         Ok(())
     }
 
     /// Adds an instruction that is no jump. Limit where the stack would be too high.
-    pub fn put(&mut self, instr: Instr) -> Result<(), CompileError> {
+    pub fn put(&mut self, instr: Instr) -> Result<(), CompileError>
+        ensures put { OnOk result (Puts (instr ∷ []) self.old self.new) }
+        ensures grown { BlockGrows self.old self.new }
+        // Where it is refused, nothing is put, and the same is known.
+        ensures refused { OnErr result (Puts [] self.old self.new) }
+        ensures reached { self.new.reached ≡ self.old.reached }
+    {
         let signature = Signature::of(instr);
         let left = self.depth.saturating_sub(signature.taken);
         let depth = left.saturating_add(signature.adds);
@@ -138,7 +161,11 @@ impl DraftBlock {
     }
 
     /// Adds instructions that are no jumps.
-    pub fn put_all(&mut self, instrs: &[Instr]) -> Result<(), CompileError> {
+    pub fn put_all(&mut self, instrs: &[Instr]) -> Result<(), CompileError>
+        ensures put { OnOk result (Puts instrs.now self.old self.new) }
+        ensures grown { BlockGrows self.old self.new }
+        ensures reached { self.new.reached ≡ self.old.reached }
+    {
         for instr in instrs {
             self.put(*instr)?;
         }
@@ -146,21 +173,34 @@ impl DraftBlock {
     }
 
     /// Ends the way: an END.
-    pub fn put_end(&mut self) -> Result<(), CompileError> {
+    pub fn put_end(&mut self) -> Result<(), CompileError>
+        ensures put { OnOk result (drafts_of self.new ≡ drafts_of self.old ++ draft.Instr (Flow End) ∷ []) }
+        ensures grown { BlockGrows self.old self.new }
+        ensures reached { OnOk result (self.new.reached ≡ false) }
+    {
         self.push(Draft::Instr(Instr::Flow(FlowInstr::End)))?;
         self.reached = false;
         Ok(())
     }
 
     /// Ends the way: the procedure returns.
-    pub fn put_return(&mut self) -> Result<(), CompileError> {
+    pub fn put_return(&mut self) -> Result<(), CompileError>
+        ensures put { OnOk result (drafts_of self.new ≡ drafts_of self.old ++ draft.Return ∷ []) }
+        ensures grown { BlockGrows self.old self.new }
+        ensures reached { OnOk result (self.new.reached ≡ false) }
+    {
         self.push(Draft::Return)?;
         self.reached = false;
         Ok(())
     }
 
     /// A new label, which has no place yet.
-    pub fn new_label(&mut self) -> Result<usize, CompileError> {
+    pub fn new_label(&mut self) -> Result<usize, CompileError>
+        ensures number { IfOk result (λ number. number ≡ length self.old.labels.items) }
+        ensures there { IfOk result (λ number. number < length self.new.labels.items) }
+        ensures grown { BlockGrows self.old self.new }
+        ensures pieces { self.new.pieces ≡ self.old.pieces }
+    {
         let number = self.labels.len();
         self.labels.push(Label {
             state: None,
@@ -171,7 +211,14 @@ impl DraftBlock {
     }
 
     /// A JUMP to the label, where the place is reached. It isn't reached afterwards.
-    pub fn jump(&mut self, label: usize) -> Result<(), CompileError> {
+    pub fn jump(&mut self, label: usize) -> Result<(), CompileError>
+        ensures put { OnOk result (label < 2 ^ 32 → self.old.reached ≡ true
+            → drafts_of self.new ≡ drafts_of self.old ++ draft.Jump label ∷ []) }
+        // Where the place isn't reached, no jump is written.
+        ensures none { self.old.reached ≡ false → self.new.pieces ≡ self.old.pieces }
+        ensures grown { BlockGrows self.old self.new }
+        ensures reached { OnOk result (self.new.reached ≡ false) }
+    {
         if !self.reached {
             return Ok(());
         }
@@ -182,7 +229,13 @@ impl DraftBlock {
     }
 
     /// A JUMPF to the label, which takes the truth value on top.
-    pub fn jump_false(&mut self, label: usize) -> Result<(), CompileError> {
+    pub fn jump_false(&mut self, label: usize) -> Result<(), CompileError>
+        ensures put { OnOk result (label < 2 ^ 32
+            → drafts_of self.new ≡ drafts_of self.old ++ draft.JumpFalse label ∷ []) }
+        ensures grown { BlockGrows self.old self.new }
+        ensures known { self.new.state ≡ self.old.state }
+        ensures reached { self.new.reached ≡ self.old.reached }
+    {
         self.push(Draft::JumpFalse(four_bytes(label)))?;
         self.depth = self.depth.saturating_sub(1);
         self.flow_to(label, true)?;
@@ -190,7 +243,12 @@ impl DraftBlock {
     }
 
     /// What is known here flows to the label.
-    fn flow_to(&mut self, label: usize, jumped: bool) -> Result<(), CompileError> {
+    fn flow_to(&mut self, label: usize, jumped: bool) -> Result<(), CompileError>
+        ensures pieces { self.new.pieces ≡ self.old.pieces }
+        ensures grown { BlockGrows self.old self.new }
+        ensures known { self.new.state ≡ self.old.state }
+        ensures reached { self.new.reached ≡ self.old.reached }
+    {
         let Some(there) = self.labels.get_mut(label) else {
             return Ok(());
         };
@@ -206,7 +264,11 @@ impl DraftBlock {
     }
 
     /// The label stands here. Merge where ways meet here on which different areas are selected.
-    pub fn place(&mut self, label: usize) -> Result<(), CompileError> {
+    pub fn place(&mut self, label: usize) -> Result<(), CompileError>
+        ensures put { OnOk result (label < 2 ^ 32
+            → drafts_of self.new ≡ drafts_of self.old ++ draft.Label label ∷ []) }
+        ensures grown { BlockGrows self.old self.new }
+    {
         if self.reached {
             self.flow_to(label, false)?;
         }
@@ -225,7 +287,9 @@ impl DraftBlock {
     }
 
     /// Whether some way leads to the label so far.
-    pub fn is_met(&self, label: usize) -> bool {
+    pub fn is_met(&self, label: usize) -> bool
+        ensures { result ≡ is_met_at self.now label }
+    {
         match self.labels.get(label) {
             Some(label) => label.state.is_some(),
             None => false,
@@ -233,7 +297,13 @@ impl DraftBlock {
     }
 
     /// Leaves out the pieces and labels behind the first so many, and knows this.
-    pub fn cut(&mut self, pieces: usize, labels: usize, state: State) {
+    pub fn cut(&mut self, pieces: usize, labels: usize, state: State)
+        ensures pieces { self.new.pieces.items ≡ take pieces self.old.pieces.items }
+        ensures labels { self.new.labels.items ≡ take labels self.old.labels.items }
+        ensures known { self.new.state ≡ state }
+        ensures reached { self.new.reached ≡ true }
+        ensures highest { self.new.highest ≡ self.old.highest }
+    {
         self.pieces.truncate(pieces);
         self.labels.truncate(labels);
         self.state = state;
@@ -242,6 +312,7 @@ impl DraftBlock {
     }
 }
 
+/// What is known where this way meets those that are there.
 fn flown(alloc: Global, there: Option<&State>, state: &State) -> Result<Seen, AllocError> {
     match there {
         Some(there) => Seen::of(alloc, &merged(alloc, there, state)?),
@@ -249,6 +320,7 @@ fn flown(alloc: Global, there: Option<&State>, state: &State) -> Result<Seen, Al
     }
 }
 
+/// Whether another work area is selected there.
 fn is_split(there: Option<&State>, state: &State) -> bool {
     match there {
         Some(there) => !is_selection_same(there, state),

@@ -4,6 +4,7 @@ ghost use Rattle.std.specs.Prelude.{◌≡◌};
 ghost use Rattle.prg_code.specs.declared.fault.CompileError.TheVariants as error;
 ghost use Rattle.prg_code.specs.declared.fault.CompileFault.{CompileFault as AnyFault};
 ghost use Rattle.prg_code.specs.declared.fault.CompileRefusal.TheVariants as refusal;
+ghost use Rattle.prg_code.specs.Parts.{told_at};
 
 use std::alloc::{AllocError, AllocFailed};
 use thiserror::Error;
@@ -86,7 +87,9 @@ pub enum CompileRefusal {
 
 impl CompileError {
     /// The same of a command in this line of this file.
-    pub fn at(self, file: usize, line: usize) -> CompileRefusal {
+    pub fn at(self, file: usize, line: usize) -> CompileRefusal
+        ensures { result ≡ told_at self file line }
+    {
         match self {
             CompileError::Fault(kind) => CompileRefusal::Fault(CompileFault { file, line, kind }),
             CompileError::NoMemory => CompileRefusal::NoMemory,

@@ -1,5 +1,9 @@
 //! Filters by number.
 
+ghost use Rattle.std.specs.Prelude.{◌≡◌};
+ghost use Rattle.std.specs.List.{list_any};
+ghost use Rattle.prg_code.specs.Parts.{lacks as lacks_of, filter_lacks as filter_lacks_by};
+
 use crate::block::SourceLine;
 use crate::numbering::Numbering;
 use code_items::{Instr, Need, RecordInstr, ValueInstr};
@@ -48,16 +52,29 @@ fn digest_of(block: &[Instr]) -> u64 {
     digest
 }
 
-fn lacks(kinds: &[Option<Kind>], need: Need) -> bool {
+fn lacks(kinds: &[Option<Kind>], need: Need) -> bool
+    ensures { result ≡ lacks_of kinds.now need }
+{
     match kinds.get(usize::from(need.slot)) {
         Some(Some(kind)) => !kind.is(need.kind),
         _ => true,
     }
 }
 
+fn lacks_some(kinds: &[Option<Kind>], needs: &[Need]) -> bool
+    ensures { result ≡ list_any (lacks_of kinds.now) needs.now }
+{
+    needs.iter().any(|need| lacks(kinds, *need))
+}
+
 impl FilterBlock {
     /// A filter of this table with this block, which loads these slots and is first set there.
-    pub fn new(table: u8, needs: Vec<Need>, block: Vec<Instr>, at: SourceLine) -> FilterBlock {
+    pub fn new(table: u8, needs: Vec<Need>, block: Vec<Instr>, at: SourceLine) -> FilterBlock
+        ensures table { result.table ≡ table }
+        ensures needs { result.needs ≡ needs }
+        ensures block { result.block ≡ block }
+        ensures place { result.at ≡ at }
+    {
         let digest = digest_of(&block);
         FilterBlock {
             table,
@@ -71,12 +88,14 @@ impl FilterBlock {
 
 /// Whether the filter that instructions name by this number needs a value that isn't known to be there. No filter needs
 /// anything.
-pub fn filter_lacks(filters: &Filters, number: u16, kinds: &[Option<Kind>]) -> bool {
+pub fn filter_lacks(filters: &Filters, number: u16, kinds: &[Option<Kind>]) -> bool
+    ensures { result ≡ filter_lacks_by filters.now number kinds.now }
+{
     if number < 1 {
         return false;
     }
     match filters.as_slice().get(usize::from(number) - 1) {
-        Some(filter) => filter.needs.iter().any(|need| lacks(kinds, *need)),
+        Some(filter) => lacks_some(kinds, &filter.needs),
         None => false,
     }
 }

@@ -1,5 +1,8 @@
 //! Lists of indexes by number.
 
+ghost use Rattle.std.specs.Prelude.{◌≡◌};
+ghost use Rattle.prg_code.specs.Parts.{indexes_opened as indexes_opened_by};
+
 use crate::numbering::Numbering;
 use arrayvec::ArrayVec;
 
@@ -13,7 +16,9 @@ const MOST_LISTS: u16 = 64;
 pub type Lists = Numbering<ListedIndexes, MOST_LISTS>;
 
 /// How many indexes the list opens that instructions name by this number; none where there is no such list.
-pub fn indexes_opened(lists: &Lists, number: u32) -> usize {
+pub fn indexes_opened(lists: &Lists, number: u32) -> usize
+    ensures { result ≡ indexes_opened_by lists.now number }
+{
     if number < 1 {
         return 0;
     }

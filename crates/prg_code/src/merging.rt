@@ -1,6 +1,6 @@
 //! What is known where ways meet.
 
-ghost use Rattle.std.specs.Prelude.{◌≡◌, IfOk};
+ghost use Rattle.std.specs.Prelude.{◌≡◌, ◌==◌, true, IfOk};
 ghost use Rattle.code_items.specs.Desks.{same_area};
 ghost use Rattle.prg_code.specs.Merging as spec;
 
@@ -82,12 +82,16 @@ pub fn merged(alloc: Global, one: &State, two: &State) -> Result<State, AllocErr
 }
 
 /// Whether the same work area is selected.
-pub fn is_selection_same(one: &State, two: &State) -> bool {
+pub fn is_selection_same(one: &State, two: &State) -> bool
+    ensures { result ≡ (one.now.desk.selected == two.now.desk.selected) }
+{
     one.desk.selected == two.desk.selected
 }
 
 /// Whether the same is known, the stacks apart.
-pub fn is_state_same(one: &State, two: &State) -> bool {
+pub fn is_state_same(one: &State, two: &State) -> bool
+    ensures { result ≡ true → one.now.desk.selected ≡ two.now.desk.selected }
+{
     one.desk.selected == two.desk.selected
         && one.desk.areas.as_slice() == two.desk.areas.as_slice()
         && one.slots.kinds() == two.slots.kinds()

@@ -1,5 +1,10 @@
 //! Blocks laid out: places in place of labels.
 
+ghost use Rattle.std.specs.Prelude.{◌≡◌, ◌≤◌, [], length, IfOk, IfErr};
+ghost use Rattle.prg_code.specs.Numbers.{Grows};
+ghost use Rattle.prg_code.specs.declared.fault.CompileFaultKind.TheVariants.{Limit};
+ghost use Rattle.prg_code.specs.declared.fault.CompileRefusal.TheVariants as refusal;
+
 use crate::block::{Draft, DraftBlock, Label, SourceLine};
 use crate::fault::{CompileError, CompileFaultKind, CompileRefusal};
 use code_items::{FlowInstr, Instr, Map, ValueInstr};
@@ -26,7 +31,10 @@ impl LaidOut {
         slots: usize,
         instrs: usize,
         maps: usize,
-    ) -> Result<LaidOut, AllocError> {
+    ) -> Result<LaidOut, AllocError>
+        ensures instrs { IfOk result (λ laid. laid.instrs.items ≡ []) }
+        ensures maps { IfOk result (λ laid. laid.maps.items ≡ []) }
+    {
         Ok(LaidOut {
             instrs: Vec::with_capacity(alloc, instrs)?,
             maps: Vec::with_capacity(alloc, maps)?,
@@ -35,7 +43,15 @@ impl LaidOut {
     }
 
     /// Limit in this line, where there are more instructions or maps than a code may have.
-    pub fn fits(&self, at: SourceLine) -> Result<(), CompileRefusal> {
+    pub fn fits(&self, at: SourceLine) -> Result<(), CompileRefusal>
+        ensures instrs { IfOk result (λ _. length self.now.instrs.items ≤ 65535) }
+        ensures maps { IfOk result (λ _. length self.now.maps.items ≤ 4096) }
+        ensures told { IfErr result (λ e. e ≡ refusal.Fault (record {
+          file = at.file;
+          line = at.line;
+          kind = Limit;
+        })) }
+    {
         if self.instrs.len() > MOST_INSTRUCTIONS || self.maps.len() > MOST_MAPS {
             let SourceLine { file, line } = at;
             return Err(CompileError::Fault(CompileFaultKind::Limit).at(file, line));
@@ -99,7 +115,9 @@ fn target(places: &[usize], label: u32) -> u32 {
     }
 }
 
-fn put_return(instrs: &mut Vec<Instr>, own: &[u8]) -> Result<(), AllocError> {
+fn put_return(instrs: &mut Vec<Instr>, own: &[u8]) -> Result<(), AllocError>
+    ensures { Grows instrs.old.items instrs.new.items }
+{
     for slot in own {
         instrs.push(Instr::Values(ValueInstr::Unset(u16::from(*slot))))?;
     }
@@ -123,7 +141,9 @@ fn put_map(
     laid: &mut LaidOut,
     block: &DraftBlock,
     label: u32,
-) -> Result<(), AllocError> {
+) -> Result<(), AllocError>
+    ensures { laid.new.instrs ≡ laid.old.instrs }
+{
     let Some(there) = block.labels.get(label as usize) else {
         return Ok(());
     };
@@ -146,7 +166,9 @@ fn put(
     places: &[usize],
     own: &[u8],
     draft: Draft,
-) -> Result<(), AllocError> {
+) -> Result<(), AllocError>
+    ensures { Grows laid.old.instrs.items laid.new.instrs.items }
+{
     match draft {
         Draft::Instr(instr) => laid.instrs.push(instr)?,
         Draft::Jump(label) => {
@@ -171,7 +193,10 @@ pub fn lay(
     block: &DraftBlock,
     own: &[u8],
     file: usize,
-) -> Result<(), CompileRefusal> {
+) -> Result<(), CompileRefusal>
+    // The instructions that are laid out stay where they are.
+    ensures { Grows laid.old.instrs.items laid.new.instrs.items }
+{
     let places = places(alloc, block, own.len(), laid.instrs.len())?;
     for piece in &block.pieces {
         put(alloc, laid, block, &places, own, piece.draft)?;

@@ -1,5 +1,8 @@
 //! What is being written.
 
+ghost use Rattle.std.specs.Prelude.{◌≡◌, [], false};
+ghost use Rattle.prg_code.specs.Growth.{IsNewWork};
+
 use crate::block::{DraftBlock, SourceLine};
 use crate::filters::Filters;
 use crate::lists::Lists;
@@ -50,7 +53,16 @@ pub struct Work {
 
 impl Output {
     /// Nothing yet.
-    pub fn new(alloc: Global) -> Output {
+    pub fn new(alloc: Global) -> Output
+        ensures { result ≡ record {
+          pool = [];
+          lists = [];
+          filters = [];
+          slots = 0;
+          highest = 0;
+          century = false;
+        } }
+    {
         Output {
             pool: Pool::new(alloc),
             lists: Lists::new(alloc),
@@ -64,7 +76,9 @@ impl Output {
 
 impl Work {
     /// The line of the command whose code is being put.
-    pub fn source_line(&self) -> SourceLine {
+    pub fn source_line(&self) -> SourceLine
+        ensures { result ≡ record { file = self.now.file; line = self.now.block.line } }
+    {
         SourceLine {
             file: self.file,
             line: self.block.line,
@@ -72,7 +86,9 @@ impl Work {
     }
 
     /// A copy that begins with this block and these names.
-    pub fn new(alloc: Global, file: usize, is_main: bool, block: DraftBlock, names: Names) -> Work {
+    pub fn new(alloc: Global, file: usize, is_main: bool, block: DraftBlock, names: Names) -> Work
+        ensures { IsNewWork file is_main block names result }
+    {
         Work {
             alloc,
             file,

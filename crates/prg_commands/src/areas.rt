@@ -1,5 +1,16 @@
 //! Commands on work areas.
 
+ghost use Rattle.std.specs.Prelude.{◌≡◌, [], ◌∷◌, ℕ, false, IfOk, OnOk, Some, option_map};
+ghost use Rattle.code_items.specs.Desks.{open_at};
+ghost use Rattle.code_items.specs.declared.instr.AreaInstr.TheVariants as area_instr;
+ghost use Rattle.code_items.specs.declared.instr.Instr.TheVariants.{Areas};
+ghost use Rattle.prg_code.specs.Growth.{OutputGrows, Grown, WorkGrows, Puts};
+ghost use Rattle.prg_expr.specs.Tree.{tree_of};
+ghost use Rattle.prg_line.specs.Act as act;
+ghost use Rattle.prg_line.specs.Act.{area_said};
+ghost use Rattle.prg_values.specs.Readings.{table_named as table_named_in, alias_area};
+ghost use Rattle.prg_commands.specs.Commands.{scope_at, PutsAlone};
+
 use crate::values::{demand, scope_of};
 use arrayvec::ArrayVec;
 use code_items::{
@@ -18,14 +29,19 @@ use xvalue::Kind;
 const MOST_VALUES: usize = 64;
 
 /// What the selected work area holds. ClosedArea where it isn't known to be open.
-pub fn opened(work: &Work) -> Result<OpenArea, CompileError> {
+pub fn opened(work: &Work) -> Result<OpenArea, CompileError>
+    ensures { IfOk result (λ area. open_at work.now.block.state.desk work.now.block.state.desk.selected ≡ Some area) }
+{
     match work.block.state.desk.selected_area() {
         Some(area) => Ok(area),
         None => Err(CompileError::Fault(CompileFaultKind::ClosedArea)),
     }
 }
 
-pub(crate) fn put_area(work: &mut Work, instr: AreaInstr) -> Result<(), CompileError> {
+pub(crate) fn put_area(work: &mut Work, instr: AreaInstr) -> Result<(), CompileError>
+    ensures put { OnOk result (Puts (Areas instr ∷ []) work.old.block work.new.block) }
+    ensures grown { WorkGrows work.old work.new }
+{
     work.block.put(Instr::Areas(instr))
 }
 
@@ -89,6 +105,16 @@ fn is_held(areas: &[AreaState], selected: u8, table: u16) -> bool {
     false
 }
 
+/// The number of the list of these indexes, counted from 1; of none 0.
+fn list_number(out: &mut Output, list: ListedIndexes) -> Result<u32, CompileError>
+    ensures { OutputGrows out.old out.new }
+{
+    if list.is_empty() {
+        return Ok(0);
+    }
+    Ok(u32::from(out.lists.number(list)?) + 1)
+}
+
 /// `USE table [INDEX indexes]`.
 pub fn open_table(
     shape: &Shape,
@@ -96,7 +122,11 @@ pub fn open_table(
     work: &mut Work,
     name: &Name,
     indexes: &[Name],
-) -> Result<(), CompileError> {
+) -> Result<(), CompileError>
+    ensures put { OnOk result ((table : ℕ) × (list : ℕ) × (table_named_in shape.now name.now.items ≡ Some table)
+        × Puts (Areas (area_instr.Open table list) ∷ []) work.old.block work.new.block) }
+    ensures grown { Grown out.old work.old out.new work.new }
+{
     let Some(table) = table_named(shape, name.as_slice()) else {
         return Err(CompileError::Fault(CompileFaultKind::Name));
     };
@@ -105,15 +135,13 @@ pub fn open_table(
     if is_held(desk.areas.as_slice(), desk.selected, table) {
         return Err(CompileError::Fault(CompileFaultKind::OpenTwice));
     }
-    let list = if indexes.is_empty() {
-        0
-    } else {
-        u32::from(out.lists.number(list)?) + 1
-    };
+    let list = list_number(out, list)?;
     put_area(work, AreaInstr::Open { table, list })
 }
 
-fn area_named(shape: &Shape, work: &Work, name: &Name) -> Result<u8, CompileError> {
+fn area_named(shape: &Shape, work: &Work, name: &Name) -> Result<u8, CompileError>
+    ensures { IfOk result (λ area. alias_area (scope_at shape.now work.now false) name.now.items ≡ Some area) }
+{
     let scope = scope_of(shape, work);
     match area_of_alias(&scope, name.as_slice()) {
         Ok(area) => Ok(area),
@@ -122,16 +150,31 @@ fn area_named(shape: &Shape, work: &Work, name: &Name) -> Result<u8, CompileErro
 }
 
 /// `SELECT area`.
-pub fn select(shape: &Shape, work: &mut Work, area: &Selected) -> Result<(), CompileError> {
-    let number = match area {
-        Selected::Number(number) => *number,
-        Selected::Name(name) => area_named(shape, work, name)?,
-    };
+pub fn select(shape: &Shape, work: &mut Work, area: &Selected) -> Result<(), CompileError>
+    ensures alone { OnOk result (PutsAlone (act.Select (area_said area.now)) work.old.block work.new.block) }
+    ensures grown { WorkGrows work.old work.new }
+{
+    match area {
+        Selected::Number(number) => put_area(work, AreaInstr::Select(*number)),
+        Selected::Name(name) => select_named(shape, work, name),
+    }
+}
+
+/// `SELECT` of a letter or a table's name.
+fn select_named(shape: &Shape, work: &mut Work, name: &Name) -> Result<(), CompileError>
+    ensures put { OnOk result ((n : ℕ) × (alias_area (scope_at shape.now work.old false) name.now.items ≡ Some n)
+        × Puts (Areas (area_instr.Select n) ∷ []) work.old.block work.new.block) }
+    ensures grown { WorkGrows work.old work.new }
+{
+    let number = area_named(shape, work, name)?;
     put_area(work, AreaInstr::Select(number))
 }
 
 /// `SET ORDER TO order`.
-pub fn set_order(out: &Output, work: &mut Work, order: u16) -> Result<(), CompileError> {
+pub fn set_order(out: &Output, work: &mut Work, order: u16) -> Result<(), CompileError>
+    ensures put { OnOk result (Puts (Areas (area_instr.Order order) ∷ []) work.old.block work.new.block) }
+    ensures grown { WorkGrows work.old work.new }
+{
     let area = opened(work)?;
     if indexes_opened(&out.lists, area.list) < usize::from(order) {
         return Err(CompileError::Fault(CompileFaultKind::NoOrder));
@@ -181,7 +224,9 @@ fn filter_code(
     out: &mut Output,
     work: &Work,
     e: &Expr,
-) -> Result<Vec<Instr>, CompileError> {
+) -> Result<Vec<Instr>, CompileError>
+    ensures { OutputGrows out.old out.new }
+{
     let scope = Scope {
         in_filter: true,
         ..scope_of(shape, work)
@@ -199,7 +244,9 @@ fn filter_number(
     work: &Work,
     table: u16,
     e: &Expr,
-) -> Result<u16, CompileError> {
+) -> Result<u16, CompileError>
+    ensures { OutputGrows out.old out.new }
+{
     let block = filter_code(shape, out, work, e)?;
     let height = height(&block);
     if height > MOST_VALUES {
@@ -220,11 +267,28 @@ pub fn set_filter(
     out: &mut Output,
     work: &mut Work,
     condition: &Option<Expr>,
-) -> Result<(), CompileError> {
+) -> Result<(), CompileError>
+    ensures alone { OnOk result
+        (PutsAlone (act.SetFilter (option_map tree_of condition.now)) work.old.block work.new.block) }
+    ensures grown { Grown out.old work.old out.new work.new }
+{
     let area = opened(work)?;
-    let number = match condition {
-        Some(e) => filter_number(shape, out, work, area.table, e)?,
-        None => 0,
-    };
+    match condition {
+        Some(e) => filter_by(shape, out, work, area.table, e),
+        None => put_area(work, AreaInstr::Filter(0)),
+    }
+}
+
+/// Sets the filter of the condition, of this table.
+fn filter_by(
+    shape: &Shape,
+    out: &mut Output,
+    work: &mut Work,
+    table: u16,
+    e: &Expr,
+) -> Result<(), CompileError>
+    ensures { Grown out.old work.old out.new work.new }
+{
+    let number = filter_number(shape, out, work, table, e)?;
     put_area(work, AreaInstr::Filter(number))
 }

@@ -1,5 +1,10 @@
 //! Keys as declared, and INDEX.
 
+ghost use Rattle.std.specs.Prelude.{[], ◌∷◌, ℕ, OnOk};
+ghost use Rattle.code_items.specs.declared.instr.RecordInstr.TheVariants as record_instr;
+ghost use Rattle.code_items.specs.declared.instr.Instr.TheVariants.{Records};
+ghost use Rattle.prg_code.specs.Growth.{OutputGrows, Grown, Puts};
+
 use crate::areas::{index_named, is_of_table, opened};
 use crate::moves::meets_filter;
 use arrayvec::ArrayVec;
@@ -64,6 +69,15 @@ fn is_key_of(shape: &Shape, number: u8, e: &Expr) -> bool {
     }
 }
 
+/// The number of the list of this index alone, counted from 1.
+fn list_of_one(out: &mut Output, index: u8) -> Result<u16, CompileError>
+    ensures { OutputGrows out.old out.new }
+{
+    let mut indexes = ArrayVec::new();
+    let _ = indexes.try_push(index);
+    Ok(out.lists.number(indexes)? + 1)
+}
+
 /// `INDEX ON key TO index`.
 pub fn index_on(
     shape: &Shape,
@@ -71,7 +85,11 @@ pub fn index_on(
     work: &mut Work,
     key: &Expr,
     name: &Name,
-) -> Result<(), CompileError> {
+) -> Result<(), CompileError>
+    ensures put { OnOk result ((list : ℕ) × Puts (Records (record_instr.Index list) ∷ []) work.old.block
+        work.new.block) }
+    ensures grown { Grown out.old work.old out.new work.new }
+{
     let Some(number) = index_named(shape.indexes.as_slice(), name.as_slice()) else {
         return Err(CompileError::Fault(CompileFaultKind::Name));
     };
@@ -82,8 +100,6 @@ pub fn index_on(
         return Err(CompileError::Fault(CompileFaultKind::Index));
     }
     meets_filter(out, work, area)?;
-    let mut indexes = ArrayVec::new();
-    let _ = indexes.try_push(number);
-    let list = out.lists.number(indexes)? + 1;
+    let list = list_of_one(out, number)?;
     work.block.put(Instr::Records(RecordInstr::Index(list)))
 }

@@ -1,5 +1,14 @@
 //! Moves, and commands on records.
 
+ghost use Rattle.std.specs.Prelude.{◌≡◌, [], ◌∷◌, ℕ, OnOk};
+ghost use Rattle.code_items.specs.declared.instr.Instr.TheVariants.{Moves, Records};
+ghost use Rattle.code_items.specs.declared.instr.MoveInstr.TheVariants as move_instr;
+ghost use Rattle.code_items.specs.declared.instr.RecordInstr.TheVariants as record_instr;
+ghost use Rattle.prg_code.specs.Growth.{Grown, WorkGrows, Puts};
+ghost use Rattle.prg_line.specs.Act as act;
+ghost use Rattle.prg_line.specs.Act.{goal_of};
+ghost use Rattle.prg_commands.specs.Commands.{PutsAlone};
+
 use crate::areas::opened;
 use crate::values::{demand, put_one, value, value_of_kind};
 use code_items::{Instr, MoveInstr, OpenArea, RecordInstr, Shape};
@@ -18,25 +27,36 @@ pub fn meets_filter(out: &Output, work: &Work, area: OpenArea) -> Result<(), Com
 }
 
 /// Puts a move of the selected work area, whose operands are on the stack.
-fn put_move(out: &Output, work: &mut Work, instr: MoveInstr) -> Result<(), CompileError> {
+fn put_move(out: &Output, work: &mut Work, instr: MoveInstr) -> Result<(), CompileError>
+    ensures put { OnOk result (Puts (Moves instr ∷ []) work.old.block work.new.block) }
+    ensures grown { WorkGrows work.old work.new }
+{
     let area = opened(work)?;
     meets_filter(out, work, area)?;
     work.block.put(Instr::Moves(instr))
 }
 
 /// Puts a move to the first visible row.
-pub fn put_top(out: &Output, work: &mut Work) -> Result<(), CompileError> {
+pub fn put_top(out: &Output, work: &mut Work) -> Result<(), CompileError>
+    ensures put { OnOk result (Puts (Moves move_instr.Top ∷ []) work.old.block work.new.block) }
+    ensures grown { WorkGrows work.old work.new }
+{
     put_move(out, work, MoveInstr::Top)
 }
 
 /// Puts a move to the next visible row.
-pub fn put_skip_on(out: &mut Output, work: &mut Work) -> Result<(), CompileError> {
+pub fn put_skip_on(out: &mut Output, work: &mut Work) -> Result<(), CompileError>
+    ensures { Grown out.old work.old out.new work.new }
+{
     put_one(out, work)?;
     put_move(out, work, MoveInstr::Skip)
 }
 
 /// `GO`.
-pub fn go(shape: &Shape, out: &mut Output, work: &mut Work, to: &Move) -> Result<(), CompileError> {
+pub fn go(shape: &Shape, out: &mut Output, work: &mut Work, to: &Move) -> Result<(), CompileError>
+    ensures alone { OnOk result (PutsAlone (act.Go (goal_of to.now)) work.old.block work.new.block) }
+    ensures grown { Grown out.old work.old out.new work.new }
+{
     match to {
         Move::Top => put_move(out, work, MoveInstr::Top),
         Move::Bottom => put_move(out, work, MoveInstr::Bottom),
@@ -53,7 +73,9 @@ pub fn skip(
     out: &mut Output,
     work: &mut Work,
     rows: &Option<Expr>,
-) -> Result<(), CompileError> {
+) -> Result<(), CompileError>
+    ensures { Grown out.old work.old out.new work.new }
+{
     match rows {
         Some(e) => {
             value_of_kind(shape, out, work, e, Kind::Number)?;
@@ -69,7 +91,9 @@ pub fn seek(
     out: &mut Output,
     work: &mut Work,
     key: &Expr,
-) -> Result<(), CompileError> {
+) -> Result<(), CompileError>
+    ensures { Grown out.old work.old out.new work.new }
+{
     value_of_kind(shape, out, work, key, Kind::Text)?;
     if opened(work)?.order == 0 {
         return Err(CompileError::Fault(CompileFaultKind::NoOrder));
@@ -78,7 +102,10 @@ pub fn seek(
 }
 
 /// Puts a command on the records of the selected work area that ends with no move.
-pub fn put_record(work: &mut Work, instr: RecordInstr) -> Result<(), CompileError> {
+pub fn put_record(work: &mut Work, instr: RecordInstr) -> Result<(), CompileError>
+    ensures put { OnOk result (Puts (Records instr ∷ []) work.old.block work.new.block) }
+    ensures grown { WorkGrows work.old work.new }
+{
     opened(work)?;
     work.block.put(Instr::Records(instr))
 }
@@ -88,7 +115,10 @@ pub fn put_all_records(
     out: &Output,
     work: &mut Work,
     instr: RecordInstr,
-) -> Result<(), CompileError> {
+) -> Result<(), CompileError>
+    ensures put { OnOk result (Puts (Records instr ∷ []) work.old.block work.new.block) }
+    ensures grown { WorkGrows work.old work.new }
+{
     let area = opened(work)?;
     meets_filter(out, work, area)?;
     work.block.put(Instr::Records(instr))
@@ -100,7 +130,9 @@ fn replace_one(
     out: &mut Output,
     work: &mut Work,
     replacement: &Replacement,
-) -> Result<(), CompileError> {
+) -> Result<(), CompileError>
+    ensures { Grown out.old work.old out.new work.new }
+{
     let kind = value(shape, out, work, &replacement.value)?;
     let area = opened(work)?;
     match field_of(shape, area, replacement.field.as_slice()) {
@@ -119,7 +151,9 @@ pub fn replace(
     out: &mut Output,
     work: &mut Work,
     replacements: &[Replacement],
-) -> Result<(), CompileError> {
+) -> Result<(), CompileError>
+    ensures { Grown out.old work.old out.new work.new }
+{
     for replacement in replacements {
         replace_one(shape, out, work, replacement)?;
     }

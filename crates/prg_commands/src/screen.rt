@@ -1,6 +1,10 @@
 //! Commands on the screen, and those that take the operator's lines.
 
-use crate::values::{demand, put_one, put_screen, put_text, reading_of, value, value_of_kind};
+ghost use Rattle.prg_code.specs.Growth.{Grown, WorkGrows};
+
+use crate::values::{
+    demand, put_one, put_screen, put_text, put_value, reading_of, value, value_of_kind,
+};
 use crate::variables::put_store;
 use code_items::{Instr, Name, RecordInstr, ScreenInstr, Shape, ValueInstr};
 use prg_code::{CompileError, Get, Output, Work, copy_of_name};
@@ -14,18 +18,28 @@ pub fn show(
     out: &mut Output,
     work: &mut Work,
     values: &[Expr],
-) -> Result<(), CompileError> {
+) -> Result<(), CompileError>
+    ensures { Grown out.old work.old out.new work.new }
+{
     let mut is_first = true;
     for e in values {
-        if !is_first {
-            put_text(out, work, b" ")?;
-            put_screen(work, ScreenInstr::Print(Kind::Text))?;
-        }
+        put_blank(out, work, is_first)?;
         is_first = false;
         let kind = value(shape, out, work, e)?;
         put_screen(work, ScreenInstr::Print(kind))?;
     }
     Ok(())
+}
+
+/// Shows a blank, but before the first value nothing.
+fn put_blank(out: &mut Output, work: &mut Work, is_first: bool) -> Result<(), CompileError>
+    ensures { Grown out.old work.old out.new work.new }
+{
+    if is_first {
+        return Ok(());
+    }
+    put_text(out, work, b" ")?;
+    put_screen(work, ScreenInstr::Print(Kind::Text))
 }
 
 /// `? [list]`.
@@ -34,7 +48,9 @@ pub fn show_line(
     out: &mut Output,
     work: &mut Work,
     values: &[Expr],
-) -> Result<(), CompileError> {
+) -> Result<(), CompileError>
+    ensures { Grown out.old work.old out.new work.new }
+{
     put_screen(work, ScreenInstr::NewLine)?;
     show(shape, out, work, values)
 }
@@ -47,7 +63,9 @@ pub fn say(
     row: &Expr,
     column: &Expr,
     e: &Expr,
-) -> Result<(), CompileError> {
+) -> Result<(), CompileError>
+    ensures { Grown out.old work.old out.new work.new }
+{
     let row = value(shape, out, work, row)?;
     let column = value(shape, out, work, column)?;
     let kind = value(shape, out, work, e)?;
@@ -62,7 +80,9 @@ fn put_get(
     work: &mut Work,
     line: usize,
     variable: &Name,
-) -> Result<Kind, CompileError> {
+) -> Result<Kind, CompileError>
+    ensures { WorkGrows work.old work.new }
+{
     let Reading { instr, kind } = reading_of(shape, work, variable)?;
     work.block.put(instr)?;
     work.gets.push(Get {
@@ -81,7 +101,9 @@ pub fn get(
     row: &Expr,
     column: &Expr,
     variable: &Name,
-) -> Result<(), CompileError> {
+) -> Result<(), CompileError>
+    ensures { Grown out.old work.old out.new work.new }
+{
     let row = value(shape, out, work, row)?;
     let column = value(shape, out, work, column)?;
     let kind = put_get(shape, work, line, variable)?;
@@ -96,20 +118,22 @@ pub fn get_on(
     work: &mut Work,
     line: usize,
     variable: &Name,
-) -> Result<(), CompileError> {
+) -> Result<(), CompileError>
+    ensures { WorkGrows work.old work.new }
+{
     let kind = put_get(shape, work, line, variable)?;
     put_screen(work, ScreenInstr::SayOn(kind))
 }
 
 /// Takes a line for one GET.
-fn read_one(shape: &Shape, work: &mut Work, name: &Name) -> Result<(), CompileError> {
+fn read_one(shape: &Shape, work: &mut Work, name: &Name) -> Result<(), CompileError>
+    ensures { WorkGrows work.old work.new }
+{
     let Reading { instr, kind } = reading_of(shape, work, name)?;
     work.block.put(instr)?;
     put_screen(work, ScreenInstr::Input(kind))?;
     match instr {
-        Instr::Values(ValueInstr::Load(_, slot)) => {
-            work.block.put(Instr::Values(ValueInstr::Store(kind, slot)))
-        }
+        Instr::Values(ValueInstr::Load(_, slot)) => put_value(work, ValueInstr::Store(kind, slot)),
         Instr::Records(RecordInstr::Field { field, .. }) => {
             work.block.put(Instr::Records(RecordInstr::Replace(field)))
         }
@@ -118,12 +142,45 @@ fn read_one(shape: &Shape, work: &mut Work, name: &Name) -> Result<(), CompileEr
 }
 
 /// `READ`.
-pub fn read(shape: &Shape, work: &mut Work) -> Result<(), CompileError> {
+pub fn read(shape: &Shape, work: &mut Work) -> Result<(), CompileError>
+    ensures { WorkGrows work.old work.new }
+{
     let gets = std::mem::replace(&mut work.gets, Vec::new(work.alloc));
     for get in &gets {
         read_one(shape, work, &get.variable)?;
     }
     Ok(())
+}
+
+/// Shows the prompt, if there is one.
+fn show_prompt(
+    shape: &Shape,
+    out: &mut Output,
+    work: &mut Work,
+    prompt: &Option<Expr>,
+) -> Result<(), CompileError>
+    ensures { Grown out.old work.old out.new work.new }
+{
+    let Some(e) = prompt else {
+        return Ok(());
+    };
+    value_of_kind(shape, out, work, e, Kind::Text)?;
+    put_screen(work, ScreenInstr::Print(Kind::Text))
+}
+
+/// Puts the text that is shown while a key is awaited.
+fn put_prompt(
+    shape: &Shape,
+    out: &mut Output,
+    work: &mut Work,
+    prompt: &Option<Expr>,
+) -> Result<(), CompileError>
+    ensures { Grown out.old work.old out.new work.new }
+{
+    match prompt {
+        Some(e) => value_of_kind(shape, out, work, e, Kind::Text),
+        None => put_text(out, work, b"Press any key to continue..."),
+    }
 }
 
 /// `ACCEPT [prompt] TO variable`.
@@ -133,12 +190,11 @@ pub fn accept(
     work: &mut Work,
     prompt: &Option<Expr>,
     variable: &Name,
-) -> Result<(), CompileError> {
+) -> Result<(), CompileError>
+    ensures { Grown out.old work.old out.new work.new }
+{
     put_screen(work, ScreenInstr::NewLine)?;
-    if let Some(e) = prompt {
-        value_of_kind(shape, out, work, e, Kind::Text)?;
-        put_screen(work, ScreenInstr::Print(Kind::Text))?;
-    }
+    show_prompt(shape, out, work, prompt)?;
     put_screen(work, ScreenInstr::Line)?;
     put_store(out, work, variable, Kind::Text)?;
     Ok(())
@@ -151,22 +207,25 @@ pub fn wait(
     work: &mut Work,
     prompt: &Option<Expr>,
     variable: &Option<Name>,
-) -> Result<(), CompileError> {
+) -> Result<(), CompileError>
+    ensures { Grown out.old work.old out.new work.new }
+{
     put_screen(work, ScreenInstr::NewLine)?;
-    match prompt {
-        Some(e) => value_of_kind(shape, out, work, e, Kind::Text)?,
-        None => put_text(out, work, b"Press any key to continue...")?,
-    }
+    put_prompt(shape, out, work, prompt)?;
     put_screen(work, ScreenInstr::Print(Kind::Text))?;
     put_screen(work, ScreenInstr::Line)?;
-    let Some(name) = variable else {
-        return work
-            .block
-            .put(Instr::Values(ValueInstr::Discard(Kind::Text)));
-    };
+    match variable {
+        Some(name) => store_key(out, work, name),
+        None => put_value(work, ValueInstr::Discard(Kind::Text)),
+    }
+}
+
+/// Takes the first letter of the operator's line into the variable.
+fn store_key(out: &mut Output, work: &mut Work, name: &Name) -> Result<(), CompileError>
+    ensures { Grown out.old work.old out.new work.new }
+{
     put_one(out, work)?;
-    work.block
-        .put(Instr::Values(ValueInstr::Function(Fun::Left)))?;
+    put_value(work, ValueInstr::Function(Fun::Left))?;
     put_store(out, work, name, Kind::Text)?;
     Ok(())
 }

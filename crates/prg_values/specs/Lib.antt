@@ -1,3 +1,4 @@
+pub mod OneInstr
 pub mod Operators
 pub mod Readings
 pub mod Placed

@@ -1,0 +1,2 @@
+mod Releasing
+mod Pooling
