@@ -1,12 +1,10 @@
 -- What a text beside a journal tells of files.
 use Rattle.std.specs.Prelude.{ℕ, List, [], ◌∷◌, ◌==◌, ◌&&◌, Bool, false, Option, Some, None, codes, option_and_then}
-use Rattle.std.specs.Prelude.{string_bytes, if◌then◌else◌, not, position}
+use Rattle.std.specs.Prelude.{string_bytes, if◌then◌else◌}
 use Rattle.std.specs.Option.{option_eq}
 use Rattle.std.specs.Str.{bytes_eq}
 use Rattle.hex.specs.Hex.{encode_lower}
 use Rattle.toml.specs.Data.{Members, get_member, as_str}
-use Rattle.toml.specs.View.{table_view}
-use Rattle.journal_papers.specs.declared.paper.JournalPaper.{JournalPaper}
 use Rattle.journal_papers.specs.declared.sums.FileSum.{FileSum}
 
 -- a sum's digits in hex, or that there is no file
@@ -29,7 +27,3 @@ abbrev pub is_said : Members → FileSum → Bool
 is_said paper file =
     option_eq bytes_eq (option_and_then as_str (get_member (sum_key (string_bytes file.name)) paper))
     (Some (sum_word file.sum))
-
--- the number of the first file whose sum isn't the one that is told of it
-abbrev pub changed_of : JournalPaper → List FileSum → Option ℕ
-changed_of paper files = position (λ file. not (is_said (table_view paper.table) file)) files

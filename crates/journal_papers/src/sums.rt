@@ -1,11 +1,11 @@
 //! Sums of files, as such texts tell them.
 
-ghost use Rattle.std.specs.Prelude.{◌≡◌, Some, IfOk, OnOk, string_bytes};
+ghost use Rattle.std.specs.Prelude.{◌≡◌, Some, IfOk, OnOk, not, position, string_bytes};
 ghost use Rattle.hex.specs.Hex.{encode_lower};
 ghost use Rattle.toml.specs.Data.{get_member, string};
 ghost use Rattle.toml.specs.View.{table_view};
 ghost use Rattle.journal_papers.specs.Papers as spec;
-ghost use Rattle.journal_papers.specs.Papers.{changed_of, is_said, sum_word};
+ghost use Rattle.journal_papers.specs.Papers.{is_said, sum_word};
 
 use crate::paper::JournalPaper;
 use save_steps::Sum;
@@ -94,7 +94,7 @@ fn is_told(paper: &JournalPaper, file: &FileSum) -> bool
 
 /// The number of the first file whose sum isn't the one that is told of it.
 pub fn first_changed(paper: &JournalPaper, files: &[FileSum]) -> Option<usize>
-    ensures { result ≡ changed_of paper.now files.now }
+    ensures { result ≡ position (λ file. not (is_said (table_view paper.now.table) file)) files.now }
 {
     files.iter().position(|file| !is_told(paper, file))
 }

@@ -3,7 +3,7 @@
 
 ghost use Rattle.operator_desk.specs.Held.{behind_first, first_line, left_of, left_of_own};
 ghost use Rattle.operator_desk.specs.Held.{line_length as line_length_of};
-ghost use Rattle.std.specs.Prelude.{◌≡◌, ◌≤◌, ◌≢◌, [], IfOk, IfSome, IsNone, MatchOption, OnErr, length};
+ghost use Rattle.std.specs.Prelude.{◌≡◌, ◌≤◌, ◌↔◌, [], IfOk, IfSome, IsNone, MatchOption, OnErr, length};
 
 use std::alloc::{AllocError, Global};
 

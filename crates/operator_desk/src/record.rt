@@ -1,7 +1,7 @@
 //! What stands beside a journal.
 #![tactic(auto)]
 
-ghost use Rattle.journal_papers.specs.Papers.{changed_of};
+ghost use Rattle.operator_desk.specs.Beginnings.{changed_of};
 ghost use Rattle.std.specs.Prelude.{◌≡◌, IfOk, IfSome, IsErr, IsOk, MatchOption, None, OnErr, OnOk, slice_get};
 ghost use Rattle.std.specs.Prelude.{string_bytes};
 
