@@ -1,6 +1,7 @@
 """What the builders of the program share: which crates it stands on, where a build stands, and one build at a time."""
 
 import contextlib
+import ctypes
 import errno
 import fcntl
 import os
@@ -17,6 +18,11 @@ TOP = os.path.dirname(os.path.dirname(os.path.realpath(__file__)))
 OUT = f"{TOP}/out"
 # A scratch folder's name begins with this and the number of the process that made it.
 SCRATCH = "tablereef-"
+# What the system and the toolchain's tools say of a full disk.
+FULL = os.strerror(errno.ENOSPC)
+# Linux's call that has a process sent a signal when the one that started it ends, and its word for that.
+PRCTL, SIGNAL_OF_PARENTS_DEATH = ctypes.CDLL(None).prctl, 1
+BUILDER = os.getpid()
 
 
 class Failed(Exception):
@@ -131,10 +137,17 @@ def scratch():
         yield room
 
 
+def end_with_builder():
+    """Has the system end the process that calls this when the builder ends, even where that is killed."""
+    PRCTL(SIGNAL_OF_PARENTS_DEATH, signal.SIGKILL)
+    if os.getppid() != BUILDER:
+        os._exit(1)
+
+
 @contextlib.contextmanager
 def running(words, **how):
     """A command in a session of its own, which ends with this one, however it ends."""
-    with subprocess.Popen(words, stdin=subprocess.DEVNULL, start_new_session=True, **how) as child:
+    with subprocess.Popen(words, stdin=subprocess.DEVNULL, start_new_session=True, preexec_fn=end_with_builder, **how) as child:
         try:
             yield child
         finally:
@@ -144,6 +157,16 @@ def running(words, **how):
 
 def interrupt(*_):
     raise KeyboardInterrupt
+
+
+def told_of(error):
+    """What the system refused, in one line: of a copy where it should stand, and of a folder's copy its first file."""
+    file, why = error.filename2 or error.filename, str(error)
+    if isinstance(error, shutil.Error):
+        _, file, why = error.args[0][0]
+    if error.errno not in (errno.ENOSPC, errno.EDQUOT) and FULL not in why:
+        return why
+    return f"the disk is full: {file}" if file else "the disk is full"
 
 
 def end_with(build, interrupted, instead=""):
@@ -157,7 +180,5 @@ def end_with(build, interrupted, instead=""):
     except Failed as failed:
         say(f"{failed}{instead}")
     except OSError as error:
-        full = error.errno in (errno.ENOSPC, errno.EDQUOT)
-        told = f"the disk is full: {error.filename or tempfile.gettempdir()}" if full else str(error)
-        say(f"{told}{instead}")
+        say(f"{told_of(error)}{instead}")
     sys.exit(1)
