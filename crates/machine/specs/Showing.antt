@@ -35,16 +35,16 @@ said_behind (At row column) long = if nat_lt (column + 1) 80 then Some (placed r
 
 -- where an instruction shows the value on top at a place of the screen: SAY at the row and the column below the value,
 -- SAYON behind the cursor; the others nowhere
-abbrev pub shown_by : ScreenInstr → TaggedValues → EnvState → Option ShownAt
-shown_by (Say k) t e = on_value (top t) None
+abbrev pub place_shown_by : ScreenInstr → TaggedValues → EnvState → Option ShownAt
+place_shown_by (Say k) t e = on_value (top t) None
     (λ value. said_at (whole_on_top (slice_get t.stack 2)) (whole_on_top (slice_get t.stack 1))
     (length (shown e.settings value)))
-shown_by (SayOn k) t e = on_value (top t) None
+place_shown_by (SayOn k) t e = on_value (top t) None
     (λ value. said_behind e.screen.roll.cursor (length (shown e.settings value)))
-shown_by _ t e = None
+place_shown_by _ t e = None
 
 abbrev pub shown_by_instr : Instr → TaggedValues → EnvState → Option ShownAt
-shown_by_instr (Screen i) t e = shown_by i t e
+shown_by_instr (Screen i) t e = place_shown_by i t e
 shown_by_instr _ t e = None
 
 -- where the next instruction does
@@ -63,12 +63,12 @@ says (Screen i) = screen_says i
 says _ = false
 
 -- at the place a text stands that has so many columns there, with the cursor behind it; without a place all stays
-abbrev pub Shows : ScreenState → Option ShownAt → ScreenState → Type 0
-Shows old None new = new ≡ old
-Shows old (Some at) new = (text : List ℕ) × ((new.roll ≡ shown_at at.row at.column text old.roll)
+abbrev pub ShowsAt : ScreenState → Option ShownAt → ScreenState → Type 0
+ShowsAt old None new = new ≡ old
+ShowsAt old (Some at) new = (text : List ℕ) × ((new.roll ≡ shown_at at.row at.column text old.roll)
     × (at.length ≡ min (length text) (80 - at.column)))
 
 -- so does the step of the next instruction, if it is SAY or SAYON
 abbrev pub StepShows : Code → World → Option ShownAt → Type 0
 StepShows code w at = says (instr_at code w.place) ≡ true
-    → Shows w.env.screen at (effect code w (instr_at code w.place)).env.screen
+    → ShowsAt w.env.screen at (effect code w (instr_at code w.place)).env.screen

@@ -14,7 +14,7 @@ ghost use Rattle.text_lines.specs.Lines.{is_out, short_lines};
 ghost use Rattle.open_table.specs.Marks.{mark_at, parts_in};
 ghost use Rattle.work_area.specs.Areas.{table_at};
 
-use crate::showing::{ShownAt, shown_by};
+use crate::showing::{ShownAt, place_shown_by};
 use calendar::Day;
 use code_items::Code;
 use code_items::instr::Instr;
@@ -137,7 +137,7 @@ impl<K: KeyList> Banks<K> {
     {
         fitting_worlds_are_safe_here();
         match *code.instructions.get(self.machine.place) {
-            Instr::Screen(instr) => shown_by(instr, &self.machine.values, &self.machine.env),
+            Instr::Screen(instr) => place_shown_by(instr, &self.machine.values, &self.machine.env),
             _ => None,
         }
     }

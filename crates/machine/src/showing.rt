@@ -1,7 +1,7 @@
 //! Where the next instruction shows a value on the screen.
 
 ghost use Rattle.code_items.specs.declared.instr.ScreenInstr.TheVariants.{Say as OfSay, SayOn as OfSayOn};
-ghost use Rattle.machine.specs.Showing.{placed, said_at, said_behind, shown_by as shown_by_of};
+ghost use Rattle.machine.specs.Showing.{placed, said_at, said_behind, place_shown_by as shown_by_of};
 ghost use Rattle.run_steps.specs.Needs.{ScreenNeeds};
 ghost use Rattle.run_values.specs.Standing.{IsByKind};
 ghost use Rattle.run_values.specs.Tagged.{TaggedValues};
@@ -77,7 +77,7 @@ fn say_on<K: KeyList>(kind: Kind, values: &Untagged, env: &Environment<K>) -> Op
 }
 
 /// Where an instruction on the screen shows a value at a place; PRINT, which goes on at the cursor, has none.
-pub(crate) fn shown_by<K: KeyList>(
+pub(crate) fn place_shown_by<K: KeyList>(
     instr: ScreenInstr,
     values: &Untagged,
     env: &Environment<K>,

@@ -13,8 +13,8 @@ abbrev pub first_line : List ℕ → List ℕ
 first_line text = take (line_length text) text
 
 -- what stands behind its end
-abbrev pub behind_first : List ℕ → List ℕ
-behind_first text = drop (line_length text + 1) text
+abbrev pub behind_line : List ℕ → List ℕ
+behind_line text = drop (line_length text + 1) text
 
 -- what is left
 abbrev pub left_of : HeldLines → List ℕ

@@ -1,7 +1,7 @@
 //! Lines of a text that is there already.
 #![tactic(auto)]
 
-ghost use Rattle.operator_desk.specs.Held.{behind_first, first_line, left_of, left_of_own};
+ghost use Rattle.operator_desk.specs.Held.{behind_line, first_line, left_of, left_of_own};
 ghost use Rattle.operator_desk.specs.Held.{line_length as line_length_of};
 ghost use Rattle.std.specs.Prelude.{◌≡◌, ◌≤◌, ◌↔◌, [], IfOk, IfSome, IsNone, MatchOption, OnErr, length};
 
@@ -33,7 +33,7 @@ impl<'a> HeldLines<'a> {
     pub fn next(&mut self) -> Option<&'a [u8]>
         ensures none { IsNone result ↔ (left_of self.old ≡ []) }
         ensures line { IfSome result (λ line. line.now ≡ first_line (left_of self.old)) }
-        ensures rest { left_of self.new ≡ behind_first (left_of self.old) }
+        ensures rest { left_of self.new ≡ behind_line (left_of self.old) }
     {
         let left = self.left;
         if left.is_empty() {
@@ -68,7 +68,7 @@ impl OwnLines {
     pub fn next(&mut self, alloc: Global) -> Result<Option<Vec<u8>>, AllocError>
         ensures line { IfOk result (λ line. MatchOption line (left_of_own self.old ≡ [])
             (λ line. line.items ≡ first_line (left_of_own self.old))) }
-        ensures rest { IfOk result (λ _. left_of_own self.new ≡ behind_first (left_of_own self.old)) }
+        ensures rest { IfOk result (λ _. left_of_own self.new ≡ behind_line (left_of_own self.old)) }
         ensures err { OnErr result (self.new ≡ self.old) }
     {
         let left = &self.text[self.used.min(self.text.len())..];

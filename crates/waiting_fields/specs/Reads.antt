@@ -71,7 +71,7 @@ abbrev pub AreMatched : List Instr → List ℕ → List ℕ → Type 0
 AreMatched code takes shows = map (before code) shows ≡ map (before code) takes
 
 -- lines are taken for variables and fields, and each of these is shown once, in order, or it can't be told where
-pub record IsRead (code : List Instr) (read : Read) : Type 0 where
+pub record IsReadOfCode (code : List Instr) (read : Read) : Type 0 where
   pub takes : All (λ place. takes_at code place ≡ true) read.takes.items
   pub shows : All (λ place. shows_at code place ≡ true) read.shows.items
   pub matched : (read.shows.items ≡ []) ⊎ AreMatched code read.takes.items read.shows.items

@@ -3,7 +3,7 @@
 ghost use Rattle.std.specs.Prelude.{◌≡◌, true, IfOk};
 ghost use Rattle.std.specs.List.{All};
 ghost use Rattle.waiting_fields.specs.Reads as spec;
-ghost use Rattle.waiting_fields.specs.Reads.{AreMatched, IsRead};
+ghost use Rattle.waiting_fields.specs.Reads.{AreMatched, IsReadOfCode};
 
 use code_items::Code;
 use code_items::instr::{FlowInstr, Instr, RecordInstr, ScreenInstr, ValueInstr};
@@ -232,7 +232,7 @@ fn are_matched(code: &[Instr], takes: &[usize], shows: &[usize]) -> bool
 
 /// The READ whose first line is taken at a place.
 fn read_at(alloc: Global, code: &[Instr], place: usize) -> Result<Read, AllocError>
-    ensures { IfOk result (IsRead code.now) }
+    ensures { IfOk result (IsReadOfCode code.now) }
 {
     let takes = takes_from(alloc, code, place)?;
     let shows = shown_before(alloc, code, takes.as_slice(), place.saturating_sub(1))?;
@@ -247,7 +247,7 @@ fn read_at(alloc: Global, code: &[Instr], place: usize) -> Result<Read, AllocErr
 
 /// The READs of a code, by rising place. Those whose fields can't be told apart have no shows.
 pub fn reads_of(alloc: Global, code: &Code) -> Result<Vec<Read>, AllocError>
-    ensures { IfOk result (λ reads. All (IsRead code.now.instructions) reads.items) }
+    ensures { IfOk result (λ reads. All (IsReadOfCode code.now.instructions) reads.items) }
 {
     let instrs = code.instructions.as_slice();
     let mut reads = Vec::new(alloc);
