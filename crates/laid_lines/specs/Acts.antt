@@ -45,8 +45,8 @@ use Rattle.prg_values.specs.Placed.{InstrStands, StandAll, Leaves}
 use Rattle.laid_lines.specs.Layout.{Laying, ExprLaid, Knows, NameLaid, scope_in}
 
 -- an instruction that puts a constant on the stack
-abbrev pub PutsConstant : Laying → ℕ → Value → ℕ → Type 0
-PutsConstant f a v b = StandAll f.text a (Constant v ∷ []) b
+abbrev pub ConstantStands : Laying → ℕ → Value → ℕ → Type 0
+ConstantStands f a v b = StandAll f.text a (Constant v ∷ []) b
 
 -- instructions of one group
 abbrev pub OnScreen : Laying → ℕ → ScreenInstr → ℕ → Type 0
@@ -116,7 +116,7 @@ abbrev pub ShownOne : Laying → ℕ → Tree → ℕ → Type 0
 ShownOne f a e b = (k : Kind) × (m : ℕ) × ExprLaid f a e k m × OnScreen f m (screen.Print k) b
 
 abbrev pub ShownBlank : Laying → ℕ → ℕ → Type 0
-ShownBlank f a b = (m : ℕ) × PutsConstant f a blank m × OnScreen f m (screen.Print kind.Text) b
+ShownBlank f a b = (m : ℕ) × ConstantStands f a blank m × OnScreen f m (screen.Print kind.Text) b
 
 -- values, each behind a blank
 abbrev pub ShownMore : Laying → ℕ → List Tree → ℕ → Type 0
@@ -184,13 +184,13 @@ AcceptLaid f a prompt name b = (m : ℕ) × (n : ℕ) × (o : ℕ) × OnScreen f
 
 -- the text that is shown while a key is awaited
 abbrev pub Asked : Laying → ℕ → Option Tree → ℕ → Type 0
-Asked f a None b = PutsConstant f a any_key b
+Asked f a None b = ConstantStands f a any_key b
 Asked f a (Some e) b = ExprLaid f a e kind.Text b
 
 -- of the operator's line the first letter goes into the variable, if there is one
 abbrev pub KeyTaken : Laying → ℕ → Option Letters → ℕ → Type 0
 KeyTaken f a None b = InstrStands f.text a (Values (value_instr.Discard kind.Text)) b
-KeyTaken f a (Some name) b = (m : ℕ) × (n : ℕ) × PutsConstant f a (whole_as_value 1) m
+KeyTaken f a (Some name) b = (m : ℕ) × (n : ℕ) × ConstantStands f a (whole_as_value 1) m
     × InstrStands f.text m (Values (value_instr.Function fun.Left)) n × Stored f n name kind.Text b
 
 abbrev pub Waited : Laying → ℕ → Option Tree → Option Letters → ℕ → Type 0
@@ -256,7 +256,7 @@ Gone f a (Record e) b = (m : ℕ) × ExprLaid f a e kind.Number m × Moved f m m
 
 -- how many rows a SKIP goes on, 1 where it doesn't say
 abbrev pub Counted : Laying → ℕ → Option Tree → ℕ → Type 0
-Counted f a None b = PutsConstant f a (whole_as_value 1) b
+Counted f a None b = ConstantStands f a (whole_as_value 1) b
 Counted f a (Some e) b = ExprLaid f a e kind.Number b
 
 abbrev pub Skipped : Laying → ℕ → Option Tree → ℕ → Type 0

@@ -86,14 +86,14 @@ pub fn given_as(l: &Layout, place: usize, e: &Expr, kind: Kind) -> Option<usize>
 
 /// The place behind an instruction that puts the constant on the stack, if one stands at this place.
 pub fn puts(l: &Layout, place: usize, value: &Value) -> Option<usize>
-    ensures { IfSome result (λ b. acts.PutsConstant (laying l.now) place value.now b) }
+    ensures { IfSome result (λ b. acts.ConstantStands (laying l.now) place value.now b) }
 {
     behind_constant(&l.text, place, value)
 }
 
 /// The same for the number 1.
 pub fn puts_one(l: &Layout, place: usize) -> Option<usize>
-    ensures { IfSome result (λ b. acts.PutsConstant (laying l.now) place (whole_as_value 1) b) }
+    ensures { IfSome result (λ b. acts.ConstantStands (laying l.now) place (whole_as_value 1) b) }
 {
     puts(l, place, &Value::Number(Num::from(1u32)))
 }

@@ -26,7 +26,7 @@ use Rattle.prg_code.specs.Bindings.{NamedVariables}
 use Rattle.prg_code.specs.declared.names.Variable.{Variable}
 use Rattle.prg_values.specs.Written.{whole_as_value as whole_number}
 use Rattle.prg_values.specs.Placed.{InstrStands}
-use Rattle.laid_lines.specs.Acts.{ActLaid, PutsConstant, may_follow_gets, waiting}
+use Rattle.laid_lines.specs.Acts.{ActLaid, ConstantStands, may_follow_gets, waiting}
 use Rattle.laid_lines.specs.Layout.{Laying, ExprLaid}
 use Rattle.prg_laid.specs.declared.way.Leaps.{Leaps}
 use Rattle.prg_laid.specs.declared.way.Way.{Way}
@@ -74,7 +74,7 @@ HasRow f a out b = (m : ℕ) × (n : ℕ) × InstrStands f.text a (Records (Ask 
 -- the next row of a SCAN and the way back, where they are reached
 abbrev pub Advances : Laying → ℕ → Bool → ℕ → ℕ → Type 0
 Advances f a false top b = b ≡ a
-Advances f a true top b = (m : ℕ) × (n : ℕ) × PutsConstant f a (whole_number 1) m × InstrStands f.text m (Moves Skip) n
+Advances f a true top b = (m : ℕ) × (n : ℕ) × ConstantStands f a (whole_number 1) m × InstrStands f.text m (Moves Skip) n
     × InstrStands f.text n (Flow (Jump top)) b
 
 -- they stand where LOOP leads
