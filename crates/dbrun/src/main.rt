@@ -554,7 +554,7 @@ fn finish_alone<R: Runtime<A = Global, File = File>>(
 }
 
 /// Whether a code is known to have no tables, so that its run saves nothing.
-fn has_no_tables<R: Runtime<A = Global>>(rt: &R, name: &str) -> bool {
+pub fn has_no_tables<R: Runtime<A = Global>>(rt: &R, name: &str) -> bool {
     let mut files = Folder::new(rt, Nobody);
     match read_code(rt.alloc(), &mut files, name) {
         Ok(code) => code.declared.shape.tables.len() == 0,

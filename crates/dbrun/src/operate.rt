@@ -6,8 +6,8 @@ ghost use Rattle.std.specs.Prelude.{◌≡◌, false};
 use crate::screens::{is_free_name, is_new_name};
 use crate::shown::{Audience, Progress, of_end};
 use crate::{
-    finish_before, folder, hindered, may_back_up, refuse, tell_hindered, tell_unfinished,
-    tell_unsaved,
+    finish_before, folder, has_no_tables, hindered, may_back_up, refuse, tell_hindered,
+    tell_unfinished, tell_unsaved,
 };
 use command_words::{DEFAULT_BUDGET, OperateWords, Outcomes, ShownWords, TalkWords, WordsFault};
 use file_access::Files;
@@ -703,6 +703,10 @@ fn operate_talk<'a, R: Runtime<A = Global, File = File>>(
         None if open.talk.save.is_some() => hindered_plan(rt),
         closed => closed,
     };
+    if closed.is_some() && open.talk.save.is_some() && has_no_tables(rt, open.code) {
+        // the text of its end is saved, and no table is read that would tell of it
+        return tell_hindered(rt, audience, paper_name(), &RunRefusal::Disk, closed);
+    }
     match open_journal(rt, names.journal.as_str(), goes_on, open.talk.no_lock()) {
         Ok((journal, tail)) => converse(rt, audience, open, journal, tail, closed),
         Err(fault) => {
