@@ -33,6 +33,16 @@ enum Taker {
     Value(Kind),
 }
 
+/// What an instruction draws at a place of the screen that the cursor doesn't give.
+#[derive(Clone, Copy, PartialEq, Eq)]
+enum Drawing {
+    Nothing,
+    /// A value.
+    Value,
+    /// A blank screen.
+    Blank,
+}
+
 /// Which READ an instruction belongs to, and the number of its field there, both from 0.
 #[derive(Clone, Copy)]
 struct Member {
@@ -44,6 +54,7 @@ struct Member {
 #[derive(Clone, Copy)]
 struct Place {
     takes: Taker,
+    draws: Drawing,
     /// Where it shows a value that a READ asks for, or takes a line for it.
     member: Option<Member>,
 }
@@ -122,6 +133,15 @@ impl RowCount {
         let rows = new.iter().filter(|byte| **byte == b'\n').count();
         self.rows = self.rows.saturating_add(rows);
         self.bytes = sent.len();
+    }
+}
+
+/// What an instruction draws.
+fn drawing_at(instr: &Instr) -> Drawing {
+    match instr {
+        Instr::Screen(ScreenInstr::Say(_)) | Instr::Screen(ScreenInstr::SayOn(_)) => Drawing::Value,
+        Instr::Screen(ScreenInstr::Clear) => Drawing::Blank,
+        _ => Drawing::Nothing,
     }
 }
 
@@ -220,9 +240,9 @@ impl Gets {
     /// those that show a value which a READ asks for.
     pub fn begin(&mut self, alloc: Global, code: &Code) -> Result<Vec<bool>, AllocError> {
         for instr in code.instructions.as_slice() {
-            let takes = taker_at(instr);
             self.places.push(Place {
-                takes,
+                takes: taker_at(instr),
+                draws: drawing_at(instr),
                 member: None,
             })?;
         }
@@ -245,7 +265,7 @@ impl Gets {
     fn marks(&self, alloc: Global) -> Result<Vec<bool>, AllocError> {
         let mut marks = Vec::new(alloc);
         for known in &self.places {
-            marks.push(known.takes != Taker::Nothing || known.member.is_some())?;
+            marks.push(known.takes != Taker::Nothing || known.draws != Drawing::Nothing)?;
         }
         Ok(marks)
     }
@@ -255,27 +275,45 @@ impl Gets {
         self.places.get(place)?.member
     }
 
-    /// Learns where the value is shown that the next instruction shows, where a READ asks for it.
+    /// Learns where the value is shown that the next instruction shows, where a READ asks for it. Answers that lie where
+    /// the program draws now are taken away.
     pub fn look(&mut self, alloc: Global, seen: &Scene<'_>) -> Result<(), AllocError> {
         self.sent.count(seen.screen.sent());
-        if self.takes_line(seen.place) {
-            return Ok(());
+        match self.drawing(seen.place) {
+            Drawing::Nothing => return Ok(()),
+            Drawing::Blank => {
+                self.answers = Vec::new(alloc);
+                return Ok(());
+            }
+            Drawing::Value => {}
         }
-        let Some(Member { read, field }) = self.member(seen.place) else {
-            return Ok(());
-        };
         let standing = match seen.shown {
             Some(shown) => Some(among_all(shown, self.sent.rows)),
             None => None,
         };
-        if let Some(fields) = self.shown.get_mut(read) {
-            if let Some(known) = fields.get_mut(field) {
-                *known = standing;
-            }
+        if let Some(member) = self.member(seen.place) {
+            self.note(member, standing);
         }
         match standing {
             Some(written) => self.leave_out(alloc, written),
             None => Ok(()),
+        }
+    }
+
+    /// What is drawn at a place of the code.
+    fn drawing(&self, place: usize) -> Drawing {
+        match self.places.get(place) {
+            Some(known) => known.draws,
+            None => Drawing::Nothing,
+        }
+    }
+
+    /// Notes where a field of a READ stands.
+    fn note(&mut self, member: Member, standing: Standing) {
+        if let Some(fields) = self.shown.get_mut(member.read) {
+            if let Some(known) = fields.get_mut(member.field) {
+                *known = standing;
+            }
         }
     }
 
