@@ -10,8 +10,6 @@ use Rattle.xvalue.specs.declared.kind.Kind.TheVariants as kind
 use Rattle.xvalue.specs.declared.fun.Fun.TheVariants as fun
 use Rattle.xvalue.specs.declared.value.Value.{Value}
 use Rattle.xvalue.specs.declared.value.Value.TheVariants as value
-use Rattle.xvalue.specs.declared.settings.Setting.{Setting}
-use Rattle.xvalue.specs.declared.settings.Setting.TheVariants as setting
 use Rattle.shape.specs.declared.indexes.IndexShape.{IndexShape}
 use Rattle.shape.specs.declared.lists.IndexList.{IndexList}
 use Rattle.code_items.specs.Desks.{open_at}
@@ -33,7 +31,6 @@ use Rattle.code_items.specs.declared.instr.Instr.TheVariants.{Values, Screen, Ar
 use Rattle.code_rules.specs.declared.blocks.Block.{Block}
 use Rattle.prg_expr.specs.Tree.{Tree}
 use Rattle.prg_line.specs.declared.statement.Toggle.{Toggle}
-use Rattle.prg_line.specs.declared.statement.Toggle.TheVariants as toggle
 use Rattle.prg_line.specs.Act.{Act, Area, Change, Goal, Letters, Number, Named, Top, Bottom, Record}
 use Rattle.prg_line.specs.Act as act
 use Rattle.prg_code.specs.Bindings.{slot_named}
@@ -41,6 +38,7 @@ use Rattle.prg_values.specs.declared.scope.FieldPlace.{FieldPlace}
 use Rattle.prg_values.specs.declared.scope.Reading.{Reading}
 use Rattle.prg_values.specs.Readings.{alias_area, field_here, table_named}
 use Rattle.prg_values.specs.Written.{Constant, whole_as_value}
+use Rattle.prg_values.specs.OneInstr.{may_wait, setting_of}
 use Rattle.prg_values.specs.Placed.{InstrStands, StandAll, Leaves}
 use Rattle.laid_lines.specs.Layout.{Laying, ExprLaid, Knows, NameLaid, scope_in}
 
@@ -100,11 +98,6 @@ abbrev pub Released : Laying → ℕ → List Letters → ℕ → Type 0
 Released f a [] b = b ≡ a
 Released f a (name ∷ names) b = (slot : ℕ) × (m : ℕ) × (slot_named f.names name ≡ Some slot)
     × InstrStands f.text a (Values (value_instr.Unset slot)) m × Released f m names b
-
-abbrev pub setting_of : Toggle → Setting
-setting_of toggle.Exact = setting.Exact
-setting_of toggle.Deleted = setting.Deleted
-setting_of toggle.Century = setting.Century
 
 abbrev pub IsSet : Laying → ℕ → Toggle → Bool → ℕ → Type 0
 IsSet f a switch on b = InstrStands f.text a (Values (value_instr.Set (setting_of switch) on)) b
@@ -320,16 +313,6 @@ ActLaid f gets a act.Zap b = OnRecords f a record_instr.Zap b
 ActLaid f gets a act.Reindex b = OnRecords f a record_instr.Reindex b
 ActLaid f gets a (act.IndexOn key index) b = Indexed f a (index ∷ []) b
 ActLaid f gets a _ b = ⊥
-
--- the commands that may stand between a GET and its READ, and that READ
-abbrev pub may_wait : Act → Bool
-may_wait (act.Show values) = true
-may_wait (act.ShowOn values) = true
-may_wait (act.Say row column e) = true
-may_wait (act.Get row column name) = true
-may_wait (act.SayGet row column e name) = true
-may_wait act.Read = true
-may_wait _ = false
 
 abbrev pub is_none_waiting : List Letters → Bool
 is_none_waiting [] = true

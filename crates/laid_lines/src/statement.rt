@@ -12,6 +12,7 @@ use crate::screen::{accepted, cleared, got, said, said_and_got, shown, shown_lin
 use crate::variables::{assigned, released, set, stored_all};
 use code_items::{AreaInstr, Name, RecordInstr};
 use prg_line::Statement;
+use prg_values::may_stand_before_read;
 use std::alloc::AllocError;
 use std::slice;
 
@@ -104,20 +105,6 @@ pub fn does(l: &Layout, place: usize, gets: &[&Name], statement: &Statement) -> 
     on_records(l, place, gets, statement)
 }
 
-fn may_wait(statement: &Statement) -> bool
-    ensures { result ≡ acts.may_wait (act_of statement.now) }
-{
-    match statement {
-        Statement::Show { .. } => true,
-        Statement::ShowOn { .. } => true,
-        Statement::Say { .. } => true,
-        Statement::Get { .. } => true,
-        Statement::SayGet { .. } => true,
-        Statement::Read => true,
-        _ => false,
-    }
-}
-
 /// Whether no GET waits.
 pub fn none_wait(gets: &[&Name]) -> bool
     ensures { result ≡ acts.is_none_waiting (acts.names_of gets.now) }
@@ -132,7 +119,7 @@ pub fn none_wait(gets: &[&Name]) -> bool
 pub fn may_stand(gets: &[&Name], statement: &Statement) -> bool
     ensures { result ≡ acts.may_follow_gets (acts.names_of gets.now) (act_of statement.now) }
 {
-    may_wait(statement) || none_wait(gets)
+    may_stand_before_read(statement) || none_wait(gets)
 }
 
 /// The GETs that wait behind the command.

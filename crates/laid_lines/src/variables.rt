@@ -7,9 +7,10 @@ ghost use Rattle.laid_lines.specs.Layout.{laying};
 ghost use Rattle.prg_line.specs.Act.{letters_of};
 
 use crate::layout::{Layout, after, given, slot_of};
-use code_items::{Instr, Name, Setting, ValueInstr};
+use code_items::{Instr, Name, ValueInstr};
 use prg_expr::Expr;
 use prg_line::Toggle;
+use prg_values::setting_of;
 use xvalue::Kind;
 
 /// The place behind a STORE into the variable.
@@ -77,16 +78,6 @@ pub fn released(l: &Layout, place: usize, names: &[Name]) -> Option<usize>
         rest = others;
     }
     Some(end)
-}
-
-fn setting_of(toggle: Toggle) -> Setting
-    ensures { result ≡ acts.setting_of toggle }
-{
-    match toggle {
-        Toggle::Exact => Setting::Exact,
-        Toggle::Deleted => Setting::Deleted,
-        Toggle::Century => Setting::Century,
-    }
 }
 
 /// `SET setting ON` or `OFF`.

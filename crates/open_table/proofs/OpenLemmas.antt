@@ -1,7 +1,7 @@
 -- Open indexes stay open.
 use Rattle.std.proofs.Common.{◌≡◌, ℕ, ◌<◌, ◌≤◌, Bool, true, false, not, ◌||◌, ◌&&◌, ◌==◌, Option, Some, List, [], ◌∷◌, length, get_or, map, cond, refl, sym, ap, ◌∙◌, subst, Result, Ok, Err, is_ok, is_some}
 use Rattle.std.specs.Prelude.{OnOk, OnErr}
-use Rattle.open_table.specs.Tables.{IndexedState, listed}
+use Rattle.open_table.specs.Tables.{IndexedState, open_list}
 use Rattle.row_keys.specs.Lists.{index_list}
 use Rattle.row_moves.specs.declared.landed.Landed.{Landed}
 use Rattle.row_moves.specs.Moves.{Landing}
@@ -105,10 +105,10 @@ open_made t u list order few within declared e = record {
 -- ---- what open indexes list
 
 listed_fresh : (t : IndexedState) (n : ℕ) → is_fresh (mark_at t.marks n) ≡ true
-    → listed t n ≡ Some (index_list (parts_in (mark_at t.marks n)) t.rows)
+    → open_list t n ≡ Some (index_list (parts_in (mark_at t.marks n)) t.rows)
 listed_fresh t n e = rw e refl
 
 pub list_keys : (t : IndexedState) (ns : List ℕ) → All (λ n. is_fresh (mark_at t.marks n) ≡ true) ns
-    → All (λ n. listed t n ≡ Some (index_list (parts_in (mark_at t.marks n)) t.rows)) ns
+    → All (λ n. open_list t n ≡ Some (index_list (parts_in (mark_at t.marks n)) t.rows)) ns
 list_keys t ns fresh = All-weaker (λ n. is_fresh (mark_at t.marks n) ≡ true)
-    (λ n. listed t n ≡ Some (index_list (parts_in (mark_at t.marks n)) t.rows)) (listed_fresh t) ns fresh
+    (λ n. open_list t n ≡ Some (index_list (parts_in (mark_at t.marks n)) t.rows)) (listed_fresh t) ns fresh

@@ -59,8 +59,8 @@ abbrev pub pair_at : Option ℕ → IndexedState → Option ℕ → Option Pair
 pair_at order t pointer = option_map (λ n. (order_key order t n, n)) pointer
 
 -- what an index lists: the pairs of the rows in order; of a stale one nothing is known
-abbrev pub listed : IndexedState → ℕ → Option (List Pair)
-listed t n = if is_fresh (mark_at t.marks n) then Some (index_list (parts_in (mark_at t.marks n)) t.rows) else None
+abbrev pub open_list : IndexedState → ℕ → Option (List Pair)
+open_list t n = if is_fresh (mark_at t.marks n) then Some (index_list (parts_in (mark_at t.marks n)) t.rows) else None
 
 -- ---- changes
 

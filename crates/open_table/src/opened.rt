@@ -13,7 +13,7 @@ ghost use Rattle.row_keys.specs.Lists.{index_list};
 ghost use Rattle.shape.specs.Keys.{IsKey, key_length};
 ghost use Rattle.row_moves.specs.Moves.{Landing, IsMove, end_of, skipped, sought};
 ghost use Rattle.open_table.specs.Tables.{HasDeclared, IsOrder, order_pairs, pairs_in_order, pair_at, packed, emptied};
-ghost use Rattle.open_table.specs.Tables.{remade, listed};
+ghost use Rattle.open_table.specs.Tables.{remade, open_list};
 ghost use Rattle.open_table.specs.Marks.{mark_at, count_stale, parts_in};
 ghost use Rattle.open_table.specs.Passes.{at_higher_cost, EndsWithMove};
 ghost use Rattle.dbf_file.specs.Rows.{unmarked};
@@ -144,7 +144,7 @@ impl<K: KeyList> OpenTable<K> {
 
     /// Each open index lists the keys of the table's rows in order: none is stale.
     pub fn open_indexes_list_keys(&self)
-        ensures { All (λ n. listed self.now.table n
+        ensures { All (λ n. open_list self.now.table n
             ≡ Some (index_list (parts_in (mark_at self.now.table.marks n)) self.now.table.rows)) self.now.list }
     {
         let _order = self.order;

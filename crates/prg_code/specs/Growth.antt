@@ -32,7 +32,7 @@ pub record BlockGrows (earlier later : DraftBlock) : Type 0 where
   pub highest : earlier.highest ≤ later.highest
 
 -- a block of which nothing is written yet, and at whose beginning this is known
-pub record Begins (known : State) (block : DraftBlock) : Type 0 where
+pub record BlockBegins (known : State) (block : DraftBlock) : Type 0 where
   pub pieces : block.pieces.items ≡ []
   pub labels : block.labels.items ≡ []
   pub state : block.state ≡ known

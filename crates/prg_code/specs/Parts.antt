@@ -22,14 +22,14 @@ abbrev pub is_other : Kind → Option (Option Kind) → Bool
 is_other wanted (Some (Some kind)) = not (same_kind kind wanted)
 is_other wanted _ = true
 
-abbrev pub lacks : List (Option Kind) → Need → Bool
-lacks kinds need = is_other need.kind (slice_get kinds need.slot)
+abbrev pub is_unmet : List (Option Kind) → Need → Bool
+is_unmet kinds need = is_other need.kind (slice_get kinds need.slot)
 
 -- whether the filter of this number, counted from 1, needs a value that isn't known to be there
-abbrev pub filter_lacks : List FilterBlock → ℕ → List (Option Kind) → Bool
-filter_lacks filters zero kinds = false
-filter_lacks filters (suc n) kinds =
-    option_map_or (λ filter. list_any (lacks kinds) filter.needs.items) (slice_get filters n) false
+abbrev pub has_unmet_needs : List FilterBlock → ℕ → List (Option Kind) → Bool
+has_unmet_needs filters zero kinds = false
+has_unmet_needs filters (suc n) kinds =
+    option_map_or (λ filter. list_any (is_unmet kinds) filter.needs.items) (slice_get filters n) false
 
 -- a fault in this line of this file
 abbrev pub told_at : CompileError → ℕ → ℕ → CompileRefusal

@@ -3,7 +3,7 @@
 ghost use Rattle.std.specs.Prelude.{◌≡◌, ◌<◌, ◌^◌, [], ◌∷◌, ◌++◌, true, false, length, take, IfOk, OnOk, OnErr};
 ghost use Rattle.code_items.specs.declared.instr.FlowInstr.TheVariants.{End};
 ghost use Rattle.code_items.specs.declared.instr.Instr.TheVariants.{Flow};
-ghost use Rattle.prg_code.specs.Growth.{BlockGrows, Begins, IsBesidePieces, Puts, drafts_of, is_met_at};
+ghost use Rattle.prg_code.specs.Growth.{BlockGrows, BlockBegins, IsBesidePieces, Puts, drafts_of, is_met_at};
 ghost use Rattle.prg_code.specs.declared.block.Draft.TheVariants as draft;
 
 use crate::fault::{CompileError, CompileFaultKind};
@@ -106,14 +106,14 @@ fn blank(alloc: Global) -> Result<State, AllocError> {
 impl DraftBlock {
     /// An empty block of the main procedure.
     pub fn main(alloc: Global) -> Result<DraftBlock, AllocError>
-        ensures { IfOk result (λ block. Begins block.state block) }
+        ensures { IfOk result (λ block. BlockBegins block.state block) }
     {
         Ok(DraftBlock::entered(alloc, blank(alloc)?))
     }
 
     /// An empty block, at whose beginning this is known.
     pub fn entered(alloc: Global, state: State) -> DraftBlock
-        ensures { Begins state result }
+        ensures { BlockBegins state result }
     {
         DraftBlock {
             alloc,

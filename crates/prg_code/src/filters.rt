@@ -2,7 +2,7 @@
 
 ghost use Rattle.std.specs.Prelude.{◌≡◌};
 ghost use Rattle.std.specs.List.{list_any};
-ghost use Rattle.prg_code.specs.Parts.{lacks as lacks_of, filter_lacks as filter_lacks_by};
+ghost use Rattle.prg_code.specs.Parts.{is_unmet as is_unmet_need, has_unmet_needs as has_unmet};
 
 use crate::block::SourceLine;
 use crate::numbering::Numbering;
@@ -52,8 +52,8 @@ fn digest_of(block: &[Instr]) -> u64 {
     digest
 }
 
-fn lacks(kinds: &[Option<Kind>], need: Need) -> bool
-    ensures { result ≡ lacks_of kinds.now need }
+fn is_unmet(kinds: &[Option<Kind>], need: Need) -> bool
+    ensures { result ≡ is_unmet_need kinds.now need }
 {
     match kinds.get(usize::from(need.slot)) {
         Some(Some(kind)) => !kind.is(need.kind),
@@ -61,10 +61,10 @@ fn lacks(kinds: &[Option<Kind>], need: Need) -> bool
     }
 }
 
-fn lacks_some(kinds: &[Option<Kind>], needs: &[Need]) -> bool
-    ensures { result ≡ list_any (lacks_of kinds.now) needs.now }
+fn some_is_unmet(kinds: &[Option<Kind>], needs: &[Need]) -> bool
+    ensures { result ≡ list_any (is_unmet_need kinds.now) needs.now }
 {
-    needs.iter().any(|need| lacks(kinds, *need))
+    needs.iter().any(|need| is_unmet(kinds, *need))
 }
 
 impl FilterBlock {
@@ -88,14 +88,14 @@ impl FilterBlock {
 
 /// Whether the filter that instructions name by this number needs a value that isn't known to be there. No filter needs
 /// anything.
-pub fn filter_lacks(filters: &Filters, number: u16, kinds: &[Option<Kind>]) -> bool
-    ensures { result ≡ filter_lacks_by filters.now number kinds.now }
+pub fn has_unmet_needs(filters: &Filters, number: u16, kinds: &[Option<Kind>]) -> bool
+    ensures { result ≡ has_unmet filters.now number kinds.now }
 {
     if number < 1 {
         return false;
     }
     match filters.as_slice().get(usize::from(number) - 1) {
-        Some(filter) => lacks_some(kinds, &filter.needs),
+        Some(filter) => some_is_unmet(kinds, &filter.needs),
         None => false,
     }
 }

@@ -7,18 +7,18 @@ use Rattle.prg_commands.specs.declared.statement.Turn.{Turn}
 use Rattle.prg_commands.specs.declared.statement.Turn.TheVariants.{Again, Out, Return, End, Call}
 
 -- whether it turns the way
-abbrev pub turns : Act → Bool
-turns act.Loop = true
-turns act.Exit = true
-turns act.Return = true
-turns act.Quit = true
-turns act.Cancel = true
-turns (act.Do procedure arguments) = true
-turns _ = false
+abbrev pub turns_the_way : Act → Bool
+turns_the_way act.Loop = true
+turns_the_way act.Exit = true
+turns_the_way act.Return = true
+turns_the_way act.Quit = true
+turns_the_way act.Cancel = true
+turns_the_way (act.Do procedure arguments) = true
+turns_the_way _ = false
 
 -- this is the turn that a command makes, if it makes one
 abbrev pub IsTurn : Option Turn → Act → Type 0
-IsTurn None a = turns a ≡ false
+IsTurn None a = turns_the_way a ≡ false
 IsTurn (Some Again) a = a ≡ act.Loop
 IsTurn (Some Out) a = a ≡ act.Exit
 IsTurn (Some Return) a = a ≡ act.Return

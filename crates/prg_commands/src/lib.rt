@@ -10,6 +10,6 @@ mod values;
 mod variables;
 
 pub use moves::{put_skip_on, put_top};
-pub use statement::{Turn, may_stand_before_read, put_statement};
+pub use statement::{Turn, put_statement};
 pub use values::{condition, put_constant, scope_of, value};
 pub use variables::{argument_slot, new_slot};

@@ -12,7 +12,7 @@ ghost use Rattle.prg_commands.specs.Commands.{PutsAlone};
 use crate::areas::opened;
 use crate::values::{demand, put_one, value, value_of_kind};
 use code_items::{Instr, MoveInstr, OpenArea, RecordInstr, Shape};
-use prg_code::{CompileError, CompileFaultKind, Output, Work, filter_lacks};
+use prg_code::{CompileError, CompileFaultKind, Output, Work, has_unmet_needs};
 use prg_expr::Expr;
 use prg_line::{Move, Replacement};
 use prg_values::field_of;
@@ -20,7 +20,7 @@ use xvalue::Kind;
 
 /// Filter where the area's filter needs a variable that isn't known to have its value.
 pub fn meets_filter(out: &Output, work: &Work, area: OpenArea) -> Result<(), CompileError> {
-    if filter_lacks(&out.filters, area.filter, work.block.state.slots.kinds()) {
+    if has_unmet_needs(&out.filters, area.filter, work.block.state.slots.kinds()) {
         return Err(CompileError::Fault(CompileFaultKind::Filter));
     }
     Ok(())

@@ -5,7 +5,6 @@ ghost use Rattle.prg_code.specs.Growth.{OutputGrows, Grown};
 ghost use Rattle.prg_line.specs.declared.statement.Toggle.TheVariants as toggle_is;
 ghost use Rattle.prg_line.specs.Act as act;
 ghost use Rattle.prg_line.specs.Act.{act_of};
-ghost use Rattle.prg_values.specs.OneInstr.{may_wait, setting_of as setting_of_toggle};
 ghost use Rattle.prg_commands.specs.Commands.{PutsAlone};
 ghost use Rattle.prg_commands.specs.Turns.{IsTurn};
 
@@ -15,36 +14,11 @@ use crate::moves::{go, put_all_records, put_record, replace, seek, skip};
 use crate::screen::{accept, get, get_on, read, say, show, show_line, wait};
 use crate::values::{put_screen, put_value};
 use crate::variables::{assign, hide, release, store};
-use code_items::{AreaInstr, Instr, Name, RecordInstr, ScreenInstr, Setting, Shape, ValueInstr};
+use code_items::{AreaInstr, Instr, Name, RecordInstr, ScreenInstr, Shape, ValueInstr};
 use prg_code::{CompileError, CompileFaultKind, Output, Work};
 use prg_expr::Expr;
 use prg_line::{Statement, Toggle};
-
-/// Whether the command may stand between a GET and its READ, or is that READ.
-pub fn may_stand_before_read(statement: &Statement) -> bool
-    ensures { result ≡ may_wait (act_of statement.now) }
-{
-    match statement {
-        Statement::Show { .. } => true,
-        Statement::ShowOn { .. } => true,
-        Statement::Say { .. } => true,
-        Statement::Get { .. } => true,
-        Statement::SayGet { .. } => true,
-        Statement::Read => true,
-        _ => false,
-    }
-}
-
-/// The setting as an instruction names it.
-fn setting_of(toggle: Toggle) -> Setting
-    ensures { result ≡ setting_of_toggle toggle }
-{
-    match toggle {
-        Toggle::Exact => Setting::Exact,
-        Toggle::Deleted => Setting::Deleted,
-        Toggle::Century => Setting::Century,
-    }
-}
+use prg_values::setting_of;
 
 /// Remembers SET CENTURY.
 fn note_setting(out: &mut Output, toggle: Toggle)

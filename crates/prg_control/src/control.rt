@@ -10,9 +10,10 @@ use crate::ends::{again_of, leap, no_get_waits, out_of, put_return};
 use crate::loops::{LoopTest, end_round, open_loop};
 use crate::steps::{LeapLabels, Span};
 use prg_code::{CompileFaultKind, CompileRefusal};
-use prg_commands::{Turn, may_stand_before_read, put_statement};
+use prg_commands::{Turn, put_statement};
 use prg_line::Statement;
 use prg_parser::{Command, Form};
+use prg_values::may_stand_before_read;
 use prg_writer::{Begun, Source, Writer};
 
 /// A command that is begun.

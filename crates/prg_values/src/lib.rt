@@ -1,6 +1,7 @@
 //! What names mean, the kinds of expressions, and their code.
 #![tactic(auto)]
 
+mod alone;
 mod arguments;
 mod calls;
 mod compiling;
@@ -10,6 +11,7 @@ mod sameness;
 mod scope;
 mod standing;
 
+pub use alone::{may_stand_before_read, setting_of};
 pub use compiling::compile_expr;
 pub use kinds::kind_of;
 pub use operators::{OperatorMeaning, operated};

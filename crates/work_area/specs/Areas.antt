@@ -4,7 +4,7 @@ use Rattle.std.specs.Prelude.{All, is_some, slice_get, slice_index_or, slice_set
 use Rattle.std.specs.List.{list_any}
 use Rattle.open_table.specs.Open.{OpenState, closed}
 use Rattle.open_table.specs.Marks.{IndexMark, mark_at, parts_in}
-use Rattle.open_table.specs.Tables.{listed}
+use Rattle.open_table.specs.Tables.{open_list}
 use Rattle.row_keys.specs.Lists.{index_list}
 use Rattle.work_area.specs.declared.uses.Use.{Use}
 
@@ -121,4 +121,4 @@ pub record IsStore (tables : List OpenState) (areas : List (Option Use)) (select
 -- every open index of every table lists the table's keys in order
 abbrev pub OpenIndexesList : StoreState → Type 0
 OpenIndexesList s = (t : ℕ) (o : OpenState) → table_at s t ≡ Some o
-    → All (λ n. listed o.table n ≡ Some (index_list (parts_in (mark_at o.table.marks n)) o.table.rows)) o.list
+    → All (λ n. open_list o.table n ≡ Some (index_list (parts_in (mark_at o.table.marks n)) o.table.rows)) o.list
