@@ -6,3 +6,4 @@ pub mod TextCalls
 pub mod TextTops
 pub mod CutBytes
 pub mod Said
+pub mod Keeping

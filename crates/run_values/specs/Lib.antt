@@ -1,4 +1,5 @@
 pub mod KindStacks
+pub mod Kept
 pub mod Places
 pub mod Scratch
 pub mod Standing

@@ -1,46 +1,83 @@
-//! Values that keep their kinds.
+//! Values that keep their kinds: those without tags, and the kind of each beside them.
 
-ghost use Rattle.std.specs.Prelude.{◌≡◌, IfOk, [], replicate, slice_get, Some, None};
-ghost use Rattle.xvalue.specs.declared.value.Value.{Value as AnyValue};
+ghost use Rattle.std.specs.Prelude.{◌≡◌, IfOk, [], length, map, replicate, reverse, slice_get, None};
 ghost use Rattle.run_values.specs.Standing.{IsTagged};
-ghost use Rattle.run_values.specs.Tagged.{TaggedValues};
+ghost use Rattle.run_values.specs.Tagged.{TaggedValues, kind_held};
+ghost use Rattle.xvalue.specs.Kinds.{kind_of};
 
-use crate::calling::result_of;
 use crate::lent::Lent;
 use crate::pile::Pile;
-use crate::slots::Slots;
+use crate::untagged::Untagged;
 use crate::values::Values;
 use fixed_num::Num;
 use std::alloc::{AllocError, Global};
-use xvalue::laws::arguments_are_few;
+use std::marker::Model;
+use xvalue::laws::{arguments_are_few, results_have_their_kind};
 use xvalue::{Fun, Kind, Settings, Value};
 
 /// Slots and a stack of values with their kinds.
 #[derive(Drop)]
 pub struct Tagged {
-    pub slots: Slots,
-    pub stack: Pile<Value>,
+    values: Untagged,
+    slots: Vec<Option<Kind>>,
+    stack: Pile<Kind>,
+}
+
+impl Model for Tagged {
+    ghost use Rattle.run_values.specs.Kept.{IsOfKinds, tagged_by};
+    ghost use Rattle.run_values.specs.Tagged.{TaggedValues};
+
+    ghost Value = { TaggedValues };
+
+    ghost view = { λ s. tagged_by s.slots.items s.stack s.values };
+
+    ghost invariant = { λ s. IsOfKinds s.slots.items s.stack s.values (tagged_by s.slots.items s.stack s.values) };
+}
+
+/// As many kinds of slots, all of which are unset.
+fn unset_slots(alloc: Global, count: usize) -> Result<Vec<Option<Kind>>, AllocError>
+    ensures { IfOk result (λ slots. slots.items ≡ replicate count None) }
+{
+    let mut slots = Vec::new(alloc);
+    for _ in 0..count {
+        slots.push(None)?;
+    }
+    Ok(slots)
 }
 
 impl Tagged {
     /// So many slots, all unset, and an empty stack.
     pub fn new(alloc: Global, slots: usize) -> Result<Tagged, AllocError>
-        ensures { IfOk result (λ values. IsTagged values (record { slots = replicate slots None; stack = [] })) }
+        ensures { IfOk result (λ values. values ≡ record { slots = replicate slots None; stack = [] }) }
     {
         Ok(Tagged {
-            slots: Slots::new(alloc, slots)?,
+            values: Untagged::new(alloc, slots)?,
+            slots: unset_slots(alloc, slots)?,
             stack: Pile::new(alloc)?,
         })
     }
 
-    /// The value in the slot, which is set.
-    fn held(&self, slot: usize) -> &Value
-        requires { (value : AnyValue) × (slice_get self.now.slots slot ≡ Some (Some value)) }
-        ensures { slice_get self.now.slots slot ≡ Some (Some result.now) }
+    /// The kinds of the values on the stack, the top last.
+    pub fn kinds(&self) -> &[Kind]
+        ensures { reverse result.now ≡ map kind_of self.now.stack }
+    {
+        self.stack.values()
+    }
+
+    /// How many values there are on the stack.
+    pub fn height(&self) -> usize
+        ensures { result ≡ length self.now.stack }
+    {
+        self.stack.len()
+    }
+
+    /// The kind of what a slot holds, none within where it is unset; none where there is no such slot.
+    pub fn kind_at(&self, slot: usize) -> Option<Option<Kind>>
+        ensures { result ≡ slice_get (map kind_held self.now.slots) slot }
     {
         match self.slots.get(slot) {
-            Some(value) => value,
-            None => unreachable!(),
+            Some(kind) => Some(*kind),
+            None => None,
         }
     }
 }
@@ -49,91 +86,87 @@ impl Values for Tagged {
     ghost stands = { IsTagged };
 
     fn push(&mut self, value: Value) {
-        self.stack.push(value);
+        let kind = value.kind();
+        self.values.push(value);
+        self.stack.push(kind);
     }
 
     fn push_copy(&mut self, value: &Value) {
-        self.stack.push(value.copied());
+        self.values.push_copy(value);
+        self.stack.push(value.kind());
     }
 
-    fn top(&self, _kind: Kind) -> Value {
-        self.stack.top().copied()
+    fn top(&self, kind: Kind) -> Value {
+        self.values.top(kind)
     }
 
     fn truth(&self) -> bool {
-        match self.stack.top() {
-            Value::Logical(truth) => *truth,
-            _ => unreachable!(),
-        }
+        self.values.truth()
     }
 
     fn push_number(&mut self, number: Num) {
-        self.stack.push(Value::Number(number));
+        self.values.push_number(number);
+        self.stack.push(Kind::Number);
     }
 
     fn pop_number(&mut self) -> Num {
-        match self.stack.pop() {
-            Value::Number(number) => number,
-            _ => unreachable!(),
-        }
+        self.stack.drop_top(1);
+        self.values.pop_number()
     }
 
     fn push_truth(&mut self, truth: bool) {
-        self.stack.push(Value::Logical(truth));
+        self.values.push_truth(truth);
+        self.stack.push(Kind::Logical);
     }
 
     fn pop_truth(&mut self) -> bool {
-        match self.stack.pop() {
-            Value::Logical(truth) => truth,
-            _ => unreachable!(),
-        }
+        self.stack.drop_top(1);
+        self.values.pop_truth()
     }
 
-    fn discard(&mut self, _kind: Kind) {
+    fn discard(&mut self, kind: Kind) {
+        self.values.discard(kind);
         self.stack.drop_top(1);
     }
 
-    fn value(&self, _kind: Kind, slot: usize) -> Lent<'_> {
-        Lent::of(self.held(slot))
+    fn value(&self, kind: Kind, slot: usize) -> Lent<'_> {
+        self.values.value(kind, slot)
     }
 
     fn number(&self, slot: usize) -> &Num {
-        match self.slots.get(slot) {
-            Some(Value::Number(number)) => number,
-            _ => unreachable!(),
-        }
+        self.values.number(slot)
     }
 
     fn held_truth(&self, slot: usize) -> bool {
-        match self.slots.get(slot) {
-            Some(Value::Logical(truth)) => *truth,
-            _ => unreachable!(),
-        }
+        self.values.held_truth(slot)
     }
 
     fn set_number(&mut self, slot: usize, number: Num) {
-        self.slots.set(slot, Some(Value::Number(number)));
+        self.values.set_number(slot, number);
+        self.slots[slot] = Some(Kind::Number);
     }
 
-    fn load(&mut self, _kind: Kind, slot: usize) {
-        let value = self.held(slot).copied();
-        self.stack.push(value);
+    fn load(&mut self, kind: Kind, slot: usize) {
+        self.values.load(kind, slot);
+        self.stack.push(kind);
     }
 
-    fn store(&mut self, _kind: Kind, slot: usize) {
-        let value = self.stack.pop();
-        self.slots.set(slot, Some(value));
+    fn store(&mut self, kind: Kind, slot: usize) {
+        self.values.store(kind, slot);
+        self.slots[slot] = Some(kind);
+        self.stack.drop_top(1);
     }
 
     fn unset(&mut self, slot: usize) {
-        self.slots.set(slot, None);
+        self.values.unset(slot);
+        self.slots[slot] = None;
     }
 
     fn call(&mut self, fun: Fun, settings: Settings) {
         arguments_are_few();
-        let count = fun.takes().len();
-        let value = result_of(fun, settings, self.stack.top_values(count));
-        self.stack.drop_top(count);
-        self.stack.push(value);
+        results_have_their_kind();
+        self.values.call(fun, settings);
+        self.stack.drop_top(fun.takes().len());
+        self.stack.push(fun.gives());
     }
 }

@@ -1,9 +1,13 @@
-use Rattle.std.proofs.Common.{ap, ◌∙◌}
-use Rattle.std.specs.Prelude.{slice_get}
-use Rattle.run_values.proofs.Tops.{set_there}
+use Rattle.run_values.proofs.Keeping.{kept, stands_for, given, loaded_kind}
 use Rattle.run_values.proofs.tagged.TaggedValues.load.Goals as goal
 
-pub held-requires : goal.held-requires
-held-requires c =
-    let p = set_there c.args._kind c.requires.0.slots c.args.slot c.requires.1.1 in
-    (p.0, ap (λ slots. slice_get slots c.args.slot) c.requires.1.0.slots ∙ p.1)
+pub invariant_of-self : goal.invariant_of-self
+invariant_of-self c =
+    let t = c.requires.0 in
+    let k = given _ _ _ _ t c.self.view_is c.self.invariant c.requires.1.0 in
+    kept _ _ _ _ (loaded_kind _ _ _ _ _ t c.args.slot c.args.kind k c.requires.1.1 (c.load.ensures t k.stands c.requires.1.1) c.push.ensures)
+
+pub returns : goal.returns
+returns c = λ t s h.
+    let k = given _ _ _ _ t c.self.view_is c.self.invariant s in
+    stands_for _ _ _ _ (loaded_kind _ _ _ _ _ t c.args.slot c.args.kind k h (c.load.ensures t k.stands h) c.push.ensures)
