@@ -10,36 +10,35 @@ ghost use Rattle.run_steps.specs.Faults.{filters_other as filters_other_of};
 ghost use Rattle.run_steps.specs.World.{kind_held};
 ghost use Rattle.tagged_machine.specs.Seen.{state_seen};
 
-use crate::kinds::{kind_at, values_clash};
+use crate::kinds::kinds_clash;
 use code_items::{AreaInstr, Code, Declared, Desk, Instr, ValueInstr};
 use code_rules::desks::{has_table, is_other_filter, is_other_list, record_is_other};
 use code_rules::heights::{is_over, is_under};
 use code_rules::kinds::wants;
 use code_rules::operands::undeclared;
 use code_rules::slots::{has_other, is_free};
-use run_values::{Slots, Tagged};
+use run_values::Tagged;
 
 /// Whether a slot is loaded that holds another kind.
-pub fn loads_other(slots: &Slots, instr: Instr) -> bool
+pub fn loads_other(values: &Tagged, instr: Instr) -> bool
     ensures { (desk : AnyDesk) (stack : List AnyKind)
-        → result ≡ loads_other_of (record { desk = desk; slots = map kind_held slots.now; stack = stack }) instr }
+        → result ≡ loads_other_of (record { desk = desk; slots = map kind_held values.now.slots; stack = stack }) instr }
 {
     match instr {
-        Instr::Values(ValueInstr::Load(kind, slot)) => has_other(
-            kind,
-            kind_at(slots, usize::from(slot)),
-        ),
+        Instr::Values(ValueInstr::Load(kind, slot)) => {
+            has_other(kind, values.kind_at(usize::from(slot)))
+        }
         _ => false,
     }
 }
 
 /// Whether a slot is loaded that is unset.
-pub fn loads_free(slots: &Slots, instr: Instr) -> bool
+pub fn loads_free(values: &Tagged, instr: Instr) -> bool
     ensures { (desk : AnyDesk) (stack : List AnyKind)
-        → result ≡ loads_free_of (record { desk = desk; slots = map kind_held slots.now; stack = stack }) instr }
+        → result ≡ loads_free_of (record { desk = desk; slots = map kind_held values.now.slots; stack = stack }) instr }
 {
     match instr {
-        Instr::Values(ValueInstr::Load(_, slot)) => is_free(kind_at(slots, usize::from(slot))),
+        Instr::Values(ValueInstr::Load(_, slot)) => is_free(values.kind_at(usize::from(slot))),
         _ => false,
     }
 }
@@ -48,8 +47,7 @@ pub fn loads_free(slots: &Slots, instr: Instr) -> bool
 pub fn wrong_kind(code: &Code, desk: &Desk, values: &Tagged, instr: Instr) -> bool
     ensures { result ≡ wrong_kind_of code.now (state_seen desk.now values.now) instr }
 {
-    values_clash(&values.stack, wants(&code.declared, desk, instr))
-        || loads_other(&values.slots, instr)
+    kinds_clash(values.kinds(), wants(&code.declared, desk, instr)) || loads_other(values, instr)
 }
 
 /// Whether there are fewer values than it takes.
@@ -57,7 +55,7 @@ pub fn wrong_kind(code: &Code, desk: &Desk, values: &Tagged, instr: Instr) -> bo
 pub fn is_short(values: &Tagged, instr: Instr) -> bool
     ensures { (desk : AnyDesk) → result ≡ empty_stack (state_seen desk values.now) instr }
 {
-    is_under(values.stack.len(), instr)
+    is_under(values.height(), instr)
 }
 
 /// Whether there are more values than the code's bound afterwards.
@@ -65,7 +63,7 @@ pub fn is_short(values: &Tagged, instr: Instr) -> bool
 pub fn is_high(code: &Code, values: &Tagged, instr: Instr) -> bool
     ensures { (desk : AnyDesk) → result ≡ stack_over code.now (state_seen desk values.now) instr }
 {
-    is_over(&code.declared, values.stack.len(), instr)
+    is_over(&code.declared, values.height(), instr)
 }
 
 fn area_lists(declared: &Declared, instr: AreaInstr) -> bool

@@ -3,29 +3,30 @@
 ghost use Rattle.std.specs.Prelude.{◌≡◌, ◌<◌, length, nat_le};
 ghost use Rattle.code_rules.specs.Rules.{fails_if_named};
 ghost use Rattle.code_rules.specs.Signature.{call_of};
-ghost use Rattle.code_items.specs.Legal.{IsCode};
+ghost use Rattle.code_items.specs.Legal.{IsCode, places_of};
 ghost use Rattle.run_steps.specs.Control.{is_false as is_false_of, flow_place as flow_place_of, place_after};
 ghost use Rattle.run_steps.specs.Effects.{top};
 ghost use Rattle.run_steps.specs.Faults.{bad_jump as bad_jump_of};
 ghost use Rattle.run_steps.specs.World.{EnvState};
-ghost use Rattle.tagged_machine.specs.Seen.{values_of, world_of};
+ghost use Rattle.tagged_machine.specs.Seen.{world_of};
 
 use crate::blocks::entry_place;
-use code_items::code::places_of_blocks;
-use code_items::laws::legal_codes;
 use code_items::{Code, FlowInstr, Instr};
 use code_rules::operands::calls_none;
 use code_rules::signature::called;
 use run_steps::ReturnPlaces;
 use run_steps::running::finishes;
-use run_values::Tagged;
-use xvalue::Value;
+use run_values::{Tagged, Values};
+use xvalue::Kind;
 
 /// Whether the truth value false is on top.
 fn is_false(values: &Tagged) -> bool
-    ensures { result ≡ is_false_of (top (values_of values.now)) }
+    ensures { result ≡ is_false_of (top values.now) }
 {
-    0 < values.stack.len() && matches!(values.stack.top(), Value::Logical(false))
+    match values.kinds().last() {
+        Some(kind) => kind.is(Kind::Logical) && !values.truth(),
+        None => false,
+    }
 }
 
 /// Where an instruction on the flow of control goes next.
@@ -38,7 +39,7 @@ fn flow_place(
 ) -> usize
     requires legal { IsCode code.now }
     requires place { place < 65536 }
-    ensures { result ≡ flow_place_of code.now instr place returns.now (values_of values.now) }
+    ensures { result ≡ flow_place_of code.now instr place returns.now values.now }
 {
     match instr {
         FlowInstr::Jump(target) => target as usize,
@@ -65,7 +66,7 @@ fn next_place(
 ) -> usize
     requires legal { IsCode code.now }
     requires place { place < 65536 }
-    ensures { result ≡ place_after code.now instr place returns.now (values_of values.now) }
+    ensures { result ≡ place_after code.now instr place returns.now values.now }
 {
     match instr {
         Instr::Flow(instr) => flow_place(code, instr, place, returns, values),
@@ -73,23 +74,23 @@ fn next_place(
     }
 }
 
-/// Whether it goes on at a place that stands in no procedure.
+/// Whether it goes on at a place that stands in no procedure. The procedures' blocks have so many places.
 pub fn bad_jump(
     code: &Code,
+    places: usize,
     place: usize,
     returns: &ReturnPlaces,
     values: &Tagged,
     instr: Instr,
 ) -> bool
     requires legal { IsCode code.now }
+    requires places { places ≡ places_of code.now.procedures }
     requires place { place < 65536 }
     ensures { (env : EnvState) → result ≡ bad_jump_of code.now (world_of place returns.now values.now env) instr }
 {
-    legal_codes();
     !finishes(returns, instr)
         && !calls_none(code, instr)
-        && places_of_blocks(code.procedures.as_slice())
-            <= next_place(code, instr, place, returns, values)
+        && places <= next_place(code, instr, place, returns, values)
 }
 
 /// Whether it calls where 20 calls haven't returned.

@@ -13,6 +13,7 @@ use crate::faults::fault;
 use crate::scratch::TestScratch;
 use crate::world::World;
 use code_items::Code;
+use code_items::code::places_of_blocks;
 use code_items::laws::legal_codes;
 use fit_laws::laws::fitting_worlds_are_safe;
 use key_lists::KeyList;
@@ -46,12 +47,13 @@ fn run_on<K: KeyList>(
     faultless_instructions_are_clear();
     faultless_worlds_go_on();
     steps_keep_the_shape();
+    let places = places_of_blocks(code.procedures.as_slice());
     let mut steps = 0;
     scratch.areas.show(machine.env.store());
     loop {
         let instr = *code.instructions.get(machine.place);
         let desk = scratch.areas.desk();
-        if let Some(kind) = fault(code, machine, desk, &mut scratch.block, instr) {
+        if let Some(kind) = fault(code, places, machine, desk, &mut scratch.block, instr) {
             return Outcome {
                 end: End::Fault(kind, machine.place),
                 steps,

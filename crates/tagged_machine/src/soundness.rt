@@ -13,7 +13,7 @@ ghost use Rattle.run_steps.specs.World.{kind_held};
 ghost use Rattle.tagged_machine.specs.Seen.{state_seen};
 
 use crate::blocks::block_of;
-use crate::kinds::{is_truth, kind_at, kinds_clash};
+use crate::kinds::{is_truth, kinds_clash};
 use crate::operands::{filters_other, loads_free, loads_other};
 use crate::scratch::BlockScratch;
 use code_items::declared::Need;
@@ -25,30 +25,30 @@ use code_rules::heights::{is_over, is_under};
 use code_rules::kinds::{gives, wants};
 use code_rules::operands::undeclared;
 use code_rules::slots::lacks as lacks_kind;
-use run_values::{Pile, Slots, Tagged};
+use run_values::{Pile, Tagged};
 use xvalue::Kind;
 
-fn lacks(slots: &Slots, need: Need) -> bool
-    ensures { result ≡ lacks_of (map kind_held slots.now) need }
+fn lacks(values: &Tagged, need: Need) -> bool
+    ensures { result ≡ lacks_of (map kind_held values.now.slots) need }
 {
-    lacks_kind(need.kind, kind_at(slots, usize::from(need.slot)))
+    lacks_kind(need.kind, values.kind_at(usize::from(need.slot)))
 }
 
-fn lacks_some(slots: &Slots, needs: &[Need]) -> bool
-    ensures { result ≡ list_any (lacks_of (map kind_held slots.now)) needs.now }
+fn lacks_some(values: &Tagged, needs: &[Need]) -> bool
+    ensures { result ≡ list_any (lacks_of (map kind_held values.now.slots)) needs.now }
 {
-    needs.iter().any(|need| lacks(slots, *need))
+    needs.iter().any(|need| lacks(values, *need))
 }
 
 /// Whether a filter's block can't have the instruction there, or it has a fault.
-fn fails(code: &Code, desk: &Desk, slots: &Slots, kinds: &Pile<Kind>, instr: Instr) -> bool
+fn fails(code: &Code, desk: &Desk, values: &Tagged, kinds: &Pile<Kind>, instr: Instr) -> bool
     ensures { result ≡ block_fails code.now
-        (record { desk = desk.now; slots = map kind_held slots.now; stack = kinds.now }) instr }
+        (record { desk = desk.now; slots = map kind_held values.now.slots; stack = kinds.now }) instr }
 {
     !filters(instr)
-        || kinds_clash(kinds, wants(&code.declared, desk, instr))
-        || loads_other(slots, instr)
-        || loads_free(slots, instr)
+        || kinds_clash(kinds.values(), wants(&code.declared, desk, instr))
+        || loads_other(values, instr)
+        || loads_free(values, instr)
         || is_under(kinds.len(), instr)
         || is_over(&code.declared, kinds.len(), instr)
         || undeclared(code, desk, instr)
@@ -72,18 +72,18 @@ fn leave(code: &Code, desk: &Desk, kinds: &mut Pile<Kind>, instr: Instr)
 fn is_block_sound(
     code: &Code,
     desk: &Desk,
-    slots: &Slots,
+    values: &Tagged,
     kinds: &mut Pile<Kind>,
     block: &[Instr],
 ) -> bool
     requires { IsCode code.now }
     ensures { result ≡ block_sound code.now
-        (record { desk = desk.now; slots = map kind_held slots.now; stack = kinds.old }) block.now }
+        (record { desk = desk.now; slots = map kind_held values.now.slots; stack = kinds.old }) block.now }
 {
     legal_codes();
     let mut rest = block;
     while let Some((instr, others)) = rest.split_first() {
-        if fails(code, desk, slots, kinds, *instr) {
+        if fails(code, desk, values, kinds, *instr) {
             return false;
         }
         leave(code, desk, kinds, *instr);
@@ -95,34 +95,40 @@ fn is_block_sound(
 /// The same for a block of a filter of this table, counted from 0, where nothing is on the stack.
 fn can_run(
     code: &Code,
-    slots: &Slots,
+    values: &Tagged,
     scratch: &mut BlockScratch,
     table: u16,
     block: &[Instr],
 ) -> bool
     requires { IsCode code.now }
-    ensures { result ≡ block_sound code.now (block_start table (map kind_held slots.now)) block.now }
+    ensures { result ≡ block_sound code.now (block_start table (map kind_held values.now.slots)) block.now }
 {
     scratch.areas.show_table(table);
     let count = scratch.kinds.len();
     scratch.kinds.drop_top(count);
-    is_block_sound(code, scratch.areas.desk(), slots, &mut scratch.kinds, block)
+    is_block_sound(
+        code,
+        scratch.areas.desk(),
+        values,
+        &mut scratch.kinds,
+        block,
+    )
 }
 
 /// Whether the filter, counted from 1, can be asked; 0 is none.
-fn is_sound(code: &Code, slots: &Slots, scratch: &mut BlockScratch, number: u16) -> bool
+fn is_sound(code: &Code, values: &Tagged, scratch: &mut BlockScratch, number: u16) -> bool
     requires { IsCode code.now }
-    ensures { result ≡ is_sound_of code.now (map kind_held slots.now) number }
+    ensures { result ≡ is_sound_of code.now (map kind_held values.now.slots) number }
 {
     if number == 0 {
         return true;
     }
     match code.declared.filter(number) {
         Some(filter) => {
-            !lacks_some(slots, filter.needs.as_slice())
+            !lacks_some(values, filter.needs.as_slice())
                 && can_run(
                     code,
-                    slots,
+                    values,
                     scratch,
                     u16::from(filter.table),
                     block_of(code, number),
@@ -147,7 +153,7 @@ fn moves_badly(
         return false;
     }
     match desk.selected_area() {
-        Some(area) => !is_sound(code, &values.slots, scratch, area.filter),
+        Some(area) => !is_sound(code, values, scratch, area.filter),
         None => false,
     }
 }

@@ -1,4 +1,6 @@
 use Rattle.std.proofs.Common.{◌≡◌, ◌-◌, true, false, None, length, refl, sym, ap, subst, ◌∙◌, arith}
+use Rattle.std.specs.Prelude.{List}
+use Rattle.code_items.specs.declared.code.Proc.{Proc}
 use Rattle.work_area.specs.Areas.{AreApart, StoreState}
 use Rattle.run_steps.specs.Shapes.{HasShape}
 use Rattle.run_steps.specs.World.{World, EnvState, desk_of}
@@ -19,6 +21,9 @@ get-instr-requires g c = let f = c.legal_codes.ensures c.args.code.now c.require
 
 pub fault-requires-clause-place : goal.fault-requires-clause-place
 fault-requires-clause-place g c = let f = c.legal_codes.ensures c.args.code.now c.requires.legal in omega (arith, c.loop-kind.invariant.comes.shape.place, f.places, f.instructions)
+
+pub places_of_blocks-places-requires : goal.places_of_blocks-places-requires
+places_of_blocks-places-requires g c = let f = c.legal_codes.ensures c.args.code.now c.requires.legal in omega (arith, ap (λ (l : List Proc). length l) c.as_slice.ensures, f.procedures)
 
 pub show-requires : goal.show-requires
 show-requires g c = subst (λ (s : StoreState). length s.areas ≡ 10) (sym c.store.ensures) (ten_areas c.args.code.now _ c.requires.shape)
