@@ -30,7 +30,8 @@ pub(crate) fn of_kind(kind: ParseFaultKind) -> &'static str {
             "a line has at most 1,024 bytes, a text 254 and a name 10; cut it into several"
         }
         ParseFaultKind::TooDeep => {
-            "at most 32 blocks or parentheses stand within one another; make a procedure or a variable of the inner part"
+            "at most 32 blocks or parentheses stand within one another; make a procedure or a variable of the inner \
+            part"
         }
         ParseFaultKind::Macro => {
             "macros (&) are left out; write out what the variable would hold, or choose by DO CASE"
@@ -42,7 +43,8 @@ pub(crate) fn of_kind(kind: ParseFaultKind) -> &'static str {
 pub fn of_command(kind: CompileFaultKind) -> &'static str {
     match kind {
         CompileFaultKind::Name => {
-            "no field here, variable, declared table or index, or procedure has this name; set the variable before, or declare the table"
+            "no field here, variable, declared table or index, or procedure has this name; set the variable before, \
+            or declare the table"
         }
         CompileFaultKind::Kind => {
             "a value of another kind is wanted; change it by STR(), VAL(), CTOD() or DTOC()"
@@ -63,7 +65,8 @@ pub fn of_command(kind: CompileFaultKind) -> &'static str {
             "ways that meet here have selected different work areas; SELECT the same one on each way"
         }
         CompileFaultKind::Filter => {
-            "a filter reads its own table's fields, RECNO(), RECCOUNT(), DELETED(), DATE() and variables that stay set; set them again, or SET FILTER TO alone"
+            "a filter reads its own table's fields, RECNO(), RECCOUNT(), DELETED(), DATE() and variables that stay \
+            set; set them again, or SET FILTER TO alone"
         }
         CompileFaultKind::Recursion => {
             "a procedure can't call itself, nor one that is still being run; use DO WHILE"
@@ -72,13 +75,16 @@ pub fn of_command(kind: CompileFaultKind) -> &'static str {
             "procedures are called in more than 256 ways; call them with the same areas open and the same variables set"
         }
         CompileFaultKind::Limit => {
-            "a program has at most 256 variables, 4,096 constants, 64 filters, 65,535 instructions, 4,096 places of jumps and 20 calls within one another, and a USE 7 indexes; cut it into several"
+            "a program has at most 256 variables, 4,096 constants, 64 filters, 65,535 instructions, 4,096 places of \
+            jumps and 20 calls within one another, and a USE 7 indexes; cut it into several"
         }
         CompileFaultKind::Parameters => {
-            "WITH must hand over as many values as PARAMETERS names, and PARAMETERS must be the procedure's first command"
+            "WITH must hand over as many values as PARAMETERS names, and PARAMETERS must be the procedure's first \
+            command"
         }
         CompileFaultKind::Get => {
-            "a READ stands behind the GETs, and only @, ? and ?? between; put other commands before the first GET or behind the READ"
+            "a READ stands behind the GETs, and only @, ? and ?? between; put other commands before the first GET \
+            or behind the READ"
         }
         CompileFaultKind::Index => {
             "the index is declared for another table or with another key; INDEX ON must spell the declared key"
@@ -91,10 +97,12 @@ pub fn of_declaration(fault: LineFault) -> &'static str {
     match fault {
         LineFault::Word => "write TABLE name, INDEX name ON table KEY key, or a comment behind *",
         LineFault::Name => {
-            "a name has up to eight capitals, digits and underscores, a letter first, isn't A to J or M alone, and stands once; declare a table before its indexes"
+            "a name has up to eight capitals, digits and underscores, a letter first, isn't A to J or M alone, and \
+            stands once; declare a table before its indexes"
         }
         LineFault::Key => {
-            "a key is one to eight text fields of the table joined by +, each plain or in UPPER(), at most 100 bytes long"
+            "a key is one to eight text fields of the table joined by +, each plain or in UPPER(), at most 100 \
+            bytes long"
         }
         LineFault::Limit => "at most 32 tables and 64 indexes are declared",
         LineFault::Table => "the table's file can't be taken",
@@ -129,14 +137,16 @@ impl LeftOut {
                 "COUNT, SUM and AVERAGE are left out; set a variable to 0, and add to it in SCAN .. ENDSCAN"
             }
             LeftOut::Totals => {
-                "TOTAL and UPDATE are left out; add up in SCAN .. ENDSCAN, and APPEND BLANK or REPLACE in the other area"
+                "TOTAL and UPDATE are left out; add up in SCAN .. ENDSCAN, and APPEND BLANK or REPLACE in the other \
+                area"
             }
             LeftOut::Listings => "LIST and DISPLAY are left out; use ? in SCAN .. ENDSCAN",
             LeftOut::Structures => {
                 "CREATE and MODIFY are left out; tables are made before, and stand in the declaration file"
             }
             LeftOut::Copies => {
-                "copying, sorting and joining are left out; APPEND BLANK and REPLACE in the other area in SCAN .. ENDSCAN, or INDEX ON a key"
+                "copying, sorting and joining are left out; APPEND BLANK and REPLACE in the other area in SCAN .. \
+                ENDSCAN, or INDEX ON a key"
             }
             LeftOut::Reports => "REPORT and LABEL are left out; print by ? in SCAN .. ENDSCAN",
             LeftOut::Saved => "SAVE and RESTORE are left out; keep the values in a table",
@@ -195,7 +205,8 @@ impl LeftOut {
                 "SELECT takes a letter A to J, a number from 1 to 10, or the name of an open table"
             }
             LeftOut::OtherAlias => {
-                "no alias stands before a name that is set; SELECT the area, and write the field's or variable's name alone"
+                "no alias stands before a name that is set; SELECT the area, and write the field's or variable's \
+                name alone"
             }
             LeftOut::GoRecord => "GO takes the number alone; leave RECORD out",
             LeftOut::Scopes => {
