@@ -1,4 +1,4 @@
-use Rattle.std.proofs.Common.{◌≡◌, arith, refl, ◌∙◌, subst, Some, true}
+use Rattle.std.proofs.Common.{◌≡◌, arith, ◌∙◌, subst, Some, true}
 use Rattle.std.specs.Prelude.{slice_get}
 use Rattle.run_steps.proofs.Pauses.{begun, follows, onward, dry_there, line_fits, ends_out, ends_unpaid, ends_stopped}
 use Rattle.run_steps.proofs.Runs.{here, place_there, finishes_there, costs_some, found_there}
