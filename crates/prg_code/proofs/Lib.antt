@@ -1,4 +1,6 @@
 pub mod Growth
 pub mod Meeting
+pub mod Remembering
 mod Constants
+mod Naming
 mod Numbers

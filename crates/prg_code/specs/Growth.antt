@@ -1,6 +1,5 @@
 -- Code that is being written only grows: what stood still stands.
-use Rattle.std.specs.Prelude.{◌≡◌, ℕ, ◌≤◌, Bool, true, false, List, [], ◌∷◌, ◌++◌, map, length, slice_get, is_some, None}
-use Rattle.std.specs.Option.{option_map_or}
+use Rattle.std.specs.Prelude.{◌≡◌, ℕ, ◌≤◌, Bool, true, List, [], ◌∷◌, ◌++◌, map, length, None}
 use Rattle.code_items.specs.declared.instr.Instr.{Instr}
 use Rattle.code_items.specs.declared.state.State.{State}
 use Rattle.code_rules.specs.Flow.{desk_after, slots_after}
@@ -44,10 +43,6 @@ pub record IsBesidePieces (earlier later : DraftBlock) : Type 0 where
   pub state : later.state ≡ earlier.state
   pub reached : later.reached ≡ earlier.reached
   pub highest : later.highest ≡ earlier.highest
-
--- whether some way leads to the label so far
-abbrev pub is_met_at : DraftBlock → ℕ → Bool
-is_met_at block label = option_map_or (λ l. is_some l.state) (slice_get block.labels.items label) false
 
 -- A copy of a procedure: it stays that of the same file, and keeps its own slots.
 pub record WorkGrows (earlier later : Work) : Type 0 where

@@ -4,3 +4,4 @@ pub mod Numbers
 pub mod Parts
 pub mod Pools
 pub mod Merging
+pub mod Remembering

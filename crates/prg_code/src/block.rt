@@ -3,11 +3,11 @@
 ghost use Rattle.std.specs.Prelude.{◌≡◌, ◌<◌, ◌^◌, [], ◌∷◌, ◌++◌, true, false, length, take, IfOk, OnOk, OnErr};
 ghost use Rattle.code_items.specs.declared.instr.FlowInstr.TheVariants.{End};
 ghost use Rattle.code_items.specs.declared.instr.Instr.TheVariants.{Flow};
-ghost use Rattle.prg_code.specs.Growth.{BlockGrows, BlockBegins, IsBesidePieces, Puts, drafts_of, is_met_at};
+ghost use Rattle.prg_code.specs.Growth.{BlockGrows, BlockBegins, IsBesidePieces, Puts, drafts_of};
 ghost use Rattle.prg_code.specs.declared.block.Draft.TheVariants as draft;
 
 use crate::fault::{CompileError, CompileFaultKind};
-use crate::merging::{is_selection_same, merged};
+use crate::merging::merged;
 use crate::seen::Seen;
 use code_items::{AreaState, Desk, FlowInstr, Instr, Items, KindSlots, KindStack, State};
 use code_rules::Signature;
@@ -21,7 +21,7 @@ const MOST_VALUES: usize = 64;
 pub const MOST_SLOTS: usize = 256;
 
 /// A piece of a block, before its labels have places.
-#[derive(Clone, Copy, Debug, PartialEq, Eq)]
+#[derive(Clone, Copy)]
 pub enum Draft {
     /// An instruction that is no jump.
     Instr(Instr),
@@ -36,14 +36,14 @@ pub enum Draft {
 }
 
 /// A line of a command file, whose files are counted from 0.
-#[derive(Clone, Copy, Debug, PartialEq, Eq)]
+#[derive(Clone, Copy)]
 pub struct SourceLine {
     pub file: usize,
     pub line: usize,
 }
 
 /// A draft, and the line of the command whose code it is.
-#[derive(Clone, Copy, Debug, PartialEq, Eq)]
+#[derive(Clone, Copy)]
 pub struct BlockPiece {
     pub draft: Draft,
     line: u32,
@@ -93,12 +93,14 @@ pub struct DraftBlock {
 
 /// Nothing known of 256 slots, all areas closed and the first selected.
 fn blank(alloc: Global) -> Result<State, AllocError> {
+    let areas = vec![in alloc; AreaState::Closed; 10]?;
+    let kinds = vec![in alloc; None; MOST_SLOTS]?;
     Ok(State {
         desk: Desk {
             selected: 1,
-            areas: Items::of(vec![in alloc; AreaState::Closed; 10]?),
+            areas: Items::of(areas),
         },
-        slots: KindSlots::of(vec![in alloc; None; MOST_SLOTS]?),
+        slots: KindSlots::of(kinds),
         stack: KindStack::of(Vec::new(alloc)),
     })
 }
@@ -125,6 +127,23 @@ impl DraftBlock {
             depth: 0,
             highest: 0,
         }
+    }
+
+    /// In place of a block that isn't written yet, of whose beginning nothing is known.
+    pub fn unwritten(alloc: Global) -> DraftBlock
+        ensures { BlockBegins result.state result }
+    {
+        DraftBlock::entered(
+            alloc,
+            State {
+                desk: Desk {
+                    selected: 1,
+                    areas: Items::of(Vec::new(alloc)),
+                },
+                slots: KindSlots::of(Vec::new(alloc)),
+                stack: KindStack::of(Vec::new(alloc)),
+            },
+        )
     }
 
     fn push(&mut self, draft: Draft) -> Result<(), AllocError>
@@ -252,13 +271,7 @@ impl DraftBlock {
         let Some(there) = self.labels.get_mut(label) else {
             return Ok(());
         };
-        let there_so_far = match &there.state {
-            Some(seen) => Some(seen.state(self.alloc, MOST_SLOTS)?),
-            None => None,
-        };
-        let state = flown(self.alloc, there_so_far.as_ref(), &self.state)?;
-        there.split = there.split || is_split(there_so_far.as_ref(), &self.state);
-        there.state = Some(state);
+        there.meet(self.alloc, &self.state)?;
         there.jumped = there.jumped || jumped;
         Ok(())
     }
@@ -273,6 +286,14 @@ impl DraftBlock {
             self.flow_to(label, false)?;
         }
         self.push(Draft::Label(four_bytes(label)))?;
+        self.arrive(label)
+    }
+
+    /// What is known at the label is known here. Merge where ways meet there on which different areas are selected.
+    fn arrive(&mut self, label: usize) -> Result<(), CompileError>
+        ensures pieces { self.new.pieces ≡ self.old.pieces }
+        ensures grown { BlockGrows self.old self.new }
+    {
         let Some(there) = self.labels.get(label) else {
             return Ok(());
         };
@@ -286,16 +307,6 @@ impl DraftBlock {
         Ok(())
     }
 
-    /// Whether some way leads to the label so far.
-    pub fn is_met(&self, label: usize) -> bool
-        ensures { result ≡ is_met_at self.now label }
-    {
-        match self.labels.get(label) {
-            Some(label) => label.state.is_some(),
-            None => false,
-        }
-    }
-
     /// Leaves out the pieces and labels behind the first so many, and knows this.
     pub fn cut(&mut self, pieces: usize, labels: usize, state: State)
         ensures pieces { self.new.pieces.items ≡ take pieces self.old.pieces.items }
@@ -304,26 +315,47 @@ impl DraftBlock {
         ensures reached { self.new.reached ≡ true }
         ensures highest { self.new.highest ≡ self.old.highest }
     {
-        self.pieces.truncate(pieces);
-        self.labels.truncate(labels);
         self.state = state;
         self.reached = true;
         self.depth = 0;
+        self.pieces.truncate(pieces);
+        self.labels.truncate(labels);
+    }
+}
+
+impl Label {
+    /// One more way leads there, on which this is known.
+    fn meet(&mut self, alloc: Global, state: &State) -> Result<(), AllocError> {
+        let split = is_split(&self.state, state);
+        self.state = Some(flown(alloc, &self.state, state)?);
+        self.split = self.split || split;
+        Ok(())
     }
 }
 
 /// What is known where this way meets those that are there.
-fn flown(alloc: Global, there: Option<&State>, state: &State) -> Result<Seen, AllocError> {
+fn flown(alloc: Global, there: &Option<Seen>, state: &State) -> Result<Seen, AllocError> {
     match there {
-        Some(there) => Seen::of(alloc, &merged(alloc, there, state)?),
+        Some(seen) => met(alloc, seen, state),
         None => Seen::of(alloc, state),
     }
 }
 
+/// What is known there and on this way.
+fn met(alloc: Global, there: &Seen, state: &State) -> Result<Seen, AllocError> {
+    let there = there.state(alloc, MOST_SLOTS)?;
+    known_on_both(alloc, &there, state)
+}
+
+fn known_on_both(alloc: Global, one: &State, two: &State) -> Result<Seen, AllocError> {
+    let both = merged(alloc, one, two)?;
+    Seen::of(alloc, &both)
+}
+
 /// Whether another work area is selected there.
-fn is_split(there: Option<&State>, state: &State) -> bool {
+fn is_split(there: &Option<Seen>, state: &State) -> bool {
     match there {
-        Some(there) => !is_selection_same(there, state),
+        Some(seen) => !seen.selects(state.desk.selected),
         None => false,
     }
 }

@@ -7,57 +7,71 @@ ghost use Rattle.prg_code.specs.declared.fault.CompileRefusal.TheVariants as ref
 ghost use Rattle.prg_code.specs.Parts.{told_at};
 
 use std::alloc::{AllocError, AllocFailed};
-use thiserror::Error;
+use std::fmt;
 
 /// What is wrong with a command.
-#[derive(Clone, Copy, Debug, PartialEq, Eq, Error)]
+#[derive(Clone, Copy, Debug, PartialEq, Eq)]
 pub enum CompileFaultKind {
     /// A name of no field, variable, table, index or procedure.
-    #[error("Name")]
     Name,
     /// A value of another kind than is taken.
-    #[error("Kind")]
     Kind,
     /// A variable that may have no value.
-    #[error("Unset")]
     Unset,
     /// The work area needed isn't known to be open.
-    #[error("ClosedArea")]
     ClosedArea,
     /// The work area has no such order, or none to seek by.
-    #[error("NoOrder")]
     NoOrder,
     /// The table is or may be open in another work area.
-    #[error("OpenTwice")]
     OpenTwice,
     /// Ways meet on which different work areas are selected.
-    #[error("Merge")]
     Merge,
     /// A filter reads what it may not, or a move meets a filter whose variables aren't known to be set.
-    #[error("Filter")]
     Filter,
     /// A procedure is called that is being run.
-    #[error("Recursion")]
     Recursion,
     /// There are more copies of procedures than a code may have.
-    #[error("Copies")]
     Copies,
     /// The code would have more of something than it may.
-    #[error("Limit")]
     Limit,
     /// Arguments and parameters don't agree in number, or PARAMETERS stands where it may not.
-    #[error("Parameters")]
     Parameters,
     /// A command stands between a GET and its READ, or there is no READ.
-    #[error("Get")]
     Get,
     /// A key or a table isn't that of the declared index.
-    #[error("Index")]
     Index,
 }
 
+impl CompileFaultKind {
+    /// Its name.
+    fn name(self) -> &'static str {
+        match self {
+            CompileFaultKind::Name => "Name",
+            CompileFaultKind::Kind => "Kind",
+            CompileFaultKind::Unset => "Unset",
+            CompileFaultKind::ClosedArea => "ClosedArea",
+            CompileFaultKind::NoOrder => "NoOrder",
+            CompileFaultKind::OpenTwice => "OpenTwice",
+            CompileFaultKind::Merge => "Merge",
+            CompileFaultKind::Filter => "Filter",
+            CompileFaultKind::Recursion => "Recursion",
+            CompileFaultKind::Copies => "Copies",
+            CompileFaultKind::Limit => "Limit",
+            CompileFaultKind::Parameters => "Parameters",
+            CompileFaultKind::Get => "Get",
+            CompileFaultKind::Index => "Index",
+        }
+    }
+}
+
+impl fmt::Display for CompileFaultKind {
+    fn fmt<W: fmt::Write>(&self, f: &mut fmt::Formatter<W>) -> fmt::Result {
+        f.write_str(self.name())
+    }
+}
+
 /// A fault, and where it stands.
-#[derive(Clone, Copy, Debug, PartialEq, Eq)]
+#[derive(Clone, Copy)]
 pub struct CompileFault {
     /// The number of the command file, counted from 0.
     pub file: usize,
@@ -68,7 +82,7 @@ pub struct CompileFault {
 }
 
 /// Why a command isn't compiled.
-#[derive(Clone, Copy, Debug, PartialEq, Eq)]
+#[derive(Clone, Copy)]
 pub enum CompileError {
     /// It is faulty.
     Fault(CompileFaultKind),
@@ -77,7 +91,7 @@ pub enum CompileError {
 }
 
 /// Why there is no code.
-#[derive(Clone, Copy, Debug, PartialEq, Eq)]
+#[derive(Clone, Copy)]
 pub enum CompileRefusal {
     /// A command is faulty.
     Fault(CompileFault),

@@ -18,7 +18,7 @@ mod work;
 pub use block::{BlockPiece, Draft, DraftBlock, Label, MOST_SLOTS, SourceLine};
 pub use fault::{CompileError, CompileFault, CompileFaultKind, CompileRefusal};
 pub use filters::{FilterBlock, Filters, has_unmet_needs};
-pub use laws::ways_merge;
+pub use laws::{states_are_known_again, ways_merge};
 pub use lists::{ListedIndexes, Lists, indexes_opened};
 pub use merging::{is_selection_same, is_state_same, merged};
 pub use names::{Names, Variable, copy_of_name};

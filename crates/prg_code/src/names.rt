@@ -1,9 +1,9 @@
 //! Variables by their names.
 
-ghost use Rattle.std.specs.Prelude.{◌≡◌, [], Some, false, OnOk, OnErr, List, ℕ};
+ghost use Rattle.std.specs.Prelude.{◌≡◌, [], Some, true, false, IfOk, OnOk, OnErr, List, ℕ};
 ghost use Rattle.std.specs.Map.{values_of};
 ghost use Rattle.std.specs.Str.{bytes_eq};
-ghost use Rattle.prg_code.specs.Bindings.{slot_named};
+ghost use Rattle.prg_code.specs.Bindings.{slot_named, as_caller, as_callers, is_left, without_caller, DoNameSame};
 
 use arrayvec::ArrayVec;
 use code_items::Name;
@@ -12,7 +12,7 @@ use std::alloc::{AllocError, Global};
 use std::marker::Model;
 
 /// The variable for which a name stands.
-#[derive(Clone, Copy, Debug, PartialEq, Eq)]
+#[derive(Clone, Copy)]
 pub struct Variable {
     pub slot: u8,
     /// Whether it is a variable or a parameter of the procedure itself, and not one that a caller has.
@@ -82,41 +82,63 @@ impl Names {
     }
 
     /// The same names once more, all as a caller's.
-    pub fn handed_on(&self, alloc: Global) -> Result<Names, AllocError> {
-        let mut names = Names::new(alloc);
-        for (name, variable) in &self.variables {
-            let slot = variable.slot;
-            names.set(name, Variable { slot, own: false })?;
-        }
-        Ok(names)
+    pub fn handed_on(&self) -> Result<Names, AllocError>
+        ensures { IfOk result (λ names. names ≡ as_callers self.now) }
+    {
+        let mut variables = copy_of_variables(&self.variables)?;
+        variables.retain(
+            |_name: &Name, variable: &mut Variable| -> bool
+                ensures { (result ≡ true) × (variable.new ≡ as_caller variable.old) }
+            {
+                variable.own = false;
+                true
+            },
+        );
+        Ok(Names { variables })
     }
 
     /// The same names once more.
-    pub fn copied(&self, alloc: Global) -> Result<Names, AllocError> {
-        let mut names = Names::new(alloc);
-        for (name, variable) in &self.variables {
-            names.set(name, *variable)?;
-        }
-        Ok(names)
+    pub fn copied(&self) -> Result<Names, AllocError>
+        ensures { IfOk result (λ copy. copy ≡ self.now) }
+    {
+        let variables = copy_of_variables(&self.variables)?;
+        Ok(Names { variables })
     }
 
-    /// The names without this one, where it is a caller's.
-    pub fn hiding(&self, alloc: Global, hidden: &Name) -> Result<Names, AllocError> {
-        let mut names = Names::new(alloc);
-        for (name, variable) in &self.variables {
-            if variable.own || name.as_slice() != hidden.as_slice() {
-                names.set(name, *variable)?;
-            }
-        }
-        Ok(names)
+    /// Leaves out this name, where it is a caller's.
+    pub fn hide(&mut self, hidden: &Name)
+        ensures { self.new ≡ without_caller hidden.now.items self.old }
+    {
+        let hidden = copy_of_name(hidden);
+        self.variables.retain(
+            |name: &Name, variable: &mut Variable| -> bool
+                ensures { (result ≡ is_left hidden.items (name.now, variable.old)) × (variable.new ≡ variable.old) }
+            { variable.own || name.as_slice() != hidden.as_slice() },
+        );
     }
 
     /// Whether both name the same variables.
-    pub fn is_same(&self, other: &Names) -> bool {
-        self.variables.len() == other.variables.len()
-            && self
-                .variables
-                .iter()
-                .all(|(name, variable)| other.slot(name) == Some(variable.slot))
+    pub fn is_same(&self, other: &Names) -> bool
+        ensures { result ≡ true → DoNameSame self.now other.now }
+    {
+        if self.variables.len() != other.variables.len() {
+            return false;
+        }
+        for (name, variable) in &self.variables {
+            if other.slot(name) != Some(variable.slot) {
+                return false;
+            }
+        }
+        true
     }
+}
+
+/// The same variables once more.
+fn copy_of_variables(
+    variables: &IndexMap<Name, Variable>,
+) -> Result<IndexMap<Name, Variable>, AllocError>
+    ensures { IfOk result (λ copy. copy.entries ≡ variables.now.entries) }
+{
+    let copy = variables.clone()?;
+    Ok(copy)
 }

@@ -7,6 +7,7 @@ ghost use Rattle.prg_code.specs.declared.fault.CompileRefusal.TheVariants as ref
 
 use crate::block::{Draft, DraftBlock, Label, SourceLine};
 use crate::fault::{CompileError, CompileFaultKind, CompileRefusal};
+use crate::seen::Seen;
 use code_items::{FlowInstr, Instr, Map, ValueInstr};
 use std::alloc::{AllocError, Global};
 
@@ -127,12 +128,29 @@ fn put_return(instrs: &mut Vec<Instr>, own: &[u8]) -> Result<(), AllocError>
 
 /// Leaves out the last map where it is of this place: what is known there flows into the label that stands behind it.
 fn drop_last_at(maps: &mut Vec<Map>, place: u16) {
-    let is_there = match maps.last() {
+    if is_last_at(maps, place) {
+        maps.truncate(maps.len().saturating_sub(1));
+    }
+}
+
+fn is_last_at(maps: &[Map], place: u16) -> bool {
+    match maps.last() {
         Some(last) => last.place == place,
         None => false,
-    };
-    if is_there {
-        let _ = maps.pop();
+    }
+}
+
+/// What is known at a label to which a jump leads.
+fn known_at(block: &DraftBlock, label: u32) -> Option<&Seen> {
+    match block.labels.get(label as usize) {
+        Some(
+            Label {
+                state: Some(seen),
+                jumped: true,
+                ..
+            },
+        ) => Some(seen),
+        _ => None,
     }
 }
 
@@ -144,18 +162,20 @@ fn put_map(
 ) -> Result<(), AllocError>
     ensures { laid.new.instrs ≡ laid.old.instrs }
 {
-    let Some(there) = block.labels.get(label as usize) else {
+    let Some(seen) = known_at(block, label) else {
         return Ok(());
     };
-    if !there.jumped {
-        return Ok(());
-    }
-    if let Some(seen) = &there.state {
-        let place = u16::try_from(laid.instrs.len()).unwrap_or(u16::MAX);
-        let state = seen.state(alloc, laid.slots)?;
-        drop_last_at(&mut laid.maps, place);
-        laid.maps.push(Map { place, state })?;
-    }
+    let place = u16::try_from(laid.instrs.len()).unwrap_or(u16::MAX);
+    drop_last_at(&mut laid.maps, place);
+    let state = seen.state(alloc, laid.slots)?;
+    laid.maps.push(Map { place, state })?;
+    Ok(())
+}
+
+fn put_instr(laid: &mut LaidOut, instr: Instr) -> Result<(), AllocError>
+    ensures { Grows laid.old.instrs.items laid.new.instrs.items }
+{
+    laid.instrs.push(instr)?;
     Ok(())
 }
 
@@ -170,17 +190,34 @@ fn put(
     ensures { Grows laid.old.instrs.items laid.new.instrs.items }
 {
     match draft {
-        Draft::Instr(instr) => laid.instrs.push(instr)?,
+        Draft::Instr(instr) => put_instr(laid, instr),
         Draft::Jump(label) => {
-            laid.instrs
-                .push(Instr::Flow(FlowInstr::Jump(target(places, label))))?;
+            put_instr(laid, Instr::Flow(FlowInstr::Jump(target(places, label))))
         }
-        Draft::JumpFalse(label) => {
-            laid.instrs
-                .push(Instr::Flow(FlowInstr::JumpFalse(target(places, label))))?;
-        }
-        Draft::Label(label) => put_map(alloc, laid, block, label)?,
-        Draft::Return => put_return(&mut laid.instrs, own)?,
+        Draft::JumpFalse(label) => put_instr(
+            laid,
+            Instr::Flow(FlowInstr::JumpFalse(target(places, label))),
+        ),
+        Draft::Label(label) => put_map(alloc, laid, block, label),
+        Draft::Return => put_return(&mut laid.instrs, own),
+    }
+}
+
+/// Puts the pieces of the block, whose labels have these places.
+fn lay_pieces(
+    alloc: Global,
+    laid: &mut LaidOut,
+    block: &DraftBlock,
+    places: &[usize],
+    own: &[u8],
+    file: usize,
+) -> Result<(), CompileRefusal>
+    ensures { Grows laid.old.instrs.items laid.new.instrs.items }
+{
+    for piece in &block.pieces {
+        put(alloc, laid, block, places, own, piece.draft)?;
+        let line = piece.line();
+        laid.fits(SourceLine { file, line })?;
     }
     Ok(())
 }
@@ -198,10 +235,5 @@ pub fn lay(
     ensures { Grows laid.old.instrs.items laid.new.instrs.items }
 {
     let places = places(alloc, block, own.len(), laid.instrs.len())?;
-    for piece in &block.pieces {
-        put(alloc, laid, block, &places, own, piece.draft)?;
-        let line = piece.line();
-        laid.fits(SourceLine { file, line })?;
-    }
-    Ok(())
+    lay_pieces(alloc, laid, block, &places, own, file)
 }

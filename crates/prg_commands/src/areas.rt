@@ -232,9 +232,8 @@ fn filter_code(
         ..scope_of(shape, work)
     };
     let kind = kind_of(&scope, e)?;
-    let code = compile_expr(work.alloc, e, &scope, &mut out.pool)?;
     demand(kind, Kind::Logical)?;
-    Ok(code)
+    Ok(compile_expr(work.alloc, e, &scope, &mut out.pool)?)
 }
 
 /// The number of the filter whose block is the condition.
@@ -248,17 +247,30 @@ fn filter_number(
     ensures { OutputGrows out.old out.new }
 {
     let block = filter_code(shape, out, work, e)?;
-    let height = height(&block);
+    note_height(out, &block)?;
+    let filter = filter_of(work, table, block)?;
+    Ok(out.filters.number(filter)? + 1)
+}
+
+/// Remembers how high the stack is in the block. Limit where that is too high.
+fn note_height(out: &mut Output, block: &[Instr]) -> Result<(), CompileError>
+    ensures { OutputGrows out.old out.new }
+{
+    let height = height(block);
     if height > MOST_VALUES {
         return Err(CompileError::Fault(CompileFaultKind::Limit));
     }
     out.highest = out.highest.max(height);
-    let needs = needs_of(work, &block)?;
+    Ok(())
+}
+
+/// The filter of this table with this block.
+fn filter_of(work: &Work, table: u16, block: Vec<Instr>) -> Result<FilterBlock, CompileError> {
     let Ok(table) = u8::try_from(table) else {
         return Err(CompileError::Fault(CompileFaultKind::Limit));
     };
-    let filter = FilterBlock::new(table, needs, block, work.source_line());
-    Ok(out.filters.number(filter)? + 1)
+    let needs = needs_of(work, &block)?;
+    Ok(FilterBlock::new(table, needs, block, work.source_line()))
 }
 
 /// `SET FILTER TO [condition]`.

@@ -146,7 +146,14 @@ pub fn read(shape: &Shape, work: &mut Work) -> Result<(), CompileError>
     ensures { WorkGrows work.old work.new }
 {
     let gets = std::mem::replace(&mut work.gets, Vec::new(work.alloc));
-    for get in &gets {
+    read_all(shape, work, &gets)
+}
+
+/// Takes a line for each GET.
+fn read_all(shape: &Shape, work: &mut Work, gets: &[Get]) -> Result<(), CompileError>
+    ensures { WorkGrows work.old work.new }
+{
+    for get in gets {
         read_one(shape, work, &get.variable)?;
     }
     Ok(())

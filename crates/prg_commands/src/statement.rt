@@ -113,7 +113,10 @@ fn put_command(
         Statement::Assign { variable, value } => assign(shape, out, work, variable, value),
         Statement::Store { value, variables } => store(shape, out, work, value, variables),
         Statement::Release { variables } => release(work, variables),
-        Statement::Private { variables } => hide(work, variables),
+        Statement::Private { variables } => {
+            hide(work, variables);
+            Ok(())
+        }
         Statement::Set { setting, on } => set(out, work, *setting, *on),
         Statement::Parameters { .. } => Err(CompileError::Fault(CompileFaultKind::Parameters)),
         Statement::Close => put_area(work, AreaInstr::Close),

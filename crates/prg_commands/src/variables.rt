@@ -127,17 +127,16 @@ pub fn release(work: &mut Work, names: &[Name]) -> Result<(), CompileError>
 }
 
 /// `PRIVATE variables`: the caller's variables of these names aren't seen from here on.
-pub fn hide(work: &mut Work, names: &[Name]) -> Result<(), CompileError>
+pub fn hide(work: &mut Work, names: &[Name])
     ensures none { work.new.block ≡ work.old.block }
     ensures grown { WorkGrows work.old work.new }
 {
     if work.is_main {
-        return Ok(());
+        return;
     }
     for name in names {
-        work.names = work.names.hiding(work.alloc, name)?;
+        work.names.hide(name);
     }
-    Ok(())
 }
 
 /// The slot of an argument that is handed over by reference: a name alone that is no field, or one behind `M->`. None

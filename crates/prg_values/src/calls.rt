@@ -14,7 +14,7 @@ use prg_expr::Function;
 use xvalue::{Fun, Kind};
 
 /// What a function by name does.
-#[derive(Clone, Copy, Debug, PartialEq, Eq)]
+#[derive(Clone, Copy)]
 pub enum Called {
     /// A function of its arguments.
     Function(Fun),

@@ -7,7 +7,7 @@ use prg_expr::{BinaryOperator, Prefix};
 use xvalue::{Fun, Kind};
 
 /// What an operator does: the function, whether its truth value is turned, and whether the right operand comes first.
-#[derive(Clone, Copy, Debug, PartialEq, Eq)]
+#[derive(Clone, Copy)]
 pub struct OperatorMeaning {
     pub fun: Fun,
     pub negated: bool,

@@ -24,14 +24,14 @@ pub struct Scope<'a> {
 }
 
 /// A name: the instruction that reads it, and its kind.
-#[derive(Clone, Copy, Debug, PartialEq, Eq)]
+#[derive(Clone, Copy)]
 pub struct Reading {
     pub instr: Instr,
     pub kind: Kind,
 }
 
 /// A field by its number, counted from 0, and its kind.
-#[derive(Clone, Copy, Debug, PartialEq, Eq)]
+#[derive(Clone, Copy)]
 pub struct FieldPlace {
     pub number: u16,
     pub kind: Kind,

@@ -2,11 +2,12 @@
 
 ghost use Rattle.std.specs.Prelude.{◌≡◌, IfOk};
 
+use crate::shapes::copy_of_shape;
 use crate::writer::ProcedureCopy;
 use arrayvec::ArrayVec;
 use code_items::{
-    AreaState, Code, Declared, Desk, Filter, IndexList, Items, KindSlots, KindStack, Map, Proc,
-    Shape, State, Version,
+    AreaState, Code, Declared, Filter, IndexList, Items, KindSlots, KindStack, Map, Proc, Shape,
+    State, Version,
 };
 use prg_code::{
     CompileError, CompileFaultKind, CompileRefusal, Constant, FilterBlock, LaidOut, ListedIndexes,
@@ -21,12 +22,11 @@ fn first_kinds(kinds: &[Option<Kind>], slots: usize) -> &[Option<Kind>] {
 
 /// The same state, with so many slots and an empty stack.
 fn trimmed(alloc: Global, state: &State, slots: usize) -> Result<State, AllocError> {
+    let kinds = Vec::from_slice(alloc, first_kinds(state.slots.kinds(), slots))?;
+    let desk = state.desk.copied(alloc)?;
     Ok(State {
-        desk: Desk {
-            selected: state.desk.selected,
-            areas: Items::of(Vec::from_slice(alloc, state.desk.areas.as_slice())?),
-        },
-        slots: KindSlots::of(Vec::from_slice(alloc, first_kinds(state.slots.kinds(), slots))?),
+        desk,
+        slots: KindSlots::of(kinds),
         stack: KindStack::of(Vec::new(alloc)),
     })
 }
@@ -46,37 +46,40 @@ fn exit_of(copy: &ProcedureCopy) -> &State {
     }
 }
 
-/// Lays the copy's block behind what is laid out, and gives the procedure.
+/// Lays the copy's block behind what is laid out, and adds its procedure.
 fn lay_copy(
     alloc: Global,
     laid: &mut LaidOut,
+    procedures: &mut Vec<Proc>,
     copy: &ProcedureCopy,
     slots: usize,
-) -> Result<Proc, CompileRefusal> {
+) -> Result<(), CompileRefusal> {
     let first = laid.instrs.len();
     lay(alloc, laid, &copy.block, &copy.own, copy.target.file)?;
-    let length = laid.instrs.len().saturating_sub(first);
-    Ok(Proc {
-        length: two_bytes(length)?,
+    let length = two_bytes(laid.instrs.len().saturating_sub(first))?;
+    let entry = trimmed(alloc, &copy.entry, slots)?;
+    let exit = trimmed(alloc, exit_of(copy), slots)?;
+    procedures.push(Proc {
+        length,
         level: copy.level,
-        entry: trimmed(alloc, &copy.entry, slots)?,
-        exit: trimmed(alloc, exit_of(copy), slots)?,
-    })
+        entry,
+        exit,
+    })?;
+    Ok(())
 }
 
-/// The procedures of the copies, each of which is freed once it is laid out.
+/// Adds the procedures of the copies, each of which is freed once it is laid out.
 fn lay_copies(
     alloc: Global,
     laid: &mut LaidOut,
+    procedures: &mut Vec<Proc>,
     copies: Vec<ProcedureCopy>,
     slots: usize,
-) -> Result<Vec<Proc>, CompileRefusal> {
-    let mut procedures = Vec::with_capacity(alloc, copies.len())?;
+) -> Result<(), CompileRefusal> {
     for copy in copies {
-        let procedure = lay_copy(alloc, laid, &copy, slots)?;
-        procedures.push(procedure)?;
+        lay_copy(alloc, laid, procedures, &copy, slots)?;
     }
-    Ok(procedures)
+    Ok(())
 }
 
 /// Nothing yet of a code with so many slots, with room for the copies and the filters.
@@ -99,22 +102,34 @@ fn begun(
     LaidOut::new(alloc, slots, instrs, maps)
 }
 
+/// Lays the filter's block behind what is laid out, and adds it.
+fn lay_filter(
+    alloc: Global,
+    laid: &mut LaidOut,
+    filters: &mut Vec<Filter>,
+    filter: &FilterBlock,
+) -> Result<(), CompileRefusal> {
+    laid.instrs.extend_from_slice(&filter.block)?;
+    laid.fits(filter.at)?;
+    let length = two_bytes(filter.block.len())?;
+    filters.push(Filter {
+        table: filter.table,
+        length,
+        needs: Items::of(Vec::from_slice(alloc, &filter.needs)?),
+    })?;
+    Ok(())
+}
+
 fn lay_filters(
     alloc: Global,
     laid: &mut LaidOut,
+    filters: &mut Vec<Filter>,
     blocks: &[FilterBlock],
-) -> Result<Vec<Filter>, CompileRefusal> {
-    let mut filters = Vec::new(alloc);
+) -> Result<(), CompileRefusal> {
     for filter in blocks {
-        laid.instrs.extend_from_slice(&filter.block)?;
-        laid.fits(filter.at)?;
-        filters.push(Filter {
-            table: filter.table,
-            length: two_bytes(filter.block.len())?,
-            needs: Items::of(Vec::from_slice(alloc, &filter.needs)?),
-        })?;
+        lay_filter(alloc, laid, filters, filter)?;
     }
-    Ok(filters)
+    Ok(())
 }
 
 fn copies_of_constants(alloc: Global, constants: &[Constant]) -> Result<Vec<Value>, AllocError>
@@ -176,6 +191,99 @@ fn bound_of(highest: usize, copies: &[ProcedureCopy]) -> usize {
     bound
 }
 
+/// What a code declares.
+fn declared_of(
+    alloc: Global,
+    version: Version,
+    bound: usize,
+    shape: &Shape,
+    out: &Output,
+    filters: Vec<Filter>,
+) -> Result<Declared, CompileRefusal>
+    ensures { IfOk result (λ declared. declared.shape ≡ shape.now) }
+{
+    let stack_bound = two_bytes(bound)?;
+    let lists = copies_of_lists(alloc, out.lists.as_slice())?;
+    let constants = copies_of_constants(alloc, out.pool.as_slice())?;
+    let shape = copy_of_shape(alloc, shape)?;
+    Ok(Declared {
+        version,
+        stack_bound,
+        slots: out.slots,
+        shape,
+        lists: Items::of(lists),
+        constants: Items::of(constants),
+        filters: Items::of(filters),
+    })
+}
+
+/// What is laid out of a code.
+#[derive(Drop)]
+struct Parts {
+    laid: LaidOut,
+    procedures: Vec<Proc>,
+    filters: Vec<Filter>,
+}
+
+/// Nothing yet, with room for the copies and the filters.
+fn no_parts(alloc: Global, out: &Output, copies: &[ProcedureCopy]) -> Result<Parts, AllocError> {
+    let laid = begun(
+        alloc,
+        copies,
+        out.filters.as_slice(),
+        usize::from(out.slots),
+    )?;
+    let procedures = Vec::with_capacity(alloc, copies.len())?;
+    Ok(Parts {
+        laid,
+        procedures,
+        filters: Vec::new(alloc),
+    })
+}
+
+/// Lays out the copies, and behind them the filters.
+fn lay_all(
+    alloc: Global,
+    parts: &mut Parts,
+    out: &Output,
+    copies: Vec<ProcedureCopy>,
+) -> Result<(), CompileRefusal> {
+    let slots = usize::from(out.slots);
+    lay_copies(alloc, &mut parts.laid, &mut parts.procedures, copies, slots)?;
+    lay_filters(
+        alloc,
+        &mut parts.laid,
+        &mut parts.filters,
+        out.filters.as_slice(),
+    )
+}
+
+/// The code of what is laid out.
+fn code_of(
+    alloc: Global,
+    bound: usize,
+    shape: &Shape,
+    out: &Output,
+    parts: Parts,
+) -> Result<Code, CompileRefusal>
+    ensures { IfOk result (λ code. code.declared.shape ≡ shape.now) }
+{
+    let Parts {
+        laid,
+        procedures,
+        filters,
+    } = parts;
+    let version = version_of(out.century, &procedures, &laid.maps);
+    let declared = declared_of(alloc, version, bound, shape, out, filters)?;
+    let LaidOut { instrs, maps, .. } = laid;
+    Ok(Code {
+        declared,
+        procedures: Items::of(procedures),
+        maps: Items::of(maps),
+        instructions: Items::of(instrs),
+    })
+}
+
 /// The code of the copies and of what they have in common.
 ///
 /// # Errors
@@ -183,30 +291,14 @@ fn bound_of(highest: usize, copies: &[ProcedureCopy]) -> usize {
 /// Limit in the line of the first command whose code has no room. Want of memory.
 pub fn assemble(
     alloc: Global,
-    shape: Shape,
-    out: Output,
+    shape: &Shape,
+    out: &Output,
     copies: Vec<ProcedureCopy>,
 ) -> Result<Code, CompileRefusal>
-    ensures { IfOk result (λ code. code.declared.shape ≡ shape) }
+    ensures { IfOk result (λ code. code.declared.shape ≡ shape.now) }
 {
-    let slots = usize::from(out.slots);
     let bound = bound_of(out.highest, &copies);
-    let mut laid = begun(alloc, &copies, out.filters.as_slice(), slots)?;
-    let procedures = lay_copies(alloc, &mut laid, copies, slots)?;
-    let filters = lay_filters(alloc, &mut laid, out.filters.as_slice())?;
-    let LaidOut { instrs, maps, .. } = laid;
-    Ok(Code {
-        declared: Declared {
-            version: version_of(out.century, &procedures, &maps),
-            stack_bound: two_bytes(bound)?,
-            slots: out.slots,
-            shape,
-            lists: Items::of(copies_of_lists(alloc, out.lists.as_slice())?),
-            constants: Items::of(copies_of_constants(alloc, out.pool.as_slice())?),
-            filters: Items::of(filters),
-        },
-        procedures: Items::of(procedures),
-        maps: Items::of(maps),
-        instructions: Items::of(instrs),
-    })
+    let mut parts = no_parts(alloc, out, &copies)?;
+    lay_all(alloc, &mut parts, out, copies)?;
+    code_of(alloc, bound, shape, out, parts)
 }

@@ -3,6 +3,9 @@
 //! A loop within another one is compiled again with each of its rounds. What held at its head once holds again, as far
 //! as nothing more is known where it begins; so it need not be found a second time.
 
+ghost use Rattle.std.specs.Prelude.{◌≡◌, IfOk};
+ghost use Rattle.prg_writer.specs.Writing.{IsKnownAtHead};
+
 use crate::writer::{Writer, WrittenMark};
 use code_items::State;
 use prg_code::{Names, merged};
@@ -45,29 +48,31 @@ fn found<'a>(w: &'a Writer, line: usize) -> Option<&'a LoopHead> {
 impl Writer {
     /// What is known at the head of the loop that begins in this line: what is known here, without what an earlier
     /// round lost.
-    pub fn known_at_head(&self, line: usize) -> Result<State, AllocError> {
+    pub fn known_at_head(&self, line: usize) -> Result<State, AllocError>
+        ensures { IfOk result (IsKnownAtHead self.now.work.block.state) }
+    {
         match found(self, line) {
             Some(head) => merged(self.alloc, &self.work.block.state, &head.head),
             None => self.work.block.state.copied(self.alloc),
         }
     }
 
-    /// Remembers what held at the head of a loop that began at the mark, if that took more than one round.
+    /// Remembers what held at the head of a loop that began at the mark, where this was known.
     pub fn remember(
         &mut self,
         line: usize,
-        mark: &WrittenMark,
+        mark: WrittenMark,
         entry: State,
-        head: Option<State>,
-    ) -> Result<(), AllocError> {
-        let Some(head) = head else {
-            return Ok(());
-        };
-        let names = mark.names.copied(self.alloc)?;
+        head: State,
+    ) -> Result<(), AllocError>
+        // Nothing is written.
+        ensures { self.new ≡ record self.old { heads = self.new.heads } }
+    {
+        let WrittenMark { slots, names, .. } = mark;
         self.heads.push(LoopHead {
             file: self.work.file,
             line,
-            slots: mark.slots,
+            slots,
             names,
             entry,
             head,

@@ -4,6 +4,7 @@
 mod assembling;
 mod fault_list;
 mod heads;
+mod laws;
 mod procedures;
 mod shapes;
 mod writer;
@@ -11,6 +12,7 @@ mod writer;
 pub use assembling::assemble;
 pub use fault_list::FaultList;
 pub use heads::LoopHead;
+pub use laws::rounds_are_given_up;
 pub use procedures::NamedProcedures;
 pub use shapes::copy_of_shape;
 pub use writer::{

@@ -1,43 +1,76 @@
 //! Procedures by their names.
 
-use crate::writer::Target;
-use prg_code::copy_of_name;
-use prg_parser::{Name, Program};
-use std::alloc::{AllocError, Global};
-use std::collections::BTreeMap;
+ghost use Rattle.std.specs.Prelude.{◌≡◌, [], IfOk, OnOk};
+ghost use Rattle.prg_writer.specs.Targets.{target_named, with_target, targets_of_file, targets_of_files};
 
-/// The first procedure of each name in the command files, in their order.
+use crate::writer::Target;
+use indexmap::IndexMap;
+use prg_code::copy_of_name;
+use prg_parser::{Name, Procedure, Program};
+use std::alloc::{AllocError, Global};
+use std::marker::Model;
+
+/// The first procedure of each name in the command files, in their order; seen as their list.
 #[derive(Drop)]
 pub struct NamedProcedures {
-    first: BTreeMap<Name, Target>,
+    first: IndexMap<Name, Target>,
+}
+
+impl Model for NamedProcedures {
+    ghost use Rattle.prg_writer.specs.Targets.{NamedTargets};
+
+    ghost Value = { NamedTargets };
+
+    ghost view = { λ procedures. procedures.first.entries };
 }
 
 impl NamedProcedures {
     /// Those of these files.
-    pub fn of(alloc: Global, programs: &[Program]) -> Result<NamedProcedures, AllocError> {
+    pub fn of(alloc: Global, programs: &[Program]) -> Result<NamedProcedures, AllocError>
+        ensures { IfOk result (λ procedures. procedures ≡ targets_of_files 0 programs.now []) }
+    {
         let mut procedures = NamedProcedures {
-            first: BTreeMap::new(alloc),
+            first: IndexMap::new(alloc),
         };
-        for (file, program) in programs.iter().enumerate() {
-            procedures.add(file, program)?;
-        }
+        procedures.add_files(programs)?;
         Ok(procedures)
     }
 
+    fn add_files(&mut self, programs: &[Program]) -> Result<(), AllocError>
+        ensures { OnOk result (self.new ≡ targets_of_files 0 programs.now self.old) }
+    {
+        let mut file = 0usize;
+        let mut rest = programs;
+        while let Some((program, others)) = rest.split_first() {
+            self.add_file(file, program.procedures.as_slice())?;
+            file += 1;
+            rest = others;
+        }
+        Ok(())
+    }
+
     /// Adds those of this file.
-    fn add(&mut self, file: usize, program: &Program) -> Result<(), AllocError> {
-        for (number, procedure) in program.procedures.iter().enumerate() {
-            let procedure_there = Target {
+    fn add_file(&mut self, file: usize, procedures: &[Procedure]) -> Result<(), AllocError>
+        ensures { OnOk result (self.new ≡ targets_of_file file 0 procedures.now self.old) }
+    {
+        let mut number = 0usize;
+        let mut rest = procedures;
+        while let Some((procedure, others)) = rest.split_first() {
+            let target = Target {
                 file,
                 procedure: Some(number),
             };
-            self.add_one(&procedure.name, procedure_there)?;
+            self.add(&procedure.name, target)?;
+            number += 1;
+            rest = others;
         }
         Ok(())
     }
 
     /// Adds a procedure, unless one of its name is there.
-    fn add_one(&mut self, name: &Name, target: Target) -> Result<(), AllocError> {
+    fn add(&mut self, name: &Name, target: Target) -> Result<(), AllocError>
+        ensures { OnOk result (self.new ≡ with_target name.now target self.old) }
+    {
         if self.first.contains_key(name) {
             return Ok(());
         }
@@ -46,7 +79,12 @@ impl NamedProcedures {
     }
 
     /// The procedure of this name, if there is one.
-    pub fn named(&self, name: &Name) -> Option<Target> {
-        self.first.get(name).copied()
+    pub fn named(&self, name: &Name) -> Option<Target>
+        ensures { result ≡ target_named name.now.items self.now }
+    {
+        match self.first.get(name) {
+            Some(target) => Some(*target),
+            None => None,
+        }
     }
 }

@@ -1,10 +1,20 @@
 //! The copies of procedures that are written, and what a round of a loop is given up to.
 
+ghost use Rattle.std.specs.Prelude.{◌≡◌, [], ◌∷◌, ◌++◌, None, Ok, Err, false, is_some};
+ghost use Rattle.std.specs.Prelude.{IfOk, IfErr, IfSome, OnOk, MatchResult};
+ghost use Rattle.prg_code.specs.Parts.{told_at};
+ghost use Rattle.prg_code.specs.declared.fault.CompileError.TheVariants as error;
+ghost use Rattle.prg_code.specs.declared.fault.CompileRefusal.TheVariants as refusal;
+ghost use Rattle.prg_writer.specs.Writing.{commands_in, IsLineBehind, AreParameters};
+ghost use Rattle.prg_writer.specs.Writing.{IsMark, IsBegun, IsBackAt, IsOpened};
+
 use crate::fault_list::FaultList;
 use crate::heads::LoopHead;
 use crate::procedures::NamedProcedures;
 use code_items::State;
-use prg_code::{CompileError, CompileFaultKind, CompileRefusal, DraftBlock, Names, Output, Work};
+use prg_code::{
+    CompileError, CompileFault, CompileFaultKind, CompileRefusal, DraftBlock, Names, Output, Work,
+};
 use prg_line::Statement;
 use prg_parser::{Command, Form, Program};
 use shape::Shape;
@@ -20,7 +30,7 @@ pub struct Source<'a> {
 
 /// A procedure by the number of its command file, and by its own number there, each from 0; or the part of the file
 /// before its first PROCEDURE.
-#[derive(Clone, Copy, Debug, PartialEq, Eq)]
+#[derive(Clone, Copy, PartialEq, Eq)]
 pub struct Target {
     pub file: usize,
     pub procedure: Option<usize>,
@@ -87,7 +97,10 @@ pub struct WrittenMark {
     exit: Option<State>,
 }
 
-pub fn copy_of_state(alloc: Global, state: &Option<State>) -> Result<Option<State>, AllocError> {
+/// The same once more.
+pub fn copy_of_state(alloc: Global, state: &Option<State>) -> Result<Option<State>, AllocError>
+    ensures { IfOk result (λ copy. copy ≡ state.now) }
+{
     match state {
         Some(state) => Ok(Some(state.copied(alloc)?)),
         None => Ok(None),
@@ -96,7 +109,9 @@ pub fn copy_of_state(alloc: Global, state: &Option<State>) -> Result<Option<Stat
 
 impl Source<'_> {
     /// The commands of a procedure; none where it isn't there.
-    pub fn commands(&self, target: Target) -> &[Command] {
+    pub fn commands(&self, target: Target) -> &[Command]
+        ensures { result.now ≡ commands_in self.now.programs.now target }
+    {
         match self.programs.get(target.file) {
             Some(program) => match target.procedure {
                 Some(number) => match program.procedures.get(number) {
@@ -110,7 +125,9 @@ impl Source<'_> {
     }
 
     /// The line of a procedure's last command; of one without commands, that of its PROCEDURE, or the file's first.
-    pub fn last_line(&self, target: Target) -> usize {
+    pub fn last_line(&self, target: Target) -> usize
+        ensures { IsLineBehind (commands_in self.now.programs.now target) result }
+    {
         if let Some(command) = self.commands(target).last() {
             return command.line;
         }
@@ -128,7 +145,9 @@ impl Source<'_> {
 }
 
 /// The parameters that a procedure's first command names, and the commands behind it.
-pub fn parameters(commands: &[Command]) -> (&[prg_parser::Name], &[Command]) {
+pub fn parameters(commands: &[Command]) -> (&[prg_parser::Name], &[Command])
+    ensures { AreParameters commands.now result.0.now result.1.now }
+{
     match commands.split_first() {
         Some((first, others)) => match &first.form {
             Form::Statement(Statement::Parameters { variables }) => (variables.as_slice(), others),
@@ -140,7 +159,9 @@ pub fn parameters(commands: &[Command]) -> (&[prg_parser::Name], &[Command]) {
 
 impl Writer {
     /// How much is written.
-    pub fn mark(&self) -> Result<WrittenMark, AllocError> {
+    pub fn mark(&self) -> Result<WrittenMark, AllocError>
+        ensures { IfOk result (IsMark self.now) }
+    {
         Ok(WrittenMark {
             pieces: self.work.block.pieces.len(),
             labels: self.work.block.labels.len(),
@@ -152,13 +173,16 @@ impl Writer {
             copies: self.copies.len(),
             own: self.work.own.len(),
             level: self.work.level,
-            names: self.work.names.copied(self.alloc)?,
+            names: self.work.names.copied()?,
             exit: copy_of_state(self.alloc, &self.work.exit)?,
         })
     }
 
     /// Gives up what was written since, and goes on with what is known now.
-    pub fn give_up(&mut self, mark: &WrittenMark, state: State) -> Result<(), AllocError> {
+    pub fn give_up(&mut self, mark: &WrittenMark, known: &State) -> Result<(), AllocError>
+        ensures { OnOk result (IsBackAt mark.now known.now self.old self.new) }
+    {
+        let state = known.copied(self.alloc)?;
         self.work.block.cut(mark.pieces, mark.labels, state);
         self.out.pool.cut(mark.constants);
         self.out.lists.cut(mark.lists);
@@ -168,18 +192,22 @@ impl Writer {
         self.copies.truncate(mark.copies);
         self.work.own.truncate(mark.own);
         self.work.level = mark.level;
-        self.work.names = mark.names.copied(self.alloc)?;
+        self.work.names = mark.names.copied()?;
         self.work.exit = copy_of_state(self.alloc, &mark.exit)?;
         Ok(())
     }
 
     /// The refusal of a command in this line.
-    pub fn refused(&self, line: usize, error: CompileError) -> CompileRefusal {
+    pub fn refused(&self, line: usize, error: CompileError) -> CompileRefusal
+        ensures { result ≡ told_at error self.now.work.file line }
+    {
         error.at(self.work.file, line)
     }
 
     /// The refusal of a faulty command in this line.
-    pub fn faulty(&self, line: usize, kind: CompileFaultKind) -> CompileRefusal {
+    pub fn faulty(&self, line: usize, kind: CompileFaultKind) -> CompileRefusal
+        ensures { result ≡ told_at (error.Fault kind) self.now.work.file line }
+    {
         CompileError::Fault(kind).at(self.work.file, line)
     }
 
@@ -188,7 +216,10 @@ impl Writer {
         &self,
         line: usize,
         outcome: Result<T, CompileError>,
-    ) -> Result<T, CompileRefusal> {
+    ) -> Result<T, CompileRefusal>
+        ensures { MatchResult outcome (λ answer. result ≡ Ok answer)
+            (λ e. result ≡ Err (told_at e self.now.work.file line)) }
+    {
         match outcome {
             Ok(answer) => Ok(answer),
             Err(error) => Err(self.refused(line, error)),
@@ -196,23 +227,37 @@ impl Writer {
     }
 
     /// What stands before a command, where faults are listed.
-    pub fn begun(&self) -> Result<Option<Begun>, AllocError> {
+    pub fn begun(&self) -> Result<Option<Begun>, AllocError>
+        ensures there { IfOk result (λ begun. is_some begun ≡ is_some self.now.listed) }
+        ensures begun { IfOk result (λ begun. IfSome begun (IsBegun self.now)) }
+    {
         if self.listed.is_none() {
             return Ok(None);
         }
-        Ok(Some(Begun {
-            mark: self.mark()?,
-            state: self.work.block.state.copied(self.alloc)?,
-            gets: self.work.gets.len(),
-        }))
+        let gets = self.work.gets.len();
+        let state = self.work.block.state.copied(self.alloc)?;
+        let mark = self.mark()?;
+        Ok(Some(Begun { mark, state, gets }))
     }
 
     /// Lists the fault, where faults are listed, and goes on; else it is the refusal.
-    pub fn passed(&mut self, outcome: Result<(), CompileRefusal>) -> Result<(), CompileRefusal> {
-        let fault = match outcome {
-            Err(CompileRefusal::Fault(fault)) => fault,
-            outcome => return outcome,
-        };
+    pub fn passed(&mut self, outcome: Result<(), CompileRefusal>) -> Result<(), CompileRefusal>
+        ensures ok { OnOk outcome (result ≡ outcome) }
+        ensures told { self.old.listed ≡ None → result ≡ outcome }
+        // Nothing is written.
+        ensures same { self.new ≡ record self.old { listed = self.new.listed } }
+    {
+        match outcome {
+            Ok(()) => Ok(()),
+            Err(CompileRefusal::NoMemory) => Err(CompileRefusal::NoMemory),
+            Err(CompileRefusal::Fault(fault)) => self.list(fault),
+        }
+    }
+
+    fn list(&mut self, fault: CompileFault) -> Result<(), CompileRefusal>
+        ensures told { self.old.listed ≡ None → result ≡ Err (refusal.Fault fault) }
+        ensures same { self.new ≡ record self.old { listed = self.new.listed } }
+    {
         match &mut self.listed {
             Some(list) => Ok(list.note(fault)?),
             None => Err(CompileRefusal::Fault(fault)),
@@ -223,22 +268,69 @@ impl Writer {
     /// begun; else the fault is the refusal. Gives whether the command was given up.
     pub fn gave_up(
         &mut self,
-        begun: Option<Begun>,
+        begun: &Option<Begun>,
         outcome: Result<(), CompileRefusal>,
-    ) -> Result<bool, CompileRefusal> {
+    ) -> Result<bool, CompileRefusal>
+        ensures ok { OnOk outcome ((result ≡ Ok false) × (self.new ≡ self.old)) }
+        ensures told { self.old.listed ≡ None → IfErr outcome (λ e. result ≡ Err e) }
+    {
         if outcome.is_ok() {
             return Ok(false);
         }
         self.passed(outcome)?;
-        if let Some(Begun { mark, state, gets }) = begun {
-            self.give_up(&mark, state)?;
-            self.work.gets.truncate(gets);
+        if let Some(begun) = begun {
+            self.give_up(&begun.mark, &begun.state)?;
+            self.work.gets.truncate(begun.gets);
         }
         Ok(true)
     }
 
+    /// Begins a copy of which nothing is written yet, with these names and what is known here.
+    pub fn open_copy(&mut self, target: Target, names: Names) -> Result<(), AllocError>
+        ensures active { OnOk result (self.new.active.items ≡ self.old.active.items ++ target ∷ []) }
+        ensures opened { OnOk result (IsOpened target names self.old.work.block.state
+            self.old.copies.items self.new.copies.items) }
+        ensures same { self.new ≡ record self.old { copies = self.new.copies; active = self.new.active } }
+    {
+        let entry = self.work.block.state.copied(self.alloc)?;
+        self.copies.push(ProcedureCopy {
+            target,
+            names,
+            entry,
+            exit: None,
+            level: 0,
+            own: Vec::new(self.alloc),
+            block: DraftBlock::unwritten(self.alloc),
+            done: false,
+        })?;
+        self.active.push(target)?;
+        Ok(())
+    }
+
+    /// Nothing yet but this copy, of which nothing is written.
+    pub fn new(alloc: Global, work: Work, procedures: NamedProcedures) -> Writer
+        ensures work { result.work ≡ work }
+        ensures copies { result.copies.items ≡ [] }
+        ensures active { result.active.items ≡ [] }
+        ensures listed { result.listed ≡ None }
+    {
+        Writer {
+            alloc,
+            out: Output::new(alloc),
+            work,
+            copies: Vec::new(alloc),
+            procedures,
+            active: Vec::new(alloc),
+            heads: Vec::new(alloc),
+            listed: None,
+        }
+    }
+
     /// Goes on with another copy, and gives the one that was being written.
-    pub fn begin(&mut self, work: Work) -> Work {
+    pub fn begin(&mut self, work: Work) -> Work
+        ensures given { result ≡ self.old.work }
+        ensures goes_on { self.new ≡ record self.old { work = work } }
+    {
         mem::replace(&mut self.work, work)
     }
 }
