@@ -1,5 +1,9 @@
 //! Calls of procedures, and the copies that are written for them.
 
+ghost use Rattle.std.specs.Prelude.{◌≡◌, length, IfOk, OnOk};
+ghost use Rattle.prg_code.specs.Growth.{BlockBegins};
+ghost use Rattle.prg_control.specs.Naming.{SeesParameters};
+
 use crate::body::{Behind, Body};
 use crate::ends::end_procedure;
 use code_items::{FlowInstr, Instr, Name, State, ValueInstr};
@@ -118,13 +122,29 @@ fn hand_all_over(s: &Source, w: &mut Writer, es: &[Expr]) -> Result<Handed, Comp
 }
 
 /// The variables that the called procedure sees: the caller's, and its parameters, which hide those of their names.
-fn names_in(w: &Writer, parameters: &[Name], slots: &[u8]) -> Result<Names, CompileError> {
-    let mut names = w.work.names.handed_on(w.alloc)?;
-    for (name, slot) in parameters.iter().zip(slots.iter()) {
-        let slot = *slot;
-        names.set(name, Variable { slot, own: true })?;
-    }
+fn names_in(w: &Writer, parameters: &[Name], slots: &[u8]) -> Result<Names, AllocError>
+    ensures { IfOk result (λ names. SeesParameters parameters.now slots.now w.now.work.names names) }
+{
+    let mut names = w.work.names.handed_on()?;
+    name_all(&mut names, parameters, slots)?;
     Ok(names)
+}
+
+/// Lets the parameters stand for these slots, of two of one name the last one.
+#[tactic(auto, using(crate::proofs::Naming::named_first))]
+fn name_all(names: &mut Names, parameters: &[Name], slots: &[u8]) -> Result<(), AllocError>
+    ensures { OnOk result (SeesParameters parameters.now slots.now names.old names.new) }
+{
+    let Some((name, others)) = parameters.split_first() else {
+        return Ok(());
+    };
+    let Some((slot, more)) = slots.split_first() else {
+        return Ok(());
+    };
+    let slot = *slot;
+    names.set(name, Variable { slot, own: true })?;
+    name_all(names, others, more)?;
+    Ok(())
 }
 
 fn is_copy(copy: &ProcedureCopy, target: Target, names: &Names, state: &State) -> bool {
@@ -158,49 +178,37 @@ fn next_copy(w: &Writer) -> Result<usize, CompileError> {
 }
 
 /// A block of a copy that begins with what is known here.
-fn block_from_here(w: &Writer) -> Result<DraftBlock, AllocError> {
+fn block_from_here(w: &Writer) -> Result<DraftBlock, AllocError>
+    ensures { IfOk result (BlockBegins w.now.work.block.state) }
+{
     let begun = w.work.block.state.copied(w.alloc)?;
     Ok(DraftBlock::entered(w.alloc, begun))
 }
 
 /// What is written of a copy with these names at its beginning.
 fn work_from_here(w: &Writer, target: Target, names: &Names) -> Result<Work, AllocError> {
+    let seen = names.copied()?;
     let block = block_from_here(w)?;
-    let seen = names.copied(w.alloc)?;
     Ok(Work::new(w.alloc, target.file, false, block, seen))
 }
 
-/// Notes a copy that isn't written yet.
-fn push_copy(w: &mut Writer, target: Target, names: Names) -> Result<(), AllocError> {
-    let entry = w.work.block.state.copied(w.alloc)?;
-    let block = block_from_here(w)?;
-    w.copies.push(ProcedureCopy {
-        target,
-        names,
-        entry,
-        exit: None,
-        level: 0,
-        own: Vec::new(w.alloc),
-        block,
-        done: false,
-    })?;
-    Ok(())
+/// The same with these slots as its own.
+fn with_own(work: Work, own: Vec<u8>) -> Work {
+    let mut work = work;
+    work.own = own;
+    work
 }
 
-/// Begins a copy with these names and what is known here: Copies where there are too many, Limit where there are too
-/// many calls within one another. Gives its number and the copy that was being written.
+/// Begins a copy with these names and what is known here. Gives the copy that was being written.
 fn begin_copy(
     w: &mut Writer,
     target: Target,
     names: Names,
     own: Vec<u8>,
-) -> Result<(usize, Work), CompileError> {
-    let number = next_copy(w)?;
-    let mut work = work_from_here(w, target, &names)?;
-    work.own = own;
-    push_copy(w, target, names)?;
-    w.active.push(target)?;
-    Ok((number, w.begin(work)))
+) -> Result<Work, AllocError> {
+    let work = with_own(work_from_here(w, target, &names)?, own);
+    w.open_copy(target, names)?;
+    Ok(w.begin(work))
 }
 
 /// What is known behind the procedure's RETURNs: its own slots have no value there.
@@ -214,12 +222,18 @@ fn left(exit: Option<State>, own: &[u8]) -> Option<State> {
     exit
 }
 
-fn set_copy(copies: &mut Vec<ProcedureCopy>, number: usize, work: Work) {
+/// The copy of this number is written, and this is what was written of it. Gives its variables.
+pub fn close_copy(copies: &mut Vec<ProcedureCopy>, number: usize, work: Work) -> Names
+    // The other copies are as they were.
+    ensures many { length copies.new.items ≡ length copies.old.items }
+    ensures names { result ≡ work.names }
+{
     let Work {
         block,
         own,
         level,
         exit,
+        names,
         ..
     } = work;
     let exit = left(exit, &own);
@@ -230,13 +244,14 @@ fn set_copy(copies: &mut Vec<ProcedureCopy>, number: usize, work: Work) {
         copy.exit = exit;
         copy.done = true;
     }
+    names
 }
 
 /// Ends the copy of this number, and goes on with the one that was being written before.
-pub fn end_copy(w: &mut Writer, number: usize, before: Work) {
+fn end_copy(w: &mut Writer, number: usize, before: Work) {
     let work = w.begin(before);
     let _ = w.active.pop();
-    set_copy(&mut w.copies, number, work);
+    let _ = close_copy(&mut w.copies, number, work);
 }
 
 /// What is known behind a call of the copy of this number: what it returns with; as before where it never returns.
@@ -284,6 +299,33 @@ fn handed_to(
     Ok((names, own))
 }
 
+/// The number of a copy that is to be begun. None where there is one for these names and what is known here: the call
+/// is put.
+fn new_copy(w: &mut Writer, target: Target, names: &Names) -> Result<Option<usize>, CompileError> {
+    match copy_for(w, target, names) {
+        Some(number) => {
+            put_call(w, number)?;
+            Ok(None)
+        }
+        None => Ok(Some(next_copy(w)?)),
+    }
+}
+
+/// Hands the arguments over, and begins a copy: its number, and the copy that was being written. None where the whole
+/// call is put.
+fn called(
+    s: &Source,
+    w: &mut Writer,
+    target: Target,
+    arguments: &[Expr],
+) -> Result<Option<(usize, Work)>, CompileError> {
+    let (names, own) = handed_to(s, w, target, arguments)?;
+    match new_copy(w, target, &names)? {
+        Some(number) => Ok(Some((number, begin_copy(w, target, names, own)?))),
+        None => Ok(None),
+    }
+}
+
 /// `DO procedure [WITH arguments]`: begins a copy of the procedure. Where there is one already, the whole call is put.
 pub fn open_call<'a>(
     s: &'a Source,
@@ -294,16 +336,11 @@ pub fn open_call<'a>(
 ) -> Result<Option<Body<'a>>, CompileRefusal> {
     let result = target_of(s, w, procedure, arguments.len());
     let target = w.told(line, result)?;
-    let result = handed_to(s, w, target, arguments);
-    let (names, own) = w.told(line, result)?;
-    if let Some(number) = copy_for(w, target, &names) {
-        let result = put_call(w, number);
-        w.told(line, result)?;
+    let result = called(s, w, target, arguments);
+    let Some((number, before)) = w.told(line, result)? else {
         return Ok(None);
-    }
+    };
     let (_, list) = parameters(s.commands(target));
-    let result = begin_copy(w, target, names, own);
-    let (number, before) = w.told(line, result)?;
     Ok(Some(Body {
         list,
         end: None,
@@ -319,13 +356,17 @@ pub fn open_call<'a>(
 
 /// Ends the copy, and puts the call.
 pub fn end_call(w: &mut Writer, copy: OpenCopy) -> Result<(), CompileRefusal> {
+    end_procedure(w, copy.last)?;
+    put_copy(w, copy)
+}
+
+fn put_copy(w: &mut Writer, copy: OpenCopy) -> Result<(), CompileRefusal> {
     let OpenCopy {
         line,
-        last,
         number,
         before,
+        ..
     } = copy;
-    end_procedure(w, last)?;
     end_copy(w, number, before);
     let result = put_call(w, number);
     w.told(line, result)

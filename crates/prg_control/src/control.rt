@@ -15,6 +15,7 @@ use prg_line::Statement;
 use prg_parser::{Command, Form};
 use prg_values::may_stand_before_read;
 use prg_writer::{Begun, Source, Writer};
+use std::alloc::{AllocError, Global};
 
 /// A command that is begun.
 #[derive(Drop)]
@@ -37,7 +38,13 @@ pub fn commands<'a>(
     w: &mut Writer,
     list: &'a [Command],
 ) -> Result<(), CompileRefusal> {
-    let mut open = Vec::new(w.alloc);
+    let mut open = only(w.alloc, list)?;
+    put_all(s, w, &mut open)
+}
+
+/// A list that is begun, and nothing around it.
+fn only<'a>(alloc: Global, list: &'a [Command]) -> Result<Vec<Open<'a>>, AllocError> {
+    let mut open = Vec::new(alloc);
     open.push(Open {
         begun: None,
         body: Body {
@@ -47,11 +54,20 @@ pub fn commands<'a>(
             behind: Behind::Nothing,
         },
     })?;
+    Ok(open)
+}
+
+/// Puts piece by piece what isn't written yet of the commands that are begun.
+fn put_all<'a>(
+    s: &'a Source,
+    w: &mut Writer,
+    open: &mut Vec<Open<'a>>,
+) -> Result<(), CompileRefusal> {
     for _ in 0..u64::MAX {
         let Some(innermost) = open.pop() else {
             return Ok(());
         };
-        go_on(s, w, &mut open, innermost)?;
+        go_on(s, w, open, innermost)?;
     }
     Err(w.faulty(0, CompileFaultKind::Limit))
 }
@@ -68,16 +84,35 @@ fn go_on<'a>(
         Some((command, others)) if w.work.block.reached => {
             let leaps = innermost.body.leaps;
             open.push(with_list(innermost, others))?;
-            let begun = w.begun()?;
-            let outcome = opened(s, w, leaps, command);
-            enter(w, open, begun, outcome)
+            put_next(s, w, open, leaps, command)
         }
-        _ => {
-            let Open { begun, body } = innermost;
-            let outcome = ended(s, w, body);
-            enter(w, open, begun, outcome)
-        }
+        _ => end(s, w, open, innermost),
     }
+}
+
+/// Begins the next command.
+fn put_next<'a>(
+    s: &'a Source,
+    w: &mut Writer,
+    open: &mut Vec<Open<'a>>,
+    leaps: Option<LeapLabels>,
+    command: &'a Command,
+) -> Result<(), CompileRefusal> {
+    let begun = w.begun()?;
+    let outcome = opened(s, w, leaps, command);
+    enter(w, open, begun, outcome)
+}
+
+/// Ends the commands within the innermost command.
+fn end<'a>(
+    s: &'a Source,
+    w: &mut Writer,
+    open: &mut Vec<Open<'a>>,
+    innermost: Open<'a>,
+) -> Result<(), CompileRefusal> {
+    let Open { begun, body } = innermost;
+    let outcome = ended(s, w, body);
+    enter(w, open, begun, outcome)
 }
 
 /// The same with these commands.
@@ -108,16 +143,25 @@ fn enter<'a>(
     outcome: Result<Option<Body<'a>>, CompileRefusal>,
 ) -> Result<(), CompileRefusal> {
     match outcome {
-        Ok(Some(body)) => {
-            open.push(Open { begun, body })?;
-            Ok(())
-        }
+        Ok(Some(body)) => push(open, Open { begun, body }),
         Ok(None) => Ok(()),
-        Err(refusal) => {
-            w.gave_up(begun, Err(refusal))?;
-            Ok(())
-        }
+        Err(refusal) => pass(w, &begun, refusal),
     }
+}
+
+fn push<'a>(open: &mut Vec<Open<'a>>, innermost: Open<'a>) -> Result<(), CompileRefusal> {
+    open.push(innermost)?;
+    Ok(())
+}
+
+/// Goes on behind a faulty command, where faults are listed.
+fn pass(
+    w: &mut Writer,
+    begun: &Option<Begun>,
+    refusal: CompileRefusal,
+) -> Result<(), CompileRefusal> {
+    w.gave_up(begun, Err(refusal))?;
+    Ok(())
 }
 
 /// Puts what goes before the first commands within a command; the whole command where there are none.
@@ -204,19 +248,28 @@ fn ended<'a>(
     body: Body<'a>,
 ) -> Result<Option<Body<'a>>, CompileRefusal> {
     no_get_waits_behind(w, &body)?;
-    match body.behind {
+    put_behind(s, w, body.behind)
+}
+
+/// Puts what goes behind the commands of a body.
+fn put_behind<'a>(
+    s: &Source,
+    w: &mut Writer,
+    behind: Behind<'a>,
+) -> Result<Option<Body<'a>>, CompileRefusal> {
+    match behind {
         Behind::Nothing => Ok(None),
         Behind::Case(choice, other) => end_part(s, w, choice, other),
-        Behind::Otherwise(choice) => {
-            end_choice(w, choice)?;
-            Ok(None)
-        }
+        Behind::Otherwise(choice) => over(end_choice(w, choice)),
         Behind::Round(round) => end_round(s, w, round),
-        Behind::Copy(copy) => {
-            end_call(w, copy)?;
-            Ok(None)
-        }
+        Behind::Copy(copy) => over(end_call(w, copy)),
     }
+}
+
+/// No more commands within a command whose end was put.
+fn over<'a>(outcome: Result<(), CompileRefusal>) -> Result<Option<Body<'a>>, CompileRefusal> {
+    outcome?;
+    Ok(None)
 }
 
 /// Get in the line that ends a part of a block if a READ is awaited there and all of it was written.

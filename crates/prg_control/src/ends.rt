@@ -1,5 +1,8 @@
 //! Where ways end: LOOP and EXIT, RETURN, and the end of a procedure.
 
+ghost use Rattle.std.specs.Prelude.{◌≡◌};
+ghost use Rattle.prg_code.specs.Growth.{WorkGrows};
+
 use crate::steps::LeapLabels;
 use code_items::State;
 use prg_code::{CompileError, CompileFaultKind, CompileRefusal, Work, is_selection_same, merged};
@@ -19,7 +22,9 @@ fn exit_with(work: &Work) -> Result<State, CompileError> {
 }
 
 /// `RETURN`: in the main procedure an END.
-pub fn put_return(work: &mut Work) -> Result<(), CompileError> {
+pub fn put_return(work: &mut Work) -> Result<(), CompileError>
+    ensures { WorkGrows work.old work.new }
+{
     if work.is_main {
         return work.block.put_end();
     }
@@ -53,7 +58,10 @@ pub fn out_of(leaps: Option<LeapLabels>) -> Option<usize> {
 }
 
 /// Get at this line where a READ is awaited. Where faults are listed, none is awaited any more.
-pub fn no_get_waits(w: &mut Writer, line: usize) -> Result<(), CompileRefusal> {
+pub fn no_get_waits(w: &mut Writer, line: usize) -> Result<(), CompileRefusal>
+    ensures same { w.new ≡ record w.old { work = w.new.work; listed = w.new.listed } }
+    ensures grown { WorkGrows w.old.work w.new.work }
+{
     if w.work.gets.is_empty() {
         return Ok(());
     }
@@ -64,7 +72,11 @@ pub fn no_get_waits(w: &mut Writer, line: usize) -> Result<(), CompileRefusal> {
 }
 
 /// Ends a procedure whose last command stands in this line. Get where a READ is awaited, at the line of the last GET.
-pub fn end_procedure(w: &mut Writer, line: usize) -> Result<(), CompileRefusal> {
+pub fn end_procedure(w: &mut Writer, line: usize) -> Result<(), CompileRefusal>
+    // Only its own code and the list of faults change, and what stood still stands.
+    ensures same { w.new ≡ record w.old { work = w.new.work; listed = w.new.listed } }
+    ensures grown { WorkGrows w.old.work w.new.work }
+{
     if let Some(get) = w.work.gets.last() {
         let line = get.line;
         no_get_waits(w, line)?;

@@ -12,6 +12,6 @@ mod ends;
 mod loops;
 mod steps;
 
-pub use calling::end_copy;
+pub use calling::close_copy;
 pub use control::commands;
 pub use ends::end_procedure;

@@ -11,8 +11,8 @@ use prg_writer::{Source, Writer, WrittenMark};
 use std::alloc::AllocError;
 use xvalue::Fun;
 
-/// The most rounds of a loop: each one but the last loses what is known of a slot or a work area.
-const MOST_ROUNDS: u16 = 300;
+/// The most rounds of a loop but the first: each round but the last loses what is known of a slot or a work area.
+const MORE_ROUNDS: u16 = 299;
 
 /// When a loop goes on.
 #[derive(Clone, Copy)]
@@ -32,8 +32,8 @@ pub struct Loop<'a> {
     /// What stood before its first round, and what was known there.
     mark: WrittenMark,
     entry: State,
-    /// What was found to be known at its head at the end of a round, if that was less than at its beginning.
-    head: Option<State>,
+    /// What is known at its head in this round.
+    held: State,
     /// How many rounds may follow.
     rounds: u16,
 }
@@ -49,8 +49,6 @@ struct Head {
 #[derive(Drop)]
 pub struct Round<'a> {
     of: Loop<'a>,
-    /// What is known at the loop's head in this round.
-    held: State,
     head: Head,
 }
 
@@ -74,18 +72,25 @@ fn begun_loop<'a>(
     test: LoopTest<'a>,
     body: &'a [Command],
 ) -> Result<Loop<'a>, AllocError> {
-    let mark = w.mark()?;
     let entry = w.work.block.state.copied(w.alloc)?;
-    w.work.block.state = w.known_at_head(span.first)?;
+    let held = w.known_at_head(span.first)?;
+    know(w, &held)?;
+    let mark = w.mark()?;
     Ok(Loop {
         span,
         test,
         body,
         mark,
         entry,
-        head: None,
-        rounds: MOST_ROUNDS - 1,
+        held,
+        rounds: MORE_ROUNDS,
     })
+}
+
+/// Goes on with what is known.
+fn know(w: &mut Writer, state: &State) -> Result<(), AllocError> {
+    w.work.block.state = state.copied(w.alloc)?;
+    Ok(())
 }
 
 /// Goes to the first row, for a SCAN in this line; a DO WHILE begins with nothing.
@@ -101,13 +106,12 @@ fn put_first_row(w: &mut Writer, line: usize, test: LoopTest) -> Result<(), Comp
 
 /// Begins a round.
 fn open_round<'a>(s: &Source, w: &mut Writer, of: Loop<'a>) -> Result<Body<'a>, CompileRefusal> {
-    let held = w.work.block.state.copied(w.alloc)?;
     let head = put_head(s, w, &of)?;
     Ok(Body {
         list: of.body,
         end: Some(of.span.end),
         leaps: Some(head.leaps),
-        behind: Behind::Round(Round { of, held, head }),
+        behind: Behind::Round(Round { of, head }),
     })
 }
 
@@ -192,7 +196,7 @@ fn known_again(w: &mut Writer, round: &Round) -> Result<Option<State>, CompileRe
     let (of, head) = (&round.of, round.head);
     let end = of.span.end;
     put_way_back(w, end, of.test, head.top, head.leaps.again)?;
-    let Some(state) = wider(w, end, head.top, &round.held)? else {
+    let Some(state) = wider(w, end, head.top, &of.held)? else {
         place(w, end, head.leaps.out)?;
         return Ok(None);
     };
@@ -202,16 +206,20 @@ fn known_again(w: &mut Writer, round: &Round) -> Result<Option<State>, CompileRe
     Ok(Some(state))
 }
 
-/// Remembers what held at the head of a loop that is written.
+/// Remembers what held at the head of a loop that is written, if that took more than one round.
 fn end_loop(w: &mut Writer, of: Loop) -> Result<(), AllocError> {
     let Loop {
         span,
         mark,
         entry,
-        head,
+        held,
+        rounds,
         ..
     } = of;
-    w.remember(span.first, &mark, entry, head)
+    if rounds == MORE_ROUNDS {
+        return Ok(());
+    }
+    w.remember(span.first, mark, entry, held)
 }
 
 /// Leads back to the loop's head, in a SCAN by the next row.
@@ -275,14 +283,8 @@ fn again<'a>(
     state: State,
 ) -> Result<Body<'a>, CompileRefusal> {
     let mut of = of;
-    of.head = Some(given_up(w, &of.mark, state)?);
+    w.give_up(&of.mark, &state)?;
+    of.held = state;
     of.rounds = of.rounds.saturating_sub(1);
     open_round(s, w, of)
-}
-
-/// Gives up what was written since the mark, goes on with this state, and gives it.
-fn given_up(w: &mut Writer, mark: &WrittenMark, state: State) -> Result<State, AllocError> {
-    let known = state.copied(w.alloc)?;
-    w.give_up(mark, state)?;
-    Ok(known)
 }

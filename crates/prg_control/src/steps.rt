@@ -3,18 +3,18 @@
 use prg_code::CompileRefusal;
 use prg_commands::{condition, put_constant};
 use prg_expr::Expr;
-use prg_writer::{Source, Writer};
+use prg_writer::{Begun, Source, Writer};
 use xvalue::Value;
 
 /// Where LOOP and EXIT of the innermost loop lead: the numbers of labels.
-#[derive(Clone, Copy, Debug, PartialEq, Eq)]
+#[derive(Clone, Copy)]
 pub struct LeapLabels {
     pub again: usize,
     pub out: usize,
 }
 
 /// The lines that open and end a block.
-#[derive(Clone, Copy, Debug, PartialEq, Eq)]
+#[derive(Clone, Copy)]
 pub struct Span {
     pub first: usize,
     pub end: usize,
@@ -34,15 +34,31 @@ pub fn put_condition(
     e: &Expr,
     label: usize,
 ) -> Result<(), CompileRefusal> {
+    put_test(s, w, line, e)?;
+    let result = w.work.block.jump_false(label);
+    w.told(line, result)
+}
+
+/// A condition, or .T. in its place.
+fn put_test(s: &Source, w: &mut Writer, line: usize, e: &Expr) -> Result<(), CompileRefusal> {
     let begun = w.begun()?;
     w.work.block.line = line;
     let result = condition(s.shape, &mut w.out, &mut w.work, e);
     let outcome = w.told(line, result);
-    if w.gave_up(begun, outcome)? {
-        let result = put_constant(&mut w.out, &mut w.work, Value::Logical(true));
-        w.told(line, result)?;
+    put_true_for(w, line, &begun, outcome)
+}
+
+/// Puts .T. where a condition is given up.
+fn put_true_for(
+    w: &mut Writer,
+    line: usize,
+    begun: &Option<Begun>,
+    outcome: Result<(), CompileRefusal>,
+) -> Result<(), CompileRefusal> {
+    if !w.gave_up(begun, outcome)? {
+        return Ok(());
     }
-    let result = w.work.block.jump_false(label);
+    let result = put_constant(&mut w.out, &mut w.work, Value::Logical(true));
     w.told(line, result)
 }
 

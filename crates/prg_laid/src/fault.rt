@@ -6,7 +6,7 @@ ghost use Rattle.prg_laid.specs.declared.fault.LayoutFault.TheVariants as fault;
 use std::alloc::{AllocError, AllocFailed};
 
 /// Why a code isn't taken.
-#[derive(Clone, Copy, Debug, PartialEq, Eq)]
+#[derive(Clone, Copy)]
 pub enum LayoutFault {
     /// Something else stands there.
     Otherwise,

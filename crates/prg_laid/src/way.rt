@@ -4,14 +4,14 @@ ghost use Rattle.std.specs.Prelude.{◌≡◌};
 ghost use Rattle.prg_laid.specs.Commands as spec;
 
 /// Where LOOP and EXIT of the innermost loop lead: places counted from 0.
-#[derive(Clone, Copy, Debug, PartialEq, Eq)]
+#[derive(Clone, Copy)]
 pub struct Leaps {
     pub again: usize,
     pub out: usize,
 }
 
 /// The place behind a part, whether its end is reached, and whether a LOOP in it is.
-#[derive(Clone, Copy, Debug, PartialEq, Eq)]
+#[derive(Clone, Copy)]
 pub struct Way {
     pub place: usize,
     pub on: bool,
