@@ -14,7 +14,7 @@ ghost use Rattle.text_lines.specs.Lines.{is_ended as is_ended_text};
 
 use crate::conversation::{OperateRefusal, operate_accepted};
 use crate::job::Job;
-use crate::rehearsing::{Compared, Rehearsal, told_of};
+use crate::rehearsing::{Compared, Rehearsal, told_of, with_changes};
 use crate::running::{accept, of_code};
 use code_items::Code;
 use code_items::laws::legal_codes;
@@ -54,12 +54,8 @@ fn compare_talk<F: Files, J: Journal, O: Operator>(
     let loaded = load(alloc, files, shape, job.limit.records())?;
     let kept = keep(alloc, shape, &loaded)?;
     let done = operate_accepted(alloc, verified, loaded, job, journal, operator)?;
-    let changes = changes_since(alloc, shape, kept, done.banks.store())?;
-    Ok(Compared {
-        rows: done.run.rows,
-        outcome: done.run.outcome,
-        changes,
-    })
+    let changes = changes_since(alloc, shape, kept, done.banks.store());
+    Ok(with_changes(done.alone(), changes)?)
 }
 
 /// Rehearses an accepted code so.
