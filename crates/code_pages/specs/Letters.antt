@@ -3,10 +3,10 @@ use Rattle.std.specs.Prelude.{◌≡◌, ◌≢◌, ◌<◌, ◌++◌, ◌∷◌
 use Rattle.code_pages.specs.declared.pages.CodePage.{CodePage}
 use Rattle.code_pages.specs.declared.pages.LetterFault.{LetterFault}
 use Rattle.code_pages.specs.declared.pages.LetterFault.TheVariants.{Lacks, Memory}
-use Rattle.code_pages.specs.Pages.{letters_of, page_letter}
+use Rattle.code_pages.specs.Pages.{page_letters, page_letter}
 
 -- the first of these letters that is no byte's in the page: those before it are the letters of bytes
 abbrev pub LacksFirst : CodePage → List ℕ → LetterFault → Type 0
-LacksFirst page letters (Lacks letter) = (before rest : List ℕ) × (letters ≡ letters_of page before ++ letter ∷ rest)
+LacksFirst page letters (Lacks letter) = (before rest : List ℕ) × (letters ≡ page_letters page before ++ letter ∷ rest)
     × ((byte : ℕ) → byte < 256 → page_letter page byte ≢ letter)
 LacksFirst page letters Memory = ⊤

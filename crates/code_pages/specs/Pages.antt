@@ -40,5 +40,5 @@ abbrev pub utf8_of : CodePage → ℕ → List ℕ
 utf8_of page byte = encode_utf8 (page_letter page byte)
 
 -- a text in the page as letters
-abbrev pub letters_of : CodePage → List ℕ → List ℕ
-letters_of page text = map (page_letter page) text
+abbrev pub page_letters : CodePage → List ℕ → List ℕ
+page_letters page text = map (page_letter page) text

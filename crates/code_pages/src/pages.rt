@@ -4,7 +4,7 @@ ghost use Rattle.std.specs.Prelude.{◌≡◌, ◌≢◌, ◌+◌, ◌-◌, ◌<
 ghost use Rattle.std.specs.List.{flat_map};
 ghost use Rattle.std.specs.Str.{chars};
 ghost use Rattle.code_pages.specs.Letters.{LacksFirst};
-ghost use Rattle.code_pages.specs.Pages.{letters_of, page_letter, utf8_of};
+ghost use Rattle.code_pages.specs.Pages.{page_letters, page_letter, utf8_of};
 
 use std::alloc::{AllocError, Global};
 
@@ -81,7 +81,7 @@ pub enum LetterFault {
 /// # Errors
 /// The first letter that the page lacks; `Memory` where memory was refused.
 pub fn in_page(alloc: Global, page: CodePage, text: &str) -> Result<Vec<u8>, LetterFault>
-    ensures letters { IfOk result (λ bytes. letters_of page bytes.items ≡ chars text.now) }
+    ensures letters { IfOk result (λ bytes. page_letters page bytes.items ≡ chars text.now) }
     ensures lacks { IfErr result (LacksFirst page (chars text.now)) }
 {
     let mut bytes = Vec::new(alloc);

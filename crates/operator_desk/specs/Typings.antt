@@ -5,7 +5,7 @@ use Rattle.operator_desk.specs.declared.typing.Typed.{Typed}
 use Rattle.operator_desk.specs.declared.typing.Typed.TheVariants.{Line, End, Long}
 
 -- a line holds no line end
-abbrev pub IsWhole : Typed → Type 0
-IsWhole (Line line) = line_length line.items ≡ length line.items
-IsWhole End = ⊤
-IsWhole Long = ⊤
+abbrev pub HoldsNoEnd : Typed → Type 0
+HoldsNoEnd (Line line) = line_length line.items ≡ length line.items
+HoldsNoEnd End = ⊤
+HoldsNoEnd Long = ⊤

@@ -2,7 +2,7 @@
 #![tactic(auto)]
 
 ghost use Rattle.operator_desk.specs.Held.{line_length};
-ghost use Rattle.operator_desk.specs.Typings.{IsWhole};
+ghost use Rattle.operator_desk.specs.Typings.{HoldsNoEnd};
 ghost use Rattle.std.specs.Prelude.{◌≡◌, IfOk, length};
 
 use std::alloc::Global;
@@ -44,7 +44,7 @@ fn take_part<B: BufRead>(reader: &mut B, line: &mut Vec<u8>) -> io::Result<Part>
 
 /// The next line of at most so many bytes; the last one needs no line end. A line that is answered holds no LF.
 pub fn next_line<B: BufRead>(alloc: Global, reader: &mut B, most: usize) -> io::Result<Typed>
-    ensures { IfOk result IsWhole }
+    ensures { IfOk result HoldsNoEnd }
 {
     let mut line = Vec::new(alloc);
     for _ in 0..most.saturating_mul(2).saturating_add(2) {
