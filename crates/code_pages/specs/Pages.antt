@@ -1,5 +1,5 @@
 -- Code pages. A letter is its number in Unicode.
-use Rattle.std.specs.Prelude.{ℕ, ◌-◌, nat_lt, List, [], ◌∷◌, slice_index, if◌then◌else◌}
+use Rattle.std.specs.Prelude.{ℕ, ◌-◌, nat_lt, List, [], ◌∷◌, map, slice_index, if◌then◌else◌}
 use Rattle.std.specs.Char.{encode_utf8}
 use Rattle.code_pages.specs.declared.pages.CodePage.{CodePage}
 use Rattle.code_pages.specs.declared.pages.CodePage.TheVariants.{Cp437, Cp850}
@@ -38,3 +38,7 @@ page_letter page byte = if nat_lt byte 128 then byte else slice_index (upper pag
 
 abbrev pub utf8_of : CodePage → ℕ → List ℕ
 utf8_of page byte = encode_utf8 (page_letter page byte)
+
+-- a text in the page as letters
+abbrev pub page_letters : CodePage → List ℕ → List ℕ
+page_letters page text = map (page_letter page) text

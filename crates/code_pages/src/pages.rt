@@ -1,8 +1,10 @@
 //! Code pages.
 
-ghost use Rattle.std.specs.Prelude.{◌≡◌, ◌≢◌, ◌+◌, ◌-◌, ◌<◌, ◌≤◌, ℕ, None, IfOk, IfSome, string_bytes};
+ghost use Rattle.std.specs.Prelude.{◌≡◌, ◌≢◌, ◌+◌, ◌-◌, ◌<◌, ◌≤◌, ℕ, None, IfErr, IfOk, IfSome, string_bytes};
 ghost use Rattle.std.specs.List.{flat_map};
-ghost use Rattle.code_pages.specs.Pages.{page_letter, utf8_of};
+ghost use Rattle.std.specs.Str.{chars};
+ghost use Rattle.code_pages.specs.Letters.{LacksFirst};
+ghost use Rattle.code_pages.specs.Pages.{page_letters, page_letter, utf8_of};
 
 use std::alloc::{AllocError, Global};
 
@@ -78,7 +80,10 @@ pub enum LetterFault {
 ///
 /// # Errors
 /// The first letter that the page lacks; `Memory` where memory was refused.
-pub fn in_page(alloc: Global, page: CodePage, text: &str) -> Result<Vec<u8>, LetterFault> {
+pub fn in_page(alloc: Global, page: CodePage, text: &str) -> Result<Vec<u8>, LetterFault>
+    ensures letters { IfOk result (λ bytes. page_letters page bytes.items ≡ chars text.now) }
+    ensures lacks { IfErr result (LacksFirst page (chars text.now)) }
+{
     let mut bytes = Vec::new(alloc);
     for letter in text.chars() {
         let Some(byte) = byte_of(page, letter) else {

@@ -918,7 +918,7 @@ fn message(fault: WordsFault) -> &'static str {
         WordsFault::Backup => "the folder of --backup is neither absent nor empty",
         WordsFault::Window => "the size of --window is ROWSxCOLUMNS",
         WordsFault::Journal =>
-            "the file of --journal is a plain name in this folder, and none that the run uses",
+            "the file of --journal is a plain name here of at most 238 bytes, and none that the run uses",
         WordsFault::Screens =>
             "the file of --screens is a plain name in this folder, of which no file stands",
         WordsFault::Continued =>

@@ -4,7 +4,7 @@
 ghost use Rattle.std.specs.Prelude.{◌≡◌, false};
 
 use crate::screens::{is_free_name, is_new_name};
-use crate::shown::{Audience, Progress, of_end};
+use crate::shown::{Audience, NameTold, Progress, of_end};
 use crate::{
     finish_before, folder, has_no_tables, hindered, may_back_up, refuse, tell_hindered,
     tell_unfinished, tell_unsaved,
@@ -21,8 +21,8 @@ use journal_papers::{JournalPaper, first_changed};
 use journal_steps::{Next, Remains, next_of};
 use operating::Broken;
 use operator_desk::{
-    Gets, KeptJournal, Manner, OperatorDesk, OwnLines, Record, Screens, Talk, TalkSave, local_day,
-    talk_in,
+    Gets, KeptJournal, Manner, OperatorDesk, OwnLines, Record, Screens, TakenLines, Talk, TalkSave,
+    local_day, talk_in,
 };
 use run_commands::{
     Ended, Job, OperateRefusal, OperationReport, Rehearsal, RunDay, RunRefusal, operate_files,
@@ -35,8 +35,30 @@ use std::rt::Runtime;
 use std::str;
 use terminal_screen::Window;
 
+/// The most bytes of a file's name.
+const MOST_OF_NAME: usize = 255;
+
 /// The most lines of a window that are drawn: the 25 rows and the note.
 const MOST_LINES: usize = 26;
+
+/// What to do where a file was changed since the conversation was begun.
+const CHANGED: &str =
+    "nothing is saved; put the file back and use --continue, or give the journal to run";
+
+/// What to do where the device failed.
+const STOPPED: &str =
+    "no table was changed, and the journal has each line that was taken; --continue goes on";
+
+/// What to do where a line that another program typed has a letter that the page lacks.
+const NO_LETTER: &str =
+    "the code page lacks a letter of a line; no table was changed, and --continue goes on before it";
+
+/// What to do where another program has the journal.
+const HELD: &str =
+    "another program has this conversation open; wait for its end, or name another file";
+
+/// What to do where a file stands that no conversation made.
+const NO_TALK: &str = "this file isn't a conversation's; name another one";
 
 /// The names of a conversation's files.
 #[derive(Drop)]
@@ -56,7 +78,13 @@ pub fn done_name(alloc: Global, journal: &str) -> Result<String, AllocError> {
     format!(in alloc; "{journal}.done")
 }
 
-/// The names of a conversation's files, if they harm nothing.
+/// Whether a text can be made under a name. Its draft has the longest name of all that are made for a conversation: the
+/// name of a save's file and a point before its own.
+fn has_room(name: &str) -> bool {
+    name.len() < MOST_OF_NAME.saturating_sub(paper_name().len())
+}
+
+/// The names of a conversation's files, if they harm nothing and none is too long.
 fn names_of(alloc: Global, words: &OperateWords<'_>) -> Result<Option<Names>, AllocError> {
     let journal = words.journal;
     if !is_free_name(journal, words.code) {
@@ -68,6 +96,9 @@ fn names_of(alloc: Global, words: &OperateWords<'_>) -> Result<Option<Names>, Al
         done: done_name(alloc, journal)?,
     };
     if names.begun.as_str() == words.code || names.done.as_str() == words.code {
+        return Ok(None);
+    }
+    if !has_room(names.begun.as_str()) {
         return Ok(None);
     }
     Ok(Some(names))
@@ -149,22 +180,45 @@ fn window_of(audience: Audience, shown: &ShownWords<'_>) -> Option<Window> {
     }
 }
 
+/// Tells a person what to do, in one sentence without its point.
+fn advise(rt: &impl Runtime, audience: Audience, sentence: &str) {
+    if audience.person {
+        let _ = eprintln!(rt; "  {sentence}.");
+    }
+}
+
 /// Tells on standard error that a file isn't taken, and why.
 fn tell_file(rt: &impl Runtime, name: &str, why: &str) -> Status {
     let _ = eprintln!(rt; "refused {name} {why}");
     Status::Refused
 }
 
+/// Tells that a file isn't as it was when the conversation was begun.
+fn tell_changed(rt: &impl Runtime, audience: Audience, name: &str) -> Status {
+    let status = tell_file(rt, name, "Changed");
+    advise(rt, audience, CHANGED);
+    status
+}
+
+/// Tells that the device failed at a file, or at the terminal, and that the conversation can go on.
+fn tell_stopped(rt: &impl Runtime, audience: Audience, name: &str) -> Status {
+    let status = refuse(rt, Refusal::Disk { name });
+    advise(rt, audience, STOPPED);
+    status
+}
+
 /// Tells why a journal isn't made or taken up.
-fn tell_journal(rt: &impl Runtime, name: &str, fault: JournalFault) -> Status {
-    match fault {
-        JournalFault::Exists => tell_file(rt, name, "Exists"),
-        JournalFault::Held => tell_file(rt, name, "Held"),
-        JournalFault::Absent => tell_file(rt, name, "Absent"),
-        JournalFault::TooLong => tell_file(rt, name, "TooLong"),
-        JournalFault::Disk => refuse(rt, Refusal::Disk { name }),
-        JournalFault::Memory => refuse(rt, Refusal::Memory),
-    }
+fn tell_journal(rt: &impl Runtime, audience: Audience, name: &str, fault: JournalFault) -> Status {
+    let (status, sentence) = match fault {
+        JournalFault::Exists => (tell_file(rt, name, "Exists"), NO_TALK),
+        JournalFault::Held => (tell_file(rt, name, "Held"), HELD),
+        JournalFault::Absent => (tell_file(rt, name, "Absent"), NO_TALK),
+        JournalFault::TooLong => (tell_file(rt, name, "TooLong"), NO_TALK),
+        JournalFault::Disk => return refuse(rt, Refusal::Disk { name }),
+        JournalFault::Memory => return refuse(rt, Refusal::Memory),
+    };
+    advise(rt, audience, sentence);
+    status
 }
 
 /// A journal that is open, all lines that it holds, and what stands behind them.
@@ -199,16 +253,32 @@ fn found_of<R: Runtime<A = Global>>(rt: &R, names: &Names) -> Remains {
     }
 }
 
+/// What to do where a conversation neither begins nor goes on.
+fn of_next(next: Next, found: Remains) -> &'static str {
+    match next {
+        Next::Ended => "this conversation is at its end; name another file to begin one",
+        Next::Missing if found.begun => "its journal is gone; name another file to begin one",
+        Next::Missing if found.journal => NO_TALK,
+        Next::Missing => "no conversation was begun with this file; without --continue one begins",
+        _ if found.begun => "--continue takes it up again; else name another file",
+        _ => NO_TALK,
+    }
+}
+
 /// Why a conversation neither begins nor goes on.
-fn tell_next(rt: &impl Runtime, audience: Audience, names: &Names, next: Next) -> Status {
+fn tell_next(
+    rt: &impl Runtime,
+    audience: Audience,
+    names: &Names,
+    found: Remains,
+    next: Next,
+) -> Status {
     let status = match next {
         Next::Ended => tell_file(rt, names.journal.as_str(), "Finished"),
         Next::Missing => tell_file(rt, names.journal.as_str(), "Absent"),
         _ => tell_file(rt, names.journal.as_str(), "Exists"),
     };
-    if let (Next::Taken, true) = (next, audience.person) {
-        let _ = eprintln!(rt; "  --continue takes it up again; else name another file.");
-    }
+    advise(rt, audience, of_next(next, found));
     status
 }
 
@@ -327,6 +397,9 @@ fn desk_of<'a, R: Runtime<A = Global, File = File>>(
         note: "",
         cut: String::new(alloc),
         ended: false,
+        last_note: "",
+        lacks_letter: false,
+        answers: TakenLines::new(alloc),
     })
 }
 
@@ -366,20 +439,28 @@ fn print_rest<R: Runtime<A = Global, File = File>>(
     if audience.person && !desk.note.is_empty() {
         let _ = eprintln!(rt; "{}", desk.note);
     }
+    if !desk.last_note.is_empty() {
+        let _ = eprintln!(rt; "{}", desk.last_note);
+    }
     Status::Done
 }
 
-/// Tells why the operator's desk failed: a file isn't as it was, or can't be written, or the terminal failed.
-fn tell_desk<R: Runtime<A = Global, File = File>>(rt: &R, record: &Record<'_, R>) -> Status {
-    match (&record.changed, &record.unwritten) {
-        (Some(name), _) => tell_file(rt, name.as_str(), "Changed"),
-        (None, Some(name)) => refuse(
-            rt,
-            Refusal::Disk {
-                name: name.as_str(),
-            },
-        ),
-        (None, None) => refuse(rt, Refusal::Disk { name: "-" }),
+/// Tells why the operator's desk failed: a file isn't as it was, or can't be written, or a line has a letter that the
+/// page lacks, or the terminal failed.
+fn tell_desk<R: Runtime<A = Global, File = File>>(
+    rt: &R,
+    audience: Audience,
+    desk: &OperatorDesk<'_, R>,
+) -> Status {
+    match (&desk.record.changed, &desk.record.unwritten) {
+        (Some(name), _) => tell_changed(rt, audience, name.as_str()),
+        (None, Some(name)) => tell_stopped(rt, audience, name.as_str()),
+        (None, None) if desk.lacks_letter => {
+            let status = tell_file(rt, "-", "Letter");
+            advise(rt, audience, NO_LETTER);
+            status
+        }
+        (None, None) => tell_stopped(rt, audience, "-"),
     }
 }
 
@@ -408,7 +489,7 @@ fn tell_no_run<'a, R: Runtime<A = Global, File = File>>(
 ) -> Status {
     leave_no_journal(rt, open.names);
     match changed_in(rt.alloc(), open) {
-        Some(name) => tell_file(rt, name.as_str(), "Changed"),
+        Some(name) => tell_changed(rt, audience, name.as_str()),
         None => tell_hindered(rt, audience, open.code, refusal, hindrance),
     }
 }
@@ -430,14 +511,11 @@ fn tell_broken<'a, R: Runtime<A = Global, File = File>>(
             tell_no_run(rt, audience, open, refusal, saving.hindrance())
         }
         OperateRefusal::Handed => tell_file(rt, open.names.journal.as_str(), "TooLong"),
-        OperateRefusal::Broke(Broken::Journal) => refuse(
-            rt,
-            Refusal::Disk {
-                name: open.names.journal.as_str(),
-            },
-        ),
+        OperateRefusal::Broke(Broken::Journal) => {
+            tell_stopped(rt, audience, open.names.journal.as_str())
+        }
         OperateRefusal::Broke(Broken::Memory) => refuse(rt, Refusal::Memory),
-        OperateRefusal::Broke(Broken::Operator | Broken::Line) => tell_desk(rt, &desk.record),
+        OperateRefusal::Broke(Broken::Operator | Broken::Line) => tell_desk(rt, audience, desk),
     }
 }
 
@@ -666,16 +744,43 @@ fn converse<'a, R: Runtime<A = Global, File = File>>(
     conclude(rt, audience, open, &journal, &desk, &mut saving, &told)
 }
 
-/// Finishes the save that a note tells of, where the folder is held.
+/// How a conversation ended, as the text of its end says.
+fn end_of<R: Runtime<A = Global>>(rt: &R, audience: Audience, names: &Names) -> Option<String> {
+    let mut folder = folder(rt, audience);
+    let read = folder.read(rt.alloc(), names.done.as_str(), FILE_LIMIT);
+    let bytes = read.ok()?;
+    let text = str::from_utf8(bytes.as_slice()).ok()?;
+    let paper = JournalPaper::read(rt.alloc(), text).ok()?;
+    String::from_str(rt.alloc(), paper.get("--end")?).ok()
+}
+
+/// Finishes the save that a note tells of, where the folder is held. Where it is the conversation's, its end is told.
 fn finish_noted<R: Runtime<A = Global>>(
     rt: &R,
     audience: Audience,
+    names: &Names,
     closed: Option<Hindrance>,
 ) -> Status {
     if closed.is_some() {
         return tell_unfinished(rt, audience, &UnfinishedSave::PaperDisk);
     }
-    finish_before(rt, audience).unwrap_or(Status::Disk)
+    let stood = stands(rt, names.done.as_str());
+    let status = finish_before(rt, audience).unwrap_or(Status::Disk);
+    if !stood {
+        if let Some(end) = end_of(rt, audience, names) {
+            let _ = eprintln!(rt; "{} {}", names.journal, NameTold(end.as_str()));
+        }
+    }
+    status
+}
+
+/// The hold of the folder where what a conversation leaves is saved. A rehearsal lets it go.
+fn hold_of(held: Held, talk: &Talk) -> Option<Held> {
+    if talk.save.is_some() {
+        Some(held)
+    } else {
+        None
+    }
 }
 
 /// Begins a conversation or takes one up again, of which the words are known.
@@ -683,15 +788,16 @@ fn operate_talk<'a, R: Runtime<A = Global, File = File>>(
     rt: &'a R,
     audience: Audience,
     open: &Open<'a>,
-    held: &Held,
+    held: Held,
 ) -> Status {
-    let closed = hindered(held, open.talk.no_lock());
+    let closed = hindered(&held, open.talk.no_lock());
     let goes_on = open.said.is_some();
     let names = open.names;
-    match next_of(found_of(rt, names), goes_on) {
+    let found = found_of(rt, names);
+    match next_of(found, goes_on) {
         Next::Begin | Next::GoOn => {}
-        Next::Finish => return finish_noted(rt, audience, closed),
-        next => return tell_next(rt, audience, names, next),
+        Next::Finish => return finish_noted(rt, audience, names, closed),
+        next => return tell_next(rt, audience, names, found, next),
     }
     if closed.is_none() {
         // a save that hadn't come to its note is taken away
@@ -707,13 +813,14 @@ fn operate_talk<'a, R: Runtime<A = Global, File = File>>(
         // the text of its end is saved, and no table is read that would tell of it
         return tell_hindered(rt, audience, paper_name(), &RunRefusal::Disk, closed);
     }
+    let _held = hold_of(held, open.talk);
     match open_journal(rt, names.journal.as_str(), goes_on, open.talk.no_lock()) {
         Ok((journal, tail)) => converse(rt, audience, open, journal, tail, closed),
         Err(fault) => {
             if fault == JournalFault::Disk {
                 leave_no_journal(rt, names);
             }
-            tell_journal(rt, names.journal.as_str(), fault)
+            tell_journal(rt, audience, names.journal.as_str(), fault)
         }
     }
 }
@@ -734,9 +841,10 @@ fn tell_unbegun<R: Runtime<A = Global>>(
     names: &Names,
     held: &Held,
 ) -> Status {
-    match next_of(found_of(rt, names), true) {
-        Next::Finish => finish_noted(rt, audience, hindered(held, false)),
-        next => tell_next(rt, audience, names, next),
+    let found = found_of(rt, names);
+    match next_of(found, true) {
+        Next::Finish => finish_noted(rt, audience, names, hindered(held, false)),
+        next => tell_next(rt, audience, names, found, next),
     }
 }
 
@@ -748,11 +856,11 @@ fn go_on<'a, R: Runtime<A = Global, File = File>>(
     names: &'a Names,
     window: Option<Window>,
     screens: Option<&'a str>,
-    held: &Held,
+    held: Held,
 ) -> Status {
     let alloc = rt.alloc();
     if !stands(rt, names.begun.as_str()) {
-        return tell_unbegun(rt, audience, names, held);
+        return tell_unbegun(rt, audience, names, &held);
     }
     let said = match read_begun(rt, audience, names.begun.as_str()) {
         Ok(said) => said,
@@ -783,7 +891,7 @@ fn begin<'a, R: Runtime<A = Global, File = File>>(
     talk: &'a Talk,
     window: Option<Window>,
     screens: Option<&'a str>,
-    held: &Held,
+    held: Held,
 ) -> Status {
     let sums = RefCell::new(Vec::new(rt.alloc()));
     let open = Open {
@@ -833,7 +941,7 @@ pub fn operate<R: Runtime<A = Global, File = File>>(
     let screens = words.shown.screens;
     let Some(asked) = &words.talk else {
         let held = take_folder(rt);
-        return Ok(go_on(rt, audience, words.code, &names, window, screens, &held));
+        return Ok(go_on(rt, audience, words.code, &names, window, screens, held));
     };
     may_back_up(rt, asked.tables)?;
     if is_copied_over(asked, &names, screens) {
@@ -847,6 +955,6 @@ pub fn operate<R: Runtime<A = Global, File = File>>(
     };
     let held = take_folder(rt);
     Ok(begin(
-        rt, audience, words.code, &names, &talk, window, screens, &held,
+        rt, audience, words.code, &names, &talk, window, screens, held,
     ))
 }

@@ -106,9 +106,7 @@ pub fn run_shown<R: Runtime<A = Global, File = File>, F: Files>(
     let Ok(mut typist) = typist_of(rt, audience, job.input, name) else {
         return Err(refuse(rt, Refusal::Memory));
     };
-    let mut taken = TakenLines {
-        bytes: Vec::new(alloc),
-    };
+    let mut taken = TakenLines::new(alloc);
     let told = operate_files(alloc, files, &untyped(job), &mut taken, &mut typist);
     typist.watcher().end();
     report_of(rt, name, told)
@@ -133,9 +131,7 @@ pub fn rehearse_shown<R: Runtime<A = Global, File = File>, F: Files>(
     let Ok(mut typist) = typist_of(rt, audience, job.input, name) else {
         return Err(refuse(rt, Refusal::Memory));
     };
-    let mut taken = TakenLines {
-        bytes: Vec::new(alloc),
-    };
+    let mut taken = TakenLines::new(alloc);
     let told = rehearse_talk(alloc, files, &untyped(job), &mut taken, &mut typist);
     typist.watcher().end();
     match told {

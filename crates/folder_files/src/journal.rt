@@ -233,11 +233,6 @@ impl JournalFile {
             }
         }
     }
-
-    /// How many bytes of it count.
-    pub fn length(&self) -> u64 {
-        self.length
-    }
 }
 
 /// Whether something stands under a name: a file, a folder, or a link that leads nowhere.

@@ -1,2 +1,3 @@
 pub mod TurnLemmas
+pub mod AnswerLemmas
 pub mod PieceLemmas

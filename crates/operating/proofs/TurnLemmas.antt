@@ -1,5 +1,5 @@
 -- Turns of a conversation as pieces of one run.
-use Rattle.std.proofs.Common.{◌≡◌, ◌≤◌, ◌<◌, ◌+◌, ◌-◌, ◌&&◌, ◌++◌, ◌∙◌, ap, refl, sym, subst, arith, ℕ, List, [], ◌∷◌, Bool, true, false, Option, Some, None}
+use Rattle.std.proofs.Common.{◌≡◌, ◌≤◌, ◌+◌, ◌-◌, ◌&&◌, ◌++◌, ◌∙◌, ap, refl, sym, subst, arith, ℕ, List, Bool, true, false, Option, Some}
 use Rattle.std.specs.Prelude.{Result, Ok, Err, IfOk}
 use Rattle.calendar.specs.declared.day.DayParts.{DayParts}
 use Rattle.code_items.specs.declared.code.Code.{Code}

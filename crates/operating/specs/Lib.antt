@@ -1,2 +1,3 @@
 pub mod Talks
+pub mod Answers
 pub mod Pieces

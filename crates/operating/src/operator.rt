@@ -1,5 +1,8 @@
 //! Who types the lines of a run, and what is seen of it.
 
+ghost use Rattle.operating.specs.Answers.{answer_bytes};
+ghost use Rattle.std.specs.Prelude.{◌≡◌, ◌++◌, ℕ, List, IfOk, OnErr};
+
 use code_items::Code;
 use machine::ShownAt;
 use screen_lines::Screen;
@@ -33,27 +36,38 @@ pub struct OperatorFailed;
 
 /// Who types the lines of a run.
 pub trait Operator {
+    /// The bytes of all lines that were answered, each with LF behind it.
+    ghost answered: { Self → List ℕ };
+
     /// The run begins: its tables are loaded, and no step is taken yet. Answers which places are marked, one truth
     /// value for each place of the code from 0 on; those that are missing aren't.
-    fn begin(&mut self, code: &Code) -> Result<Vec<bool>, OperatorFailed>;
+    fn begin(&mut self, code: &Code) -> Result<Vec<bool>, OperatorFailed>
+        ensures { answered self.new ≡ answered self.old };
 
     /// The run has taken steps of this cost, of a budget that it had at its beginning. Answers what it goes on for at
     /// most before this is told again. A next step that is dearer is taken all the same, where the budget pays for it.
-    fn hear(&mut self, steps: u64, budget: u64) -> u64;
+    fn hear(&mut self, steps: u64, budget: u64) -> u64
+        ensures { answered self.new ≡ answered self.old };
 
     /// The run has come to a marked place.
-    fn see(&mut self, view: &Scene<'_>) -> Result<(), OperatorFailed>;
+    fn see(&mut self, view: &Scene<'_>) -> Result<(), OperatorFailed>
+        ensures { answered self.new ≡ answered self.old };
 
     /// The next instruction takes a line, and none is left. A line with its LF has at most `room` bytes: where `room`
-    /// is 0 the end of the input alone is left to answer.
-    fn ask(&mut self, view: &Scene<'_>, room: usize) -> Result<Answer, OperatorFailed>;
+    /// is 0 the end of the input alone is left to answer. The line that is answered, and it alone, counts as answered;
+    /// the end of the input and a failure add nothing.
+    fn ask(&mut self, view: &Scene<'_>, room: usize) -> Result<Answer, OperatorFailed>
+        ensures answer { IfOk result (λ answer. answered self.new ≡ answered self.old ++ answer_bytes answer) }
+        ensures failed { OnErr result (answered self.new ≡ answered self.old) };
 
     /// The next instruction takes a line, and the input has ended before: the line is empty. The first such line is
     /// that for which the end was answered, and isn't told so.
-    fn miss(&mut self, view: &Scene<'_>) -> Result<(), OperatorFailed>;
+    fn miss(&mut self, view: &Scene<'_>) -> Result<(), OperatorFailed>
+        ensures { answered self.new ≡ answered self.old };
 
     /// The run has ended, and nothing is saved yet.
-    fn end(&mut self, view: &Scene<'_>) -> Result<(), OperatorFailed>;
+    fn end(&mut self, view: &Scene<'_>) -> Result<(), OperatorFailed>
+        ensures { answered self.new ≡ answered self.old };
 }
 
 /// Why a conversation broke off before its run ended.

@@ -75,6 +75,7 @@ fn take_empty<O: Operator, K: KeyList>(
         → Stood verified.now store today bytes steps banks.old
         → QuietTurned verified.now store today bytes budget turn banks.new) }
     ensures further { IfOk result (IsFurther budget steps) }
+    ensures untold { O.answered operator.new ≡ O.answered operator.old }
 {
     miss(verified, operator, banks)?;
     Ok(take_step(alloc, verified, banks, budget, steps))
@@ -98,6 +99,7 @@ fn take_quiet_turn<O: Operator, K: KeyList>(
         → Stood verified.now store today bytes steps banks.old
         → QuietTurned verified.now store today bytes budget turn banks.new) }
     ensures further { IfOk result (IsFurther budget steps) }
+    ensures untold { O.answered operator.new ≡ O.answered operator.old }
 {
     pieces_make_the_whole();
     let left = budget - steps;
@@ -129,9 +131,10 @@ pub(crate) fn run_out<O: Operator, K: KeyList>(
     requires within { steps ≤ budget }
     requires talked { (store : StoreState) × (today : Option DayParts) × (bytes : List ℕ)
         × Talked verified.now store today bytes steps banks.old }
-    ensures { IfOk result (λ outcome. (store : StoreState) (today : Option DayParts) (bytes : List ℕ)
+    ensures comes_to { IfOk result (λ outcome. (store : StoreState) (today : Option DayParts) (bytes : List ℕ)
         → Talked verified.now store today bytes steps banks.old
         → ComesTo verified.now store today bytes budget outcome banks.new) }
+    ensures untold { O.answered operator.new ≡ O.answered operator.old }
 {
     pieces_make_the_whole();
     let mut turn = take_step(alloc, verified, banks, budget, steps);

@@ -1,9 +1,10 @@
 //! Runs of accepted code that ask an operator for lines.
 
-ghost use Rattle.std.specs.Prelude.{◌≡◌, ◌≤◌, ℕ, true, List, Option, length, IfOk};
+ghost use Rattle.std.specs.Prelude.{◌≡◌, ◌≤◌, ℕ, true, List, Option, length, IfOk, OnErr, OnOk};
 ghost use Rattle.calendar.specs.declared.day.DayParts.{DayParts};
 ghost use Rattle.machine.specs.Showing.{shown_next};
 ghost use Rattle.machine.specs.Twins.{Twin};
+ghost use Rattle.operating.specs.Answers.{AnswersKept, LastUnkept};
 ghost use Rattle.operating.specs.Talks.{ComesTo, IsNearer, Talked, TookLine, Turned};
 ghost use Rattle.run_steps.specs.Shapes.{StoreFits};
 ghost use Rattle.run_steps.specs.World.{World};
@@ -28,9 +29,10 @@ use xverify::Verified;
 /// The most bytes that are typed in a conversation: 1 MiB.
 pub const MOST_TYPED: usize = 1_048_576;
 
-/// The most bytes that all lines have together, each with its LF: those that are typed, and the LF of a last line that
-/// was typed without one.
-pub const MOST_KEPT: usize = MOST_TYPED + 1;
+/// The most bytes that all lines have together, each with its LF: those that are typed, and the end of a last line that
+/// was typed without one. Where that line ends with a return, its end is a return and LF, since a return just before LF
+/// is no part of a line.
+pub const MOST_KEPT: usize = MOST_TYPED + 2;
 
 /// What a turn of the conversation leads to.
 #[derive(Clone, Copy)]
@@ -71,9 +73,13 @@ fn take_one<J: Journal, O: Operator, K: KeyList>(
     used: usize,
 ) -> Result<Option<usize>, Broken>
     requires out { is_out banks.old.env.lines ≡ true }
-    requires few { used ≤ 1048577 }
-    ensures { IfOk result (λ longer. TookLine (J.holds journal.old) banks.old used 1048577 longer
+    requires few { used ≤ 1048578 }
+    ensures took { IfOk result (λ longer. TookLine (J.holds journal.old) banks.old used 1048578 longer
         (J.holds journal.new) banks.new) }
+    ensures kept { OnOk result (AnswersKept (O.answered operator.old) (O.answered operator.new)
+        (J.holds journal.old) (J.holds journal.new)) }
+    ensures unkept { OnErr result (LastUnkept (O.answered operator.old) (O.answered operator.new)
+        (J.holds journal.old) (J.holds journal.new)) }
 {
     let room = MOST_KEPT - used;
     let line = match operator.ask(&view_of(verified, banks), room) {
@@ -100,6 +106,7 @@ pub(crate) fn show<O: Operator, K: KeyList>(
     banks: &Banks<K>,
 ) -> Result<(), Broken>
     requires { (w : World) × Twin verified.now w banks.now }
+    ensures untold { O.answered operator.new ≡ O.answered operator.old }
 {
     match operator.see(&marked_view(verified, banks)) {
         Ok(()) => Ok(()),
@@ -112,7 +119,9 @@ pub(crate) fn miss<O: Operator, K: KeyList>(
     verified: &Verified,
     operator: &mut O,
     banks: &Banks<K>,
-) -> Result<(), Broken> {
+) -> Result<(), Broken>
+    ensures untold { O.answered operator.new ≡ O.answered operator.old }
+{
     match operator.miss(&view_of(verified, banks)) {
         Ok(()) => Ok(()),
         Err(_) => Err(Broken::Operator),
@@ -124,7 +133,9 @@ fn close<O: Operator, K: KeyList>(
     verified: &Verified,
     operator: &mut O,
     banks: &Banks<K>,
-) -> Result<(), Broken> {
+) -> Result<(), Broken>
+    ensures untold { O.answered operator.new ≡ O.answered operator.old }
+{
     match operator.end(&view_of(verified, banks)) {
         Ok(()) => Ok(()),
         Err(_) => Err(Broken::Operator),
@@ -144,14 +155,18 @@ fn answer<J: Journal, O: Operator, K: KeyList>(
     used: usize,
 ) -> Result<Turn, Broken>
     requires within { steps ≤ budget }
-    requires few { used ≤ 1048577 }
+    requires few { used ≤ 1048578 }
     requires out { is_out banks.old.env.lines ≡ true }
     requires talked { (store : StoreState) × (today : Option DayParts)
         × Talked verified.now store today (J.holds journal.old) steps banks.old }
     ensures turned { IfOk result (λ turn. (store : StoreState) (today : Option DayParts)
         → Talked verified.now store today (J.holds journal.old) steps banks.old
         → Turned verified.now store today (J.holds journal.new) budget turn banks.new) }
-    ensures nearer { IfOk result (IsNearer budget 1048577 steps used) }
+    ensures nearer { IfOk result (IsNearer budget 1048578 steps used) }
+    ensures kept { OnOk result (AnswersKept (O.answered operator.old) (O.answered operator.new)
+        (J.holds journal.old) (J.holds journal.new)) }
+    ensures unkept { OnErr result (LastUnkept (O.answered operator.old) (O.answered operator.new)
+        (J.holds journal.old) (J.holds journal.new)) }
 {
     banks_go_on(verified);
     lines_behind_change_no_step();
@@ -183,13 +198,17 @@ fn take_turn<J: Journal, O: Operator, K: KeyList>(
     used: usize,
 ) -> Result<Turn, Broken>
     requires within { steps ≤ budget }
-    requires few { used ≤ 1048577 }
+    requires few { used ≤ 1048578 }
     requires talked { (store : StoreState) × (today : Option DayParts)
         × Talked verified.now store today (J.holds journal.old) steps banks.old }
     ensures turned { IfOk result (λ turn. (store : StoreState) (today : Option DayParts)
         → Talked verified.now store today (J.holds journal.old) steps banks.old
         → Turned verified.now store today (J.holds journal.new) budget turn banks.new) }
-    ensures nearer { IfOk result (IsNearer budget 1048577 steps used) }
+    ensures nearer { IfOk result (IsNearer budget 1048578 steps used) }
+    ensures kept { OnOk result (AnswersKept (O.answered operator.old) (O.answered operator.new)
+        (J.holds journal.old) (J.holds journal.new)) }
+    ensures unkept { OnErr result (LastUnkept (O.answered operator.old) (O.answered operator.new)
+        (J.holds journal.old) (J.holds journal.new)) }
 {
     pieces_make_the_whole();
     let left = budget - steps;
@@ -235,12 +254,16 @@ fn take_turns<J: Journal, O: Operator, K: KeyList>(
     budget: u64,
     used: usize,
 ) -> Result<Outcome, Broken>
-    requires few { used ≤ 1048577 }
+    requires few { used ≤ 1048578 }
     requires talked { (store : StoreState) × (today : Option DayParts)
         × Talked verified.now store today (J.holds journal.old) 0 banks.old }
-    ensures { IfOk result (λ outcome. (store : StoreState) (today : Option DayParts)
+    ensures comes_to { IfOk result (λ outcome. (store : StoreState) (today : Option DayParts)
         → Talked verified.now store today (J.holds journal.old) 0 banks.old
         → ComesTo verified.now store today (J.holds journal.new) budget outcome banks.new) }
+    ensures kept { OnOk result (AnswersKept (O.answered operator.old) (O.answered operator.new)
+        (J.holds journal.old) (J.holds journal.new)) }
+    ensures unkept { OnErr result (LastUnkept (O.answered operator.old) (O.answered operator.new)
+        (J.holds journal.old) (J.holds journal.new)) }
 {
     let mut steps = 0;
     let mut used = used;
@@ -262,7 +285,9 @@ fn take_turns<J: Journal, O: Operator, K: KeyList>(
 }
 
 /// Tells the operator that the run begins. Answers which places are marked.
-fn begin<O: Operator>(verified: &Verified, operator: &mut O) -> Result<Vec<bool>, Broken> {
+fn begin<O: Operator>(verified: &Verified, operator: &mut O) -> Result<Vec<bool>, Broken>
+    ensures untold { O.answered operator.new ≡ O.answered operator.old }
+{
     match operator.begin(verified.code()) {
         Ok(marks) => Ok(marks),
         Err(_) => Err(Broken::Operator),
@@ -315,7 +340,8 @@ pub struct EndedTalk<K: KeyList> {
 /// lines that the journal holds, and goes on with those that the operator answers: each is kept in the journal before
 /// the run sees it. Behind the end of the input each further line is empty. The run ends as that over all lines that
 /// the journal holds then: at the same cost, with the same screen and tables. Whether the budget is spent is judged
-/// before a line is asked for.
+/// before a line is asked for. Where the conversation breaks off, the last line that was answered may be missing in the
+/// journal.
 ///
 /// # Errors
 /// The operator or the journal failed, or a line isn't one, or memory was refused before the run began or for a line.
@@ -333,8 +359,14 @@ pub fn converse<J: Journal, O: Operator, K: KeyList>(
     requires held { J.holds journal.old ≡ handed.now }
     requires ended { is_ended_text handed.now ≡ true }
     requires few { length handed.now ≤ 1048576 }
-    ensures { IfOk result (λ talk. ComesTo verified.now store today (J.holds journal.new) budget talk.outcome
+    ensures comes_to { IfOk result (λ talk. ComesTo verified.now store today (J.holds journal.new) budget talk.outcome
         talk.banks) }
+
+    // What the journal holds then is what it held before, with the lines that were answered behind it, and nothing else.
+    ensures kept { OnOk result (AnswersKept (O.answered operator.old) (O.answered operator.new)
+        (J.holds journal.old) (J.holds journal.new)) }
+    ensures unkept { OnErr result (LastUnkept (O.answered operator.old) (O.answered operator.new)
+        (J.holds journal.old) (J.holds journal.new)) }
 {
     let marks = begin(verified, operator)?;
     let mut banks = begun(alloc, verified, store, today, handed)?;

@@ -1,12 +1,15 @@
 //! The operator's desk: what a person or another program sees of a run, and types for it.
 #![tactic(auto)]
 
+ghost use Rattle.std.specs.Prelude.{◌≡◌};
+
 use crate::begun::Talk;
 use crate::gets::{Gets, WaitingPlace, bad_answer, without_return};
 use crate::held_lines::OwnLines;
 use crate::record::Record;
 use crate::screens::Screens;
 use crate::typing::{Typed, next_line};
+use crate::typist::TakenLines;
 use code_items::Code;
 use code_pages::{CodePage, LetterFault, in_page};
 use folder_files::FileSum;
@@ -21,6 +24,9 @@ use terminal_screen::{Drawing, Window, drawn, left, plain_lines, sent_lines};
 
 /// What a person at a terminal is told who ends the input.
 const AT_END: &str = "Ctrl-C leaves everything for --continue; END typed means no more lines come";
+
+/// What is told where no more lines are taken.
+const TOO_LONG: &str = "all lines together are longer than 1 MiB; no more lines are taken";
 
 /// The most bytes that are read of a line: a letter in UTF-8 has up to three for one of its page.
 const MOST_READ: usize = 3 * MOST_TYPED;
@@ -64,6 +70,12 @@ pub struct OperatorDesk<'a, R: Runtime<A = Global, File = File>> {
     pub cut: String,
     /// Whether a person ended the input at this question.
     pub ended: bool,
+    /// What is told at the end too, since no drawing follows that would show it; empty where nothing is.
+    pub last_note: &'static str,
+    /// Whether another program typed a letter that the page lacks, so that the conversation broke off.
+    pub lacks_letter: bool,
+    /// The lines that were answered.
+    pub answers: TakenLines,
 }
 
 impl<R: Runtime<A = Global, File = File>> OperatorDesk<'_, R> {
@@ -82,7 +94,9 @@ impl<R: Runtime<A = Global, File = File>> OperatorDesk<'_, R> {
     }
 
     /// Prints rows on standard output, where that is another place than the screen's.
-    fn print_sent(&mut self, alloc: Global, seen: &Scene<'_>) -> Result<(), OperatorFailed> {
+    fn print_sent(&mut self, alloc: Global, seen: &Scene<'_>) -> Result<(), OperatorFailed>
+        ensures untold { self.new.answers ≡ self.old.answers }
+    {
         if !self.manner.one_terminal {
             self.print_rows(alloc, self.unshown(seen))?;
         }
@@ -196,7 +210,9 @@ impl<R: Runtime<A = Global, File = File>> OperatorDesk<'_, R> {
     }
 
     /// Lists the rows that left the screen and those that changed, and what waits.
-    fn list(&mut self, alloc: Global, seen: &Scene<'_>) -> Result<(), OperatorFailed> {
+    fn list(&mut self, alloc: Global, seen: &Scene<'_>) -> Result<(), OperatorFailed>
+        ensures untold { self.new.answers ≡ self.old.answers }
+    {
         self.list_sent(alloc, seen)?;
         let rows = seen.screen.rows();
         match plain_lines(alloc, self.before.as_slice(), rows, self.manner.page) {
@@ -230,7 +246,9 @@ impl<R: Runtime<A = Global, File = File>> OperatorDesk<'_, R> {
     }
 
     /// Shows the run as it waits.
-    fn show_all(&mut self, alloc: Global, seen: &Scene<'_>) -> Result<(), OperatorFailed> {
+    fn show_all(&mut self, alloc: Global, seen: &Scene<'_>) -> Result<(), OperatorFailed>
+        ensures untold { self.new.answers ≡ self.old.answers }
+    {
         match self.manner.window {
             Some(window) => self.draw(alloc, window, seen)?,
             None => self.list(alloc, seen)?,
@@ -254,7 +272,9 @@ impl<R: Runtime<A = Global, File = File>> OperatorDesk<'_, R> {
     }
 
     /// What becomes of the end of the input. A person ends it once without harm.
-    fn at_end(&mut self) -> Result<Option<Answer>, OperatorFailed> {
+    fn at_end(&mut self) -> Result<Option<Answer>, OperatorFailed>
+        ensures untold { self.new.answers ≡ self.old.answers }
+    {
         if !self.manner.typing {
             return Ok(Some(Answer::End));
         }
@@ -267,28 +287,42 @@ impl<R: Runtime<A = Global, File = File>> OperatorDesk<'_, R> {
         Ok(None)
     }
 
+    /// What becomes of a line with a letter that the page lacks. A person types it again; another program can't, and its
+    /// next line would come in the place of this one.
+    fn without_letter(&mut self) -> Result<Option<Answer>, OperatorFailed>
+        ensures untold { self.new.answers ≡ self.old.answers }
+    {
+        if !self.manner.typing {
+            self.lacks_letter = true;
+            return Err(OperatorFailed);
+        }
+        self.note = "the code page lacks a letter of this line; type it again";
+        Ok(None)
+    }
+
     /// What becomes of a line that was typed; none where another one is to be typed.
     fn of_line(
         &mut self,
         alloc: Global,
         line: Vec<u8>,
         room: usize,
-    ) -> Result<Option<Answer>, OperatorFailed> {
-        if self.ended && without_return(line.as_slice()) == b"END".as_slice() {
+    ) -> Result<Option<Answer>, OperatorFailed>
+        ensures untold { self.new.answers ≡ self.old.answers }
+    {
+        if self.ended && without_return(line.as_slice()).eq_ignore_ascii_case(b"END") {
             return Ok(Some(Answer::End));
         }
         match self.in_its_page(alloc, line)? {
             Some(bytes) if bytes.len() < room => Ok(Some(Answer::Line(bytes))),
             Some(_) => Ok(Some(self.refuse_line())),
-            None => {
-                self.note = "the code page lacks a letter of this line; type it again";
-                Ok(None)
-            }
+            None => self.without_letter(),
         }
     }
 
     /// One reading of a line; none where another one is to be read.
-    fn read(&mut self, alloc: Global, room: usize) -> Result<Option<Answer>, OperatorFailed> {
+    fn read(&mut self, alloc: Global, room: usize) -> Result<Option<Answer>, OperatorFailed>
+        ensures untold { self.new.answers ≡ self.old.answers }
+    {
         match next_line(alloc, &mut self.reader, MOST_READ) {
             Ok(Typed::Line(line)) => self.of_line(alloc, line, room),
             Ok(Typed::Long) => Ok(Some(self.refuse_line())),
@@ -297,11 +331,34 @@ impl<R: Runtime<A = Global, File = File>> OperatorDesk<'_, R> {
         }
     }
 
-    /// Says that a line is too long: the input ends.
-    fn refuse_line(&self) -> Answer {
-        let _ = eprintln!(self.rt;
-            "all lines together are longer than 1 MiB; no more lines are taken"
-        );
+    /// Shows the run as it waits and reads lines until one is an answer.
+    fn wait_for_answer(
+        &mut self,
+        alloc: Global,
+        seen: &Scene<'_>,
+        room: usize,
+    ) -> Result<Answer, OperatorFailed>
+        ensures untold { self.new.answers ≡ self.old.answers }
+    {
+        for _ in 0..u32::MAX {
+            self.show_all(alloc, seen)?;
+            if let Some(answer) = self.read(alloc, room)? {
+                return Ok(answer);
+            }
+        }
+        Err(OperatorFailed)
+    }
+
+    /// Says that a line is too long: the input ends. What is drawn is wiped at the end, so it is told behind it.
+    fn refuse_line(&mut self) -> Answer
+        ensures untold { self.new.answers ≡ self.old.answers }
+    {
+        match self.manner.window {
+            Some(_) => self.last_note = TOO_LONG,
+            None => {
+                let _ = eprintln!(self.rt; "{TOO_LONG}");
+            }
+        }
         Answer::End
     }
 
@@ -311,7 +368,9 @@ impl<R: Runtime<A = Global, File = File>> OperatorDesk<'_, R> {
         alloc: Global,
         answer: &Answer,
         seen: &Scene<'_>,
-    ) -> Result<(), OperatorFailed> {
+    ) -> Result<(), OperatorFailed>
+        ensures untold { self.new.answers ≡ self.old.answers }
+    {
         self.ended = false;
         self.cut = String::new(alloc);
         let line = match answer {
@@ -323,7 +382,9 @@ impl<R: Runtime<A = Global, File = File>> OperatorDesk<'_, R> {
     }
 
     /// Lays a line that is taken now over its field, and writes the screen before it.
-    fn take(&mut self, alloc: Global, line: &[u8], seen: &Scene<'_>) -> Result<(), OperatorFailed> {
+    fn take(&mut self, alloc: Global, line: &[u8], seen: &Scene<'_>) -> Result<(), OperatorFailed>
+        ensures untold { self.new.answers ≡ self.old.answers }
+    {
         if self.gets.take(alloc, line, seen).is_err() {
             return Err(OperatorFailed);
         }
@@ -336,7 +397,9 @@ impl<R: Runtime<A = Global, File = File>> OperatorDesk<'_, R> {
         alloc: Global,
         rows: &[[u8; 80]],
         line: Option<&[u8]>,
-    ) -> Result<(), OperatorFailed> {
+    ) -> Result<(), OperatorFailed>
+        ensures untold { self.new.answers ≡ self.old.answers }
+    {
         if self.screens.write(alloc, rows, line).is_err() {
             return Err(self.unwritten_screens());
         }
@@ -344,7 +407,9 @@ impl<R: Runtime<A = Global, File = File>> OperatorDesk<'_, R> {
     }
 
     /// Remembers that the file for screens can't be written.
-    fn unwritten_screens(&mut self) -> OperatorFailed {
+    fn unwritten_screens(&mut self) -> OperatorFailed
+        ensures untold { self.new.answers ≡ self.old.answers }
+    {
         if let Some(name) = self.screens.name() {
             self.record.unwritten = String::from_str(self.rt.alloc(), name).ok();
         }
@@ -352,7 +417,9 @@ impl<R: Runtime<A = Global, File = File>> OperatorDesk<'_, R> {
     }
 
     /// Makes the file for screens, where there is to be one.
-    fn make_screens(&mut self) -> Result<(), OperatorFailed> {
+    fn make_screens(&mut self) -> Result<(), OperatorFailed>
+        ensures untold { self.new.answers ≡ self.old.answers }
+    {
         if self.screens.make(self.rt).is_err() {
             return Err(self.unwritten_screens());
         }
@@ -360,7 +427,9 @@ impl<R: Runtime<A = Global, File = File>> OperatorDesk<'_, R> {
     }
 
     /// Says beside the journal how the conversation begins, or looks whether it may go on.
-    fn open(&mut self, alloc: Global) -> Result<(), OperatorFailed> {
+    fn open(&mut self, alloc: Global) -> Result<(), OperatorFailed>
+        ensures untold { self.new.answers ≡ self.old.answers }
+    {
         match self.sums.try_borrow() {
             Ok(sums) => self.record.begin(alloc, self.talk, sums.as_slice()),
             Err(_) => Err(OperatorFailed),
@@ -368,7 +437,9 @@ impl<R: Runtime<A = Global, File = File>> OperatorDesk<'_, R> {
     }
 
     /// Cuts off what stands behind the journal's lines, and shows it.
-    fn cut_tail(&mut self, alloc: Global) -> Result<(), OperatorFailed> {
+    fn cut_tail(&mut self, alloc: Global) -> Result<(), OperatorFailed>
+        ensures untold { self.new.answers ≡ self.old.answers }
+    {
         let Some(tail) = self.record.cut_tail()? else {
             return Ok(());
         };
@@ -386,7 +457,9 @@ impl<R: Runtime<A = Global, File = File>> OperatorDesk<'_, R> {
     }
 
     /// What becomes of the next line that the journal held, where the run has come to the place that takes it.
-    fn pass_held(&mut self, seen: &Scene<'_>) -> Result<(), OperatorFailed> {
+    fn pass_held(&mut self, seen: &Scene<'_>) -> Result<(), OperatorFailed>
+        ensures untold { self.new.answers ≡ self.old.answers }
+    {
         let alloc = self.rt.alloc();
         let Ok(next) = self.held.next(alloc) else {
             return Err(OperatorFailed);
@@ -403,7 +476,9 @@ impl<R: Runtime<A = Global, File = File>> OperatorDesk<'_, R> {
 
     /// What becomes of the first line that the journal held, where the code takes one before any step: no place is
     /// looked at before it.
-    fn pass_first(&mut self, alloc: Global) -> Result<(), OperatorFailed> {
+    fn pass_first(&mut self, alloc: Global) -> Result<(), OperatorFailed>
+        ensures untold { self.new.answers ≡ self.old.answers }
+    {
         if !self.gets.takes_line(0) {
             return Ok(());
         }
@@ -419,6 +494,8 @@ impl<R: Runtime<A = Global, File = File>> OperatorDesk<'_, R> {
 }
 
 impl<R: Runtime<A = Global, File = File>> Operator for OperatorDesk<'_, R> {
+    ghost answered = { λ desk. desk.answers.bytes.items };
+
     fn begin(&mut self, code: &Code) -> Result<Vec<bool>, OperatorFailed> {
         let alloc = self.rt.alloc();
         self.open(alloc)?;
@@ -453,14 +530,12 @@ impl<R: Runtime<A = Global, File = File>> Operator for OperatorDesk<'_, R> {
         }
         // the journal is given to `run`, so it has no more than is typed for one
         let room = room.saturating_sub(MOST_KEPT - MOST_TYPED);
-        for _ in 0..u32::MAX {
-            self.show_all(alloc, seen)?;
-            if let Some(answer) = self.read(alloc, room)? {
-                self.note_answer(alloc, &answer, seen)?;
-                return Ok(answer);
-            }
+        let answer = self.wait_for_answer(alloc, seen, room)?;
+        self.note_answer(alloc, &answer, seen)?;
+        match answer {
+            Answer::Line(line) => self.answers.answer(alloc, line.as_slice()),
+            Answer::End => Ok(Answer::End),
         }
-        Err(OperatorFailed)
     }
 
     fn miss(&mut self, seen: &Scene<'_>) -> Result<(), OperatorFailed> {

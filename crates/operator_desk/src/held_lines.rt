@@ -3,7 +3,7 @@
 
 ghost use Rattle.operator_desk.specs.Held.{behind_line, first_line, left_of, left_of_own};
 ghost use Rattle.operator_desk.specs.Held.{line_length as line_length_of};
-ghost use Rattle.std.specs.Prelude.{◌≡◌, ◌≤◌, ◌↔◌, [], IfOk, IfSome, IsNone, MatchOption, OnErr, length};
+ghost use Rattle.std.specs.Prelude.{◌≡◌, ◌≤◌, ◌↔◌, [], true, IfOk, IfSome, IsNone, MatchOption, OnErr, length};
 
 use std::alloc::{AllocError, Global};
 
@@ -22,6 +22,13 @@ fn line_length(text: &[u8]) -> usize
 }
 
 impl<'a> HeldLines<'a> {
+    /// Whether none is left.
+    pub fn is_empty(&self) -> bool
+        ensures { (result ≡ true) ↔ (left_of self.now ≡ []) }
+    {
+        self.left.is_empty()
+    }
+
     /// All lines of this text.
     pub fn of(text: &'a [u8]) -> HeldLines<'a>
         ensures { left_of result ≡ text.now }

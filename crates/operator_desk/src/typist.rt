@@ -1,13 +1,17 @@
 //! Who types lines that are all there, so that the screens before them can be kept.
 #![tactic(auto)]
 
+ghost use Rattle.operating.specs.Answers.{answer_bytes};
+ghost use Rattle.std.specs.Prelude.{◌≡◌, ◌++◌, [], IfOk, OnErr};
+
+use crate::gets::without_return;
 use crate::held_lines::HeldLines;
 use crate::screens::Screens;
 use code_items::Code;
-use line_journal::{Journal, JournalFailed};
+use line_journal::{Journal, JournalFailed, keep};
 use operating::{Answer, Operator, OperatorFailed, Scene};
 use run_commands::Watcher;
-use std::alloc::Global;
+use std::alloc::{Alloc, Global};
 use std::fs::File;
 use std::rt::Runtime;
 
@@ -28,21 +32,56 @@ impl Journal for TakenLines {
     }
 }
 
+impl TakenLines {
+    /// None.
+    pub fn new(alloc: Global) -> TakenLines
+        ensures { result.bytes.items ≡ [] }
+    {
+        TakenLines {
+            bytes: Vec::new(alloc),
+        }
+    }
+
+    /// Adds a line with LF behind it, and answers it.
+    ///
+    /// # Errors
+    /// Memory was refused, and nothing is added.
+    pub fn answer(&mut self, alloc: Global, line: &[u8]) -> Result<Answer, OperatorFailed>
+        ensures answer { IfOk result (λ answer. self.new.bytes.items
+            ≡ self.old.bytes.items ++ answer_bytes answer) }
+        ensures failed { OnErr result (self.new.bytes.items ≡ self.old.bytes.items) }
+    {
+        let (Ok(line), Ok(kept)) = (Vec::from_slice(alloc, line), Vec::from_slice(alloc, line))
+        else {
+            return Err(OperatorFailed);
+        };
+        match keep(self, kept) {
+            Ok(_) => Ok(Answer::Line(line)),
+            Err(_) => Err(OperatorFailed),
+        }
+    }
+}
+
 /// Types the lines of a text, one after another, and then ends the input. The watcher is told how far the run has come.
 #[derive(Drop)]
 pub struct Typist<'a, R, W: Drop> {
     rt: &'a R,
     left: HeldLines<'a>,
+    /// Whether the text ends with a return, which belongs to its last line then.
+    ends_with_return: bool,
+    taken: TakenLines,
     screens: Screens,
     watcher: W,
 }
 
-impl<'a, R, W: Drop> Typist<'a, R, W> {
+impl<'a, R: Alloc<A = Global>, W: Drop> Typist<'a, R, W> {
     /// One that types the lines of this text. The last one needs no line end.
     pub fn of(rt: &'a R, text: &'a [u8], screens: Screens, watcher: W) -> Typist<'a, R, W> {
         Typist {
             rt,
             left: HeldLines::of(text),
+            ends_with_return: text.ends_with(b"\r"),
+            taken: TakenLines::new(rt.alloc()),
             screens,
             watcher,
         }
@@ -54,7 +93,28 @@ impl<'a, R, W: Drop> Typist<'a, R, W> {
     }
 }
 
+impl<R, W: Drop> Typist<'_, R, W> {
+    /// The next line, as it is typed before LF. A return just before LF is no part of a line. So behind a return that
+    /// ends the text, and belongs to its last line, another one is typed.
+    fn next_line(&mut self, alloc: Global) -> Result<Option<Vec<u8>>, OperatorFailed>
+        ensures { self.new.taken ≡ self.old.taken }
+    {
+        let Some(line) = self.left.next() else {
+            return Ok(None);
+        };
+        let Ok(mut line) = Vec::from_slice(alloc, line) else {
+            return Err(OperatorFailed);
+        };
+        if self.ends_with_return && self.left.is_empty() && line.push(b'\r').is_err() {
+            return Err(OperatorFailed);
+        }
+        Ok(Some(line))
+    }
+}
+
 impl<R: Runtime<A = Global, File = File>, W: Watcher + Drop> Operator for Typist<'_, R, W> {
+    ghost answered = { λ typist. typist.taken.bytes.items };
+
     fn begin(&mut self, _: &Code) -> Result<Vec<bool>, OperatorFailed> {
         self.screens.make(self.rt)?;
         Ok(Vec::new(self.rt.alloc()))
@@ -75,16 +135,13 @@ impl<R: Runtime<A = Global, File = File>, W: Watcher + Drop> Operator for Typist
 
     fn ask(&mut self, seen: &Scene<'_>, _: usize) -> Result<Answer, OperatorFailed> {
         let alloc = self.rt.alloc();
-        let line = self.left.next();
-        self.screens
-            .write(alloc, seen.screen.rows(), Some(line.unwrap_or(&[])))?;
-        match line {
-            Some(line) => match Vec::from_slice(alloc, line) {
-                Ok(line) => Ok(Answer::Line(line)),
-                Err(_) => Err(OperatorFailed),
-            },
-            None => Ok(Answer::End),
-        }
+        let Some(line) = self.next_line(alloc)? else {
+            self.screens.write(alloc, seen.screen.rows(), Some(&[]))?;
+            return Ok(Answer::End);
+        };
+        let shown = without_return(line.as_slice());
+        self.screens.write(alloc, seen.screen.rows(), Some(shown))?;
+        self.taken.answer(alloc, line.as_slice())
     }
 
     fn end(&mut self, seen: &Scene<'_>) -> Result<(), OperatorFailed> {

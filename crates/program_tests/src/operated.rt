@@ -1,12 +1,14 @@
 // Conversations: an operator types the lines of a run while it goes on, and a journal keeps them.
 #![tactic(auto)]
 
+ghost use Rattle.std.specs.Prelude.{◌≡◌};
+
 use super::cases::{CODE, RunCase, compiled, entries, listing, printing};
 use super::stored::day_of;
 use super::tables::table;
 use code_items::Code;
 use file_access::{MemoryEntry, MemoryFiles, WORKS_FOR_EVER};
-use line_journal::{Journal, JournalFailed};
+use line_journal::{Journal, JournalFailed, keep};
 use operating::{Answer, Broken, Operator, OperatorFailed, Scene};
 use run_commands::{Job, OperateRefusal, RecordLimit, operate_files, rehearse_talk};
 use std::alloc::{AllocError, Global};
@@ -43,10 +45,14 @@ struct Script<'a> {
     part: u64,
     /// The first row of the screen before each line, and at the end.
     seen: Vec<[u8; 80]>,
+    /// The lines that were answered.
+    answers: Kept,
 }
 
 impl Script<'_> {
-    fn look(&mut self, scene: &Scene<'_>) -> Result<(), OperatorFailed> {
+    fn look(&mut self, scene: &Scene<'_>) -> Result<(), OperatorFailed>
+        ensures { self.new.answers ≡ self.old.answers }
+    {
         let Some(row) = scene.screen.rows().first() else {
             return Err(OperatorFailed);
         };
@@ -58,6 +64,8 @@ impl Script<'_> {
 }
 
 impl Operator for Script<'_> {
+    ghost answered = { λ script. script.answers.bytes.items };
+
     fn begin(&mut self, _: &Code) -> Result<Vec<bool>, OperatorFailed> {
         Ok(Vec::new(self.alloc))
     }
@@ -83,10 +91,15 @@ impl Operator for Script<'_> {
                 Ok(Answer::End)
             };
         };
-        let answer = Vec::from_slice(self.alloc, line.as_bytes());
+        let (Ok(answer), Ok(kept)) = (
+            Vec::from_slice(self.alloc, line.as_bytes()),
+            Vec::from_slice(self.alloc, line.as_bytes()),
+        ) else {
+            return Err(OperatorFailed);
+        };
         self.typed = self.typed.saturating_add(1);
-        match answer {
-            Ok(line) => Ok(Answer::Line(line)),
+        match keep(&mut self.answers, kept) {
+            Ok(_) => Ok(Answer::Line(answer)),
             Err(_) => Err(OperatorFailed),
         }
     }
@@ -174,6 +187,10 @@ fn operated(
         fails: typing.fails,
         part: typing.part,
         seen: Vec::new(alloc),
+        answers: Kept {
+            bytes: Vec::new(alloc),
+            room: usize::MAX,
+        },
     };
     let (rows, told) = if rehearsed {
         match rehearse_talk(alloc, files, &job, &mut journal, &mut script) {

@@ -16,6 +16,7 @@ use Rattle.run_commands.specs.declared.ending.Ended.{Ended}
 use Rattle.run_commands.specs.declared.job.Job.{Job}
 use Rattle.run_commands.specs.declared.refusal.RunRefusal.{RunRefusal}
 use Rattle.run_commands.specs.declared.refusal.RunRefusal.TheVariants.{File, Rule, Disk, Tables, Memory}
+use Rattle.run_commands.specs.declared.machines.Run.{Run as AnyRun}
 use Rattle.run_commands.specs.declared.rehearsing.Compared.{Compared}
 use Rattle.run_commands.specs.declared.rehearsing.Rehearsal.{Rehearsal}
 use Rattle.run_commands.specs.declared.running.Report.{Report}
@@ -24,7 +25,7 @@ use Rattle.run_commands.specs.Parts.{IsOfTables, CodeRefused, SavedAll, SavedSom
 use Rattle.run_commands.specs.Rehearsals.{IsRehearsed, IsToldAs, LeavesTables}
 use Rattle.run_commands.specs.Reports.{CodeRan, HasRun, IsTold, IsTested, IsSavedRun, MayLoad, RefusedBefore, SavingStopped}
 use Rattle.run_commands.specs.Runs.{IsSoundRun, begun}
-use Rattle.run_commands.proofs.Rehearsed.{leaves_of, may_accepted, refused_tables, rehearsed, rehearsed_from}
+use Rattle.run_commands.proofs.Rehearsed.{leaves_told, may_accepted, refused_tables, rehearsed, rehearsed_from}
 use Rattle.run_commands.proofs.Reported.{IsDone, saved_run, stopped_run, has_run, each_stopped, refused_before}
 use Rattle.run_steps.specs.declared.ending.Outcome.{Outcome}
 use Rattle.run_steps.specs.Opening.{opening}
@@ -194,11 +195,12 @@ refused_over a b same broke breaks f job code file (Err refusal) h = read_refusa
 
 -- ---- a run that is rehearsed
 
-pub leaves_over : (a : Holds) (job : Job) (typed : List ℕ) (code seen : Code) (outcome : Outcome) (rows : List ℕ) (store tables shown : StoreState) (changes : Changes) (limit : ℕ) → seen ≡ code → limit ≡ job.limit
-    → Loaded a seen.declared.shape limit store → SoundOver code store job typed outcome rows tables → shown ≡ tables → AreChanges seen.declared.shape store shown changes
-    → (whole : Job) → IsWith job typed whole → LeavesTables a whole code outcome rows changes
-leaves_over a job typed code seen outcome rows store tables shown changes limit lent limited loaded sound same changed = λ whole w.
-    leaves_of a whole code seen outcome rows store tables shown changes limit lent (limited ∙ sym w.limit) loaded (sound whole w) same changed
+pub leaves_over : {E : Type 0} (a : Holds) (job : Job) (typed : List ℕ) (code seen : Code) (done : Compared) (run from : AnyRun) (store tables shown : StoreState) (found : Result Changes E) (limit : ℕ) → seen ≡ code → limit ≡ job.limit
+    → Loaded a seen.declared.shape limit store → SoundOver code store job typed from.outcome from.rows.items tables → run ≡ from → shown ≡ tables → IfOk found (AreChanges seen.declared.shape store shown)
+    → (found ≡ Ok done.changes) × (done.outcome ≡ run.outcome) × (done.rows ≡ run.rows)
+    → (whole : Job) → IsWith job typed whole → LeavesTables a whole code done.outcome done.rows.items done.changes
+leaves_over a job typed code seen done run from store tables shown found limit lent limited loaded sound alone same changed told = λ whole w.
+    leaves_told a whole code seen done run from store tables shown found limit lent (limited ∙ sym w.limit) loaded (sound whole w) alone same changed told
 
 pub rehearsed_over : (a : Holds) (job : Job) (typed : List ℕ) (code seen : Code) (done : Compared) → seen ≡ code → Accepted seen → job.checked ≡ false → (told : Rehearsal) → IsToldAs seen.declared.shape done told
     → ((whole : Job) → IsWith job typed whole → LeavesTables a whole code done.outcome done.rows.items done.changes) → (whole : Job) → IsWith job typed whole → IsRehearsed a whole told code

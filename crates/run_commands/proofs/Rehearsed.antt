@@ -1,5 +1,5 @@
 -- What the parts of a rehearsal say to each other, put together.
-use Rattle.std.proofs.Common.{◌≡◌, ◌≤◌, subst, sym, true, false, ℕ, List, map, IfErr}
+use Rattle.std.proofs.Common.{◌≡◌, ◌≤◌, ◌∙◌, ap, subst, sym, true, false, ℕ, List, map, IfErr}
 use Rattle.std.specs.Prelude.{Result, Ok, Err, IfOk, MatchBool, ⊤}
 use Rattle.code_items.specs.declared.code.Code.{Code}
 use Rattle.code_rules.specs.Rules.{Accepted}
@@ -9,6 +9,7 @@ use Rattle.run_commands.specs.declared.job.Job.{Job}
 use Rattle.run_commands.specs.declared.refusal.RunRefusal.{RunRefusal}
 use Rattle.run_commands.specs.declared.refusal.RunRefusal.TheVariants.{File, Rule, Disk, Tables, Memory}
 use Rattle.run_commands.specs.declared.rehearsing.Compared.{Compared}
+use Rattle.run_commands.specs.declared.machines.Run.{Run}
 use Rattle.run_commands.specs.declared.rehearsing.Rehearsal.{Rehearsal}
 use Rattle.run_commands.specs.Parts.{IsOfTables, CodeRefused}
 use Rattle.run_commands.specs.Rehearsals.{LeavesTables, IsRehearsed, IsToldAs}
@@ -58,6 +59,18 @@ leaves_of a job code seen outcome rows store tables shown changes limit lent lim
   left = left_soundly code store job outcome rows tables run;
   changed = subst (λ t. AreChanges code.declared.shape store t changes) same (subst (λ (s : Code). AreChanges s.declared.shape store shown changes) lent changed);
 }
+
+-- the same, as it is told with what became of its tables
+pub leaves_told : {E : Type 0} (a : Holds) (job : Job) (code seen : Code) (done : Compared) (run from : Run) (store tables shown : StoreState) (found : Result Changes E) (limit : ℕ) → seen ≡ code → limit ≡ job.limit
+    → Loaded a seen.declared.shape limit store → IsSoundRun code store job from.outcome from.rows.items tables → run ≡ from → shown ≡ tables → IfOk found (AreChanges seen.declared.shape store shown)
+    → (found ≡ Ok done.changes) × (done.outcome ≡ run.outcome) × (done.rows ≡ run.rows) → LeavesTables a job code done.outcome done.rows.items done.changes
+leaves_told a job code seen done run from store tables shown found limit lent limited loaded sound alone same changed told =
+    let sure = subst (λ r. IfOk r (AreChanges seen.declared.shape store shown)) told.0 changed in
+    let o : from.outcome ≡ done.outcome = sym (told.1 ∙ ap (λ (r : Run). r.outcome) alone) in
+    let r : from.rows.items ≡ done.rows.items = sym (ap (λ v. v.items) told.2 ∙ ap (λ (r : Run). r.rows.items) alone) in
+    subst (λ (rows : List ℕ). LeavesTables a job code done.outcome rows done.changes) r
+    (subst (λ (outcome : Outcome). LeavesTables a job code outcome from.rows.items done.changes) o
+    (leaves_of a job code seen from.outcome from.rows.items store tables shown done.changes limit lent limited loaded sound same sure))
 
 -- ---- what may run
 

@@ -1,9 +1,10 @@
 // Conversations from files to files.
 #![tactic(auto)]
 
-ghost use Rattle.std.specs.Prelude.{◌≡◌, ◌≤◌, true, false, [], length, IfOk, IfErr, OnErr};
+ghost use Rattle.std.specs.Prelude.{◌≡◌, ◌≤◌, true, false, [], length, IfOk, IfErr, OnErr, OnOk};
 ghost use Rattle.code_items.specs.Legal.{IsCode};
 ghost use Rattle.file_access.specs.Holding.{Rose, SameFiles};
+ghost use Rattle.operating.specs.Answers.{AnswersKept, LastUnkept};
 ghost use Rattle.run_commands.specs.declared.job.Job.{Job as AnyJob};
 ghost use Rattle.run_commands.specs.declared.refusal.RunRefusal.TheVariants.{Memory};
 ghost use Rattle.run_commands.specs.Operating.{IfOfRun, IsWith, OperationRefused, SameResult, SoundOver};
@@ -108,6 +109,10 @@ pub(crate) fn operate_accepted<J: Journal, O: Operator>(
         done.run.outcome done.run.rows.items done.banks.env.store) }
     ensures fits { IfOk result (λ done. StoreFits verified.now.declared done.banks.env.store) }
     ensures refused { IfErr result (IfOfRun (λ refusal. refusal ≡ Memory)) }
+    ensures answered { OnOk result (AnswersKept (O.answered operator.old) (O.answered operator.new)
+        (J.holds journal.old) (J.holds journal.new)) }
+    ensures unkept { OnErr result (LastUnkept (O.answered operator.old) (O.answered operator.new)
+        (J.holds journal.old) (J.holds journal.new)) }
 {
     let day = job.day.day();
     let talk = converse(
@@ -146,6 +151,10 @@ fn full_operation<F: Files, J: Journal, O: Operator>(
         (Rose (F.failed files.old) (F.failed files.new)))) }
     ensures kept { OnErr result (SameFiles (F.holds files.old) (F.holds files.new)) }
     ensures counted { F.failed files.old ≤ F.failed files.new }
+    ensures answered { OnOk result (AnswersKept (O.answered operator.old) (O.answered operator.new)
+        (J.holds journal.old) (J.holds journal.new)) }
+    ensures unkept { OnErr result (LastUnkept (O.answered operator.old) (O.answered operator.new)
+        (J.holds journal.old) (J.holds journal.new)) }
 {
     legal_codes();
     new_stores_fit();
@@ -180,6 +189,10 @@ fn operate_code<F: Files, J: Journal, O: Operator>(
         (Rose (F.failed files.old) (F.failed files.new)))) }
     ensures kept { OnErr result (SameFiles (F.holds files.old) (F.holds files.new)) }
     ensures counted { F.failed files.old ≤ F.failed files.new }
+    ensures answered { OnOk result (AnswersKept (O.answered operator.old) (O.answered operator.new)
+        (J.holds journal.old) (J.holds journal.new)) }
+    ensures unkept { OnErr result (LastUnkept (O.answered operator.old) (O.answered operator.new)
+        (J.holds journal.old) (J.holds journal.new)) }
 {
     let verified = accept(alloc, code)?;
     full_operation(alloc, files, &verified, job, journal, operator)
@@ -207,6 +220,10 @@ fn operate_read<F: Files, J: Journal, O: Operator>(
     ensures refused { IfErr result (IfOfRun (RefusedBefore (F.holds files.old) job.now
         (Rose (F.failed files.old) (F.failed files.new)))) }
     ensures kept { OnErr result (SameFiles (F.holds files.old) (F.holds files.new)) }
+    ensures answered { OnOk result (AnswersKept (O.answered operator.old) (O.answered operator.new)
+        (J.holds journal.old) (J.holds journal.new)) }
+    ensures unkept { OnErr result (LastUnkept (O.answered operator.old) (O.answered operator.new)
+        (J.holds journal.old) (J.holds journal.new)) }
 {
     match read_code(alloc, files, job.name) {
         Ok(code) => operate_code(alloc, files, code, job, journal, operator),
@@ -229,8 +246,8 @@ fn told(run: Result<Ended, RunRefusal>) -> Result<Ended, OperateRefusal>
 /// are the job's input, and goes on with those that the operator answers; each is kept in the journal before the run
 /// sees it, and behind the end of the input each further line is empty. What is printed and saved is what `run_files`
 /// prints and saves for the same job with what the journal holds then as its input. Where the operator or the journal
-/// fails, or a line isn't one, nothing is printed or saved. All lines together have at most 1,048,577 bytes, each with
-/// its LF: so an input of 1 MiB whose last line has none can be typed.
+/// fails, or a line isn't one, nothing is printed or saved. All lines together have at most 1,048,578 bytes, each with
+/// its end: so an input of 1 MiB whose last line has none can be typed, also where that line ends with a return.
 pub fn operate_files<F: Files, J: Journal, O: Operator>(
     alloc: Global,
     files: &mut F,
@@ -246,6 +263,13 @@ pub fn operate_files<F: Files, J: Journal, O: Operator>(
         (λ refusal. (whole : AnyJob) → IsWith job.now (J.holds journal.new) whole
         → OperationRefused (F.holds files.old) (F.holds files.new) whole
         (Rose (F.failed files.old) (F.failed files.new)) refusal result.rows.items) }
+
+    // What the journal holds then is what it held before, with the lines that were answered behind it, and nothing else.
+    // Where no run is saved, the last line that was answered may be missing.
+    ensures answered { OnOk result.result (AnswersKept (O.answered operator.old) (O.answered operator.new)
+        (J.holds journal.old) (J.holds journal.new)) }
+    ensures unkept { OnErr result.result (LastUnkept (O.answered operator.old) (O.answered operator.new)
+        (J.holds journal.old) (J.holds journal.new)) }
 {
     if !can_go_on(job.input) {
         return OperationReport {

@@ -41,6 +41,24 @@ pub(crate) struct AcceptedRun {
     pub banks: Banks<NdxTree>,
 }
 
+impl TestedRun {
+    /// The run alone, without the tables that it left. (Apart, since a world has much to give back.)
+    pub(crate) fn alone(self) -> Run
+        ensures { result ≡ self.run }
+    {
+        self.run
+    }
+}
+
+impl AcceptedRun {
+    /// The run alone, without the tables that it left.
+    pub(crate) fn alone(self) -> Run
+        ensures { result ≡ self.run }
+    {
+        self.run
+    }
+}
+
 fn typed(alloc: Global, bytes: &[u8]) -> Result<TypedLines, AllocError>
     ensures { IfOk result (λ lines. lines ≡ short_lines bytes.now) }
 {

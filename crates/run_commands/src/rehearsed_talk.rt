@@ -1,10 +1,11 @@
 // Conversations that save nothing, and what they would have saved.
 #![tactic(auto)]
 
-ghost use Rattle.std.specs.Prelude.{◌≡◌, ◌≤◌, true, false, length, IfOk, IfErr};
+ghost use Rattle.std.specs.Prelude.{◌≡◌, ◌≤◌, true, false, length, IfOk, IfErr, OnErr, OnOk};
 ghost use Rattle.code_items.specs.Legal.{IsCode};
 ghost use Rattle.file_access.specs.Holding.{Rose, SameFiles};
 ghost use Rattle.file_commands.specs.Reports.{HasCode};
+ghost use Rattle.operating.specs.Answers.{AnswersKept, LastUnkept};
 ghost use Rattle.run_commands.specs.declared.job.Job.{Job as AnyJob};
 ghost use Rattle.run_commands.specs.Operating.{IfOfRun, IsWith};
 ghost use Rattle.run_commands.specs.Parts.{CodeRefused, IsOfTables};
@@ -14,7 +15,7 @@ ghost use Rattle.text_lines.specs.Lines.{is_ended as is_ended_text};
 
 use crate::conversation::{OperateRefusal, operate_accepted};
 use crate::job::Job;
-use crate::rehearsing::{Compared, Rehearsal, told_of};
+use crate::rehearsing::{Compared, Rehearsal, told_of, with_changes};
 use crate::running::{accept, of_code};
 use code_items::Code;
 use code_items::laws::legal_codes;
@@ -47,6 +48,10 @@ fn compare_talk<F: Files, J: Journal, O: Operator>(
         (Rose (F.failed files.old) (F.failed files.new)))) }
     ensures kept { SameFiles (F.holds files.old) (F.holds files.new) }
     ensures counted { F.failed files.old ≤ F.failed files.new }
+    ensures answered { OnOk result (AnswersKept (O.answered operator.old) (O.answered operator.new)
+        (J.holds journal.old) (J.holds journal.new)) }
+    ensures unkept { OnErr result (LastUnkept (O.answered operator.old) (O.answered operator.new)
+        (J.holds journal.old) (J.holds journal.new)) }
 {
     legal_codes();
     new_stores_fit();
@@ -54,12 +59,8 @@ fn compare_talk<F: Files, J: Journal, O: Operator>(
     let loaded = load(alloc, files, shape, job.limit.records())?;
     let kept = keep(alloc, shape, &loaded)?;
     let done = operate_accepted(alloc, verified, loaded, job, journal, operator)?;
-    let changes = changes_since(alloc, shape, kept, done.banks.store())?;
-    Ok(Compared {
-        rows: done.run.rows,
-        outcome: done.run.outcome,
-        changes,
-    })
+    let changes = changes_since(alloc, shape, kept, done.banks.store());
+    Ok(with_changes(done.alone(), changes)?)
 }
 
 /// Rehearses an accepted code so.
@@ -81,6 +82,10 @@ fn rehearse_accepted_talk<F: Files, J: Journal, O: Operator>(
         (Rose (F.failed files.old) (F.failed files.new)))) }
     ensures kept { SameFiles (F.holds files.old) (F.holds files.new) }
     ensures counted { F.failed files.old ≤ F.failed files.new }
+    ensures answered { OnOk result (AnswersKept (O.answered operator.old) (O.answered operator.new)
+        (J.holds journal.old) (J.holds journal.new)) }
+    ensures unkept { OnErr result (LastUnkept (O.answered operator.old) (O.answered operator.new)
+        (J.holds journal.old) (J.holds journal.new)) }
 {
     let shape = &verified.code().declared.shape;
     let done = compare_talk(alloc, files, verified, job, journal, operator)?;
@@ -110,6 +115,10 @@ fn rehearse_code_talk<F: Files, J: Journal, O: Operator>(
         (Rose (F.failed files.old) (F.failed files.new)))) }
     ensures kept { SameFiles (F.holds files.old) (F.holds files.new) }
     ensures counted { F.failed files.old ≤ F.failed files.new }
+    ensures answered { OnOk result (AnswersKept (O.answered operator.old) (O.answered operator.new)
+        (J.holds journal.old) (J.holds journal.new)) }
+    ensures unkept { OnErr result (LastUnkept (O.answered operator.old) (O.answered operator.new)
+        (J.holds journal.old) (J.holds journal.new)) }
 {
     let verified = accept(alloc, code)?;
     rehearse_accepted_talk(alloc, files, &verified, job, journal, operator)
@@ -135,6 +144,13 @@ pub fn rehearse_talk<F: Files, J: Journal, O: Operator>(
     ensures refused { IfErr result (IfOfRun (RefusedBefore (F.holds files.old) job.now
         (Rose (F.failed files.old) (F.failed files.new)))) }
     ensures kept { SameFiles (F.holds files.old) (F.holds files.new) }
+
+    // What the journal holds then is what it held before, with the lines that were answered behind it, and nothing else.
+    // Where nothing is told, the last line that was answered may be missing.
+    ensures answered { OnOk result (AnswersKept (O.answered operator.old) (O.answered operator.new)
+        (J.holds journal.old) (J.holds journal.new)) }
+    ensures unkept { OnErr result (LastUnkept (O.answered operator.old) (O.answered operator.new)
+        (J.holds journal.old) (J.holds journal.new)) }
 {
     if !can_go_on(job.input) {
         return Err(OperateRefusal::Handed);

@@ -1,7 +1,7 @@
 // Runs that save nothing, and what they would have saved.
 #![tactic(auto)]
 
-ghost use Rattle.std.specs.Prelude.{◌≡◌, ◌≤◌, true, false, map, IfOk, IfErr};
+ghost use Rattle.std.specs.Prelude.{◌≡◌, ◌≤◌, true, false, map, IfOk, IfErr, Ok};
 ghost use Rattle.code_items.specs.Legal.{IsCode};
 ghost use Rattle.file_access.specs.Holding.{Rose, SameFiles};
 ghost use Rattle.file_commands.specs.Reports.{HasCode};
@@ -12,7 +12,7 @@ ghost use Rattle.run_commands.specs.Reports.{RefusedBefore};
 
 use crate::ending::{Ended, copy_of, ended_of, put_name};
 use crate::job::Job;
-use crate::machines::{run_accepted, run_any};
+use crate::machines::{Run, run_accepted, run_any};
 use crate::refusal::RunRefusal;
 use crate::running::{accept, of_code};
 use code_items::Code;
@@ -70,6 +70,20 @@ fn index_names(alloc: Global, indexes: &[IndexShape]) -> Result<Vec<Name>, Alloc
     Ok(names)
 }
 
+/// A run with what became of its tables, where there was memory to find that.
+pub(crate) fn with_changes(
+    run: Run,
+    changes: Result<Changes, AllocError>,
+) -> Result<Compared, AllocError>
+    ensures { IfOk result (λ done. (changes ≡ Ok done.changes) × (done.outcome ≡ run.outcome) × (done.rows ≡ run.rows)) }
+{
+    Ok(Compared {
+        rows: run.rows,
+        outcome: run.outcome,
+        changes: changes?,
+    })
+}
+
 /// Runs a code on the checking machine, over the tables that it declares.
 fn compare_any<F: Files, W: Watcher>(
     alloc: Global,
@@ -92,12 +106,8 @@ fn compare_any<F: Files, W: Watcher>(
     let store = load(alloc, files, shape, job.limit.records())?;
     let kept = keep(alloc, shape, &store)?;
     let done = run_any(alloc, code, store, job, watcher)?;
-    let changes = changes_since(alloc, shape, kept, done.world.store())?;
-    Ok(Compared {
-        rows: done.run.rows,
-        outcome: done.run.outcome,
-        changes,
-    })
+    let changes = changes_since(alloc, shape, kept, done.world.store());
+    Ok(with_changes(done.alone(), changes)?)
 }
 
 /// Runs an accepted code on the machine without tags, over the tables that it declares.
@@ -121,12 +131,8 @@ fn compare_accepted<F: Files, W: Watcher>(
     let loaded = load(alloc, files, shape, job.limit.records())?;
     let kept = keep(alloc, shape, &loaded)?;
     let done = run_accepted(alloc, verified, loaded, job, watcher)?;
-    let changes = changes_since(alloc, shape, kept, done.banks.store())?;
-    Ok(Compared {
-        rows: done.run.rows,
-        outcome: done.run.outcome,
-        changes,
-    })
+    let changes = changes_since(alloc, shape, kept, done.banks.store());
+    Ok(with_changes(done.alone(), changes)?)
 }
 
 /// A comparison as it is told, of a code of this shape.

@@ -80,10 +80,10 @@ fn test_run<F: Files, W: Watcher>(
     new_stores_fit();
     let shape = &code.declared.shape;
     let store = load(alloc, files, shape, job.limit.records())?;
-    let tested = run_any(alloc, code, store, job, watcher)?;
+    let run = run_any(alloc, code, store, job, watcher)?.alone();
     Ok(Report {
-        rows: tested.run.rows,
-        result: Ok(ended_of(tested.run.outcome, shape)),
+        rows: run.rows,
+        result: Ok(ended_of(run.outcome, shape)),
     })
 }
 

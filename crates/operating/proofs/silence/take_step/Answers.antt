@@ -1,4 +1,4 @@
-use Rattle.std.proofs.Common.{◌≡◌, true, false, arith}
+use Rattle.std.proofs.Common.{◌≡◌, true, false}
 use Rattle.operating.proofs.PieceLemmas.{step_on, step_over}
 use Rattle.operating.proofs.silence.take_step.Goals as goal
 

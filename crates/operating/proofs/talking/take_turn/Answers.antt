@@ -1,3 +1,5 @@
+use Rattle.std.proofs.Common.{◌∙◌, refl}
+use Rattle.operating.proofs.AnswerLemmas.{on_err, unkept_none}
 use Rattle.operating.proofs.TurnLemmas.{comes_to, talked_on, turned_all}
 use Rattle.operating.proofs.talking.take_turn.Goals as goal
 
@@ -25,3 +27,6 @@ show-requires g c =
     let s = c.requires.talked in
     let r = (c.in-Marked.ensures.goes s.2.world s.2.twin).0 in
     (r.world, r.twin)
+
+pub returns-in_err-show-in-Marked-clause-unkept : goal.returns-in_err-show-in-Marked-clause-unkept
+returns-in_err-show-in-Marked-clause-unkept g c = on_err c.from_residual.result _ (unkept_none _ _ _ _ (c.show.ensures.untold ∙ c.hear-most.ensures) refl)

@@ -1,6 +1,7 @@
 use Rattle.std.proofs.Common.{◌+◌, ◌-◌, ◌≤◌}
 use Rattle.std.specs.Prelude.{Option}
 use Rattle.calendar.specs.declared.day.DayParts.{DayParts}
+use Rattle.operating.specs.Answers.{AnswersKept}
 use Rattle.operating.specs.Talks.{Talked}
 use Rattle.work_area.specs.Areas.{StoreState}
 use Rattle.operating.proofs.talking.take_turns.Given as goal
@@ -9,8 +10,9 @@ abbrev pub invariant-loop-turned : goal.invariant-loop-turned
 invariant-loop-turned g l = record {
   talked : (store : StoreState) (today : Option DayParts) → Talked l.fn.verified store today (g.J.Journal.holds l.fn.journal) 0 l.fn.banks → Talked l.fn.verified store today (g.J.Journal.holds l.journal) l.steps l.banks;
   within : l.steps ≤ l.budget;
-  few : l.used ≤ 1048577;
+  few : l.used ≤ 1048578;
+  kept : AnswersKept (g.O.Operator.answered l.fn.operator) (g.O.Operator.answered l.operator) (g.J.Journal.holds l.fn.journal) (g.J.Journal.holds l.journal);
 }
 
 abbrev pub decreases-loop-turned : goal.decreases-loop-turned
-decreases-loop-turned g l = (l.budget - l.steps) + (1048577 - l.used)
+decreases-loop-turned g l = (l.budget - l.steps) + (1048578 - l.used)

@@ -1,3 +1,4 @@
+use Rattle.run_commands.proofs.Answered.{on_err, unkept_none}
 use Rattle.std.proofs.Common.{◌≡◌, IfOk, IfErr, length, subst, sym}
 use Rattle.code_items.specs.declared.code.Code.{Code}
 use Rattle.run_commands.proofs.Operated.{Prepared, saved_over, stopped_over}
@@ -29,3 +30,6 @@ returns-clause-stopped g c = stopped_over _ _ _ _ _ _ c.in_ok-store.ensures.coun
 
 pub save_run-requires-clause-count : goal.save_run-requires-clause-count
 save_run-requires-clause-count g c = subst (λ (k : Code). length c.in_ok-done.done.banks.env.store.tables ≡ length k.declared.shape.tables) (sym c.code.ensures.same) c.in_ok-done.ensures.fits.count
+
+pub returns-in_err-store-clause-unkept : goal.returns-in_err-store-clause-unkept
+returns-in_err-store-clause-unkept g c = on_err _ _ (unkept_none _ _)

@@ -1,3 +1,4 @@
+use Rattle.run_commands.proofs.Answered.{unkept_none}
 use Rattle.run_commands.proofs.Operated.{rehearsal_over, refused_over}
 use Rattle.run_commands.proofs.Same.{rose_later}
 use Rattle.run_commands.proofs.rehearsed_talk.rehearse_talk.Goals as goal
@@ -7,3 +8,9 @@ returns-in-Ok-clause-done g c = rehearsal_over _ _ c.in-Ok.ensures.kept c.args.j
 
 pub returns-in-Ok-clause-refused : goal.returns-in-Ok-clause-refused
 returns-in-Ok-clause-refused g c = refused_over _ _ c.in-Ok.ensures.kept _ _ (rose_later _ _ _ c.in-Ok.ensures.counted c.rehearse_code_talk.ensures.counted) c.args.job.now _ c.in-Ok.ensures.found c.rehearse_code_talk.result c.rehearse_code_talk.ensures.refused
+
+pub returns-then-not-can_go_on-clause-unkept : goal.returns-then-not-can_go_on-clause-unkept
+returns-then-not-can_go_on-clause-unkept g c = unkept_none _ _
+
+pub returns-in-Err-clause-unkept : goal.returns-in-Err-clause-unkept
+returns-in-Err-clause-unkept g c = unkept_none _ _
