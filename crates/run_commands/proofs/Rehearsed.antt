@@ -1,5 +1,7 @@
 -- What the parts of a rehearsal say to each other, put together.
 use Rattle.std.proofs.Common.{◌≡◌, ◌≤◌, subst, sym, true, false, ℕ, List, map, IfErr}
+use Rattle.std.specs.declared.alloc.AllocError.{AllocError}
+use Rattle.shape.specs.declared.whole.Shape.{Shape}
 use Rattle.std.specs.Prelude.{Result, Ok, Err, IfOk, MatchBool, ⊤}
 use Rattle.code_items.specs.declared.code.Code.{Code}
 use Rattle.code_rules.specs.Rules.{Accepted}
@@ -23,6 +25,11 @@ use Rattle.table_files.specs.Loading.{Loaded}
 use Rattle.work_area.specs.Areas.{StoreState}
 use Rattle.run_steps.specs.declared.ending.Outcome.{Outcome}
 use Rattle.table_changes.specs.declared.stores.Changes.{Changes}
+
+-- what was found of the tables, where it was found
+pub changed : (shape : Shape) (before after : StoreState) (found : Result Changes AllocError) (changes : Changes) → found ≡ Ok changes
+    → IfOk found (AreChanges shape before after) → AreChanges shape before after changes
+changed shape before after found changes e h = subst (λ r. IfOk r (AreChanges shape before after)) e h
 
 leaves_same : (a b : Holds) → SameFiles a b → (job : Job) (code : Code) (outcome : Outcome) (rows : List ℕ) (changes : Changes) → LeavesTables b job code outcome rows changes → LeavesTables a job code outcome rows changes
 leaves_same a b same job code outcome rows changes h = record {

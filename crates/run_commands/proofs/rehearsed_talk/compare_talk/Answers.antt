@@ -1,6 +1,7 @@
 use Rattle.std.proofs.Common.{◌∙◌, ap, Bool, List, length}
 use Rattle.std.proofs.lemmas.List.FromFn.{length-map-range_with_len}
 use Rattle.table_changes.specs.Rows.{is_fresh_in}
+use Rattle.run_commands.proofs.Rehearsed.{changed}
 use Rattle.run_commands.proofs.Operated.{leaves_over}
 use Rattle.run_commands.proofs.rehearsed_talk.compare_talk.Goals as goal
 
@@ -10,5 +11,6 @@ changes_since-changes-requires-clause-fresh g c =
 
 pub returns-clause-done : goal.returns-clause-done
 returns-clause-done g c =
-    leaves_over _ _ _ _ _ _ _ c.in_ok-loaded.loaded c.in_ok-done.done.banks.env.store _ _ _ c.code.ensures.same c.records.ensures.same c.in_ok-loaded.ensures.loaded c.in_ok-done.ensures.done c.store.ensures
-    (c.in_ok-changes.ensures c.in_ok-loaded.loaded c.in_ok-kept.ensures)
+    let p = c.in_ok-with_changes.ensures in
+    rw (p.1, p.2, c.alone.ensures) (leaves_over _ _ _ _ _ _ _ c.in_ok-loaded.loaded c.in_ok-done.done.banks.env.store _ _ _ c.code.ensures.same c.records.ensures.same c.in_ok-loaded.ensures.loaded c.in_ok-done.ensures.done c.store.ensures
+    (changed _ _ _ _ _ p.0 (c.changes_since-changes.ensures c.in_ok-loaded.loaded c.in_ok-kept.ensures)))
