@@ -3,7 +3,7 @@
 
 use crate::words::{
     BACKUP, FILE, NEW_OWNER, NO_LOCK, ONLY_FINISHED, Outcomes, REHEARSE, RunHelp, WordsFault, flag,
-    limit_of, page_of, run_outcomes, runner, saver, word_of,
+    limit_of, page, page_of, run_outcomes, runner, saver, word_of,
 };
 use clap::{Arg, ArgAction, ArgMatches, Command};
 use code_pages::CodePage;
@@ -70,6 +70,22 @@ const HELP: RunHelp<'static> = RunHelp {
     today: "The day of the run, in the years 1900 to 2155 (left out: the computer's, in the zone of TZ)",
 };
 
+/// The word that names the journal.
+fn journal<'a>(alloc: Global) -> Arg<'a> {
+    Arg::new(alloc, JOURNAL)
+        .long(JOURNAL)
+        .value_name("FILE")
+        .required(true)
+        .help("The file that keeps each line before the program takes it")
+}
+
+fn window<'a>(alloc: Global) -> Arg<'a> {
+    Arg::new(alloc, WINDOW)
+        .long(WINDOW)
+        .value_name("ROWSxCOLUMNS")
+        .help("The size of the terminal's window")
+}
+
 /// The words of `operate`.
 pub(crate) fn operator<'a>(alloc: Global) -> Result<Command<'a>, AllocError> {
     let run = runner(
@@ -79,24 +95,11 @@ pub(crate) fn operator<'a>(alloc: Global) -> Result<Command<'a>, AllocError> {
         "Example, behind that of compile: dbrun operate DAY.XBC --journal MONDAY.TXT",
         &HELP,
     )?;
-    let journal = Arg::new(alloc, JOURNAL)
-        .long(JOURNAL)
-        .value_name("FILE")
-        .required(true)
-        .help("The file that keeps each line before the program takes it");
-    let page = Arg::new(alloc, "from")
-        .long("from")
-        .value_name("PAGE")
-        .help("The code page of the tables' texts, cp437 or cp850");
-    let window = Arg::new(alloc, WINDOW)
-        .long(WINDOW)
-        .value_name("ROWSxCOLUMNS")
-        .help("The size of the terminal's window");
     saver(alloc, run)?
-        .arg(journal)?
+        .arg(journal(alloc))?
         .arg(flag(alloc, CONTINUE, "Goes on behind the lines of the journal"))?
-        .arg(page)?
-        .arg(window)?
+        .arg(page(alloc, "The code page of the tables' texts, cp437 or cp850"))?
+        .arg(window(alloc))?
         .arg(flag(
             alloc,
             PLAIN,

@@ -172,14 +172,15 @@ fn reader<'a>(
         .arg(file)
 }
 
+/// The word that names the code page of a table's texts.
+pub(crate) fn page<'a>(alloc: Global, help: &'a str) -> Arg<'a> {
+    Arg::new(alloc, "from")
+        .long("from")
+        .value_name("PAGE")
+        .help(help)
+}
+
 fn lister<'a>(alloc: Global) -> Result<Command<'a>, AllocError> {
-    let csv = Arg::new(alloc, "csv")
-        .long("csv")
-        .action(ArgAction::SetTrue)
-        .help("Comma-separated values, with the marks in a first column DELETED");
-    let page = Arg::new(alloc, "from").long("from").value_name("PAGE").help(
-        "The code page of the table's texts, cp437 or cp850: prints UTF-8",
-    );
     reader(
         alloc,
         "list",
@@ -187,8 +188,15 @@ fn lister<'a>(alloc: Global) -> Result<Command<'a>, AllocError> {
         "TABLE",
         "Example: dbrun list CUST.DBF --csv --from cp437",
     )?
-    .arg(csv)?
-    .arg(page)
+    .arg(flag(
+        alloc,
+        "csv",
+        "Comma-separated values, with the marks in a first column DELETED",
+    ))?
+    .arg(page(
+        alloc,
+        "The code page of the table's texts, cp437 or cp850: prints UTF-8",
+    ))
 }
 
 /// What help says of a run's budget and its day.
@@ -203,6 +211,29 @@ const HELP: RunHelp<'static> = RunHelp {
     today: "The day of the run, in the years 1900 to 2155 (1985-01-01 if left out)",
 };
 
+fn budget<'a>(alloc: Global, help: &'a str) -> Arg<'a> {
+    Arg::new(alloc, "budget")
+        .long("budget")
+        .value_name("N")
+        .value_parser(value_parser!(u64))
+        .help(help)
+}
+
+fn limit<'a>(alloc: Global) -> Arg<'a> {
+    Arg::new(alloc, "limit")
+        .long("limit")
+        .value_name("N")
+        .value_parser(value_parser!(u32))
+        .help("The most records that a table may have, 1 to 1000000 (1000000 if left out)")
+}
+
+fn today<'a>(alloc: Global, help: &'a str) -> Arg<'a> {
+    Arg::new(alloc, "today")
+        .long("today")
+        .value_name("YYYY-MM-DD")
+        .help(help)
+}
+
 pub(crate) fn runner<'a>(
     alloc: Global,
     name: &'a str,
@@ -210,24 +241,10 @@ pub(crate) fn runner<'a>(
     example: &'a str,
     help: &RunHelp<'a>,
 ) -> Result<Command<'a>, AllocError> {
-    let budget = Arg::new(alloc, "budget")
-        .long("budget")
-        .value_name("N")
-        .value_parser(value_parser!(u64))
-        .help(help.budget);
-    let limit = Arg::new(alloc, "limit")
-        .long("limit")
-        .value_name("N")
-        .value_parser(value_parser!(u32))
-        .help("The most records that a table may have, 1 to 1000000 (1000000 if left out)");
-    let today = Arg::new(alloc, "today")
-        .long("today")
-        .value_name("YYYY-MM-DD")
-        .help(help.today);
     reader(alloc, name, about, "CODE", example)?
-        .arg(budget)?
-        .arg(limit)?
-        .arg(today)
+        .arg(budget(alloc, help.budget))?
+        .arg(limit(alloc))?
+        .arg(today(alloc, help.today))
 }
 
 /// A word that is there or not.
@@ -238,12 +255,16 @@ pub(crate) fn flag<'a>(alloc: Global, name: &'a str, help: &'a str) -> Arg<'a> {
         .help(help)
 }
 
-/// The words of `run` alone.
-pub(crate) fn saver<'a>(alloc: Global, command: Command<'a>) -> Result<Command<'a>, AllocError> {
-    let backup = Arg::new(alloc, BACKUP)
+/// The word that names the folder for copies.
+fn backup<'a>(alloc: Global) -> Arg<'a> {
+    Arg::new(alloc, BACKUP)
         .long(BACKUP)
         .value_name("FOLDER")
-        .help("Copies all that is replaced to this folder first, which is absent or empty");
+        .help("Copies all that is replaced to this folder first, which is absent or empty")
+}
+
+/// The words of `run` alone.
+pub(crate) fn saver<'a>(alloc: Global, command: Command<'a>) -> Result<Command<'a>, AllocError> {
     command
         .arg(flag(
             alloc,
@@ -255,7 +276,7 @@ pub(crate) fn saver<'a>(alloc: Global, command: Command<'a>) -> Result<Command<'
             ONLY_FINISHED,
             "Saves nothing unless the run finished",
         ))?
-        .arg(backup)?
+        .arg(backup(alloc))?
         .arg(flag(
             alloc,
             NEW_OWNER,
@@ -286,17 +307,21 @@ fn sources<'a>(alloc: Global) -> Arg<'a> {
         .help("The command files, the main one first")
 }
 
-fn compiler<'a>(alloc: Global) -> Result<Command<'a>, AllocError> {
-    let out = Arg::new(alloc, OUT)
+/// The word that names the code file.
+fn out<'a>(alloc: Global) -> Arg<'a> {
+    Arg::new(alloc, OUT)
         .required(true)
-        .help("The code file that is written");
+        .help("The code file that is written")
+}
+
+fn compiler<'a>(alloc: Global) -> Result<Command<'a>, AllocError> {
     Command::new(alloc, "compile")
         .about("Compiles command files to a code file")
         .after_help(
             "Example: dbrun compile FIRM.DCL DAY.XBC DAY.PRG ENTRY.PRG POST.PRG REPORT.PRG REORDER.PRG PRICES.PRG",
         )
         .arg(declarations(alloc))?
-        .arg(out)?
+        .arg(out(alloc))?
         .arg(sources(alloc))
 }
 
@@ -310,7 +335,8 @@ fn checker<'a>(alloc: Global) -> Result<Command<'a>, AllocError> {
         .arg(sources(alloc))
 }
 
-fn with_runners<'a>(alloc: Global, command: Command<'a>) -> Result<Command<'a>, AllocError> {
+/// The words of a run that saves.
+fn saving_runner<'a>(alloc: Global) -> Result<Command<'a>, AllocError> {
     let run = runner(
         alloc,
         "run",
@@ -318,18 +344,26 @@ fn with_runners<'a>(alloc: Global, command: Command<'a>) -> Result<Command<'a>, 
         "Example, behind that of compile: dbrun run DAY.XBC --today 1985-01-15 < day.txt",
         &HELP,
     )?;
-    let check = runner(
+    saver(alloc, run)?.arg(screens(alloc))
+}
+
+/// The words of a run that tests each instruction.
+fn testing_runner<'a>(alloc: Global) -> Result<Command<'a>, AllocError> {
+    runner(
         alloc,
         "check-run",
         "Runs any code file, testing each instruction first; saves nothing",
         "Example, behind that of compile: dbrun check-run DAY.XBC --changes < day.txt",
         &HELP,
-    )?;
-    let changes = flag(alloc, CHANGES, "Tells what a run would save");
+    )?
+    .arg(flag(alloc, CHANGES, "Tells what a run would save"))
+}
+
+fn with_runners<'a>(alloc: Global, command: Command<'a>) -> Result<Command<'a>, AllocError> {
     command
-        .subcommand(saver(alloc, run)?.arg(screens(alloc))?)?
+        .subcommand(saving_runner(alloc)?)?
         .subcommand(operator(alloc)?)?
-        .subcommand(check.arg(changes)?)
+        .subcommand(testing_runner(alloc)?)
 }
 
 fn with_readers<'a>(alloc: Global, command: Command<'a>) -> Result<Command<'a>, AllocError> {
