@@ -20,7 +20,7 @@ front_step b text false is h = refl
 front_step b text true is h =
     let one : 1 + line_length text ≡ suc (line_length text) = omega arith in
     let goes : line_length (b ∷ first_line text) ≡ length (b ∷ first_line text) =
-        subst (λ (t : Bool). cond t (1 + line_length (first_line text)) 0 ≡ length (b ∷ first_line text)) (sym is) (omega (arith, h)) in
+    subst (λ (t : Bool). cond t (1 + line_length (first_line text)) 0 ≡ length (b ∷ first_line text)) (sym is) (omega (arith, h)) in
     subst (λ (n : ℕ). line_length (take n (b ∷ text)) ≡ length (take n (b ∷ text))) (sym one) goes
 
 -- what comes before the first line end has none

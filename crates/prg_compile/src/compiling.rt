@@ -10,12 +10,10 @@ use crate::ways::areas_at;
 use code_items::{Code, Shape};
 use met_areas::MetAreas;
 use prg_code::{CompileFault, CompileFaultKind, CompileRefusal, DraftBlock, Names, Output, Work};
-use prg_control::{commands, end_copy, end_procedure};
+use prg_control::{close_copy, commands, end_procedure};
 use prg_laid::{LayoutFault, judge};
 use prg_parser::Program;
-use prg_writer::{
-    FaultList, NamedProcedures, ProcedureCopy, Source, Target, Writer, assemble, copy_of_shape,
-};
+use prg_writer::{FaultList, NamedProcedures, ProcedureCopy, Source, Target, Writer, assemble};
 use std::alloc::{AllocError, Global};
 use xverify::{Verified, VerifyError, verify};
 
@@ -25,66 +23,48 @@ const MAIN: Target = Target {
     procedure: None,
 };
 
-fn empty_work(alloc: Global) -> Result<Work, AllocError> {
-    let block = DraftBlock::main(alloc)?;
-    Ok(Work::new(alloc, 0, true, block, Names::new(alloc)))
-}
-
 /// The main procedure as the first copy, of which nothing is written yet.
 fn begun(alloc: Global, programs: &[Program]) -> Result<Writer, AllocError> {
+    let procedures = NamedProcedures::of(alloc, programs)?;
     let block = DraftBlock::main(alloc)?;
-    let entry = block.state.copied(alloc)?;
-    let mut copies = Vec::new(alloc);
-    copies.push(ProcedureCopy {
-        target: MAIN,
-        names: Names::new(alloc),
-        entry,
-        exit: None,
-        level: 0,
-        own: Vec::new(alloc),
-        block,
-        done: false,
-    })?;
-    let mut active = Vec::new(alloc);
-    active.push(MAIN)?;
-    Ok(Writer {
-        alloc,
-        out: Output::new(alloc),
-        work: empty_work(alloc)?,
-        copies,
-        procedures: NamedProcedures::of(alloc, programs)?,
-        active,
-        heads: Vec::new(alloc),
-        listed: None,
-    })
+    let work = Work::new(alloc, 0, true, block, Names::new(alloc));
+    with_main(Writer::new(alloc, work, procedures))
 }
 
-/// All that is written, and the variables of the main procedure.
-#[derive(Drop)]
-struct WrittenCode {
-    writer: Writer,
-    names: Names,
+fn with_main(w: Writer) -> Result<Writer, AllocError> {
+    let mut w = w;
+    let names = Names::new(w.alloc);
+    w.open_copy(MAIN, names)?;
+    Ok(w)
 }
 
 /// Writes the main procedure, and with it all that it reaches. At a fault the writer stands at the faulty command.
+/// Faults are listed, where there is a list for them.
 fn write_main(w: &mut Writer, s: &Source) -> Result<(), CompileRefusal> {
     let list = s.commands(MAIN);
     commands(s, w, list)?;
     end_procedure(w, s.last_line(MAIN))
 }
 
-/// Writes all that is reached from the main procedure on. Faults are listed, where there is a list for them.
-fn written(
-    alloc: Global,
-    s: &Source,
-    listed: Option<FaultList>,
-) -> Result<WrittenCode, CompileRefusal> {
-    let mut w = begun(alloc, s.programs)?;
-    w.listed = listed;
-    write_main(&mut w, s)?;
-    let names = w.work.names.copied(alloc)?;
-    end_copy(&mut w, 0, empty_work(alloc)?);
-    Ok(WrittenCode { writer: w, names })
+/// All that is written, and the variables of the main procedure.
+#[derive(Drop)]
+struct Written {
+    out: Output,
+    copies: Vec<ProcedureCopy>,
+    names: Names,
+}
+
+/// What a writer has written that ended the main procedure.
+fn all_written(w: Writer) -> Written {
+    let Writer {
+        out,
+        work,
+        copies,
+        ..
+    } = w;
+    let mut copies = copies;
+    let names = close_copy(&mut copies, 0, work);
+    Written { out, copies, names }
 }
 
 /// Why the code as a whole is refused.
@@ -120,6 +100,34 @@ fn judged(
     }
 }
 
+/// Limit where the code isn't legal, and where a single file without procedures isn't laid out in it as its commands
+/// say.
+fn legal(
+    alloc: Global,
+    code: &Code,
+    programs: &[Program],
+    names: &Names,
+) -> Result<(), CompileRefusal>
+    ensures legal { IfOk result (λ _. IsCode code.now) }
+    ensures laid { IfOk result (λ _. IsLaidAlone code.now programs.now) }
+{
+    if !code.is_legal() {
+        return Err(whole(CompileFaultKind::Limit));
+    }
+    judged(alloc, code, programs, names)
+}
+
+fn accepted_by_verifier(alloc: Global, code: Code) -> Result<Verified, CompileRefusal>
+    requires { IsCode code }
+    ensures { IfOk result (λ verified. verified ≡ code) }
+{
+    match verify(alloc, code) {
+        Ok(verified) => Ok(verified),
+        Err(VerifyError::Refused(_)) => Err(whole(CompileFaultKind::Limit)),
+        Err(VerifyError::NoMemory) => Err(CompileRefusal::NoMemory),
+    }
+}
+
 fn accepted(
     alloc: Global,
     code: Code,
@@ -129,61 +137,36 @@ fn accepted(
     ensures same { IfOk result (λ verified. verified ≡ code) }
     ensures laid { IfOk result (λ verified. IsLaidAlone verified programs.now) }
 {
-    if !code.is_legal() {
-        return Err(whole(CompileFaultKind::Limit));
-    }
-    judged(alloc, &code, programs, names)?;
-    match verify(alloc, code) {
-        Ok(verified) => Ok(verified),
-        Err(VerifyError::Refused(_)) => Err(whole(CompileFaultKind::Limit)),
-        Err(VerifyError::NoMemory) => Err(CompileRefusal::NoMemory),
-    }
+    legal(alloc, &code, programs, names)?;
+    accepted_by_verifier(alloc, code)
 }
 
-/// The written blocks put together as a code for tables and indexes of this shape, judged and verified. (Apart from
-/// `finished`, so that nothing of the writer is freed beside it.)
+/// The written blocks put together as a code for tables and indexes of this shape. (Apart from `finished`, so that what
+/// is written is freed before the code is judged.)
 fn assembled(
     alloc: Global,
+    shape: &Shape,
     out: Output,
     copies: Vec<ProcedureCopy>,
-    programs: &[Program],
-    names: &Names,
-    shape: Shape,
-) -> Result<Verified, CompileRefusal>
-    ensures shape { IfOk result (λ verified. verified.declared.shape ≡ shape) }
-    ensures laid { IfOk result (λ verified. IsLaidAlone verified programs.now) }
+) -> Result<Code, CompileRefusal>
+    ensures { IfOk result (λ code. code.declared.shape ≡ shape.now) }
 {
-    let code = assemble(alloc, shape, out, copies)?;
-    accepted(alloc, code, programs, names)
+    assemble(alloc, shape, &out, copies)
 }
 
 /// What is written as a code for tables and indexes of this shape, judged and verified.
 fn finished(
     alloc: Global,
-    drafted: WrittenCode,
-    programs: &[Program],
-    shape: Shape,
-) -> Result<Verified, CompileRefusal>
-    ensures shape { IfOk result (λ verified. verified.declared.shape ≡ shape) }
-    ensures laid { IfOk result (λ verified. IsLaidAlone verified programs.now) }
-{
-    let WrittenCode { writer, names } = drafted;
-    let Writer { out, copies, .. } = writer;
-    assembled(alloc, out, copies, programs, &names, shape)
-}
-
-/// The same for a copy of the shape.
-fn finished_for(
-    alloc: Global,
-    drafted: WrittenCode,
+    written: Written,
     programs: &[Program],
     shape: &Shape,
 ) -> Result<Verified, CompileRefusal>
     ensures shape { IfOk result (λ verified. verified.declared.shape ≡ shape.now) }
     ensures laid { IfOk result (λ verified. IsLaidAlone verified programs.now) }
 {
-    let copy = copy_of_shape(alloc, shape)?;
-    finished(alloc, drafted, programs, copy)
+    let Written { out, copies, names } = written;
+    let code = assembled(alloc, shape, out, copies)?;
+    accepted(alloc, code, programs, &names)
 }
 
 /// The code of command files for tables and indexes of this shape; the first file is the main one. The code is accepted
@@ -205,8 +188,9 @@ pub fn compile(
     // A single file without procedures is laid out as its commands say.
     ensures laid { IfOk result (λ verified. IsLaidAlone verified programs.now) }
 {
-    let code = written(alloc, &Source { programs, shape }, None)?;
-    finished_for(alloc, code, programs, shape)
+    let mut w = begun(alloc, programs)?;
+    write_main(&mut w, &Source { programs, shape })?;
+    finished(alloc, all_written(w), programs, shape)
 }
 
 /// The fault that is told, and these behind it.
@@ -229,12 +213,20 @@ fn further(
     source: &Source,
     told: CompileFault,
 ) -> Result<Vec<CompileFault>, CompileRefusal> {
-    let list = FaultList::behind(alloc, told)?;
-    let WrittenCode { writer, .. } = written(alloc, source, Some(list))?;
-    let Writer { listed, .. } = writer;
+    let mut w = begun(alloc, source.programs)?;
+    w.listed = Some(FaultList::behind(alloc, told)?);
+    write_main(&mut w, source)?;
+    Ok(listed(w))
+}
+
+/// The faults that a writer has listed.
+fn listed(w: Writer) -> Vec<CompileFault>
+    ensures { IfSome w.listed (λ list. result.items ≡ list) }
+{
+    let Writer { alloc, listed, .. } = w;
     match listed {
-        Some(list) => Ok(list.into_faults()),
-        None => Ok(Vec::new(alloc)),
+        Some(list) => list.into_faults(),
+        None => Vec::new(alloc),
     }
 }
 
@@ -294,9 +286,16 @@ pub fn areas_at_fault(
     ensures told { IfOk result (λ found. IfSome found (AreasOfShape shape.now)) }
 {
     let mut w = begun(alloc, programs)?;
-    match write_main(&mut w, &Source { programs, shape }) {
+    areas_written_to(&mut w, &Source { programs, shape })
+}
+
+/// The same of this writer, of which nothing is written yet.
+fn areas_written_to(w: &mut Writer, s: &Source) -> Result<Option<MetAreas>, AllocError>
+    ensures { IfOk result (λ found. IfSome found (AreasOfShape s.now.shape.now)) }
+{
+    match write_main(w, s) {
         Ok(()) => Ok(None),
-        Err(CompileRefusal::Fault(fault)) => Ok(Some(areas_at(&w, shape, fault.kind)?)),
+        Err(CompileRefusal::Fault(fault)) => Ok(Some(areas_at(w, s.shape, fault.kind)?)),
         Err(CompileRefusal::NoMemory) => Err(AllocError),
     }
 }
