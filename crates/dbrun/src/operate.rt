@@ -454,6 +454,12 @@ fn tell_desk<R: Runtime<A = Global, File = File>>(
 ) -> Status {
     match (&desk.record.changed, &desk.record.unwritten) {
         (Some(name), _) => tell_changed(rt, audience, name.as_str()),
+        (None, Some(name)) if name.as_str() == desk.record.begun.as_str() => refuse(
+            rt,
+            Refusal::Disk {
+                name: name.as_str(),
+            },
+        ),
         (None, Some(name)) => tell_stopped(rt, audience, name.as_str()),
         (None, None) if desk.lacks_letter => {
             let status = tell_file(rt, "-", "Letter");

@@ -1,5 +1,5 @@
 -- Lines without a line end, put together from parts.
-use Rattle.std.proofs.Common.{◌≡◌, ◌+◌, ◌++◌, ◌==◌, not, ap, arith, cond, length, refl, subst, sym, take, ℕ, List, [], ◌∷◌, Bool, true, false}
+use Rattle.std.proofs.Common.{◌≡◌, ◌+◌, ◌++◌, ◌==◌, not, ap, arith, cond, length, refl, suc, subst, sym, take, ℕ, List, [], ◌∷◌, Bool, true, false}
 use Rattle.std.specs.List.{prefix_len}
 use Rattle.operator_desk.specs.Held.{line_length, first_line}
 

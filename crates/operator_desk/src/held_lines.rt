@@ -14,7 +14,7 @@ pub struct HeldLines<'a> {
 }
 
 /// How many bytes come before the first line end.
-fn line_length(text: &[u8]) -> usize
+pub(crate) fn line_length(text: &[u8]) -> usize
     ensures value { result ≡ line_length_of text.now }
     ensures within { result ≤ length text.now }
 {

@@ -5,6 +5,7 @@ ghost use Rattle.operator_desk.specs.Held.{line_length};
 ghost use Rattle.operator_desk.specs.Typings.{HoldsNoEnd};
 ghost use Rattle.std.specs.Prelude.{◌≡◌, IfOk, length};
 
+use crate::held_lines::line_length as bytes_of_line;
 use std::alloc::Global;
 use std::io::{self, BufRead, ErrorKind};
 
@@ -34,8 +35,9 @@ fn take_part<B: BufRead>(reader: &mut B, line: &mut Vec<u8>) -> io::Result<Part>
         → line_length line.new.items ≡ length line.new.items }
 {
     let ready = reader.fill_buf()?;
-    let length = ready.iter().take_while(|byte| **byte != b'\n').count();
-    line.extend_from_slice(&ready[..length])?;
+    let length = bytes_of_line(ready);
+    let (part, _) = ready.split_at(length);
+    line.extend_from_slice(part)?;
     let ended = length < ready.len();
     let used = if ended { length + 1 } else { length };
     reader.consume(used);
