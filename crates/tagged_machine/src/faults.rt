@@ -2,92 +2,20 @@
 
 ghost use Rattle.std.specs.Prelude.{◌≡◌, ◌<◌};
 ghost use Rattle.code_items.specs.Legal.{IsCode, places_of};
-ghost use Rattle.code_items.specs.declared.instr.Instr.TheVariants.{Values as OfValues, Flow as OfFlow};
 ghost use Rattle.run_steps.specs.Faults.{fault_of};
 ghost use Rattle.run_steps.specs.World.{desk_of};
 ghost use Rattle.tagged_machine.specs.Seen.{world_of, state_seen, fault_seen};
 
+use crate::clear::is_clear;
 use crate::operands::{bad_field, is_high, is_short, loads_free, wrong_kind};
 use crate::places::{bad_jump, deep_call};
 use crate::scratch::BlockScratch;
 use crate::soundness::bad_filter;
-use code_items::{Code, Desk, FlowInstr, Instr, ValueInstr};
+use code_items::{Code, Desk, Instr};
 use code_rules::desks::{is_closed, opens_twice, order_fails};
 use key_lists::KeyList;
 use run_steps::{FaultKind, Machine};
 use run_values::Tagged;
-
-/// The first test that fails of an instruction on values, slots and settings. (The others can't: it names no work area,
-/// calls nothing, and moves no record pointer.)
-#[tactic(auto, unfolding(crate::specs::Seen::fault_seen))]
-fn value_fault<K: KeyList>(
-    code: &Code,
-    places: usize,
-    machine: &Machine<Tagged, K>,
-    desk: &Desk,
-    instr: ValueInstr,
-) -> Option<FaultKind>
-    requires legal { IsCode code.now }
-    requires places { places ≡ places_of code.now.procedures }
-    requires place { machine.now.place < 65536 }
-    ensures { result ≡ fault_seen code.now
-        (world_of machine.now.place machine.now.returns machine.now.values machine.now.env)
-        (state_seen desk.now machine.now.values) (OfValues instr) }
-{
-    let values = &machine.values;
-    let instr = Instr::Values(instr);
-    if wrong_kind(code, desk, values, instr) {
-        Some(FaultKind::WrongKind)
-    } else if loads_free(values, instr) {
-        Some(FaultKind::Unset)
-    } else if is_short(values, instr) {
-        Some(FaultKind::EmptyStack)
-    } else if is_high(code, values, instr) {
-        Some(FaultKind::StackOver)
-    } else if bad_jump(code, places, machine.place, &machine.returns, values, instr) {
-        Some(FaultKind::BadJump)
-    } else if bad_field(code, desk, values, instr) {
-        Some(FaultKind::BadField)
-    } else {
-        None
-    }
-}
-
-/// The first test that fails of an instruction on the flow of control. (The others can't: it loads no slot, names no
-/// work area, and moves no record pointer.)
-#[tactic(auto, unfolding(crate::specs::Seen::fault_seen))]
-fn flow_fault<K: KeyList>(
-    code: &Code,
-    places: usize,
-    machine: &Machine<Tagged, K>,
-    desk: &Desk,
-    instr: FlowInstr,
-) -> Option<FaultKind>
-    requires legal { IsCode code.now }
-    requires places { places ≡ places_of code.now.procedures }
-    requires place { machine.now.place < 65536 }
-    ensures { result ≡ fault_seen code.now
-        (world_of machine.now.place machine.now.returns machine.now.values machine.now.env)
-        (state_seen desk.now machine.now.values) (OfFlow instr) }
-{
-    let values = &machine.values;
-    let instr = Instr::Flow(instr);
-    if wrong_kind(code, desk, values, instr) {
-        Some(FaultKind::WrongKind)
-    } else if is_short(values, instr) {
-        Some(FaultKind::EmptyStack)
-    } else if is_high(code, values, instr) {
-        Some(FaultKind::StackOver)
-    } else if bad_jump(code, places, machine.place, &machine.returns, values, instr) {
-        Some(FaultKind::BadJump)
-    } else if deep_call(&machine.returns, instr) {
-        Some(FaultKind::DeepCall)
-    } else if bad_field(code, desk, values, instr) {
-        Some(FaultKind::BadField)
-    } else {
-        None
-    }
-}
 
 /// The first test that fails of any instruction.
 #[tactic(auto, unfolding(crate::specs::Seen::fault_seen))]
@@ -152,11 +80,8 @@ pub fn fault<K: KeyList>(
     ensures { result ≡ fault_of code.now
         (world_of machine.now.place machine.now.returns machine.now.values machine.now.env) instr }
 {
-    match instr {
-        Instr::Values(instr) => value_fault(code, places, machine, desk, instr),
-        Instr::Flow(instr) => flow_fault(code, places, machine, desk, instr),
-        Instr::Screen(_) | Instr::Areas(_) | Instr::Moves(_) | Instr::Records(_) => {
-            first_fault(code, places, machine, desk, scratch, instr)
-        }
+    if is_clear(code, places, machine, instr) {
+        return None;
     }
+    first_fault(code, places, machine, desk, scratch, instr)
 }

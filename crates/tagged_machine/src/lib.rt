@@ -5,6 +5,7 @@
 
 mod areas;
 mod blocks;
+mod clear;
 mod faults;
 mod kinds;
 mod operands;

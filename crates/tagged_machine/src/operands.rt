@@ -21,8 +21,8 @@ use run_values::Tagged;
 
 /// Whether a slot is loaded that holds another kind.
 pub fn loads_other(values: &Tagged, instr: Instr) -> bool
-    ensures { (desk : AnyDesk) (stack : List AnyKind)
-        → result ≡ loads_other_of (record { desk = desk; slots = map kind_held values.now.slots; stack = stack }) instr }
+    ensures { (desk : AnyDesk) (stack : List AnyKind) → result
+        ≡ loads_other_of (record { desk = desk; slots = map kind_held values.now.slots; stack = stack }) instr }
 {
     match instr {
         Instr::Values(ValueInstr::Load(kind, slot)) => {
