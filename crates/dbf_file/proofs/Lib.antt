@@ -16,3 +16,4 @@ pub mod WriteLemmas
 pub mod EmptyLemmas
 pub mod PackLemmas
 pub mod ValueLemmas
+pub mod DigitLemmas

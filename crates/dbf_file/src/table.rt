@@ -13,7 +13,7 @@ ghost use Rattle.dbf_file.specs.Tables.{structure_of, letter_at, decimals_at};
 ghost use Rattle.dbf_file.specs.Faults.{first_fault};
 ghost use Rattle.dbf_file.specs.Layouts.{IsLayout, structure_told, rows_told};
 ghost use Rattle.xvalue.specs.Kinds.{kind_of};
-ghost use Rattle.dbf_file.specs.Values.{kind_for, value_by, text_by};
+ghost use Rattle.dbf_file.specs.Values.{kind_for, value_by, text_by, number_in as number_of, day_in as day_of, is_yes};
 ghost use Rattle.dbf_file.specs.Lending.{place_of_field, LendsText};
 
 use crate::fault::DbfFault;
@@ -21,8 +21,10 @@ use crate::field::{Field, size_of, width_of};
 use crate::reading::{LIVE, Layout, MARKED, layout_of};
 use crate::stamp::Stamp;
 use crate::structure::Structure;
-use crate::values::{put, value};
+use crate::values::{begins_with_yes, day_in, number_in, put, value};
 use crate::writing::{mark_byte, put_descriptors, put_end, put_front, put_rows, put_zeros};
+use calendar::Day;
+use fixed_num::Num;
 use std::alloc::{AllocError, Global};
 use std::marker::Model;
 use xvalue::Value;
@@ -323,6 +325,33 @@ impl Table {
     {
         let field = good_field(&self.structure, f);
         value(&field, self.field(r, f))
+    }
+
+    /// The number that the text of field `f` in row `r` stands for, both counted from 0.
+    pub fn number_at(&self, r: usize, f: usize) -> Num
+        requires row { r < length self.now.rows }
+        requires field { f < length self.now.structure.fields }
+        ensures { result ≡ number_of (decimals_at self.now.structure f) (text_at self.now.rows r f) }
+    {
+        number_in(self.structure.fields()[f].decimals, self.field(r, f))
+    }
+
+    /// The day that the text of field `f` in row `r` stands for, both counted from 0.
+    pub fn day_at(&self, r: usize, f: usize) -> Day
+        requires row { r < length self.now.rows }
+        requires field { f < length self.now.structure.fields }
+        ensures { result ≡ day_of (text_at self.now.rows r f) }
+    {
+        day_in(self.field(r, f))
+    }
+
+    /// The truth value that the text of field `f` in row `r` stands for, both counted from 0.
+    pub fn truth_at(&self, r: usize, f: usize) -> bool
+        requires row { r < length self.now.rows }
+        requires field { f < length self.now.structure.fields }
+        ensures { result ≡ is_yes (slice_index (text_at self.now.rows r f) 0) }
+    {
+        begins_with_yes(self.field(r, f))
     }
 
     /// Writes a value of the field's kind into field `f` of row `r`, both counted from 0. Nothing else changes.

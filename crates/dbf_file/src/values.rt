@@ -1,7 +1,7 @@
 //! What a field's text stands for.
 
 ghost use Rattle.std.specs.Prelude.{◌≡◌, ℕ, ◌+◌, ◌-◌, ◌/◌, ◌%◌, ◌<◌, ◌≤◌, ◌++◌, ◌==◌, min, pos, length, take};
-ghost use Rattle.std.specs.Prelude.{slice_index, true, Some};
+ghost use Rattle.std.specs.Prelude.{slice_index, true, Some, IfSome, ◌^◌};
 ghost use Rattle.fixed_num.specs.Number.{finite};
 ghost use Rattle.fixed_num.specs.Reading.{are_digits, with_digits};
 ghost use Rattle.xvalue.specs.Kinds.{kind_of};
@@ -11,11 +11,14 @@ ghost use Rattle.dbf_file.specs.Values.{stored_day as day_text_of, logical_text 
 
 use crate::field::{Field, Letter, MAX_DECIMALS};
 use calendar::{Day, DayParts};
-use fixed_num::{Num, Parts};
+use fixed_num::{Num, Parts, without_blanks};
 use xvalue::{Kind, Text, Value, text_from};
 
 /// The most bytes of a text value.
 const TEXT_BYTES: usize = 254;
+
+/// The highest power of ten that has no more digits than a number that is read at once.
+const LAST_PLACE: u64 = 100_000_000_000_000_000;
 
 impl Letter {
     /// The kind of the values of such a field.
@@ -38,14 +41,15 @@ fn is_blank(text: &[u8]) -> bool
     text.iter().all(|byte| *byte == b' ')
 }
 
-/// The number 0 with so many decimals.
-fn zero_with(decimals: u8) -> Num
-    requires { decimals ≤ 15 }
-    ensures { result ≡ finite (pos 0) decimals }
+/// A number below 10^18 over a power of ten.
+fn number_with(magnitude: u64, decimals: u8) -> Num
+    requires small { magnitude < 10 ^ 18 }
+    requires decimals { decimals ≤ 15 }
+    ensures { result ≡ finite (pos magnitude) decimals }
 {
     let parts = Parts {
         negative: false,
-        magnitude: 0,
+        magnitude,
         decimals,
     };
     match Num::from_parts(parts) {
@@ -54,12 +58,36 @@ fn zero_with(decimals: u8) -> Num
     }
 }
 
-/// The number of a text in a field with these decimals.
-fn number_in(decimals: u8, text: &[u8]) -> Num
+/// The number of digits alone, of which there are some, where it is below 10^18; none of another text.
+fn digits_value(digits: &[u8]) -> Option<u64>
+    ensures digits { IfSome result (λ n. are_digits digits.now ≡ true) }
+    ensures some { IfSome result (λ n. 0 < length digits.now) }
+    ensures value { IfSome result (λ n. n ≡ with_digits 0 digits.now) }
+    ensures small { IfSome result (λ n. n < 10 ^ 18) }
+{
+    if digits.is_empty() {
+        return None;
+    }
+    let mut number = 0;
+    for digit in digits {
+        if !digit.is_ascii_digit() || number >= LAST_PLACE {
+            return None;
+        }
+        number = number * 10 + u64::from(*digit - b'0');
+    }
+    Some(number)
+}
+
+/// The number of a text in a field with these decimals. Digits alone behind blanks, which most texts are, are read at
+/// once.
+pub(crate) fn number_in(decimals: u8, text: &[u8]) -> Num
     ensures { result ≡ number_in decimals text.now }
 {
+    if let Some(magnitude) = digits_value(without_blanks(text)) {
+        return number_with(magnitude, 0);
+    }
     if is_blank(text) {
-        zero_with(decimals.min(MAX_DECIMALS))
+        number_with(0, decimals.min(MAX_DECIMALS))
     } else {
         Num::parse(text)
     }
@@ -102,7 +130,7 @@ fn day_or_blank(parts: DayParts) -> Day
 }
 
 /// The day of a text: four digits of the year, two of the month, two of the day.
-fn day_in(text: &[u8]) -> Day
+pub(crate) fn day_in(text: &[u8]) -> Day
     ensures { result ≡ day_in text.now }
 {
     if !are_digits(text) || text.len() != 8 {
@@ -132,7 +160,7 @@ fn text_in(text: &[u8]) -> Text
 }
 
 /// Whether the first byte stands for true.
-fn begins_with_yes(text: &[u8]) -> bool
+pub(crate) fn begins_with_yes(text: &[u8]) -> bool
     ensures { result ≡ is_yes (slice_index text.now 0) }
 {
     match text {
