@@ -4,3 +4,4 @@ pub mod Remembering
 mod Constants
 mod Naming
 mod Numbers
+mod Rooms

@@ -5,3 +5,4 @@ pub mod Parts
 pub mod Pools
 pub mod Merging
 pub mod Remembering
+pub mod Rooms

@@ -1,7 +1,10 @@
 //! Blocks laid out: places in place of labels.
 
 ghost use Rattle.std.specs.Prelude.{◌≡◌, ◌≤◌, [], length, IfOk, IfErr};
+ghost use Rattle.prg_code.specs.Growth.{drafts_of};
 ghost use Rattle.prg_code.specs.Numbers.{Grows};
+ghost use Rattle.prg_code.specs.Rooms.{counted, sizes_of, maps_of};
+ghost use Rattle.prg_code.specs.Rooms as rooms;
 ghost use Rattle.prg_code.specs.declared.fault.CompileFaultKind.TheVariants.{Limit};
 ghost use Rattle.prg_code.specs.declared.fault.CompileRefusal.TheVariants as refusal;
 
@@ -61,26 +64,55 @@ impl LaidOut {
     }
 }
 
-/// How many instructions a piece has.
-fn size_of(draft: Draft, own: usize) -> usize {
+/// How many instructions a piece has, in a procedure with so many slots of its own.
+fn size_of(draft: Draft, own: usize) -> usize
+    ensures { result ≡ counted (rooms.size_of own draft) }
+{
     match draft {
-        Draft::Instr(_) | Draft::Jump(_) | Draft::JumpFalse(_) => 1,
+        Draft::Instr(_) => 1,
+        Draft::Jump(_) => 1,
+        Draft::JumpFalse(_) => 1,
         Draft::Label(_) => 0,
         Draft::Return => own.saturating_add(1),
     }
 }
 
+/// Whether a jump leads to the label.
+fn is_jumped(labels: &[Label], label: u32) -> bool
+    ensures { result ≡ rooms.is_jumped labels.now label }
+{
+    match labels.get(label as usize) {
+        Some(label) => label.jumped,
+        None => false,
+    }
+}
+
+/// How many maps a piece has at most.
+fn maps_at(labels: &[Label], draft: Draft) -> usize
+    ensures { result ≡ rooms.maps_at labels.now draft }
+{
+    match draft {
+        Draft::Label(label) => usize::from(is_jumped(labels, label)),
+        Draft::Instr(_) => 0,
+        Draft::Jump(_) => 0,
+        Draft::JumpFalse(_) => 0,
+        Draft::Return => 0,
+    }
+}
+
 /// How many instructions and maps the block has at most, if it has so many slots of its own.
-pub fn room_of(block: &DraftBlock, own: usize) -> (usize, usize) {
+#[tactic(auto, using(crate::proofs::Rooms::all_sizes, crate::proofs::Rooms::all_maps))]
+pub fn room_of(block: &DraftBlock, own: usize) -> (usize, usize)
+    ensures instrs { result.0 ≡ counted (sizes_of own (drafts_of block.now)) }
+    ensures maps { result.1 ≡ counted (maps_of block.now.labels.items (drafts_of block.now)) }
+{
     let mut instrs = 0usize;
     let mut maps = 0usize;
-    for piece in &block.pieces {
+    let mut rest = block.pieces.as_slice();
+    while let Some((piece, others)) = rest.split_first() {
         instrs = instrs.saturating_add(size_of(piece.draft, own));
-        if let Draft::Label(label) = piece.draft
-            && let Some(Label { jumped: true, .. }) = block.labels.get(label as usize)
-        {
-            maps = maps.saturating_add(1);
-        }
+        maps = maps.saturating_add(maps_at(&block.labels, piece.draft));
+        rest = others;
     }
     (instrs, maps)
 }
