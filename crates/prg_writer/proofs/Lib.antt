@@ -1,2 +1,3 @@
 mod Adding
 mod GivingUp
+mod NamedBy

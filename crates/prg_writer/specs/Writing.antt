@@ -1,8 +1,12 @@
 -- What is written, and what is given up.
-use Rattle.std.specs.Prelude.{◌≡◌, ℕ, ◌-◌, Bool, true, false, ◌⊎◌, List, [], ◌∷◌, ◌++◌, Option, Some, None, take, length, slice_get}
+use Rattle.std.specs.Prelude.{◌≡◌, ℕ, ◌-◌, Bool, true, false, ◌⊎◌, List, [], ◌∷◌, ◌++◌, Option, Some, None}
+use Rattle.std.specs.Prelude.{take, length, map, slice_get}
 use Rattle.std.specs.Option.{option_map_or}
 use Rattle.arrayvec.specs.ArrayVec.{ArrayVec}
 use Rattle.code_items.specs.declared.state.State.{State}
+use Rattle.prg_line.specs.Act.{Act, Letters, letters_of}
+use Rattle.prg_line.specs.Act as act
+use Rattle.prg_parser.specs.Commands.{Cmd, Single, command_of}
 use Rattle.prg_parser.specs.declared.command.Command.{Command}
 use Rattle.prg_parser.specs.declared.program.Program.{Program}
 use Rattle.prg_code.specs.Bindings.{NamedVariables}
@@ -25,14 +29,41 @@ commands_in_file (Some number) program = option_map_or (λ p. p.body.items) (sli
 abbrev pub commands_in : List Program → Target → List Command
 commands_in programs target = option_map_or (commands_in_file target.procedure) (slice_get programs target.file) []
 
--- the line of the last command, if there are commands
-abbrev pub IsLineBehind : List Command → ℕ → Type 0
-IsLineBehind commands line = (last : Command) → slice_get commands (length commands - 1) ≡ Some last → line ≡ last.line
+-- The line of the procedure of this number. That of the part before the first PROCEDURE is 1, and so it is where the
+-- procedure isn't there.
+abbrev pub line_in_file : Option ℕ → Program → ℕ
+line_in_file None program = 1
+line_in_file (Some number) program = option_map_or (λ p. p.line) (slice_get program.procedures.items number) 1
 
--- the commands are all of these, or all but the first, which names the parameters
+abbrev pub line_of : List Program → Target → ℕ
+line_of programs target = option_map_or (line_in_file target.procedure) (slice_get programs target.file) 1
+
+-- the line of the last of these commands, or else this one
+abbrev pub last_line_or : ℕ → List Command → ℕ
+last_line_or other commands = option_map_or (λ c. c.line) (slice_get commands (length commands - 1)) other
+
+-- the line where a procedure ends: that of its last command, or else its own
+abbrev pub last_line_in : List Program → Target → ℕ
+last_line_in programs target = last_line_or (line_of programs target) (commands_in programs target)
+
+-- the parameters that PARAMETERS names; None of another command
+abbrev pub parameters_said : Act → Option (List Letters)
+parameters_said (act.Parameters names) = Some names
+parameters_said _ = None
+
+abbrev pub parameters_named : Cmd → Option (List Letters)
+parameters_named (Single line a) = parameters_said a
+parameters_named _ = None
+
+-- the names and commands: where the first command is PARAMETERS, those that it names and the commands behind it; else
+-- none and all commands
+abbrev pub AreNamed : Option (List Letters) → Command → List Command → List (ArrayVec ℕ) → List Command → Type 0
+AreNamed None first behind names others = (names ≡ []) × (others ≡ first ∷ behind)
+AreNamed (Some letters) first behind names others = (map letters_of names ≡ letters) × (others ≡ behind)
+
 abbrev pub AreParameters : List Command → List (ArrayVec ℕ) → List Command → Type 0
-AreParameters commands names others =
-    ((names ≡ []) × (others ≡ commands)) ⊎ ((first : Command) × (commands ≡ first ∷ others))
+AreParameters [] names others = (names ≡ []) × (others ≡ [])
+AreParameters (first ∷ behind) names others = AreNamed (parameters_named (command_of first)) first behind names others
 
 -- ---- what stood at some time, and what was given up
 

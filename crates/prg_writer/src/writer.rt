@@ -1,11 +1,14 @@
 //! The copies of procedures that are written, and what a round of a loop is given up to.
 
-ghost use Rattle.std.specs.Prelude.{◌≡◌, [], ◌∷◌, ◌++◌, None, Ok, Err, false, is_some};
+ghost use Rattle.std.specs.Prelude.{◌≡◌, [], ◌∷◌, ◌++◌, None, Ok, Err, false, is_some, map, option_map};
 ghost use Rattle.std.specs.Prelude.{IfOk, IfErr, IfSome, OnOk, MatchResult};
 ghost use Rattle.prg_code.specs.Parts.{told_at};
 ghost use Rattle.prg_code.specs.declared.fault.CompileError.TheVariants as error;
 ghost use Rattle.prg_code.specs.declared.fault.CompileRefusal.TheVariants as refusal;
-ghost use Rattle.prg_writer.specs.Writing.{commands_in, IsLineBehind, AreParameters};
+ghost use Rattle.prg_line.specs.Act.{act_of, letters_of};
+ghost use Rattle.prg_parser.specs.Commands.{command_of};
+ghost use Rattle.prg_writer.specs.Writing.{commands_in, last_line_in, AreParameters};
+ghost use Rattle.prg_writer.specs.Writing.{parameters_said as said, parameters_named as named};
 ghost use Rattle.prg_writer.specs.Writing.{IsMark, IsBegun, IsBackAt, IsOpened};
 
 use crate::fault_list::FaultList;
@@ -126,7 +129,7 @@ impl Source<'_> {
 
     /// The line of a procedure's last command; of one without commands, that of its PROCEDURE, or the file's first.
     pub fn last_line(&self, target: Target) -> usize
-        ensures { IsLineBehind (commands_in self.now.programs.now target) result }
+        ensures { result ≡ last_line_in self.now.programs.now target }
     {
         if let Some(command) = self.commands(target).last() {
             return command.line;
@@ -144,15 +147,36 @@ impl Source<'_> {
     }
 }
 
+/// The parameters that PARAMETERS names; None of another command.
+fn parameters_said(statement: &Statement) -> Option<&[prg_parser::Name]>
+    ensures { option_map (λ names. map letters_of names.now) result ≡ said (act_of statement.now) }
+{
+    match statement {
+        Statement::Parameters { variables } => Some(variables.as_slice()),
+        _ => None,
+    }
+}
+
+/// The parameters that the command names, if it is PARAMETERS.
+#[tactic(auto, using(crate::proofs::NamedBy::forms))]
+fn parameters_named(command: &Command) -> Option<&[prg_parser::Name]>
+    ensures { option_map (λ names. map letters_of names.now) result ≡ named (command_of command.now) }
+{
+    match &command.form {
+        Form::Statement(statement) => parameters_said(statement),
+        _ => None,
+    }
+}
+
 /// The parameters that a procedure's first command names, and the commands behind it.
 pub fn parameters(commands: &[Command]) -> (&[prg_parser::Name], &[Command])
     ensures { AreParameters commands.now result.0.now result.1.now }
 {
-    match commands.split_first() {
-        Some((first, others)) => match &first.form {
-            Form::Statement(Statement::Parameters { variables }) => (variables.as_slice(), others),
-            _ => (&[], commands),
-        },
+    let Some((first, others)) = commands.split_first() else {
+        return (&[], commands);
+    };
+    match parameters_named(first) {
+        Some(names) => (names, others),
         None => (&[], commands),
     }
 }
