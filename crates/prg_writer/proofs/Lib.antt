@@ -1,3 +1,4 @@
 mod Adding
+mod Behind
 mod GivingUp
 mod NamedBy

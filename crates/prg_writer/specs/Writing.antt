@@ -1,5 +1,5 @@
 -- What is written, and what is given up.
-use Rattle.std.specs.Prelude.{◌≡◌, ℕ, ◌-◌, Bool, true, false, ◌⊎◌, List, [], ◌∷◌, ◌++◌, Option, Some, None}
+use Rattle.std.specs.Prelude.{◌≡◌, ℕ, ◌-◌, ◌≤◌, Bool, true, false, ◌⊎◌, List, [], ◌∷◌, ◌++◌, Option, Some, None}
 use Rattle.std.specs.Prelude.{take, length, map, slice_get}
 use Rattle.std.specs.Option.{option_map_or}
 use Rattle.arrayvec.specs.ArrayVec.{ArrayVec}
@@ -10,6 +10,7 @@ use Rattle.prg_parser.specs.Commands.{Cmd, Single, command_of}
 use Rattle.prg_parser.specs.declared.command.Command.{Command}
 use Rattle.prg_parser.specs.declared.program.Program.{Program}
 use Rattle.prg_code.specs.Bindings.{NamedVariables}
+use Rattle.prg_code.specs.declared.work.Output.{Output}
 use Rattle.prg_code.specs.Growth.{OutputGrows}
 use Rattle.prg_code.specs.Numbers.{Grows}
 use Rattle.prg_code.specs.Merging.{merged_state}
@@ -104,6 +105,22 @@ pub record IsBackAt (mark : WrittenMark) (known : State) (earlier later : Writer
   pub level : later.work.level ≡ mark.level
   pub names : later.work.names ≡ mark.names
   pub exit : later.work.exit ≡ mark.exit
+
+-- a mark that is behind what this output has
+pub record IsMarkBehind (base : Output) (mark : WrittenMark) : Type 0 where
+  pub constants : length base.pool ≤ mark.constants
+  pub lists : length base.lists ≤ mark.lists
+  pub filters : length base.filters ≤ mark.filters
+  pub slots : base.slots ≤ mark.slots
+  pub century : base.century ≡ true → mark.century ≡ true
+
+abbrev pub IsBegunBehind : Output → Begun → Type 0
+IsBegunBehind base begun = IsMarkBehind base begun.mark
+
+-- what stood in an output stands there still, if it stood before the mark
+abbrev pub KeepsOutput : WrittenMark → Output → Output → Type 0
+KeepsOutput mark earlier later =
+    (base : Output) → IsMarkBehind base mark → OutputGrows base earlier → OutputGrows base later
 
 -- ---- copies and loops
 

@@ -1,7 +1,9 @@
 //! The copies of procedures that are written, and what a round of a loop is given up to.
 
-ghost use Rattle.std.specs.Prelude.{◌≡◌, [], ◌∷◌, ◌++◌, None, Ok, Err, false, is_some, map, option_map};
+ghost use Rattle.std.specs.Prelude.{◌≡◌, [], ◌∷◌, ◌++◌, None, Ok, Err, false, is_some, map, option_map, take};
 ghost use Rattle.std.specs.Prelude.{IfOk, IfErr, IfSome, OnOk, MatchResult};
+ghost use Rattle.prg_code.specs.declared.work.Output.{Output as AnyOutput};
+ghost use Rattle.prg_code.specs.Growth.{OutputGrows};
 ghost use Rattle.prg_code.specs.Parts.{told_at};
 ghost use Rattle.prg_code.specs.declared.fault.CompileError.TheVariants as error;
 ghost use Rattle.prg_code.specs.declared.fault.CompileRefusal.TheVariants as refusal;
@@ -10,6 +12,7 @@ ghost use Rattle.prg_parser.specs.Commands.{command_of};
 ghost use Rattle.prg_writer.specs.Writing.{commands_in, last_line_in, AreParameters};
 ghost use Rattle.prg_writer.specs.Writing.{parameters_said as said, parameters_named as named};
 ghost use Rattle.prg_writer.specs.Writing.{IsMark, IsBegun, IsBackAt, IsOpened};
+ghost use Rattle.prg_writer.specs.Writing.{IsMarkBehind, IsBegunBehind, KeepsOutput};
 
 use crate::fault_list::FaultList;
 use crate::heads::LoopHead;
@@ -181,9 +184,35 @@ pub fn parameters(commands: &[Command]) -> (&[prg_parser::Name], &[Command])
     }
 }
 
+/// Gives up what was added since.
+fn cut_output(out: &mut Output, mark: &WrittenMark)
+    ensures constants { out.new.pool ≡ take mark.now.constants out.old.pool }
+    ensures lists { out.new.lists ≡ take mark.now.lists out.old.lists }
+    ensures filters { out.new.filters ≡ take mark.now.filters out.old.filters }
+    ensures slots { out.new.slots ≡ mark.now.slots }
+    ensures century { out.new.century ≡ mark.now.century }
+    ensures behind { KeepsOutput mark.now out.old out.new }
+{
+    out.pool.cut(mark.constants);
+    out.lists.cut(mark.lists);
+    out.filters.cut(mark.filters);
+    out.slots = mark.slots;
+    out.century = mark.century;
+}
+
 impl Writer {
     /// How much is written.
+    #[tactic(auto, using(crate::proofs::Behind::marked))]
     pub fn mark(&self) -> Result<WrittenMark, AllocError>
+        ensures is { IfOk result (IsMark self.now) }
+        // It is behind all that stands.
+        ensures behind { (base : AnyOutput) → OutputGrows base self.now.out → IfOk result (IsMarkBehind base) }
+    {
+        let mark = self.marked()?;
+        Ok(mark)
+    }
+
+    fn marked(&self) -> Result<WrittenMark, AllocError>
         ensures { IfOk result (IsMark self.now) }
     {
         Ok(WrittenMark {
@@ -204,15 +233,13 @@ impl Writer {
 
     /// Gives up what was written since, and goes on with what is known now.
     pub fn give_up(&mut self, mark: &WrittenMark, known: &State) -> Result<(), AllocError>
-        ensures { OnOk result (IsBackAt mark.now known.now self.old self.new) }
+        ensures back { OnOk result (IsBackAt mark.now known.now self.old self.new) }
+        // What stood before the mark still stands, also where memory is refused.
+        ensures behind { KeepsOutput mark.now self.old.out self.new.out }
     {
         let state = known.copied(self.alloc)?;
         self.work.block.cut(mark.pieces, mark.labels, state);
-        self.out.pool.cut(mark.constants);
-        self.out.lists.cut(mark.lists);
-        self.out.filters.cut(mark.filters);
-        self.out.slots = mark.slots;
-        self.out.century = mark.century;
+        cut_output(&mut self.out, mark);
         self.copies.truncate(mark.copies);
         self.work.own.truncate(mark.own);
         self.work.level = mark.level;
@@ -254,6 +281,8 @@ impl Writer {
     pub fn begun(&self) -> Result<Option<Begun>, AllocError>
         ensures there { IfOk result (λ begun. is_some begun ≡ is_some self.now.listed) }
         ensures begun { IfOk result (λ begun. IfSome begun (IsBegun self.now)) }
+        ensures behind { (base : AnyOutput) → OutputGrows base self.now.out
+            → IfOk result (λ begun. IfSome begun (IsBegunBehind base)) }
     {
         if self.listed.is_none() {
             return Ok(None);
@@ -297,6 +326,9 @@ impl Writer {
     ) -> Result<bool, CompileRefusal>
         ensures ok { OnOk outcome ((result ≡ Ok false) × (self.new ≡ self.old)) }
         ensures told { self.old.listed ≡ None → IfErr outcome (λ e. result ≡ Err e) }
+        // What stood before the command still stands.
+        ensures behind { (base : AnyOutput) → IfSome begun.now (IsBegunBehind base)
+            → OutputGrows base self.old.out → OutputGrows base self.new.out }
     {
         if outcome.is_ok() {
             return Ok(false);
