@@ -72,7 +72,7 @@ pub fn length_fault(line: &[u8]) -> Option<ParseFaultKind>
 }
 
 /// The fault that is told, and where it stands.
-#[derive(Clone, Copy, Debug, PartialEq, Eq)]
+#[derive(Clone, Copy)]
 pub struct ParseFault {
     /// The line in the file, from 1; of a joined line its first one. An expression by itself is line 1.
     pub line: usize,
@@ -81,7 +81,7 @@ pub struct ParseFault {
 }
 
 /// Why words are no expression or command.
-#[derive(Clone, Copy, Debug, PartialEq, Eq)]
+#[derive(Clone, Copy)]
 pub enum FormFault {
     /// What is wrong where the words stop being one.
     Kind(ParseFaultKind),
@@ -90,7 +90,7 @@ pub enum FormFault {
 }
 
 /// Why there is no answer.
-#[derive(Clone, Copy, Debug, PartialEq, Eq)]
+#[derive(Clone, Copy)]
 pub enum ParseRefusal {
     /// What was to be read is faulty.
     Fault(ParseFault),

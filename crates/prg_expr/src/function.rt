@@ -8,7 +8,7 @@ ghost use Rattle.prg_expr.specs.Lexicon.{IsOneOf};
 use crate::names::is_word;
 
 /// A function that expressions call by name.
-#[derive(Clone, Copy, Debug, PartialEq, Eq)]
+#[derive(Clone, Copy, Debug)]
 pub enum Function {
     Iif,
     Len,

@@ -66,7 +66,7 @@ pub struct AliasedName {
 }
 
 /// An operator between two operands.
-#[derive(Clone, Copy, Debug, PartialEq, Eq)]
+#[derive(Clone, Copy, Debug)]
 pub enum BinaryOperator {
     /// `.OR.`
     Or,
@@ -97,7 +97,7 @@ pub enum BinaryOperator {
 }
 
 /// What stands before its one operand.
-#[derive(Clone, Copy, Debug, PartialEq, Eq)]
+#[derive(Clone, Copy, Debug)]
 pub enum Prefix {
     /// `.NOT.`
     Not,
