@@ -240,6 +240,17 @@ pub(crate) fn fresh_name<R: Disk + Alloc<A = Global>>(
     Ok(None)
 }
 
+/// Makes a whole file, first under the name of a draft.
+fn put_by_draft<R: Disk>(rt: &R, draft: &str, name: &str, bytes: &[u8]) -> io::Result<()> {
+    remove_if_there(rt, draft)?;
+    write_new(rt, draft, bytes, None)?;
+    if let Err(error) = fs::rename(rt, draft, name) {
+        let _ = fs::remove_file(rt, draft);
+        return Err(error);
+    }
+    sync_folder(rt)
+}
+
 /// Makes a whole file where none stands, down to the device: first under a name that only this program gives, so that
 /// nobody meets half of it. What an earlier try left under that name is removed.
 pub fn put_new_file<R: Disk + Alloc<A = Global>>(
@@ -248,11 +259,5 @@ pub fn put_new_file<R: Disk + Alloc<A = Global>>(
     bytes: &[u8],
 ) -> io::Result<()> {
     let draft = format!(in rt.alloc(); "{PAPER}.{name}")?;
-    remove_if_there(rt, draft.as_str())?;
-    write_new(rt, draft.as_str(), bytes, None)?;
-    if let Err(error) = fs::rename(rt, draft.as_str(), name) {
-        let _ = fs::remove_file(rt, draft.as_str());
-        return Err(error);
-    }
-    sync_folder(rt)
+    put_by_draft(rt, draft.as_str(), name, bytes)
 }

@@ -11,7 +11,7 @@ use std::rt::Files as Disk;
 use std::{fs, str};
 
 /// What was found of a save that was cut off, and is finished now.
-#[derive(Clone, Copy, PartialEq, Eq, Debug)]
+#[derive(Clone, Copy)]
 pub enum FinishedSave {
     /// None was, or it hadn't come to its note: all files are as they were before it.
     Before,
@@ -171,31 +171,48 @@ fn foreign_in(alloc: Global, paper: &SavePaper, slots: &[Slot]) -> UnfinishedSav
     }
 }
 
-/// Finishes the save that a plan or a note tells of.
-fn finish_paper<R: Disk + Alloc<A = Global>>(
+/// Carries out the steps that finish a save, each behind the one before.
+fn carry_out_all<R: Disk + Alloc<A = Global>>(
+    rt: &R,
+    steps: &[Step],
+    paper: &SavePaper,
+    slots: &[Slot],
+) -> Result<FinishedSave, UnfinishedSave> {
+    for step in steps {
+        carry_out(rt, *step, paper, slots)?;
+    }
+    if paper.noted {
+        Ok(FinishedSave::Behind)
+    } else {
+        Ok(FinishedSave::Before)
+    }
+}
+
+/// Finishes the save that a plan or a note tells of, with this at the files that it names.
+fn finish_at<R: Disk + Alloc<A = Global>>(
     rt: &R,
     paper: &SavePaper,
+    slots: &[Slot],
 ) -> Result<FinishedSave, UnfinishedSave> {
-    let alloc = rt.alloc();
-    let slots = slots_of(rt, paper)?;
     let sort = if paper.noted {
         Paper::Note
     } else {
         Paper::Plan
     };
-    let Ok(found) = steps_of_finish(alloc, sort, slots.as_slice()) else {
-        return Err(UnfinishedSave::Memory);
-    };
-    let Some(steps) = found else {
-        return Err(foreign_in(alloc, paper, slots.as_slice()));
-    };
-    for step in &steps {
-        carry_out(rt, *step, paper, slots.as_slice())?;
+    match steps_of_finish(rt.alloc(), sort, slots) {
+        Ok(Some(steps)) => carry_out_all(rt, steps.as_slice(), paper, slots),
+        Ok(None) => Err(foreign_in(rt.alloc(), paper, slots)),
+        Err(_) => Err(UnfinishedSave::Memory),
     }
-    if paper.noted {
-        return Ok(FinishedSave::Behind);
-    }
-    Ok(FinishedSave::Before)
+}
+
+/// Finishes the save that a plan or a note tells of.
+fn finish_paper<R: Disk + Alloc<A = Global>>(
+    rt: &R,
+    paper: &SavePaper,
+) -> Result<FinishedSave, UnfinishedSave> {
+    let slots = slots_of(rt, paper)?;
+    finish_at(rt, paper, slots.as_slice())
 }
 
 /// Why a save isn't finished whose plan or note isn't read.

@@ -14,7 +14,7 @@ use std::io::ErrorKind;
 use std::rt::Files as Disk;
 
 /// What goes on with a file.
-#[derive(Clone, Copy, PartialEq, Eq, Debug)]
+#[derive(Clone, Copy)]
 pub enum Doing {
     /// It is read.
     Reading,
@@ -33,7 +33,7 @@ pub trait Listener {
 }
 
 /// Nobody hears it.
-#[derive(Clone, Copy, Debug)]
+#[derive(Clone, Copy)]
 pub struct Nobody;
 
 impl Listener for Nobody {

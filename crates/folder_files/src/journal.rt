@@ -5,7 +5,7 @@ ghost use Rattle.std.specs.Prelude.{◌≤◌, length};
 
 use crate::disk::{is_free, sync_folder};
 use file_access::{ReadFault, read_within};
-use std::alloc::{Alloc, AllocError, Global};
+use std::alloc::{Alloc, Global};
 use std::fs::{self, File, OpenFile, OpenOptions, TryLockError};
 use std::io::{self, ErrorKind, Write};
 use std::rt::Files as Disk;
@@ -14,7 +14,7 @@ use std::rt::Files as Disk;
 const LIMIT: usize = 2_097_152;
 
 /// Why a journal isn't made or taken up.
-#[derive(Clone, Copy, PartialEq, Eq, Debug)]
+#[derive(Clone, Copy, PartialEq)]
 pub enum JournalFault {
     /// A file of its name stands.
     Exists,
@@ -122,25 +122,44 @@ fn lines_end(bytes: &[u8]) -> usize
     }
 }
 
-/// The lines of a text, and what stands behind its last LF.
-fn parted(alloc: Global, bytes: &[u8]) -> Result<(Vec<u8>, Vec<u8>), AllocError> {
-    let (lines, tail) = bytes.split_at(lines_end(bytes));
-    Ok((
-        Vec::from_slice(alloc, lines)?,
-        Vec::from_slice(alloc, tail)?,
-    ))
-}
-
 /// What stands behind the lines of a journal, if anything does.
-fn tail_of(file: &File, length: u64, bytes: Vec<u8>) -> io::Result<Option<Tail>> {
+fn tail_of(
+    alloc: Global,
+    file: &File,
+    length: u64,
+    bytes: &[u8],
+) -> Result<Option<Tail>, JournalFault> {
     if bytes.is_empty() {
         return Ok(None);
     }
-    Ok(Some(Tail {
-        file: file.try_clone()?,
-        length,
-        bytes,
-    }))
+    let Ok(bytes) = Vec::from_slice(alloc, bytes) else {
+        return Err(JournalFault::Memory);
+    };
+    match file.try_clone() {
+        Ok(file) => Ok(Some(Tail {
+            file,
+            length,
+            bytes,
+        })),
+        Err(_) => Err(JournalFault::Disk),
+    }
+}
+
+/// A journal that holds these bytes, taken up again.
+fn taken_up(alloc: Global, file: File, bytes: &[u8]) -> Result<TakenUp, JournalFault> {
+    let (lines, tail) = bytes.split_at(lines_end(bytes));
+    let length = lines.len() as u64;
+    let Ok(lines) = Vec::from_slice(alloc, lines) else {
+        return Err(JournalFault::Memory);
+    };
+    match tail_of(alloc, &file, length, tail) {
+        Ok(tail) => Ok(TakenUp {
+            journal: JournalFile { file, length },
+            lines,
+            tail,
+        }),
+        Err(fault) => Err(fault),
+    }
 }
 
 /// An empty journal that was left, if nobody has it.
@@ -186,24 +205,12 @@ impl JournalFile {
         no_lock: bool,
     ) -> Result<TakenUp, JournalFault> {
         let mut file = opened(rt, name, false, no_lock)?;
-        let bytes = match read_within(rt.alloc(), &mut file, LIMIT) {
-            Ok(bytes) => bytes,
-            Err(ReadFault::TooLong) => return Err(JournalFault::TooLong),
-            Err(ReadFault::Memory) => return Err(JournalFault::Memory),
-            Err(_) => return Err(JournalFault::Disk),
-        };
-        let Ok((lines, tail)) = parted(rt.alloc(), bytes.as_slice()) else {
-            return Err(JournalFault::Memory);
-        };
-        let length = lines.len() as u64;
-        let Ok(tail) = tail_of(&file, length, tail) else {
-            return Err(JournalFault::Disk);
-        };
-        Ok(TakenUp {
-            journal: JournalFile { file, length },
-            lines,
-            tail,
-        })
+        match read_within(rt.alloc(), &mut file, LIMIT) {
+            Ok(bytes) => taken_up(rt.alloc(), file, bytes.as_slice()),
+            Err(ReadFault::TooLong) => Err(JournalFault::TooLong),
+            Err(ReadFault::Memory) => Err(JournalFault::Memory),
+            Err(_) => Err(JournalFault::Disk),
+        }
     }
 
     /// Cuts off all that doesn't count.

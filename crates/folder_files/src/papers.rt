@@ -20,7 +20,7 @@ const DRAFT: &str = "dbrun.save.new";
 const LIMIT: usize = 1_048_576;
 
 /// How the writing of a plan or a note ended.
-#[derive(Clone, Copy, PartialEq, Eq, Debug)]
+#[derive(Clone, Copy)]
 pub(crate) enum Written {
     /// It stands.
     Done,
@@ -51,7 +51,7 @@ pub(crate) fn put_paper<R: Disk>(rt: &R, alloc: Global, paper: &SavePaper) -> Wr
 }
 
 /// Why a plan or a note that stands isn't read.
-#[derive(Clone, Copy, PartialEq, Eq, Debug)]
+#[derive(Clone, Copy)]
 pub(crate) enum PaperFault {
     /// Its file is another program's.
     Foreign,

@@ -9,7 +9,7 @@ use std::fs;
 use std::rt::Files as Disk;
 
 /// Why a file isn't replaced, or not for certain.
-#[derive(Clone, Copy, PartialEq, Eq, Debug)]
+#[derive(Clone, Copy)]
 pub enum Unreplaced {
     /// What stands can't be replaced as it was: it stays.
     Hindered(Hindrance),

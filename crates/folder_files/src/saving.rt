@@ -37,7 +37,7 @@ struct Pending {
 }
 
 /// On which terms files are replaced.
-#[derive(Clone, Copy, Debug)]
+#[derive(Clone, Copy)]
 pub struct SaveTerms<'a> {
     /// Why no table may be read, if none may.
     pub closed: Option<Hindrance>,
@@ -50,7 +50,7 @@ pub struct SaveTerms<'a> {
 }
 
 /// Why files aren't replaced, or not all of them. A file goes by its number in the order in which they were handed in.
-#[derive(Clone, Copy, PartialEq, Eq, Debug)]
+#[derive(Clone, Copy)]
 pub enum Unsaved {
     /// Another program has changed the file since it was read: no file is replaced.
     Changed { file: usize },
@@ -170,6 +170,22 @@ impl<'a, R: Disk + Alloc<A = Global>, L: Listener> SavingFolder<'a, R, L> {
             bytes,
         })?;
         Ok(())
+    }
+
+    /// Remembers what a file holds that was read, or that there is no such file.
+    fn note_read(
+        &mut self,
+        name: &str,
+        target: Target,
+        read: &Result<Vec<u8>, ReadFault>,
+    ) -> Result<(), AllocError>
+        ensures { self.new.folder.failures ≡ self.old.folder.failures }
+    {
+        match read {
+            Ok(bytes) => self.note(name, target, Some(bytes.as_slice())),
+            Err(ReadFault::Absent) => self.note(name, target, None),
+            Err(ReadFault::Device | ReadFault::TooLong | ReadFault::Memory) => Ok(()),
+        }
     }
 
     /// Tells what a file that was read holds, or that there is no such file.
@@ -469,6 +485,21 @@ impl<'a, R: Disk + Alloc<A = Global>, L: Listener> SavingFolder<'a, R, L> {
         Ok(())
     }
 
+    /// Carries out a plan. Where that fails before its note stands, it is taken away.
+    fn carry_out_plan(&self, progress: &mut Progress) -> Result<(), Unsaved> {
+        let Ok(steps) = steps_of_save(self.folder.rt.alloc(), progress.files.len()) else {
+            return Err(Unsaved::Memory);
+        };
+        match self.carry_out_all(steps.as_slice(), progress) {
+            Ok(()) => Ok(()),
+            Err(unsaved) if progress.noted => Err(behind_note(unsaved)),
+            Err(unsaved) => {
+                self.take_away(progress);
+                Err(unsaved)
+            }
+        }
+    }
+
     /// Copies all files that are to be replaced to another folder, down to the device.
     fn copy_all(&self, path: &str) -> io::Result<()> {
         let rt = self.folder.rt;
@@ -497,19 +528,7 @@ impl<'a, R: Disk + Alloc<A = Global>, L: Listener> SavingFolder<'a, R, L> {
         if progress.files.is_empty() {
             return self.look_again();
         }
-        let Ok(steps) = steps_of_save(self.folder.rt.alloc(), progress.files.len()) else {
-            return Err(Unsaved::Memory);
-        };
-        match self.carry_out_all(steps.as_slice(), &mut progress) {
-            Ok(()) => Ok(()),
-            Err(unsaved) => {
-                if progress.noted {
-                    return Err(behind_note(unsaved));
-                }
-                self.take_away(&mut progress);
-                Err(unsaved)
-            }
-        }
+        self.carry_out_plan(&mut progress)
     }
 }
 
@@ -563,23 +582,11 @@ impl<R: Disk + Alloc<A = Global>, L: Listener> Files for SavingFolder<'_, R, L> 
             Ok(target) => target,
             Err(hindrance) => return Err(self.hinder(hindrance)),
         };
-        match self.folder.read(alloc, name, limit) {
-            Ok(bytes) => {
-                if self.note(name, target, Some(bytes.as_slice())).is_err() {
-                    return Err(ReadFault::Memory);
-                }
-                Ok(bytes)
-            }
-            Err(ReadFault::Absent) => {
-                if self.note(name, target, None).is_err() {
-                    return Err(ReadFault::Memory);
-                }
-                Err(ReadFault::Absent)
-            }
-            Err(ReadFault::Device) => Err(ReadFault::Device),
-            Err(ReadFault::TooLong) => Err(ReadFault::TooLong),
-            Err(ReadFault::Memory) => Err(ReadFault::Memory),
+        let read = self.folder.read(alloc, name, limit);
+        if self.note_read(name, target, &read).is_err() {
+            return Err(ReadFault::Memory);
         }
+        read
     }
 
     fn replace(&mut self, name: &str, bytes: &[u8]) -> Result<(), Device> {

@@ -14,7 +14,7 @@ use std::rt::Files as Disk;
 const LINKS: u32 = 40;
 
 /// Why the files of a run aren't read: what they hold couldn't be saved.
-#[derive(Clone, Copy, PartialEq, Eq, Debug)]
+#[derive(Clone, Copy)]
 pub enum Hindrance {
     /// Another program has the folder.
     Taken,
@@ -160,6 +160,32 @@ fn is_frozen<R: Disk>(rt: &R, name: &str) -> bool {
     }
 }
 
+/// Device and number of the file of a name, none where there is none, if it can be replaced as it was.
+fn replaceable<R: Disk>(
+    rt: &R,
+    name: &str,
+    who: &Who,
+    takes_over: bool,
+) -> Result<Option<(u64, u64)>, Hindrance> {
+    let Ok(found) = standing(rt, name) else {
+        return Err(Hindrance::Disk);
+    };
+    let Some(data) = found else {
+        return Ok(None);
+    };
+    let Ok(folder) = folder_standing(rt, name) else {
+        return Err(Hindrance::Disk);
+    };
+    let user = who.user();
+    if let Some(harm) = harm_of(&standing_of(&data), &folder, &user, takes_over) {
+        return Err(Hindrance::Harm(harm));
+    }
+    if is_frozen(rt, name) {
+        return Err(Hindrance::Frozen);
+    }
+    Ok(Some((data.dev(), data.ino())))
+}
+
 /// The file under a name, if it can be replaced as it was. Who takes files over doesn't ask for their owners.
 pub(crate) fn target_of<R: Disk + Alloc<A = Global>>(
     rt: &R,
@@ -168,24 +194,10 @@ pub(crate) fn target_of<R: Disk + Alloc<A = Global>>(
     takes_over: bool,
 ) -> Result<Target, Hindrance> {
     let name = last_name(rt, name)?;
-    let Ok(found) = standing(rt, name.as_str()) else {
-        return Err(Hindrance::Disk);
-    };
-    let Some(data) = found else {
-        return Ok(Target { name, file: None });
-    };
-    let Ok(folder) = folder_standing(rt, name.as_str()) else {
-        return Err(Hindrance::Disk);
-    };
-    let user = who.user();
-    if let Some(harm) = harm_of(&standing_of(&data), &folder, &user, takes_over) {
-        return Err(Hindrance::Harm(harm));
+    match replaceable(rt, name.as_str(), who, takes_over) {
+        Ok(file) => Ok(Target { name, file }),
+        Err(hindrance) => Err(hindrance),
     }
-    if is_frozen(rt, name.as_str()) {
-        return Err(Hindrance::Frozen);
-    }
-    let file = Some((data.dev(), data.ino()));
-    Ok(Target { name, file })
 }
 
 /// Whether one file stands under two names, behind links.
