@@ -6,6 +6,7 @@ use code_pages::CodePage;
 use journal_papers::JournalPaper;
 use run_commands::{RecordLimit, RunDay};
 use std::alloc::{AllocError, Global};
+use std::fmt::Display;
 
 /// On which terms the tables of a conversation are saved.
 #[derive(Drop)]
@@ -71,14 +72,22 @@ fn put_save(alloc: Global, paper: &mut JournalPaper, save: &TalkSave) -> Result<
     paper.put(alloc, "--backup", backup)
 }
 
+/// Puts a value as it is shown.
+fn put_shown<D: Display>(
+    alloc: Global,
+    paper: &mut JournalPaper,
+    key: &str,
+    value: &D,
+) -> Result<(), AllocError> {
+    let text = format!(in alloc; "{value}")?;
+    paper.put(alloc, key, text.as_str())
+}
+
 /// Puts the words of a conversation.
 pub fn put_talk(alloc: Global, paper: &mut JournalPaper, talk: &Talk) -> Result<(), AllocError> {
-    let budget = format!(in alloc; "{}", talk.budget)?;
-    let limit = format!(in alloc; "{}", talk.limit.records())?;
-    let today = format!(in alloc; "{}", talk.day)?;
-    paper.put(alloc, "--today", today.as_str())?;
-    paper.put(alloc, "--budget", budget.as_str())?;
-    paper.put(alloc, "--limit", limit.as_str())?;
+    put_shown(alloc, paper, "--today", &talk.day)?;
+    put_shown(alloc, paper, "--budget", &talk.budget)?;
+    put_shown(alloc, paper, "--limit", &talk.limit.records())?;
     paper.put(alloc, "--from", page_word(talk.page))?;
     paper.put(alloc, "--rehearse", yes_no(talk.save.is_none()))?;
     match &talk.save {
@@ -117,24 +126,28 @@ fn name_in(alloc: Global, text: &str) -> Result<Option<String>, AllocError> {
 fn save_in(alloc: Global, paper: &JournalPaper) -> Option<TalkSave> {
     Some(TalkSave {
         only_finished: is_yes(paper, "--only-finished")?,
-        backup: name_in(alloc, paper.get("--backup")?).ok()?,
         new_owner: is_yes(paper, "--new-owner")?,
         no_lock: is_yes(paper, "--no-lock")?,
+        backup: name_in(alloc, paper.get("--backup")?).ok()?,
     })
 }
 
 /// The words of a conversation that the text says, if it says all of them.
 pub fn talk_in(alloc: Global, paper: &JournalPaper) -> Option<Talk> {
+    let budget = paper.get("--budget")?.parse::<u64>().ok()?;
+    let limit = RecordLimit::of(paper.get("--limit")?.parse::<u32>().ok()?)?;
+    let day = RunDay::named(paper.get("--today")?)?;
+    let page = page_in(paper)?;
     let save = if is_yes(paper, "--rehearse")? {
         None
     } else {
         Some(save_in(alloc, paper)?)
     };
     Some(Talk {
-        budget: paper.get("--budget")?.parse::<u64>().ok()?,
-        limit: RecordLimit::of(paper.get("--limit")?.parse::<u32>().ok()?)?,
-        day: RunDay::named(paper.get("--today")?)?,
+        budget,
+        limit,
+        day,
         save,
-        page: page_in(paper)?,
+        page,
     })
 }

@@ -8,7 +8,7 @@ use fixed_num::Num;
 use operating::{Scene, ShownAt};
 use std::alloc::{AllocError, Global};
 use terminal_screen::{ShownField, lay_over};
-use waiting_fields::reads_of;
+use waiting_fields::{Read, reads_of};
 use xvalue::Kind;
 
 /// Where the line that is wanted is typed.
@@ -23,7 +23,7 @@ pub enum WaitingPlace {
 }
 
 /// What an instruction takes a line for.
-#[derive(Clone, Copy, PartialEq, Eq)]
+#[derive(Clone, Copy, PartialEq)]
 enum Taker {
     /// It takes none.
     Nothing,
@@ -34,7 +34,7 @@ enum Taker {
 }
 
 /// What an instruction draws at a place of the screen that the cursor doesn't give.
-#[derive(Clone, Copy, PartialEq, Eq)]
+#[derive(Clone, Copy, PartialEq)]
 enum Drawing {
     Nothing,
     /// A value.
@@ -246,12 +246,19 @@ impl Gets {
                 member: None,
             })?;
         }
-        for (number, read) in reads_of(alloc, code)?.iter().enumerate() {
+        let reads = reads_of(alloc, code)?;
+        self.learn(alloc, reads.as_slice())?;
+        self.marks(alloc)
+    }
+
+    /// Learns the READs of a code.
+    fn learn(&mut self, alloc: Global, reads: &[Read]) -> Result<(), AllocError> {
+        for (number, read) in reads.iter().enumerate() {
             join(&mut self.places, read.takes.as_slice(), number);
             join(&mut self.places, read.shows.as_slice(), number);
             self.shown.push(unshown(alloc, read.shows.len())?)?;
         }
-        self.marks(alloc)
+        Ok(())
     }
 
     /// Whether a line is taken at a place.

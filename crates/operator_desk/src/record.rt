@@ -53,18 +53,27 @@ pub struct Record<'a, R: Runtime<A = Global, File = File>> {
     pub unwritten: Option<String>,
 }
 
+/// Puts what a conversation is asked for, and the sums of its files.
+fn put_begun(
+    alloc: Global,
+    paper: &mut JournalPaper,
+    talk: &Talk,
+    sums: &[FileSum],
+) -> Result<(), AllocError> {
+    put_talk(alloc, paper, talk)?;
+    for sum in sums {
+        paper.put_sum(alloc, sum)?;
+    }
+    Ok(())
+}
+
 /// The text of a beginning.
 fn begun_text(alloc: Global, talk: &Talk, sums: &[FileSum]) -> Result<String, PaperFault> {
     let mut paper = JournalPaper::new(alloc);
-    if put_talk(alloc, &mut paper, talk).is_err() {
-        return Err(PaperFault::Memory);
+    match put_begun(alloc, &mut paper, talk, sums) {
+        Ok(()) => paper.text(alloc),
+        Err(_) => Err(PaperFault::Memory),
     }
-    for sum in sums {
-        if paper.put_sum(alloc, sum).is_err() {
-            return Err(PaperFault::Memory);
-        }
-    }
-    paper.text(alloc)
 }
 
 impl<R: Runtime<A = Global, File = File>> Record<'_, R> {
