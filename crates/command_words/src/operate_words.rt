@@ -21,14 +21,14 @@ const PLAIN: &str = "plain";
 const SCREENS: &str = "screens";
 
 /// The rows and columns of a terminal's window.
-#[derive(Clone, Copy, PartialEq, Eq, Debug)]
+#[derive(Clone, Copy)]
 pub struct WindowWords {
     pub rows: usize,
     pub columns: usize,
 }
 
 /// What a conversation is asked for. It is kept beside its journal.
-#[derive(Clone, Copy, Debug)]
+#[derive(Clone, Copy)]
 pub struct TalkWords<'a> {
     /// The most that the run may cost; none where the words don't say.
     pub budget: Option<u64>,
@@ -42,7 +42,7 @@ pub struct TalkWords<'a> {
 }
 
 /// How a conversation is shown. It may be said anew whenever a conversation goes on.
-#[derive(Clone, Copy, Debug)]
+#[derive(Clone, Copy)]
 pub struct ShownWords<'a> {
     /// The size of the window, where the words say it.
     pub window: Option<WindowWords>,
@@ -53,7 +53,7 @@ pub struct ShownWords<'a> {
 }
 
 /// What the words of `operate` ask for.
-#[derive(Clone, Copy, Debug)]
+#[derive(Clone, Copy)]
 pub struct OperateWords<'a> {
     /// The code's file.
     pub code: &'a str,

@@ -15,7 +15,7 @@ pub const DEFAULT_BUDGET: u64 = 1_000_000;
 const DEFAULT_DAY: &str = "1985-01-01";
 
 /// Why words that the parser took don't say what to do.
-#[derive(Clone, Copy, Debug)]
+#[derive(Clone, Copy)]
 pub enum WordsFault {
     /// The day of a run isn't one of the years 1900 to 2155, or isn't written as YYYY-MM-DD.
     Today,
@@ -44,7 +44,7 @@ pub enum WordsFault {
 }
 
 /// On which terms the tables of a run are saved.
-#[derive(Clone, Copy, Debug)]
+#[derive(Clone, Copy)]
 pub struct SaveWords<'a> {
     /// Whether only those of a finished run are.
     pub only_finished: bool,
@@ -57,7 +57,7 @@ pub struct SaveWords<'a> {
 }
 
 /// What becomes of the tables that a run leaves.
-#[derive(Clone, Copy, Debug)]
+#[derive(Clone, Copy)]
 pub enum Outcomes<'a> {
     /// Nothing.
     Nothing,
@@ -68,7 +68,7 @@ pub enum Outcomes<'a> {
 }
 
 /// What a run is asked for.
-#[derive(Clone, Copy, Debug)]
+#[derive(Clone, Copy)]
 pub struct RunWords<'a> {
     /// The run; nothing is typed yet.
     pub job: Job<'a>,
@@ -78,7 +78,7 @@ pub struct RunWords<'a> {
 }
 
 /// How a table is listed.
-#[derive(Clone, Copy, Debug)]
+#[derive(Clone, Copy)]
 pub struct Listing<'a> {
     /// The table's file.
     pub name: &'a str,
@@ -89,7 +89,7 @@ pub struct Listing<'a> {
 }
 
 /// What the words ask for. A file is named as in the current folder.
-#[derive(Clone, Copy, Debug)]
+#[derive(Clone, Copy)]
 pub enum Words<'a> {
     /// Compile command files, with these declarations, to this code file.
     Compile { decl: &'a str, out: &'a str },
@@ -359,39 +359,57 @@ fn testing_runner<'a>(alloc: Global) -> Result<Command<'a>, AllocError> {
     .arg(flag(alloc, CHANGES, "Tells what a run would save"))
 }
 
+/// A command with one that was made below it.
+fn with<'a>(
+    command: Command<'a>,
+    made: Result<Command<'a>, AllocError>,
+) -> Result<Command<'a>, AllocError> {
+    command.subcommand(made?)
+}
+
 fn with_runners<'a>(alloc: Global, command: Command<'a>) -> Result<Command<'a>, AllocError> {
-    command
-        .subcommand(saving_runner(alloc)?)?
-        .subcommand(operator(alloc)?)?
-        .subcommand(testing_runner(alloc)?)
+    let command = with(command, saving_runner(alloc))?;
+    let command = with(command, operator(alloc))?;
+    with(command, testing_runner(alloc))
+}
+
+fn verifier<'a>(alloc: Global) -> Result<Command<'a>, AllocError> {
+    reader(
+        alloc,
+        "verify",
+        "Tells whether a code file is accepted",
+        "CODE",
+        "Example, behind that of compile: dbrun verify DAY.XBC",
+    )
+}
+
+fn code_lister<'a>(alloc: Global) -> Result<Command<'a>, AllocError> {
+    reader(
+        alloc,
+        "code",
+        "Lists a code file",
+        "CODE",
+        "Example, behind that of compile: dbrun code DAY.XBC",
+    )
+}
+
+fn index_lister<'a>(alloc: Global) -> Result<Command<'a>, AllocError> {
+    reader(
+        alloc,
+        "index",
+        "Lists an index file",
+        "INDEX",
+        "Example, behind that of run: dbrun index ORDKEY.NDX",
+    )
 }
 
 fn with_readers<'a>(alloc: Global, command: Command<'a>) -> Result<Command<'a>, AllocError> {
-    command
-        .subcommand(reader(
-            alloc,
-            "verify",
-            "Tells whether a code file is accepted",
-            "CODE",
-            "Example, behind that of compile: dbrun verify DAY.XBC",
-        )?)?
-        .subcommand(reader(
-            alloc,
-            "code",
-            "Lists a code file",
-            "CODE",
-            "Example, behind that of compile: dbrun code DAY.XBC",
-        )?)?
-        .subcommand(lister(alloc)?)?
-        .subcommand(reader(
-            alloc,
-            "index",
-            "Lists an index file",
-            "INDEX",
-            "Example, behind that of run: dbrun index ORDKEY.NDX",
-        )?)?
-        .subcommand(declarer(alloc))?
-        .subcommand(forgetter(alloc)?)
+    let command = with(command, verifier(alloc))?;
+    let command = with(command, code_lister(alloc))?;
+    let command = with(command, lister(alloc))?;
+    let command = with(command, index_lister(alloc))?;
+    let command = command.subcommand(declarer(alloc))?;
+    with(command, forgetter(alloc))
 }
 
 fn declarer<'a>(alloc: Global) -> Command<'a> {
@@ -409,9 +427,9 @@ pub fn command<'a>(alloc: Global) -> Result<Command<'a>, AllocError> {
         .after_help(FURTHER)
         .version(VERSION)
         .subcommand_required(true)
-        .arg_required_else_help(true)
-        .subcommand(compiler(alloc)?)?
-        .subcommand(checker(alloc)?)?;
+        .arg_required_else_help(true);
+    let command = with(command, compiler(alloc))?;
+    let command = with(command, checker(alloc))?;
     let command = with_runners(alloc, command)?;
     with_readers(alloc, command)
 }
