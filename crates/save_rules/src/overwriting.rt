@@ -6,7 +6,7 @@ ghost use Rattle.std.specs.Str.{bytes_eq, str_eq_ignore_ascii_case};
 ghost use Rattle.save_rules.specs.Overwriting as spec;
 
 /// What a code file would overwrite.
-#[derive(Clone, Copy, PartialEq, Eq, Debug)]
+#[derive(Clone, Copy)]
 pub enum Overwritten {
     /// The declaration file.
     Declarations,

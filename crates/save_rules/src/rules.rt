@@ -6,7 +6,7 @@ ghost use Rattle.std.specs.List.{list_any};
 ghost use Rattle.save_rules.specs.Rules as spec;
 
 /// What is known of a file that is to be replaced.
-#[derive(Clone, Copy, PartialEq, Eq, Debug)]
+#[derive(Clone, Copy)]
 pub struct Standing {
     /// Whether it is a file, and no folder, device or pipe.
     pub is_plain: bool,
@@ -21,7 +21,7 @@ pub struct Standing {
 }
 
 /// What is known of the folder in which a file is to be replaced.
-#[derive(Clone, Copy, PartialEq, Eq, Debug)]
+#[derive(Clone, Copy)]
 pub struct FileFolder {
     /// Its permission bits.
     pub mode: u32,
@@ -31,7 +31,7 @@ pub struct FileFolder {
 }
 
 /// Who runs the program.
-#[derive(Clone, Copy, Debug)]
+#[derive(Clone, Copy)]
 pub struct User<'a> {
     pub id: u32,
     pub group: u32,
@@ -44,7 +44,7 @@ pub struct User<'a> {
 }
 
 /// Why a file can't be replaced as it was.
-#[derive(Clone, Copy, PartialEq, Eq, Debug)]
+#[derive(Clone, Copy)]
 pub enum Harm {
     /// It is a folder, a device or a pipe.
     NoFile,
