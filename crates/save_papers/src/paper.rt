@@ -6,7 +6,7 @@ use save_steps::Sum;
 use std::alloc::{AllocError, AllocFailed};
 
 /// A file that a save replaces.
-#[derive(Debug, Drop)]
+#[derive(Drop)]
 pub struct PaperEntry {
     /// The file's name.
     pub name: Vec<u8>,
@@ -19,7 +19,7 @@ pub struct PaperEntry {
 }
 
 /// A plan or a note.
-#[derive(Debug, Drop)]
+#[derive(Drop)]
 pub struct SavePaper {
     /// Whether it is a note.
     pub noted: bool,
@@ -28,7 +28,7 @@ pub struct SavePaper {
 }
 
 /// Why a file isn't read as a plan or a note.
-#[derive(Clone, Copy, Debug, PartialEq, Eq)]
+#[derive(Clone, Copy)]
 pub enum PaperError {
     /// Memory was refused.
     Memory,
@@ -57,7 +57,7 @@ impl<T: Drop> From<AllocFailed<T>> for PaperError {
 }
 
 /// Why no text of a plan or a note is made.
-#[derive(Clone, Copy, Debug, PartialEq, Eq)]
+#[derive(Clone, Copy)]
 pub enum WriteError {
     /// Memory was refused.
     Memory,
