@@ -10,7 +10,7 @@ use std::alloc::{AllocError, AllocFailed, Global};
 use toml::{Table, Value};
 
 /// Why a text isn't read.
-#[derive(Clone, Copy, PartialEq, Eq, Debug)]
+#[derive(Clone, Copy)]
 pub enum PaperFault {
     /// It is no text in TOML.
     Foreign,
