@@ -4,7 +4,7 @@ ghost use Rattle.std.specs.Prelude.{◌≡◌};
 ghost use Rattle.journal_steps.specs.Next.{next_of as next_for};
 
 /// What stands of a conversation in the folder.
-#[derive(Clone, Copy, PartialEq, Eq, Debug)]
+#[derive(Clone, Copy)]
 pub struct Remains {
     /// Whether the journal stands. An empty one alone, without a text of its beginning or of its end, counts as none.
     pub journal: bool,
@@ -17,7 +17,7 @@ pub struct Remains {
 }
 
 /// What becomes of a conversation.
-#[derive(Clone, Copy, PartialEq, Eq, Debug)]
+#[derive(Clone, Copy)]
 pub enum Next {
     /// It begins.
     Begin,
