@@ -8,7 +8,7 @@ use code_pages::CodePage;
 use std::alloc::{AllocError, Global};
 
 /// The size of a terminal's window.
-#[derive(Clone, Copy, PartialEq, Eq, Debug)]
+#[derive(Clone, Copy)]
 pub struct Window {
     pub rows: usize,
     pub columns: usize,
@@ -28,7 +28,7 @@ impl Window {
 }
 
 /// What is to be drawn: rows as they stand, the fields that wait, and where the cursor is to stand.
-#[derive(Clone, Copy, Debug)]
+#[derive(Clone, Copy)]
 pub struct Drawing<'a> {
     /// The rows that were sent out since the last drawing, each with LF. They go to the terminal's scrollback.
     pub sent: &'a [u8],

@@ -1,7 +1,7 @@
 //! Fields of the screen that wait for answers.
 
 /// A field of the screen: where a GET shows its value.
-#[derive(Clone, Copy, PartialEq, Eq, Debug)]
+#[derive(Clone, Copy)]
 pub struct ShownField {
     /// Its row, from 0.
     pub row: usize,
