@@ -14,21 +14,21 @@ use xvalue::{Kind, Value};
 
 /// The version of a code file. With the second, a state may have work areas of which nothing is known, and CENTURY may
 /// be set.
-#[derive(Clone, Copy, PartialEq, Eq, Debug)]
+#[derive(Clone, Copy, Debug)]
 pub enum Version {
     One,
     Two,
 }
 
 /// A slot that a filter's block loads, and the kind that it needs there.
-#[derive(Clone, Copy, PartialEq, Eq, Debug)]
+#[derive(Clone, Copy, PartialEq, Eq)]
 pub struct Need {
     pub slot: u8,
     pub kind: Kind,
 }
 
 /// A filter: its table, counted from 0, how many instructions its block has, and what the block needs.
-#[derive(Drop, Debug)]
+#[derive(Drop)]
 pub struct Filter {
     pub table: u8,
     pub length: u16,

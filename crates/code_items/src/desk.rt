@@ -11,7 +11,7 @@ use std::alloc::{AllocError, Global};
 
 /// What an open work area holds: a table, counted from 0; a list of indexes and a filter, counted from 1, or 0 for
 /// none; and the order, 0 for that of the records and else one of the list's indexes, counted from 1.
-#[derive(Clone, Copy, PartialEq, Eq, Debug)]
+#[derive(Clone, Copy, PartialEq)]
 pub struct OpenArea {
     pub table: u16,
     pub list: u32,
@@ -20,7 +20,7 @@ pub struct OpenArea {
 }
 
 /// A work area: closed, open, or one of which nothing is known.
-#[derive(Clone, Copy, PartialEq, Eq, Debug)]
+#[derive(Clone, Copy, PartialEq)]
 pub enum AreaState {
     Closed,
     Open(OpenArea),
@@ -28,7 +28,7 @@ pub enum AreaState {
 }
 
 /// The selected work area, counted from 1, and the ten work areas.
-#[derive(Drop, Debug)]
+#[derive(Drop)]
 pub struct Desk {
     pub selected: u8,
     pub areas: Items<AreaState>,
