@@ -31,7 +31,7 @@ fn expression_at(alloc: Global, tokens: &[Token<'_>]) -> Result<(Expr, usize), F
 }
 
 /// The words of a command that are still to be read.
-#[derive(Debug, Drop)]
+#[derive(Drop)]
 pub struct Reader<'a> {
     /// Where the parts of the command are kept.
     pub alloc: Global,

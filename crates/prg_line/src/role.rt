@@ -1,7 +1,7 @@
 //! What a line is to the blocks around it.
 
 /// What a line is to the blocks around it.
-#[derive(Clone, Copy, Debug, PartialEq, Eq)]
+#[derive(Clone, Copy, Debug)]
 pub enum Role {
     /// A line without meaning.
     Nothing,

@@ -154,7 +154,7 @@ pub enum Selected {
 }
 
 /// What `SET` switches on and off.
-#[derive(Clone, Copy, Debug, PartialEq, Eq)]
+#[derive(Clone, Copy, Debug, PartialEq)]
 pub enum Toggle {
     /// Texts are equal only whole.
     Exact,

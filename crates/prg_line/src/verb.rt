@@ -12,7 +12,7 @@ use crate::role::Role;
 use prg_expr::{BinaryOperator, Token, is_word};
 
 /// Which command a line begins.
-#[derive(Clone, Copy, Debug, PartialEq, Eq)]
+#[derive(Clone, Copy)]
 pub enum Verb {
     /// A line without words.
     Nothing,
@@ -408,7 +408,7 @@ fn at_first<'a>(all: &'a [Token<'a>], first: &[u8], rest: &'a [Token<'a>]) -> Fo
 }
 
 /// A command, and the words behind those that say which one it is.
-#[derive(Clone, Copy, Debug)]
+#[derive(Clone, Copy)]
 pub struct Found<'a> {
     /// The command.
     pub verb: Verb,
