@@ -13,7 +13,7 @@ use prg_line::Role;
 pub const MOST_BLOCKS: usize = 32;
 
 /// The part of an open block in which the next line stands.
-#[derive(Clone, Copy, Debug, PartialEq, Eq, Default)]
+#[derive(Clone, Copy, Default)]
 pub enum Place {
     /// Behind `IF`.
     #[default]
@@ -33,7 +33,7 @@ pub enum Place {
 }
 
 /// The innermost part of an open block, and the line that opened the block.
-#[derive(Clone, Copy, Debug, PartialEq, Eq, Default)]
+#[derive(Clone, Copy, Default)]
 pub struct Part {
     /// Where the next line stands.
     pub place: Place,

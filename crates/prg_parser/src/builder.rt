@@ -24,7 +24,7 @@ use prg_line::Sentence;
 use std::alloc::{AllocError, Global};
 
 /// What of an open block is known before its innermost part ends.
-#[derive(Debug, Drop)]
+#[derive(Drop)]
 enum Open {
     /// Behind `IF`.
     Then {
@@ -58,7 +58,7 @@ enum Open {
 }
 
 /// An open block in whose innermost part commands stand: its line, what is known of it, and the commands before it.
-#[derive(Debug, Drop)]
+#[derive(Drop)]
 struct OpenBlock {
     line: usize,
     head: Open,
@@ -66,7 +66,7 @@ struct OpenBlock {
 }
 
 /// What stands directly before the next line.
-#[derive(Debug, Drop)]
+#[derive(Drop)]
 enum Current {
     /// The commands of the innermost part.
     Commands(Vec<Command>),
@@ -75,7 +75,7 @@ enum Current {
 }
 
 /// What was read before the main part or the procedure that is being read.
-#[derive(Debug, Drop)]
+#[derive(Drop)]
 enum Finished {
     /// Nothing: the main part is being read.
     Nothing,
@@ -89,7 +89,7 @@ enum Finished {
 }
 
 /// A program that is being read.
-#[derive(Debug, Drop)]
+#[derive(Drop)]
 pub struct Builder {
     alloc: Global,
     finished: Finished,
@@ -505,7 +505,7 @@ fn else_of(head: Open, then: Vec<Command>, line: usize) -> Open
 }
 
 /// A `DO CASE` whose next case begins, and the blocks around it.
-#[derive(Debug, Drop)]
+#[derive(Drop)]
 struct Choice {
     blocks: Vec<OpenBlock>,
     line: usize,

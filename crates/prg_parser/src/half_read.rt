@@ -22,7 +22,7 @@ use prg_line::{ReadLine, Sentence, lines_are_read, read_line};
 use std::alloc::{AllocError, Global};
 
 /// What is known behind the lines that were read.
-#[derive(Debug, Drop)]
+#[derive(Drop)]
 pub struct HalfRead {
     /// The parts of the blocks that are open.
     parts: OpenParts,

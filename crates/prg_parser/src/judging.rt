@@ -9,7 +9,7 @@ use prg_expr::{ParseFault, ParseFaultKind};
 use prg_line::Role;
 
 /// What of a line decides on its fault.
-#[derive(Clone, Copy, Debug, PartialEq, Eq)]
+#[derive(Clone, Copy)]
 pub struct LineMark {
     /// The number of the line.
     pub line: usize,

@@ -13,7 +13,7 @@ use text_lines::first_line;
 const END_OF_FILE: u8 = 0x1a;
 
 /// A line of a command file with those that continue it.
-#[derive(Debug, Drop)]
+#[derive(Drop)]
 pub struct JoinedLine {
     /// The number of its first line in the file, from 1.
     pub first: usize,
@@ -63,7 +63,7 @@ fn continued(line: &[u8]) -> Option<&[u8]>
 }
 
 /// A joined line, the number of the line behind it, and the bytes behind it.
-#[derive(Debug, Drop)]
+#[derive(Drop)]
 pub struct Joining<'a> {
     pub joined: JoinedLine,
     pub line: usize,
