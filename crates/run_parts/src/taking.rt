@@ -15,7 +15,7 @@ use std::alloc::Global;
 use xverify::Verified;
 
 /// How a part of a run ended, and the budget that it had.
-#[derive(Clone, Copy, Debug)]
+#[derive(Clone, Copy)]
 pub struct RunPart {
     pub outcome: Outcome,
     pub budget: u64,

@@ -10,7 +10,7 @@ pub trait Watcher {
 }
 
 /// Nobody is told, and the run is one part.
-#[derive(Clone, Copy, Debug)]
+#[derive(Clone, Copy)]
 pub struct Unwatched;
 
 impl Watcher for Unwatched {
