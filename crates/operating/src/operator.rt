@@ -31,7 +31,7 @@ pub enum Answer {
 }
 
 /// The operator, or what stands between, failed.
-#[derive(Clone, Copy, PartialEq, Eq, Debug)]
+#[derive(Clone, Copy)]
 pub struct OperatorFailed;
 
 /// Who types the lines of a run.
@@ -71,7 +71,7 @@ pub trait Operator {
 }
 
 /// Why a conversation broke off before its run ended.
-#[derive(Clone, Copy, PartialEq, Eq, Debug)]
+#[derive(Clone, Copy)]
 pub enum Broken {
     /// The operator failed.
     Operator,
