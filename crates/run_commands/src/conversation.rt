@@ -40,7 +40,7 @@ pub struct OperationReport {
 }
 
 /// Why a conversation didn't come to a run that is saved.
-#[derive(Clone, Copy, PartialEq, Eq, Debug)]
+#[derive(Clone, Copy)]
 pub enum OperateRefusal {
     /// The run isn't carried out, or not all is saved, for this reason.
     Run(RunRefusal),

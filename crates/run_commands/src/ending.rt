@@ -10,7 +10,7 @@ use shape::{Name, Shape};
 use std::fmt;
 
 /// How a run ended.
-#[derive(Drop, PartialEq, Eq, Debug)]
+#[derive(Drop, PartialEq)]
 pub enum How {
     /// The code came to its end.
     Finished,
@@ -25,7 +25,7 @@ pub enum How {
 }
 
 /// How a run ended, and what its steps cost together.
-#[derive(Drop, PartialEq, Eq, Debug)]
+#[derive(Drop, PartialEq)]
 pub struct Ended {
     pub how: How,
     pub steps: u64,

@@ -11,7 +11,7 @@ use std::fmt;
 use std::marker::Model;
 
 /// The day of a run: one that a table's file can be stamped with, of the years 1900 to 2155. It is seen as that day.
-#[derive(Clone, Copy, PartialEq, Eq, Debug)]
+#[derive(Clone, Copy)]
 pub struct RunDay {
     day: Day,
 }
@@ -85,7 +85,7 @@ impl fmt::Display for RunDay {
 }
 
 /// The most records that a table may have in a run: 1 to 1,000,000. It is seen as that number.
-#[derive(Clone, Copy, PartialEq, Eq, Debug)]
+#[derive(Clone, Copy)]
 pub struct RecordLimit {
     records: u32,
 }
@@ -131,7 +131,7 @@ impl RecordLimit {
 }
 
 /// What a run is asked for.
-#[derive(Clone, Copy, Debug)]
+#[derive(Clone, Copy)]
 pub struct Job<'a> {
     /// The code's file.
     pub name: &'a str,

@@ -10,7 +10,7 @@ use table_files::FilesRefusal;
 use xverify::FailedRule;
 
 /// Why a run isn't carried out, or not all of its tables are saved. The code's file is the one that was asked for.
-#[derive(Clone, Copy, PartialEq, Eq, Debug)]
+#[derive(Clone, Copy, PartialEq)]
 pub enum RunRefusal {
     /// The code's file has this fault.
     File(Fault),
