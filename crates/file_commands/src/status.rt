@@ -4,7 +4,7 @@
 use crate::refusal::Refusal;
 
 /// How the program exits.
-#[derive(Clone, Copy, PartialEq, Eq, Debug)]
+#[derive(Clone, Copy, PartialEq)]
 pub enum Status {
     /// Finished, accepted or written.
     Done = 0,
