@@ -12,7 +12,7 @@ use std::alloc::Global;
 use std::fmt::{self, Display, Formatter, Write};
 
 /// How a command comes by a work area.
-#[derive(Clone, Copy, Debug, PartialEq, Eq)]
+#[derive(Clone, Copy)]
 pub enum Chosen {
     /// It is selected.
     Selected,
@@ -22,7 +22,7 @@ pub enum Chosen {
 
 /// What to do about a command that can't be compiled for its work areas, which are named. They go by their numbers
 /// less one.
-#[derive(Drop, Debug)]
+#[derive(Drop)]
 pub enum AreasHint<'a> {
     /// Ways meet on which these are selected.
     Meet(&'a [Option<HeldTable>]),

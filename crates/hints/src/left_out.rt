@@ -7,7 +7,7 @@ ghost use Rattle.hints.specs.LeftOut as spec;
 use prg_expr::is_word;
 
 /// What a line asks for that is left out, by what stands in its place.
-#[derive(Clone, Copy, Debug, PartialEq, Eq)]
+#[derive(Clone, Copy)]
 pub enum LeftOut {
     /// LOCATE and CONTINUE.
     Locate,
