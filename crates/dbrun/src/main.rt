@@ -18,8 +18,8 @@ use crate::operate::{begun_name, done_name, operate};
 use crate::progress::run_told;
 use crate::screens::{is_new_name, rehearse_shown, run_shown};
 use crate::shown::{
-    Audience, FaultyLine, NameTold, OutTold, Progress, UnwrittenTold, absent_file, faulty_line,
-    hint_of, letters_alone, line_at, of_end, of_file, printable, why_hindered,
+    Audience, FaultyLine, NameTold, OutTold, PrintableLine, Progress, UnwrittenTold, absent_file,
+    faulty_line, hint_of, letters_alone, line_at, of_end, of_file, printable, why_hindered,
 };
 use clap::error::ErrorKind;
 use clap::{ArgMatches, Command};
@@ -38,8 +38,8 @@ use folder_files::{
     Unreplaced, Unsaved, behind_links, finish, forget, hindered_plan, is_empty_folder,
     is_same_file, name_in_folder, note_stands, paper_name, save_stands, stands, take_folder,
 };
-use folder_shapes::{LineTold, declare};
-use run_commands::{Ended, Job, Report, RunRefusal};
+use folder_shapes::{FolderDeclared, LineTold, declare};
+use run_commands::{Ended, Job, Rehearsal, Report, RunRefusal};
 use save_rules::{Overwritten, overwritten_by};
 use shape_files::ShapeRefusal;
 use std::alloc::{AllocError, Global};
@@ -102,7 +102,24 @@ fn of_compiling(refusal: &CompileFilesRefusal) -> Status {
     }
 }
 
-/// Shows a faulty line on standard error, and below it what to do about it, where its file can still be read.
+/// Shows a faulty line on standard error, and below it what to do about it.
+fn show_line<R: Runtime<A = Global>, F: Files>(
+    rt: &R,
+    files: &mut F,
+    refusal: &CompileFilesRefusal,
+    words: CompileWords<'_>,
+    line: PrintableLine<'_>,
+) {
+    let _ = eprintln!(rt; "  {line}");
+    if tell_areas(rt, rt.alloc(), files, refusal, words, line.bytes()) {
+        return;
+    }
+    if let Some(hint) = hint_of(rt.alloc(), files, refusal, line) {
+        let _ = eprintln!(rt; "  {hint}.");
+    }
+}
+
+/// Shows a faulty line and what to do about it, where its file can still be read.
 fn show_faulty<R: Runtime<A = Global>>(
     rt: &R,
     place: FaultyLine<'_>,
@@ -110,18 +127,10 @@ fn show_faulty<R: Runtime<A = Global>>(
     words: CompileWords<'_>,
 ) {
     let mut folder = Folder::new(rt, Nobody);
-    let Ok(bytes) = folder.read(rt.alloc(), place.file, FILE_LIMIT) else {
-        return;
-    };
-    let Some(line) = line_at(bytes.as_slice(), place.line) else {
-        return;
-    };
-    let _ = eprintln!(rt; "  {line}");
-    if tell_areas(rt, rt.alloc(), &mut folder, refusal, words, line.bytes()) {
-        return;
-    }
-    if let Some(hint) = hint_of(rt.alloc(), &mut folder, refusal, line) {
-        let _ = eprintln!(rt; "  {hint}.");
+    if let Ok(bytes) = folder.read(rt.alloc(), place.file, FILE_LIMIT)
+        && let Some(line) = line_at(bytes.as_slice(), place.line)
+    {
+        show_line(rt, &mut folder, refusal, words, line);
     }
 }
 
@@ -220,15 +229,15 @@ fn compile<'a, R: Runtime<A = Global, File = File>>(
 
 /// Whether a file stands under a name in capitals, or in small letters.
 fn stands_otherwise<R: Runtime<A = Global>>(rt: &R, name: &str) -> bool {
-    let (Ok(mut capitals), Ok(mut small)) = (
-        String::from_str(rt.alloc(), name),
-        String::from_str(rt.alloc(), name),
-    ) else {
+    let Ok(mut name) = String::from_str(rt.alloc(), name) else {
         return false;
     };
-    capitals.make_ascii_uppercase();
-    small.make_ascii_lowercase();
-    stands(rt, capitals.as_str()) || stands(rt, small.as_str())
+    name.make_ascii_uppercase();
+    if stands(rt, name.as_str()) {
+        return true;
+    }
+    name.make_ascii_lowercase();
+    stands(rt, name.as_str())
 }
 
 /// Shows a person what to do about files that aren't compiled.
@@ -466,25 +475,35 @@ fn run_and_save<R: Runtime<A = Global, File = File>>(
         backup: save.backup,
     };
     let mut saving = SavingFolder::new(folder(rt, audience), terms);
-    let done = match run_shown(rt, audience, &mut saving, job, screens) {
-        Ok(done) => done,
-        Err(status) => return status,
-    };
+    match run_shown(rt, audience, &mut saving, job, screens) {
+        Ok(done) => save_done(rt, audience, job.name, save, &mut saving, &done),
+        Err(status) => status,
+    }
+}
+
+/// Saves what a run left, and tells how it ended.
+fn save_done<R: Runtime<A = Global, File = File>>(
+    rt: &R,
+    audience: Audience,
+    name: &str,
+    save: SaveWords<'_>,
+    saving: &mut SavingFolder<'_, R, Progress<'_, R>>,
+    done: &Report,
+) -> Status {
     let ended = match &done.result {
         Ok(ended) => ended,
-        Err(refusal) => return tell_hindered(rt, audience, job.name, refusal, saving.hindrance()),
+        Err(refusal) => return tell_hindered(rt, audience, name, refusal, saving.hindrance()),
     };
-    if ended.is_saved(save.only_finished) {
-        if let Err(unsaved) = saving.commit() {
-            return match print_bytes(rt, audience, done.rows.as_slice()) {
-                Status::Done => tell_unsaved(rt, audience, &saving, unsaved, save.backup),
-                status => status,
-            };
-        }
+    let saved = ended.is_saved(save.only_finished);
+    if saved && let Err(unsaved) = saving.commit() {
+        return match print_bytes(rt, audience, done.rows.as_slice()) {
+            Status::Done => tell_unsaved(rt, audience, saving, unsaved, save.backup),
+            status => status,
+        };
     }
-    let status = report(rt, audience, job.name, &done);
+    let status = report(rt, audience, name, done);
     if audience.person && status == ended.status() {
-        if let Some(hint) = of_end(&ended.how, ended.is_saved(save.only_finished)) {
+        if let Some(hint) = of_end(&ended.how, saved) {
             let _ = eprintln!(rt; "  {hint}.");
         }
     }
@@ -506,10 +525,14 @@ fn rehearse<R: Runtime<A = Global, File = File>>(
     screens: Option<&str>,
 ) -> Status {
     let mut folder = folder(rt, audience);
-    let done = match rehearse_shown(rt, audience, &mut folder, job, screens) {
-        Ok(done) => done,
-        Err(status) => return status,
-    };
+    match rehearse_shown(rt, audience, &mut folder, job, screens) {
+        Ok(done) => tell_rehearsed(rt, audience, &done),
+        Err(status) => status,
+    }
+}
+
+/// Prints the rows of a rehearsal, and tells what a run would have saved and how it ended.
+fn tell_rehearsed<R: Runtime<A = Global>>(rt: &R, audience: Audience, done: &Rehearsal) -> Status {
     match print_bytes(rt, audience, done.rows.as_slice()) {
         Status::Done => {
             let _ = eprint!(rt; "{done}");
@@ -562,6 +585,23 @@ pub fn has_no_tables<R: Runtime<A = Global>>(rt: &R, name: &str) -> bool {
     }
 }
 
+/// Why no table can be saved, if that is so. In a folder that is held, a save that was cut off before is finished
+/// first; a status where the run ends with that.
+fn hindrance_of<R: Runtime<A = Global>>(
+    rt: &R,
+    audience: Audience,
+    held: &Held,
+    no_lock: bool,
+) -> Result<Option<Hindrance>, Status> {
+    if let Some(hindrance) = hindered(held, no_lock) {
+        return Ok(Some(hindrance));
+    }
+    match finish_before(rt, audience) {
+        Some(status) => Err(status),
+        None => Ok(hindered_plan(rt)),
+    }
+}
+
 /// Carries out a run that saves, all of whose input is there. The folder is held for it alone, unless the code has no
 /// tables; then none is read, whatever stands under the code's name by now.
 fn run_alone<R: Runtime<A = Global, File = File>>(
@@ -575,17 +615,10 @@ fn run_alone<R: Runtime<A = Global, File = File>>(
         return run_and_save(rt, audience, job, save, screens, Some(Hindrance::Taken));
     }
     let held = take_folder(rt);
-    let closed = hindered(&held, save.no_lock);
-    if closed.is_none() {
-        if let Some(status) = finish_before(rt, audience) {
-            return status;
-        }
+    match hindrance_of(rt, audience, &held, save.no_lock) {
+        Ok(hindrance) => run_and_save(rt, audience, job, save, screens, hindrance),
+        Err(status) => status,
     }
-    let hindrance = match closed {
-        Some(hindrance) => Some(hindrance),
-        None => hindered_plan(rt),
-    };
-    run_and_save(rt, audience, job, save, screens, hindrance)
 }
 
 /// Takes away a save that was cut off, and no table.
@@ -652,17 +685,26 @@ fn run<R: Runtime<A = Global, File = File>>(
     if let Some(status) = ends_before(rt, audience, words) {
         return status;
     }
-    let input = match typed(rt) {
-        Ok(input) => input,
-        Err(status) => return status,
-    };
+    match typed(rt) {
+        Ok(input) => run_typed(rt, audience, words, input.as_slice()),
+        Err(status) => status,
+    }
+}
+
+/// Carries out a run for which this was typed.
+fn run_typed<R: Runtime<A = Global, File = File>>(
+    rt: &R,
+    audience: Audience,
+    words: &RunWords<'_>,
+    input: &[u8],
+) -> Status {
     let job = Job {
         name: words.job.name,
         checked: words.job.checked,
         budget: words.job.budget,
         limit: words.job.limit,
         day: words.job.day,
-        input: input.as_slice(),
+        input,
     };
     match words.tables {
         Outcomes::Saved(save) => run_alone(rt, audience, &job, save, words.screens),
@@ -796,17 +838,26 @@ fn print_declared<'n, R: Runtime<A = Global>>(
 ) -> Result<Status, AllocError> {
     let mut folder = folder(rt, audience);
     let declared = declare(rt.alloc(), &mut folder, names)?;
+    Ok(print_declared_lines(rt, &declared, names))
+}
+
+/// Prints the lines of a declaration file.
+fn print_declared_lines<'n>(
+    rt: &impl Runtime,
+    declared: &FolderDeclared,
+    names: &'n [&'n [u8]],
+) -> Status {
     for line in declared.lines.as_slice() {
         let told = LineTold {
-            declared: &declared,
+            declared,
             names,
             line: *line,
         };
         if println!(rt; "{told}").is_err() {
-            return Ok(Status::Disk);
+            return Status::Disk;
         }
     }
-    Ok(Status::Done)
+    Status::Done
 }
 
 fn declare_folder<R: Runtime<A = Global, File = File>>(rt: &R, audience: Audience) -> Status {

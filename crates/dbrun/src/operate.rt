@@ -84,6 +84,11 @@ fn has_room(name: &str) -> bool {
     name.len() < MOST_OF_NAME.saturating_sub(paper_name().len())
 }
 
+/// Whether the texts of a conversation can be made under their names, and none is the code's file.
+fn may_be_made(names: &Names, code: &str) -> bool {
+    names.begun.as_str() != code && names.done.as_str() != code && has_room(names.begun.as_str())
+}
+
 /// The names of a conversation's files, if they harm nothing and none is too long.
 fn names_of(alloc: Global, words: &OperateWords<'_>) -> Result<Option<Names>, AllocError> {
     let journal = words.journal;
@@ -95,13 +100,11 @@ fn names_of(alloc: Global, words: &OperateWords<'_>) -> Result<Option<Names>, Al
         begun: begun_name(alloc, journal)?,
         done: done_name(alloc, journal)?,
     };
-    if names.begun.as_str() == words.code || names.done.as_str() == words.code {
-        return Ok(None);
+    if may_be_made(&names, words.code) {
+        Ok(Some(names))
+    } else {
+        Ok(None)
     }
-    if !has_room(names.begun.as_str()) {
-        return Ok(None);
-    }
-    Ok(Some(names))
 }
 
 /// Whether a file for screens harms nothing.
@@ -282,6 +285,12 @@ fn tell_next(
     status
 }
 
+/// The text of a beginning or of an end that bytes spell.
+fn paper_in(alloc: Global, bytes: &[u8]) -> Option<JournalPaper> {
+    let text = str::from_utf8(bytes).ok()?;
+    JournalPaper::read(alloc, text).ok()
+}
+
 /// The text of a beginning that stands.
 fn read_begun<R: Runtime<A = Global>>(
     rt: &R,
@@ -289,16 +298,43 @@ fn read_begun<R: Runtime<A = Global>>(
     name: &str,
 ) -> Result<JournalPaper, Status> {
     let mut folder = folder(rt, audience);
-    let Ok(bytes) = folder.read(rt.alloc(), name, FILE_LIMIT) else {
-        return Err(refuse(rt, Refusal::Disk { name }));
-    };
-    let Ok(text) = str::from_utf8(bytes.as_slice()) else {
-        return Err(tell_file(rt, name, "Foreign"));
-    };
-    match JournalPaper::read(rt.alloc(), text) {
-        Ok(paper) => Ok(paper),
-        Err(_) => Err(tell_file(rt, name, "Foreign")),
+    match folder.read(rt.alloc(), name, FILE_LIMIT) {
+        Ok(bytes) => match paper_in(rt.alloc(), bytes.as_slice()) {
+            Some(paper) => Ok(paper),
+            None => Err(tell_file(rt, name, "Foreign")),
+        },
+        Err(_) => Err(refuse(rt, Refusal::Disk { name })),
     }
+}
+
+/// Puts how a run ended into the text of an end.
+fn put_end(alloc: Global, paper: &mut JournalPaper, ended: &Ended) -> Result<(), AllocError> {
+    let end = format!(in alloc; "{ended}")?;
+    paper.put(alloc, "--end", end.as_str())
+}
+
+/// Puts what the journal of this name holds into the text of an end.
+fn put_journal(
+    alloc: Global,
+    paper: &mut JournalPaper,
+    name: &str,
+    bytes: &[u8],
+) -> Result<(), AllocError> {
+    let length = format!(in alloc; "{}", bytes.len())?;
+    paper.put(alloc, "--length", length.as_str())?;
+    let sum = FileSum {
+        name: String::from_str(alloc, name)?,
+        sum: Some(sum_of(bytes)),
+    };
+    paper.put_sum(alloc, &sum)
+}
+
+/// Puts what was saved into the text of an end.
+fn put_saved(alloc: Global, paper: &mut JournalPaper, saved: &[FileSum]) -> Result<(), AllocError> {
+    for sum in saved {
+        paper.put_sum(alloc, sum)?;
+    }
+    Ok(())
 }
 
 /// The text of an end: how the run ended, what the journal holds, and what was saved.
@@ -310,20 +346,14 @@ fn done_text(
     saved: &[FileSum],
 ) -> Result<String, AllocError> {
     let mut paper = JournalPaper::new(alloc);
-    let end = format!(in alloc; "{ended}")?;
-    let length = format!(in alloc; "{}", journal.bytes.len())?;
-    paper.put(alloc, "--end", end.as_str())?;
-    paper.put(alloc, "--length", length.as_str())?;
-    paper.put_sum(
+    put_end(alloc, &mut paper, ended)?;
+    put_journal(
         alloc,
-        &FileSum {
-            name: String::from_str(alloc, names.journal.as_str())?,
-            sum: Some(sum_of(journal.bytes.as_slice())),
-        },
+        &mut paper,
+        names.journal.as_str(),
+        journal.bytes.as_slice(),
     )?;
-    for sum in saved {
-        paper.put_sum(alloc, sum)?;
-    }
+    put_saved(alloc, &mut paper, saved)?;
     match paper.text(alloc) {
         Ok(text) => Ok(text),
         Err(_) => Err(AllocError),
@@ -363,19 +393,26 @@ fn record_of<'a, R: Runtime<A = Global, File = File>>(
     })
 }
 
-/// The desk of a conversation.
+/// The name of the file for screens.
+fn screens_of(alloc: Global, open: &Open<'_>) -> Result<Option<String>, AllocError> {
+    match open.screens {
+        Some(name) => Ok(Some(String::from_str(alloc, name)?)),
+        None => Ok(None),
+    }
+}
+
+/// The desk of a conversation, over the bytes that its journal holds at the beginning.
 fn desk_of<'a, R: Runtime<A = Global, File = File>>(
     rt: &'a R,
     audience: Audience,
     open: &Open<'a>,
-    held: Vec<u8>,
+    held: &[u8],
     tail: Option<Tail>,
 ) -> Result<OperatorDesk<'a, R>, AllocError> {
     let alloc = rt.alloc();
-    let screens = match open.screens {
-        Some(name) => Some(String::from_str(alloc, name)?),
-        None => None,
-    };
+    let record = record_of(rt, open, tail)?;
+    let screens = screens_of(alloc, open)?;
+    let held = Vec::from_slice(alloc, held)?;
     Ok(OperatorDesk {
         rt,
         manner: Manner {
@@ -387,7 +424,7 @@ fn desk_of<'a, R: Runtime<A = Global, File = File>>(
         },
         talk: open.talk,
         sums: open.sums,
-        record: record_of(rt, open, tail)?,
+        record,
         screens: Screens::to(screens),
         gets: Gets::new(alloc),
         held: OwnLines::of(held),
@@ -470,12 +507,19 @@ fn tell_desk<R: Runtime<A = Global, File = File>>(
     }
 }
 
+/// The first of these files that isn't as the text of a beginning says.
+fn changed_among(alloc: Global, said: &JournalPaper, sums: &[FileSum]) -> Option<String> {
+    let file = sums.get(first_changed(said, sums)?)?;
+    String::from_str(alloc, file.name.as_str()).ok()
+}
+
 /// The file that isn't as it was when a conversation was begun that goes on, of those that were read.
 fn changed_in(alloc: Global, open: &Open<'_>) -> Option<String> {
-    let sums = open.sums.try_borrow().ok()?;
-    let number = first_changed(open.said?, sums.as_slice())?;
-    let file = sums.get(number)?;
-    String::from_str(alloc, file.name.as_str()).ok()
+    let said = open.said?;
+    match open.sums.try_borrow() {
+        Ok(sums) => changed_among(alloc, said, sums.as_slice()),
+        Err(_) => None,
+    }
 }
 
 /// Takes the journal away of a conversation that didn't begin: nothing was typed.
@@ -550,16 +594,20 @@ fn hand_in_done<R: Runtime<A = Global, File = File>, L: Listener>(
     saving: &mut SavingFolder<'_, R, L>,
     ended: &Ended,
 ) -> Option<Status> {
-    let alloc = rt.alloc();
-    let Ok(sums) = saving.new_sums() else {
-        return Some(refuse(rt, Refusal::Memory));
+    let text = match saving.new_sums() {
+        Ok(sums) => done_text(rt.alloc(), open.names, journal, ended, sums.as_slice()),
+        Err(error) => Err(error),
     };
-    let Ok(text) = done_text(alloc, open.names, journal, ended, sums.as_slice()) else {
-        return Some(refuse(rt, Refusal::Memory));
+    let handed_in = match text {
+        Ok(text) => saving
+            .replace(open.names.done.as_str(), text.as_bytes())
+            .is_ok(),
+        Err(_) => false,
     };
-    match saving.replace(open.names.done.as_str(), text.as_bytes()) {
-        Ok(()) => None,
-        Err(_) => Some(refuse(rt, Refusal::Memory)),
+    if handed_in {
+        None
+    } else {
+        Some(refuse(rt, Refusal::Memory))
     }
 }
 
@@ -719,21 +767,41 @@ fn converse<'a, R: Runtime<A = Global, File = File>>(
     rt: &'a R,
     audience: Audience,
     open: &Open<'a>,
-    mut journal: KeptJournal,
+    journal: &mut KeptJournal,
     tail: Option<Tail>,
     closed: Option<Hindrance>,
 ) -> Status {
+    let Ok(mut desk) = desk_of(rt, audience, open, journal.bytes.as_slice(), tail) else {
+        return refuse(rt, Refusal::Memory);
+    };
+    match journal.bytes.clone() {
+        Ok(input) => talk_at_desk(
+            rt,
+            audience,
+            open,
+            journal,
+            &mut desk,
+            input.as_slice(),
+            closed,
+        ),
+        Err(_) => refuse(rt, Refusal::Memory),
+    }
+}
+
+/// Carries out a conversation at its desk, over what its journal holds at the beginning.
+fn talk_at_desk<'a, R: Runtime<A = Global, File = File>>(
+    rt: &'a R,
+    audience: Audience,
+    open: &Open<'a>,
+    journal: &mut KeptJournal,
+    desk: &mut OperatorDesk<'a, R>,
+    input: &[u8],
+    closed: Option<Hindrance>,
+) -> Status
+    requires { input.now ≡ journal.old.bytes.items }
+{
     let alloc = rt.alloc();
-    let Ok(input) = journal.bytes.clone() else {
-        return refuse(rt, Refusal::Memory);
-    };
-    let Ok(held) = journal.bytes.clone() else {
-        return refuse(rt, Refusal::Memory);
-    };
-    let Ok(mut desk) = desk_of(rt, audience, open, held, tail) else {
-        return refuse(rt, Refusal::Memory);
-    };
-    let job = job_of(open.code, open.talk, input.as_slice());
+    let job = job_of(open.code, open.talk, input);
     let noting = Progress {
         rt,
         audience,
@@ -741,23 +809,28 @@ fn converse<'a, R: Runtime<A = Global, File = File>>(
     };
     let mut saving = SavingFolder::new(Folder::new(rt, noting), terms_of(open.talk, closed));
     if open.talk.save.is_none() {
-        return match rehearse_talk(alloc, &mut saving, &job, &mut journal, &mut desk) {
-            Ok(told) => end_rehearsed(rt, audience, open, &journal, &desk, &told),
-            Err(refusal) => tell_broken(rt, audience, open, &desk, &saving, &refusal),
+        return match rehearse_talk(alloc, &mut saving, &job, journal, desk) {
+            Ok(told) => end_rehearsed(rt, audience, open, journal, desk, &told),
+            Err(refusal) => tell_broken(rt, audience, open, desk, &saving, &refusal),
         };
     }
-    let told = operate_files(alloc, &mut saving, &job, &mut journal, &mut desk);
-    conclude(rt, audience, open, &journal, &desk, &mut saving, &told)
+    let told = operate_files(alloc, &mut saving, &job, journal, desk);
+    conclude(rt, audience, open, journal, desk, &mut saving, &told)
+}
+
+/// How a conversation ended, as these bytes of the text of its end say.
+fn end_in(alloc: Global, bytes: &[u8]) -> Option<String> {
+    let paper = paper_in(alloc, bytes)?;
+    String::from_str(alloc, paper.get("--end")?).ok()
 }
 
 /// How a conversation ended, as the text of its end says.
 fn end_of<R: Runtime<A = Global>>(rt: &R, audience: Audience, names: &Names) -> Option<String> {
     let mut folder = folder(rt, audience);
-    let read = folder.read(rt.alloc(), names.done.as_str(), FILE_LIMIT);
-    let bytes = read.ok()?;
-    let text = str::from_utf8(bytes.as_slice()).ok()?;
-    let paper = JournalPaper::read(rt.alloc(), text).ok()?;
-    String::from_str(rt.alloc(), paper.get("--end")?).ok()
+    match folder.read(rt.alloc(), names.done.as_str(), FILE_LIMIT) {
+        Ok(bytes) => end_in(rt.alloc(), bytes.as_slice()),
+        Err(_) => None,
+    }
 }
 
 /// Finishes the save that a note tells of, where the folder is held. Where it is the conversation's, its end is told.
@@ -789,26 +862,24 @@ fn hold_of(held: Held, talk: &Talk) -> Option<Held> {
     }
 }
 
-/// Begins a conversation or takes one up again, of which the words are known.
-fn operate_talk<'a, R: Runtime<A = Global, File = File>>(
-    rt: &'a R,
+/// Why nothing that a conversation leaves can be saved, if that is so; a status where it neither begins nor goes on.
+fn may_talk<R: Runtime<A = Global, File = File>>(
+    rt: &R,
     audience: Audience,
-    open: &Open<'a>,
-    held: Held,
-) -> Status {
-    let closed = hindered(&held, open.talk.no_lock());
-    let goes_on = open.said.is_some();
-    let names = open.names;
-    let found = found_of(rt, names);
-    match next_of(found, goes_on) {
+    open: &Open<'_>,
+    held: &Held,
+) -> Result<Option<Hindrance>, Status> {
+    let closed = hindered(held, open.talk.no_lock());
+    let found = found_of(rt, open.names);
+    match next_of(found, open.said.is_some()) {
         Next::Begin | Next::GoOn => {}
-        Next::Finish => return finish_noted(rt, audience, names, closed),
-        next => return tell_next(rt, audience, names, found, next),
+        Next::Finish => return Err(finish_noted(rt, audience, open.names, closed)),
+        next => return Err(tell_next(rt, audience, open.names, found, next)),
     }
     if closed.is_none() {
         // a save that hadn't come to its note is taken away
         if let Some(status) = finish_before(rt, audience) {
-            return status;
+            return Err(status);
         }
     }
     let closed = match closed {
@@ -817,17 +888,43 @@ fn operate_talk<'a, R: Runtime<A = Global, File = File>>(
     };
     if closed.is_some() && open.talk.save.is_some() && has_no_tables(rt, open.code) {
         // the text of its end is saved, and no table is read that would tell of it
-        return tell_hindered(rt, audience, paper_name(), &RunRefusal::Disk, closed);
+        return Err(tell_hindered(rt, audience, paper_name(), &RunRefusal::Disk, closed));
     }
-    let _held = hold_of(held, open.talk);
-    match open_journal(rt, names.journal.as_str(), goes_on, open.talk.no_lock()) {
-        Ok((journal, tail)) => converse(rt, audience, open, journal, tail, closed),
+    Ok(closed)
+}
+
+/// Opens the journal of a conversation, and carries it out.
+fn talk_over_journal<'a, R: Runtime<A = Global, File = File>>(
+    rt: &'a R,
+    audience: Audience,
+    open: &Open<'a>,
+    closed: Option<Hindrance>,
+) -> Status {
+    let name = open.names.journal.as_str();
+    match open_journal(rt, name, open.said.is_some(), open.talk.no_lock()) {
+        Ok((mut journal, tail)) => converse(rt, audience, open, &mut journal, tail, closed),
         Err(fault) => {
             if fault == JournalFault::Disk {
-                leave_no_journal(rt, names);
+                leave_no_journal(rt, open.names);
             }
-            tell_journal(rt, audience, names.journal.as_str(), fault)
+            tell_journal(rt, audience, name, fault)
         }
+    }
+}
+
+/// Begins a conversation or takes one up again, of which the words are known.
+fn operate_talk<'a, R: Runtime<A = Global, File = File>>(
+    rt: &'a R,
+    audience: Audience,
+    open: &Open<'a>,
+    held: Held,
+) -> Status {
+    match may_talk(rt, audience, open, &held) {
+        Ok(closed) => {
+            let _held = hold_of(held, open.talk);
+            talk_over_journal(rt, audience, open, closed)
+        }
+        Err(status) => status,
     }
 }
 
@@ -854,59 +951,55 @@ fn tell_unbegun<R: Runtime<A = Global>>(
     }
 }
 
+/// The text of the beginning of a conversation that is to go on.
+fn said_of<R: Runtime<A = Global>>(
+    rt: &R,
+    audience: Audience,
+    names: &Names,
+    held: &Held,
+) -> Result<JournalPaper, Status> {
+    if stands(rt, names.begun.as_str()) {
+        read_begun(rt, audience, names.begun.as_str())
+    } else {
+        Err(tell_unbegun(rt, audience, names, held))
+    }
+}
+
 /// Takes up a conversation as it was begun.
 fn go_on<'a, R: Runtime<A = Global, File = File>>(
     rt: &'a R,
     audience: Audience,
-    code: &'a str,
+    words: &'a OperateWords<'a>,
     names: &'a Names,
-    window: Option<Window>,
-    screens: Option<&'a str>,
     held: Held,
 ) -> Status {
-    let alloc = rt.alloc();
-    if !stands(rt, names.begun.as_str()) {
-        return tell_unbegun(rt, audience, names, &held);
+    match said_of(rt, audience, names, &held) {
+        Ok(said) => match talk_in(rt.alloc(), &said) {
+            Some(talk) => begin(rt, audience, words, names, &talk, Some(&said), held),
+            None => tell_file(rt, names.begun.as_str(), "Foreign"),
+        },
+        Err(status) => status,
     }
-    let said = match read_begun(rt, audience, names.begun.as_str()) {
-        Ok(said) => said,
-        Err(status) => return status,
-    };
-    let Some(talk) = talk_in(alloc, &said) else {
-        return tell_file(rt, names.begun.as_str(), "Foreign");
-    };
-    let sums = RefCell::new(Vec::new(alloc));
-    let open = Open {
-        code,
-        names,
-        talk: &talk,
-        window,
-        screens,
-        said: Some(&said),
-        sums: &sums,
-    };
-    operate_talk(rt, audience, &open, held)
 }
 
-/// Begins a conversation.
+/// Begins a conversation, or takes one up again of which the text of its beginning is given.
 fn begin<'a, R: Runtime<A = Global, File = File>>(
     rt: &'a R,
     audience: Audience,
-    code: &'a str,
+    words: &'a OperateWords<'a>,
     names: &'a Names,
     talk: &'a Talk,
-    window: Option<Window>,
-    screens: Option<&'a str>,
+    said: Option<&'a JournalPaper>,
     held: Held,
 ) -> Status {
     let sums = RefCell::new(Vec::new(rt.alloc()));
     let open = Open {
-        code,
+        code: words.code,
         names,
         talk,
-        window,
-        screens,
-        said: None,
+        window: window_of(audience, &words.shown),
+        screens: words.shown.screens,
+        said,
         sums: &sums,
     };
     operate_talk(rt, audience, &open, held)
@@ -928,39 +1021,55 @@ fn is_copied_over(words: &TalkWords<'_>, names: &Names, screens: Option<&str>) -
     }
 }
 
+/// Begins a conversation that is asked for so.
+fn begin_asked<R: Runtime<A = Global, File = File>>(
+    rt: &R,
+    audience: Audience,
+    words: &OperateWords<'_>,
+    asked: &TalkWords<'_>,
+    names: &Names,
+) -> Result<Status, WordsFault> {
+    may_back_up(rt, asked.tables)?;
+    if is_copied_over(asked, names, words.shown.screens) {
+        return Err(WordsFault::Backup);
+    }
+    let Some(day) = day_of(rt, asked) else {
+        return Err(WordsFault::Zone);
+    };
+    match talk_of(rt.alloc(), audience, asked, day) {
+        Ok(talk) => {
+            let held = take_folder(rt);
+            Ok(begin(rt, audience, words, names, &talk, None, held))
+        }
+        Err(_) => Ok(refuse(rt, Refusal::Memory)),
+    }
+}
+
+/// Runs a code in conversation, whose files have these names.
+fn operate_named<R: Runtime<A = Global, File = File>>(
+    rt: &R,
+    audience: Audience,
+    words: &OperateWords<'_>,
+    names: &Names,
+) -> Result<Status, WordsFault> {
+    if !may_write_screens(rt, words, names) {
+        return Err(WordsFault::Screens);
+    }
+    match &words.talk {
+        Some(asked) => begin_asked(rt, audience, words, asked, names),
+        None => Ok(go_on(rt, audience, words, names, take_folder(rt))),
+    }
+}
+
 /// Runs a code in conversation.
 pub fn operate<R: Runtime<A = Global, File = File>>(
     rt: &R,
     audience: Audience,
     words: &OperateWords<'_>,
 ) -> Result<Status, WordsFault> {
-    let alloc = rt.alloc();
-    let names = match names_of(alloc, words) {
-        Ok(Some(names)) => names,
-        Ok(None) => return Err(WordsFault::Journal),
-        Err(_) => return Ok(refuse(rt, Refusal::Memory)),
-    };
-    if !may_write_screens(rt, words, &names) {
-        return Err(WordsFault::Screens);
+    match names_of(rt.alloc(), words) {
+        Ok(Some(names)) => operate_named(rt, audience, words, &names),
+        Ok(None) => Err(WordsFault::Journal),
+        Err(_) => Ok(refuse(rt, Refusal::Memory)),
     }
-    let window = window_of(audience, &words.shown);
-    let screens = words.shown.screens;
-    let Some(asked) = &words.talk else {
-        let held = take_folder(rt);
-        return Ok(go_on(rt, audience, words.code, &names, window, screens, held));
-    };
-    may_back_up(rt, asked.tables)?;
-    if is_copied_over(asked, &names, screens) {
-        return Err(WordsFault::Backup);
-    }
-    let Some(day) = day_of(rt, asked) else {
-        return Err(WordsFault::Zone);
-    };
-    let Ok(talk) = talk_of(alloc, audience, asked, day) else {
-        return Ok(refuse(rt, Refusal::Memory));
-    };
-    let held = take_folder(rt);
-    Ok(begin(
-        rt, audience, words.code, &names, &talk, window, screens, held,
-    ))
 }

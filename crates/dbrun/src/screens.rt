@@ -112,6 +112,20 @@ pub fn run_shown<R: Runtime<A = Global, File = File>, F: Files>(
     report_of(rt, name, told)
 }
 
+/// Tells why nothing was rehearsed.
+fn tell_unrehearsed(
+    rt: &impl Runtime,
+    name: &str,
+    screens: &str,
+    refusal: &OperateRefusal,
+) -> Status {
+    match refusal {
+        OperateRefusal::Run(refusal) => tell_refusal(rt, name, refusal),
+        OperateRefusal::Broke(why) => tell_stopped(rt, screens, *why),
+        OperateRefusal::Handed => tell_stopped(rt, screens, Broken::Line),
+    }
+}
+
 /// Rehearses a code as `rehearse_files` does; a person is told how far it has come. Where a file for screens is named,
 /// it is written meanwhile.
 pub fn rehearse_shown<R: Runtime<A = Global, File = File>, F: Files>(
@@ -136,8 +150,6 @@ pub fn rehearse_shown<R: Runtime<A = Global, File = File>, F: Files>(
     typist.watcher().end();
     match told {
         Ok(told) => Ok(told),
-        Err(OperateRefusal::Run(refusal)) => Err(tell_refusal(rt, job.name, &refusal)),
-        Err(OperateRefusal::Broke(why)) => Err(tell_stopped(rt, name, why)),
-        Err(OperateRefusal::Handed) => Err(tell_stopped(rt, name, Broken::Line)),
+        Err(refusal) => Err(tell_unrehearsed(rt, job.name, name, &refusal)),
     }
 }

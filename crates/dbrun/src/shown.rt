@@ -14,7 +14,7 @@ use std::fmt::{self, Display, Formatter, Write};
 use std::io::Eprint;
 
 /// Which of the program's streams are terminals, so that a person is shown more.
-#[derive(Clone, Copy, Debug)]
+#[derive(Clone, Copy)]
 pub struct Audience {
     /// Standard error: a file or another program gets not a byte more than what is documented.
     pub person: bool,
@@ -62,7 +62,7 @@ impl<R: Eprint + Alloc<A = Global>> Listener for Progress<'_, R> {
 }
 
 /// A line of a file, counted from 1.
-#[derive(Clone, Copy, Debug)]
+#[derive(Clone, Copy)]
 pub struct FaultyLine<'a> {
     pub file: &'a str,
     pub line: usize,
@@ -191,7 +191,7 @@ const WIDTH: usize = 76;
 
 /// A line as it is shown: its first 76 bytes, of which those that aren't printed are question marks, so that no file
 /// can send a terminal what it obeys.
-#[derive(Clone, Copy, Debug)]
+#[derive(Clone, Copy)]
 pub struct PrintableLine<'a> {
     bytes: &'a [u8],
 }
