@@ -362,7 +362,7 @@ pub fn converse<J: Journal, O: Operator, K: KeyList>(
     ensures comes_to { IfOk result (λ talk. ComesTo verified.now store today (J.holds journal.new) budget talk.outcome
         talk.banks) }
 
-    // What the journal holds then is what it held before, with the lines that were answered behind it, and nothing else.
+    // What the journal holds then is what it held before, with the lines that were answered behind it, and no more.
     ensures kept { OnOk result (AnswersKept (O.answered operator.old) (O.answered operator.new)
         (J.holds journal.old) (J.holds journal.new)) }
     ensures unkept { OnErr result (LastUnkept (O.answered operator.old) (O.answered operator.new)

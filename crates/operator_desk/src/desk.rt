@@ -287,8 +287,8 @@ impl<R: Runtime<A = Global, File = File>> OperatorDesk<'_, R> {
         Ok(None)
     }
 
-    /// What becomes of a line with a letter that the page lacks. A person types it again; another program can't, and its
-    /// next line would come in the place of this one.
+    /// What becomes of a line with a letter that the page lacks. A person types it again. Another program can't, and
+    /// its next line would come in the place of this one.
     fn without_letter(&mut self) -> Result<Option<Answer>, OperatorFailed>
         ensures untold { self.new.answers ≡ self.old.answers }
     {

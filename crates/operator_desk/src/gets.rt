@@ -282,8 +282,8 @@ impl Gets {
         self.places.get(place)?.member
     }
 
-    /// Learns where the value is shown that the next instruction shows, where a READ asks for it. Answers that lie where
-    /// the program draws now are taken away.
+    /// Learns where the value is shown that the next instruction shows, where a READ asks for it. Answers that lie
+    /// where the program draws now are taken away.
     pub fn look(&mut self, alloc: Global, seen: &Scene<'_>) -> Result<(), AllocError> {
         self.sent.count(seen.screen.sent());
         match self.drawing(seen.place) {

@@ -74,8 +74,8 @@ HasRow f a out b = (m : ℕ) × (n : ℕ) × InstrStands f.text a (Records (Ask 
 -- the next row of a SCAN and the way back, where they are reached
 abbrev pub Advances : Laying → ℕ → Bool → ℕ → ℕ → Type 0
 Advances f a false top b = b ≡ a
-Advances f a true top b = (m : ℕ) × (n : ℕ) × ConstantStands f a (whole_number 1) m × InstrStands f.text m (Moves Skip) n
-    × InstrStands f.text n (Flow (Jump top)) b
+Advances f a true top b = (m : ℕ) × (n : ℕ) × ConstantStands f a (whole_number 1) m
+    × InstrStands f.text m (Moves Skip) n × InstrStands f.text n (Flow (Jump top)) b
 
 -- they stand where LOOP leads
 abbrev pub Meets : Bool → ℕ → ℕ → Type 0

@@ -264,7 +264,7 @@ pub fn operate_files<F: Files, J: Journal, O: Operator>(
         → OperationRefused (F.holds files.old) (F.holds files.new) whole
         (Rose (F.failed files.old) (F.failed files.new)) refusal result.rows.items) }
 
-    // What the journal holds then is what it held before, with the lines that were answered behind it, and nothing else.
+    // What the journal holds then is what it held before, with the lines that were answered behind it, and no more.
     // Where no run is saved, the last line that was answered may be missing.
     ensures answered { OnOk result.result (AnswersKept (O.answered operator.old) (O.answered operator.new)
         (J.holds journal.old) (J.holds journal.new)) }

@@ -145,7 +145,7 @@ pub fn rehearse_talk<F: Files, J: Journal, O: Operator>(
         (Rose (F.failed files.old) (F.failed files.new)))) }
     ensures kept { SameFiles (F.holds files.old) (F.holds files.new) }
 
-    // What the journal holds then is what it held before, with the lines that were answered behind it, and nothing else.
+    // What the journal holds then is what it held before, with the lines that were answered behind it, and no more.
     // Where nothing is told, the last line that was answered may be missing.
     ensures answered { OnOk result (AnswersKept (O.answered operator.old) (O.answered operator.new)
         (J.holds journal.old) (J.holds journal.new)) }

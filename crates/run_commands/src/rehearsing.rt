@@ -75,7 +75,8 @@ pub(crate) fn with_changes(
     run: Run,
     changes: Result<Changes, AllocError>,
 ) -> Result<Compared, AllocError>
-    ensures { IfOk result (λ done. (changes ≡ Ok done.changes) × (done.outcome ≡ run.outcome) × (done.rows ≡ run.rows)) }
+    ensures { IfOk result (λ done.
+        (changes ≡ Ok done.changes) × (done.outcome ≡ run.outcome) × (done.rows ≡ run.rows)) }
 {
     Ok(Compared {
         rows: run.rows,
