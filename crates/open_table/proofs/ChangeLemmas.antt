@@ -9,7 +9,7 @@ use Rattle.shape.specs.declared.parts.KeyPart.{KeyPart}
 use Rattle.row_keys.specs.Lists.{IsExact, IsAsBefore, HasAdded, HasFollowed, row_pair, index_list}
 use Rattle.row_keys.proofs.IndexLemmas.{ListLaw, exact_same, exact-absent, exact-added}
 use Rattle.open_table.specs.Marks.{left_stale, is_among, with_stale}
-use Rattle.open_table.specs.Slots.{SlotState, mark_of, IsListed, IsSlotBy, IsSlot, GoesBy, Along, left_if_open}
+use Rattle.open_table.specs.Slots.{SlotState, mark_of, IsListed, IsSlot, GoesBy, Along, left_if_open}
 use Rattle.open_table.proofs.SlotLemmas.{carry, slot_goes, left_slot, listed_some, goes_mark, same_along, map_along, left_mark, some_weaker}
 
 -- rooms are asked for, and then closed indexes are left

@@ -7,7 +7,7 @@ use Rattle.dbf_file.specs.Rows.{Row}
 use Rattle.dbf_file.specs.Tables.{StructureState}
 use Rattle.key_lists.specs.KeyForm.{IsKeyText}
 use Rattle.shape.specs.Keys.{IsKey}
-use Rattle.row_keys.specs.declared.building.Kept.TheVariants.{Every, Nothing}
+use Rattle.row_keys.specs.declared.building.Kept.TheVariants.{Every}
 use Rattle.row_keys.specs.Lists.{IndexState, IsExact, kept_rows}
 use Rattle.open_table.specs.Marks.{IndexMark, is_among, is_fresh, mark_at, count_stale, with_stale}
 use Rattle.open_table.specs.Tables.{IndexedState, IsOrder}

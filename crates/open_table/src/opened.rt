@@ -21,6 +21,7 @@ ghost use Rattle.open_table.specs.Tried.{ShowsRows};
 ghost use Rattle.open_table.specs.Open.{IsMoved, IsEnded, opened, closed, first_order, in_table, order_index};
 ghost use Rattle.open_table.specs.Open.{gone_to, with_blank, place_in, replaced_here, remarked_here, reordered};
 ghost use Rattle.open_table.specs.Open.{deleted_of, field_of, landed as landed_at, within, within as within_of};
+ghost use Rattle.open_table.specs.Open.{current_row};
 
 use crate::{IndexedTable, Refused, Row};
 use arrayvec::ArrayVec;
@@ -403,6 +404,17 @@ impl<K: KeyList> OpenTable<K> {
         match self.place() {
             Some(r) => self.table.table().value_at(r, f),
             None => blank_value(self.table.table(), f),
+        }
+    }
+
+    /// The record that is pointed to, as a row; none at the end of file.
+    pub fn row(&self) -> Option<Row<'_>>
+        ensures { MatchOption result (place_in (length self.now.table.rows) self.now.pointer ≡ None)
+            (λ row. (row.structure ≡ self.now.table.structure) × (row.row ≡ current_row self.now)) }
+    {
+        match self.place() {
+            Some(r) => Some(Row::new(self.table.table(), r, self.recno(), self.table.count())),
+            None => None,
         }
     }
 

@@ -1,12 +1,13 @@
 //! The row that a test of rows is asked for.
 
-ghost use Rattle.std.specs.Prelude.{◌≡◌, ◌<◌, ◌≤◌, IfSome, length, slice_index_or, take, []};
+ghost use Rattle.std.specs.Prelude.{◌≡◌, ◌<◌, ◌≤◌, length, slice_index, slice_index_or, take, []};
 ghost use Rattle.dbf_file.specs.Rows.{row_at};
 ghost use Rattle.dbf_file.specs.Tables.{letter_at, decimals_at};
-ghost use Rattle.dbf_file.specs.Values.{value_by};
-ghost use Rattle.xvalue.specs.declared.value.Value.TheVariants.{Text};
+ghost use Rattle.dbf_file.specs.Values.{value_by, number_in, day_in, is_yes};
 
+use calendar::Day;
 use dbf_file::{Letter, Table};
+use fixed_num::Num;
 use std::marker::Model;
 use xvalue::Value;
 
@@ -93,18 +94,45 @@ impl<'a> Row<'a> {
         self.table.value_at(self.place, f)
     }
 
-    /// The bytes of the text that field `f`, counted from 0, has; none of a field of other values.
-    pub fn text(&self, f: usize) -> Option<&[u8]>
+    /// The letter of field `f`, counted from 0, which tells the kind of its values.
+    pub fn letter(&self, f: usize) -> Letter
         requires { f < length self.now.structure.fields }
-        ensures same { IfSome result (λ bytes. value_by (letter_at self.now.structure f)
-            (decimals_at self.now.structure f) (slice_index_or self.now.row.texts f [])
-            ≡ Text (record { items = bytes.now })) }
-        ensures short { IfSome result (λ bytes. length bytes.now ≤ 254) }
+        ensures { result ≡ letter_at self.now.structure f }
     {
-        match self.table.structure().fields()[f].letter {
-            Letter::C => Some(first_bytes(self.table.field(self.place, f))),
-            _ => None,
-        }
+        self.table.structure().fields()[f].letter
+    }
+
+    /// The number that the text of field `f`, counted from 0, stands for.
+    pub fn number(&self, f: usize) -> Num
+        requires { f < length self.now.structure.fields }
+        ensures { result ≡ number_in (decimals_at self.now.structure f) (slice_index_or self.now.row.texts f []) }
+    {
+        self.table.number_at(self.place, f)
+    }
+
+    /// The bytes of field `f`, counted from 0, as many as a text value may have.
+    pub fn text(&self, f: usize) -> &[u8]
+        requires { f < length self.now.structure.fields }
+        ensures same { result.now ≡ take 254 (slice_index_or self.now.row.texts f []) }
+        ensures short { length result.now ≤ 254 }
+    {
+        first_bytes(self.table.field(self.place, f))
+    }
+
+    /// The day that the text of field `f`, counted from 0, stands for.
+    pub fn day(&self, f: usize) -> Day
+        requires { f < length self.now.structure.fields }
+        ensures { result ≡ day_in (slice_index_or self.now.row.texts f []) }
+    {
+        self.table.day_at(self.place, f)
+    }
+
+    /// The truth value that the text of field `f`, counted from 0, stands for.
+    pub fn truth(&self, f: usize) -> bool
+        requires { f < length self.now.structure.fields }
+        ensures { result ≡ is_yes (slice_index (slice_index_or self.now.row.texts f []) 0) }
+    {
+        self.table.truth_at(self.place, f)
     }
 }
 

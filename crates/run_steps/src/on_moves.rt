@@ -12,35 +12,37 @@ ghost use Rattle.code_items.specs.declared.instr.Instr.TheVariants.{Moves as OfM
 ghost use Rattle.run_values.specs.Tagged.{TaggedValues, dropped};
 ghost use Rattle.run_steps.specs.Effects.{whole_on_top, given_text, record_number};
 ghost use Rattle.run_steps.specs.Executed.{Executed};
-ghost use Rattle.run_steps.specs.Filters.{viewing, shown_by, is_visible as visible};
+ghost use Rattle.run_steps.specs.Filters.{viewing, shown_by, filter_block, is_visible as visible};
 ghost use Rattle.run_steps.specs.Needs.{FilterNeeds, MoveNeeds, SeekNeeds, GivenNeeds, given_of};
 ghost use Rattle.run_steps.specs.Walking.{HasWalked, HasChanged};
 
 use crate::ending::Stop;
 use crate::environment::Environment;
 use crate::filtering::View;
-use crate::on_values::whole;
 use code_items::Code;
 use code_items::instr::MoveInstr;
 use key_lists::KeyList;
 use open_table::Row;
 use row_moves::Spent;
-use run_values::Values;
+use run_values::{Lent, Values};
 use work_area::Store;
-use xvalue::{Kind, Value};
+use xvalue::Kind;
 
 /// The whole part of a number; without one, 0.
-fn steps(given: &Option<Value>) -> i128
+fn steps(given: &Option<Lent<'_>>) -> i128
     ensures { result ≡ whole_on_top given.now }
 {
     match given {
-        Some(value) => whole(value),
+        Some(value) => match value.kind() {
+            Kind::Number => value.number().whole(),
+            _ => 0,
+        },
         None => 0,
     }
 }
 
 /// The record of a number's whole part; no table has one below 0 or from 2^32 on.
-fn record_given(given: &Option<Value>) -> Option<u32>
+fn record_given(given: &Option<Lent<'_>>) -> Option<u32>
     ensures { result ≡ record_number (whole_on_top given.now) }
 {
     let whole = steps(given);
@@ -51,12 +53,15 @@ fn record_given(given: &Option<Value>) -> Option<u32>
 }
 
 /// The bytes of a text; without one, none.
-fn text(given: &Option<Value>) -> &[u8]
-    ensures { result.now ≡ given_text given.now }
+fn text<'a>(given: &'a Option<Lent<'_>>) -> &'a [u8]
+    ensures { result.now ≡ given_text given.entry.now }
 {
     match given {
-        Some(Value::Text(text)) => text.as_slice(),
-        _ => &[],
+        Some(value) => match value.kind() {
+            Kind::Text => value.text(),
+            _ => &[],
+        },
+        None => &[],
     }
 }
 
@@ -75,7 +80,7 @@ fn walk<K: KeyList, F: Fn(&Row<'_>) -> bool>(
     store: &mut Store<K>,
     exact: bool,
     instr: MoveInstr,
-    given: &Option<Value>,
+    given: &Option<Lent<'_>>,
     see: F,
     left: u64,
 ) -> Result<u64, Stop>
@@ -98,7 +103,7 @@ fn walk<K: KeyList, F: Fn(&Row<'_>) -> bool>(
 /// SKIP, by the whole part of a number.
 fn skip<K: KeyList, F: Fn(&Row<'_>) -> bool>(
     store: &mut Store<K>,
-    given: &Option<Value>,
+    given: &Option<Lent<'_>>,
     see: F,
     left: u64,
 ) -> Result<u64, Spent>
@@ -127,14 +132,14 @@ fn go<K: KeyList, F: Fn(&Row<'_>) -> bool>(
 }
 
 /// The operand of a move, if it has one; it stays on the stack.
-fn operand<V: Values>(values: &V, instr: MoveInstr) -> Option<Value>
+fn operand<V: Values>(values: &V, instr: MoveInstr) -> Option<Lent<'_>>
     requires { (t : TaggedValues) × (V.stands values.now t × GivenNeeds instr t) }
     ensures { (t : TaggedValues) → V.stands values.now t → GivenNeeds instr t → result ≡ given_of instr t }
 {
     match instr {
         MoveInstr::Top | MoveInstr::Bottom => None,
-        MoveInstr::Skip | MoveInstr::Go => Some(values.top(Kind::Number)),
-        MoveInstr::Seek => Some(values.top(Kind::Text)),
+        MoveInstr::Skip | MoveInstr::Go => Some(values.top_lent(Kind::Number)),
+        MoveInstr::Seek => Some(values.top_lent(Kind::Text)),
     }
 }
 
@@ -156,10 +161,10 @@ fn look_and_walk<V: Values, K: KeyList>(
     view: &View<'_, V>,
     store: &mut Store<K>,
     instr: MoveInstr,
-    given: &Option<Value>,
+    given: &Option<Lent<'_>>,
     left: u64,
 ) -> Result<u64, Stop>
-    requires legal { IsCode view.now.code.now }
+    requires block { view.now.block.now ≡ filter_block view.now.code.now view.now.filter }
     requires open { IsSome (here store.old) }
     requires order { SeekNeeds instr store.old }
     requires filter { (t : TaggedValues)
@@ -175,7 +180,7 @@ fn look_and_walk<V: Values, K: KeyList>(
         instr,
         given,
         |row: &Row<'_>| -> bool
-            requires code { IsCode view.now.code.now }
+            requires block { view.now.block.now ≡ filter_block view.now.code.now view.now.filter }
             requires filter { (t : TaggedValues)
                 × (V.stands view.now.values.now t × FilterNeeds view.now.code.now t view.now.filter) }
             ensures { (t : TaggedValues) → V.stands view.entry.now.values.now t
@@ -201,12 +206,7 @@ pub fn on_moves<V: Values, K: KeyList>(
         → Executed code.now (OfMoves instr) t env.old left result (V.stands values.new) env.new }
 {
     let given = operand(values, instr);
-    let view = View {
-        code,
-        values,
-        moment: env.moment(),
-        filter: env.filter_here(),
-    };
+    let view = View::new(code, values, env.moment(), env.filter_here());
     let cost = look_and_walk(&view, &mut env.store, instr, &given, left)?;
     take_operand(values, instr);
     Ok(cost)

@@ -6,23 +6,25 @@ ghost use Rattle.std.specs.Fn.{FnReturnsAt};
 ghost use Rattle.dbf_file.specs.Rows.{Row as TheRow};
 ghost use Rattle.dbf_file.specs.Tables.{StructureState, letter_at};
 ghost use Rattle.dbf_file.specs.Values.{kind_for};
-ghost use Rattle.work_area.specs.Areas.{here};
+ghost use Rattle.open_table.specs.Open.{field_of};
+ghost use Rattle.work_area.specs.Areas.{here, area_table};
 ghost use Rattle.code_items.specs.Legal.{IsCode};
 ghost use Rattle.code_items.specs.declared.instr.Instr.TheVariants.{Records as OfRecords};
 ghost use Rattle.code_items.specs.declared.instr.RecordInstr.TheVariants.{Append as OfAppend};
 ghost use Rattle.code_items.specs.declared.code.Code.{Code as AnyCode};
-ghost use Rattle.run_values.specs.Tagged.{TaggedValues};
+ghost use Rattle.run_values.specs.Tagged.{TaggedValues, pushed};
 ghost use Rattle.run_steps.specs.Effects.{answer as answer_of, index_in, closing_store, closing_met, store_closed};
 ghost use Rattle.run_steps.specs.Effects.{closing_cost};
 ghost use Rattle.run_steps.specs.Executed.{Executed};
-ghost use Rattle.run_steps.specs.Filters.{viewing, shown_by, is_visible as visible};
+ghost use Rattle.run_steps.specs.Filters.{viewing, shown_by, filter_block, is_visible as visible};
 ghost use Rattle.run_steps.specs.Needs.{FilterNeeds, HasField, TakesField, RecordNeeds, ClosingNeeds, IsClosing};
-ghost use Rattle.run_steps.specs.Needs.{IsPlain};
+ghost use Rattle.run_steps.specs.Needs.{IsPlain, HasRoom};
 ghost use Rattle.run_steps.specs.Walking.{HasChanged, HasReplaced, ShowsAll};
 
 use crate::ending::Stop;
 use crate::environment::Environment;
 use crate::filtering::View;
+use crate::lent_blocks::lent_field;
 use crate::on_areas::{list_of, refused};
 use code_items::Code;
 use code_items::instr::{Question, RecordInstr};
@@ -46,6 +48,25 @@ fn answer<K: KeyList>(store: &Store<K>, question: Question) -> Value
         Question::Found => Value::Logical(store.found()),
         Question::Deleted => Value::Logical(store.deleted()),
     }
+}
+
+/// Puts the value of a field of an area's current record on the stack.
+fn push_field<V: Values, K: KeyList>(values: &mut V, store: &Store<K>, area: u8, field: u16)
+    requires { (t : TaggedValues) × (V.stands values.old t × (1 ≤ area) × (area ≤ 10)
+        × HasField field (area_table store.now area) × HasRoom t) }
+    ensures { (t : TaggedValues) → V.stands values.old t
+        → IfSome (area_table store.now area) (λ o. V.stands values.new (pushed (field_of field o) t)) }
+{
+    let f = usize::from(field);
+    match store.row(area) {
+        Some(row) => {
+            if f < row.fields() {
+                return values.push_lent(&lent_field(&row, f));
+            }
+        }
+        None => {}
+    }
+    values.push(store.field(area, f))
 }
 
 /// The kind of the values of a field of the selected area's table.
@@ -150,7 +171,7 @@ fn look_and_close<V: Values, K: KeyList>(
     instr: RecordInstr,
     left: u64,
 ) -> Result<u64, Stop>
-    requires legal { IsCode view.now.code.now }
+    requires block { view.now.block.now ≡ filter_block view.now.code.now view.now.filter }
     requires open { IsSome (here store.old) }
     requires needs { ClosingNeeds view.now.code.now instr store.old }
     requires closes { IsClosing instr }
@@ -169,7 +190,7 @@ fn look_and_close<V: Values, K: KeyList>(
         store,
         instr,
         |row: &Row<'_>| -> bool
-            requires code { IsCode view.now.code.now }
+            requires block { view.now.block.now ≡ filter_block view.now.code.now view.now.filter }
             requires filter { (t : TaggedValues)
                 × (V.stands view.now.values.now t × FilterNeeds view.now.code.now t view.now.filter) }
             ensures { (t : TaggedValues) → V.stands view.entry.now.values.now t
@@ -196,12 +217,7 @@ fn close<V: Values, K: KeyList>(
     ensures { (t : TaggedValues) → V.stands values.now t → RecordNeeds code.now instr t env.old
         → Executed code.now (OfRecords instr) t env.old left result (V.stands values.now) env.new }
 {
-    let view = View {
-        code,
-        values,
-        moment: env.moment(),
-        filter: env.filter_here(),
-    };
+    let view = View::new(code, values, env.moment(), env.filter_here());
     look_and_close(alloc, &view, &mut env.store, instr, left)
 }
 
@@ -227,7 +243,7 @@ pub fn on_records<V: Values, K: KeyList>(
     }
     match instr {
         RecordInstr::Field { area, field } => {
-            values.push(env.store.field(area, usize::from(field)));
+            push_field(values, &env.store, area, field);
             Ok(1)
         }
         RecordInstr::Ask(question) => {

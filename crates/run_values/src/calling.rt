@@ -19,6 +19,7 @@ use xvalue::{Arguments, Fun, Gathered, Kind, Settings, Text, Value, eq_text, les
 #[derive(Clone, Copy)]
 pub(crate) enum Worked {
     Number(Num),
+    Day(Day),
     Truth(bool),
 }
 
@@ -29,6 +30,7 @@ impl Worked {
     {
         match self {
             Worked::Number(number) => Value::Number(number),
+            Worked::Day(day) => Value::Date(day),
             Worked::Truth(truth) => Value::Logical(truth),
         }
     }
@@ -39,6 +41,7 @@ impl Worked {
     {
         match self {
             Worked::Number(number) => Lent::of_number(number),
+            Worked::Day(day) => Lent::of_day(day),
             Worked::Truth(truth) => Lent::of_truth(truth),
         }
     }
@@ -76,7 +79,7 @@ fn of_texts(fun: Fun, settings: Settings, first: &[u8], second: &[u8]) -> Option
     }
 }
 
-/// What a function gives that compares two dates; none where it is another one.
+/// What a function gives of two dates; none where it is one of other arguments.
 #[tactic(auto, unfolding(xvalue::specs::Functions::applied))]
 fn of_dates(fun: Fun, first: Day, second: Day) -> Option<Worked>
     ensures { (settings : AnySettings) → IfSome result (λ worked. worked_value worked
@@ -86,6 +89,20 @@ fn of_dates(fun: Fun, first: Day, second: Day) -> Option<Worked>
         Fun::DateEq => Some(Worked::Truth(first.is(second))),
         Fun::DateLess => Some(Worked::Truth(first.is_before(second))),
         Fun::DateGreater => Some(Worked::Truth(second.is_before(first))),
+        Fun::DateDiff => Some(Worked::Number(first.days_since(second))),
+        _ => None,
+    }
+}
+
+/// The day that a function gives of a date and a number; none where it gives none.
+#[tactic(auto, unfolding(xvalue::specs::Functions::applied))]
+fn of_moved_date(fun: Fun, date: Day, number: Num) -> Option<Worked>
+    ensures { (settings : AnySettings) → IfSome result (λ worked. worked_value worked
+        ≡ applied fun settings (by_kind (IsDate date ∷ IsNumber number ∷ []))) }
+{
+    match fun {
+        Fun::DateAdd => Some(Worked::Day(date.plus(number))),
+        Fun::DateSub => Some(Worked::Day(date.minus(number))),
         _ => None,
     }
 }
@@ -112,20 +129,63 @@ fn of_two(fun: Fun, settings: Settings, first: &Lent<'_>, second: &Lent<'_>) -> 
         (Kind::Number, Kind::Number) => of_numbers(fun, first.number(), second.number()),
         (Kind::Text, Kind::Text) => of_texts(fun, settings, first.text(), second.text()),
         (Kind::Date, Kind::Date) => of_dates(fun, first.day(), second.day()),
+        (Kind::Date, Kind::Number) => of_moved_date(fun, first.day(), second.number()),
         (Kind::Logical, Kind::Logical) => of_truths(fun, first.truth(), second.truth()),
         _ => None,
     }
 }
 
-/// NOT of a truth value that is lent; none of another function or value.
+/// What a function gives of a number, where that is no text; none where it is one of other arguments.
 #[tactic(auto, unfolding(xvalue::specs::Functions::applied))]
-fn not_of(fun: Fun, value: &Lent<'_>) -> Option<Worked>
+fn of_number(fun: Fun, number: Num) -> Option<Worked>
+    ensures { (settings : AnySettings) → IfSome result (λ worked. worked_value worked
+        ≡ applied fun settings (by_kind (IsNumber number ∷ []))) }
+{
+    match fun {
+        Fun::Neg => Some(Worked::Number(number.neg())),
+        Fun::Abs => Some(Worked::Number(number.abs())),
+        Fun::Int => Some(Worked::Number(number.int())),
+        _ => None,
+    }
+}
+
+/// What a function gives of a date, where that is no text; none where it is one of other arguments.
+#[tactic(auto, unfolding(xvalue::specs::Functions::applied))]
+fn of_date(fun: Fun, date: Day) -> Option<Worked>
+    ensures { (settings : AnySettings) → IfSome result (λ worked. worked_value worked
+        ≡ applied fun settings (by_kind (IsDate date ∷ []))) }
+{
+    match fun {
+        Fun::Day => Some(Worked::Number(Num::from(u32::from(date.day())))),
+        Fun::Month => Some(Worked::Number(Num::from(u32::from(date.month())))),
+        Fun::Year => Some(Worked::Number(Num::from(u32::from(date.year())))),
+        Fun::Dow => Some(Worked::Number(Num::from(u32::from(date.weekday())))),
+        _ => None,
+    }
+}
+
+/// NOT of a truth value; none of another function.
+#[tactic(auto, unfolding(xvalue::specs::Functions::applied))]
+fn not_of(fun: Fun, truth: bool) -> Option<Worked>
+    ensures { (settings : AnySettings) → IfSome result (λ worked. worked_value worked
+        ≡ applied fun settings (by_kind (IsLogical truth ∷ []))) }
+{
+    match fun {
+        Fun::Not => Some(Worked::Truth(!truth)),
+        _ => None,
+    }
+}
+
+/// What a function gives of a value that is lent and no text; none of others.
+fn of_single(fun: Fun, value: &Lent<'_>) -> Option<Worked>
     ensures { (settings : AnySettings) → IfSome result (λ worked. worked_value worked
         ≡ applied fun settings (by_kind (value.now ∷ []))) }
 {
-    match (fun, value.kind()) {
-        (Fun::Not, Kind::Logical) => Some(Worked::Truth(!value.truth())),
-        _ => None,
+    match value.kind() {
+        Kind::Number => of_number(fun, value.number()),
+        Kind::Text => None,
+        Kind::Date => of_date(fun, value.day()),
+        Kind::Logical => not_of(fun, value.truth()),
     }
 }
 
@@ -135,7 +195,7 @@ pub(crate) fn worked_out(fun: Fun, settings: Settings, values: &[Lent<'_>]) -> O
     ensures { IfSome result (λ worked. worked_value worked ≡ applied fun settings (by_kind values.now)) }
 {
     match values {
-        [value] => not_of(fun, value),
+        [value] => of_single(fun, value),
         [first, second] => of_two(fun, settings, first, second),
         _ => None,
     }
@@ -154,19 +214,6 @@ fn of_text_and_number(fun: Fun, settings: Settings, text: &Text, number: &Num) -
     apply(fun, settings, &arguments)
 }
 
-/// What a function gives of a date and a number.
-fn of_date_and_number(fun: Fun, settings: Settings, date: &Day, number: &Num) -> Value
-    ensures { result ≡ applied fun settings (by_kind (IsDate date.now ∷ IsNumber number.now ∷ [])) }
-{
-    let arguments = Arguments {
-        numbers: slice::from_ref(number),
-        texts: &[],
-        dates: slice::from_ref(date),
-        truths: &[],
-    };
-    apply(fun, settings, &arguments)
-}
-
 /// What a function gives of two values that needn't be gathered; none of others.
 fn of_pair(fun: Fun, settings: Settings, first: &Value, second: &Value) -> Option<Value>
     ensures { IfSome result (λ value. value ≡ applied fun settings (by_kind (first.now ∷ second.now ∷ []))) }
@@ -177,9 +224,6 @@ fn of_pair(fun: Fun, settings: Settings, first: &Value, second: &Value) -> Optio
     match (first, second) {
         (Value::Text(text), Value::Number(number)) => {
             Some(of_text_and_number(fun, settings, text, number))
-        }
-        (Value::Date(date), Value::Number(number)) => {
-            Some(of_date_and_number(fun, settings, date, number))
         }
         _ => None,
     }

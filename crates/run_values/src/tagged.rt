@@ -100,6 +100,15 @@ impl Values for Tagged {
         self.values.top(kind)
     }
 
+    fn push_lent(&mut self, value: &Lent<'_>) {
+        self.values.push_lent(value);
+        self.stack.push(value.kind());
+    }
+
+    fn top_lent(&self, kind: Kind) -> Lent<'_> {
+        self.values.top_lent(kind)
+    }
+
     fn truth(&self) -> bool {
         self.values.truth()
     }

@@ -88,6 +88,17 @@ impl TextPile {
         self.count += 1;
     }
 
+    /// Puts the text of these bytes on top. It takes no memory.
+    #[tactic(auto, using(crate::proofs::PileLists::one_held))]
+    pub fn push_bytes(&mut self, bytes: &[u8])
+        requires room { length self.old < 64 }
+        requires short { length bytes.now ≤ 254 }
+        ensures { self.new ≡ (record { items = bytes.now }) ∷ self.old }
+    {
+        write_over(bytes, &mut self.texts[self.count]);
+        self.count += 1;
+    }
+
     /// Puts the two texts on top one behind the other, cut at 254 bytes, in their place. The lower one is copied
     /// nowhere.
     pub fn join(&mut self)
@@ -134,8 +145,16 @@ fn cut(text: &mut Text, skipped: usize, count: usize)
 pub(crate) fn copy_into(text: &Text, copy: &mut Text)
     ensures { copy.new ≡ text.now }
 {
-    copy.clear();
-    match copy.try_extend_from_slice(text.as_slice()) {
+    write_over(text.as_slice(), copy);
+}
+
+/// Makes a text that of these bytes.
+fn write_over(bytes: &[u8], text: &mut Text)
+    requires { length bytes.now ≤ 254 }
+    ensures { text.new ≡ record { items = bytes.now } }
+{
+    text.clear();
+    match text.try_extend_from_slice(bytes) {
         Ok(()) => {}
         Err(_) => unreachable!(),
     }

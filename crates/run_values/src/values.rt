@@ -31,6 +31,17 @@ pub trait Values: Drop {
         ensures { (t : TaggedValues) → stands self.now t → HasOnTop (kind ∷ []) t.stack
             → slice_get t.stack 0 ≡ Some result };
 
+    /// Puts a value that is lent on the stack.
+    fn push_lent(&mut self, value: &Lent<'_>)
+        requires { (t : TaggedValues) × (stands self.old t × (length t.stack < 64)) }
+        ensures { (t : TaggedValues) → stands self.old t → stands self.new (pushed value.now t) };
+
+    /// The value on top, which is of this kind, lent from there.
+    fn top_lent(&self, kind: Kind) -> Lent<'_>
+        requires { (t : TaggedValues) × (stands self.now t × HasOnTop (kind ∷ []) t.stack) }
+        ensures { (t : TaggedValues) → stands self.now t → HasOnTop (kind ∷ []) t.stack
+            → slice_get t.stack 0 ≡ Some result };
+
     /// The truth value on top; it stays.
     fn truth(&self) -> bool
         requires { (t : TaggedValues) × (stands self.now t × HasOnTop (OfLogical ∷ []) t.stack) }

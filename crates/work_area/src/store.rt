@@ -9,6 +9,7 @@ ghost use Rattle.dbf_file.specs.Tables.{letter_at};
 ghost use Rattle.dbf_file.specs.Values.{kind_for};
 ghost use Rattle.row_keys.specs.Lists.{index_list};
 ghost use Rattle.open_table.specs.Open.{closed, with_blank, replaced_here, remarked_here, gone, reordered, field_of};
+ghost use Rattle.open_table.specs.Open.{current_row, place_in};
 ghost use Rattle.open_table.specs.Open.{IsEnded, deleted_of, opened};
 ghost use Rattle.open_table.specs.Marks.{mark_at, is_fresh, parts_in, form_in};
 ghost use Rattle.open_table.specs.Tried.{ShowsRows};
@@ -537,6 +538,18 @@ impl<K: KeyList> Store<K> {
         ensures { IfSome (area_table self.now area) (λ o. result ≡ field_of f o) }
     {
         self.tables[self.place(area)].field(f)
+    }
+
+    /// The current record of an area, 1 to 10, which is open, as a row; none at its end of file.
+    pub fn row(&self, area: u8) -> Option<Row<'_>>
+        requires first { 1 ≤ area }
+        requires last { area ≤ 10 }
+        requires open { IsSome (area_table self.now area) }
+        ensures { IfSome (area_table self.now area) (λ o. MatchOption result
+            (place_in (length o.table.rows) o.pointer ≡ None)
+            (λ row. (row.structure ≡ o.table.structure) × (row.row ≡ current_row o))) }
+    {
+        self.tables[self.place(area)].row()
     }
 
     /// EOF() of the selected area.

@@ -1,7 +1,7 @@
-use Rattle.std.proofs.Common.{◌≡◌, List, set, take, sym, ap, ◌∙◌, subst}
+use Rattle.std.proofs.Common.{◌≡◌, take, sym, ap, ◌∙◌, subst}
 use Rattle.std.specs.List.{All}
 use Rattle.std.specs.Prelude.{IfSome, slice_index}
-use Rattle.dbf_file.specs.Rows.{Row, row_at, text_at, with_text}
+use Rattle.dbf_file.specs.Rows.{with_text}
 use Rattle.dbf_file.specs.Tables.{StructureState, TableState, row_widths, decimals_at}
 use Rattle.dbf_file.specs.Values.{text_by}
 use Rattle.row_keys.specs.Lists.{HasFollowed, IsAsBefore, IsExact}
