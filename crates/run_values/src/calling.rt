@@ -36,6 +36,7 @@ impl Worked {
     }
 
     /// As a value that is lent.
+    #[inline(always)]
     pub(crate) fn lent<'a>(self) -> Lent<'a>
         ensures { result ≡ worked_value self }
     {
@@ -121,6 +122,7 @@ fn of_truths(fun: Fun, first: bool, second: bool) -> Option<Worked>
 }
 
 /// What a function gives of two values of a kind, where that is no text; none of others.
+#[inline(always)]
 fn of_two(fun: Fun, settings: Settings, first: &Lent<'_>, second: &Lent<'_>) -> Option<Worked>
     ensures { IfSome result (λ worked. worked_value worked
         ≡ applied fun settings (by_kind (first.now ∷ second.now ∷ []))) }
@@ -191,6 +193,7 @@ fn of_single(fun: Fun, value: &Lent<'_>) -> Option<Worked>
 
 /// What a function gives of values that are lent, where that is soon worked out; none where it isn't. It takes no
 /// memory.
+#[inline(always)]
 pub(crate) fn worked_out(fun: Fun, settings: Settings, values: &[Lent<'_>]) -> Option<Worked>
     ensures { IfSome result (λ worked. worked_value worked ≡ applied fun settings (by_kind values.now)) }
 {
