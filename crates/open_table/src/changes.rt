@@ -1,6 +1,7 @@
 //! Changes of a table together with its declared indexes.
 
-ghost use Rattle.std.specs.Prelude.{◌≡◌, ℕ, ◌+◌, ◌<◌, ◌≤◌, ◌∷◌, [], ◌++◌, All, OnOk, OnErr, length, map, slice_index, take};
+ghost use Rattle.std.specs.Prelude.{◌≡◌, ℕ, ◌+◌, ◌<◌, ◌≤◌, ◌∷◌, [], ◌++◌, All, OnOk, OnErr};
+ghost use Rattle.std.specs.Prelude.{length, map, slice_index, take};
 ghost use Rattle.dbf_file.specs.Rows.{blank_row, text_at, unmarked, with_text};
 ghost use Rattle.dbf_file.specs.Tables.{row_widths, letter_at, decimals_at};
 ghost use Rattle.dbf_file.specs.Values.{kind_for, text_by};
