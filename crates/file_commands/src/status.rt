@@ -4,7 +4,7 @@
 use crate::refusal::Refusal;
 
 /// How the program exits.
-#[derive(Clone, Copy, PartialEq)]
+#[derive(Clone, Copy, PartialEq, Eq, Debug)]
 pub enum Status {
     /// Finished, accepted or written.
     Done = 0,
