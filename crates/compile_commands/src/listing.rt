@@ -22,7 +22,7 @@ use shape_files::{DeclFault, FILE_LIMIT, ListedShape, list_shape};
 use std::alloc::{AllocError, Global};
 
 /// A fault of a command file, which goes by its number, counted from 0.
-#[derive(Clone, Copy)]
+#[derive(Clone, Copy, PartialEq, Eq, Debug)]
 pub struct FileFault {
     pub file: usize,
     pub fault: SourceFault,

@@ -4,33 +4,27 @@ use prg_compile::CompileFaultKind;
 use prg_parser::ParseFaultKind;
 use shape_files::{ShapeRefusal, file_of};
 use std::fmt;
+use thiserror::Error;
 
 /// What is wrong with a command file.
-#[derive(Clone, Copy)]
+#[derive(Clone, Copy, PartialEq, Eq, Debug, Error)]
 pub enum SourceFault {
     /// There is none of that name.
+    #[error("Absent")]
     Absent,
     /// It is longer than 64 MiB.
+    #[error("TooLong")]
     TooLong,
     /// A line of it can't be read, or a block isn't ended.
+    #[error("line {line} {kind:?}")]
     Parse { line: usize, kind: ParseFaultKind },
     /// A command of it can't be compiled; line 0 where no command is told.
+    #[error("line {line} {kind}")]
     Compile { line: usize, kind: CompileFaultKind },
 }
 
-impl fmt::Display for SourceFault {
-    fn fmt<W: fmt::Write>(&self, f: &mut fmt::Formatter<W>) -> fmt::Result {
-        match self {
-            SourceFault::Absent => f.write_str("Absent"),
-            SourceFault::TooLong => f.write_str("TooLong"),
-            SourceFault::Parse { line, kind } => write!(f, "line {line} {kind:?}"),
-            SourceFault::Compile { line, kind } => write!(f, "line {line} {kind}"),
-        }
-    }
-}
-
 /// Why files aren't compiled. Command files go by their numbers, counted from 0.
-#[derive(Drop)]
+#[derive(PartialEq, Eq, Debug, Drop)]
 pub enum CompileFilesRefusal {
     /// No shape is read.
     Declarations(ShapeRefusal),
@@ -45,7 +39,7 @@ pub enum CompileFilesRefusal {
 }
 
 /// The words of the command line that name files.
-#[derive(Clone, Copy)]
+#[derive(Clone, Copy, Debug)]
 pub struct CompileWords<'a> {
     /// The declaration file.
     pub decl: &'a str,

@@ -3,7 +3,7 @@
 use crate::note::Note;
 
 /// What is told of a file.
-#[derive(Clone, Copy)]
+#[derive(Clone, Copy, PartialEq, Eq, Debug)]
 pub enum FolderLine {
     /// The table of that number is declared.
     Table(usize),

@@ -8,7 +8,7 @@ use prg_expr::{MOST_LETTERS, name_of};
 use shape::Name;
 
 /// What a file is by the ending of its name, in any letter case.
-#[derive(Clone, Copy)]
+#[derive(Clone, Copy, PartialEq, Eq, Debug)]
 pub enum Sort {
     Table,
     Index,

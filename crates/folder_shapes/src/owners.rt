@@ -16,7 +16,7 @@ use shape::laws::fitting_keys_are_keys;
 use std::alloc::{AllocError, Global};
 
 /// To which of several tables an index belongs.
-#[derive(Clone, Copy)]
+#[derive(Clone, Copy, PartialEq, Eq, Debug)]
 pub enum Owner {
     /// To none: no table's fields make its key.
     Nobody,

@@ -4,7 +4,7 @@ use crate::note::Note;
 use std::alloc::{AllocError, AllocFailed};
 
 /// Why a file isn't taken: what is noted of it, or want of memory.
-#[derive(Clone, Copy)]
+#[derive(Clone, Copy, Debug)]
 pub enum Unfit {
     Noted(Note),
     Memory,

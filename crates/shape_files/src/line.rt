@@ -7,7 +7,7 @@ ghost use Rattle.prg_expr.specs.Lexicon.{is_blank_or_tab};
 ghost use Rattle.shape_files.specs.Lines as spec;
 
 /// What a line says.
-#[derive(Clone, Copy)]
+#[derive(Clone, Copy, Debug)]
 pub enum DeclarationLine<'a> {
     /// Nothing: it is empty, or begins with a star.
     Nothing,

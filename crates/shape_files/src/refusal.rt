@@ -5,65 +5,44 @@ ghost use Rattle.shape_files.specs.declared.refusal.LineRefusal.TheVariants as l
 
 use shape::Name;
 use std::alloc::{AllocError, AllocFailed};
-use std::fmt;
+use thiserror::Error;
 
 /// What is wrong with a line. Of a line's faults the one that stands first here is told.
-#[derive(Clone, Copy)]
+#[derive(Clone, Copy, PartialEq, Eq, Debug, Error)]
 pub enum LineFault {
     /// It is neither `TABLE name` nor `INDEX name ON table KEY key`.
+    #[error("Word")]
     Word,
     /// A table or an index can't have the name or another one has it, or no table has the name behind ON.
+    #[error("Name")]
     Name,
     /// The key isn't one that rows of the table can have, or is spelled in more than 100 bytes.
+    #[error("Key")]
     Key,
     /// It is a 33rd table or a 65th index.
+    #[error("Limit")]
     Limit,
     /// The table's file is absent, longer than 64 MiB, or no table's.
+    #[error("Table")]
     Table,
 }
 
-impl LineFault {
-    /// Its name.
-    fn name(self) -> &'static str {
-        match self {
-            LineFault::Word => "Word",
-            LineFault::Name => "Name",
-            LineFault::Key => "Key",
-            LineFault::Limit => "Limit",
-            LineFault::Table => "Table",
-        }
-    }
-}
-
-impl fmt::Display for LineFault {
-    fn fmt<W: fmt::Write>(&self, f: &mut fmt::Formatter<W>) -> fmt::Result {
-        f.write_str(self.name())
-    }
-}
-
 /// What is wrong with a declaration file.
-#[derive(Clone, Copy)]
+#[derive(Clone, Copy, PartialEq, Eq, Debug, Error)]
 pub enum DeclFault {
     /// There is none of that name.
+    #[error("Absent")]
     Absent,
     /// It is longer than 64 MiB.
+    #[error("TooLong")]
     TooLong,
     /// Its first faulty line, counted from 1.
+    #[error("line {line} {fault}")]
     Line { line: usize, fault: LineFault },
 }
 
-impl fmt::Display for DeclFault {
-    fn fmt<W: fmt::Write>(&self, f: &mut fmt::Formatter<W>) -> fmt::Result {
-        match self {
-            DeclFault::Absent => f.write_str("Absent"),
-            DeclFault::TooLong => f.write_str("TooLong"),
-            DeclFault::Line { line, fault } => write!(f, "line {line} {fault}"),
-        }
-    }
-}
-
 /// Why no shape is read.
-#[derive(Drop)]
+#[derive(PartialEq, Eq, Debug, Drop)]
 pub enum ShapeRefusal {
     /// The declaration file is faulty.
     Refused(DeclFault),
@@ -76,7 +55,7 @@ pub enum ShapeRefusal {
 }
 
 /// Why a line isn't taken.
-#[derive(Drop)]
+#[derive(Debug, Drop)]
 pub enum LineRefusal {
     Fault(LineFault),
     /// The device failed at the file of the table of that name.

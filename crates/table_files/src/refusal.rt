@@ -5,52 +5,38 @@ ghost use Rattle.std.specs.Prelude.{◌≡◌};
 use crate::names::FileName;
 use dbf_file::DbfFault;
 use std::alloc::{AllocError, AllocFailed};
-use std::fmt;
+use thiserror::Error;
 
 /// What is wrong with a table's file.
-#[derive(Clone, Copy, PartialEq)]
+#[derive(Clone, Copy, Debug, PartialEq, Eq, Error)]
 pub enum TableFault {
     /// There is none of that name.
+    #[error("Absent")]
     Absent,
     /// It is longer than 64 MiB.
+    #[error("TooLong")]
     TooLong,
     /// It is no table's file.
+    #[error("{0}")]
     OfTable(DbfFault),
     /// Its fields aren't the declared ones.
+    #[error("Structure")]
     Structure,
-}
-
-impl fmt::Display for TableFault {
-    fn fmt<W: fmt::Write>(&self, f: &mut fmt::Formatter<W>) -> fmt::Result {
-        match self {
-            TableFault::Absent => f.write_str("Absent"),
-            TableFault::TooLong => f.write_str("TooLong"),
-            TableFault::OfTable(fault) => write!(f, "{fault}"),
-            TableFault::Structure => f.write_str("Structure"),
-        }
-    }
 }
 
 /// Why tables and indexes aren't loaded or saved: a fault of a table's file, a failure of the device, or want of
 /// memory.
-#[derive(Clone, Copy, PartialEq)]
+#[derive(Clone, Copy, Debug, PartialEq, Eq, Error)]
 pub enum FilesRefusal {
     /// A table's file isn't taken.
+    #[error("refused {name} {fault}")]
     Refused { name: FileName, fault: TableFault },
     /// The device failed at a file.
+    #[error("disk {name}")]
     Disk { name: FileName },
     /// Memory was refused.
+    #[error("memory")]
     Memory,
-}
-
-impl fmt::Display for FilesRefusal {
-    fn fmt<W: fmt::Write>(&self, f: &mut fmt::Formatter<W>) -> fmt::Result {
-        match self {
-            FilesRefusal::Refused { name, fault } => write!(f, "refused {name} {fault}"),
-            FilesRefusal::Disk { name } => write!(f, "disk {name}"),
-            FilesRefusal::Memory => f.write_str("memory"),
-        }
-    }
 }
 
 impl From<AllocError> for FilesRefusal {
