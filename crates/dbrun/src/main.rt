@@ -127,10 +127,10 @@ fn show_faulty<R: Runtime<A = Global>>(
     words: CompileWords<'_>,
 ) {
     let mut folder = Folder::new(rt, Nobody);
-    if let Ok(bytes) = folder.read(rt.alloc(), place.file, FILE_LIMIT)
-        && let Some(line) = line_at(bytes.as_slice(), place.line)
-    {
-        show_line(rt, &mut folder, refusal, words, line);
+    if let Ok(bytes) = folder.read(rt.alloc(), place.file, FILE_LIMIT) {
+        if let Some(line) = line_at(bytes.as_slice(), place.line) {
+            show_line(rt, &mut folder, refusal, words, line);
+        }
     }
 }
 
@@ -842,8 +842,8 @@ fn print_declared<'n, R: Runtime<A = Global>>(
 }
 
 /// Prints the lines of a declaration file.
-fn print_declared_lines<'n>(
-    rt: &impl Runtime,
+fn print_declared_lines<'n, R: Runtime>(
+    rt: &R,
     declared: &FolderDeclared,
     names: &'n [&'n [u8]],
 ) -> Status {
