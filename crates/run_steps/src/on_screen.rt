@@ -13,7 +13,6 @@ ghost use Rattle.run_steps.specs.Executed.{Executed};
 
 use crate::ending::Stop;
 use crate::environment::Environment;
-use crate::on_values::whole;
 use code_items::instr::ScreenInstr;
 use key_lists::KeyList;
 use run_values::Values;
@@ -28,10 +27,8 @@ fn say<V: Values, K: KeyList>(values: &mut V, env: &mut Environment<K>, kind: Ki
 {
     let value = values.top(kind);
     values.discard(kind);
-    let column = whole(&values.top(Kind::Number));
-    values.discard(Kind::Number);
-    let row = whole(&values.top(Kind::Number));
-    values.discard(Kind::Number);
+    let column = values.pop_number().whole();
+    let row = values.pop_number().whole();
     env.say(row, column, &value);
 }
 

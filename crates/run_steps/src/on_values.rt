@@ -1,10 +1,10 @@
 //! Instructions on values, slots and settings.
 
-ghost use Rattle.std.specs.Prelude.{◌≡◌, ◌<◌, length, Some};
+ghost use Rattle.std.specs.Prelude.{◌≡◌, ◌<◌, length};
 ghost use Rattle.code_items.specs.declared.instr.Instr.TheVariants.{Values as OfValues};
 ghost use Rattle.run_values.specs.Tagged.{TaggedValues, pushed};
 ghost use Rattle.xvalue.specs.declared.value.Value.TheVariants.{Date};
-ghost use Rattle.run_steps.specs.Effects.{whole_on_top, value_values, value_env};
+ghost use Rattle.run_steps.specs.Effects.{value_values, value_env};
 ghost use Rattle.run_steps.specs.Needs.{ValueNeeds};
 ghost use Rattle.run_steps.specs.Executed.{Executed};
 
@@ -16,16 +16,6 @@ use code_items::instr::ValueInstr;
 use key_lists::KeyList;
 use run_values::Values;
 use xvalue::Value;
-
-/// The whole part of a number, 0 of the asterisk value.
-pub(crate) fn whole(value: &Value) -> i128
-    ensures { result ≡ whole_on_top (Some value.now) }
-{
-    match value {
-        Value::Number(number) => number.whole(),
-        _ => 0,
-    }
-}
 
 /// Puts a day on the stack. (Apart from the others, since a function's locals are zeroed on entry, and a value is
 /// large.)
