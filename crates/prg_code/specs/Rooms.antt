@@ -6,14 +6,14 @@ use Rattle.prg_code.specs.declared.block.Draft.TheVariants as draft
 use Rattle.prg_code.specs.declared.block.Label.{Label}
 
 -- a count, as far as a number of 64 bits holds it
-abbrev pub counted : ℕ → ℕ
-counted n = min n (2 ^ 64 - 1)
+abbrev pub in_64_bits : ℕ → ℕ
+in_64_bits n = min n (2 ^ 64 - 1)
 
 -- How many instructions a piece becomes, in a procedure with so many slots of its own: a return gives up each of them.
-abbrev pub size_of : ℕ → Draft → ℕ
-size_of own (draft.Label number) = 0
-size_of own draft.Return = own + 1
-size_of own _ = 1
+abbrev pub piece_size : ℕ → Draft → ℕ
+piece_size own (draft.Label number) = 0
+piece_size own draft.Return = own + 1
+piece_size own _ = 1
 
 -- whether a jump leads to the label of this number
 abbrev pub is_jumped : List Label → ℕ → Bool
@@ -27,7 +27,7 @@ maps_at labels _ = 0
 -- those of all pieces of a block
 abbrev pub sizes_of : ℕ → List Draft → ℕ
 sizes_of own [] = 0
-sizes_of own (d ∷ ds) = size_of own d + sizes_of own ds
+sizes_of own (d ∷ ds) = piece_size own d + sizes_of own ds
 
 abbrev pub maps_of : List Label → List Draft → ℕ
 maps_of labels [] = 0

@@ -3,7 +3,7 @@
 ghost use Rattle.std.specs.Prelude.{◌≡◌, ◌≤◌, [], length, IfOk, IfErr};
 ghost use Rattle.prg_code.specs.Growth.{drafts_of};
 ghost use Rattle.prg_code.specs.Numbers.{Grows};
-ghost use Rattle.prg_code.specs.Rooms.{counted, sizes_of, maps_of};
+ghost use Rattle.prg_code.specs.Rooms.{in_64_bits, sizes_of, maps_of};
 ghost use Rattle.prg_code.specs.Rooms as rooms;
 ghost use Rattle.prg_code.specs.declared.fault.CompileFaultKind.TheVariants.{Limit};
 ghost use Rattle.prg_code.specs.declared.fault.CompileRefusal.TheVariants as refusal;
@@ -66,7 +66,7 @@ impl LaidOut {
 
 /// How many instructions a piece has, in a procedure with so many slots of its own.
 fn size_of(draft: Draft, own: usize) -> usize
-    ensures { result ≡ counted (rooms.size_of own draft) }
+    ensures { result ≡ in_64_bits (rooms.piece_size own draft) }
 {
     match draft {
         Draft::Instr(_) => 1,
@@ -103,8 +103,8 @@ fn maps_at(labels: &[Label], draft: Draft) -> usize
 /// How many instructions and maps the block has at most, if it has so many slots of its own.
 #[tactic(auto, using(crate::proofs::Rooms::all_sizes, crate::proofs::Rooms::all_maps))]
 pub fn room_of(block: &DraftBlock, own: usize) -> (usize, usize)
-    ensures instrs { result.0 ≡ counted (sizes_of own (drafts_of block.now)) }
-    ensures maps { result.1 ≡ counted (maps_of block.now.labels.items (drafts_of block.now)) }
+    ensures instrs { result.0 ≡ in_64_bits (sizes_of own (drafts_of block.now)) }
+    ensures maps { result.1 ≡ in_64_bits (maps_of block.now.labels.items (drafts_of block.now)) }
 {
     let mut instrs = 0usize;
     let mut maps = 0usize;

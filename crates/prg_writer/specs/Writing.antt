@@ -58,13 +58,13 @@ parameters_named _ = None
 
 -- the names and commands: where the first command is PARAMETERS, those that it names and the commands behind it; else
 -- none and all commands
-abbrev pub AreNamed : Option (List Letters) → Command → List Command → List (ArrayVec ℕ) → List Command → Type 0
-AreNamed None first behind names others = (names ≡ []) × (others ≡ first ∷ behind)
-AreNamed (Some letters) first behind names others = (map letters_of names ≡ letters) × (others ≡ behind)
+abbrev pub AreParted : Option (List Letters) → Command → List Command → List (ArrayVec ℕ) → List Command → Type 0
+AreParted None first behind names others = (names ≡ []) × (others ≡ first ∷ behind)
+AreParted (Some letters) first behind names others = (map letters_of names ≡ letters) × (others ≡ behind)
 
 abbrev pub AreParameters : List Command → List (ArrayVec ℕ) → List Command → Type 0
 AreParameters [] names others = (names ≡ []) × (others ≡ [])
-AreParameters (first ∷ behind) names others = AreNamed (parameters_named (command_of first)) first behind names others
+AreParameters (first ∷ behind) names others = AreParted (parameters_named (command_of first)) first behind names others
 
 -- ---- what stood at some time, and what was given up
 
