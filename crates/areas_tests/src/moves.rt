@@ -46,26 +46,42 @@ fn is_spent(answer: Result<Landed, Spent>) -> bool {
     answer == Err(Spent)
 }
 
-fn place(key: &[u8], number: u32) -> Option<Entry> {
-    if number == 0 || key.len() > 100 {
-        return None;
-    }
-    Some(Entry::new(key, number))
+// An order, where the place of a record is known; 0 is the end of file.
+trait Placed: RowOrder {
+    fn place(number: u32) -> Option<Self::Place>;
 }
 
-fn skips<O: RowOrder>(order: &mut O, has_keys: bool, case: &Skip) -> bool {
+impl Placed for Records {
+    fn place(number: u32) -> Option<u32> {
+        if number == 0 {
+            return None;
+        }
+        Some(number)
+    }
+}
+
+impl Placed for SortedKeys {
+    fn place(number: u32) -> Option<Entry> {
+        let key = key_of(number);
+        if number == 0 || key.len() > 100 {
+            return None;
+        }
+        Some(Entry::new(key, number))
+    }
+}
+
+fn skips<O: Placed>(order: &mut O, case: &Skip) -> bool {
     let (number, steps, wanted) = *case;
-    let key = if has_keys { key_of(number) } else { b"" };
     let below = wanted.1.saturating_sub(1);
     is_answer(
-        skip(order, place(key, number), steps, &is_shown, wanted.1),
+        skip(order, O::place(number), steps, &is_shown, wanted.1),
         wanted,
-    ) && is_spent(skip(order, place(key, number), steps, &is_shown, below))
+    ) && is_spent(skip(order, O::place(number), steps, &is_shown, below))
 }
 
-fn first_wrong_skip<O: RowOrder>(order: &mut O, has_keys: bool, cases: &[Skip]) -> Option<usize> {
+fn first_wrong_skip<O: Placed>(order: &mut O, cases: &[Skip]) -> Option<usize> {
     for (at, case) in cases.iter().enumerate() {
-        if !skips(order, has_keys, case) {
+        if !skips(order, case) {
             return Some(at);
         }
     }
@@ -178,10 +194,7 @@ fn moves_in_record_order(rt: HostRuntime) -> Result<(), Fail> {
     let mut order = Records { count: 5 };
     assert!(rt; ends(&mut order, (2, 3, false, false), (4, 3, false, false)));
     assert!(rt; nothing_is_shown(&mut order));
-    assert_eq!(rt;
-        first_wrong_skip(&mut order, false, &in_record_order()),
-        None
-    );
+    assert_eq!(rt; first_wrong_skip(&mut order, &in_record_order()), None);
     Ok(())
 }
 
@@ -191,7 +204,7 @@ fn moves_by_a_vector_of_keys(rt: HostRuntime) -> Result<(), Fail> {
     assert!(rt; fill(&mut keys)?);
     assert!(rt; ends(&mut keys, (2, 2, false, false), (4, 2, false, false)));
     assert!(rt; nothing_is_shown(&mut keys));
-    assert_eq!(rt; first_wrong_skip(&mut keys, true, &by_keys()), None);
+    assert_eq!(rt; first_wrong_skip(&mut keys, &by_keys()), None);
     assert_eq!(rt; first_wrong_seek(&mut keys, &texts()), None);
     Ok(())
 }

@@ -134,16 +134,6 @@ pub(crate) fn go_to_end<K: KeyList, F: Fn(&Row<'_>) -> bool>(
     }
 }
 
-/// The place of a record in record order.
-fn bare_entry(pointer: Option<u32>) -> Option<Entry>
-    ensures { result ≡ option_map (λ n. ([], n)) pointer }
-{
-    match pointer {
-        Some(number) => Some(Entry::new(&[], number)),
-        None => None,
-    }
-}
-
 /// The place of a record in the order of an index.
 fn keyed_entry<K: KeyList>(slot: &Slot<K>, table: &Table, pointer: Option<u32>) -> Option<Entry>
     requires { IsKey table.now.structure slot.now.parts }
@@ -158,7 +148,7 @@ fn keyed_entry<K: KeyList>(slot: &Slot<K>, table: &Table, pointer: Option<u32>) 
 /// SKIP in record order.
 fn records_skip<F: Fn(&Row<'_>) -> bool>(
     table: &Table,
-    from: Option<Entry>,
+    pointer: Option<u32>,
     steps: i128,
     see: &F,
     budget: u64,
@@ -166,7 +156,8 @@ fn records_skip<F: Fn(&Row<'_>) -> bool>(
     requires callable { F.IsAlwaysCallable see.now }
     requires few { length table.now.rows ≤ 1000000 }
     ensures { (shown : ℕ → Bool) → ShowsRows (FnReturnsAt F.Fn) see.now table.now.structure table.now.rows shown
-        → IsMove (skipped shown steps from (record_order (length table.now.rows))) budget result }
+        → IsMove (skipped shown steps (option_map (λ n. ([], n)) pointer) (record_order (length table.now.rows)))
+        budget result }
 {
     let mut order = Records {
         count: table.rows() as u32,
@@ -180,14 +171,14 @@ fn records_skip<F: Fn(&Row<'_>) -> bool>(
             → ShowsRows (FnReturnsAt F.Fn) see.entry.now table.entry.now.structure table.entry.now.rows shown
             → result ≡ shown n }
     { shows(see, table, n) };
-    skip_in(&mut order, from, steps, &test, budget)
+    skip_in(&mut order, pointer, steps, &test, budget)
 }
 
 /// SKIP in the order of an index, which isn't stale.
 fn slot_skip<K: KeyList, F: Fn(&Row<'_>) -> bool>(
     slot: &mut Slot<K>,
     table: &Table,
-    from: Option<Entry>,
+    pointer: Option<u32>,
     steps: i128,
     see: &F,
     budget: u64,
@@ -197,10 +188,13 @@ fn slot_skip<K: KeyList, F: Fn(&Row<'_>) -> bool>(
     requires callable { F.IsAlwaysCallable see.now }
     requires few { length table.now.rows ≤ 1000000 }
     ensures lands { (shown : ℕ → Bool) → ShowsRows (FnReturnsAt F.Fn) see.now table.now.structure table.now.rows shown
-        → IsMove (skipped shown steps from (index_list slot.old.parts table.now.rows)) budget result }
+        → IsMove (skipped shown steps
+        (option_map (λ n. (key_of slot.old.parts (row_at table.now.rows (n - 1)).texts, n)) pointer)
+        (index_list slot.old.parts table.now.rows)) budget result }
     ensures same { slot.new ≡ slot.old }
 {
     index_lists();
+    let from = keyed_entry(slot, table, pointer);
     let test = |n: u32| -> bool
         requires callable { F.IsAlwaysCallable see.now }
         requires few { length table.now.rows ≤ 1000000 }
@@ -233,12 +227,11 @@ pub(crate) fn skip<K: KeyList, F: Fn(&Row<'_>) -> bool>(
     ensures same { slots.new.items ≡ slots.old.items }
 {
     match order {
-        None => records_skip(table, bare_entry(pointer), steps, see, budget),
+        None => records_skip(table, pointer, steps, see, budget),
         Some(number) => {
             let place = place_of(slots, number);
             let slot = &mut slots[place];
-            let from = keyed_entry(slot, table, pointer);
-            slot_skip(slot, table, from, steps, see, budget)
+            slot_skip(slot, table, pointer, steps, see, budget)
         }
     }
 }

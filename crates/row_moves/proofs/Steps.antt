@@ -106,16 +106,30 @@ pub hop_met : (forward : Bool) (at : Option Pair) (m : ℕ) (a : Option Pair) (r
 hop_met forward at m None rest = omega arith
 hop_met forward at m (Some q) rest = omega arith
 
--- an answer with the place, the cost and BOF() of a SKIP is the SKIP's
-pub lands_at : (shown : ℕ → Bool) (forward : Bool) (n : ℕ) (from : Option Pair) (pairs : List Pair) (budget : ℕ) (landed : Landed) (at : Option Pair) (cost : ℕ) (bof : Bool)
-    → landed ≡ record { row = option_map (λ p. p.1) at; cost = cost; bof = bof; found = false }
-    → at ≡ (hops shown forward n from pairs).at → cost ≡ 1 + (hops shown forward n from pairs).met → cost ≤ budget → bof ≡ (hops shown forward n from pairs).bof
+-- an answer with the record, the cost and BOF() of a SKIP is the SKIP's
+pub lands_at : (shown : ℕ → Bool) (forward : Bool) (n : ℕ) (from : Option Pair) (pairs : List Pair) (budget : ℕ) (landed : Landed) (row : Option ℕ) (cost : ℕ) (bof : Bool)
+    → landed ≡ record { row = row; cost = cost; bof = bof; found = false }
+    → row ≡ option_map (λ p. p.1) (hops shown forward n from pairs).at → cost ≡ 1 + (hops shown forward n from pairs).met → cost ≤ budget → bof ≡ (hops shown forward n from pairs).bof
     → Lands (hops shown forward n from pairs) budget landed
-lands_at shown forward n from pairs budget landed at cost bof is place paid within start =
+lands_at shown forward n from pairs budget landed row cost bof is place paid within start =
     subst (λ l. Lands (hops shown forward n from pairs) budget l) (sym is) (record {
-      row = ap (option_map (λ p. p.1)) place;
+      row = place;
       cost = paid;
       within = within;
       bof = start;
       found = not_sought shown forward n from pairs;
     })
+
+-- ---- places of an order, each with its pair
+
+pub none_mapped : {P : Type 0} (pair : P → Pair) (at : Option P) → is_none (option_map pair at) ≡ is_none at
+none_mapped pair None = refl
+none_mapped pair (Some p) = refl
+
+pub row_mapped : {P : Type 0} (pair : P → Pair) (at : Option P) → option_map (λ p. (pair p).1) at ≡ option_map (λ (q : Pair). q.1) (option_map pair at)
+row_mapped pair None = refl
+row_mapped pair (Some p) = refl
+
+pub end_mapped : {P : Type 0} (pair : P → Pair) (forward : Bool) (at : Option P) → cond forward None (option_map (λ p. (pair p).1) at) ≡ option_map (λ (q : Pair). q.1) (cond forward None (option_map pair at))
+end_mapped pair true at = refl
+end_mapped pair false at = row_mapped pair at

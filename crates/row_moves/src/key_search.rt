@@ -36,7 +36,7 @@ pub fn seek<K: KeyList, F: Fn(u32) -> bool>(
     }
     let (at, cost) = seek_matching(keys, text, exact, see, budget)?;
     Ok(Landed {
-        row: record_of(&at),
+        row: record_of::<K>(&at),
         cost,
         bof: false,
         found: at.is_some(),

@@ -1,14 +1,14 @@
 //! Moves over rows in an order.
 
 ghost use Rattle.std.specs.Prelude.{◌≡◌, ℕ, ◌≤◌, Bool, true, false, IfOk, option_map};
-ghost use Rattle.key_lists.specs.Order.{IsAscending};
+ghost use Rattle.std.specs.Result.{result_map_both};
+ghost use Rattle.key_lists.specs.Order.{IsAscending, first};
 ghost use Rattle.key_lists.specs.Pairs.{is_before};
 ghost use Rattle.row_moves.specs.Orders.{candidates, MayTry, Sees};
 ghost use Rattle.row_moves.specs.Moves.{IsMove, IsScan, end_of, hops, skipped};
 
-use crate::places::{copied, end_from, is_past, record_of};
+use crate::places::{end_from, is_past, record_of};
 use crate::{Landed, RowOrder, Spent};
-use key_lists::Entry;
 use key_lists::laws::meets_each;
 
 /// TOP: the first shown row, or the end of file.
@@ -39,17 +39,17 @@ pub fn bottom<O: RowOrder, F: Fn(u32) -> bool>(
     go_to_end(order, false, see, budget)
 }
 
-/// SKIP: from a row or the end of file so many shown rows on, or back where the number is below 0.
+/// SKIP: from a place or the end of file so many shown rows on, or back where the number is below 0.
 pub fn skip<O: RowOrder, F: Fn(u32) -> bool>(
     order: &mut O,
-    from: Option<Entry>,
+    from: Option<O::Place>,
     steps: i128,
     see: &F,
     budget: u64,
 ) -> Result<Landed, Spent>
     requires { MayTry F.pre see.now (O.list order.old).pairs }
     ensures lands { (shown : ℕ → Bool) → Sees F.post see.now (O.list order.old).pairs shown
-        → IsMove (skipped shown steps from (O.list order.old).pairs) budget result }
+        → IsMove (skipped shown steps (option_map O.pair from) (O.list order.old).pairs) budget result }
     ensures same { O.list order.new ≡ O.list order.old }
 {
     if steps < 0 {
@@ -76,7 +76,7 @@ fn go_to_end<O: RowOrder, F: Fn(u32) -> bool>(
     }
     let (at, cost) = search(order, forward, &None, see, 1, budget)?;
     Ok(Landed {
-        row: record_of(&at),
+        row: record_of::<O>(&at),
         cost,
         bof: at.is_none(),
         found: false,
@@ -86,7 +86,7 @@ fn go_to_end<O: RowOrder, F: Fn(u32) -> bool>(
 // A number of shown rows on, or back.
 fn go_on<O: RowOrder, F: Fn(u32) -> bool>(
     order: &mut O,
-    from: Option<Entry>,
+    from: Option<O::Place>,
     forward: bool,
     steps: u128,
     see: &F,
@@ -94,7 +94,7 @@ fn go_on<O: RowOrder, F: Fn(u32) -> bool>(
 ) -> Result<Landed, Spent>
     requires { MayTry F.pre see.now (O.list order.old).pairs }
     ensures lands { (shown : ℕ → Bool) → Sees F.post see.now (O.list order.old).pairs shown
-        → IsMove (hops shown forward steps from (O.list order.old).pairs) budget result }
+        → IsMove (hops shown forward steps (option_map O.pair from) (O.list order.old).pairs) budget result }
     ensures same { O.list order.new ≡ O.list order.old }
 {
     order.row_count();
@@ -112,52 +112,65 @@ fn go_on<O: RowOrder, F: Fn(u32) -> bool>(
         cost = met;
         left -= 1;
         if next.is_none() {
-            return Ok(landed(&end_from(forward, at), cost, !forward));
+            return Ok(landed(end_from::<O>(forward, &at), cost, !forward));
         }
         at = next;
     }
-    Ok(landed(&at, cost, false))
+    Ok(landed(record_of::<O>(&at), cost, false))
 }
 
 // Looks on in a direction for a row that is shown. The cost counts the rows met.
 fn search<O: RowOrder, F: Fn(u32) -> bool>(
     order: &mut O,
     forward: bool,
-    from: &Option<Entry>,
+    from: &Option<O::Place>,
     see: &F,
     cost: u64,
     budget: u64,
-) -> Result<(Option<Entry>, u64), Spent>
+) -> Result<(Option<O::Place>, u64), Spent>
     requires ordered { IsAscending is_before (O.list order.old).pairs }
     requires callable { MayTry F.pre see.now (O.list order.old).pairs }
     requires in_budget { cost ≤ budget }
     ensures scan { (shown : ℕ → Bool) → Sees F.post see.now (O.list order.old).pairs shown
-        → IsScan shown (candidates forward from.now (O.list order.old).pairs) cost budget result }
+        → IsScan shown (candidates forward (option_map O.pair from.now) (O.list order.old).pairs) cost budget
+        (result_map_both (λ r. (option_map O.pair r.0, r.1)) (λ spent. spent) result) }
     ensures in_budget { IfOk result (λ r. r.1 ≤ budget) }
     ensures same { O.list order.new ≡ O.list order.old }
 {
     meets_each();
-    let mut at = copied(from);
+    let mut met = first_met(order, forward, from);
     let mut cost = cost;
-    while let Some(entry) = order.next(forward, &at) {
+    while let Some(place) = met {
         if cost == budget {
             return Err(Spent);
         }
         cost += 1;
-        if see(entry.number()) {
-            return Ok((Some(entry), cost));
+        if see(O::number(&place)) {
+            return Ok((Some(place), cost));
         }
-        at = Some(entry);
+        met = order.next(forward, &place);
     }
     Ok((None, cost))
 }
 
-// A place, as a move that sought nothing answers it.
-fn landed(at: &Option<Entry>, cost: u64, bof: bool) -> Landed
-    ensures { result ≡ record { row = option_map (λ p. p.1) at.now; cost = cost; bof = bof; found = false } }
+// The first row in a direction: from a place, or from the start or the end.
+fn first_met<O: RowOrder>(order: &mut O, forward: bool, from: &Option<O::Place>) -> Option<O::Place>
+    ensures found { option_map O.pair result
+        ≡ first (candidates forward (option_map O.pair from.now) (O.list order.old).pairs) }
+    ensures same { O.list order.new ≡ O.list order.old }
+{
+    match from {
+        Some(place) => order.next(forward, place),
+        None => order.outermost(forward),
+    }
+}
+
+// Where a move led that sought nothing.
+fn landed(row: Option<u32>, cost: u64, bof: bool) -> Landed
+    ensures { result ≡ record { row = row; cost = cost; bof = bof; found = false } }
 {
     Landed {
-        row: record_of(at),
+        row,
         cost,
         bof,
         found: false,

@@ -1,39 +1,29 @@
-//! Places of a move: the pair of a row, or none at the end of file.
+//! Places of a move: that of a row, or none at the end of file.
 
 ghost use Rattle.std.specs.Prelude.{◌≡◌, option_map, is_none, ◌&&◌, if◌then◌else◌, None};
 
-use key_lists::Entry;
-
-/// The same place again.
-pub(crate) fn copied(at: &Option<Entry>) -> Option<Entry>
-    ensures { result ≡ at.now }
-{
-    match at {
-        Some(entry) => Some(entry.copied()),
-        None => None,
-    }
-}
+use crate::RowOrder;
 
 /// The record of a place.
-pub(crate) fn record_of(at: &Option<Entry>) -> Option<u32>
-    ensures { result ≡ option_map (λ p. p.1) at.now }
+pub(crate) fn record_of<O: RowOrder>(at: &Option<O::Place>) -> Option<u32>
+    ensures { result ≡ option_map (λ p. (O.pair p).1) at.now }
 {
     match at {
-        Some(entry) => Some(entry.number()),
+        Some(place) => Some(O::number(place)),
         None => None,
     }
 }
 
 /// Whether a move forward begins at the end of file.
-pub(crate) fn is_past(forward: bool, at: &Option<Entry>) -> bool
+pub(crate) fn is_past<P>(forward: bool, at: &Option<P>) -> bool
     ensures { result ≡ (forward && is_none at.now) }
 {
     forward && at.is_none()
 }
 
-/// Where a move ends that finds no row: forward at the end of file, back where it came to.
-pub(crate) fn end_from(forward: bool, at: Option<Entry>) -> Option<Entry>
-    ensures { result ≡ (if forward then None else at) }
+/// The record where a move ends that finds no row: forward none, at the end of file; back that of the place it came to.
+pub(crate) fn end_from<O: RowOrder>(forward: bool, at: &Option<O::Place>) -> Option<u32>
+    ensures { result ≡ (if forward then None else option_map (λ p. (O.pair p).1) at.now) }
 {
-    if forward { None } else { at }
+    if forward { None } else { record_of::<O>(at) }
 }

@@ -1,6 +1,7 @@
-use Rattle.std.proofs.Common.{subst, arith}
+use Rattle.std.proofs.Common.{[], Option, subst, arith, option_map}
 use Rattle.std.proofs.lemmas.Int.{to_z-of_z}
 use Rattle.std.specs.Int.{w128}
+use Rattle.key_lists.specs.Pairs.{Pair}
 use Rattle.row_moves.specs.Orders.{record_order}
 use Rattle.row_moves.specs.Moves.{skipped, IsMove}
 use Rattle.open_table.proofs.TryingLemmas.{in_records}
@@ -11,6 +12,7 @@ skip-requires g c = λ p there. (let within = in_records c.rows.result p there i
 
 pub returns : goal.returns
 returns g c = λ shown sees.
+    let from : Option Pair = option_map (λ n. ([], n)) c.args.pointer in
     let said = c.skip.ensures.lands shown (λ p there r answer. answer shown sees) in
-    subst (λ n. IsMove (skipped shown c.args.steps c.args.from (record_order n)) c.args.budget c.skip.result) c.rows.ensures.count
-    (subst (λ z. IsMove (skipped shown z c.args.from (record_order c.rows.result)) c.args.budget c.skip.result) (to_z-of_z w128 c.args.steps c.ranges.steps) said)
+    subst (λ n. IsMove (skipped shown c.args.steps from (record_order n)) c.args.budget c.skip.result) c.rows.ensures.count
+    (subst (λ z. IsMove (skipped shown z from (record_order c.rows.result)) c.args.budget c.skip.result) (to_z-of_z w128 c.args.steps c.ranges.steps) said)

@@ -1,4 +1,4 @@
-use Rattle.std.proofs.Common.{◌≡◌, ◌-◌, Option, Some, length, get_or, sym, ap, ◌∙◌, subst, rules}
+use Rattle.std.proofs.Common.{◌≡◌, ◌-◌, Option, None, Some, length, get_or, sym, ap, ◌∙◌, subst, rules}
 use Rattle.std.proofs.lemmas.Int.{to_z-of_z}
 use Rattle.std.specs.Int.{w128}
 use Rattle.std.specs.Option.{option_map}
@@ -18,8 +18,7 @@ returns-in-None-clause-lands g c = λ shown sees.
     let order = record_order (length c.args.table.now.rows) in
     let answer = c.records_skip.result in
     subst (λ o. IsMove (skipped shown c.args.steps (pair_at o t c.args.pointer) (order_pairs o t)) c.args.budget answer) (sym c.in-None.is)
-    (subst (λ f. IsMove (skipped shown c.args.steps f order) c.args.budget answer) c.bare_entry.ensures
-    (subst (λ z. IsMove (skipped shown z c.bare_entry.result order) c.args.budget answer) (to_z-of_z w128 c.args.steps c.ranges.steps) (c.records_skip.ensures shown sees)))
+    (subst (λ z. IsMove (skipped shown z (pair_at None t c.args.pointer) order) c.args.budget answer) (to_z-of_z w128 c.args.steps c.ranges.steps) (c.records_skip.ensures shown sees))
 
 pub returns-in-Some-clause-lands : goal.returns-in-Some-clause-lands
 returns-in-Some-clause-lands g c = λ shown sees.
@@ -32,5 +31,4 @@ returns-in-Some-clause-lands g c = λ shown sees.
     let found = c.place_of-place.ensures.here slot ∙ ap (λ (s : SlotState). Some (mark_of s)) at in
     subst (λ o. IsMove (skipped shown c.args.steps (pair_at o t c.args.pointer) (order_pairs o t)) c.args.budget answer) (sym c.in-Some.is)
     (subst (λ (m : Option IndexMark). IsMove (skipped shown c.args.steps (option_map (λ n. (key_of (parts_in m) (row_at rows (n - 1)).texts, n)) c.args.pointer) (index_list (parts_in m) rows)) c.args.budget answer) (sym found)
-    (subst (λ f. IsMove (skipped shown c.args.steps f (index_list slot.parts rows)) c.args.budget answer) c.keyed_entry-from.ensures
-    (subst (λ z. IsMove (skipped shown z c.keyed_entry-from.result (index_list slot.parts rows)) c.args.budget answer) (to_z-of_z w128 c.args.steps c.ranges.steps) (c.slot_skip.ensures.lands shown sees))))
+    (subst (λ z. IsMove (skipped shown z (option_map (λ n. (key_of slot.parts (row_at rows (n - 1)).texts, n)) c.args.pointer) (index_list slot.parts rows)) c.args.budget answer) (to_z-of_z w128 c.args.steps c.ranges.steps) (c.slot_skip.ensures.lands shown sees)))

@@ -23,5 +23,6 @@ returns-clause-lands g c = λ shown sees.
     let rows = c.args.table.now.rows in
     let slot = c.args.slot.now in
     let pairs = index_list slot.parts rows in
-    from_some (λ (x : IndexState). x.pairs ≡ pairs) _ (IsMove (skipped shown c.args.steps c.args.from pairs) c.args.budget c.skip.result) slot.index c.requires.fresh (slot_list s rows slot c.requires.exact) (c.skip.ensures.lands shown)
-    (λ x e said. subst (λ ps. IsMove (skipped shown c.args.steps c.args.from ps) c.args.budget c.skip.result) e (subst (λ z. IsMove (skipped shown z c.args.from x.pairs) c.args.budget c.skip.result) (to_z-of_z w128 c.args.steps c.ranges.steps) (said (λ p there r answer. answer shown sees))))
+    subst (λ f. IsMove (skipped shown c.args.steps f pairs) c.args.budget c.skip.result) c.keyed_entry-from.ensures
+    (from_some (λ (x : IndexState). x.pairs ≡ pairs) _ (IsMove (skipped shown c.args.steps c.keyed_entry-from.result pairs) c.args.budget c.skip.result) slot.index c.requires.fresh (slot_list s rows slot c.requires.exact) (c.skip.ensures.lands shown)
+    (λ x e said. subst (λ ps. IsMove (skipped shown c.args.steps c.keyed_entry-from.result ps) c.args.budget c.skip.result) e (subst (λ z. IsMove (skipped shown z c.keyed_entry-from.result x.pairs) c.args.budget c.skip.result) (to_z-of_z w128 c.args.steps c.ranges.steps) (said (λ p there r answer. answer shown sees)))))

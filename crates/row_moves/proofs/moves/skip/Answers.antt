@@ -1,4 +1,4 @@
-use Rattle.std.proofs.Common.{◌≡◌, ℤ, pos, negsuc, ℕ, Bool, true, false, List, Option, refl, sym, ◌∙◌, subst, arith, unsigned_abs}
+use Rattle.std.proofs.Common.{◌≡◌, ℤ, pos, negsuc, ℕ, Bool, true, false, List, Option, refl, sym, ◌∙◌, subst, arith, unsigned_abs, option_map}
 use Rattle.std.proofs.lemmas.Int.{to_z-of_z}
 use Rattle.std.proofs.lemmas.Bool.{false≢true, le-ltb}
 use Rattle.std.specs.Int.{w128}
@@ -17,4 +17,4 @@ returns-then-steps-lt0-clause-lands g c = λ shown sees.
     let size = rw (to_z-of_z w128 c.args.steps c.ranges.steps) at c.unsigned_abs.ensures.value in
     let below = rw (to_z-of_z w128 c.args.steps c.ranges.steps) at c.if-steps-lt0.true in
     let pairs : List Pair = (g.O.RowOrder.list c.args.order.now).pairs in
-    subst (λ l. IsMove l c.args.budget c.go_on.result) (back shown c.args.steps c.args.from pairs c.unsigned_abs.result below size) (c.go_on.ensures.lands shown sees)
+    subst (λ l. IsMove l c.args.budget c.go_on.result) (back shown c.args.steps (option_map g.O.RowOrder.pair c.args.from) pairs c.unsigned_abs.result below size) (c.go_on.ensures.lands shown sees)
