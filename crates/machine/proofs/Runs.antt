@@ -7,6 +7,7 @@ use Rattle.work_area.specs.Shapes.{StoreHasShape}
 use Rattle.code_items.specs.declared.code.Code.{Code}
 use Rattle.run_values.specs.Standing.{IsByKind}
 use Rattle.run_steps.specs.declared.ending.Outcome.{Outcome}
+use Rattle.run_steps.specs.Tables.{IsDecoded}
 use Rattle.run_steps.specs.World.{World, with_lines}
 use Rattle.run_steps.specs.Run.{step_of, after, spent, IsNoFault, IsFault, Ran, Stands, Ends}
 use Rattle.run_steps.specs.Opening.{opening}
@@ -46,7 +47,7 @@ agrees b w s = record {
 
 -- where an opening fits what is known, banks that agree with it can go on
 pub begun : (code : Code) (w : World) (b : BankState) → ((store : StoreState) (lines : List (List ℕ)) (today : Option DayParts) → StoreFits code.declared store → IsFitting code (opening code store lines today)) → Begins code w b → Twin code w b
-begun code w b opens s = record { agrees = s.agrees; fits = subst (IsFitting code) (sym s.opens) (opens s.store s.lines s.today s.declared) }
+begun code w b opens s = record { agrees = s.agrees; fits = subst (IsFitting code) (sym s.opens) (opens s.store s.lines s.today s.declared); decoded = s.decoded }
 
 -- ---- the run
 
@@ -62,9 +63,9 @@ pub record Laws (code : Code) : Type 0 where
   pub few : (w : World) (n : ℕ) (v : World) → after code w n ≡ Some v → n ≤ spent code w n
 
 unfoldable pub headline : (code : Code) → Laws code → (from : World) (budget : ℕ) (outcome : Outcome) (b : BankState)
-    → IsFitting code from → OpenIndexesList b.env.store
+    → IsFitting code from → OpenIndexesList b.env.store → IsDecoded code b.decoded
     → Ends code from budget outcome (IsByKind b.values) b.place b.returns b.env → Headline code from budget outcome b
-headline code laws from budget outcome b fit lists ends =
+headline code laws from budget outcome b fit lists decoded ends =
     let there = laws.fits from fit ends.ran.count ends.last ends.ran.reached in
     let same = agrees b ends.last ends.stands in
     let safe = laws.safe from fit in
@@ -82,16 +83,16 @@ headline code laws from budget outcome b fit lists ends =
       keeps_tables_and_indexes = λ shape h. subst (λ s. StoreHasShape shape s) (sym same.store) (kept shape code from ends.ran.count ends.last (laws.keeps shape) ends.ran.reached h);
       lists_keys = lists;
       as_declared = subst (λ s. StoreFits code.declared s) (sym same.store) there.shape.store;
-      goes_on = record { agrees = same; fits = there };
+      goes_on = record { agrees = same; fits = there; decoded = decoded };
     }
 
 -- ---- pauses
 
 unfoldable pub paused : (code : Code) → Laws code → (from : World) (budget steps : ℕ) (b : BankState)
-    → IsFitting code from → OpenIndexesList b.env.store
+    → IsFitting code from → OpenIndexesList b.env.store → IsDecoded code b.decoded
     → (p : Pauses code from budget steps (IsByKind b.values) b.place b.returns b.env)
     → PausesAt code from budget steps b
-paused code laws from budget steps b fit lists p =
+paused code laws from budget steps b fit lists decoded p =
     let there = laws.fits from fit p.came.count p.last p.came.reached in
     let same = agrees b p.last p.stands in
     let safe = laws.safe from fit in
@@ -108,19 +109,19 @@ paused code laws from budget steps b fit lists p =
       keeps_tables_and_indexes = λ shape h. subst (λ s. StoreHasShape shape s) (sym same.store) (kept shape code from p.came.count p.last (laws.keeps shape) p.came.reached h);
       lists_keys = lists;
       as_declared = subst (λ s. StoreFits code.declared s) (sym same.store) there.shape.store;
-      goes_on = record { agrees = same; fits = there };
+      goes_on = record { agrees = same; fits = there; decoded = decoded };
     }
 
 pub goes_to : (code : Code) → Laws code → (from : World) (budget : ℕ) (marks : List Bool) (leg : Leg) (b : BankState)
-    → IsFitting code from → OpenIndexesList b.env.store
+    → IsFitting code from → OpenIndexesList b.env.store → IsDecoded code b.decoded
     → IsLeg code from budget marks leg (IsByKind b.values) b.place b.returns b.env → GoesTo code from budget marks leg b
 unfolding headline paused
-goes_to code laws from budget marks (Ended outcome) b fit lists g =
-    (headline code laws from budget outcome b fit lists g.0, g.1)
-goes_to code laws from budget marks (Waits steps) b fit lists g =
-    (paused code laws from budget steps b fit lists g.0, g.1)
-goes_to code laws from budget marks (Marked steps) b fit lists g =
-    (paused code laws from budget steps b fit lists g.0, g.1)
+goes_to code laws from budget marks (Ended outcome) b fit lists decoded g =
+    (headline code laws from budget outcome b fit lists decoded g.0, g.1)
+goes_to code laws from budget marks (Waits steps) b fit lists decoded g =
+    (paused code laws from budget steps b fit lists decoded g.0, g.1)
+goes_to code laws from budget marks (Marked steps) b fit lists decoded g =
+    (paused code laws from budget steps b fit lists decoded g.0, g.1)
 
 -- ---- lines
 
@@ -140,6 +141,7 @@ more_lines code w b lines t out = record {
     today = t.agrees.today;
     values = t.agrees.values;
   };
+  decoded = t.decoded;
   fits = record {
     shape = record { place = t.fits.shape.place; state = t.fits.shape.state; calls = t.fits.shape.calls; store = t.fits.shape.store };
     apart = t.fits.apart;

@@ -5,21 +5,25 @@ use Rattle.work_area.specs.Areas.{StoreState}
 use Rattle.code_items.specs.declared.code.Code.{Code}
 use Rattle.run_values.specs.declared.untagged.Untagged.{Untagged}
 use Rattle.run_values.specs.Standing.{IsByKind}
+use Rattle.run_steps.specs.declared.decoding.Decoded.{Decoded}
+use Rattle.run_steps.specs.Tables.{IsDecoded}
 use Rattle.run_steps.specs.World.{World, EnvState}
 use Rattle.run_steps.specs.Opening.{opening}
 use Rattle.run_steps.specs.Shapes.{StoreFits}
 use Rattle.fit_laws.specs.Fits.{IsFitting}
 
 -- the place of the next instruction, the places behind calls that haven't returned, values without tags, and all else
--- that a run changes
+-- that a run changes; and what the code is decoded to
 pub record BankState : Type 0 where
   pub place : ℕ
   pub returns : List ℕ
   pub values : Untagged
   pub env : EnvState
+  pub decoded : Decoded
 
-abbrev pub banks_of : ℕ → List ℕ → Untagged → EnvState → BankState
-banks_of place returns values env = record { place = place; returns = returns; values = values; env = env }
+abbrev pub banks_of : ℕ → List ℕ → Untagged → EnvState → Decoded → BankState
+banks_of place returns values env decoded =
+    record { place = place; returns = returns; values = values; env = env; decoded = decoded }
 
 -- all is equal but the values. The store is its tables (rows, stale marks, open indexes, orders, pointers, and the
 -- answers of BOF() and FOUND()), what the ten areas hold, the selected area and the limit of records. Each kind's stack
@@ -36,13 +40,14 @@ pub record AgreesWith (b : BankState) (w : World) : Type 0 where
   pub values : IsByKind b.values w.values
 
 -- they agree with a world in which all is so as the verifier knows it at the world's place, and each procedure that
--- runs was called from where it returns to
+-- runs was called from where it returns to; and they hold what this code is decoded to
 pub record Twin (code : Code) (w : World) (b : BankState) : Type 0 where
   pub agrees : AgreesWith b w
   pub fits : IsFitting code w
+  pub decoded : IsDecoded code b.decoded
 
 -- they agree with the world from which a run of the code begins over some tables of the declared structures, with some
--- lines of the operator, on some day
+-- lines of the operator, on some day; and they hold what this code is decoded to
 pub record Begins (code : Code) (w : World) (b : BankState) : Type 0 where
   pub store : StoreState
   pub lines : List (List ℕ)
@@ -50,3 +55,4 @@ pub record Begins (code : Code) (w : World) (b : BankState) : Type 0 where
   pub declared : StoreFits code.declared store
   pub opens : w ≡ opening code store lines today
   pub agrees : AgreesWith b w
+  pub decoded : IsDecoded code b.decoded

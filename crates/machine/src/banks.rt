@@ -21,7 +21,7 @@ use code_items::instr::Instr;
 use fit_laws::laws::fitting_worlds_are_safe_here;
 use key_lists::KeyList;
 use line_journal::KeptLine;
-use run_steps::Machine;
+use run_steps::{Decoded, Machine};
 use run_values::Untagged;
 use screen_lines::Screen;
 use std::alloc::{AllocError, Global};
@@ -31,10 +31,11 @@ use work_area::Store;
 use xverify::Verified;
 
 /// What a run of accepted code changes: values without tags, places, tables, screen, lines of the operator and
-/// settings.
+/// settings; and what the code is decoded to.
 #[derive(Drop)]
 pub struct Banks<K: KeyList> {
     pub(crate) machine: Machine<Untagged, K>,
+    pub(crate) decoded: Decoded,
 }
 
 impl<K: KeyList> Model for Banks<K> {
@@ -42,13 +43,14 @@ impl<K: KeyList> Model for Banks<K> {
 
     ghost Value = { BankState };
 
-    ghost view = { λ b. banks_of b.machine.place b.machine.returns b.machine.values b.machine.env };
+    ghost view = { λ b. banks_of b.machine.place b.machine.returns b.machine.values b.machine.env b.decoded };
 }
 
 impl<K: KeyList> Banks<K> {
     /// The banks from which a run of the code begins: at place 0, with all slots unset and nothing on the stacks, these
     /// tables with all areas closed, these lines of the operator, a blank screen and all settings off, on this day.
-    /// They take the memory for slots and stacks, so that values take none in a run.
+    /// They take the memory for slots and stacks, so that values take none in a run. The code is decoded here, once for
+    /// all parts of the run, as far as there is memory.
     pub fn opening(
         alloc: Global,
         verified: &Verified,
@@ -62,6 +64,7 @@ impl<K: KeyList> Banks<K> {
         let values = Untagged::new(alloc, usize::from(verified.code().declared.slots))?;
         Ok(Banks {
             machine: Machine::opening(alloc, values, store, lines, today)?,
+            decoded: Decoded::of(alloc, verified.code()),
         })
     }
 

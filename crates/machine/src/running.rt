@@ -36,7 +36,13 @@ fn go_on<K: KeyList>(alloc: Global, code: &Code, banks: &mut Banks<K>, budget: u
     tables_keep_their_kind();
     runs_cost_their_steps();
     safe_runs_meet_no_fault();
-    let outcome = run_untested(alloc, code, &mut banks.machine, budget);
+    let outcome = run_untested(
+        alloc,
+        code,
+        &mut banks.decoded,
+        &mut banks.machine,
+        budget,
+    );
     banks.machine.store().open_indexes_list_keys();
     outcome
 }
@@ -76,7 +82,8 @@ pub fn run<K: KeyList>(
 
 /// Goes on as `resume` does, and pauses where the next instruction takes a line of the operator, none is left, and its
 /// cost fits what is left of the budget (whether it is spent is judged first); and, behind at least one step, before an
-/// instruction at a marked place. No step that was taken took a line where none was left. At a pause the banks agree
+/// instruction at a marked place; marks are for instructions on the screen, and others may be passed over within a
+/// block. No step that was taken took a line where none was left. At a pause the banks agree
 /// with the world before the next step, and a run may go on from there. What pieces of a run come to together are the
 /// laws `lines_behind_change_no_step` and `pieces_make_the_whole` of `run_laws`.
 pub fn resume_to_line<K: KeyList>(
@@ -114,7 +121,14 @@ fn go_to_line<K: KeyList>(
     tables_keep_their_kind();
     runs_cost_their_steps();
     safe_runs_meet_no_fault();
-    let leg = run_to_line(alloc, code, marks, &mut banks.machine, budget);
+    let leg = run_to_line(
+        alloc,
+        code,
+        &mut banks.decoded,
+        marks,
+        &mut banks.machine,
+        budget,
+    );
     banks.machine.store().open_indexes_list_keys();
     leg
 }

@@ -21,6 +21,7 @@ mod registers;
 mod returns;
 pub mod running;
 
+pub use decoding::Decoded;
 pub use ending::{End, Outcome, Stop};
 pub use environment::Environment;
 pub use fault::FaultKind;

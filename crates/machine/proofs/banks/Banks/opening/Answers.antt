@@ -3,6 +3,7 @@ use Rattle.std.specs.Prelude.{replicate}
 use Rattle.code_items.specs.declared.code.Code.{Code}
 use Rattle.run_values.specs.Standing.{IsByKind}
 use Rattle.run_steps.specs.Opening.{opening}
+use Rattle.run_steps.specs.Tables.{IsDecoded}
 use Rattle.machine.specs.Twins.{banks_of}
 use Rattle.machine.proofs.Runs.{agrees}
 use Rattle.machine.proofs.banks.Banks.opening.Goals as goal
@@ -18,5 +19,6 @@ returns g c =
       today = c.args.today;
       declared = c.requires;
       opens = refl;
-      agrees = agrees (banks_of m.place m.returns m.values m.env) (opening code c.args.store c.args.lines c.args.today) (c.in_ok-opening.ensures code free);
+      agrees = agrees (banks_of m.place m.returns m.values m.env c.of.result) (opening code c.args.store c.args.lines c.args.today) (c.in_ok-opening.ensures code free);
+      decoded = subst (λ k. IsDecoded k c.of.result) c.code-2.ensures.same c.of.ensures;
     }
