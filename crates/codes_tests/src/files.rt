@@ -141,11 +141,12 @@ fn in_declarations() -> &'static [(usize, u8, Option<CodeFault>)] {
         (78, 16, Some(CodeFault::Shape)),
         (79, 2, Some(CodeFault::Shape)),
         (79, 1, None),
-        // The filter's table, length, slot and kind.
+        // The filter's table, length, slot and kind; a need has a kind.
         (88, 2, Some(CodeFault::Shape)),
         (89, 4, Some(CodeFault::Shape)),
         (93, 2, Some(CodeFault::Shape)),
         (94, 5, Some(CodeFault::Shape)),
+        (94, 0, Some(CodeFault::Shape)),
     ]
 }
 

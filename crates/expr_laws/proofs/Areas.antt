@@ -146,26 +146,40 @@ table_is : (x : Option TableShape) → on_some x [] (λ t. t.fields) ≡ fields_
 table_is None = refl
 table_is (Some t) = refl
 
-within : {A : Type 0} (xs : List A) (n : ℕ) (x : A) → slice_get xs n ≡ Some x → n < length xs
+pub within : {A : Type 0} (xs : List A) (n : ℕ) (x : A) → slice_get xs n ≡ Some x → n < length xs
 within [] n x e = none_some _ x e
 within (y ∷ xs) zero x e = omega arith
 within (y ∷ xs) (suc n) x e = omega (arith, within xs n x e)
 
-past : (m n : ℕ) → n < m → nat_le m n ≡ false
+pub past : (m n : ℕ) → n < m → nat_le m n ≡ false
 past m n lt = by (nat_le m n) refl
   where
     by : (b : Bool) → nat_le m n ≡ b → nat_le m n ≡ false
     by true e = absurd (omega (arith, lt, leb-true m n e))
     by false e = e
 
--- a field that is found among those of the table that an area holds has the kind that is declared
+-- a field that is found by its name among those of a declared table
+declared_at : (d : Declared) (t : ℕ) (name : List ℕ) (f : FieldPlace) → field_named (table_fields d.shape t) name ≡ Some f
+    → (field : Field) × (slice_get (fields_declared (slice_get d.shape.tables t)) f.number ≡ Some field) × (kind_for field.letter ≡ f.kind)
+declared_at d t name f e =
+    let w = field_there (table_fields d.shape t) name f e in
+    let number : f.number ≡ w.index = omega (arith, w.number) in (
+      w.field,
+      ap (slice_get (fields_declared (slice_get d.shape.tables t))) number ∙ ap (λ (xs : List Field). slice_get xs w.index) (sym (table_is (slice_get d.shape.tables t))) ∙ w.at,
+      w.kind,
+    )
+
+-- the table that an area holds has it
+pub field_declared : (d : Declared) (s : StoreState) (n : ℕ) (o : OpenThere d s n) (name : List ℕ) (f : FieldPlace) → field_named (table_fields d.shape o.use_of.table) name ≡ Some f → no_field d (desk_of s) n f.number ≡ false
+field_declared d s n o name f e =
+    let fs = fields_declared (slice_get d.shape.tables o.use_of.table) in
+    let w = declared_at d o.use_of.table name f e in
+    ap (fails_if_open (λ b. nat_le (length (fields_at d (Some b))) f.number)) o.known ∙ past (length fs) f.number (within fs f.number w.0 w.1)
+
+-- and with the kind that is declared
 pub field_is_of_kind : (d : Declared) (s : StoreState) (n : ℕ) (fits : StoreFits d s) (o : OpenThere d s n) (name : List ℕ) (f : FieldPlace) → field_named (table_fields d.shape o.use_of.table) name ≡ Some f → kind_of (field_of f.number o.table) ≡ f.kind
 field_is_of_kind d s n fits o name f e =
-    let w = field_there (table_fields d.shape o.use_of.table) name f e in
-    let fs = fields_declared (slice_get d.shape.tables o.use_of.table) in
-    let number : f.number ≡ w.index = omega (arith, w.number) in
-    let at : slice_get fs f.number ≡ Some w.field = ap (slice_get fs) number ∙ ap (λ (xs : List Field). slice_get xs w.index) (sym (table_is (slice_get d.shape.tables o.use_of.table))) ∙ w.at in
-    let has : no_field d (desk_of s) n f.number ≡ false = ap (fails_if_open (λ b. nat_le (length (fields_at d (Some b))) f.number)) o.known ∙ past (length fs) f.number (within fs f.number w.field at) in
-    let known : Some (kind_for w.field.letter) ≡ Some (kind_for (letter_at o.table.table.structure f.number)) =
-    ap kind_of_field (sym at) ∙ ap (λ x. kind_of_field (slice_get (fields_at d x) f.number)) (sym o.known) ∙ field_known d s n f.number fits o has in
-    value_of_field o.table f.number ∙ sym (some_same (kind_for w.field.letter) (kind_for (letter_at o.table.table.structure f.number)) known) ∙ w.kind
+    let w = declared_at d o.use_of.table name f e in
+    let known : Some (kind_for w.0.letter) ≡ Some (kind_for (letter_at o.table.table.structure f.number)) =
+    ap kind_of_field (sym w.1) ∙ ap (λ x. kind_of_field (slice_get (fields_at d x) f.number)) (sym o.known) ∙ field_known d s n f.number fits o (field_declared d s n o name f e) in
+    value_of_field o.table f.number ∙ sym (some_same (kind_for w.0.letter) (kind_for (letter_at o.table.table.structure f.number)) known) ∙ w.2

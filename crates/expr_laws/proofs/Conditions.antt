@@ -52,21 +52,25 @@ use Rattle.expr_laws.proofs.Names.{is_load, is_asked}
 use Rattle.expr_laws.proofs.Options.{some_same, none_some, found}
 use Rattle.expr_laws.proofs.Trees.{leads}
 
+-- the block's tests are made before it runs
+abbrev untested : Instr → List Value → Type 0
+untested i st = Unit {0}
+
 -- ---- variables
 
-loaded_puts : (code : Code) (v : Viewer) (r : TriedRow) (k : Kind) (slot : ℕ) (x : Option (Option Value)) → slice_get v.slots slot ≡ x → HoldsKind k x → Puts (row_puts code v r) (record { instr = Values (value_instr.Load k slot); kind = k }) (slot_value x)
+loaded_puts : (code : Code) (v : Viewer) (r : TriedRow) (k : Kind) (slot : ℕ) (x : Option (Option Value)) → slice_get v.slots slot ≡ x → HoldsKind k x → Puts (row_puts code v r) untested (record { instr = Values (value_instr.Load k slot); kind = k }) (slot_value x)
 loaded_puts code v r k slot None at h = absurd h
 loaded_puts code v r k slot (Some None) at h = absurd h
-loaded_puts code v r k slot (Some (Some c)) at h = record { kind = h; put = λ st. ap (λ x. put_held x st) at }
+loaded_puts code v r k slot (Some (Some c)) at h = record { kind = h; put = λ st. ap (λ x. put_held x st) at; passes = λ st. tt }
 
-variable_puts : (code : Code) (s : Scoped) (v : Viewer) (r : TriedRow) (name : List ℕ) (x : Reading) → variable s name ≡ Some x → slot_fits v.slots x.instr → Puts (row_puts code v r) x (variable_value s.names v.slots name)
+variable_puts : (code : Code) (s : Scoped) (v : Viewer) (r : TriedRow) (name : List ℕ) (x : Reading) → variable s name ≡ Some x → slot_fits v.slots x.instr → Puts (row_puts code v r) untested x (variable_value s.names v.slots name)
 variable_puts code s v r name x is fit =
     let w = found (slot_named s.names name) (λ slot. loads slot (slice_get s.state.slots slot)) x is in
     let l = is_load (slice_get s.state.slots w.a) w.a x w.made in
     let fit' : HoldsKind l.kind (slice_get v.slots w.a) = subst (λ (y : Reading). slot_fits v.slots y.instr) (sym l.is) fit in
     let puts = loaded_puts code v r l.kind w.a (slice_get v.slots w.a) refl fit' in
-    subst (λ (y : Option ℕ). Puts (row_puts code v r) x (on_some y nothing (λ slot. slot_value (slice_get v.slots slot)))) (sym w.there)
-    (subst (λ (y : Reading). Puts (row_puts code v r) y (slot_value (slice_get v.slots w.a))) l.is puts)
+    subst (λ (y : Option ℕ). Puts (row_puts code v r) untested x (on_some y nothing (λ slot. slot_value (slice_get v.slots slot)))) (sym w.there)
+    (subst (λ (y : Reading). Puts (row_puts code v r) untested y (slot_value (slice_get v.slots w.a))) l.is puts)
 
 -- ---- fields of the row
 
@@ -105,16 +109,16 @@ module _ (code : Code) (s : Scoped) (v : Viewer) (number table : ℕ) (r : Tried
   fields_are = ap (λ (x : Shape). table_fields x filter.area.table) filter.shape ∙ ap (table_fields code.declared.shape) filter.holds
 
   field_puts : (area : ℕ) (name : List ℕ) (f : FieldPlace) (x : Reading) (other : Value) → field_named (table_fields code.declared.shape table) name ≡ Some f → field_reading s area f ≡ Some x
-      → Puts (row_puts code v r) x (row_value code.declared.shape table r name other)
+      → Puts (row_puts code v r) untested x (row_value code.declared.shape table r name other)
   field_puts area name f x other there is =
       let w = of_row s area f x filter.inside is in
       let t = field_there (table_fields code.declared.shape table) name f there in
       let n : f.number ≡ t.index = omega (arith, t.number) in
       let kind : kind_of (row_field f.number r) ≡ f.kind = ap (λ (m : ℕ). kind_of (row_field m r)) n ∙ row_kind r (table_fields code.declared.shape table) t.index t.field row.fields t.at ∙ t.kind in
-      let puts : Puts (row_puts code v r) (record { instr = Records (record_instr.RowField f.number); kind = f.kind }) (row_field f.number r) = record { kind = kind; put = λ st. refl } in
-      subst (λ (y : Option FieldPlace). Puts (row_puts code v r) x (on_some y other (λ g. row_field g.number r))) (sym there) (subst (λ (y : Reading). Puts (row_puts code v r) y (row_field f.number r)) w.is puts)
+      let puts : Puts (row_puts code v r) untested (record { instr = Records (record_instr.RowField f.number); kind = f.kind }) (row_field f.number r) = record { kind = kind; put = λ st. refl; passes = λ st. tt } in
+      subst (λ (y : Option FieldPlace). Puts (row_puts code v r) untested x (on_some y other (λ g. row_field g.number r))) (sym there) (subst (λ (y : Reading). Puts (row_puts code v r) untested y (row_field f.number r)) w.is puts)
 
-  name_puts : (name : List ℕ) (x : Reading) → read_name s name ≡ Some x → slot_fits v.slots x.instr → Puts (row_puts code v r) x (row_value code.declared.shape table r name (variable_value s.names v.slots name))
+  name_puts : (name : List ℕ) (x : Reading) → read_name s name ≡ Some x → slot_fits v.slots x.instr → Puts (row_puts code v r) untested x (row_value code.declared.shape table r name (variable_value s.names v.slots name))
   unfolding read_name
   name_puts name x is fit =
       let w = found (field_here s name) (here_reading s name) x is in
@@ -122,11 +126,11 @@ module _ (code : Code) (s : Scoped) (v : Viewer) (number table : ℕ) (r : Tried
       let same : field_named (table_fields code.declared.shape table) name ≡ w.a = ap (λ (fs : List Field). field_named fs name) (sym fields_are) ∙ some_same (field_in s.shape filter.area name) w.a known in
       by w.a same w.made
     where
-      by : (y : Option FieldPlace) → field_named (table_fields code.declared.shape table) name ≡ y → here_reading s name y ≡ Some x → Puts (row_puts code v r) x (row_value code.declared.shape table r name (variable_value s.names v.slots name))
-      by None there e = subst (λ (y : Option FieldPlace). Puts (row_puts code v r) x (on_some y (variable_value s.names v.slots name) (λ f. row_field f.number r))) (sym there) (variable_puts code s v r name x e fit)
+      by : (y : Option FieldPlace) → field_named (table_fields code.declared.shape table) name ≡ y → here_reading s name y ≡ Some x → Puts (row_puts code v r) untested x (row_value code.declared.shape table r name (variable_value s.names v.slots name))
+      by None there e = subst (λ (y : Option FieldPlace). Puts (row_puts code v r) untested x (on_some y (variable_value s.names v.slots name) (λ f. row_field f.number r))) (sym there) (variable_puts code s v r name x e fit)
       by (Some f) there e = field_puts s.state.desk.selected name f x (variable_value s.names v.slots name) there e
 
-  area_puts : (name : List ℕ) (n : ℕ) (state : AreaState) (x : Reading) → area_at s.state.desk n ≡ state → field_of_area s name n state ≡ Some x → Puts (row_puts code v r) x (row_value code.declared.shape table r name nothing)
+  area_puts : (name : List ℕ) (n : ℕ) (state : AreaState) (x : Reading) → area_at s.state.desk n ≡ state → field_of_area s name n state ≡ Some x → Puts (row_puts code v r) untested x (row_value code.declared.shape table r name nothing)
   area_puts name n Closed x at e = none_some _ x e
   area_puts name n Unsure x at e = none_some _ x e
   area_puts name n (IsOpen a) x at e =
@@ -140,12 +144,12 @@ module _ (code : Code) (s : Scoped) (v : Viewer) (number table : ℕ) (r : Tried
       open_same a b e = cc
 
   alias_puts : (alias name : List ℕ) (x : Reading) → read_qualified s alias name ≡ Some x → slot_fits v.slots x.instr
-      → Puts (row_puts code v r) x (if bytes_eq alias (codes "M") then variable_value s.names v.slots name else row_value code.declared.shape table r name nothing)
+      → Puts (row_puts code v r) untested x (if bytes_eq alias (codes "M") then variable_value s.names v.slots name else row_value code.declared.shape table r name nothing)
   unfolding read_qualified
   alias_puts alias name x is fit = by (bytes_eq alias (codes "M")) is
     where
       by : (b : Bool) → (if b then variable s name else on_some (alias_area s alias) None (λ area. field_of_area s name area (area_at s.state.desk area))) ≡ Some x
-          → Puts (row_puts code v r) x (if b then variable_value s.names v.slots name else row_value code.declared.shape table r name nothing)
+          → Puts (row_puts code v r) untested x (if b then variable_value s.names v.slots name else row_value code.declared.shape table r name nothing)
       by true e = variable_puts code s v r name x e fit
       by false e =
           let w = found (alias_area s alias) (λ area. field_of_area s name area (area_at s.state.desk area)) x e in
@@ -159,14 +163,17 @@ module _ (code : Code) (s : Scoped) (v : Viewer) (number table : ℕ) (r : Tried
   asked_is IsFound = refl
   asked_is Deleted = refl
 
-  row_machine : Machine s (row_sight code.declared.shape s.names v table r) code.declared.constants (slot_fits v.slots) (row_puts code v r)
+  row_machine : Machine s (row_sight code.declared.shape s.names v table r) code.declared.constants (slot_fits v.slots) (row_puts code v r) untested
   row_machine = record {
     constant = λ n c st e. ap (λ x. put_some x st) e;
     function = λ f st. refl;
     today = λ st. refl;
     named = name_puts;
     qualified = alias_puts;
-    asked = λ q k e fit. record { kind = asked_is q ∙ (is_asked s q k e).kind; put = λ st. refl };
+    asked = λ q k e fit. record { kind = asked_is q ∙ (is_asked s q k e).kind; put = λ st. refl; passes = λ st. tt };
+    constant_passes = λ n c st e. tt;
+    function_passes = λ f vs st e. tt;
+    today_passes = λ st. tt;
   }
 
   -- ---- the filter's block
@@ -182,7 +189,7 @@ module _ (code : Code) (s : Scoped) (v : Viewer) (number table : ℕ) (r : Tried
   block_truth law same few e block sound written =
       let w = walked code same few v r table row.slots block sound in
       let goes : Goes code.declared.constants (row_puts code v r) (pieces_in s e) [] (through (row_puts code v r) block []) = record { block = block; are = written.pieces; leads = refl } in
-      let top = leads s (row_sight code.declared.shape s.names v table r) code.declared.constants (slot_fits v.slots) (row_puts code v r) row_machine law e kind.Logical [] (through (row_puts code v r) block []) written.kind_is
+      let top = leads s (row_sight code.declared.shape s.names v table r) code.declared.constants (slot_fits v.slots) (row_puts code v r) untested row_machine law e kind.Logical [] (through (row_puts code v r) block []) written.kind_is
       (pieces_fit (slot_fits v.slots) code.declared.constants (pieces_in s e) block written.pieces w.fits) goes in
       ap is_true (w.same ∙ top) ∙ top_true (value_in (row_sight code.declared.shape s.names v table r) e)
 

@@ -1,10 +1,20 @@
--- Only functions of values have arguments that may be left out.
-use Rattle.std.proofs.Common.{◌≡◌, ℕ, Bool, true, false, [], refl}
+-- Only functions of values have arguments that may be left out, and with these the kinds are those that they take.
+use Rattle.std.proofs.Common.{◌≡◌, ℕ, Bool, true, false, List, [], ◌++◌, length, map, Some, refl, sym, ap, ◌∙◌}
+use Rattle.std.proofs.lemmas.List.{length-map, map-append}
+use Rattle.xvalue.specs.declared.fun.Fun.{Fun}
+use Rattle.xvalue.specs.declared.kind.Kind.{Kind}
+use Rattle.xvalue.specs.declared.value.Value.{Value}
+use Rattle.xvalue.specs.Kinds.{kind_of}
+use Rattle.xvalue.specs.Signature.{takes_of, gives_of}
+use Rattle.code_items.specs.Kinds.{same_kinds}
 use Rattle.prg_expr.specs.declared.function.Function.{Function}
 use Rattle.prg_expr.specs.declared.function.Function.TheVariants as function
 use Rattle.prg_values.specs.declared.calls.Called.{Called}
 use Rattle.prg_values.specs.declared.calls.Called.TheVariants as called
-use Rattle.prg_values.specs.Written.{meaning, defaults}
+use Rattle.prg_values.specs.Written.{meaning, defaults, completed, function_kind}
+use Rattle.expr_laws.proofs.Machines.{onto}
+use Rattle.expr_laws.proofs.Options.{passed}
+use Rattle.expr_laws.proofs.Stacks.{all_same}
 
 abbrev pub is_function : Called → Bool
 is_function (called.Function g) = true
@@ -57,3 +67,14 @@ only_functions_fill function.Bof n e = refl
 only_functions_fill function.Found n e = refl
 only_functions_fill function.Deleted n e = refl
 only_functions_fill function.Date n e = refl
+
+-- nothing is left out where a question is asked, the day is, or a choice is made
+pub alone : (f : Function) (c : Called) (n : ℕ) (st : List Value) → meaning f ≡ c → is_function c ≡ false → onto (defaults f n) st ≡ st
+alone f c n st is e = ap (λ (ws : List Value). onto ws st) (only_functions_fill f n (ap is_function is ∙ e))
+
+-- arguments and those that are left out have the kinds that the function takes
+pub all_kinds : (f : Function) (g : Fun) (ks : List Kind) (vs : List Value) (k : Kind) → map kind_of vs ≡ ks → function_kind f g ks ≡ Some k → map kind_of (vs ++ defaults f (length vs)) ≡ takes_of g
+all_kinds f g ks vs k same e =
+    map-append kind_of vs (defaults f (length vs))
+    ∙ ap (λ (n : ℕ). map kind_of vs ++ map kind_of (defaults f n)) (sym (length-map vs kind_of)) ∙ ap (completed f) same
+    ∙ sym (all_same (takes_of g) (completed f ks) (passed (same_kinds (takes_of g) (completed f ks)) (Some (gives_of g)) k e).holds)

@@ -6,6 +6,8 @@ pub mod Machines
 pub mod Names
 pub mod Operands
 pub mod Options
+pub mod Passes
+pub mod Passing
 pub mod Readers
 pub mod Stacks
 pub mod Steps

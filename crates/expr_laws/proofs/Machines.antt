@@ -1,5 +1,5 @@
 -- What a machine does on a stack with the instructions of expressions; and pieces run one after the other.
-use Rattle.std.proofs.Common.{◌≡◌, ℕ, List, [], ◌∷◌, ◌++◌, length, drop, Some, refl, ap, ◌∙◌}
+use Rattle.std.proofs.Common.{◌≡◌, ℕ, List, [], ◌∷◌, ◌++◌, length, map, drop, Some, refl, ap, ◌∙◌}
 use Rattle.std.specs.Prelude.{slice_get}
 use Rattle.std.specs.List.{AllZip}
 use Rattle.xvalue.specs.declared.kind.Kind.{Kind}
@@ -25,19 +25,29 @@ use Rattle.expr_laws.specs.Meaning.{Sight}
 abbrev pub Run : Type 0
 Run = Instr → List Value → List Value
 
--- a reading puts this value on top, and it has the reading's kind
-pub record Puts (run : Run) (r : Reading) (v : Value) : Type 0 where
+-- values one after the other put on a stack
+abbrev pub onto : {A : Type 0} → List A → List A → List A
+onto [] st = st
+onto (v ∷ vs) st = onto vs (v ∷ st)
+
+-- a reading puts this value on top, and it has the reading's kind; the instruction passes its tests on every stack
+pub record Puts (run : Run) (test : Instr → List Value → Type 0) (r : Reading) (v : Value) : Type 0 where
   pub kind : kind_of v ≡ r.kind
   pub put : (st : List Value) → run r.instr st ≡ v ∷ st
+  pub passes : (st : List Value) → test r.instr st
 
--- a machine that sees this where an expression of this scope runs, with these constants; of what it reads more may be asked
-pub record Machine (s : Scoped) (v : Sight) (constants : List Value) (fit : Instr → Type 0) (run : Run) : Type 0 where
+-- a machine that sees this where an expression of this scope runs, with these constants; of what it reads more may be asked;
+-- and when each instruction passes its tests on a stack
+pub record Machine (s : Scoped) (v : Sight) (constants : List Value) (fit : Instr → Type 0) (run : Run) (test : Instr → List Value → Type 0) : Type 0 where
   pub constant : (n : ℕ) (c : Value) (st : List Value) → slice_get constants n ≡ Some c → run (Values (value_instr.Constant n)) st ≡ c ∷ st
   pub function : (f : Fun) (st : List Value) → run (Values (value_instr.Function f)) st ≡ applied f v.settings (by_kind (arguments_on f st)) ∷ drop (length (takes_of f)) st
   pub today : (st : List Value) → run (Values value_instr.Today) st ≡ value.Date v.today ∷ st
-  pub named : (n : List ℕ) (r : Reading) → read_name s n ≡ Some r → fit r.instr → Puts run r (v.named n)
-  pub qualified : (a n : List ℕ) (r : Reading) → read_qualified s a n ≡ Some r → fit r.instr → Puts run r (v.qualified a n)
-  pub asked : (q : Question) (k : Kind) → question_kind s q ≡ Some k → fit (Records (record_instr.Ask q)) → Puts run (record { instr = Records (record_instr.Ask q); kind = k }) (v.asked q)
+  pub named : (n : List ℕ) (r : Reading) → read_name s n ≡ Some r → fit r.instr → Puts run test r (v.named n)
+  pub qualified : (a n : List ℕ) (r : Reading) → read_qualified s a n ≡ Some r → fit r.instr → Puts run test r (v.qualified a n)
+  pub asked : (q : Question) (k : Kind) → question_kind s q ≡ Some k → fit (Records (record_instr.Ask q)) → Puts run test (record { instr = Records (record_instr.Ask q); kind = k }) (v.asked q)
+  pub constant_passes : (n : ℕ) (c : Value) (st : List Value) → slice_get constants n ≡ Some c → test (Values (value_instr.Constant n)) st
+  pub function_passes : (f : Fun) (vs st : List Value) → map kind_of vs ≡ takes_of f → test (Values (value_instr.Function f)) (onto vs st)
+  pub today_passes : (st : List Value) → test (Values value_instr.Today) st
 
 -- one instruction after the other
 abbrev pub through : Run → List Instr → List Value → List Value
@@ -56,6 +66,11 @@ Fit fit [] = Unit {0}
 Fit fit (Constant c ∷ ps) = Fit fit ps
 Fit fit (Does i ∷ ps) = fit i × Fit fit ps
 
+pub all_fit : (fit : Instr → Type 0) → ((i : Instr) → fit i) → (ps : List Piece) → Fit fit ps
+all_fit fit each [] = tt
+all_fit fit each (Constant c ∷ ps) = all_fit fit each ps
+all_fit fit each (Does i ∷ ps) = (each i, all_fit fit each ps)
+
 pub fit_parts : (fit : Instr → Type 0) (ps qs : List Piece) → Fit fit (ps ++ qs) → Fit fit ps × Fit fit qs
 fit_parts fit [] qs h = (tt, h)
 fit_parts fit (Constant c ∷ ps) qs h = fit_parts fit ps qs h
@@ -63,20 +78,21 @@ fit_parts fit (Does i ∷ ps) qs h =
     let p = fit_parts fit ps qs h.1 in
     ((h.0, p.0), p.1)
 
--- pieces behind pieces
-pub record Between (constants : List Value) (run : Run) (ps qs : List Piece) (a b : List Value) : Type 0 where
+-- pieces behind pieces, in a block
+pub record Between (constants : List Value) (run : Run) (ps qs : List Piece) (block : List Instr) (a b : List Value) : Type 0 where
   pub middle : List Value
   pub first : Goes constants run ps a middle
   pub last : Goes constants run qs middle b
+  pub whole : block ≡ first.block ++ last.block
 
-parts_of : (constants : List Value) (run : Run) (ps qs : List Piece) (block : List Instr) (a b : List Value) → AllZip (IsPiece constants) (ps ++ qs) block → b ≡ through run block a → Between constants run ps qs a b
-parts_of constants run [] qs block a b are leads = record { middle = a; first = record { block = []; are = tt; leads = refl }; last = record { block = block; are = are; leads = leads } }
+pub parts_of : (constants : List Value) (run : Run) (ps qs : List Piece) (block : List Instr) (a b : List Value) → AllZip (IsPiece constants) (ps ++ qs) block → b ≡ through run block a → Between constants run ps qs block a b
+parts_of constants run [] qs block a b are leads = record { middle = a; first = record { block = []; are = tt; leads = refl }; last = record { block = block; are = are; leads = leads }; whole = refl }
 parts_of constants run (p ∷ ps) qs [] a b are leads = absurd are
 parts_of constants run (p ∷ ps) qs (i ∷ is) a b are leads =
     let w = parts_of constants run ps qs is (run i a) b are.1 leads in
-    record { middle = w.middle; first = record { block = i ∷ w.first.block; are = (are.0, w.first.are); leads = w.first.leads }; last = w.last }
+    record { middle = w.middle; first = record { block = i ∷ w.first.block; are = (are.0, w.first.are); leads = w.first.leads }; last = w.last; whole = ap (λ (xs : List Instr). i ∷ xs) w.whole }
 
-pub parted : (constants : List Value) (run : Run) (ps qs : List Piece) (a b : List Value) → Goes constants run (ps ++ qs) a b → Between constants run ps qs a b
+pub parted : (constants : List Value) (run : Run) (ps qs : List Piece) (a b : List Value) → (g : Goes constants run (ps ++ qs) a b) → Between constants run ps qs g.block a b
 parted constants run ps qs a b g = parts_of constants run ps qs g.block a b g.are g.leads
 
 -- no piece changes nothing
@@ -97,18 +113,13 @@ goes_by constants run j a b g = by g.block g.are g.leads
     by (i ∷ i2 ∷ is) are leads = absurd are.1
 
 -- one constant
-pub goes_constant : (s : Scoped) (v : Sight) (constants : List Value) (fit : Instr → Type 0) (run : Run) → Machine s v constants fit run → (c : Value) (a b : List Value) → Goes constants run (Constant c ∷ []) a b → b ≡ c ∷ a
-goes_constant s v constants fit run m c a b g = by g.block g.are g.leads
+pub goes_constant : (s : Scoped) (v : Sight) (constants : List Value) (fit : Instr → Type 0) (run : Run) (test : Instr → List Value → Type 0) → Machine s v constants fit run test → (c : Value) (a b : List Value) → Goes constants run (Constant c ∷ []) a b → b ≡ c ∷ a
+goes_constant s v constants fit run test m c a b g = by g.block g.are g.leads
   where
     by : (block : List Instr) → AllZip (IsPiece constants) (Constant c ∷ []) block → b ≡ through run block a → b ≡ c ∷ a
     by [] are leads = absurd are
     by (i ∷ []) are leads = leads ∙ ap (λ (x : Instr). run x a) are.0.2 ∙ m.constant are.0.0 c a are.0.1
     by (i ∷ i2 ∷ is) are leads = absurd are.1
-
--- values one after the other put on a stack
-abbrev pub onto : List Value → List Value → List Value
-onto [] st = st
-onto (v ∷ vs) st = onto vs (v ∷ st)
 
 pub onto_both : (vs ws st : List Value) → onto ws (onto vs st) ≡ onto (vs ++ ws) st
 onto_both [] ws st = refl

@@ -1,5 +1,5 @@
 -- What names are read as in a world is what they stand for there.
-use Rattle.std.proofs.Common.{◌≡◌, ◌≤◌, ℕ, zero, suc, ◌+◌, Bool, true, false, ◌==◌, List, [], ◌∷◌, map, Option, Some, None, refl, sym, ap, ◌∙◌, subst, arith}
+use Rattle.std.proofs.Common.{◌≡◌, ◌≤◌, ℕ, zero, suc, ◌+◌, Bool, true, false, ◌==◌, List, [], ◌∷◌, length, map, Option, Some, None, refl, sym, ap, ◌∙◌, subst, arith}
 use Rattle.std.specs.Prelude.{slice_get, slice_index_or, is_none, nat_lt, codes, if◌then◌else◌}
 use Rattle.std.specs.List.{list_any, list_all}
 use Rattle.std.specs.Str.{bytes_eq}
@@ -31,24 +31,26 @@ use Rattle.prg_values.specs.Readings.{Scoped, on_some, area_at, table_fields, fi
 use Rattle.prg_values.specs.Written.{may_ask, answer_kind, question_kind}
 use Rattle.run_values.specs.Tagged.{pushed, loaded_value}
 use Rattle.run_steps.specs.World.{EnvState, kind_held, order_of, area_state, desk_of}
-use Rattle.run_steps.specs.Effects.{answer, on_table, values_after}
+use Rattle.run_steps.specs.Effects.{answer, on_table}
 use Rattle.run_steps.specs.Shapes.{StoreFits}
 use Rattle.fit_laws.proofs.Covered.{Desks, kinds_same, area_same}
 use Rattle.expr_laws.specs.Meaning.{nothing}
 use Rattle.expr_laws.specs.Seeing.{slot_value, variable_value, used_fields, field_value, holder, alias_of, value_of_area, asked_value}
-use Rattle.expr_laws.proofs.Machines.{Run, Puts}
-use Rattle.expr_laws.proofs.Areas.{AreaThere, area_open, area_there, area_closed, in_no_table, field_is_of_kind}
+use Rattle.expr_laws.proofs.Machines.{Puts}
+use Rattle.expr_laws.proofs.Areas.{AreaThere, area_open, area_there, area_closed, in_no_table, field_declared, field_is_of_kind}
 use Rattle.expr_laws.proofs.Options.{some_same, none_some, found}
+use Rattle.expr_laws.proofs.Passes.{world_run, Passes, load_passes, field_passes, question_passes}
 
--- an instruction's effect on the stack of a world
-abbrev pub world_run : Code → List (Option Value) → EnvState → Run
-world_run code slots e i st = (values_after code i (record { slots = slots; stack = st }) e).stack
+-- a reading puts this value on a world's stack
+abbrev PutsHere : Code → List (Option Value) → EnvState → Reading → Value → Type 0
+PutsHere code slots e r v = Puts (world_run code slots e) (Passes code slots e) r v
 
 -- what is known where an expression stands, and is true of slots and store
 pub record Sees (code : Code) (s : Scoped) (held : List (Option Value)) (store : StoreState) : Type 0 where
   pub shape : s.shape ≡ code.declared.shape
   pub outside : s.in_filter ≡ false
   pub slots : slots_covered s.state.slots (map kind_held held) ≡ true
+  pub count : length held ≡ code.declared.slots
   pub desks : Desks s.state.desk (desk_of store)
   pub all : list_all (is_area_state code.declared) (desk_of store).areas ≡ true
   pub fits : StoreFits code.declared store
@@ -85,24 +87,28 @@ is_load None slot r e = none_some _ r e
 is_load (Some None) slot r e = none_some _ r e
 is_load (Some (Some k)) slot r e = record { kind = k; known = refl; is = some_same (record { instr = Values (value_instr.Load k slot); kind = k }) r e }
 
-load_puts : (code : Code) (slots : List (Option Value)) (e : EnvState) (slot : ℕ) (k : Kind) → SlotThere slots slot k → Puts (world_run code slots e) (record { instr = Values (value_instr.Load k slot); kind = k }) (slot_value (slice_get slots slot))
-load_puts code slots e slot k w = record {
-  kind = ap (λ x. kind_of (slot_value x)) w.at ∙ w.kind;
-  put = λ st. ap (λ x. (loaded_value x (record { slots = slots; stack = st })).stack) w.at ∙ ap (λ x. slot_value x ∷ st) (sym w.at);
-}
+load_puts : (code : Code) (slots : List (Option Value)) (e : EnvState) (slot : ℕ) (k : Kind) → length slots ≡ code.declared.slots → SlotThere slots slot k
+    → PutsHere code slots e (record { instr = Values (value_instr.Load k slot); kind = k }) (slot_value (slice_get slots slot))
+load_puts code slots e slot k count w =
+    let put : (st : List Value) → world_run code slots e (Values (value_instr.Load k slot)) st ≡ w.value ∷ st =
+    λ st. ap (λ x. (loaded_value x (record { slots = slots; stack = st })).stack) w.at in record {
+      kind = ap (λ x. kind_of (slot_value x)) w.at ∙ w.kind;
+      put = λ st. put st ∙ ap (λ x. slot_value x ∷ st) (sym w.at);
+      passes = λ st. load_passes code slots e k slot w.value st count w.at w.kind (put st);
+    }
 
-variable_puts : (code : Code) (s : Scoped) (slots : List (Option Value)) (e : EnvState) → Sees code s slots e.store → (name : List ℕ) (r : Reading) → variable s name ≡ Some r → Puts (world_run code slots e) r (variable_value s.names slots name)
+variable_puts : (code : Code) (s : Scoped) (slots : List (Option Value)) (e : EnvState) → Sees code s slots e.store → (name : List ℕ) (r : Reading) → variable s name ≡ Some r → PutsHere code slots e r (variable_value s.names slots name)
 variable_puts code s slots e sees name r is =
     let w = found (slot_named s.names name) (λ slot. loads slot (slice_get s.state.slots slot)) r is in
     let l = is_load (slice_get s.state.slots w.a) w.a r w.made in
-    let puts = load_puts code slots e w.a l.kind (slot_there s.state.slots slots w.a l.kind sees.slots l.known) in
-    subst (λ (x : Option ℕ). Puts (world_run code slots e) r (on_some x nothing (λ slot. slot_value (slice_get slots slot)))) (sym w.there)
-    (subst (λ (x : Reading). Puts (world_run code slots e) x (slot_value (slice_get slots w.a))) l.is puts)
+    let puts = load_puts code slots e w.a l.kind sees.count (slot_there s.state.slots slots w.a l.kind sees.slots l.known) in
+    subst (λ (x : Option ℕ). PutsHere code slots e r (on_some x nothing (λ slot. slot_value (slice_get slots slot)))) (sym w.there)
+    (subst (λ (x : Reading). PutsHere code slots e x (slot_value (slice_get slots w.a))) l.is puts)
 
 -- ---- fields
 
 field_puts : (code : Code) (s : Scoped) (slots : List (Option Value)) (e : EnvState) → Sees code s slots e.store → (n : ℕ) (a : OpenArea) → AreaThere code.declared e.store n a → (name : List ℕ) (f : FieldPlace) (r : Reading)
-    → field_named (table_fields s.shape a.table) name ≡ Some f → field_reading s n f ≡ Some r → Puts (world_run code slots e) r (field_value (area_table e.store n) f.number)
+    → field_named (table_fields s.shape a.table) name ≡ Some f → field_reading s n f ≡ Some r → PutsHere code slots e r (field_value (area_table e.store n) f.number)
 field_puts code s slots e sees n a at name f r there is =
     let outside : Some (record { instr = Records (record_instr.Field n f.number); kind = f.kind }) ≡ Some r =
     ap (λ (b : Bool). if b then (if n == s.state.desk.selected then Some (record { instr = Records (record_instr.RowField f.number); kind = f.kind }) else None) else Some (record { instr = Records (record_instr.Field n f.number); kind = f.kind })) (sym sees.outside) ∙ is in
@@ -110,11 +116,14 @@ field_puts code s slots e sees n a at name f r there is =
     let there' : field_named (table_fields code.declared.shape at.o.use_of.table) name ≡ Some f =
     ap (λ (t : ℕ). field_named (table_fields code.declared.shape t) name) at.table ∙ ap (λ (x : Shape). field_named (table_fields x a.table) name) (sym sees.shape) ∙ there in
     let kind = field_is_of_kind code.declared e.store n sees.fits at.o name f there' in
-    let puts : Puts (world_run code slots e) (record { instr = Records (record_instr.Field n f.number); kind = f.kind }) (field_value (area_table e.store n) f.number) = record {
+    let put : (st : List Value) → world_run code slots e (Records (record_instr.Field n f.number)) st ≡ field_of f.number at.o.table ∷ st =
+    λ st. ap (λ (x : Option OpenState). (on_table x (record { slots = slots; stack = st }) (λ o. pushed (field_of f.number o) (record { slots = slots; stack = st }))).stack) at.o.there in
+    let puts : PutsHere code slots e (record { instr = Records (record_instr.Field n f.number); kind = f.kind }) (field_value (area_table e.store n) f.number) = record {
       kind = ap (λ (x : Option OpenState). kind_of (field_value x f.number)) at.o.there ∙ kind;
-      put = λ st. ap (λ (x : Option OpenState). (on_table x (record { slots = slots; stack = st }) (λ o. pushed (field_of f.number o) (record { slots = slots; stack = st }))).stack) at.o.there ∙ ap (λ (x : Option OpenState). field_value x f.number ∷ st) (sym at.o.there);
+      put = λ st. put st ∙ ap (λ (x : Option OpenState). field_value x f.number ∷ st) (sym at.o.there);
+      passes = λ st. field_passes code slots e n f.number (field_of f.number at.o.table) st (ap (λ x. is_none x) at.o.known) (field_declared code.declared e.store n at.o name f there') (put st);
     } in
-    subst (λ (x : Reading). Puts (world_run code slots e) x (field_value (area_table e.store n) f.number)) reading puts
+    subst (λ (x : Reading). PutsHere code slots e x (field_value (area_table e.store n) f.number)) reading puts
 
 -- the fields of the table that an area is known to hold
 fields_same : (code : Code) (s : Scoped) (slots : List (Option Value)) (store : StoreState) → Sees code s slots store → (n : ℕ) (a : OpenArea) → AreaThere code.declared store n a → used_fields code.declared.shape (use_at store n) ≡ table_fields s.shape a.table
@@ -153,14 +162,14 @@ area_known s name Unsure f e = from (list_any (has_field name) s.shape.tables) e
     from false e = absurd (let k = e in cc)
 
 pub name_puts : (code : Code) (s : Scoped) (slots : List (Option Value)) (e : EnvState) → Sees code s slots e.store → (name : List ℕ) (r : Reading) → read_name s name ≡ Some r
-    → Puts (world_run code slots e) r (on_some (field_named (used_fields code.declared.shape (selected_use e.store)) name) (variable_value s.names slots name) (λ f. field_value (here e.store) f.number))
+    → PutsHere code slots e r (on_some (field_named (used_fields code.declared.shape (selected_use e.store)) name) (variable_value s.names slots name) (λ f. field_value (here e.store) f.number))
 unfolding read_name
 name_puts code s slots e sees name r is =
     let w = found (field_here s name) (here_reading s name) r is in
     let seen = field_seen code s slots e.store sees name (area_at s.state.desk s.state.desk.selected) w.a refl w.there in
-    subst (λ (x : Option FieldPlace). Puts (world_run code slots e) r (on_some x (variable_value s.names slots name) (λ f. field_value (here e.store) f.number))) (sym seen) (by w.a w.there w.made)
+    subst (λ (x : Option FieldPlace). PutsHere code slots e r (on_some x (variable_value s.names slots name) (λ f. field_value (here e.store) f.number))) (sym seen) (by w.a w.there w.made)
   where
-    by : (fo : Option FieldPlace) → field_here s name ≡ Some fo → here_reading s name fo ≡ Some r → Puts (world_run code slots e) r (on_some fo (variable_value s.names slots name) (λ f. field_value (here e.store) f.number))
+    by : (fo : Option FieldPlace) → field_here s name ≡ Some fo → here_reading s name fo ≡ Some r → PutsHere code slots e r (on_some fo (variable_value s.names slots name) (λ f. field_value (here e.store) f.number))
     by None there made = variable_puts code s slots e sees name r made
     by (Some f) there made =
         let k = area_known s name (area_at s.state.desk s.state.desk.selected) f there in
@@ -235,26 +244,26 @@ alias_seen code s slots store sees alias a e = by (letter_area alias) e
 
 -- a field of an area that is known to hold a table
 area_puts : (code : Code) (s : Scoped) (slots : List (Option Value)) (e : EnvState) → Sees code s slots e.store → (name : List ℕ) (n : ℕ) (state : AreaState) (r : Reading) → area_at s.state.desk n ≡ state → field_of_area s name n state ≡ Some r
-    → Puts (world_run code slots e) r (value_of_area code.declared.shape e.store name n)
+    → PutsHere code slots e r (value_of_area code.declared.shape e.store name n)
 area_puts code s slots e sees name n Closed r at is = none_some _ r is
 area_puts code s slots e sees name n Unsure r at is = none_some _ r is
 area_puts code s slots e sees name n (IsOpen a) r at is =
     let w = found (field_in s.shape a name) (field_reading s n) r is in
     let there = area_there code.declared s.state.desk e.store n a sees.desks sees.all sees.fits at in
     let same : field_named (used_fields code.declared.shape (use_at e.store n)) name ≡ Some w.a = ap (λ (fs : List Field). field_named fs name) (fields_same code s slots e.store sees n a there) ∙ w.there in
-    subst (λ (x : Option FieldPlace). Puts (world_run code slots e) r (on_some x nothing (λ f. field_value (area_table e.store n) f.number))) (sym same) (field_puts code s slots e sees n a there name w.a r w.there w.made)
+    subst (λ (x : Option FieldPlace). PutsHere code slots e r (on_some x nothing (λ f. field_value (area_table e.store n) f.number))) (sym same) (field_puts code s slots e sees n a there name w.a r w.there w.made)
 
 pub alias_puts : (code : Code) (s : Scoped) (slots : List (Option Value)) (e : EnvState) → Sees code s slots e.store → (alias name : List ℕ) (r : Reading) → read_qualified s alias name ≡ Some r
-    → Puts (world_run code slots e) r (if bytes_eq alias (codes "M") then variable_value s.names slots name else on_some (alias_of code.declared.shape e.store alias) nothing (value_of_area code.declared.shape e.store name))
+    → PutsHere code slots e r (if bytes_eq alias (codes "M") then variable_value s.names slots name else on_some (alias_of code.declared.shape e.store alias) nothing (value_of_area code.declared.shape e.store name))
 unfolding read_qualified
 alias_puts code s slots e sees alias name r is = by (bytes_eq alias (codes "M")) is
   where
     by : (b : Bool) → (if b then variable s name else on_some (alias_area s alias) None (λ area. field_of_area s name area (area_at s.state.desk area))) ≡ Some r
-        → Puts (world_run code slots e) r (if b then variable_value s.names slots name else on_some (alias_of code.declared.shape e.store alias) nothing (value_of_area code.declared.shape e.store name))
+        → PutsHere code slots e r (if b then variable_value s.names slots name else on_some (alias_of code.declared.shape e.store alias) nothing (value_of_area code.declared.shape e.store name))
     by true is = variable_puts code s slots e sees name r is
     by false is =
         let w = found (alias_area s alias) (λ area. field_of_area s name area (area_at s.state.desk area)) r is in
-        subst (λ (x : Option ℕ). Puts (world_run code slots e) r (on_some x nothing (value_of_area code.declared.shape e.store name))) (sym (alias_seen code s slots e.store sees alias w.a w.there))
+        subst (λ (x : Option ℕ). PutsHere code slots e r (on_some x nothing (value_of_area code.declared.shape e.store name))) (sym (alias_seen code s slots e.store sees alias w.a w.there))
         (area_puts code s slots e sees name w.a (area_at s.state.desk w.a) r refl w.made)
 
 -- ---- questions
@@ -286,10 +295,13 @@ is_asked s q k e = by (open_at s.state.desk s.state.desk.selected) refl e
     by (Some a) at e = asked (may_ask s.in_filter q) refl a at e
 
 pub question_puts : (code : Code) (s : Scoped) (slots : List (Option Value)) (e : EnvState) → Sees code s slots e.store → (q : Question) (k : Kind) → question_kind s q ≡ Some k
-    → Puts (world_run code slots e) (record { instr = Records (record_instr.Ask q); kind = k }) (asked_value (here e.store) q)
+    → PutsHere code slots e (record { instr = Records (record_instr.Ask q); kind = k }) (asked_value (here e.store) q)
 question_puts code s slots e sees q k is =
     let w = is_asked s q k is in
-    let at = area_open code.declared s.state.desk e.store e.store.selected w.area sees.desks sees.all sees.fits (subst (λ n. open_at s.state.desk n ≡ Some w.area) sees.desks.selected w.is_open) in record {
+    let at = area_open code.declared s.state.desk e.store e.store.selected w.area sees.desks sees.all sees.fits (subst (λ n. open_at s.state.desk n ≡ Some w.area) sees.desks.selected w.is_open) in
+    let put : (st : List Value) → world_run code slots e (Records (record_instr.Ask q)) st ≡ answer q at.o.table ∷ st =
+    λ st. ap (λ (x : Option OpenState). (on_table x (record { slots = slots; stack = st }) (λ o. pushed (answer q o) (record { slots = slots; stack = st }))).stack) at.o.there in record {
       kind = ap (λ (x : Option OpenState). kind_of (asked_value x q)) at.o.there ∙ answer_is q at.o.table ∙ w.kind;
-      put = λ st. ap (λ (x : Option OpenState). (on_table x (record { slots = slots; stack = st }) (λ o. pushed (answer q o) (record { slots = slots; stack = st }))).stack) at.o.there ∙ ap (λ (x : Option OpenState). asked_value x q ∷ st) (sym at.o.there);
+      put = λ st. put st ∙ ap (λ (x : Option OpenState). asked_value x q ∷ st) (sym at.o.there);
+      passes = λ st. question_passes code slots e q (answer q at.o.table) st (ap (λ x. is_none x) at.o.known) (put st);
     }

@@ -13,6 +13,7 @@ use Rattle.code_items.specs.declared.instr.RecordInstr.TheVariants as record_ins
 use Rattle.code_items.specs.declared.instr.Instr.{Instr}
 use Rattle.code_items.specs.declared.instr.Instr.TheVariants.{Values, Flow, Screen, Areas, Moves, Records}
 use Rattle.code_items.specs.declared.instr.FlowInstr.TheVariants.{End}
+use Rattle.code_items.specs.Legal.{places_of}
 use Rattle.code_rules.specs.Places.{instr_at}
 use Rattle.open_table.specs.Open.{OpenState, field_of}
 use Rattle.work_area.specs.Areas.{area_table, here}
@@ -21,12 +22,13 @@ use Rattle.run_steps.specs.World.{World, EnvState}
 use Rattle.run_steps.specs.Control.{effect, finishes}
 use Rattle.run_steps.specs.Effects.{with_pushed, on_table, answer, cost_of_instr}
 use Rattle.run_steps.specs.Run.{step_of, next_world, after, spent, cost_in, cost_at, cost_of}
-use Rattle.run_steps.specs.Safe.{IsSafeHere}
-use Rattle.expr_laws.specs.Seeing.{IsThere}
+use Rattle.run_steps.specs.Faults.{fault_of, IsClear}
+use Rattle.run_steps.specs.Safe.{IsSafe}
+use Rattle.expr_laws.specs.Seeing.{IsThere, HasWay}
 use Rattle.run_laws.proofs.Tests.{is_there}
 use Rattle.expr_laws.proofs.Machines.{Run, through}
-use Rattle.expr_laws.proofs.Names.{world_run}
 use Rattle.expr_laws.proofs.Options.{some_same, none_some}
+use Rattle.expr_laws.proofs.Passes.{world_run, Passes, AllPass, ready_at, clear_there}
 
 -- an instruction that only reads
 
@@ -141,38 +143,58 @@ there_at code place block n i there e =
     sym (get_or-drop place code.instructions n (Flow End)) ∙ sym (get_or-take (length block) (drop place code.instructions) n (Flow End) lt)
     ∙ ap (λ (xs : List Instr). slice_index_or xs n (Flow End)) there ∙ get_or_from_slice_get block n i (Flow End) e
 
--- a run from a world that fits stays among such, and each of them can go on
-pub record Going (code : Code) (w : World) : Type 0 where
-  pub safe : (n : ℕ) (v : World) → after code w n ≡ Some v → IsSafeHere code v
+-- the world behind so many of the instructions
+abbrev pub come_to : Code → World → List Instr → ℕ → World
+come_to code w block n = moved n (through (world_run code w.values.slots w.env) (take n block) w.values.stack) w
 
-step_on : (code : Code) (v : World) (i : Instr) → IsSafeHere code v → instr_at code v.place ≡ i → only_reads i ≡ true → next_world (step_of code v) ≡ Some (moved 1 (world_run code v.values.slots v.env i v.values.stack) v)
+-- where the run comes to, no instruction has a fault
+pub record Going (code : Code) (w : World) (block : List Instr) : Type 0 where
+  pub sound : (n : ℕ) (i : Instr) → slice_get block n ≡ Some i → after code w n ≡ Some (come_to code w block n) → fault_of code (come_to code w block n) i ≡ None
+
+-- a run from a world that is safe
+pub safely : (code : Code) (w : World) (block : List Instr) → IsThere code w.place block → IsSafe code w → Going code w block
+safely code w block there safe = record { sound = λ n i at here. subst (λ (j : Instr). fault_of code (come_to code w block n) j ≡ None) (there_at code w.place block n i there at) (safe n (come_to code w block n) here).sound }
+
+-- and one in which each instruction passes its tests, with room and a place behind it
+pub clearly : (code : Code) (w : World) (block : List Instr) → ((v : World) (i : Instr) → IsClear code v i → fault_of code v i ≡ None) → HasWay code w block
+    → AllPass (Passes code w.values.slots w.env) (world_run code w.values.slots w.env) block w.values.stack → Going code w block
+clearly code w block faultless way all = record {
+  sound = λ n i at here.
+      let r = ready_at code w.values.slots w.env code.declared.stack_bound block w.values.stack all way.room n i at in
+      let lt : n < length block = slice_get_within block n i at in
+      let behind : w.place + length block < places_of code.procedures = way.behind in
+      let next : w.place + n + 1 < places_of code.procedures = omega (arith, lt, behind) in
+      faultless (come_to code w block n) i (clear_there code (come_to code w block n) i r.passes next r.room);
+}
+
+step_on : (code : Code) (v : World) (i : Instr) → fault_of code v i ≡ None → instr_at code v.place ≡ i → only_reads i ≡ true → next_world (step_of code v) ≡ Some (moved 1 (world_run code v.values.slots v.env i v.values.stack) v)
 unfolding step_of
-step_on code v i safe is reads =
+step_on code v i sound is reads =
     let goes : finishes v (instr_at code v.place) ≡ false = ap (finishes v) is ∙ goes_on v i reads in
     next_is ∙ ap (λ (x : World). Some x) (ap (effect code v) is ∙ step_moves code v i reads)
   where
     next_is : next_world (step_of code v) ≡ Some (effect code v (instr_at code v.place))
-    next_is = rw (safe.sound, ap (finishes v) is ∙ goes_on v i reads) refl
+    next_is = rw (ap (fault_of code v) is ∙ sound, ap (finishes v) is ∙ goes_on v i reads) refl
 
 -- what the run comes to after some of the instructions, and what they cost
 record Reached (code : Code) (w : World) (block : List Instr) (n : ℕ) : Type 0 where
-  at : after code w n ≡ Some (moved n (through (world_run code w.values.slots w.env) (take n block) w.values.stack) w)
+  at : after code w n ≡ Some (come_to code w block n)
   cost : spent code w n ≡ n
 
 cost_here : (code : Code) (v : World) (i : Instr) → instr_at code v.place ≡ i → only_reads i ≡ true → cost_of code v ≡ 1
 unfolding cost_at
 cost_here code v i is only = ap (λ (j : Instr). cost_of_instr code j v.values v.env) is ∙ costs_one code i v.values v.env only
 
-next_reached : (code : Code) (w : World) (block : List Instr) → Going code w → IsThere code w.place block → AllRead block → (n : ℕ) → n < length block → Reached code w block n → Reached code w block (suc n)
+next_reached : (code : Code) (w : World) (block : List Instr) → Going code w block → IsThere code w.place block → AllRead block → (n : ℕ) → n < length block → Reached code w block n → Reached code w block (suc n)
 next_reached code w block going there reads n lt r =
     let run = world_run code w.values.slots w.env in
     let st = through run (take n block) w.values.stack in
-    let v = moved n st w in
+    let v = come_to code w block n in
     let x = is_there block n lt in
     let i : Instr = x.0 in
     let is : instr_at code v.place ≡ i = there_at code w.place block n i there x.1 in
     let only = all_read_at block n i reads x.1 in
-    let step = step_on code v i (going.safe n v r.at) is only in
+    let step = step_on code v i (going.sound n i x.1 r.at) is only in
     let place : (w.place + n) + 1 ≡ w.place + suc n = omega arith in
     let ends : moved 1 (run i st) v ≡ moved (suc n) (through run (take (suc n) block) w.values.stack) w =
     ap (λ (p : ℕ). record { place = p; returns = w.returns; values = record { slots = w.values.slots; stack = run i st }; env = w.env }) place
@@ -182,7 +204,7 @@ next_reached code w block going there reads n lt r =
       cost = omega (arith, r.cost, paid);
     }
 
-reached : (code : Code) (w : World) (block : List Instr) → Going code w → IsThere code w.place block → AllRead block → (n : ℕ) → n ≤ length block → Reached code w block n
+reached : (code : Code) (w : World) (block : List Instr) → Going code w block → IsThere code w.place block → AllRead block → (n : ℕ) → n ≤ length block → Reached code w block n
 reached code w block going there reads zero le = record { at = ap (λ (p : ℕ). Some (record { place = p; returns = w.returns; values = w.values; env = w.env })) (omega arith); cost = refl }
 reached code w block going there reads (suc n) le = next_reached code w block going there reads n (omega (arith, le)) (reached code w block going there reads n (omega (arith, le)))
 
@@ -191,7 +213,7 @@ pub record RanThrough (code : Code) (w : World) (block : List Instr) : Type 0 wh
   pub at : after code w (length block) ≡ Some (moved (length block) (through (world_run code w.values.slots w.env) block w.values.stack) w)
   pub cost : spent code w (length block) ≡ length block
 
-pub ran_through : (code : Code) (w : World) (block : List Instr) → Going code w → IsThere code w.place block → AllRead block → RanThrough code w block
+pub ran_through : (code : Code) (w : World) (block : List Instr) → Going code w block → IsThere code w.place block → AllRead block → RanThrough code w block
 ran_through code w block going there reads =
     let r = reached code w block going there reads (length block) (omega arith) in
     record { at = r.at ∙ ap (λ (is : List Instr). Some (moved (length block) (through (world_run code w.values.slots w.env) is w.values.stack) w)) (take-length block); cost = r.cost }

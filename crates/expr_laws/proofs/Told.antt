@@ -54,8 +54,8 @@ operands_there o x y ka kb op ex ey e = ap (λ (z : Option Kind). operation_in o
 
 -- ---- along the tree
 
-module _ (s : Scoped) (v : Sight) (cs : List Value) (fit : Instr → Type 0) (run : Run) (m : Machine s v cs fit run) (law : ResultLaw) where
-  reading_told : (x : Option Reading) (c : Value) (k : Kind) → ((r : Reading) → x ≡ Some r → fit r.instr → Puts run r c) → reading_kind x ≡ Some k → Fit fit (reading_pieces x) → kind_of c ≡ k
+module _ (s : Scoped) (v : Sight) (cs : List Value) (fit : Instr → Type 0) (run : Run) (test : Instr → List Value → Type 0) (m : Machine s v cs fit run test) (law : ResultLaw) where
+  reading_told : (x : Option Reading) (c : Value) (k : Kind) → ((r : Reading) → x ≡ Some r → fit r.instr → Puts run test r c) → reading_kind x ≡ Some k → Fit fit (reading_pieces x) → kind_of c ≡ k
   reading_told None c k puts e h = none_some (kind_of c ≡ k) k e
   reading_told (Some r) c k puts e h = (puts r refl h.0).kind ∙ some_same r.kind k e
 

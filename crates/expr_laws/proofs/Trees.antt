@@ -1,6 +1,6 @@
 -- The code of an expression leaves its value on top.
-use Rattle.std.proofs.Common.{◌≡◌, ℕ, suc, ◌+◌, Bool, true, false, List, [], ◌∷◌, ◌++◌, length, map, drop, Option, Some, None, refl, sym, ap, ◌∙◌, subst}
-use Rattle.std.proofs.lemmas.List.{length-map, length-append}
+use Rattle.std.proofs.Common.{◌≡◌, ℕ, suc, Bool, true, false, List, [], ◌∷◌, ◌++◌, length, map, drop, Option, Some, None, refl, sym, ap, ◌∙◌, subst}
+use Rattle.std.proofs.lemmas.List.{length-map}
 use Rattle.xvalue.specs.declared.kind.Kind.{Kind}
 use Rattle.xvalue.specs.declared.kind.Kind.TheVariants as kind
 use Rattle.xvalue.specs.declared.fun.Fun.{Fun}
@@ -11,7 +11,6 @@ use Rattle.xvalue.specs.Functions.{applied}
 use Rattle.xvalue.specs.Given.{by_kind}
 use Rattle.xvalue.specs.Kinds.{kind_of}
 use Rattle.xvalue.specs.Signature.{takes_of, gives_of}
-use Rattle.code_items.specs.Kinds.{same_kinds}
 use Rattle.code_items.specs.declared.instr.Instr.{Instr}
 use Rattle.code_items.specs.declared.instr.Instr.TheVariants.{Values, Records}
 use Rattle.code_items.specs.declared.instr.Question.{Question}
@@ -28,14 +27,14 @@ use Rattle.prg_values.specs.declared.operators.OperatorMeaning.{OperatorMeaning}
 use Rattle.prg_values.specs.declared.scope.Reading.{Reading}
 use Rattle.prg_values.specs.Operators.{operated, prefix_fun}
 use Rattle.prg_values.specs.Readings.{Scoped, on_some, read_name, read_qualified}
-use Rattle.prg_values.specs.Written.{Piece, Constant, Does, calls, meaning, choice, reading_kind, completed, function_kind, question_kind, of_none, called_kind, prefixed_kind, operated_kind, kind_in, kinds_in, reading_pieces, constants, chosen, call_pieces, prefix_pieces, denial, operation_pieces, operator_pieces, turned as in_turn, pieces_in, all_pieces, defaults}
+use Rattle.prg_values.specs.Written.{Piece, Constant, Does, calls, meaning, choice, reading_kind, function_kind, question_kind, of_none, called_kind, prefixed_kind, operated_kind, kind_in, kinds_in, reading_pieces, constants, chosen, call_pieces, prefix_pieces, denial, operation_pieces, operator_pieces, turned as in_turn, pieces_in, all_pieces, defaults}
 use Rattle.fit_laws.proofs.Values.{ResultLaw}
 use Rattle.expr_laws.specs.Meaning.{Sight, nothing, applied_to, denied_if, operands, operation_value, prefixed_value, chosen_value, called_value, value_in, values_in}
 use Rattle.expr_laws.proofs.Machines.{Run, Machine, Puts, Goes, parted, goes_nowhere, goes_by, goes_constant, onto, onto_both, Fit, fit_parts}
-use Rattle.expr_laws.proofs.Stacks.{arguments_back, rest_back, as_many}
-use Rattle.expr_laws.proofs.Defaults.{only_functions_fill, is_function}
-use Rattle.expr_laws.proofs.Operands.{operated_sound, choice_takes}
-use Rattle.expr_laws.proofs.Options.{none_some, found, passed}
+use Rattle.expr_laws.proofs.Stacks.{arguments_back, rest_back}
+use Rattle.expr_laws.proofs.Defaults.{alone, all_kinds}
+use Rattle.expr_laws.proofs.Operands.{operated_sound, two_taken, choice_takes}
+use Rattle.expr_laws.proofs.Options.{none_some, found}
 use Rattle.expr_laws.proofs.Told.{kind_told, kinds_told, operands_fit, operands_there}
 
 -- how many values arguments have
@@ -43,11 +42,11 @@ count_values : (v : Sight) (es : Trees) → length (values_in v es) ≡ tree.cou
 count_values v tree.None = refl
 count_values v (tree.More e es) = ap suc (count_values v es)
 
-module _ (s : Scoped) (v : Sight) (cs : List Value) (fit : Instr → Type 0) (run : Run) (m : Machine s v cs fit run) (law : ResultLaw) where
+module _ (s : Scoped) (v : Sight) (cs : List Value) (fit : Instr → Type 0) (run : Run) (test : Instr → List Value → Type 0) (m : Machine s v cs fit run test) (law : ResultLaw) where
   -- ---- pieces of one node
 
   -- a function of values that stand on top
-  function_leads : (g : Fun) (vs a b : List Value) → length (takes_of g) ≡ length vs → Goes cs run (calls g ∷ []) (onto vs a) b → b ≡ applied_to v.settings g vs ∷ a
+  pub function_leads : (g : Fun) (vs a b : List Value) → length (takes_of g) ≡ length vs → Goes cs run (calls g ∷ []) (onto vs a) b → b ≡ applied_to v.settings g vs ∷ a
   function_leads g vs a b many goes =
       goes_by cs run (Values (value_instr.Function g)) (onto vs a) b goes ∙ m.function g (onto vs a)
       ∙ ap (λ (ws : List Value). applied g v.settings (by_kind ws) ∷ drop (length (takes_of g)) (onto vs a)) (arguments_back g vs a many)
@@ -57,9 +56,9 @@ module _ (s : Scoped) (v : Sight) (cs : List Value) (fit : Instr → Type 0) (ru
   constants_lead [] a b goes = goes_nowhere cs run a b goes
   constants_lead (c ∷ values) a b goes =
       let w = parted cs run (Constant c ∷ []) (constants values) a b goes in
-      constants_lead values w.middle b w.last ∙ ap (onto values) (goes_constant s v cs fit run m c a w.middle w.first)
+      constants_lead values w.middle b w.last ∙ ap (onto values) (goes_constant s v cs fit run test m c a w.middle w.first)
 
-  reading_leads : (x : Option Reading) (c : Value) (k : Kind) (a b : List Value) → ((r : Reading) → x ≡ Some r → fit r.instr → Puts run r c) → reading_kind x ≡ Some k → Fit fit (reading_pieces x) → Goes cs run (reading_pieces x) a b → b ≡ c ∷ a
+  reading_leads : (x : Option Reading) (c : Value) (k : Kind) (a b : List Value) → ((r : Reading) → x ≡ Some r → fit r.instr → Puts run test r c) → reading_kind x ≡ Some k → Fit fit (reading_pieces x) → Goes cs run (reading_pieces x) a b → b ≡ c ∷ a
   reading_leads None c k a b puts e h goes = none_some (b ≡ c ∷ a) k e
   reading_leads (Some r) c k a b puts e h goes = goes_by cs run r.instr a b goes ∙ (puts r refl h.0).put a
 
@@ -68,19 +67,7 @@ module _ (s : Scoped) (v : Sight) (cs : List Value) (fit : Instr → Type 0) (ru
   -- as many arguments as the function takes, with those that are left out
   takes_all : (f : Function) (g : Fun) (ks : List Kind) (vs : List Value) (k : Kind) → map kind_of vs ≡ ks → function_kind f g ks ≡ Some k → length (takes_of g) ≡ length (vs ++ defaults f (length vs))
   takes_all f g ks vs k same e =
-      let p = passed (same_kinds (takes_of g) (completed f ks)) (Some (gives_of g)) k e in
-      let all : map kind_of vs ++ map kind_of (defaults f (length (map kind_of vs))) ≡ completed f ks = ap (completed f) same in
-      let count : length (map kind_of vs) ≡ length vs = length-map vs kind_of in
-      as_many (takes_of g) (completed f ks) p.holds ∙ sym (ap (λ (xs : List Kind). length xs) all)
-      ∙ ap (λ (n : ℕ). length (map kind_of vs ++ map kind_of (defaults f n))) count ∙ length-append (map kind_of vs) (map kind_of (defaults f (length vs)))
-      ∙ ap2 count (length-map (defaults f (length vs)) kind_of) ∙ sym (length-append vs (defaults f (length vs)))
-    where
-      ap2 : {a b c d : ℕ} → a ≡ b → c ≡ d → a + c ≡ b + d
-      ap2 {a} {b} {c} {d} e g = ap (λ n. n + c) e ∙ ap (λ n. b + n) g
-
-  -- nothing is left out where a question is asked, the day is, or a choice is made
-  alone : (f : Function) (c : Called) (n : ℕ) (st : List Value) → meaning f ≡ c → is_function c ≡ false → onto (defaults f n) st ≡ st
-  alone f c n st is e = ap (λ (ws : List Value). onto ws st) (only_functions_fill f n (ap is_function is ∙ e))
+      sym (ap (λ (xs : List Kind). length xs) (all_kinds f g ks vs k same e)) ∙ length-map (vs ++ defaults f (length vs)) kind_of
 
   question_leads : (q : Question) (ks : List Kind) (vs : List Value) (k : Kind) (a b : List Value) → map kind_of vs ≡ ks → of_none ks (question_kind s q) ≡ Some k → fit (Records (record_instr.Ask q)) → Goes cs run (Does (Records (record_instr.Ask q)) ∷ []) (onto vs a) b → b ≡ v.asked q ∷ a
   question_leads q [] [] k a b same e h goes = goes_by cs run (Records (record_instr.Ask q)) a b goes ∙ (m.asked q k e h).put a
@@ -97,7 +84,7 @@ module _ (s : Scoped) (v : Sight) (cs : List Value) (fit : Instr → Type 0) (ru
       let w = found (choice ks) (λ g. Some (gives_of g)) k e in
       let there : choice (map kind_of vs) ≡ Some w.a = ap choice same ∙ w.there in
       let goes' : Goes cs run (calls w.a ∷ []) (onto vs a) b = subst (λ (x : Option Fun). Goes cs run (call_pieces called.Choice x) (onto vs a) b) w.there goes in
-      let many : length (takes_of w.a) ≡ length vs = choice_takes ks w.a w.there ∙ sym (ap (λ (xs : List Kind). length xs) same) ∙ length-map vs kind_of in
+      let many : length (takes_of w.a) ≡ length vs = sym (ap (λ (xs : List Kind). length xs) (same ∙ choice_takes ks w.a w.there)) ∙ length-map vs kind_of in
       function_leads w.a vs a b many goes' ∙ ap (λ (x : Option Fun). on_some x nothing (λ f. applied_to v.settings f vs) ∷ a) (sym there)
 
   called_leads : (f : Function) (c : Called) (ks : List Kind) (vs : List Value) (k : Kind) (a b : List Value) → meaning f ≡ c → map kind_of vs ≡ ks → called_kind s f c ks ≡ Some k → Fit fit (call_pieces c (choice ks))
@@ -133,7 +120,7 @@ module _ (s : Scoped) (v : Sight) (cs : List Value) (fit : Instr → Type 0) (ru
       both false = refl
 
   -- the operands in the order that the function takes them
-  operands_lead : (swapped : Bool) (as' bs : List Piece) (x y : Value) (a b : List Value)
+  pub operands_lead : (swapped : Bool) (as' bs : List Piece) (x y : Value) (a b : List Value)
       → ((c d : List Value) → Goes cs run as' c d → d ≡ x ∷ c) → ((c d : List Value) → Goes cs run bs c d → d ≡ y ∷ c)
       → Goes cs run (in_turn swapped as' bs) a b → b ≡ onto (operands swapped x y) a
   operands_lead true as' bs x y a b one other goes =
@@ -143,13 +130,21 @@ module _ (s : Scoped) (v : Sight) (cs : List Value) (fit : Instr → Type 0) (ru
       let w = parted cs run as' bs a b goes in
       other w.middle b w.last ∙ ap (λ (st : List Value). y ∷ st) (one a w.middle w.first)
 
+  -- arguments, and behind them those that are left out
+  pub arguments_lead : (f : Function) (es : Trees) (a b : List Value) → ((c : List Value) → Goes cs run (all_pieces s es) a c → c ≡ onto (values_in v es) a)
+      → Goes cs run (all_pieces s es ++ constants (defaults f (tree.count es))) a b → b ≡ onto (defaults f (length (values_in v es))) (onto (values_in v es) a)
+  arguments_lead f es a b args goes =
+      let w = parted cs run (all_pieces s es) (constants (defaults f (tree.count es))) a b goes in
+      constants_lead (defaults f (tree.count es)) w.middle b w.last ∙ ap (onto (defaults f (tree.count es))) (args w.middle w.first)
+      ∙ ap (λ (n : ℕ). onto (defaults f n) (onto (values_in v es) a)) (sym (count_values v es))
+
   -- ---- along the tree
 
   mutual
     pub leads : (e : Tree) (k : Kind) (a b : List Value) → kind_in s e ≡ Some k → Fit fit (pieces_in s e) → Goes cs run (pieces_in s e) a b → b ≡ value_in v e ∷ a
-    leads (tree.Number n) k a b e h goes = goes_constant s v cs fit run m (value.Number n) a b goes
-    leads (tree.Text t) k a b e h goes = goes_constant s v cs fit run m (value.Text (record { items = t })) a b goes
-    leads (tree.Logical x) k a b e h goes = goes_constant s v cs fit run m (value.Logical x) a b goes
+    leads (tree.Number n) k a b e h goes = goes_constant s v cs fit run test m (value.Number n) a b goes
+    leads (tree.Text t) k a b e h goes = goes_constant s v cs fit run test m (value.Text (record { items = t })) a b goes
+    leads (tree.Logical x) k a b e h goes = goes_constant s v cs fit run test m (value.Logical x) a b goes
     leads (tree.Name n) k a b e h goes = reading_leads (read_name s n) (v.named n) k a b (m.named n) e h goes
     leads (tree.Qualified al n) k a b e h goes = reading_leads (read_qualified s al n) (v.qualified al n) k a b (m.qualified al n) e h goes
     leads (tree.Call f es) k a b e h goes =
@@ -158,12 +153,8 @@ module _ (s : Scoped) (v : Sight) (cs : List Value) (fit : Instr → Type 0) (ru
         let p = fit_parts fit (all_pieces s es ++ constants (defaults f (tree.count es))) (call_pieces (meaning f) (chosen (kinds_in s es))) h in
         let q = fit_parts fit (all_pieces s es) (constants (defaults f (tree.count es))) p.0 in
         let outer = parted cs run (all_pieces s es ++ constants (defaults f (tree.count es))) (call_pieces (meaning f) (chosen (kinds_in s es))) a b goes in
-        let inner = parted cs run (all_pieces s es) (constants (defaults f (tree.count es))) a outer.middle outer.first in
-        let args : inner.middle ≡ onto vs a = all_lead es w.a a inner.middle w.there q.0 inner.first in
-        let filled : outer.middle ≡ onto (defaults f (length vs)) (onto vs a) =
-        constants_lead (defaults f (tree.count es)) inner.middle outer.middle inner.last ∙ ap (onto (defaults f (tree.count es))) args
-        ∙ ap (λ (n : ℕ). onto (defaults f n) (onto vs a)) (sym (count_values v es)) in
-        called_leads f (meaning f) w.a vs k a b refl (kinds_told s v cs fit run m law es w.a w.there q.0) w.made
+        let filled : outer.middle ≡ onto (defaults f (length vs)) (onto vs a) = arguments_lead f es a outer.middle (λ c g. all_lead es w.a a c w.there q.0 g) outer.first in
+        called_leads f (meaning f) w.a vs k a b refl (kinds_told s v cs fit run test m law es w.a w.there q.0) w.made
         (subst (λ (x : Option (List Kind)). Fit fit (call_pieces (meaning f) (chosen x))) w.there p.1)
         (subst (λ (st : List Value). Goes cs run (call_pieces (meaning f) (choice w.a)) st b) filled
         (subst (λ (x : Option (List Kind)). Goes cs run (call_pieces (meaning f) (chosen x)) outer.middle b) w.there outer.last))
@@ -185,9 +176,9 @@ module _ (s : Scoped) (v : Sight) (cs : List Value) (fit : Instr → Type 0) (ru
         let va = value_in v ta in
         let vb = value_in v tb in
         let first = operands_lead y.a.swapped (pieces_in s ta) (pieces_in s tb) va vb a g.middle (λ c d. leads ta w.a c d w.there p.0) (λ c d. leads tb x.a c d x.there p.1) g.first in
-        let made = operation_leads y.a va vb a b (operated_sound o w.a x.a y.a y.there).two (subst (λ (st : List Value). Goes cs run (operation_pieces y.a) st b) first g.last) in
-        let ka = kind_told s v cs fit run m law ta w.a w.there p.0 in
-        let kb = kind_told s v cs fit run m law tb x.a x.there p.1 in
+        let made = operation_leads y.a va vb a b (two_taken w.a x.a y.a (operated_sound o w.a x.a y.a y.there)) (subst (λ (st : List Value). Goes cs run (operation_pieces y.a) st b) first g.last) in
+        let ka = kind_told s v cs fit run test m law ta w.a w.there p.0 in
+        let kb = kind_told s v cs fit run test m law tb x.a x.there p.1 in
         let same : operated o (kind_of va) (kind_of vb) ≡ Some y.a = ap (λ (z : Kind). operated o z (kind_of vb)) ka ∙ ap (operated o w.a) kb ∙ y.there in
         made ∙ ap (λ (z : Option OperatorMeaning). on_some z nothing (λ operation. operation_value v.settings operation va vb) ∷ a) (sym same)
 

@@ -1,22 +1,25 @@
 -- What the names of an expression stand for in a world, and what is left where its code has run.
-use Rattle.std.specs.Prelude.{◌≡◌, ℕ, ◌+◌, true, false, List, [], ◌∷◌, Option, Some, None, slice_get, take, drop}
-use Rattle.std.specs.Prelude.{length, codes, if◌then◌else◌}
+use Rattle.std.specs.Prelude.{◌≡◌, ◌<◌, ◌≤◌, ℕ, ◌+◌, true, false, List, [], ◌∷◌, Option, Some, None, slice_get, take}
+use Rattle.std.specs.Prelude.{drop, length, codes, if◌then◌else◌}
 use Rattle.std.specs.Str.{bytes_eq}
 use Rattle.xvalue.specs.declared.value.Value.{Value}
 use Rattle.dbf_file.specs.declared.field.Field.{Field}
 use Rattle.shape.specs.declared.whole.Shape.{Shape}
 use Rattle.open_table.specs.Open.{OpenState, field_of}
 use Rattle.work_area.specs.declared.uses.Use.{Use}
-use Rattle.work_area.specs.Areas.{StoreState, use_at, area_table, here, selected_use, holds}
+use Rattle.work_area.specs.Areas.{StoreState, use_at, area_table, here, selected_use, holds, AreApart}
 use Rattle.code_items.specs.declared.code.Code.{Code}
 use Rattle.code_items.specs.declared.instr.Instr.{Instr}
 use Rattle.code_items.specs.declared.instr.Question.{Question}
 use Rattle.code_items.specs.Desks.{desk_covered}
 use Rattle.code_items.specs.Kinds.{slots_covered}
+use Rattle.code_items.specs.Legal.{places_of}
+use Rattle.code_rules.specs.Rules.{height_after}
 use Rattle.prg_code.specs.Bindings.{NamedVariables, slot_named}
 use Rattle.prg_values.specs.Readings.{Scoped, on_some, table_fields, field_named, table_named, letter_area}
 use Rattle.run_steps.specs.World.{World, state_of}
 use Rattle.run_steps.specs.Effects.{answer}
+use Rattle.run_steps.specs.Shapes.{HasShape}
 use Rattle.expr_laws.specs.Meaning.{Sight, nothing}
 
 -- ---- variables
@@ -97,6 +100,20 @@ pub record StandsAt (code : Code) (s : Scoped) (w : World) : Type 0 where
 -- these instructions stand in a code from a place on
 abbrev pub IsThere : Code → ℕ → List Instr → Type 0
 IsThere code place block = take (length block) (drop place code.instructions) ≡ block
+
+-- instructions one behind the other never make a stack of this height higher than the bound
+abbrev pub StaysWithin : ℕ → ℕ → List Instr → Type 0
+StaysWithin bound height [] = Unit {0}
+StaysWithin bound height (i ∷ block) =
+    (height_after height i ≤ bound) × StaysWithin bound (height_after height i) block
+
+-- in a code, accepted or not, the instructions can be run through from this world: it has the code's shape, no two work
+-- areas hold one table, the place behind the instructions stands in a procedure, and the stack has room
+pub record HasWay (code : Code) (w : World) (block : List Instr) : Type 0 where
+  pub shape : HasShape code w
+  pub apart : AreApart w.env.store.areas
+  pub behind : w.place + length block < places_of code.procedures
+  pub room : StaysWithin code.declared.stack_bound (length w.values.stack) block
 
 -- the world so many instructions further, with a value more on the stack; nothing else is changed
 abbrev pub with_value : ℕ → Value → World → World

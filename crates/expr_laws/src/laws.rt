@@ -7,8 +7,9 @@ ghost use Rattle.code_items.specs.Legal.{IsCode};
 ghost use Rattle.code_rules.specs.Rules.{Accepted};
 ghost use Rattle.expr_laws.specs.Meaning.{holds_in, value_in};
 ghost use Rattle.expr_laws.specs.Rows.{row_sight, IsOfFilter, IsOfTable};
-ghost use Rattle.expr_laws.specs.Seeing.{sight, IsThere, StandsAt, with_value};
+ghost use Rattle.expr_laws.specs.Seeing.{sight, HasWay, IsThere, StandsAt, with_value};
 ghost use Rattle.fit_laws.specs.Fits.{IsFitting};
+ghost use Rattle.prg_code.specs.Numbers.{Grows};
 ghost use Rattle.prg_expr.specs.Tree.{Tree};
 ghost use Rattle.prg_values.specs.Readings.{Scoped};
 ghost use Rattle.prg_values.specs.Written.{IsWrittenExpr};
@@ -18,10 +19,12 @@ ghost use Rattle.run_steps.specs.World.{kind_held, World as AnyWorld};
 ghost use Rattle.open_table.specs.Tried.{TriedRow};
 ghost use Rattle.xvalue.specs.declared.kind.Kind.{Kind as AnyKind};
 ghost use Rattle.xvalue.specs.declared.kind.Kind.TheVariants.{Logical};
+ghost use Rattle.xvalue.specs.declared.value.Value.{Value as AnyValue};
 ghost use Rattle.xvalue.specs.Kinds.{kind_of};
 
 use code_items::laws::legal_codes;
 use fit_laws::laws::fitting_worlds_are_safe;
+use run_laws::laws::faultless_instructions_are_clear;
 use xvalue::laws::{results_have_their_kind, same_kinds_are_equal};
 
 /// The code of an expression, wherever it stands in accepted code, leaves the expression's value on top after one step
@@ -44,6 +47,31 @@ pub fn expressions_leave_their_values()
 {
     results_have_their_kind();
     fitting_worlds_are_safe();
+}
+
+/// The code of an expression leaves the expression's value on top after one step an instruction wherever it stands in a
+/// code, accepted or not: each name is read as its slot or field, the value has the kind that was known, and nothing
+/// else is changed but the place. The code holds at least the constants with which the expression was compiled. The
+/// world has the code's shape, what was known where the expression was compiled is true of it, its stack has room, and
+/// the place behind the expression's code stands in a procedure.
+pub fn expressions_leave_their_values_anywhere()
+    ensures world { (code : AnyCode) (s : Scoped) (w : AnyWorld) (e : Tree) (kind : AnyKind)
+        (constants : List AnyValue) (block : List AnyInstr) → HasWay code w block → StandsAt code s w
+        → IsWrittenExpr s e kind constants block → Grows constants code.declared.constants
+        → IsThere code w.place block
+        → after code w (length block)
+        ≡ Some (with_value (length block) (value_in (sight code.declared.shape s.names w) e) w) }
+    ensures steps { (code : AnyCode) (s : Scoped) (w : AnyWorld) (e : Tree) (kind : AnyKind)
+        (constants : List AnyValue) (block : List AnyInstr) → HasWay code w block → StandsAt code s w
+        → IsWrittenExpr s e kind constants block → Grows constants code.declared.constants
+        → IsThere code w.place block → spent code w (length block) ≡ length block }
+    ensures kind { (code : AnyCode) (s : Scoped) (w : AnyWorld) (e : Tree) (kind : AnyKind)
+        (constants : List AnyValue) (block : List AnyInstr) → HasWay code w block → StandsAt code s w
+        → IsWrittenExpr s e kind constants block → Grows constants code.declared.constants
+        → IsThere code w.place block → kind_of (value_in (sight code.declared.shape s.names w) e) ≡ kind }
+{
+    results_have_their_kind();
+    faultless_instructions_are_clear();
 }
 
 /// A filter compiled from a condition, where its needs are met and its block can be run, shows just the rows that

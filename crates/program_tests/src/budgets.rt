@@ -2,7 +2,7 @@
 #![tactic(auto)]
 
 use super::cases::{CODE, RunCase, compiled, entries, run_case};
-use super::moves::{filtered, first_smith, reopened, shrinking, smiths};
+use super::moves::{filtered, first_smith, rekeyed, reopened, shrinking, smiths};
 use super::records::{bill, customer, full, keys, letters, of_t, removed};
 use super::screens::{centuries, numbers, scrolling, texts_and_dates, typed};
 use super::second::{dated, days, three_tables, unsure};
@@ -164,6 +164,7 @@ fn stale_indexes(rt: HostRuntime) -> Result<(), Fail> {
     let bytes = keys(rt.alloc(), 1, &letters())?;
     let files = [of_t(&bytes)];
     assert_eq!(rt; first_unlike(rt.alloc(), &reopened(&files), 23)?, None);
+    assert_eq!(rt; first_unlike(rt.alloc(), &rekeyed(&files), 13)?, None);
     Ok(())
 }
 

@@ -144,10 +144,32 @@ pub fn wrong_in<'a>(alloc: Global, case: &RunCase<'a>) -> Result<Option<&'a str>
     Ok(first_unlisted(alloc, &mut files, case.listed))
 }
 
-/// How the refusal of a case's command file is told; none where it is compiled.
-pub fn refused(alloc: Global, case: &RunCase<'_>) -> Result<Option<String>, AllocError> {
+/// The bytes of a file behind a run of a case that saves; empty where there are none.
+pub fn saved_bytes(alloc: Global, case: &RunCase<'_>, name: &str) -> Result<Vec<u8>, AllocError> {
     let entries = entries(alloc, case)?;
     let mut files = MemoryFiles::new(alloc, entries.as_slice(), WORKS_FOR_EVER);
+    if compiled(alloc, &mut files) {
+        run_case(alloc, &mut files, case, false);
+    }
+    match files.bytes_of(name) {
+        Some(bytes) => Vec::from_slice(alloc, bytes),
+        None => Ok(Vec::new(alloc)),
+    }
+}
+
+/// How the refusal of a case's command file is told; none where it is compiled.
+pub fn refused(alloc: Global, case: &RunCase<'_>) -> Result<Option<String>, AllocError> {
+    refused_on(alloc, case, WORKS_FOR_EVER)
+}
+
+/// The same on a device that works for so many calls.
+pub fn refused_on(
+    alloc: Global,
+    case: &RunCase<'_>,
+    calls: u64,
+) -> Result<Option<String>, AllocError> {
+    let entries = entries(alloc, case)?;
+    let mut files = MemoryFiles::new(alloc, entries.as_slice(), calls);
     match compile_files(alloc, &mut files, DECLARATIONS, CODE, &[SOURCE]) {
         Ok(()) => Ok(None),
         Err(refusal) => {

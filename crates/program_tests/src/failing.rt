@@ -1,7 +1,7 @@
 // The device fails in each call of a run in turn: the run says so, and the next one loads what is there.
 #![tactic(auto)]
 
-use super::cases::{RunCase, compiled, entries, run_case};
+use super::cases::{RunCase, compiled, entries, refused_on, run_case};
 use super::moves::{endless, opened, reopened, shrinking};
 use super::records::{customer, keys, letters, of_t};
 use super::tables::table;
@@ -49,6 +49,36 @@ fn calls_of(alloc: Global, case: &RunCase<'_>) -> Result<Option<u64>, AllocError
         }
     }
     Ok(None)
+}
+
+/// How many calls work before the first at which a compilation isn't told so.
+fn first_untold(
+    alloc: Global,
+    case: &RunCase<'_>,
+    words: &[&str],
+) -> Result<Option<usize>, AllocError> {
+    for (calls, word) in words.iter().enumerate() {
+        match refused_on(alloc, case, calls as u64)? {
+            Some(told) if told.as_str() == *word => {}
+            _ => return Ok(Some(calls)),
+        }
+    }
+    Ok(None)
+}
+
+/// The declarations, the table that they name, the command file, and the code.
+#[test]
+fn tells_what_isnt_read_while_compiling(rt: HostRuntime) -> Result<(), Fail> {
+    let bytes = keys(rt.alloc(), 1, &letters())?;
+    let files = [of_t(&bytes)];
+    let words = [
+        "disk MAIN.DCL",
+        "disk T.DBF",
+        "disk MAIN.PRG",
+        "disk MAIN.XBC",
+    ];
+    assert_eq!(rt; first_untold(rt.alloc(), &reopened(&files), &words)?, None);
+    Ok(())
 }
 
 /// The code, the table, and the table again.

@@ -28,6 +28,8 @@ mod screens;
 #[cfg(test)]
 mod second;
 #[cfg(test)]
+mod sorted;
+#[cfg(test)]
 mod stored;
 #[cfg(test)]
 mod tables;

@@ -69,6 +69,34 @@ fn keeps_the_order_of_changed_keys(rt: HostRuntime) -> Result<(), Fail> {
     Ok(())
 }
 
+/// A key is changed under the order of its index: the pointer stays, and another record is the first.
+pub fn rekeyed<'a>(files: &'a [MemoryEntry<'a>]) -> RunCase<'a> {
+    RunCase {
+        declarations: "TABLE T\nINDEX KI ON T KEY K\n",
+        files,
+        listed: &[
+            (
+                "T.DBF",
+                "K C 1 0\nrecords 3\n      1   Z\n      2   B\n      3   C\n",
+            ),
+            ("KI.NDX", "K 1\n      2 B\n      3 C\n      1 Z\n"),
+        ],
+        ..printing(
+            "USE T\nINDEX ON K TO KI\nREPLACE K WITH \"Z\"\n? RECNO()\n",
+            "         1\n",
+            "finished 13",
+        )
+    }
+}
+
+#[test]
+fn keeps_the_pointer_where_a_key_changes(rt: HostRuntime) -> Result<(), Fail> {
+    let bytes = keys(rt.alloc(), 1, &letters())?;
+    let files = [of_t(&bytes)];
+    assert_eq!(rt; wrong_in(rt.alloc(), &rekeyed(&files))?, None);
+    Ok(())
+}
+
 /// A key is changed while its index is closed, and sought when it is open again.
 pub fn reopened<'a>(files: &'a [MemoryEntry<'a>]) -> RunCase<'a> {
     RunCase {

@@ -1,7 +1,7 @@
 // Records added, changed and removed by command files, and what the tables hold behind a run.
 #![tactic(auto)]
 
-use super::cases::{RunCase, printing, refused, wrong_in};
+use super::cases::{RunCase, printing, refused, saved_bytes, wrong_in};
 use super::tables::table;
 use file_access::MemoryEntry;
 use std::alloc::{AllocError, Global};
@@ -39,6 +39,19 @@ pub fn customer<'a>(files: &'a [MemoryEntry<'a>]) -> RunCase<'a> {
     }
 }
 
+/// The table with the customer, stamped with the first day of 1985.
+fn with_customer(alloc: Global) -> Result<Vec<u8>, AllocError> {
+    let mut bytes = table(
+        alloc,
+        &[(b"NAME", b'C', 10, 0)],
+        &[b"\x20\x41\x6e\x6e\x20\x20\x20\x20\x20\x20\x20"],
+    )?;
+    if bytes.len() > 4 {
+        bytes[1..4].copy_from_slice(&[85, 1, 1]);
+    }
+    Ok(bytes)
+}
+
 #[test]
 fn adds_a_customer(rt: HostRuntime) -> Result<(), Fail> {
     let bytes = table(rt.alloc(), &[(b"NAME", b'C', 10, 0)], &[])?;
@@ -47,6 +60,8 @@ fn adds_a_customer(rt: HostRuntime) -> Result<(), Fail> {
         bytes: &bytes,
     }];
     assert_eq!(rt; wrong_in(rt.alloc(), &customer(&files))?, None);
+    let saved = saved_bytes(rt.alloc(), &customer(&files), "CUST.DBF")?;
+    assert!(rt; saved.len() == 77 && saved.as_slice() == with_customer(rt.alloc())?.as_slice());
     Ok(())
 }
 

@@ -65,6 +65,33 @@ fn prints_texts_and_dates(rt: HostRuntime) -> Result<(), Fail> {
     Ok(())
 }
 
+/// A variable that is handed over, a value, and a variable that is hidden.
+fn called() -> [RunCase<'static>; 3] {
+    [
+        printing(
+            "X = 1\nDO P WITH X\n? X\nPROCEDURE P\nPARAMETERS Y\nY = Y + 1\n",
+            "         2\n",
+            "finished 12",
+        ),
+        printing(
+            "X = 1\nDO P WITH X + 0\n? X\nPROCEDURE P\nPARAMETERS Y\nY = Y + 1\n",
+            "         1\n",
+            "finished 17",
+        ),
+        printing(
+            "X = 1\nDO Q\n? X\nPROCEDURE Q\nPRIVATE X\nX = 7\n",
+            "         1\n",
+            "finished 11",
+        ),
+    ]
+}
+
+#[test]
+fn calls_procedures(rt: HostRuntime) -> Result<(), Fail> {
+    assert_eq!(rt; first_wrong(rt.alloc(), &called())?, None);
+    Ok(())
+}
+
 /// Dates with the century and without it.
 pub fn centuries() -> [RunCase<'static>; 1] {
     [printing(

@@ -12,7 +12,7 @@ use run_commands::{How, RunRefusal, run_files};
 use run_steps::FaultKind;
 use std::alloc::{AllocError, Global};
 use std::test::Fail;
-use xcode::CodeFault;
+use xcode::{CodeFault, decode, encode};
 use xverify::FailedRule;
 
 /// A kind's number in the file.
@@ -94,10 +94,21 @@ fn budgets() -> [Budget; 4] {
     ]
 }
 
+/// Whether the code that is read from a file is written as that file.
+fn is_written_again(alloc: Global, bytes: &[u8]) -> Result<bool, AllocError> {
+    let Ok(code) = decode(alloc, bytes) else {
+        return Ok(false);
+    };
+    if !code.is_legal() {
+        return Ok(false);
+    }
+    Ok(encode(alloc, &code)?.as_slice() == bytes)
+}
+
 #[test]
 fn spends_its_budget(rt: HostRuntime) -> Result<(), Fail> {
     let bytes = three_rows(rt.alloc(), LOGICAL)?;
-    assert!(rt; bytes.len() == 216);
+    assert!(rt; bytes.len() == 216 && is_written_again(rt.alloc(), &bytes)?);
     assert_eq!(rt; first_wrong_budget(rt.alloc(), &bytes, true), None);
     assert_eq!(rt; first_wrong_budget(rt.alloc(), &bytes, false), None);
     Ok(())

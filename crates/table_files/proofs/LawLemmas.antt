@@ -18,6 +18,7 @@ use Rattle.table_files.specs.Loading.{IsTableOf, Loaded}
 use Rattle.table_files.specs.Names.{table_file, index_file}
 use Rattle.table_files.specs.Saving.{Write, IsReadable, table_writes, AreSaved, FindsSaved}
 use Rattle.table_files.proofs.FileLemmas.{zip_count, zip_at}
+use Rattle.table_files.proofs.OneTable.{one_table}
 use Rattle.table_files.proofs.ShapeLemmas.{other_tables, other_kinds}
 use Rattle.table_files.proofs.WriteLemmas.{all_append, all_split, all_every, table_names, index_names}
 
@@ -87,7 +88,7 @@ marks_at holds shape limit loaded t s l h here there =
 pub finds_saved : (before after : Holds) (shape : Shape) (store loaded : StoreState) (stamp : Stamp) (k limit : ℕ) → HoldsOneThing after → is_shape shape ≡ true
     → AreSaved shape store stamp k before after → Loaded after shape limit loaded → FindsSaved before shape store k limit loaded
 finds_saved before after shape store loaded stamp k limit one legal h g = record {
-  saved = λ t s o l low here stands there few.
+  saved = λ t s o l low here stands there.
       let f = found_at after shape limit loaded t s l g here there in
       let written : AllByRecursion (λ (w : Write). after w.0 (Some w.1)) (table_writes stamp (take k shape.tables) store.tables) =
       (all_split (λ (w : Write). after w.0 (Some w.1)) (table_writes stamp (take k shape.tables) store.tables) h.are.of_indexes
@@ -96,7 +97,8 @@ finds_saved before after shape store loaded stamp k limit one legal h g = record
       write_at (λ (w : Write). after w.0 (Some w.1)) stamp (take k shape.tables) store.tables t s o (get_taken shape.tables k t low ∙ here) stands written in
       let same : f.of.bytes ≡ dbf_text o.table.structure o.table.rows stamp = some_same _ _ (one (table_file s) (Some f.of.bytes) (Some (dbf_text o.table.structure o.table.rows stamp)) f.of.held held) in
       let text : IsReadable stamp o = all_at (IsReadable stamp) (take k store.tables) t o (get_taken store.tables k t low ∙ stands) h.are.readable in
-      let only = f.of.inside.only o.table.structure o.table.rows stamp (subst (λ (b : List ℕ). DbfText o.table.structure o.table.rows stamp b) (sym same) text) few in
+      let held_text : DbfText o.table.structure o.table.rows stamp f.of.bytes = subst (λ (b : List ℕ). DbfText o.table.structure o.table.rows stamp b) (sym same) text in
+      let only = one_table f.table.structure o.table.structure f.table.rows o.table.rows f.of.inside.stamp stamp f.of.bytes f.of.inside.text held_text in
       (f.structure ∙ only.0, f.rows ∙ only.1);
   kept = λ t s l low here there.
       let f = found_at after shape limit loaded t s l g here there in

@@ -118,10 +118,10 @@ module _ (lists : ℕ → List Pair → Type 0) (fields : List Field) (rows : Li
 -- ---- what a load finds
 
 pub finds_lists : (before after : Holds) (shape : Shape) (store loaded : StoreState) (stamp : Stamp) (k limit : ℕ) → HoldsOneThing after → is_shape shape ≡ true
-    → AreSaved shape store stamp k before after → Loaded after shape limit loaded → FindsLists after shape store k limit loaded
-finds_lists before after shape store loaded stamp k limit one legal h g n x s o l saved few there file short =
+    → AreSaved shape store stamp k before after → Loaded after shape limit loaded → FindsLists after shape store k loaded
+finds_lists before after shape store loaded stamp k limit one legal h g n x s o l saved there file short =
     let low : x.table < k = (let within = saved.within in let declared = slice_get_within shape.tables x.table s saved.declared in omega (arith, within, declared)) in
-    let rows : l.table.rows ≡ o.table.rows = ((finds_saved before after shape store loaded stamp k limit one legal h g).saved x.table s o l low saved.declared saved.table there few).1 in
+    let rows : l.table.rows ≡ o.table.rows = ((finds_saved before after shape store loaded stamp k limit one legal h g).saved x.table s o l low saved.declared saved.table there).1 in
     let list = g.listed.each n x s saved.index saved.declared in
     let same : list.found ≡ Some file.bytes = one (index_file x) list.found (Some file.bytes) list.held file.held in
     let just = (list.just (index_list x.key o.table.rows)).1 (subst (λ (f : Option (List ℕ)). FoundList f (key_form s x) (index_list x.key o.table.rows)) (sym same) (short, file.text.file)) in

@@ -5,8 +5,7 @@ use Rattle.std.specs.Char.{to_ascii_lowercase}
 use Rattle.std.specs.List.{AllZip}
 use Rattle.dbf_file.specs.declared.field.Field.{Field}
 use Rattle.dbf_file.specs.declared.stamp.Stamp.{Stamp}
-use Rattle.dbf_file.specs.Rows.{Row}
-use Rattle.dbf_file.specs.Tables.{StructureState, TableState, DbfText}
+use Rattle.dbf_file.specs.Tables.{TableState, DbfText}
 use Rattle.file_access.specs.Holding.{Holds}
 use Rattle.ndx_tree.specs.IndexFile.{IsIndexFile}
 use Rattle.key_lists.specs.KeyForm.{KeyForm}
@@ -32,12 +31,10 @@ pub record AreDeclared (fields declared : List Field) : Type 0 where
   pub alike : HaveAlikeFields fields declared
   pub named : AreNamed fields declared
 
--- the table that stands in the bytes of a file, and no other, with the declared fields and no more rows than the limit
+-- the table that stands in the bytes of a file, with the declared fields and no more rows than the limit
 pub record IsTableIn (bytes : List ℕ) (limit : ℕ) (s : TableShape) (table : TableState) : Type 0 where
   pub stamp : Stamp
   pub text : DbfText table.structure table.rows stamp bytes
-  pub only : (structure : StructureState) (rows : List Row) (other : Stamp) → DbfText structure rows other bytes
-      → length rows ≤ limit → (table.structure ≡ structure) × (table.rows ≡ rows)
   pub few : length table.rows ≤ limit
   pub declared : AreDeclared table.structure.fields s.fields
 

@@ -16,12 +16,13 @@ use Rattle.table_files.specs.declared.refusal.TableFault.TheVariants.{Absent, To
 use Rattle.table_files.specs.Loading.{AreDeclared, IsTableOf}
 use Rattle.table_files.specs.Names.{table_file, index_file, files_of}
 
--- bytes of a table with other fields than those declared
-pub record HasOtherFields (s : TableShape) (bytes : List ℕ) : Type 0 where
+-- bytes of a table of no more rows than the limit, with other fields than those declared
+pub record HasOtherFields (limit : ℕ) (s : TableShape) (bytes : List ℕ) : Type 0 where
   pub structure : StructureState
   pub rows : List Row
   pub stamp : Stamp
   pub text : DbfText structure rows stamp bytes
+  pub few : length rows ≤ limit
   pub other : AreDeclared structure.fields s.fields → ⊥
 
 -- what is wrong with bytes of at most 64 MiB
@@ -29,7 +30,7 @@ abbrev pub FaultIn : ℕ → TableShape → List ℕ → TableFault → Type 0
 FaultIn limit s bytes Absent = ⊥
 FaultIn limit s bytes TooLong = ⊥
 FaultIn limit s bytes (OfTable fault) = first_fault limit bytes ≡ Some fault
-FaultIn limit s bytes Structure = HasOtherFields s bytes
+FaultIn limit s bytes Structure = HasOtherFields limit s bytes
 
 -- bytes that a file may hold, of which a fact holds
 pub record MayHold (holds : Option (List ℕ) → Type 0) (P : List ℕ → Type 0) : Type 0 where

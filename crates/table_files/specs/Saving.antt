@@ -138,12 +138,11 @@ pub record EndedAt (shape : Shape) (store : StoreState) (stamp : Stamp) (before 
 
 -- ---- what a later load finds
 
--- The tables of the first k files are as the store had them, with no more rows than the limit; the others are those
--- that their files held before.
+-- The tables of the first k files are as the store had them; the others are those that their files held before.
 pub record FindsSaved (before : Holds) (shape : Shape) (store : StoreState) (k limit : ℕ)
     (loaded : StoreState) : Type 0 where
   pub saved : (t : ℕ) (s : TableShape) (o l : OpenState) → t < k → slice_get shape.tables t ≡ Some s
-      → table_at store t ≡ Some o → table_at loaded t ≡ Some l → length o.table.rows ≤ limit
+      → table_at store t ≡ Some o → table_at loaded t ≡ Some l
       → (l.table.structure ≡ o.table.structure) × (l.table.rows ≡ o.table.rows)
   pub kept : (t : ℕ) (s : TableShape) (l : OpenState) → k ≤ t → slice_get shape.tables t ≡ Some s
       → table_at loaded t ≡ Some l
@@ -172,8 +171,8 @@ abbrev pub HoldsLists : Holds → Shape → StoreState → ℕ → Type 0
 HoldsLists holds shape store k =
     (n : ℕ) (x : IndexShape) (s : TableShape) (o : OpenState) → IsSaved shape store k n x s o → IsListFile holds s x o
 
--- each such index, of a table of no more rows than the limit, isn't stale where its file has at most 64 MiB
-abbrev pub FindsLists : Holds → Shape → StoreState → ℕ → ℕ → StoreState → Type 0
-FindsLists holds shape store k limit loaded = (n : ℕ) (x : IndexShape) (s : TableShape) (o l : OpenState)
-    → IsSaved shape store k n x s o → length o.table.rows ≤ limit → table_at loaded x.table ≡ Some l
-    → (file : IsListFile holds s x o) → length file.bytes ≤ 67108864 → is_fresh (mark_at l.table.marks n) ≡ true
+-- each such index isn't stale where its file has at most 64 MiB
+abbrev pub FindsLists : Holds → Shape → StoreState → ℕ → StoreState → Type 0
+FindsLists holds shape store k loaded = (n : ℕ) (x : IndexShape) (s : TableShape) (o l : OpenState)
+    → IsSaved shape store k n x s o → table_at loaded x.table ≡ Some l → (file : IsListFile holds s x o)
+    → length file.bytes ≤ 67108864 → is_fresh (mark_at l.table.marks n) ≡ true

@@ -10,7 +10,6 @@ returns-clause-table c =
     record {
       stamp = text.0;
       text = text.1;
-      only = c.in-Ok.ensures.only;
       few = c.in-Ok.ensures.within;
       declared =
           let fields : c.fields.result.now ≡ c.in-Ok.table.structure.fields = c.fields.ensures ∙ ap (λ (s : StructureState). s.fields) c.structure.ensures.same in
