@@ -3,6 +3,12 @@
 //! A command is written in pieces: what goes before the commands within it, then these, then what goes behind them,
 //! maybe up to further commands within it. The commands that are begun stand in a list, so no function calls itself.
 
+ghost use Rattle.std.specs.Prelude.{◌≡◌, ◌++◌, ◌∷◌, [], All, IfOk, IfSome, None, OnOk};
+ghost use Rattle.prg_code.specs.declared.work.Output.{Output as AnyOutput};
+ghost use Rattle.prg_code.specs.Growth.{OutputGrows};
+ghost use Rattle.prg_control.specs.Begun.{IsBodyBehind, IsEndBehind, IsOpenBehind};
+ghost use Rattle.prg_writer.specs.Writing.{IsBegunBehind};
+
 use crate::body::{Behind, Body};
 use crate::calling::{end_call, open_call};
 use crate::choices::{end_choice, end_part, open_do_case, open_if};
@@ -37,13 +43,18 @@ pub fn commands<'a>(
     s: &'a Source,
     w: &mut Writer,
     list: &'a [Command],
-) -> Result<(), CompileRefusal> {
+) -> Result<(), CompileRefusal>
+    // Also where it is refused, what all procedures have in common only grows.
+    ensures grown { OutputGrows w.old.out w.new.out }
+{
     let mut open = only(w.alloc, list)?;
     put_all(s, w, &mut open)
 }
 
 /// A list that is begun, and nothing around it.
-fn only<'a>(alloc: Global, list: &'a [Command]) -> Result<Vec<Open<'a>>, AllocError> {
+fn only<'a>(alloc: Global, list: &'a [Command]) -> Result<Vec<Open<'a>>, AllocError>
+    ensures { (base : AnyOutput) → IfOk result (λ open. All (IsOpenBehind base) open.items) }
+{
     let mut open = Vec::new(alloc);
     open.push(Open {
         begun: None,
@@ -62,7 +73,10 @@ fn put_all<'a>(
     s: &'a Source,
     w: &mut Writer,
     open: &mut Vec<Open<'a>>,
-) -> Result<(), CompileRefusal> {
+) -> Result<(), CompileRefusal>
+    ensures grown { (base : AnyOutput) → OutputGrows base w.old.out → All (IsOpenBehind base) open.old.items
+        → OutputGrows base w.new.out }
+{
     for _ in 0..u64::MAX {
         let Some(innermost) = open.pop() else {
             return Ok(());
@@ -78,7 +92,12 @@ fn go_on<'a>(
     w: &mut Writer,
     open: &mut Vec<Open<'a>>,
     innermost: Open<'a>,
-) -> Result<(), CompileRefusal> {
+) -> Result<(), CompileRefusal>
+    ensures grown { (base : AnyOutput) → OutputGrows base w.old.out → All (IsOpenBehind base) open.old.items
+        → IsOpenBehind base innermost → OutputGrows base w.new.out }
+    ensures behind { (base : AnyOutput) → OutputGrows base w.old.out → All (IsOpenBehind base) open.old.items
+        → IsOpenBehind base innermost → OnOk result (All (IsOpenBehind base) open.new.items) }
+{
     let list = innermost.body.list;
     match list.split_first() {
         Some((command, others)) if w.work.block.reached => {
@@ -97,7 +116,12 @@ fn put_next<'a>(
     open: &mut Vec<Open<'a>>,
     leaps: Option<LeapLabels>,
     command: &'a Command,
-) -> Result<(), CompileRefusal> {
+) -> Result<(), CompileRefusal>
+    ensures grown { (base : AnyOutput) → OutputGrows base w.old.out → All (IsOpenBehind base) open.old.items
+        → OutputGrows base w.new.out }
+    ensures behind { (base : AnyOutput) → OutputGrows base w.old.out → All (IsOpenBehind base) open.old.items
+        → OnOk result (All (IsOpenBehind base) open.new.items) }
+{
     let begun = w.begun()?;
     let outcome = opened(s, w, leaps, command);
     enter(w, open, begun, outcome)
@@ -109,14 +133,21 @@ fn end<'a>(
     w: &mut Writer,
     open: &mut Vec<Open<'a>>,
     innermost: Open<'a>,
-) -> Result<(), CompileRefusal> {
+) -> Result<(), CompileRefusal>
+    ensures grown { (base : AnyOutput) → OutputGrows base w.old.out → All (IsOpenBehind base) open.old.items
+        → IsOpenBehind base innermost → OutputGrows base w.new.out }
+    ensures behind { (base : AnyOutput) → OutputGrows base w.old.out → All (IsOpenBehind base) open.old.items
+        → IsOpenBehind base innermost → OnOk result (All (IsOpenBehind base) open.new.items) }
+{
     let Open { begun, body } = innermost;
     let outcome = ended(s, w, body);
     enter(w, open, begun, outcome)
 }
 
 /// The same with these commands.
-fn with_list<'a>(open: Open<'a>, list: &'a [Command]) -> Open<'a> {
+fn with_list<'a>(open: Open<'a>, list: &'a [Command]) -> Open<'a>
+    ensures { result ≡ record open { body = record open.body { list = list.now } } }
+{
     let Open { begun, body } = open;
     let Body {
         end,
@@ -141,7 +172,12 @@ fn enter<'a>(
     open: &mut Vec<Open<'a>>,
     begun: Option<Begun>,
     outcome: Result<Option<Body<'a>>, CompileRefusal>,
-) -> Result<(), CompileRefusal> {
+) -> Result<(), CompileRefusal>
+    ensures grown { (base : AnyOutput) → OutputGrows base w.old.out → IfSome begun (IsBegunBehind base)
+        → OutputGrows base w.new.out }
+    ensures behind { (base : AnyOutput) → All (IsOpenBehind base) open.old.items → IfSome begun (IsBegunBehind base)
+        → IfOk outcome (λ body. IfSome body (IsBodyBehind base)) → OnOk result (All (IsOpenBehind base) open.new.items) }
+{
     match outcome {
         Ok(Some(body)) => push(open, Open { begun, body }),
         Ok(None) => Ok(()),
@@ -149,7 +185,9 @@ fn enter<'a>(
     }
 }
 
-fn push<'a>(open: &mut Vec<Open<'a>>, innermost: Open<'a>) -> Result<(), CompileRefusal> {
+fn push<'a>(open: &mut Vec<Open<'a>>, innermost: Open<'a>) -> Result<(), CompileRefusal>
+    ensures { OnOk result (open.new.items ≡ open.old.items ++ innermost ∷ []) }
+{
     open.push(innermost)?;
     Ok(())
 }
@@ -159,7 +197,10 @@ fn pass(
     w: &mut Writer,
     begun: &Option<Begun>,
     refusal: CompileRefusal,
-) -> Result<(), CompileRefusal> {
+) -> Result<(), CompileRefusal>
+    ensures grown { (base : AnyOutput) → OutputGrows base w.old.out → IfSome begun.now (IsBegunBehind base)
+        → OutputGrows base w.new.out }
+{
     w.gave_up(begun, Err(refusal))?;
     Ok(())
 }
@@ -170,7 +211,11 @@ fn opened<'a>(
     w: &mut Writer,
     leaps: Option<LeapLabels>,
     command: &'a Command,
-) -> Result<Option<Body<'a>>, CompileRefusal> {
+) -> Result<Option<Body<'a>>, CompileRefusal>
+    ensures grown { OutputGrows w.old.out w.new.out }
+    ensures behind { (base : AnyOutput) → OutputGrows base w.old.out
+        → IfOk result (λ body. IfSome body (IsBodyBehind base)) }
+{
     let line = command.line;
     w.work.block.line = line;
     may_begin(w, command)?;
@@ -210,7 +255,9 @@ fn opened<'a>(
 }
 
 /// Get where a READ is awaited and the command may not stand before it.
-fn may_begin(w: &mut Writer, command: &Command) -> Result<(), CompileRefusal> {
+fn may_begin(w: &mut Writer, command: &Command) -> Result<(), CompileRefusal>
+    ensures same { w.new.out ≡ w.old.out }
+{
     match &command.form {
         Form::Statement(statement) if may_stand_before_read(statement) => Ok(()),
         _ => no_get_waits(w, command.line),
@@ -224,7 +271,11 @@ fn open_statement<'a>(
     leaps: Option<LeapLabels>,
     line: usize,
     statement: &Statement,
-) -> Result<Option<Body<'a>>, CompileRefusal> {
+) -> Result<Option<Body<'a>>, CompileRefusal>
+    ensures grown { OutputGrows w.old.out w.new.out }
+    ensures behind { (base : AnyOutput) → OutputGrows base w.old.out
+        → IfOk result (λ body. IfSome body (IsBodyBehind base)) }
+{
     let result = put_statement(s.shape, &mut w.out, &mut w.work, line, statement);
     let Some(turn) = w.told(line, result)? else {
         return Ok(None);
@@ -246,7 +297,11 @@ fn ended<'a>(
     s: &Source,
     w: &mut Writer,
     body: Body<'a>,
-) -> Result<Option<Body<'a>>, CompileRefusal> {
+) -> Result<Option<Body<'a>>, CompileRefusal>
+    ensures grown { (base : AnyOutput) → OutputGrows base w.old.out → IsBodyBehind base body → OutputGrows base w.new.out }
+    ensures behind { (base : AnyOutput) → IsBodyBehind base body
+        → IfOk result (λ body. IfSome body (IsBodyBehind base)) }
+{
     no_get_waits_behind(w, &body)?;
     put_behind(s, w, body.behind)
 }
@@ -256,7 +311,11 @@ fn put_behind<'a>(
     s: &Source,
     w: &mut Writer,
     behind: Behind<'a>,
-) -> Result<Option<Body<'a>>, CompileRefusal> {
+) -> Result<Option<Body<'a>>, CompileRefusal>
+    ensures grown { (base : AnyOutput) → OutputGrows base w.old.out → IsEndBehind base behind → OutputGrows base w.new.out }
+    ensures behind { (base : AnyOutput) → IsEndBehind base behind
+        → IfOk result (λ body. IfSome body (IsBodyBehind base)) }
+{
     match behind {
         Behind::Nothing => Ok(None),
         Behind::Case(choice, other) => end_part(s, w, choice, other),
@@ -267,13 +326,17 @@ fn put_behind<'a>(
 }
 
 /// No more commands within a command whose end was put.
-fn over<'a>(outcome: Result<(), CompileRefusal>) -> Result<Option<Body<'a>>, CompileRefusal> {
+fn over<'a>(outcome: Result<(), CompileRefusal>) -> Result<Option<Body<'a>>, CompileRefusal>
+    ensures { IfOk result (λ body. body ≡ None) }
+{
     outcome?;
     Ok(None)
 }
 
 /// Get in the line that ends a part of a block if a READ is awaited there and all of it was written.
-fn no_get_waits_behind(w: &mut Writer, body: &Body) -> Result<(), CompileRefusal> {
+fn no_get_waits_behind(w: &mut Writer, body: &Body) -> Result<(), CompileRefusal>
+    ensures same { w.new.out ≡ w.old.out }
+{
     match body.end {
         Some(line) if body.list.is_empty() => no_get_waits(w, line),
         _ => Ok(()),
