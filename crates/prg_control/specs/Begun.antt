@@ -18,4 +18,4 @@ IsBodyBehind base body = IsEndBehind base body.behind
 
 -- a command, with what stood before it where faults are listed
 abbrev pub IsOpenBehind : Output → Open → Type 0
-IsOpenBehind base open = IfSome open.begun (IsBegunBehind base) × IsBodyBehind base open.body
+IsOpenBehind base o = IfSome o.begun (IsBegunBehind base) × IsBodyBehind base o.body

@@ -91,12 +91,7 @@ struct Handed {
 }
 
 /// Hands an argument over, and gives its slot.
-fn hand_over(
-    s: &Source,
-    w: &mut Writer,
-    handed: &mut Handed,
-    e: &Expr,
-) -> Result<(), CompileError>
+fn hand_over(s: &Source, w: &mut Writer, handed: &mut Handed, e: &Expr) -> Result<(), CompileError>
     ensures grown { OutputGrows w.old.out w.new.out }
 {
     if let Some(slot) = argument_slot(s.shape, &w.work, e)? {

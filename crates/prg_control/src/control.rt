@@ -3,7 +3,7 @@
 //! A command is written in pieces: what goes before the commands within it, then these, then what goes behind them,
 //! maybe up to further commands within it. The commands that are begun stand in a list, so no function calls itself.
 
-ghost use Rattle.std.specs.Prelude.{◌≡◌, ◌++◌, ◌∷◌, [], All, IfOk, IfSome, None, OnOk};
+ghost use Rattle.std.specs.Prelude.{◌≡◌, All, IfOk, IfSome, None, OnOk};
 ghost use Rattle.prg_code.specs.declared.work.Output.{Output as AnyOutput};
 ghost use Rattle.prg_code.specs.Growth.{OutputGrows};
 ghost use Rattle.prg_control.specs.Begun.{IsBodyBehind, IsEndBehind, IsOpenBehind};
@@ -47,16 +47,16 @@ pub fn commands<'a>(
     // Also where it is refused, what all procedures have in common only grows.
     ensures grown { OutputGrows w.old.out w.new.out }
 {
-    let mut open = only(w.alloc, list)?;
-    put_all(s, w, &mut open)
+    let mut nested = only(w.alloc, list)?;
+    put_all(s, w, &mut nested)
 }
 
 /// A list that is begun, and nothing around it.
 fn only<'a>(alloc: Global, list: &'a [Command]) -> Result<Vec<Open<'a>>, AllocError>
-    ensures { (base : AnyOutput) → IfOk result (λ open. All (IsOpenBehind base) open.items) }
+    ensures { (base : AnyOutput) → IfOk result (λ nested. All (IsOpenBehind base) nested.items) }
 {
-    let mut open = Vec::new(alloc);
-    open.push(Open {
+    let mut nested = Vec::new(alloc);
+    nested.push(Open {
         begun: None,
         body: Body {
             list,
@@ -65,47 +65,47 @@ fn only<'a>(alloc: Global, list: &'a [Command]) -> Result<Vec<Open<'a>>, AllocEr
             behind: Behind::Nothing,
         },
     })?;
-    Ok(open)
+    Ok(nested)
 }
 
 /// Puts piece by piece what isn't written yet of the commands that are begun.
 fn put_all<'a>(
     s: &'a Source,
     w: &mut Writer,
-    open: &mut Vec<Open<'a>>,
+    nested: &mut Vec<Open<'a>>,
 ) -> Result<(), CompileRefusal>
-    ensures grown { (base : AnyOutput) → OutputGrows base w.old.out → All (IsOpenBehind base) open.old.items
+    ensures grown { (base : AnyOutput) → OutputGrows base w.old.out → All (IsOpenBehind base) nested.old.items
         → OutputGrows base w.new.out }
 {
     for _ in 0..u64::MAX {
-        let Some(innermost) = open.pop() else {
+        let Some(innermost) = nested.pop() else {
             return Ok(());
         };
-        go_on(s, w, open, innermost)?;
+        go_on(s, w, nested, innermost)?;
     }
     Err(w.faulty(0, CompileFaultKind::Limit))
 }
 
-/// Puts the next piece of the innermost command that is begun; `open` has those around it.
+/// Puts the next piece of the innermost command that is begun; `nested` has those around it.
 fn go_on<'a>(
     s: &'a Source,
     w: &mut Writer,
-    open: &mut Vec<Open<'a>>,
+    nested: &mut Vec<Open<'a>>,
     innermost: Open<'a>,
 ) -> Result<(), CompileRefusal>
-    ensures grown { (base : AnyOutput) → OutputGrows base w.old.out → All (IsOpenBehind base) open.old.items
-        → IsOpenBehind base innermost → OutputGrows base w.new.out }
-    ensures behind { (base : AnyOutput) → OutputGrows base w.old.out → All (IsOpenBehind base) open.old.items
-        → IsOpenBehind base innermost → OnOk result (All (IsOpenBehind base) open.new.items) }
+    ensures grown { (base : AnyOutput) → OutputGrows base w.old.out → All (IsOpenBehind base) nested.old.items
+        → IsOpenBehind base innermost.entry → OutputGrows base w.new.out }
+    ensures behind { (base : AnyOutput) → OutputGrows base w.old.out → All (IsOpenBehind base) nested.old.items
+        → IsOpenBehind base innermost.entry → OnOk result (All (IsOpenBehind base) nested.new.items) }
 {
     let list = innermost.body.list;
     match list.split_first() {
         Some((command, others)) if w.work.block.reached => {
             let leaps = innermost.body.leaps;
-            open.push(with_list(innermost, others))?;
-            put_next(s, w, open, leaps, command)
+            nested.push(with_list(innermost, others))?;
+            put_next(s, w, nested, leaps, command)
         }
-        _ => end(s, w, open, innermost),
+        _ => end(s, w, nested, innermost),
     }
 }
 
@@ -113,42 +113,42 @@ fn go_on<'a>(
 fn put_next<'a>(
     s: &'a Source,
     w: &mut Writer,
-    open: &mut Vec<Open<'a>>,
+    nested: &mut Vec<Open<'a>>,
     leaps: Option<LeapLabels>,
     command: &'a Command,
 ) -> Result<(), CompileRefusal>
-    ensures grown { (base : AnyOutput) → OutputGrows base w.old.out → All (IsOpenBehind base) open.old.items
+    ensures grown { (base : AnyOutput) → OutputGrows base w.old.out → All (IsOpenBehind base) nested.old.items
         → OutputGrows base w.new.out }
-    ensures behind { (base : AnyOutput) → OutputGrows base w.old.out → All (IsOpenBehind base) open.old.items
-        → OnOk result (All (IsOpenBehind base) open.new.items) }
+    ensures behind { (base : AnyOutput) → OutputGrows base w.old.out → All (IsOpenBehind base) nested.old.items
+        → OnOk result (All (IsOpenBehind base) nested.new.items) }
 {
     let begun = w.begun()?;
     let outcome = opened(s, w, leaps, command);
-    enter(w, open, begun, outcome)
+    enter(w, nested, begun, outcome)
 }
 
 /// Ends the commands within the innermost command.
 fn end<'a>(
     s: &'a Source,
     w: &mut Writer,
-    open: &mut Vec<Open<'a>>,
+    nested: &mut Vec<Open<'a>>,
     innermost: Open<'a>,
 ) -> Result<(), CompileRefusal>
-    ensures grown { (base : AnyOutput) → OutputGrows base w.old.out → All (IsOpenBehind base) open.old.items
-        → IsOpenBehind base innermost → OutputGrows base w.new.out }
-    ensures behind { (base : AnyOutput) → OutputGrows base w.old.out → All (IsOpenBehind base) open.old.items
-        → IsOpenBehind base innermost → OnOk result (All (IsOpenBehind base) open.new.items) }
+    ensures grown { (base : AnyOutput) → OutputGrows base w.old.out → All (IsOpenBehind base) nested.old.items
+        → IsOpenBehind base innermost.entry → OutputGrows base w.new.out }
+    ensures behind { (base : AnyOutput) → OutputGrows base w.old.out → All (IsOpenBehind base) nested.old.items
+        → IsOpenBehind base innermost.entry → OnOk result (All (IsOpenBehind base) nested.new.items) }
 {
     let Open { begun, body } = innermost;
     let outcome = ended(s, w, body);
-    enter(w, open, begun, outcome)
+    enter(w, nested, begun, outcome)
 }
 
 /// The same with these commands.
-fn with_list<'a>(open: Open<'a>, list: &'a [Command]) -> Open<'a>
-    ensures { result ≡ record open { body = record open.body { list = list.now } } }
+fn with_list<'a>(nested: Open<'a>, list: &'a [Command]) -> Open<'a>
+    ensures { (base : AnyOutput) → IsOpenBehind base nested.entry → IsOpenBehind base result }
 {
-    let Open { begun, body } = open;
+    let Open { begun, body } = nested;
     let Body {
         end,
         leaps,
@@ -169,26 +169,28 @@ fn with_list<'a>(open: Open<'a>, list: &'a [Command]) -> Open<'a>
 /// Begins the commands of a body, where there is one. Of a faulty command nothing is put, where faults are listed.
 fn enter<'a>(
     w: &mut Writer,
-    open: &mut Vec<Open<'a>>,
+    nested: &mut Vec<Open<'a>>,
     begun: Option<Begun>,
     outcome: Result<Option<Body<'a>>, CompileRefusal>,
 ) -> Result<(), CompileRefusal>
     ensures grown { (base : AnyOutput) → OutputGrows base w.old.out → IfSome begun (IsBegunBehind base)
         → OutputGrows base w.new.out }
-    ensures behind { (base : AnyOutput) → All (IsOpenBehind base) open.old.items → IfSome begun (IsBegunBehind base)
-        → IfOk outcome (λ body. IfSome body (IsBodyBehind base)) → OnOk result (All (IsOpenBehind base) open.new.items) }
+    ensures behind { (base : AnyOutput) → All (IsOpenBehind base) nested.old.items → IfSome begun (IsBegunBehind base)
+        → IfOk outcome.entry (λ body. IfSome body (IsBodyBehind base))
+        → OnOk result (All (IsOpenBehind base) nested.new.items) }
 {
     match outcome {
-        Ok(Some(body)) => push(open, Open { begun, body }),
+        Ok(Some(body)) => push(nested, Open { begun, body }),
         Ok(None) => Ok(()),
         Err(refusal) => pass(w, &begun, refusal),
     }
 }
 
-fn push<'a>(open: &mut Vec<Open<'a>>, innermost: Open<'a>) -> Result<(), CompileRefusal>
-    ensures { OnOk result (open.new.items ≡ open.old.items ++ innermost ∷ []) }
+fn push<'a>(nested: &mut Vec<Open<'a>>, innermost: Open<'a>) -> Result<(), CompileRefusal>
+    ensures { (base : AnyOutput) → All (IsOpenBehind base) nested.old.items → IsOpenBehind base innermost.entry
+        → OnOk result (All (IsOpenBehind base) nested.new.items) }
 {
-    open.push(innermost)?;
+    nested.push(innermost)?;
     Ok(())
 }
 
@@ -293,13 +295,9 @@ fn open_statement<'a>(
 
 /// Ends the commands of a body, and puts what goes behind them, up to the next ones within the same command; none where
 /// the command ends. Get in the line that ends a part of a block if a READ is awaited there and all of it was written.
-fn ended<'a>(
-    s: &Source,
-    w: &mut Writer,
-    body: Body<'a>,
-) -> Result<Option<Body<'a>>, CompileRefusal>
-    ensures grown { (base : AnyOutput) → OutputGrows base w.old.out → IsBodyBehind base body → OutputGrows base w.new.out }
-    ensures behind { (base : AnyOutput) → IsBodyBehind base body
+fn ended<'a>(s: &Source, w: &mut Writer, body: Body<'a>) -> Result<Option<Body<'a>>, CompileRefusal>
+    ensures grown { (base : AnyOutput) → OutputGrows base w.old.out → IsBodyBehind base body.entry → OutputGrows base w.new.out }
+    ensures behind { (base : AnyOutput) → IsBodyBehind base body.entry
         → IfOk result (λ body. IfSome body (IsBodyBehind base)) }
 {
     no_get_waits_behind(w, &body)?;
@@ -312,8 +310,8 @@ fn put_behind<'a>(
     w: &mut Writer,
     behind: Behind<'a>,
 ) -> Result<Option<Body<'a>>, CompileRefusal>
-    ensures grown { (base : AnyOutput) → OutputGrows base w.old.out → IsEndBehind base behind → OutputGrows base w.new.out }
-    ensures behind { (base : AnyOutput) → IsEndBehind base behind
+    ensures grown { (base : AnyOutput) → OutputGrows base w.old.out → IsEndBehind base behind.entry → OutputGrows base w.new.out }
+    ensures behind { (base : AnyOutput) → IsEndBehind base behind.entry
         → IfOk result (λ body. IfSome body (IsBodyBehind base)) }
 {
     match behind {

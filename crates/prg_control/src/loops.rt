@@ -125,7 +125,7 @@ fn put_first_row(w: &mut Writer, line: usize, test: LoopTest) -> Result<(), Comp
 /// Begins a round.
 fn open_round<'a>(s: &Source, w: &mut Writer, of: Loop<'a>) -> Result<Body<'a>, CompileRefusal>
     ensures grown { OutputGrows w.old.out w.new.out }
-    ensures behind { (base : AnyOutput) → IsMarkBehind base of.mark → IfOk result (IsBodyBehind base) }
+    ensures behind { (base : AnyOutput) → IsMarkBehind base of.entry.mark → IfOk result (IsBodyBehind base) }
 {
     let head = put_head(s, w, &of)?;
     Ok(Body {
@@ -210,9 +210,9 @@ pub fn end_round<'a>(
     w: &mut Writer,
     round: Round<'a>,
 ) -> Result<Option<Body<'a>>, CompileRefusal>
-    ensures grown { (base : AnyOutput) → OutputGrows base w.old.out → IsMarkBehind base round.of.mark
+    ensures grown { (base : AnyOutput) → OutputGrows base w.old.out → IsMarkBehind base round.entry.of.mark
         → OutputGrows base w.new.out }
-    ensures behind { (base : AnyOutput) → IsMarkBehind base round.of.mark
+    ensures behind { (base : AnyOutput) → IsMarkBehind base round.entry.of.mark
         → IfOk result (λ body. IfSome body (IsBodyBehind base)) }
 {
     match known_again(w, &round)? {
@@ -326,9 +326,9 @@ fn again<'a>(
     of: Loop<'a>,
     state: State,
 ) -> Result<Body<'a>, CompileRefusal>
-    ensures grown { (base : AnyOutput) → OutputGrows base w.old.out → IsMarkBehind base of.mark
+    ensures grown { (base : AnyOutput) → OutputGrows base w.old.out → IsMarkBehind base of.entry.mark
         → OutputGrows base w.new.out }
-    ensures behind { (base : AnyOutput) → IsMarkBehind base of.mark → IfOk result (IsBodyBehind base) }
+    ensures behind { (base : AnyOutput) → IsMarkBehind base of.entry.mark → IfOk result (IsBodyBehind base) }
 {
     let mut of = of;
     w.give_up(&of.mark, &state)?;
