@@ -1,7 +1,9 @@
 //! Calls of procedures, and the copies that are written for them.
 
-ghost use Rattle.std.specs.Prelude.{◌≡◌, length, IfOk, OnOk};
-ghost use Rattle.prg_code.specs.Growth.{BlockBegins};
+ghost use Rattle.std.specs.Prelude.{◌≡◌, length, IfOk, IfSome, OnOk};
+ghost use Rattle.prg_code.specs.declared.work.Output.{Output as AnyOutput};
+ghost use Rattle.prg_code.specs.Growth.{BlockBegins, OutputGrows};
+ghost use Rattle.prg_control.specs.Begun.{IsBodyBehind};
 ghost use Rattle.prg_control.specs.Naming.{SeesParameters};
 
 use crate::body::{Behind, Body};
@@ -89,12 +91,9 @@ struct Handed {
 }
 
 /// Hands an argument over, and gives its slot.
-fn hand_over(
-    s: &Source,
-    w: &mut Writer,
-    handed: &mut Handed,
-    e: &Expr,
-) -> Result<(), CompileError> {
+fn hand_over(s: &Source, w: &mut Writer, handed: &mut Handed, e: &Expr) -> Result<(), CompileError>
+    ensures grown { OutputGrows w.old.out w.new.out }
+{
     if let Some(slot) = argument_slot(s.shape, &w.work, e)? {
         handed.slots.push(slot)?;
         return Ok(());
@@ -110,7 +109,9 @@ fn hand_over(
 }
 
 /// Hands the arguments over.
-fn hand_all_over(s: &Source, w: &mut Writer, es: &[Expr]) -> Result<Handed, CompileError> {
+fn hand_all_over(s: &Source, w: &mut Writer, es: &[Expr]) -> Result<Handed, CompileError>
+    ensures grown { OutputGrows w.old.out w.new.out }
+{
     let mut handed = Handed {
         slots: Vec::new(w.alloc),
         own: Vec::new(w.alloc),
@@ -205,7 +206,9 @@ fn begin_copy(
     target: Target,
     names: Names,
     own: Vec<u8>,
-) -> Result<Work, AllocError> {
+) -> Result<Work, AllocError>
+    ensures same { w.new.out ≡ w.old.out }
+{
     let work = with_own(work_from_here(w, target, &names)?, own);
     w.open_copy(target, names)?;
     Ok(w.begin(work))
@@ -248,7 +251,9 @@ pub fn close_copy(copies: &mut Vec<ProcedureCopy>, number: usize, work: Work) ->
 }
 
 /// Ends the copy of this number, and goes on with the one that was being written before.
-fn end_copy(w: &mut Writer, number: usize, before: Work) {
+fn end_copy(w: &mut Writer, number: usize, before: Work)
+    ensures same { w.new.out ≡ w.old.out }
+{
     let work = w.begin(before);
     let _ = w.active.pop();
     let _ = close_copy(&mut w.copies, number, work);
@@ -270,7 +275,9 @@ fn level_of(w: &Writer, number: usize) -> u8 {
 }
 
 /// Puts the CALL. Limit where the calls within it are too many together with those around it.
-fn put_call(w: &mut Writer, number: usize) -> Result<(), CompileError> {
+fn put_call(w: &mut Writer, number: usize) -> Result<(), CompileError>
+    ensures same { w.new.out ≡ w.old.out }
+{
     let level = level_of(w, number);
     if w.active.len().saturating_add(usize::from(level)) > MOST_CALLS {
         return Err(CompileError::Fault(CompileFaultKind::Limit));
@@ -292,7 +299,9 @@ fn handed_to(
     w: &mut Writer,
     target: Target,
     arguments: &[Expr],
-) -> Result<(Names, Vec<u8>), CompileError> {
+) -> Result<(Names, Vec<u8>), CompileError>
+    ensures grown { OutputGrows w.old.out w.new.out }
+{
     let Handed { slots, own } = hand_all_over(s, w, arguments)?;
     let (variables, _) = parameters(s.commands(target));
     let names = names_in(w, variables, &slots)?;
@@ -301,7 +310,9 @@ fn handed_to(
 
 /// The number of a copy that is to be begun. None where there is one for these names and what is known here: the call
 /// is put.
-fn new_copy(w: &mut Writer, target: Target, names: &Names) -> Result<Option<usize>, CompileError> {
+fn new_copy(w: &mut Writer, target: Target, names: &Names) -> Result<Option<usize>, CompileError>
+    ensures same { w.new.out ≡ w.old.out }
+{
     match copy_for(w, target, names) {
         Some(number) => {
             put_call(w, number)?;
@@ -318,7 +329,9 @@ fn called(
     w: &mut Writer,
     target: Target,
     arguments: &[Expr],
-) -> Result<Option<(usize, Work)>, CompileError> {
+) -> Result<Option<(usize, Work)>, CompileError>
+    ensures grown { OutputGrows w.old.out w.new.out }
+{
     let (names, own) = handed_to(s, w, target, arguments)?;
     match new_copy(w, target, &names)? {
         Some(number) => Ok(Some((number, begin_copy(w, target, names, own)?))),
@@ -333,7 +346,10 @@ pub fn open_call<'a>(
     line: usize,
     procedure: &Name,
     arguments: &[Expr],
-) -> Result<Option<Body<'a>>, CompileRefusal> {
+) -> Result<Option<Body<'a>>, CompileRefusal>
+    ensures grown { OutputGrows w.old.out w.new.out }
+    ensures behind { (base : AnyOutput) → IfOk result (λ body. IfSome body (IsBodyBehind base)) }
+{
     let result = target_of(s, w, procedure, arguments.len());
     let target = w.told(line, result)?;
     let result = called(s, w, target, arguments);
@@ -355,12 +371,16 @@ pub fn open_call<'a>(
 }
 
 /// Ends the copy, and puts the call.
-pub fn end_call(w: &mut Writer, copy: OpenCopy) -> Result<(), CompileRefusal> {
+pub fn end_call(w: &mut Writer, copy: OpenCopy) -> Result<(), CompileRefusal>
+    ensures same { w.new.out ≡ w.old.out }
+{
     end_procedure(w, copy.last)?;
     put_copy(w, copy)
 }
 
-fn put_copy(w: &mut Writer, copy: OpenCopy) -> Result<(), CompileRefusal> {
+fn put_copy(w: &mut Writer, copy: OpenCopy) -> Result<(), CompileRefusal>
+    ensures same { w.new.out ≡ w.old.out }
+{
     let OpenCopy {
         line,
         number,

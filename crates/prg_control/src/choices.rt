@@ -1,5 +1,10 @@
 //! IF and DO CASE.
 
+ghost use Rattle.std.specs.Prelude.{◌≡◌, IfOk, IfSome};
+ghost use Rattle.prg_code.specs.declared.work.Output.{Output as AnyOutput};
+ghost use Rattle.prg_code.specs.Growth.{OutputGrows};
+ghost use Rattle.prg_control.specs.Begun.{IsBodyBehind};
+
 use crate::body::{Behind, Body};
 use crate::steps::{LeapLabels, Span, jump, new_label, place, put_condition};
 use prg_code::CompileRefusal;
@@ -54,7 +59,10 @@ pub fn open_if<'a>(
     condition: &'a Expr,
     then: &'a [Command],
     otherwise: &'a Option<Branch>,
-) -> Result<Option<Body<'a>>, CompileRefusal> {
+) -> Result<Option<Body<'a>>, CompileRefusal>
+    ensures grown { OutputGrows w.old.out w.new.out }
+    ensures behind { (base : AnyOutput) → IfOk result (λ body. IfSome body (IsBodyBehind base)) }
+{
     let Span { first, end } = span;
     let out = match otherwise {
         Some(_) => Some(new_label(w, end)?),
@@ -83,7 +91,10 @@ pub fn open_do_case<'a>(
     cases: &'a [Case],
     otherwise: &'a Option<Branch>,
     end: usize,
-) -> Result<Option<Body<'a>>, CompileRefusal> {
+) -> Result<Option<Body<'a>>, CompileRefusal>
+    ensures grown { OutputGrows w.old.out w.new.out }
+    ensures behind { (base : AnyOutput) → IfOk result (λ body. IfSome body (IsBodyBehind base)) }
+{
     let out = new_label(w, end)?;
     let choice = Choice {
         cases,
@@ -101,7 +112,10 @@ fn open_part<'a>(
     w: &mut Writer,
     choice: Choice<'a>,
     part: Part<'a>,
-) -> Result<Body<'a>, CompileRefusal> {
+) -> Result<Body<'a>, CompileRefusal>
+    ensures grown { OutputGrows w.old.out w.new.out }
+    ensures behind { (base : AnyOutput) → IfOk result (IsBodyBehind base) }
+{
     let other = new_label(w, part.line)?;
     put_condition(s, w, part.line, part.condition, other)?;
     Ok(Body {
@@ -117,7 +131,10 @@ fn next_part<'a>(
     s: &Source,
     w: &mut Writer,
     choice: Choice<'a>,
-) -> Result<Option<Body<'a>>, CompileRefusal> {
+) -> Result<Option<Body<'a>>, CompileRefusal>
+    ensures grown { OutputGrows w.old.out w.new.out }
+    ensures behind { (base : AnyOutput) → IfOk result (λ body. IfSome body (IsBodyBehind base)) }
+{
     if let Some((case, cases)) = choice.cases.split_first() {
         let part = Part {
             line: case.line,
@@ -144,7 +161,10 @@ pub fn end_part<'a>(
     w: &mut Writer,
     choice: Choice<'a>,
     other: usize,
-) -> Result<Option<Body<'a>>, CompileRefusal> {
+) -> Result<Option<Body<'a>>, CompileRefusal>
+    ensures grown { OutputGrows w.old.out w.new.out }
+    ensures behind { (base : AnyOutput) → IfOk result (λ body. IfSome body (IsBodyBehind base)) }
+{
     if let Some(out) = choice.out
         && !choice.is_over()
     {
@@ -155,7 +175,9 @@ pub fn end_part<'a>(
 }
 
 /// Ends the choice.
-pub fn end_choice(w: &mut Writer, choice: Choice) -> Result<(), CompileRefusal> {
+pub fn end_choice(w: &mut Writer, choice: Choice) -> Result<(), CompileRefusal>
+    ensures same { w.new.out ≡ w.old.out }
+{
     match choice.out {
         Some(out) => place(w, choice.end, out),
         None => Ok(()),

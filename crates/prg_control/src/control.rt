@@ -3,6 +3,12 @@
 //! A command is written in pieces: what goes before the commands within it, then these, then what goes behind them,
 //! maybe up to further commands within it. The commands that are begun stand in a list, so no function calls itself.
 
+ghost use Rattle.std.specs.Prelude.{◌≡◌, All, IfOk, IfSome, None, OnOk};
+ghost use Rattle.prg_code.specs.declared.work.Output.{Output as AnyOutput};
+ghost use Rattle.prg_code.specs.Growth.{OutputGrows};
+ghost use Rattle.prg_control.specs.Begun.{IsBodyBehind, IsEndBehind, IsOpenBehind};
+ghost use Rattle.prg_writer.specs.Writing.{IsBegunBehind};
+
 use crate::body::{Behind, Body};
 use crate::calling::{end_call, open_call};
 use crate::choices::{end_choice, end_part, open_do_case, open_if};
@@ -37,15 +43,20 @@ pub fn commands<'a>(
     s: &'a Source,
     w: &mut Writer,
     list: &'a [Command],
-) -> Result<(), CompileRefusal> {
-    let mut open = only(w.alloc, list)?;
-    put_all(s, w, &mut open)
+) -> Result<(), CompileRefusal>
+    // Also where it is refused, what all procedures have in common only grows.
+    ensures grown { OutputGrows w.old.out w.new.out }
+{
+    let mut nested = only(w.alloc, list)?;
+    put_all(s, w, &mut nested)
 }
 
 /// A list that is begun, and nothing around it.
-fn only<'a>(alloc: Global, list: &'a [Command]) -> Result<Vec<Open<'a>>, AllocError> {
-    let mut open = Vec::new(alloc);
-    open.push(Open {
+fn only<'a>(alloc: Global, list: &'a [Command]) -> Result<Vec<Open<'a>>, AllocError>
+    ensures { (base : AnyOutput) → IfOk result (λ nested. All (IsOpenBehind base) nested.items) }
+{
+    let mut nested = Vec::new(alloc);
+    nested.push(Open {
         begun: None,
         body: Body {
             list,
@@ -54,39 +65,47 @@ fn only<'a>(alloc: Global, list: &'a [Command]) -> Result<Vec<Open<'a>>, AllocEr
             behind: Behind::Nothing,
         },
     })?;
-    Ok(open)
+    Ok(nested)
 }
 
 /// Puts piece by piece what isn't written yet of the commands that are begun.
 fn put_all<'a>(
     s: &'a Source,
     w: &mut Writer,
-    open: &mut Vec<Open<'a>>,
-) -> Result<(), CompileRefusal> {
+    nested: &mut Vec<Open<'a>>,
+) -> Result<(), CompileRefusal>
+    ensures grown { (base : AnyOutput) → OutputGrows base w.old.out → All (IsOpenBehind base) nested.old.items
+        → OutputGrows base w.new.out }
+{
     for _ in 0..u64::MAX {
-        let Some(innermost) = open.pop() else {
+        let Some(innermost) = nested.pop() else {
             return Ok(());
         };
-        go_on(s, w, open, innermost)?;
+        go_on(s, w, nested, innermost)?;
     }
     Err(w.faulty(0, CompileFaultKind::Limit))
 }
 
-/// Puts the next piece of the innermost command that is begun; `open` has those around it.
+/// Puts the next piece of the innermost command that is begun; `nested` has those around it.
 fn go_on<'a>(
     s: &'a Source,
     w: &mut Writer,
-    open: &mut Vec<Open<'a>>,
+    nested: &mut Vec<Open<'a>>,
     innermost: Open<'a>,
-) -> Result<(), CompileRefusal> {
+) -> Result<(), CompileRefusal>
+    ensures grown { (base : AnyOutput) → OutputGrows base w.old.out → All (IsOpenBehind base) nested.old.items
+        → IsOpenBehind base innermost.entry → OutputGrows base w.new.out }
+    ensures behind { (base : AnyOutput) → OutputGrows base w.old.out → All (IsOpenBehind base) nested.old.items
+        → IsOpenBehind base innermost.entry → OnOk result (All (IsOpenBehind base) nested.new.items) }
+{
     let list = innermost.body.list;
     match list.split_first() {
         Some((command, others)) if w.work.block.reached => {
             let leaps = innermost.body.leaps;
-            open.push(with_list(innermost, others))?;
-            put_next(s, w, open, leaps, command)
+            nested.push(with_list(innermost, others))?;
+            put_next(s, w, nested, leaps, command)
         }
-        _ => end(s, w, open, innermost),
+        _ => end(s, w, nested, innermost),
     }
 }
 
@@ -94,30 +113,42 @@ fn go_on<'a>(
 fn put_next<'a>(
     s: &'a Source,
     w: &mut Writer,
-    open: &mut Vec<Open<'a>>,
+    nested: &mut Vec<Open<'a>>,
     leaps: Option<LeapLabels>,
     command: &'a Command,
-) -> Result<(), CompileRefusal> {
+) -> Result<(), CompileRefusal>
+    ensures grown { (base : AnyOutput) → OutputGrows base w.old.out → All (IsOpenBehind base) nested.old.items
+        → OutputGrows base w.new.out }
+    ensures behind { (base : AnyOutput) → OutputGrows base w.old.out → All (IsOpenBehind base) nested.old.items
+        → OnOk result (All (IsOpenBehind base) nested.new.items) }
+{
     let begun = w.begun()?;
     let outcome = opened(s, w, leaps, command);
-    enter(w, open, begun, outcome)
+    enter(w, nested, begun, outcome)
 }
 
 /// Ends the commands within the innermost command.
 fn end<'a>(
     s: &'a Source,
     w: &mut Writer,
-    open: &mut Vec<Open<'a>>,
+    nested: &mut Vec<Open<'a>>,
     innermost: Open<'a>,
-) -> Result<(), CompileRefusal> {
+) -> Result<(), CompileRefusal>
+    ensures grown { (base : AnyOutput) → OutputGrows base w.old.out → All (IsOpenBehind base) nested.old.items
+        → IsOpenBehind base innermost.entry → OutputGrows base w.new.out }
+    ensures behind { (base : AnyOutput) → OutputGrows base w.old.out → All (IsOpenBehind base) nested.old.items
+        → IsOpenBehind base innermost.entry → OnOk result (All (IsOpenBehind base) nested.new.items) }
+{
     let Open { begun, body } = innermost;
     let outcome = ended(s, w, body);
-    enter(w, open, begun, outcome)
+    enter(w, nested, begun, outcome)
 }
 
 /// The same with these commands.
-fn with_list<'a>(open: Open<'a>, list: &'a [Command]) -> Open<'a> {
-    let Open { begun, body } = open;
+fn with_list<'a>(nested: Open<'a>, list: &'a [Command]) -> Open<'a>
+    ensures { (base : AnyOutput) → IsOpenBehind base nested.entry → IsOpenBehind base result }
+{
+    let Open { begun, body } = nested;
     let Body {
         end,
         leaps,
@@ -138,19 +169,28 @@ fn with_list<'a>(open: Open<'a>, list: &'a [Command]) -> Open<'a> {
 /// Begins the commands of a body, where there is one. Of a faulty command nothing is put, where faults are listed.
 fn enter<'a>(
     w: &mut Writer,
-    open: &mut Vec<Open<'a>>,
+    nested: &mut Vec<Open<'a>>,
     begun: Option<Begun>,
     outcome: Result<Option<Body<'a>>, CompileRefusal>,
-) -> Result<(), CompileRefusal> {
+) -> Result<(), CompileRefusal>
+    ensures grown { (base : AnyOutput) → OutputGrows base w.old.out → IfSome begun (IsBegunBehind base)
+        → OutputGrows base w.new.out }
+    ensures behind { (base : AnyOutput) → All (IsOpenBehind base) nested.old.items → IfSome begun (IsBegunBehind base)
+        → IfOk outcome.entry (λ body. IfSome body (IsBodyBehind base))
+        → OnOk result (All (IsOpenBehind base) nested.new.items) }
+{
     match outcome {
-        Ok(Some(body)) => push(open, Open { begun, body }),
+        Ok(Some(body)) => push(nested, Open { begun, body }),
         Ok(None) => Ok(()),
         Err(refusal) => pass(w, &begun, refusal),
     }
 }
 
-fn push<'a>(open: &mut Vec<Open<'a>>, innermost: Open<'a>) -> Result<(), CompileRefusal> {
-    open.push(innermost)?;
+fn push<'a>(nested: &mut Vec<Open<'a>>, innermost: Open<'a>) -> Result<(), CompileRefusal>
+    ensures { (base : AnyOutput) → All (IsOpenBehind base) nested.old.items → IsOpenBehind base innermost.entry
+        → OnOk result (All (IsOpenBehind base) nested.new.items) }
+{
+    nested.push(innermost)?;
     Ok(())
 }
 
@@ -159,7 +199,10 @@ fn pass(
     w: &mut Writer,
     begun: &Option<Begun>,
     refusal: CompileRefusal,
-) -> Result<(), CompileRefusal> {
+) -> Result<(), CompileRefusal>
+    ensures grown { (base : AnyOutput) → OutputGrows base w.old.out → IfSome begun.now (IsBegunBehind base)
+        → OutputGrows base w.new.out }
+{
     w.gave_up(begun, Err(refusal))?;
     Ok(())
 }
@@ -170,7 +213,11 @@ fn opened<'a>(
     w: &mut Writer,
     leaps: Option<LeapLabels>,
     command: &'a Command,
-) -> Result<Option<Body<'a>>, CompileRefusal> {
+) -> Result<Option<Body<'a>>, CompileRefusal>
+    ensures grown { OutputGrows w.old.out w.new.out }
+    ensures behind { (base : AnyOutput) → OutputGrows base w.old.out
+        → IfOk result (λ body. IfSome body (IsBodyBehind base)) }
+{
     let line = command.line;
     w.work.block.line = line;
     may_begin(w, command)?;
@@ -210,7 +257,9 @@ fn opened<'a>(
 }
 
 /// Get where a READ is awaited and the command may not stand before it.
-fn may_begin(w: &mut Writer, command: &Command) -> Result<(), CompileRefusal> {
+fn may_begin(w: &mut Writer, command: &Command) -> Result<(), CompileRefusal>
+    ensures same { w.new.out ≡ w.old.out }
+{
     match &command.form {
         Form::Statement(statement) if may_stand_before_read(statement) => Ok(()),
         _ => no_get_waits(w, command.line),
@@ -224,7 +273,11 @@ fn open_statement<'a>(
     leaps: Option<LeapLabels>,
     line: usize,
     statement: &Statement,
-) -> Result<Option<Body<'a>>, CompileRefusal> {
+) -> Result<Option<Body<'a>>, CompileRefusal>
+    ensures grown { OutputGrows w.old.out w.new.out }
+    ensures behind { (base : AnyOutput) → OutputGrows base w.old.out
+        → IfOk result (λ body. IfSome body (IsBodyBehind base)) }
+{
     let result = put_statement(s.shape, &mut w.out, &mut w.work, line, statement);
     let Some(turn) = w.told(line, result)? else {
         return Ok(None);
@@ -242,11 +295,11 @@ fn open_statement<'a>(
 
 /// Ends the commands of a body, and puts what goes behind them, up to the next ones within the same command; none where
 /// the command ends. Get in the line that ends a part of a block if a READ is awaited there and all of it was written.
-fn ended<'a>(
-    s: &Source,
-    w: &mut Writer,
-    body: Body<'a>,
-) -> Result<Option<Body<'a>>, CompileRefusal> {
+fn ended<'a>(s: &Source, w: &mut Writer, body: Body<'a>) -> Result<Option<Body<'a>>, CompileRefusal>
+    ensures grown { (base : AnyOutput) → OutputGrows base w.old.out → IsBodyBehind base body.entry → OutputGrows base w.new.out }
+    ensures behind { (base : AnyOutput) → IsBodyBehind base body.entry
+        → IfOk result (λ body. IfSome body (IsBodyBehind base)) }
+{
     no_get_waits_behind(w, &body)?;
     put_behind(s, w, body.behind)
 }
@@ -256,7 +309,11 @@ fn put_behind<'a>(
     s: &Source,
     w: &mut Writer,
     behind: Behind<'a>,
-) -> Result<Option<Body<'a>>, CompileRefusal> {
+) -> Result<Option<Body<'a>>, CompileRefusal>
+    ensures grown { (base : AnyOutput) → OutputGrows base w.old.out → IsEndBehind base behind.entry → OutputGrows base w.new.out }
+    ensures behind { (base : AnyOutput) → IsEndBehind base behind.entry
+        → IfOk result (λ body. IfSome body (IsBodyBehind base)) }
+{
     match behind {
         Behind::Nothing => Ok(None),
         Behind::Case(choice, other) => end_part(s, w, choice, other),
@@ -267,13 +324,17 @@ fn put_behind<'a>(
 }
 
 /// No more commands within a command whose end was put.
-fn over<'a>(outcome: Result<(), CompileRefusal>) -> Result<Option<Body<'a>>, CompileRefusal> {
+fn over<'a>(outcome: Result<(), CompileRefusal>) -> Result<Option<Body<'a>>, CompileRefusal>
+    ensures { IfOk result (λ body. body ≡ None) }
+{
     outcome?;
     Ok(None)
 }
 
 /// Get in the line that ends a part of a block if a READ is awaited there and all of it was written.
-fn no_get_waits_behind(w: &mut Writer, body: &Body) -> Result<(), CompileRefusal> {
+fn no_get_waits_behind(w: &mut Writer, body: &Body) -> Result<(), CompileRefusal>
+    ensures same { w.new.out ≡ w.old.out }
+{
     match body.end {
         Some(line) if body.list.is_empty() => no_get_waits(w, line),
         _ => Ok(()),

@@ -1,5 +1,11 @@
 //! DO WHILE and SCAN: a loop is written round by round, until what is known at its head holds.
 
+ghost use Rattle.std.specs.Prelude.{◌≡◌, IfOk, IfSome};
+ghost use Rattle.prg_code.specs.declared.work.Output.{Output as AnyOutput};
+ghost use Rattle.prg_code.specs.Growth.{OutputGrows};
+ghost use Rattle.prg_control.specs.Begun.{IsBodyBehind};
+ghost use Rattle.prg_writer.specs.Writing.{IsMarkBehind};
+
 use crate::body::{Behind, Body};
 use crate::steps::{LeapLabels, Span, jump, new_label, place, put_condition};
 use code_items::{Instr, Question, RecordInstr, State, ValueInstr};
@@ -59,7 +65,11 @@ pub fn open_loop<'a>(
     span: Span,
     test: LoopTest<'a>,
     body: &'a [Command],
-) -> Result<Option<Body<'a>>, CompileRefusal> {
+) -> Result<Option<Body<'a>>, CompileRefusal>
+    ensures grown { OutputGrows w.old.out w.new.out }
+    ensures behind { (base : AnyOutput) → OutputGrows base w.old.out
+        → IfOk result (λ body. IfSome body (IsBodyBehind base)) }
+{
     put_first_row(w, span.first, test)?;
     let of = begun_loop(w, span, test, body)?;
     Ok(Some(open_round(s, w, of)?))
@@ -71,7 +81,11 @@ fn begun_loop<'a>(
     span: Span,
     test: LoopTest<'a>,
     body: &'a [Command],
-) -> Result<Loop<'a>, AllocError> {
+) -> Result<Loop<'a>, AllocError>
+    ensures same { w.new.out ≡ w.old.out }
+    ensures behind { (base : AnyOutput) → OutputGrows base w.old.out
+        → IfOk result (λ of. IsMarkBehind base of.mark) }
+{
     let entry = w.work.block.state.copied(w.alloc)?;
     let held = w.known_at_head(span.first)?;
     know(w, &held)?;
@@ -88,13 +102,17 @@ fn begun_loop<'a>(
 }
 
 /// Goes on with what is known.
-fn know(w: &mut Writer, state: &State) -> Result<(), AllocError> {
+fn know(w: &mut Writer, state: &State) -> Result<(), AllocError>
+    ensures same { w.new.out ≡ w.old.out }
+{
     w.work.block.state = state.copied(w.alloc)?;
     Ok(())
 }
 
 /// Goes to the first row, for a SCAN in this line; a DO WHILE begins with nothing.
-fn put_first_row(w: &mut Writer, line: usize, test: LoopTest) -> Result<(), CompileRefusal> {
+fn put_first_row(w: &mut Writer, line: usize, test: LoopTest) -> Result<(), CompileRefusal>
+    ensures same { w.new.out ≡ w.old.out }
+{
     match test {
         LoopTest::While(_) => Ok(()),
         LoopTest::Rows(_) => {
@@ -105,7 +123,10 @@ fn put_first_row(w: &mut Writer, line: usize, test: LoopTest) -> Result<(), Comp
 }
 
 /// Begins a round.
-fn open_round<'a>(s: &Source, w: &mut Writer, of: Loop<'a>) -> Result<Body<'a>, CompileRefusal> {
+fn open_round<'a>(s: &Source, w: &mut Writer, of: Loop<'a>) -> Result<Body<'a>, CompileRefusal>
+    ensures grown { OutputGrows w.old.out w.new.out }
+    ensures behind { (base : AnyOutput) → IsMarkBehind base of.entry.mark → IfOk result (IsBodyBehind base) }
+{
     let head = put_head(s, w, &of)?;
     Ok(Body {
         list: of.body,
@@ -116,7 +137,9 @@ fn open_round<'a>(s: &Source, w: &mut Writer, of: Loop<'a>) -> Result<Body<'a>, 
 }
 
 /// Puts what goes before the commands of a round.
-fn put_head(s: &Source, w: &mut Writer, of: &Loop) -> Result<Head, CompileRefusal> {
+fn put_head(s: &Source, w: &mut Writer, of: &Loop) -> Result<Head, CompileRefusal>
+    ensures grown { OutputGrows w.old.out w.new.out }
+{
     let line = of.span.first;
     let top = new_label(w, line)?;
     let leaps = leaps_of(w, line, of.test, top)?;
@@ -134,7 +157,9 @@ fn leaps_of(
     line: usize,
     test: LoopTest,
     top: usize,
-) -> Result<LeapLabels, CompileRefusal> {
+) -> Result<LeapLabels, CompileRefusal>
+    ensures same { w.new.out ≡ w.old.out }
+{
     let again = match test {
         LoopTest::While(_) => top,
         LoopTest::Rows(_) => new_label(w, line)?,
@@ -151,7 +176,9 @@ fn put_row_test(
     line: usize,
     only_if: &Option<Expr>,
     leaps: LeapLabels,
-) -> Result<(), CompileRefusal> {
+) -> Result<(), CompileRefusal>
+    ensures grown { OutputGrows w.old.out w.new.out }
+{
     let result = put_scan_test(w);
     w.told(line, result)?;
     let result = w.work.block.jump_false(leaps.out);
@@ -163,7 +190,9 @@ fn put_row_test(
 }
 
 /// Puts the test of a SCAN: whether there is a row.
-fn put_scan_test(w: &mut Writer) -> Result<(), CompileError> {
+fn put_scan_test(w: &mut Writer) -> Result<(), CompileError>
+    ensures same { w.new.out ≡ w.old.out }
+{
     if w.work.block.state.desk.selected_area().is_none() {
         return Err(CompileError::Fault(CompileFaultKind::ClosedArea));
     }
@@ -180,7 +209,12 @@ pub fn end_round<'a>(
     s: &Source,
     w: &mut Writer,
     round: Round<'a>,
-) -> Result<Option<Body<'a>>, CompileRefusal> {
+) -> Result<Option<Body<'a>>, CompileRefusal>
+    ensures grown { (base : AnyOutput) → OutputGrows base w.old.out → IsMarkBehind base round.entry.of.mark
+        → OutputGrows base w.new.out }
+    ensures behind { (base : AnyOutput) → IsMarkBehind base round.entry.of.mark
+        → IfOk result (λ body. IfSome body (IsBodyBehind base)) }
+{
     match known_again(w, &round)? {
         Some(state) => Ok(Some(again(s, w, round.of, state)?)),
         None => {
@@ -192,7 +226,9 @@ pub fn end_round<'a>(
 
 /// Leads back to the loop's head, and gives what is known there by then, if that is less than in this round. Else the
 /// place behind the loop is here. Limit where there were too many rounds.
-fn known_again(w: &mut Writer, round: &Round) -> Result<Option<State>, CompileRefusal> {
+fn known_again(w: &mut Writer, round: &Round) -> Result<Option<State>, CompileRefusal>
+    ensures grown { OutputGrows w.old.out w.new.out }
+{
     let (of, head) = (&round.of, round.head);
     let end = of.span.end;
     put_way_back(w, end, of.test, head.top, head.leaps.again)?;
@@ -207,7 +243,9 @@ fn known_again(w: &mut Writer, round: &Round) -> Result<Option<State>, CompileRe
 }
 
 /// Remembers what held at the head of a loop that is written, if that took more than one round.
-fn end_loop(w: &mut Writer, of: Loop) -> Result<(), AllocError> {
+fn end_loop(w: &mut Writer, of: Loop) -> Result<(), AllocError>
+    ensures same { w.new.out ≡ w.old.out }
+{
     let Loop {
         span,
         mark,
@@ -229,7 +267,9 @@ fn put_way_back(
     test: LoopTest,
     top: usize,
     again: usize,
-) -> Result<(), CompileRefusal> {
+) -> Result<(), CompileRefusal>
+    ensures grown { OutputGrows w.old.out w.new.out }
+{
     match test {
         LoopTest::While(_) => jump(w, end, top),
         LoopTest::Rows(_) => {
@@ -240,7 +280,9 @@ fn put_way_back(
 }
 
 /// Goes on to the next row and back to the top, where this is reached.
-fn put_next_row(w: &mut Writer, end: usize, top: usize) -> Result<(), CompileRefusal> {
+fn put_next_row(w: &mut Writer, end: usize, top: usize) -> Result<(), CompileRefusal>
+    ensures grown { OutputGrows w.old.out w.new.out }
+{
     if !w.work.block.reached {
         return Ok(());
     }
@@ -256,7 +298,9 @@ fn wider(
     end: usize,
     top: usize,
     held: &State,
-) -> Result<Option<State>, CompileRefusal> {
+) -> Result<Option<State>, CompileRefusal>
+    ensures same { w.new.out ≡ w.old.out }
+{
     let Some(label) = w.work.block.labels.get(top) else {
         return Ok(None);
     };
@@ -281,7 +325,11 @@ fn again<'a>(
     w: &mut Writer,
     of: Loop<'a>,
     state: State,
-) -> Result<Body<'a>, CompileRefusal> {
+) -> Result<Body<'a>, CompileRefusal>
+    ensures grown { (base : AnyOutput) → OutputGrows base w.old.out → IsMarkBehind base of.entry.mark
+        → OutputGrows base w.new.out }
+    ensures behind { (base : AnyOutput) → IsMarkBehind base of.entry.mark → IfOk result (IsBodyBehind base) }
+{
     let mut of = of;
     w.give_up(&of.mark, &state)?;
     of.held = state;

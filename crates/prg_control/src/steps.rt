@@ -1,5 +1,10 @@
 //! Labels, jumps and conditions, with the line of their command where they are refused.
 
+ghost use Rattle.std.specs.Prelude.{◌≡◌, IfSome};
+ghost use Rattle.prg_code.specs.declared.work.Output.{Output as AnyOutput};
+ghost use Rattle.prg_code.specs.Growth.{OutputGrows};
+ghost use Rattle.prg_writer.specs.Writing.{IsBegunBehind};
+
 use prg_code::CompileRefusal;
 use prg_commands::{condition, put_constant};
 use prg_expr::Expr;
@@ -33,14 +38,18 @@ pub fn put_condition(
     line: usize,
     e: &Expr,
     label: usize,
-) -> Result<(), CompileRefusal> {
+) -> Result<(), CompileRefusal>
+    ensures grown { OutputGrows w.old.out w.new.out }
+{
     put_test(s, w, line, e)?;
     let result = w.work.block.jump_false(label);
     w.told(line, result)
 }
 
 /// A condition, or .T. in its place.
-fn put_test(s: &Source, w: &mut Writer, line: usize, e: &Expr) -> Result<(), CompileRefusal> {
+fn put_test(s: &Source, w: &mut Writer, line: usize, e: &Expr) -> Result<(), CompileRefusal>
+    ensures grown { OutputGrows w.old.out w.new.out }
+{
     let begun = w.begun()?;
     w.work.block.line = line;
     let result = condition(s.shape, &mut w.out, &mut w.work, e);
@@ -54,7 +63,10 @@ fn put_true_for(
     line: usize,
     begun: &Option<Begun>,
     outcome: Result<(), CompileRefusal>,
-) -> Result<(), CompileRefusal> {
+) -> Result<(), CompileRefusal>
+    ensures grown { (base : AnyOutput) → IfSome begun.now (IsBegunBehind base) → OutputGrows base w.old.out
+        → OutputGrows base w.new.out }
+{
     if !w.gave_up(begun, outcome)? {
         return Ok(());
     }
@@ -63,13 +75,17 @@ fn put_true_for(
 }
 
 /// A label that has no place yet.
-pub fn new_label(w: &mut Writer, line: usize) -> Result<usize, CompileRefusal> {
+pub fn new_label(w: &mut Writer, line: usize) -> Result<usize, CompileRefusal>
+    ensures same { w.new.out ≡ w.old.out }
+{
     let result = w.work.block.new_label();
     w.told(line, result)
 }
 
 /// The label stands here. Merge where different work areas are selected on the ways that meet here.
-pub fn place(w: &mut Writer, line: usize, label: usize) -> Result<(), CompileRefusal> {
+pub fn place(w: &mut Writer, line: usize, label: usize) -> Result<(), CompileRefusal>
+    ensures same { w.new.out ≡ w.old.out }
+{
     w.work.block.line = line;
     let result = w.work.block.place(label);
     let outcome = w.told(line, result);
@@ -77,7 +93,9 @@ pub fn place(w: &mut Writer, line: usize, label: usize) -> Result<(), CompileRef
 }
 
 /// A JUMP to the label, where this is reached.
-pub fn jump(w: &mut Writer, line: usize, label: usize) -> Result<(), CompileRefusal> {
+pub fn jump(w: &mut Writer, line: usize, label: usize) -> Result<(), CompileRefusal>
+    ensures same { w.new.out ≡ w.old.out }
+{
     w.work.block.line = line;
     let result = w.work.block.jump(label);
     w.told(line, result)
