@@ -1,7 +1,7 @@
 -- What a terminal is sent to show rows. 27 91 begin an order, 10 ends a line, 32 is a blank.
 use Rattle.std.specs.Prelude.{ℕ, ◌≡◌, ◌<◌, ◌+◌, ◌-◌, ◌^◌, ◌==◌, ◌||◌, ◌&&◌, not, min, nat_lt, nat_le, zero, suc, Bool}
-use Rattle.std.specs.Prelude.{true, false, List, [], ◌∷◌, ◌++◌, drop, get_or, length, take, slice_get, slice_set, Option}
-use Rattle.std.specs.Prelude.{Some, None, MatchOption, if◌then◌else◌}
+use Rattle.std.specs.Prelude.{true, false, List, [], ◌∷◌, ◌++◌, drop, get_or, length, take, slice_get, slice_set}
+use Rattle.std.specs.Prelude.{Option, Some, None, MatchOption, if◌then◌else◌}
 use Rattle.std.specs.List.{flat_map, list_any, suffix_len}
 use Rattle.std.specs.Fmt.{decimal}
 use Rattle.std.specs.Str.{bytes_eq}
@@ -162,7 +162,8 @@ has_changed (Some old) row = not (bytes_eq old row)
 abbrev pub changes_shown : Option CodePage → List (List ℕ) → List (List ℕ) → List ℕ
 changes_shown page before [] = []
 changes_shown page before (row ∷ rows) =
-    (if has_changed (slice_get before 0) row then changed_line page row else []) ++ changes_shown page (drop 1 before) rows
+    (if has_changed (slice_get before 0) row then changed_line page row else [])
+    ++ changes_shown page (drop 1 before) rows
 
 -- ---- answers
 
