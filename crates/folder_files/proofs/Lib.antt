@@ -1,0 +1,2 @@
+pub mod LastSlash
+pub mod SameFolder

@@ -1,6 +1,10 @@
 //! A save that was cut off, finished.
 #![tactic(auto)]
 
+ghost use Rattle.std.specs.Prelude.{◌≡◌, true, codes, IfErr, IfOk, IfSome};
+ghost use Rattle.save_rules.specs.Rules.{is_in_folder as is_name};
+ghost use Rattle.folder_files.specs.Unfinished.{TellsOfFolder};
+
 use crate::disk::{remove_if_there, sum_of_file, sync_folder};
 use crate::papers::{PAPER, PaperFault, found_paper, remove_draft, remove_paper};
 use save_papers::{PaperEntry, SavePaper};
@@ -35,12 +39,16 @@ pub enum UnfinishedSave {
 }
 
 /// The name of the file that tells of a save.
-pub fn paper_name() -> &'static str {
+pub fn paper_name() -> &'static str
+    ensures { result.now ≡ codes "dbrun.save" }
+{
     PAPER
 }
 
 /// A name that a plan or a note says: one of a file in the folder.
-fn name_in(bytes: &[u8]) -> Option<&str> {
+fn name_in(bytes: &[u8]) -> Option<&str>
+    ensures { IfSome result (λ name. is_name name.now ≡ true) }
+{
     if !is_in_folder(bytes) {
         return None;
     }
@@ -48,7 +56,10 @@ fn name_in(bytes: &[u8]) -> Option<&str> {
 }
 
 /// The names of a file and of its new file that a plan or a note says.
-fn names_in(entry: &PaperEntry) -> Result<(&str, &str), UnfinishedSave> {
+fn names_in(entry: &PaperEntry) -> Result<(&str, &str), UnfinishedSave>
+    ensures named { IfOk result (λ names. (is_name names.0.now ≡ true) × (is_name names.1.now ≡ true)) }
+    ensures told { IfErr result TellsOfFolder }
+{
     let (Some(name), Some(beside)) = (name_in(&entry.name), name_in(&entry.beside)) else {
         return Err(UnfinishedSave::Foreign);
     };
@@ -59,7 +70,9 @@ fn names_in(entry: &PaperEntry) -> Result<(&str, &str), UnfinishedSave> {
 }
 
 /// The failure of the device at a file.
-fn disk_at(alloc: Global, name: &str) -> UnfinishedSave {
+fn disk_at(alloc: Global, name: &str) -> UnfinishedSave
+    ensures { is_name name.now ≡ true → TellsOfFolder result }
+{
     match String::from_str(alloc, name) {
         Ok(name) => UnfinishedSave::Disk { name },
         Err(_) => UnfinishedSave::Memory,
@@ -67,7 +80,9 @@ fn disk_at(alloc: Global, name: &str) -> UnfinishedSave {
 }
 
 /// That another program has changed a file.
-fn changed_at(alloc: Global, name: &str) -> UnfinishedSave {
+fn changed_at(alloc: Global, name: &str) -> UnfinishedSave
+    ensures { is_name name.now ≡ true → TellsOfFolder result }
+{
     match String::from_str(alloc, name) {
         Ok(name) => UnfinishedSave::Changed { name },
         Err(_) => UnfinishedSave::Memory,
@@ -75,10 +90,9 @@ fn changed_at(alloc: Global, name: &str) -> UnfinishedSave {
 }
 
 /// What stands at a file that a note names.
-fn slot_at<R: Disk + Alloc<A = Global>>(
-    rt: &R,
-    entry: &PaperEntry,
-) -> Result<Slot, UnfinishedSave> {
+fn slot_at<R: Disk + Alloc<A = Global>>(rt: &R, entry: &PaperEntry) -> Result<Slot, UnfinishedSave>
+    ensures { IfErr result TellsOfFolder }
+{
     let (name, beside) = names_in(entry)?;
     let Ok(target) = sum_of_file(rt, name) else {
         return Err(disk_at(rt.alloc(), name));
@@ -93,7 +107,9 @@ fn slot_at<R: Disk + Alloc<A = Global>>(
 fn slots_of<R: Disk + Alloc<A = Global>>(
     rt: &R,
     paper: &SavePaper,
-) -> Result<Vec<Slot>, UnfinishedSave> {
+) -> Result<Vec<Slot>, UnfinishedSave>
+    ensures { IfErr result TellsOfFolder }
+{
     let mut slots = Vec::new(rt.alloc());
     for entry in &paper.entries {
         let slot = if paper.noted {
@@ -114,7 +130,9 @@ fn at_file<R: Disk + Alloc<A = Global>>(
     step: Step,
     entry: &PaperEntry,
     slot: Slot,
-) -> Result<(), UnfinishedSave> {
+) -> Result<(), UnfinishedSave>
+    ensures { IfErr result TellsOfFolder }
+{
     let (name, beside) = names_in(entry)?;
     let done = match step {
         Step::Unmake(_) => remove_if_there(rt, beside),
@@ -138,7 +156,9 @@ fn carry_out<R: Disk + Alloc<A = Global>>(
     step: Step,
     paper: &SavePaper,
     slots: &[Slot],
-) -> Result<(), UnfinishedSave> {
+) -> Result<(), UnfinishedSave>
+    ensures { IfErr result TellsOfFolder }
+{
     let done = match step {
         Step::Unmake(file) | Step::Place(file) => {
             return match (paper.entries.get(file), slots.get(file)) {
@@ -158,7 +178,9 @@ fn carry_out<R: Disk + Alloc<A = Global>>(
 }
 
 /// The failure to finish where another program has changed a file.
-fn foreign_in(alloc: Global, paper: &SavePaper, slots: &[Slot]) -> UnfinishedSave {
+fn foreign_in(alloc: Global, paper: &SavePaper, slots: &[Slot]) -> UnfinishedSave
+    ensures { TellsOfFolder result }
+{
     let Some(file) = first_foreign(slots) else {
         return UnfinishedSave::Foreign;
     };
@@ -177,7 +199,9 @@ fn carry_out_all<R: Disk + Alloc<A = Global>>(
     steps: &[Step],
     paper: &SavePaper,
     slots: &[Slot],
-) -> Result<FinishedSave, UnfinishedSave> {
+) -> Result<FinishedSave, UnfinishedSave>
+    ensures { IfErr result TellsOfFolder }
+{
     for step in steps {
         carry_out(rt, *step, paper, slots)?;
     }
@@ -193,7 +217,9 @@ fn finish_at<R: Disk + Alloc<A = Global>>(
     rt: &R,
     paper: &SavePaper,
     slots: &[Slot],
-) -> Result<FinishedSave, UnfinishedSave> {
+) -> Result<FinishedSave, UnfinishedSave>
+    ensures { IfErr result TellsOfFolder }
+{
     let sort = if paper.noted {
         Paper::Note
     } else {
@@ -210,13 +236,17 @@ fn finish_at<R: Disk + Alloc<A = Global>>(
 fn finish_paper<R: Disk + Alloc<A = Global>>(
     rt: &R,
     paper: &SavePaper,
-) -> Result<FinishedSave, UnfinishedSave> {
+) -> Result<FinishedSave, UnfinishedSave>
+    ensures { IfErr result TellsOfFolder }
+{
     let slots = slots_of(rt, paper)?;
     finish_at(rt, paper, slots.as_slice())
 }
 
 /// Why a save isn't finished whose plan or note isn't read.
-fn unread(fault: PaperFault) -> UnfinishedSave {
+fn unread(fault: PaperFault) -> UnfinishedSave
+    ensures { TellsOfFolder result }
+{
     match fault {
         PaperFault::Foreign => UnfinishedSave::Foreign,
         PaperFault::Disk => UnfinishedSave::PaperDisk,
@@ -226,7 +256,12 @@ fn unread(fault: PaperFault) -> UnfinishedSave {
 
 /// Finishes the save that was cut off in the folder in which the program runs, if one was: takes it away where it
 /// hadn't come to its note, and carries it to its end where it had.
-pub fn finish<R: Disk + Alloc<A = Global>>(rt: &R) -> Result<FinishedSave, UnfinishedSave> {
+///
+/// # Errors
+/// A file that is told is one of the folder.
+pub fn finish<R: Disk + Alloc<A = Global>>(rt: &R) -> Result<FinishedSave, UnfinishedSave>
+    ensures { IfErr result TellsOfFolder }
+{
     match found_paper(rt, rt.alloc()) {
         Ok(Some(paper)) => finish_paper(rt, &paper),
         Ok(None) => match remove_draft(rt, rt.alloc()) {
@@ -239,7 +274,12 @@ pub fn finish<R: Disk + Alloc<A = Global>>(rt: &R) -> Result<FinishedSave, Unfin
 
 /// Takes a save that was cut off away: its new files and its plan or note, and no file that it was to replace. Those
 /// that it had replaced already stay new. Answers whether there was one.
-pub fn forget<R: Disk + Alloc<A = Global>>(rt: &R) -> Result<bool, UnfinishedSave> {
+///
+/// # Errors
+/// A file that is told is one of the folder.
+pub fn forget<R: Disk + Alloc<A = Global>>(rt: &R) -> Result<bool, UnfinishedSave>
+    ensures { IfErr result TellsOfFolder }
+{
     let paper = match found_paper(rt, rt.alloc()) {
         Ok(Some(paper)) => paper,
         Ok(None) => {

@@ -1,8 +1,9 @@
 // Files of a folder of the disk.
 #![tactic(auto)]
 
-ghost use Rattle.std.specs.Prelude.{◌≡◌, ◌≤◌};
+ghost use Rattle.std.specs.Prelude.{◌≡◌, ◌≤◌, None};
 ghost use Rattle.file_access.specs.Holding.{Rose};
+ghost use Rattle.folder_files.specs.Handed.{failures_of, why_unreplaced};
 
 use crate::papers::PAPER;
 use crate::replacing::{Unreplaced, replace_file};
@@ -69,7 +70,10 @@ fn is_no_table<R: Disk>(rt: &R, name: &str) -> bool {
 
 impl<'a, R: Disk + Alloc<A = Global>, L: Listener> Folder<'a, R, L> {
     /// The folder, with no failure counted yet.
-    pub fn new(rt: &'a R, listener: L) -> Folder<'a, R, L> {
+    pub fn new(rt: &'a R, listener: L) -> Folder<'a, R, L>
+        ensures failures { failures_of result ≡ 0 }
+        ensures unreplaced { why_unreplaced result ≡ None }
+    {
         Folder {
             rt,
             listener,
@@ -79,7 +83,9 @@ impl<'a, R: Disk + Alloc<A = Global>, L: Listener> Folder<'a, R, L> {
     }
 
     /// Why the last file that wasn't replaced isn't, if there is one.
-    pub fn unreplaced(&self) -> Option<Unreplaced> {
+    pub fn unreplaced(&self) -> Option<Unreplaced>
+        ensures { result ≡ why_unreplaced self.now }
+    {
         self.unreplaced
     }
 

@@ -1,7 +1,10 @@
 //! The journal of a conversation: its file, to which each line goes before the machine takes it.
 #![tactic(auto)]
 
-ghost use Rattle.std.specs.Prelude.{◌≤◌, length};
+ghost use Rattle.std.specs.Prelude.{◌≡◌, ◌-◌, ◌+◌, ◌<◌, ◌≤◌, ◌^◌, ◌==◌, not, min, [], ℕ, List, IfErr, IfOk};
+ghost use Rattle.std.specs.Prelude.{MatchOption, OnErr, OnOk, length};
+ghost use Rattle.std.specs.List.{suffix_len};
+ghost use Rattle.folder_files.specs.Journals.{HoldsLines, RefusesNew, bytes_in_front, bytes_counted};
 
 use crate::disk::{is_free, sync_folder};
 use file_access::{ReadFault, read_within};
@@ -66,7 +69,9 @@ pub struct TakenUp {
 }
 
 /// Holds a file for this program alone, or, where that may be, without a lock on a file system that knows none.
-fn held(file: File, no_lock: bool) -> Result<File, JournalFault> {
+fn held(file: File, no_lock: bool) -> Result<File, JournalFault>
+    ensures { IfErr result RefusesNew }
+{
     match file.try_lock() {
         Ok(()) => Ok(file),
         Err(TryLockError::WouldBlock) => Err(JournalFault::Held),
@@ -94,7 +99,9 @@ fn opened<R: Disk<File = File>>(
     name: &str,
     new: bool,
     no_lock: bool,
-) -> Result<File, JournalFault> {
+) -> Result<File, JournalFault>
+    ensures { IfErr result RefusesNew }
+{
     if is_link(rt, name) {
         return Err(JournalFault::Exists);
     }
@@ -112,23 +119,28 @@ fn opened<R: Disk<File = File>>(
     }
 }
 
-/// Where the last line of a text ends.
-fn lines_end(bytes: &[u8]) -> usize
-    ensures { result ≤ length bytes.now }
+/// How many bytes stand behind the last line of a text.
+fn behind_last_line(bytes: &[u8]) -> usize
+    ensures value { result ≡ suffix_len (λ byte. not (byte == 10)) bytes.now }
+    ensures within { result ≤ length bytes.now }
 {
-    match bytes.iter().rposition(|byte| *byte == b'\n') {
-        Some(place) => place + 1,
-        None => 0,
-    }
+    bytes
+        .iter()
+        .rev()
+        .take_while(|byte| **byte != b'\n')
+        .count()
 }
 
 /// What stands behind the lines of a journal, if anything does.
 fn tail_of(
     alloc: Global,
     file: &File,
-    length: u64,
+    before: u64,
     bytes: &[u8],
-) -> Result<Option<Tail>, JournalFault> {
+) -> Result<Option<Tail>, JournalFault>
+    ensures { IfOk result (λ found. MatchOption found (bytes.now ≡ []) (λ tail. (tail.bytes.items ≡ bytes.now)
+        × (0 < length tail.bytes.items) × (bytes_in_front tail ≡ before))) }
+{
     if bytes.is_empty() {
         return Ok(None);
     }
@@ -138,7 +150,7 @@ fn tail_of(
     match file.try_clone() {
         Ok(file) => Ok(Some(Tail {
             file,
-            length,
+            length: before,
             bytes,
         })),
         Err(_) => Err(JournalFault::Disk),
@@ -146,8 +158,10 @@ fn tail_of(
 }
 
 /// A journal that holds these bytes, taken up again.
-fn taken_up(alloc: Global, file: File, bytes: &[u8]) -> Result<TakenUp, JournalFault> {
-    let (lines, tail) = bytes.split_at(lines_end(bytes));
+fn taken_up(alloc: Global, file: File, bytes: &[u8]) -> Result<TakenUp, JournalFault>
+    ensures { IfOk result (HoldsLines bytes.now) }
+{
+    let (lines, tail) = bytes.split_at(bytes.len() - behind_last_line(bytes));
     let length = lines.len() as u64;
     let Ok(lines) = Vec::from_slice(alloc, lines) else {
         return Err(JournalFault::Memory);
@@ -163,11 +177,9 @@ fn taken_up(alloc: Global, file: File, bytes: &[u8]) -> Result<TakenUp, JournalF
 }
 
 /// An empty journal that was left, if nobody has it.
-fn left_empty<R: Disk<File = File>>(
-    rt: &R,
-    name: &str,
-    no_lock: bool,
-) -> Result<File, JournalFault> {
+fn left_empty<R: Disk<File = File>>(rt: &R, name: &str, no_lock: bool) -> Result<File, JournalFault>
+    ensures { IfErr result RefusesNew }
+{
     let file = opened(rt, name, false, no_lock)?;
     match file.metadata() {
         Ok(data) => {
@@ -186,7 +198,10 @@ impl JournalFile {
         rt: &R,
         name: &str,
         no_lock: bool,
-    ) -> Result<JournalFile, JournalFault> {
+    ) -> Result<JournalFile, JournalFault>
+        ensures empty { IfOk result (λ journal. bytes_counted journal ≡ 0) }
+        ensures refused { IfErr result RefusesNew }
+    {
         let file = match opened(rt, name, true, no_lock) {
             Ok(file) => file,
             Err(JournalFault::Exists) => left_empty(rt, name, no_lock)?,
@@ -203,7 +218,9 @@ impl JournalFile {
         rt: &R,
         name: &str,
         no_lock: bool,
-    ) -> Result<TakenUp, JournalFault> {
+    ) -> Result<TakenUp, JournalFault>
+        ensures { IfOk result (λ taken. (bytes : List ℕ) × HoldsLines bytes taken) }
+    {
         let mut file = opened(rt, name, false, no_lock)?;
         match read_within(rt.alloc(), &mut file, LIMIT) {
             Ok(bytes) => taken_up(rt.alloc(), file, bytes.as_slice()),
@@ -220,14 +237,20 @@ impl JournalFile {
     }
 
     /// Puts bytes behind the others, down to the device.
-    fn put(&mut self, bytes: &[u8]) -> io::Result<()> {
+    fn put(&mut self, bytes: &[u8]) -> io::Result<()>
+        ensures { bytes_counted self.new ≡ bytes_counted self.old }
+    {
         self.file.write_all(bytes)?;
         self.file.sync_data()
     }
 
     /// Puts bytes behind the others, down to the device. Where the device fails, the journal is as it was, as far as
     /// the device lets it be.
-    pub fn add(&mut self, bytes: &[u8]) -> io::Result<()> {
+    pub fn add(&mut self, bytes: &[u8]) -> io::Result<()>
+        ensures counted { OnOk result (bytes_counted self.new
+            ≡ min (bytes_counted self.old + length bytes.now) (2 ^ 64 - 1)) }
+        ensures kept { OnErr result (bytes_counted self.new ≡ bytes_counted self.old) }
+    {
         let put = self.put(bytes);
         match put {
             Ok(()) => {

@@ -1,6 +1,9 @@
 //! The plan and the note of a save, in their file in the folder.
 #![tactic(auto)]
 
+ghost use Rattle.std.specs.Prelude.{IfSome};
+ghost use Rattle.folder_files.specs.Handed.{HindersPlan};
+
 use crate::disk::{is_free, remove_if_there, sync_folder, write_new};
 use crate::targets::Hindrance;
 use file_access::{ReadFault, read_within};
@@ -99,7 +102,9 @@ pub fn save_stands(rt: &impl Disk) -> bool {
 }
 
 /// Why no save could begin in the folder, if none could: the file of a plan's draft is made there, and removed.
-pub fn hindered_plan<R: Disk>(rt: &R) -> Option<Hindrance> {
+pub fn hindered_plan<R: Disk>(rt: &R) -> Option<Hindrance>
+    ensures { IfSome result HindersPlan }
+{
     if !is_free(rt, DRAFT) {
         return Some(Hindrance::Draft);
     }

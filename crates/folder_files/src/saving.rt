@@ -1,8 +1,10 @@
 //! A folder whose files are replaced all together, or not at all.
 #![tactic(auto)]
 
-ghost use Rattle.std.specs.Prelude.{◌≡◌, ◌≤◌};
+ghost use Rattle.std.specs.Prelude.{◌≡◌, ◌<◌, ◌≤◌, ℕ, None, IfErr, IfOk, IfSome, IsOk, length, map};
 ghost use Rattle.file_access.specs.Holding.{Rose};
+ghost use Rattle.folder_files.specs.Handed.{FailsBelow, count_handed, failures_behind, failures_of, name_handed};
+ghost use Rattle.folder_files.specs.Handed.{sum_told, sums_to_be, why_unread};
 
 use crate::backup::{copy_file, make_folder};
 use crate::disk::{
@@ -94,7 +96,11 @@ struct Progress {
 impl<'a, R: Disk + Alloc<A = Global>, L: Listener> SavingFolder<'a, R, L> {
     /// The folder, of which nothing was read yet and nothing is to be replaced. To read a table or an index that
     /// couldn't be saved on these terms is a failure of the device.
-    pub fn new(folder: Folder<'a, R, L>, terms: SaveTerms<'a>) -> SavingFolder<'a, R, L> {
+    pub fn new(folder: Folder<'a, R, L>, terms: SaveTerms<'a>) -> SavingFolder<'a, R, L>
+        ensures nothing { count_handed result ≡ 0 }
+        ensures hindrance { why_unread result ≡ None }
+        ensures failures { failures_behind result ≡ failures_of folder.entry }
+    {
         let alloc = folder.rt.alloc();
         let who = Who::now(folder.rt);
         SavingFolder {
@@ -108,12 +114,16 @@ impl<'a, R: Disk + Alloc<A = Global>, L: Listener> SavingFolder<'a, R, L> {
     }
 
     /// Why a file wasn't read, where what it holds couldn't be saved.
-    pub fn hindrance(&self) -> Option<Hindrance> {
+    pub fn hindrance(&self) -> Option<Hindrance>
+        ensures { result ≡ why_unread self.now }
+    {
         self.hindrance
     }
 
     /// The names of the files that are to be replaced, and the sums of what they are to hold.
-    pub fn new_sums(&self) -> Result<Vec<FileSum>, AllocError> {
+    pub fn new_sums(&self) -> Result<Vec<FileSum>, AllocError>
+        ensures { IfOk result (λ sums. map sum_told sums.items ≡ sums_to_be self.now) }
+    {
         let alloc = self.folder.rt.alloc();
         let mut sums = Vec::new(alloc);
         for pending in &self.pending {
@@ -124,8 +134,10 @@ impl<'a, R: Disk + Alloc<A = Global>, L: Listener> SavingFolder<'a, R, L> {
         Ok(sums)
     }
 
-    /// The name of a file that is to be replaced, by its number.
-    pub fn name_of(&self, file: usize) -> &str {
+    /// The name of a file that is to be replaced, by its number; a hyphen where there is none.
+    pub fn name_of(&self, file: usize) -> &str
+        ensures { result.now ≡ name_handed self.now file }
+    {
         match self.pending.get(file) {
             Some(pending) => pending.name.as_str(),
             None => "-",
@@ -263,12 +275,9 @@ impl<'a, R: Disk + Alloc<A = Global>, L: Listener> SavingFolder<'a, R, L> {
     }
 
     /// A file's name and its new file's, and the sums of what it held and is to hold.
-    fn entry_of(
-        &self,
-        file: usize,
-        pending: &Pending,
-        beside: &str,
-    ) -> Result<PaperEntry, Unsaved> {
+    fn entry_of(&self, file: usize, pending: &Pending, beside: &str) -> Result<PaperEntry, Unsaved>
+        ensures { file < count_handed self.now → IfErr result (FailsBelow (count_handed self.now)) }
+    {
         let alloc = self.folder.rt.alloc();
         let Ok(old) = self.old_sum(pending) else {
             return Err(Unsaved::Disk { file });
@@ -293,7 +302,9 @@ impl<'a, R: Disk + Alloc<A = Global>, L: Listener> SavingFolder<'a, R, L> {
         file: usize,
         pending: &Pending,
         progress: &mut Progress,
-    ) -> Result<(), Unsaved> {
+    ) -> Result<(), Unsaved>
+        ensures { file < count_handed self.now → IfErr result (FailsBelow (count_handed self.now)) }
+    {
         let Ok(fresh) = fresh_name(self.folder.rt, pending.target.as_str()) else {
             return Err(Unsaved::Memory);
         };
@@ -311,7 +322,9 @@ impl<'a, R: Disk + Alloc<A = Global>, L: Listener> SavingFolder<'a, R, L> {
     }
 
     /// The plan of all files that are to be replaced: those whose bytes are new.
-    fn plan(&self) -> Result<Progress, Unsaved> {
+    fn plan(&self) -> Result<Progress, Unsaved>
+        ensures { IfErr result (FailsBelow (count_handed self.now)) }
+    {
         let alloc = self.folder.rt.alloc();
         let mut progress = Progress {
             paper: SavePaper {
@@ -332,7 +345,9 @@ impl<'a, R: Disk + Alloc<A = Global>, L: Listener> SavingFolder<'a, R, L> {
     }
 
     /// Writes the plan, or the note in its place.
-    fn write_paper(&self, progress: &mut Progress) -> Result<(), Unsaved> {
+    fn write_paper(&self, progress: &mut Progress) -> Result<(), Unsaved>
+        ensures { 0 < count_handed self.now → IfErr result (FailsBelow (count_handed self.now)) }
+    {
         match put_paper(self.folder.rt, self.folder.rt.alloc(), &progress.paper) {
             Written::Done => {
                 progress.noted = progress.paper.noted;
@@ -352,7 +367,9 @@ impl<'a, R: Disk + Alloc<A = Global>, L: Listener> SavingFolder<'a, R, L> {
         &'p self,
         place: usize,
         progress: &'p Progress,
-    ) -> Option<(usize, &'p Pending, &'p str)> {
+    ) -> Option<(usize, &'p Pending, &'p str)>
+        ensures { IfSome result (λ planned. planned.0 < count_handed self.now) }
+    {
         let file = *progress.files.get(place)?;
         let pending = self.pending.get(file)?;
         let beside = progress.besides.get(place)?;
@@ -360,7 +377,9 @@ impl<'a, R: Disk + Alloc<A = Global>, L: Listener> SavingFolder<'a, R, L> {
     }
 
     /// Makes the new file beside a file of the plan.
-    fn make(&self, place: usize, progress: &mut Progress) -> Result<(), Unsaved> {
+    fn make(&self, place: usize, progress: &mut Progress) -> Result<(), Unsaved>
+        ensures { IfErr result (FailsBelow (count_handed self.now)) }
+    {
         let Some((file, pending, beside)) = self.planned(place, progress) else {
             return Ok(());
         };
@@ -396,7 +415,9 @@ impl<'a, R: Disk + Alloc<A = Global>, L: Listener> SavingFolder<'a, R, L> {
     }
 
     /// Tells whether each file still holds what it held when it was read, also where it isn't replaced.
-    fn look_again(&self) -> Result<(), Unsaved> {
+    fn look_again(&self) -> Result<(), Unsaved>
+        ensures { IfErr result (FailsBelow (count_handed self.now)) }
+    {
         for (file, pending) in self.pending.iter().enumerate() {
             still(file, self.is_as_read(pending))?;
         }
@@ -404,7 +425,9 @@ impl<'a, R: Disk + Alloc<A = Global>, L: Listener> SavingFolder<'a, R, L> {
     }
 
     /// Tells whether the files of the plan that weren't read are as it says.
-    fn look_at_others(&self, progress: &Progress) -> Result<(), Unsaved> {
+    fn look_at_others(&self, progress: &Progress) -> Result<(), Unsaved>
+        ensures { IfErr result (FailsBelow (count_handed self.now)) }
+    {
         for (place, file) in progress.files.iter().enumerate() {
             if let (Some(pending), Some(entry)) = (
                 self.pending.get(*file),
@@ -417,7 +440,9 @@ impl<'a, R: Disk + Alloc<A = Global>, L: Listener> SavingFolder<'a, R, L> {
     }
 
     /// Puts a new file in its file's place.
-    fn place(&self, place: usize, progress: &Progress) -> Result<(), Unsaved> {
+    fn place(&self, place: usize, progress: &Progress) -> Result<(), Unsaved>
+        ensures { IfErr result (FailsBelow (count_handed self.now)) }
+    {
         let Some((file, pending, beside)) = self.planned(place, progress) else {
             return Ok(());
         };
@@ -428,7 +453,9 @@ impl<'a, R: Disk + Alloc<A = Global>, L: Listener> SavingFolder<'a, R, L> {
     }
 
     /// Removes a new file that was made.
-    fn unmake(&self, place: usize, progress: &Progress) -> Result<(), Unsaved> {
+    fn unmake(&self, place: usize, progress: &Progress) -> Result<(), Unsaved>
+        ensures { IfErr result (FailsBelow (count_handed self.now)) }
+    {
         let Some((file, _, beside)) = self.planned(place, progress) else {
             return Ok(());
         };
@@ -439,7 +466,9 @@ impl<'a, R: Disk + Alloc<A = Global>, L: Listener> SavingFolder<'a, R, L> {
     }
 
     /// Carries out a step of the save.
-    fn carry_out(&self, step: Step, progress: &mut Progress) -> Result<(), Unsaved> {
+    fn carry_out(&self, step: Step, progress: &mut Progress) -> Result<(), Unsaved>
+        ensures { 0 < count_handed self.now → IfErr result (FailsBelow (count_handed self.now)) }
+    {
         let rt = self.folder.rt;
         let done = match step {
             Step::WritePlan => return self.write_paper(progress),
@@ -478,7 +507,9 @@ impl<'a, R: Disk + Alloc<A = Global>, L: Listener> SavingFolder<'a, R, L> {
     }
 
     /// Carries out the steps of the save, each behind the one before.
-    fn carry_out_all(&self, steps: &[Step], progress: &mut Progress) -> Result<(), Unsaved> {
+    fn carry_out_all(&self, steps: &[Step], progress: &mut Progress) -> Result<(), Unsaved>
+        ensures { 0 < count_handed self.now → IfErr result (FailsBelow (count_handed self.now)) }
+    {
         for step in steps {
             self.carry_out(*step, progress)?;
         }
@@ -486,7 +517,9 @@ impl<'a, R: Disk + Alloc<A = Global>, L: Listener> SavingFolder<'a, R, L> {
     }
 
     /// Carries out a plan. Where that fails before its note stands, it is taken away.
-    fn carry_out_plan(&self, progress: &mut Progress) -> Result<(), Unsaved> {
+    fn carry_out_plan(&self, progress: &mut Progress) -> Result<(), Unsaved>
+        ensures { 0 < count_handed self.now → IfErr result (FailsBelow (count_handed self.now)) }
+    {
         let Ok(steps) = steps_of_save(self.folder.rt.alloc(), progress.files.len()) else {
             return Err(Unsaved::Memory);
         };
@@ -514,8 +547,14 @@ impl<'a, R: Disk + Alloc<A = Global>, L: Listener> SavingFolder<'a, R, L> {
     }
 
     /// Replaces all files that were handed in, or none, copied first where the terms say so. A file that is to hold
-    /// what it held when it was read stays; it must hold that still.
-    pub fn commit(&self) -> Result<(), Unsaved> {
+    /// what it held when it was read stays; it must hold that still. Where no file was handed in, nothing is done.
+    ///
+    /// # Errors
+    /// A file that is told is one that was handed in.
+    pub fn commit(&self) -> Result<(), Unsaved>
+        ensures nothing { count_handed self.now ≡ 0 → IsOk result }
+        ensures told { IfErr result (FailsBelow (count_handed self.now)) }
+    {
         if self.pending.is_empty() {
             return Ok(());
         }
@@ -538,7 +577,9 @@ fn is_saved(name: &str) -> bool {
 }
 
 /// Refuses a file that isn't as it was, or that the device doesn't give.
-fn still(file: usize, as_it_was: io::Result<bool>) -> Result<(), Unsaved> {
+fn still(file: usize, as_it_was: io::Result<bool>) -> Result<(), Unsaved>
+    ensures { (count : ℕ) → file < count → IfErr result (FailsBelow count) }
+{
     match as_it_was {
         Ok(true) => Ok(()),
         Ok(false) => Err(Unsaved::Changed { file }),
@@ -547,7 +588,9 @@ fn still(file: usize, as_it_was: io::Result<bool>) -> Result<(), Unsaved> {
 }
 
 /// What a failure is called behind the note.
-fn behind_note(unsaved: Unsaved) -> Unsaved {
+fn behind_note(unsaved: Unsaved) -> Unsaved
+    ensures { (count : ℕ) → 0 < count → FailsBelow count unsaved → FailsBelow count result }
+{
     match unsaved {
         Unsaved::Disk { file } | Unsaved::Changed { file } | Unsaved::Cut { file } => Unsaved::Cut {
             file,

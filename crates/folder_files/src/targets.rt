@@ -1,6 +1,9 @@
 //! Files that a save would replace, looked at before they are read.
 #![tactic(auto)]
 
+ghost use Rattle.std.specs.Prelude.{◌≡◌, IfOk, IfSome, string_bytes};
+ghost use Rattle.folder_files.specs.Paths.{folder_of_path, name_of_path};
+
 use crate::disk::standing;
 use crate::user::Who;
 use save_rules::{FileFolder, Harm, Standing, harm_of, is_in_folder};
@@ -47,7 +50,10 @@ pub(crate) struct Target {
 }
 
 /// A path cut into its folder's, which ends with a slash or is empty, and the name in it.
-fn parted(path: &str) -> (&str, &str) {
+fn parted(path: &str) -> (&str, &str)
+    ensures folder { result.0.now ≡ folder_of_path path.now }
+    ensures name { result.1.now ≡ name_of_path path.now }
+{
     match path.rfind('/') {
         Some(slash) => path.split_at(slash.saturating_add(1)),
         None => ("", path),
@@ -63,7 +69,10 @@ pub(crate) fn folder_of(path: &str) -> &str {
 }
 
 /// The name to which a link of this name leads; none where it leaves its folder.
-fn named_by(alloc: Global, name: &str, link: &str) -> Result<Option<String>, AllocError> {
+fn named_by(alloc: Global, name: &str, link: &str) -> Result<Option<String>, AllocError>
+    ensures { IfOk result (λ found. IfSome found (λ next. folder_of_path (string_bytes next)
+        ≡ folder_of_path name.now)) }
+{
     let link = link.strip_prefix("./").unwrap_or(link);
     if !is_in_folder(link.as_bytes()) {
         return Ok(None);
@@ -73,7 +82,10 @@ fn named_by(alloc: Global, name: &str, link: &str) -> Result<Option<String>, All
 }
 
 /// The name of the file to which a link leads next; none where the name isn't that of a link.
-fn next_name<R: Disk + Alloc<A = Global>>(rt: &R, name: &str) -> Result<Option<String>, Hindrance> {
+fn next_name<R: Disk + Alloc<A = Global>>(rt: &R, name: &str) -> Result<Option<String>, Hindrance>
+    ensures { IfOk result (λ found. IfSome found (λ next. folder_of_path (string_bytes next)
+        ≡ folder_of_path name.now)) }
+{
     match fs::symlink_metadata(rt, name) {
         Ok(data) => {
             if !data.is_symlink() {
@@ -98,7 +110,9 @@ fn next_name<R: Disk + Alloc<A = Global>>(rt: &R, name: &str) -> Result<Option<S
 }
 
 /// The name behind all links.
-fn last_name<R: Disk + Alloc<A = Global>>(rt: &R, name: &str) -> Result<String, Hindrance> {
+fn last_name<R: Disk + Alloc<A = Global>>(rt: &R, name: &str) -> Result<String, Hindrance>
+    ensures { IfOk result (λ last. folder_of_path (string_bytes last) ≡ folder_of_path name.now) }
+{
     let Ok(mut last) = String::from_str(rt.alloc(), name) else {
         return Err(Hindrance::Disk);
     };
@@ -112,13 +126,17 @@ fn last_name<R: Disk + Alloc<A = Global>>(rt: &R, name: &str) -> Result<String, 
 }
 
 /// The name of a file in its folder.
-pub fn name_in_folder(path: &str) -> &str {
+pub fn name_in_folder(path: &str) -> &str
+    ensures { result.now ≡ name_of_path path.now }
+{
     let (_, name) = parted(path);
     name
 }
 
 /// The path of the file to which a name leads behind links within its folder; none where they lead elsewhere.
-pub fn behind_links<R: Disk + Alloc<A = Global>>(rt: &R, name: &str) -> Option<String> {
+pub fn behind_links<R: Disk + Alloc<A = Global>>(rt: &R, name: &str) -> Option<String>
+    ensures { IfSome result (λ path. folder_of_path (string_bytes path) ≡ folder_of_path name.now) }
+{
     last_name(rt, name).ok()
 }
 

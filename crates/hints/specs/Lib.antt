@@ -1,2 +1,3 @@
 pub mod Areas
 pub mod LeftOut
+pub mod Sentences

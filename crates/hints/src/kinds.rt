@@ -1,5 +1,8 @@
 //! Sentences, without the point at their end.
 
+ghost use Rattle.std.specs.Prelude.{◌≡◌, true};
+ghost use Rattle.hints.specs.Sentences.{is_sentence};
+
 use crate::left_out::LeftOut;
 use dbf_file::DbfFault;
 use folder_shapes::Note;
@@ -8,7 +11,9 @@ use prg_expr::ParseFaultKind;
 use shape_files::LineFault;
 
 /// What a faulty line may be changed to where nothing that is left out was found in it.
-pub(crate) fn of_kind(kind: ParseFaultKind) -> &'static str {
+pub(crate) fn of_kind(kind: ParseFaultKind) -> &'static str
+    ensures { is_sentence result.now ≡ true }
+{
     match kind {
         ParseFaultKind::Character => {
             "a byte outside texts begins no word here; put texts in quotes"
@@ -40,7 +45,9 @@ pub(crate) fn of_kind(kind: ParseFaultKind) -> &'static str {
 }
 
 /// What to do about a command that can't be compiled, in one sentence without its point.
-pub fn of_command(kind: CompileFaultKind) -> &'static str {
+pub fn of_command(kind: CompileFaultKind) -> &'static str
+    ensures { is_sentence result.now ≡ true }
+{
     match kind {
         CompileFaultKind::Name => {
             "no field here, variable, declared table or index, or procedure has this name; set the variable before, \
@@ -93,7 +100,9 @@ pub fn of_command(kind: CompileFaultKind) -> &'static str {
 }
 
 /// What to do about a faulty line of a declaration file, in one sentence without its point.
-pub fn of_declaration(fault: LineFault) -> &'static str {
+pub fn of_declaration(fault: LineFault) -> &'static str
+    ensures { is_sentence result.now ≡ true }
+{
     match fault {
         LineFault::Word => "write TABLE name, INDEX name ON table KEY key, or a comment behind *",
         LineFault::Name => {
@@ -110,7 +119,9 @@ pub fn of_declaration(fault: LineFault) -> &'static str {
 }
 
 /// What to do about a table's file of which this is noted, in one sentence without its point.
-pub fn of_table_note(note: Note) -> &'static str {
+pub fn of_table_note(note: Note) -> &'static str
+    ensures { is_sentence result.now ≡ true }
+{
     match note {
         Note::Gone => "there is no file of this name with .DBF behind it, all in capitals",
         Note::SmallLetters => "the file's name has small letters; rename it to capitals",
@@ -129,7 +140,9 @@ pub fn of_table_note(note: Note) -> &'static str {
 
 impl LeftOut {
     /// What to write instead, in one sentence without its point.
-    pub fn instead(self) -> &'static str {
+    pub fn instead(self) -> &'static str
+        ensures { is_sentence result.now ≡ true }
+    {
         match self {
             LeftOut::Locate => "LOCATE and CONTINUE are left out; use SCAN FOR .. EXIT .. ENDSCAN",
             LeftOut::Find => "FIND is left out; use SEEK with the text in quotes",

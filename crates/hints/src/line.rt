@@ -1,9 +1,10 @@
 //! The sentence that is told of a faulty line.
 
-ghost use Rattle.std.specs.Prelude.{◌≡◌, map};
+ghost use Rattle.std.specs.Prelude.{◌≡◌, map, true};
 ghost use Rattle.std.specs.Char.{to_ascii_uppercase};
 ghost use Rattle.prg_expr.specs.Word.{word_of, words as words_of};
 ghost use Rattle.hints.specs.LeftOut as spec;
+ghost use Rattle.hints.specs.Sentences.{is_sentence};
 
 use crate::kinds::{of_command, of_kind};
 use crate::left_out::{LeftOut, by_first, by_two, by_word, of_answer, of_clause, of_function};
@@ -180,7 +181,9 @@ fn asked(alloc: Global, kind: ParseFaultKind, line: &[u8]) -> Option<LeftOut> {
 
 /// What to do about a line of a command file that has this fault, in one sentence without its point: of what is left
 /// out of the language what to write instead, and else what the fault means.
-pub fn of_line(alloc: Global, kind: ParseFaultKind, line: &[u8]) -> &'static str {
+pub fn of_line(alloc: Global, kind: ParseFaultKind, line: &[u8]) -> &'static str
+    ensures { is_sentence result.now ≡ true }
+{
     match asked(alloc, kind, line) {
         Some(found) => found.instead(),
         None => of_kind(kind),
@@ -199,7 +202,9 @@ fn is_selection(alloc: Global, line: &[u8]) -> bool {
 }
 
 /// What to do about a line of a command file whose command can't be compiled, in one sentence without its point.
-pub fn of_compiled_line(alloc: Global, kind: CompileFaultKind, line: &[u8]) -> &'static str {
+pub fn of_compiled_line(alloc: Global, kind: CompileFaultKind, line: &[u8]) -> &'static str
+    ensures { is_sentence result.now ≡ true }
+{
     match kind {
         CompileFaultKind::Name if is_selection(alloc, line) => LeftOut::SelectZero.instead(),
         _ => of_command(kind),

@@ -1,9 +1,10 @@
 //! The file of the table that a line of a declaration file names.
 
-ghost use Rattle.std.specs.Prelude.{◌≡◌, ℕ, List, Some, IfSome, IsTrue, map};
+ghost use Rattle.std.specs.Prelude.{◌≡◌, ℕ, List, Some, IfSome, IsTrue, map, true};
 ghost use Rattle.std.specs.Char.{to_ascii_lowercase};
 ghost use Rattle.file_access.specs.Holding.{SameFiles};
 ghost use Rattle.folder_shapes.specs.Reading.{NoTableFile};
+ghost use Rattle.hints.specs.Sentences.{is_sentence};
 
 use crate::kinds::{of_declaration, of_table_note};
 use arrayvec::ArrayVec;
@@ -57,6 +58,7 @@ fn stands_small<F: Files>(alloc: Global, files: &mut F, file: &FileName) -> bool
 
 /// What to do about a line of a declaration file whose table can't be taken, in one sentence without its point.
 pub fn of_table_line<F: Files>(alloc: Global, files: &mut F, line: &[u8]) -> &'static str
+    ensures sentence { is_sentence result.now ≡ true }
     ensures kept { SameFiles (F.holds files.old) (F.holds files.new) }
 {
     let Some(file) = file_of_line(alloc, line) else {

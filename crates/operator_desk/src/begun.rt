@@ -2,6 +2,10 @@
 //! no file's name is, and names of files.
 #![tactic(auto)]
 
+ghost use Rattle.std.specs.Prelude.{◌≡◌, IfSome, codes};
+ghost use Rattle.operator_desk.specs.Talked.{IsOutcomeSaid, IsSaveSaid, IsTalkSaid, flag_said, page_said};
+ghost use Rattle.operator_desk.specs.Talked.{save_without_lock, word_said};
+
 use code_pages::CodePage;
 use journal_papers::JournalPaper;
 use run_commands::{RecordLimit, RunDay};
@@ -38,7 +42,9 @@ pub struct Talk {
 
 impl Talk {
     /// Whether its tables are saved where the file system knows no locks.
-    pub fn no_lock(&self) -> bool {
+    pub fn no_lock(&self) -> bool
+        ensures { result ≡ save_without_lock self.now.save }
+    {
         match &self.save {
             Some(save) => save.no_lock,
             None => false,
@@ -97,21 +103,34 @@ pub fn put_talk(alloc: Global, paper: &mut JournalPaper, talk: &Talk) -> Result<
 }
 
 /// Whether a word is a yes; none where it is neither yes nor no.
-fn is_yes(paper: &JournalPaper, key: &str) -> Option<bool> {
-    match paper.get(key) {
-        Some("yes") => Some(true),
-        Some("no") => Some(false),
-        _ => None,
+fn is_yes(paper: &JournalPaper, key: &str) -> Option<bool>
+    ensures { result ≡ flag_said (word_said paper.now key.now) }
+{
+    let word = paper.get(key)?;
+    if word == "yes" {
+        return Some(true);
     }
+    if word == "no" {
+        return Some(false);
+    }
+    None
 }
 
-fn page_in(paper: &JournalPaper) -> Option<Option<CodePage>> {
-    match paper.get("--from") {
-        Some("cp437") => Some(Some(CodePage::Cp437)),
-        Some("cp850") => Some(Some(CodePage::Cp850)),
-        Some("none") => Some(None),
-        _ => None,
+/// The code page that is said; none where nothing is said of it, or no such page is known.
+fn page_in(paper: &JournalPaper) -> Option<Option<CodePage>>
+    ensures { result ≡ page_said (word_said paper.now (codes "--from")) }
+{
+    let word = paper.get("--from")?;
+    if word == "cp437" {
+        return Some(Some(CodePage::Cp437));
     }
+    if word == "cp850" {
+        return Some(Some(CodePage::Cp850));
+    }
+    if word == "none" {
+        return Some(None);
+    }
+    None
 }
 
 /// A copy of a text, of which an empty one says none.
@@ -123,7 +142,9 @@ fn name_in(alloc: Global, text: &str) -> Result<Option<String>, AllocError> {
 }
 
 /// The terms of a save that the text says, if it says all of them.
-fn save_in(alloc: Global, paper: &JournalPaper) -> Option<TalkSave> {
+fn save_in(alloc: Global, paper: &JournalPaper) -> Option<TalkSave>
+    ensures { IfSome result (IsSaveSaid paper.now) }
+{
     Some(TalkSave {
         only_finished: is_yes(paper, "--only-finished")?,
         new_owner: is_yes(paper, "--new-owner")?,
@@ -132,17 +153,25 @@ fn save_in(alloc: Global, paper: &JournalPaper) -> Option<TalkSave> {
     })
 }
 
+/// What becomes of the tables that the text says, if it says all of it; none is saved in a rehearsal.
+fn outcome_in(alloc: Global, paper: &JournalPaper) -> Option<Option<TalkSave>>
+    ensures { IfSome result (IsOutcomeSaid paper.now) }
+{
+    if is_yes(paper, "--rehearse")? {
+        return Some(None);
+    }
+    Some(Some(save_in(alloc, paper)?))
+}
+
 /// The words of a conversation that the text says, if it says all of them.
-pub fn talk_in(alloc: Global, paper: &JournalPaper) -> Option<Talk> {
+pub fn talk_in(alloc: Global, paper: &JournalPaper) -> Option<Talk>
+    ensures { IfSome result (IsTalkSaid paper.now) }
+{
     let budget = paper.get("--budget")?.parse::<u64>().ok()?;
     let limit = RecordLimit::of(paper.get("--limit")?.parse::<u32>().ok()?)?;
     let day = RunDay::named(paper.get("--today")?)?;
     let page = page_in(paper)?;
-    let save = if is_yes(paper, "--rehearse")? {
-        None
-    } else {
-        Some(save_in(alloc, paper)?)
-    };
+    let save = outcome_in(alloc, paper)?;
     Some(Talk {
         budget,
         limit,

@@ -1,7 +1,8 @@
 //! The operator's desk: what a person or another program sees of a run, and types for it.
 #![tactic(auto)]
 
-ghost use Rattle.std.specs.Prelude.{◌≡◌};
+ghost use Rattle.std.specs.Prelude.{◌≡◌, string_bytes};
+ghost use Rattle.operator_desk.specs.Asked.{newest_note};
 
 use crate::begun::Talk;
 use crate::gets::{Gets, WaitingPlace, bad_answer, without_return};
@@ -121,7 +122,9 @@ impl<R: Runtime<A = Global, File = File>> OperatorDesk<'_, R> {
     }
 
     /// What stands below the drawing: the newest note.
-    pub fn told(&self) -> &str {
+    pub fn told(&self) -> &str
+        ensures { result.now ≡ newest_note self.now.note.now (string_bytes self.now.cut) }
+    {
         if self.note.is_empty() {
             self.cut.as_str()
         } else {

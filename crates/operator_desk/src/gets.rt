@@ -1,6 +1,13 @@
 //! Where on the screen the values are shown that a READ asks for.
 #![tactic(auto)]
 
+ghost use Rattle.std.specs.Prelude.{◌≡◌, ◌++◌, None, [], IfOk, OnOk, is_none, is_some, map, slice_get};
+ghost use Rattle.calendar.specs.DateTexts.{date_read};
+ghost use Rattle.fixed_num.specs.Reading.{parsed};
+ghost use Rattle.operator_desk.specs.Asked as spec;
+ghost use Rattle.operator_desk.specs.Asked.{AsksTheSame, places_known};
+ghost use Rattle.text_lines.specs.Lines as texts;
+
 use calendar::Day;
 use code_items::Code;
 use code_items::instr::{Instr, ScreenInstr};
@@ -23,7 +30,7 @@ pub enum WaitingPlace {
 }
 
 /// What an instruction takes a line for.
-#[derive(Clone, Copy, PartialEq)]
+#[derive(Clone, Copy)]
 enum Taker {
     /// It takes none.
     Nothing,
@@ -34,7 +41,7 @@ enum Taker {
 }
 
 /// What an instruction draws at a place of the screen that the cursor doesn't give.
-#[derive(Clone, Copy, PartialEq)]
+#[derive(Clone, Copy)]
 enum Drawing {
     Nothing,
     /// A value.
@@ -55,8 +62,6 @@ struct Member {
 struct Place {
     takes: Taker,
     draws: Drawing,
-    /// Where it shows a value that a READ asks for, or takes a line for it.
-    member: Option<Member>,
 }
 
 /// A field whose row is counted from the first row that was ever sent out; none where it isn't shown.
@@ -76,6 +81,8 @@ struct Laid {
 #[derive(Drop)]
 pub struct Gets {
     places: Vec<Place>,
+    /// By place, where a READ asks for the value that is shown there, or takes a line for it.
+    members: Vec<Option<Member>>,
     /// By READ, where its fields were shown since it took lines last; none where they can't be told apart.
     shown: Vec<Vec<Standing>>,
     /// The READ that waits, and where its fields were shown before it.
@@ -93,29 +100,69 @@ pub struct Gets {
 }
 
 /// A line as the run takes it: without a return at its end.
-pub fn without_return(line: &[u8]) -> &[u8] {
+#[tactic(auto, unfolding(text_lines::specs::Lines::without_return))]
+pub fn without_return(line: &[u8]) -> &[u8]
+    ensures { result.now ≡ texts.without_return line.now }
+{
     match line {
         [text @ .., b'\r'] => text,
         _ => line,
     }
 }
 
+/// Whether a letter is T, Y, F or N.
+fn is_truth_letter(letter: u8) -> bool
+    ensures { result ≡ spec.is_truth_letter letter }
+{
+    b"TtYyFfNn".iter().any(|truth| *truth == letter)
+}
+
+/// Whether a line begins with none of T, Y, F and N.
+fn is_no_truth(line: &[u8]) -> bool
+    ensures { result ≡ spec.is_no_truth (slice_get line.now 0) }
+{
+    match line.first() {
+        None => false,
+        Some(letter) => !is_truth_letter(*letter),
+    }
+}
+
+/// Whether a line spells no number.
+fn is_no_number(line: &[u8]) -> bool
+    ensures { result ≡ spec.is_no_number (parsed line.now) }
+{
+    Num::parse(line).is_asterisk()
+}
+
+/// Whether a line spells no day.
+fn is_no_day(line: &[u8]) -> bool
+    ensures { result ≡ is_none (date_read line.now) }
+{
+    Day::read(line).parts().is_none()
+}
+
+/// What is told, if it is.
+fn told_if(is: bool, told: &'static str) -> Option<&'static str>
+    ensures { is_some result ≡ is }
+{
+    if is { Some(told) } else { None }
+}
+
 /// Why an answer leaves the old value.
-pub fn bad_answer(kind: Option<Kind>, line: &[u8]) -> Option<&'static str> {
+pub fn bad_answer(kind: Option<Kind>, line: &[u8]) -> Option<&'static str>
+    ensures { is_some result ≡ spec.leaves_old kind line.now }
+{
     if line.is_empty() {
         return None;
     }
-    match kind? {
-        Kind::Number if Num::parse(line).is_asterisk() => Some(
-            "that is no number; the old value stays",
-        ),
-        Kind::Date if Day::read(line).parts().is_none() => Some(
-            "that is no date; the old value stays",
-        ),
-        Kind::Logical if !b"TtYyFfNn".contains(&line[0]) => Some(
+    match kind {
+        None | Some(Kind::Text) => None,
+        Some(Kind::Number) => told_if(is_no_number(line), "that is no number; the old value stays"),
+        Some(Kind::Date) => told_if(is_no_day(line), "that is no date; the old value stays"),
+        Some(Kind::Logical) => told_if(
+            is_no_truth(line),
             "that is neither T, Y, F nor N; the old value stays",
         ),
-        _ => None,
     }
 }
 
@@ -137,7 +184,9 @@ impl RowCount {
 }
 
 /// What an instruction draws.
-fn drawing_at(instr: &Instr) -> Drawing {
+fn drawing_at(instr: &Instr) -> Drawing
+    ensures { result ≡ spec.drawn_there instr.now }
+{
     match instr {
         Instr::Screen(ScreenInstr::Say(_)) | Instr::Screen(ScreenInstr::SayOn(_)) => Drawing::Value,
         Instr::Screen(ScreenInstr::Clear) => Drawing::Blank,
@@ -146,12 +195,46 @@ fn drawing_at(instr: &Instr) -> Drawing {
 }
 
 /// What an instruction takes a line for.
-fn taker_at(instr: &Instr) -> Taker {
+fn taker_at(instr: &Instr) -> Taker
+    ensures { result ≡ spec.taken_for instr.now }
+{
     match instr {
         Instr::Screen(ScreenInstr::Input(kind)) => Taker::Value(*kind),
         Instr::Screen(ScreenInstr::Line) => Taker::Line,
         _ => Taker::Nothing,
     }
+}
+
+/// Whether a line is taken so.
+fn does_take(takes: Taker) -> bool
+    ensures { result ≡ spec.does_take takes }
+{
+    match takes {
+        Taker::Nothing => false,
+        Taker::Line | Taker::Value(_) => true,
+    }
+}
+
+/// Whether something is drawn so.
+fn does_draw(draws: Drawing) -> bool
+    ensures { result ≡ spec.does_draw draws }
+{
+    match draws {
+        Drawing::Nothing => false,
+        Drawing::Value | Drawing::Blank => true,
+    }
+}
+
+/// By instruction, whether the run is to be looked at before it.
+fn marks_of(alloc: Global, instrs: &[Instr]) -> Result<Vec<bool>, AllocError>
+    ensures { IfOk result (λ marks. marks.items ≡ map spec.is_looked_at instrs.now) }
+{
+    let mut marks = Vec::new(alloc);
+    for instr in instrs {
+        let (takes, draws) = (does_take(taker_at(instr)), does_draw(drawing_at(instr)));
+        marks.push(takes || draws)?;
+    }
+    Ok(marks)
 }
 
 /// The field where a value is shown, counted from the first row that was ever sent out.
@@ -164,9 +247,14 @@ fn among_all(shown: ShownAt, sent: usize) -> ShownField {
 }
 
 /// A field that is counted so, on the screen; none where its row was sent out.
-fn on_screen(field: ShownField, sent: usize) -> Option<ShownField> {
+fn on_screen(field: ShownField, sent: usize) -> Option<ShownField>
+    ensures { result ≡ spec.field_on_screen sent field }
+{
+    if field.row < sent {
+        return None;
+    }
     Some(ShownField {
-        row: field.row.checked_sub(sent)?,
+        row: field.row - sent,
         column: field.column,
         length: field.length,
     })
@@ -179,6 +267,15 @@ impl Laid {
             text: self.text.clone()?,
             under: self.under,
         })
+    }
+}
+
+/// Lays an answer over the rows of the screen, behind so many rows that were sent out.
+fn lay_answer(rows: &mut [[u8; 80]], sent: usize, answer: &Laid)
+    ensures { spec.AnswerLies sent answer.now rows.old rows.new }
+{
+    if let Some(field) = on_screen(answer.field, sent) {
+        lay_over(rows, field, answer.text.as_slice());
     }
 }
 
@@ -202,10 +299,10 @@ fn row_under<'a>(seen: &Scene<'a>, field: ShownField, sent: usize) -> Option<&'a
 }
 
 /// Says of places that they belong to the fields of a READ, in their order.
-fn join(places: &mut [Place], of_read: &[usize], read: usize) {
+fn join(members: &mut [Option<Member>], of_read: &[usize], read: usize) {
     for (field, place) in of_read.iter().enumerate() {
-        if let Some(known) = places.get_mut(*place) {
-            known.member = Some(Member { read, field });
+        if let Some(known) = members.get_mut(*place) {
+            *known = Some(Member { read, field });
         }
     }
 }
@@ -221,9 +318,16 @@ fn unshown(alloc: Global, count: usize) -> Result<Vec<Standing>, AllocError> {
 
 impl Gets {
     /// Of a code that isn't known yet.
-    pub fn new(alloc: Global) -> Gets {
+    pub fn new(alloc: Global) -> Gets
+        ensures places { places_known result ≡ [] }
+        ensures fields { result.fields.items ≡ [] }
+        ensures waiting { result.waiting ≡ WaitingPlace.Behind }
+        ensures number { result.number ≡ 0 }
+        ensures kind { result.kind ≡ None }
+    {
         Gets {
             places: Vec::new(alloc),
+            members: Vec::new(alloc),
             shown: Vec::new(alloc),
             asking: None,
             asked: Vec::new(alloc),
@@ -238,53 +342,63 @@ impl Gets {
 
     /// Learns the READs of a code. Answers the places at which the run is to be looked at: those that take a line, and
     /// those that show a value which a READ asks for.
-    pub fn begin(&mut self, alloc: Global, code: &Code) -> Result<Vec<bool>, AllocError> {
-        for instr in code.instructions.as_slice() {
+    pub fn begin(&mut self, alloc: Global, code: &Code) -> Result<Vec<bool>, AllocError>
+        ensures marks { IfOk result (λ marks. marks.items ≡ map spec.is_looked_at code.now.instructions) }
+        ensures places { OnOk result (places_known self.new
+            ≡ places_known self.old ++ map spec.place_known code.now.instructions) }
+    {
+        self.learn_places(code.instructions.as_slice())?;
+        let reads = reads_of(alloc, code)?;
+        self.learn(alloc, reads.as_slice())?;
+        marks_of(alloc, code.instructions.as_slice())
+    }
+
+    /// Learns what the instructions of a code take and draw.
+    fn learn_places(&mut self, instrs: &[Instr]) -> Result<(), AllocError>
+        ensures { OnOk result (places_known self.new ≡ places_known self.old ++ map spec.place_known instrs.now) }
+    {
+        for instr in instrs {
             self.places.push(Place {
                 takes: taker_at(instr),
                 draws: drawing_at(instr),
-                member: None,
             })?;
+            self.members.push(None)?;
         }
-        let reads = reads_of(alloc, code)?;
-        self.learn(alloc, reads.as_slice())?;
-        self.marks(alloc)
+        Ok(())
     }
 
     /// Learns the READs of a code.
-    fn learn(&mut self, alloc: Global, reads: &[Read]) -> Result<(), AllocError> {
+    fn learn(&mut self, alloc: Global, reads: &[Read]) -> Result<(), AllocError>
+        ensures { places_known self.new ≡ places_known self.old }
+    {
         for (number, read) in reads.iter().enumerate() {
-            join(&mut self.places, read.takes.as_slice(), number);
-            join(&mut self.places, read.shows.as_slice(), number);
+            join(&mut self.members, read.takes.as_slice(), number);
+            join(&mut self.members, read.shows.as_slice(), number);
             self.shown.push(unshown(alloc, read.shows.len())?)?;
         }
         Ok(())
     }
 
     /// Whether a line is taken at a place.
-    pub fn takes_line(&self, place: usize) -> bool {
+    pub fn takes_line(&self, place: usize) -> bool
+        ensures { result ≡ spec.takes_line_at self.now place }
+    {
         match self.places.get(place) {
-            Some(known) => known.takes != Taker::Nothing,
+            Some(known) => does_take(known.takes),
             None => false,
         }
     }
 
-    fn marks(&self, alloc: Global) -> Result<Vec<bool>, AllocError> {
-        let mut marks = Vec::new(alloc);
-        for known in &self.places {
-            marks.push(known.takes != Taker::Nothing || known.draws != Drawing::Nothing)?;
-        }
-        Ok(marks)
-    }
-
     /// The READ and the field of a place.
     fn member(&self, place: usize) -> Option<Member> {
-        self.places.get(place)?.member
+        *self.members.get(place)?
     }
 
     /// Learns where the value is shown that the next instruction shows, where a READ asks for it. Answers that lie
     /// where the program draws now are taken away.
-    pub fn look(&mut self, alloc: Global, seen: &Scene<'_>) -> Result<(), AllocError> {
+    pub fn look(&mut self, alloc: Global, seen: &Scene<'_>) -> Result<(), AllocError>
+        ensures { AsksTheSame self.old self.new }
+    {
         self.sent.count(seen.screen.sent());
         match self.drawing(seen.place) {
             Drawing::Nothing => return Ok(()),
@@ -298,9 +412,7 @@ impl Gets {
             Some(shown) => Some(among_all(shown, self.sent.rows)),
             None => None,
         };
-        if let Some(member) = self.member(seen.place) {
-            self.note(member, standing);
-        }
+        self.note_at(seen.place, standing);
         match standing {
             Some(written) => self.leave_out(alloc, written),
             None => Ok(()),
@@ -315,8 +427,19 @@ impl Gets {
         }
     }
 
+    /// Notes where the value stands that is shown at a place, where a READ asks for it.
+    fn note_at(&mut self, place: usize, standing: Standing)
+        ensures { AsksTheSame self.old self.new }
+    {
+        if let Some(member) = self.member(place) {
+            self.note(member, standing);
+        }
+    }
+
     /// Notes where a field of a READ stands.
-    fn note(&mut self, member: Member, standing: Standing) {
+    fn note(&mut self, member: Member, standing: Standing)
+        ensures { AsksTheSame self.old self.new }
+    {
         if let Some(fields) = self.shown.get_mut(member.read) {
             if let Some(known) = fields.get_mut(member.field) {
                 *known = standing;
@@ -325,7 +448,9 @@ impl Gets {
     }
 
     /// Takes away the answers that lie over a field which the program writes now.
-    fn leave_out(&mut self, alloc: Global, written: ShownField) -> Result<(), AllocError> {
+    fn leave_out(&mut self, alloc: Global, written: ShownField) -> Result<(), AllocError>
+        ensures { AsksTheSame self.old self.new }
+    {
         let mut kept = Vec::new(alloc);
         for answer in &self.answers {
             if !meets(written, answer.field) {
@@ -385,17 +510,31 @@ impl Gets {
         Ok(())
     }
 
+    /// For which kind of value a line is taken at a place; none where it is taken as such, or none is.
+    fn kind_at(&self, place: usize) -> Option<Kind>
+        ensures { result ≡ spec.kind_wanted_at self.now place }
+    {
+        match self.places.get(place) {
+            Some(known) => match known.takes {
+                Taker::Value(kind) => Some(kind),
+                Taker::Nothing | Taker::Line => None,
+            },
+            None => None,
+        }
+    }
+
     /// Learns which line is wanted, and where it is typed.
-    pub fn wait(&mut self, alloc: Global, seen: &Scene<'_>) -> Result<(), AllocError> {
-        self.kind = match self.places.get(seen.place) {
-            Some(
-                Place {
-                    takes: Taker::Value(kind),
-                    ..
-                },
-            ) => Some(*kind),
-            _ => None,
-        };
+    pub fn wait(&mut self, alloc: Global, seen: &Scene<'_>) -> Result<(), AllocError>
+        ensures kind { OnOk result (self.new.kind ≡ spec.kind_wanted_at self.old seen.now.place) }
+    {
+        let kind = self.kind_at(seen.place);
+        self.wait_at(alloc, seen)?;
+        self.kind = kind;
+        Ok(())
+    }
+
+    /// Learns where the line that is wanted is typed.
+    fn wait_at(&mut self, alloc: Global, seen: &Scene<'_>) -> Result<(), AllocError> {
         self.sent.count(seen.screen.sent());
         self.keep_those_under(alloc, seen)?;
         match self.member(seen.place) {
@@ -428,17 +567,18 @@ impl Gets {
     }
 
     /// Lays the answers over the rows of the screen.
-    pub fn lay_answers(&self, rows: &mut [[u8; 80]]) {
-        let sent = self.sent.rows;
+    pub fn lay_answers(&self, rows: &mut [[u8; 80]])
+        ensures { spec.AnswersLie (spec.rows_gone self.now) (spec.answers_laid self.now) rows.old rows.new }
+    {
         for answer in &self.answers {
-            if let Some(field) = on_screen(answer.field, sent) {
-                lay_over(rows, field, answer.text.as_slice());
-            }
+            lay_answer(&mut *rows, self.sent.rows, answer);
         }
     }
 
     /// Lays an answer over its field. An empty one, or one that isn't taken, keeps the old value.
-    pub fn take(&mut self, alloc: Global, line: &[u8], seen: &Scene<'_>) -> Result<(), AllocError> {
+    pub fn take(&mut self, alloc: Global, line: &[u8], seen: &Scene<'_>) -> Result<(), AllocError>
+        ensures { AsksTheSame self.old self.new }
+    {
         let WaitingPlace::Field(field) = self.waiting else {
             return Ok(());
         };

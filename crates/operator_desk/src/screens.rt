@@ -1,6 +1,9 @@
 //! What the screen showed before each line, kept in a file.
 #![tactic(auto)]
 
+ghost use Rattle.std.specs.Prelude.{◌≡◌, None, OnErr, OnOk, IsOk, false, true, is_some, option_map, string_bytes};
+ghost use Rattle.operator_desk.specs.Asked.{are_kept, screens_file};
+
 use operating::OperatorFailed;
 use std::alloc::{AllocError, Global};
 use std::fs::{File, OpenOptions};
@@ -42,23 +45,33 @@ fn screen_text(
 
 impl Screens {
     /// Those that are written to a file of this name, or to none.
-    pub fn to(name: Option<String>) -> Screens {
+    pub fn to(name: Option<String>) -> Screens
+        ensures name { screens_file result ≡ option_map string_bytes name }
+        ensures unmade { are_kept result ≡ false }
+    {
         Screens { name, file: None }
     }
 
     /// The name of their file.
-    pub fn name(&self) -> Option<&str> {
+    pub fn name(&self) -> Option<&str>
+        ensures { option_map (λ name. name.now) result ≡ screens_file self.now }
+    {
         match &self.name {
             Some(name) => Some(name.as_str()),
             None => None,
         }
     }
 
-    /// Makes their file. None of its name stands.
+    /// Makes their file, if one is wanted. None of its name stands.
     ///
     /// # Errors
     /// The file can't be made.
-    pub fn make<R: Disk<File = File>>(&mut self, rt: &R) -> Result<(), OperatorFailed> {
+    pub fn make<R: Disk<File = File>>(&mut self, rt: &R) -> Result<(), OperatorFailed>
+        ensures name { screens_file self.new ≡ screens_file self.old }
+        ensures unwanted { screens_file self.old ≡ None → (self.new ≡ self.old) × IsOk result }
+        ensures made { OnOk result (is_some (screens_file self.old) ≡ true → are_kept self.new ≡ true) }
+        ensures err { OnErr result (self.new ≡ self.old) }
+    {
         let Some(name) = &self.name else {
             return Ok(());
         };
@@ -75,7 +88,7 @@ impl Screens {
     }
 
     /// Writes the 25 rows as they stand, without the blanks at their ends, and behind them the line that is taken now,
-    /// if one is, after `> `.
+    /// if one is, after `> `. Where their file wasn't made, nothing is written.
     ///
     /// # Errors
     /// The file can't be written, or memory was refused.
@@ -84,7 +97,11 @@ impl Screens {
         alloc: Global,
         rows: &[[u8; 80]],
         line: Option<&[u8]>,
-    ) -> Result<(), OperatorFailed> {
+    ) -> Result<(), OperatorFailed>
+        ensures name { screens_file self.new ≡ screens_file self.old }
+        ensures made { are_kept self.new ≡ are_kept self.old }
+        ensures unmade { are_kept self.old ≡ false → IsOk result }
+    {
         let Some(file) = &mut self.file else {
             return Ok(());
         };

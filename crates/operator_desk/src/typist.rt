@@ -2,6 +2,8 @@
 #![tactic(auto)]
 
 ghost use Rattle.operating.specs.Answers.{answer_bytes};
+ghost use Rattle.operator_desk.specs.Held.{left_of};
+ghost use Rattle.operator_desk.specs.Typists.{lines_taken, lines_to_type, watcher_of};
 ghost use Rattle.std.specs.Prelude.{◌≡◌, ◌++◌, [], IfOk, OnErr};
 
 use crate::gets::without_return;
@@ -76,7 +78,11 @@ pub struct Typist<'a, R, W: Drop> {
 
 impl<'a, R: Alloc<A = Global>, W: Drop> Typist<'a, R, W> {
     /// One that types the lines of this text. The last one needs no line end.
-    pub fn of(rt: &'a R, text: &'a [u8], screens: Screens, watcher: W) -> Typist<'a, R, W> {
+    pub fn of(rt: &'a R, text: &'a [u8], screens: Screens, watcher: W) -> Typist<'a, R, W>
+        ensures lines { left_of (lines_to_type result) ≡ text.now }
+        ensures none { lines_taken result ≡ [] }
+        ensures watcher { watcher_of result ≡ watcher }
+    {
         Typist {
             rt,
             left: HeldLines::of(text),
@@ -88,7 +94,9 @@ impl<'a, R: Alloc<A = Global>, W: Drop> Typist<'a, R, W> {
     }
 
     /// Who is told how far the run has come.
-    pub fn watcher(&self) -> &W {
+    pub fn watcher(&self) -> &W
+        ensures { result.now ≡ watcher_of self.now }
+    {
         &self.watcher
     }
 }

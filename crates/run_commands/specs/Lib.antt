@@ -1,5 +1,6 @@
 pub mod Days
 pub mod Endings
+pub mod Exits
 pub mod Operating
 pub mod Parts
 pub mod Rehearsals

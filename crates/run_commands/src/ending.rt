@@ -3,6 +3,7 @@
 
 ghost use Rattle.std.specs.Prelude.{◌≡◌, slice_get};
 ghost use Rattle.run_commands.specs.Endings.{name_of_table, is_saved, TellsHow};
+ghost use Rattle.run_commands.specs.Exits.{exit_of_end};
 
 use file_commands::Status;
 use run_steps::{End, FaultKind, Outcome};
@@ -79,7 +80,9 @@ impl Ended {
     }
 
     /// How the program exits behind such a run.
-    pub fn status(&self) -> Status {
+    pub fn status(&self) -> Status
+        ensures { result ≡ exit_of_end self.now.how }
+    {
         match self.how {
             How::Finished => Status::Done,
             How::Spent => Status::Spent,

@@ -1,8 +1,9 @@
 // What a run is asked for.
 #![tactic(auto)]
 
-ghost use Rattle.std.specs.Prelude.{◌≡◌, ◌≤◌, Some, None, MatchOption, SomeIff};
+ghost use Rattle.std.specs.Prelude.{◌≡◌, ◌≤◌, Some, None, IfSome, MatchOption, SomeIff};
 ghost use Rattle.dbf_file.specs.Values.{stamp_of};
+ghost use Rattle.run_commands.specs.Days.{IsDayNamed};
 
 use calendar::{Day, DayParts};
 use dbf_file::Stamp;
@@ -42,7 +43,9 @@ impl RunDay {
     }
 
     /// The day that a word of the form YYYY-MM-DD names, if it is one of the years 1900 to 2155.
-    pub fn named(word: &str) -> Option<RunDay> {
+    pub fn named(word: &str) -> Option<RunDay>
+        ensures { IfSome result (IsDayNamed word.now) }
+    {
         let bytes = word.as_bytes();
         if bytes.len() != 10 || bytes[4] != b'-' || bytes[7] != b'-' {
             return None;

@@ -2,6 +2,7 @@
 #![tactic(auto)]
 
 ghost use Rattle.std.specs.Prelude.{◌≡◌};
+ghost use Rattle.run_commands.specs.Exits.{exit_of_run, name_told, refusal_told};
 
 use file_commands::{Fault, Status};
 use std::alloc::AllocError;
@@ -53,7 +54,10 @@ pub struct ToldRefusal<'a> {
 
 impl RunRefusal {
     /// The refusal as it is told of a code's file of this name.
-    pub fn told<'a>(&'a self, name: &'a str) -> ToldRefusal<'a> {
+    pub fn told<'a>(&'a self, name: &'a str) -> ToldRefusal<'a>
+        ensures refusal { refusal_told result ≡ self.now }
+        ensures name { name_told result ≡ name.now }
+    {
         ToldRefusal {
             refusal: self,
             name,
@@ -61,7 +65,9 @@ impl RunRefusal {
     }
 
     /// How the program exits behind such a refusal.
-    pub fn status(&self) -> Status {
+    pub fn status(&self) -> Status
+        ensures { result ≡ exit_of_run self.now }
+    {
         match self {
             RunRefusal::File(_) | RunRefusal::Rule(_) => Status::Refused,
             RunRefusal::Disk => Status::Disk,

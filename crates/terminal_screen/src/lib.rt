@@ -5,8 +5,10 @@
 
 mod drawing;
 mod fields;
+mod plain;
 mod printable;
 
-pub use drawing::{Drawing, Window, drawn, left, plain_lines, sent_lines};
+pub use drawing::{Drawing, Window, drawn, left};
 pub use fields::{ShownField, lay_over};
+pub use plain::{plain_lines, sent_lines};
 pub use printable::put_shown;

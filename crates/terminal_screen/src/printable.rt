@@ -8,7 +8,7 @@ use code_pages::{CodePage, letter_of};
 use std::alloc::{AllocError, Global};
 
 /// Puts a byte of a row behind what a terminal is sent.
-fn put_byte(out: &mut String, page: Option<CodePage>, byte: u8) -> Result<(), AllocError>
+pub(crate) fn put_byte(out: &mut String, page: Option<CodePage>, byte: u8) -> Result<(), AllocError>
     ensures { OnOk result (string_bytes out.new ≡ string_bytes out.old ++ shown_letter page byte) }
 {
     let letter = if byte < 32 || byte == 127 {

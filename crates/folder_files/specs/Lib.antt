@@ -1,0 +1,4 @@
+pub mod Handed
+pub mod Journals
+pub mod Paths
+pub mod Unfinished
