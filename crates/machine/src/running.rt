@@ -36,13 +36,7 @@ fn go_on<K: KeyList>(alloc: Global, code: &Code, banks: &mut Banks<K>, budget: u
     tables_keep_their_kind();
     runs_cost_their_steps();
     safe_runs_meet_no_fault();
-    let outcome = run_untested(
-        alloc,
-        code,
-        &mut banks.decoded,
-        &mut banks.machine,
-        budget,
-    );
+    let outcome = run_untested(alloc, code, &mut banks.decoded, &mut banks.machine, budget);
     banks.machine.store().open_indexes_list_keys();
     outcome
 }

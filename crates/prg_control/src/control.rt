@@ -296,7 +296,8 @@ fn open_statement<'a>(
 /// Ends the commands of a body, and puts what goes behind them, up to the next ones within the same command; none where
 /// the command ends. Get in the line that ends a part of a block if a READ is awaited there and all of it was written.
 fn ended<'a>(s: &Source, w: &mut Writer, body: Body<'a>) -> Result<Option<Body<'a>>, CompileRefusal>
-    ensures grown { (base : AnyOutput) → OutputGrows base w.old.out → IsBodyBehind base body.entry → OutputGrows base w.new.out }
+    ensures grown { (base : AnyOutput) → OutputGrows base w.old.out → IsBodyBehind base body.entry
+        → OutputGrows base w.new.out }
     ensures behind { (base : AnyOutput) → IsBodyBehind base body.entry
         → IfOk result (λ body. IfSome body (IsBodyBehind base)) }
 {
@@ -310,7 +311,8 @@ fn put_behind<'a>(
     w: &mut Writer,
     behind: Behind<'a>,
 ) -> Result<Option<Body<'a>>, CompileRefusal>
-    ensures grown { (base : AnyOutput) → OutputGrows base w.old.out → IsEndBehind base behind.entry → OutputGrows base w.new.out }
+    ensures grown { (base : AnyOutput) → OutputGrows base w.old.out → IsEndBehind base behind.entry
+        → OutputGrows base w.new.out }
     ensures behind { (base : AnyOutput) → IsEndBehind base behind.entry
         → IfOk result (λ body. IfSome body (IsBodyBehind base)) }
 {
