@@ -1,6 +1,6 @@
 //! The kinds of the values on a stack.
 
-ghost use Rattle.std.specs.Prelude.{◌≡◌, [], ◌∷◌, drop, length, IfOk, OnOk, reverse};
+ghost use Rattle.std.specs.Prelude.{◌≡◌, [], ◌∷◌, drop, length, IfOk, OnOk, OnErr, reverse};
 ghost use Rattle.std.specs.List.{list_any, list_all, zip};
 ghost use Rattle.std.specs.Prelude.{◌-◌, ◌≤◌, take};
 ghost use Rattle.code_items.specs.Kinds.{clashes, other_kind, kinds_covered, same_kinds, same_pair};
@@ -48,7 +48,8 @@ impl KindStack {
 
     /// Puts a kind on top. Where memory is refused, the stack is as it was.
     pub fn push(&mut self, kind: Kind) -> Result<(), AllocError>
-        ensures { OnOk result (self.new ≡ kind ∷ self.old) }
+        ensures pushed { OnOk result (self.new ≡ kind ∷ self.old) }
+        ensures refused { OnErr result (self.new ≡ self.old) }
     {
         self.kinds.push(kind)?;
         Ok(())

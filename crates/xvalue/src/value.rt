@@ -1,7 +1,8 @@
 // Values that carry their kind.
 #![tactic(auto)]
 
-ghost use Rattle.std.specs.Prelude.{◌≡◌};
+ghost use Rattle.std.specs.Prelude.{◌≡◌, false};
+ghost use Rattle.xvalue.specs.declared.value.Value.{Value as AnyValue};
 ghost use Rattle.xvalue.specs.Blank.{blank_of};
 ghost use Rattle.xvalue.specs.Kinds.{kind_of};
 ghost use Rattle.xvalue.specs.Shown.{shown};
@@ -24,6 +25,8 @@ pub enum Value {
 
 /// False, which stands in the unused places of arrays.
 impl Default for Value {
+    ghost is_default = { λ v. v ≡ AnyValue.Logical false };
+
     fn default() -> Value {
         Value::Logical(false)
     }
