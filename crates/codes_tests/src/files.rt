@@ -4,7 +4,7 @@ use crate::hand::{Known, Plan, code_of};
 use code_items::Version;
 use std::alloc::{AllocError, Global};
 use std::test::Fail;
-use xcode::{CodeFault, decode, encode};
+use xcode::{CodeFault, LegalCode, decode, encode};
 
 /// A code with tables, indexes, lists, constants, a filter, two procedures and maps.
 fn whole(version: Version) -> Plan {
@@ -20,10 +20,9 @@ fn whole(version: Version) -> Plan {
 
 /// The file of a plan's code; empty where the code has none.
 fn file_of(alloc: Global, plan: Plan) -> Result<Vec<u8>, AllocError> {
-    let code = code_of(alloc, plan)?;
-    if !code.is_legal() {
+    let Some(code) = LegalCode::tested(code_of(alloc, plan)?) else {
         return Ok(Vec::new(alloc));
-    }
+    };
     encode(alloc, &code)
 }
 
@@ -60,7 +59,6 @@ fn files_read_back(rt: HostRuntime) -> Result<(), Fail> {
         assert!(rt; 26 < file.len());
         match decode(alloc, file.as_slice()) {
             Ok(code) => {
-                assert!(rt; code.is_legal());
                 let again = encode(alloc, &code)?;
                 assert!(rt; again.as_slice() == file.as_slice());
             }

@@ -4,6 +4,7 @@ use crate::hand::{Known, Plan, code_of};
 use code_items::Version;
 use std::alloc::{AllocError, Global};
 use std::test::Fail;
+use xcode::LegalCode;
 use xverify::{VerifyError, verify};
 
 /// Maps with their places, a main block, and its verdict.
@@ -13,10 +14,9 @@ type Row = (&'static [(u16, Known)], &'static str, &'static str);
 const FILTER: &str = "ROWFIELD 0; LOAD T 0; FUN 9";
 
 fn verdict(alloc: Global, plan: Plan) -> Result<String, AllocError> {
-    let code = code_of(alloc, plan)?;
-    if !code.is_legal() {
+    let Some(code) = LegalCode::tested(code_of(alloc, plan)?) else {
         return String::from_str(alloc, "no code");
-    }
+    };
     match verify(alloc, code) {
         Ok(_) => String::from_str(alloc, "accepted"),
         Err(VerifyError::Refused(refused)) => format!(in alloc; "refused {refused}"),

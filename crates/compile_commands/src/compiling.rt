@@ -28,7 +28,7 @@ fn compiled(
     ensures refused { IfErr result IsCompilers }
 {
     match compile(alloc, programs, shape) {
-        Ok(verified) => match encode(alloc, verified.code()) {
+        Ok(verified) => match encode(alloc, verified.legal()) {
             Ok(bytes) => Ok(bytes),
             Err(_) => Err(CompileFilesRefusal::Memory),
         },

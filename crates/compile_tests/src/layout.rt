@@ -26,14 +26,10 @@ fn said_of(
     programs: &[Program],
     names: &Names,
 ) -> Result<&'static str, AllocError> {
-    let code = verified.code();
     let [program] = programs else {
         return Ok("no program");
     };
-    if !code.is_legal() {
-        return Ok("not legal");
-    }
-    match judge(alloc, code, names, &program.main) {
+    match judge(alloc, verified.legal(), names, &program.main) {
         Ok(()) => Ok("laid"),
         Err(LayoutFault::Otherwise) => Ok("otherwise"),
         Err(LayoutFault::NoMemory) => Ok("memory"),

@@ -580,7 +580,7 @@ fn finish_alone<R: Runtime<A = Global, File = File>>(
 pub fn has_no_tables<R: Runtime<A = Global>>(rt: &R, name: &str) -> bool {
     let mut files = Folder::new(rt, Nobody);
     match read_code(rt.alloc(), &mut files, name) {
-        Ok(code) => code.declared.shape.tables.len() == 0,
+        Ok(code) => code.code().declared.shape.tables.len() == 0,
         Err(_) => false,
     }
 }

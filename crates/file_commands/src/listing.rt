@@ -44,7 +44,7 @@ pub fn list_code<'a, F: Files>(
     ensures kept { SameFiles (F.holds files.old) (F.holds files.new) }
 {
     let code = read_code(alloc, files, name)?;
-    match list(alloc, &code) {
+    match list(alloc, code.code()) {
         Ok(lines) => Ok(lines),
         Err(_) => Err(Refusal::Memory),
     }

@@ -2,7 +2,6 @@
 #![tactic(auto)]
 
 ghost use Rattle.std.specs.Prelude.{◌≤◌, Some, length, IfOk, IfErr};
-ghost use Rattle.code_items.specs.Legal.{IsCode};
 ghost use Rattle.file_access.specs.Holding.{SameFiles};
 ghost use Rattle.file_commands.specs.Refusals.{RefusalIs, CodeFileFault, FileFault};
 ghost use Rattle.file_commands.specs.Reports.{IsCodeFile};
@@ -10,7 +9,7 @@ ghost use Rattle.file_commands.specs.Reports.{IsCodeFile};
 use crate::refusal::{Fault, Refusal};
 use file_access::{Files, ReadFault};
 use std::alloc::Global;
-use xcode::{Code, CodeFault, decode};
+use xcode::{CodeFault, LegalCode, decode};
 
 /// The longest file that is read: 64 MiB.
 pub const FILE_LIMIT: usize = 67_108_864;
@@ -48,9 +47,8 @@ pub fn read_code<'a, F: Files>(
     alloc: Global,
     files: &mut F,
     name: &'a str,
-) -> Result<Code, Refusal<'a>>
+) -> Result<LegalCode, Refusal<'a>>
     ensures found { IfOk result (λ code. IsCodeFile (F.holds files.old name.now) code) }
-    ensures legal { IfOk result IsCode }
     ensures refused { IfErr result (RefusalIs (CodeFileFault (F.holds files.old name.now)) (F.failed files.old)
         (F.failed files.new) name.now) }
     ensures kept { SameFiles (F.holds files.old) (F.holds files.new) }

@@ -2,12 +2,12 @@
 
 ghost use Rattle.std.specs.Prelude.{◌≡◌, ◌<◌, None, Some, length, slice_get, IfOk, IfSome};
 ghost use Rattle.prg_compile.specs.Alone.{IsCompilable};
-ghost use Rattle.code_items.specs.Legal.{IsCode};
 ghost use Rattle.prg_compile.specs.Alone.{IsLaidAlone};
 ghost use Rattle.met_areas.specs.Met.{AreasOfShape};
 
 use crate::ways::areas_at;
 use code_items::{Code, Shape};
+use legal_code::LegalCode;
 use met_areas::MetAreas;
 use prg_code::{CompileFault, CompileFaultKind, CompileRefusal, DraftBlock, Names, Output, Work};
 use prg_control::{close_copy, commands, end_procedure};
@@ -80,11 +80,10 @@ fn whole(kind: CompileFaultKind) -> CompileRefusal {
 /// to be.
 fn judged(
     alloc: Global,
-    code: &Code,
+    code: &LegalCode,
     programs: &[Program],
     names: &Names,
 ) -> Result<(), CompileRefusal>
-    requires { IsCode code.now }
     ensures { IfOk result (λ _. IsLaidAlone code.now programs.now) }
 {
     let [program] = programs else {
@@ -100,25 +99,17 @@ fn judged(
     }
 }
 
-/// Limit where the code isn't legal, and where a single file without procedures isn't laid out in it as its commands
-/// say.
-fn legal(
-    alloc: Global,
-    code: &Code,
-    programs: &[Program],
-    names: &Names,
-) -> Result<(), CompileRefusal>
-    ensures legal { IfOk result (λ _. IsCode code.now) }
-    ensures laid { IfOk result (λ _. IsLaidAlone code.now programs.now) }
+/// Limit where the code isn't legal.
+fn legal(code: Code) -> Result<LegalCode, CompileRefusal>
+    ensures { IfOk result (λ legal. legal ≡ code) }
 {
-    if !code.is_legal() {
-        return Err(whole(CompileFaultKind::Limit));
+    match LegalCode::tested(code) {
+        Some(legal) => Ok(legal),
+        None => Err(whole(CompileFaultKind::Limit)),
     }
-    judged(alloc, code, programs, names)
 }
 
-fn accepted_by_verifier(alloc: Global, code: Code) -> Result<Verified, CompileRefusal>
-    requires { IsCode code }
+fn accepted_by_verifier(alloc: Global, code: LegalCode) -> Result<Verified, CompileRefusal>
     ensures { IfOk result (λ verified. verified ≡ code) }
 {
     match verify(alloc, code) {
@@ -137,7 +128,8 @@ fn accepted(
     ensures same { IfOk result (λ verified. verified ≡ code) }
     ensures laid { IfOk result (λ verified. IsLaidAlone verified programs.now) }
 {
-    legal(alloc, &code, programs, names)?;
+    let code = legal(code)?;
+    judged(alloc, &code, programs, names)?;
     accepted_by_verifier(alloc, code)
 }
 

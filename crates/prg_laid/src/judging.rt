@@ -18,6 +18,7 @@ use code_items::{Code, FlowInstr, Instr, Proc, State};
 use code_rules::blocks::{Block, block_at, map_at, start_of};
 use code_rules::flow::flow;
 use laid_lines::{KnownStates, Layout, after};
+use legal_code::LegalCode;
 use prg_code::{Names, Variable};
 use prg_parser::Command;
 use prg_values::Finished;
@@ -167,10 +168,15 @@ fn main_of(code: &Code) -> Option<&Proc>
 /// # Errors
 ///
 /// `Otherwise` where it isn't, and where the commands call procedures or have parameters. Want of memory.
-pub fn judge(alloc: Global, code: &Code, names: &Names, list: &[Command]) -> Result<(), LayoutFault>
-    requires { IsCode code.now }
+pub fn judge(
+    alloc: Global,
+    code: &LegalCode,
+    names: &Names,
+    list: &[Command],
+) -> Result<(), LayoutFault>
     ensures { IfOk result (λ _. spec.IsLaid code.now names.now (commands_of list.now)) }
 {
+    let code = code.code();
     let Some(main) = main_of(code) else {
         return Err(LayoutFault::Otherwise);
     };

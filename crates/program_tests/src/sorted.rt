@@ -2,14 +2,12 @@
 #![tactic(auto)]
 
 ghost use Rattle.std.specs.Prelude.{IsTrue, IsSome};
-ghost use Rattle.code_items.specs.Legal.{IsCode};
 ghost use Rattle.work_area.specs.Areas.{here};
 
 use super::cases::{CODE, RunCase, compiled, entries};
 use super::moves::{rekeyed, shrinking};
 use super::records::{keys, letters, of_t};
 use super::stored::day_of;
-use code_items::Code;
 use code_items::laws::legal_codes;
 use dbf_file::{Table, read};
 use file_access::{MemoryFiles, WORKS_FOR_EVER};
@@ -22,6 +20,7 @@ use tagged_machine::{End, Outcome, World, run_checked};
 use text_lines::TypedLines;
 use work_area::Store;
 use work_area::handed::{are_lists, are_of_shape};
+use xcode::LegalCode;
 
 /// The most records of the table.
 const LIMIT: u32 = 1000;
@@ -44,16 +43,14 @@ fn handed(
 /// How a run of a code over the table and its index ends, and the world that it leaves.
 fn run_over(
     alloc: Global,
-    code: &Code,
+    code: &LegalCode,
     tables: Vec<Table>,
     lists: Vec<Option<SortedKeys>>,
     budget: u64,
-) -> Option<(Outcome, World<SortedKeys>)>
-    requires legal { IsCode code.now }
-{
+) -> Option<(Outcome, World<SortedKeys>)> {
     legal_codes();
     new_stores_fit();
-    let shape = &code.declared.shape;
+    let shape = &code.code().declared.shape;
     if !shape.is_legal() || !are_of_shape(shape, &tables, LIMIT) || !are_lists(shape, &lists) {
         return None;
     }

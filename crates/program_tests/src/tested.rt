@@ -2,11 +2,9 @@
 #![tactic(auto)]
 
 ghost use Rattle.std.specs.Prelude.{◌≡◌, IfSome, length};
-ghost use Rattle.code_items.specs.Legal.{IsCode};
 
 use super::cases::{CODE, RunCase, compiled};
 use super::stored::day_of;
-use code_items::Code;
 use code_items::laws::legal_codes;
 use file_access::{MemoryEntry, MemoryFiles, WORKS_FOR_EVER, WrittenFile};
 use file_commands::read_code;
@@ -17,15 +15,15 @@ use std::alloc::Global;
 use table_files::{load, save};
 use tagged_machine::{World, run_checked};
 use text_lines::TypedLines;
+use xcode::LegalCode;
 
 /// The world that a run of a code on the checking machine leaves.
 fn world_behind(
     alloc: Global,
     files: &mut MemoryFiles<'_>,
-    code: &Code,
+    code: &LegalCode,
     case: &RunCase<'_>,
 ) -> Option<World<NdxTree>>
-    requires legal { IsCode code.now }
     ensures count { IfSome result (λ world. length world.env.store.tables ≡ length code.now.declared.shape.tables) }
 {
     legal_codes();
@@ -35,7 +33,7 @@ fn world_behind(
     let Ok(typed) = Vec::from_slice(alloc, case.typed.as_bytes()) else {
         return None;
     };
-    let Ok(store) = load(alloc, files, &code.declared.shape, limit) else {
+    let Ok(store) = load(alloc, files, &code.code().declared.shape, limit) else {
         return None;
     };
     let opened = World::opening(alloc, code, store, day, TypedLines::new(typed));
@@ -63,7 +61,7 @@ pub fn saved_by_checking<'a>(
     legal_codes();
     let world = world_behind(alloc, &mut files, &code, case)?;
     let stamp = day_of(1985, 1, 1)?.stamp();
-    let shape = &code.declared.shape;
+    let shape = &code.code().declared.shape;
     match save(alloc, &mut files, shape, world.store(), stamp) {
         Ok(()) => Some(files),
         Err(_) => None,

@@ -99,9 +99,6 @@ fn is_written_again(alloc: Global, bytes: &[u8]) -> Result<bool, AllocError> {
     let Ok(code) = decode(alloc, bytes) else {
         return Ok(false);
     };
-    if !code.is_legal() {
-        return Ok(false);
-    }
     Ok(encode(alloc, &code)?.as_slice() == bytes)
 }
 

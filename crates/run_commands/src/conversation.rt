@@ -2,7 +2,6 @@
 #![tactic(auto)]
 
 ghost use Rattle.std.specs.Prelude.{◌≡◌, ◌≤◌, true, false, [], length, IfOk, IfErr, OnErr, OnOk};
-ghost use Rattle.code_items.specs.Legal.{IsCode};
 ghost use Rattle.file_access.specs.Holding.{Rose, SameFiles};
 ghost use Rattle.operating.specs.Answers.{AnswersKept, LastUnkept};
 ghost use Rattle.run_commands.specs.declared.job.Job.{Job as AnyJob};
@@ -18,10 +17,10 @@ use crate::job::Job;
 use crate::machines::{AcceptedRun, Run};
 use crate::refusal::RunRefusal;
 use crate::running::{Report, accept, of_code, save_run};
-use code_items::Code;
 use code_items::laws::legal_codes;
 use file_access::Files;
 use file_commands::read_code;
+use legal_code::LegalCode;
 use line_journal::Journal;
 use ndx_tree::NdxTree;
 use operating::{Broken, Operator, can_go_on, converse};
@@ -168,12 +167,11 @@ fn full_operation<F: Files, J: Journal, O: Operator>(
 fn operate_code<F: Files, J: Journal, O: Operator>(
     alloc: Global,
     files: &mut F,
-    code: Code,
+    code: LegalCode,
     job: &Job<'_>,
     journal: &mut J,
     operator: &mut O,
 ) -> Result<Report, OperateRefusal>
-    requires legal { IsCode code }
     requires untested { job.now.checked ≡ false }
     requires held { J.holds journal.old ≡ job.now.input.now }
     requires ended { is_ended_text job.now.input.now ≡ true }

@@ -2,14 +2,13 @@
 #![tactic(auto)]
 
 ghost use Rattle.std.specs.Prelude.{◌≡◌, IfOk};
-ghost use Rattle.code_items.specs.Legal.{IsCode};
 ghost use Rattle.run_steps.specs.Shapes.{StoreFits};
 ghost use Rattle.run_commands.specs.Runs.{IsLeft, IsSoundRun};
 ghost use Rattle.text_lines.specs.Lines.{short_lines};
 
 use crate::job::Job;
 use crate::testing::run_checked_in_parts;
-use code_items::Code;
+use legal_code::LegalCode;
 use machine::Banks;
 use ndx_tree::NdxTree;
 use run_parts::{Watcher, run_in_parts};
@@ -68,12 +67,11 @@ fn typed(alloc: Global, bytes: &[u8]) -> Result<TypedLines, AllocError>
 /// Runs a code, accepted or not, on the checking machine, in the parts that the watcher says.
 pub(crate) fn run_any<W: Watcher>(
     alloc: Global,
-    code: &Code,
+    code: &LegalCode,
     store: Store<NdxTree>,
     job: &Job<'_>,
     watcher: &mut W,
 ) -> Result<TestedRun, AllocError>
-    requires legal { IsCode code.now }
     requires fits { StoreFits code.now.declared store }
     ensures { IfOk result (λ done. IsLeft code.now store job.now done.run.outcome done.run.rows.items
         done.world.env.store) }

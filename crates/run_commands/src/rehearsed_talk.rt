@@ -2,7 +2,6 @@
 #![tactic(auto)]
 
 ghost use Rattle.std.specs.Prelude.{◌≡◌, ◌≤◌, true, false, length, IfOk, IfErr, OnErr, OnOk};
-ghost use Rattle.code_items.specs.Legal.{IsCode};
 ghost use Rattle.file_access.specs.Holding.{Rose, SameFiles};
 ghost use Rattle.file_commands.specs.Reports.{HasCode};
 ghost use Rattle.operating.specs.Answers.{AnswersKept, LastUnkept};
@@ -17,10 +16,10 @@ use crate::conversation::{OperateRefusal, operate_accepted};
 use crate::job::Job;
 use crate::rehearsing::{Compared, Rehearsal, told_of, with_changes};
 use crate::running::{accept, of_code};
-use code_items::Code;
 use code_items::laws::legal_codes;
 use file_access::Files;
 use file_commands::read_code;
+use legal_code::LegalCode;
 use line_journal::Journal;
 use operating::{Operator, can_go_on};
 use run_laws::laws::new_stores_fit;
@@ -99,12 +98,11 @@ fn rehearse_accepted_talk<F: Files, J: Journal, O: Operator>(
 fn rehearse_code_talk<F: Files, J: Journal, O: Operator>(
     alloc: Global,
     files: &mut F,
-    code: Code,
+    code: LegalCode,
     job: &Job<'_>,
     journal: &mut J,
     operator: &mut O,
 ) -> Result<Rehearsal, OperateRefusal>
-    requires legal { IsCode code }
     requires untested { job.now.checked ≡ false }
     requires held { J.holds journal.old ≡ job.now.input.now }
     requires ended { is_ended_text job.now.input.now ≡ true }

@@ -2,7 +2,6 @@
 #![tactic(auto)]
 
 ghost use Rattle.std.specs.Prelude.{◌≡◌, ◌≤◌, true, false, map, IfOk, IfErr, Ok};
-ghost use Rattle.code_items.specs.Legal.{IsCode};
 ghost use Rattle.file_access.specs.Holding.{Rose, SameFiles};
 ghost use Rattle.file_commands.specs.Reports.{HasCode};
 ghost use Rattle.run_commands.specs.declared.refusal.RunRefusal.TheVariants.{Memory};
@@ -15,10 +14,10 @@ use crate::job::Job;
 use crate::machines::{Run, run_accepted, run_any};
 use crate::refusal::RunRefusal;
 use crate::running::{accept, of_code};
-use code_items::Code;
 use code_items::laws::legal_codes;
 use file_access::Files;
 use file_commands::read_code;
+use legal_code::LegalCode;
 use run_laws::laws::new_stores_fit;
 use run_parts::{Unwatched, Watcher};
 use run_steps::Outcome;
@@ -89,11 +88,10 @@ pub(crate) fn with_changes(
 fn compare_any<F: Files, W: Watcher>(
     alloc: Global,
     files: &mut F,
-    code: &Code,
+    code: &LegalCode,
     job: &Job<'_>,
     watcher: &mut W,
 ) -> Result<Compared, RunRefusal>
-    requires { IsCode code.now }
     ensures done { IfOk result (λ done. LeavesTables (F.holds files.old) job.now code.now done.outcome
         done.rows.items done.changes) }
     ensures refused { IfErr result (IsOfTables (F.holds files.old) job.now code.now
@@ -103,7 +101,7 @@ fn compare_any<F: Files, W: Watcher>(
 {
     legal_codes();
     new_stores_fit();
-    let shape = &code.declared.shape;
+    let shape = &code.code().declared.shape;
     let store = load(alloc, files, shape, job.limit.records())?;
     let kept = keep(alloc, shape, &store)?;
     let done = run_any(alloc, code, store, job, watcher)?;
@@ -154,12 +152,11 @@ pub(crate) fn told_of(alloc: Global, shape: &Shape, done: Compared) -> Result<Re
 fn rehearse_any<F: Files, W: Watcher>(
     alloc: Global,
     files: &mut F,
-    code: &Code,
+    code: &LegalCode,
     job: &Job<'_>,
     watcher: &mut W,
 ) -> Result<Rehearsal, RunRefusal>
-    requires legal { IsCode code.now }
-    requires checked { job.now.checked ≡ true }
+    requires { job.now.checked ≡ true }
     ensures done { IfOk result (λ told. IsRehearsed (F.holds files.old) job.now told code.now) }
     ensures refused { IfErr result (CodeRefused (F.holds files.old) job.now code.now
         (Rose (F.failed files.old) (F.failed files.new))) }
@@ -167,7 +164,7 @@ fn rehearse_any<F: Files, W: Watcher>(
     ensures counted { F.failed files.old ≤ F.failed files.new }
 {
     match compare_any(alloc, files, code, job, watcher) {
-        Ok(done) => told_of(alloc, &code.declared.shape, done),
+        Ok(done) => told_of(alloc, &code.code().declared.shape, done),
         Err(refusal) => Err(refusal),
     }
 }
@@ -198,11 +195,10 @@ fn rehearse_accepted<F: Files, W: Watcher>(
 fn rehearse_code<F: Files, W: Watcher>(
     alloc: Global,
     files: &mut F,
-    code: Code,
+    code: LegalCode,
     job: &Job<'_>,
     watcher: &mut W,
 ) -> Result<Rehearsal, RunRefusal>
-    requires { IsCode code }
     ensures done { IfOk result (λ told. IsRehearsed (F.holds files.old) job.now told code) }
     ensures refused { IfErr result (CodeRefused (F.holds files.old) job.now code
         (Rose (F.failed files.old) (F.failed files.new))) }

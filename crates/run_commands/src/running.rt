@@ -2,7 +2,6 @@
 #![tactic(auto)]
 
 ghost use Rattle.std.specs.Prelude.{◌≡◌, ◌≤◌, ◌<◌, ◌-◌, ◌^◌, ◌⊎◌, true, false, [], length, IfOk, IfErr, IsOk, OnErr};
-ghost use Rattle.code_items.specs.Legal.{IsCode};
 ghost use Rattle.code_rules.specs.Rules.{Accepted};
 ghost use Rattle.file_access.specs.Holding.{Rose, SameFiles};
 ghost use Rattle.run_commands.specs.Parts.{IsOfCode, IsOfRule, IsOfTables, SavedAll, SavedSome, Stopped, CodeStopped};
@@ -15,10 +14,10 @@ use crate::ending::{Ended, ended_of};
 use crate::job::Job;
 use crate::machines::{AcceptedRun, run_accepted, run_any};
 use crate::refusal::RunRefusal;
-use code_items::Code;
 use code_items::laws::legal_codes;
 use file_access::Files;
 use file_commands::{Refusal, read_code};
+use legal_code::LegalCode;
 use run_laws::laws::new_stores_fit;
 use run_parts::{Unwatched, Watcher};
 use shape::Shape;
@@ -46,8 +45,7 @@ pub(crate) fn of_code(refusal: Refusal<'_>) -> RunRefusal
 }
 
 /// The accepted code, or why it isn't.
-pub(crate) fn accept(alloc: Global, code: Code) -> Result<Verified, RunRefusal>
-    requires { IsCode code }
+pub(crate) fn accept(alloc: Global, code: LegalCode) -> Result<Verified, RunRefusal>
     ensures ok { IfOk result (λ verified. verified ≡ code) }
     ensures accepted { IfOk result (λ _. Accepted code) }
     ensures refused { IfErr result (IsOfRule code) }
@@ -63,11 +61,10 @@ pub(crate) fn accept(alloc: Global, code: Code) -> Result<Verified, RunRefusal>
 fn test_run<F: Files, W: Watcher>(
     alloc: Global,
     files: &mut F,
-    code: &Code,
+    code: &LegalCode,
     job: &Job<'_>,
     watcher: &mut W,
 ) -> Result<Report, RunRefusal>
-    requires legal { IsCode code.now }
     ensures done { IfOk result (λ report. IfOk report.result
         (λ ended. IsTested (F.holds files.old) job.now code.now ended report.rows.items)) }
     ensures whole { IfOk result (λ report. IsOk report.result) }
@@ -78,7 +75,7 @@ fn test_run<F: Files, W: Watcher>(
 {
     legal_codes();
     new_stores_fit();
-    let shape = &code.declared.shape;
+    let shape = &code.code().declared.shape;
     let store = load(alloc, files, shape, job.limit.records())?;
     let run = run_any(alloc, code, store, job, watcher)?.alone();
     Ok(Report {
@@ -148,11 +145,10 @@ fn full_run<F: Files, W: Watcher>(
 fn run_code<F: Files, W: Watcher>(
     alloc: Global,
     files: &mut F,
-    code: Code,
+    code: LegalCode,
     job: &Job<'_>,
     watcher: &mut W,
 ) -> Result<Report, RunRefusal>
-    requires legal { IsCode code }
     ensures done { IfOk result (λ report. IfOk report.result
         (λ ended. CodeRan (F.holds files.old) (F.holds files.new) job.now ended report.rows.items code)) }
     ensures stopped { IfOk result (λ report. IfErr report.result

@@ -1,13 +1,12 @@
 //! Runs on the checking machine, part by part.
 
-ghost use Rattle.code_items.specs.Legal.{IsCode};
 ghost use Rattle.run_steps.specs.Run.{Ran};
 ghost use Rattle.run_steps.specs.Shapes.{HasShape};
 ghost use Rattle.run_steps.specs.declared.ending.End.TheVariants.{Spent};
 ghost use Rattle.std.specs.Prelude.{◌≡◌, ◌<◌, ◌≤◌};
 ghost use Rattle.work_area.specs.Areas.{AreApart};
 
-use code_items::Code;
+use legal_code::LegalCode;
 use ndx_tree::NdxTree;
 use run_laws::laws::parts_make_the_whole;
 use run_parts::laws::greater_budgets_change_no_end;
@@ -20,12 +19,11 @@ use tagged_machine::{World, run_checked};
 /// part grows until it pays for it, or is all that is left.
 fn test_part(
     alloc: Global,
-    code: &Code,
+    code: &LegalCode,
     world: &mut World<NdxTree>,
     left: u64,
     most: u64,
 ) -> RunPart
-    requires legal { IsCode code.now }
     requires shape { HasShape code.now world.old }
     requires apart { AreApart world.old.env.store.areas }
     ensures ran { Ran code.now world.old result.budget result.outcome world.new }
@@ -49,12 +47,11 @@ fn test_part(
 /// `run_parts::resume_in_parts` says. The run ends as it does in one part, at the same cost.
 pub(crate) fn run_checked_in_parts<W: Watcher>(
     alloc: Global,
-    code: &Code,
+    code: &LegalCode,
     world: &mut World<NdxTree>,
     budget: u64,
     watcher: &mut W,
 ) -> Outcome
-    requires legal { IsCode code.now }
     requires shape { HasShape code.now world.old }
     requires apart { AreApart world.old.env.store.areas }
     ensures ran { Ran code.now world.old budget result world.new }

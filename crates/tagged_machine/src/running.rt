@@ -17,6 +17,7 @@ use code_items::code::places_of_blocks;
 use code_items::laws::legal_codes;
 use fit_laws::laws::fitting_worlds_are_safe;
 use key_lists::KeyList;
+use legal_code::LegalCode;
 use run_laws::laws::{
     faultless_instructions_are_clear, faultless_worlds_go_on, runs_cost_their_steps,
     safe_runs_meet_no_fault, steps_keep_the_shape,
@@ -92,11 +93,10 @@ fn run_on<K: KeyList>(
 /// world keeps the code's shape, so that a run that ended may be taken up again.
 pub fn run_checked<K: KeyList>(
     alloc: Global,
-    code: &Code,
+    code: &LegalCode,
     world: &mut World<K>,
     budget: u64,
 ) -> Outcome
-    requires legal { IsCode code.now }
     requires shape { HasShape code.now world.old }
     requires apart { AreApart world.old.env.store.areas }
     ensures ran { Ran code.now world.old budget result world.new }
@@ -108,5 +108,11 @@ pub fn run_checked<K: KeyList>(
     runs_cost_their_steps();
     safe_runs_meet_no_fault();
     fitting_worlds_are_safe();
-    run_on(alloc, code, &mut world.machine, &mut world.scratch, budget)
+    run_on(
+        alloc,
+        code.code(),
+        &mut world.machine,
+        &mut world.scratch,
+        budget,
+    )
 }

@@ -1,7 +1,6 @@
 //! The checking machine's world.
 
 ghost use Rattle.std.specs.Prelude.{◌≡◌, IfOk};
-ghost use Rattle.code_items.specs.Legal.{IsCode};
 ghost use Rattle.run_steps.specs.Opening.{opening as opening_of};
 ghost use Rattle.run_steps.specs.Shapes.{HasShape, StoreFits};
 ghost use Rattle.screen_lines.specs.State.{sent};
@@ -9,8 +8,8 @@ ghost use Rattle.work_area.specs.Areas.{AreApart};
 
 use crate::scratch::TestScratch;
 use calendar::Day;
-use code_items::Code;
 use key_lists::KeyList;
+use legal_code::LegalCode;
 use run_laws::laws::openings_have_the_shape;
 use run_steps::Machine;
 use run_values::Tagged;
@@ -40,19 +39,18 @@ impl<K: KeyList> World<K> {
     /// tables with all areas closed, these lines of the operator, a blank screen and all settings off, on this day.
     pub fn opening(
         alloc: Global,
-        code: &Code,
+        code: &LegalCode,
         store: Store<K>,
         today: Day,
         lines: TypedLines,
     ) -> Result<Self, AllocError>
-        requires legal { IsCode code.now }
         requires fits { StoreFits code.now.declared store }
         ensures world { IfOk result (λ world. world ≡ opening_of code.now store lines today) }
         ensures shape { IfOk result (λ world. HasShape code.now world) }
         ensures apart { IfOk result (λ world. AreApart world.env.store.areas) }
     {
         openings_have_the_shape();
-        let values = Tagged::new(alloc, usize::from(code.declared.slots))?;
+        let values = Tagged::new(alloc, usize::from(code.code().declared.slots))?;
         Ok(World {
             machine: Machine::opening(alloc, values, store, lines, today)?,
             scratch: TestScratch::new(alloc)?,

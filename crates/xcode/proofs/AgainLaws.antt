@@ -202,8 +202,8 @@ code_again laws code h =
 pub code_only : ItemLaws → (bytes : List ℕ) (code : Code) → CodeText bytes code → code_at bytes ≡ Ok code
 code_only laws bytes code t = ap code_at t.spelled ∙ code_again laws code t.legal
 
-pub one_code : ItemLaws → (bytes : List ℕ) (a b : Code) → CodeText bytes a → CodeText bytes b → a ≡ b
-one_code laws bytes a b s t = fine_is a b (sym (code_only laws bytes a s) ∙ code_only laws bytes b t)
+pub one_code : (read : Result Code CodeFault) (a b : Code) → read ≡ Ok a → read ≡ Ok b → a ≡ b
+one_code read a b s t = fine_is a b (sym s ∙ t)
 
 whole_read : ItemLaws → (bytes more : List ℕ) (code : Code) → CodeText bytes code → whole_at (bytes ++ more) ≡ Ok (code, more)
 whole_read laws bytes more code t = ap (λ (l : List ℕ). whole_at (l ++ more)) t.spelled ∙ (whole_spelled laws).again code more (whole_fits code (keeps code t.legal))

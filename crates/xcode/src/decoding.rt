@@ -2,6 +2,7 @@
 
 ghost use Rattle.std.specs.Prelude.{◌≡◌, ◌≤◌, ◌++◌, ℕ, List, length, Ok, Err, IfOk};
 ghost use Rattle.code_items.specs.declared.code.Code.{Code as AnyCode};
+ghost use Rattle.code_parts.specs.Laws.{AreBytes};
 ghost use Rattle.xcode.specs.declared.fault.CodeFault.TheVariants.{Extra};
 ghost use Rattle.xcode.specs.declared.fault.CodeFault.{CodeFault as AnyFault};
 ghost use Rattle.xcode.specs.CodeFile.{CodeText};
@@ -21,6 +22,7 @@ use code_parts::laws::{
 use code_parts::{
     Constants, FilterItems, Indexes, Instrs, ListItems, Maps, Procedures, States, Tables,
 };
+use legal_code::LegalCode;
 use std::alloc::Global;
 
 /// What is declared, and the bytes behind it.
@@ -129,9 +131,21 @@ fn code_of(alloc: Global, bytes: &[u8]) -> Result<Code, CodeFault>
     Ok(code)
 }
 
+/// The bytes from which a code is read are its file, and a code's file is read as that code.
+fn files_are_of_their_codes()
+    ensures found { (bytes : List ℕ) (code : AnyCode) → AreBytes bytes → code_at bytes ≡ Ok code → CodeText bytes code }
+    ensures only { (bytes : List ℕ) (code : AnyCode) → CodeText bytes code → code_at bytes ≡ Ok code }
+{
+    numbers_are_spelled();
+    declarations_are_spelled();
+    constants_and_filters_are_spelled();
+    procedures_and_maps_are_spelled();
+    instructions_are_spelled();
+}
+
 /// The code whose file the bytes are. An error is the first fault from the front, and within one item the least; where
 /// memory is refused before that is found, it is `Memory`. Numbers that instructions name aren't judged.
-pub fn decode(alloc: Global, bytes: &[u8]) -> Result<Code, CodeFault>
+pub fn decode(alloc: Global, bytes: &[u8]) -> Result<LegalCode, CodeFault>
     // The bytes are the file of the code that is read.
     ensures found { IfOk result (λ code. CodeText bytes.now code) }
     // A code's file is read as that code, unless memory runs out.
@@ -139,12 +153,11 @@ pub fn decode(alloc: Global, bytes: &[u8]) -> Result<Code, CodeFault>
     // Which fault it is.
     ensures exact { FileGives (λ x. x) result (code_at bytes.now) }
 {
-    numbers_are_spelled();
-    declarations_are_spelled();
-    constants_and_filters_are_spelled();
-    procedures_and_maps_are_spelled();
-    instructions_are_spelled();
-    code_of(alloc, bytes)
+    files_are_of_their_codes();
+    match code_of(alloc, bytes) {
+        Ok(code) => Ok(LegalCode::of(code)),
+        Err(fault) => Err(fault),
+    }
 }
 
 /// A fault that is told of bytes that are there stays where bytes are appended: all but `Magic`, `Version`, `Short` and
@@ -164,11 +177,7 @@ pub fn one_file_each()
     ensures text { (a b : List ℕ) (code : AnyCode) → CodeText a code → CodeText b code → a ≡ b }
     ensures code { (bytes : List ℕ) (a b : AnyCode) → CodeText bytes a → CodeText bytes b → a ≡ b }
 {
-    numbers_are_spelled();
-    declarations_are_spelled();
-    constants_and_filters_are_spelled();
-    procedures_and_maps_are_spelled();
-    instructions_are_spelled();
+    files_are_of_their_codes();
 }
 
 /// Bytes behind a code's file are `Extra`, and a file that is cut has a fault of missing bytes: `Magic`, `Version` or

@@ -5,12 +5,12 @@ ghost use Rattle.std.specs.List.{flat_map};
 ghost use Rattle.code_parts.specs.Texts.{two};
 ghost use Rattle.xcode.specs.CodeFile.{version_number, counts_text, header_text, header_of as header_of_code};
 ghost use Rattle.xcode.specs.CodeFile.{declared_text, body_text, code_text};
-ghost use Rattle.code_items.specs.Legal.{IsCode};
 ghost use Rattle.xcode.specs.Writing.{Writable};
 
 use crate::header::{Counts, Header};
 use crate::{put_all, put_two};
 use code_items::{Code, Version};
+use legal_code::LegalCode;
 use std::alloc::{AllocError, Global};
 
 fn number_of_version(version: Version) -> u16
@@ -114,9 +114,8 @@ pub(crate) fn encode_fitting(alloc: Global, code: &Code) -> Result<Vec<u8>, Allo
 }
 
 /// The bytes of the code's file. The only error is that memory was refused.
-pub fn encode(alloc: Global, code: &Code) -> Result<Vec<u8>, AllocError>
-    requires { IsCode code.now }
+pub fn encode(alloc: Global, code: &LegalCode) -> Result<Vec<u8>, AllocError>
     ensures { IfOk result (λ bytes. bytes.items ≡ code_text code.now) }
 {
-    encode_fitting(alloc, code)
+    encode_fitting(alloc, code.code())
 }

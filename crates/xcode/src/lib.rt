@@ -27,5 +27,6 @@ pub use decoding::{decode, faults_stay, files_end_where_they_end, one_file_each}
 pub use encoding::encode;
 pub use fault::CodeFault;
 pub use instrs::operation_name;
+pub use legal_code::LegalCode;
 pub use listing::list;
 pub use writing::{Writes, put_all, put_two};

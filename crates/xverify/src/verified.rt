@@ -6,17 +6,17 @@ ghost use Rattle.code_rules.specs.Rules.{Accepted};
 
 use code_items::Code;
 use code_rules::Rule;
+use legal_code::LegalCode;
 use std::fmt;
 use std::marker::Model;
 
 /// A code that has a code file and that the verifier accepted. It is seen as that code.
 #[derive(Drop)]
 pub struct Verified {
-    code: Code,
+    code: LegalCode,
 }
 
 impl Model for Verified {
-    ghost use Rattle.code_items.specs.Legal.{IsCode};
     ghost use Rattle.code_items.specs.declared.code.Code.{Code as AnyCode};
     ghost use Rattle.code_rules.specs.Rules.{Accepted};
 
@@ -24,7 +24,7 @@ impl Model for Verified {
 
     ghost view = { λ v. v.code };
 
-    ghost invariant = { λ v. IsCode v.code × Accepted v.code };
+    ghost invariant = { λ v. Accepted v.code };
 }
 
 /// A rule that fails, and the place at which it does, counted from 0.
@@ -50,10 +50,9 @@ pub enum VerifyError {
 }
 
 impl Verified {
-    /// This code, which has a code file and is accepted.
-    pub(crate) fn of(code: Code) -> Verified
-        requires legal { IsCode code }
-        requires accepted { Accepted code }
+    /// This code, which is accepted.
+    pub(crate) fn of(code: LegalCode) -> Verified
+        requires { Accepted code }
         ensures { result ≡ code }
     {
         Verified { code }
@@ -64,6 +63,13 @@ impl Verified {
         ensures same { result.now ≡ self.now }
         ensures legal { IsCode result.now }
         ensures accepted { Accepted result.now }
+    {
+        self.code.code()
+    }
+
+    /// The accepted code, as one that has a code file.
+    pub fn legal(&self) -> &LegalCode
+        ensures { result.now ≡ self.now }
     {
         &self.code
     }

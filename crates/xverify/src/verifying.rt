@@ -16,6 +16,7 @@ use code_items::{Code, State};
 use code_rules::Rule;
 use code_rules::blocks::{block_at, map_at, start_of};
 use code_rules::flow::flow;
+use legal_code::LegalCode;
 use std::alloc::{AllocError, Global};
 
 /// What the verifier finds at one place: the first rule that fails there, and what flows into the next place.
@@ -73,20 +74,18 @@ fn look(alloc: Global, code: &Code, place: usize, incoming: State) -> Result<Fin
     Ok(Finding { rule, after })
 }
 
-/// Says yes exactly where no rule fails at any place. A refusal names the least place at which a rule fails, and the
-/// least rule that fails there; places are counted from 0. Want of memory may be told before a refusal.
-pub fn verify(alloc: Global, code: Code) -> Result<Verified, VerifyError>
-    requires { IsCode code }
-    ensures yes { IfOk result (λ verified. verified ≡ code) }
-    ensures accepted { IfOk result (λ _. Accepted code) }
-    ensures no { IfErr result (Refuses code) }
+/// Says nothing against a code in which no rule fails.
+fn test_rules(alloc: Global, code: &Code) -> Result<(), VerifyError>
+    requires { IsCode code.now }
+    ensures yes { IfOk result (λ _. Accepted code.now) }
+    ensures no { IfErr result (Refuses code.now) }
 {
-    let first = block_at(&code, 0);
-    let Ok(mut incoming) = start_of(alloc, &code, first.number) else {
+    let first = block_at(code, 0);
+    let Ok(mut incoming) = start_of(alloc, code, first.number) else {
         return Err(VerifyError::NoMemory);
     };
     for place in 0..code.instructions.len() {
-        let Ok(finding) = look(alloc, &code, place, incoming) else {
+        let Ok(finding) = look(alloc, code, place, incoming) else {
             return Err(VerifyError::NoMemory);
         };
         if let Some(rule) = finding.rule {
@@ -94,5 +93,18 @@ pub fn verify(alloc: Global, code: Code) -> Result<Verified, VerifyError>
         }
         incoming = finding.after;
     }
-    Ok(Verified::of(code))
+    Ok(())
+}
+
+/// Says yes exactly where no rule fails at any place. A refusal names the least place at which a rule fails, and the
+/// least rule that fails there; places are counted from 0. Want of memory may be told before a refusal.
+pub fn verify(alloc: Global, code: LegalCode) -> Result<Verified, VerifyError>
+    ensures yes { IfOk result (λ verified. verified ≡ code) }
+    ensures accepted { IfOk result (λ _. Accepted code) }
+    ensures no { IfErr result (Refuses code) }
+{
+    match test_rules(alloc, code.code()) {
+        Ok(()) => Ok(Verified::of(code)),
+        Err(error) => Err(error),
+    }
 }

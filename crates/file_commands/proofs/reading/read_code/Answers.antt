@@ -8,6 +8,3 @@ returns-in-Ok-clause-found g c = record {
   held = c.in_ok-bytes.ensures.held;
   text = subst (λ b. CodeText b c.in-Ok.code) c.as_slice.ensures.value c.in-Ok.ensures.found;
 }
-
-pub returns-in-Ok-clause-legal : goal.returns-in-Ok-clause-legal
-returns-in-Ok-clause-legal g c = c.in-Ok.ensures.found.legal

@@ -1,12 +1,15 @@
 use Rattle.std.proofs.Common.{sym, subst}
+use Rattle.code_items.specs.declared.code.Code.{Code}
+use Rattle.code_rules.specs.Rules.{Accepted}
 use Rattle.fit_laws.specs.Fits.{IsFitting}
 use Rattle.tagged_machine.specs.Seen.{world_of}
 use Rattle.tagged_machine.proofs.running.run_checked.Goals as goal
 
 pub returns-clause-safe : goal.returns-clause-safe
 returns-clause-safe g c = λ accepted fits.
-    let code = c.args.code.now in
+    let code = c.code.result.now in
+    let lent = sym c.code.ensures.same in
     let m = c.world.inside.machine in
     let old = world_of m.place m.returns m.values m.env in
-    let there = subst (IsFitting code) (sym c.world.view_is) fits in
-    c.safe_runs_meet_no_fault.ensures.end code old c.args.budget c.run_on.result _ (c.fitting_worlds_are_safe.ensures code c.requires.legal accepted old there) c.run_on.ensures.ran
+    let there = subst (λ (code : Code). IsFitting code old) lent (subst (IsFitting c.args.code.now) (sym c.world.view_is) fits) in
+    c.safe_runs_meet_no_fault.ensures.end code old c.args.budget c.run_on.result _ (c.fitting_worlds_are_safe.ensures code c.code.ensures.legal (subst Accepted lent accepted) old there) c.run_on.ensures.ran

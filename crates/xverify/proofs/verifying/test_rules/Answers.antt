@@ -1,11 +1,11 @@
 use Rattle.std.proofs.Common.{sym, ◌∙◌, ap, arith}
 use Rattle.code_rules.specs.Places.{start_of}
 use Rattle.xverify.proofs.Findings.{first_found}
-use Rattle.xverify.proofs.verifying.verify.Goals as goal
+use Rattle.xverify.proofs.verifying.test_rules.Goals as goal
 
 pub loop-place-init : goal.loop-place-init
 loop-place-init c = record {
-  incoming = c.in-Ok.ensures ∙ (ap (λ b. start_of c.args.code b.number) c.block_at-first.ensures ∙ sym (first_found c.args.code));
+  incoming = c.in-Ok.ensures ∙ (ap (λ b. start_of c.args.code.now b.number) c.block_at-first.ensures ∙ sym (first_found c.args.code.now));
   before = λ p lt. absurd (omega (arith, lt));
 }
 
