@@ -4,6 +4,7 @@ use Rattle.std.specs.Prelude.{Some, None, Result, Ok, Err}
 use Rattle.std.specs.Global.{Vec}
 use Rattle.std.specs.Int.{Width, byte_len, from_le_bytes}
 use Rattle.code_parts.specs.declared.flaw.Flaw.{Flaw}
+use Rattle.code_parts.specs.declared.flaw.Missing.{Missing}
 use Rattle.code_parts.specs.declared.flaw.Unread.{Unread}
 use Rattle.code_parts.specs.declared.flaw.Unread.TheVariants.{Short, Memory}
 
@@ -21,6 +22,11 @@ Fails Memory read = Unit {0}
 abbrev pub Gives : {X Y : Type 0} → (X → Y) → Result X Unread → Option Y → Type 0
 Gives view (Ok x) read = read ≡ Some (view x)
 Gives view (Err e) read = Fails e read
+
+-- the same of a function that takes no memory
+abbrev pub Finds : {X Y : Type 0} → (X → Y) → Result X Missing → Option Y → Type 0
+Finds view (Ok x) read = read ≡ Some (view x)
+Finds view (Err missing) read = read ≡ None
 
 -- ---- one reader behind the other
 

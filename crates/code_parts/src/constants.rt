@@ -1,13 +1,13 @@
 //! Constants.
 
 ghost use Rattle.std.specs.Prelude.{◌≡◌};
-ghost use Rattle.code_parts.specs.Reading.{Gives};
+ghost use Rattle.code_parts.specs.Reading.{Finds};
 ghost use Rattle.code_parts.specs.Items.{decimal_from as decimal_from_parts, decimal_at, date_from as date_from_parts};
 ghost use Rattle.code_parts.specs.Items.{date_at, text_from as text_from_bytes, text_value_at};
 ghost use Rattle.code_parts.specs.Items.{truth_from as truth_from_byte, truth_at, value_at, constant_at};
 
 use crate::fields::{byte_of, counted_text, eight_of, two_of};
-use crate::flaw::{Flaw, Unread};
+use crate::flaw::{Flaw, Missing, Unread};
 use crate::kinds::truth_of_number;
 use crate::several::Reads;
 use calendar::{Day, DayParts};
@@ -33,8 +33,8 @@ fn decimal_from(decimals: u8, sign: u8, magnitude: u64) -> Result<Value, Flaw>
 }
 
 #[tactic(auto, unfolding(crate::specs::Items::decimal_at))]
-fn decimal_of(bytes: &[u8]) -> Result<(Result<Value, Flaw>, &[u8]), Unread>
-    ensures { Gives (λ x. (x.0, x.1.now)) result (decimal_at bytes.now) }
+fn decimal_of(bytes: &[u8]) -> Result<(Result<Value, Flaw>, &[u8]), Missing>
+    ensures { Finds (λ x. (x.0, x.1.now)) result (decimal_at bytes.now) }
 {
     let (decimals, rest) = byte_of(bytes)?;
     let (sign, rest) = byte_of(rest)?;
@@ -55,8 +55,8 @@ fn date_from(parts: DayParts) -> Result<Value, Flaw>
 }
 
 #[tactic(auto, unfolding(crate::specs::Items::date_at))]
-fn date_of(bytes: &[u8]) -> Result<(Result<Value, Flaw>, &[u8]), Unread>
-    ensures { Gives (λ x. (x.0, x.1.now)) result (date_at bytes.now) }
+fn date_of(bytes: &[u8]) -> Result<(Result<Value, Flaw>, &[u8]), Missing>
+    ensures { Finds (λ x. (x.0, x.1.now)) result (date_at bytes.now) }
 {
     let (year, rest) = two_of(bytes)?;
     let (month, rest) = byte_of(rest)?;
@@ -74,8 +74,8 @@ fn text_from(bytes: &[u8]) -> Result<Value, Flaw>
 }
 
 #[tactic(auto, unfolding(crate::specs::Items::text_value_at))]
-fn text_value_of(bytes: &[u8]) -> Result<(Result<Value, Flaw>, &[u8]), Unread>
-    ensures { Gives (λ x. (x.0, x.1.now)) result (text_value_at bytes.now) }
+fn text_value_of(bytes: &[u8]) -> Result<(Result<Value, Flaw>, &[u8]), Missing>
+    ensures { Finds (λ x. (x.0, x.1.now)) result (text_value_at bytes.now) }
 {
     let (text, rest) = counted_text(bytes)?;
     Ok((text_from(text), rest))
@@ -91,11 +91,25 @@ fn truth_from(byte: u8) -> Result<Value, Flaw>
 }
 
 #[tactic(auto, unfolding(crate::specs::Items::truth_at))]
-fn truth_of(bytes: &[u8]) -> Result<(Result<Value, Flaw>, &[u8]), Unread>
-    ensures { Gives (λ x. (x.0, x.1.now)) result (truth_at bytes.now) }
+fn truth_of(bytes: &[u8]) -> Result<(Result<Value, Flaw>, &[u8]), Missing>
+    ensures { Finds (λ x. (x.0, x.1.now)) result (truth_at bytes.now) }
 {
     let (byte, rest) = byte_of(bytes)?;
     Ok((truth_from(byte), rest))
+}
+
+#[tactic(auto, unfolding(crate::specs::Items::constant_at))]
+fn constant_of(bytes: &[u8]) -> Result<(Result<Value, Flaw>, &[u8]), Missing>
+    ensures { Finds (λ x. (x.0, x.1.now)) result (constant_at bytes.now) }
+{
+    let (byte, rest) = byte_of(bytes)?;
+    match byte {
+        1 => decimal_of(rest),
+        2 => text_value_of(rest),
+        3 => date_of(rest),
+        4 => truth_of(rest),
+        _ => Ok((Err(Flaw::Shape), rest)),
+    }
 }
 
 /// Constants. Of one of an unknown kind the kind's byte alone is read.
@@ -107,19 +121,11 @@ impl Reads for Constants {
 
     ghost at = { λ _. constant_at };
 
-    #[tactic(auto, unfolding(crate::specs::Items::constant_at))]
     fn read<'a>(
         &self,
         _alloc: Global,
         bytes: &'a [u8],
     ) -> Result<(Result<Value, Flaw>, &'a [u8]), Unread> {
-        let (byte, rest) = byte_of(bytes)?;
-        match byte {
-            1 => decimal_of(rest),
-            2 => text_value_of(rest),
-            3 => date_of(rest),
-            4 => truth_of(rest),
-            _ => Ok((Err(Flaw::Shape), rest)),
-        }
+        Ok(constant_of(bytes)?)
     }
 }

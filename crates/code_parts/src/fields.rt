@@ -2,37 +2,37 @@
 
 ghost use Rattle.std.specs.Prelude.{◌≡◌};
 ghost use Rattle.std.specs.Int.{w16, w32, w64};
-ghost use Rattle.code_parts.specs.Reading.{Gives, byte_at, number_read_at, text_read_at};
+ghost use Rattle.code_parts.specs.Reading.{Finds, byte_at, number_read_at, text_read_at};
 
-use crate::flaw::Unread;
+use crate::flaw::Missing;
 
-/// The byte at the front, and the bytes behind it. The only error is `Short`, as for all of this module.
-pub fn byte_of(bytes: &[u8]) -> Result<(u8, &[u8]), Unread>
-    ensures { Gives (λ x. (x.0, x.1.now)) result (byte_at bytes.now) }
+/// The byte at the front, and the bytes behind it.
+pub fn byte_of(bytes: &[u8]) -> Result<(u8, &[u8]), Missing>
+    ensures { Finds (λ x. (x.0, x.1.now)) result (byte_at bytes.now) }
 {
     match bytes {
-        [] => Err(Unread::Short),
+        [] => Err(Missing),
         [byte, rest @ ..] => Ok((*byte, rest)),
     }
 }
 
 /// The number in two bytes at the front, and the bytes behind it.
-pub fn two_of(bytes: &[u8]) -> Result<(u16, &[u8]), Unread>
-    ensures { Gives (λ x. (x.0, x.1.now)) result (number_read_at w16 bytes.now) }
+pub fn two_of(bytes: &[u8]) -> Result<(u16, &[u8]), Missing>
+    ensures { Finds (λ x. (x.0, x.1.now)) result (number_read_at w16 bytes.now) }
 {
     if bytes.len() < 2 {
-        return Err(Unread::Short);
+        return Err(Missing);
     }
     let (front, rest) = bytes.split_at(2);
     Ok((u16::from_le_bytes([front[0], front[1]]), rest))
 }
 
 /// The number in four bytes at the front, and the bytes behind it.
-pub fn four_of(bytes: &[u8]) -> Result<(u32, &[u8]), Unread>
-    ensures { Gives (λ x. (x.0, x.1.now)) result (number_read_at w32 bytes.now) }
+pub fn four_of(bytes: &[u8]) -> Result<(u32, &[u8]), Missing>
+    ensures { Finds (λ x. (x.0, x.1.now)) result (number_read_at w32 bytes.now) }
 {
     if bytes.len() < 4 {
-        return Err(Unread::Short);
+        return Err(Missing);
     }
     let (front, rest) = bytes.split_at(4);
     let number = u32::from_le_bytes([front[0], front[1], front[2], front[3]]);
@@ -40,11 +40,11 @@ pub fn four_of(bytes: &[u8]) -> Result<(u32, &[u8]), Unread>
 }
 
 /// The number in eight bytes at the front, and the bytes behind it.
-pub(crate) fn eight_of(bytes: &[u8]) -> Result<(u64, &[u8]), Unread>
-    ensures { Gives (λ x. (x.0, x.1.now)) result (number_read_at w64 bytes.now) }
+pub(crate) fn eight_of(bytes: &[u8]) -> Result<(u64, &[u8]), Missing>
+    ensures { Finds (λ x. (x.0, x.1.now)) result (number_read_at w64 bytes.now) }
 {
     if bytes.len() < 8 {
-        return Err(Unread::Short);
+        return Err(Missing);
     }
     let (front, rest) = bytes.split_at(8);
     let number = u64::from_le_bytes([
@@ -54,13 +54,13 @@ pub(crate) fn eight_of(bytes: &[u8]) -> Result<(u64, &[u8]), Unread>
 }
 
 /// A byte that says how many follow, those, and the bytes behind them.
-pub fn counted_text(bytes: &[u8]) -> Result<(&[u8], &[u8]), Unread>
-    ensures { Gives (λ x. (x.0.now, x.1.now)) result (text_read_at bytes.now) }
+pub fn counted_text(bytes: &[u8]) -> Result<(&[u8], &[u8]), Missing>
+    ensures { Finds (λ x. (x.0.now, x.1.now)) result (text_read_at bytes.now) }
 {
     let (count, rest) = byte_of(bytes)?;
     let count = usize::from(count);
     if rest.len() < count {
-        return Err(Unread::Short);
+        return Err(Missing);
     }
     let (text, rest) = rest.split_at(count);
     Ok((text, rest))

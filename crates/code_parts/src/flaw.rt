@@ -1,7 +1,7 @@
 //! Why an item of a code file isn't read, and why one that is read isn't legal.
 
 ghost use Rattle.std.specs.Prelude.{◌≡◌};
-ghost use Rattle.code_parts.specs.declared.flaw.Unread.TheVariants.{Memory};
+ghost use Rattle.code_parts.specs.declared.flaw.Unread.TheVariants.{Short, Memory};
 
 use std::alloc::{AllocError, AllocFailed};
 use thiserror::Error;
@@ -17,6 +17,10 @@ pub enum Flaw {
     Shape,
 }
 
+/// Bytes of an item are missing.
+#[derive(Clone, Copy, Debug, PartialEq, Eq)]
+pub struct Missing;
+
 /// Why an item isn't read.
 #[derive(Clone, Copy, Debug, PartialEq, Eq, Error)]
 pub enum Unread {
@@ -26,6 +30,14 @@ pub enum Unread {
     /// Memory was refused.
     #[error("Memory")]
     Memory,
+}
+
+impl From<Missing> for Unread {
+    ghost from_gives = { λ _ e. e ≡ Short };
+
+    fn from(_missing: Missing) -> Unread {
+        Unread::Short
+    }
 }
 
 impl From<AllocError> for Unread {

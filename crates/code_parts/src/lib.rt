@@ -17,7 +17,7 @@ mod states;
 pub use constants::Constants;
 pub use fields::{byte_of, counted_text, four_of, two_of};
 pub use filters::{FilterItems, Needs};
-pub use flaw::{Flaw, Unread};
+pub use flaw::{Flaw, Missing, Unread};
 pub use instrs::Instrs;
 pub use kinds::{KindItems, SlotItems, number_of_kind, number_of_slot};
 pub use operands::{InstrParts, parts_of_instr};

@@ -1,14 +1,14 @@
 //! Tables, indexes and lists of indexes.
 
 ghost use Rattle.std.specs.Prelude.{◌≡◌, Ok};
-ghost use Rattle.code_parts.specs.Reading.{Gives, judge, both_judged, in_list};
+ghost use Rattle.code_parts.specs.Reading.{Finds, judge, both_judged, in_list};
 ghost use Rattle.code_parts.specs.Items.{name_from as name_from_bytes, name_read_at, field_from as field_from_parts};
 ghost use Rattle.code_parts.specs.Items.{field_at, table_read_at, part_from as part_from_parts, part_at};
 ghost use Rattle.code_parts.specs.Items.{index_from as index_from_parts, index_at, list_from as list_from_bytes};
 ghost use Rattle.code_parts.specs.Items.{list_at};
 
 use crate::fields::{byte_of, counted_text};
-use crate::flaw::{Flaw, Unread};
+use crate::flaw::{Flaw, Missing, Unread};
 use crate::kinds::truth_of_number;
 use crate::several::{Reads, read_counted};
 use arrayvec::ArrayVec;
@@ -28,8 +28,8 @@ fn name_from(bytes: &[u8]) -> Result<Name, Flaw>
 }
 
 #[tactic(auto, unfolding(crate::specs::Items::name_read_at))]
-fn name_of(bytes: &[u8]) -> Result<(Result<Name, Flaw>, &[u8]), Unread>
-    ensures { Gives (λ x. (x.0, x.1.now)) result (name_read_at bytes.now) }
+fn name_of(bytes: &[u8]) -> Result<(Result<Name, Flaw>, &[u8]), Missing>
+    ensures { Finds (λ x. (x.0, x.1.now)) result (name_read_at bytes.now) }
 {
     let (text, rest) = counted_text(bytes)?;
     Ok((name_from(text), rest))

@@ -2,12 +2,12 @@
 
 ghost use Rattle.std.specs.Prelude.{◌≡◌, ◌<◌, Ok};
 ghost use Rattle.code_items.specs.States.{may_be_unsure as may_be_unsure_in};
-ghost use Rattle.code_parts.specs.Reading.{Gives, judge, both_judged, in_list};
+ghost use Rattle.code_parts.specs.Reading.{Finds, judge, both_judged, in_list};
 ghost use Rattle.code_parts.specs.Items.{open_from as open_from_parts, open_read_at, area_read_at};
 ghost use Rattle.code_parts.specs.Items.{state_from as state_from_parts, state_read_at};
 
 use crate::fields::byte_of;
-use crate::flaw::{Flaw, Unread};
+use crate::flaw::{Flaw, Missing, Unread};
 use crate::kinds::{KindItems, SlotItems};
 use crate::several::{Reads, read_counted, read_several};
 use code_items::{AreaState, Desk, KindSlots, KindStack, OpenArea, State, Version};
@@ -28,9 +28,9 @@ fn open_from(byte: u8, list: u8, order: u8, filter: u8) -> AreaState
 }
 
 #[tactic(auto, unfolding(crate::specs::Items::open_read_at))]
-fn open_of(byte: u8, bytes: &[u8]) -> Result<(Result<AreaState, Flaw>, &[u8]), Unread>
+fn open_of(byte: u8, bytes: &[u8]) -> Result<(Result<AreaState, Flaw>, &[u8]), Missing>
     requires { 0 < byte }
-    ensures { Gives (λ x. (x.0, x.1.now)) result (open_read_at byte bytes.now) }
+    ensures { Finds (λ x. (x.0, x.1.now)) result (open_read_at byte bytes.now) }
 {
     let (list, rest) = byte_of(bytes)?;
     let (order, rest) = byte_of(rest)?;
@@ -71,7 +71,7 @@ impl Reads for Areas {
         if byte == 255 && may_be_unsure(self.version) {
             return Ok((Ok(AreaState::Unsure), rest));
         }
-        open_of(byte, rest)
+        Ok(open_of(byte, rest)?)
     }
 }
 

@@ -1,6 +1,10 @@
 // The words of `operate`.
 #![tactic(auto)]
 
+ghost use Rattle.std.specs.Prelude.{◌≡◌, ◌↔◌, ℕ, Some};
+ghost use Rattle.command_words.specs.declared.operate_words.WindowWords.{WindowWords as Size};
+ghost use Rattle.command_words.specs.Windows.{IsNumber, IsSize};
+
 use crate::words::{
     BACKUP, FILE, NEW_OWNER, NO_LOCK, ONLY_FINISHED, Outcomes, REHEARSE, RunHelp, WordsFault, flag,
     limit_of, page, page_of, run_outcomes, runner, saver, word_of,
@@ -122,12 +126,21 @@ pub(crate) fn screens_of<'a>(matches: &ArgMatches<'a>) -> Option<&'a str> {
     matches.get_str(SCREENS)
 }
 
-/// The size that a word of the form ROWSxCOLUMNS says.
-pub fn window_named(word: &str) -> Option<WindowWords> {
+/// The number that a text says in decimal; none where it says none below 2^64. A plus sign may stand in front.
+fn number_said(text: &str) -> Option<usize>
+    ensures { (n : ℕ) → (result ≡ Some n) ↔ IsNumber text.now n }
+{
+    text.parse::<usize>().ok()
+}
+
+/// The size that a word of the form ROWSxCOLUMNS says; none of another word.
+pub fn window_named(word: &str) -> Option<WindowWords>
+    ensures { (size : Size) → (result ≡ Some size) ↔ IsSize word.now size }
+{
     let (rows, columns) = word.split_once('x')?;
     Some(WindowWords {
-        rows: rows.parse::<usize>().ok()?,
-        columns: columns.parse::<usize>().ok()?,
+        rows: number_said(rows)?,
+        columns: number_said(columns)?,
     })
 }
 

@@ -1,6 +1,13 @@
 // The words of the command line.
 #![tactic(auto)]
 
+ghost use Rattle.std.specs.Prelude.{◌≡◌, IfOk, Some, map};
+ghost use Rattle.std.specs.Option.{option_map};
+ghost use Rattle.clap.specs.Matches.{found_of};
+ghost use Rattle.clap.specs.Simple.{subcommand_rows_of};
+ghost use Rattle.clap.specs.Walk.{rows_of};
+ghost use Rattle.command_words.specs.Said.{sources_said, word_said};
+
 use crate::operate_words::{OperateWords, operate_of, operator, screens, screens_of};
 use clap::{Arg, ArgAction, ArgMatches, Command, value_parser};
 use code_pages::CodePage;
@@ -459,7 +466,10 @@ pub(crate) fn page_of(matches: &ArgMatches<'_>) -> Result<Option<CodePage>, Word
     }
 }
 
-pub(crate) fn word_of<'a>(matches: &ArgMatches<'a>, id: &str) -> Result<&'a str, WordsFault> {
+#[tactic(auto, using(crate::proofs::Rows::same_word))]
+pub(crate) fn word_of<'a>(matches: &ArgMatches<'a>, id: &str) -> Result<&'a str, WordsFault>
+    ensures { IfOk result (λ word. word_said id.now (rows_of (found_of matches.now)) ≡ Some word.now) }
+{
     matches.get_str(id).ok_or(WordsFault::Missing)
 }
 
@@ -510,7 +520,9 @@ fn check_of<'a>(matches: &ArgMatches<'a>) -> Result<Words<'a>, WordsFault> {
 }
 
 /// The command files that the words name, the main one first.
-pub fn sources_of<'m, 'a: 'm>(matches: &'m ArgMatches<'a>) -> Option<&'m [&'a str]> {
+pub fn sources_of<'m, 'a: 'm>(matches: &'m ArgMatches<'a>) -> Option<&'m [&'a str]>
+    ensures { option_map (λ s. map (λ w. w.now) s.now) result ≡ sources_said (subcommand_rows_of matches.now) }
+{
     let (_, matches) = matches.subcommand()?;
     matches.get_raw(SOURCES)
 }

@@ -10,6 +10,8 @@ use Rattle.file_commands.specs.declared.refusal.Fault.{Fault}
 use Rattle.file_commands.specs.declared.refusal.Fault.TheVariants.{Absent, TooLong, OfCode, OfTable, OfIndex}
 use Rattle.file_commands.specs.declared.refusal.Refusal.{Refusal}
 use Rattle.file_commands.specs.declared.refusal.Refusal.TheVariants.{Refused, Disk, Memory}
+use Rattle.file_commands.specs.declared.status.Status.{Status}
+use Rattle.file_commands.specs.declared.status.Status.TheVariants as status
 use Rattle.file_access.specs.Holding.{Rose}
 
 -- a file longer than 64 MiB, and one that is no code file by this fault
@@ -72,3 +74,9 @@ abbrev pub RefusalIs : (Fault → Type 0) → ℕ → ℕ → List ℕ → Refus
 RefusalIs tells before after name (Refused told fault) = (told.now ≡ name) × tells fault
 RefusalIs tells before after name (Disk told) = (told.now ≡ name) × Rose before after
 RefusalIs tells before after name Memory = Unit {0}
+
+-- how the program exits where a command isn't carried out
+abbrev pub status_of : Refusal → Status
+status_of (Refused told fault) = status.Refused
+status_of (Disk told) = status.Disk
+status_of Memory = status.Memory

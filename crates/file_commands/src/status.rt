@@ -1,6 +1,9 @@
 // Exit statuses.
 #![tactic(auto)]
 
+ghost use Rattle.std.specs.Prelude.{◌≡◌};
+ghost use Rattle.file_commands.specs.Refusals.{status_of};
+
 use crate::refusal::Refusal;
 
 /// How the program exits.
@@ -25,7 +28,9 @@ pub enum Status {
 }
 
 /// The status of a command that wasn't carried out.
-pub fn of_refusal(refusal: &Refusal<'_>) -> Status {
+pub fn of_refusal(refusal: &Refusal<'_>) -> Status
+    ensures { result ≡ status_of refusal.now }
+{
     match refusal {
         Refusal::Refused { .. } => Status::Refused,
         Refusal::Disk { .. } => Status::Disk,

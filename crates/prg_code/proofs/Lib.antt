@@ -5,3 +5,4 @@ mod Constants
 mod Naming
 mod Numbers
 mod Rooms
+mod Sameness

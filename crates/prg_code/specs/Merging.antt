@@ -39,6 +39,12 @@ pub record DoMeet (one two : State) : Type 0 where
   pub areas : length one.desk.areas ≡ length two.desk.areas
   pub slots : length one.slots ≡ length two.slots
 
+-- the same area is selected, and the same is known of each area and of each slot; the stacks may differ
+pub record KnowSame (one two : State) : Type 0 where
+  pub selected : one.desk.selected ≡ two.desk.selected
+  pub areas : one.desk.areas ≡ two.desk.areas
+  pub slots : one.slots ≡ two.slots
+
 -- what is known in the map is known there
 pub record IsKnown (map there : State) : Type 0 where
   pub desk : desk_covered map.desk there.desk ≡ true

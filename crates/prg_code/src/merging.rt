@@ -1,6 +1,6 @@
 //! What is known where ways meet.
 
-ghost use Rattle.std.specs.Prelude.{◌≡◌, ◌==◌, true, IfOk};
+ghost use Rattle.std.specs.Prelude.{◌≡◌, ◌==◌, ◌↔◌, IsTrue, IfOk};
 ghost use Rattle.code_items.specs.Desks.{same_area};
 ghost use Rattle.prg_code.specs.Merging as spec;
 
@@ -88,11 +88,23 @@ pub fn is_selection_same(one: &State, two: &State) -> bool
     one.desk.selected == two.desk.selected
 }
 
+fn are_areas_same(one: &[AreaState], two: &[AreaState]) -> bool
+    ensures { IsTrue result ↔ (one.now ≡ two.now) }
+{
+    one == two
+}
+
+fn are_kinds_same(one: &[Option<Kind>], two: &[Option<Kind>]) -> bool
+    ensures { IsTrue result ↔ (one.now ≡ two.now) }
+{
+    one == two
+}
+
 /// Whether the same is known, the stacks apart.
 pub fn is_state_same(one: &State, two: &State) -> bool
-    ensures { result ≡ true → one.now.desk.selected ≡ two.now.desk.selected }
+    ensures { IsTrue result ↔ spec.KnowSame one.now two.now }
 {
-    one.desk.selected == two.desk.selected
-        && one.desk.areas.as_slice() == two.desk.areas.as_slice()
-        && one.slots.kinds() == two.slots.kinds()
+    is_selection_same(one, two)
+        && are_areas_same(one.desk.areas.as_slice(), two.desk.areas.as_slice())
+        && are_kinds_same(one.slots.kinds(), two.slots.kinds())
 }

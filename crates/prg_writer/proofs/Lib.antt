@@ -1,4 +1,5 @@
 mod Adding
 mod Behind
+mod FaultLines
 mod GivingUp
 mod NamedBy

@@ -1,4 +1,5 @@
 pub mod PlaceLemmas
 pub mod AreaLemmas
+pub mod HandedLemmas
 pub mod MakingLemmas
 pub mod ShapeLemmas

@@ -29,6 +29,11 @@ pub record HaveAlikeFields (fields others : List Field) : Type 0 where
   pub count : length fields ≡ length others
   pub each : (k : ℕ) (d : Field) → k < length fields → IsAlike (slice_index_or fields k d) (slice_index_or others k d)
 
+-- a table with fields that hold what is declared, and no more rows than the limit
+pub record IsDeclared (limit : ℕ) (s : TableShape) (table : TableState) : Type 0 where
+  pub fields : HaveAlikeFields table.structure.fields s.fields
+  pub few : length table.rows ≤ limit
+
 -- the declared tables, with fields that hold what is declared, each with no more rows than the limit
 pub record AreOfShape (shape : Shape) (limit : ℕ) (tables : List TableState) : Type 0 where
   pub count : length tables ≡ length shape.tables
@@ -39,6 +44,11 @@ pub record AreOfShape (shape : Shape) (limit : ℕ) (tables : List TableState) :
 -- the length of an index's keys, and the text that says how they are made
 abbrev pub key_form : TableShape → IndexShape → KeyForm
 key_form s x = record { key_length = key_length x.key (widths_of s.fields); key_text = key_text s.fields x.key }
+
+-- none, or a list of the key of index n, where that is declared of a table
+abbrev pub IsFormed : {X : Type 0} → (X → KeyForm) → Shape → ℕ → Option X → Type 0
+IsFormed form shape n list = (x : IndexShape) (s : TableShape) → slice_get shape.indexes n ≡ Some x
+    → slice_get shape.tables x.table ≡ Some s → IfSome list (λ k. form k ≡ key_form s x)
 
 -- for each declared index a list of its key, or none
 pub record AreLists {X : Type 0} (form : X → KeyForm) (shape : Shape) (keys : List (Option X)) : Type 0 where

@@ -1,9 +1,8 @@
 //! Whether tables and lists that are handed in are those that a shape declares.
 
-ghost use Rattle.std.specs.Prelude.{◌≡◌, ◌<◌, ◌≤◌, ◌↔◌, IsTrue, IfSome, Some, length, slice_get};
-ghost use Rattle.shape.specs.declared.indexes.IndexShape.{IndexShape as TheIndex};
-ghost use Rattle.shape.specs.declared.tables.TableShape.{TableShape as TheTable};
-ghost use Rattle.work_area.specs.Making.{IsAlike, HaveAlikeFields, AreOfShape, AreLists, key_form};
+ghost use Rattle.std.specs.Prelude.{◌≡◌, ◌<◌, ◌≤◌, ◌↔◌, IsTrue, length, slice_get};
+ghost use Rattle.work_area.specs.Making.{IsAlike, HaveAlikeFields, IsDeclared, IsFormed, AreOfShape, AreLists};
+ghost use Rattle.work_area.specs.Making.{key_form};
 
 use dbf_file::{Field, Table};
 use key_lists::KeyList;
@@ -33,8 +32,7 @@ pub fn are_alike(fields: &[Field], others: &[Field]) -> bool
 
 /// Whether a table has fields that hold what is declared, and no more rows than a limit.
 fn is_declared(table: &Table, declared: &TableShape, limit: u32) -> bool
-    ensures fields { IsTrue result → HaveAlikeFields table.now.structure.fields declared.now.fields }
-    ensures few { IsTrue result → length table.now.rows ≤ limit }
+    ensures { IsTrue result ↔ IsDeclared limit declared.now table.now }
 {
     if table.rows() > limit as usize {
         return false;
@@ -44,7 +42,7 @@ fn is_declared(table: &Table, declared: &TableShape, limit: u32) -> bool
 
 /// Whether tables are those of a shape, in its order, none with more rows than a limit.
 pub fn are_of_shape(shape: &Shape, tables: &Vec<Table>, limit: u32) -> bool
-    ensures { IsTrue result → AreOfShape shape.now limit tables.now.items }
+    ensures { IsTrue result ↔ AreOfShape shape.now limit tables.now.items }
 {
     if tables.len() != shape.tables.len() {
         return false;
@@ -74,12 +72,11 @@ pub fn is_list_of<K: KeyList>(keys: &K, table: &TableShape, index: &IndexShape) 
     is_same(keys.key_text(), index.key.text(fields).as_slice())
 }
 
-/// Whether a list for index `n` of a shape, counted from 0, is of its key; none will do.
+/// Whether a list for index `n` of a shape, counted from 0, is of its key. None will do, and so will any for an index
+/// of no table.
 fn is_formed<K: KeyList>(shape: &Shape, n: usize, list: &Option<K>) -> bool
     requires { n < length shape.now.indexes }
-    ensures { IsTrue result → (x : TheIndex) (s : TheTable) → slice_get shape.now.indexes n ≡ Some x
-        → slice_get shape.now.tables x.table ≡ Some s
-        → IfSome list.now (λ k. K.form k ≡ key_form s x) }
+    ensures { IsTrue result ↔ IsFormed K.form shape.now n list.now }
 {
     let Some(keys) = list else {
         return true;
@@ -87,14 +84,14 @@ fn is_formed<K: KeyList>(shape: &Shape, n: usize, list: &Option<K>) -> bool
     let index = shape.indexes.get(n);
     let t = usize::from(index.table);
     if t >= shape.tables.len() {
-        return false;
+        return true;
     }
     is_list_of(keys, shape.tables.get(t), index)
 }
 
 /// Whether lists are those of a shape's indexes, in its order, each of the declared key or none.
 pub fn are_lists<K: KeyList>(shape: &Shape, keys: &Vec<Option<K>>) -> bool
-    ensures { IsTrue result → AreLists K.form shape.now keys.now.items }
+    ensures { IsTrue result ↔ AreLists K.form shape.now keys.now.items }
 {
     if keys.len() != shape.indexes.len() {
         return false;

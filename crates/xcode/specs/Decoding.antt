@@ -48,6 +48,11 @@ abbrev pub FileGives : {X Y : Type 0} → (X → Y) → Result X CodeFault → R
 FileGives view (Ok x) read = read ≡ Ok (view x)
 FileGives view (Err e) read = FileFails e read
 
+-- the same of a function that takes no memory
+abbrev pub FileFinds : {X Y : Type 0} → (X → Y) → Result X CodeFault → Result Y CodeFault → Type 0
+FileFinds view (Ok x) read = read ≡ Ok (view x)
+FileFinds view (Err e) read = read ≡ Err e
+
 -- a part of the file: a value and the bytes behind it, or the fault
 abbrev pub FilePart : Type 0 → Type 0
 FilePart A = List ℕ → Result (A × List ℕ) CodeFault

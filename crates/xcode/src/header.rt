@@ -1,12 +1,12 @@
 //! The header of a code file.
 
 ghost use Rattle.std.specs.Prelude.{◌≡◌};
-ghost use Rattle.xcode.specs.Decoding.{FileGives, within_limits, number_at_front, version_from as version_from_number};
+ghost use Rattle.xcode.specs.Decoding.{FileFinds, within_limits, number_at_front, version_from as version_from_number};
 ghost use Rattle.xcode.specs.Decoding.{counts_at, magic_at, version_at, limited_at, header_at};
 
 use crate::fault::CodeFault;
 use code_items::Version;
-use code_parts::{Unread, four_of, two_of};
+use code_parts::{four_of, two_of};
 
 /// `XBCF`, as a number.
 const MAGIC: u32 = 0x4643_4258;
@@ -52,18 +52,17 @@ fn is_within_limits(c: &Counts) -> bool
 
 #[tactic(auto, unfolding(crate::specs::Decoding::number_at_front))]
 fn next_number(bytes: &[u8]) -> Result<(u16, &[u8]), CodeFault>
-    ensures { FileGives (λ x. (x.0, x.1.now)) result (number_at_front bytes.now) }
+    ensures { FileFinds (λ x. (x.0, x.1.now)) result (number_at_front bytes.now) }
 {
     match two_of(bytes) {
-        Err(Unread::Short) => Err(CodeFault::Short),
-        Err(Unread::Memory) => Err(CodeFault::Memory),
+        Err(_) => Err(CodeFault::Short),
         Ok((number, rest)) => Ok((number, rest)),
     }
 }
 
 #[tactic(auto, unfolding(crate::specs::Decoding::counts_at))]
 fn counts_of(bytes: &[u8]) -> Result<(Counts, &[u8]), CodeFault>
-    ensures { FileGives (λ x. (x.0, x.1.now)) result (counts_at bytes.now) }
+    ensures { FileFinds (λ x. (x.0, x.1.now)) result (counts_at bytes.now) }
 {
     let (stack_bound, rest) = next_number(bytes)?;
     let (slots, rest) = next_number(rest)?;
@@ -91,7 +90,7 @@ fn counts_of(bytes: &[u8]) -> Result<(Counts, &[u8]), CodeFault>
 }
 
 fn version_from(number: u16) -> Result<Version, CodeFault>
-    ensures { FileGives (λ x. x) result (version_from_number number) }
+    ensures { FileFinds (λ x. x) result (version_from_number number) }
 {
     match number {
         1 => Ok(Version::One),
@@ -102,11 +101,10 @@ fn version_from(number: u16) -> Result<Version, CodeFault>
 
 #[tactic(auto, unfolding(crate::specs::Decoding::magic_at))]
 fn magic_of(bytes: &[u8]) -> Result<(u32, &[u8]), CodeFault>
-    ensures { FileGives (λ x. (x.0, x.1.now)) result (magic_at bytes.now) }
+    ensures { FileFinds (λ x. (x.0, x.1.now)) result (magic_at bytes.now) }
 {
     match four_of(bytes) {
-        Err(Unread::Short) => Err(CodeFault::Magic),
-        Err(Unread::Memory) => Err(CodeFault::Memory),
+        Err(_) => Err(CodeFault::Magic),
         Ok((magic, rest)) => {
             if magic != MAGIC {
                 return Err(CodeFault::Magic);
@@ -118,11 +116,10 @@ fn magic_of(bytes: &[u8]) -> Result<(u32, &[u8]), CodeFault>
 
 #[tactic(auto, unfolding(crate::specs::Decoding::version_at))]
 fn version_of(bytes: &[u8]) -> Result<(Version, &[u8]), CodeFault>
-    ensures { FileGives (λ x. (x.0, x.1.now)) result (version_at bytes.now) }
+    ensures { FileFinds (λ x. (x.0, x.1.now)) result (version_at bytes.now) }
 {
     match two_of(bytes) {
-        Err(Unread::Short) => Err(CodeFault::Version),
-        Err(Unread::Memory) => Err(CodeFault::Memory),
+        Err(_) => Err(CodeFault::Version),
         Ok((number, rest)) => {
             let version = version_from(number)?;
             Ok((version, rest))
@@ -132,7 +129,7 @@ fn version_of(bytes: &[u8]) -> Result<(Version, &[u8]), CodeFault>
 
 #[tactic(auto, unfolding(crate::specs::Decoding::limited_at))]
 fn limited_of(bytes: &[u8]) -> Result<(Counts, &[u8]), CodeFault>
-    ensures { FileGives (λ x. (x.0, x.1.now)) result (limited_at bytes.now) }
+    ensures { FileFinds (λ x. (x.0, x.1.now)) result (limited_at bytes.now) }
 {
     let (counts, rest) = counts_of(bytes)?;
     if !is_within_limits(&counts) {
@@ -144,7 +141,7 @@ fn limited_of(bytes: &[u8]) -> Result<(Counts, &[u8]), CodeFault>
 /// The header, and the bytes behind it.
 #[tactic(auto, unfolding(crate::specs::Decoding::header_at))]
 pub fn header_of(bytes: &[u8]) -> Result<(Header, &[u8]), CodeFault>
-    ensures { FileGives (λ x. (x.0, x.1.now)) result (header_at bytes.now) }
+    ensures { FileFinds (λ x. (x.0, x.1.now)) result (header_at bytes.now) }
 {
     let (_, rest) = magic_of(bytes)?;
     let (version, rest) = version_of(rest)?;
