@@ -47,25 +47,26 @@ fn table_shape(alloc: Global, number: usize, width: u8) -> Result<TableShape, Al
     })
 }
 
-/// So many tables of one field K C of a width, and indexes of the first table on K, each plain or in capitals.
+/// So many tables of one field K C of a width, and an index of the first table on K for each letter, in capitals at
+/// `U`.
 pub(crate) fn shape_of(
     alloc: Global,
     tables: usize,
     width: u8,
-    uppers: &[bool],
+    uppers: &str,
 ) -> Result<Shape, AllocError> {
     let mut declared = Vec::new(alloc);
     for t in 0..tables {
         declared.push(table_shape(alloc, t, width)?)?;
     }
     let mut indexes = Vec::new(alloc);
-    for (n, upper) in uppers.iter().enumerate() {
+    for (n, letter) in uppers.bytes().enumerate() {
         indexes.push(IndexShape {
             name: name_of(n),
             table: 0,
             key: KeyParts::new(&[KeyPart {
                 field: 0,
-                upper: *upper,
+                upper: letter == b'U',
             }]),
         })?;
     }
@@ -108,38 +109,32 @@ fn put_row(table: &mut Table, text: &[u8]) -> Result<(), AllocError> {
     Ok(())
 }
 
-/// A table of one field of a width with the first of these rows, so many; none where there can be none such.
-pub(crate) fn table_of(
-    alloc: Global,
-    width: u8,
-    texts: &[&[u8]],
-    rows: usize,
-) -> Result<Option<Table>, AllocError> {
+/// A table of one field of a width with these rows, each with `,` behind it; none where there can be none such.
+pub(crate) fn table_of(alloc: Global, width: u8, texts: &str) -> Result<Option<Table>, AllocError> {
     let fields = [field_of(width)];
     if !are_fields(&fields) {
         return Ok(None);
     }
     let mut table = Table::empty(alloc, &fields)?;
-    for (at, text) in texts.iter().enumerate() {
-        if at < rows {
-            put_row(&mut table, text)?;
-        }
+    for text in texts.split_terminator(',') {
+        put_row(&mut table, text.as_bytes())?;
     }
     Ok(Some(table))
 }
 
-/// A list of keys of a length under the text K with these pairs, none twice.
+/// A list of keys of a length under the text K with these pairs, each with `,` behind it, none twice.
 pub(crate) fn list_of<K: KeyList>(
     alloc: Global,
     key_length: usize,
-    pairs: &[(&[u8], u32)],
+    pairs: &str,
 ) -> Result<Option<K>, AllocError> {
     if key_length < 1 || key_length > 100 {
         return Ok(None);
     }
     let mut list = K::rebuild(alloc, key_length, b"K", Vec::new(alloc))?;
-    for (key, number) in pairs {
-        crate::moves::put(&mut list, key, *number)?;
+    for pair in pairs.split_terminator(',') {
+        let (key, number) = pair.split_once(' ').unwrap_or((pair, ""));
+        crate::moves::put(&mut list, key.as_bytes(), number.parse().unwrap_or(0))?;
     }
     Ok(Some(list))
 }
@@ -166,13 +161,12 @@ pub(crate) fn plain_store<K: KeyList>(
     alloc: Global,
     shape: &Shape,
     width: u8,
-    texts: &[&[u8]],
+    texts: &str,
     limit: u32,
 ) -> Result<Option<Store<K>>, AllocError> {
     let mut tables = Vec::new(alloc);
     for t in 0..shape.tables.len() {
-        let rows = if t == 0 { texts.len() } else { 0 };
-        match table_of(alloc, width, texts, rows)? {
+        match table_of(alloc, width, if t == 0 { texts } else { "" })? {
             Some(table) => tables.push(table)?,
             None => return Ok(None),
         }

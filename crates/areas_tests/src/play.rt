@@ -7,18 +7,20 @@ ghost use Rattle.open_table.specs.Marks.{mark_at};
 ghost use Rattle.work_area.specs.Areas.{here};
 ghost use Rattle.xvalue.specs.Kinds.{kind_of};
 
+use arrayvec::ArrayVec;
 use dbf_file::Table;
 use key_lists::KeyList;
 use open_table::{AppendError, Refused, Row};
 use row_moves::Spent;
 use std::alloc::Global;
+use std::cell::Cell;
 use work_area::Store;
 use xvalue::{Text, Value};
 
-/// A call of a store: of a table by its number, of indexes by theirs, and texts into the first field.
-#[derive(Clone, Copy, Debug, PartialEq, Eq)]
-pub(crate) enum Call {
-    Use(u16, &'static [u8]),
+/// A call of a store: of a table by its number, of indexes by the figures of theirs, and texts into the first field.
+#[derive(Clone, Copy)]
+pub(crate) enum Call<'a> {
+    Use(u16, &'a str),
     Close,
     CloseAll,
     Select(u8),
@@ -28,9 +30,9 @@ pub(crate) enum Call {
     Bottom,
     Skip(i128),
     Go(u32),
-    Seek(&'static [u8], bool),
+    Seek(&'a [u8], bool),
     Append,
-    Write(&'static [u8]),
+    Write(&'a [u8]),
     Delete,
     Recall,
     Pack,
@@ -40,7 +42,7 @@ pub(crate) enum Call {
 }
 
 /// What a call answers.
-#[derive(Clone, Copy, Debug, PartialEq, Eq)]
+#[derive(Clone, Copy, PartialEq, Eq)]
 pub(crate) enum Answer {
     Cost(u64),
     Done,
@@ -51,10 +53,94 @@ pub(crate) enum Answer {
     Misused,
 }
 
+/// The call of a word without anything behind it.
+fn plain_call(word: &str) -> Option<Call<'static>> {
+    let made = [
+        ("close", Call::Close),
+        ("closeall", Call::CloseAll),
+        ("top", Call::Top),
+        ("bottom", Call::Bottom),
+        ("append", Call::Append),
+        ("delete", Call::Delete),
+        ("recall", Call::Recall),
+        ("pack", Call::Pack),
+        ("zap", Call::Zap),
+        ("reindex", Call::Reindex),
+    ];
+    for (name, call) in &made {
+        if *name == word {
+            return Some(*call);
+        }
+    }
+    None
+}
+
+/// The call of a word and a number.
+fn call_with(word: &str, number: &str) -> Option<Call<'static>> {
+    let low: u8 = number.parse().unwrap_or(0);
+    if word == "select" {
+        return Some(Call::Select(low));
+    }
+    if word == "order" {
+        return Some(Call::Order(low));
+    }
+    if word == "filter" {
+        return Some(Call::Filter(u16::from(low)));
+    }
+    if word == "skip" {
+        return Some(Call::Skip(number.parse().unwrap_or(0)));
+    }
+    if word == "go" {
+        return Some(Call::Go(u32::from(low)));
+    }
+    if word == "index" {
+        return Some(Call::IndexOn(low));
+    }
+    None
+}
+
+/// The call that a text spells.
+pub(crate) fn call_of<'a>(text: &'a str) -> Option<Call<'a>> {
+    let (word, rest) = text.split_once(' ').unwrap_or((text, ""));
+    if word == "use" {
+        let (table, list) = rest.split_once(' ').unwrap_or((rest, ""));
+        return Some(Call::Use(table.parse().unwrap_or(0), list));
+    }
+    if word == "write" {
+        return Some(Call::Write(rest.as_bytes()));
+    }
+    if word == "seek" || word == "exact" {
+        return Some(Call::Seek(rest.as_bytes(), word == "exact"));
+    }
+    if rest.is_empty() {
+        return plain_call(word);
+    }
+    call_with(word, rest)
+}
+
+/// The answer that a text spells.
+pub(crate) fn answer_of(text: &str) -> Answer {
+    if let Some(cost) = text.strip_prefix("cost ") {
+        return Answer::Cost(cost.parse().unwrap_or(0));
+    }
+    if text == "done" {
+        return Answer::Done;
+    }
+    if text == "spent" {
+        return Answer::Spent;
+    }
+    if text == "full" {
+        return Answer::Full;
+    }
+    Answer::Misused
+}
+
 /// Which rows are shown.
 #[derive(Clone, Copy)]
-pub(crate) enum Shows {
+pub(crate) enum Shows<'a> {
     Every,
+    /// All, and each is counted.
+    Counted(&'a Cell<u32>),
     Unmarked,
     Nothing,
     From(u32),
@@ -62,9 +148,13 @@ pub(crate) enum Shows {
     Of(u32),
 }
 
-fn sees(shows: Shows, row: &Row<'_>) -> bool {
+fn sees(shows: Shows<'_>, row: &Row<'_>) -> bool {
     match shows {
         Shows::Every => true,
+        Shows::Counted(count) => {
+            count.set(count.get().wrapping_add(1));
+            true
+        }
         Shows::Unmarked => !row.marked(),
         Shows::Nothing => false,
         Shows::From(number) => row.record() >= number,
@@ -93,17 +183,28 @@ fn ended(answer: Result<u64, Refused>) -> Answer {
     }
 }
 
+/// The numbers that the figures of a text are, eight at most.
+fn numbers_of(figures: &str) -> ArrayVec<u8, 8> {
+    let mut numbers = ArrayVec::new();
+    for figure in figures.bytes() {
+        let _ = numbers.try_push(figure & 15);
+    }
+    numbers
+}
+
 fn use_table<K: KeyList>(
     store: &mut Store<K>,
     alloc: Global,
     table: u16,
-    indexes: &[u8],
-    shows: Shows,
+    list: &str,
+    shows: Shows<'_>,
     budget: u64,
 ) -> Answer {
     if usize::from(table) >= store.count() {
         return Answer::Misused;
     }
+    let numbers = numbers_of(list);
+    let indexes = numbers.as_slice();
     if store.is_elsewhere(table) || indexes.len() > 7 || !store.has_indexes(table, indexes) {
         return Answer::Misused;
     }
@@ -148,51 +249,11 @@ fn set_filter<K: KeyList>(store: &mut Store<K>, filter: u16) -> Answer {
     Answer::Done
 }
 
-fn go_to_end<K: KeyList>(store: &mut Store<K>, forward: bool, shows: Shows, budget: u64) -> Answer {
-    if !is_open(store) {
-        return Answer::Misused;
-    }
-    if forward {
-        return moved(store.top(|row: &Row<'_>| sees(shows, row), budget));
-    }
-    moved(store.bottom(|row: &Row<'_>| sees(shows, row), budget))
-}
-
-fn skip<K: KeyList>(store: &mut Store<K>, steps: i128, shows: Shows, budget: u64) -> Answer {
-    if !is_open(store) {
-        return Answer::Misused;
-    }
-    moved(store.skip(steps, |row: &Row<'_>| sees(shows, row), budget))
-}
-
-fn go<K: KeyList>(store: &mut Store<K>, number: u32, shows: Shows, budget: u64) -> Answer {
-    if !is_open(store) {
-        return Answer::Misused;
-    }
-    moved(store.go(Some(number), |row: &Row<'_>| sees(shows, row), budget))
-}
-
 fn has_order<K: KeyList>(store: &Store<K>) -> bool
     requires { IsSome (here store.now) }
     ensures { IsTrue result → IfSome (here store.now) (λ o. 1 ≤ o.order) }
 {
     store.order_of(store.selected()) >= 1
-}
-
-fn seek<K: KeyList>(
-    store: &mut Store<K>,
-    text: &[u8],
-    exact: bool,
-    shows: Shows,
-    budget: u64,
-) -> Answer {
-    if !is_open(store) {
-        return Answer::Misused;
-    }
-    if !has_order(store) {
-        return Answer::Misused;
-    }
-    moved(store.seek(text, exact, |row: &Row<'_>| sees(shows, row), budget))
 }
 
 fn append<K: KeyList>(store: &mut Store<K>) -> Answer {
@@ -262,27 +323,6 @@ fn mark<K: KeyList>(store: &mut Store<K>, marked: bool) -> Answer {
     Answer::Done
 }
 
-fn pack<K: KeyList>(store: &mut Store<K>, alloc: Global, shows: Shows, budget: u64) -> Answer {
-    if !is_open(store) {
-        return Answer::Misused;
-    }
-    ended(store.pack(alloc, |row: &Row<'_>| sees(shows, row), budget))
-}
-
-fn zap<K: KeyList>(store: &mut Store<K>, alloc: Global, shows: Shows, budget: u64) -> Answer {
-    if !is_open(store) {
-        return Answer::Misused;
-    }
-    ended(store.zap(alloc, |row: &Row<'_>| sees(shows, row), budget))
-}
-
-fn reindex<K: KeyList>(store: &mut Store<K>, alloc: Global, shows: Shows, budget: u64) -> Answer {
-    if !is_open(store) {
-        return Answer::Misused;
-    }
-    ended(store.reindex(alloc, |row: &Row<'_>| sees(shows, row), budget))
-}
-
 fn has_index_here<K: KeyList>(store: &Store<K>, number: u8) -> bool
     ensures { IsTrue result → IfSome (here store.now) (λ o. is_some (mark_at o.table.marks number) ≡ true) }
 {
@@ -292,42 +332,52 @@ fn has_index_here<K: KeyList>(store: &Store<K>, number: u8) -> bool
     }
 }
 
-fn index_on<K: KeyList>(
+/// Moves.
+fn play_move<K: KeyList>(
     store: &mut Store<K>,
-    alloc: Global,
-    number: u8,
-    shows: Shows,
+    call: Call<'_>,
+    shows: Shows<'_>,
     budget: u64,
 ) -> Answer {
     if !is_open(store) {
         return Answer::Misused;
     }
-    if !has_index_here(store, number) {
-        return Answer::Misused;
+    let see = |row: &Row<'_>| sees(shows, row);
+    match call {
+        Call::Top => moved(store.top(see, budget)),
+        Call::Bottom => moved(store.bottom(see, budget)),
+        Call::Skip(steps) => moved(store.skip(steps, see, budget)),
+        Call::Go(number) => moved(store.go(Some(number), see, budget)),
+        Call::Seek(text, exact) if has_order(store) => {
+            moved(store.seek(text, exact, see, budget))
+        }
+        _ => Answer::Misused,
     }
-    ended(store.index_on(alloc, 2, number, |row: &Row<'_>| sees(shows, row), budget))
 }
 
-// Calls that end with a move, and moves.
+/// Calls that end with a move, and moves.
 fn play_costly<K: KeyList>(
     store: &mut Store<K>,
     alloc: Global,
-    call: Call,
-    shows: Shows,
+    call: Call<'_>,
+    shows: Shows<'_>,
     budget: u64,
 ) -> Answer {
+    if let Call::Use(table, list) = call {
+        return use_table(store, alloc, table, list, shows, budget);
+    }
+    if !is_open(store) {
+        return Answer::Misused;
+    }
+    let see = |row: &Row<'_>| sees(shows, row);
     match call {
-        Call::Use(table, indexes) => use_table(store, alloc, table, indexes, shows, budget),
-        Call::Top => go_to_end(store, true, shows, budget),
-        Call::Bottom => go_to_end(store, false, shows, budget),
-        Call::Skip(steps) => skip(store, steps, shows, budget),
-        Call::Go(number) => go(store, number, shows, budget),
-        Call::Seek(text, exact) => seek(store, text, exact, shows, budget),
-        Call::Pack => pack(store, alloc, shows, budget),
-        Call::Zap => zap(store, alloc, shows, budget),
-        Call::Reindex => reindex(store, alloc, shows, budget),
-        Call::IndexOn(number) => index_on(store, alloc, number, shows, budget),
-        _ => Answer::Misused,
+        Call::Pack => ended(store.pack(alloc, see, budget)),
+        Call::Zap => ended(store.zap(alloc, see, budget)),
+        Call::Reindex => ended(store.reindex(alloc, see, budget)),
+        Call::IndexOn(number) if has_index_here(store, number) => {
+            ended(store.index_on(alloc, 2, number, see, budget))
+        }
+        _ => play_move(store, call, shows, budget),
     }
 }
 
@@ -335,8 +385,8 @@ fn play_costly<K: KeyList>(
 pub(crate) fn play<K: KeyList>(
     store: &mut Store<K>,
     alloc: Global,
-    call: Call,
-    shows: Shows,
+    call: Call<'_>,
+    shows: Shows<'_>,
     budget: u64,
 ) -> Answer {
     match call {
@@ -360,7 +410,7 @@ pub(crate) fn play<K: KeyList>(
 }
 
 /// Where the selected area is: RECNO(), EOF(), BOF(), FOUND(), RECCOUNT() and DELETED(); none where it is closed.
-#[derive(Clone, Copy, Debug, PartialEq, Eq)]
+#[derive(Clone, Copy, PartialEq, Eq)]
 pub(crate) struct Place {
     pub(crate) recno: u32,
     pub(crate) eof: bool,

@@ -1,7 +1,7 @@
 // Each byte of the files set to each value.
 #![tactic(auto)]
 
-use super::originals::{changed, code, index, keyed_table, stored, table};
+use super::originals::{CODE, INDEX, KEYED_TABLE, TABLE, bytes_of, changed, stored};
 use calendar::{Day, DayParts};
 use dbf_file::read as read_table;
 use file_access::MemoryEntry;
@@ -88,7 +88,7 @@ fn first_bad_byte(alloc: Global, bytes: &[u8], day: RunDay) -> Result<Option<usi
 
 #[test]
 fn code_files_with_a_byte_changed(rt: HostRuntime) -> Result<(), Fail> {
-    let bytes = code(rt.alloc())?;
+    let bytes = bytes_of(rt.alloc(), CODE)?;
     let day = first_day().ok_or("no day")?;
     assert!(rt; first_bad_byte(rt.alloc(), bytes.as_slice(), day)?.is_none());
     Ok(())
@@ -114,7 +114,7 @@ fn first_bad_table_value(alloc: Global, bytes: &[u8], at: usize) -> Result<Optio
 
 #[test]
 fn tables_with_a_byte_changed(rt: HostRuntime) -> Result<(), Fail> {
-    let bytes = table(rt.alloc())?;
+    let bytes = bytes_of(rt.alloc(), TABLE)?;
     for at in 0..bytes.len() {
         assert!(rt; first_bad_table_value(rt.alloc(), bytes.as_slice(), at)?.is_none());
     }
@@ -129,7 +129,7 @@ struct KeyedFiles {
 }
 
 fn keyed(alloc: Global) -> Result<KeyedFiles, Fail> {
-    let table = keyed_table(alloc)?;
+    let table = bytes_of(alloc, KEYED_TABLE)?;
     let entries = [
         MemoryEntry {
             name: "T.DCL",
@@ -216,7 +216,7 @@ fn first_bad_index_value(
 #[test]
 fn indexes_with_a_byte_changed(rt: HostRuntime) -> Result<(), Fail> {
     let files = keyed(rt.alloc())?;
-    let mut bytes = index(rt.alloc())?;
+    let mut bytes = bytes_of(rt.alloc(), INDEX)?;
     for at in 0..bytes.len() {
         assert!(rt; first_bad_index_value(rt.alloc(), &files, &mut bytes, at).is_none());
     }

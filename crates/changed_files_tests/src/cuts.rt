@@ -1,99 +1,86 @@
 // The files cut, and with a byte more.
 #![tactic(auto)]
 
-use super::originals::{code, index, table};
-use dbf_file::DbfFault;
-use ndx_tree::{NdxTree, TreeFault};
-use std::alloc::Global;
+use super::originals::{CODE, INDEX, TABLE, bytes_of};
+use ndx_tree::NdxTree;
+use std::alloc::{AllocError, Global};
 use std::rt::HostRuntime;
 use std::test::Fail;
-use xcode::{CodeFault, decode};
+use xcode::decode;
 
-/// The fault of a code file of so many bytes.
-fn fault_of_code(length: usize) -> Option<CodeFault> {
-    match length {
-        0..=3 => Some(CodeFault::Magic),
-        4..=5 => Some(CodeFault::Version),
-        6..=215 => Some(CodeFault::Short),
-        216 => None,
-        _ => Some(CodeFault::Extra),
+/// What the bytes are read as.
+#[derive(Clone, Copy)]
+enum Kind {
+    Code,
+    Table,
+    /// An index file of at most two pages.
+    Index,
+}
+
+/// The fault of bytes, in words; none where they are read.
+fn fault_of(alloc: Global, bytes: &[u8], kind: Kind) -> Result<String, AllocError> {
+    let none = String::new(alloc);
+    match kind {
+        Kind::Code => match decode(alloc, bytes) {
+            Ok(_) => Ok(none),
+            Err(fault) => fault.to_string(alloc),
+        },
+        Kind::Table => match dbf_file::read(alloc, bytes, 1_000_000) {
+            Ok(_) => Ok(none),
+            Err(fault) => fault.to_string(alloc),
+        },
+        Kind::Index if bytes.len() > 1024 => Ok(none),
+        Kind::Index => match NdxTree::read(alloc, bytes) {
+            Ok(_) => Ok(none),
+            Err(fault) => fault.to_string(alloc),
+        },
     }
 }
 
-/// The fault of a table's file of so many bytes.
-fn fault_of_table(length: usize) -> Option<DbfFault> {
-    match length {
-        0..=64 => Some(DbfFault::Short),
-        65..=75 => Some(DbfFault::Truncated),
-        _ => None,
-    }
-}
-
-/// The fault of an index file of so many bytes.
-fn fault_of_index(length: usize) -> Option<TreeFault> {
-    match length {
-        0..=511 => Some(TreeFault::Head),
-        512..=1023 => Some(TreeFault::Reach),
-        _ => None,
-    }
-}
-
-fn first_other_code(alloc: Global, bytes: &[u8]) -> Option<usize> {
-    for length in 0..=bytes.len() {
-        if decode(alloc, &bytes[..length]).err() != fault_of_code(length) {
-            return Some(length);
+/// The fault of a file of so many bytes, where a greatest length stands before each fault.
+fn wanted<'a>(faults: &'a str, length: usize) -> &'a str {
+    for row in faults.split(',') {
+        let (most, fault) = row.split_once(' ').unwrap_or((row, ""));
+        if most.parse().is_ok_and(|most: usize| length <= most) {
+            return fault;
         }
     }
-    None
+    "no length"
 }
 
-fn first_other_table(alloc: Global, bytes: &[u8]) -> Option<usize> {
+/// The first length, up to that of the file and a byte more, at which another fault is told.
+fn first_other(
+    alloc: Global,
+    text: &str,
+    kind: Kind,
+    faults: &str,
+) -> Result<Option<usize>, AllocError> {
+    let bytes = bytes_of(alloc, text)?;
     for length in 0..=bytes.len() {
-        if dbf_file::read(alloc, &bytes[..length], 1_000_000).err() != fault_of_table(length) {
-            return Some(length);
+        let cut = bytes.as_slice().get(..length).unwrap_or(b"");
+        if fault_of(alloc, cut, kind)?.as_str() != wanted(faults, length) {
+            return Ok(Some(length));
         }
     }
-    None
-}
-
-/// The fault of an index file of at most two pages.
-fn index_fault(alloc: Global, bytes: &[u8]) -> Option<TreeFault> {
-    if bytes.len() > 1024 {
-        return None;
-    }
-    NdxTree::read(alloc, bytes).err()
-}
-
-fn first_other_index(alloc: Global, bytes: &[u8]) -> Option<usize> {
-    for length in 0..=bytes.len() {
-        if index_fault(alloc, &bytes[..length]) != fault_of_index(length) {
-            return Some(length);
-        }
-    }
-    None
+    Ok(None)
 }
 
 #[test]
-fn code_files_of_each_length(rt: HostRuntime) -> Result<(), Fail> {
-    let mut bytes = code(rt.alloc())?;
-    assert!(rt; bytes.len() == 216);
-    bytes.push(0)?;
-    assert!(rt; first_other_code(rt.alloc(), bytes.as_slice()).is_none());
-    Ok(())
-}
-
-#[test]
-fn tables_of_each_length(rt: HostRuntime) -> Result<(), Fail> {
-    let bytes = table(rt.alloc())?;
-    assert!(rt; bytes.len() == 77);
-    assert!(rt; first_other_table(rt.alloc(), bytes.as_slice()).is_none());
-    Ok(())
-}
-
-#[test]
-fn indexes_of_each_length(rt: HostRuntime) -> Result<(), Fail> {
-    let bytes = index(rt.alloc())?;
-    assert!(rt; bytes.len() == 1024);
-    assert!(rt; first_other_index(rt.alloc(), bytes.as_slice()).is_none());
+fn files_of_each_length(rt: HostRuntime) -> Result<(), Fail> {
+    let alloc = rt.alloc();
+    for (text, length) in [(CODE, 216), (TABLE, 77), (INDEX, 1024)] {
+        assert_eq!(rt; bytes_of(alloc, text)?.len(), length);
+    }
+    let faults = "64 Short,75 Truncated,77 ";
+    assert_eq!(rt; first_other(alloc, TABLE, Kind::Table, faults)?, None);
+    let faults = "511 Head,1023 Reach,1024 ";
+    assert_eq!(rt; first_other(alloc, INDEX, Kind::Index, faults)?, None);
+    let faults = "3 Magic,5 Version,215 Short,216 ,217 Extra";
+    let mut more = String::from_str(alloc, CODE)?;
+    more.push_str(" 0")?;
+    assert_eq!(rt;
+        first_other(alloc, more.as_str(), Kind::Code, faults)?,
+        None
+    );
     Ok(())
 }

@@ -1,114 +1,62 @@
-// The three files as they are.
+// The files as they are.
 #![tactic(auto)]
 
 use file_access::{MemoryEntry, MemoryFiles, WORKS_FOR_EVER};
 use std::alloc::{AllocError, Global};
 
-fn put_zeros(out: &mut Vec<u8>, count: usize) -> Result<(), AllocError> {
-    for _ in 0..count {
-        out.push(0)?;
+/// The code file that prints three rows: two slots, a stack of one, three constants, one procedure and two maps. Bytes
+/// stand as numbers, with `*` and how often behind those that are repeated, and texts behind a quote.
+pub const CODE: &str = "'XBCF 1 0 1 0 2 0 0*6 3 0 0 0 1 0 2 0 15 0
+4 1 4 0 2 1 'A 15 0 0
+1 0*10 0*2 0 1 0*10 0*2 0
+4 0 1 0*10 4*2 0
+14 0 1 0*10 4*2 0
+1 0*7 3 4 0*6 1 0*7 3 4 1 0*5 64 0*7 1 0 2 0*5 65 2 0*6 2 4 0*6
+17 0*3 14 0*3 2 4 1 0*5 3 4 0*6 1 0 1 0*5 3 4 1 0*5 16 0*3 4 0*3 20 0*7";
+
+/// The table of one record, `Ann` in a field NAME of ten bytes.
+pub const TABLE: &str = "3 85 1 1 1 0*3 65 0 11 0 0*20
+'NAME 0*7 'C 0*4 10 0*15 13 32 'Ann 32*7 26";
+
+/// An index on a field K of one byte, of the keys of records 2, 3 and 1.
+pub const INDEX: &str = "1 0*3 2 0*7 1 0 42 0*3 12 0*5 'K 0*487
+3 0*7 2 0*3 'B 0*7 3 0*3 'C 0*7 1 0*3 'Z 0*475";
+
+/// The table of the index's three records.
+pub const KEYED_TABLE: &str = "3 85 1 1 3 0*3 65 0 2 0 0*20
+'K 0*10 'C 0*4 1 0*15 13 32 'Z 32 'B 32 'C 26";
+
+/// Puts a byte so many times.
+fn put_times(out: &mut Vec<u8>, byte: u8, times: usize) -> Result<(), AllocError> {
+    for _ in 0..times {
+        out.push(byte)?;
     }
     Ok(())
 }
 
-/// Puts an instruction of a number below 256 behind its first three bytes.
-fn put(out: &mut Vec<u8>, first: &[u8], number: u8) -> Result<(), AllocError> {
-    out.extend_from_slice(first)?;
-    put_zeros(out, 1)?;
-    out.push(number)?;
-    put_zeros(out, 3)
-}
-
-fn put_instructions(out: &mut Vec<u8>) -> Result<(), AllocError> {
-    put(out, b"\x01\0\0", 0)?;
-    put(out, b"\x03\x04\0", 0)?;
-    put(out, b"\x01\0\0", 0)?;
-    put(out, b"\x03\x04\x01", 0)?;
-    put(out, b"\x40\0\0", 0)?;
-    put(out, b"\x01\0\x02", 0)?;
-    put(out, b"\x41\x02\0", 0)?;
-    put_loop(out)
-}
-
-/// Puts the instructions from the test of slot 0 on.
-fn put_loop(out: &mut Vec<u8>) -> Result<(), AllocError> {
-    put(out, b"\x02\x04\0", 0)?;
-    put(out, b"\x11\0\0", 14)?;
-    put(out, b"\x02\x04\x01", 0)?;
-    put(out, b"\x03\x04\0", 0)?;
-    put(out, b"\x01\0\x01", 0)?;
-    put(out, b"\x03\x04\x01", 0)?;
-    put(out, b"\x10\0\0", 4)?;
-    put(out, b"\x14\0\0", 0)
-}
-
-/// What is known where area 1 is selected, all areas are closed, both slots are of this kind and the stack is empty.
-fn put_state(out: &mut Vec<u8>, kind: u8) -> Result<(), AllocError> {
-    out.push(1)?;
-    put_zeros(out, 10)?;
-    out.extend_from_slice(&[kind, kind, 0])
-}
-
-/// The code file that prints three rows: two slots, a stack of one, three constants, one procedure and two maps.
-pub fn code(alloc: Global) -> Result<Vec<u8>, AllocError> {
+/// The bytes of a text of numbers and texts.
+pub fn bytes_of(alloc: Global, text: &str) -> Result<Vec<u8>, AllocError> {
     let mut out = Vec::new(alloc);
-    out.extend_from_slice(b"XBCF\x01\0\x01\0\x02\0\0\0\0\0\0\0\x03\0\0\0\x01\0\x02\0\x0f\0")?;
-    out.extend_from_slice(b"\x04\x01\x04\0\x02\x01A\x0f\0\0")?;
-    put_state(&mut out, 0)?;
-    put_state(&mut out, 0)?;
-    out.extend_from_slice(&[4, 0])?;
-    put_state(&mut out, 4)?;
-    out.extend_from_slice(&[14, 0])?;
-    put_state(&mut out, 4)?;
-    put_instructions(&mut out)?;
-    Ok(out)
-}
-
-/// The table of one record, `Ann` in a field NAME of ten bytes.
-pub fn table(alloc: Global) -> Result<Vec<u8>, AllocError> {
-    let mut out = Vec::new(alloc);
-    out.extend_from_slice(b"\x03\x55\x01\x01\x01\0\0\0\x41\0\x0b\0")?;
-    put_zeros(&mut out, 20)?;
-    out.extend_from_slice(b"NAME")?;
-    put_zeros(&mut out, 7)?;
-    out.extend_from_slice(b"C\0\0\0\0\x0a")?;
-    put_zeros(&mut out, 15)?;
-    out.extend_from_slice(b"\x0d Ann       \x1a")?;
-    Ok(out)
-}
-
-/// An index on a field K of one byte, of the keys of records 2, 3 and 1.
-pub fn index(alloc: Global) -> Result<Vec<u8>, AllocError> {
-    let mut out = Vec::new(alloc);
-    out.extend_from_slice(b"\x01\0\0\0\x02\0\0\0\0\0\0\0\x01\0\x2a\0\0\0\x0c\0\0\0\0\0K")?;
-    put_zeros(&mut out, 487)?;
-    out.extend_from_slice(b"\x03\0\0\0")?;
-    out.extend_from_slice(
-        b"\0\0\0\0\x02\0\0\0B\0\0\0\0\0\0\0\x03\0\0\0C\0\0\0\0\0\0\0\x01\0\0\0Z\0\0\0",
-    )?;
-    put_zeros(&mut out, 472)?;
-    Ok(out)
-}
-
-/// The table of the index's three records.
-pub fn keyed_table(alloc: Global) -> Result<Vec<u8>, AllocError> {
-    let mut out = Vec::new(alloc);
-    out.extend_from_slice(b"\x03\x55\x01\x01\x03\0\0\0\x41\0\x02\0")?;
-    put_zeros(&mut out, 20)?;
-    out.extend_from_slice(b"K")?;
-    put_zeros(&mut out, 10)?;
-    out.extend_from_slice(b"C\0\0\0\0\x01")?;
-    put_zeros(&mut out, 15)?;
-    out.extend_from_slice(b"\x0d Z B C\x1a")?;
+    for word in text.split_whitespace() {
+        if let Some(letters) = word.strip_prefix('\'') {
+            out.extend_from_slice(letters.as_bytes())?;
+        } else {
+            let (byte, times) = word.split_once('*').unwrap_or((word, "1"));
+            put_times(
+                &mut out,
+                byte.parse().unwrap_or(0),
+                times.parse().unwrap_or(0),
+            )?;
+        }
+    }
     Ok(out)
 }
 
 /// The same bytes with one of them changed; as they are where there is none at this place.
 pub fn changed(alloc: Global, bytes: &[u8], at: usize, value: u8) -> Result<Vec<u8>, AllocError> {
-    let mut copy = Vec::new(alloc);
-    copy.extend_from_slice(bytes)?;
-    if at < copy.len() {
-        copy[at] = value;
+    let mut copy = Vec::from_slice(alloc, bytes)?;
+    if let Some(byte) = copy.get_mut(at) {
+        *byte = value;
     }
     Ok(copy)
 }

@@ -16,7 +16,7 @@ use xvalue::{Kind, Text, Value};
 
 /// What a map or a state knows, beside areas that are closed and slots that are free.
 #[derive(Clone, Copy)]
-pub(crate) enum Known {
+enum Known {
     Nothing,
     /// A text on the stack.
     TextOnTop,
@@ -33,14 +33,57 @@ pub(crate) enum Known {
 /// A code: maps with their places, the main block, and the filter's block, each instruction behind a semicolon and a
 /// blank.
 #[derive(Clone, Copy)]
-pub(crate) struct Plan {
+pub(crate) struct Plan<'a> {
     pub(crate) version: Version,
-    pub(crate) maps: &'static [(u16, Known)],
-    pub(crate) main: &'static str,
-    /// The main procedure's level, and the block of the other one, which has level 0.
+    /// The main procedure's level.
     pub(crate) level: u8,
-    pub(crate) other: &'static str,
-    pub(crate) filter: &'static str,
+    pub(crate) maps: &'a str,
+    pub(crate) main: &'a str,
+    /// The block of the other procedure, which has level 0.
+    pub(crate) other: &'a str,
+    pub(crate) filter: &'a str,
+}
+
+/// The block of a filter that needs a text in slot 0.
+const FILTER: &str = "ROWFIELD 0; LOAD T 0; FUN 9";
+
+/// The code of a row: maps, a main block, what is said of it, and, where they aren't the usual ones, another block, a
+/// filter's block, and the version and the level.
+pub(crate) fn plan_of<'a>(row: &'a str) -> Plan<'a> {
+    let mut fields = row.split('|');
+    let maps = fields.next().unwrap_or("");
+    let main = fields.next().unwrap_or("");
+    let other = fields.nth(1).unwrap_or("RETURN");
+    let filter = fields.next().unwrap_or("");
+    let numbers = fields.next().unwrap_or("2 1");
+    Plan {
+        version: if numbers.starts_with('1') {
+            Version::One
+        } else {
+            Version::Two
+        },
+        level: if numbers.ends_with('0') { 0 } else { 1 },
+        maps,
+        main,
+        other,
+        filter: if filter.is_empty() { FILTER } else { filter },
+    }
+}
+
+fn known_of(word: &str) -> Known {
+    let made = [
+        ("TextOnTop", Known::TextOnTop),
+        ("Opened", Known::Opened),
+        ("UnsureFirst", Known::UnsureFirst),
+        ("UnsureSecond", Known::UnsureSecond),
+        ("TextInSlot", Known::TextInSlot),
+    ];
+    for (name, known) in &made {
+        if *name == word {
+            return *known;
+        }
+    }
+    Known::Nothing
 }
 
 fn name_of(text: &[u8]) -> Name {
@@ -196,19 +239,20 @@ fn put_block(instrs: &mut Vec<Instr>, text: &str) -> Result<(), AllocError> {
     Ok(())
 }
 
-fn maps_of(alloc: Global, plan: Plan) -> Result<Vec<Map>, AllocError> {
+fn maps_of(alloc: Global, text: &str) -> Result<Vec<Map>, AllocError> {
     let mut maps = Vec::new(alloc);
-    for (place, known) in plan.maps {
+    for map in text.split_terminator(',') {
+        let (place, word) = map.split_once(' ').unwrap_or((map, ""));
         maps.push(Map {
-            place: *place,
-            state: state(alloc, *known)?,
+            place: place.parse().unwrap_or(0),
+            state: state(alloc, known_of(word))?,
         })?;
     }
     Ok(maps)
 }
 
 /// The code of a plan.
-pub(crate) fn code_of(alloc: Global, plan: Plan) -> Result<Code, AllocError> {
+pub(crate) fn code_of(alloc: Global, plan: Plan<'_>) -> Result<Code, AllocError> {
     let mut instrs = Vec::new(alloc);
     put_block(&mut instrs, plan.main)?;
     let main = instrs.len();
@@ -223,7 +267,7 @@ pub(crate) fn code_of(alloc: Global, plan: Plan) -> Result<Code, AllocError> {
     Ok(Code {
         declared: declared(alloc, plan.version, filter_length)?,
         procedures: Items::of(procedures),
-        maps: Items::of(maps_of(alloc, plan)?),
+        maps: Items::of(maps_of(alloc, plan.maps)?),
         instructions: Items::of(instrs),
     })
 }

@@ -9,7 +9,7 @@ use Rattle.clap.specs.Facts.{Entry}
 use Rattle.clap.specs.Walk.{Row, row_of, rows_of}
 use Rattle.clap.specs.declared.parser.matches.Found.{Found}
 use Rattle.clap.specs.declared.parser.matches.MatchedArg.{MatchedArg}
-use Rattle.command_words.specs.Said.{words_said, word_said, sources_said}
+use Rattle.command_words.specs.Said.{words_said, word_given, sources_said}
 
 step : (e : Entry) (xs : Option Entry) (ys : Option Row) → option_map raw_values (option_map (λ (x : Entry). x.1) xs) ≡ option_map (λ (r : Row). r.values) ys → (b : Bool) → option_map raw_values (option_map (λ (x : Entry). x.1) (cond b (Some e) xs)) ≡ option_map (λ (r : Row). r.values) (cond b (Some (row_of e)) ys)
 step e xs ys h true = refl
@@ -30,7 +30,7 @@ first_of : (m : Option MatchedArg) (ws : Option (List (List ℕ))) → option_ma
 first_of None ws e = subst (λ (v : Option (List (List ℕ))). None ≡ option_and_then (λ (w : List (List ℕ)). slice_get w 0) v) e refl
 first_of (Some a) ws e = subst (λ (v : Option (List (List ℕ))). option_map (λ s. s.now) (slice_get a.vals.items 0) ≡ option_and_then (λ (w : List (List ℕ)). slice_get w 0) v) e (head_same a.vals.items)
 
-pub same_word : (f : Found) (id : List ℕ) → first_value f id ≡ word_said id (rows_of f)
+pub same_word : (f : Found) (id : List ℕ) → first_value f id ≡ word_given id (rows_of f)
 same_word f id = first_of (matched_of f id) (words_said id (rows_of f)) (same_words f id)
 
 pub behind : (said : Option (List ℕ × List Row)) (rows : List Row) → Some rows ≡ option_map (λ (p : List ℕ × List Row). p.1) said → words_said (codes "MAIN") rows ≡ sources_said said

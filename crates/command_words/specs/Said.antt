@@ -11,8 +11,8 @@ abbrev pub words_said : List ℕ → List Row → Option (List (List ℕ))
 words_said id rows = option_map (λ r. r.values) (find (λ r. bytes_eq r.id id) rows)
 
 -- the first of them
-abbrev pub word_said : List ℕ → List Row → Option (List ℕ)
-word_said id rows = option_and_then (λ ws. slice_get ws 0) (words_said id rows)
+abbrev pub word_given : List ℕ → List Row → Option (List ℕ)
+word_given id rows = option_and_then (λ ws. slice_get ws 0) (words_said id rows)
 
 -- the words behind the command's name that name command files; none where no command is named
 abbrev pub sources_said : Option (List ℕ × List Row) → Option (List (List ℕ))

@@ -6,7 +6,7 @@ ghost use Rattle.std.specs.Option.{option_map};
 ghost use Rattle.clap.specs.Matches.{found_of};
 ghost use Rattle.clap.specs.Simple.{subcommand_rows_of};
 ghost use Rattle.clap.specs.Walk.{rows_of};
-ghost use Rattle.command_words.specs.Said.{sources_said, word_said};
+ghost use Rattle.command_words.specs.Said.{sources_said, word_given};
 
 use crate::operate_words::{OperateWords, operate_of, operator, screens, screens_of};
 use clap::{Arg, ArgAction, ArgMatches, Command, value_parser};
@@ -468,7 +468,7 @@ pub(crate) fn page_of(matches: &ArgMatches<'_>) -> Result<Option<CodePage>, Word
 
 #[tactic(auto, using(crate::proofs::Rows::same_word))]
 pub(crate) fn word_of<'a>(matches: &ArgMatches<'a>, id: &str) -> Result<&'a str, WordsFault>
-    ensures { IfOk result (λ word. word_said id.now (rows_of (found_of matches.now)) ≡ Some word.now) }
+    ensures { IfOk result (λ word. word_given id.now (rows_of (found_of matches.now)) ≡ Some word.now) }
 {
     matches.get_str(id).ok_or(WordsFault::Missing)
 }

@@ -1,11 +1,7 @@
 // Each fault, alone and before a later one; `files line kind`, the files counted from 0.
 
-use crate::shown::expect_rows;
-use std::test::Fail;
-
 /// Faults of names, kinds and values.
-fn values() -> &'static str {
-    "\
+pub(crate) const VALUES: &str = "\
      ? X|0 1 Name\n\
      RELEASE X|0 1 Name\n\
      CLEAR^? X + 1 + (1 = 'A')|0 2 Name\n\
@@ -45,17 +41,10 @@ fn values() -> &'static str {
      USE AA^SET FILTER TO X|0 2 Name\n\
      STORE X TO Y|0 1 Name\n\
      X = X + 1|0 1 Name\n\
-    "
-}
-
-#[test]
-fn names_kinds_and_values(rt: HostRuntime) -> Result<(), Fail> {
-    expect_rows(&rt, rt.alloc(), values())
-}
+    ";
 
 /// Faults of work areas.
-fn areas() -> &'static str {
-    "\
+pub(crate) const AREAS: &str = "\
      SKIP|0 1 ClosedArea\n\
      GO TOP|0 1 ClosedArea\n\
      GO X|0 1 Name\n\
@@ -106,17 +95,10 @@ fn areas() -> &'static str {
      USE AA^X = 'A'^SET FILTER TO K = X^SCAN^RELEASE X^ENDSCAN|0 6 Filter\n\
      USE AA^X = 'A'^SET FILTER TO K = X^RELEASE X^INDEX ON K TO AK|0 5 Filter\n\
      USE AA^X = 'A'^SET FILTER TO K = X^RELEASE X^USE BB^SKIP^SKIP Y|0 7 Name\n\
-    "
-}
-
-#[test]
-fn work_areas(rt: HostRuntime) -> Result<(), Fail> {
-    expect_rows(&rt, rt.alloc(), areas())
-}
+    ";
 
 /// Ways that meet, work areas of which nothing is known, and GETs without READ.
-fn ways() -> &'static str {
-    "\
+pub(crate) const WAYS: &str = "\
      X = .T.^IF X^USE AA^ELSE^USE BB^ENDIF^SKIP|0 7 ClosedArea\n\
      IF .T.^SELECT 2^ENDIF^CLEAR|0 3 Merge\n\
      IF .T.^SELECT 2^ELSE^SELECT 3^ENDIF^? X|0 5 Merge\n\
@@ -150,10 +132,4 @@ fn ways() -> &'static str {
      X = 1^@ 1,1 GET X^DO P^PROCEDURE P|0 3 Get\n\
      USE AA^X = 1^@ 1,1 GET X^SCAN^ENDSCAN|0 4 Get\n\
      PARAMETERS X|0 1 Parameters\n\
-    "
-}
-
-#[test]
-fn ways_that_meet(rt: HostRuntime) -> Result<(), Fail> {
-    expect_rows(&rt, rt.alloc(), ways())
-}
+    ";

@@ -1,11 +1,7 @@
 // The code of each command.
 
-use crate::shown::expect_rows;
-use std::test::Fail;
-
 /// Commands on variables and settings.
-fn variables() -> &'static str {
-    "\
+pub(crate) const VARIABLES: &str = "\
      X = 1|CONST 0 0 0; STORE 1 0 0; END 0 0 0; \n\
      STORE 1 TO X, Y, Z|CONST 0 0 0; STORE 1 0 0; LOAD 1 0 0; STORE 1 1 0; LOAD 1 0 0; STORE 1 2 0; END 0 0 0; \n\
      X = 1^X = 'A'^Y = X|CONST 0 0 0; STORE 1 0 0; CONST 0 1 0; STORE 2 0 0; LOAD 2 0 0; STORE 2 1 0; END 0 0 0; \n\
@@ -19,17 +15,10 @@ fn variables() -> &'static str {
      QUIT^X = Y|END 0 0 0; \n\
      CANCEL|END 0 0 0; \n\
      RETURN|END 0 0 0; \n\
-    "
-}
-
-#[test]
-fn variables_and_settings(rt: HostRuntime) -> Result<(), Fail> {
-    expect_rows(&rt, rt.alloc(), variables())
-}
+    ";
 
 /// Commands on the screen, and those that take the operator's lines.
-fn screen() -> &'static str {
-    "\
+pub(crate) const SCREEN: &str = "\
      ?|NEWLINE 0 0 0; END 0 0 0; \n\
      ? 1, 'A'|NEWLINE 0 0 0; CONST 0 0 0; PRINT 1 0 0; CONST 0 1 0; PRINT 2 0 0; CONST 0 2 0; PRINT 2 0 0; END 0 0 0; \n\
      ?? .T.|CONST 0 0 0; PRINT 4 0 0; END 0 0 0; \n\
@@ -43,17 +32,10 @@ fn screen() -> &'static str {
      ACCEPT 'A' TO X|NEWLINE 0 0 0; CONST 0 0 0; PRINT 2 0 0; LINE 0 0 0; STORE 2 0 0; END 0 0 0; \n\
      WAIT|NEWLINE 0 0 0; CONST 0 0 0; PRINT 2 0 0; LINE 0 0 0; DROP 2 0 0; END 0 0 0; \n\
      WAIT 'A' TO X|NEWLINE 0 0 0; CONST 0 0 0; PRINT 2 0 0; LINE 0 0 0; CONST 0 1 0; FUN 30 0 0; STORE 2 0 0; END 0 0 0; \n\
-    "
-}
-
-#[test]
-fn screen_and_operator(rt: HostRuntime) -> Result<(), Fail> {
-    expect_rows(&rt, rt.alloc(), screen())
-}
+    ";
 
 /// Choices and loops.
-fn blocks() -> &'static str {
-    "\
+pub(crate) const BLOCKS: &str = "\
      IF .T.^CLEAR^ENDIF|CONST 0 0 0; JUMPF 0 0 3; CLEAR 0 0 0; END 0 0 0; \n\
      IF .T.^CLEAR^ELSE^?^ENDIF|CONST 0 0 0; JUMPF 0 0 4; CLEAR 0 0 0; JUMP 0 0 5; NEWLINE 0 0 0; END 0 0 0; \n\
      IF .T.^ELSE^ENDIF|CONST 0 0 0; JUMPF 0 0 3; JUMP 0 0 3; END 0 0 0; \n\
@@ -73,17 +55,10 @@ fn blocks() -> &'static str {
      USE AA^SCAN FOR L^DELETE^ENDSCAN|OPEN 0 0 0; TOP 0 0 0; ASK 3 0 0; FUN 15 0 0; JUMPF 0 0 11; FIELD 1 4 0; JUMPF 0 0 8; DELETE 0 0 0; CONST 0 0 0; SKIP 0 0 0; JUMP 0 0 2; END 0 0 0; \n\
      USE AA^SCAN^EXIT^ENDSCAN|OPEN 0 0 0; TOP 0 0 0; ASK 3 0 0; FUN 15 0 0; JUMPF 0 0 6; JUMP 0 0 6; END 0 0 0; \n\
      USE AA^SCAN^IF L^LOOP^ENDIF^EXIT^ENDSCAN|OPEN 0 0 0; TOP 0 0 0; ASK 3 0 0; FUN 15 0 0; JUMPF 0 0 12; FIELD 1 4 0; JUMPF 0 0 8; JUMP 0 0 9; JUMP 0 0 12; CONST 0 0 0; SKIP 0 0 0; JUMP 0 0 2; END 0 0 0; \n\
-    "
-}
-
-#[test]
-fn choices_and_loops(rt: HostRuntime) -> Result<(), Fail> {
-    expect_rows(&rt, rt.alloc(), blocks())
-}
+    ";
 
 /// Work areas, moves and records.
-fn tables() -> &'static str {
-    "\
+pub(crate) const TABLES: &str = "\
      USE AA|OPEN 0 0 0; END 0 0 0; \n\
      USE BB INDEX BK|OPEN 0 1 1; END 0 0 0; \n\
      USE AA INDEX AK, AU^USE AA INDEX AU^USE AA INDEX AK, AU|OPEN 0 0 1; OPEN 0 0 2; OPEN 0 0 1; END 0 0 0; \n\
@@ -105,17 +80,10 @@ fn tables() -> &'static str {
      USE AA^INDEX ON UPPER(K) TO AU^INDEX ON K + UPPER(P) TO AP|OPEN 0 0 0; INDEX 0 1 0; INDEX 0 2 0; END 0 0 0; \n\
      USE AA^? EOF(), BOF(), FOUND()|OPEN 0 0 0; NEWLINE 0 0 0; ASK 3 0 0; PRINT 4 0 0; CONST 0 0 0; PRINT 2 0 0; ASK 4 0 0; PRINT 4 0 0; CONST 0 0 0; PRINT 2 0 0; ASK 5 0 0; PRINT 4 0 0; END 0 0 0; \n\
      USE AA^K = 1^? K, M->K|OPEN 0 0 0; CONST 0 0 0; STORE 1 0 0; NEWLINE 0 0 0; FIELD 1 0 0; PRINT 2 0 0; CONST 0 1 0; PRINT 2 0 0; LOAD 1 0 0; PRINT 1 0 0; END 0 0 0; \n\
-    "
-}
-
-#[test]
-fn areas_moves_and_records(rt: HostRuntime) -> Result<(), Fail> {
-    expect_rows(&rt, rt.alloc(), tables())
-}
+    ";
 
 /// Expressions behind `??`.
-fn expressions() -> &'static str {
-    "\
+pub(crate) const EXPRESSIONS: &str = "\
      ?? 1 + 2 * 3|CONST 0 0 0; CONST 0 1 0; CONST 0 2 0; FUN 3 0 0; FUN 1 0 0; PRINT 1 0 0; END 0 0 0; \n\
      ?? (1 - 2) / 2|CONST 0 0 0; CONST 0 1 0; FUN 2 0 0; CONST 0 1 0; FUN 4 0 0; PRINT 1 0 0; END 0 0 0; \n\
      ?? -1 <= +2|CONST 0 0 0; FUN 5 0 0; CONST 0 1 0; FUN 8 0 0; FUN 15 0 0; PRINT 4 0 0; END 0 0 0; \n\
@@ -144,10 +112,4 @@ fn expressions() -> &'static str {
      ?? DTOC(DATE()) + LTRIM(LOWER(SPACE(1))) + REPLICATE('A', 1) + CHR(1)|ASK 7 0 0; FUN 54 0 0; CONST 0 0 0; FUN 36 0 0; FUN 35 0 0; FUN 33 0 0; FUN 18 0 0; CONST 0 1 0; CONST 0 0 0; FUN 37 0 0; FUN 18 0 0; CONST 0 0 0; FUN 41 0 0; FUN 18 0 0; PRINT 2 0 0; END 0 0 0; \n\
      ?? AT('A', 'A') + ASC('A') + VAL('A')|CONST 0 0 0; CONST 0 0 0; FUN 38 0 0; CONST 0 0 0; FUN 40 0 0; FUN 1 0 0; CONST 0 0 0; FUN 42 0 0; FUN 1 0 0; PRINT 1 0 0; END 0 0 0; \n\
      ?? ISALPHA('A') .AND. ISUPPER('A') .AND. ISLOWER('A')|CONST 0 0 0; FUN 44 0 0; CONST 0 0 0; FUN 45 0 0; FUN 16 0 0; CONST 0 0 0; FUN 46 0 0; FUN 16 0 0; PRINT 4 0 0; END 0 0 0; \n\
-    "
-}
-
-#[test]
-fn code_of_expressions(rt: HostRuntime) -> Result<(), Fail> {
-    expect_rows(&rt, rt.alloc(), expressions())
-}
+    ";

@@ -5,8 +5,6 @@ use prg_code::{Names, Variable};
 use prg_laid::{LayoutFault, judge};
 use prg_parser::Program;
 use std::alloc::{AllocError, Global};
-use std::process::Abort;
-use std::test::Fail;
 use xverify::Verified;
 
 /// The variables of a row, each a letter, in slots from 0 on.
@@ -52,39 +50,17 @@ fn judged(
     }
 }
 
-/// Each row has a program, `|`, another one, `|`, letters of variables, `|`, and what is said.
-fn expect(rt: &impl Abort, alloc: Global, table: &str) -> Result<(), Fail> {
-    for row in table.lines() {
-        let (first, rest) = row.split_once('|').ok_or("no row")?;
-        let (second, rest) = rest.split_once('|').ok_or("no row")?;
-        let (letters, wanted) = rest.split_once('|').ok_or("no row")?;
-        let found = judged(alloc, first, second, letters)?;
-        assert!(rt; found == wanted, "{row}");
-    }
-    Ok(())
-}
-
-#[test]
-fn codes_of_their_commands(rt: HostRuntime) -> Result<(), Fail> {
-    expect(
-        &rt,
-        rt.alloc(),
-        "X = 1^? X|X = 1^? X|X|laid
+/// A program, another one, letters of variables, and what is said a row, with `|` between them: the commands of the
+/// code, and others.
+pub(crate) const LAYOUTS: &str = "\
+X = 1^? X|X = 1^? X|X|laid
 IF .T.^? 1^ELSE^? 2^ENDIF|IF .T.^? 1^ELSE^? 2^ENDIF||laid
 DO WHILE .T.^LOOP^ENDDO|DO WHILE .T.^LOOP^ENDDO||laid
 USE AA^SCAN FOR N > 1^LOOP^ENDSCAN|USE AA^SCAN FOR N > 1^LOOP^ENDSCAN||laid
 USE AA^SET FILTER TO N > 1|USE AA^SET FILTER TO N > 1||laid
 X = 1^@ 1, 1 GET X^READ|X = 1^@ 1, 1 GET X^READ|X|laid
-RETURN^? 1|RETURN^? 2||laid",
-    )
-}
-
-#[test]
-fn codes_of_other_commands(rt: HostRuntime) -> Result<(), Fail> {
-    expect(
-        &rt,
-        rt.alloc(),
-        "X = 1^? X|X = 1|X|otherwise
+RETURN^? 1|RETURN^? 2||laid
+X = 1^? X|X = 1|X|otherwise
 X = 1|X = 1^? X|X|otherwise
 X = 1|X = 1||otherwise
 X = 1^Y = 2|Y = 1^X = 2|XY|otherwise
@@ -97,6 +73,12 @@ DO WHILE .T.^EXIT^ENDDO|DO WHILE .T.^LOOP^ENDDO||otherwise
 USE AA^DELETE|USE AA^RECALL||otherwise
 USE AA^SET FILTER TO N > 1|USE AA^SET FILTER TO N > 2||otherwise
 USE AA INDEX AK|USE AA INDEX AU||otherwise
-DO P^PROCEDURE P^? 1|DO P||otherwise",
-    )
+DO P^PROCEDURE P^? 1|DO P||otherwise
+";
+
+/// What the judge says of a row without what is wanted.
+pub(crate) fn judged_row(alloc: Global, row: &str) -> Result<&'static str, AllocError> {
+    let (first, rest) = row.split_once('|').unwrap_or((row, ""));
+    let (second, letters) = rest.split_once('|').unwrap_or((rest, ""));
+    judged(alloc, first, second, letters)
 }

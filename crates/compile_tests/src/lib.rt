@@ -18,4 +18,6 @@ mod procedures;
 #[cfg(test)]
 mod programs;
 #[cfg(test)]
+mod rows;
+#[cfg(test)]
 mod shown;

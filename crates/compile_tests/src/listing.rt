@@ -3,10 +3,9 @@
 use crate::shown::{programs_of, shape};
 use prg_compile::find_faults;
 use std::alloc::{AllocError, Global};
-use std::test::Fail;
 
 /// The faults of a row, or the fault of its lines.
-fn listed(alloc: Global, row: &str) -> Result<String, AllocError> {
+pub(crate) fn listed(alloc: Global, row: &str) -> Result<String, AllocError> {
     let programs = match programs_of(alloc, row)? {
         Ok(programs) => programs,
         Err(fault) => return Ok(fault),
@@ -25,8 +24,7 @@ fn listed(alloc: Global, row: &str) -> Result<String, AllocError> {
 }
 
 /// Faults behind faults: in conditions, loops, procedures and further files, and where a READ is awaited.
-fn rows() -> &'static str {
-    "\
+pub(crate) const ALL_FAULTS: &str = "\
      CLEAR|\n\
      ? X^? Y|0 1 Name; 0 2 Name; \n\
      ? X^X = 1^? X + 'A'|0 1 Name; 0 3 Kind; \n\
@@ -37,15 +35,4 @@ fn rows() -> &'static str {
      DO WHILE .T.^? Y^SELECT 2^ENDDO|0 2 Name; 0 4 Merge; \n\
      X = 1^@ 1,1 GET X^CLEAR^READ^? Y|0 3 Get; 0 5 Name; \n\
      DO NONE^DO OTHER{OTHER}? Z|0 1 Name; 1 1 Name; \n\
-    "
-}
-
-#[test]
-fn lists_all_faults(rt: HostRuntime) -> Result<(), Fail> {
-    for row in rows().lines() {
-        let (text, wanted) = row.split_once('|').ok_or("no row")?;
-        let found = listed(rt.alloc(), text)?;
-        assert!(rt; found.as_str() == wanted, "{text}: {found}");
-    }
-    Ok(())
-}
+    ";

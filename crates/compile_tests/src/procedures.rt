@@ -1,11 +1,7 @@
 // Procedures, several files, and whole programs.
 
-use crate::shown::expect_rows;
-use std::test::Fail;
-
 /// Calls of procedures.
-fn calls() -> &'static str {
-    "\
+pub(crate) const CALLS: &str = "\
      DO P^PROCEDURE P^CLEAR|CALL 0 1 0; END 0 0 0; CLEAR 0 0 0; RETURN 0 0 0; \n\
      DO P^DO P^PROCEDURE P|CALL 0 1 0; CALL 0 1 0; END 0 0 0; RETURN 0 0 0; \n\
      DO P^QUIT^PROCEDURE P^CLEAR^RETURN^? X|CALL 0 1 0; END 0 0 0; CLEAR 0 0 0; RETURN 0 0 0; \n\
@@ -42,42 +38,22 @@ fn calls() -> &'static str {
      DO P WITH M->X^PROCEDURE P^PARAMETERS Y|0 1 Name\n\
      DO P^PROCEDURE P^SELECT 2^IF .T.^RETURN^ENDIF^SELECT 3^CLEAR|0 8 Merge\n\
      DO P^PROCEDURE P^X = 1^@ 1,1 GET X|0 4 Get\n\
-    "
-}
-
-#[test]
-fn calls_of_procedures(rt: HostRuntime) -> Result<(), Fail> {
-    expect_rows(&rt, rt.alloc(), calls())
-}
+    ";
 
 /// Programs of several files.
-fn files() -> &'static str {
-    "\
+pub(crate) const FILES: &str = "\
      DO P{P}CLEAR|CALL 0 1 0; END 0 0 0; CLEAR 0 0 0; RETURN 0 0 0; \n\
      DO P{P}CLEAR{Q}PROCEDURE P^?|CALL 0 1 0; END 0 0 0; NEWLINE 0 0 0; RETURN 0 0 0; \n\
      DO P{P}PROCEDURE P^?{Q}PROCEDURE P^CLEAR|CALL 0 1 0; END 0 0 0; NEWLINE 0 0 0; RETURN 0 0 0; \n\
      DO P{Q}CLEAR{P}CLEAR^? X|2 2 Name\n\
      DO P{P}DO MAIN|1 1 Recursion\n\
      X = = 3|parse 1 Expression\n\
-    "
-}
-
-#[test]
-fn programs_of_several_files(rt: HostRuntime) -> Result<(), Fail> {
-    expect_rows(&rt, rt.alloc(), files())
-}
+    ";
 
 /// Work areas of which nothing is known, in code of the second version.
-fn unsure() -> &'static str {
-    "\
+pub(crate) const UNSURE: &str = "\
      X = .T.^IF X^USE AA^ELSE^USE BB^ENDIF^USE CC^SKIP|two; CONST 0 0 0; STORE 4 0 0; LOAD 4 0 0; JUMPF 0 0 6; OPEN 0 0 0; JUMP 0 0 7; OPEN 0 1 0; OPEN 0 2 0; CONST 0 1 0; SKIP 0 0 0; END 0 0 0; \n\
      IF .T.^USE AA^ENDIF^USE^SELECT 2^USE BB|two; CONST 0 0 0; JUMPF 0 0 3; OPEN 0 0 0; CLOSE 0 0 0; SELECT 2 0 0; OPEN 0 1 0; END 0 0 0; \n\
      DO P^PROCEDURE P^IF .T.^RETURN^ENDIF^USE AA|two; CALL 0 1 0; END 0 0 0; CONST 0 0 0; JUMPF 0 0 5; RETURN 0 0 0; OPEN 0 0 0; RETURN 0 0 0; \n\
      USE AA^DO WHILE .T.^USE^ENDDO^CLOSE ALL^USE BB|two; OPEN 0 0 0; CONST 0 0 0; JUMPF 0 0 5; CLOSE 0 0 0; JUMP 0 0 1; CLOSEALL 0 0 0; OPEN 0 1 0; END 0 0 0; \n\
-    "
-}
-
-#[test]
-fn unsure_work_areas(rt: HostRuntime) -> Result<(), Fail> {
-    expect_rows(&rt, rt.alloc(), unsure())
-}
+    ";

@@ -9,8 +9,6 @@ use dbf_file::{Field, Letter};
 use prg_compile::{CompileRefusal, compile};
 use prg_parser::{ParseRefusal, Program, parse};
 use std::alloc::{AllocError, Global};
-use std::process::Abort;
-use std::test::Fail;
 use xcode::list;
 use xvalue::Text;
 use xverify::Verified;
@@ -93,11 +91,48 @@ pub(crate) fn shape(alloc: Global) -> Result<Shape, AllocError> {
     })
 }
 
-/// The text with line ends for its carets.
+/// Puts a number, in figures.
+fn put_number(lines: &mut Vec<u8>, alloc: Global, number: u32) -> Result<(), AllocError> {
+    let figures = format!(in alloc; "{number}")?;
+    lines.extend_from_slice(figures.as_str().as_bytes())
+}
+
+/// Puts a piece of this number, with line ends for its carets.
+fn put_piece(
+    lines: &mut Vec<u8>,
+    alloc: Global,
+    text: &str,
+    number: u32,
+) -> Result<(), AllocError> {
+    for byte in text.as_bytes() {
+        match byte {
+            b'^' => lines.push(b'\n')?,
+            b'#' if number > 0 => put_number(lines, alloc, number)?,
+            b'~' if number > 0 => put_number(lines, alloc, number.saturating_add(1))?,
+            _ => lines.push(*byte)?,
+        }
+    }
+    Ok(())
+}
+
+/// Puts a piece as often as the number in front of it says.
+fn put_pieces(lines: &mut Vec<u8>, alloc: Global, text: &str) -> Result<(), AllocError> {
+    let (times, piece) = text.split_once(' ').unwrap_or(("0", ""));
+    for number in 1..=times.parse().unwrap_or(0u32) {
+        put_piece(lines, alloc, piece, number)?;
+    }
+    Ok(())
+}
+
+/// The text with line ends for its carets, and with pieces between backquotes as often as they say.
 fn lines_of(alloc: Global, text: &str) -> Result<Vec<u8>, AllocError> {
     let mut lines = Vec::new(alloc);
-    for byte in text.as_bytes() {
-        lines.push(if *byte == b'^' { b'\n' } else { *byte })?;
+    for (place, part) in text.split('`').enumerate() {
+        if place % 2 == 0 {
+            put_piece(&mut lines, alloc, part, 0)?;
+        } else {
+            put_pieces(&mut lines, alloc, part)?;
+        }
     }
     Ok(lines)
 }
@@ -195,14 +230,4 @@ pub(crate) fn shown(alloc: Global, row: &str) -> Result<String, AllocError> {
         Ok(programs) => compiled(alloc, &programs),
         Err(fault) => Ok(fault),
     }
-}
-
-/// Each row has a program, `|`, and how its code or its fault is shown.
-pub(crate) fn expect_rows(rt: &impl Abort, alloc: Global, table: &str) -> Result<(), Fail> {
-    for row in table.lines() {
-        let (text, wanted) = row.split_once('|').ok_or("no row")?;
-        let found = shown(alloc, text)?;
-        assert!(rt; found.as_str() == wanted, "{text}: {found}");
-    }
-    Ok(())
 }

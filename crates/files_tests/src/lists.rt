@@ -153,12 +153,16 @@ fn empty_list(alloc: Global) -> Result<SortedKeys, AllocError> {
     SortedKeys::rebuild(alloc, KEY_BYTES, b"NAME+CITY", Vec::new(alloc))
 }
 
+// Whether an empty list answers as a plain list does.
+fn is_plain(list: &mut SortedKeys) -> Result<bool, AllocError> {
+    let none = list.first().is_none() && list.last().is_none() && list.first_from(b"").is_none();
+    Ok(list.len() == 0 && none && first_difference(list)?.is_none())
+}
+
 #[test]
 fn answers_as_a_plain_list(rt: HostRuntime) -> Result<(), Fail> {
     let mut list = empty_list(rt.alloc())?;
-    assert_eq!(rt; list.len(), 0);
-    assert!(rt; list.first().is_none() && list.last().is_none() && list.first_from(b"").is_none());
-    assert_eq!(rt; first_difference(&mut list)?, None);
+    assert!(rt; is_plain(&mut list)?);
     Ok(())
 }
 
@@ -214,12 +218,16 @@ pub(crate) fn has_number(entry: &Option<Entry>, number: u32) -> bool {
 }
 
 // A key of another length may be searched for: what begins with it isn't below it.
+fn is_prefix_below(list: &mut SortedKeys) -> bool {
+    has_number(&list.first_from(b"A"), 1)
+        && has_number(&list.first_from(b"AB "), 3)
+        && has_number(&list.after(b"A", 9), 1)
+        && has_number(&list.before(b"AB ", 1), 2)
+}
+
 #[test]
 fn a_prefix_is_below(rt: HostRuntime) -> Result<(), Fail> {
     let mut list = three(rt.alloc())?;
-    assert!(rt; has_number(&list.first_from(b"A"), 1));
-    assert!(rt; has_number(&list.first_from(b"AB "), 3));
-    assert!(rt; has_number(&list.after(b"A", 9), 1));
-    assert!(rt; has_number(&list.before(b"AB ", 1), 2));
+    assert!(rt; is_prefix_below(&mut list));
     Ok(())
 }

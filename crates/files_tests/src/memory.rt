@@ -3,7 +3,6 @@
 
 use file_access::{Device, Files, MemoryEntry, MemoryFiles, ReadFault, WORKS_FOR_EVER};
 use std::alloc::Global;
-use std::test::Fail;
 
 /// Two files that a device holds at first.
 fn entries() -> [MemoryEntry<'static>; 2] {
@@ -79,13 +78,7 @@ fn fails_behind_its_calls(alloc: Global) -> bool {
 }
 
 #[test]
-fn what_was_written_last_is_held(rt: HostRuntime) -> Result<(), Fail> {
+fn files_in_memory(rt: HostRuntime) {
     assert!(rt; last_written_is_held(rt.alloc()));
-    Ok(())
-}
-
-#[test]
-fn devices_fail_behind_their_calls(rt: HostRuntime) -> Result<(), Fail> {
     assert!(rt; fails_behind_its_calls(rt.alloc()));
-    Ok(())
 }

@@ -74,21 +74,26 @@ fn page(first: PageEntry, second: PageEntry, last: u32) -> Page {
     Page { entries, last }
 }
 
-#[test]
-fn most_keys_of_a_page(rt: HostRuntime) {
+/// Whether a page has at the most so many keys of each of these lengths.
+fn most_keys_of_a_page() -> bool {
     for (length, most) in [(1, 42), (4, 42), (5, 31), (10, 25), (12, 25), (100, 4)] {
-        assert!(rt; length <= 100);
-        assert_eq!(rt; most_entries(length), most, "at {length}");
+        if length > 100 || most_entries(length) != most {
+            return false;
+        }
     }
+    true
 }
 
-#[test]
-fn head_both_ways(rt: HostRuntime) {
+fn head_both_ways() -> bool {
     let bytes = plain_head();
-    let head = read_head(&bytes).expect(&rt, "a head");
-    assert!(rt; (head.root, head.pages, head.length) == (1, 2, 10));
-    assert!(rt; head.text.as_slice() == b"NAME".as_slice());
-    assert!(rt; write_head(&head) == bytes);
+    match read_head(&bytes) {
+        Ok(head) => {
+            (head.root, head.pages, head.length) == (1, 2, 10)
+                && head.text.as_slice() == b"NAME".as_slice()
+                && write_head(&head) == bytes
+        }
+        Err(_) => false,
+    }
 }
 
 /// Page 0 with this key expression and what stands behind it.
@@ -131,24 +136,21 @@ fn first_untold_of_heads(lines: &[(usize, u8, HeadFault)]) -> Option<usize> {
     None
 }
 
-#[test]
-fn head_faults(rt: HostRuntime) {
-    assert_eq!(rt; first_untold_of_heads(&faults_of_heads()), None);
-    assert!(rt; has_fault(&[0; PAGE_SIZE - 1], HeadFault::Short));
-    // Of all faults but the first the second is told.
-    assert!(rt; has_fault(&[1; PAGE_SIZE], HeadFault::Kind));
+/// Whether a key expression is read as a text of this length.
+fn has_length(expression: &[u8; 488], length: usize) -> bool {
+    match read_head(&with_expression(expression)) {
+        Ok(head) => head.text.len() == length,
+        Err(_) => false,
+    }
 }
 
-#[test]
-fn head_expression(rt: HostRuntime) {
+fn head_expression() -> bool {
     let mut expression = [7; 488];
-    assert!(rt; has_fault(&with_expression(&expression), HeadFault::Expression));
+    let endless = has_fault(&with_expression(&expression), HeadFault::Expression);
     expression[487] = 0;
-    let longest = read_head(&with_expression(&expression)).expect(&rt, "a head");
-    assert_eq!(rt; longest.text.len(), 487);
+    let longest = has_length(&expression, 487);
     expression[0] = 0;
-    let empty = read_head(&with_expression(&expression)).expect(&rt, "a head");
-    assert!(rt; empty.text.is_empty());
+    endless && longest && has_length(&expression, 0)
 }
 
 /// Whether the page is written as these bytes, and read of them.
@@ -157,33 +159,33 @@ fn is_page(page: Page, bytes: &[u8; PAGE_SIZE]) -> bool {
     write_page(&head, &page) == *bytes && read_page(&head, bytes) == Ok(page)
 }
 
-#[test]
-fn leaves_both_ways(rt: HostRuntime) {
+/// Whether a page is read with so many entries and this last child.
+fn is_read_with(bytes: &[u8; PAGE_SIZE], entries: usize, last: u32) -> bool {
+    match read_page(&head_of(2), bytes) {
+        Ok(page) => page.entries.len() == entries && page.last == last,
+        Err(_) => false,
+    }
+}
+
+/// The bytes at the place of the last child aren't tested in a leaf.
+fn leaves_both_ways() -> bool {
     let leaf = page(entry(0, 3, b"AB"), entry(0, 7, b"CD"), 0);
-    assert!(rt; is_page(leaf, &plain_leaf()));
-    // The bytes at the place of the last child aren't tested in a leaf.
     let mut bytes = plain_leaf();
     bytes[28] = 9;
-    assert!(rt; read_page(&head_of(2), &bytes).is_ok_and(|page| page.last == 0));
+    is_page(leaf, &plain_leaf()) && is_read_with(&bytes, 2, 0)
 }
 
-#[test]
-fn inner_pages_both_ways(rt: HostRuntime) {
+fn inner_pages_both_ways() -> bool {
     let inner = page(entry(5, 0, b"AB"), entry(6, 0, b"CD"), 0x0102);
-    assert!(rt; is_page(inner, &plain_inner()));
+    is_page(inner, &plain_inner())
 }
 
-// A page without entries has one child, or none.
-#[test]
-fn pages_without_entries(rt: HostRuntime) {
-    let head = head_of(2);
+/// A page without entries has one child, or none.
+fn pages_without_entries() -> bool {
     let mut bytes = [0; PAGE_SIZE];
-    for last in [0, 9] {
-        bytes[4] = last;
-        let empty = read_page(&head, &bytes).expect(&rt, "a page");
-        assert!(rt; empty.entries.is_empty());
-        assert_eq!(rt; empty.last, u32::from(last));
-    }
+    let none = is_read_with(&bytes, 0, 0);
+    bytes[4] = 9;
+    none && is_read_with(&bytes, 0, 9)
 }
 
 /// The two bytes that are put at the places of a page, and the fault that is told.
@@ -223,7 +225,13 @@ fn first_untold(page: &[u8; PAGE_SIZE], lines: &[Changed]) -> Option<usize> {
 }
 
 #[test]
-fn page_faults(rt: HostRuntime) {
+fn heads_and_pages(rt: HostRuntime) {
+    assert!(rt; most_keys_of_a_page() && head_both_ways() && head_expression());
+    assert_eq!(rt; first_untold_of_heads(&faults_of_heads()), None);
+    // Of all faults but the first the second is told.
+    assert!(rt; has_fault(&[0; PAGE_SIZE - 1], HeadFault::Short));
+    assert!(rt; has_fault(&[1; PAGE_SIZE], HeadFault::Kind));
+    assert!(rt; leaves_both_ways() && inner_pages_both_ways() && pages_without_entries());
     assert_eq!(rt; first_untold(&plain_leaf(), &faults_of_leaves()), None);
     assert_eq!(rt;
         first_untold(&plain_inner(), &faults_of_inner_pages()),

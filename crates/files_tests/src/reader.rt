@@ -7,10 +7,9 @@ use file_access::{ReadFault, read_in_turns, read_within};
 use std::alloc::Global;
 use std::io;
 use std::io::{ErrorKind, Read};
-use std::test::Fail;
 
 /// What a reader does at each of its reads.
-#[derive(Clone, Copy, Debug, PartialEq, Eq)]
+#[derive(Clone, Copy)]
 enum Turn {
     /// Gives the byte, this often at the most, and less where less is asked for.
     Gives(u8, usize),
@@ -83,42 +82,36 @@ fn read_four(alloc: Global, turns: &[Turn], goes_on: bool) -> (Result<Vec<u8>, R
     (result, reader.given)
 }
 
-#[test]
-fn short_and_interrupted_reads_give_all(rt: HostRuntime) -> Result<(), Fail> {
+/// Whether short and interrupted reads give all.
+fn gives_all(alloc: Global) -> bool {
     let turns = [
         Turn::Gives(b'a', 1),
         Turn::Interrupted,
         Turn::Interrupted,
         Turn::Gives(b'b', 3),
     ];
-    let (result, given) = read_four(rt.alloc(), &turns, false);
-    let bytes = result.map_err(|_| "refused")?;
-    assert_eq!(rt; bytes.as_slice(), b"abbb".as_slice());
-    assert_eq!(rt; given, 4);
-    Ok(())
+    let (result, given) = read_four(alloc, &turns, false);
+    match result {
+        Ok(bytes) => bytes.as_slice() == b"abbb".as_slice() && given == 4,
+        Err(_) => false,
+    }
 }
 
-#[test]
-fn refusals_of_readers(rt: HostRuntime) -> Result<(), Fail> {
-    let cases: [(&[Turn], bool, ReadFault); 4] = [
-        (
-            &[Turn::Gives(b'a', 2), Turn::Fails],
-            false,
-            ReadFault::Device,
-        ),
-        (&[Turn::Interrupted], true, ReadFault::Device),
-        (&[Turn::Gives(b'a', 1)], true, ReadFault::TooLong),
-        (&[Turn::Gives(b'a', 4096)], false, ReadFault::TooLong),
-    ];
-    for (turns, goes_on, wanted) in cases {
-        let (result, given) = read_four(rt.alloc(), turns, goes_on);
-        match result {
-            Ok(_) => assert!(rt; false, "read to its end"),
-            Err(fault) => assert_eq!(rt; fault, wanted),
-        }
-        assert!(rt; given <= 5, "a byte above the limit at the most");
+/// Whether a reader is refused so, with a byte above the limit asked of it at the most.
+fn is_refused(alloc: Global, turns: &[Turn], goes_on: bool, wanted: ReadFault) -> bool {
+    let (result, given) = read_four(alloc, turns, goes_on);
+    match result {
+        Ok(_) => false,
+        Err(fault) => fault == wanted && given <= 5,
     }
-    Ok(())
+}
+
+fn are_refused(alloc: Global) -> bool {
+    let broken = [Turn::Gives(b'a', 2), Turn::Fails];
+    is_refused(alloc, &broken, false, ReadFault::Device)
+        && is_refused(alloc, &[Turn::Interrupted], true, ReadFault::Device)
+        && is_refused(alloc, &[Turn::Gives(b'a', 1)], true, ReadFault::TooLong)
+        && is_refused(alloc, &[Turn::Gives(b'a', 4096)], false, ReadFault::TooLong)
 }
 
 /// What comes of so many reads of two bytes, each of one.
@@ -133,13 +126,18 @@ fn read_two(alloc: Global, turns: usize) -> Result<Vec<u8>, ReadFault> {
 }
 
 // an interrupted read counts, and so does the one that finds the end
-#[test]
-fn a_reader_has_its_turns(rt: HostRuntime) -> Result<(), Fail> {
-    let bytes = read_two(rt.alloc(), 4).map_err(|_| "refused in four turns")?;
-    assert_eq!(rt; bytes.as_slice(), b"ab".as_slice());
-    match read_two(rt.alloc(), 3) {
-        Ok(_) => assert!(rt; false, "read in three turns"),
-        Err(fault) => assert_eq!(rt; fault, ReadFault::Device),
+fn has_its_turns(alloc: Global) -> bool {
+    match (read_two(alloc, 4), read_two(alloc, 3)) {
+        (Ok(bytes), Err(fault)) => {
+            bytes.as_slice() == b"ab".as_slice() && fault == ReadFault::Device
+        }
+        _ => false,
     }
-    Ok(())
+}
+
+#[test]
+fn readers_are_read_to_their_end(rt: HostRuntime) {
+    assert!(rt; gives_all(rt.alloc()));
+    assert!(rt; are_refused(rt.alloc()));
+    assert!(rt; has_its_turns(rt.alloc()));
 }

@@ -148,32 +148,38 @@ fn are(bytes: &[u8], from: usize, to: usize, wanted: &[u8]) -> bool {
     bytes.get(from..to) == Some(wanted)
 }
 
-/// The file with another byte at a place.
-fn with_byte(alloc: Global, place: usize, byte: u8) -> Result<Vec<u8>, AllocError> {
+/// The file with other bytes at places: a place and a byte each, with `,` between them.
+fn with_bytes(alloc: Global, changes: &str) -> Result<Vec<u8>, AllocError> {
     let mut file = seventy(alloc)?;
-    set(&mut file, place, byte);
+    for change in changes.split(',') {
+        let (place, byte) = change.split_once(' ').unwrap_or((change, ""));
+        set(
+            &mut file,
+            place.parse().unwrap_or(0),
+            byte.parse().unwrap_or(0),
+        );
+    }
     Ok(file)
 }
 
-#[test]
-fn seventy_bytes_are_a_table(rt: HostRuntime) -> Result<(), Fail> {
-    let file = seventy(rt.alloc())?;
-    let table = table_of(rt.alloc(), file.as_slice(), 1).ok_or("no table")?;
-    assert!(rt; file.len() == 70 && table.rows() == 1);
-    assert!(rt; mark_of(&table, 0) == Some(false) && holds(&table, 0, 0, b"abc"));
-    assert!(rt; table.structure().fields().len() == 1);
-    Ok(())
+fn seventy_bytes_are_a_table(alloc: Global) -> Result<bool, AllocError> {
+    let file = seventy(alloc)?;
+    match table_of(alloc, file.as_slice(), 1) {
+        Some(table) => Ok(
+            file.len() == 70
+                && table.rows() == 1
+                && mark_of(&table, 0) == Some(false)
+                && holds(&table, 0, 0, b"abc")
+                && table.structure().fields().len() == 1,
+        ),
+        None => Ok(false),
+    }
 }
 
-#[test]
-fn a_byte_less_is_truncated(rt: HostRuntime) -> Result<(), Fail> {
-    let mut file = seventy(rt.alloc())?;
+fn a_byte_less_is_truncated(alloc: Global) -> Result<bool, AllocError> {
+    let mut file = seventy(alloc)?;
     let _ = file.pop();
-    assert_eq!(rt;
-        fault_of(rt.alloc(), file.as_slice()),
-        Some(DbfFault::Truncated)
-    );
-    Ok(())
+    Ok(fault_of(alloc, file.as_slice()) == Some(DbfFault::Truncated))
 }
 
 /// Whether bytes behind the last row are gone in the file that is written.
@@ -189,125 +195,76 @@ fn drops_bytes_behind(alloc: Global) -> Result<bool, AllocError> {
     }
 }
 
-#[test]
-fn bytes_behind_the_last_row_are_dropped(rt: HostRuntime) -> Result<(), Fail> {
-    assert!(rt; drops_bytes_behind(rt.alloc())?);
-    Ok(())
+/// Bytes that are put at places of the file, and the fault that is told then, the first of two.
+const FAULTS: &str = "\
+0 4|Version
+0 131|Version
+8 64|HeaderLength
+8 71|HeaderLength
+43 99|FieldShape
+43 77|FieldShape
+48 0|FieldShape
+32 49|FieldShape
+32 0|FieldShape
+32 13|FieldShape
+64 88|NoEnd
+10 5|RecordLength
+4 2|Truncated
+66 120|RecordMark
+0 4,8 64|Version
+8 64,43 99|HeaderLength
+43 99,64 88|FieldShape
+64 88,10 5|NoEnd
+48 0,10 5|FieldShape
+10 5,5 9|RecordLength
+5 9,66 120|TooMany
+4 2,66 120|Truncated
+";
+
+/// Whether the file with the bytes of a row has its fault.
+fn is_told(alloc: Global, row: &str) -> Result<bool, AllocError> {
+    let (changes, wanted) = row.split_once('|').unwrap_or((row, ""));
+    let file = with_bytes(alloc, changes)?;
+    match fault_of(alloc, file.as_slice()) {
+        Some(fault) => Ok(fault.to_string(alloc)?.as_str() == wanted),
+        None => Ok(false),
+    }
 }
 
-/// A byte that is put at a place of the file, and the fault that is told then.
-fn faults_of_one_byte() -> [(usize, u8, DbfFault); 14] {
-    [
-        (0, 4, DbfFault::Version),
-        (0, 131, DbfFault::Version),
-        (8, 64, DbfFault::HeaderLength),
-        (8, 71, DbfFault::HeaderLength),
-        (43, b'c', DbfFault::FieldShape),
-        (43, b'M', DbfFault::FieldShape),
-        (48, 0, DbfFault::FieldShape),
-        (32, b'1', DbfFault::FieldShape),
-        (32, 0, DbfFault::FieldShape),
-        (32, 13, DbfFault::FieldShape),
-        (64, b'X', DbfFault::NoEnd),
-        (10, 5, DbfFault::RecordLength),
-        (4, 2, DbfFault::Truncated),
-        (66, b'x', DbfFault::RecordMark),
-    ]
-}
-
-/// The place of the first line of the table whose fault isn't told.
-fn first_untold(
-    alloc: Global,
-    faults: &[(usize, u8, DbfFault)],
-) -> Result<Option<usize>, AllocError> {
-    for (line, (place, byte, fault)) in faults.iter().enumerate() {
-        let file = with_byte(alloc, *place, *byte)?;
-        if fault_of(alloc, file.as_slice()) != Some(*fault) {
-            return Ok(Some(line));
+/// The first row whose fault isn't told.
+fn first_untold<'a>(alloc: Global, rows: &'a str) -> Result<Option<&'a str>, AllocError> {
+    for row in rows.lines() {
+        if !is_told(alloc, row)? {
+            return Ok(Some(row));
         }
     }
     Ok(None)
 }
 
-#[test]
-fn a_fault_is_told(rt: HostRuntime) -> Result<(), Fail> {
-    assert_eq!(rt; first_untold(rt.alloc(), &faults_of_one_byte())?, None);
-    Ok(())
+/// Whether the front of a file is told as short before any other fault.
+fn a_front_is_short(alloc: Global) -> Result<bool, AllocError> {
+    let both = with_bytes(alloc, "0 4,8 64")?;
+    let front = both.get(..64).unwrap_or(b"");
+    Ok(fault_of(alloc, front) == Some(DbfFault::Short))
 }
 
-#[test]
-fn short_files_and_too_many_rows(rt: HostRuntime) -> Result<(), Fail> {
-    let file = seventy(rt.alloc())?;
+fn short_files_and_too_many_rows(alloc: Global) -> Result<bool, AllocError> {
+    let file = seventy(alloc)?;
     let front = file.get(..64).unwrap_or(b"");
-    assert_eq!(rt; fault_of(rt.alloc(), b""), Some(DbfFault::Short));
-    assert_eq!(rt; fault_of(rt.alloc(), front), Some(DbfFault::Short));
-    assert_eq!(rt;
-        read(rt.alloc(), file.as_slice(), 0).err(),
-        Some(DbfFault::TooMany)
-    );
-    Ok(())
+    Ok(
+        fault_of(alloc, b"") == Some(DbfFault::Short)
+            && fault_of(alloc, front) == Some(DbfFault::Short)
+            && read(alloc, file.as_slice(), 0).err() == Some(DbfFault::TooMany),
+    )
 }
 
-/// The file with other bytes at two places.
-fn with_two(alloc: Global, first: (usize, u8), second: (usize, u8)) -> Result<Vec<u8>, AllocError> {
-    let (place, byte) = second;
-    let mut file = with_byte(alloc, first.0, first.1)?;
-    set(&mut file, place, byte);
-    Ok(file)
-}
-
-/// Two bytes that are put at places of the file, and the fault that is told then, the first of two.
-fn faults_of_two_bytes() -> [((usize, u8), (usize, u8), DbfFault); 8] {
-    [
-        ((0, 4), (8, 64), DbfFault::Version),
-        ((8, 64), (43, b'c'), DbfFault::HeaderLength),
-        ((43, b'c'), (64, b'X'), DbfFault::FieldShape),
-        ((64, b'X'), (10, 5), DbfFault::NoEnd),
-        ((48, 0), (10, 5), DbfFault::FieldShape),
-        ((10, 5), (5, 9), DbfFault::RecordLength),
-        ((5, 9), (66, b'x'), DbfFault::TooMany),
-        ((4, 2), (66, b'x'), DbfFault::Truncated),
-    ]
-}
-
-/// The place of the first line of the table whose first fault isn't told.
-fn first_untold_of_two(
-    alloc: Global,
-    faults: &[((usize, u8), (usize, u8), DbfFault)],
-) -> Result<Option<usize>, AllocError> {
-    for (line, (first, second, fault)) in faults.iter().enumerate() {
-        let file = with_two(alloc, *first, *second)?;
-        if fault_of(alloc, file.as_slice()) != Some(*fault) {
-            return Ok(Some(line));
-        }
-    }
-    Ok(None)
-}
-
-#[test]
-fn of_two_faults_the_first_is_told(rt: HostRuntime) -> Result<(), Fail> {
-    assert_eq!(rt;
-        first_untold_of_two(rt.alloc(), &faults_of_two_bytes())?,
-        None
-    );
-    let short = with_two(rt.alloc(), (0, 4), (8, 64))?;
-    let front = short.get(..64).unwrap_or(b"");
-    assert_eq!(rt; fault_of(rt.alloc(), front), Some(DbfFault::Short));
-    Ok(())
-}
-
-#[test]
-fn a_name_comes_once(rt: HostRuntime) -> Result<(), Fail> {
-    let mut file = Vec::new(rt.alloc());
+fn a_name_comes_once(alloc: Global) -> Result<bool, AllocError> {
+    let mut file = Vec::new(alloc);
     push_front(&mut file, 3, 0, 97, 3)?;
     push_descriptor(&mut file, b"KEY", b'C', 1, 0)?;
     push_descriptor(&mut file, b"Key", b'C', 1, 0)?;
     file.push(13)?;
-    assert_eq!(rt;
-        fault_of(rt.alloc(), file.as_slice()),
-        Some(DbfFault::FieldShape)
-    );
-    Ok(())
+    Ok(fault_of(alloc, file.as_slice()) == Some(DbfFault::FieldShape))
 }
 
 /// Takes a row's mark away, where the table has the row.
@@ -317,16 +274,20 @@ fn unmark(table: &mut Table, r: usize) {
     }
 }
 
-#[test]
-fn marks_stay(rt: HostRuntime) -> Result<(), Fail> {
-    let file = with_byte(rt.alloc(), 66, b'*')?;
-    let mut table = table_of(rt.alloc(), file.as_slice(), 1000).ok_or("no table")?;
-    assert!(rt; table.rows() == 1 && mark_of(&table, 0) == Some(true));
-    let again = written(rt.alloc(), &table)?;
-    assert!(rt; are(again.as_slice(), 0, 70, file.as_slice()));
-    unmark(&mut table, 0);
-    assert!(rt; mark_of(&table, 0) == Some(false));
-    Ok(())
+/// Whether a marked row stays marked in the file that is written, until its mark is taken away.
+fn mark_stays(alloc: Global, table: &mut Table, file: &[u8]) -> Result<bool, AllocError> {
+    let marked = table.rows() == 1 && mark_of(table, 0) == Some(true);
+    let again = written(alloc, table)?;
+    unmark(table, 0);
+    Ok(marked && are(again.as_slice(), 0, 70, file) && mark_of(table, 0) == Some(false))
+}
+
+fn marks_stay(alloc: Global) -> Result<bool, AllocError> {
+    let file = with_bytes(alloc, "66 42")?;
+    match table_of(alloc, file.as_slice(), 1000) {
+        Some(mut table) => mark_stays(alloc, &mut table, file.as_slice()),
+        None => Ok(false),
+    }
 }
 
 /// Writes a value into a text, where the value and the text suit the field.
@@ -351,67 +312,86 @@ fn writes(field: &Field, from: &Value, wanted: &[u8]) -> bool {
     put_where_it_suits(field, from, &mut text[..width]) && &text[..width] == wanted
 }
 
-#[test]
-fn numbers_stand_right(rt: HostRuntime) {
-    let amount = field(b"AMT", Letter::N, 5, 2);
-    assert!(rt; shows(&amount, b"     ", b"      0.00"));
-    assert!(rt; shows(&amount, b"*****", b"**********"));
-    assert!(rt; shows(&amount, b"   12", b"        12"));
-    for (number, text) in [
-        (b"12.345 ", b"12.35"),
-        (b"123.456", b"*****"),
-        (b"-1     ", b"-1.00"),
-    ] {
-        assert!(rt; writes(&amount, &Value::Number(Num::parse(number)), text));
+/// A field's letter, width and decimals; a text of it and how the screen shows that, or behind `>` a value and the text
+/// that it is written as: numbers stand right, texts are cut or padded, and a field that no table has holds values too.
+const FIELDS: &str = "\
+N 5 2|     |      0.00
+N 5 2|*****|**********
+N 5 2|   12|        12
+N 5 2>12.345 |12.35
+N 5 2>123.456|*****
+N 5 2>-1     |-1.00
+C 3 0>Anna|Ann
+C 3 0>A|A  
+C 3 0|A b|A b
+D 4 0>|    
+D 4 0|1988|  /  /  
+N 9 40>7|*********
+L 2 0>T|T 
+L 2 0||.F.
+D 8 0|19880229|02/29/88
+D 8 0|19890229|  /  /  
+D 8 0|        |  /  /  
+D 8 0>12/01/0007|00071201
+D 8 0>|        
+L 1 0|y|.T.
+L 1 0|?|.F.
+L 1 0>T|T
+L 1 0>F|F
+";
+
+fn letter_of(word: &str) -> Letter {
+    if word == "N" {
+        return Letter::N;
+    }
+    if word == "D" {
+        return Letter::D;
+    }
+    if word == "L" {
+        return Letter::L;
+    }
+    Letter::C
+}
+
+fn field_of(text: &str) -> Field {
+    let mut words = text.split(' ');
+    let letter = letter_of(words.next().unwrap_or(""));
+    let width = words.next().unwrap_or("").parse().unwrap_or(0);
+    let decimals = words.next().unwrap_or("").parse().unwrap_or(0);
+    field(b"F", letter, width, decimals)
+}
+
+/// The value of a field that a text spells.
+fn value_of(letter: Letter, spelled: &[u8]) -> Value {
+    match letter {
+        Letter::C => text_value(spelled),
+        Letter::N => Value::Number(Num::parse(spelled)),
+        Letter::D => Value::Date(Day::read(spelled)),
+        Letter::L => Value::Logical(spelled == b"T".as_slice()),
     }
 }
 
-#[test]
-fn texts_are_cut_or_padded(rt: HostRuntime) {
-    let name = field(b"NAME", Letter::C, 3, 0);
-    assert!(rt; writes(&name, &text_value(b"Anna"), b"Ann"));
-    assert!(rt; writes(&name, &text_value(b"A"), b"A  "));
-    assert!(rt; shows(&name, b"A b", b"A b"));
+fn is_right(row: &str) -> bool {
+    let (said, wanted) = row.rsplit_once('|').unwrap_or((row, ""));
+    if let Some((field, spelled)) = said.split_once('>') {
+        let field = field_of(field);
+        return writes(
+            &field,
+            &value_of(field.letter, spelled.as_bytes()),
+            wanted.as_bytes(),
+        );
+    }
+    let (field, text) = said.split_once('|').unwrap_or((said, ""));
+    shows(&field_of(field), text.as_bytes(), wanted.as_bytes())
 }
 
-/// A field that no table has holds values all the same.
-#[test]
-fn fields_of_any_shape(rt: HostRuntime) {
-    let born = field(b"BORN", Letter::D, 4, 0);
-    assert!(rt; writes(&born, &Value::Date(Day::blank()), b"    "));
-    assert!(rt; shows(&born, b"1988", b"  /  /  "));
-    let amount = field(b"AMT", Letter::N, 9, 40);
-    assert!(rt; writes(&amount, &Value::Number(Num::parse(b"7")), b"*********"));
-    let paid = field(b"PAID", Letter::L, 2, 0);
-    assert!(rt; writes(&paid, &Value::Logical(true), b"T "));
-    assert!(rt; shows(&paid, b"", b".F."));
-}
-
-#[test]
-fn days(rt: HostRuntime) {
-    let born = field(b"BORN", Letter::D, 8, 0);
-    assert!(rt; shows(&born, b"19880229", b"02/29/88"));
-    assert!(rt; shows(&born, b"19890229", b"  /  /  "));
-    assert!(rt; shows(&born, b"        ", b"  /  /  "));
-    let parts = DayParts {
-        year: 7,
-        month: 12,
-        day: 1,
-    };
-    let day = Day::from_parts(parts).expect(&rt, "a day");
-    assert!(rt; writes(&born, &Value::Date(day), b"00071201"));
-    assert!(rt; writes(&born, &Value::Date(Day::blank()), b"        "));
-}
-
-#[test]
-fn truth_values(rt: HostRuntime) {
-    let paid = field(b"PAID", Letter::L, 1, 0);
-    assert!(rt; shows(&paid, b"y", b".T."));
-    assert!(rt; shows(&paid, b"?", b".F."));
-    assert!(rt; writes(&paid, &Value::Logical(true), b"T"));
-    assert!(rt; writes(&paid, &Value::Logical(false), b"F"));
-    assert_eq!(rt; paid.letter.kind(), Kind::Logical);
-    assert_eq!(rt; paid.letter.code(), b'L');
+fn first_wrong<'a>(rows: &'a str) -> Option<&'a str> {
+    for row in rows.lines() {
+        if !is_right(row) {
+            return Some(row);
+        }
+    }
+    None
 }
 
 /// The field NAME C 10.
@@ -493,47 +473,46 @@ fn writes_a_row(table: &mut Table) -> bool {
         && lend_first(table, &text_value(b"Ann"))
 }
 
-#[test]
-fn a_table_of_one_row(rt: HostRuntime) -> Result<(), Fail> {
-    let mut table = no_rows(rt.alloc())?.ok_or("no fields")?;
-    assert!(rt; table.rows() == 0 && table.structure().fields().len() == 1);
-    assert!(rt; append(&mut table)? && writes_a_row(&mut table) && table.rows() == 1);
-    let bytes = written(rt.alloc(), &table)?;
-    assert!(rt; bytes.len() == 77 && are(bytes.as_slice(), 65, 77, b" Ann       \x1a"));
-    assert!(rt;
-        are(
-            bytes.as_slice(),
-            0,
-            12,
-            b"\x03\x58\x05\x09\x01\x00\x00\x00\x41\x00\x0b\x00"
-        )
-    );
-    let again = table_of(rt.alloc(), bytes.as_slice(), 1).ok_or("no table")?;
-    assert!(rt; again.rows() == 1);
-    Ok(())
+/// Whether a table without rows gets one and is written.
+fn gets_a_row(alloc: Global, table: &mut Table) -> Result<bool, AllocError> {
+    let empty = table.rows() == 0 && table.structure().fields().len() == 1;
+    let row = append(table)? && writes_a_row(table) && table.rows() == 1;
+    let bytes = written(alloc, table)?;
+    let front = b"\x03\x58\x05\x09\x01\x00\x00\x00\x41\x00\x0b\x00";
+    Ok(
+        empty
+            && row
+            && bytes.len() == 77
+            && are(bytes.as_slice(), 65, 77, b" Ann       \x1a")
+            && are(bytes.as_slice(), 0, 12, front)
+            && table_of(alloc, bytes.as_slice(), 1).is_some(),
+    )
 }
 
-#[test]
-fn stamps_have_years_from_1900_to_2155(rt: HostRuntime) -> Result<(), Fail> {
-    let day = |year| Day::from_parts(DayParts {
+fn a_table_of_one_row(alloc: Global) -> Result<bool, AllocError> {
+    match no_rows(alloc)? {
+        Some(mut table) => gets_a_row(alloc, &mut table),
+        None => Ok(false),
+    }
+}
+
+/// The ninth of May of a year.
+fn in_may(year: u16) -> Day {
+    let parts = DayParts {
         year,
         month: 5,
         day: 9,
-    })
-    .unwrap_or(Day::blank());
-    assert_eq!(rt; Stamp::of(day(1988)), Some(STAMP));
-    assert_eq!(rt; Stamp::of(day(1899)), None);
-    assert_eq!(rt;
-        Stamp::of(day(2155)),
-        Some(Stamp {
-            year: 255,
-            month: 5,
-            day: 9
-        })
-    );
-    assert_eq!(rt; Stamp::of(day(2156)), None);
-    assert_eq!(rt; Stamp::of(Day::blank()), None);
-    Ok(())
+    };
+    Day::from_parts(parts).unwrap_or(Day::blank())
+}
+
+fn stamps_have_years_from_1900_to_2155() -> bool {
+    let last = Stamp { year: 255, ..STAMP };
+    Stamp::of(in_may(1988)) == Some(STAMP)
+        && Stamp::of(in_may(1899)).is_none()
+        && Stamp::of(in_may(2155)) == Some(last)
+        && Stamp::of(in_may(2156)).is_none()
+        && Stamp::of(Day::blank()).is_none()
 }
 
 /// Four rows of one field K C 1, the first and the third marked.
@@ -545,15 +524,39 @@ fn four_rows(alloc: Global) -> Result<Vec<u8>, AllocError> {
     Ok(file)
 }
 
-#[test]
-fn pack_keeps_the_unmarked_rows(rt: HostRuntime) -> Result<(), Fail> {
-    let file = four_rows(rt.alloc())?;
-    let mut table = table_of(rt.alloc(), file.as_slice(), 4).ok_or("no table")?;
+/// Whether two of four rows are kept, and then none.
+fn packs(alloc: Global, table: &mut Table) -> Result<bool, AllocError> {
     table.pack();
-    let bytes = written(rt.alloc(), &table)?;
-    assert!(rt; bytes.len() == 70 && are(bytes.as_slice(), 65, 70, b" b d\x1a"));
-    assert!(rt; table.rows() == 2);
+    let bytes = written(alloc, table)?;
+    let two = table.rows() == 2;
     table.clear();
-    assert!(rt; table.rows() == 0 && table.structure().head().len() == 53);
+    Ok(
+        bytes.len() == 70
+            && are(bytes.as_slice(), 65, 70, b" b d\x1a")
+            && two
+            && table.rows() == 0
+            && table.structure().head().len() == 53,
+    )
+}
+
+fn pack_keeps_the_unmarked_rows(alloc: Global) -> Result<bool, AllocError> {
+    let file = four_rows(alloc)?;
+    match table_of(alloc, file.as_slice(), 4) {
+        Some(mut table) => packs(alloc, &mut table),
+        None => Ok(false),
+    }
+}
+
+#[test]
+fn tables_of_files(rt: HostRuntime) -> Result<(), Fail> {
+    let alloc = rt.alloc();
+    assert_eq!(rt; first_untold(alloc, FAULTS)?, None);
+    assert_eq!(rt; first_wrong(FIELDS), None);
+    assert!(rt; Letter::L.kind() == Kind::Logical && Letter::L.code() == b'L');
+    assert!(rt; seventy_bytes_are_a_table(alloc)? && a_byte_less_is_truncated(alloc)?);
+    assert!(rt; drops_bytes_behind(alloc)? && a_front_is_short(alloc)?);
+    assert!(rt; short_files_and_too_many_rows(alloc)? && a_name_comes_once(alloc)?);
+    assert!(rt; marks_stay(alloc)? && a_table_of_one_row(alloc)?);
+    assert!(rt; stamps_have_years_from_1900_to_2155() && pack_keeps_the_unmarked_rows(alloc)?);
     Ok(())
 }

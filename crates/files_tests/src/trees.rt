@@ -73,13 +73,11 @@ fn have_same_pairs<K: KeyList>(tree: &mut NdxTree, list: &mut K) -> bool {
     is_same(&left, &right)
 }
 
-#[test]
-fn answers_as_a_plain_list(rt: HostRuntime) -> Result<(), Fail> {
-    let mut tree = empty_tree(rt.alloc(), 2)?;
-    assert_eq!(rt; (tree.len(), tree.height()), (0, 1));
-    assert!(rt; tree.first().is_none() && tree.last().is_none());
-    assert_eq!(rt; first_difference(&mut tree)?, None);
-    Ok(())
+// Whether an empty tree answers as a plain list does.
+fn is_plain(tree: &mut NdxTree) -> Result<bool, AllocError> {
+    let empty = tree.len() == 0 && tree.height() == 1;
+    let none = tree.first().is_none() && tree.last().is_none();
+    Ok(empty && none && first_difference(tree)?.is_none())
 }
 
 // Puts pairs of one key in. Whether all could be put in.
@@ -121,15 +119,12 @@ fn long_key() -> [u8; 100] {
     [b'K'; 100]
 }
 
-#[test]
-fn grows_and_shrinks(rt: HostRuntime) -> Result<(), Fail> {
-    let mut tree = empty_tree(rt.alloc(), 100)?;
-    let key = long_key();
-    assert!(rt; put_all(&mut tree, &key, &[3, 1, 5, 2, 4])? && has_size(&mut tree, 5, 2));
-    assert!(rt; has_number(&tree.first(), 1) && has_number(&tree.last(), 5));
-    assert!(rt; are_neighbours(&mut tree, &key, &[1, 2, 3, 4]));
-    assert!(rt; go_out(&mut tree, &key, &[5, 2, 1, 4, 3]) && has_size(&mut tree, 0, 1));
-    Ok(())
+// Whether an empty tree grows and shrinks.
+fn grows(tree: &mut NdxTree, key: &[u8]) -> Result<bool, AllocError> {
+    let grown = put_all(tree, key, &[3, 1, 5, 2, 4])? && has_size(tree, 5, 2);
+    let ends = has_number(&tree.first(), 1) && has_number(&tree.last(), 5);
+    let between = are_neighbours(tree, key, &[1, 2, 3, 4]);
+    Ok(grown && ends && between && go_out(tree, key, &[5, 2, 1, 4, 3]) && has_size(tree, 0, 1))
 }
 
 // Whether a search found the record, and looked at so many pages.
@@ -149,13 +144,24 @@ fn looks_at_two(tree: &mut NdxTree, key: &[u8]) -> bool {
     all && found_in(tree, &last, 30, 2)
 }
 
-#[test]
-fn looks_at_one_page_a_level(rt: HostRuntime) -> Result<(), Fail> {
-    let mut tree = empty_tree(rt.alloc(), 10)?;
+// Whether a search among thirty records of one key looks at one page a level.
+fn looks_at_one_page(tree: &mut NdxTree, key: &[u8]) -> Result<bool, AllocError> {
     for number in 1..31 {
-        assert!(rt; put(&mut tree, b"SMITH     ", number)?);
+        if !put(tree, key, number)? {
+            return Ok(false);
+        }
     }
-    assert!(rt; tree.height() == 2 && looks_at_two(&mut tree, b"SMITH     "));
+    Ok(tree.height() == 2 && looks_at_two(tree, key))
+}
+
+#[test]
+fn trees_grow_and_are_searched(rt: HostRuntime) -> Result<(), Fail> {
+    let mut plain = empty_tree(rt.alloc(), 2)?;
+    assert!(rt; is_plain(&mut plain)?);
+    let mut tree = empty_tree(rt.alloc(), 100)?;
+    assert!(rt; grows(&mut tree, &long_key())?);
+    let mut smiths = empty_tree(rt.alloc(), 10)?;
+    assert!(rt; looks_at_one_page(&mut smiths, b"SMITH     ")?);
     Ok(())
 }
 
@@ -221,14 +227,18 @@ fn comes_back(alloc: Global, tree: &NdxTree, list: &mut SortedKeys) -> Result<bo
     }
 }
 
+// Whether both lists answer the same, and the tree grows and comes back.
+fn is_sorted(alloc: Global, tree: &mut NdxTree, list: &mut SortedKeys) -> Result<bool, AllocError> {
+    let (difference, highest) = compare(tree, list)?;
+    let same = difference.is_none() && highest >= 4 && have_same_pairs(tree, list);
+    Ok(same && comes_back(alloc, tree, list)?)
+}
+
 #[test]
 fn answers_as_a_sorted_vector(rt: HostRuntime) -> Result<(), Fail> {
     let mut tree = empty_tree(rt.alloc(), 100)?;
     let mut list = empty_vector(rt.alloc(), 100)?;
-    let (difference, highest) = compare(&mut tree, &mut list)?;
-    assert_eq!(rt; difference, None);
-    assert!(rt; highest >= 4 && have_same_pairs(&mut tree, &mut list));
-    assert!(rt; comes_back(rt.alloc(), &tree, &mut list)?);
+    assert!(rt; is_sorted(rt.alloc(), &mut tree, &mut list)?);
     Ok(())
 }
 
@@ -256,8 +266,10 @@ fn leaf() -> [u8; 44] {
 
 // Whether a page is these bytes and zeros.
 fn is_page(page: &[u8], front: &[u8]) -> bool {
-    page.strip_prefix(front)
-        .is_some_and(|rest| rest.iter().all(|byte| *byte == 0))
+    match page.strip_prefix(front) {
+        Some(rest) => rest.iter().all(|byte| *byte == 0),
+        None => false,
+    }
 }
 
 // Whether the bytes are the index file of the three rows.
@@ -282,15 +294,6 @@ fn reads_as_three(alloc: Global, bytes: &[u8]) -> bool {
                 && has_number(&tree.last(), 1)
         }
     }
-}
-
-#[test]
-fn writes_an_index_of_three_rows(rt: HostRuntime) -> Result<(), Fail> {
-    let tree = three(rt.alloc())?;
-    let bytes = written(&tree, rt.alloc())?;
-    assert!(rt; is_file_of_three(&bytes));
-    assert!(rt; reads_as_three(rt.alloc(), &bytes));
-    Ok(())
 }
 
 // Changes of that file, each a place and the byte that is put there, and what is told.
@@ -335,13 +338,17 @@ fn first_untold(
     Ok(None)
 }
 
+// Whether the tree of three rows is written byte for byte, and each fault of its file is told.
+fn is_written(alloc: Global, tree: &NdxTree) -> Result<bool, AllocError> {
+    let bytes = written(tree, alloc)?;
+    let file = is_file_of_three(&bytes) && reads_as_three(alloc, &bytes);
+    Ok(file && first_untold(alloc, tree, changes().as_slice())?.is_none())
+}
+
 #[test]
-fn tells_the_first_fault(rt: HostRuntime) -> Result<(), Fail> {
+fn three_rows(rt: HostRuntime) -> Result<(), Fail> {
     let tree = three(rt.alloc())?;
-    assert_eq!(rt;
-        first_untold(rt.alloc(), &tree, changes().as_slice())?,
-        None
-    );
+    assert!(rt; is_written(rt.alloc(), &tree)?);
     Ok(())
 }
 
@@ -372,12 +379,19 @@ fn chain_once(alloc: Global, pages: u8) -> Result<Vec<u8>, AllocError> {
     Ok(bytes)
 }
 
+fn is_empty(alloc: Global, bytes: &[u8]) -> bool {
+    match read(alloc, bytes) {
+        Ok(mut tree) => has_size(&mut tree, 0, 1),
+        Err(_) => false,
+    }
+}
+
 #[test]
 fn twenty_pages_deep(rt: HostRuntime) -> Result<(), Fail> {
     let bytes = chain(rt.alloc(), 20)?;
-    assert!(rt; read(rt.alloc(), &bytes).is_ok_and(|mut tree| has_size(&mut tree, 0, 1)));
     let deeper = chain(rt.alloc(), 21)?;
-    assert!(rt; fault_of(rt.alloc(), &deeper) == Some(TreeFault::Depth));
+    let fault = fault_of(rt.alloc(), &deeper);
+    assert!(rt; is_empty(rt.alloc(), &bytes) && fault == Some(TreeFault::Depth));
     Ok(())
 }
 
@@ -424,12 +438,16 @@ fn five(alloc: Global) -> Result<NdxTree, AllocError> {
     Ok(tree)
 }
 
+fn counts_each_byte(alloc: Global, tree: &mut NdxTree) -> Result<bool, AllocError> {
+    let mut bytes = written(tree, alloc)?;
+    let long = bytes.len() == 4 * PAGE;
+    Ok(long && first_wrong_byte(alloc, &mut bytes, tree).is_none())
+}
+
 #[test]
 fn every_byte_counts_or_is_free(rt: HostRuntime) -> Result<(), Fail> {
     let mut tree = five(rt.alloc())?;
-    let mut bytes = written(&tree, rt.alloc())?;
-    assert!(rt; bytes.len() == 4 * PAGE);
-    assert_eq!(rt; first_wrong_byte(rt.alloc(), &mut bytes, &mut tree), None);
+    assert!(rt; counts_each_byte(rt.alloc(), &mut tree)?);
     Ok(())
 }
 

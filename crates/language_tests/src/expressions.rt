@@ -1,15 +1,11 @@
 //! Expressions, their trees and their faults.
 
-use crate::texts::{Nest, nested};
-use prg_expr::{
-    ParseFault, ParseFaultKind, ParseRefusal, expr, expression, is_word, name_of, words,
-};
+use prg_expr::{ParseFault, ParseRefusal, expr, expression, is_word, name_of, words};
 use std::alloc::{AllocError, Global};
-use std::process::Abort;
 use std::test::Fail;
 
 /// How an expression is shown, or its fault.
-fn shown(alloc: Global, text: &[u8]) -> Result<String, AllocError> {
+pub(crate) fn shown(alloc: Global, text: &[u8]) -> Result<String, AllocError> {
     match expr(alloc, text) {
         Ok(tree) => format!(in alloc; "{tree:?}"),
         Err(ParseRefusal::Fault(ParseFault { line, kind })) => format!(in alloc; "{line} {kind:?}"),
@@ -17,27 +13,17 @@ fn shown(alloc: Global, text: &[u8]) -> Result<String, AllocError> {
     }
 }
 
-/// The fault of a text.
-fn fault_of(alloc: Global, text: &[u8]) -> Option<ParseFaultKind> {
+/// Whether a text is an expression, or its fault.
+pub(crate) fn verdict(alloc: Global, text: &[u8]) -> Result<String, AllocError> {
     match expr(alloc, text) {
-        Err(ParseRefusal::Fault(ParseFault { line: 1, kind })) => Some(kind),
-        _ => None,
+        Ok(_) => String::from_str(alloc, "fine"),
+        Err(ParseRefusal::Fault(ParseFault { line, kind })) => format!(in alloc; "{line} {kind:?}"),
+        Err(ParseRefusal::Memory) => String::from_str(alloc, "memory"),
     }
-}
-
-/// Each row has a text, `|`, and what its tree or fault is shown as, or how that begins.
-fn expect_rows(rt: &impl Abort, alloc: Global, table: &str) -> Result<(), Fail> {
-    for row in table.lines() {
-        let (text, wanted) = row.split_once('|').ok_or("no row")?;
-        let found = shown(alloc, text.as_bytes())?;
-        assert!(rt; found.as_str().starts_with(wanted), "{found}");
-    }
-    Ok(())
 }
 
 /// How operators group.
-fn trees() -> &'static str {
-    "\
+pub(crate) const TREES: &str = "\
      A-B-C|Binary(Minus, Binary(Minus, Name([65]), Name([66])), Name([67]))\n\
      (A-B)-C|Binary(Minus, Parentheses(Binary(Minus, Name([65]), Name([66]))), Name([67]))\n\
      A-(B-C)|Binary(Minus, Name([65]), Parentheses(Binary(Minus, Name([66]), Name([67]))))\n\
@@ -78,17 +64,10 @@ fn trees() -> &'static str {
      -a|Prefixed(Negative, Name([65]))\n\
      +a|Prefixed(Positive, Name([65]))\n\
      .Not.a|Prefixed(Not, Name([65]))\n\
-    "
-}
-
-#[test]
-fn groups(rt: HostRuntime) -> Result<(), Fail> {
-    expect_rows(&rt, rt.alloc(), trees())
-}
+    ";
 
 /// Functions by their names, whole or cut.
-fn calls() -> &'static str {
-    "\
+pub(crate) const CALLS: &str = "\
      len(T)|Call(Len, [\n\
      SUBSTR(T,1,2)|Call(Substr, [\n\
      Substr(T,1)|Call(Substr, [\n\
@@ -135,17 +114,10 @@ fn calls() -> &'static str {
      FOUND()|Call(Found, [])\n\
      DELETED()|Call(Deleted, [])\n\
      DATE( )|Call(Date, [])\n\
-    "
-}
-
-#[test]
-fn functions(rt: HostRuntime) -> Result<(), Fail> {
-    expect_rows(&rt, rt.alloc(), calls())
-}
+    ";
 
 /// Texts that spell nothing, and their faults.
-fn faults() -> &'static str {
-    "\
+pub(crate) const FAULTS: &str = "\
      A % B|1 Character\n\
      A ] B|1 Character\n\
      {1}|1 Character\n\
@@ -189,17 +161,10 @@ fn faults() -> &'static str {
      A + &X +|1 Macro\n\
      (1 + &X|1 Macro\n\
      X &Y|1 Macro\n\
-    "
-}
-
-#[test]
-fn tells_faults(rt: HostRuntime) -> Result<(), Fail> {
-    expect_rows(&rt, rt.alloc(), faults())
-}
+    ";
 
 /// Two spellings of one tree a row.
-fn sames() -> &'static str {
-    "\
+pub(crate) const SAMES: &str = "\
      .Y.|.T.\n\
      .n.|.F.\n\
      .t.|.T.\n\
@@ -213,149 +178,74 @@ fn sames() -> &'static str {
      subs([A],1)|SUBSTR('A',1)\n\
      rtri(a)|TRIM(A)\n\
      m->total|M -> TOTAL\n\
-    "
-}
+    ";
 
-#[test]
-fn same_tree(rt: HostRuntime) -> Result<(), Fail> {
-    for row in sames().lines() {
-        let (first, second) = row.split_once('|').ok_or("no row")?;
-        let first = shown(rt.alloc(), first.as_bytes())?;
-        let second = shown(rt.alloc(), second.as_bytes())?;
-        assert!(rt;
-            first.as_str() == second.as_str(),
-            "{first} is not {second}"
-        );
+/// How deep expressions are nested, and how long names, expressions and texts may be. What is `refused` has any fault.
+pub(crate) const LENGTHS: &str = "\
+     `32 (`1`32 )`|fine\n\
+     `33 (`1`33 )`|1 TooDeep\n\
+     `32 ABS(`1`32 )`|fine\n\
+     `33 ABS(`1`33 )`|1 TooDeep\n\
+     `31 (`EOF()`31 )`|fine\n\
+     `32 (`EOF()`32 )`|1 TooDeep\n\
+     `10 X`|fine\n\
+     `11 X`|1 TooLong\n\
+     `1023  `1|fine\n\
+     `1024  `1|1 TooLong\n\
+     `1024  `1 2|1 Expression\n\
+     `5000  `1 2|1 Expression\n\
+     `5000  `!|1 Character\n\
+     `1023 -`X|fine\n\
+     `511 1+`1|fine\n\
+     `100000 -`X|1 TooLong\n\
+     '`127 a `'|fine\n\
+     [a`127 a `]|1 TooLong\n\
+     `100000 (`|refused\n\
+     `100000 -`|refused\n\
+     `100000 '`|refused\n\
+     `100000 1`|refused\n\
+     `100000 X`|refused\n\
+     `100000 &`|refused\n\
+     `100000 .`|refused\n\
+     `100000  `|refused\n\
+    ";
+
+/// The first byte that by itself is no character of expressions and should be, or is one and shouldn't.
+fn first_misjudged(alloc: Global) -> Result<Option<u8>, AllocError> {
+    let begins: &[u8] = b" \t'\"[.&()*+,-/<=>#$?@";
+    for b in 0..=255u8 {
+        let known = b.is_ascii_alphanumeric() || begins.contains(&b);
+        let found = verdict(alloc, &[b])?;
+        if (found.as_str() == "1 Character") == known {
+            return Ok(Some(b));
+        }
     }
-    Ok(())
-}
-
-/// Whether each text, nested so, has this fault, or none.
-fn expect_nests(
-    rt: &impl Abort,
-    alloc: Global,
-    nests: &[(Nest<'_>, Option<ParseFaultKind>)],
-) -> Result<(), Fail> {
-    for pair in nests {
-        let text = nested(alloc, &pair.0)?;
-        let times = pair.0.times;
-        assert!(rt; fault_of(alloc, &text) == pair.1, "{times}");
-    }
-    Ok(())
-}
-
-fn nest<'a>(open: &'a [u8], times: usize, inner: &'a [u8], close: &'a [u8]) -> Nest<'a> {
-    Nest {
-        front: b"",
-        open,
-        times,
-        inner,
-        close,
-    }
-}
-
-#[test]
-fn counts_parentheses(rt: HostRuntime) -> Result<(), Fail> {
-    let nests = [
-        (nest(b"(", 32, b"1", b")"), None),
-        (nest(b"(", 33, b"1", b")"), Some(ParseFaultKind::TooDeep)),
-        (nest(b"ABS(", 32, b"1", b")"), None),
-        (nest(b"ABS(", 33, b"1", b")"), Some(ParseFaultKind::TooDeep)),
-        (nest(b"(", 31, b"EOF()", b")"), None),
-        (
-            nest(b"(", 32, b"EOF()", b")"),
-            Some(ParseFaultKind::TooDeep),
-        ),
-    ];
-    expect_nests(&rt, rt.alloc(), &nests)
-}
-
-#[test]
-fn counts_bytes(rt: HostRuntime) -> Result<(), Fail> {
-    let nests = [
-        (nest(b"X", 10, b"", b""), None),
-        (nest(b"X", 11, b"", b""), Some(ParseFaultKind::TooLong)),
-        (nest(b" ", 1023, b"1", b""), None),
-        (nest(b" ", 1024, b"1", b""), Some(ParseFaultKind::TooLong)),
-        (
-            nest(b" ", 1024, b"1 2", b""),
-            Some(ParseFaultKind::Expression),
-        ),
-        (
-            nest(b" ", 5000, b"1 2", b""),
-            Some(ParseFaultKind::Expression),
-        ),
-        (nest(b" ", 5000, b"!", b""), Some(ParseFaultKind::Character)),
-        (nest(b"-", 1023, b"X", b""), None),
-        (nest(b"1+", 511, b"1", b""), None),
-        (
-            nest(b"-", 100_000, b"X", b""),
-            Some(ParseFaultKind::TooLong),
-        ),
-    ];
-    expect_nests(&rt, rt.alloc(), &nests)
-}
-
-#[test]
-fn counts_bytes_of_texts(rt: HostRuntime) -> Result<(), Fail> {
-    let alloc = rt.alloc();
-    let inner = nested(alloc, &nest(b"a ", 127, b"", b""))?;
-    let text = nested(alloc, &nest(b"'", 1, &inner, b"'"))?;
-    assert!(rt; fault_of(alloc, &text).is_none());
-    let text = nested(alloc, &nest(b"[a", 1, &inner, b"]"))?;
-    assert!(rt; fault_of(alloc, &text) == Some(ParseFaultKind::TooLong));
-    Ok(())
-}
-
-#[test]
-fn answers_long_texts(rt: HostRuntime) -> Result<(), Fail> {
-    for part in [b"(", b"-", b"'", b"1", b"X", b"&", b".", b" "] {
-        let text = nested(rt.alloc(), &nest(part, 100_000, b"", b""))?;
-        assert!(rt; expr(rt.alloc(), &text).is_err());
-    }
-    Ok(())
+    Ok(None)
 }
 
 #[test]
 fn judges_every_byte(rt: HostRuntime) -> Result<(), Fail> {
-    let begins: &[u8] = b" \t'\"[.&()*+,-/<=>#$?@";
-    for b in 0..=255u8 {
-        let known = b.is_ascii_alphanumeric() || begins.contains(&b);
-        let is_strange = fault_of(rt.alloc(), &[b]) == Some(ParseFaultKind::Character);
-        assert!(rt; is_strange != known, "{b}");
-    }
-    assert!(rt; fault_of(rt.alloc(), b"") == Some(ParseFaultKind::Expression));
-    assert!(rt; fault_of(rt.alloc(), b"A\x80") == Some(ParseFaultKind::Character));
+    assert_eq!(rt; first_misjudged(rt.alloc())?, None);
+    assert!(rt; verdict(rt.alloc(), b"")?.as_str() == "1 Expression");
+    assert!(rt; verdict(rt.alloc(), b"A\x80")?.as_str() == "1 Character");
     Ok(())
 }
 
 /// The words of a line, as they are shown.
-fn words_shown(alloc: Global, line: &[u8]) -> Result<String, AllocError> {
+pub(crate) fn words_shown(alloc: Global, line: &[u8]) -> Result<String, AllocError> {
     let line = words(alloc, line)?;
     format!(in alloc; "{line:?}")
 }
 
 /// Lines and their words.
-fn lines_of_words() -> &'static str {
-    "\
+pub(crate) const LINES_OF_WORDS: &str = "\
      ?? X, @ && 'A|Line { words: [ShowOn, Name([88]), Comma, At], fault: None }\n\
      ? &X|Line { words: [Show, Macro, Name([88])], fault: Some(Macro) }\n\
      a->b<=1.5|Line { words: [Name([97]), Arrow, Name([98]), Operator(AtMost), Number([49, 46, 53])], fault: None }\n\
      [a'b] %.t.|Line { words: [Text([97, 39, 98]), Faulty, Logical(true)], fault: Some(Character) }\n\
      .(.|Line { words: [Point, Open, Point], fault: None }\n\
      'a|Line { words: [Text([97])], fault: Some(Text) }\n\
-    "
-}
-
-#[test]
-fn words_of_lines(rt: HostRuntime) -> Result<(), Fail> {
-    for row in lines_of_words().lines() {
-        let (line, wanted) = row.split_once('|').ok_or("no row")?;
-        let found = words_shown(rt.alloc(), line.as_bytes())?;
-        assert!(rt; found.as_str() == wanted, "{found}");
-    }
-    Ok(())
-}
+    ";
 
 /// How many words stand behind the expression at the front.
 fn words_behind(alloc: Global, line: &[u8]) -> Option<usize> {

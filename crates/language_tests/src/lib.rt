@@ -8,4 +8,6 @@ mod lines;
 #[cfg(test)]
 mod programs;
 #[cfg(test)]
+mod rows;
+#[cfg(test)]
 mod texts;

@@ -4,14 +4,13 @@ use prg_line::{ParseFaultKind, least, read_line};
 use std::alloc::{AllocError, Global};
 use std::test::Fail;
 
-fn shown(alloc: Global, line: &[u8]) -> Result<String, AllocError> {
+pub(crate) fn shown(alloc: Global, line: &[u8]) -> Result<String, AllocError> {
     let read = read_line(alloc, line)?;
     format!(in alloc; "{read:?}")
 }
 
 /// Lines and what is read of them.
-fn lines() -> &'static str {
-    "\
+pub(crate) const LINES: &str = "\
      clea|ReadLine { role: Plain, fault: None, sentence: Whole(Clear) }\n\
      SELECT 10 && the last area|ReadLine { role: Plain, fault: None, sentence: Whole(Select { area: Number(10) }) }\n\
      LOOP|ReadLine { role: Leap, fault: None, sentence: Whole(Loop) }\n\
@@ -22,18 +21,7 @@ fn lines() -> &'static str {
      IF|ReadLine { role: If, fault: Some(Expression), sentence: Nothing }\n\
      ELSE %|ReadLine { role: Else, fault: Some(Character), sentence: Nothing }\n\
      READ X12345678901|ReadLine { role: Plain, fault: Some(Word), sentence: Nothing }\n\
-    "
-}
-
-#[test]
-fn reads_lines(rt: HostRuntime) -> Result<(), Fail> {
-    for row in lines().lines() {
-        let (line, wanted) = row.split_once('|').ok_or("no row")?;
-        let found = shown(rt.alloc(), line.as_bytes())?;
-        assert!(rt; found.as_str() == wanted, "{found}");
-    }
-    Ok(())
-}
+    ";
 
 #[test]
 fn tells_the_lesser_fault(rt: HostRuntime) -> Result<(), Fail> {

@@ -1,9 +1,7 @@
 //! Command files, and the trees or faults that they give.
 
-use crate::texts::{Nest, bytes_of, nested};
 use prg_parser::{Form, ParseRefusal, Program, Text, line_faults, parse};
 use std::alloc::{AllocError, Global};
-use std::process::Abort;
 use std::test::Fail;
 
 /// The only command of a file, as it is shown.
@@ -19,7 +17,7 @@ fn command_shown(alloc: Global, program: &Program) -> Result<String, AllocError>
 }
 
 /// The only command of a file as it is shown, or the file's fault.
-fn shown(alloc: Global, file: &[u8]) -> Result<String, AllocError> {
+pub(crate) fn shown(alloc: Global, file: &[u8]) -> Result<String, AllocError> {
     match parse(alloc, file) {
         Ok(program) => command_shown(alloc, &program),
         Err(ParseRefusal::Fault(fault)) => {
@@ -31,20 +29,8 @@ fn shown(alloc: Global, file: &[u8]) -> Result<String, AllocError> {
     }
 }
 
-/// Each row has a file, in which `~` ends lines, `|`, and how its command or fault is shown.
-fn expect_rows(rt: &impl Abort, alloc: Global, table: &str) -> Result<(), Fail> {
-    for row in table.lines() {
-        let (example, wanted) = row.split_once('|').ok_or("no row")?;
-        let file = bytes_of(alloc, example)?;
-        let found = shown(alloc, &file)?;
-        assert!(rt; found.as_str() == wanted, "{found}");
-    }
-    Ok(())
-}
-
 /// The commands of one line.
-fn commands() -> &'static str {
-    "\
+pub(crate) const COMMANDS: &str = "\
      ?|Show { values: [] }\n\
      ? A, .T.|Show { values: [Name([65]), Logical(true)] }\n\
      ?? A|ShowOn { values: [Name([65])] }\n\
@@ -103,17 +89,10 @@ fn commands() -> &'static str {
      READ && the rest ;~'x' isn't read|Read\n\
      DO P WITH (X), X|Do { procedure: [80], arguments: [Parentheses(Name([88])), Name([88])] }\n\
      INDEX ON (K) TO I|IndexOn { key: Parentheses(Name([75])), index: [73] }\n\
-    "
-}
-
-#[test]
-fn reads_commands(rt: HostRuntime) -> Result<(), Fail> {
-    expect_rows(&rt, rt.alloc(), commands())
-}
+    ";
 
 /// Blocks.
-fn blocks() -> &'static str {
-    "\
+pub(crate) const BLOCKS: &str = "\
      IF A~READ~ENDIF|If { condition: Name([65]), then: [Command { line: 2, form: Statement(Read) }], otherwise: None, end: 3 }\n\
      IF A~ELSE~READ~ENDIF rest 'x|If { condition: Name([65]), then: [], otherwise: Some(Branch { line: 2, body: [Command { line: 3, form: Statement(Read) }] }), end: 4 }\n\
      DO WHILE A~LOOP~EXIT~ENDDO|DoWhile { condition: Name([65]), body: [Command { line: 2, form: Statement(Loop) }, Command { line: 3, form: Statement(Exit) }], end: 4 }\n\
@@ -121,17 +100,10 @@ fn blocks() -> &'static str {
      SCAN FOR A~READ~ENDSCAN|Scan { condition: Some(Name([65])), body: [Command { line: 2, form: Statement(Read) }], end: 3 }\n\
      DO CASE~SET TALK OFF~CASE A~READ~CASE B~OTHERWISE~ZAP~ENDCASE|DoCase { cases: [Case { line: 3, condition: Name([65]), body: [Command { line: 4, form: Statement(Read) }] }, Case { line: 5, condition: Name([66]), body: [] }], otherwise: Some(Branch { line: 6, body: [Command { line: 7, form: Statement(Zap) }] }), end: 8 }\n\
      DO CASE~ENDCASE|DoCase { cases: [], otherwise: None, end: 2 }\n\
-    "
-}
-
-#[test]
-fn reads_blocks(rt: HostRuntime) -> Result<(), Fail> {
-    expect_rows(&rt, rt.alloc(), blocks())
-}
+    ";
 
 /// Files with a fault, and files that say nothing or little.
-fn faults() -> &'static str {
-    "\
+pub(crate) const FAULTS: &str = "\
      X = = 3|1 Expression\n\
      ? \"AB|1 Text\n\
      ? 12345678901234567890|1 Number\n\
@@ -184,16 +156,10 @@ fn faults() -> &'static str {
      NOTES = .T.|Assign { variable: [78, 79, 84, 69, 83], value: Logical(true) }\n\
      SET TAL OFF|1 Word\n\
      SET PRINT ON|1 Word\n\
-    "
-}
-
-#[test]
-fn tells_faults(rt: HostRuntime) -> Result<(), Fail> {
-    expect_rows(&rt, rt.alloc(), faults())
-}
+    ";
 
 /// All faults of a file.
-fn listed(alloc: Global, file: &[u8]) -> Result<String, AllocError> {
+pub(crate) fn listed(alloc: Global, file: &[u8]) -> Result<String, AllocError> {
     let mut text = String::new(alloc);
     for fault in &line_faults(alloc, file)? {
         let line = fault.line;
@@ -203,34 +169,19 @@ fn listed(alloc: Global, file: &[u8]) -> Result<String, AllocError> {
     Ok(text)
 }
 
-/// Files with several faults.
-fn several_faults() -> &'static str {
-    "\
+/// Files with several faults. A faulty line still opens its block, and one that fits none changes nothing; within a
+/// block that is too deep no line is told for its place.
+pub(crate) const SEVERAL_FAULTS: &str = "\
      READ|\n\
      ? &X~IF A +~ENDIF|1 Macro; 2 Expression; \n\
      IF A~ELSE~ELSE~ENDIF~FOO|3 Block; 5 Word; \n\
      SCAN~IF A~PROCEDURE P~FOO|4 Word; 1 Block; 2 Block; \n\
      LOOP~DO CASE~? 1~IF 1 +~ENDIF~CASE 1 +~ENDCASE|1 Block; 3 Block; 4 Expression; 6 Expression; \n\
-    "
-}
-
-/// A faulty line still opens its block, and one that fits none changes nothing; within a block that is too deep no line
-/// is told for its place.
-#[test]
-fn lists_all_faults(rt: HostRuntime) -> Result<(), Fail> {
-    for row in several_faults().lines() {
-        let (example, wanted) = row.split_once('|').ok_or("no row")?;
-        let found = listed(rt.alloc(), &bytes_of(rt.alloc(), example)?)?;
-        assert!(rt; found.as_str() == wanted, "{found}");
-    }
-    let deep = nested(rt.alloc(), &nest(b"", b"IF A\n", 33, b"LOOP\n", b"ENDIF\n"))?;
-    let found = listed(rt.alloc(), &deep)?;
-    assert!(rt; found.as_str() == "33 TooDeep; ", "{found}");
-    Ok(())
-}
+     `33 IF A~`LOOP~`33 ENDIF~`|33 TooDeep; \n\
+    ";
 
 /// Whether a file is a program, or its fault.
-fn verdict(alloc: Global, file: &[u8]) -> Result<String, AllocError> {
+pub(crate) fn verdict(alloc: Global, file: &[u8]) -> Result<String, AllocError> {
     match parse(alloc, file) {
         Ok(_) => String::from_str(alloc, "a program"),
         Err(ParseRefusal::Fault(fault)) => {
@@ -242,81 +193,35 @@ fn verdict(alloc: Global, file: &[u8]) -> Result<String, AllocError> {
     }
 }
 
-/// Nested files, and the verdict on each.
-fn expect_nests(rt: &impl Abort, alloc: Global, nests: &[(Nest<'_>, &str)]) -> Result<(), Fail> {
-    for pair in nests {
-        let file = nested(alloc, &pair.0)?;
-        let found = verdict(alloc, &file)?;
-        assert!(rt; found.as_str() == pair.1, "{found}");
-    }
-    Ok(())
-}
-
-fn nest<'a>(
-    front: &'a [u8],
-    open: &'a [u8],
-    times: usize,
-    inner: &'a [u8],
-    close: &'a [u8],
-) -> Nest<'a> {
-    Nest {
-        front,
-        open,
-        times,
-        inner,
-        close,
-    }
-}
-
-#[test]
-fn counts_blocks_and_parentheses(rt: HostRuntime) -> Result<(), Fail> {
-    let nests = [
-        (nest(b"", b"IF A\n", 32, b"", b"ENDIF\n"), "a program"),
-        (nest(b"", b"IF A\n", 33, b"", b""), "33 TooDeep"),
-        (nest(b"", b"IF A\n", 32, b"DO CASE\n", b""), "33 TooDeep"),
-        (nest(b"? ", b"(", 32, b"A", b")"), "a program"),
-        (nest(b"? ", b"(", 33, b"", b""), "1 TooDeep"),
-        (
-            nest(b"", b"PROCEDURE P\n", 2000, b"IF A", b""),
-            "2001 Block",
-        ),
-    ];
-    expect_nests(&rt, rt.alloc(), &nests)
-}
-
-#[test]
-fn counts_bytes(rt: HostRuntime) -> Result<(), Fail> {
-    let nests = [
-        (nest(b"", b"", 0, b"", b""), "a program"),
-        (nest(b"", b" ", 1020, b"READ", b""), "a program"),
-        (nest(b"", b" ", 1021, b"READ", b""), "1 TooLong"),
-        (nest(b"", b" ", 1021, b"ELSE", b""), "1 Block"),
-        (nest(b"", b"*", 1025, b"", b""), "1 TooLong"),
-        (nest(b"? A", b" ", 509, b";\n", b" "), "a program"),
-        (nest(b"? A", b" ", 511, b";\n", b" "), "1 TooLong"),
-        (nest(b"", b";\n", 20000, b"", b""), "a program"),
-        (nest(b"", b"?;\n", 20000, b"", b""), "1 TooLong"),
-        (nest(b"?", b"-", 100_000, b"X", b""), "1 TooLong"),
-    ];
-    expect_nests(&rt, rt.alloc(), &nests)
-}
-
-/// However long a line is, a lesser fault of its form is told.
-#[test]
-fn judges_long_lines(rt: HostRuntime) -> Result<(), Fail> {
-    let nests = [
-        (nest(b"", b"FOO ", 1250, b"", b""), "1 Word"),
-        (nest(b"", b"READ;\n", 20000, b"", b""), "1 Word"),
-        (nest(b"", b"(", 200_000, b"", b""), "1 Word"),
-        (nest(b"?", b" ", 5000, b"1 2", b""), "1 Expression"),
-        (nest(b"PRIVATE ", b"A,", 5000, b"5", b""), "1 Word"),
-        (nest(b"PRIVATE ", b"A,", 5000, b"A", b""), "1 TooLong"),
-    ];
-    expect_nests(&rt, rt.alloc(), &nests)
-}
+/// Blocks and parentheses within one another, and long lines: however long a line is, a lesser fault of its form is
+/// told.
+pub(crate) const LENGTHS: &str = "\
+     `32 IF A~``32 ENDIF~`|a program\n\
+     `33 IF A~`|33 TooDeep\n\
+     `32 IF A~`DO CASE~|33 TooDeep\n\
+     ? `32 (`A`32 )`|a program\n\
+     ? `33 (`|1 TooDeep\n\
+     `2000 PROCEDURE P~`IF A|2001 Block\n\
+     |a program\n\
+     `1020  `READ|a program\n\
+     `1021  `READ|1 TooLong\n\
+     `1021  `ELSE|1 Block\n\
+     `1025 *`|1 TooLong\n\
+     ? A`509  `;~`509  `|a program\n\
+     ? A`511  `;~`511  `|1 TooLong\n\
+     `20000 ;~`|a program\n\
+     `20000 ?;~`|1 TooLong\n\
+     ?`100000 -`X|1 TooLong\n\
+     `1250 FOO `|1 Word\n\
+     `20000 READ;~`|1 Word\n\
+     `200000 (`|1 Word\n\
+     ?`5000  `1 2|1 Expression\n\
+     PRIVATE `5000 A,`5|1 Word\n\
+     PRIVATE `5000 A,`A|1 TooLong\n\
+    ";
 
 /// The lines of the commands of the main part and of the procedures, and the procedures' names.
-fn places(alloc: Global, file: &[u8]) -> Result<String, AllocError> {
+pub(crate) fn places(alloc: Global, file: &[u8]) -> Result<String, AllocError> {
     match parse(alloc, file) {
         Ok(program) => {
             let mut name = Text::new();
@@ -328,38 +233,38 @@ fn places(alloc: Global, file: &[u8]) -> Result<String, AllocError> {
     }
 }
 
-#[test]
-fn keeps_procedures_and_names(rt: HostRuntime) -> Result<(), Fail> {
-    let found = places(rt.alloc(), b"DO P\nPROCEDURE P\nREAD\nproc q\n")?;
-    assert!(rt; found.as_str() == program_shown(), "{found}");
-    Ok(())
+/// A file and its program.
+pub(crate) const PROGRAMS: &str =
+    "DO P~PROCEDURE P~READ~proc q~|Program { name: [65], main: [Command { line: 1, form: Statement(Do { procedure: [80], arguments: [] }) }], procedures: [Procedure { line: 2, name: [80], body: [Command { line: 3, form: Statement(Read) }] }, Procedure { line: 4, name: [81], body: [] }] }";
+
+/// The first byte that by itself is no character of command files and should be, or is one and shouldn't.
+fn first_misjudged(alloc: Global) -> Result<Option<u8>, AllocError> {
+    let begins: &[u8] = b"\t\n\x1a '\"[.&()*+,-/<=>#$?@;";
+    for byte in 0..=255u8 {
+        let known = byte.is_ascii_alphanumeric() || begins.contains(&byte);
+        let found = verdict(alloc, &[byte])?;
+        if (found.as_str() == "1 Character") == known {
+            return Ok(Some(byte));
+        }
+    }
+    Ok(None)
 }
 
-/// What that file is shown as.
-fn program_shown() -> &'static str {
-    "Program { name: [65], main: [Command { line: 1, form: Statement(Do { procedure: [80], arguments: [] }) }], procedures: [Procedure { line: 2, name: [80], body: [Command { line: 3, form: Statement(Read) }] }, Procedure { line: 4, name: [81], body: [] }] }"
+/// The first byte that ends a text and shouldn't, or doesn't end it and should.
+fn first_misjudged_in_a_text(alloc: Global) -> Result<Option<u8>, AllocError> {
+    let ends: &[u8] = b"\n\x1a'";
+    for byte in 0..=255u8 {
+        let found = verdict(alloc, &[b'?', b'\'', byte, b'\''])?;
+        if (found.as_str() == "1 Text") != ends.contains(&byte) {
+            return Ok(Some(byte));
+        }
+    }
+    Ok(None)
 }
 
 #[test]
 fn answers_each_byte(rt: HostRuntime) -> Result<(), Fail> {
-    let begins: &[u8] = b"\t\n\x1a '\"[.&()*+,-/<=>#$?@;";
-    for byte in 0..=255u8 {
-        let known = byte.is_ascii_alphanumeric() || begins.contains(&byte);
-        let found = verdict(rt.alloc(), &[byte])?;
-        assert!(rt; (found.as_str() == "1 Character") != known, "{byte}");
-    }
-    Ok(())
-}
-
-#[test]
-fn answers_texts_of_each_byte(rt: HostRuntime) -> Result<(), Fail> {
-    let ends: &[u8] = b"\n\x1a'";
-    for byte in 0..=255u8 {
-        let found = verdict(rt.alloc(), &[b'?', b'\'', byte, b'\''])?;
-        assert!(rt;
-            (found.as_str() == "1 Text") == ends.contains(&byte),
-            "{byte}"
-        );
-    }
+    assert_eq!(rt; first_misjudged(rt.alloc())?, None);
+    assert_eq!(rt; first_misjudged_in_a_text(rt.alloc())?, None);
     Ok(())
 }

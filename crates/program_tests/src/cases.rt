@@ -1,11 +1,12 @@
 // Command files compiled and run, from files to files.
 #![tactic(auto)]
 
-use super::stored::day_of;
+use super::parts::{RunCase, is_text};
+use super::stored::{came_to, run_case};
+use super::tables::{lay, put_file, table};
 use compile_commands::{CompileTold, CompileWords, compile_files};
-use file_access::{MemoryEntry, MemoryFiles, WORKS_FOR_EVER};
+use file_access::{MemoryFiles, WORKS_FOR_EVER};
 use file_commands::{list_index, list_table};
-use run_commands::{Job, RecordLimit, Report, run_files};
 use std::alloc::{AllocError, Global};
 
 /// The names of the declaration file, the command file, and the code that is made of them.
@@ -15,163 +16,19 @@ pub const SOURCE: &str = "MAIN.PRG";
 
 pub const CODE: &str = "MAIN.XBC";
 
-/// A command file over tables, and what a run of it comes to.
-#[derive(Clone, Copy)]
-pub struct RunCase<'a> {
-    pub declarations: &'a str,
-    pub source: &'a str,
-    /// The tables and indexes before the run.
-    pub files: &'a [MemoryEntry<'a>],
-    /// What the operator types.
-    pub typed: &'a str,
-    pub budget: u64,
-    /// The most records of a table.
-    pub limit: u32,
-    /// What is printed.
-    pub rows: &'a str,
-    /// How the end is told.
-    pub ended: &'a str,
-    /// The listings of these tables and indexes behind the run that saves.
-    pub listed: &'a [(&'a str, &'a str)],
+/// Makes the files of a case; whether that was done.
+pub fn laid(alloc: Global, files: &mut MemoryFiles<'_>, case: RunCase<'_>) -> bool {
+    let declarations = case.says("declarations\n").as_bytes();
+    let source = case.says("source\n").as_bytes();
+    put_file(files, DECLARATIONS, declarations)
+        && put_file(files, SOURCE, source)
+        && lay(alloc, files, case)
 }
 
-/// A case without tables and lines of the operator.
-pub fn printing<'a>(source: &'a str, rows: &'a str, ended: &'a str) -> RunCase<'a> {
-    RunCase {
-        declarations: "",
-        source,
-        files: &[],
-        typed: "",
-        budget: 1_000_000,
-        limit: 1_000_000,
-        rows,
-        ended,
-        listed: &[],
-    }
-}
-
-/// The files before a case is compiled.
-pub fn entries<'a>(alloc: Global, case: &RunCase<'a>) -> Result<Vec<MemoryEntry<'a>>, AllocError> {
-    let mut entries = Vec::new(alloc);
-    entries.push(MemoryEntry {
-        name: DECLARATIONS,
-        bytes: case.declarations.as_bytes(),
-    })?;
-    entries.push(MemoryEntry {
-        name: SOURCE,
-        bytes: case.source.as_bytes(),
-    })?;
-    entries.extend_from_slice(case.files)?;
-    Ok(entries)
-}
-
-/// Compiles a case; whether that was done.
-pub fn compiled(alloc: Global, files: &mut MemoryFiles<'_>) -> bool {
-    compile_files(alloc, files, DECLARATIONS, CODE, &[SOURCE]).is_ok()
-}
-
-/// Runs the code of a case.
-pub fn run_case(
-    alloc: Global,
-    files: &mut MemoryFiles<'_>,
-    case: &RunCase<'_>,
-    checked: bool,
-) -> Option<Report> {
-    let job = Job {
-        name: CODE,
-        checked,
-        budget: case.budget,
-        limit: RecordLimit::of(case.limit)?,
-        day: day_of(1985, 1, 1)?,
-        input: case.typed.as_bytes(),
-    };
-    Some(run_files(alloc, files, &job))
-}
-
-/// Whether a run printed and ended as the case says.
-fn is_as_said(alloc: Global, report: &Report, case: &RunCase<'_>) -> Result<bool, AllocError> {
-    let told = match &report.result {
-        Ok(ended) => ended.to_string(alloc)?,
-        Err(refusal) => refusal.told(CODE).to_string(alloc)?,
-    };
-    Ok(told.as_str() == case.ended && report.rows.as_slice() == case.rows.as_bytes())
-}
-
-/// The listing of a table or of an index; none where there is none.
-pub fn listing(alloc: Global, files: &mut MemoryFiles<'_>, name: &str) -> Option<Vec<u8>> {
-    if name.ends_with(".NDX") {
-        list_index(alloc, files, name).ok()
-    } else {
-        list_table(alloc, files, name).ok()
-    }
-}
-
-/// The first of the files that isn't listed so.
-fn first_unlisted<'a>(
-    alloc: Global,
-    files: &mut MemoryFiles<'_>,
-    listed: &[(&'a str, &'a str)],
-) -> Option<&'a str> {
-    for (name, lines) in listed {
-        match listing(alloc, files, name) {
-            Some(bytes) if bytes.as_slice() == lines.as_bytes() => {}
-            _ => return Some(name),
-        }
-    }
-    None
-}
-
-/// What isn't as the case says, run by the checking machine and then by the one without tags: nothing, or a word for
-/// it.
-pub fn wrong_in<'a>(alloc: Global, case: &RunCase<'a>) -> Result<Option<&'a str>, AllocError> {
-    let entries = entries(alloc, case)?;
-    let mut files = MemoryFiles::new(alloc, entries.as_slice(), WORKS_FOR_EVER);
-    if !compiled(alloc, &mut files) {
-        return Ok(Some("compile"));
-    }
-    let Some(checked) = run_case(alloc, &mut files, case, true) else {
-        return Ok(Some("job"));
-    };
-    if !is_as_said(alloc, &checked, case)? {
-        return Ok(Some("check-run"));
-    }
-    let Some(report) = run_case(alloc, &mut files, case, false) else {
-        return Ok(Some("job"));
-    };
-    if !is_as_said(alloc, &report, case)? {
-        return Ok(Some("run"));
-    }
-    Ok(first_unlisted(alloc, &mut files, case.listed))
-}
-
-/// The bytes of a file behind a run of a case that saves; empty where there are none.
-pub fn saved_bytes(alloc: Global, case: &RunCase<'_>, name: &str) -> Result<Vec<u8>, AllocError> {
-    let entries = entries(alloc, case)?;
-    let mut files = MemoryFiles::new(alloc, entries.as_slice(), WORKS_FOR_EVER);
-    if compiled(alloc, &mut files) {
-        run_case(alloc, &mut files, case, false);
-    }
-    match files.bytes_of(name) {
-        Some(bytes) => Vec::from_slice(alloc, bytes),
-        None => Ok(Vec::new(alloc)),
-    }
-}
-
-/// How the refusal of a case's command file is told; none where it is compiled.
-pub fn refused(alloc: Global, case: &RunCase<'_>) -> Result<Option<String>, AllocError> {
-    refused_on(alloc, case, WORKS_FOR_EVER)
-}
-
-/// The same on a device that works for so many calls.
-pub fn refused_on(
-    alloc: Global,
-    case: &RunCase<'_>,
-    calls: u64,
-) -> Result<Option<String>, AllocError> {
-    let entries = entries(alloc, case)?;
-    let mut files = MemoryFiles::new(alloc, entries.as_slice(), calls);
-    match compile_files(alloc, &mut files, DECLARATIONS, CODE, &[SOURCE]) {
-        Ok(()) => Ok(None),
+/// How the refusal of the command file is told; nothing where it is compiled.
+pub fn told_of_compiling(alloc: Global, files: &mut MemoryFiles<'_>) -> Result<String, AllocError> {
+    match compile_files(alloc, files, DECLARATIONS, CODE, &[SOURCE]) {
+        Ok(()) => Ok(String::new(alloc)),
         Err(refusal) => {
             let words = CompileWords {
                 decl: DECLARATIONS,
@@ -182,7 +39,124 @@ pub fn refused_on(
                 refusal: &refusal,
                 words,
             };
-            Ok(Some(told.to_string(alloc)?))
+            told.to_string(alloc)
         }
     }
+}
+
+/// Whether the compiler says just this.
+pub fn says_of_compiling(alloc: Global, files: &mut MemoryFiles<'_>, words: &str) -> bool {
+    is_text(told_of_compiling(alloc, files), words)
+}
+
+/// Makes the files of a case and compiles it; whether that was done.
+pub fn compiled(alloc: Global, files: &mut MemoryFiles<'_>, case: RunCase<'_>) -> bool {
+    laid(alloc, files, case) && says_of_compiling(alloc, files, "")
+}
+
+/// The file of the code of a case, if it has one.
+pub fn code_of(alloc: Global, case: RunCase<'_>) -> Option<Vec<u8>> {
+    let mut files = MemoryFiles::new(alloc, &[], WORKS_FOR_EVER);
+    if !compiled(alloc, &mut files, case) {
+        return None;
+    }
+    Vec::from_slice(alloc, files.bytes_of(CODE)?).ok()
+}
+
+fn runs_so(alloc: Global, files: &mut MemoryFiles<'_>, case: RunCase<'_>, checked: bool) -> bool {
+    let budget = case.number("budget ", 1_000_000);
+    match run_case(alloc, files, CODE, case, checked, budget) {
+        Some(report) => came_to(
+            alloc,
+            &report,
+            CODE,
+            case.says("rows\n"),
+            case.line("ended "),
+        ),
+        None => false,
+    }
+}
+
+/// Whether a table or an index is listed so; why it isn't stands for a list that there isn't.
+fn is_listed(
+    alloc: Global,
+    files: &mut MemoryFiles<'_>,
+    name: &str,
+    is_table: bool,
+    lines: &str,
+) -> bool {
+    let listed = if is_table {
+        list_table(alloc, files, name)
+    } else {
+        list_index(alloc, files, name)
+    };
+    match listed {
+        Ok(bytes) => bytes.as_slice() == lines.as_bytes(),
+        Err(refusal) => is_text(refusal.to_string(alloc), lines.trim_end()),
+    }
+}
+
+/// Whether the list that a part says, if it does, is that of its file.
+fn is_list(alloc: Global, files: &mut MemoryFiles<'_>, part: &str) -> bool {
+    let (line, lines) = part.split_once('\n').unwrap_or((part, ""));
+    if let Some(name) = line.strip_prefix("list ") {
+        return is_listed(alloc, files, name, true, lines);
+    }
+    match line.strip_prefix("keys ") {
+        Some(name) => is_listed(alloc, files, name, false, lines),
+        None => true,
+    }
+}
+
+/// Whether each table and index is listed as a case says.
+pub fn are_lists(alloc: Global, files: &mut MemoryFiles<'_>, case: RunCase<'_>) -> bool {
+    for part in case.own.split('%') {
+        if !is_list(alloc, files, part) {
+            return false;
+        }
+    }
+    true
+}
+
+/// The table of these fields and records with the first day of 1985 as its stamp.
+fn stamped(alloc: Global, columns: &str, records: &str) -> Result<Vec<u8>, AllocError> {
+    let mut bytes = table(alloc, columns, records)?;
+    if bytes.len() > 4 {
+        bytes[1..4].copy_from_slice(&[85, 1, 1]);
+    }
+    Ok(bytes)
+}
+
+/// Whether a table is saved as a case says, if it does, byte by byte.
+fn is_saved(alloc: Global, files: &MemoryFiles<'_>, case: RunCase<'_>) -> bool {
+    let (line, records) = case.says("saved ").split_once('\n').unwrap_or(("", ""));
+    let (name, columns) = line.split_once(' ').unwrap_or(("", ""));
+    if name.is_empty() {
+        return true;
+    }
+    match (files.bytes_of(name), stamped(alloc, columns, records)) {
+        (Some(bytes), Ok(wanted)) => bytes == wanted.as_slice() && has_length(bytes, case),
+        _ => false,
+    }
+}
+
+/// Whether a file is as long as a case says, if it says so.
+pub fn has_length(bytes: &[u8], case: RunCase<'_>) -> bool {
+    let length = bytes.len() as u64;
+    length == case.number("length ", length)
+}
+
+/// Whether a case comes to what it says, run by the checking machine and then by the one without tags.
+pub fn runs_well(alloc: Global, case: RunCase<'_>) -> bool {
+    let mut files = MemoryFiles::new(alloc, &[], WORKS_FOR_EVER);
+    if !laid(alloc, &mut files, case)
+        || !says_of_compiling(alloc, &mut files, case.line("refused "))
+    {
+        return false;
+    }
+    case.has("refused ")
+        || runs_so(alloc, &mut files, case, true)
+            && runs_so(alloc, &mut files, case, false)
+            && are_lists(alloc, &mut files, case)
+            && is_saved(alloc, &files, case)
 }

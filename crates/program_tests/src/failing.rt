@@ -1,15 +1,13 @@
 // The device fails in each call of a run in turn: the run says so, and the next one loads what is there.
 #![tactic(auto)]
 
-use super::cases::{RunCase, compiled, entries, refused_on, run_case};
-use super::moves::{endless, opened, reopened, shrinking};
-use super::records::{customer, keys, letters, of_t};
-use super::tables::table;
-use file_access::{MemoryEntry, MemoryFiles, WORKS_FOR_EVER};
+use super::cases::{CODE, compiled, laid, says_of_compiling};
+use super::parts::RunCase;
+use super::stored::run_case;
+use file_access::{MemoryFiles, WORKS_FOR_EVER};
 use file_commands::Status;
 use run_commands::Report;
-use std::alloc::{AllocError, Global};
-use std::test::Fail;
+use std::alloc::Global;
 
 /// Whether a run failed for the device.
 fn has_failed(report: &Report) -> bool {
@@ -19,108 +17,57 @@ fn has_failed(report: &Report) -> bool {
     }
 }
 
-/// Runs a case on a device that works for so many calls, and then on one that works; whether each run was refused for
-/// the device, or none where a run isn't to be had.
+/// Runs a case on a device that works for so many calls, and then on one that works; whether each run was refused, the
+/// first one for the device, or none where a run isn't to be had.
 fn failures(
     alloc: Global,
-    entries: &[MemoryEntry<'_>],
-    case: &RunCase<'_>,
+    files: &mut MemoryFiles<'_>,
+    case: RunCase<'_>,
     calls: u64,
 ) -> Option<(bool, bool)> {
-    let mut files = MemoryFiles::new(alloc, entries, WORKS_FOR_EVER);
-    if !compiled(alloc, &mut files) {
+    if !compiled(alloc, files, case) {
         return None;
     }
+    let budget = case.number("budget ", 1_000_000);
     files.work_for(calls);
-    let first = run_case(alloc, &mut files, case, false)?;
+    let first = run_case(alloc, files, CODE, case, false, budget)?;
     files.work_for(WORKS_FOR_EVER);
-    let second = run_case(alloc, &mut files, case, false)?;
+    let second = run_case(alloc, files, CODE, case, false, budget)?;
     Some((has_failed(&first), second.result.is_err()))
 }
 
-/// How many calls of the device a run of a case makes: with fewer it fails, and whenever it failed the next run loads.
-fn calls_of(alloc: Global, case: &RunCase<'_>) -> Result<Option<u64>, AllocError> {
-    let entries = entries(alloc, case)?;
-    for calls in 0..20 {
-        match failures(alloc, entries.as_slice(), case, calls) {
-            Some((true, false)) => {}
-            Some((false, false)) => return Ok(Some(calls)),
-            _ => return Ok(None),
+/// Whether a run of a case makes so many calls of the device: with fewer it fails, and whenever it failed the next run
+/// loads.
+fn makes_calls(alloc: Global, case: RunCase<'_>, wanted: u64) -> bool {
+    for calls in 0..=wanted {
+        let mut files = MemoryFiles::new(alloc, &[], WORKS_FOR_EVER);
+        if failures(alloc, &mut files, case, calls) != Some((calls < wanted, false)) {
+            return false;
         }
     }
-    Ok(None)
+    true
 }
 
-/// How many calls work before the first at which a compilation isn't told so.
-fn first_untold(
-    alloc: Global,
-    case: &RunCase<'_>,
-    words: &[&str],
-) -> Result<Option<usize>, AllocError> {
-    for (calls, word) in words.iter().enumerate() {
-        match refused_on(alloc, case, calls as u64)? {
-            Some(told) if told.as_str() == *word => {}
-            _ => return Ok(Some(calls)),
+/// Whether the compiler says this where the device works for so many calls.
+fn says_so(alloc: Global, case: RunCase<'_>, calls: u64, words: &str) -> bool {
+    let mut files = MemoryFiles::new(alloc, &[], WORKS_FOR_EVER);
+    let done = laid(alloc, &mut files, case);
+    files.work_for(calls);
+    done && says_of_compiling(alloc, &mut files, words)
+}
+
+/// Whether the compiler says what a case says of it, with each call of the device that fails in turn.
+fn tells_of_each(alloc: Global, case: RunCase<'_>) -> bool {
+    for (calls, words) in case.line("untold ").split('|').enumerate() {
+        if !says_so(alloc, case, calls as u64, words) {
+            return false;
         }
     }
-    Ok(None)
+    true
 }
 
-/// The declarations, the table that they name, the command file, and the code.
-#[test]
-fn tells_what_isnt_read_while_compiling(rt: HostRuntime) -> Result<(), Fail> {
-    let bytes = keys(rt.alloc(), 1, &letters())?;
-    let files = [of_t(&bytes)];
-    let words = [
-        "disk MAIN.DCL",
-        "disk T.DBF",
-        "disk MAIN.PRG",
-        "disk MAIN.XBC",
-    ];
-    assert_eq!(rt; first_untold(rt.alloc(), &reopened(&files), &words)?, None);
-    Ok(())
-}
-
-/// The code, the table, and the table again.
-#[test]
-fn customer_is_added_later(rt: HostRuntime) -> Result<(), Fail> {
-    let bytes = table(rt.alloc(), &[(b"NAME", b'C', 10, 0)], &[])?;
-    let files = [MemoryEntry {
-        name: "CUST.DBF",
-        bytes: &bytes,
-    }];
-    assert_eq!(rt; calls_of(rt.alloc(), &customer(&files))?, Some(3));
-    Ok(())
-}
-
-/// The code, the table and its index, and both again.
-#[test]
-fn keys_shrink_later(rt: HostRuntime) -> Result<(), Fail> {
-    let bytes = keys(rt.alloc(), 5, &[b"   998", b"   999"])?;
-    let files = [of_t(&bytes)];
-    assert_eq!(rt; calls_of(rt.alloc(), &shrinking(&files))?, Some(5));
-    Ok(())
-}
-
-#[test]
-fn index_is_made_anew_later(rt: HostRuntime) -> Result<(), Fail> {
-    let bytes = keys(rt.alloc(), 1, &letters())?;
-    let files = [of_t(&bytes)];
-    assert_eq!(rt; calls_of(rt.alloc(), &reopened(&files))?, Some(5));
-    Ok(())
-}
-
-#[test]
-fn index_is_mended_later(rt: HostRuntime) -> Result<(), Fail> {
-    let bytes = keys(rt.alloc(), 1, &letters())?;
-    let index = endless();
-    let files = [
-        of_t(&bytes),
-        MemoryEntry {
-            name: "KI.NDX",
-            bytes: &index,
-        },
-    ];
-    assert_eq!(rt; calls_of(rt.alloc(), &opened(&files))?, Some(5));
-    Ok(())
+/// Whether a device that fails leads to what a case says of it.
+pub fn tells_of_device(alloc: Global, case: RunCase<'_>) -> bool {
+    (!case.has("untold ") || tells_of_each(alloc, case))
+        && (!case.has("calls ") || makes_calls(alloc, case, case.number("calls ", 0)))
 }

@@ -12,21 +12,21 @@ mod cases;
 #[cfg(test)]
 mod codes;
 #[cfg(test)]
+mod command_files;
+#[cfg(test)]
 mod failing;
+#[cfg(test)]
+mod hand_codes;
 #[cfg(test)]
 mod listings;
 #[cfg(test)]
-mod moves;
-#[cfg(test)]
 mod operated;
 #[cfg(test)]
-mod records;
+mod parts;
+#[cfg(test)]
+mod respects;
 #[cfg(test)]
 mod resumed;
-#[cfg(test)]
-mod screens;
-#[cfg(test)]
-mod second;
 #[cfg(test)]
 mod sorted;
 #[cfg(test)]
@@ -34,8 +34,6 @@ mod stored;
 #[cfg(test)]
 mod tables;
 #[cfg(test)]
+mod talks;
+#[cfg(test)]
 mod tested;
-#[cfg(test)]
-mod three_rows;
-#[cfg(test)]
-mod values;

@@ -5,22 +5,18 @@ ghost use Rattle.std.specs.Prelude.{IfSome};
 ghost use Rattle.machine.specs.Twins.{Begins};
 ghost use Rattle.run_steps.specs.World.{World};
 
-use super::cases::{CODE, RunCase, compiled, entries};
-use super::moves::{first_smith, reopened, smiths};
-use super::records::{full, keys, letters, of_t, removed};
-use super::screens::typed;
-use super::stored::day_of;
+use super::cases::{CODE, compiled};
+use super::parts::{RunCase, are_bytes};
+use super::stored::{day_in, limit_in};
 use code_items::laws::legal_codes;
-use file_access::{MemoryEntry, MemoryFiles, WORKS_FOR_EVER};
+use file_access::{MemoryFiles, WORKS_FOR_EVER};
 use file_commands::read_code;
 use key_lists::KeyList;
 use machine::{Banks, resume, run};
 use ndx_tree::NdxTree;
-use run_commands::RecordLimit;
 use run_laws::laws::new_stores_fit;
 use run_steps::{End, Outcome};
-use std::alloc::{AllocError, Global};
-use std::test::Fail;
+use std::alloc::Global;
 use table_files::load;
 use text_lines::TypedLines;
 use xverify::{Verified, verify};
@@ -36,8 +32,8 @@ struct InParts {
 }
 
 /// The code of a case, accepted.
-fn accepted(alloc: Global, files: &mut MemoryFiles<'_>) -> Option<Verified> {
-    if !compiled(alloc, files) {
+fn accepted(alloc: Global, files: &mut MemoryFiles<'_>, case: RunCase<'_>) -> Option<Verified> {
+    if !compiled(alloc, files, case) {
         return None;
     }
     match read_code(alloc, files, CODE) {
@@ -51,15 +47,15 @@ fn begun(
     alloc: Global,
     files: &mut MemoryFiles<'_>,
     verified: &Verified,
-    case: &RunCase<'_>,
+    case: RunCase<'_>,
 ) -> Option<Banks<NdxTree>>
     ensures { IfSome result (λ banks. (w : World) × Begins verified.now w banks) }
 {
     legal_codes();
     new_stores_fit();
-    let limit = RecordLimit::of(case.limit)?.records();
-    let day = day_of(1985, 1, 1)?.day();
-    let Ok(bytes) = Vec::from_slice(alloc, case.typed.as_bytes()) else {
+    let limit = limit_in(case)?.records();
+    let day = day_in(case)?.day();
+    let Ok(bytes) = Vec::from_slice(alloc, case.says("typed\n").as_bytes()) else {
         return None;
     };
     let Ok(store) = load(alloc, files, &verified.code().declared.shape, limit) else {
@@ -96,15 +92,9 @@ fn in_parts(
 }
 
 /// A case's run in parts; none where it isn't to be had.
-fn parts_of(
-    alloc: Global,
-    entries: &[MemoryEntry<'_>],
-    case: &RunCase<'_>,
-    first: u64,
-    whole: u64,
-) -> Option<InParts> {
-    let mut files = MemoryFiles::new(alloc, entries, WORKS_FOR_EVER);
-    let verified = accepted(alloc, &mut files)?;
+fn parts_of(alloc: Global, case: RunCase<'_>, first: u64, whole: u64) -> Option<InParts> {
+    let mut files = MemoryFiles::new(alloc, &[], WORKS_FOR_EVER);
+    let verified = accepted(alloc, &mut files, case)?;
     let banks = begun(alloc, &mut files, &verified, case)?;
     Some(in_parts(alloc, &verified, banks, first, whole))
 }
@@ -118,82 +108,60 @@ fn took_its_steps(parts: &InParts, first: u64, whole: u64) -> bool {
     spent && stayed && parts.after.end == End::Finished && parts.after.steps == left
 }
 
-/// The first budget below its whole cost at which a case's run in parts isn't the whole one.
-fn first_other(alloc: Global, case: &RunCase<'_>, cost: u64) -> Result<Option<u64>, AllocError> {
-    let entries = entries(alloc, case)?;
+/// Whether a case's run in parts is the whole one.
+fn is_whole(alloc: Global, case: RunCase<'_>, first: u64, cost: u64) -> bool {
+    let Some(parts) = parts_of(alloc, case, first, cost) else {
+        return false;
+    };
+    took_its_steps(&parts, first, cost)
+        && are_bytes(parts.banks.finish(alloc), case.says("rows\n").as_bytes())
+}
+
+/// Whether a case's run in parts is the whole one for each first budget below its whole cost.
+fn goes_on(alloc: Global, case: RunCase<'_>) -> bool {
+    let cost = case.number("each ", 0);
     for first in 0..cost {
-        let Some(parts) = parts_of(alloc, entries.as_slice(), case, first, cost) else {
-            return Ok(Some(first));
-        };
-        let rows = parts.banks.finish(alloc)?;
-        if !took_its_steps(&parts, first, cost) || rows.as_slice() != case.rows.as_bytes() {
-            return Ok(Some(first));
+        if !is_whole(alloc, case, first, cost) {
+            return false;
         }
     }
-    Ok(None)
+    true
 }
 
-#[test]
-fn goes_on_with_lines(rt: HostRuntime) -> Result<(), Fail> {
-    assert_eq!(rt; first_other(rt.alloc(), &typed()[0], 10)?, None);
-    assert_eq!(rt; first_other(rt.alloc(), &typed()[1], 13)?, None);
-    Ok(())
-}
-
-#[test]
-fn goes_on_with_moves(rt: HostRuntime) -> Result<(), Fail> {
-    let bytes = smiths(rt.alloc())?;
-    let files = [MemoryEntry {
-        name: "P.DBF",
-        bytes: &bytes,
-    }];
-    assert_eq!(rt; first_other(rt.alloc(), &first_smith(&files), 48)?, None);
-    Ok(())
-}
-
-#[test]
-fn goes_on_with_changes(rt: HostRuntime) -> Result<(), Fail> {
-    let bytes = keys(rt.alloc(), 1, &letters())?;
-    let files = [of_t(&bytes)];
-    assert_eq!(rt; first_other(rt.alloc(), &reopened(&files), 23)?, None);
-    assert_eq!(rt; first_other(rt.alloc(), &removed(&files), 37)?, None);
-    Ok(())
-}
-
-/// A full table is full again, and nothing is added.
-#[test]
-fn full_again(rt: HostRuntime) -> Result<(), Fail> {
-    let bytes = keys(rt.alloc(), 1, &[])?;
-    let files = [of_t(&bytes)];
-    let case = full(&files);
-    let entries = entries(rt.alloc(), &case)?;
-    let parts = parts_of(rt.alloc(), entries.as_slice(), &case, 100, 100).ok_or("no run")?;
-    let (full, steps) = (End::Full(0), 3);
-    assert!(rt; parts.before == Outcome { end: full, steps });
-    assert!(rt;
-        parts.after
-            == Outcome {
-                end: full,
-                steps: 0
-            }
-    );
+/// Whether a full table is full again, and nothing is added.
+fn is_full_again(alloc: Global, case: RunCase<'_>) -> bool {
+    let Some(parts) = parts_of(alloc, case, 100, 100) else {
+        return false;
+    };
+    let end = End::Full(0);
     let store = parts.banks.store();
-    assert!(rt; store.is_open(1) && !store.is_open(2));
-    Ok(())
+    parts.before == Outcome { end, steps: 3 }
+        && parts.after == Outcome { end, steps: 0 }
+        && store.is_open(1)
+        && !store.is_open(2)
 }
 
-/// An index that was made anew on the way is open, and no other one.
-#[test]
-fn lends_open_indexes(rt: HostRuntime) -> Result<(), Fail> {
-    let bytes = keys(rt.alloc(), 1, &letters())?;
-    let files = [of_t(&bytes)];
-    let case = reopened(&files);
-    let entries = entries(rt.alloc(), &case)?;
-    let parts = parts_of(rt.alloc(), entries.as_slice(), &case, 15, 23).ok_or("no run")?;
-    let lengths = [(0, 0), (0, 1), (1, 0)].map(|(table, k)| {
-        let keys = parts.banks.open_keys(table, k)?;
-        Some(keys.len())
-    });
-    assert_eq!(rt; lengths, [Some(3), None, None]);
-    Ok(())
+/// How long an index is, if it is open.
+fn length_of(banks: &Banks<NdxTree>, table: u16, index: usize) -> Option<usize> {
+    let keys = banks.open_keys(table, index)?;
+    Some(keys.len())
+}
+
+/// Whether an index that was made anew on the way is open, and no other one.
+fn lends_open_indexes(alloc: Global, case: RunCase<'_>) -> bool {
+    match parts_of(alloc, case, 15, 23) {
+        Some(parts) => {
+            length_of(&parts.banks, 0, 0) == Some(3)
+                && length_of(&parts.banks, 0, 1).is_none()
+                && length_of(&parts.banks, 1, 0).is_none()
+        }
+        None => false,
+    }
+}
+
+/// Whether a case runs in parts as it says.
+pub fn runs_in_parts(alloc: Global, case: RunCase<'_>) -> bool {
+    (!case.has("parts") || goes_on(alloc, case))
+        && (!case.has("full again") || is_full_again(alloc, case))
+        && (!case.has("lends") || lends_open_indexes(alloc, case))
 }

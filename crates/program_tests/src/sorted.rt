@@ -4,10 +4,9 @@
 ghost use Rattle.std.specs.Prelude.{IsTrue, IsSome};
 ghost use Rattle.work_area.specs.Areas.{here};
 
-use super::cases::{CODE, RunCase, compiled, entries};
-use super::moves::{rekeyed, shrinking};
-use super::records::{keys, letters, of_t};
-use super::stored::day_of;
+use super::cases::{CODE, compiled};
+use super::parts::{RunCase, are_bytes, number_at};
+use super::stored::day_in;
 use code_items::laws::legal_codes;
 use dbf_file::{Table, read};
 use file_access::{MemoryFiles, WORKS_FOR_EVER};
@@ -15,7 +14,6 @@ use file_commands::read_code;
 use key_lists::SortedKeys;
 use run_laws::laws::new_stores_fit;
 use std::alloc::{AllocError, Global};
-use std::test::Fail;
 use tagged_machine::{End, Outcome, World, run_checked};
 use text_lines::TypedLines;
 use work_area::Store;
@@ -46,7 +44,7 @@ fn run_over(
     code: &LegalCode,
     tables: Vec<Table>,
     lists: Vec<Option<SortedKeys>>,
-    budget: u64,
+    case: RunCase<'_>,
 ) -> Option<(Outcome, World<SortedKeys>)> {
     legal_codes();
     new_stores_fit();
@@ -57,14 +55,14 @@ fn run_over(
     let Ok(store) = Store::new(alloc, shape, tables, lists, LIMIT) else {
         return None;
     };
-    let day = day_of(1985, 1, 1)?.day();
+    let day = day_in(case)?.day();
     let typed = TypedLines::new(Vec::new(alloc));
     let opened = World::opening(alloc, code, store, day, typed);
     let Ok(world) = opened else {
         return None;
     };
     let mut world = world;
-    let outcome = run_checked(alloc, code, &mut world, budget);
+    let outcome = run_checked(alloc, code, &mut world, case.number("budget ", 1_000_000));
     Some((outcome, world))
 }
 
@@ -75,87 +73,63 @@ fn is_open_here(store: &Store<SortedKeys>) -> bool
 }
 
 /// Whether the selected work area's pointer is at this record.
-fn points_to(store: &Store<SortedKeys>, record: u32) -> bool {
-    is_open_here(store) && store.recno() == record
+fn points_to(store: &Store<SortedKeys>, record: u64) -> bool {
+    is_open_here(store) && u64::from(store.recno()) == record
 }
 
-/// Whether the index isn't stale, and lists just these keys and records in this order.
-fn lists_just(store: &Store<SortedKeys>, pairs: &[(&[u8], u32)]) -> bool {
+/// Whether a line lists this key and this record.
+fn is_line(line: &str, key: &[u8], record: u32) -> bool {
+    let (number, text) = line.trim_start().split_once(' ').unwrap_or(("", ""));
+    number.parse() == Ok(record) && text.as_bytes() == key
+}
+
+/// Whether the index isn't stale, and its list is just this.
+fn lists_just(store: &Store<SortedKeys>, list: &str) -> bool {
     let Some(keys) = store.keys(0) else {
         return false;
     };
-    let entries = keys.pairs();
-    entries.len() == pairs.len()
-        && entries.iter().zip(pairs).all(|(entry, pair)| entry.key() == pair.0
-            && entry.number() == pair.1)
-}
-
-/// Where a run is to end, with its pointer, and what its index is to list.
-#[derive(Clone, Copy)]
-struct Wanted<'a> {
-    outcome: Outcome,
-    record: u32,
-    pairs: &'a [(&'a [u8], u32)],
-}
-
-/// Whether the run of a case over a table with these bytes prints and ends so.
-fn runs_so(
-    alloc: Global,
-    case: &RunCase<'_>,
-    bytes: &[u8],
-    wanted: &Wanted<'_>,
-) -> Result<bool, AllocError> {
-    let entries = entries(alloc, case)?;
-    let mut files = MemoryFiles::new(alloc, entries.as_slice(), WORKS_FOR_EVER);
-    if !compiled(alloc, &mut files) {
-        return Ok(false);
+    let mut lines = list.lines().skip(1);
+    for entry in keys.pairs() {
+        match lines.next() {
+            Some(line) if is_line(line, entry.key(), entry.number()) => {}
+            _ => return false,
+        }
     }
-    let Ok(code) = read_code(alloc, &mut files, CODE) else {
-        return Ok(false);
-    };
-    let Some((tables, lists)) = handed(alloc, bytes)? else {
-        return Ok(false);
-    };
-    let Some((outcome, world)) = run_over(alloc, &code, tables, lists, case.budget) else {
-        return Ok(false);
-    };
-    let rows = world.finish(alloc)?;
-    Ok(
-        outcome == wanted.outcome
-            && rows.as_slice() == case.rows.as_bytes()
-            && points_to(world.store(), wanted.record)
-            && lists_just(world.store(), wanted.pairs),
-    )
+    lines.next().is_none()
 }
 
-#[test]
-fn changes_a_key_under_its_order(rt: HostRuntime) -> Result<(), Fail> {
-    let bytes = keys(rt.alloc(), 1, &letters())?;
-    let files = [of_t(&bytes)];
-    let wanted = Wanted {
-        outcome: Outcome {
-            end: End::Finished,
-            steps: 13,
-        },
-        record: 1,
-        pairs: &[(b"B", 2), (b"C", 3), (b"Z", 1)],
+/// Whether a run ended as a case says.
+fn has_ended(outcome: Outcome, case: RunCase<'_>) -> bool {
+    let ended = case.line("ended ");
+    let word = match outcome.end {
+        End::Finished => "finished",
+        End::Spent => "spent",
+        _ => "",
     };
-    assert!(rt; runs_so(rt.alloc(), &rekeyed(&files), &bytes, &wanted)?);
-    Ok(())
+    ended.split_whitespace().next() == Some(word) && number_at(ended, 1) == outcome.steps
 }
 
-#[test]
-fn scans_along_changing_keys(rt: HostRuntime) -> Result<(), Fail> {
-    let bytes = keys(rt.alloc(), 5, &[b"   998", b"   999"])?;
-    let files = [of_t(&bytes)];
-    let wanted = Wanted {
-        outcome: Outcome {
-            end: End::Spent,
-            steps: 199,
-        },
-        record: 2,
-        pairs: &[(b"  986", 2), (b"  987", 1)],
-    };
-    assert!(rt; runs_so(rt.alloc(), &shrinking(&files), &bytes, &wanted)?);
-    Ok(())
+/// Whether a world is left as a case says.
+fn is_left(alloc: Global, world: &World<SortedKeys>, case: RunCase<'_>) -> bool {
+    are_bytes(world.finish(alloc), case.says("rows\n").as_bytes())
+        && points_to(world.store(), case.number("sorted ", 0))
+        && lists_just(world.store(), case.says("keys KI.NDX\n"))
+}
+
+/// Whether the run of a case over sorted keys prints, ends and leaves what it says.
+fn runs_so(alloc: Global, files: &mut MemoryFiles<'_>, case: RunCase<'_>) -> Option<bool> {
+    if !compiled(alloc, files, case) {
+        return None;
+    }
+    let code = read_code(alloc, files, CODE).ok()?;
+    let bytes = files.bytes_of("T.DBF")?;
+    let (tables, lists) = handed(alloc, bytes).ok()??;
+    let (outcome, world) = run_over(alloc, &code, tables, lists, case)?;
+    Some(has_ended(outcome, case) && is_left(alloc, &world, case))
+}
+
+/// Whether the run of a case over sorted keys comes to what it says of it.
+pub fn runs_over_sorted_keys(alloc: Global, case: RunCase<'_>) -> bool {
+    let mut files = MemoryFiles::new(alloc, &[], WORKS_FOR_EVER);
+    !case.has("sorted ") || runs_so(alloc, &mut files, case) == Some(true)
 }

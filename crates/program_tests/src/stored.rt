@@ -1,112 +1,77 @@
-// Files in memory, and what runs of one say.
+// What runs of code files say.
 #![tactic(auto)]
 
+use super::parts::{RunCase, is_text, number_at};
 use calendar::{Day, DayParts};
-use file_access::{MemoryEntry, MemoryFiles, WORKS_FOR_EVER};
-use file_commands::{Refusal, verify_file};
-use run_commands::{Ended, How, Job, RecordLimit, Report, RunDay, RunRefusal, run_files};
-use std::alloc::Global;
-use xverify::FailedRule;
+use file_access::MemoryFiles;
+use run_commands::{Job, RecordLimit, Report, RunDay, run_files};
+use std::alloc::{AllocError, Global};
 
-/// The name of a file that stands alone.
-pub const NAME: &str = "hand.xbc";
-
-/// Files in memory, on a device that works.
-pub fn stored<'a>(alloc: Global, entries: &'a [MemoryEntry<'a>]) -> MemoryFiles<'a> {
-    MemoryFiles::new(alloc, entries, WORKS_FOR_EVER)
+/// The year, month and day of a text as a day that files can be stamped with; none where it isn't one.
+pub fn day_of(text: &str) -> Option<RunDay> {
+    let parts = DayParts {
+        year: (number_at(text, 0) & 0xffff) as u16,
+        month: (number_at(text, 1) & 0xff) as u8,
+        day: (number_at(text, 2) & 0xff) as u8,
+    };
+    RunDay::of(Day::from_parts(parts)?)
 }
 
-/// A file that stands alone.
-pub fn entry<'a>(bytes: &'a [u8]) -> MemoryEntry<'a> {
-    MemoryEntry { name: NAME, bytes }
+/// The first day of 1985, unless a case says another one.
+pub fn day_in(case: RunCase<'_>) -> Option<RunDay> {
+    let text = case.line("day ");
+    day_of(if text.is_empty() { "1985 1 1" } else { text })
 }
 
-/// A day that files can be stamped with; none where it isn't one.
-pub fn day_of(year: u16, month: u8, day: u8) -> Option<RunDay> {
-    RunDay::of(Day::from_parts(DayParts { year, month, day })?)
+/// The most records of a table.
+pub fn limit_in(case: RunCase<'_>) -> Option<RecordLimit> {
+    RecordLimit::of((case.number("limit ", 1_000_000) & 0xffff_ffff) as u32)
 }
 
-/// A run of a code file without lines of the operator, on the first day of 1985; none where that is no day.
-pub fn job<'a>(name: &'a str, checked: bool, budget: u64) -> Option<Job<'a>> {
-    Some(Job {
+/// The run of a code file as a case says, by one of the machines within a budget.
+pub fn run_case(
+    alloc: Global,
+    files: &mut MemoryFiles<'_>,
+    name: &str,
+    case: RunCase<'_>,
+    checked: bool,
+    budget: u64,
+) -> Option<Report> {
+    let job = Job {
         name,
         checked,
         budget,
-        limit: RecordLimit::most(),
-        day: day_of(1985, 1, 1)?,
-        input: &[],
-    })
-}
-
-/// A run of a file.
-pub fn run(alloc: Global, bytes: &[u8], checked: bool, budget: u64) -> Option<Report> {
-    let entries = [entry(bytes)];
-    let Some(job) = job(NAME, checked, budget) else {
-        return None;
+        limit: limit_in(case)?,
+        day: day_in(case)?,
+        input: case.says("typed\n").as_bytes(),
     };
-    Some(run_files(alloc, &mut stored(alloc, &entries), &job))
+    Some(run_files(alloc, files, &job))
 }
 
-/// A run of a file on this day.
-pub fn run_on(
-    alloc: Global,
-    bytes: &[u8],
-    checked: bool,
-    budget: u64,
-    day: RunDay,
-) -> Option<Report> {
-    let entries = [entry(bytes)];
-    let job = Job {
-        name: NAME,
-        checked,
-        budget,
-        limit: RecordLimit::most(),
-        day,
-        input: &[],
-    };
-    Some(run_files(alloc, &mut stored(alloc, &entries), &job))
-}
-
-/// What the verifier says of a file.
-pub fn verdict(alloc: Global, bytes: &[u8]) -> Result<Option<FailedRule>, Refusal<'static>> {
-    let entries = [entry(bytes)];
-    verify_file(alloc, &mut stored(alloc, &entries), NAME)
-}
-
-/// Whether a run came to this end at this cost.
-pub fn ends(report: &Report, how: &How, steps: u64) -> bool {
+/// How the run of a code file is told.
+pub fn told(alloc: Global, report: &Report, name: &str) -> Result<String, AllocError> {
     match &report.result {
-        Ok(
-            Ended {
-                how: ended,
-                steps: cost,
-            },
-        ) => ended == how && *cost == steps,
+        Ok(ended) => ended.to_string(alloc),
+        Err(refusal) => refusal.told(name).to_string(alloc),
+    }
+}
+
+/// Whether the run of a code file printed these rows, and is told so.
+pub fn came_to(alloc: Global, report: &Report, name: &str, rows: &str, ended: &str) -> bool {
+    report.rows.as_slice() == rows.as_bytes() && is_told(alloc, report, name, ended)
+}
+
+/// Whether two runs of a code file are told alike, and printed the same.
+pub fn are_alike(alloc: Global, one: &Report, other: &Report, name: &str) -> bool {
+    match told(alloc, other, name) {
+        Ok(told) => {
+            one.rows.as_slice() == other.rows.as_slice() && is_told(alloc, one, name, told.as_str())
+        }
         Err(_) => false,
     }
 }
 
-/// Whether a run came to this end at this cost, and printed these rows.
-pub fn comes_to(report: &Report, how: &How, steps: u64, rows: &[u8]) -> bool {
-    ends(report, how, steps) && report.rows.as_slice() == rows
-}
-
-/// Whether a run is refused so, and nothing is printed.
-pub fn is_refused(report: &Report, refusal: &RunRefusal) -> bool {
-    match &report.result {
-        Ok(_) => false,
-        Err(told) => told == refusal && report.rows.is_empty(),
-    }
-}
-
-/// Whether both machines run the file alike on this day.
-pub fn run_alike(alloc: Global, bytes: &[u8], budget: u64, day: RunDay) -> bool {
-    let checked = run_on(alloc, bytes, true, budget, day);
-    let untagged = run_on(alloc, bytes, false, budget, day);
-    match (checked, untagged) {
-        (Some(one), Some(other)) => {
-            one.result == other.result && one.rows.as_slice() == other.rows.as_slice()
-        }
-        _ => false,
-    }
+/// Whether the run of a code file is told so.
+pub fn is_told(alloc: Global, report: &Report, name: &str, ended: &str) -> bool {
+    is_text(told(alloc, report, name), ended)
 }

@@ -3,13 +3,13 @@
 
 ghost use Rattle.std.specs.Prelude.{◌≡◌, IfSome, length};
 
-use super::cases::{CODE, RunCase, compiled};
-use super::stored::day_of;
+use super::cases::CODE;
+use super::parts::RunCase;
+use super::stored::{day_in, limit_in};
 use code_items::laws::legal_codes;
-use file_access::{MemoryEntry, MemoryFiles, WORKS_FOR_EVER, WrittenFile};
+use file_access::{MemoryFiles, WrittenFile};
 use file_commands::read_code;
 use ndx_tree::NdxTree;
-use run_commands::RecordLimit;
 use run_laws::laws::new_stores_fit;
 use std::alloc::Global;
 use table_files::{load, save};
@@ -22,15 +22,16 @@ fn world_behind(
     alloc: Global,
     files: &mut MemoryFiles<'_>,
     code: &LegalCode,
-    case: &RunCase<'_>,
+    case: RunCase<'_>,
+    budget: u64,
 ) -> Option<World<NdxTree>>
     ensures count { IfSome result (λ world. length world.env.store.tables ≡ length code.now.declared.shape.tables) }
 {
     legal_codes();
     new_stores_fit();
-    let limit = RecordLimit::of(case.limit)?.records();
-    let day = day_of(1985, 1, 1)?.day();
-    let Ok(typed) = Vec::from_slice(alloc, case.typed.as_bytes()) else {
+    let limit = limit_in(case)?.records();
+    let day = day_in(case)?.day();
+    let Ok(typed) = Vec::from_slice(alloc, case.says("typed\n").as_bytes()) else {
         return None;
     };
     let Ok(store) = load(alloc, files, &code.code().declared.shape, limit) else {
@@ -41,30 +42,30 @@ fn world_behind(
         return None;
     };
     let mut world = world;
-    run_checked(alloc, code, &mut world, case.budget);
+    run_checked(alloc, code, &mut world, budget);
     Some(world)
 }
 
-/// The files behind a case's run on the checking machine; none where it isn't to be had.
-pub fn saved_by_checking<'a>(
+/// Runs the code of a case on the checking machine and saves what that leaves; whether it was saved.
+pub fn saved_by_checking(
     alloc: Global,
-    entries: &'a [MemoryEntry<'a>],
-    case: &RunCase<'_>,
-) -> Option<MemoryFiles<'a>> {
-    let mut files = MemoryFiles::new(alloc, entries, WORKS_FOR_EVER);
-    if !compiled(alloc, &mut files) {
-        return None;
-    }
-    let Ok(code) = read_code(alloc, &mut files, CODE) else {
-        return None;
+    files: &mut MemoryFiles<'_>,
+    case: RunCase<'_>,
+    budget: u64,
+) -> bool {
+    let Some(day) = day_in(case) else {
+        return false;
+    };
+    let Ok(code) = read_code(alloc, files, CODE) else {
+        return false;
     };
     legal_codes();
-    let world = world_behind(alloc, &mut files, &code, case)?;
-    let stamp = day_of(1985, 1, 1)?.stamp();
-    let shape = &code.code().declared.shape;
-    match save(alloc, &mut files, shape, world.store(), stamp) {
-        Ok(()) => Some(files),
-        Err(_) => None,
+    match world_behind(alloc, files, &code, case, budget) {
+        Some(world) => {
+            let shape = &code.code().declared.shape;
+            save(alloc, files, shape, world.store(), day.stamp()).is_ok()
+        }
+        None => false,
     }
 }
 

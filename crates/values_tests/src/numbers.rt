@@ -1,119 +1,109 @@
-// Numbers: read, printed and made of their parts.
+// Numbers: made, printed, compared and added.
 
 use fixed_num::{Num, Parts};
 use std::cmp::Ordering;
 use xvalue::apply::sum_of_two;
 
+/// What is asked of two words, `=`, and the answer: a number, the text of five places, or how they compare. `parts`
+/// makes a number of its magnitude and its decimals, `below` one below zero, and `from` one of a whole number. `called`
+/// is the sum that a call of a function gives.
+const NUMBERS: &str = "\
+print 123.456 2=*****
+print -1 2=-1.00
+print * 0=*****
+below 25 1=-2.5
+below 0 1=none
+parts 1 16=none
+parts 10000000000000000000 0=none
+whole -2.9 =-2
+whole * =0
+from 7 =7
+from -7 =-7
+from -12 =-12
+from 10000000000000000000 =*
+compare 1.0 1=equal
+compare * 9999999999999999999=greater
+sum 1.50 2.25=3.75
+sum 1.50 2=none
+sum 1.50 -2.25=none
+sum 9999999999999999999 1=none
+called -1 -2=-3
+";
+
 fn read(text: &str) -> Num {
     Num::parse(text.as_bytes())
 }
 
-/// Texts, and the texts of the numbers that they are read as.
-fn readings() -> [(&'static str, &'static str); 19] {
-    [
-        ("-.5", "-0.5"),
-        ("", "0"),
-        ("   ", "0"),
-        ("  +7. ", "7"),
-        ("007", "7"),
-        ("-0", "0"),
-        ("-", "**********"),
-        (".", "**********"),
-        ("-.", "**********"),
-        ("- 1", "**********"),
-        ("1 2", "**********"),
-        ("1.2.3", "**********"),
-        ("12x", "**********"),
-        ("0.1234567890123456", "0.123456789012346"),
-        ("0.12345678901234549", "0.123456789012345"),
-        ("9999.9999999999999995", "**********"),
-        ("12345.000000000000000", "**********"),
-        ("10000000000000000000", "**********"),
-        ("0009999999999999999999", "9999999999999999999"),
-    ]
+fn made(negative: bool, magnitude: &str, decimals: &str) -> Option<Num> {
+    Num::from_parts(Parts {
+        negative,
+        magnitude: magnitude.parse().unwrap_or(0),
+        decimals: decimals.parse().unwrap_or(0),
+    })
 }
 
-fn first_misread(readings: &[(&'static str, &'static str)]) -> Option<usize> {
-    for (place, (text, wanted)) in readings.iter().enumerate() {
-        if read(*text).text().as_slice() != wanted.as_bytes() {
-            return Some(place);
+/// The number that two words give; none where they give none.
+fn number_of(word: &str, first: &str, second: &str) -> Option<Num> {
+    if word == "parts" || word == "below" {
+        return made(word == "below", first, second);
+    }
+    if word == "sum" {
+        return read(first).alike_sum(&read(second));
+    }
+    if word == "called" {
+        return sum_of_two(&read(first), &read(second));
+    }
+    Some(Num::from_whole(first.parse().unwrap_or(0)))
+}
+
+fn prints(number: &str, decimals: &str, wanted: &str) -> bool {
+    let mut field = [0; 5];
+    let decimals: u8 = decimals.parse().unwrap_or(0);
+    read(number).print(5, decimals.min(15), &mut field);
+    field.as_slice() == wanted.as_bytes()
+}
+
+fn compares(first: &str, second: &str, wanted: &str) -> bool {
+    match read(first).cmp(&read(second)) {
+        Ordering::Less => wanted == "less",
+        Ordering::Equal => wanted == "equal",
+        Ordering::Greater => wanted == "greater",
+    }
+}
+
+fn is_right(row: &str) -> bool {
+    let (asked, wanted) = row.split_once('=').unwrap_or((row, ""));
+    let (word, rest) = asked.split_once(' ').unwrap_or((asked, ""));
+    let (first, second) = rest.split_once(' ').unwrap_or((rest, ""));
+    if word == "print" {
+        return prints(first, second, wanted);
+    }
+    if word == "compare" {
+        return compares(first, second, wanted);
+    }
+    if word == "whole" {
+        return Ok(read(first).whole()) == wanted.parse();
+    }
+    match number_of(word, first, second) {
+        Some(number) => number == read(wanted),
+        None => wanted == "none",
+    }
+}
+
+fn first_wrong<'a>(rows: &'a str) -> Option<&'a str> {
+    for row in rows.lines() {
+        if !is_right(row) {
+            return Some(row);
         }
     }
     None
 }
 
 #[test]
-fn reads_texts(rt: HostRuntime) {
-    assert_eq!(rt; first_misread(readings().as_slice()), None);
-}
-
-fn in_five_places(text: &str, decimals: u8) -> [u8; 5] {
-    let mut field = [0; 5];
-    read(text).print(5, decimals.min(15), &mut field);
-    field
-}
-
-#[test]
-fn prints_fields(rt: HostRuntime) {
-    assert_eq!(rt; in_five_places("123.456", 2), *b"*****");
-    assert_eq!(rt; in_five_places("-1", 2), *b"-1.00");
-    assert_eq!(rt; in_five_places("*", 0), *b"*****");
-}
-
-fn made(negative: bool, magnitude: u64, decimals: u8) -> Option<Num> {
-    Num::from_parts(Parts {
-        negative,
-        magnitude,
-        decimals,
-    })
-}
-
-#[test]
-fn is_made_of_parts(rt: HostRuntime) {
-    assert!(rt; made(true, 25, 1) == Some(read("-2.5")));
-    assert!(rt; made(true, 0, 1).is_none());
-    assert!(rt; made(false, 1, 16).is_none());
-    assert!(rt; made(false, 10_000_000_000_000_000_000, 0).is_none());
-}
-
-fn whole(text: &str) -> i128 {
-    read(text).whole()
-}
-
-fn from_whole(whole: i128) -> Num {
-    Num::from_whole(whole)
-}
-
-#[test]
-fn converts(rt: HostRuntime) {
-    assert_eq!(rt; whole("-2.9"), -2);
-    assert_eq!(rt; whole("*"), 0);
-    assert!(rt; Num::from(7u32) == read("7"));
-    assert!(rt; Num::from(-7i64) == read("-7"));
-    assert!(rt; from_whole(-12) == read("-12"));
-    assert!(rt; from_whole(10_000_000_000_000_000_000) == read("*"));
-    assert!(rt; Num::default() == read(""));
-}
-
-#[test]
-fn compares_by_value(rt: HostRuntime) {
-    assert!(rt; read("1.0") != read("1"));
-    assert_eq!(rt; read("1.0").cmp(&read("1")), Ordering::Equal);
-    assert_eq!(rt;
-        read("*").cmp(&read("9999999999999999999")),
-        Ordering::Greater
-    );
-}
-
-#[test]
-fn adds_alike_numbers(rt: HostRuntime) {
-    let sum = read("1.50").alike_sum(&read("2.25"));
-    assert!(rt; sum.is_some_and(|sum| sum == read("3.75")));
-    assert!(rt; read("1.50").alike_sum(&read("2")).is_none());
-    assert!(rt; read("1.50").alike_sum(&read("-2.25")).is_none());
-    assert!(rt; read("9999999999999999999").alike_sum(&read("1")).is_none());
-    let called = sum_of_two(&read("-1"), &read("-2"));
-    assert!(rt; called.is_some_and(|sum| sum == read("-3")));
+fn answers_of_numbers(rt: HostRuntime) {
+    assert_eq!(rt; first_wrong(NUMBERS), None);
+    assert!(rt; Num::from(7u32) == read("7") && Num::from(-7i64) == read("-7"));
+    assert!(rt; Num::default() == read("") && read("1.0") != read("1"));
 }
 
 #[test]

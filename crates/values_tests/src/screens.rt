@@ -4,187 +4,113 @@ use crate::spelled::text_made;
 use screen_lines::{Screen, ScreenCommand, obey, run};
 use std::alloc::{AllocError, Global};
 use std::test::Fail;
+use xvalue::Text;
 
-/// What a command file asks of the screen.
-#[derive(Clone, Copy)]
-enum Ask {
-    Line,
-    Print(&'static str),
-    /// A text so many times.
-    Many(&'static str, usize),
-    Say(i128, i128, &'static str),
-    SayOn(&'static str),
-    Clear,
-}
+/// What command files ask of the screen and what is sent in all: the commands with `;` between them, `=`, and the rows.
+/// In texts and rows `^` ends a line, and `{3 A}` is three times A. The files are: `@ 2,0 SAY` of a number as `X = 5`,
+/// `@ 2,0 GET X`, `READ`, `? X` shows it; texts at the edge of the screen; a text of 254 bytes on the last row, with
+/// rows that are blank and scrolled out; commands at which nothing happens, or the cursor alone moves; `ACCEPT "Name? "
+/// TO N`, `? LEN(N)`, `? ""` at the end, which sends nothing; and a GET behind a SAY.
+const SCREENS: &str = "\
+say|2|0|         5;line;print|         5={2 ^}{2          5^}
+say|25|0|X;say|0|78|ABCD;print|E={78  }AB^E^
+say|24|79|-;print|{254 A};line={24 ^}{79  }-^{3 AAAAAAAAAAAAAAAAAAAAAAAAAAAAAAAAAAAAAAAAAAAAAAAAAAAAAAAAAAAAAAAAAAAAAAAAAAAAAAAA^}{14 A}^
+sayon|before the first row;say|0|5|;sayon|;say|-1|0|above;say|0|80|beside;print|Y;say|3|79|Z;sayon|past the end;clear;sayon|before the first row;print|;sayon|before the first row;print|\tA\x7fB ^=      Y^^^{79  }Z^ A B^
+line;print|Name? ;line;print|         0;line;print|=Name?^         0^
+say|0|0|AGE;sayon|42;clear=AGE 42^
+";
 
-fn command_of(ask: Ask) -> ScreenCommand {
-    match ask {
-        Ask::Line => ScreenCommand::NewLine,
-        Ask::Print(text) => ScreenCommand::Print(text_made(text.as_bytes())),
-        Ask::Many(text, count) => ScreenCommand::Print(text_made(many(text, count).as_slice())),
-        Ask::Say(row, column, text) => ScreenCommand::Say {
-            row,
-            column,
-            text: text_made(text.as_bytes()),
-        },
-        Ask::SayOn(text) => ScreenCommand::SayOn(text_made(text.as_bytes())),
-        Ask::Clear => ScreenCommand::Clear,
-    }
-}
-
-/// The bytes of a text so many times, as far as they fit into a text.
-fn many(text: &str, count: usize) -> xvalue::Text {
-    let mut bytes = xvalue::Text::new();
-    for _ in 0..count {
+/// Puts a text so many times behind the bytes.
+fn put_times(out: &mut Vec<u8>, text: &str, times: usize) -> Result<(), AllocError> {
+    for _ in 0..times {
         for byte in text.as_bytes() {
-            if !bytes.is_full() {
-                bytes.push(*byte);
-            }
+            out.push(if *byte == b'^' { b'\n' } else { *byte })?;
         }
     }
-    bytes
+    Ok(())
+}
+
+/// The bytes that are written so.
+fn expanded(alloc: Global, text: &str) -> Result<Vec<u8>, AllocError> {
+    let mut out = Vec::new(alloc);
+    for piece in text.split('{') {
+        let (many, plain) = piece.split_once('}').unwrap_or(("", piece));
+        let (times, part) = many.split_once(' ').unwrap_or(("0", ""));
+        put_times(&mut out, part, times.parse().unwrap_or(0))?;
+        put_times(&mut out, plain, 1)?;
+    }
+    Ok(out)
+}
+
+fn text_of(alloc: Global, text: &str) -> Result<Text, AllocError> {
+    let bytes = expanded(alloc, text)?;
+    Ok(text_made(bytes.as_slice()))
+}
+
+fn said(alloc: Global, said: &str) -> Result<ScreenCommand, AllocError> {
+    let (row, rest) = said.split_once('|').unwrap_or((said, ""));
+    let (column, text) = rest.split_once('|').unwrap_or((rest, ""));
+    Ok(ScreenCommand::Say {
+        row: row.parse().unwrap_or(0),
+        column: column.parse().unwrap_or(0),
+        text: text_of(alloc, text)?,
+    })
+}
+
+fn command_of(alloc: Global, command: &str) -> Result<ScreenCommand, AllocError> {
+    let (word, rest) = command.split_once('|').unwrap_or((command, ""));
+    if word == "line" {
+        return Ok(ScreenCommand::NewLine);
+    }
+    if word == "clear" {
+        return Ok(ScreenCommand::Clear);
+    }
+    if word == "print" {
+        return Ok(ScreenCommand::Print(text_of(alloc, rest)?));
+    }
+    if word == "sayon" {
+        return Ok(ScreenCommand::SayOn(text_of(alloc, rest)?));
+    }
+    said(alloc, rest)
 }
 
 /// What is sent in all, by the list of commands.
-fn sent(alloc: Global, asks: &[Ask]) -> Result<Vec<u8>, AllocError> {
-    let mut commands = Vec::new(alloc);
-    for ask in asks {
-        commands.push(command_of(*ask))?;
+fn sent(alloc: Global, commands: &str) -> Result<Vec<u8>, AllocError> {
+    let mut list = Vec::new(alloc);
+    for command in commands.split(';') {
+        list.push(command_of(alloc, command)?)?;
     }
-    run(alloc, commands.as_slice())
+    run(alloc, list.as_slice())
 }
 
-/// Whether bytes are these texts, each so many times, one behind the other.
-fn are(bytes: &[u8], pieces: &[(&'static str, usize)]) -> bool {
-    let mut rest = bytes;
-    for (text, count) in pieces {
-        for _ in 0..*count {
-            match rest.strip_prefix(text.as_bytes()) {
-                Some(others) => rest = others,
-                None => return false,
-            }
+fn is_right(alloc: Global, row: &str) -> Result<bool, AllocError> {
+    let (commands, wanted) = row.split_once('=').unwrap_or((row, ""));
+    let bytes = sent(alloc, commands)?;
+    let rows = expanded(alloc, wanted)?;
+    Ok(bytes.as_slice() == rows.as_slice())
+}
+
+/// The first file that sends something else.
+fn first_wrong<'a>(alloc: Global, files: &'a str) -> Result<Option<&'a str>, AllocError> {
+    for row in files.lines() {
+        if !is_right(alloc, row)? {
+            return Ok(Some(row));
         }
     }
-    rest.is_empty()
-}
-
-// `@ 2,0 SAY` of a number as `X = 5`, `@ 2,0 GET X`, `READ`, `? X` shows it.
-fn said_then_printed() -> [Ask; 3] {
-    [
-        Ask::Say(2, 0, "         5"),
-        Ask::Line,
-        Ask::Print("         5"),
-    ]
+    Ok(None)
 }
 
 #[test]
-fn prints_below_a_row_said(rt: HostRuntime) -> Result<(), Fail> {
-    let bytes = sent(rt.alloc(), said_then_printed().as_slice())?;
-    assert!(rt; are(bytes.as_slice(), &[("\n", 2), ("         5\n", 2)]));
-    Ok(())
-}
-
-// `@ 25,0 SAY "X"`, `@ 0,78 SAY "ABCD"`, `?? "E"`.
-fn said_at_the_edge() -> [Ask; 3] {
-    [
-        Ask::Say(25, 0, "X"),
-        Ask::Say(0, 78, "ABCD"),
-        Ask::Print("E"),
-    ]
-}
-
-#[test]
-fn cuts_at_the_last_column(rt: HostRuntime) -> Result<(), Fail> {
-    let bytes = sent(rt.alloc(), said_at_the_edge().as_slice())?;
-    assert!(rt; are(bytes.as_slice(), &[(" ", 78), ("AB\nE\n", 1)]));
-    Ok(())
-}
-
-// A text of 254 bytes on the last row, and rows that are blank and scrolled out.
-fn printed_on_the_last_row() -> [Ask; 3] {
-    [Ask::Say(24, 79, "-"), Ask::Many("A", 254), Ask::Line]
-}
-
-#[test]
-fn wraps_a_long_text_on_the_last_row(rt: HostRuntime) -> Result<(), Fail> {
-    let bytes = sent(rt.alloc(), printed_on_the_last_row().as_slice())?;
-    let pieces = [
-        ("\n", 24),
-        (" ", 79),
-        ("-\n", 1),
-        (
-            "AAAAAAAAAAAAAAAAAAAAAAAAAAAAAAAAAAAAAAAAAAAAAAAAAAAAAAAAAAAAAAAAAAAAAAAAAAAAAAAA\n",
-            3,
-        ),
-        ("AAAAAAAAAAAAAA\n", 1),
-    ];
-    assert!(rt; are(bytes.as_slice(), &pieces));
-    Ok(())
-}
-
-// Where nothing happens, and where the cursor alone moves.
-fn said_on() -> [Ask; 13] {
-    [
-        Ask::SayOn("before the first row"),
-        Ask::Say(0, 5, ""),
-        Ask::SayOn(""),
-        Ask::Say(-1, 0, "above"),
-        Ask::Say(0, 80, "beside"),
-        Ask::Print("Y"),
-        Ask::Say(3, 79, "Z"),
-        Ask::SayOn("past the end"),
-        Ask::Clear,
-        Ask::SayOn("before the first row"),
-        Ask::Print(""),
-        Ask::SayOn("before the first row"),
-        Ask::Print("\tA\x7fB \n"),
-    ]
-}
-
-#[test]
-fn says_on_after_the_cursor(rt: HostRuntime) -> Result<(), Fail> {
-    let bytes = sent(rt.alloc(), said_on().as_slice())?;
-    assert!(rt;
-        are(
-            bytes.as_slice(),
-            &[("      Y\n\n\n", 1), (" ", 79), ("Z\n A B\n", 1)]
-        )
-    );
-    Ok(())
-}
-
-// `ACCEPT "Name? " TO N`, `? LEN(N)`, `? ""` at the end, which sends nothing.
-fn accepted() -> [Ask; 6] {
-    [
-        Ask::Line,
-        Ask::Print("Name? "),
-        Ask::Line,
-        Ask::Print("         0"),
-        Ask::Line,
-        Ask::Print(""),
-    ]
-}
-
-// A GET behind a SAY.
-fn said_and_got() -> [Ask; 3] {
-    [Ask::Say(0, 0, "AGE"), Ask::SayOn("42"), Ask::Clear]
-}
-
-#[test]
-fn runs_commands(rt: HostRuntime) -> Result<(), Fail> {
-    let bytes = sent(rt.alloc(), accepted().as_slice())?;
-    assert!(rt; are(bytes.as_slice(), &[("Name?\n         0\n", 1)]));
-    let bytes = sent(rt.alloc(), said_and_got().as_slice())?;
-    assert!(rt; are(bytes.as_slice(), &[("AGE 42\n", 1)]));
+fn sends_rows(rt: HostRuntime) -> Result<(), Fail> {
+    assert_eq!(rt; first_wrong(rt.alloc(), SCREENS)?, None);
     Ok(())
 }
 
 // The command once more where memory was refused.
-fn insist(screen: &mut Screen, ask: Ask) -> Result<(), AllocError> {
-    let command = command_of(ask);
-    match obey(screen, &command) {
+fn insist(screen: &mut Screen, command: &ScreenCommand) -> Result<(), AllocError> {
+    match obey(screen, command) {
         Ok(()) => Ok(()),
-        Err(_) => obey(screen, &command),
+        Err(_) => obey(screen, command),
     }
 }
 
@@ -195,26 +121,29 @@ fn finish_at_last(screen: &Screen, alloc: Global) -> Result<Vec<u8>, AllocError>
     }
 }
 
-// `? STR(I,2)` for I from 1 to 26.
-fn counted() -> [&'static str; 26] {
-    [
-        " 1", " 2", " 3", " 4", " 5", " 6", " 7", " 8", " 9", "10", "11", "12", "13", "14", "15",
-        "16", "17", "18", "19", "20", "21", "22", "23", "24", "25", "26",
-    ]
+fn screen_at_last(alloc: Global) -> Result<Screen, AllocError> {
+    match Screen::new(alloc) {
+        Ok(screen) => Ok(screen),
+        Err(_) => Screen::new(alloc),
+    }
 }
 
+/// `? STR(I,2)` for I from 1 to 26.
+const COUNTED: &str =
+    " 1| 2| 3| 4| 5| 6| 7| 8| 9|10|11|12|13|14|15|16|17|18|19|20|21|22|23|24|25|26";
+
 fn count_and_clear(alloc: Global) -> Result<Vec<u8>, AllocError> {
-    let mut screen = match Screen::new(alloc) {
-        Ok(screen) => screen,
-        Err(_) => Screen::new(alloc)?,
-    };
-    for number in counted().as_slice() {
-        insist(&mut screen, Ask::Line)?;
-        insist(&mut screen, Ask::Print(*number))?;
+    let mut screen = screen_at_last(alloc)?;
+    for number in COUNTED.split('|') {
+        insist(&mut screen, &ScreenCommand::NewLine)?;
+        insist(
+            &mut screen,
+            &ScreenCommand::Print(text_made(number.as_bytes())),
+        )?;
     }
-    for ask in [Ask::Clear, Ask::Line, Ask::Print("Z")].as_slice() {
-        insist(&mut screen, *ask)?;
-    }
+    insist(&mut screen, &ScreenCommand::Clear)?;
+    insist(&mut screen, &ScreenCommand::NewLine)?;
+    insist(&mut screen, &ScreenCommand::Print(text_made(b"Z")))?;
     finish_at_last(&screen, alloc)
 }
 

@@ -3,10 +3,7 @@
 use calendar::Day;
 use fixed_num::Num;
 use xvalue::apply::apply;
-use xvalue::{Fun, Gathered, Kind, MOST_ARGUMENTS, Settings, Text, Value};
-
-/// Calls of a function with `;` between them, each its arguments with `|` between them, `=`, and its result as text.
-pub(crate) type Calls = (Fun, &'static str);
+use xvalue::{Fun, Gathered, Kind, MOST_ARGUMENTS, Setting, Settings, Text, Value};
 
 /// The text of these bytes, of which examples have few.
 pub(crate) fn text_made(bytes: &[u8]) -> Text {
@@ -75,13 +72,44 @@ fn is_right(settings: Settings, fun: Fun, call: &str) -> bool {
     }
 }
 
-/// The first call that doesn't give what is wanted, by the place of its line and its place there.
-pub(crate) fn first_wrong(settings: Settings, lines: &[Calls]) -> Option<(usize, usize)> {
-    for (line, (fun, calls)) in lines.iter().enumerate() {
-        for (place, call) in calls.split(';').enumerate() {
-            if !is_right(settings, *fun, call) {
-                return Some((line, place));
-            }
+/// Whether all calls of a function give what is wanted.
+fn are_right(settings: Settings, fun: Fun, calls: &str) -> bool {
+    for call in calls.split(';') {
+        if !is_right(settings, fun, call) {
+            return false;
+        }
+    }
+    true
+}
+
+/// Whether all calls of a row give what is wanted. Where CENTURY is turned on and off again, they give the same as
+/// before.
+fn is_right_row(letter: &str, fun: Fun, calls: &str) -> bool {
+    let off = Settings::off();
+    let century = off.with(Setting::Century, true);
+    if letter == "E" {
+        return are_right(off.with(Setting::Exact, true), fun, calls);
+    }
+    if letter == "C" {
+        return are_right(century, fun, calls);
+    }
+    are_right(off, fun, calls) && are_right(century.with(Setting::Century, false), fun, calls)
+}
+
+/// The function of a number that a text spells.
+fn fun_of(number: &str) -> Option<Fun> {
+    Fun::numbered(number.parse().unwrap_or(0))
+}
+
+/// The first row with a call that doesn't give what is wanted.
+pub(crate) fn first_wrong<'a>(rows: &'a str) -> Option<&'a str> {
+    for row in rows.lines() {
+        let (letter, rest) = row.split_once(' ').unwrap_or((row, ""));
+        let (number, rest) = rest.split_once(' ').unwrap_or((rest, ""));
+        let (_, calls) = rest.split_once(' ').unwrap_or((rest, ""));
+        match fun_of(number) {
+            Some(fun) if is_right_row(letter, fun, calls) => {}
+            _ => return Some(row),
         }
     }
     None

@@ -30,7 +30,7 @@ pub record HaveAlikeFields (fields others : List Field) : Type 0 where
   pub each : (k : ℕ) (d : Field) → k < length fields → IsAlike (slice_index_or fields k d) (slice_index_or others k d)
 
 -- a table with fields that hold what is declared, and no more rows than the limit
-pub record IsDeclared (limit : ℕ) (s : TableShape) (table : TableState) : Type 0 where
+pub record IsDeclaredTable (limit : ℕ) (s : TableShape) (table : TableState) : Type 0 where
   pub fields : HaveAlikeFields table.structure.fields s.fields
   pub few : length table.rows ≤ limit
 

@@ -1,7 +1,7 @@
 //! Whether tables and lists that are handed in are those that a shape declares.
 
 ghost use Rattle.std.specs.Prelude.{◌≡◌, ◌<◌, ◌≤◌, ◌↔◌, IsTrue, length, slice_get};
-ghost use Rattle.work_area.specs.Making.{IsAlike, HaveAlikeFields, IsDeclared, IsFormed, AreOfShape, AreLists};
+ghost use Rattle.work_area.specs.Making.{IsAlike, HaveAlikeFields, IsDeclaredTable, IsFormed, AreOfShape, AreLists};
 ghost use Rattle.work_area.specs.Making.{key_form};
 
 use dbf_file::{Field, Table};
@@ -32,7 +32,7 @@ pub fn are_alike(fields: &[Field], others: &[Field]) -> bool
 
 /// Whether a table has fields that hold what is declared, and no more rows than a limit.
 fn is_declared(table: &Table, declared: &TableShape, limit: u32) -> bool
-    ensures { IsTrue result ↔ IsDeclared limit declared.now table.now }
+    ensures { IsTrue result ↔ IsDeclaredTable limit declared.now table.now }
 {
     if table.rows() > limit as usize {
         return false;
