@@ -4,6 +4,7 @@ import os
 import pty
 import subprocess
 import sys
+import time
 
 TOP = os.path.dirname(os.path.dirname(os.path.realpath(__file__)))
 
@@ -20,16 +21,17 @@ def program(kind=None):
 
 
 def shown_at(terminal):
-    """What is written at a terminal until nobody has its other end any more, line by line."""
-    told = b""
-    while True:
+    """What is written at a terminal until nobody has its other end any more, line by line. (A busy system may say that
+    nobody has it while it still passes on what was written, so it is asked until it has said so for a while.)"""
+    told, quiet = b"", 0
+    while quiet < 5:
         try:
             more = os.read(terminal, 65536)
         except OSError:
             more = b""
-        if not more:
-            break
+        quiet = 0 if more else quiet + 1
         told += more
+        time.sleep(0 if more else 0.02)
     os.close(terminal)
     return told.decode("utf-8", "replace").replace("\r\n", "\n").splitlines()
 
