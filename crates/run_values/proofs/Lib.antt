@@ -7,4 +7,3 @@ pub mod TextTops
 pub mod CutBytes
 pub mod Said
 pub mod Keeping
-pub mod OfTwo

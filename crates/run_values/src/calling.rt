@@ -123,12 +123,7 @@ fn of_truths(fun: Fun, first: bool, second: bool) -> Option<Worked>
 
 /// What a function gives of two values of a kind, where that is no text; none of others.
 #[inline(always)]
-pub(crate) fn of_two(
-    fun: Fun,
-    settings: Settings,
-    first: &Lent<'_>,
-    second: &Lent<'_>,
-) -> Option<Worked>
+fn of_two(fun: Fun, settings: Settings, first: &Lent<'_>, second: &Lent<'_>) -> Option<Worked>
     ensures { IfSome result (λ worked. worked_value worked
         ≡ applied fun settings (by_kind (first.now ∷ second.now ∷ []))) }
 {
