@@ -23,7 +23,7 @@ use Rattle.fit_laws.specs.Connects.{IsOfProcedures, Connects, left_at}
 use Rattle.run_steps.specs.World.{World}
 use Rattle.run_steps.specs.Control.{entry_place, is_false, finishes, next_place, next_returns}
 use Rattle.run_steps.specs.Effects.{top}
-use Rattle.fit_laws.specs.Fits.{HasRoomToCall, procedure_at, IsBehindCall, Awaits}
+use Rattle.fit_laws.specs.Fits.{HasRoomToCall, procedure_at, IsBehindCall, Awaits, level_by_number, LevelsFall}
 use Rattle.fit_laws.proofs.Jumps.{value_falls, screen_falls, area_falls, move_falls, record_falls, either}
 
 -- ---- the procedures of a legal code
@@ -106,6 +106,16 @@ same_procedure : (code : Code) → Connects code → (number next : ℕ) (k : Is
 same_procedure code c number next k =
     let r = c.falls k.place k.within (call_falls (instr_at code k.place) number k.calls) in
     ap (procedure_at code) k.behind ∙ ap (λ (b : Block). b.number) r.same
+
+pub fall : (code : Code) → Connects code → (number : ℕ) (returns : List ℕ) → Awaits code number returns → LevelsFall code number returns
+fall code c number [] h = tt
+fall code c number (next ∷ returns) h =
+    let k = c.calls h.0.place number h.0.within h.0.calls in
+    let there = sym (same_procedure code c number next h.0) in
+    let below : level_by_number code number < level_by_number code (procedure_at code h.0.place) =
+    subst (λ l. l < level_by_number code (procedure_at code h.0.place)) (sym (ap level_of k.is)) k.below in
+    subst (λ p. (level_by_number code number < level_by_number code p) × LevelsFall code p returns) there
+    (below, fall code c (procedure_at code h.0.place) returns h.1)
 
 -- ---- what is known there
 

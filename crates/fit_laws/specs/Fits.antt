@@ -5,7 +5,7 @@ use Rattle.code_items.specs.declared.code.Code.{Code}
 use Rattle.code_items.specs.declared.instr.Instr.{Instr}
 use Rattle.code_rules.specs.Signature.{call_of}
 use Rattle.code_rules.specs.Places.{instr_at, block_at, state_at}
-use Rattle.code_rules.specs.Rules.{covers}
+use Rattle.code_rules.specs.Rules.{covers, level_of}
 use Rattle.fit_laws.specs.Connects.{IsOfProcedures}
 use Rattle.run_steps.specs.World.{World, state_of}
 use Rattle.run_steps.specs.Shapes.{HasShape}
@@ -32,6 +32,18 @@ abbrev pub Awaits : Code → ℕ → List ℕ → Type 0
 Awaits code number [] = Unit {0}
 Awaits code number (next ∷ returns) =
     (call : IsBehindCall code number next) × Awaits code (procedure_at code call.place) returns
+
+-- the level of a procedure, by its number
+abbrev pub level_by_number : Code → ℕ → ℕ
+level_by_number code number = level_of (slice_get code.procedures number)
+
+-- levels fall from call to call: each procedure in which one of these places stands, the last call's first, has a
+-- higher level than the one that it called
+abbrev pub LevelsFall : Code → ℕ → List ℕ → Type 0
+LevelsFall code number [] = Unit {0}
+LevelsFall code number (next ∷ returns) =
+    (level_by_number code number < level_by_number code (procedure_at code next))
+    × LevelsFall code (procedure_at code next) returns
 
 -- ---- worlds
 

@@ -8,7 +8,7 @@ ghost use Rattle.fit_laws.specs.FilterWalks.{WalksWithNeeds};
 ghost use Rattle.code_rules.specs.Kept.{Kept};
 ghost use Rattle.code_rules.specs.Places.{instr_at};
 ghost use Rattle.code_rules.specs.Rules.{here_at, Accepted};
-ghost use Rattle.fit_laws.specs.Fits.{Fits, IsFitting, HasRoomToCall, ReturnsWithin};
+ghost use Rattle.fit_laws.specs.Fits.{Fits, IsFitting, HasRoomToCall, LevelsFall, ReturnsWithin, procedure_at};
 ghost use Rattle.run_steps.specs.Control.{effect, finishes};
 ghost use Rattle.run_steps.specs.Faults.{IsClear};
 ghost use Rattle.run_steps.specs.Opening.{opening};
@@ -109,6 +109,15 @@ pub fn runs_keep_fitting()
 {
     fitting_goes_on();
     fitting_worlds_are_safe_here();
+}
+
+/// In each world that a run of an accepted code comes to from one that fits, levels fall from call to call.
+pub fn levels_fall()
+    ensures { (code : AnyCode) → IsCode code → Accepted code → (w : AnyWorld) → IsFitting code w
+        → (n : ℕ) (v : AnyWorld) → after code w n ≡ Some v → LevelsFall code (procedure_at code v.place) v.returns }
+{
+    states_connect();
+    runs_keep_fitting();
 }
 
 /// A run of an accepted code from a world that fits meets no fault, wherever it comes to.

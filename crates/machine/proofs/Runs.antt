@@ -9,7 +9,7 @@ use Rattle.run_values.specs.Standing.{IsByKind}
 use Rattle.run_steps.specs.declared.ending.Outcome.{Outcome}
 use Rattle.run_steps.specs.Tables.{IsDecoded}
 use Rattle.run_steps.specs.World.{World, with_lines}
-use Rattle.run_steps.specs.Run.{step_of, after, spent, IsNoFault, IsFault, Ran, Stands, Ends}
+use Rattle.run_steps.specs.Run.{step_of, after, spent, IsNoFault, IsFault, Ran, StandsForWorld, EndsRun}
 use Rattle.run_steps.specs.Opening.{opening}
 use Rattle.run_steps.specs.Safe.{IsSafe}
 use Rattle.run_steps.specs.Shapes.{StoreFits}
@@ -25,7 +25,7 @@ use Rattle.machine.proofs.Kept.{Keeps, kept}
 
 -- ---- standing for a world
 
-pub stands : (b : BankState) (w : World) → AgreesWith b w → Stands (IsByKind b.values) b.place b.returns b.env w
+pub stands : (b : BankState) (w : World) → AgreesWith b w → StandsForWorld (IsByKind b.values) b.place b.returns b.env w
 stands b w a = record {
   place_is = a.place;
   returns_are = a.returns;
@@ -33,7 +33,7 @@ stands b w a = record {
   stand = a.values;
 }
 
-pub agrees : (b : BankState) (w : World) → Stands (IsByKind b.values) b.place b.returns b.env w → AgreesWith b w
+pub agrees : (b : BankState) (w : World) → StandsForWorld (IsByKind b.values) b.place b.returns b.env w → AgreesWith b w
 agrees b w s = record {
   place = s.place_is;
   returns = s.returns_are;
@@ -64,7 +64,7 @@ pub record Laws (code : Code) : Type 0 where
 
 unfoldable pub headline : (code : Code) → Laws code → (from : World) (budget : ℕ) (outcome : Outcome) (b : BankState)
     → IsFitting code from → OpenIndexesList b.env.store → IsDecoded code b.decoded
-    → Ends code from budget outcome (IsByKind b.values) b.place b.returns b.env → Headline code from budget outcome b
+    → EndsRun code from budget outcome (IsByKind b.values) b.place b.returns b.env → Headline code from budget outcome b
 headline code laws from budget outcome b fit lists decoded ends =
     let there = laws.fits from fit ends.ran.count ends.last ends.ran.reached in
     let same = agrees b ends.last ends.stands in

@@ -9,6 +9,7 @@ mod ending;
 mod environment;
 mod fault;
 mod filtering;
+pub mod layout;
 mod lent_blocks;
 mod machine;
 mod on_areas;

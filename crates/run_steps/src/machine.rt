@@ -1,21 +1,22 @@
 //! A machine, whatever keeps its values and its tables' lists; and one instruction on it.
 
-ghost use Rattle.std.specs.Prelude.{◌≡◌, ◌<◌, ◌≤◌, IfOk, length, take};
+ghost use Rattle.std.specs.Prelude.{◌≡◌, ◌<◌, ◌≤◌, IfOk};
 ghost use Rattle.code_items.specs.Legal.{IsCode};
 ghost use Rattle.code_items.specs.declared.code.Code.{Code as AnyCode};
 ghost use Rattle.code_items.specs.declared.instr.Instr.TheVariants.{Flow as OfFlow};
 ghost use Rattle.run_values.specs.Tagged.{TaggedValues};
-ghost use Rattle.run_steps.specs.Control.{entry_place as entry_place_of, flow_place as flow_place_of};
+ghost use Rattle.run_steps.specs.Control.{flow_place as flow_place_of};
 ghost use Rattle.run_steps.specs.Control.{place_after as place_after_of, returns_after};
 ghost use Rattle.run_steps.specs.Executed.{Executed, Stepped};
 ghost use Rattle.run_steps.specs.Needs.{FlowNeeds, JumpNeeds, Needs, CallFits, IsReadyFor};
 ghost use Rattle.run_steps.specs.Opening.{no_values, opening};
-ghost use Rattle.run_steps.specs.Run.{Stands};
+ghost use Rattle.run_steps.specs.Run.{StandsForWorld};
 ghost use Rattle.screen_lines.specs.State.{sent};
 ghost use Rattle.run_steps.specs.World.{World, EnvState};
 
 use crate::ending::Stop;
 use crate::environment::Environment;
+use crate::layout::entry_place;
 use crate::on_areas::on_areas;
 use crate::on_moves::on_moves;
 use crate::on_records::on_records;
@@ -23,10 +24,8 @@ use crate::on_screen::on_screen;
 use crate::on_values::on_values;
 use crate::returns::ReturnPlaces;
 use calendar::Day;
-use code_items::code::places_of_blocks;
+use code_items::Code;
 use code_items::instr::{FlowInstr, Instr};
-use code_items::laws::legal_codes;
-use code_items::{Code, Proc};
 use key_lists::KeyList;
 use run_values::Values;
 use screen_lines::Screen;
@@ -55,7 +54,7 @@ impl<V: Values, K: KeyList> Machine<V, K> {
         today: Day,
     ) -> Result<Self, AllocError>
         ensures { (code : AnyCode) → V.stands values (no_values code)
-            → IfOk result (λ machine. Stands (V.stands machine.values) machine.place machine.returns machine.env
+            → IfOk result (λ machine. StandsForWorld (V.stands machine.values) machine.place machine.returns machine.env
             (opening code store lines today)) }
     {
         let mut store = store;
@@ -82,23 +81,6 @@ impl<V: Values, K: KeyList> Machine<V, K> {
     {
         self.env.store()
     }
-}
-
-/// The first procedures, as many as there are.
-fn first_procedures(procedures: &[Proc], count: usize) -> &[Proc]
-    ensures value { result.now ≡ take count procedures.now }
-    ensures few { length result.now ≤ length procedures.now }
-{
-    &procedures[..count.min(procedures.len())]
-}
-
-/// Where the block of a procedure begins.
-pub(crate) fn entry_place(code: &Code, number: u16) -> usize
-    requires { IsCode code.now }
-    ensures { result ≡ entry_place_of code.now number }
-{
-    legal_codes();
-    places_of_blocks(first_procedures(code.procedures.as_slice(), usize::from(number)))
 }
 
 /// Where an instruction on the flow of control goes next.
@@ -215,9 +197,9 @@ pub fn execute<V: Values, K: KeyList>(
 ) -> Result<u64, Stop>
     requires legal { IsCode code.now }
     requires ready { (w : World)
-        × (Stands (V.stands machine.old.values) machine.old.place machine.old.returns machine.old.env w
+        × (StandsForWorld (V.stands machine.old.values) machine.old.place machine.old.returns machine.old.env w
         × IsReadyFor code.now w instr) }
-    ensures { (w : World) → Stands (V.stands machine.old.values) machine.old.place machine.old.returns machine.old.env w
+    ensures { (w : World) → StandsForWorld (V.stands machine.old.values) machine.old.place machine.old.returns machine.old.env w
         → IsReadyFor code.now w instr
         → Stepped code.now w instr left result
         (V.stands machine.new.values) machine.new.place machine.new.returns machine.new.env }

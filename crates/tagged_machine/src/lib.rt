@@ -4,7 +4,6 @@
 #![tactic(auto)]
 
 mod areas;
-mod blocks;
 mod clear;
 mod faults;
 mod kinds;

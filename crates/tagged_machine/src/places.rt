@@ -10,11 +10,11 @@ ghost use Rattle.run_steps.specs.Faults.{bad_jump as bad_jump_of};
 ghost use Rattle.run_steps.specs.World.{EnvState};
 ghost use Rattle.tagged_machine.specs.Seen.{world_of};
 
-use crate::blocks::entry_place;
 use code_items::{Code, FlowInstr, Instr};
 use code_rules::operands::calls_none;
 use code_rules::signature::called;
 use run_steps::ReturnPlaces;
+use run_steps::layout::entry_place;
 use run_steps::running::finishes;
 use run_values::{Tagged, Values};
 use xvalue::Kind;

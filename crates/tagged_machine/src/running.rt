@@ -3,7 +3,7 @@
 ghost use Rattle.std.specs.Prelude.{◌≡◌, ◌≤◌};
 ghost use Rattle.code_items.specs.Legal.{IsCode};
 ghost use Rattle.code_rules.specs.Rules.{Accepted};
-ghost use Rattle.fit_laws.specs.Fits.{IsFitting};
+ghost use Rattle.fit_laws.specs.Fits.{IsFitting, LevelsFall, procedure_at};
 ghost use Rattle.run_steps.specs.Run.{Ran, IsFault};
 ghost use Rattle.run_steps.specs.Shapes.{HasShape};
 ghost use Rattle.tagged_machine.specs.Seen.{world_of};
@@ -15,7 +15,7 @@ use crate::world::World;
 use code_items::Code;
 use code_items::code::places_of_blocks;
 use code_items::laws::legal_codes;
-use fit_laws::laws::fitting_worlds_are_safe;
+use fit_laws::laws::{fitting_worlds_are_safe, levels_fall};
 use key_lists::KeyList;
 use legal_code::LegalCode;
 use run_laws::laws::{
@@ -89,8 +89,9 @@ fn run_on<K: KeyList>(
 
 /// Runs a code, accepted or not, until it ends, within the budget: the run takes the steps that the definition gives,
 /// costs what they cost, and the world is that before the step at which it ended. A fault of the next step is told
-/// before anything else, at any budget. Accepted code meets none from a world that fits what is known at its place. The
-/// world keeps the code's shape, so that a run that ended may be taken up again.
+/// before anything else, at any budget. Accepted code meets none from a world that fits what is known at its place, and
+/// where it ends levels fall from call to call. The world keeps the code's shape, so that a run that ended may be taken
+/// up again.
 pub fn run_checked<K: KeyList>(
     alloc: Global,
     code: &LegalCode,
@@ -102,12 +103,15 @@ pub fn run_checked<K: KeyList>(
     ensures ran { Ran code.now world.old budget result world.new }
     ensures few { (ran : Ran code.now world.old budget result world.new) → ran.count ≤ budget }
     ensures safe { Accepted code.now → IsFitting code.now world.old → ¬ IsFault result.end }
+    ensures levels { Accepted code.now → IsFitting code.now world.old
+        → LevelsFall code.now (procedure_at code.now world.new.place) world.new.returns }
     ensures shape { HasShape code.now world.new }
     ensures apart { AreApart world.new.env.store.areas }
 {
     runs_cost_their_steps();
     safe_runs_meet_no_fault();
     fitting_worlds_are_safe();
+    levels_fall();
     run_on(
         alloc,
         code.code(),

@@ -12,7 +12,6 @@ ghost use Rattle.run_steps.specs.Filters.{block_fails, block_sound, block_start,
 ghost use Rattle.run_steps.specs.World.{kind_held};
 ghost use Rattle.tagged_machine.specs.Seen.{state_seen};
 
-use crate::blocks::block_of;
 use crate::kinds::{is_truth, kinds_clash};
 use crate::operands::{filters_other, loads_free, loads_other};
 use crate::scratch::BlockScratch;
@@ -25,6 +24,7 @@ use code_rules::heights::{is_over, is_under};
 use code_rules::kinds::{gives, wants};
 use code_rules::operands::undeclared;
 use code_rules::slots::lacks as lacks_kind;
+use run_steps::layout::block_of;
 use run_values::{Pile, Tagged};
 use xvalue::Kind;
 
