@@ -13,13 +13,13 @@ use command_words::{DEFAULT_BUDGET, OperateWords, Outcomes, ShownWords, TalkWord
 use file_access::Files;
 use file_commands::{FILE_LIMIT, Refusal, Status};
 use folder_files::{
-    FileSum, Folder, Held, Hindrance, JournalFault, JournalFile, Listener, SaveTerms, SavingFolder,
-    Tail, UnfinishedSave, hindered_plan, note_stands, paper_name, put_new_file, stands, sum_of,
+    FileSum, Folder, Held, Hindrance, JournalFault, Listener, SaveTerms, SavingFolder, Tail,
+    UnfinishedSave, hindered_plan, note_stands, paper_name, put_new_file, stands, sum_of,
     take_folder,
 };
 use journal_papers::{JournalPaper, first_changed};
 use journal_steps::{Next, Remains, next_of};
-use operating::Broken;
+use operating::{Broken, MOST_TYPED};
 use operator_desk::{
     Gets, KeptJournal, Manner, OperatorDesk, OwnLines, Record, Screens, TakenLines, Talk, TalkSave,
     local_day, talk_in,
@@ -224,41 +224,21 @@ fn tell_journal(rt: &impl Runtime, audience: Audience, name: &str, fault: Journa
     status
 }
 
-/// A journal that is open, all lines that it holds, and what stands behind them.
-fn open_journal<R: Runtime<A = Global, File = File>>(
-    rt: &R,
-    name: &str,
-    goes_on: bool,
-    no_lock: bool,
-) -> Result<(KeptJournal, Option<Tail>), JournalFault> {
-    if !goes_on {
-        let journal = KeptJournal {
-            file: JournalFile::make(rt, name, no_lock)?,
-            bytes: Vec::new(rt.alloc()),
-        };
-        return Ok((journal, None));
-    }
-    let taken = JournalFile::take_up(rt, name, no_lock)?;
-    let journal = KeptJournal {
-        file: taken.journal,
-        bytes: taken.lines,
-    };
-    Ok((journal, taken.tail))
-}
-
-/// What stands of a conversation in the folder. An empty journal alone counts as none.
+/// What stands of a conversation in the folder, no file of whose run was read. An empty journal alone counts as none.
 fn found_of<R: Runtime<A = Global>>(rt: &R, names: &Names) -> Remains {
     Remains {
         journal: stands(rt, names.journal.as_str()) && !is_left_empty(rt, names),
         begun: stands(rt, names.begun.as_str()),
         noted: note_stands(rt),
         done: stands(rt, names.done.as_str()),
+        same: true,
     }
 }
 
 /// What to do where a conversation neither begins nor goes on.
 fn of_next(next: Next, found: Remains) -> &'static str {
     match next {
+        Next::Changed => CHANGED,
         Next::Ended => "this conversation is at its end; name another file to begin one",
         Next::Missing if found.begun => "its journal is gone; name another file to begin one",
         Next::Missing if found.journal => NO_TALK,
@@ -279,6 +259,7 @@ fn tell_next(
     let status = match next {
         Next::Ended => tell_file(rt, names.journal.as_str(), "Finished"),
         Next::Missing => tell_file(rt, names.journal.as_str(), "Absent"),
+        Next::Changed => tell_file(rt, names.journal.as_str(), "Changed"),
         _ => tell_file(rt, names.journal.as_str(), "Exists"),
     };
     advise(rt, audience, of_next(next, found));
@@ -382,15 +363,8 @@ fn record_of<'a, R: Runtime<A = Global, File = File>>(
     open: &Open<'a>,
     tail: Option<Tail>,
 ) -> Result<Record<'a, R>, AllocError> {
-    Ok(Record {
-        rt,
-        journal: open.names.journal.clone()?,
-        tail,
-        begun: open.names.begun.clone()?,
-        said: open.said,
-        changed: None,
-        unwritten: None,
-    })
+    let (journal, begun) = (open.names.journal.clone()?, open.names.begun.clone()?);
+    Ok(Record::new(rt, journal, tail, begun, open.said))
 }
 
 /// The name of the file for screens.
@@ -522,10 +496,10 @@ fn changed_in(alloc: Global, open: &Open<'_>) -> Option<String> {
     }
 }
 
-/// Takes the journal away of a conversation that didn't begin: nothing was typed.
-fn leave_no_journal<R: Runtime<A = Global>>(rt: &R, names: &Names) {
+/// Takes the journal away of a conversation that didn't begin, if it was made for it: nothing was typed.
+fn leave_no_journal<R: Runtime<A = Global>>(rt: &R, names: &Names, journal: &KeptJournal) {
     if is_left_empty(rt, names) {
-        let _ = fs::remove_file(rt, names.journal.as_str());
+        journal.file.take_away(rt, names.journal.as_str());
     }
 }
 
@@ -537,7 +511,6 @@ fn tell_no_run<'a, R: Runtime<A = Global, File = File>>(
     refusal: &RunRefusal,
     hindrance: Option<Hindrance>,
 ) -> Status {
-    leave_no_journal(rt, open.names);
     match changed_in(rt.alloc(), open) {
         Some(name) => tell_changed(rt, audience, name.as_str()),
         None => tell_hindered(rt, audience, open.code, refusal, hindrance),
@@ -809,12 +782,12 @@ fn talk_at_desk<'a, R: Runtime<A = Global, File = File>>(
     };
     let mut saving = SavingFolder::new(Folder::new(rt, noting), terms_of(open.talk, closed));
     if open.talk.save.is_none() {
-        return match rehearse_talk(alloc, &mut saving, &job, journal, desk) {
+        return match rehearse_talk(alloc, &mut saving, &job, MOST_TYPED, journal, desk) {
             Ok(told) => end_rehearsed(rt, audience, open, journal, desk, &told),
             Err(refusal) => tell_broken(rt, audience, open, desk, &saving, &refusal),
         };
     }
-    let told = operate_files(alloc, &mut saving, &job, journal, desk);
+    let told = operate_files(alloc, &mut saving, &job, MOST_TYPED, journal, desk);
     conclude(rt, audience, open, journal, desk, &mut saving, &told)
 }
 
@@ -901,14 +874,13 @@ fn talk_over_journal<'a, R: Runtime<A = Global, File = File>>(
     closed: Option<Hindrance>,
 ) -> Status {
     let name = open.names.journal.as_str();
-    match open_journal(rt, name, open.said.is_some(), open.talk.no_lock()) {
-        Ok((mut journal, tail)) => converse(rt, audience, open, &mut journal, tail, closed),
-        Err(fault) => {
-            if fault == JournalFault::Disk {
-                leave_no_journal(rt, open.names);
-            }
-            tell_journal(rt, audience, name, fault)
+    match KeptJournal::open(rt, name, open.said.is_some(), open.talk.no_lock()) {
+        Ok((mut journal, tail)) => {
+            let status = converse(rt, audience, open, &mut journal, tail, closed);
+            leave_no_journal(rt, open.names, &journal);
+            status
         }
+        Err(fault) => tell_journal(rt, audience, name, fault),
     }
 }
 

@@ -9,7 +9,7 @@ use crate::{is_recorded, refuse, tell_refusal};
 use file_access::Files;
 use file_commands::{Refusal, Status};
 use folder_files::{paper_name, stands};
-use operating::Broken;
+use operating::{Broken, MOST_GIVEN};
 use operator_desk::{Screens, TakenLines, Typist};
 use run_commands::{
     Job, OperateRefusal, OperationReport, Rehearsal, Report, operate_files, rehearse_talk,
@@ -107,7 +107,14 @@ pub fn run_shown<R: Runtime<A = Global, File = File>, F: Files>(
         return Err(refuse(rt, Refusal::Memory));
     };
     let mut taken = TakenLines::new(alloc);
-    let told = operate_files(alloc, files, &untyped(job), &mut taken, &mut typist);
+    let told = operate_files(
+        alloc,
+        files,
+        &untyped(job),
+        MOST_GIVEN,
+        &mut taken,
+        &mut typist,
+    );
     typist.watcher().end();
     report_of(rt, name, told)
 }
@@ -146,7 +153,14 @@ pub fn rehearse_shown<R: Runtime<A = Global, File = File>, F: Files>(
         return Err(refuse(rt, Refusal::Memory));
     };
     let mut taken = TakenLines::new(alloc);
-    let told = rehearse_talk(alloc, files, &untyped(job), &mut taken, &mut typist);
+    let told = rehearse_talk(
+        alloc,
+        files,
+        &untyped(job),
+        MOST_GIVEN,
+        &mut taken,
+        &mut typist,
+    );
     typist.watcher().end();
     match told {
         Ok(told) => Ok(told),

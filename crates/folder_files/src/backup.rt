@@ -1,7 +1,7 @@
 //! Copies of files in another folder.
 #![tactic(auto)]
 
-use crate::disk::{standing, sum_of_file, sync_path};
+use crate::disk::{holds, remove_if_there, standing, sum_of_file, sync_path, write_beside};
 use file_access::read_within;
 use std::alloc::{Alloc, Global};
 use std::fs;
@@ -38,6 +38,16 @@ pub(crate) fn make_folder<R: Disk>(rt: &R, path: &str) -> io::Result<()> {
         Some(_) => Ok(()),
         None => fs::create_dir(rt, path),
     }
+}
+
+/// Makes a copy of what a file held when it was read, down to the device, with the owner and the mode of what stands. A
+/// copy that holds just this stays.
+pub(crate) fn copy_bytes<R: Disk>(rt: &R, bytes: &[u8], from: &str, to: &str) -> io::Result<()> {
+    if holds(rt, to, Some(bytes))? {
+        return Ok(());
+    }
+    remove_if_there(rt, to)?;
+    write_beside(rt, from, to, bytes, true)
 }
 
 /// Copies a file, down to the device. A file that isn't there is none to copy, and a copy that holds the same stays.

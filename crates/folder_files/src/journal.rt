@@ -4,13 +4,14 @@
 ghost use Rattle.std.specs.Prelude.{◌≡◌, ◌-◌, ◌+◌, ◌<◌, ◌≤◌, ◌^◌, ◌==◌, not, min, [], ℕ, List, IfErr, IfOk};
 ghost use Rattle.std.specs.Prelude.{MatchOption, OnErr, OnOk, length};
 ghost use Rattle.std.specs.List.{suffix_len};
-ghost use Rattle.folder_files.specs.Journals.{HoldsLines, RefusesNew, bytes_in_front, bytes_counted};
+ghost use Rattle.folder_files.specs.Journals.{HoldsLines, RefusesNew, bytes_in_front, bytes_counted, is_made_here};
 
 use crate::disk::{is_free, sync_folder};
 use file_access::{ReadFault, read_within};
 use std::alloc::{Alloc, Global};
 use std::fs::{self, File, OpenFile, OpenOptions, TryLockError};
 use std::io::{self, ErrorKind, Write};
+use std::os::unix::fs::MetadataExt;
 use std::rt::Files as Disk;
 
 /// The most bytes that a journal is read of: two for each byte that an operator may type for a run.
@@ -39,6 +40,8 @@ pub struct JournalFile {
     file: File,
     /// How many bytes of it count.
     length: u64,
+    /// Whether this program made the file.
+    made: bool,
 }
 
 /// What stands behind the last LF of a journal: a line that was never ended.
@@ -85,6 +88,42 @@ fn held(file: File, no_lock: bool) -> Result<File, JournalFault>
     }
 }
 
+/// Whether a name leads to a file itself, and by no link.
+fn leads_to<R: Disk>(rt: &R, name: &str, file: &File) -> bool {
+    match (fs::symlink_metadata(rt, name), file.metadata()) {
+        (Ok(named), Ok(data)) => named.dev() == data.dev() && named.ino() == data.ino(),
+        _ => false,
+    }
+}
+
+/// Holds the file of a name. Where another program has taken the name from it meanwhile, that one has it.
+fn held_by_name<R: Disk>(
+    rt: &R,
+    name: &str,
+    file: File,
+    no_lock: bool,
+) -> Result<File, JournalFault>
+    ensures { IfErr result RefusesNew }
+{
+    let file = held(file, no_lock)?;
+    if leads_to(rt, name, &file) {
+        Ok(file)
+    } else {
+        Err(JournalFault::Held)
+    }
+}
+
+/// Holds a file that was just made; where the device fails it is taken away again.
+fn held_new<R: Disk>(rt: &R, name: &str, file: File, no_lock: bool) -> Result<File, JournalFault>
+    ensures { IfErr result RefusesNew }
+{
+    let found = held_by_name(rt, name, file, no_lock);
+    if let Err(JournalFault::Disk) = &found {
+        let _ = fs::remove_file(rt, name);
+    }
+    found
+}
+
 /// Whether a link stands under a name.
 fn is_link<R: Disk>(rt: &R, name: &str) -> bool {
     match fs::symlink_metadata(rt, name) {
@@ -110,7 +149,13 @@ fn opened<R: Disk<File = File>>(
     options.append(true);
     options.create_new(new);
     match options.open(rt, name) {
-        Ok(file) => held(file, no_lock),
+        Ok(file) => {
+            if new {
+                held_new(rt, name, file, no_lock)
+            } else {
+                held_by_name(rt, name, file, no_lock)
+            }
+        }
         Err(error) => match error.kind() {
             ErrorKind::NotFound => Err(JournalFault::Absent),
             ErrorKind::AlreadyExists => Err(JournalFault::Exists),
@@ -168,7 +213,11 @@ fn taken_up(alloc: Global, file: File, bytes: &[u8]) -> Result<TakenUp, JournalF
     };
     match tail_of(alloc, &file, length, tail) {
         Ok(tail) => Ok(TakenUp {
-            journal: JournalFile { file, length },
+            journal: JournalFile {
+                file,
+                length,
+                made: false,
+            },
             lines,
             tail,
         }),
@@ -192,6 +241,18 @@ fn left_empty<R: Disk<File = File>>(rt: &R, name: &str, no_lock: bool) -> Result
     }
 }
 
+/// A journal of which nothing counts yet.
+fn without_lines(file: File, made: bool) -> JournalFile
+    ensures empty { bytes_counted result ≡ 0 }
+    ensures made { is_made_here result ≡ made }
+{
+    JournalFile {
+        file,
+        length: 0,
+        made,
+    }
+}
+
 impl JournalFile {
     /// Makes an empty journal, which no file stands for yet. One that is empty counts as none if nobody has it.
     pub fn make<R: Disk<File = File>>(
@@ -202,15 +263,35 @@ impl JournalFile {
         ensures empty { IfOk result (λ journal. bytes_counted journal ≡ 0) }
         ensures refused { IfErr result RefusesNew }
     {
-        let file = match opened(rt, name, true, no_lock) {
-            Ok(file) => file,
-            Err(JournalFault::Exists) => left_empty(rt, name, no_lock)?,
-            Err(fault) => return Err(fault),
-        };
+        let journal = JournalFile::opened_new(rt, name, no_lock)?;
         if sync_folder(rt).is_err() {
+            journal.take_away(rt, name);
             return Err(JournalFault::Disk);
         }
-        Ok(JournalFile { file, length: 0 })
+        Ok(journal)
+    }
+
+    /// The same, not yet down to the device.
+    fn opened_new<R: Disk<File = File>>(
+        rt: &R,
+        name: &str,
+        no_lock: bool,
+    ) -> Result<JournalFile, JournalFault>
+        ensures empty { IfOk result (λ journal. bytes_counted journal ≡ 0) }
+        ensures refused { IfErr result RefusesNew }
+    {
+        match opened(rt, name, true, no_lock) {
+            Ok(file) => Ok(without_lines(file, true)),
+            Err(JournalFault::Exists) => Ok(without_lines(left_empty(rt, name, no_lock)?, false)),
+            Err(fault) => Err(fault),
+        }
+    }
+
+    /// Takes the file away, if this program made it and nothing of it counts.
+    pub fn take_away<R: Disk>(&self, rt: &R, name: &str) {
+        if self.made && self.length == 0 && leads_to(rt, name, &self.file) {
+            let _ = fs::remove_file(rt, name);
+        }
     }
 
     /// Takes a journal up again. Nothing of it changes.

@@ -6,7 +6,7 @@ ghost use Rattle.file_access.specs.Holding.{Rose};
 ghost use Rattle.folder_files.specs.Handed.{FailsBelow, count_handed, failures_behind, failures_of, name_handed};
 ghost use Rattle.folder_files.specs.Handed.{sum_told, sums_to_be, why_unread};
 
-use crate::backup::{copy_file, make_folder};
+use crate::backup::{copy_bytes, copy_file, make_folder};
 use crate::disk::{
     fresh_name, holds, remove_if_there, sum_of_file, sync_folder, sync_path, write_beside,
 };
@@ -533,6 +533,21 @@ impl<'a, R: Disk + Alloc<A = Global>, L: Listener> SavingFolder<'a, R, L> {
         }
     }
 
+    /// Copies what a file held when it was read, or what it holds now where it wasn't. Of none there is no copy.
+    fn copy(&self, pending: &Pending, to: &str) -> io::Result<()> {
+        let (rt, from) = (self.folder.rt, pending.target.as_str());
+        match self.loaded(pending.name.as_str()) {
+            Some(
+                Loaded {
+                    bytes: Some(held),
+                    ..
+                },
+            ) => copy_bytes(rt, held.as_slice(), from, to),
+            Some(_) => Ok(()),
+            None => copy_file(rt, from, to),
+        }
+    }
+
     /// Copies all files that are to be replaced to another folder, down to the device.
     fn copy_all(&self, path: &str) -> io::Result<()> {
         let rt = self.folder.rt;
@@ -540,14 +555,15 @@ impl<'a, R: Disk + Alloc<A = Global>, L: Listener> SavingFolder<'a, R, L> {
         for pending in &self.pending {
             let name = pending.name.as_str();
             let copy = format!(in rt.alloc(); "{path}/{name}")?;
-            copy_file(rt, pending.target.as_str(), copy.as_str())?;
+            self.copy(pending, copy.as_str())?;
         }
         sync_path(rt, path)?;
         sync_folder(rt)
     }
 
-    /// Replaces all files that were handed in, or none, copied first where the terms say so. A file that is to hold
-    /// what it held when it was read stays; it must hold that still. Where no file was handed in, nothing is done.
+    /// Replaces all files that were handed in, or none, copied first where the terms say so: as they were read, once it
+    /// is seen that none was changed since. A file that is to hold what it held when it was read stays; it must hold
+    /// that still. Where no file was handed in, nothing is done.
     ///
     /// # Errors
     /// A file that is told is one that was handed in.
@@ -559,6 +575,7 @@ impl<'a, R: Disk + Alloc<A = Global>, L: Listener> SavingFolder<'a, R, L> {
             return Ok(());
         }
         if let Some(path) = self.terms.backup {
+            self.look_again()?;
             if self.copy_all(path).is_err() {
                 return Err(Unsaved::Backup);
             }

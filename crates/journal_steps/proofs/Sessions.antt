@@ -5,7 +5,8 @@ use Rattle.std.specs.Option.{option_map}
 use Rattle.std.proofs.lemmas.List.{append-nil}
 use Rattle.std.proofs.lemmas.Option.{same_Some}
 use Rattle.journal_steps.specs.Next.{next_of}
-use Rattle.journal_steps.specs.Folder.{Folder, Moment, Session, MakeJournal, WriteBegun, CutJournal, Take, WriteNote, WriteDone, RemoveNote, empty_folder, unlines, whole_lines, with_more_bytes, behind_deed, StoppedAt, talk, last_deeds, begins, LeftBy}
+use Rattle.journal_steps.specs.Folder.{Folder, Tables, Old, New, Other, Moment, Session, MakeJournal, WriteBegun, CutJournal, Take, WriteNote, Place, WriteDone, RemoveNote, are_old, empty_folder, with_tables_placed, unlines, whole_lines, with_more_bytes, behind_deed, StoppedAt, talk, last_deeds, begins, LeftBy}
+use Rattle.journal_steps.specs.Folder.{Visit, Talks, Forgets, Changes, PutsBack, changed, put_back}
 use Rattle.journal_steps.specs.Promise.{IsClean, AreClean, LinesStand, NothingLost, Passed, IsKeptAndSavedOnce}
 use Rattle.journal_steps.proofs.Lines.{longer, whole_again, unlines_behind, read_clean, clean_append}
 
@@ -45,9 +46,38 @@ all_lost_moves f g (l ∷ ls) grows (here, h) = (lost_moves f g l grows here, al
 
 -- ---- saves
 
--- nothing was saved, or once, and then the note or the text of the end stands
+-- nothing is saved in the tables, and what waits is of a conversation that was begun
+abbrev Unsaved : Folder → Type 0
+Unsaved f = (f.saves ≡ 0) × ((f.waits ≡ false) ⊎ (f.begun ≡ true))
+
+-- what was typed is saved in them once; none is left to wait, and they aren't those of the beginning any more
+abbrev Saved : Folder → Type 0
+Saved f = (f.saves ≡ 1) × (f.waits ≡ false) × (f.begun ≡ true) × (are_old f.tables ≡ false)
+
 abbrev Sound : Folder → Type 0
-Sound f = ((f.saves ≡ 0) × (f.noted ≡ false)) ⊎ ((f.saves ≡ 1) × ((f.noted ≡ true) ⊎ (f.done ≡ true)))
+Sound f = Unsaved f ⊎ Saved f
+
+place_sound : (f : Folder) (waits : Bool) → f.waits ≡ waits → Sound f → Sound (with_tables_placed waits f)
+place_sound f false e sound = sound
+place_sound f true e (inl (none, inl free)) = absurd cc
+place_sound f true e (inl (none, inr begun)) = inr (ap suc none, refl, begun, refl)
+place_sound f true e (inr (once, free, begun, other)) = absurd cc
+
+place_journal : (f : Folder) (waits : Bool) → (with_tables_placed waits f).journal ≡ f.journal
+place_journal f false = refl
+place_journal f true = refl
+
+remove_sound : (f : Folder) → Sound f → Sound (behind_deed RemoveNote f)
+remove_sound f (inl (none, or)) = inl (none, inl refl)
+remove_sound f (inr (once, free, begun, other)) = inr (once, refl, begun, other)
+
+change_sound : (f : Folder) → Sound f → Sound (changed f)
+change_sound f (inl unsaved) = inl unsaved
+change_sound f (inr (once, free, begun, other)) = inr (once, free, begun, refl)
+
+put_back_sound : (f : Folder) → Sound f → Sound (put_back f)
+put_back_sound f (inl (none, or)) = inl (refl, or)
+put_back_sound f (inr (once, free, begun, other)) = inl (refl, inl free)
 
 -- what a session leaves, from a folder
 record Result (f : Folder) (n : Moment) : Type 0 where
@@ -77,34 +107,36 @@ ends m n g e t j sound = record {
   sound = subst Sound (sym e) sound;
 }
 
-end_stops : (saves : Bool) (m n : Moment) → m.folder.saves ≡ 0 → m.folder.noted ≡ false → StoppedAt (last_deeds saves) m n → End m n
-end_stops false m n none free (inl (inl e, t)) = ends m n m.folder e t refl (inl (none, free))
-end_stops false m n none free (inl (inr e, t)) = ends m n (behind_deed WriteDone m.folder) e t refl (inl (none, free))
-end_stops false m n none free (inr e) =
-    ends m n (behind_deed WriteDone m.folder) (ap (λ (x : Moment). x.folder) e) (ap (λ (x : Moment). x.taken) e) refl (inl (none, free))
-end_stops true m n none free (inl (inl e, t)) = ends m n m.folder e t refl (inl (none, free))
-end_stops true m n none free (inl (inr e, t)) =
-    ends m n (behind_deed WriteNote m.folder) e t refl (inr (ap suc none, inl refl))
-end_stops true m n none free (inr (inl (inl e, t))) =
-    ends m n (behind_deed WriteNote m.folder) e t refl (inr (ap suc none, inl refl))
-end_stops true m n none free (inr (inl (inr e, t))) =
-    ends m n (behind_deed WriteDone (behind_deed WriteNote m.folder)) e t refl (inr (ap suc none, inl refl))
-end_stops true m n none free (inr (inr (inl (inl e, t)))) =
-    ends m n (behind_deed WriteDone (behind_deed WriteNote m.folder)) e t refl (inr (ap suc none, inl refl))
-end_stops true m n none free (inr (inr (inl (inr e, t)))) =
-    ends m n (behind_deed RemoveNote (behind_deed WriteDone (behind_deed WriteNote m.folder))) e t refl (inr (ap suc none, inr refl))
-end_stops true m n none free (inr (inr (inr e))) =
-    ends m n (behind_deed RemoveNote (behind_deed WriteDone (behind_deed WriteNote m.folder))) (ap (λ (x : Moment). x.folder) e)
-    (ap (λ (x : Moment). x.taken) e) refl (inr (ap suc none, inr refl))
+end_stops : (saves : Bool) (m n : Moment) → m.folder.saves ≡ 0 → m.folder.begun ≡ true → StoppedAt (last_deeds saves) m n → End m n
+end_stops false m n none begun (inl (inl e, t)) = ends m n m.folder e t refl (inl (none, inr begun))
+end_stops false m n none begun (inl (inr e, t)) = ends m n (behind_deed WriteDone m.folder) e t refl (inl (none, inr begun))
+end_stops false m n none begun (inr e) =
+    ends m n (behind_deed WriteDone m.folder) (ap (λ (x : Moment). x.folder) e) (ap (λ (x : Moment). x.taken) e) refl (inl (none, inr begun))
+end_stops true m n none begun (inl (inl e, t)) = ends m n m.folder e t refl (inl (none, inr begun))
+end_stops true m n none begun (inl (inr e, t)) = ends m n (behind_deed WriteNote m.folder) e t refl (inl (none, inr begun))
+end_stops true m n none begun (inr (inl (inl e, t))) = ends m n (behind_deed WriteNote m.folder) e t refl (inl (none, inr begun))
+end_stops true m n none begun (inr (inl (inr e, t))) =
+    ends m n (behind_deed Place (behind_deed WriteNote m.folder)) e t refl (inr (ap suc none, refl, begun, refl))
+end_stops true m n none begun (inr (inr (inl (inl e, t)))) =
+    ends m n (behind_deed Place (behind_deed WriteNote m.folder)) e t refl (inr (ap suc none, refl, begun, refl))
+end_stops true m n none begun (inr (inr (inl (inr e, t)))) =
+    ends m n (behind_deed WriteDone (behind_deed Place (behind_deed WriteNote m.folder))) e t refl (inr (ap suc none, refl, begun, refl))
+end_stops true m n none begun (inr (inr (inr (inl (inl e, t))))) =
+    ends m n (behind_deed WriteDone (behind_deed Place (behind_deed WriteNote m.folder))) e t refl (inr (ap suc none, refl, begun, refl))
+end_stops true m n none begun (inr (inr (inr (inl (inr e, t))))) =
+    ends m n (behind_deed RemoveNote (behind_deed WriteDone (behind_deed Place (behind_deed WriteNote m.folder)))) e t refl (inr (ap suc none, refl, begun, refl))
+end_stops true m n none begun (inr (inr (inr (inr e)))) =
+    ends m n (behind_deed RemoveNote (behind_deed WriteDone (behind_deed Place (behind_deed WriteNote m.folder)))) (ap (λ (x : Moment). x.folder) e)
+    (ap (λ (x : Moment). x.taken) e) refl (inr (ap suc none, refl, begun, refl))
 
 -- ---- lines that are kept and taken
 
--- the journal holds the lines that the machine has taken, and nothing else; nothing was saved
+-- the journal holds the lines that the machine has taken, and nothing else; the conversation was begun, and nothing saved
 record IsExact (m : Moment) : Type 0 where
   pub journal : m.folder.journal ≡ Some (unlines m.taken)
   pub clean : AllByRecursion IsClean m.taken
   pub saves : m.folder.saves ≡ 0
-  pub noted : m.folder.noted ≡ false
+  pub begun : m.folder.begun ≡ true
 
 -- with so much more behind the journal
 grown : (m : Moment) (g : Folder) (x : List ℕ) → IsExact m → g.journal ≡ option_map (λ j. j ++ x) m.folder.journal
@@ -146,13 +178,13 @@ ended m n exact end =
 
 talk_stops : (lines : List (List ℕ)) (saves : Bool) (m n : Moment) → AllByRecursion IsClean lines → IsExact m
     → StoppedAt (talk lines ++ last_deeds saves) m n → Result m.folder n
-talk_stops [] saves m n clean exact h = ended m n exact (end_stops saves m n exact.saves exact.noted h)
+talk_stops [] saves m n clean exact h = ended m n exact (end_stops saves m n exact.saves exact.begun h)
 talk_stops (l ∷ ls) saves m n clean exact (inl ((k, e), t)) =
-    stays m n (with_more_bytes (take k (l ++ 10 ∷ [])) m.folder) (take k (l ++ 10 ∷ [])) exact e t refl (inl (exact.saves, exact.noted))
+    stays m n (with_more_bytes (take k (l ++ 10 ∷ [])) m.folder) (take k (l ++ 10 ∷ [])) exact e t refl (inl (exact.saves, inr exact.begun))
 talk_stops (l ∷ ls) saves m n clean exact (inr (inl (inl e, t))) =
-    stays m n (with_more_bytes (l ++ 10 ∷ []) m.folder) (l ++ 10 ∷ []) exact e t refl (inl (exact.saves, exact.noted))
+    stays m n (with_more_bytes (l ++ 10 ∷ []) m.folder) (l ++ 10 ∷ []) exact e t refl (inl (exact.saves, inr exact.begun))
 talk_stops (l ∷ ls) saves m n clean exact (inr (inl (inr e, t))) =
-    stays m n (with_more_bytes (l ++ 10 ∷ []) m.folder) (l ++ 10 ∷ []) exact e t refl (inl (exact.saves, exact.noted))
+    stays m n (with_more_bytes (l ++ 10 ∷ []) m.folder) (l ++ 10 ∷ []) exact e t refl (inl (exact.saves, inr exact.begun))
 talk_stops (l ∷ ls) saves m n (here, clean) exact (inr (inr h)) =
     let a = grown m (with_more_bytes (l ++ 10 ∷ []) m.folder) (l ++ 10 ∷ []) exact refl in
     let next : Moment = record { folder = with_more_bytes (l ++ 10 ∷ []) m.folder; taken = m.taken ++ l ∷ [] } in
@@ -160,7 +192,7 @@ talk_stops (l ∷ ls) saves m n (here, clean) exact (inr (inr h)) =
       journal = a.0 ∙ ap (λ (b : List ℕ). Some b) (sym (unlines_behind m.taken (l ∷ [])));
       clean = clean_append m.taken (l ∷ []) exact.clean (here, tt);
       saves = exact.saves;
-      noted = exact.noted;
+      begun = exact.begun;
     } in
     let r = talk_stops ls saves (record { folder = with_more_bytes (l ++ 10 ∷ []) m.folder; taken = m.taken ++ l ∷ [] }) n clean then h in
     record {
@@ -171,11 +203,14 @@ talk_stops (l ∷ ls) saves m n (here, clean) exact (inr (inr h)) =
 
 -- ---- a session
 
--- nothing was saved where neither note nor text of the end stands
-unsaved : (f : Folder) → Sound f → f.noted ≡ false → f.done ≡ false → f.saves ≡ 0
-unsaved f (inl (none, free)) noted done = none
-unsaved f (inr (once, inl is)) noted done = absurd cc
-unsaved f (inr (once, inr is)) noted done = absurd cc
+-- nothing is saved in the tables of the beginning, nor where nothing was begun
+unsaved : (f : Folder) → Sound f → are_old f.tables ≡ true → f.saves ≡ 0
+unsaved f (inl (none, or)) old = none
+unsaved f (inr (once, free, begun, other)) old = absurd cc
+
+unbegun : (f : Folder) → Sound f → f.begun ≡ false → Unsaved f
+unbegun f (inl is) free = is
+unbegun f (inr (once, waits, begun, other)) free = absurd cc
 
 no_journal : (f g : Folder) → f.journal ≡ None → Grows f g
 no_journal f g none j is = absurd cc
@@ -184,19 +219,18 @@ empty_journal : (f : Folder) → f.journal ≡ Some [] → Grows f (behind_deed 
 empty_journal f here = grows_same f (behind_deed MakeJournal f) (sym here)
 
 begin_stops : (f : Folder) (s : Session) (n : Moment) → AllByRecursion IsClean s.typed
-    → Grows f (behind_deed MakeJournal f) → f.saves ≡ 0
-    → f.noted ≡ false → StoppedAt (MakeJournal ∷ WriteBegun ∷ talk s.typed ++ last_deeds s.saves) (begins f) n → Result f n
-begin_stops f s n clean fresh saves noted (inl (inl e, t)) =
-    took_none f f n e t (grows_same f f refl) (inl (saves, noted))
-begin_stops f s n clean fresh saves noted (inl (inr e, t)) =
-    took_none f (behind_deed MakeJournal f) n e t fresh (inl (saves, noted))
-begin_stops f s n clean fresh saves noted (inr (inl (inl e, t))) =
-    took_none f (behind_deed MakeJournal f) n e t fresh (inl (saves, noted))
-begin_stops f s n clean fresh saves noted (inr (inl (inr e, t))) =
-    took_none f (behind_deed WriteBegun (behind_deed MakeJournal f)) n e t fresh (inl (saves, noted))
-begin_stops f s n clean fresh saves noted (inr (inr h)) =
+    → Grows f (behind_deed MakeJournal f) → Unsaved f → StoppedAt (MakeJournal ∷ WriteBegun ∷ talk s.typed ++ last_deeds s.saves) (begins f) n → Result f n
+begin_stops f s n clean fresh is (inl (inl e, t)) =
+    took_none f f n e t (grows_same f f refl) (inl is)
+begin_stops f s n clean fresh is (inl (inr e, t)) =
+    took_none f (behind_deed MakeJournal f) n e t fresh (inl is)
+begin_stops f s n clean fresh is (inr (inl (inl e, t))) =
+    took_none f (behind_deed MakeJournal f) n e t fresh (inl is)
+begin_stops f s n clean fresh is (inr (inl (inr e, t))) =
+    took_none f (behind_deed WriteBegun (behind_deed MakeJournal f)) n e t fresh (inl (is.0, inr refl))
+begin_stops f s n clean fresh is (inr (inr h)) =
     let exact : IsExact (begins (behind_deed WriteBegun (behind_deed MakeJournal f))) =
-    record { journal = refl; clean = tt; saves = saves; noted = noted } in
+    record { journal = refl; clean = tt; saves = is.0; begun = refl } in
     let r = talk_stops s.typed s.saves (begins (behind_deed WriteBegun (behind_deed MakeJournal f))) n clean exact h in
     record {
       grows = grows_then f (behind_deed WriteBegun (behind_deed MakeJournal f)) n.folder fresh r.grows;
@@ -215,22 +249,22 @@ cut_grows f j here i is =
     )
 
 go_on_stops : (f : Folder) (j : List ℕ) (s : Session) (n : Moment) → AllByRecursion IsClean s.typed → f.journal ≡ Some j
-    → f.saves ≡ 0 → f.noted ≡ false
+    → f.saves ≡ 0 → f.begun ≡ true
     → StoppedAt (CutJournal ∷ Take (whole_lines j) ∷ talk s.typed ++ last_deeds s.saves) (begins f) n → Result f n
-go_on_stops f j s n clean here saves noted (inl (inl e, t)) =
-    took_none f f n e t (grows_same f f refl) (inl (saves, noted))
-go_on_stops f j s n clean here saves noted (inl (inr e, t)) =
-    took_none f (behind_deed CutJournal f) n e t (cut_grows f j here) (inl (saves, noted))
-go_on_stops f j s n clean here saves noted (inr (inl (inl e, t))) =
-    took_none f (behind_deed CutJournal f) n e t (cut_grows f j here) (inl (saves, noted))
-go_on_stops f j s n clean here saves noted (inr (inl (inr e, t))) =
-    took_none f (behind_deed CutJournal f) n e t (cut_grows f j here) (inl (saves, noted))
-go_on_stops f j s n clean here saves noted (inr (inr h)) =
+go_on_stops f j s n clean here saves begun (inl (inl e, t)) =
+    took_none f f n e t (grows_same f f refl) (inl (saves, inr begun))
+go_on_stops f j s n clean here saves begun (inl (inr e, t)) =
+    took_none f (behind_deed CutJournal f) n e t (cut_grows f j here) (inl (saves, inr begun))
+go_on_stops f j s n clean here saves begun (inr (inl (inl e, t))) =
+    took_none f (behind_deed CutJournal f) n e t (cut_grows f j here) (inl (saves, inr begun))
+go_on_stops f j s n clean here saves begun (inr (inl (inr e, t))) =
+    took_none f (behind_deed CutJournal f) n e t (cut_grows f j here) (inl (saves, inr begun))
+go_on_stops f j s n clean here saves begun (inr (inr h)) =
     let exact : IsExact (record { folder = behind_deed CutJournal f; taken = whole_lines j }) = record {
       journal = ap (option_map (λ (b : List ℕ). unlines (whole_lines b))) here;
       clean = read_clean [] j tt;
       saves = saves;
-      noted = noted;
+      begun = begun;
     } in
     let r = talk_stops s.typed s.saves (record { folder = behind_deed CutJournal f; taken = whole_lines j }) n clean exact h in
     record {
@@ -240,23 +274,34 @@ go_on_stops f j s n clean here saves noted (inr (inr h)) =
     }
 
 -- a save that a note tells of, carried to its end
-finish_stops : (f : Folder) (n : Moment) → f.saves ≡ 1 → f.noted ≡ true → StoppedAt (WriteDone ∷ RemoveNote ∷ []) (begins f) n
+finish_stops : (f : Folder) (n : Moment) → Sound f → StoppedAt (Place ∷ WriteDone ∷ RemoveNote ∷ []) (begins f) n
     → Result f n × (n.taken ≡ [])
-finish_stops f n once noted (inl (inl e, t)) =
-    (took_none f f n e t (grows_same f f refl) (inr (once, inl noted)), t)
-finish_stops f n once noted (inl (inr e, t)) =
-    (took_none f (behind_deed WriteDone f) n e t (grows_same f (behind_deed WriteDone f) refl) (inr (once, inl noted)), t)
-finish_stops f n once noted (inr (inl (inl e, t))) =
-    (took_none f (behind_deed WriteDone f) n e t (grows_same f (behind_deed WriteDone f) refl) (inr (once, inl noted)), t)
-finish_stops f n once noted (inr (inl (inr e, t))) = (
-  took_none f (behind_deed RemoveNote (behind_deed WriteDone f)) n e t (grows_same f (behind_deed RemoveNote (behind_deed WriteDone f)) refl)
-      (inr (once, inr refl)),
+finish_stops f n sound (inl (inl e, t)) = (took_none f f n e t (grows_same f f refl) sound, t)
+finish_stops f n sound (inl (inr e, t)) =
+    (took_none f (with_tables_placed f.waits f) n e t (grows_same f (with_tables_placed f.waits f) (place_journal f f.waits)) (place_sound f f.waits refl sound), t)
+finish_stops f n sound (inr (inl (inl e, t))) =
+    (took_none f (with_tables_placed f.waits f) n e t (grows_same f (with_tables_placed f.waits f) (place_journal f f.waits)) (place_sound f f.waits refl sound), t)
+finish_stops f n sound (inr (inl (inr e, t))) = (
+  took_none f (behind_deed WriteDone (with_tables_placed f.waits f)) n e t (grows_same f (behind_deed WriteDone (with_tables_placed f.waits f)) (place_journal f f.waits))
+      (place_sound f f.waits refl sound),
   t,
 )
-finish_stops f n once noted (inr (inr e)) =
+finish_stops f n sound (inr (inr (inl (inl e, t)))) = (
+  took_none f (behind_deed WriteDone (with_tables_placed f.waits f)) n e t (grows_same f (behind_deed WriteDone (with_tables_placed f.waits f)) (place_journal f f.waits))
+      (place_sound f f.waits refl sound),
+  t,
+)
+finish_stops f n sound (inr (inr (inl (inr e, t)))) = (
+  took_none f (behind_deed RemoveNote (behind_deed WriteDone (with_tables_placed f.waits f))) n e t
+      (grows_same f (behind_deed RemoveNote (behind_deed WriteDone (with_tables_placed f.waits f))) (place_journal f f.waits))
+      (remove_sound (behind_deed WriteDone (with_tables_placed f.waits f)) (place_sound f f.waits refl sound)),
+  t,
+)
+finish_stops f n sound (inr (inr (inr e))) =
     let t : n.taken ≡ [] = ap (λ (x : Moment). x.taken) e in (
-      took_none f (behind_deed RemoveNote (behind_deed WriteDone f)) n (ap (λ (x : Moment). x.folder) e) t
-          (grows_same f (behind_deed RemoveNote (behind_deed WriteDone f)) refl) (inr (once, inr refl)),
+      took_none f (behind_deed RemoveNote (behind_deed WriteDone (with_tables_placed f.waits f))) n (ap (λ (x : Moment). x.folder) e) t
+          (grows_same f (behind_deed RemoveNote (behind_deed WriteDone (with_tables_placed f.waits f))) (place_journal f f.waits))
+          (remove_sound (behind_deed WriteDone (with_tables_placed f.waits f)) (place_sound f f.waits refl sound)),
       t,
     )
 
@@ -265,92 +310,109 @@ idle f n sound e =
     let t : n.taken ≡ [] = ap (λ (x : Moment). x.taken) e in
     (took_none f f n (ap (λ (x : Moment). x.folder) e) t (grows_same f f refl) sound, t)
 
-once_noted : (f : Folder) → Sound f → f.noted ≡ true → f.saves ≡ 1
-once_noted f (inl (none, free)) noted = absurd cc
-once_noted f (inr (once, is)) noted = once
+abbrev folder_of : Option (List ℕ) → Bool → Bool → Bool → Bool → Tables → ℕ → Folder
+folder_of journal begun noted waits done tables saves =
+    record { journal = journal; begun = begun; noted = noted; waits = waits; done = done; tables = tables; saves = saves }
 
-abbrev folder_of : Option (List ℕ) → Bool → Bool → Bool → ℕ → Folder
-folder_of journal begun noted done saves =
-    record { journal = journal; begun = begun; noted = noted; done = done; saves = saves }
-
--- where the tables were saved, the machine of a session takes nothing; and each session keeps what it should
-by_cases : (journal : Option (List ℕ)) (begun noted done : Bool) (saves : ℕ) (goes_on : Bool) (typed : List (List ℕ))
-    (at_end : Bool) (n : Moment) → Sound (folder_of journal begun noted done saves)
-    → LeftBy (record { goes_on = goes_on; typed = typed; saves = at_end }) (folder_of journal begun noted done saves) n
-    → (AllByRecursion IsClean typed → Result (folder_of journal begun noted done saves) n) × (saves ≡ 1 → n.taken ≡ [])
+-- over tables in which what was typed is saved the machine of a session takes nothing, nor over changed ones where it
+-- goes on; and each session keeps what it should
+by_cases : (journal : Option (List ℕ)) (begun noted waits done : Bool) (tables : Tables) (saves : ℕ) (goes_on : Bool)
+    (typed : List (List ℕ)) (at_end : Bool) (n : Moment) → Sound (folder_of journal begun noted waits done tables saves)
+    → LeftBy (record { goes_on = goes_on; typed = typed; saves = at_end }) (folder_of journal begun noted waits done tables saves) n
+    → (AllByRecursion IsClean typed → Result (folder_of journal begun noted waits done tables saves) n) × (saves ≡ 1 → n.taken ≡ [])
+    × (goes_on ≡ true → are_old tables ≡ false → n.taken ≡ [])
 unfolding next_of
-by_cases journal begun true done saves goes_on typed at_end n sound h =
-    let f = folder_of journal begun true done saves in
-    let r = finish_stops (folder_of journal begun true done saves) n (once_noted (folder_of journal begun true done saves) sound refl) refl h in
-    (λ _. r.0, λ _. r.1)
-by_cases journal begun false true saves true typed at_end n sound h =
-    let r = idle (folder_of journal begun false true saves) n sound h in (λ _. r.0, λ _. r.1)
-by_cases (Some []) true false false saves true typed at_end n sound h =
-    let none : saves ≡ 0 = unsaved (folder_of (Some []) true false false saves) sound refl refl in (
-      λ clean. go_on_stops (folder_of (Some []) true false false saves) [] (record { goes_on = true; typed = typed; saves = at_end }) n clean refl none refl h,
+by_cases journal begun true waits done tables saves goes_on typed at_end n sound h =
+    let r = finish_stops (folder_of journal begun true waits done tables saves) n sound h in (λ _. r.0, λ _. r.1, λ _ _. r.1)
+by_cases journal begun false waits true tables saves true typed at_end n sound h =
+    let r = idle (folder_of journal begun false waits true tables saves) n sound h in (λ _. r.0, λ _. r.1, λ _ _. r.1)
+by_cases (Some []) true false waits false Old saves true typed at_end n sound h =
+    let none : saves ≡ 0 = unsaved (folder_of (Some []) true false waits false Old saves) sound refl in (
+      λ clean. go_on_stops (folder_of (Some []) true false waits false Old saves) [] (record { goes_on = true; typed = typed; saves = at_end }) n clean refl none refl h,
       λ once. absurd cc,
+      λ goes other. absurd cc,
     )
-by_cases (Some (b ∷ bs)) true false false saves true typed at_end n sound h =
-    let none : saves ≡ 0 = unsaved (folder_of (Some (b ∷ bs)) true false false saves) sound refl refl in (
-      λ clean. go_on_stops (folder_of (Some (b ∷ bs)) true false false saves) (b ∷ bs) (record { goes_on = true; typed = typed; saves = at_end }) n clean refl none refl h,
+by_cases (Some []) true false waits false New saves true typed at_end n sound h =
+    let r = idle (folder_of (Some []) true false waits false New saves) n sound h in (λ _. r.0, λ _. r.1, λ _ _. r.1)
+by_cases (Some []) true false waits false Other saves true typed at_end n sound h =
+    let r = idle (folder_of (Some []) true false waits false Other saves) n sound h in (λ _. r.0, λ _. r.1, λ _ _. r.1)
+by_cases (Some (b ∷ bs)) true false waits false Old saves true typed at_end n sound h =
+    let none : saves ≡ 0 = unsaved (folder_of (Some (b ∷ bs)) true false waits false Old saves) sound refl in (
+      λ clean. go_on_stops (folder_of (Some (b ∷ bs)) true false waits false Old saves) (b ∷ bs) (record { goes_on = true; typed = typed; saves = at_end }) n clean refl none refl h,
       λ once. absurd cc,
+      λ goes other. absurd cc,
     )
-by_cases (Some []) false false false saves true typed at_end n sound h =
-    let r = idle (folder_of (Some []) false false false saves) n sound h in (λ _. r.0, λ _. r.1)
-by_cases (Some (b ∷ bs)) false false false saves true typed at_end n sound h =
-    let r = idle (folder_of (Some (b ∷ bs)) false false false saves) n sound h in (λ _. r.0, λ _. r.1)
-by_cases None begun false false saves true typed at_end n sound h =
-    let r = idle (folder_of None begun false false saves) n sound h in (λ _. r.0, λ _. r.1)
-by_cases (Some (b ∷ bs)) begun false done saves false typed at_end n sound h =
-    let r = idle (folder_of (Some (b ∷ bs)) begun false done saves) n sound h in (λ _. r.0, λ _. r.1)
-by_cases (Some []) true false done saves false typed at_end n sound h =
-    let r = idle (folder_of (Some []) true false done saves) n sound h in (λ _. r.0, λ _. r.1)
-by_cases (Some []) false false true saves false typed at_end n sound h =
-    let r = idle (folder_of (Some []) false false true saves) n sound h in (λ _. r.0, λ _. r.1)
-by_cases (Some []) false false false saves false typed at_end n sound h =
-    let none : saves ≡ 0 = unsaved (folder_of (Some []) false false false saves) sound refl refl in (
-      λ clean. begin_stops (folder_of (Some []) false false false saves) (record { goes_on = false; typed = typed; saves = at_end }) n clean
-          (empty_journal (folder_of (Some []) false false false saves) refl) none refl h,
-      λ once. absurd cc,
+by_cases (Some (b ∷ bs)) true false waits false New saves true typed at_end n sound h =
+    let r = idle (folder_of (Some (b ∷ bs)) true false waits false New saves) n sound h in (λ _. r.0, λ _. r.1, λ _ _. r.1)
+by_cases (Some (b ∷ bs)) true false waits false Other saves true typed at_end n sound h =
+    let r = idle (folder_of (Some (b ∷ bs)) true false waits false Other saves) n sound h in (λ _. r.0, λ _. r.1, λ _ _. r.1)
+by_cases (Some []) false false waits false tables saves true typed at_end n sound h =
+    let r = idle (folder_of (Some []) false false waits false tables saves) n sound h in (λ _. r.0, λ _. r.1, λ _ _. r.1)
+by_cases (Some (b ∷ bs)) false false waits false tables saves true typed at_end n sound h =
+    let r = idle (folder_of (Some (b ∷ bs)) false false waits false tables saves) n sound h in (λ _. r.0, λ _. r.1, λ _ _. r.1)
+by_cases None begun false waits false tables saves true typed at_end n sound h =
+    let r = idle (folder_of None begun false waits false tables saves) n sound h in (λ _. r.0, λ _. r.1, λ _ _. r.1)
+by_cases (Some (b ∷ bs)) begun false waits done tables saves false typed at_end n sound h =
+    let r = idle (folder_of (Some (b ∷ bs)) begun false waits done tables saves) n sound h in (λ _. r.0, λ _. r.1, λ _ _. r.1)
+by_cases (Some []) true false waits done tables saves false typed at_end n sound h =
+    let r = idle (folder_of (Some []) true false waits done tables saves) n sound h in (λ _. r.0, λ _. r.1, λ _ _. r.1)
+by_cases (Some []) false false waits true tables saves false typed at_end n sound h =
+    let r = idle (folder_of (Some []) false false waits true tables saves) n sound h in (λ _. r.0, λ _. r.1, λ _ _. r.1)
+by_cases (Some []) false false waits false tables saves false typed at_end n sound h =
+    let is : Unsaved (folder_of (Some []) false false waits false tables saves) = unbegun (folder_of (Some []) false false waits false tables saves) sound refl in (
+      λ clean. begin_stops (folder_of (Some []) false false waits false tables saves) (record { goes_on = false; typed = typed; saves = at_end }) n clean (empty_journal (folder_of (Some []) false false waits false tables saves) refl) is h,
+      λ once. let none : saves ≡ 0 = is.0 in absurd cc,
+      λ goes other. absurd cc,
     )
-by_cases None true false done saves false typed at_end n sound h =
-    let r = idle (folder_of None true false done saves) n sound h in (λ _. r.0, λ _. r.1)
-by_cases None false false true saves false typed at_end n sound h =
-    let r = idle (folder_of None false false true saves) n sound h in (λ _. r.0, λ _. r.1)
-by_cases None false false false saves false typed at_end n sound h =
-    let none : saves ≡ 0 = unsaved (folder_of None false false false saves) sound refl refl in (
-      λ clean. begin_stops (folder_of None false false false saves) (record { goes_on = false; typed = typed; saves = at_end }) n clean
-          (no_journal (folder_of None false false false saves) (behind_deed MakeJournal (folder_of None false false false saves)) refl) none refl h,
-      λ once. absurd cc,
+by_cases None true false waits done tables saves false typed at_end n sound h =
+    let r = idle (folder_of None true false waits done tables saves) n sound h in (λ _. r.0, λ _. r.1, λ _ _. r.1)
+by_cases None false false waits true tables saves false typed at_end n sound h =
+    let r = idle (folder_of None false false waits true tables saves) n sound h in (λ _. r.0, λ _. r.1, λ _ _. r.1)
+by_cases None false false waits false tables saves false typed at_end n sound h =
+    let is : Unsaved (folder_of None false false waits false tables saves) = unbegun (folder_of None false false waits false tables saves) sound refl in (
+      λ clean. begin_stops (folder_of None false false waits false tables saves) (record { goes_on = false; typed = typed; saves = at_end }) n clean (no_journal (folder_of None false false waits false tables saves) (behind_deed MakeJournal (folder_of None false false waits false tables saves)) refl) is h,
+      λ once. let none : saves ≡ 0 = is.0 in absurd cc,
+      λ goes other. absurd cc,
     )
 
 session : (s : Session) (f : Folder) (n : Moment) → Sound f → LeftBy s f n
-    → (AllByRecursion IsClean s.typed → Result f n) × (f.saves ≡ 1 → n.taken ≡ [])
-session s f n sound h = by_cases f.journal f.begun f.noted f.done f.saves s.goes_on s.typed s.saves n sound h
+    → (AllByRecursion IsClean s.typed → Result f n) × (f.saves ≡ 1 → n.taken ≡ []) × (s.goes_on ≡ true → are_old f.tables ≡ false → n.taken ≡ [])
+session s f n sound h = by_cases f.journal f.begun f.noted f.waits f.done f.tables f.saves s.goes_on s.typed s.saves n sound h
 
--- ---- sessions in turn
+-- ---- visits in turn
 
-passes : (ss : List Session) (f : Folder) (all : List (List (List ℕ))) (g : Folder) → AreClean ss → Sound f → Passed ss f all g
+passes : (vs : List Visit) (f : Folder) (all : List (List (List ℕ))) (g : Folder) → AreClean vs → Sound f → Passed vs f all g
     → Grows f g × AllByRecursion (NothingLost g) all × Sound g
 passes [] f all g clean sound (none, e) =
     (grows_same f g (ap (λ (x : Folder). x.journal) e), subst (AllByRecursion (NothingLost g)) (sym none) tt, subst Sound (sym e) sound)
-passes (s ∷ ss) f all g (here, clean) sound (m, rest, leaves, e, passed) =
+passes (Talks s ∷ vs) f all g (here, clean) sound (m, rest, leaves, e, passed) =
     let r = (session s f m sound leaves).0 here in
-    let q = passes ss m.folder rest g clean r.sound passed in (
+    let q = passes vs m.folder rest g clean r.sound passed in (
       grows_then f m.folder g r.grows q.0,
       subst (AllByRecursion (NothingLost g)) (sym e) (lost_moves m.folder g m.taken q.0 r.kept, q.1),
       q.2,
     )
+passes (Forgets ∷ vs) f all g (here, clean) sound passed =
+    let q = passes vs (behind_deed RemoveNote f) all g clean (remove_sound f sound) passed in
+    (grows_then f (behind_deed RemoveNote f) g (grows_same f (behind_deed RemoveNote f) refl) q.0, q.1, q.2)
+passes (Changes ∷ vs) f all g (here, clean) sound passed =
+    let q = passes vs (changed f) all g clean (change_sound f sound) passed in
+    (grows_then f (changed f) g (grows_same f (changed f) refl) q.0, q.1, q.2)
+passes (PutsBack ∷ vs) f all g (here, clean) sound passed =
+    let q = passes vs (put_back f) all g clean (put_back_sound f sound) passed in
+    (grows_then f (put_back f) g (grows_same f (put_back f) refl) q.0, q.1, q.2)
 
 at_most_once : (f : Folder) → Sound f → f.saves ≤ 1
-at_most_once f (inl (none, free)) = omega (arith, none)
-at_most_once f (inr (once, is)) = omega (arith, once)
+at_most_once f (inl (none, or)) = omega (arith, none)
+at_most_once f (inr (once, free, begun, other)) = omega (arith, once)
 
-pub kept_and_saved_once : (ss : List Session) → AreClean ss → IsKeptAndSavedOnce ss
-kept_and_saved_once ss clean =
-    let begun : Sound empty_folder = inl (refl, refl) in record {
-      kept = λ all g passed. (passes ss empty_folder all g clean begun passed).1;
-      once = λ all g passed. at_most_once g (passes ss empty_folder all g clean begun passed).2;
+pub kept_and_saved_once : (vs : List Visit) → AreClean vs → IsKeptAndSavedOnce vs
+kept_and_saved_once vs clean =
+    let begun : Sound empty_folder = inl (refl, inl refl) in record {
+      kept = λ all g passed. (passes vs empty_folder all g clean begun passed).1;
+      once = λ all g passed. at_most_once g (passes vs empty_folder all g clean begun passed).2;
       then_none = λ all f passed once s m leaves.
-          (session s f m (passes ss empty_folder all f clean begun passed).2 leaves).1 once;
+          (session s f m (passes vs empty_folder all f clean begun passed).2 leaves).1 once;
+      unchanged = λ all f passed other s m goes leaves.
+          (session s f m (passes vs empty_folder all f clean begun passed).2 leaves).2 goes other;
     }

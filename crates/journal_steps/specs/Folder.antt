@@ -4,7 +4,7 @@ use Rattle.std.specs.Prelude.{◌||◌, ◌==◌, if◌then◌else◌}
 use Rattle.std.specs.Option.{option_map}
 use Rattle.journal_steps.specs.declared.next.Remains.{Remains}
 use Rattle.journal_steps.specs.declared.next.Next.{Next}
-use Rattle.journal_steps.specs.declared.next.Next.TheVariants.{Begin, GoOn, Finish, Ended, Taken, Missing}
+use Rattle.journal_steps.specs.declared.next.Next.TheVariants.{Begin, GoOn, Finish, Ended, Changed, Taken, Missing}
 use Rattle.journal_steps.specs.Next.{next_of}
 
 -- ---- lines and bytes
@@ -25,17 +25,31 @@ whole_lines bytes = lines_after_front [] bytes
 
 -- ---- what stands
 
--- the bytes of the journal, if it stands; the texts of the beginning and of the end; whether a note tells of a save;
--- and how often tables were saved
+-- the tables: those of the beginning; those of the conversation's save, in part at least; or other ones
+pub data Tables : Type 0 where
+  Old : Tables
+  New : Tables
+  Other : Tables
+
+abbrev pub are_old : Tables → Bool
+are_old Old = true
+are_old New = false
+are_old Other = false
+
+-- the bytes of the journal, if it stands; the texts of the beginning and of the end; whether a note tells of a save,
+-- and whether its new tables still wait beside the old ones; the tables, and how often what was typed was saved in them
 pub record Folder : Type 0 where
   pub journal : Option (List ℕ)
   pub begun : Bool
   pub noted : Bool
+  pub waits : Bool
   pub done : Bool
+  pub tables : Tables
   pub saves : ℕ
 
 abbrev pub empty_folder : Folder
-empty_folder = record { journal = None; begun = false; noted = false; done = false; saves = 0 }
+empty_folder =
+    record { journal = None; begun = false; noted = false; waits = false; done = false; tables = Other; saves = 0 }
 
 -- an empty journal without a text of its beginning or of its end counts as none: nothing was ever asked
 abbrev pub counts : Option (List ℕ) → Bool → Bool → Bool
@@ -44,7 +58,14 @@ counts (Some []) begun done = begun || done
 counts (Some (byte ∷ bytes)) begun done = true
 
 abbrev pub remains_in : Folder → Remains
-remains_in f = record { journal = counts f.journal f.begun f.done; begun = f.begun; noted = f.noted; done = f.done }
+remains_in f =
+    record {
+      journal = counts f.journal f.begun f.done;
+      begun = f.begun;
+      noted = f.noted;
+      done = f.done;
+      same = are_old f.tables;
+    }
 
 -- the folder, and the lines that the session's machine has taken, in order
 pub record Moment : Type 0 where
@@ -56,7 +77,7 @@ pub record Moment : Type 0 where
 pub data Deed : Type 0 where
   -- an empty journal is made
   MakeJournal : Deed
-  -- the text of the beginning takes its place
+  -- the text of the beginning takes its place, with the sums of the tables that stand
   WriteBegun : Deed
   -- the journal is cut behind its last LF
   CutJournal : Deed
@@ -66,32 +87,35 @@ pub data Deed : Type 0 where
   Take : List (List ℕ) → Deed
   -- the note of the save takes its place: from then on the save counts
   WriteNote : Deed
+  -- the new tables that wait take their places
+  Place : Deed
   -- the text of the end takes its place
   WriteDone : Deed
-  -- the note goes
+  -- the note goes, and the new tables that still wait go before it
   RemoveNote : Deed
 
 abbrev pub with_journal : Folder → Option (List ℕ) → Folder
-with_journal f journal =
-    record { journal = journal; begun = f.begun; noted = f.noted; done = f.done; saves = f.saves }
+with_journal f journal = record f { journal = journal }
 
 abbrev pub with_more_bytes : List ℕ → Folder → Folder
 with_more_bytes bytes f = with_journal f (option_map (λ j. j ++ bytes) f.journal)
 
+-- the tables of a save in their places, where they wait; some of them are as many as all
+abbrev pub with_tables_placed : Bool → Folder → Folder
+with_tables_placed false f = f
+with_tables_placed true f = record f { waits = false; tables = New; saves = suc f.saves }
+
 -- the folder behind a deed
 abbrev pub behind_deed : Deed → Folder → Folder
 behind_deed MakeJournal f = with_journal f (Some [])
-behind_deed WriteBegun f =
-    record { journal = f.journal; begun = true; noted = f.noted; done = f.done; saves = f.saves }
+behind_deed WriteBegun f = record f { begun = true; tables = Old }
 behind_deed CutJournal f = with_journal f (option_map (λ j. unlines (whole_lines j)) f.journal)
 behind_deed (Keep line) f = with_more_bytes (line ++ 10 ∷ []) f
 behind_deed (Take lines) f = f
-behind_deed WriteNote f =
-    record { journal = f.journal; begun = f.begun; noted = true; done = f.done; saves = suc f.saves }
-behind_deed WriteDone f =
-    record { journal = f.journal; begun = f.begun; noted = f.noted; done = true; saves = f.saves }
-behind_deed RemoveNote f =
-    record { journal = f.journal; begun = f.begun; noted = false; done = f.done; saves = f.saves }
+behind_deed WriteNote f = record f { noted = true; waits = true }
+behind_deed Place f = with_tables_placed f.waits f
+behind_deed WriteDone f = record f { done = true }
+behind_deed RemoveNote f = record f { noted = false; waits = false }
 
 -- the lines that the machine has taken behind a deed
 abbrev pub taken_behind : Deed → List (List ℕ) → List (List ℕ)
@@ -124,7 +148,7 @@ talk [] = []
 talk (line ∷ lines) = Keep line ∷ Take (line ∷ []) ∷ talk lines
 
 abbrev pub last_deeds : Bool → List Deed
-last_deeds true = WriteNote ∷ WriteDone ∷ RemoveNote ∷ []
+last_deeds true = WriteNote ∷ Place ∷ WriteDone ∷ RemoveNote ∷ []
 last_deeds false = WriteDone ∷ []
 
 -- the lines that a journal holds
@@ -136,8 +160,9 @@ lines_kept (Some bytes) = whole_lines bytes
 abbrev pub deeds_of : Next → Folder → Session → List Deed
 deeds_of Begin f s = MakeJournal ∷ WriteBegun ∷ talk s.typed ++ last_deeds s.saves
 deeds_of GoOn f s = CutJournal ∷ Take (lines_kept f.journal) ∷ talk s.typed ++ last_deeds s.saves
-deeds_of Finish f s = WriteDone ∷ RemoveNote ∷ []
+deeds_of Finish f s = Place ∷ WriteDone ∷ RemoveNote ∷ []
 deeds_of Ended f s = []
+deeds_of Changed f s = []
 deeds_of Taken f s = []
 deeds_of Missing f s = []
 
@@ -147,3 +172,19 @@ begins f = record { folder = f; taken = [] }
 -- a session of a conversation of which this stands, stopped at any moment, leaves this
 abbrev pub LeftBy : Session → Folder → Moment → Type 0
 LeftBy s f m = StoppedAt (deeds_of (next_of (remains_in f) s.goes_on) f s) (begins f) m
+
+-- ---- what else befalls a folder
+
+-- between sessions the save that a note tells of may be forgotten, which writes no text of an end; and other programs
+-- may change the tables, or put back those of the beginning, in which nothing of the conversation is saved
+pub data Visit : Type 0 where
+  Talks : Session → Visit
+  Forgets : Visit
+  Changes : Visit
+  PutsBack : Visit
+
+abbrev pub changed : Folder → Folder
+changed f = record f { tables = Other }
+
+abbrev pub put_back : Folder → Folder
+put_back f = record f { tables = Old; saves = 0 }

@@ -14,6 +14,8 @@ pub struct Remains {
     pub noted: bool,
     /// Whether the text of its end stands.
     pub done: bool,
+    /// Whether each file of its run that was read is as the text of its beginning says.
+    pub same: bool,
 }
 
 /// What becomes of a conversation.
@@ -27,6 +29,8 @@ pub enum Next {
     Finish,
     /// Nothing: it came to its end.
     Ended,
+    /// Nothing: a file isn't as it was at its beginning.
+    Changed,
     /// Nothing: it was begun, and isn't to be begun anew.
     Taken,
     /// Nothing: it wasn't begun.
@@ -46,7 +50,10 @@ pub fn next_of(found: Remains, goes_on: bool) -> Next
             return Next::Ended;
         }
         if found.journal && found.begun {
-            return Next::GoOn;
+            if found.same {
+                return Next::GoOn;
+            }
+            return Next::Changed;
         }
         return Next::Missing;
     }

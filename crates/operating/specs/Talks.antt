@@ -1,5 +1,5 @@
 -- Runs whose lines are typed while they go on.
-use Rattle.std.specs.Prelude.{◌≡◌, ◌<◌, ◌≤◌, ◌+◌, ◌-◌, ◌++◌, ℕ, List, true, Option, Some, None}
+use Rattle.std.specs.Prelude.{◌≡◌, ◌<◌, ◌≤◌, ◌+◌, ◌-◌, ◌++◌, ℕ, List, true, Option, Some, None, length}
 use Rattle.calendar.specs.declared.day.DayParts.{DayParts}
 use Rattle.code_items.specs.declared.code.Code.{Code}
 use Rattle.line_journal.specs.Kept.{ended_by_lf}
@@ -44,9 +44,14 @@ IsNearer budget limit steps used (Over outcome) = Unit {0}
 IsNearer budget limit steps used (On more longer) =
     (more ≤ budget) × (longer ≤ limit) × ((budget - more) + (limit - longer) < (budget - steps) + (limit - used))
 
+-- the bytes of lines that a turn counts are as many as these
+abbrev pub IsCounted : ℕ → Turn → Type 0
+IsCounted held (Over outcome) = Unit {0}
+IsCounted held (On steps used) = used ≡ held
+
 -- a line is taken behind those that were kept, which has one byte at least, or none is
 abbrev pub TookLine : List ℕ → BankState → ℕ → ℕ → Option ℕ → List ℕ → BankState → Type 0
 TookLine before old used limit None after new = (after ≡ before) × (new ≡ old)
 TookLine before old used limit (Some longer) after new = (line : List ℕ) × (after ≡ before ++ ended_by_lf line)
     × (new ≡ record old { env = with_lines (short_lines (ended_by_lf line)) old.env })
-    × (used < longer) × (longer ≤ limit)
+    × (used < longer) × (longer ≤ limit) × (longer ≡ length after)

@@ -5,7 +5,7 @@ ghost use Rattle.calendar.specs.declared.day.DayParts.{DayParts};
 ghost use Rattle.machine.specs.Showing.{shown_next};
 ghost use Rattle.machine.specs.Twins.{Twin};
 ghost use Rattle.operating.specs.Answers.{AnswersKept, LastUnkept};
-ghost use Rattle.operating.specs.Talks.{ComesTo, IsNearer, Talked, TookLine, Turned};
+ghost use Rattle.operating.specs.Talks.{ComesTo, IsCounted, IsNearer, Talked, TookLine, Turned};
 ghost use Rattle.run_steps.specs.Shapes.{StoreFits};
 ghost use Rattle.run_steps.specs.World.{World};
 ghost use Rattle.text_lines.specs.Lines.{is_ended as is_ended_text, is_out, short_lines};
@@ -26,13 +26,13 @@ use text_lines::{TypedLines, is_ended};
 use work_area::Store;
 use xverify::Verified;
 
-/// The most bytes that are typed in a conversation: 1 MiB.
+/// The most bytes that all lines of a conversation have together, each with its LF: 1 MiB, the most that a run is
+/// given.
 pub const MOST_TYPED: usize = 1_048_576;
 
-/// The most bytes that all lines have together, each with its LF: those that are typed, and the end of a last line that
-/// was typed without one. Where that line ends with a return, its end is a return and LF, since a return just before LF
-/// is no part of a line.
-pub const MOST_KEPT: usize = MOST_TYPED + 2;
+/// The same of lines that were given to a run at once, whose last one may have no end. It is typed with one: LF, or a
+/// return and LF where the line ends with a return, since a return just before LF is no part of a line.
+pub const MOST_GIVEN: usize = MOST_TYPED + 2;
 
 /// What a turn of the conversation leads to.
 #[derive(Clone, Copy)]
@@ -71,17 +71,20 @@ fn take_one<J: Journal, O: Operator, K: KeyList>(
     operator: &mut O,
     banks: &mut Banks<K>,
     used: usize,
+    most: usize,
 ) -> Result<Option<usize>, Broken>
     requires out { is_out banks.old.env.lines ≡ true }
-    requires few { used ≤ 1048578 }
-    ensures took { IfOk result (λ longer. TookLine (J.holds journal.old) banks.old used 1048578 longer
+    requires few { used ≤ most }
+    requires counted { used ≡ length (J.holds journal.old) }
+    ensures took { IfOk result (λ longer. TookLine (J.holds journal.old) banks.old used most longer
         (J.holds journal.new) banks.new) }
+    ensures few { length (J.holds journal.new) ≤ most }
     ensures kept { OnOk result (AnswersKept (O.answered operator.old) (O.answered operator.new)
         (J.holds journal.old) (J.holds journal.new)) }
     ensures unkept { OnErr result (LastUnkept (O.answered operator.old) (O.answered operator.new)
         (J.holds journal.old) (J.holds journal.new)) }
 {
-    let room = MOST_KEPT - used;
+    let room = most - used;
     let line = match operator.ask(&view_of(verified, banks), room) {
         Ok(Answer::Line(line)) => line,
         Ok(Answer::End) => return Ok(None),
@@ -153,16 +156,20 @@ fn answer<J: Journal, O: Operator, K: KeyList>(
     budget: u64,
     steps: u64,
     used: usize,
+    most: usize,
 ) -> Result<Turn, Broken>
     requires within { steps ≤ budget }
-    requires few { used ≤ 1048578 }
+    requires few { used ≤ most }
+    requires counted { used ≡ length (J.holds journal.old) }
     requires out { is_out banks.old.env.lines ≡ true }
     requires talked { (store : StoreState) × (today : Option DayParts)
         × Talked verified.now store today (J.holds journal.old) steps banks.old }
     ensures turned { IfOk result (λ turn. (store : StoreState) (today : Option DayParts)
         → Talked verified.now store today (J.holds journal.old) steps banks.old
         → Turned verified.now store today (J.holds journal.new) budget turn banks.new) }
-    ensures nearer { IfOk result (IsNearer budget 1048578 steps used) }
+    ensures nearer { IfOk result (IsNearer budget most steps used) }
+    ensures counted { IfOk result (IsCounted (length (J.holds journal.new))) }
+    ensures few { length (J.holds journal.new) ≤ most }
     ensures kept { OnOk result (AnswersKept (O.answered operator.old) (O.answered operator.new)
         (J.holds journal.old) (J.holds journal.new)) }
     ensures unkept { OnErr result (LastUnkept (O.answered operator.old) (O.answered operator.new)
@@ -171,7 +178,7 @@ fn answer<J: Journal, O: Operator, K: KeyList>(
     banks_go_on(verified);
     lines_behind_change_no_step();
     texts_join_at_line_ends();
-    let taken = take_one(verified, journal, operator, banks, used)?;
+    let taken = take_one(verified, journal, operator, banks, used, most)?;
     match taken {
         Some(longer) => Ok(Turn::On {
             steps,
@@ -196,15 +203,19 @@ fn take_turn<J: Journal, O: Operator, K: KeyList>(
     budget: u64,
     steps: u64,
     used: usize,
+    most: usize,
 ) -> Result<Turn, Broken>
     requires within { steps ≤ budget }
-    requires few { used ≤ 1048578 }
+    requires few { used ≤ most }
+    requires counted { used ≡ length (J.holds journal.old) }
     requires talked { (store : StoreState) × (today : Option DayParts)
         × Talked verified.now store today (J.holds journal.old) steps banks.old }
     ensures turned { IfOk result (λ turn. (store : StoreState) (today : Option DayParts)
         → Talked verified.now store today (J.holds journal.old) steps banks.old
         → Turned verified.now store today (J.holds journal.new) budget turn banks.new) }
-    ensures nearer { IfOk result (IsNearer budget 1048578 steps used) }
+    ensures nearer { IfOk result (IsNearer budget most steps used) }
+    ensures counted { IfOk result (IsCounted (length (J.holds journal.new))) }
+    ensures few { length (J.holds journal.new) ≤ most }
     ensures kept { OnOk result (AnswersKept (O.answered operator.old) (O.answered operator.new)
         (J.holds journal.old) (J.holds journal.new)) }
     ensures unkept { OnErr result (LastUnkept (O.answered operator.old) (O.answered operator.new)
@@ -212,8 +223,8 @@ fn take_turn<J: Journal, O: Operator, K: KeyList>(
 {
     pieces_make_the_whole();
     let left = budget - steps;
-    let most = operator.hear(steps, budget);
-    match take_piece(alloc, verified, marks, banks, left, most) {
+    let part = operator.hear(steps, budget);
+    match take_piece(alloc, verified, marks, banks, left, part) {
         Piece::Ended(last) => Ok(Turn::Over(Outcome {
             end: last.end,
             steps: steps + last.steps,
@@ -239,6 +250,7 @@ fn take_turn<J: Journal, O: Operator, K: KeyList>(
             budget,
             steps + more,
             used,
+            most,
         ),
     }
 }
@@ -253,13 +265,16 @@ fn take_turns<J: Journal, O: Operator, K: KeyList>(
     banks: &mut Banks<K>,
     budget: u64,
     used: usize,
+    most: usize,
 ) -> Result<Outcome, Broken>
-    requires few { used ≤ 1048578 }
+    requires few { used ≤ most }
+    requires counted { used ≡ length (J.holds journal.old) }
     requires talked { (store : StoreState) × (today : Option DayParts)
         × Talked verified.now store today (J.holds journal.old) 0 banks.old }
     ensures comes_to { IfOk result (λ outcome. (store : StoreState) (today : Option DayParts)
         → Talked verified.now store today (J.holds journal.old) 0 banks.old
         → ComesTo verified.now store today (J.holds journal.new) budget outcome banks.new) }
+    ensures few { length (J.holds journal.new) ≤ most }
     ensures kept { OnOk result (AnswersKept (O.answered operator.old) (O.answered operator.new)
         (J.holds journal.old) (J.holds journal.new)) }
     ensures unkept { OnErr result (LastUnkept (O.answered operator.old) (O.answered operator.new)
@@ -269,7 +284,7 @@ fn take_turns<J: Journal, O: Operator, K: KeyList>(
     let mut used = used;
     loop {
         let turned = take_turn(
-            alloc, verified, marks, journal, operator, banks, budget, steps, used,
+            alloc, verified, marks, journal, operator, banks, budget, steps, used, most,
         )?;
         match turned {
             Turn::Over(outcome) => return Ok(outcome),
@@ -318,12 +333,12 @@ fn begun<K: KeyList>(
     Banks::opening(alloc, verified, store, today, lines)
 }
 
-/// Whether a conversation can go on behind these bytes: at most `MOST_TYPED`, and whole lines.
-pub fn can_go_on(handed: &[u8]) -> bool
+/// Whether a conversation can go on behind these bytes: whole lines, of at most so many bytes together.
+pub fn can_go_on(handed: &[u8], most: usize) -> bool
     ensures ended { result ≡ true → is_ended_text handed.now ≡ true }
-    ensures few { result ≡ true → length handed.now ≤ 1048576 }
+    ensures few { result ≡ true → length handed.now ≤ most }
 {
-    if handed.len() > MOST_TYPED {
+    if handed.len() > most {
         return false;
     }
     is_ended(handed)
@@ -340,8 +355,8 @@ pub struct EndedTalk<K: KeyList> {
 /// lines that the journal holds, and goes on with those that the operator answers: each is kept in the journal before
 /// the run sees it. Behind the end of the input each further line is empty. The run ends as that over all lines that
 /// the journal holds then: at the same cost, with the same screen and tables. Whether the budget is spent is judged
-/// before a line is asked for. Where the conversation breaks off, the last line that was answered may be missing in the
-/// journal.
+/// before a line is asked for. All lines together have at most so many bytes, each with its LF: one that would pass
+/// that isn't taken. Where the conversation breaks off, the last line that was answered may be missing in the journal.
 ///
 /// # Errors
 /// The operator or the journal failed, or a line isn't one, or memory was refused before the run began or for a line.
@@ -354,13 +369,15 @@ pub fn converse<J: Journal, O: Operator, K: KeyList>(
     journal: &mut J,
     operator: &mut O,
     budget: u64,
+    most: usize,
 ) -> Result<EndedTalk<K>, Broken>
     requires fits { StoreFits verified.now.declared store }
     requires held { J.holds journal.old ≡ handed.now }
     requires ended { is_ended_text handed.now ≡ true }
-    requires few { length handed.now ≤ 1048576 }
+    requires few { length (J.holds journal.old) ≤ most }
     ensures comes_to { IfOk result (λ talk. ComesTo verified.now store today (J.holds journal.new) budget talk.outcome
         talk.banks) }
+    ensures few { length (J.holds journal.new) ≤ most }
 
     // What the journal holds then is what it held before, with the lines that were answered behind it, and no more.
     ensures kept { OnOk result (AnswersKept (O.answered operator.old) (O.answered operator.new)
@@ -379,6 +396,7 @@ pub fn converse<J: Journal, O: Operator, K: KeyList>(
         &mut banks,
         budget,
         handed.len(),
+        most,
     )?;
     close(verified, operator, &banks)?;
     Ok(EndedTalk { banks, outcome })

@@ -1,2 +1,3 @@
 pub mod WholeLines
 pub mod LaidAnswers
+pub mod ToldAnswers

@@ -1,8 +1,7 @@
 -- What is known of the places of a code and of the line that is wanted, and which answers leave the old value.
-use Rattle.std.specs.Prelude.{◌≡◌, ◌-◌, ◌==◌, ◌||◌, not, nat_lt, ℕ, List, [], ◌∷◌, Bool, true, false, Option, Some}
-use Rattle.std.specs.Prelude.{MatchOption, None, codes, if◌then◌else◌, is_none, is_some, length, map, option_map}
+use Rattle.std.specs.Prelude.{◌≡◌, ◌⊎◌, ◌-◌, ◌==◌, ◌||◌, not, nat_lt, ℕ, List, [], ◌∷◌, Bool, true, false, Option, Some}
+use Rattle.std.specs.Prelude.{MatchOption, None, if◌then◌else◌, is_none, is_some, length, map, option_map}
 use Rattle.std.specs.Prelude.{slice_get, string_bytes}
-use Rattle.std.specs.List.{list_any}
 use Rattle.calendar.specs.DateTexts.{date_read}
 use Rattle.code_items.specs.declared.instr.Instr.{Instr}
 use Rattle.code_items.specs.declared.instr.Instr.TheVariants as instr
@@ -20,6 +19,8 @@ use Rattle.operator_desk.specs.declared.gets.Taker.TheVariants as taker
 use Rattle.operator_desk.specs.declared.screens.Screens.{Screens}
 use Rattle.terminal_screen.specs.Orders.{AreAnswered}
 use Rattle.terminal_screen.specs.declared.fields.ShownField.{ShownField}
+use Rattle.calendar.specs.declared.day.DayParts.{DayParts}
+use Rattle.xvalue.specs.Answers.{date_answered, number_answered, says_no, says_yes, text_answered, truth_answered}
 use Rattle.xvalue.specs.declared.kind.Kind.{Kind}
 use Rattle.xvalue.specs.declared.kind.Kind.TheVariants as kinds
 
@@ -30,17 +31,14 @@ is_no_number asterisk = true
 is_no_number (finite digits decimals) = false
 
 -- the line begins with none of T, Y, F and N
-abbrev pub is_truth_letter : ℕ → Bool
-is_truth_letter letter = list_any (λ truth. truth == letter) (codes "TtYyFfNn")
-
-abbrev pub is_no_truth : Option ℕ → Bool
-is_no_truth None = false
-is_no_truth (Some letter) = not (is_truth_letter letter)
+abbrev pub is_no_truth : List ℕ → Bool
+is_no_truth [] = false
+is_no_truth (letter ∷ others) = not (says_yes letter || says_no letter)
 
 abbrev pub is_no_value : Kind → List ℕ → Bool
 is_no_value kinds.Number line = is_no_number (parsed line)
 is_no_value kinds.Date line = is_none (date_read line)
-is_no_value kinds.Logical line = is_no_truth (slice_get line 0)
+is_no_value kinds.Logical line = is_no_truth line
 is_no_value kinds.Text line = false
 
 abbrev pub is_no_answer : Option Kind → List ℕ → Bool
@@ -50,6 +48,26 @@ is_no_answer (Some wanted) line = is_no_value wanted line
 -- whether a line that isn't empty leaves the old value: it spells no value of the kind that is wanted
 abbrev pub leaves_old : Option Kind → List ℕ → Bool
 leaves_old wanted line = if length line == 0 then false else is_no_answer wanted line
+
+-- a run keeps each old value of the kind
+abbrev pub KeepsOld : Kind → List ℕ → Type 0
+KeepsOld kinds.Number line = (old : Decimal) → number_answered old line ≡ old
+KeepsOld kinds.Date line = (old : Option DayParts) → date_answered old line ≡ old
+KeepsOld kinds.Logical line = (old : Bool) → truth_answered old line ≡ old
+KeepsOld kinds.Text line = (old : List ℕ) → text_answered old line ≡ old
+
+-- a run takes the line: of the old value nothing is left but a text's length
+abbrev pub GivesNew : Kind → List ℕ → Type 0
+GivesNew kinds.Number line = (old other : Decimal) → number_answered old line ≡ number_answered other line
+GivesNew kinds.Date line = (old other : Option DayParts) → date_answered old line ≡ date_answered other line
+GivesNew kinds.Logical line = (old other : Bool) → truth_answered old line ≡ truth_answered other line
+GivesNew kinds.Text line =
+    (old other : List ℕ) → length old ≡ length other → text_answered old line ≡ text_answered other line
+
+-- it is told that the old value stays, and it does; or it isn't told, and the line is empty or is taken
+abbrev pub IsToldOf : Bool → Kind → List ℕ → Type 0
+IsToldOf true wanted line = KeepsOld wanted line
+IsToldOf false wanted line = (line ≡ []) ⊎ GivesNew wanted line
 
 -- ---- places
 

@@ -1,8 +1,9 @@
 //! The operator's desk: what a person or another program sees of a run, and types for it.
 #![tactic(auto)]
 
-ghost use Rattle.std.specs.Prelude.{◌≡◌, string_bytes};
+ghost use Rattle.std.specs.Prelude.{◌≡◌, OnOk, string_bytes, true};
 ghost use Rattle.operator_desk.specs.Asked.{newest_note};
+ghost use Rattle.operator_desk.specs.Openings.{is_opened};
 
 use crate::begun::Talk;
 use crate::gets::{Gets, WaitingPlace, bad_answer, without_return};
@@ -14,7 +15,7 @@ use crate::typist::TakenLines;
 use code_items::Code;
 use code_pages::{CodePage, LetterFault, in_page};
 use folder_files::FileSum;
-use operating::{Answer, MOST_KEPT, MOST_TYPED, Operator, OperatorFailed, Scene};
+use operating::{Answer, MOST_TYPED, Operator, OperatorFailed, Scene};
 use screen_lines::Cursor;
 use std::alloc::{AllocError, Global};
 use std::cell::RefCell;
@@ -402,6 +403,7 @@ impl<R: Runtime<A = Global, File = File>> OperatorDesk<'_, R> {
         line: Option<&[u8]>,
     ) -> Result<(), OperatorFailed>
         ensures untold { self.new.answers ≡ self.old.answers }
+        ensures opened { is_opened self.new.record ≡ is_opened self.old.record }
     {
         if self.screens.write(alloc, rows, line).is_err() {
             return Err(self.unwritten_screens());
@@ -412,6 +414,7 @@ impl<R: Runtime<A = Global, File = File>> OperatorDesk<'_, R> {
     /// Remembers that the file for screens can't be written.
     fn unwritten_screens(&mut self) -> OperatorFailed
         ensures untold { self.new.answers ≡ self.old.answers }
+        ensures opened { is_opened self.new.record ≡ is_opened self.old.record }
     {
         if let Some(name) = self.screens.name() {
             self.record.unwritten = String::from_str(self.rt.alloc(), name).ok();
@@ -422,6 +425,7 @@ impl<R: Runtime<A = Global, File = File>> OperatorDesk<'_, R> {
     /// Makes the file for screens, where there is to be one.
     fn make_screens(&mut self) -> Result<(), OperatorFailed>
         ensures untold { self.new.answers ≡ self.old.answers }
+        ensures opened { is_opened self.new.record ≡ is_opened self.old.record }
     {
         if self.screens.make(self.rt).is_err() {
             return Err(self.unwritten_screens());
@@ -432,6 +436,7 @@ impl<R: Runtime<A = Global, File = File>> OperatorDesk<'_, R> {
     /// Says beside the journal how the conversation begins, or looks whether it may go on.
     fn open(&mut self, alloc: Global) -> Result<(), OperatorFailed>
         ensures untold { self.new.answers ≡ self.old.answers }
+        ensures opened { OnOk result (is_opened self.new.record ≡ true) }
     {
         match self.sums.try_borrow() {
             Ok(sums) => self.record.begin(alloc, self.talk, sums.as_slice()),
@@ -442,6 +447,7 @@ impl<R: Runtime<A = Global, File = File>> OperatorDesk<'_, R> {
     /// Cuts off what stands behind the journal's lines, and shows it.
     fn cut_tail(&mut self, alloc: Global) -> Result<(), OperatorFailed>
         ensures untold { self.new.answers ≡ self.old.answers }
+        ensures opened { is_opened self.new.record ≡ is_opened self.old.record }
     {
         let Some(tail) = self.record.cut_tail()? else {
             return Ok(());
@@ -481,6 +487,7 @@ impl<R: Runtime<A = Global, File = File>> OperatorDesk<'_, R> {
     /// looked at before it.
     fn pass_first(&mut self, alloc: Global) -> Result<(), OperatorFailed>
         ensures untold { self.new.answers ≡ self.old.answers }
+        ensures opened { is_opened self.new.record ≡ is_opened self.old.record }
     {
         if !self.gets.takes_line(0) {
             return Ok(());
@@ -499,7 +506,12 @@ impl<R: Runtime<A = Global, File = File>> OperatorDesk<'_, R> {
 impl<R: Runtime<A = Global, File = File>> Operator for OperatorDesk<'_, R> {
     ghost answered = { λ desk. desk.answers.bytes.items };
 
-    fn begin(&mut self, code: &Code) -> Result<Vec<bool>, OperatorFailed> {
+    fn begin(&mut self, code: &Code) -> Result<Vec<bool>, OperatorFailed>
+        ensures untold { self.new.answers.bytes.items ≡ self.old.answers.bytes.items }
+
+        // The run begins only where the text of its beginning was written, or no file was found changed.
+        ensures opened { OnOk result (is_opened self.new.record ≡ true) }
+    {
         let alloc = self.rt.alloc();
         self.open(alloc)?;
         self.cut_tail(alloc)?;
@@ -531,8 +543,6 @@ impl<R: Runtime<A = Global, File = File>> Operator for OperatorDesk<'_, R> {
         if self.gets.wait(alloc, seen).is_err() {
             return Err(OperatorFailed);
         }
-        // the journal is given to `run`, so it has no more than is typed for one
-        let room = room.saturating_sub(MOST_KEPT - MOST_TYPED);
         let answer = self.wait_for_answer(alloc, seen, room)?;
         self.note_answer(alloc, &answer, seen)?;
         match answer {

@@ -1,12 +1,13 @@
 //! Where on the screen the values are shown that a READ asks for.
 #![tactic(auto)]
 
-ghost use Rattle.std.specs.Prelude.{◌≡◌, ◌++◌, None, [], IfOk, OnOk, is_none, is_some, map, slice_get};
+ghost use Rattle.std.specs.Prelude.{◌≡◌, ◌++◌, None, [], IfOk, IfSome, OnOk, is_none, is_some, map, slice_get, take};
 ghost use Rattle.calendar.specs.DateTexts.{date_read};
 ghost use Rattle.fixed_num.specs.Reading.{parsed};
 ghost use Rattle.operator_desk.specs.Asked as spec;
 ghost use Rattle.operator_desk.specs.Asked.{AsksTheSame, places_known};
 ghost use Rattle.text_lines.specs.Lines as texts;
+ghost use Rattle.xvalue.specs.Answers as answers;
 
 use calendar::Day;
 use code_items::Code;
@@ -17,6 +18,9 @@ use std::alloc::{AllocError, Global};
 use terminal_screen::{ShownField, lay_over};
 use waiting_fields::{Read, reads_of};
 use xvalue::Kind;
+
+/// The most bytes of a line that a run reads.
+const MOST_LETTERS: usize = 254;
 
 /// Where the line that is wanted is typed.
 #[derive(Clone, Copy)]
@@ -110,20 +114,27 @@ pub fn without_return(line: &[u8]) -> &[u8]
     }
 }
 
-/// Whether a letter is T, Y, F or N.
-fn is_truth_letter(letter: u8) -> bool
-    ensures { result ≡ spec.is_truth_letter letter }
+/// Whether a letter is T or Y.
+fn says_yes(letter: u8) -> bool
+    ensures { result ≡ answers.says_yes letter }
 {
-    b"TtYyFfNn".iter().any(|truth| *truth == letter)
+    (letter == b'T' || letter == b't') || (letter == b'Y' || letter == b'y')
+}
+
+/// Whether a letter is F or N.
+fn says_no(letter: u8) -> bool
+    ensures { result ≡ answers.says_no letter }
+{
+    (letter == b'F' || letter == b'f') || (letter == b'N' || letter == b'n')
 }
 
 /// Whether a line begins with none of T, Y, F and N.
 fn is_no_truth(line: &[u8]) -> bool
-    ensures { result ≡ spec.is_no_truth (slice_get line.now 0) }
+    ensures { result ≡ spec.is_no_truth line.now }
 {
-    match line.first() {
-        None => false,
-        Some(letter) => !is_truth_letter(*letter),
+    match line {
+        [letter, ..] => !(says_yes(*letter) || says_no(*letter)),
+        [] => false,
     }
 }
 
@@ -148,8 +159,25 @@ fn told_if(is: bool, told: &'static str) -> Option<&'static str>
     if is { Some(told) } else { None }
 }
 
+/// So many bytes from the front, or all.
+fn front(line: &[u8], count: usize) -> &[u8]
+    ensures { result.now ≡ take count line.now }
+{
+    &line[..count.min(line.len())]
+}
+
 /// Why an answer leaves the old value.
 pub fn bad_answer(kind: Option<Kind>, line: &[u8]) -> Option<&'static str>
+    ensures told { is_some result ≡ spec.leaves_old kind (take 254 line.now) }
+
+    // What is told is what a run makes of the line.
+    ensures run { IfSome kind (λ wanted. spec.IsToldOf (is_some result) wanted (take 254 line.now)) }
+{
+    told_of(kind, front(line, MOST_LETTERS))
+}
+
+/// Why what is read of an answer leaves the old value.
+fn told_of(kind: Option<Kind>, line: &[u8]) -> Option<&'static str>
     ensures { is_some result ≡ spec.leaves_old kind line.now }
 {
     if line.is_empty() {
@@ -340,8 +368,8 @@ impl Gets {
         }
     }
 
-    /// Learns the READs of a code. Answers the places at which the run is to be looked at: those that take a line, and
-    /// those that show a value which a READ asks for.
+    /// Learns the READs of a code. Answers the places at which the run is to be looked at: those of SAY, SAYON and
+    /// CLEAR, and those that take a line.
     pub fn begin(&mut self, alloc: Global, code: &Code) -> Result<Vec<bool>, AllocError>
         ensures marks { IfOk result (λ marks. marks.items ≡ map spec.is_looked_at code.now.instructions) }
         ensures places { OnOk result (places_known self.new

@@ -2,42 +2,21 @@
 #![tactic(auto)]
 
 ghost use Rattle.operator_desk.specs.Beginnings.{changed_of};
-ghost use Rattle.std.specs.Prelude.{◌≡◌, IfOk, IfSome, IsErr, IsOk, MatchOption, None, OnErr, OnOk, slice_get};
-ghost use Rattle.std.specs.Prelude.{string_bytes};
+ghost use Rattle.operator_desk.specs.Openings.{is_opened};
+ghost use Rattle.std.specs.Prelude.{◌≡◌, IfOk, IfSome, IsErr, IsOk, MatchOption, None, OnErr, OnOk, false, slice_get};
+ghost use Rattle.std.specs.Prelude.{string_bytes, true};
 
 use crate::begun::{Talk, put_talk};
-use folder_files::{FileSum, JournalFile, Tail, put_new_file};
+use folder_files::{FileSum, Tail, put_new_file};
 use journal_papers::{JournalPaper, PaperFault, first_changed};
-use line_journal::{Journal, JournalFailed};
 use operating::OperatorFailed;
 use std::alloc::{AllocError, Global};
 use std::fs::File;
 use std::rt::Runtime;
 
-/// The journal of a conversation: lines on the device, and the bytes that were brought there.
-#[derive(Drop)]
-pub struct KeptJournal {
-    pub file: JournalFile,
-    pub bytes: Vec<u8>,
-}
-
-impl Journal for KeptJournal {
-    ghost holds = { λ journal. journal.bytes.items };
-
-    fn append(&mut self, bytes: &[u8]) -> Result<(), JournalFailed> {
-        if self.bytes.reserve(bytes.len()).is_err() || self.file.add(bytes).is_err() {
-            return Err(JournalFailed);
-        }
-        match self.bytes.extend_from_slice(bytes) {
-            Ok(()) => Ok(()),
-            Err(_) => Err(JournalFailed),
-        }
-    }
-}
-
 /// Beside what the conversation is recorded.
 #[derive(Drop)]
-pub struct Record<'a, R: Runtime<A = Global, File = File>> {
+pub struct Record<'a, R> {
     pub rt: &'a R,
     /// The name of the journal.
     pub journal: String,
@@ -51,6 +30,8 @@ pub struct Record<'a, R: Runtime<A = Global, File = File>> {
     pub changed: Option<String>,
     /// The name of a file that couldn't be written.
     pub unwritten: Option<String>,
+    /// Whether the text of the beginning was written, or each file was found as it says.
+    opened: bool,
 }
 
 /// Puts what a conversation is asked for, and the sums of its files.
@@ -76,7 +57,29 @@ fn begun_text(alloc: Global, talk: &Talk, sums: &[FileSum]) -> Result<String, Pa
     }
 }
 
-impl<R: Runtime<A = Global, File = File>> Record<'_, R> {
+impl<'a, R: Runtime<A = Global, File = File>> Record<'a, R> {
+    /// What stands beside a journal, with nothing written and looked at yet.
+    pub fn new(
+        rt: &'a R,
+        journal: String,
+        tail: Option<Tail>,
+        begun: String,
+        said: Option<&'a JournalPaper>,
+    ) -> Record<'a, R>
+        ensures { is_opened result ≡ false }
+    {
+        Record {
+            rt,
+            journal,
+            tail,
+            begun,
+            said,
+            changed: None,
+            unwritten: None,
+            opened: false,
+        }
+    }
+
     /// Writes the text of the beginning, or, where the conversation goes on, looks whether all files are as it says.
     /// The sums are those of the files of its run as they were read, first that of its code.
     ///
@@ -89,7 +92,7 @@ impl<R: Runtime<A = Global, File = File>> Record<'_, R> {
         talk: &Talk,
         sums: &[FileSum],
     ) -> Result<(), OperatorFailed>
-        ensures ok { OnOk result (self.new ≡ self.old) }
+        ensures ok { OnOk result (self.new ≡ record self.old { opened = true }) }
         ensures err { OnErr result (self.new
             ≡ record self.old { changed = self.new.changed; unwritten = self.new.unwritten }) }
 
@@ -106,9 +109,16 @@ impl<R: Runtime<A = Global, File = File>> Record<'_, R> {
                     self.changed = name_at(alloc, sums, number);
                     Err(OperatorFailed)
                 }
-                None => Ok(()),
+                None => {
+                    self.opened = true;
+                    Ok(())
+                }
             },
-            None => self.write(alloc, talk, sums),
+            None => {
+                self.write(alloc, talk, sums)?;
+                self.opened = true;
+                Ok(())
+            }
         }
     }
 

@@ -45,7 +45,8 @@ pub enum OperateRefusal {
     Run(RunRefusal),
     /// The conversation broke off. Nothing is saved.
     Broke(Broken),
-    /// The lines that the journal holds at the beginning have more than 1,048,576 bytes, or the last one has no end.
+    /// The lines that the journal holds at the beginning have more bytes than all lines may have, or the last one has
+    /// no end.
     Handed,
 }
 
@@ -97,17 +98,19 @@ pub(crate) fn operate_accepted<J: Journal, O: Operator>(
     verified: &Verified,
     store: Store<NdxTree>,
     job: &Job<'_>,
+    most: usize,
     journal: &mut J,
     operator: &mut O,
 ) -> Result<AcceptedRun, OperateRefusal>
     requires fits { StoreFits verified.now.declared store }
     requires held { J.holds journal.old ≡ job.now.input.now }
     requires ended { is_ended_text job.now.input.now ≡ true }
-    requires few { length job.now.input.now ≤ 1048576 }
+    requires few { length (J.holds journal.old) ≤ most }
     ensures done { IfOk result (λ done. SoundOver verified.now store job.now (J.holds journal.new)
         done.run.outcome done.run.rows.items done.banks.env.store) }
     ensures fits { IfOk result (λ done. StoreFits verified.now.declared done.banks.env.store) }
     ensures refused { IfErr result (IfOfRun (λ refusal. refusal ≡ Memory)) }
+    ensures few { length (J.holds journal.new) ≤ most }
     ensures answered { OnOk result (AnswersKept (O.answered operator.old) (O.answered operator.new)
         (J.holds journal.old) (J.holds journal.new)) }
     ensures unkept { OnErr result (LastUnkept (O.answered operator.old) (O.answered operator.new)
@@ -115,7 +118,7 @@ pub(crate) fn operate_accepted<J: Journal, O: Operator>(
 {
     let day = job.day.day();
     let talk = converse(
-        alloc, verified, store, day, job.input, journal, operator, job.budget,
+        alloc, verified, store, day, job.input, journal, operator, job.budget, most,
     )?;
     let rows = talk.banks.finish(alloc)?;
     Ok(AcceptedRun {
@@ -133,12 +136,13 @@ fn full_operation<F: Files, J: Journal, O: Operator>(
     files: &mut F,
     verified: &Verified,
     job: &Job<'_>,
+    most: usize,
     journal: &mut J,
     operator: &mut O,
 ) -> Result<Report, OperateRefusal>
     requires held { J.holds journal.old ≡ job.now.input.now }
     requires ended { is_ended_text job.now.input.now ≡ true }
-    requires few { length job.now.input.now ≤ 1048576 }
+    requires few { length (J.holds journal.old) ≤ most }
     ensures done { IfOk result (λ report. IfOk report.result
         (λ ended. (whole : AnyJob) → IsWith job.now (J.holds journal.new) whole
         → IsSavedRun (F.holds files.old) (F.holds files.new) whole verified.now ended report.rows.items)) }
@@ -150,6 +154,7 @@ fn full_operation<F: Files, J: Journal, O: Operator>(
         (Rose (F.failed files.old) (F.failed files.new)))) }
     ensures kept { OnErr result (SameFiles (F.holds files.old) (F.holds files.new)) }
     ensures counted { F.failed files.old ≤ F.failed files.new }
+    ensures few { length (J.holds journal.new) ≤ most }
     ensures answered { OnOk result (AnswersKept (O.answered operator.old) (O.answered operator.new)
         (J.holds journal.old) (J.holds journal.new)) }
     ensures unkept { OnErr result (LastUnkept (O.answered operator.old) (O.answered operator.new)
@@ -159,7 +164,7 @@ fn full_operation<F: Files, J: Journal, O: Operator>(
     new_stores_fit();
     let shape = &verified.code().declared.shape;
     let store = load(alloc, files, shape, job.limit.records())?;
-    let done = operate_accepted(alloc, verified, store, job, journal, operator)?;
+    let done = operate_accepted(alloc, verified, store, job, most, journal, operator)?;
     Ok(save_run(alloc, files, shape, done, job))
 }
 
@@ -169,13 +174,14 @@ fn operate_code<F: Files, J: Journal, O: Operator>(
     files: &mut F,
     code: LegalCode,
     job: &Job<'_>,
+    most: usize,
     journal: &mut J,
     operator: &mut O,
 ) -> Result<Report, OperateRefusal>
     requires untested { job.now.checked ≡ false }
     requires held { J.holds journal.old ≡ job.now.input.now }
     requires ended { is_ended_text job.now.input.now ≡ true }
-    requires few { length job.now.input.now ≤ 1048576 }
+    requires few { length (J.holds journal.old) ≤ most }
     ensures done { IfOk result (λ report. IfOk report.result
         (λ ended. (whole : AnyJob) → IsWith job.now (J.holds journal.new) whole
         → CodeRan (F.holds files.old) (F.holds files.new) whole ended report.rows.items code)) }
@@ -187,13 +193,14 @@ fn operate_code<F: Files, J: Journal, O: Operator>(
         (Rose (F.failed files.old) (F.failed files.new)))) }
     ensures kept { OnErr result (SameFiles (F.holds files.old) (F.holds files.new)) }
     ensures counted { F.failed files.old ≤ F.failed files.new }
+    ensures few { length (J.holds journal.new) ≤ most }
     ensures answered { OnOk result (AnswersKept (O.answered operator.old) (O.answered operator.new)
         (J.holds journal.old) (J.holds journal.new)) }
     ensures unkept { OnErr result (LastUnkept (O.answered operator.old) (O.answered operator.new)
         (J.holds journal.old) (J.holds journal.new)) }
 {
     let verified = accept(alloc, code)?;
-    full_operation(alloc, files, &verified, job, journal, operator)
+    full_operation(alloc, files, &verified, job, most, journal, operator)
 }
 
 /// Reads a code and carries it out so.
@@ -201,13 +208,14 @@ fn operate_read<F: Files, J: Journal, O: Operator>(
     alloc: Global,
     files: &mut F,
     job: &Job<'_>,
+    most: usize,
     journal: &mut J,
     operator: &mut O,
 ) -> Result<Report, OperateRefusal>
     requires untested { job.now.checked ≡ false }
     requires held { J.holds journal.old ≡ job.now.input.now }
     requires ended { is_ended_text job.now.input.now ≡ true }
-    requires few { length job.now.input.now ≤ 1048576 }
+    requires few { length (J.holds journal.old) ≤ most }
     ensures done { IfOk result (λ report. IfOk report.result
         (λ ended. (whole : AnyJob) → IsWith job.now (J.holds journal.new) whole
         → HasRun (F.holds files.old) (F.holds files.new) whole ended report.rows.items)) }
@@ -218,13 +226,14 @@ fn operate_read<F: Files, J: Journal, O: Operator>(
     ensures refused { IfErr result (IfOfRun (RefusedBefore (F.holds files.old) job.now
         (Rose (F.failed files.old) (F.failed files.new)))) }
     ensures kept { OnErr result (SameFiles (F.holds files.old) (F.holds files.new)) }
+    ensures few { length (J.holds journal.new) ≤ most }
     ensures answered { OnOk result (AnswersKept (O.answered operator.old) (O.answered operator.new)
         (J.holds journal.old) (J.holds journal.new)) }
     ensures unkept { OnErr result (LastUnkept (O.answered operator.old) (O.answered operator.new)
         (J.holds journal.old) (J.holds journal.new)) }
 {
     match read_code(alloc, files, job.name) {
-        Ok(code) => operate_code(alloc, files, code, job, journal, operator),
+        Ok(code) => operate_code(alloc, files, code, job, most, journal, operator),
         Err(refusal) => Err(OperateRefusal::Run(of_code(refusal))),
     }
 }
@@ -244,12 +253,13 @@ fn told(run: Result<Ended, RunRefusal>) -> Result<Ended, OperateRefusal>
 /// are the job's input, and goes on with those that the operator answers; each is kept in the journal before the run
 /// sees it, and behind the end of the input each further line is empty. What is printed and saved is what `run_files`
 /// prints and saves for the same job with what the journal holds then as its input. Where the operator or the journal
-/// fails, or a line isn't one, nothing is printed or saved. All lines together have at most 1,048,578 bytes, each with
-/// its end: so an input of 1 MiB whose last line has none can be typed, also where that line ends with a return.
+/// fails, or a line isn't one, nothing is printed or saved. All lines together have at most `most` bytes, each with its
+/// end: where a line would pass that, the end of the input alone is left to answer.
 pub fn operate_files<F: Files, J: Journal, O: Operator>(
     alloc: Global,
     files: &mut F,
     job: &Job<'_>,
+    most: usize,
     journal: &mut J,
     operator: &mut O,
 ) -> OperationReport
@@ -261,6 +271,8 @@ pub fn operate_files<F: Files, J: Journal, O: Operator>(
         (λ refusal. (whole : AnyJob) → IsWith job.now (J.holds journal.new) whole
         → OperationRefused (F.holds files.old) (F.holds files.new) whole
         (Rose (F.failed files.old) (F.failed files.new)) refusal result.rows.items) }
+    ensures few { OnOk result.result (length (J.holds journal.new) ≤ most) }
+    ensures still { length (J.holds journal.old) ≤ most → length (J.holds journal.new) ≤ most }
 
     // What the journal holds then is what it held before, with the lines that were answered behind it, and no more.
     // Where no run is saved, the last line that was answered may be missing.
@@ -269,13 +281,13 @@ pub fn operate_files<F: Files, J: Journal, O: Operator>(
     ensures unkept { OnErr result.result (LastUnkept (O.answered operator.old) (O.answered operator.new)
         (J.holds journal.old) (J.holds journal.new)) }
 {
-    if !can_go_on(job.input) {
+    if !can_go_on(job.input, most) {
         return OperationReport {
             rows: Vec::new(alloc),
             result: Err(OperateRefusal::Handed),
         };
     }
-    match operate_read(alloc, files, job, journal, operator) {
+    match operate_read(alloc, files, job, most, journal, operator) {
         Ok(report) => OperationReport {
             rows: report.rows,
             result: told(report.result),

@@ -35,18 +35,20 @@ fn compare_talk<F: Files, J: Journal, O: Operator>(
     files: &mut F,
     verified: &Verified,
     job: &Job<'_>,
+    most: usize,
     journal: &mut J,
     operator: &mut O,
 ) -> Result<Compared, OperateRefusal>
     requires held { J.holds journal.old ≡ job.now.input.now }
     requires ended { is_ended_text job.now.input.now ≡ true }
-    requires few { length job.now.input.now ≤ 1048576 }
+    requires few { length (J.holds journal.old) ≤ most }
     ensures done { IfOk result (λ done. (whole : AnyJob) → IsWith job.now (J.holds journal.new) whole
         → LeavesTables (F.holds files.old) whole verified.now done.outcome done.rows.items done.changes) }
     ensures refused { IfErr result (IfOfRun (IsOfTables (F.holds files.old) job.now verified.now
         (Rose (F.failed files.old) (F.failed files.new)))) }
     ensures kept { SameFiles (F.holds files.old) (F.holds files.new) }
     ensures counted { F.failed files.old ≤ F.failed files.new }
+    ensures few { length (J.holds journal.new) ≤ most }
     ensures answered { OnOk result (AnswersKept (O.answered operator.old) (O.answered operator.new)
         (J.holds journal.old) (J.holds journal.new)) }
     ensures unkept { OnErr result (LastUnkept (O.answered operator.old) (O.answered operator.new)
@@ -57,7 +59,7 @@ fn compare_talk<F: Files, J: Journal, O: Operator>(
     let shape = &verified.code().declared.shape;
     let loaded = load(alloc, files, shape, job.limit.records())?;
     let kept = keep(alloc, shape, &loaded)?;
-    let done = operate_accepted(alloc, verified, loaded, job, journal, operator)?;
+    let done = operate_accepted(alloc, verified, loaded, job, most, journal, operator)?;
     let changes = changes_since(alloc, shape, kept, done.banks.store());
     Ok(with_changes(done.alone(), changes)?)
 }
@@ -68,26 +70,28 @@ fn rehearse_accepted_talk<F: Files, J: Journal, O: Operator>(
     files: &mut F,
     verified: &Verified,
     job: &Job<'_>,
+    most: usize,
     journal: &mut J,
     operator: &mut O,
 ) -> Result<Rehearsal, OperateRefusal>
     requires untested { job.now.checked ≡ false }
     requires held { J.holds journal.old ≡ job.now.input.now }
     requires ended { is_ended_text job.now.input.now ≡ true }
-    requires few { length job.now.input.now ≤ 1048576 }
+    requires few { length (J.holds journal.old) ≤ most }
     ensures done { IfOk result (λ told. (whole : AnyJob) → IsWith job.now (J.holds journal.new) whole
         → IsRehearsed (F.holds files.old) whole told verified.now) }
     ensures refused { IfErr result (IfOfRun (IsOfTables (F.holds files.old) job.now verified.now
         (Rose (F.failed files.old) (F.failed files.new)))) }
     ensures kept { SameFiles (F.holds files.old) (F.holds files.new) }
     ensures counted { F.failed files.old ≤ F.failed files.new }
+    ensures few { length (J.holds journal.new) ≤ most }
     ensures answered { OnOk result (AnswersKept (O.answered operator.old) (O.answered operator.new)
         (J.holds journal.old) (J.holds journal.new)) }
     ensures unkept { OnErr result (LastUnkept (O.answered operator.old) (O.answered operator.new)
         (J.holds journal.old) (J.holds journal.new)) }
 {
     let shape = &verified.code().declared.shape;
-    let done = compare_talk(alloc, files, verified, job, journal, operator)?;
+    let done = compare_talk(alloc, files, verified, job, most, journal, operator)?;
     match told_of(alloc, shape, done) {
         Ok(told) => Ok(told),
         Err(refusal) => Err(OperateRefusal::Run(refusal)),
@@ -100,26 +104,28 @@ fn rehearse_code_talk<F: Files, J: Journal, O: Operator>(
     files: &mut F,
     code: LegalCode,
     job: &Job<'_>,
+    most: usize,
     journal: &mut J,
     operator: &mut O,
 ) -> Result<Rehearsal, OperateRefusal>
     requires untested { job.now.checked ≡ false }
     requires held { J.holds journal.old ≡ job.now.input.now }
     requires ended { is_ended_text job.now.input.now ≡ true }
-    requires few { length job.now.input.now ≤ 1048576 }
+    requires few { length (J.holds journal.old) ≤ most }
     ensures done { IfOk result (λ told. (whole : AnyJob) → IsWith job.now (J.holds journal.new) whole
         → IsRehearsed (F.holds files.old) whole told code) }
     ensures refused { IfErr result (IfOfRun (CodeRefused (F.holds files.old) job.now code
         (Rose (F.failed files.old) (F.failed files.new)))) }
     ensures kept { SameFiles (F.holds files.old) (F.holds files.new) }
     ensures counted { F.failed files.old ≤ F.failed files.new }
+    ensures few { length (J.holds journal.new) ≤ most }
     ensures answered { OnOk result (AnswersKept (O.answered operator.old) (O.answered operator.new)
         (J.holds journal.old) (J.holds journal.new)) }
     ensures unkept { OnErr result (LastUnkept (O.answered operator.old) (O.answered operator.new)
         (J.holds journal.old) (J.holds journal.new)) }
 {
     let verified = accept(alloc, code)?;
-    rehearse_accepted_talk(alloc, files, &verified, job, journal, operator)
+    rehearse_accepted_talk(alloc, files, &verified, job, most, journal, operator)
 }
 
 /// Runs the code in a file while an operator types its lines, as `operate_files` does, and saves nothing: what a run
@@ -132,6 +138,7 @@ pub fn rehearse_talk<F: Files, J: Journal, O: Operator>(
     alloc: Global,
     files: &mut F,
     job: &Job<'_>,
+    most: usize,
     journal: &mut J,
     operator: &mut O,
 ) -> Result<Rehearsal, OperateRefusal>
@@ -142,6 +149,8 @@ pub fn rehearse_talk<F: Files, J: Journal, O: Operator>(
     ensures refused { IfErr result (IfOfRun (RefusedBefore (F.holds files.old) job.now
         (Rose (F.failed files.old) (F.failed files.new)))) }
     ensures kept { SameFiles (F.holds files.old) (F.holds files.new) }
+    ensures few { OnOk result (length (J.holds journal.new) ≤ most) }
+    ensures still { length (J.holds journal.old) ≤ most → length (J.holds journal.new) ≤ most }
 
     // What the journal holds then is what it held before, with the lines that were answered behind it, and no more.
     // Where nothing is told, the last line that was answered may be missing.
@@ -150,11 +159,11 @@ pub fn rehearse_talk<F: Files, J: Journal, O: Operator>(
     ensures unkept { OnErr result (LastUnkept (O.answered operator.old) (O.answered operator.new)
         (J.holds journal.old) (J.holds journal.new)) }
 {
-    if !can_go_on(job.input) {
+    if !can_go_on(job.input, most) {
         return Err(OperateRefusal::Handed);
     }
     match read_code(alloc, files, job.name) {
-        Ok(code) => rehearse_code_talk(alloc, files, code, job, journal, operator),
+        Ok(code) => rehearse_code_talk(alloc, files, code, job, most, journal, operator),
         Err(refusal) => Err(OperateRefusal::Run(of_code(refusal))),
     }
 }

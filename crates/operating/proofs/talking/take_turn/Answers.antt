@@ -29,4 +29,4 @@ show-requires g c =
     (r.world, r.twin)
 
 pub returns-in_err-show-in-Marked-clause-unkept : goal.returns-in_err-show-in-Marked-clause-unkept
-returns-in_err-show-in-Marked-clause-unkept g c = on_err c.from_residual.result _ (unkept_none _ _ _ _ (c.show.ensures.untold ∙ c.hear-most.ensures) refl)
+returns-in_err-show-in-Marked-clause-unkept g c = on_err c.from_residual.result _ (unkept_none _ _ _ _ (c.show.ensures.untold ∙ c.hear-part.ensures) refl)
