@@ -14,6 +14,8 @@ mod limits;
 #[cfg(test)]
 mod listing;
 #[cfg(test)]
+mod parts;
+#[cfg(test)]
 mod procedures;
 #[cfg(test)]
 mod programs;

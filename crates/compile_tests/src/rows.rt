@@ -5,6 +5,7 @@ use crate::forms::{BLOCKS, EXPRESSIONS, SCREEN, TABLES, VARIABLES};
 use crate::layout::{LAYOUTS, judged_row};
 use crate::limits::{DEEP, IN_ALL, INSTRUCTIONS, LIMITS};
 use crate::listing::{ALL_FAULTS, listed};
+use crate::parts::{PARTS, parts_shown};
 use crate::procedures::{CALLS, FILES, UNSURE};
 use crate::programs::{ON_TABLES, ON_VALUES};
 use crate::shown::shown;
@@ -16,6 +17,8 @@ use std::test::Fail;
 enum Told {
     /// Its code, or its first fault.
     Code,
+    /// What its code has besides its instructions.
+    Parts,
     /// All its faults.
     Faults,
     /// What the judge says of its code beside other commands.
@@ -28,6 +31,7 @@ fn is_right(alloc: Global, text: &str, wanted: &str, told: Told) -> Result<bool,
             let found = shown(alloc, text)?;
             Ok(found.as_str() == wanted || wanted == "accepted" && found.as_str().ends_with("; "))
         }
+        Told::Parts => Ok(parts_shown(alloc, text)?.as_str() == wanted),
         Told::Faults => Ok(listed(alloc, text)?.as_str() == wanted),
         Told::Layout => Ok(judged_row(alloc, text)? == wanted),
     }
@@ -65,6 +69,7 @@ fn rows_are_told(rt: HostRuntime) -> Result<(), Fail> {
         (ON_VALUES, Told::Code),
         (ON_TABLES, Told::Code),
         (DEEP, Told::Code),
+        (PARTS, Told::Parts),
         (ALL_FAULTS, Told::Faults),
         (LAYOUTS, Told::Layout),
     ] {

@@ -135,9 +135,34 @@ fn has_its_turns(alloc: Global) -> bool {
     }
 }
 
+// at limit 4 there are ten turns: four bytes, five interruptions and the end
+fn has_two_turns_more_than_twice_the_limit(alloc: Global) -> bool {
+    let turns = [
+        Turn::Interrupted,
+        Turn::Interrupted,
+        Turn::Interrupted,
+        Turn::Interrupted,
+        Turn::Interrupted,
+        Turn::Interrupted,
+        Turn::Gives(b'a', 1),
+        Turn::Gives(b'a', 1),
+        Turn::Gives(b'a', 1),
+        Turn::Gives(b'a', 1),
+    ];
+    let (ten, _) = read_four(alloc, &turns[1..], false);
+    let (eleven, _) = read_four(alloc, &turns, false);
+    match (ten, eleven) {
+        (Ok(bytes), Err(fault)) => {
+            bytes.as_slice() == b"aaaa".as_slice() && fault == ReadFault::Device
+        }
+        _ => false,
+    }
+}
+
 #[test]
 fn readers_are_read_to_their_end(rt: HostRuntime) {
     assert!(rt; gives_all(rt.alloc()));
     assert!(rt; are_refused(rt.alloc()));
     assert!(rt; has_its_turns(rt.alloc()));
+    assert!(rt; has_two_turns_more_than_twice_the_limit(rt.alloc()));
 }

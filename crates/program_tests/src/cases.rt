@@ -4,7 +4,7 @@
 use super::parts::{RunCase, is_text};
 use super::stored::{came_to, run_case};
 use super::tables::{lay, put_file, table};
-use compile_commands::{CompileTold, CompileWords, compile_files};
+use compile_commands::{CompileFilesRefusal, CompileTold, CompileWords, compile_files};
 use file_access::{MemoryFiles, WORKS_FOR_EVER};
 use file_commands::{list_index, list_table};
 use std::alloc::{AllocError, Global};
@@ -16,42 +16,97 @@ pub const SOURCE: &str = "MAIN.PRG";
 
 pub const CODE: &str = "MAIN.XBC";
 
-/// Makes the files of a case; whether that was done.
-pub fn laid(alloc: Global, files: &mut MemoryFiles<'_>, case: RunCase<'_>) -> bool {
-    let declarations = case.says("declarations\n").as_bytes();
-    let source = case.says("source\n").as_bytes();
-    put_file(files, DECLARATIONS, declarations)
-        && put_file(files, SOURCE, source)
-        && lay(alloc, files, case)
+/// The declarations of a case, with as many tables and then indexes of CUST behind them as it says.
+fn declarations(alloc: Global, case: RunCase<'_>) -> Result<Vec<u8>, AllocError> {
+    let mut lines = Vec::from_slice(alloc, case.says("declarations\n").as_bytes())?;
+    for number in 0..case.number("tables ", 0) {
+        let line = format!(in alloc; "TABLE T{number}\n")?;
+        lines.extend_from_slice(line.as_str().as_bytes())?;
+    }
+    for number in 0..case.number("indexes ", 0) {
+        let line = format!(in alloc; "INDEX I{number} ON CUST KEY NAME\n")?;
+        lines.extend_from_slice(line.as_str().as_bytes())?;
+    }
+    Ok(lines)
 }
 
-/// How the refusal of the command file is told; nothing where it is compiled.
-pub fn told_of_compiling(alloc: Global, files: &mut MemoryFiles<'_>) -> Result<String, AllocError> {
-    match compile_files(alloc, files, DECLARATIONS, CODE, &[SOURCE]) {
-        Ok(()) => Ok(String::new(alloc)),
-        Err(refusal) => {
-            let words = CompileWords {
-                decl: DECLARATIONS,
-                out: CODE,
-                names: &[SOURCE],
-            };
-            let told = CompileTold {
-                refusal: &refusal,
-                words,
-            };
-            told.to_string(alloc)
-        }
+/// Makes the declaration file of a case, unless there is none; whether that was done.
+fn is_declared(alloc: Global, files: &mut MemoryFiles<'_>, case: RunCase<'_>) -> bool {
+    match declarations(alloc, case) {
+        Ok(lines) => case.has("absent") || put_file(files, DECLARATIONS, &lines),
+        Err(_) => false,
     }
 }
 
-/// Whether the compiler says just this.
-pub fn says_of_compiling(alloc: Global, files: &mut MemoryFiles<'_>, words: &str) -> bool {
-    is_text(told_of_compiling(alloc, files), words)
+/// Makes the files of a case; whether that was done.
+pub fn laid(alloc: Global, files: &mut MemoryFiles<'_>, case: RunCase<'_>) -> bool {
+    is_declared(alloc, files, case)
+        && put_file(files, SOURCE, case.says("source\n").as_bytes())
+        && lay(alloc, files, case)
+}
+
+/// The names of the command files of a case, the main one first.
+pub fn names_of<'a>(alloc: Global, case: RunCase<'a>) -> Result<Vec<&'a str>, AllocError> {
+    let mut names = Vec::new(alloc);
+    names.push(SOURCE)?;
+    for name in case.line("files ").split_whitespace() {
+        names.push(name)?;
+    }
+    Ok(names)
+}
+
+/// How a refusal of command files of these names is told.
+pub fn refusal_told(
+    alloc: Global,
+    refusal: &CompileFilesRefusal,
+    names: &[&str],
+) -> Result<String, AllocError> {
+    let words = CompileWords {
+        decl: DECLARATIONS,
+        out: CODE,
+        names,
+    };
+    CompileTold { refusal, words }.to_string(alloc)
+}
+
+/// How the refusal of the command files of these names is told; nothing where they are compiled.
+fn told_of_files(
+    alloc: Global,
+    files: &mut MemoryFiles<'_>,
+    names: &[&str],
+) -> Result<String, AllocError> {
+    if names.is_empty() {
+        return String::from_str(alloc, "no file");
+    }
+    match compile_files(alloc, files, DECLARATIONS, CODE, names) {
+        Ok(()) => Ok(String::new(alloc)),
+        Err(refusal) => refusal_told(alloc, &refusal, names),
+    }
+}
+
+/// How the refusal of the command files of a case is told; nothing where they are compiled.
+fn told_of_compiling(
+    alloc: Global,
+    files: &mut MemoryFiles<'_>,
+    case: RunCase<'_>,
+) -> Result<String, AllocError> {
+    let names = names_of(alloc, case)?;
+    told_of_files(alloc, files, &names)
+}
+
+/// Whether the compiler says just this of a case.
+pub fn says_of_compiling(
+    alloc: Global,
+    files: &mut MemoryFiles<'_>,
+    case: RunCase<'_>,
+    words: &str,
+) -> bool {
+    is_text(told_of_compiling(alloc, files, case), words)
 }
 
 /// Makes the files of a case and compiles it; whether that was done.
 pub fn compiled(alloc: Global, files: &mut MemoryFiles<'_>, case: RunCase<'_>) -> bool {
-    laid(alloc, files, case) && says_of_compiling(alloc, files, "")
+    laid(alloc, files, case) && says_of_compiling(alloc, files, case, "")
 }
 
 /// The file of the code of a case, if it has one.
@@ -150,7 +205,7 @@ pub fn has_length(bytes: &[u8], case: RunCase<'_>) -> bool {
 pub fn runs_well(alloc: Global, case: RunCase<'_>) -> bool {
     let mut files = MemoryFiles::new(alloc, &[], WORKS_FOR_EVER);
     if !laid(alloc, &mut files, case)
-        || !says_of_compiling(alloc, &mut files, case.line("refused "))
+        || !says_of_compiling(alloc, &mut files, case, case.line("refused "))
     {
         return false;
     }

@@ -53,7 +53,7 @@ fn says_so(alloc: Global, case: RunCase<'_>, calls: u64, words: &str) -> bool {
     let mut files = MemoryFiles::new(alloc, &[], WORKS_FOR_EVER);
     let done = laid(alloc, &mut files, case);
     files.work_for(calls);
-    done && says_of_compiling(alloc, &mut files, words)
+    done && says_of_compiling(alloc, &mut files, case, words)
 }
 
 /// Whether the compiler says what a case says of it, with each call of the device that fails in turn.

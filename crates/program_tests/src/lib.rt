@@ -4,6 +4,8 @@
 #![tactic(auto)]
 
 #[cfg(test)]
+mod all_faults;
+#[cfg(test)]
 mod assembler;
 #[cfg(test)]
 mod budgets;
@@ -27,6 +29,8 @@ mod parts;
 mod respects;
 #[cfg(test)]
 mod resumed;
+#[cfg(test)]
+mod several_files;
 #[cfg(test)]
 mod sorted;
 #[cfg(test)]

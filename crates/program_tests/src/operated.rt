@@ -9,7 +9,7 @@ use super::stored::{day_in, limit_in};
 use code_items::Code;
 use file_access::{MemoryFiles, WORKS_FOR_EVER};
 use line_journal::{Journal, JournalFailed, keep};
-use operating::{Answer, Broken, Operator, OperatorFailed, Scene};
+use operating::{Answer, Broken, MOST_TYPED, Operator, OperatorFailed, Scene};
 use run_commands::{Job, OperateRefusal, operate_files, rehearse_talk};
 use std::alloc::{AllocError, Global};
 
@@ -133,7 +133,7 @@ fn rehearses_so(
     requires untested { job.now.checked ≡ false }
     requires held { journal.old.bytes.items ≡ job.now.input.now }
 {
-    match rehearse_talk(alloc, files, job, journal, script) {
+    match rehearse_talk(alloc, files, job, MOST_TYPED, journal, script) {
         Ok(done) => is_so(&done.rows, done.to_string(alloc), case),
         Err(refusal) => is_so(&[], why(alloc, &refusal), case),
     }
@@ -151,7 +151,7 @@ fn operates_so(
     requires untested { job.now.checked ≡ false }
     requires held { journal.old.bytes.items ≡ job.now.input.now }
 {
-    let done = operate_files(alloc, files, job, journal, script);
+    let done = operate_files(alloc, files, job, MOST_TYPED, journal, script);
     let told = match &done.result {
         Ok(ended) => ended.to_string(alloc),
         Err(refusal) => why(alloc, refusal),

@@ -1,6 +1,7 @@
 // The tests: cases, each in one respect or several.
 #![tactic(auto)]
 
+use super::all_faults::{ALL_FAULTS, lists_faults};
 use super::budgets::machines_agree;
 use super::cases::runs_well;
 use super::codes::code_is_well;
@@ -11,6 +12,7 @@ use super::listings::{LISTS, lists_well};
 use super::operated::talks_well;
 use super::parts::{RunCase, are_known};
 use super::resumed::runs_in_parts;
+use super::several_files::{DECLARED, SEVERAL};
 use super::sorted::runs_over_sorted_keys;
 use super::talks::TALKS;
 use std::alloc::Global;
@@ -24,6 +26,7 @@ enum Respect {
     Talk,
     Run,
     Device,
+    Faults,
     Sorted,
     Parts,
     Budgets,
@@ -37,6 +40,7 @@ fn is_well(alloc: Global, case: RunCase<'_>, respect: Respect) -> bool {
         Respect::Talk => talks_well(alloc, case),
         Respect::Run => runs_well(alloc, case),
         Respect::Device => tells_of_device(alloc, case),
+        Respect::Faults => lists_faults(alloc, case),
         Respect::Sorted => runs_over_sorted_keys(alloc, case),
         Respect::Parts => runs_in_parts(alloc, case),
         Respect::Budgets => machines_agree(alloc, case),
@@ -63,6 +67,10 @@ fn cases_come_to_what_they_say(rt: HostRuntime) {
         (LISTS, Respect::List),
         (TALKS, Respect::Talk),
         (CASES, Respect::Run),
+        (SEVERAL, Respect::Run),
+        (SEVERAL, Respect::Device),
+        (DECLARED, Respect::Run),
+        (ALL_FAULTS, Respect::Faults),
         (CASES, Respect::Device),
         (CASES, Respect::Sorted),
     ] {
@@ -78,5 +86,7 @@ fn runs_go_on_from_each_place(rt: HostRuntime) {
 
 #[test]
 fn machines_agree_at_each_budget(rt: HostRuntime) {
-    assert_eq!(rt; first_wrong(rt.alloc(), CASES, Respect::Budgets), None);
+    for text in [CASES, SEVERAL] {
+        assert_eq!(rt; first_wrong(rt.alloc(), text, Respect::Budgets), None);
+    }
 }

@@ -4,8 +4,10 @@
 use super::parts::{RunCase, is_text, number_at};
 use calendar::{Day, DayParts};
 use file_access::MemoryFiles;
-use run_commands::{Job, RecordLimit, Report, RunDay, run_files};
+use file_commands::Status;
+use run_commands::{Ended, How, Job, RecordLimit, Report, RunDay, RunRefusal, run_files};
 use std::alloc::{AllocError, Global};
+use std::test::Fail;
 
 /// The year, month and day of a text as a day that files can be stamped with; none where it isn't one.
 pub fn day_of(text: &str) -> Option<RunDay> {
@@ -71,7 +73,46 @@ pub fn are_alike(alloc: Global, one: &Report, other: &Report, name: &str) -> boo
     }
 }
 
-/// Whether the run of a code file is told so.
+/// The word with which an end or a refusal is told, and the status with which the program exits then.
+const STATUSES: [(&str, u8); 7] = [
+    ("finished", 0),
+    ("refused", 2),
+    ("spent", 3),
+    ("full", 4),
+    ("memory", 5),
+    ("disk", 6),
+    ("fault", 7),
+];
+
+/// Whether this is the status with which the program exits where it tells this.
+fn is_status(status: Status, told: &str) -> bool {
+    for (word, number) in STATUSES {
+        if told.split_whitespace().next() == Some(word) {
+            return status as u8 == number;
+        }
+    }
+    false
+}
+
+/// The status with which the program exits behind a run.
+fn status_of(report: &Report) -> Status {
+    match &report.result {
+        Ok(ended) => ended.status(),
+        Err(refusal) => refusal.status(),
+    }
+}
+
+/// Whether the run of a code file is told so, and has the status of that.
 pub fn is_told(alloc: Global, report: &Report, name: &str, ended: &str) -> bool {
-    is_text(told(alloc, report, name), ended)
+    is_text(told(alloc, report, name), ended) && is_status(status_of(report), ended)
+}
+
+#[test]
+fn want_of_memory_is_told(rt: HostRuntime) -> Result<(), Fail> {
+    let how = How::NoMemory;
+    let ended = Ended { how, steps: 3 };
+    assert!(rt; is_text(ended.to_string(rt.alloc()), "memory 3"));
+    assert!(rt; is_status(ended.status(), "memory 3"));
+    assert!(rt; is_status(RunRefusal::Memory.status(), "memory"));
+    Ok(())
 }

@@ -109,6 +109,9 @@ fn made(alloc: Global, word: &str, columns: &str, behind: &str) -> Result<Vec<u8
     if word == "index" {
         return index(alloc, behind);
     }
+    if word == "file" {
+        return Vec::from_slice(alloc, behind.as_bytes());
+    }
     let mut out = Vec::new(alloc);
     if word == "bytes" {
         put_bytes(&mut out, behind, 0)?;
@@ -137,7 +140,28 @@ fn lay_parts(alloc: Global, files: &mut MemoryFiles<'_>, text: &str) -> bool {
     true
 }
 
-/// Makes the tables and indexes of a case; whether that was done.
+/// The name and the bytes of the file of a table of this number.
+fn numbered(alloc: Global, number: u64) -> Result<(String, Vec<u8>), AllocError> {
+    let name = format!(in alloc; "T{number}.DBF")?;
+    Ok((name, table(alloc, "K C 1 0", "")?))
+}
+
+/// Makes so many tables; whether that was done.
+fn lay_numbered(alloc: Global, files: &mut MemoryFiles<'_>, count: u64) -> bool {
+    for number in 0..count {
+        let Ok((name, bytes)) = numbered(alloc, number) else {
+            return false;
+        };
+        if !put_file(files, name.as_str(), &bytes) {
+            return false;
+        }
+    }
+    true
+}
+
+/// Makes the tables, indexes and other files of a case; whether that was done.
 pub fn lay(alloc: Global, files: &mut MemoryFiles<'_>, case: RunCase<'_>) -> bool {
-    lay_parts(alloc, files, case.common) && lay_parts(alloc, files, case.own)
+    lay_numbered(alloc, files, case.number("tables ", 0))
+        && lay_parts(alloc, files, case.common)
+        && lay_parts(alloc, files, case.own)
 }

@@ -121,6 +121,26 @@ ACCEPT "Name? " TO N
 %list CUST.DBF
 NAME C 10 0
 records 0
+#the operator of a rehearsal fails
+%rehearsed%fails%lines Ann|
+%told operator%screens 2%kept
+Ann
+%list CUST.DBF
+NAME C 10 0
+records 0
+#the journal of a rehearsal fails
+%rehearsed%room 0%lines Ann|
+%told journal%screens 1
+%list CUST.DBF
+NAME C 10 0
+records 0
+#the journal of a rehearsal ends in half a line
+%rehearsed%handed
+Ann%told handed%kept
+Ann%screens 0
+%list CUST.DBF
+NAME C 10 0
+records 0
 #a rehearsal saves nothing, and tells what would be saved
 %rehearsed%lines Ann|much|
 %rows
