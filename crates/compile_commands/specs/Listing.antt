@@ -23,16 +23,16 @@ abbrev pub command_fault : CompileFault → FileFault
 command_fault fault = record { file = fault.file; fault = Compile fault.line fault.kind }
 
 -- all faults of the file of that number: there is none of its name, it is too long, or its lines have these
-pub data IsListed (number : ℕ) (holds : Option (List ℕ) → Type 0) (faults : List FileFault) : Type 0 where
-  NoFile : holds None → faults ≡ (record { file = number; fault = Absent }) ∷ [] → IsListed number holds faults
-  Long : IsTooLong holds → faults ≡ (record { file = number; fault = TooLong }) ∷ [] → IsListed number holds faults
+pub data AreFaultsOf (number : ℕ) (holds : Option (List ℕ) → Type 0) (faults : List FileFault) : Type 0 where
+  NoFile : holds None → faults ≡ (record { file = number; fault = Absent }) ∷ [] → AreFaultsOf number holds faults
+  Long : IsTooLong holds → faults ≡ (record { file = number; fault = TooLong }) ∷ [] → AreFaultsOf number holds faults
   Lines : (bytes : List ℕ) → holds (Some bytes) → faults ≡ map (line_fault number) (all_faults (marks bytes))
-      → IsListed number holds faults
+      → AreFaultsOf number holds faults
 
 -- those of one file stand behind those of the files before it
 pub record IsListedBehind (number : ℕ) (holds : Option (List ℕ) → Type 0) (before after : List FileFault) : Type 0 where
   pub own : List FileFault
-  pub listed : IsListed number holds own
+  pub listed : AreFaultsOf number holds own
   pub behind : after ≡ before ++ own
 
 -- all faults of the first so many files, file by file

@@ -6,7 +6,7 @@ ghost use Rattle.prg_compile.specs.Alone.{IsCompilable};
 ghost use Rattle.prg_parser.specs.Listing.{all_faults};
 ghost use Rattle.prg_parser.specs.Marks.{marks};
 ghost use Rattle.compile_commands.specs.Listing as spec;
-ghost use Rattle.compile_commands.specs.Listing.{AreFaultless, AreListed, IsListed, IsListedBehind, command_fault};
+ghost use Rattle.compile_commands.specs.Listing.{AreFaultless, AreListed, AreFaultsOf, IsListedBehind, command_fault};
 ghost use Rattle.compile_commands.specs.Refusals.{CompileFilesRefusalIs, SourceRefusalIs, SourcesRefusalIs};
 ghost use Rattle.compile_commands.specs.declared.listing.FileFault.{FileFault as OneFault};
 ghost use Rattle.shape.specs.declared.whole.Shape.{Shape as AnyShape};
@@ -94,7 +94,7 @@ fn faults_of_file<F: Files>(
     name: &str,
     file: usize,
 ) -> Result<Vec<FileFault>, CompileFilesRefusal>
-    ensures listed { IfOk result (λ own. IsListed file (F.holds files.old name.now) own.items) }
+    ensures listed { IfOk result (λ own. AreFaultsOf file (F.holds files.old name.now) own.items) }
     ensures refused { IfErr result (SourceRefusalIs file (F.holds files.old name.now) (F.failed files.old)
         (F.failed files.new)) }
     ensures counted { F.failed files.old ≤ F.failed files.new }

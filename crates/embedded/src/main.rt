@@ -1,11 +1,14 @@
 //! Tablereef embedded: a command file that stands in memory is compiled, verified and run, and its rows are printed.
 #![tactic(auto)]
 
+ghost use Rattle.std.specs.Prelude.{OnOk, ◌∷◌, []};
+ghost use Rattle.tablereef.specs.Compiling.Compiling.{IsCompiled};
+
 use std::alloc::Global;
 use std::io;
 use std::rt::Runtime;
-use tablereef::compiling::compile_files;
-use tablereef::files::{MemoryEntry, MemoryFiles, WORKS_FOR_EVER};
+use tablereef::compiling::{CompileFilesRefusal, compile_files};
+use tablereef::files::{Files, MemoryEntry, MemoryFiles, WORKS_FOR_EVER};
 use tablereef::listings::verify_file;
 use tablereef::runs::{Job, RecordLimit, RunDay, run_files};
 
@@ -22,9 +25,22 @@ const TYPED: &[u8] = b"Ann\n";
 /// Asks for a name, and says when the bill of a leap day falls due.
 const COMMANDS: &str = "ACCEPT \"Customer? \" TO WHO\n? WHO, DTOC(CTOD(\"02/29/88\") + 366)\n";
 
+/// Compiles a command file to a code file, which then holds an accepted code of the declared shape.
+fn compile<F: Files>(
+    alloc: Global,
+    files: &mut F,
+    decl: &str,
+    out: &str,
+    source: &str,
+) -> Result<(), CompileFilesRefusal>
+    ensures { OnOk result (IsCompiled (F.holds files.old) decl.now out.now (source.now ∷ []) (F.holds files.new)) }
+{
+    compile_files(alloc, files, decl, out, &[source])
+}
+
 /// Compiles the command file to the code file, and tells whether that was done and the code is accepted.
 fn is_compiled(alloc: Global, files: &mut MemoryFiles<'_>) -> bool {
-    compile_files(alloc, files, DECLARATIONS, CODE, &[SOURCE]).is_ok()
+    compile(alloc, files, DECLARATIONS, CODE, SOURCE).is_ok()
         && matches!(verify_file(alloc, files, CODE), Ok(None))
 }
 

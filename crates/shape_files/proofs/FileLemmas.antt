@@ -8,7 +8,7 @@ use Rattle.shape_files.specs.declared.refusal.ShapeRefusal.{ShapeRefusal}
 use Rattle.shape_files.specs.declared.refusal.ShapeRefusal.TheVariants.{Refused, Disk, TableDisk, Memory}
 use Rattle.shape_files.specs.Lines.{Said, Nothing, Table, Index, Other, said_in_line}
 use Rattle.shape_files.specs.Refusals.{AtLineIs, LinesRefusalIs, ShapeRefusalIs}
-use Rattle.shape_files.specs.Shapes.{Declare, Declares, DeclaresTable, file_name, no_shape}
+use Rattle.shape_files.specs.Shapes.{Declare, LineDeclares, DeclaresTable, file_name, no_shape}
 
 pub same_self : (a : Holds) → SameFiles a a
 same_self a name found = (λ h. h, λ h. h)
@@ -31,7 +31,7 @@ table_before a b name before after same d = record {
   added = d.added;
 }
 
-pub declares_before : (a b : Holds) (s : Said) (before after : Shape) → SameFiles a b → Declares b s before after → Declares a s before after
+pub declares_before : (a b : Holds) (s : Said) (before after : Shape) → SameFiles a b → LineDeclares b s before after → LineDeclares a s before after
 declares_before a b Nothing before after same d = d
 declares_before a b (Table name) before after same d = table_before a b name before after same d
 declares_before a b (Index name table key) before after same d = d
@@ -48,8 +48,8 @@ no_lines (b ∷ rest) e = absurd (omega (arith, e))
 
 -- ---- lines that were taken
 
-pub declare_more : (a : Holds) (ls : List (List ℕ)) (l : List ℕ) (s t u : Shape) → Declare a ls s t → Declares a (said_in_line l) t u → Declare a (ls ++ l ∷ []) s u
-declare_more a [] l s t u d e = (u, subst (λ (x : Shape). Declares a (said_in_line l) x u) (sym d) e, refl)
+pub declare_more : (a : Holds) (ls : List (List ℕ)) (l : List ℕ) (s t u : Shape) → Declare a ls s t → LineDeclares a (said_in_line l) t u → Declare a (ls ++ l ∷ []) s u
+declare_more a [] l s t u d e = (u, subst (λ (x : Shape). LineDeclares a (said_in_line l) x u) (sym d) e, refl)
 declare_more a (m ∷ ls) l s t u d e = (d.0, d.1, declare_more a ls l d.0 t u d.2 e)
 
 -- of all lines so many are taken, which declare the shape, and the rest are left
@@ -62,7 +62,7 @@ pub record Passed (holds : Holds) (all rest : List (List ℕ)) (number : ℕ) (s
 pub none_passed : (a : Holds) (all : List (List ℕ)) → Passed a all all 0 no_shape
 none_passed a all = record { front = []; cut = refl; count = refl; declared = refl }
 
-pub one_passed : (a : Holds) (all rest behind : List (List ℕ)) (text : List ℕ) (n : ℕ) (s t : Shape) → rest ≡ text ∷ behind → Passed a all rest n s → Declares a (said_in_line text) s t → Passed a all behind (n + 1) t
+pub one_passed : (a : Holds) (all rest behind : List (List ℕ)) (text : List ℕ) (n : ℕ) (s t : Shape) → rest ≡ text ∷ behind → Passed a all rest n s → LineDeclares a (said_in_line text) s t → Passed a all behind (n + 1) t
 one_passed a all rest behind text n s t e p d = record {
   front = p.front ++ text ∷ [];
   cut = p.cut ∙ ap (λ r. p.front ++ r) e ∙ sym (append_assoc p.front (text ∷ []) behind);

@@ -10,12 +10,12 @@ use Rattle.shape_files.specs.declared.refusal.ShapeRefusal.{ShapeRefusal}
 use Rattle.shape_files.specs.declared.refusal.ShapeRefusal.TheVariants.{Refused, Disk, TableDisk, Memory}
 use Rattle.shape_files.specs.Lines.{said_in_line}
 use Rattle.shape_files.specs.Refusals.{LineFaultIs}
-use Rattle.shape_files.specs.Shapes.{Declares, no_shape}
+use Rattle.shape_files.specs.Shapes.{LineDeclares, no_shape}
 
 -- A line more, that of this number: it declares something, or it has a fault, is listed with it, and declares nothing.
 pub data JudgedLine (holds : Holds) (number : ℕ) (text : List ℕ) (before after : Shape) (found more : List DeclFault)
     : Type 0 where
-  Good : Declares holds (said_in_line text) before after → more ≡ found
+  Good : LineDeclares holds (said_in_line text) before after → more ≡ found
       → JudgedLine holds number text before after found more
   Faulty : (f : LineFault) → LineFaultIs before (said_in_line text) f → after ≡ before
       → more ≡ found ++ Line number f ∷ [] → JudgedLine holds number text before after found more

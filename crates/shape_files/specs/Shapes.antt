@@ -80,17 +80,17 @@ pub record DeclaresIndex (name table key : List ℕ) (before after : Shape) : Ty
   pub spelled : SpellsKey fields key index.key
   pub added : after ≡ with_index before index
 
-abbrev pub Declares : Holds → Said → Shape → Shape → Type 0
-Declares holds Nothing before after = after ≡ before
-Declares holds (Table name) before after = DeclaresTable holds name before after
-Declares holds (Index name table key) before after = DeclaresIndex name table key before after
-Declares holds Other before after = ⊥
+abbrev pub LineDeclares : Holds → Said → Shape → Shape → Type 0
+LineDeclares holds Nothing before after = after ≡ before
+LineDeclares holds (Table name) before after = DeclaresTable holds name before after
+LineDeclares holds (Index name table key) before after = DeclaresIndex name table key before after
+LineDeclares holds Other before after = ⊥
 
 -- each line declares something behind what those before it declare
 abbrev pub Declare : Holds → List (List ℕ) → Shape → Shape → Type 0
 Declare holds [] before after = before ≡ after
 Declare holds (line ∷ others) before after =
-    (next : Shape) × Declares holds (said_in_line line) before next × Declare holds others next after
+    (next : Shape) × LineDeclares holds (said_in_line line) before next × Declare holds others next after
 
 -- the file of that name may hold lines that declare the shape, each in its turn
 pub record IsDeclared (holds : Holds) (name : List ℕ) (shape : Shape) : Type 0 where

@@ -7,7 +7,7 @@ ghost use Rattle.text_lines.specs.Lines.{lines};
 ghost use Rattle.shape_files.specs.Lines.{Index as IndexSaid, Table as TableSaid, said_in_line};
 ghost use Rattle.shape_files.specs.Listing.{IsNoLine};
 ghost use Rattle.shape_files.specs.Refusals.{AtLineIs, LineRefusalIs, LinesRefusalIs, ShapeRefusalIs};
-ghost use Rattle.shape_files.specs.Shapes.{Declare, Declares, DeclaresIndex, IsDeclared, no_shape, shape_of};
+ghost use Rattle.shape_files.specs.Shapes.{Declare, LineDeclares, DeclaresIndex, IsDeclared, no_shape, shape_of};
 
 use crate::declarations::{Declarations, MOST_TABLES};
 use crate::key::key_of;
@@ -29,7 +29,7 @@ fn declare_table<F: Files>(
     declarations: &mut Declarations,
     word: &[u8],
 ) -> Result<(), LineRefusal>
-    ensures declared { OnOk result (Declares (F.holds files.old) (TableSaid word.now) (shape_of declarations.old)
+    ensures declared { OnOk result (LineDeclares (F.holds files.old) (TableSaid word.now) (shape_of declarations.old)
         (shape_of declarations.new)) }
     ensures legal { is_shape (shape_of declarations.old) ≡ true
         → OnOk result (is_shape (shape_of declarations.new) ≡ true) }
@@ -89,7 +89,7 @@ pub(crate) fn declare<F: Files>(
     declarations: &mut Declarations,
     text: &[u8],
 ) -> Result<(), LineRefusal>
-    ensures declared { OnOk result (Declares (F.holds files.old) (said_in_line text.now) (shape_of declarations.old)
+    ensures declared { OnOk result (LineDeclares (F.holds files.old) (said_in_line text.now) (shape_of declarations.old)
         (shape_of declarations.new)) }
     ensures legal { is_shape (shape_of declarations.old) ≡ true
         → OnOk result (is_shape (shape_of declarations.new) ≡ true) }
@@ -122,7 +122,7 @@ fn declare_at<F: Files>(
     text: &[u8],
     line: usize,
 ) -> Result<(), ShapeRefusal>
-    ensures declared { OnOk result (Declares (F.holds files.old) (said_in_line text.now) (shape_of declarations.old)
+    ensures declared { OnOk result (LineDeclares (F.holds files.old) (said_in_line text.now) (shape_of declarations.old)
         (shape_of declarations.new)) }
     ensures legal { is_shape (shape_of declarations.old) ≡ true
         → OnOk result (is_shape (shape_of declarations.new) ≡ true) }

@@ -1,0 +1,8 @@
+-- What the contracts of `areas` say.
+pub use Rattle.work_area.specs.Areas
+pub use Rattle.work_area.specs.Calls
+pub use Rattle.work_area.specs.Making
+pub use Rattle.work_area.specs.Shapes
+pub use Rattle.work_area.specs.Open
+pub use Rattle.work_area.specs.Tables
+pub use Rattle.work_area.specs.Moves

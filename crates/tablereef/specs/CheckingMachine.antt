@@ -1,0 +1,6 @@
+-- What the contracts of `checking_machine` say.
+pub use Rattle.tagged_machine.specs.Seen
+pub use Rattle.tagged_machine.specs.Reached
+pub use Rattle.tagged_machine.specs.Faults
+pub use Rattle.tagged_machine.specs.Run
+pub use Rattle.tagged_machine.specs.World

@@ -1,0 +1,24 @@
+-- The definitions that the public contracts name, a module for each of the front door.
+pub mod Days
+pub mod Compiling
+pub mod Tables
+pub mod Files
+pub mod Listings
+pub mod Numbers
+pub mod Folder
+pub mod Journals
+pub mod MachineForAccepted
+pub mod Indexes
+pub mod Conversations
+pub mod Compiler
+pub mod Parser
+pub mod Runs
+pub mod Screen
+pub mod Declarations
+pub mod Stored
+pub mod CheckingMachine
+pub mod Lines
+pub mod Areas
+pub mod Codes
+pub mod Values
+pub mod Verifier

@@ -1,0 +1,7 @@
+-- What the contracts of `machine_for_accepted` say.
+pub use Rattle.machine.specs.Headline
+pub use Rattle.machine.specs.Pauses
+pub use Rattle.machine.specs.Twins
+pub use Rattle.machine.specs.Run
+pub use Rattle.machine.specs.World
+pub use Rattle.machine.specs.Showing
