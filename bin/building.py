@@ -1,4 +1,5 @@
-"""What the builders of the program share: which crates it stands on, where a build stands, and one build at a time."""
+"""What the builders of the program share: which crates it stands on, where a build stands, one build at a time, and what
+scripts read of the toolchain's lines."""
 
 import contextlib
 import ctypes
@@ -16,10 +17,27 @@ import time
 TOP = os.path.dirname(os.path.dirname(os.path.realpath(__file__)))
 # Each kind of build stands in a folder of its name here, which git ignores.
 OUT = f"{TOP}/out"
-# A scratch folder's name begins with this and the number of the process that made it.
-SCRATCH = "tablereef-"
-# What the system and the toolchain's tools say of a full disk.
-FULL = os.strerror(errno.ENOSPC)
+# What --version tells of each kind.
+KINDS = {"proved": "proved", "unproved": "not proved, with run-time checks"}
+# A scratch folder's name begins with this.
+SCRATCH = "tablereef-room-"
+# What the system and the toolchain's tools say of a full disk, and what rt says of it.
+FULL, FULL_FOR_RT = os.strerror(errno.ENOSPC), "rt: the disk is full"
+
+# What scripts read of the toolchain's lines, beyond the last one, which the guide promises. tests/first tells where another
+# kit writes them otherwise. Of `rt ci`: a crate that was proved, one that was taken over, and what isn't kept for later.
+PROVED, KEPT = re.compile(r"rt: (\w+) proved"), re.compile(r"rt: (\w+) is kept: .*")
+NOT_KEPT = re.compile(r"rt: note: (.*\b(?:nothing is kept|is not kept)\b.*)")
+# Of `rt must-fail`: an edit that was refused.
+REFUSED = re.compile(r"rt: (.+?): refused, as it must be.*")
+# Of the tests' runner: a test that passed, and how many there are.
+TEST_PASSED, TESTS = re.compile(r"test .+ \.\.\. ok"), re.compile(r"tests: (\d+)")
+# The last line of `rt ci`, and of each script of tests/.
+VERDICT = re.compile(r"(\d+) passed, (\d+) failed")
+
+# What both builds call of the toolchain, and link with.
+COMPILERS = ("toolchain/bin/clang", "toolchain/bin/ld.lld", "c/libos_c.a", "c/liblibc_c.a")
+
 # Linux's call that has a process sent a signal when the one that started it ends, and its word for that.
 PRCTL, SIGNAL_OF_PARENTS_DEATH = ctypes.CDLL(None).prctl, 1
 BUILDER = os.getpid()
@@ -54,12 +72,29 @@ def needed(name, uses):
     return [*found, name]
 
 
-def kit():
-    """The toolchain's folder."""
+def counted(said, status):
+    """How many tests of a crate passed and failed, by what their runner said and its status; no count is a failure."""
+    lines = said.splitlines()
+    passed = sum(bool(TEST_PASSED.fullmatch(it)) for it in lines)
+    count = next((int(it[1]) for it in map(TESTS.fullmatch, lines) if it), passed + 1)
+    return passed, max(count - passed, int(status != 0))
+
+
+def whole(folder, parts):
+    """A folder of the toolchain, which has all of these files."""
+    for it in parts:
+        if not os.path.exists(f"{folder}/{it}"):
+            raise Failed(f"the toolchain lacks {folder}/{it}")
+    return folder
+
+
+def kit(parts=()):
+    """The toolchain's folder, which has all of these files."""
     try:
-        return os.path.dirname(subprocess.run(["rt", "doc"], capture_output=True, text=True, check=True).stdout.strip())
+        ran = subprocess.run(["rt", "doc"], stdin=subprocess.DEVNULL, capture_output=True, text=True, check=True)
     except (OSError, subprocess.CalledProcessError) as error:
         raise Failed(f"the toolchain's command rt does not run ({error})") from error
+    return whole(os.path.dirname(ran.stdout.strip()), parts)
 
 
 def git(*words):
@@ -71,7 +106,7 @@ def git(*words):
 
 
 def replace(file, to):
-    """Puts a program's file where it stays, at once or not at all."""
+    """Puts a file where it stays, at once or not at all."""
     new = f"{to}.{os.getpid()}"
     try:
         shutil.copy2(file, new)
@@ -81,32 +116,46 @@ def replace(file, to):
             os.remove(new)
 
 
-def is_full():
-    """Whether the disk has no room left among the temporary files."""
-    return shutil.disk_usage(tempfile.gettempdir()).free < 64 << 20
+def room_left():
+    """How many MB the disk has left for temporary files."""
+    return shutil.disk_usage(tempfile.gettempdir()).free >> 20
+
+
+def parts_of(crates, *kinds):
+    """The folders of these kinds that these crates have."""
+    parts = [f"crates/{name}/{kind}" for name in crates for kind in kinds]
+    return [it for it in parts if os.path.isdir(f"{TOP}/{it}")]
 
 
 def is_older(place, parts):
-    """Whether what was built in a place is missing, or older than a file or folder of these parts of the repository."""
+    """Whether what was built in a place is missing, of other parts of the repository, or older than a file or folder of
+    these. (A file that was copied with the times of another is as old as the copy: its change time tells that.)"""
     try:
         built = os.stat(f"{place}/dbrun").st_mtime
-        for part in parts:
-            for at, _, files in os.walk(f"{TOP}/{part}"):
-                if any(os.lstat(it).st_mtime > built for it in [at, *(f"{at}/{name}" for name in files)]):
+        with open(f"{place}/sources", encoding="utf-8") as it:
+            if it.read().splitlines() != ["crates.txt", *parts]:
+                return True
+        for part in ["crates.txt", *parts]:
+            walked = os.walk(f"{TOP}/{part}") if os.path.isdir(f"{TOP}/{part}") else [(f"{TOP}/{part}", [], [])]
+            for at, _, files in walked:
+                found = [os.lstat(it) for it in [at, *(f"{at}/{name}" for name in files)]]
+                if any(max(it.st_mtime, it.st_ctime) > built for it in found):
                     return True
     except OSError:
         return True
-    return os.stat(f"{TOP}/crates.txt").st_mtime > built
+    return False
 
 
 def place_program(program, place, parts, begun):
     """Puts a program that was built of these parts where it stays, with the age of the moment when its build began."""
-    with open(f"{place}/sources", "w", encoding="utf-8") as it:
-        it.writelines(f"{part}\n" for part in ["crates.txt", *parts])
     version = subprocess.run(["rt", "version"], capture_output=True, text=True, check=False).stdout.strip()
     changed = " with changes" if git("status", "--porcelain", "--", "crates", "crates.txt") else ""
-    with open(f"{place}/version", "w", encoding="utf-8") as it:
-        it.write(f"commit {git('rev-parse', '--short', 'HEAD') or 'unknown'}{changed}, {version}\n")
+    commit = f"commit {git('rev-parse', '--short', 'HEAD') or 'unknown'}{changed}"
+    version = f"{KINDS[os.path.basename(place)]}, {commit}, {version}"
+    for name, text in (("sources", "\n".join(["crates.txt", *parts])), ("version", version)):
+        with open(f"{program}.{name}", "w", encoding="utf-8") as it:
+            it.write(f"{text}\n")
+        replace(f"{program}.{name}", f"{place}/{name}")
     os.chmod(program, 0o755)
     os.utime(program, (begun, begun))
     replace(program, f"{place}/dbrun")
@@ -114,7 +163,7 @@ def place_program(program, place, parts, begun):
 
 @contextlib.contextmanager
 def alone(place):
-    """Waits until no other build works in a place."""
+    """Waits until no other build works in a place; what a killed one left there goes."""
     os.makedirs(place, exist_ok=True)
     with open(f"{place}/lock", "w", encoding="ascii") as lock:
         try:
@@ -122,19 +171,55 @@ def alone(place):
         except BlockingIOError:
             say("another start is building the same program: waiting for it")
             fcntl.flock(lock, fcntl.LOCK_EX)
+        for name in os.listdir(place):
+            if re.fullmatch(r"\w+\.\d+", name):
+                os.remove(f"{place}/{name}")
         yield
+
+
+def hold(room, how=0):
+    """Holds a folder, until what this gives is closed or the process ends, however it ends."""
+    holder = os.open(room, os.O_RDONLY | os.O_DIRECTORY | os.O_NOFOLLOW)
+    try:
+        fcntl.flock(holder, fcntl.LOCK_EX | how)
+    except OSError:
+        os.close(holder)
+        raise
+    return holder
+
+
+def sweep():
+    """Takes away the scratch folders that nobody holds."""
+    above = tempfile.gettempdir()
+    for name in os.listdir(above):
+        if name.startswith(SCRATCH):
+            with contextlib.suppress(OSError):
+                holder = hold(f"{above}/{name}", fcntl.LOCK_NB)
+                shutil.rmtree(f"{above}/{name}", ignore_errors=True)
+                os.close(holder)
+
+
+def new_room():
+    """A new scratch folder, and what holds it. (Another start may sweep it away before it is held.)"""
+    while True:
+        room = tempfile.mkdtemp(prefix=SCRATCH)
+        with contextlib.suppress(FileNotFoundError):
+            holder = hold(room)
+            if os.path.exists(room):
+                return room, holder
+            os.close(holder)
 
 
 @contextlib.contextmanager
 def scratch():
     """A folder for what a build makes on the way; what killed builds left goes too."""
-    above = tempfile.gettempdir()
-    for name in os.listdir(above):
-        of = re.match(rf"{SCRATCH}(\d+)-", name)
-        if of and not os.path.exists(f"/proc/{of[1]}"):
-            shutil.rmtree(f"{above}/{name}", ignore_errors=True)
-    with tempfile.TemporaryDirectory(prefix=f"{SCRATCH}{os.getpid()}-", ignore_cleanup_errors=True) as room:
+    sweep()
+    room, holder = new_room()
+    try:
         yield room
+    finally:
+        shutil.rmtree(room, ignore_errors=True)
+        os.close(holder)
 
 
 def end_with_builder():
@@ -147,7 +232,8 @@ def end_with_builder():
 @contextlib.contextmanager
 def running(words, **how):
     """A command in a session of its own, which ends with this one, however it ends."""
-    with subprocess.Popen(words, stdin=subprocess.DEVNULL, start_new_session=True, preexec_fn=end_with_builder, **how) as child:
+    how = {"stdin": subprocess.DEVNULL, "start_new_session": True, "preexec_fn": end_with_builder, **how}
+    with subprocess.Popen(words, **how) as child:
         try:
             yield child
         finally:
