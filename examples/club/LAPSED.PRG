@@ -1,4 +1,4 @@
-* YEAREND.PRG - takes out members who paid nothing            12/86
+* LAPSED.PRG - takes out members who paid nothing            12/86
 SET TALK OFF
 SET PRINT ON
 SELECT 2
