@@ -1,3 +1,4 @@
+pub mod Lasts
 mod LeadingSteps
 mod Rows
 mod BlockSteps

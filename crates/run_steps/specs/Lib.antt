@@ -6,6 +6,7 @@ pub mod Filters
 pub mod Needs
 pub mod Opening
 pub mod Pausing
+pub mod Lasts
 pub mod Leading
 pub mod Blocks
 pub mod Registers

@@ -199,8 +199,8 @@ pub fn execute<V: Values, K: KeyList>(
     requires ready { (w : World)
         × (StandsForWorld (V.stands machine.old.values) machine.old.place machine.old.returns machine.old.env w
         × IsReadyFor code.now w instr) }
-    ensures { (w : World) → StandsForWorld (V.stands machine.old.values) machine.old.place machine.old.returns machine.old.env w
-        → IsReadyFor code.now w instr
+    ensures { (w : World) → StandsForWorld (V.stands machine.old.values) machine.old.place machine.old.returns
+        machine.old.env w → IsReadyFor code.now w instr
         → Stepped code.now w instr left result
         (V.stands machine.new.values) machine.new.place machine.new.returns machine.new.env }
 {

@@ -24,7 +24,7 @@ ghost use Rattle.run_steps.specs.Walking.{HasChanged, HasReplaced, ShowsAll};
 use crate::ending::Stop;
 use crate::environment::Environment;
 use crate::filtering::View;
-use crate::lent_blocks::lent_field;
+use crate::last_values::lent_field;
 use crate::on_areas::{list_of, refused};
 use code_items::Code;
 use code_items::instr::{Question, RecordInstr};

@@ -1,4 +1,4 @@
-//! What a function gives of values with their kinds.
+//! What a function gives of values.
 
 ghost use Rattle.std.specs.Prelude.{◌≡◌, ◌≤◌, [], ◌∷◌, IfSome, length};
 ghost use Rattle.xvalue.specs.declared.settings.Settings.{Settings as AnySettings};
@@ -6,200 +6,187 @@ ghost use Rattle.xvalue.specs.declared.value.Value.TheVariants.{Number as IsNumb
 ghost use Rattle.xvalue.specs.declared.value.Value.TheVariants.{Date as IsDate, Logical as IsLogical};
 ghost use Rattle.xvalue.specs.Functions.{applied};
 ghost use Rattle.xvalue.specs.Given.{by_kind};
-ghost use Rattle.run_values.specs.Scratch.{worked_value};
+ghost use Rattle.run_values.specs.Scratch.{IsGiven};
 
-use crate::lent::Lent;
 use calendar::Day;
-use fixed_num::Num;
+use fixed_num::{Num, without_blanks, without_last_blanks};
 use std::slice;
 use xvalue::apply::{apply, number_of_two, truth_of_two};
-use xvalue::{Arguments, Fun, Gathered, Kind, Settings, Text, Value, eq_text, less_text};
+use xvalue::{Arguments, Fun, Gathered, Settings, Text, Value, eq_text, less_text};
 
-/// What a function gives that is no text.
-#[derive(Clone, Copy)]
-pub(crate) enum Worked {
-    Number(Num),
-    Day(Day),
-    Truth(bool),
-}
-
-impl Worked {
-    /// As a value.
-    fn value(self) -> Value
-        ensures { result ≡ worked_value self }
-    {
-        match self {
-            Worked::Number(number) => Value::Number(number),
-            Worked::Day(day) => Value::Date(day),
-            Worked::Truth(truth) => Value::Logical(truth),
-        }
-    }
-
-    /// As a value that is lent.
-    #[inline(always)]
-    pub(crate) fn lent<'a>(self) -> Lent<'a>
-        ensures { result ≡ worked_value self }
-    {
-        match self {
-            Worked::Number(number) => Lent::of_number(number),
-            Worked::Day(day) => Lent::of_day(day),
-            Worked::Truth(truth) => Lent::of_truth(truth),
-        }
-    }
-}
-
-/// What a function of two numbers gives; none where it is one of other arguments.
-fn of_numbers(fun: Fun, first: Num, second: Num) -> Option<Worked>
-    ensures { (settings : AnySettings) → IfSome result (λ worked. worked_value worked
-        ≡ applied fun settings (by_kind (IsNumber first ∷ IsNumber second ∷ []))) }
+/// The number that a function gives of two numbers; none of another function.
+pub fn number_of_numbers(fun: Fun, first: Num, second: Num) -> Option<Num>
+    ensures { (settings : AnySettings) → IfSome result (λ number.
+        IsGiven fun settings (IsNumber first ∷ IsNumber second ∷ []) (IsNumber number)) }
 {
     use Fun::*;
 
     match fun {
-        Add | Sub | Mul | Div | Mod | Round | Max | Min => {
-            Some(Worked::Number(number_of_two(fun, first, second)))
-        }
-        NumberEq | NumberLess | NumberGreater => {
-            Some(Worked::Truth(truth_of_two(fun, &first, &second)))
-        }
+        Add | Sub | Mul | Div | Mod | Round | Max | Min => Some(number_of_two(fun, first, second)),
         _ => None,
     }
 }
 
-/// What a function gives that compares two texts; none where it is another one.
-#[tactic(auto, unfolding(xvalue::specs::Functions::applied))]
-fn of_texts(fun: Fun, settings: Settings, first: &[u8], second: &[u8]) -> Option<Worked>
-    ensures { IfSome result (λ worked. worked_value worked ≡ applied fun settings (by_kind
-        (IsText (record { items = first.now }) ∷ IsText (record { items = second.now }) ∷ []))) }
-{
-    match fun {
-        Fun::TextEq => Some(Worked::Truth(eq_text(first, second, settings.exact))),
-        Fun::TextLess => Some(Worked::Truth(less_text(first, second))),
-        Fun::TextGreater => Some(Worked::Truth(less_text(second, first))),
-        _ => None,
-    }
-}
-
-/// What a function gives of two dates; none where it is one of other arguments.
-#[tactic(auto, unfolding(xvalue::specs::Functions::applied))]
-fn of_dates(fun: Fun, first: Day, second: Day) -> Option<Worked>
-    ensures { (settings : AnySettings) → IfSome result (λ worked. worked_value worked
-        ≡ applied fun settings (by_kind (IsDate first ∷ IsDate second ∷ []))) }
-{
-    match fun {
-        Fun::DateEq => Some(Worked::Truth(first.is(second))),
-        Fun::DateLess => Some(Worked::Truth(first.is_before(second))),
-        Fun::DateGreater => Some(Worked::Truth(second.is_before(first))),
-        Fun::DateDiff => Some(Worked::Number(first.days_since(second))),
-        _ => None,
-    }
-}
-
-/// The day that a function gives of a date and a number; none where it gives none.
-#[tactic(auto, unfolding(xvalue::specs::Functions::applied))]
-fn of_moved_date(fun: Fun, date: Day, number: Num) -> Option<Worked>
-    ensures { (settings : AnySettings) → IfSome result (λ worked. worked_value worked
-        ≡ applied fun settings (by_kind (IsDate date ∷ IsNumber number ∷ []))) }
-{
-    match fun {
-        Fun::DateAdd => Some(Worked::Day(date.plus(number))),
-        Fun::DateSub => Some(Worked::Day(date.minus(number))),
-        _ => None,
-    }
-}
-
-/// What a function gives of two truth values; none where it is one of other arguments.
-#[tactic(auto, unfolding(xvalue::specs::Functions::applied))]
-fn of_truths(fun: Fun, first: bool, second: bool) -> Option<Worked>
-    ensures { (settings : AnySettings) → IfSome result (λ worked. worked_value worked
-        ≡ applied fun settings (by_kind (IsLogical first ∷ IsLogical second ∷ []))) }
-{
-    match fun {
-        Fun::And => Some(Worked::Truth(first && second)),
-        Fun::Or => Some(Worked::Truth(first || second)),
-        _ => None,
-    }
-}
-
-/// What a function gives of two values of a kind, where that is no text; none of others.
+/// Whether a comparison of two numbers holds; none of another function.
 #[inline(always)]
-fn of_two(fun: Fun, settings: Settings, first: &Lent<'_>, second: &Lent<'_>) -> Option<Worked>
-    ensures { IfSome result (λ worked. worked_value worked
-        ≡ applied fun settings (by_kind (first.now ∷ second.now ∷ []))) }
+pub fn truth_of_numbers(fun: Fun, first: Num, second: Num) -> Option<bool>
+    ensures { (settings : AnySettings) → IfSome result (λ truth.
+        IsGiven fun settings (IsNumber first ∷ IsNumber second ∷ []) (IsLogical truth)) }
 {
-    match (first.kind(), second.kind()) {
-        (Kind::Number, Kind::Number) => of_numbers(fun, first.number(), second.number()),
-        (Kind::Text, Kind::Text) => of_texts(fun, settings, first.text(), second.text()),
-        (Kind::Date, Kind::Date) => of_dates(fun, first.day(), second.day()),
-        (Kind::Date, Kind::Number) => of_moved_date(fun, first.day(), second.number()),
-        (Kind::Logical, Kind::Logical) => of_truths(fun, first.truth(), second.truth()),
+    match fun {
+        Fun::NumberEq | Fun::NumberLess | Fun::NumberGreater => {
+            Some(truth_of_two(fun, &first, &second))
+        }
         _ => None,
     }
 }
 
-/// What a function gives of a number, where that is no text; none where it is one of other arguments.
+/// Whether a comparison of two texts holds; none of another function.
 #[tactic(auto, unfolding(xvalue::specs::Functions::applied))]
-fn of_number(fun: Fun, number: Num) -> Option<Worked>
-    ensures { (settings : AnySettings) → IfSome result (λ worked. worked_value worked
-        ≡ applied fun settings (by_kind (IsNumber number ∷ []))) }
+pub fn truth_of_texts(fun: Fun, settings: Settings, first: &[u8], second: &[u8]) -> Option<bool>
+    ensures { IfSome result (λ truth. IsGiven fun settings
+        (IsText (record { items = first.now }) ∷ IsText (record { items = second.now }) ∷ []) (IsLogical truth)) }
 {
     match fun {
-        Fun::Neg => Some(Worked::Number(number.neg())),
-        Fun::Abs => Some(Worked::Number(number.abs())),
-        Fun::Int => Some(Worked::Number(number.int())),
+        Fun::TextEq => Some(eq_text(first, second, settings.exact)),
+        Fun::TextLess => Some(less_text(first, second)),
+        Fun::TextGreater => Some(less_text(second, first)),
         _ => None,
     }
 }
 
-/// What a function gives of a date, where that is no text; none where it is one of other arguments.
+/// Whether a comparison of two dates holds; none of another function.
 #[tactic(auto, unfolding(xvalue::specs::Functions::applied))]
-fn of_date(fun: Fun, date: Day) -> Option<Worked>
-    ensures { (settings : AnySettings) → IfSome result (λ worked. worked_value worked
-        ≡ applied fun settings (by_kind (IsDate date ∷ []))) }
+pub fn truth_of_dates(fun: Fun, first: Day, second: Day) -> Option<bool>
+    ensures { (settings : AnySettings) → IfSome result (λ truth.
+        IsGiven fun settings (IsDate first ∷ IsDate second ∷ []) (IsLogical truth)) }
 {
     match fun {
-        Fun::Day => Some(Worked::Number(Num::from(u32::from(date.day())))),
-        Fun::Month => Some(Worked::Number(Num::from(u32::from(date.month())))),
-        Fun::Year => Some(Worked::Number(Num::from(u32::from(date.year())))),
-        Fun::Dow => Some(Worked::Number(Num::from(u32::from(date.weekday())))),
+        Fun::DateEq => Some(first.is(second)),
+        Fun::DateLess => Some(first.is_before(second)),
+        Fun::DateGreater => Some(second.is_before(first)),
+        _ => None,
+    }
+}
+
+/// The number that a function gives of two dates; none of another function.
+#[tactic(auto, unfolding(xvalue::specs::Functions::applied))]
+pub fn number_of_dates(fun: Fun, first: Day, second: Day) -> Option<Num>
+    ensures { (settings : AnySettings) → IfSome result (λ number.
+        IsGiven fun settings (IsDate first ∷ IsDate second ∷ []) (IsNumber number)) }
+{
+    match fun {
+        Fun::DateDiff => Some(first.days_since(second)),
+        _ => None,
+    }
+}
+
+/// The date that a function gives of a date and a number; none of another function.
+#[tactic(auto, unfolding(xvalue::specs::Functions::applied))]
+pub fn date_moved(fun: Fun, date: Day, number: Num) -> Option<Day>
+    ensures { (settings : AnySettings) → IfSome result (λ moved.
+        IsGiven fun settings (IsDate date ∷ IsNumber number ∷ []) (IsDate moved)) }
+{
+    match fun {
+        Fun::DateAdd => Some(date.plus(number)),
+        Fun::DateSub => Some(date.minus(number)),
+        _ => None,
+    }
+}
+
+/// The truth value that a function gives of two; none of another function.
+#[inline(always)]
+#[tactic(auto, unfolding(xvalue::specs::Functions::applied))]
+pub fn truth_of_truths(fun: Fun, first: bool, second: bool) -> Option<bool>
+    ensures { (settings : AnySettings) → IfSome result (λ truth.
+        IsGiven fun settings (IsLogical first ∷ IsLogical second ∷ []) (IsLogical truth)) }
+{
+    match fun {
+        Fun::And => Some(first && second),
+        Fun::Or => Some(first || second),
         _ => None,
     }
 }
 
 /// NOT of a truth value; none of another function.
+#[inline(always)]
 #[tactic(auto, unfolding(xvalue::specs::Functions::applied))]
-fn not_of(fun: Fun, truth: bool) -> Option<Worked>
-    ensures { (settings : AnySettings) → IfSome result (λ worked. worked_value worked
-        ≡ applied fun settings (by_kind (IsLogical truth ∷ []))) }
+pub fn truth_of_truth(fun: Fun, given: bool) -> Option<bool>
+    ensures { (settings : AnySettings) → IfSome result (λ truth.
+        IsGiven fun settings (IsLogical given ∷ []) (IsLogical truth)) }
 {
     match fun {
-        Fun::Not => Some(Worked::Truth(!truth)),
+        Fun::Not => Some(!given),
         _ => None,
     }
 }
 
-/// What a function gives of a value that is lent and no text; none of others.
-fn of_single(fun: Fun, value: &Lent<'_>) -> Option<Worked>
-    ensures { (settings : AnySettings) → IfSome result (λ worked. worked_value worked
-        ≡ applied fun settings (by_kind (value.now ∷ []))) }
+/// The number that a function gives of a number; none of another function.
+#[tactic(auto, unfolding(xvalue::specs::Functions::applied))]
+pub fn number_of_number(fun: Fun, given: Num) -> Option<Num>
+    ensures { (settings : AnySettings) → IfSome result (λ number.
+        IsGiven fun settings (IsNumber given ∷ []) (IsNumber number)) }
 {
-    match value.kind() {
-        Kind::Number => of_number(fun, value.number()),
-        Kind::Text => None,
-        Kind::Date => of_date(fun, value.day()),
-        Kind::Logical => not_of(fun, value.truth()),
+    match fun {
+        Fun::Neg => Some(given.neg()),
+        Fun::Abs => Some(given.abs()),
+        Fun::Int => Some(given.int()),
+        _ => None,
     }
 }
 
-/// What a function gives of values that are lent, where that is soon worked out; none where it isn't. It takes no
-/// memory.
-#[inline(always)]
-pub(crate) fn worked_out(fun: Fun, settings: Settings, values: &[Lent<'_>]) -> Option<Worked>
-    ensures { IfSome result (λ worked. worked_value worked ≡ applied fun settings (by_kind values.now)) }
+/// The number that a function gives of a date; none of another function.
+#[tactic(auto, unfolding(xvalue::specs::Functions::applied))]
+pub fn number_of_date(fun: Fun, date: Day) -> Option<Num>
+    ensures { (settings : AnySettings) → IfSome result (λ number.
+        IsGiven fun settings (IsDate date ∷ []) (IsNumber number)) }
 {
-    match values {
-        [value] => of_single(fun, value),
-        [first, second] => of_two(fun, settings, first, second),
+    match fun {
+        Fun::Day => Some(Num::from(u32::from(date.day()))),
+        Fun::Month => Some(Num::from(u32::from(date.month()))),
+        Fun::Year => Some(Num::from(u32::from(date.year()))),
+        Fun::Dow => Some(Num::from(u32::from(date.weekday()))),
+        _ => None,
+    }
+}
+
+/// The number that LEN or VAL gives of a text; none of another function.
+#[tactic(auto, unfolding(xvalue::specs::Functions::applied))]
+pub fn number_of_text(fun: Fun, text: &[u8]) -> Option<Num>
+    requires { length text.now ≤ 254 }
+    ensures { (settings : AnySettings) → IfSome result (λ number.
+        IsGiven fun settings (IsText (record { items = text.now }) ∷ []) (IsNumber number)) }
+{
+    match fun {
+        Fun::Len => Some(Num::from(text.len() as u32)),
+        Fun::Val => Some(Num::parse_prefix(text)),
+        _ => None,
+    }
+}
+
+/// CTOD of a text; none of another function.
+#[tactic(auto, unfolding(xvalue::specs::Functions::applied))]
+pub fn date_of_text(fun: Fun, text: &[u8]) -> Option<Day>
+    ensures { (settings : AnySettings) → IfSome result (λ date.
+        IsGiven fun settings (IsText (record { items = text.now }) ∷ []) (IsDate date)) }
+{
+    match fun {
+        Fun::Ctod => Some(Day::read(text)),
+        _ => None,
+    }
+}
+
+/// What TRIM or LTRIM leaves of a text, lent from there; none of another function.
+#[tactic(auto, unfolding(xvalue::specs::Functions::applied))]
+pub fn part_of_text(fun: Fun, text: &[u8]) -> Option<&[u8]>
+    requires { length text.now ≤ 254 }
+    ensures given { (settings : AnySettings) → IfSome result (λ part.
+        IsGiven fun settings (IsText (record { items = text.now }) ∷ []) (IsText (record { items = part.now }))) }
+    ensures short { IfSome result (λ part. length part.now ≤ 254) }
+{
+    match fun {
+        Fun::Trim => Some(without_last_blanks(text)),
+        Fun::Ltrim => Some(without_blanks(text)),
         _ => None,
     }
 }
@@ -221,10 +208,11 @@ fn of_text_and_number(fun: Fun, settings: Settings, text: &Text, number: &Num) -
 fn of_pair(fun: Fun, settings: Settings, first: &Value, second: &Value) -> Option<Value>
     ensures { IfSome result (λ value. value ≡ applied fun settings (by_kind (first.now ∷ second.now ∷ []))) }
 {
-    if let Some(worked) = of_two(fun, settings, &Lent::of(first), &Lent::of(second)) {
-        return Some(worked.value());
-    }
     match (first, second) {
+        (Value::Text(first), Value::Text(second)) => {
+            let truth = truth_of_texts(fun, settings, first.as_slice(), second.as_slice())?;
+            Some(Value::Logical(truth))
+        }
         (Value::Text(text), Value::Number(number)) => {
             Some(of_text_and_number(fun, settings, text, number))
         }

@@ -4,10 +4,9 @@
 //! without tags. Both stand for the same lists of values with their kinds.
 #![tactic(auto)]
 
-mod calling;
+pub mod calling;
 mod cells;
 mod lent;
-mod lent_scratch;
 mod pile;
 mod scratch;
 mod stacks;
@@ -18,7 +17,6 @@ mod values;
 
 pub use cells::{Cell, Cells};
 pub use lent::Lent;
-pub use lent_scratch::LentScratch;
 pub use pile::{Pile, STACK_LIMIT};
 pub use scratch::Scratch;
 pub use stacks::Stacks;
