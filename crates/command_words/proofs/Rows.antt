@@ -4,11 +4,14 @@ use Rattle.std.specs.Prelude.{slice_get}
 use Rattle.std.specs.List.{find}
 use Rattle.std.specs.Option.{option_map, option_and_then}
 use Rattle.std.specs.Str.{bytes_eq}
-use Rattle.clap.specs.Matches.{matched_of, raw_values, first_value}
+use Rattle.clap.specs.Matches.{matched_of, raw_values, first_value, one_text}
+use Rattle.clap.specs.Values.{read_as}
+use Rattle.clap.specs.declared.builder.value_parser.Reading.{Reading}
 use Rattle.clap.specs.Facts.{Entry}
 use Rattle.clap.specs.Walk.{Row, row_of, rows_of}
 use Rattle.clap.specs.declared.parser.matches.Found.{Found}
 use Rattle.clap.specs.declared.parser.matches.MatchedArg.{MatchedArg}
+use Rattle.command_words.specs.Asked.{word_read}
 use Rattle.command_words.specs.Said.{words_said, word_given, sources_said}
 
 step : (e : Entry) (xs : Option Entry) (ys : Option Row) → option_map raw_values (option_map (λ (x : Entry). x.1) xs) ≡ option_map (λ (r : Row). r.values) ys → (b : Bool) → option_map raw_values (option_map (λ (x : Entry). x.1) (cond b (Some e) xs)) ≡ option_map (λ (r : Row). r.values) (cond b (Some (row_of e)) ys)
@@ -36,3 +39,25 @@ same_word f id = first_of (matched_of f id) (words_said id (rows_of f)) (same_wo
 pub behind : (said : Option (List ℕ × List Row)) (rows : List Row) → Some rows ≡ option_map (λ (p : List ℕ × List Row). p.1) said → words_said (codes "MAIN") rows ≡ sources_said said
 behind None rows e = absurd (search rules)
 behind (Some p) rows e = let same : rows ≡ p.1 = search rules in ap (λ (r : List Row). words_said (codes "MAIN") r) same
+
+-- the same as getters of numbers and flags read them
+read_head : (r : Reading) (xs : List (Bor (List ℕ))) → option_map (λ (s : Bor (List ℕ)). read_as r s.now) (slice_get xs 0) ≡ option_map (read_as r) (slice_get (map (λ (s : Bor (List ℕ)). s.now) xs) 0)
+read_head r [] = refl
+read_head r (x ∷ xs) = refl
+
+abbrev read_found : Option MatchedArg → Option (List ℕ)
+read_found = option_and_then (λ (a : MatchedArg). option_map (λ (s : Bor (List ℕ)). read_as a.reading s.now) (slice_get a.vals.items 0))
+
+abbrev read_row : Option Row → Option (List ℕ)
+read_row = option_and_then (λ (r : Row). option_map (read_as r.reading) (slice_get r.values 0))
+
+read_step : (e : Entry) (xs : Option Entry) (ys : Option Row) → read_found (option_map (λ (x : Entry). x.1) xs) ≡ read_row ys → (b : Bool) → read_found (option_map (λ (x : Entry). x.1) (cond b (Some e) xs)) ≡ read_row (cond b (Some (row_of e)) ys)
+read_step e xs ys h true = read_head e.1.reading e.1.vals.items
+read_step e xs ys h false = h
+
+read_go : (id : List ℕ) (es : List Entry) → read_found (option_map (λ (x : Entry). x.1) (find (λ (x : Entry). bytes_eq x.0.now id) es)) ≡ word_read id (map row_of es)
+read_go id [] = refl
+read_go id (e ∷ es) = read_step e (find (λ (x : Entry). bytes_eq x.0.now id) es) (find (λ (r : Row). bytes_eq r.id id) (map row_of es)) (read_go id es) (bytes_eq e.0.now id)
+
+pub same_read : (f : Found) (id : List ℕ) → one_text f id ≡ word_read id (rows_of f)
+same_read f id = read_go id f.entries.items

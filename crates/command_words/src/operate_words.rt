@@ -1,13 +1,21 @@
 // The words of `operate`.
 #![tactic(auto)]
 
-ghost use Rattle.std.specs.Prelude.{◌≡◌, ◌↔◌, ℕ, Some};
+ghost use Rattle.std.specs.Prelude.{◌≡◌, ◌↔◌, ℕ, IfOk, IfErr, Some, codes};
+ghost use Rattle.clap.specs.Matches.{found_of};
+ghost use Rattle.clap.specs.Walk.{rows_of};
+ghost use Rattle.clap.specs.declared.builder.command.Command.TheViews.{out-Command as fields_of};
+ghost use Rattle.run_commands.specs.Days.{IsDayNamed};
+ghost use Rattle.command_words.specs.Asked.{lent, IsNamedIf, IsTalk, IsTalkIf, IsShown, IsOperate};
+ghost use Rattle.command_words.specs.Asked.{MayRefuse};
+ghost use Rattle.command_words.specs.Said.{word_given};
 ghost use Rattle.command_words.specs.declared.operate_words.WindowWords.{WindowWords as Size};
 ghost use Rattle.command_words.specs.Windows.{IsNumber, IsSize};
 
 use crate::words::{
     BACKUP, FILE, NEW_OWNER, NO_LOCK, ONLY_FINISHED, Outcomes, REHEARSE, RunHelp, WordsFault, flag,
-    limit_of, page, page_of, run_outcomes, runner, saver, word_of,
+    is_set, limit_of, number_if, page, page_of, run_outcomes, runner, saver, with_word, word_if,
+    word_of,
 };
 use clap::{Arg, ArgAction, ArgMatches, Command};
 use code_pages::CodePage;
@@ -91,7 +99,9 @@ fn window<'a>(alloc: Global) -> Arg<'a> {
 }
 
 /// The words of `operate`.
-pub(crate) fn operator<'a>(alloc: Global) -> Result<Command<'a>, AllocError> {
+pub(crate) fn operator<'a>(alloc: Global) -> Result<Command<'a>, AllocError>
+    ensures { IfOk result (λ c. (fields_of c).name.now ≡ codes "operate") }
+{
     let run = runner(
         alloc,
         "operate",
@@ -99,17 +109,21 @@ pub(crate) fn operator<'a>(alloc: Global) -> Result<Command<'a>, AllocError> {
         "Example, behind that of compile: dbrun operate DAY.XBC --journal MONDAY.TXT",
         &HELP,
     )?;
-    saver(alloc, run)?
-        .arg(journal(alloc))?
-        .arg(flag(alloc, CONTINUE, "Goes on behind the lines of the journal"))?
-        .arg(page(alloc, "The code page of the tables' texts, cp437 or cp850"))?
-        .arg(window(alloc))?
-        .arg(flag(
-            alloc,
-            PLAIN,
-            "Lists the rows that changed, and draws nothing",
-        ))?
-        .arg(screens(alloc))
+    let again = flag(alloc, CONTINUE, "Goes on behind the lines of the journal");
+    let plain = flag(
+        alloc,
+        PLAIN,
+        "Lists the rows that changed, and draws nothing",
+    );
+    let command = with_word(saver(alloc, run)?, journal(alloc))?;
+    let command = with_word(command, again)?;
+    let command = with_word(
+        command,
+        page(alloc, "The code page of the tables' texts, cp437 or cp850"),
+    )?;
+    let command = with_word(command, window(alloc))?;
+    let command = with_word(command, plain)?;
+    with_word(command, screens(alloc))
 }
 
 /// The word that names a file for screens.
@@ -122,8 +136,10 @@ pub(crate) fn screens<'a>(alloc: Global) -> Arg<'a> {
 }
 
 /// The file for screens that the words name.
-pub(crate) fn screens_of<'a>(matches: &ArgMatches<'a>) -> Option<&'a str> {
-    matches.get_str(SCREENS)
+pub(crate) fn screens_of<'a>(matches: &ArgMatches<'a>) -> Option<&'a str>
+    ensures { lent result ≡ word_given (codes "screens") (rows_of (found_of matches.now)) }
+{
+    word_if(matches, SCREENS)
 }
 
 /// The number that a text says in decimal; none where it says none below 2^64. A plus sign may stand in front.
@@ -144,8 +160,12 @@ pub fn window_named(word: &str) -> Option<WindowWords>
     })
 }
 
-fn window_of(matches: &ArgMatches<'_>) -> Result<Option<WindowWords>, WordsFault> {
-    match matches.get_str(WINDOW) {
+/// The size of the window that the words name.
+fn window_of(matches: &ArgMatches<'_>) -> Result<Option<WindowWords>, WordsFault>
+    ensures told { IfOk result (IsNamedIf IsSize (word_given (codes "window") (rows_of (found_of matches.now)))) }
+    ensures refused { IfErr result (MayRefuse (rows_of (found_of matches.now))) }
+{
+    match word_if(matches, WINDOW) {
         Some(word) => match window_named(word) {
             Some(window) => Ok(Some(window)),
             None => Err(WordsFault::Window),
@@ -156,21 +176,24 @@ fn window_of(matches: &ArgMatches<'_>) -> Result<Option<WindowWords>, WordsFault
 
 /// Whether words say what a conversation that goes on has been asked for already.
 fn asks_anew(matches: &ArgMatches<'_>) -> bool {
-    let has_word = matches.get_one::<u64>("budget").is_some()
-        || matches.get_one::<u32>("limit").is_some()
-        || matches.get_str("today").is_some()
-        || matches.get_str("from").is_some()
-        || matches.get_str(BACKUP).is_some();
+    let has_word = number_if(matches, "budget").is_some()
+        || number_if(matches, "limit").is_some()
+        || word_if(matches, "today").is_some()
+        || word_if(matches, "from").is_some()
+        || word_if(matches, BACKUP).is_some();
     has_word
-        || matches.get_flag(REHEARSE)
-        || matches.get_flag(ONLY_FINISHED)
-        || matches.get_flag(NEW_OWNER)
-        || matches.get_flag(NO_LOCK)
+        || is_set(matches, REHEARSE)
+        || is_set(matches, ONLY_FINISHED)
+        || is_set(matches, NEW_OWNER)
+        || is_set(matches, NO_LOCK)
 }
 
 /// The day of a run where the words say one.
-fn day_if_said(matches: &ArgMatches<'_>) -> Result<Option<RunDay>, WordsFault> {
-    match matches.get_str("today") {
+fn day_if_said(matches: &ArgMatches<'_>) -> Result<Option<RunDay>, WordsFault>
+    ensures told { IfOk result (IsNamedIf IsDayNamed (word_given (codes "today") (rows_of (found_of matches.now)))) }
+    ensures refused { IfErr result (MayRefuse (rows_of (found_of matches.now))) }
+{
+    match word_if(matches, "today") {
         Some(word) => match RunDay::named(word) {
             Some(day) => Ok(Some(day)),
             None => Err(WordsFault::Today),
@@ -179,34 +202,54 @@ fn day_if_said(matches: &ArgMatches<'_>) -> Result<Option<RunDay>, WordsFault> {
     }
 }
 
-/// What a conversation is asked for; none where it goes on.
-fn talk_of<'a>(matches: &ArgMatches<'a>) -> Result<Option<TalkWords<'a>>, WordsFault> {
-    if matches.get_flag(CONTINUE) {
-        if asks_anew(matches) {
-            return Err(WordsFault::Continued);
-        }
-        return Ok(None);
-    }
-    Ok(Some(TalkWords {
-        budget: matches.get_one::<u64>("budget"),
+/// What a conversation that begins is asked for.
+fn new_talk_of<'a>(matches: &ArgMatches<'a>) -> Result<TalkWords<'a>, WordsFault>
+    ensures told { IfOk result (IsTalk (rows_of (found_of matches.now))) }
+    ensures refused { IfErr result (MayRefuse (rows_of (found_of matches.now))) }
+{
+    Ok(TalkWords {
+        budget: number_if(matches, "budget"),
         limit: limit_of(matches)?,
         day: day_if_said(matches)?,
         tables: run_outcomes(matches)?,
         page: page_of(matches)?,
-    }))
+    })
+}
+
+/// What a conversation is asked for; none where it goes on.
+fn talk_of<'a>(matches: &ArgMatches<'a>) -> Result<Option<TalkWords<'a>>, WordsFault>
+    ensures told { IfOk result (IsTalkIf (rows_of (found_of matches.now))) }
+    ensures refused { IfErr result (MayRefuse (rows_of (found_of matches.now))) }
+{
+    if !is_set(matches, CONTINUE) {
+        return match new_talk_of(matches) {
+            Ok(talk) => Ok(Some(talk)),
+            Err(fault) => Err(fault),
+        };
+    }
+    if asks_anew(matches) {
+        return Err(WordsFault::Continued);
+    }
+    Ok(None)
 }
 
 /// How a conversation is shown.
-fn shown_of<'a>(matches: &ArgMatches<'a>) -> Result<ShownWords<'a>, WordsFault> {
+fn shown_of<'a>(matches: &ArgMatches<'a>) -> Result<ShownWords<'a>, WordsFault>
+    ensures told { IfOk result (IsShown (rows_of (found_of matches.now))) }
+    ensures refused { IfErr result (MayRefuse (rows_of (found_of matches.now))) }
+{
     Ok(ShownWords {
         window: window_of(matches)?,
-        plain: matches.get_flag(PLAIN),
+        plain: is_set(matches, PLAIN),
         screens: screens_of(matches),
     })
 }
 
 /// What the words of `operate` ask for.
-pub(crate) fn operate_of<'a>(matches: &ArgMatches<'a>) -> Result<OperateWords<'a>, WordsFault> {
+pub(crate) fn operate_of<'a>(matches: &ArgMatches<'a>) -> Result<OperateWords<'a>, WordsFault>
+    ensures told { IfOk result (IsOperate (rows_of (found_of matches.now))) }
+    ensures refused { IfErr result (MayRefuse (rows_of (found_of matches.now))) }
+{
     let code = word_of(matches, FILE)?;
     let journal = word_of(matches, JOURNAL)?;
     let shown = shown_of(matches)?;

@@ -1,11 +1,17 @@
 // The words of the command line.
 #![tactic(auto)]
 
-ghost use Rattle.std.specs.Prelude.{◌≡◌, IfOk, Some, map};
+ghost use Rattle.std.specs.Prelude.{◌≡◌, ◌∷◌, ◌++◌, ◌^◌, IfOk, IfErr, Some, [], codes, map, unwrap_or};
 ghost use Rattle.std.specs.Option.{option_map};
 ghost use Rattle.clap.specs.Matches.{found_of};
 ghost use Rattle.clap.specs.Simple.{subcommand_rows_of};
 ghost use Rattle.clap.specs.Walk.{rows_of};
+ghost use Rattle.clap.specs.Built.{subcommand_names};
+ghost use Rattle.clap.specs.declared.builder.command.Command.TheViews.{out-Command as fields_of};
+ghost use Rattle.run_commands.specs.Days.{IsDayNamed};
+ghost use Rattle.command_words.specs.Asked.{lent, IsFlag, IsNumberIf, IsNumberOr, IsPageNamed, IsJob};
+ghost use Rattle.command_words.specs.Asked.{AreOutcomes, IsListAsked, AsksFor, Asks, MayRefuse, RefusesWords};
+ghost use Rattle.command_words.specs.Asked.{AddsMade, command_names};
 ghost use Rattle.command_words.specs.Said.{sources_said, word_given};
 
 use crate::operate_words::{OperateWords, operate_of, operator, screens, screens_of};
@@ -168,7 +174,9 @@ fn reader<'a>(
     about: &'a str,
     sort: &'a str,
     example: &'a str,
-) -> Result<Command<'a>, AllocError> {
+) -> Result<Command<'a>, AllocError>
+    ensures { IfOk result (λ c. (fields_of c).name.now ≡ name.entry.now) }
+{
     let file = Arg::new(alloc, FILE)
         .value_name(sort)
         .required(true)
@@ -187,7 +195,9 @@ pub(crate) fn page<'a>(alloc: Global, help: &'a str) -> Arg<'a> {
         .help(help)
 }
 
-fn lister<'a>(alloc: Global) -> Result<Command<'a>, AllocError> {
+fn lister<'a>(alloc: Global) -> Result<Command<'a>, AllocError>
+    ensures { IfOk result (λ c. (fields_of c).name.now ≡ codes "list") }
+{
     reader(
         alloc,
         "list",
@@ -247,7 +257,9 @@ pub(crate) fn runner<'a>(
     about: &'a str,
     example: &'a str,
     help: &RunHelp<'a>,
-) -> Result<Command<'a>, AllocError> {
+) -> Result<Command<'a>, AllocError>
+    ensures { IfOk result (λ c. (fields_of c).name.now ≡ name.entry.now) }
+{
     reader(alloc, name, about, "CODE", example)?
         .arg(budget(alloc, help.budget))?
         .arg(limit(alloc))?
@@ -270,29 +282,43 @@ fn backup<'a>(alloc: Global) -> Arg<'a> {
         .help("Copies all that is replaced to this folder first, which is absent or empty")
 }
 
-/// The words of `run` alone.
-pub(crate) fn saver<'a>(alloc: Global, command: Command<'a>) -> Result<Command<'a>, AllocError> {
-    command
-        .arg(flag(
-            alloc,
-            REHEARSE,
-            "Saves nothing, and tells what a run would save",
-        ))?
-        .arg(flag(
-            alloc,
-            ONLY_FINISHED,
-            "Saves nothing unless the run finished",
-        ))?
-        .arg(backup(alloc))?
-        .arg(flag(
-            alloc,
-            NEW_OWNER,
-            "Lets new files be yours where the old owner or group can't be kept",
-        ))?
-        .arg(flag(alloc, NO_LOCK, "Saves where the file system knows no locks"))
+/// A command with a word more.
+pub(crate) fn with_word<'a>(command: Command<'a>, word: Arg<'a>) -> Result<Command<'a>, AllocError>
+    ensures { IfOk result (λ c. (fields_of c).name.now ≡ (fields_of command.entry).name.now) }
+{
+    command.arg(word)
 }
 
-fn forgetter<'a>(alloc: Global) -> Result<Command<'a>, AllocError> {
+/// The words of `run` alone.
+pub(crate) fn saver<'a>(alloc: Global, command: Command<'a>) -> Result<Command<'a>, AllocError>
+    ensures { IfOk result (λ c. (fields_of c).name.now ≡ (fields_of command.entry).name.now) }
+{
+    let rehearse = flag(
+        alloc,
+        REHEARSE,
+        "Saves nothing, and tells what a run would save",
+    );
+    let only_finished = flag(
+        alloc,
+        ONLY_FINISHED,
+        "Saves nothing unless the run finished",
+    );
+    let new_owner = flag(
+        alloc,
+        NEW_OWNER,
+        "Lets new files be yours where the old owner or group can't be kept",
+    );
+    let no_lock = flag(alloc, NO_LOCK, "Saves where the file system knows no locks");
+    let command = with_word(command, rehearse)?;
+    let command = with_word(command, only_finished)?;
+    let command = with_word(command, backup(alloc))?;
+    let command = with_word(command, new_owner)?;
+    with_word(command, no_lock)
+}
+
+fn forgetter<'a>(alloc: Global) -> Result<Command<'a>, AllocError>
+    ensures { IfOk result (λ c. (fields_of c).name.now ≡ codes "forget") }
+{
     Command::new(alloc, "forget")
         .about("Takes away a save that was cut off: its new files, and no table")
         .after_help("Example: dbrun forget")
@@ -321,7 +347,9 @@ fn out<'a>(alloc: Global) -> Arg<'a> {
         .help("The code file that is written")
 }
 
-fn compiler<'a>(alloc: Global) -> Result<Command<'a>, AllocError> {
+fn compiler<'a>(alloc: Global) -> Result<Command<'a>, AllocError>
+    ensures { IfOk result (λ c. (fields_of c).name.now ≡ codes "compile") }
+{
     Command::new(alloc, "compile")
         .about("Compiles command files to a code file")
         .after_help(
@@ -332,7 +360,9 @@ fn compiler<'a>(alloc: Global) -> Result<Command<'a>, AllocError> {
         .arg(sources(alloc))
 }
 
-fn checker<'a>(alloc: Global) -> Result<Command<'a>, AllocError> {
+fn checker<'a>(alloc: Global) -> Result<Command<'a>, AllocError>
+    ensures { IfOk result (λ c. (fields_of c).name.now ≡ codes "faults") }
+{
     Command::new(alloc, "faults")
         .about("Lists all faults of DECL and of command files, and writes nothing")
         .after_help(
@@ -343,7 +373,9 @@ fn checker<'a>(alloc: Global) -> Result<Command<'a>, AllocError> {
 }
 
 /// The words of a run that saves.
-fn saving_runner<'a>(alloc: Global) -> Result<Command<'a>, AllocError> {
+fn saving_runner<'a>(alloc: Global) -> Result<Command<'a>, AllocError>
+    ensures { IfOk result (λ c. (fields_of c).name.now ≡ codes "run") }
+{
     let run = runner(
         alloc,
         "run",
@@ -355,7 +387,9 @@ fn saving_runner<'a>(alloc: Global) -> Result<Command<'a>, AllocError> {
 }
 
 /// The words of a run that tests each instruction.
-fn testing_runner<'a>(alloc: Global) -> Result<Command<'a>, AllocError> {
+fn testing_runner<'a>(alloc: Global) -> Result<Command<'a>, AllocError>
+    ensures { IfOk result (λ c. (fields_of c).name.now ≡ codes "check-run") }
+{
     runner(
         alloc,
         "check-run",
@@ -370,17 +404,24 @@ fn testing_runner<'a>(alloc: Global) -> Result<Command<'a>, AllocError> {
 fn with<'a>(
     command: Command<'a>,
     made: Result<Command<'a>, AllocError>,
-) -> Result<Command<'a>, AllocError> {
+) -> Result<Command<'a>, AllocError>
+    ensures { IfOk result (AddsMade command.entry made.entry) }
+{
     command.subcommand(made?)
 }
 
-fn with_runners<'a>(alloc: Global, command: Command<'a>) -> Result<Command<'a>, AllocError> {
+fn with_runners<'a>(alloc: Global, command: Command<'a>) -> Result<Command<'a>, AllocError>
+    ensures { IfOk result (λ c. subcommand_names c ≡ subcommand_names command.entry
+        ++ codes "run" ∷ codes "operate" ∷ codes "check-run" ∷ []) }
+{
     let command = with(command, saving_runner(alloc))?;
     let command = with(command, operator(alloc))?;
     with(command, testing_runner(alloc))
 }
 
-fn verifier<'a>(alloc: Global) -> Result<Command<'a>, AllocError> {
+fn verifier<'a>(alloc: Global) -> Result<Command<'a>, AllocError>
+    ensures { IfOk result (λ c. (fields_of c).name.now ≡ codes "verify") }
+{
     reader(
         alloc,
         "verify",
@@ -390,7 +431,9 @@ fn verifier<'a>(alloc: Global) -> Result<Command<'a>, AllocError> {
     )
 }
 
-fn code_lister<'a>(alloc: Global) -> Result<Command<'a>, AllocError> {
+fn code_lister<'a>(alloc: Global) -> Result<Command<'a>, AllocError>
+    ensures { IfOk result (λ c. (fields_of c).name.now ≡ codes "code") }
+{
     reader(
         alloc,
         "code",
@@ -400,7 +443,9 @@ fn code_lister<'a>(alloc: Global) -> Result<Command<'a>, AllocError> {
     )
 }
 
-fn index_lister<'a>(alloc: Global) -> Result<Command<'a>, AllocError> {
+fn index_lister<'a>(alloc: Global) -> Result<Command<'a>, AllocError>
+    ensures { IfOk result (λ c. (fields_of c).name.now ≡ codes "index") }
+{
     reader(
         alloc,
         "index",
@@ -410,54 +455,112 @@ fn index_lister<'a>(alloc: Global) -> Result<Command<'a>, AllocError> {
     )
 }
 
-fn with_readers<'a>(alloc: Global, command: Command<'a>) -> Result<Command<'a>, AllocError> {
+/// With the commands that list files and codes.
+fn with_listers<'a>(alloc: Global, command: Command<'a>) -> Result<Command<'a>, AllocError>
+    ensures { IfOk result (λ c. subcommand_names c ≡ subcommand_names command.entry
+        ++ codes "verify" ∷ codes "code" ∷ codes "list" ∷ []) }
+{
     let command = with(command, verifier(alloc))?;
     let command = with(command, code_lister(alloc))?;
-    let command = with(command, lister(alloc))?;
+    with(command, lister(alloc))
+}
+
+/// With the other commands that read, and the one that takes a save away.
+fn with_others<'a>(alloc: Global, command: Command<'a>) -> Result<Command<'a>, AllocError>
+    ensures { IfOk result (λ c. subcommand_names c ≡ subcommand_names command.entry
+        ++ codes "index" ∷ codes "declare" ∷ codes "forget" ∷ []) }
+{
     let command = with(command, index_lister(alloc))?;
-    let command = command.subcommand(declarer(alloc))?;
+    let command = with(command, Ok(declarer(alloc)))?;
     with(command, forgetter(alloc))
 }
 
-fn declarer<'a>(alloc: Global) -> Command<'a> {
+fn declarer<'a>(alloc: Global) -> Command<'a>
+    ensures { (fields_of result).name.now ≡ codes "declare" }
+{
     Command::new(alloc, "declare")
         .about("Prints a declaration file of the tables and indexes in the current folder")
         .after_help("Example: dbrun declare > MADE.DCL")
 }
 
 /// The commands that `dbrun` knows.
-pub fn command<'a>(alloc: Global) -> Result<Command<'a>, AllocError> {
-    let command = Command::new(alloc, "dbrun")
+pub fn command<'a>(alloc: Global) -> Result<Command<'a>, AllocError>
+    ensures { IfOk result (λ c. subcommand_names c ≡ command_names) }
+{
+    let command = with(program(alloc), compiler(alloc))?;
+    let command = with(command, checker(alloc))?;
+    let command = with_runners(alloc, command)?;
+    let command = with_listers(alloc, command)?;
+    with_others(alloc, command)
+}
+
+/// The program without its commands.
+fn program<'a>(alloc: Global) -> Command<'a>
+    ensures { subcommand_names result ≡ [] }
+{
+    Command::new(alloc, "dbrun")
         .about(
             "Compiles command files of dBASE III PLUS, runs them over tables, and lists codes, tables and indexes",
         )
         .after_help(FURTHER)
         .version(VERSION)
         .subcommand_required(true)
-        .arg_required_else_help(true);
-    let command = with(command, compiler(alloc))?;
-    let command = with(command, checker(alloc))?;
-    let command = with_runners(alloc, command)?;
-    with_readers(alloc, command)
+        .arg_required_else_help(true)
 }
 
-fn budget_of(matches: &ArgMatches<'_>) -> u64 {
-    matches.get_one::<u64>("budget").unwrap_or(DEFAULT_BUDGET)
+/// Whether a word is there that is there or not.
+#[tactic(auto, using(crate::proofs::Rows::same_read))]
+pub(crate) fn is_set(matches: &ArgMatches<'_>, id: &str) -> bool
+    ensures { IsFlag id.now (rows_of (found_of matches.now)) result }
+{
+    matches.get_flag(id)
 }
 
-pub(crate) fn limit_of(matches: &ArgMatches<'_>) -> Result<RecordLimit, WordsFault> {
-    match matches.get_one::<u32>("limit") {
-        Some(records) => RecordLimit::of(records).ok_or(WordsFault::Limit),
-        None => Ok(RecordLimit::most()),
+/// The number that a word says, if it does.
+pub(crate) fn number_if(matches: &ArgMatches<'_>, id: &str) -> Option<u64>
+    ensures { IsNumberIf (word_given id.now (rows_of (found_of matches.now))) result }
+{
+    word_if(matches, id)?.parse::<u64>().ok()
+}
+
+fn budget_of(matches: &ArgMatches<'_>) -> u64
+    ensures { IsNumberOr 1000000 (word_given (codes "budget") (rows_of (found_of matches.now))) result }
+{
+    number_if(matches, "budget").unwrap_or(DEFAULT_BUDGET)
+}
+
+pub(crate) fn limit_of(matches: &ArgMatches<'_>) -> Result<RecordLimit, WordsFault>
+    ensures told { IfOk result
+        (IsNumberOr 1000000 (word_given (codes "limit") (rows_of (found_of matches.now)))) }
+    ensures refused { IfErr result (MayRefuse (rows_of (found_of matches.now))) }
+{
+    let Some(number) = number_if(matches, "limit") else {
+        return Ok(RecordLimit::most());
+    };
+    if number > 1_000_000 {
+        return Err(WordsFault::Limit);
+    }
+    match RecordLimit::of(number as u32) {
+        Some(limit) => Ok(limit),
+        None => Err(WordsFault::Limit),
     }
 }
 
-fn day_of(matches: &ArgMatches<'_>) -> Result<RunDay, WordsFault> {
+#[tactic(auto, using(crate::proofs::Rows::same_word))]
+fn day_of(matches: &ArgMatches<'_>) -> Result<RunDay, WordsFault>
+    ensures told { IfOk result (IsDayNamed
+        (unwrap_or (word_given (codes "today") (rows_of (found_of matches.now))) (codes "1985-01-01"))) }
+    ensures refused { IfErr result (MayRefuse (rows_of (found_of matches.now))) }
+{
     let word = matches.get_str("today").unwrap_or(DEFAULT_DAY);
     RunDay::named(word).ok_or(WordsFault::Today)
 }
 
-pub(crate) fn page_of(matches: &ArgMatches<'_>) -> Result<Option<CodePage>, WordsFault> {
+#[tactic(auto, using(crate::proofs::Rows::same_word))]
+pub(crate) fn page_of(matches: &ArgMatches<'_>) -> Result<Option<CodePage>, WordsFault>
+    ensures told { IfOk result (IsPageNamed (rows_of (found_of matches.now))) }
+    ensures refused { IfErr result (MayRefuse (rows_of (found_of matches.now))) }
+{
     match matches.get_str("from") {
         Some("cp437") => Ok(Some(CodePage::Cp437)),
         Some("cp850") => Ok(Some(CodePage::Cp850)),
@@ -466,43 +569,49 @@ pub(crate) fn page_of(matches: &ArgMatches<'_>) -> Result<Option<CodePage>, Word
     }
 }
 
+/// The text that the words name by this id, if they do.
+#[tactic(auto, using(crate::proofs::Rows::same_word))]
+pub(crate) fn word_if<'a>(matches: &ArgMatches<'a>, id: &str) -> Option<&'a str>
+    ensures { lent result ≡ word_given id.now (rows_of (found_of matches.now)) }
+{
+    matches.get_str(id)
+}
+
 #[tactic(auto, using(crate::proofs::Rows::same_word))]
 pub(crate) fn word_of<'a>(matches: &ArgMatches<'a>, id: &str) -> Result<&'a str, WordsFault>
-    ensures { IfOk result (λ word. word_given id.now (rows_of (found_of matches.now)) ≡ Some word.now) }
+    ensures told { IfOk result (λ word. word_given id.now (rows_of (found_of matches.now)) ≡ Some word.now) }
+    ensures refused { IfErr result (MayRefuse (rows_of (found_of matches.now))) }
 {
     matches.get_str(id).ok_or(WordsFault::Missing)
 }
 
-/// A run of which this becomes, as the words of `run` or `check-run` ask for it.
-fn asked<'a>(
-    matches: &ArgMatches<'a>,
-    checked: bool,
-    tables: Outcomes<'a>,
-    screens: Option<&'a str>,
-) -> Result<Words<'a>, WordsFault> {
-    Ok(Words::Run(RunWords {
-        job: Job {
-            name: word_of(matches, FILE)?,
-            checked,
-            budget: budget_of(matches),
-            limit: limit_of(matches)?,
-            day: day_of(matches)?,
-            input: &[],
-        },
-        tables,
-        screens,
-    }))
+/// The run that the words of `run` or `check-run` ask for; nothing is typed yet.
+fn job_of<'a>(matches: &ArgMatches<'a>, checked: bool) -> Result<Job<'a>, WordsFault>
+    ensures told { IfOk result (IsJob (rows_of (found_of matches.now)) checked) }
+    ensures refused { IfErr result (MayRefuse (rows_of (found_of matches.now))) }
+{
+    Ok(Job {
+        name: word_of(matches, FILE)?,
+        checked,
+        budget: budget_of(matches),
+        limit: limit_of(matches)?,
+        day: day_of(matches)?,
+        input: &[],
+    })
 }
 
 /// What becomes of the tables of a run that may save them.
-pub(crate) fn run_outcomes<'a>(matches: &ArgMatches<'a>) -> Result<Outcomes<'a>, WordsFault> {
+pub(crate) fn run_outcomes<'a>(matches: &ArgMatches<'a>) -> Result<Outcomes<'a>, WordsFault>
+    ensures told { IfOk result (AreOutcomes (rows_of (found_of matches.now))) }
+    ensures refused { IfErr result (MayRefuse (rows_of (found_of matches.now))) }
+{
     let save = SaveWords {
-        only_finished: matches.get_flag(ONLY_FINISHED),
-        backup: matches.get_str(BACKUP),
-        new_owner: matches.get_flag(NEW_OWNER),
-        no_lock: matches.get_flag(NO_LOCK),
+        only_finished: is_set(matches, ONLY_FINISHED),
+        backup: word_if(matches, BACKUP),
+        new_owner: is_set(matches, NEW_OWNER),
+        no_lock: is_set(matches, NO_LOCK),
     };
-    if !matches.get_flag(REHEARSE) {
+    if !is_set(matches, REHEARSE) {
         return Ok(Outcomes::Saved(save));
     }
     if save.only_finished || save.backup.is_some() || save.new_owner {
@@ -511,12 +620,53 @@ pub(crate) fn run_outcomes<'a>(matches: &ArgMatches<'a>) -> Result<Outcomes<'a>,
     Ok(Outcomes::Told)
 }
 
-/// What the words of `check-run` ask for.
-fn check_of<'a>(matches: &ArgMatches<'a>) -> Result<Words<'a>, WordsFault> {
-    if matches.get_flag(CHANGES) {
-        return asked(matches, true, Outcomes::Told, None);
+/// What the words of `run` ask for.
+fn run_of<'a>(matches: &ArgMatches<'a>) -> Result<Words<'a>, WordsFault>
+    ensures told { IfOk result (AsksFor (codes "run") (rows_of (found_of matches.now))) }
+    ensures refused { IfErr result (MayRefuse (rows_of (found_of matches.now))) }
+{
+    let tables = run_outcomes(matches)?;
+    let screens = screens_of(matches);
+    match job_of(matches, false) {
+        Ok(job) => Ok(Words::Run(RunWords {
+            job,
+            tables,
+            screens,
+        })),
+        Err(fault) => Err(fault),
     }
-    asked(matches, true, Outcomes::Nothing, None)
+}
+
+/// What the words of `check-run` ask for.
+fn tested_run_of<'a>(matches: &ArgMatches<'a>) -> Result<Words<'a>, WordsFault>
+    ensures told { IfOk result (AsksFor (codes "check-run") (rows_of (found_of matches.now))) }
+    ensures refused { IfErr result (MayRefuse (rows_of (found_of matches.now))) }
+{
+    let tables = if is_set(matches, CHANGES) {
+        Outcomes::Told
+    } else {
+        Outcomes::Nothing
+    };
+    match job_of(matches, true) {
+        Ok(job) => Ok(Words::Run(RunWords {
+            job,
+            tables,
+            screens: None,
+        })),
+        Err(fault) => Err(fault),
+    }
+}
+
+/// How the words of `list` ask for a table.
+fn listing_of<'a>(matches: &ArgMatches<'a>) -> Result<Listing<'a>, WordsFault>
+    ensures told { IfOk result (IsListAsked (rows_of (found_of matches.now))) }
+    ensures refused { IfErr result (MayRefuse (rows_of (found_of matches.now))) }
+{
+    Ok(Listing {
+        name: word_of(matches, FILE)?,
+        csv: is_set(matches, "csv"),
+        page: page_of(matches)?,
+    })
 }
 
 /// The command files that the words name, the main one first.
@@ -527,9 +677,11 @@ pub fn sources_of<'m, 'a: 'm>(matches: &'m ArgMatches<'a>) -> Option<&'m [&'a st
     matches.get_raw(SOURCES)
 }
 
-/// What was parsed, or why it says nothing to be done.
-pub fn words_of<'a>(matches: &ArgMatches<'a>) -> Result<Words<'a>, WordsFault> {
-    let (command, matches) = matches.subcommand().ok_or(WordsFault::Missing)?;
+/// What the words behind a command's name ask for.
+fn words_behind<'a>(command: &str, matches: &ArgMatches<'a>) -> Result<Words<'a>, WordsFault>
+    ensures asked { IfOk result (AsksFor command.now (rows_of (found_of matches.now))) }
+    ensures refused { IfErr result (MayRefuse (rows_of (found_of matches.now))) }
+{
     match command {
         "compile" => Ok(Words::Compile {
             decl: word_of(matches, DECLARATIONS)?,
@@ -538,30 +690,35 @@ pub fn words_of<'a>(matches: &ArgMatches<'a>) -> Result<Words<'a>, WordsFault> {
         "faults" => Ok(Words::Faults {
             decl: word_of(matches, DECLARATIONS)?,
         }),
-        "run" => asked(matches, false, run_outcomes(matches)?, screens_of(matches)),
+        "run" => run_of(matches),
         "operate" => match operate_of(matches) {
             Ok(words) => Ok(Words::Operate(words)),
             Err(fault) => Err(fault),
         },
-        "check-run" => check_of(matches),
+        "check-run" => tested_run_of(matches),
         "verify" => Ok(Words::Verify {
             name: word_of(matches, FILE)?,
         }),
         "code" => Ok(Words::Code {
             name: word_of(matches, FILE)?,
         }),
-        "list" => Ok(Words::List(Listing {
-            name: word_of(matches, FILE)?,
-            csv: matches.get_flag("csv"),
-            page: page_of(matches)?,
-        })),
+        "list" => Ok(Words::List(listing_of(matches)?)),
         "index" => Ok(Words::Index {
             name: word_of(matches, FILE)?,
         }),
         "declare" => Ok(Words::Declare),
         "forget" => Ok(Words::Forget {
-            no_lock: matches.get_flag(NO_LOCK),
+            no_lock: is_set(matches, NO_LOCK),
         }),
         _ => Err(WordsFault::Missing),
     }
+}
+
+/// What the words ask for, or why they ask for nothing that can be done.
+pub fn words_of<'a>(matches: &ArgMatches<'a>) -> Result<Words<'a>, WordsFault>
+    ensures asked { IfOk result (Asks (subcommand_rows_of matches.now)) }
+    ensures refused { IfErr result (RefusesWords (subcommand_rows_of matches.now)) }
+{
+    let (command, matches) = matches.subcommand().ok_or(WordsFault::Missing)?;
+    words_behind(command, matches)
 }

@@ -1,6 +1,9 @@
 //! The computer's local day.
 #![tactic(auto)]
 
+ghost use Rattle.std.specs.Prelude.{IfSome};
+ghost use Rattle.run_commands.specs.Days.{HasStamp};
+
 use calendar::{Day, DayParts};
 use jiff::Zoned;
 use jiff::civil::Date;
@@ -30,7 +33,9 @@ fn date_now<R: Runtime<A = Global>>(rt: &R) -> Option<Date> {
 
 /// The computer's day now, in the zone that TZ names or else the system's file: none where it isn't one of the years
 /// 1900 to 2155, or the system doesn't tell it.
-pub fn local_day<R: Runtime<A = Global>>(rt: &R) -> Option<RunDay> {
+pub fn local_day<R: Runtime<A = Global>>(rt: &R) -> Option<RunDay>
+    ensures { IfSome result HasStamp }
+{
     let date = date_now(rt)?;
     if date.year() < 1900 || date.year() > 2155 {
         return None;
