@@ -7,6 +7,7 @@
 
 mod areas;
 mod faults;
+mod forgetting;
 mod operate;
 mod progress;
 mod screens;
@@ -14,9 +15,10 @@ mod shown;
 
 use crate::areas::tell_areas;
 use crate::faults::faults;
+use crate::forgetting::forget_save;
 use crate::operate::{begun_name, done_name, operate};
 use crate::progress::run_told;
-use crate::screens::{is_new_name, rehearse_shown, run_shown};
+use crate::screens::{may_show, rehearse_shown, run_shown};
 use crate::shown::{
     Audience, FaultyLine, NameTold, OutTold, PrintableLine, Progress, UnwrittenTold, absent_file,
     faulty_line, hint_of, letters_alone, line_at, of_end, of_file, printable, why_hindered,
@@ -35,8 +37,8 @@ use file_commands::{
 };
 use folder_files::{
     FinishedSave, Folder, Held, Hindrance, Nobody, SaveTerms, SavingFolder, UnfinishedSave,
-    Unreplaced, Unsaved, behind_links, finish, forget, hindered_plan, is_empty_folder,
-    is_same_file, name_in_folder, note_stands, paper_name, save_stands, stands, take_folder,
+    Unreplaced, Unsaved, behind_links, finish, hindered_plan, is_empty_folder, is_same_file,
+    name_in_folder, note_stands, paper_name, save_stands, stands, take_folder,
 };
 use folder_shapes::{FolderDeclared, LineTold, declare};
 use run_commands::{Ended, Job, Rehearsal, Report, RunRefusal};
@@ -621,26 +623,6 @@ fn run_alone<R: Runtime<A = Global, File = File>>(
     }
 }
 
-/// Takes away a save that was cut off, and no table.
-fn forget_save<R: Runtime<A = Global, File = File>>(
-    rt: &R,
-    audience: Audience,
-    no_lock: bool,
-) -> Status {
-    let held = take_folder(rt);
-    if let Some(hindrance) = hindered(&held, no_lock) {
-        let _ = eprintln!(rt; "disk {}", paper_name());
-        if audience.person {
-            let _ = eprintln!(rt; "{}; no file was changed", why_hindered(hindrance));
-        }
-        return Status::Disk;
-    }
-    match forget(rt) {
-        Ok(_) => Status::Done,
-        Err(unfinished) => tell_unfinished(rt, audience, &unfinished),
-    }
-}
-
 /// Looks, where a person types, whether the code's file is there and accepted, before they type in vain; a status where
 /// it isn't.
 fn look_before<R: Runtime<A = Global>>(rt: &R, audience: Audience, name: &str) -> Option<Status> {
@@ -809,7 +791,7 @@ fn index<R: Runtime<A = Global, File = File>>(rt: &R, audience: Audience, name: 
 }
 
 /// The names in the current folder, each ended by a zero byte.
-fn folder_names<R: Runtime<A = Global>>(rt: &R) -> Result<Vec<u8>, Refusal<'static>> {
+pub fn folder_names<R: Runtime<A = Global>>(rt: &R) -> Result<Vec<u8>, Refusal<'static>> {
     let Ok(mut names) = rt.open_dir(".") else {
         return Err(Refusal::Disk { name: "." });
     };
@@ -885,14 +867,6 @@ pub fn may_back_up<R: Runtime<A = Global>>(rt: &R, tables: Outcomes<'_>) -> Resu
         }
     }
     Ok(())
-}
-
-/// Refuses a file for screens that stands, or that the run uses.
-fn may_show<R: Runtime<A = Global>>(rt: &R, words: &RunWords<'_>) -> Result<(), WordsFault> {
-    match words.screens {
-        Some(name) if !is_new_name(rt, name, words.job.name) => Err(WordsFault::Screens),
-        _ => Ok(()),
-    }
 }
 
 fn carry_out<R: Runtime<A = Global, File = File>>(

@@ -3,21 +3,21 @@
 
 ghost use Rattle.std.specs.Prelude.{◌≡◌, false};
 
-use crate::screens::{is_free_name, is_new_name};
+use crate::screens::{is_backup, is_free_name, is_new_name};
 use crate::shown::{Audience, NameTold, Progress, of_end};
 use crate::{
     finish_before, folder, has_no_tables, hindered, may_back_up, refuse, tell_hindered,
     tell_unfinished, tell_unsaved,
 };
 use command_words::{DEFAULT_BUDGET, OperateWords, Outcomes, ShownWords, TalkWords, WordsFault};
-use file_access::Files;
+use file_access::{Files, ReadFault};
 use file_commands::{FILE_LIMIT, Refusal, Status};
 use folder_files::{
     FileSum, Folder, Held, Hindrance, JournalFault, Listener, SaveTerms, SavingFolder, Tail,
-    UnfinishedSave, hindered_plan, note_stands, paper_name, put_new_file, stands, sum_of,
+    UnfinishedSave, Unsaved, hindered_plan, note_stands, paper_name, put_new_file, stands, sum_of,
     take_folder,
 };
-use journal_papers::{JournalPaper, first_changed};
+use journal_papers::{JournalPaper, PaperFault, first_changed};
 use journal_steps::{Next, Remains, next_of};
 use operating::{Broken, MOST_TYPED};
 use operator_desk::{
@@ -31,6 +31,7 @@ use run_commands::{
 use std::alloc::{AllocError, Global};
 use std::cell::RefCell;
 use std::fs::{self, File};
+use std::io::ErrorKind;
 use std::rt::Runtime;
 use std::str;
 use terminal_screen::Window;
@@ -43,11 +44,18 @@ const MOST_LINES: usize = 26;
 
 /// What to do where a file was changed since the conversation was begun.
 const CHANGED: &str =
-    "nothing is saved; put the file back and use --continue, or give the journal to run";
+    "nothing is saved; put the file back and use --continue, or give the journal to run with its options";
 
-/// What to do where the device failed.
+/// What to do where a failure stopped a conversation that was begun.
 const STOPPED: &str =
     "no table was changed, and the journal has each line that was taken; --continue goes on";
+
+/// What to do where a failure came before it was begun.
+const UNBEGUN: &str = "nothing was typed, and no table was changed; use the same words again";
+
+/// What to do where no journal can be made.
+const UNMADE: &str =
+    "nothing was run; see that a file can be made here, or give --no-lock where there are no locks";
 
 /// What to do where a line that another program typed has a letter that the page lacks.
 const NO_LETTER: &str =
@@ -56,6 +64,10 @@ const NO_LETTER: &str =
 /// What to do where another program has the journal.
 const HELD: &str =
     "another program has this conversation open; wait for its end, or name another file";
+
+/// What to do where the text of a beginning is none.
+const FOREIGN: &str =
+    "no conversation wrote this text; run takes the lines of its journal, with the options that were given";
 
 /// What to do where a file stands that no conversation made.
 const NO_TALK: &str = "this file isn't a conversation's; name another one";
@@ -203,22 +215,50 @@ fn tell_changed(rt: &impl Runtime, audience: Audience, name: &str) -> Status {
     status
 }
 
-/// Tells that the device failed at a file, or at the terminal, and that the conversation can go on.
-fn tell_stopped(rt: &impl Runtime, audience: Audience, name: &str) -> Status {
+/// What to do where a failure stopped a conversation.
+fn of_stop<R: Runtime<A = Global>>(rt: &R, names: &Names) -> &'static str {
+    if stands(rt, names.begun.as_str()) {
+        STOPPED
+    } else {
+        UNBEGUN
+    }
+}
+
+/// Tells that the device failed at a file, or at the terminal, and how the conversation can go on.
+fn tell_stopped<R: Runtime<A = Global>>(
+    rt: &R,
+    audience: Audience,
+    names: &Names,
+    name: &str,
+) -> Status {
     let status = refuse(rt, Refusal::Disk { name });
-    advise(rt, audience, STOPPED);
+    advise(rt, audience, of_stop(rt, names));
+    status
+}
+
+/// Tells that memory was refused, and how the conversation can go on.
+fn tell_no_memory<R: Runtime<A = Global>>(rt: &R, audience: Audience, names: &Names) -> Status {
+    let status = refuse(rt, Refusal::Memory);
+    advise(rt, audience, of_stop(rt, names));
     status
 }
 
 /// Tells why a journal isn't made or taken up.
-fn tell_journal(rt: &impl Runtime, audience: Audience, name: &str, fault: JournalFault) -> Status {
+fn tell_journal<R: Runtime<A = Global>>(
+    rt: &R,
+    audience: Audience,
+    open: &Open<'_>,
+    fault: JournalFault,
+) -> Status {
+    let name = open.names.journal.as_str();
     let (status, sentence) = match fault {
         JournalFault::Exists => (tell_file(rt, name, "Exists"), NO_TALK),
         JournalFault::Held => (tell_file(rt, name, "Held"), HELD),
         JournalFault::Absent => (tell_file(rt, name, "Absent"), NO_TALK),
         JournalFault::TooLong => (tell_file(rt, name, "TooLong"), NO_TALK),
-        JournalFault::Disk => return refuse(rt, Refusal::Disk { name }),
-        JournalFault::Memory => return refuse(rt, Refusal::Memory),
+        JournalFault::Disk if open.said.is_none() => (refuse(rt, Refusal::Disk { name }), UNMADE),
+        JournalFault::Disk => return tell_stopped(rt, audience, open.names, name),
+        JournalFault::Memory => return tell_no_memory(rt, audience, open.names),
     };
     advise(rt, audience, sentence);
     status
@@ -267,24 +307,38 @@ fn tell_next(
 }
 
 /// The text of a beginning or of an end that bytes spell.
-fn paper_in(alloc: Global, bytes: &[u8]) -> Option<JournalPaper> {
-    let text = str::from_utf8(bytes).ok()?;
-    JournalPaper::read(alloc, text).ok()
+fn paper_in(alloc: Global, bytes: &[u8]) -> Result<JournalPaper, PaperFault> {
+    match str::from_utf8(bytes) {
+        Ok(text) => JournalPaper::read(alloc, text),
+        Err(_) => Err(PaperFault::Foreign),
+    }
+}
+
+/// Tells that the text of a beginning isn't one that a conversation wrote.
+fn tell_foreign(rt: &impl Runtime, audience: Audience, names: &Names) -> Status {
+    let status = tell_file(rt, names.begun.as_str(), "Foreign");
+    advise(rt, audience, FOREIGN);
+    status
 }
 
 /// The text of a beginning that stands.
 fn read_begun<R: Runtime<A = Global>>(
     rt: &R,
     audience: Audience,
-    name: &str,
+    names: &Names,
 ) -> Result<JournalPaper, Status> {
+    let name = names.begun.as_str();
     let mut folder = folder(rt, audience);
-    match folder.read(rt.alloc(), name, FILE_LIMIT) {
-        Ok(bytes) => match paper_in(rt.alloc(), bytes.as_slice()) {
-            Some(paper) => Ok(paper),
-            None => Err(tell_file(rt, name, "Foreign")),
-        },
-        Err(_) => Err(refuse(rt, Refusal::Disk { name })),
+    let paper = match folder.read(rt.alloc(), name, FILE_LIMIT) {
+        Ok(bytes) => paper_in(rt.alloc(), bytes.as_slice()),
+        Err(ReadFault::TooLong) => Err(PaperFault::Foreign),
+        Err(ReadFault::Memory) => Err(PaperFault::Memory),
+        Err(_) => return Err(tell_stopped(rt, audience, names, name)),
+    };
+    match paper {
+        Ok(paper) => Ok(paper),
+        Err(PaperFault::Foreign) => Err(tell_foreign(rt, audience, names)),
+        Err(PaperFault::Memory) => Err(tell_no_memory(rt, audience, names)),
     }
 }
 
@@ -457,27 +511,22 @@ fn print_rest<R: Runtime<A = Global, File = File>>(
 }
 
 /// Tells why the operator's desk failed: a file isn't as it was, or can't be written, or a line has a letter that the
-/// page lacks, or the terminal failed.
+/// page lacks, or the terminal failed. Memory that was refused at the desk counts as a failure of the terminal.
 fn tell_desk<R: Runtime<A = Global, File = File>>(
     rt: &R,
     audience: Audience,
+    open: &Open<'_>,
     desk: &OperatorDesk<'_, R>,
 ) -> Status {
     match (&desk.record.changed, &desk.record.unwritten) {
         (Some(name), _) => tell_changed(rt, audience, name.as_str()),
-        (None, Some(name)) if name.as_str() == desk.record.begun.as_str() => refuse(
-            rt,
-            Refusal::Disk {
-                name: name.as_str(),
-            },
-        ),
-        (None, Some(name)) => tell_stopped(rt, audience, name.as_str()),
+        (None, Some(name)) => tell_stopped(rt, audience, open.names, name.as_str()),
         (None, None) if desk.lacks_letter => {
             let status = tell_file(rt, "-", "Letter");
             advise(rt, audience, NO_LETTER);
             status
         }
-        (None, None) => tell_stopped(rt, audience, "-"),
+        (None, None) => tell_stopped(rt, audience, open.names, "-"),
     }
 }
 
@@ -513,7 +562,14 @@ fn tell_no_run<'a, R: Runtime<A = Global, File = File>>(
 ) -> Status {
     match changed_in(rt.alloc(), open) {
         Some(name) => tell_changed(rt, audience, name.as_str()),
-        None => tell_hindered(rt, audience, open.code, refusal, hindrance),
+        None => {
+            let status = tell_hindered(rt, audience, open.code, refusal, hindrance);
+            let failed = matches!(status, Status::Disk | Status::Memory);
+            if open.said.is_some() || (failed && hindrance.is_none()) {
+                advise(rt, audience, of_stop(rt, open.names));
+            }
+            status
+        }
     }
 }
 
@@ -533,35 +589,42 @@ fn tell_broken<'a, R: Runtime<A = Global, File = File>>(
         OperateRefusal::Run(refusal) => {
             tell_no_run(rt, audience, open, refusal, saving.hindrance())
         }
-        OperateRefusal::Handed => tell_file(rt, open.names.journal.as_str(), "TooLong"),
+        OperateRefusal::Handed => tell_journal(rt, audience, open, JournalFault::TooLong),
         OperateRefusal::Broke(Broken::Journal) => {
-            tell_stopped(rt, audience, open.names.journal.as_str())
+            tell_stopped(rt, audience, open.names, open.names.journal.as_str())
         }
-        OperateRefusal::Broke(Broken::Memory) => refuse(rt, Refusal::Memory),
-        OperateRefusal::Broke(Broken::Operator | Broken::Line) => tell_desk(rt, audience, desk),
+        OperateRefusal::Broke(Broken::Memory) => tell_no_memory(rt, audience, open.names),
+        OperateRefusal::Broke(Broken::Operator | Broken::Line) => {
+            tell_desk(rt, audience, open, desk)
+        }
     }
 }
 
 /// Writes the text of an end beside the journal of a conversation that saved nothing.
 fn write_done<R: Runtime<A = Global, File = File>>(
     rt: &R,
+    audience: Audience,
     open: &Open<'_>,
     journal: &KeptJournal,
     ended: &Ended,
 ) -> Option<Status> {
     let name = open.names.done.as_str();
     let Ok(text) = done_text(rt.alloc(), open.names, journal, ended, &[]) else {
-        return Some(refuse(rt, Refusal::Memory));
+        return Some(tell_no_memory(rt, audience, open.names));
     };
     match put_new_file(rt, name, text.as_bytes()) {
         Ok(()) => None,
-        Err(_) => Some(refuse(rt, Refusal::Disk { name })),
+        Err(error) if error.kind() == ErrorKind::OutOfMemory => {
+            Some(tell_no_memory(rt, audience, open.names))
+        }
+        Err(_) => Some(tell_stopped(rt, audience, open.names, name)),
     }
 }
 
 /// Hands in the text of an end, so that it takes its place together with the tables.
 fn hand_in_done<R: Runtime<A = Global, File = File>, L: Listener>(
     rt: &R,
+    audience: Audience,
     open: &Open<'_>,
     journal: &KeptJournal,
     saving: &mut SavingFolder<'_, R, L>,
@@ -580,7 +643,7 @@ fn hand_in_done<R: Runtime<A = Global, File = File>, L: Listener>(
     if handed_in {
         None
     } else {
-        Some(refuse(rt, Refusal::Memory))
+        Some(tell_no_memory(rt, audience, open.names))
     }
 }
 
@@ -592,7 +655,7 @@ fn tell_unsaved_end<R: Runtime<A = Global, File = File>>(
     journal: &KeptJournal,
     ended: &Ended,
 ) -> Status {
-    match write_done(rt, open, journal, ended) {
+    match write_done(rt, audience, open, journal, ended) {
         None => {
             let _ = eprintln!(rt; "{ended}");
             if let (true, Some(hint)) = (audience.person, of_end(&ended.how, false)) {
@@ -638,6 +701,25 @@ fn end_rehearsed<R: Runtime<A = Global, File = File>>(
     }
 }
 
+/// Tells a person where what was typed stands when the save itself is refused, and by which words it goes on. Behind
+/// the note of a save there is nothing to do.
+fn advise_unsaved(rt: &impl Runtime, audience: Audience, open: &Open<'_>, unsaved: Unsaved) {
+    if !audience.person {
+        return;
+    }
+    let (journal, begun) = (open.names.journal.as_str(), open.names.begun.as_str());
+    let _ = match unsaved {
+        Unsaved::Changed { .. } => eprintln!(rt;
+            "  what was typed stands in {journal}; put the file back and use --continue, \
+             or give it to run with the options in {begun}."
+        ),
+        Unsaved::Disk { .. } | Unsaved::Backup | Unsaved::Memory => eprintln!(rt;
+            "  what was typed stands in {journal}; --continue goes on."
+        ),
+        Unsaved::Cut { .. } => Ok(()),
+    };
+}
+
 /// Ends a conversation whose run is saved: tables, indexes and the text of the end all together or not at all.
 fn end_saved<'a, R: Runtime<A = Global, File = File>>(
     rt: &'a R,
@@ -649,13 +731,15 @@ fn end_saved<'a, R: Runtime<A = Global, File = File>>(
     rows: &[u8],
     ended: &Ended,
 ) -> Status {
-    if let Some(status) = hand_in_done(rt, open, journal, saving, ended) {
+    if let Some(status) = hand_in_done(rt, audience, open, journal, saving, ended) {
         return status;
     }
     let committed = saving.commit();
     let printed = print_rest(rt, audience, desk, rows);
     if let Err(unsaved) = committed {
-        return tell_unsaved(rt, audience, saving, unsaved, backup_of(open.talk));
+        let status = tell_unsaved(rt, audience, saving, unsaved, backup_of(open.talk));
+        advise_unsaved(rt, audience, open, unsaved);
+        return status;
     }
     if printed != Status::Done {
         return printed;
@@ -745,7 +829,7 @@ fn converse<'a, R: Runtime<A = Global, File = File>>(
     closed: Option<Hindrance>,
 ) -> Status {
     let Ok(mut desk) = desk_of(rt, audience, open, journal.bytes.as_slice(), tail) else {
-        return refuse(rt, Refusal::Memory);
+        return tell_no_memory(rt, audience, open.names);
     };
     match journal.bytes.clone() {
         Ok(input) => talk_at_desk(
@@ -757,7 +841,7 @@ fn converse<'a, R: Runtime<A = Global, File = File>>(
             input.as_slice(),
             closed,
         ),
-        Err(_) => refuse(rt, Refusal::Memory),
+        Err(_) => tell_no_memory(rt, audience, open.names),
     }
 }
 
@@ -793,7 +877,7 @@ fn talk_at_desk<'a, R: Runtime<A = Global, File = File>>(
 
 /// How a conversation ended, as these bytes of the text of its end say.
 fn end_in(alloc: Global, bytes: &[u8]) -> Option<String> {
-    let paper = paper_in(alloc, bytes)?;
+    let paper = paper_in(alloc, bytes).ok()?;
     String::from_str(alloc, paper.get("--end")?).ok()
 }
 
@@ -880,7 +964,7 @@ fn talk_over_journal<'a, R: Runtime<A = Global, File = File>>(
             leave_no_journal(rt, open.names, &journal);
             status
         }
-        Err(fault) => tell_journal(rt, audience, name, fault),
+        Err(fault) => tell_journal(rt, audience, open, fault),
     }
 }
 
@@ -909,31 +993,36 @@ fn is_left_empty<R: Runtime<A = Global>>(rt: &R, names: &Names) -> bool {
     empty && !stands(rt, names.begun.as_str()) && !stands(rt, names.done.as_str())
 }
 
-/// What is told where a conversation is to go on that has no text of its beginning.
-fn tell_unbegun<R: Runtime<A = Global>>(
-    rt: &R,
-    audience: Audience,
-    names: &Names,
-    held: &Held,
-) -> Status {
-    let found = found_of(rt, names);
-    match next_of(found, true) {
-        Next::Finish => finish_noted(rt, audience, names, hindered(held, false)),
-        next => tell_next(rt, audience, names, found, next),
+/// Whether a conversation was begun where the file system knows no locks, by the text of its beginning.
+fn began_unlocked<R: Runtime<A = Global>>(rt: &R, audience: Audience, names: &Names) -> bool {
+    let mut folder = folder(rt, audience);
+    let Ok(bytes) = folder.read(rt.alloc(), names.begun.as_str(), FILE_LIMIT) else {
+        return false;
+    };
+    let Ok(paper) = paper_in(rt.alloc(), bytes.as_slice()) else {
+        return false;
+    };
+    match talk_in(rt.alloc(), &paper) {
+        Some(talk) => talk.no_lock(),
+        None => false,
     }
 }
 
-/// The text of the beginning of a conversation that is to go on.
+/// The text of the beginning of a conversation that is to go on, or what is told where it doesn't.
 fn said_of<R: Runtime<A = Global>>(
     rt: &R,
     audience: Audience,
     names: &Names,
     held: &Held,
 ) -> Result<JournalPaper, Status> {
-    if stands(rt, names.begun.as_str()) {
-        read_begun(rt, audience, names.begun.as_str())
-    } else {
-        Err(tell_unbegun(rt, audience, names, held))
+    let found = found_of(rt, names);
+    match next_of(found, true) {
+        Next::GoOn => read_begun(rt, audience, names),
+        Next::Finish => {
+            let hindrance = hindered(held, began_unlocked(rt, audience, names));
+            Err(finish_noted(rt, audience, names, hindrance))
+        }
+        next => Err(tell_next(rt, audience, names, found, next)),
     }
 }
 
@@ -944,14 +1033,18 @@ fn go_on<'a, R: Runtime<A = Global, File = File>>(
     words: &'a OperateWords<'a>,
     names: &'a Names,
     held: Held,
-) -> Status {
-    match said_of(rt, audience, names, &held) {
-        Ok(said) => match talk_in(rt.alloc(), &said) {
-            Some(talk) => begin(rt, audience, words, names, &talk, Some(&said), held),
-            None => tell_file(rt, names.begun.as_str(), "Foreign"),
-        },
-        Err(status) => status,
+) -> Result<Status, WordsFault> {
+    let said = match said_of(rt, audience, names, &held) {
+        Ok(said) => said,
+        Err(status) => return Ok(status),
+    };
+    let Some(talk) = talk_in(rt.alloc(), &said) else {
+        return Ok(tell_foreign(rt, audience, names));
+    };
+    if is_backup(words.shown.screens, backup_of(&talk)) {
+        return Err(WordsFault::Screens);
     }
+    Ok(begin(rt, audience, words, names, &talk, Some(&said), held))
 }
 
 /// Begins a conversation, or takes one up again of which the text of its beginning is given.
@@ -987,7 +1080,7 @@ fn is_copied_over(words: &TalkWords<'_>, names: &Names, screens: Option<&str>) -
             path == names.journal.as_str()
                 || path == names.begun.as_str()
                 || path == names.done.as_str()
-                || Some(path) == screens
+                || is_backup(screens, save.backup)
         }
         None => false,
     }
@@ -1029,7 +1122,7 @@ fn operate_named<R: Runtime<A = Global, File = File>>(
     }
     match &words.talk {
         Some(asked) => begin_asked(rt, audience, words, asked, names),
-        None => Ok(go_on(rt, audience, words, names, take_folder(rt))),
+        None => go_on(rt, audience, words, names, take_folder(rt)),
     }
 }
 

@@ -6,6 +6,7 @@ ghost use Rattle.std.specs.Prelude.{◌≡◌, [], false};
 use crate::progress::{Meter, rehearse_told, run_told};
 use crate::shown::Audience;
 use crate::{is_recorded, refuse, tell_refusal};
+use command_words::{Outcomes, RunWords, WordsFault};
 use file_access::Files;
 use file_commands::{Refusal, Status};
 use folder_files::{paper_name, stands};
@@ -31,6 +32,31 @@ pub fn is_free_name(name: &str, code: &str) -> bool {
 /// with such a journal. Where memory is refused, no name is taken for a new one.
 pub fn is_new_name<R: Runtime<A = Global>>(rt: &R, name: &str, code: &str) -> bool {
     is_free_name(name, code) && !stands(rt, name) && matches!(is_recorded(rt, name), Ok(false))
+}
+
+/// Whether a file for screens has the name of the folder for copies, which `./` and `/` may stand around.
+pub fn is_backup(screens: Option<&str>, backup: Option<&str>) -> bool {
+    match (screens, backup) {
+        (Some(name), Some(path)) => {
+            let path = path.strip_prefix("./").unwrap_or(path);
+            name == path.strip_suffix('/').unwrap_or(path)
+        }
+        _ => false,
+    }
+}
+
+/// Refuses a file for screens that stands, or that the run uses, and one of the name of the folder for copies.
+pub fn may_show<R: Runtime<A = Global>>(rt: &R, words: &RunWords<'_>) -> Result<(), WordsFault> {
+    let Some(name) = words.screens else {
+        return Ok(());
+    };
+    if !is_new_name(rt, name, words.job.name) {
+        return Err(WordsFault::Screens);
+    }
+    match words.tables {
+        Outcomes::Saved(save) if is_backup(words.screens, save.backup) => Err(WordsFault::Backup),
+        _ => Ok(()),
+    }
 }
 
 /// Who types a run's lines and writes the screens before them to a new file of this name. A person is told how far the

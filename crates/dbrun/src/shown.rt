@@ -3,7 +3,7 @@
 
 use compile_commands::{CompileFilesRefusal, CompileWords, SourceFault};
 use file_access::Files;
-use folder_files::{Doing, FileSum, Harm, Hindrance, Listener, Unreplaced, sum_of};
+use folder_files::{Doing, FileSum, Harm, Hindrance, Listener, Sum, Unreplaced, sum_of};
 use hints::{of_command, of_compiled_line, of_declaration, of_line, of_table_line};
 use run_commands::How;
 use save_rules::Overwritten;
@@ -36,6 +36,24 @@ pub struct Progress<'a, R> {
     pub sums: Option<&'a RefCell<Vec<FileSum>>>,
 }
 
+/// What stands for the sum of a file that is too long to be read: no file is known to have it.
+const SUM_OF_LONG: Sum = [0; 32];
+
+impl<R: Eprint + Alloc<A = Global>> Progress<'_, R> {
+    /// Notes the sum of a file of a run, where sums are noted.
+    fn note_sum(&self, name: &str, sum: Option<Sum>) -> Result<(), AllocError> {
+        let Some(sums) = self.sums else {
+            return Ok(());
+        };
+        let name = String::from_str(self.rt.alloc(), name)?;
+        let Ok(mut sums) = sums.try_borrow_mut() else {
+            return Err(AllocError);
+        };
+        sums.push(FileSum { name, sum })?;
+        Ok(())
+    }
+}
+
 impl<R: Eprint + Alloc<A = Global>> Listener for Progress<'_, R> {
     fn hear(&self, doing: Doing, name: &str, size: u64) {
         if self.audience.person && size >= LONG {
@@ -48,16 +66,14 @@ impl<R: Eprint + Alloc<A = Global>> Listener for Progress<'_, R> {
     }
 
     fn found(&self, name: &str, bytes: Option<&[u8]>) -> Result<(), AllocError> {
-        let Some(sums) = self.sums else {
+        if self.sums.is_none() {
             return Ok(());
-        };
-        let sum = bytes.map(|bytes| sum_of(bytes));
-        let name = String::from_str(self.rt.alloc(), name)?;
-        let Ok(mut sums) = sums.try_borrow_mut() else {
-            return Err(AllocError);
-        };
-        sums.push(FileSum { name, sum })?;
-        Ok(())
+        }
+        self.note_sum(name, bytes.map(|bytes| sum_of(bytes)))
+    }
+
+    fn found_long(&self, name: &str) -> Result<(), AllocError> {
+        self.note_sum(name, Some(SUM_OF_LONG))
     }
 }
 

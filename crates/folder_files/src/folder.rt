@@ -31,6 +31,9 @@ pub trait Listener {
     /// A file of a run was read, and holds these bytes; none where there is no such file. Where memory is refused for
     /// what is kept of it, the file counts as not read.
     fn found(&self, name: &str, bytes: Option<&[u8]>) -> Result<(), AllocError>;
+
+    /// The same of a file that is longer than what is read of it.
+    fn found_long(&self, name: &str) -> Result<(), AllocError>;
 }
 
 /// Nobody hears it.
@@ -41,6 +44,10 @@ impl Listener for Nobody {
     fn hear(&self, _doing: Doing, _name: &str, _size: u64) {}
 
     fn found(&self, _name: &str, _bytes: Option<&[u8]>) -> Result<(), AllocError> {
+        Ok(())
+    }
+
+    fn found_long(&self, _name: &str) -> Result<(), AllocError> {
         Ok(())
     }
 }

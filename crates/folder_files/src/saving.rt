@@ -184,7 +184,7 @@ impl<'a, R: Disk + Alloc<A = Global>, L: Listener> SavingFolder<'a, R, L> {
         Ok(())
     }
 
-    /// Remembers what a file holds that was read, or that there is no such file.
+    /// Remembers what a file holds that was read, or that there is no such file. One that is too long is told.
     fn note_read(
         &mut self,
         name: &str,
@@ -196,16 +196,18 @@ impl<'a, R: Disk + Alloc<A = Global>, L: Listener> SavingFolder<'a, R, L> {
         match read {
             Ok(bytes) => self.note(name, target, Some(bytes.as_slice())),
             Err(ReadFault::Absent) => self.note(name, target, None),
-            Err(ReadFault::Device | ReadFault::TooLong | ReadFault::Memory) => Ok(()),
+            Err(ReadFault::TooLong) => self.folder.listener.found_long(name),
+            Err(ReadFault::Device | ReadFault::Memory) => Ok(()),
         }
     }
 
-    /// Tells what a file that was read holds, or that there is no such file.
+    /// Tells what a file that was read holds, that there is no such file, or that it is too long.
     fn tell_found(&self, name: &str, read: &Result<Vec<u8>, ReadFault>) -> Result<(), AllocError> {
         match read {
             Ok(bytes) => self.folder.listener.found(name, Some(bytes.as_slice())),
             Err(ReadFault::Absent) => self.folder.listener.found(name, None),
-            Err(ReadFault::Device | ReadFault::TooLong | ReadFault::Memory) => Ok(()),
+            Err(ReadFault::TooLong) => self.folder.listener.found_long(name),
+            Err(ReadFault::Device | ReadFault::Memory) => Ok(()),
         }
     }
 

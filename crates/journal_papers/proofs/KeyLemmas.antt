@@ -1,5 +1,5 @@
 -- The key of a file's sum.
-use Rattle.std.proofs.Common.{◌≡◌, ◌≢◌, ap, refl, sym, subst, ℕ, Bool, true, false, arith, List, [], ◌∷◌, Option, Some, None}
+use Rattle.std.proofs.Common.{◌≡◌, ◌≢◌, ap, refl, sym, subst, ℕ, Bool, true, false, arith, List, [], ◌∷◌}
 use Rattle.std.proofs.lemmas.Bool.Decides.{nat_tests}
 use Rattle.std.specs.Prelude.{◌==◌, ◌&&◌, if◌then◌else◌}
 use Rattle.journal_papers.specs.Papers.{begins_with_hyphen, sum_key}

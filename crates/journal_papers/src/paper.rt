@@ -1,7 +1,7 @@
 //! Words under keys, as a text in TOML.
 
-ghost use Rattle.std.specs.Prelude.{◌≡◌, ◌≤◌, Some, None, IfOk, IfErr, OnOk, option_map, option_and_then};
-ghost use Rattle.std.specs.Prelude.{string_bytes};
+ghost use Rattle.std.specs.Prelude.{◌≡◌, ◌≢◌, ◌≤◌, ℕ, List, Some, None, IfOk, IfErr, OnOk, option_map};
+ghost use Rattle.std.specs.Prelude.{option_and_then, string_bytes};
 ghost use Rattle.toml.specs.Data.{no_members, string, as_str, get_member, members_depth};
 ghost use Rattle.toml.specs.Parse.{parse_document};
 ghost use Rattle.toml.specs.View.{table_view};
@@ -35,9 +35,11 @@ impl JournalPaper {
         }
     }
 
-    /// Puts a word under a key, in place of the one that stood there.
+    /// Puts a word under a key, in place of the one that stood there. The words under other keys stay.
     pub fn put(&mut self, alloc: Global, key: &str, word: &str) -> Result<(), AllocError>
-        ensures { OnOk result (get_member key.now (table_view self.new.table) ≡ Some (string word.now)) }
+        ensures stands { OnOk result (get_member key.now (table_view self.new.table) ≡ Some (string word.now)) }
+        ensures others { OnOk result ((other : List ℕ) → other ≢ key.now
+            → get_member other (table_view self.new.table) ≡ get_member other (table_view self.old.table)) }
     {
         let key = String::from_str(alloc, key)?;
         let word = String::from_str(alloc, word)?;

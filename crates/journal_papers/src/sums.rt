@@ -1,6 +1,6 @@
 //! Sums of files, as such texts tell them.
 
-ghost use Rattle.std.specs.Prelude.{◌≡◌, Some, IfOk, OnOk, not, position, string_bytes};
+ghost use Rattle.std.specs.Prelude.{◌≡◌, ◌≢◌, ℕ, List, Some, IfOk, OnOk, not, position, string_bytes};
 ghost use Rattle.hex.specs.Hex.{encode_lower};
 ghost use Rattle.toml.specs.Data.{get_member, string};
 ghost use Rattle.toml.specs.View.{table_view};
@@ -59,10 +59,12 @@ fn sum_key(name: &str) -> &str
 }
 
 impl JournalPaper {
-    /// Puts a file's sum under its key.
+    /// Puts a file's sum under its key. The words under other keys stay.
     pub fn put_sum(&mut self, alloc: Global, file: &FileSum) -> Result<(), AllocError>
-        ensures { OnOk result (get_member (spec.sum_key (string_bytes file.now.name)) (table_view self.new.table)
+        ensures stands { OnOk result (get_member (spec.sum_key (string_bytes file.now.name)) (table_view self.new.table)
             ≡ Some (string (sum_word file.now.sum))) }
+        ensures others { OnOk result ((other : List ℕ) → other ≢ spec.sum_key (string_bytes file.now.name)
+            → get_member other (table_view self.new.table) ≡ get_member other (table_view self.old.table)) }
     {
         let word = word(alloc, &file.sum)?;
         self.put(alloc, sum_key(file.name.as_str()), word.as_str())

@@ -25,7 +25,8 @@ use std::str;
 use terminal_screen::{Drawing, Window, drawn, left, plain_lines, sent_lines};
 
 /// What a person at a terminal is told who ends the input.
-const AT_END: &str = "Ctrl-C leaves everything for --continue; END typed means no more lines come";
+const AT_END: &str =
+    "Ctrl-C leaves everything for --continue; END typed makes each later line empty";
 
 /// What is told where no more lines are taken.
 const TOO_LONG: &str = "all lines together are longer than 1 MiB; no more lines are taken";

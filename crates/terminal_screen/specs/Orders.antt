@@ -40,6 +40,13 @@ usual_order = 27 ∷ 91 ∷ 48 ∷ 109 ∷ []
 unfoldable pub scroll_order : List ℕ
 scroll_order = cursor_order 998 0 ++ 10 ∷ []
 
+-- a letter behind the last column of its line stays there, or goes to the next line
+abbrev pub unwrapped_order : List ℕ
+unwrapped_order = 27 ∷ 91 ∷ 63 ∷ 55 ∷ 108 ∷ []
+
+abbrev pub wrapped_order : List ℕ
+wrapped_order = 27 ∷ 91 ∷ 63 ∷ 55 ∷ 104 ∷ []
+
 -- ---- rows that were sent out
 
 abbrev pub sent_letter : Option CodePage → ℕ → List ℕ
@@ -133,15 +140,16 @@ note_drawn drawing =
 abbrev pub first_drawn : Drawing → ℕ
 first_drawn drawing = drawing.cursor.0 - (drawing.window.rows - 2)
 
--- rows that were sent out, those that stand, the note, and the cursor's row once more
+-- rows that were sent out, those that stand, the note, and the cursor's row once more; no row goes on in the next line
 unfoldable pub drawing_text : Drawing → List ℕ
 drawing_text drawing =
-    usual_order ++ 27 ∷ 91 ∷ 72 ∷ []
+    unwrapped_order ++ usual_order ++ 27 ∷ 91 ∷ 72 ∷ []
     ++ rows_scrolled drawing.page true drawing.sent.now
     ++ window_drawn drawing (first_drawn drawing)
     ++ note_drawn drawing
     ++ line_drawn drawing (first_drawn drawing) (drawing.cursor.0 - first_drawn drawing)
     ++ cursor_order (drawing.cursor.0 - first_drawn drawing) (min drawing.cursor.1 79)
+    ++ wrapped_order
 
 -- ---- for a terminal on which nothing is drawn
 

@@ -311,7 +311,8 @@ fn put_note(alloc: Global, out: &mut String, drawing: &Drawing<'_>) -> Result<()
 
 /// What a terminal is sent to show the rows as they stand, at the top of its window. Rows that were sent out since the
 /// last drawing scroll out of it into the terminal's scrollback, and no others do: the cursor's line isn't the window's
-/// last one. The cursor's row is put last, so that it stands under the cursor in a window of any size.
+/// last one. The cursor's row is put last, so that it stands under the cursor in a window of any size. Meanwhile no
+/// line wraps: in a window that has become narrower, a row's end lies in its own line's last column.
 #[tactic(auto, unfolding(crate::specs::Orders::drawing_text))]
 pub fn drawn(alloc: Global, drawing: &Drawing<'_>) -> Result<String, AllocError>
     ensures { IfOk result (λ text. string_bytes text ≡ spec.drawing_text drawing.now) }
@@ -320,12 +321,13 @@ pub fn drawn(alloc: Global, drawing: &Drawing<'_>) -> Result<String, AllocError>
     let first = first_row(drawing);
     let (row, column) = drawing.cursor;
     let line = row.saturating_sub(first);
-    out.push_str("\x1b[0m\x1b[H")?;
+    out.push_str("\x1b[?7l\x1b[0m\x1b[H")?;
     put_sent(alloc, &mut out, drawing.page, drawing.sent)?;
     put_window(alloc, &mut out, drawing, first)?;
     put_note(alloc, &mut out, drawing)?;
     put_row(alloc, &mut out, drawing, first, line)?;
     put_cursor(alloc, &mut out, line, column.min(79))?;
+    out.push_str("\x1b[?7h")?;
     Ok(out)
 }
 
