@@ -1,5 +1,5 @@
 """What the builders of the program share: which crates it stands on, where a build stands, one build at a time, and what
-scripts read of the toolchain's lines."""
+scripts know of the toolchain."""
 
 import contextlib
 import ctypes
@@ -12,22 +12,22 @@ import signal
 import subprocess
 import sys
 import tempfile
-import time
 
 TOP = os.path.dirname(os.path.dirname(os.path.realpath(__file__)))
 # Each kind of build stands in a folder of its name here, which git ignores.
 OUT = f"{TOP}/out"
 # What --version tells of each kind.
 KINDS = {"proved": "proved", "unproved": "not proved, with run-time checks"}
-# A scratch folder's name begins with this.
-SCRATCH = "tablereef-room-"
+# Where scratch folders stand, and how their names begin. (Python's own search for a place writes to each that it tries,
+# and takes the current folder where no other has room.)
+TEMPORARY, SCRATCH = os.path.abspath(os.environ.get("TMPDIR") or "/tmp"), "tablereef-room-"
 # What the system and the toolchain's tools say of a full disk, and what rt says of it.
 FULL, FULL_FOR_RT = os.strerror(errno.ENOSPC), "rt: the disk is full"
 
 # What scripts read of the toolchain's lines, beyond the last one, which the guide promises. tests/first tells where another
-# kit writes them otherwise. Of `rt ci`: a crate that was proved, one that was taken over, and what isn't kept for later.
+# kit writes them otherwise. Of `rt ci`: a crate that was proved, one that was taken over, and what it notes.
 PROVED, KEPT = re.compile(r"rt: (\w+) proved"), re.compile(r"rt: (\w+) is kept: .*")
-NOT_KEPT = re.compile(r"rt: note: (.*\b(?:nothing is kept|is not kept)\b.*)")
+NOTE = re.compile(r"rt: note: (.*)")
 # Of `rt must-fail`: an edit that was refused.
 REFUSED = re.compile(r"rt: (.+?): refused, as it must be.*")
 # Of the tests' runner: a test that passed, and how many there are.
@@ -35,8 +35,11 @@ TEST_PASSED, TESTS = re.compile(r"test .+ \.\.\. ok"), re.compile(r"tests: (\d+)
 # The last line of `rt ci`, and of each script of tests/.
 VERDICT = re.compile(r"(\d+) passed, (\d+) failed")
 
-# What both builds call of the toolchain, and link with.
-COMPILERS = ("toolchain/bin/clang", "toolchain/bin/ld.lld", "c/libos_c.a", "c/liblibc_c.a")
+# What both builds link with, before a program and behind it, and what they need of the toolchain.
+FIRST = [f"toolchain/lib/{it}" for it in ("Scrt1.o", "crti.o", "crtbeginS.o")]
+LAST = "libm.so.6 libc.so.6 libc_nonshared.a ld-linux-x86-64.so.2 libgcc.a libgcc_s.so.1 crtendS.o crtn.o".split()
+LAST = ["c/libos_c.a", "c/liblibc_c.a", *(f"toolchain/lib/{it}" for it in LAST)]
+NEEDED = ["toolchain/bin/clang", "toolchain/bin/ld.lld", *FIRST, *LAST]
 
 # Linux's call that has a process sent a signal when the one that started it ends, and its word for that.
 PRCTL, SIGNAL_OF_PARENTS_DEATH = ctypes.CDLL(None).prctl, 1
@@ -97,12 +100,33 @@ def kit(parts=()):
     return whole(os.path.dirname(ran.stdout.strip()), parts)
 
 
+def kit_libraries(kit, crates, uses):
+    """The toolchain's libraries below these crates, std first, and what each of them uses."""
+    found, names = {}, list(dict.fromkeys(["std", *(it for name in crates for it in uses[name] if it not in uses)]))
+    for name in names:
+        format = f"rlibs/{name}.rlib/format"
+        with open(f"{whole(kit, [format])}/{format}", encoding="utf-8") as it:
+            found[name] = re.findall(r"^dep (\w+)$", it.read(), re.M)
+        names += [it for it in found[name] if it not in names]
+    return found
+
+
 def git(*words):
     """What git says of the checkout, nothing where there is none."""
     with contextlib.suppress(OSError):
         ran = subprocess.run(["git", "-C", TOP, *words], capture_output=True, text=True, check=False)
         return ran.stdout.strip() if ran.returncode == 0 else ""
     return ""
+
+
+def write(file, text):
+    """Writes a file. A failure names it, also where the system doesn't."""
+    try:
+        with open(file, "w", encoding="utf-8") as it:
+            it.write(text)
+    except OSError as error:
+        error.filename = file
+        raise
 
 
 def replace(file, to):
@@ -118,47 +142,43 @@ def replace(file, to):
 
 def room_left():
     """How many MB the disk has left for temporary files."""
-    return shutil.disk_usage(tempfile.gettempdir()).free >> 20
+    return shutil.disk_usage(TEMPORARY).free >> 20
 
 
 def parts_of(crates, *kinds):
-    """The folders of these kinds that these crates have."""
+    """crates.txt, and the folders of these kinds that these crates have."""
     parts = [f"crates/{name}/{kind}" for name in crates for kind in kinds]
-    return [it for it in parts if os.path.isdir(f"{TOP}/{it}")]
+    return ["crates.txt", *(it for it in parts if os.path.isdir(f"{TOP}/{it}"))]
 
 
-def is_older(place, parts):
-    """Whether what was built in a place is missing, of other parts of the repository, or older than a file or folder of
-    these. (A file that was copied with the times of another is as old as the copy: its change time tells that.)"""
-    try:
-        built = os.stat(f"{place}/dbrun").st_mtime
-        with open(f"{place}/sources", encoding="utf-8") as it:
-            if it.read().splitlines() != ["crates.txt", *parts]:
-                return True
-        for part in ["crates.txt", *parts]:
-            walked = os.walk(f"{TOP}/{part}") if os.path.isdir(f"{TOP}/{part}") else [(f"{TOP}/{part}", [], [])]
-            for at, _, files in walked:
-                found = [os.lstat(it) for it in [at, *(f"{at}/{name}" for name in files)]]
-                if any(max(it.st_mtime, it.st_ctime) > built for it in found):
-                    return True
-    except OSError:
-        return True
+def state_of(parts):
+    """What any change of these parts of the repository changes: each file and folder, and when its state changed last.
+    bin/dbrun asks the same. (No ages are compared: a file may be dated in the future, or as another is.)"""
+    words = ["find", *parts, "-printf", r"%p %C@\n"]
+    ran = subprocess.run(words, cwd=TOP, stdin=subprocess.DEVNULL, capture_output=True, text=True, check=False)
+    return "".join(sorted(ran.stdout.splitlines(True)))
+
+
+def stands(place, state):
+    """Whether a program stands in a place, built of its parts in this state."""
+    with contextlib.suppress(OSError), open(f"{place}/state", encoding="utf-8") as it:
+        return it.read() == state and os.path.exists(f"{place}/dbrun")
     return False
 
 
-def place_program(program, place, parts, begun):
-    """Puts a program that was built of these parts where it stays, with the age of the moment when its build began."""
+def place_program(program, place, parts, state):
+    """Puts a program where it stays, built of these parts in this state. It stands there once its state does."""
     version = subprocess.run(["rt", "version"], capture_output=True, text=True, check=False).stdout.strip()
     changed = " with changes" if git("status", "--porcelain", "--", "crates", "crates.txt") else ""
     commit = f"commit {git('rev-parse', '--short', 'HEAD') or 'unknown'}{changed}"
-    version = f"{KINDS[os.path.basename(place)]}, {commit}, {version}"
-    for name, text in (("sources", "\n".join(["crates.txt", *parts])), ("version", version)):
-        with open(f"{program}.{name}", "w", encoding="utf-8") as it:
-            it.write(f"{text}\n")
-        replace(f"{program}.{name}", f"{place}/{name}")
+    version = f"{KINDS[os.path.basename(place)]}, {commit}, {version}\n"
+    with contextlib.suppress(FileNotFoundError):
+        os.remove(f"{place}/state")
     os.chmod(program, 0o755)
-    os.utime(program, (begun, begun))
     replace(program, f"{place}/dbrun")
+    for name, text in (("sources", "\n".join([*parts, ""])), ("version", version), ("state", state)):
+        write(f"{program}.{name}", text)
+        replace(f"{program}.{name}", f"{place}/{name}")
 
 
 @contextlib.contextmanager
@@ -190,19 +210,18 @@ def hold(room, how=0):
 
 def sweep():
     """Takes away the scratch folders that nobody holds."""
-    above = tempfile.gettempdir()
-    for name in os.listdir(above):
+    for name in os.listdir(TEMPORARY):
         if name.startswith(SCRATCH):
             with contextlib.suppress(OSError):
-                holder = hold(f"{above}/{name}", fcntl.LOCK_NB)
-                shutil.rmtree(f"{above}/{name}", ignore_errors=True)
+                holder = hold(f"{TEMPORARY}/{name}", fcntl.LOCK_NB)
+                shutil.rmtree(f"{TEMPORARY}/{name}", ignore_errors=True)
                 os.close(holder)
 
 
 def new_room():
     """A new scratch folder, and what holds it. (Another start may sweep it away before it is held.)"""
     while True:
-        room = tempfile.mkdtemp(prefix=SCRATCH)
+        room = tempfile.mkdtemp(prefix=SCRATCH, dir=TEMPORARY)
         with contextlib.suppress(FileNotFoundError):
             holder = hold(room)
             if os.path.exists(room):
@@ -256,9 +275,11 @@ def told_of(error):
 
 
 def end_with(build, interrupted, instead=""):
-    """Runs a build, and ends with its status; a failure is told in one line, and what may be done instead."""
+    """Runs a build, and ends with its status; a failure is told in one line, and what may be done instead. A signal
+    that the caller ignores stays ignored, as a hangup under nohup."""
     for it in (signal.SIGTERM, signal.SIGHUP):
-        signal.signal(it, interrupt)
+        if signal.getsignal(it) != signal.SIG_IGN:
+            signal.signal(it, interrupt)
     try:
         sys.exit(build() or 0)
     except KeyboardInterrupt:
