@@ -320,18 +320,24 @@ fn put_ways<W: Write>(f: &mut Formatter<W>, ways: &[Option<HeldTable>]) -> fmt::
     Ok(())
 }
 
-/// The work areas of which nothing is known, but for this one.
-fn put_unsure<W: Write>(
-    f: &mut Formatter<W>,
-    areas: &[HeldTable],
-    but: Option<usize>,
-) -> fmt::Result {
+/// Of how many work areas nothing is known, but for this one.
+fn count_unsure(areas: &[HeldTable], but: Option<usize>) -> usize {
     let mut count = 0usize;
     for (place, held) in areas.iter().enumerate() {
         if is_unsure(held) && Some(place) != but {
             count = count.saturating_add(1);
         }
     }
+    count
+}
+
+/// The work areas of which nothing is known, but for this one.
+fn put_unsure<W: Write>(
+    f: &mut Formatter<W>,
+    areas: &[HeldTable],
+    but: Option<usize>,
+) -> fmt::Result {
+    let count = count_unsure(areas, but);
     let mut before = 0usize;
     for (place, held) in areas.iter().enumerate() {
         if is_unsure(held) && Some(place) != but {
@@ -355,6 +361,9 @@ fn put_chosen<W: Write>(f: &mut Formatter<W>, chosen: Chosen, place: usize) -> f
 /// What ways leave of a work area.
 const OTHERWISE: &str = "with other tables, indexes, orders or filters, or closed";
 
+/// How ways come to one work area.
+const SAME: &str = "USE the same in it on each way";
+
 /// Where to close a table that is open already.
 const ELSEWHERE: &str = "SELECT that one, or close it there by USE alone";
 
@@ -365,6 +374,26 @@ const FIELDS: &str =
 /// How a work area comes by an order.
 const ORDERS: &str = "open indexes by USE .. INDEX or INDEX ON, and choose one by SET ORDER TO";
 
+/// That a table is open in another work area.
+fn put_open<W: Write>(f: &mut Formatter<W>, table: &Name, place: usize) -> fmt::Result {
+    let number = place.saturating_add(1);
+    write!(
+        f,
+        "{} is open in area {number} already; {ELSEWHERE}",
+        Shown(table)
+    )
+}
+
+/// That the table of a work area has no such order.
+fn put_no_order<W: Write>(f: &mut Formatter<W>, table: &Name, place: usize) -> fmt::Result {
+    let number = place.saturating_add(1);
+    write!(
+        f,
+        "area {number} ({}) has no such order; {ORDERS}",
+        Shown(table)
+    )
+}
+
 impl Display for AreasHint<'_> {
     fn fmt<W: Write>(&self, f: &mut Formatter<W>) -> fmt::Result {
         match self {
@@ -373,14 +402,7 @@ impl Display for AreasHint<'_> {
                 put_ways(f, ways)?;
                 f.write_str(" is selected here; SELECT the same one on each way")
             }
-            AreasHint::Open { table, place } => {
-                let number = place.saturating_add(1);
-                write!(
-                    f,
-                    "{} is open in area {number} already; {ELSEWHERE}",
-                    Shown(table)
-                )
-            }
+            AreasHint::Open { table, place } => put_open(f, table, *place),
             AreasHint::MayBeOpen {
                 table,
                 areas,
@@ -396,15 +418,12 @@ impl Display for AreasHint<'_> {
             }
             AreasHint::Unsure { chosen, place } => {
                 put_chosen(f, *chosen, *place)?;
-                write!(
-                    f,
-                    ", and ways to this line leave it {OTHERWISE}; USE the same in it on each way"
-                )
+                write!(f, ", and ways to this line leave it {OTHERWISE}; {SAME}")
             }
             AreasHint::SomeUnsure(areas) => {
                 f.write_str("ways to this line leave area ")?;
                 put_unsure(f, areas, None)?;
-                write!(f, " {OTHERWISE}; USE the same in it on each way")
+                write!(f, " {OTHERWISE}; {SAME}")
             }
             AreasHint::Lettered {
                 letter,
@@ -414,14 +433,7 @@ impl Display for AreasHint<'_> {
                 put_chosen(f, Chosen::Letter(*letter), *place)?;
                 write!(f, " ({}), since A to J are areas; {FIELDS}", Shown(table))
             }
-            AreasHint::NoOrder { table, place } => {
-                let number = place.saturating_add(1);
-                write!(
-                    f,
-                    "area {number} ({}) has no such order; {ORDERS}",
-                    Shown(table)
-                )
-            }
+            AreasHint::NoOrder { table, place } => put_no_order(f, table, *place),
         }
     }
 }

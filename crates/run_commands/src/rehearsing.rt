@@ -280,12 +280,9 @@ fn put_counts<W: fmt::Write>(
     f.write_char('\n')
 }
 
-/// What a run would have saved, in lines: the rows of each table, and the indexes that are made anew.
-impl fmt::Display for Rehearsal {
-    fn fmt<W: fmt::Write>(&self, f: &mut fmt::Formatter<W>) -> fmt::Result {
-        for (name, counts) in self.tables.iter().zip(self.changes.tables.iter()) {
-            put_counts(f, name, counts)?;
-        }
+impl Rehearsal {
+    /// The indexes that are made anew, in lines.
+    fn put_made<W: fmt::Write>(&self, f: &mut fmt::Formatter<W>) -> fmt::Result {
         for (name, anew) in self.indexes.iter().zip(self.changes.made.iter()) {
             if *anew {
                 put_name(name, f)?;
@@ -293,5 +290,15 @@ impl fmt::Display for Rehearsal {
             }
         }
         Ok(())
+    }
+}
+
+/// What a run would have saved, in lines: the rows of each table, and the indexes that are made anew.
+impl fmt::Display for Rehearsal {
+    fn fmt<W: fmt::Write>(&self, f: &mut fmt::Formatter<W>) -> fmt::Result {
+        for (name, counts) in self.tables.iter().zip(self.changes.tables.iter()) {
+            put_counts(f, name, counts)?;
+        }
+        self.put_made(f)
     }
 }
