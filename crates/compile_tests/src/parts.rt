@@ -1,6 +1,6 @@
 // What a code has besides its instructions, in short: the stack bound; each procedure's level, and what is known where
-// it is entered and where it returns; the maps; and what filters need. A state is the selected work area, each area that
-// isn't closed with its table, list, order and filter or `?`, and the slots' kinds.
+// it is entered and where it returns; the maps; and what filters need. A state is the selected work area, each area
+// that isn't closed with its table, list, order and filter or `?`, and the slots' kinds.
 
 use crate::shown::code_of;
 use code_items::{AreaState, Code, Desk, State};

@@ -1,5 +1,6 @@
-// Programs of several files, and declaration files. `files` names the command files behind the main one, and `file` says
-// what stands in one of them or in another file. `tables` and `indexes` say how many more are declared behind the lines.
+// Programs of several files, and declaration files. `files` names the command files behind the main one, and `file`
+// says what stands in one of them or in another file. `tables` and `indexes` say how many more are declared behind the
+// lines.
 #![tactic(auto)]
 
 pub const SEVERAL: &str = r#"

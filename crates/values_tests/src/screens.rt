@@ -14,8 +14,10 @@ use xvalue::Text;
 const SCREENS: &str = "\
 say|2|0|         5;line;print|         5={2 ^}{2          5^}
 say|25|0|X;say|0|78|ABCD;print|E={78  }AB^E^
-say|24|79|-;print|{254 A};line={24 ^}{79  }-^{3 AAAAAAAAAAAAAAAAAAAAAAAAAAAAAAAAAAAAAAAAAAAAAAAAAAAAAAAAAAAAAAAAAAAAAAAAAAAAAAAA^}{14 A}^
-sayon|before the first row;say|0|5|;sayon|;say|-1|0|above;say|0|80|beside;print|Y;say|3|79|Z;sayon|past the end;clear;sayon|before the first row;print|;sayon|before the first row;print|\tA\x7fB ^=      Y^^^{79  }Z^ A B^
+say|24|79|-;print|{254 A};line={24 ^}{79  }-^\
+{3 AAAAAAAAAAAAAAAAAAAAAAAAAAAAAAAAAAAAAAAAAAAAAAAAAAAAAAAAAAAAAAAAAAAAAAAAAAAAAAAA^}{14 A}^
+sayon|before the first row;say|0|5|;sayon|;say|-1|0|above;say|0|80|beside;print|Y;say|3|79|Z;sayon|past the end;clear;\
+sayon|before the first row;print|;sayon|before the first row;print|\tA\x7fB ^=      Y^^^{79  }Z^ A B^
 line;print|Name? ;line;print|         0;line;print|=Name?^         0^
 say|0|0|AGE;sayon|42;clear=AGE 42^
 ";
@@ -153,7 +155,9 @@ fn counts_clears_and_goes_on(rt: HostRuntime) -> Result<(), Fail> {
     let bytes = count_and_clear(rt.alloc())?;
     assert!(rt;
         bytes.as_slice()
-            == b" 1\n 2\n 3\n 4\n 5\n 6\n 7\n 8\n 9\n10\n11\n12\n13\n14\n15\n16\n17\n18\n19\n20\n21\n22\n23\n24\n25\n26\nZ\n".as_slice()
+            == b" 1\n 2\n 3\n 4\n 5\n 6\n 7\n 8\n 9\n10\n11\n12\n13\n14\n\
+                15\n16\n17\n18\n19\n20\n21\n22\n23\n24\n25\n26\nZ\n"
+                .as_slice()
     );
     Ok(())
 }

@@ -8,11 +8,11 @@ use text_lines::TypedLines;
 fn gives(alloc: Global, bytes: &[u8], lines: &[&'static str]) -> Result<bool, AllocError> {
     let mut typed = TypedLines::new(Vec::from_slice(alloc, bytes)?);
     for line in lines {
-        if typed.next().as_slice() != line.as_bytes() {
+        if typed.is_empty() || typed.next().as_slice() != line.as_bytes() {
             return Ok(false);
         }
     }
-    Ok(typed.next().is_empty() && typed.next().is_empty())
+    Ok(typed.is_empty() && typed.next().is_empty() && typed.next().is_empty())
 }
 
 // A return is dropped just before a line end; the last line needs no end; what is used up gives empty lines.

@@ -1,9 +1,9 @@
 //! Tables of examples: an example, `|`, and what is told of it a row.
 
-use crate::expressions::{self, CALLS, LINES_OF_WORDS, SAMES, TREES};
-use crate::lines::{self, LINES};
-use crate::programs::{self, BLOCKS, COMMANDS, PROGRAMS, SEVERAL_FAULTS};
-use crate::texts::bytes_of;
+use crate::language::expressions::{self, CALLS, LINES_OF_WORDS, SAMES, TREES};
+use crate::language::lines::{self, LINES};
+use crate::language::programs::{self, BLOCKS, COMMANDS, PROGRAMS, SEVERAL_FAULTS};
+use crate::language::texts::bytes_of;
 use std::alloc::{AllocError, Global};
 use std::test::Fail;
 

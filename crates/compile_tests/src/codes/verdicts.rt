@@ -1,6 +1,6 @@
 // What the verifier says of codes made by hand.
 
-use crate::hand::{code_of, plan_of};
+use crate::codes::hand::{code_of, plan_of};
 use std::alloc::{AllocError, Global};
 use std::test::Fail;
 use xcode::LegalCode;

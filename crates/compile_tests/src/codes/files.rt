@@ -1,6 +1,6 @@
 // Code files of every item: written, read, cut and changed.
 
-use crate::hand::{Plan, code_of};
+use crate::codes::hand::{Plan, code_of};
 use code_items::Version;
 use std::alloc::{AllocError, Global};
 use std::test::Fail;

@@ -70,7 +70,9 @@ pub(crate) const COMMANDS: &str = "\
      SKIP A|Skip { rows: Some(Name([65])) }\n\
      SEEK A|Seek { key: Name([65]) }\n\
      APPEND BLANK|AppendBlank\n\
-     REPLACE F WITH A, G WITH B|Replace { replacements: [Replacement { field: [70], value: Name([65]) }, Replacement { field: [71], value: Name([66]) }] }\n\
+     REPLACE F WITH A, G WITH B|\
+         Replace { replacements: [Replacement { field: [70], value: Name([65]) }, Replacement { field: [71], value: \
+         Name([66]) }] }\n\
      DELETE|Delete\n\
      RECALL|Recall\n\
      PACK|Pack\n\
@@ -93,12 +95,21 @@ pub(crate) const COMMANDS: &str = "\
 
 /// Blocks.
 pub(crate) const BLOCKS: &str = "\
-     IF A~READ~ENDIF|If { condition: Name([65]), then: [Command { line: 2, form: Statement(Read) }], otherwise: None, end: 3 }\n\
-     IF A~ELSE~READ~ENDIF rest 'x|If { condition: Name([65]), then: [], otherwise: Some(Branch { line: 2, body: [Command { line: 3, form: Statement(Read) }] }), end: 4 }\n\
-     DO WHILE A~LOOP~EXIT~ENDDO|DoWhile { condition: Name([65]), body: [Command { line: 2, form: Statement(Loop) }, Command { line: 3, form: Statement(Exit) }], end: 4 }\n\
+     IF A~READ~ENDIF|If { condition: Name([65]), then: [Command { line: 2, form: Statement(Read) }], otherwise: None, \
+         end: 3 }\n\
+     IF A~ELSE~READ~ENDIF rest 'x|\
+         If { condition: Name([65]), then: [], otherwise: Some(Branch { line: 2, body: [Command { line: 3, form: \
+         Statement(Read) }] }), end: 4 }\n\
+     DO WHILE A~LOOP~EXIT~ENDDO|\
+         DoWhile { condition: Name([65]), body: [Command { line: 2, form: Statement(Loop) }, Command { line: 3, form: \
+         Statement(Exit) }], end: 4 }\n\
      SCAN~ENDSCAN|Scan { condition: None, body: [], end: 2 }\n\
-     SCAN FOR A~READ~ENDSCAN|Scan { condition: Some(Name([65])), body: [Command { line: 2, form: Statement(Read) }], end: 3 }\n\
-     DO CASE~SET TALK OFF~CASE A~READ~CASE B~OTHERWISE~ZAP~ENDCASE|DoCase { cases: [Case { line: 3, condition: Name([65]), body: [Command { line: 4, form: Statement(Read) }] }, Case { line: 5, condition: Name([66]), body: [] }], otherwise: Some(Branch { line: 6, body: [Command { line: 7, form: Statement(Zap) }] }), end: 8 }\n\
+     SCAN FOR A~READ~ENDSCAN|\
+         Scan { condition: Some(Name([65])), body: [Command { line: 2, form: Statement(Read) }], end: 3 }\n\
+     DO CASE~SET TALK OFF~CASE A~READ~CASE B~OTHERWISE~ZAP~ENDCASE|\
+         DoCase { cases: [Case { line: 3, condition: Name([65]), body: [Command { line: 4, form: Statement(Read) }] \
+         }, Case { line: 5, condition: Name([66]), body: [] }], otherwise: Some(Branch { line: 6, body: [Command { \
+         line: 7, form: Statement(Zap) }] }), end: 8 }\n\
      DO CASE~ENDCASE|DoCase { cases: [], otherwise: None, end: 2 }\n\
     ";
 
@@ -235,7 +246,9 @@ pub(crate) fn places(alloc: Global, file: &[u8]) -> Result<String, AllocError> {
 
 /// A file and its program.
 pub(crate) const PROGRAMS: &str =
-    "DO P~PROCEDURE P~READ~proc q~|Program { name: [65], main: [Command { line: 1, form: Statement(Do { procedure: [80], arguments: [] }) }], procedures: [Procedure { line: 2, name: [80], body: [Command { line: 3, form: Statement(Read) }] }, Procedure { line: 4, name: [81], body: [] }] }";
+    "DO P~PROCEDURE P~READ~proc q~|Program { name: [65], main: [Command { line: 1, form: Statement(Do { \
+     procedure: [80], arguments: [] }) }], procedures: [Procedure { line: 2, name: [80], body: [Command { line: 3, \
+     form: Statement(Read) }] }, Procedure { line: 4, name: [81], body: [] }] }";
 
 /// The first byte that by itself is no character of command files and should be, or is one and shouldn't.
 fn first_misjudged(alloc: Global) -> Result<Option<u8>, AllocError> {

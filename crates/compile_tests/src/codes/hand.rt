@@ -2,7 +2,7 @@
 // U2; the lists TI with TJ, UI, and TI; the constants true, A and 1; a filter of T2 that needs a text in slot 0; two
 // slots; a main procedure, and another one of level 0.
 
-use crate::spelled::instr_of;
+use crate::codes::spelled::instr_of;
 use arrayvec::ArrayVec;
 use code_items::declared::{Filter, Need};
 use code_items::{

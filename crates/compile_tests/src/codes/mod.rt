@@ -1,0 +1,6 @@
+//! Whole codes and their verifier.
+
+mod files;
+mod hand;
+mod spelled;
+mod verdicts;
