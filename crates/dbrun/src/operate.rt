@@ -3,7 +3,7 @@
 
 ghost use Rattle.std.specs.Prelude.{◌≡◌, false};
 
-use crate::screens::{is_backup, is_free_name, is_new_name};
+use crate::screens::{is_backup, is_free_name, is_new_name, is_path_of};
 use crate::shown::{Audience, NameTold, Progress, of_end};
 use crate::{
     finish_before, folder, has_no_tables, hindered, may_back_up, refuse, tell_hindered,
@@ -67,7 +67,7 @@ const HELD: &str =
 
 /// What to do where the text of a beginning is none.
 const FOREIGN: &str =
-    "no conversation wrote this text; run takes the lines of its journal, with the options that were given";
+    "no conversation wrote this text; run takes its journal's lines, once no program has it open";
 
 /// What to do where a file stands that no conversation made.
 const NO_TALK: &str = "this file isn't a conversation's; name another one";
@@ -1077,9 +1077,9 @@ fn is_copied_over(words: &TalkWords<'_>, names: &Names, screens: Option<&str>) -
     };
     match save.backup {
         Some(path) => {
-            path == names.journal.as_str()
-                || path == names.begun.as_str()
-                || path == names.done.as_str()
+            is_path_of(path, names.journal.as_str())
+                || is_path_of(path, names.begun.as_str())
+                || is_path_of(path, names.done.as_str())
                 || is_backup(screens, save.backup)
         }
         None => false,

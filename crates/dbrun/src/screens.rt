@@ -34,13 +34,16 @@ pub fn is_new_name<R: Runtime<A = Global>>(rt: &R, name: &str, code: &str) -> bo
     is_free_name(name, code) && !stands(rt, name) && matches!(is_recorded(rt, name), Ok(false))
 }
 
-/// Whether a file for screens has the name of the folder for copies, which `./` and `/` may stand around.
+/// Whether a path is that of a file of the current folder, which `./` and `/` may stand around.
+pub fn is_path_of(path: &str, name: &str) -> bool {
+    let path = path.strip_prefix("./").unwrap_or(path);
+    path.strip_suffix('/').unwrap_or(path) == name
+}
+
+/// Whether a file for screens has the name of the folder for copies.
 pub fn is_backup(screens: Option<&str>, backup: Option<&str>) -> bool {
     match (screens, backup) {
-        (Some(name), Some(path)) => {
-            let path = path.strip_prefix("./").unwrap_or(path);
-            name == path.strip_suffix('/').unwrap_or(path)
-        }
+        (Some(name), Some(path)) => is_path_of(path, name),
         _ => false,
     }
 }
