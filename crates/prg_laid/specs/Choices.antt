@@ -4,7 +4,7 @@ use Rattle.code_items.specs.declared.instr.FlowInstr.TheVariants.{End}
 use Rattle.code_items.specs.declared.instr.Instr.TheVariants.{Flow}
 use Rattle.prg_expr.specs.Tree.{Tree}
 use Rattle.prg_line.specs.Act.{Letters}
-use Rattle.laid_lines.specs.Acts.{is_none_waiting}
+use Rattle.prg_laid.specs.Acts.{is_none_waiting}
 use Rattle.prg_parser.specs.Commands.{Cmds, Part, Absent, Otherwise, DoWhile, cases_of}
 use Rattle.prg_parser.specs.declared.command.Case.{Case}
 use Rattle.prg_values.specs.Placed.{InstrStands}
@@ -14,7 +14,7 @@ use Rattle.prg_laid.specs.declared.way.Leaps.{Leaps}
 use Rattle.prg_laid.specs.declared.way.Way.{Way}
 use Rattle.prg_laid.specs.Commands.{Advances, Follows, Laid, LaidAll, LaidCases, LaidPart, Meets, Tests, either_way}
 use Rattle.prg_laid.specs.Commands.{stopped}
-use Rattle.laid_lines.specs.Layout.{Laying}
+use Rattle.prg_laid.specs.Layout.{Laying}
 
 -- the way back of a SCAN, where LOOP leads to a place
 abbrev pub ComesBack : Laying → Way → Bool → ℕ → ℕ → ℕ → Type 0

@@ -26,8 +26,8 @@ use Rattle.prg_code.specs.Bindings.{NamedVariables}
 use Rattle.prg_code.specs.declared.names.Variable.{Variable}
 use Rattle.prg_values.specs.Written.{whole_as_value as whole_number}
 use Rattle.prg_values.specs.Placed.{InstrStands}
-use Rattle.laid_lines.specs.Acts.{ActLaid, ConstantStands, may_follow_gets, waiting}
-use Rattle.laid_lines.specs.Layout.{Laying, ExprLaid}
+use Rattle.prg_laid.specs.Acts.{ActLaid, ConstantStands, may_follow_gets, waiting}
+use Rattle.prg_laid.specs.Layout.{Laying, ExprLaid}
 use Rattle.prg_laid.specs.declared.way.Leaps.{Leaps}
 use Rattle.prg_laid.specs.declared.way.Way.{Way}
 

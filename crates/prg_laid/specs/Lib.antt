@@ -1,2 +1,5 @@
+pub mod Acts
+pub mod ByNumber
 pub mod Choices
 pub mod Commands
+pub mod Layout

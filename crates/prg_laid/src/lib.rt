@@ -2,9 +2,16 @@
 //! before, and each jump leads to the part that the command's form names.
 #![tactic(auto)]
 
+mod areas;
 mod control;
 mod fault;
 mod judging;
+mod known;
+mod layout;
+mod records;
+mod screen;
+mod statement;
+mod variables;
 mod way;
 
 pub use crate::fault::LayoutFault;

@@ -22,7 +22,7 @@ fn put_header(out: &mut Vec<u8>, case: RunCase<'_>) -> Result<(), AllocError> {
         0,
         0,
         count(case, "constants ", '|'),
-        0,
+        count(case, "filters ", ','),
         count(case, "procedures ", ',').max(1),
         count(case, "maps ", ','),
         count(case, "code ", ';'),
@@ -88,6 +88,14 @@ fn put_maps(out: &mut Vec<u8>, case: RunCase<'_>, slots: usize) -> Result<(), Al
     Ok(())
 }
 
+/// The filters: the table of each, how many instructions it has, and that it needs no slot.
+fn put_filters(out: &mut Vec<u8>, case: RunCase<'_>) -> Result<(), AllocError> {
+    for filter in case.line("filters ").split_terminator(',') {
+        put_numbers(out, filter, &[1, 2, 2])?;
+    }
+    Ok(())
+}
+
 /// The constants, and the table before them.
 fn put_constants(out: &mut Vec<u8>, case: RunCase<'_>) -> Result<(), AllocError> {
     if case.has("over T") {
@@ -116,6 +124,7 @@ pub fn assembled(alloc: Global, case: RunCase<'_>) -> Result<Vec<u8>, AllocError
     let slots = case.number("slots ", 0) as usize;
     put_header(&mut out, case)?;
     put_constants(&mut out, case)?;
+    put_filters(&mut out, case)?;
     put_procedures(&mut out, case, slots)?;
     put_maps(&mut out, case, slots)?;
     for instruction in case.says("code ").trim_end().split_terminator(';') {

@@ -8,6 +8,9 @@ pub const FAULTS: &str = "%table T.DBF K C 1 0
 #a slot that is unset
 %stack 1%slots 1%code 0x02 4 0 0; 0x14 0 0 0;
 %verdict Unset 0%checked 100 fault Unset 0 0
+#a slot that is unset, with no budget
+%stack 1%slots 1%code 0x02 4 0 0; 0x14 0 0 0;
+%checked 0 fault Unset 0 0
 #a full stack
 %stack 0%code 0x01 0 0 0; 0x14 0 0 0;
 %verdict StackOver 0%checked 100 fault StackOver 0 0
@@ -38,6 +41,9 @@ pub const FAULTS: &str = "%table T.DBF K C 1 0
 #a closed area
 %over T%code 0x26 0 0 0; 0x14 0 0 0;
 %checked 100 fault ClosedArea 0 0
+#an order in a closed area
+%over T%code 0x24 0 1 0; 0x14 0 0 0;
+%checked 100 fault ClosedArea 0 0
 #no order
 %over T%code 0x20 0 0 0; 0x24 0 1 0; 0x14 0 0 0;
 %checked 100 fault NoOrder 1 1
@@ -50,6 +56,9 @@ pub const FAULTS: &str = "%table T.DBF K C 1 0
 #no filter
 %over T%stack 1%code 0x20 0 0 0; 0x07 0 0 0; 0x14 0 0 0;
 %checked 100 fault BadFilter 1 1
+#a filter that leaves a text
+%over T%stack 1%procedures 4 0,%filters 0 1,%code 0x20 0 0 0; 0x25 0 1 0; 0x26 0 0 0; 0x14 0 0 0; 0x07 0 0 0;
+%verdict Filter 4%checked 100 fault BadFilter 2 2
 #a wrong kind on a full stack
 %stack 1%slots 1%code 0x01 0 0 0; 0x03 4 0 0; 0x01 0 0 0; 0x02 2 0 0;
 %checked 100 fault WrongKind 3 3

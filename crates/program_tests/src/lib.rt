@@ -12,6 +12,8 @@ mod budgets;
 #[cfg(test)]
 mod cases;
 #[cfg(test)]
+mod changed_files;
+#[cfg(test)]
 mod codes;
 #[cfg(test)]
 mod command_files;

@@ -7,7 +7,7 @@ use std::alloc::AllocError;
 /// The words of parts. What stands behind another word would be asked of nobody.
 const WORDS: &str = "\
 absent again both budget bytes calls checked code constants cut day declarations each ended fails \
-failures faults file files first full handed holds index indexes kept keys lends length limit lines \
+failures faults file files filters first full handed holds index indexes kept keys lends length limit lines \
 list maps over part parts procedures refused rehearsed room rows saved screens set shape slots sorted \
 source stack steps table tables told typed untagged untold verdict works";
 

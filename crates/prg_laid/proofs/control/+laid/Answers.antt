@@ -2,9 +2,9 @@ use Rattle.std.proofs.Common.{rules, [], Option, sym, ap, ◌∙◌, subst, opti
 use Rattle.prg_expr.specs.Tree.{tree_of}
 use Rattle.prg_parser.specs.Commands.{Cmd, Part, commands_of, cases_of, part_of, form_command}
 use Rattle.prg_parser.specs.declared.command.Branch.{Branch}
-use Rattle.laid_lines.specs.Acts.{names_of}
+use Rattle.prg_laid.specs.Acts.{names_of}
 use Rattle.prg_laid.specs.Commands.{Laid, LaidAll, LaidPart, absent, either_way}
-use Rattle.laid_lines.specs.Layout.{laying}
+use Rattle.prg_laid.specs.Layout.{laying}
 use Rattle.prg_laid.specs.declared.way.Way.{Way}
 use Rattle.prg_laid.proofs.Equations.{form_if, form_do_case, form_scan}
 use Rattle.prg_laid.proofs.Finding.{is_some_map, on_done, way_as}

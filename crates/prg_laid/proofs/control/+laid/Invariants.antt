@@ -1,9 +1,9 @@
 use Rattle.std.proofs.Common.{◌≡◌, true, false, [], drop}
 use Rattle.prg_parser.specs.Commands.{Part, commands_of, cases_of}
-use Rattle.laid_lines.specs.Acts.{names_of}
+use Rattle.prg_laid.specs.Acts.{names_of}
 use Rattle.prg_laid.specs.Choices.{Told, is_absent}
 use Rattle.prg_laid.specs.Commands.{LaidAll, LaidCases, then_way, either_way}
-use Rattle.laid_lines.specs.Layout.{laying}
+use Rattle.prg_laid.specs.Layout.{laying}
 use Rattle.prg_laid.specs.declared.way.Way.{Way}
 use Rattle.prg_laid.proofs.control.+laid.Given as goal
 

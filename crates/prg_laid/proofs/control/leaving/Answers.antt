@@ -1,5 +1,5 @@
 use Rattle.std.proofs.Common.{refl}
-use Rattle.laid_lines.specs.Layout.{laying}
+use Rattle.prg_laid.specs.Layout.{laying}
 use Rattle.prg_line.specs.Act.{Return, Quit, Cancel}
 use Rattle.prg_laid.proofs.Finding.{on_done, finishes}
 use Rattle.prg_laid.proofs.control.leaving.Goals as goal

@@ -1,6 +1,6 @@
 use Rattle.std.proofs.Common.{Option, [], sym, subst}
 use Rattle.prg_laid.specs.Commands.{Laid, loops, loop_act}
-use Rattle.laid_lines.specs.Layout.{laying}
+use Rattle.prg_laid.specs.Layout.{laying}
 use Rattle.prg_laid.specs.declared.way.Leaps.{Leaps}
 use Rattle.prg_parser.specs.Commands.{Single}
 use Rattle.prg_laid.proofs.Finding.{way_as}

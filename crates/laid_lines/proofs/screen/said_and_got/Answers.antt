@@ -1,6 +1,0 @@
-use Rattle.std.proofs.Common.{}
-use Rattle.laid_lines.proofs.Finding.{on_found}
-use Rattle.laid_lines.proofs.screen.said_and_got.Goals as goal
-
-pub returns : goal.returns
-returns c = on_found c.got_on.result (λ b h. (c.in_ok-end.end, c.in_ok-end.ensures, h)) c.got_on.ensures

@@ -1,5 +1,0 @@
-use Rattle.std.proofs.Common.{}
-use Rattle.laid_lines.proofs.statement.on_screen.Goals as goal
-
-pub returns-in-SayGet : goal.returns-in-SayGet
-returns-in-SayGet c = rw (c.in-SayGet.is) c.said_and_got.ensures

@@ -1,3 +1,0 @@
-pub mod Acts
-pub mod ByNumber
-pub mod Layout

@@ -1,0 +1,13 @@
+use Rattle.std.proofs.Common.{}
+use Rattle.prg_laid.proofs.Finding.{on_found}
+use Rattle.prg_laid.proofs.screen.got.Goals as goal
+
+pub returns : goal.returns
+returns c = on_found c.screen.result (λ b h. (
+  c.in_ok-named.named.reading,
+  c.in_ok-end.end,
+  c.in_ok-named.named.end,
+  c.in_ok-end.ensures,
+  c.in_ok-named.ensures,
+  h,
+)) c.screen.ensures

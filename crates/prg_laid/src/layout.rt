@@ -1,0 +1,126 @@
+//! What stands in a finished code at a place.
+
+ghost use Rattle.std.specs.Prelude.{◌≡◌, IfSome};
+ghost use Rattle.prg_code.specs.Bindings.{slot_named};
+ghost use Rattle.prg_expr.specs.Tree.{tree_of};
+ghost use Rattle.prg_laid.specs.Acts as acts;
+ghost use Rattle.prg_laid.specs.Layout.{laying, scope_in, Knows, ExprLaid, Means, NameLaid};
+ghost use Rattle.prg_values.specs.Placed.{InstrStands};
+ghost use Rattle.prg_values.specs.Readings.{scoped};
+ghost use Rattle.prg_values.specs.Written.{whole_as_value};
+
+use crate::known::KnownStates;
+use code_items::{Declared, Instr, Name, State};
+use code_rules::blocks::Block;
+use fixed_num::Num;
+use prg_code::Names;
+use prg_expr::Expr;
+use prg_values::{Finished, Given, Reading, Scope, behind, behind_constant, given_at, read_name};
+use std::alloc::Global;
+use xvalue::{Kind, Value};
+
+/// A finished code, what it declares, the slots of its variables, what is known before each of its places, and the
+/// blocks of its filters. Places, and filters, are counted from 0.
+#[derive(Clone, Copy)]
+pub struct Layout<'a> {
+    pub alloc: Global,
+    pub text: Finished<'a>,
+    pub declared: &'a Declared,
+    pub names: &'a Names,
+    pub known: &'a KnownStates,
+    pub filters: &'a [Block],
+}
+
+/// What reads a name, and the place behind that.
+#[derive(Clone, Copy)]
+pub struct NameRead {
+    pub reading: Reading,
+    pub end: usize,
+}
+
+/// The place behind the instruction, if it stands at this place.
+pub fn after(l: &Layout, place: usize, instr: Instr) -> Option<usize>
+    ensures { IfSome result (λ b. InstrStands (laying l.now).text place instr b) }
+{
+    behind(&l.text, place, instr)
+}
+
+/// What is known before the place.
+pub fn known<'a>(l: &'a Layout, place: usize) -> Option<&'a State>
+    ensures { IfSome result (λ s. Knows (laying l.now) place s.now) }
+{
+    l.known.get(place)
+}
+
+/// What names mean where this is known.
+pub fn scope_of<'a>(l: &'a Layout, state: &'a State, in_filter: bool) -> Scope<'a>
+    ensures { scoped result ≡ scope_in (laying l.now) state.now in_filter }
+{
+    Scope {
+        shape: &l.declared.shape,
+        state,
+        names: l.names,
+        in_filter,
+    }
+}
+
+/// The expression's kind and the place behind its code, if its code stands at this place.
+pub fn given(l: &Layout, place: usize, e: &Expr) -> Option<Given>
+    ensures { IfSome result (λ g. ExprLaid (laying l.now) place (tree_of e.now) g.kind g.end) }
+{
+    let state = known(l, place)?;
+    given_at(&l.text, &scope_of(l, state, false), place, e)
+}
+
+/// The place behind the expression's code, if that stands at this place and its value is of this kind.
+pub fn given_as(l: &Layout, place: usize, e: &Expr, kind: Kind) -> Option<usize>
+    ensures { IfSome result (λ b. ExprLaid (laying l.now) place (tree_of e.now) kind b) }
+{
+    let given = given(l, place, e)?;
+    if given.kind == kind {
+        Some(given.end)
+    } else {
+        None
+    }
+}
+
+/// The place behind an instruction that puts the constant on the stack, if one stands at this place.
+pub fn puts(l: &Layout, place: usize, value: &Value) -> Option<usize>
+    ensures { IfSome result (λ b. acts.ConstantStands (laying l.now) place value.now b) }
+{
+    behind_constant(&l.text, place, value)
+}
+
+/// The same for the number 1.
+pub fn puts_one(l: &Layout, place: usize) -> Option<usize>
+    ensures { IfSome result (λ b. acts.ConstantStands (laying l.now) place (whole_as_value 1) b) }
+{
+    puts(l, place, &Value::Number(Num::from(1u32)))
+}
+
+/// What the name means before the place.
+fn meaning(l: &Layout, place: usize, name: &Name) -> Option<Reading>
+    ensures { IfSome result (λ r. Means (laying l.now) place name.now.items r) }
+{
+    let state = known(l, place)?;
+    match read_name(&scope_of(l, state, false), name) {
+        Ok(reading) => Some(reading),
+        Err(_) => None,
+    }
+}
+
+/// What reads the name, if that stands at this place.
+pub fn named(l: &Layout, place: usize, name: &Name) -> Option<NameRead>
+    ensures { IfSome result (λ n. NameLaid (laying l.now) place name.now.items n.reading n.end) }
+{
+    let reading = meaning(l, place, name)?;
+    let end = after(l, place, reading.instr)?;
+    Some(NameRead { reading, end })
+}
+
+/// The slot of the variable of this name, if there is one.
+pub fn slot_of(l: &Layout, name: &Name) -> Option<u8>
+    ensures { result ≡ slot_named (laying l.now).names name.now.items }
+{
+    l.names.slot(name)
+}
