@@ -34,7 +34,7 @@ fn print_fault<R: Runtime<A = Global>, D: Display>(
         Some(line) => println!(rt; "{name} {fault}  {line}"),
         None => println!(rt; "{name} {fault}"),
     };
-    status_of(printed)
+    status_of(rt, printed)
 }
 
 /// Prints the faults of the declaration file of this name, each with its line where that can still be read.

@@ -284,19 +284,35 @@ pub fn tell_uncompiled<R: Runtime<A = Global>>(
 /// Prints bytes on standard output. A terminal gets a question mark in place of each byte that isn't printed.
 pub fn print_bytes<R: Runtime<A = Global>>(rt: &R, audience: Audience, bytes: &[u8]) -> Status {
     if !audience.rows {
-        return status_of(rt.write_all(bytes));
+        return status_of(rt, rt.write_all(bytes));
     }
     match printable(rt.alloc(), bytes) {
-        Ok(shown) => status_of(rt.write_all(shown.as_slice())),
+        Ok(shown) => status_of(rt, rt.write_all(shown.as_slice())),
         Err(_) => no_memory(rt),
     }
 }
 
-/// How the program exits behind an output.
-pub fn status_of(written: io::Result<()>) -> Status {
+/// Tells on standard error that standard output failed. A reader that closed the pipe wants no more, and that isn't told.
+fn tell_unprinted(rt: &impl Runtime, error: &io::Error) -> Status {
+    if error.kind() == io::ErrorKind::BrokenPipe {
+        return Status::Disk;
+    }
+    refuse(rt, Refusal::Disk { name: "-" })
+}
+
+/// How the program exits behind an output on standard output.
+pub fn status_of(rt: &impl Runtime, written: io::Result<()>) -> Status {
     match written {
         Ok(()) => Status::Done,
-        Err(_) => Status::Disk,
+        Err(error) => tell_unprinted(rt, &error),
+    }
+}
+
+/// How the program exits where it printed, with the first status, and told more behind that, with the second.
+pub fn first_failed(printed: Status, told: Status) -> Status {
+    match printed {
+        Status::Done => told,
+        failed => failed,
     }
 }
 
@@ -318,17 +334,15 @@ pub fn tell_refusal(rt: &impl Runtime, name: &str, refusal: &RunRefusal) -> Stat
     refusal.status()
 }
 
-/// Prints the rows of a run, and then how it ended.
+/// Prints the rows of a run, and then how it ended, also where the rows can't be printed.
 fn report<R: Runtime<A = Global>>(
     rt: &R,
     audience: Audience,
     name: &str,
     report: &Report,
 ) -> Status {
-    match print_bytes(rt, audience, report.rows.as_slice()) {
-        Status::Done => tell_end(rt, name, &report.result),
-        status => status,
-    }
+    let printed = print_bytes(rt, audience, report.rows.as_slice());
+    first_failed(printed, tell_end(rt, name, &report.result))
 }
 
 /// What to do about a save that was cut off, of which maybe a note stands, and that isn't finished, in one sentence
@@ -498,13 +512,12 @@ fn save_done<R: Runtime<A = Global, File = File>>(
     };
     let saved = ended.is_saved(save.only_finished);
     if saved && let Err(unsaved) = saving.commit() {
-        return match print_bytes(rt, audience, done.rows.as_slice()) {
-            Status::Done => tell_unsaved(rt, audience, saving, unsaved, save.backup),
-            status => status,
-        };
+        let printed = print_bytes(rt, audience, done.rows.as_slice());
+        let told = tell_unsaved(rt, audience, saving, unsaved, save.backup);
+        return first_failed(printed, told);
     }
     let status = report(rt, audience, name, done);
-    if audience.person && status == ended.status() {
+    if audience.person {
         if let Some(hint) = of_end(&ended.how, saved) {
             let _ = eprintln!(rt; "  {hint}.");
         }
@@ -535,14 +548,10 @@ fn rehearse<R: Runtime<A = Global, File = File>>(
 
 /// Prints the rows of a rehearsal, and tells what a run would have saved and how it ended.
 fn tell_rehearsed<R: Runtime<A = Global>>(rt: &R, audience: Audience, done: &Rehearsal) -> Status {
-    match print_bytes(rt, audience, done.rows.as_slice()) {
-        Status::Done => {
-            let _ = eprint!(rt; "{done}");
-            let _ = eprintln!(rt; "{}", done.ended);
-            done.ended.status()
-        }
-        status => status,
-    }
+    let printed = print_bytes(rt, audience, done.rows.as_slice());
+    let _ = eprint!(rt; "{done}");
+    let _ = eprintln!(rt; "{}", done.ended);
+    first_failed(printed, done.ended.status())
 }
 
 /// The folder where it may be held, or why it isn't.
@@ -708,10 +717,7 @@ fn verify<R: Runtime<A = Global>>(rt: &R, audience: Audience, name: &str) -> Sta
         Ok(Some(refused)) => (println!(rt; "refused {refused}"), Status::Refused),
         Err(refusal) => return refuse(rt, refusal),
     };
-    if written.is_err() {
-        return Status::Disk;
-    }
-    status
+    first_failed(status_of(rt, written), status)
 }
 
 /// Prints the lines of a listing.
@@ -747,7 +753,7 @@ fn print_listing<R: Runtime<A = Global>>(
         in_utf8(rt.alloc(), page, lines)
     };
     match told {
-        Ok(shown) => status_of(rt.write_all(shown.as_bytes())),
+        Ok(shown) => status_of(rt, rt.write_all(shown.as_bytes())),
         Err(_) => no_memory(rt),
     }
 }
@@ -835,8 +841,8 @@ fn print_declared_lines<'n, R: Runtime>(
             names,
             line: *line,
         };
-        if println!(rt; "{told}").is_err() {
-            return Status::Disk;
+        if let Err(error) = println!(rt; "{told}") {
+            return tell_unprinted(rt, &error);
         }
     }
     Status::Done
@@ -915,10 +921,7 @@ pub fn no_memory(rt: &impl Runtime) -> Status {
 
 /// Prints the version that was asked for.
 fn print_version(rt: &impl Runtime, version: &clap::Error) -> Status {
-    match print!(rt; "{version}") {
-        Ok(()) => Status::Done,
-        Err(_) => Status::Disk,
-    }
+    status_of(rt, print!(rt; "{version}"))
 }
 
 /// Tells on standard error what is wrong with the words, or how words are put where they ask for help. A version that

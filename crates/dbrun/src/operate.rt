@@ -6,8 +6,8 @@ ghost use Rattle.std.specs.Prelude.{◌≡◌, false};
 use crate::screens::{is_backup, is_free_name, is_new_name, is_path_of};
 use crate::shown::{Audience, NameTold, Progress, of_end};
 use crate::{
-    finish_before, folder, has_no_tables, hindered, may_back_up, refuse, tell_hindered,
-    tell_unfinished, tell_unsaved,
+    finish_before, first_failed, folder, has_no_tables, hindered, may_back_up, refuse,
+    tell_hindered, tell_unfinished, tell_unsaved,
 };
 use command_words::{DEFAULT_BUDGET, OperateWords, Outcomes, ShownWords, TalkWords, WordsFault};
 use file_access::{Files, ReadFault};
@@ -483,13 +483,13 @@ fn leave_drawing(rt: &impl Runtime) {
     let _ = eprint!(rt; "\x1b[0m\x1b[25;1H\r\n");
 }
 
-/// Prints the rows that aren't printed yet. What was drawn gives way to them.
+/// Prints the rows that aren't printed yet. What was drawn gives way to them. Whether they could be printed.
 fn print_rest<R: Runtime<A = Global, File = File>>(
     rt: &R,
     audience: Audience,
     desk: &OperatorDesk<'_, R>,
     rows: &[u8],
-) -> Status {
+) -> bool {
     if let Some(window) = desk.manner.window {
         if desk.manner.one_terminal {
             wipe(rt, window);
@@ -499,7 +499,7 @@ fn print_rest<R: Runtime<A = Global, File = File>>(
     }
     let rest = &rows[desk.shown.min(rows.len())..];
     if desk.print_rows(rt.alloc(), rest).is_err() {
-        return Status::Disk;
+        return false;
     }
     if audience.person && !desk.note.is_empty() {
         let _ = eprintln!(rt; "{}", desk.note);
@@ -507,7 +507,7 @@ fn print_rest<R: Runtime<A = Global, File = File>>(
     if !desk.last_note.is_empty() {
         let _ = eprintln!(rt; "{}", desk.last_note);
     }
-    Status::Done
+    true
 }
 
 /// Tells why the operator's desk failed: a file isn't as it was, or can't be written, or a line has a letter that the
@@ -582,7 +582,10 @@ fn tell_broken<'a, R: Runtime<A = Global, File = File>>(
     saving: &SavingFolder<'_, R, Progress<'a, R>>,
     refusal: &OperateRefusal,
 ) -> Status {
-    if let (OperateRefusal::Broke(Broken::Journal), Some(_)) = (refusal, desk.manner.window) {
+    if let (OperateRefusal::Broke(Broken::Journal | Broken::Memory), Some(_)) = (
+        refusal,
+        desk.manner.window,
+    ) {
         leave_drawing(rt);
     }
     match refusal {
@@ -677,10 +680,10 @@ fn end_unsaved<R: Runtime<A = Global, File = File>>(
     rows: &[u8],
     ended: &Ended,
 ) -> Status {
-    match print_rest(rt, audience, desk, rows) {
-        Status::Done => tell_unsaved_end(rt, audience, open, journal, ended),
-        status => status,
+    if !print_rest(rt, audience, desk, rows) {
+        return tell_stopped(rt, audience, open.names, "-");
     }
+    tell_unsaved_end(rt, audience, open, journal, ended)
 }
 
 /// Ends a conversation that was rehearsed: what a run would have saved is told before how it ended.
@@ -692,13 +695,11 @@ fn end_rehearsed<R: Runtime<A = Global, File = File>>(
     desk: &OperatorDesk<'_, R>,
     told: &Rehearsal,
 ) -> Status {
-    match print_rest(rt, audience, desk, told.rows.as_slice()) {
-        Status::Done => {
-            let _ = eprint!(rt; "{told}");
-            tell_unsaved_end(rt, audience, open, journal, &told.ended)
-        }
-        status => status,
+    if !print_rest(rt, audience, desk, told.rows.as_slice()) {
+        return tell_stopped(rt, audience, open.names, "-");
     }
+    let _ = eprint!(rt; "{told}");
+    tell_unsaved_end(rt, audience, open, journal, &told.ended)
 }
 
 /// Tells a person where what was typed stands when the save itself is refused, and by which words it goes on. Behind
@@ -735,20 +736,21 @@ fn end_saved<'a, R: Runtime<A = Global, File = File>>(
         return status;
     }
     let committed = saving.commit();
-    let printed = print_rest(rt, audience, desk, rows);
+    let printed = if print_rest(rt, audience, desk, rows) {
+        Status::Done
+    } else {
+        refuse(rt, Refusal::Disk { name: "-" })
+    };
     if let Err(unsaved) = committed {
         let status = tell_unsaved(rt, audience, saving, unsaved, backup_of(open.talk));
         advise_unsaved(rt, audience, open, unsaved);
-        return status;
-    }
-    if printed != Status::Done {
-        return printed;
+        return first_failed(printed, status);
     }
     let _ = eprintln!(rt; "{ended}");
     if let (true, Some(hint)) = (audience.person, of_end(&ended.how, true)) {
         let _ = eprintln!(rt; "  {hint}.");
     }
-    ended.status()
+    first_failed(printed, ended.status())
 }
 
 /// Ends a conversation whose run came to its end.

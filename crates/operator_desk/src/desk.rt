@@ -96,17 +96,6 @@ impl<R: Runtime<A = Global, File = File>> OperatorDesk<'_, R> {
         &sent[self.shown.min(sent.len())..]
     }
 
-    /// Prints rows on standard output, where that is another place than the screen's.
-    fn print_sent(&mut self, alloc: Global, seen: &Scene<'_>) -> Result<(), OperatorFailed>
-        ensures untold { self.new.answers ≡ self.old.answers }
-    {
-        if !self.manner.one_terminal {
-            self.print_rows(alloc, self.unshown(seen))?;
-        }
-        self.shown = seen.screen.sent().len();
-        Ok(())
-    }
-
     /// Prints rows on standard output: as they stand, or as a terminal may be sent them.
     pub fn print_rows(&self, alloc: Global, rows: &[u8]) -> Result<(), OperatorFailed> {
         let printed = if self.manner.rows {
@@ -203,6 +192,12 @@ impl<R: Runtime<A = Global, File = File>> OperatorDesk<'_, R> {
         }
     }
 
+    /// Goes below the drawing, where a failure is told.
+    fn below(&self) -> OperatorFailed {
+        let _ = self.leave(self.rt.alloc());
+        OperatorFailed
+    }
+
     /// Shows the rows that left the screen, where they go to the terminal on which it is listed.
     fn list_sent(&self, alloc: Global, seen: &Scene<'_>) -> Result<(), OperatorFailed> {
         if !self.manner.one_terminal {
@@ -250,15 +245,20 @@ impl<R: Runtime<A = Global, File = File>> OperatorDesk<'_, R> {
         }
     }
 
-    /// Shows the run as it waits.
+    /// Shows the run as it waits: the rows that left the screen, then what is drawn or listed, and what waits last, so
+    /// that who reads both finds the rows before the prompt.
     fn show_all(&mut self, alloc: Global, seen: &Scene<'_>) -> Result<(), OperatorFailed>
         ensures untold { self.new.answers ≡ self.old.answers }
     {
+        if !self.manner.one_terminal && self.print_rows(alloc, self.unshown(seen)).is_err() {
+            return Err(self.below());
+        }
         match self.manner.window {
             Some(window) => self.draw(alloc, window, seen)?,
             None => self.list(alloc, seen)?,
         }
-        self.print_sent(alloc, seen)
+        self.shown = seen.screen.sent().len();
+        Ok(())
     }
 
     /// What a line is, that was typed in UTF-8, in the page; none where the page lacks a letter of it.
@@ -284,8 +284,7 @@ impl<R: Runtime<A = Global, File = File>> OperatorDesk<'_, R> {
             return Ok(Some(Answer::End));
         }
         if self.ended {
-            let _ = self.leave(self.rt.alloc());
-            return Err(OperatorFailed);
+            return Err(self.below());
         }
         self.ended = true;
         self.note = AT_END;
@@ -299,7 +298,7 @@ impl<R: Runtime<A = Global, File = File>> OperatorDesk<'_, R> {
     {
         if !self.manner.typing {
             self.lacks_letter = true;
-            return Err(OperatorFailed);
+            return Err(self.below());
         }
         self.note = "the code page lacks a letter of this line; type it again";
         Ok(None)
@@ -332,7 +331,7 @@ impl<R: Runtime<A = Global, File = File>> OperatorDesk<'_, R> {
             Ok(Typed::Line(line)) => self.of_line(alloc, line, room),
             Ok(Typed::Long) => Ok(Some(self.refuse_line())),
             Ok(Typed::End) => self.at_end(),
-            Err(_) => Err(OperatorFailed),
+            Err(_) => Err(self.below()),
         }
     }
 
@@ -383,7 +382,10 @@ impl<R: Runtime<A = Global, File = File>> OperatorDesk<'_, R> {
             Answer::End => &[],
         };
         self.note = bad_answer(self.gets.kind, line).unwrap_or("");
-        self.take(alloc, line, seen)
+        match self.take(alloc, line, seen) {
+            Ok(()) => Ok(()),
+            Err(_) => Err(self.below()),
+        }
     }
 
     /// Lays a line that is taken now over its field, and writes the screen before it.
@@ -481,6 +483,9 @@ impl<R: Runtime<A = Global, File = File>> OperatorDesk<'_, R> {
         if self.gets.wait(alloc, seen).is_err() {
             return Err(OperatorFailed);
         }
+        if self.cut.is_empty() {
+            self.note = bad_answer(self.gets.kind, line).unwrap_or("");
+        }
         self.take(alloc, line, seen)
     }
 
@@ -553,7 +558,10 @@ impl<R: Runtime<A = Global, File = File>> Operator for OperatorDesk<'_, R> {
     }
 
     fn miss(&mut self, seen: &Scene<'_>) -> Result<(), OperatorFailed> {
-        self.write_screen(self.rt.alloc(), seen.screen.rows(), Some(&[]))
+        match self.write_screen(self.rt.alloc(), seen.screen.rows(), Some(&[])) {
+            Ok(()) => Ok(()),
+            Err(_) => Err(self.below()),
+        }
     }
 
     fn end(&mut self, seen: &Scene<'_>) -> Result<(), OperatorFailed> {
