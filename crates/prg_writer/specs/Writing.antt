@@ -25,7 +25,8 @@ use Rattle.prg_writer.specs.declared.writer.WrittenMark.{WrittenMark}
 -- the commands of the procedure of this number, or those before the first PROCEDURE; none where it isn't there
 abbrev pub commands_in_file : Option ℕ → Program → List Command
 commands_in_file None program = program.main.items
-commands_in_file (Some number) program = option_map_or (λ p. p.body.items) (slice_get program.procedures.items number) []
+commands_in_file (Some number) program =
+    option_map_or (λ p. p.body.items) (slice_get program.procedures.items number) []
 
 abbrev pub commands_in : List Program → Target → List Command
 commands_in programs target = option_map_or (commands_in_file target.procedure) (slice_get programs target.file) []

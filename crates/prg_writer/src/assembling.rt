@@ -82,13 +82,8 @@ fn lay_copies(
     Ok(())
 }
 
-/// Nothing yet of a code with so many slots, with room for the copies and the filters.
-fn begun(
-    alloc: Global,
-    copies: &[ProcedureCopy],
-    filters: &[FilterBlock],
-    slots: usize,
-) -> Result<LaidOut, AllocError> {
+/// How many instructions and maps the copies have together.
+fn room_of_copies(copies: &[ProcedureCopy]) -> (usize, usize) {
     let mut instrs = 0usize;
     let mut maps = 0usize;
     for copy in copies {
@@ -96,10 +91,28 @@ fn begun(
         instrs = instrs.saturating_add(places);
         maps = maps.saturating_add(met);
     }
+    (instrs, maps)
+}
+
+/// How many instructions the filters have together.
+fn room_of_filters(filters: &[FilterBlock]) -> usize {
+    let mut instrs = 0usize;
     for filter in filters {
         instrs = instrs.saturating_add(filter.block.len());
     }
-    LaidOut::new(alloc, slots, instrs, maps)
+    instrs
+}
+
+/// Nothing yet of a code with so many slots, with room for the copies and the filters.
+fn begun(
+    alloc: Global,
+    copies: &[ProcedureCopy],
+    filters: &[FilterBlock],
+    slots: usize,
+) -> Result<LaidOut, AllocError> {
+    let (instrs, maps) = room_of_copies(copies);
+    let all = instrs.saturating_add(room_of_filters(filters));
+    LaidOut::new(alloc, slots, all, maps)
 }
 
 /// Lays the filter's block behind what is laid out, and adds it.
