@@ -140,9 +140,9 @@ def replace(file, to):
             os.remove(new)
 
 
-def room_left():
-    """How many MB the disk has left for temporary files."""
-    return shutil.disk_usage(TEMPORARY).free >> 20
+def room_left(place=TEMPORARY):
+    """How many MB the disk of a place has left, else that of temporary files."""
+    return shutil.disk_usage(place).free >> 20
 
 
 def parts_of(crates, *kinds):
