@@ -5,6 +5,7 @@ import contextlib
 import ctypes
 import errno
 import fcntl
+import hashlib
 import os
 import re
 import shutil
@@ -119,6 +120,11 @@ def git(*words):
     return ""
 
 
+def read(file):
+    with open(file, encoding="utf-8") as it:
+        return it.read()
+
+
 def write(file, text):
     """Writes a file. A failure names it, also where the system doesn't."""
     try:
@@ -159,24 +165,40 @@ def state_of(parts):
     return "".join(sorted(ran.stdout.splitlines(True)))
 
 
-def stands(place, state):
-    """Whether a program stands in a place, built of its parts in this state."""
-    with contextlib.suppress(OSError), open(f"{place}/state", encoding="utf-8") as it:
-        return it.read() == state and os.path.exists(f"{place}/dbrun")
+def sum_of(parts):
+    """The sum of the names and bytes of these parts, which another owner, date or copy of theirs leaves. bin/dbrun asks the
+    same of sha256sum."""
+    words = ["tar", "-c", "--sort=name", "--mtime=@0", "--numeric-owner", "--owner=0", "--group=0", "--mode=0", *parts]
+    ran = subprocess.run(words, cwd=TOP, stdin=subprocess.DEVNULL, capture_output=True, check=False)
+    return f"{hashlib.sha256(ran.stdout).hexdigest()}  -\n"
+
+
+def stands(place, parts, state):
+    """Whether a program stands in a place, built of these parts in this state, or of the same names and bytes in another
+    one; then this state is noted."""
+    with contextlib.suppress(OSError):
+        if read(f"{place}/state") != state and read(f"{place}/sum") == sum_of(parts):
+            write(f"{place}/state.{os.getpid()}", state)
+            os.replace(f"{place}/state.{os.getpid()}", f"{place}/state")
+        return read(f"{place}/state") == state and os.path.exists(f"{place}/dbrun")
     return False
 
 
 def place_program(program, place, parts, state):
-    """Puts a program where it stays, built of these parts in this state. It stands there once its state does."""
+    """Puts a program where it stays, built of these parts in this state. It stands there once its state does. (Sources that
+    have changed since the build began have no sum.)"""
     version = subprocess.run(["rt", "version"], capture_output=True, text=True, check=False).stdout.strip()
     changed = " with changes" if git("status", "--porcelain", "--", "crates", "crates.txt") else ""
     commit = f"commit {git('rev-parse', '--short', 'HEAD') or 'unknown'}{changed}"
     version = f"{KINDS[os.path.basename(place)]}, {commit}, {version}\n"
+    sources, total = "\n".join([*parts, ""]), sum_of(parts)
+    if state_of(parts) != state:
+        total = ""
     with contextlib.suppress(FileNotFoundError):
         os.remove(f"{place}/state")
     os.chmod(program, 0o755)
     replace(program, f"{place}/dbrun")
-    for name, text in (("sources", "\n".join([*parts, ""])), ("version", version), ("state", state)):
+    for name, text in (("sources", sources), ("version", version), ("sum", total), ("state", state)):
         write(f"{program}.{name}", text)
         replace(f"{program}.{name}", f"{place}/{name}")
 
