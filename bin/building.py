@@ -166,16 +166,16 @@ def state_of(parts):
 
 
 def sum_of(parts):
-    """The sum of the names and bytes of these parts, which another owner, date or copy of theirs leaves. bin/dbrun asks the
-    same of sha256sum."""
+    """The sum of the names and bytes of these parts, which another owner, date or copy of theirs leaves. bin/dbrun asks
+    the same of sha256sum."""
     words = ["tar", "-c", "--sort=name", "--mtime=@0", "--numeric-owner", "--owner=0", "--group=0", "--mode=0", *parts]
     ran = subprocess.run(words, cwd=TOP, stdin=subprocess.DEVNULL, capture_output=True, check=False)
     return f"{hashlib.sha256(ran.stdout).hexdigest()}  -\n"
 
 
 def stands(place, parts, state):
-    """Whether a program stands in a place, built of these parts in this state, or of the same names and bytes in another
-    one; then this state is noted."""
+    """Whether a program stands in a place, built of these parts in this state, or of the same names and bytes in
+    another one; then this state is noted."""
     with contextlib.suppress(OSError):
         if read(f"{place}/state") != state and read(f"{place}/sum") == sum_of(parts):
             write(f"{place}/state.{os.getpid()}", state)
@@ -185,8 +185,8 @@ def stands(place, parts, state):
 
 
 def place_program(program, place, parts, state):
-    """Puts a program where it stays, built of these parts in this state. It stands there once its state does. (Sources that
-    have changed since the build began have no sum.)"""
+    """Puts a program where it stays, built of these parts in this state. It stands there once its state does. (Sources
+    that have changed since the build began have no sum.)"""
     version = subprocess.run(["rt", "version"], capture_output=True, text=True, check=False).stdout.strip()
     changed = " with changes" if git("status", "--porcelain", "--", "crates", "crates.txt") else ""
     commit = f"commit {git('rev-parse', '--short', 'HEAD') or 'unknown'}{changed}"
