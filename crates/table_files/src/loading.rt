@@ -1,6 +1,6 @@
 //! A store of declared tables and indexes.
 
-ghost use Rattle.std.specs.Prelude.{◌≡◌, ◌≤◌, true, IfOk, IfErr};
+ghost use Rattle.std.specs.Prelude.{◌≡◌, ◌≤◌, true, min, IfOk, IfErr};
 ghost use Rattle.file_access.specs.Holding.{Rose, SameFiles};
 ghost use Rattle.shape.specs.Whole.{is_shape};
 ghost use Rattle.work_area.specs.Shapes.{StoreHasShape};
@@ -14,10 +14,10 @@ use file_access::Files;
 use ndx_tree::NdxTree;
 use shape::Shape;
 use std::alloc::Global;
-use work_area::Store;
+use work_area::{MOST_RECORDS, Store};
 
 /// The store of the tables and indexes that a shape declares, as their files hold them, all work areas closed. No table
-/// may have more records than `limit`.
+/// may have more records than the smaller of `limit` and 1,000,000.
 ///
 /// An index is stale whose file is absent, above 64 MiB, no index file, one of another key, or one of other pairs than
 /// those of its table's rows.
@@ -32,15 +32,14 @@ pub fn load<F: Files>(
     limit: u32,
 ) -> Result<Store<NdxTree>, FilesRefusal>
     requires legal { is_shape shape.now ≡ true }
-    requires few { limit ≤ 1000000 }
-    ensures loaded { IfOk result (Loaded (F.holds files.old) shape.now limit) }
+    ensures loaded { IfOk result (Loaded (F.holds files.old) shape.now (min limit 1000000)) }
     ensures shape { IfOk result (StoreHasShape shape.now) }
-    ensures refused { IfErr result (LoadRefused (F.holds files.old) shape.now limit
+    ensures refused { IfErr result (LoadRefused (F.holds files.old) shape.now (min limit 1000000)
         (Rose (F.failed files.old) (F.failed files.new))) }
     ensures kept { SameFiles (F.holds files.old) (F.holds files.new) }
     ensures counted { F.failed files.old ≤ F.failed files.new }
 {
-    let tables = load_tables(alloc, files, shape, limit)?;
+    let tables = load_tables(alloc, files, shape, limit.min(MOST_RECORDS))?;
     let lists = load_lists(alloc, files, shape)?;
     let store = Store::new(alloc, shape, tables, lists, limit)?;
     Ok(store)

@@ -12,5 +12,5 @@ mod uses;
 
 pub use open_table::{AppendError, Refused, Row};
 pub use row_moves::Spent;
-pub use store::{Moved, Store};
+pub use store::{MOST_RECORDS, Moved, Store};
 pub use uses::Use;

@@ -1,8 +1,8 @@
 //! The ten work areas.
 
 ghost use Rattle.std.specs.Prelude.{◌≡◌, ℕ, ◌+◌, ◌-◌, ◌<◌, ◌≤◌, ◌↔◌, Bool, true, false, Some, [], ◌∷◌, length};
-ghost use Rattle.std.specs.Prelude.{slice_get, is_some, is_none, unwrap_or, IfSome, IsSome, IsSomeAnd, MatchOption};
-ghost use Rattle.std.specs.Prelude.{None, OnOk, OnErr, IfOk, Err, map, MatchResult};
+ghost use Rattle.std.specs.Prelude.{slice_get, is_some, is_none, min, unwrap_or, IfSome, IsSome, IsSomeAnd};
+ghost use Rattle.std.specs.Prelude.{MatchOption, None, OnOk, OnErr, IfOk, Err, map, MatchResult};
 ghost use Rattle.std.specs.Fn.{FnReturnsAt};
 ghost use Rattle.std.specs.List.{list_all};
 ghost use Rattle.dbf_file.specs.Tables.{letter_at};
@@ -36,6 +36,9 @@ use shape::laws::legal_shapes_have_keys;
 use std::alloc::{AllocError, Global};
 use std::marker::Model;
 use xvalue::Value;
+
+/// The most records that any table may have.
+pub const MOST_RECORDS: u32 = 1_000_000;
 
 /// What a move that was made cost: one, and what it met.
 pub type Moved = u64;
@@ -72,8 +75,8 @@ fn holds_table(held: &Option<Use>, table: u16) -> bool
 impl<K: KeyList> Store<K> {
     /// The tables of a shape, all areas closed, area 1 selected. `keys` has for each index of the shape, in their
     /// order, a list of its key, or none; an index is stale unless its list has just the pairs of its table's rows.
-    /// Each table has at most `limit` records, and may have no more later, at most 1,000,000. Where memory is missing,
-    /// what was handed in is given up.
+    /// Each table has at most as many records as the smaller of `limit` and 1,000,000, and may have no more later.
+    /// Where memory is missing, what was handed in is given up.
     pub fn new(
         alloc: Global,
         shape: &Shape,
@@ -82,10 +85,10 @@ impl<K: KeyList> Store<K> {
         limit: u32,
     ) -> Result<Self, AllocError>
         requires legal { is_shape shape.now ≡ true }
-        requires few { limit ≤ 1000000 }
-        requires tables { AreOfShape shape.now limit tables.items }
+        requires tables { AreOfShape shape.now (min limit 1000000) tables.items }
         requires lists { AreLists K.form shape.now keys.items }
-        ensures made { IfOk result (IsNewStore (lists_just K.pairs keys.items) shape.now tables.items limit) }
+        ensures made { IfOk result
+            (IsNewStore (lists_just K.pairs keys.items) shape.now tables.items (min limit 1000000)) }
         ensures shape { IfOk result (StoreHasShape shape.now) }
     {
         legal_shapes_have_keys();
@@ -95,7 +98,7 @@ impl<K: KeyList> Store<K> {
             tables: made,
             areas: [None; 10],
             selected: 1,
-            limit,
+            limit: limit.min(MOST_RECORDS),
         })
     }
 

@@ -329,6 +329,22 @@ fn lists_handed_in(rt: HostRuntime) -> Result<(), Fail> {
 }
 
 #[test]
+fn the_smaller_limit_holds(rt: HostRuntime) -> Result<(), Fail> {
+    let shape = shape_of(rt.alloc(), 1, 0, "-")?;
+    for (handed, held) in [
+        (0, 0),
+        (999_999, 999_999),
+        (1_000_000, 1_000_000),
+        (1_000_001, 1_000_000),
+        (u32::MAX, 1_000_000),
+    ] {
+        let store = plain_store::<SortedKeys>(rt.alloc(), &shape, 3, "", handed)?;
+        assert!(rt; store.map(|store| store.limit()) == Some(held));
+    }
+    Ok(())
+}
+
+#[test]
 fn what_a_store_tells(rt: HostRuntime) -> Result<(), Fail> {
     let shape = shape_of(rt.alloc(), 2, 3, "-")?;
     let store = plain_store::<SortedKeys>(rt.alloc(), &shape, 3, "X,", 7)?;

@@ -11,8 +11,8 @@ use dbf_file::{Field, Letter, Table, are_fields};
 use key_lists::KeyList;
 use shape::{IndexShape, Items, KeyPart, KeyParts, Name, Shape, TableShape};
 use std::alloc::{AllocError, Global};
-use work_area::Store;
 use work_area::handed::{are_lists, are_of_shape};
+use work_area::{MOST_RECORDS, Store};
 use xvalue::{Text, Value};
 
 const NAMES: [&[u8]; 12] = [
@@ -148,10 +148,10 @@ pub(crate) fn store_of<K: KeyList>(
     keys: Vec<Option<K>>,
     limit: u32,
 ) -> Result<Option<Store<K>>, AllocError> {
-    if limit > 1_000_000 || !shape.is_legal() {
+    if !shape.is_legal() || !are_lists(shape, &keys) {
         return Ok(None);
     }
-    if !are_of_shape(shape, &tables, limit) || !are_lists(shape, &keys) {
+    if !are_of_shape(shape, &tables, limit.min(MOST_RECORDS)) {
         return Ok(None);
     }
     Ok(Some(Store::new(alloc, shape, tables, keys, limit)?))
