@@ -9,7 +9,7 @@ use Rattle.run_values.specs.Standing.{IsByKind}
 use Rattle.run_steps.specs.declared.ending.Outcome.{Outcome}
 use Rattle.run_steps.specs.Tables.{IsDecoded}
 use Rattle.run_steps.specs.World.{World, with_lines}
-use Rattle.run_steps.specs.Run.{step_of, after, spent, IsNoFault, IsFault, Ran, StandsForWorld, EndsRun}
+use Rattle.run_steps.specs.Run.{step_of, after, spent, steps_made, IsNoFault, IsFault, Ran, StandsForWorld, EndsRun}
 use Rattle.run_steps.specs.Opening.{opening}
 use Rattle.run_steps.specs.Safe.{IsSafe}
 use Rattle.run_steps.specs.Shapes.{StoreFits}
@@ -61,6 +61,7 @@ pub record Laws (code : Code) : Type 0 where
   pub steps : (w : World) → IsSafe code w → (n : ℕ) (v : World) → after code w n ≡ Some v → IsNoFault (step_of code v)
   pub end : (w : World) (budget : ℕ) (outcome : Outcome) (v : World) → IsSafe code w → Ran code w budget outcome v → ¬ IsFault outcome.end
   pub few : (w : World) (n : ℕ) (v : World) → after code w n ≡ Some v → n ≤ spent code w n
+  pub made : (w : World) (budget : ℕ) (outcome : Outcome) (v : World) (ran : Ran code w budget outcome v) → steps_made ran.count outcome.end ≤ budget
 
 unfoldable pub headline : (code : Code) → Laws code → (from : World) (budget : ℕ) (outcome : Outcome) (b : BankState)
     → IsFitting code from → OpenIndexesList b.env.store → IsDecoded code b.decoded
@@ -79,7 +80,7 @@ headline code laws from budget outcome b fit lists decoded ends =
       within_the_stack = λ n v at. laws.stack v (laws.fits from fit n v at);
       few_calls = λ n v at. laws.returns v (laws.fits from fit n v at);
       within_the_budget = ends.ran.within;
-      few_steps = (let few = laws.few from ends.ran.count ends.last ends.ran.reached in omega (arith, few, ends.ran.steps, ends.ran.within));
+      few_steps = laws.made from budget outcome ends.last ends.ran;
       keeps_tables_and_indexes = λ shape h. subst (λ s. StoreHasShape shape s) (sym same.store) (kept shape code from ends.ran.count ends.last (laws.keeps shape) ends.ran.reached h);
       lists_keys = lists;
       as_declared = subst (λ s. StoreFits code.declared s) (sym same.store) there.shape.store;

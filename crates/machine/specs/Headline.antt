@@ -6,7 +6,7 @@ use Rattle.work_area.specs.Shapes.{StoreHasShape}
 use Rattle.code_items.specs.declared.code.Code.{Code}
 use Rattle.run_steps.specs.declared.ending.Outcome.{Outcome}
 use Rattle.run_steps.specs.World.{World}
-use Rattle.run_steps.specs.Run.{after, step_of, IsNoFault, IsFault, Ran}
+use Rattle.run_steps.specs.Run.{after, step_of, steps_made, IsNoFault, IsFault, Ran}
 use Rattle.run_steps.specs.Shapes.{StoreFits}
 use Rattle.fit_laws.specs.Fits.{IsFitting}
 use Rattle.machine.specs.Twins.{BankState, AgreesWith, Twin}
@@ -29,9 +29,9 @@ pub record Headline (code : Code) (from : World) (budget : ℕ) (outcome : Outco
   pub within_the_stack : (n : ℕ) (v : World) → after code from n ≡ Some v
       → length v.values.stack ≤ code.declared.stack_bound
   pub few_calls : (n : ℕ) (v : World) → after code from n ≡ Some v → length v.returns ≤ 20
-  -- what the steps cost together, and so how many they are
+  -- what the steps cost together, and so how many they are, the closing one counted
   pub within_the_budget : outcome.steps ≤ budget
-  pub few_steps : takes_its_steps.count ≤ budget
+  pub few_steps : steps_made takes_its_steps.count outcome.end ≤ budget
   -- tables keep their fields, and the declared indexes their keys, whatever shape they have
   pub keeps_tables_and_indexes : (shape : Shape) → StoreHasShape shape from.env.store → StoreHasShape shape b.env.store
   -- every open index lists its table's keys in order, and `Banks::open_keys` lends its list. (This holds after each

@@ -16,7 +16,7 @@ use fit_laws::laws::{
     fitting_worlds_are_safe, fitting_worlds_keep_the_bounds, openings_fit, runs_keep_fitting,
 };
 use key_lists::KeyList;
-use run_laws::laws::{runs_cost_their_steps, safe_runs_meet_no_fault};
+use run_laws::laws::{runs_cost_their_steps, runs_make_few_steps, safe_runs_meet_no_fault};
 use run_steps::{Leg, Outcome, run as run_untested, run_to_line};
 use std::alloc::Global;
 use work_area::laws::{stores_keep_their_shape, tables_keep_their_kind};
@@ -35,6 +35,7 @@ fn go_on<K: KeyList>(alloc: Global, code: &Code, banks: &mut Banks<K>, budget: u
     stores_keep_their_shape();
     tables_keep_their_kind();
     runs_cost_their_steps();
+    runs_make_few_steps();
     safe_runs_meet_no_fault();
     let outcome = run_untested(alloc, code, &mut banks.decoded, &mut banks.machine, budget);
     banks.machine.store().open_indexes_list_keys();
@@ -114,6 +115,7 @@ fn go_to_line<K: KeyList>(
     stores_keep_their_shape();
     tables_keep_their_kind();
     runs_cost_their_steps();
+    runs_make_few_steps();
     safe_runs_meet_no_fault();
     let leg = run_to_line(
         alloc,

@@ -13,7 +13,7 @@ ghost use Rattle.run_steps.specs.Faults.{fault_of, IsClear};
 ghost use Rattle.run_steps.specs.Needs.{IsReadyFor};
 ghost use Rattle.run_steps.specs.Opening.{opening};
 ghost use Rattle.run_steps.specs.Pausing.{Came, with_more};
-ghost use Rattle.run_steps.specs.Run.{after, spent, step_of, Ran, IsFault, IsNoFault};
+ghost use Rattle.run_steps.specs.Run.{after, spent, step_of, steps_made, Ran, IsFault, IsNoFault};
 ghost use Rattle.run_steps.specs.declared.ending.End.TheVariants.{Spent};
 ghost use Rattle.run_steps.specs.declared.ending.Outcome.{Outcome as AnyOutcome};
 ghost use Rattle.run_steps.specs.Safe.{IsSafe, IsSafeHere};
@@ -87,6 +87,12 @@ pub fn new_stores_fit()
 /// Each step costs something, so a run takes no more steps than they cost.
 pub fn runs_cost_their_steps()
     ensures { (code : AnyCode) (w : World) (n : ℕ) (v : World) → after code w n ≡ Some v → n ≤ spent code w n }
+{}
+
+/// A run makes no more steps than its budget, the closing one counted.
+pub fn runs_make_few_steps()
+    ensures { (code : AnyCode) (w : World) (budget : ℕ) (outcome : AnyOutcome) (v : World)
+        → (ran : Ran code w budget outcome v) → steps_made ran.count outcome.end ≤ budget }
 {}
 
 /// A run in parts is one run: where a part was spent and the next one goes on from the world that it left, both are the

@@ -4,10 +4,10 @@ ghost use Rattle.std.specs.Prelude.{◌≡◌, ◌≤◌};
 ghost use Rattle.code_items.specs.Legal.{IsCode};
 ghost use Rattle.code_rules.specs.Rules.{Accepted};
 ghost use Rattle.fit_laws.specs.Fits.{IsFitting, LevelsFall, procedure_at};
-ghost use Rattle.run_steps.specs.Run.{Ran, IsFault};
+ghost use Rattle.run_steps.specs.Run.{Ran, IsFault, steps_made};
 ghost use Rattle.run_steps.specs.Shapes.{HasShape};
 ghost use Rattle.tagged_machine.specs.Seen.{world_of};
-ghost use Rattle.work_area.specs.Areas.{AreApart};
+ghost use Rattle.work_area.specs.Areas.{AreApart, OpenIndexesList};
 
 use crate::faults::fault;
 use crate::scratch::TestScratch;
@@ -19,7 +19,7 @@ use fit_laws::laws::{fitting_worlds_are_safe, levels_fall};
 use key_lists::KeyList;
 use legal_code::LegalCode;
 use run_laws::laws::{
-    faultless_instructions_are_clear, faultless_worlds_go_on, runs_cost_their_steps,
+    faultless_instructions_are_clear, faultless_worlds_go_on, runs_make_few_steps,
     safe_runs_meet_no_fault, steps_keep_the_shape,
 };
 use run_steps::running::finishes;
@@ -90,8 +90,8 @@ fn run_on<K: KeyList>(
 /// Runs a code, accepted or not, until it ends, within the budget: the run takes the steps that the definition gives,
 /// costs what they cost, and the world is that before the step at which it ended. A fault of the next step is told
 /// before anything else, at any budget. Accepted code meets none from a world that fits what is known at its place, and
-/// where it ends levels fall from call to call. The world keeps the code's shape, so that a run that ended may be taken
-/// up again.
+/// where it ends levels fall from call to call. Every open index lists its table's keys in order then. The world keeps
+/// the code's shape, so that a run that ended may be taken up again.
 pub fn run_checked<K: KeyList>(
     alloc: Global,
     code: &LegalCode,
@@ -101,22 +101,25 @@ pub fn run_checked<K: KeyList>(
     requires shape { HasShape code.now world.old }
     requires apart { AreApart world.old.env.store.areas }
     ensures ran { Ran code.now world.old budget result world.new }
-    ensures few { (ran : Ran code.now world.old budget result world.new) → ran.count ≤ budget }
+    ensures few { (ran : Ran code.now world.old budget result world.new) → steps_made ran.count result.end ≤ budget }
     ensures safe { Accepted code.now → IsFitting code.now world.old → ¬ IsFault result.end }
     ensures levels { Accepted code.now → IsFitting code.now world.old
         → LevelsFall code.now (procedure_at code.now world.new.place) world.new.returns }
     ensures shape { HasShape code.now world.new }
     ensures apart { AreApart world.new.env.store.areas }
+    ensures lists { OpenIndexesList world.new.env.store }
 {
-    runs_cost_their_steps();
+    runs_make_few_steps();
     safe_runs_meet_no_fault();
     fitting_worlds_are_safe();
     levels_fall();
-    run_on(
+    let outcome = run_on(
         alloc,
         code.code(),
         &mut world.machine,
         &mut world.scratch,
         budget,
-    )
+    );
+    world.machine.store().open_indexes_list_keys();
+    outcome
 }

@@ -37,5 +37,6 @@ returns g c = λ w t.
       steps = c.safe_runs_meet_no_fault.ensures.steps code;
       end = c.safe_runs_meet_no_fault.ensures.end code;
       few = c.runs_cost_their_steps.ensures code;
+      made = c.runs_make_few_steps.ensures code;
       keeps = λ shape. record { stores = c.stores_keep_their_shape.ensures shape; tables = c.tables_keep_their_kind.ensures };
     }) w c.args.budget c.args.marks.now c.run_to_line-leg.result (banks_of n.place n.returns n.values n.env c.run_to_line-leg.new.decoded) t.fits (subst OpenIndexesList c.store.ensures c.open_indexes_list_keys.ensures) c.run_to_line-leg.ensures.decoded ends

@@ -12,7 +12,7 @@ returns-clause-safe g c = λ accepted fits.
     let m = c.world.inside.machine in
     let old = world_of m.place m.returns m.values m.env in
     let there = subst (λ (code : Code). IsFitting code old) lent (subst (IsFitting c.args.code.now) (sym c.world.view_is) fits) in
-    c.safe_runs_meet_no_fault.ensures.end code old c.args.budget c.run_on.result _ (c.fitting_worlds_are_safe.ensures code c.code.ensures.legal (subst Accepted lent accepted) old there) c.run_on.ensures.ran
+    c.safe_runs_meet_no_fault.ensures.end code old c.args.budget c.run_on-outcome.result _ (c.fitting_worlds_are_safe.ensures code c.code.ensures.legal (subst Accepted lent accepted) old there) c.run_on-outcome.ensures.ran
 
 pub returns-clause-levels : goal.returns-clause-levels
 returns-clause-levels g c = λ accepted fits.
@@ -21,8 +21,11 @@ returns-clause-levels g c = λ accepted fits.
     let m = c.world.inside.machine in
     let old = world_of m.place m.returns m.values m.env in
     let there = subst (λ (code : Code). IsFitting code old) lent (subst (IsFitting c.args.code.now) (sym c.world.view_is) fits) in
-    let n = c.run_on.new.machine in
+    let n = c.run_on-outcome.new.machine in
     let new = world_of n.place n.returns n.values n.env in
-    let ran = c.run_on.ensures.ran in
+    let ran = c.run_on-outcome.ensures.ran in
     subst (λ (code : Code). LevelsFall code (procedure_at code new.place) new.returns) c.code.ensures.same
     (c.levels_fall.ensures code c.code.ensures.legal (subst Accepted lent accepted) old there ran.count new ran.reached)
+
+pub returns-clause-few : goal.returns-clause-few
+returns-clause-few g c = λ ran. c.runs_make_few_steps.ensures _ _ _ _ _ ran
