@@ -1,3 +1,3 @@
-mod Names
+mod Making
 mod Rows
 mod Sizes

@@ -1,23 +1,26 @@
 // The words of `operate`.
 #![tactic(auto)]
 
-ghost use Rattle.std.specs.Prelude.{◌≡◌, ◌↔◌, ℕ, IfOk, IfErr, Some, codes};
+ghost use Rattle.std.specs.Prelude.{◌≡◌, ◌++◌, ◌↔◌, ℕ, List, IfOk, IfErr, Some, codes};
 ghost use Rattle.clap.specs.Matches.{found_of};
-ghost use Rattle.clap.specs.Walk.{rows_of};
-ghost use Rattle.clap.specs.declared.builder.command.Command.TheViews.{out-Command as fields_of};
+ghost use Rattle.clap.specs.Simple.{app_of};
+ghost use Rattle.clap.specs.Walk.{rows_of, rule_of};
 ghost use Rattle.run_commands.specs.Days.{IsDayNamed};
 ghost use Rattle.command_words.specs.Asked.{lent, IsNamedIf, IsTalk, IsTalkIf, IsShown, IsOperate};
-ghost use Rattle.command_words.specs.Asked.{MayRefuse};
+ghost use Rattle.command_words.specs.Refused.{NoDay, NoWindow, NewTalkRefused, TalkRefused, OperateRefused};
+ghost use Rattle.command_words.specs.Refused.{names_terms, says_outcome, asks_anew};
+ghost use Rattle.command_words.specs.CommandLine.{taking, alone, valued_word, journal_word};
+ghost use Rattle.command_words.specs.CommandLine.{run_words, save_words, talk_words};
 ghost use Rattle.command_words.specs.Said.{word_given};
 ghost use Rattle.command_words.specs.declared.operate_words.WindowWords.{WindowWords as Size};
 ghost use Rattle.command_words.specs.Windows.{IsNumber, IsSize};
 
 use crate::words::{
     BACKUP, FILE, NEW_OWNER, NO_LOCK, ONLY_FINISHED, Outcomes, REHEARSE, RunHelp, WordsFault, flag,
-    is_set, limit_of, number_if, page, page_of, run_outcomes, runner, saver, with_word, word_if,
-    word_of,
+    is_set, limit_of, number_if, page, page_of, run_outcomes, runner, saver, valued, with_word,
+    word_if, word_of,
 };
-use clap::{Arg, ArgAction, ArgMatches, Command};
+use clap::{Arg, ArgMatches, Command};
 use code_pages::CodePage;
 use run_commands::{RecordLimit, RunDay};
 use std::alloc::{AllocError, Global};
@@ -83,24 +86,50 @@ const HELP: RunHelp<'static> = RunHelp {
 };
 
 /// The word that names the journal.
-fn journal<'a>(alloc: Global) -> Arg<'a> {
-    Arg::new(alloc, JOURNAL)
-        .long(JOURNAL)
-        .value_name("FILE")
-        .required(true)
-        .help("The file that keeps each line before the program takes it")
+fn journal<'a>(alloc: Global) -> Arg<'a>
+    ensures { rule_of result ≡ journal_word }
+{
+    valued(
+        alloc,
+        JOURNAL,
+        "FILE",
+        "The file that keeps each line before the program takes it",
+    )
+    .required(true)
 }
 
-fn window<'a>(alloc: Global) -> Arg<'a> {
-    Arg::new(alloc, WINDOW)
-        .long(WINDOW)
-        .value_name("ROWSxCOLUMNS")
-        .help("The size of the terminal's window")
+/// The words of conversations alone, behind those of the run.
+fn talker<'a>(alloc: Global, command: Command<'a>) -> Result<Command<'a>, AllocError>
+    ensures { (name : List ℕ) → app_of command.entry ≡ alone (taking name (run_words ++ save_words))
+        → IfOk result (λ c. app_of c ≡ alone (taking name (run_words ++ save_words ++ talk_words))) }
+{
+    let again = flag(alloc, CONTINUE, "Goes on behind the lines of the journal");
+    let window = valued(
+        alloc,
+        WINDOW,
+        "ROWSxCOLUMNS",
+        "The size of the terminal's window",
+    );
+    let plain = flag(
+        alloc,
+        PLAIN,
+        "Lists the rows that changed, and draws nothing",
+    );
+    let command = with_word(command, journal(alloc))?;
+    let command = with_word(command, again)?;
+    let command = with_word(
+        command,
+        page(alloc, "The code page of the tables' texts, cp437 or cp850"),
+    )?;
+    let command = with_word(command, window)?;
+    let command = with_word(command, plain)?;
+    with_word(command, screens(alloc))
 }
 
 /// The words of `operate`.
 pub(crate) fn operator<'a>(alloc: Global) -> Result<Command<'a>, AllocError>
-    ensures { IfOk result (λ c. (fields_of c).name.now ≡ codes "operate") }
+    ensures { IfOk result (λ c. app_of c
+        ≡ alone (taking (codes "operate") (run_words ++ save_words ++ talk_words))) }
 {
     let run = runner(
         alloc,
@@ -109,30 +138,19 @@ pub(crate) fn operator<'a>(alloc: Global) -> Result<Command<'a>, AllocError>
         "Example, behind that of compile: dbrun operate DAY.XBC --journal MONDAY.TXT",
         &HELP,
     )?;
-    let again = flag(alloc, CONTINUE, "Goes on behind the lines of the journal");
-    let plain = flag(
-        alloc,
-        PLAIN,
-        "Lists the rows that changed, and draws nothing",
-    );
-    let command = with_word(saver(alloc, run)?, journal(alloc))?;
-    let command = with_word(command, again)?;
-    let command = with_word(
-        command,
-        page(alloc, "The code page of the tables' texts, cp437 or cp850"),
-    )?;
-    let command = with_word(command, window(alloc))?;
-    let command = with_word(command, plain)?;
-    with_word(command, screens(alloc))
+    talker(alloc, saver(alloc, run)?)
 }
 
 /// The word that names a file for screens.
-pub(crate) fn screens<'a>(alloc: Global) -> Arg<'a> {
-    Arg::new(alloc, SCREENS)
-        .long(SCREENS)
-        .value_name("FILE")
-        .action(ArgAction::Set)
-        .help("Writes the screen before each line, and the last one, to this file")
+pub(crate) fn screens<'a>(alloc: Global) -> Arg<'a>
+    ensures { rule_of result ≡ valued_word (codes "screens") }
+{
+    valued(
+        alloc,
+        SCREENS,
+        "FILE",
+        "Writes the screen before each line, and the last one, to this file",
+    )
 }
 
 /// The file for screens that the words name.
@@ -163,7 +181,7 @@ pub fn window_named(word: &str) -> Option<WindowWords>
 /// The size of the window that the words name.
 fn window_of(matches: &ArgMatches<'_>) -> Result<Option<WindowWords>, WordsFault>
     ensures told { IfOk result (IsNamedIf IsSize (word_given (codes "window") (rows_of (found_of matches.now)))) }
-    ensures refused { IfErr result (MayRefuse (rows_of (found_of matches.now))) }
+    ensures refused { IfErr result (NoWindow (word_given (codes "window") (rows_of (found_of matches.now)))) }
 {
     match word_if(matches, WINDOW) {
         Some(word) => match window_named(word) {
@@ -174,24 +192,38 @@ fn window_of(matches: &ArgMatches<'_>) -> Result<Option<WindowWords>, WordsFault
     }
 }
 
-/// Whether words say what a conversation that goes on has been asked for already.
-fn asks_anew(matches: &ArgMatches<'_>) -> bool {
-    let has_word = number_if(matches, "budget").is_some()
-        || number_if(matches, "limit").is_some()
+/// Whether the words name what a conversation is asked for.
+fn names_terms(matches: &ArgMatches<'_>) -> bool
+    ensures { result ≡ names_terms (rows_of (found_of matches.now)) }
+{
+    word_if(matches, "budget").is_some()
+        || word_if(matches, "limit").is_some()
         || word_if(matches, "today").is_some()
         || word_if(matches, "from").is_some()
-        || word_if(matches, BACKUP).is_some();
-    has_word
-        || is_set(matches, REHEARSE)
+        || word_if(matches, BACKUP).is_some()
+}
+
+/// Whether they say what becomes of its tables.
+fn says_outcome(matches: &ArgMatches<'_>) -> bool
+    ensures { result ≡ says_outcome (rows_of (found_of matches.now)) }
+{
+    is_set(matches, REHEARSE)
         || is_set(matches, ONLY_FINISHED)
         || is_set(matches, NEW_OWNER)
         || is_set(matches, NO_LOCK)
 }
 
+/// Whether words say what a conversation that goes on has been asked for already.
+fn asks_anew(matches: &ArgMatches<'_>) -> bool
+    ensures { result ≡ asks_anew (rows_of (found_of matches.now)) }
+{
+    names_terms(matches) || says_outcome(matches)
+}
+
 /// The day of a run where the words say one.
 fn day_if_said(matches: &ArgMatches<'_>) -> Result<Option<RunDay>, WordsFault>
     ensures told { IfOk result (IsNamedIf IsDayNamed (word_given (codes "today") (rows_of (found_of matches.now)))) }
-    ensures refused { IfErr result (MayRefuse (rows_of (found_of matches.now))) }
+    ensures refused { IfErr result (NoDay (word_given (codes "today") (rows_of (found_of matches.now)))) }
 {
     match word_if(matches, "today") {
         Some(word) => match RunDay::named(word) {
@@ -205,7 +237,7 @@ fn day_if_said(matches: &ArgMatches<'_>) -> Result<Option<RunDay>, WordsFault>
 /// What a conversation that begins is asked for.
 fn new_talk_of<'a>(matches: &ArgMatches<'a>) -> Result<TalkWords<'a>, WordsFault>
     ensures told { IfOk result (IsTalk (rows_of (found_of matches.now))) }
-    ensures refused { IfErr result (MayRefuse (rows_of (found_of matches.now))) }
+    ensures refused { IfErr result (NewTalkRefused (rows_of (found_of matches.now))) }
 {
     Ok(TalkWords {
         budget: number_if(matches, "budget"),
@@ -219,7 +251,7 @@ fn new_talk_of<'a>(matches: &ArgMatches<'a>) -> Result<TalkWords<'a>, WordsFault
 /// What a conversation is asked for; none where it goes on.
 fn talk_of<'a>(matches: &ArgMatches<'a>) -> Result<Option<TalkWords<'a>>, WordsFault>
     ensures told { IfOk result (IsTalkIf (rows_of (found_of matches.now))) }
-    ensures refused { IfErr result (MayRefuse (rows_of (found_of matches.now))) }
+    ensures refused { IfErr result (TalkRefused (rows_of (found_of matches.now))) }
 {
     if !is_set(matches, CONTINUE) {
         return match new_talk_of(matches) {
@@ -236,7 +268,7 @@ fn talk_of<'a>(matches: &ArgMatches<'a>) -> Result<Option<TalkWords<'a>>, WordsF
 /// How a conversation is shown.
 fn shown_of<'a>(matches: &ArgMatches<'a>) -> Result<ShownWords<'a>, WordsFault>
     ensures told { IfOk result (IsShown (rows_of (found_of matches.now))) }
-    ensures refused { IfErr result (MayRefuse (rows_of (found_of matches.now))) }
+    ensures refused { IfErr result (NoWindow (word_given (codes "window") (rows_of (found_of matches.now)))) }
 {
     Ok(ShownWords {
         window: window_of(matches)?,
@@ -248,7 +280,7 @@ fn shown_of<'a>(matches: &ArgMatches<'a>) -> Result<ShownWords<'a>, WordsFault>
 /// What the words of `operate` ask for.
 pub(crate) fn operate_of<'a>(matches: &ArgMatches<'a>) -> Result<OperateWords<'a>, WordsFault>
     ensures told { IfOk result (IsOperate (rows_of (found_of matches.now))) }
-    ensures refused { IfErr result (MayRefuse (rows_of (found_of matches.now))) }
+    ensures refused { IfErr result (OperateRefused (rows_of (found_of matches.now))) }
 {
     let code = word_of(matches, FILE)?;
     let journal = word_of(matches, JOURNAL)?;

@@ -1,18 +1,21 @@
 // The words of the command line.
 #![tactic(auto)]
 
-ghost use Rattle.std.specs.Prelude.{◌≡◌, ◌∷◌, ◌++◌, ◌^◌, IfOk, IfErr, Some, [], codes, map, unwrap_or};
+ghost use Rattle.std.specs.Prelude.{◌≡◌, ◌∷◌, ◌++◌, ◌^◌, ℕ, true, List, IfOk, IfErr, Some, [], codes, map, unwrap_or};
 ghost use Rattle.std.specs.Option.{option_map};
 ghost use Rattle.clap.specs.Matches.{found_of};
-ghost use Rattle.clap.specs.Simple.{subcommand_rows_of};
-ghost use Rattle.clap.specs.Walk.{rows_of};
-ghost use Rattle.clap.specs.Built.{subcommand_names};
-ghost use Rattle.clap.specs.declared.builder.command.Command.TheViews.{out-Command as fields_of};
+ghost use Rattle.clap.specs.Simple.{app_of, subcommand_rows_of, with_rule};
+ghost use Rattle.clap.specs.Walk.{rows_of, rule_of};
 ghost use Rattle.run_commands.specs.Days.{IsDayNamed};
-ghost use Rattle.command_words.specs.Asked.{lent, IsFlag, IsNumberIf, IsNumberOr, IsPageNamed, IsJob};
-ghost use Rattle.command_words.specs.Asked.{AreOutcomes, IsListAsked, AsksFor, Asks, MayRefuse, RefusesWords};
-ghost use Rattle.command_words.specs.Asked.{AddsMade, command_names};
-ghost use Rattle.command_words.specs.Said.{sources_said, word_given};
+ghost use Rattle.command_words.specs.Asked.{lent, IsNumberIf, IsNumberOr, IsPageNamed, IsJob};
+ghost use Rattle.command_words.specs.Asked.{AreOutcomes, IsListAsked, AsksFor, Asks};
+ghost use Rattle.command_words.specs.Refused.{Lacks, NoDay, NoLimit, NoPage, SavesToo, JobRefused, RunRefused};
+ghost use Rattle.command_words.specs.Refused.{ListingRefused, RefusedBehind, RefusesWords};
+ghost use Rattle.command_words.specs.CommandLine.{needed_word, needed_words, flag_word, valued_word, taking, alone};
+ghost use Rattle.command_words.specs.CommandLine.{file_word, budget_word, limit_word};
+ghost use Rattle.command_words.specs.CommandLine.{run_words, save_words, no_commands, program as the_program};
+ghost use Rattle.command_words.specs.Made.{AddsMade, IsPlainCommand};
+ghost use Rattle.command_words.specs.Said.{has_flag, sources_said, word_given};
 
 use crate::operate_words::{OperateWords, operate_of, operator, screens, screens_of};
 use clap::{Arg, ArgAction, ArgMatches, Command, value_parser};
@@ -168,6 +171,21 @@ pub(crate) const NEW_OWNER: &str = "new-owner";
 
 pub(crate) const NO_LOCK: &str = "no-lock";
 
+/// A command with a word more.
+pub(crate) fn with_word<'a>(command: Command<'a>, word: Arg<'a>) -> Result<Command<'a>, AllocError>
+    requires { (rule_of word).is_simple ≡ true }
+    ensures { IfOk result (λ c. app_of c ≡ with_rule (app_of command.entry) (rule_of word.entry)) }
+{
+    command.arg(word)
+}
+
+/// A command of which help tells what it does, with an example.
+fn made<'a>(alloc: Global, name: &'a str, about: &'a str, example: &'a str) -> Command<'a>
+    ensures { app_of result ≡ alone (taking name.entry.now []) }
+{
+    Command::new(alloc, name).about(about).after_help(example)
+}
+
 fn reader<'a>(
     alloc: Global,
     name: &'a str,
@@ -175,45 +193,53 @@ fn reader<'a>(
     sort: &'a str,
     example: &'a str,
 ) -> Result<Command<'a>, AllocError>
-    ensures { IfOk result (λ c. (fields_of c).name.now ≡ name.entry.now) }
+    ensures { IfOk result (λ c. app_of c ≡ alone (taking name.entry.now (file_word ∷ []))) }
 {
     let file = Arg::new(alloc, FILE)
         .value_name(sort)
         .required(true)
         .help("The file, in the current folder");
-    Command::new(alloc, name)
-        .about(about)
-        .after_help(example)
-        .arg(file)
+    with_word(made(alloc, name, about, example), file)
+}
+
+/// A word with another behind it, which help calls so.
+pub(crate) fn valued<'a>(alloc: Global, name: &'a str, sort: &'a str, help: &'a str) -> Arg<'a>
+    ensures { rule_of result ≡ valued_word name.entry.now }
+{
+    Arg::new(alloc, name).long(name).value_name(sort).help(help)
 }
 
 /// The word that names the code page of a table's texts.
-pub(crate) fn page<'a>(alloc: Global, help: &'a str) -> Arg<'a> {
-    Arg::new(alloc, "from")
-        .long("from")
-        .value_name("PAGE")
-        .help(help)
+pub(crate) fn page<'a>(alloc: Global, help: &'a str) -> Arg<'a>
+    ensures { rule_of result ≡ valued_word (codes "from") }
+{
+    valued(alloc, "from", "PAGE", help)
 }
 
 fn lister<'a>(alloc: Global) -> Result<Command<'a>, AllocError>
-    ensures { IfOk result (λ c. (fields_of c).name.now ≡ codes "list") }
+    ensures { IfOk result (λ c. app_of c
+        ≡ alone (taking (codes "list") (file_word ∷ flag_word (codes "csv") ∷ valued_word (codes "from") ∷ []))) }
 {
-    reader(
+    let command = reader(
         alloc,
         "list",
         "Lists a table",
         "TABLE",
         "Example: dbrun list CUST.DBF --csv --from cp437",
-    )?
-    .arg(flag(
+    )?;
+    let csv = flag(
         alloc,
         "csv",
         "Comma-separated values, with the marks in a first column DELETED",
-    ))?
-    .arg(page(
-        alloc,
-        "The code page of the table's texts, cp437 or cp850: prints UTF-8",
-    ))
+    );
+    let command = with_word(command, csv)?;
+    with_word(
+        command,
+        page(
+            alloc,
+            "The code page of the table's texts, cp437 or cp850: prints UTF-8",
+        ),
+    )
 }
 
 /// What help says of a run's budget and its day.
@@ -228,29 +254,25 @@ const HELP: RunHelp<'static> = RunHelp {
     today: "The day of the run, in the years 1900 to 2155 (1985-01-01 if left out)",
 };
 
-fn budget<'a>(alloc: Global, help: &'a str) -> Arg<'a> {
-    Arg::new(alloc, "budget")
-        .long("budget")
-        .value_name("N")
-        .value_parser(value_parser!(u64))
-        .help(help)
+fn budget<'a>(alloc: Global, help: &'a str) -> Arg<'a>
+    ensures { rule_of result ≡ budget_word }
+{
+    valued(alloc, "budget", "N", help).value_parser(value_parser!(u64))
 }
 
-fn limit<'a>(alloc: Global) -> Arg<'a> {
-    Arg::new(alloc, "limit")
-        .long("limit")
-        .value_name("N")
-        .value_parser(value_parser!(u32))
-        .help("The most records that a table may have, 1 to 1000000 (1000000 if left out)")
+fn limit<'a>(alloc: Global) -> Arg<'a>
+    ensures { rule_of result ≡ limit_word }
+{
+    valued(
+        alloc,
+        "limit",
+        "N",
+        "The most records that a table may have, 1 to 1000000 (1000000 if left out)",
+    )
+    .value_parser(value_parser!(u32))
 }
 
-fn today<'a>(alloc: Global, help: &'a str) -> Arg<'a> {
-    Arg::new(alloc, "today")
-        .long("today")
-        .value_name("YYYY-MM-DD")
-        .help(help)
-}
-
+/// The words of all runs.
 pub(crate) fn runner<'a>(
     alloc: Global,
     name: &'a str,
@@ -258,40 +280,28 @@ pub(crate) fn runner<'a>(
     example: &'a str,
     help: &RunHelp<'a>,
 ) -> Result<Command<'a>, AllocError>
-    ensures { IfOk result (λ c. (fields_of c).name.now ≡ name.entry.now) }
+    ensures { IfOk result (λ c. app_of c ≡ alone (taking name.entry.now run_words)) }
 {
-    reader(alloc, name, about, "CODE", example)?
-        .arg(budget(alloc, help.budget))?
-        .arg(limit(alloc))?
-        .arg(today(alloc, help.today))
+    let command = reader(alloc, name, about, "CODE", example)?;
+    let command = with_word(command, budget(alloc, help.budget))?;
+    let command = with_word(command, limit(alloc))?;
+    with_word(command, valued(alloc, "today", "YYYY-MM-DD", help.today))
 }
 
 /// A word that is there or not.
-pub(crate) fn flag<'a>(alloc: Global, name: &'a str, help: &'a str) -> Arg<'a> {
+pub(crate) fn flag<'a>(alloc: Global, name: &'a str, help: &'a str) -> Arg<'a>
+    ensures { rule_of result ≡ flag_word name.entry.now }
+{
     Arg::new(alloc, name)
         .long(name)
         .action(ArgAction::SetTrue)
         .help(help)
 }
 
-/// The word that names the folder for copies.
-fn backup<'a>(alloc: Global) -> Arg<'a> {
-    Arg::new(alloc, BACKUP)
-        .long(BACKUP)
-        .value_name("FOLDER")
-        .help("Copies all that is replaced to this folder first, which is absent or empty")
-}
-
-/// A command with a word more.
-pub(crate) fn with_word<'a>(command: Command<'a>, word: Arg<'a>) -> Result<Command<'a>, AllocError>
-    ensures { IfOk result (λ c. (fields_of c).name.now ≡ (fields_of command.entry).name.now) }
-{
-    command.arg(word)
-}
-
-/// The words of `run` alone.
+/// The words that say what becomes of a run's tables, behind those of the run.
 pub(crate) fn saver<'a>(alloc: Global, command: Command<'a>) -> Result<Command<'a>, AllocError>
-    ensures { IfOk result (λ c. (fields_of c).name.now ≡ (fields_of command.entry).name.now) }
+    ensures { (name : List ℕ) → app_of command.entry ≡ alone (taking name run_words)
+        → IfOk result (λ c. app_of c ≡ alone (taking name (run_words ++ save_words))) }
 {
     let rehearse = flag(
         alloc,
@@ -303,6 +313,12 @@ pub(crate) fn saver<'a>(alloc: Global, command: Command<'a>) -> Result<Command<'
         ONLY_FINISHED,
         "Saves nothing unless the run finished",
     );
+    let backup = valued(
+        alloc,
+        BACKUP,
+        "FOLDER",
+        "Copies all that is replaced to this folder first, which is absent or empty",
+    );
     let new_owner = flag(
         alloc,
         NEW_OWNER,
@@ -311,70 +327,84 @@ pub(crate) fn saver<'a>(alloc: Global, command: Command<'a>) -> Result<Command<'
     let no_lock = flag(alloc, NO_LOCK, "Saves where the file system knows no locks");
     let command = with_word(command, rehearse)?;
     let command = with_word(command, only_finished)?;
-    let command = with_word(command, backup(alloc))?;
+    let command = with_word(command, backup)?;
     let command = with_word(command, new_owner)?;
     with_word(command, no_lock)
 }
 
 fn forgetter<'a>(alloc: Global) -> Result<Command<'a>, AllocError>
-    ensures { IfOk result (λ c. (fields_of c).name.now ≡ codes "forget") }
+    ensures { IfOk result (λ c. app_of c ≡ alone (taking (codes "forget") (flag_word (codes "no-lock") ∷ []))) }
 {
-    Command::new(alloc, "forget")
-        .about("Takes away a save that was cut off: its new files, and no table")
-        .after_help("Example: dbrun forget")
-        .arg(flag(alloc, NO_LOCK, "Where the file system knows no locks"))
+    let command = made(
+        alloc,
+        "forget",
+        "Takes away a save that was cut off: its new files, and no table",
+        "Example: dbrun forget",
+    );
+    with_word(
+        command,
+        flag(alloc, NO_LOCK, "Where the file system knows no locks"),
+    )
+}
+
+/// A word that must be there.
+fn given<'a>(alloc: Global, name: &'a str, help: &'a str) -> Arg<'a>
+    ensures { rule_of result ≡ needed_word name.entry.now }
+{
+    Arg::new(alloc, name).required(true).help(help)
 }
 
 /// The word that names the declaration file.
-fn declarations<'a>(alloc: Global) -> Arg<'a> {
-    Arg::new(alloc, DECLARATIONS)
-        .required(true)
-        .help("The file that declares tables and indexes")
+fn declarations<'a>(alloc: Global) -> Arg<'a>
+    ensures { rule_of result ≡ needed_word (codes "DECL") }
+{
+    given(
+        alloc,
+        DECLARATIONS,
+        "The file that declares tables and indexes",
+    )
 }
 
 /// The words that name command files.
-fn sources<'a>(alloc: Global) -> Arg<'a> {
-    Arg::new(alloc, SOURCES)
-        .required(true)
-        .num_args(1..)
-        .help("The command files, the main one first")
-}
-
-/// The word that names the code file.
-fn out<'a>(alloc: Global) -> Arg<'a> {
-    Arg::new(alloc, OUT)
-        .required(true)
-        .help("The code file that is written")
+fn sources<'a>(alloc: Global) -> Arg<'a>
+    ensures { rule_of result ≡ needed_words (codes "MAIN") }
+{
+    given(alloc, SOURCES, "The command files, the main one first").num_args(1..)
 }
 
 fn compiler<'a>(alloc: Global) -> Result<Command<'a>, AllocError>
-    ensures { IfOk result (λ c. (fields_of c).name.now ≡ codes "compile") }
+    ensures { IfOk result (λ c. app_of c ≡ alone (taking (codes "compile")
+        (needed_word (codes "DECL") ∷ needed_word (codes "OUT") ∷ needed_words (codes "MAIN") ∷ []))) }
 {
-    Command::new(alloc, "compile")
-        .about("Compiles command files to a code file")
-        .after_help(
-            "Example: dbrun compile FIRM.DCL DAY.XBC DAY.PRG ENTRY.PRG POST.PRG REPORT.PRG REORDER.PRG PRICES.PRG",
-        )
-        .arg(declarations(alloc))?
-        .arg(out(alloc))?
-        .arg(sources(alloc))
+    let command = made(
+        alloc,
+        "compile",
+        "Compiles command files to a code file",
+        "Example: dbrun compile FIRM.DCL DAY.XBC DAY.PRG ENTRY.PRG POST.PRG REPORT.PRG REORDER.PRG PRICES.PRG",
+    );
+    let command = with_word(command, declarations(alloc))?;
+    let command = with_word(command, given(alloc, OUT, "The code file that is written"))?;
+    with_word(command, sources(alloc))
 }
 
 fn checker<'a>(alloc: Global) -> Result<Command<'a>, AllocError>
-    ensures { IfOk result (λ c. (fields_of c).name.now ≡ codes "faults") }
+    ensures { IfOk result (λ c. app_of c
+        ≡ alone (taking (codes "faults") (needed_word (codes "DECL") ∷ needed_words (codes "MAIN") ∷ []))) }
 {
-    Command::new(alloc, "faults")
-        .about("Lists all faults of DECL and of command files, and writes nothing")
-        .after_help(
-            "Example: dbrun faults FIRM.DCL DAY.PRG ENTRY.PRG POST.PRG REPORT.PRG REORDER.PRG PRICES.PRG",
-        )
-        .arg(declarations(alloc))?
-        .arg(sources(alloc))
+    let command = made(
+        alloc,
+        "faults",
+        "Lists all faults of DECL and of command files, and writes nothing",
+        "Example: dbrun faults FIRM.DCL DAY.PRG ENTRY.PRG POST.PRG REPORT.PRG REORDER.PRG PRICES.PRG",
+    );
+    let command = with_word(command, declarations(alloc))?;
+    with_word(command, sources(alloc))
 }
 
 /// The words of a run that saves.
 fn saving_runner<'a>(alloc: Global) -> Result<Command<'a>, AllocError>
-    ensures { IfOk result (λ c. (fields_of c).name.now ≡ codes "run") }
+    ensures { IfOk result (λ c. app_of c
+        ≡ alone (taking (codes "run") (run_words ++ save_words ++ valued_word (codes "screens") ∷ []))) }
 {
     let run = runner(
         alloc,
@@ -383,21 +413,22 @@ fn saving_runner<'a>(alloc: Global) -> Result<Command<'a>, AllocError>
         "Example, behind that of compile: dbrun run DAY.XBC --today 1985-01-15 < day.txt",
         &HELP,
     )?;
-    saver(alloc, run)?.arg(screens(alloc))
+    with_word(saver(alloc, run)?, screens(alloc))
 }
 
 /// The words of a run that tests each instruction.
 fn testing_runner<'a>(alloc: Global) -> Result<Command<'a>, AllocError>
-    ensures { IfOk result (λ c. (fields_of c).name.now ≡ codes "check-run") }
+    ensures { IfOk result (λ c. app_of c
+        ≡ alone (taking (codes "check-run") (run_words ++ flag_word (codes "changes") ∷ []))) }
 {
-    runner(
+    let run = runner(
         alloc,
         "check-run",
         "Runs any code file, testing each instruction first; saves nothing",
         "Example, behind that of compile: dbrun check-run DAY.XBC --changes < day.txt",
         &HELP,
-    )?
-    .arg(flag(alloc, CHANGES, "Tells what a run would save"))
+    )?;
+    with_word(run, flag(alloc, CHANGES, "Tells what a run would save"))
 }
 
 /// A command with one that was made below it.
@@ -405,22 +436,14 @@ fn with<'a>(
     command: Command<'a>,
     made: Result<Command<'a>, AllocError>,
 ) -> Result<Command<'a>, AllocError>
+    requires { IfOk made IsPlainCommand }
     ensures { IfOk result (AddsMade command.entry made.entry) }
 {
     command.subcommand(made?)
 }
 
-fn with_runners<'a>(alloc: Global, command: Command<'a>) -> Result<Command<'a>, AllocError>
-    ensures { IfOk result (λ c. subcommand_names c ≡ subcommand_names command.entry
-        ++ codes "run" ∷ codes "operate" ∷ codes "check-run" ∷ []) }
-{
-    let command = with(command, saving_runner(alloc))?;
-    let command = with(command, operator(alloc))?;
-    with(command, testing_runner(alloc))
-}
-
 fn verifier<'a>(alloc: Global) -> Result<Command<'a>, AllocError>
-    ensures { IfOk result (λ c. (fields_of c).name.now ≡ codes "verify") }
+    ensures { IfOk result (λ c. app_of c ≡ alone (taking (codes "verify") (file_word ∷ []))) }
 {
     reader(
         alloc,
@@ -432,7 +455,7 @@ fn verifier<'a>(alloc: Global) -> Result<Command<'a>, AllocError>
 }
 
 fn code_lister<'a>(alloc: Global) -> Result<Command<'a>, AllocError>
-    ensures { IfOk result (λ c. (fields_of c).name.now ≡ codes "code") }
+    ensures { IfOk result (λ c. app_of c ≡ alone (taking (codes "code") (file_word ∷ []))) }
 {
     reader(
         alloc,
@@ -444,7 +467,7 @@ fn code_lister<'a>(alloc: Global) -> Result<Command<'a>, AllocError>
 }
 
 fn index_lister<'a>(alloc: Global) -> Result<Command<'a>, AllocError>
-    ensures { IfOk result (λ c. (fields_of c).name.now ≡ codes "index") }
+    ensures { IfOk result (λ c. app_of c ≡ alone (taking (codes "index") (file_word ∷ []))) }
 {
     reader(
         alloc,
@@ -455,48 +478,37 @@ fn index_lister<'a>(alloc: Global) -> Result<Command<'a>, AllocError>
     )
 }
 
-/// With the commands that list files and codes.
-fn with_listers<'a>(alloc: Global, command: Command<'a>) -> Result<Command<'a>, AllocError>
-    ensures { IfOk result (λ c. subcommand_names c ≡ subcommand_names command.entry
-        ++ codes "verify" ∷ codes "code" ∷ codes "list" ∷ []) }
+fn declarer<'a>(alloc: Global) -> Command<'a>
+    ensures { app_of result ≡ alone (taking (codes "declare") []) }
 {
-    let command = with(command, verifier(alloc))?;
-    let command = with(command, code_lister(alloc))?;
-    with(command, lister(alloc))
+    made(
+        alloc,
+        "declare",
+        "Prints a declaration file of the tables and indexes in the current folder",
+        "Example: dbrun declare > MADE.DCL",
+    )
 }
 
-/// With the other commands that read, and the one that takes a save away.
-fn with_others<'a>(alloc: Global, command: Command<'a>) -> Result<Command<'a>, AllocError>
-    ensures { IfOk result (λ c. subcommand_names c ≡ subcommand_names command.entry
-        ++ codes "index" ∷ codes "declare" ∷ codes "forget" ∷ []) }
+/// The commands that `dbrun` knows, and the words that each takes.
+pub fn command<'a>(alloc: Global) -> Result<Command<'a>, AllocError>
+    ensures { IfOk result (λ c. app_of c ≡ the_program) }
 {
+    let command = with(program(alloc), compiler(alloc))?;
+    let command = with(command, checker(alloc))?;
+    let command = with(command, saving_runner(alloc))?;
+    let command = with(command, operator(alloc))?;
+    let command = with(command, testing_runner(alloc))?;
+    let command = with(command, verifier(alloc))?;
+    let command = with(command, code_lister(alloc))?;
+    let command = with(command, lister(alloc))?;
     let command = with(command, index_lister(alloc))?;
     let command = with(command, Ok(declarer(alloc)))?;
     with(command, forgetter(alloc))
 }
 
-fn declarer<'a>(alloc: Global) -> Command<'a>
-    ensures { (fields_of result).name.now ≡ codes "declare" }
-{
-    Command::new(alloc, "declare")
-        .about("Prints a declaration file of the tables and indexes in the current folder")
-        .after_help("Example: dbrun declare > MADE.DCL")
-}
-
-/// The commands that `dbrun` knows.
-pub fn command<'a>(alloc: Global) -> Result<Command<'a>, AllocError>
-    ensures { IfOk result (λ c. subcommand_names c ≡ command_names) }
-{
-    let command = with(program(alloc), compiler(alloc))?;
-    let command = with(command, checker(alloc))?;
-    let command = with_runners(alloc, command)?;
-    let command = with_listers(alloc, command)?;
-    with_others(alloc, command)
-}
-
 /// The program without its commands.
 fn program<'a>(alloc: Global) -> Command<'a>
-    ensures { subcommand_names result ≡ [] }
+    ensures { app_of result ≡ alone no_commands }
 {
     Command::new(alloc, "dbrun")
         .about(
@@ -511,9 +523,9 @@ fn program<'a>(alloc: Global) -> Command<'a>
 /// Whether a word is there that is there or not.
 #[tactic(auto, using(crate::proofs::Rows::same_read))]
 pub(crate) fn is_set(matches: &ArgMatches<'_>, id: &str) -> bool
-    ensures { IsFlag id.now (rows_of (found_of matches.now)) result }
+    ensures { result ≡ has_flag id.now (rows_of (found_of matches.now)) }
 {
-    matches.get_flag(id)
+    matches.get_one::<bool>(id).unwrap_or(false)
 }
 
 /// The number that a word says, if it does.
@@ -532,7 +544,7 @@ fn budget_of(matches: &ArgMatches<'_>) -> u64
 pub(crate) fn limit_of(matches: &ArgMatches<'_>) -> Result<RecordLimit, WordsFault>
     ensures told { IfOk result
         (IsNumberOr 1000000 (word_given (codes "limit") (rows_of (found_of matches.now)))) }
-    ensures refused { IfErr result (MayRefuse (rows_of (found_of matches.now))) }
+    ensures refused { IfErr result (NoLimit (word_given (codes "limit") (rows_of (found_of matches.now)))) }
 {
     let Some(number) = number_if(matches, "limit") else {
         return Ok(RecordLimit::most());
@@ -550,7 +562,8 @@ pub(crate) fn limit_of(matches: &ArgMatches<'_>) -> Result<RecordLimit, WordsFau
 fn day_of(matches: &ArgMatches<'_>) -> Result<RunDay, WordsFault>
     ensures told { IfOk result (IsDayNamed
         (unwrap_or (word_given (codes "today") (rows_of (found_of matches.now))) (codes "1985-01-01"))) }
-    ensures refused { IfErr result (MayRefuse (rows_of (found_of matches.now))) }
+    ensures refused { IfErr result (NoDay (Some
+        (unwrap_or (word_given (codes "today") (rows_of (found_of matches.now))) (codes "1985-01-01")))) }
 {
     let word = matches.get_str("today").unwrap_or(DEFAULT_DAY);
     RunDay::named(word).ok_or(WordsFault::Today)
@@ -559,7 +572,7 @@ fn day_of(matches: &ArgMatches<'_>) -> Result<RunDay, WordsFault>
 #[tactic(auto, using(crate::proofs::Rows::same_word))]
 pub(crate) fn page_of(matches: &ArgMatches<'_>) -> Result<Option<CodePage>, WordsFault>
     ensures told { IfOk result (IsPageNamed (rows_of (found_of matches.now))) }
-    ensures refused { IfErr result (MayRefuse (rows_of (found_of matches.now))) }
+    ensures refused { IfErr result (NoPage (word_given (codes "from") (rows_of (found_of matches.now)))) }
 {
     match matches.get_str("from") {
         Some("cp437") => Ok(Some(CodePage::Cp437)),
@@ -580,7 +593,7 @@ pub(crate) fn word_if<'a>(matches: &ArgMatches<'a>, id: &str) -> Option<&'a str>
 #[tactic(auto, using(crate::proofs::Rows::same_word))]
 pub(crate) fn word_of<'a>(matches: &ArgMatches<'a>, id: &str) -> Result<&'a str, WordsFault>
     ensures told { IfOk result (λ word. word_given id.now (rows_of (found_of matches.now)) ≡ Some word.now) }
-    ensures refused { IfErr result (MayRefuse (rows_of (found_of matches.now))) }
+    ensures refused { IfErr result (Lacks (id.now ∷ []) (rows_of (found_of matches.now))) }
 {
     matches.get_str(id).ok_or(WordsFault::Missing)
 }
@@ -588,7 +601,7 @@ pub(crate) fn word_of<'a>(matches: &ArgMatches<'a>, id: &str) -> Result<&'a str,
 /// The run that the words of `run` or `check-run` ask for; nothing is typed yet.
 fn job_of<'a>(matches: &ArgMatches<'a>, checked: bool) -> Result<Job<'a>, WordsFault>
     ensures told { IfOk result (IsJob (rows_of (found_of matches.now)) checked) }
-    ensures refused { IfErr result (MayRefuse (rows_of (found_of matches.now))) }
+    ensures refused { IfErr result (JobRefused (rows_of (found_of matches.now))) }
 {
     Ok(Job {
         name: word_of(matches, FILE)?,
@@ -603,7 +616,7 @@ fn job_of<'a>(matches: &ArgMatches<'a>, checked: bool) -> Result<Job<'a>, WordsF
 /// What becomes of the tables of a run that may save them.
 pub(crate) fn run_outcomes<'a>(matches: &ArgMatches<'a>) -> Result<Outcomes<'a>, WordsFault>
     ensures told { IfOk result (AreOutcomes (rows_of (found_of matches.now))) }
-    ensures refused { IfErr result (MayRefuse (rows_of (found_of matches.now))) }
+    ensures refused { IfErr result (SavesToo (rows_of (found_of matches.now))) }
 {
     let save = SaveWords {
         only_finished: is_set(matches, ONLY_FINISHED),
@@ -623,7 +636,7 @@ pub(crate) fn run_outcomes<'a>(matches: &ArgMatches<'a>) -> Result<Outcomes<'a>,
 /// What the words of `run` ask for.
 fn run_of<'a>(matches: &ArgMatches<'a>) -> Result<Words<'a>, WordsFault>
     ensures told { IfOk result (AsksFor (codes "run") (rows_of (found_of matches.now))) }
-    ensures refused { IfErr result (MayRefuse (rows_of (found_of matches.now))) }
+    ensures refused { IfErr result (RunRefused (rows_of (found_of matches.now))) }
 {
     let tables = run_outcomes(matches)?;
     let screens = screens_of(matches);
@@ -640,7 +653,7 @@ fn run_of<'a>(matches: &ArgMatches<'a>) -> Result<Words<'a>, WordsFault>
 /// What the words of `check-run` ask for.
 fn tested_run_of<'a>(matches: &ArgMatches<'a>) -> Result<Words<'a>, WordsFault>
     ensures told { IfOk result (AsksFor (codes "check-run") (rows_of (found_of matches.now))) }
-    ensures refused { IfErr result (MayRefuse (rows_of (found_of matches.now))) }
+    ensures refused { IfErr result (JobRefused (rows_of (found_of matches.now))) }
 {
     let tables = if is_set(matches, CHANGES) {
         Outcomes::Told
@@ -660,7 +673,7 @@ fn tested_run_of<'a>(matches: &ArgMatches<'a>) -> Result<Words<'a>, WordsFault>
 /// How the words of `list` ask for a table.
 fn listing_of<'a>(matches: &ArgMatches<'a>) -> Result<Listing<'a>, WordsFault>
     ensures told { IfOk result (IsListAsked (rows_of (found_of matches.now))) }
-    ensures refused { IfErr result (MayRefuse (rows_of (found_of matches.now))) }
+    ensures refused { IfErr result (ListingRefused (rows_of (found_of matches.now))) }
 {
     Ok(Listing {
         name: word_of(matches, FILE)?,
@@ -680,7 +693,7 @@ pub fn sources_of<'m, 'a: 'm>(matches: &'m ArgMatches<'a>) -> Option<&'m [&'a st
 /// What the words behind a command's name ask for.
 fn words_behind<'a>(command: &str, matches: &ArgMatches<'a>) -> Result<Words<'a>, WordsFault>
     ensures asked { IfOk result (AsksFor command.now (rows_of (found_of matches.now))) }
-    ensures refused { IfErr result (MayRefuse (rows_of (found_of matches.now))) }
+    ensures refused { IfErr result (RefusedBehind command.now (rows_of (found_of matches.now))) }
 {
     match command {
         "compile" => Ok(Words::Compile {

@@ -292,7 +292,7 @@ pub fn print_bytes<R: Runtime<A = Global>>(rt: &R, audience: Audience, bytes: &[
     }
 }
 
-/// Tells on standard error that standard output failed. A reader that closed the pipe wants no more, and that isn't told.
+/// Tells on standard error that standard output failed, unless a reader closed the pipe and so wants no more.
 fn tell_unprinted(rt: &impl Runtime, error: &io::Error) -> Status {
     if error.kind() == io::ErrorKind::BrokenPipe {
         return Status::Disk;

@@ -19,3 +19,7 @@ pub record IsDayNamed (word : List ℕ) (day : Option DayParts) : Type 0 where
   pub first : slice_index word 4 ≡ 45
   pub second : slice_index word 7 ≡ 45
   pub date : NamesParts word day
+
+-- it names no day that a table's file can be stamped with
+abbrev pub NamesNoDay : List ℕ → Type 0
+NamesNoDay word = (day : Option DayParts) → IsDayNamed word day → ¬ HasStamp day

@@ -1,9 +1,9 @@
 // What a run is asked for.
 #![tactic(auto)]
 
-ghost use Rattle.std.specs.Prelude.{◌≡◌, ◌≤◌, Some, None, IfSome, MatchOption, SomeIff};
+ghost use Rattle.std.specs.Prelude.{◌≡◌, ◌≤◌, min, Some, None, MatchOption, SomeIff};
 ghost use Rattle.dbf_file.specs.Values.{stamp_of};
-ghost use Rattle.run_commands.specs.Days.{IsDayNamed};
+ghost use Rattle.run_commands.specs.Days.{IsDayNamed, NamesNoDay};
 
 use calendar::{Day, DayParts};
 use dbf_file::Stamp;
@@ -44,7 +44,7 @@ impl RunDay {
 
     /// The day that a word of the form YYYY-MM-DD names, if it is one of the years 1900 to 2155.
     pub fn named(word: &str) -> Option<RunDay>
-        ensures { IfSome result (IsDayNamed word.now) }
+        ensures { MatchOption result (NamesNoDay word.now) (IsDayNamed word.now) }
     {
         let bytes = word.as_bytes();
         if bytes.len() != 10 || bytes[4] != b'-' || bytes[7] != b'-' {
@@ -126,6 +126,7 @@ impl RecordLimit {
     /// How many records.
     pub fn records(self) -> u32
         ensures same { result ≡ self }
+        ensures smaller { min result 1000000 ≡ self }
         ensures some { 1 ≤ result }
         ensures few { result ≤ 1000000 }
     {

@@ -11,7 +11,7 @@ returns-clause-done g c = saved_over _ _ _ _ _ _ _ _ _ _ _ (record {
   accepted = c.code.ensures.accepted;
   store = _;
   limit = _;
-  limited = c.records.ensures.same;
+  limited = c.records.ensures.smaller;
   loaded = c.in_ok-store.ensures.loaded;
   sound = c.in_ok-done.ensures.done;
 }) c.save_run.ensures.rows _ c.save_run.ensures.told c.save_run.ensures.saved
@@ -23,7 +23,7 @@ returns-clause-stopped g c = stopped_over _ _ _ _ _ _ c.in_ok-store.ensures.coun
   accepted = c.code.ensures.accepted;
   store = _;
   limit = _;
-  limited = c.records.ensures.same;
+  limited = c.records.ensures.smaller;
   loaded = c.in_ok-store.ensures.loaded;
   sound = c.in_ok-done.ensures.done;
 }) c.save_run.ensures.rows _ c.save_run.ensures.stopped

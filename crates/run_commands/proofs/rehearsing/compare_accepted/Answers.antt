@@ -10,5 +10,5 @@ changes_since-changes-requires-clause-fresh g c =
 
 pub returns-clause-done : goal.returns-clause-done
 returns-clause-done g c =
-    leaves_told _ _ _ _ _ c.alone.result c.in_ok-done.done.run c.in_ok-loaded.loaded c.in_ok-done.done.banks.env.store _ _ _ c.code.ensures.same c.records.ensures.same c.in_ok-loaded.ensures.loaded c.in_ok-done.ensures c.alone.ensures c.store.ensures
+    leaves_told _ _ _ _ _ c.alone.result c.in_ok-done.done.run c.in_ok-loaded.loaded c.in_ok-done.done.banks.env.store _ _ _ c.code.ensures.same c.records.ensures.smaller c.in_ok-loaded.ensures.loaded c.in_ok-done.ensures c.alone.ensures c.store.ensures
     (c.changes_since-changes.ensures c.in_ok-loaded.loaded c.in_ok-kept.ensures) c.in_ok-with_changes.ensures

@@ -9,7 +9,7 @@ returns-clause-done g c = saved_run _ _ _ _ _ _ _ _ _ _ (record {
   accepted = c.code.ensures.accepted;
   store = _;
   limit = _;
-  limited = c.records.ensures.same;
+  limited = c.records.ensures.smaller;
   loaded = c.in_ok-store.ensures.loaded;
   run = c.in_ok-done.ensures;
 }) c.save_run.ensures.rows _ c.save_run.ensures.told c.save_run.ensures.saved
@@ -21,7 +21,7 @@ returns-clause-stopped g c = stopped_run _ _ _ _ _ _ c.in_ok-store.ensures.count
   accepted = c.code.ensures.accepted;
   store = _;
   limit = _;
-  limited = c.records.ensures.same;
+  limited = c.records.ensures.smaller;
   loaded = c.in_ok-store.ensures.loaded;
   run = c.in_ok-done.ensures;
 }) c.save_run.ensures.rows _ c.save_run.ensures.stopped
