@@ -15,7 +15,7 @@ use xcode::{CodeFault, LegalCode, decode};
 pub const FILE_LIMIT: usize = 67_108_864;
 
 /// The bytes of a file of at most 64 MiB.
-pub(crate) fn read_bytes<'a, F: Files>(
+pub fn read_bytes<'a, F: Files>(
     alloc: Global,
     files: &mut F,
     name: &'a str,

@@ -21,7 +21,7 @@ use std::alloc::{AllocError, Global};
 use xvalue::Settings;
 
 /// The most rows of a table that is listed.
-const ROW_LIMIT: usize = 1_000_000;
+pub const ROW_LIMIT: usize = 1_000_000;
 
 #[tactic(auto, unfolding(crate::specs::Lines::field_line))]
 fn put_field(alloc: Global, out: &mut Vec<u8>, field: &Field) -> Result<(), AllocError>

@@ -8,7 +8,7 @@ use Rattle.folder_shapes.specs.declared.names.Sort.{Sort}
 use Rattle.folder_shapes.specs.declared.names.Sort.TheVariants as sort
 use Rattle.folder_shapes.specs.Names.{sort_of}
 use Rattle.folder_shapes.specs.Told.{State, TakesTable, TakesIndex, TableStep, IndexStep, TakeTables, TakeIndexes, TakesFolder, nothing_taken}
-use Rattle.folder_shapes.proofs.ShapeLemmas.{index_added, nothing_legal, table_added}
+use Rattle.shape_files.proofs.ShapeLemmas.{index_added, nothing_legal, table_added}
 
 abbrev shape_in : State → Shape
 shape_in x = record { tables = x.tables; indexes = x.indexes }

@@ -4,4 +4,3 @@ pub mod KeyLemmas
 pub mod LegalLemmas
 pub mod OwnerLemmas
 pub mod PairLemmas
-pub mod ShapeLemmas

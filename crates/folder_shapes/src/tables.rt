@@ -1,7 +1,6 @@
 //! Tables declared.
 
-ghost use Rattle.std.specs.Prelude.{◌≡◌, ◌<◌, length, map, take, IfOk, IfErr, MatchOption};
-ghost use Rattle.shape_files.specs.Shapes.{plain_field, in_capitals};
+ghost use Rattle.std.specs.Prelude.{◌≡◌, ◌<◌, length, take, IfOk, IfErr, MatchOption};
 ghost use Rattle.folder_shapes.specs.Names.{stem as stem_of};
 ghost use Rattle.folder_shapes.specs.Reading.{UnfitIs};
 ghost use Rattle.folder_shapes.specs.States.{taken_state};
@@ -12,36 +11,12 @@ use crate::found::FoundTable;
 use crate::names::{capitals, has_small, stem};
 use crate::note::Note;
 use crate::unfit::Unfit;
-use dbf_file::Field;
-use prg_expr::name_of;
 use shape::{Items, TableShape};
+use shape_files::capital_fields;
 use std::alloc::{AllocError, Global};
 
 /// The most tables that are declared.
 const MOST_TABLES: usize = 32;
-
-/// The same field with its name in capitals.
-fn with_capitals(field: &Field) -> Field
-    ensures { plain_field result ≡ in_capitals field.now }
-{
-    Field {
-        name: name_of(field.name.as_slice()),
-        letter: field.letter,
-        width: field.width,
-        decimals: field.decimals,
-    }
-}
-
-/// The same fields with their names in capitals.
-fn capital_fields(alloc: Global, fields: &[Field]) -> Result<Vec<Field>, AllocError>
-    ensures { IfOk result (λ copies. map plain_field copies.items ≡ map in_capitals fields.now) }
-{
-    let mut copies = Vec::with_capacity(alloc, fields.len())?;
-    for field in fields {
-        copies.push(with_capitals(field))?;
-    }
-    Ok(copies)
-}
 
 /// The declaration of a table in a file of that name, if the name isn't too long.
 fn declaration(

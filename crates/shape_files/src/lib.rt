@@ -17,3 +17,4 @@ pub use listing::{ListedShape, list_shape};
 pub use names::{FileName, file_of};
 pub use reading::{FILE_LIMIT, read_shape};
 pub use refusal::{DeclFault, LineFault, ShapeRefusal};
+pub use tables::capital_fields;

@@ -31,7 +31,7 @@ fn with_capitals(field: &Field) -> Field
 }
 
 /// The same fields with their names in capitals.
-fn fields_of(alloc: Global, fields: &[Field]) -> Result<Vec<Field>, AllocError>
+pub fn capital_fields(alloc: Global, fields: &[Field]) -> Result<Vec<Field>, AllocError>
     ensures { IfOk result (λ copies. map plain_field copies.items ≡ map in_capitals fields.now) }
 {
     let mut copies = Vec::with_capacity(alloc, fields.len())?;
@@ -69,7 +69,7 @@ fn fields_in(alloc: Global, bytes: &[u8]) -> Result<Vec<Field>, LineRefusal>
         → IfErr result (LineRefusalIs s (Table says) before after) }
 {
     match read(alloc, bytes, MOST_ROWS) {
-        Ok(table) => Ok(fields_of(alloc, table.structure().fields())?),
+        Ok(table) => Ok(capital_fields(alloc, table.structure().fields())?),
         Err(DbfFault::Memory) => Err(LineRefusal::Memory),
         Err(_) => Err(LineRefusal::Fault(LineFault::Table)),
     }

@@ -7,38 +7,9 @@ ghost use Rattle.table_csv.specs.Reports.{CsvListed};
 
 use crate::writing::csv_of;
 use dbf_file::{DbfFault, read};
-use file_access::{Files, ReadFault};
-use file_commands::{FILE_LIMIT, Fault, Refusal};
+use file_access::Files;
+use file_commands::{Fault, ROW_LIMIT, Refusal, read_bytes};
 use std::alloc::Global;
-
-/// The most rows of a table that is listed.
-const ROW_LIMIT: usize = 1_000_000;
-
-/// The bytes of a file of at most 64 MiB.
-fn read_bytes<'a, F: Files>(
-    alloc: Global,
-    files: &mut F,
-    name: &'a str,
-) -> Result<Vec<u8>, Refusal<'a>>
-    ensures held { IfOk result (λ bytes. F.holds files.old name.now (Some bytes.items)) }
-    ensures refused { IfErr result (RefusalIs (TableFault (F.holds files.old name.now)) (F.failed files.old)
-        (F.failed files.new) name.now) }
-    ensures kept { SameFiles (F.holds files.old) (F.holds files.new) }
-{
-    match files.read(alloc, name, FILE_LIMIT) {
-        Ok(bytes) => Ok(bytes),
-        Err(ReadFault::Absent) => Err(Refusal::Refused {
-            name,
-            fault: Fault::Absent,
-        }),
-        Err(ReadFault::TooLong) => Err(Refusal::Refused {
-            name,
-            fault: Fault::TooLong,
-        }),
-        Err(ReadFault::Device) => Err(Refusal::Disk { name }),
-        Err(ReadFault::Memory) => Err(Refusal::Memory),
-    }
-}
 
 /// The table in a file, of at most a million rows, as comma-separated values: a line of names, and a line for each row.
 pub fn list_csv<'a, F: Files>(

@@ -6,3 +6,7 @@ pub use Rattle.work_area.specs.Shapes
 pub use Rattle.work_area.specs.Open
 pub use Rattle.work_area.specs.Tables
 pub use Rattle.work_area.specs.Moves
+pub use Rattle.open_table.specs.Marks
+pub use Rattle.open_table.specs.Tried
+pub use Rattle.row_keys.specs.Lists
+pub use Rattle.shape.specs.Whole

@@ -5,3 +5,4 @@ pub use Rattle.prg_compile.specs.Numbers
 pub use Rattle.prg_compile.specs.Pools
 pub use Rattle.prg_compile.specs.Readings
 pub use Rattle.prg_compile.specs.Written
+pub use Rattle.met_areas.specs.Met

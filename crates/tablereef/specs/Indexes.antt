@@ -12,3 +12,6 @@ pub use Rattle.ndx_tree.specs.Reads
 pub use Rattle.ndx_tree.specs.Writes
 pub use Rattle.ndx_tree.specs.Pairs
 pub use Rattle.ndx_tree.specs.SortedList
+pub use Rattle.key_lists.specs.KeyForm
+pub use Rattle.key_lists.specs.Order
+pub use Rattle.key_lists.specs.Rising

@@ -5,3 +5,5 @@ pub use Rattle.machine.specs.Twins
 pub use Rattle.machine.specs.Run
 pub use Rattle.machine.specs.World
 pub use Rattle.machine.specs.Showing
+pub use Rattle.fit_laws.specs.Fits
+pub use Rattle.run_steps.specs.Shapes

@@ -10,3 +10,5 @@ pub use Rattle.prg_parser.specs.Lines
 pub use Rattle.prg_parser.specs.Listing
 pub use Rattle.prg_parser.specs.Marks
 pub use Rattle.prg_parser.specs.Verdict
+pub use Rattle.prg_expr.specs.Faults
+pub use Rattle.prg_line.specs.Saying
