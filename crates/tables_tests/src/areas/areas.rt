@@ -330,7 +330,7 @@ fn lists_handed_in(rt: HostRuntime) -> Result<(), Fail> {
 
 #[test]
 fn the_smaller_limit_holds(rt: HostRuntime) -> Result<(), Fail> {
-    let shape = shape_of(rt.alloc(), 1, 0, "-")?;
+    let shape = shape_of(rt.alloc(), 1, 3, "-")?;
     for (handed, held) in [
         (0, 0),
         (999_999, 999_999),
