@@ -17,12 +17,12 @@ use crate::keyed::{has_order, key_of_order};
 use crate::passes::first_of;
 use crate::row::Row;
 use crate::slot::Slot;
-use crate::trying::go_to_end;
+use crate::trying::along;
 use dbf_file::Table;
 use key_lists::KeyList;
 use key_lists::laws::puts_in_order;
 use row_keys::Kept;
-use row_moves::{Landed, Spent};
+use row_moves::{Landed, RowMove, Spent};
 
 /// TOP in an order, at a cost that is higher by a base.
 pub(crate) fn judge<K: KeyList, F: Fn(&Row<'_>) -> bool>(
@@ -70,7 +70,7 @@ fn judge_along<K: KeyList, F: Fn(&Row<'_>) -> bool>(
     if budget < base {
         return Err(Spent);
     }
-    match go_to_end(table, slots, order, true, see, budget - base) {
+    match along(table, slots, order, None, RowMove::Top, see, budget - base) {
         Ok(landed) => Ok(dearer(landed, base)),
         Err(spent) => Err(spent),
     }

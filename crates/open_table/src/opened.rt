@@ -11,7 +11,7 @@ ghost use Rattle.xvalue.specs.Kinds.{kind_of};
 ghost use Rattle.key_lists.specs.KeyForm.{IsKeyText};
 ghost use Rattle.row_keys.specs.Lists.{index_list};
 ghost use Rattle.shape.specs.Keys.{IsKey, key_length};
-ghost use Rattle.row_moves.specs.Moves.{Landing, IsMove, end_of, skipped, sought};
+ghost use Rattle.row_moves.specs.Moves.{Landing, IsMove, end_of, landing_of, sought};
 ghost use Rattle.open_table.specs.Tables.{HasDeclared, IsOrder, order_pairs, pairs_in_order, pair_at, packed, emptied};
 ghost use Rattle.open_table.specs.Tables.{remade, open_list};
 ghost use Rattle.open_table.specs.Marks.{mark_at, count_stale, parts_in};
@@ -27,7 +27,7 @@ use crate::{IndexedTable, Refused, Row};
 use arrayvec::ArrayVec;
 use dbf_file::{Table, value};
 use key_lists::KeyList;
-use row_moves::{Landed, Spent};
+use row_moves::{Landed, RowMove, Spent};
 use shape::KeyParts;
 use std::alloc::{AllocError, Global};
 use std::marker::Model;
@@ -199,49 +199,24 @@ impl<K: KeyList> OpenTable<K> {
         }
     }
 
-    /// TOP, and what it cost. Where the cost is above the budget nothing changes.
-    pub fn top<F: Fn(&Row<'_>) -> bool>(&mut self, see: F, budget: u64) -> Result<u64, Spent>
-        requires { F.IsAlwaysCallable see }
-        ensures { (shown : ℕ → Bool)
-            → ShowsRows (FnReturnsAt F.Fn) see self.old.table.structure self.old.table.rows shown
-            → IsMoved (landed_at self.old) self.old self.new (end_of shown true
-            (order_pairs (order_index self.old.order self.old.list) self.old.table)) budget result }
-    {
-        let order = self.order_index();
-        let moved = self.table.go_to_end(order, true, &see, budget);
-        self.settle(moved)
-    }
-
-    /// BOTTOM, and what it cost. Where the cost is above the budget nothing changes.
-    pub fn bottom<F: Fn(&Row<'_>) -> bool>(&mut self, see: F, budget: u64) -> Result<u64, Spent>
-        requires { F.IsAlwaysCallable see }
-        ensures { (shown : ℕ → Bool)
-            → ShowsRows (FnReturnsAt F.Fn) see self.old.table.structure self.old.table.rows shown
-            → IsMoved (landed_at self.old) self.old self.new (end_of shown false
-            (order_pairs (order_index self.old.order self.old.list) self.old.table)) budget result }
-    {
-        let order = self.order_index();
-        let moved = self.table.go_to_end(order, false, &see, budget);
-        self.settle(moved)
-    }
-
-    /// SKIP: so many rows on, or back where the number is below 0, and what it cost. Where the cost is above the budget
-    /// nothing changes.
-    pub fn skip<F: Fn(&Row<'_>) -> bool>(
+    /// TOP, BOTTOM or SKIP, and what it cost. Where the cost is above the budget nothing changes.
+    pub fn make_move<F: Fn(&Row<'_>) -> bool>(
         &mut self,
-        steps: i128,
+        asked: RowMove,
         see: F,
         budget: u64,
     ) -> Result<u64, Spent>
         requires { F.IsAlwaysCallable see }
         ensures { (shown : ℕ → Bool)
             → ShowsRows (FnReturnsAt F.Fn) see self.old.table.structure self.old.table.rows shown
-            → IsMoved (landed_at self.old) self.old self.new (skipped shown steps
+            → IsMoved (landed_at self.old) self.old self.new (landing_of shown asked
             (pair_at (order_index self.old.order self.old.list) self.old.table self.old.pointer)
             (order_pairs (order_index self.old.order self.old.list) self.old.table)) budget result }
     {
         let order = self.order_index();
-        let moved = self.table.skip(order, self.pointer, steps, &see, budget);
+        let moved = self
+            .table
+            .make_move(order, self.pointer, asked, &see, budget);
         self.settle(moved)
     }
 

@@ -10,7 +10,7 @@ ghost use Rattle.shape.specs.Keys.{IsKey, key_of, key_length};
 ghost use Rattle.row_keys.specs.Lists.{index_list, row_pair, kept_rows, IsExact, IsIndexOf, IsAsBefore, HasAdded};
 ghost use Rattle.row_keys.specs.Lists.{HasFollowed};
 ghost use Rattle.row_moves.specs.Orders.{MayTry, Sees};
-ghost use Rattle.row_moves.specs.Moves.{IsMove, end_of, skipped, sought};
+ghost use Rattle.row_moves.specs.Moves.{IsMove, landing_of, sought};
 ghost use Rattle.open_table.specs.Marks.{is_among as is_among_of};
 ghost use Rattle.open_table.specs.Slots.{IsSlot, GoesBy, HasRoomForPair, PutsBy, Prepares, committed, discarded};
 ghost use Rattle.open_table.specs.Slots.{left_if_open};
@@ -21,7 +21,7 @@ use dbf_file::Table;
 use key_lists::{Entry, KeyList};
 use row_keys::exact::lists_rows;
 use row_keys::{Index, Kept, build_of};
-use row_moves::{Landed, Spent};
+use row_moves::{Landed, RowMove, Spent};
 use shape::KeyParts;
 use std::alloc::{AllocError, Global};
 use std::marker::Model;
@@ -235,41 +235,22 @@ impl<K: KeyList> Slot<K> {
         }
     }
 
-    /// TOP or BOTTOM in the order of the list, which isn't stale.
-    pub(crate) fn go_to_end<F: Fn(u32) -> bool>(
-        &mut self,
-        forward: bool,
-        see: &F,
-        budget: u64,
-    ) -> Result<Landed, Spent>
-        requires fresh { is_none self.old.index ≡ false }
-        requires callable { IfSome self.old.index (λ x. MayTry F.pre see.now x.pairs) }
-        ensures lands { (shown : ℕ → Bool) → IfSome self.old.index (λ x. Sees F.post see.now x.pairs shown
-            → IsMove (end_of shown forward x.pairs) budget result) }
-        ensures same { self.new ≡ self.old }
-    {
-        match &mut self.index {
-            Some(index) => index.go_to_end(forward, see, budget),
-            None => unreachable!(),
-        }
-    }
-
-    /// SKIP in the order of the list, which isn't stale.
-    pub(crate) fn skip<F: Fn(u32) -> bool>(
+    /// A move in the order of the list, which isn't stale.
+    pub(crate) fn make_move<F: Fn(u32) -> bool>(
         &mut self,
         from: Option<Entry>,
-        steps: i128,
+        asked: RowMove,
         see: &F,
         budget: u64,
     ) -> Result<Landed, Spent>
         requires fresh { is_none self.old.index ≡ false }
         requires callable { IfSome self.old.index (λ x. MayTry F.pre see.now x.pairs) }
         ensures lands { (shown : ℕ → Bool) → IfSome self.old.index (λ x. Sees F.post see.now x.pairs shown
-            → IsMove (skipped shown steps from x.pairs) budget result) }
+            → IsMove (landing_of shown asked from x.pairs) budget result) }
         ensures same { self.new ≡ self.old }
     {
         match &mut self.index {
-            Some(index) => index.skip(from, steps, see, budget),
+            Some(index) => index.make_move(from, asked, see, budget),
             None => unreachable!(),
         }
     }

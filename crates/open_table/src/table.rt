@@ -8,7 +8,7 @@ ghost use Rattle.dbf_file.specs.Tables.{letter_at, decimals_at, row_widths};
 ghost use Rattle.dbf_file.specs.Values.{kind_for};
 ghost use Rattle.key_lists.specs.KeyForm.{IsKeyText};
 ghost use Rattle.shape.specs.Keys.{IsKey, key_length};
-ghost use Rattle.row_moves.specs.Moves.{IsMove, end_of, skipped, sought};
+ghost use Rattle.row_moves.specs.Moves.{IsMove, end_of, landing_of, sought};
 ghost use Rattle.std.specs.Fn.{FnReturnsAt};
 ghost use Rattle.open_table.specs.Marks.{mark_at, is_fresh, parts_in, form_in, count_stale};
 ghost use Rattle.open_table.specs.Tables.{HasDeclared, IsOrder, order_pairs, pairs_in_order, pair_at, appended};
@@ -29,7 +29,7 @@ use dbf_file::Table;
 use key_lists::KeyList;
 use row_keys::Kept;
 use row_keys::laws::index_lists;
-use row_moves::{Landed, Spent};
+use row_moves::{Landed, RowMove, Spent};
 use shape::KeyParts;
 use std::alloc::{AllocError, Global};
 use std::marker::Model;
@@ -86,44 +86,28 @@ impl<K: KeyList> IndexedTable<K> {
         self.table.rows() as u32
     }
 
-    /// TOP or BOTTOM in an order: record order, or that of the index of this number.
-    pub fn go_to_end<F: Fn(&Row<'_>) -> bool>(
-        &mut self,
-        order: Option<u8>,
-        forward: bool,
-        see: &F,
-        budget: u64,
-    ) -> Result<Landed, Spent>
-        requires order { IsOrder order self.old }
-        requires callable { F.IsAlwaysCallable see.now }
-        ensures lands { (shown : ℕ → Bool) → ShowsRows (FnReturnsAt F.Fn) see.now self.old.structure self.old.rows shown
-            → IsMove (end_of shown forward (order_pairs order self.old)) budget result }
-        ensures same { self.new ≡ self.old }
-    {
-        trying::go_to_end(&self.table, &mut self.slots, order, forward, see, budget)
-    }
-
-    /// SKIP in an order: record order, or that of the index of this number; from a record or the end of file.
-    pub fn skip<F: Fn(&Row<'_>) -> bool>(
+    /// A move in an order: record order, or that of the index of this number; from a record or the end of file.
+    pub fn make_move<F: Fn(&Row<'_>) -> bool>(
         &mut self,
         order: Option<u8>,
         pointer: Option<u32>,
-        steps: i128,
+        asked: RowMove,
         see: &F,
         budget: u64,
     ) -> Result<Landed, Spent>
         requires order { IsOrder order self.old }
         requires callable { F.IsAlwaysCallable see.now }
         ensures lands { (shown : ℕ → Bool) → ShowsRows (FnReturnsAt F.Fn) see.now self.old.structure self.old.rows shown
-            → IsMove (skipped shown steps (pair_at order self.old pointer) (order_pairs order self.old)) budget result }
+            → IsMove (landing_of shown asked (pair_at order self.old pointer) (order_pairs order self.old))
+            budget result }
         ensures same { self.new ≡ self.old }
     {
-        trying::skip(
+        trying::along(
             &self.table,
             &mut self.slots,
             order,
             pointer,
-            steps,
+            asked,
             see,
             budget,
         )

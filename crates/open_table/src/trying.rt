@@ -7,7 +7,7 @@ ghost use Rattle.dbf_file.specs.Rows.{row_at};
 ghost use Rattle.shape.specs.Keys.{IsKey, key_of};
 ghost use Rattle.row_keys.specs.Lists.{index_list};
 ghost use Rattle.row_moves.specs.Orders.{record_order};
-ghost use Rattle.row_moves.specs.Moves.{IsMove, end_of, skipped, sought};
+ghost use Rattle.row_moves.specs.Moves.{IsMove, landing_of, sought};
 ghost use Rattle.open_table.specs.Marks.{mark_at, is_fresh};
 ghost use Rattle.open_table.specs.Slots.{SlotState, IsSlot, mark_of};
 ghost use Rattle.open_table.specs.Tables.{IsOrder, IsIndexed, order_pairs, order_key, pair_at, indexed};
@@ -18,7 +18,7 @@ use crate::slot::Slot;
 use dbf_file::Table;
 use key_lists::{Entry, KeyList};
 use row_keys::laws::index_lists;
-use row_moves::{Landed, Records, Spent, bottom, skip as skip_in, top};
+use row_moves::{Landed, Records, RowMove, Spent, make_move};
 
 /// Whether a test shows a record, counted from 1.
 fn shows<F: Fn(&Row<'_>) -> bool>(see: &F, table: &Table, number: u32) -> bool
@@ -47,93 +47,6 @@ fn place_of<K: KeyList>(slots: &Vec<Slot<K>>, number: u8) -> usize
     unreachable!()
 }
 
-/// TOP or BOTTOM in record order.
-fn records_end<F: Fn(&Row<'_>) -> bool>(
-    table: &Table,
-    forward: bool,
-    see: &F,
-    budget: u64,
-) -> Result<Landed, Spent>
-    requires callable { F.IsAlwaysCallable see.now }
-    requires few { length table.now.rows ≤ 1000000 }
-    ensures { (shown : ℕ → Bool) → ShowsRows (FnReturnsAt F.Fn) see.now table.now.structure table.now.rows shown
-        → IsMove (end_of shown forward (record_order (length table.now.rows))) budget result }
-{
-    let mut order = Records {
-        count: table.rows() as u32,
-    };
-    let test = |n: u32| -> bool
-        requires callable { F.IsAlwaysCallable see.now }
-        requires few { length table.now.rows ≤ 1000000 }
-        requires first { 1 ≤ n }
-        requires last { n ≤ length table.now.rows }
-        ensures { (shown : ℕ → Bool)
-            → ShowsRows (FnReturnsAt F.Fn) see.entry.now table.entry.now.structure table.entry.now.rows shown
-            → result ≡ shown n }
-    { shows(see, table, n) };
-    if forward {
-        top(&mut order, &test, budget)
-    } else {
-        bottom(&mut order, &test, budget)
-    }
-}
-
-/// TOP or BOTTOM in the order of an index, which isn't stale.
-fn slot_end<K: KeyList, F: Fn(&Row<'_>) -> bool>(
-    slot: &mut Slot<K>,
-    table: &Table,
-    forward: bool,
-    see: &F,
-    budget: u64,
-) -> Result<Landed, Spent>
-    requires exact { IsSlot table.now.structure table.now.rows slot.old }
-    requires fresh { is_none slot.old.index ≡ false }
-    requires callable { F.IsAlwaysCallable see.now }
-    requires few { length table.now.rows ≤ 1000000 }
-    ensures lands { (shown : ℕ → Bool) → ShowsRows (FnReturnsAt F.Fn) see.now table.now.structure table.now.rows shown
-        → IsMove (end_of shown forward (index_list slot.old.parts table.now.rows)) budget result }
-    ensures same { slot.new ≡ slot.old }
-{
-    index_lists();
-    let test = |n: u32| -> bool
-        requires callable { F.IsAlwaysCallable see.now }
-        requires few { length table.now.rows ≤ 1000000 }
-        requires first { 1 ≤ n }
-        requires last { n ≤ length table.now.rows }
-        ensures { (shown : ℕ → Bool)
-            → ShowsRows (FnReturnsAt F.Fn) see.entry.now table.entry.now.structure table.entry.now.rows shown
-            → result ≡ shown n }
-    { shows(see, table, n) };
-    slot.go_to_end(forward, &test, budget)
-}
-
-/// TOP or BOTTOM in an order.
-pub(crate) fn go_to_end<K: KeyList, F: Fn(&Row<'_>) -> bool>(
-    table: &Table,
-    slots: &mut Vec<Slot<K>>,
-    order: Option<u8>,
-    forward: bool,
-    see: &F,
-    budget: u64,
-) -> Result<Landed, Spent>
-    requires indexed { IsIndexed table.now.structure table.now.rows slots.old.items }
-    requires order { IsOrder order (indexed table.now.structure table.now.rows slots.old.items) }
-    requires callable { F.IsAlwaysCallable see.now }
-    ensures lands { (shown : ℕ → Bool) → ShowsRows (FnReturnsAt F.Fn) see.now table.now.structure table.now.rows shown
-        → IsMove (end_of shown forward (order_pairs order
-        (indexed table.now.structure table.now.rows slots.old.items))) budget result }
-    ensures same { slots.new.items ≡ slots.old.items }
-{
-    match order {
-        None => records_end(table, forward, see, budget),
-        Some(number) => {
-            let place = place_of(slots, number);
-            let slot = &mut slots[place];
-            slot_end(slot, table, forward, see, budget)
-        }
-    }
-}
-
 /// The place of a record in the order of an index.
 fn keyed_entry<K: KeyList>(slot: &Slot<K>, table: &Table, pointer: Option<u32>) -> Option<Entry>
     requires { IsKey table.now.structure slot.now.parts }
@@ -145,18 +58,18 @@ fn keyed_entry<K: KeyList>(slot: &Slot<K>, table: &Table, pointer: Option<u32>) 
     }
 }
 
-/// SKIP in record order.
-fn records_skip<F: Fn(&Row<'_>) -> bool>(
+/// A move in record order.
+fn along_records<F: Fn(&Row<'_>) -> bool>(
     table: &Table,
     pointer: Option<u32>,
-    steps: i128,
+    asked: RowMove,
     see: &F,
     budget: u64,
 ) -> Result<Landed, Spent>
     requires callable { F.IsAlwaysCallable see.now }
     requires few { length table.now.rows ≤ 1000000 }
     ensures { (shown : ℕ → Bool) → ShowsRows (FnReturnsAt F.Fn) see.now table.now.structure table.now.rows shown
-        → IsMove (skipped shown steps (option_map (λ n. ([], n)) pointer) (record_order (length table.now.rows)))
+        → IsMove (landing_of shown asked (option_map (λ n. ([], n)) pointer) (record_order (length table.now.rows)))
         budget result }
 {
     let mut order = Records {
@@ -171,15 +84,15 @@ fn records_skip<F: Fn(&Row<'_>) -> bool>(
             → ShowsRows (FnReturnsAt F.Fn) see.entry.now table.entry.now.structure table.entry.now.rows shown
             → result ≡ shown n }
     { shows(see, table, n) };
-    skip_in(&mut order, pointer, steps, &test, budget)
+    make_move(&mut order, pointer, asked, &test, budget)
 }
 
-/// SKIP in the order of an index, which isn't stale.
-fn slot_skip<K: KeyList, F: Fn(&Row<'_>) -> bool>(
+/// A move in the order of an index, which isn't stale.
+fn along_slot<K: KeyList, F: Fn(&Row<'_>) -> bool>(
     slot: &mut Slot<K>,
     table: &Table,
     pointer: Option<u32>,
-    steps: i128,
+    asked: RowMove,
     see: &F,
     budget: u64,
 ) -> Result<Landed, Spent>
@@ -188,7 +101,7 @@ fn slot_skip<K: KeyList, F: Fn(&Row<'_>) -> bool>(
     requires callable { F.IsAlwaysCallable see.now }
     requires few { length table.now.rows ≤ 1000000 }
     ensures lands { (shown : ℕ → Bool) → ShowsRows (FnReturnsAt F.Fn) see.now table.now.structure table.now.rows shown
-        → IsMove (skipped shown steps
+        → IsMove (landing_of shown asked
         (option_map (λ n. (key_of slot.old.parts (row_at table.now.rows (n - 1)).texts, n)) pointer)
         (index_list slot.old.parts table.now.rows)) budget result }
     ensures same { slot.new ≡ slot.old }
@@ -204,16 +117,16 @@ fn slot_skip<K: KeyList, F: Fn(&Row<'_>) -> bool>(
             → ShowsRows (FnReturnsAt F.Fn) see.entry.now table.entry.now.structure table.entry.now.rows shown
             → result ≡ shown n }
     { shows(see, table, n) };
-    slot.skip(from, steps, &test, budget)
+    slot.make_move(from, asked, &test, budget)
 }
 
-/// SKIP in an order, from a record or the end of file.
-pub(crate) fn skip<K: KeyList, F: Fn(&Row<'_>) -> bool>(
+/// A move in an order, from a record or the end of file.
+pub(crate) fn along<K: KeyList, F: Fn(&Row<'_>) -> bool>(
     table: &Table,
     slots: &mut Vec<Slot<K>>,
     order: Option<u8>,
     pointer: Option<u32>,
-    steps: i128,
+    asked: RowMove,
     see: &F,
     budget: u64,
 ) -> Result<Landed, Spent>
@@ -221,17 +134,17 @@ pub(crate) fn skip<K: KeyList, F: Fn(&Row<'_>) -> bool>(
     requires order { IsOrder order (indexed table.now.structure table.now.rows slots.old.items) }
     requires callable { F.IsAlwaysCallable see.now }
     ensures lands { (shown : ℕ → Bool) → ShowsRows (FnReturnsAt F.Fn) see.now table.now.structure table.now.rows shown
-        → IsMove (skipped shown steps (pair_at order
+        → IsMove (landing_of shown asked (pair_at order
         (indexed table.now.structure table.now.rows slots.old.items) pointer)
         (order_pairs order (indexed table.now.structure table.now.rows slots.old.items))) budget result }
     ensures same { slots.new.items ≡ slots.old.items }
 {
     match order {
-        None => records_skip(table, pointer, steps, see, budget),
+        None => along_records(table, pointer, asked, see, budget),
         Some(number) => {
             let place = place_of(slots, number);
             let slot = &mut slots[place];
-            slot_skip(slot, table, pointer, steps, see, budget)
+            along_slot(slot, table, pointer, asked, see, budget)
         }
     }
 }

@@ -5,13 +5,13 @@ ghost use Rattle.dbf_file.specs.Rows.{row_at, with_text};
 ghost use Rattle.dbf_file.specs.Tables.{row_widths};
 ghost use Rattle.row_keys.specs.Lists.{row_pair, IsIndexOf, IsAsBefore, IsExact, HasAdded, HasFollowed};
 ghost use Rattle.row_moves.specs.Orders.{MayTry, Sees};
-ghost use Rattle.row_moves.specs.Moves.{IsMove, end_of, skipped, sought};
+ghost use Rattle.row_moves.specs.Moves.{IsMove, landing_of, sought};
 
 use crate::key_change::{key_with, names_field};
 use crate::laws::index_lists;
 use dbf_file::Table;
 use key_lists::{Entry, KeyList};
-use row_moves::{Landed, Spent, bottom, seek, skip, top};
+use row_moves::{Landed, RowMove, Spent, make_move, seek};
 use shape::KeyParts;
 use std::alloc::AllocError;
 use std::marker::Model;
@@ -53,39 +53,20 @@ impl<K: KeyList> Index<K> {
         &self.list
     }
 
-    /// TOP or BOTTOM in the order of the keys.
-    pub fn go_to_end<F: Fn(u32) -> bool>(
-        &mut self,
-        forward: bool,
-        see: &F,
-        budget: u64,
-    ) -> Result<Landed, Spent>
-        requires { MayTry F.pre see.now self.old.pairs }
-        ensures lands { (shown : ℕ → Bool) → Sees F.post see.now self.old.pairs shown
-            → IsMove (end_of shown forward self.old.pairs) budget result }
-        ensures same { self.new ≡ self.old }
-    {
-        if forward {
-            top(&mut self.list, see, budget)
-        } else {
-            bottom(&mut self.list, see, budget)
-        }
-    }
-
-    /// SKIP in the order of the keys, from a pair or the end of file.
-    pub fn skip<F: Fn(u32) -> bool>(
+    /// A move in the order of the keys, from a pair or the end of file.
+    pub fn make_move<F: Fn(u32) -> bool>(
         &mut self,
         from: Option<Entry>,
-        steps: i128,
+        asked: RowMove,
         see: &F,
         budget: u64,
     ) -> Result<Landed, Spent>
         requires { MayTry F.pre see.now self.old.pairs }
         ensures lands { (shown : ℕ → Bool) → Sees F.post see.now self.old.pairs shown
-            → IsMove (skipped shown steps from self.old.pairs) budget result }
+            → IsMove (landing_of shown asked from self.old.pairs) budget result }
         ensures same { self.new ≡ self.old }
     {
-        skip(&mut self.list, from, steps, see, budget)
+        make_move(&mut self.list, from, asked, see, budget)
     }
 
     /// SEEK among the keys.

@@ -6,6 +6,8 @@ use Rattle.key_lists.specs.Laws.{begins_with}
 use Rattle.key_lists.specs.Pairs.{Pair}
 use Rattle.row_moves.specs.declared.landed.Landed.{Landed}
 use Rattle.row_moves.specs.declared.landed.Spent.{Spent}
+use Rattle.row_moves.specs.declared.moves.RowMove.{RowMove}
+use Rattle.row_moves.specs.declared.moves.RowMove.TheVariants.{Top, Bottom, Skip}
 use Rattle.row_moves.specs.Orders.{candidates}
 
 -- the first pair whose row is shown
@@ -52,6 +54,12 @@ hops shown forward (suc n) at pairs =
 abbrev pub skipped : (ℕ → Bool) → ℤ → Option Pair → List Pair → Landing
 skipped shown (pos n) at pairs = hops shown true n at pairs
 skipped shown (negsuc n) at pairs = hops shown false (suc n) at pairs
+
+-- where a move leads from a pair, or from the end of file
+abbrev pub landing_of : (ℕ → Bool) → RowMove → Option Pair → List Pair → Landing
+landing_of shown Top at pairs = end_of shown true pairs
+landing_of shown Bottom at pairs = end_of shown false pairs
+landing_of shown (Skip forward rows) at pairs = hops shown forward rows at pairs
 
 -- nothing but blanks
 abbrev pub is_all_blanks : List ℕ → Bool

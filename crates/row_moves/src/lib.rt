@@ -19,6 +19,6 @@ mod row_order;
 
 pub use key_search::seek;
 pub use landed::{Landed, Spent};
-pub use moves::{bottom, skip, top};
+pub use moves::{RowMove, make_move};
 pub use records::Records;
 pub use row_order::RowOrder;

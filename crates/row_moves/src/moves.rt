@@ -1,61 +1,65 @@
 //! Moves over rows in an order.
 
-ghost use Rattle.std.specs.Prelude.{◌≡◌, ℕ, ◌≤◌, Bool, true, false, IfOk, option_map};
+ghost use Rattle.std.specs.Prelude.{◌≡◌, ℕ, ◌≤◌, Bool, false, List, Option, IfOk, option_map};
 ghost use Rattle.std.specs.Result.{result_map_both};
 ghost use Rattle.key_lists.specs.Order.{IsAscending, first};
-ghost use Rattle.key_lists.specs.Pairs.{is_before};
+ghost use Rattle.key_lists.specs.Pairs.{Pair, is_before};
 ghost use Rattle.row_moves.specs.Orders.{candidates, MayTry, Sees};
-ghost use Rattle.row_moves.specs.Moves.{IsMove, IsScan, end_of, hops, skipped};
+ghost use Rattle.row_moves.specs.Moves.{IsMove, IsScan, end_of, hops, landing_of, skipped};
 
 use crate::places::{end_from, is_past, record_of};
 use crate::{Landed, RowOrder, Spent};
 use key_lists::laws::meets_each;
 
-/// TOP: the first shown row, or the end of file.
-pub fn top<O: RowOrder, F: Fn(u32) -> bool>(
-    order: &mut O,
-    see: &F,
-    budget: u64,
-) -> Result<Landed, Spent>
-    requires { MayTry F.pre see.now (O.list order.old).pairs }
-    ensures lands { (shown : ℕ → Bool) → Sees F.post see.now (O.list order.old).pairs shown
-        → IsMove (end_of shown true (O.list order.old).pairs) budget result }
-    ensures same { O.list order.new ≡ O.list order.old }
-{
-    go_to_end(order, true, see, budget)
+/// What a move over rows in an order asks for.
+#[derive(Clone, Copy)]
+pub enum RowMove {
+    /// TOP: the first shown row, or the end of file.
+    Top,
+    /// BOTTOM: the last shown row, or the end of file.
+    Bottom,
+    /// SKIP: so many shown rows on, or back.
+    Skip { forward: bool, rows: u128 },
 }
 
-/// BOTTOM: the last shown row, or the end of file.
-pub fn bottom<O: RowOrder, F: Fn(u32) -> bool>(
-    order: &mut O,
-    see: &F,
-    budget: u64,
-) -> Result<Landed, Spent>
-    requires { MayTry F.pre see.now (O.list order.old).pairs }
-    ensures lands { (shown : ℕ → Bool) → Sees F.post see.now (O.list order.old).pairs shown
-        → IsMove (end_of shown false (O.list order.old).pairs) budget result }
-    ensures same { O.list order.new ≡ O.list order.old }
-{
-    go_to_end(order, false, see, budget)
+impl RowMove {
+    /// SKIP by a number: so many rows on, or back where it is below 0.
+    pub fn skip(steps: i128) -> RowMove
+        ensures { (shown : ℕ → Bool) (at : Option Pair) (pairs : List Pair)
+            → landing_of shown result at pairs ≡ skipped shown steps at pairs }
+    {
+        let rows = steps.unsigned_abs();
+        if steps < 0 {
+            return RowMove::Skip {
+                forward: false,
+                rows,
+            };
+        }
+        RowMove::Skip {
+            forward: true,
+            rows,
+        }
+    }
 }
 
-/// SKIP: from a place or the end of file so many shown rows on, or back where the number is below 0.
-pub fn skip<O: RowOrder, F: Fn(u32) -> bool>(
+/// Makes a move, from a place or the end of file. TOP and BOTTOM lead to the same row wherever they begin.
+pub fn make_move<O: RowOrder, F: Fn(u32) -> bool>(
     order: &mut O,
     from: Option<O::Place>,
-    steps: i128,
+    asked: RowMove,
     see: &F,
     budget: u64,
 ) -> Result<Landed, Spent>
     requires { MayTry F.pre see.now (O.list order.old).pairs }
     ensures lands { (shown : ℕ → Bool) → Sees F.post see.now (O.list order.old).pairs shown
-        → IsMove (skipped shown steps (option_map O.pair from) (O.list order.old).pairs) budget result }
+        → IsMove (landing_of shown asked (option_map O.pair from) (O.list order.old).pairs) budget result }
     ensures same { O.list order.new ≡ O.list order.old }
 {
-    if steps < 0 {
-        return go_on(order, from, false, steps.unsigned_abs(), see, budget);
+    match asked {
+        RowMove::Top => go_to_end(order, true, see, budget),
+        RowMove::Bottom => go_to_end(order, false, see, budget),
+        RowMove::Skip { forward, rows } => go_on(order, from, forward, rows, see, budget),
     }
-    go_on(order, from, true, steps.unsigned_abs(), see, budget)
 }
 
 // The first shown row of the order, or the last.

@@ -30,7 +30,7 @@ use crate::uses::Use;
 use dbf_file::Table;
 use key_lists::KeyList;
 use open_table::{AppendError, IndexedTable, OpenTable, Refused, Row};
-use row_moves::Spent;
+use row_moves::{RowMove, Spent};
 use shape::Shape;
 use shape::laws::legal_shapes_have_keys;
 use std::alloc::{AllocError, Global};
@@ -206,7 +206,7 @@ impl<K: KeyList> Store<K> {
         ensures { MovesHere (FnReturnsAt F.Fn) see top_of self.old self.new budget result }
     {
         let t = self.place_here();
-        self.tables[t].top(see, budget)
+        self.tables[t].make_move(RowMove::Top, see, budget)
     }
 
     /// BOTTOM, and what it cost. Where the cost is above the budget nothing changes.
@@ -216,7 +216,7 @@ impl<K: KeyList> Store<K> {
         ensures { MovesHere (FnReturnsAt F.Fn) see bottom_of self.old self.new budget result }
     {
         let t = self.place_here();
-        self.tables[t].bottom(see, budget)
+        self.tables[t].make_move(RowMove::Bottom, see, budget)
     }
 
     /// SKIP: so many rows on, or back where the number is below 0, and what it cost. Where the cost is above the budget
@@ -232,7 +232,7 @@ impl<K: KeyList> Store<K> {
         ensures { MovesHere (FnReturnsAt F.Fn) see (skip_of steps) self.old self.new budget result }
     {
         let t = self.place_here();
-        self.tables[t].skip(steps, see, budget)
+        self.tables[t].make_move(RowMove::skip(steps), see, budget)
     }
 
     /// SEEK in the index of the order: the first shown row whose key matches, or the end of file; and what it cost.

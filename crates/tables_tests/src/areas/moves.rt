@@ -4,7 +4,7 @@
 use crate::files::lists::put;
 use key_lists::{Entry, KeyList, SortedKeys};
 use ndx_tree::NdxTree;
-use row_moves::{Landed, Records, RowOrder, Spent, bottom, seek, skip, top};
+use row_moves::{Landed, Records, RowMove, RowOrder, Spent, make_move, seek};
 use std::alloc::{AllocError, Global};
 use std::test::Fail;
 
@@ -70,8 +70,10 @@ fn skips<O: RowOrder>(
 ) -> bool {
     let (_, steps, wanted) = *case;
     let below = wanted.1.saturating_sub(1);
-    is_answer(skip(order, from, steps, &is_shown, wanted.1), wanted)
-        && is_spent(skip(order, again, steps, &is_shown, below))
+    is_answer(
+        make_move(order, from, RowMove::skip(steps), &is_shown, wanted.1),
+        wanted,
+    ) && is_spent(make_move(order, again, RowMove::skip(steps), &is_shown, below))
 }
 
 fn first_wrong_skip(order: &mut Records, cases: &[Skip]) -> Option<usize> {
@@ -93,16 +95,35 @@ fn first_wrong_keyed_skip(keys: &mut SortedKeys, cases: &[Skip]) -> Option<usize
 }
 
 fn ends<O: RowOrder>(order: &mut O, first: Wanted, last: Wanted) -> bool {
-    is_answer(top(order, &is_shown, first.1), first)
-        && is_spent(top(order, &is_shown, first.1.saturating_sub(1)))
-        && is_answer(bottom(order, &is_shown, last.1), last)
-        && is_spent(bottom(order, &is_shown, last.1.saturating_sub(1)))
+    is_answer(
+        make_move(order, None, RowMove::Top, &is_shown, first.1),
+        first,
+    ) && is_spent(make_move(
+        order,
+        None,
+        RowMove::Top,
+        &is_shown,
+        first.1.saturating_sub(1),
+    )) && is_answer(
+        make_move(order, None, RowMove::Bottom, &is_shown, last.1),
+        last,
+    ) && is_spent(make_move(
+        order,
+        None,
+        RowMove::Bottom,
+        &is_shown,
+        last.1.saturating_sub(1),
+    ))
 }
 
 fn nothing_is_shown<O: RowOrder>(order: &mut O) -> bool {
-    is_answer(top(order, &|_| false, 6), (0, 6, true, false))
-        && is_answer(bottom(order, &|_| false, 6), (0, 6, true, false))
-        && is_spent(top(order, &|_| false, 5))
+    is_answer(
+        make_move(order, None, RowMove::Top, &|_| false, 6),
+        (0, 6, true, false),
+    ) && is_answer(
+        make_move(order, None, RowMove::Bottom, &|_| false, 6),
+        (0, 6, true, false),
+    ) && is_spent(make_move(order, None, RowMove::Top, &|_| false, 5))
 }
 
 fn in_record_order() -> [Skip; 9] {

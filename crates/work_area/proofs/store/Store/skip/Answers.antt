@@ -1,10 +1,11 @@
-use Rattle.std.proofs.Common.{ℕ, ap, subst}
+use Rattle.std.proofs.Common.{◌≡◌, ℕ, Bool, ap, subst}
 use Rattle.std.specs.Fn.{FnReturnsAt}
 use Rattle.std.proofs.lemmas.Int.{to_z-of_z}
 use Rattle.std.specs.Int.{w128}
-use Rattle.std.specs.Prelude.{Bool}
+use Rattle.row_moves.specs.Moves.{landing_of, skipped}
+use Rattle.open_table.specs.Tables.{order_pairs, pair_at}
 use Rattle.open_table.specs.Tried.{ShowsRows}
-use Rattle.open_table.specs.Open.{OpenState, IsMoved, landed}
+use Rattle.open_table.specs.Open.{OpenState, IsMoved, landed, order_index}
 use Rattle.work_area.specs.Areas.{StoreState, with_table}
 use Rattle.work_area.specs.Calls.{skip_of}
 use Rattle.work_area.proofs.PlaceLemmas.{IsHere, stands, moved}
@@ -13,10 +14,24 @@ use Rattle.work_area.proofs.store.Store.skip.Goals as goal
 pub returns : goal.returns
 returns g c =
     let now : StoreState = c.args.self.now in
-    let inside : StoreState = record { tables = c.self.inside.tables.items; areas = c.self.inside.areas; selected = c.self.inside.selected; limit = c.self.inside.limit } in
+    let s = c.self.inside in
+    let inside : StoreState =
+    record { tables = s.tables.items; areas = s.areas; selected = s.selected; limit = s.limit } in
     let t = c.place_here-t.result in
     let o : OpenState = c.index_mut.result.now in
-    let there : IsHere now t o = stands inside now t o c.self.view_is c.requires.open c.place_here-t.ensures.place c.place_here-t.ensures.table c.place_here-t.ensures.within c.index_mut.ensures.value in
-    let made = ap (λ (s : StoreState). with_table s t c.skip.new.self) c.self.view_is in
-    let said = subst (λ z. (shown : ℕ → Bool) → ShowsRows (FnReturnsAt g.F.Fn) c.args.see o.table.structure o.table.rows shown → IsMoved (landed o) o c.skip.new.self (skip_of z o shown) c.args.budget c.skip.result) (to_z-of_z w128 c.args.steps c.ranges.steps) c.skip.ensures in
-    moved (FnReturnsAt g.F.Fn) c.args.see (skip_of c.args.steps) now _ t o c.skip.new.self c.args.budget c.skip.result there made said
+    let here = c.place_here-t.ensures in
+    let there : IsHere now t o = stands inside now t o c.self.view_is c.requires.open here.place here.table here.within
+    c.index_mut.ensures.value in
+    let made = ap (λ (s : StoreState). with_table s t c.make_move.new.self) c.self.view_is in
+    let order = order_index o.order o.list in
+    let from = pair_at order o.table o.pointer in
+    let pairs = order_pairs order o.table in
+    let is_skip = λ (shown : ℕ → Bool).
+    subst (λ z. landing_of shown c.skip.result from pairs ≡ skipped shown z from pairs)
+    (to_z-of_z w128 c.args.steps c.ranges.steps) (c.skip.ensures shown from pairs) in
+    let Sees = λ (shown : ℕ → Bool). ShowsRows (FnReturnsAt g.F.Fn) c.args.see o.table.structure o.table.rows shown in
+    let said = λ (shown : ℕ → Bool) (sees : Sees shown).
+    subst (λ l. IsMoved (landed o) o c.make_move.new.self l c.args.budget c.make_move.result) (is_skip shown)
+    (c.make_move.ensures shown sees) in
+    moved (FnReturnsAt g.F.Fn) c.args.see (skip_of c.args.steps) now _ t o c.make_move.new.self c.args.budget
+    c.make_move.result there made said

@@ -9,9 +9,14 @@ use Rattle.work_area.proofs.store.Store.top.Goals as goal
 pub returns : goal.returns
 returns g c =
     let now : StoreState = c.args.self.now in
-    let inside : StoreState = record { tables = c.self.inside.tables.items; areas = c.self.inside.areas; selected = c.self.inside.selected; limit = c.self.inside.limit } in
+    let s = c.self.inside in
+    let inside : StoreState =
+    record { tables = s.tables.items; areas = s.areas; selected = s.selected; limit = s.limit } in
     let t = c.place_here-t.result in
     let o : OpenState = c.index_mut.result.now in
-    let there : IsHere now t o = stands inside now t o c.self.view_is c.requires.open c.place_here-t.ensures.place c.place_here-t.ensures.table c.place_here-t.ensures.within c.index_mut.ensures.value in
-    let made = ap (λ (s : StoreState). with_table s t c.top.new.self) c.self.view_is in
-    moved (FnReturnsAt g.F.Fn) c.args.see top_of now _ t o c.top.new.self c.args.budget c.top.result there made c.top.ensures
+    let here = c.place_here-t.ensures in
+    let there : IsHere now t o = stands inside now t o c.self.view_is c.requires.open here.place here.table here.within
+    c.index_mut.ensures.value in
+    let made = ap (λ (s : StoreState). with_table s t c.make_move.new.self) c.self.view_is in
+    moved (FnReturnsAt g.F.Fn) c.args.see top_of now _ t o c.make_move.new.self c.args.budget c.make_move.result there
+    made c.make_move.ensures
