@@ -6,12 +6,11 @@ use Rattle.std.specs.Str.{bytes_eq}
 use Rattle.std.proofs.lemmas.Bool.{and_parts, or_parts, leb-true}
 use Rattle.xvalue.specs.Kinds.{kind_of}
 use Rattle.dbf_file.specs.declared.field.Field.{Field}
-use Rattle.dbf_file.specs.declared.field.Letter.{Letter}
-use Rattle.dbf_file.specs.declared.field.Letter.TheVariants.{C, N, D, L}
-use Rattle.dbf_file.specs.Tables.{letter_at, decimals_at}
-use Rattle.dbf_file.specs.Values.{kind_for, value_by}
+use Rattle.dbf_file.specs.declared.field.Letter.TheVariants.{C}
+use Rattle.dbf_file.specs.Tables.{letter_at}
+use Rattle.dbf_file.specs.Values.{kind_for}
 use Rattle.shape.specs.declared.tables.TableShape.{TableShape}
-use Rattle.open_table.specs.Open.{OpenState, current_row, field_of}
+use Rattle.open_table.specs.Open.{OpenState, field_of}
 use Rattle.work_area.specs.declared.uses.Use.{Use}
 use Rattle.work_area.specs.Areas.{StoreState, use_at}
 use Rattle.code_items.specs.declared.declared.Declared.{Declared}
@@ -30,7 +29,8 @@ use Rattle.run_steps.specs.Shapes.{StoreFits}
 use Rattle.run_laws.proofs.Known.{OpenThere, open_there, area_by}
 use Rattle.run_laws.proofs.OnRecords.{field_known}
 use Rattle.fit_laws.proofs.Covered.{Desks, opens}
-use Rattle.expr_laws.proofs.Options.{some_same, none_some}
+use Rattle.fit_laws.proofs.Runs.{some_same, none_some}
+use Rattle.fit_laws.proofs.Fields.{value_of_field}
 
 -- ---- open areas
 
@@ -132,15 +132,6 @@ pub letter_there : (fs : List Field) (f : ℕ) (d : Field) → f < length fs →
 letter_there [] f d lt = absurd (omega (arith, lt))
 letter_there (g ∷ fs) zero d lt = refl
 letter_there (g ∷ fs) (suc f) d lt = letter_there fs f d (omega (arith, lt))
-
-value_kind : (l : Letter) (decimals : ℕ) (text : List ℕ) → kind_of (value_by l decimals text) ≡ kind_for l
-value_kind C decimals text = refl
-value_kind N decimals text = refl
-value_kind D decimals text = refl
-value_kind L decimals text = refl
-
-pub value_of_field : (o : OpenState) (f : ℕ) → kind_of (field_of f o) ≡ kind_for (letter_at o.table.structure f)
-value_of_field o f = value_kind (letter_at o.table.structure f) (decimals_at o.table.structure f) (slice_index_or (current_row o).texts f [])
 
 table_is : (x : Option TableShape) → on_some x [] (λ t. t.fields) ≡ fields_declared x
 table_is None = refl

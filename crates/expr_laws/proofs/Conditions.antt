@@ -10,8 +10,6 @@ use Rattle.xvalue.specs.declared.value.Value.{Value}
 use Rattle.xvalue.specs.declared.value.Value.TheVariants as value
 use Rattle.xvalue.specs.Kinds.{kind_of}
 use Rattle.dbf_file.specs.declared.field.Field.{Field}
-use Rattle.dbf_file.specs.declared.field.Letter.{Letter}
-use Rattle.dbf_file.specs.declared.field.Letter.TheVariants.{C, N, D, L}
 use Rattle.dbf_file.specs.Tables.{letter_at, decimals_at}
 use Rattle.dbf_file.specs.Values.{kind_for, value_by}
 use Rattle.shape.specs.declared.whole.Shape.{Shape}
@@ -49,8 +47,10 @@ use Rattle.expr_laws.proofs.Areas.{field_there, letter_there}
 use Rattle.expr_laws.proofs.Blocks.{row_puts, slot_fits, walked, pieces_fit, put_some, put_held}
 use Rattle.expr_laws.proofs.Machines.{Machine, Puts, Goes, through}
 use Rattle.expr_laws.proofs.Names.{is_load, is_asked}
-use Rattle.expr_laws.proofs.Options.{some_same, none_some, found}
+use Rattle.fit_laws.proofs.Runs.{some_same, none_some}
+use Rattle.expr_laws.proofs.Options.{found}
 use Rattle.expr_laws.proofs.Trees.{leads}
+use Rattle.fit_laws.proofs.Fields.{value_kind}
 
 -- the block's tests are made before it runs
 abbrev untested : Instr → List Value → Type 0
@@ -73,12 +73,6 @@ variable_puts code s v r name x is fit =
     (subst (λ (y : Reading). Puts (row_puts code v r) untested y (slot_value (slice_get v.slots w.a))) l.is puts)
 
 -- ---- fields of the row
-
-value_kind : (l : Letter) (decimals : ℕ) (text : List ℕ) → kind_of (value_by l decimals text) ≡ kind_for l
-value_kind C decimals text = refl
-value_kind N decimals text = refl
-value_kind D decimals text = refl
-value_kind L decimals text = refl
 
 row_kind : (r : TriedRow) (fields : List Field) (n : ℕ) (f : Field) → HaveAlikeFields r.structure.fields fields → slice_get fields n ≡ Some f → kind_of (row_field n r) ≡ kind_for f.letter
 row_kind r fields n f alike at =

@@ -38,7 +38,8 @@ use Rattle.expr_laws.specs.Meaning.{nothing}
 use Rattle.expr_laws.specs.Seeing.{slot_value, variable_value, used_fields, field_value, holder, alias_of, value_of_area, asked_value}
 use Rattle.expr_laws.proofs.Machines.{Puts}
 use Rattle.expr_laws.proofs.Areas.{AreaThere, area_open, area_there, area_closed, in_no_table, field_declared, field_is_of_kind}
-use Rattle.expr_laws.proofs.Options.{some_same, none_some, found}
+use Rattle.fit_laws.proofs.Runs.{some_same, none_some}
+use Rattle.expr_laws.proofs.Options.{found}
 use Rattle.expr_laws.proofs.Passes.{world_run, Passes, load_passes, field_passes, question_passes}
 
 -- a reading puts this value on a world's stack

@@ -14,7 +14,8 @@ use Rattle.prg_values.specs.declared.operators.OperatorMeaning.{OperatorMeaning}
 use Rattle.prg_values.specs.Operators.{plain, denied, turned, equality, less, greater, operation_if_some, added, subtracted, of_both, operated}
 use Rattle.prg_values.specs.Written.{choice, choice_for}
 use Rattle.fit_laws.proofs.Covered.{kinds_same, joined}
-use Rattle.expr_laws.proofs.Options.{some_same, none_some, passed}
+use Rattle.fit_laws.proofs.Runs.{some_same, none_some}
+use Rattle.expr_laws.proofs.Options.{passed}
 
 -- the kinds of two operands in the order that a function takes them
 abbrev pub in_order : Bool → Kind → Kind → List Kind

@@ -2,12 +2,7 @@
 use Rattle.std.proofs.Common.{◌≡◌, Bool, true, false, Option, Some, None, refl}
 use Rattle.std.specs.Prelude.{if◌then◌else◌}
 use Rattle.prg_values.specs.Readings.{on_some}
-
-pub some_same : {A : Type 0} (a b : A) → Some a ≡ Some b → a ≡ b
-some_same a b e = cc
-
-pub none_some : {A : Type 0} (P : Type 0) (b : A) → None ≡ Some b → P
-none_some P b e = absurd (cc)
+use Rattle.fit_laws.proofs.Runs.{none_some}
 
 -- it was there
 pub record Found {A B : Type 0} (x : Option A) (f : A → Option B) (b : B) : Type 0 where

@@ -28,7 +28,7 @@ use Rattle.run_laws.proofs.Tests.{mapped_at}
 use Rattle.expr_laws.specs.Seeing.{StaysWithin}
 use Rattle.expr_laws.proofs.Areas.{past, within}
 use Rattle.expr_laws.proofs.Machines.{Run, onto, through}
-use Rattle.expr_laws.proofs.Options.{some_same, none_some}
+use Rattle.fit_laws.proofs.Runs.{some_same, none_some}
 use Rattle.expr_laws.proofs.Stacks.{onto_is}
 
 -- an instruction's effect on the stack of a world

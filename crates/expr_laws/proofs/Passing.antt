@@ -33,7 +33,8 @@ use Rattle.expr_laws.specs.Meaning.{Sight, applied_to, operands, value_in, value
 use Rattle.expr_laws.proofs.Defaults.{alone, all_kinds}
 use Rattle.expr_laws.proofs.Machines.{Run, Machine, Puts, Goes, parts_of, onto, onto_both, through, all_fit}
 use Rattle.expr_laws.proofs.Operands.{in_order, operated_sound, choice_takes}
-use Rattle.expr_laws.proofs.Options.{none_some, found, passed}
+use Rattle.fit_laws.proofs.Runs.{none_some}
+use Rattle.expr_laws.proofs.Options.{found, passed}
 use Rattle.expr_laws.proofs.Passes.{AllPass, both_pass}
 use Rattle.expr_laws.proofs.Told.{kind_told, kinds_told, operands_there}
 use Rattle.expr_laws.proofs.Trees.{leads, all_lead, function_leads, operands_lead, arguments_lead}

@@ -27,7 +27,7 @@ use Rattle.run_steps.specs.Safe.{IsSafe}
 use Rattle.expr_laws.specs.Seeing.{IsThere, HasWay}
 use Rattle.run_laws.proofs.Tests.{is_there}
 use Rattle.expr_laws.proofs.Machines.{Run, through}
-use Rattle.expr_laws.proofs.Options.{some_same, none_some}
+use Rattle.fit_laws.proofs.Runs.{some_same, none_some}
 use Rattle.expr_laws.proofs.Passes.{world_run, Passes, AllPass, ready_at, clear_there}
 
 -- an instruction that only reads

@@ -32,7 +32,8 @@ use Rattle.fit_laws.proofs.Values.{ResultLaw}
 use Rattle.expr_laws.specs.Meaning.{Sight, nothing, applied_to, denied_if, operands, operation_value, operated_value, prefixed_value, chosen_value, called_value, value_in, values_in}
 use Rattle.expr_laws.proofs.Operands.{operated_sound}
 use Rattle.expr_laws.proofs.Machines.{Run, Machine, Puts, Fit, fit_parts}
-use Rattle.expr_laws.proofs.Options.{some_same, none_some, found, passed}
+use Rattle.fit_laws.proofs.Runs.{some_same, none_some}
+use Rattle.expr_laws.proofs.Options.{found, passed}
 
 -- ---- operators
 

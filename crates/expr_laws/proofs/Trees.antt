@@ -34,7 +34,8 @@ use Rattle.expr_laws.proofs.Machines.{Run, Machine, Puts, Goes, parted, goes_now
 use Rattle.expr_laws.proofs.Stacks.{arguments_back, rest_back}
 use Rattle.expr_laws.proofs.Defaults.{alone, all_kinds}
 use Rattle.expr_laws.proofs.Operands.{operated_sound, two_taken, choice_takes}
-use Rattle.expr_laws.proofs.Options.{none_some, found}
+use Rattle.fit_laws.proofs.Runs.{none_some}
+use Rattle.expr_laws.proofs.Options.{found}
 use Rattle.expr_laws.proofs.Told.{kind_told, kinds_told, operands_fit, operands_there}
 
 -- how many values arguments have

@@ -35,13 +35,13 @@ use Rattle.fit_laws.proofs.Values.{Tells, push_told, drop_told}
 
 -- ---- the kind of a field
 
-value_kind : (l : Letter) (decimals : ℕ) (text : List ℕ) → kind_of (value_by l decimals text) ≡ kind_for l
+pub value_kind : (l : Letter) (decimals : ℕ) (text : List ℕ) → kind_of (value_by l decimals text) ≡ kind_for l
 value_kind C decimals text = refl
 value_kind N decimals text = refl
 value_kind D decimals text = refl
 value_kind L decimals text = refl
 
-value_of_field : (o : OpenState) (f : ℕ) → kind_of (field_of f o) ≡ kind_for (letter_at o.table.structure f)
+pub value_of_field : (o : OpenState) (f : ℕ) → kind_of (field_of f o) ≡ kind_for (letter_at o.table.structure f)
 value_of_field o f = value_kind (letter_at o.table.structure f) (decimals_at o.table.structure f) (slice_index_or (current_row o).texts f [])
 
 -- ---- FIELD and questions

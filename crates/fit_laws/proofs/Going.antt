@@ -50,7 +50,8 @@ use Rattle.fit_laws.proofs.Jumps.{value_falls, screen_falls, area_falls, move_fa
 use Rattle.fit_laws.proofs.Loads.{loads_well}
 use Rattle.fit_laws.proofs.Returns.{exit_covered}
 use Rattle.fit_laws.proofs.StoreDesks.{desk_is}
-use Rattle.fit_laws.proofs.Values.{Tells, ResultLaw, AnswerLaw, drop_told, holds, value_told, value_store, screen_told, screen_store}
+use Rattle.fit_laws.proofs.Values.{Tells, ResultLaw, AnswerLaw, drop_told, holds, value_told, screen_told, screen_store}
+use Rattle.run_laws.proofs.Changes.{value_store}
 
 kinds_self : (ks : List Kind) → same_kinds ks ks ≡ true
 kinds_self [] = refl

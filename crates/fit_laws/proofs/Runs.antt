@@ -17,10 +17,10 @@ pub record Goes (code : Code) : Type 0 where
   pub safe : (w : World) → IsFitting code w → IsSafeHere code w
   pub on : (w : World) → IsFitting code w → finishes w (instr_at code w.place) ≡ false → IsFitting code (effect code w (instr_at code w.place))
 
-some_same : {A : Type 0} (a b : A) → Some a ≡ Some b → a ≡ b
+pub some_same : {A : Type 0} (a b : A) → Some a ≡ Some b → a ≡ b
 some_same a b e = cc
 
-none_some : {A : Type 0} (P : Type 0) (b : A) → None ≡ Some b → P
+pub none_some : {A : Type 0} (P : Type 0) (b : A) → None ≡ Some b → P
 none_some P b e = absurd (cc)
 
 steps_on : (code : Code) (w : World) → IsSafeHere code w → finishes w (instr_at code w.place) ≡ false → step_of code w ≡ Next (effect code w (instr_at code w.place))

@@ -38,24 +38,14 @@ use Rattle.run_steps.specs.Needs.{AreaNeeds, Needs}
 use Rattle.run_laws.proofs.Known.{OpenThere, area_by}
 use Rattle.run_laws.proofs.OnAreas.{some_index}
 use Rattle.run_laws.proofs.Tests.{first_no, second_no, then_no, not_zero, is_there}
-use Rattle.fit_laws.proofs.Values.{value_store, screen_store}
+use Rattle.fit_laws.proofs.Values.{screen_store}
+use Rattle.run_laws.proofs.Stores.{set_other, set_there, put_closed}
+use Rattle.run_laws.proofs.Changes.{value_store}
 
 abbrev desk : ℕ → List AreaState → Desk
 desk selected areas = record { selected = selected; areas = areas }
 
 -- ---- elements of a list of which one is replaced
-
-set_other : {A : Type 0} (xs : List A) (t k : ℕ) (p : A) → k ≢ t → slice_get (slice_set xs t p) k ≡ slice_get xs k
-set_other [] t k p differ = refl
-set_other (x ∷ xs) zero zero p differ = absurd (differ refl)
-set_other (x ∷ xs) zero (suc k) p differ = refl
-set_other (x ∷ xs) (suc t) zero p differ = refl
-set_other (x ∷ xs) (suc t) (suc k) p differ = set_other xs t k p (λ e. differ (ap suc e))
-
-set_there : {A : Type 0} (xs : List A) (t : ℕ) (p x : A) → slice_get xs t ≡ Some x → slice_get (slice_set xs t p) t ≡ Some p
-set_there [] t p x e = absurd (cc)
-set_there (y ∷ xs) zero p x e = refl
-set_there (y ∷ xs) (suc t) p x e = set_there xs t p x e
 
 set_self : (areas : List (Option Use)) (k : ℕ) (u : Use) → slice_index_or areas k None ≡ Some u → slice_set areas k (Some u) ≡ areas
 set_self [] k u e = refl
@@ -147,10 +137,6 @@ replace_desk s f None = refl
 replace_desk s f (Some v) = changes_stay s (replaced_here f v) (λ o. refl)
 
 -- ---- closing
-
-abbrev put_closed : Option Use → Option OpenState → StoreState → StoreState
-put_closed x None s = s
-put_closed x (Some o) s = with_used x (closed o) s
 
 closed_is : (found : Option OpenState) (s : StoreState) → changed_found closed found s ≡ put_closed (selected_use s) found s
 closed_is None s = refl

@@ -28,7 +28,7 @@ use Rattle.code_rules.specs.Flow.{slots_after_value}
 use Rattle.code_rules.specs.Rules.{has_other, is_free, value_undeclared}
 use Rattle.run_values.specs.Tagged.{TaggedValues, HoldsKind, pushed, dropped, loaded_value, stored_top, arguments_on}
 use Rattle.run_steps.specs.World.{World, EnvState, state_of, kind_held}
-use Rattle.run_steps.specs.Effects.{on_value, with_pushed, value_values, value_env, screen_values, screen_env}
+use Rattle.run_steps.specs.Effects.{on_value, with_pushed, value_values, screen_values, screen_env}
 use Rattle.run_steps.specs.Needs.{LoadNeeds}
 use Rattle.fit_laws.proofs.Covered.{kinds_same, joined}
 use Rattle.fit_laws.proofs.Filters.{Legal}
@@ -154,16 +154,6 @@ value_told code law slots stack t e (Function f) h c u l =
     push_told slots (drop (length (takes_of f)) stack) (dropped (length (takes_of f)) t) (gives_of f) (applied f e.settings (by_kind (arguments_on f t.stack))) (law f e.settings (by_kind (arguments_on f t.stack))) (drop_told (length (takes_of f)) slots stack t h)
 value_told code law slots stack t e Today h c u l = push_told slots stack t OfDate (Date e.today) refl h
 value_told code law slots stack t e (Set x on) h c u l = h
-
-pub value_store : (i : ValueInstr) (e : EnvState) → (value_env i e).store ≡ e.store
-value_store (Constant n) e = refl
-value_store (Load k s) e = refl
-value_store (Store k s) e = refl
-value_store (Unset s) e = refl
-value_store (Discard k) e = refl
-value_store (Function f) e = refl
-value_store Today e = refl
-value_store (Set x on) e = refl
 
 -- ---- instructions on the screen
 

@@ -1,9 +1,7 @@
 -- Each step leaves the tables and indexes of a shape.
 use Rattle.std.proofs.Common.{◌≡◌, ℕ, zero, suc, Bool, true, false, List, [], ◌∷◌, Option, Some, None, refl, sym, subst, if◌then◌else◌}
-use Rattle.std.specs.Prelude.{option_and_then, slice_get}
+use Rattle.std.specs.Prelude.{option_and_then}
 use Rattle.xvalue.specs.declared.value.Value.{Value}
-use Rattle.xvalue.specs.Shown.{shown as shown_value}
-use Rattle.screen_lines.specs.State.{printed, said, said_on}
 use Rattle.dbf_file.specs.Rows.{Row}
 use Rattle.dbf_file.specs.Tables.{StructureState}
 use Rattle.row_moves.specs.Moves.{Landing}
@@ -15,10 +13,6 @@ use Rattle.work_area.specs.Shapes.{StoreHasShape, IsSameKind, KindsStay, ShapesS
 use Rattle.code_items.specs.declared.code.Code.{Code}
 use Rattle.code_items.specs.declared.instr.Instr.{Instr}
 use Rattle.code_items.specs.declared.instr.Instr.TheVariants.{Values, Flow, Screen, Areas, Moves, Records}
-use Rattle.code_items.specs.declared.instr.ValueInstr.{ValueInstr}
-use Rattle.code_items.specs.declared.instr.ValueInstr.TheVariants.{Constant, Load, Store, Unset, Discard, Function, Today, Set}
-use Rattle.code_items.specs.declared.instr.ScreenInstr.{ScreenInstr}
-use Rattle.code_items.specs.declared.instr.ScreenInstr.TheVariants.{NewLine, Print, Say, SayOn, Input, Line, Clear}
 use Rattle.code_items.specs.declared.instr.AreaInstr.{AreaInstr}
 use Rattle.code_items.specs.declared.instr.AreaInstr.TheVariants.{Open, Close, CloseAll, Select, Order, Filter}
 use Rattle.code_items.specs.declared.instr.MoveInstr.{MoveInstr}
@@ -28,12 +22,13 @@ use Rattle.code_items.specs.declared.instr.RecordInstr.TheVariants.{Field, RowFi
 use Rattle.code_rules.specs.Places.{instr_at}
 use Rattle.run_values.specs.Tagged.{TaggedValues}
 use Rattle.run_steps.specs.declared.fault.FaultKind.{FaultKind}
-use Rattle.run_steps.specs.World.{World, EnvState, with_screen}
+use Rattle.run_steps.specs.World.{World, EnvState}
 use Rattle.run_steps.specs.Control.{effect, finishes}
-use Rattle.run_steps.specs.Effects.{top, whole_on_top, record_number, move_landing, on_value, on_table, list_numbers, index_in, value_env, screen_env, open_landing, store_opened, store_by_area, moved, store_by_move, shown_here, closing_store, store_by_record, env_after, filter_here}
+use Rattle.run_steps.specs.Effects.{top, whole_on_top, record_number, move_landing, on_value, on_table, list_numbers, index_in, open_landing, store_opened, store_by_area, moved, store_by_move, shown_here, closing_store, store_by_record, env_after, filter_here}
 use Rattle.run_steps.specs.Faults.{fault_of}
 use Rattle.run_steps.specs.Filters.{shown_by, viewer}
 use Rattle.run_steps.specs.Run.{Next, Finished, judged, step_of, next_world, after}
+use Rattle.run_laws.proofs.Changes.{value_store, screen_store}
 
 -- each change of a store keeps a shape, and each change of a table what it is of
 pub record Keeps (shape : Shape) : Type 0 where
@@ -52,29 +47,6 @@ ends : (shape : Shape) → Keeps shape → (o p : OpenState) (landing : Landing)
 ends shape k o p landing kind = (k.tables o).chain p (landed p landing) kind ((k.tables p).by_move landing)
 
 -- ---- values and screen leave the store
-
-value_store : (i : ValueInstr) (e : EnvState) → (value_env i e).store ≡ e.store
-value_store (Constant n) e = refl
-value_store (Load k s) e = refl
-value_store (Store k s) e = refl
-value_store (Unset s) e = refl
-value_store (Discard k) e = refl
-value_store (Function f) e = refl
-value_store Today e = refl
-value_store (Set x on) e = refl
-
-shown_store : (x : Option Value) (e : EnvState) (f : Value → EnvState) → ((v : Value) → (f v).store ≡ e.store) → (on_value x e f).store ≡ e.store
-shown_store None e f same = refl
-shown_store (Some v) e f same = same v
-
-screen_store : (i : ScreenInstr) (t : TaggedValues) (e : EnvState) → (screen_env i t e).store ≡ e.store
-screen_store NewLine t e = refl
-screen_store (Print k) t e = shown_store (top t) e (λ value. with_screen (printed (shown_value e.settings value) e.screen) e) (λ v. refl)
-screen_store (Say k) t e = shown_store (top t) e (λ value. with_screen (said (whole_on_top (slice_get t.stack 2)) (whole_on_top (slice_get t.stack 1)) (shown_value e.settings value) e.screen) e) (λ v. refl)
-screen_store (SayOn k) t e = shown_store (top t) e (λ value. with_screen (said_on (shown_value e.settings value) e.screen) e) (λ v. refl)
-screen_store (Input k) t e = refl
-screen_store Line t e = refl
-screen_store Clear t e = refl
 
 -- ---- work areas
 

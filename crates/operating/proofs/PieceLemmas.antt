@@ -27,16 +27,12 @@ use Rattle.run_steps.specs.Run.{after, spent, Ran}
 use Rattle.run_steps.specs.World.{World}
 use Rattle.text_lines.specs.Lines.{short_lines, is_out}
 use Rattle.work_area.specs.Areas.{StoreState}
+use Rattle.run_parts.proofs.PartLemmas.{Whole}
 
 -- ---- what the laws say
 
 abbrev pub Costs : Type 0
 Costs = (code : Code) (w : World) (n : ℕ) (v : World) → after code w n ≡ Some v → n ≤ spent code w n
-
-abbrev pub Whole : Type 0
-Whole = (code : Code) (w v u : World) (budget more : ℕ) (first second : Outcome)
-    → Ran code w budget first v → first.end ≡ Spent → Ran code v more second u
-    → Ran code w (first.steps + more) (record { end = second.end; steps = first.steps + second.steps }) u
 
 abbrev pub Wider : Type 0
 Wider = (code : Code) (w v : World) (budget more : ℕ) (outcome : Outcome) → budget ≤ more → (outcome.end ≡ Spent → budget ≡ more) → Ran code w budget outcome v → Ran code w more outcome v
@@ -139,7 +135,7 @@ stands code w budget marks (Marked steps) b g = (g.0.world, g.0.goes_on)
 
 -- ---- behind the end of the input
 
-same_run : (code : Code) (w v : World) (budget more steps cost : ℕ) (end : End) → budget ≡ more → steps ≡ cost
+pub same_run : (code : Code) (w v : World) (budget more steps cost : ℕ) (end : End) → budget ≡ more → steps ≡ cost
     → Ran code w budget (record { end = end; steps = steps }) v → Ran code w more (record { end = end; steps = cost }) v
 same_run code w v budget more steps cost end same all r =
     subst (λ (n : ℕ). Ran code w n (record { end = end; steps = cost }) v) same

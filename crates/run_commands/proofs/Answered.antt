@@ -23,10 +23,6 @@ unkept_none a x = record {
   one = inl refl;
 }
 
-pub on_err : {A E : Type 0} (result : Result A E) (P : Type 0) → P → OnErr result P
-on_err (Ok x) P p = tt
-on_err (Err e) P p = p
-
 -- of a result that is told another way
 pub on_ok_all : {A E : Type 0} (result : Result A E) (a b x y : List ℕ) → AnswersKept a b x y → OnOk result (AnswersKept a b x y)
 on_ok_all (Ok r) a b x y k = k

@@ -6,27 +6,13 @@ use Rattle.run_steps.specs.declared.ending.End.TheVariants.{Spent}
 use Rattle.run_steps.specs.declared.ending.Outcome.{Outcome}
 use Rattle.run_steps.specs.Run.{Ran}
 use Rattle.run_steps.specs.World.{World}
-
--- what the laws say
-abbrev pub Whole : Type 0
-Whole = (code : Code) (w v u : World) (budget more : ℕ) (first second : Outcome)
-    → Ran code w budget first v → first.end ≡ Spent → Ran code v more second u
-    → Ran code w (first.steps + more) (record { end = second.end; steps = first.steps + second.steps }) u
-
-abbrev pub Wider : Type 0
-Wider = (code : Code) (w v : World) (budget more : ℕ) (outcome : Outcome) → budget ≤ more → (outcome.end ≡ Spent → budget ≡ more) → Ran code w budget outcome v → Ran code w more outcome v
+use Rattle.run_parts.proofs.PartLemmas.{Whole}
+use Rattle.operating.proofs.PieceLemmas.{Wider, same_run}
 
 -- steps of this cost lead from one world to another: what a run from there comes to, the whole run comes to
 abbrev pub LeadsTo : Code → World → ℕ → World → Type 0
 LeadsTo code from steps to = (more : ℕ) (outcome : Outcome) (last : World) → Ran code to more outcome last
     → Ran code from (steps + more) (record { end = outcome.end; steps = steps + outcome.steps }) last
-
--- the same run, with its budget and its cost spelled otherwise
-same_run : (code : Code) (w v : World) (budget more steps cost : ℕ) (end : End) → budget ≡ more → steps ≡ cost
-    → Ran code w budget (record { end = end; steps = steps }) v → Ran code w more (record { end = end; steps = cost }) v
-same_run code w v budget more steps cost end same all r =
-    subst (λ (n : ℕ). Ran code w n (record { end = end; steps = cost }) v) same
-    (subst (λ (n : ℕ). Ran code w budget (record { end = end; steps = n }) v) all r)
 
 pub leads_at_once : (code : Code) (w : World) → LeadsTo code w 0 w
 leads_at_once code w = λ more outcome last r. same_run code w last more (0 + more) outcome.steps (0 + outcome.steps) outcome.end (omega arith) (omega arith) r

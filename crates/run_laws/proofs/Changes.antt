@@ -74,7 +74,7 @@ puts d s f alike h = from (here s) refl
 
 -- ---- values and screen leave the store
 
-value_store : (i : ValueInstr) (e : EnvState) → (value_env i e).store ≡ e.store
+pub value_store : (i : ValueInstr) (e : EnvState) → (value_env i e).store ≡ e.store
 value_store (Constant n) e = refl
 value_store (Load k s) e = refl
 value_store (Store k s) e = refl
@@ -84,11 +84,11 @@ value_store (Function f) e = refl
 value_store Today e = refl
 value_store (Set x on) e = refl
 
-shown_store : (x : Option Value) (e : EnvState) (f : Value → EnvState) → ((v : Value) → (f v).store ≡ e.store) → (on_value x e f).store ≡ e.store
+pub shown_store : (x : Option Value) (e : EnvState) (f : Value → EnvState) → ((v : Value) → (f v).store ≡ e.store) → (on_value x e f).store ≡ e.store
 shown_store None e f same = refl
 shown_store (Some v) e f same = same v
 
-screen_store : (i : ScreenInstr) (t : TaggedValues) (e : EnvState) → (screen_env i t e).store ≡ e.store
+pub screen_store : (i : ScreenInstr) (t : TaggedValues) (e : EnvState) → (screen_env i t e).store ≡ e.store
 screen_store NewLine t e = refl
 screen_store (Print k) t e = shown_store (top t) e (λ value. with_screen (printed (shown_value e.settings value) e.screen) e) (λ v. refl)
 screen_store (Say k) t e = shown_store (top t) e (λ value. with_screen (said (whole_on_top (slice_get t.stack 2)) (whole_on_top (slice_get t.stack 1)) (shown_value e.settings value) e.screen) e) (λ v. refl)

@@ -54,14 +54,14 @@ got_set (x ∷ xs) (suc t) (suc k) p a e = elim (got_set xs t k p a e) as (λ _.
   | inr h ↦ inr h
 ]
 
-set_other : {A : Type 0} (xs : List A) (t k : ℕ) (p : A) → k ≢ t → slice_get (slice_set xs t p) k ≡ slice_get xs k
+pub set_other : {A : Type 0} (xs : List A) (t k : ℕ) (p : A) → k ≢ t → slice_get (slice_set xs t p) k ≡ slice_get xs k
 set_other [] t k p differ = refl
 set_other (x ∷ xs) zero zero p differ = absurd (differ refl)
 set_other (x ∷ xs) zero (suc k) p differ = refl
 set_other (x ∷ xs) (suc t) zero p differ = refl
 set_other (x ∷ xs) (suc t) (suc k) p differ = set_other xs t k p (λ e. differ (ap suc e))
 
-set_there : {A : Type 0} (xs : List A) (t : ℕ) (p x : A) → slice_get xs t ≡ Some x → slice_get (slice_set xs t p) t ≡ Some p
+pub set_there : {A : Type 0} (xs : List A) (t : ℕ) (p x : A) → slice_get xs t ≡ Some x → slice_get (slice_set xs t p) t ≡ Some p
 set_there [] t p x e = absurd (cc)
 set_there (y ∷ xs) zero p x e = refl
 set_there (y ∷ xs) (suc t) p x e = set_there xs t p x e
@@ -187,7 +187,7 @@ put_none d s h =
       apart = apart_put s.areas (s.selected - 1) None within h.apart (λ n a b differ e f e2. absurd (let g : None ≡ Some b = f in cc));
     }
 
-abbrev put_closed : Option Use → Option OpenState → StoreState → StoreState
+abbrev pub put_closed : Option Use → Option OpenState → StoreState → StoreState
 put_closed x None s = s
 put_closed x (Some o) s = with_used x (closed o) s
 

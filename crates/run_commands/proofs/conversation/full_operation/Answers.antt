@@ -1,4 +1,5 @@
-use Rattle.run_commands.proofs.Answered.{on_err, unkept_none}
+use Rattle.run_commands.proofs.Answered.{unkept_none}
+use Rattle.operating.proofs.AnswerLemmas.{on_err}
 use Rattle.std.proofs.Common.{◌≡◌, IfOk, IfErr, length, subst, sym}
 use Rattle.code_items.specs.declared.code.Code.{Code}
 use Rattle.run_commands.proofs.Operated.{Prepared, saved_over, stopped_over}

@@ -1,4 +1,5 @@
-use Rattle.run_commands.proofs.Answered.{on_err, unkept_none}
+use Rattle.run_commands.proofs.Answered.{unkept_none}
+use Rattle.operating.proofs.AnswerLemmas.{on_err}
 use Rattle.run_commands.proofs.Operated.{ran_over, stop_over, code_refused_over}
 use Rattle.run_commands.proofs.conversation.operate_code.Goals as goal
 

@@ -1,4 +1,5 @@
-use Rattle.run_commands.proofs.Answered.{on_err, unkept_none}
+use Rattle.run_commands.proofs.Answered.{unkept_none}
+use Rattle.operating.proofs.AnswerLemmas.{on_err}
 use Rattle.std.proofs.Common.{◌∙◌, ap, Bool, List, length}
 use Rattle.std.proofs.lemmas.List.FromFn.{length-map-range_with_len}
 use Rattle.table_changes.specs.Rows.{is_fresh_in}

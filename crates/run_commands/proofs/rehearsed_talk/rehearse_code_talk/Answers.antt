@@ -1,4 +1,5 @@
-use Rattle.run_commands.proofs.Answered.{on_err, unkept_none}
+use Rattle.run_commands.proofs.Answered.{unkept_none}
+use Rattle.operating.proofs.AnswerLemmas.{on_err}
 use Rattle.run_commands.proofs.Operated.{code_refused_over, lent_over}
 use Rattle.run_commands.proofs.rehearsed_talk.rehearse_code_talk.Goals as goal
 
