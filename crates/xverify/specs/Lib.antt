@@ -1,3 +1,4 @@
+pub mod Parts
 pub mod Told
 pub mod Verdict
 pub use Rattle.code_rules.specs.Rules

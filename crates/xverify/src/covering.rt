@@ -1,15 +1,12 @@
 //! Whether what flows into a place is covered there.
 
-ghost use Rattle.std.specs.Prelude.{◌≡◌};
-ghost use Rattle.code_rules.specs.Rules.{slots_fail as slots_fail_of, desk_fails as desk_fails_of};
-ghost use Rattle.code_rules.specs.Rules.{stack_fails as stack_fails_of, leads_on as leads_on_of, some_next};
-ghost use Rattle.code_rules.specs.Rules.{entered as entered_of, some_slots_fail as some_slots_fail_of};
-ghost use Rattle.code_rules.specs.Rules.{some_desk_fails as some_desk_fails_of};
-ghost use Rattle.code_rules.specs.Rules.{some_stack_fails as some_stack_fails_of};
+ghost use Rattle.std.specs.Prelude.{◌≡◌, IfNone, IfSome};
 ghost use Rattle.std.specs.Option.{option_copied};
 ghost use Rattle.code_items.specs.Legal.{IsCode};
 ghost use Rattle.code_rules.specs.Places.{map_at as map_at_of};
+ghost use Rattle.code_rules.specs.Rules.{leads_on as leads_on_of, some_next, entered as entered_of};
 ghost use Rattle.code_rules.specs.Wants.{gives as gives_of, unknown as unknown_of};
+ghost use Rattle.xverify.specs.Parts.{part_fails, some_part_fails};
 ghost use Rattle.xverify.specs.Told.{place_told, IsPlace};
 
 use crate::here::Here;
@@ -20,34 +17,34 @@ use code_rules::kinds::gives;
 use code_rules::operands::calls_none;
 use code_rules::signature::{called, target};
 
-fn slots_fail(code: &Code, place: usize, state: &State) -> bool
-    requires { IsCode code.now }
-    ensures { result ≡ slots_fail_of (map_at_of code.now place) state.now }
+/// A part of what is known at a place.
+#[derive(Clone, Copy)]
+pub enum Part {
+    Slots,
+    Desk,
+    Stack,
+}
+
+/// Whether this part of a state that flows where something is known isn't covered there, so many values of unknown
+/// kinds being on top of its stack.
+fn fails(part: Part, unknown: usize, known: Option<&State>, state: &State) -> bool
+    ensures { result ≡ part_fails part unknown (option_copied known.entry) state.now }
 {
-    match map_at(code, place) {
-        Some(map) => !state.slots.is_covered_by(&map.slots),
-        None => false,
+    let Some(map) = known else {
+        return false;
+    };
+    match part {
+        Part::Slots => !state.slots.is_covered_by(&map.slots),
+        Part::Desk => !state.desk.is_covered_by(&map.desk),
+        Part::Stack => !state.stack.is_covered_by(&map.stack, unknown),
     }
 }
 
-fn desk_fails(code: &Code, place: usize, state: &State) -> bool
+fn fails_at(part: Part, unknown: usize, code: &Code, place: usize, state: &State) -> bool
     requires { IsCode code.now }
-    ensures { result ≡ desk_fails_of (map_at_of code.now place) state.now }
+    ensures { result ≡ part_fails part unknown (map_at_of code.now place) state.now }
 {
-    match map_at(code, place) {
-        Some(map) => !state.desk.is_covered_by(&map.desk),
-        None => false,
-    }
-}
-
-fn stack_fails(code: &Code, unknown: usize, place: usize, state: &State) -> bool
-    requires { IsCode code.now }
-    ensures { result ≡ stack_fails_of unknown (map_at_of code.now place) state.now }
-{
-    match map_at(code, place) {
-        Some(map) => !state.stack.is_covered_by(&map.stack, unknown),
-        None => false,
-    }
+    fails(part, unknown, map_at(code, place), state)
 }
 
 fn leads_on(code: &Code, instr: Instr) -> bool
@@ -79,98 +76,27 @@ pub fn unknown(h: &Here) -> usize
     }
 }
 
-fn next_slots_fail(h: &Here) -> bool
+fn next_fails(part: Part, h: &Here) -> bool
     requires { IsPlace h.now }
-    ensures { result ≡ some_next h.now.code.now (λ t. slots_fail_of (map_at_of h.now.code.now t) h.now.after.now)
+    ensures { let unknown = unknown_of (gives_of h.now.code.now.declared h.now.before.now.desk h.now.instr) in
+        result ≡ some_next h.now.code.now (λ t. part_fails part unknown (map_at_of h.now.code.now t) h.now.after.now)
         (place_told h.now) }
 {
+    let unknown = unknown(h);
     if let Some(place) = target(h.instr)
-        && slots_fail(h.code, place as usize, h.after)
+        && fails_at(part, unknown, h.code, place as usize, h.after)
     {
         return true;
     }
-    leads_on(h.code, h.instr) && slots_fail(h.code, h.place + 1, h.after)
+    leads_on(h.code, h.instr) && fails_at(part, unknown, h.code, h.place + 1, h.after)
 }
 
-fn next_desk_fails(h: &Here) -> bool
+/// Whether this part isn't covered where the block begins, in the procedure that is called, or at a next place.
+pub fn some_fails(part: Part, h: &Here) -> bool
     requires { IsPlace h.now }
-    ensures { result ≡ some_next h.now.code.now (λ t. desk_fails_of (map_at_of h.now.code.now t) h.now.after.now)
-        (place_told h.now) }
+    ensures { result ≡ some_part_fails part h.now.code.now (place_told h.now) }
 {
-    if let Some(place) = target(h.instr)
-        && desk_fails(h.code, place as usize, h.after)
-    {
-        return true;
-    }
-    leads_on(h.code, h.instr) && desk_fails(h.code, h.place + 1, h.after)
-}
-
-fn next_stack_fails(h: &Here, unknown: usize) -> bool
-    requires { IsPlace h.now }
-    ensures { result ≡ some_next h.now.code.now
-        (λ t. stack_fails_of unknown (map_at_of h.now.code.now t) h.now.after.now) (place_told h.now) }
-{
-    if let Some(place) = target(h.instr)
-        && stack_fails(h.code, unknown, place as usize, h.after)
-    {
-        return true;
-    }
-    leads_on(h.code, h.instr) && stack_fails(h.code, unknown, h.place + 1, h.after)
-}
-
-fn entry_slots_fail(h: &Here) -> bool
-    ensures { result ≡ slots_fail_of (entered_of h.now.code.now h.now.instr) h.now.before.now }
-{
-    match entered(h.code, h.instr) {
-        Some(entry) => !h.before.slots.is_covered_by(&entry.slots),
-        None => false,
-    }
-}
-
-fn entry_desk_fails(h: &Here) -> bool
-    ensures { result ≡ desk_fails_of (entered_of h.now.code.now h.now.instr) h.now.before.now }
-{
-    match entered(h.code, h.instr) {
-        Some(entry) => !h.before.desk.is_covered_by(&entry.desk),
-        None => false,
-    }
-}
-
-fn entry_stack_fails(h: &Here) -> bool
-    ensures { result ≡ stack_fails_of 0 (entered_of h.now.code.now h.now.instr) h.now.before.now }
-{
-    match entered(h.code, h.instr) {
-        Some(entry) => !h.before.stack.is_covered_by(&entry.stack, 0),
-        None => false,
-    }
-}
-
-/// Whether slots aren't covered where the block begins, in the procedure that is called, or at a next place.
-pub fn some_slots_fail(h: &Here) -> bool
-    requires { IsPlace h.now }
-    ensures { result ≡ some_slots_fail_of h.now.code.now (place_told h.now) }
-{
-    (h.block.first == h.place && slots_fail(h.code, h.place, h.start))
-        || entry_slots_fail(h)
-        || next_slots_fail(h)
-}
-
-/// The same for work areas.
-pub fn some_desk_fails(h: &Here) -> bool
-    requires { IsPlace h.now }
-    ensures { result ≡ some_desk_fails_of h.now.code.now (place_told h.now) }
-{
-    (h.block.first == h.place && desk_fails(h.code, h.place, h.start))
-        || entry_desk_fails(h)
-        || next_desk_fails(h)
-}
-
-/// The same for the stack.
-pub fn some_stack_fails(h: &Here) -> bool
-    requires { IsPlace h.now }
-    ensures { result ≡ some_stack_fails_of h.now.code.now (place_told h.now) }
-{
-    (h.block.first == h.place && stack_fails(h.code, 0, h.place, h.start))
-        || entry_stack_fails(h)
-        || next_stack_fails(h, unknown(h))
+    (h.block.first == h.place && fails_at(part, 0, h.code, h.place, h.start))
+        || fails(part, 0, entered(h.code, h.instr), h.before)
+        || next_fails(part, h)
 }
