@@ -58,7 +58,7 @@ is_number_below : (d m : ℕ) → d ≤ 15 → m < 10 ^ 19 → 0 < m → is_stor
 is_number_below d m few small some = both_from (leb d 15 && ltb m (10 ^ 19)) (ltb 0 m) (both_from (leb d 15) (ltb m (10 ^ 19)) (le-leb d 15 few) (lt-ltb m (10 ^ 19) small)) (lt-ltb 0 m some)
 
 abbrev FromParts : Value → Type 0
-FromParts v = (p : ℕ × (ℕ × ℕ)) × (Unit {0} × (Unit {0} × (p.1.1 < 2 ^ 64))) × (decimal_from p.0 p.1.0 p.1.1 ≡ Ok v) × (value_text v ≡ p.0 ∷ p.1.0 ∷ to_le_bytes w64 p.1.1)
+FromParts v = (p : ℕ × (ℕ × ℕ)) × (Unit {0} × (Unit {0} × (p.1.1 < 2 ^ 64))) × (decimal_from p ≡ Ok v) × (value_text v ≡ p.0 ∷ p.1.0 ∷ to_le_bytes w64 p.1.1)
 
 parts_above : (d m : ℕ) → d ≤ 15 → m < 10 ^ 19 → FromParts (Number (finite (pos m) d))
 parts_above d m few small = ((d, (0, m)), (tt, (tt, omega (arith, small))), rw (is_number_above d m few small) refl, refl)
@@ -77,12 +77,12 @@ parts_of_decimal (Logical truth) h = absurd (let e : 4 ≡ 1 = h.1 in omega arit
 
 decimal_spells : Spells decimal_at value_text (Of 1) (Of 1)
 unfolding decimal_at is_constant
-decimal_spells = made_spells (pair_spells byte_spells (pair_spells byte_spells eight_spells)) (λ p. decimal_from p.0 p.1.0 p.1.1) value_text (Of 1) (Of 1)
-    (λ p v fit e.
-    let made : Value = Number (finite (signed (eqb p.1.0 1) p.1.1) p.0) in
-    let w = wanted_ok Shape (is_stored_number p.0 p.1.0 p.1.1) made v e in
-    let s = number_spelled p.0 p.1.0 p.1.1 w.0 in
-    subst (λ (x : Value). (p.0 ∷ p.1.0 ∷ to_le_bytes w64 p.1.1 ≡ value_text x) × Of 1 x) {x = made} {y = v} w.1 (s.0, (s.1, refl)))
+decimal_spells = made_spells (pair_spells byte_spells (pair_spells byte_spells eight_spells)) decimal_from value_text (Of 1) (Of 1)
+    (λ (decimals, (sign, magnitude)) v fit e.
+    let made : Value = Number (finite (signed (eqb sign 1) magnitude) decimals) in
+    let w = wanted_ok Shape (is_stored_number decimals sign magnitude) made v e in
+    let s = number_spelled decimals sign magnitude w.0 in
+    subst (λ (x : Value). (decimals ∷ sign ∷ to_le_bytes w64 magnitude ≡ value_text x) × Of 1 x) {x = made} {y = v} w.1 (s.0, (s.1, refl)))
     (λ v h. parts_of_decimal v h)
 
 -- ---- dates
@@ -133,8 +133,8 @@ parts_of_date (Logical truth) h = absurd (let e : 4 ≡ 3 = h.1 in omega arith)
 
 date_spells : Spells date_at value_text (Of 3) (Of 3)
 unfolding date_at
-date_spells = made_spells (pair_spells two_spells (pair_spells byte_spells byte_spells)) (λ p. date_from (record { year = p.0; month = p.1.0; day = p.1.1 })) value_text (Of 3) (Of 3)
-    (λ p v fit e. date_spelled (record { year = p.0; month = p.1.0; day = p.1.1 }) v e)
+date_spells = made_spells (pair_spells two_spells (pair_spells byte_spells byte_spells)) _ value_text (Of 3) (Of 3)
+    (λ p v fit e. date_spelled _ v e)
     (λ v h. parts_of_date v h)
 
 -- ---- texts and truth values

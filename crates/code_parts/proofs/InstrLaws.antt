@@ -226,6 +226,6 @@ was_made version p i e =
 
 pub instr_spells : NumbersAgree → (version : Version) → Spells (instr_read_at version) instr_text (IsLegalInstr version) (IsLegalInstr version)
 unfolding instr_read_at
-instr_spells agree version = made_spells (pair_spells byte_spells (pair_spells byte_spells (pair_spells two_spells four_spells))) (λ p. instr_from version (instr_parts p.0 p.1.0 p.1.1.0 p.1.1.1)) instr_text (IsLegalInstr version) (IsLegalInstr version)
-    (λ p i h e. was_made version (instr_parts p.0 p.1.0 p.1.1.0 p.1.1.1) i e)
+instr_spells agree version = made_spells (pair_spells byte_spells (pair_spells byte_spells (pair_spells two_spells four_spells))) _ instr_text (IsLegalInstr version) (IsLegalInstr version)
+    (λ p i h e. was_made version _ i e)
     (λ i h. (((parts_of i).operation, ((parts_of i).a, ((parts_of i).b, (parts_of i).c))), (tt, (tt, fit version i h)), made_of agree version i h, refl))

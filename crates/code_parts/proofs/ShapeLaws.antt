@@ -60,37 +60,32 @@ name_spells = made_spells text_spells name_from name_text HasName Any
 
 pub field_spells : Spells field_at field_text FieldFits Any
 unfolding field_at
-field_spells = made_spells (pair_spells name_spells (pair_spells byte_spells (pair_spells byte_spells byte_spells))) (λ p. field_from p.0 p.1.0 p.1.1.0 p.1.1.1) field_text FieldFits Any
-    (λ p f fit e.
-    let make = λ (l : Letter). let made : Field = record { name = p.0; letter = l; width = p.1.1.0; decimals = p.1.1.1 } in done made in
-    let l = there_ok Shape (letter_of p.1.0) make f e in
-    let made : Field = record { name = p.0; letter = l.0; width = p.1.1.0; decimals = p.1.1.1 } in
-    let text : name_text p.0 ++ (p.1.0 ∷ p.1.1.0 ∷ p.1.1.1 ∷ []) ≡ field_text made = ap (λ (n : ℕ). name_text p.0 ++ (n ∷ p.1.1.0 ∷ p.1.1.1 ∷ [])) (letter_was p.1.0 l.0 l.1) in
-    (text ∙ ap field_text (ok_is made f l.2), tt))
+field_spells = made_spells (pair_spells name_spells (pair_spells byte_spells (pair_spells byte_spells byte_spells))) field_from field_text FieldFits Any
+    (λ (name, (code, (width, decimals))) f fit e.
+    let make = λ (l : Letter). let made : Field = record { name = name; letter = l; width = width; decimals = decimals } in made in
+    let l = there_ok Shape (letter_of code) (λ (l : Letter). done (make l)) f e in
+    (ap (λ (n : ℕ). name_text name ++ (n ∷ width ∷ decimals ∷ [])) (letter_was code l.0 l.1) ∙ ap field_text (ok_is (make l.0) f l.2), tt))
     (λ f h. ((f.name, (code_of f.letter, (f.width, f.decimals))), (h, (tt, (tt, tt))), rw (letter_is f.letter) refl, refl))
 
 pub table_spells : Spells table_read_at table_text TableFits Any
 unfolding table_read_at
-table_spells = made_spells (pair_spells name_spells (counted_spells field_spells)) (λ p. Ok (record { name = p.0; fields = p.1 })) table_text TableFits Any
-    (λ p t fit e. let made : TableShape = record { name = p.0; fields = p.1 } in (ap table_text (ok_is made t e), tt))
+table_spells = made_spells (pair_spells name_spells (counted_spells field_spells)) _ table_text TableFits Any
+    (λ p t fit e. (ap table_text (ok_is _ t e), tt))
     (λ t h. ((t.name, t.fields), (h.name, h.fields), refl, refl))
 
 part_spells : Spells part_at key_part_text Any Any
 unfolding part_at
-part_spells = made_spells (pair_spells byte_spells byte_spells) (λ p. part_from p.0 p.1) key_part_text Any Any
-    (λ p part fit e.
-    let make = λ (upper : Bool). let made : KeyPart = record { field = p.0; upper = upper } in done made in
-    let u = there_ok Shape (truth_of_byte p.1) make part e in
-    let made : KeyPart = record { field = p.0; upper = u.0 } in
-    (ap (λ (n : ℕ). p.0 ∷ n ∷ []) (truth_was p.1 u.0 u.1) ∙ ap key_part_text (ok_is made part u.2), tt))
+part_spells = made_spells (pair_spells byte_spells byte_spells) part_from key_part_text Any Any
+    (λ (field, number) part fit e.
+    let make = λ (upper : Bool). let made : KeyPart = record { field = field; upper = upper } in made in
+    let u = there_ok Shape (truth_of_byte number) (λ (upper : Bool). done (make upper)) part e in
+    (ap (λ (n : ℕ). field ∷ n ∷ []) (truth_was number u.0 u.1) ∙ ap key_part_text (ok_is (make u.0) part u.2), tt))
     (λ part h. ((part.field, truth_number part.upper), (tt, tt), rw (truth_is part.upper) refl, refl))
 
 pub index_spells : Spells index_at index_text IndexFits Any
 unfolding index_at
-index_spells = made_spells (pair_spells name_spells (pair_spells byte_spells (counted_spells part_spells))) (λ p. index_from p.0 p.1.0 p.1.1) index_text IndexFits Any
-    (λ p x fit e.
-    let made : IndexShape = record { name = p.0; table = p.1.0; key = p.1.1 } in
-    (ap index_text (wanted_ok Shape (leb (length p.1.1) 8) made x e).1, tt))
+index_spells = made_spells (pair_spells name_spells (pair_spells byte_spells (counted_spells part_spells))) index_from index_text IndexFits Any
+    (λ (name, (table, parts)) x fit e. (ap index_text (wanted_ok Shape (leb (length parts) 8) _ x e).1, tt))
     (λ x h. ((x.name, (x.table, x.key)), (h.name, (tt, all_any x.key)), rw (le-leb (length x.key) 8 h.few) refl, refl))
 
 pub list_spells : Spells list_at list_text ListFits Any

@@ -29,12 +29,12 @@ use Rattle.code_parts.proofs.ShapeLaws.{kind_spells, slot_spells}
 
 need_spells : Spells need_at need_text Any Any
 unfolding need_at
-need_spells = made_spells (pair_spells byte_spells byte_spells) (λ p. need_from p.0 p.1) need_text Any Any
-    (λ p need fit e.
-    let make = λ (kind : Kind). let made : Need = record { slot = p.0; kind = kind } in done made in
-    let k = there_ok Shape (kind_of_byte p.1) make need e in
-    let made : Need = record { slot = p.0; kind = k.0 } in
-    (ap (λ (n : ℕ). p.0 ∷ n ∷ []) (kind_was p.1 k.0 k.1) ∙ ap need_text (ok_is made need k.2), tt))
+need_spells = made_spells (pair_spells byte_spells byte_spells) need_from need_text Any Any
+    (λ (slot, number) need fit e.
+    let make = λ (kind : Kind). let made : Need = record { slot = slot; kind = kind } in done made in
+    let k = there_ok Shape (kind_of_byte number) make need e in
+    let made : Need = record { slot = slot; kind = k.0 } in
+    (ap (λ (n : ℕ). slot ∷ n ∷ []) (kind_was number k.0 k.1) ∙ ap need_text (ok_is made need k.2), tt))
     (λ need h. ((need.slot, kind_number need.kind), (tt, tt), rw (kind_is need.kind) refl, refl))
 
 -- a thing without a flaw is read where its reader reads it
@@ -68,8 +68,8 @@ needs_spells = record {
 
 pub filter_spells : Spells filter_at filter_text FilterFits Any
 unfolding filter_at
-filter_spells = made_spells (pair_spells byte_spells (pair_spells two_spells needs_spells)) (λ p. Ok (record { table = p.0; length = p.1.0; needs = p.1.1 })) filter_text FilterFits Any
-    (λ p f fit e. let made : Filter = record { table = p.0; length = p.1.0; needs = p.1.1 } in (ap filter_text (ok_is made f e), tt))
+filter_spells = made_spells (pair_spells byte_spells (pair_spells two_spells needs_spells)) _ filter_text FilterFits Any
+    (λ p f fit e. (ap filter_text (ok_is _ f e), tt))
     (λ f h. ((f.table, (f.length, f.needs)), (tt, (h.short, h.few)), refl, refl))
 
 -- ---- work areas
@@ -111,14 +111,13 @@ unsure_spells version may = record {
 
 -- what an open area of this number was read from
 abbrev FromParts : ℕ → AreaState → Type 0
-FromParts b area = (p : ℕ × (ℕ × ℕ)) × (Unit {0} × (Unit {0} × Unit {0})) × (◌≡◌ {A = Judged AreaState} (Ok (open_from b p.0 p.1.0 p.1.1)) (Ok area)) × (open_text area ≡ p.0 ∷ p.1.0 ∷ p.1.1 ∷ [])
+FromParts b area = (p : ℕ × (ℕ × ℕ)) × (Unit {0} × (Unit {0} × Unit {0})) × (open_from b p ≡ Ok area) × (open_text area ≡ p.0 ∷ p.1.0 ∷ p.1.1 ∷ [])
 
 open_spells : (version : Version) (b : ℕ) → eqb b 0 ≡ false → (eqb b 255 && may_be_unsure version) ≡ false → Spells (open_read_at b) open_text (Numbered version b) (λ area. Unit {0} × (area_byte area ≡ b))
 unfolding open_read_at
-open_spells version b some known = made_spells (pair_spells byte_spells (pair_spells byte_spells byte_spells)) (λ p. Ok (open_from b p.0 p.1.0 p.1.1)) open_text (Numbered version b) (λ area. Unit {0} × (area_byte area ≡ b))
-    (λ p area fit e.
-    let made = open_from b p.0 p.1.0 p.1.1 in
-    subst (λ (x : AreaState). (p.0 ∷ p.1.0 ∷ p.1.1 ∷ [] ≡ open_text x) × (Unit {0} × (area_byte x ≡ b))) (ok_is made area e) (refl, (tt, up b some)))
+open_spells version b some known = made_spells (pair_spells byte_spells (pair_spells byte_spells byte_spells)) (open_from b) open_text (Numbered version b) (λ area. Unit {0} × (area_byte area ≡ b))
+    (λ (list, (order, filter)) area fit e.
+    subst (λ (x : AreaState). (list ∷ order ∷ filter ∷ [] ≡ open_text x) × (Unit {0} × (area_byte x ≡ b))) (ok_is _ area e) (refl, (tt, up b some)))
     (λ area h. parts_of_area area h)
   where
     up : (n : ℕ) → eqb n 0 ≡ false → n - 1 + 1 ≡ n
@@ -129,8 +128,7 @@ open_spells version b some known = made_spells (pair_spells byte_spells (pair_sp
     parts_of_area Closed h = absurd (let e : eqb b 0 ≡ true = rw (← h.1) refl in cc)
     parts_of_area (Open a) h =
         let table : b - 1 ≡ a.table = (let e : a.table + 1 ≡ b = h.1 in omega arith) in
-        let same : open_from b a.list a.order a.filter ≡ Open a = ap (λ (n : ℕ). Open (record { table = n; list = a.list; order = a.order; filter = a.filter })) table in
-        ((a.list, (a.order, a.filter)), (tt, (tt, tt)), ap (λ (x : AreaState). done x) same, refl)
+        ((a.list, (a.order, a.filter)), (tt, (tt, tt)), ap (λ (n : ℕ). done (Open (record { table = n; list = a.list; order = a.order; filter = a.filter }))) table, refl)
     parts_of_area Unsure h = absurd (
         let e : (eqb 255 255 && may_be_unsure version) ≡ false = subst (λ (n : ℕ). (eqb n 255 && may_be_unsure version) ≡ false) (sym h.1) known in
         let may : may_be_unsure version ≡ true = h.0 in
@@ -147,17 +145,18 @@ area_spells version = choice_spells (area_behind version) area_byte open_text (A
 
 -- ---- states, procedures and maps
 
-state_again : (s : State) → state_from s.desk.selected s.desk.areas s.slots (reverse s.stack) ≡ s
-state_again s = rw (reverse-reverse s.stack) refl
+state_spelled : (selected : ℕ) (areas : List AreaState) (slots : List (Option Kind)) (kinds : List Kind) (s : State) → state_from (selected, (areas, (slots, kinds))) ≡ Ok s
+    → selected ∷ (flat_map area_text areas ++ (flat_map slot_text slots ++ (length kinds ∷ flat_map kind_text kinds))) ≡ state_text s
+state_spelled selected areas slots kinds s e = subst (λ (t : State). selected ∷ (flat_map area_text areas ++ (flat_map slot_text slots ++ (length kinds ∷ flat_map kind_text kinds))) ≡ state_text t) (ok_is _ s e) (rw (length-reverse kinds, reverse-reverse kinds) refl)
 
-state_spelled : (selected : ℕ) (areas : List AreaState) (slots : List (Option Kind)) (kinds : List Kind) → selected ∷ (flat_map area_text areas ++ (flat_map slot_text slots ++ (length kinds ∷ flat_map kind_text kinds))) ≡ state_text (state_from selected areas slots kinds)
-state_spelled selected areas slots kinds = rw (length-reverse kinds, reverse-reverse kinds) refl
+state_again : (s : State) → state_from (s.desk.selected, (s.desk.areas, (s.slots, reverse s.stack))) ≡ Ok s
+state_again s = rw (reverse-reverse s.stack) refl
 
 state_spells : (version : Version) (slots : ℕ) → Spells (state_read_at version slots) state_text (StateFits version slots) Any
 unfolding state_read_at
-state_spells version slots = made_spells (pair_spells byte_spells (pair_spells (several_spells (area_spells version) 10) (pair_spells (several_spells slot_spells slots) (counted_spells kind_spells)))) (λ p. Ok (state_from p.0 p.1.0 p.1.1.0 p.1.1.1)) state_text (StateFits version slots) Any
-    (λ p s fit e. (state_spelled p.0 p.1.0 p.1.1.0 p.1.1.1 ∙ ap state_text (ok_is (state_from p.0 p.1.0 p.1.1.0 p.1.1.1) s e), tt))
-    (λ s h. ((s.desk.selected, (s.desk.areas, (s.slots, reverse s.stack))), (tt, ((h.ten, h.areas), ((h.known, all_any s.slots), all_any (reverse s.stack)))), ap (λ (x : State). done x) (state_again s), sym (state_spelled s.desk.selected s.desk.areas s.slots (reverse s.stack) ∙ ap state_text (state_again s))))
+state_spells version slots = made_spells (pair_spells byte_spells (pair_spells (several_spells (area_spells version) 10) (pair_spells (several_spells slot_spells slots) (counted_spells kind_spells)))) state_from state_text (StateFits version slots) Any
+    (λ (selected, (areas, (slots, kinds))) s fit e. (state_spelled selected areas slots kinds s e, tt))
+    (λ s h. ((s.desk.selected, (s.desk.areas, (s.slots, reverse s.stack))), (tt, ((h.ten, h.areas), ((h.known, all_any s.slots), all_any (reverse s.stack)))), state_again s, sym (state_spelled s.desk.selected s.desk.areas s.slots (reverse s.stack) s (state_again s))))
 
 level_spells : Spells (made_at (sure byte_at) level_from) (λ level. level ∷ []) (λ level. level ≤ 20) Any
 level_spells = made_spells byte_spells level_from (λ level. level ∷ []) (λ level. level ≤ 20) Any
@@ -166,12 +165,12 @@ level_spells = made_spells byte_spells level_from (λ level. level ∷ []) (λ l
 
 pub procedure_spells : (version : Version) (slots : ℕ) → Spells (procedure_read_at version slots) procedure_text (ProcedureFits version slots) Any
 unfolding procedure_read_at
-procedure_spells version slots = made_spells (pair_spells two_spells (pair_spells level_spells (pair_spells (state_spells version slots) (state_spells version slots)))) (λ p. Ok (record { length = p.0; level = p.1.0; entry = p.1.1.0; exit = p.1.1.1 })) procedure_text (ProcedureFits version slots) Any
-    (λ p x fit e. let made : Proc = record { length = p.0; level = p.1.0; entry = p.1.1.0; exit = p.1.1.1 } in (ap procedure_text (ok_is made x e), tt))
+procedure_spells version slots = made_spells (pair_spells two_spells (pair_spells level_spells (pair_spells (state_spells version slots) (state_spells version slots)))) _ procedure_text (ProcedureFits version slots) Any
+    (λ p x fit e. (ap procedure_text (ok_is _ x e), tt))
     (λ x h. ((x.length, (x.level, (x.entry, x.exit))), (h.short, (h.level, (h.entry, h.exit))), refl, refl))
 
 pub map_spells : (version : Version) (slots : ℕ) → Spells (map_read_at version slots) map_text (MapFits version slots) Any
 unfolding map_read_at
-map_spells version slots = made_spells (pair_spells two_spells (state_spells version slots)) (λ p. Ok (record { place = p.0; state = p.1 })) map_text (MapFits version slots) Any
-    (λ p m fit e. let made : Map = record { place = p.0; state = p.1 } in (ap map_text (ok_is made m e), tt))
+map_spells version slots = made_spells (pair_spells two_spells (state_spells version slots)) _ map_text (MapFits version slots) Any
+    (λ p m fit e. (ap map_text (ok_is _ m e), tt))
     (λ m h. ((m.place, m.state), (h.place, h.state), refl, refl))

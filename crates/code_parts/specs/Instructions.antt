@@ -230,4 +230,4 @@ instr_from version p = there Operation (any_instr p) (λ i. wanted Operation (is
 unfoldable pub instr_read_at : Version → Reader (Judged Instr)
 instr_read_at version = made_at (pair_read_at (sure byte_at)
     (pair_read_at (sure byte_at) (pair_read_at (sure (number_read_at w16)) (sure (number_read_at w32)))))
-    (λ p. instr_from version (instr_parts p.0 p.1.0 p.1.1.0 p.1.1.1))
+    (λ (operation, (a, (b, c))). instr_from version (instr_parts operation a b c))

@@ -74,32 +74,30 @@ name_from bytes = wanted Shape (nat_le (length bytes) 10) (record { items = byte
 unfoldable pub name_read_at : Reader (Judged (ArrayVec ℕ))
 name_read_at = made_at (sure text_read_at) name_from
 
-abbrev pub field_from : ArrayVec ℕ → ℕ → ℕ → ℕ → Judged Field
-field_from name letter width decimals =
+abbrev pub field_from : ArrayVec ℕ × (ℕ × (ℕ × ℕ)) → Judged Field
+field_from (name, (letter, (width, decimals))) =
     there Shape (letter_of letter) (λ l. Ok (record { name = name; letter = l; width = width; decimals = decimals }))
 
 unfoldable pub field_at : Reader (Judged Field)
 field_at = made_at
-    (pair_read_at name_read_at (pair_read_at (sure byte_at) (pair_read_at (sure byte_at) (sure byte_at))))
-    (λ p. field_from p.0 p.1.0 p.1.1.0 p.1.1.1)
+    (pair_read_at name_read_at (pair_read_at (sure byte_at) (pair_read_at (sure byte_at) (sure byte_at)))) field_from
 
 unfoldable pub table_read_at : Reader (Judged TableShape)
 table_read_at = made_at (pair_read_at name_read_at (counted_at field_at))
     (λ p. Ok (record { name = p.0; fields = p.1 }))
 
-abbrev pub part_from : ℕ → ℕ → Judged KeyPart
-part_from field upper = there Shape (truth_of_byte upper) (λ u. Ok (record { field = field; upper = u }))
+abbrev pub part_from : ℕ × ℕ → Judged KeyPart
+part_from (field, upper) = there Shape (truth_of_byte upper) (λ u. Ok (record { field = field; upper = u }))
 
 unfoldable pub part_at : Reader (Judged KeyPart)
-part_at = made_at (pair_read_at (sure byte_at) (sure byte_at)) (λ p. part_from p.0 p.1)
+part_at = made_at (pair_read_at (sure byte_at) (sure byte_at)) part_from
 
-abbrev pub index_from : ArrayVec ℕ → ℕ → List KeyPart → Judged IndexShape
-index_from name table parts =
+abbrev pub index_from : ArrayVec ℕ × (ℕ × List KeyPart) → Judged IndexShape
+index_from (name, (table, parts)) =
     wanted Shape (nat_le (length parts) 8) (record { name = name; table = table; key = parts })
 
 unfoldable pub index_at : Reader (Judged IndexShape)
-index_at = made_at (pair_read_at name_read_at (pair_read_at (sure byte_at) (counted_at part_at)))
-    (λ p. index_from p.0 p.1.0 p.1.1)
+index_at = made_at (pair_read_at name_read_at (pair_read_at (sure byte_at) (counted_at part_at))) index_from
 
 abbrev pub list_from : List ℕ → Judged IndexList
 list_from bytes = wanted Shape (nat_le (length bytes) 7) (record { indexes = record { items = bytes } })
@@ -114,14 +112,13 @@ abbrev pub is_stored_number : ℕ → ℕ → ℕ → Bool
 is_stored_number decimals sign magnitude =
     nat_le decimals 15 && nat_lt magnitude (10 ^ 19) && (sign == 0 || (sign == 1 && nat_lt 0 magnitude))
 
-abbrev pub decimal_from : ℕ → ℕ → ℕ → Judged Value
-decimal_from decimals sign magnitude =
+abbrev pub decimal_from : ℕ × (ℕ × ℕ) → Judged Value
+decimal_from (decimals, (sign, magnitude)) =
     wanted Shape (is_stored_number decimals sign magnitude) (Number (finite (signed (sign == 1) magnitude) decimals))
 
 unfoldable pub decimal_at : Reader (Judged Value)
 decimal_at =
-    made_at (pair_read_at (sure byte_at) (pair_read_at (sure byte_at) (sure (number_read_at w64))))
-    (λ p. decimal_from p.0 p.1.0 p.1.1)
+    made_at (pair_read_at (sure byte_at) (pair_read_at (sure byte_at) (sure (number_read_at w64)))) decimal_from
 
 -- the blank date, or a day that the calendar has
 abbrev pub date_from : DayParts → Judged Value
@@ -130,7 +127,7 @@ date_from parts = if parts.year == 0 && parts.month == 0
 
 unfoldable pub date_at : Reader (Judged Value)
 date_at = made_at (pair_read_at (sure (number_read_at w16)) (pair_read_at (sure byte_at) (sure byte_at)))
-    (λ p. date_from (record { year = p.0; month = p.1.0; day = p.1.1 }))
+    (λ (year, (month, day)). date_from (record { year = year; month = month; day = day }))
 
 abbrev pub text_from : List ℕ → Judged Value
 text_from bytes = wanted Shape (nat_le (length bytes) 254) (Text (record { items = bytes }))
@@ -157,11 +154,11 @@ constant_at = by_byte value_at
 
 -- ---- filters
 
-abbrev pub need_from : ℕ → ℕ → Judged Need
-need_from slot kind = there Shape (kind_of_byte kind) (λ k. Ok (record { slot = slot; kind = k }))
+abbrev pub need_from : ℕ × ℕ → Judged Need
+need_from (slot, kind) = there Shape (kind_of_byte kind) (λ k. Ok (record { slot = slot; kind = k }))
 
 unfoldable pub need_at : Reader (Judged Need)
-need_at = made_at (pair_read_at (sure byte_at) (sure byte_at)) (λ p. need_from p.0 p.1)
+need_at = made_at (pair_read_at (sure byte_at) (sure byte_at)) need_from
 
 -- a number of two bytes that says how many there are, and those
 unfoldable pub needs_at : Reader (Judged (List Need))
@@ -171,17 +168,17 @@ needs_at = do
 
 unfoldable pub filter_at : Reader (Judged Filter)
 filter_at = made_at (pair_read_at (sure byte_at) (pair_read_at (sure (number_read_at w16)) needs_at))
-    (λ p. Ok (record { table = p.0; length = p.1.0; needs = p.1.1 }))
+    (λ (table, (length, needs)). Ok (record { table = table; length = length; needs = needs }))
 
 -- ---- states, procedures and maps
 
-abbrev pub open_from : ℕ → ℕ → ℕ → ℕ → AreaState
-open_from byte list order filter = Open (record { table = byte - 1; list = list; order = order; filter = filter })
+abbrev pub open_from : ℕ → ℕ × (ℕ × ℕ) → Judged AreaState
+open_from byte (list, (order, filter)) =
+    Ok (Open (record { table = byte - 1; list = list; order = order; filter = filter }))
 
 unfoldable pub open_read_at : ℕ → Reader (Judged AreaState)
 open_read_at byte =
-    made_at (pair_read_at (sure byte_at) (pair_read_at (sure byte_at) (sure byte_at)))
-    (λ p. Ok (open_from byte p.0 p.1.0 p.1.1))
+    made_at (pair_read_at (sure byte_at) (pair_read_at (sure byte_at) (sure byte_at))) (open_from byte)
 
 -- in version one 255 is a table's number as any other
 abbrev pub area_behind : Version → ℕ → Reader (Judged AreaState)
@@ -192,16 +189,15 @@ area_behind version byte =
 unfoldable pub area_read_at : Version → Reader (Judged AreaState)
 area_read_at version = by_byte (area_behind version)
 
-abbrev pub state_from : ℕ → List AreaState → List (Option Kind) → List Kind → State
-state_from selected areas slots kinds =
-    record { desk = record { selected = selected; areas = areas }; slots = slots; stack = reverse kinds }
+abbrev pub state_from : ℕ × (List AreaState × (List (Option Kind) × List Kind)) → Judged State
+state_from (selected, (areas, (slots, kinds))) =
+    Ok (record { desk = record { selected = selected; areas = areas }; slots = slots; stack = reverse kinds })
 
 -- the top of the stack stands last
 unfoldable pub state_read_at : Version → ℕ → Reader (Judged State)
 state_read_at version slots =
-    made_at (pair_read_at (sure byte_at)
-    (pair_read_at (several (area_read_at version) 10) (pair_read_at (several slot_at slots) (counted_at kind_at))))
-    (λ p. Ok (state_from p.0 p.1.0 p.1.1.0 p.1.1.1))
+    made_at (pair_read_at (sure byte_at) (pair_read_at (several (area_read_at version) 10)
+    (pair_read_at (several slot_at slots) (counted_at kind_at)))) state_from
 
 abbrev pub level_from : ℕ → Judged ℕ
 level_from level = wanted Limit (nat_le level 20) level
@@ -211,7 +207,7 @@ procedure_read_at version slots =
     made_at (pair_read_at (sure (number_read_at w16))
     (pair_read_at (made_at (sure byte_at) level_from)
     (pair_read_at (state_read_at version slots) (state_read_at version slots))))
-    (λ p. Ok (record { length = p.0; level = p.1.0; entry = p.1.1.0; exit = p.1.1.1 }))
+    (λ (length, (level, (entry, exit))). Ok (record { length = length; level = level; entry = entry; exit = exit }))
 
 unfoldable pub map_read_at : Version → ℕ → Reader (Judged Map)
 map_read_at version slots =

@@ -16,7 +16,7 @@ use std::alloc::Global;
 use xvalue::Value;
 
 fn decimal_from(decimals: u8, sign: u8, magnitude: u64) -> Result<Value, Flaw>
-    ensures { result ≡ decimal_from_parts decimals sign magnitude }
+    ensures { result ≡ decimal_from_parts (decimals, (sign, magnitude)) }
 {
     if sign > 1 {
         return Err(Flaw::Shape);

@@ -13,7 +13,7 @@ use shape::Items;
 use std::alloc::Global;
 
 fn need_from(slot: u8, kind: u8) -> Result<Need, Flaw>
-    ensures { result ≡ need_from_parts slot kind }
+    ensures { result ≡ need_from_parts (slot, kind) }
 {
     match kind_of_number(kind) {
         None => Err(Flaw::Shape),
@@ -52,7 +52,7 @@ fn needs_of(alloc: Global, bytes: &[u8]) -> Result<(Result<Vec<Need>, Flaw>, &[u
 
 fn filter_from(table: u8, length: u16, needs: Result<Vec<Need>, Flaw>) -> Result<Filter, Flaw>
     ensures { result ≡ judge (both_judged (Ok table) (both_judged (Ok length) (in_list needs)))
-        (λ p. Ok (record { table = p.0; length = p.1.0; needs = p.1.1 })) }
+        (λ (table, (length, needs)). Ok (record { table = table; length = length; needs = needs })) }
 {
     let needs = needs?;
     Ok(Filter {

@@ -27,7 +27,8 @@ fn procedure_from(
     exit: Result<State, Flaw>,
 ) -> Result<Proc, Flaw>
     ensures { result ≡ judge (both_judged (Ok length) (both_judged level (both_judged entry exit)))
-        (λ p. Ok (record { length = p.0; level = p.1.0; entry = p.1.1.0; exit = p.1.1.1 })) }
+        (λ (length, (level, (entry, exit))).
+        Ok (record { length = length; level = level; entry = entry; exit = exit })) }
 {
     let level = level?;
     let entry = entry?;

@@ -36,8 +36,8 @@ fn name_of(bytes: &[u8]) -> Result<(Result<Name, Flaw>, &[u8]), Missing>
 }
 
 fn field_from(name: Result<Name, Flaw>, letter: u8, width: u8, decimals: u8) -> Result<Field, Flaw>
-    ensures { result ≡ judge (both_judged name (both_judged (Ok letter) (both_judged (Ok width) (Ok decimals))))
-        (λ p. field_from_parts p.0 p.1.0 p.1.1.0 p.1.1.1) }
+    ensures { result
+        ≡ judge (both_judged name (both_judged (Ok letter) (both_judged (Ok width) (Ok decimals)))) field_from_parts }
 {
     let name = name?;
     match Letter::of_code(letter) {
@@ -110,7 +110,7 @@ impl Reads for Tables {
 }
 
 fn part_from(field: u8, upper: u8) -> Result<KeyPart, Flaw>
-    ensures { result ≡ part_from_parts field upper }
+    ensures { result ≡ part_from_parts (field, upper) }
 {
     match truth_of_number(upper) {
         None => Err(Flaw::Shape),
@@ -144,8 +144,7 @@ fn index_from(
     table: u8,
     parts: Result<Vec<KeyPart>, Flaw>,
 ) -> Result<IndexShape, Flaw>
-    ensures { result
-        ≡ judge (both_judged name (both_judged (Ok table) (in_list parts))) (λ p. index_from_parts p.0 p.1.0 p.1.1) }
+    ensures { result ≡ judge (both_judged name (both_judged (Ok table) (in_list parts))) index_from_parts }
 {
     let name = name?;
     let parts = parts?;

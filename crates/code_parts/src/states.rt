@@ -17,7 +17,7 @@ use xvalue::Kind;
 
 fn open_from(byte: u8, list: u8, order: u8, filter: u8) -> AreaState
     requires { 0 < byte }
-    ensures { result ≡ open_from_parts byte list order filter }
+    ensures { Ok result ≡ open_from_parts byte (list, (order, filter)) }
 {
     AreaState::Open(OpenArea {
         table: u16::from(byte - 1),
@@ -81,9 +81,8 @@ fn state_from(
     slots: Result<Vec<Option<Kind>>, Flaw>,
     kinds: Result<Vec<Kind>, Flaw>,
 ) -> Result<State, Flaw>
-    ensures { result
-        ≡ judge (both_judged (Ok selected) (both_judged (in_list areas) (both_judged (in_list slots) (in_list kinds))))
-        (λ p. Ok (state_from_parts p.0 p.1.0 p.1.1.0 p.1.1.1)) }
+    ensures { result ≡ judge (both_judged (Ok selected)
+        (both_judged (in_list areas) (both_judged (in_list slots) (in_list kinds)))) state_from_parts }
 {
     let areas = areas?;
     let slots = slots?;

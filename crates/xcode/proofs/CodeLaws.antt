@@ -46,12 +46,12 @@ abbrev lists_of : Declared → Lists
 lists_of d = (d.shape.tables, (d.shape.indexes, (d.lists, (d.constants, d.filters))))
 
 abbrev pub Sections : Header → Lists → (TableShape → Type 0) → (IndexShape → Type 0) → (IndexList → Type 0) → (Filter → Type 0) → Type 0
-Sections h x T I L F =
-    AreItems h.counts.tables is_next_table T x.0
-    × (AreItems h.counts.indexes (is_next_index x.0) I x.1.0
-    × (AreItems h.counts.lists (list_follows x.1.0) L x.1.1.0
-    × (AreItems h.counts.constants always IsLegalConstant x.1.1.1.0
-    × AreItems h.counts.filters (filter_follows (length x.0) h.counts.slots) F x.1.1.1.1)))
+Sections h (tables, (indexes, (lists, (constants, filters)))) T I L F =
+    AreItems h.counts.tables is_next_table T tables
+    × (AreItems h.counts.indexes (is_next_index tables) I indexes
+    × (AreItems h.counts.lists (list_follows indexes) L lists
+    × (AreItems h.counts.constants always IsLegalConstant constants
+    × AreItems h.counts.filters (filter_follows (length tables) h.counts.slots) F filters)))
 
 abbrev pub DeclaredFits : Header → Declared → Type 0
 DeclaredFits h d = (declared_from h (lists_of d) ≡ d) × Sections h (lists_of d) TableFits IndexFits ListFits FilterFits
@@ -80,10 +80,10 @@ abbrev body_of : Code → Body
 body_of code = (code.procedures, (code.maps, code.instructions))
 
 abbrev pub BodySections : Counts → Declared → Body → (Proc → Type 0) → (Map → Type 0) → Type 0
-BodySections c d x P M =
-    AreItems c.procedures (procedure_follows d) P x.0
-    × (AreItems c.maps (map_follows d) M x.1.0
-    × AreItems c.instructions always (IsLegalInstr d.version) x.1.1)
+BodySections c d (procedures, (maps, instructions)) P M =
+    AreItems c.procedures (procedure_follows d) P procedures
+    × (AreItems c.maps (map_follows d) M maps
+    × AreItems c.instructions always (IsLegalInstr d.version) instructions)
 
 abbrev pub BodyFits : Counts → Declared → Code → Type 0
 BodyFits c d code = (code_from d (body_of code) ≡ code) × BodySections c d (body_of code) (ProcedureFits d.version d.slots) (MapFits d.version d.slots)
@@ -119,7 +119,7 @@ headers : (v v' : Version) (a a' b b' c c' d d' e e' f f' g g' h h' i i' j j' : 
 headers v v' a a' b b' c c' d d' e e' f f' g g' h h' i i' j j' p0 p1 p2 p3 p4 p5 p6 p7 p8 p9 p10 = rw (p0, p1, p2, p3, p4, p5, p6, p7, p8, p9, p10) refl
 
 header_is : (h : Header) (code : Code) → DeclaredRead h code.declared → BodyRead h.counts code.declared code → header_of code ≡ h
-header_is h code d b =
+header_is h code (declared, (tables, (indexes, (lists, (constants, filters))))) (body, (procedures, (maps, instructions))) =
     headers code.declared.version h.version
     code.declared.stack_bound h.counts.stack_bound
     code.declared.slots h.counts.slots
@@ -131,9 +131,8 @@ header_is h code d b =
     (length code.procedures) h.counts.procedures
     (length code.maps) h.counts.maps
     (length code.instructions) h.counts.instructions
-    (sym (ap (λ (x : Declared). x.version) d.0)) (sym (ap (λ (x : Declared). x.stack_bound) d.0)) (sym (ap (λ (x : Declared). x.slots) d.0))
-    d.1.0.0 d.1.1.0.0 d.1.1.1.0.0 d.1.1.1.1.0.0 d.1.1.1.1.1.0
-    b.1.0.0 b.1.1.0.0 b.1.1.1.0
+    (sym (ap (λ (x : Declared). x.version) declared)) (sym (ap (λ (x : Declared). x.stack_bound) declared)) (sym (ap (λ (x : Declared). x.slots) declared))
+    tables.0 indexes.0 lists.0 constants.0 filters.0 procedures.0 maps.0 instructions.0
 
 whole_was : (h : Header) (d : Declared) (code : Code) → CountsRead h.counts → DeclaredRead h d → BodyRead h.counts d code → (header_text h ++ (declared_text d ++ body_text code) ≡ code_text code) × WholeRead code
 unfolding code_text
@@ -155,6 +154,6 @@ whole_was h d code within dr br =
 
 pub whole_spelled : ItemLaws → IsSpelled whole_at code_text WholeFits WholeRead
 unfolding whole_at code_text
-whole_spelled laws = shaped_spelled (joint_spelled (header_spelled laws.numbers) (λ h. joint_spelled (declared_spelled laws h) (body_spelled laws h.counts))) (λ p. p.1.1) code_text WholeFits WholeRead
-    (λ x g. whole_was x.0 x.1.0 x.1.1 g.0 g.1.0 g.1.1)
+whole_spelled laws = shaped_spelled (joint_spelled (header_spelled laws.numbers) (λ h. joint_spelled (declared_spelled laws h) (body_spelled laws h.counts))) _ code_text WholeFits WholeRead
+    (λ (header, (declared, code)) (counts, (lists, body)). whole_was header declared code counts lists body)
     (λ code f. ((header_of code, (code.declared, code)), (f.header, (f.declared, f.body)), refl, refl))

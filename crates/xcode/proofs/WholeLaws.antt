@@ -74,7 +74,7 @@ counts_spelled laws =
     let n = number_spelled laws in
     shaped_spelled (joint_spelled n (λ _. joint_spelled n (λ _. joint_spelled n (λ _. joint_spelled n (λ _. joint_spelled n (λ _. joint_spelled n (λ _. joint_spelled n (λ _. joint_spelled n (λ _. joint_spelled n (λ _. n))))))))))
     counts_from counts_text CountsFit (λ c. Small c.instructions)
-    (λ x h. (refl, h.1.1.1.1.1.1.1.1.1))
+    (λ x (_, (_, (_, (_, (_, (_, (_, (_, (_, instructions))))))))). (refl, instructions))
     (λ c h. ((c.stack_bound, (c.slots, (c.tables, (c.indexes, (c.lists, (c.constants, (c.filters, (c.procedures, (c.maps, c.instructions))))))))), h, refl, refl))
 
 abbrev pub WithinLimits : Counts → Type 0
@@ -122,6 +122,6 @@ pub record HeaderFits (h : Header) : Type 0 where
 
 pub header_spelled : NumberLaws → IsSpelled header_at header_text HeaderFits (λ h. CountsRead h.counts)
 unfolding header_at
-header_spelled laws = shaped_spelled (joint_spelled (magic_spelled laws) (λ _. joint_spelled (version_spelled laws) (λ _. limited_spelled laws))) (λ p. record { version = p.1.0; counts = p.1.1 }) header_text HeaderFits (λ h. CountsRead h.counts)
-    (λ x h. (ap (λ (n : ℕ). to_le_bytes w32 n ++ (two (version_number x.1.0) ++ counts_text x.1.1)) (eqb-true x.0 0x46434258 h.0.1), h.1.1))
+header_spelled laws = shaped_spelled (joint_spelled (magic_spelled laws) (λ _. joint_spelled (version_spelled laws) (λ _. limited_spelled laws))) _ header_text HeaderFits (λ h. CountsRead h.counts)
+    (λ (magic, (version, counts)) (is_magic, (_, within)). (ap (λ (n : ℕ). to_le_bytes w32 n ++ (two (version_number version) ++ counts_text counts)) (eqb-true magic 0x46434258 is_magic.1), within))
     (λ y h. ((0x46434258, (y.version, y.counts)), ((omega arith, refl), (tt, (h.fit, h.within))), refl, refl))

@@ -108,18 +108,19 @@ unfoldable pub number_at_front : FilePart ℕ
 number_at_front bytes = there_or Short (number_read_at w16 bytes)
 
 abbrev pub counts_from : ℕ × (ℕ × (ℕ × (ℕ × (ℕ × (ℕ × (ℕ × (ℕ × (ℕ × ℕ)))))))) → Counts
-counts_from p = record {
-  stack_bound = p.0;
-  slots = p.1.0;
-  tables = p.1.1.0;
-  indexes = p.1.1.1.0;
-  lists = p.1.1.1.1.0;
-  constants = p.1.1.1.1.1.0;
-  filters = p.1.1.1.1.1.1.0;
-  procedures = p.1.1.1.1.1.1.1.0;
-  maps = p.1.1.1.1.1.1.1.1.0;
-  instructions = p.1.1.1.1.1.1.1.1.1;
-}
+counts_from (stack, (slots, (tables, (indexes, (lists, (constants, (filters, (procedures, (maps, instructions)))))))))
+    = record {
+      stack_bound = stack;
+      slots = slots;
+      tables = tables;
+      indexes = indexes;
+      lists = lists;
+      constants = constants;
+      filters = filters;
+      procedures = procedures;
+      maps = maps;
+      instructions = instructions;
+    }
 
 -- one number more in front
 abbrev pub number_and : {A : Type 0} → FilePart A → FilePart (ℕ × A)
@@ -148,7 +149,8 @@ limited_at bytes = bind (counts_at bytes) (λ x. checked Limit (within_limits x.
 -- `XBCF`, the version, and ten counts
 unfoldable pub header_at : FilePart Header
 header_at =
-    shaped (joint magic_at (λ _. joint version_at (λ _. limited_at))) (λ p. record { version = p.1.0; counts = p.1.1 })
+    shaped (joint magic_at (λ _. joint version_at (λ _. limited_at)))
+    (λ (magic, (version, counts)). record { version = version; counts = counts })
 
 -- ---- what is declared
 
@@ -163,14 +165,14 @@ filter_follows tables slots earlier f = is_filter tables slots f
 
 abbrev pub declared_from : Header → List TableShape × (List IndexShape × (List IndexList × (List Value × List Filter)))
     → Declared
-declared_from h p = record {
+declared_from h (tables, (indexes, (lists, (constants, filters)))) = record {
   version = h.version;
   stack_bound = h.counts.stack_bound;
   slots = h.counts.slots;
-  shape = record { tables = p.0; indexes = p.1.0 };
-  lists = p.1.1.0;
-  constants = p.1.1.1.0;
-  filters = p.1.1.1.1;
+  shape = record { tables = tables; indexes = indexes };
+  lists = lists;
+  constants = constants;
+  filters = filters;
 }
 
 unfoldable pub declared_at : Header → FilePart Declared
@@ -192,7 +194,8 @@ abbrev pub map_follows : Declared → List Map → Map → Bool
 map_follows d earlier m = is_map d m
 
 abbrev pub code_from : Declared → List Proc × (List Map × List Instr) → Code
-code_from d p = record { declared = d; procedures = p.0; maps = p.1.0; instructions = p.1.1 }
+code_from d (procedures, (maps, instructions)) =
+    record { declared = d; procedures = procedures; maps = maps; instructions = instructions }
 
 unfoldable pub body_at : Counts → Declared → FilePart Code
 body_at c d = shaped (
@@ -210,7 +213,7 @@ is_laid code = nat_le (length code.procedures) 256
     && maps_rise 0 (places_of code.procedures) code.maps
 
 unfoldable pub whole_at : FilePart Code
-whole_at = shaped (joint header_at (λ h. joint (declared_at h) (body_at h.counts))) (λ p. p.1.1)
+whole_at = shaped (joint header_at (λ h. joint (declared_at h) (body_at h.counts))) (λ (header, (declared, code)). code)
 
 -- all of the bytes
 unfoldable pub code_at : List ℕ → Result Code CodeFault
