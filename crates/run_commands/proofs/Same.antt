@@ -25,7 +25,7 @@ use Rattle.table_files.specs.declared.refusal.TableFault.TheVariants.{Absent, To
 use Rattle.table_files.specs.Loading.{IsTableOf, IsListOf, AreListsOf, Loaded}
 use Rattle.table_files.specs.Names.{table_file, index_file}
 use Rattle.table_files.specs.Refusals.{IsTableFault, MayHold, LoadRefused}
-use Rattle.table_files.specs.Saving.{AreReplaced, AreSaved, EndedAt, SaveRefused}
+use Rattle.table_files.specs.Saving.{AreSaved, EndedAt, SaveRefused}
 use Rattle.work_area.specs.Areas.{StoreState}
 
 -- ---- files that hold the same
@@ -95,14 +95,11 @@ refused_same a b same shape limit broke breaks f FileMemory h = h
 
 -- ---- saving
 
-replaced_same : (a b c : Holds) → SameFiles a b → (writes : List (List ℕ × List ℕ)) → AreReplaced b writes c → AreReplaced a writes c
-replaced_same a b c same writes h = record {
-  written = h.written;
-  others = λ name other found. ((λ x. (h.others name other found).0 ((same name found).0 x)), (λ x. (same name found).1 ((h.others name other found).1 x)));
-}
-
 pub saved_same : (a b c : Holds) → SameFiles a b → (shape : Shape) (store : StoreState) (stamp : Stamp) (k : ℕ) → AreSaved shape store stamp k b c → AreSaved shape store stamp k a c
-saved_same a b c same shape store stamp k h = record { writes = h.writes; are = h.are; replaced = replaced_same a b c same h.writes h.replaced }
+saved_same a b c same shape store stamp k h = record {
+  written = h.written;
+  others = λ name other found. (let o = h.others name other found in ((λ x. o.0 ((same name found).0 x)), (λ x. (same name found).1 (o.1 x))));
+}
 
 save_refused : (shape : Shape) (k : ℕ) (broke breaks : Type 0) → (breaks → broke) → (refusal : FilesRefusal) → SaveRefused shape k breaks refusal → SaveRefused shape k broke refusal
 save_refused shape k broke breaks f (Refused name fault) h = h

@@ -124,7 +124,7 @@ take_next xs k x e = rw add-one (next xs k x e) where
   next (z ∷ xs) zero x e = cc
   next (z ∷ xs) (suc k) x e = ap (λ l. z ∷ l) (next xs k x e)
 
-some_same : {A : Type 0} (x y : A) → Some x ≡ Some y → x ≡ y
+pub some_same : {A : Type 0} (x y : A) → Some x ≡ Some y → x ≡ y
 some_same x y e = cc
 
 -- ---- lists read so far

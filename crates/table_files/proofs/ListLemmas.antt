@@ -1,9 +1,8 @@
 -- What files hold of indexes, and what a load finds of them.
-use Rattle.std.proofs.Common.{◌≡◌, ◌≢◌, ◌<◌, ◌+◌, ◌-◌, ℕ, zero, suc, true, false, not, ◌==◌, Option, Some, List, [], ◌∷◌, length, take, cond, refl, sym, ap, ◌∙◌, subst, arith}
+use Rattle.std.proofs.Common.{◌≡◌, ◌≢◌, ◌<◌, ◌+◌, ℕ, zero, suc, true, false, not, ◌==◌, Option, Some, List, [], ◌∷◌, length, cond, refl, sym, ap, ◌∙◌, subst, arith}
 use Rattle.std.proofs.lemmas.Bool.{eqb-true, eq-eqb}
 use Rattle.std.proofs.lemmas.Option.{slice_get_within}
-use Rattle.std.specs.Prelude.{slice_get, MatchBool, IsSomeAnd}
-use Rattle.std.specs.List.{AllByRecursion}
+use Rattle.std.specs.Prelude.{slice_get, MatchBool}
 use Rattle.dbf_file.specs.declared.field.Field.{Field}
 use Rattle.dbf_file.specs.declared.stamp.Stamp.{Stamp}
 use Rattle.dbf_file.specs.Rows.{Row}
@@ -15,72 +14,34 @@ use Rattle.ndx_tree.specs.Trees.{TreeView}
 use Rattle.row_keys.specs.Lists.{index_list}
 use Rattle.shape.specs.declared.indexes.IndexShape.{IndexShape}
 use Rattle.shape.specs.declared.parts.KeyPart.{KeyPart}
-use Rattle.shape.specs.declared.tables.TableShape.{TableShape}
 use Rattle.shape.specs.declared.whole.Shape.{Shape}
 use Rattle.shape.specs.Whole.{is_shape}
 use Rattle.open_table.specs.Open.{OpenState}
-use Rattle.open_table.specs.Marks.{IndexMark, mark_at, is_fresh, parts_in, form_in}
-use Rattle.work_area.specs.Areas.{StoreState, index_table, mark_in}
+use Rattle.open_table.specs.Marks.{IndexMark, mark_at, is_fresh, parts_in}
+use Rattle.work_area.specs.Areas.{StoreState, mark_in}
 use Rattle.work_area.specs.Making.{AreMarks, FirstIs as FirstMark, IsMarkOf, key_form, lists_just}
 use Rattle.work_area.specs.Shapes.{AreFound, IsFoundIn}
 use Rattle.table_files.specs.Loading.{FoundList, Loaded}
 use Rattle.table_files.specs.Names.{index_file}
-use Rattle.table_files.specs.Saving.{Write, table_writes, has_fresh_index, FirstWriteIs, IsIndexWrite, AreIndexWrites, AreSaved, HoldsLists, FindsLists}
-use Rattle.table_files.proofs.LawLemmas.{some_same, get_taken, marks_at, finds_saved}
-use Rattle.table_files.proofs.WriteLemmas.{all_split}
+use Rattle.table_files.specs.Saving.{has_fresh_index, AreSaved, HoldsLists, FindsLists}
+use Rattle.table_files.proofs.FileLemmas.{some_same, index_place}
+use Rattle.table_files.proofs.LawLemmas.{marks_at, finds_saved}
+use Rattle.table_files.proofs.WriteLemmas.{index_written}
 
 -- ---- what was written of an index
-
--- one of the writes is that of index m
-abbrev IsAmong : (Write → Type 0) → StoreState → ℕ → IndexShape → Type 0
-IsAmong P store m x = (w : Write) × IsIndexWrite store m x w × P w
-
-first_written : (P : Write → Type 0) (store : StoreState) (m : ℕ) (x : IndexShape) (Q : List Write → Type 0) (ws : List Write) → AllByRecursion P ws → FirstWriteIs (IsIndexWrite store m x) Q ws → IsAmong P store m x
-first_written P store m x Q [] all h = absurd h
-first_written P store m x Q (w ∷ ws) all h = (w, h.0, all.0)
-
-behind_written : (P R : Write → Type 0) (A : Type 0) (Q : List Write → Type 0) (ws : List Write) → AllByRecursion P ws → ((vs : List Write) → AllByRecursion P vs → Q vs → A) → FirstWriteIs R Q ws → A
-behind_written P R A Q [] all more h = absurd h
-behind_written P R A Q (w ∷ ws) all more h = more ws all.1 h.1
-
-index_written : (P : Write → Type 0) (store : StoreState) (n m i : ℕ) (xs : List IndexShape) (x : IndexShape) (ws : List Write) → n + i ≡ m → slice_get xs i ≡ Some x → has_fresh_index store m ≡ true
-    → AllByRecursion P ws → AreIndexWrites store n xs ws → IsAmong P store m x
-index_written P store n m i [] x ws e at listed all h = absurd (cc)
-index_written P store n m zero (y ∷ xs) x ws e at listed all h =
-    let same : n ≡ m = omega arith in
-    let here : has_fresh_index store n ≡ true = ap (has_fresh_index store) same ∙ listed in
-    let first : FirstWriteIs (IsIndexWrite store n y) (AreIndexWrites store (n + 1) xs) ws = subst (λ b. MatchBool b (FirstWriteIs (IsIndexWrite store n y) (AreIndexWrites store (n + 1) xs) ws) (AreIndexWrites store (n + 1) xs ws)) here h in
-    subst (λ k. IsAmong P store k x) same
-    (subst (IsAmong P store n) (some_same y x at) (first_written P store n y (AreIndexWrites store (n + 1) xs) ws all first))
-index_written P store n m (suc i) (y ∷ xs) x ws e at listed all h =
-    let more : (vs : List Write) → AllByRecursion P vs → AreIndexWrites store (n + 1) xs vs → IsAmong P store m x = λ vs some. index_written P store (n + 1) m i xs x vs (omega arith) at listed some in
-    (elim (has_fresh_index store n) as (λ b. MatchBool b (FirstWriteIs (IsIndexWrite store n y) (AreIndexWrites store (n + 1) xs) ws) (AreIndexWrites store (n + 1) xs ws) → IsAmong P store m x) [
-      | true ↦ λ p. behind_written P (IsIndexWrite store n y) (IsAmong P store m x) (AreIndexWrites store (n + 1) xs) ws all more p
-      | false ↦ λ p. more ws all p
-    ]) h
-
-declared_text : (store : StoreState) (n : ℕ) (x : IndexShape) (s : TableShape) (o : OpenState) (bytes : List ℕ) → IsFoundIn store n x s o
-    → IsSomeAnd (index_table store n) (λ u. IsIndexText bytes (form_in u.table.structure (mark_at u.table.marks n)) (index_list (parts_in (mark_at u.table.marks n)) u.table.rows))
-    → IsIndexText bytes (key_form s x) (index_list x.key o.table.rows)
-declared_text store n x s o bytes is text =
-    let here : IsIndexText bytes (form_in o.table.structure (mark_at o.table.marks n)) (index_list (parts_in (mark_at o.table.marks n)) o.table.rows) =
-    subst (λ (u : Option OpenState). IsSomeAnd u (λ u. IsIndexText bytes (form_in u.table.structure (mark_at u.table.marks n)) (index_list (parts_in (mark_at u.table.marks n)) u.table.rows))) is.found text in
-    subst (λ (key : List KeyPart). IsIndexText bytes (key_form s x) (index_list key o.table.rows)) is.parts
-    (subst (λ (form : KeyForm). IsIndexText bytes form (index_list (parts_in (mark_at o.table.marks n)) o.table.rows)) is.form here)
 
 pub holds_lists : (before after : Holds) (shape : Shape) (store : StoreState) (stamp : Stamp) (k : ℕ) → AreFound shape store → AreSaved shape store stamp k before after → HoldsLists after shape store k
 holds_lists before after shape store stamp k found h n x s o saved =
     let is : IsFoundIn store n x s o = found n x o s saved.index saved.table saved.declared in
     let listed : has_fresh_index store n ≡ true = ap (λ (u : Option OpenState). is_fresh (mark_in u n)) is.found ∙ saved.fresh in
-    let written : AllByRecursion (λ (w : Write). after w.0 (Some w.1)) h.are.of_indexes =
-    (all_split (λ (w : Write). after w.0 (Some w.1)) (table_writes stamp (take k shape.tables) store.tables) h.are.of_indexes
-    (subst (λ (ws : List Write). AllByRecursion (λ (w : Write). after w.0 (Some w.1)) ws) h.are.whole h.replaced.written)).1 in
-    let low : n < k - length shape.tables = (let within = saved.within in omega (arith, within)) in
-    let w = index_written (λ (w : Write). after w.0 (Some w.1)) store 0 n n (take (k - length shape.tables) shape.indexes) x h.are.of_indexes (omega arith) (get_taken shape.indexes (k - length shape.tables) n low ∙ saved.index) listed written h.are.indexes in
+    let place : ℕ = length shape.tables + n in
+    let w = h.written place saved.within (index_file x) (index_place shape n x saved.index) (index_written shape store place n refl ∙ listed) in
     record {
-      bytes = w.0.1;
-      held = subst (λ (name : List ℕ). after name (Some w.0.1)) w.1.name w.2;
-      text = declared_text store n x s o w.0.1 is w.1.text;
+      bytes = w.0;
+      held = w.2;
+      text =
+          subst (λ (key : List KeyPart). IsIndexText w.0 (key_form s x) (index_list key o.table.rows)) is.parts
+          (subst (λ (form : KeyForm). IsIndexText w.0 form (index_list (parts_in (mark_at o.table.marks n)) o.table.rows)) is.form (w.1.index n o refl is.found));
     }
 
 -- ---- the mark of an index in a new store

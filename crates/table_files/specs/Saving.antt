@@ -1,12 +1,10 @@
 -- What is written of a store, and what the files hold then.
-use Rattle.std.specs.Prelude.{◌≡◌, ◌≢◌, ℕ, ◌+◌, ◌-◌, ◌<◌, ◌≤◌, ◌↔◌, Bool, true, Option, Some, None, List, [], ◌∷◌, ◌++◌}
-use Rattle.std.specs.Prelude.{length, take, slice_get, MatchBool, IsSomeAnd, ⊤}
-use Rattle.std.specs.List.{AllByRecursion}
+use Rattle.std.specs.Prelude.{◌≡◌, ℕ, ◌+◌, ◌-◌, ◌<◌, ◌≤◌, ◌↔◌, Bool, true, false, ◌||◌, nat_lt, Option, Some, List}
+use Rattle.std.specs.Prelude.{length, slice_get, ⊤}
 use Rattle.dbf_file.specs.declared.stamp.Stamp.{Stamp}
 use Rattle.dbf_file.specs.Tables.{TableState, DbfText, dbf_text}
 use Rattle.file_access.specs.Holding.{Holds}
 use Rattle.ndx_tree.specs.IndexText.{IsIndexText}
-use Rattle.ndx_tree.specs.Trees.{TreeView}
 use Rattle.row_keys.specs.Lists.{index_list}
 use Rattle.shape.specs.declared.indexes.IndexShape.{IndexShape}
 use Rattle.shape.specs.declared.tables.TableShape.{TableShape}
@@ -18,109 +16,41 @@ use Rattle.work_area.specs.Making.{key_form}
 use Rattle.table_files.specs.declared.refusal.FilesRefusal.{FilesRefusal}
 use Rattle.table_files.specs.declared.refusal.FilesRefusal.TheVariants.{Refused, Disk, Memory}
 use Rattle.table_files.specs.Loading.{IsTableOf}
-use Rattle.table_files.specs.Names.{table_file, index_file, files_of}
+use Rattle.table_files.specs.Names.{index_file, files_of}
 
--- a file's name, and the bytes that are written
-abbrev pub Write : Type 0
-Write = List ℕ × List ℕ
-
--- each file that was written holds its bytes, and every other name what it held
-pub record AreReplaced (before : Holds) (writes : List Write) (after : Holds) : Type 0 where
-  pub written : AllByRecursion (λ w. after w.0 (Some w.1)) writes
-  pub others : (name : List ℕ) → AllByRecursion (λ w. w.0 ≢ name) writes → (found : Option (List ℕ))
-      → before name found ↔ after name found
-
--- ---- tables
-
--- each table's file with its rows and this stamp, in their order
-abbrev pub table_writes : Stamp → List TableShape → List OpenState → List Write
-table_writes stamp [] os = []
-table_writes stamp (s ∷ ss) [] = []
-table_writes stamp (s ∷ ss) (o ∷ os) =
-    (table_file s, dbf_text o.table.structure o.table.rows stamp) ∷ table_writes stamp ss os
-
--- what is written of a table reads as that table
-abbrev pub IsReadable : Stamp → OpenState → Type 0
-IsReadable stamp o = DbfText o.table.structure o.table.rows stamp (dbf_text o.table.structure o.table.rows stamp)
-
--- ---- indexes
-
--- the file of index n, with the list of its table's rows under the declared key
-pub record IsIndexWrite (store : StoreState) (n : ℕ) (x : IndexShape) (w : Write) : Type 0 where
-  pub name : w.0 ≡ index_file x
-  pub text : IsSomeAnd (index_table store n)
-      (λ o. IsIndexText w.1 (form_in o.table.structure (mark_at o.table.marks n))
-      (index_list (parts_in (mark_at o.table.marks n)) o.table.rows))
-
--- a fact of the first, and one of the others
-abbrev pub FirstWriteIs : (Write → Type 0) → (List Write → Type 0) → List Write → Type 0
-FirstWriteIs P Q [] = ⊥
-FirstWriteIs P Q (w ∷ writes) = P w × Q writes
+-- ---- files that are written
 
 -- whether index n is there and isn't stale
 abbrev pub has_fresh_index : StoreState → ℕ → Bool
 has_fresh_index store n = is_fresh (mark_in (index_table store n) n)
 
--- the file of each index that isn't stale, in their order, the first index being index n
-abbrev pub AreIndexWrites : StoreState → ℕ → List IndexShape → List Write → Type 0
-AreIndexWrites store n [] writes = writes ≡ []
-AreIndexWrites store n (x ∷ xs) writes = MatchBool (has_fresh_index store n)
-    (FirstWriteIs (IsIndexWrite store n x) (AreIndexWrites store (n + 1) xs) writes)
-    (AreIndexWrites store (n + 1) xs writes)
+-- whether declared file k, counted from 0, is written: a table's is, and that of an index that isn't stale
+abbrev pub is_written : Shape → StoreState → ℕ → Bool
+is_written shape store k = nat_lt k (length shape.tables) || has_fresh_index store (k - length shape.tables)
 
--- ---- parts of it
+-- the bytes of declared file k: its table's rows with this stamp, which read as that table, or the list of its table's
+-- rows under its index's declared key
+pub record IsTextOf (shape : Shape) (store : StoreState) (stamp : Stamp) (k : ℕ) (bytes : List ℕ) : Type 0 where
+  pub table : (o : OpenState) → k < length shape.tables → table_at store k ≡ Some o
+      → bytes ≡ dbf_text o.table.structure o.table.rows stamp
+  pub reads : (o : OpenState) → k < length shape.tables → table_at store k ≡ Some o
+      → DbfText o.table.structure o.table.rows stamp bytes
+  pub index : (n : ℕ) (o : OpenState) → k ≡ length shape.tables + n → index_table store n ≡ Some o
+      → IsIndexText bytes (form_in o.table.structure (mark_at o.table.marks n))
+      (index_list (parts_in (mark_at o.table.marks n)) o.table.rows)
 
--- why a file of this name isn't written
-abbrev pub WriteRefused : List ℕ → Type 0 → FilesRefusal → Type 0
-WriteRefused file broke (Refused name fault) = ⊥
-WriteRefused file broke (Disk name) = (name.bytes ≡ file) × broke
-WriteRefused file broke Memory = ⊤
-
--- tables were written as far as the first k of them, and then no more
-pub record TablesEnded (shape : Shape) (store : StoreState) (stamp : Stamp) (before after : Holds) (broke : Type 0)
-    (refusal : FilesRefusal) : Type 0 where
-  pub k : ℕ
-  pub s : TableShape
-  pub next : slice_get shape.tables k ≡ Some s
-  pub replaced : AreReplaced before (table_writes stamp (take k shape.tables) store.tables) after
-  pub readable : AllByRecursion (IsReadable stamp) (take k store.tables)
-  pub why : WriteRefused (table_file s) broke refusal
-
--- an index's file is that of its list; without a list no file changes
-abbrev pub ListSaved : IndexShape → Option TreeView → Holds → Holds → Type 0
-ListSaved x None before after = AreReplaced before [] after
-ListSaved x (Some list) before after =
-    (bytes : List ℕ) × IsIndexText bytes list.form list.pairs × AreReplaced before ((index_file x, bytes) ∷ []) after
-
--- the files of those of the first k indexes that aren't stale are new
-pub record ListsSaved (shape : Shape) (store : StoreState) (k : ℕ) (before after : Holds) : Type 0 where
-  pub writes : List Write
-  pub are : AreIndexWrites store 0 (take k shape.indexes) writes
-  pub replaced : AreReplaced before writes after
-
-pub record ListsEnded (shape : Shape) (store : StoreState) (before after : Holds) (broke : Type 0)
-    (refusal : FilesRefusal) : Type 0 where
-  pub k : ℕ
-  pub x : IndexShape
-  pub next : slice_get shape.indexes k ≡ Some x
-  pub saved : ListsSaved shape store k before after
-  pub why : WriteRefused (index_file x) broke refusal
+-- declared file k holds such bytes if it is written
+abbrev pub IsNew : Shape → StoreState → Stamp → Holds → ℕ → Type 0
+IsNew shape store stamp holds k = (name : List ℕ) → slice_get (files_of shape) k ≡ Some name
+    → is_written shape store k ≡ true → (bytes : List ℕ) × IsTextOf shape store stamp k bytes × holds name (Some bytes)
 
 -- ---- the whole
 
--- What is written of a store for the first k declared files: those of tables, and behind all tables those of indexes
--- that aren't stale.
-pub record AreWrites (shape : Shape) (store : StoreState) (stamp : Stamp) (k : ℕ) (writes : List Write) : Type 0 where
-  pub of_indexes : List Write
-  pub indexes : AreIndexWrites store 0 (take (k - length shape.tables) shape.indexes) of_indexes
-  pub whole : writes ≡ table_writes stamp (take k shape.tables) store.tables ++ of_indexes
-  pub readable : AllByRecursion (IsReadable stamp) (take k store.tables)
-
--- the first k declared files are new, and all others as they were
+-- Those of the first k declared files that are written are new, and all other files as they were.
 pub record AreSaved (shape : Shape) (store : StoreState) (stamp : Stamp) (k : ℕ) (before after : Holds) : Type 0 where
-  pub writes : List Write
-  pub are : AreWrites shape store stamp k writes
-  pub replaced : AreReplaced before writes after
+  pub written : (j : ℕ) → j < k → IsNew shape store stamp after j
+  pub others : (name : List ℕ) → ((j : ℕ) → j < k → slice_get (files_of shape) j ≡ Some name
+      → is_written shape store j ≡ false) → (found : Option (List ℕ)) → before name found ↔ after name found
 
 -- why the file behind the first k isn't written: the device failed at it, or memory was refused
 abbrev pub SaveRefused : Shape → ℕ → Type 0 → FilesRefusal → Type 0

@@ -1,24 +1,37 @@
-use Rattle.std.proofs.lemmas.Result.{err_from_is_err_and}
+use Rattle.std.proofs.Common.{◌≡◌, true, Some, sym, arith}
+use Rattle.std.specs.Prelude.{slice_get}
+use Rattle.file_access.specs.Holding.{IsReplaced}
+use Rattle.table_files.specs.Names.{files_of}
+use Rattle.table_files.specs.Saving.{is_written, IsTextOf}
 use Rattle.table_files.proofs.FileLemmas.{rose_on}
-use Rattle.table_files.proofs.WriteLemmas.{on_ok_to, if_err_to, tables_ended, whole_saved, lists_ended}
+use Rattle.table_files.proofs.ShapeLemmas.{few_declared}
+use Rattle.table_files.proofs.WriteLemmas.{files_count, saved_kept, saved_more}
 use Rattle.table_files.proofs.saving.save.Goals as goal
 
-pub returns-in_err-save_tables-clause-ended : goal.returns-in_err-save_tables-clause-ended
-returns-in_err-save_tables-clause-ended g c =
-    let p = err_from_is_err_and c.from_residual.result c.from_residual.ensures.1 in
-    let holds = g.F.Files.holds in
-    rw (p.1, p.2) (tables_ended (holds c.args.files.now) (holds c.save_tables.new.files) c.args.shape.now c.args.store.now c.args.stamp _ c.in_err-save_tables.field-0.0 c.in_err-save_tables.ensures.ended)
+pub overflow_add-k-end : goal.overflow_add-k-end
+overflow_add-k-end g c = let few = few_declared c.args.shape.now c.requires.legal in omega (arith, few.0, few.1)
 
-pub returns-clause-saved : goal.returns-clause-saved
-returns-clause-saved g c =
-    let holds = g.F.Files.holds in
-    on_ok_to c.save_lists.result _ _ (whole_saved (holds c.args.files.now) (holds c.save_tables.new.files) (holds c.save_lists.new.files) c.args.shape.now c.args.store.now c.args.stamp c.requires.count c.in_ok-save_tables.ensures.readable c.in_ok-save_tables.ensures.ok) c.save_lists.ensures.ok
-
-pub returns-clause-ended : goal.returns-clause-ended
-returns-clause-ended g c =
+pub returns-in-Err-clause-ended : goal.returns-in-Err-clause-ended
+returns-in-Err-clause-ended g c =
     let holds = g.F.Files.holds in
     let failed = g.F.Files.failed in
-    if_err_to c.save_lists.result _ _ (lists_ended (holds c.args.files.now) (holds c.save_tables.new.files) (holds c.save_lists.new.files) c.args.shape.now c.args.store.now c.args.stamp _ _
-    (rose_on (failed c.args.files.now) (failed c.save_tables.new.files) (failed c.save_lists.new.files) c.in_ok-save_tables.ensures.counted c.save_lists.ensures.counted)
-    c.requires.count c.in_ok-save_tables.ensures.readable c.in_ok-save_tables.ensures.ok)
-    c.save_lists.ensures.ended
+    let named : slice_get (files_of c.args.shape.now) c.loop-k.k ≡ Some c.in-Some.file.name.bytes = rw c.in-Some.is at c.in_ok-file.ensures.named in
+    record {
+      k = c.loop-k.k;
+      within = (let count = files_count c.args.shape.now in omega (arith, count));
+      saved = saved_kept c.args.shape.now c.args.store.now c.args.stamp c.loop-k.k (holds c.args.files.now) (holds c.loop-k.files) (holds c.replace.new.self) c.in-Err.ensures.kept c.loop-k.invariant.0;
+      why = (named, rose_on (failed c.args.files.now) (failed c.loop-k.files) (failed c.replace.new.self) c.loop-k.invariant.1 c.replace.ensures.counted c.in-Err.ensures.device);
+    }
+
+pub loop-k-preserved : goal.loop-k-preserved
+loop-k-preserved g c =
+    let holds = g.F.Files.holds in
+    let shape = c.args.shape.now in
+    let store = c.args.store.now in
+    let is : is_written shape store c.loop-k.k ≡ true = sym (rw c.in-Some.is at c.in_ok-file.ensures.written) in
+    let named : slice_get (files_of shape) c.loop-k.k ≡ Some c.in-Some.file.name.bytes = rw c.in-Some.is at c.in_ok-file.ensures.named in
+    let text : IsTextOf shape store c.args.stamp c.loop-k.k c.in-Some.file.bytes.items = rw c.in-Some.is at c.in_ok-file.ensures.text in
+    let replaced : IsReplaced (holds c.loop-k.files) c.in-Some.file.name.bytes c.in-Some.file.bytes.items (holds c.replace.new.self) = rw (c.as_str.ensures.value, c.as_slice.ensures.value) at c.in-Ok.ensures.replaced in (
+      saved_more shape store c.args.stamp c.loop-k.k c.in-Some.file.name.bytes c.in-Some.file.bytes.items (holds c.args.files.now) (holds c.loop-k.files) (holds c.replace.new.self) c.requires.legal is named text replaced c.loop-k.invariant.0,
+      omega (arith, c.loop-k.invariant.1, c.replace.ensures.counted),
+    )
