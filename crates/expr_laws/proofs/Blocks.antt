@@ -31,7 +31,9 @@ use Rattle.run_values.specs.Scratch.{put_on}
 use Rattle.run_steps.specs.World.{kind_held}
 use Rattle.run_steps.specs.Filters.{Viewer, with_constant, with_held, row_field, asked_of, row_run, block_run, block_fails, block_sound, block_start}
 use Rattle.run_laws.proofs.Tests.{Same, slot_holds, is_there}
-use Rattle.prg_values.specs.Written.{Piece, Constant, Does, IsPiece}
+use Rattle.prg_values.specs.declared.pieces.Piece.{Piece}
+use Rattle.prg_values.specs.declared.pieces.Piece.TheVariants.{Constant, Does}
+use Rattle.prg_values.specs.Written.{IsPiece}
 use Rattle.expr_laws.proofs.Machines.{Run, through, Fit}
 
 -- ---- the block's instructions on a stack without a bound

@@ -17,7 +17,9 @@ use Rattle.code_items.specs.declared.instr.Instr.{Instr}
 use Rattle.code_items.specs.declared.instr.Instr.TheVariants.{Values, Records}
 use Rattle.prg_values.specs.declared.scope.Reading.{Reading}
 use Rattle.prg_values.specs.Readings.{Scoped, read_name, read_qualified}
-use Rattle.prg_values.specs.Written.{Piece, Constant, Does, IsPiece, question_kind}
+use Rattle.prg_values.specs.declared.pieces.Piece.{Piece}
+use Rattle.prg_values.specs.declared.pieces.Piece.TheVariants.{Constant, Does}
+use Rattle.prg_values.specs.Written.{IsPiece, question_kind}
 use Rattle.run_values.specs.Tagged.{arguments_on}
 use Rattle.expr_laws.specs.Meaning.{Sight}
 

@@ -26,7 +26,9 @@ use Rattle.prg_values.specs.declared.operators.OperatorMeaning.{OperatorMeaning}
 use Rattle.prg_values.specs.declared.scope.Reading.{Reading}
 use Rattle.prg_values.specs.Operators.{operated, prefix_fun}
 use Rattle.prg_values.specs.Readings.{Scoped, on_some, read_name, read_qualified}
-use Rattle.prg_values.specs.Written.{Piece, Constant, Does, IsPiece, calls, meaning, choice, question_kind, of_none, called_kind, prefixed_kind, operated_kind, kind_in, kinds_in, reading_pieces, constants, chosen, call_pieces, prefix_pieces, denial, operation_pieces, operator_pieces, turned as in_turn, pieces_in, all_pieces, defaults}
+use Rattle.prg_values.specs.declared.pieces.Piece.{Piece}
+use Rattle.prg_values.specs.declared.pieces.Piece.TheVariants.{Constant, Does}
+use Rattle.prg_values.specs.Written.{IsPiece, calls, meaning, choice, question_kind, of_none, called_kind, prefixed_kind, operated_kind, kind_in, kinds_in, reading_pieces, constants, chosen, call_pieces, prefix_pieces, denial, operation_pieces, operator_pieces, turned as in_turn, pieces_in, all_pieces, defaults}
 use Rattle.fit_laws.proofs.Covered.{kinds_same}
 use Rattle.fit_laws.proofs.Values.{ResultLaw}
 use Rattle.expr_laws.specs.Meaning.{Sight, applied_to, operands, value_in, values_in}

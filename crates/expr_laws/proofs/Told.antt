@@ -26,7 +26,8 @@ use Rattle.prg_values.specs.declared.operators.OperatorMeaning.{OperatorMeaning}
 use Rattle.prg_values.specs.declared.scope.Reading.{Reading}
 use Rattle.prg_values.specs.Operators.{operated, prefix_fun}
 use Rattle.prg_values.specs.Readings.{Scoped, on_some, read_name, read_qualified}
-use Rattle.prg_values.specs.Written.{Piece, meaning, choice, reading_kind, completed, function_kind, question_kind, of_none, called_kind, prefixed_kind, operated_kind, kind_in, kinds_in, reading_pieces, constants, chosen, call_pieces, prefix_pieces, operation_pieces, operation_in, operator_pieces, turned as in_turn, pieces_in, all_pieces, defaults}
+use Rattle.prg_values.specs.declared.pieces.Piece.{Piece}
+use Rattle.prg_values.specs.Written.{meaning, choice, reading_kind, completed, function_kind, question_kind, of_none, called_kind, prefixed_kind, operated_kind, kind_in, kinds_in, reading_pieces, constants, chosen, call_pieces, prefix_pieces, operation_pieces, operation_in, operator_pieces, turned as in_turn, pieces_in, all_pieces, defaults}
 use Rattle.fit_laws.proofs.Covered.{kinds_same, joined}
 use Rattle.fit_laws.proofs.Values.{ResultLaw}
 use Rattle.expr_laws.specs.Meaning.{Sight, nothing, applied_to, denied_if, operands, operation_value, operated_value, prefixed_value, chosen_value, called_value, value_in, values_in}

@@ -27,7 +27,9 @@ use Rattle.prg_values.specs.declared.operators.OperatorMeaning.{OperatorMeaning}
 use Rattle.prg_values.specs.declared.scope.Reading.{Reading}
 use Rattle.prg_values.specs.Operators.{operated, prefix_fun}
 use Rattle.prg_values.specs.Readings.{Scoped, on_some, read_name, read_qualified}
-use Rattle.prg_values.specs.Written.{Piece, Constant, Does, calls, meaning, choice, reading_kind, function_kind, question_kind, of_none, called_kind, prefixed_kind, operated_kind, kind_in, kinds_in, reading_pieces, constants, chosen, call_pieces, prefix_pieces, denial, operation_pieces, operator_pieces, turned as in_turn, pieces_in, all_pieces, defaults}
+use Rattle.prg_values.specs.declared.pieces.Piece.{Piece}
+use Rattle.prg_values.specs.declared.pieces.Piece.TheVariants.{Constant, Does}
+use Rattle.prg_values.specs.Written.{calls, meaning, choice, reading_kind, function_kind, question_kind, of_none, called_kind, prefixed_kind, operated_kind, kind_in, kinds_in, reading_pieces, constants, chosen, call_pieces, prefix_pieces, denial, operation_pieces, operator_pieces, turned as in_turn, pieces_in, all_pieces, defaults}
 use Rattle.fit_laws.proofs.Values.{ResultLaw}
 use Rattle.expr_laws.specs.Meaning.{Sight, nothing, applied_to, denied_if, operands, operation_value, prefixed_value, chosen_value, called_value, value_in, values_in}
 use Rattle.expr_laws.proofs.Machines.{Run, Machine, Puts, Goes, parted, goes_nowhere, goes_by, goes_constant, onto, onto_both, Fit, fit_parts}

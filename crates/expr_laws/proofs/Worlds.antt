@@ -14,7 +14,9 @@ use Rattle.work_area.specs.Areas.{AreApart}
 use Rattle.prg_expr.specs.Tree.{Tree}
 use Rattle.prg_values.specs.Readings.{Scoped}
 use Rattle.prg_code.specs.Numbers.{Grows}
-use Rattle.prg_values.specs.Written.{Piece, Constant, Does, IsPiece, IsWrittenExpr, pieces_in}
+use Rattle.prg_values.specs.declared.pieces.Piece.{Piece}
+use Rattle.prg_values.specs.declared.pieces.Piece.TheVariants.{Constant, Does}
+use Rattle.prg_values.specs.Written.{IsPiece, IsWrittenExpr, pieces_in}
 use Rattle.prg_values.proofs.Emitting.{still_there}
 use Rattle.run_steps.specs.World.{World, kind_held, desk_of, state_of}
 use Rattle.run_steps.specs.Effects.{with_pushed}

@@ -1,5 +1,5 @@
 -- What is told of what was found.
-use Rattle.std.proofs.Common.{◌≡◌, ℕ, List, [], Option, Some, None, Result, Ok, Err, IfOk, IfSome, true, sym, subst}
+use Rattle.std.proofs.Common.{◌≡◌, ℕ, List, [], Option, Some, None, Result, Ok, Err, IfOk, true, sym, subst}
 use Rattle.std.proofs.Common.{refl}
 use Rattle.std.specs.Prelude.{is_some, option_map}
 use Rattle.prg_line.specs.Act.{Act}
@@ -9,10 +9,6 @@ use Rattle.prg_laid.specs.Commands.{Laid, ends, ends_run}
 use Rattle.prg_laid.specs.Layout.{Laying}
 use Rattle.prg_laid.specs.declared.way.Leaps.{Leaps}
 use Rattle.prg_laid.specs.declared.way.Way.{Way}
-
-pub on_found : {A : Type 0} {P Q : A → Type 0} (r : Option A) → ((b : A) → P b → Q b) → IfSome r P → IfSome r Q
-on_found None f h = tt
-on_found (Some b) f h = f b h
 
 pub is_some_map : {A B : Type 0} (f : A → B) (o : Option A) → is_some (option_map f o) ≡ is_some o
 is_some_map f None = refl

@@ -37,7 +37,8 @@ use Rattle.prg_code.specs.Bindings.{slot_named}
 use Rattle.prg_values.specs.declared.scope.FieldPlace.{FieldPlace}
 use Rattle.prg_values.specs.declared.scope.Reading.{Reading}
 use Rattle.prg_values.specs.Readings.{alias_area, field_here, table_named}
-use Rattle.prg_values.specs.Written.{Constant, whole_as_value}
+use Rattle.prg_values.specs.declared.pieces.Piece.TheVariants.{Constant}
+use Rattle.prg_values.specs.Written.{whole_as_value}
 use Rattle.prg_values.specs.OneInstr.{may_wait, setting_of}
 use Rattle.prg_values.specs.Placed.{InstrStands, StandAll, Leaves}
 use Rattle.prg_laid.specs.Layout.{Laying, ExprLaid, Knows, NameLaid, scope_in}

@@ -1,28 +1,29 @@
 //! Commands on work areas, and moves.
 
-ghost use Rattle.std.specs.Prelude.{◌≡◌, IfSome, IsTrue, true, map, option_map, ℕ};
+ghost use Rattle.std.specs.Prelude.{◌≡◌, IfOk, IsTrue, true, map, option_map, ℕ};
 ghost use Rattle.std.specs.List.{AllZip};
 ghost use Rattle.prg_expr.specs.Tree.{tree_of};
 ghost use Rattle.prg_laid.specs.Acts as acts;
 ghost use Rattle.prg_laid.specs.Layout.{laying};
 ghost use Rattle.prg_line.specs.Act.{letters_of, area_said, goal_of};
 
-use crate::layout::{Layout, after, given_as, known, puts_one, scope_of};
+use crate::fault::{Found, LayoutFault};
+use crate::layout::{Layout, after, given_as, given_in, known, puts_one, scope_of};
 use code_items::{AreaInstr, Filter, IndexList, IndexShape, Instr, MoveInstr, Name, State};
 use code_rules::blocks::Block;
 use prg_expr::Expr;
 use prg_line::{Move, Selected};
-use prg_values::{Given, area_of_alias, given_at, table_named};
+use prg_values::{area_of_alias, table_named};
 use xvalue::Kind;
 
-pub fn area(l: &Layout, place: usize, instr: AreaInstr) -> Option<usize>
-    ensures { IfSome result (λ b. acts.OnAreas (laying l.now) place instr b) }
+pub fn area(l: &Layout, place: usize, instr: AreaInstr) -> Found<usize>
+    ensures { IfOk result (λ b. acts.OnAreas (laying l.now) place instr b) }
 {
     after(l, place, Instr::Areas(instr))
 }
 
-fn moved(l: &Layout, place: usize, instr: MoveInstr) -> Option<usize>
-    ensures { IfSome result (λ b. acts.Moved (laying l.now) place instr b) }
+fn moved(l: &Layout, place: usize, instr: MoveInstr) -> Found<usize>
+    ensures { IfOk result (λ b. acts.Moved (laying l.now) place instr b) }
 {
     after(l, place, Instr::Moves(instr))
 }
@@ -70,33 +71,33 @@ pub fn is_list(l: &Layout, names: &[Name], number: u32) -> bool
 }
 
 /// `USE table [INDEX indexes]`.
-pub fn opened(l: &Layout, place: usize, name: &Name, indexes: &[Name]) -> Option<usize>
-    ensures { IfSome result (λ b. acts.Opened (laying l.now) place name.now.items (map letters_of indexes.now) b) }
+pub fn opened(l: &Layout, place: usize, name: &Name, indexes: &[Name]) -> Found<usize>
+    ensures { IfOk result (λ b. acts.Opened (laying l.now) place name.now.items (map letters_of indexes.now) b) }
 {
-    let table = table_named(&l.declared.shape, name.as_slice())?;
+    let table = table_named(&l.declared.shape, name.as_slice()).ok_or(LayoutFault::Otherwise)?;
     let Some(Instr::Areas(AreaInstr::Open { list, .. })) = l.text.instrs.get(place) else {
-        return None;
+        return Err(LayoutFault::Otherwise);
     };
     if is_list(l, indexes, *list) {
         area(l, place, AreaInstr::Open { table, list: *list })
     } else {
-        None
+        Err(LayoutFault::Otherwise)
     }
 }
 
-fn area_named(l: &Layout, place: usize, name: &Name) -> Option<u8>
-    ensures { IfSome result (λ n. acts.IsArea (laying l.now) place name.now.items n) }
+fn area_named(l: &Layout, place: usize, name: &Name) -> Found<u8>
+    ensures { IfOk result (λ n. acts.IsArea (laying l.now) place name.now.items n) }
 {
     let state = known(l, place)?;
     match area_of_alias(&scope_of(l, state, false), name.as_slice()) {
-        Ok(number) => Some(number),
-        Err(_) => None,
+        Ok(number) => Ok(number),
+        Err(_) => Err(LayoutFault::Otherwise),
     }
 }
 
 /// `SELECT area`.
-pub fn selected(l: &Layout, place: usize, to: &Selected) -> Option<usize>
-    ensures { IfSome result (λ b. acts.Selected (laying l.now) place (area_said to.now) b) }
+pub fn selected(l: &Layout, place: usize, to: &Selected) -> Found<usize>
+    ensures { IfOk result (λ b. acts.Selected (laying l.now) place (area_said to.now) b) }
 {
     match to {
         Selected::Number(number) => area(l, place, AreaInstr::Select(*number)),
@@ -117,48 +118,50 @@ fn is_of_selected(state: &State, filter: &Filter) -> bool
     }
 }
 
-/// Whether the code of a condition is this block.
-fn is_block(l: &Layout, state: &State, e: &Expr, block: &Block) -> bool
-    ensures { result ≡ true → acts.IsBlock (laying l.now) state.now (tree_of e.now) block.now }
+/// Otherwise, unless the code of a condition is this block.
+fn demand_block(l: &Layout, state: &State, e: &Expr, block: &Block) -> Found<()>
+    ensures { IfOk result (λ _. acts.IsBlock (laying l.now) state.now (tree_of e.now) block.now) }
 {
-    match given_at(&l.text, &scope_of(l, state, true), block.first, e) {
-        Some(Given { kind, end }) => kind == Kind::Logical && end == block.end,
-        None => false,
+    let given = given_in(l, &scope_of(l, state, true), block.first, e)?;
+    if given.kind == Kind::Logical && given.end == block.end {
+        Ok(())
+    } else {
+        Err(LayoutFault::Otherwise)
     }
 }
 
-/// Whether the filter, numbered from 0, is this condition's.
-fn is_filter(l: &Layout, place: usize, e: &Expr, number: usize) -> bool
-    ensures { result ≡ true → acts.IsFilter (laying l.now) place (tree_of e.now) number }
+/// Otherwise, unless the filter, numbered from 0, is this condition's.
+fn demand_filter(l: &Layout, place: usize, e: &Expr, number: usize) -> Found<()>
+    ensures { IfOk result (λ _. acts.IsFilter (laying l.now) place (tree_of e.now) number) }
 {
-    let Some(state) = known(l, place) else {
-        return false;
-    };
-    let Some(filter) = l.declared.filters.as_slice().get(number) else {
-        return false;
-    };
-    let Some(block) = l.filters.get(number) else {
-        return false;
-    };
-    is_of_selected(state, filter) && is_block(l, state, e, block)
+    let state = known(l, place)?;
+    let filters = l.declared.filters.as_slice();
+    let filter = filters.get(number).ok_or(LayoutFault::Otherwise)?;
+    let block = l.filters.get(number).ok_or(LayoutFault::Otherwise)?;
+    if is_of_selected(state, filter) {
+        demand_block(l, state, e, block)
+    } else {
+        Err(LayoutFault::Otherwise)
+    }
 }
 
-fn filtered_by(l: &Layout, place: usize, e: &Expr) -> Option<usize>
-    ensures { IfSome result (λ b. acts.FilteredBy (laying l.now) place (tree_of e.now) b) }
+fn filtered_by(l: &Layout, place: usize, e: &Expr) -> Found<usize>
+    ensures { IfOk result (λ b. acts.FilteredBy (laying l.now) place (tree_of e.now) b) }
 {
     let Some(Instr::Areas(AreaInstr::Filter(number))) = l.text.instrs.get(place) else {
-        return None;
+        return Err(LayoutFault::Otherwise);
     };
     let number = *number;
-    if number == 0 || !is_filter(l, place, e, usize::from(number) - 1) {
-        return None;
+    if number == 0 {
+        return Err(LayoutFault::Otherwise);
     }
+    demand_filter(l, place, e, usize::from(number) - 1)?;
     area(l, place, AreaInstr::Filter(number))
 }
 
 /// `SET FILTER TO [condition]`.
-pub fn filtered(l: &Layout, place: usize, condition: &Option<Expr>) -> Option<usize>
-    ensures { IfSome result (λ b. acts.Filtered (laying l.now) place (option_map tree_of condition.now) b) }
+pub fn filtered(l: &Layout, place: usize, condition: &Option<Expr>) -> Found<usize>
+    ensures { IfOk result (λ b. acts.Filtered (laying l.now) place (option_map tree_of condition.now) b) }
 {
     match condition {
         Some(e) => filtered_by(l, place, e),
@@ -167,8 +170,8 @@ pub fn filtered(l: &Layout, place: usize, condition: &Option<Expr>) -> Option<us
 }
 
 /// `GO`.
-pub fn gone(l: &Layout, place: usize, to: &Move) -> Option<usize>
-    ensures { IfSome result (λ b. acts.Gone (laying l.now) place (goal_of to.now) b) }
+pub fn gone(l: &Layout, place: usize, to: &Move) -> Found<usize>
+    ensures { IfOk result (λ b. acts.Gone (laying l.now) place (goal_of to.now) b) }
 {
     match to {
         Move::Top => moved(l, place, MoveInstr::Top),
@@ -180,8 +183,8 @@ pub fn gone(l: &Layout, place: usize, to: &Move) -> Option<usize>
     }
 }
 
-fn counted(l: &Layout, place: usize, rows: &Option<Expr>) -> Option<usize>
-    ensures { IfSome result (λ b. acts.Counted (laying l.now) place (option_map tree_of rows.now) b) }
+fn counted(l: &Layout, place: usize, rows: &Option<Expr>) -> Found<usize>
+    ensures { IfOk result (λ b. acts.Counted (laying l.now) place (option_map tree_of rows.now) b) }
 {
     match rows {
         Some(e) => given_as(l, place, e, Kind::Number),
@@ -190,16 +193,16 @@ fn counted(l: &Layout, place: usize, rows: &Option<Expr>) -> Option<usize>
 }
 
 /// `SKIP [rows]`.
-pub fn skipped(l: &Layout, place: usize, rows: &Option<Expr>) -> Option<usize>
-    ensures { IfSome result (λ b. acts.Skipped (laying l.now) place (option_map tree_of rows.now) b) }
+pub fn skipped(l: &Layout, place: usize, rows: &Option<Expr>) -> Found<usize>
+    ensures { IfOk result (λ b. acts.Skipped (laying l.now) place (option_map tree_of rows.now) b) }
 {
     let end = counted(l, place, rows)?;
     moved(l, end, MoveInstr::Skip)
 }
 
 /// `SEEK key`.
-pub fn sought(l: &Layout, place: usize, key: &Expr) -> Option<usize>
-    ensures { IfSome result (λ b. acts.Sought (laying l.now) place (tree_of key.now) b) }
+pub fn sought(l: &Layout, place: usize, key: &Expr) -> Found<usize>
+    ensures { IfOk result (λ b. acts.Sought (laying l.now) place (tree_of key.now) b) }
 {
     let end = given_as(l, place, key, Kind::Text)?;
     moved(l, end, MoveInstr::Seek)

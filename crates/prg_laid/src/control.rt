@@ -1,6 +1,6 @@
 //! Commands with blocks.
 
-ghost use Rattle.std.specs.Prelude.{◌≡◌, ◌||◌, ◌&&◌, ◌+◌, ◌<◌, nat_eq, ℕ, [], Option, None, IfOk, IfSome, OnOk};
+ghost use Rattle.std.specs.Prelude.{◌≡◌, ◌||◌, ◌&&◌, ◌+◌, ◌<◌, nat_eq, ℕ, [], Option, None, IfOk, OnOk};
 ghost use Rattle.std.specs.Prelude.{option_map};
 ghost use Rattle.code_items.specs.declared.instr.FlowInstr.TheVariants.{Jump, JumpFalse, End};
 ghost use Rattle.code_items.specs.declared.instr.Instr.TheVariants.{Flow};
@@ -15,7 +15,7 @@ ghost use Rattle.prg_parser.specs.Commands.{Single, If, DoCase, DoWhile, Scan, f
 ghost use Rattle.prg_parser.specs.Commands.{cases_of, part_of};
 ghost use Rattle.prg_values.specs.Placed.{InstrStands};
 
-use crate::fault::LayoutFault;
+use crate::fault::{Found, LayoutFault};
 use crate::layout::{Layout, after, given_as, puts_one};
 use crate::statement::{does, may_stand, none_wait, wait_behind};
 use crate::way::{Leaps, Way};
@@ -45,79 +45,69 @@ pub struct ChoicePart {
 }
 
 /// The place behind a JUMP to the other place, if one stands at this place.
-fn jumps(l: &Layout, place: usize, to: usize) -> Option<usize>
-    ensures { IfSome result (λ b. InstrStands (laying l.now).text place (Flow (Jump to)) b) }
+fn jumps(l: &Layout, place: usize, to: usize) -> Found<usize>
+    ensures { IfOk result (λ b. InstrStands (laying l.now).text place (Flow (Jump to)) b) }
 {
     match l.text.instrs.get(place) {
-        Some(Instr::Flow(FlowInstr::Jump(there))) if *there as usize == to => Some(place + 1),
-        _ => None,
+        Some(Instr::Flow(FlowInstr::Jump(there))) if *there as usize == to => Ok(place + 1),
+        _ => Err(LayoutFault::Otherwise),
     }
 }
 
 /// Where the JUMP at this place leads.
-fn jump_at(l: &Layout, place: usize) -> Option<Test>
-    ensures { IfSome result (λ t. InstrStands (laying l.now).text place (Flow (Jump t.out)) t.end) }
+fn jump_at(l: &Layout, place: usize) -> Found<Test>
+    ensures { IfOk result (λ t. InstrStands (laying l.now).text place (Flow (Jump t.out)) t.end) }
 {
     match l.text.instrs.get(place) {
-        Some(Instr::Flow(FlowInstr::Jump(there))) => Some(Test {
+        Some(Instr::Flow(FlowInstr::Jump(there))) => Ok(Test {
             out: *there as usize,
             end: place + 1,
         }),
-        _ => None,
+        _ => Err(LayoutFault::Otherwise),
     }
 }
 
 /// Where the JUMPF at this place leads.
-fn fork_at(l: &Layout, place: usize) -> Option<Test>
-    ensures { IfSome result (λ t. InstrStands (laying l.now).text place (Flow (JumpFalse t.out)) t.end) }
+fn fork_at(l: &Layout, place: usize) -> Found<Test>
+    ensures { IfOk result (λ t. InstrStands (laying l.now).text place (Flow (JumpFalse t.out)) t.end) }
 {
     match l.text.instrs.get(place) {
-        Some(Instr::Flow(FlowInstr::JumpFalse(there))) => Some(Test {
+        Some(Instr::Flow(FlowInstr::JumpFalse(there))) => Ok(Test {
             out: *there as usize,
             end: place + 1,
         }),
-        _ => None,
+        _ => Err(LayoutFault::Otherwise),
     }
 }
 
 /// The condition that stands at this place.
-fn test_at(l: &Layout, place: usize, e: &Expr) -> Option<Test>
-    ensures { IfSome result (λ t. spec.Tests (laying l.now) place (tree_of e.now) t.out t.end) }
+fn test_at(l: &Layout, place: usize, e: &Expr) -> Found<Test>
+    ensures { IfOk result (λ t. spec.Tests (laying l.now) place (tree_of e.now) t.out t.end) }
 {
     let given = given_as(l, place, e, Kind::Logical)?;
     fork_at(l, given)
 }
 
-/// The same, where one must stand there.
-fn test_of(l: &Layout, place: usize, e: &Expr) -> Result<Test, LayoutFault>
-    ensures { IfOk result (λ t. spec.Tests (laying l.now) place (tree_of e.now) t.out t.end) }
-{
-    match test_at(l, place, e) {
-        Some(test) => Ok(test),
-        None => Err(LayoutFault::Otherwise),
-    }
-}
-
 /// The place behind the condition of a FOR, which leads to `next`.
-fn chosen(l: &Layout, place: usize, only_if: &Option<Expr>, next: usize) -> Option<usize>
-    ensures { IfSome result (λ b. spec.Chooses (laying l.now) place (option_map tree_of only_if.now) next b) }
+fn chosen(l: &Layout, place: usize, only_if: &Option<Expr>, next: usize) -> Found<usize>
+    ensures { IfOk result (λ b. spec.Chooses (laying l.now) place (option_map tree_of only_if.now) next b) }
 {
     match only_if {
         Some(e) => {
             let test = test_at(l, place, e)?;
             if test.out == next {
-                Some(test.end)
+                Ok(test.end)
             } else {
-                None
+                Err(LayoutFault::Otherwise)
             }
         }
-        None => Some(place),
+        None => Ok(place),
     }
 }
 
 /// The test whether there is a row.
-fn row_test_at(l: &Layout, place: usize) -> Option<Test>
-    ensures { IfSome result (λ t. spec.HasRow (laying l.now) place t.out t.end) }
+fn row_test_at(l: &Layout, place: usize) -> Found<Test>
+    ensures { IfOk result (λ t. spec.HasRow (laying l.now) place t.out t.end) }
 {
     let asked = after(l, place, Instr::Records(RecordInstr::Ask(Question::Eof)))?;
     let denied = after(l, asked, Instr::Values(ValueInstr::Function(Fun::Not)))?;
@@ -125,22 +115,22 @@ fn row_test_at(l: &Layout, place: usize) -> Option<Test>
 }
 
 /// The place behind a part that goes on at `out`.
-fn going(l: &Layout, way: Way, out: usize) -> Option<usize>
-    ensures { IfSome result (λ b. spec.Goes (laying l.now) way.place way.on out b) }
+fn going(l: &Layout, way: Way, out: usize) -> Found<usize>
+    ensures { IfOk result (λ b. spec.Goes (laying l.now) way.place way.on out b) }
 {
     if way.on {
         jumps(l, way.place, out)
     } else {
-        Some(way.place)
+        Ok(way.place)
     }
 }
 
 /// The place behind the next row of a SCAN and the way back.
-fn advanced(l: &Layout, place: usize, reached: bool, top: usize) -> Option<usize>
-    ensures { IfSome result (λ b. spec.Advances (laying l.now) place reached top b) }
+fn advanced(l: &Layout, place: usize, reached: bool, top: usize) -> Found<usize>
+    ensures { IfOk result (λ b. spec.Advances (laying l.now) place reached top b) }
 {
     if !reached {
-        return Some(place);
+        return Ok(place);
     }
     let one = puts_one(l, place)?;
     let skipped = after(l, one, Instr::Moves(MoveInstr::Skip))?;
@@ -148,22 +138,22 @@ fn advanced(l: &Layout, place: usize, reached: bool, top: usize) -> Option<usize
 }
 
 /// The same where LOOP leads to `again`.
-fn way_back(l: &Layout, way: Way, chooses: bool, again: usize, top: usize) -> Option<usize>
-    ensures { IfSome result (λ b. choices.ComesBack (laying l.now) way chooses again top b) }
+fn way_back(l: &Layout, way: Way, chooses: bool, again: usize, top: usize) -> Found<usize>
+    ensures { IfOk result (λ b. choices.ComesBack (laying l.now) way chooses again top b) }
 {
     let reached = way.on || way.again || chooses;
     if reached && way.place != again {
-        return None;
+        return Err(LayoutFault::Otherwise);
     }
     advanced(l, way.place, reached, top)
 }
 
 /// What follows a part of a choice with this way.
-fn followed(l: &Layout, end: Option<usize>, way: Way, last: bool) -> Option<ChoicePart>
-    ensures { IfSome result (λ p. choices.Followed (laying l.now) end way last p) }
+fn followed(l: &Layout, end: Option<usize>, way: Way, last: bool) -> Found<ChoicePart>
+    ensures { IfOk result (λ p. choices.Followed (laying l.now) end way last p) }
 {
     if last || !way.on {
-        return Some(ChoicePart { end, way });
+        return Ok(ChoicePart { end, way });
     }
     let jump = jump_at(l, way.place)?;
     let part = ChoicePart {
@@ -175,13 +165,13 @@ fn followed(l: &Layout, end: Option<usize>, way: Way, last: bool) -> Option<Choi
         },
     };
     match end {
-        Some(told) if told != jump.out => None,
-        _ => Some(part),
+        Some(told) if told != jump.out => Err(LayoutFault::Otherwise),
+        _ => Ok(part),
     }
 }
 
 /// The way, where a choice can end there.
-fn ending(end: Option<usize>, way: Way) -> Result<Way, LayoutFault>
+fn ending(end: Option<usize>, way: Way) -> Found<Way>
     ensures told { IfOk result (λ w. choices.Told end w.place) }
     ensures same { IfOk result (λ w. w ≡ way) }
 {
@@ -199,64 +189,46 @@ fn is_last(number: usize, count: usize, closed: bool) -> bool
     number + 1 == count && closed
 }
 
-fn looping(l: &Layout, leaps: Option<Leaps>, place: usize) -> Result<Way, LayoutFault>
+fn looping(l: &Layout, leaps: Option<Leaps>, place: usize) -> Found<Way>
     ensures { IfOk result (λ way. (n : ℕ) → spec.Laid (laying l.now) leaps [] place (Single n spec.loop_act) way) }
 {
     let Some(leaps) = leaps else {
         return Err(LayoutFault::Otherwise);
     };
-    match jumps(l, place, leaps.again) {
-        Some(end) => Ok(Way::stopped(end, true)),
-        None => Err(LayoutFault::Otherwise),
-    }
+    let end = jumps(l, place, leaps.again)?;
+    Ok(Way::stopped(end, true))
 }
 
-fn exiting(l: &Layout, leaps: Option<Leaps>, place: usize) -> Result<Way, LayoutFault>
+fn exiting(l: &Layout, leaps: Option<Leaps>, place: usize) -> Found<Way>
     ensures { IfOk result (λ way. (n : ℕ) → spec.Laid (laying l.now) leaps [] place (Single n spec.exit_act) way) }
 {
     let Some(leaps) = leaps else {
         return Err(LayoutFault::Otherwise);
     };
-    match jumps(l, place, leaps.out) {
-        Some(end) => Ok(Way::stopped(end, false)),
-        None => Err(LayoutFault::Otherwise),
-    }
+    let end = jumps(l, place, leaps.out)?;
+    Ok(Way::stopped(end, false))
 }
 
-fn finishing(l: &Layout, place: usize) -> Result<Way, LayoutFault>
+fn finishing(l: &Layout, place: usize) -> Found<Way>
     ensures { IfOk result (λ way. choices.Finishes (laying l.now) place way) }
 {
-    match after(l, place, Instr::Flow(FlowInstr::End)) {
-        Some(end) => Ok(Way::stopped(end, false)),
-        None => Err(LayoutFault::Otherwise),
-    }
+    let end = after(l, place, Instr::Flow(FlowInstr::End))?;
+    Ok(Way::stopped(end, false))
 }
 
-fn plain(
-    l: &Layout,
-    gets: &[&Name],
-    place: usize,
-    statement: &Statement,
-) -> Result<Way, LayoutFault>
+fn plain(l: &Layout, gets: &[&Name], place: usize, statement: &Statement) -> Found<Way>
     ensures { IfOk result (λ way. (leaps : Option Looped) (n : ℕ)
         → spec.Laid (laying l.now) leaps (acts.names_of gets.now) place (Single n (act_of statement.now)) way) }
 {
     if !may_stand(gets, statement) {
         return Err(LayoutFault::Otherwise);
     }
-    match does(l, place, gets, statement) {
-        Some(end) => Ok(Way::to(end)),
-        None => Err(LayoutFault::Otherwise),
-    }
+    let end = does(l, place, gets, statement)?;
+    Ok(Way::to(end))
 }
 
 /// LOOP, EXIT, RETURN, QUIT and CANCEL, where no GET waits.
-fn leaving(
-    l: &Layout,
-    leaps: Option<Leaps>,
-    place: usize,
-    statement: &Statement,
-) -> Result<Way, LayoutFault>
+fn leaving(l: &Layout, leaps: Option<Leaps>, place: usize, statement: &Statement) -> Found<Way>
     ensures { IfOk result (λ way. (n : ℕ)
         → spec.Laid (laying l.now) leaps [] place (Single n (act_of statement.now)) way) }
 {
@@ -284,7 +256,7 @@ fn single(
     gets: &[&Name],
     place: usize,
     statement: &Statement,
-) -> Result<Way, LayoutFault>
+) -> Found<Way>
     ensures { IfOk result (λ way. (n : ℕ)
         → spec.Laid (laying l.now) leaps (acts.names_of gets.now) place (Single n (act_of statement.now)) way) }
 {
@@ -310,7 +282,7 @@ fn wait_on<'a>(gets: &mut Vec<&'a Name>, command: &'a Command) -> Result<(), All
 }
 
 /// The way behind all commands, where no GET may wait.
-fn closed(way: Way, gets: &[&Name]) -> Result<Way, LayoutFault>
+fn closed(way: Way, gets: &[&Name]) -> Found<Way>
     ensures { IfOk result (λ w. choices.Closes way (acts.names_of gets.now) w) }
 {
     if !way.on || none_wait(gets) {
@@ -321,7 +293,7 @@ fn closed(way: Way, gets: &[&Name]) -> Result<Way, LayoutFault>
 }
 
 #[cycle(laid)]
-fn all(l: &Layout, leaps: Option<Leaps>, place: usize, list: &[Command]) -> Result<Way, LayoutFault>
+fn all(l: &Layout, leaps: Option<Leaps>, place: usize, list: &[Command]) -> Found<Way>
     ensures { IfOk result (λ way. spec.LaidAll (laying l.now) leaps [] place (commands_of list.now) way) }
 {
     let mut way = Way::to(place);
@@ -345,13 +317,15 @@ fn part(
     test: Test,
     body: &[Command],
     last: bool,
-) -> Result<ChoicePart, LayoutFault>
+) -> Found<ChoicePart>
     ensures { IfOk result (λ part. choices.Looked (laying l.now) leaps end test (commands_of body.now) last part) }
 {
     let way = all(l, leaps, test.end, body)?;
-    match followed(l, end, way, last) {
-        Some(part) if part.way.place == test.out => Ok(part),
-        _ => Err(LayoutFault::Otherwise),
+    let part = followed(l, end, way, last)?;
+    if part.way.place == test.out {
+        Ok(part)
+    } else {
+        Err(LayoutFault::Otherwise)
     }
 }
 
@@ -362,7 +336,7 @@ fn otherwise(
     end: Option<usize>,
     place: usize,
     branch: &Option<Branch>,
-) -> Result<Way, LayoutFault>
+) -> Found<Way>
     ensures told { IfOk result (λ way. choices.Told end way.place) }
     ensures laid { IfOk result (λ way. spec.LaidPart (laying l.now) leaps place (part_of branch.now) way) }
 {
@@ -379,7 +353,7 @@ fn chain(
     place: usize,
     cases: &[Case],
     closed: bool,
-) -> Result<ChoicePart, LayoutFault>
+) -> Found<ChoicePart>
     ensures { IfOk result (λ part. choices.Chains (laying l.now) leaps place cases.now closed part) }
 {
     let mut end = None;
@@ -387,7 +361,7 @@ fn chain(
     let count = cases.len();
     for (number, case) in cases.iter().enumerate() {
         let last = is_last(number, count, closed);
-        let test = test_of(l, way.place, &case.condition)?;
+        let test = test_at(l, way.place, &case.condition)?;
         let part = part(l, leaps, end, test, &case.body, last)?;
         end = part.end;
         way = way.or(part.way);
@@ -397,7 +371,7 @@ fn chain(
 
 /// DO WHILE, whose condition stands at this place.
 #[cycle(laid)]
-fn repeated(l: &Layout, place: usize, test: Test, body: &[Command]) -> Result<Way, LayoutFault>
+fn repeated(l: &Layout, place: usize, test: Test, body: &[Command]) -> Found<Way>
     ensures { IfOk result (λ way. choices.Repeats (laying l.now) place test (commands_of body.now) way) }
 {
     let leaps = Leaps {
@@ -405,46 +379,39 @@ fn repeated(l: &Layout, place: usize, test: Test, body: &[Command]) -> Result<Wa
         out: test.out,
     };
     let way = all(l, Some(leaps), test.end, body)?;
-    match going(l, way, place) {
-        Some(end) if end == test.out => Ok(Way::to(end)),
-        _ => Err(LayoutFault::Otherwise),
+    let end = going(l, way, place)?;
+    if end == test.out {
+        Ok(Way::to(end))
+    } else {
+        Err(LayoutFault::Otherwise)
     }
 }
 
 /// SCAN.
 #[cycle(laid)]
-fn scanned(
-    l: &Layout,
-    place: usize,
-    only_if: &Option<Expr>,
-    body: &[Command],
-) -> Result<Way, LayoutFault>
+fn scanned(l: &Layout, place: usize, only_if: &Option<Expr>, body: &[Command]) -> Found<Way>
     ensures { IfOk result (λ way. (leaps : Option Looped) (n end : ℕ)
         → spec.Laid (laying l.now) leaps [] place
         (Scan n (option_map tree_of only_if.now) (commands_of body.now) end) way) }
 {
-    let Some(top) = after(l, place, Instr::Moves(MoveInstr::Top)) else {
-        return Err(LayoutFault::Otherwise);
-    };
-    let Some(test) = row_test_at(l, top) else {
-        return Err(LayoutFault::Otherwise);
-    };
+    let top = after(l, place, Instr::Moves(MoveInstr::Top))?;
+    let test = row_test_at(l, top)?;
     let leaps = Leaps {
         again: test.out.saturating_sub(WAY_BACK),
         out: test.out,
     };
-    let Some(first) = chosen(l, test.end, only_if, leaps.again) else {
-        return Err(LayoutFault::Otherwise);
-    };
+    let first = chosen(l, test.end, only_if, leaps.again)?;
     let way = all(l, Some(leaps), first, body)?;
-    match way_back(l, way, only_if.is_some(), leaps.again, top) {
-        Some(end) if end == test.out => Ok(Way::to(end)),
-        _ => Err(LayoutFault::Otherwise),
+    let end = way_back(l, way, only_if.is_some(), leaps.again, top)?;
+    if end == test.out {
+        Ok(Way::to(end))
+    } else {
+        Err(LayoutFault::Otherwise)
     }
 }
 
 #[cycle(laid)]
-fn block(l: &Layout, leaps: Option<Leaps>, place: usize, form: &Form) -> Result<Way, LayoutFault>
+fn block(l: &Layout, leaps: Option<Leaps>, place: usize, form: &Form) -> Found<Way>
     ensures { IfOk result (λ way. (n : ℕ) → spec.Laid (laying l.now) leaps [] place (form_command form.now n) way) }
 {
     match form {
@@ -455,7 +422,7 @@ fn block(l: &Layout, leaps: Option<Leaps>, place: usize, form: &Form) -> Result<
             otherwise: branch,
             ..
         } => {
-            let test = test_of(l, place, condition)?;
+            let test = test_at(l, place, condition)?;
             let part = part(l, leaps, None, test, then, branch.is_none())?;
             let other = otherwise(l, leaps, part.end, part.way.place, branch)?;
             Ok(part.way.or(other))
@@ -474,7 +441,7 @@ fn block(l: &Layout, leaps: Option<Leaps>, place: usize, form: &Form) -> Result<
             body,
             ..
         } => {
-            let test = test_of(l, place, condition)?;
+            let test = test_at(l, place, condition)?;
             repeated(l, place, test, body)
         }
         Form::Scan {
@@ -492,7 +459,7 @@ fn one(
     gets: &[&Name],
     place: usize,
     command: &Command,
-) -> Result<Way, LayoutFault>
+) -> Found<Way>
     ensures { IfOk result (λ way. spec.Laid (laying l.now) leaps (acts.names_of gets.now) place
         (command_of command.now) way) }
 {
@@ -507,7 +474,7 @@ fn one(
 }
 
 /// The way behind the commands, if a code is laid out as they say from its first place on.
-pub fn way_of(l: &Layout, list: &[Command]) -> Result<Way, LayoutFault>
+pub fn way_of(l: &Layout, list: &[Command]) -> Found<Way>
     ensures { IfOk result (λ way. spec.LaidAll (laying l.now) None [] 0 (commands_of list.now) way) }
 {
     all(l, None, 0, list)

@@ -14,6 +14,9 @@ pub enum LayoutFault {
     NoMemory,
 }
 
+/// What is found at a place of a code; Otherwise where something else stands there.
+pub type Found<T> = Result<T, LayoutFault>;
+
 impl From<AllocError> for LayoutFault {
     ghost from_gives = { λ _ e. e ≡ fault.NoMemory };
 

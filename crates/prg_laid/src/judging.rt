@@ -10,7 +10,7 @@ ghost use Rattle.prg_laid.specs.Layout.{laying};
 ghost use Rattle.prg_parser.specs.Commands.{commands_of};
 
 use crate::control::way_of;
-use crate::fault::LayoutFault;
+use crate::fault::{Found, LayoutFault};
 use crate::known::KnownStates;
 use crate::layout::{Layout, after};
 use crate::way::Way;
@@ -133,24 +133,22 @@ fn do_slots_differ(variables: &[Variable]) -> bool
     true
 }
 
-/// Whether the way ends at the length, with END where its end is reached.
-fn is_closed(l: &Layout, way: Way, length: usize) -> bool
-    ensures { result ≡ true → spec.Closes (laying l.now) way.place way.on length }
+/// The place behind the way, with END where its end is reached.
+fn closed(l: &Layout, way: Way) -> Found<usize>
+    ensures { IfOk result (spec.Closes (laying l.now) way.place way.on) }
 {
-    if !way.on {
-        return way.place == length;
-    }
-    match after(l, way.place, Instr::Flow(FlowInstr::End)) {
-        Some(end) => end == length,
-        None => false,
+    if way.on {
+        after(l, way.place, Instr::Flow(FlowInstr::End))
+    } else {
+        Ok(way.place)
     }
 }
 
-fn is_whole(l: &Layout, list: &[Command], length: usize) -> Result<(), LayoutFault>
+fn is_whole(l: &Layout, list: &[Command], length: usize) -> Found<()>
     ensures { IfOk result (λ _. spec.IsLaidWhole (laying l.now) (commands_of list.now) length) }
 {
     let way = way_of(l, list)?;
-    if is_closed(l, way, length) {
+    if closed(l, way)? == length {
         Ok(())
     } else {
         Err(LayoutFault::Otherwise)

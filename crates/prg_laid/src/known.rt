@@ -3,7 +3,8 @@
 ghost use Rattle.std.specs.Prelude.{◌≡◌, ◌∷◌, ◌++◌, [], true, List, IfOk, IfSome, OnOk, Some, slice_get};
 ghost use Rattle.code_items.specs.declared.state.State.{State as Known};
 
-use code_items::{AreaState, State};
+use code_items::State;
+use prg_code::is_state_same;
 use std::alloc::{AllocError, Global};
 use std::marker::Model;
 use xvalue::Kind;
@@ -34,52 +35,6 @@ impl Model for KnownStates {
     ghost invariant = { λ s. All (λ number. number < length s.kept.items) s.numbers.items };
 }
 
-fn is_same_area(one: AreaState, two: AreaState) -> bool
-    ensures { result ≡ true → one ≡ two }
-{
-    match (one, two) {
-        (AreaState::Closed, AreaState::Closed) | (AreaState::Unsure, AreaState::Unsure) => true,
-        (AreaState::Open(a), AreaState::Open(b)) => {
-            a.table == b.table && a.list == b.list && a.order == b.order && a.filter == b.filter
-        }
-        _ => false,
-    }
-}
-
-fn is_same_slot(one: Option<Kind>, two: Option<Kind>) -> bool
-    ensures { result ≡ true → one ≡ two }
-{
-    match (one, two) {
-        (None, None) => true,
-        (Some(a), Some(b)) => a == b,
-        _ => false,
-    }
-}
-
-fn are_same_areas(one: &[AreaState], two: &[AreaState]) -> bool
-    ensures { result ≡ true → one.now ≡ two.now }
-{
-    let Some((a, others)) = one.split_first() else {
-        return two.is_empty();
-    };
-    let Some((b, more)) = two.split_first() else {
-        return false;
-    };
-    is_same_area(*a, *b) && are_same_areas(others, more)
-}
-
-fn are_same_slots(one: &[Option<Kind>], two: &[Option<Kind>]) -> bool
-    ensures { result ≡ true → one.now ≡ two.now }
-{
-    let Some((a, others)) = one.split_first() else {
-        return two.is_empty();
-    };
-    let Some((b, more)) = two.split_first() else {
-        return false;
-    };
-    is_same_slot(*a, *b) && are_same_slots(others, more)
-}
-
 fn are_same_kinds(one: &[Kind], two: &[Kind]) -> bool
     ensures { result ≡ true → one.now ≡ two.now }
 {
@@ -96,10 +51,7 @@ fn are_same_kinds(one: &[Kind], two: &[Kind]) -> bool
 fn is_same(one: &State, two: &State) -> bool
     ensures { result ≡ true → one.now ≡ two.now }
 {
-    are_same_kinds(one.stack.kinds(), two.stack.kinds())
-        && one.desk.selected == two.desk.selected
-        && are_same_areas(one.desk.areas.as_slice(), two.desk.areas.as_slice())
-        && are_same_slots(one.slots.kinds(), two.slots.kinds())
+    are_same_kinds(one.stack.kinds(), two.stack.kinds()) && is_state_same(one, two)
 }
 
 /// The number of an equal state among the last ones.

@@ -1,14 +1,15 @@
 //! What stands in a finished code at a place.
 
-ghost use Rattle.std.specs.Prelude.{◌≡◌, IfSome};
+ghost use Rattle.std.specs.Prelude.{◌≡◌, IfOk, Some};
 ghost use Rattle.prg_code.specs.Bindings.{slot_named};
 ghost use Rattle.prg_expr.specs.Tree.{tree_of};
 ghost use Rattle.prg_laid.specs.Acts as acts;
 ghost use Rattle.prg_laid.specs.Layout.{laying, scope_in, Knows, ExprLaid, Means, NameLaid};
-ghost use Rattle.prg_values.specs.Placed.{InstrStands};
+ghost use Rattle.prg_values.specs.Placed.{InstrStands, Leaves};
 ghost use Rattle.prg_values.specs.Readings.{scoped};
 ghost use Rattle.prg_values.specs.Written.{whole_as_value};
 
+use crate::fault::{Found, LayoutFault};
 use crate::known::KnownStates;
 use code_items::{Declared, Instr, Name, State};
 use code_rules::blocks::Block;
@@ -39,17 +40,17 @@ pub struct NameRead {
 }
 
 /// The place behind the instruction, if it stands at this place.
-pub fn after(l: &Layout, place: usize, instr: Instr) -> Option<usize>
-    ensures { IfSome result (λ b. InstrStands (laying l.now).text place instr b) }
+pub fn after(l: &Layout, place: usize, instr: Instr) -> Found<usize>
+    ensures { IfOk result (λ b. InstrStands (laying l.now).text place instr b) }
 {
-    behind(&l.text, place, instr)
+    behind(&l.text, place, instr).ok_or(LayoutFault::Otherwise)
 }
 
 /// What is known before the place.
-pub fn known<'a>(l: &'a Layout, place: usize) -> Option<&'a State>
-    ensures { IfSome result (λ s. Knows (laying l.now) place s.now) }
+pub fn known<'a>(l: &'a Layout, place: usize) -> Found<&'a State>
+    ensures { IfOk result (λ s. Knows (laying l.now) place s.now) }
 {
-    l.known.get(place)
+    l.known.get(place).ok_or(LayoutFault::Otherwise)
 }
 
 /// What names mean where this is known.
@@ -65,62 +66,69 @@ pub fn scope_of<'a>(l: &'a Layout, state: &'a State, in_filter: bool) -> Scope<'
 }
 
 /// The expression's kind and the place behind its code, if its code stands at this place.
-pub fn given(l: &Layout, place: usize, e: &Expr) -> Option<Given>
-    ensures { IfSome result (λ g. ExprLaid (laying l.now) place (tree_of e.now) g.kind g.end) }
+pub fn given(l: &Layout, place: usize, e: &Expr) -> Found<Given>
+    ensures { IfOk result (λ g. ExprLaid (laying l.now) place (tree_of e.now) g.kind g.end) }
 {
     let state = known(l, place)?;
-    given_at(&l.text, &scope_of(l, state, false), place, e)
+    given_in(l, &scope_of(l, state, false), place, e)
+}
+
+/// The same where names mean what they mean in the scope.
+pub fn given_in(l: &Layout, scope: &Scope, place: usize, e: &Expr) -> Found<Given>
+    ensures { IfOk result (λ g. Leaves (laying l.now).text (scoped scope.now) place (tree_of e.now) g.kind g.end) }
+{
+    given_at(l.alloc, &l.text, scope, place, e)?.ok_or(LayoutFault::Otherwise)
 }
 
 /// The place behind the expression's code, if that stands at this place and its value is of this kind.
-pub fn given_as(l: &Layout, place: usize, e: &Expr, kind: Kind) -> Option<usize>
-    ensures { IfSome result (λ b. ExprLaid (laying l.now) place (tree_of e.now) kind b) }
+pub fn given_as(l: &Layout, place: usize, e: &Expr, kind: Kind) -> Found<usize>
+    ensures { IfOk result (λ b. ExprLaid (laying l.now) place (tree_of e.now) kind b) }
 {
     let given = given(l, place, e)?;
     if given.kind == kind {
-        Some(given.end)
+        Ok(given.end)
     } else {
-        None
+        Err(LayoutFault::Otherwise)
     }
 }
 
 /// The place behind an instruction that puts the constant on the stack, if one stands at this place.
-pub fn puts(l: &Layout, place: usize, value: &Value) -> Option<usize>
-    ensures { IfSome result (λ b. acts.ConstantStands (laying l.now) place value.now b) }
+pub fn puts(l: &Layout, place: usize, value: &Value) -> Found<usize>
+    ensures { IfOk result (λ b. acts.ConstantStands (laying l.now) place value.now b) }
 {
-    behind_constant(&l.text, place, value)
+    behind_constant(&l.text, place, value).ok_or(LayoutFault::Otherwise)
 }
 
 /// The same for the number 1.
-pub fn puts_one(l: &Layout, place: usize) -> Option<usize>
-    ensures { IfSome result (λ b. acts.ConstantStands (laying l.now) place (whole_as_value 1) b) }
+pub fn puts_one(l: &Layout, place: usize) -> Found<usize>
+    ensures { IfOk result (λ b. acts.ConstantStands (laying l.now) place (whole_as_value 1) b) }
 {
     puts(l, place, &Value::Number(Num::from(1u32)))
 }
 
 /// What the name means before the place.
-fn meaning(l: &Layout, place: usize, name: &Name) -> Option<Reading>
-    ensures { IfSome result (λ r. Means (laying l.now) place name.now.items r) }
+fn meaning(l: &Layout, place: usize, name: &Name) -> Found<Reading>
+    ensures { IfOk result (λ r. Means (laying l.now) place name.now.items r) }
 {
     let state = known(l, place)?;
     match read_name(&scope_of(l, state, false), name) {
-        Ok(reading) => Some(reading),
-        Err(_) => None,
+        Ok(reading) => Ok(reading),
+        Err(_) => Err(LayoutFault::Otherwise),
     }
 }
 
 /// What reads the name, if that stands at this place.
-pub fn named(l: &Layout, place: usize, name: &Name) -> Option<NameRead>
-    ensures { IfSome result (λ n. NameLaid (laying l.now) place name.now.items n.reading n.end) }
+pub fn named(l: &Layout, place: usize, name: &Name) -> Found<NameRead>
+    ensures { IfOk result (λ n. NameLaid (laying l.now) place name.now.items n.reading n.end) }
 {
     let reading = meaning(l, place, name)?;
     let end = after(l, place, reading.instr)?;
-    Some(NameRead { reading, end })
+    Ok(NameRead { reading, end })
 }
 
 /// The slot of the variable of this name, if there is one.
-pub fn slot_of(l: &Layout, name: &Name) -> Option<u8>
-    ensures { result ≡ slot_named (laying l.now).names name.now.items }
+pub fn slot_of(l: &Layout, name: &Name) -> Found<u8>
+    ensures { IfOk result (λ slot. slot_named (laying l.now).names name.now.items ≡ Some slot) }
 {
-    l.names.slot(name)
+    l.names.slot(name).ok_or(LayoutFault::Otherwise)
 }

@@ -1,40 +1,41 @@
 //! Commands on the screen, and those that take the operator's lines.
 
-ghost use Rattle.std.specs.Prelude.{◌≡◌, IfSome, IsTrue, map, option_map, List, ℕ};
+ghost use Rattle.std.specs.Prelude.{◌≡◌, IfOk, IsTrue, map, option_map, List, ℕ};
 ghost use Rattle.prg_expr.specs.Tree.{tree_of};
 ghost use Rattle.prg_laid.specs.Acts as acts;
 ghost use Rattle.prg_laid.specs.Layout.{laying};
 ghost use Rattle.prg_line.specs.Act.{letters_of};
 ghost use Rattle.code_items.specs.declared.instr.ScreenInstr.TheVariants.{Clear as clear};
 
+use crate::fault::{Found, LayoutFault};
 use crate::layout::{Layout, after, given, given_as, named, puts, puts_one};
 use crate::variables::stored;
 use code_items::{Instr, Name, RecordInstr, ScreenInstr, ValueInstr};
 use prg_expr::Expr;
 use xvalue::{Fun, Kind, Value, text_from};
 
-fn screen(l: &Layout, place: usize, instr: ScreenInstr) -> Option<usize>
-    ensures { IfSome result (λ b. acts.OnScreen (laying l.now) place instr b) }
+fn screen(l: &Layout, place: usize, instr: ScreenInstr) -> Found<usize>
+    ensures { IfOk result (λ b. acts.OnScreen (laying l.now) place instr b) }
 {
     after(l, place, Instr::Screen(instr))
 }
 
-fn shown_one(l: &Layout, place: usize, e: &Expr) -> Option<usize>
-    ensures { IfSome result (λ b. acts.ShownOne (laying l.now) place (tree_of e.now) b) }
+fn shown_one(l: &Layout, place: usize, e: &Expr) -> Found<usize>
+    ensures { IfOk result (λ b. acts.ShownOne (laying l.now) place (tree_of e.now) b) }
 {
     let given = given(l, place, e)?;
     screen(l, given.end, ScreenInstr::Print(given.kind))
 }
 
-fn shown_blank(l: &Layout, place: usize) -> Option<usize>
-    ensures { IfSome result (λ b. acts.ShownBlank (laying l.now) place b) }
+fn shown_blank(l: &Layout, place: usize) -> Found<usize>
+    ensures { IfOk result (λ b. acts.ShownBlank (laying l.now) place b) }
 {
     let end = puts(l, place, &Value::Text(text_from(b" ")))?;
     screen(l, end, ScreenInstr::Print(Kind::Text))
 }
 
-fn shown_more(l: &Layout, place: usize, es: &[Expr]) -> Option<usize>
-    ensures { IfSome result (λ b. acts.ShownMore (laying l.now) place (map tree_of es.now) b) }
+fn shown_more(l: &Layout, place: usize, es: &[Expr]) -> Found<usize>
+    ensures { IfOk result (λ b. acts.ShownMore (laying l.now) place (map tree_of es.now) b) }
 {
     let mut end = place;
     let mut rest = es;
@@ -43,40 +44,40 @@ fn shown_more(l: &Layout, place: usize, es: &[Expr]) -> Option<usize>
         end = shown_one(l, blank, e)?;
         rest = others;
     }
-    Some(end)
+    Ok(end)
 }
 
 /// `?? list`.
-pub fn shown(l: &Layout, place: usize, es: &[Expr]) -> Option<usize>
-    ensures { IfSome result (λ b. acts.Shown (laying l.now) place (map tree_of es.now) b) }
+pub fn shown(l: &Layout, place: usize, es: &[Expr]) -> Found<usize>
+    ensures { IfOk result (λ b. acts.Shown (laying l.now) place (map tree_of es.now) b) }
 {
     match es.split_first() {
         Some((e, others)) => {
             let end = shown_one(l, place, e)?;
             shown_more(l, end, others)
         }
-        None => Some(place),
+        None => Ok(place),
     }
 }
 
 /// `? [list]`.
-pub fn shown_line(l: &Layout, place: usize, es: &[Expr]) -> Option<usize>
-    ensures { IfSome result (λ b. acts.ShownLine (laying l.now) place (map tree_of es.now) b) }
+pub fn shown_line(l: &Layout, place: usize, es: &[Expr]) -> Found<usize>
+    ensures { IfOk result (λ b. acts.ShownLine (laying l.now) place (map tree_of es.now) b) }
 {
     let end = screen(l, place, ScreenInstr::NewLine)?;
     shown(l, end, es)
 }
 
-fn placed(l: &Layout, place: usize, row: &Expr, column: &Expr) -> Option<usize>
-    ensures { IfSome result (λ b. acts.Placed (laying l.now) place (tree_of row.now) (tree_of column.now) b) }
+fn placed(l: &Layout, place: usize, row: &Expr, column: &Expr) -> Found<usize>
+    ensures { IfOk result (λ b. acts.Placed (laying l.now) place (tree_of row.now) (tree_of column.now) b) }
 {
     let end = given_as(l, place, row, Kind::Number)?;
     given_as(l, end, column, Kind::Number)
 }
 
 /// `@ row,column SAY value`.
-pub fn said(l: &Layout, place: usize, row: &Expr, column: &Expr, e: &Expr) -> Option<usize>
-    ensures { IfSome result (λ b. acts.SayLaid (laying l.now) place (tree_of row.now) (tree_of column.now)
+pub fn said(l: &Layout, place: usize, row: &Expr, column: &Expr, e: &Expr) -> Found<usize>
+    ensures { IfOk result (λ b. acts.SayLaid (laying l.now) place (tree_of row.now) (tree_of column.now)
         (tree_of e.now) b) }
 {
     let end = placed(l, place, row, column)?;
@@ -85,8 +86,8 @@ pub fn said(l: &Layout, place: usize, row: &Expr, column: &Expr, e: &Expr) -> Op
 }
 
 /// `@ row,column GET variable`.
-pub fn got(l: &Layout, place: usize, row: &Expr, column: &Expr, name: &Name) -> Option<usize>
-    ensures { IfSome result (λ b. acts.Got (laying l.now) place (tree_of row.now)
+pub fn got(l: &Layout, place: usize, row: &Expr, column: &Expr, name: &Name) -> Found<usize>
+    ensures { IfOk result (λ b. acts.Got (laying l.now) place (tree_of row.now)
         (tree_of column.now) name.now.items b) }
 {
     let end = placed(l, place, row, column)?;
@@ -94,8 +95,8 @@ pub fn got(l: &Layout, place: usize, row: &Expr, column: &Expr, name: &Name) -> 
     screen(l, named.end, ScreenInstr::Say(named.reading.kind))
 }
 
-fn got_on(l: &Layout, place: usize, name: &Name) -> Option<usize>
-    ensures { IfSome result (λ b. acts.GotOn (laying l.now) place name.now.items b) }
+fn got_on(l: &Layout, place: usize, name: &Name) -> Found<usize>
+    ensures { IfOk result (λ b. acts.GotOn (laying l.now) place name.now.items b) }
 {
     let named = named(l, place, name)?;
     screen(l, named.end, ScreenInstr::SayOn(named.reading.kind))
@@ -109,8 +110,8 @@ pub fn said_and_got(
     column: &Expr,
     e: &Expr,
     name: &Name,
-) -> Option<usize>
-    ensures { IfSome result (λ b. acts.SaidAndGot (laying l.now) place (tree_of row.now) (tree_of column.now)
+) -> Found<usize>
+    ensures { IfOk result (λ b. acts.SaidAndGot (laying l.now) place (tree_of row.now) (tree_of column.now)
         (tree_of e.now) name.now.items b) }
 {
     let end = said(l, place, row, column, e)?;
@@ -132,41 +133,41 @@ fn kept(instr: Instr, kind: Kind) -> Option<Instr>
     }
 }
 
-fn taken_one(l: &Layout, place: usize, name: &Name) -> Option<usize>
-    ensures { IfSome result (λ b. acts.TakenOne (laying l.now) place name.now.items b) }
+fn taken_one(l: &Layout, place: usize, name: &Name) -> Found<usize>
+    ensures { IfOk result (λ b. acts.TakenOne (laying l.now) place name.now.items b) }
 {
     let named = named(l, place, name)?;
     let end = screen(l, named.end, ScreenInstr::Input(named.reading.kind))?;
-    let keeps = kept(named.reading.instr, named.reading.kind)?;
+    let keeps = kept(named.reading.instr, named.reading.kind).ok_or(LayoutFault::Otherwise)?;
     after(l, end, keeps)
 }
 
 /// `READ`, where these GETs wait for it.
-pub fn taken(l: &Layout, place: usize, gets: &[&Name]) -> Option<usize>
-    ensures { IfSome result (λ b. acts.ReadLaid (laying l.now) place (acts.names_of gets.now) b) }
+pub fn taken(l: &Layout, place: usize, gets: &[&Name]) -> Found<usize>
+    ensures { IfOk result (λ b. acts.ReadLaid (laying l.now) place (acts.names_of gets.now) b) }
 {
     let mut end = place;
     for name in gets {
         end = taken_one(l, end, name)?;
     }
-    Some(end)
+    Ok(end)
 }
 
-fn prompted(l: &Layout, place: usize, prompt: &Option<Expr>) -> Option<usize>
-    ensures { IfSome result (λ b. acts.Prompted (laying l.now) place (option_map tree_of prompt.now) b) }
+fn prompted(l: &Layout, place: usize, prompt: &Option<Expr>) -> Found<usize>
+    ensures { IfOk result (λ b. acts.Prompted (laying l.now) place (option_map tree_of prompt.now) b) }
 {
     match prompt {
         Some(e) => {
             let end = given_as(l, place, e, Kind::Text)?;
             screen(l, end, ScreenInstr::Print(Kind::Text))
         }
-        None => Some(place),
+        None => Ok(place),
     }
 }
 
 /// `ACCEPT [prompt] TO variable`.
-pub fn accepted(l: &Layout, place: usize, prompt: &Option<Expr>, name: &Name) -> Option<usize>
-    ensures { IfSome result
+pub fn accepted(l: &Layout, place: usize, prompt: &Option<Expr>, name: &Name) -> Found<usize>
+    ensures { IfOk result
         (λ b. acts.AcceptLaid (laying l.now) place (option_map tree_of prompt.now) name.now.items b) }
 {
     let line = screen(l, place, ScreenInstr::NewLine)?;
@@ -175,8 +176,8 @@ pub fn accepted(l: &Layout, place: usize, prompt: &Option<Expr>, name: &Name) ->
     stored(l, taken, name, Kind::Text)
 }
 
-fn asked(l: &Layout, place: usize, prompt: &Option<Expr>) -> Option<usize>
-    ensures { IfSome result (λ b. acts.Asked (laying l.now) place (option_map tree_of prompt.now) b) }
+fn asked(l: &Layout, place: usize, prompt: &Option<Expr>) -> Found<usize>
+    ensures { IfOk result (λ b. acts.Asked (laying l.now) place (option_map tree_of prompt.now) b) }
 {
     match prompt {
         Some(e) => given_as(l, place, e, Kind::Text),
@@ -188,8 +189,8 @@ fn asked(l: &Layout, place: usize, prompt: &Option<Expr>) -> Option<usize>
     }
 }
 
-fn key_taken(l: &Layout, place: usize, variable: &Option<Name>) -> Option<usize>
-    ensures { IfSome result (λ b. acts.KeyTaken (laying l.now) place (option_map letters_of variable.now) b) }
+fn key_taken(l: &Layout, place: usize, variable: &Option<Name>) -> Found<usize>
+    ensures { IfOk result (λ b. acts.KeyTaken (laying l.now) place (option_map letters_of variable.now) b) }
 {
     match variable {
         Some(name) => {
@@ -207,8 +208,8 @@ pub fn waited(
     place: usize,
     prompt: &Option<Expr>,
     variable: &Option<Name>,
-) -> Option<usize>
-    ensures { IfSome result (λ b. acts.Waited (laying l.now) place (option_map tree_of prompt.now)
+) -> Found<usize>
+    ensures { IfOk result (λ b. acts.Waited (laying l.now) place (option_map tree_of prompt.now)
         (option_map letters_of variable.now) b) }
 {
     let line = screen(l, place, ScreenInstr::NewLine)?;
@@ -219,8 +220,8 @@ pub fn waited(
 }
 
 /// `CLEAR`.
-pub fn cleared(l: &Layout, place: usize) -> Option<usize>
-    ensures { IfSome result (λ b. acts.OnScreen (laying l.now) place clear b) }
+pub fn cleared(l: &Layout, place: usize) -> Found<usize>
+    ensures { IfOk result (λ b. acts.OnScreen (laying l.now) place clear b) }
 {
     screen(l, place, ScreenInstr::Clear)
 }

@@ -1,11 +1,12 @@
 //! Commands of one line.
 
-ghost use Rattle.std.specs.Prelude.{◌≡◌, IfSome, OnOk, ℕ};
+ghost use Rattle.std.specs.Prelude.{◌≡◌, IfOk, OnOk, ℕ};
 ghost use Rattle.prg_laid.specs.Acts as acts;
 ghost use Rattle.prg_laid.specs.Layout.{laying};
 ghost use Rattle.prg_line.specs.Act.{act_of};
 
 use crate::areas::{area, filtered, gone, opened, selected, skipped, sought};
+use crate::fault::{Found, LayoutFault};
 use crate::layout::Layout;
 use crate::records::{indexed, record, replaced};
 use crate::screen::{accepted, cleared, got, said, said_and_got, shown, shown_line, taken, waited};
@@ -16,10 +17,10 @@ use prg_values::may_stand_before_read;
 use std::alloc::AllocError;
 use std::slice;
 
-/// The place behind the code of a command of one line, if it stands at this place; these GETs wait for their READ. None
-/// for LOOP, EXIT, DO, PARAMETERS, RETURN, QUIT and CANCEL.
-pub fn does(l: &Layout, place: usize, gets: &[&Name], statement: &Statement) -> Option<usize>
-    ensures { IfSome result (λ b. acts.ActLaid (laying l.now) (acts.names_of gets.now) place (act_of statement.now) b) }
+/// The place behind the code of a command of one line, if it stands at this place; these GETs wait for their READ.
+/// Otherwise for LOOP, EXIT, DO, PARAMETERS, RETURN, QUIT and CANCEL.
+pub fn does(l: &Layout, place: usize, gets: &[&Name], statement: &Statement) -> Found<usize>
+    ensures { IfOk result (λ b. acts.ActLaid (laying l.now) (acts.names_of gets.now) place (act_of statement.now) b) }
 {
     match statement {
         Statement::Show { values } => shown_line(l, place, values),
@@ -43,7 +44,7 @@ pub fn does(l: &Layout, place: usize, gets: &[&Name], statement: &Statement) -> 
         Statement::Assign { variable, value } => assigned(l, place, variable, value),
         Statement::Store { value, variables } => stored_all(l, place, value, variables),
         Statement::Release { variables } => released(l, place, variables),
-        Statement::Private { .. } => Some(place),
+        Statement::Private { .. } => Ok(place),
         Statement::Set { setting, on } => set(l, place, *setting, *on),
         Statement::Close => area(l, place, AreaInstr::Close),
         Statement::Use { table, indexes } => opened(l, place, table, indexes),
@@ -68,7 +69,7 @@ pub fn does(l: &Layout, place: usize, gets: &[&Name], statement: &Statement) -> 
         | Statement::Parameters { .. }
         | Statement::Return
         | Statement::Quit
-        | Statement::Cancel => None,
+        | Statement::Cancel => Err(LayoutFault::Otherwise),
     }
 }
 

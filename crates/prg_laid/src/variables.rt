@@ -1,11 +1,12 @@
 //! Commands on variables.
 
-ghost use Rattle.std.specs.Prelude.{◌≡◌, IfSome, map, ℕ};
+ghost use Rattle.std.specs.Prelude.{◌≡◌, IfOk, map, ℕ};
 ghost use Rattle.prg_expr.specs.Tree.{tree_of};
 ghost use Rattle.prg_laid.specs.Acts as acts;
 ghost use Rattle.prg_laid.specs.Layout.{laying};
 ghost use Rattle.prg_line.specs.Act.{letters_of};
 
+use crate::fault::{Found, LayoutFault};
 use crate::layout::{Layout, after, given, slot_of};
 use code_items::{Instr, Name, ValueInstr};
 use prg_expr::Expr;
@@ -14,8 +15,8 @@ use prg_values::setting_of;
 use xvalue::Kind;
 
 /// The place behind a STORE into the variable.
-pub fn stored(l: &Layout, place: usize, name: &Name, kind: Kind) -> Option<usize>
-    ensures { IfSome result (λ b. acts.Stored (laying l.now) place name.now.items kind b) }
+pub fn stored(l: &Layout, place: usize, name: &Name, kind: Kind) -> Found<usize>
+    ensures { IfOk result (λ b. acts.Stored (laying l.now) place name.now.items kind b) }
 {
     let slot = slot_of(l, name)?;
     after(
@@ -26,16 +27,16 @@ pub fn stored(l: &Layout, place: usize, name: &Name, kind: Kind) -> Option<usize
 }
 
 /// `variable = value`.
-pub fn assigned(l: &Layout, place: usize, name: &Name, e: &Expr) -> Option<usize>
-    ensures { IfSome result (λ b. acts.Assigned (laying l.now) place name.now.items (tree_of e.now) b) }
+pub fn assigned(l: &Layout, place: usize, name: &Name, e: &Expr) -> Found<usize>
+    ensures { IfOk result (λ b. acts.Assigned (laying l.now) place name.now.items (tree_of e.now) b) }
 {
     let given = given(l, place, e)?;
     stored(l, given.end, name, given.kind)
 }
 
 /// Each further variable gets the value of the slot.
-fn copied(l: &Layout, place: usize, kind: Kind, slot: u8, names: &[Name]) -> Option<usize>
-    ensures { IfSome result (λ b. acts.Copied (laying l.now) place kind slot (map letters_of names.now) b) }
+fn copied(l: &Layout, place: usize, kind: Kind, slot: u8, names: &[Name]) -> Found<usize>
+    ensures { IfOk result (λ b. acts.Copied (laying l.now) place kind slot (map letters_of names.now) b) }
 {
     let mut end = place;
     let mut rest = names;
@@ -48,14 +49,14 @@ fn copied(l: &Layout, place: usize, kind: Kind, slot: u8, names: &[Name]) -> Opt
         end = stored(l, loaded, name, kind)?;
         rest = others;
     }
-    Some(end)
+    Ok(end)
 }
 
 /// `STORE value TO variables`.
-pub fn stored_all(l: &Layout, place: usize, e: &Expr, names: &[Name]) -> Option<usize>
-    ensures { IfSome result (λ b. acts.StoredAll (laying l.now) place (tree_of e.now) (map letters_of names.now) b) }
+pub fn stored_all(l: &Layout, place: usize, e: &Expr, names: &[Name]) -> Found<usize>
+    ensures { IfOk result (λ b. acts.StoredAll (laying l.now) place (tree_of e.now) (map letters_of names.now) b) }
 {
-    let (first, others) = names.split_first()?;
+    let (first, others) = names.split_first().ok_or(LayoutFault::Otherwise)?;
     let given = given(l, place, e)?;
     let slot = slot_of(l, first)?;
     let end = after(
@@ -67,8 +68,8 @@ pub fn stored_all(l: &Layout, place: usize, e: &Expr, names: &[Name]) -> Option<
 }
 
 /// `RELEASE variables`.
-pub fn released(l: &Layout, place: usize, names: &[Name]) -> Option<usize>
-    ensures { IfSome result (λ b. acts.Released (laying l.now) place (map letters_of names.now) b) }
+pub fn released(l: &Layout, place: usize, names: &[Name]) -> Found<usize>
+    ensures { IfOk result (λ b. acts.Released (laying l.now) place (map letters_of names.now) b) }
 {
     let mut end = place;
     let mut rest = names;
@@ -77,12 +78,12 @@ pub fn released(l: &Layout, place: usize, names: &[Name]) -> Option<usize>
         end = after(l, end, Instr::Values(ValueInstr::Unset(u16::from(slot))))?;
         rest = others;
     }
-    Some(end)
+    Ok(end)
 }
 
 /// `SET setting ON` or `OFF`.
-pub fn set(l: &Layout, place: usize, toggle: Toggle, on: bool) -> Option<usize>
-    ensures { IfSome result (λ b. acts.IsSet (laying l.now) place toggle on b) }
+pub fn set(l: &Layout, place: usize, toggle: Toggle, on: bool) -> Found<usize>
+    ensures { IfOk result (λ b. acts.IsSet (laying l.now) place toggle on b) }
 {
     after(
         l,

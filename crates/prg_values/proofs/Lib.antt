@@ -1,4 +1,2 @@
 pub mod Emitting
 pub mod Equations
-pub mod KindLists
-pub mod Placing

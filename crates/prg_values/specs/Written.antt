@@ -28,6 +28,8 @@ use Rattle.prg_expr.specs.Tree as tree
 use Rattle.prg_values.specs.declared.calls.Called.{Called}
 use Rattle.prg_values.specs.declared.calls.Called.TheVariants as called
 use Rattle.prg_values.specs.declared.operators.OperatorMeaning.{OperatorMeaning}
+pub use Rattle.prg_values.specs.declared.pieces.Piece.{Piece}
+pub use Rattle.prg_values.specs.declared.pieces.Piece.TheVariants.{Constant, Does}
 use Rattle.prg_values.specs.declared.scope.Reading.{Reading}
 use Rattle.prg_values.specs.Operators.{operated, prefix_kind, prefix_fun}
 use Rattle.prg_values.specs.Readings.{Scoped, on_some, read_name, read_qualified}
@@ -182,10 +184,6 @@ abbrev mutual
 
 -- ---- what is written: constants and instructions
 
-pub data Piece : Type 0 where
-  Constant : Value → Piece
-  Does : Instr → Piece
-
 -- the instruction is the piece's, a constant by its number among these
 abbrev pub IsPiece : List Value → Piece → Instr → Type 0
 IsPiece constants (Constant v) i =
@@ -256,12 +254,6 @@ abbrev mutual
   pub all_pieces : Scoped → Trees → List Piece
   all_pieces s tree.None = []
   all_pieces s (tree.More e es) = pieces_in s e ++ all_pieces s es
-
--- these pieces are added to a code, with these constants
-pub record Emits (pieces : List Piece) (constants : List Value) (old new : List Instr) : Type 0 where
-  pub more : List Instr
-  pub joined : new ≡ old ++ more
-  pub are : AllZip (IsPiece constants) pieces more
 
 -- the code is the expression's, with these constants, and its value is of this kind
 pub record IsWrittenExpr (s : Scoped) (e : Tree) (kind : Kind) (constants : List Value)

@@ -7,6 +7,7 @@ mod calls;
 mod compiling;
 mod kinds;
 mod operators;
+mod pieces;
 mod sameness;
 mod scope;
 mod standing;

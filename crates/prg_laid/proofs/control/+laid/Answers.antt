@@ -60,10 +60,10 @@ otherwise-returns-in-None-clause-laid t c =
     (subst (λ (o : Option Branch). LaidPart (laying c.args.l.now) c.args.leaps c.args.place (part_of o) c.to.result) (sym c.in-None.is)
     (subst (λ (z : Way). LaidPart (laying c.args.l.now) c.args.leaps c.args.place Rattle.prg_parser.specs.Commands.Absent z) (sym c.to.ensures) absent))) c.ending-in-None.ensures.same
 
-pub repeated-returns-in-Some : goal.repeated-returns-in-Some
-repeated-returns-in-Some t c = while_laid (laying c.args.l.now) c.args.place c.args.test c.in-Some.end (commands_of c.args.body.now) c.in_ok-way.way c.to.result c.in_ok-way.ensures c.in-Some.ensures c.if-end-test.true c.to.ensures
+pub repeated-returns-then-end-test : goal.repeated-returns-then-end-test
+repeated-returns-then-end-test t c = while_laid (laying c.args.l.now) c.args.place c.args.test c.in_ok-end.end (commands_of c.args.body.now) c.in_ok-way.way c.to.result c.in_ok-way.ensures c.in_ok-end.ensures c.if-end-test.true c.to.ensures
 
-pub scanned-returns-in-Some-way_back : goal.scanned-returns-in-Some-way_back
-scanned-returns-in-Some-way_back t c =
-    scan_laid (laying c.args.l.now) c.args.place c.in-Some.top c.in-Some-row_test_at.test c.in-Some-chosen.first c.in-Some-way_back.end c.saturating_sub.result (option_map tree_of c.args.only_if.now) (commands_of c.args.body.now) c.in_ok-way.way c.to.result c.is_some.result
-    (c.is_some.ensures ∙ sym (is_some_map tree_of c.args.only_if.now)) c.in-Some.ensures c.in-Some-row_test_at.ensures c.in-Some-chosen.ensures c.in_ok-way.ensures c.in-Some-way_back.ensures c.if-end-test.true c.to.ensures
+pub scanned-returns-then-end-test : goal.scanned-returns-then-end-test
+scanned-returns-then-end-test t c =
+    scan_laid (laying c.args.l.now) c.args.place c.in_ok-top.top c.in_ok-test.test c.in_ok-first.first c.in_ok-end.end c.saturating_sub.result (option_map tree_of c.args.only_if.now) (commands_of c.args.body.now) c.in_ok-way.way c.to.result c.is_some.result
+    (c.is_some.ensures ∙ sym (is_some_map tree_of c.args.only_if.now)) c.in_ok-top.ensures c.in_ok-test.ensures c.in_ok-first.ensures c.in_ok-way.ensures c.in_ok-end.ensures c.if-end-test.true c.to.ensures

@@ -3,5 +3,5 @@ use Rattle.prg_laid.specs.Commands.{does}
 use Rattle.prg_laid.proofs.Finding.{way_as}
 use Rattle.prg_laid.proofs.control.plain.Goals as goal
 
-pub returns-in-Some : goal.returns-in-Some
-returns-in-Some c = λ leaps n. way_as c.to.ensures (does (sym c.may_stand.ensures ∙ c.if-not-may_stand.false) c.in-Some.ensures)
+pub returns : goal.returns
+returns c = λ leaps n. way_as c.to.ensures (does (sym c.may_stand.ensures ∙ c.if-not-may_stand.false) c.in_ok-end.ensures)
