@@ -1,6 +1,6 @@
 //! Commands of one line.
 
-ghost use Rattle.std.specs.Prelude.{◌≡◌, true, IfOk, OnOk};
+ghost use Rattle.std.specs.Prelude.{◌≡◌, true, None, Ok, Err, IfOk, OnOk, MatchResult};
 ghost use Rattle.prg_code.specs.Growth.{OutputGrows, Grown};
 ghost use Rattle.prg_line.specs.declared.statement.Toggle.TheVariants as toggle_is;
 ghost use Rattle.prg_line.specs.Act as act;
@@ -53,90 +53,12 @@ pub enum Turn<'a> {
     Call(&'a Name, &'a [Expr]),
 }
 
-/// What the command does to the way, if it turns it.
-fn turn_of<'a>(statement: &'a Statement) -> Option<Turn<'a>>
-    ensures { IsTurn result (act_of statement.now) }
+/// The way goes on behind what was put.
+fn goes_on<'a>(put: Result<(), CompileError>) -> Result<Option<Turn<'a>>, CompileError>
+    ensures { MatchResult put (λ _. result ≡ Ok None) (λ e. result ≡ Err e) }
 {
-    match statement {
-        Statement::Loop => Some(Turn::Again),
-        Statement::Exit => Some(Turn::Out),
-        Statement::Return => Some(Turn::Return),
-        Statement::Quit => Some(Turn::End),
-        Statement::Cancel => Some(Turn::End),
-        Statement::Do {
-            procedure,
-            arguments,
-        } => Some(Turn::Call(procedure, arguments)),
-        _ => None,
-    }
-}
-
-/// Puts the code of a command of one line that doesn't turn the way.
-fn put_command(
-    shape: &Shape,
-    out: &mut Output,
-    work: &mut Work,
-    line: usize,
-    statement: &Statement,
-) -> Result<(), CompileError>
-    ensures alone { OnOk result (PutsAlone (act_of statement.now) work.old.block work.new.block) }
-    ensures grown { Grown out.old work.old out.new work.new }
-{
-    match statement {
-        Statement::Loop => Ok(()),
-        Statement::Exit => Ok(()),
-        Statement::Return => Ok(()),
-        Statement::Quit => Ok(()),
-        Statement::Cancel => Ok(()),
-        Statement::Do { .. } => Ok(()),
-        Statement::Show { values } => show_line(shape, out, work, values),
-        Statement::ShowOn { values } => show(shape, out, work, values),
-        Statement::Say { row, column, value } => say(shape, out, work, row, column, value),
-        Statement::Get {
-            row,
-            column,
-            variable,
-        } => get(shape, out, work, line, row, column, variable),
-        Statement::SayGet {
-            row,
-            column,
-            value,
-            variable,
-        } => {
-            say(shape, out, work, row, column, value)?;
-            get_on(shape, work, line, variable)
-        }
-        Statement::Read => read(shape, work),
-        Statement::Accept { prompt, variable } => accept(shape, out, work, prompt, variable),
-        Statement::Wait { prompt, variable } => wait(shape, out, work, prompt, variable),
-        Statement::Clear => put_screen(work, ScreenInstr::Clear),
-        Statement::Assign { variable, value } => assign(shape, out, work, variable, value),
-        Statement::Store { value, variables } => store(shape, out, work, value, variables),
-        Statement::Release { variables } => release(work, variables),
-        Statement::Private { variables } => {
-            hide(work, variables);
-            Ok(())
-        }
-        Statement::Set { setting, on } => set(out, work, *setting, *on),
-        Statement::Parameters { .. } => Err(CompileError::Fault(CompileFaultKind::Parameters)),
-        Statement::Close => put_area(work, AreaInstr::Close),
-        Statement::Use { table, indexes } => open_table(shape, out, work, table, indexes),
-        Statement::Select { area } => select(shape, work, area),
-        Statement::CloseAll => put_area(work, AreaInstr::CloseAll),
-        Statement::SetOrder { order } => set_order(out, work, *order),
-        Statement::SetFilter { condition } => set_filter(shape, out, work, condition),
-        Statement::Go { to } => go(shape, out, work, to),
-        Statement::Skip { rows } => skip(shape, out, work, rows),
-        Statement::Seek { key } => seek(shape, out, work, key),
-        Statement::AppendBlank => put_record(work, RecordInstr::Append),
-        Statement::Replace { replacements } => replace(shape, out, work, replacements),
-        Statement::Delete => put_record(work, RecordInstr::Delete),
-        Statement::Recall => put_record(work, RecordInstr::Recall),
-        Statement::Pack => put_all_records(out, work, RecordInstr::Pack),
-        Statement::Zap => put_all_records(out, work, RecordInstr::Zap),
-        Statement::Reindex => put_all_records(out, work, RecordInstr::Reindex),
-        Statement::IndexOn { key, index } => index_on(shape, out, work, key, index),
-    }
+    put?;
+    Ok(None)
 }
 
 /// Puts the code of a command of one line. Of one that turns the way nothing is put; what it does is the answer.
@@ -159,9 +81,64 @@ pub fn put_statement<'a>(
     // Also where it is refused, what stood still stands.
     ensures grown { Grown out.old work.old out.new work.new }
 {
-    if let Some(turn) = turn_of(statement) {
-        return Ok(Some(turn));
+    match statement {
+        Statement::Loop => Ok(Some(Turn::Again)),
+        Statement::Exit => Ok(Some(Turn::Out)),
+        Statement::Return => Ok(Some(Turn::Return)),
+        Statement::Quit => Ok(Some(Turn::End)),
+        Statement::Cancel => Ok(Some(Turn::End)),
+        Statement::Do {
+            procedure,
+            arguments,
+        } => Ok(Some(Turn::Call(procedure, arguments))),
+        Statement::Show { values } => goes_on(show_line(shape, out, work, values)),
+        Statement::ShowOn { values } => goes_on(show(shape, out, work, values)),
+        Statement::Say { row, column, value } => goes_on(say(shape, out, work, row, column, value)),
+        Statement::Get {
+            row,
+            column,
+            variable,
+        } => goes_on(get(shape, out, work, line, row, column, variable)),
+        Statement::SayGet {
+            row,
+            column,
+            value,
+            variable,
+        } => {
+            say(shape, out, work, row, column, value)?;
+            goes_on(get_on(shape, work, line, variable))
+        }
+        Statement::Read => goes_on(read(shape, work)),
+        Statement::Accept { prompt, variable } => goes_on(accept(
+            shape, out, work, prompt, variable,
+        )),
+        Statement::Wait { prompt, variable } => goes_on(wait(shape, out, work, prompt, variable)),
+        Statement::Clear => goes_on(put_screen(work, ScreenInstr::Clear)),
+        Statement::Assign { variable, value } => goes_on(assign(shape, out, work, variable, value)),
+        Statement::Store { value, variables } => goes_on(store(shape, out, work, value, variables)),
+        Statement::Release { variables } => goes_on(release(work, variables)),
+        Statement::Private { variables } => {
+            hide(work, variables);
+            Ok(None)
+        }
+        Statement::Set { setting, on } => goes_on(set(out, work, *setting, *on)),
+        Statement::Parameters { .. } => Err(CompileError::Fault(CompileFaultKind::Parameters)),
+        Statement::Close => goes_on(put_area(work, AreaInstr::Close)),
+        Statement::Use { table, indexes } => goes_on(open_table(shape, out, work, table, indexes)),
+        Statement::Select { area } => goes_on(select(shape, work, area)),
+        Statement::CloseAll => goes_on(put_area(work, AreaInstr::CloseAll)),
+        Statement::SetOrder { order } => goes_on(set_order(out, work, *order)),
+        Statement::SetFilter { condition } => goes_on(set_filter(shape, out, work, condition)),
+        Statement::Go { to } => goes_on(go(shape, out, work, to)),
+        Statement::Skip { rows } => goes_on(skip(shape, out, work, rows)),
+        Statement::Seek { key } => goes_on(seek(shape, out, work, key)),
+        Statement::AppendBlank => goes_on(put_record(work, RecordInstr::Append)),
+        Statement::Replace { replacements } => goes_on(replace(shape, out, work, replacements)),
+        Statement::Delete => goes_on(put_record(work, RecordInstr::Delete)),
+        Statement::Recall => goes_on(put_record(work, RecordInstr::Recall)),
+        Statement::Pack => goes_on(put_all_records(out, work, RecordInstr::Pack)),
+        Statement::Zap => goes_on(put_all_records(out, work, RecordInstr::Zap)),
+        Statement::Reindex => goes_on(put_all_records(out, work, RecordInstr::Reindex)),
+        Statement::IndexOn { key, index } => goes_on(index_on(shape, out, work, key, index)),
     }
-    put_command(shape, out, work, line, statement)?;
-    Ok(None)
 }
