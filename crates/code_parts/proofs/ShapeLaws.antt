@@ -7,9 +7,7 @@ use Rattle.xvalue.specs.declared.kind.Kind.TheVariants.{Number as OfNumber, Text
 use Rattle.dbf_file.specs.declared.field.Letter.{Letter}
 use Rattle.dbf_file.specs.declared.field.Field.{Field}
 use Rattle.dbf_file.specs.Fields.{code_of, letter_of}
-use Rattle.shape.specs.declared.tables.TableShape.{TableShape}
 use Rattle.shape.specs.declared.parts.KeyPart.{KeyPart}
-use Rattle.shape.specs.declared.indexes.IndexShape.{IndexShape}
 use Rattle.shape.specs.declared.lists.IndexList.{IndexList}
 use Rattle.code_parts.specs.declared.flaw.Flaw.TheVariants.{Shape}
 use Rattle.code_parts.specs.Laws.{Spells, Any, HasName, FieldFits, TableFits, IndexFits, ListFits}

@@ -8,12 +8,9 @@ use Rattle.std.proofs.lemmas.List.{reverse-reverse, length-reverse}
 use Rattle.xvalue.specs.declared.kind.Kind.{Kind}
 use Rattle.code_items.specs.declared.declared.Version.{Version}
 use Rattle.code_items.specs.declared.declared.Need.{Need}
-use Rattle.code_items.specs.declared.declared.Filter.{Filter}
 use Rattle.code_items.specs.declared.desk.AreaState.{AreaState}
 use Rattle.code_items.specs.declared.desk.AreaState.TheVariants.{Closed, Open, Unsure}
 use Rattle.code_items.specs.declared.state.State.{State}
-use Rattle.code_items.specs.declared.code.Proc.{Proc}
-use Rattle.code_items.specs.declared.code.Map.{Map}
 use Rattle.code_items.specs.States.{may_be_unsure}
 use Rattle.code_parts.specs.declared.flaw.Flaw.TheVariants.{Shape, Limit}
 use Rattle.code_parts.specs.Reading.{Front, Reader, ◌>>=◌, read_behind, Judged, give, number_read_at, several, sure, byte_at, made_at}

@@ -7,7 +7,7 @@ ghost use Rattle.prg_laid.specs.Acts as acts;
 ghost use Rattle.prg_laid.specs.Layout.{laying};
 ghost use Rattle.prg_line.specs.Act.{letters_of, area_said, goal_of};
 
-use crate::fault::{Found, LayoutFault};
+use crate::fault::{FoundLaid, LayoutFault};
 use crate::layout::{Layout, after, given_as, given_in, known, puts_one, scope_of};
 use code_items::{AreaInstr, Filter, IndexList, IndexShape, Instr, MoveInstr, Name, State};
 use code_rules::blocks::Block;
@@ -16,13 +16,13 @@ use prg_line::{Move, Selected};
 use prg_values::{area_of_alias, table_named};
 use xvalue::Kind;
 
-pub fn area(l: &Layout, place: usize, instr: AreaInstr) -> Found<usize>
+pub fn area(l: &Layout, place: usize, instr: AreaInstr) -> FoundLaid<usize>
     ensures { IfOk result (λ b. acts.OnAreas (laying l.now) place instr b) }
 {
     after(l, place, Instr::Areas(instr))
 }
 
-fn moved(l: &Layout, place: usize, instr: MoveInstr) -> Found<usize>
+fn moved(l: &Layout, place: usize, instr: MoveInstr) -> FoundLaid<usize>
     ensures { IfOk result (λ b. acts.Moved (laying l.now) place instr b) }
 {
     after(l, place, Instr::Moves(instr))
@@ -71,7 +71,7 @@ pub fn is_list(l: &Layout, names: &[Name], number: u32) -> bool
 }
 
 /// `USE table [INDEX indexes]`.
-pub fn opened(l: &Layout, place: usize, name: &Name, indexes: &[Name]) -> Found<usize>
+pub fn opened(l: &Layout, place: usize, name: &Name, indexes: &[Name]) -> FoundLaid<usize>
     ensures { IfOk result (λ b. acts.Opened (laying l.now) place name.now.items (map letters_of indexes.now) b) }
 {
     let table = table_named(&l.declared.shape, name.as_slice()).ok_or(LayoutFault::Otherwise)?;
@@ -85,7 +85,7 @@ pub fn opened(l: &Layout, place: usize, name: &Name, indexes: &[Name]) -> Found<
     }
 }
 
-fn area_named(l: &Layout, place: usize, name: &Name) -> Found<u8>
+fn area_named(l: &Layout, place: usize, name: &Name) -> FoundLaid<u8>
     ensures { IfOk result (λ n. acts.IsArea (laying l.now) place name.now.items n) }
 {
     let state = known(l, place)?;
@@ -96,7 +96,7 @@ fn area_named(l: &Layout, place: usize, name: &Name) -> Found<u8>
 }
 
 /// `SELECT area`.
-pub fn selected(l: &Layout, place: usize, to: &Selected) -> Found<usize>
+pub fn selected(l: &Layout, place: usize, to: &Selected) -> FoundLaid<usize>
     ensures { IfOk result (λ b. acts.Selected (laying l.now) place (area_said to.now) b) }
 {
     match to {
@@ -119,7 +119,7 @@ fn is_of_selected(state: &State, filter: &Filter) -> bool
 }
 
 /// Otherwise, unless the code of a condition is this block.
-fn demand_block(l: &Layout, state: &State, e: &Expr, block: &Block) -> Found<()>
+fn demand_block(l: &Layout, state: &State, e: &Expr, block: &Block) -> FoundLaid<()>
     ensures { IfOk result (λ _. acts.IsBlock (laying l.now) state.now (tree_of e.now) block.now) }
 {
     let given = given_in(l, &scope_of(l, state, true), block.first, e)?;
@@ -131,7 +131,7 @@ fn demand_block(l: &Layout, state: &State, e: &Expr, block: &Block) -> Found<()>
 }
 
 /// Otherwise, unless the filter, numbered from 0, is this condition's.
-fn demand_filter(l: &Layout, place: usize, e: &Expr, number: usize) -> Found<()>
+fn demand_filter(l: &Layout, place: usize, e: &Expr, number: usize) -> FoundLaid<()>
     ensures { IfOk result (λ _. acts.IsFilter (laying l.now) place (tree_of e.now) number) }
 {
     let state = known(l, place)?;
@@ -145,7 +145,7 @@ fn demand_filter(l: &Layout, place: usize, e: &Expr, number: usize) -> Found<()>
     }
 }
 
-fn filtered_by(l: &Layout, place: usize, e: &Expr) -> Found<usize>
+fn filtered_by(l: &Layout, place: usize, e: &Expr) -> FoundLaid<usize>
     ensures { IfOk result (λ b. acts.FilteredBy (laying l.now) place (tree_of e.now) b) }
 {
     let Some(Instr::Areas(AreaInstr::Filter(number))) = l.text.instrs.get(place) else {
@@ -160,7 +160,7 @@ fn filtered_by(l: &Layout, place: usize, e: &Expr) -> Found<usize>
 }
 
 /// `SET FILTER TO [condition]`.
-pub fn filtered(l: &Layout, place: usize, condition: &Option<Expr>) -> Found<usize>
+pub fn filtered(l: &Layout, place: usize, condition: &Option<Expr>) -> FoundLaid<usize>
     ensures { IfOk result (λ b. acts.Filtered (laying l.now) place (option_map tree_of condition.now) b) }
 {
     match condition {
@@ -170,7 +170,7 @@ pub fn filtered(l: &Layout, place: usize, condition: &Option<Expr>) -> Found<usi
 }
 
 /// `GO`.
-pub fn gone(l: &Layout, place: usize, to: &Move) -> Found<usize>
+pub fn gone(l: &Layout, place: usize, to: &Move) -> FoundLaid<usize>
     ensures { IfOk result (λ b. acts.Gone (laying l.now) place (goal_of to.now) b) }
 {
     match to {
@@ -183,7 +183,7 @@ pub fn gone(l: &Layout, place: usize, to: &Move) -> Found<usize>
     }
 }
 
-fn counted(l: &Layout, place: usize, rows: &Option<Expr>) -> Found<usize>
+fn counted(l: &Layout, place: usize, rows: &Option<Expr>) -> FoundLaid<usize>
     ensures { IfOk result (λ b. acts.Counted (laying l.now) place (option_map tree_of rows.now) b) }
 {
     match rows {
@@ -193,7 +193,7 @@ fn counted(l: &Layout, place: usize, rows: &Option<Expr>) -> Found<usize>
 }
 
 /// `SKIP [rows]`.
-pub fn skipped(l: &Layout, place: usize, rows: &Option<Expr>) -> Found<usize>
+pub fn skipped(l: &Layout, place: usize, rows: &Option<Expr>) -> FoundLaid<usize>
     ensures { IfOk result (λ b. acts.Skipped (laying l.now) place (option_map tree_of rows.now) b) }
 {
     let end = counted(l, place, rows)?;
@@ -201,7 +201,7 @@ pub fn skipped(l: &Layout, place: usize, rows: &Option<Expr>) -> Found<usize>
 }
 
 /// `SEEK key`.
-pub fn sought(l: &Layout, place: usize, key: &Expr) -> Found<usize>
+pub fn sought(l: &Layout, place: usize, key: &Expr) -> FoundLaid<usize>
     ensures { IfOk result (λ b. acts.Sought (laying l.now) place (tree_of key.now) b) }
 {
     let end = given_as(l, place, key, Kind::Text)?;

@@ -15,7 +15,7 @@ ghost use Rattle.prg_parser.specs.Commands.{Single, If, DoCase, DoWhile, Scan, f
 ghost use Rattle.prg_parser.specs.Commands.{cases_of, part_of};
 ghost use Rattle.prg_values.specs.Placed.{InstrStands};
 
-use crate::fault::{Found, LayoutFault};
+use crate::fault::{FoundLaid, LayoutFault};
 use crate::layout::{Layout, after, given_as, puts_one};
 use crate::statement::{does, may_stand, none_wait, wait_behind};
 use crate::way::{Leaps, Way};
@@ -45,7 +45,7 @@ pub struct ChoicePart {
 }
 
 /// The place behind a JUMP to the other place, if one stands at this place.
-fn jumps(l: &Layout, place: usize, to: usize) -> Found<usize>
+fn jumps(l: &Layout, place: usize, to: usize) -> FoundLaid<usize>
     ensures { IfOk result (λ b. InstrStands (laying l.now).text place (Flow (Jump to)) b) }
 {
     match l.text.instrs.get(place) {
@@ -55,7 +55,7 @@ fn jumps(l: &Layout, place: usize, to: usize) -> Found<usize>
 }
 
 /// Where the JUMP at this place leads.
-fn jump_at(l: &Layout, place: usize) -> Found<Test>
+fn jump_at(l: &Layout, place: usize) -> FoundLaid<Test>
     ensures { IfOk result (λ t. InstrStands (laying l.now).text place (Flow (Jump t.out)) t.end) }
 {
     match l.text.instrs.get(place) {
@@ -68,7 +68,7 @@ fn jump_at(l: &Layout, place: usize) -> Found<Test>
 }
 
 /// Where the JUMPF at this place leads.
-fn fork_at(l: &Layout, place: usize) -> Found<Test>
+fn fork_at(l: &Layout, place: usize) -> FoundLaid<Test>
     ensures { IfOk result (λ t. InstrStands (laying l.now).text place (Flow (JumpFalse t.out)) t.end) }
 {
     match l.text.instrs.get(place) {
@@ -81,7 +81,7 @@ fn fork_at(l: &Layout, place: usize) -> Found<Test>
 }
 
 /// The condition that stands at this place.
-fn test_at(l: &Layout, place: usize, e: &Expr) -> Found<Test>
+fn test_at(l: &Layout, place: usize, e: &Expr) -> FoundLaid<Test>
     ensures { IfOk result (λ t. spec.Tests (laying l.now) place (tree_of e.now) t.out t.end) }
 {
     let given = given_as(l, place, e, Kind::Logical)?;
@@ -89,7 +89,7 @@ fn test_at(l: &Layout, place: usize, e: &Expr) -> Found<Test>
 }
 
 /// The place behind the condition of a FOR, which leads to `next`.
-fn chosen(l: &Layout, place: usize, only_if: &Option<Expr>, next: usize) -> Found<usize>
+fn chosen(l: &Layout, place: usize, only_if: &Option<Expr>, next: usize) -> FoundLaid<usize>
     ensures { IfOk result (λ b. spec.Chooses (laying l.now) place (option_map tree_of only_if.now) next b) }
 {
     match only_if {
@@ -106,7 +106,7 @@ fn chosen(l: &Layout, place: usize, only_if: &Option<Expr>, next: usize) -> Foun
 }
 
 /// The test whether there is a row.
-fn row_test_at(l: &Layout, place: usize) -> Found<Test>
+fn row_test_at(l: &Layout, place: usize) -> FoundLaid<Test>
     ensures { IfOk result (λ t. spec.HasRow (laying l.now) place t.out t.end) }
 {
     let asked = after(l, place, Instr::Records(RecordInstr::Ask(Question::Eof)))?;
@@ -115,7 +115,7 @@ fn row_test_at(l: &Layout, place: usize) -> Found<Test>
 }
 
 /// The place behind a part that goes on at `out`.
-fn going(l: &Layout, way: Way, out: usize) -> Found<usize>
+fn going(l: &Layout, way: Way, out: usize) -> FoundLaid<usize>
     ensures { IfOk result (λ b. spec.Goes (laying l.now) way.place way.on out b) }
 {
     if way.on {
@@ -126,7 +126,7 @@ fn going(l: &Layout, way: Way, out: usize) -> Found<usize>
 }
 
 /// The place behind the next row of a SCAN and the way back.
-fn advanced(l: &Layout, place: usize, reached: bool, top: usize) -> Found<usize>
+fn advanced(l: &Layout, place: usize, reached: bool, top: usize) -> FoundLaid<usize>
     ensures { IfOk result (λ b. spec.Advances (laying l.now) place reached top b) }
 {
     if !reached {
@@ -138,7 +138,7 @@ fn advanced(l: &Layout, place: usize, reached: bool, top: usize) -> Found<usize>
 }
 
 /// The same where LOOP leads to `again`.
-fn way_back(l: &Layout, way: Way, chooses: bool, again: usize, top: usize) -> Found<usize>
+fn way_back(l: &Layout, way: Way, chooses: bool, again: usize, top: usize) -> FoundLaid<usize>
     ensures { IfOk result (λ b. choices.ComesBack (laying l.now) way chooses again top b) }
 {
     let reached = way.on || way.again || chooses;
@@ -149,7 +149,7 @@ fn way_back(l: &Layout, way: Way, chooses: bool, again: usize, top: usize) -> Fo
 }
 
 /// What follows a part of a choice with this way.
-fn followed(l: &Layout, end: Option<usize>, way: Way, last: bool) -> Found<ChoicePart>
+fn followed(l: &Layout, end: Option<usize>, way: Way, last: bool) -> FoundLaid<ChoicePart>
     ensures { IfOk result (λ p. choices.Followed (laying l.now) end way last p) }
 {
     if last || !way.on {
@@ -171,7 +171,7 @@ fn followed(l: &Layout, end: Option<usize>, way: Way, last: bool) -> Found<Choic
 }
 
 /// The way, where a choice can end there.
-fn ending(end: Option<usize>, way: Way) -> Found<Way>
+fn ending(end: Option<usize>, way: Way) -> FoundLaid<Way>
     ensures told { IfOk result (λ w. choices.Told end w.place) }
     ensures same { IfOk result (λ w. w ≡ way) }
 {
@@ -189,7 +189,7 @@ fn is_last(number: usize, count: usize, closed: bool) -> bool
     number + 1 == count && closed
 }
 
-fn looping(l: &Layout, leaps: Option<Leaps>, place: usize) -> Found<Way>
+fn looping(l: &Layout, leaps: Option<Leaps>, place: usize) -> FoundLaid<Way>
     ensures { IfOk result (λ way. (n : ℕ) → spec.Laid (laying l.now) leaps [] place (Single n spec.loop_act) way) }
 {
     let Some(leaps) = leaps else {
@@ -199,7 +199,7 @@ fn looping(l: &Layout, leaps: Option<Leaps>, place: usize) -> Found<Way>
     Ok(Way::stopped(end, true))
 }
 
-fn exiting(l: &Layout, leaps: Option<Leaps>, place: usize) -> Found<Way>
+fn exiting(l: &Layout, leaps: Option<Leaps>, place: usize) -> FoundLaid<Way>
     ensures { IfOk result (λ way. (n : ℕ) → spec.Laid (laying l.now) leaps [] place (Single n spec.exit_act) way) }
 {
     let Some(leaps) = leaps else {
@@ -209,14 +209,14 @@ fn exiting(l: &Layout, leaps: Option<Leaps>, place: usize) -> Found<Way>
     Ok(Way::stopped(end, false))
 }
 
-fn finishing(l: &Layout, place: usize) -> Found<Way>
+fn finishing(l: &Layout, place: usize) -> FoundLaid<Way>
     ensures { IfOk result (λ way. choices.Finishes (laying l.now) place way) }
 {
     let end = after(l, place, Instr::Flow(FlowInstr::End))?;
     Ok(Way::stopped(end, false))
 }
 
-fn plain(l: &Layout, gets: &[&Name], place: usize, statement: &Statement) -> Found<Way>
+fn plain(l: &Layout, gets: &[&Name], place: usize, statement: &Statement) -> FoundLaid<Way>
     ensures { IfOk result (λ way. (leaps : Option Looped) (n : ℕ)
         → spec.Laid (laying l.now) leaps (acts.names_of gets.now) place (Single n (act_of statement.now)) way) }
 {
@@ -228,7 +228,7 @@ fn plain(l: &Layout, gets: &[&Name], place: usize, statement: &Statement) -> Fou
 }
 
 /// LOOP, EXIT, RETURN, QUIT and CANCEL, where no GET waits.
-fn leaving(l: &Layout, leaps: Option<Leaps>, place: usize, statement: &Statement) -> Found<Way>
+fn leaving(l: &Layout, leaps: Option<Leaps>, place: usize, statement: &Statement) -> FoundLaid<Way>
     ensures { IfOk result (λ way. (n : ℕ)
         → spec.Laid (laying l.now) leaps [] place (Single n (act_of statement.now)) way) }
 {
@@ -256,7 +256,7 @@ fn single(
     gets: &[&Name],
     place: usize,
     statement: &Statement,
-) -> Found<Way>
+) -> FoundLaid<Way>
     ensures { IfOk result (λ way. (n : ℕ)
         → spec.Laid (laying l.now) leaps (acts.names_of gets.now) place (Single n (act_of statement.now)) way) }
 {
@@ -282,7 +282,7 @@ fn wait_on<'a>(gets: &mut Vec<&'a Name>, command: &'a Command) -> Result<(), All
 }
 
 /// The way behind all commands, where no GET may wait.
-fn closed(way: Way, gets: &[&Name]) -> Found<Way>
+fn closed(way: Way, gets: &[&Name]) -> FoundLaid<Way>
     ensures { IfOk result (λ w. choices.Closes way (acts.names_of gets.now) w) }
 {
     if !way.on || none_wait(gets) {
@@ -293,7 +293,7 @@ fn closed(way: Way, gets: &[&Name]) -> Found<Way>
 }
 
 #[cycle(laid)]
-fn all(l: &Layout, leaps: Option<Leaps>, place: usize, list: &[Command]) -> Found<Way>
+fn all(l: &Layout, leaps: Option<Leaps>, place: usize, list: &[Command]) -> FoundLaid<Way>
     ensures { IfOk result (λ way. spec.LaidAll (laying l.now) leaps [] place (commands_of list.now) way) }
 {
     let mut way = Way::to(place);
@@ -317,7 +317,7 @@ fn part(
     test: Test,
     body: &[Command],
     last: bool,
-) -> Found<ChoicePart>
+) -> FoundLaid<ChoicePart>
     ensures { IfOk result (λ part. choices.Looked (laying l.now) leaps end test (commands_of body.now) last part) }
 {
     let way = all(l, leaps, test.end, body)?;
@@ -336,7 +336,7 @@ fn otherwise(
     end: Option<usize>,
     place: usize,
     branch: &Option<Branch>,
-) -> Found<Way>
+) -> FoundLaid<Way>
     ensures told { IfOk result (λ way. choices.Told end way.place) }
     ensures laid { IfOk result (λ way. spec.LaidPart (laying l.now) leaps place (part_of branch.now) way) }
 {
@@ -353,7 +353,7 @@ fn chain(
     place: usize,
     cases: &[Case],
     closed: bool,
-) -> Found<ChoicePart>
+) -> FoundLaid<ChoicePart>
     ensures { IfOk result (λ part. choices.Chains (laying l.now) leaps place cases.now closed part) }
 {
     let mut end = None;
@@ -371,7 +371,7 @@ fn chain(
 
 /// DO WHILE, whose condition stands at this place.
 #[cycle(laid)]
-fn repeated(l: &Layout, place: usize, test: Test, body: &[Command]) -> Found<Way>
+fn repeated(l: &Layout, place: usize, test: Test, body: &[Command]) -> FoundLaid<Way>
     ensures { IfOk result (λ way. choices.Repeats (laying l.now) place test (commands_of body.now) way) }
 {
     let leaps = Leaps {
@@ -389,7 +389,7 @@ fn repeated(l: &Layout, place: usize, test: Test, body: &[Command]) -> Found<Way
 
 /// SCAN.
 #[cycle(laid)]
-fn scanned(l: &Layout, place: usize, only_if: &Option<Expr>, body: &[Command]) -> Found<Way>
+fn scanned(l: &Layout, place: usize, only_if: &Option<Expr>, body: &[Command]) -> FoundLaid<Way>
     ensures { IfOk result (λ way. (leaps : Option Looped) (n end : ℕ)
         → spec.Laid (laying l.now) leaps [] place
         (Scan n (option_map tree_of only_if.now) (commands_of body.now) end) way) }
@@ -411,7 +411,7 @@ fn scanned(l: &Layout, place: usize, only_if: &Option<Expr>, body: &[Command]) -
 }
 
 #[cycle(laid)]
-fn block(l: &Layout, leaps: Option<Leaps>, place: usize, form: &Form) -> Found<Way>
+fn block(l: &Layout, leaps: Option<Leaps>, place: usize, form: &Form) -> FoundLaid<Way>
     ensures { IfOk result (λ way. (n : ℕ) → spec.Laid (laying l.now) leaps [] place (form_command form.now n) way) }
 {
     match form {
@@ -459,7 +459,7 @@ fn one(
     gets: &[&Name],
     place: usize,
     command: &Command,
-) -> Found<Way>
+) -> FoundLaid<Way>
     ensures { IfOk result (λ way. spec.Laid (laying l.now) leaps (acts.names_of gets.now) place
         (command_of command.now) way) }
 {
@@ -474,7 +474,7 @@ fn one(
 }
 
 /// The way behind the commands, if a code is laid out as they say from its first place on.
-pub fn way_of(l: &Layout, list: &[Command]) -> Found<Way>
+pub fn way_of(l: &Layout, list: &[Command]) -> FoundLaid<Way>
     ensures { IfOk result (λ way. spec.LaidAll (laying l.now) None [] 0 (commands_of list.now) way) }
 {
     all(l, None, 0, list)

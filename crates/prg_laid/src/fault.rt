@@ -15,7 +15,7 @@ pub enum LayoutFault {
 }
 
 /// What is found at a place of a code; Otherwise where something else stands there.
-pub type Found<T> = Result<T, LayoutFault>;
+pub type FoundLaid<T> = Result<T, LayoutFault>;
 
 impl From<AllocError> for LayoutFault {
     ghost from_gives = { λ _ e. e ≡ fault.NoMemory };

@@ -10,7 +10,7 @@ ghost use Rattle.prg_laid.specs.Layout.{laying};
 ghost use Rattle.prg_parser.specs.Commands.{commands_of};
 
 use crate::control::way_of;
-use crate::fault::{Found, LayoutFault};
+use crate::fault::{FoundLaid, LayoutFault};
 use crate::known::KnownStates;
 use crate::layout::{Layout, after};
 use crate::way::Way;
@@ -134,7 +134,7 @@ fn do_slots_differ(variables: &[Variable]) -> bool
 }
 
 /// The place behind the way, with END where its end is reached.
-fn closed(l: &Layout, way: Way) -> Found<usize>
+fn closed(l: &Layout, way: Way) -> FoundLaid<usize>
     ensures { IfOk result (spec.Closes (laying l.now) way.place way.on) }
 {
     if way.on {
@@ -144,7 +144,7 @@ fn closed(l: &Layout, way: Way) -> Found<usize>
     }
 }
 
-fn is_whole(l: &Layout, list: &[Command], length: usize) -> Found<()>
+fn is_whole(l: &Layout, list: &[Command], length: usize) -> FoundLaid<()>
     ensures { IfOk result (λ _. spec.IsLaidWhole (laying l.now) (commands_of list.now) length) }
 {
     let way = way_of(l, list)?;

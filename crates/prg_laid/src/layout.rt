@@ -9,7 +9,7 @@ ghost use Rattle.prg_values.specs.Placed.{InstrStands, Leaves};
 ghost use Rattle.prg_values.specs.Readings.{scoped};
 ghost use Rattle.prg_values.specs.Written.{whole_as_value};
 
-use crate::fault::{Found, LayoutFault};
+use crate::fault::{FoundLaid, LayoutFault};
 use crate::known::KnownStates;
 use code_items::{Declared, Instr, Name, State};
 use code_rules::blocks::Block;
@@ -40,14 +40,14 @@ pub struct NameRead {
 }
 
 /// The place behind the instruction, if it stands at this place.
-pub fn after(l: &Layout, place: usize, instr: Instr) -> Found<usize>
+pub fn after(l: &Layout, place: usize, instr: Instr) -> FoundLaid<usize>
     ensures { IfOk result (λ b. InstrStands (laying l.now).text place instr b) }
 {
     behind(&l.text, place, instr).ok_or(LayoutFault::Otherwise)
 }
 
 /// What is known before the place.
-pub fn known<'a>(l: &'a Layout, place: usize) -> Found<&'a State>
+pub fn known<'a>(l: &'a Layout, place: usize) -> FoundLaid<&'a State>
     ensures { IfOk result (λ s. Knows (laying l.now) place s.now) }
 {
     l.known.get(place).ok_or(LayoutFault::Otherwise)
@@ -66,7 +66,7 @@ pub fn scope_of<'a>(l: &'a Layout, state: &'a State, in_filter: bool) -> Scope<'
 }
 
 /// The expression's kind and the place behind its code, if its code stands at this place.
-pub fn given(l: &Layout, place: usize, e: &Expr) -> Found<Given>
+pub fn given(l: &Layout, place: usize, e: &Expr) -> FoundLaid<Given>
     ensures { IfOk result (λ g. ExprLaid (laying l.now) place (tree_of e.now) g.kind g.end) }
 {
     let state = known(l, place)?;
@@ -74,14 +74,14 @@ pub fn given(l: &Layout, place: usize, e: &Expr) -> Found<Given>
 }
 
 /// The same where names mean what they mean in the scope.
-pub fn given_in(l: &Layout, scope: &Scope, place: usize, e: &Expr) -> Found<Given>
+pub fn given_in(l: &Layout, scope: &Scope, place: usize, e: &Expr) -> FoundLaid<Given>
     ensures { IfOk result (λ g. Leaves (laying l.now).text (scoped scope.now) place (tree_of e.now) g.kind g.end) }
 {
     given_at(l.alloc, &l.text, scope, place, e)?.ok_or(LayoutFault::Otherwise)
 }
 
 /// The place behind the expression's code, if that stands at this place and its value is of this kind.
-pub fn given_as(l: &Layout, place: usize, e: &Expr, kind: Kind) -> Found<usize>
+pub fn given_as(l: &Layout, place: usize, e: &Expr, kind: Kind) -> FoundLaid<usize>
     ensures { IfOk result (λ b. ExprLaid (laying l.now) place (tree_of e.now) kind b) }
 {
     let given = given(l, place, e)?;
@@ -93,21 +93,21 @@ pub fn given_as(l: &Layout, place: usize, e: &Expr, kind: Kind) -> Found<usize>
 }
 
 /// The place behind an instruction that puts the constant on the stack, if one stands at this place.
-pub fn puts(l: &Layout, place: usize, value: &Value) -> Found<usize>
+pub fn puts(l: &Layout, place: usize, value: &Value) -> FoundLaid<usize>
     ensures { IfOk result (λ b. acts.ConstantStands (laying l.now) place value.now b) }
 {
     behind_constant(&l.text, place, value).ok_or(LayoutFault::Otherwise)
 }
 
 /// The same for the number 1.
-pub fn puts_one(l: &Layout, place: usize) -> Found<usize>
+pub fn puts_one(l: &Layout, place: usize) -> FoundLaid<usize>
     ensures { IfOk result (λ b. acts.ConstantStands (laying l.now) place (whole_as_value 1) b) }
 {
     puts(l, place, &Value::Number(Num::from(1u32)))
 }
 
 /// What the name means before the place.
-fn meaning(l: &Layout, place: usize, name: &Name) -> Found<Reading>
+fn meaning(l: &Layout, place: usize, name: &Name) -> FoundLaid<Reading>
     ensures { IfOk result (λ r. Means (laying l.now) place name.now.items r) }
 {
     let state = known(l, place)?;
@@ -118,7 +118,7 @@ fn meaning(l: &Layout, place: usize, name: &Name) -> Found<Reading>
 }
 
 /// What reads the name, if that stands at this place.
-pub fn named(l: &Layout, place: usize, name: &Name) -> Found<NameRead>
+pub fn named(l: &Layout, place: usize, name: &Name) -> FoundLaid<NameRead>
     ensures { IfOk result (λ n. NameLaid (laying l.now) place name.now.items n.reading n.end) }
 {
     let reading = meaning(l, place, name)?;
@@ -127,7 +127,7 @@ pub fn named(l: &Layout, place: usize, name: &Name) -> Found<NameRead>
 }
 
 /// The slot of the variable of this name, if there is one.
-pub fn slot_of(l: &Layout, name: &Name) -> Found<u8>
+pub fn slot_of(l: &Layout, name: &Name) -> FoundLaid<u8>
     ensures { IfOk result (λ slot. slot_named (laying l.now).names name.now.items ≡ Some slot) }
 {
     l.names.slot(name).ok_or(LayoutFault::Otherwise)

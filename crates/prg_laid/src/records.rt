@@ -6,19 +6,19 @@ ghost use Rattle.prg_laid.specs.Layout.{laying};
 ghost use Rattle.prg_line.specs.Act.{change_of, letters_of};
 
 use crate::areas::is_list;
-use crate::fault::{Found, LayoutFault};
+use crate::fault::{FoundLaid, LayoutFault};
 use crate::layout::{Layout, after, given, known, scope_of};
 use code_items::{Instr, Name, RecordInstr};
 use prg_line::Replacement;
 use prg_values::{FieldPlace, selected_field};
 
-pub fn record(l: &Layout, place: usize, instr: RecordInstr) -> Found<usize>
+pub fn record(l: &Layout, place: usize, instr: RecordInstr) -> FoundLaid<usize>
     ensures { IfOk result (λ b. acts.OnRecords (laying l.now) place instr b) }
 {
     after(l, place, Instr::Records(instr))
 }
 
-fn field(l: &Layout, place: usize, name: &Name) -> Found<FieldPlace>
+fn field(l: &Layout, place: usize, name: &Name) -> FoundLaid<FieldPlace>
     ensures { IfOk result (λ field. acts.IsField (laying l.now) place name.now.items field) }
 {
     let state = known(l, place)?;
@@ -28,7 +28,7 @@ fn field(l: &Layout, place: usize, name: &Name) -> Found<FieldPlace>
     }
 }
 
-fn replaced_one(l: &Layout, place: usize, change: &Replacement) -> Found<usize>
+fn replaced_one(l: &Layout, place: usize, change: &Replacement) -> FoundLaid<usize>
     ensures { IfOk result (λ b. acts.ReplacedOne (laying l.now) place (change_of change.now) b) }
 {
     let given = given(l, place, &change.value)?;
@@ -41,7 +41,7 @@ fn replaced_one(l: &Layout, place: usize, change: &Replacement) -> Found<usize>
 }
 
 /// `REPLACE field WITH value, ..`.
-pub fn replaced(l: &Layout, place: usize, changes: &[Replacement]) -> Found<usize>
+pub fn replaced(l: &Layout, place: usize, changes: &[Replacement]) -> FoundLaid<usize>
     ensures { IfOk result (λ b. acts.Replaced (laying l.now) place (map change_of changes.now) b) }
 {
     let mut end = place;
@@ -54,7 +54,7 @@ pub fn replaced(l: &Layout, place: usize, changes: &[Replacement]) -> Found<usiz
 }
 
 /// `INDEX ON key TO index`.
-pub fn indexed(l: &Layout, place: usize, name: &[Name]) -> Found<usize>
+pub fn indexed(l: &Layout, place: usize, name: &[Name]) -> FoundLaid<usize>
     ensures { IfOk result (λ b. acts.Indexed (laying l.now) place (map letters_of name.now) b) }
 {
     let Some(Instr::Records(RecordInstr::Index(list))) = l.text.instrs.get(place) else {

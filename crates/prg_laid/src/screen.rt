@@ -7,34 +7,34 @@ ghost use Rattle.prg_laid.specs.Layout.{laying};
 ghost use Rattle.prg_line.specs.Act.{letters_of};
 ghost use Rattle.code_items.specs.declared.instr.ScreenInstr.TheVariants.{Clear as clear};
 
-use crate::fault::{Found, LayoutFault};
+use crate::fault::{FoundLaid, LayoutFault};
 use crate::layout::{Layout, after, given, given_as, named, puts, puts_one};
 use crate::variables::stored;
 use code_items::{Instr, Name, RecordInstr, ScreenInstr, ValueInstr};
 use prg_expr::Expr;
 use xvalue::{Fun, Kind, Value, text_from};
 
-fn screen(l: &Layout, place: usize, instr: ScreenInstr) -> Found<usize>
+fn screen(l: &Layout, place: usize, instr: ScreenInstr) -> FoundLaid<usize>
     ensures { IfOk result (λ b. acts.OnScreen (laying l.now) place instr b) }
 {
     after(l, place, Instr::Screen(instr))
 }
 
-fn shown_one(l: &Layout, place: usize, e: &Expr) -> Found<usize>
+fn shown_one(l: &Layout, place: usize, e: &Expr) -> FoundLaid<usize>
     ensures { IfOk result (λ b. acts.ShownOne (laying l.now) place (tree_of e.now) b) }
 {
     let given = given(l, place, e)?;
     screen(l, given.end, ScreenInstr::Print(given.kind))
 }
 
-fn shown_blank(l: &Layout, place: usize) -> Found<usize>
+fn shown_blank(l: &Layout, place: usize) -> FoundLaid<usize>
     ensures { IfOk result (λ b. acts.ShownBlank (laying l.now) place b) }
 {
     let end = puts(l, place, &Value::Text(text_from(b" ")))?;
     screen(l, end, ScreenInstr::Print(Kind::Text))
 }
 
-fn shown_more(l: &Layout, place: usize, es: &[Expr]) -> Found<usize>
+fn shown_more(l: &Layout, place: usize, es: &[Expr]) -> FoundLaid<usize>
     ensures { IfOk result (λ b. acts.ShownMore (laying l.now) place (map tree_of es.now) b) }
 {
     let mut end = place;
@@ -48,7 +48,7 @@ fn shown_more(l: &Layout, place: usize, es: &[Expr]) -> Found<usize>
 }
 
 /// `?? list`.
-pub fn shown(l: &Layout, place: usize, es: &[Expr]) -> Found<usize>
+pub fn shown(l: &Layout, place: usize, es: &[Expr]) -> FoundLaid<usize>
     ensures { IfOk result (λ b. acts.Shown (laying l.now) place (map tree_of es.now) b) }
 {
     match es.split_first() {
@@ -61,14 +61,14 @@ pub fn shown(l: &Layout, place: usize, es: &[Expr]) -> Found<usize>
 }
 
 /// `? [list]`.
-pub fn shown_line(l: &Layout, place: usize, es: &[Expr]) -> Found<usize>
+pub fn shown_line(l: &Layout, place: usize, es: &[Expr]) -> FoundLaid<usize>
     ensures { IfOk result (λ b. acts.ShownLine (laying l.now) place (map tree_of es.now) b) }
 {
     let end = screen(l, place, ScreenInstr::NewLine)?;
     shown(l, end, es)
 }
 
-fn placed(l: &Layout, place: usize, row: &Expr, column: &Expr) -> Found<usize>
+fn placed(l: &Layout, place: usize, row: &Expr, column: &Expr) -> FoundLaid<usize>
     ensures { IfOk result (λ b. acts.Placed (laying l.now) place (tree_of row.now) (tree_of column.now) b) }
 {
     let end = given_as(l, place, row, Kind::Number)?;
@@ -76,7 +76,7 @@ fn placed(l: &Layout, place: usize, row: &Expr, column: &Expr) -> Found<usize>
 }
 
 /// `@ row,column SAY value`.
-pub fn said(l: &Layout, place: usize, row: &Expr, column: &Expr, e: &Expr) -> Found<usize>
+pub fn said(l: &Layout, place: usize, row: &Expr, column: &Expr, e: &Expr) -> FoundLaid<usize>
     ensures { IfOk result (λ b. acts.SayLaid (laying l.now) place (tree_of row.now) (tree_of column.now)
         (tree_of e.now) b) }
 {
@@ -86,7 +86,7 @@ pub fn said(l: &Layout, place: usize, row: &Expr, column: &Expr, e: &Expr) -> Fo
 }
 
 /// `@ row,column GET variable`.
-pub fn got(l: &Layout, place: usize, row: &Expr, column: &Expr, name: &Name) -> Found<usize>
+pub fn got(l: &Layout, place: usize, row: &Expr, column: &Expr, name: &Name) -> FoundLaid<usize>
     ensures { IfOk result (λ b. acts.Got (laying l.now) place (tree_of row.now)
         (tree_of column.now) name.now.items b) }
 {
@@ -95,7 +95,7 @@ pub fn got(l: &Layout, place: usize, row: &Expr, column: &Expr, name: &Name) -> 
     screen(l, named.end, ScreenInstr::Say(named.reading.kind))
 }
 
-fn got_on(l: &Layout, place: usize, name: &Name) -> Found<usize>
+fn got_on(l: &Layout, place: usize, name: &Name) -> FoundLaid<usize>
     ensures { IfOk result (λ b. acts.GotOn (laying l.now) place name.now.items b) }
 {
     let named = named(l, place, name)?;
@@ -110,7 +110,7 @@ pub fn said_and_got(
     column: &Expr,
     e: &Expr,
     name: &Name,
-) -> Found<usize>
+) -> FoundLaid<usize>
     ensures { IfOk result (λ b. acts.SaidAndGot (laying l.now) place (tree_of row.now) (tree_of column.now)
         (tree_of e.now) name.now.items b) }
 {
@@ -133,7 +133,7 @@ fn kept(instr: Instr, kind: Kind) -> Option<Instr>
     }
 }
 
-fn taken_one(l: &Layout, place: usize, name: &Name) -> Found<usize>
+fn taken_one(l: &Layout, place: usize, name: &Name) -> FoundLaid<usize>
     ensures { IfOk result (λ b. acts.TakenOne (laying l.now) place name.now.items b) }
 {
     let named = named(l, place, name)?;
@@ -143,7 +143,7 @@ fn taken_one(l: &Layout, place: usize, name: &Name) -> Found<usize>
 }
 
 /// `READ`, where these GETs wait for it.
-pub fn taken(l: &Layout, place: usize, gets: &[&Name]) -> Found<usize>
+pub fn taken(l: &Layout, place: usize, gets: &[&Name]) -> FoundLaid<usize>
     ensures { IfOk result (λ b. acts.ReadLaid (laying l.now) place (acts.names_of gets.now) b) }
 {
     let mut end = place;
@@ -153,7 +153,7 @@ pub fn taken(l: &Layout, place: usize, gets: &[&Name]) -> Found<usize>
     Ok(end)
 }
 
-fn prompted(l: &Layout, place: usize, prompt: &Option<Expr>) -> Found<usize>
+fn prompted(l: &Layout, place: usize, prompt: &Option<Expr>) -> FoundLaid<usize>
     ensures { IfOk result (λ b. acts.Prompted (laying l.now) place (option_map tree_of prompt.now) b) }
 {
     match prompt {
@@ -166,7 +166,7 @@ fn prompted(l: &Layout, place: usize, prompt: &Option<Expr>) -> Found<usize>
 }
 
 /// `ACCEPT [prompt] TO variable`.
-pub fn accepted(l: &Layout, place: usize, prompt: &Option<Expr>, name: &Name) -> Found<usize>
+pub fn accepted(l: &Layout, place: usize, prompt: &Option<Expr>, name: &Name) -> FoundLaid<usize>
     ensures { IfOk result
         (λ b. acts.AcceptLaid (laying l.now) place (option_map tree_of prompt.now) name.now.items b) }
 {
@@ -176,7 +176,7 @@ pub fn accepted(l: &Layout, place: usize, prompt: &Option<Expr>, name: &Name) ->
     stored(l, taken, name, Kind::Text)
 }
 
-fn asked(l: &Layout, place: usize, prompt: &Option<Expr>) -> Found<usize>
+fn asked(l: &Layout, place: usize, prompt: &Option<Expr>) -> FoundLaid<usize>
     ensures { IfOk result (λ b. acts.Asked (laying l.now) place (option_map tree_of prompt.now) b) }
 {
     match prompt {
@@ -189,7 +189,7 @@ fn asked(l: &Layout, place: usize, prompt: &Option<Expr>) -> Found<usize>
     }
 }
 
-fn key_taken(l: &Layout, place: usize, variable: &Option<Name>) -> Found<usize>
+fn key_taken(l: &Layout, place: usize, variable: &Option<Name>) -> FoundLaid<usize>
     ensures { IfOk result (λ b. acts.KeyTaken (laying l.now) place (option_map letters_of variable.now) b) }
 {
     match variable {
@@ -208,7 +208,7 @@ pub fn waited(
     place: usize,
     prompt: &Option<Expr>,
     variable: &Option<Name>,
-) -> Found<usize>
+) -> FoundLaid<usize>
     ensures { IfOk result (λ b. acts.Waited (laying l.now) place (option_map tree_of prompt.now)
         (option_map letters_of variable.now) b) }
 {
@@ -220,7 +220,7 @@ pub fn waited(
 }
 
 /// `CLEAR`.
-pub fn cleared(l: &Layout, place: usize) -> Found<usize>
+pub fn cleared(l: &Layout, place: usize) -> FoundLaid<usize>
     ensures { IfOk result (λ b. acts.OnScreen (laying l.now) place clear b) }
 {
     screen(l, place, ScreenInstr::Clear)

@@ -6,7 +6,7 @@ ghost use Rattle.prg_laid.specs.Layout.{laying};
 ghost use Rattle.prg_line.specs.Act.{act_of};
 
 use crate::areas::{area, filtered, gone, opened, selected, skipped, sought};
-use crate::fault::{Found, LayoutFault};
+use crate::fault::{FoundLaid, LayoutFault};
 use crate::layout::Layout;
 use crate::records::{indexed, record, replaced};
 use crate::screen::{accepted, cleared, got, said, said_and_got, shown, shown_line, taken, waited};
@@ -19,7 +19,7 @@ use std::slice;
 
 /// The place behind the code of a command of one line, if it stands at this place; these GETs wait for their READ.
 /// Otherwise for LOOP, EXIT, DO, PARAMETERS, RETURN, QUIT and CANCEL.
-pub fn does(l: &Layout, place: usize, gets: &[&Name], statement: &Statement) -> Found<usize>
+pub fn does(l: &Layout, place: usize, gets: &[&Name], statement: &Statement) -> FoundLaid<usize>
     ensures { IfOk result (λ b. acts.ActLaid (laying l.now) (acts.names_of gets.now) place (act_of statement.now) b) }
 {
     match statement {

@@ -6,7 +6,7 @@ ghost use Rattle.prg_laid.specs.Acts as acts;
 ghost use Rattle.prg_laid.specs.Layout.{laying};
 ghost use Rattle.prg_line.specs.Act.{letters_of};
 
-use crate::fault::{Found, LayoutFault};
+use crate::fault::{FoundLaid, LayoutFault};
 use crate::layout::{Layout, after, given, slot_of};
 use code_items::{Instr, Name, ValueInstr};
 use prg_expr::Expr;
@@ -15,7 +15,7 @@ use prg_values::setting_of;
 use xvalue::Kind;
 
 /// The place behind a STORE into the variable.
-pub fn stored(l: &Layout, place: usize, name: &Name, kind: Kind) -> Found<usize>
+pub fn stored(l: &Layout, place: usize, name: &Name, kind: Kind) -> FoundLaid<usize>
     ensures { IfOk result (λ b. acts.Stored (laying l.now) place name.now.items kind b) }
 {
     let slot = slot_of(l, name)?;
@@ -27,7 +27,7 @@ pub fn stored(l: &Layout, place: usize, name: &Name, kind: Kind) -> Found<usize>
 }
 
 /// `variable = value`.
-pub fn assigned(l: &Layout, place: usize, name: &Name, e: &Expr) -> Found<usize>
+pub fn assigned(l: &Layout, place: usize, name: &Name, e: &Expr) -> FoundLaid<usize>
     ensures { IfOk result (λ b. acts.Assigned (laying l.now) place name.now.items (tree_of e.now) b) }
 {
     let given = given(l, place, e)?;
@@ -35,7 +35,7 @@ pub fn assigned(l: &Layout, place: usize, name: &Name, e: &Expr) -> Found<usize>
 }
 
 /// Each further variable gets the value of the slot.
-fn copied(l: &Layout, place: usize, kind: Kind, slot: u8, names: &[Name]) -> Found<usize>
+fn copied(l: &Layout, place: usize, kind: Kind, slot: u8, names: &[Name]) -> FoundLaid<usize>
     ensures { IfOk result (λ b. acts.Copied (laying l.now) place kind slot (map letters_of names.now) b) }
 {
     let mut end = place;
@@ -53,7 +53,7 @@ fn copied(l: &Layout, place: usize, kind: Kind, slot: u8, names: &[Name]) -> Fou
 }
 
 /// `STORE value TO variables`.
-pub fn stored_all(l: &Layout, place: usize, e: &Expr, names: &[Name]) -> Found<usize>
+pub fn stored_all(l: &Layout, place: usize, e: &Expr, names: &[Name]) -> FoundLaid<usize>
     ensures { IfOk result (λ b. acts.StoredAll (laying l.now) place (tree_of e.now) (map letters_of names.now) b) }
 {
     let (first, others) = names.split_first().ok_or(LayoutFault::Otherwise)?;
@@ -68,7 +68,7 @@ pub fn stored_all(l: &Layout, place: usize, e: &Expr, names: &[Name]) -> Found<u
 }
 
 /// `RELEASE variables`.
-pub fn released(l: &Layout, place: usize, names: &[Name]) -> Found<usize>
+pub fn released(l: &Layout, place: usize, names: &[Name]) -> FoundLaid<usize>
     ensures { IfOk result (λ b. acts.Released (laying l.now) place (map letters_of names.now) b) }
 {
     let mut end = place;
@@ -82,7 +82,7 @@ pub fn released(l: &Layout, place: usize, names: &[Name]) -> Found<usize>
 }
 
 /// `SET setting ON` or `OFF`.
-pub fn set(l: &Layout, place: usize, toggle: Toggle, on: bool) -> Found<usize>
+pub fn set(l: &Layout, place: usize, toggle: Toggle, on: bool) -> FoundLaid<usize>
     ensures { IfOk result (λ b. acts.IsSet (laying l.now) place toggle on b) }
 {
     after(

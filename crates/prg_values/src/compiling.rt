@@ -1,6 +1,8 @@
 //! The code of expressions.
 
-ghost use Rattle.std.specs.Prelude.{IfOk, length, take};
+ghost use Rattle.std.specs.Prelude.{◌≡◌, IfErr, IfOk};
+ghost use Rattle.prg_code.specs.Parts.{told_at};
+ghost use Rattle.prg_code.specs.declared.fault.CompileError.{CompileError as AnyError};
 ghost use Rattle.std.specs.List.{AllZip};
 ghost use Rattle.prg_code.specs.Numbers.{Grows};
 ghost use Rattle.prg_expr.specs.Tree.{tree_of};
@@ -60,8 +62,8 @@ fn written(
     all_numbered(alloc, pool, &pieces)
 }
 
-/// The code of an expression, which leaves its value on top. Constants are added to the pool, also where the expression
-/// is refused.
+/// The code of an expression, which leaves its value on top. Its constants are added to the pool. Where one of them has
+/// no number left, or memory runs out, those before it stay there.
 ///
 /// # Errors
 ///
@@ -74,6 +76,7 @@ pub fn compile_expr(
 ) -> Result<Vec<Instr>, CompileRefusal>
     ensures ok { IfOk result (λ code. (kind : AnyKind)
         × IsWrittenExpr (scoped scope.now) (tree_of e.now) kind pool.new code.items) }
+    ensures told { IfErr result (λ refusal. (error : AnyError) × (refusal ≡ told_at error 0 0)) }
     ensures grown { Grows pool.old pool.new }
 {
     match written(alloc, e, scope, pool) {

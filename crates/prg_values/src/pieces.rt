@@ -183,7 +183,8 @@ fn emit_call(
     function: Function,
     arguments: &[Expr],
 ) -> Result<(), CompileError>
-    ensures { OnOk result (code.new.items ≡ code.old.items ++ ((spec.all_pieces (scoped scope.now) (trees_of arguments.now)
+    ensures { OnOk result (code.new.items ≡ code.old.items
+        ++ ((spec.all_pieces (scoped scope.now) (trees_of arguments.now)
         ++ spec.constants (spec.defaults function (length arguments.now))) ++ spec.call_pieces (spec.meaning function)
         (spec.chosen (spec.kinds_in (scoped scope.now) (trees_of arguments.now))))) }
 {

@@ -1,6 +1,6 @@
 //! Whether the code of an expression stands in a finished code.
 
-ghost use Rattle.std.specs.Prelude.{[], ◌∷◌, IfOk, IfSome, length};
+ghost use Rattle.std.specs.Prelude.{[], ◌∷◌, IfOk, IfSome};
 ghost use Rattle.prg_expr.specs.Tree.{tree_of};
 ghost use Rattle.prg_values.specs.Readings.{scoped};
 ghost use Rattle.prg_values.specs.Placed.{text, InstrStands, StandAll, Leaves};

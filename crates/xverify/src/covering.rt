@@ -19,7 +19,7 @@ use code_rules::signature::{called, target};
 
 /// A part of what is known at a place.
 #[derive(Clone, Copy)]
-pub enum Part {
+pub enum KnownPart {
     Slots,
     Desk,
     Stack,
@@ -27,20 +27,20 @@ pub enum Part {
 
 /// Whether this part of a state that flows where something is known isn't covered there, so many values of unknown
 /// kinds being on top of its stack.
-fn fails(part: Part, unknown: usize, known: Option<&State>, state: &State) -> bool
+fn fails(part: KnownPart, unknown: usize, known: Option<&State>, state: &State) -> bool
     ensures { result ≡ part_fails part unknown (option_copied known.entry) state.now }
 {
     let Some(map) = known else {
         return false;
     };
     match part {
-        Part::Slots => !state.slots.is_covered_by(&map.slots),
-        Part::Desk => !state.desk.is_covered_by(&map.desk),
-        Part::Stack => !state.stack.is_covered_by(&map.stack, unknown),
+        KnownPart::Slots => !state.slots.is_covered_by(&map.slots),
+        KnownPart::Desk => !state.desk.is_covered_by(&map.desk),
+        KnownPart::Stack => !state.stack.is_covered_by(&map.stack, unknown),
     }
 }
 
-fn fails_at(part: Part, unknown: usize, code: &Code, place: usize, state: &State) -> bool
+fn fails_at(part: KnownPart, unknown: usize, code: &Code, place: usize, state: &State) -> bool
     requires { IsCode code.now }
     ensures { result ≡ part_fails part unknown (map_at_of code.now place) state.now }
 {
@@ -76,7 +76,7 @@ pub fn unknown(h: &Here) -> usize
     }
 }
 
-fn next_fails(part: Part, h: &Here) -> bool
+fn next_fails(part: KnownPart, h: &Here) -> bool
     requires { IsPlace h.now }
     ensures { let unknown = unknown_of (gives_of h.now.code.now.declared h.now.before.now.desk h.now.instr) in
         result ≡ some_next h.now.code.now (λ t. part_fails part unknown (map_at_of h.now.code.now t) h.now.after.now)
@@ -92,7 +92,7 @@ fn next_fails(part: Part, h: &Here) -> bool
 }
 
 /// Whether this part isn't covered where the block begins, in the procedure that is called, or at a next place.
-pub fn some_fails(part: Part, h: &Here) -> bool
+pub fn some_fails(part: KnownPart, h: &Here) -> bool
     requires { IsPlace h.now }
     ensures { result ≡ some_part_fails part h.now.code.now (place_told h.now) }
 {

@@ -5,7 +5,7 @@ ghost use Rattle.code_rules.specs.Rules.{closed_fails as closed_fails_of, area_i
 ghost use Rattle.code_rules.specs.Rules.{names_other as names_other_of, table_fails as table_fails_of};
 ghost use Rattle.xverify.specs.Told.{place_told, IsPlace};
 
-use crate::covering::{Part, some_fails};
+use crate::covering::{KnownPart, some_fails};
 use crate::here::Here;
 use code_items::{AreaInstr, Declared, Desk, Instr};
 use code_rules::desks::{has_table, is_closed, is_other_filter, is_other_list, record_is_other};
@@ -47,5 +47,5 @@ pub fn table_fails(h: &Here) -> bool
     requires { IsPlace h.now }
     ensures { result ≡ table_fails_of h.now.code.now (place_told h.now) }
 {
-    names_other(&h.code.declared, &h.before.desk, h.instr) || some_fails(Part::Desk, h)
+    names_other(&h.code.declared, &h.before.desk, h.instr) || some_fails(KnownPart::Desk, h)
 }

@@ -7,7 +7,7 @@ ghost use Rattle.code_rules.specs.Rules.{leaves_values as leaves_values_of, kind
 ghost use Rattle.code_rules.specs.Rules.{empty_fails as empty_fails_of};
 ghost use Rattle.xverify.specs.Told.{place_told, IsPlace};
 
-use crate::covering::{Part, some_fails};
+use crate::covering::{KnownPart, some_fails};
 use crate::here::Here;
 use code_items::{Instr, State, ValueInstr};
 use code_rules::Signature;
@@ -59,7 +59,7 @@ pub fn kind_fails(h: &Here) -> bool
         .stack
         .clashes(wants(&h.code.declared, &h.before.desk, h.instr))
         || loads_other(h.before, h.instr)
-        || some_fails(Part::Slots, h)
+        || some_fails(KnownPart::Slots, h)
 }
 
 /// Whether there are fewer values than are taken.
@@ -88,5 +88,5 @@ pub fn empty_fails(h: &Here) -> bool
     requires { IsPlace h.now }
     ensures { result ≡ empty_fails_of h.now.code.now (place_told h.now) }
 {
-    leaves_values(h) || some_fails(Part::Stack, h)
+    leaves_values(h) || some_fails(KnownPart::Stack, h)
 }
