@@ -1,14 +1,14 @@
 //! Sums, products and quotients.
 
-ghost use Rattle.std.specs.Prelude.{◌≡◌, ◌<◌, ◌≤◌, ◌+ℤ◌, unsigned_abs, true, Some, SomeIff};
+ghost use Rattle.std.specs.Prelude.{◌≡◌, ◌<◌, ◌≤◌, ◌+ℤ◌, true, Some, SomeIff, IfSome};
 ghost use Rattle.std.specs.Ordering.{int_cmp};
-ghost use Rattle.fixed_num.specs.Number.{AreParts, number_of, number, signed, finite, magnitude_limit};
+ghost use Rattle.fixed_num.specs.Number.{AreParts, number_of, number, signed};
 ghost use Rattle.fixed_num.specs.Order.{compared, greater_of, lesser_of};
 ghost use Rattle.fixed_num.specs.Arithmetic.{AreAlike, sum_of, difference_of, negated, absolute, product_of};
 ghost use Rattle.fixed_num.specs.Arithmetic.{quotient_of, modulus_of};
 
 use crate::number::{MOST_DECIMALS, Num, Parts};
-use crate::powers::{power_of_ten, scaled};
+use crate::powers::{lengthened, power_of_ten, scaled};
 use crate::rounding::{divided, floored_rest, nearest};
 use std::cmp::Ordering;
 
@@ -58,9 +58,95 @@ fn sum_in_two_words(first: Num, second: Num) -> Num
     Num::from_fraction(left + right, decimals)
 }
 
-/// The remainder of any two numbers other than the asterisk value.
+/// The product of two numbers of which neither is below zero, where it has at most 15 decimals and its digits take one
+/// word. Most products are such; it takes one multiplication.
+#[inline(always)]
+fn short_product(first: Num, second: Num) -> Option<Num>
+    ensures { IfSome result (λ product. product ≡ product_of first second) }
+{
+    let a = first.parts()?;
+    let b = second.parts()?;
+    if a.negative || b.negative || a.decimals + b.decimals > MOST_DECIMALS {
+        return None;
+    }
+    let magnitude = a.magnitude.checked_mul(b.magnitude)?;
+    Some(Num::from_word(false, magnitude, a.decimals + b.decimals))
+}
+
+/// The product of any two numbers. (Apart, as the sum of any two is.)
+#[inline(never)]
+fn product_of_any(first: Num, second: Num) -> Num
+    ensures { result ≡ product_of first second }
+{
+    let (Some(a), Some(b)) = (first.parts(), second.parts()) else {
+        return Num::asterisk();
+    };
+    let negative = a.negative != b.negative;
+    let magnitude = u128::from(a.magnitude) * u128::from(b.magnitude);
+    let decimals = a.decimals + b.decimals;
+    if decimals <= MOST_DECIMALS {
+        return Num::from_magnitude(negative, magnitude, decimals);
+    }
+    let unit = u128::from(power_of_ten(decimals - MOST_DECIMALS));
+    let kept = nearest(magnitude, unit);
+    Num::from_magnitude(negative, kept, MOST_DECIMALS)
+}
+
+/// The quotient of two numbers of which neither is below zero, where the dividend with the decimals of the quotient
+/// takes one word. Most quotients are such; it takes one division.
+#[inline(always)]
+fn short_quotient(first: Num, second: Num) -> Option<Num>
+    ensures { IfSome result (λ quotient. quotient ≡ quotient_of first second) }
+{
+    let a = first.parts()?;
+    let b = second.parts()?;
+    let decimals = a.decimals.max(b.decimals).max(2);
+    let places = decimals - a.decimals + b.decimals;
+    if a.negative || b.negative || b.magnitude == 0 || places > 19 {
+        return None;
+    }
+    let dividend = lengthened(a.magnitude, places)?;
+    let kept = nearest(u128::from(dividend), u128::from(b.magnitude));
+    Some(Num::from_magnitude(false, kept, decimals))
+}
+
+/// The quotient of any two numbers. (Apart, as the sum of any two is.)
+#[inline(never)]
+fn quotient_of_any(first: Num, second: Num) -> Num
+    ensures { result ≡ quotient_of first second }
+{
+    let (Some(a), Some(b)) = (first.parts(), second.parts()) else {
+        return Num::asterisk();
+    };
+    if b.magnitude == 0 {
+        return Num::asterisk();
+    }
+    let negative = a.negative != b.negative;
+    let decimals = a.decimals.max(b.decimals).max(2);
+    let places = decimals - a.decimals + b.decimals;
+    match divided(a.magnitude, places, b.magnitude) {
+        Some(magnitude) => Num::from_magnitude(negative, magnitude, decimals),
+        None => Num::asterisk(),
+    }
+}
+
+/// The remainder of any two numbers. (Apart, as the sum of any two is.)
+#[inline(never)]
+fn modulus_of_any(first: Num, second: Num) -> Num
+    ensures { result ≡ modulus_of first second }
+{
+    let (Some(a), Some(b)) = (first.parts(), second.parts()) else {
+        return Num::asterisk();
+    };
+    if b.magnitude == 0 {
+        return Num::asterisk();
+    }
+    modulus_of_parts(a, b)
+}
+
+/// The same of numbers other than the asterisk value.
 #[inline]
-fn modulo_of_parts(a: Parts, b: Parts) -> Num
+fn modulus_of_parts(a: Parts, b: Parts) -> Num
     requires first { AreParts a }
     requires second { AreParts b }
     requires divisor { 0 < b.magnitude }
@@ -176,44 +262,30 @@ impl Num {
     }
 
     /// The product, with the decimals of both, rounded to 15 where these are more.
+    #[inline(always)]
     pub fn mul(self, other: Num) -> Num
         ensures { result ≡ product_of self other }
     {
-        let (Some(a), Some(b)) = (self.parts(), other.parts()) else {
-            return Num::asterisk();
-        };
-        let negative = a.negative != b.negative;
-        let magnitude = u128::from(a.magnitude) * u128::from(b.magnitude);
-        let decimals = a.decimals + b.decimals;
-        if decimals <= MOST_DECIMALS {
-            return Num::from_magnitude(negative, magnitude, decimals);
+        if let Some(product) = short_product(self, other) {
+            return product;
         }
-        let unit = u128::from(power_of_ten(decimals - MOST_DECIMALS));
-        let kept = nearest(magnitude, unit);
-        Num::from_magnitude(negative, kept, MOST_DECIMALS)
+        product_of_any(self, other)
     }
 
     /// The quotient, rounded to the greatest of both numbers of decimals and 2. By zero it is the asterisk value.
+    #[inline(always)]
     pub fn div(self, other: Num) -> Num
         ensures { result ≡ quotient_of self other }
     {
-        let (Some(a), Some(b)) = (self.parts(), other.parts()) else {
-            return Num::asterisk();
-        };
-        if b.magnitude == 0 {
-            return Num::asterisk();
+        if let Some(quotient) = short_quotient(self, other) {
+            return quotient;
         }
-        let negative = a.negative != b.negative;
-        let decimals = a.decimals.max(b.decimals).max(2);
-        let places = decimals - a.decimals + b.decimals;
-        match divided(a.magnitude, places, b.magnitude) {
-            Some(magnitude) => Num::from_magnitude(negative, magnitude, decimals),
-            None => Num::asterisk(),
-        }
+        quotient_of_any(self, other)
     }
 
     /// `self - other * floor(self / other)` with the greater number of decimals, which has the sign of `other`. By zero
     /// it is the asterisk value.
+    #[inline(always)]
     pub fn modulo(self, other: Num) -> Num
         ensures { result ≡ modulus_of self other }
     {
@@ -222,13 +294,7 @@ impl Num {
                 return Num::of_sign(false, pair.first % pair.second, pair.decimals);
             }
         }
-        let (Some(a), Some(b)) = (self.parts(), other.parts()) else {
-            return Num::asterisk();
-        };
-        if b.magnitude == 0 {
-            return Num::asterisk();
-        }
-        modulo_of_parts(a, b)
+        modulus_of_any(self, other)
     }
 
     /// How the number compares with another by value. The asterisk value is above every number and equal to itself.

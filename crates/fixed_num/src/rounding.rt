@@ -9,7 +9,7 @@ use crate::number::{MAGNITUDE_LIMIT, Num, Parts};
 use crate::powers::{power_of_ten, shortened};
 
 /// The whole number nearest to `dividend / divisor`, a half upwards.
-#[inline]
+#[inline(always)]
 pub(crate) fn nearest(dividend: u128, divisor: u128) -> u128
     requires positive { 0 < divisor }
     requires room { dividend < 2 ^ 127 }
@@ -165,6 +165,7 @@ impl Num {
     }
 
     /// The number cut toward zero, without decimals.
+    #[inline]
     pub fn int(self) -> Num
         ensures { result ≡ cut self }
     {

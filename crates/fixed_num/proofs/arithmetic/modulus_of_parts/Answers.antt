@@ -1,6 +1,6 @@
 use Rattle.std.proofs.Common.{◌∙◌, ap₂, ◌*◌}
 use Rattle.fixed_num.proofs.RemainderLemmas.{modulus_from}
-use Rattle.fixed_num.proofs.arithmetic.modulo_of_parts.Goals as goal
+use Rattle.fixed_num.proofs.arithmetic.modulus_of_parts.Goals as goal
 
 pub returns : goal.returns
 returns c =

@@ -1,6 +1,6 @@
 use Rattle.std.proofs.Common.{◌∙◌, ap, max, arith}
 use Rattle.fixed_num.proofs.QuotientLemmas.{quotient_from, quotient_above}
-use Rattle.fixed_num.proofs.number.Num.div.Goals as goal
+use Rattle.fixed_num.proofs.arithmetic.quotient_of_any.Goals as goal
 
 pub returns-in-Some : goal.returns-in-Some
 returns-in-Some c =

@@ -1,6 +1,6 @@
 use Rattle.std.proofs.Common.{◌∙◌, ap, sym, not, ◌+◌}
 use mathlib.Core.Bool.{beq}
-use Rattle.fixed_num.proofs.number.Num.mul.Goals as goal
+use Rattle.fixed_num.proofs.arithmetic.product_of_any.Goals as goal
 use Rattle.fixed_num.specs.Arithmetic.{fitted}
 use Rattle.fixed_num.proofs.SignLemmas.{product_signed}
 use Rattle.fixed_num.proofs.RoundLemmas.{fitted_many}
