@@ -4,7 +4,7 @@ ghost use Rattle.std.specs.Prelude.{◌≡◌, []};
 ghost use Rattle.std.specs.List.{list_any};
 ghost use Rattle.shape.specs.Indexes.{has_index_name, has_declared_key, is_index, is_next_index, indexes_go_on};
 
-use crate::names::{Name, copy_of, is_file_name};
+use crate::names::{Name, copy_of_name, is_file_name};
 use crate::parts::KeyParts;
 use crate::tables::TableShape;
 
@@ -59,7 +59,7 @@ impl IndexShape {
         ensures { result ≡ self.now }
     {
         IndexShape {
-            name: copy_of(&self.name),
+            name: copy_of_name(&self.name),
             table: self.table,
             key: self.key.copied(),
         }

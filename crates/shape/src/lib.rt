@@ -17,7 +17,7 @@ mod whole;
 pub use indexes::IndexShape;
 pub use items::Items;
 pub use lists::IndexList;
-pub use names::Name;
+pub use names::{Name, copy_of_name};
 pub use parts::{KeyPart, KeyParts};
 pub use tables::TableShape;
 pub use whole::Shape;

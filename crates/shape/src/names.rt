@@ -52,7 +52,7 @@ pub(crate) fn is_file_name(name: &[u8]) -> bool
 }
 
 /// The same name once more.
-pub(crate) fn copy_of(name: &Name) -> Name
+pub fn copy_of_name(name: &Name) -> Name
     ensures { result ≡ name.now }
 {
     let mut copy = ArrayVec::new();

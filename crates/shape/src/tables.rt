@@ -6,7 +6,7 @@ ghost use Rattle.shape.specs.Names.{is_capital_name as is_capital_name_of};
 ghost use Rattle.shape.specs.Tables.{has_table_name, is_table, is_next_table, tables_go_on};
 
 use crate::items::Items;
-use crate::names::{Name, copy_of, is_capital_name, is_file_name};
+use crate::names::{Name, copy_of_name, is_capital_name, is_file_name};
 use dbf_file::{Field, are_fields};
 use std::alloc::{AllocError, Global};
 
@@ -56,7 +56,7 @@ impl TableShape {
         ensures { IfOk result (λ copy. copy ≡ self.now) }
     {
         Ok(TableShape {
-            name: copy_of(&self.name),
+            name: copy_of_name(&self.name),
             fields: Items::of(copies_of(alloc, self.fields.as_slice())?),
         })
     }

@@ -5,5 +5,5 @@ pub mod laws;
 mod lines;
 mod typed;
 
-pub use lines::{first_line, is_ended};
+pub use lines::{first_line, is_ended, without_return};
 pub use typed::TypedLines;

@@ -6,7 +6,7 @@ ghost use Rattle.text_lines.specs.Lines as spec;
 
 /// The line without a return at its end.
 #[tactic(auto, unfolding(crate::specs::Lines::without_return))]
-fn without_return(line: &[u8]) -> &[u8]
+pub fn without_return(line: &[u8]) -> &[u8]
     ensures { result.now ≡ spec.without_return line.now }
 {
     match line {
