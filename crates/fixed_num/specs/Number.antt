@@ -48,11 +48,6 @@ pub record AreParts (parts : Parts) : Type 0 where
   pub decimals_fit : parts.decimals ≤ most_decimals
   pub zero_unsigned : parts.negative ≡ true → 0 < parts.magnitude
 
--- each number has its parts alone
-abbrev pub HasParts : Option Parts → Type 0
-HasParts None = Unit {0}
-HasParts (Some parts) = AreParts parts
-
 -- the second has the sign of the first, so many decimals, and as many more digits
 pub record IsLonger (parts : Parts) (d : ℕ) (longer : Parts) : Type 0 where
   pub sign : longer.negative ≡ parts.negative

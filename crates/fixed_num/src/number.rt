@@ -1,6 +1,6 @@
 //! The type of a number, its parts and the conversions.
 
-ghost use Rattle.std.specs.Prelude.{◌≡◌, ◌+◌, ◌<◌, ◌≤◌, ℤ, pos, ◌↔◌, IsTrue, SomeIff, IfSome, MatchOption};
+ghost use Rattle.std.specs.Prelude.{◌≡◌, ◌+◌, ◌<◌, ◌≤◌, pos, ◌↔◌, IsTrue, SomeIff, IfSome, MatchOption};
 ghost use Rattle.std.specs.Prelude.{if◌then◌else◌};
 ghost use Rattle.fixed_num.specs.Number.{number, number_of, signed, AreParts, IsFraction, finite, asterisk};
 ghost use Rattle.fixed_num.specs.Number.{magnitude_limit, IsLonger, IsPair};
