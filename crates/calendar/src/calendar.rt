@@ -1,15 +1,14 @@
 // Days in their order: the days so many days on, the names of weekdays and months, and the days that texts spell.
 #![tactic(auto)]
 
-ghost use Rattle.std.specs.Prelude.{◌≡◌, ◌+◌, ◌≤◌, ◌<◌, ◌↔◌, ◌+ℤ◌, ◌<ℤ◌, ◌++◌, length, take, drop, pos, neg_ℤ};
+ghost use Rattle.std.specs.Prelude.{◌≡◌, ◌+◌, ◌≤◌, ◌<◌, ◌↔◌, ◌+ℤ◌, ◌<ℤ◌, length, take, drop, pos};
 ghost use Rattle.std.specs.Prelude.{unsigned_abs, MatchOption, IsOk, IfOk, true};
-ghost use Rattle.jiff.specs.Words.{epoch_day, weekday_of, IsEpochDay, IsBetween, IsYmd, monday_zero};
-ghost use Rattle.fixed_num.specs.Reading.{trimmed, are_digits, with_digits};
+ghost use Rattle.jiff.specs.Words.{epoch_day, IsEpochDay, IsYmd, monday_zero};
+ghost use Rattle.fixed_num.specs.Reading.{are_digits, with_digits};
 ghost use Rattle.calendar.specs.Days.{IsDay, HasDay};
 ghost use Rattle.calendar.specs.Calendar.{day_number, days_on, date_plus, date_minus, days_between, same_date};
 ghost use Rattle.calendar.specs.Calendar.{is_earlier, day_of, month_of, year_of, weekday};
 ghost use Rattle.calendar.specs.Calendar.{weekday_of as weekday_number_of, weekday_name_of, month_name_of};
-ghost use Rattle.calendar.specs.Calendar.{day_or_blank};
 ghost use Rattle.calendar.specs.DateTexts.{before_slash, after_slash, is_short, year_spelled, date_spelled, date_read};
 
 use crate::day::{Day, DayParts};
