@@ -50,7 +50,3 @@ with_selected_area area desk = record desk { areas = put_at desk.selected area d
 -- all areas closed and the first selected
 abbrev pub all_closed : Desk → Desk
 all_closed desk = record { selected = 1; areas = replicate (length desk.areas) Closed }
-
--- ten closed areas, of which the first is selected
-abbrev pub closed_desk : Desk
-closed_desk = record { selected = 1; areas = replicate 10 Closed }

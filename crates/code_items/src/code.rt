@@ -3,7 +3,7 @@
 ghost use Rattle.std.specs.Prelude.{◌≡◌, ◌≤◌, length, map, true};
 ghost use Rattle.std.specs.List.{list_all};
 ghost use Rattle.code_items.specs.Instrs.{is_instr};
-ghost use Rattle.code_items.specs.Legal.{is_procedure, begins_blank, is_map, places_in_all, places_of, blocks_of};
+ghost use Rattle.code_items.specs.Legal.{is_procedure, begins_blank, is_map, places_of, blocks_of};
 ghost use Rattle.code_items.specs.Legal.{blocks_fill};
 ghost use Rattle.code_items.specs.Legal.{maps_rise, left_behind, procedures_are_legal, maps_are_legal};
 ghost use Rattle.code_items.specs.Legal.{instructions_are_legal, is_code};

@@ -34,7 +34,8 @@ pub struct Desk {
     pub areas: Items<AreaState>,
 }
 
-fn is_same_area(one: OpenArea, two: OpenArea) -> bool
+/// Whether both hold the same table, list, order and filter.
+pub fn is_same_area(one: OpenArea, two: OpenArea) -> bool
     ensures { result ≡ same_area one two }
 {
     one.table == two.table

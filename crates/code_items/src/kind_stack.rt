@@ -2,7 +2,6 @@
 
 ghost use Rattle.std.specs.Prelude.{◌≡◌, [], ◌∷◌, drop, length, IfOk, OnOk, OnErr, reverse};
 ghost use Rattle.std.specs.List.{list_any, list_all, zip};
-ghost use Rattle.std.specs.Prelude.{◌-◌, ◌≤◌, take};
 ghost use Rattle.code_items.specs.Kinds.{clashes, other_kind, kinds_covered, same_kinds, same_pair};
 
 use std::alloc::{AllocError, Global};
@@ -65,11 +64,10 @@ impl KindStack {
     }
 
     /// Whether one of the kinds that are there, from the top, is another than wanted; that of the top is wanted last.
-    #[tactic(auto, using(crate::proofs::PairLists::any_other))]
     pub fn clashes(&self, wanted: &[Kind]) -> bool
         ensures { result ≡ clashes (reverse wanted.now) self.now }
     {
-        other_from_end(self.kinds.as_slice(), wanted)
+        kinds_clash(self.kinds.as_slice(), wanted)
     }
 
     /// Whether the map's kinds are these with so many more on top, of which nothing is known.
@@ -99,6 +97,14 @@ impl KindStack {
             kinds: Vec::from_slice(alloc, self.kinds.as_slice())?,
         })
     }
+}
+
+/// Whether one of the kinds that are there, from the top, is another than wanted. The top stands last in both.
+#[tactic(auto, using(crate::proofs::PairLists::any_other))]
+pub fn kinds_clash(kinds: &[Kind], wanted: &[Kind]) -> bool
+    ensures { result ≡ clashes (reverse wanted.now) (reverse kinds.now) }
+{
+    other_from_end(kinds, wanted)
 }
 
 fn other_from_end(kinds: &[Kind], wanted: &[Kind]) -> bool

@@ -93,7 +93,8 @@ impl Declared {
     }
 }
 
-fn may_be_unsure(version: Version) -> bool
+/// Whether a state of a code of this version can have a work area of which nothing is known.
+pub fn may_be_unsure(version: Version) -> bool
     ensures { result ≡ may_be_unsure_in version }
 {
     match version {

@@ -20,12 +20,13 @@ mod state;
 
 pub use code::{Code, Map, Proc};
 pub use declared::{Declared, Filter, Need, Version};
-pub use desk::{AreaState, Desk, OpenArea};
+pub use desk::{AreaState, Desk, OpenArea, is_same_area};
 pub use instr::{
     AreaInstr, FlowInstr, Instr, MoveInstr, Question, RecordInstr, ScreenInstr, ValueInstr,
 };
 pub use kind_slots::KindSlots;
-pub use kind_stack::KindStack;
+pub use kind_stack::{KindStack, kinds_clash};
+pub use laid::may_be_unsure;
 pub use shape::{IndexList, IndexShape, Items, KeyPart, KeyParts, Name, Shape, TableShape};
 pub use state::State;
 pub use xvalue::Setting;
