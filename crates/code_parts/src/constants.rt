@@ -4,7 +4,7 @@ ghost use Rattle.std.specs.Prelude.{◌≡◌};
 ghost use Rattle.code_parts.specs.Reading.{Finds};
 ghost use Rattle.code_parts.specs.Items.{decimal_from as decimal_from_parts, decimal_at, date_from as date_from_parts};
 ghost use Rattle.code_parts.specs.Items.{date_at, text_from as text_from_bytes, text_value_at};
-ghost use Rattle.code_parts.specs.Items.{truth_from as truth_from_byte, truth_at, value_at, constant_at};
+ghost use Rattle.code_parts.specs.Items.{truth_from as truth_from_byte, truth_at, constant_at};
 
 use crate::fields::{byte_of, counted_text, eight_of, two_of};
 use crate::flaw::{Flaw, Missing, Unread};

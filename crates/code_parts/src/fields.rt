@@ -1,6 +1,5 @@
 //! Bytes and numbers at the front of bytes. A number is written with its lowest byte first.
 
-ghost use Rattle.std.specs.Prelude.{◌≡◌};
 ghost use Rattle.std.specs.Int.{w16, w32, w64};
 ghost use Rattle.code_parts.specs.Reading.{Finds, byte_at, number_read_at, text_read_at};
 

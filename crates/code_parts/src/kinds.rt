@@ -1,7 +1,7 @@
 //! Kinds of values.
 
 ghost use Rattle.std.specs.Prelude.{◌≡◌};
-ghost use Rattle.code_parts.specs.Texts.{kind_number, slot_number, truth_number};
+ghost use Rattle.code_parts.specs.Texts.{kind_number, slot_number};
 ghost use Rattle.code_parts.specs.Items.{kind_of_byte, kind_from as kind_from_byte, slot_from as slot_from_byte};
 ghost use Rattle.code_parts.specs.Items.{truth_of_byte, kind_at, slot_at};
 

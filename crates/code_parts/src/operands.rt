@@ -1,7 +1,7 @@
 //! The operation and the operands of an instruction.
 
 ghost use Rattle.std.specs.Prelude.{◌≡◌};
-ghost use Rattle.code_parts.specs.Texts.{kind_number, truth_number};
+ghost use Rattle.code_parts.specs.Texts.{kind_number};
 ghost use Rattle.code_parts.specs.Instructions.{setting_number, question_number, parts_of_values, parts_of_flow};
 ghost use Rattle.code_parts.specs.Instructions.{parts_of_screen, parts_of_areas, parts_of_moves, parts_of_records};
 ghost use Rattle.code_parts.specs.Instructions.{parts_of, same_parts};

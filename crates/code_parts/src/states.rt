@@ -1,7 +1,6 @@
 //! States.
 
 ghost use Rattle.std.specs.Prelude.{◌≡◌, ◌<◌, Ok};
-ghost use Rattle.code_items.specs.States.{may_be_unsure as may_be_unsure_in};
 ghost use Rattle.code_parts.specs.Reading.{Finds, judge, both_judged, in_list};
 ghost use Rattle.code_parts.specs.Items.{open_from as open_from_parts, open_read_at, area_read_at};
 ghost use Rattle.code_parts.specs.Items.{state_from as state_from_parts, state_read_at};
@@ -10,7 +9,7 @@ use crate::fields::byte_of;
 use crate::flaw::{Flaw, Missing, Unread};
 use crate::kinds::{KindItems, SlotItems};
 use crate::several::{Reads, read_counted, read_several};
-use code_items::{AreaState, Desk, KindSlots, KindStack, OpenArea, State, Version};
+use code_items::{AreaState, Desk, KindSlots, KindStack, OpenArea, State, Version, may_be_unsure};
 use shape::Items;
 use std::alloc::Global;
 use xvalue::Kind;
@@ -36,15 +35,6 @@ fn open_of(byte: u8, bytes: &[u8]) -> Result<(Result<AreaState, Flaw>, &[u8]), M
     let (order, rest) = byte_of(rest)?;
     let (filter, rest) = byte_of(rest)?;
     Ok((Ok(open_from(byte, list, order, filter)), rest))
-}
-
-fn may_be_unsure(version: Version) -> bool
-    ensures { result ≡ may_be_unsure_in version }
-{
-    match version {
-        Version::One => false,
-        Version::Two => true,
-    }
 }
 
 /// Work areas in states of code files of a version.
