@@ -92,7 +92,8 @@ fn may_hold(table: u16, area: AreaState) -> bool
     }
 }
 
-fn others_hold(table: u16, selected: u8, areas: &[AreaState]) -> bool
+/// Whether another of these work areas than the selected one, counted from 1, holds the table, or may hold it.
+pub fn others_hold(table: u16, selected: u8, areas: &[AreaState]) -> bool
     ensures { result ≡ others_hold_of table selected 1 areas.now }
 {
     let mut number = 1u128;

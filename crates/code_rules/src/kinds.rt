@@ -4,7 +4,7 @@ ghost use Rattle.std.specs.Prelude.{◌≡◌, [], ◌∷◌, reverse, slice_get
 ghost use Rattle.xvalue.specs.declared.kind.Kind.TheVariants.{Number};
 ghost use Rattle.code_rules.specs.Wants.{fields_at as fields_at_of, field_kind as field_kind_of};
 ghost use Rattle.code_rules.specs.Wants.{if_known as known_kind, value_wants, flow_wants, screen_wants, move_wants};
-ghost use Rattle.code_rules.specs.Wants.{record_wants, wants as wants_of, kind_asked};
+ghost use Rattle.code_rules.specs.Wants.{record_wants, wants as wants_of, kind_asked as kind_of_answer};
 ghost use Rattle.code_rules.specs.Wants.{constant_kind as constant_kind_of, value_gives, screen_gives, record_gives};
 ghost use Rattle.code_rules.specs.Wants.{gives as gives_of_instr};
 
@@ -139,8 +139,9 @@ pub fn wants(declared: &Declared, desk: &Desk, instr: Instr) -> &'static [Kind]
     }
 }
 
-fn asked(question: Question) -> Kind
-    ensures { result ≡ kind_asked question }
+/// The kind of a question's answer.
+pub fn kind_asked(question: Question) -> Kind
+    ensures { result ≡ kind_of_answer question }
 {
     match question {
         Question::Recno | Question::Reccount => Kind::Number,
@@ -185,7 +186,7 @@ fn given_by_records(declared: &Declared, desk: &Desk, instr: RecordInstr) -> Opt
     match instr {
         RecordInstr::Field { area, field } => Some(field_kind(declared, desk, area, field)),
         RecordInstr::RowField(field) => Some(field_kind(declared, desk, desk.selected, field)),
-        RecordInstr::Ask(question) => Some(Some(asked(question))),
+        RecordInstr::Ask(question) => Some(Some(kind_asked(question))),
         _ => None,
     }
 }
