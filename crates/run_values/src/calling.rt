@@ -150,20 +150,6 @@ pub fn number_of_date(fun: Fun, date: Day) -> Option<Num>
     }
 }
 
-/// The number that LEN or VAL gives of a text; none of another function.
-#[tactic(auto, unfolding(xvalue::specs::Functions::applied))]
-pub fn number_of_text(fun: Fun, text: &[u8]) -> Option<Num>
-    requires { length text.now ≤ 254 }
-    ensures { (settings : AnySettings) → IfSome result (λ number.
-        IsGiven fun settings (IsText (record { items = text.now }) ∷ []) (IsNumber number)) }
-{
-    match fun {
-        Fun::Len => Some(Num::from(text.len() as u32)),
-        Fun::Val => Some(Num::parse_prefix(text)),
-        _ => None,
-    }
-}
-
 /// CTOD of a text; none of another function.
 #[tactic(auto, unfolding(xvalue::specs::Functions::applied))]
 pub fn date_of_text(fun: Fun, text: &[u8]) -> Option<Day>
