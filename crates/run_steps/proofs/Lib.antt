@@ -1,6 +1,6 @@
 pub mod Lasts
-mod LeadingSteps
-mod Rows
+pub mod LeadingSteps
+pub mod Rows
 mod BlockSteps
 mod Drafts
 pub mod Walks

@@ -7,7 +7,7 @@ ghost use Rattle.xvalue.specs.Setting.{with_setting};
 ghost use Rattle.xvalue.specs.Shown.{shown};
 ghost use Rattle.work_area.specs.Areas.{here, selected_use};
 ghost use Rattle.run_steps.specs.Effects.{filter_here};
-ghost use Rattle.run_steps.specs.World.{with_store, with_screen, with_lines, with_settings};
+ghost use Rattle.run_steps.specs.World.{with_screen, with_lines, with_settings};
 
 use crate::filtering::Moment;
 use calendar::Day;
@@ -30,8 +30,6 @@ pub struct Environment<K: KeyList> {
 }
 
 impl<K: KeyList> Model for Environment<K> {
-    ghost use Rattle.work_area.specs.Areas.{here, selected_use};
-    ghost use Rattle.run_steps.specs.Effects.{filter_here};
     ghost use Rattle.run_steps.specs.World.{EnvState};
 
     ghost Value = { EnvState };

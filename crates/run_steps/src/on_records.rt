@@ -1,7 +1,6 @@
 //! Instructions on records.
 
-ghost use Rattle.std.specs.Prelude.{◌≡◌, ◌≤◌, ◌<◌, ◌∷◌, ℕ, Bool, List, [], Ok, Err, IsTrue, MatchResult, MatchBool};
-ghost use Rattle.std.specs.Prelude.{IfSome, IsSome, length, slice_get, unwrap_or};
+ghost use Rattle.std.specs.Prelude.{◌≡◌, ◌≤◌, ℕ, Bool, List, IfSome, IsSome, MatchBool};
 ghost use Rattle.std.specs.Fn.{FnReturnsAt};
 ghost use Rattle.dbf_file.specs.Rows.{Row as TheRow};
 ghost use Rattle.dbf_file.specs.Tables.{StructureState, letter_at};
@@ -13,8 +12,7 @@ ghost use Rattle.code_items.specs.declared.instr.Instr.TheVariants.{Records as O
 ghost use Rattle.code_items.specs.declared.instr.RecordInstr.TheVariants.{Append as OfAppend};
 ghost use Rattle.code_items.specs.declared.code.Code.{Code as AnyCode};
 ghost use Rattle.run_values.specs.Tagged.{TaggedValues, pushed};
-ghost use Rattle.run_steps.specs.Effects.{answer as answer_of, index_in, closing_store, closing_met, store_closed};
-ghost use Rattle.run_steps.specs.Effects.{closing_cost};
+ghost use Rattle.run_steps.specs.Effects.{answer as answer_of, index_in, closing_store, closing_met};
 ghost use Rattle.run_steps.specs.Executed.{Executed};
 ghost use Rattle.run_steps.specs.Filters.{viewing, shown_by, filter_block, is_visible as visible};
 ghost use Rattle.run_steps.specs.Needs.{FilterNeeds, HasField, TakesField, RecordNeeds, ClosingNeeds, IsClosing};
@@ -159,6 +157,7 @@ fn close_with<K: KeyList, F: Fn(&Row<'_>) -> bool>(
             see,
             left,
         )),
+        // Only instructions that end with TOP are handed in, and there are no others.
         _ => unreachable!(),
     }
 }
@@ -260,6 +259,7 @@ pub fn on_records<V: Values, K: KeyList>(
             env.store.recall();
             Ok(1)
         }
+        // The others end with TOP, and were carried out above.
         _ => unreachable!(),
     }
 }
