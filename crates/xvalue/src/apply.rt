@@ -31,7 +31,9 @@ pub fn apply(fun: Fun, settings: Settings, arguments: &Arguments<'_>) -> Value
     }
 }
 
-/// The result of a function that gives a number of two numbers. It takes no memory.
+/// The result of a function that gives a number of two numbers. It takes no memory. (Where the function is known, its
+/// arm alone is left.)
+#[inline(always)]
 #[tactic(auto, unfolding(crate::specs::Functions::applied))]
 pub fn number_of_two(fun: Fun, first: Num, second: Num) -> Num
     requires takes { takes_of fun ≡ Kind.Number ∷ Kind.Number ∷ [] }
