@@ -1,5 +1,6 @@
 -- Names have no zero byte, and begin with no byte 13.
-use Rattle.std.proofs.Common.{◌≡◌, ◌==◌, ℕ, zero, suc, ◌<◌, ◌≤◌, List, [], ◌∷◌, length, get_or, true, false, Contains, sym, ap, ◌∙◌, arith}
+use Rattle.std.proofs.Common.{◌≡◌, ◌==◌, ℕ, zero, suc, ◌<◌, ◌≤◌, List, [], ◌∷◌, length, get_or, true, false, Contains}
+use Rattle.std.proofs.Common.{sym, ap, ◌∙◌, arith}
 use Rattle.std.specs.List.{list_all}
 use Rattle.std.specs.Char.{is_ascii_alphabetic}
 use Rattle.std.proofs.lemmas.Bool.{ne_eqb, leb-true}
@@ -20,7 +21,8 @@ unfolding is_name
 no_zero name good (k, within, is_zero) = zero_at name k (both_true _ _ good).1 within is_zero
 
 no_end : (c : ℕ) → is_ascii_alphabetic c ≡ true → c == 13 ≡ false
-no_end c letter = ne_eqb c 13 (λ is_end. let clash : is_ascii_alphabetic 13 ≡ true = ap is_ascii_alphabetic (sym is_end) ∙ letter in let no : false ≡ true = clash in cc)
+no_end c letter = ne_eqb c 13 (λ is_end. let clash : is_ascii_alphabetic 13 ≡ true = ap is_ascii_alphabetic (sym is_end)
+    ∙ letter in let no : false ≡ true = clash in cc)
 
 -- a name has a first byte, and that is none of 13
 pub first_of_name : (name : List ℕ) → is_name name ≡ true → (0 < length name) × (get_or name 0 0 == 13 ≡ false)

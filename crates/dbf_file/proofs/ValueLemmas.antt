@@ -1,5 +1,7 @@
 -- Values written and read.
-use Rattle.std.proofs.Common.{◌≡◌, ◌==◌, ℕ, zero, suc, ◌+◌, ◌-◌, ◌/◌, ◌%◌, ◌<◌, ◌≤◌, ℤ, pos, List, [], ◌∷◌, ◌++◌, length, get_or, min, Bool, true, false, ◌&&◌, cond, Option, Some, None, refl, sym, ap, ◌∙◌, arith, replicate, reverse, take, eq-eqb, length-append}
+use Rattle.std.proofs.Common.{◌≡◌, ◌==◌, ℕ, zero, suc, ◌+◌, ◌-◌, ◌/◌, ◌%◌, ◌<◌, ◌≤◌, ℤ, pos, List, [], ◌∷◌, ◌++◌}
+use Rattle.std.proofs.Common.{length, get_or, min, Bool, true, false, ◌&&◌, cond, Option, Some, None, refl, sym, ap}
+use Rattle.std.proofs.Common.{◌∙◌, arith, replicate, reverse, take, eq-eqb, length-append}
 use Rattle.std.specs.List.{AllByRecursion}
 use Rattle.std.proofs.lemmas.Bool.{le-leb}
 use Rattle.std.proofs.lemmas.List.{take_all, length-take, length-replicate}
@@ -19,7 +21,8 @@ use Rattle.dbf_file.specs.declared.field.Field.{Field}
 use Rattle.dbf_file.specs.Fields.{has_shape, is_field, fields_go_on, are_fields}
 use Rattle.dbf_file.specs.Rows.{Row, rows_in, rows_text, with_text}
 use Rattle.dbf_file.specs.Lending.{place_of_field, put_within, rows_left}
-use Rattle.dbf_file.specs.Values.{kind_for, is_all_blanks, is_yes, number_in, day_in, value_by, value_of, fitted_text, stored_day, logical_text, text_by, text_for, FitsWidth, FitsField, kept_of}
+use Rattle.dbf_file.specs.Values.{kind_for, is_all_blanks, is_yes, number_in, day_in, value_by, value_of, fitted_text}
+use Rattle.dbf_file.specs.Values.{stored_day, logical_text, text_by, text_for, FitsWidth, FitsField, kept_of}
 use Rattle.dbf_file.specs.Tables.{TableState, row_widths}
 use Rattle.dbf_file.proofs.TableLemmas.{state}
 use Rattle.dbf_file.proofs.ChoiceLemmas.{both_true, true_both}
@@ -27,16 +30,22 @@ use Rattle.dbf_file.proofs.FileLemmas.{good_fields}
 
 -- ---- laws on fields and rows
 
-each_good : (fields earlier : List Field) → fields_go_on earlier fields ≡ true → AllByRecursion (λ f. is_field f ≡ true) fields
+each_good : (fields earlier : List Field) → fields_go_on earlier fields ≡ true
+    → AllByRecursion (λ f. is_field f ≡ true) fields
 each_good [] earlier good = tt
-each_good (f ∷ fs) earlier good = let parts = both_true _ _ good in ((both_true _ _ parts.0).0, each_good fs (earlier ++ f ∷ []) parts.1)
+each_good (f ∷ fs) earlier good =
+    let parts = both_true _ _ good in ((both_true _ _ parts.0).0, each_good fs (earlier ++ f ∷ []) parts.1)
 
 pub fields_are_good : (fields : List Field) → are_fields fields ≡ true → AllByRecursion (λ f. is_field f ≡ true) fields
 fields_are_good fields are = each_good fields [] (good_fields fields are).good
 
-pub texts_are_left : (widths : List ℕ) (rows : List Row) (r f : ℕ) (text : List ℕ) → length text ≡ get_or widths f 0 → rows_left widths rows r f text ≡ with_text rows r f text
+pub texts_are_left : (widths : List ℕ) (rows : List Row) (r f : ℕ) (text : List ℕ) → length text ≡ get_or widths f 0
+    → rows_left widths rows r f text ≡ with_text rows r f text
 unfolding rows_left
-texts_are_left widths rows r f text fits = ap (λ (b : Bool). cond b (with_text rows r f text) (rows_in widths (length rows) (put_within (place_of_field widths r f) text (rows_text rows)))) (eq-eqb (length text) (get_or widths f 0) fits)
+texts_are_left widths rows r f text fits = ap
+    (λ (b : Bool). cond b (with_text rows r f text)
+    (rows_in widths (length rows) (put_within (place_of_field widths r f) text (rows_text rows))))
+    (eq-eqb (length text) (get_or widths f 0) fits)
 
 -- ---- numbers
 
@@ -58,7 +67,8 @@ only_blanks (c ∷ cs) blank =
     ap (λ (b : Bool). cond b (without_blanks cs) (c ∷ cs)) parts.0 ∙ only_blanks cs parts.1
 
 blank_is_zero : (text : List ℕ) → is_all_blanks text ≡ true → parsed text ≡ finite (pos 0) 0
-blank_is_zero text blank = ap (λ (cs : List ℕ). signed_read (reverse (without_blanks (reverse cs)))) (only_blanks text blank)
+blank_is_zero text blank =
+    ap (λ (cs : List ℕ). signed_read (reverse (without_blanks (reverse cs)))) (only_blanks text blank)
 
 zero_text : is_all_blanks (text_of (finite (pos 0) 0)) ≡ false
 unfolding whole_digits
@@ -72,16 +82,21 @@ never_blank x true back e =
     let clash : true ≡ false = sym e ∙ ap (λ y. is_all_blanks (text_of y)) none ∙ zero_text in
     clash
 
-number_back : (width decimals : ℕ) (x : Decimal) → parsed (text_of x) ≡ x → length (text_of x) ≤ width → number_in decimals (at_right width (text_of x)) ≡ x
+number_back : (width decimals : ℕ) (x : Decimal) → parsed (text_of x) ≡ x → length (text_of x) ≤ width
+    → number_in decimals (at_right width (text_of x)) ≡ x
 number_back width decimals x back room =
     let text : List ℕ = text_of x in
     let field : List ℕ = replicate (width - length text) 32 ++ text in
-    let stands : at_right width text ≡ field = ap (λ (b : Bool). cond b field (replicate width 42)) (le-leb (length text) width room) in
+    let stands : at_right width text ≡ field =
+    ap (λ (b : Bool). cond b field (replicate width 42)) (le-leb (length text) width room) in
     ap (number_in decimals) stands
-    ∙ ap (λ (b : Bool). cond b (finite (pos 0) (min decimals 15)) (parsed field)) (blank_behind (width - length text) text ∙ never_blank x (is_all_blanks text) back refl)
+    ∙ ap (λ (b : Bool). cond b (finite (pos 0) (min decimals 15)) (parsed field))
+    (blank_behind (width - length text) text ∙ never_blank x (is_all_blanks text) back refl)
     ∙ read_right (width - length text) text ∙ back
 
-number_kept : (width decimals : ℕ) (x : Decimal) → ((m : ℤ) (d : ℕ) → IsInRange (finite m d) → parsed (text_of (finite m d)) ≡ finite m d) → IsInRange x → FitsWidth width x → number_in decimals (in_field width x) ≡ x
+number_kept : (width decimals : ℕ) (x : Decimal)
+    → ((m : ℤ) (d : ℕ) → IsInRange (finite m d) → parsed (text_of (finite m d)) ≡ finite m d) → IsInRange x
+    → FitsWidth width x → number_in decimals (in_field width x) ≡ x
 number_kept width decimals asterisk reads good room = absurd room
 number_kept width decimals (finite m d) reads good room = number_back width decimals (finite m d) (reads m d good) room
 
@@ -104,7 +119,8 @@ short_month false b false = omega arith
 
 day_good : (parts : DayParts) → IsDay parts → is_day parts ≡ true
 day_good parts is = true_both _ _ (true_both _ _ (le-leb 1 _ is.year.0) (le-leb _ 9999 is.year.1))
-    (true_both _ _ (true_both _ _ (le-leb 1 _ is.month.0) (le-leb _ 12 is.month.1)) (true_both _ _ (le-leb 1 _ is.day.0) (le-leb parts.day (month_length parts) is.day.1)))
+    (true_both _ _ (true_both _ _ (le-leb 1 _ is.month.0) (le-leb _ 12 is.month.1))
+    (true_both _ _ (le-leb 1 _ is.day.0) (le-leb parts.day (month_length parts) is.day.1)))
 
 pub day_back : (day : Option DayParts) → HasDay day → day_in (stored_day day) ≡ day
 day_back None is = refl
@@ -114,17 +130,26 @@ day_back (Some parts) is =
     let d : ℕ = parts.day in
     let short : month_length parts ≤ 31 = short_month _ _ _ in
     let digits : are_digits (stored_day (Some parts)) ≡ true =
-    true_both _ _ (digit_is (y / 1000 % 10) (omega arith)) (true_both _ _ (digit_is (y / 100 % 10) (omega arith)) (true_both _ _ (digit_is (y / 10 % 10) (omega arith)) (true_both _ _ (digit_is (y / 1 % 10) (omega arith))
-    (true_both _ _ (digit_is (m / 10 % 10) (omega arith)) (true_both _ _ (digit_is (m / 1 % 10) (omega arith)) (true_both _ _ (digit_is (d / 10 % 10) (omega arith)) (true_both _ _ (digit_is (d / 1 % 10) (omega arith)) refl))))))) in
+    true_both _ _ (digit_is (y / 1000 % 10) (omega arith))
+    (true_both _ _ (digit_is (y / 100 % 10) (omega arith))
+    (true_both _ _ (digit_is (y / 10 % 10) (omega arith)) (true_both _ _ (digit_is (y / 1 % 10) (omega arith))
+    (true_both _ _ (digit_is (m / 10 % 10) (omega arith))
+    (true_both _ _ (digit_is (m / 1 % 10) (omega arith))
+    (true_both _ _ (digit_is (d / 10 % 10) (omega arith))
+    (true_both _ _ (digit_is (d / 1 % 10) (omega arith)) refl))))))) in
     let read : ℕ → ℕ → ℕ → Option DayParts = λ a b c. day_or_blank (day_at a b c) in
-    ap (λ (t : Bool). cond (t && true) (read (with_digits 0 (last_digits 4 y)) (with_digits 0 (last_digits 2 m)) (with_digits 0 (last_digits 2 d))) None) digits
-    ∙ ap (λ a. read a (with_digits 0 (last_digits 2 m)) (with_digits 0 (last_digits 2 d))) (four_read y (omega (arith, is.year.1)))
+    ap (λ (t : Bool). cond (t && true)
+    (read (with_digits 0 (last_digits 4 y)) (with_digits 0 (last_digits 2 m)) (with_digits 0 (last_digits 2 d)))
+    None) digits
+    ∙ ap (λ a. read a (with_digits 0 (last_digits 2 m)) (with_digits 0 (last_digits 2 d)))
+    (four_read y (omega (arith, is.year.1)))
     ∙ ap (λ b. read y b (with_digits 0 (last_digits 2 d))) (two_read m (omega (arith, is.month.1)))
     ∙ ap (λ c. read y m c) (two_read d (omega (arith, is.day.1, short)))
     ∙ ap (λ (b : Bool). cond b (Some parts) None) (day_good parts is)
 
 length-fitted : (width : ℕ) (text : List ℕ) → length (fitted_text width text) ≡ width
-length-fitted width text = length-append (take width text) (replicate (width - length text) 32) ∙ omega (arith, length-take width text, length-replicate {A = ℕ} (width - length text) 32)
+length-fitted width text = length-append (take width text) (replicate (width - length text) 32)
+    ∙ omega (arith, length-take width text, length-replicate {A = ℕ} (width - length text) 32)
 
 -- a day fills eight bytes
 whole_day : (day : Option DayParts) → fitted_text 8 (stored_day day) ≡ stored_day day
@@ -133,27 +158,35 @@ whole_day (Some parts) = refl
 
 -- ---- values
 
-pub value_back : (law : (m : ℤ) (d : ℕ) → IsInRange (finite m d) → parsed (text_of (finite m d)) ≡ finite m d) (f : Field) (v : Value) (letter : Letter) →
-    f.letter ≡ letter → kind_of v ≡ kind_for letter → FitsField f v → value_by letter f.decimals (text_by f.width f.decimals v) ≡ kept_of f v
+pub value_back : (law : (m : ℤ) (d : ℕ) → IsInRange (finite m d) → parsed (text_of (finite m d)) ≡ finite m d)
+    (f : Field) (v : Value) (letter : Letter) →
+    f.letter ≡ letter → kind_of v ≡ kind_for letter → FitsField f v
+    → value_by letter f.decimals (text_by f.width f.decimals v) ≡ kept_of f v
 value_back law f (Number number) C same kind fits = cc
-value_back law f (Number number) N same kind fits = ap Number (number_kept f.width f.decimals (rounded_at (pos (min f.decimals 15)) number) law fits.0 fits.1)
+value_back law f (Number number) N same kind fits =
+    ap Number (number_kept f.width f.decimals (rounded_at (pos (min f.decimals 15)) number) law fits.0 fits.1)
 value_back law f (Number number) D same kind fits = cc
 value_back law f (Number number) L same kind fits = cc
-value_back law f (Text text) C same kind fits = ap (λ (items : List ℕ). Text (record { items = items })) (take_all 254 (fitted_text f.width text.items) (omega (arith, length-fitted f.width text.items, fits)))
+value_back law f (Text text) C same kind fits = ap (λ (items : List ℕ). Text (record { items = items }))
+    (take_all 254 (fitted_text f.width text.items) (omega (arith, length-fitted f.width text.items, fits)))
 value_back law f (Text text) N same kind fits = cc
 value_back law f (Text text) D same kind fits = cc
 value_back law f (Text text) L same kind fits = cc
 value_back law f (Date day) C same kind fits = cc
 value_back law f (Date day) N same kind fits = cc
-value_back law f (Date day) D same kind fits = ap Date (ap day_in (ap (λ w. fitted_text w (stored_day day)) fits.1 ∙ whole_day day) ∙ day_back day fits.0)
+value_back law f (Date day) D same kind fits =
+    ap Date (ap day_in (ap (λ w. fitted_text w (stored_day day)) fits.1 ∙ whole_day day) ∙ day_back day fits.0)
 value_back law f (Date day) L same kind fits = cc
 value_back law f (Logical truth) C same kind fits = cc
 value_back law f (Logical truth) N same kind fits = cc
 value_back law f (Logical truth) D same kind fits = cc
-value_back law f (Logical true) L same kind fits = ap (λ w. Logical (is_yes (get_or (fitted_text w (logical_text true)) 0 0))) fits
-value_back law f (Logical false) L same kind fits = ap (λ w. Logical (is_yes (get_or (fitted_text w (logical_text false)) 0 0))) fits
+value_back law f (Logical true) L same kind fits =
+    ap (λ w. Logical (is_yes (get_or (fitted_text w (logical_text true)) 0 0))) fits
+value_back law f (Logical false) L same kind fits =
+    ap (λ w. Logical (is_yes (get_or (fitted_text w (logical_text false)) 0 0))) fits
 
-pub read_back : (law : (m : ℤ) (d : ℕ) → IsInRange (finite m d) → parsed (text_of (finite m d)) ≡ finite m d) (f : Field) (v : Value) → kind_of v ≡ kind_for f.letter → FitsField f v → value_of f (text_for f v) ≡ kept_of f v
+pub read_back : (law : (m : ℤ) (d : ℕ) → IsInRange (finite m d) → parsed (text_of (finite m d)) ≡ finite m d)
+    (f : Field) (v : Value) → kind_of v ≡ kind_for f.letter → FitsField f v → value_of f (text_for f v) ≡ kept_of f v
 unfolding value_of text_for
 read_back law f v kind fits = value_back law f v f.letter refl kind fits
 
@@ -163,23 +196,32 @@ shape_of f good = (both_true _ _ good).1
 
 -- ---- the fields of a table
 
-each_at : (fields : List Field) (f : ℕ) (x : Field) → AllByRecursion (λ g. is_field g ≡ true) fields → f < length fields → x ≡ get_or fields f x → is_field x ≡ true
+each_at : (fields : List Field) (f : ℕ) (x : Field) → AllByRecursion (λ g. is_field g ≡ true) fields → f < length fields
+    → x ≡ get_or fields f x → is_field x ≡ true
 each_at [] f x each below at = absurd (omega arith)
 each_at (g ∷ gs) zero x each below at = ap is_field at ∙ each.0
 each_at (g ∷ gs) (suc f) x each below at = each_at gs f x each.1 (omega arith) at
 
-pub shape_at : (fields there : List Field) (f : ℕ) (x copy : Field) → are_fields fields ≡ true → f < length fields → there ≡ fields → x ≡ get_or there f x → copy ≡ x → has_shape copy.letter copy.width copy.decimals ≡ true
+pub shape_at : (fields there : List Field) (f : ℕ) (x copy : Field) → are_fields fields ≡ true → f < length fields
+    → there ≡ fields → x ≡ get_or there f x → copy ≡ x → has_shape copy.letter copy.width copy.decimals ≡ true
 shape_at fields there f x copy are below same at copied =
-    shape_of copy (ap is_field copied ∙ each_at fields f x (fields_are_good fields are) below (at ∙ ap (λ (xs : List Field). get_or xs f x) same))
+    shape_of copy (ap is_field copied ∙ each_at fields f x (fields_are_good fields are) below
+    (at ∙ ap (λ (xs : List Field). get_or xs f x) same))
 
-pub value_is : (f : Field) (letter : Letter) (decimals : ℕ) (text wanted : List ℕ) → f.letter ≡ letter → f.decimals ≡ decimals → text ≡ wanted → value_of f text ≡ value_by letter decimals wanted
+pub value_is : (f : Field) (letter : Letter) (decimals : ℕ) (text wanted : List ℕ) → f.letter ≡ letter
+    → f.decimals ≡ decimals → text ≡ wanted → value_of f text ≡ value_by letter decimals wanted
 unfolding value_of
-value_is f letter decimals text wanted a b c = ap (λ (l : Letter). value_by l f.decimals text) a ∙ ap (λ d. value_by letter d text) b ∙ ap (value_by letter decimals) c
+value_is f letter decimals text wanted a b c = ap (λ (l : Letter). value_by l f.decimals text) a
+    ∙ ap (λ d. value_by letter d text) b ∙ ap (value_by letter decimals) c
 
-pub put_is : (t : TableState) (r f : ℕ) (field : Field) (v : Value) (width decimals : ℕ) (text : List ℕ) → text ≡ text_for field v → length text ≡ get_or (row_widths t.structure) f 0 → field.width ≡ width → field.decimals ≡ decimals →
-    state t.structure (rows_left (row_widths t.structure) t.rows r f text) t.spare ≡ record t { rows = with_text t.rows r f (text_by width decimals v) }
+pub put_is : (t : TableState) (r f : ℕ) (field : Field) (v : Value) (width decimals : ℕ) (text : List ℕ)
+    → text ≡ text_for field v → length text ≡ get_or (row_widths t.structure) f 0 → field.width ≡ width
+    → field.decimals ≡ decimals →
+    state t.structure (rows_left (row_widths t.structure) t.rows r f text) t.spare
+    ≡ record t { rows = with_text t.rows r f (text_by width decimals v) }
 unfolding text_for
 put_is t r f field v width decimals text made fits a b =
     let rows : List Row → TableState = λ rs. state t.structure rs t.spare in
     ap rows (texts_are_left (row_widths t.structure) t.rows r f text fits)
-    ∙ ap (λ (xs : List ℕ). rows (with_text t.rows r f xs)) (made ∙ ap (λ k. text_by k field.decimals v) a ∙ ap (λ k. text_by width k v) b)
+    ∙ ap (λ (xs : List ℕ). rows (with_text t.rows r f xs))
+    (made ∙ ap (λ k. text_by k field.decimals v) a ∙ ap (λ k. text_by width k v) b)

@@ -1,6 +1,6 @@
 //! The descriptors of fields.
 
-ghost use Rattle.std.specs.Prelude.{◌≡◌, ◌+◌, ◌≤◌, ◌<◌, length, [], position, ◌==◌, IfSome, IfOk, MatchResult, Ok, Err};
+ghost use Rattle.std.specs.Prelude.{◌≡◌, ◌≤◌, ◌<◌, length, [], position, ◌==◌, IfSome, IfOk, MatchResult, Ok, Err};
 ghost use Rattle.dbf_file.specs.Descriptors.{decimals_of, field_with, if_field, told_field as told_field_of, if_new};
 ghost use Rattle.dbf_file.specs.Descriptors.{next_told, fields_from};
 

@@ -1,6 +1,6 @@
 //! The fields of a table.
 
-ghost use Rattle.std.specs.Prelude.{◌≡◌, ◌≤◌, ◌+◌, ◌<◌, ◌++◌, ◌∷◌, [], length, slice_index, ◌&&◌};
+ghost use Rattle.std.specs.Prelude.{◌≡◌, ◌≤◌, ◌<◌, [], length, slice_index, ◌&&◌};
 ghost use Rattle.std.specs.List.{list_all, list_any};
 ghost use Rattle.dbf_file.specs.Names.{is_name_byte, begins_with_letter, is_name as is_name_of};
 ghost use Rattle.dbf_file.specs.Names.{same_name as same_name_of};

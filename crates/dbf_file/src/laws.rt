@@ -1,6 +1,6 @@
 //! What follows from the definitions, for the crates above. Each function does nothing: its contract is the law.
 
-ghost use Rattle.std.specs.Prelude.{◌≡◌, ℕ, ◌≤◌, List, length, slice_index, true};
+ghost use Rattle.std.specs.Prelude.{◌≡◌, ℕ, List, length, slice_index, true};
 ghost use Rattle.std.specs.List.{AllByRecursion};
 ghost use Rattle.xvalue.specs.Kinds.{kind_of};
 ghost use Rattle.xvalue.specs.declared.value.Value.{Value as TheValue};

@@ -16,6 +16,6 @@ mod writing;
 pub use fault::DbfFault;
 pub use field::{Field, Letter, MAX_NAME, are_fields};
 pub use stamp::Stamp;
-pub use structure::Structure;
+pub use structure::{Structure, copied_fields};
 pub use table::{Table, read, read_in_place, write};
 pub use values::{put, value};

@@ -1,7 +1,7 @@
 //! Numbers in a file, the lowest byte first.
 
 ghost use Rattle.std.specs.Prelude.{◌≡◌, ◌+◌, ◌^◌, ◌<◌, ◌≤◌, length};
-ghost use Rattle.dbf_file.specs.Numbers.{number_at, number_text};
+ghost use Rattle.dbf_file.specs.Numbers.{number_at};
 
 use byteorder::{ByteOrder, LittleEndian};
 

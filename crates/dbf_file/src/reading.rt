@@ -1,10 +1,9 @@
 //! The layout of a table's file, and the first fault of bytes that have none.
 
-ghost use Rattle.std.specs.Prelude.{◌≡◌, ℕ, ◌+◌, ◌*◌, ◌<◌, ◌≤◌, length, drop, slice_range, MatchResult, IfOk, Some};
-ghost use Rattle.std.specs.Prelude.{None, Ok};
-ghost use Rattle.dbf_file.specs.Fields.{widths_of, size_of as size_of_fields};
+ghost use Rattle.std.specs.Prelude.{◌≡◌, ◌*◌, ◌<◌, ◌≤◌, length, MatchResult, IfOk, Some};
+ghost use Rattle.std.specs.Prelude.{None};
 ghost use Rattle.dbf_file.specs.Rows.{is_mark as is_mark_of, are_marked as are_marked_of};
-ghost use Rattle.dbf_file.specs.Faults.{told_count, told_header, told_size, told_fields, first_fault};
+ghost use Rattle.dbf_file.specs.Faults.{first_fault};
 ghost use Rattle.dbf_file.specs.Layouts.{IsLayout};
 
 use crate::descriptors::fields_of;

@@ -22,7 +22,7 @@ impl Model for Structure {
 }
 
 /// The same fields once more, in a vector.
-fn copies_of(alloc: Global, fields: &[Field]) -> Result<Vec<Field>, AllocError>
+pub fn copied_fields(alloc: Global, fields: &[Field]) -> Result<Vec<Field>, AllocError>
     ensures { IfOk result (λ copies. copies.items ≡ fields.now) }
 {
     let mut copies = Vec::with_capacity(alloc, fields.len())?;
@@ -43,7 +43,7 @@ impl Structure {
         ensures head { IfOk result (λ structure. structure.head ≡ head.now) }
     {
         Ok(Structure {
-            fields: copies_of(alloc, fields)?,
+            fields: copied_fields(alloc, fields)?,
             head: Vec::from_slice(alloc, head)?,
         })
     }

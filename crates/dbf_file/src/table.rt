@@ -1,6 +1,6 @@
 //! Tables.
 
-ghost use Rattle.std.specs.Prelude.{◌≡◌, ℕ, ◌+◌, ◌*◌, ◌^◌, ◌<◌, ◌≤◌, ◌++◌, ◌∷◌, [], List, length, take, slice_index};
+ghost use Rattle.std.specs.Prelude.{◌≡◌, ℕ, ◌+◌, ◌*◌, ◌^◌, ◌<◌, ◌≤◌, ◌++◌, ◌∷◌, [], List, length, slice_index};
 ghost use Rattle.std.specs.Prelude.{slice_range, IsTrue, IfOk, OnOk, OnErr, MatchResult, Some, None, ◌⊎◌, vec_capacity};
 ghost use Rattle.std.specs.Prelude.{true};
 ghost use Rattle.std.specs.Borrow.{sem};

@@ -1,7 +1,7 @@
 //! What a field's text stands for.
 
-ghost use Rattle.std.specs.Prelude.{◌≡◌, ℕ, ◌+◌, ◌-◌, ◌/◌, ◌%◌, ◌<◌, ◌≤◌, ◌++◌, ◌==◌, min, pos, length, take};
-ghost use Rattle.std.specs.Prelude.{slice_index, true, Some, IfSome, ◌^◌};
+ghost use Rattle.std.specs.Prelude.{◌≡◌, ◌+◌, ◌/◌, ◌%◌, ◌<◌, ◌≤◌, pos, length, take};
+ghost use Rattle.std.specs.Prelude.{slice_index, true, IfSome, ◌^◌};
 ghost use Rattle.fixed_num.specs.Number.{finite};
 ghost use Rattle.fixed_num.specs.Reading.{are_digits, with_digits};
 ghost use Rattle.xvalue.specs.Kinds.{kind_of};
@@ -11,7 +11,7 @@ ghost use Rattle.dbf_file.specs.Values.{stored_day as day_text_of, logical_text 
 
 use crate::field::{Field, Letter, MAX_DECIMALS};
 use calendar::{Day, DayParts};
-use fixed_num::{Num, Parts, without_blanks};
+use fixed_num::{Num, Parts, are_digits, without_blanks};
 use xvalue::{Kind, Text, Value, text_from};
 
 /// The most bytes of a text value.
@@ -91,18 +91,6 @@ pub(crate) fn number_in(decimals: u8, text: &[u8]) -> Num
     } else {
         Num::parse(text)
     }
-}
-
-/// Whether there are digits alone.
-fn are_digits(text: &[u8]) -> bool
-    ensures { result ≡ are_digits text.now }
-{
-    for byte in text {
-        if !byte.is_ascii_digit() {
-            return false;
-        }
-    }
-    true
 }
 
 /// The number of at most four digits.

@@ -1,6 +1,6 @@
 //! The bytes of a table's file, part by part.
 
-ghost use Rattle.std.specs.Prelude.{◌≡◌, ℕ, ◌+◌, ◌*◌, ◌-◌, ◌^◌, ◌<◌, ◌≤◌, ◌++◌, ◌∷◌, ◌==◌, [], List, length, drop};
+ghost use Rattle.std.specs.Prelude.{◌≡◌, ℕ, ◌*◌, ◌^◌, ◌<◌, ◌≤◌, ◌++◌, ◌∷◌, ◌==◌, [], List, length, drop};
 ghost use Rattle.std.specs.Prelude.{slice_index, replicate, OnOk};
 ghost use Rattle.dbf_file.specs.Numbers.{number_text};
 ghost use Rattle.dbf_file.specs.Fields.{size_of as size_of_fields};

@@ -1,10 +1,10 @@
 // Files in memory.
 #![tactic(auto)]
 
-ghost use Rattle.std.specs.Prelude.{◌≡◌, ◌<◌, ◌≤◌, ◌+◌, ◌-◌, ◌^◌, ◌⊎◌, ℕ, true, false, List, [], ◌∷◌, Option, Some};
-ghost use Rattle.std.specs.Prelude.{None, length, IfOk, IfErr, OnErr, OnOk, IsErrOf, MatchOption, string_bytes};
+ghost use Rattle.std.specs.Prelude.{◌≡◌, ◌≤◌, ℕ, true, false, List, [], ◌∷◌, Option, Some};
+ghost use Rattle.std.specs.Prelude.{IfOk, OnErr, OnOk, MatchOption, string_bytes};
 ghost use Rattle.std.specs.Option.{option_copied};
-ghost use Rattle.file_access.specs.Holding.{Rose, SameFiles, IsReplaced, HoldsOneThing};
+ghost use Rattle.file_access.specs.Holding.{Rose, HoldsOneThing};
 ghost use Rattle.file_access.specs.InMemory.{HoldsFile, HoldsWritten};
 ghost use Rattle.file_access.specs.declared.memory_files.MemoryEntry.{MemoryEntry};
 ghost use Rattle.file_access.specs.declared.memory_files.WrittenFile.{WrittenFile};

@@ -1,5 +1,6 @@
 -- A number's text is text.
-use Rattle.std.proofs.Common.{ℕ, zero, suc, ◌+◌, ◌/◌, ◌%◌, ◌^◌, ◌<◌, Bool, true, false, List, [], ◌∷◌, ◌++◌, replicate, ◌==◌, arith}
+use Rattle.std.proofs.Common.{ℕ, zero, suc, ◌+◌, ◌/◌, ◌%◌, ◌^◌, ◌<◌, Bool, true, false, List, [], ◌∷◌, ◌++◌, replicate}
+use Rattle.std.proofs.Common.{◌==◌, arith}
 use Rattle.std.specs.Prelude.{ℤ, pos, negsuc, unsigned_abs, if◌then◌else◌}
 use Rattle.std.specs.Str.{IsAscii, IsUtf8}
 use Rattle.std.proofs.lemmas.Str.{IsAscii-append, IsUtf8-from_ascii}
@@ -24,7 +25,8 @@ either_ascii xs ys false h g = g
 without_zeros-ascii : (ds : List ℕ) → IsAscii ds → IsAscii (without_zeros ds)
 without_zeros-ascii [] h = h
 without_zeros-ascii (c ∷ []) h = h
-without_zeros-ascii (c ∷ (e ∷ cs)) h = either_ascii (without_zeros (e ∷ cs)) (c ∷ (e ∷ cs)) (c == 48) (without_zeros-ascii (e ∷ cs) (λ i. h (suc i))) h
+without_zeros-ascii (c ∷ (e ∷ cs)) h =
+    either_ascii (without_zeros (e ∷ cs)) (c ∷ (e ∷ cs)) (c == 48) (without_zeros-ascii (e ∷ cs) (λ i. h (suc i))) h
 
 whole_digits-ascii : (n : ℕ) → IsAscii (whole_digits n)
 unfolding whole_digits
@@ -45,7 +47,9 @@ stars (suc k) = ascii_cons 42 (replicate k 42) (omega arith) (stars k)
 text_of-ascii : (x : Number) → IsAscii (text_of x)
 text_of-ascii asterisk = stars 10
 text_of-ascii (finite m d) =
-    IsAscii-append (sign_text m ++ whole_digits (unsigned_abs m / 10 ^ d)) (decimals_text d (unsigned_abs m)) (IsAscii-append (sign_text m) (whole_digits (unsigned_abs m / 10 ^ d)) (sign-ascii m) (whole_digits-ascii (unsigned_abs m / 10 ^ d))) (decimals-ascii d (unsigned_abs m))
+    IsAscii-append (sign_text m ++ whole_digits (unsigned_abs m / 10 ^ d)) (decimals_text d (unsigned_abs m))
+    (IsAscii-append (sign_text m) (whole_digits (unsigned_abs m / 10 ^ d)) (sign-ascii m)
+    (whole_digits-ascii (unsigned_abs m / 10 ^ d))) (decimals-ascii d (unsigned_abs m))
 
 pub text_of-utf8 : (x : Number) → IsUtf8 (text_of x)
 text_of-utf8 x = IsUtf8-from_ascii (text_of x) (text_of-ascii x)

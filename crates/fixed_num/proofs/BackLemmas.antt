@@ -1,5 +1,6 @@
 -- A number's text is read as that number.
-use Rattle.std.proofs.Common.{◌≡◌, ℕ, zero, suc, ◌+◌, ◌-◌, ◌*◌, ◌/◌, ◌%◌, ◌^◌, ◌<◌, ◌≤◌, Bool, true, false, not, ◌&&◌, ◌==◌, List, [], ◌∷◌, ◌++◌, length, reverse, refl, sym, ap, ◌∙◌, subst, arith}
+use Rattle.std.proofs.Common.{◌≡◌, ℕ, zero, suc, ◌+◌, ◌-◌, ◌*◌, ◌/◌, ◌%◌, ◌^◌, ◌<◌, ◌≤◌, Bool, true, false, not, ◌&&◌}
+use Rattle.std.proofs.Common.{◌==◌, List, [], ◌∷◌, ◌++◌, length, reverse, refl, sym, ap, ◌∙◌, subst, arith}
 use Rattle.std.specs.Prelude.{ℤ, pos, negsuc, unsigned_abs, nat_lt, if◌then◌else◌}
 use Rattle.std.proofs.Math.Nat.{mod-lt, mod-eq_of_lt, div-add-mod', div-le_self, one-le-pow, pow-suc, mul-le-mul_right}
 use Rattle.std.proofs.lemmas.Nat.{mod-mul-add}
@@ -9,7 +10,8 @@ use Rattle.std.proofs.lemmas.Bool.Decides.{nat_tests}
 use Rattle.fixed_num.specs.Number.{asterisk, finite, signed, IsInRange, magnitude_limit, most_decimals}
 use Rattle.fixed_num.specs.Arithmetic.{fitted}
 use Rattle.fixed_num.specs.Text.{last_digits, without_zeros, whole_digits, decimals_text, text_of}
-use Rattle.fixed_num.specs.Reading.{without_blanks, trimmed, before_point, after_point, is_digit, are_digits, with_digits, is_numeral, numeral, unsigned_read, signed_read, parsed}
+use Rattle.fixed_num.specs.Reading.{without_blanks, trimmed, before_point, after_point, is_digit, are_digits}
+use Rattle.fixed_num.specs.Reading.{with_digits, is_numeral, numeral, unsigned_read, signed_read, parsed}
 use Rattle.fixed_num.proofs.SignLemmas.{abs_signed}
 use Rattle.fixed_num.proofs.ReadingLemmas.{with_digits-append, fitted_few}
 
@@ -32,19 +34,25 @@ last_split n unit positive =
     let f : n / unit / 10 * 10 + n / unit % 10 ≡ n / unit = div-add-mod' (n / unit) 10 in
     let g : (n / unit / 10 * 10 + n / unit % 10) * unit ≡ n / unit * unit = ap (λ x. x * unit) f in
     let small : n % unit < unit = mod-lt n positive in
-    let digit : n / unit % 10 * unit ≤ 9 * unit = mul-le-mul_right unit (let h : n / unit % 10 ≤ 9 = omega arith in h) in
+    let digit : n / unit % 10 * unit ≤ 9 * unit =
+    mul-le-mul_right unit (let h : n / unit % 10 ≤ 9 = omega arith in h) in
     let whole : n ≡ n / unit / 10 * (unit * 10) + (n / unit % 10 * unit + n % unit) = omega arith in
-    ap (λ x. x % (unit * 10)) whole ∙ mod-mul-add (n / unit / 10) (unit * 10) (n / unit % 10 * unit + n % unit) (omega arith)
+    ap (λ x. x % (unit * 10)) whole ∙ mod-mul-add (n / unit / 10) (unit * 10) (n / unit % 10 * unit + n % unit)
+    (omega arith)
 
 pub with_digits-last_digits : (k v n : ℕ) → with_digits v (last_digits k n) ≡ v * 10 ^ k + n % 10 ^ k
 with_digits-last_digits zero v n = omega arith
 with_digits-last_digits (suc k) v n =
     let digit : 48 + n / 10 ^ k % 10 - 48 ≡ n / 10 ^ k % 10 = omega arith in
-    let split : n % (10 ^ k * 10) ≡ n / 10 ^ k % 10 * 10 ^ k + n % 10 ^ k = last_split n (10 ^ k) (one-le-pow k 10 (omega arith)) in
-    ap (λ x. with_digits (v * 10 + x) (last_digits k n)) digit ∙ with_digits-last_digits k (v * 10 + n / 10 ^ k % 10) n ∙ rw (pow-suc 10 k, split) (omega arith)
+    let split : n % (10 ^ k * 10) ≡ n / 10 ^ k % 10 * 10 ^ k + n % 10 ^ k =
+    last_split n (10 ^ k) (one-le-pow k 10 (omega arith)) in
+    ap (λ x. with_digits (v * 10 + x) (last_digits k n)) digit ∙ with_digits-last_digits k (v * 10 + n / 10 ^ k % 10) n
+    ∙ rw (pow-suc 10 k, split) (omega arith)
 
 -- zeros in front change nothing
-zero_in_front : (c e : ℕ) (cs : List ℕ) (b : Bool) → (c == 48) ≡ b → with_digits 0 (without_zeros (e ∷ cs)) ≡ with_digits 0 (e ∷ cs) → with_digits 0 (if b then without_zeros (e ∷ cs) else c ∷ (e ∷ cs)) ≡ with_digits 0 (c ∷ (e ∷ cs))
+zero_in_front : (c e : ℕ) (cs : List ℕ) (b : Bool) → (c == 48) ≡ b
+    → with_digits 0 (without_zeros (e ∷ cs)) ≡ with_digits 0 (e ∷ cs)
+    → with_digits 0 (if b then without_zeros (e ∷ cs) else c ∷ (e ∷ cs)) ≡ with_digits 0 (c ∷ (e ∷ cs))
 zero_in_front c e cs true h rest = rest ∙ ap (λ x. with_digits (0 * 10 + (x - 48)) (e ∷ cs)) (sym (eqb-true c 48 h))
 zero_in_front c e cs false h rest = refl
 
@@ -53,7 +61,8 @@ with_digits-without_zeros [] = refl
 with_digits-without_zeros (c ∷ []) = refl
 with_digits-without_zeros (c ∷ (e ∷ cs)) = zero_in_front c e cs (c == 48) refl (with_digits-without_zeros (e ∷ cs))
 
-either_digits : (xs ys : List ℕ) (b : Bool) → are_digits xs ≡ true → are_digits ys ≡ true → are_digits (if b then xs else ys) ≡ true
+either_digits : (xs ys : List ℕ) (b : Bool) → are_digits xs ≡ true → are_digits ys ≡ true
+    → are_digits (if b then xs else ys) ≡ true
 either_digits xs ys true h g = h
 either_digits xs ys false h g = g
 
@@ -67,7 +76,8 @@ are_digits-without_zeros : (ds : List ℕ) → are_digits ds ≡ true → are_di
 are_digits-without_zeros [] h = refl
 are_digits-without_zeros (c ∷ []) h = h
 are_digits-without_zeros (c ∷ (e ∷ cs)) h =
-    either_digits (without_zeros (e ∷ cs)) (c ∷ (e ∷ cs)) (c == 48) (are_digits-without_zeros (e ∷ cs) (are_digits-rest c (e ∷ cs) h)) h
+    either_digits (without_zeros (e ∷ cs)) (c ∷ (e ∷ cs)) (c == 48)
+    (are_digits-without_zeros (e ∷ cs) (are_digits-rest c (e ∷ cs) h)) h
 
 either_some : (xs ys : List ℕ) (b : Bool) → 0 < length xs → 0 < length ys → 0 < length (if b then xs else ys)
 either_some xs ys true h g = h
@@ -75,7 +85,8 @@ either_some xs ys false h g = g
 
 without_zeros-some : (c : ℕ) (cs : List ℕ) → 0 < length (without_zeros (c ∷ cs))
 without_zeros-some c [] = omega arith
-without_zeros-some c (e ∷ cs) = either_some (without_zeros (e ∷ cs)) (c ∷ (e ∷ cs)) (c == 48) (without_zeros-some e cs) (omega arith)
+without_zeros-some c (e ∷ cs) =
+    either_some (without_zeros (e ∷ cs)) (c ∷ (e ∷ cs)) (c == 48) (without_zeros-some e cs) (omega arith)
 
 -- the digits before the point
 whole_are_digits : (n : ℕ) → are_digits (whole_digits n) ≡ true
@@ -89,7 +100,8 @@ whole_some n = without_zeros-some (48 + n / 10 ^ 18 % 10) (last_digits 18 n)
 whole_value : (n : ℕ) → n < 10 ^ 19 → with_digits 0 (whole_digits n) ≡ n
 unfolding whole_digits
 whole_value n small =
-    with_digits-without_zeros (last_digits 19 n) ∙ with_digits-last_digits 19 0 n ∙ (let h : 0 * 10 ^ 19 + n % 10 ^ 19 ≡ n = rw (mod-eq_of_lt small) (omega arith) in h)
+    with_digits-without_zeros (last_digits 19 n) ∙ with_digits-last_digits 19 0 n
+    ∙ (let h : 0 * 10 ^ 19 + n % 10 ^ 19 ≡ n = rw (mod-eq_of_lt small) (omega arith) in h)
 
 -- no byte of a text is a blank
 no_blanks : List ℕ → Bool
@@ -119,7 +131,8 @@ unfolding no_blanks
 no_blanks-reverse [] h = refl
 no_blanks-reverse (c ∷ cs) h =
     let parts = both_true (not (c == 32)) (no_blanks cs) h in
-    ap no_blanks (reverse-append (c ∷ []) cs) ∙ no_blanks-append (reverse cs) (c ∷ []) (no_blanks-reverse cs parts.1) (ap (λ b. b && true) parts.0)
+    ap no_blanks (reverse-append (c ∷ []) cs) ∙ no_blanks-append (reverse cs) (c ∷ []) (no_blanks-reverse cs parts.1)
+    (ap (λ b. b && true) parts.0)
 
 no_blanks-digits : (xs : List ℕ) → are_digits xs ≡ true → no_blanks xs ≡ true
 unfolding no_blanks
@@ -136,7 +149,8 @@ no_blanks-decimals (suc k) n = no_blanks-digits (last_digits (suc k) n) (are_dig
 
 trimmed-none : (xs : List ℕ) → no_blanks xs ≡ true → trimmed xs ≡ xs
 trimmed-none xs h =
-    ap (λ ys. reverse (without_blanks (reverse ys))) (without_blanks-none xs h) ∙ ap reverse (without_blanks-none (reverse xs) (no_blanks-reverse xs h)) ∙ reverse-reverse xs
+    ap (λ ys. reverse (without_blanks (reverse ys))) (without_blanks-none xs h)
+    ∙ ap reverse (without_blanks-none (reverse xs) (no_blanks-reverse xs h)) ∙ reverse-reverse xs
 
 -- the point parts a text
 before_point-digits : (xs : List ℕ) (d n : ℕ) → are_digits xs ≡ true → before_point (xs ++ decimals_text d n) ≡ xs
@@ -148,25 +162,32 @@ before_point-digits (c ∷ cs) d n h =
     let P : Bool → Type 0 = λ b. (if b then [] else c ∷ before_point (cs ++ decimals_text d n)) ≡ c ∷ cs in
     subst P (sym other) (ap (λ ys. c ∷ ys) (before_point-digits cs d n (are_digits-rest c cs h)))
 
-after_point-digits : (xs : List ℕ) (d n : ℕ) → are_digits xs ≡ true → after_point (xs ++ decimals_text d n) ≡ last_digits d n
+after_point-digits : (xs : List ℕ) (d n : ℕ) → are_digits xs ≡ true
+    → after_point (xs ++ decimals_text d n) ≡ last_digits d n
 after_point-digits [] zero n h = refl
 after_point-digits [] (suc k) n h = refl
 after_point-digits (c ∷ cs) d n h =
     let bounds = are_digits-first c cs h in
     let other : (c == 46) ≡ false = ne_eqb c 46 (λ e. absurd (omega (arith, bounds.0))) in
-    let P : Bool → Type 0 = λ b. (if b then cs ++ decimals_text d n else after_point (cs ++ decimals_text d n)) ≡ last_digits d n in
+    let P : Bool → Type 0 =
+    λ b. (if b then cs ++ decimals_text d n else after_point (cs ++ decimals_text d n)) ≡ last_digits d n in
     subst P (sym other) (after_point-digits cs d n (are_digits-rest c cs h))
 
 -- a numeral's number
-numeral-of_digits : (s : Bool) (whole fraction : List ℕ) → 0 < length whole → are_digits whole ≡ true → are_digits fraction ≡ true → numeral s whole fraction ≡ fitted (signed s (with_digits 0 (whole ++ fraction))) (length fraction)
+numeral-of_digits : (s : Bool) (whole fraction : List ℕ) → 0 < length whole → are_digits whole ≡ true
+    → are_digits fraction ≡ true → numeral s whole fraction ≡ fitted (signed s (with_digits 0 (whole ++ fraction)))
+    (length fraction)
 numeral-of_digits s whole fraction some h g =
-    let some_digit : nat_lt 0 (length whole + length fraction) ≡ true = lt-ltb 0 (length whole + length fraction) (omega arith) in
+    let some_digit : nat_lt 0 (length whole + length fraction) ≡ true =
+    lt-ltb 0 (length whole + length fraction) (omega arith) in
     let test : is_numeral whole fraction ≡ true = rw (some_digit, h, g) refl in
-    let P : Bool → Type 0 = λ b. (if b then fitted (signed s (with_digits 0 (whole ++ fraction))) (length fraction) else asterisk) ≡ fitted (signed s (with_digits 0 (whole ++ fraction))) (length fraction) in
+    let P : Bool → Type 0 = λ b. (if b then fitted (signed s (with_digits 0 (whole ++ fraction))) (length fraction)
+    else asterisk) ≡ fitted (signed s (with_digits 0 (whole ++ fraction))) (length fraction) in
     subst P (sym test) refl
 
 -- a text without its sign
-unsigned_back : (s : Bool) (n d : ℕ) → n < magnitude_limit → d ≤ most_decimals → unsigned_read s (whole_digits (n / 10 ^ d) ++ decimals_text d n) ≡ finite (signed s n) d
+unsigned_back : (s : Bool) (n d : ℕ) → n < magnitude_limit → d ≤ most_decimals
+    → unsigned_read s (whole_digits (n / 10 ^ d) ++ decimals_text d n) ≡ finite (signed s n) d
 unsigned_back s n d small few =
     let whole = whole_digits (n / 10 ^ d) in
     let fraction = last_digits d n in
@@ -176,7 +197,8 @@ unsigned_back s n d small few =
     ∙ ap (λ v. with_digits v fraction) (whole_value (n / 10 ^ d) (omega (arith, div-le_self n (10 ^ d))))
     ∙ with_digits-last_digits d (n / 10 ^ d) n
     ∙ div-add-mod' n (10 ^ d) in
-    let fits : nat_lt (unsigned_abs (signed s n)) magnitude_limit ≡ true = rw (abs_signed s n) (lt-ltb n magnitude_limit small) in
+    let fits : nat_lt (unsigned_abs (signed s n)) magnitude_limit ≡ true =
+    rw (abs_signed s n) (lt-ltb n magnitude_limit small) in
     ap (λ w. numeral s w (after_point (whole ++ decimals_text d n))) (before_point-digits whole d n digits)
     ∙ ap (λ f. numeral s whole f) (after_point-digits whole d n digits)
     ∙ numeral-of_digits s whole fraction (whole_some (n / 10 ^ d)) digits (are_digits-last_digits d n)
@@ -186,18 +208,23 @@ unsigned_back s n d small few =
     ∙ ap (λ b. if b then finite (signed s n) d else asterisk) fits
 
 -- a text that begins with a digit has no sign
-unsigned_first : (xs ys : List ℕ) → 0 < length xs → are_digits xs ≡ true → signed_read (xs ++ ys) ≡ unsigned_read false (xs ++ ys)
+unsigned_first : (xs ys : List ℕ) → 0 < length xs → are_digits xs ≡ true
+    → signed_read (xs ++ ys) ≡ unsigned_read false (xs ++ ys)
 unsigned_first [] ys some h = absurd (omega arith)
 unsigned_first (c ∷ cs) ys some h =
     let bounds = are_digits-first c cs h in
     let no_minus : (c == 45) ≡ false = ne_eqb c 45 (λ e. absurd (omega (arith, bounds.0))) in
     let no_plus : (c == 43) ≡ false = ne_eqb c 43 (λ e. absurd (omega (arith, bounds.0))) in
-    let P : Bool → Type 0 = λ b. (if b then unsigned_read true (cs ++ ys) else (if c == 43 then unsigned_read false (cs ++ ys) else unsigned_read false (c ∷ (cs ++ ys)))) ≡ unsigned_read false (c ∷ (cs ++ ys)) in
-    let Q : Bool → Type 0 = λ b. (if b then unsigned_read false (cs ++ ys) else unsigned_read false (c ∷ (cs ++ ys))) ≡ unsigned_read false (c ∷ (cs ++ ys)) in
+    let P : Bool → Type 0 = λ b. (if b then unsigned_read true (cs ++ ys)
+    else (if c == 43 then unsigned_read false (cs ++ ys) else unsigned_read false (c ∷ (cs ++ ys))))
+    ≡ unsigned_read false (c ∷ (cs ++ ys)) in
+    let Q : Bool → Type 0 = λ b. (if b then unsigned_read false (cs ++ ys) else unsigned_read false (c ∷ (cs ++ ys)))
+    ≡ unsigned_read false (c ∷ (cs ++ ys)) in
     subst P (sym no_minus) (subst Q (sym no_plus) refl)
 
 no_blanks-body : (n d : ℕ) → no_blanks (whole_digits (n / 10 ^ d) ++ decimals_text d n) ≡ true
-no_blanks-body n d = no_blanks-append (whole_digits (n / 10 ^ d)) (decimals_text d n) (no_blanks-digits (whole_digits (n / 10 ^ d)) (whole_are_digits (n / 10 ^ d))) (no_blanks-decimals d n)
+no_blanks-body n d = no_blanks-append (whole_digits (n / 10 ^ d)) (decimals_text d n)
+    (no_blanks-digits (whole_digits (n / 10 ^ d)) (whole_are_digits (n / 10 ^ d))) (no_blanks-decimals d n)
 
 no_blanks-signed : (xs : List ℕ) → no_blanks xs ≡ true → no_blanks (45 ∷ xs) ≡ true
 unfolding no_blanks
@@ -207,7 +234,8 @@ pub parsed-text_of : (m : ℤ) (d : ℕ) → IsInRange (finite m d) → parsed (
 parsed-text_of (pos n) d range =
     let body = whole_digits (n / 10 ^ d) ++ decimals_text d n in
     ap signed_read (trimmed-none body (no_blanks-body n d))
-    ∙ unsigned_first (whole_digits (n / 10 ^ d)) (decimals_text d n) (whole_some (n / 10 ^ d)) (whole_are_digits (n / 10 ^ d))
+    ∙ unsigned_first (whole_digits (n / 10 ^ d)) (decimals_text d n) (whole_some (n / 10 ^ d))
+    (whole_are_digits (n / 10 ^ d))
     ∙ unsigned_back false n d range.0 range.1
 parsed-text_of (negsuc n) d range =
     let body = whole_digits (suc n / 10 ^ d) ++ decimals_text d (suc n) in

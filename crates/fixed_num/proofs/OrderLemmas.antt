@@ -1,5 +1,6 @@
 -- Numbers compare as whole numbers with any common number of decimals.
-use Rattle.std.proofs.Common.{◌≡◌, ℕ, zero, suc, ◌+◌, ◌-◌, ◌*◌, ◌^◌, ◌<◌, ◌≤◌, cond, ⊎_elim, Bool, true, false, refl, sym, ap, ◌∙◌, subst, arith}
+use Rattle.std.proofs.Common.{◌≡◌, ℕ, zero, suc, ◌+◌, ◌-◌, ◌*◌, ◌^◌, ◌<◌, ◌≤◌, cond, ⊎_elim, Bool, true, false, refl}
+use Rattle.std.proofs.Common.{sym, ap, ◌∙◌, subst, arith}
 use Rattle.std.specs.Prelude.{ℤ, pos, negsuc, neg_ℤ, ◌*ℤ◌, int_lt, nat_lt}
 use Rattle.std.specs.declared.cmp.Ordering.TheVariants.{Less, Equal, Greater}
 use Rattle.std.specs.Ordering.{int_cmp, nat_cmp, ordering_reverse}
@@ -24,8 +25,10 @@ below_zero p unit = ap (λ n. neg_ℤ (pos n)) (let h : suc p * suc unit ≡ suc
 
 nat_lt-shifted : (a b unit : ℕ) → nat_lt (a * suc unit + unit) (b * suc unit + unit) ≡ nat_lt a b
 nat_lt-shifted a b unit = ⊎_elim
-    (λ less. lt-ltb (a * suc unit + unit) (b * suc unit + unit) (omega (arith, mul-lt-mul_of_pos_right less (let h : 0 < suc unit = omega arith in h))) ∙ sym (lt-ltb a b less))
-    (λ more. le-ltb (a * suc unit + unit) (b * suc unit + unit) (omega (arith, mul-le-mul_right (suc unit) more)) ∙ sym (le-ltb a b more))
+    (λ less. lt-ltb (a * suc unit + unit) (b * suc unit + unit)
+    (omega (arith, mul-lt-mul_of_pos_right less (let h : 0 < suc unit = omega arith in h))) ∙ sym (lt-ltb a b less))
+    (λ more. le-ltb (a * suc unit + unit) (b * suc unit + unit) (omega (arith, mul-le-mul_right (suc unit) more))
+    ∙ sym (le-ltb a b more))
     (cases_lt a b)
 
 int_lt-scaled : (a b : ℤ) (unit : ℕ) → int_lt (a *ℤ pos (suc unit)) (b *ℤ pos (suc unit)) ≡ int_lt a b
@@ -33,23 +36,31 @@ int_lt-scaled (pos a) (pos b) unit = nat_lt-scaled a b (suc unit) (omega arith)
 int_lt-scaled (pos a) (negsuc b) unit = ap (int_lt (pos (a * suc unit))) (below_zero b unit)
 int_lt-scaled (negsuc a) (pos b) unit = ap (λ x. int_lt x (pos (b * suc unit))) (below_zero a unit)
 int_lt-scaled (negsuc a) (negsuc b) unit =
-    ap (λ x. int_lt x (negsuc b *ℤ pos (suc unit))) (below_zero a unit) ∙ ap (int_lt (negsuc (a * suc unit + unit))) (below_zero b unit) ∙ nat_lt-shifted b a unit
+    ap (λ x. int_lt x (negsuc b *ℤ pos (suc unit))) (below_zero a unit)
+    ∙ ap (int_lt (negsuc (a * suc unit + unit))) (below_zero b unit) ∙ nat_lt-shifted b a unit
 
 int_cmp-scaled : (a b : ℤ) (unit : ℕ) → 0 < unit → int_cmp (a *ℤ pos unit) (b *ℤ pos unit) ≡ int_cmp a b
 int_cmp-scaled a b zero positive = absurd (omega arith)
 int_cmp-scaled a b (suc unit) positive =
-    ap (λ t. cond t Less (cond (int_lt (b *ℤ pos (suc unit)) (a *ℤ pos (suc unit))) Greater Equal)) (int_lt-scaled a b unit) ∙ ap (λ t. cond (int_lt a b) Less (cond t Greater Equal)) (int_lt-scaled b a unit)
+    ap (λ t. cond t Less (cond (int_lt (b *ℤ pos (suc unit)) (a *ℤ pos (suc unit))) Greater Equal))
+    (int_lt-scaled a b unit) ∙ ap (λ t. cond (int_lt a b) Less (cond t Greater Equal)) (int_lt-scaled b a unit)
 
 -- decimals added twice
 scaled-scaled : (m : ℤ) (j k : ℕ) → scaled m j *ℤ pos (10 ^ k) ≡ scaled m (j + k)
 scaled-scaled (pos n) j k = ap pos (omega (arith, pow-add 10 j k, ap (λ x. n * x) (pow-add 10 j k)))
-scaled-scaled (negsuc n) j k = neg-mul (pos (suc n * 10 ^ j)) (pos (10 ^ k)) ∙ ap (λ x. neg_ℤ (pos x)) (omega (arith, ap (λ x. suc n * x) (pow-add 10 j k)))
+scaled-scaled (negsuc n) j k = neg-mul (pos (suc n * 10 ^ j)) (pos (10 ^ k))
+    ∙ ap (λ x. neg_ℤ (pos x)) (omega (arith, ap (λ x. suc n * x) (pow-add 10 j k)))
 
-pub compared-at : (m n : ℤ) (d e k : ℕ) → d ≤ k → e ≤ k → compared (finite m d) (finite n e) ≡ int_cmp (scaled m (k - d)) (scaled n (k - e))
+pub compared-at : (m n : ℤ) (d e k : ℕ) → d ≤ k → e ≤ k → compared (finite m d) (finite n e)
+    ≡ int_cmp (scaled m (k - d)) (scaled n (k - e))
 compared-at m n d e k few_d few_e =
     sym (int_cmp-scaled (scaled m e) (scaled n d) (10 ^ k) (one-le-pow k 10 (omega arith)))
-    ∙ ap (λ x. int_cmp x (scaled n d *ℤ pos (10 ^ k))) (scaled-scaled m e k ∙ ap (scaled m) (let h : e + k ≡ k - d + (d + e) = omega arith in h) ∙ sym (scaled-scaled m (k - d) (d + e)))
-    ∙ ap (λ x. int_cmp (scaled m (k - d) *ℤ pos (10 ^ (d + e))) x) (scaled-scaled n d k ∙ ap (scaled n) (let h : d + k ≡ k - e + (d + e) = omega arith in h) ∙ sym (scaled-scaled n (k - e) (d + e)))
+    ∙ ap (λ x. int_cmp x (scaled n d *ℤ pos (10 ^ k)))
+    (scaled-scaled m e k ∙ ap (scaled m) (let h : e + k ≡ k - d + (d + e) = omega arith in h)
+    ∙ sym (scaled-scaled m (k - d) (d + e)))
+    ∙ ap (λ x. int_cmp (scaled m (k - d) *ℤ pos (10 ^ (d + e))) x)
+    (scaled-scaled n d k ∙ ap (scaled n) (let h : d + k ≡ k - e + (d + e) = omega arith in h)
+    ∙ sym (scaled-scaled n (k - e) (d + e)))
     ∙ int_cmp-scaled (scaled m (k - d)) (scaled n (k - e)) (10 ^ (d + e)) (one-le-pow (d + e) 10 (omega arith))
 
 compared-antisymm : (x y : Number) → compared x y ≡ ordering_reverse (compared y x)
@@ -102,8 +113,20 @@ one_more : (a b : ℕ) → nat_cmp (suc a) (suc b) ≡ int_cmp (negsuc b) (negsu
 one_more a b = ⊎_elim
     (λ less. rw (lt-ltb a b less, lt-ltb (suc a) (suc b) (omega (arith, less))) refl)
     (λ more. ⊎_elim
-    (λ above. rw (le-ltb a b more, lt-ltb b a above, le-ltb (suc a) (suc b) (omega (arith, more)), ne_eqb (suc a) (suc b) (λ e. absurd (omega (arith, e, above)))) refl)
-    (λ upto. rw (le-ltb a b more, le-ltb b a upto, le-ltb (suc a) (suc b) (omega (arith, more)), eq-eqb (suc a) (suc b) (omega (arith, more, upto))) refl)
+    (λ above. rw (
+      le-ltb a b more,
+      lt-ltb b a above,
+      le-ltb (suc a) (suc b) (omega (arith, more)),
+      ne_eqb (suc a)
+          (suc b) (λ e. absurd (omega (arith, e, above))),
+    ) refl)
+    (λ upto. rw (
+      le-ltb a b more,
+      le-ltb b a upto,
+      le-ltb (suc a) (suc b) (omega (arith, more)),
+      eq-eqb (suc a) (suc b)
+          (omega (arith, more, upto)),
+    ) refl)
     (cases_lt b a))
     (cases_lt a b)
 

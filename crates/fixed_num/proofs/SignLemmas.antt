@@ -17,7 +17,8 @@ pub product_signed : (s t : Bool) (m n : ℕ) → signed s m *ℤ signed t n ≡
 product_signed false false m n = refl
 product_signed false true m n = mul-neg (pos m) (pos n)
 product_signed true false m n = neg-mul (pos m) (pos n)
-product_signed true true m n = mul-neg (neg_ℤ (pos m)) (pos n) ∙ ap neg_ℤ (neg-mul (pos m) (pos n)) ∙ neg_ℤ-neg_ℤ (pos (m * n))
+product_signed true true m n =
+    mul-neg (neg_ℤ (pos m)) (pos n) ∙ ap neg_ℤ (neg-mul (pos m) (pos n)) ∙ neg_ℤ-neg_ℤ (pos (m * n))
 
 pub scaled_signed : (s : Bool) (m k : ℕ) → signed s m *ℤ pos k ≡ signed s (m * k)
 scaled_signed false m k = refl

@@ -15,7 +15,9 @@ length-in_order (x ∷ l) = omega (arith, length-with_pair x (in_order is_before
 
 pub rising_in_order : (l : List Pair) → IsRising l → in_order is_before l ≡ l
 rising_in_order l r = in_order-sorted is_before is_before_strict l (λ i j d le within.
-    ⊎_elim (λ less. before_asym (get_or l i d) (get_or l j d) (ascending_at is_before l i j d r less within)) (λ ge. let same : j ≡ i = omega arith in ap (λ k. is_before (get_or l k d) (get_or l i d)) same ∙ is_before_strict.irrefl (get_or l i d)) (cases_lt i j))
+    ⊎_elim (λ less. before_asym (get_or l i d) (get_or l j d) (ascending_at is_before l i j d r less within))
+    (λ ge. let same : j ≡ i = omega arith in ap (λ k. is_before (get_or l k d) (get_or l i d)) same
+    ∙ is_before_strict.irrefl (get_or l i d)) (cases_lt i j))
 
 -- pairs put in order
 pub record IsSorted (key_length : ℕ) (all sorted : List Pair) : Type 0 where
@@ -23,7 +25,8 @@ pub record IsSorted (key_length : ℕ) (all sorted : List Pair) : Type 0 where
   pub rising : IsRising sorted
   pub few : length sorted < 2 ^ 32
 
-pub sorted_again : (key_length : ℕ) (all sorted : List Pair) → sorted ≡ in_order is_before all → Each (IsPairOf key_length) all → IsDistinct all → length all < 2 ^ 32 → IsSorted key_length all sorted
+pub sorted_again : (key_length : ℕ) (all sorted : List Pair) → sorted ≡ in_order is_before all
+    → Each (IsPairOf key_length) all → IsDistinct all → length all < 2 ^ 32 → IsSorted key_length all sorted
 sorted_again k all sorted e keys distinct few =
     record {
       keys = subst (Each (IsPairOf k)) (sym e) (Each-in_order is_before (IsPairOf k) all keys);

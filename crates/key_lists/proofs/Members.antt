@@ -1,5 +1,6 @@
 -- Which values a list in order has.
-use Rattle.std.proofs.Common.{◌≡◌, ℕ, zero, suc, ◌<◌, ◌⊎◌, inl, inr, Bool, true, false, cond, ◌||◌, List, [], ◌∷◌, length, get_or, reverse, refl, sym, ap, ◌∙◌, subst, arith}
+use Rattle.std.proofs.Common.{◌≡◌, ℕ, zero, suc, ◌<◌, ◌⊎◌, inl, inr, Bool, true, false, cond, ◌||◌, List, [], ◌∷◌}
+use Rattle.std.proofs.Common.{length, get_or, reverse, refl, sym, ap, ◌∙◌, subst, arith}
 use Rattle.std.specs.List.{filter, Contains}
 use Rattle.std.proofs.lemmas.Bool.{false≢true}
 use Rattle.std.proofs.lemmas.List.{reverse-append}
@@ -32,14 +33,20 @@ Contains-reverse [] y c = c
 Contains-reverse (x ∷ xs) y c =
     elim (Contains-append_cases (reverse xs) (x ∷ []) y (subst (λ l. Contains l y) (reverse-append (x ∷ []) xs) c)) [
       | inl before ↦ Contains-later x xs y (Contains-reverse xs y before)
-      | inr last ↦ elim (Contains-cases x [] y last) [ inl e ↦ Contains-here x xs y e | inr none ↦ absurd (Contains-none y none) ]
+      | inr last ↦ elim (Contains-cases x [] y last) [
+        | inl e ↦ Contains-here x xs y e
+        | inr none ↦ absurd
+            (Contains-none y none)
+      ]
     ]
 
 -- what a filter keeps is there, and passes
-pub Contains-filter : {X : Type 0} (p : X → Bool) (xs : List X) (y : X) → Contains (filter p xs) y → Contains xs y × (p y ≡ true)
+pub Contains-filter : {X : Type 0} (p : X → Bool) (xs : List X) (y : X) → Contains (filter p xs) y
+    → Contains xs y × (p y ≡ true)
 Contains-filter p [] y c = absurd (Contains-none y c)
 Contains-filter p (x ∷ xs) y c =
-    elim (p x) as (λ b. p x ≡ b → Contains (cond b (x ∷ filter p xs) (filter p xs)) y → Contains (x ∷ xs) y × (p y ≡ true)) [
+    elim (p x) as (λ b. p x ≡ b → Contains (cond b (x ∷ filter p xs) (filter p xs)) y
+    → Contains (x ∷ xs) y × (p y ≡ true)) [
       | true ↦ λ e kept. elim (Contains-cases x (filter p xs) y kept) [
         | inl same ↦ (Contains-here x xs y same, ap p same ∙ e)
         | inr later ↦ let r = Contains-filter p xs y later in (Contains-later x xs y r.0, r.1)
@@ -48,7 +55,8 @@ Contains-filter p (x ∷ xs) y c =
     ] refl c
 
 -- what is there and passes, a filter keeps
-pub filter-Contains : {X : Type 0} (p : X → Bool) (xs : List X) (y : X) → Contains xs y → p y ≡ true → Contains (filter p xs) y
+pub filter-Contains : {X : Type 0} (p : X → Bool) (xs : List X) (y : X) → Contains xs y → p y ≡ true
+    → Contains (filter p xs) y
 filter-Contains p [] y c e = absurd (Contains-none y c)
 filter-Contains p (x ∷ xs) y c e =
     elim (p x) as (λ b. p x ≡ b → Contains (cond b (x ∷ filter p xs) (filter p xs)) y) [
@@ -62,18 +70,24 @@ filter-Contains p (x ∷ xs) y c e =
       ]
     ] refl
 
-pub Contains-inserted : {X : Type 0} (lt : X → X → Bool) (x : X) (xs : List X) (y : X) → Contains (inserted lt x xs) y → (y ≡ x) ⊎ Contains xs y
+pub Contains-inserted : {X : Type 0} (lt : X → X → Bool) (x : X) (xs : List X) (y : X) → Contains (inserted lt x xs) y
+    → (y ≡ x) ⊎ Contains xs y
 Contains-inserted lt x [] y c = Contains-cases x [] y c
 Contains-inserted lt x (z ∷ zs) y c =
     elim (lt z x) as (λ b. Contains (cond b (z ∷ inserted lt x zs) (x ∷ z ∷ zs)) y → (y ≡ x) ⊎ Contains (z ∷ zs) y) [
       | true ↦ λ d. elim (Contains-cases z (inserted lt x zs) y d) [
         | inl same ↦ inr (Contains-here z zs y same)
-        | inr later ↦ elim (Contains-inserted lt x zs y later) [ inl e ↦ inl e | inr there ↦ inr (Contains-later z zs y there) ]
+        | inr later ↦ elim (Contains-inserted lt x zs y later) [
+          | inl e ↦ inl e
+          | inr there ↦ inr
+              (Contains-later z zs y there)
+        ]
       ]
       | false ↦ λ d. Contains-cases x (z ∷ zs) y d
     ] c
 
-pub inserted-Contains : {X : Type 0} (lt : X → X → Bool) (x : X) (xs : List X) (y : X) → (y ≡ x) ⊎ Contains xs y → Contains (inserted lt x xs) y
+pub inserted-Contains : {X : Type 0} (lt : X → X → Bool) (x : X) (xs : List X) (y : X) → (y ≡ x) ⊎ Contains xs y
+    → Contains (inserted lt x xs) y
 inserted-Contains lt x [] y (inl e) = Contains-here x [] y e
 inserted-Contains lt x [] y (inr c) = absurd (Contains-none y c)
 inserted-Contains lt x (z ∷ zs) y h =
@@ -88,14 +102,16 @@ inserted-Contains lt x (z ∷ zs) y h =
       | false ↦ elim h [ inl e ↦ Contains-here x (z ∷ zs) y e | inr c ↦ Contains-later x (z ∷ zs) y c ]
     ]
 
-pub Contains-in_order : {X : Type 0} (lt : X → X → Bool) (xs : List X) (y : X) → Contains (in_order lt xs) y → Contains xs y
+pub Contains-in_order : {X : Type 0} (lt : X → X → Bool) (xs : List X) (y : X) → Contains (in_order lt xs) y
+    → Contains xs y
 Contains-in_order lt [] y c = c
 Contains-in_order lt (x ∷ xs) y c = elim (Contains-inserted lt x (in_order lt xs) y c) [
   | inl e ↦ Contains-here x xs y e
   | inr there ↦ Contains-later x xs y (Contains-in_order lt xs y there)
 ]
 
-pub in_order-Contains : {X : Type 0} (lt : X → X → Bool) (xs : List X) (y : X) → Contains xs y → Contains (in_order lt xs) y
+pub in_order-Contains : {X : Type 0} (lt : X → X → Bool) (xs : List X) (y : X) → Contains xs y
+    → Contains (in_order lt xs) y
 in_order-Contains lt [] y c = c
 in_order-Contains lt (x ∷ xs) y c = inserted-Contains lt x (in_order lt xs) y (elim (Contains-cases x xs y c) [
   | inl e ↦ inl e
@@ -108,7 +124,11 @@ module _ {X : Type 0} (lt : X → X → Bool) (o : IsStrictOrder lt) where
   differs-either x y n =
       elim (lt x y) as (λ b. lt x y ≡ b → b || lt y x ≡ true) [
         | true ↦ λ e. refl
-        | false ↦ λ e. elim (lt y x) as (λ b. lt y x ≡ b → b ≡ true) [ true ↦ λ f. refl | false ↦ λ f. absurd (n (o.total y x f e)) ] refl
+        | false ↦ λ e. elim (lt y x) as (λ b. lt y x ≡ b → b ≡ true) [
+          | true ↦ λ f. refl
+          | false ↦ λ f. absurd
+              (n (o.total y x f e))
+        ] refl
       ] refl
 
   not_either : (x : X) → lt x x || lt x x ≡ false

@@ -11,7 +11,8 @@ use Rattle.key_lists.specs.Order.{IsStrictOrder}
 use Rattle.key_lists.specs.Pairs.{Pair, pair_cmp, is_before, key_before}
 
 pub pair_cmp_total : IsTotalOrder pair_cmp
-pair_cmp_total = then_total (on_total (λ (p : Pair). p.0) nat_list_cmp_total) (on_total (λ (p : Pair). p.1) nat_cmp_total)
+pair_cmp_total = then_total (on_total (λ (p : Pair). p.0) nat_list_cmp_total)
+    (on_total (λ (p : Pair). p.1) nat_cmp_total)
 
 pub pair_cmp_exact : CmpEqualImpliesEq pair_cmp
 pair_cmp_exact = exact_pairs (slice_cmp nat_cmp) nat_cmp exact_bytes exact_unsigned
@@ -55,7 +56,8 @@ unfolding key_before
 key_before_trans a b c e f = ap is_lt (key_total.trans a b c (is_lt-less _ e) (is_lt-less _ f))
 
 -- so does a key that is below a key
-pub key_before_down : (k : List ℕ) (p q : Pair) → is_before p q ≡ true → key_before q.0 k ≡ true → key_before p.0 k ≡ true
+pub key_before_down : (k : List ℕ) (p q : Pair) → is_before p q ≡ true → key_before q.0 k ≡ true
+    → key_before p.0 k ≡ true
 unfolding is_before key_before
 key_before_down k p q e f =
     elim (slice_cmp nat_cmp p.0 q.0) as (λ o. slice_cmp nat_cmp p.0 q.0 ≡ o → is_lt (slice_cmp nat_cmp p.0 k) ≡ true) [
@@ -70,7 +72,8 @@ unfolding is_before key_before
 key_before_up k p q e f =
     elim (slice_cmp nat_cmp p.0 q.0) as (λ o. slice_cmp nat_cmp p.0 q.0 ≡ o → is_lt (slice_cmp nat_cmp k q.0) ≡ true) [
       | Less ↦ λ g. ap is_lt (key_total.trans k p.0 q.0 (is_lt-less _ f) g)
-      | Equal ↦ λ g. let same : p.0 ≡ q.0 = exact_bytes p.0 q.0 g in ap (λ (m : List ℕ). is_lt (slice_cmp nat_cmp k m)) (sym same) ∙ f
+      | Equal ↦ λ g. let same : p.0 ≡ q.0 =
+          exact_bytes p.0 q.0 g in ap (λ (m : List ℕ). is_lt (slice_cmp nat_cmp k m)) (sym same) ∙ f
       | Greater ↦ λ g. let h = rw g at e in cc
     ] refl
 

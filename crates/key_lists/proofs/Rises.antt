@@ -1,10 +1,12 @@
 -- Facts on rising lists of pairs.
-use Rattle.std.proofs.Common.{◌≡◌, ℕ, zero, suc, Some, get_or, ◌+◌, ◌<◌, ◌≤◌, true, false, cond, List, [], ◌∷◌, ◌++◌, length, take, drop, refl, ap, sym, ◌∙◌, subst, arith}
+use Rattle.std.proofs.Common.{◌≡◌, ℕ, zero, suc, Some, get_or, ◌+◌, ◌<◌, ◌≤◌, true, false, cond, List, [], ◌∷◌, ◌++◌}
+use Rattle.std.proofs.Common.{length, take, drop, refl, ap, sym, ◌∙◌, subst, arith}
 use Rattle.std.proofs.lemmas.Bool.{true_from_ne_false}
 use Rattle.key_lists.specs.Order.{Each}
 use Rattle.key_lists.specs.Pairs.{Pair, is_before}
 use Rattle.key_lists.specs.Rising.{AllBefore, AllAfter, IsRising, with_pair, IsAbsent, place_of, last_of}
-use Rattle.key_lists.proofs.Ordered.{Each-map, Each-append_left, Each-append_right, IsAscending-inserted, IsAscending-right, asymm}
+use Rattle.key_lists.proofs.Ordered.{Each-map, Each-append_left, Each-append_right, IsAscending-inserted}
+use Rattle.key_lists.proofs.Ordered.{IsAscending-right, asymm}
 use Rattle.key_lists.proofs.PairOrder.{is_before_strict}
 
 pub before_trans : (a b c : Pair) → is_before a b ≡ true → is_before b c ≡ true → is_before a c ≡ true
@@ -14,7 +16,8 @@ pub before_asym : (a b : Pair) → is_before a b ≡ true → is_before b a ≡ 
 before_asym a b p = asymm is_before is_before_strict a b p
 
 pub after_trans : (x y : Pair) (l : List Pair) → is_before x y ≡ true → AllAfter y l → AllAfter x l
-after_trans x y l p a = Each-map (λ z. is_before y z ≡ true) (λ z. is_before x z ≡ true) (λ z q. before_trans x y z p q) l a
+after_trans x y l p a =
+    Each-map (λ z. is_before y z ≡ true) (λ z. is_before x z ≡ true) (λ z q. before_trans x y z p q) l a
 
 -- x has its place behind what stands before it
 pub with_pair_right : (x : Pair) (l r : List Pair) → AllBefore l x → with_pair x (l ++ r) ≡ l ++ with_pair x r
@@ -26,7 +29,8 @@ pub with_pair_left : (x : Pair) (l r : List Pair) → AllAfter x r → with_pair
 with_pair_left x [] [] a = refl
 with_pair_left x [] (y ∷ r) a = let q : is_before y x ≡ false = before_asym x y a.0 in rw q refl
 with_pair_left x (y ∷ l) r a =
-    elim (is_before y x) as (λ b. cond b (y ∷ with_pair x (l ++ r)) (x ∷ y ∷ (l ++ r)) ≡ cond b (y ∷ with_pair x l) (x ∷ y ∷ l) ++ r) [
+    elim (is_before y x) as (λ b. cond b (y ∷ with_pair x (l ++ r)) (x ∷ y ∷ (l ++ r))
+    ≡ cond b (y ∷ with_pair x l) (x ∷ y ∷ l) ++ r) [
       | true ↦ ap (λ (m : List Pair). y ∷ m) (with_pair_left x l r a)
       | false ↦ refl
     ]
@@ -58,13 +62,15 @@ place_of-le x (y ∷ l) =
 pub put_at_place : (x : Pair) (l : List Pair) → take (place_of x l) l ++ x ∷ drop (place_of x l) l ≡ with_pair x l
 put_at_place x [] = refl
 put_at_place x (y ∷ l) =
-    elim (is_before y x) as (λ b. take (cond b (suc (place_of x l)) 0) (y ∷ l) ++ x ∷ drop (cond b (suc (place_of x l)) 0) (y ∷ l) ≡ cond b (y ∷ with_pair x l) (x ∷ y ∷ l)) [
+    elim (is_before y x) as (λ b. take (cond b (suc (place_of x l)) 0) (y ∷ l) ++ x ∷ drop
+    (cond b (suc (place_of x l)) 0) (y ∷ l) ≡ cond b (y ∷ with_pair x l) (x ∷ y ∷ l)) [
       | true ↦ ap (λ (m : List Pair). y ∷ m) (put_at_place x l)
       | false ↦ refl
     ]
 
 -- the place, by what stands on either side of it
-pub place_of_from : (x : Pair) (l : List Pair) (n : ℕ) → n ≤ length l → Each (λ y. is_before y x ≡ true) (take n l) → Each (λ y. is_before y x ≡ false) (drop n l) → place_of x l ≡ n
+pub place_of_from : (x : Pair) (l : List Pair) (n : ℕ) → n ≤ length l → Each (λ y. is_before y x ≡ true) (take n l)
+    → Each (λ y. is_before y x ≡ false) (drop n l) → place_of x l ≡ n
 place_of_from x [] zero le a b = refl
 place_of_from x [] (suc n) le a b = absurd (omega arith)
 place_of_from x (y ∷ l) zero le a b = rw b.0 refl
@@ -103,9 +109,11 @@ pub last_some : (s : Pair) (l r : List Pair) → last_of (l ++ r) ≡ Some s →
 last_some s l [] e n = absurd (omega arith)
 last_some s l (y ∷ r) e n = sym (last_only l y r) ∙ e
 
-pub last_with : (x s : Pair) (l : List Pair) → last_of l ≡ Some s → is_before x s ≡ true → last_of (with_pair x l) ≡ Some s
+pub last_with : (x s : Pair) (l : List Pair) → last_of l ≡ Some s → is_before x s ≡ true
+    → last_of (with_pair x l) ≡ Some s
 last_with x s [] e p = cc
-last_with x s (y ∷ []) e p = let q : y ≡ s = cc in let r : is_before y x ≡ false = before_asym x y (ap (is_before x) q ∙ p) in rw r e
+last_with x s (y ∷ []) e p =
+    let q : y ≡ s = cc in let r : is_before y x ≡ false = before_asym x y (ap (is_before x) q ∙ p) in rw r e
 last_with x s (y ∷ z ∷ l) e p =
     elim (is_before y x) as (λ b. last_of (cond b (y ∷ with_pair x (z ∷ l)) (x ∷ y ∷ z ∷ l)) ≡ Some s) [
       | true ↦ last_skip y s (with_pair x (z ∷ l)) (last_with x s (z ∷ l) e p)
@@ -123,10 +131,12 @@ after_last x s (y ∷ []) e a = let q : y ≡ s = cc in ap (is_before x) (sym q)
 after_last x s (y ∷ z ∷ l) e a = after_last x s (z ∷ l) e a.1
 
 -- what stands in a rising list stands before what its last stands before
-pub rising_before_last : (s x : Pair) (l : List Pair) → last_of l ≡ Some s → IsRising l → is_before s x ≡ true → AllBefore l x
+pub rising_before_last : (s x : Pair) (l : List Pair) → last_of l ≡ Some s → IsRising l → is_before s x ≡ true
+    → AllBefore l x
 rising_before_last s x [] e h p = tt
 rising_before_last s x (y ∷ []) e h p = let q : y ≡ s = cc in (ap (λ (v : Pair). is_before v x) q ∙ p, tt)
-rising_before_last s x (y ∷ z ∷ l) e h p = (before_trans y s x (after_last y s (z ∷ l) e h.0) p, rising_before_last s x (z ∷ l) e h.1 p)
+rising_before_last s x (y ∷ z ∷ l) e h p =
+    (before_trans y s x (after_last y s (z ∷ l) e h.0) p, rising_before_last s x (z ∷ l) e h.1 p)
 
 pub absent_last : (x s : Pair) (l : List Pair) → last_of l ≡ Some s → IsAbsent x l → s ≡ x → ⊥
 absent_last x s [] e a = absurd cc

@@ -1,6 +1,6 @@
 //! A key with a record number.
 
-ghost use Rattle.std.specs.Prelude.{◌≡◌, ℕ, ◌+◌, ◌<◌, ◌≤◌, length};
+ghost use Rattle.std.specs.Prelude.{◌≡◌, ◌≤◌, length};
 ghost use Rattle.key_lists.specs.Pairs.{is_before, key_before, pair_cmp};
 
 use crate::bytes::held;

@@ -1,7 +1,7 @@
 //! A list of keys in a sorted vector.
 
-ghost use Rattle.std.specs.Prelude.{◌≡◌, ℕ, ◌+◌, ◌-◌, ◌<◌, ◌≤◌, ◌↔◌, [], take, drop, reverse, insert, remove, length};
-ghost use Rattle.std.specs.Prelude.{Contains, IsSome, IfSome, IfNone, true, false, IsTrue, IfOk, not, vec_len};
+ghost use Rattle.std.specs.Prelude.{◌≡◌, ◌+◌, ◌-◌, ◌<◌, ◌≤◌, ◌↔◌, take, drop, reverse, insert, remove, length};
+ghost use Rattle.std.specs.Prelude.{Contains, IsSome, IfSome, IfNone, true, false, IsTrue, vec_len};
 ghost use Rattle.std.specs.Prelude.{vec_capacity};
 ghost use Rattle.key_lists.specs.Order.{Each, IsAscending, above, below, inserted, without, first, in_order};
 ghost use Rattle.key_lists.specs.Order.{IsDistinct};
@@ -24,7 +24,7 @@ pub struct SortedKeys {
 
 impl Model for SortedKeys {
     ghost use Rattle.std.specs.Prelude.{vec_len, vec_capacity, ◌-◌};
-    ghost use Rattle.key_lists.specs.KeyForm.{KeyForm, IsKeyList};
+    ghost use Rattle.key_lists.specs.KeyForm.{IsKeyList};
     ghost use Rattle.key_lists.specs.SortedList.{SortedList};
 
     ghost Value = { SortedList };

@@ -10,7 +10,8 @@ most_entries-size l = div-mul-le_self 504 (entry_size l)
 
 -- fewer take no more
 pub entries-size : (l n : ℕ) → n ≤ most_entries l → n * entry_size l ≤ 504
-entries-size l n few = let most = most_entries-size l in let less = mul-le-mul_right (entry_size l) few in omega (arith, most, less)
+entries-size l n few = let most = most_entries-size l in let less = mul-le-mul_right (entry_size l) few in omega
+    (arith, most, less)
 
 -- no page has more than 42 entries
 pub most_entries-bound : (l : ℕ) → 1 ≤ l → most_entries l ≤ 42
@@ -22,4 +23,5 @@ most_entries-bound l some =
 
 -- nor does one more
 pub next-size : (l i : ℕ) → i + 1 ≤ most_entries l → i * entry_size l + entry_size l ≤ 504
-next-size l i few = let room = entries-size l (i + 1) few in let grown = add-mul i 1 (entry_size l) in let one = one-mul (entry_size l) in omega (arith, room, grown, one)
+next-size l i few = let room = entries-size l (i + 1) few in let grown = add-mul i 1 (entry_size l) in let one = one-mul
+    (entry_size l) in omega (arith, room, grown, one)

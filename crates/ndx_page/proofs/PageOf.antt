@@ -1,5 +1,6 @@
 -- The page of 512 bytes is the one that stands in them.
-use Rattle.std.proofs.Common.{◌≡◌, ℕ, Bool, true, false, cond, not, ◌||◌, ◌&&◌, ◌==◌, Some, None, List, length, refl, sym, ap, subst, ⊎_elim}
+use Rattle.std.proofs.Common.{◌≡◌, ℕ, Bool, true, false, cond, not, ◌||◌, ◌&&◌, ◌==◌, Some, None, List, length, refl}
+use Rattle.std.proofs.Common.{sym, ap, subst, ⊎_elim}
 use Rattle.std.specs.Prelude.{is_none, if◌then◌else◌, nat_lt}
 use Rattle.std.specs.List.{list_any}
 use Rattle.std.proofs.lemmas.Bool.{eqb-false, eq-eqb, ne_eqb, le-ltb, ltb-false, cases_eq}
@@ -12,7 +13,8 @@ use Rattle.ndx_page.specs.PageLayout.{IsPage, told_entries, told_last, is_told_l
 use Rattle.ndx_page.proofs.ReadLemmas.{Told, told_of, page_told, same_pages}
 
 -- of three tests none holds
-none_of : (a b c : Bool) (x y z : PageFault) → is_none (cond a (Some x) (cond b (Some y) (cond c (Some z) None))) ≡ true → (a ≡ false) × (b ≡ false) × (c ≡ false)
+none_of : (a b c : Bool) (x y z : PageFault) → is_none (cond a (Some x) (cond b (Some y) (cond c (Some z) None))) ≡ true
+    → (a ≡ false) × (b ≡ false) × (c ≡ false)
 none_of true b c x y z e = absurd cc
 none_of false true c x y z e = absurd cc
 none_of false false true x y z e = absurd cc
@@ -31,22 +33,33 @@ and_false a b e f = rw e at f
 
 -- what the bytes tell, as a page
 the_page : ℕ → List ℕ → Page
-the_page l bytes = record { entries = record { items = told_entries l bytes }; last = if is_told_leaf bytes then 0 else told_last l bytes }
+the_page l bytes = record {
+  entries = record { items = told_entries l bytes };
+  last = if is_told_leaf bytes then 0
+      else told_last l bytes;
+}
 
 told_from : (l : ℕ) (bytes : List ℕ) → nat_lt (most_entries l) (number_at 4 0 bytes) ≡ false →
-    (if is_told_leaf bytes then list_any (λ (e : PageEntry). not (e.child == 0)) (told_entries l bytes) else (told_last l bytes == 0 || list_any (λ (e : PageEntry). e.child == 0) (told_entries l bytes))) ≡ false →
-    (is_told_leaf bytes && list_any (λ (e : PageEntry). e.number == 0) (told_entries l bytes)) ≡ false → Told l bytes (the_page l bytes)
+    (if is_told_leaf bytes then list_any (λ (e : PageEntry). not (e.child == 0)) (told_entries l bytes)
+    else (told_last l bytes == 0 || list_any (λ (e : PageEntry). e.child == 0) (told_entries l bytes))) ≡ false →
+    (is_told_leaf bytes && list_any (λ (e : PageEntry). e.number == 0) (told_entries l bytes)) ≡ false
+    → Told l bytes (the_page l bytes)
 unfolding the_page
 told_from l bytes count child number = record {
   entries = refl;
   most = ltb-false (most_entries l) (number_at 4 0 bytes) count;
   leaf = λ e. let leaf : is_told_leaf bytes ≡ true = eq-eqb (number_at 4 4 bytes) 0 e in (
-    subst (λ b. (if b then list_any (λ (e : PageEntry). not (e.child == 0)) (told_entries l bytes) else (told_last l bytes == 0 || list_any (λ (e : PageEntry). e.child == 0) (told_entries l bytes))) ≡ false) leaf child,
+    subst (λ b. (if b then list_any (λ (e : PageEntry). not (e.child == 0)) (told_entries l bytes)
+        else (told_last l bytes == 0 || list_any (λ (e : PageEntry). e.child == 0) (told_entries l bytes))) ≡ false)
+        leaf child,
     and_false _ _ leaf number,
     ap (λ b. if b then 0 else told_last l bytes) leaf,
   );
   inner = λ n. let inner : is_told_leaf bytes ≡ false = ne_eqb (number_at 4 4 bytes) 0 n in
-      let both = parts_false (told_last l bytes == 0) _ (subst (λ b. (if b then list_any (λ (e : PageEntry). not (e.child == 0)) (told_entries l bytes) else (told_last l bytes == 0 || list_any (λ (e : PageEntry). e.child == 0) (told_entries l bytes))) ≡ false) inner child) in
+      let both = parts_false (told_last l bytes == 0) _
+      (subst (λ b. (if b then list_any (λ (e : PageEntry). not (e.child == 0)) (told_entries l bytes)
+      else (told_last l bytes == 0 || list_any (λ (e : PageEntry). e.child == 0) (told_entries l bytes))) ≡ false)
+      inner child) in
       (both.1, sym (ap (λ b. if b then 0 else told_last l bytes) inner), eqb-false (told_last l bytes) 0 both.0);
 }
 
@@ -63,7 +76,8 @@ stands-page_of : (l : ℕ) (bytes : List ℕ) (p : Page) → IsPage l bytes p �
 unfolding page_of
 stands-page_of l bytes p is =
     let told = told_of l bytes p is in
-    let count : nat_lt (most_entries l) (number_at 4 0 bytes) ≡ false = le-ltb (most_entries l) (number_at 4 0 bytes) told.most in
+    let count : nat_lt (most_entries l) (number_at 4 0 bytes) ≡ false =
+    le-ltb (most_entries l) (number_at 4 0 bytes) told.most in
     ⊎_elim
     (λ e. let leaf : is_told_leaf bytes ≡ true = eq-eqb (number_at 4 4 bytes) 0 e in
     let facts = told.leaf e in

@@ -1,8 +1,7 @@
 //! Page 0 of an index file as bytes.
 
-ghost use Rattle.std.specs.Prelude.{◌≡◌, ℕ, ◌+◌, ◌∷◌, ◌++◌, ◌≤◌, List, length, take, find, position, ◌==◌, slice_index};
-ghost use Rattle.std.specs.Prelude.{slice_range, IfOk, MatchResult, Some, None, Ok};
-ghost use Rattle.arrayvec.specs.ArrayVec.{array_vec_len};
+ghost use Rattle.std.specs.Prelude.{◌≡◌, ◌≤◌, length, find, position, ◌==◌};
+ghost use Rattle.std.specs.Prelude.{IfOk, MatchResult, Some, None, Ok};
 ghost use Rattle.ndx_page.specs.declared.head.Head.{Head as TheHead};
 ghost use Rattle.ndx_page.specs.HeadLayout.{IsHead, has_head_fault, head_faults, head_text};
 

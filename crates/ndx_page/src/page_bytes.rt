@@ -1,12 +1,11 @@
 //! A page of entries as bytes.
 
-ghost use Rattle.std.specs.Prelude.{◌≡◌, ◌+◌, ◌*◌, ◌^◌, ◌<◌, ◌≤◌, ◌++◌, length, find, not, ◌==◌, IfOk, MatchResult};
+ghost use Rattle.std.specs.Prelude.{◌≡◌, ◌+◌, ◌^◌, ◌<◌, ◌≤◌, ◌++◌, length, find, not, ◌==◌, IfOk, MatchResult};
 ghost use Rattle.std.specs.Prelude.{Some, None, Ok};
 ghost use Rattle.std.specs.List.{list_any};
 ghost use Rattle.arrayvec.specs.ArrayVec.{array_vec_len};
 ghost use Rattle.ndx_page.specs.declared.page.Page.{Page as ThePage};
 ghost use Rattle.ndx_page.specs.Layout.{entry_size, most_entries as most_of};
-ghost use Rattle.ndx_page.specs.Numbers.{number_at};
 ghost use Rattle.ndx_page.specs.PageLayout.{FitsKeys, IsPage, entry_at, entries_at, has_page_fault, page_faults};
 ghost use Rattle.ndx_page.specs.PageLayout.{entry_text, page_text};
 

@@ -1,5 +1,6 @@
 -- Pairs in record order.
-use Rattle.std.proofs.Common.{◌≡◌, ℕ, zero, suc, ◌+◌, ◌-◌, ◌<◌, ◌≤◌, inl, inr, true, false, nat_lt, min, Option, Some, None, List, [], ◌∷◌, ◌++◌, length, reverse, filter, refl, ap, ◌∙◌, arith}
+use Rattle.std.proofs.Common.{◌≡◌, ℕ, zero, suc, ◌+◌, ◌-◌, ◌<◌, ◌≤◌, inl, inr, true, false, nat_lt, min, Option, Some}
+use Rattle.std.proofs.Common.{None, List, [], ◌∷◌, ◌++◌, length, reverse, filter, refl, ap, ◌∙◌, arith}
 use Rattle.std.proofs.lemmas.Bool.{lt-ltb, le-ltb, cases_lt}
 use Rattle.std.proofs.lemmas.Bool.Decides.{nat_tests}
 use Rattle.std.proofs.lemmas.List.{reverse-append}
@@ -36,7 +37,8 @@ first_record zero = refl
 first_record (suc count) = let one : min (suc count) 1 ≡ 1 = omega arith in rw one refl
 
 -- the next number stands next, if there is one
-above_there : (m n count : ℕ) → n ≤ m + 1 → m + 1 < n + count → first (above is_before ([], m) (records_from n count)) ≡ Some ([], m + 1)
+above_there : (m n count : ℕ) → n ≤ m + 1 → m + 1 < n + count → first (above is_before ([], m) (records_from n count))
+    ≡ Some ([], m + 1)
 above_there m n zero le lt = absurd (omega arith)
 above_there m n (suc count) le lt = elim (cases_lt m n) [
   | inl less ↦ let same : n ≡ m + 1 = omega arith in rw (before m n less) (ap (λ (k : ℕ). Some ([], k)) same)
@@ -57,20 +59,25 @@ none_after count n le = above_none n 1 count (omega arith)
 
 last_apart : (n count : ℕ) → records_from n (suc count) ≡ records_from n count ++ ([], n + count) ∷ []
 last_apart n zero = ap (λ (k : ℕ). ([], k) ∷ []) (omega arith)
-last_apart n (suc count) = ap (λ (ps : List Pair). ([], n) ∷ ps) (last_apart (n + 1) count ∙ ap (λ (k : ℕ). records_from (n + 1) count ++ ([], k) ∷ []) (omega arith))
+last_apart n (suc count) = ap (λ (ps : List Pair). ([], n) ∷ ps)
+    (last_apart (n + 1) count ∙ ap (λ (k : ℕ). records_from (n + 1) count ++ ([], k) ∷ []) (omega arith))
 
 turned : (count : ℕ) → reverse (record_order (suc count)) ≡ ([], suc count) ∷ reverse (record_order count)
-turned count = ap reverse (last_apart 1 count) ∙ reverse-append (record_order count) (([], 1 + count) ∷ []) ∙ ap (λ (k : ℕ). ([], k) ∷ reverse (record_order count)) (omega arith)
+turned count = ap reverse (last_apart 1 count) ∙ reverse-append (record_order count) (([], 1 + count) ∷ [])
+    ∙ ap (λ (k : ℕ). ([], k) ∷ reverse (record_order count)) (omega arith)
 
 pub last_record : (count : ℕ) → first (reverse (record_order count)) ≡ record_pair count
 last_record zero = refl
 last_record (suc count) = ap first (turned count)
 
-pub record_below : (count n : ℕ) → first (below is_before ([], n) (record_order count)) ≡ record_pair (min (n - 1) count)
+pub record_below : (count n : ℕ) → first (below is_before ([], n) (record_order count))
+    ≡ record_pair (min (n - 1) count)
 record_below zero n = let none : min (n - 1) 0 ≡ 0 = omega arith in rw none refl
 record_below (suc count) n =
     ap (λ ps. first (filter (λ p. is_before p ([], n)) ps)) (turned count)
     ∙ elim (cases_lt (suc count) n) [
-      | inl less ↦ let most : min (n - 1) (suc count) ≡ suc count = omega arith in rw (before (suc count) n less, most) refl
-      | inr more ↦ let same : min (n - 1) (suc count) ≡ min (n - 1) count = omega arith in rw (not_before (suc count) n more, same) (record_below count n)
+      | inl less ↦ let most : min (n - 1) (suc count) ≡ suc count =
+          omega arith in rw (before (suc count) n less, most) refl
+      | inr more ↦ let same : min (n - 1) (suc count) ≡ min (n - 1) count =
+          omega arith in rw (not_before (suc count) n more, same) (record_below count n)
     ]

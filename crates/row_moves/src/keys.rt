@@ -1,6 +1,6 @@
 //! What a text that is sought must be at the front of keys.
 
-ghost use Rattle.std.specs.Prelude.{◌≡◌, ℕ, ◌≤◌, drop, slice_index_or};
+ghost use Rattle.std.specs.Prelude.{◌≡◌, ◌≤◌, drop, slice_index_or};
 ghost use Rattle.row_moves.specs.Moves.{is_all_blanks};
 ghost use Rattle.row_moves.specs.Seeking.{cut_or_filled};
 

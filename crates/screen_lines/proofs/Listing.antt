@@ -1,5 +1,6 @@
 -- What is sent is lines.
-use Rattle.std.proofs.Common.{◌≡◌, ℕ, ◌-◌, ◌<◌, List, [], ◌∷◌, ◌++◌, length, get_or, take, refl, ◌∙◌, ap, arith, length-take, false}
+use Rattle.std.proofs.Common.{◌≡◌, ℕ, ◌-◌, ◌<◌, List, [], ◌∷◌, ◌++◌, length, get_or, take, refl, ◌∙◌, ap, arith}
+use Rattle.std.proofs.Common.{length-take, false}
 use Rattle.std.specs.Prelude.{map, reverse}
 use Rattle.std.specs.List.{All, flat_map, suffix_len}
 use Rattle.std.proofs.lemmas.List.Elements.{All-take, All-map, All-weaker}
@@ -13,7 +14,8 @@ use Rattle.screen_lines.specs.Shape.{Shows, IsRow, IsWhole, IsSentLine, IsListin
 use Rattle.screen_lines.proofs.Stepping.{IsWhole-after, cleared-Steps}
 
 -- the byte before the part that is cut off stays
-last_shows : (row : List ℕ) (n d : ℕ) → n ≡ length row - suffix_len is_blank row → 0 < n → is_blank (get_or (take n row) (n - 1) d) ≡ false
+last_shows : (row : List ℕ) (n d : ℕ) → n ≡ length row - suffix_len is_blank row → 0 < n
+    → is_blank (get_or (take n row) (n - 1) d) ≡ false
 last_shows row n d cut some =
     let len = length-reverse row in
     let here : suffix_len is_blank row < length (reverse row) = omega arith in
@@ -28,7 +30,8 @@ trimmed : (row : List ℕ) → suffix_len is_blank (without_end is_blank row) �
 trimmed row =
     let n : ℕ = length row - suffix_len is_blank row in
     let len : length (take n row) ≡ n = length-take n row ∙ omega arith in
-    let none = suffix_len_is is_blank (take n row) n 0 (omega arith) (λ k low high. absurd (omega arith)) (λ some. last_shows row n 0 refl some) in
+    let none = suffix_len_is is_blank (take n row) n 0 (omega arith) (λ k low high. absurd (omega arith))
+    (λ some. last_shows row n 0 refl some) in
     none ∙ omega arith
 
 IsLine-without_end : (row : List ℕ) → IsRow row → IsSentLine (without_end is_blank row)
@@ -40,7 +43,8 @@ IsLine-without_end row is =
       trimmed = trimmed row;
     }
 
-lines-texts : (rows : List (List ℕ)) → lines_sent rows ≡ flat_map (λ text. text ++ 10 ∷ []) (map (without_end is_blank) rows)
+lines-texts : (rows : List (List ℕ)) → lines_sent rows ≡ flat_map (λ text. text ++ 10 ∷ [])
+    (map (without_end is_blank) rows)
 lines-texts [] = refl
 lines-texts (row ∷ rows) = ap (λ l. line_sent row ++ l) (lines-texts rows)
 
@@ -49,8 +53,12 @@ unfolding roll_sent roll_cleared
 IsListing-sent roll whole =
     let end = roll_cleared roll in
     let rows = take end.base end.rows in
-    let all : All IsRow rows = All-take IsRow end.base end.rows (cleared-Steps roll whole).whole.rows in
-    (map (without_end is_blank) rows, All-map IsSentLine (without_end is_blank) rows (All-weaker IsRow (λ row. IsSentLine (without_end is_blank row)) IsLine-without_end rows all), lines-texts rows)
+    let all : All IsRow rows = All-take IsRow end.base end.rows (cleared-Steps roll whole).whole.rows in (
+      map (without_end is_blank) rows,
+      All-map IsSentLine (without_end is_blank) rows
+          (All-weaker IsRow (λ row. IsSentLine (without_end is_blank row)) IsLine-without_end rows all),
+      lines-texts rows,
+    )
 
 pub IsListing-bytes_of : (commands : List ScreenCommand) → IsListing (bytes_sent commands)
 IsListing-bytes_of commands = IsListing-sent (screen_after commands blank_screen).roll (IsWhole-after commands)

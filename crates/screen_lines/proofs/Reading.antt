@@ -12,8 +12,10 @@ take_front : (a b : List (List ℕ)) → take (length a) (a ++ b) ≡ a
 take_front [] b = refl
 take_front (x ∷ a) b = ap (λ r. x ∷ r) (take_front a b)
 
-pub seen_of : (sent : List ℕ) (seen : List (List ℕ)) (cursor : Cursor) → seen ≡ drop (roll_with sent seen cursor).base (roll_with sent seen cursor).rows
+pub seen_of : (sent : List ℕ) (seen : List (List ℕ)) (cursor : Cursor)
+    → seen ≡ drop (roll_with sent seen cursor).base (roll_with sent seen cursor).rows
 seen_of sent seen cursor = sym (drop_front (rows_sent sent) seen)
 
-pub sent_of : (sent : List ℕ) (seen : List (List ℕ)) (cursor : Cursor) → Keeps sent seen cursor → sent ≡ lines_sent (take (roll_with sent seen cursor).base (roll_with sent seen cursor).rows)
+pub sent_of : (sent : List ℕ) (seen : List (List ℕ)) (cursor : Cursor) → Keeps sent seen cursor
+    → sent ≡ lines_sent (take (roll_with sent seen cursor).base (roll_with sent seen cursor).rows)
 sent_of sent seen cursor k = k.lines.whole ∙ ap lines_sent (sym (take_front (rows_sent sent) seen))

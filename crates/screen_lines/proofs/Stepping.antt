@@ -1,5 +1,6 @@
 -- Each command keeps the screen whole and what was sent.
-use Rattle.std.proofs.Common.{◌≡◌, ℕ, ◌+◌, ◌<◌, ◌≤◌, List, [], ◌∷◌, ◌++◌, length, get_or, take, drop, min, refl, sym, ◌∙◌, ap, arith, length-append, length-take, Bool, true, false}
+use Rattle.std.proofs.Common.{◌≡◌, ℕ, ◌+◌, ◌<◌, ◌≤◌, List, [], ◌∷◌, ◌++◌, length, get_or, take, drop, min, refl, sym}
+use Rattle.std.proofs.Common.{◌∙◌, ap, arith, length-append, length-take, Bool, true, false}
 use Rattle.std.specs.Prelude.{ℤ, pos, negsuc, if◌then◌else◌, nat_lt, ◌&&◌}
 use Rattle.std.specs.List.{All}
 use Rattle.std.proofs.lemmas.List.{length-set, take-append-le, take-set-le, take-take, take_at, append_assoc}
@@ -10,7 +11,10 @@ use Rattle.screen_lines.specs.declared.cursor.Cursor.{Cursor}
 use Rattle.screen_lines.specs.declared.cursor.Cursor.TheVariants.{BeforeFirst, At}
 use Rattle.screen_lines.specs.declared.commands.ScreenCommand.{ScreenCommand}
 use Rattle.screen_lines.specs.declared.commands.ScreenCommand.TheVariants.{NewLine, Print, Say, SayOn, Clear}
-use Rattle.screen_lines.specs.Roll.{Roll, blank_screen_row, blank_rows, blank_roll, row_with, shown_at, scrolled, next_line_from, on_next_line, byte_printed_from, text_printed, text_said, text_said_on_from, text_said_on, rows_shown, without_end, is_blank_row, roll_cleared}
+use Rattle.screen_lines.specs.Roll.{Roll, blank_screen_row, blank_rows, blank_roll, row_with, shown_at, scrolled}
+use Rattle.screen_lines.specs.Roll.{next_line_from, on_next_line, byte_printed_from, text_printed, text_said}
+use Rattle.screen_lines.specs.Roll.{text_said_on_from, text_said_on, rows_shown, without_end, is_blank_row}
+use Rattle.screen_lines.specs.Roll.{roll_cleared}
 use Rattle.screen_lines.specs.State.{ScreenState, blank_screen}
 use Rattle.screen_lines.specs.Commands.{obeyed, screen_after}
 use Rattle.screen_lines.specs.Shape.{IsRow, IsOnScreen, IsWhole, KeepsSent}
@@ -44,7 +48,8 @@ both_true : (a b : Bool) → (a && b) ≡ true → (a ≡ true) × (b ≡ true)
 both_true true b h = (refl, h)
 both_true false b h = absurd (false≢true h)
 
-either : (b : Bool) (old x y : Roll) → (b ≡ true → Steps old x) → (b ≡ false → Steps old y) → Steps old (if b then x else y)
+either : (b : Bool) (old x y : Roll) → (b ≡ true → Steps old x) → (b ≡ false → Steps old y)
+    → Steps old (if b then x else y)
 either true old x y one two = one refl
 either false old x y one two = two refl
 
@@ -65,10 +70,15 @@ scrolls roll row whole low =
         rows = All-append IsRow roll.rows (blank_screen_row ∷ []) whole.rows (All-one blank_screen_row IsRow-blank);
         cursor = (low, omega arith);
       };
-      kept = record { more = omega arith; same = take-append-le roll.base roll.rows (blank_screen_row ∷ []) (omega arith) };
+      kept = record {
+        more = omega arith;
+        same = take-append-le roll.base roll.rows (blank_screen_row ∷ [])
+            (omega arith);
+      };
     }
 
-next_line_from-Steps : (place : Cursor) (roll : Roll) → IsOnScreen place → IsWhole roll → Steps roll (next_line_from place roll)
+next_line_from-Steps : (place : Cursor) (roll : Roll) → IsOnScreen place → IsWhole roll
+    → Steps roll (next_line_from place roll)
 next_line_from-Steps BeforeFirst roll inside whole = moved roll (At 0 0) whole (omega arith, omega arith)
 next_line_from-Steps (At row column) roll inside whole =
     either (nat_lt (row + 1) 25) roll _ _
@@ -79,7 +89,8 @@ pub next_line-Steps : (roll : Roll) → IsWhole roll → Steps roll (on_next_lin
 unfolding on_next_line
 next_line-Steps roll whole = next_line_from-Steps roll.cursor roll whole.cursor whole
 
-pub shown_at-Steps : (row column : ℕ) (text : List ℕ) (roll : Roll) → row < 25 → column ≤ 80 → IsWhole roll → Steps roll (shown_at row column text roll)
+pub shown_at-Steps : (row column : ℕ) (text : List ℕ) (roll : Roll) → row < 25 → column ≤ 80 → IsWhole roll
+    → Steps roll (shown_at row column text roll)
 shown_at-Steps row column text roll low inside whole =
     let seen = whole.seen in
     let old = get_or roll.rows (roll.base + row) blank_screen_row in
@@ -87,7 +98,8 @@ shown_at-Steps row column text roll low inside whole =
     record {
       whole = record {
         seen = length-set roll.rows (roll.base + row) (row_with column text old) ∙ whole.seen;
-        rows = All-set IsRow roll.rows (roll.base + row) (row_with column text old) (IsRow-with column text old inside is) whole.rows;
+        rows = All-set IsRow roll.rows (roll.base + row) (row_with column text old)
+            (IsRow-with column text old inside is) whole.rows;
         cursor = (low, omega arith);
       };
       kept = record {
@@ -96,15 +108,18 @@ shown_at-Steps row column text roll low inside whole =
       };
     }
 
-byte_printed-Steps : (place : Cursor) (byte : ℕ) (roll : Roll) → IsOnScreen place → IsWhole roll → Steps roll (byte_printed_from place byte roll)
+byte_printed-Steps : (place : Cursor) (byte : ℕ) (roll : Roll) → IsOnScreen place → IsWhole roll
+    → Steps roll (byte_printed_from place byte roll)
 byte_printed-Steps BeforeFirst byte roll inside whole =
     let ready = next_line-Steps roll whole in
-    on roll (on_next_line roll) _ ready (shown_at-Steps 0 0 (byte ∷ []) (on_next_line roll) (omega arith) (omega arith) ready.whole)
+    on roll (on_next_line roll) _ ready
+    (shown_at-Steps 0 0 (byte ∷ []) (on_next_line roll) (omega arith) (omega arith) ready.whole)
 byte_printed-Steps (At row column) byte roll inside whole =
     let ready = next_line-Steps roll whole in
     either (nat_lt column 80) roll _ _
     (λ is. shown_at-Steps row column (byte ∷ []) roll inside.0 inside.1 whole)
-    (λ _. on roll (on_next_line roll) _ ready (shown_at-Steps (min (row + 1) 24) 0 (byte ∷ []) (on_next_line roll) (omega arith) (omega arith) ready.whole))
+    (λ _. on roll (on_next_line roll) _ ready
+    (shown_at-Steps (min (row + 1) 24) 0 (byte ∷ []) (on_next_line roll) (omega arith) (omega arith) ready.whole))
 
 text_printed-Steps : (text : List ℕ) (roll : Roll) → IsWhole roll → Steps roll (text_printed text roll)
 unfolding text_printed
@@ -113,21 +128,25 @@ text_printed-Steps (byte ∷ text) roll whole =
     let first = byte_printed-Steps roll.cursor byte roll whole.cursor whole in
     on roll _ _ first (text_printed-Steps text (byte_printed_from roll.cursor byte roll) first.whole)
 
-text_said-Steps : (row column : ℤ) (text : List ℕ) (roll : Roll) → IsWhole roll → Steps roll (text_said row column text roll)
+text_said-Steps : (row column : ℤ) (text : List ℕ) (roll : Roll) → IsWhole roll
+    → Steps roll (text_said row column text roll)
 unfolding text_said
 text_said-Steps (pos row) (pos column) text roll whole =
     either (nat_lt row 25 && nat_lt column 80) roll _ _
     (λ is. let both = both_true (nat_lt row 25) (nat_lt column 80) is in
-    shown_at-Steps row column text roll (ltb-true row 25 both.0) (let c = ltb-true column 80 both.1 in omega arith) whole)
+    shown_at-Steps row column text roll (ltb-true row 25 both.0) (let c = ltb-true column 80 both.1 in omega arith)
+    whole)
     (λ _. stays roll whole)
 text_said-Steps (pos row) (negsuc column) text roll whole = stays roll whole
 text_said-Steps (negsuc row) column text roll whole = stays roll whole
 
-text_said_on-Steps : (place : Cursor) (text : List ℕ) (roll : Roll) → IsOnScreen place → IsWhole roll → Steps roll (text_said_on_from place text roll)
+text_said_on-Steps : (place : Cursor) (text : List ℕ) (roll : Roll) → IsOnScreen place → IsWhole roll
+    → Steps roll (text_said_on_from place text roll)
 text_said_on-Steps BeforeFirst text roll inside whole = stays roll whole
 text_said_on-Steps (At row column) text roll inside whole =
     either (nat_lt (column + 1) 80) roll _ _
-    (λ is. shown_at-Steps row (column + 1) text roll inside.0 (let c = ltb-true (column + 1) 80 is in omega arith) whole)
+    (λ is. shown_at-Steps row (column + 1) text roll inside.0 (let c = ltb-true (column + 1) 80 is in omega arith)
+    whole)
     (λ _. stays roll whole)
 
 pub cleared-Steps : (roll : Roll) → IsWhole roll → Steps roll (roll_cleared roll)
@@ -141,7 +160,8 @@ cleared-Steps roll whole =
     (All-take IsRow _ (drop roll.base roll.rows) (All-drop IsRow roll.base roll.rows whole.rows)) in
     record {
       whole = record {
-        seen = length-append (rows_shown roll) blank_rows ∙ ap (λ (n : ℕ). length (rows_shown roll) + n) length-blank_rows;
+        seen = length-append (rows_shown roll) blank_rows ∙ ap (λ (n : ℕ). length (rows_shown roll) + n)
+            length-blank_rows;
         rows = All-append IsRow (rows_shown roll) blank_rows all All-blank_rows;
         cursor = tt;
       };
@@ -152,7 +172,8 @@ cleared-Steps roll whole =
       };
     }
 
-pub obeyed-Steps : (command : ScreenCommand) (screen : ScreenState) → IsWhole screen.roll → Steps screen.roll (obeyed command screen).roll
+pub obeyed-Steps : (command : ScreenCommand) (screen : ScreenState) → IsWhole screen.roll
+    → Steps screen.roll (obeyed command screen).roll
 unfolding text_said_on
 obeyed-Steps NewLine screen whole = next_line-Steps screen.roll whole
 obeyed-Steps (Print text) screen whole = text_printed-Steps text.items screen.roll whole
@@ -160,7 +181,8 @@ obeyed-Steps (Say row column text) screen whole = text_said-Steps row column tex
 obeyed-Steps (SayOn text) screen whole = text_said_on-Steps screen.roll.cursor text.items screen.roll whole.cursor whole
 obeyed-Steps Clear screen whole = cleared-Steps screen.roll whole
 
-pub after-Steps : (commands : List ScreenCommand) (screen : ScreenState) → IsWhole screen.roll → Steps screen.roll (screen_after commands screen).roll
+pub after-Steps : (commands : List ScreenCommand) (screen : ScreenState) → IsWhole screen.roll
+    → Steps screen.roll (screen_after commands screen).roll
 after-Steps [] screen whole = stays screen.roll whole
 after-Steps (command ∷ commands) screen whole =
     let first = obeyed-Steps command screen whole in
@@ -173,10 +195,13 @@ IsWhole-blank = record { seen = length-blank_rows; rows = All-blank_rows; cursor
 pub IsWhole-after : (commands : List ScreenCommand) → IsWhole (screen_after commands blank_screen).roll
 IsWhole-after commands = (after-Steps commands blank_screen IsWhole-blank).whole
 
-after-append : (first more : List ScreenCommand) (screen : ScreenState) → screen_after (first ++ more) screen ≡ screen_after more (screen_after first screen)
+after-append : (first more : List ScreenCommand) (screen : ScreenState)
+    → screen_after (first ++ more) screen ≡ screen_after more (screen_after first screen)
 after-append [] more screen = refl
 after-append (command ∷ first) more screen = after-append first more (obeyed command screen)
 
-pub KeepsSent-after : (first more : List ScreenCommand) → KeepsSent (screen_after first blank_screen).roll (screen_after (first ++ more) blank_screen).roll
+pub KeepsSent-after : (first more : List ScreenCommand) → KeepsSent (screen_after first blank_screen).roll
+    (screen_after (first ++ more) blank_screen).roll
 KeepsSent-after first more =
-    rw (after-append first more blank_screen) ((after-Steps more (screen_after first blank_screen) (IsWhole-after first)).kept)
+    rw (after-append first more blank_screen)
+    ((after-Steps more (screen_after first blank_screen) (IsWhole-after first)).kept)

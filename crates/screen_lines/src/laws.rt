@@ -3,7 +3,6 @@
 
 ghost use Rattle.std.specs.Prelude.{◌≡◌, ℕ, List, ◌∷◌, ◌++◌, ◌+◌, ◌≤◌, length};
 ghost use Rattle.screen_lines.specs.Roll.{Roll, on_next_line, shown_at, text_printed};
-ghost use Rattle.screen_lines.specs.declared.cursor.Cursor.{Cursor};
 ghost use Rattle.screen_lines.specs.declared.cursor.Cursor.TheVariants.{BeforeFirst, At};
 ghost use Rattle.screen_lines.specs.State.{blank_screen};
 ghost use Rattle.screen_lines.specs.Commands.{screen_after, bytes_sent};

@@ -28,7 +28,8 @@ fn are_of(indexes: &[IndexShape], table: u8, numbers: &[u8]) -> bool
     numbers.iter().all(|number| is_of(indexes, table, *number))
 }
 
-fn is_among(numbers: &[u8], number: u8) -> bool
+/// Whether a number is among some.
+pub fn is_among(numbers: &[u8], number: u8) -> bool
     ensures { result ≡ list_any (λ other. other == number) numbers.now }
 {
     numbers.iter().any(|other| *other == number)

@@ -1,10 +1,10 @@
 //! Keys of rows.
 
-ghost use Rattle.std.specs.Prelude.{◌≡◌, ℕ, ◌+◌, ◌<◌, ◌≤◌, ◌++◌, length, map, if◌then◌else◌};
+ghost use Rattle.std.specs.Prelude.{◌≡◌, ◌+◌, ◌<◌, ◌≤◌, ◌++◌, length, map};
 ghost use Rattle.std.specs.Char.{to_ascii_uppercase};
 ghost use Rattle.dbf_file.specs.Rows.{row_at};
 ghost use Rattle.dbf_file.specs.Tables.{row_widths};
-ghost use Rattle.std.specs.Prelude.{◌∷◌, ◌*◌, slice_get};
+ghost use Rattle.std.specs.Prelude.{◌*◌, slice_get};
 ghost use Rattle.std.specs.List.{list_all};
 ghost use Rattle.shape.specs.Keys.{IsKey, cased, key_of, key_length, width_of as width_of_field, names_text, key_bytes};
 ghost use Rattle.shape.specs.Keys.{is_key, name_of, part_spelled, more_spelled, key_text};
@@ -220,7 +220,7 @@ fn put_more(text: &mut KeyText, fields: &[Field], parts: &[KeyPart])
 }
 
 /// Puts a text at the end of a key, as it stands or in capitals.
-fn put_text(key: &mut ArrayVec<u8, 100>, text: &[u8], upper: bool)
+pub fn put_text(key: &mut ArrayVec<u8, 100>, text: &[u8], upper: bool)
     requires { length key.old.items + length text.now ≤ 100 }
     ensures { key.new.items ≡ key.old.items ++ cased upper text.now }
 {

@@ -7,7 +7,7 @@ ghost use Rattle.shape.specs.Tables.{has_table_name, is_table, is_next_table, ta
 
 use crate::items::Items;
 use crate::names::{Name, copy_of_name, is_capital_name, is_file_name};
-use dbf_file::{Field, are_fields};
+use dbf_file::{Field, are_fields, copied_fields};
 use std::alloc::{AllocError, Global};
 
 /// A declared table: its name, which is that of its file, and its fields in their order.
@@ -57,19 +57,9 @@ impl TableShape {
     {
         Ok(TableShape {
             name: copy_of_name(&self.name),
-            fields: Items::of(copies_of(alloc, self.fields.as_slice())?),
+            fields: Items::of(copied_fields(alloc, self.fields.as_slice())?),
         })
     }
-}
-
-fn copies_of(alloc: Global, fields: &[Field]) -> Result<Vec<Field>, AllocError>
-    ensures { IfOk result (λ copies. copies.items ≡ fields.now) }
-{
-    let mut copies = Vec::with_capacity(alloc, fields.len())?;
-    for field in fields {
-        copies.push(field.copied())?;
-    }
-    Ok(copies)
 }
 
 /// Whether each may be declared behind these tables and those before it.

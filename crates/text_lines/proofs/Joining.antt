@@ -1,6 +1,7 @@
 -- Texts that are put behind one another.
 
-use Rattle.std.proofs.Common.{◌≡◌, ◌≤◌, ◌<◌, ◌-◌, suc, arith, length, sym, nat_eq, slice_index_or, ℕ, ◌==◌, ◌&&◌, Bool, true, false, List, [], ◌∷◌, ◌++◌, map, take, refl, ◌∙◌, ap, if◌then◌else◌}
+use Rattle.std.proofs.Common.{◌≡◌, ◌≤◌, ◌<◌, ◌-◌, suc, arith, length, sym, nat_eq, slice_index_or, ℕ, ◌==◌, ◌&&◌, Bool}
+use Rattle.std.proofs.Common.{true, false, List, [], ◌∷◌, ◌++◌, map, take, refl, ◌∙◌, ap, if◌then◌else◌}
 use Rattle.text_lines.specs.Lines as spec
 
 -- what a byte makes of the lines behind it
@@ -13,7 +14,8 @@ some_last x false true ls e = absurd (cc)
 some_last x false false [] e = refl
 some_last x false false (l ∷ ls) e = refl
 
-some_more : (x : ℕ) (p q : Bool) (ls : List (List ℕ)) → spec.is_out ls ≡ false → spec.is_out (with_byte x p q ls) ≡ false
+some_more : (x : ℕ) (p q : Bool) (ls : List (List ℕ)) → spec.is_out ls ≡ false
+    → spec.is_out (with_byte x p q ls) ≡ false
 some_more x true q ls e = refl
 some_more x false true ls e = e
 some_more x false false [] e = refl
@@ -40,7 +42,8 @@ none_left rest e = rw e refl
 pub some_left : (x : ℕ) (rest : List ℕ) → spec.is_out (spec.short_lines (x ∷ rest)) ≡ false
 some_left x rest = cut_some (spec.lines (x ∷ rest)) ∙ some_lines x rest
 
-joined : (x : ℕ) (p q : Bool) (whole front behind : List (List ℕ)) → spec.is_out front ≡ false → whole ≡ front ++ behind → with_byte x p q whole ≡ with_byte x p q front ++ behind
+joined : (x : ℕ) (p q : Bool) (whole front behind : List (List ℕ)) → spec.is_out front ≡ false → whole ≡ front ++ behind
+    → with_byte x p q whole ≡ with_byte x p q front ++ behind
 joined x true q whole front behind some e = ap (λ ls. [] ∷ ls) e
 joined x false true whole front behind some e = e
 joined x false false whole [] behind some e = absurd (cc)
@@ -53,15 +56,18 @@ last_joined x false q r ls e = absurd (cc)
 pub lines_join : (a b : List ℕ) → spec.is_ended a ≡ true → spec.lines (a ++ b) ≡ spec.lines a ++ spec.lines b
 unfolding spec.lines
 lines_join [] b e = refl
-lines_join (x ∷ []) b e = last_joined x (x == 10) (x == 13 && spec.begins_with_line_end b) (x == 13 && false) (spec.lines b) e
+lines_join (x ∷ []) b e =
+    last_joined x (x == 10) (x == 13 && spec.begins_with_line_end b) (x == 13 && false) (spec.lines b) e
 lines_join (x ∷ c ∷ rest) b e =
-    joined x (x == 10) (x == 13 && (c == 10)) (spec.lines ((c ∷ rest) ++ b)) (spec.lines (c ∷ rest)) (spec.lines b) (some_lines c rest) (lines_join (c ∷ rest) b e)
+    joined x (x == 10) (x == 13 && (c == 10)) (spec.lines ((c ∷ rest) ++ b)) (spec.lines (c ∷ rest)) (spec.lines b)
+    (some_lines c rest) (lines_join (c ∷ rest) b e)
 
 cut_join : (a b : List (List ℕ)) → map (take 254) (a ++ b) ≡ map (take 254) a ++ map (take 254) b
 cut_join [] b = refl
 cut_join (l ∷ a) b = ap (λ ls. take 254 l ∷ ls) (cut_join a b)
 
-pub short_join : (a b : List ℕ) → spec.is_ended a ≡ true → spec.short_lines (a ++ b) ≡ spec.short_lines a ++ spec.short_lines b
+pub short_join : (a b : List ℕ) → spec.is_ended a ≡ true → spec.short_lines (a ++ b)
+    ≡ spec.short_lines a ++ spec.short_lines b
 short_join a b e = ap (map (take 254)) (lines_join a b e) ∙ cut_join (spec.lines a) (spec.lines b)
 
 pub ended_join : (a b : List ℕ) → spec.is_ended a ≡ true → spec.is_ended b ≡ true → spec.is_ended (a ++ b) ≡ true
@@ -83,7 +89,8 @@ pub left_where_some : (rest : List ℕ) → 1 ≤ length rest → false ≡ spec
 left_where_some [] some = absurd (omega (arith, some))
 left_where_some (x ∷ rest) some = sym (some_left x rest)
 
-pub last_byte : (bytes : List ℕ) → 1 ≤ length bytes → nat_eq (slice_index_or bytes (length bytes - 1) 0) 10 ≡ spec.is_ended bytes
+pub last_byte : (bytes : List ℕ) → 1 ≤ length bytes → nat_eq (slice_index_or bytes (length bytes - 1) 0) 10
+    ≡ spec.is_ended bytes
 last_byte [] some = absurd (omega (arith, some))
 last_byte (x ∷ []) some = refl
 last_byte (x ∷ c ∷ rest) some =

@@ -1,13 +1,12 @@
 // How texts compare, and what functions make of them. A text is lent as its bytes.
 #![tactic(auto)]
 
-ghost use Rattle.std.specs.Prelude.{◌≡◌, ◌+◌, ◌-◌, ◌≤◌, ◌++◌, min, length, take, drop, map, replicate, []};
+ghost use Rattle.std.specs.Prelude.{◌≡◌, ◌+◌, ◌≤◌, ◌++◌, min, length, take, drop, map, replicate};
 ghost use Rattle.std.specs.Char.{to_ascii_uppercase, to_ascii_lowercase, is_ascii_alphabetic, is_ascii_uppercase};
 ghost use Rattle.std.specs.Char.{is_ascii_lowercase};
-ghost use Rattle.fixed_num.specs.Reading.{without_blanks};
 ghost use Rattle.fixed_num.specs.Rounding.{whole_part};
 ghost use Rattle.fixed_num.specs.Text.{printed_in};
-ghost use Rattle.xvalue.specs.Texts.{fitting, without_last_blanks, equal_texts, first_or_blank, is_text_before};
+ghost use Rattle.xvalue.specs.Texts.{fitting, equal_texts, first_or_blank, is_text_before};
 ghost use Rattle.xvalue.specs.Texts.{joined_moved, count_of, bytes_cut_from, last_part, repeated, stuffed, first_place};
 ghost use Rattle.xvalue.specs.Texts.{place_number, first_is, first_byte, byte_text};
 

@@ -8,7 +8,8 @@ pub returns-clause-value : goal.returns-clause-value
 returns-clause-value c =
     let fits : FitsSigned w64 c.args.days = c.ranges.days in
     let only = simp to_z-of_z at c.days.ensures in
-    IfOk-weaker c.checked_add.result _ _ (λ d e. e ∙ date_add-days c.args.date c.args.days c.days.result only) c.checked_add.ensures.value
+    IfOk-weaker c.checked_add.result _ _ (λ d e. e ∙ date_add-days c.args.date c.args.days c.days.result only)
+    c.checked_add.ensures.value
 
 pub returns-clause-succeeds : goal.returns-clause-succeeds
 returns-clause-succeeds c =

@@ -1,5 +1,5 @@
 use Rattle.std.proofs.Common.{◌≡◌, take}
-use Rattle.dbf_file.proofs.structure.copies_of.Given as goal
+use Rattle.dbf_file.proofs.structure.copied_fields.Given as goal
 
 abbrev pub invariant-loop-field : goal.invariant-loop-field
 invariant-loop-field l = l.copies.items ≡ take l.field-index l.fields

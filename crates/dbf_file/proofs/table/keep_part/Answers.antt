@@ -12,5 +12,8 @@ returns c =
     let part = drop start xs in
     let within : count ≤ length part = omega (arith, c.requires, length-drop start xs) in
     let moved : start + count - start ≡ count = omega arith in
-    let front : take count (paste xs 0 part count) ≡ take count part = subst (λ n. take n (paste xs 0 part count) ≡ take count part) (omega arith) (take-paste xs 0 part count (omega arith) within) in
-    c.truncate.ensures.items ∙ ap (take count) (c.copy_within.ensures.items ∙ ap (paste xs 0 part) moved) ∙ front ∙ sym (ap (λ n. take n part) moved)
+    let front : take count (paste xs 0 part count) ≡ take count part = subst
+    (λ n. take n (paste xs 0 part count) ≡ take count part) (omega arith)
+    (take-paste xs 0 part count (omega arith) within) in
+    c.truncate.ensures.items ∙ ap (take count) (c.copy_within.ensures.items ∙ ap (paste xs 0 part) moved) ∙ front
+    ∙ sym (ap (λ n. take n part) moved)

@@ -16,14 +16,18 @@ TheText bytes structure rows = (stamp : Stamp) × DbfText structure rows stamp b
 pub returns-in_err-layout-clause-only : goal.returns-in_err-layout-clause-only
 returns-in_err-layout-clause-only c =
     let p = err_from_is_err_and c.from_residual.result c.from_residual.ensures.1 in
-    rw p.1 (λ structure rows stamp text limited. absurd (no_text_with_fault c.args.limit structure rows stamp c.args.bytes.items c.in_err-layout.field-0.0 text limited c.in_err-layout.ensures.fault))
+    rw p.1 (λ structure rows stamp text limited. absurd
+    (no_text_with_fault c.args.limit structure rows stamp c.args.bytes.items c.in_err-layout.field-0.0 text limited
+    c.in_err-layout.ensures.fault))
 
 pub returns-in-Ok-clause-found : goal.returns-in-Ok-clause-found
 returns-in-Ok-clause-found c =
     let layout = c.in_ok-layout.layout in
     let bytes = c.args.bytes.items in
-    let told : TheText bytes (structure_told bytes layout) (rows_told bytes layout) = (_, text_of bytes layout c.in_ok-layout.ensures.layout) in
-    subst (λ (s : StructureState). TheText bytes s c.in-Ok.table.rows) (sym c.in-Ok.ensures.structure) (subst (TheText bytes (structure_told bytes layout)) (sym c.in-Ok.ensures.rows) told)
+    let told : TheText bytes (structure_told bytes layout) (rows_told bytes layout) =
+    (_, text_of bytes layout c.in_ok-layout.ensures.layout) in
+    subst (λ (s : StructureState). TheText bytes s c.in-Ok.table.rows) (sym c.in-Ok.ensures.structure)
+    (subst (TheText bytes (structure_told bytes layout)) (sym c.in-Ok.ensures.rows) told)
 
 pub returns-in-Ok-clause-within : goal.returns-in-Ok-clause-within
 returns-in-Ok-clause-within c =
@@ -34,5 +38,6 @@ returns-in-Ok-clause-within c =
 pub returns-in-Ok-clause-only : goal.returns-in-Ok-clause-only
 returns-in-Ok-clause-only c = λ structure rows stamp text limited.
     let layout = c.in_ok-layout.layout in
-    let same = told_same c.args.bytes.items layout structure rows c.in_ok-layout.ensures.layout (parts_of structure rows stamp c.args.bytes.items text) in
+    let same = told_same c.args.bytes.items layout structure rows c.in_ok-layout.ensures.layout
+    (parts_of structure rows stamp c.args.bytes.items text) in
     (c.in-Ok.ensures.structure ∙ same.0, c.in-Ok.ensures.rows ∙ same.1)

@@ -9,15 +9,20 @@ use Rattle.dbf_file.proofs.table.table_of.Goals as goal
 pub invariant_of-result : goal.invariant_of-result
 invariant_of-result c =
     let layout = c.args.layout.now in
-    let structure : c.in_ok-of_parts.field-0 ≡ structure_told c.args.bytes.now layout = same_structure c.in_ok-of_parts.field-0 _ _ (c.in_ok-of_parts.ensures.fields ∙ c.as_slice.ensures.value) c.in_ok-of_parts.ensures.head in
+    let structure : c.in_ok-of_parts.field-0 ≡ structure_told c.args.bytes.now layout = same_structure
+    c.in_ok-of_parts.field-0 _ _ (c.in_ok-of_parts.ensures.fields ∙ c.as_slice.ensures.value)
+    c.in_ok-of_parts.ensures.head in
     let kept = kept_told c.args.bytes.now layout c.requires in
     subst (λ (s : StructureState). IsKept s layout.size layout.rows c.in_ok-from_slice.field-0.items) (sym structure)
-    (subst (λ (xs : List ℕ). IsKept (structure_told c.args.bytes.now layout) layout.size layout.rows xs) (sym c.in_ok-from_slice.ensures.items) kept)
+    (subst (λ (xs : List ℕ). IsKept (structure_told c.args.bytes.now layout) layout.size layout.rows xs)
+    (sym c.in_ok-from_slice.ensures.items) kept)
 
 pub returns-clause-rows : goal.returns-clause-rows
 returns-clause-rows c =
     let layout = c.args.layout.now in
-    let structure : c.in_ok-of_parts.field-0 ≡ structure_told c.args.bytes.now layout = same_structure c.in_ok-of_parts.field-0 _ _ (c.in_ok-of_parts.ensures.fields ∙ c.as_slice.ensures.value) c.in_ok-of_parts.ensures.head in
+    let structure : c.in_ok-of_parts.field-0 ≡ structure_told c.args.bytes.now layout = same_structure
+    c.in_ok-of_parts.field-0 _ _ (c.in_ok-of_parts.ensures.fields ∙ c.as_slice.ensures.value)
+    c.in_ok-of_parts.ensures.head in
     ap (λ (s : StructureState). rows_in (row_widths s) layout.rows c.in_ok-from_slice.field-0.items) structure
     ∙ ap (rows_in (row_widths (structure_told c.args.bytes.now layout)) layout.rows) c.in_ok-from_slice.ensures.items
     ∙ rows_of_records c.args.bytes.now layout c.requires

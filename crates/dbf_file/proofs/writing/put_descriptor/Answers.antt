@@ -9,6 +9,7 @@ returns c =
     let name = c.as_slice-name.ensures.value in
     on_ok_weaker c.put_zeros-3.result (λ last. put_described c.args.field.now old _ _ _ _ _ _ _
     (c.in_ok-extend_from_slice.ensures.items ∙ ap (λ (xs : List ℕ). old ++ xs) name)
-    (c.in_ok-put_zeros.ensures ∙ ap (λ (xs : List ℕ). c.extend_from_slice.new.self.items ++ replicate (11 - length xs) 0) name)
+    (c.in_ok-put_zeros.ensures ∙ ap (λ (xs : List ℕ). c.extend_from_slice.new.self.items ++ replicate (11 - length xs)
+    0) name)
     (c.in_ok-push.ensures.items ∙ ap (λ (code : ℕ). c.put_zeros.new.out.items ++ code ∷ []) c.code.ensures)
     c.in_ok-put_zeros-2.ensures c.in_ok-push-2.ensures.items c.in_ok-push-3.ensures.items last) c.put_zeros-3.ensures

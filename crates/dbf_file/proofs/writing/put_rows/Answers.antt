@@ -10,8 +10,10 @@ loop-preserved c =
     let room = room_turn c.args.size c.args.count c.loop.counter (length rest) c.loop-test.true c.loop.invariant.0 in
     rw c.split_at.ensures.back (
       omega (arith, room, length-drop c.args.size rest),
-      λ ws right. rows_turn ws c.args.size c.args.count c.loop.counter c.loop.out.items _ _ rest right c.loop-test.true c.split_at.ensures.front c.in_ok-put_record.ensures ∙ c.loop.invariant.1 ws right,
+      λ ws right. rows_turn ws c.args.size c.args.count c.loop.counter c.loop.out.items _ _ rest right c.loop-test.true
+          c.split_at.ensures.front c.in_ok-put_record.ensures ∙ c.loop.invariant.1 ws right,
     )
 
 pub returns : goal.returns
-returns c = λ ws right. sym (rows_done ws c.args.count c.loop.counter c.loop.out.items c.loop.rest.now (omega arith)) ∙ c.loop.invariant.1 ws right
+returns c = λ ws right. sym (rows_done ws c.args.count c.loop.counter c.loop.out.items c.loop.rest.now (omega arith))
+    ∙ c.loop.invariant.1 ws right

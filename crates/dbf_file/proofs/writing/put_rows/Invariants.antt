@@ -7,4 +7,5 @@ use Rattle.dbf_file.proofs.writing.put_rows.Given as goal
 abbrev pub invariant-loop : goal.invariant-loop
 invariant-loop l =
     ((l.count - l.counter) * l.size ≤ length l.rest)
-    × ((ws : List ℕ) → size_of ws ≡ l.size → l.out.items ++ rows_text (rows_in ws (l.count - l.counter) l.rest) ≡ l.fn.out.items ++ rows_text (rows_in ws l.count l.records))
+    × ((ws : List ℕ) → size_of ws ≡ l.size → l.out.items ++ rows_text (rows_in ws (l.count - l.counter) l.rest)
+    ≡ l.fn.out.items ++ rows_text (rows_in ws l.count l.records))

@@ -8,4 +8,5 @@ pub record Reading (short taken : Type 0) : Type 0 where
   pub consumed : taken
 
 abbrev pub invariant-loop : goal.invariant-loop
-invariant-loop g l = Reading (length l.bytes.items ≤ l.limit) (Consumes (g.R.Read.remaining l.fn.reader) (g.R.Read.remaining l.reader) l.bytes.items)
+invariant-loop g l = Reading (length l.bytes.items ≤ l.limit)
+    (Consumes (g.R.Read.remaining l.fn.reader) (g.R.Read.remaining l.reader) l.bytes.items)

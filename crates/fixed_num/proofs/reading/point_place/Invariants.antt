@@ -4,4 +4,5 @@ use Rattle.fixed_num.proofs.reading.point_place.Given as goal
 
 abbrev pub invariant-loop-place : goal.invariant-loop-place
 invariant-loop-place l =
-    (take l.place l.text ++ before_point (drop l.place l.text) ≡ before_point l.text) × (after_point (drop l.place l.text) ≡ after_point l.text)
+    (take l.place l.text ++ before_point (drop l.place l.text) ≡ before_point l.text)
+    × (after_point (drop l.place l.text) ≡ after_point l.text)

@@ -5,4 +5,5 @@ use Rattle.fixed_num.proofs.reading.with_digits.Given as goal
 
 abbrev pub invariant-loop-digit : goal.invariant-loop-digit
 invariant-loop-digit l =
-    (l.magnitude ≤ magnitude_limit) × (min magnitude_limit (with_digits l.magnitude (drop l.digit-index l.digits)) ≡ min magnitude_limit (with_digits l.number l.digits))
+    (l.magnitude ≤ magnitude_limit) × (min magnitude_limit (with_digits l.magnitude (drop l.digit-index l.digits))
+    ≡ min magnitude_limit (with_digits l.number l.digits))

@@ -14,6 +14,7 @@ returns c =
     let sorted = facts.sorted lt weak (answers_always _ _ _ (λ f a r g called. search rules)) in
     let entries = c.sort_unstable_by.new.self.items in
     record {
-      pairs = sym (in_order-sorted is_before is_before_strict entries (λ i j d le within. is_before_is _ _ ∙ sorted_far lt weak entries sorted i j d le within))
+      pairs = sym (in_order-sorted is_before is_before_strict entries
+          (λ i j d le within. is_before_is _ _ ∙ sorted_far lt weak entries sorted i j d le within))
           ∙ in_order-permutation is_before is_before_strict c.args.entries.now.items entries facts.permutation;
     }

@@ -8,5 +8,7 @@ pub returns : goal.returns
 returns c =
     let front = c.read_u64-front.ensures ∙ ap (big_number 8) c.known.ensures.same in
     let other = c.read_u64-other.ensures ∙ ap (big_number 8) c.known-2.ensures.same in
-    c.cmp-2.ensures ∙ ap (λ i. nat_cmp i c.read_u64-other.result) front ∙ ap (nat_cmp (big_number 8 c.args.first.now)) other
-    ∙ sym (fronts_decide 8 c.args.first.now c.args.second.now (omega arith) (omega arith) c.known.ensures.bytes c.known-2.ensures.bytes (λ e. c.if-front-other.false (front ∙ e ∙ sym other)))
+    c.cmp-2.ensures ∙ ap (λ i. nat_cmp i c.read_u64-other.result) front
+    ∙ ap (nat_cmp (big_number 8 c.args.first.now)) other
+    ∙ sym (fronts_decide 8 c.args.first.now c.args.second.now (omega arith) (omega arith) c.known.ensures.bytes
+    c.known-2.ensures.bytes (λ e. c.if-front-other.false (front ∙ e ∙ sym other)))

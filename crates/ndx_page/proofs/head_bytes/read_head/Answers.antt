@@ -4,7 +4,9 @@ use Rattle.ndx_page.proofs.HeadLemmas.{same_heads}
 use Rattle.ndx_page.proofs.head_bytes.read_head.Goals as goal
 
 pub returns-in_default-clause-only : goal.returns-in_default-clause-only
-returns-in_default-clause-only c = λ head is_head. absurd (never_endless head.text.items is_head.text.0 _ head.no_zero is_head.text.1 (sym c.end_of.ensures ∙ c.in_default.is))
+returns-in_default-clause-only c = λ head is_head. absurd
+    (never_endless head.text.items is_head.text.0 _ head.no_zero is_head.text.1
+    (sym c.end_of.ensures ∙ c.in_default.is))
 
 pub invariant_of-result-clause-no_zero : goal.invariant_of-result-clause-no_zero
 invariant_of-result-clause-no_zero c =
@@ -25,7 +27,11 @@ returns-clause-read c =
       kind = search rules;
       size = search rules;
       unique = search rules;
-      text = (drop (c.in-Some.end + 1) expression, ended_at _ c.in-Some.end found ∙ ap (λ (text : List ℕ). text ++ 0 ∷ drop (c.in-Some.end + 1) expression) (sym c.key_text.ensures));
+      text = (
+        drop (c.in-Some.end + 1) expression,
+        ended_at _ c.in-Some.end found
+            ∙ ap (λ (text : List ℕ). text ++ 0 ∷ drop (c.in-Some.end + 1) expression) (sym c.key_text.ensures),
+      );
     }
 
 pub returns-clause-only : goal.returns-clause-only
@@ -33,5 +39,6 @@ returns-clause-only c = λ head is_head.
     let found = sym c.end_of.ensures ∙ c.in-Some.is in
     let text = ended_once head.text.items is_head.text.0 _ c.in-Some.end head.no_zero is_head.text.1 found in
     let length : c.from-length.result ≡ head.length = search (rules, is_head.key_length) in
-    let same_text : c.key_text.result ≡ head.text = ap (λ (items : List ℕ). record { items = items }) (c.key_text.ensures ∙ text) in
+    let same_text : c.key_text.result ≡ head.text =
+    ap (λ (items : List ℕ). record { items = items }) (c.key_text.ensures ∙ text) in
     ap Ok (same_heads _ head (c.four_at.ensures ∙ is_head.root) (c.four_at-2.ensures ∙ is_head.pages) length same_text)

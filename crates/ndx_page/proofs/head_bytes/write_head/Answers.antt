@@ -21,9 +21,11 @@ returns-clause-exact c =
     let seven = then_part _ _ _ _ c.append_two-4.ensures.items six in
     let eight = then_part _ _ _ _ c.append_zeros-2.ensures.items seven in
     let nine = then_part _ _ _ _ c.append.ensures.items eight in
-    c.whole_page.ensures ∙ ap (padded 512) nine ∙ parts_written c.args.head.now _ _ _ c.most_entries.ensures c.entry_len.ensures c.deref.ensures.0
+    c.whole_page.ensures ∙ ap (padded 512) nine ∙ parts_written c.args.head.now _ _ _ c.most_entries.ensures
+    c.entry_len.ensures c.deref.ensures.0
 
 pub returns-clause-reads : goal.returns-clause-reads
 returns-clause-reads c =
     let fits : length c.args.head.now.text.items ≤ 487 = search (rules, c.deref.ensures.0, c.deref.ensures.1) in
-    subst (λ (bytes : List ℕ). IsHead bytes c.args.head.now) (sym (returns-clause-exact c)) (head_again c.args.head.now c.append_four.ensures.fits c.append_four-2.ensures.fits fits)
+    subst (λ (bytes : List ℕ). IsHead bytes c.args.head.now) (sym (returns-clause-exact c))
+    (head_again c.args.head.now c.append_four.ensures.fits c.append_four-2.ensures.fits fits)

@@ -7,7 +7,11 @@ use Rattle.ndx_page.proofs.EntryLemmas.{entries_more, entries_none, entries_all}
 use Rattle.ndx_page.proofs.page_bytes.entries_of.Goals as goal
 
 pub loop-index-init : goal.loop-index-init
-loop-index-init c = record { left = entries_none c.args.key_length c.args.count c.args.bytes.now _ c.new-entries.ensures; count = ap length c.new-entries.ensures }
+loop-index-init c = record {
+  left = entries_none c.args.key_length c.args.count c.args.bytes.now _
+      c.new-entries.ensures;
+  count = ap length c.new-entries.ensures;
+}
 
 pub overflow_mul-index : goal.overflow_mul-index
 overflow_mul-index c =
@@ -45,9 +49,11 @@ loop-index-preserved c =
     let entry = c.entry_of.ensures ∙ ap (λ (size : ℕ). entry_at l (4 + index * size) bytes) c.entry_len-size.ensures in
     let pushed = c.push.ensures.items ∙ ap (λ (e : PageEntry). es ++ e ∷ []) entry in
     record {
-      left = ap (λ (xs : List PageEntry). xs ++ entries_at l (c.args.count - (index + 1)) (4 + (index + 1) * entry_size l) bytes) pushed ∙ more;
+      left = ap (λ (xs : List PageEntry). xs ++ entries_at l (c.args.count - (index + 1))
+          (4 + (index + 1) * entry_size l) bytes) pushed ∙ more;
       count = c.push.ensures.len ∙ ap (λ (n : ℕ). n + 1) c.loop-index.invariant.count;
     }
 
 pub returns : goal.returns
-returns c = entries_all c.args.key_length c.args.count c.loop-index.index c.args.bytes.now c.loop-index.entries.items c.loop-index-test.false c.loop-index.invariant.left
+returns c = entries_all c.args.key_length c.args.count c.loop-index.index c.args.bytes.now c.loop-index.entries.items
+    c.loop-index-test.false c.loop-index.invariant.left

@@ -23,7 +23,8 @@ pub see-requires : goal.see-requires
 see-requires g c =
     let pairs : List Pair = g.K.KeyList.pairs c.args.keys.now in
     let found = rw c.loop-entry.invariant.pairs at c.in-Some.ensures.found in
-    let may : goal.F-pre g c.args.see.now c.in-Some.entry.1 = begun_each (λ p. goal.F-pre g c.args.see.now p.1) c.args.start.now c.loop-entry.at pairs c.in-Some.entry c.requires.callable found in
+    let may : goal.F-pre g c.args.see.now c.in-Some.entry.1 = begun_each (λ p. goal.F-pre g c.args.see.now p.1)
+    c.args.start.now c.loop-entry.at pairs c.in-Some.entry c.requires.callable found in
     let here : goal.F-pre g c.args.see.now c.number.result = rw c.number.ensures may in
     search of_calls
 
@@ -34,7 +35,8 @@ loop-entry-preserved g c =
     let found = rw inv.pairs at c.in-Some.ensures.found in
     let meets = c.meets_each.ensures pairs c.requires.ordered in
     let hidden = λ (shown : ℕ → Bool) (sees : Sees (goal.F-post g) c.args.see.now pairs shown).
-    let says = begun_each (λ p. (r : Bool) → goal.F-post g c.args.see.now p.1 r → r ≡ shown p.1) c.args.start.now c.loop-entry.at pairs c.in-Some.entry sees found in
+    let says = begun_each (λ p. (r : Bool) → goal.F-post g c.args.see.now p.1 r → r ≡ shown p.1) c.args.start.now
+    c.loop-entry.at pairs c.in-Some.entry sees found in
     sym (says c.see.result (rw (sym c.number.ensures) c.see.ensures)) ∙ c.if-see.false in
     record {
       pairs = c.in-Some.ensures.pairs ∙ inv.pairs;
@@ -54,7 +56,8 @@ returns-then-cost-budget-clause-scan g c = λ shown sees.
     let pairs : List Pair = g.K.KeyList.pairs c.args.keys.now in
     let inv = c.loop-entry.invariant in
     let found = rw inv.pairs at c.in-Some.ensures.found in
-    let t = begun_turn shown c.args.start.now c.loop-entry.at pairs c.in-Some.entry (c.meets_each.ensures pairs c.requires.ordered) found in
+    let t = begun_turn shown c.args.start.now c.loop-entry.at pairs c.in-Some.entry
+    (c.meets_each.ensures pairs c.requires.ordered) found in
     omega (arith, t.some, inv.met shown sees)
 
 pub returns-then-see-clause-scan : goal.returns-then-see-clause-scan
@@ -62,9 +65,12 @@ returns-then-see-clause-scan g c = λ shown sees.
     let pairs : List Pair = g.K.KeyList.pairs c.args.keys.now in
     let inv = c.loop-entry.invariant in
     let found = rw inv.pairs at c.in-Some.ensures.found in
-    let t = begun_turn shown c.args.start.now c.loop-entry.at pairs c.in-Some.entry (c.meets_each.ensures pairs c.requires.ordered) found in
-    let says = begun_each (λ p. (r : Bool) → goal.F-post g c.args.see.now p.1 r → r ≡ shown p.1) c.args.start.now c.loop-entry.at pairs c.in-Some.entry sees found in
-    let seen : shown c.in-Some.entry.1 ≡ true = sym (says c.see.result (rw (sym c.number.ensures) c.see.ensures)) ∙ c.if-see.true in
+    let t = begun_turn shown c.args.start.now c.loop-entry.at pairs c.in-Some.entry
+    (c.meets_each.ensures pairs c.requires.ordered) found in
+    let says = begun_each (λ p. (r : Bool) → goal.F-post g c.args.see.now p.1 r → r ≡ shown p.1) c.args.start.now
+    c.loop-entry.at pairs c.in-Some.entry sees found in
+    let seen : shown c.in-Some.entry.1 ≡ true =
+    sym (says c.see.result (rw (sym c.number.ensures) c.see.ensures)) ∙ c.if-see.true in
     (sym (t.hit seen).0 ∙ inv.answer shown sees, omega (arith, (t.hit seen).1, inv.met shown sees), omega arith)
 
 pub returns-clause-scan : goal.returns-clause-scan

@@ -11,9 +11,11 @@ invariant-loop-entry g l = record {
   spare : g.K.KeyList.spare l.keys ≡ g.K.KeyList.spare l.fn.keys;
   in_budget : l.cost ≤ l.budget;
   answer : (shown : ℕ → Bool) → Sees (goal.F-post g) l.see (g.K.KeyList.pairs l.fn.keys) shown
-      → first_shown shown (starting l.start l.at (g.K.KeyList.pairs l.fn.keys)) ≡ first_shown shown (all_starting l.start (g.K.KeyList.pairs l.fn.keys));
+      → first_shown shown (starting l.start l.at (g.K.KeyList.pairs l.fn.keys))
+      ≡ first_shown shown (all_starting l.start (g.K.KeyList.pairs l.fn.keys));
   met : (shown : ℕ → Bool) → Sees (goal.F-post g) l.see (g.K.KeyList.pairs l.fn.keys) shown
-      → l.cost + met shown (starting l.start l.at (g.K.KeyList.pairs l.fn.keys)) ≡ 1 + met shown (all_starting l.start (g.K.KeyList.pairs l.fn.keys));
+      → l.cost + met shown (starting l.start l.at (g.K.KeyList.pairs l.fn.keys))
+      ≡ 1 + met shown (all_starting l.start (g.K.KeyList.pairs l.fn.keys));
 }
 
 abbrev pub decreases-loop-entry : goal.decreases-loop-entry

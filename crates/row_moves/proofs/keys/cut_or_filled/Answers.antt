@@ -8,6 +8,7 @@ loop-place-preserved c =
     let place = c.loop-place.place in
     let items = rw (c.loop-place.invariant.items, c.byte_at.ensures) at c.push.ensures.items in
     record {
-      items = items ∙ sym (cut_or_filled_more place c.args.text.now) ∙ ap (λ n. cut_or_filled n c.args.text.now) (sym (add-one place));
+      items = items ∙ sym (cut_or_filled_more place c.args.text.now)
+          ∙ ap (λ n. cut_or_filled n c.args.text.now) (sym (add-one place));
       len = omega (arith, c.push.ensures.len, c.loop-place.invariant.len);
     }

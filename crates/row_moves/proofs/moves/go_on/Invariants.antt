@@ -8,11 +8,18 @@ invariant-loop-left g l = record {
   same : g.O.RowOrder.list l.order ≡ g.O.RowOrder.list l.fn.order;
   in_budget : l.cost ≤ l.budget;
   at : (shown : ℕ → Bool) → Sees (goal.F-post g) l.see (g.O.RowOrder.list l.fn.order).pairs shown
-      → (hops shown l.forward l.left (option_map g.O.RowOrder.pair l.at) (g.O.RowOrder.list l.fn.order).pairs).at ≡ (hops shown l.forward l.steps (option_map g.O.RowOrder.pair l.fn.from) (g.O.RowOrder.list l.fn.order).pairs).at;
+      → (hops shown l.forward l.left (option_map g.O.RowOrder.pair l.at) (g.O.RowOrder.list l.fn.order).pairs).at
+      ≡ (hops shown l.forward l.steps (option_map g.O.RowOrder.pair l.fn.from)
+      (g.O.RowOrder.list l.fn.order).pairs).at;
   bof : (shown : ℕ → Bool) → Sees (goal.F-post g) l.see (g.O.RowOrder.list l.fn.order).pairs shown
-      → (hops shown l.forward l.left (option_map g.O.RowOrder.pair l.at) (g.O.RowOrder.list l.fn.order).pairs).bof ≡ (hops shown l.forward l.steps (option_map g.O.RowOrder.pair l.fn.from) (g.O.RowOrder.list l.fn.order).pairs).bof;
+      → (hops shown l.forward l.left (option_map g.O.RowOrder.pair l.at) (g.O.RowOrder.list l.fn.order).pairs).bof
+      ≡ (hops shown l.forward l.steps (option_map g.O.RowOrder.pair l.fn.from)
+      (g.O.RowOrder.list l.fn.order).pairs).bof;
   met : (shown : ℕ → Bool) → Sees (goal.F-post g) l.see (g.O.RowOrder.list l.fn.order).pairs shown
-      → l.cost + (hops shown l.forward l.left (option_map g.O.RowOrder.pair l.at) (g.O.RowOrder.list l.fn.order).pairs).met ≡ 1 + (hops shown l.forward l.steps (option_map g.O.RowOrder.pair l.fn.from) (g.O.RowOrder.list l.fn.order).pairs).met;
+      → l.cost + (hops shown l.forward l.left (option_map g.O.RowOrder.pair l.at)
+      (g.O.RowOrder.list l.fn.order).pairs).met ≡ 1
+      + (hops shown l.forward l.steps (option_map g.O.RowOrder.pair l.fn.from)
+      (g.O.RowOrder.list l.fn.order).pairs).met;
 }
 
 abbrev pub decreases-loop-left : goal.decreases-loop-left

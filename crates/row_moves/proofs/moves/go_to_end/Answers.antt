@@ -15,6 +15,7 @@ returns-clause-lands g c = λ shown sees.
       row = c.record_of.ensures ∙ row_mapped pair c.in_ok-at.at ∙ ap (option_map (λ p. p.1)) scan.0;
       cost = scan.1;
       within = scan.2;
-      bof = turned c.is_none.result (is_some c.in_ok-at.at) c.is_none.ensures ∙ sym (none_mapped pair c.in_ok-at.at) ∙ ap is_none scan.0;
+      bof = turned c.is_none.result (is_some c.in_ok-at.at) c.is_none.ensures ∙ sym (none_mapped pair c.in_ok-at.at)
+          ∙ ap is_none scan.0;
       found = refl;
     }

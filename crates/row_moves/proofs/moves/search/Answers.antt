@@ -17,8 +17,10 @@ see-requires g c =
     let pairs : List Pair = (g.O.RowOrder.list c.args.order.now).pairs in
     let p = g.O.RowOrder.pair c.in-Some.place in
     let ahead = c.loop-met.invariant.ahead in
-    let found : Some p ≡ first (candidates c.args.forward ahead.0 pairs) = sym (ap (option_map g.O.RowOrder.pair) c.in-Some.is) ∙ ahead.1 in
-    let may : goal.F-pre g c.args.see.now p.1 = next_each (λ q. goal.F-pre g c.args.see.now q.1) c.args.forward ahead.0 pairs p c.requires.callable found in
+    let found : Some p ≡ first (candidates c.args.forward ahead.0 pairs) =
+    sym (ap (option_map g.O.RowOrder.pair) c.in-Some.is) ∙ ahead.1 in
+    let may : goal.F-pre g c.args.see.now p.1 =
+    next_each (λ q. goal.F-pre g c.args.see.now q.1) c.args.forward ahead.0 pairs p c.requires.callable found in
     let here : goal.F-pre g c.args.see.now c.number.result = rw c.number.ensures may in
     search of_calls
 
@@ -28,11 +30,13 @@ loop-met-preserved g c =
     let p = g.O.RowOrder.pair c.in-Some.place in
     let inv = c.loop-met.invariant in
     let ahead = inv.ahead in
-    let found : Some p ≡ first (candidates c.args.forward ahead.0 pairs) = sym (ap (option_map g.O.RowOrder.pair) c.in-Some.is) ∙ ahead.1 in
+    let found : Some p ≡ first (candidates c.args.forward ahead.0 pairs) =
+    sym (ap (option_map g.O.RowOrder.pair) c.in-Some.is) ∙ ahead.1 in
     let meets = c.meets_each.ensures pairs c.requires.ordered in
     let on = rw inv.same at c.next-met.ensures.found in
     let hidden = λ (shown : ℕ → Bool) (sees : Sees (goal.F-post g) c.args.see.now pairs shown).
-    let says = next_each (λ q. (r : Bool) → goal.F-post g c.args.see.now q.1 r → r ≡ shown q.1) c.args.forward ahead.0 pairs p sees found in
+    let says = next_each (λ q. (r : Bool) → goal.F-post g c.args.see.now q.1 r → r ≡ shown q.1) c.args.forward ahead.0
+    pairs p sees found in
     sym (says c.see.result (rw (sym c.number.ensures) c.see.ensures)) ∙ c.if-see.false in
     record {
       same = c.next-met.ensures.same ∙ inv.same;
@@ -52,7 +56,8 @@ returns-then-cost-budget-clause-scan g c = λ shown sees.
     let pairs : List Pair = (g.O.RowOrder.list c.args.order.now).pairs in
     let p = g.O.RowOrder.pair c.in-Some.place in
     let ahead = c.loop-met.invariant.ahead in
-    let found : Some p ≡ first (candidates c.args.forward ahead.0 pairs) = sym (ap (option_map g.O.RowOrder.pair) c.in-Some.is) ∙ ahead.1 in
+    let found : Some p ≡ first (candidates c.args.forward ahead.0 pairs) =
+    sym (ap (option_map g.O.RowOrder.pair) c.in-Some.is) ∙ ahead.1 in
     let t = turn shown c.args.forward ahead.0 pairs p (c.meets_each.ensures pairs c.requires.ordered) found in
     omega (arith, t.some, (ahead.2 shown sees).1)
 
@@ -61,9 +66,11 @@ returns-then-see-clause-scan g c = λ shown sees.
     let pairs : List Pair = (g.O.RowOrder.list c.args.order.now).pairs in
     let p = g.O.RowOrder.pair c.in-Some.place in
     let ahead = c.loop-met.invariant.ahead in
-    let found : Some p ≡ first (candidates c.args.forward ahead.0 pairs) = sym (ap (option_map g.O.RowOrder.pair) c.in-Some.is) ∙ ahead.1 in
+    let found : Some p ≡ first (candidates c.args.forward ahead.0 pairs) =
+    sym (ap (option_map g.O.RowOrder.pair) c.in-Some.is) ∙ ahead.1 in
     let t = turn shown c.args.forward ahead.0 pairs p (c.meets_each.ensures pairs c.requires.ordered) found in
-    let says = next_each (λ q. (r : Bool) → goal.F-post g c.args.see.now q.1 r → r ≡ shown q.1) c.args.forward ahead.0 pairs p sees found in
+    let says = next_each (λ q. (r : Bool) → goal.F-post g c.args.see.now q.1 r → r ≡ shown q.1) c.args.forward ahead.0
+    pairs p sees found in
     let seen : shown p.1 ≡ true = sym (says c.see.result (rw (sym c.number.ensures) c.see.ensures)) ∙ c.if-see.true in
     let so_far = ahead.2 shown sees in
     (sym (t.hit seen).0 ∙ so_far.0, omega (arith, (t.hit seen).1, so_far.1), omega arith)

@@ -12,8 +12,12 @@ invariant-loop-met g l = record {
   ahead : (at : Option Pair)
       × (option_map g.O.RowOrder.pair l.met ≡ first (candidates l.forward at (g.O.RowOrder.list l.fn.order).pairs))
       × ((shown : ℕ → Bool) → Sees (goal.F-post g) l.see (g.O.RowOrder.list l.fn.order).pairs shown
-      → (first_shown shown (candidates l.forward at (g.O.RowOrder.list l.fn.order).pairs) ≡ first_shown shown (candidates l.forward (option_map g.O.RowOrder.pair l.from) (g.O.RowOrder.list l.fn.order).pairs))
-      × (l.cost + met shown (candidates l.forward at (g.O.RowOrder.list l.fn.order).pairs) ≡ l.fn.cost + met shown (candidates l.forward (option_map g.O.RowOrder.pair l.from) (g.O.RowOrder.list l.fn.order).pairs)));
+      → (first_shown shown (candidates l.forward at (g.O.RowOrder.list l.fn.order).pairs)
+      ≡ first_shown shown (candidates l.forward (option_map g.O.RowOrder.pair l.from)
+      (g.O.RowOrder.list l.fn.order).pairs))
+      × (l.cost + met shown (candidates l.forward at (g.O.RowOrder.list l.fn.order).pairs)
+      ≡ l.fn.cost + met shown (candidates l.forward (option_map g.O.RowOrder.pair l.from)
+      (g.O.RowOrder.list l.fn.order).pairs)));
 }
 
 abbrev pub decreases-loop-met : goal.decreases-loop-met

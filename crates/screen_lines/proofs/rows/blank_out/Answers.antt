@@ -8,4 +8,5 @@ pub returns : goal.returns
 unfolding blank_rows
 returns c =
     let all : c.loop-row.row-index ≡ 25 = omega arith in
-    sym (take_all c.loop-row.row-index c.loop-row.rows (omega arith)) ∙ c.loop-row.invariant ∙ ap (λ (n : ℕ). replicate n blank_screen_row) all
+    sym (take_all c.loop-row.row-index c.loop-row.rows (omega arith)) ∙ c.loop-row.invariant
+    ∙ ap (λ (n : ℕ). replicate n blank_screen_row) all

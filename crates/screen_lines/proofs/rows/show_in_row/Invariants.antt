@@ -4,4 +4,5 @@ use Rattle.screen_lines.proofs.rows.show_in_row.Given as goal
 
 abbrev pub invariant-loop-offset : goal.invariant-loop-offset
 invariant-loop-offset l =
-    l.row ≡ take l.column l.initial.row ++ map shown_byte (take l.offset l.byte-items) ++ drop (l.column + l.offset) l.initial.row
+    l.row ≡ take l.column l.initial.row ++ map shown_byte (take l.offset l.byte-items) ++ drop (l.column + l.offset)
+    l.initial.row

@@ -6,7 +6,8 @@ use Rattle.dbf_file.proofs.TableLemmas.{small_size}
 use Rattle.dbf_file.proofs.table.Table.pack.Goals as goal
 
 pub keep_unmarked-kept-requires-clause-small : goal.keep_unmarked-kept-requires-clause-small
-keep_unmarked-kept-requires-clause-small c = (small_size c.self.inside.structure c.self.inside.size c.self.invariant.good c.self.invariant.right_size).1
+keep_unmarked-kept-requires-clause-small c =
+    (small_size c.self.inside.structure c.self.inside.size c.self.invariant.good c.self.invariant.right_size).1
 
 pub returns-clause-rows : goal.returns-clause-rows
 returns-clause-rows c =

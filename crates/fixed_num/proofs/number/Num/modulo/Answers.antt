@@ -7,4 +7,5 @@ pub returns-then-pair-ne0 : goal.returns-then-pair-ne0
 returns-then-pair-ne0 c =
     let pair = c.in-Some.pair in
     let given = c.in-Some.ensures in
-    c.of_sign.ensures ∙ modulus_above pair.first pair.second pair.decimals given.first_fits (omega arith) ∙ sym (ap₂ modulus_of given.first given.second)
+    c.of_sign.ensures ∙ modulus_above pair.first pair.second pair.decimals given.first_fits (omega arith)
+    ∙ sym (ap₂ modulus_of given.first given.second)

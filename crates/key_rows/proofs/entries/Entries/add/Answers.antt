@@ -11,11 +11,14 @@ invariant_of-self-2 c =
     let n = c.self.inside.count in
     let b = c.self.inside.bytes.items in
     let items : pairs_in k n b ≡ c.args.self.now.items = ap (λ (v : FlatView). v.items) c.self.view_is in
-    let count : n ≡ length c.args.self.now.items = sym (length-pairs_in k n b) ∙ ap (λ (m : List Pair). length m) items in
+    let count : n ≡ length c.args.self.now.items =
+    sym (length-pairs_in k n b) ∙ ap (λ (m : List Pair). length m) items in
     let j = length c.args.key.now in
     let keys : HaveKeys j (pairs_in k n b) = subst (λ (m : List Pair). HaveKeys j m) (sym items) c.requires.alike in
     let a = adopted k j n b c.self.invariant.whole keys in
-    let bytes : c.add_pair.new.bytes.items ≡ b ++ (c.args.key.now ++ little_bytes 4 c.args.number) = c.add_pair.ensures.bytes ∙ ap (λ (m : List ℕ). m ++ (c.args.key.now ++ little_bytes 4 c.args.number)) c.reserve.ensures.items in
+    let bytes : c.add_pair.new.bytes.items ≡ b ++ (c.args.key.now ++ little_bytes 4 c.args.number) =
+    c.add_pair.ensures.bytes ∙ ap (λ (m : List ℕ). m ++ (c.args.key.now ++ little_bytes 4 c.args.number))
+    c.reserve.ensures.items in
     record { whole = length-pushed j n c.args.number c.args.key.now b _ refl a.0 bytes; short = c.requires.short }
 
 pub returns-clause-items : goal.returns-clause-items
@@ -24,9 +27,13 @@ returns-clause-items c =
     let n = c.self.inside.count in
     let b = c.self.inside.bytes.items in
     let items : pairs_in k n b ≡ c.args.self.now.items = ap (λ (v : FlatView). v.items) c.self.view_is in
-    let count : n ≡ length c.args.self.now.items = sym (length-pairs_in k n b) ∙ ap (λ (m : List Pair). length m) items in
+    let count : n ≡ length c.args.self.now.items =
+    sym (length-pairs_in k n b) ∙ ap (λ (m : List Pair). length m) items in
     let j = length c.args.key.now in
     let keys : HaveKeys j (pairs_in k n b) = subst (λ (m : List Pair). HaveKeys j m) (sym items) c.requires.alike in
     let a = adopted k j n b c.self.invariant.whole keys in
-    let bytes : c.add_pair.new.bytes.items ≡ b ++ (c.args.key.now ++ little_bytes 4 c.args.number) = c.add_pair.ensures.bytes ∙ ap (λ (m : List ℕ). m ++ (c.args.key.now ++ little_bytes 4 c.args.number)) c.reserve.ensures.items in
-    pairs_pushed j n c.args.number c.args.key.now b _ refl c.add_pair.ensures.fits a.0 bytes ∙ ap (λ (m : List Pair). m ++ (let x : Pair = (c.args.key.now, c.args.number) in x) ∷ []) (a.1 ∙ items)
+    let bytes : c.add_pair.new.bytes.items ≡ b ++ (c.args.key.now ++ little_bytes 4 c.args.number) =
+    c.add_pair.ensures.bytes ∙ ap (λ (m : List ℕ). m ++ (c.args.key.now ++ little_bytes 4 c.args.number))
+    c.reserve.ensures.items in
+    pairs_pushed j n c.args.number c.args.key.now b _ refl c.add_pair.ensures.fits a.0 bytes
+    ∙ ap (λ (m : List Pair). m ++ (let x : Pair = (c.args.key.now, c.args.number) in x) ∷ []) (a.1 ∙ items)

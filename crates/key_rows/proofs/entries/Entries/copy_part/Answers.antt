@@ -2,11 +2,13 @@ use Rattle.std.proofs.Common.{◌≡◌, ◌+◌, ◌*◌, ◌≤◌, ℕ, List,
 use Rattle.std.proofs.Math.Nat.{add-mul}
 use Rattle.key_lists.specs.Pairs.{Pair}
 use Rattle.key_rows.specs.Flat.{FlatView, HaveKeys, pairs_in}
-use Rattle.key_rows.proofs.FlatLemmas.{length-pairs_in, part_at_most, part_length, key_length_is, adopted, length-copied, pairs_copied, with_none}
+use Rattle.key_rows.proofs.FlatLemmas.{length-pairs_in, part_at_most, part_length, key_length_is, adopted}
+use Rattle.key_rows.proofs.FlatLemmas.{length-copied, pairs_copied, with_none}
 use Rattle.key_rows.proofs.entries.Entries.copy_part.Goals as goal
 
 pub returns-then-size-eq0-clause-items : goal.returns-then-size-eq0-clause-items
-returns-then-size-eq0-clause-items c = with_none c.args.to.now.items c.args.self.now.items c.args.at c.args.size c.if-size-eq0.true
+returns-then-size-eq0-clause-items c =
+    with_none c.args.to.now.items c.args.self.now.items c.args.at c.args.size c.if-size-eq0.true
 
 pub overflow_mul-at : goal.overflow_mul-at
 overflow_mul-at c =
@@ -14,9 +16,16 @@ overflow_mul-at c =
     let n = c.self.inside.count in
     let b = c.self.inside.bytes.items in
     let items : pairs_in k n b ≡ c.args.self.now.items = ap (λ (v : FlatView). v.items) c.self.view_is in
-    let count : n ≡ length c.args.self.now.items = sym (length-pairs_in k n b) ∙ ap (λ (m : List Pair). length m) items in
+    let count : n ≡ length c.args.self.now.items =
+    sym (length-pairs_in k n b) ∙ ap (λ (m : List Pair). length m) items in
     let within : c.args.at + c.args.size ≤ n = omega (arith, count, c.requires.within) in
-    omega (arith, part_at_most k c.args.at c.args.size n b c.self.invariant.whole within, c.self.inside.bytes.small, c.self.inside.bytes.ok.0, c.self.inside.bytes.ok.1)
+    omega (
+      arith,
+      part_at_most k c.args.at c.args.size n b c.self.invariant.whole within,
+      c.self.inside.bytes.small,
+      c.self.inside.bytes.ok.0,
+      c.self.inside.bytes.ok.1,
+    )
 
 pub overflow_mul-size : goal.overflow_mul-size
 overflow_mul-size c =
@@ -24,9 +33,16 @@ overflow_mul-size c =
     let n = c.self.inside.count in
     let b = c.self.inside.bytes.items in
     let items : pairs_in k n b ≡ c.args.self.now.items = ap (λ (v : FlatView). v.items) c.self.view_is in
-    let count : n ≡ length c.args.self.now.items = sym (length-pairs_in k n b) ∙ ap (λ (m : List Pair). length m) items in
+    let count : n ≡ length c.args.self.now.items =
+    sym (length-pairs_in k n b) ∙ ap (λ (m : List Pair). length m) items in
     let within : c.args.at + c.args.size ≤ n = omega (arith, count, c.requires.within) in
-    omega (arith, part_at_most k c.args.at c.args.size n b c.self.invariant.whole within, c.self.inside.bytes.small, c.self.inside.bytes.ok.0, c.self.inside.bytes.ok.1)
+    omega (
+      arith,
+      part_at_most k c.args.at c.args.size n b c.self.invariant.whole within,
+      c.self.inside.bytes.small,
+      c.self.inside.bytes.ok.0,
+      c.self.inside.bytes.ok.1,
+    )
 
 pub part-requires : goal.part-requires
 part-requires c =
@@ -34,9 +50,15 @@ part-requires c =
     let n = c.self.inside.count in
     let b = c.self.inside.bytes.items in
     let items : pairs_in k n b ≡ c.args.self.now.items = ap (λ (v : FlatView). v.items) c.self.view_is in
-    let count : n ≡ length c.args.self.now.items = sym (length-pairs_in k n b) ∙ ap (λ (m : List Pair). length m) items in
+    let count : n ≡ length c.args.self.now.items =
+    sym (length-pairs_in k n b) ∙ ap (λ (m : List Pair). length m) items in
     let within : c.args.at + c.args.size ≤ n = omega (arith, count, c.requires.within) in
-    omega (arith, part_at_most k c.args.at c.args.size n b c.self.invariant.whole within, ap (λ (r : List ℕ). length r) c.deref.ensures.value)
+    omega (
+      arith,
+      part_at_most k c.args.at c.args.size n b c.self.invariant.whole within,
+      ap (λ (r : List ℕ). length r)
+          c.deref.ensures.value,
+    )
 
 pub add_bytes-requires : goal.add_bytes-requires
 add_bytes-requires c =
@@ -44,21 +66,39 @@ add_bytes-requires c =
     let n = c.self.inside.count in
     let b = c.self.inside.bytes.items in
     let items : pairs_in k n b ≡ c.args.self.now.items = ap (λ (v : FlatView). v.items) c.self.view_is in
-    let count : n ≡ length c.args.self.now.items = sym (length-pairs_in k n b) ∙ ap (λ (m : List Pair). length m) items in
+    let count : n ≡ length c.args.self.now.items =
+    sym (length-pairs_in k n b) ∙ ap (λ (m : List Pair). length m) items in
     let within : c.args.at + c.args.size ≤ n = omega (arith, count, c.requires.within) in
     let some = c.if-size-eq0.false in
     let j = c.requires.alike.0 in
-    let same : k ≡ j = key_length_is k j n b c.self.invariant.whole (omega (arith, some, within)) (subst (λ (m : List Pair). HaveKeys j m) (sym items) c.requires.alike.1) in
+    let same : k ≡ j = key_length_is k j n b c.self.invariant.whole (omega (arith, some, within))
+    (subst (λ (m : List Pair). HaveKeys j m) (sym items) c.requires.alike.1) in
     let i = c.to.inside.key_length in
     let m = c.to.inside.count in
     let t = c.to.inside.bytes.items in
     let others : pairs_in i m t ≡ c.args.to.now.items = ap (λ (v : FlatView). v.items) c.to.view_is in
     let most : m ≡ length c.args.to.now.items = sym (length-pairs_in i m t) ∙ ap (λ (l : List Pair). length l) others in
-    let keys : HaveKeys k (pairs_in i m t) = subst (λ (l : List Pair). HaveKeys k l) (sym others) (subst (λ h. HaveKeys h c.args.to.now.items) (sym same) c.requires.alike.2) in
+    let keys : HaveKeys k (pairs_in i m t) = subst (λ (l : List Pair). HaveKeys k l) (sym others)
+    (subst (λ h. HaveKeys h c.args.to.now.items) (sym same) c.requires.alike.2) in
     let a = adopted i k m t c.to.invariant.whole keys in
-    let part : c.part.result.now ≡ take (c.args.size * (k + 4)) (drop (c.args.at * (k + 4)) b) = c.part.ensures ∙ ap (λ (r : List ℕ). take (c.args.size * (k + 4)) (drop (c.args.at * (k + 4)) r)) c.deref.ensures.value in
-    let room : (m + c.args.size) * (k + 4) ≤ c.args.to.now.room = subst (λ h. (m + c.args.size) * (h + 4) ≤ c.args.to.now.room) (sym same) (subst (λ h. (h + c.args.size) * (j + 4) ≤ c.args.to.now.room) (sym most) c.requires.alike.3) in
-    omega (arith, room, add-mul m c.args.size (k + 4), ap (λ (r : List ℕ). length r) part, part_length k c.args.at c.args.size n b c.self.invariant.whole within, a.0, ap (λ (v : FlatView). v.room) c.to.view_is, c.to.inside.bytes.small, c.to.inside.bytes.ok.0, c.to.inside.bytes.ok.1)
+    let part : c.part.result.now ≡ take (c.args.size * (k + 4)) (drop (c.args.at * (k + 4)) b) = c.part.ensures
+    ∙ ap (λ (r : List ℕ). take (c.args.size * (k + 4)) (drop (c.args.at * (k + 4)) r)) c.deref.ensures.value in
+    let room : (m + c.args.size) * (k + 4) ≤ c.args.to.now.room = subst
+    (λ h. (m + c.args.size) * (h + 4) ≤ c.args.to.now.room) (sym same)
+    (subst (λ h. (h + c.args.size) * (j + 4) ≤ c.args.to.now.room) (sym most) c.requires.alike.3) in
+    omega (
+      arith,
+      room,
+      add-mul m c.args.size (k + 4),
+      ap (λ (r : List ℕ). length r) part,
+      part_length k c.args.at
+          c.args.size n b c.self.invariant.whole within,
+      a.0,
+      ap (λ (v : FlatView). v.room) c.to.view_is,
+      c.to.inside.bytes.small,
+      c.to.inside.bytes.ok.0,
+      c.to.inside.bytes.ok.1,
+    )
 
 pub invariant_of-to : goal.invariant_of-to
 invariant_of-to c =
@@ -66,20 +106,28 @@ invariant_of-to c =
     let n = c.self.inside.count in
     let b = c.self.inside.bytes.items in
     let items : pairs_in k n b ≡ c.args.self.now.items = ap (λ (v : FlatView). v.items) c.self.view_is in
-    let count : n ≡ length c.args.self.now.items = sym (length-pairs_in k n b) ∙ ap (λ (m : List Pair). length m) items in
+    let count : n ≡ length c.args.self.now.items =
+    sym (length-pairs_in k n b) ∙ ap (λ (m : List Pair). length m) items in
     let within : c.args.at + c.args.size ≤ n = omega (arith, count, c.requires.within) in
     let some = c.if-size-eq0.false in
     let j = c.requires.alike.0 in
-    let same : k ≡ j = key_length_is k j n b c.self.invariant.whole (omega (arith, some, within)) (subst (λ (m : List Pair). HaveKeys j m) (sym items) c.requires.alike.1) in
+    let same : k ≡ j = key_length_is k j n b c.self.invariant.whole (omega (arith, some, within))
+    (subst (λ (m : List Pair). HaveKeys j m) (sym items) c.requires.alike.1) in
     let i = c.to.inside.key_length in
     let m = c.to.inside.count in
     let t = c.to.inside.bytes.items in
     let others : pairs_in i m t ≡ c.args.to.now.items = ap (λ (v : FlatView). v.items) c.to.view_is in
     let most : m ≡ length c.args.to.now.items = sym (length-pairs_in i m t) ∙ ap (λ (l : List Pair). length l) others in
-    let keys : HaveKeys k (pairs_in i m t) = subst (λ (l : List Pair). HaveKeys k l) (sym others) (subst (λ h. HaveKeys h c.args.to.now.items) (sym same) c.requires.alike.2) in
+    let keys : HaveKeys k (pairs_in i m t) = subst (λ (l : List Pair). HaveKeys k l) (sym others)
+    (subst (λ h. HaveKeys h c.args.to.now.items) (sym same) c.requires.alike.2) in
     let a = adopted i k m t c.to.invariant.whole keys in
-    let part : c.part.result.now ≡ take (c.args.size * (k + 4)) (drop (c.args.at * (k + 4)) b) = c.part.ensures ∙ ap (λ (r : List ℕ). take (c.args.size * (k + 4)) (drop (c.args.at * (k + 4)) r)) c.deref.ensures.value in
-    record { whole = length-copied k c.args.at c.args.size n m b t _ within c.self.invariant.whole a.0 (c.add_bytes.ensures.bytes ∙ ap (λ (r : List ℕ). t ++ r) part); short = c.self.invariant.short }
+    let part : c.part.result.now ≡ take (c.args.size * (k + 4)) (drop (c.args.at * (k + 4)) b) = c.part.ensures
+    ∙ ap (λ (r : List ℕ). take (c.args.size * (k + 4)) (drop (c.args.at * (k + 4)) r)) c.deref.ensures.value in
+    record {
+      whole = length-copied k c.args.at c.args.size n m b t _ within c.self.invariant.whole a.0
+          (c.add_bytes.ensures.bytes ∙ ap (λ (r : List ℕ). t ++ r) part);
+      short = c.self.invariant.short;
+    }
 
 pub returns-clause-items : goal.returns-clause-items
 returns-clause-items c =
@@ -87,17 +135,22 @@ returns-clause-items c =
     let n = c.self.inside.count in
     let b = c.self.inside.bytes.items in
     let items : pairs_in k n b ≡ c.args.self.now.items = ap (λ (v : FlatView). v.items) c.self.view_is in
-    let count : n ≡ length c.args.self.now.items = sym (length-pairs_in k n b) ∙ ap (λ (m : List Pair). length m) items in
+    let count : n ≡ length c.args.self.now.items =
+    sym (length-pairs_in k n b) ∙ ap (λ (m : List Pair). length m) items in
     let within : c.args.at + c.args.size ≤ n = omega (arith, count, c.requires.within) in
     let some = c.if-size-eq0.false in
     let j = c.requires.alike.0 in
-    let same : k ≡ j = key_length_is k j n b c.self.invariant.whole (omega (arith, some, within)) (subst (λ (m : List Pair). HaveKeys j m) (sym items) c.requires.alike.1) in
+    let same : k ≡ j = key_length_is k j n b c.self.invariant.whole (omega (arith, some, within))
+    (subst (λ (m : List Pair). HaveKeys j m) (sym items) c.requires.alike.1) in
     let i = c.to.inside.key_length in
     let m = c.to.inside.count in
     let t = c.to.inside.bytes.items in
     let others : pairs_in i m t ≡ c.args.to.now.items = ap (λ (v : FlatView). v.items) c.to.view_is in
     let most : m ≡ length c.args.to.now.items = sym (length-pairs_in i m t) ∙ ap (λ (l : List Pair). length l) others in
-    let keys : HaveKeys k (pairs_in i m t) = subst (λ (l : List Pair). HaveKeys k l) (sym others) (subst (λ h. HaveKeys h c.args.to.now.items) (sym same) c.requires.alike.2) in
+    let keys : HaveKeys k (pairs_in i m t) = subst (λ (l : List Pair). HaveKeys k l) (sym others)
+    (subst (λ h. HaveKeys h c.args.to.now.items) (sym same) c.requires.alike.2) in
     let a = adopted i k m t c.to.invariant.whole keys in
-    let part : c.part.result.now ≡ take (c.args.size * (k + 4)) (drop (c.args.at * (k + 4)) b) = c.part.ensures ∙ ap (λ (r : List ℕ). take (c.args.size * (k + 4)) (drop (c.args.at * (k + 4)) r)) c.deref.ensures.value in
-    pairs_copied k c.args.at c.args.size n m b t _ within c.self.invariant.whole a.0 (c.add_bytes.ensures.bytes ∙ ap (λ (r : List ℕ). t ++ r) part) ∙ rw (a.1 ∙ others, items) refl
+    let part : c.part.result.now ≡ take (c.args.size * (k + 4)) (drop (c.args.at * (k + 4)) b) = c.part.ensures
+    ∙ ap (λ (r : List ℕ). take (c.args.size * (k + 4)) (drop (c.args.at * (k + 4)) r)) c.deref.ensures.value in
+    pairs_copied k c.args.at c.args.size n m b t _ within c.self.invariant.whole a.0
+    (c.add_bytes.ensures.bytes ∙ ap (λ (r : List ℕ). t ++ r) part) ∙ rw (a.1 ∙ others, items) refl

@@ -10,8 +10,10 @@ overflow_mul-at c =
     let n = c.self.inside.count in
     let b = c.self.inside.bytes.items in
     let items : pairs_in k n b ≡ c.args.self.now.items = ap (λ (v : FlatView). v.items) c.self.view_is in
-    let count : n ≡ length c.args.self.now.items = sym (length-pairs_in k n b) ∙ ap (λ (m : List Pair). length m) items in
-    let within = place_within k c.args.at n b c.self.invariant.whole (omega (arith, count, c.requires)) in omega (arith, within, c.self.inside.bytes.small, c.self.inside.bytes.ok.0, c.self.inside.bytes.ok.1)
+    let count : n ≡ length c.args.self.now.items =
+    sym (length-pairs_in k n b) ∙ ap (λ (m : List Pair). length m) items in
+    let within = place_within k c.args.at n b c.self.invariant.whole (omega (arith, count, c.requires)) in omega
+    (arith, within, c.self.inside.bytes.small, c.self.inside.bytes.ok.0, c.self.inside.bytes.ok.1)
 
 pub part-requires : goal.part-requires
 part-requires c =
@@ -19,8 +21,10 @@ part-requires c =
     let n = c.self.inside.count in
     let b = c.self.inside.bytes.items in
     let items : pairs_in k n b ≡ c.args.self.now.items = ap (λ (v : FlatView). v.items) c.self.view_is in
-    let count : n ≡ length c.args.self.now.items = sym (length-pairs_in k n b) ∙ ap (λ (m : List Pair). length m) items in
-    let within = place_within k c.args.at n b c.self.invariant.whole (omega (arith, count, c.requires)) in omega (arith, within, ap (λ (r : List ℕ). length r) c.deref.ensures.value)
+    let count : n ≡ length c.args.self.now.items =
+    sym (length-pairs_in k n b) ∙ ap (λ (m : List Pair). length m) items in
+    let within = place_within k c.args.at n b c.self.invariant.whole (omega (arith, count, c.requires)) in omega
+    (arith, within, ap (λ (r : List ℕ). length r) c.deref.ensures.value)
 
 pub returns-clause-value : goal.returns-clause-value
 returns-clause-value c =
@@ -28,5 +32,8 @@ returns-clause-value c =
     let n = c.self.inside.count in
     let b = c.self.inside.bytes.items in
     let items : pairs_in k n b ≡ c.args.self.now.items = ap (λ (v : FlatView). v.items) c.self.view_is in
-    let count : n ≡ length c.args.self.now.items = sym (length-pairs_in k n b) ∙ ap (λ (m : List Pair). length m) items in
-    λ d. c.part.ensures ∙ ap (λ r. take k (drop (c.args.at * (k + 4)) r)) c.deref.ensures.value ∙ sym (key_at k n c.args.at b d (omega (arith, count, c.requires))) ∙ ap (λ (m : List Pair). (get_or m c.args.at d).0) items
+    let count : n ≡ length c.args.self.now.items =
+    sym (length-pairs_in k n b) ∙ ap (λ (m : List Pair). length m) items in
+    λ d. c.part.ensures ∙ ap (λ r. take k (drop (c.args.at * (k + 4)) r)) c.deref.ensures.value
+    ∙ sym (key_at k n c.args.at b d (omega (arith, count, c.requires)))
+    ∙ ap (λ (m : List Pair). (get_or m c.args.at d).0) items

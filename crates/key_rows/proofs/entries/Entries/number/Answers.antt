@@ -11,8 +11,10 @@ overflow_mul-start c =
     let n = c.self.inside.count in
     let b = c.self.inside.bytes.items in
     let items : pairs_in k n b ≡ c.args.self.now.items = ap (λ (v : FlatView). v.items) c.self.view_is in
-    let count : n ≡ length c.args.self.now.items = sym (length-pairs_in k n b) ∙ ap (λ (m : List Pair). length m) items in
-    let within = place_within k c.args.at n b c.self.invariant.whole (omega (arith, count, c.requires)) in omega (arith, within, c.self.inside.bytes.small, c.self.inside.bytes.ok.0, c.self.inside.bytes.ok.1)
+    let count : n ≡ length c.args.self.now.items =
+    sym (length-pairs_in k n b) ∙ ap (λ (m : List Pair). length m) items in
+    let within = place_within k c.args.at n b c.self.invariant.whole (omega (arith, count, c.requires)) in omega
+    (arith, within, c.self.inside.bytes.small, c.self.inside.bytes.ok.0, c.self.inside.bytes.ok.1)
 
 pub overflow_add-start-2 : goal.overflow_add-start-2
 overflow_add-start-2 c =
@@ -20,8 +22,10 @@ overflow_add-start-2 c =
     let n = c.self.inside.count in
     let b = c.self.inside.bytes.items in
     let items : pairs_in k n b ≡ c.args.self.now.items = ap (λ (v : FlatView). v.items) c.self.view_is in
-    let count : n ≡ length c.args.self.now.items = sym (length-pairs_in k n b) ∙ ap (λ (m : List Pair). length m) items in
-    let within = place_within k c.args.at n b c.self.invariant.whole (omega (arith, count, c.requires)) in omega (arith, within, c.self.inside.bytes.small, c.self.inside.bytes.ok.0, c.self.inside.bytes.ok.1)
+    let count : n ≡ length c.args.self.now.items =
+    sym (length-pairs_in k n b) ∙ ap (λ (m : List Pair). length m) items in
+    let within = place_within k c.args.at n b c.self.invariant.whole (omega (arith, count, c.requires)) in omega
+    (arith, within, c.self.inside.bytes.small, c.self.inside.bytes.ok.0, c.self.inside.bytes.ok.1)
 
 pub number_in-requires : goal.number_in-requires
 number_in-requires c =
@@ -29,8 +33,10 @@ number_in-requires c =
     let n = c.self.inside.count in
     let b = c.self.inside.bytes.items in
     let items : pairs_in k n b ≡ c.args.self.now.items = ap (λ (v : FlatView). v.items) c.self.view_is in
-    let count : n ≡ length c.args.self.now.items = sym (length-pairs_in k n b) ∙ ap (λ (m : List Pair). length m) items in
-    let within = place_within k c.args.at n b c.self.invariant.whole (omega (arith, count, c.requires)) in omega (arith, within, ap (λ (r : List ℕ). length r) c.deref.ensures.value)
+    let count : n ≡ length c.args.self.now.items =
+    sym (length-pairs_in k n b) ∙ ap (λ (m : List Pair). length m) items in
+    let within = place_within k c.args.at n b c.self.invariant.whole (omega (arith, count, c.requires)) in omega
+    (arith, within, ap (λ (r : List ℕ). length r) c.deref.ensures.value)
 
 pub returns : goal.returns
 returns c =
@@ -38,5 +44,8 @@ returns c =
     let n = c.self.inside.count in
     let b = c.self.inside.bytes.items in
     let items : pairs_in k n b ≡ c.args.self.now.items = ap (λ (v : FlatView). v.items) c.self.view_is in
-    let count : n ≡ length c.args.self.now.items = sym (length-pairs_in k n b) ∙ ap (λ (m : List Pair). length m) items in
-    λ d. c.number_in.ensures ∙ ap (λ r. little_number 4 (drop (c.args.at * (k + 4) + k) r)) c.deref.ensures.value ∙ sym (number_at k n c.args.at b d (omega (arith, count, c.requires))) ∙ ap (λ (m : List Pair). (get_or m c.args.at d).1) items
+    let count : n ≡ length c.args.self.now.items =
+    sym (length-pairs_in k n b) ∙ ap (λ (m : List Pair). length m) items in
+    λ d. c.number_in.ensures ∙ ap (λ r. little_number 4 (drop (c.args.at * (k + 4) + k) r)) c.deref.ensures.value
+    ∙ sym (number_at k n c.args.at b d (omega (arith, count, c.requires)))
+    ∙ ap (λ (m : List Pair). (get_or m c.args.at d).1) items

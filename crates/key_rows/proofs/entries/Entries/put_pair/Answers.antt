@@ -12,12 +12,19 @@ put_bytes-requires-clause-within c =
     let n = c.self.inside.count in
     let b = c.self.inside.bytes.items in
     let items : pairs_in k n b ≡ c.args.self.now.items = ap (λ (v : FlatView). v.items) c.self.view_is in
-    let count : n ≡ length c.args.self.now.items = sym (length-pairs_in k n b) ∙ ap (λ (m : List Pair). length m) items in
+    let count : n ≡ length c.args.self.now.items =
+    sym (length-pairs_in k n b) ∙ ap (λ (m : List Pair). length m) items in
     let j = length c.args.key.now in
     let keys : HaveKeys j (pairs_in k n b) = subst (λ (m : List Pair). HaveKeys j m) (sym items) c.requires.alike in
     let a = adopted k j n b c.self.invariant.whole keys in
     let at : c.args.at ≤ n = omega (arith, count, c.requires.within) in
-    omega (arith, place_at_most j c.args.at n b a.0 at, c.self.inside.bytes.small, c.self.inside.bytes.ok.0, c.self.inside.bytes.ok.1)
+    omega (
+      arith,
+      place_at_most j c.args.at n b a.0 at,
+      c.self.inside.bytes.small,
+      c.self.inside.bytes.ok.0,
+      c.self.inside.bytes.ok.1,
+    )
 
 pub put_bytes-requires-clause-room : goal.put_bytes-requires-clause-room
 put_bytes-requires-clause-room c =
@@ -25,13 +32,24 @@ put_bytes-requires-clause-room c =
     let n = c.self.inside.count in
     let b = c.self.inside.bytes.items in
     let items : pairs_in k n b ≡ c.args.self.now.items = ap (λ (v : FlatView). v.items) c.self.view_is in
-    let count : n ≡ length c.args.self.now.items = sym (length-pairs_in k n b) ∙ ap (λ (m : List Pair). length m) items in
+    let count : n ≡ length c.args.self.now.items =
+    sym (length-pairs_in k n b) ∙ ap (λ (m : List Pair). length m) items in
     let j = length c.args.key.now in
     let keys : HaveKeys j (pairs_in k n b) = subst (λ (m : List Pair). HaveKeys j m) (sym items) c.requires.alike in
     let a = adopted k j n b c.self.invariant.whole keys in
     let at : c.args.at ≤ n = omega (arith, count, c.requires.within) in
-    let room : (n + 1) * (j + 4) ≤ c.args.self.now.room = subst (λ i. (i + 1) * (j + 4) ≤ c.args.self.now.room) (sym count) c.requires.room in
-    omega (arith, room, next_place j n, a.0, ap (λ (v : FlatView). v.room) c.self.view_is, c.self.inside.bytes.small, c.self.inside.bytes.ok.0, c.self.inside.bytes.ok.1)
+    let room : (n + 1) * (j + 4) ≤ c.args.self.now.room =
+    subst (λ i. (i + 1) * (j + 4) ≤ c.args.self.now.room) (sym count) c.requires.room in
+    omega (
+      arith,
+      room,
+      next_place j n,
+      a.0,
+      ap (λ (v : FlatView). v.room) c.self.view_is,
+      c.self.inside.bytes.small,
+      c.self.inside.bytes.ok.0,
+      c.self.inside.bytes.ok.1,
+    )
 
 pub invariant_of-self : goal.invariant_of-self
 invariant_of-self c =
@@ -39,13 +57,20 @@ invariant_of-self c =
     let n = c.self.inside.count in
     let b = c.self.inside.bytes.items in
     let items : pairs_in k n b ≡ c.args.self.now.items = ap (λ (v : FlatView). v.items) c.self.view_is in
-    let count : n ≡ length c.args.self.now.items = sym (length-pairs_in k n b) ∙ ap (λ (m : List Pair). length m) items in
+    let count : n ≡ length c.args.self.now.items =
+    sym (length-pairs_in k n b) ∙ ap (λ (m : List Pair). length m) items in
     let j = length c.args.key.now in
     let keys : HaveKeys j (pairs_in k n b) = subst (λ (m : List Pair). HaveKeys j m) (sym items) c.requires.alike in
     let a = adopted k j n b c.self.invariant.whole keys in
     let at : c.args.at ≤ n = omega (arith, count, c.requires.within) in
-    let bytes : c.put_bytes.new.bytes.items ≡ take (c.args.at * (j + 4)) b ++ (c.args.key.now ++ (little_bytes 4 c.args.number ++ drop (c.args.at * (j + 4)) b)) = c.put_bytes.ensures.bytes in
-    record { whole = length-put j c.args.at n c.args.number c.args.key.now b _ refl a.0 at bytes; short = c.requires.short }
+    let bytes : c.put_bytes.new.bytes.items ≡ take (c.args.at * (j + 4)) b
+    ++ (c.args.key.now ++ (little_bytes 4 c.args.number ++ drop (c.args.at * (j + 4)) b)) =
+    c.put_bytes.ensures.bytes in
+    record {
+      whole = length-put j c.args.at n c.args.number c.args.key.now b _ refl a.0 at bytes;
+      short =
+          c.requires.short;
+    }
 
 pub returns-clause-items : goal.returns-clause-items
 returns-clause-items c =
@@ -53,10 +78,14 @@ returns-clause-items c =
     let n = c.self.inside.count in
     let b = c.self.inside.bytes.items in
     let items : pairs_in k n b ≡ c.args.self.now.items = ap (λ (v : FlatView). v.items) c.self.view_is in
-    let count : n ≡ length c.args.self.now.items = sym (length-pairs_in k n b) ∙ ap (λ (m : List Pair). length m) items in
+    let count : n ≡ length c.args.self.now.items =
+    sym (length-pairs_in k n b) ∙ ap (λ (m : List Pair). length m) items in
     let j = length c.args.key.now in
     let keys : HaveKeys j (pairs_in k n b) = subst (λ (m : List Pair). HaveKeys j m) (sym items) c.requires.alike in
     let a = adopted k j n b c.self.invariant.whole keys in
     let at : c.args.at ≤ n = omega (arith, count, c.requires.within) in
-    let bytes : c.put_bytes.new.bytes.items ≡ take (c.args.at * (j + 4)) b ++ (c.args.key.now ++ (little_bytes 4 c.args.number ++ drop (c.args.at * (j + 4)) b)) = c.put_bytes.ensures.bytes in
-    pairs_put j c.args.at n c.args.number c.args.key.now b _ refl c.put_bytes.ensures.fits a.0 at bytes ∙ ap (λ (m : List Pair). insert m c.args.at (let x : Pair = (c.args.key.now, c.args.number) in x)) (a.1 ∙ items)
+    let bytes : c.put_bytes.new.bytes.items ≡ take (c.args.at * (j + 4)) b
+    ++ (c.args.key.now ++ (little_bytes 4 c.args.number ++ drop (c.args.at * (j + 4)) b)) =
+    c.put_bytes.ensures.bytes in
+    pairs_put j c.args.at n c.args.number c.args.key.now b _ refl c.put_bytes.ensures.fits a.0 at bytes
+    ∙ ap (λ (m : List Pair). insert m c.args.at (let x : Pair = (c.args.key.now, c.args.number) in x)) (a.1 ∙ items)

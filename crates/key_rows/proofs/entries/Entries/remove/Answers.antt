@@ -11,8 +11,10 @@ overflow_mul-at c =
     let n = c.self.inside.count in
     let b = c.self.inside.bytes.items in
     let items : pairs_in k n b ≡ c.args.self.now.items = ap (λ (v : FlatView). v.items) c.self.view_is in
-    let count : n ≡ length c.args.self.now.items = sym (length-pairs_in k n b) ∙ ap (λ (m : List Pair). length m) items in
-    let within = place_within k c.args.at n b c.self.invariant.whole (omega (arith, count, c.requires)) in omega (arith, within, c.self.inside.bytes.small, c.self.inside.bytes.ok.0, c.self.inside.bytes.ok.1)
+    let count : n ≡ length c.args.self.now.items =
+    sym (length-pairs_in k n b) ∙ ap (λ (m : List Pair). length m) items in
+    let within = place_within k c.args.at n b c.self.invariant.whole (omega (arith, count, c.requires)) in omega
+    (arith, within, c.self.inside.bytes.small, c.self.inside.bytes.ok.0, c.self.inside.bytes.ok.1)
 
 pub take_bytes-requires : goal.take_bytes-requires
 take_bytes-requires c =
@@ -20,8 +22,10 @@ take_bytes-requires c =
     let n = c.self.inside.count in
     let b = c.self.inside.bytes.items in
     let items : pairs_in k n b ≡ c.args.self.now.items = ap (λ (v : FlatView). v.items) c.self.view_is in
-    let count : n ≡ length c.args.self.now.items = sym (length-pairs_in k n b) ∙ ap (λ (m : List Pair). length m) items in
-    let within = place_within k c.args.at n b c.self.invariant.whole (omega (arith, count, c.requires)) in omega (arith, within, c.self.inside.bytes.small, c.self.inside.bytes.ok.0, c.self.inside.bytes.ok.1)
+    let count : n ≡ length c.args.self.now.items =
+    sym (length-pairs_in k n b) ∙ ap (λ (m : List Pair). length m) items in
+    let within = place_within k c.args.at n b c.self.invariant.whole (omega (arith, count, c.requires)) in omega
+    (arith, within, c.self.inside.bytes.small, c.self.inside.bytes.ok.0, c.self.inside.bytes.ok.1)
 
 pub overflow_sub-self : goal.overflow_sub-self
 overflow_sub-self c =
@@ -29,7 +33,8 @@ overflow_sub-self c =
     let n = c.self.inside.count in
     let b = c.self.inside.bytes.items in
     let items : pairs_in k n b ≡ c.args.self.now.items = ap (λ (v : FlatView). v.items) c.self.view_is in
-    let count : n ≡ length c.args.self.now.items = sym (length-pairs_in k n b) ∙ ap (λ (m : List Pair). length m) items in
+    let count : n ≡ length c.args.self.now.items =
+    sym (length-pairs_in k n b) ∙ ap (λ (m : List Pair). length m) items in
     omega (arith, count, c.requires)
 
 pub invariant_of-self : goal.invariant_of-self
@@ -38,8 +43,13 @@ invariant_of-self c =
     let n = c.self.inside.count in
     let b = c.self.inside.bytes.items in
     let items : pairs_in k n b ≡ c.args.self.now.items = ap (λ (v : FlatView). v.items) c.self.view_is in
-    let count : n ≡ length c.args.self.now.items = sym (length-pairs_in k n b) ∙ ap (λ (m : List Pair). length m) items in
-    record { whole = length-taken k c.args.at n b _ c.self.invariant.whole (omega (arith, count, c.requires)) c.take_bytes.ensures.bytes; short = c.self.invariant.short }
+    let count : n ≡ length c.args.self.now.items =
+    sym (length-pairs_in k n b) ∙ ap (λ (m : List Pair). length m) items in
+    record {
+      whole = length-taken k c.args.at n b _ c.self.invariant.whole (omega (arith, count, c.requires))
+          c.take_bytes.ensures.bytes;
+      short = c.self.invariant.short;
+    }
 
 pub returns-clause-items : goal.returns-clause-items
 returns-clause-items c =
@@ -47,5 +57,7 @@ returns-clause-items c =
     let n = c.self.inside.count in
     let b = c.self.inside.bytes.items in
     let items : pairs_in k n b ≡ c.args.self.now.items = ap (λ (v : FlatView). v.items) c.self.view_is in
-    let count : n ≡ length c.args.self.now.items = sym (length-pairs_in k n b) ∙ ap (λ (m : List Pair). length m) items in
-    pairs_taken k c.args.at n b _ c.self.invariant.whole (omega (arith, count, c.requires)) c.take_bytes.ensures.bytes ∙ ap (λ (m : List Pair). remove m c.args.at) items
+    let count : n ≡ length c.args.self.now.items =
+    sym (length-pairs_in k n b) ∙ ap (λ (m : List Pair). length m) items in
+    pairs_taken k c.args.at n b _ c.self.invariant.whole (omega (arith, count, c.requires)) c.take_bytes.ensures.bytes
+    ∙ ap (λ (m : List Pair). remove m c.args.at) items

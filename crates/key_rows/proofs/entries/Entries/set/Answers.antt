@@ -5,4 +5,5 @@ use Rattle.key_rows.proofs.FlatLemmas.{put_again}
 use Rattle.key_rows.proofs.entries.Entries.set.Goals as goal
 
 pub returns-clause-items : goal.returns-clause-items
-returns-clause-items c = c.put.ensures.items ∙ ap (λ (m : List Pair). insert m c.args.at c.args.entry.now) c.remove.ensures.items ∙ put_again c.args.self.now.items c.args.at c.args.entry.now c.requires.within
+returns-clause-items c = c.put.ensures.items ∙ ap (λ (m : List Pair). insert m c.args.at c.args.entry.now)
+    c.remove.ensures.items ∙ put_again c.args.self.now.items c.args.at c.args.entry.now c.requires.within

@@ -10,8 +10,15 @@ overflow_mul-kept c =
     let n = c.self.inside.count in
     let b = c.self.inside.bytes.items in
     let items : pairs_in k n b ≡ c.args.self.now.items = ap (λ (v : FlatView). v.items) c.self.view_is in
-    let count : n ≡ length c.args.self.now.items = sym (length-pairs_in k n b) ∙ ap (λ (m : List Pair). length m) items in
-    omega (arith, place_at_most k c.args.kept n b c.self.invariant.whole (omega (arith, count, c.requires)), c.self.inside.bytes.small, c.self.inside.bytes.ok.0, c.self.inside.bytes.ok.1)
+    let count : n ≡ length c.args.self.now.items =
+    sym (length-pairs_in k n b) ∙ ap (λ (m : List Pair). length m) items in
+    omega (
+      arith,
+      place_at_most k c.args.kept n b c.self.invariant.whole (omega (arith, count, c.requires)),
+      c.self.inside.bytes.small,
+      c.self.inside.bytes.ok.0,
+      c.self.inside.bytes.ok.1,
+    )
 
 pub invariant_of-self : goal.invariant_of-self
 invariant_of-self c =
@@ -19,8 +26,14 @@ invariant_of-self c =
     let n = c.self.inside.count in
     let b = c.self.inside.bytes.items in
     let items : pairs_in k n b ≡ c.args.self.now.items = ap (λ (v : FlatView). v.items) c.self.view_is in
-    let count : n ≡ length c.args.self.now.items = sym (length-pairs_in k n b) ∙ ap (λ (m : List Pair). length m) items in
-    record { whole = ap (λ (r : List ℕ). length r) c.truncate.ensures.items ∙ length-cut k c.args.kept n b c.self.invariant.whole (omega (arith, count, c.requires)); short = c.self.invariant.short }
+    let count : n ≡ length c.args.self.now.items =
+    sym (length-pairs_in k n b) ∙ ap (λ (m : List Pair). length m) items in
+    record {
+      whole = ap (λ (r : List ℕ). length r) c.truncate.ensures.items
+          ∙ length-cut k c.args.kept n b c.self.invariant.whole (omega (arith, count, c.requires));
+      short =
+          c.self.invariant.short;
+    }
 
 pub returns-clause-items : goal.returns-clause-items
 returns-clause-items c =
@@ -28,5 +41,7 @@ returns-clause-items c =
     let n = c.self.inside.count in
     let b = c.self.inside.bytes.items in
     let items : pairs_in k n b ≡ c.args.self.now.items = ap (λ (v : FlatView). v.items) c.self.view_is in
-    let count : n ≡ length c.args.self.now.items = sym (length-pairs_in k n b) ∙ ap (λ (m : List Pair). length m) items in
-    ap (pairs_in k c.args.kept) c.truncate.ensures.items ∙ pairs_cut k c.args.kept n b c.self.invariant.whole (omega (arith, count, c.requires)) ∙ ap (take c.args.kept) items
+    let count : n ≡ length c.args.self.now.items =
+    sym (length-pairs_in k n b) ∙ ap (λ (m : List Pair). length m) items in
+    ap (pairs_in k c.args.kept) c.truncate.ensures.items ∙ pairs_cut k c.args.kept n b c.self.invariant.whole
+    (omega (arith, count, c.requires)) ∙ ap (take c.args.kept) items

@@ -6,7 +6,8 @@ use Rattle.shape.proofs.parts.KeyParts.length.Given as goal
 
 abbrev pub invariant-loop-part : goal.invariant-loop-part
 invariant-loop-part l = record {
-  length : l.length + key_length l.rest (row_widths l.table.structure) ≡ key_length l.self (row_widths l.table.structure);
+  length : l.length + key_length l.rest (row_widths l.table.structure)
+      ≡ key_length l.self (row_widths l.table.structure);
   fields : AllByRecursion (IsTextField l.table.structure) l.rest;
 }
 

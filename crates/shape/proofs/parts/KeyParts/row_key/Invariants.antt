@@ -8,7 +8,8 @@ use Rattle.shape.proofs.parts.KeyParts.row_key.Given as goal
 abbrev pub invariant-loop-part : goal.invariant-loop-part
 invariant-loop-part l = record {
   key : l.key.items ++ key_of l.rest (row_at l.table.rows l.r).texts ≡ key_of l.self (row_at l.table.rows l.r).texts;
-  length : length l.key.items + key_length l.rest (row_widths l.table.structure) ≡ key_length l.self (row_widths l.table.structure);
+  length : length l.key.items + key_length l.rest (row_widths l.table.structure)
+      ≡ key_length l.self (row_widths l.table.structure);
   fields : AllByRecursion (IsTextField l.table.structure) l.rest;
 }
 
