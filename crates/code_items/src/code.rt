@@ -1,6 +1,6 @@
 //! Codes, and which of them have a file.
 
-ghost use Rattle.std.specs.Prelude.{◌≡◌, ◌≤◌, length, map, true};
+ghost use Rattle.std.specs.Prelude.{◌≡◌, ◌≤◌, length, map};
 ghost use Rattle.std.specs.List.{list_all};
 ghost use Rattle.code_items.specs.Instrs.{is_instr};
 ghost use Rattle.code_items.specs.Legal.{is_procedure, begins_blank, is_map, places_of, blocks_of};
