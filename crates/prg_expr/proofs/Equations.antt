@@ -46,5 +46,8 @@ count_trees (e ∷ es) = ap suc (count_trees es)
 
 pub ruleset tree_equations = (tree_logical, tree_number, tree_text, tree_name, tree_qualified, tree_call, tree_parentheses, tree_prefixed, tree_binary)
 
+-- of the call of a function, and how many arguments it has
+pub ruleset call_equations = (tree_call, count_trees)
+
 pub capitals_cut : (n : ℕ) (s : List ℕ) → take n (map to_ascii_uppercase s) ≡ map to_ascii_uppercase (take n s)
 capitals_cut n s = take-map to_ascii_uppercase n s

@@ -145,7 +145,7 @@ fn separator<'a>(tokens: &'a [Token<'a>]) -> Result<(bool, &'a [Token<'a>]), For
 }
 
 /// The call of a function, if it takes so many arguments.
-#[tactic(auto, using(crate::proofs::Equations::tree_equations, crate::proofs::Equations::count_trees), unfolding(crate::specs::Reading::call_read))]
+#[tactic(auto, using(crate::proofs::Equations::call_equations), unfolding(crate::specs::Reading::call_read))]
 fn call_of<'a>(
     function: Function,
     arguments: Vec<Expr>,
