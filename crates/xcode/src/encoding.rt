@@ -1,6 +1,6 @@
 //! Writing a code file.
 
-ghost use Rattle.std.specs.Prelude.{◌≡◌, ◌<◌, ◌++◌, IfOk, OnOk};
+ghost use Rattle.std.specs.Prelude.{◌≡◌, ◌++◌, IfOk, OnOk};
 ghost use Rattle.std.specs.List.{flat_map};
 ghost use Rattle.code_parts.specs.Texts.{two};
 ghost use Rattle.xcode.specs.CodeFile.{version_number, counts_text, header_text, header_of as header_of_code};

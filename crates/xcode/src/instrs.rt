@@ -1,6 +1,6 @@
 //! Writing instructions, and their names.
 
-ghost use Rattle.std.specs.Prelude.{◌≡◌, ◌++◌, OnOk};
+ghost use Rattle.std.specs.Prelude.{◌≡◌};
 ghost use Rattle.code_parts.specs.Instructions.{instr_text};
 ghost use Rattle.xcode.specs.Names.{name_of_values, name_of_flow, name_of_screen, name_of_areas, name_of_moves};
 ghost use Rattle.xcode.specs.Names.{name_of_records, instr_name};

@@ -1,6 +1,5 @@
 //! What may stand in each section.
 
-ghost use Rattle.std.specs.Prelude.{◌≡◌};
 ghost use Rattle.shape.specs.Tables.{is_next_table};
 ghost use Rattle.shape.specs.Indexes.{is_next_index};
 ghost use Rattle.xcode.specs.Decoding.{always, list_follows, filter_follows, procedure_follows, map_follows};

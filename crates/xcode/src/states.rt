@@ -1,6 +1,5 @@
 //! Writing states, procedures and maps.
 
-ghost use Rattle.std.specs.Prelude.{◌≡◌, ◌<◌, ◌++◌, length, OnOk};
 ghost use Rattle.code_parts.specs.Texts.{kind_text, slot_text, area_text, state_text, procedure_text, map_text};
 ghost use Rattle.xcode.specs.Fitting.{AreaFitsBytes, StateFitsBytes, ProcedureFitsBytes};
 
