@@ -1,6 +1,6 @@
 //! Whether what flows into a place is covered there.
 
-ghost use Rattle.std.specs.Prelude.{◌≡◌, IfNone, IfSome};
+ghost use Rattle.std.specs.Prelude.{◌≡◌};
 ghost use Rattle.std.specs.Option.{option_copied};
 ghost use Rattle.code_items.specs.Legal.{IsCode};
 ghost use Rattle.code_rules.specs.Places.{map_at as map_at_of};
@@ -25,8 +25,8 @@ pub enum KnownPart {
     Stack,
 }
 
-/// Whether this part of a state that flows where something is known isn't covered there, so many values of unknown
-/// kinds being on top of its stack.
+/// Whether what is known at a place doesn't cover this part of a state that leads there. On the state's stack lie
+/// `unknown` more values, whose kinds aren't known. Where nothing is known of the place, no part fails.
 fn fails(part: KnownPart, unknown: usize, known: Option<&State>, state: &State) -> bool
     ensures { result ≡ part_fails part unknown (option_copied known.entry) state.now }
 {
