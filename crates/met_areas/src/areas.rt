@@ -5,6 +5,7 @@ ghost use Rattle.met_areas.specs.Met as spec;
 ghost use Rattle.met_areas.specs.Met.{AreTold};
 
 use code_items::{AreaState, Name, Shape, TableShape};
+use shape::copy_of_name;
 use std::alloc::{AllocError, Global};
 
 /// What is known of what a work area holds at a command, on all ways to it.
@@ -28,15 +29,6 @@ pub struct MetAreas {
     pub ways: Vec<Option<HeldTable>>,
 }
 
-/// The same name once more.
-fn copy_of(name: &Name) -> Name
-    ensures { result ≡ name.now }
-{
-    let mut copy = Name::new();
-    copy.try_extend_from_slice(name.as_slice()).unwrap();
-    copy
-}
-
 /// What a work area holds with this state, by the names of the declared tables.
 fn held_by(tables: &[TableShape], area: AreaState) -> HeldTable
     ensures { result ≡ spec.held_by tables.now area }
@@ -45,7 +37,7 @@ fn held_by(tables: &[TableShape], area: AreaState) -> HeldTable
         AreaState::Closed => HeldTable::Nothing,
         AreaState::Unsure => HeldTable::Unsure,
         AreaState::Open(open) => match tables.get(usize::from(open.table)) {
-            Some(table) => HeldTable::Table(copy_of(&table.name)),
+            Some(table) => HeldTable::Table(copy_of_name(&table.name)),
             None => HeldTable::Unsure,
         },
     }
