@@ -19,6 +19,7 @@ use Rattle.code_items.specs.declared.instr.ValueInstr.TheVariants as value_instr
 use Rattle.code_items.specs.declared.instr.RecordInstr.TheVariants as record_instr
 use Rattle.code_items.specs.declared.instr.Instr.{Instr}
 use Rattle.code_items.specs.declared.instr.Instr.TheVariants.{Values, Records}
+use Rattle.code_rules.specs.Wants.{kind_asked}
 use Rattle.prg_expr.specs.declared.function.Function.{Function}
 use Rattle.prg_expr.specs.declared.function.Function.TheVariants as function
 use Rattle.prg_expr.specs.declared.tree.BinaryOperator.{BinaryOperator}
@@ -140,9 +141,7 @@ may_ask true q = false
 may_ask false q = true
 
 abbrev pub answer_kind : Question → Kind
-answer_kind Recno = kind.Number
-answer_kind Reccount = kind.Number
-answer_kind _ = kind.Logical
+answer_kind q = kind_asked q
 
 -- of the selected area, which is known to be open
 abbrev pub question_kind : Scoped → Question → Option Kind

@@ -1,14 +1,14 @@
 //! Calls of functions by the kinds of their arguments.
 
-ghost use Rattle.std.specs.Prelude.{◌≡◌, ◌++◌, ◌≤◌, map, length};
+ghost use Rattle.std.specs.Prelude.{◌≡◌};
 ghost use Rattle.code_items.specs.Kinds.{same_kinds};
-ghost use Rattle.xvalue.specs.Kinds.{kind_of};
 ghost use Rattle.prg_values.specs.Readings.{scoped, FindsReading};
 ghost use Rattle.prg_values.specs.Written as spec;
 
 use crate::arguments::Kinds;
 use crate::scope::Scope;
 use code_items::Question;
+use code_rules::kinds::kind_asked;
 use prg_code::CompileFaultKind;
 use prg_expr::Function;
 use xvalue::{Fun, Kind};
@@ -185,15 +185,6 @@ fn may_ask(in_filter: bool, question: Question) -> bool
     }
 }
 
-fn answer_kind(question: Question) -> Kind
-    ensures { result ≡ spec.answer_kind question }
-{
-    match question {
-        Question::Recno | Question::Reccount => Kind::Number,
-        Question::Eof | Question::Bof | Question::Found | Question::Deleted => Kind::Logical,
-    }
-}
-
 /// The kind of a question's answer: ClosedArea where the selected area isn't known to be open, Filter where a filter
 /// may not ask it.
 fn asked(scope: &Scope, question: Question) -> Result<Kind, CompileFaultKind>
@@ -203,7 +194,7 @@ fn asked(scope: &Scope, question: Question) -> Result<Kind, CompileFaultKind>
         return Err(CompileFaultKind::ClosedArea);
     }
     if may_ask(scope.in_filter, question) {
-        Ok(answer_kind(question))
+        Ok(kind_asked(question))
     } else {
         Err(CompileFaultKind::Filter)
     }
