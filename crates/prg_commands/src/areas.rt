@@ -13,10 +13,9 @@ ghost use Rattle.prg_commands.specs.Commands.{scope_at, PutsAlone};
 
 use crate::values::{demand, scope_of};
 use arrayvec::ArrayVec;
-use code_items::{
-    AreaInstr, AreaState, IndexShape, Instr, Name, Need, OpenArea, Shape, ValueInstr,
-};
+use code_items::{AreaInstr, IndexShape, Instr, Name, Need, OpenArea, Shape, ValueInstr};
 use code_rules::Signature;
+use code_rules::desks::others_hold;
 use prg_code::{
     CompileError, CompileFaultKind, FilterBlock, ListedIndexes, Output, Work, indexes_opened,
 };
@@ -85,26 +84,6 @@ fn list_of(shape: &Shape, table: u16, names: &[Name]) -> Result<ListedIndexes, C
     Ok(indexes)
 }
 
-fn may_hold(area: AreaState, table: u16) -> bool {
-    match area {
-        AreaState::Closed => false,
-        AreaState::Open(open) => open.table == table,
-        AreaState::Unsure => true,
-    }
-}
-
-/// Whether another work area than the selected one holds the table, or may hold it.
-fn is_held(areas: &[AreaState], selected: u8, table: u16) -> bool {
-    let mut number = 1u8;
-    for area in areas {
-        if number != selected && may_hold(*area, table) {
-            return true;
-        }
-        number = number.saturating_add(1);
-    }
-    false
-}
-
 /// The number of the list of these indexes, counted from 1; of none 0.
 fn list_number(out: &mut Output, list: ListedIndexes) -> Result<u32, CompileError>
     ensures { OutputGrows out.old out.new }
@@ -132,7 +111,7 @@ pub fn open_table(
     };
     let list = list_of(shape, table, indexes)?;
     let desk = &work.block.state.desk;
-    if is_held(desk.areas.as_slice(), desk.selected, table) {
+    if others_hold(table, desk.selected, desk.areas.as_slice()) {
         return Err(CompileError::Fault(CompileFaultKind::OpenTwice));
     }
     let list = list_number(out, list)?;

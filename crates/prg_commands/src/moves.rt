@@ -1,9 +1,8 @@
 //! Moves, and commands on records.
 
-ghost use Rattle.std.specs.Prelude.{◌≡◌, [], ◌∷◌, ℕ, OnOk};
+ghost use Rattle.std.specs.Prelude.{[], ◌∷◌, OnOk};
 ghost use Rattle.code_items.specs.declared.instr.Instr.TheVariants.{Moves, Records};
 ghost use Rattle.code_items.specs.declared.instr.MoveInstr.TheVariants as move_instr;
-ghost use Rattle.code_items.specs.declared.instr.RecordInstr.TheVariants as record_instr;
 ghost use Rattle.prg_code.specs.Growth.{Grown, WorkGrows, Puts};
 ghost use Rattle.prg_line.specs.Act as act;
 ghost use Rattle.prg_line.specs.Act.{goal_of};

@@ -7,9 +7,10 @@ use crate::values::{
 };
 use crate::variables::put_store;
 use code_items::{Instr, Name, RecordInstr, ScreenInstr, Shape, ValueInstr};
-use prg_code::{CompileError, Get, Output, Work, copy_of_name};
+use prg_code::{CompileError, Get, Output, Work};
 use prg_expr::Expr;
 use prg_values::Reading;
+use shape::copy_of_name;
 use xvalue::{Fun, Kind};
 
 /// Shows the values at the cursor, a blank between two.

@@ -61,12 +61,12 @@ fn goes_on<'a>(put: Result<(), CompileError>) -> Result<Option<Turn<'a>>, Compil
     Ok(None)
 }
 
-/// Puts the code of a command of one line. Of one that turns the way nothing is put; what it does is the answer.
+/// Puts the code of a command of one line. A command that turns the way puts no code; the answer is its turn.
 ///
 /// # Errors
 ///
-/// The command's first fault: of its expressions in the order of their code, then of names, and then ClosedArea,
-/// NoOrder, OpenTwice, Index, Filter and Limit. Want of memory.
+/// The command's first fault. Faults of its expressions come first, in the order of their code. Faults of names come
+/// next, and then ClosedArea, NoOrder, OpenTwice, Index, Filter and Limit. The other error is want of memory.
 pub fn put_statement<'a>(
     shape: &Shape,
     out: &mut Output,
@@ -76,9 +76,9 @@ pub fn put_statement<'a>(
 ) -> Result<Option<Turn<'a>>, CompileError>
     // It turns the way as the command says.
     ensures turn { IfOk result (λ turn. IsTurn turn (act_of statement.now)) }
-    // A command whose code is one instruction that it tells alone has that instruction.
+    // Where the command alone decides its code, and that is one instruction, this instruction is put.
     ensures alone { OnOk result (PutsAlone (act_of statement.now) work.old.block work.new.block) }
-    // Also where it is refused, what stood still stands.
+    // What stood still stands, also where the command is refused.
     ensures grown { Grown out.old work.old out.new work.new }
 {
     match statement {
