@@ -5,8 +5,8 @@ ghost use Rattle.prg_writer.specs.Targets.{target_named, with_target, targets_of
 
 use crate::writer::Target;
 use indexmap::IndexMap;
-use prg_code::copy_of_name;
 use prg_parser::{Name, Procedure, Program};
+use shape::copy_of_name;
 use std::alloc::{AllocError, Global};
 use std::marker::Model;
 
