@@ -21,7 +21,7 @@ pub use filters::{FilterBlock, Filters, has_unmet_needs};
 pub use laws::{states_are_known_again, ways_merge};
 pub use lists::{ListedIndexes, Lists, indexes_opened};
 pub use merging::{is_selection_same, is_state_same, merged};
-pub use names::{Names, Variable, copy_of_name};
+pub use names::{Names, Variable};
 pub use numbering::Numbering;
 pub use pool::{Constant, MOST_CONSTANTS, Pool, is_same_constant};
 pub use seen::Seen;

@@ -1,21 +1,11 @@
 //! What is known where ways meet.
 
 ghost use Rattle.std.specs.Prelude.{◌≡◌, ◌==◌, ◌↔◌, IsTrue, IfOk};
-ghost use Rattle.code_items.specs.Desks.{same_area};
 ghost use Rattle.prg_code.specs.Merging as spec;
 
-use code_items::{AreaState, Desk, Items, KindSlots, KindStack, OpenArea, State};
+use code_items::{AreaState, Desk, Items, KindSlots, KindStack, State, is_same_area};
 use std::alloc::{AllocError, Global};
 use xvalue::Kind;
-
-fn is_same_area(one: OpenArea, two: OpenArea) -> bool
-    ensures { result ≡ same_area one two }
-{
-    one.table == two.table
-        && one.list == two.list
-        && one.order == two.order
-        && one.filter == two.filter
-}
 
 /// What is known of a work area where ways meet: what both know, or else nothing.
 fn merged_area(one: AreaState, two: AreaState) -> AreaState

@@ -5,9 +5,9 @@ ghost use Rattle.std.specs.Map.{values_of};
 ghost use Rattle.std.specs.Str.{bytes_eq};
 ghost use Rattle.prg_code.specs.Bindings.{slot_named, as_caller, as_callers, is_left, without_caller, DoNameSame};
 
-use arrayvec::ArrayVec;
 use code_items::Name;
 use indexmap::IndexMap;
+use shape::copy_of_name;
 use std::alloc::{AllocError, Global};
 use std::marker::Model;
 
@@ -23,15 +23,6 @@ pub struct Variable {
 #[derive(Drop)]
 pub struct Names {
     variables: IndexMap<Name, Variable>,
-}
-
-/// The same name once more.
-pub fn copy_of_name(name: &Name) -> Name
-    ensures { result ≡ name.now }
-{
-    let mut copy = ArrayVec::new();
-    copy.try_extend_from_slice(name.as_slice()).unwrap();
-    copy
 }
 
 impl Model for Names {
