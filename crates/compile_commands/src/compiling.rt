@@ -1,8 +1,6 @@
 //! From command files to a code file.
 
-ghost use Rattle.std.specs.Prelude.{◌≡◌, ◌<◌, ◌≤◌, length, map, IfErr, IfOk, OnErr, OnOk};
-ghost use Rattle.xcode.specs.CodeFile.{CodeText};
-ghost use Rattle.code_rules.specs.Rules.{Accepted};
+ghost use Rattle.std.specs.Prelude.{◌<◌, ◌≤◌, length, map, IfErr, IfOk, OnErr, OnOk};
 ghost use Rattle.file_access.specs.Holding.{SameFiles};
 ghost use Rattle.compile_commands.specs.Compiling.{IsCodeOf, IsCompiled};
 ghost use Rattle.compile_commands.specs.Refusals.{CompileFilesRefusalIs, IsCompilers};
