@@ -1,6 +1,6 @@
 //! Commands on work areas, and moves.
 
-ghost use Rattle.std.specs.Prelude.{◌≡◌, IfOk, IsTrue, true, map, option_map, ℕ};
+ghost use Rattle.std.specs.Prelude.{◌≡◌, IfOk, true, map, option_map};
 ghost use Rattle.std.specs.List.{AllZip};
 ghost use Rattle.prg_expr.specs.Tree.{tree_of};
 ghost use Rattle.prg_laid.specs.Acts as acts;
@@ -118,7 +118,7 @@ fn is_of_selected(state: &State, filter: &Filter) -> bool
     }
 }
 
-/// Otherwise, unless the code of a condition is this block.
+/// Ok if the code of the condition is the whole block, and else Otherwise.
 fn demand_block(l: &Layout, state: &State, e: &Expr, block: &Block) -> FoundLaid<()>
     ensures { IfOk result (λ _. acts.IsBlock (laying l.now) state.now (tree_of e.now) block.now) }
 {
@@ -130,7 +130,7 @@ fn demand_block(l: &Layout, state: &State, e: &Expr, block: &Block) -> FoundLaid
     }
 }
 
-/// Otherwise, unless the filter, numbered from 0, is this condition's.
+/// Ok if the filter of this number, counted from 0, is this condition's, and else Otherwise.
 fn demand_filter(l: &Layout, place: usize, e: &Expr, number: usize) -> FoundLaid<()>
     ensures { IfOk result (λ _. acts.IsFilter (laying l.now) place (tree_of e.now) number) }
 {

@@ -1,8 +1,8 @@
 //! Commands with blocks.
 
-ghost use Rattle.std.specs.Prelude.{◌≡◌, ◌||◌, ◌&&◌, ◌+◌, ◌<◌, nat_eq, ℕ, [], Option, None, IfOk, OnOk};
+ghost use Rattle.std.specs.Prelude.{◌≡◌, ◌&&◌, ◌+◌, ◌<◌, nat_eq, ℕ, [], Option, None, IfOk, OnOk};
 ghost use Rattle.std.specs.Prelude.{option_map};
-ghost use Rattle.code_items.specs.declared.instr.FlowInstr.TheVariants.{Jump, JumpFalse, End};
+ghost use Rattle.code_items.specs.declared.instr.FlowInstr.TheVariants.{Jump, JumpFalse};
 ghost use Rattle.code_items.specs.declared.instr.Instr.TheVariants.{Flow};
 ghost use Rattle.prg_expr.specs.Tree.{tree_of};
 ghost use Rattle.prg_laid.specs.Acts as acts;
@@ -11,8 +11,7 @@ ghost use Rattle.prg_laid.specs.Commands as spec;
 ghost use Rattle.prg_laid.specs.Layout.{laying};
 ghost use Rattle.prg_laid.specs.declared.way.Leaps.{Leaps as Looped};
 ghost use Rattle.prg_line.specs.Act.{act_of};
-ghost use Rattle.prg_parser.specs.Commands.{Single, If, DoCase, DoWhile, Scan, form_command, command_of, commands_of};
-ghost use Rattle.prg_parser.specs.Commands.{cases_of, part_of};
+ghost use Rattle.prg_parser.specs.Commands.{Single, Scan, form_command, command_of, commands_of, part_of};
 ghost use Rattle.prg_values.specs.Placed.{InstrStands};
 
 use crate::fault::{FoundLaid, LayoutFault};

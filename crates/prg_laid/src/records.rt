@@ -1,6 +1,6 @@
 //! Commands on records.
 
-ghost use Rattle.std.specs.Prelude.{◌≡◌, IfOk, map, ℕ};
+ghost use Rattle.std.specs.Prelude.{IfOk, map};
 ghost use Rattle.prg_laid.specs.Acts as acts;
 ghost use Rattle.prg_laid.specs.Layout.{laying};
 ghost use Rattle.prg_line.specs.Act.{change_of, letters_of};

@@ -1,6 +1,6 @@
 //! Commands of one line.
 
-ghost use Rattle.std.specs.Prelude.{◌≡◌, IfOk, OnOk, ℕ};
+ghost use Rattle.std.specs.Prelude.{◌≡◌, IfOk, OnOk};
 ghost use Rattle.prg_laid.specs.Acts as acts;
 ghost use Rattle.prg_laid.specs.Layout.{laying};
 ghost use Rattle.prg_line.specs.Act.{act_of};

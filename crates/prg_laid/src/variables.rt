@@ -1,6 +1,6 @@
 //! Commands on variables.
 
-ghost use Rattle.std.specs.Prelude.{◌≡◌, IfOk, map, ℕ};
+ghost use Rattle.std.specs.Prelude.{IfOk, map};
 ghost use Rattle.prg_expr.specs.Tree.{tree_of};
 ghost use Rattle.prg_laid.specs.Acts as acts;
 ghost use Rattle.prg_laid.specs.Layout.{laying};
