@@ -35,7 +35,7 @@ use Rattle.run_laws.proofs.OnAreas.{selected_there, is_here}
 -- ---- a filter's block
 
 -- what a filter's block may have leaves the slots alone
-slots_stay : (i : Instr) (slots : List (Option Kind)) → filters i ≡ true → slots_after i slots ≡ slots
+pub slots_stay : (i : Instr) (slots : List (Option Kind)) → filters i ≡ true → slots_after i slots ≡ slots
 slots_stay (Values (Constant n)) slots e = refl
 slots_stay (Values (Load k s)) slots e = refl
 slots_stay (Values (Store k s)) slots e = absurd (cc)

@@ -1,25 +1,11 @@
 -- A run that was spent and is taken up again.
-use Rattle.std.proofs.Common.{◌≡◌, ℕ, zero, suc, ◌+◌, ◌-◌, Some, ap, subst, ◌∙◌, arith}
-use Rattle.std.specs.Prelude.{option_and_then}
+use Rattle.std.proofs.Common.{◌≡◌, ℕ, ◌+◌, ◌-◌, ap, subst, ◌∙◌, arith}
 use Rattle.code_items.specs.declared.code.Code.{Code}
 use Rattle.run_steps.specs.declared.ending.Outcome.{Outcome}
 use Rattle.run_steps.specs.declared.ending.End.TheVariants.{Spent}
 use Rattle.run_steps.specs.World.{World}
-use Rattle.run_steps.specs.Run.{after, spent, cost_in, closing_cost, next_world, step_of, Ran, Stops}
-
-pub after_more : (code : Code) (w v : World) (n m : ℕ) → after code w n ≡ Some v → after code w (n + m) ≡ after code v m
-after_more code w v n zero e = let same : n + 0 ≡ n = omega arith in ap (after code w) same ∙ e
-after_more code w v n (suc m) e =
-    let same : n + suc m ≡ suc (n + m) = omega arith in
-    ap (after code w) same ∙ ap (option_and_then (λ x. next_world (step_of code x))) (after_more code w v n m e)
-
-pub spent_more : (code : Code) (w v : World) (n m : ℕ) → after code w n ≡ Some v → spent code w (n + m) ≡ spent code w n + spent code v m
-spent_more code w v n zero e = let same : n + 0 ≡ n = omega arith in ap (spent code w) same ∙ omega arith
-spent_more code w v n (suc m) e =
-    let same : n + suc m ≡ suc (n + m) = omega arith in
-    let before = spent_more code w v n m e in
-    let last = ap (cost_in code) (after_more code w v n m e) in
-    ap (spent code w) same ∙ omega (arith, before, last)
+use Rattle.run_steps.specs.Run.{spent, closing_cost, Ran, Stops}
+use Rattle.run_steps.proofs.LeadingSteps.{after_more, spent_more}
 
 pub whole : (code : Code) (w v u : World) (budget more : ℕ) (first second : Outcome) → Ran code w budget first v → first.end ≡ Spent → Ran code v more second u
     → Ran code w (first.steps + more) (record { end = second.end; steps = first.steps + second.steps }) u

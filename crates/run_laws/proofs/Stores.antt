@@ -191,7 +191,7 @@ abbrev pub put_closed : Option Use → Option OpenState → StoreState → Store
 put_closed x None s = s
 put_closed x (Some o) s = with_used x (closed o) s
 
-put_is : (found : Option OpenState) (s : StoreState) → changed_found closed found s ≡ put_closed (selected_use s) found s
+pub put_is : (found : Option OpenState) (s : StoreState) → changed_found closed found s ≡ put_closed (selected_use s) found s
 put_is None s = refl
 put_is (Some o) s = refl
 
