@@ -37,7 +37,7 @@ kinds_same OfLogical OfLogical e = refl
 pub joined : (k l : Kind) (ks ls : List Kind) → k ≡ l → ks ≡ ls → k ∷ ks ≡ l ∷ ls
 joined k l ks ls e f = rw (e, f) refl
 
-stacks_same : (ks ls : List Kind) → same_kinds ks ls ≡ true → ks ≡ ls
+pub stacks_same : (ks ls : List Kind) → same_kinds ks ls ≡ true → ks ≡ ls
 stacks_same [] [] e = refl
 stacks_same [] (l ∷ ls) e = absurd (cc)
 stacks_same (k ∷ ks) [] e = absurd (cc)

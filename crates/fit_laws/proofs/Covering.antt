@@ -13,6 +13,7 @@ use Rattle.code_items.specs.Pairs.{along}
 use Rattle.code_items.specs.Desks.{same_area, area_covered, areas_covered, desk_covered}
 use Rattle.code_items.specs.Kinds.{same_pair, same_kinds, slot_covered, slots_covered}
 use Rattle.code_rules.specs.Rules.{covers}
+use Rattle.fit_laws.proofs.Covered.{kinds_same}
 
 -- ---- each is covered by itself
 
@@ -20,7 +21,7 @@ along_self : {A : Type 0} (test : A × A → Bool) → ((a : A) → test (a, a) 
 along_self test each [] = refl
 along_self test each (x ∷ xs) = and_from (test (x, x)) (along test xs xs) (each x) (along_self test each xs)
 
-kind_self : (k : Kind) → same_kind k k ≡ true
+pub kind_self : (k : Kind) → same_kind k k ≡ true
 kind_self OfNumber = refl
 kind_self OfText = refl
 kind_self OfDate = refl
@@ -75,24 +76,6 @@ along_on test each (x ∷ xs) (y ∷ ys) (z ∷ zs) e f =
     let a = and_parts (test (x, y)) (along test xs ys) e in
     let b = and_parts (test (y, z)) (along test ys zs) f in
     and_from (test (x, z)) (along test xs zs) (each x y z a.0 b.0) (along_on test each xs ys zs a.1 b.1)
-
-pub kinds_same : (k l : Kind) → same_kind k l ≡ true → k ≡ l
-kinds_same OfNumber OfNumber e = refl
-kinds_same OfNumber OfText e = absurd (cc)
-kinds_same OfNumber OfDate e = absurd (cc)
-kinds_same OfNumber OfLogical e = absurd (cc)
-kinds_same OfText OfNumber e = absurd (cc)
-kinds_same OfText OfText e = refl
-kinds_same OfText OfDate e = absurd (cc)
-kinds_same OfText OfLogical e = absurd (cc)
-kinds_same OfDate OfNumber e = absurd (cc)
-kinds_same OfDate OfText e = absurd (cc)
-kinds_same OfDate OfDate e = refl
-kinds_same OfDate OfLogical e = absurd (cc)
-kinds_same OfLogical OfNumber e = absurd (cc)
-kinds_same OfLogical OfText e = absurd (cc)
-kinds_same OfLogical OfDate e = absurd (cc)
-kinds_same OfLogical OfLogical e = refl
 
 kind_on : (k l m : Kind) → same_kind k l ≡ true → same_kind l m ≡ true → same_kind k m ≡ true
 kind_on k l m e f = subst (λ x. same_kind x m ≡ true) (sym (kinds_same k l e)) f

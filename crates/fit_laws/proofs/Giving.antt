@@ -20,16 +20,16 @@ use Rattle.code_items.specs.declared.instr.Instr.TheVariants.{Values, Flow, Scre
 use Rattle.code_rules.specs.Signature.{area_of, record_area, call_of}
 use Rattle.code_rules.specs.Wants.{fields_at, kind_of_field, constant_kind, value_gives, screen_gives, record_gives, gives, unknown}
 use Rattle.code_rules.specs.Rules.{fails_if_named, fails_if_open, is_rows, record_is_rows, no_procedure, value_undeclared, record_undeclared, undeclared}
-use Rattle.fit_laws.proofs.Standing.{there}
+use Rattle.run_laws.proofs.Tests.{is_there}
 
 constant_known : (values : List Value) (n : ℕ) → nat_le (length values) n ≡ false → unknown (Some (constant_kind (slice_get values n))) ≡ 0
 constant_known values n e =
-    let t = there values n (leb-false (length values) n e) in
+    let t = is_there values n (leb-false (length values) n e) in
     rw t.1 refl
 
 field_there : (fields : List TableField) (n : ℕ) → nat_le (length fields) n ≡ false → unknown (Some (kind_of_field (slice_get fields n))) ≡ 0
 field_there fields n e =
-    let t = there fields n (leb-false (length fields) n e) in
+    let t = is_there fields n (leb-false (length fields) n e) in
     rw t.1 refl
 
 field_known : (d : Declared) (o : Option OpenArea) (n : ℕ) → is_none o ≡ false → fails_if_open (λ a. nat_le (length (fields_at d (Some a))) n) o ≡ false → unknown (Some (kind_of_field (slice_get (fields_at d o) n))) ≡ 0

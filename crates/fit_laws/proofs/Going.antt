@@ -3,7 +3,6 @@ use Rattle.std.proofs.Common.{◌≡◌, ◌<◌, ℕ, ◌+◌, true, false, ◌
 use Rattle.std.specs.Prelude.{is_none, slice_get, unwrap_or}
 use Rattle.std.proofs.lemmas.Bool.{and_parts, and_from}
 use Rattle.xvalue.specs.declared.kind.Kind.{Kind}
-use Rattle.xvalue.specs.declared.kind.Kind.TheVariants.{Number as OfNumber, Text as OfText, Date as OfDate, Logical as OfLogical}
 use Rattle.work_area.specs.Areas.{AreApart}
 use Rattle.code_items.specs.declared.code.Code.{Code}
 use Rattle.code_items.specs.declared.code.Proc.{Proc}
@@ -42,6 +41,7 @@ use Rattle.run_laws.proofs.Tests.{all_within}
 use Rattle.fit_laws.specs.Fits.{Fits, procedure_at, Awaits, IsFitting}
 use Rattle.fit_laws.proofs.Clear.{Rules, rules, outside}
 use Rattle.fit_laws.proofs.Covered.{Covered, covered, Desks, kinds_same}
+use Rattle.fit_laws.proofs.Covering.{stack_self}
 use Rattle.fit_laws.proofs.Desks.{IsKnown}
 use Rattle.fit_laws.proofs.DesksAfter.{desk_on, desks_covered}
 use Rattle.fit_laws.proofs.Fields.{record_told}
@@ -50,19 +50,12 @@ use Rattle.fit_laws.proofs.Jumps.{value_falls, screen_falls, area_falls, move_fa
 use Rattle.fit_laws.proofs.Loads.{loads_well}
 use Rattle.fit_laws.proofs.Returns.{exit_covered}
 use Rattle.fit_laws.proofs.StoreDesks.{desk_is}
-use Rattle.fit_laws.proofs.Values.{Tells, ResultLaw, AnswerLaw, drop_told, holds, value_told, screen_told, screen_store}
-use Rattle.run_laws.proofs.Changes.{value_store}
-
-kinds_self : (ks : List Kind) → same_kinds ks ks ≡ true
-kinds_self [] = refl
-kinds_self (OfNumber ∷ ks) = kinds_self ks
-kinds_self (OfText ∷ ks) = kinds_self ks
-kinds_self (OfDate ∷ ks) = kinds_self ks
-kinds_self (OfLogical ∷ ks) = kinds_self ks
+use Rattle.fit_laws.proofs.Values.{Tells, ResultLaw, AnswerLaw, drop_told, holds, value_told, screen_told}
+use Rattle.run_laws.proofs.Changes.{value_store, screen_store}
 
 pub covers_made : (m s : State) → slots_covered m.slots s.slots ≡ true → desk_covered m.desk s.desk ≡ true → m.stack ≡ s.stack → covers m s ≡ true
 covers_made m s a b c = and_from (slots_covered m.slots s.slots && desk_covered m.desk s.desk) (same_kinds m.stack s.stack) (and_from (slots_covered m.slots s.slots) (desk_covered m.desk s.desk) a b)
-    (subst (λ ks. same_kinds m.stack ks ≡ true) c (kinds_self m.stack))
+    (subst (λ ks. same_kinds m.stack ks ≡ true) c (stack_self m.stack))
 
 desk_part : (m s : State) → covers m s ≡ true → desk_covered m.desk s.desk ≡ true
 desk_part m s e = (and_parts (slots_covered m.slots s.slots) (desk_covered m.desk s.desk) (and_parts (slots_covered m.slots s.slots && desk_covered m.desk s.desk) (same_kinds m.stack s.stack) e).0).1

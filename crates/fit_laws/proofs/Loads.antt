@@ -20,7 +20,7 @@ pub record Loads (k : Kind) (o : Option (Option Kind)) : Type 0 where
   pub same : has_other k o ≡ false
   pub set : is_free o ≡ false
 
-impossible : {P : Type 0} → true ≡ false → P
+pub impossible : {P : Type 0} → true ≡ false → P
 impossible e = absurd (cc)
 
 slot_loads : (k : Kind) (a b : Option Kind) → slot_covered (a, b) ≡ true → Loads k (Some a) → Loads k (Some b)

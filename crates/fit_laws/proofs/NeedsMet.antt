@@ -10,38 +10,20 @@ use Rattle.code_items.specs.declared.declared.Filter.{Filter}
 use Rattle.code_items.specs.declared.code.Code.{Code}
 use Rattle.code_items.specs.declared.state.State.{State}
 use Rattle.code_items.specs.Kinds.{slot_covered, slots_covered}
-use Rattle.code_items.specs.declared.instr.ValueInstr.{ValueInstr}
-use Rattle.code_items.specs.declared.instr.ValueInstr.TheVariants.{Constant, Load, Store, Unset, Discard, Function, Today, Set}
 use Rattle.code_items.specs.declared.instr.Instr.{Instr}
-use Rattle.code_items.specs.declared.instr.Instr.TheVariants.{Values, Flow, Screen, Areas, Moves, Records}
-use Rattle.code_rules.specs.Flow.{flow, left_by, slots_after, slots_after_value}
+use Rattle.code_rules.specs.Flow.{flow, left_by}
 use Rattle.code_rules.specs.Places.{needed, filter_start}
-use Rattle.code_rules.specs.Rules.{has_other, is_free, value_loads_other, value_loads_free, loads_other, loads_free, lacks, filter_lacks, value_filters, filters}
+use Rattle.code_rules.specs.Rules.{has_other, is_free, lacks, filter_lacks}
 use Rattle.fit_laws.specs.FilterWalks.{Steps, BlockWalks, filter_begun}
-use Rattle.fit_laws.proofs.Covering.{kinds_same}
+use Rattle.run_laws.proofs.OnMoves.{slots_stay}
+use Rattle.fit_laws.proofs.Covered.{kinds_same}
 use Rattle.fit_laws.proofs.Filtering.{left_is}
+use Rattle.fit_laws.proofs.Loads.{Loads, impossible, loads_well}
 
 same_turned : (k l : Kind) → same_kind k l ≡ true → same_kind l k ≡ true
 same_turned k l e =
     let s = kinds_same k l e in
     subst (λ x. same_kind l x ≡ true) (sym s) (subst (λ x. same_kind x l ≡ true) s e)
-
--- ---- a slot that may be loaded may be where more is known
-
-abbrev Loads : Kind → Option (Option Kind) → Type 0
-Loads k o = (has_other k o ≡ false) × (is_free o ≡ false)
-
-slot_loads : (k : Kind) (a b : Option Kind) → slot_covered (a, b) ≡ true → Loads k (Some a) → Loads k (Some b)
-slot_loads k None b c e = absurd (cc)
-slot_loads k (Some l) None c e = absurd (cc)
-slot_loads k (Some l) (Some m) c e = (subst (λ x. has_other k (Some (Some x)) ≡ false) (kinds_same l m c) e.0, refl)
-
-loads_more : (k : Kind) (as' bs : List (Option Kind)) (n : ℕ) → slots_covered as' bs ≡ true → Loads k (slice_get as' n) → Loads k (slice_get bs n)
-loads_more k [] [] n c e = e
-loads_more k [] (b ∷ bs) n c e = absurd (cc)
-loads_more k (a ∷ as') [] n c e = absurd (cc)
-loads_more k (a ∷ as') (b ∷ bs) zero c e = slot_loads k a b (and_parts (slot_covered (a, b)) (slots_covered as' bs) c).0 e
-loads_more k (a ∷ as') (b ∷ bs) (suc n) c e = loads_more k as' bs n (and_parts (slot_covered (a, b)) (slots_covered as' bs) c).1 e
 
 -- ---- the slots that are needed are covered by slots that meet the needs
 
@@ -52,8 +34,8 @@ nothing_covers (s ∷ slots) zero e = absurd (omega (arith, e))
 nothing_covers (s ∷ slots) (suc n) e = nothing_covers slots n (omega (arith, e))
 
 slot_met : (k : Kind) (b : Option Kind) → Loads k (Some b) → slot_covered (Some k, b) ≡ true
-slot_met k None e = absurd (cc)
-slot_met k (Some m) e = same_turned m k (not-false (same_kind m k) e.0)
+slot_met k None e = impossible e.set
+slot_met k (Some m) e = same_turned m k (not-false (same_kind m k) e.same)
 
 one_met : (k : Kind) (as' bs : List (Option Kind)) (n : ℕ) → slots_covered as' bs ≡ true → Loads k (slice_get bs n) → slots_covered (slice_set as' n (Some k)) bs ≡ true
 one_met k [] bs n c e = c
@@ -68,39 +50,21 @@ all_met [] known slots c e = c
 all_met (need ∷ needs) known slots c e =
     let p = or_parts (lacks slots need) (list_any (lacks slots) needs) e in
     let q = or_parts (is_free (slice_get slots need.slot)) (has_other need.kind (slice_get slots need.slot)) p.0 in
-    all_met needs (slice_set known need.slot (Some need.kind)) slots (one_met need.kind known slots need.slot c (q.1, q.0)) p.1
+    all_met needs (slice_set known need.slot (Some need.kind)) slots (one_met need.kind known slots need.slot c (record { same = q.1; set = q.0 })) p.1
 
 -- ---- one instruction, and the whole block
 
 abbrev with_slots : List (Option Kind) → State → State
 with_slots slots s = record s { slots = slots }
 
-value_loads : (s : State) (slots : List (Option Kind)) (i : ValueInstr) → slots_covered s.slots slots ≡ true → value_loads_other s i ≡ false → value_loads_free s i ≡ false → (value_loads_other (with_slots slots s) i ≡ false) × (value_loads_free (with_slots slots s) i ≡ false)
-value_loads s slots (Constant n) c e f = (refl, refl)
-value_loads s slots (Load k n) c e f = loads_more k s.slots slots n c (e, f)
-value_loads s slots (Store k n) c e f = (refl, refl)
-value_loads s slots (Unset n) c e f = (refl, refl)
-value_loads s slots (Discard k) c e f = (refl, refl)
-value_loads s slots (Function g) c e f = (refl, refl)
-value_loads s slots Today c e f = (refl, refl)
-value_loads s slots (Set x on) c e f = (refl, refl)
-
-loads : (s : State) (slots : List (Option Kind)) (i : Instr) → slots_covered s.slots slots ≡ true → loads_other s i ≡ false → loads_free s i ≡ false → (loads_other (with_slots slots s) i ≡ false) × (loads_free (with_slots slots s) i ≡ false)
-loads s slots (Values i) c e f = value_loads s slots i c e f
-loads s slots (Flow i) c e f = (refl, refl)
-loads s slots (Screen i) c e f = (refl, refl)
-loads s slots (Areas i) c e f = (refl, refl)
-loads s slots (Moves i) c e f = (refl, refl)
-loads s slots (Records i) c e f = (refl, refl)
-
 steps_more : (code : Code) (s : State) (slots : List (Option Kind)) (i : Instr) → slots_covered s.slots slots ≡ true → Steps code s i → Steps code (with_slots slots s) i
 steps_more code s slots i c h =
-    let l = loads s slots i c h.other h.set in
+    let l = loads_well s (with_slots slots s) c i (record { other = h.other; set = h.set }) in
     record {
       stands = h.stands;
       kind = h.kind;
-      other = l.0;
-      set = l.1;
+      other = l.other;
+      set = l.set;
       under = h.under;
       over = h.over;
       declared = h.declared;
@@ -108,35 +72,17 @@ steps_more code s slots i c h =
       left = left_is code i (with_slots slots s) h.stands;
     }
 
-value_slots : (i : ValueInstr) (slots : List (Option Kind)) → value_filters i ≡ true → slots_after_value i slots ≡ slots
-value_slots (Constant n) slots e = refl
-value_slots (Load k s) slots e = refl
-value_slots (Store k s) slots e = absurd (cc)
-value_slots (Unset s) slots e = absurd (cc)
-value_slots (Discard k) slots e = refl
-value_slots (Function f) slots e = refl
-value_slots Today slots e = refl
-value_slots (Set x on) slots e = refl
-
-same_slots : (i : Instr) (slots : List (Option Kind)) → filters i ≡ true → slots_after i slots ≡ slots
-same_slots (Values i) slots e = value_slots i slots e
-same_slots (Flow i) slots e = refl
-same_slots (Screen i) slots e = refl
-same_slots (Areas i) slots e = refl
-same_slots (Moves i) slots e = refl
-same_slots (Records i) slots e = refl
-
 -- what is left where more slots are known is what was left, with those slots
 left_more : (code : Code) (s : State) (slots : List (Option Kind)) (i : Instr) → Steps code s i → with_slots slots (flow code i s) ≡ flow code i (with_slots slots s)
 left_more code s slots i h =
     let a : with_slots slots (flow code i s) ≡ with_slots slots (left_by code i s) = ap (with_slots slots) h.left in
-    let b : with_slots slots (left_by code i s) ≡ left_by code i (with_slots slots s) = ap (λ x. record { desk = (left_by code i s).desk; slots = x; stack = (left_by code i s).stack }) (sym (same_slots i slots h.stands)) in
+    let b : with_slots slots (left_by code i s) ≡ left_by code i (with_slots slots s) = ap (λ x. record { desk = (left_by code i s).desk; slots = x; stack = (left_by code i s).stack }) (sym (slots_stay i slots h.stands)) in
     a ∙ (b ∙ sym (left_is code i (with_slots slots s) h.stands))
 
 walks_more : (code : Code) (instrs : List Instr) (s : State) (slots : List (Option Kind)) → slots_covered s.slots slots ≡ true → BlockWalks code s instrs → BlockWalks code (with_slots slots s) instrs
 walks_more code [] s slots c w = w
 walks_more code (i ∷ instrs) s slots c w =
-    let e : (flow code i s).slots ≡ s.slots = ap (λ x. x.slots) w.0.left ∙ same_slots i s.slots w.0.stands in
+    let e : (flow code i s).slots ≡ s.slots = ap (λ x. x.slots) w.0.left ∙ slots_stay i s.slots w.0.stands in
     let rest = walks_more code instrs (flow code i s) slots (subst (λ x. slots_covered x slots ≡ true) (sym e) c) w.1 in
     (steps_more code s slots i c w.0, subst (λ x. BlockWalks code x instrs) (left_more code s slots i w.0) rest)
 

@@ -13,6 +13,7 @@ use Rattle.code_items.specs.Instrs.{is_instr}
 use Rattle.code_items.specs.Legal.{places_in_all, places_of, blocks_of, blocks_fill, procedures_are_legal, maps_are_legal, instructions_are_legal, is_code, IsCode}
 use Rattle.code_rules.specs.declared.blocks.Block.{Block}
 use Rattle.code_rules.specs.Places.{block_at}
+use Rattle.run_laws.proofs.Tests.{is_there}
 use Rattle.fit_laws.specs.Connects.{first_of, IsOfProcedures, InProcedure}
 use Rattle.fit_laws.proofs.BlockPlaces.{stays, Found, found, Begun, begun_at, some_each, part}
 
@@ -27,11 +28,6 @@ unfolding is_code
 filled code ok =
     let a = and_parts (are_declared code.declared && procedures_are_legal code && maps_are_legal code) (instructions_are_legal code) ok in
     (and_parts (nat_le 1 (length code.instructions) && nat_le (length code.instructions) 65535 && list_all (is_instr code.declared.version) code.instructions) (blocks_fill (length code.instructions) (blocks_of code.procedures code.declared.filters)) a.1).1
-
-pub there : {A : Type 0} (xs : List A) (n : ℕ) → n < length xs → (x : A) × (slice_get xs n ≡ Some x)
-there [] n lt = absurd (omega arith)
-there (x ∷ xs) zero lt = (x, refl)
-there (x ∷ xs) (suc n) lt = there xs n (omega (arith, lt))
 
 length_in : Option Proc → ℕ
 length_in None = 0
@@ -89,7 +85,7 @@ stands_as code place k p e = record {
 pub stands : (code : Code) (place : ℕ) → IsOfProcedures code place → InProcedure code place
 stands code place lt =
     let k = found_in code place lt in
-    let t = there code.procedures (block_at code place).number (rw length-map at k.within) in
+    let t = is_there code.procedures (block_at code place).number (rw length-map at k.within) in
     stands_as code place k t.0 t.1
 
 pub number_within : (code : Code) (place : ℕ) → IsOfProcedures code place → (block_at code place).number < length code.procedures

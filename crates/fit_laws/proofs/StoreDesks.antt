@@ -38,9 +38,8 @@ use Rattle.run_steps.specs.Needs.{AreaNeeds, Needs}
 use Rattle.run_laws.proofs.Known.{OpenThere, area_by}
 use Rattle.run_laws.proofs.OnAreas.{some_index}
 use Rattle.run_laws.proofs.Tests.{first_no, second_no, then_no, not_zero, is_there}
-use Rattle.fit_laws.proofs.Values.{screen_store}
-use Rattle.run_laws.proofs.Stores.{set_other, set_there, put_closed}
-use Rattle.run_laws.proofs.Changes.{value_store}
+use Rattle.run_laws.proofs.Stores.{set_other, set_there, put_closed, put_is}
+use Rattle.run_laws.proofs.Changes.{value_store, screen_store}
 
 abbrev desk : ℕ → List AreaState → Desk
 desk selected areas = record { selected = selected; areas = areas }
@@ -138,10 +137,6 @@ replace_desk s f (Some v) = changes_stay s (replaced_here f v) (λ o. refl)
 
 -- ---- closing
 
-closed_is : (found : Option OpenState) (s : StoreState) → changed_found closed found s ≡ put_closed (selected_use s) found s
-closed_is None s = refl
-closed_is (Some o) s = refl
-
 -- the selected area's table has changed, which no other area holds
 record Leaves (s z : StoreState) : Type 0 where
   areas : z.areas ≡ s.areas
@@ -155,7 +150,7 @@ leaves s None (Some o) apart there = record { areas = refl; selected = refl; cou
 leaves s (Some u) (Some o) apart there = record { areas = refl; selected = refl; count = length-set s.tables u.table (closed o); orders = others_keep s u (closed o) apart there }
 
 closed_leaves : (s : StoreState) → AreApart s.areas → Leaves s (change_here closed s)
-closed_leaves s apart = subst (Leaves s) (sym (closed_is (here s) s)) (leaves s (selected_use s) (here s) apart refl)
+closed_leaves s apart = subst (Leaves s) (sym (put_is (here s) s)) (leaves s (selected_use s) (here s) apart refl)
 
 close_desk : (s : StoreState) → AreApart s.areas → 1 ≤ s.selected → desk_of (closed_here s) ≡ with_selected_area Closed (desk_of s)
 close_desk s apart one =

@@ -5,7 +5,7 @@ use Rattle.std.proofs.lemmas.Bool.{and_parts, and_from, or_parts, not-false, leb
 use Rattle.std.proofs.lemmas.List.{length-map, drop-map}
 use Rattle.text_lines.specs.Lines.{next_line}
 use Rattle.xvalue.specs.declared.kind.Kind.{Kind}
-use Rattle.xvalue.specs.declared.kind.Kind.TheVariants.{Number as OfNumber, Text as OfText, Date as OfDate, Logical as OfLogical}
+use Rattle.xvalue.specs.declared.kind.Kind.TheVariants.{Text as OfText, Date as OfDate}
 use Rattle.xvalue.specs.declared.value.Value.{Value}
 use Rattle.xvalue.specs.declared.value.Value.TheVariants.{Text, Date}
 use Rattle.xvalue.specs.declared.fun.Fun.{Fun}
@@ -28,9 +28,10 @@ use Rattle.code_rules.specs.Flow.{slots_after_value}
 use Rattle.code_rules.specs.Rules.{has_other, is_free, value_undeclared}
 use Rattle.run_values.specs.Tagged.{TaggedValues, HoldsKind, pushed, dropped, loaded_value, stored_top, arguments_on}
 use Rattle.run_steps.specs.World.{World, EnvState, state_of, kind_held}
-use Rattle.run_steps.specs.Effects.{on_value, with_pushed, value_values, screen_values, screen_env}
+use Rattle.run_steps.specs.Effects.{on_value, with_pushed, value_values, screen_values}
 use Rattle.run_steps.specs.Needs.{LoadNeeds}
 use Rattle.fit_laws.proofs.Covered.{kinds_same, joined}
+use Rattle.fit_laws.proofs.Covering.{kind_self}
 use Rattle.fit_laws.proofs.Filters.{Legal}
 use Rattle.fit_laws.proofs.Loads.{LoadsWell}
 
@@ -87,12 +88,6 @@ set_told o x e (a ∷ as') (b ∷ bs) zero c = and_from (slot_covered (o, kind_h
 set_told o x e (a ∷ as') (b ∷ bs) (suc n) c =
     let p = and_parts (slot_covered (a, kind_held b)) (slots_covered as' (map kind_held bs)) c in
     and_from (slot_covered (a, kind_held b)) (slots_covered (slice_set as' n o) (map kind_held (slice_set bs n x))) p.0 (set_told o x e as' bs n p.1)
-
-kind_self : (k : Kind) → same_kind k k ≡ true
-kind_self OfNumber = refl
-kind_self OfText = refl
-kind_self OfDate = refl
-kind_self OfLogical = refl
 
 slot_kind : (k : Kind) (value : Value) → kind_of value ≡ k → slot_covered (Some k, kind_held (Some value)) ≡ true
 slot_kind k value e = subst (λ x. same_kind x (kind_of value) ≡ true) e (kind_self (kind_of value))
@@ -172,17 +167,3 @@ screen_told law slots stack t e (SayOn k) h c u = drop_told 1 slots stack t h
 screen_told law slots stack t e (Input k) h c u = input_told slots stack t k (next_line e.lines) law h (on_top k stack t.stack h.stack_true c u)
 screen_told law slots stack t e Line h c u = push_told slots stack t OfText (Text (record { items = next_line e.lines })) refl h
 screen_told law slots stack t e Clear h c u = h
-
--- the tables stay where a value is shown
-shown_store : (o : Option Value) (e : EnvState) (f : Value → EnvState) → ((value : Value) → (f value).store ≡ e.store) → (on_value o e f).store ≡ e.store
-shown_store None e f h = refl
-shown_store (Some value) e f h = h value
-
-pub screen_store : (i : ScreenInstr) (t : TaggedValues) (e : EnvState) → (screen_env i t e).store ≡ e.store
-screen_store NewLine t e = refl
-screen_store (Print k) t e = shown_store (slice_get t.stack 0) e _ (λ value. refl)
-screen_store (Say k) t e = shown_store (slice_get t.stack 0) e _ (λ value. refl)
-screen_store (SayOn k) t e = shown_store (slice_get t.stack 0) e _ (λ value. refl)
-screen_store (Input k) t e = refl
-screen_store Line t e = refl
-screen_store Clear t e = refl
