@@ -1,6 +1,6 @@
 pub mod Lasts
 pub mod LeadingSteps
-pub mod Rows
+mod Rows
 mod BlockSteps
 mod Drafts
 pub mod Walks
