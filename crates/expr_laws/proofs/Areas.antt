@@ -4,6 +4,7 @@ use Rattle.std.specs.Prelude.{slice_get, slice_index_or, is_none, is_some, nat_l
 use Rattle.std.specs.List.{list_any, list_all}
 use Rattle.std.specs.Str.{bytes_eq}
 use Rattle.std.proofs.lemmas.Bool.{and_parts, or_parts, leb-true}
+use Rattle.std.proofs.lemmas.Option.{slice_get_within}
 use Rattle.xvalue.specs.Kinds.{kind_of}
 use Rattle.dbf_file.specs.declared.field.Field.{Field}
 use Rattle.dbf_file.specs.declared.field.Letter.TheVariants.{C}
@@ -137,11 +138,6 @@ table_is : (x : Option TableShape) → on_some x [] (λ t. t.fields) ≡ fields_
 table_is None = refl
 table_is (Some t) = refl
 
-pub within : {A : Type 0} (xs : List A) (n : ℕ) (x : A) → slice_get xs n ≡ Some x → n < length xs
-within [] n x e = none_some _ x e
-within (y ∷ xs) zero x e = omega arith
-within (y ∷ xs) (suc n) x e = omega (arith, within xs n x e)
-
 pub past : (m n : ℕ) → n < m → nat_le m n ≡ false
 past m n lt = by (nat_le m n) refl
   where
@@ -165,7 +161,7 @@ pub field_declared : (d : Declared) (s : StoreState) (n : ℕ) (o : OpenThere d 
 field_declared d s n o name f e =
     let fs = fields_declared (slice_get d.shape.tables o.use_of.table) in
     let w = declared_at d o.use_of.table name f e in
-    ap (fails_if_open (λ b. nat_le (length (fields_at d (Some b))) f.number)) o.known ∙ past (length fs) f.number (within fs f.number w.0 w.1)
+    ap (fails_if_open (λ b. nat_le (length (fields_at d (Some b))) f.number)) o.known ∙ past (length fs) f.number (slice_get_within fs f.number w.0 w.1)
 
 -- and with the kind that is declared
 pub field_is_of_kind : (d : Declared) (s : StoreState) (n : ℕ) (fits : StoreFits d s) (o : OpenThere d s n) (name : List ℕ) (f : FieldPlace) → field_named (table_fields d.shape o.use_of.table) name ≡ Some f → kind_of (field_of f.number o.table) ≡ f.kind

@@ -1,8 +1,8 @@
 -- A filter's block that is sound never fills its stack, and loads only slots that hold what is loaded.
 use Rattle.std.proofs.Common.{◌≡◌, ◌<◌, ◌≤◌, ℕ, suc, ◌+◌, ◌-◌, Bool, true, false, not, ◌||◌, List, [], ◌∷◌, ◌++◌, length, map, drop, Option, Some, None, refl, sym, ap, ◌∙◌, subst, arith}
-use Rattle.std.specs.Prelude.{slice_get, nat_lt, nat_le, if◌then◌else◌}
+use Rattle.std.specs.Prelude.{slice_get, nat_lt, nat_le}
 use Rattle.std.specs.List.{AllZip}
-use Rattle.std.proofs.lemmas.Bool.{and_parts, or_parts, not-false, lt-ltb, ltb-false, leb-false}
+use Rattle.std.proofs.lemmas.Bool.{and_parts, or_parts, not-false, ltb-false, leb-false}
 use Rattle.std.proofs.lemmas.List.{length-drop}
 use Rattle.xvalue.specs.declared.kind.Kind.{Kind}
 use Rattle.xvalue.specs.declared.value.Value.{Value}
@@ -27,9 +27,9 @@ use Rattle.code_rules.specs.Flow.{left_by, just_opened}
 use Rattle.code_rules.specs.Places.{filter_desk}
 use Rattle.code_rules.specs.Rules.{filters, height_after, has_other, is_free, loads_other, loads_free, undeclared}
 use Rattle.run_values.specs.Tagged.{arguments_on, HoldsKind}
-use Rattle.run_values.specs.Scratch.{put_on}
 use Rattle.run_steps.specs.World.{kind_held}
 use Rattle.run_steps.specs.Filters.{Viewer, with_constant, with_held, row_field, asked_of, row_run, block_run, block_fails, block_sound, block_start}
+use Rattle.run_steps.proofs.Lasts.{room}
 use Rattle.run_laws.proofs.Tests.{Same, slot_holds, is_there}
 use Rattle.prg_values.specs.declared.pieces.Piece.{Piece}
 use Rattle.prg_values.specs.declared.pieces.Piece.TheVariants.{Constant, Does}
@@ -73,9 +73,6 @@ slot_fits slots (Values i) = value_fits slots i
 slot_fits slots _ = Unit {0}
 
 -- ---- one instruction
-
-room : (c : Value) (st : List Value) → length st < 64 → put_on c st ≡ c ∷ st
-room c st lt = ap (λ (b : Bool). if b then c ∷ st else st) (lt-ltb (length st) 64 lt)
 
 -- what a sound step says
 record Sound (code : Code) (s : State) (i : Instr) : Type 0 where

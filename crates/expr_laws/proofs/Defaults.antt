@@ -12,9 +12,10 @@ use Rattle.prg_expr.specs.declared.function.Function.TheVariants as function
 use Rattle.prg_values.specs.declared.calls.Called.{Called}
 use Rattle.prg_values.specs.declared.calls.Called.TheVariants as called
 use Rattle.prg_values.specs.Written.{meaning, defaults, completed, function_kind}
+use Rattle.fit_laws.proofs.Covered.{stacks_same}
+use Rattle.fit_laws.proofs.Loads.{impossible}
 use Rattle.expr_laws.proofs.Machines.{onto}
 use Rattle.expr_laws.proofs.Options.{passed}
-use Rattle.expr_laws.proofs.Stacks.{all_same}
 
 abbrev pub is_function : Called → Bool
 is_function (called.Function g) = true
@@ -22,44 +23,41 @@ is_function (called.Question q) = false
 is_function called.Today = false
 is_function called.Choice = false
 
-not_so : {P : Type 0} → true ≡ false → P
-not_so e = absurd (cc)
-
 pub only_functions_fill : (f : Function) (n : ℕ) → is_function (meaning f) ≡ false → defaults f n ≡ []
 only_functions_fill function.Iif n e = refl
-only_functions_fill function.Len n e = not_so e
-only_functions_fill function.Substr n e = not_so e
-only_functions_fill function.Left n e = not_so e
-only_functions_fill function.Right n e = not_so e
-only_functions_fill function.Trim n e = not_so e
-only_functions_fill function.Ltrim n e = not_so e
-only_functions_fill function.Upper n e = not_so e
-only_functions_fill function.Lower n e = not_so e
-only_functions_fill function.Space n e = not_so e
-only_functions_fill function.Replicate n e = not_so e
-only_functions_fill function.At n e = not_so e
-only_functions_fill function.Stuff n e = not_so e
-only_functions_fill function.Asc n e = not_so e
-only_functions_fill function.Chr n e = not_so e
-only_functions_fill function.Val n e = not_so e
-only_functions_fill function.Str n e = not_so e
-only_functions_fill function.IsAlpha n e = not_so e
-only_functions_fill function.IsUpper n e = not_so e
-only_functions_fill function.IsLower n e = not_so e
-only_functions_fill function.Abs n e = not_so e
-only_functions_fill function.Int n e = not_so e
-only_functions_fill function.Mod n e = not_so e
-only_functions_fill function.Round n e = not_so e
-only_functions_fill function.Max n e = not_so e
-only_functions_fill function.Min n e = not_so e
-only_functions_fill function.Ctod n e = not_so e
-only_functions_fill function.Dtoc n e = not_so e
-only_functions_fill function.Day n e = not_so e
-only_functions_fill function.Month n e = not_so e
-only_functions_fill function.Year n e = not_so e
-only_functions_fill function.Dow n e = not_so e
-only_functions_fill function.Cdow n e = not_so e
-only_functions_fill function.Cmonth n e = not_so e
+only_functions_fill function.Len n e = impossible e
+only_functions_fill function.Substr n e = impossible e
+only_functions_fill function.Left n e = impossible e
+only_functions_fill function.Right n e = impossible e
+only_functions_fill function.Trim n e = impossible e
+only_functions_fill function.Ltrim n e = impossible e
+only_functions_fill function.Upper n e = impossible e
+only_functions_fill function.Lower n e = impossible e
+only_functions_fill function.Space n e = impossible e
+only_functions_fill function.Replicate n e = impossible e
+only_functions_fill function.At n e = impossible e
+only_functions_fill function.Stuff n e = impossible e
+only_functions_fill function.Asc n e = impossible e
+only_functions_fill function.Chr n e = impossible e
+only_functions_fill function.Val n e = impossible e
+only_functions_fill function.Str n e = impossible e
+only_functions_fill function.IsAlpha n e = impossible e
+only_functions_fill function.IsUpper n e = impossible e
+only_functions_fill function.IsLower n e = impossible e
+only_functions_fill function.Abs n e = impossible e
+only_functions_fill function.Int n e = impossible e
+only_functions_fill function.Mod n e = impossible e
+only_functions_fill function.Round n e = impossible e
+only_functions_fill function.Max n e = impossible e
+only_functions_fill function.Min n e = impossible e
+only_functions_fill function.Ctod n e = impossible e
+only_functions_fill function.Dtoc n e = impossible e
+only_functions_fill function.Day n e = impossible e
+only_functions_fill function.Month n e = impossible e
+only_functions_fill function.Year n e = impossible e
+only_functions_fill function.Dow n e = impossible e
+only_functions_fill function.Cdow n e = impossible e
+only_functions_fill function.Cmonth n e = impossible e
 only_functions_fill function.Recno n e = refl
 only_functions_fill function.Reccount n e = refl
 only_functions_fill function.Eof n e = refl
@@ -77,4 +75,4 @@ pub all_kinds : (f : Function) (g : Fun) (ks : List Kind) (vs : List Value) (k :
 all_kinds f g ks vs k same e =
     map-append kind_of vs (defaults f (length vs))
     ∙ ap (λ (n : ℕ). map kind_of vs ++ map kind_of (defaults f n)) (sym (length-map vs kind_of)) ∙ ap (completed f) same
-    ∙ sym (all_same (takes_of g) (completed f ks) (passed (same_kinds (takes_of g) (completed f ks)) (Some (gives_of g)) k e).holds)
+    ∙ sym (stacks_same (takes_of g) (completed f ks) (passed (same_kinds (takes_of g) (completed f ks)) (Some (gives_of g)) k e).holds)

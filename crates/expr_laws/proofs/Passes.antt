@@ -1,8 +1,9 @@
 -- The instructions of expressions pass the tests of a world, the room on its stack aside.
-use Rattle.std.proofs.Common.{◌≡◌, ◌<◌, ◌≤◌, ℕ, zero, suc, ◌+◌, ◌-◌, Bool, true, false, not, ◌||◌, List, [], ◌∷◌, ◌++◌, length, map, reverse, take, drop, Option, Some, refl, sym, ap, ◌∙◌, subst, arith}
+use Rattle.std.proofs.Common.{◌≡◌, ◌<◌, ◌≤◌, ℕ, zero, suc, ◌+◌, ◌-◌, Bool, false, not, ◌||◌, List, [], ◌∷◌, ◌++◌, length, map, reverse, take, drop, Option, Some, refl, sym, ap, ◌∙◌, subst, arith}
 use Rattle.std.specs.Prelude.{slice_get, is_none, nat_lt, nat_le}
 use Rattle.std.proofs.lemmas.Bool.{le-ltb}
 use Rattle.std.proofs.lemmas.List.{length-map, length-drop, length-append, length-reverse}
+use Rattle.std.proofs.lemmas.Option.{slice_get_within}
 use Rattle.xvalue.specs.declared.kind.Kind.{Kind}
 use Rattle.xvalue.specs.declared.kind.Kind.TheVariants as kind
 use Rattle.xvalue.specs.declared.fun.Fun.{Fun}
@@ -26,8 +27,9 @@ use Rattle.run_steps.specs.Effects.{values_after}
 use Rattle.run_steps.specs.Faults.{wrong_kind, closed_area, empty_stack, bad_jump, deep_call, lists_other, bad_filter, IsClear}
 use Rattle.run_laws.proofs.Tests.{mapped_at}
 use Rattle.expr_laws.specs.Seeing.{StaysWithin}
-use Rattle.expr_laws.proofs.Areas.{past, within}
+use Rattle.expr_laws.proofs.Areas.{past}
 use Rattle.expr_laws.proofs.Machines.{Run, onto, through}
+use Rattle.fit_laws.proofs.Covering.{kind_self}
 use Rattle.fit_laws.proofs.Runs.{some_same, none_some}
 use Rattle.expr_laws.proofs.Stacks.{onto_is}
 
@@ -63,16 +65,10 @@ pub record Passes (code : Code) (slots : List (Option Value)) (e : EnvState) (i 
 neither : (x y : Bool) → x ≡ false → y ≡ false → x || y ≡ false
 neither x y e f = ap (λ (b : Bool). b || y) e ∙ f
 
-same_as_itself : (k : Kind) → same_kind k k ≡ true
-same_as_itself kind.Number = refl
-same_as_itself kind.Text = refl
-same_as_itself kind.Date = refl
-same_as_itself kind.Logical = refl
-
 -- kinds don't clash with themselves on top of others
 no_clash : (ks ls : List Kind) → clashes ks (ks ++ ls) ≡ false
 no_clash [] ls = refl
-no_clash (k ∷ ks) ls = neither (not (same_kind k k)) (clashes ks (ks ++ ls)) (ap not (same_as_itself k)) (no_clash ks ls)
+no_clash (k ∷ ks) ls = neither (not (same_kind k k)) (clashes ks (ks ++ ls)) (ap not (kind_self k)) (no_clash ks ls)
 
 map_onto : (vs st : List Value) → map kind_of (onto vs st) ≡ onto (map kind_of vs) (map kind_of st)
 map_onto [] st = refl
@@ -101,7 +97,7 @@ module _ (code : Code) (slots : List (Option Value)) (e : EnvState) where
     set = refl;
     area = refl;
     there = takes_none st;
-    declared = past (length code.declared.constants) n (within code.declared.constants n c at);
+    declared = past (length code.declared.constants) n (slice_get_within code.declared.constants n c at);
     height = one_more st (world_run code slots e (Values (value_instr.Constant n)) st) c put;
     quiet = record { jump = λ w. refl; order = refl; once = refl; deep = λ w. refl; lists = refl; filter = refl };
   }
@@ -138,8 +134,8 @@ module _ (code : Code) (slots : List (Option Value)) (e : EnvState) where
       → world_run code slots e (Values (value_instr.Load k slot)) st ≡ c ∷ st → Passes code slots e (Values (value_instr.Load k slot)) st
   load_passes k slot c st count at same put =
       let seen : slice_get (map kind_held slots) slot ≡ Some (Some (kind_of c)) = mapped_at kind_held slots slot (Some c) at in
-      let few : slot < length slots = within slots slot (Some c) at in record {
-        kind = ap (has_other k) seen ∙ ap (λ (l : Kind). not (same_kind l k)) same ∙ ap not (same_as_itself k);
+      let few : slot < length slots = slice_get_within slots slot (Some c) at in record {
+        kind = ap (has_other k) seen ∙ ap (λ (l : Kind). not (same_kind l k)) same ∙ ap not (kind_self k);
         set = ap is_free seen;
         area = refl;
         there = takes_none st;

@@ -1,15 +1,11 @@
 -- Arguments on a stack are found in their order.
-use Rattle.std.proofs.Common.{◌≡◌, ℕ, true, List, [], ◌∷◌, ◌++◌, length, take, drop, reverse, refl, sym, ap, ◌∙◌}
+use Rattle.std.proofs.Common.{◌≡◌, ℕ, List, [], ◌∷◌, ◌++◌, length, take, drop, reverse, refl, sym, ap, ◌∙◌}
 use Rattle.std.proofs.Math.Seq.{take-append_seam, drop-append_seam}
-use Rattle.std.proofs.lemmas.Bool.{and_parts}
 use Rattle.std.proofs.lemmas.List.{append_assoc, reverse-append, reverse-reverse, length-reverse}
-use Rattle.xvalue.specs.declared.kind.Kind.{Kind}
 use Rattle.xvalue.specs.declared.fun.Fun.{Fun}
 use Rattle.xvalue.specs.declared.value.Value.{Value}
 use Rattle.xvalue.specs.Signature.{takes_of}
-use Rattle.code_items.specs.Kinds.{same_kinds, same_pair}
 use Rattle.run_values.specs.Tagged.{arguments_on}
-use Rattle.fit_laws.proofs.Covered.{kinds_same, joined}
 use Rattle.expr_laws.proofs.Machines.{onto}
 
 pub onto_is : {A : Type 0} (vs st : List A) → onto vs st ≡ reverse vs ++ st
@@ -33,12 +29,3 @@ arguments_back f vs st e = taken_back (length (takes_of f)) vs st e
 
 pub rest_back : (f : Fun) (vs st : List Value) → length (takes_of f) ≡ length vs → drop (length (takes_of f)) (onto vs st) ≡ st
 rest_back f vs st e = dropped_back (length (takes_of f)) vs st e
-
--- kinds one by one the same
-pub all_same : (ks ls : List Kind) → same_kinds ks ls ≡ true → ks ≡ ls
-all_same [] [] e = refl
-all_same [] (l ∷ ls) e = absurd (cc)
-all_same (k ∷ ks) [] e = absurd (cc)
-all_same (k ∷ ks) (l ∷ ls) e =
-    let p = and_parts (same_pair (k, l)) (same_kinds ks ls) e in
-    joined k l ks ls (kinds_same k l p.0) (all_same ks ls p.1)
