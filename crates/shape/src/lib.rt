@@ -17,7 +17,7 @@ mod whole;
 pub use indexes::IndexShape;
 pub use items::Items;
 pub use lists::{IndexList, is_among};
-pub use names::{Name, copy_of_name};
+pub use names::{Name, copy_of_name, is_file_name};
 pub use parts::{KeyPart, KeyParts, put_text};
 pub use tables::TableShape;
 pub use whole::Shape;

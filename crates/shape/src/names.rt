@@ -45,7 +45,7 @@ fn is_area_letter(name: &[u8]) -> bool
 /// Whether a table or an index can have this name: at most eight capitals, digits and underscores, a letter first, and
 /// not the letter of a work area or of variables alone.
 #[tactic(auto, unfolding(crate::specs::Names::is_file_name))]
-pub(crate) fn is_file_name(name: &[u8]) -> bool
+pub fn is_file_name(name: &[u8]) -> bool
     ensures { result ≡ is_file_name_of name.now }
 {
     name.len() <= 8 && is_capital_name(name) && !is_area_letter(name)
