@@ -312,7 +312,7 @@ fn year_spelled(digits: &[u8]) -> Option<u16>
 }
 
 /// The number of at most four digits.
-fn with_digits(digits: &[u8]) -> u16
+pub fn with_digits(digits: &[u8]) -> u16
     requires digits { are_digits digits.now ≡ true }
     requires few { length digits.now ≤ 4 }
     ensures value { result ≡ with_digits 0 digits.now }

@@ -6,4 +6,5 @@ mod calendar;
 mod day;
 pub mod laws;
 
+pub use calendar::with_digits;
 pub use day::{Day, DayParts};

@@ -10,7 +10,7 @@ ghost use Rattle.dbf_file.specs.Values.{kind_for, is_all_blanks, number_in, day_
 ghost use Rattle.dbf_file.specs.Values.{stored_day as day_text_of, logical_text as logical_text_of, text_for};
 
 use crate::field::{Field, Letter, MAX_DECIMALS};
-use calendar::{Day, DayParts};
+use calendar::{Day, DayParts, with_digits};
 use fixed_num::{Num, Parts, are_digits, without_blanks};
 use xvalue::{Kind, Text, Value, text_from};
 
@@ -91,20 +91,6 @@ pub(crate) fn number_in(decimals: u8, text: &[u8]) -> Num
     } else {
         Num::parse(text)
     }
-}
-
-/// The number of at most four digits.
-fn with_digits(digits: &[u8]) -> u16
-    requires digits { are_digits digits.now ≡ true }
-    requires few { length digits.now ≤ 4 }
-    ensures value { result ≡ with_digits 0 digits.now }
-    ensures short { length digits.now ≤ 2 → result < 100 }
-{
-    let mut number = 0;
-    for digit in digits {
-        number = number * 10 + u16::from(*digit - b'0');
-    }
-    number
 }
 
 /// The day of these parts, or the blank date where the calendar has none such.
