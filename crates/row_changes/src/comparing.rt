@@ -45,47 +45,36 @@ fn without_least(rest: Rest<'_>) -> Option<Rest<'_>>
     ensures shorter { IfSome result (λ next. length next.before.now + length next.after.now
         < length rest.entry.before.now + length rest.entry.after.now) }
 {
-    let Rest {
-        before,
-        after,
-        goes,
-        comes,
-    } = rest;
-    let Some((first, later)) = before.split_first() else {
-        let (_, others) = after.split_first()?;
+    let Some((first, later)) = rest.before.split_first() else {
+        let (_, others) = rest.after.split_first()?;
         return Some(Rest {
-            before,
             after: others,
-            goes,
-            comes: comes + 1,
+            comes: rest.comes + 1,
+            ..rest
         });
     };
-    let Some((other, others)) = after.split_first() else {
+    let Some((other, others)) = rest.after.split_first() else {
         return Some(Rest {
             before: later,
-            after,
-            goes: goes + 1,
-            comes,
+            goes: rest.goes + 1,
+            ..rest
         });
     };
     match first.cmp(other) {
         Ordering::Less => Some(Rest {
             before: later,
-            after,
-            goes: goes + 1,
-            comes,
+            goes: rest.goes + 1,
+            ..rest
         }),
         Ordering::Equal => Some(Rest {
             before: later,
             after: others,
-            goes,
-            comes,
+            ..rest
         }),
         Ordering::Greater => Some(Rest {
-            before,
             after: others,
-            goes,
-            comes: comes + 1,
+            comes: rest.comes + 1,
+            ..rest
         }),
     }
 }

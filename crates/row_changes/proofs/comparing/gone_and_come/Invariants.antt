@@ -4,7 +4,8 @@ use Rattle.row_changes.proofs.comparing.gone_and_come.Given as goal
 
 abbrev pub invariant-loop-next : goal.invariant-loop-next
 invariant-loop-next l =
-    LeadsOn (texts l.before) (texts l.after) 0 0 (texts l.rest.before.now) (texts l.rest.after.now) l.rest.goes l.rest.comes
+    LeadsOn (texts l.before) (texts l.after) 0 0 (texts l.rest.before.now) (texts l.rest.after.now) l.rest.goes
+    l.rest.comes
     × (l.rest.goes + length l.rest.before.now ≤ length l.before)
     × (l.rest.comes + length l.rest.after.now ≤ length l.after)
 
