@@ -9,4 +9,6 @@ returns c =
     let left = ap₂ (λ v w. v * w) c.from.ensures (c.from-2.ensures ∙ c.power_of_ten.ensures.value) in
     let right = ap₂ (λ v w. v * w) c.from-3.ensures (c.from-4.ensures ∙ c.power_of_ten-2.ensures.value) in
     c.from_magnitude.ensures
-    ∙ modulus_from a.negative b.negative a.magnitude b.magnitude a.decimals b.decimals c.max-decimals.result (c.from.result * c.from-2.result) (c.from-3.result * c.from-4.result) c.floored_rest-rest.result c.requires.divisor c.max-decimals.ensures left right c.floored_rest-rest.ensures
+    ∙ modulus_from a.negative b.negative a.magnitude b.magnitude a.decimals b.decimals c.max-decimals.result
+    (c.from.result * c.from-2.result) (c.from-3.result * c.from-4.result) c.floored_rest-rest.result
+    c.requires.divisor c.max-decimals.ensures left right c.floored_rest-rest.ensures

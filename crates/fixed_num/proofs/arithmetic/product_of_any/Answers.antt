@@ -11,5 +11,7 @@ returns c =
     let b = c.in-Some-Some.b in
     let e = product_signed a.negative b.negative a.magnitude b.magnitude in
     let magnitudes = rw (c.from.ensures, c.from-2.ensures) at c.nearest-kept.ensures in
-    let f = fitted_many (not (beq a.negative b.negative)) _ (a.decimals + b.decimals) _ _ c.if-decimals-le-MOST_DECIMALS.false (c.from-unit.ensures ∙ c.power_of_ten.ensures.value) magnitudes in
-    rw (← c.in-Some-Some.ensures.same, ← c.in-Some-Some.ensures'.same) (c.from_magnitude-2.ensures ∙ f ∙ ap (λ m. fitted m (a.decimals + b.decimals)) (sym e))
+    let f = fitted_many (not (beq a.negative b.negative)) _ (a.decimals + b.decimals) _ _
+    c.if-decimals-le-MOST_DECIMALS.false (c.from-unit.ensures ∙ c.power_of_ten.ensures.value) magnitudes in
+    rw (← c.in-Some-Some.ensures.same, ← c.in-Some-Some.ensures'.same)
+    (c.from_magnitude-2.ensures ∙ f ∙ ap (λ m. fitted m (a.decimals + b.decimals)) (sym e))

@@ -7,7 +7,8 @@ returns-in-Some c =
     let a = c.in-Some-Some.a in
     let b = c.in-Some-Some.b in
     let decimals = c.max-decimals.ensures ∙ ap (λ x. max x 2) c.max.ensures in
-    let q = quotient_from a.negative b.negative a.magnitude b.magnitude a.decimals b.decimals c.max-decimals.result c.in-Some.magnitude (omega arith) decimals c.in-Some.ensures in
+    let q = quotient_from a.negative b.negative a.magnitude b.magnitude a.decimals b.decimals c.max-decimals.result
+    c.in-Some.magnitude (omega arith) decimals c.in-Some.ensures in
     rw (← c.in-Some-Some.ensures.same, ← c.in-Some-Some.ensures'.same) (c.from_magnitude.ensures ∙ q)
 
 pub returns-in-None : goal.returns-in-None
@@ -15,5 +16,6 @@ returns-in-None c =
     let a = c.in-Some-Some.a in
     let b = c.in-Some-Some.b in
     let decimals = c.max-decimals.ensures ∙ ap (λ x. max x 2) c.max.ensures in
-    let q = quotient_above a.negative b.negative a.magnitude b.magnitude a.decimals b.decimals c.max-decimals.result (omega arith) decimals c.in-None.ensures in
+    let q = quotient_above a.negative b.negative a.magnitude b.magnitude a.decimals b.decimals c.max-decimals.result
+    (omega arith) decimals c.in-None.ensures in
     rw (← c.in-Some-Some.ensures.same, ← c.in-Some-Some.ensures'.same) (c.asterisk-in-None.ensures ∙ q)
