@@ -141,7 +141,7 @@ pub fn hide(work: &mut Work, names: &[Name])
 
 /// The slot of an argument that is handed over by reference: a name alone that is no field, or one behind `M->`. None
 /// of any other expression, which is handed over by value.
-#[tactic(auto, using(prg_values::proofs::Equations::tree_equations))]
+#[tactic(auto, using(prg_expr::proofs::Equations::tree_equations))]
 pub fn argument_slot(shape: &Shape, work: &Work, e: &Expr) -> Result<Option<u8>, CompileFaultKind>
     ensures { FindsReading result (by_reference (scope_at shape.now work.now false) (tree_of e.now)) }
 {

@@ -209,7 +209,7 @@ fn emit_prefixed(
 }
 
 #[cycle(emit)]
-#[tactic(auto, using(crate::proofs::Equations::tree_equations, crate::proofs::Equations::count_trees))]
+#[tactic(auto, using(prg_expr::proofs::Equations::tree_equations, prg_expr::proofs::Equations::count_trees))]
 fn emit(code: &mut Vec<Piece>, scope: &Scope, e: &Expr) -> Result<(), CompileError>
     ensures { OnOk result (code.new.items ≡ code.old.items ++ spec.pieces_in (scoped scope.now) (tree_of e.now)) }
 {
