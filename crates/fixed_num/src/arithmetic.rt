@@ -29,8 +29,8 @@ fn sum_alike(a: Parts, b: Parts) -> Num
     }
 }
 
-/// The sum of any two numbers, with the greater number of decimals. (Apart, so that a sum of alike numbers is worked
-/// out where it is asked for. Numbers are handed over in registers, and their parts would not be.)
+/// The sum of any two numbers, with the greater number of decimals. It stands apart, so that a caller can work out a
+/// sum of alike numbers without a call. It takes numbers, since registers hand them over, and not their parts.
 #[inline(never)]
 fn sum_of_any(first: Num, second: Num) -> Num
     ensures { result ≡ sum_of first second }
@@ -174,7 +174,7 @@ fn compared_alike(a: Parts, b: Parts) -> Ordering
     }
 }
 
-/// How any two numbers compare. (Apart, as the sum of any two is.)
+/// How any two numbers compare. It stands apart for the same reason as the sum of any two numbers.
 #[inline(never)]
 fn compared_any(first: Num, second: Num) -> Ordering
     ensures { result ≡ compared first second }
@@ -204,8 +204,8 @@ fn compared_in_two_words(first: Num, second: Num) -> Ordering
 }
 
 impl Num {
-    /// The sum of this number and another of the same sign and as many decimals, if it has at most 19 digits; `None` of
-    /// all others. Most sums are such, and a caller that keeps the two cases apart has them worked out without a call.
+    /// The sum of this number and another of the same sign and as many decimals, if it has at most 19 digits, else
+    /// `None`. Most sums are of this kind, and a caller that asks for them first works them out without a call.
     #[inline(always)]
     pub fn alike_sum(&self, other: &Num) -> Option<Num>
         ensures { SomeIff result (AreAlike self.now other.now) (sum_of self.now other.now) }
