@@ -1,5 +1,6 @@
 -- What an operator's line leaves of old values.
-use Rattle.std.proofs.Common.{◌≡◌, ℕ, ◌-◌, ◌≤◌, List, [], ◌∷◌, ◌++◌, length, take, replicate, refl, ap, ◌∙◌, arith, length-append, length-take}
+use Rattle.std.proofs.Common.{◌≡◌, ℕ, ◌-◌, ◌≤◌, List, [], ◌∷◌, ◌++◌, length, take, replicate, refl, ap, ◌∙◌, arith}
+use Rattle.std.proofs.Common.{length-append, length-take}
 use Rattle.std.proofs.lemmas.List.{take_all, length-replicate}
 use Rattle.xvalue.specs.Texts.{fitting}
 use Rattle.xvalue.specs.declared.value.Value.{Value}
@@ -8,11 +9,20 @@ use Rattle.xvalue.specs.Kinds.{kind_of}
 use Rattle.xvalue.specs.Answers.{at_length, text_answered, answered}
 
 -- a short text with its padding isn't cut
-pub at_length-fits : (size missing : ℕ) (cs padding : List ℕ) → size ≤ 254 → missing ≡ size - length cs → padding ≡ fitting (replicate missing 32) → fitting (take size cs ++ padding) ≡ at_length size cs
+pub at_length-fits : (size missing : ℕ) (cs padding : List ℕ) → size ≤ 254 → missing ≡ size - length cs
+    → padding ≡ fitting (replicate missing 32) → fitting (take size cs ++ padding) ≡ at_length size cs
 at_length-fits size missing cs padding short rest e =
-    let whole : padding ≡ replicate missing 32 = e ∙ take_all 254 (replicate missing 32) (omega (arith, length-replicate {A = ℕ} missing 32)) in
+    let whole : padding ≡ replicate missing 32 =
+    e ∙ take_all 254 (replicate missing 32) (omega (arith, length-replicate {A = ℕ} missing 32)) in
     ap (λ p. fitting (take size cs ++ p)) whole
-    ∙ take_all 254 (take size cs ++ replicate missing 32) (omega (arith, length-append (take size cs) (replicate missing 32), length-take size cs, length-replicate {A = ℕ} missing 32))
+    ∙ take_all 254 (take size cs ++ replicate missing 32)
+    (omega (
+      arith,
+      length-append (take size cs) (replicate missing 32),
+      length-take size cs,
+      length-replicate
+          {A = ℕ} missing 32,
+    ))
     ∙ ap (λ n. take size cs ++ replicate n 32) rest
 
 pub same_kind_answered : (old : Value) (line : List ℕ) → kind_of (answered old line) ≡ kind_of old
@@ -29,7 +39,13 @@ empty_answered (Logical old) = refl
 
 pub length-at_length : (size : ℕ) (cs : List ℕ) → length (at_length size cs) ≡ size
 length-at_length size cs =
-    omega (arith, length-append (take size cs) (replicate (size - length cs) 32), length-take size cs, length-replicate {A = ℕ} (size - length cs) 32)
+    omega (
+      arith,
+      length-append (take size cs) (replicate (size - length cs) 32),
+      length-take size cs,
+      length-replicate
+          {A = ℕ} (size - length cs) 32,
+    )
 
 pub length-answered : (old line : List ℕ) → length (text_answered old line) ≡ length old
 length-answered old [] = refl

@@ -2,7 +2,13 @@
 use Rattle.std.specs.Prelude.{◌≡◌, ℕ, zero, suc, ◌+◌, List, [], ◌∷◌, Some, IfSome, slice_get, refl}
 use Rattle.std.proofs.Common.{Option, Some, None, arith, ◌∙◌, subst}
 use Rattle.xvalue.specs.declared.fun.Fun.{Fun}
-use Rattle.xvalue.specs.declared.fun.Fun.TheVariants.{Add, Sub, Mul, Div, Neg, NumberEq, NumberLess, NumberGreater, TextEq, TextLess, TextGreater, DateEq, DateLess, DateGreater, Not, And, Or, Join, JoinMoved, In, DateAdd, DateSub, DateDiff, IifNumber, IifText, IifDate, IifLogical, Len, Substr, Left, Right, Trim, Ltrim, Upper, Lower, Space, Replicate, At, Stuff, Asc, Chr, Val, Str, IsAlpha, IsUpper, IsLower, Abs, Int, Mod, Round, Max, Min, Ctod, Dtoc, Day, Month, Year, Dow, Cdow, Cmonth}
+use Rattle.xvalue.specs.declared.fun.Fun.TheVariants.{Add, Sub, Mul, Div, Neg, NumberEq, NumberLess, NumberGreater}
+use Rattle.xvalue.specs.declared.fun.Fun.TheVariants.{TextEq, TextLess, TextGreater, DateEq, DateLess, DateGreater, Not}
+use Rattle.xvalue.specs.declared.fun.Fun.TheVariants.{And, Or, Join, JoinMoved, In, DateAdd, DateSub, DateDiff}
+use Rattle.xvalue.specs.declared.fun.Fun.TheVariants.{IifNumber, IifText, IifDate, IifLogical, Len, Substr, Left, Right}
+use Rattle.xvalue.specs.declared.fun.Fun.TheVariants.{Trim, Ltrim, Upper, Lower, Space, Replicate, At, Stuff, Asc, Chr}
+use Rattle.xvalue.specs.declared.fun.Fun.TheVariants.{Val, Str, IsAlpha, IsUpper, IsLower, Abs, Int, Mod, Round, Max}
+use Rattle.xvalue.specs.declared.fun.Fun.TheVariants.{Min, Ctod, Dtoc, Day, Month, Year, Dow, Cdow, Cmonth}
 use Rattle.xvalue.specs.Signature.{function_number, all_functions, numbered, NumbersAgree}
 
 -- numbers that rise by one from a first one
@@ -10,7 +16,8 @@ abbrev pub Rise : ℕ → List Fun → Type 0
 Rise n [] = Unit {0}
 Rise n (fun ∷ funs) = (function_number fun ≡ n) × Rise (suc n) funs
 
-pub rising : (n : ℕ) (funs : List Fun) → Rise n funs → (k : ℕ) → IfSome (slice_get funs k) (λ f. function_number f ≡ n + k)
+pub rising : (n : ℕ) (funs : List Fun) → Rise n funs → (k : ℕ) → IfSome (slice_get funs k)
+    (λ f. function_number f ≡ n + k)
 rising n [] r k = tt
 rising n (fun ∷ funs) r zero = r.0 ∙ omega arith
 rising n (fun ∷ funs) r (suc k) =
@@ -80,7 +87,166 @@ each Cdow = refl
 each Cmonth = refl
 
 rises : Rise 1 all_functions
-rises = (refl, (refl, (refl, (refl, (refl, (refl, (refl, (refl, (refl, (refl, (refl, (refl, (refl, (refl, (refl, (refl, (refl, (refl, (refl, (refl, (refl, (refl, (refl, (refl, (refl, (refl, (refl, (refl, (refl, (refl, (refl, (refl, (refl, (refl, (refl, (refl, (refl, (refl, (refl, (refl, (refl, (refl, (refl, (refl, (refl, (refl, (refl, (refl, (refl, (refl, (refl, (refl, (refl, (refl, (refl, (refl, (refl, (refl, (refl, (refl, tt))))))))))))))))))))))))))))))))))))))))))))))))))))))))))))
+rises = (
+  refl,
+  (
+    refl,
+    (
+      refl,
+      (
+        refl,
+        (
+          refl,
+          (
+            refl,
+            (
+              refl,
+              (
+                refl,
+                (
+                  refl,
+                  (
+                    refl,
+                    (
+                      refl,
+                      (
+                        refl,
+                        (
+                          refl,
+                          (
+                            refl,
+                            (
+                              refl,
+                              (
+                                refl,
+                                (
+                                  refl,
+                                  (
+                                    refl,
+                                    (
+                                      refl,
+                                      (
+                                        refl,
+                                        (
+                                          refl,
+                                          (
+                                            refl,
+                                            (
+                                              refl,
+                                              (
+                                                refl,
+                                                (
+                                                  refl,
+                                                  (
+                                                    refl,
+                                                    (
+                                                      refl,
+                                                      (
+                                                        refl,
+                                                        (
+                                                          refl,
+                                                          (
+                                                            refl,
+                                                            (
+                                                              refl,
+                                                              (
+                                                                refl,
+                                                                (
+                                                                  refl,
+                                                                  (
+                                                                    refl,
+                                                                    (
+                                                                      refl,
+                                                                      (
+                                                                        refl,
+                                                                        (
+                                                                          refl,
+                                                                          (
+                                                                            refl,
+                                                                            (
+                                                                              refl,
+                                                                              (
+                                                                                refl,
+                                                                                (
+                                                                                  refl,
+                                                                                  (
+                                                                                    refl,
+                                                                                    (
+                                                                                      refl,
+                                                                                      (
+                                                                                        refl,
+                                                                                        (
+                                                                                          refl,
+                                                                                          (
+                                                                                            refl,
+                                                                                            (
+                                                                                              refl,
+                                                                                              (
+                                                                                                refl,
+                                                                                                (
+                                                                                                  refl,
+                                                                                                  (
+                                                                                                    refl,
+                                                                                                    (
+                                                                                                      refl,
+                                                                                                      (
+                                                                                                        refl,
+                                                                                                        (
+                                                                                                          refl,
+                                                                                                          (refl, (refl, (refl, (refl, (refl, (refl, (refl, tt))))))),
+                                                                                                        ),
+                                                                                                      ),
+                                                                                                    ),
+                                                                                                  ),
+                                                                                                ),
+                                                                                              ),
+                                                                                            ),
+                                                                                          ),
+                                                                                        ),
+                                                                                      ),
+                                                                                    ),
+                                                                                  ),
+                                                                                ),
+                                                                              ),
+                                                                            ),
+                                                                          ),
+                                                                        ),
+                                                                      ),
+                                                                    ),
+                                                                  ),
+                                                                ),
+                                                              ),
+                                                            ),
+                                                          ),
+                                                        ),
+                                                      ),
+                                                    ),
+                                                  ),
+                                                ),
+                                              ),
+                                            ),
+                                          ),
+                                        ),
+                                      ),
+                                    ),
+                                  ),
+                                ),
+                              ),
+                            ),
+                          ),
+                        ),
+                      ),
+                    ),
+                  ),
+                ),
+              ),
+            ),
+          ),
+        ),
+      ),
+    ),
+  ),
+)
 
 some_same : {A : Type 0} (x y : A) → ◌≡◌ {A = Option A} (Some x) (Some y) → x ≡ y
 some_same x y e = cc
@@ -92,7 +258,8 @@ if_some P (Some y) x h e = subst P (some_same y x e) h
 same : (number : ℕ) (fun : Fun) → numbered number ≡ Some fun → number ≡ function_number fun
 same zero fun e = absurd cc
 same (suc index) fun e =
-    let is : function_number fun ≡ 1 + index = if_some (λ f. function_number f ≡ 1 + index) (slice_get all_functions index) fun (rising 1 all_functions rises index) e in
+    let is : function_number fun ≡ 1 + index = if_some (λ f. function_number f ≡ 1 + index)
+    (slice_get all_functions index) fun (rising 1 all_functions rises index) e in
     omega (arith, is)
 
 pub agree : NumbersAgree

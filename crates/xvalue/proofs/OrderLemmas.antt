@@ -1,11 +1,14 @@
 -- The order of texts, and where a text first stands in another.
-use Rattle.std.proofs.Common.{◌≡◌, ℕ, zero, suc, ◌+◌, ◌<◌, ◌≤◌, ◌↔◌, true, false, List, [], ◌∷◌, ◌++◌, length, length-drop, drop, reverse, replicate, append-nil, append_assoc, ◌==◌, refl, sym, ap, ◌∙◌, subst, arith, inl, inr}
+use Rattle.std.proofs.Common.{◌≡◌, ℕ, zero, suc, ◌+◌, ◌<◌, ◌≤◌, ◌↔◌, true, false, List, [], ◌∷◌, ◌++◌, length}
+use Rattle.std.proofs.Common.{length-drop, drop, reverse, replicate, append-nil, append_assoc, ◌==◌, refl, sym, ap, ◌∙◌}
+use Rattle.std.proofs.Common.{subst, arith, inl, inr}
 use Rattle.std.specs.Prelude.{Bool, nat_lt, if◌then◌else◌, ◌⊎◌, Option, Some, None, unwrap_or, is_some}
 use Rattle.std.proofs.lemmas.Bool.{cases_order, false≢true, eq-eqb, ne_eqb, lt-ltb, le-ltb}
 use Rattle.std.proofs.Math.Seq.{drop-nil}
 use Rattle.std.proofs.lemmas.List.{reverse-append, reverse-reverse}
 use Rattle.fixed_num.specs.Reading.{without_blanks}
-use Rattle.xvalue.specs.Texts.{first_or_blank, is_text_before, without_last_blanks, text_begins_with, first_place, place_number, further}
+use Rattle.xvalue.specs.Texts.{first_or_blank, is_text_before, without_last_blanks, text_begins_with, first_place}
+use Rattle.xvalue.specs.Texts.{place_number, further}
 
 pub is_before-self : (cs : List ℕ) → is_text_before cs cs ≡ false
 is_before-self [] = refl
@@ -41,16 +44,19 @@ decided x y behind e =
     ]
 
 decide : (x y : ℕ) (behind : Bool) → Decided x y behind → (if x == y then behind else nat_lt x y) ≡ true
-decide x y behind (inl less) = ap (λ b. if b then behind else nat_lt x y) (ne_eqb x y (λ same. omega (arith, same, less))) ∙ lt-ltb x y less
+decide x y behind (inl less) =
+    ap (λ b. if b then behind else nat_lt x y) (ne_eqb x y (λ same. omega (arith, same, less))) ∙ lt-ltb x y less
 decide x y behind (inr (same, e)) = ap (λ b. if b then behind else nat_lt x y) (eq-eqb x y same) ∙ e
 
-before_is : (cs ds : List ℕ) → is_text_before cs ds ≡ true → (0 < length cs + length ds) × Decided (first_or_blank cs) (first_or_blank ds) (is_text_before (drop 1 cs) (drop 1 ds))
+before_is : (cs ds : List ℕ) → is_text_before cs ds ≡ true → (0 < length cs + length ds)
+    × Decided (first_or_blank cs) (first_or_blank ds) (is_text_before (drop 1 cs) (drop 1 ds))
 before_is [] [] e = absurd (false≢true e)
 before_is [] (d ∷ ds) e = (omega arith, decided 32 d (is_text_before [] ds) e)
 before_is (c ∷ cs) [] e = (omega arith, decided c 32 (is_text_before cs []) e)
 before_is (c ∷ cs) (d ∷ ds) e = (omega arith, decided c d (is_text_before cs ds) e)
 
-is_before-decide : (cs ds : List ℕ) → Decided (first_or_blank cs) (first_or_blank ds) (is_text_before (drop 1 cs) (drop 1 ds)) → is_text_before cs ds ≡ true
+is_before-decide : (cs ds : List ℕ) → Decided (first_or_blank cs) (first_or_blank ds)
+    (is_text_before (drop 1 cs) (drop 1 ds)) → is_text_before cs ds ≡ true
 is_before-decide [] [] (inl less) = absurd (omega (arith, less))
 is_before-decide [] [] (inr (same, e)) = e
 is_before-decide [] (d ∷ ds) h = decide 32 d (is_text_before [] ds) h
@@ -58,13 +64,16 @@ is_before-decide (c ∷ cs) [] h = decide c 32 (is_text_before cs []) h
 is_before-decide (c ∷ cs) (d ∷ ds) h = decide c d (is_text_before cs ds) h
 
 -- by the number of bytes that are left
-goes_on : (n : ℕ) (cs ds es : List ℕ) → length cs + length ds + length es ≤ n → is_text_before cs ds ≡ true → is_text_before ds es ≡ true → is_text_before cs es ≡ true
+goes_on : (n : ℕ) (cs ds es : List ℕ) → length cs + length ds + length es ≤ n → is_text_before cs ds ≡ true
+    → is_text_before ds es ≡ true → is_text_before cs es ≡ true
 goes_on zero cs ds es few e f = absurd (omega (arith, few, (before_is cs ds e).0))
 goes_on (suc n) cs ds es few e f =
     let a = before_is cs ds e in
     let b = before_is ds es f in
-    let fewer : length (drop 1 cs) + length (drop 1 ds) + length (drop 1 es) ≤ n = omega (arith, few, a.0, length-drop 1 cs, length-drop 1 ds, length-drop 1 es) in
-    let go : (g : is_text_before (drop 1 cs) (drop 1 ds) ≡ true) (h : is_text_before (drop 1 ds) (drop 1 es) ≡ true) → is_text_before (drop 1 cs) (drop 1 es) ≡ true = goes_on n (drop 1 cs) (drop 1 ds) (drop 1 es) fewer in
+    let fewer : length (drop 1 cs) + length (drop 1 ds) + length (drop 1 es) ≤ n =
+    omega (arith, few, a.0, length-drop 1 cs, length-drop 1 ds, length-drop 1 es) in
+    let go : (g : is_text_before (drop 1 cs) (drop 1 ds) ≡ true) (h : is_text_before (drop 1 ds) (drop 1 es) ≡ true)
+    → is_text_before (drop 1 cs) (drop 1 es) ≡ true = goes_on n (drop 1 cs) (drop 1 ds) (drop 1 es) fewer in
     is_before-decide cs es (both (first_or_blank cs) (first_or_blank ds) (first_or_blank es) _ _ _ go a.1 b.1)
   where
     both : (x y z : ℕ) (p q r : Bool) → (p ≡ true → q ≡ true → r ≡ true) → Decided x y p → Decided y z q → Decided x z r
@@ -73,7 +82,8 @@ goes_on (suc n) cs ds es few e f =
     both x y z p q r go (inr g) (inl h) = inl (omega (arith, g.0, h))
     both x y z p q r go (inr g) (inr h) = inr (g.0 ∙ h.0, go g.1 h.1)
 
-pub is_before-goes_on : (cs ds es : List ℕ) → is_text_before cs ds ≡ true → is_text_before ds es ≡ true → is_text_before cs es ≡ true
+pub is_before-goes_on : (cs ds es : List ℕ) → is_text_before cs ds ≡ true → is_text_before ds es ≡ true
+    → is_text_before cs es ≡ true
 is_before-goes_on cs ds es e f = goes_on (length cs + length ds + length es) cs ds es (omega arith) e f
 
 -- places
@@ -88,11 +98,13 @@ further_is : (o : Option ℕ) (n : ℕ) → further 1 o ≡ Some n → (m : ℕ)
 further_is None n e = absurd (none_is n e)
 further_is (Some m) n e = (m, refl, sym (some_is (1 + m) n e) ∙ (let h : 1 + m ≡ suc m = omega arith in h))
 
-either_place : (b : Bool) (o : Option ℕ) (n : ℕ) → (if b then Some 0 else o) ≡ Some n → ((b ≡ true) × (n ≡ 0)) ⊎ ((b ≡ false) × (o ≡ Some n))
+either_place : (b : Bool) (o : Option ℕ) (n : ℕ) → (if b then Some 0 else o) ≡ Some n
+    → ((b ≡ true) × (n ≡ 0)) ⊎ ((b ≡ false) × (o ≡ Some n))
 either_place true o n e = inl (refl, sym (some_is 0 n e))
 either_place false o n e = inr (refl, e)
 
-pub first_place-there : (part cs : List ℕ) (n : ℕ) → first_place part cs ≡ Some n → text_begins_with (drop n cs) part ≡ true
+pub first_place-there : (part cs : List ℕ) (n : ℕ) → first_place part cs ≡ Some n
+    → text_begins_with (drop n cs) part ≡ true
 first_place-there part [] n e =
     elim (either_place (text_begins_with [] part) None n e) [
       | inl w ↦ subst (λ k. text_begins_with (drop k []) part ≡ true) (sym w.1) w.0
@@ -106,15 +118,25 @@ first_place-there part (c ∷ cs) n e =
           subst (λ k. text_begins_with (drop k (c ∷ cs)) part ≡ true) (sym f.2) (first_place-there part cs f.0 f.1)
     ]
 
-pub first_place-least : (part cs : List ℕ) (n k : ℕ) → first_place part cs ≡ Some n → k < n → text_begins_with (drop k cs) part ≡ false
+pub first_place-least : (part cs : List ℕ) (n k : ℕ) → first_place part cs ≡ Some n → k < n
+    → text_begins_with (drop k cs) part ≡ false
 first_place-least part [] n k e less =
-    elim (either_place (text_begins_with [] part) None n e) [ inl w ↦ absurd (omega (arith, less, w.1)) | inr w ↦ absurd (none_is n w.1) ]
+    elim (either_place (text_begins_with [] part) None n e) [
+      | inl w ↦ absurd (omega (arith, less, w.1))
+      | inr w ↦ absurd
+          (none_is n w.1)
+    ]
 first_place-least part (c ∷ cs) n zero e less =
-    elim (either_place (text_begins_with (c ∷ cs) part) (further 1 (first_place part cs)) n e) [ inl w ↦ absurd (omega (arith, less, w.1)) | inr w ↦ w.0 ]
+    elim (either_place (text_begins_with (c ∷ cs) part) (further 1 (first_place part cs)) n e) [
+      | inl w ↦ absurd
+          (omega (arith, less, w.1))
+      | inr w ↦ w.0
+    ]
 first_place-least part (c ∷ cs) n (suc k) e less =
     elim (either_place (text_begins_with (c ∷ cs) part) (further 1 (first_place part cs)) n e) [
       | inl w ↦ absurd (omega (arith, less, w.1))
-      | inr w ↦ let f = further_is (first_place part cs) n w.1 in first_place-least part cs f.0 k f.1 (omega (arith, less, f.2))
+      | inr w ↦ let f = further_is (first_place part cs) n w.1 in first_place-least part cs f.0 k f.1
+          (omega (arith, less, f.2))
     ]
 
 -- nowhere
@@ -131,13 +153,17 @@ nowhere : (part cs : List ℕ) → first_place part cs ≡ None → (k : ℕ) �
 nowhere part [] e k = ap (λ ds. text_begins_with ds part) (drop-nil k) ∙ (none_of (text_begins_with [] part) None e).0
 nowhere part (c ∷ cs) e zero = (none_of (text_begins_with (c ∷ cs) part) (further 1 (first_place part cs)) e).0
 nowhere part (c ∷ cs) e (suc k) =
-    nowhere part cs (further_none (first_place part cs) (none_of (text_begins_with (c ∷ cs) part) (further 1 (first_place part cs)) e).1) k
+    nowhere part cs
+    (further_none (first_place part cs)
+    (none_of (text_begins_with (c ∷ cs) part) (further 1 (first_place part cs)) e).1) k
 
-none_found : (part cs : List ℕ) → ((k : ℕ) → text_begins_with (drop k cs) part ≡ false) → (o : Option ℕ) → first_place part cs ≡ o → o ≡ None
+none_found : (part cs : List ℕ) → ((k : ℕ) → text_begins_with (drop k cs) part ≡ false) → (o : Option ℕ)
+    → first_place part cs ≡ o → o ≡ None
 none_found part cs h None e = refl
 none_found part cs h (Some n) e = absurd (false≢true (sym (h n) ∙ first_place-there part cs n e))
 
-pub nowhere-none : (part cs : List ℕ) → (first_place part cs ≡ None) ↔ ((k : ℕ) → text_begins_with (drop k cs) part ≡ false)
+pub nowhere-none : (part cs : List ℕ) → (first_place part cs ≡ None) ↔
+    ((k : ℕ) → text_begins_with (drop k cs) part ≡ false)
 nowhere-none part cs = (nowhere part cs, λ h. none_found part cs h (first_place part cs) refl)
 
 pub zero-none : (o : Option ℕ) → (place_number o ≡ 0) ↔ (o ≡ None)
@@ -150,10 +176,18 @@ false-none (Some m) = (λ e. absurd (false≢true (sym e)), λ e. absurd (none_i
 
 -- texts neither of which is before the other
 
-undecided : (x y : ℕ) (p q : Bool) → (if x == y then p else nat_lt x y) ≡ false → (if y == x then q else nat_lt y x) ≡ false → (x ≡ y) × ((p ≡ false) × (q ≡ false))
+undecided : (x y : ℕ) (p q : Bool) → (if x == y then p else nat_lt x y) ≡ false
+    → (if y == x then q else nat_lt y x) ≡ false → (x ≡ y) × ((p ≡ false) × (q ≡ false))
 undecided x y p q e f =
     elim (cases_order x y) [
-      | inl same ↦ (same, (sym (ap (λ b. if b then p else nat_lt x y) (eq-eqb x y same)) ∙ e, sym (ap (λ b. if b then q else nat_lt y x) (eq-eqb y x (sym same))) ∙ f))
+      | inl same ↦ (
+        same,
+        (
+          sym (ap (λ b. if b then p else nat_lt x y) (eq-eqb x y same))
+              ∙ e,
+          sym (ap (λ b. if b then q else nat_lt y x) (eq-eqb y x (sym same))) ∙ f,
+        ),
+      )
       | inr (inl less) ↦ absurd (false≢true (sym e ∙ decide x y p (inl less)))
       | inr (inr more) ↦ absurd (false≢true (sym f ∙ decide y x q (inl more)))
     ]
@@ -182,10 +216,12 @@ one_blank cs = ap (λ xs. reverse (without_blanks xs)) (reverse-append cs (32 �
 
 more_blanks : (n : ℕ) (cs : List ℕ) → without_last_blanks (cs ++ replicate n 32) ≡ without_last_blanks cs
 more_blanks zero cs = ap without_last_blanks (append-nil cs)
-more_blanks (suc n) cs = ap without_last_blanks (sym (append_assoc cs (32 ∷ []) (replicate n 32))) ∙ more_blanks n (cs ++ 32 ∷ []) ∙ one_blank cs
+more_blanks (suc n) cs = ap without_last_blanks (sym (append_assoc cs (32 ∷ []) (replicate n 32)))
+    ∙ more_blanks n (cs ++ 32 ∷ []) ∙ one_blank cs
 
 -- blanks taken off at the end change nothing in the order
-by_first : (x : ℕ) (xs ds : List ℕ) → is_text_before (reverse (without_blanks xs)) ds ≡ is_text_before (reverse xs) ds → is_text_before (reverse (without_blanks (x ∷ xs))) ds ≡ is_text_before (reverse (x ∷ xs)) ds
+by_first : (x : ℕ) (xs ds : List ℕ) → is_text_before (reverse (without_blanks xs)) ds ≡ is_text_before (reverse xs) ds
+    → is_text_before (reverse (without_blanks (x ∷ xs))) ds ≡ is_text_before (reverse (x ∷ xs)) ds
 by_first x xs ds r =
     elim (cases_order x 32) [
       | inl same ↦
@@ -198,7 +234,8 @@ by_first x xs ds r =
       | inr (inr more) ↦ other (ne_eqb x 32 (λ same. omega (arith, same, more)))
     ]
   where
-    other : (x == 32) ≡ false → is_text_before (reverse (without_blanks (x ∷ xs))) ds ≡ is_text_before (reverse (x ∷ xs)) ds
+    other : (x == 32) ≡ false → is_text_before (reverse (without_blanks (x ∷ xs))) ds
+        ≡ is_text_before (reverse (x ∷ xs)) ds
     other e = ap (λ b. is_text_before (reverse (if b then without_blanks xs else x ∷ xs)) ds) e
 
 reversed-first : (xs ds : List ℕ) → is_text_before (reverse (without_blanks xs)) ds ≡ is_text_before (reverse xs) ds
@@ -209,9 +246,11 @@ trimmed-first : (cs ds : List ℕ) → is_text_before (without_last_blanks cs) d
 trimmed-first cs ds = reversed-first (reverse cs) ds ∙ ap (λ xs. is_text_before xs ds) (reverse-reverse cs)
 
 not_before : (cs ds : List ℕ) → without_last_blanks cs ≡ without_last_blanks ds → is_text_before cs ds ≡ false
-not_before cs ds e = sym (trimmed-first cs ds) ∙ ap (λ xs. is_text_before xs ds) e ∙ trimmed-first ds ds ∙ is_before-self ds
+not_before cs ds e = sym (trimmed-first cs ds) ∙ ap (λ xs. is_text_before xs ds) e ∙ trimmed-first ds ds
+    ∙ is_before-self ds
 
-pub neither-same : (cs ds : List ℕ) → ((is_text_before cs ds ≡ false) × (is_text_before ds cs ≡ false)) ↔ (without_last_blanks cs ≡ without_last_blanks ds)
+pub neither-same : (cs ds : List ℕ) → ((is_text_before cs ds ≡ false) × (is_text_before ds cs ≡ false)) ↔
+    (without_last_blanks cs ≡ without_last_blanks ds)
 neither-same cs ds = (
   λ h. let r = alike cs ds h.0 h.1 in sym (more_blanks r.0 cs) ∙ ap without_last_blanks r.1.1 ∙ more_blanks r.1.0 ds,
   λ e. (not_before cs ds e, not_before ds cs (sym e)),

@@ -53,8 +53,8 @@ pub fn number_of_two(fun: Fun, first: Num, second: Num) -> Num
     }
 }
 
-/// The sum of two numbers that are alike (`Num::alike_sum`), and `None` of others: for a caller that has most sums
-/// worked out where they are asked for.
+/// The sum of two numbers that are alike (`Num::alike_sum`), and `None` of others. A caller that asks for it first
+/// works out most sums without a call.
 #[inline(always)]
 #[tactic(auto, unfolding(crate::specs::Functions::applied))]
 pub fn sum_of_two(first: &Num, second: &Num) -> Option<Num>

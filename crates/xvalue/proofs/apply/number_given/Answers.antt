@@ -9,12 +9,14 @@ use Rattle.xvalue.proofs.apply.number_given.Goals as goal
 
 -- the function sees two numbers alone
 abbrev SeesTwo : Settings → Given → Fun → Type 0
-SeesTwo settings g fun = applied fun settings (two_numbers (number_given 0 g) (number_given 1 g)) ≡ applied fun settings g
+SeesTwo settings g fun =
+    applied fun settings (two_numbers (number_given 0 g) (number_given 1 g)) ≡ applied fun settings g
 
 two : (settings : Settings) (g : Given) (fun f : Fun) → SeesTwo settings g f → fun ≡ f → SeesTwo settings g fun
 two settings g fun f same e = subst (SeesTwo settings g) (sym e) same
 
-with_arguments : (settings : Settings) (g : Given) (fun : Fun) (x y : Decimal) → x ≡ number_given 0 g → y ≡ number_given 1 g → SeesTwo settings g fun → applied fun settings (two_numbers x y) ≡ applied fun settings g
+with_arguments : (settings : Settings) (g : Given) (fun : Fun) (x y : Decimal) → x ≡ number_given 0 g
+    → y ≡ number_given 1 g → SeesTwo settings g fun → applied fun settings (two_numbers x y) ≡ applied fun settings g
 with_arguments settings g fun x y first second same = rw (first, second) same
 
 pub returns-in-Add : goal.returns-in-Add

@@ -1,7 +1,13 @@
 -- A line each: each text is cut.
 use Rattle.xvalue.specs.declared.settings.Settings.{Settings}
 use Rattle.xvalue.specs.declared.fun.Fun.{Fun}
-use Rattle.xvalue.specs.declared.fun.Fun.TheVariants.{Add, Sub, Mul, Div, Neg, NumberEq, NumberLess, NumberGreater, TextEq, TextLess, TextGreater, DateEq, DateLess, DateGreater, Not, And, Or, Join, JoinMoved, In, DateAdd, DateSub, DateDiff, IifNumber, IifText, IifDate, IifLogical, Len, Substr, Left, Right, Trim, Ltrim, Upper, Lower, Space, Replicate, At, Stuff, Asc, Chr, Val, Str, IsAlpha, IsUpper, IsLower, Abs, Int, Mod, Round, Max, Min, Ctod, Dtoc, Day, Month, Year, Dow, Cdow, Cmonth}
+use Rattle.xvalue.specs.declared.fun.Fun.TheVariants.{Add, Sub, Mul, Div, Neg, NumberEq, NumberLess, NumberGreater}
+use Rattle.xvalue.specs.declared.fun.Fun.TheVariants.{TextEq, TextLess, TextGreater, DateEq, DateLess, DateGreater, Not}
+use Rattle.xvalue.specs.declared.fun.Fun.TheVariants.{And, Or, Join, JoinMoved, In, DateAdd, DateSub, DateDiff}
+use Rattle.xvalue.specs.declared.fun.Fun.TheVariants.{IifNumber, IifText, IifDate, IifLogical, Len, Substr, Left, Right}
+use Rattle.xvalue.specs.declared.fun.Fun.TheVariants.{Trim, Ltrim, Upper, Lower, Space, Replicate, At, Stuff, Asc, Chr}
+use Rattle.xvalue.specs.declared.fun.Fun.TheVariants.{Val, Str, IsAlpha, IsUpper, IsLower, Abs, Int, Mod, Round, Max}
+use Rattle.xvalue.specs.declared.fun.Fun.TheVariants.{Min, Ctod, Dtoc, Day, Month, Year, Dow, Cdow, Cmonth}
 use Rattle.xvalue.specs.Given.{Given}
 use Rattle.xvalue.specs.Functions.{applied}
 use Rattle.xvalue.specs.Laws.{HasShortText}

@@ -5,10 +5,16 @@ use Rattle.xvalue.proofs.texts.first_place.Goals as goal
 
 pub returns-then-starts_with-clause-value : goal.returns-then-starts_with-clause-value
 returns-then-starts_with-clause-value c =
-    let there : text_begins_with (drop c.loop-place.place c.args.bytes.now) c.args.part.now ≡ true = ap (λ ds. text_begins_with ds c.args.part.now) (sym c.behind.ensures) ∙ sym c.starts_with.ensures.value ∙ c.if-starts_with.true in
-    first_place-there c.args.part.now (drop c.loop-place.place c.args.bytes.now) c.loop-place.place (first_place c.args.part.now c.args.bytes.now) there c.loop-place.invariant
+    let there : text_begins_with (drop c.loop-place.place c.args.bytes.now) c.args.part.now
+    ≡ true = ap (λ ds. text_begins_with ds c.args.part.now) (sym c.behind.ensures) ∙ sym c.starts_with.ensures.value
+    ∙ c.if-starts_with.true in
+    first_place-there c.args.part.now (drop c.loop-place.place c.args.bytes.now) c.loop-place.place
+    (first_place c.args.part.now c.args.bytes.now) there c.loop-place.invariant
 
 pub loop-place-preserved : goal.loop-place-preserved
 loop-place-preserved c =
-    let there : text_begins_with (drop c.loop-place.place c.args.bytes.now) c.args.part.now ≡ false = ap (λ ds. text_begins_with ds c.args.part.now) (sym c.behind.ensures) ∙ sym c.starts_with.ensures.value ∙ c.if-starts_with.false in
-    first_place-passed c.args.part.now c.args.bytes.now c.loop-place.place c.loop-place-test.true there ∙ c.loop-place.invariant
+    let there : text_begins_with (drop c.loop-place.place c.args.bytes.now) c.args.part.now
+    ≡ false = ap (λ ds. text_begins_with ds c.args.part.now) (sym c.behind.ensures)
+    ∙ sym c.starts_with.ensures.value ∙ c.if-starts_with.false in
+    first_place-passed c.args.part.now c.args.bytes.now c.loop-place.place c.loop-place-test.true there
+    ∙ c.loop-place.invariant
