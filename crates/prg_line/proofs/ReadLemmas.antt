@@ -26,9 +26,6 @@ use Rattle.prg_line.proofs.Sound.{fine, failed, not_ok}
 abbrev pub CutLaw : Type 0
 CutLaw = (line : List ℕ) → IsLine (scan line) line
 
-some_kind : (x : ParseFaultKind) → Some x ≡ None → ⊥
-some_kind x h = cc
-
 some_fault : (x : ParseFaultKind) → Some x ≡ None → ⊥
 some_fault x h = cc
 
@@ -37,12 +34,12 @@ some_told true k l e = cc
 some_told false k l e = cc
 
 -- where neither of two faults is
-no_fault : (own place : Option ParseFaultKind) → least own place ≡ None → place ≡ None
+pub no_fault : (own place : Option ParseFaultKind) → least own place ≡ None → place ≡ None
 no_fault None place e = e
 no_fault (Some k) None e = refl
 no_fault (Some k) (Some l) e = absurd (some_told (nat_le (rank k) (rank l)) k l e)
 
-own_fault : (own place : Option ParseFaultKind) → least own place ≡ None → own ≡ None
+pub own_fault : (own place : Option ParseFaultKind) → least own place ≡ None → own ≡ None
 own_fault None place e = refl
 own_fault (Some k) None e = e
 own_fault (Some k) (Some l) e = absurd (some_told (nat_le (rank k) (rank l)) k l e)
@@ -51,11 +48,7 @@ own_fault (Some k) (Some l) e = absurd (some_told (nat_le (rank k) (rank l)) k l
 
 least_some : (k : ParseFaultKind) (f : Option ParseFaultKind) (g : Option ParseFaultKind) → least (Some k) f ≡ g → g ≡ None → ⊥
 least_some k None g e h = some_fault k (e ∙ h)
-least_some k (Some l) g e h = chosen (nat_le (rank k) (rank l)) (e ∙ h)
-  where
-    chosen : (b : Bool) → (if b then Some k else Some l) ≡ None → ⊥
-    chosen true h = some_fault k h
-    chosen false h = some_fault l h
+least_some k (Some l) g e h = some_told (nat_le (rank k) (rank l)) k l (e ∙ h)
 
 told_by : (k : ParseFaultKind) (f : Option ParseFaultKind) (fs : List (Option ParseFaultKind)) → ((l : ParseFaultKind) → least_of (Some l) fs ≡ None → ⊥) → (g : Option ParseFaultKind) → least (Some k) f ≡ g → least_of g fs ≡ None → ⊥
 told_by k f fs again None e h = least_some k f None e refl
@@ -79,7 +72,7 @@ counted true spots h = tt
 counted false spots h = faultless spots h
 
 short : (n : ℕ) (x : Bool) → nat_lt 1024 n ≡ x → (if x then Some TooLong else None) ≡ None → n ≤ 1024
-short n true e h = absurd (some_kind TooLong h)
+short n true e h = absurd (some_fault TooLong h)
 short n false e h = ltb-false 1024 n e
 
 -- the form
@@ -94,7 +87,7 @@ form_in n f s h = form_read f.0 (at f.1 false) s (has_expressions f.0 && nat_lt 
 
 formed : (r : Result Saying ParseFaultKind) → saying_fault r ≡ None → r ≡ fine (saying_in r)
 formed (Ok s) h = refl
-formed (Err k) h = absurd (some_kind k h)
+formed (Err k) h = absurd (some_fault k h)
 
 says_form : Law → (n : ℕ) (f : FoundVerb) → saying_fault (form n f) ≡ None → Says f.0 (saying_in (form n f)) f.1
 says_form law n f h = says_sound law f.0 (at f.1 false) (saying_in (form n f)) (form_in n f (saying_in (form n f)) (formed (form n f) h))

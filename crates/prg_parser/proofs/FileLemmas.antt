@@ -18,7 +18,7 @@ use Rattle.prg_parser.specs.Lines.{Joined, joined_lines}
 use Rattle.prg_parser.specs.Marks.{line_mark, marks}
 use Rattle.prg_parser.specs.Verdict as spec
 use Rattle.prg_parser.specs.Verdict.{verdict}
-use Rattle.prg_parser.proofs.VerdictLemmas.{own_fault}
+use Rattle.prg_line.proofs.ReadLemmas.{own_fault}
 
 -- what the crate of lines proves: a line without a fault says what is read
 abbrev pub SoundLaw : Type 0

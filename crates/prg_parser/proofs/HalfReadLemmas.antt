@@ -26,7 +26,8 @@ use Rattle.prg_parser.specs.Verdict.{verdict}
 use Rattle.text_lines.specs.Lines as files
 use Rattle.prg_parser.proofs.FileLemmas.{PlacedLaw}
 use Rattle.prg_parser.proofs.JoinLemmas.{none_left}
-use Rattle.prg_parser.proofs.VerdictLemmas.{at-end, front-passed, front-told, no_fault, own_fault}
+use Rattle.prg_line.proofs.ReadLemmas.{no_fault, own_fault}
+use Rattle.prg_parser.proofs.VerdictLemmas.{at-end, front-passed, front-told}
 
 none_before : (b : Bool) (o l : Option ℕ) → (if b then spec.earlier o l else o) ≡ None → o ≡ None
 none_before b None l e = refl

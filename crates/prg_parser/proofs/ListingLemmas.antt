@@ -13,7 +13,8 @@ use Rattle.prg_parser.specs.Verdict as spec
 use Rattle.prg_parser.specs.Verdict.{verdict}
 use Rattle.prg_parser.specs.Blocks.{fault_of_place, ends_block, begins_procedure, place_opened, parts_after}
 use Rattle.prg_parser.specs.Listing.{all_faults, deeper_behind, left_open, line_faults, listed_fault, parts_behind, unended, unended_before, wrong_at}
-use Rattle.prg_parser.proofs.VerdictLemmas.{no_fault, split}
+use Rattle.prg_line.proofs.ReadLemmas.{no_fault}
+use Rattle.prg_parser.proofs.VerdictLemmas.{split}
 
 -- one line more
 

@@ -1,7 +1,7 @@
 -- Lemmas on the fault that is told.
 
-use Rattle.std.proofs.Common.{◌≡◌, ℕ, ◌+◌, ◌<◌, List, [], ◌∷◌, Option, Some, None, length, drop, get_or, refl, add-one, drop-cons, Bool, true, false}
-use Rattle.std.specs.Prelude.{option_map, nat_le, if◌then◌else◌}
+use Rattle.std.proofs.Common.{◌≡◌, ℕ, ◌+◌, ◌<◌, List, [], ◌∷◌, Option, Some, None, length, drop, get_or, refl, add-one, drop-cons}
+use Rattle.std.specs.Prelude.{option_map}
 use Rattle.prg_expr.specs.declared.fault.ParseFaultKind.{ParseFaultKind}
 use Rattle.prg_expr.specs.declared.fault.ParseFault.{ParseFault}
 use Rattle.prg_parser.specs.declared.blocks.Part.{Part}
@@ -9,7 +9,6 @@ use Rattle.prg_parser.specs.declared.judging.LineMark.{LineMark}
 use Rattle.prg_parser.specs.Verdict as spec
 use Rattle.prg_parser.specs.Verdict.{verdict}
 use Rattle.prg_parser.specs.Blocks.{parts_after}
-use Rattle.prg_expr.specs.Faults.{least, rank}
 
 -- a line with a fault
 pub front-told : (parts : List Part) (unended : Option ℕ) (mark : LineMark) (others : List LineMark) (kind : ParseFaultKind) → spec.wrong_in_line parts mark ≡ Some kind
@@ -29,19 +28,3 @@ at-end parts unended = refl
 
 pub split : (marks : List LineMark) (i : ℕ) (d : LineMark) → i < length marks → get_or marks i d ∷ drop (i + 1) marks ≡ drop i marks
 split marks i d below = rw (add-one, drop-cons marks i d) refl
-
-some_told : (b : Bool) (k l : ParseFaultKind) → (if b then Some k else Some l) ≡ None → ⊥
-some_told true k l e = cc
-some_told false k l e = cc
-
--- where neither fault is, the place has none
-pub no_fault : (own place : Option ParseFaultKind) → least own place ≡ None → place ≡ None
-no_fault None place e = e
-no_fault (Some k) None e = refl
-no_fault (Some k) (Some l) e = absurd (some_told (nat_le (rank k) (rank l)) k l e)
-
--- and none of its own
-pub own_fault : (own place : Option ParseFaultKind) → least own place ≡ None → own ≡ None
-own_fault None place e = refl
-own_fault (Some k) None e = e
-own_fault (Some k) (Some l) e = absurd (some_told (nat_le (rank k) (rank l)) k l e)
