@@ -1,11 +1,12 @@
 -- Laws of parts made of parts.
 use Rattle.std.proofs.Common.{◌⊎◌, inl, inr, ◌≡◌, ℕ, zero, suc, ◌+◌, Bool, true, false, List, [], ◌∷◌, ◌++◌, length, get_or, Some, None, Result, Ok, Err, refl, sym, ap, subst, ◌∙◌, append_assoc}
 use Rattle.std.specs.List.{flat_map, AllByRecursion}
-use Rattle.std.proofs.lemmas.List.{append-nil, get_or-append-add}
+use Rattle.std.proofs.lemmas.List.{append-nil}
 use Rattle.std.proofs.lemmas.Bool.{and_parts, and_from}
 use Rattle.code_parts.specs.declared.flaw.Flaw.{Flaw}
 use Rattle.code_parts.specs.Reading.{Front, Reader, Judged}
 use Rattle.code_parts.specs.Laws.{AreBytes, Spells}
+use Rattle.code_parts.proofs.Combine.{are_left}
 use Rattle.xcode.specs.declared.fault.CodeFault.{CodeFault}
 use Rattle.xcode.specs.declared.fault.CodeFault.TheVariants.{Short, Shape}
 use Rattle.xcode.specs.Decoding.{FilePart, bind, checked, flaw_fault, item_told, joint, shaped, items_at}
@@ -39,11 +40,6 @@ pub pair_is : {A : Type 0} (a x : A) (bytes rest : List ℕ) → fine {A = A × 
 pair_is {A} a x bytes rest e =
     let same : (a, bytes) ≡ (x, rest) = fine_is (a, bytes) (x, rest) e in
     (ap (λ (p : A × List ℕ). p.0) same, ap (λ (p : A × List ℕ). p.1) same)
-
-pub are_left : (bytes text rest : List ℕ) → bytes ≡ text ++ rest → AreBytes bytes → AreBytes rest
-are_left bytes text rest e fit i =
-    let there : get_or bytes (length text + i) 0 ≡ get_or rest i 0 = ap (λ (l : List ℕ). get_or l (length text + i) 0) e ∙ get_or-append-add text rest i 0 in
-    rw there at (fit (length text + i))
 
 -- ---- one part behind another
 

@@ -21,6 +21,7 @@ use Rattle.code_items.specs.Declarations.{is_filter}
 use Rattle.code_items.specs.States.{lists_table, is_list_of, filters_table, is_filter_of, how_many, opened_by, is_area_state, is_desk, is_state}
 use Rattle.code_items.specs.Legal.{is_procedure, is_map, is_code}
 use Rattle.code_parts.specs.Laws.{ListFits}
+use Rattle.code_parts.proofs.Choices.{either_true}
 use Rattle.xcode.specs.Fitting.{AreaFitsBytes, StateFitsBytes, ProcedureFitsBytes}
 use Rattle.xcode.specs.Writing.{Writable}
 use Rattle.xcode.proofs.LegalLaws.{needs_few, lists_fit}
@@ -31,10 +32,6 @@ first_true a b h = (and_parts a b h).0
 
 second_true : (a b : Bool) → (a && b) ≡ true → b ≡ true
 second_true a b h = (and_parts a b h).1
-
-either_true : (a b : Bool) → (a || b) ≡ true → (a ≡ true) ⊎ (b ≡ true)
-either_true true b e = inl refl
-either_true false b e = inr e
 
 few_fields : (t : TableShape) → is_table t ≡ true → length t.fields < 256
 unfolding is_table are_fields
