@@ -15,11 +15,11 @@ splits (suc n) [] v = false
 splits (suc n) (c ∷ u) [] = false
 splits (suc n) (c ∷ u) (d ∷ v) = cond (c == d) (splits n u v) true
 
-and_true : (a b : Bool) → (a && b) ≡ true → (a ≡ true) × (b ≡ true)
+pub and_true : (a b : Bool) → (a && b) ≡ true → (a ≡ true) × (b ≡ true)
 and_true true b h = (refl, h)
 and_true false b h = absurd cc
 
-is_equal : (b c : ℕ) → (b == c) ≡ true → b ≡ c
+pub is_equal : (b c : ℕ) → (b == c) ≡ true → b ≡ c
 is_equal b c h = elim (eqb_tells b c) [ inl p ↦ p.1 | inr p ↦ absurd (let f = sym h ∙ p.0 in cc) ]
 
 -- first letters of both end before the words differ
@@ -36,7 +36,7 @@ short (suc n) (b ∷ s) (c ∷ u) (d ∷ v) p i j =
     let r = short n s u v (sym (cond_true (c == d) (splits n u v) true (eq-eqb c d same)) ∙ p) x.1 y.1 in
     (omega (arith, r.0), omega (arith, r.1))
 
-cut_long : (s u : List ℕ) → length s < 4 → length s < length u → ((length s == length u) || nat_le 4 (length s)) ≡ false
+pub cut_long : (s u : List ℕ) → length s < 4 → length s < length u → ((length s == length u) || nat_le 4 (length s)) ≡ false
 cut_long s u p q = grind (arith, nat_tests)
 
 -- what is cut from one word isn't cut from another

@@ -15,6 +15,7 @@ use Rattle.prg_expr.specs.Lexicon.{is_blank_or_tab, is_quote, is_comment, digit_
 use Rattle.prg_expr.specs.Scanning.{found, number_scanned, name_scanned, text_scanned, pick, symbol_at, word_at, with_word, spots_at, scan}
 use Rattle.prg_expr.proofs.Sound.{bool_tells}
 use Rattle.prg_expr.proofs.Bytes.{cond_true, cond_false}
+use Rattle.prg_expr.proofs.Cuts.{and_true}
 use Rattle.prg_expr.proofs.Finds.{whole_read, decimal_read, name_read, text_read, unended_read, pick_finds, pointed_apart, pointed_digit, pick_none, single_read, other_read, symbol_alone, symbol_pair, macro_read, Other, other_word}
 use Rattle.prg_expr.proofs.Takes.{letter_is_name, takes_word, word_shorter}
 
@@ -196,10 +197,6 @@ unfolding spots_at
 word_on n b bytes h c = cond_false (is_blank_or_tab b) _ _ h ∙ cond_false (is_comment b bytes) _ _ c
 
 -- sound
-and_true : (a b : Bool) → (a && b) ≡ true → (a ≡ true) × (b ≡ true)
-and_true true b h = (refl, h)
-and_true false b h = absurd cc
-
 comment_is : (b : ℕ) (bytes : List ℕ) → is_comment b bytes ≡ true → (rest : List ℕ) × (b ∷ bytes ≡ 38 ∷ 38 ∷ rest)
 comment_is b [] h = absurd cc
 comment_is b (c ∷ rest) h =

@@ -1,15 +1,12 @@
 -- Each command's words begin it.
 use Rattle.std.proofs.Common.{◌≡◌, ℕ, zero, suc, ◌<◌, ◌⊎◌, inl, inr, List, [], ◌∷◌, ◌++◌, length, codes, Bool, true, false, Option, Some, refl, sym, ap, ◌∙◌, subst, arith, eq-eqb}
 use Rattle.std.specs.Prelude.{◌==◌, ◌&&◌, ◌||◌, nat_le, if◌then◌else◌}
-use Rattle.std.proofs.lemmas.Bool.Decides.{eqb_tells, nat_tests}
 use Rattle.prg_expr.specs.Functions.{is_front, is_cut}
 use Rattle.prg_expr.specs.Lexicon.{IsOneOf}
+use Rattle.prg_expr.proofs.Cuts.{and_true, is_equal, cut_long}
+use Rattle.prg_expr.proofs.Sound.{bool_tells}
 use Rattle.prg_line.specs.declared.verb.Verb.{Verb}
 use Rattle.prg_line.specs.Verbs.{VerbWord, verb_of_table, or_verb, or_unknown, of_screen, of_variables, of_branches, of_loops, of_calls, of_areas, of_moves, of_changes, all_commands, verb_of_word}
-
-bool_tells : (b : Bool) → (b ≡ true) ⊎ (b ≡ false)
-bool_tells true = inl refl
-bool_tells false = inr refl
 
 on_true : {A : Type 0} (b : Bool) (x y : A) → b ≡ true → (if b then x else y) ≡ x
 on_true b x y e = ap (λ (z : Bool). if z then x else y) e
@@ -24,13 +21,6 @@ splits (suc n) [] [] = false
 splits (suc n) [] (d ∷ v) = true
 splits (suc n) (c ∷ u) [] = true
 splits (suc n) (c ∷ u) (d ∷ v) = if c == d then splits n u v else true
-
-and_true : (a b : Bool) → (a && b) ≡ true → (a ≡ true) × (b ≡ true)
-and_true true b h = (refl, h)
-and_true false b h = absurd cc
-
-is_equal : (b c : ℕ) → (b == c) ≡ true → b ≡ c
-is_equal b c h = elim (eqb_tells b c) [ inl p ↦ p.1 | inr p ↦ absurd (let f = sym h ∙ p.0 in cc) ]
 
 -- first letters of both are few, and not all of one of the words
 short : (n : ℕ) (s u v : List ℕ) → splits n u v ≡ true → is_front s u ≡ true → is_front s v ≡ true → (length s < n) × ((length s < length u) ⊎ (length s < length v))
@@ -48,9 +38,6 @@ short (suc n) (b ∷ s) (c ∷ u) (d ∷ v) p i j =
     let same : c ≡ d = sym (is_equal b c x.0) ∙ is_equal b d y.0 in
     let r = short n s u v (sym (on_true (c == d) (splits n u v) true (eq-eqb c d same)) ∙ p) x.1 y.1 in
     (omega (arith, r.0), elim r.1 [ inl a ↦ inl (omega (arith, a)) | inr a ↦ inr (omega (arith, a)) ])
-
-cut_long : (s u : List ℕ) → length s < 4 → length s < length u → ((length s == length u) || nat_le 4 (length s)) ≡ false
-cut_long s u p q = grind (arith, nat_tests)
 
 -- what is cut from one word isn't cut from another
 not_cut : (s u v : List ℕ) → splits 4 u v ≡ true → is_cut s v ≡ true → is_cut s u ≡ false

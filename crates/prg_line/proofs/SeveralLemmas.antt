@@ -7,6 +7,7 @@ use Rattle.prg_expr.specs.Tree.{Tree}
 use Rattle.prg_expr.specs.Word.{Word, words, word_of}
 use Rattle.prg_expr.specs.declared.fault.FormFault.{FormFault}
 use Rattle.prg_expr.specs.declared.fault.FormFault.TheVariants.{Kind, Memory}
+use Rattle.prg_expr.proofs.Turns.{words_length}
 use Rattle.prg_line.specs.Forms.{At, FormReader, at, comma, more, expression}
 
 -- what was found so far goes on as from the start
@@ -48,10 +49,6 @@ fails_at one (Kind k) (suc n) found a b lt c h = rw (c, h) refl
 pub fails : {A : Type 0} (one : FormReader A) (first : List A) (start : At) (e : FormFault) (found : List A) (a b : At) → SoFar one first start found a → comma a ≡ (true, b)
     → WordsFail e (one b) → WordsFail e (more one (suc (length start.words)) first start)
 fails one first start e found a b so c h = rw so.reads (fails_at one e so.bound found a b so.enough c h)
-
-pub words_length : (ts : List Token) → length (words ts) ≡ length ts
-words_length [] = refl
-words_length (t ∷ ts) = ap suc (words_length ts)
 
 -- an expression is read
 pub read_on : (a : At) (e : Tree) (rest others : List Word) → front a.words ≡ Ok (e, rest) → rest ≡ others → expression a ≡ Ok (e, at others true)
