@@ -89,10 +89,10 @@ fn table_of(alloc: Global, bytes: &[u8], layout: &Layout) -> Result<Table, Alloc
     })
 }
 
-/// The table of a file's bytes, where it has at most `limit` rows. It can be refused for want of memory, and is so
-/// last.
+/// The table of a file's bytes, which may have at most `limit` rows. That memory is missing is told only of bytes
+/// without a fault.
 ///
-/// Kept of the header are the fields and all bytes from byte 12 on; not kept are the day of the last update and what
+/// The fields and all bytes of the header from byte 12 on are kept. The day of the last update isn't kept, nor is what
 /// stands behind the last row.
 pub fn read(alloc: Global, bytes: &[u8], limit: usize) -> Result<Table, DbfFault>
     // What is read stands in the bytes.

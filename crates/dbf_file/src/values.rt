@@ -17,7 +17,7 @@ use xvalue::{Kind, Text, Value, text_from};
 /// The most bytes of a text value.
 const TEXT_BYTES: usize = 254;
 
-/// The highest power of ten that has no more digits than a number that is read at once.
+/// The least number of 18 digits. A number that is read at once has at most so many.
 const LAST_PLACE: u64 = 100_000_000_000_000_000;
 
 impl Letter {
@@ -58,7 +58,7 @@ fn number_with(magnitude: u64, decimals: u8) -> Num
     }
 }
 
-/// The number of digits alone, of which there are some, where it is below 10^18; none of another text.
+/// The number that a text of digits alone spells, if it has a digit and the number is below 10^18; else none.
 fn digits_value(digits: &[u8]) -> Option<u64>
     ensures digits { IfSome result (λ n. are_digits digits.now ≡ true) }
     ensures some { IfSome result (λ n. 0 < length digits.now) }

@@ -1,5 +1,6 @@
 -- Pieces of a text, and the parts that they say.
-use Rattle.std.proofs.Common.{◌≡◌, ℕ, Bool, List, [], ◌∷◌, ◌++◌, length, option_map, Option, Some, None, inl, inr, refl, sym, ap, ◌∙◌, append_assoc, arith}
+use Rattle.std.proofs.Common.{◌≡◌, ℕ, Bool, List, [], ◌∷◌, ◌++◌, length, option_map, Option, Some, None, inl, inr, refl}
+use Rattle.std.proofs.Common.{sym, ap, ◌∙◌, append_assoc, arith}
 use Rattle.std.proofs.lemmas.Bool.{cases_Bool}
 use Rattle.std.proofs.lemmas.List.Splits.{slice_split-cons_no}
 use Rattle.std.specs.List.{slice_split, onto_first, position_or_len}
@@ -24,15 +25,19 @@ front old new part None e = refl
 front old new part (Some ps) e = ap Some (ap (λ l. l ++ ps) e ∙ append_assoc old (part ∷ []) ps)
 
 -- a part more
-pub goes_on : (fields : List Field) (old new : List KeyPart) (part : KeyPart) (rest piece : List ℕ) (pieces : List (List ℕ)) → slice_split is_plus rest ≡ piece ∷ pieces → Some part ≡ part_in fields piece → new ≡ old ++ part ∷ []
-    → option_map (λ ps. new ++ ps) (said_parts fields pieces) ≡ option_map (λ ps. old ++ ps) (said_parts fields (slice_split is_plus rest))
+pub goes_on : (fields : List Field) (old new : List KeyPart) (part : KeyPart) (rest piece : List ℕ)
+    (pieces : List (List ℕ)) → slice_split is_plus rest ≡ piece ∷ pieces → Some part ≡ part_in fields piece
+    → new ≡ old ++ part ∷ []
+    → option_map (λ ps. new ++ ps) (said_parts fields pieces) ≡ option_map (λ ps. old ++ ps)
+    (said_parts fields (slice_split is_plus rest))
 goes_on fields old new part rest piece pieces cut said n =
     front old new part (said_parts fields pieces) n
     ∙ ap (λ f. option_map (λ ps. old ++ ps) (with_part f (said_parts fields pieces))) said
     ∙ ap (λ l. option_map (λ ps. old ++ ps) (said_parts fields l)) (sym cut)
 
 -- a piece that says no part
-pub stops : (fields : List Field) (old : List KeyPart) (rest piece : List ℕ) (pieces : List (List ℕ)) → slice_split is_plus rest ≡ piece ∷ pieces → None ≡ part_in fields piece
+pub stops : (fields : List Field) (old : List KeyPart) (rest piece : List ℕ) (pieces : List (List ℕ))
+    → slice_split is_plus rest ≡ piece ∷ pieces → None ≡ part_in fields piece
     → None ≡ option_map (λ ps. old ++ ps) (said_parts fields (slice_split is_plus rest))
 stops fields old rest piece pieces cut said =
     ap (λ f. option_map (λ ps. old ++ ps) (with_part f (said_parts fields pieces))) said

@@ -1,7 +1,6 @@
 //! The table to which an index belongs.
 
-ghost use Rattle.std.specs.Prelude.{◌≡◌, ◌≤◌, length, IfOk};
-ghost use Rattle.std.specs.Option.{is_some};
+ghost use Rattle.std.specs.Prelude.{◌≡◌, IfOk};
 ghost use Rattle.folder_shapes.specs.Keys.{made_of, plain_text};
 ghost use Rattle.folder_shapes.specs.Owners as spec;
 

@@ -1,6 +1,6 @@
 //! Files of tables and indexes read.
 
-ghost use Rattle.std.specs.Prelude.{◌≡◌, ◌≢◌, ◌≤◌, ◌∷◌, [], length, slice_range, IfOk, IfErr, IsTrue};
+ghost use Rattle.std.specs.Prelude.{◌≢◌, ◌≤◌, ◌∷◌, [], length, slice_range, IfOk, IfErr, IsTrue};
 ghost use Rattle.file_access.specs.Holding.{SameFiles};
 ghost use Rattle.ndx_tree.specs.IndexFile.{IsIndexFile};
 ghost use Rattle.folder_shapes.specs.Reading.{IsReadAs, NotRead, UnfitIs, IsTable, NoTableIs, NoIndexIs};

@@ -1,6 +1,6 @@
 //! Tables declared.
 
-ghost use Rattle.std.specs.Prelude.{◌≡◌, ◌<◌, length, take, IfOk, IfErr, MatchOption};
+ghost use Rattle.std.specs.Prelude.{◌<◌, length, IfOk, IfErr, MatchOption};
 ghost use Rattle.folder_shapes.specs.Names.{stem as stem_of};
 ghost use Rattle.folder_shapes.specs.Reading.{UnfitIs};
 ghost use Rattle.folder_shapes.specs.States.{taken_state};

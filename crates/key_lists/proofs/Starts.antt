@@ -93,7 +93,8 @@ stand_together (p ∷ ps) a start = elim (begins_with start p.0) as
                 (λ q. begins_with start q.0 ≡ false) (λ q g. none_behind start p q f e g) ps a.0 in
                 let later : Each (λ q. not (begins_with start q.0) ≡ true) (pairs_from start ps) = Each-filter
                 (λ q. not (begins_with start q.0) ≡ true) (λ q. not (key_before q.0 start)) ps
-                (Each-map (λ q. begins_with start q.0 ≡ false) (λ q. not (begins_with start q.0) ≡ true) (λ q g. ap not g)
+                (Each-map (λ q. begins_with start q.0 ≡ false) (λ q. not (begins_with start q.0) ≡ true)
+                (λ q g. ap not g)
                 ps none) in
                 rw (filter-none (λ q. begins_with start q.0) ps none, e)
                 (ap (λ (m : List Pair). p ∷ m)

@@ -1,15 +1,18 @@
 -- Page 0 at the front of a file.
-use Rattle.std.proofs.Common.{◌≡◌, ◌∙◌, ℕ, ◌+◌, ◌≤◌, ◌<◌, List, ◌++◌, length, take, drop, ap, arith, refl, length-append}
+use Rattle.std.proofs.Common.{◌≡◌, ◌∙◌, ℕ, ◌+◌, ◌≤◌, ◌<◌, List, ◌++◌, length, take, drop, ap, arith, refl}
+use Rattle.std.proofs.Common.{length-append}
 use Rattle.std.specs.Prelude.{slice_index}
 use Rattle.std.proofs.lemmas.List.{get_or_append_left, drop-append-le, take-append-le, length-drop}
 use Rattle.ndx_page.specs.Numbers.{number_at}
 use Rattle.ndx_page.specs.declared.head.Head.{Head}
 use Rattle.ndx_page.specs.HeadLayout.{IsHead}
 
-index_front : (place i : ℕ) (a b : List ℕ) → place + i < length a → slice_index (drop place (a ++ b)) i ≡ slice_index (drop place a) i
+index_front : (place i : ℕ) (a b : List ℕ) → place + i < length a
+    → slice_index (drop place (a ++ b)) i ≡ slice_index (drop place a) i
 index_front place i a b l =
     let rest = length-drop place a in
-    ap (λ (m : List ℕ). slice_index m i) (drop-append-le place a b (omega arith)) ∙ get_or_append_left (drop place a) b 0 i (omega (arith, rest))
+    ap (λ (m : List ℕ). slice_index m i) (drop-append-le place a b (omega arith))
+    ∙ get_or_append_left (drop place a) b 0 i (omega (arith, rest))
 
 two_front : (place : ℕ) (a b : List ℕ) → place + 2 ≤ length a → number_at 2 place (a ++ b) ≡ number_at 2 place a
 unfolding number_at
@@ -40,5 +43,9 @@ head_front a b head whole h =
       kind = two_front 16 a b (omega (arith, whole)) ∙ h.kind;
       size = two_front 18 a b (omega (arith, whole)) ∙ h.size;
       unique = get_or_append_left a b 0 23 (omega (arith, whole)) ∙ h.unique;
-      text = (h.text.0, ap (take 488) (drop-append-le 24 a b (omega (arith, whole))) ∙ take-append-le 488 (drop 24 a) b (omega (arith, rest, whole)) ∙ h.text.1);
+      text = (
+        h.text.0,
+        ap (take 488) (drop-append-le 24 a b (omega (arith, whole)))
+            ∙ take-append-le 488 (drop 24 a) b (omega (arith, rest, whole)) ∙ h.text.1,
+      );
     }

@@ -15,4 +15,5 @@ last_read l x n e g = last_pushed (take n l) l x (last_apart l (take n l) x n e 
 
 -- the last of keys of one length has that length
 pub last_size : (k : ℕ) (l front : List Pair) (x : Pair) → HaveKeys k l → l ≡ front ++ x ∷ [] → length x.0 ≡ k
-last_size k l front x a e = (Each-append_right (λ p. length p.0 ≡ k) front (x ∷ []) (subst (λ (m : List Pair). HaveKeys k m) e a)).0
+last_size k l front x a e =
+    (Each-append_right (λ p. length p.0 ≡ k) front (x ∷ []) (subst (λ (m : List Pair). HaveKeys k m) e a)).0

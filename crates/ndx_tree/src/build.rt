@@ -3,7 +3,7 @@
 //! Each level's pages are made from the last to the first, and are full. What is left at the front is one page, or two
 //! that share it, so that each page but the root is at least half full.
 
-ghost use Rattle.std.specs.Prelude.{◌≡◌, ℕ, ◌+◌, ◌*◌, ◌-◌, ◌/◌, ◌^◌, ◌<◌, ◌≤◌, [], length, take, drop, IfOk, OnOk};
+ghost use Rattle.std.specs.Prelude.{◌≡◌, ℕ, ◌+◌, ◌*◌, ◌-◌, ◌^◌, ◌<◌, ◌≤◌, [], length, take, drop, IfOk, OnOk};
 ghost use Rattle.std.specs.Vec.{vec_len};
 ghost use Rattle.key_rows.specs.Flat.{HaveKeys};
 ghost use Rattle.ndx_tree.specs.Rooms.{AreKeyed};

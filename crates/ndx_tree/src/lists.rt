@@ -1,6 +1,6 @@
 //! Vectors that have room, and so take no memory when items come in.
 
-ghost use Rattle.std.specs.Prelude.{◌≡◌, ◌+◌, ◌<◌, ◌≤◌, [], ◌++◌, take, drop, insert, length};
+ghost use Rattle.std.specs.Prelude.{◌≡◌, ◌+◌, ◌<◌, ◌≤◌, [], ◌++◌, take, drop, insert};
 ghost use Rattle.std.specs.Vec.{vec_capacity, vec_len};
 
 // Puts an item at a place of a list that has room.

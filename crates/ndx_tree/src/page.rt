@@ -3,8 +3,8 @@
 //! A page is a leaf, whose entries are pairs, or an inner page, whose entries separate its children: each of them is
 //! the last pair of the child before it. So a search goes into one child alone, and what it looks for is there.
 
-ghost use Rattle.std.specs.Prelude.{◌≡◌, ◌+◌, ◌<◌, ◌≤◌, [], ◌∷◌, ◌++◌, ◌*◌, ◌^◌, ◌/◌, length, IsTrue, ◌↔◌, Some, IfOk};
-ghost use Rattle.std.specs.Prelude.{OnOk, ℕ, ◌⊎◌, slice_index_or, slice_set, take};
+ghost use Rattle.std.specs.Prelude.{◌≡◌, ◌+◌, ◌<◌, ◌≤◌, [], ◌∷◌, ◌++◌, ◌*◌, ◌^◌, length, IsTrue, ◌↔◌, Some, IfOk};
+ghost use Rattle.std.specs.Prelude.{OnOk, ℕ, ◌⊎◌, slice_index_or, slice_set};
 ghost use Rattle.std.specs.Vec.{vec_capacity, vec_len};
 ghost use Rattle.key_lists.specs.Order.{Each};
 ghost use Rattle.key_lists.specs.Rising.{IsAbsent, IsRising, last_of, first_from, last_below};

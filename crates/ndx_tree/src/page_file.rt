@@ -1,6 +1,6 @@
 //! The pages of a tree as bytes.
 
-ghost use Rattle.std.specs.Prelude.{◌≡◌, ◌+◌, ◌*◌, ◌<◌, ◌≤◌, ◌^◌, ◌++◌, ℕ, List, length, IfOk};
+ghost use Rattle.std.specs.Prelude.{◌≡◌, ◌+◌, ◌*◌, ◌<◌, ◌≤◌, ◌^◌, length, IfOk};
 ghost use Rattle.std.specs.Vec.{vec_len};
 ghost use Rattle.ndx_page.specs.PageLayout.{FitsKeys};
 ghost use Rattle.ndx_page.specs.Layout.{most_entries};

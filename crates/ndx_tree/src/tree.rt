@@ -1,6 +1,6 @@
 //! A list of keys in a tree of pages.
 
-ghost use Rattle.std.specs.Prelude.{◌≡◌, ◌+◌, ◌*◌, ◌<◌, ◌≤◌, ◌^◌, ◌↔◌, length, reverse, IfOk, Contains, ℕ, ◌-◌};
+ghost use Rattle.std.specs.Prelude.{◌≡◌, ◌<◌, ◌≤◌, ◌^◌, length, reverse, IfOk, Contains, ℕ, ◌-◌};
 ghost use Rattle.key_lists.specs.Order.{Each, above, below, first};
 ghost use Rattle.key_lists.specs.Pairs.{is_before, pairs_from};
 ghost use Rattle.key_lists.specs.KeyForm.{KeyForm, IsKeyLength, IsPairOf};
@@ -33,8 +33,7 @@ pub struct NdxTree {
 }
 
 impl Model for NdxTree {
-    ghost use Rattle.std.specs.Prelude.{◌≡◌, ◌+◌, ◌<◌, ◌≤◌, ◌^◌, length};
-    ghost use Rattle.ndx_tree.specs.Blanks.{IsPool};
+    ghost use Rattle.std.specs.Prelude.{◌≡◌, ◌<◌, ◌≤◌, ◌^◌, length};
     ghost use Rattle.ndx_tree.specs.Trees.{TreeView, IsTree};
 
     ghost Value = { TreeView };

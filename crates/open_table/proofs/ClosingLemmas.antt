@@ -14,13 +14,15 @@ bare_pairs : (n : ℕ) (rows : List Row) → row_pairs [] n rows ≡ records_fro
 bare_pairs n [] = refl
 bare_pairs n (row ∷ rows) = ap (λ ps. ([], n) ∷ ps) (bare_pairs (n + 1) rows)
 
-record_list : ((pairs : List Pair) → PutsInOrder pairs) → (rows : List Row) → index_list [] rows ≡ record_order (length rows)
+record_list : ((pairs : List Pair) → PutsInOrder pairs) → (rows : List Row)
+    → index_list [] rows ≡ record_order (length rows)
 unfolding index_list
 record_list law rows =
     ap (in_order is_before) (bare_pairs 1 rows)
     ∙ (law (record_order (length rows))).same (ascending_records 1 (length rows))
 
 -- the rows in an order, by how its keys are made
-pub by_parts : ((pairs : List Pair) → PutsInOrder pairs) → (order : Option ℕ) (marks : List IndexMark) (rows : List Row) → index_list (order_parts order marks) rows ≡ pairs_in_order order marks rows
+pub by_parts : ((pairs : List Pair) → PutsInOrder pairs) → (order : Option ℕ) (marks : List IndexMark) (rows : List Row)
+    → index_list (order_parts order marks) rows ≡ pairs_in_order order marks rows
 by_parts law None marks rows = record_list law rows
 by_parts law (Some n) marks rows = refl

@@ -1,5 +1,6 @@
 -- Open indexes stay open.
-use Rattle.std.proofs.Common.{◌≡◌, ℕ, ◌<◌, ◌≤◌, Bool, true, false, not, ◌||◌, ◌&&◌, ◌==◌, Option, Some, List, [], ◌∷◌, length, get_or, map, cond, refl, sym, ap, ◌∙◌, subst, Result, Ok, Err, is_ok, is_some}
+use Rattle.std.proofs.Common.{◌≡◌, ℕ, ◌<◌, ◌≤◌, Bool, true, false, not, ◌||◌, ◌&&◌, ◌==◌, Option, Some, List, [], ◌∷◌}
+use Rattle.std.proofs.Common.{length, get_or, map, cond, refl, sym, ap, ◌∙◌, subst, Result, Ok, Err, is_ok, is_some}
 use Rattle.std.specs.Prelude.{OnOk, OnErr}
 use Rattle.open_table.specs.Tables.{IndexedState, open_list}
 use Rattle.row_keys.specs.Lists.{index_list}
@@ -16,19 +17,27 @@ use Rattle.std.proofs.lemmas.List.Elements.{All-weaker}
 
 -- each of some numbers is among them
 pub among : (numbers : List ℕ) (k d : ℕ) → k < length numbers → is_among numbers (get_or numbers k d) ≡ true
-among numbers k d lt = list_any_at (λ other. other == get_or numbers k d) numbers k d lt (eq-eqb (get_or numbers k d) (get_or numbers k d) refl)
+among numbers k d lt = list_any_at (λ other. other == get_or numbers k d) numbers k d lt
+    (eq-eqb (get_or numbers k d) (get_or numbers k d) refl)
 
-fresh_step : (b stale other : Bool) (m : IndexMark) (rest others : Option IndexMark) → is_fresh (cond b (Some (with_stale m stale)) rest) ≡ true → (b ≡ true → stale ≡ false → other ≡ false) → (is_fresh rest ≡ true → is_fresh others ≡ true) → is_fresh (cond b (Some (with_stale m other)) others) ≡ true
+fresh_step : (b stale other : Bool) (m : IndexMark) (rest others : Option IndexMark)
+    → is_fresh (cond b (Some (with_stale m stale)) rest) ≡ true → (b ≡ true → stale ≡ false → other ≡ false)
+    → (is_fresh rest ≡ true → is_fresh others ≡ true) → is_fresh (cond b (Some (with_stale m other)) others) ≡ true
 fresh_step true true other m rest others h step more = cc
 fresh_step true false other m rest others h step more = ap not (step refl refl)
 fresh_step false stale other m rest others h step more = more h
 
 -- an index that isn't stale stays so where a change leaves its mark
-pub still_fresh : (f : IndexMark → Bool) (marks : List IndexMark) (n : ℕ) → ((m : IndexMark) → m.number ≡ n → m.stale ≡ false → f m ≡ false) → is_fresh (mark_at marks n) ≡ true → is_fresh (mark_at (map (λ m. with_stale m (f m)) marks) n) ≡ true
+pub still_fresh : (f : IndexMark → Bool) (marks : List IndexMark) (n : ℕ)
+    → ((m : IndexMark) → m.number ≡ n → m.stale ≡ false → f m ≡ false) → is_fresh (mark_at marks n) ≡ true
+    → is_fresh (mark_at (map (λ m. with_stale m (f m)) marks) n) ≡ true
 still_fresh f [] n step h = h
-still_fresh f (m ∷ marks) n step h = fresh_step (m.number == n) m.stale (f m) m (mark_at marks n) (mark_at (map (λ m. with_stale m (f m)) marks) n) h (λ e s. step m (eqb-true m.number n e) s) (still_fresh f marks n step)
+still_fresh f (m ∷ marks) n step h = fresh_step (m.number == n) m.stale (f m) m (mark_at marks n)
+    (mark_at (map (λ m. with_stale m (f m)) marks) n) h (λ e s. step m (eqb-true m.number n e) s)
+    (still_fresh f marks n step)
 
-pub fresh_left : (numbers : List ℕ) (marks : List IndexMark) → All (λ n. is_fresh (mark_at marks n) ≡ true) numbers → All (λ n. is_fresh (mark_at (left_stale numbers marks) n) ≡ true) numbers
+pub fresh_left : (numbers : List ℕ) (marks : List IndexMark) → All (λ n. is_fresh (mark_at marks n) ≡ true) numbers
+    → All (λ n. is_fresh (mark_at (left_stale numbers marks) n) ≡ true) numbers
 fresh_left numbers marks all k d lt =
     let n = get_or numbers k d in
     let is_in : is_among numbers n ≡ true = among numbers k d lt in
@@ -36,10 +45,12 @@ fresh_left numbers marks all k d lt =
     (λ m e s. ap (λ b. b || not (is_among numbers m.number)) s ∙ ap (λ x. not (is_among numbers x)) e ∙ ap not is_in)
     (all k d lt)
 
-pub open_left : (t u : IndexedState) (list numbers : List ℕ) (order : ℕ) → numbers ≡ list → IsOpen t list order → u.marks ≡ left_stale numbers t.marks → IsOpen u list order
+pub open_left : (t u : IndexedState) (list numbers : List ℕ) (order : ℕ) → numbers ≡ list → IsOpen t list order
+    → u.marks ≡ left_stale numbers t.marks → IsOpen u list order
 open_left t u list numbers order same is_open e = record {
   few = is_open.few;
-  fresh = subst (λ ms. All (λ n. is_fresh (mark_at ms n) ≡ true) list) (sym (e ∙ ap (λ ns. left_stale ns t.marks) same)) (fresh_left list t.marks is_open.fresh);
+  fresh = subst (λ ms. All (λ n. is_fresh (mark_at ms n) ≡ true) list) (sym (e ∙ ap (λ ns. left_stale ns t.marks) same))
+      (fresh_left list t.marks is_open.fresh);
   order_within = is_open.order_within;
 }
 
@@ -47,26 +58,32 @@ pub either : {T E : Type 0} (r : Result T E) (P Q C : Type 0) → OnOk r P → O
 either (Ok x) P Q C p q f g = f p
 either (Err e) P Q C p q f g = g q
 
-pub open_packed : (t u : IndexedState) (list numbers : List ℕ) (order : ℕ) → numbers ≡ list → IsOpen t list order → u.marks ≡ only_fresh numbers t.marks → IsOpen u list order
+pub open_packed : (t u : IndexedState) (list numbers : List ℕ) (order : ℕ) → numbers ≡ list → IsOpen t list order
+    → u.marks ≡ only_fresh numbers t.marks → IsOpen u list order
 open_packed t u list numbers order same is_open e = record {
   few = is_open.few;
   fresh = subst (λ ms. All (λ n. is_fresh (mark_at ms n) ≡ true) list) (sym (e ∙ ap (λ ns. only_fresh ns t.marks) same))
       (λ k d lt.
       let n = get_or list k d in
-      still_fresh (λ m. not (is_among list m.number)) t.marks n (λ m at s. ap (λ x. not (is_among list x)) at ∙ ap not (among list k d lt)) (is_open.fresh k d lt));
+      still_fresh (λ m. not (is_among list m.number)) t.marks n
+      (λ m at s. ap (λ x. not (is_among list x)) at ∙ ap not (among list k d lt)) (is_open.fresh k d lt));
   order_within = is_open.order_within;
 }
 
-pub open_remade : (t u : IndexedState) (list numbers : List ℕ) (order : ℕ) → IsOpen t list order → u.marks ≡ made_fresh numbers t.marks → IsOpen u list order
+pub open_remade : (t u : IndexedState) (list numbers : List ℕ) (order : ℕ) → IsOpen t list order
+    → u.marks ≡ made_fresh numbers t.marks → IsOpen u list order
 open_remade t u list numbers order is_open e = record {
   few = is_open.few;
   fresh = subst (λ ms. All (λ n. is_fresh (mark_at ms n) ≡ true) list) (sym e)
-      (λ k d lt. still_fresh (λ m. m.stale && not (is_among numbers m.number)) t.marks (get_or list k d) (λ m at s. ap (λ b. b && not (is_among numbers m.number)) s) (is_open.fresh k d lt));
+      (λ k d lt. still_fresh (λ m. m.stale && not (is_among numbers m.number)) t.marks (get_or list k d)
+      (λ m at s. ap (λ b. b && not (is_among numbers m.number)) s) (is_open.fresh k d lt));
   order_within = is_open.order_within;
 }
 
 -- a change of the table, and the move at its end
-pub ended_by : (ended : Result Landed Refused) (result : Result ℕ Refused) (old v changed new : OpenState) (landing : Landing) (budget : ℕ) → OnOk ended (v ≡ changed) → OnErr ended (v ≡ old) → is_ok result ≡ is_ok ended → IsEnded (landed v) v new landing budget result → IsEnded (landed changed) old new landing budget result
+pub ended_by : (ended : Result Landed Refused) (result : Result ℕ Refused) (old v changed new : OpenState)
+    (landing : Landing) (budget : ℕ) → OnOk ended (v ≡ changed) → OnErr ended (v ≡ old) → is_ok result ≡ is_ok ended
+    → IsEnded (landed v) v new landing budget result → IsEnded (landed changed) old new landing budget result
 ended_by (Ok x) (Ok cost) old v changed new landing budget e f s h = (h.0, h.1, h.2 ∙ ap (λ a. landed a landing) e)
 ended_by (Ok x) (Err r) old v changed new landing budget e f s h = cc
 ended_by (Err x) (Ok cost) old v changed new landing budget e f s h = cc
@@ -80,25 +97,31 @@ pub on_err : {T E : Type 0} (r : Result T E) (P Q : Type 0) → (P → Q) → On
 on_err (Ok x) P Q f p = tt
 on_err (Err e) P Q f p = f p
 
-made_step : (b other : Bool) (m : IndexMark) (rest others : Option IndexMark) → is_some (cond b (Some m) rest) ≡ true → (b ≡ true → other ≡ false) → (is_some rest ≡ true → is_fresh others ≡ true) → is_fresh (cond b (Some (with_stale m other)) others) ≡ true
+made_step : (b other : Bool) (m : IndexMark) (rest others : Option IndexMark) → is_some (cond b (Some m) rest) ≡ true
+    → (b ≡ true → other ≡ false) → (is_some rest ≡ true → is_fresh others ≡ true)
+    → is_fresh (cond b (Some (with_stale m other)) others) ≡ true
 made_step true other m rest others h step more = ap not (step refl)
 made_step false other m rest others h step more = more h
 
-made_one : (f : IndexMark → Bool) (marks : List IndexMark) (n : ℕ) → ((m : IndexMark) → m.number ≡ n → f m ≡ false) → is_some (mark_at marks n) ≡ true → is_fresh (mark_at (map (λ m. with_stale m (f m)) marks) n) ≡ true
+made_one : (f : IndexMark → Bool) (marks : List IndexMark) (n : ℕ) → ((m : IndexMark) → m.number ≡ n → f m ≡ false)
+    → is_some (mark_at marks n) ≡ true → is_fresh (mark_at (map (λ m. with_stale m (f m)) marks) n) ≡ true
 made_one f [] n step h = h
-made_one f (m ∷ marks) n step h = made_step (m.number == n) (f m) m (mark_at marks n) (mark_at (map (λ m. with_stale m (f m)) marks) n) h (λ e. step m (eqb-true m.number n e)) (made_one f marks n step)
+made_one f (m ∷ marks) n step h = made_step (m.number == n) (f m) m (mark_at marks n)
+    (mark_at (map (λ m. with_stale m (f m)) marks) n) h (λ e. step m (eqb-true m.number n e)) (made_one f marks n step)
 
 and_false : (b : Bool) → (b && false) ≡ false
 and_false true = refl
 and_false false = refl
 
 -- indexes that were made anew are open
-pub open_made : (t u : IndexedState) (list : List ℕ) (order : ℕ) → length list ≤ 7 → order ≤ length list → All (λ n. is_some (mark_at t.marks n) ≡ true) list → u.marks ≡ made_fresh list t.marks → IsOpen u list order
+pub open_made : (t u : IndexedState) (list : List ℕ) (order : ℕ) → length list ≤ 7 → order ≤ length list
+    → All (λ n. is_some (mark_at t.marks n) ≡ true) list → u.marks ≡ made_fresh list t.marks → IsOpen u list order
 open_made t u list order few within declared e = record {
   few = few;
   fresh = subst (λ ms. All (λ n. is_fresh (mark_at ms n) ≡ true) list) (sym e)
       (λ k d lt. made_one (λ m. m.stale && not (is_among list m.number)) t.marks (get_or list k d)
-      (λ m at. ap (λ x. m.stale && not (is_among list x)) at ∙ ap (λ b. m.stale && not b) (among list k d lt) ∙ and_false m.stale) (declared k d lt));
+      (λ m at. ap (λ x. m.stale && not (is_among list x)) at ∙ ap (λ b. m.stale && not b) (among list k d lt)
+      ∙ and_false m.stale) (declared k d lt));
   order_within = within;
 }
 

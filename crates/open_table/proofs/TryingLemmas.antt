@@ -1,5 +1,6 @@
 -- Moves over lists that list the rows.
-use Rattle.std.proofs.Common.{◌≡◌, ℕ, zero, suc, ◌+◌, ◌-◌, ◌<◌, ◌≤◌, Bool, true, false, Option, Some, None, List, [], ◌∷◌, ◌++◌, length, get_or, is_none, refl, sym, ap, ◌∙◌, arith}
+use Rattle.std.proofs.Common.{◌≡◌, ℕ, zero, suc, ◌+◌, ◌-◌, ◌<◌, ◌≤◌, Bool, true, false, Option, Some, None, List, []}
+use Rattle.std.proofs.Common.{◌∷◌, ◌++◌, length, get_or, is_none, refl, sym, ap, ◌∙◌, subst, arith}
 use Rattle.std.specs.List.{Contains}
 use Rattle.std.specs.Prelude.{IfSome}
 use Rattle.std.proofs.Math.ListN.{get_or-eq_default}
@@ -17,7 +18,8 @@ use Rattle.open_table.proofs.SlotLemmas.{some_weaker}
 records_at : (n count k : ℕ) (d : Pair) → k < count → get_or (records_from n count) k d ≡ ([], n + k)
 records_at n zero k d lt = absurd (omega arith)
 records_at n (suc count) zero d lt = (let e : n ≡ n + 0 = omega arith in ap (λ m. ([], m)) e)
-records_at n (suc count) (suc k) d lt = (let e : n + 1 + k ≡ n + suc k = omega arith in records_at (n + 1) count k d (omega arith) ∙ ap (λ m. ([], m)) e)
+records_at n (suc count) (suc k) d lt =
+    (let e : n + 1 + k ≡ n + suc k = omega arith in records_at (n + 1) count k d (omega arith) ∙ ap (λ m. ([], m)) e)
 
 records_length : (n count : ℕ) → length (records_from n count) ≡ count
 records_length n zero = refl
@@ -35,18 +37,33 @@ unfolding row_pair
 pair_number parts rows r p e = ap (λ (q : Pair). q.1) e
 
 -- a list of the rows lists their records
-pub in_list : ListLaw → (parts : List KeyPart) (rows : List Row) (p : Pair) → Contains (index_list parts rows) p → (1 ≤ p.1) × (p.1 ≤ length rows)
+pub in_list : ListLaw → (parts : List KeyPart) (rows : List Row) (p : Pair) → Contains (index_list parts rows) p
+    → (1 ≤ p.1) × (p.1 ≤ length rows)
 in_list law parts rows p there =
     let w = (law parts rows).only p.0 p.1 there in
     let number : p.1 ≡ w.0 + 1 = pair_number parts rows w.0 p w.2 in
     (omega arith, omega (arith, w.1))
 
 -- what a slot that isn't stale lists
-pub slot_list : (s : StructureState) (rows : List Row) (slot : SlotState) → IsSlot s rows slot → IfSome slot.index (λ x. x.pairs ≡ index_list slot.parts rows)
-slot_list s rows slot h = some_weaker (IsListed (IsExact s rows) slot.parts slot.text) (λ x. x.pairs ≡ index_list slot.parts rows) (λ x l. l.exact.pairs ∙ ap (λ ps. index_list ps rows) l.parts) slot.index h.listed
+pub slot_list : (s : StructureState) (rows : List Row) (slot : SlotState) → IsSlot s rows slot
+    → IfSome slot.index (λ x. x.pairs ≡ index_list slot.parts rows)
+slot_list s rows slot h = some_weaker (IsListed (IsExact s rows) slot.parts slot.text)
+    (λ x. x.pairs ≡ index_list slot.parts rows) (λ x l. l.exact.pairs ∙ ap (λ ps. index_list ps rows) l.parts)
+    slot.index h.listed
+
+-- what may be asked at each record may be asked at each record that a slot lists
+pub at_listed : {A B : Type 0} → A → B → ListLaw → (s : StructureState) (rows : List Row) (slot : SlotState)
+    → IsSlot s rows slot
+    → IfSome slot.index (λ x. (p : Pair) → Contains x.pairs p → A × B × (1 ≤ p.1) × (p.1 ≤ length rows))
+at_listed {A} {B} a b law s rows slot h =
+    some_weaker (λ x. x.pairs ≡ index_list slot.parts rows)
+    (λ x. (p : Pair) → Contains x.pairs p → A × B × (1 ≤ p.1) × (p.1 ≤ length rows))
+    (λ x e p there. (a, b, in_list law slot.parts rows p (subst (λ ps. Contains ps p) e there)))
+    slot.index (slot_list s rows slot h)
 
 -- of a list that is there
-pub from_some : (P N : IndexState → Type 0) (M : Type 0) (a : Option IndexState) → is_none a ≡ false → IfSome a P → IfSome a N → ((x : IndexState) → P x → N x → M) → M
+pub from_some : (P N : IndexState → Type 0) (M : Type 0) (a : Option IndexState) → is_none a ≡ false → IfSome a P
+    → IfSome a N → ((x : IndexState) → P x → N x → M) → M
 from_some P N M None f p n step = cc
 from_some P N M (Some x) f p n step = step x p n
 
@@ -60,5 +77,6 @@ no_key (part ∷ parts) = ap (λ k. k ++ key_of parts []) (no_text part.upper) �
     no_text false = refl
 
 -- nor where there is no such record
-pub no_record : (parts : List KeyPart) (rows : List Row) (n : ℕ) → length rows ≤ n - 1 → key_of parts (row_at rows (n - 1)).texts ≡ []
+pub no_record : (parts : List KeyPart) (rows : List Row) (n : ℕ) → length rows ≤ n - 1
+    → key_of parts (row_at rows (n - 1)).texts ≡ []
 no_record parts rows n le = ap (λ (r : Row). key_of parts r.texts) (get_or-eq_default rows no_row le) ∙ no_key parts

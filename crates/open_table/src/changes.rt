@@ -1,6 +1,6 @@
 //! Changes of a table together with its declared indexes.
 
-ghost use Rattle.std.specs.Prelude.{◌≡◌, ℕ, ◌+◌, ◌<◌, ◌≤◌, ◌∷◌, [], ◌++◌, All, OnOk, OnErr};
+ghost use Rattle.std.specs.Prelude.{◌≡◌, ◌<◌, ◌≤◌, ◌∷◌, [], ◌++◌, All, OnOk, OnErr};
 ghost use Rattle.std.specs.Prelude.{length, map, slice_index, take};
 ghost use Rattle.dbf_file.specs.Rows.{blank_row, text_at, unmarked, with_text};
 ghost use Rattle.dbf_file.specs.Tables.{row_widths, letter_at, decimals_at};

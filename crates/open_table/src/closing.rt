@@ -1,8 +1,8 @@
 //! The TOP that ends a change, judged before anything changes.
 //!
-//! TOP goes along the list of its order, so that it meets no more rows than the budget left pays, and one. Where that
-//! list is stale, or is made anew of the rows that are kept, passes over the rows find TOP. The base pays for them, and
-//! where the budget doesn't cover it no pass is made.
+//! TOP goes along the list of its order, and meets at most one row more than the rest of the budget pays for. Where
+//! that list is stale, or is made anew of the rows that are kept, passes over the rows find TOP. The base pays for
+//! them, and where the budget doesn't cover the base, no pass is made.
 
 ghost use Rattle.std.specs.Prelude.{◌≡◌, ℕ, ◌+◌, ◌^◌, ◌<◌, ◌≤◌, Bool, true, length, map};
 ghost use Rattle.std.specs.Fn.{FnReturnsAt};

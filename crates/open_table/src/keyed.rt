@@ -1,6 +1,6 @@
 //! Declared indexes by their numbers.
 
-ghost use Rattle.std.specs.Prelude.{◌↔◌, ◌≡◌, ℕ, ◌≤◌, List, [], All, length, map, is_some, IfSome, IsTrue};
+ghost use Rattle.std.specs.Prelude.{◌↔◌, ◌≡◌, ◌≤◌, List, All, length, map, is_some, IfSome, IsTrue};
 ghost use Rattle.dbf_file.specs.Rows.{Row as TheRow};
 ghost use Rattle.dbf_file.specs.Tables.{StructureState};
 ghost use Rattle.shape.specs.Keys.{IsKey};

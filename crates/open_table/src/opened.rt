@@ -1,10 +1,10 @@
 //! A table in use.
 
-ghost use Rattle.std.specs.Prelude.{◌≡◌, ℕ, ◌+◌, ◌-◌, ◌<◌, ◌≤◌, Bool, true, false, Some, None, [], OnOk, OnErr, Err};
+ghost use Rattle.std.specs.Prelude.{◌≡◌, ℕ, ◌+◌, ◌<◌, ◌≤◌, Bool, true, false, Some, None, [], OnOk, OnErr, Err};
 ghost use Rattle.std.specs.Prelude.{◌↔◌, MatchOption, length, is_none, unwrap_or, IfSome, IsSomeAnd, true, is_ok};
 ghost use Rattle.std.specs.Prelude.{is_some, ◌∷◌, slice_get, slice_index_or, All, ◌*◌};
 ghost use Rattle.std.specs.Fn.{FnReturnsAt};
-ghost use Rattle.dbf_file.specs.Rows.{blank_row, row_at};
+ghost use Rattle.dbf_file.specs.Rows.{blank_row};
 ghost use Rattle.dbf_file.specs.Tables.{letter_at, decimals_at, row_widths};
 ghost use Rattle.dbf_file.specs.Values.{kind_for, value_by};
 ghost use Rattle.xvalue.specs.Kinds.{kind_of};
@@ -100,9 +100,9 @@ impl<K: KeyList> OpenTable<K> {
         }
     }
 
-    /// Declares an index of the table, of which none is open, with a list of its key, which isn't stale where the list
-    /// lists just the rows; with none, or where it lists others, it is stale. Where memory is missing, all is as it
-    /// was.
+    /// Declares an index of a table that has no open index. The list is one of the index's key, or none. The index
+    /// isn't stale if there is a list, and it lists just the rows; else it is stale. Where memory is missing, all is as
+    /// it was.
     pub fn declare_with(
         &mut self,
         number: u8,

@@ -1,11 +1,11 @@
 //! TOP found by passes over all rows in record order, where there is no list of them. They take no memory.
 
-ghost use Rattle.std.specs.Prelude.{◌≡◌, ℕ, ◌+◌, ◌<◌, ◌≤◌, Bool, Some, None, [], IfOk, true, option_map, length};
+ghost use Rattle.std.specs.Prelude.{◌≡◌, ℕ, ◌<◌, ◌≤◌, Bool, true, option_map, length};
 ghost use Rattle.std.specs.Prelude.{if◌then◌else◌};
 ghost use Rattle.std.specs.Fn.{FnReturnsAt};
 ghost use Rattle.dbf_file.specs.Rows.{row_at};
 ghost use Rattle.shape.specs.Keys.{IsKey, key_of};
-ghost use Rattle.row_keys.specs.Lists.{index_list, is_kept, kept_rows};
+ghost use Rattle.row_keys.specs.Lists.{index_list, kept_rows};
 ghost use Rattle.row_moves.specs.Moves.{IsMove, end_of, first_shown};
 ghost use Rattle.open_table.specs.Passes.{with_tried, lesser as lesser_of, is_met as is_met_of, count_met};
 ghost use Rattle.open_table.specs.Passes.{at_higher_cost};
@@ -47,7 +47,7 @@ fn lesser(entry: Entry, best: Option<Entry>) -> Entry
     }
 }
 
-/// Whether a move from the start that ends at a place, or at the end of file, meets this one.
+/// Whether a move from the start meets this place. The move ends at the best place, or at the end of file.
 fn is_met(best: &Option<Entry>, entry: &Entry) -> bool
     ensures { result ≡ is_met_of best.now entry.now }
 {
@@ -148,7 +148,7 @@ fn first_place<F: Fn(&Row<'_>) -> bool>(
     best
 }
 
-/// One where a place is met by a move that ends at another, or at the end of file, else 0.
+/// One where a move from the start to the best place, or to the end of file, meets the place of row `r`, else 0.
 fn one_if_met(best: &Option<Entry>, table: &Table, key: &KeyParts, r: usize, number: u32) -> u64
     requires row { r < length table.now.rows }
     requires key { 1 ≤ length key.now → IsKey table.now.structure key.now }
@@ -160,7 +160,7 @@ fn one_if_met(best: &Option<Entry>, table: &Table, key: &KeyParts, r: usize, num
     if is_met(best, &entry) { 1 } else { 0 }
 }
 
-/// How many of the rows that are kept a move from the start meets that ends at a place, or at the end of file.
+/// How many of the rows that are kept a move from the start to the best place, or to the end of file, meets.
 fn met_before(table: &Table, key: &KeyParts, kept: Kept, best: &Option<Entry>) -> u64
     requires few { length table.now.rows ≤ 1000000 }
     requires key { 1 ≤ length key.now → IsKey table.now.structure key.now }

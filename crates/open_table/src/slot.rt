@@ -1,8 +1,8 @@
 //! A declared index of a table.
 
-ghost use Rattle.std.specs.Prelude.{◌≡◌, ℕ, ◌+◌, ◌<◌, ◌≤◌, ◌^◌, ◌-◌, ◌↔◌, Bool, true, false, None, Some, is_none};
-ghost use Rattle.std.specs.Prelude.{is_some, IfSome, OnOk, IfOk, MatchBool, IsSomeAnd, IsTrue, Contains, length};
-ghost use Rattle.std.specs.Prelude.{if◌then◌else◌, slice_index};
+ghost use Rattle.std.specs.Prelude.{◌≡◌, ℕ, ◌+◌, ◌<◌, ◌≤◌, ◌^◌, ◌-◌, ◌↔◌, Bool, false, None, is_none};
+ghost use Rattle.std.specs.Prelude.{is_some, IfSome, OnOk, IsSomeAnd, IsTrue, Contains, length};
+ghost use Rattle.std.specs.Prelude.{slice_index};
 ghost use Rattle.key_lists.specs.KeyForm.{KeyForm, IsKeyText};
 ghost use Rattle.dbf_file.specs.Tables.{row_widths};
 ghost use Rattle.dbf_file.specs.Rows.{row_at, with_text};
@@ -11,7 +11,6 @@ ghost use Rattle.row_keys.specs.Lists.{index_list, row_pair, kept_rows, IsExact,
 ghost use Rattle.row_keys.specs.Lists.{HasFollowed};
 ghost use Rattle.row_moves.specs.Orders.{MayTry, Sees};
 ghost use Rattle.row_moves.specs.Moves.{IsMove, landing_of, sought};
-ghost use Rattle.open_table.specs.Marks.{is_among as is_among_of};
 ghost use Rattle.open_table.specs.Slots.{IsSlot, GoesBy, HasRoomForPair, PutsBy, Prepares, committed, discarded};
 ghost use Rattle.open_table.specs.Slots.{left_if_open};
 ghost use Rattle.open_table.specs.Slots.{is_wanted as is_wanted_of};
@@ -22,7 +21,7 @@ use key_lists::{Entry, KeyList};
 use row_keys::exact::lists_rows;
 use row_keys::{Index, Kept, build_of};
 use row_moves::{Landed, RowMove, Spent};
-use shape::KeyParts;
+use shape::{KeyParts, is_among};
 use std::alloc::{AllocError, Global};
 use std::marker::Model;
 
@@ -48,13 +47,6 @@ impl<K: KeyList> Model for Slot<K> {
       index = s.index;
       fresh = s.fresh;
     } };
-}
-
-/// Whether a number is among some.
-pub(crate) fn is_among(numbers: &[u8], number: u8) -> bool
-    ensures { result ≡ is_among_of numbers.now number }
-{
-    numbers.iter().any(|other| *other == number)
 }
 
 /// A list of the key's length, given up where it doesn't list just the rows.

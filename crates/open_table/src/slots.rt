@@ -1,7 +1,7 @@
 //! The declared indexes of a table, all at once.
 
-ghost use Rattle.std.specs.Prelude.{◌≡◌, ℕ, ◌+◌, ◌<◌, ◌≤◌, ◌^◌, Bool, true, None, IfSome, OnOk, OnErr, Contains, All};
-ghost use Rattle.std.specs.Prelude.{length, position, ◌==◌, slice_index};
+ghost use Rattle.std.specs.Prelude.{◌≡◌, ◌+◌, ◌<◌, ◌≤◌, ◌^◌, IfSome, OnOk, OnErr, Contains, All};
+ghost use Rattle.std.specs.Prelude.{length, slice_index};
 ghost use Rattle.dbf_file.specs.Rows.{with_text};
 ghost use Rattle.dbf_file.specs.Tables.{row_widths};
 ghost use Rattle.row_keys.specs.Lists.{kept_rows, row_pair, IsExact, IsIndexOf, IsAsBefore, HasAdded, HasFollowed};

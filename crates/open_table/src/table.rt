@@ -1,10 +1,10 @@
 //! A table with its declared indexes.
 
-ghost use Rattle.std.specs.Prelude.{◌∷◌, ◌++◌, ◌*◌, true, ◌≡◌, ℕ, ◌+◌, ◌-◌, ◌<◌, ◌≤◌, Bool, OnOk, OnErr, Some, None};
-ghost use Rattle.std.specs.Prelude.{[], length, is_none, is_some, slice_get, IfSome, IsSomeAnd};
-ghost use Rattle.dbf_file.specs.Rows.{row_at, unmarked};
+ghost use Rattle.std.specs.Prelude.{◌∷◌, ◌*◌, true, ◌≡◌, ℕ, ◌+◌, ◌<◌, ◌≤◌, Bool, OnOk, OnErr, Some};
+ghost use Rattle.std.specs.Prelude.{[], length, is_some, slice_get, IfSome, IsSomeAnd};
+ghost use Rattle.dbf_file.specs.Rows.{unmarked};
 ghost use Rattle.row_keys.specs.Lists.{index_list};
-ghost use Rattle.dbf_file.specs.Tables.{letter_at, decimals_at, row_widths};
+ghost use Rattle.dbf_file.specs.Tables.{letter_at, row_widths};
 ghost use Rattle.dbf_file.specs.Values.{kind_for};
 ghost use Rattle.key_lists.specs.KeyForm.{IsKeyText};
 ghost use Rattle.shape.specs.Keys.{IsKey, key_length};
@@ -175,8 +175,8 @@ impl<K: KeyList> IndexedTable<K> {
         self.table.set_mark(r, marked);
     }
 
-    /// Declares an index with a list of its key, which isn't stale where the list lists just the rows; with none, or
-    /// where it lists others, it is stale. Where memory is missing, all is as it was.
+    /// Declares an index. The list is one of the index's key, or none. The index isn't stale if there is a list, and it
+    /// lists just the rows; else it is stale. Where memory is missing, all is as it was.
     pub fn declare_with(
         &mut self,
         number: u8,

@@ -1,7 +1,7 @@
 //! Moves over a table with its declared indexes.
 
-ghost use Rattle.std.specs.Prelude.{◌≡◌, ℕ, ◌+◌, ◌-◌, ◌<◌, ◌≤◌, ◌==◌, Bool, true, false, Some, None, All, length, map};
-ghost use Rattle.std.specs.Prelude.{find, is_some, is_none, IfSome, slice_index_or, option_map, []};
+ghost use Rattle.std.specs.Prelude.{◌≡◌, ℕ, ◌-◌, ◌<◌, ◌≤◌, Bool, true, false, Some, length, map};
+ghost use Rattle.std.specs.Prelude.{is_none, slice_index_or, option_map, []};
 ghost use Rattle.std.specs.Fn.{FnReturnsAt};
 ghost use Rattle.dbf_file.specs.Rows.{row_at};
 ghost use Rattle.shape.specs.Keys.{IsKey, key_of};
@@ -10,7 +10,7 @@ ghost use Rattle.row_moves.specs.Orders.{record_order};
 ghost use Rattle.row_moves.specs.Moves.{IsMove, landing_of, sought};
 ghost use Rattle.open_table.specs.Marks.{mark_at, is_fresh};
 ghost use Rattle.open_table.specs.Slots.{SlotState, IsSlot, mark_of};
-ghost use Rattle.open_table.specs.Tables.{IsOrder, IsIndexed, order_pairs, order_key, pair_at, indexed};
+ghost use Rattle.open_table.specs.Tables.{IsOrder, IsIndexed, order_pairs, pair_at, indexed};
 ghost use Rattle.open_table.specs.Tried.{ShowsRows};
 
 use crate::row::Row;

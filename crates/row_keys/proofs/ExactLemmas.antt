@@ -1,5 +1,6 @@
 -- A list of as many pairs as rows, each of which is a row's, lists the rows.
-use Rattle.std.proofs.Common.{◌≡◌, ℕ, zero, suc, ◌+◌, ◌<◌, ◌≤◌, true, ◌↔◌, ◌⊎◌, inl, inr, Option, Some, None, List, [], ◌∷◌, ◌++◌, length, get_or, refl, sym, ap, ◌∙◌, subst, arith}
+use Rattle.std.proofs.Common.{◌≡◌, ℕ, zero, suc, ◌+◌, ◌<◌, ◌≤◌, true, ◌↔◌, ◌⊎◌, inl, inr, Option, Some, None, List, []}
+use Rattle.std.proofs.Common.{◌∷◌, ◌++◌, length, get_or, refl, sym, ap, ◌∙◌, subst, arith}
 use Rattle.std.specs.List.{Contains}
 use Rattle.std.proofs.lemmas.Bool.{false≢true}
 use Rattle.dbf_file.specs.Rows.{Row, row_at}
@@ -10,14 +11,16 @@ use Rattle.row_keys.specs.Lists.{index_list, row_pair, IsIndexList}
 use Rattle.shape.specs.declared.parts.KeyPart.{KeyPart}
 use Rattle.shape.specs.Keys.{key_of}
 
-in_cons_at : (x : Pair) (xs : List Pair) (p : Pair) (k : ℕ) → k < length (x ∷ xs) → get_or (x ∷ xs) k p ≡ p → (p ≡ x) ⊎ Contains xs p
+in_cons_at : (x : Pair) (xs : List Pair) (p : Pair) (k : ℕ) → k < length (x ∷ xs) → get_or (x ∷ xs) k p ≡ p
+    → (p ≡ x) ⊎ Contains xs p
 in_cons_at x xs p zero lt e = inl (sym e)
 in_cons_at x xs p (suc k) lt e = inr (k, omega arith, e)
 
 in_cons : (x : Pair) (xs : List Pair) (p : Pair) → Contains (x ∷ xs) p → (p ≡ x) ⊎ Contains xs p
 in_cons x xs p c = in_cons_at x xs p c.0 c.1 c.2
 
-each_at : (P : Pair → Type 0) (xs : List Pair) → Each P xs → (k : ℕ) (p : Pair) → k < length xs → get_or xs k p ≡ p → P p
+each_at : (P : Pair → Type 0) (xs : List Pair) → Each P xs → (k : ℕ) (p : Pair) → k < length xs → get_or xs k p ≡ p
+    → P p
 each_at P [] h k p lt e = absurd (omega arith)
 each_at P (x ∷ xs) h zero p lt e = subst P e h.0
 each_at P (x ∷ xs) h (suc k) p lt e = each_at P xs h.1 k p (omega arith) e
@@ -30,27 +33,33 @@ module _ (strict : IsStrictOrder is_before) where
   never x y e f = false≢true (sym (strict.irrefl x) ∙ strict.trans x y x e f)
 
   -- what comes after a pair of the list isn't its first
-  later_one : (x : Pair) (xs : List Pair) (y z : Pair) → Each (λ w. is_before x w ≡ true) xs → Contains (x ∷ xs) y → is_before y z ≡ true → Contains (x ∷ xs) z → Contains xs z
+  later_one : (x : Pair) (xs : List Pair) (y z : Pair) → Each (λ w. is_before x w ≡ true) xs → Contains (x ∷ xs) y
+      → is_before y z ≡ true → Contains (x ∷ xs) z → Contains xs z
   later_one x xs y z h there less c = elim (in_cons x xs z c) as (λ _. Contains xs z) [
     | inl e ↦ absurd (elim (in_cons x xs y there) as (λ _. ⊥) [
-      | inl f ↦ never y z less (subst (λ (w : Pair). is_before w y ≡ true) (sym e) (subst (λ (w : Pair). is_before w y ≡ true) f (subst (λ (w : Pair). is_before y w ≡ true) (e ∙ sym f) less)))
-      | inr f ↦ never y z less (subst (λ (w : Pair). is_before w y ≡ true) (sym e) (each_in (λ w. is_before x w ≡ true) xs h y f))
+      | inl f ↦ never y z less (subst (λ (w : Pair). is_before w y ≡ true) (sym e)
+          (subst (λ (w : Pair). is_before w y ≡ true) f (subst (λ (w : Pair). is_before y w ≡ true) (e ∙ sym f) less)))
+      | inr f ↦ never y z less (subst (λ (w : Pair). is_before w y ≡ true) (sym e)
+          (each_in (λ w. is_before x w ≡ true) xs h y f))
     ])
     | inr e ↦ e
   ]
 
-  later : (x : Pair) (xs : List Pair) (y : Pair) (zs : List Pair) → Each (λ w. is_before x w ≡ true) xs → Contains (x ∷ xs) y → Each (λ z. is_before y z ≡ true) zs → Each (Contains (x ∷ xs)) zs → Each (Contains xs) zs
+  later : (x : Pair) (xs : List Pair) (y : Pair) (zs : List Pair) → Each (λ w. is_before x w ≡ true) xs
+      → Contains (x ∷ xs) y → Each (λ z. is_before y z ≡ true) zs → Each (Contains (x ∷ xs)) zs → Each (Contains xs) zs
   later x xs y [] h there less c = tt
   later x xs y (z ∷ zs) h there less c = (later_one x xs y z h there less.0 c.0, later x xs y zs h there less.1 c.1)
 
   -- a list in order has room for another whose pairs it has
-  no_longer : (xs ys : List Pair) → IsAscending is_before xs → IsAscending is_before ys → Each (Contains xs) ys → length ys ≤ length xs
+  no_longer : (xs ys : List Pair) → IsAscending is_before xs → IsAscending is_before ys → Each (Contains xs) ys
+      → length ys ≤ length xs
   no_longer xs [] hx hy c = omega arith
   no_longer [] (y ∷ ys) hx hy c = absurd (omega (arith, c.0.1))
   no_longer (x ∷ xs) (y ∷ ys) hx hy c = omega (arith, no_longer xs ys hx.1 hy.1 (later x xs y ys hx.0 c.0 hy.0 c.1))
 
   -- and is that list where it is no longer
-  pub same_lists : (xs ys : List Pair) → IsAscending is_before xs → IsAscending is_before ys → Each (Contains xs) ys → length xs ≤ length ys → xs ≡ ys
+  pub same_lists : (xs ys : List Pair) → IsAscending is_before xs → IsAscending is_before ys → Each (Contains xs) ys
+      → length xs ≤ length ys → xs ≡ ys
   same_lists [] [] hx hy c le = refl
   same_lists [] (y ∷ ys) hx hy c le = absurd (omega (arith, c.0.1))
   same_lists (x ∷ xs) [] hx hy c le = absurd (omega arith)
@@ -64,10 +73,14 @@ module _ (strict : IsStrictOrder is_before) where
       ap (λ z. z ∷ xs) here ∙ ap (λ zs. y ∷ zs) rest
 
 -- a list of as many pairs as rows, all of them pairs of rows, lists the rows
-pub lists_all : OrdersPairs → (parts : List KeyPart) (rows : List Row) (pairs : List Pair) → IsIndexList parts rows → IsAscending is_before pairs → length pairs ≡ length rows → Each (Contains (index_list parts rows)) pairs → pairs ≡ index_list parts rows
-lists_all orders parts rows pairs law ordered count each = sym (same_lists orders.strict (index_list parts rows) pairs law.ordered ordered each (omega (arith, count, law.count)))
+pub lists_all : OrdersPairs → (parts : List KeyPart) (rows : List Row) (pairs : List Pair) → IsIndexList parts rows
+    → IsAscending is_before pairs → length pairs ≡ length rows → Each (Contains (index_list parts rows)) pairs
+    → pairs ≡ index_list parts rows
+lists_all orders parts rows pairs law ordered count each = sym
+    (same_lists orders.strict (index_list parts rows) pairs law.ordered ordered each (omega (arith, count, law.count)))
 
-pub lists_count : (parts : List KeyPart) (rows : List Row) (pairs : List Pair) → IsIndexList parts rows → (length pairs ≡ length rows → ⊥) → pairs ≡ index_list parts rows → ⊥
+pub lists_count : (parts : List KeyPart) (rows : List Row) (pairs : List Pair) → IsIndexList parts rows
+    → (length pairs ≡ length rows → ⊥) → pairs ≡ index_list parts rows → ⊥
 lists_count parts rows pairs law differ e = differ (ap (λ (ps : List Pair). length ps) e ∙ law.count)
 
 -- ---- a walk along the list
@@ -82,8 +95,19 @@ pub record Walked (index pairs : List Pair) (k : ℕ) (next : Option Pair) : Typ
   pub each : Each (Contains index) met
   pub count : length met ≡ k
 
-pub walk_starts : (index pairs : List Pair) (next : Option Pair) → MeetsEach pairs → next ≡ first pairs → Walked index pairs 0 next
-walk_starts index pairs next meets e = record { met = []; left = pairs; whole = refl; here = e; on = λ q f. meets.least q (sym e ∙ f); each = tt; count = refl }
+pub walk_starts : (index pairs : List Pair) (next : Option Pair) → MeetsEach pairs → next ≡ first pairs
+    → Walked index pairs 0 next
+walk_starts index pairs next meets e =
+    record {
+      met = [];
+      left = pairs;
+      whole = refl;
+      here = e;
+      on = λ q f. meets.least q (sym e ∙ f);
+      each = tt;
+      count =
+          refl;
+    }
 
 each_more : (P : Pair → Type 0) (xs : List Pair) (q : Pair) → Each P xs → P q → Each P (xs ++ q ∷ [])
 each_more P [] q h p = (p, tt)
@@ -97,7 +121,9 @@ one_longer : (xs : List Pair) (q : Pair) → length (xs ++ q ∷ []) ≡ length 
 one_longer [] q = refl
 one_longer (x ∷ xs) q = omega (arith, one_longer xs q)
 
-pub walk_goes : (index pairs : List Pair) (k : ℕ) (q : Pair) (next : Option Pair) → MeetsEach pairs → Walked index pairs k (Some q) → Contains index q → next ≡ first (above is_before q pairs) → Walked index pairs (k + 1) next
+pub walk_goes : (index pairs : List Pair) (k : ℕ) (q : Pair) (next : Option Pair) → MeetsEach pairs
+    → Walked index pairs k (Some q) → Contains index q → next ≡ first (above is_before q pairs)
+    → Walked index pairs (k + 1) next
 walk_goes index pairs k q next meets w there e = record {
   met = w.met ++ q ∷ [];
   left = above is_before q pairs;
@@ -114,7 +140,8 @@ there_between (x ∷ xs) q ys = let c = there_between xs q ys in (suc c.0, omega
 
 -- what is next is in the list
 pub next_is_there : (index pairs : List Pair) (k : ℕ) (q : Pair) → Walked index pairs k (Some q) → Contains pairs q
-next_is_there index pairs k q w = subst (λ (ps : List Pair). Contains ps q) (sym (w.whole ∙ ap (λ zs. w.met ++ zs) (w.on q refl))) (there_between w.met q (above is_before q pairs))
+next_is_there index pairs k q w = subst (λ (ps : List Pair). Contains ps q)
+    (sym (w.whole ∙ ap (λ zs. w.met ++ zs) (w.on q refl))) (there_between w.met q (above is_before q pairs))
 
 length_both : (xs ys : List Pair) → length (xs ++ ys) ≡ length xs + length ys
 length_both [] ys = omega arith
@@ -122,11 +149,13 @@ length_both (x ∷ xs) ys = omega (arith, length_both xs ys)
 
 none_first : (xs : List Pair) → None ≡ first xs → length xs ≡ 0
 none_first [] e = refl
-none_first (x ∷ xs) e = absurd (subst (λ (o : Option Pair). elim o as (λ _. Type 0) [ None ↦ Unit {0} | Some q ↦ ⊥ ]) e tt)
+none_first (x ∷ xs) e =
+    absurd (subst (λ (o : Option Pair). elim o as (λ _. Type 0) [ None ↦ Unit {0} | Some q ↦ ⊥ ]) e tt)
 
 -- the walk ends at the end of the list
 pub walk_ends : (index pairs : List Pair) (k : ℕ) → Walked index pairs k None → k < length pairs → ⊥
-walk_ends index pairs k w lt = omega (arith, lt, w.count, none_first w.left w.here, length_both w.met w.left, ap (λ (ps : List Pair). length ps) w.whole)
+walk_ends index pairs k w lt = omega
+    (arith, lt, w.count, none_first w.left w.here, length_both w.met w.left, ap (λ (ps : List Pair). length ps) w.whole)
 
 each_whole : (P : Pair → Type 0) (xs ys : List Pair) → Each P xs → length ys ≡ 0 → Each P (xs ++ ys)
 each_whole P [] [] h e = tt
@@ -134,25 +163,32 @@ each_whole P [] (y ∷ ys) h e = absurd (omega (arith, e))
 each_whole P (x ∷ xs) ys h e = (h.0, each_whole P xs ys h.1 e)
 
 -- and has met each pair where it met as many as there are
-pub walk_met_all : (index pairs : List Pair) (k : ℕ) (next : Option Pair) → Walked index pairs k next → length pairs ≤ k → Each (Contains index) pairs
+pub walk_met_all : (index pairs : List Pair) (k : ℕ) (next : Option Pair) → Walked index pairs k next → length pairs ≤ k
+    → Each (Contains index) pairs
 walk_met_all index pairs k next w le =
-    let e : length w.left ≡ 0 = omega (arith, le, w.count, length_both w.met w.left, ap (λ (ps : List Pair). length ps) w.whole) in
-    subst (λ (ps : List Pair). Each (Contains index) ps) (sym w.whole) (each_whole (Contains index) w.met w.left w.each e)
+    let e : length w.left ≡ 0 =
+    omega (arith, le, w.count, length_both w.met w.left, ap (λ (ps : List Pair). length ps) w.whole) in
+    subst (λ (ps : List Pair). Each (Contains index) ps) (sym w.whole)
+    (each_whole (Contains index) w.met w.left w.each e)
 
 -- ---- one pair
 
 -- a pair with the number of a row is one of the index where it has that row's key
-pub is_pair_of : (parts : List KeyPart) (rows : List Row) (p : Pair) (r : ℕ) → IsIndexList parts rows → r < length rows → p.1 ≡ r + 1 → (p.0 ≡ key_of parts (row_at rows r).texts) ↔ Contains (index_list parts rows) p
+pub is_pair_of : (parts : List KeyPart) (rows : List Row) (p : Pair) (r : ℕ) → IsIndexList parts rows → r < length rows
+    → p.1 ≡ r + 1 → (p.0 ≡ key_of parts (row_at rows r).texts) ↔ Contains (index_list parts rows) p
 unfolding row_pair
 is_pair_of parts rows (key, n) r law lt e = (
-  (λ f. subst (λ (q : Pair). Contains (index_list parts rows) q) (sym (ap (λ (z : List ℕ). (z, n)) f ∙ ap (λ (z : ℕ). (key_of parts (row_at rows r).texts, z)) e)) (law.listed r lt)),
+  (λ f. subst (λ (q : Pair). Contains (index_list parts rows) q)
+      (sym (ap (λ (z : List ℕ). (z, n)) f ∙ ap (λ (z : ℕ). (key_of parts (row_at rows r).texts, z)) e))
+      (law.listed r lt)),
   (λ c. let w = law.only key n c in
       let same : w.0 ≡ r = omega (arith, e, ap (λ (q : Pair). q.1) w.2) in
       ap (λ (q : Pair). q.0) w.2 ∙ ap (λ (z : ℕ). key_of parts (row_at rows z).texts) same),
 )
 
 -- and none with another number is
-pub is_no_pair : (parts : List KeyPart) (rows : List Row) (p : Pair) → IsIndexList parts rows → (p.1 ≡ 0) ⊎ (length rows < p.1) → Contains (index_list parts rows) p → ⊥
+pub is_no_pair : (parts : List KeyPart) (rows : List Row) (p : Pair) → IsIndexList parts rows
+    → (p.1 ≡ 0) ⊎ (length rows < p.1) → Contains (index_list parts rows) p → ⊥
 unfolding row_pair
 is_no_pair parts rows (key, n) law out c =
     let w = law.only key n c in

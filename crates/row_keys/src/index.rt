@@ -1,7 +1,7 @@
 //! Indexes: a list of keys, and how a row's key is made.
 
 ghost use Rattle.std.specs.Prelude.{◌≡◌, ℕ, ◌+◌, ◌<◌, ◌^◌, Contains, Bool, OnOk, length, slice_index};
-ghost use Rattle.dbf_file.specs.Rows.{row_at, with_text};
+ghost use Rattle.dbf_file.specs.Rows.{with_text};
 ghost use Rattle.dbf_file.specs.Tables.{row_widths};
 ghost use Rattle.row_keys.specs.Lists.{row_pair, IsIndexOf, IsAsBefore, IsExact, HasAdded, HasFollowed};
 ghost use Rattle.row_moves.specs.Orders.{MayTry, Sees};

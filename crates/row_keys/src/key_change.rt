@@ -1,16 +1,15 @@
 //! Keys of a row of which a field had another text.
 
-ghost use Rattle.std.specs.Prelude.{◌≡◌, ◌+◌, ◌<◌, ◌≤◌, ◌++◌, length, map, slice_index};
+ghost use Rattle.std.specs.Prelude.{◌≡◌, ◌<◌, length, slice_index};
 ghost use Rattle.std.specs.Prelude.{slice_index_or, slice_set, []};
-ghost use Rattle.std.specs.Char.{to_ascii_uppercase};
 ghost use Rattle.dbf_file.specs.Rows.{row_at};
 ghost use Rattle.dbf_file.specs.Tables.{row_widths};
-ghost use Rattle.shape.specs.Keys.{IsKey, cased, key_of, key_length};
+ghost use Rattle.shape.specs.Keys.{IsKey, key_of, key_length};
 ghost use Rattle.row_keys.specs.Lists.{names_field as names_field_of};
 
 use arrayvec::ArrayVec;
 use dbf_file::Table;
-use shape::KeyParts;
+use shape::{KeyParts, put_text};
 
 /// Whether a key is made of a field, counted from 0, among others.
 pub(crate) fn names_field(key: &KeyParts, f: usize) -> bool
@@ -61,28 +60,4 @@ pub(crate) fn key_with(
         rest = others;
     }
     made
-}
-
-/// Puts a text at the end of a key, as it stands or in capitals.
-fn put_text(key: &mut ArrayVec<u8, 100>, text: &[u8], upper: bool)
-    requires { length key.old.items + length text.now ≤ 100 }
-    ensures { key.new.items ≡ key.old.items ++ cased upper text.now }
-{
-    if upper {
-        put_capitals(key, text);
-        return;
-    }
-    key.try_extend_from_slice(text).unwrap();
-}
-
-/// Puts a text at the end of a key, in capitals.
-fn put_capitals(key: &mut ArrayVec<u8, 100>, text: &[u8])
-    requires { length key.old.items + length text.now ≤ 100 }
-    ensures { key.new.items ≡ key.old.items ++ map to_ascii_uppercase text.now }
-{
-    let mut rest = text;
-    while let Some((letter, others)) = rest.split_first() {
-        key.push(letter.to_ascii_uppercase());
-        rest = others;
-    }
 }

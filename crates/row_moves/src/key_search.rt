@@ -14,8 +14,8 @@ use crate::{Landed, Spent};
 use key_lists::laws::{meets_each, stand_together};
 use key_lists::{Entry, KeyList};
 
-/// SEEK: the first shown row whose key matches the text, or the end of file. With EXACT on a key matches that is the
-/// text but for blanks at the end of either, with EXACT off one that begins with the text.
+/// SEEK: the first shown row whose key matches the text, or the end of file. With EXACT on, a key matches if it is the
+/// text but for blanks at the end of either. With EXACT off, a key matches if it begins with the text.
 pub fn seek<K: KeyList, F: Fn(u32) -> bool>(
     keys: &mut K,
     text: &[u8],

@@ -1,6 +1,6 @@
 //! Plans and notes read.
 
-ghost use Rattle.std.specs.Prelude.{◌≡◌, length, IfOk, Some};
+ghost use Rattle.std.specs.Prelude.{IfOk, Some};
 ghost use Rattle.std.specs.Int.{w32};
 ghost use Rattle.save_papers.specs.Papers.{PaperSays, IsPaper, IsPaperText, entry_view, entry_views, paper_view};
 ghost use Rattle.save_papers.specs.Reading.{PaperGives, after_head, noted_at, number_in_front, string_at, sum_at};

@@ -1,6 +1,6 @@
 //! Plans and notes written.
 
-ghost use Rattle.std.specs.Prelude.{◌≡◌, ◌<◌, ◌≤◌, ◌^◌, ◌++◌, length, OnOk, IfOk, IsErrOf};
+ghost use Rattle.std.specs.Prelude.{◌≡◌, ◌≤◌, ◌^◌, ◌++◌, length, OnOk, IfOk, IsErrOf};
 ghost use Rattle.save_papers.specs.Papers.{IsPaper, IsPaperText, FitsEntry, paper_entry_text, entry_view, paper_view};
 ghost use Rattle.save_papers.specs.Papers.{string};
 ghost use Rattle.save_papers.specs.Papers.{flagged_sum};

@@ -73,10 +73,14 @@ close_text = refl
 
 module _ (fields : List Field) (good : list_all (λ f. is_capital_name f.name.items) fields ≡ true) where
   spelled : (part : KeyPart) → no_zero (part_spelled fields part) ≡ true
-  spelled part = elim part.upper as (λ u. no_zero (cond u (codes "UPPER(" ++ (name_of (slice_get fields part.field) ++ codes ")")) (name_of (slice_get fields part.field))) ≡ true) [
-    | true ↦ no_zero-append (codes "UPPER(") (name_of (slice_get fields part.field) ++ codes ")") upper_text (no_zero-append (name_of (slice_get fields part.field)) (codes ")") (named fields part.field good) close_text)
-    | false ↦ named fields part.field good
-  ]
+  spelled part = elim part.upper as
+      (λ u. no_zero (cond u (codes "UPPER(" ++ (name_of (slice_get fields part.field) ++ codes ")"))
+      (name_of (slice_get fields part.field))) ≡ true) [
+        | true ↦ no_zero-append (codes "UPPER(") (name_of (slice_get fields part.field) ++ codes ")") upper_text
+            (no_zero-append (name_of (slice_get fields part.field)) (codes ")") (named fields part.field good)
+            close_text)
+        | false ↦ named fields part.field good
+      ]
 
   more : (parts : List KeyPart) → no_zero (more_spelled fields parts) ≡ true
   unfolding no_zero

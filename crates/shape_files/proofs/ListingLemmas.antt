@@ -1,5 +1,6 @@
 -- Lines that are judged one after the other.
-use Rattle.std.proofs.Common.{◌≡◌, ◌≤◌, ◌+◌, ℕ, List, [], ◌∷◌, ◌++◌, length, length-append, append_assoc, append-nil, refl, sym, ap, ◌∙◌, subst, arith}
+use Rattle.std.proofs.Common.{◌≡◌, ◌≤◌, ◌+◌, ℕ, List, [], ◌∷◌, ◌++◌, length, length-append, append_assoc, append-nil}
+use Rattle.std.proofs.Common.{refl, sym, ap, ◌∙◌, subst, arith}
 use Rattle.file_access.specs.Holding.{Holds, SameFiles}
 use Rattle.shape.specs.declared.whole.Shape.{Shape}
 use Rattle.shape_files.specs.declared.refusal.DeclFault.{DeclFault}
@@ -13,7 +14,8 @@ use Rattle.shape_files.specs.Shapes.{Declare, no_shape}
 use Rattle.shape_files.proofs.FileLemmas.{declare_more, declares_before, rose_later}
 
 -- of all lines so many are judged, and the rest are left
-pub record Judged (holds : Holds) (all rest : List (List ℕ)) (number : ℕ) (shape : Shape) (found : List DeclFault) : Type 0 where
+pub record Judged (holds : Holds) (all rest : List (List ℕ)) (number : ℕ) (shape : Shape)
+    (found : List DeclFault) : Type 0 where
   pub front : List (List ℕ)
   pub cut : all ≡ front ++ rest
   pub count : number ≡ length front
@@ -22,18 +24,23 @@ pub record Judged (holds : Holds) (all rest : List (List ℕ)) (number : ℕ) (s
 pub none_judged : (a : Holds) (all : List (List ℕ)) → Judged a all all 0 no_shape []
 none_judged a all = record { front = []; cut = refl; count = refl; judged = NoLines }
 
-pub one_judged : (a : Holds) (all rest behind : List (List ℕ)) (text : List ℕ) (n : ℕ) (s t : Shape) (found more : List DeclFault)
-    → rest ≡ text ∷ behind → Judged a all rest n s found → JudgedLine a (n + 1) text s t found more → Judged a all behind (n + 1) t more
+pub one_judged : (a : Holds) (all rest behind : List (List ℕ)) (text : List ℕ) (n : ℕ) (s t : Shape)
+    (found more : List DeclFault)
+    → rest ≡ text ∷ behind → Judged a all rest n s found → JudgedLine a (n + 1) text s t found more
+    → Judged a all behind (n + 1) t more
 one_judged a all rest behind text n s t found more e p one = record {
   front = p.front ++ text ∷ [];
   cut = p.cut ∙ ap (λ r. p.front ++ r) e ∙ sym (append_assoc p.front (text ∷ []) behind);
   count = omega (arith, p.count, length-append p.front (text ∷ []));
-  judged = Further p.front text s t found more p.judged (subst (λ k. JudgedLine a (k + 1) text s t found more) p.count one);
+  judged = Further p.front text s t found more p.judged
+      (subst (λ k. JudgedLine a (k + 1) text s t found more) p.count one);
 }
 
-pub all_judged : (a : Holds) (all rest : List (List ℕ)) (n : ℕ) (s : Shape) (found : List DeclFault) → rest ≡ [] → Judged a all rest n s found → JudgedLines a all s found
+pub all_judged : (a : Holds) (all rest : List (List ℕ)) (n : ℕ) (s : Shape) (found : List DeclFault) → rest ≡ []
+    → Judged a all rest n s found → JudgedLines a all s found
 all_judged a all rest n s found e p =
-    subst (λ (ls : List (List ℕ)). JudgedLines a ls s found) (sym (p.cut ∙ ap (λ r. p.front ++ r) e ∙ append-nil p.front)) p.judged
+    subst (λ (ls : List (List ℕ)). JudgedLines a ls s found)
+    (sym (p.cut ∙ ap (λ r. p.front ++ r) e ∙ append-nil p.front)) p.judged
 
 -- ---- of the same files
 
@@ -42,10 +49,12 @@ pub line_before : (a b : Holds) (n : ℕ) (text : List ℕ) (s t : Shape) (found
 line_before a b n text s t found more same (Good d e) = Good (declares_before a b (said_in_line text) s t same d) e
 line_before a b n text s t found more same (Faulty f told kept e) = Faulty f told kept e
 
-pub lines_before : (a b : Holds) (ls : List (List ℕ)) (s : Shape) (found : List DeclFault) → SameFiles a b → JudgedLines b ls s found → JudgedLines a ls s found
+pub lines_before : (a b : Holds) (ls : List (List ℕ)) (s : Shape) (found : List DeclFault) → SameFiles a b
+    → JudgedLines b ls s found → JudgedLines a ls s found
 lines_before a b ls s found same NoLines = NoLines
 lines_before a b ls s found same (Further front text before after earlier more all one) =
-    Further front text before after earlier more (lines_before a b front before earlier same all) (line_before a b (length front + 1) text before after earlier more same one)
+    Further front text before after earlier more (lines_before a b front before earlier same all)
+    (line_before a b (length front + 1) text before after earlier more same one)
 
 -- ---- no line has a fault
 
@@ -54,14 +63,19 @@ not_none [] x e = absurd (cc)
 not_none (y ∷ xs) x e = absurd (cc)
 
 line_more : (a : Holds) (front : List (List ℕ)) (text : List ℕ) (s t : Shape) (found more : List DeclFault) (n : ℕ)
-    → (found ≡ [] → Declare a front no_shape s) → JudgedLine a n text s t found more → more ≡ [] → Declare a (front ++ text ∷ []) no_shape t
-line_more a front text s t found more n before (Good d same) e = declare_more a front text no_shape s t (before (sym same ∙ e)) d
-line_more a front text s t found more n before (Faulty f told kept same) e = absurd (not_none found (Line n f) (sym same ∙ e))
+    → (found ≡ [] → Declare a front no_shape s) → JudgedLine a n text s t found more → more ≡ []
+    → Declare a (front ++ text ∷ []) no_shape t
+line_more a front text s t found more n before (Good d same) e =
+    declare_more a front text no_shape s t (before (sym same ∙ e)) d
+line_more a front text s t found more n before (Faulty f told kept same) e =
+    absurd (not_none found (Line n f) (sym same ∙ e))
 
-pub none_faulty : (a : Holds) (ls : List (List ℕ)) (s : Shape) (found : List DeclFault) → JudgedLines a ls s found → found ≡ [] → Declare a ls no_shape s
+pub none_faulty : (a : Holds) (ls : List (List ℕ)) (s : Shape) (found : List DeclFault) → JudgedLines a ls s found
+    → found ≡ [] → Declare a ls no_shape s
 none_faulty a ls s found NoLines e = refl
 none_faulty a ls s found (Further front text before after earlier more all one) e =
-    line_more a front text before after earlier more (length front + 1) (λ none. none_faulty a front before earlier all none) one e
+    line_more a front text before after earlier more (length front + 1)
+    (λ none. none_faulty a front before earlier all none) one e
 
 -- ---- what is refused
 
@@ -71,7 +85,8 @@ device_later Disk a b c l m t = rose_later a b c l m t
 device_later (TableDisk name) a b c l m t = rose_later a b c l m t
 device_later Memory a b c l m t = tt
 
-pub device_told : (r : ShapeRefusal) (holds : Holds) (name : List ℕ) (a b : ℕ) → IsOfDevice a b r → ShapeRefusalIs holds name a b r
+pub device_told : (r : ShapeRefusal) (holds : Holds) (name : List ℕ) (a b : ℕ) → IsOfDevice a b r
+    → ShapeRefusalIs holds name a b r
 device_told (Refused f) holds name a b t = absurd t
 device_told Disk holds name a b t = t
 device_told (TableDisk table) holds name a b t = t

@@ -1,5 +1,6 @@
 -- A shape stays legal where what may be declared next is added to it.
-use Rattle.std.proofs.Common.{◌≡◌, ◌<◌, ℕ, zero, suc, Bool, true, false, not, ◌&&◌, nat_le, List, [], ◌∷◌, ◌++◌, length, length-append, refl, sym, subst, append_assoc, append-nil, arith}
+use Rattle.std.proofs.Common.{◌≡◌, ◌<◌, ℕ, zero, suc, Bool, true, false, not, ◌&&◌, nat_le, List, [], ◌∷◌, ◌++◌, length}
+use Rattle.std.proofs.Common.{length-append, refl, sym, subst, append_assoc, append-nil, arith}
 use Rattle.std.specs.Prelude.{slice_get}
 use Rattle.std.specs.List.{list_any}
 use Rattle.std.proofs.lemmas.Bool.{le-leb}
@@ -22,38 +23,49 @@ joined a b e f = rw (e, f) refl
 
 -- ---- tables
 
-tables_more : (earlier ts : List TableShape) (t : TableShape) → tables_go_on earlier ts ≡ true → is_next_table (earlier ++ ts) t ≡ true → tables_go_on earlier (ts ++ t ∷ []) ≡ true
-tables_more earlier [] t g n = joined (is_next_table earlier t) true (subst (λ l. is_next_table l t ≡ true) (append-nil earlier) n) refl
+tables_more : (earlier ts : List TableShape) (t : TableShape) → tables_go_on earlier ts ≡ true
+    → is_next_table (earlier ++ ts) t ≡ true → tables_go_on earlier (ts ++ t ∷ []) ≡ true
+tables_more earlier [] t g n =
+    joined (is_next_table earlier t) true (subst (λ l. is_next_table l t ≡ true) (append-nil earlier) n) refl
 tables_more earlier (x ∷ ts) t g n =
     let p = both (is_next_table earlier x) (tables_go_on (earlier ++ x ∷ []) ts) g in
     joined (is_next_table earlier x) (tables_go_on (earlier ++ x ∷ []) (ts ++ t ∷ [])) p.0
-    (tables_more (earlier ++ x ∷ []) ts t p.1 (subst (λ l. is_next_table l t ≡ true) (sym (append_assoc earlier (x ∷ []) ts)) n))
+    (tables_more (earlier ++ x ∷ []) ts t p.1
+    (subst (λ l. is_next_table l t ≡ true) (sym (append_assoc earlier (x ∷ []) ts)) n))
 
 -- ---- indexes
 
-indexes_more : (tables : List TableShape) (earlier xs : List IndexShape) (x : IndexShape) → indexes_go_on tables earlier xs ≡ true → is_next_index tables (earlier ++ xs) x ≡ true → indexes_go_on tables earlier (xs ++ x ∷ []) ≡ true
-indexes_more tables earlier [] x g n = joined (is_next_index tables earlier x) true (subst (λ l. is_next_index tables l x ≡ true) (append-nil earlier) n) refl
+indexes_more : (tables : List TableShape) (earlier xs : List IndexShape) (x : IndexShape)
+    → indexes_go_on tables earlier xs ≡ true → is_next_index tables (earlier ++ xs) x ≡ true
+    → indexes_go_on tables earlier (xs ++ x ∷ []) ≡ true
+indexes_more tables earlier [] x g n = joined (is_next_index tables earlier x) true
+    (subst (λ l. is_next_index tables l x ≡ true) (append-nil earlier) n) refl
 indexes_more tables earlier (y ∷ xs) x g n =
     let p = both (is_next_index tables earlier y) (indexes_go_on tables (earlier ++ y ∷ []) xs) g in
     joined (is_next_index tables earlier y) (indexes_go_on tables (earlier ++ y ∷ []) (xs ++ x ∷ [])) p.0
-    (indexes_more tables (earlier ++ y ∷ []) xs x p.1 (subst (λ l. is_next_index tables l x ≡ true) (sym (append_assoc earlier (y ∷ []) xs)) n))
+    (indexes_more tables (earlier ++ y ∷ []) xs x p.1
+    (subst (λ l. is_next_index tables l x ≡ true) (sym (append_assoc earlier (y ∷ []) xs)) n))
 
 -- a table more leaves the others their numbers
-fits_stays : (tables : List TableShape) (t : TableShape) (n : ℕ) (key : List KeyPart) → fits_table (slice_get tables n) key ≡ true → fits_table (slice_get (tables ++ t ∷ []) n) key ≡ true
+fits_stays : (tables : List TableShape) (t : TableShape) (n : ℕ) (key : List KeyPart)
+    → fits_table (slice_get tables n) key ≡ true → fits_table (slice_get (tables ++ t ∷ []) n) key ≡ true
 fits_stays [] t n key e = absurd (cc)
 fits_stays (x ∷ tables) t zero key e = e
 fits_stays (x ∷ tables) t (suc n) key e = fits_stays tables t n key e
 
-next_stays : (tables : List TableShape) (t : TableShape) (earlier : List IndexShape) (x : IndexShape) → is_next_index tables earlier x ≡ true → is_next_index (tables ++ t ∷ []) earlier x ≡ true
+next_stays : (tables : List TableShape) (t : TableShape) (earlier : List IndexShape) (x : IndexShape)
+    → is_next_index tables earlier x ≡ true → is_next_index (tables ++ t ∷ []) earlier x ≡ true
 unfolding is_index is_next_index
 next_stays tables t earlier x e =
     let p = both (is_index tables x) (not (list_any (has_index_name x.name.items) earlier)) e in
     let q = both (is_file_name x.name.items) (has_declared_key tables x) p.0 in
     joined (is_index (tables ++ t ∷ []) x) (not (list_any (has_index_name x.name.items) earlier))
-    (joined (is_file_name x.name.items) (has_declared_key (tables ++ t ∷ []) x) q.0 (fits_stays tables t x.table x.key q.1))
+    (joined (is_file_name x.name.items) (has_declared_key (tables ++ t ∷ []) x) q.0
+    (fits_stays tables t x.table x.key q.1))
     p.1
 
-indexes_stay : (tables : List TableShape) (t : TableShape) (earlier xs : List IndexShape) → indexes_go_on tables earlier xs ≡ true → indexes_go_on (tables ++ t ∷ []) earlier xs ≡ true
+indexes_stay : (tables : List TableShape) (t : TableShape) (earlier xs : List IndexShape)
+    → indexes_go_on tables earlier xs ≡ true → indexes_go_on (tables ++ t ∷ []) earlier xs ≡ true
 indexes_stay tables t earlier [] e = refl
 indexes_stay tables t earlier (x ∷ xs) e =
     let p = both (is_next_index tables earlier x) (indexes_go_on tables (earlier ++ x ∷ []) xs) e in
@@ -90,10 +102,12 @@ whole_of s h =
     let d : Bool = indexes_go_on s.tables [] s.indexes in
     joined (a && b && c) d (joined (a && b) c (joined a b h.few_tables h.few_indexes) h.tables) h.indexes
 
-one_more : {X : Type 0} → (xs : List X) (x : X) (most : ℕ) → length xs < most → nat_le (length (xs ++ x ∷ [])) most ≡ true
+one_more : {X : Type 0} → (xs : List X) (x : X) (most : ℕ) → length xs < most
+    → nat_le (length (xs ++ x ∷ [])) most ≡ true
 one_more xs x most h = le-leb (length (xs ++ x ∷ [])) most (omega (arith, length-append xs (x ∷ []), h))
 
-pub table_added : (s : Shape) (t : TableShape) → length s.tables < 32 → is_next_table s.tables t ≡ true → is_shape s ≡ true → is_shape (with_declared_table s t) ≡ true
+pub table_added : (s : Shape) (t : TableShape) → length s.tables < 32 → is_next_table s.tables t ≡ true
+    → is_shape s ≡ true → is_shape (with_declared_table s t) ≡ true
 table_added s t room n e =
     let h = parts_of s e in
     whole_of (with_declared_table s t) (record {
@@ -103,7 +117,8 @@ table_added s t room n e =
       indexes = indexes_stay s.tables t [] s.indexes h.indexes;
     })
 
-pub index_added : (s : Shape) (x : IndexShape) → length s.indexes < 64 → is_next_index s.tables s.indexes x ≡ true → is_shape s ≡ true → is_shape (with_index s x) ≡ true
+pub index_added : (s : Shape) (x : IndexShape) → length s.indexes < 64 → is_next_index s.tables s.indexes x ≡ true
+    → is_shape s ≡ true → is_shape (with_index s x) ≡ true
 index_added s x room n e =
     let h = parts_of s e in
     whole_of (with_index s x) (record {

@@ -1,7 +1,7 @@
 //! Keys of declared indexes.
 
-ghost use Rattle.std.specs.Prelude.{◌≡◌, ◌<◌, ◌≤◌, ◌∷◌, ◌++◌, ℕ, List, length, map, slice_get, codes, IfErr, IfOk};
-ghost use Rattle.std.specs.Prelude.{IfSome, IsTrue, Some};
+ghost use Rattle.std.specs.Prelude.{◌≡◌, ◌<◌, ◌∷◌, ◌++◌, ℕ, List, length, map, slice_get, codes, IfErr, IfOk};
+ghost use Rattle.std.specs.Prelude.{IfSome, IsTrue};
 ghost use Rattle.std.specs.Char.{to_ascii_uppercase};
 ghost use Rattle.prg_expr.specs.declared.tree.BinaryOperator.TheVariants.{Plus};
 ghost use Rattle.prg_expr.specs.Word.{Name as NameWord, Sign, Open as OpenWord, words as words_of};

@@ -1,12 +1,12 @@
 // Stores before and after.
 #![tactic(auto)]
 
-ghost use Rattle.std.specs.Prelude.{◌≡◌, ◌<◌, ◌≤◌, ◌&&◌, not, true, length, map, slice_index_or, [], IfOk, IfSome};
+ghost use Rattle.std.specs.Prelude.{◌≡◌, ◌<◌, ◌≤◌, ◌&&◌, not, true, length, map, slice_index_or, [], IfOk};
 ghost use Rattle.row_changes.specs.Changes.{AreCounted};
 ghost use Rattle.shape.specs.Whole.{is_shape};
-ghost use Rattle.table_changes.specs.Rows.{tables_of, fresh_of, is_fresh_in, texts_of};
+ghost use Rattle.table_changes.specs.Rows.{tables_of, fresh_of, is_fresh_in};
 ghost use Rattle.table_changes.specs.Stores.{AreKept, AreChanges, EachCounted, EachMade, bytes_of_rows};
-ghost use Rattle.work_area.specs.Areas.{StoreState, table_at};
+ghost use Rattle.work_area.specs.Areas.{StoreState};
 
 use crate::rows::texts_of;
 use key_lists::KeyList;

@@ -1,6 +1,6 @@
 //! Cells of rows.
 
-ghost use Rattle.std.specs.Prelude.{◌≡◌, ◌≤◌, ◌<◌, ◌++◌, ◌∷◌, [], ◌==◌, length, map, OnOk, IfOk, IsTrue};
+ghost use Rattle.std.specs.Prelude.{◌≡◌, ◌≤◌, ◌<◌, ◌++◌, ◌∷◌, [], ◌==◌, length, OnOk, IfOk, IsTrue};
 ghost use Rattle.std.specs.List.{list_any, prefix_len, suffix_len};
 ghost use Rattle.csv.specs.Records.{fields_of, partial_of};
 ghost use Rattle.dbf_file.specs.Rows.{row_at};

@@ -1,6 +1,6 @@
 //! A table's file listed.
 
-ghost use Rattle.std.specs.Prelude.{Some, IfOk, IfErr};
+ghost use Rattle.std.specs.Prelude.{IfOk, IfErr};
 ghost use Rattle.file_access.specs.Holding.{SameFiles};
 ghost use Rattle.file_commands.specs.Refusals.{RefusalIs, TableFault};
 ghost use Rattle.table_csv.specs.Reports.{CsvListed};

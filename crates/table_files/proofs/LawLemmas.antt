@@ -27,10 +27,13 @@ record IsFound (holds : Holds) (limit : ℕ) (s : TableShape) (l : OpenState) : 
   pub structure : l.table.structure ≡ table.structure
   pub rows : l.table.rows ≡ table.rows
 
-found_at : (holds : Holds) (shape : Shape) (limit : ℕ) (loaded : StoreState) (t : ℕ) (s : TableShape) (l : OpenState) → Loaded holds shape limit loaded → slice_get shape.tables t ≡ Some s → table_at loaded t ≡ Some l → IsFound holds limit s l
+found_at : (holds : Holds) (shape : Shape) (limit : ℕ) (loaded : StoreState) (t : ℕ) (s : TableShape) (l : OpenState)
+    → Loaded holds shape limit loaded → slice_get shape.tables t ≡ Some s → table_at loaded t ≡ Some l
+    → IsFound holds limit s l
 found_at holds shape limit loaded t s l h here there =
     let d : TableState = record { structure = l.table.structure; rows = l.table.rows; spare = 0 } in
-    let count : length h.tables ≡ length shape.tables = zip_count (IsTableOf holds limit) shape.tables h.tables h.read in
+    let count : length h.tables ≡ length shape.tables =
+    zip_count (IsTableOf holds limit) shape.tables h.tables h.read in
     let low : t < length shape.tables = slice_get_within shape.tables t s here in
     let new = h.made.tables.each t d l s (omega (arith, count, low)) here in
     let same : get_or loaded.tables t l ≡ l = get_or_from_slice_get loaded.tables t l l there in
@@ -42,32 +45,44 @@ found_at holds shape limit loaded t s l h here there =
     }
 
 -- the marks of its indexes
-pub marks_at : (holds : Holds) (shape : Shape) (limit : ℕ) (loaded : StoreState) (t : ℕ) (s : TableShape) (l : OpenState) (h : Loaded holds shape limit loaded) → slice_get shape.tables t ≡ Some s → table_at loaded t ≡ Some l
+pub marks_at : (holds : Holds) (shape : Shape) (limit : ℕ) (loaded : StoreState) (t : ℕ) (s : TableShape)
+    (l : OpenState) (h : Loaded holds shape limit loaded) → slice_get shape.tables t ≡ Some s
+    → table_at loaded t ≡ Some l
     → AreMarks (lists_just (λ k. k.pairs) h.lists) s.fields l.table.rows t 0 shape.indexes l.table.marks
 marks_at holds shape limit loaded t s l h here there =
     let d : TableState = record { structure = l.table.structure; rows = l.table.rows; spare = 0 } in
-    let count : length h.tables ≡ length shape.tables = zip_count (IsTableOf holds limit) shape.tables h.tables h.read in
+    let count : length h.tables ≡ length shape.tables =
+    zip_count (IsTableOf holds limit) shape.tables h.tables h.read in
     let low : t < length shape.tables = slice_get_within shape.tables t s here in
     let new = h.made.tables.each t d l s (omega (arith, count, low)) here in
     let same : get_or loaded.tables t l ≡ l = get_or_from_slice_get loaded.tables t l l there in
     let rows : (get_or h.tables t d).rows ≡ l.table.rows = sym new.rows ∙ ap (λ (o : OpenState). o.table.rows) same in
-    subst (λ (rs : List Row). AreMarks (lists_just (λ k. k.pairs) h.lists) s.fields rs t 0 shape.indexes l.table.marks) rows
-    (subst (λ (o : OpenState). AreMarks (lists_just (λ k. k.pairs) h.lists) s.fields (get_or h.tables t d).rows t 0 shape.indexes o.table.marks) same new.marks)
+    subst (λ (rs : List Row). AreMarks (lists_just (λ k. k.pairs) h.lists) s.fields rs t 0 shape.indexes l.table.marks)
+    rows
+    (subst (λ (o : OpenState). AreMarks (lists_just (λ k. k.pairs) h.lists) s.fields (get_or h.tables t d).rows t 0
+    shape.indexes o.table.marks) same new.marks)
 
-pub finds_saved : (before after : Holds) (shape : Shape) (store loaded : StoreState) (stamp : Stamp) (k limit : ℕ) → HoldsOneThing after → is_shape shape ≡ true
-    → AreSaved shape store stamp k before after → Loaded after shape limit loaded → FindsSaved before shape store k limit loaded
+pub finds_saved : (before after : Holds) (shape : Shape) (store loaded : StoreState) (stamp : Stamp) (k limit : ℕ)
+    → HoldsOneThing after → is_shape shape ≡ true
+    → AreSaved shape store stamp k before after → Loaded after shape limit loaded
+    → FindsSaved before shape store k limit loaded
 finds_saved before after shape store loaded stamp k limit one legal h g = record {
   saved = λ t s o l low here stands there.
       let f = found_at after shape limit loaded t s l g here there in
       let within : t < length shape.tables = slice_get_within shape.tables t s here in
       let w = h.written t low (table_file s) (table_place shape t s here) (table_written shape store t within) in
-      let same : w.0 ≡ f.of.bytes = some_same w.0 f.of.bytes (one (table_file s) (Some w.0) (Some f.of.bytes) w.2 f.of.held) in
-      let text : DbfText o.table.structure o.table.rows stamp f.of.bytes = subst (λ (b : List ℕ). DbfText o.table.structure o.table.rows stamp b) same (w.1.reads o within stands) in
-      let only = one_table f.table.structure o.table.structure f.table.rows o.table.rows f.of.inside.stamp stamp f.of.bytes f.of.inside.text text in
+      let same : w.0 ≡ f.of.bytes =
+      some_same w.0 f.of.bytes (one (table_file s) (Some w.0) (Some f.of.bytes) w.2 f.of.held) in
+      let text : DbfText o.table.structure o.table.rows stamp f.of.bytes =
+      subst (λ (b : List ℕ). DbfText o.table.structure o.table.rows stamp b) same (w.1.reads o within stands) in
+      let only = one_table f.table.structure o.table.structure f.table.rows o.table.rows f.of.inside.stamp stamp
+      f.of.bytes f.of.inside.text text in
       (f.structure ∙ only.0, f.rows ∙ only.1);
   kept = λ t s l low here there.
       let f = found_at after shape limit loaded t s l g here there in
-      let kept = h.others (table_file s) (λ j lt at. absurd (files_differ shape legal j t (table_file s) (omega (arith, lt)) at (table_place shape t s here))) (Some f.of.bytes) in (
+      let kept = h.others (table_file s)
+      (λ j lt at. absurd (files_differ shape legal j t (table_file s) (omega (arith, lt)) at
+      (table_place shape t s here))) (Some f.of.bytes) in (
         f.table,
         record { bytes = f.of.bytes; held = kept.1 f.of.held; short = f.of.short; inside = f.of.inside },
         f.structure,

@@ -22,9 +22,12 @@ same_structures one other e f =
 same_stamps : (one other : Stamp) → one.year ≡ other.year → one.month ≡ other.month → one.day ≡ other.day → one ≡ other
 same_stamps one other e f g =
     let made : ℕ → ℕ → ℕ → Stamp = λ year month day. record { year = year; month = month; day = day } in
-    ap (λ (year : ℕ). made year one.month one.day) e ∙ ap (λ (month : ℕ). made other.year month one.day) f ∙ ap (made other.year other.month) g
+    ap (λ (year : ℕ). made year one.month one.day) e ∙ ap (λ (month : ℕ). made other.year month one.day) f
+    ∙ ap (made other.year other.month) g
 
-pub one_table : (one other : StructureState) (rows others : List Row) (stamp later : Stamp) (bytes : List ℕ) → DbfText one rows stamp bytes → DbfText other others later bytes → (one ≡ other) × (rows ≡ others) × (stamp ≡ later)
+pub one_table : (one other : StructureState) (rows others : List Row) (stamp later : Stamp) (bytes : List ℕ)
+    → DbfText one rows stamp bytes → DbfText other others later bytes
+    → (one ≡ other) × (rows ≡ others) × (stamp ≡ later)
 one_table one other rows others stamp later bytes a b =
     let p = parts_of one rows stamp bytes a in
     let q = parts_of other others later bytes b in
@@ -33,6 +36,7 @@ one_table one other rows others stamp later bytes a b =
     let count : length rows ≡ length others = sym p.count ∙ q.count in
     let behind : List ℕ = drop (told_header bytes) bytes in (
       same_structures one other fields head,
-      sym p.same_rows ∙ ap (λ (fs : List Field). rows_in (widths_of fs) (length rows) behind) fields ∙ ap (λ (n : ℕ). rows_in (widths_of other.fields) n behind) count ∙ q.same_rows,
+      sym p.same_rows ∙ ap (λ (fs : List Field). rows_in (widths_of fs) (length rows) behind) fields
+          ∙ ap (λ (n : ℕ). rows_in (widths_of other.fields) n behind) count ∙ q.same_rows,
       same_stamps stamp later (sym a.year ∙ b.year) (sym a.month ∙ b.month) (sym a.day ∙ b.day),
     )

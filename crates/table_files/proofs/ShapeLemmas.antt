@@ -1,5 +1,7 @@
 -- The files of a shape that may be declared: names of ASCII bytes, and no two alike.
-use Rattle.std.proofs.Common.{◌≡◌, ◌≢◌, ◌≤◌, ◌<◌, ◌+◌, ℕ, zero, suc, Bool, true, false, not, ◌&&◌, ◌||◌, ◌==◌, ◌⊎◌, inl, inr, lit<, nat_le, List, [], ◌∷◌, ◌++◌, Some, length, take, map, reverse, get_or, refl, sym, ap, ◌∙◌, subst, arith, append_assoc, append-nil}
+use Rattle.std.proofs.Common.{◌≡◌, ◌≢◌, ◌≤◌, ◌<◌, ◌+◌, ℕ, zero, suc, Bool, true, false, not, ◌&&◌, ◌||◌, ◌==◌, ◌⊎◌, inl}
+use Rattle.std.proofs.Common.{inr, lit<, nat_le, List, [], ◌∷◌, ◌++◌, Some, length, take, map, reverse, get_or, refl}
+use Rattle.std.proofs.Common.{sym, ap, ◌∙◌, subst, arith, append_assoc, append-nil}
 use Rattle.std.specs.Prelude.{slice_get, codes, IsUtf8}
 use Rattle.std.specs.Char.{to_ascii_lowercase, is_ascii_uppercase, is_ascii_digit}
 use Rattle.std.specs.Cmp.Derive.{both_true}
@@ -46,7 +48,8 @@ capital_below c e = elim (either (is_ascii_uppercase c || is_ascii_digit c) (c =
 capitals_below : (name : List ℕ) → list_all is_capital_byte name ≡ true → IsAscii name
 capitals_below [] e i = lit< tt
 capitals_below (c ∷ name) e zero = capital_below c (both (is_capital_byte c) (list_all is_capital_byte name) e).0
-capitals_below (c ∷ name) e (suc i) = capitals_below name (both (is_capital_byte c) (list_all is_capital_byte name) e).1 i
+capitals_below (c ∷ name) e (suc i) =
+    capitals_below name (both (is_capital_byte c) (list_all is_capital_byte name) e).1 i
 
 -- a file's name is text of at most eight bytes
 pub name_is_text : (name : List ℕ) → is_file_name name ≡ true → IsUtf8 name × (length name ≤ 8)
@@ -59,49 +62,65 @@ name_is_text name e =
 
 -- ---- declared tables
 
-tables_next : (earlier ts : List TableShape) → tables_go_on earlier ts ≡ true → (t : ℕ) (s : TableShape) → slice_get ts t ≡ Some s → is_next_table (earlier ++ take t ts) s ≡ true
+tables_next : (earlier ts : List TableShape) → tables_go_on earlier ts ≡ true → (t : ℕ) (s : TableShape)
+    → slice_get ts t ≡ Some s → is_next_table (earlier ++ take t ts) s ≡ true
 tables_next earlier [] h t s e = absurd (cc)
 tables_next earlier (r ∷ ts) h zero s e =
     subst (λ l. is_next_table l s ≡ true) (sym (append-nil earlier))
-    (subst (λ t. is_next_table earlier t ≡ true) (some_same r s e) (both (is_next_table earlier r) (tables_go_on (earlier ++ r ∷ []) ts) h).0)
+    (subst (λ t. is_next_table earlier t ≡ true) (some_same r s e)
+    (both (is_next_table earlier r) (tables_go_on (earlier ++ r ∷ []) ts) h).0)
 tables_next earlier (r ∷ ts) h (suc t) s e =
     subst (λ l. is_next_table l s ≡ true) (append_assoc earlier (r ∷ []) (take t ts))
-    (tables_next (earlier ++ r ∷ []) ts (both (is_next_table earlier r) (tables_go_on (earlier ++ r ∷ []) ts) h).1 t s e)
+    (tables_next (earlier ++ r ∷ []) ts (both (is_next_table earlier r) (tables_go_on (earlier ++ r ∷ []) ts) h).1 t s
+    e)
 
 shape_tables : (shape : Shape) → is_shape shape ≡ true → tables_go_on [] shape.tables ≡ true
 unfolding is_shape
-shape_tables shape e = (both _ (tables_go_on [] shape.tables) (both _ (indexes_go_on shape.tables [] shape.indexes) e).0).1
+shape_tables shape e =
+    (both _ (tables_go_on [] shape.tables) (both _ (indexes_go_on shape.tables [] shape.indexes) e).0).1
 
-table_next : (shape : Shape) → is_shape shape ≡ true → (t : ℕ) (s : TableShape) → slice_get shape.tables t ≡ Some s → is_next_table (take t shape.tables) s ≡ true
+table_next : (shape : Shape) → is_shape shape ≡ true → (t : ℕ) (s : TableShape) → slice_get shape.tables t ≡ Some s
+    → is_next_table (take t shape.tables) s ≡ true
 table_next shape e = tables_next [] shape.tables (shape_tables shape e)
 
-next_named : (earlier : List TableShape) (s : TableShape) → is_next_table earlier s ≡ true → is_file_name s.name.items ≡ true
+next_named : (earlier : List TableShape) (s : TableShape) → is_next_table earlier s ≡ true
+    → is_file_name s.name.items ≡ true
 unfolding is_next_table is_table
-next_named earlier s e = (both (is_file_name s.name.items) (are_fields s.fields) (both _ (list_all (λ f. is_capital_name f.name.items) s.fields) (both (is_table s) _ e).0).0).0
+next_named earlier s e = (both (is_file_name s.name.items) (are_fields s.fields)
+    (both _ (list_all (λ f. is_capital_name f.name.items) s.fields) (both (is_table s) _ e).0).0).0
 
-pub table_named : (shape : Shape) → is_shape shape ≡ true → (t : ℕ) (s : TableShape) → slice_get shape.tables t ≡ Some s → is_file_name s.name.items ≡ true
+pub table_named : (shape : Shape) → is_shape shape ≡ true → (t : ℕ) (s : TableShape) → slice_get shape.tables t ≡ Some s
+    → is_file_name s.name.items ≡ true
 table_named shape e t s here = next_named (take t shape.tables) s (table_next shape e t s here)
 
 -- ---- declared indexes
 
-indexes_next : (tables : List TableShape) (earlier xs : List IndexShape) → indexes_go_on tables earlier xs ≡ true → (n : ℕ) (x : IndexShape) → slice_get xs n ≡ Some x → is_next_index tables (earlier ++ take n xs) x ≡ true
+indexes_next : (tables : List TableShape) (earlier xs : List IndexShape) → indexes_go_on tables earlier xs ≡ true
+    → (n : ℕ) (x : IndexShape) → slice_get xs n ≡ Some x → is_next_index tables (earlier ++ take n xs) x ≡ true
 indexes_next tables earlier [] h n x e = absurd (cc)
 indexes_next tables earlier (y ∷ xs) h zero x e =
     subst (λ l. is_next_index tables l x ≡ true) (sym (append-nil earlier))
-    (subst (λ z. is_next_index tables earlier z ≡ true) (some_same y x e) (both (is_next_index tables earlier y) (indexes_go_on tables (earlier ++ y ∷ []) xs) h).0)
+    (subst (λ z. is_next_index tables earlier z ≡ true) (some_same y x e)
+    (both (is_next_index tables earlier y) (indexes_go_on tables (earlier ++ y ∷ []) xs) h).0)
 indexes_next tables earlier (y ∷ xs) h (suc n) x e =
     subst (λ l. is_next_index tables l x ≡ true) (append_assoc earlier (y ∷ []) (take n xs))
-    (indexes_next tables (earlier ++ y ∷ []) xs (both (is_next_index tables earlier y) (indexes_go_on tables (earlier ++ y ∷ []) xs) h).1 n x e)
+    (indexes_next tables (earlier ++ y ∷ []) xs
+    (both (is_next_index tables earlier y) (indexes_go_on tables (earlier ++ y ∷ []) xs) h).1 n x e)
 
-index_next : (shape : Shape) → is_shape shape ≡ true → (n : ℕ) (x : IndexShape) → slice_get shape.indexes n ≡ Some x → is_next_index shape.tables (take n shape.indexes) x ≡ true
+index_next : (shape : Shape) → is_shape shape ≡ true → (n : ℕ) (x : IndexShape) → slice_get shape.indexes n ≡ Some x
+    → is_next_index shape.tables (take n shape.indexes) x ≡ true
 unfolding is_shape
-index_next shape e = indexes_next shape.tables [] shape.indexes (both _ (indexes_go_on shape.tables [] shape.indexes) e).1
+index_next shape e = indexes_next shape.tables [] shape.indexes
+    (both _ (indexes_go_on shape.tables [] shape.indexes) e).1
 
-next_index_named : (tables : List TableShape) (earlier : List IndexShape) (x : IndexShape) → is_next_index tables earlier x ≡ true → is_file_name x.name.items ≡ true
+next_index_named : (tables : List TableShape) (earlier : List IndexShape) (x : IndexShape)
+    → is_next_index tables earlier x ≡ true → is_file_name x.name.items ≡ true
 unfolding is_next_index is_index
-next_index_named tables earlier x e = (both (is_file_name x.name.items) (has_declared_key tables x) (both (is_index tables x) _ e).0).0
+next_index_named tables earlier x e =
+    (both (is_file_name x.name.items) (has_declared_key tables x) (both (is_index tables x) _ e).0).0
 
-pub index_named : (shape : Shape) → is_shape shape ≡ true → (n : ℕ) (x : IndexShape) → slice_get shape.indexes n ≡ Some x → is_file_name x.name.items ≡ true
+pub index_named : (shape : Shape) → is_shape shape ≡ true → (n : ℕ) (x : IndexShape)
+    → slice_get shape.indexes n ≡ Some x → is_file_name x.name.items ≡ true
 index_named shape e n x here = next_index_named shape.tables (take n shape.indexes) x (index_next shape e n x here)
 
 -- ---- no two files are one
@@ -117,23 +136,28 @@ neither : (a b : Bool) → a || b ≡ false → (a ≡ false) × (b ≡ false)
 neither true b e = absurd (false≢true (sym e))
 neither false b e = (refl, e)
 
-not_any : {A : Type 0} (p : A → Bool) (Q : A → Type 0) (xs : List A) → ((x : A) → p x ≡ false → Q x) → list_any p xs ≡ false → AllByRecursion Q xs
+not_any : {A : Type 0} (p : A → Bool) (Q : A → Type 0) (xs : List A) → ((x : A) → p x ≡ false → Q x)
+    → list_any p xs ≡ false → AllByRecursion Q xs
 not_any p Q [] told e = tt
 not_any p Q (x ∷ xs) told e = let n = neither (p x) (list_any p xs) e in (told x n.0, not_any p Q xs told n.1)
 
 -- no earlier table has the name of a table
-other_tables : (shape : Shape) → is_shape shape ≡ true → (t : ℕ) (s : TableShape) → slice_get shape.tables t ≡ Some s → AllByRecursion (λ r. table_file r ≢ table_file s) (take t shape.tables)
+other_tables : (shape : Shape) → is_shape shape ≡ true → (t : ℕ) (s : TableShape) → slice_get shape.tables t ≡ Some s
+    → AllByRecursion (λ r. table_file r ≢ table_file s) (take t shape.tables)
 unfolding is_next_table
 other_tables shape e t s here =
     not_any (has_table_name s.name.items) (λ r. table_file r ≢ table_file s) (take t shape.tables)
-    (λ r other same. false≢true (sym other ∙ subst (λ name. str_eq_ignore_ascii_case r.name.items name ≡ true) (append_cancel_right r.name.items s.name.items (codes ".DBF") same) (same_text r.name.items)))
+    (λ r other same. false≢true (sym other ∙ subst (λ name. str_eq_ignore_ascii_case r.name.items name ≡ true)
+    (append_cancel_right r.name.items s.name.items (codes ".DBF") same) (same_text r.name.items)))
     (not-true _ (both (is_table s) _ (table_next shape e t s here)).1)
 
-other_indexes : (shape : Shape) → is_shape shape ≡ true → (n : ℕ) (x : IndexShape) → slice_get shape.indexes n ≡ Some x → AllByRecursion (λ y. index_file y ≢ index_file x) (take n shape.indexes)
+other_indexes : (shape : Shape) → is_shape shape ≡ true → (n : ℕ) (x : IndexShape) → slice_get shape.indexes n ≡ Some x
+    → AllByRecursion (λ y. index_file y ≢ index_file x) (take n shape.indexes)
 unfolding is_next_index
 other_indexes shape e n x here =
     not_any (has_index_name x.name.items) (λ y. index_file y ≢ index_file x) (take n shape.indexes)
-    (λ y other same. false≢true (sym other ∙ subst (λ name. str_eq_ignore_ascii_case y.name.items name ≡ true) (append_cancel_right y.name.items x.name.items (codes ".NDX") same) (same_text y.name.items)))
+    (λ y other same. false≢true (sym other ∙ subst (λ name. str_eq_ignore_ascii_case y.name.items name ≡ true)
+    (append_cancel_right y.name.items x.name.items (codes ".NDX") same) (same_text y.name.items)))
     (not-true _ (both (is_index shape.tables x) _ (index_next shape e n x here)).1)
 
 other_numbers : (a b : ℕ) → a ≡ 70 → b ≡ 88 → a ≡ b → ⊥
@@ -142,11 +166,13 @@ other_numbers a b e f g = omega arith
 -- a table's file is no index's
 other_kinds : (s : TableShape) (x : IndexShape) → table_file s ≢ index_file x
 other_kinds s x e =
-    let turned : reverse (codes ".DBF") ++ reverse s.name.items ≡ reverse (codes ".NDX") ++ reverse x.name.items = sym (reverse-append s.name.items (codes ".DBF")) ∙ ap reverse e ∙ reverse-append x.name.items (codes ".NDX") in
+    let turned : reverse (codes ".DBF") ++ reverse s.name.items ≡ reverse (codes ".NDX") ++ reverse x.name.items =
+    sym (reverse-append s.name.items (codes ".DBF")) ∙ ap reverse e ∙ reverse-append x.name.items (codes ".NDX") in
     other_numbers 70 88 refl refl (ap (λ (text : List ℕ). get_or text 0 0) turned)
 
 -- a fact of the first so many
-at_taken : {A : Type 0} (P : A → Type 0) (xs : List A) (j k : ℕ) (x : A) → j < k → slice_get xs j ≡ Some x → AllByRecursion P (take k xs) → P x
+at_taken : {A : Type 0} (P : A → Type 0) (xs : List A) (j k : ℕ) (x : A) → j < k → slice_get xs j ≡ Some x
+    → AllByRecursion P (take k xs) → P x
 at_taken P xs j zero x lt e h = absurd (omega (arith, lt))
 at_taken P [] j (suc k) x lt e h = absurd (cc)
 at_taken P (y ∷ xs) zero (suc k) x lt e h = subst P (some_same y x e) h.0
@@ -165,12 +191,17 @@ record IsIndexAt (count : ℕ) (indexes : List IndexShape) (k : ℕ) (file : Lis
   pub at : slice_get indexes n ≡ Some x
   pub named : index_file x ≡ file
 
-index_at : (xs : List IndexShape) (k : ℕ) (file : List ℕ) → slice_get (map index_file xs) k ≡ Some file → IsIndexAt 0 xs k file
+index_at : (xs : List IndexShape) (k : ℕ) (file : List ℕ) → slice_get (map index_file xs) k ≡ Some file
+    → IsIndexAt 0 xs k file
 index_at [] k file e = absurd (cc)
-index_at (x ∷ xs) zero file e = record { n = 0; x = x; place = refl; at = refl; named = some_same (index_file x) file e }
-index_at (x ∷ xs) (suc k) file e = let i = index_at xs k file e in record { n = suc i.n; x = i.x; place = omega (arith, i.place); at = i.at; named = i.named }
+index_at (x ∷ xs) zero file e =
+    record { n = 0; x = x; place = refl; at = refl; named = some_same (index_file x) file e }
+index_at (x ∷ xs) (suc k) file e = let i = index_at xs k file e in
+    record { n = suc i.n; x = i.x; place = omega (arith, i.place); at = i.at; named = i.named }
 
-file_at : (ss : List TableShape) (xs : List IndexShape) (k : ℕ) (file : List ℕ) → slice_get (map table_file ss ++ map index_file xs) k ≡ Some file → IsTableAt ss k file ⊎ IsIndexAt (length ss) xs k file
+file_at : (ss : List TableShape) (xs : List IndexShape) (k : ℕ) (file : List ℕ)
+    → slice_get (map table_file ss ++ map index_file xs) k ≡ Some file
+    → IsTableAt ss k file ⊎ IsIndexAt (length ss) xs k file
 file_at [] xs k file e = inr (index_at xs k file e)
 file_at (s ∷ ss) xs zero file e = inl (record { s = s; at = refl; named = some_same (table_file s) file e })
 file_at (s ∷ ss) xs (suc k) file e = elim (file_at ss xs k file e) [
@@ -178,15 +209,20 @@ file_at (s ∷ ss) xs (suc k) file e = elim (file_at ss xs k file e) [
   | inr i ↦ inr (record { n = i.n; x = i.x; place = omega (arith, i.place); at = i.at; named = i.named })
 ]
 
-pub files_differ : (shape : Shape) → is_shape shape ≡ true → (j k : ℕ) (file : List ℕ) → j < k → slice_get (files_of shape) j ≡ Some file → slice_get (files_of shape) k ≡ Some file → ⊥
+pub files_differ : (shape : Shape) → is_shape shape ≡ true → (j k : ℕ) (file : List ℕ) → j < k
+    → slice_get (files_of shape) j ≡ Some file → slice_get (files_of shape) k ≡ Some file → ⊥
 files_differ shape legal j k file lt e f = elim (file_at shape.tables shape.indexes j file e) [
   | inl one ↦ (elim (file_at shape.tables shape.indexes k file f) [
-    | inl two ↦ at_taken (λ r. table_file r ≢ table_file two.s) shape.tables j k one.s lt one.at (other_tables shape legal k two.s two.at) (one.named ∙ sym two.named)
+    | inl two ↦ at_taken (λ r. table_file r ≢ table_file two.s) shape.tables j k one.s lt one.at
+        (other_tables shape legal k two.s two.at) (one.named ∙ sym two.named)
     | inr two ↦ other_kinds one.s two.x (one.named ∙ sym two.named)
   ])
   | inr one ↦ (elim (file_at shape.tables shape.indexes k file f) [
-    | inl two ↦ (let low : k < length shape.tables = slice_get_within shape.tables k two.s two.at in let place : j ≡ length shape.tables + one.n = one.place in absurd (omega arith))
-    | inr two ↦ at_taken (λ y. index_file y ≢ index_file two.x) shape.indexes one.n two.n one.x (let p = one.place in let q = two.place in omega (arith, p, q)) one.at (other_indexes shape legal two.n two.x two.at) (one.named ∙ sym two.named)
+    | inl two ↦ (let low : k < length shape.tables = slice_get_within shape.tables k two.s two.at in let place : j
+        ≡ length shape.tables + one.n = one.place in absurd (omega arith))
+    | inr two ↦ at_taken (λ y. index_file y ≢ index_file two.x) shape.indexes one.n two.n one.x
+        (let p = one.place in let q = two.place in omega (arith, p, q)) one.at
+        (other_indexes shape legal two.n two.x two.at) (one.named ∙ sym two.named)
   ])
 ]
 

@@ -1,6 +1,6 @@
 //! Lists of indexes read from their files.
 
-ghost use Rattle.std.specs.Prelude.{◌≡◌, ◌≤◌, ◌↔◌, true, List, Contains, length, IfOk, IfErr, IfSome, IsSomeAnd};
+ghost use Rattle.std.specs.Prelude.{◌≡◌, ◌≤◌, ◌↔◌, true, List, length, IfOk, IfErr, IfSome, IsSomeAnd};
 ghost use Rattle.std.specs.Prelude.{IsTrue};
 ghost use Rattle.file_access.specs.Holding.{Rose, SameFiles};
 ghost use Rattle.ndx_tree.specs.IndexFile.{IsIndexFile};
@@ -9,7 +9,6 @@ ghost use Rattle.shape.specs.Names.{is_file_name};
 ghost use Rattle.shape.specs.Whole.{is_shape};
 ghost use Rattle.work_area.specs.Making.{key_form};
 ghost use Rattle.table_files.specs.Loading.{IsListOf, AreListsOf};
-ghost use Rattle.table_files.specs.Names.{index_file};
 ghost use Rattle.table_files.specs.Refusals.{ListRefused, ListsRefused};
 
 use crate::FILE_LIMIT;

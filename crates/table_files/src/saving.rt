@@ -22,8 +22,8 @@ struct NewFile {
     bytes: Vec<u8>,
 }
 
-/// What is written of declared file k, counted from 0: first come the tables', then the indexes'. A stale index has no
-/// list, and nothing is written of it.
+/// The name and the bytes of the declared file of number k. The numbers begin at 0 and count the files of the tables
+/// first, and those of the indexes behind them. A stale index has no list, so its file isn't written and there is none.
 fn new_file(
     alloc: Global,
     shape: &Shape,

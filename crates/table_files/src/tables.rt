@@ -1,13 +1,11 @@
 //! Tables read from their files.
 
-ghost use Rattle.std.specs.Prelude.{◌≡◌, ◌<◌, ◌≤◌, true, Some, Contains, length, take, IfOk, IfErr};
+ghost use Rattle.std.specs.Prelude.{◌≡◌, ◌≤◌, true, Some, length, IfOk, IfErr};
 ghost use Rattle.std.specs.List.{AllZip};
-ghost use Rattle.dbf_file.specs.declared.stamp.Stamp.{Stamp as TheStamp};
 ghost use Rattle.file_access.specs.Holding.{Rose, SameFiles};
 ghost use Rattle.shape.specs.Names.{is_file_name};
 ghost use Rattle.shape.specs.Whole.{is_shape};
 ghost use Rattle.table_files.specs.Loading.{IsTableOf, IsTableIn};
-ghost use Rattle.table_files.specs.Names.{table_file};
 ghost use Rattle.table_files.specs.Refusals.{BytesRefused, RefusedIn, TableRefused, LoadRefused};
 
 use crate::FILE_LIMIT;

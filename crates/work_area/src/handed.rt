@@ -1,6 +1,6 @@
 //! Whether tables and lists that are handed in are those that a shape declares.
 
-ghost use Rattle.std.specs.Prelude.{◌≡◌, ◌<◌, ◌≤◌, ◌↔◌, IsTrue, length, slice_get};
+ghost use Rattle.std.specs.Prelude.{◌≡◌, ◌<◌, ◌↔◌, IsTrue, length};
 ghost use Rattle.work_area.specs.Making.{IsAlike, HaveAlikeFields, IsDeclaredTable, IsFormed, AreOfShape, AreLists};
 ghost use Rattle.work_area.specs.Making.{key_form};
 

@@ -1,6 +1,6 @@
 //! The ten work areas.
 
-ghost use Rattle.std.specs.Prelude.{◌≡◌, ℕ, ◌+◌, ◌-◌, ◌<◌, ◌≤◌, ◌↔◌, Bool, true, false, Some, [], ◌∷◌, length};
+ghost use Rattle.std.specs.Prelude.{◌≡◌, ℕ, ◌+◌, ◌<◌, ◌≤◌, ◌↔◌, Bool, true, false, Some, [], ◌∷◌, length};
 ghost use Rattle.std.specs.Prelude.{slice_get, is_some, is_none, min, unwrap_or, IfSome, IsSome, IsSomeAnd};
 ghost use Rattle.std.specs.Prelude.{MatchOption, None, OnOk, OnErr, IfOk, Err, map, MatchResult};
 ghost use Rattle.std.specs.Fn.{FnReturnsAt};

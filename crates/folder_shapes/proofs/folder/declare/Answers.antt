@@ -4,4 +4,5 @@ use Rattle.folder_shapes.proofs.LegalLemmas.{legal_taken}
 use Rattle.folder_shapes.proofs.folder.declare.Goals as goal
 
 pub returns-clause-legal : goal.returns-clause-legal
-returns-clause-legal g c = legal_taken (g.F.Files.holds c.args.files.now) (texts c.args.names.now) (taken_state c.in_ok-declared.declared) c.in_ok-declared.ensures.taken
+returns-clause-legal g c = legal_taken (g.F.Files.holds c.args.files.now) (texts c.args.names.now)
+    (taken_state c.in_ok-declared.declared) c.in_ok-declared.ensures.taken

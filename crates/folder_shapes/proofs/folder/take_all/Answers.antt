@@ -17,7 +17,9 @@ loop-file-preserved g c =
     let below : c.loop-file.file < length c.args.names.now = search rules in
     record {
       same = same_then first before after c.loop-file.invariant.same c.index_step.ensures.kept;
-      few = few_kept (sort_of name) before c.loop-file.file name x y c.loop-file.invariant.few c.in_ok-index_step.ensures.taken;
-      goes = goes_indexes first before c.args.names.now c.loop-file.file d x y (λ s. TakeIndexes first 0 (texts c.args.names.now) (taken_state c.in_ok-declared.declared) s)
+      few = few_kept (sort_of name) before c.loop-file.file name x y c.loop-file.invariant.few
+          c.in_ok-index_step.ensures.taken;
+      goes = goes_indexes first before c.args.names.now c.loop-file.file d x y
+          (λ s. TakeIndexes first 0 (texts c.args.names.now) (taken_state c.in_ok-declared.declared) s)
           c.loop-file.invariant.same below c.in_ok-index_step.ensures.taken c.loop-file.invariant.goes;
     }

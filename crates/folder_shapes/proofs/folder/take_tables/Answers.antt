@@ -17,7 +17,9 @@ loop-file-preserved g c =
     let below : c.loop-file.file < length c.args.names.now = search rules in
     record {
       same = same_then first before after c.loop-file.invariant.same c.table_step.ensures.kept;
-      few = few_after (sort_of name) before c.loop-file.file name x y c.loop-file.invariant.few c.in_ok-table_step.ensures.taken;
-      goes = goes_tables first before c.args.names.now c.loop-file.file d x y (λ s. TakeTables first 0 (texts c.args.names.now) nothing_taken s)
+      few = few_after (sort_of name) before c.loop-file.file name x y c.loop-file.invariant.few
+          c.in_ok-table_step.ensures.taken;
+      goes = goes_tables first before c.args.names.now c.loop-file.file d x y
+          (λ s. TakeTables first 0 (texts c.args.names.now) nothing_taken s)
           c.loop-file.invariant.same below c.in_ok-table_step.ensures.taken c.loop-file.invariant.goes;
     }

@@ -8,6 +8,7 @@ abbrev pub invariant-loop-file : goal.invariant-loop-file
 invariant-loop-file g l = record {
   same : SameFiles (g.F.Files.holds l.fn.files) (g.F.Files.holds l.files);
   few : length l.declared.found.items ≤ 32;
-  goes : (after : State) → TakeTables (g.F.Files.holds l.fn.files) l.file (map (λ name. name.now) (drop l.file l.fn.names)) (taken_state l.declared) after
+  goes : (after : State) → TakeTables (g.F.Files.holds l.fn.files) l.file
+      (map (λ name. name.now) (drop l.file l.fn.names)) (taken_state l.declared) after
       → TakeTables (g.F.Files.holds l.fn.files) 0 (map (λ name. name.now) l.fn.names) nothing_taken after;
 }

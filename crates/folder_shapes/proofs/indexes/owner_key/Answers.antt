@@ -7,5 +7,9 @@ returns c =
     let found = c.args.found.now in
     let owner = c.in-Some.owner.now in
     let below = slice_get_within found c.args.table c.requires.0 c.requires.1 in
-    let read : owner ≡ get_or found c.args.table owner = search rules in
-    (owner, slice_get_read found (length found) c.args.table owner refl below read, sym c.in_ok-key-in-Some.ensures ∙ c.in-Some-2.is)
+    let read : owner ≡ get_or found c.args.table owner = search rules in (
+      owner,
+      slice_get_read found (length found) c.args.table owner refl below read,
+      sym c.in_ok-key-in-Some.ensures
+          ∙ c.in-Some-2.is,
+    )

@@ -15,6 +15,8 @@ returns-clause-pieces c =
     let text = c.args.text.now in
     let n = c.piece_length-length.ensures.value in
     let below : position_or_len is_plus text < length text = search rules in
-    let front : c.split_at.result.0.now ≡ take (position_or_len is_plus text) text = c.split_at.ensures.front ∙ ap (λ k. take k text) n in
-    let behind : c.split_at-2.result.1.now ≡ drop (position_or_len is_plus text + 1) text = c.split_at-2.ensures.back ∙ ap (λ k. drop (k + 1) text) n in
+    let front : c.split_at.result.0.now ≡ take (position_or_len is_plus text) text =
+    c.split_at.ensures.front ∙ ap (λ k. take k text) n in
+    let behind : c.split_at-2.result.1.now ≡ drop (position_or_len is_plus text + 1) text =
+    c.split_at-2.ensures.back ∙ ap (λ k. drop (k + 1) text) n in
     rw (front, behind) (slice_split_first is_plus text 0 below)

@@ -1,7 +1,8 @@
 use Rattle.std.proofs.Common.{◌≡◌, ◌-◌, ◌+◌, ◌∷◌, length, take, drop, reverse, subst, sym, arith}
 use Rattle.std.specs.Vec.{vec_len}
 use Rattle.ndx_tree.specs.Pages.{AreChildren, pairs_of_pages}
-use Rattle.ndx_tree.proofs.Building.{piece_of, part_length, leaf_child, leaf_whole, reverse_more, two_more, all_whole, none_made}
+use Rattle.ndx_tree.proofs.Building.{piece_of, part_length, leaf_child, leaf_whole, reverse_more, two_more, all_whole}
+use Rattle.ndx_tree.proofs.Building.{none_made}
 use Rattle.ndx_tree.proofs.build.leaves.Goals as goal
 
 pub loop-left-init : goal.loop-left-init
@@ -25,15 +26,23 @@ loop-left-preserved c =
     let count = c.share-count.result in
     let less = left - count in
     let sum : less + count ≡ left = omega (arith, share.within) in
-    let piece = piece_of c.args.most l (pairs_of_pages (reverse c.loop-left.row.items)) left count less sum inv.whole c.requires.rising c.requires.keyed in
+    let piece = piece_of c.args.most l (pairs_of_pages (reverse c.loop-left.row.items)) left count less sum inv.whole
+    c.requires.rising c.requires.keyed in
     let page = c.in_ok-leaf_with.field-0 in
     let size : length (take count (drop less l)) ≡ count = part_length less count l (omega (arith, inv.within, sum)) in
-    let more : reverse c.push.new.self.items ≡ page ∷ reverse c.loop-left.row.items = reverse_more c.loop-left.row.items c.push.new.self.items page c.in_ok-push.ensures.items in
+    let more : reverse c.push.new.self.items ≡ page ∷ reverse c.loop-left.row.items =
+    reverse_more c.loop-left.row.items c.push.new.self.items page c.in_ok-push.ensures.items in
     record {
-      whole = leaf_whole c.args.most (take less l) (take count (drop less l)) l (reverse c.loop-left.row.items) (reverse c.push.new.self.items) page c.in_ok-leaf_with.ensures more piece.whole;
+      whole = leaf_whole c.args.most (take less l) (take count (drop less l)) l (reverse c.loop-left.row.items)
+          (reverse c.push.new.self.items) page c.in_ok-leaf_with.ensures more piece.whole;
       within = omega (arith, inv.within, sum);
-      level = subst (AreChildren 1 c.args.most) (sym more) (leaf_child c.args.most (take count (drop less l)) page c.in_ok-leaf_with.ensures c.requires.most.0 (omega (arith, share.least, size)) (omega (arith, share.most, size)), inv.level);
+      level = subst (AreChildren 1 c.args.most) (sym more) (
+        leaf_child c.args.most (take count (drop less l)) page c.in_ok-leaf_with.ensures c.requires.most.0
+            (omega (arith, share.least, size)) (omega (arith, share.most, size)),
+        inv.level,
+      );
       enough = λ p. let rest = share.rest (omega (arith, p, sum)) in omega (arith, rest, sum);
       none = λ e. absurd (omega (arith, e, c.in_ok-push.ensures.len));
-      two = let t = two_more (vec_len c.loop-left.row) left less count c.args.most inv.none share.most sum in omega (arith, t, c.in_ok-push.ensures.len);
+      two = let t = two_more (vec_len c.loop-left.row) left less count c.args.most inv.none share.most sum in omega
+          (arith, t, c.in_ok-push.ensures.len);
     }

@@ -11,14 +11,19 @@ pub returns-else-at-len-clause-cut : goal.returns-else-at-len-clause-cut
 returns-else-at-len-clause-cut c =
     let past : length c.args.entries.now.items ≤ c.args.at = omega arith in
     let last = c.last_pair-last.result in
-    subst (λ (m : List Pair). IsCut m c.args.children.now) (set_past c.args.entries.now.items c.args.at last past) (c.requires.cut c.index-children-at.result last (subst (λ (v : PageView). last_of v.pairs ≡ Some last) c.index-children-at.is c.last_pair-last.ensures.found))
+    subst (λ (m : List Pair). IsCut m c.args.children.now) (set_past c.args.entries.now.items c.args.at last past)
+    (c.requires.cut c.index-children-at.result last
+    (subst (λ (v : PageView). last_of v.pairs ≡ Some last) c.index-children-at.is c.last_pair-last.ensures.found))
 
 pub set-requires-clause-alike : goal.set-requires-clause-alike
 set-requires-clause-alike c =
     let k = c.requires.alike.0 in
     let d = c.index-children-at.result in
     let last = c.last_pair-last.result in
-    let size : length last.0 ≡ k = last_keyed k d.pairs last (subst (λ (v : PageView). HaveKeys k v.pairs) (sym c.index-children-at.is) (child_keyed k c.args.children.now c.args.at d c.requires.within c.requires.alike.2)) c.last_pair-last.ensures.found in
+    let size : length last.0 ≡ k = last_keyed k d.pairs last
+    (subst (λ (v : PageView). HaveKeys k v.pairs) (sym c.index-children-at.is)
+    (child_keyed k c.args.children.now c.args.at d c.requires.within c.requires.alike.2))
+    c.last_pair-last.ensures.found in
     subst (λ j. HaveKeys j c.args.entries.now.items) (sym size) c.requires.alike.1
 
 pub set-requires-clause-room : goal.set-requires-clause-room
@@ -26,5 +31,8 @@ set-requires-clause-room c =
     let k = c.requires.alike.0 in
     let d = c.index-children-at.result in
     let last = c.last_pair-last.result in
-    let size : length last.0 ≡ k = last_keyed k d.pairs last (subst (λ (v : PageView). HaveKeys k v.pairs) (sym c.index-children-at.is) (child_keyed k c.args.children.now c.args.at d c.requires.within c.requires.alike.2)) c.last_pair-last.ensures.found in
+    let size : length last.0 ≡ k = last_keyed k d.pairs last
+    (subst (λ (v : PageView). HaveKeys k v.pairs) (sym c.index-children-at.is)
+    (child_keyed k c.args.children.now c.args.at d c.requires.within c.requires.alike.2))
+    c.last_pair-last.ensures.found in
     subst (λ j. length c.args.entries.now.items * (j + 4) ≤ c.args.entries.now.room) (sym size) c.requires.alike.3

@@ -12,8 +12,13 @@ decreases-read_below l = l.left
 -- what is left to walk, from what was found, is the whole walk
 abbrev pub invariant-loop-entry : goal.invariant-loop-entry
 invariant-loop-entry l = record {
-  left : (s : Seen) → ShowsSeen l.head.length (page_count l.bytes) l.fn.found s → IsLeft l.head.length (page_count l.bytes) l.found (walk (pages_of l.head.length l.bytes) (page_count l.bytes) l.left l.number s) (walk (pages_of l.head.length l.bytes) (page_count l.bytes) (l.left - 1)) (links (drop l.entry-index l.entry-items) l.last);
+  left : (s : Seen) → ShowsSeen l.head.length (page_count l.bytes) l.fn.found s
+      → IsLeft l.head.length (page_count l.bytes) l.found
+      (walk (pages_of l.head.length l.bytes) (page_count l.bytes) l.left l.number s)
+      (walk (pages_of l.head.length l.bytes) (page_count l.bytes) (l.left - 1))
+      (links (drop l.entry-index l.entry-items) l.last);
   bits : length l.found.reached.items ≡ page_count l.bytes;
   alike : HaveKeys l.head.length l.found.entries.items;
-  few : length l.found.entries.items + 42 * unset l.found.reached.items ≤ length l.fn.found.entries.items + 42 * unset l.fn.found.reached.items;
+  few : length l.found.entries.items + 42 * unset l.found.reached.items
+      ≤ length l.fn.found.entries.items + 42 * unset l.fn.found.reached.items;
 }

@@ -10,7 +10,9 @@ use Rattle.open_table.proofs.ChangeLemmas.{left_exact, marks_left, append_absent
 use Rattle.open_table.proofs.changes.append.Goals as goal
 
 pub returns-in_err-reserve_all-clause-same_marks : goal.returns-in_err-reserve_all-clause-same_marks
-returns-in_err-reserve_all-clause-same_marks g c = on_err _ _ (same_along mark_of (GoesBy IsAsBefore) (goes_mark IsAsBefore) c.args.slots.now.items c.reserve_all.new.slots.items c.in_err-reserve_all.ensures.same)
+returns-in_err-reserve_all-clause-same_marks g c = on_err _ _
+    (same_along mark_of (GoesBy IsAsBefore) (goes_mark IsAsBefore) c.args.slots.now.items c.reserve_all.new.slots.items
+    c.in_err-reserve_all.ensures.same)
 
 pub add_all-requires-clause-absent : goal.add_all-requires-clause-absent
 add_all-requires-clause-absent g c = λ k d lt.
@@ -18,16 +20,26 @@ add_all-requires-clause-absent g c = λ k d lt.
     let rows = c.args.table.now.rows in
     let row = blank_row (row_widths s) in
     let new_rows : c.push_blank.new.self.rows ≡ rows ++ row ∷ [] =
-    c.push_blank.ensures.rows ∙ ap (λ rs. rs ++ blank_row (row_widths c.reserve_row.new.self.structure) ∷ []) c.in_ok-reserve_row.ensures.rows ∙ ap (λ st. rows ++ blank_row (row_widths st) ∷ []) c.in_ok-reserve_row.ensures.structure in
+    c.push_blank.ensures.rows ∙ ap (λ rs. rs ++ blank_row (row_widths c.reserve_row.new.self.structure) ∷ [])
+    c.in_ok-reserve_row.ensures.rows ∙ ap (λ st. rows ++ blank_row (row_widths st) ∷ [])
+    c.in_ok-reserve_row.ensures.structure in
     let number : c.rows-r.result ≡ length rows = c.rows-r.ensures.count ∙ ap length c.in_ok-reserve_row.ensures.rows in
-    let left = left_exact s rows c.args.list.now c.args.slots.now.items c.reserve_all.new.slots.items c.leave_all.new.slots.items c.requires.exact c.in_ok-reserve_all.ensures.same c.leave_all.ensures in
-    let absent = λ (rs : List Row) (n : ℕ). All (λ (slot : SlotState). IfSome slot.index (λ x. Contains x.pairs (row_pair x.parts rs n) → ⊥)) c.leave_all.new.slots.items in
-    subst (λ n. absent c.push_blank.new.self.rows n) (sym number) (subst (λ rs. absent rs (length rows)) (sym new_rows) (append_absent c.index_lists.ensures s rows row c.leave_all.new.slots.items left)) k d lt
+    let left = left_exact s rows c.args.list.now c.args.slots.now.items c.reserve_all.new.slots.items
+    c.leave_all.new.slots.items c.requires.exact c.in_ok-reserve_all.ensures.same c.leave_all.ensures in
+    let absent = λ (rs : List Row) (n : ℕ). All
+    (λ (slot : SlotState). IfSome slot.index (λ x. Contains x.pairs (row_pair x.parts rs n) → ⊥))
+    c.leave_all.new.slots.items in
+    subst (λ n. absent c.push_blank.new.self.rows n) (sym number)
+    (subst (λ rs. absent rs (length rows)) (sym new_rows)
+    (append_absent c.index_lists.ensures s rows row c.leave_all.new.slots.items left)) k d lt
 
 pub returns-clause-marks : goal.returns-clause-marks
 returns-clause-marks g c =
-    same_along mark_of (GoesBy (HasAdded c.push_blank.new.self.rows c.rows-r.result)) (goes_mark (HasAdded c.push_blank.new.self.rows c.rows-r.result)) c.leave_all.new.slots.items c.add_all.new.slots.items c.add_all.ensures
-    ∙ marks_left c.args.list.now c.args.slots.now.items c.reserve_all.new.slots.items c.leave_all.new.slots.items c.in_ok-reserve_all.ensures.same c.leave_all.ensures
+    same_along mark_of (GoesBy (HasAdded c.push_blank.new.self.rows c.rows-r.result))
+    (goes_mark (HasAdded c.push_blank.new.self.rows c.rows-r.result)) c.leave_all.new.slots.items
+    c.add_all.new.slots.items c.add_all.ensures
+    ∙ marks_left c.args.list.now c.args.slots.now.items c.reserve_all.new.slots.items c.leave_all.new.slots.items
+    c.in_ok-reserve_all.ensures.same c.leave_all.ensures
 
 pub returns-clause-exact : goal.returns-clause-exact
 returns-clause-exact g c =
@@ -37,11 +49,17 @@ returns-clause-exact g c =
     let new = c.add_all.new.slots.items in
     let mid = c.leave_all.new.slots.items in
     let new_rows : c.push_blank.new.self.rows ≡ rows ++ row ∷ [] =
-    c.push_blank.ensures.rows ∙ ap (λ rs. rs ++ blank_row (row_widths c.reserve_row.new.self.structure) ∷ []) c.in_ok-reserve_row.ensures.rows ∙ ap (λ st. rows ++ blank_row (row_widths st) ∷ []) c.in_ok-reserve_row.ensures.structure in
+    c.push_blank.ensures.rows ∙ ap (λ rs. rs ++ blank_row (row_widths c.reserve_row.new.self.structure) ∷ [])
+    c.in_ok-reserve_row.ensures.rows ∙ ap (λ st. rows ++ blank_row (row_widths st) ∷ [])
+    c.in_ok-reserve_row.ensures.structure in
     let number : c.rows-r.result ≡ length rows = c.rows-r.ensures.count ∙ ap length c.in_ok-reserve_row.ensures.rows in
-    let structure : c.push_blank.new.self.structure ≡ s = c.push_blank.ensures.structure ∙ c.in_ok-reserve_row.ensures.structure in
-    let left = left_exact s rows c.args.list.now c.args.slots.now.items c.reserve_all.new.slots.items mid c.requires.exact c.in_ok-reserve_all.ensures.same c.leave_all.ensures in
+    let structure : c.push_blank.new.self.structure ≡ s =
+    c.push_blank.ensures.structure ∙ c.in_ok-reserve_row.ensures.structure in
+    let left = left_exact s rows c.args.list.now c.args.slots.now.items c.reserve_all.new.slots.items mid
+    c.requires.exact c.in_ok-reserve_all.ensures.same c.leave_all.ensures in
     let added : Along (GoesBy (HasAdded (rows ++ row ∷ []) (length rows))) mid new =
-    subst (λ rs. Along (GoesBy (HasAdded rs (length rows))) mid new) new_rows (subst (λ n. Along (GoesBy (HasAdded c.push_blank.new.self.rows n)) mid new) number c.add_all.ensures) in
+    subst (λ rs. Along (GoesBy (HasAdded rs (length rows))) mid new) new_rows
+    (subst (λ n. Along (GoesBy (HasAdded c.push_blank.new.self.rows n)) mid new) number c.add_all.ensures) in
     subst (λ st. All (IsSlot st c.push_blank.new.self.rows) new) (sym structure)
-    (subst (λ rs. All (IsSlot s rs) new) (sym new_rows) (append_exact c.index_lists.ensures s rows row mid new left added))
+    (subst (λ rs. All (IsSlot s rs) new) (sym new_rows)
+    (append_exact c.index_lists.ensures s rows row mid new left added))

@@ -10,9 +10,11 @@ use Rattle.open_table.proofs.changes.clear.Goals as goal
 
 pub returns-clause-marks : goal.returns-clause-marks
 returns-clause-marks g c =
-    made_marks c.args.table.now.structure (kept_rows Nothing c.args.table.now.rows) (kept_rows Nothing c.args.table.now.rows) c.args.list.now false true
+    made_marks c.args.table.now.structure (kept_rows Nothing c.args.table.now.rows)
+    (kept_rows Nothing c.args.table.now.rows) c.args.list.now false true
     (λ (m : IndexMark). with_stale m (not (is_among c.args.list.now m.number))) (packed_mark c.args.list.now)
-    c.args.slots.now.items c.make_all.new.slots.items c.commit_all.new.slots.items c.in_ok-make_all.ensures.ok c.commit_all.ensures
+    c.args.slots.now.items c.make_all.new.slots.items c.commit_all.new.slots.items c.in_ok-make_all.ensures.ok
+    c.commit_all.ensures
 
 pub returns-clause-exact : goal.returns-clause-exact
 returns-clause-exact g c =
@@ -23,4 +25,5 @@ returns-clause-exact g c =
     subst (λ st. All (IsSlot st c.clear.new.self.rows) new) (sym c.clear.ensures.structure)
     (subst (λ rs. All (IsSlot s rs) new) (nothing_kept rows ∙ sym c.clear.ensures.rows)
     (made_exact s rows (kept_rows Nothing rows) c.args.list.now false true never
-    c.args.slots.now.items c.make_all.new.slots.items new c.requires.exact c.in_ok-make_all.ensures.ok c.commit_all.ensures))
+    c.args.slots.now.items c.make_all.new.slots.items new c.requires.exact c.in_ok-make_all.ensures.ok
+    c.commit_all.ensures))

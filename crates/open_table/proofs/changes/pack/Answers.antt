@@ -10,9 +10,11 @@ use Rattle.open_table.proofs.changes.pack.Goals as goal
 
 pub returns-clause-marks : goal.returns-clause-marks
 returns-clause-marks g c =
-    made_marks c.args.table.now.structure (kept_rows Unmarked c.args.table.now.rows) (kept_rows Unmarked c.args.table.now.rows) c.args.list.now false true
+    made_marks c.args.table.now.structure (kept_rows Unmarked c.args.table.now.rows)
+    (kept_rows Unmarked c.args.table.now.rows) c.args.list.now false true
     (λ (m : IndexMark). with_stale m (not (is_among c.args.list.now m.number))) (packed_mark c.args.list.now)
-    c.args.slots.now.items c.make_all.new.slots.items c.commit_all.new.slots.items c.in_ok-make_all.ensures.ok c.commit_all.ensures
+    c.args.slots.now.items c.make_all.new.slots.items c.commit_all.new.slots.items c.in_ok-make_all.ensures.ok
+    c.commit_all.ensures
 
 pub returns-clause-exact : goal.returns-clause-exact
 returns-clause-exact g c =
@@ -23,7 +25,9 @@ returns-clause-exact g c =
     subst (λ st. All (IsSlot st c.pack.new.self.rows) new) (sym c.pack.ensures.structure)
     (subst (λ rs. All (IsSlot s rs) new) (sym c.pack.ensures.rows)
     (made_exact s rows (kept_rows Unmarked rows) c.args.list.now false true never
-    c.args.slots.now.items c.make_all.new.slots.items new c.requires.exact c.in_ok-make_all.ensures.ok c.commit_all.ensures))
+    c.args.slots.now.items c.make_all.new.slots.items new c.requires.exact c.in_ok-make_all.ensures.ok
+    c.commit_all.ensures))
 
 pub returns-clause-fewer : goal.returns-clause-fewer
-returns-clause-fewer g c = subst (λ (rs : List Row). length rs ≤ length c.args.table.now.rows) (sym c.pack.ensures.rows) (filter_shorter (λ (row : Row). not row.marked) c.args.table.now.rows)
+returns-clause-fewer g c = subst (λ (rs : List Row). length rs ≤ length c.args.table.now.rows) (sym c.pack.ensures.rows)
+    (filter_shorter (λ (row : Row). not row.marked) c.args.table.now.rows)

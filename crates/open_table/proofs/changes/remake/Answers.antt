@@ -9,9 +9,12 @@ use Rattle.open_table.proofs.changes.remake.Goals as goal
 
 pub returns-clause-marks : goal.returns-clause-marks
 returns-clause-marks g c =
-    made_marks c.args.table.now.structure (kept_rows Every c.args.table.now.rows) (kept_rows Every c.args.table.now.rows) c.args.list.now c.args.only_stale false
-    (λ (m : IndexMark). with_stale m (m.stale && not (is_among c.args.list.now m.number))) (remade_mark c.args.list.now c.args.only_stale)
-    c.args.slots.now.items c.make_all.new.slots.items c.commit_all.new.slots.items c.in_ok-make_all.ensures.ok c.commit_all.ensures
+    made_marks c.args.table.now.structure (kept_rows Every c.args.table.now.rows)
+    (kept_rows Every c.args.table.now.rows) c.args.list.now c.args.only_stale false
+    (λ (m : IndexMark). with_stale m (m.stale && not (is_among c.args.list.now m.number)))
+    (remade_mark c.args.list.now c.args.only_stale)
+    c.args.slots.now.items c.make_all.new.slots.items c.commit_all.new.slots.items c.in_ok-make_all.ensures.ok
+    c.commit_all.ensures
 
 pub returns-clause-exact : goal.returns-clause-exact
 returns-clause-exact g c =
@@ -19,4 +22,5 @@ returns-clause-exact g c =
     let s = c.args.table.now.structure in
     subst (λ rs. All (IsSlot s rs) c.commit_all.new.slots.items) (every_kept rows)
     (made_exact s rows (kept_rows Every rows) c.args.list.now c.args.only_stale false (λ e. every_kept rows)
-    c.args.slots.now.items c.make_all.new.slots.items c.commit_all.new.slots.items c.requires.exact c.in_ok-make_all.ensures.ok c.commit_all.ensures)
+    c.args.slots.now.items c.make_all.new.slots.items c.commit_all.new.slots.items c.requires.exact
+    c.in_ok-make_all.ensures.ok c.commit_all.ensures)

@@ -14,5 +14,6 @@ returns-clause-lands g c = λ shown.
     let t = c.args.table.now in
     let marks = map mark_of c.args.slots.now.items in
     subst (λ (rs : List Row). ShowsRows (FnReturnsAt g.F.Fn) c.args.see.now t.structure rs shown
-    → IsMove (at_higher_cost c.args.base (end_of shown true (pairs_in_order c.args.order marks rs))) c.args.budget c.judge_kept.result) (every_kept t.rows)
+    → IsMove (at_higher_cost c.args.base (end_of shown true (pairs_in_order c.args.order marks rs))) c.args.budget
+    c.judge_kept.result) (every_kept t.rows)
     (c.judge_kept.ensures shown)

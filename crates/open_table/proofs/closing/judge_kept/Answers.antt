@@ -8,11 +8,14 @@ use Rattle.open_table.proofs.ClosingLemmas.{by_parts}
 use Rattle.open_table.proofs.closing.judge_kept.Goals as goal
 
 pub first_of-requires-clause-key : goal.first_of-requires-clause-key
-first_of-requires-clause-key g c = c.key_of_order-key.ensures.sound c.args.table.now.structure c.args.table.now.rows c.requires.indexed.exact
+first_of-requires-clause-key g c =
+    c.key_of_order-key.ensures.sound c.args.table.now.structure c.args.table.now.rows c.requires.indexed.exact
 
 pub returns : goal.returns
 returns g c = λ shown sees.
     let rows = kept_rows c.args.kept c.args.table.now.rows in
     let marks = map mark_of c.args.slots.now.items in
-    let list = ap (λ (parts : List KeyPart). index_list parts rows) c.key_of_order-key.ensures.value ∙ by_parts c.puts_in_order.ensures c.args.order marks rows in
-    subst (λ ps. IsMove (at_higher_cost c.args.base (end_of shown true ps)) c.args.budget c.first_of.result) list (c.first_of.ensures shown sees)
+    let list = ap (λ (parts : List KeyPart). index_list parts rows) c.key_of_order-key.ensures.value
+    ∙ by_parts c.puts_in_order.ensures c.args.order marks rows in
+    subst (λ ps. IsMove (at_higher_cost c.args.base (end_of shown true ps)) c.args.budget c.first_of.result) list
+    (c.first_of.ensures shown sees)

@@ -4,4 +4,5 @@ use Rattle.open_table.specs.Slots.{mark_of}
 use Rattle.open_table.proofs.keyed.key_at.Given as goal
 
 abbrev pub invariant-loop-i : goal.invariant-loop-i
-invariant-loop-i g l = mark_at (map mark_of (drop l.i l.slots.items)) l.number ≡ mark_at (map mark_of l.slots.items) l.number
+invariant-loop-i g l = mark_at (map mark_of (drop l.i l.slots.items)) l.number
+    ≡ mark_at (map mark_of l.slots.items) l.number

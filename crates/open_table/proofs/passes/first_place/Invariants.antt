@@ -9,6 +9,7 @@ abbrev pub invariant-loop-r : goal.invariant-loop-r
 invariant-loop-r g l = record {
   number : l.number ≡ length (kept_rows l.kept (take l.r l.table.rows));
   few : l.number ≤ l.r;
-  best : (shown : ℕ → Bool) → ShowsRows (FnReturnsAt g.F.Fn) l.see l.table.structure (kept_rows l.kept l.table.rows) shown
+  best : (shown : ℕ → Bool) → ShowsRows (FnReturnsAt g.F.Fn) l.see l.table.structure (kept_rows l.kept l.table.rows)
+      shown
       → l.best ≡ first_shown shown (index_list l.key (kept_rows l.kept (take l.r l.table.rows)));
 }

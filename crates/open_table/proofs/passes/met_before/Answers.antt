@@ -1,4 +1,5 @@
-use Rattle.std.proofs.Common.{◌≡◌, ◌+◌, ◌<◌, true, false, List, [], ◌∷◌, length, take, sym, ap, ◌∙◌, arith, length-append}
+use Rattle.std.proofs.Common.{◌≡◌, ◌+◌, ◌<◌, true, false, List, [], ◌∷◌, length, take, sym, ap, ◌∙◌, arith}
+use Rattle.std.proofs.Common.{length-append}
 use Rattle.dbf_file.specs.Rows.{Row, row_at}
 use Rattle.row_keys.specs.Lists.{is_kept, kept_rows, index_list}
 use Rattle.open_table.specs.Passes.{count_met}
@@ -16,9 +17,17 @@ loop-r-preserved c =
       | then-keeps w ↦
           let keeps : is_kept kept (row_at rows r) ≡ true = sym c.keeps.ensures ∙ w.if-keeps.true in
           let longer = ap (λ (rs : List Row). length {A = Row} rs) (kept_take kept rows r lt keeps) in
-          let counted = one_counted c.index_lists.ensures c.orders_pairs.ensures.strict c.args.key.now kept rows r lt c.args.best.now (c.loop-r.number + 1) keeps (ap (λ n. n + 1) c.loop-r.invariant.number) in
+          let counted = one_counted c.index_lists.ensures c.orders_pairs.ensures.strict c.args.key.now kept rows r lt
+          c.args.best.now (c.loop-r.number + 1) keeps (ap (λ n. n + 1) c.loop-r.invariant.number) in
           record {
-            number = omega (arith, w.number-is, c.loop-r.invariant.number, longer, length-append (kept_rows kept (take r rows)) (row_at rows r ∷ []));
+            number = omega (
+              arith,
+              w.number-is,
+              c.loop-r.invariant.number,
+              longer,
+              length-append
+                  (kept_rows kept (take r rows)) (row_at rows r ∷ []),
+            );
             few = omega (arith, w.number-is, c.loop-r.invariant.few);
             met = omega (arith, w.met-is, c.loop-r.invariant.met, counted, w.one_if_met-met.ensures.value);
             small = omega (arith, w.met-is, c.loop-r.invariant.small, w.one_if_met-met.ensures.small);
@@ -29,7 +38,8 @@ loop-r-preserved c =
           record {
             number = w.number-is ∙ c.loop-r.invariant.number ∙ ap (λ (rs : List Row). length {A = Row} rs) (sym same);
             few = omega (arith, w.number-is, c.loop-r.invariant.few);
-            met = w.met-is ∙ c.loop-r.invariant.met ∙ ap (λ rs. count_met c.args.best.now (index_list c.args.key.now rs)) (sym same);
+            met = w.met-is ∙ c.loop-r.invariant.met ∙ ap
+                (λ rs. count_met c.args.best.now (index_list c.args.key.now rs)) (sym same);
             small = omega (arith, w.met-is, c.loop-r.invariant.small);
           }
     ]

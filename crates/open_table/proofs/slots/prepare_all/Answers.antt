@@ -18,23 +18,29 @@ prepare-requires g c =
 
 pub loop-slot-preserved : goal.loop-slot-preserved
 loop-slot-preserved g c =
-    let R = Prepares c.args.table.now.structure (kept_rows c.args.kept c.args.table.now.rows) c.args.list.now c.args.only_stale in
-    turned R c.args.slots.now.items c.loop-slot.slot-items c.loop-slot.slot-index c.slot-item.result c.prepare.new.self c.loop-slot.invariant (omega arith) c.in_ok-prepare.ensures.ok
+    let R = Prepares c.args.table.now.structure (kept_rows c.args.kept c.args.table.now.rows) c.args.list.now
+    c.args.only_stale in
+    turned R c.args.slots.now.items c.loop-slot.slot-items c.loop-slot.slot-index c.slot-item.result c.prepare.new.self
+    c.loop-slot.invariant (omega arith) c.in_ok-prepare.ensures.ok
 
 pub returns-in_err-prepare-clause-puts : goal.returns-in_err-prepare-clause-puts
 returns-in_err-prepare-clause-puts g c =
-    let R = Prepares c.args.table.now.structure (kept_rows c.args.kept c.args.table.now.rows) c.args.list.now c.args.only_stale in
+    let R = Prepares c.args.table.now.structure (kept_rows c.args.kept c.args.table.now.rows) c.args.list.now
+    c.args.only_stale in
     let old = c.args.slots.now.items in
     let items = set c.loop-slot.slot-items c.loop-slot.slot-index c.prepare.new.self in
-    let so_far = turned_weaker R PutsBy (λ a b r. r.puts) old c.loop-slot.slot-items c.loop-slot.slot-index c.loop-slot.invariant in
-    let gone = turned PutsBy old c.loop-slot.slot-items c.loop-slot.slot-index c.slot-item.result c.prepare.new.self so_far (omega arith) c.in_err-prepare.ensures.puts in
+    let so_far = turned_weaker R PutsBy (λ a b r. r.puts) old c.loop-slot.slot-items c.loop-slot.slot-index
+    c.loop-slot.invariant in
+    let gone = turned PutsBy old c.loop-slot.slot-items c.loop-slot.slot-index c.slot-item.result c.prepare.new.self
+    so_far (omega arith) c.in_err-prepare.ensures.puts in
     let size : c.args.slots.now.len ≡ length old = search rules in
     subst (Along PutsBy old) (sym (taken old items c.args.slots.now.len gone.len size))
     (ended_early PutsBy itself old items (c.loop-slot.slot-index + 1) gone)
 
 pub returns-clause-puts : goal.returns-clause-puts
 returns-clause-puts g c =
-    let R = Prepares c.args.table.now.structure (kept_rows c.args.kept c.args.table.now.rows) c.args.list.now c.args.only_stale in
+    let R = Prepares c.args.table.now.structure (kept_rows c.args.kept c.args.table.now.rows) c.args.list.now
+    c.args.only_stale in
     let old = c.args.slots.now.items in
     let items = c.loop-slot.slot-items in
     let so_far = turned_weaker R PutsBy (λ a b r. r.puts) old items c.loop-slot.slot-index c.loop-slot.invariant in
@@ -44,7 +50,8 @@ returns-clause-puts g c =
 
 pub returns-clause-ok : goal.returns-clause-ok
 returns-clause-ok g c =
-    let R = Prepares c.args.table.now.structure (kept_rows c.args.kept c.args.table.now.rows) c.args.list.now c.args.only_stale in
+    let R = Prepares c.args.table.now.structure (kept_rows c.args.kept c.args.table.now.rows) c.args.list.now
+    c.args.only_stale in
     let old = c.args.slots.now.items in
     let items = c.loop-slot.slot-items in
     let size : c.args.slots.now.len ≡ length old = search rules in

@@ -1,21 +1,13 @@
 use Rattle.std.proofs.Common.{◌≡◌, subst}
-use Rattle.std.specs.List.{Contains}
 use Rattle.row_keys.specs.Lists.{IndexState, index_list}
 use Rattle.row_moves.specs.Moves.{landing_of, IsMove}
-use Rattle.open_table.proofs.SlotLemmas.{some_weaker}
-use Rattle.open_table.proofs.TryingLemmas.{in_list, slot_list, from_some}
+use Rattle.open_table.proofs.TryingLemmas.{at_listed, slot_list, from_some}
 use Rattle.open_table.proofs.trying.along_slot.Goals as goal
 
 pub make_move-requires-clause-callable : goal.make_move-requires-clause-callable
 make_move-requires-clause-callable g c =
-    let s = c.args.table.now.structure in
-    let rows = c.args.table.now.rows in
-    let slot = c.args.slot.now in
-    some_weaker (λ (x : IndexState). x.pairs ≡ index_list slot.parts rows) _
-    (λ x e p there.
-    let within = in_list c.index_lists.ensures slot.parts rows p (subst (λ ps. Contains ps p) e there) in
-    (c.requires.callable, (c.requires.few, (within.0, within.1))))
-    slot.index (slot_list s rows slot c.requires.exact)
+    at_listed c.requires.callable c.requires.few c.index_lists.ensures
+    c.args.table.now.structure c.args.table.now.rows c.args.slot.now c.requires.exact
 
 pub returns-clause-lands : goal.returns-clause-lands
 returns-clause-lands g c = λ shown sees.

@@ -1,19 +1,13 @@
 use Rattle.std.proofs.Common.{◌≡◌, subst}
-use Rattle.std.specs.List.{Contains}
 use Rattle.row_keys.specs.Lists.{IndexState, index_list}
 use Rattle.row_moves.specs.Moves.{sought, IsMove}
-use Rattle.open_table.proofs.SlotLemmas.{some_weaker}
-use Rattle.open_table.proofs.TryingLemmas.{in_list, slot_list, from_some}
+use Rattle.open_table.proofs.TryingLemmas.{at_listed, slot_list, from_some}
 use Rattle.open_table.proofs.trying.slot_seek.Goals as goal
 
 pub seek-requires-clause-callable : goal.seek-requires-clause-callable
 seek-requires-clause-callable g c =
-    let s = c.args.table.now.structure in
-    let rows = c.args.table.now.rows in
-    let slot = c.args.slot.now in
-    some_weaker (λ (x : IndexState). x.pairs ≡ index_list slot.parts rows) _
-    (λ x e p there. (let within = in_list c.index_lists.ensures slot.parts rows p (subst (λ ps. Contains ps p) e there) in (c.requires.callable, (c.requires.few, (within.0, within.1)))))
-    slot.index (slot_list s rows slot c.requires.exact)
+    at_listed c.requires.callable c.requires.few c.index_lists.ensures
+    c.args.table.now.structure c.args.table.now.rows c.args.slot.now c.requires.exact
 
 pub returns-clause-lands : goal.returns-clause-lands
 returns-clause-lands g c = λ shown sees.
@@ -21,5 +15,8 @@ returns-clause-lands g c = λ shown sees.
     let rows = c.args.table.now.rows in
     let slot = c.args.slot.now in
     let pairs = index_list slot.parts rows in
-    from_some (λ (x : IndexState). x.pairs ≡ pairs) _ (IsMove (sought shown c.args.exact c.args.text.now pairs) c.args.budget c.seek.result) slot.index c.requires.fresh (slot_list s rows slot c.requires.exact) (c.seek.ensures.lands shown)
-    (λ x e said. subst (λ ps. IsMove (sought shown c.args.exact c.args.text.now ps) c.args.budget c.seek.result) e (said (λ p there r answer. answer shown sees)))
+    from_some (λ (x : IndexState). x.pairs ≡ pairs) _
+    (IsMove (sought shown c.args.exact c.args.text.now pairs) c.args.budget c.seek.result) slot.index
+    c.requires.fresh (slot_list s rows slot c.requires.exact) (c.seek.ensures.lands shown)
+    (λ x e said. subst (λ ps. IsMove (sought shown c.args.exact c.args.text.now ps) c.args.budget c.seek.result) e
+    (said (λ p there r answer. answer shown sees)))

@@ -10,4 +10,5 @@ pub returns-clause-keys : goal.returns-clause-keys
 returns-clause-keys c = λ each.
     let right = IsPairOf (key_length c.args.key.now (row_widths c.args.table.now.structure)) in
     let items : c.push.new.self.items ≡ c.args.entries.now.items ++ c.entry_of.result ∷ [] = search rules in
-    subst (Each right) (sym items) (each_push right c.args.entries.now.items c.entry_of.result each c.entry_of.ensures.key)
+    subst (Each right) (sym items) (each_push right c.args.entries.now.items c.entry_of.result each
+    c.entry_of.ensures.key)

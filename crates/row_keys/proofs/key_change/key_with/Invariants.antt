@@ -7,8 +7,10 @@ use Rattle.row_keys.proofs.key_change.key_with.Given as goal
 
 abbrev pub invariant-loop-part : goal.invariant-loop-part
 invariant-loop-part l = record {
-  key : l.made.items ++ key_of l.rest (set (row_at l.table.rows l.r).texts l.f l.text) ≡ key_of l.key (set (row_at l.table.rows l.r).texts l.f l.text);
-  length : length l.made.items + key_length l.rest (row_widths l.table.structure) ≡ key_length l.key (row_widths l.table.structure);
+  key : l.made.items ++ key_of l.rest (set (row_at l.table.rows l.r).texts l.f l.text)
+      ≡ key_of l.key (set (row_at l.table.rows l.r).texts l.f l.text);
+  length : length l.made.items + key_length l.rest (row_widths l.table.structure)
+      ≡ key_length l.key (row_widths l.table.structure);
   fields : AllByRecursion (IsTextField l.table.structure) l.rest;
 }
 

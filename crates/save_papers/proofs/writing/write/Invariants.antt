@@ -5,4 +5,6 @@ use Rattle.save_papers.specs.Papers.{head, noted_text, paper_entry_text, entry_v
 use Rattle.save_papers.proofs.writing.write.Given as goal
 
 abbrev pub invariant-loop-entry : goal.invariant-loop-entry
-invariant-loop-entry l = l.out.items ≡ ((head ++ noted_text l.paper.noted) ++ to_be_bytes w32 (length l.paper.entries.items)) ++ flat_map paper_entry_text (entry_views (take l.entry-index l.paper.entries.items))
+invariant-loop-entry l = l.out.items
+    ≡ ((head ++ noted_text l.paper.noted) ++ to_be_bytes w32 (length l.paper.entries.items)) ++ flat_map
+    paper_entry_text (entry_views (take l.entry-index l.paper.entries.items))

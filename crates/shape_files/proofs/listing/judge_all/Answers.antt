@@ -25,7 +25,8 @@ loop-rest-init g c =
       room = omega arith;
       judged =
           subst (λ (s : Shape). Judged holds all all 0 s c.new-found.result.items) (sym c.none-declarations.ensures)
-          (subst (λ (l : List DeclFault). Judged holds all all 0 no_shape l) (sym c.new-found.ensures.items) (none_judged holds all));
+          (subst (λ (l : List DeclFault). Judged holds all all 0 no_shape l) (sym c.new-found.ensures.items)
+          (none_judged holds all));
     }
 
 pub loop-rest-preserved : goal.loop-rest-preserved
@@ -44,8 +45,10 @@ loop-rest-preserved g c =
       legal = c.in_ok-judge.ensures.legal i.legal;
       room = omega (arith, i.room, c.first_line.ensures.shorter);
       judged =
-          one_judged first (lines c.args.bytes.now) (lines c.loop-rest.rest.now) (lines c.first_line.result.1.now) text c.loop-rest.line before after found more c.first_line.ensures.first i.judged
-          (line_before first now (c.loop-rest.line + 1) text before after found more i.kept c.in_ok-judge.ensures.judged);
+          one_judged first (lines c.args.bytes.now) (lines c.loop-rest.rest.now) (lines c.first_line.result.1.now) text
+          c.loop-rest.line before after found more c.first_line.ensures.first i.judged
+          (line_before first now (c.loop-rest.line + 1) text before after found more i.kept
+          c.in_ok-judge.ensures.judged);
     }
 
 pub returns-in_err-judge-clause-refused : goal.returns-in_err-judge-clause-refused
@@ -53,7 +56,8 @@ returns-in_err-judge-clause-refused g c =
     let p = err_from_is_err_and c.from_residual.result c.from_residual.ensures.1 in
     let i = c.loop-rest.invariant in
     rw (p.1, p.2)
-    (device_later c.in_err-judge.field-0.0 (g.F.Files.failed c.args.files.now) (g.F.Files.failed c.loop-rest.files) (g.F.Files.failed c.judge.new.files)
+    (device_later c.in_err-judge.field-0.0 (g.F.Files.failed c.args.files.now) (g.F.Files.failed c.loop-rest.files)
+    (g.F.Files.failed c.judge.new.files)
     i.counted c.judge.ensures.counted c.in_err-judge.ensures.refused)
 
 pub returns-in_err-judge-clause-counted : goal.returns-in_err-judge-clause-counted
@@ -61,13 +65,16 @@ returns-in_err-judge-clause-counted g c = omega (arith, c.loop-rest.invariant.co
 
 pub returns-in_err-judge-clause-kept : goal.returns-in_err-judge-clause-kept
 returns-in_err-judge-clause-kept g c =
-    same_then (g.F.Files.holds c.args.files.now) (g.F.Files.holds c.loop-rest.files) (g.F.Files.holds c.judge.new.files) c.loop-rest.invariant.kept c.judge.ensures.kept
+    same_then (g.F.Files.holds c.args.files.now) (g.F.Files.holds c.loop-rest.files) (g.F.Files.holds c.judge.new.files)
+    c.loop-rest.invariant.kept c.judge.ensures.kept
 
 pub returns-clause-judged : goal.returns-clause-judged
 returns-clause-judged g c =
     let first = g.F.Files.holds c.args.files.now in
     let all = lines c.args.bytes.now in
     let found = c.loop-rest.found.items in
-    let none = no_lines c.loop-rest.rest.now (eqb-true (length c.loop-rest.rest.now) 0 (sym c.is_empty.ensures ∙ c.loop-rest-test.false)) in
+    let none = no_lines c.loop-rest.rest.now
+    (eqb-true (length c.loop-rest.rest.now) 0 (sym c.is_empty.ensures ∙ c.loop-rest-test.false)) in
     subst (λ (s : Shape). JudgedLines first all s found) (sym c.whole.ensures)
-    (all_judged first all (lines c.loop-rest.rest.now) c.loop-rest.line (shape_of c.loop-rest.declarations) found none c.loop-rest.invariant.judged)
+    (all_judged first all (lines c.loop-rest.rest.now) c.loop-rest.line (shape_of c.loop-rest.declarations) found none
+    c.loop-rest.invariant.judged)

@@ -13,7 +13,8 @@ invariant-loop-rest g l = record {
   counted : g.F.Files.failed l.fn.files ≤ g.F.Files.failed l.files;
   legal : is_shape (shape_of l.declarations) ≡ true;
   room : l.line + length l.rest ≤ length l.fn.bytes;
-  judged : Judged (g.F.Files.holds l.fn.files) (lines l.fn.bytes) (lines l.rest) l.line (shape_of l.declarations) l.found.items;
+  judged : Judged (g.F.Files.holds l.fn.files) (lines l.fn.bytes) (lines l.rest) l.line (shape_of l.declarations)
+      l.found.items;
 }
 
 abbrev pub decreases-loop-rest : goal.decreases-loop-rest

@@ -17,7 +17,8 @@ returns-in-Ok-clause-judged g c =
       short = c.in_ok-bytes.ensures.short;
       judged =
           lines_before first read (lines bytes) listed.shape listed.faults.items c.declaration_bytes.ensures.kept
-          (subst (λ (b : List ℕ). JudgedLines read (lines b) listed.shape listed.faults.items) c.as_slice.ensures.value c.in-Ok.ensures.judged);
+          (subst (λ (b : List ℕ). JudgedLines read (lines b) listed.shape listed.faults.items) c.as_slice.ensures.value
+          c.in-Ok.ensures.judged);
     }
 
 pub returns-in-Ok-clause-declared : goal.returns-in-Ok-clause-declared
@@ -28,7 +29,8 @@ returns-in-Ok-clause-declared g c = λ none.
       bytes = all.bytes;
       held = all.held;
       short = all.short;
-      declared = none_faulty (g.F.Files.holds c.args.files.now) (lines all.bytes) listed.shape listed.faults.items all.judged none;
+      declared = none_faulty (g.F.Files.holds c.args.files.now) (lines all.bytes) listed.shape listed.faults.items
+          all.judged none;
     }
 
 pub returns-clause-refused : goal.returns-clause-refused
@@ -37,8 +39,10 @@ returns-clause-refused g c =
     let read = g.F.Files.failed c.declaration_bytes.new.files in
     let after = g.F.Files.failed c.judge_all.new.files in
     device_told c.in-Err.refusal (g.F.Files.holds c.args.files.now) c.args.decl.now before after
-    (device_later c.in-Err.refusal before read after c.declaration_bytes.ensures.counted c.judge_all.ensures.counted c.in-Err.ensures.refused)
+    (device_later c.in-Err.refusal before read after c.declaration_bytes.ensures.counted c.judge_all.ensures.counted
+    c.in-Err.ensures.refused)
 
 pub returns-clause-lines : goal.returns-clause-lines
 returns-clause-lines g c =
-    no_line_of c.in-Err.refusal (g.F.Files.failed c.declaration_bytes.new.files) (g.F.Files.failed c.judge_all.new.files) c.in-Err.ensures.refused
+    no_line_of c.in-Err.refusal (g.F.Files.failed c.declaration_bytes.new.files)
+    (g.F.Files.failed c.judge_all.new.files) c.in-Err.ensures.refused

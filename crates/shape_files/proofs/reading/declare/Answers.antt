@@ -8,14 +8,18 @@ use Rattle.shape_files.proofs.reading.declare.Goals as goal
 
 pub returns-in-Table-clause-refused : goal.returns-in-Table-clause-refused
 returns-in-Table-clause-refused g c =
-    subst (λ (x : Said). IfErr c.declare_table.result (LineRefusalIs (shape_of c.args.declarations.now) x (g.F.Files.failed c.args.files.now) (g.F.Files.failed c.declare_table.new.files))) c.in-Table.ensures
+    subst (λ (x : Said). IfErr c.declare_table.result
+    (LineRefusalIs (shape_of c.args.declarations.now) x (g.F.Files.failed c.args.files.now)
+    (g.F.Files.failed c.declare_table.new.files))) c.in-Table.ensures
     c.declare_table.ensures.refused
 
 pub returns-in-Index-clause-refused : goal.returns-in-Index-clause-refused
 returns-in-Index-clause-refused g c =
     let failed = g.F.Files.failed c.args.files.now in
-    subst (λ (x : Said). IfErr c.declare_index.result (LineRefusalIs (shape_of c.args.declarations.now) x failed failed)) c.in-Index.ensures
+    subst (λ (x : Said). IfErr c.declare_index.result
+    (LineRefusalIs (shape_of c.args.declarations.now) x failed failed)) c.in-Index.ensures
     (c.declare_index.ensures.refused failed failed)
 
 pub returns-in-Other-clause-refused : goal.returns-in-Other-clause-refused
-returns-in-Other-clause-refused g c = subst (λ (x : Said). LineFaultIs (shape_of c.args.declarations.now) x Word) c.in-Other.ensures tt
+returns-in-Other-clause-refused g c =
+    subst (λ (x : Said). LineFaultIs (shape_of c.args.declarations.now) x Word) c.in-Other.ensures tt

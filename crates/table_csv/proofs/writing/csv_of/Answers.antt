@@ -17,11 +17,13 @@ pub loop-r-preserved : goal.loop-r-preserved
 loop-r-preserved c =
     let below : c.loop-r.r < length c.args.table.now.rows = search rules in
     subst (λ t. HasWritten t c.put_line-in-loop-r.new.writer)
-    (more_lines (names_line c.args.table.now.structure.fields) _ (csv_line c.args.table.now.structure.fields) c.args.table.now.rows c.loop-r.r no_row below c.in_ok-put_row.ensures)
+    (more_lines (names_line c.args.table.now.structure.fields) _ (csv_line c.args.table.now.structure.fields)
+    c.args.table.now.rows c.loop-r.r no_row below c.in_ok-put_row.ensures)
     (c.in_ok-put_line-2.ensures _ c.loop-r.invariant)
 
 pub returns : goal.returns
 returns c =
     let all : c.loop-r.r ≡ length c.args.table.now.rows = search rules in
     let rows = c.args.table.now.rows in
-    c.in_ok-text.ensures _ c.loop-r.invariant ∙ ap (λ rs. lines_text (lines_of c.args.table.now.structure.fields rs)) (ap (λ n. take n rows) all ∙ take-length rows)
+    c.in_ok-text.ensures _ c.loop-r.invariant ∙ ap (λ rs. lines_text (lines_of c.args.table.now.structure.fields rs))
+    (ap (λ n. take n rows) all ∙ take-length rows)

@@ -14,7 +14,8 @@ returns-in_err-list-clause-refused g c =
     let p = err_from_is_err_and c.from_residual-in_err-list.result c.from_residual-in_err-list.ensures.1 in
     let failed = g.F.Files.failed in
     rw (p.1, p.2) (lists_refused c.args.shape.now c.loop-n.n c.get-index.result.now _ _ c.get-index.ensures
-    (rose_on (failed c.args.files.now) (failed c.loop-n.files) (failed c.load_list.new.files) c.loop-n.invariant.count c.in_err-list.ensures.counted)
+    (rose_on (failed c.args.files.now) (failed c.loop-n.files) (failed c.load_list.new.files) c.loop-n.invariant.count
+    c.in_err-list.ensures.counted)
     c.in_err-list.field-0.0 c.in_err-list.ensures.refused)
 
 pub loop-n-preserved : goal.loop-n-preserved
@@ -22,14 +23,20 @@ loop-n-preserved g c =
     let holds = g.F.Files.holds in
     record {
       taken =
-          subst (λ (l : List (Option TreeView)). ReadLists (holds c.args.files.now) c.args.shape.now (c.loop-n.n + 1) l) (sym c.in_ok-push.ensures.items)
-          (lists_more (holds c.args.files.now) (holds c.loop-n.files) c.args.shape.now c.loop-n.n c.loop-n.lists.items c.in_ok-list.list c.get-index.result.now c.get-table.result.now
-          c.loop-n.invariant.same c.get-index.ensures (subst (λ (n : ℕ). slice_get c.args.shape.now.tables n ≡ Some c.get-table.result.now) c.from.ensures c.get-table.ensures) c.loop-n.invariant.taken c.in_ok-list.ensures.loaded);
-      same = kept_on (holds c.args.files.now) (holds c.loop-n.files) (holds c.load_list.new.files) c.loop-n.invariant.same c.in_ok-list.ensures.kept;
+          subst (λ (l : List (Option TreeView)). ReadLists (holds c.args.files.now) c.args.shape.now (c.loop-n.n + 1) l)
+          (sym c.in_ok-push.ensures.items)
+          (lists_more (holds c.args.files.now) (holds c.loop-n.files) c.args.shape.now c.loop-n.n c.loop-n.lists.items
+          c.in_ok-list.list c.get-index.result.now c.get-table.result.now
+          c.loop-n.invariant.same c.get-index.ensures
+          (subst (λ (n : ℕ). slice_get c.args.shape.now.tables n ≡ Some c.get-table.result.now) c.from.ensures
+          c.get-table.ensures) c.loop-n.invariant.taken c.in_ok-list.ensures.loaded);
+      same = kept_on (holds c.args.files.now) (holds c.loop-n.files) (holds c.load_list.new.files)
+          c.loop-n.invariant.same c.in_ok-list.ensures.kept;
       count = omega (arith, c.loop-n.invariant.count, c.in_ok-list.ensures.counted);
     }
 
 pub returns-clause-loaded : goal.returns-clause-loaded
 returns-clause-loaded g c =
     let all : c.loop-n.n ≡ length c.args.shape.now.indexes = omega arith in
-    lists_whole (g.F.Files.holds c.args.files.now) c.args.shape.now c.loop-n.n c.loop-n.lists.items all c.loop-n.invariant.taken
+    lists_whole (g.F.Files.holds c.args.files.now) c.args.shape.now c.loop-n.n c.loop-n.lists.items all
+    c.loop-n.invariant.taken

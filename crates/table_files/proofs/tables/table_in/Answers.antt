@@ -12,7 +12,9 @@ returns-clause-table c =
       text = text.1;
       few = c.in-Ok.ensures.within;
       declared =
-          let fields : c.fields.result.now ≡ c.in-Ok.table.structure.fields = c.fields.ensures ∙ ap (λ (s : StructureState). s.fields) c.structure.ensures.same in
+          let fields : c.fields.result.now ≡ c.in-Ok.table.structure.fields =
+          c.fields.ensures ∙ ap (λ (s : StructureState). s.fields) c.structure.ensures.same in
           subst (λ (fs : List Field). AreDeclared fs c.args.declared.now.fields) fields
-          (subst (λ (ds : List Field). AreDeclared c.fields.result.now ds) c.as_slice.ensures (c.if-not-are_declared.ensures.0 refl));
+          (subst (λ (ds : List Field). AreDeclared c.fields.result.now ds) c.as_slice.ensures
+          (c.if-not-are_declared.ensures.0 refl));
     }

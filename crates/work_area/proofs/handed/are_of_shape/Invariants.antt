@@ -7,6 +7,7 @@ use Rattle.work_area.proofs.handed.are_of_shape.Given as goal
 
 abbrev pub invariant-loop-t : goal.invariant-loop-t
 invariant-loop-t l = record {
-  fields : (k : ℕ) (d : TableState) (s : TableShape) → k < l.t → slice_get l.shape.tables k ≡ Some s → HaveAlikeFields (get_or l.tables.items k d).structure.fields s.fields;
+  fields : (k : ℕ) (d : TableState) (s : TableShape) → k < l.t → slice_get l.shape.tables k ≡ Some s
+      → HaveAlikeFields (get_or l.tables.items k d).structure.fields s.fields;
   few : (k : ℕ) (d : TableState) → k < l.t → length (get_or l.tables.items k d).rows ≤ l.limit;
 }

@@ -12,8 +12,15 @@ loop-t-preserved g c =
     let all = c.args.tables.now.items in
     let n = c.loop-t.t in
     let o : OpenState = c.index_mut.result.now in
-    let lt : n < length all = omega (arith, front_length n all, ap (λ (ts : List OpenState). length ts) c.loop-t.invariant, c.len-t-end.ensures) in
-    let found : o ≡ slice_index_or (closed_front n all) n o = subst (λ (ts : List OpenState). o ≡ slice_index_or ts n o) c.loop-t.invariant c.index_mut.ensures.value in
+    let lt : n < length all = omega (
+      arith,
+      front_length n all,
+      ap (λ (ts : List OpenState). length ts)
+          c.loop-t.invariant,
+      c.len-t-end.ensures,
+    ) in
+    let found : o ≡ slice_index_or (closed_front n all) n o =
+    subst (λ (ts : List OpenState). o ≡ slice_index_or ts n o) c.loop-t.invariant c.index_mut.ensures.value in
     let e : n + 1 ≡ suc n = add-one n in
     ap (λ (ts : List OpenState). slice_set ts n c.close.new.self) c.loop-t.invariant
     ∙ ap (λ x. slice_set (closed_front n all) n x) c.close.ensures

@@ -12,7 +12,9 @@ pub declare_with-requires-clause-key : goal.declare_with-requires-clause-key
 declare_with-requires-clause-key g c =
     let structure = c.args.made.now.table.structure in
     let key : List KeyPart = c.args.index.now.key in
-    subst (IsKey structure) (sym c.copied.ensures) (c.fitting_keys_are_keys.ensures structure key (key_same structure.fields c.args.table.now.fields key c.requires.fields c.requires.key.key))
+    subst (IsKey structure) (sym c.copied.ensures)
+    (c.fitting_keys_are_keys.ensures structure key
+    (key_same structure.fields c.args.table.now.fields key c.requires.fields c.requires.key.key))
 
 pub declare_with-requires-clause-form : goal.declare_with-requires-clause-form
 declare_with-requires-clause-form g c =
@@ -20,5 +22,7 @@ declare_with-requires-clause-form g c =
     let declared : List Field = c.args.table.now.fields in
     let widths : widths_of declared ≡ widths_of fields = sym (alike_widths fields declared c.requires.fields) in
     let key = sym c.copied.ensures in
-    let text = sym (c.spelled-text.ensures ∙ ap (λ (fs : List Field). key_text fs c.args.index.now.key) c.as_slice.ensures) in
-    subst (λ (f : KeyForm). IfSome c.args.list (λ k. g.K.KeyList.form k ≡ f)) (λ i. record { key_length = key_length (key i) (widths i); key_text = text i }) c.requires.form
+    let text = sym (c.spelled-text.ensures ∙ ap (λ (fs : List Field). key_text fs c.args.index.now.key)
+    c.as_slice.ensures) in
+    subst (λ (f : KeyForm). IfSome c.args.list (λ k. g.K.KeyList.form k ≡ f))
+    (λ i. record { key_length = key_length (key i) (widths i); key_text = text i }) c.requires.form

@@ -9,7 +9,8 @@ decreases-write l = goal.size-write l
 
 abbrev pub invariant-loop-at : goal.invariant-loop-at
 invariant-loop-at l = record {
-  written : AreWritten l.head.length (l.self.height - 1) l.pages l.number l.body.items l.page.entries.items (take l.at l.children);
+  written : AreWritten l.head.length (l.self.height - 1) l.pages l.number l.body.items l.page.entries.items
+      (take l.at l.children);
   text : ArePages l.head.length l.pages l.number l.fn.body.items l.body.items;
   end : vec_len l.body ≡ l.number * 512;
   later : l.pages ≤ l.number;

@@ -17,8 +17,10 @@ invariant_of-self g c =
     let list = c.args.list.now in
     let order = c.order_of-self-inside.result in
     let table : old ≡ c.args.self.now.table = ap (λ (s : OpenState). s.table) c.self.view_is in
-    let declared = subst (λ (t : IndexedState). All (λ n. is_some (mark_at t.marks n) ≡ true) list) (sym table) c.requires.declared in
-    let made = open_made old c.open.new.self list order c.requires.few c.order_of-self-inside.ensures.within declared (ap (λ (t : IndexedState). t.marks) {y = remade list old} c.in-Ok.ensures.ok) in
+    let declared = subst (λ (t : IndexedState). All (λ n. is_some (mark_at t.marks n) ≡ true) list) (sym table)
+    c.requires.declared in
+    let made = open_made old c.open.new.self list order c.requires.few c.order_of-self-inside.ensures.within declared
+    (ap (λ (t : IndexedState). t.marks) {y = remade list old} c.in-Ok.ensures.ok) in
     subst (λ xs. IsOpen c.open.new.self xs order) (sym c.held-self-inside.ensures) made
 
 pub returns-in-Ok : goal.returns-in-Ok
@@ -26,11 +28,23 @@ returns-in-Ok g c = λ shown sees.
     let now : OpenState = c.args.self.now in
     let list = c.args.list.now in
     let table : c.self.inside.table ≡ now.table = ap (λ (s : OpenState). s.table) c.self.view_is in
-    let landing : Option ℕ → Landing = λ o. at_higher_cost (length now.table.rows * count_stale list now.table.marks) (end_of shown true (order_pairs o now.table)) in
-    let lands = subst (λ (t : IndexedState). ShowsRows (FnReturnsAt g.F.Fn) c.args.see t.structure t.rows shown → Lands (at_higher_cost (length t.rows * count_stale list t.marks) (end_of shown true (order_pairs (slice_get list 0) t))) c.args.budget c.in-Ok.landed) table (c.in-Ok.ensures.lands shown) sees in
+    let landing : Option ℕ → Landing = λ o. at_higher_cost (length now.table.rows * count_stale list now.table.marks)
+    (end_of shown true (order_pairs o now.table)) in
+    let lands = subst (λ (t : IndexedState). ShowsRows (FnReturnsAt g.F.Fn) c.args.see t.structure t.rows shown
+    → Lands (at_higher_cost (length t.rows * count_stale list t.marks)
+    (end_of shown true (order_pairs (slice_get list 0) t))) c.args.budget c.in-Ok.landed) table
+    (c.in-Ok.ensures.lands shown) sees in
     let made : c.open.new.self ≡ remade list now.table = c.in-Ok.ensures.ok ∙ ap (remade list) table in
     let there : c.land.new.self ≡ landed (opened list now) (landing (slice_get list 0)) = c.land.ensures.there
-    ∙ (λ i. record { table = made i; list = c.held-self-inside.ensures i; order = c.order_of-self-inside.ensures.value i; pointer = lands.row i; bof = lands.bof i; found = lands.found i }) in
+    ∙ (λ i. record {
+      table = made i;
+      list = c.held-self-inside.ensures i;
+      order = c.order_of-self-inside.ensures.value
+          i;
+      pointer = lands.row i;
+      bof = lands.bof i;
+      found = lands.found i;
+    }) in
     (c.land.ensures.cost ∙ lands.cost, omega (arith, c.land.ensures.cost, lands.within), there)
 
 pub returns : goal.returns
@@ -39,6 +53,17 @@ returns g c = λ shown sees.
     let list = c.args.list.now in
     let inside = c.self.inside in
     let table : inside.table ≡ now.table = ap (λ (s : OpenState). s.table) c.self.view_is in
-    let with_it : IndexedState → OpenState = λ t. record { table = t; list = inside.list.items; order = inside.order; pointer = inside.pointer; bof = inside.bof; found = inside.found } in
-    let refused = subst (λ (t : IndexedState). ShowsRows (FnReturnsAt g.F.Fn) c.args.see t.structure t.rows shown → IsRefusal (at_higher_cost (length t.rows * count_stale list t.marks) (end_of shown true (order_pairs (slice_get list 0) t))) c.args.budget c.in-Err.refused) table (c.in-Err.ensures.lands shown) sees in
+    let with_it : IndexedState → OpenState = λ t.
+    record {
+      table = t;
+      list = inside.list.items;
+      order = inside.order;
+      pointer = inside.pointer;
+      bof = inside.bof;
+      found = inside.found;
+    } in
+    let refused = subst (λ (t : IndexedState). ShowsRows (FnReturnsAt g.F.Fn) c.args.see t.structure t.rows shown
+    → IsRefusal (at_higher_cost (length t.rows * count_stale list t.marks)
+    (end_of shown true (order_pairs (slice_get list 0) t))) c.args.budget c.in-Err.refused) table
+    (c.in-Err.ensures.lands shown) sees in
     (refused, ap with_it c.in-Err.ensures.err ∙ c.self.view_is)

@@ -11,9 +11,22 @@ returns g c = λ shown sees.
     let now : OpenState = c.args.self.now in
     let inside = c.self.inside in
     let table : inside.table ≡ now.table = ap (λ (s : OpenState). s.table) c.self.view_is in
-    let with_it : IndexedState → OpenState = λ t. record { table = t; list = inside.list.items; order = inside.order; pointer = inside.pointer; bof = inside.bof; found = inside.found } in
+    let with_it : IndexedState → OpenState = λ t.
+    record {
+      table = t;
+      list = inside.list.items;
+      order = inside.order;
+      pointer = inside.pointer;
+      bof = inside.bof;
+      found = inside.found;
+    } in
     let same : with_it c.seek-moved.new.self ≡ now = ap with_it c.seek-moved.ensures.same ∙ c.self.view_is in
-    let said = subst (λ (t : IndexedState). ShowsRows (FnReturnsAt g.F.Fn) c.args.see t.structure t.rows shown → IsMove (sought shown c.args.exact c.args.text.now (order_pairs (Some c.key_index-number.result) t)) c.args.budget c.seek-moved.result) table (c.seek-moved.ensures.lands shown) in
-    let moved = subst (λ (o : Option ℕ). IsMove (sought shown c.args.exact c.args.text.now (order_pairs o now.table)) c.args.budget c.seek-moved.result) c.key_index-number.ensures.value (said sees) in
-    subst (λ (v : OpenState). IsMoved (landed v) v c.settle.new.self (sought shown c.args.exact c.args.text.now (order_pairs (order_index now.order now.list) now.table)) c.args.budget c.settle.result) same
+    let said = subst (λ (t : IndexedState). ShowsRows (FnReturnsAt g.F.Fn) c.args.see t.structure t.rows shown
+    → IsMove (sought shown c.args.exact c.args.text.now (order_pairs (Some c.key_index-number.result) t))
+    c.args.budget c.seek-moved.result) table (c.seek-moved.ensures.lands shown) in
+    let moved = subst (λ (o : Option ℕ). IsMove (sought shown c.args.exact c.args.text.now (order_pairs o now.table))
+    c.args.budget c.seek-moved.result) c.key_index-number.ensures.value (said sees) in
+    subst (λ (v : OpenState). IsMoved (landed v) v c.settle.new.self
+    (sought shown c.args.exact c.args.text.now (order_pairs (order_index now.order now.list) now.table))
+    c.args.budget c.settle.result) same
     (c.settle.ensures _ c.args.budget moved)

@@ -9,5 +9,6 @@ use Rattle.open_table.proofs.table.IndexedTable.judge.Goals as goal
 pub returns-clause-lands : goal.returns-clause-lands
 returns-clause-lands g c = λ shown.
     subst (λ (t : IndexedState). ShowsRows (FnReturnsAt g.F.Fn) c.args.see.now t.structure t.rows shown
-    → IsMove (at_higher_cost c.args.base (end_of shown true (order_pairs c.args.order t))) c.args.budget c.judge.result) c.self.view_is
+    → IsMove (at_higher_cost c.args.base (end_of shown true (order_pairs c.args.order t))) c.args.budget c.judge.result)
+    c.self.view_is
     (c.judge.ensures.lands shown)

@@ -10,5 +10,6 @@ use Rattle.open_table.proofs.table.IndexedTable.judge_unmarked.Goals as goal
 pub returns : goal.returns
 returns g c = λ shown.
     subst (λ (t : IndexedState). ShowsRows (FnReturnsAt g.F.Fn) c.args.see.now t.structure (unmarked t.rows) shown
-    → IsMove (at_higher_cost c.args.base (end_of shown true (pairs_in_order c.args.order t.marks (unmarked t.rows)))) c.args.budget c.judge_kept.result) c.self.view_is
+    → IsMove (at_higher_cost c.args.base (end_of shown true (pairs_in_order c.args.order t.marks (unmarked t.rows))))
+    c.args.budget c.judge_kept.result) c.self.view_is
     (c.judge_kept.ensures shown)

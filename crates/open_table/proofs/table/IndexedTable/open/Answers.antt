@@ -7,5 +7,7 @@ pub remake_and_top-requires-clause-paid : goal.remake_and_top-requires-clause-pa
 remake_and_top-requires-clause-paid g c = λ stale.
     let t = c.args.self.now in
     let count = c.stale_in-stale.result in
-    let base = ap (λ n. n * count) (c.from.ensures ∙ c.count.ensures.count) ∙ ap (λ k. length t.rows * k) c.stale_in-stale.ensures.value in
-    pays_for c.args.list.now t (c.from.result * count) base (λ is. stale (subst (λ (o : Option ℕ). IsOrder o t) (sym c.first_index-order.ensures) is))
+    let base = ap (λ n. n * count) (c.from.ensures ∙ c.count.ensures.count)
+    ∙ ap (λ k. length t.rows * k) c.stale_in-stale.ensures.value in
+    pays_for c.args.list.now t (c.from.result * count) base
+    (λ is. stale (subst (λ (o : Option ℕ). IsOrder o t) (sym c.first_index-order.ensures) is))

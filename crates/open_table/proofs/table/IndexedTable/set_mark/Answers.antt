@@ -13,11 +13,15 @@ invariant_of-self g c =
     let old = c.self.inside.table in
     let marked = with_mark old.rows c.args.r c.args.marked in
     let slots = c.self.inside.slots.items in
-    let new_rows : c.set_mark.new.self.rows ≡ marked = ap (λ (t : TableState). t.rows) {y = record old { rows = marked }} c.set_mark.ensures in
-    let structure : c.set_mark.new.self.structure ≡ old.structure = ap (λ (t : TableState). t.structure) {y = record old { rows = marked }} c.set_mark.ensures in
+    let new_rows : c.set_mark.new.self.rows ≡ marked =
+    ap (λ (t : TableState). t.rows) {y = record old { rows = marked }} c.set_mark.ensures in
+    let structure : c.set_mark.new.self.structure ≡ old.structure =
+    ap (λ (t : TableState). t.structure) {y = record old { rows = marked }} c.set_mark.ensures in
     subst (λ s. IsIndexed s c.set_mark.new.self.rows slots) (sym structure)
     (subst (λ rows. IsIndexed old.structure rows slots) (sym new_rows) (record {
       few = subst (λ n. n ≤ 1000000) (sym (length-set old.rows c.args.r _)) c.self.invariant.few;
       exact = weaker (IsSlot old.structure old.rows) (IsSlot old.structure marked)
-          (same_lists old.structure old.rows marked (λ parts. (c.index_lists.ensures parts old.rows).marked c.args.r c.args.marked)) slots c.self.invariant.exact;
+          (same_lists old.structure old.rows marked
+          (λ parts. (c.index_lists.ensures parts old.rows).marked c.args.r c.args.marked)) slots
+          c.self.invariant.exact;
     }))

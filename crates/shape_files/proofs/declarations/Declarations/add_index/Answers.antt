@@ -12,6 +12,7 @@ returns-clause-legal c = λ h.
     let before = shape_of c.args.self.now in
     let room : length c.args.self.now.indexes.items < 64 = search rules in
     let next : is_next_index before.tables before.indexes c.args.index ≡ true =
-    rw (sym c.as_slice.ensures.value, sym c.as_slice-2.ensures.value) (sym c.is_next.ensures ∙ c.if-not-is_next.false) in
+    rw (sym c.as_slice.ensures.value, sym c.as_slice-2.ensures.value)
+    (sym c.is_next.ensures ∙ c.if-not-is_next.false) in
     subst (λ (xs : List IndexShape). is_shape (record before { indexes = xs }) ≡ true) (sym c.in_ok-push.ensures.items)
     (index_added before c.args.index room next h)

@@ -18,5 +18,6 @@ returns g c =
     let there : IsHere now t o = stands inside now t o c.self.view_is c.requires.open here.place here.table here.within
     c.index_mut.ensures.value in
     let made = ap (λ (s : StoreState). with_table s t c.make_move.new.self) c.self.view_is in
-    moved (FnReturnsAt g.F.Fn) c.args.see bottom_of now _ t o c.make_move.new.self c.args.budget c.make_move.result there
+    moved (FnReturnsAt g.F.Fn) c.args.see bottom_of now _ t o c.make_move.new.self c.args.budget c.make_move.result
+    there
     made c.make_move.ensures

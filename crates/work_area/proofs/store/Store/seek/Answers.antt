@@ -9,9 +9,17 @@ use Rattle.work_area.proofs.store.Store.seek.Goals as goal
 pub returns : goal.returns
 returns g c =
     let now : StoreState = c.args.self.now in
-    let inside : StoreState = record { tables = c.self.inside.tables.items; areas = c.self.inside.areas; selected = c.self.inside.selected; limit = c.self.inside.limit } in
+    let inside : StoreState = record {
+      tables = c.self.inside.tables.items;
+      areas = c.self.inside.areas;
+      selected =
+          c.self.inside.selected;
+      limit = c.self.inside.limit;
+    } in
     let t = c.place_here-t.result in
     let o : OpenState = c.index_mut.result.now in
-    let there : IsHere now t o = stands inside now t o c.self.view_is c.requires.open c.place_here-t.ensures.place c.place_here-t.ensures.table c.place_here-t.ensures.within c.index_mut.ensures.value in
+    let there : IsHere now t o = stands inside now t o c.self.view_is c.requires.open c.place_here-t.ensures.place
+    c.place_here-t.ensures.table c.place_here-t.ensures.within c.index_mut.ensures.value in
     let made = ap (λ (s : StoreState). with_table s t c.seek.new.self) c.self.view_is in
-    moved (FnReturnsAt g.F.Fn) c.args.see (seek_of c.args.exact c.args.text.now) now _ t o c.seek.new.self c.args.budget c.seek.result there made c.seek.ensures
+    moved (FnReturnsAt g.F.Fn) c.args.see (seek_of c.args.exact c.args.text.now) now _ t o c.seek.new.self c.args.budget
+    c.seek.result there made c.seek.ensures
