@@ -2,7 +2,6 @@
 use Rattle.std.proofs.Common.{◌≡◌, ℕ, zero, suc, ◌+◌, ◌-◌, ◌<◌, Bool, true, false, not, Option, Some, None, List, []}
 use Rattle.std.proofs.Common.{◌∷◌, ◌++◌, length, filter, take, cond, refl, sym, ap, ◌∙◌, subst, arith, append-nil}
 use Rattle.std.proofs.lemmas.Bool.{false≢true}
-use Rattle.std.proofs.lemmas.List.Elements.{filter_more}
 use Rattle.dbf_file.specs.Rows.{Row, row_at, no_row}
 use Rattle.dbf_file.specs.Tables.{StructureState}
 use Rattle.open_table.specs.Tried.{tried}
@@ -13,6 +12,7 @@ use Rattle.key_lists.specs.Pairs.{Pair, is_before}
 use Rattle.row_keys.specs.declared.building.Kept.{Kept}
 use Rattle.row_keys.specs.Lists.{index_list, is_kept, kept_rows}
 use Rattle.row_keys.proofs.IndexLemmas.{ListLaw}
+use Rattle.row_keys.proofs.ListLemmas.{kept_more}
 use Rattle.row_moves.specs.Moves.{first_shown, met}
 use Rattle.open_table.specs.Passes.{lesser, with_tried, is_met, count_met}
 
@@ -67,11 +67,6 @@ both_more true y more pairs n e = omega (arith, e)
 both_more false y more pairs n e = e
 
 -- ---- rows that are kept, one by one
-
-pub kept_more : (kept : Kept) (rows : List Row) (r : ℕ) → r < length rows
-    → kept_rows kept (take (r + 1) rows) ≡ kept_rows kept (take r rows) ++ cond (is_kept kept (row_at rows r))
-    (row_at rows r ∷ []) []
-kept_more kept rows r lt = filter_more (is_kept kept) rows r no_row lt
 
 pub kept_take : (kept : Kept) (rows : List Row) (r : ℕ) → r < length rows → is_kept kept (row_at rows r) ≡ true
     → kept_rows kept (take (r + 1) rows) ≡ kept_rows kept (take r rows) ++ row_at rows r ∷ []

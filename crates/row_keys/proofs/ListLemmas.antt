@@ -2,11 +2,13 @@
 use Rattle.std.proofs.Common.{◌≡◌, ℕ, zero, suc, ◌+◌, ◌<◌, ◌≤◌, Bool, true, false, cond, List, [], ◌∷◌, ◌++◌, length}
 use Rattle.std.proofs.Common.{get_or, take, drop, set, refl, sym, ap, ◌∙◌, subst, arith}
 use Rattle.std.specs.List.{Contains}
+use Rattle.std.proofs.lemmas.List.{append-nil}
 use Rattle.std.proofs.lemmas.List.Elements.{filter_more}
 use Rattle.dbf_file.specs.Rows.{Row, row_at, no_row, with_mark}
 use Rattle.key_lists.specs.Order.{Each, IsAscending, IsDistinct, in_order, inserted, without}
 use Rattle.key_lists.specs.Pairs.{Pair, is_before}
 use Rattle.key_lists.specs.Laws.{PutsInOrder, ChangesRows}
+use Rattle.key_lists.proofs.Ordered.{Each-append, Each-at, absent-Each}
 use Rattle.row_keys.specs.declared.building.Kept.{Kept}
 use Rattle.row_keys.specs.declared.building.Kept.TheVariants.{Nothing}
 use Rattle.shape.specs.declared.parts.KeyPart.{KeyPart}
@@ -18,21 +20,6 @@ OrderLaw = (pairs : List Pair) → PutsInOrder pairs
 
 abbrev pub RowsLaw : Type 0
 RowsLaw = (front : List Pair) (p : Pair) (back : List Pair) → ChangesRows front p back
-
--- ---- the fact that holds of each
-
-pub Each-append : {X : Type 0} (P : X → Type 0) (xs ys : List X) → Each P xs → Each P ys → Each P (xs ++ ys)
-Each-append P [] ys e f = f
-Each-append P (x ∷ xs) ys e f = (e.0, Each-append P xs ys e.1 f)
-
-pub Each-at : {X : Type 0} (P : X → Type 0) (xs : List X) (k : ℕ) (d : X) → Each P xs → k < length xs
-    → P (get_or xs k d)
-Each-at P [] k d e lt = absurd (omega arith)
-Each-at P (x ∷ xs) zero d e lt = e.0
-Each-at P (x ∷ xs) (suc k) d e lt = Each-at P xs k d e.1 (omega arith)
-
-pub absent-Each : {X : Type 0} (xs : List X) (x : X) → Each (λ y. y ≡ x → ⊥) xs → Contains xs x → ⊥
-absent-Each xs x e c = Each-at (λ y. y ≡ x → ⊥) xs c.0 x e c.1 c.2
 
 -- ---- pairs of rows
 
@@ -72,10 +59,6 @@ module _ (parts : List KeyPart) where
   get_or-row_pairs n (row ∷ rows) zero d lt = ap (λ m. (key_of parts row.texts, m)) (omega arith)
   get_or-row_pairs n (row ∷ rows) (suc k) d lt = get_or-row_pairs (n + 1) rows k d (omega arith)
       ∙ ap (λ m. (key_of parts (get_or rows k no_row).texts, m)) (omega arith)
-
-append_nil : {X : Type 0} (xs : List X) → xs ++ [] ≡ xs
-append_nil [] = refl
-append_nil (x ∷ xs) = ap (λ ys. x ∷ ys) (append_nil xs)
 
 -- a list around one of its elements
 split_at : {X : Type 0} (xs : List X) (i : ℕ) (d : X) → i < length xs
@@ -145,7 +128,7 @@ index_list-push law parts rows row =
     let pairs : List Pair = row_pairs parts 1 rows in
     ap (in_order is_before) (row_pairs-append parts 1 rows (row ∷ []))
     ∙ (law pairs (key_of parts row.texts, 1 + length rows) []).added
-    ∙ ap (λ ps. inserted is_before (key_of parts row.texts, 1 + length rows) (in_order is_before ps)) (append_nil pairs)
+    ∙ ap (λ ps. inserted is_before (key_of parts row.texts, 1 + length rows) (in_order is_before ps)) (append-nil pairs)
     ∙ ap (λ n. inserted is_before (key_of parts row.texts, n) (in_order is_before pairs)) {x = 1 + length rows}
     {y = length rows + 1} (omega arith)
 
@@ -244,7 +227,7 @@ index_lists order law parts rows = record {
 
 -- ---- a list made row by row
 
-kept_more : (kept : Kept) (rows : List Row) (r : ℕ) → r < length rows
+pub kept_more : (kept : Kept) (rows : List Row) (r : ℕ) → r < length rows
     → kept_rows kept (take (r + 1) rows) ≡ kept_rows kept (take r rows) ++ cond (is_kept kept (row_at rows r))
     (row_at rows r ∷ []) []
 kept_more kept rows r lt = filter_more (is_kept kept) rows r no_row lt
