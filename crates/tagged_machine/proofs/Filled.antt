@@ -1,7 +1,7 @@
 -- Areas that are filled one by one.
 use Rattle.std.proofs.Common.{◌≡◌, ℕ, zero, suc, ◌<◌, ◌+◌, ◌-◌, List, [], ◌∷◌, length, take, set, Some, None, refl, ap, sym, subst, ◌∙◌, arith}
 use Rattle.std.specs.Prelude.{map, slice_get, slice_index_or}
-use Rattle.std.proofs.lemmas.List.{take_all, length-set}
+use Rattle.std.proofs.lemmas.List.{length-set}
 use Rattle.work_area.specs.Areas.{StoreState, use_at}
 use Rattle.code_items.specs.declared.desk.AreaState.{AreaState}
 use Rattle.run_steps.specs.World.{area_state}
@@ -15,9 +15,6 @@ filled (suc n) (a ∷ xs) (b ∷ ys) x lt e g =
     let first : a ≡ b = cc in
     let others : take n xs ≡ take n ys = cc in
     rw first (ap (λ l. b ∷ l) (filled n xs ys x (omega (arith, lt)) others g))
-
-pub all_filled : {A : Type 0} (n : ℕ) (xs ys : List A) → length xs ≡ n → length ys ≡ n → take n xs ≡ take n ys → xs ≡ ys
-all_filled n xs ys x y e = sym (take_all n xs (omega (arith, x))) ∙ (e ∙ take_all n ys (omega (arith, y)))
 
 pub mapped : {A B : Type 0} (f : A → B) (xs : List A) (n : ℕ) (d : A) → n < length xs → slice_get (map f xs) n ≡ Some (f (slice_index_or xs n d))
 mapped f [] n d lt = absurd (omega (arith, lt))

@@ -1,6 +1,6 @@
 //! The ten work areas as tests see them, filled anew without taking memory.
 
-ghost use Rattle.std.specs.Prelude.{◌≡◌, ◌≤◌, IfOk, length};
+ghost use Rattle.std.specs.Prelude.{◌≡◌, ◌≤◌, length};
 ghost use Rattle.code_rules.specs.Places.{filter_desk};
 ghost use Rattle.run_steps.specs.World.{area_state, desk_of};
 ghost use Rattle.tagged_machine.specs.Seen.{LeavesStore};

@@ -1,6 +1,6 @@
 //! Runs with all tests.
 
-ghost use Rattle.std.specs.Prelude.{◌≡◌, ◌≤◌};
+ghost use Rattle.std.specs.Prelude.{◌≤◌};
 ghost use Rattle.code_items.specs.Legal.{IsCode};
 ghost use Rattle.code_rules.specs.Rules.{Accepted};
 ghost use Rattle.fit_laws.specs.Fits.{IsFitting, LevelsFall, procedure_at};
