@@ -10,8 +10,7 @@ ghost use Rattle.run_steps.specs.Faults.{filters_other as filters_other_of};
 ghost use Rattle.run_steps.specs.World.{kind_held};
 ghost use Rattle.tagged_machine.specs.Seen.{state_seen};
 
-use crate::kinds::kinds_clash;
-use code_items::{AreaInstr, Code, Declared, Desk, Instr, ValueInstr};
+use code_items::{AreaInstr, Code, Declared, Desk, Instr, ValueInstr, kinds_clash};
 use code_rules::desks::{has_table, is_other_filter, is_other_list, record_is_other};
 use code_rules::heights::{is_over, is_under};
 use code_rules::kinds::wants;

@@ -12,12 +12,12 @@ ghost use Rattle.run_steps.specs.Filters.{block_fails, block_sound, block_start,
 ghost use Rattle.run_steps.specs.World.{kind_held};
 ghost use Rattle.tagged_machine.specs.Seen.{state_seen};
 
-use crate::kinds::{is_truth, kinds_clash};
+use crate::kinds::is_truth;
 use crate::operands::{filters_other, loads_free, loads_other};
 use crate::scratch::BlockScratch;
 use code_items::declared::Need;
 use code_items::laws::legal_codes;
-use code_items::{Code, Desk, Instr};
+use code_items::{Code, Desk, Instr, kinds_clash};
 use code_rules::Signature;
 use code_rules::filters::{filters, is_rows};
 use code_rules::heights::{is_over, is_under};
