@@ -29,6 +29,7 @@ use Rattle.run_steps.specs.Faults.{fault_of}
 use Rattle.run_steps.specs.Filters.{shown_by, viewer}
 use Rattle.run_steps.specs.Run.{Next, Finished, judged, step_of, next_world, after}
 use Rattle.run_laws.proofs.Changes.{value_store, screen_store}
+use Rattle.fit_laws.proofs.Runs.{some_same}
 
 -- each change of a store keeps a shape, and each change of a table what it is of
 pub record Keeps (shape : Shape) : Type 0 where
@@ -45,8 +46,6 @@ puts shape s f k alike h = from (here s) refl
 -- a change that ends with a move
 ends : (shape : Shape) → Keeps shape → (o p : OpenState) (landing : Landing) → IsSameKind o p → IsSameKind o (landed p landing)
 ends shape k o p landing kind = (k.tables o).chain p (landed p landing) kind ((k.tables p).by_move landing)
-
--- ---- values and screen leave the store
 
 -- ---- work areas
 
@@ -134,9 +133,6 @@ then_keeps : (shape : Shape) (code : Code) (x : Option World) (v : World) → Ke
 then_keeps shape code None v k before e = absurd (cc)
 then_keeps shape code (Some u) v k before e = subst (λ (x : World). StoreHasShape shape x.env.store) (sym (leads code u v e)) (by_step shape code (instr_at code u.place) u.values u.env k (before u refl))
 
-start_same : (w v : World) → Some w ≡ Some v → w ≡ v
-start_same w v e = cc
-
 pub kept : (shape : Shape) (code : Code) (w : World) (n : ℕ) (v : World) → Keeps shape → after code w n ≡ Some v → StoreHasShape shape w.env.store → StoreHasShape shape v.env.store
-kept shape code w zero v k e h = subst (λ (x : World). StoreHasShape shape x.env.store) (start_same w v e) h
+kept shape code w zero v k e h = subst (λ (x : World). StoreHasShape shape x.env.store) (some_same w v e) h
 kept shape code w (suc n) v k e h = then_keeps shape code (after code w n) v k (λ u at. kept shape code w n u k at h) e
