@@ -1,7 +1,7 @@
 //! Runs part by part.
 
 ghost use Rattle.machine.specs.Twins.{Begins, Twin};
-ghost use Rattle.run_parts.specs.Parts.{IsAt, RunsTo};
+ghost use Rattle.run_parts.specs.Parts.{RunsTo};
 ghost use Rattle.run_steps.specs.World.{World};
 ghost use Rattle.run_steps.specs.declared.ending.End.TheVariants.{Spent};
 ghost use Rattle.std.specs.Prelude.{◌≡◌, ◌<◌, ◌≤◌, true, false};
