@@ -1,6 +1,6 @@
 //! Journals, and lines that were kept in one.
 
-ghost use Rattle.std.specs.Prelude.{◌≡◌, ◌++◌, ◌∷◌, [], ℕ, List, IfOk, OnOk, OnErr};
+ghost use Rattle.std.specs.Prelude.{◌≡◌, ◌++◌, ℕ, List, IfOk, OnOk, OnErr};
 ghost use Rattle.line_journal.specs.Kept.{ended_by_lf};
 
 use std::alloc::AllocError;
