@@ -14,11 +14,11 @@ ghost use Rattle.shape_files.specs.Listing.{JudgedDeclarations};
 
 use crate::refusal::{CompileFilesRefusal, SourceFault};
 use crate::sources::programs_of;
-use file_access::{Files, ReadFault};
+use file_access::{FILE_LIMIT, Files, ReadFault};
 use prg_compile::{CompileFault, find_faults};
 use prg_parser::{ParseFault, Program, line_faults};
 use shape::Shape;
-use shape_files::{DeclFault, FILE_LIMIT, ListedShape, list_shape};
+use shape_files::{DeclFault, ListedShape, list_shape};
 use std::alloc::{AllocError, Global};
 
 /// A fault of a command file, which goes by its number, counted from 0.

@@ -6,9 +6,8 @@ ghost use Rattle.compile_commands.specs.Compiling.{AreRead, IsRead};
 ghost use Rattle.compile_commands.specs.Refusals.{SourceRefusalIs, SourcesRefusalIs};
 
 use crate::refusal::{CompileFilesRefusal, SourceFault};
-use file_access::{Files, ReadFault};
+use file_access::{FILE_LIMIT, Files, ReadFault};
 use prg_parser::{ParseFault, ParseRefusal, Program, Text, parse};
-use shape_files::FILE_LIMIT;
 use std::alloc::Global;
 
 /// A file's name up to its last point.

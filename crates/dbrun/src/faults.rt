@@ -5,8 +5,8 @@ use crate::shown::{Audience, PrintableLine, declared_line, line_among, line_of, 
 use crate::{folder, no_memory, settle, status_of, tell_uncompiled};
 use command_words::WordsFault;
 use compile_commands::{CompileWords, FileFault, FoundFaults, faults_of};
-use file_access::Files;
-use file_commands::{FILE_LIMIT, Status};
+use file_access::{FILE_LIMIT, Files};
+use file_commands::Status;
 use folder_files::{Folder, Nobody};
 use shape_files::DeclFault;
 use std::alloc::Global;

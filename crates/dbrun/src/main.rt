@@ -30,10 +30,9 @@ use command_words::{
     Listing, Outcomes, RunWords, SaveWords, Words, WordsFault, command, sources_of, words_of,
 };
 use compile_commands::{CompileFilesRefusal, CompileTold, CompileWords, compile_files};
-use file_access::{Files, ReadFault, read_in_turns, read_within};
+use file_access::{FILE_LIMIT, Files, ReadFault, read_in_turns, read_within};
 use file_commands::{
-    FILE_LIMIT, Refusal, Status, list_code, list_index, list_table, of_refusal, read_code,
-    verify_file,
+    Refusal, Status, list_code, list_index, list_table, of_refusal, read_code, verify_file,
 };
 use folder_files::{
     FinishedSave, Folder, Held, Hindrance, Nobody, SaveTerms, SavingFolder, UnfinishedSave,

@@ -10,8 +10,8 @@ use crate::{
     tell_hindered, tell_unfinished, tell_unsaved,
 };
 use command_words::{DEFAULT_BUDGET, OperateWords, Outcomes, ShownWords, TalkWords, WordsFault};
-use file_access::{Files, ReadFault};
-use file_commands::{FILE_LIMIT, Refusal, Status};
+use file_access::{FILE_LIMIT, Files, ReadFault};
+use file_commands::{Refusal, Status};
 use folder_files::{
     FileSum, Folder, Held, Hindrance, JournalFault, Listener, SaveTerms, SavingFolder, Tail,
     UnfinishedSave, Unsaved, hindered_plan, note_stands, paper_name, put_new_file, stands, sum_of,

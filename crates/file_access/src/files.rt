@@ -7,6 +7,9 @@ ghost use Rattle.file_access.specs.Holding.{Rose, SameFiles, IsReplaced};
 
 use std::alloc::Global;
 
+/// The longest file that is read: 64 MiB.
+pub const FILE_LIMIT: usize = 67_108_864;
+
 /// Why a file isn't read.
 #[derive(Clone, Copy, PartialEq, Eq, Debug)]
 pub enum ReadFault {

@@ -8,7 +8,7 @@ mod files;
 mod memory_files;
 mod reader;
 
-pub use crate::files::{Device, Files, ReadFault};
+pub use crate::files::{Device, FILE_LIMIT, Files, ReadFault};
 pub use crate::memory_files::{
     MemoryEntry, MemoryFiles, WORKS_FOR_EVER, WrittenFile, files_in_memory_hold_one_thing,
 };

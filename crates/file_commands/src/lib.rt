@@ -15,7 +15,7 @@ mod table_listing;
 
 pub use crate::index_listing::list_index;
 pub use crate::listing::{list_code, verify_file};
-pub use crate::reading::{FILE_LIMIT, read_bytes, read_code};
+pub use crate::reading::{read_bytes, read_code};
 pub use crate::refusal::{Fault, Refusal};
 pub use crate::status::{Status, of_refusal};
 pub use crate::table_listing::{ROW_LIMIT, list_table};

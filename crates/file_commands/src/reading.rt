@@ -7,12 +7,9 @@ ghost use Rattle.file_commands.specs.Refusals.{RefusalIs, CodeFileFault, FileFau
 ghost use Rattle.file_commands.specs.Reports.{IsCodeFile};
 
 use crate::refusal::{Fault, Refusal};
-use file_access::{Files, ReadFault};
+use file_access::{FILE_LIMIT, Files, ReadFault};
 use std::alloc::Global;
 use xcode::{CodeFault, LegalCode, decode};
-
-/// The longest file that is read: 64 MiB.
-pub const FILE_LIMIT: usize = 67_108_864;
 
 /// The bytes of a file of at most 64 MiB.
 pub fn read_bytes<'a, F: Files>(

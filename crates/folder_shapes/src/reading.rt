@@ -9,13 +9,10 @@ use crate::found::FoundTable;
 use crate::note::Note;
 use crate::unfit::Unfit;
 use dbf_file::DbfFault;
-use file_access::{Files, ReadFault};
+use file_access::{FILE_LIMIT, Files, ReadFault};
 use ndx_tree::{NdxTree, TreeFault};
 use std::alloc::Global;
 use std::str;
-
-/// The longest file that is read: 64 MiB.
-const FILE_LIMIT: usize = 67_108_864;
 
 /// The most rows of a table.
 const MOST_ROWS: usize = 1_000_000;

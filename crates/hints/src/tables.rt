@@ -8,10 +8,10 @@ ghost use Rattle.hints.specs.Sentences.{is_sentence};
 
 use crate::kinds::{of_declaration, of_table_note};
 use arrayvec::ArrayVec;
-use file_access::Files;
+use file_access::{FILE_LIMIT, Files};
 use folder_shapes::{Note, Unfit, table_file};
 use prg_expr::{Token, words};
-use shape_files::{FILE_LIMIT, FileName, LineFault, file_of};
+use shape_files::{FileName, LineFault, file_of};
 use std::alloc::Global;
 use std::str;
 

@@ -15,6 +15,6 @@ mod tables;
 
 pub use listing::{ListedShape, list_shape};
 pub use names::{FileName, file_of};
-pub use reading::{FILE_LIMIT, read_shape};
+pub use reading::read_shape;
 pub use refusal::{DeclFault, LineFault, ShapeRefusal};
 pub use tables::capital_fields;

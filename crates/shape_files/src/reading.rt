@@ -14,13 +14,10 @@ use crate::key::key_of;
 use crate::line::{DeclarationLine, line_of};
 use crate::refusal::{DeclFault, LineFault, LineRefusal, ShapeRefusal};
 use crate::tables::read_fields;
-use file_access::{Files, ReadFault};
+use file_access::{FILE_LIMIT, Files, ReadFault};
 use shape::{IndexShape, Items, Shape, TableShape};
 use std::alloc::Global;
 use text_lines::first_line;
-
-/// The longest file that is read: 64 MiB.
-pub const FILE_LIMIT: usize = 67_108_864;
 
 /// `TABLE name`: Name, Limit and Table, in this order.
 fn declare_table<F: Files>(

@@ -8,10 +8,9 @@ ghost use Rattle.shape_files.specs.Refusals.{LineRefusalIs};
 ghost use Rattle.shape_files.specs.Shapes.{HasFields, IsTableWithFields, file_name, in_capitals, plain_field};
 
 use crate::names::file_of;
-use crate::reading::FILE_LIMIT;
 use crate::refusal::{LineFault, LineRefusal};
 use dbf_file::{DbfFault, Field, read};
-use file_access::{Files, ReadFault};
+use file_access::{FILE_LIMIT, Files, ReadFault};
 use prg_expr::name_of;
 use std::alloc::{AllocError, Global};
 

@@ -17,6 +17,3 @@ pub use loading::load;
 pub use names::FileName;
 pub use refusal::{FilesRefusal, TableFault};
 pub use saving::save;
-
-/// The longest file that is read: 64 MiB.
-const FILE_LIMIT: usize = 67_108_864;

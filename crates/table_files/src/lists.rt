@@ -11,10 +11,9 @@ ghost use Rattle.work_area.specs.Making.{key_form};
 ghost use Rattle.table_files.specs.Loading.{IsListOf, AreListsOf};
 ghost use Rattle.table_files.specs.Refusals.{ListRefused, ListsRefused};
 
-use crate::FILE_LIMIT;
 use crate::names::index_file_name;
 use crate::refusal::FilesRefusal;
-use file_access::{Files, ReadFault};
+use file_access::{FILE_LIMIT, Files, ReadFault};
 use ndx_tree::{NdxTree, TreeFault};
 use shape::laws::legal_shapes_have_keys;
 use shape::{IndexShape, Shape, TableShape};

@@ -8,12 +8,11 @@ ghost use Rattle.shape.specs.Whole.{is_shape};
 ghost use Rattle.table_files.specs.Loading.{IsTableOf, IsTableIn};
 ghost use Rattle.table_files.specs.Refusals.{BytesRefused, RefusedIn, TableRefused, LoadRefused};
 
-use crate::FILE_LIMIT;
 use crate::fields::are_declared;
 use crate::names::{FileName, table_file_name};
 use crate::refusal::{FilesRefusal, TableFault};
 use dbf_file::{DbfFault, Table};
-use file_access::{Files, ReadFault};
+use file_access::{FILE_LIMIT, Files, ReadFault};
 use shape::{Shape, TableShape};
 use std::alloc::Global;
 
