@@ -16,7 +16,7 @@ ghost use Rattle.prg_values.specs.Placed.{InstrStands};
 
 use crate::fault::{FoundLaid, LayoutFault};
 use crate::layout::{Layout, after, given_as, puts_one};
-use crate::statement::{does, may_stand, none_wait, wait_behind};
+use crate::statement::{Leap, does, leap_of, may_stand, none_wait, wait_behind};
 use crate::way::{Leaps, Way};
 use code_items::{FlowInstr, Instr, MoveInstr, Name, Question, RecordInstr, ValueInstr};
 use prg_expr::Expr;
@@ -226,27 +226,15 @@ fn plain(l: &Layout, gets: &[&Name], place: usize, statement: &Statement) -> Fou
     Ok(Way::to(end))
 }
 
-/// LOOP, EXIT, RETURN, QUIT and CANCEL, where no GET waits.
-fn leaving(l: &Layout, leaps: Option<Leaps>, place: usize, statement: &Statement) -> FoundLaid<Way>
-    ensures { IfOk result (λ way. (n : ℕ)
-        → spec.Laid (laying l.now) leaps [] place (Single n (act_of statement.now)) way) }
+/// A command that leads elsewhere, where no GET waits.
+fn leaving(l: &Layout, leaps: Option<Leaps>, place: usize, leap: Leap) -> FoundLaid<Way>
+    ensures { IfOk result (λ way. choices.LeaptBy (laying l.now) leaps place leap way) }
 {
-    match statement {
-        Statement::Loop => looping(l, leaps, place),
-        Statement::Exit => exiting(l, leaps, place),
-        Statement::Return => finishing(l, place),
-        Statement::Quit => finishing(l, place),
-        Statement::Cancel => finishing(l, place),
-        _ => Err(LayoutFault::Otherwise),
+    match leap {
+        Leap::Again => looping(l, leaps, place),
+        Leap::Out => exiting(l, leaps, place),
+        Leap::End => finishing(l, place),
     }
-}
-
-/// Whether it is LOOP, EXIT, RETURN, QUIT or CANCEL.
-fn leaves(statement: &Statement) -> bool {
-    matches!(
-        statement,
-        Statement::Loop | Statement::Exit | Statement::Return | Statement::Quit | Statement::Cancel
-    )
 }
 
 fn single(
@@ -259,11 +247,11 @@ fn single(
     ensures { IfOk result (λ way. (n : ℕ)
         → spec.Laid (laying l.now) leaps (acts.names_of gets.now) place (Single n (act_of statement.now)) way) }
 {
-    if !leaves(statement) {
+    let Some(leap) = leap_of(statement) else {
         return plain(l, gets, place, statement);
-    }
+    };
     if none_wait(gets) {
-        leaving(l, leaps, place, statement)
+        leaving(l, leaps, place, leap)
     } else {
         Err(LayoutFault::Otherwise)
     }

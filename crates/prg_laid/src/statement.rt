@@ -1,7 +1,8 @@
 //! Commands of one line.
 
-ghost use Rattle.std.specs.Prelude.{◌≡◌, IfOk, OnOk};
+ghost use Rattle.std.specs.Prelude.{◌≡◌, IfOk, IfSome, OnOk};
 ghost use Rattle.prg_laid.specs.Acts as acts;
+ghost use Rattle.prg_laid.specs.Commands.{IsLeap};
 ghost use Rattle.prg_laid.specs.Layout.{laying};
 ghost use Rattle.prg_line.specs.Act.{act_of};
 
@@ -73,6 +74,63 @@ pub fn does(l: &Layout, place: usize, gets: &[&Name], statement: &Statement) -> 
     }
 }
 
+/// Where the way goes on behind a command that leads it elsewhere.
+#[derive(Clone, Copy)]
+pub enum Leap {
+    /// LOOP: to the next round of the innermost loop.
+    Again,
+    /// EXIT: behind the innermost loop.
+    Out,
+    /// RETURN, QUIT and CANCEL: to the end of the run.
+    End,
+}
+
+/// Where the way goes on behind the command, if it leads it elsewhere.
+pub fn leap_of(statement: &Statement) -> Option<Leap>
+    ensures { IfSome result (λ leap. IsLeap leap (act_of statement.now)) }
+{
+    match statement {
+        Statement::Loop => Some(Leap::Again),
+        Statement::Exit => Some(Leap::Out),
+        Statement::Return => Some(Leap::End),
+        Statement::Quit => Some(Leap::End),
+        Statement::Cancel => Some(Leap::End),
+        Statement::Show { .. }
+        | Statement::ShowOn { .. }
+        | Statement::Say { .. }
+        | Statement::Get { .. }
+        | Statement::SayGet { .. }
+        | Statement::Read
+        | Statement::Accept { .. }
+        | Statement::Wait { .. }
+        | Statement::Clear
+        | Statement::Assign { .. }
+        | Statement::Store { .. }
+        | Statement::Release { .. }
+        | Statement::Private { .. }
+        | Statement::Parameters { .. }
+        | Statement::Do { .. }
+        | Statement::Close
+        | Statement::Use { .. }
+        | Statement::Select { .. }
+        | Statement::CloseAll
+        | Statement::SetOrder { .. }
+        | Statement::SetFilter { .. }
+        | Statement::Set { .. }
+        | Statement::Go { .. }
+        | Statement::Skip { .. }
+        | Statement::Seek { .. }
+        | Statement::AppendBlank
+        | Statement::Replace { .. }
+        | Statement::Delete
+        | Statement::Recall
+        | Statement::Pack
+        | Statement::Zap
+        | Statement::Reindex
+        | Statement::IndexOn { .. } => None,
+    }
+}
+
 /// Whether no GET waits.
 pub fn none_wait(gets: &[&Name]) -> bool
     ensures { result ≡ acts.is_none_waiting (acts.names_of gets.now) }
@@ -108,6 +166,40 @@ pub fn wait_behind<'a>(gets: &mut Vec<&'a Name>, statement: &'a Statement) -> Re
             gets.clear();
             Ok(())
         }
-        _ => Ok(()),
+        Statement::Show { .. }
+        | Statement::ShowOn { .. }
+        | Statement::Say { .. }
+        | Statement::Accept { .. }
+        | Statement::Wait { .. }
+        | Statement::Clear
+        | Statement::Assign { .. }
+        | Statement::Store { .. }
+        | Statement::Release { .. }
+        | Statement::Private { .. }
+        | Statement::Parameters { .. }
+        | Statement::Loop
+        | Statement::Exit
+        | Statement::Do { .. }
+        | Statement::Return
+        | Statement::Quit
+        | Statement::Cancel
+        | Statement::Close
+        | Statement::Use { .. }
+        | Statement::Select { .. }
+        | Statement::CloseAll
+        | Statement::SetOrder { .. }
+        | Statement::SetFilter { .. }
+        | Statement::Set { .. }
+        | Statement::Go { .. }
+        | Statement::Skip { .. }
+        | Statement::Seek { .. }
+        | Statement::AppendBlank
+        | Statement::Replace { .. }
+        | Statement::Delete
+        | Statement::Recall
+        | Statement::Pack
+        | Statement::Zap
+        | Statement::Reindex
+        | Statement::IndexOn { .. } => Ok(()),
     }
 }
