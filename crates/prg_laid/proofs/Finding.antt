@@ -19,8 +19,10 @@ on_done (Ok b) f h = f b h
 on_done (Err e) f h = tt
 
 -- the way that was made is the one that was meant
-pub way_as : {f : Laying} {l : Option Leaps} {gets : List (List ℕ)} {a : ℕ} {x : Cmd} {r w : Way} → r ≡ w → Laid f l gets a x w → Laid f l gets a x r
+pub way_as : {f : Laying} {l : Option Leaps} {gets : List (List ℕ)} {a : ℕ} {x : Cmd} {r w : Way} → r ≡ w
+    → Laid f l gets a x w → Laid f l gets a x r
 way_as {f} {l} {gets} {a} {x} {r} {w} e h = subst (λ r. Laid f l gets a x r) (sym e) h
 
-pub finishes : (f : Laying) (l : Option Leaps) (a : ℕ) (act : Act) (w : Way) → ends_run act ≡ true → Finishes f a w → (n : ℕ) → Laid f l [] a (Single n act) w
+pub finishes : (f : Laying) (l : Option Leaps) (a : ℕ) (act : Act) (w : Way) → ends_run act ≡ true → Finishes f a w
+    → (n : ℕ) → Laid f l [] a (Single n act) w
 finishes f l a act w is h n = way_as h.2 (ends is h.1)

@@ -7,7 +7,8 @@ use Rattle.prg_laid.proofs.areas.are_indexes.Given as goal
 
 -- what is left leads to the whole
 abbrev pub invariant-loop-name : goal.invariant-loop-name
-invariant-loop-name l = AllZip (acts.IsIndex (laying l.l)) (map letters_of l.rest) l.left → AllZip (acts.IsIndex (laying l.l)) (map letters_of l.names) l.numbers
+invariant-loop-name l = AllZip (acts.IsIndex (laying l.l)) (map letters_of l.rest) l.left
+    → AllZip (acts.IsIndex (laying l.l)) (map letters_of l.names) l.numbers
 
 abbrev pub decreases-loop-name : goal.decreases-loop-name
 decreases-loop-name l = length l.rest

@@ -10,10 +10,13 @@ use Rattle.prg_laid.proofs.control.+laid.Given as goal
 -- what is left leads to the whole
 abbrev pub invariant-all-loop-command : goal.invariant-all-loop-command
 invariant-all-loop-command l =
-    ((w : Way) → l.way.on ≡ true → LaidAll (laying l.l) l.leaps (names_of l.gets.items) l.way.place (commands_of (drop l.command-index l.list)) w → LaidAll (laying l.l) l.leaps [] l.place (commands_of l.list) (then_way l.way w))
+    ((w : Way) → l.way.on ≡ true → LaidAll (laying l.l) l.leaps (names_of l.gets.items) l.way.place
+    (commands_of (drop l.command-index l.list)) w
+    → LaidAll (laying l.l) l.leaps [] l.place (commands_of l.list) (then_way l.way w))
     × (l.way.on ≡ false → LaidAll (laying l.l) l.leaps [] l.place (commands_of l.list) l.way)
 
 abbrev pub invariant-chain-loop-number : goal.invariant-chain-loop-number
 invariant-chain-loop-number l =
-    (part : Part) (w : Way) → l.closed ≡ is_absent part → Told l.end w.place → LaidCases (laying l.l) l.leaps w.place l.way.place (cases_of (drop l.number l.cases)) part w
+    (part : Part) (w : Way) → l.closed ≡ is_absent part → Told l.end w.place
+    → LaidCases (laying l.l) l.leaps w.place l.way.place (cases_of (drop l.number l.cases)) part w
     → LaidCases (laying l.l) l.leaps w.place l.place (cases_of l.cases) part (either_way l.way w)

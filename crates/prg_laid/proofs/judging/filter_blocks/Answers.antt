@@ -6,6 +6,10 @@ use Rattle.prg_laid.proofs.judging.filter_blocks.Goals as goal
 
 pub loop-number-preserved : goal.loop-number-preserved
 loop-number-preserved c = record {
-  many = ap length c.in_ok-push.ensures.items ∙ one_longer c.loop-number.filters.items c.block_at-block.result c.loop-number.number c.loop-number.invariant.many;
-  are = subst (λ (bs : List Block). AreFilters c.args.code.now bs) (sym c.in_ok-push.ensures.items) (one_more (IsFilterBlock c.args.code.now) c.loop-number.filters.items c.block_at-block.result c.loop-number.number c.loop-number.invariant.many c.loop-number.invariant.are (c.is_filter_block.ensures (search rules)));
+  many = ap length c.in_ok-push.ensures.items
+      ∙ one_longer c.loop-number.filters.items c.block_at-block.result c.loop-number.number
+      c.loop-number.invariant.many;
+  are = subst (λ (bs : List Block). AreFilters c.args.code.now bs) (sym c.in_ok-push.ensures.items)
+      (one_more (IsFilterBlock c.args.code.now) c.loop-number.filters.items c.block_at-block.result c.loop-number.number
+      c.loop-number.invariant.many c.loop-number.invariant.are (c.is_filter_block.ensures (search rules)));
 }

@@ -5,4 +5,5 @@ use Rattle.prg_laid.proofs.screen.taken.Given as goal
 
 -- what is left leads to the whole
 abbrev pub invariant-loop-name : goal.invariant-loop-name
-invariant-loop-name l = (b : ℕ) → acts.ReadLaid (laying l.l) l.end (acts.names_of (drop l.name-index l.gets)) b → acts.ReadLaid (laying l.l) l.place (acts.names_of l.gets) b
+invariant-loop-name l = (b : ℕ) → acts.ReadLaid (laying l.l) l.end (acts.names_of (drop l.name-index l.gets)) b
+    → acts.ReadLaid (laying l.l) l.place (acts.names_of l.gets) b
