@@ -11,4 +11,5 @@ pub returns : goal.returns
 returns c = λ e.
     let same : c.number.result ≡ c.number-2.result = grind (arith, nat_tests) in
     let law = c.functions_have_their_numbers.ensures in
-    both c.args.one c.args.two (sym (law.found c.args.one) ∙ (ap numbered (sym c.number.ensures ∙ (same ∙ c.number-2.ensures)) ∙ law.found c.args.two))
+    both c.args.one c.args.two (sym (law.found c.args.one)
+    ∙ (ap numbered (sym c.number.ensures ∙ (same ∙ c.number-2.ensures)) ∙ law.found c.args.two))
