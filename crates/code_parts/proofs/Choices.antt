@@ -1,10 +1,12 @@
 -- What tests and look-ups that didn't fail say.
-use Rattle.std.proofs.Common.{◌⊎◌, inl, inr, ◌≡◌, ℕ, Bool, true, false, cond, eqb, List, [], ◌∷◌, Option, Some, None, Ok, refl, ap, ◌∙◌}
+use Rattle.std.proofs.Common.{◌⊎◌, inl, inr, ◌≡◌, ℕ, Bool, true, false, cond, eqb, List, [], ◌∷◌, Option, Some, None}
+use Rattle.std.proofs.Common.{Ok, refl, ap, ◌∙◌}
 use Rattle.std.specs.Prelude.{◌&&◌, ◌||◌}
 use Rattle.std.specs.List.{AllByRecursion}
 use Rattle.std.proofs.lemmas.Bool.{eqb-true}
 use Rattle.xvalue.specs.declared.kind.Kind.{Kind}
-use Rattle.xvalue.specs.declared.kind.Kind.TheVariants.{Number as OfNumber, Text as OfText, Date as OfDate, Logical as OfLogical}
+use Rattle.xvalue.specs.declared.kind.Kind.TheVariants.{Number as OfNumber, Text as OfText, Date as OfDate}
+use Rattle.xvalue.specs.declared.kind.Kind.TheVariants.{Logical as OfLogical}
 use Rattle.dbf_file.specs.declared.field.Letter.{Letter}
 use Rattle.dbf_file.specs.declared.field.Letter.TheVariants.{C, N, D, L}
 use Rattle.dbf_file.specs.Fields.{code_of, letter_of}
@@ -38,12 +40,14 @@ pub wanted_ok : {A : Type 0} (flaw : Flaw) (b : Bool) (x y : A) → wanted flaw 
 wanted_ok flaw true x y e = (refl, cc)
 wanted_ok flaw false x y e = absurd cc
 
-pub there_ok : {A B : Type 0} (flaw : Flaw) (o : Option A) (make : A → Judged B) (y : B) → there flaw o make ≡ Ok y → (x : A) × (o ≡ Some x) × (make x ≡ Ok y)
+pub there_ok : {A B : Type 0} (flaw : Flaw) (o : Option A) (make : A → Judged B) (y : B) → there flaw o make ≡ Ok y
+    → (x : A) × (o ≡ Some x) × (make x ≡ Ok y)
 there_ok flaw None make y e = absurd cc
 there_ok flaw (Some x) make y e = (x, refl, e)
 
 -- one line of a table of numbers
-pub line : {A : Type 0} (number_of : A → ℕ) (byte number : ℕ) (here x : A) (others : Option A) → number ≡ number_of here → (others ≡ Some x → byte ≡ number_of x) → cond (eqb byte number) (Some here) others ≡ Some x → byte ≡ number_of x
+pub line : {A : Type 0} (number_of : A → ℕ) (byte number : ℕ) (here x : A) (others : Option A) → number ≡ number_of here
+    → (others ≡ Some x → byte ≡ number_of x) → cond (eqb byte number) (Some here) others ≡ Some x → byte ≡ number_of x
 line number_of byte number here x others is rest e =
     elim (chosen (eqb byte number) (some here) others (some x) e) [
       | inl h ↦ eqb-true byte number h.0 ∙ is ∙ ap number_of (some_is here x h.1)
@@ -89,6 +93,7 @@ letter_is D = refl
 letter_is L = refl
 
 -- a reader chosen by a test
-pub if_spells : {X : Type 0} {r s : Reader (Judged X)} {t : X → List ℕ} {P G : X → Type 0} (test : Bool) → (test ≡ true → Spells r t P G) → (test ≡ false → Spells s t P G) → Spells (cond test r s) t P G
+pub if_spells : {X : Type 0} {r s : Reader (Judged X)} {t : X → List ℕ} {P G : X → Type 0} (test : Bool)
+    → (test ≡ true → Spells r t P G) → (test ≡ false → Spells s t P G) → Spells (cond test r s) t P G
 if_spells true holds fails = holds refl
 if_spells false holds fails = fails refl

@@ -7,7 +7,8 @@ use Rattle.code_items.specs.declared.declared.Version.{Version}
 use Rattle.xvalue.specs.declared.settings.Setting.TheVariants.{Exact, Deleted, Century}
 use Rattle.code_items.specs.declared.instr.Question.TheVariants.{Recno, Reccount, Eof, Bof, Found, Deleted as IsDeleted}
 use Rattle.code_items.specs.declared.instr.ValueInstr.{ValueInstr}
-use Rattle.code_items.specs.declared.instr.ValueInstr.TheVariants.{Constant, Load, Store, Unset, Discard, Function, Today, Set}
+use Rattle.code_items.specs.declared.instr.ValueInstr.TheVariants.{Constant, Load, Store, Unset, Discard, Function}
+use Rattle.code_items.specs.declared.instr.ValueInstr.TheVariants.{Today, Set}
 use Rattle.code_items.specs.declared.instr.FlowInstr.{FlowInstr}
 use Rattle.code_items.specs.declared.instr.FlowInstr.TheVariants.{Jump, JumpFalse, Call, Return, End}
 use Rattle.code_items.specs.declared.instr.ScreenInstr.{ScreenInstr}
@@ -17,7 +18,8 @@ use Rattle.code_items.specs.declared.instr.AreaInstr.TheVariants.{Open, Close, C
 use Rattle.code_items.specs.declared.instr.MoveInstr.{MoveInstr}
 use Rattle.code_items.specs.declared.instr.MoveInstr.TheVariants.{Top, Bottom, Skip, Go, Seek}
 use Rattle.code_items.specs.declared.instr.RecordInstr.{RecordInstr}
-use Rattle.code_items.specs.declared.instr.RecordInstr.TheVariants.{Field, RowField, Ask, Append, Replace, Delete, Recall, Pack, Zap, Reindex, Index}
+use Rattle.code_items.specs.declared.instr.RecordInstr.TheVariants.{Field, RowField, Ask, Append, Replace, Delete}
+use Rattle.code_items.specs.declared.instr.RecordInstr.TheVariants.{Recall, Pack, Zap, Reindex, Index}
 use Rattle.code_items.specs.declared.instr.Instr.{Instr}
 use Rattle.code_items.specs.declared.instr.Instr.TheVariants.{Values, Flow, Screen, Areas, Moves, Records}
 use Rattle.code_items.specs.Instrs.{is_instr, is_two, is_four, is_area}
@@ -26,7 +28,9 @@ use Rattle.code_parts.specs.declared.operands.InstrParts.{InstrParts}
 use Rattle.code_parts.specs.Laws.{Spells, IsLegalInstr}
 use Rattle.code_parts.specs.Texts.{kind_number, truth_number}
 use Rattle.code_parts.specs.Items.{wanted}
-use Rattle.code_parts.specs.Instructions.{setting_number, question_number, instr_parts, parts_of, parts_text, instr_text, low_instr, flow_instr, area_instr, record_instr, screen_instr, any_instr, same_parts, is_just, instr_from, instr_read_at}
+use Rattle.code_parts.specs.Instructions.{setting_number, question_number, instr_parts, parts_of, parts_text}
+use Rattle.code_parts.specs.Instructions.{instr_text, low_instr, flow_instr, area_instr, record_instr, screen_instr}
+use Rattle.code_parts.specs.Instructions.{any_instr, same_parts, is_just, instr_from, instr_read_at}
 use Rattle.code_parts.proofs.Combine.{pair_spells, made_spells, byte_spells}
 use Rattle.code_parts.proofs.Numbers.{two_spells, four_spells}
 use Rattle.code_parts.proofs.Choices.{both_true, both_from, wanted_ok, there_ok, kind_is}
@@ -36,13 +40,16 @@ parts_same p q e =
     let x = both_true (eqb p.operation q.operation && eqb p.a q.a && eqb p.b q.b) (eqb p.c q.c) e in
     let y = both_true (eqb p.operation q.operation && eqb p.a q.a) (eqb p.b q.b) x.0 in
     let z = both_true (eqb p.operation q.operation) (eqb p.a q.a) y.0 in
-    texts p.operation p.a p.b p.c q.operation q.a q.b q.c (eqb-true p.operation q.operation z.0) (eqb-true p.a q.a z.1) (eqb-true p.b q.b y.1) (eqb-true p.c q.c x.1)
+    texts p.operation p.a p.b p.c q.operation q.a q.b q.c (eqb-true p.operation q.operation z.0) (eqb-true p.a q.a z.1)
+    (eqb-true p.b q.b y.1) (eqb-true p.c q.c x.1)
   where
-    texts : (o a b c o' a' b' c' : ℕ) → o ≡ o' → a ≡ a' → b ≡ b' → c ≡ c' → parts_text (instr_parts o a b c) ≡ parts_text (instr_parts o' a' b' c')
+    texts : (o a b c o' a' b' c' : ℕ) → o ≡ o' → a ≡ a' → b ≡ b' → c ≡ c'
+        → parts_text (instr_parts o a b c) ≡ parts_text (instr_parts o' a' b' c')
     texts o a b c o' a' b' c' e f g h = rw (e, f, g, h) refl
 
 same_again : (p : InstrParts) → same_parts p p ≡ true
-same_again p = rw (eq-eqb p.operation p.operation refl, eq-eqb p.a p.a refl, eq-eqb p.b p.b refl, eq-eqb p.c p.c refl) refl
+same_again p = rw (eq-eqb p.operation p.operation refl, eq-eqb p.a p.a refl, eq-eqb p.b p.b refl, eq-eqb p.c p.c refl)
+    refl
 
 -- each instruction is the one that its parts can only be
 
@@ -211,21 +218,34 @@ fit version (Areas i) h = areas_fit version i h
 fit version (Moves i) h = moves_fit i
 fit version (Records i) h = records_fit version i h
 
-made_of : NumbersAgree → (version : Version) (i : Instr) → is_instr version i ≡ true → instr_from version (parts_of i) ≡ Ok i
+made_of : NumbersAgree → (version : Version) (i : Instr) → is_instr version i ≡ true
+    → instr_from version (parts_of i) ≡ Ok i
 unfolding instr_from
-made_of agree version i h = rw (found agree i, both_from (is_instr version i) (same_parts (parts_of i) (parts_of i)) h (same_again (parts_of i))) refl
+made_of agree version i h = rw
+    (found agree i, both_from (is_instr version i) (same_parts (parts_of i) (parts_of i)) h (same_again (parts_of i)))
+    refl
 
-was_made : (version : Version) (p : InstrParts) (i : Instr) → instr_from version p ≡ Ok i → (parts_text p ≡ instr_text i) × IsLegalInstr version i
+was_made : (version : Version) (p : InstrParts) (i : Instr) → instr_from version p ≡ Ok i
+    → (parts_text p ≡ instr_text i) × IsLegalInstr version i
 unfolding instr_from
 was_made version p i e =
     let make = λ (j : Instr). wanted Operation (is_just version p j) j in
     let j = there_ok Operation (any_instr p) make i e in
     let w = wanted_ok Operation (is_just version p j.0) j.0 i j.2 in
     let both = both_true (is_instr version j.0) (same_parts p (parts_of j.0)) w.0 in
-    subst (λ (k : Instr). (parts_text p ≡ instr_text k) × IsLegalInstr version k) w.1 (parts_same p (parts_of j.0) both.1, both.0)
+    subst (λ (k : Instr). (parts_text p ≡ instr_text k) × IsLegalInstr version k) w.1
+    (parts_same p (parts_of j.0) both.1, both.0)
 
-pub instr_spells : NumbersAgree → (version : Version) → Spells (instr_read_at version) instr_text (IsLegalInstr version) (IsLegalInstr version)
+pub instr_spells : NumbersAgree → (version : Version)
+    → Spells (instr_read_at version) instr_text (IsLegalInstr version) (IsLegalInstr version)
 unfolding instr_read_at
-instr_spells agree version = made_spells (pair_spells byte_spells (pair_spells byte_spells (pair_spells two_spells four_spells))) _ instr_text (IsLegalInstr version) (IsLegalInstr version)
+instr_spells agree version = made_spells
+    (pair_spells byte_spells (pair_spells byte_spells (pair_spells two_spells four_spells))) _ instr_text
+    (IsLegalInstr version) (IsLegalInstr version)
     (λ p i h e. was_made version _ i e)
-    (λ i h. (((parts_of i).operation, ((parts_of i).a, ((parts_of i).b, (parts_of i).c))), (tt, (tt, fit version i h)), made_of agree version i h, refl))
+    (λ i h. (
+      ((parts_of i).operation, ((parts_of i).a, ((parts_of i).b, (parts_of i).c))),
+      (tt, (tt, fit version i h)),
+      made_of agree version i h,
+      refl,
+    ))

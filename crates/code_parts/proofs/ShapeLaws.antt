@@ -1,9 +1,11 @@
 -- Laws of the readers of kinds, tables, indexes and lists.
-use Rattle.std.proofs.Common.{inl, inr, ◌≡◌, ℕ, Bool, eqb, leb, [], ◌∷◌, ◌++◌, length, Option, Some, None, Ok, refl, ap, ◌∙◌}
+use Rattle.std.proofs.Common.{inl, inr, ◌≡◌, ℕ, Bool, eqb, leb, [], ◌∷◌, ◌++◌, length, Option, Some, None, Ok, refl, ap}
+use Rattle.std.proofs.Common.{◌∙◌}
 use Rattle.std.proofs.lemmas.Bool.{eqb-true, le-leb}
 use Rattle.arrayvec.specs.ArrayVec.{ArrayVec}
 use Rattle.xvalue.specs.declared.kind.Kind.{Kind}
-use Rattle.xvalue.specs.declared.kind.Kind.TheVariants.{Number as OfNumber, Text as OfText, Date as OfDate, Logical as OfLogical}
+use Rattle.xvalue.specs.declared.kind.Kind.TheVariants.{Number as OfNumber, Text as OfText, Date as OfDate}
+use Rattle.xvalue.specs.declared.kind.Kind.TheVariants.{Logical as OfLogical}
 use Rattle.dbf_file.specs.declared.field.Letter.{Letter}
 use Rattle.dbf_file.specs.declared.field.Field.{Field}
 use Rattle.dbf_file.specs.Fields.{code_of, letter_of}
@@ -11,11 +13,15 @@ use Rattle.shape.specs.declared.parts.KeyPart.{KeyPart}
 use Rattle.shape.specs.declared.lists.IndexList.{IndexList}
 use Rattle.code_parts.specs.declared.flaw.Flaw.TheVariants.{Shape}
 use Rattle.code_parts.specs.Laws.{Spells, Any, HasName, FieldFits, TableFits, IndexFits, ListFits}
-use Rattle.code_parts.specs.Texts.{kind_number, slot_number, truth_number, kind_text, slot_text, name_text, field_text, table_text, key_part_text, index_text, list_text}
-use Rattle.code_parts.specs.Items.{there, kind_of_byte, kind_from, slot_from, truth_of_byte, kind_at, slot_at, name_from, name_read_at, field_from, field_at, table_read_at, part_from, part_at, index_from, index_at, list_from, list_at}
+use Rattle.code_parts.specs.Texts.{kind_number, slot_number, truth_number, kind_text, slot_text, name_text, field_text}
+use Rattle.code_parts.specs.Texts.{table_text, key_part_text, index_text, list_text}
+use Rattle.code_parts.specs.Items.{there, kind_of_byte, kind_from, slot_from, truth_of_byte, kind_at, slot_at}
+use Rattle.code_parts.specs.Items.{name_from, name_read_at, field_from, field_at, table_read_at, part_from, part_at}
+use Rattle.code_parts.specs.Items.{index_from, index_at, list_from, list_at}
 use Rattle.code_parts.proofs.Combine.{done, ok_is, pair_spells, made_spells, byte_spells}
 use Rattle.code_parts.proofs.Numbers.{text_spells, counted_spells}
-use Rattle.code_parts.proofs.Choices.{all_any, chosen, wanted_ok, there_ok, kind_was, kind_is, truth_was, truth_is, letter_was, letter_is}
+use Rattle.code_parts.proofs.Choices.{all_any, chosen, wanted_ok, there_ok, kind_was, kind_is, truth_was, truth_is}
+use Rattle.code_parts.proofs.Choices.{letter_was, letter_is}
 
 pub kind_spells : Spells kind_at kind_text Any Any
 unfolding kind_at
@@ -58,12 +64,22 @@ name_spells = made_spells text_spells name_from name_text HasName Any
 
 pub field_spells : Spells field_at field_text FieldFits Any
 unfolding field_at
-field_spells = made_spells (pair_spells name_spells (pair_spells byte_spells (pair_spells byte_spells byte_spells))) field_from field_text FieldFits Any
+field_spells = made_spells (pair_spells name_spells (pair_spells byte_spells (pair_spells byte_spells byte_spells)))
+    field_from field_text FieldFits Any
     (λ (name, (code, (width, decimals))) f fit e.
-    let make = λ (l : Letter). let made : Field = record { name = name; letter = l; width = width; decimals = decimals } in made in
-    let l = there_ok Shape (letter_of code) (λ (l : Letter). done (make l)) f e in
-    (ap (λ (n : ℕ). name_text name ++ (n ∷ width ∷ decimals ∷ [])) (letter_was code l.0 l.1) ∙ ap field_text (ok_is (make l.0) f l.2), tt))
-    (λ f h. ((f.name, (code_of f.letter, (f.width, f.decimals))), (h, (tt, (tt, tt))), rw (letter_is f.letter) refl, refl))
+    let make = λ (l : Letter). let made : Field =
+    record { name = name; letter = l; width = width; decimals = decimals } in made in
+    let l = there_ok Shape (letter_of code) (λ (l : Letter). done (make l)) f e in (
+      ap (λ (n : ℕ). name_text name ++ (n ∷ width ∷ decimals ∷ [])) (letter_was code l.0 l.1)
+          ∙ ap field_text (ok_is (make l.0) f l.2),
+      tt,
+    ))
+    (λ f h. (
+      (f.name, (code_of f.letter, (f.width, f.decimals))),
+      (h, (tt, (tt, tt))),
+      rw (letter_is f.letter) refl,
+      refl,
+    ))
 
 pub table_spells : Spells table_read_at table_text TableFits Any
 unfolding table_read_at
@@ -82,7 +98,8 @@ part_spells = made_spells (pair_spells byte_spells byte_spells) part_from key_pa
 
 pub index_spells : Spells index_at index_text IndexFits Any
 unfolding index_at
-index_spells = made_spells (pair_spells name_spells (pair_spells byte_spells (counted_spells part_spells))) index_from index_text IndexFits Any
+index_spells = made_spells (pair_spells name_spells (pair_spells byte_spells (counted_spells part_spells))) index_from
+    index_text IndexFits Any
     (λ (name, (table, parts)) x fit e. (ap index_text (wanted_ok Shape (leb (length parts) 8) _ x e).1, tt))
     (λ x h. ((x.name, (x.table, x.key)), (h.name, (tt, all_any x.key)), rw (le-leb (length x.key) 8 h.few) refl, refl))
 
