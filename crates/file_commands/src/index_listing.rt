@@ -3,7 +3,7 @@
 
 ghost use Rattle.std.specs.Prelude.{◌≡◌, ◌++◌, IfOk, IfErr, OnOk};
 ghost use Rattle.std.specs.List.{flat_map};
-ghost use Rattle.file_commands.specs.Lines.{in_seven_places, key_line, pair_line, index_lines};
+ghost use Rattle.file_commands.specs.Lines.{key_line, pair_line, index_lines};
 ghost use Rattle.file_access.specs.Holding.{SameFiles};
 ghost use Rattle.file_commands.specs.Refusals.{RefusalIs, IndexFault};
 ghost use Rattle.file_commands.specs.Reports.{IndexListed};

@@ -1,7 +1,7 @@
 // What is told of code files without running them.
 #![tactic(auto)]
 
-ghost use Rattle.std.specs.Prelude.{◌≡◌, IfOk, IfErr};
+ghost use Rattle.std.specs.Prelude.{IfOk, IfErr};
 ghost use Rattle.file_access.specs.Holding.{SameFiles};
 ghost use Rattle.file_commands.specs.Refusals.{RefusalIs, CodeFileFault};
 ghost use Rattle.file_commands.specs.Reports.{ListedCode, JudgedFile};
