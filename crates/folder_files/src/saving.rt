@@ -1,7 +1,7 @@
 //! A folder whose files are replaced all together, or not at all.
 #![tactic(auto)]
 
-ghost use Rattle.std.specs.Prelude.{◌≡◌, ◌<◌, ◌≤◌, ℕ, None, IfErr, IfOk, IfSome, IsOk, length, map};
+ghost use Rattle.std.specs.Prelude.{◌≡◌, ◌<◌, ◌≤◌, ℕ, None, IfErr, IfOk, IfSome, IsOk, map};
 ghost use Rattle.file_access.specs.Holding.{Rose};
 ghost use Rattle.folder_files.specs.Handed.{FailsBelow, count_handed, failures_behind, failures_of, name_handed};
 ghost use Rattle.folder_files.specs.Handed.{sum_told, sums_to_be, why_unread};
