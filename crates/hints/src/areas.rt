@@ -1,7 +1,6 @@
 //! The sentence that names the work areas for which a command can't be compiled.
 
-ghost use Rattle.std.specs.Prelude.{◌≡◌, List, Some, IfSome, IsTrue, slice_get};
-ghost use Rattle.met_areas.specs.declared.areas.HeldTable.{HeldTable as OneHeld};
+ghost use Rattle.std.specs.Prelude.{◌≡◌, Some, IfSome, IsTrue, slice_get};
 ghost use Rattle.met_areas.specs.declared.areas.HeldTable.TheVariants as held;
 ghost use Rattle.hints.specs.Areas.{IsTrueOf};
 
