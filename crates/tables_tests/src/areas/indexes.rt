@@ -1,6 +1,6 @@
 // Indexes of a table, made anew of its rows.
 
-ghost use Rattle.std.specs.Prelude.{◌<◌, ◌≤◌, IsTrue, length};
+ghost use Rattle.std.specs.Prelude.{◌≤◌, IsTrue, length};
 ghost use Rattle.shape.specs.Keys.{IsKey};
 
 use crate::areas::made::table_of;

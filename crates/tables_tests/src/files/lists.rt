@@ -1,7 +1,7 @@
 // Runs of calls beside a plain list, which is scanned from its front. What holds of every list of keys takes any
 // `KeyList`.
 
-ghost use Rattle.std.specs.Prelude.{◌≡◌, ◌<◌, ◌≤◌, ◌+◌, ◌^◌, [], ◌∷◌, length, OnOk, IfOk};
+ghost use Rattle.std.specs.Prelude.{◌≡◌, ◌<◌, ◌+◌, ◌^◌, [], ◌∷◌, length, OnOk, IfOk};
 
 use key_lists::laws::changes_one;
 use key_lists::{Entry, KeyList, SortedKeys};
