@@ -6,7 +6,7 @@ ghost use Rattle.operator_desk.specs.Asked.{newest_note};
 ghost use Rattle.operator_desk.specs.Openings.{is_opened};
 
 use crate::begun::Talk;
-use crate::gets::{Gets, WaitingPlace, bad_answer, without_return};
+use crate::gets::{Gets, WaitingPlace, bad_answer};
 use crate::held_lines::OwnLines;
 use crate::record::Record;
 use crate::screens::Screens;
@@ -23,6 +23,7 @@ use std::fs::File;
 use std::rt::Runtime;
 use std::str;
 use terminal_screen::{Drawing, Window, drawn, left, plain_lines, sent_lines};
+use text_lines::without_return;
 
 /// What a person at a terminal is told who ends the input.
 const AT_END: &str =

@@ -1,12 +1,11 @@
 //! Where on the screen the values are shown that a READ asks for.
 #![tactic(auto)]
 
-ghost use Rattle.std.specs.Prelude.{◌≡◌, ◌++◌, None, [], IfOk, IfSome, OnOk, is_none, is_some, map, slice_get, take};
+ghost use Rattle.std.specs.Prelude.{◌≡◌, ◌++◌, None, [], IfOk, IfSome, OnOk, is_none, is_some, map, take};
 ghost use Rattle.calendar.specs.DateTexts.{date_read};
 ghost use Rattle.fixed_num.specs.Reading.{parsed};
 ghost use Rattle.operator_desk.specs.Asked as spec;
 ghost use Rattle.operator_desk.specs.Asked.{AsksTheSame, places_known};
-ghost use Rattle.text_lines.specs.Lines as texts;
 ghost use Rattle.xvalue.specs.Answers as answers;
 
 use calendar::Day;
@@ -101,17 +100,6 @@ pub struct Gets {
     pub number: usize,
     /// What kind of value the line is for; none where it is a line as such.
     pub kind: Option<Kind>,
-}
-
-/// A line as the run takes it: without a return at its end.
-#[tactic(auto, unfolding(text_lines::specs::Lines::without_return))]
-pub fn without_return(line: &[u8]) -> &[u8]
-    ensures { result.now ≡ texts.without_return line.now }
-{
-    match line {
-        [text @ .., b'\r'] => text,
-        _ => line,
-    }
 }
 
 /// Whether a letter is T or Y.

@@ -6,7 +6,6 @@ ghost use Rattle.operator_desk.specs.Held.{left_of};
 ghost use Rattle.operator_desk.specs.Typists.{lines_taken, lines_to_type, watcher_of};
 ghost use Rattle.std.specs.Prelude.{◌≡◌, ◌++◌, [], IfOk, OnErr};
 
-use crate::gets::without_return;
 use crate::held_lines::HeldLines;
 use crate::screens::Screens;
 use code_items::Code;
@@ -16,6 +15,7 @@ use run_commands::Watcher;
 use std::alloc::{Alloc, Global};
 use std::fs::File;
 use std::rt::Runtime;
+use text_lines::without_return;
 
 /// The lines that a run took, in memory alone.
 #[derive(Drop)]
