@@ -76,8 +76,7 @@ fn whole(kind: CompileFaultKind) -> CompileRefusal {
     })
 }
 
-/// Limit where a single file without procedures isn't laid out in the code as its commands say, which no file is known
-/// to be.
+/// Limit where a single file without procedures isn't laid out in the code as its commands say. No such file is known.
 fn judged(
     alloc: Global,
     code: &LegalCode,

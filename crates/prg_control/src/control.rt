@@ -293,8 +293,9 @@ fn open_statement<'a>(
     Ok(None)
 }
 
-/// Ends the commands of a body, and puts what goes behind them, up to the next ones within the same command; none where
-/// the command ends. Get in the line that ends a part of a block if a READ is awaited there and all of it was written.
+/// Ends the commands of a body, and puts what goes behind them. Gives the next commands within the same command; none
+/// where the command ends. The fault is Get, in the line that ends a part of a block, where the whole part was written
+/// and a READ is awaited.
 fn ended<'a>(s: &Source, w: &mut Writer, body: Body<'a>) -> Result<Option<Body<'a>>, CompileRefusal>
     ensures grown { (base : AnyOutput) → OutputGrows base w.old.out → IsBodyBehind base body.entry
         → OutputGrows base w.new.out }
@@ -333,7 +334,7 @@ fn over<'a>(outcome: Result<(), CompileRefusal>) -> Result<Option<Body<'a>>, Com
     Ok(None)
 }
 
-/// Get in the line that ends a part of a block if a READ is awaited there and all of it was written.
+/// The fault Get, in the line that ends a part of a block, where the whole part was written and a READ is awaited.
 fn no_get_waits_behind(w: &mut Writer, body: &Body) -> Result<(), CompileRefusal>
     ensures same { w.new.out ≡ w.old.out }
 {

@@ -17,7 +17,8 @@ use prg_writer::{Source, Writer, WrittenMark};
 use std::alloc::AllocError;
 use xvalue::Fun;
 
-/// The most rounds of a loop but the first: each round but the last loses what is known of a slot or a work area.
+/// The most rounds of a loop behind the first one. In each round but the last, something is lost that was known of a
+/// slot or a work area.
 const MORE_ROUNDS: u16 = 299;
 
 /// When a loop goes on.
@@ -224,8 +225,8 @@ pub fn end_round<'a>(
     }
 }
 
-/// Leads back to the loop's head, and gives what is known there by then, if that is less than in this round. Else the
-/// place behind the loop is here. Limit where there were too many rounds.
+/// Leads back to the loop's head. Where less is known there now than in this round, the answer is what is known, and
+/// Limit where no round may follow. Else the place behind the loop is here, and the answer is none.
 fn known_again(w: &mut Writer, round: &Round) -> Result<Option<State>, CompileRefusal>
     ensures grown { OutputGrows w.old.out w.new.out }
 {
