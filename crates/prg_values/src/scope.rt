@@ -256,7 +256,8 @@ fn is_unsure(area: &AreaState) -> bool {
     matches!(area, AreaState::Unsure)
 }
 
-/// Why no work area is known to hold a declared table: one of which nothing is known may.
+/// The fault where no work area is known to hold a declared table. It is ClosedArea where nothing is known of some
+/// area, which may hold the table, and else Name.
 fn not_held(areas: &[AreaState]) -> CompileFaultKind {
     if areas.iter().any(|area| is_unsure(area)) {
         CompileFaultKind::ClosedArea
@@ -265,8 +266,8 @@ fn not_held(areas: &[AreaState]) -> CompileFaultKind {
     }
 }
 
-/// The work area of a table, by the table's name: Name where no table of this name is open, but ClosedArea where one is
-/// declared and nothing is known of some area.
+/// The work area that holds the table of this name. Where none is known to: ClosedArea where such a table is declared
+/// and nothing is known of some area, and else Name.
 pub fn area_of_table(scope: &Scope, alias: &[u8]) -> Result<u8, CompileFaultKind>
     ensures { FindsReading result (readings.holder_of (scoped scope.now)
         (readings.table_named (scoped scope.now).shape alias.now)) }
