@@ -46,7 +46,7 @@ fn settled(alloc: Global, code: &Code, place: usize, incoming: State) -> Result<
     }
 }
 
-/// What flows into the next place, where this is known before a place that is one of the first so many.
+/// What flows into the next place, where this is known before a place. The place is one of the first `count`.
 fn flowing(
     alloc: Global,
     code: &Code,
