@@ -1,7 +1,7 @@
 -- The instructions of expressions pass the tests of a world, the room on its stack aside.
-use Rattle.std.proofs.Common.{◌≡◌, ◌<◌, ◌≤◌, ℕ, zero, suc, ◌+◌, ◌-◌, Bool, false, not, ◌||◌, List, [], ◌∷◌, ◌++◌, length, map, reverse, take, drop, Option, Some, refl, sym, ap, ◌∙◌, subst, arith}
+use Rattle.std.proofs.Common.{◌≡◌, ◌<◌, ◌≤◌, ℕ, zero, suc, ◌+◌, ◌-◌, false, not, List, [], ◌∷◌, ◌++◌, length, map, reverse, take, drop, Option, Some, refl, sym, ap, ◌∙◌, subst, arith}
 use Rattle.std.specs.Prelude.{slice_get, is_none, nat_lt, nat_le}
-use Rattle.std.proofs.lemmas.Bool.{le-ltb}
+use Rattle.std.proofs.lemmas.Bool.{le-ltb, or_from}
 use Rattle.std.proofs.lemmas.List.{length-map, length-drop, length-append, length-reverse}
 use Rattle.std.proofs.lemmas.Option.{slice_get_within}
 use Rattle.xvalue.specs.declared.kind.Kind.{Kind}
@@ -62,13 +62,10 @@ pub record Passes (code : Code) (slots : List (Option Value)) (e : EnvState) (i 
 
 -- ---- tests
 
-neither : (x y : Bool) → x ≡ false → y ≡ false → x || y ≡ false
-neither x y e f = ap (λ (b : Bool). b || y) e ∙ f
-
 -- kinds don't clash with themselves on top of others
 no_clash : (ks ls : List Kind) → clashes ks (ks ++ ls) ≡ false
 no_clash [] ls = refl
-no_clash (k ∷ ks) ls = neither (not (same_kind k k)) (clashes ks (ks ++ ls)) (ap not (kind_self k)) (no_clash ks ls)
+no_clash (k ∷ ks) ls = or_from (not (same_kind k k)) (clashes ks (ks ++ ls)) (ap not (kind_self k)) (no_clash ks ls)
 
 map_onto : (vs st : List Value) → map kind_of (onto vs st) ≡ onto (map kind_of vs) (map kind_of st)
 map_onto [] st = refl
@@ -120,7 +117,7 @@ module _ (code : Code) (slots : List (Option Value)) (e : EnvState) where
       let many : length (map kind_of (onto vs st)) ≡ length (takes_of f) + length (map kind_of st) =
       ap (λ (ks : List Kind). length ks) all ∙ length-append (reverse (takes_of f)) (map kind_of st) ∙ ap (λ (n : ℕ). n + length (map kind_of st)) (length-reverse (takes_of f)) in
       let left : length (drop (length (takes_of f)) (onto vs st)) ≡ length (onto vs st) - length (takes_of f) = length-drop (length (takes_of f)) (onto vs st) in record {
-        kind = neither (clashes (reverse (takes_of f)) (map kind_of (onto vs st))) false (ap (clashes (reverse (takes_of f))) all ∙ no_clash (reverse (takes_of f)) (map kind_of st)) refl;
+        kind = or_from (clashes (reverse (takes_of f)) (map kind_of (onto vs st))) false (ap (clashes (reverse (takes_of f))) all ∙ no_clash (reverse (takes_of f)) (map kind_of st)) refl;
         set = refl;
         area = refl;
         there = le-ltb (length (map kind_of (onto vs st))) (length (takes_of f)) (omega (arith, many));
@@ -181,7 +178,7 @@ clear_there code w i p behind room = record {
   order = p.quiet.order;
   once = p.quiet.once;
   deep = p.quiet.deep w;
-  declared = neither (undeclared code (desk_of w.env.store) i) (lists_other code.declared (desk_of w.env.store) i) p.declared p.quiet.lists;
+  declared = or_from (undeclared code (desk_of w.env.store) i) (lists_other code.declared (desk_of w.env.store) i) p.declared p.quiet.lists;
   filter = p.quiet.filter;
 }
 
