@@ -1,20 +1,19 @@
 -- Pieces of a run, while an operator types and behind the end of the input.
-use Rattle.std.proofs.Common.{◌≡◌, ◌≤◌, ◌<◌, ◌+◌, ◌-◌, ◌∙◌, ap, refl, sym, subst, arith, ℕ, zero, suc, Bool, true, List, Option, Some}
+use Rattle.std.proofs.Common.{◌≡◌, ◌≤◌, ◌<◌, ◌+◌, ◌-◌, refl, sym, subst, arith, ℕ, zero, suc, Bool, List, Option, Some}
 use Rattle.std.specs.Prelude.{Result, Ok, Err, IfOk}
 use Rattle.calendar.specs.declared.day.DayParts.{DayParts}
 use Rattle.code_items.specs.declared.code.Code.{Code}
-use Rattle.code_rules.specs.Places.{instr_at}
 use Rattle.machine.specs.Headline.{Headline}
 use Rattle.machine.specs.Pauses.{GoesTo, PausesAt}
-use Rattle.machine.specs.Twins.{BankState, AgreesWith, Twin}
+use Rattle.machine.specs.Twins.{BankState, Twin}
 use Rattle.operating.specs.declared.operator.Broken.{Broken}
 use Rattle.operating.specs.declared.pieces.Piece.{Piece}
 use Rattle.operating.specs.declared.pieces.Piece.TheVariants.{Ended as PieceEnded, Waits as PieceWaits, Marked as PieceMarked, Spent as PieceSpent}
 use Rattle.operating.specs.declared.silence.QuietTurn.{QuietTurn}
 use Rattle.operating.specs.declared.silence.QuietTurn.TheVariants.{Over, On}
-use Rattle.operating.specs.Pieces.{PieceReaches, PieceGoes, IsEndOf, LeadsTo, Stood, QuietTurned, IsFurther, WaitsDry, cost_of_piece}
+use Rattle.operating.specs.Pieces.{PieceReaches, PieceGoes, IsEndOf, LeadsTo, Stood, QuietTurned, IsFurther}
 use Rattle.operating.specs.Talks.{Talked, ComesTo}
-use Rattle.operating.proofs.TurnLemmas.{Pieces, second_of_two}
+use Rattle.operating.proofs.TurnLemmas.{Pieces}
 use Rattle.run_parts.specs.Parts.{RunsTo}
 use Rattle.run_steps.specs.declared.ending.End.{End}
 use Rattle.run_steps.specs.declared.ending.End.TheVariants.{Spent}
@@ -22,10 +21,10 @@ use Rattle.run_steps.specs.declared.ending.Outcome.{Outcome}
 use Rattle.run_steps.specs.declared.pausing.Leg.{Leg}
 use Rattle.run_steps.specs.declared.pausing.Leg.TheVariants.{Ended, Waits, Marked}
 use Rattle.run_steps.specs.Opening.{opening}
-use Rattle.run_steps.specs.Pausing.{Came, FindsLines, is_dry, takes_line}
+use Rattle.run_steps.specs.Pausing.{Came, FindsLines}
 use Rattle.run_steps.specs.Run.{after, spent, Ran}
 use Rattle.run_steps.specs.World.{World}
-use Rattle.text_lines.specs.Lines.{short_lines, is_out}
+use Rattle.text_lines.specs.Lines.{short_lines}
 use Rattle.work_area.specs.Areas.{StoreState}
 use Rattle.run_parts.proofs.PartLemmas.{Whole}
 
@@ -94,21 +93,6 @@ ended code w budget left marks outcome (PieceWaits steps) b law le other is g = 
 ended code w budget left marks outcome (PieceMarked steps) b law le other is g = absurd is
 ended code w budget left marks outcome (PieceSpent steps) b law le other is g =
     (spent_part code w budget left steps marks b le (subst (λ (o : Outcome). GoesTo code w budget marks (Ended o) b) is.0 g), some_steps outcome steps is.0 (other is.1))
-
-pub cost_within : (code : Code) (w : World) (left : ℕ) (piece : Piece) (b : BankState) → PieceGoes code w left piece b → cost_of_piece piece ≤ left
-cost_within code w left (PieceEnded outcome) b g = g.ran.within
-cost_within code w left (PieceWaits steps) b g = g.0.within
-cost_within code w left (PieceMarked steps) b g = g.0.within
-cost_within code w left (PieceSpent steps) b g = g.0.within
-
-out_there : (code : Code) (w : World) (b : BankState) → AgreesWith b w → is_dry code w ≡ true → is_out b.env.lines ≡ true
-out_there code w b a dry = ap is_out a.lines ∙ second_of_two (takes_line (instr_at code w.place)) (is_out w.env.lines) dry
-
-pub waits_dry : (code : Code) (w : World) (left : ℕ) (piece : Piece) (b : BankState) → PieceGoes code w left piece b → WaitsDry piece b
-waits_dry code w left (PieceEnded outcome) b g = tt
-waits_dry code w left (PieceWaits steps) b g = out_there code g.0.world b g.0.twin.agrees g.1
-waits_dry code w left (PieceMarked steps) b g = tt
-waits_dry code w left (PieceSpent steps) b g = tt
 
 -- a leg that took no step stands where it began
 nothing_spent : (n steps : ℕ) → n ≤ steps → 0 ≡ steps + 0 → n ≡ 0
@@ -207,14 +191,6 @@ step_over code store today typed budget steps part outcome old new law le within
 
 -- ---- turns behind the end of the input
 
-further_from : (budget steps more : ℕ) (turn : QuietTurn) → IsFurther budget (steps + more) turn → IsFurther budget steps turn
-further_from budget steps more (Over outcome) f = f
-further_from budget steps more (On later) f = ((let less = f.0 in omega (arith, less)), f.1)
-
-pub further_all : (budget steps more : ℕ) (result : Result QuietTurn Broken) → IfOk result (IsFurther budget (steps + more)) → IfOk result (IsFurther budget steps)
-further_all budget steps more (Ok turn) f = further_from budget steps more turn f
-further_all budget steps more (Err refusal) f = f
-
 pub turned_all : (code : Code) (budget steps later : ℕ) (old there new : BankState) (result : Result QuietTurn Broken)
     → ((store : StoreState) (today : Option DayParts) (typed : List ℕ) → Stood code store today typed steps old → Stood code store today typed later there)
     → IfOk result (λ turn. (store : StoreState) (today : Option DayParts) (typed : List ℕ) → Stood code store today typed later there → QuietTurned code store today typed budget turn new)
@@ -234,10 +210,6 @@ left_behind budget (On steps) = suc (budget - steps)
 pub within_is : (budget steps : ℕ) (turn : QuietTurn) → IsFurther budget steps turn → steps_of turn ≤ budget
 within_is budget steps (Over outcome) f = omega arith
 within_is budget steps (On more) f = f.1
-
-pub less_left : (budget steps : ℕ) (turn : QuietTurn) → steps ≤ budget → IsFurther budget steps turn → left_behind budget turn < suc (budget - steps)
-less_left budget steps (Over outcome) le f = omega arith
-less_left budget steps (On more) le f = let less = f.0 in let within = f.1 in omega (arith, less, within, le)
 
 pub over_is : (code : Code) (store : StoreState) (today : Option DayParts) (typed : List ℕ) (budget : ℕ) (turn : QuietTurn) (outcome : Outcome) (b : BankState) → turn ≡ Over outcome
     → QuietTurned code store today typed budget turn b → ComesTo code store today typed budget outcome b

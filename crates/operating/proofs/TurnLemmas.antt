@@ -1,5 +1,5 @@
 -- Turns of a conversation as pieces of one run.
-use Rattle.std.proofs.Common.{◌≡◌, ◌≤◌, ◌+◌, ◌-◌, ◌&&◌, ◌++◌, ◌∙◌, ap, refl, sym, subst, arith, ℕ, List, Bool, true, false, Option, Some}
+use Rattle.std.proofs.Common.{◌≡◌, ◌≤◌, ◌+◌, ◌-◌, ◌++◌, ◌∙◌, ap, refl, sym, subst, arith, ℕ, List, true, Option, Some}
 use Rattle.std.specs.Prelude.{Result, Ok, Err, IfOk}
 use Rattle.calendar.specs.declared.day.DayParts.{DayParts}
 use Rattle.code_items.specs.declared.code.Code.{Code}
@@ -7,9 +7,9 @@ use Rattle.line_journal.specs.Kept.{ended_by_lf}
 use Rattle.machine.specs.Twins.{BankState, Begins, Twin}
 use Rattle.operating.specs.declared.operator.Broken.{Broken}
 use Rattle.operating.specs.declared.talking.Turn.{Turn}
-use Rattle.operating.specs.declared.talking.Turn.TheVariants.{Over, On}
+use Rattle.operating.specs.declared.talking.Turn.TheVariants.{Over}
 use Rattle.operating.specs.Pieces.{PieceReaches}
-use Rattle.operating.specs.Talks.{Talked, ComesTo, Turned, IsNearer, TookLine}
+use Rattle.operating.specs.Talks.{Talked, ComesTo, Turned, TookLine}
 use Rattle.run_parts.specs.Parts.{RunsTo}
 use Rattle.run_steps.specs.declared.ending.Outcome.{Outcome}
 use Rattle.run_steps.specs.Opening.{opening}
@@ -53,10 +53,6 @@ talked_on code store today typed steps left more old new laws t r = record {
   twin = r.twin;
 }
 
-pub second_of_two : (a b : Bool) → (a && b) ≡ true → b ≡ true
-second_of_two true b e = e
-second_of_two false b e = absurd (cc)
-
 -- ---- lines
 
 pub talked_more : (code : Code) (store : StoreState) (today : Option DayParts) (before after line : List ℕ) (steps : ℕ) (old new : BankState) → Lines code → is_out old.env.lines ≡ true
@@ -73,14 +69,6 @@ talked_more code store today before after line steps old new laws out added take
     }
 
 -- ---- turns
-
-pub nearer : (budget limit steps more used : ℕ) (turn : Turn) → IsNearer budget limit (steps + more) used turn → IsNearer budget limit steps used turn
-nearer budget limit steps more used (Over outcome) n = n
-nearer budget limit steps more used (On later longer) n = (n.0, n.1, (let less = n.2 in omega (arith, less)))
-
-pub nearer_all : (budget limit steps more used : ℕ) (result : Result Turn Broken) → IfOk result (IsNearer budget limit (steps + more) used) → IfOk result (IsNearer budget limit steps used)
-nearer_all budget limit steps more used (Ok turn) n = nearer budget limit steps more used turn n
-nearer_all budget limit steps more used (Err refusal) n = n
 
 pub turned_all : (code : Code) (budget steps later : ℕ) (before middle after : List ℕ) (old there new : BankState) (result : Result Turn Broken)
     → ((store : StoreState) (today : Option DayParts) → Talked code store today before steps old → Talked code store today middle later there)

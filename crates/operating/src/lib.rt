@@ -8,4 +8,4 @@ mod talking;
 
 pub use machine::ShownAt;
 pub use operator::{Answer, Broken, Operator, OperatorFailed, Scene};
-pub use talking::{EndedTalk, MOST_GIVEN, MOST_TYPED, can_go_on, converse};
+pub use talking::{EndedTalk, MOST_GIVEN, MOST_TYPED, can_go_on, converse, typed};

@@ -1,12 +1,11 @@
 //! Pieces of a run that goes on until it waits for a line.
 
-ghost use Rattle.machine.specs.Pauses.{GoesTo};
 ghost use Rattle.machine.specs.Twins.{Twin};
 ghost use Rattle.operating.specs.Pieces.{cost_of_piece, PieceGoes, IsEndOf, WaitsDry};
 ghost use Rattle.run_steps.specs.World.{World};
 ghost use Rattle.run_steps.specs.declared.ending.End.TheVariants.{Spent};
 ghost use Rattle.run_steps.specs.declared.pausing.Leg.TheVariants.{Ended};
-ghost use Rattle.std.specs.Prelude.{◌≡◌, ◌<◌, ◌≤◌, ◌-◌, true, false};
+ghost use Rattle.std.specs.Prelude.{◌≡◌, ◌<◌, ◌≤◌, true, false};
 
 use key_lists::KeyList;
 use machine::{Banks, Leg, resume_to_line};

@@ -1,10 +1,8 @@
 //! Runs behind the end of the input: each further line is empty.
 
 ghost use Rattle.calendar.specs.declared.day.DayParts.{DayParts};
-ghost use Rattle.machine.specs.Twins.{Twin};
 ghost use Rattle.operating.specs.Pieces.{IsFurther, QuietTurned, Stood};
 ghost use Rattle.operating.specs.Talks.{ComesTo, Talked};
-ghost use Rattle.run_steps.specs.World.{World};
 ghost use Rattle.std.specs.Prelude.{◌≡◌, ◌≤◌, ℕ, List, Option, IfOk};
 ghost use Rattle.work_area.specs.Areas.{StoreState};
 

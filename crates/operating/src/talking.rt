@@ -1,6 +1,6 @@
 //! Runs of accepted code that ask an operator for lines.
 
-ghost use Rattle.std.specs.Prelude.{◌≡◌, ◌≤◌, ℕ, true, List, Option, length, IfOk, OnErr, OnOk};
+ghost use Rattle.std.specs.Prelude.{◌≡◌, ◌≤◌, true, Option, length, IfOk, OnErr, OnOk};
 ghost use Rattle.calendar.specs.declared.day.DayParts.{DayParts};
 ghost use Rattle.machine.specs.Showing.{shown_next};
 ghost use Rattle.machine.specs.Twins.{Twin};
@@ -310,7 +310,7 @@ fn begin<O: Operator>(verified: &Verified, operator: &mut O) -> Result<Vec<bool>
 }
 
 /// All lines of a text.
-fn typed(alloc: Global, bytes: &[u8]) -> Result<TypedLines, AllocError>
+pub fn typed(alloc: Global, bytes: &[u8]) -> Result<TypedLines, AllocError>
     ensures { IfOk result (λ lines. lines ≡ short_lines bytes.now) }
 {
     Ok(TypedLines::new(Vec::from_slice(alloc, bytes)?))
