@@ -3,5 +3,4 @@ pub mod Reported
 pub mod Same
 pub mod Rehearsed
 pub mod Operated
-pub mod Answered
 pub mod TestedParts

@@ -1,6 +1,6 @@
 -- What was carried out over the lines of a journal, as the run of the job with these lines.
-use Rattle.std.proofs.Common.{◌≡◌, ◌≤◌, ◌∙◌, ◌⊎◌, inl, inr, ap, refl, subst, sym, ℕ, List, [], Bool, true, false, IfOk, IfErr}
-use Rattle.std.specs.Prelude.{Result, Ok, Err, MatchBool, ⊤, OnErr}
+use Rattle.std.proofs.Common.{◌≡◌, ◌≤◌, ◌∙◌, ap, refl, subst, sym, ℕ, List, Bool, false, IfOk, IfErr}
+use Rattle.std.specs.Prelude.{Result, Ok, Err, MatchBool}
 use Rattle.calendar.specs.declared.day.DayParts.{DayParts}
 use Rattle.std.specs.Prelude.{Option}
 use Rattle.code_items.specs.declared.code.Code.{Code}
@@ -20,11 +20,11 @@ use Rattle.run_commands.specs.declared.machines.Run.{Run as AnyRun}
 use Rattle.run_commands.specs.declared.rehearsing.Compared.{Compared}
 use Rattle.run_commands.specs.declared.rehearsing.Rehearsal.{Rehearsal}
 use Rattle.run_commands.specs.declared.running.Report.{Report}
-use Rattle.run_commands.specs.Operating.{IsWith, SoundOver, IfOfRun, OperationRefused, SameResult}
+use Rattle.run_commands.specs.Operating.{IsWith, SoundOver, IfOfRun}
 use Rattle.run_commands.specs.Parts.{IsOfTables, CodeRefused, SavedAll, SavedSome, Stopped, CodeStopped}
 use Rattle.run_commands.specs.Rehearsals.{IsRehearsed, IsToldAs, LeavesTables}
-use Rattle.run_commands.specs.Reports.{CodeRan, HasRun, IsTold, IsTested, IsSavedRun, MayLoad, RefusedBefore, SavingStopped}
-use Rattle.run_commands.specs.Runs.{IsSoundRun, begun}
+use Rattle.run_commands.specs.Reports.{CodeRan, HasRun, IsTold, IsTested, IsSavedRun, RefusedBefore, SavingStopped}
+use Rattle.run_commands.specs.Runs.{begun}
 use Rattle.run_commands.proofs.Rehearsed.{leaves_told, may_accepted, refused_tables, rehearsed, rehearsed_from}
 use Rattle.run_commands.proofs.Reported.{IsDone, saved_run, stopped_run, has_run, each_stopped, refused_before}
 use Rattle.run_steps.specs.declared.ending.Outcome.{Outcome}
@@ -104,16 +104,6 @@ pub stopped_over : (a b e : Holds) (f g h : ℕ) → f ≤ g → g ≤ h → (jo
 stopped_over a b e f g h fg gh job typed code seen outcome rows shown tables p is (Ok ended) s = s
 stopped_over a b e f g h fg gh job typed code seen outcome rows shown tables p is (Err refusal) s = λ whole w.
     stopped_run a b e f g h fg gh whole code seen outcome rows shown tables (done_for a b job typed code seen outcome rows tables p whole w) is (Err refusal) (some_with b e (Rose g h) job whole typed seen.declared.shape tables refusal w s)
-
--- ---- refusals
-
-memory_of : (holds : Holds) (job : Job) (code : Code) (broke : Type 0) (refusal : RunRefusal) → refusal ≡ Memory → IsOfTables holds job code broke refusal
-memory_of holds job code broke refusal e = subst (IsOfTables holds job code broke) (sym e) tt
-
-pub memory_refused : (holds : Holds) (job : Job) (code : Code) (broke : Type 0) (refusal : OperateRefusal) → IfOfRun (λ r. r ≡ Memory) refusal → IfOfRun (IsOfTables holds job code broke) refusal
-memory_refused holds job code broke (Run refusal) e = memory_of holds job code broke refusal e
-memory_refused holds job code broke (Broke why) e = e
-memory_refused holds job code broke Handed e = e
 
 -- ---- of the code, whether it is tested being known
 

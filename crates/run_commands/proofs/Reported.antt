@@ -1,19 +1,20 @@
 -- What the parts of a run say to each other, put together.
-use Rattle.std.proofs.Common.{◌≡◌, ◌≤◌, subst, sym, ℕ, false, List, IfOk, IfErr}
+use Rattle.std.proofs.Common.{◌≡◌, ◌≤◌, subst, sym, ℕ, List, IfOk, IfErr}
 use Rattle.std.specs.Prelude.{Result, Ok, Err}
 use Rattle.code_items.specs.declared.code.Code.{Code}
 use Rattle.code_rules.specs.Rules.{Accepted}
 use Rattle.file_access.specs.Holding.{Holds, SameFiles, Rose}
-use Rattle.file_commands.specs.Reports.{IsCodeFile, HasCode}
+use Rattle.file_commands.specs.Reports.{IsCodeFile}
 use Rattle.run_commands.specs.declared.ending.Ended.{Ended}
 use Rattle.run_commands.specs.declared.job.Job.{Job}
 use Rattle.run_commands.specs.declared.refusal.RunRefusal.{RunRefusal}
 use Rattle.run_commands.specs.declared.refusal.RunRefusal.TheVariants.{File, Rule, Disk, Tables, Memory}
 use Rattle.run_commands.specs.declared.running.Report.{Report}
-use Rattle.run_commands.specs.Parts.{IsOfTables, CodeRefused, SavedAll, SavedSome, Stopped, CodeStopped}
+use Rattle.run_commands.specs.Parts.{CodeRefused, SavedAll, SavedSome, Stopped, CodeStopped}
 use Rattle.run_commands.specs.Reports.{CodeRan, HasRun, IsTold, IsSavedRun, RefusedBefore, SavingStopped}
 use Rattle.run_commands.specs.Runs.{IsSoundRun}
-use Rattle.run_commands.proofs.Same.{saved_same, ended_same, ran_same, refused_same, stopped_same, rose_later}
+use Rattle.run_commands.proofs.Same.{saved_same, ended_same, ran_same, refused_same, stopped_same}
+use Rattle.table_files.proofs.FileLemmas.{rose_on}
 use Rattle.run_steps.specs.declared.ending.Outcome.{Outcome}
 use Rattle.table_files.specs.Loading.{Loaded}
 use Rattle.work_area.specs.Areas.{StoreState}
@@ -69,7 +70,8 @@ stopped_run a b e f g h fg gh job code seen outcome rows shown tables d is (Err 
         run = subst (λ r. IsSoundRun code d.store job outcome r tables) (sym is) d.run;
         stamped = here.stamped;
       };
-      stopped = ended_same a b e d.same code.declared.shape tables here.stamp (Rose f h) (Rose g h) (rose_later f g h fg gh) refusal here.stopped;
+      stopped = ended_same a b e d.same code.declared.shape tables here.stamp (Rose f h) (Rose g h)
+          (rose_on f g h fg gh) refusal here.stopped;
     }
 stopped_run a b e f g h fg gh job code seen outcome rows shown tables d is (Err Memory) s = s
 

@@ -1,37 +1,32 @@
 -- What is said of files is said of any that hold the same.
-use Rattle.std.proofs.Common.{◌≡◌, ◌≢◌, ◌<◌, ◌≤◌, ◌+◌, ◌-◌, ◌^◌, ◌∙◌, ◌⊎◌, inl, inr, ◌↔◌, ℕ, Bool, true, false, List, [], ◌∷◌, length, take, Option, Some, None, All, refl, rules, arith}
-use Rattle.std.proofs.Math.Nat.{eq-or-lt_of_le}
-use Rattle.std.specs.Prelude.{MatchBool, ⊤, Contains}
+use Rattle.std.proofs.Common.{ℕ, Bool, true, false, List, [], ◌∷◌, take, Option, Some, None}
+use Rattle.std.specs.Prelude.{MatchBool}
 use Rattle.std.specs.List.{AllZip}
 use Rattle.code_items.specs.declared.code.Code.{Code}
 use Rattle.dbf_file.specs.declared.stamp.Stamp.{Stamp}
 use Rattle.dbf_file.specs.Tables.{TableState}
-use Rattle.file_access.specs.Holding.{Holds, SameFiles, Rose}
+use Rattle.file_access.specs.Holding.{Holds, SameFiles}
 use Rattle.ndx_tree.specs.Trees.{TreeView}
 use Rattle.run_commands.specs.declared.ending.Ended.{Ended}
 use Rattle.run_commands.specs.declared.job.Job.{Job}
 use Rattle.run_commands.specs.declared.refusal.RunRefusal.{RunRefusal}
 use Rattle.run_commands.specs.declared.refusal.RunRefusal.TheVariants.{File, Rule, Disk, Tables, Memory}
-use Rattle.run_commands.specs.Parts.{IsOfTables, CodeRefused, Stopped, CodeStopped}
+use Rattle.run_commands.specs.Parts.{Stopped}
 use Rattle.run_commands.specs.Reports.{CodeRan, IsTested, IsAccepted, IsSavedRun, IsStopped}
 use Rattle.run_steps.specs.declared.ending.Outcome.{Outcome}
 use Rattle.shape.specs.declared.indexes.IndexShape.{IndexShape}
 use Rattle.shape.specs.declared.tables.TableShape.{TableShape}
 use Rattle.shape.specs.declared.whole.Shape.{Shape}
+use Rattle.table_files.proofs.FileLemmas.{kept_on}
 use Rattle.table_files.specs.declared.refusal.FilesRefusal.{FilesRefusal}
 use Rattle.table_files.specs.declared.refusal.FilesRefusal.TheVariants.{Refused, Disk as FileDisk, Memory as FileMemory}
 use Rattle.table_files.specs.declared.refusal.TableFault.{TableFault}
 use Rattle.table_files.specs.declared.refusal.TableFault.TheVariants.{Absent, TooLong, OfTable, Structure}
-use Rattle.table_files.specs.Loading.{IsTableOf, IsListOf, AreListsOf, Loaded}
+use Rattle.table_files.specs.Loading.{IsTableOf, IsListOf, Loaded}
 use Rattle.table_files.specs.Names.{table_file, index_file}
 use Rattle.table_files.specs.Refusals.{IsTableFault, MayHold, LoadRefused}
 use Rattle.table_files.specs.Saving.{AreSaved, EndedAt, SaveRefused}
 use Rattle.work_area.specs.Areas.{StoreState}
-
--- ---- files that hold the same
-
-pub same_through : (a b c : Holds) → SameFiles a b → SameFiles b c → SameFiles a c
-same_through a b c ab bc = λ name found. ((λ h. (bc name found).0 ((ab name found).0 h)), (λ h. (ab name found).1 ((bc name found).1 h)))
 
 -- ---- loading
 
@@ -162,15 +157,8 @@ either_same false f g h = g h
 
 pub ran_same : (a b c : Holds) → SameFiles a b → (job : Job) (code : Code) (ended : Ended) (rows : List ℕ) → CodeRan b c job ended rows code → CodeRan a c job ended rows code
 ran_same a b c same job code ended rows h = either_same job.checked
-    (λ t. (tested_same a b same job code ended rows t.0, same_through a b c same t.1))
+    (λ t. (tested_same a b same job code ended rows t.0, kept_on a b c same t.1))
     (saved_run_same a b c same job code ended rows) h
-
-pub of_tables_same : (a b : Holds) → SameFiles a b → (job : Job) (code : Code) (broke breaks : Type 0) → (breaks → broke) → (refusal : RunRefusal) → IsOfTables b job code breaks refusal → IsOfTables a job code broke refusal
-of_tables_same a b same job code broke breaks f (File fault) h = h
-of_tables_same a b same job code broke breaks f (Rule refused) h = h
-of_tables_same a b same job code broke breaks f Disk h = h
-of_tables_same a b same job code broke breaks f (Tables refusal) h = refused_same a b same code.declared.shape job.limit broke breaks f refusal h
-of_tables_same a b same job code broke breaks f Memory h = h
 
 pub stopped_same : (a b c : Holds) → SameFiles a b → (broke breaks : Type 0) → (breaks → broke) → (job : Job) (code : Code) (rows : List ℕ) (refusal : RunRefusal) → Stopped b c breaks job code rows refusal → Stopped a c broke job code rows refusal
 stopped_same a b c same broke breaks f job code rows (File fault) h = h
@@ -178,18 +166,3 @@ stopped_same a b c same broke breaks f job code rows (Rule refused) h = h
 stopped_same a b c same broke breaks f job code rows Disk h = h
 stopped_same a b c same broke breaks f job code rows (Tables refusal) h = stopped_run_same a b c same broke breaks f job code refusal rows h
 stopped_same a b c same broke breaks f job code rows Memory h = h
-
--- ---- counts of failures
-
-rose_from : (f g h : ℕ) → g ≤ h → g ≡ 2 ^ 64 - 1 → (f ≡ g) ⊎ (f < g) → Rose f h
-rose_from f g h gh most (inl same) = inr (same ∙ most)
-rose_from f g h gh most (inr less) = inl (omega arith)
-
--- that they rose in the second of two calls, or in the first, they did in both together
-pub rose_later : (f g h : ℕ) → f ≤ g → g ≤ h → Rose g h → Rose f h
-rose_later f g h fg gh (inl rose) = inl (omega arith)
-rose_later f g h fg gh (inr most) = rose_from f g h gh most (eq-or-lt_of_le fg)
-
-pub rose_before : (f g h : ℕ) → g ≤ h → Rose f g → Rose f h
-rose_before f g h gh (inl rose) = inl (omega arith)
-rose_before f g h gh (inr most) = inr most

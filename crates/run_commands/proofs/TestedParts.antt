@@ -1,7 +1,6 @@
 -- Parts of a run on the checking machine as one run.
-use Rattle.std.proofs.Common.{◌≡◌, ◌≤◌, ◌+◌, ◌-◌, refl, subst, arith, ℕ}
+use Rattle.std.proofs.Common.{◌≡◌, ◌≤◌, ◌+◌, ◌-◌, refl, arith, ℕ}
 use Rattle.code_items.specs.declared.code.Code.{Code}
-use Rattle.run_steps.specs.declared.ending.End.{End}
 use Rattle.run_steps.specs.declared.ending.End.TheVariants.{Spent}
 use Rattle.run_steps.specs.declared.ending.Outcome.{Outcome}
 use Rattle.run_steps.specs.Run.{Ran}

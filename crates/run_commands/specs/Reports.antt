@@ -1,5 +1,5 @@
 -- What a run reports, and what the files hold then.
-use Rattle.std.specs.Prelude.{◌≡◌, ℕ, List, [], Bool, true, false, Some, length, MatchBool, ◌⊎◌, ⊤}
+use Rattle.std.specs.Prelude.{◌≡◌, ℕ, List, [], false, Some, length, MatchBool, ◌⊎◌, ⊤}
 use Rattle.code_items.specs.declared.code.Code.{Code}
 use Rattle.code_rules.specs.Rules.{Accepted, FirstRefusal}
 use Rattle.dbf_file.specs.declared.stamp.Stamp.{Stamp}

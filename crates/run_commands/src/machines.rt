@@ -4,18 +4,17 @@
 ghost use Rattle.std.specs.Prelude.{◌≡◌, IfOk};
 ghost use Rattle.run_steps.specs.Shapes.{StoreFits};
 ghost use Rattle.run_commands.specs.Runs.{IsLeft, IsSoundRun};
-ghost use Rattle.text_lines.specs.Lines.{short_lines};
 
 use crate::job::Job;
 use crate::testing::run_checked_in_parts;
 use legal_code::LegalCode;
 use machine::Banks;
 use ndx_tree::NdxTree;
+use operating::typed;
 use run_parts::{Watcher, run_in_parts};
 use run_steps::Outcome;
 use std::alloc::{AllocError, Global};
 use tagged_machine::World;
-use text_lines::TypedLines;
 use work_area::Store;
 use xverify::Verified;
 
@@ -56,12 +55,6 @@ impl AcceptedRun {
     {
         self.run
     }
-}
-
-fn typed(alloc: Global, bytes: &[u8]) -> Result<TypedLines, AllocError>
-    ensures { IfOk result (λ lines. lines ≡ short_lines bytes.now) }
-{
-    Ok(TypedLines::new(Vec::from_slice(alloc, bytes)?))
 }
 
 /// Runs a code, accepted or not, on the checking machine, in the parts that the watcher says.

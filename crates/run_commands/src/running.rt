@@ -1,7 +1,7 @@
 // Runs from files to files.
 #![tactic(auto)]
 
-ghost use Rattle.std.specs.Prelude.{◌≡◌, ◌≤◌, ◌<◌, ◌-◌, ◌^◌, ◌⊎◌, true, false, [], length, IfOk, IfErr, IsOk, OnErr};
+ghost use Rattle.std.specs.Prelude.{◌≡◌, ◌≤◌, true, length, IfOk, IfErr, IsOk, OnErr};
 ghost use Rattle.code_rules.specs.Rules.{Accepted};
 ghost use Rattle.file_access.specs.Holding.{Rose, SameFiles};
 ghost use Rattle.run_commands.specs.Parts.{IsOfCode, IsOfRule, IsOfTables, SavedAll, SavedSome, Stopped, CodeStopped};

@@ -1,6 +1,5 @@
-use Rattle.run_commands.proofs.Answered.{unkept_none}
-use Rattle.operating.proofs.AnswerLemmas.{on_err}
-use Rattle.std.proofs.Common.{◌≡◌, IfOk, IfErr, length, subst, sym}
+use Rattle.operating.proofs.AnswerLemmas.{on_err, unkept_none}
+use Rattle.std.proofs.Common.{◌≡◌, IfOk, IfErr, length, subst, sym, refl}
 use Rattle.code_items.specs.declared.code.Code.{Code}
 use Rattle.run_commands.proofs.Operated.{Prepared, saved_over, stopped_over}
 use Rattle.run_commands.proofs.conversation.full_operation.Goals as goal
@@ -33,4 +32,4 @@ pub save_run-requires-clause-count : goal.save_run-requires-clause-count
 save_run-requires-clause-count g c = subst (λ (k : Code). length c.in_ok-done.done.banks.env.store.tables ≡ length k.declared.shape.tables) (sym c.code.ensures.same) c.in_ok-done.ensures.fits.count
 
 pub returns-in_err-store-clause-unkept : goal.returns-in_err-store-clause-unkept
-returns-in_err-store-clause-unkept g c = on_err _ _ (unkept_none _ _)
+returns-in_err-store-clause-unkept g c = on_err _ _ (unkept_none _ _ _ _ refl refl)

@@ -1,5 +1,4 @@
-use Rattle.run_commands.proofs.Answered.{kept_all}
-use Rattle.operating.proofs.AnswerLemmas.{on_err}
+use Rattle.operating.proofs.AnswerLemmas.{kept_all, on_err}
 use Rattle.run_commands.proofs.Operated.{sound_over}
 use Rattle.run_commands.proofs.conversation.operate_accepted.Goals as goal
 

@@ -1,6 +1,5 @@
-use Rattle.run_commands.proofs.Answered.{unkept_none}
-use Rattle.operating.proofs.AnswerLemmas.{on_err}
-use Rattle.std.proofs.Common.{◌∙◌, ap, Bool, List, length}
+use Rattle.operating.proofs.AnswerLemmas.{on_err, unkept_none}
+use Rattle.std.proofs.Common.{◌∙◌, ap, Bool, List, length, refl}
 use Rattle.std.proofs.lemmas.List.FromFn.{length-map-range_with_len}
 use Rattle.table_changes.specs.Rows.{is_fresh_in}
 use Rattle.run_commands.proofs.Operated.{leaves_over}
@@ -16,7 +15,7 @@ returns-clause-done g c =
     (c.changes_since-changes.ensures c.in_ok-loaded.loaded c.in_ok-kept.ensures) c.in_ok-with_changes.ensures
 
 pub returns-in_err-loaded-clause-unkept : goal.returns-in_err-loaded-clause-unkept
-returns-in_err-loaded-clause-unkept g c = on_err _ _ (unkept_none _ _)
+returns-in_err-loaded-clause-unkept g c = on_err _ _ (unkept_none _ _ _ _ refl refl)
 
 pub returns-in_err-kept-clause-unkept : goal.returns-in_err-kept-clause-unkept
-returns-in_err-kept-clause-unkept g c = on_err _ _ (unkept_none _ _)
+returns-in_err-kept-clause-unkept g c = on_err _ _ (unkept_none _ _ _ _ refl refl)
