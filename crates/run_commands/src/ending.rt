@@ -7,7 +7,7 @@ ghost use Rattle.run_commands.specs.Exits.{exit_of_end};
 
 use file_commands::Status;
 use run_steps::{End, FaultKind, Outcome};
-use shape::{Name, Shape};
+use shape::{Name, Shape, copy_of_name};
 use std::fmt;
 
 /// How a run ended.
@@ -32,20 +32,11 @@ pub struct Ended {
     pub steps: u64,
 }
 
-/// The same name once more.
-pub(crate) fn copy_of(name: &Name) -> Name
-    ensures { result ≡ name.now }
-{
-    let mut copy = Name::new();
-    copy.try_extend_from_slice(name.as_slice()).unwrap();
-    copy
-}
-
 fn name_of(shape: &Shape, table: u16) -> Name
     ensures { result.items ≡ name_of_table (slice_get shape.now.tables table) }
 {
     match shape.tables.as_slice().get(usize::from(table)) {
-        Some(declared) => copy_of(&declared.name),
+        Some(declared) => copy_of_name(&declared.name),
         None => Name::new(),
     }
 }

@@ -9,7 +9,7 @@ ghost use Rattle.run_commands.specs.Parts.{IsOfTables, CodeRefused};
 ghost use Rattle.run_commands.specs.Rehearsals.{IsRehearsed, IsToldAs, LeavesTables};
 ghost use Rattle.run_commands.specs.Reports.{RefusedBefore};
 
-use crate::ending::{Ended, copy_of, ended_of, put_name};
+use crate::ending::{Ended, ended_of, put_name};
 use crate::job::Job;
 use crate::machines::{Run, run_accepted, run_any};
 use crate::refusal::RunRefusal;
@@ -21,7 +21,7 @@ use legal_code::LegalCode;
 use run_laws::laws::new_stores_fit;
 use run_parts::{Unwatched, Watcher};
 use run_steps::Outcome;
-use shape::{IndexShape, Name, Shape, TableShape};
+use shape::{IndexShape, Name, Shape, TableShape, copy_of_name};
 use std::alloc::{AllocError, Global};
 use std::fmt;
 use table_changes::{Changes, RowCounts, changes_since, keep};
@@ -53,7 +53,7 @@ fn table_names(alloc: Global, tables: &[TableShape]) -> Result<Vec<Name>, AllocE
 {
     let mut names = Vec::with_capacity(alloc, tables.len())?;
     for table in tables {
-        names.push(copy_of(&table.name))?;
+        names.push(copy_of_name(&table.name))?;
     }
     Ok(names)
 }
@@ -64,7 +64,7 @@ fn index_names(alloc: Global, indexes: &[IndexShape]) -> Result<Vec<Name>, Alloc
 {
     let mut names = Vec::with_capacity(alloc, indexes.len())?;
     for index in indexes {
-        names.push(copy_of(&index.name))?;
+        names.push(copy_of_name(&index.name))?;
     }
     Ok(names)
 }
