@@ -93,10 +93,6 @@ runs_wider code w budget more outcome b le same r = record {
 
 -- ---- behind parts
 
-pub stands : (code : Code) (w : World) (steps : ℕ) (b : BankState) → IsAt code w steps b → (v : World) × Twin code v b
-stands code w steps b (Begun none twin) = (w, twin)
-stands code w steps b (Behind budget r) = (r.world, r.goes_on)
-
 further : (code : Code) (w : World) (steps part : ℕ) (outcome : Outcome) (old new : BankState) → Whole → IsAt code w steps old → ((v : World) → Twin code v old → RunsTo code v part outcome new)
     → RunsTo code w (steps + part) (record { end = outcome.end; steps = steps + outcome.steps }) new
 further code w steps part outcome old new law (Begun none twin) next = with_nothing code w steps part outcome new none (next w twin)
