@@ -111,12 +111,6 @@ once_more code w budget more marks first second old new law is g next =
     let h = (subst (λ (l : Leg). GoesTo code w budget marks l old) is g).0 in
     subst (λ (v : World). GoesTo code v more marks second new) (sym (stays code w h.world budget law h.takes_its_steps)) (next h.world h.goes_on)
 
--- a world of which the banks are twins, behind a leg
-pub stands : (code : Code) (w : World) (budget : ℕ) (marks : List Bool) (leg : Leg) (b : BankState) → GoesTo code w budget marks leg b → (v : World) × Twin code v b
-stands code w budget marks (Ended outcome) b g = (g.0.world, g.0.goes_on)
-stands code w budget marks (Waits steps) b g = (g.0.world, g.0.goes_on)
-stands code w budget marks (Marked steps) b g = (g.0.world, g.0.goes_on)
-
 -- ---- behind the end of the input
 
 pub same_run : (code : Code) (w v : World) (budget more steps cost : ℕ) (end : End) → budget ≡ more → steps ≡ cost
