@@ -1,5 +1,5 @@
 -- Why a command isn't carried out. Each command tells faults of its own sort alone.
-use Rattle.std.specs.Prelude.{◌≡◌, ◌<◌, ℕ, List, Bool, true, false, Option, Some, None, Err, length}
+use Rattle.std.specs.Prelude.{◌≡◌, ◌<◌, ℕ, List, Option, Some, None, Err, length}
 use Rattle.xcode.specs.declared.fault.CodeFault.{CodeFault}
 use Rattle.xcode.specs.Decoding.{code_at}
 use Rattle.dbf_file.specs.declared.fault.DbfFault.{DbfFault}

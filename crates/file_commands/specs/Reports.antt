@@ -1,5 +1,5 @@
 -- What the reading commands report of a file.
-use Rattle.std.specs.Prelude.{◌≡◌, ◌≤◌, ℕ, List, Bool, true, false, Option, Some, None, length}
+use Rattle.std.specs.Prelude.{◌≡◌, ◌≤◌, ℕ, List, Option, Some, None, length}
 use Rattle.code_items.specs.declared.code.Code.{Code}
 use Rattle.xcode.specs.CodeFile.{CodeText}
 use Rattle.code_rules.specs.Rules.{Accepted, FirstRefusal}
