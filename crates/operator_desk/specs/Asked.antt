@@ -1,6 +1,6 @@
 -- What is known of the places of a code and of the line that is wanted, and which answers leave the old value.
 use Rattle.std.specs.Prelude.{◌≡◌, ◌⊎◌, ◌-◌, ◌==◌, ◌||◌, not, nat_lt, ℕ, List, [], ◌∷◌, Bool, true, false, Option, Some}
-use Rattle.std.specs.Prelude.{MatchOption, None, if◌then◌else◌, is_none, is_some, length, map, option_map}
+use Rattle.std.specs.Prelude.{MatchOption, None, if◌then◌else◌, is_none, is_some, length, option_map}
 use Rattle.std.specs.Prelude.{slice_get, string_bytes}
 use Rattle.calendar.specs.DateTexts.{date_read}
 use Rattle.code_items.specs.declared.instr.Instr.{Instr}

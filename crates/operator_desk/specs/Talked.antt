@@ -1,6 +1,6 @@
 -- The words of a conversation, as the text of its beginning says them.
-use Rattle.std.specs.Prelude.{◌≡◌, ◌==◌, ℕ, List, [], Bool, true, false, Option, Some, None, IfSome, codes, length}
-use Rattle.std.specs.Prelude.{if◌then◌else◌, is_none, option_and_then, string_bytes, ⊤}
+use Rattle.std.specs.Prelude.{◌≡◌, ℕ, List, Bool, true, false, Option, Some, None, codes}
+use Rattle.std.specs.Prelude.{if◌then◌else◌, option_and_then}
 use Rattle.std.specs.Str.{bytes_eq}
 use Rattle.code_pages.specs.declared.pages.CodePage.{CodePage}
 use Rattle.code_pages.specs.declared.pages.CodePage.TheVariants.{Cp437, Cp850}
