@@ -1,5 +1,5 @@
 -- Paths of files. 47 is a slash.
-use Rattle.std.specs.Prelude.{◌-◌, ◌==◌, not, ℕ, Bool, List, length, take}
+use Rattle.std.specs.Prelude.{◌-◌, ◌==◌, not, ℕ, List, length, take}
 use Rattle.std.specs.List.{after_last, suffix_len}
 
 -- a file's name in its folder, and the folder's path, which ends with a slash or is empty
