@@ -1,5 +1,5 @@
 -- Sentences that are told.
-use Rattle.std.specs.Prelude.{ℕ, ◌==◌, ◌&&◌, not, nat_le, nat_lt, Bool, true, false, List, [], ◌∷◌}
+use Rattle.std.specs.Prelude.{ℕ, ◌==◌, ◌&&◌, not, nat_le, nat_lt, Bool, false, List, [], ◌∷◌}
 use Rattle.std.specs.List.{list_all}
 
 -- a letter, a digit or another sign of one line
