@@ -58,7 +58,7 @@ fn is_met(best: &Option<Entry>, entry: &Entry) -> bool
 }
 
 /// How many rows are kept.
-#[tactic(auto, using(crate::proofs::PassLemmas::kept_more))]
+#[tactic(auto, using(row_keys::proofs::ListLemmas::kept_more))]
 pub(crate) fn count_kept(table: &Table, kept: Kept) -> u32
     requires { length table.now.rows ≤ 1000000 }
     ensures value { result ≡ length (kept_rows kept table.now.rows) }
