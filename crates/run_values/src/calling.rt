@@ -258,8 +258,8 @@ fn soon_given(fun: Fun, settings: Settings, values: &[Value]) -> Option<Value>
     }
 }
 
-/// What a function gives of at most four arguments. It takes no memory. (Arguments are gathered where nothing else will
-/// do, since that takes longer than what is done with them.)
+/// What a function gives of at most four arguments. It takes no memory. Arguments are gathered only where nothing else
+/// will do: to gather them takes longer than what is done with them.
 pub(crate) fn result_of(fun: Fun, settings: Settings, values: &[Value]) -> Value
     requires { length values.now ≤ 4 }
     ensures { result ≡ applied fun settings (by_kind values.now) }
@@ -270,7 +270,7 @@ pub(crate) fn result_of(fun: Fun, settings: Settings, values: &[Value]) -> Value
     }
 }
 
-/// The same, by arguments that are gathered. (Apart, since a function's locals are zeroed on entry.)
+/// The same, by arguments that are gathered. It stands apart, since a function's locals are zeroed on entry.
 fn gathered_first(fun: Fun, settings: Settings, values: &[Value]) -> Value
     requires { length values.now ≤ 4 }
     ensures { result ≡ applied fun settings (by_kind values.now) }
