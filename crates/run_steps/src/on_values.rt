@@ -17,8 +17,7 @@ use key_lists::KeyList;
 use run_values::Values;
 use xvalue::Value;
 
-/// Puts a day on the stack. (Apart from the others, since a function's locals are zeroed on entry, and a value is
-/// large.)
+/// Puts a day on the stack. It stands apart, since a value is large and a function's locals are zeroed on entry.
 fn push_day<V: Values>(values: &mut V, day: Day)
     requires { (t : TaggedValues) × (V.stands values.old t × (length t.stack < 64)) }
     ensures { (t : TaggedValues) → V.stands values.old t → V.stands values.new (pushed (Date day) t) }
