@@ -40,7 +40,7 @@ pub(crate) struct AcceptedRun {
 }
 
 impl TestedRun {
-    /// The run alone, without the tables that it left. (Apart, since a world has much to give back.)
+    /// The run alone, without the tables that it left. It stands apart, since a world has much to give back.
     pub(crate) fn alone(self) -> Run
         ensures { result ≡ self.run }
     {
