@@ -5,7 +5,6 @@ use Rattle.std.proofs.lemmas.Bool.{le-ltb, or_from}
 use Rattle.std.proofs.lemmas.List.{length-map, length-drop, length-append, length-reverse}
 use Rattle.std.proofs.lemmas.Option.{slice_get_within}
 use Rattle.xvalue.specs.declared.kind.Kind.{Kind}
-use Rattle.xvalue.specs.declared.kind.Kind.TheVariants as kind
 use Rattle.xvalue.specs.declared.fun.Fun.{Fun}
 use Rattle.xvalue.specs.declared.value.Value.{Value}
 use Rattle.xvalue.specs.Kinds.{kind_of, same_kind}
@@ -117,7 +116,8 @@ module _ (code : Code) (slots : List (Option Value)) (e : EnvState) where
       let many : length (map kind_of (onto vs st)) ≡ length (takes_of f) + length (map kind_of st) =
       ap (λ (ks : List Kind). length ks) all ∙ length-append (reverse (takes_of f)) (map kind_of st) ∙ ap (λ (n : ℕ). n + length (map kind_of st)) (length-reverse (takes_of f)) in
       let left : length (drop (length (takes_of f)) (onto vs st)) ≡ length (onto vs st) - length (takes_of f) = length-drop (length (takes_of f)) (onto vs st) in record {
-        kind = or_from (clashes (reverse (takes_of f)) (map kind_of (onto vs st))) false (ap (clashes (reverse (takes_of f))) all ∙ no_clash (reverse (takes_of f)) (map kind_of st)) refl;
+        kind = or_from (clashes (reverse (takes_of f)) (map kind_of (onto vs st))) false
+            (ap (clashes (reverse (takes_of f))) all ∙ no_clash (reverse (takes_of f)) (map kind_of st)) refl;
         set = refl;
         area = refl;
         there = le-ltb (length (map kind_of (onto vs st))) (length (takes_of f)) (omega (arith, many));
@@ -178,7 +178,8 @@ clear_there code w i p behind room = record {
   order = p.quiet.order;
   once = p.quiet.once;
   deep = p.quiet.deep w;
-  declared = or_from (undeclared code (desk_of w.env.store) i) (lists_other code.declared (desk_of w.env.store) i) p.declared p.quiet.lists;
+  declared = or_from (undeclared code (desk_of w.env.store) i) (lists_other code.declared (desk_of w.env.store) i)
+      p.declared p.quiet.lists;
   filter = p.quiet.filter;
 }
 
