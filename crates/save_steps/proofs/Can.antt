@@ -1,5 +1,5 @@
 -- Each step can be done: what the law says of steps in a row isn't said of none.
-use Rattle.std.proofs.Common.{◌≡◌, ◌≢◌, ◌⊎◌, inl, inr, ℕ, zero, suc, ◌<◌, Bool, true, false, List, [], ◌∷◌, ◌++◌, Option, Some, None, length, slice_get, refl, sym, ◌∙◌, ap, subst, arith, rules}
+use Rattle.std.proofs.Common.{◌≡◌, ◌≢◌, ℕ, zero, suc, ◌<◌, false, List, [], ◌∷◌, ◌++◌, Option, Some, None, length, slice_get, refl, sym, arith, rules}
 use Rattle.std.specs.List.{AllByRecursion}
 use Rattle.std.specs.Str.{bytes_eq}
 use Rattle.std.specs.Prelude.{if◌then◌else◌, MatchOption, ◌≤◌}
@@ -7,12 +7,10 @@ use Rattle.std.proofs.lemmas.Slice.Eq.{bytes_eq-Decides}
 use Rattle.save_steps.specs.declared.steps.Paper.TheVariants.{Absent, Plan, Note}
 use Rattle.save_steps.specs.declared.steps.Step.{Step}
 use Rattle.save_steps.specs.declared.steps.Step.TheVariants.{WritePlan, Make, Sync, WriteNote, Place, Unmake, RemovePaper, RemoveDraft}
-use Rattle.save_steps.specs.Folders.{Files, FolderStands, Renewal, NamesAreApart, Same, IsPut, IsRenamed, IsPlacing, Did, DidAll}
-use Rattle.save_steps.specs.Steps.{for_each, make_steps, places, unmakes, plan_steps, place_steps, save_steps, back_steps, on_steps, without_steps}
+use Rattle.save_steps.specs.Folders.{Files, FolderStands, Renewal, NamesAreApart, Same, IsPut, IsRenamed, Did, DidAll}
+use Rattle.save_steps.specs.Steps.{for_each, make_steps, places, unmakes, place_steps, save_steps, back_steps, on_steps, without_steps}
+use Rattle.save_steps.proofs.Judged.{same_bytes}
 use Rattle.save_steps.proofs.Runs.{all_and}
-
-same_bytes : (s : List ℕ) → bytes_eq s s ≡ true
-same_bytes s = search (rules, bytes_eq-Decides)
 
 other_bytes : (a b : List ℕ) → a ≢ b → bytes_eq a b ≡ false
 other_bytes a b ne = search (rules, bytes_eq-Decides)

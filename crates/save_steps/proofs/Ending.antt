@@ -1,23 +1,23 @@
 -- What the next command makes of what stands.
-use Rattle.std.proofs.Common.{◌≡◌, ◌⊎◌, inl, inr, ℕ, zero, suc, ◌+◌, ◌<◌, Bool, true, false, List, [], ◌∷◌, ◌++◌, Option, Some, None, length, map, slice_get, refl, sym, ◌∙◌, ap, subst, arith}
+use Rattle.std.proofs.Common.{◌≡◌, ◌⊎◌, inl, inr, ℕ, zero, suc, ◌+◌, false, List, [], ◌∷◌, ◌++◌, Some, None, length, map, slice_get, refl, sym, ◌∙◌, ap, subst}
 use Rattle.std.specs.List.{AllByRecursion, list_any}
 use Rattle.std.specs.Option.{option_map}
 use Rattle.std.proofs.lemmas.List.{length-map}
 use Rattle.std.proofs.lemmas.Option.{same_Some, slice_get_within}
 use Rattle.save_steps.specs.declared.slots.Slot.{Slot}
-use Rattle.save_steps.specs.declared.slots.Slot.TheVariants.{Waiting, Placed, Foreign}
+use Rattle.save_steps.specs.declared.slots.Slot.TheVariants.{Waiting, Placed}
 use Rattle.save_steps.specs.declared.steps.Paper.{Paper}
-use Rattle.save_steps.specs.declared.steps.Paper.TheVariants.{Absent, Plan, Note}
+use Rattle.save_steps.specs.declared.steps.Paper.TheVariants.{Absent, Plan}
 use Rattle.save_steps.specs.declared.steps.Step.{Step}
-use Rattle.save_steps.specs.declared.steps.Step.TheVariants.{WritePlan, Make, Sync, WriteNote, Place, Unmake, RemovePaper, RemoveDraft}
+use Rattle.save_steps.specs.declared.steps.Step.TheVariants.{Make, Sync, WriteNote, Place, Unmake, RemovePaper, RemoveDraft}
 use Rattle.save_steps.specs.Finishing.{finish_of, is_foreign}
 use Rattle.save_steps.specs.Folders.{FolderStands, Renewal, NamesAreApart, Same, Did, DidAll, MayLeave, StopsAt}
 use Rattle.save_steps.specs.Points.{IsReady, IsAllOld, IsPlaced, IsAllNew, slot_now, next_steps, StopsAgain, NextEnds, IsAllOrNothing}
-use Rattle.save_steps.specs.Steps.{for_each, make_steps, places, unmakes, plan_steps, place_steps, save_steps, back_steps, on_steps, without_steps}
+use Rattle.save_steps.specs.Steps.{make_steps, places, unmakes, plan_steps, place_steps, save_steps, back_steps, on_steps, without_steps}
 use Rattle.save_steps.proofs.Runs.{did_cut, stops_cut, KeepsWhole, Keeps, all_and, all_each, did_keeps, stops_keeps}
 use Rattle.save_steps.proofs.Can.{can_all, on_within, back_within, without_within, save_within}
 use Rattle.save_steps.proofs.Judged.{waits, is_placed, none_foreign}
-use Rattle.save_steps.proofs.Kept.{IsPlanned, IsNoted, IsWaiting, IsBefore, IsBehind, old_same, planned_same, noted_same, new_same, make_keeps, unmake_keeps, sync_keeps, draft_keeps, draft_keeps_old, draft_keeps_new, draft_keeps_noted, sync_keeps_noted, all_made, all_unmade, place_keeps, places_keep, all_placed, HoldBeside, ArePlaced}
+use Rattle.save_steps.proofs.Kept.{IsPlanned, IsNoted, IsWaiting, IsBefore, IsBehind, old_same, planned_same, noted_same, make_keeps, unmake_keeps, sync_keeps, draft_keeps, draft_keeps_old, draft_keeps_new, draft_keeps_noted, sync_keeps_noted, all_made, all_unmade, place_keeps, places_keep, all_placed, HoldBeside, ArePlaced}
 
 -- ---- no draft is left
 

@@ -1,16 +1,14 @@
 -- How what stands is judged.
-use Rattle.std.proofs.Common.{◌≡◌, ◌⊎◌, inl, inr, ℕ, zero, suc, Bool, true, false, List, [], ◌∷◌, Option, Some, None, length, map, slice_get, refl, sym, ◌∙◌, ap, rules}
+use Rattle.std.proofs.Common.{◌≡◌, ℕ, zero, suc, true, false, List, [], ◌∷◌, Option, Some, None, map, slice_get, refl, rules}
 use Rattle.std.proofs.lemmas.Slice.Eq.{bytes_eq-Decides}
 use Rattle.std.specs.Str.{bytes_eq}
 use Rattle.std.specs.List.{list_any}
-use Rattle.std.specs.Option.{option_map, option_eq}
 use Rattle.save_steps.specs.declared.slots.Slot.{Slot}
-use Rattle.save_steps.specs.declared.slots.Slot.TheVariants.{Waiting, Placed, Foreign}
+use Rattle.save_steps.specs.declared.slots.Slot.TheVariants.{Waiting, Placed}
 use Rattle.save_steps.specs.Finishing.{is_foreign, same_sum, slot_of}
-use Rattle.save_steps.specs.Folders.{FolderStands, Renewal}
-use Rattle.save_steps.specs.Points.{slot_now, IsPlaced}
+use Rattle.save_steps.specs.Folders.{Renewal}
 
-same_bytes : (s : List ℕ) → bytes_eq s s ≡ true
+pub same_bytes : (s : List ℕ) → bytes_eq s s ≡ true
 same_bytes s = search (rules, bytes_eq-Decides)
 
 same_as_itself : (a : Option (List ℕ)) → same_sum a a ≡ true

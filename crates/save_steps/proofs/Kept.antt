@@ -1,21 +1,13 @@
 -- What each step keeps, and where steps in a row lead.
-use Rattle.std.proofs.Common.{◌≡◌, ◌≢◌, ◌⊎◌, inl, inr, ℕ, zero, suc, ◌+◌, ◌<◌, Bool, true, false, List, [], ◌∷◌, ◌++◌, Option, Some, None, length, map, slice_get, refl, sym, ◌∙◌, ap, subst, arith}
-use Rattle.std.specs.List.{AllByRecursion, list_any}
-use Rattle.std.specs.Option.{option_map}
+use Rattle.std.proofs.Common.{◌≡◌, ◌≢◌, ◌⊎◌, inl, inr, ℕ, zero, suc, ◌<◌, List, [], ◌∷◌, Option, Some, None, slice_get, sym, ◌∙◌, ap, subst, arith}
 use Rattle.std.proofs.lemmas.Bool.{cases_eq}
-use Rattle.std.proofs.lemmas.List.{length-map}
-use Rattle.std.proofs.lemmas.Option.{same_Some, slice_get_within, MatchOption-at_some, MatchOption-at_none}
-use Rattle.save_steps.specs.declared.slots.Slot.{Slot}
-use Rattle.save_steps.specs.declared.steps.Paper.{Paper}
-use Rattle.save_steps.specs.declared.steps.Paper.TheVariants.{Absent, Plan, Note}
-use Rattle.save_steps.specs.declared.steps.Step.{Step}
-use Rattle.save_steps.specs.declared.steps.Step.TheVariants.{WritePlan, Make, Sync, WriteNote, Place, Unmake, RemovePaper, RemoveDraft}
-use Rattle.save_steps.specs.Finishing.{finish_of, is_foreign}
-use Rattle.save_steps.specs.Folders.{Files, FolderStands, Renewal, NamesAreApart, Same, IsPut, IsRenamed, IsPlacing, Did, DidAll, MayLeave, StopsAt}
-use Rattle.save_steps.specs.Points.{IsNoNew, IsElse, IsReady, IsAllOld, IsPlaced, IsAllNew, slot_now, next_steps, StopsAgain, NextEnds, IsAllOrNothing}
-use Rattle.save_steps.specs.Steps.{for_each, make_steps, places, unmakes, plan_steps, place_steps, save_steps, back_steps, on_steps, without_steps}
-use Rattle.save_steps.proofs.Runs.{did_cut, stops_cut, KeepsWhole, Keeps, all_and, all_each, did_keeps, stops_keeps}
-use Rattle.save_steps.proofs.Judged.{waits, is_placed, none_foreign}
+use Rattle.std.proofs.lemmas.Option.{same_Some, MatchOption-at_some, MatchOption-at_none}
+use Rattle.save_steps.specs.declared.steps.Paper.TheVariants.{Plan, Note}
+use Rattle.save_steps.specs.declared.steps.Step.TheVariants.{Make, Sync, Place, Unmake, RemoveDraft}
+use Rattle.save_steps.specs.Folders.{FolderStands, Renewal, NamesAreApart, Same, IsPut, IsRenamed, IsPlacing, DidAll}
+use Rattle.save_steps.specs.Points.{IsNoNew, IsElse, IsAllOld, IsPlaced, IsAllNew}
+use Rattle.save_steps.specs.Steps.{make_steps, places, unmakes}
+use Rattle.save_steps.proofs.Runs.{did_cut, KeepsWhole, Keeps, all_each, did_keeps}
 
 -- a plan stands, and each file but the new ones is as it was
 pub record IsPlanned (cs : List Renewal) (start now : FolderStands) : Type 0 where

@@ -1,5 +1,5 @@
 -- Steps in a row, and what they keep.
-use Rattle.std.proofs.Common.{◌≡◌, ◌⊎◌, inl, inr, ℕ, zero, suc, List, [], ◌∷◌, ◌++◌, refl, sym, subst}
+use Rattle.std.proofs.Common.{◌⊎◌, inl, inr, ℕ, zero, suc, List, [], ◌∷◌, ◌++◌, refl, sym, subst}
 use Rattle.std.specs.List.{AllByRecursion}
 use Rattle.save_steps.specs.declared.steps.Step.{Step}
 use Rattle.save_steps.specs.Folders.{FolderStands, Renewal, Did, DidAll, MayLeave, StopsAt}

@@ -1,5 +1,5 @@
 -- What stands in a folder, and what each step of a save does to it.
-use Rattle.std.specs.Prelude.{◌≡◌, ◌≢◌, ◌⊎◌, ℕ, Bool, true, false, List, [], ◌∷◌, Option, Some, None, MatchOption}
+use Rattle.std.specs.Prelude.{◌≡◌, ◌≢◌, ◌⊎◌, ℕ, Bool, false, List, [], ◌∷◌, Option, Some, None, MatchOption}
 use Rattle.std.specs.Prelude.{slice_get}
 use Rattle.save_steps.specs.declared.steps.Paper.{Paper}
 use Rattle.save_steps.specs.declared.steps.Paper.TheVariants.{Absent, Plan, Note}

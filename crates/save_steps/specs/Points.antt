@@ -3,11 +3,11 @@ use Rattle.std.specs.Prelude.{◌≡◌, ◌≢◌, ◌⊎◌, ◌++◌, ℕ, ze
 use Rattle.std.specs.Prelude.{slice_get}
 use Rattle.std.specs.Option.{option_map}
 use Rattle.save_steps.specs.declared.slots.Slot.{Slot}
-use Rattle.save_steps.specs.declared.steps.Paper.TheVariants.{Absent, Plan, Note}
+use Rattle.save_steps.specs.declared.steps.Paper.TheVariants.{Absent}
 use Rattle.save_steps.specs.declared.steps.Step.{Step}
 use Rattle.save_steps.specs.declared.steps.Step.TheVariants.{WriteNote}
 use Rattle.save_steps.specs.Finishing.{slot_of, finish_of}
-use Rattle.save_steps.specs.Folders.{FolderStands, Renewal, NamesAreApart, Did, DidAll, MayLeave, StopsAt}
+use Rattle.save_steps.specs.Folders.{FolderStands, Renewal, DidAll, MayLeave, StopsAt}
 use Rattle.save_steps.specs.Steps.{plan_steps, place_steps, save_steps}
 
 -- the name isn't that of a new file
