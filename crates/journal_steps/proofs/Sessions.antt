@@ -39,11 +39,6 @@ lost_moves : (f g : Folder) (lines : List (List ℕ)) → Grows f g → NothingL
 lost_moves f g lines grows (inl none) = inl none
 lost_moves f g lines grows (inr kept) = inr (kept_moves f g lines grows kept)
 
-all_lost_moves : (f g : Folder) (all : List (List (List ℕ))) → Grows f g → AllByRecursion (NothingLost f) all
-    → AllByRecursion (NothingLost g) all
-all_lost_moves f g [] grows h = tt
-all_lost_moves f g (l ∷ ls) grows (here, h) = (lost_moves f g l grows here, all_lost_moves f g ls grows h)
-
 -- ---- saves
 
 -- nothing is saved in the tables, and what waits is of a conversation that was begun
