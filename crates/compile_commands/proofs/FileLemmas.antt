@@ -1,23 +1,13 @@
--- Files that stay the same, counts of failures that rise, and what is told of them.
+-- What is told of command files that stay the same.
 use Rattle.std.proofs.Common.{◌≡◌, ◌<◌, ◌≤◌, ℕ, List, Some, None, length, inl, inr, sym, ap, ◌∙◌, subst, arith}
 use Rattle.file_access.specs.Holding.{Holds, Rose, SameFiles}
+use Rattle.shape_files.proofs.FileLemmas.{rose_later}
 use Rattle.compile_commands.specs.declared.refusal.CompileFilesRefusal.{CompileFilesRefusal}
 use Rattle.compile_commands.specs.declared.refusal.CompileFilesRefusal.TheVariants.{Declarations, Source, SourceDisk, CodeDisk, Memory}
 use Rattle.compile_commands.specs.declared.refusal.SourceFault.{SourceFault}
 use Rattle.compile_commands.specs.declared.refusal.SourceFault.TheVariants.{Absent, TooLong, Parse, Compile}
 use Rattle.compile_commands.specs.Compiling.{IsRead, name_at}
 use Rattle.compile_commands.specs.Refusals.{SourceFaultIs, SourceRefusalIs, SourcesRefusalIs}
-
-pub same_self : (a : Holds) → SameFiles a a
-same_self a name found = (λ h. h, λ h. h)
-
-pub same_then : (a b c : Holds) → SameFiles a b → SameFiles b c → SameFiles a c
-same_then a b c s t name found = (λ h. (t name found).0 ((s name found).0 h), λ h. (s name found).1 ((t name found).1 h))
-
--- a count that rose later rose
-pub rose_later : (a b c : ℕ) → a ≤ b → b ≤ c → Rose b c → Rose a c
-rose_later a b c l m (inl r) = inl (omega (arith, l, m, r))
-rose_later a b c l m (inr r) = grind (arith, l, m, r)
 
 -- ---- command files
 

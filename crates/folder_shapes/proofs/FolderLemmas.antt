@@ -18,13 +18,6 @@ pub unfit_map : (P Q : Note → Type 0) (u : Unfit) → ((n : Note) → P n → 
 unfit_map P Q (Noted n) f h = f n h
 unfit_map P Q Memory f h = h
 
-pub same_self : (a : Holds) → SameFiles a a
-same_self a name found = (λ h. h, λ h. h)
-
-pub same_then : (a b c : Holds) → SameFiles a b → SameFiles b c → SameFiles a c
-same_then a b c s t name found =
-    (λ h. (t name found).0 ((s name found).0 h), λ h. (s name found).1 ((t name found).1 h))
-
 -- ---- what is read
 
 read_same : (a b : Holds) (name bytes : List ℕ) → SameFiles a b → IsReadAs b name bytes → IsReadAs a name bytes

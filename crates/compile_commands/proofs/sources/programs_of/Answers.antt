@@ -4,7 +4,8 @@ use Rattle.std.proofs.lemmas.List.{get_or-map, length-map}
 use Rattle.std.proofs.lemmas.Result.{err_from_is_err_and}
 use Rattle.compile_commands.specs.Compiling.{IsRead, name_at}
 use Rattle.compile_commands.specs.Refusals.{SourceRefusalIs}
-use Rattle.compile_commands.proofs.FileLemmas.{same_self, same_then, read_before, source_told}
+use Rattle.shape_files.proofs.FileLemmas.{same_self, same_then}
+use Rattle.compile_commands.proofs.FileLemmas.{read_before, source_told}
 use Rattle.compile_commands.proofs.sources.programs_of.Goals as goal
 
 pub loop-file-init : goal.loop-file-init
