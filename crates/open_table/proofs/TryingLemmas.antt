@@ -54,12 +54,11 @@ slot_list s rows slot h = some_weaker (IsListed (IsExact s rows) slot.parts slot
 -- what may be asked at each record may be asked at each record that a slot lists
 pub at_listed : {A B : Type 0} → A → B → ListLaw → (s : StructureState) (rows : List Row) (slot : SlotState)
     → IsSlot s rows slot
-    → IfSome slot.index (λ x. (p : Pair) → Contains x.pairs p → A × B × (1 ≤ p.1) × (p.1 ≤ length rows))
+    → IfSome slot.index (λ x. (p : Pair) → Contains x.pairs p → A × (B × ((1 ≤ p.1) × (p.1 ≤ length rows))))
 at_listed {A} {B} a b law s rows slot h =
     some_weaker (λ x. x.pairs ≡ index_list slot.parts rows)
-    (λ x. (p : Pair) → Contains x.pairs p → A × B × (1 ≤ p.1) × (p.1 ≤ length rows))
-    (λ x e p there.
-    let within = in_list law slot.parts rows p (subst (λ ps. Contains ps p) e there) in (a, b, within.0, within.1))
+    (λ x. (p : Pair) → Contains x.pairs p → A × (B × ((1 ≤ p.1) × (p.1 ≤ length rows))))
+    (λ x e p there. (a, (b, in_list law slot.parts rows p (subst (λ ps. Contains ps p) e there))))
     slot.index (slot_list s rows slot h)
 
 -- of a list that is there
