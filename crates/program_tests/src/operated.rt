@@ -10,7 +10,7 @@ use code_items::Code;
 use file_access::{MemoryFiles, WORKS_FOR_EVER};
 use line_journal::{Journal, JournalFailed, keep};
 use operating::{Answer, Broken, MOST_TYPED, Operator, OperatorFailed, Scene};
-use run_commands::{Job, OperateRefusal, operate_files, rehearse_talk};
+use run_commands::{Job, OperateRefusal, operate_files, rehearse_files, rehearse_talk};
 use std::alloc::{AllocError, Global};
 
 /// A journal in memory that takes so many lines.
@@ -121,7 +121,30 @@ fn is_so(rows: &[u8], told: Result<String, AllocError>, case: RunCase<'_>) -> bo
     rows == case.says("rows\n").as_bytes() && begins(told, case.says("told "))
 }
 
-/// Whether a rehearsal in conversation comes to what its case says.
+/// Whether a rehearsal of a job over these lines, all typed before it, comes to what its case says.
+fn rehearses_typed(
+    alloc: Global,
+    files: &mut MemoryFiles<'_>,
+    job: &Job<'_>,
+    lines: &[u8],
+    case: RunCase<'_>,
+) -> bool {
+    let typed = Job {
+        name: job.name,
+        checked: false,
+        budget: job.budget,
+        limit: job.limit,
+        day: job.day,
+        input: lines,
+    };
+    match rehearse_files(alloc, files, &typed) {
+        Ok(done) => is_so(&done.rows, done.to_string(alloc), case),
+        Err(_) => false,
+    }
+}
+
+/// Whether a rehearsal in conversation comes to what its case says, and so does one over the lines that the journal
+/// holds then.
 fn rehearses_so(
     alloc: Global,
     files: &mut MemoryFiles<'_>,
@@ -134,7 +157,10 @@ fn rehearses_so(
     requires held { journal.old.bytes.items ≡ job.now.input.now }
 {
     match rehearse_talk(alloc, files, job, MOST_TYPED, journal, script) {
-        Ok(done) => is_so(&done.rows, done.to_string(alloc), case),
+        Ok(done) => {
+            is_so(&done.rows, done.to_string(alloc), case)
+                && rehearses_typed(alloc, files, job, journal.bytes.as_slice(), case)
+        }
         Err(refusal) => is_so(&[], why(alloc, &refusal), case),
     }
 }
