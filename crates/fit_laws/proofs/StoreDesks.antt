@@ -76,9 +76,9 @@ one_changes old new (a ∷ areas) (suc k) x h =
     joined (area_state new a) (area_state old a) (map (area_state new) (slice_set areas k x)) (slice_set (map (area_state old) areas) k (area_state new x)) (area_stays old new a (λ u e. h 0 u (λ same. absurd (omega (arith, same))) e))
     (one_changes old new areas k x (λ n u differ e. h (suc n) u (λ same. differ (omega (arith, same))) e))
 
-put_is : (k : ℕ) (x : AreaState) (areas : List AreaState) → 1 ≤ k → put_at k x areas ≡ slice_set areas (k - 1) x
-put_is zero x areas le = absurd (omega (arith, le))
-put_is (suc n) x areas le = (let same : n ≡ suc n - 1 = omega arith in ap (λ k. slice_set areas k x) same)
+put_at_is : (k : ℕ) (x : AreaState) (areas : List AreaState) → 1 ≤ k → put_at k x areas ≡ slice_set areas (k - 1) x
+put_at_is zero x areas le = absurd (omega (arith, le))
+put_at_is (suc n) x areas le = (let same : n ≡ suc n - 1 = omega arith in ap (λ k. slice_set areas k x) same)
 
 -- the selected area holds something else, and the tables of the others keep their orders
 put_desk : (s : StoreState) (tables : List OpenState) (x : Option Use) (a : AreaState) → 1 ≤ s.selected → area_state tables x ≡ a
@@ -87,7 +87,7 @@ put_desk : (s : StoreState) (tables : List OpenState) (x : Option Use) (a : Area
 put_desk s tables x a one is others =
     ap (desk s.selected) (one_changes s.tables tables s.areas (s.selected - 1) x others
     ∙ ap (λ y. slice_set (map (area_state s.tables) s.areas) (s.selected - 1) y) is
-    ∙ sym (put_is s.selected a (map (area_state s.tables) s.areas) one))
+    ∙ sym (put_at_is s.selected a (map (area_state s.tables) s.areas) one))
 
 -- another table in the place of the selected area's, which no other area holds
 others_keep : (s : StoreState) (u : Use) (p : OpenState) → AreApart s.areas → use_at s s.selected ≡ Some u → (n : ℕ) (v : Use) → n ≢ s.selected - 1 → slice_index_or s.areas n None ≡ Some v
