@@ -50,3 +50,24 @@ def verdict(passed, failed):
     failed += not passed and not failed
     print(f"{passed} passed, {failed} failed", flush=True)
     return 1 if failed else 0
+
+
+class Count:
+    """How many tries passed, and how many failed."""
+
+    def __init__(self):
+        self.passed = self.failed = 0
+
+    def holds(self, so, what):
+        """Counts a try, and prints what was found where it failed."""
+        if so:
+            self.passed += 1
+        else:
+            self.failed += 1
+            print(what, flush=True)
+
+    def is_same(self, what, found, wanted):
+        self.holds(found == wanted, f"{what}: {str(found)[:300]}, not {str(wanted)[:300]}")
+
+    def verdict(self):
+        return verdict(self.passed, self.failed)

@@ -1,12 +1,17 @@
 """Exchanges tables and indexes with other tools: exchange.py DBRUN KEYS, in an empty folder."""
 
 import datetime
+import os
 import random
 import subprocess
 import sys
 
 import dbf
 import dbfread
+
+sys.dont_write_bytecode = True
+sys.path.append(os.path.dirname(os.path.dirname(os.path.realpath(__file__))))
+import harness
 
 DBRUN, KEYS = sys.argv[1:3]
 
@@ -27,17 +32,7 @@ APPEND BLANK
 REPLACE K WITH "zz", N WITH -1, D WITH CTOD("02/29/88"), L WITH .T.
 """
 
-passed, failed = 0, 0
-
-
-def check(what, found, wanted):
-    """Tells what isn't as it should be."""
-    global passed, failed
-    if found == wanted:
-        passed += 1
-    else:
-        failed += 1
-        print(f"{what}: {str(found)[:300]}, not {str(wanted)[:300]}")
+tries = harness.Count()
 
 
 def write(name, text):
@@ -100,20 +95,20 @@ def tables():
         return [(r["K"].rstrip(), float(r["N"]), r["D"], r["L"]) for r in records]
 
     read = dbfread.DBF("T.DBF", load=True, encoding="latin-1")
-    check("dbfread, live rows", of_dbfread(read.records), live)
-    check("dbfread, marked rows", of_dbfread(read.deleted), gone)
-    check("dbfread, stamp", read.date, datetime.date(1988, 3, 1))
+    tries.is_same("dbfread, live rows", of_dbfread(read.records), live)
+    tries.is_same("dbfread, marked rows", of_dbfread(read.deleted), gone)
+    tries.is_same("dbfread, stamp", read.date, datetime.date(1988, 3, 1))
     table = dbf.Table("T.DBF", dbf_type="db3")
     table.open()
-    check("python3-dbf, rows", [(r.k.rstrip(), float(r.n), r.d, r.l) for r in table], wanted)
-    check("python3-dbf, marks", [dbf.is_deleted(r) for r in table], marks)
+    tries.is_same("python3-dbf, rows", [(r.k.rstrip(), float(r.n), r.d, r.l) for r in table], wanted)
+    tries.is_same("python3-dbf, marks", [dbf.is_deleted(r) for r in table], marks)
     table.close()
     shown = subprocess.run(["dbview", "-b", "T.DBF"], capture_output=True, check=True).stdout.decode("latin-1")
     keys = [line.split(":")[0].rstrip() for line in shown.splitlines()]
-    check("dbview, live rows", keys, [row[0] for row in live])
+    tries.is_same("dbview, live rows", keys, [row[0] for row in live])
     order = sorted(range(1, len(wanted) + 1), key=lambda r: (wanted[r - 1][0].ljust(10).encode(), r))
     listed = [int(line[:7]) for line in dbrun("index", "KI.NDX").splitlines()[1:]]
-    check("own listing of the index", listed, order)
+    tries.is_same("own listing of the index", listed, order)
 
 
 def our_index(length, count):
@@ -125,7 +120,7 @@ def our_index(length, count):
     dbrun("run", "O.XBC")
     order = sorted(range(1, count + 1), key=lambda r: (rows[r - 1][0].ljust(length).encode(), r))
     read = subprocess.run([KEYS, "list", "T.DBF", "KI.NDX"], capture_output=True, check=False)
-    check(f"libxbase64 reads keys of {length}", [int(line) for line in read.stdout.split()], order)
+    tries.is_same(f"libxbase64 reads keys of {length}", [int(line) for line in read.stdout.split()], order)
 
 
 def their_index(length, count):
@@ -133,11 +128,11 @@ def their_index(length, count):
     keys = [row[0] for row in rows_of(count, length, length + 1)]
     subprocess.run([KEYS, "make", str(length)], input="\n".join(keys).encode() + b"\n", check=True)
     lines = dbrun("index", "OTHER.NDX").splitlines()
-    check(f"head of an index of libxbase64, keys of {length}", lines[0], f"K {length}")
+    tries.is_same(f"head of an index of libxbase64, keys of {length}", lines[0], f"K {length}")
     found = [(line[8:].rstrip(), int(line[:7])) for line in lines[1:]]
     wanted = sorted((key, number) for number, key in enumerate(keys, 1))
-    check(f"keys of libxbase64, of {length}", sorted(found), wanted)
-    check(f"order of libxbase64's keys of {length}", [key for key, _ in found], [key for key, _ in wanted])
+    tries.is_same(f"keys of libxbase64, of {length}", sorted(found), wanted)
+    tries.is_same(f"order of libxbase64's keys of {length}", [key for key, _ in found], [key for key, _ in wanted])
 
 
 tables()
@@ -146,5 +141,4 @@ for each in LENGTHS:
     our_index(each, 200)
     # (libxbase64 loses pages where it splits one that isn't a leaf, so its root alone stands above the leaves)
     their_index(each, min(most * most // 2, 200))
-print(f"{passed} passed, {failed} failed")
-sys.exit(1 if failed else 0)
+sys.exit(tries.verdict())
