@@ -18,14 +18,14 @@ day_at year month day = record { year = year; month = month; day = day }
 abbrev pub month_length : DayParts → ℕ
 month_length parts = days_in_month (pos parts.year) parts.month
 
--- the day after, which the last day of the year 9999 has not
+-- the day after; the last day of the year 9999 has none
 abbrev pub next_day : DayParts → Option DayParts
 next_day parts =
     if nat_lt parts.day (month_length parts) then Some (day_at parts.year parts.month (parts.day + 1))
     else (if nat_lt parts.month 12 then Some (day_at parts.year (parts.month + 1) 1)
     else (if nat_lt parts.year 9999 then Some (day_at (parts.year + 1) 1 1) else None))
 
--- the day before, which the first day of the year 1 has not
+-- the day before; the first day of the year 1 has none
 abbrev pub previous_day : DayParts → Option DayParts
 previous_day parts =
     if nat_lt 1 parts.day then Some (day_at parts.year parts.month (parts.day - 1))

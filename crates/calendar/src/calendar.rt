@@ -179,8 +179,8 @@ impl Day {
     }
 
     /// The date that a text spells behind and before blanks: one or two digits for the month, `/`, one or two for the
-    /// day, `/`, and two for a year of 1900 to 1999 or four for any. Any other text, and a day that the calendar has
-    /// not, is the blank date.
+    /// day, `/`, and two for a year of 1900 to 1999 or four for any. Any other text gives the blank date, and so does a
+    /// day that the calendar doesn't have.
     pub fn read(bytes: &[u8]) -> Day
         ensures { result ≡ date_read bytes.now }
     {

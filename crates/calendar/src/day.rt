@@ -43,7 +43,7 @@ impl Day {
         Day { parts: None }
     }
 
-    /// The day of these parts, or `None` where the calendar has none such in the years 1 to 9999.
+    /// The day of these parts, or `None` where the calendar has no such day in the years 1 to 9999.
     pub fn from_parts(parts: DayParts) -> Option<Day>
         ensures { SomeIff result (IsDay parts) (Some parts) }
     {

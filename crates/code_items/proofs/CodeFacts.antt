@@ -1,5 +1,6 @@
 -- What is known of a legal code.
-use Rattle.std.proofs.Common.{◌≡◌, ℕ, ◌≤◌, ◌-◌, Bool, true, false, ◌&&◌, nat_le, List, [], ◌∷◌, ◌++◌, length, refl, arith}
+use Rattle.std.proofs.Common.{◌≡◌, ℕ, ◌≤◌, ◌-◌, Bool, true, false, ◌&&◌, nat_le, List, [], ◌∷◌, ◌++◌, length, refl}
+use Rattle.std.proofs.Common.{arith}
 use Rattle.std.specs.Prelude.{map}
 use Rattle.shape.specs.Lists.{is_list}
 use Rattle.std.specs.List.{list_all}
@@ -7,9 +8,12 @@ use Rattle.std.proofs.lemmas.Bool.{leb-true}
 use Rattle.shape.specs.Whole.{is_shape}
 use Rattle.code_items.specs.declared.code.Proc.{Proc}
 use Rattle.code_items.specs.declared.code.Code.{Code}
-use Rattle.code_items.specs.Declarations.{are_declared, is_filter, lists_are_legal, constants_are_legal, filters_are_legal}
+use Rattle.code_items.specs.Declarations.{are_declared, is_filter, lists_are_legal, constants_are_legal}
+use Rattle.code_items.specs.Declarations.{filters_are_legal}
 use Rattle.code_items.specs.Instrs.{is_instr}
-use Rattle.code_items.specs.Legal.{places_in_all, is_procedure, begins_blank, is_map, places_of, blocks_of, blocks_fill, maps_rise, procedures_are_legal, maps_are_legal, instructions_are_legal, is_code, IsCode}
+use Rattle.code_items.specs.Legal.{places_in_all, is_procedure, begins_blank, is_map, places_of, blocks_of, blocks_fill}
+use Rattle.code_items.specs.Legal.{maps_rise, procedures_are_legal, maps_are_legal, instructions_are_legal, is_code}
+use Rattle.code_items.specs.Legal.{IsCode}
 use Rattle.code_items.specs.Facts.{Facts}
 
 both : (a b : Bool) → a && b ≡ true → (a ≡ true) × (b ≡ true)

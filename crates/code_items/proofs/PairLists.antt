@@ -1,5 +1,6 @@
 -- Tests along two lists, as chains of iterators make them.
-use Rattle.std.proofs.Common.{◌≡◌, ◌≢◌, ◌<◌, ◌≤◌, ◌-◌, ℕ, zero, suc, refl, ap, sym, ◌∙◌, Bool, true, false, not, ◌||◌, ◌&&◌, List, [], ◌∷◌, ◌++◌, ◌+◌, length, take, drop, set, replicate, arith}
+use Rattle.std.proofs.Common.{◌≡◌, ◌≢◌, ◌<◌, ◌≤◌, ◌-◌, ℕ, zero, suc, refl, ap, sym, ◌∙◌, Bool, true, false, not, ◌||◌}
+use Rattle.std.proofs.Common.{◌&&◌, List, [], ◌∷◌, ◌++◌, ◌+◌, length, take, drop, set, replicate, arith}
 use Rattle.std.proofs.lemmas.List.{length-reverse, length-drop, take-append-drop, reverse-append}
 use Rattle.std.specs.Prelude.{reverse}
 use Rattle.std.specs.List.{list_any, list_all, zip}
@@ -23,9 +24,6 @@ not_along test [] [] e = absurd (e refl)
 not_along test (a ∷ as') [] e = refl
 not_along test [] (b ∷ bs) e = refl
 not_along test (a ∷ as') (b ∷ bs) e = rw (not_along test as' bs (λ f. e (omega (arith, f)))) (and_false (test (a, b)))
-
-pub back_length : (kinds : List Kind) → length kinds ≡ length (reverse kinds)
-back_length kinds = sym (length-reverse kinds)
 
 pub any_other : (kinds there : List Kind) → list_any other_kind (zip there kinds) ≡ clashes kinds there
 any_other [] [] = refl

@@ -4,12 +4,10 @@ use Rattle.std.proofs.Common.{Ok, refl, ap, ◌∙◌}
 use Rattle.std.specs.Prelude.{◌&&◌, ◌||◌}
 use Rattle.std.specs.List.{AllByRecursion}
 use Rattle.std.proofs.lemmas.Bool.{eqb-true}
+use Rattle.dbf_file.proofs.ChoiceLemmas.{chosen}
 use Rattle.xvalue.specs.declared.kind.Kind.{Kind}
 use Rattle.xvalue.specs.declared.kind.Kind.TheVariants.{Number as OfNumber, Text as OfText, Date as OfDate}
 use Rattle.xvalue.specs.declared.kind.Kind.TheVariants.{Logical as OfLogical}
-use Rattle.dbf_file.specs.declared.field.Letter.{Letter}
-use Rattle.dbf_file.specs.declared.field.Letter.TheVariants.{C, N, D, L}
-use Rattle.dbf_file.specs.Fields.{code_of, letter_of}
 use Rattle.code_parts.specs.declared.flaw.Flaw.{Flaw}
 use Rattle.code_parts.specs.Reading.{Reader, Judged}
 use Rattle.code_parts.specs.Laws.{Spells}
@@ -20,14 +18,6 @@ use Rattle.code_parts.proofs.Combine.{some, some_is}
 pub all_any : {A : Type 0} (xs : List A) → AllByRecursion (λ (x : A). Unit {0}) xs
 all_any [] = tt
 all_any (x ∷ xs) = (tt, all_any xs)
-
-pub chosen : {A : Type 0} (b : Bool) (x y z : A) → cond b x y ≡ z → ((b ≡ true) × (x ≡ z)) ⊎ ((b ≡ false) × (y ≡ z))
-chosen true x y z e = inl (refl, e)
-chosen false x y z e = inr (refl, e)
-
-pub both_true : (a b : Bool) → a && b ≡ true → (a ≡ true) × (b ≡ true)
-both_true true b e = (refl, e)
-both_true false b e = absurd cc
 
 pub both_from : (a b : Bool) → a ≡ true → b ≡ true → (a && b) ≡ true
 both_from a b e f = rw (e, f) refl
@@ -78,19 +68,6 @@ truth_was byte truth =
 pub truth_is : (truth : Bool) → truth_of_byte (truth_number truth) ≡ Some truth
 truth_is true = refl
 truth_is false = refl
-
-pub letter_was : (byte : ℕ) (letter : Letter) → letter_of byte ≡ Some letter → byte ≡ code_of letter
-letter_was byte letter =
-    line code_of byte 67 C letter _ refl (
-    line code_of byte 78 N letter _ refl (
-    line code_of byte 68 D letter _ refl (
-    line code_of byte 76 L letter _ refl (λ e. absurd (no_line letter e)))))
-
-pub letter_is : (letter : Letter) → letter_of (code_of letter) ≡ Some letter
-letter_is C = refl
-letter_is N = refl
-letter_is D = refl
-letter_is L = refl
 
 -- a reader chosen by a test
 pub if_spells : {X : Type 0} {r s : Reader (Judged X)} {t : X → List ℕ} {P G : X → Type 0} (test : Bool)

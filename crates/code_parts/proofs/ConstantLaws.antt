@@ -18,9 +18,10 @@ use Rattle.code_parts.specs.Texts.{two, kind_number, truth_number, kind_of_value
 use Rattle.code_parts.specs.Texts.{value_text, constant_text}
 use Rattle.code_parts.specs.Items.{wanted, truth_of_byte, is_stored_number, decimal_from, decimal_at, date_from}
 use Rattle.code_parts.specs.Items.{date_at, text_from, text_value_at, truth_from, truth_at, value_at, constant_at}
+use Rattle.dbf_file.proofs.ChoiceLemmas.{chosen, both_true}
 use Rattle.code_parts.proofs.Combine.{done, ok_is, pair_spells, made_spells, byte_spells, choice_spells, flawed_spells}
 use Rattle.code_parts.proofs.Numbers.{text_spells, two_spells, eight_spells}
-use Rattle.code_parts.proofs.Choices.{chosen, both_true, both_from, either_true, wanted_ok, there_ok, truth_was}
+use Rattle.code_parts.proofs.Choices.{both_from, either_true, wanted_ok, there_ok, truth_was}
 use Rattle.code_parts.proofs.Choices.{truth_is, if_spells}
 
 -- a legal constant of the kind of this number

@@ -31,9 +31,10 @@ use Rattle.code_parts.specs.Items.{wanted}
 use Rattle.code_parts.specs.Instructions.{setting_number, question_number, instr_parts, parts_of, parts_text}
 use Rattle.code_parts.specs.Instructions.{instr_text, low_instr, flow_instr, area_instr, record_instr, screen_instr}
 use Rattle.code_parts.specs.Instructions.{any_instr, same_parts, is_just, instr_from, instr_read_at}
+use Rattle.dbf_file.proofs.ChoiceLemmas.{both_true}
 use Rattle.code_parts.proofs.Combine.{pair_spells, made_spells, byte_spells}
 use Rattle.code_parts.proofs.Numbers.{two_spells, four_spells}
-use Rattle.code_parts.proofs.Choices.{both_true, both_from, wanted_ok, there_ok, kind_is}
+use Rattle.code_parts.proofs.Choices.{both_from, wanted_ok, there_ok, kind_is}
 
 parts_same : (p q : InstrParts) → same_parts p q ≡ true → parts_text p ≡ parts_text q
 parts_same p q e =

@@ -20,8 +20,9 @@ use Rattle.code_parts.specs.Items.{name_from, name_read_at, field_from, field_at
 use Rattle.code_parts.specs.Items.{index_from, index_at, list_from, list_at}
 use Rattle.code_parts.proofs.Combine.{done, ok_is, pair_spells, made_spells, byte_spells}
 use Rattle.code_parts.proofs.Numbers.{text_spells, counted_spells}
-use Rattle.code_parts.proofs.Choices.{all_any, chosen, wanted_ok, there_ok, kind_was, kind_is, truth_was, truth_is}
-use Rattle.code_parts.proofs.Choices.{letter_was, letter_is}
+use Rattle.code_parts.proofs.Choices.{all_any, wanted_ok, there_ok, kind_was, kind_is, truth_was, truth_is}
+use Rattle.dbf_file.proofs.ChoiceLemmas.{chosen}
+use Rattle.dbf_file.proofs.DescriptorLemmas.{letter_told, letter_again}
 
 pub kind_spells : Spells kind_at kind_text Any Any
 unfolding kind_at
@@ -70,14 +71,14 @@ field_spells = made_spells (pair_spells name_spells (pair_spells byte_spells (pa
     let make = λ (l : Letter). let made : Field =
     record { name = name; letter = l; width = width; decimals = decimals } in made in
     let l = there_ok Shape (letter_of code) (λ (l : Letter). done (make l)) f e in (
-      ap (λ (n : ℕ). name_text name ++ (n ∷ width ∷ decimals ∷ [])) (letter_was code l.0 l.1)
+      ap (λ (n : ℕ). name_text name ++ (n ∷ width ∷ decimals ∷ [])) (letter_told code l.0 l.1)
           ∙ ap field_text (ok_is (make l.0) f l.2),
       tt,
     ))
     (λ f h. (
       (f.name, (code_of f.letter, (f.width, f.decimals))),
       (h, (tt, (tt, tt))),
-      rw (letter_is f.letter) refl,
+      rw (letter_again f.letter) refl,
       refl,
     ))
 

@@ -22,10 +22,11 @@ use Rattle.code_parts.specs.Texts.{area_text, state_text, procedure_text, map_te
 use Rattle.code_parts.specs.Items.{kind_of_byte, need_from, need_at, needs_at, filter_at, open_from, open_read_at}
 use Rattle.code_parts.specs.Items.{area_behind, area_read_at, state_from, state_read_at, level_from, procedure_read_at}
 use Rattle.code_parts.specs.Items.{map_read_at}
+use Rattle.dbf_file.proofs.ChoiceLemmas.{both_true}
 use Rattle.code_parts.proofs.Combine.{behind_some, given, are_left, done, ok_is, steady_then, steady_give, pair_spells}
 use Rattle.code_parts.proofs.Combine.{made_spells, byte_spells, choice_spells}
 use Rattle.code_parts.proofs.Numbers.{steady_number, steady_several, several_spells, counted_spells, two_spells}
-use Rattle.code_parts.proofs.Choices.{all_any, both_true, wanted_ok, there_ok, kind_was, kind_is, if_spells}
+use Rattle.code_parts.proofs.Choices.{all_any, wanted_ok, there_ok, kind_was, kind_is, if_spells}
 use Rattle.code_parts.proofs.ShapeLaws.{kind_spells, slot_spells}
 
 -- ---- filters

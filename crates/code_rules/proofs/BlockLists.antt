@@ -1,10 +1,10 @@
 -- Blocks one behind the other, and maps at rising places.
-use Rattle.std.proofs.Common.{◌≡◌, ◌≤◌, ◌<◌, ℕ, zero, suc, ◌+◌, ◌*◌, ◌==◌, Bool, true, false, ◌&&◌, nat_lt, nat_le, cond, if◌then◌else◌, List, [], ◌∷◌, ◌++◌, length, map, get_or, Option, Some, None, refl, sym, ap, ◌∙◌, subst, arith}
+use Rattle.std.proofs.Common.{◌≡◌, ◌≤◌, ◌<◌, ℕ, zero, suc, ◌+◌, ◌==◌, Bool, true, false, ◌&&◌, nat_lt, nat_le, cond}
+use Rattle.std.proofs.Common.{if◌then◌else◌, List, [], ◌∷◌, ◌++◌, length, get_or, Some, None, refl, sym, ap, ◌∙◌, arith}
 use Rattle.std.specs.Prelude.{slice_get}
 use Rattle.std.proofs.lemmas.Bool.Decides.{nat_tests}
-use Rattle.std.proofs.lemmas.Bool.{leb-true, le-leb, lt-leb, le-ltb}
+use Rattle.std.proofs.lemmas.Bool.{leb-true}
 use Rattle.code_items.specs.declared.code.Map.{Map}
-use Rattle.code_items.specs.declared.state.State.{State}
 use Rattle.code_items.specs.Legal.{maps_rise}
 use Rattle.code_rules.specs.declared.blocks.Block.{Block}
 use Rattle.code_rules.specs.Places.{block_from, map_in, found_at}

@@ -1,10 +1,14 @@
 -- What acceptance means, place by place.
-use Rattle.std.proofs.Common.{◌≡◌, ◌<◌, ℕ, Bool, true, false, Option, Some, None, length, refl, cond}
+use Rattle.std.proofs.Common.{◌≡◌, Bool, true, false, Option, Some, None, refl, cond}
 use Rattle.code_items.specs.declared.code.Code.{Code}
 use Rattle.code_rules.specs.declared.rule.Rule.{Rule}
-use Rattle.code_rules.specs.declared.rule.Rule.TheVariants.{Kind, Unset, ClosedArea, OtherTable, NoOrder, OpenTwice, StackUnder, StackOver, StackNotEmpty, Jump, Fall, CallLevel, Exit, Filter, Constant}
+use Rattle.code_rules.specs.declared.rule.Rule.TheVariants.{Kind, Unset, ClosedArea, OtherTable, NoOrder, OpenTwice}
+use Rattle.code_rules.specs.declared.rule.Rule.TheVariants.{StackUnder, StackOver, StackNotEmpty, Jump, Fall, CallLevel}
+use Rattle.code_rules.specs.declared.rule.Rule.TheVariants.{Exit, Filter, Constant}
 use Rattle.code_rules.specs.Kept.{Kept, KeepsRules}
-use Rattle.code_rules.specs.Rules.{Here, kind_fails, loads_free, closed_fails, table_fails, order_fails, opens_twice, under_fails, over_fails, empty_fails, jump_fails, fall_fails, level_fails, exit_fails, filter_fails, undeclared, refusal_of, refusal_at, here_at, Accepted}
+use Rattle.code_rules.specs.Rules.{Here, kind_fails, loads_free, closed_fails, table_fails, order_fails, opens_twice}
+use Rattle.code_rules.specs.Rules.{under_fails, over_fails, empty_fails, jump_fails, fall_fails, level_fails}
+use Rattle.code_rules.specs.Rules.{exit_fails, filter_fails, undeclared, refusal_of, refusal_at, here_at, Accepted}
 
 passes : (b : Bool) (k : Rule) (o : Option Rule) → cond b (Some k) o ≡ None → (b ≡ false) × (o ≡ None)
 passes true k o e = absurd (cc)

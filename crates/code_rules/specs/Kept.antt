@@ -3,7 +3,7 @@ use Rattle.std.specs.Prelude.{◌≡◌, ◌<◌, ℕ, false, length}
 use Rattle.code_items.specs.declared.code.Code.{Code}
 use Rattle.code_rules.specs.Rules.{Here, kind_fails, loads_free, closed_fails, table_fails, order_fails, opens_twice}
 use Rattle.code_rules.specs.Rules.{under_fails, over_fails, empty_fails, jump_fails, fall_fails, level_fails}
-use Rattle.code_rules.specs.Rules.{exit_fails, filter_fails, undeclared, here_at, Accepted}
+use Rattle.code_rules.specs.Rules.{exit_fails, filter_fails, undeclared, here_at}
 
 pub record Kept (code : Code) (h : Here) : Type 0 where
   pub kind : kind_fails code h ≡ false

@@ -1,10 +1,9 @@
 -- Blocks, maps, and what is known before each place of a code.
-use Rattle.std.specs.Prelude.{ℕ, zero, suc, ◌+◌, ◌-◌, Bool, true, false, ◌==◌, nat_lt, List, [], ◌∷◌, ◌++◌, Option}
-use Rattle.std.specs.Prelude.{Some, None, if◌then◌else◌, length, map, replicate, slice_get, slice_set, slice_index_or}
+use Rattle.std.specs.Prelude.{ℕ, zero, suc, ◌+◌, ◌-◌, ◌==◌, nat_lt, List, [], ◌∷◌, Option}
+use Rattle.std.specs.Prelude.{Some, None, if◌then◌else◌, length, replicate, slice_get, slice_set, slice_index_or}
 use Rattle.xvalue.specs.declared.kind.Kind.{Kind}
 use Rattle.code_items.specs.declared.declared.Need.{Need}
 use Rattle.code_items.specs.declared.declared.Filter.{Filter}
-use Rattle.code_items.specs.declared.declared.Declared.{Declared}
 use Rattle.code_items.specs.declared.code.Map.{Map}
 use Rattle.code_items.specs.declared.code.Proc.{Proc}
 use Rattle.code_items.specs.declared.code.Code.{Code}

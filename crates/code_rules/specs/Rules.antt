@@ -5,7 +5,6 @@ use Rattle.std.specs.List.{list_any}
 use Rattle.xvalue.specs.declared.kind.Kind.{Kind}
 use Rattle.xvalue.specs.declared.kind.Kind.TheVariants.{Logical as OfLogical}
 use Rattle.xvalue.specs.Kinds.{same_kind}
-use Rattle.shape.specs.declared.lists.IndexList.{IndexList}
 use Rattle.code_items.specs.declared.declared.Need.{Need}
 use Rattle.code_items.specs.declared.declared.Filter.{Filter as FilterItem}
 use Rattle.code_items.specs.declared.declared.Declared.{Declared}
@@ -26,18 +25,15 @@ use Rattle.code_items.specs.declared.instr.ValueInstr.{ValueInstr}
 use Rattle.code_items.specs.declared.instr.ValueInstr.TheVariants.{Constant, Load, Store, Unset, Discard, Function}
 use Rattle.code_items.specs.declared.instr.ValueInstr.TheVariants.{Today, Set}
 use Rattle.code_items.specs.declared.instr.FlowInstr.{FlowInstr}
-use Rattle.code_items.specs.declared.instr.FlowInstr.TheVariants.{Jump, JumpFalse, Call, Return, End}
-use Rattle.code_items.specs.declared.instr.ScreenInstr.{ScreenInstr}
-use Rattle.code_items.specs.declared.instr.ScreenInstr.TheVariants.{NewLine, Print, Say, SayOn, Input, Line, Clear}
+use Rattle.code_items.specs.declared.instr.FlowInstr.TheVariants.{Return}
 use Rattle.code_items.specs.declared.instr.AreaInstr.{AreaInstr}
-use Rattle.code_items.specs.declared.instr.AreaInstr.TheVariants.{Open, Close, CloseAll, Select, Order, Filter}
+use Rattle.code_items.specs.declared.instr.AreaInstr.TheVariants.{Open, Order, Filter}
 use Rattle.code_items.specs.declared.instr.MoveInstr.{MoveInstr}
-use Rattle.code_items.specs.declared.instr.MoveInstr.TheVariants.{Top, Bottom, Skip, Go, Seek}
+use Rattle.code_items.specs.declared.instr.MoveInstr.TheVariants.{Seek}
 use Rattle.code_items.specs.declared.instr.RecordInstr.{RecordInstr}
-use Rattle.code_items.specs.declared.instr.RecordInstr.TheVariants.{Field, RowField, Ask, Append, Replace, Delete}
-use Rattle.code_items.specs.declared.instr.RecordInstr.TheVariants.{Recall, Pack, Zap, Reindex, Index}
+use Rattle.code_items.specs.declared.instr.RecordInstr.TheVariants.{Field, RowField, Ask, Replace, Index}
 use Rattle.code_items.specs.declared.instr.Instr.{Instr}
-use Rattle.code_items.specs.declared.instr.Instr.TheVariants.{Values, Flow, Screen, Areas, Moves, Records}
+use Rattle.code_items.specs.declared.instr.Instr.TheVariants.{Values, Flow, Areas, Moves, Records}
 use Rattle.code_rules.specs.declared.blocks.Block.{Block}
 use Rattle.code_rules.specs.declared.rule.Rule.{Rule}
 use Rattle.code_rules.specs.declared.rule.Rule.TheVariants.{Kind as RuleKind, Unset as RuleUnset, ClosedArea}

@@ -1,5 +1,5 @@
 -- The kinds of the values that an instruction takes and gives, as far as they are known.
-use Rattle.std.specs.Prelude.{ℕ, Bool, true, false, List, [], ◌∷◌, Option, Some, None, reverse, slice_get}
+use Rattle.std.specs.Prelude.{ℕ, List, [], ◌∷◌, Option, Some, None, reverse, slice_get}
 use Rattle.xvalue.specs.declared.kind.Kind.{Kind}
 use Rattle.xvalue.specs.declared.kind.Kind.TheVariants.{Number as OfNumber, Text as OfText, Date as OfDate}
 use Rattle.xvalue.specs.declared.kind.Kind.TheVariants.{Logical as OfLogical}
@@ -16,19 +16,15 @@ use Rattle.code_items.specs.declared.instr.Question.{Question}
 use Rattle.code_items.specs.declared.instr.Question.TheVariants.{Recno, Reccount, Eof, Bof, Found, Deleted}
 use Rattle.code_items.specs.Desks.{open_at}
 use Rattle.code_items.specs.declared.instr.ValueInstr.{ValueInstr}
-use Rattle.code_items.specs.declared.instr.ValueInstr.TheVariants.{Constant, Load, Store, Unset, Discard, Function}
-use Rattle.code_items.specs.declared.instr.ValueInstr.TheVariants.{Today, Set}
+use Rattle.code_items.specs.declared.instr.ValueInstr.TheVariants.{Constant, Load, Store, Discard, Function, Today}
 use Rattle.code_items.specs.declared.instr.FlowInstr.{FlowInstr}
-use Rattle.code_items.specs.declared.instr.FlowInstr.TheVariants.{Jump, JumpFalse, Call, Return, End}
+use Rattle.code_items.specs.declared.instr.FlowInstr.TheVariants.{JumpFalse}
 use Rattle.code_items.specs.declared.instr.ScreenInstr.{ScreenInstr}
-use Rattle.code_items.specs.declared.instr.ScreenInstr.TheVariants.{NewLine, Print, Say, SayOn, Input, Line, Clear}
-use Rattle.code_items.specs.declared.instr.AreaInstr.{AreaInstr}
-use Rattle.code_items.specs.declared.instr.AreaInstr.TheVariants.{Open, Close, CloseAll, Select, Order, Filter}
+use Rattle.code_items.specs.declared.instr.ScreenInstr.TheVariants.{Print, Say, SayOn, Input, Line}
 use Rattle.code_items.specs.declared.instr.MoveInstr.{MoveInstr}
 use Rattle.code_items.specs.declared.instr.MoveInstr.TheVariants.{Top, Bottom, Skip, Go, Seek}
 use Rattle.code_items.specs.declared.instr.RecordInstr.{RecordInstr}
-use Rattle.code_items.specs.declared.instr.RecordInstr.TheVariants.{Field, RowField, Ask, Append, Replace, Delete}
-use Rattle.code_items.specs.declared.instr.RecordInstr.TheVariants.{Recall, Pack, Zap, Reindex, Index}
+use Rattle.code_items.specs.declared.instr.RecordInstr.TheVariants.{Field, RowField, Ask, Replace}
 use Rattle.code_items.specs.declared.instr.Instr.{Instr}
 use Rattle.code_items.specs.declared.instr.Instr.TheVariants.{Values, Flow, Screen, Areas, Moves, Records}
 

@@ -1,9 +1,10 @@
 -- What is told of command files that stay the same.
-use Rattle.std.proofs.Common.{◌≡◌, ◌<◌, ◌≤◌, ℕ, List, Some, None, length, inl, inr, sym, ap, ◌∙◌, subst, arith}
-use Rattle.file_access.specs.Holding.{Holds, Rose, SameFiles}
+use Rattle.std.proofs.Common.{◌≡◌, ◌<◌, ◌≤◌, ℕ, List, Some, None, length, sym, ap, ◌∙◌, subst}
+use Rattle.file_access.specs.Holding.{Holds, SameFiles}
 use Rattle.shape_files.proofs.FileLemmas.{rose_later}
 use Rattle.compile_commands.specs.declared.refusal.CompileFilesRefusal.{CompileFilesRefusal}
-use Rattle.compile_commands.specs.declared.refusal.CompileFilesRefusal.TheVariants.{Declarations, Source, SourceDisk, CodeDisk, Memory}
+use Rattle.compile_commands.specs.declared.refusal.CompileFilesRefusal.TheVariants.{Declarations, Source, SourceDisk}
+use Rattle.compile_commands.specs.declared.refusal.CompileFilesRefusal.TheVariants.{CodeDisk, Memory}
 use Rattle.compile_commands.specs.declared.refusal.SourceFault.{SourceFault}
 use Rattle.compile_commands.specs.declared.refusal.SourceFault.TheVariants.{Absent, TooLong, Parse, Compile}
 use Rattle.compile_commands.specs.Compiling.{IsRead, name_at}

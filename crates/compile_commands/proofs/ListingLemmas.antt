@@ -2,10 +2,12 @@
 use Rattle.std.proofs.Common.{◌+◌, ℕ, List, Some, None, sym, subst, add-one}
 use Rattle.file_access.specs.Holding.{Holds, SameFiles}
 use Rattle.compile_commands.specs.Compiling.{name_at}
-use Rattle.compile_commands.specs.Listing.{AreListed, AreFaultsOf, IsListedBehind, NoFile, Long, Lines, NoFiles, Further}
+use Rattle.compile_commands.specs.Listing.{AreListed, AreFaultsOf, IsListedBehind, NoFile, Long, Lines, NoFiles}
+use Rattle.compile_commands.specs.Listing.{Further}
 use Rattle.compile_commands.specs.declared.listing.FileFault.{FileFault}
 
-listed_before : (a b : Holds) (name : List ℕ) (number : ℕ) (own : List FileFault) → SameFiles a b → AreFaultsOf number (b name) own → AreFaultsOf number (a name) own
+listed_before : (a b : Holds) (name : List ℕ) (number : ℕ) (own : List FileFault) → SameFiles a b
+    → AreFaultsOf number (b name) own → AreFaultsOf number (a name) own
 listed_before a b name number own s (NoFile none e) = NoFile ((s name None).1 none) e
 listed_before a b name number own s (Long l e) = Long (record { bytes = l.bytes; held = (s name (Some l.bytes)).1 l.held; long = l.long }) e
 listed_before a b name number own s (Lines bytes held e) = Lines bytes ((s name (Some bytes)).1 held) e

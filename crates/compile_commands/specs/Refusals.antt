@@ -40,8 +40,8 @@ SourcesRefusalIs holds names before after (SourceDisk file) = (file < length nam
 SourcesRefusalIs holds names before after CodeDisk = ⊥
 SourcesRefusalIs holds names before after Memory = Unit {0}
 
--- A fault that the declaration file or a command file has, a device failure that was counted, or memory. That the
--- compiler finds a fault in a command file that has none for the parser is its own word.
+-- A fault that the declaration file or a command file has, a device failure that was counted, or memory. Nothing is
+-- said of a fault that the compiler finds in a command file.
 abbrev pub CompileFilesRefusalIs : Holds → List ℕ → List (List ℕ) → ℕ → ℕ → CompileFilesRefusal → Type 0
 CompileFilesRefusalIs holds decl names before after (Declarations refusal) =
     ShapeRefusalIs holds decl before after refusal

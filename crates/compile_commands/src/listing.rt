@@ -1,6 +1,6 @@
 //! All faults of a declaration file and of command files.
 
-ghost use Rattle.std.specs.Prelude.{◌≡◌, ◌<◌, ◌≤◌, ◌∷◌, ◌⊎◌, [], List, length, map, IfErr, IfOk, IsTrue, OnOk};
+ghost use Rattle.std.specs.Prelude.{◌≡◌, ◌<◌, ◌≤◌, ◌∷◌, ◌⊎◌, ◌↔◌, [], List, length, map, IfErr, IfOk, IsTrue, OnOk};
 ghost use Rattle.file_access.specs.Holding.{SameFiles};
 ghost use Rattle.prg_compile.specs.Alone.{IsCompilable};
 ghost use Rattle.prg_parser.specs.Listing.{all_faults};
@@ -40,7 +40,7 @@ pub struct FoundFaults {
 impl FoundFaults {
     /// Whether there is none.
     pub fn is_empty(&self) -> bool
-        ensures { IsTrue result → (self.now.declarations.items ≡ []) × (self.now.commands.items ≡ []) }
+        ensures { IsTrue result ↔ ((self.now.declarations.items ≡ []) × (self.now.commands.items ≡ [])) }
     {
         self.declarations.is_empty() && self.commands.is_empty()
     }
@@ -196,10 +196,10 @@ fn faults_of_commands(
     of_commands(alloc, &faults)
 }
 
-/// All faults of a declaration file and of command files, the main one first: those of every file's lines, file by
-/// file, and where there are none those that the compiler finds, one of each line, the one that `compile_files` tells
-/// first. A line of the declaration file that has a fault declares nothing. A command file that isn't there or is too
-/// long is listed with that as its fault. No file changes.
+/// All faults of a declaration file and of command files, the main one first. They are those of every file's lines,
+/// file by file. Where there are none, they are those that the compiler finds: one of each line, and first the one that
+/// `compile_files` tells. A line of the declaration file that has a fault declares nothing. A command file that isn't
+/// there or is too long is listed with that as its fault. No file changes.
 ///
 /// # Errors
 ///

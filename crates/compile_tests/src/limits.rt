@@ -1,5 +1,5 @@
-// What a code may have most of, and programs that are long or deep. Between two backquotes stand how often and a piece,
-// in which `#` is its number from 1 on, and `~` the next one.
+// What a code may have most of, and programs that are long or deep. Between two backquotes stand a number and a piece
+// that is repeated so many times. In the piece `#` is the number of the repetition, from 1 on, and `~` is one more.
 
 /// Constants; filters; maps; slots, and copies with a slot each.
 pub(crate) const LIMITS: &str = "\
@@ -34,9 +34,9 @@ USE AA^SET FILTER TO N > 1`65529 ^CLEAR && #`|accepted
 USE AA^SET FILTER TO N > 1`65530 ^CLEAR && #`^SET FILTER TO N > 1|0 2 Limit
 ";
 
-/// Procedures of which each calls the next, so many calls within one another, once with each call within 32 blocks;
-/// blocks within one another, each behind an assignment that its body makes another kind of; and functions within one
-/// another, so many with three values waiting on the stack for each.
+/// Procedures of which each calls the next, once with each call within 32 blocks. Blocks within one another, each
+/// behind an assignment to a variable that its body gives another kind. Functions within one another, for each of which
+/// three values wait on the stack.
 pub(crate) const DEEP: &str = "\
 DO P1`19 ^PROCEDURE P#^DO P~`^PROCEDURE P20^CLEAR|accepted
 DO P1`20 ^PROCEDURE P#^DO P~`^PROCEDURE P21^CLEAR|0 41 Limit

@@ -1,6 +1,6 @@
 -- Changes of rows as changes of their bytes.
 use Rattle.std.proofs.Common.{◌≡◌, ◌==◌, ℕ, zero, suc, ◌+◌, ◌*◌, ◌-◌, ◌<◌, ◌≤◌, List, [], ◌∷◌, ◌++◌, length, get_or}
-use Rattle.std.proofs.Common.{take, drop, set, map, Bool, true, false, refl, sym, ap, ◌∙◌, arith, length-drop}
+use Rattle.std.proofs.Common.{take, drop, set, map, Bool, false, refl, sym, ap, ◌∙◌, arith, length-drop}
 use Rattle.std.proofs.Common.{replicate, add-one}
 use Rattle.std.proofs.Math.Nat.{mul-le-mul_right}
 use Rattle.std.proofs.lemmas.List.{nil_from_length, take-append-le, drop-append-le, drop-set-add, take-set-le}
@@ -10,6 +10,7 @@ use Rattle.dbf_file.specs.Rows.{Row, mark_byte, texts_cut, row_in, rows_in, with
 use Rattle.dbf_file.specs.Lending.{put_over, place_of_field}
 use Rattle.dbf_file.proofs.PlaceLemmas.{take-put, drop-put, drop-put_past, total_before}
 use Rattle.dbf_file.proofs.RowLemmas.{row_same, texts_put}
+use Rattle.dbf_file.proofs.TextRowLemmas.{marked_again}
 
 -- ---- a text put into a field
 
@@ -84,10 +85,6 @@ rows_put ws (suc n) (suc r) f text bytes row field fits within =
     (rows_put ws n r f text (drop (size_of ws) bytes) (omega arith) field fits enough)
 
 -- ---- a mark set
-
-marked_again : (marked : Bool) → mark_byte marked == 42 ≡ marked
-marked_again true = refl
-marked_again false = refl
 
 row_marked : (ws : List ℕ) (marked : Bool) (bytes : List ℕ) → 0 < length bytes
     → row_in ws (set bytes 0 (mark_byte marked)) ≡ record { marked = marked; texts = (row_in ws bytes).texts }

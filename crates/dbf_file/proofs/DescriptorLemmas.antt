@@ -137,13 +137,13 @@ at_end earlier (byte ∷ bytes) e =
 
 -- ---- a descriptor is told as it describes
 
-letter_again : (l : Letter) → letter_of (code_of l) ≡ Some l
+pub letter_again : (l : Letter) → letter_of (code_of l) ≡ Some l
 letter_again C = refl
 letter_again N = refl
 letter_again D = refl
 letter_again L = refl
 
-letter_told : (code : ℕ) (l : Letter) → letter_of code ≡ Some l → code ≡ code_of l
+pub letter_told : (code : ℕ) (l : Letter) → letter_of code ≡ Some l → code ≡ code_of l
 letter_told code l e =
     ⊎_elim (λ (is_so, same). let one : C ≡ l = cc in eqb-true code 67 is_so ∙ ap code_of one) (λ (is_not, next).
     ⊎_elim (λ (is_so, same). let one : N ≡ l = cc in eqb-true code 78 is_so ∙ ap code_of one) (λ (is_not, next).

@@ -1,80 +1,38 @@
 -- The number of a text that has digits alone behind blanks.
-use Rattle.std.proofs.Common.{◌≡◌, ℕ, ◌+◌, ◌^◌, ◌<◌, ◌≤◌, Bool, true, false, not, ◌&&◌, ◌==◌, List, [], ◌∷◌, ◌++◌}
+use Rattle.std.proofs.Common.{◌≡◌, ℕ, ◌+◌, ◌^◌, ◌<◌, Bool, true, false, ◌&&◌, ◌==◌, List, [], ◌∷◌, ◌++◌}
 use Rattle.std.proofs.Common.{length, reverse, refl, sym, ap, ◌∙◌, subst, arith}
 use Rattle.std.specs.Prelude.{pos, nat_lt, min, if◌then◌else◌}
-use Rattle.std.proofs.lemmas.List.{reverse-append, reverse-reverse, append-nil}
-use Rattle.std.proofs.lemmas.Bool.{false≢true, not-true, ne_eqb, lt-ltb}
-use Rattle.std.proofs.lemmas.Bool.Decides.{nat_tests}
+use Rattle.std.proofs.lemmas.List.{reverse-reverse, append-nil}
+use Rattle.std.proofs.lemmas.Bool.{ne_eqb, lt-ltb}
 use Rattle.fixed_num.specs.Number.{asterisk, finite, signed, magnitude_limit}
 use Rattle.fixed_num.specs.Arithmetic.{fitted}
 use Rattle.fixed_num.specs.Reading.{without_blanks, before_point, after_point, are_digits, with_digits, is_numeral}
 use Rattle.fixed_num.specs.Reading.{numeral, unsigned_read, signed_read, parsed}
+use Rattle.fixed_num.proofs.BackLemmas.{are_digits-rest, are_digits-first, without_blanks-none, no_blanks-reverse}
+use Rattle.fixed_num.proofs.BackLemmas.{no_blanks-digits}
 use Rattle.dbf_file.specs.Values.{is_all_blanks, number_in}
-
-digits_behind : (c : ℕ) (cs : List ℕ) → are_digits (c ∷ cs) ≡ true → are_digits cs ≡ true
-digits_behind c cs h = grind (arith, nat_tests)
-
-first_digit : (c : ℕ) (cs : List ℕ) → are_digits (c ∷ cs) ≡ true → (48 ≤ c) × (c ≤ 57)
-first_digit c cs h = (grind (arith, nat_tests), grind (arith, nat_tests))
 
 -- a digit is no byte below it
 other_than : (c : ℕ) (cs : List ℕ) (byte : ℕ) → byte < 48 → are_digits (c ∷ cs) ≡ true → (c == byte) ≡ false
 other_than c cs byte low h =
-    let bounds = first_digit c cs h in ne_eqb c byte (λ e. absurd (omega (arith, bounds.0, low)))
-
--- no byte of a text is a blank
-no_blanks : List ℕ → Bool
-no_blanks [] = true
-no_blanks (c ∷ cs) = not (c == 32) && no_blanks cs
-
-both_true : (a b : Bool) → (a && b) ≡ true → (a ≡ true) × (b ≡ true)
-both_true true b h = (refl, h)
-both_true false b h = absurd (false≢true h)
-
-no_blanks-append : (xs ys : List ℕ) → no_blanks xs ≡ true → no_blanks ys ≡ true → no_blanks (xs ++ ys) ≡ true
-unfolding no_blanks
-no_blanks-append [] ys h g = g
-no_blanks-append (c ∷ cs) ys h g =
-    let parts = both_true (not (c == 32)) (no_blanks cs) h in
-    ap (λ b. b && no_blanks (cs ++ ys)) parts.0 ∙ no_blanks-append cs ys parts.1 g
-
-none_in_front : (xs : List ℕ) → no_blanks xs ≡ true → without_blanks xs ≡ xs
-unfolding no_blanks
-none_in_front [] h = refl
-none_in_front (c ∷ cs) h =
-    let parts = both_true (not (c == 32)) (no_blanks cs) h in
-    ap (λ b. if b then without_blanks cs else c ∷ cs) (not-true (c == 32) parts.0)
-
-no_blanks-reverse : (xs : List ℕ) → no_blanks xs ≡ true → no_blanks (reverse xs) ≡ true
-unfolding no_blanks
-no_blanks-reverse [] h = refl
-no_blanks-reverse (c ∷ cs) h =
-    let parts = both_true (not (c == 32)) (no_blanks cs) h in
-    ap no_blanks (reverse-append (c ∷ []) cs) ∙ no_blanks-append (reverse cs) (c ∷ []) (no_blanks-reverse cs parts.1)
-    (ap (λ b. b && true) parts.0)
-
-no_blanks-digits : (xs : List ℕ) → are_digits xs ≡ true → no_blanks xs ≡ true
-unfolding no_blanks
-no_blanks-digits [] h = refl
-no_blanks-digits (c ∷ cs) h =
-    ap (λ b. not b && no_blanks cs) (other_than c cs 32 (omega arith) h) ∙ no_blanks-digits cs (digits_behind c cs h)
+    let bounds = are_digits-first c cs h in ne_eqb c byte (λ e. absurd (omega (arith, bounds.0, low)))
 
 no_blanks_behind : (xs : List ℕ) → are_digits xs ≡ true → reverse (without_blanks (reverse xs)) ≡ xs
 no_blanks_behind xs h =
-    ap reverse (none_in_front (reverse xs) (no_blanks-reverse xs (no_blanks-digits xs h))) ∙ reverse-reverse xs
+    ap reverse (without_blanks-none (reverse xs) (no_blanks-reverse xs (no_blanks-digits xs h))) ∙ reverse-reverse xs
 
 -- digits have no point
 before_digits : (xs : List ℕ) → are_digits xs ≡ true → before_point xs ≡ xs
 before_digits [] h = refl
 before_digits (c ∷ cs) h =
     let P : Bool → Type 0 = λ b. (if b then [] else c ∷ before_point cs) ≡ c ∷ cs in
-    subst P (sym (other_than c cs 46 (omega arith) h)) (ap (λ ys. c ∷ ys) (before_digits cs (digits_behind c cs h)))
+    subst P (sym (other_than c cs 46 (omega arith) h)) (ap (λ ys. c ∷ ys) (before_digits cs (are_digits-rest c cs h)))
 
 after_digits : (xs : List ℕ) → are_digits xs ≡ true → after_point xs ≡ []
 after_digits [] h = refl
 after_digits (c ∷ cs) h =
     let P : Bool → Type 0 = λ b. (if b then cs else after_point cs) ≡ [] in
-    subst P (sym (other_than c cs 46 (omega arith) h)) (after_digits cs (digits_behind c cs h))
+    subst P (sym (other_than c cs 46 (omega arith) h)) (after_digits cs (are_digits-rest c cs h))
 
 -- and no sign
 unsigned : (xs : List ℕ) → 0 < length xs → are_digits xs ≡ true → signed_read xs ≡ unsigned_read false xs

@@ -15,6 +15,7 @@ use Rattle.dbf_file.proofs.ChoiceLemmas.{both_true}
 use Rattle.dbf_file.proofs.NameLemmas.{short_name}
 use Rattle.dbf_file.proofs.DescriptorLemmas.{name_of_field}
 use Rattle.dbf_file.proofs.FileLemmas.{good_fields}
+use Rattle.dbf_file.proofs.ValueLemmas.{shape_of}
 
 -- the name and the zeros behind it, and the rest
 behind_name : Field → List ℕ
@@ -45,10 +46,6 @@ same_decimals C width decimals good = eqb-true decimals 0 (both_true _ _ good).1
 same_decimals N width decimals good = refl
 same_decimals D width decimals good = eqb-true decimals 0 (both_true _ _ good).1
 same_decimals L width decimals good = eqb-true decimals 0 (both_true _ _ good).1
-
-shape_of_field : (f : Field) → is_field f ≡ true → has_shape f.letter f.width f.decimals ≡ true
-unfolding is_field
-shape_of_field f good = (both_true _ _ good).1
 
 length_behind : (f : Field) → length (behind_name f) ≡ 21
 unfolding behind_name
@@ -87,7 +84,7 @@ descriptor_reads f good =
       );
       letter = cell_behind f 11 0 short refl ∙ (cells f).0;
       width = cell_behind f 16 5 short refl ∙ (cells f).1;
-      decimals = same_decimals f.letter f.width f.decimals (shape_of_field f good)
+      decimals = same_decimals f.letter f.width f.decimals (shape_of f good)
           ∙ ap (decimals_of f.letter) (sym (cell_behind f 17 6 short refl ∙ (cells f).2));
     }
 

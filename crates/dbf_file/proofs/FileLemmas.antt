@@ -240,7 +240,7 @@ rows_of_records bytes layout is =
     ∙ ap (λ n. rows_in ws layout.rows (take (layout.rows * n) records)) (sym is.size)
     ∙ rows_of_front ws layout.rows records
 
-ok_same : (told : Result (List Field) DbfFault) (a b : List Field) → told ≡ Ok a → told ≡ Ok b → a ≡ b
+pub ok_same : (told : Result (List Field) DbfFault) (a b : List Field) → told ≡ Ok a → told ≡ Ok b → a ≡ b
 ok_same told a b e f = cc
 
 -- what is told is the table whose text the bytes are

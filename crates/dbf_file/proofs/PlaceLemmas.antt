@@ -1,5 +1,5 @@
 -- Bytes put over others, and parts of lists.
-use Rattle.std.proofs.Common.{◌≡◌, ℕ, zero, suc, ◌+◌, ◌<◌, ◌≤◌, List, [], ◌∷◌, ◌++◌, length, get_or, take, drop, refl}
+use Rattle.std.proofs.Common.{◌≡◌, ℕ, zero, suc, ◌+◌, ◌<◌, ◌≤◌, List, [], ◌∷◌, ◌++◌, length, get_or, take, drop}
 use Rattle.std.proofs.Common.{sym, ap, ◌∙◌, arith, length-append, append_assoc}
 use Rattle.std.proofs.lemmas.List.{length-take, length-take-le, take-take, take-append-le, drop-append-le, drop-take}
 use Rattle.std.proofs.lemmas.List.{drop-drop}
@@ -34,10 +34,6 @@ drop-put_past k place text bytes behind within =
     sym (append_assoc (take place bytes) text _) ∙ ap (λ (back : List ℕ). (take place bytes ++ text) ++ back)
     (drop-drop (length text) place bytes) in
     ap (drop k) same ∙ drop-append-drop (place + length text) bytes (take place bytes ++ text) k behind (omega arith)
-
--- a text put at the front
-pub put_front : (text bytes : List ℕ) → put_over 0 text bytes ≡ text ++ drop (length text) bytes
-put_front text bytes = refl
 
 -- the width of a field and those before it
 pub total_before : (f : ℕ) (widths : List ℕ) → f < length widths → total (take f widths) + get_or widths f 0

@@ -87,7 +87,7 @@ fields_from zero earlier bytes = Err FieldShape
 fields_from (suc n) earlier bytes =
     after_step earlier (next_told earlier bytes) (λ fields. fields_from n fields (drop 32 bytes))
 
--- ---- as a field is written that no file gave
+-- ---- how a field that no file gave is written
 
 -- a descriptor with 0 in each byte that has no meaning
 unfoldable pub descriptor_text : Field → List ℕ

@@ -2,7 +2,7 @@
 
 use thiserror::Error;
 
-/// Why bytes are no table's file. Of several faults the first in this order is told, but of `FieldShape` and `NoEnd`
+/// Why bytes are no table's file. The first of several faults in this order is told, but of `FieldShape` and `NoEnd`
 /// the one that comes first in the file.
 #[derive(Clone, Copy, Debug, PartialEq, Eq, Error)]
 pub enum DbfFault {

@@ -27,7 +27,7 @@ pub enum Letter {
     /// A text of 1 to 254 bytes.
     #[default]
     C,
-    /// A number in 1 to 19 bytes, with no decimals, or with up to 15 and two more bytes at least.
+    /// A number in 1 to 19 bytes: without decimals, or with up to 15 of them and at least two bytes more than these.
     N,
     /// A day in 8 bytes: four digits of the year, two of the month, two of the day, or blanks.
     D,

@@ -1,4 +1,4 @@
-//! The layout of a table's file, and the first fault of bytes that have none.
+//! The layout of a table's file, and the first fault of bytes that are no table's file.
 
 ghost use Rattle.std.specs.Prelude.{◌≡◌, ◌*◌, ◌<◌, ◌≤◌, length, MatchResult, IfOk, Some};
 ghost use Rattle.std.specs.Prelude.{None};

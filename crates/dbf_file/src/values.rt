@@ -93,7 +93,7 @@ pub(crate) fn number_in(decimals: u8, text: &[u8]) -> Num
     }
 }
 
-/// The day of these parts, or the blank date where the calendar has none such.
+/// The day of these parts, or the blank date where the calendar has no such day.
 fn day_or_blank(parts: DayParts) -> Day
     ensures { result ≡ day_or_blank parts }
 {

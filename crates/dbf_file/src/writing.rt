@@ -94,7 +94,7 @@ pub(crate) fn put_rows(
     Ok(())
 }
 
-/// Writes bytes 0, as many.
+/// Writes so many bytes 0.
 pub(crate) fn put_zeros(out: &mut Vec<u8>, count: usize) -> Result<(), AllocError>
     ensures { OnOk result (out.new.items ≡ out.old.items ++ replicate count 0) }
 {

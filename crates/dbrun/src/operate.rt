@@ -536,7 +536,8 @@ fn changed_among(alloc: Global, said: &JournalPaper, sums: &[FileSum]) -> Option
     String::from_str(alloc, file.name.as_str()).ok()
 }
 
-/// The file that isn't as it was when a conversation was begun that goes on, of those that were read.
+/// The first of the files that were read that isn't as it was when the conversation was begun; none where it begins
+/// now.
 fn changed_in(alloc: Global, open: &Open<'_>) -> Option<String> {
     let said = open.said?;
     match open.sums.try_borrow() {

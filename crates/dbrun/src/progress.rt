@@ -15,7 +15,7 @@ use std::time::{Duration, Instant};
 /// How long a person is left without word of a run, in seconds.
 const SILENCE: u64 = 1;
 
-/// What a terminal takes the row away with in which the cursor stands.
+/// The order with which a terminal clears the row in which the cursor stands.
 const ERASED: &str = "\r\x1b[K";
 
 /// Tells a person on standard error once a second how far a run has come, in one row that is written over.

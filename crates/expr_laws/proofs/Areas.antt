@@ -1,5 +1,6 @@
 -- What is known of work areas is true of the world: what they hold, and the fields there.
-use Rattle.std.proofs.Common.{◌≡◌, ◌<◌, ◌≤◌, ℕ, zero, suc, ◌+◌, ◌-◌, Bool, true, false, List, [], ◌∷◌, length, map, Option, Some, None, refl, sym, ap, ◌∙◌, arith}
+use Rattle.std.proofs.Common.{◌≡◌, ◌<◌, ◌≤◌, ℕ, zero, suc, ◌+◌, ◌-◌, Bool, true, false, List, [], ◌∷◌, length, map}
+use Rattle.std.proofs.Common.{Option, Some, None, refl, sym, ap, ◌∙◌, arith}
 use Rattle.std.specs.Prelude.{slice_get, slice_index_or, is_none, is_some, nat_le, nat_lt, if◌then◌else◌}
 use Rattle.std.specs.List.{list_any, list_all}
 use Rattle.std.specs.Str.{bytes_eq}
@@ -24,7 +25,8 @@ use Rattle.code_items.specs.States.{is_area_state}
 use Rattle.code_rules.specs.Rules.{fails_if_open, no_field}
 use Rattle.code_rules.specs.Wants.{fields_declared, fields_at, kind_of_field}
 use Rattle.prg_values.specs.declared.scope.FieldPlace.{FieldPlace}
-use Rattle.prg_values.specs.Readings.{on_some, or_closed, area_at, table_fields, field_named_from, field_named, nameable_field, has_field}
+use Rattle.prg_values.specs.Readings.{on_some, or_closed, area_at, table_fields, field_named_from, field_named}
+use Rattle.prg_values.specs.Readings.{nameable_field, has_field}
 use Rattle.run_steps.specs.World.{area_state, desk_of}
 use Rattle.run_steps.specs.Shapes.{StoreFits}
 use Rattle.run_laws.proofs.Known.{OpenThere, open_there, area_by}
@@ -161,7 +163,8 @@ pub field_declared : (d : Declared) (s : StoreState) (n : ℕ) (o : OpenThere d 
 field_declared d s n o name f e =
     let fs = fields_declared (slice_get d.shape.tables o.use_of.table) in
     let w = declared_at d o.use_of.table name f e in
-    ap (fails_if_open (λ b. nat_le (length (fields_at d (Some b))) f.number)) o.known ∙ past (length fs) f.number (slice_get_within fs f.number w.0 w.1)
+    ap (fails_if_open (λ b. nat_le (length (fields_at d (Some b))) f.number)) o.known
+    ∙ past (length fs) f.number (slice_get_within fs f.number w.0 w.1)
 
 -- and with the kind that is declared
 pub field_is_of_kind : (d : Declared) (s : StoreState) (n : ℕ) (fits : StoreFits d s) (o : OpenThere d s n) (name : List ℕ) (f : FieldPlace) → field_named (table_fields d.shape o.use_of.table) name ≡ Some f → kind_of (field_of f.number o.table) ≡ f.kind

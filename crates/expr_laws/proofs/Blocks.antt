@@ -1,5 +1,6 @@
 -- A filter's block that is sound never fills its stack, and loads only slots that hold what is loaded.
-use Rattle.std.proofs.Common.{◌≡◌, ◌<◌, ◌≤◌, ℕ, suc, ◌+◌, ◌-◌, Bool, true, false, not, ◌||◌, List, [], ◌∷◌, ◌++◌, length, map, drop, Option, Some, None, refl, sym, ap, ◌∙◌, subst, arith}
+use Rattle.std.proofs.Common.{◌≡◌, ◌<◌, ◌≤◌, ℕ, suc, ◌+◌, ◌-◌, Bool, true, false, not, ◌||◌, List, [], ◌∷◌, ◌++◌}
+use Rattle.std.proofs.Common.{length, map, drop, Option, Some, None, refl, sym, ap, ◌∙◌, subst, arith}
 use Rattle.std.specs.Prelude.{slice_get, nat_lt, nat_le}
 use Rattle.std.specs.List.{AllZip}
 use Rattle.std.proofs.lemmas.Bool.{and_parts, or_parts, not-false, ltb-false, leb-false}
@@ -28,8 +29,9 @@ use Rattle.code_rules.specs.Places.{filter_desk}
 use Rattle.code_rules.specs.Rules.{filters, height_after, has_other, is_free, loads_other, loads_free, undeclared}
 use Rattle.run_values.specs.Tagged.{arguments_on, HoldsKind}
 use Rattle.run_steps.specs.World.{kind_held}
-use Rattle.run_steps.specs.Filters.{Viewer, with_constant, with_held, row_field, asked_of, row_run, block_run, block_fails, block_sound, block_start}
-use Rattle.run_steps.proofs.Lasts.{room}
+use Rattle.run_steps.specs.Filters.{Viewer, with_constant, with_held, row_field, asked_of, row_run, block_run}
+use Rattle.run_steps.specs.Filters.{block_fails, block_sound, block_start}
+use Rattle.run_values.proofs.BlockTops.{put_there}
 use Rattle.run_laws.proofs.Tests.{Same, slot_holds, is_there}
 use Rattle.prg_values.specs.declared.pieces.Piece.{Piece}
 use Rattle.prg_values.specs.declared.pieces.Piece.TheVariants.{Constant, Does}
@@ -122,13 +124,13 @@ field_is_there xs n e = is_there xs n (omega (arith, leb-false (length xs) n e))
 constant_steps : (code : Code) (v : Viewer) (r : TriedRow) (table : ℕ) (s : State) (st : List Value) (x : Option Value) → length st < 64 → Stands v table s st
     → (with_constant x st ≡ put_some x st) × Stands v table (record { desk = s.desk; slots = s.slots; stack = known (Some (constant_kind x)) ++ s.stack }) (put_some x st)
 constant_steps code v r table s st None lt h = (refl, h)
-constant_steps code v r table s st (Some c) lt h = (room c st lt, pushed_stands v table s st _ c h)
+constant_steps code v r table s st (Some c) lt h = (put_there c st lt, pushed_stands v table s st _ c h)
 
 load_steps : (v : Viewer) (table : ℕ) (s : State) (st : List Value) (k : Kind) (x : Option (Option Value)) → HoldsKind k x → length st < 64 → Stands v table s st
     → (with_held x st ≡ put_held x st) × Stands v table (record { desk = s.desk; slots = s.slots; stack = k ∷ s.stack }) (put_held x st)
 load_steps v table s st k None held lt h = absurd held
 load_steps v table s st k (Some None) held lt h = absurd held
-load_steps v table s st k (Some (Some c)) held lt h = (room c st lt, pushed_stands v table s st k c h)
+load_steps v table s st k (Some (Some c)) held lt h = (put_there c st lt, pushed_stands v table s st k c h)
 
 value_steps : (code : Code) → Same → code.declared.stack_bound ≤ 64 → (v : Viewer) (r : TriedRow) (table : ℕ) (s : State) (i : ValueInstr) (st : List Value) → length v.slots ≡ code.declared.slots → Stands v table s st → Sound code s (Values i) → Stepped code v r table s (Values i) st
 value_steps code same few v r table s (value_instr.Constant n) st l h e =
@@ -142,11 +144,16 @@ value_steps code same few v r table s (value_instr.Load k n) st l h e =
 value_steps code same few v r table s (value_instr.Function f) st l h e =
     let n = length (takes_of f) in
     let c = applied f v.settings (by_kind (arguments_on f st)) in record {
-      same = room c (drop n st) (has_room code s v table n st few h e.within);
+      same = put_there c (drop n st) (has_room code s v table n st few h e.within);
       fits = tt;
       after = record { slots = h.slots; desk = h.desk; height = ap suc (length-drop n s.stack ∙ ap (λ (m : ℕ). m - n) h.height ∙ sym (length-drop n st)) };
     }
-value_steps code same few v r table s value_instr.Today st l h e = record { same = room (value.Date v.today) st (has_room code s v table 0 st few h e.within); fits = tt; after = pushed_stands v table s st _ (value.Date v.today) h }
+value_steps code same few v r table s value_instr.Today st l h e =
+    record {
+      same = put_there (value.Date v.today) st (has_room code s v table 0 st few h e.within);
+      fits = tt;
+      after = pushed_stands v table s st _ (value.Date v.today) h;
+    }
 value_steps code same few v r table s (value_instr.Store k n) st l h e = absurd (let x = e.stands in cc)
 value_steps code same few v r table s (value_instr.Unset n) st l h e = absurd (let x = e.stands in cc)
 value_steps code same few v r table s (value_instr.Discard k) st l h e = absurd (let x = e.stands in cc)
@@ -157,11 +164,16 @@ record_steps code few v r table s (record_instr.RowField f) st h e =
     let there = field_is_there (fields_at code.declared (Some (just_opened table 0))) f (subst (λ d. undeclared code d (Records (record_instr.RowField f)) ≡ false) h.desk e.declared) in
     let kind : gives code.declared s.desk (Records (record_instr.RowField f)) ≡ Some (Some (kind_for there.0.letter)) = ap (λ d. gives code.declared d (Records (record_instr.RowField f))) h.desk ∙ ap (λ x. Some (kind_of_field x)) there.1 in
     record {
-      same = room (row_field f r) st (has_room code s v table 0 st few h e.within);
+      same = put_there (row_field f r) st (has_room code s v table 0 st few h e.within);
       fits = tt;
       after = record { slots = h.slots; desk = h.desk; height = ap (λ x. length (known x ++ s.stack)) kind ∙ ap suc h.height };
     }
-record_steps code few v r table s (record_instr.Ask q) st h e = record { same = room (asked_of q r) st (has_room code s v table 0 st few h e.within); fits = tt; after = pushed_stands v table s st _ (asked_of q r) h }
+record_steps code few v r table s (record_instr.Ask q) st h e =
+    record {
+      same = put_there (asked_of q r) st (has_room code s v table 0 st few h e.within);
+      fits = tt;
+      after = pushed_stands v table s st _ (asked_of q r) h;
+    }
 record_steps code few v r table s (record_instr.Field a f) st h e = absurd (let x = e.stands in cc)
 record_steps code few v r table s record_instr.Append st h e = absurd (let x = e.stands in cc)
 record_steps code few v r table s (record_instr.Replace f) st h e = absurd (let x = e.stands in cc)

@@ -1,5 +1,6 @@
 -- A filter shows the rows for which its condition holds.
-use Rattle.std.proofs.Common.{◌≡◌, ◌<◌, ◌≤◌, ℕ, suc, Bool, true, false, not, ◌&&◌, ◌==◌, List, [], ◌∷◌, length, map, Option, Some, None, refl, sym, ap, ◌∙◌, subst, arith}
+use Rattle.std.proofs.Common.{◌≡◌, ◌<◌, ◌≤◌, ℕ, suc, Bool, true, false, not, ◌&&◌, ◌==◌, List, [], ◌∷◌, length, map}
+use Rattle.std.proofs.Common.{Option, Some, None, refl, sym, ap, ◌∙◌, subst, arith}
 use Rattle.std.specs.Prelude.{slice_get, slice_index_or, codes, if◌then◌else◌}
 use Rattle.std.specs.Str.{bytes_eq}
 use Rattle.std.proofs.lemmas.Option.{slice_get_within, get_or_from_slice_get}
@@ -31,15 +32,19 @@ use Rattle.prg_code.specs.Bindings.{slot_named}
 use Rattle.prg_expr.specs.Tree.{Tree}
 use Rattle.prg_values.specs.declared.scope.FieldPlace.{FieldPlace}
 use Rattle.prg_values.specs.declared.scope.Reading.{Reading}
-use Rattle.prg_values.specs.Readings.{Scoped, on_some, area_at, table_fields, field_named, field_in, loads, variable, field_reading, field_known, field_here, here_reading, read_name, field_of_area, read_qualified, alias_area}
-use Rattle.prg_values.specs.Written.{answer_kind, IsWrittenExpr, pieces_in}
+use Rattle.prg_values.specs.Readings.{Scoped, on_some, area_at, table_fields, field_named, field_in, loads, variable}
+use Rattle.prg_values.specs.Readings.{field_reading, field_known, field_here, here_reading, read_name, field_of_area}
+use Rattle.prg_values.specs.Readings.{read_qualified, alias_area}
+use Rattle.prg_values.specs.Written.{IsWrittenExpr, pieces_in}
 use Rattle.code_rules.specs.Rules.{filter_lacks}
+use Rattle.code_rules.specs.Wants.{kind_asked}
 use Rattle.run_values.specs.Tagged.{HoldsKind}
-use Rattle.run_values.specs.Scratch.{is_true}
+use Rattle.run_values.specs.BlockStack.{is_true}
 use Rattle.run_steps.specs.World.{kind_held}
-use Rattle.run_steps.specs.Filters.{Viewer, row_field, asked_of, block_run, filter_block, instructions_of, block_start, block_sound, is_sound_filter, is_sound, is_unhidden, is_visible}
+use Rattle.run_steps.specs.Filters.{Viewer, row_field, asked_of, block_run, filter_block, instructions_of, block_start}
+use Rattle.run_steps.specs.Filters.{block_sound, is_sound_filter, is_sound, is_unhidden, is_visible}
 use Rattle.run_laws.proofs.Tests.{Same, else_yes, not_zero}
-use Rattle.fit_laws.proofs.Values.{ResultLaw}
+use Rattle.run_laws.proofs.Tests.{ResultLaw}
 use Rattle.expr_laws.specs.Meaning.{nothing, value_in, is_truth, holds_in}
 use Rattle.expr_laws.specs.Seeing.{slot_value, variable_value}
 use Rattle.expr_laws.specs.Rows.{row_value, row_sight, IsOfFilter, IsOfTable}
@@ -149,7 +154,7 @@ module _ (code : Code) (s : Scoped) (v : Viewer) (number table : ℕ) (r : Tried
           let w = found (alias_area s alias) (λ area. field_of_area s name area (area_at s.state.desk area)) x e in
           area_puts name w.a (area_at s.state.desk w.a) x refl w.made
 
-  asked_is : (q : Question) → kind_of (asked_of q r) ≡ answer_kind q
+  asked_is : (q : Question) → kind_of (asked_of q r) ≡ kind_asked q
   asked_is Recno = refl
   asked_is Reccount = refl
   asked_is Eof = refl

@@ -75,4 +75,5 @@ pub all_kinds : (f : Function) (g : Fun) (ks : List Kind) (vs : List Value) (k :
 all_kinds f g ks vs k same e =
     map-append kind_of vs (defaults f (length vs))
     ∙ ap (λ (n : ℕ). map kind_of vs ++ map kind_of (defaults f n)) (sym (length-map vs kind_of)) ∙ ap (completed f) same
-    ∙ sym (stacks_same (takes_of g) (completed f ks) (passed (same_kinds (takes_of g) (completed f ks)) (Some (gives_of g)) k e).holds)
+    ∙ sym (stacks_same (takes_of g) (completed f ks)
+    (passed (same_kinds (takes_of g) (completed f ks)) (Some (gives_of g)) k e).holds)

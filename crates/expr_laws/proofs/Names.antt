@@ -1,5 +1,6 @@
 -- What names are read as in a world is what they stand for there.
-use Rattle.std.proofs.Common.{◌≡◌, ◌≤◌, ℕ, zero, suc, ◌+◌, Bool, true, false, ◌==◌, List, [], ◌∷◌, length, map, Option, Some, None, refl, sym, ap, ◌∙◌, subst, arith}
+use Rattle.std.proofs.Common.{◌≡◌, ◌≤◌, ℕ, zero, suc, ◌+◌, Bool, true, false, ◌==◌, List, [], ◌∷◌, length, map, Option}
+use Rattle.std.proofs.Common.{Some, None, refl, sym, ap, ◌∙◌, subst, arith}
 use Rattle.std.specs.Prelude.{slice_get, slice_index_or, is_none, nat_lt, codes, if◌then◌else◌}
 use Rattle.std.specs.List.{list_any, list_all}
 use Rattle.std.specs.Str.{bytes_eq}
@@ -23,22 +24,28 @@ use Rattle.code_items.specs.declared.instr.Instr.TheVariants.{Values, Records}
 use Rattle.code_items.specs.declared.instr.ValueInstr.TheVariants as value_instr
 use Rattle.code_items.specs.declared.instr.RecordInstr.TheVariants as record_instr
 use Rattle.code_items.specs.declared.instr.Question.{Question}
-use Rattle.code_items.specs.declared.instr.Question.TheVariants.{Recno, Reccount, Eof, Bof, Found as IsFound, Deleted}
 use Rattle.prg_code.specs.Bindings.{slot_named}
 use Rattle.prg_values.specs.declared.scope.FieldPlace.{FieldPlace}
 use Rattle.prg_values.specs.declared.scope.Reading.{Reading}
-use Rattle.prg_values.specs.Readings.{Scoped, on_some, area_at, table_fields, field_named, field_in, has_field, loads, variable, field_reading, field_known, field_here, here_reading, read_name, field_of_area, read_qualified, letter_area, table_named, is_of, holder_from, holder_of, alias_area, number_below}
-use Rattle.prg_values.specs.Written.{may_ask, answer_kind, question_kind}
+use Rattle.prg_values.specs.Readings.{Scoped, on_some, area_at, table_fields, field_named, field_in, has_field, loads}
+use Rattle.prg_values.specs.Readings.{variable, field_reading, field_known, field_here, here_reading, read_name}
+use Rattle.prg_values.specs.Readings.{field_of_area, read_qualified, letter_area, table_named, is_of, holder_from}
+use Rattle.prg_values.specs.Readings.{holder_of, alias_area, number_below}
+use Rattle.prg_values.specs.Written.{may_ask, question_kind}
+use Rattle.code_rules.specs.Wants.{kind_asked}
 use Rattle.run_values.specs.Tagged.{pushed, loaded_value}
 use Rattle.run_steps.specs.World.{EnvState, kind_held, order_of, area_state, desk_of}
 use Rattle.run_steps.specs.Effects.{answer, on_table}
 use Rattle.run_steps.specs.Shapes.{StoreFits}
 use Rattle.fit_laws.proofs.Covered.{Desks, kinds_same, area_same}
 use Rattle.expr_laws.specs.Meaning.{nothing}
-use Rattle.expr_laws.specs.Seeing.{slot_value, variable_value, used_fields, field_value, holder, alias_of, value_of_area, asked_value}
+use Rattle.expr_laws.specs.Seeing.{slot_value, variable_value, used_fields, field_value, holder, alias_of}
+use Rattle.expr_laws.specs.Seeing.{value_of_area, asked_value}
 use Rattle.expr_laws.proofs.Machines.{Puts}
-use Rattle.expr_laws.proofs.Areas.{AreaThere, area_open, area_there, area_closed, in_no_table, field_declared, field_is_of_kind}
+use Rattle.expr_laws.proofs.Areas.{AreaThere, area_open, area_there, area_closed, in_no_table, field_declared}
+use Rattle.expr_laws.proofs.Areas.{field_is_of_kind}
 use Rattle.fit_laws.proofs.Runs.{some_same, none_some}
+use Rattle.fit_laws.proofs.Fields.{asked_kind}
 use Rattle.expr_laws.proofs.Options.{found}
 use Rattle.expr_laws.proofs.Passes.{world_run, Passes, load_passes, field_passes, question_passes}
 
@@ -269,29 +276,25 @@ alias_puts code s slots e sees alias name r is = by (bytes_eq alias (codes "M"))
 
 -- ---- questions
 
-answer_is : (q : Question) (o : OpenState) → kind_of (answer q o) ≡ answer_kind q
-answer_is Recno o = refl
-answer_is Reccount o = refl
-answer_is Eof o = refl
-answer_is Bof o = refl
-answer_is IsFound o = refl
-answer_is Deleted o = refl
-
 -- the selected area is known to be open, and the answer has this kind
 pub record IsAsked (s : Scoped) (q : Question) (k : Kind) : Type 0 where
   pub area : OpenArea
   pub is_open : open_at s.state.desk s.state.desk.selected ≡ Some area
   pub may : may_ask s.in_filter q ≡ true
-  pub kind : answer_kind q ≡ k
+  pub kind : kind_asked q ≡ k
 
 pub is_asked : (s : Scoped) (q : Question) (k : Kind) → question_kind s q ≡ Some k → IsAsked s q k
 is_asked s q k e = by (open_at s.state.desk s.state.desk.selected) refl e
   where
-    asked : (b : Bool) → may_ask s.in_filter q ≡ b → (a : OpenArea) → open_at s.state.desk s.state.desk.selected ≡ Some a → (if b then Some (answer_kind q) else None) ≡ Some k → IsAsked s q k
-    asked true m a at e = record { area = a; is_open = at; may = m; kind = some_same (answer_kind q) k e }
+    asked : (b : Bool) → may_ask s.in_filter q ≡ b → (a : OpenArea)
+        → open_at s.state.desk s.state.desk.selected ≡ Some a
+        → (if b then Some (kind_asked q) else None) ≡ Some k → IsAsked s q k
+    asked true m a at e = record { area = a; is_open = at; may = m; kind = some_same (kind_asked q) k e }
     asked false m a at e = none_some _ k e
 
-    by : (x : Option OpenArea) → open_at s.state.desk s.state.desk.selected ≡ x → (if is_none x then None else if may_ask s.in_filter q then Some (answer_kind q) else None) ≡ Some k → IsAsked s q k
+    by : (x : Option OpenArea) → open_at s.state.desk s.state.desk.selected ≡ x
+        → (if is_none x then None else if may_ask s.in_filter q then Some (kind_asked q) else None) ≡ Some k
+        → IsAsked s q k
     by None at e = none_some _ k e
     by (Some a) at e = asked (may_ask s.in_filter q) refl a at e
 
@@ -302,7 +305,7 @@ question_puts code s slots e sees q k is =
     let at = area_open code.declared s.state.desk e.store e.store.selected w.area sees.desks sees.all sees.fits (subst (λ n. open_at s.state.desk n ≡ Some w.area) sees.desks.selected w.is_open) in
     let put : (st : List Value) → world_run code slots e (Records (record_instr.Ask q)) st ≡ answer q at.o.table ∷ st =
     λ st. ap (λ (x : Option OpenState). (on_table x (record { slots = slots; stack = st }) (λ o. pushed (answer q o) (record { slots = slots; stack = st }))).stack) at.o.there in record {
-      kind = ap (λ (x : Option OpenState). kind_of (asked_value x q)) at.o.there ∙ answer_is q at.o.table ∙ w.kind;
+      kind = ap (λ (x : Option OpenState). kind_of (asked_value x q)) at.o.there ∙ asked_kind q at.o.table ∙ w.kind;
       put = λ st. put st ∙ ap (λ (x : Option OpenState). asked_value x q ∷ st) (sym at.o.there);
       passes = λ st. question_passes code slots e q (answer q at.o.table) st (ap (λ x. is_none x) at.o.known) (put st);
     }

@@ -1,5 +1,6 @@
 -- What operators do takes two values, and what is denied is a truth value; IIF takes what there is.
-use Rattle.std.proofs.Common.{◌≡◌, Bool, true, false, List, [], ◌∷◌, length, Option, Some, None, refl, sym, ap, ◌∙◌, subst}
+use Rattle.std.proofs.Common.{◌≡◌, Bool, true, false, List, [], ◌∷◌, length, Option, Some, None, refl, sym, ap, ◌∙◌}
+use Rattle.std.proofs.Common.{subst}
 use Rattle.std.specs.Prelude.{◌&&◌, if◌then◌else◌}
 use Rattle.std.proofs.lemmas.Bool.{and_parts}
 use Rattle.xvalue.specs.declared.kind.Kind.{Kind}
@@ -9,9 +10,11 @@ use Rattle.xvalue.specs.declared.fun.Fun.TheVariants as fun
 use Rattle.xvalue.specs.Kinds.{same_kind}
 use Rattle.xvalue.specs.Signature.{takes_of, gives_of}
 use Rattle.prg_expr.specs.declared.tree.BinaryOperator.{BinaryOperator}
-use Rattle.prg_expr.specs.declared.tree.BinaryOperator.TheVariants.{Or, And, Equal, NotEqual, Less, Greater, AtMost, AtLeast, Contains, Plus, Minus, Times, Over}
+use Rattle.prg_expr.specs.declared.tree.BinaryOperator.TheVariants.{Or, And, Equal, NotEqual, Less, Greater, AtMost}
+use Rattle.prg_expr.specs.declared.tree.BinaryOperator.TheVariants.{AtLeast, Contains, Plus, Minus, Times, Over}
 use Rattle.prg_values.specs.declared.operators.OperatorMeaning.{OperatorMeaning}
-use Rattle.prg_values.specs.Operators.{plain, denied, turned, equality, less, greater, operation_if_some, added, subtracted, of_both, operated}
+use Rattle.prg_values.specs.Operators.{plain, denied, turned, equality, less, greater, operation_if_some, added}
+use Rattle.prg_values.specs.Operators.{subtracted, of_both, operated}
 use Rattle.prg_values.specs.Written.{choice, choice_for}
 use Rattle.fit_laws.proofs.Covered.{kinds_same, joined}
 use Rattle.fit_laws.proofs.Runs.{some_same, none_some}

@@ -1,5 +1,6 @@
 -- The instructions of expressions pass the tests of a world, the room on its stack aside.
-use Rattle.std.proofs.Common.{◌≡◌, ◌<◌, ◌≤◌, ℕ, zero, suc, ◌+◌, ◌-◌, false, not, List, [], ◌∷◌, ◌++◌, length, map, reverse, take, drop, Option, Some, refl, sym, ap, ◌∙◌, subst, arith}
+use Rattle.std.proofs.Common.{◌≡◌, ◌<◌, ◌≤◌, ℕ, zero, suc, ◌+◌, ◌-◌, false, not, List, [], ◌∷◌, ◌++◌, length, map}
+use Rattle.std.proofs.Common.{reverse, take, drop, Option, Some, refl, sym, ap, ◌∙◌, subst, arith}
 use Rattle.std.specs.Prelude.{slice_get, is_none, nat_lt, nat_le}
 use Rattle.std.proofs.lemmas.Bool.{le-ltb, or_from}
 use Rattle.std.proofs.lemmas.List.{length-map, length-drop, length-append, length-reverse}
@@ -20,10 +21,12 @@ use Rattle.code_items.specs.declared.instr.RecordInstr.TheVariants as record_ins
 use Rattle.code_items.specs.Desks.{open_at}
 use Rattle.code_items.specs.Kinds.{clashes}
 use Rattle.code_items.specs.Legal.{places_of}
-use Rattle.code_rules.specs.Rules.{has_other, is_free, loads_free, order_fails, opens_twice, height_after, no_field, undeclared}
+use Rattle.code_rules.specs.Rules.{has_other, is_free, loads_free, order_fails, opens_twice, height_after, no_field}
+use Rattle.code_rules.specs.Rules.{undeclared}
 use Rattle.run_steps.specs.World.{World, EnvState, kind_held, desk_of}
 use Rattle.run_steps.specs.Effects.{values_after}
-use Rattle.run_steps.specs.Faults.{wrong_kind, closed_area, empty_stack, bad_jump, deep_call, lists_other, bad_filter, IsClear}
+use Rattle.run_steps.specs.Faults.{wrong_kind, closed_area, empty_stack, bad_jump, deep_call, lists_other, bad_filter}
+use Rattle.run_steps.specs.Faults.{IsClear}
 use Rattle.run_laws.proofs.Tests.{mapped_at}
 use Rattle.expr_laws.specs.Seeing.{StaysWithin}
 use Rattle.expr_laws.proofs.Areas.{past}

@@ -1,5 +1,6 @@
 -- Each instruction of an expression's code passes its tests where it runs.
-use Rattle.std.proofs.Common.{◌≡◌, Bool, true, false, List, [], ◌∷◌, ◌++◌, length, map, Option, Some, None, refl, sym, ap, ◌∙◌, subst}
+use Rattle.std.proofs.Common.{◌≡◌, Bool, true, false, List, [], ◌∷◌, ◌++◌, length, map, Option, Some, None, refl, sym}
+use Rattle.std.proofs.Common.{ap, ◌∙◌, subst}
 use Rattle.std.proofs.lemmas.List.{length-map}
 use Rattle.std.specs.List.{AllZip}
 use Rattle.xvalue.specs.declared.kind.Kind.{Kind}
@@ -28,9 +29,12 @@ use Rattle.prg_values.specs.Operators.{operated, prefix_fun}
 use Rattle.prg_values.specs.Readings.{Scoped, on_some, read_name, read_qualified}
 use Rattle.prg_values.specs.declared.pieces.Piece.{Piece}
 use Rattle.prg_values.specs.declared.pieces.Piece.TheVariants.{Constant, Does}
-use Rattle.prg_values.specs.Written.{IsPiece, calls, meaning, choice, question_kind, of_none, called_kind, prefixed_kind, operated_kind, kind_in, kinds_in, reading_pieces, constants, chosen, call_pieces, prefix_pieces, denial, operation_pieces, operator_pieces, turned as in_turn, pieces_in, all_pieces, defaults}
+use Rattle.prg_values.specs.Written.{IsPiece, calls, meaning, choice, question_kind, of_none, called_kind}
+use Rattle.prg_values.specs.Written.{prefixed_kind, operated_kind, kind_in, kinds_in, reading_pieces, constants, chosen}
+use Rattle.prg_values.specs.Written.{call_pieces, prefix_pieces, denial, operation_pieces, operator_pieces}
+use Rattle.prg_values.specs.Written.{turned as in_turn, pieces_in, all_pieces, defaults}
 use Rattle.fit_laws.proofs.Covered.{kinds_same}
-use Rattle.fit_laws.proofs.Values.{ResultLaw}
+use Rattle.run_laws.proofs.Tests.{ResultLaw}
 use Rattle.expr_laws.specs.Meaning.{Sight, applied_to, operands, value_in, values_in}
 use Rattle.expr_laws.proofs.Defaults.{alone, all_kinds}
 use Rattle.expr_laws.proofs.Machines.{Run, Machine, Puts, Goes, parts_of, onto, onto_both, through, all_fit}

@@ -19,10 +19,13 @@ use Rattle.prg_values.specs.declared.operators.OperatorMeaning.{OperatorMeaning}
 use Rattle.prg_values.specs.declared.scope.FieldPlace.{FieldPlace}
 use Rattle.prg_values.specs.declared.scope.Reading.{Reading}
 use Rattle.prg_values.specs.Operators.{prefix_fun}
-use Rattle.prg_values.specs.Readings.{Scoped, on_some, read_name, read_qualified, variable, loads, field_reading, field_here, here_reading, alias_area, field_of_area, field_in, area_at}
+use Rattle.prg_values.specs.Readings.{Scoped, on_some, read_name, read_qualified, variable, loads, field_reading}
+use Rattle.prg_values.specs.Readings.{field_here, here_reading, alias_area, field_of_area, field_in, area_at}
 use Rattle.prg_values.specs.declared.pieces.Piece.{Piece}
 use Rattle.prg_values.specs.declared.pieces.Piece.TheVariants.{Constant, Does}
-use Rattle.prg_values.specs.Written.{IsPiece, meaning, defaults, kind_in, kinds_in, reading_pieces, constants, chosen, call_pieces, prefix_pieces, denial, operation_pieces, operation_in, operator_pieces, turned as in_turn, pieces_in, all_pieces}
+use Rattle.prg_values.specs.Written.{IsPiece, meaning, defaults, kind_in, kinds_in, reading_pieces, constants, chosen}
+use Rattle.prg_values.specs.Written.{call_pieces, prefix_pieces, denial, operation_pieces, operation_in}
+use Rattle.prg_values.specs.Written.{operator_pieces, turned as in_turn, pieces_in, all_pieces}
 use Rattle.expr_laws.proofs.Names.{is_load}
 use Rattle.fit_laws.proofs.Runs.{some_same, none_some}
 use Rattle.expr_laws.proofs.Options.{found}

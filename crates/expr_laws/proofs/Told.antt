@@ -1,5 +1,6 @@
 -- The kind that is known of an expression is the kind of its value.
-use Rattle.std.proofs.Common.{◌≡◌, Bool, true, false, List, [], ◌∷◌, ◌++◌, length, map, Option, Some, None, refl, sym, ap, ◌∙◌, subst}
+use Rattle.std.proofs.Common.{◌≡◌, Bool, true, false, List, [], ◌∷◌, ◌++◌, length, map, Option, Some, None, refl, sym}
+use Rattle.std.proofs.Common.{ap, ◌∙◌, subst}
 use Rattle.xvalue.specs.declared.kind.Kind.{Kind}
 use Rattle.xvalue.specs.declared.kind.Kind.TheVariants as kind
 use Rattle.xvalue.specs.declared.fun.Fun.{Fun}
@@ -27,10 +28,14 @@ use Rattle.prg_values.specs.declared.scope.Reading.{Reading}
 use Rattle.prg_values.specs.Operators.{operated, prefix_fun}
 use Rattle.prg_values.specs.Readings.{Scoped, on_some, read_name, read_qualified}
 use Rattle.prg_values.specs.declared.pieces.Piece.{Piece}
-use Rattle.prg_values.specs.Written.{meaning, choice, reading_kind, completed, function_kind, question_kind, of_none, called_kind, prefixed_kind, operated_kind, kind_in, kinds_in, reading_pieces, constants, chosen, call_pieces, prefix_pieces, operation_pieces, operation_in, operator_pieces, turned as in_turn, pieces_in, all_pieces, defaults}
+use Rattle.prg_values.specs.Written.{meaning, choice, reading_kind, completed, function_kind, question_kind, of_none}
+use Rattle.prg_values.specs.Written.{called_kind, prefixed_kind, operated_kind, kind_in, kinds_in, reading_pieces}
+use Rattle.prg_values.specs.Written.{constants, chosen, call_pieces, prefix_pieces, operation_pieces, operation_in}
+use Rattle.prg_values.specs.Written.{operator_pieces, turned as in_turn, pieces_in, all_pieces, defaults}
 use Rattle.fit_laws.proofs.Covered.{kinds_same, joined}
-use Rattle.fit_laws.proofs.Values.{ResultLaw}
-use Rattle.expr_laws.specs.Meaning.{Sight, nothing, applied_to, denied_if, operands, operation_value, operated_value, prefixed_value, chosen_value, called_value, value_in, values_in}
+use Rattle.run_laws.proofs.Tests.{ResultLaw}
+use Rattle.expr_laws.specs.Meaning.{Sight, nothing, applied_to, denied_if, operands, operation_value, operated_value}
+use Rattle.expr_laws.specs.Meaning.{prefixed_value, chosen_value, called_value, value_in, values_in}
 use Rattle.expr_laws.proofs.Operands.{operated_sound}
 use Rattle.expr_laws.proofs.Machines.{Run, Machine, Puts, Fit, fit_parts}
 use Rattle.fit_laws.proofs.Runs.{some_same, none_some}

@@ -1,5 +1,6 @@
 -- The code of an expression leaves its value on top.
-use Rattle.std.proofs.Common.{◌≡◌, ℕ, suc, Bool, true, false, List, [], ◌∷◌, ◌++◌, length, map, drop, Option, Some, None, refl, sym, ap, ◌∙◌, subst}
+use Rattle.std.proofs.Common.{◌≡◌, ℕ, suc, Bool, true, false, List, [], ◌∷◌, ◌++◌, length, map, drop, Option, Some}
+use Rattle.std.proofs.Common.{None, refl, sym, ap, ◌∙◌, subst}
 use Rattle.std.proofs.lemmas.List.{length-map}
 use Rattle.xvalue.specs.declared.kind.Kind.{Kind}
 use Rattle.xvalue.specs.declared.kind.Kind.TheVariants as kind
@@ -29,10 +30,15 @@ use Rattle.prg_values.specs.Operators.{operated, prefix_fun}
 use Rattle.prg_values.specs.Readings.{Scoped, on_some, read_name, read_qualified}
 use Rattle.prg_values.specs.declared.pieces.Piece.{Piece}
 use Rattle.prg_values.specs.declared.pieces.Piece.TheVariants.{Constant, Does}
-use Rattle.prg_values.specs.Written.{calls, meaning, choice, reading_kind, function_kind, question_kind, of_none, called_kind, prefixed_kind, operated_kind, kind_in, kinds_in, reading_pieces, constants, chosen, call_pieces, prefix_pieces, denial, operation_pieces, operator_pieces, turned as in_turn, pieces_in, all_pieces, defaults}
-use Rattle.fit_laws.proofs.Values.{ResultLaw}
-use Rattle.expr_laws.specs.Meaning.{Sight, nothing, applied_to, denied_if, operands, operation_value, prefixed_value, chosen_value, called_value, value_in, values_in}
-use Rattle.expr_laws.proofs.Machines.{Run, Machine, Puts, Goes, parted, goes_nowhere, goes_by, goes_constant, onto, onto_both, Fit, fit_parts}
+use Rattle.prg_values.specs.Written.{calls, meaning, choice, reading_kind, function_kind, question_kind, of_none}
+use Rattle.prg_values.specs.Written.{called_kind, prefixed_kind, operated_kind, kind_in, kinds_in, reading_pieces}
+use Rattle.prg_values.specs.Written.{constants, chosen, call_pieces, prefix_pieces, denial, operation_pieces}
+use Rattle.prg_values.specs.Written.{operator_pieces, turned as in_turn, pieces_in, all_pieces, defaults}
+use Rattle.run_laws.proofs.Tests.{ResultLaw}
+use Rattle.expr_laws.specs.Meaning.{Sight, nothing, applied_to, denied_if, operands, operation_value, prefixed_value}
+use Rattle.expr_laws.specs.Meaning.{chosen_value, called_value, value_in, values_in}
+use Rattle.expr_laws.proofs.Machines.{Run, Machine, Puts, Goes, parted, goes_nowhere, goes_by, goes_constant, onto}
+use Rattle.expr_laws.proofs.Machines.{onto_both, Fit, fit_parts}
 use Rattle.expr_laws.proofs.Stacks.{arguments_back, rest_back}
 use Rattle.expr_laws.proofs.Defaults.{alone, all_kinds}
 use Rattle.expr_laws.proofs.Operands.{operated_sound, two_taken, choice_takes}

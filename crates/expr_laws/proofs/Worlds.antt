@@ -26,7 +26,7 @@ use Rattle.run_steps.specs.Safe.{IsSafe}
 use Rattle.run_steps.specs.Shapes.{HasShape}
 use Rattle.run_laws.proofs.Known.{known_of}
 use Rattle.fit_laws.specs.Fits.{IsFitting}
-use Rattle.fit_laws.proofs.Values.{ResultLaw}
+use Rattle.run_laws.proofs.Tests.{ResultLaw}
 use Rattle.expr_laws.specs.Meaning.{value_in}
 use Rattle.expr_laws.specs.Seeing.{sight, StandsAt, HasWay, IsThere, with_value}
 use Rattle.expr_laws.proofs.Machines.{Run, Machine, Goes, all_fit}

@@ -27,7 +27,7 @@ pub enum ReadFault {
 #[derive(Clone, Copy, PartialEq, Eq, Debug)]
 pub struct Device;
 
-/// Files by name, of which nothing but this trait's calls is known to the rest of the program.
+/// Files by name. The rest of the program knows nothing of them but this trait's calls.
 pub trait Files {
     /// What the file of a name may hold: these bytes, or none where there is no such file. For files whose content a
     /// proof can know, as those of a map in memory, it is what they hold; for a folder of a disk it is anything.
@@ -49,7 +49,7 @@ pub trait Files {
         ensures kept { SameFiles (holds self.old) (holds self.new) };
 
     /// Replaces a file by these bytes, or makes it, whole or not at all: on a refusal no file changes, and the count of
-    /// device failures rose in this call, or is at its greatest. That memory is refused is a failure of the device.
+    /// device failures rose in this call, or is at its greatest. Refused memory is a failure of the device.
     fn replace(&mut self, name: &str, bytes: &[u8]) -> Result<(), Device>
         ensures replaced { OnOk result (IsReplaced (holds self.old) name.now bytes.now (holds self.new)) }
         ensures device { OnErr result (Rose (failed self.old) (failed self.new)) }

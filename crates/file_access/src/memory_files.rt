@@ -186,7 +186,7 @@ impl Files for MemoryFiles<'_> {
     }
 }
 
-/// Of a name, files in memory hold one thing alone.
+/// Files in memory hold one thing alone for each name.
 pub fn files_in_memory_hold_one_thing()
     ensures { (written : List WrittenFile) (entries : List MemoryEntry) → HoldsOneThing (HoldsWritten written entries) }
 {}

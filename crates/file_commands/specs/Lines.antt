@@ -1,11 +1,10 @@
 -- The lines of listings. The byte 32 is a blank, 10 ends a line.
-use Rattle.std.specs.Prelude.{ℕ, ◌+◌, ◌-◌, Bool, List, [], ◌∷◌, ◌++◌, length, map, replicate, codes}
-use Rattle.std.specs.Prelude.{if◌then◌else◌}
+use Rattle.std.specs.Prelude.{ℕ, ◌+◌, ◌-◌, List, [], ◌∷◌, ◌++◌, length, map, replicate, codes}
 use Rattle.std.specs.List.{flat_map}
 use Rattle.std.specs.Fmt.{decimal}
 use Rattle.dbf_file.specs.declared.field.Field.{Field}
 use Rattle.dbf_file.specs.Fields.{code_of}
-use Rattle.dbf_file.specs.Rows.{Row}
+use Rattle.dbf_file.specs.Rows.{Row, mark_byte}
 use Rattle.dbf_file.specs.Values.{value_of}
 use Rattle.key_lists.specs.KeyForm.{KeyForm}
 use Rattle.key_lists.specs.Pairs.{Pair}
@@ -48,12 +47,9 @@ cells [] texts = []
 cells (f ∷ fields) [] = []
 cells (f ∷ fields) (text ∷ texts) = 32 ∷ (cell f text ++ cells fields texts)
 
-abbrev pub mark_shown : Bool → ℕ
-mark_shown marked = if marked then 42 else 32
-
--- the row's number, a blank, its mark and its cells
+-- the row's number, a blank, its mark as a table's file has it, and its cells
 unfoldable pub row_line : List Field → ℕ → Row → List ℕ
-row_line fields n row = in_seven_places n ++ 32 ∷ mark_shown row.marked ∷ (cells fields row.texts ++ 10 ∷ [])
+row_line fields n row = in_seven_places n ++ 32 ∷ mark_byte row.marked ∷ (cells fields row.texts ++ 10 ∷ [])
 
 -- rows are numbered from 1
 abbrev pub row_lines : List Field → ℕ → List Row → List ℕ

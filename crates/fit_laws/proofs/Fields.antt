@@ -56,7 +56,7 @@ field_told code m s a f slots stack t desks is_open fits o e h =
     subst (λ (x : Option Kind). Tells slots (known (Some x) ++ stack) (on_table (area_table s a) t (λ o. pushed (field_of f o) t))) (sym kind)
     (subst (λ (x : Option OpenState). Tells slots (k ∷ stack) (on_table x t (λ o. pushed (field_of f o) t))) (sym o.there) made)
 
-asked_kind : (q : Question) (o : OpenState) → kind_of (answer q o) ≡ kind_asked q
+pub asked_kind : (q : Question) (o : OpenState) → kind_of (answer q o) ≡ kind_asked q
 asked_kind Recno o = refl
 asked_kind Reccount o = refl
 asked_kind Eof o = refl

@@ -37,7 +37,7 @@ use Rattle.run_steps.specs.Needs.{Needs}
 use Rattle.run_steps.specs.Shapes.{StoreFits, HasShape}
 use Rattle.run_laws.proofs.Known.{Known, known_of, OpenThere, open_there}
 use Rattle.run_laws.proofs.Ready.{ready}
-use Rattle.run_laws.proofs.Tests.{all_within}
+use Rattle.run_laws.proofs.Tests.{ResultLaw, all_within}
 use Rattle.fit_laws.specs.Fits.{Fits, procedure_at, Awaits, IsFitting}
 use Rattle.fit_laws.proofs.Clear.{Rules, rules, outside}
 use Rattle.fit_laws.proofs.Covered.{Covered, covered, Desks, kinds_same}
@@ -50,7 +50,7 @@ use Rattle.fit_laws.proofs.Jumps.{value_falls, screen_falls, area_falls, move_fa
 use Rattle.fit_laws.proofs.Loads.{loads_well}
 use Rattle.fit_laws.proofs.Returns.{exit_covered}
 use Rattle.fit_laws.proofs.StoreDesks.{desk_is}
-use Rattle.fit_laws.proofs.Values.{Tells, ResultLaw, AnswerLaw, drop_told, holds, value_told, screen_told}
+use Rattle.fit_laws.proofs.Values.{Tells, AnswerLaw, drop_told, holds, value_told, screen_told}
 use Rattle.run_laws.proofs.Changes.{value_store, screen_store}
 
 pub covers_made : (m s : State) → slots_covered m.slots s.slots ≡ true → desk_covered m.desk s.desk ≡ true → m.stack ≡ s.stack → covers m s ≡ true
@@ -145,8 +145,17 @@ pub record Before (code : Code) (w : World) (i : Instr) : Type 0 where
   pub store : StoreFits code.declared w.env.store
   pub apart : AreApart w.env.store.areas
 
-pub before : (code : Code) (w : World) (i : Instr) → Facts code → HasShape code w → AreApart w.env.store.areas → is_instr code.declared.version i ≡ true → IsClear code w i → Before code w i
-before code w i f h apart legal c = record { clear = c; needs = (ready kinds_same code w i f h legal c).needs; known = known_of code.declared (state_of w) h.state; store = h.store; apart = apart }
+pub before : ResultLaw → (code : Code) (w : World) (i : Instr) → Facts code → HasShape code w
+    → AreApart w.env.store.areas → is_instr code.declared.version i ≡ true → IsClear code w i → Before code w i
+before results code w i f h apart legal c =
+    record {
+      clear = c;
+      needs = (ready kinds_same results code w i f h legal c).needs;
+      known = known_of code.declared
+          (state_of w) h.state;
+      store = h.store;
+      apart = apart;
+    }
 
 -- an area that is known to be open
 there : (code : Code) (w : World) (i : Instr) → Before code w i → (a : ℕ) → is_none (open_at (desk_of w.env.store) a) ≡ false → OpenThere code.declared w.env.store a
@@ -230,4 +239,6 @@ pub goes_on : (code : Code) → CoverLaw → ResultLaw → AnswerLaw → Connect
 goes_on code on results answers c keeps facts w f clear e =
     let lt : w.place < length code.instructions = omega (arith, f.shape.place, facts.places) in
     next code on results answers c w f.shape.place f.fits (legal code.declared (state_of w) f.shape.state) (instr_at code w.place) (rules code (here_at code w.place) (outside code c w.place f.shape.place) (keeps w.place lt))
-    (goes code on c w.place f.shape.place) (before code w (instr_at code w.place) facts f.shape f.apart (legal_instr code facts w.place lt) clear) e f.awaits
+    (goes code on c w.place f.shape.place)
+    (before results code w (instr_at code w.place) facts f.shape f.apart (legal_instr code facts w.place lt) clear) e
+    f.awaits

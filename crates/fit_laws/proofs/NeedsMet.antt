@@ -11,11 +11,13 @@ use Rattle.code_items.specs.declared.code.Code.{Code}
 use Rattle.code_items.specs.declared.state.State.{State}
 use Rattle.code_items.specs.Kinds.{slot_covered, slots_covered}
 use Rattle.code_items.specs.declared.instr.Instr.{Instr}
-use Rattle.code_rules.specs.Flow.{flow, left_by}
+use Rattle.code_items.specs.declared.instr.Instr.TheVariants.{Values, Flow, Screen, Areas, Moves, Records}
+use Rattle.code_items.specs.declared.instr.ValueInstr.TheVariants.{Constant, Load, Store, Unset, Discard, Function}
+use Rattle.code_items.specs.declared.instr.ValueInstr.TheVariants.{Today, Set}
+use Rattle.code_rules.specs.Flow.{flow, left_by, slots_after}
 use Rattle.code_rules.specs.Places.{needed, filter_start}
-use Rattle.code_rules.specs.Rules.{has_other, is_free, lacks, filter_lacks}
+use Rattle.code_rules.specs.Rules.{filters, has_other, is_free, lacks, filter_lacks}
 use Rattle.fit_laws.specs.FilterWalks.{Steps, BlockWalks, filter_begun}
-use Rattle.run_laws.proofs.OnMoves.{slots_stay}
 use Rattle.fit_laws.proofs.Covered.{kinds_same}
 use Rattle.fit_laws.proofs.Filtering.{left_is}
 use Rattle.fit_laws.proofs.Loads.{Loads, impossible, loads_well}
@@ -50,9 +52,26 @@ all_met [] known slots c e = c
 all_met (need ∷ needs) known slots c e =
     let p = or_parts (lacks slots need) (list_any (lacks slots) needs) e in
     let q = or_parts (is_free (slice_get slots need.slot)) (has_other need.kind (slice_get slots need.slot)) p.0 in
-    all_met needs (slice_set known need.slot (Some need.kind)) slots (one_met need.kind known slots need.slot c (record { same = q.1; set = q.0 })) p.1
+    all_met needs (slice_set known need.slot (Some need.kind)) slots
+    (one_met need.kind known slots need.slot c (record { same = q.1; set = q.0 })) p.1
 
 -- ---- one instruction, and the whole block
+
+-- what a filter's block may have leaves the slots alone
+slots_stay : (i : Instr) (slots : List (Option Kind)) → filters i ≡ true → slots_after i slots ≡ slots
+slots_stay (Values (Constant n)) slots e = refl
+slots_stay (Values (Load k s)) slots e = refl
+slots_stay (Values (Store k s)) slots e = absurd (cc)
+slots_stay (Values (Unset s)) slots e = absurd (cc)
+slots_stay (Values (Discard k)) slots e = refl
+slots_stay (Values (Function f)) slots e = refl
+slots_stay (Values Today) slots e = refl
+slots_stay (Values (Set x on)) slots e = refl
+slots_stay (Flow i) slots e = refl
+slots_stay (Screen i) slots e = refl
+slots_stay (Areas i) slots e = refl
+slots_stay (Moves i) slots e = refl
+slots_stay (Records i) slots e = refl
 
 abbrev with_slots : List (Option Kind) → State → State
 with_slots slots s = record s { slots = slots }
@@ -76,7 +95,9 @@ steps_more code s slots i c h =
 left_more : (code : Code) (s : State) (slots : List (Option Kind)) (i : Instr) → Steps code s i → with_slots slots (flow code i s) ≡ flow code i (with_slots slots s)
 left_more code s slots i h =
     let a : with_slots slots (flow code i s) ≡ with_slots slots (left_by code i s) = ap (with_slots slots) h.left in
-    let b : with_slots slots (left_by code i s) ≡ left_by code i (with_slots slots s) = ap (λ x. record { desk = (left_by code i s).desk; slots = x; stack = (left_by code i s).stack }) (sym (slots_stay i slots h.stands)) in
+    let b : with_slots slots (left_by code i s) ≡ left_by code i (with_slots slots s) =
+    ap (λ x. record { desk = (left_by code i s).desk; slots = x; stack = (left_by code i s).stack })
+    (sym (slots_stay i slots h.stands)) in
     a ∙ (b ∙ sym (left_is code i (with_slots slots s) h.stands))
 
 walks_more : (code : Code) (instrs : List Instr) (s : State) (slots : List (Option Kind)) → slots_covered s.slots slots ≡ true → BlockWalks code s instrs → BlockWalks code (with_slots slots s) instrs

@@ -8,11 +8,9 @@ use Rattle.xvalue.specs.declared.kind.Kind.{Kind}
 use Rattle.xvalue.specs.declared.kind.Kind.TheVariants.{Text as OfText, Date as OfDate}
 use Rattle.xvalue.specs.declared.value.Value.{Value}
 use Rattle.xvalue.specs.declared.value.Value.TheVariants.{Text, Date}
-use Rattle.xvalue.specs.declared.fun.Fun.{Fun}
-use Rattle.xvalue.specs.declared.settings.Settings.{Settings}
 use Rattle.xvalue.specs.Answers.{answered}
 use Rattle.xvalue.specs.Functions.{applied}
-use Rattle.xvalue.specs.Given.{Given, by_kind}
+use Rattle.xvalue.specs.Given.{by_kind}
 use Rattle.xvalue.specs.Kinds.{kind_of, same_kind}
 use Rattle.xvalue.specs.Signature.{takes_of, gives_of}
 use Rattle.code_items.specs.declared.code.Code.{Code}
@@ -30,6 +28,7 @@ use Rattle.run_values.specs.Tagged.{TaggedValues, HoldsKind, pushed, dropped, lo
 use Rattle.run_steps.specs.World.{World, EnvState, state_of, kind_held}
 use Rattle.run_steps.specs.Effects.{on_value, with_pushed, value_values, screen_values}
 use Rattle.run_steps.specs.Needs.{LoadNeeds}
+use Rattle.run_laws.proofs.Tests.{ResultLaw}
 use Rattle.fit_laws.proofs.Covered.{kinds_same, joined}
 use Rattle.fit_laws.proofs.Covering.{kind_self}
 use Rattle.fit_laws.proofs.Filters.{Legal}
@@ -128,10 +127,6 @@ load_told : (slots : List (Option Kind)) (stack : List Kind) (t : TaggedValues) 
 load_told slots stack t k None e h = absurd e
 load_told slots stack t k (Some None) e h = absurd e
 load_told slots stack t k (Some (Some value)) e h = push_told slots stack t k value e h
-
--- each function gives a value of its kind
-abbrev pub ResultLaw : Type 0
-ResultLaw = (fun : Fun) (settings : Settings) (given : Given) → kind_of (applied fun settings given) ≡ gives_of fun
 
 -- an answer has the kind of the old value
 abbrev pub AnswerLaw : Type 0

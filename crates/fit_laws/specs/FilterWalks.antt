@@ -1,6 +1,5 @@
 -- A filter's block: one instruction behind the other, without a jump or a map.
-use Rattle.std.specs.Prelude.{◌≡◌, ℕ, ◌+◌, ◌-◌, true, false, List, [], ◌∷◌, Option, Some, length, map, take, drop}
-use Rattle.std.specs.Prelude.{nat_lt}
+use Rattle.std.specs.Prelude.{◌≡◌, ℕ, true, false, List, [], ◌∷◌, Option, Some, length, take, drop, nat_lt}
 use Rattle.xvalue.specs.declared.kind.Kind.{Kind}
 use Rattle.xvalue.specs.declared.kind.Kind.TheVariants.{Logical as OfLogical}
 use Rattle.code_items.specs.declared.declared.Filter.{Filter}
@@ -9,21 +8,16 @@ use Rattle.code_items.specs.declared.state.State.{State}
 use Rattle.code_items.specs.declared.instr.Instr.{Instr}
 use Rattle.code_items.specs.Declarations.{filter_of}
 use Rattle.code_items.specs.Kinds.{clashes, same_kinds}
-use Rattle.code_items.specs.Legal.{places_in_all, places_of}
 use Rattle.code_rules.specs.Signature.{signature}
 use Rattle.code_rules.specs.Wants.{wants, gives, unknown}
 use Rattle.code_rules.specs.Flow.{flow, left_by}
 use Rattle.code_rules.specs.Places.{filter_desk}
 use Rattle.code_rules.specs.Rules.{filter_lacks, filters, height_after, loads_other, loads_free, undeclared}
+use Rattle.run_steps.specs.Filters.{block_begin}
 
--- where the block of a filter begins, counted from 1: behind the procedures' blocks and those of the filters before it
-abbrev pub filter_first : Code → ℕ → ℕ
-filter_first code number =
-    places_of code.procedures + places_in_all (map (λ f. f.length) (take (number - 1) code.declared.filters))
-
--- the instructions of its block
+-- the instructions of the block of a filter
 abbrev pub filter_instrs : Code → ℕ → Filter → List Instr
-filter_instrs code number f = take f.length (drop (filter_first code number) code.instructions)
+filter_instrs code number f = take f.length (drop (block_begin code number) code.instructions)
 
 -- an instruction that may stand in a filter and keeps the rules on kinds, slots and heights where s is known
 pub record Steps (code : Code) (s : State) (i : Instr) : Type 0 where

@@ -102,7 +102,7 @@ pub fn fitting_worlds_are_safe_here()
     faultless_worlds_go_on();
 }
 
-/// Each world that a run of an accepted code comes to from one that fits does so too.
+/// From a world that fits, a run of an accepted code comes to worlds that fit.
 pub fn runs_keep_fitting()
     ensures { (code : AnyCode) → IsCode code → Accepted code → (w : AnyWorld) → IsFitting code w
         → (n : ℕ) (v : AnyWorld) → after code w n ≡ Some v → IsFitting code v }

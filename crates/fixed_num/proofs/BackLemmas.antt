@@ -66,10 +66,10 @@ either_digits : (xs ys : List ℕ) (b : Bool) → are_digits xs ≡ true → are
 either_digits xs ys true h g = h
 either_digits xs ys false h g = g
 
-are_digits-rest : (c : ℕ) (cs : List ℕ) → are_digits (c ∷ cs) ≡ true → are_digits cs ≡ true
+pub are_digits-rest : (c : ℕ) (cs : List ℕ) → are_digits (c ∷ cs) ≡ true → are_digits cs ≡ true
 are_digits-rest c cs h = grind (arith, nat_tests)
 
-are_digits-first : (c : ℕ) (cs : List ℕ) → are_digits (c ∷ cs) ≡ true → (48 ≤ c) × (c ≤ 57)
+pub are_digits-first : (c : ℕ) (cs : List ℕ) → are_digits (c ∷ cs) ≡ true → (48 ≤ c) × (c ≤ 57)
 are_digits-first c cs h = (grind (arith, nat_tests), grind (arith, nat_tests))
 
 are_digits-without_zeros : (ds : List ℕ) → are_digits ds ≡ true → are_digits (without_zeros ds) ≡ true
@@ -104,7 +104,7 @@ whole_value n small =
     ∙ (let h : 0 * 10 ^ 19 + n % 10 ^ 19 ≡ n = rw (mod-eq_of_lt small) (omega arith) in h)
 
 -- no byte of a text is a blank
-no_blanks : List ℕ → Bool
+pub no_blanks : List ℕ → Bool
 no_blanks [] = true
 no_blanks (c ∷ cs) = not (c == 32) && no_blanks cs
 
@@ -119,14 +119,14 @@ no_blanks-append (c ∷ cs) ys h g =
     let parts = both_true (not (c == 32)) (no_blanks cs) h in
     ap (λ b. b && no_blanks (cs ++ ys)) parts.0 ∙ no_blanks-append cs ys parts.1 g
 
-without_blanks-none : (xs : List ℕ) → no_blanks xs ≡ true → without_blanks xs ≡ xs
+pub without_blanks-none : (xs : List ℕ) → no_blanks xs ≡ true → without_blanks xs ≡ xs
 unfolding no_blanks
 without_blanks-none [] h = refl
 without_blanks-none (c ∷ cs) h =
     let parts = both_true (not (c == 32)) (no_blanks cs) h in
     ap (λ b. if b then without_blanks cs else c ∷ cs) (not-true (c == 32) parts.0)
 
-no_blanks-reverse : (xs : List ℕ) → no_blanks xs ≡ true → no_blanks (reverse xs) ≡ true
+pub no_blanks-reverse : (xs : List ℕ) → no_blanks xs ≡ true → no_blanks (reverse xs) ≡ true
 unfolding no_blanks
 no_blanks-reverse [] h = refl
 no_blanks-reverse (c ∷ cs) h =
@@ -134,7 +134,7 @@ no_blanks-reverse (c ∷ cs) h =
     ap no_blanks (reverse-append (c ∷ []) cs) ∙ no_blanks-append (reverse cs) (c ∷ []) (no_blanks-reverse cs parts.1)
     (ap (λ b. b && true) parts.0)
 
-no_blanks-digits : (xs : List ℕ) → are_digits xs ≡ true → no_blanks xs ≡ true
+pub no_blanks-digits : (xs : List ℕ) → are_digits xs ≡ true → no_blanks xs ≡ true
 unfolding no_blanks
 no_blanks-digits [] h = refl
 no_blanks-digits (c ∷ cs) h =

@@ -18,10 +18,6 @@ and_false : (b : Bool) → (b && false) ≡ false
 and_false true = refl
 and_false false = refl
 
-and_true : (b : Bool) → (b && true) ≡ b
-and_true true = refl
-and_true false = refl
-
 digit_no_point : (c : ℕ) → is_digit c ≡ true → (c == 46) ≡ false
 digit_no_point c h =
     let low : 48 ≤ c = grind (arith, nat_tests) in

@@ -1,14 +1,13 @@
 -- The digits of a whole number, and the length of a text.
-use Rattle.std.proofs.Common.{◌≡◌, ℕ, zero, suc, ◌+◌, ◌-◌, ◌*◌, ◌/◌, ◌%◌, ◌^◌, ◌<◌, ◌≤◌, ◌⊎◌, Bool, true, false, []}
-use Rattle.std.proofs.Common.{◌∷◌, ◌++◌, ◌==◌, refl, sym, ap, ◌∙◌, subst, inl, inr, ⊎_elim, zero-add, suc-add, arith}
+use Rattle.std.proofs.Common.{◌≡◌, ℕ, zero, suc, ◌+◌, ◌-◌, ◌*◌, ◌/◌, ◌%◌, ◌^◌, ◌<◌, ◌≤◌, ◌⊎◌, Bool, true, false}
+use Rattle.std.proofs.Common.{◌∷◌, ◌==◌, refl, sym, ap, ◌∙◌, subst, inl, inr, ⊎_elim, zero-add, suc-add, arith}
 use Rattle.std.specs.Prelude.{if◌then◌else◌}
 use Rattle.std.proofs.Math.Nat.{div-eq_of_lt, mod-eq_of_lt, div-lt_iff_lt-mul, div-mul-le_self, mul-le-mul_right}
 use Rattle.std.proofs.Math.Nat.{one-le-pow}
 use Rattle.std.proofs.lemmas.Nat.{le-div, pow-add}
 use Rattle.std.proofs.lemmas.Bool.Decides.{nat_tests}
 use Rattle.std.proofs.lemmas.Bool.{cases_lt}
-use Rattle.fixed_num.specs.Number.{finite, signed}
-use Rattle.fixed_num.specs.Text.{last_digits, without_zeros, whole_digits, decimals_text, text_of}
+use Rattle.fixed_num.specs.Text.{last_digits, without_zeros, whole_digits}
 use Rattle.fixed_num.proofs.PowerLemmas.{power_below}
 
 -- a digit above the number is a zero
@@ -67,10 +66,3 @@ digits_fit m d whole power count small is is_whole long few =
     omega (arith, pow-add 10 (count - 1) d, div-mul-le_self m power, ap (λ x. x * power) is_whole) in
     absurd (omega (arith, power_below 19 (count - 1 + d) (omega arith)))
     ) (cases_lt (count + d) 20)) long
-
--- the text of a number by its parts
-pub text_parts : (s : Bool) (m d : ℕ) → (s ≡ true → 0 < m) → text_of (finite (signed s m) d)
-    ≡ (if s then 45 ∷ [] else []) ++ whole_digits (m / 10 ^ d) ++ decimals_text d m
-text_parts false m d h = refl
-text_parts true zero d h = absurd (omega (arith, h refl))
-text_parts true (suc m) d h = refl

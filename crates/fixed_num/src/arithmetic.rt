@@ -44,7 +44,7 @@ fn sum_of_any(first: Num, second: Num) -> Num
     sum_in_two_words(first, second)
 }
 
-/// The same of numbers that with these decimals take more than a word.
+/// The same of numbers that take more than a word with these decimals.
 #[inline(never)]
 fn sum_in_two_words(first: Num, second: Num) -> Num
     ensures { result ≡ sum_of first second }
@@ -188,7 +188,7 @@ fn compared_any(first: Num, second: Num) -> Ordering
     compared_in_two_words(first, second)
 }
 
-/// The same of numbers that with these decimals take more than a word, and of the asterisk value.
+/// The same of numbers that take more than a word with these decimals, and of the asterisk value.
 #[inline(never)]
 fn compared_in_two_words(first: Num, second: Num) -> Ordering
     ensures { result ≡ compared first second }
@@ -272,7 +272,8 @@ impl Num {
         product_of_any(self, other)
     }
 
-    /// The quotient, rounded to the greatest of both numbers of decimals and 2. By zero it is the asterisk value.
+    /// The quotient, rounded to the greatest of both numbers of decimals and 2. A quotient by zero is the asterisk
+    /// value.
     #[inline(always)]
     pub fn div(self, other: Num) -> Num
         ensures { result ≡ quotient_of self other }
@@ -283,8 +284,8 @@ impl Num {
         quotient_of_any(self, other)
     }
 
-    /// `self - other * floor(self / other)` with the greater number of decimals, which has the sign of `other`. By zero
-    /// it is the asterisk value.
+    /// `self - other * floor(self / other)` with the greater number of decimals, which has the sign of `other`. A
+    /// remainder by zero is the asterisk value.
     #[inline(always)]
     pub fn modulo(self, other: Num) -> Num
         ensures { result ≡ modulus_of self other }

@@ -22,25 +22,25 @@ pub fn products_commute()
     ensures { (x y : Number) → product_of x y ≡ product_of y x }
 {}
 
-/// Rounding gives a nearest whole number, and of two as near the greater.
+/// Rounding gives a nearest whole number, the greater of two that are as near.
 pub fn rounds_to_the_nearest()
     ensures { (p q : ℕ) → 0 < q → IsNearest p q (nearest p q) }
 {}
 
-/// The quotient of a remainder is the greatest whole number that isn't above.
+/// The quotient that a remainder goes by is the greatest whole number that isn't above the exact one.
 pub fn floors_are_below()
     ensures { (p : ℤ) (q : ℕ) → 0 < q → IsFloor p q (floored_by p q) }
 {}
 
-/// Below zero and by a divisor below zero the magnitude is rounded, and the quotient's sign stands before it.
+/// A quotient with a dividend or a divisor below zero is that of the magnitudes, rounded, with its sign set after that.
 pub fn rounds_away_from_zero()
     ensures below { (p q : ℕ) → 0 < q → rounded (neg_ℤ (pos p)) (pos q) ≡ neg_ℤ (pos (nearest p q)) }
     ensures by_one_below { (p q : ℕ) → 0 < q → rounded (pos p) (neg_ℤ (pos q)) ≡ neg_ℤ (pos (nearest p q)) }
     ensures both_below { (p q : ℕ) → 0 < q → rounded (neg_ℤ (pos p)) (neg_ℤ (pos q)) ≡ pos (nearest p q) }
 {}
 
-/// A remainder has the divisor's sign: of one sign it is the rest of the magnitudes, of two what that lacks of the
-/// divisor, and without a rest it is 0.
+/// A remainder has the divisor's sign. It is the rest of the magnitudes where both signs are the same, and what that
+/// rest lacks of the divisor where they differ; without a rest it is 0.
 pub fn remainders_have_the_divisors_sign()
     ensures alike { (negative : Bool) (p q : ℕ) → 0 < q
         → remainder_of (signed negative p) (signed negative q) ≡ signed negative (p % q) }

@@ -1,6 +1,8 @@
 -- A name that is put in the place of another one stands in the same folder.
-use Rattle.std.proofs.Common.{◌≡◌, ◌<◌, ◌+◌, ◌-◌, ◌==◌, ◌&&◌, ◌||◌, ◌++◌, not, arith, ap, sym, ◌∙◌, length, length-append, get_or, reverse, refl, ℕ, List, Bool, true, false}
-use Rattle.std.proofs.lemmas.List.{get_or-append_right, get_or-reverse, get_or-take, get_or_append_left, length-reverse, length-take-le, take_at}
+use Rattle.std.proofs.Common.{◌≡◌, ◌<◌, ◌-◌, ◌==◌, ◌&&◌, ◌||◌, ◌++◌, not, arith, ap, sym, ◌∙◌, length, length-append}
+use Rattle.std.proofs.Common.{get_or, reverse, refl, ℕ, List, Bool, true, false}
+use Rattle.std.proofs.lemmas.List.{get_or-append_right, get_or-reverse, get_or-take, get_or_append_left, length-reverse}
+use Rattle.std.proofs.lemmas.List.{length-take-le, take_at}
 use Rattle.std.proofs.lemmas.List.Folds.{list_any_at}
 use Rattle.std.proofs.lemmas.List.Sums.{prefix_len_stops, suffix_len-le-length, suffix_len_is}
 use Rattle.std.specs.List.{list_any, suffix_len}

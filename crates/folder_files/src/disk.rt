@@ -129,8 +129,8 @@ pub(crate) fn write_new<R: Disk>(
     filled
 }
 
-/// Makes the whole new file of a target beside it, down to the device, as what stands there is to be replaced. Whether
-/// it is taken over says if it may be the user's, where it can't be given to the old one's owner and group.
+/// Makes the whole new file of a target beside it, down to the device, with the owner and the mode of what stands
+/// there. Where it is taken over, it may stay the user's if it can't be given to the old owner and group.
 pub(crate) fn write_beside<R: Disk>(
     rt: &R,
     target: &str,
@@ -191,7 +191,7 @@ fn gives<F: Read>(reader: &mut F, bytes: &[u8]) -> io::Result<bool> {
     Err(io::Error::from(ErrorKind::FileTooLarge))
 }
 
-/// Whether the file of a name holds just these bytes; of none, whether there is no such file.
+/// Whether the file of a name holds just these bytes; where none are handed in, whether there is no such file.
 pub(crate) fn holds<R: Disk>(rt: &R, path: &str, bytes: Option<&[u8]>) -> io::Result<bool> {
     match fs::open(rt, path) {
         Ok(file) => {

@@ -23,7 +23,7 @@ pub enum FinishedSave {
     Behind,
 }
 
-/// Why a save that was cut off isn't finished. Nothing was touched, but where the device failed.
+/// Why a save that was cut off isn't finished. Nothing was touched, unless the device failed.
 #[derive(Drop)]
 pub enum UnfinishedSave {
     /// The plan's and note's file is another program's.

@@ -54,7 +54,7 @@ impl Listener for Nobody {
 
 /// The files of the folder in which the program runs: names are those of its files. A file that is replaced has its new
 /// bytes on the device before they take the old ones' place, and keeps its owner and its mode. A failure that is told
-/// leaves the old ones, unless it is that of the folder behind the new ones.
+/// leaves the old ones, unless the device failed at the folder behind the new ones.
 #[derive(Drop)]
 pub struct Folder<'a, R, L> {
     pub(crate) rt: &'a R,

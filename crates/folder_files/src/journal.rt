@@ -254,7 +254,7 @@ fn without_lines(file: File, made: bool) -> JournalFile
 }
 
 impl JournalFile {
-    /// Makes an empty journal, which no file stands for yet. One that is empty counts as none if nobody has it.
+    /// Makes an empty journal, where no file of its name stands. A file that is empty counts as none if nobody has it.
     pub fn make<R: Disk<File = File>>(
         rt: &R,
         name: &str,

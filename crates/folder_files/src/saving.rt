@@ -618,7 +618,7 @@ fn behind_note(unsaved: Unsaved) -> Unsaved
     }
 }
 
-/// As many files as a plan names. A plan is taken away whatever stands at them.
+/// What is taken to stand at as many files as a plan names. A plan is taken away whatever stands at them.
 fn standing_slots(alloc: Global, count: usize) -> Result<Vec<Slot>, AllocError> {
     let mut slots = Vec::new(alloc);
     for _ in 0..count {

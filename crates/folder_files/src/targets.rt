@@ -204,7 +204,7 @@ fn replaceable<R: Disk>(
     Ok(Some((data.dev(), data.ino())))
 }
 
-/// The file under a name, if it can be replaced as it was. Who takes files over doesn't ask for their owners.
+/// The file under a name, if it can be replaced as it was. A user who takes files over needn't give them their owners.
 pub(crate) fn target_of<R: Disk + Alloc<A = Global>>(
     rt: &R,
     name: &str,

@@ -139,8 +139,8 @@ impl FolderDeclared {
         ensures unfit { IfErr result (UnfitIs (WhyNoIndex (F.holds files.old) (taken_state self.now) name.now)) }
         ensures kept { SameFiles (F.holds files.old) (F.holds files.new) }
     {
-        let mut tree = index_file(alloc, files, name)?;
-        match index_shape(alloc, self, name, &mut tree) {
+        let tree = index_file(alloc, files, name)?;
+        match index_shape(alloc, self, name, &tree) {
             Ok(index) => Ok(index),
             Err(unfit) => Err(unfit),
         }

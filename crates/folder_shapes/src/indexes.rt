@@ -67,12 +67,12 @@ fn is_stale_of(tree: &NdxTree, plain: &[u8], listed: &[usize], table: usize) -> 
 }
 
 /// The table of an index, its key, and whether the index is stale.
-pub fn owned_by(alloc: Global, found: &[FoundTable], tree: &mut NdxTree) -> Result<Owned, Unfit>
-    ensures of { IfOk result (λ x. owner_of_index found.now tree.old.form tree.old.pairs ≡ owner.Table x.table) }
-    ensures key { IfOk result (λ x. HasKey found.now tree.old.form.key_length (plain_text_of tree.old.form.key_text)
+pub fn owned_by(alloc: Global, found: &[FoundTable], tree: &NdxTree) -> Result<Owned, Unfit>
+    ensures of { IfOk result (λ x. owner_of_index found.now tree.now.form tree.now.pairs ≡ owner.Table x.table) }
+    ensures key { IfOk result (λ x. HasKey found.now tree.now.form.key_length (plain_text_of tree.now.form.key_text)
         x.table x.key) }
-    ensures stale { IfOk result (λ x. x.stale ≡ is_stale found.now tree.old.form tree.old.pairs x.table) }
-    ensures unfit { IfErr result (UnfitIs (NotOwned found.now tree.old.form tree.old.pairs)) }
+    ensures stale { IfOk result (λ x. x.stale ≡ is_stale found.now tree.now.form tree.now.pairs x.table) }
+    ensures unfit { IfErr result (UnfitIs (NotOwned found.now tree.now.form tree.now.pairs)) }
 {
     let plain = plain_text(alloc, tree.key_text())?;
     let (owner, listed) = owner_of(alloc, found, plain.as_slice(), tree)?;
@@ -92,13 +92,13 @@ pub fn index_shape(
     alloc: Global,
     declared: &FolderDeclared,
     name: &[u8],
-    tree: &mut NdxTree,
+    tree: &NdxTree,
 ) -> Result<(IndexShape, bool), Unfit>
     requires { length declared.now.found.items ≤ 32 }
-    ensures index { IfOk result (λ x. MayIndex (taken_state declared.now) name.now tree.old.form tree.old.pairs x.0) }
-    ensures stale { IfOk result (λ x. x.1 ≡ is_stale declared.now.found.items tree.old.form tree.old.pairs x.0.table) }
-    ensures unfit { IfErr result (UnfitIs (MayNotIndex (taken_state declared.now) name.now tree.old.form
-        tree.old.pairs)) }
+    ensures index { IfOk result (λ x. MayIndex (taken_state declared.now) name.now tree.now.form tree.now.pairs x.0) }
+    ensures stale { IfOk result (λ x. x.1 ≡ is_stale declared.now.found.items tree.now.form tree.now.pairs x.0.table) }
+    ensures unfit { IfErr result (UnfitIs (MayNotIndex (taken_state declared.now) name.now tree.now.form
+        tree.now.pairs)) }
 {
     let Owned { table, key, stale } = owned_by(alloc, declared.found.as_slice(), tree)?;
     let Some(capitals) = capitals(stem(name)) else {

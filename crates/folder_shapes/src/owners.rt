@@ -49,17 +49,15 @@ fn makes(
     Ok(key_of_table(alloc, &found.table, plain, key_length)?.is_some())
 }
 
-/// Whether an index lists a table's rows under the key that its fields make. The list stays as it is.
+/// Whether an index lists a table's rows under the key that its fields make.
 fn lists(
     alloc: Global,
     found: &FoundTable,
     plain: &[u8],
-    tree: &mut NdxTree,
+    tree: &NdxTree,
 ) -> Result<bool, AllocError>
-    ensures answer { IfOk result (λ answer. answer
-        ≡ spec.lists tree.old.form.key_length plain.now tree.old.pairs found.now) }
-    ensures pairs { tree.new.pairs ≡ tree.old.pairs }
-    ensures form { tree.new.form ≡ tree.old.form }
+    ensures { IfOk result (λ answer. answer
+        ≡ spec.lists tree.now.form.key_length plain.now tree.now.pairs found.now) }
 {
     fitting_keys_are_keys();
     let key_length = tree.key_length();
@@ -87,17 +85,15 @@ fn makers(
     Ok(numbers)
 }
 
-/// The numbers of those whose rows it lists. The list stays as it is.
+/// The numbers of those whose rows it lists.
 fn listed(
     alloc: Global,
     tables: &[FoundTable],
     plain: &[u8],
-    tree: &mut NdxTree,
+    tree: &NdxTree,
 ) -> Result<Vec<usize>, AllocError>
-    ensures numbers { IfOk result (λ numbers. numbers.items
-        ≡ spec.numbers_of (spec.lists tree.old.form.key_length plain.now tree.old.pairs) 0 tables.now) }
-    ensures pairs { tree.new.pairs ≡ tree.old.pairs }
-    ensures form { tree.new.form ≡ tree.old.form }
+    ensures { IfOk result (λ numbers. numbers.items
+        ≡ spec.numbers_of (spec.lists tree.now.form.key_length plain.now tree.now.pairs) 0 tables.now) }
 {
     let mut numbers = Vec::new(alloc);
     for (t, found) in tables.iter().enumerate() {
@@ -121,18 +117,16 @@ fn owner_among(makers: &[usize], listed: &[usize]) -> Owner
 }
 
 /// The table to which an index belongs, and the numbers of those whose rows it lists. `plain` is the plain text of its
-/// key. The list stays as it is.
+/// key.
 pub fn owner_of(
     alloc: Global,
     tables: &[FoundTable],
     plain: &[u8],
-    tree: &mut NdxTree,
+    tree: &NdxTree,
 ) -> Result<(Owner, Vec<usize>), AllocError>
-    requires { plain.now ≡ plain_text tree.old.form.key_text }
-    ensures owner { IfOk result (λ x. x.0 ≡ spec.owner_of tables.now tree.old.form tree.old.pairs) }
-    ensures listed { IfOk result (λ x. x.1.items ≡ spec.listed_tables tables.now tree.old.form tree.old.pairs) }
-    ensures pairs { tree.new.pairs ≡ tree.old.pairs }
-    ensures form { tree.new.form ≡ tree.old.form }
+    requires { plain.now ≡ plain_text tree.now.form.key_text }
+    ensures owner { IfOk result (λ x. x.0 ≡ spec.owner_of tables.now tree.now.form tree.now.pairs) }
+    ensures listed { IfOk result (λ x. x.1.items ≡ spec.listed_tables tables.now tree.now.form tree.now.pairs) }
 {
     let makers = makers(alloc, tables, plain, tree.key_length())?;
     let listed = listed(alloc, tables, plain, tree)?;

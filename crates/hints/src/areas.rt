@@ -41,12 +41,12 @@ pub enum AreasHint<'a> {
         chosen: Chosen,
         place: usize,
     },
-    /// Ways leave this one otherwise.
+    /// Ways that meet leave this one in different states.
     Unsure {
         chosen: Chosen,
         place: usize,
     },
-    /// Ways leave those otherwise of which nothing is known.
+    /// Ways that meet leave those of which nothing is known in different states.
     SomeUnsure(&'a [HeldTable]),
     /// This letter stands before an arrow, and this table is open in its work area.
     Lettered {
@@ -61,7 +61,7 @@ pub enum AreasHint<'a> {
     },
 }
 
-/// The first of these, if they are one word and an arrow behind it.
+/// The first of these words, if it is a name with an arrow behind it.
 fn alias_of<'a>(words: &[Token<'a>]) -> Option<&'a [u8]> {
     match words {
         [Token::Name(alias), Token::Arrow, ..] => Some(*alias),
@@ -204,7 +204,7 @@ fn is_table(there: &HeldTable, table: &Name) -> bool
     }
 }
 
-/// What to do where a table may be open already that is to be opened.
+/// What to do where the table that is to be opened may be open already.
 fn of_open<'a>(met: &'a MetAreas, words: &[Token<'_>]) -> Option<AreasHint<'a>>
     ensures { IfSome result (IsTrueOf met.now) }
 {
@@ -285,7 +285,7 @@ impl Display for Shown<'_> {
     }
 }
 
-/// What stands between the numbers of work areas, before the one with so many before it, of so many.
+/// What stands before the number of a work area in a list of `count`, of which `before` stand in front of it.
 fn between(before: usize, count: usize) -> &'static str {
     if before == 0 {
         ""
@@ -319,7 +319,7 @@ fn put_ways<W: Write>(f: &mut Formatter<W>, ways: &[Option<HeldTable>]) -> fmt::
     Ok(())
 }
 
-/// Of how many work areas nothing is known, but for this one.
+/// The number of other work areas of which nothing is known.
 fn count_unsure(areas: &[HeldTable], but: Option<usize>) -> usize {
     let mut count = 0usize;
     for (place, held) in areas.iter().enumerate() {

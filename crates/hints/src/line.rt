@@ -30,7 +30,7 @@ fn by_clause(words: &[Token<'_>]) -> Option<LeftOut>
     }
 }
 
-/// What a command asks for that begins with this name, by the word behind it.
+/// What a command that begins with this name asks for, by the word behind it.
 #[tactic(auto, unfolding(crate::specs::LeftOut::by_next))]
 fn by_next(first: &[u8], rest: &[Token<'_>]) -> Option<LeftOut>
     ensures { result ≡ spec.by_next (map to_ascii_uppercase first.now) (words_of rest.now) }
@@ -58,7 +58,7 @@ fn by_beginning(words: &[Token<'_>]) -> Option<LeftOut>
     by_word(*first)
 }
 
-/// What a command asks for that begins with this word.
+/// What a command that begins with this word asks for.
 #[tactic(auto, unfolding(crate::specs::LeftOut::from_first))]
 fn from_first(word: &Token<'_>, rest: &[Token<'_>]) -> Option<LeftOut>
     ensures { result ≡ spec.from_first (word_of word.now) (words_of rest.now) }
@@ -179,8 +179,9 @@ fn asked(alloc: Global, kind: ParseFaultKind, line: &[u8]) -> Option<LeftOut> {
     }
 }
 
-/// What to do about a line of a command file that has this fault, in one sentence without its point: of what is left
-/// out of the language what to write instead, and else what the fault means.
+/// What to do about a line of a command file that has this fault, in one sentence without its point. Where the line
+/// asks for something that is left out of the language, the sentence says what to write instead. Else it says what the
+/// fault means.
 pub fn of_line(alloc: Global, kind: ParseFaultKind, line: &[u8]) -> &'static str
     ensures { is_sentence result.now ≡ true }
 {

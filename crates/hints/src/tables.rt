@@ -24,7 +24,7 @@ fn file_of_line(alloc: Global, line: &[u8]) -> Option<FileName> {
     }
 }
 
-/// Why a file is no table's that may be declared; none where it is one, or where memory was refused.
+/// Why a file isn't that of a table that may be declared. None where it is, or where memory was refused.
 fn note_of<F: Files>(alloc: Global, files: &mut F, file: &FileName) -> Option<Note>
     ensures told { IfSome result (NoTableFile (F.holds files.old) file.now.bytes) }
     ensures kept { SameFiles (F.holds files.old) (F.holds files.new) }

@@ -100,7 +100,7 @@ with_journal f journal = record f { journal = journal }
 abbrev pub with_more_bytes : List ℕ → Folder → Folder
 with_more_bytes bytes f = with_journal f (option_map (λ j. j ++ bytes) f.journal)
 
--- the tables of a save in their places, where they wait; some of them are as many as all
+-- the tables of a save in their places, where they wait; a part of them counts as all
 abbrev pub with_tables_placed : Bool → Folder → Folder
 with_tables_placed false f = f
 with_tables_placed true f = record f { waits = false; tables = New; saves = suc f.saves }

@@ -23,7 +23,7 @@ pub record LinesStand (f : Folder) (lines : List (List ℕ)) : Type 0 where
   pub rest : List (List ℕ)
   pub first : whole_lines bytes ≡ lines ++ rest
 
--- Visits in turn lead from a folder to another one; these lines each session's machine took.
+-- Visits in turn lead from a folder to another one. The lists of lines are those that each session's machine took.
 abbrev pub Passed : List Visit → Folder → List (List (List ℕ)) → Folder → Type 0
 Passed [] f all g = (all ≡ []) × (g ≡ f)
 Passed (Talks s ∷ vs) f all g =

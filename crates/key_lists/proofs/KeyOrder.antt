@@ -17,7 +17,7 @@ slice_cmp-prefix : (k : List ℕ) (b : ℕ) (rest : List ℕ) → slice_cmp nat_
 slice_cmp-prefix [] b rest = refl
 slice_cmp-prefix (a ∷ k) b rest = rw (tied_itself nat_cmp_total a) (slice_cmp-prefix k b rest)
 
-nat_cmp-less : (a b : ℕ) → a < b → nat_cmp a b ≡ Less
+pub nat_cmp-less : (a b : ℕ) → a < b → nat_cmp a b ≡ Less
 nat_cmp-less a b lt = rw (lt-ltb a b lt) refl
 
 pub orders_pairs : OrdersPairs

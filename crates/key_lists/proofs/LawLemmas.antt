@@ -1,7 +1,6 @@
 -- The laws of lists in order.
 use Rattle.std.proofs.Common.{◌≡◌, ℕ, suc, true, false, not, cond, List, [], ◌∷◌, reverse, refl, ap, sym, subst}
-use Rattle.std.specs.Ordering.{is_lt, nat_cmp, ordering_then}
-use Rattle.std.specs.List.{filter, Contains, insert}
+use Rattle.std.specs.List.{insert}
 use Rattle.std.specs.List.Sorted.{IsPermutation}
 use Rattle.std.proofs.lemmas.List.Sorted.{IsPermutation-refl, IsPermutation-trans, IsPermutation-cons}
 use Rattle.std.proofs.lemmas.List.Sorted.{IsPermutation-insert}

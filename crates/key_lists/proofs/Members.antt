@@ -5,8 +5,7 @@ use Rattle.std.specs.List.{filter, Contains}
 use Rattle.std.proofs.lemmas.Bool.{false≢true}
 use Rattle.std.proofs.lemmas.List.{reverse-append}
 use Rattle.std.proofs.lemmas.List.Elements.{Contains-append_cases}
-use Rattle.key_lists.specs.Order.{IsStrictOrder, Each, inserted, without, in_order}
-use Rattle.key_lists.proofs.Ordered.{Each-at}
+use Rattle.key_lists.specs.Order.{IsStrictOrder, inserted, without, in_order}
 
 pub Contains-here : {X : Type 0} (x : X) (xs : List X) (y : X) → y ≡ x → Contains (x ∷ xs) y
 Contains-here x xs y e = (0, omega arith, sym e)
@@ -24,9 +23,6 @@ Contains-cases x xs y c = at c.0 c.1 c.2
 
 pub Contains-none : {X : Type 0} (y : X) → Contains [] y → ⊥
 Contains-none y c = omega (arith, c.1)
-
-pub Each-contains : {X : Type 0} (P : X → Type 0) (xs : List X) (y : X) → Each P xs → Contains xs y → P y
-Each-contains P xs y e c = subst P c.2 (Each-at P xs c.0 y e c.1)
 
 pub Contains-reverse : {X : Type 0} (xs : List X) (y : X) → Contains (reverse xs) y → Contains xs y
 Contains-reverse [] y c = c

@@ -395,13 +395,14 @@ module _ {X : Type 0} (lt : X → X → Bool) (o : IsStrictOrder lt) where
   without-middle xs x ys n = ap (without lt x) (in_order-middle xs x ys)
       ∙ without-inserted x (in_order lt (xs ++ ys)) (Each-in_order lt (λ z. z ≡ x → ⊥) (xs ++ ys) n)
 
-take_drop_at : {X : Type 0} (xs : List X) (i : ℕ) (d : X) → i < length xs
+-- a list around one of its elements
+pub take_drop_at : {X : Type 0} (xs : List X) (i : ℕ) (d : X) → i < length xs
     → xs ≡ take i xs ++ get_or xs i d ∷ drop (suc i) xs
 take_drop_at [] i d lt = absurd (omega arith)
 take_drop_at (x ∷ xs) zero d lt = refl
 take_drop_at (x ∷ xs) (suc i) d lt = ap (λ ys. x ∷ ys) (take_drop_at xs i d (omega arith))
 
-set_at : {X : Type 0} (xs : List X) (i : ℕ) (y : X) → i < length xs → set xs i y ≡ take i xs ++ y ∷ drop (suc i) xs
+pub set_at : {X : Type 0} (xs : List X) (i : ℕ) (y : X) → i < length xs → set xs i y ≡ take i xs ++ y ∷ drop (suc i) xs
 set_at [] i y lt = absurd (omega arith)
 set_at (x ∷ xs) zero y lt = refl
 set_at (x ∷ xs) (suc i) y lt = ap (λ ys. x ∷ ys) (set_at xs i y (omega arith))

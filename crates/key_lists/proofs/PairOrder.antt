@@ -37,9 +37,6 @@ is_before_strict = record {
   total = λ p q e f. pair_cmp_exact p q (both_not_less _ _ (pair_cmp_total.antisymm p q) e f);
 }
 
-not_is : (b a : Bool) → b ≡ a → not b ≡ not a
-not_is b a e = ap not e
-
 -- what is not after a pair goes down along the order
 pub not_after_down : (x p q : Pair) → is_before p q ≡ true → not (is_before x q) ≡ true → not (is_before x p) ≡ true
 not_after_down x p q e f =
@@ -50,10 +47,6 @@ not_after_down x p q e f =
 
 key_total : IsTotalOrder (slice_cmp nat_cmp)
 key_total = nat_list_cmp_total
-
-pub key_before_trans : (a b c : List ℕ) → key_before a b ≡ true → key_before b c ≡ true → key_before a c ≡ true
-unfolding key_before
-key_before_trans a b c e f = ap is_lt (key_total.trans a b c (is_lt-less _ e) (is_lt-less _ f))
 
 -- so does a key that is below a key
 pub key_before_down : (k : List ℕ) (p q : Pair) → is_before p q ≡ true → key_before q.0 k ≡ true

@@ -2,7 +2,6 @@
 use Rattle.std.proofs.Common.{◌≡◌, ℕ, zero, suc, Some, get_or, ◌+◌, ◌<◌, ◌≤◌, true, false, cond, List, [], ◌∷◌, ◌++◌}
 use Rattle.std.proofs.Common.{length, take, drop, refl, ap, sym, ◌∙◌, subst, arith}
 use Rattle.std.proofs.lemmas.Bool.{true_from_ne_false}
-use Rattle.key_lists.specs.Order.{Each}
 use Rattle.key_lists.specs.Pairs.{Pair, is_before}
 use Rattle.key_lists.specs.Rising.{AllBefore, AllAfter, IsRising, with_pair, IsAbsent, place_of, last_of}
 use Rattle.key_lists.proofs.Ordered.{Each-map, Each-append_left, Each-append_right, IsAscending-inserted}
@@ -67,14 +66,6 @@ put_at_place x (y ∷ l) =
       | true ↦ ap (λ (m : List Pair). y ∷ m) (put_at_place x l)
       | false ↦ refl
     ]
-
--- the place, by what stands on either side of it
-pub place_of_from : (x : Pair) (l : List Pair) (n : ℕ) → n ≤ length l → Each (λ y. is_before y x ≡ true) (take n l)
-    → Each (λ y. is_before y x ≡ false) (drop n l) → place_of x l ≡ n
-place_of_from x [] zero le a b = refl
-place_of_from x [] (suc n) le a b = absurd (omega arith)
-place_of_from x (y ∷ l) zero le a b = rw b.0 refl
-place_of_from x (y ∷ l) (suc n) le a b = rw a.0 (ap suc (place_of_from x l n (omega arith) a.1 b))
 
 pub absent_front : (x : Pair) (l r : List Pair) → IsAbsent x (l ++ r) → IsAbsent x l
 absent_front x l r a = Each-append_left (λ y. y ≡ x → ⊥) l r a

@@ -8,6 +8,7 @@ use Rattle.key_lists.specs.Pairs.{Pair, is_before, key_before, pairs_from}
 use Rattle.key_lists.specs.Laws.{begins_with, StandTogether}
 use Rattle.key_lists.proofs.Ordered.{Each-map, Each-filter, filter-all, filter-none}
 use Rattle.key_lists.proofs.KeyOrder.{orders_pairs}
+use Rattle.key_lists.proofs.PairOrder.{not_true}
 use Rattle.key_lists.proofs.Rises.{before_asym}
 
 -- keys go up with the pairs
@@ -68,13 +69,9 @@ between_starts (a ∷ start) (x ∷ low) (y ∷ high) e f b =
 none_behind : (start : List ℕ) (p q : Pair) → not (key_before p.0 start) ≡ true → begins_with start p.0 ≡ false
     → is_before p q ≡ true → begins_with start q.0 ≡ false
 none_behind start p q from other e = elim (begins_with start q.0) as (λ b. begins_with start q.0 ≡ b → b ≡ false) [
-  | true ↦ λ f. absurd (false≢true (sym other ∙ between_starts start p.0 q.0 (not_is from) (not_below p q e) f))
+  | true ↦ λ f. absurd (false≢true (sym other ∙ between_starts start p.0 q.0 (not_true from) (not_below p q e) f))
   | false ↦ λ f. refl
 ] refl
-  where
-    not_is : {b : Bool} → not b ≡ true → b ≡ false
-    not_is {b = true} g = absurd cc
-    not_is {b = false} g = refl
 
 pub stand_together : (pairs : List Pair) → IsAscending is_before pairs → StandTogether pairs
 stand_together [] a start = refl

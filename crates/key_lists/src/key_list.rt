@@ -1,7 +1,8 @@
 //! What a list of keys does, whatever keeps it.
 
 ghost use Rattle.std.specs.Prelude.{◌≡◌, ℕ, ◌+◌, ◌<◌, ◌≤◌, ◌↔◌, ◌^◌, List, OnOk, OnErr, IfOk, IsTrue, Contains, length};
-ghost use Rattle.std.specs.Prelude.{reverse};
+ghost use Rattle.std.specs.Prelude.{reverse, true, false};
+ghost use Rattle.std.specs.Fn.{FnReturnsAt};
 ghost use Rattle.key_lists.specs.Order.{Each, above, below, first, inserted, without, in_order, IsDistinct};
 ghost use Rattle.key_lists.specs.Pairs.{Pair, is_before, pairs_from};
 ghost use Rattle.key_lists.specs.KeyForm.{KeyForm, IsKeyLength, IsKeyText, IsKeyList, IsPairOf};
@@ -88,6 +89,12 @@ pub trait KeyList: Drop {
         ensures form { form self.new ≡ form self.old }
         ensures kept { spare self.old ≤ spare self.new }
         ensures sound { IsKeyList (form self.new) (pairs self.new) };
+
+    /// Whether a test holds of each pair. It is asked of the pairs in order, up to the first of which it doesn't hold.
+    fn all<F: Fn(&Entry) -> bool>(&self, test: &F) -> bool
+        requires { F.IsAlwaysCallable test.now }
+        ensures all { IsTrue result → Each (λ p. FnReturnsAt F.Fn test.now p true) (pairs self.now) }
+        ensures one { result ≡ false → (p : Pair) × Contains (pairs self.now) p × FnReturnsAt F.Fn test.now p false };
 
     /// The least pair.
     fn first(&mut self) -> Option<Entry>

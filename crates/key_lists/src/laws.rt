@@ -12,7 +12,7 @@ pub fn orders_pairs()
     ensures { OrdersPairs }
 {}
 
-/// In a list in order each search answers the least or greatest pair that it is to find.
+/// Each search in a list in order answers the least or greatest pair that it is to find.
 pub fn finds_nearest()
     ensures { (pairs : List Pair) → IsAscending is_before pairs → FindsNearest pairs }
 {}
@@ -33,7 +33,7 @@ pub fn puts_in_order()
     ensures { (pairs : List Pair) → PutsInOrder pairs }
 {}
 
-/// Where one pair of a list is added, removed or replaced, so it is in the list put in order.
+/// A pair that is added to a list, removed from it or replaced there changes the list put in order in the same way.
 pub fn changes_rows()
     ensures { (front : List Pair) (p : Pair) (back : List Pair) → ChangesRows front p back }
 {}

@@ -3,9 +3,10 @@
 ghost use Rattle.std.specs.Prelude.{◌≡◌, ◌+◌, ◌-◌, ◌<◌, ◌≤◌, ◌↔◌, take, drop, reverse, insert, remove, length};
 ghost use Rattle.std.specs.Prelude.{Contains, IsSome, IfSome, IfNone, true, false, IsTrue, vec_len};
 ghost use Rattle.std.specs.Prelude.{vec_capacity};
+ghost use Rattle.std.specs.Fn.{FnReturnsAt};
 ghost use Rattle.key_lists.specs.Order.{Each, IsAscending, above, below, inserted, without, first, in_order};
 ghost use Rattle.key_lists.specs.Order.{IsDistinct};
-ghost use Rattle.key_lists.specs.Pairs.{is_before, pairs_from};
+ghost use Rattle.key_lists.specs.Pairs.{Pair, is_before, pairs_from};
 ghost use Rattle.key_lists.specs.KeyForm.{IsKeyList};
 
 use crate::bytes::held;
@@ -94,6 +95,10 @@ impl KeyList for SortedKeys {
         take_out(&mut self.entries, key, number)
     }
 
+    fn all<F: Fn(&Entry) -> bool>(&self, test: &F) -> bool {
+        all_hold(&self.entries, test)
+    }
+
     fn first(&mut self) -> Option<Entry> {
         entry_at(&self.entries, 0)
     }
@@ -148,6 +153,22 @@ fn take_out(entries: &mut Vec<Entry>, key: &[u8], number: u32) -> bool
         return false;
     };
     entries.remove(at);
+    true
+}
+
+// Whether a test holds of each entry.
+fn all_hold<F: Fn(&Entry) -> bool>(entries: &[Entry], test: &F) -> bool
+    requires { F.IsAlwaysCallable test.now }
+    ensures all { IsTrue result → Each (λ p. FnReturnsAt F.Fn test.now p true) entries.now }
+    ensures one { result ≡ false → (p : Pair) × Contains entries.now p × FnReturnsAt F.Fn test.now p false }
+{
+    let mut rest = entries;
+    while let Some((entry, others)) = rest.split_first() {
+        if !test(entry) {
+            return false;
+        }
+        rest = others;
+    }
     true
 }
 

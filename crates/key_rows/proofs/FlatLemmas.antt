@@ -26,13 +26,6 @@ place_within k i n b e l =
 pub place_at_most : (k i n : ℕ) (b : List ℕ) → length b ≡ n * (k + 4) → i ≤ n → i * (k + 4) ≤ length b
 place_at_most k i n b e l = omega (arith, mul-le-mul_right (k + 4) l, e)
 
-pub count_at_most : (k n : ℕ) (b : List ℕ) → length b ≡ n * (k + 4) → n ≤ length b
-count_at_most k n b e = omega (arith, e)
-
-pub places_apart : (k i n : ℕ) → i ≤ n → i * (k + 4) + (n - i) * (k + 4) ≡ n * (k + 4)
-places_apart k i n l = let e : i + (n - i) ≡ n = omega arith in sym (add-mul i (n - i) (k + 4))
-    ∙ ap (λ j. j * (k + 4)) e
-
 -- ---- what stands there
 
 pub length-pairs_in : (k n : ℕ) (b : List ℕ) → length (pairs_in k n b) ≡ n

@@ -1,11 +1,14 @@
 //! Entries side by side in one row of bytes.
 
 ghost use Rattle.std.specs.Prelude.{◌≡◌, ◌+◌, ◌*◌, ◌-◌, ◌^◌, ◌<◌, ◌≤◌, [], ◌∷◌, ◌++◌, ℕ, length, take, drop, insert};
-ghost use Rattle.std.specs.Prelude.{remove, slice_index_or, slice_set, IfOk, OnOk, OnErr};
+ghost use Rattle.std.specs.Prelude.{remove, slice_index_or, slice_set, IfOk, OnOk, OnErr, true, false, IsTrue};
+ghost use Rattle.std.specs.Prelude.{Contains};
+ghost use Rattle.std.specs.Fn.{FnReturnsAt};
 ghost use Rattle.std.specs.Vec.{vec_capacity, vec_len};
 ghost use Rattle.std.specs.Ordering.{nat_cmp};
 ghost use Rattle.std.specs.Cmp.Lexicographic.{slice_cmp};
 ghost use Rattle.byteorder.specs.Endian.{little_bytes, little_number};
+ghost use Rattle.key_lists.specs.Order.{Each};
 ghost use Rattle.key_lists.specs.Rising.{IsRising, place_of, last_of};
 ghost use Rattle.key_lists.specs.Pairs.{Pair, is_before, key_before};
 ghost use Rattle.key_rows.specs.Flat.{HaveKeys, AreBytes};
@@ -296,6 +299,21 @@ impl Entries {
         ensures room { to.old.room ≤ to.new.room }
     {
         self.copy_tail(0, to);
+    }
+
+    /// Whether a test holds of each entry. It is asked of the entries in order, up to the first of which it doesn't
+    /// hold.
+    pub fn all<F: Fn(&Entry) -> bool>(&self, test: &F) -> bool
+        requires { F.IsAlwaysCallable test.now }
+        ensures all { IsTrue result → Each (λ p. FnReturnsAt F.Fn test.now p true) self.now.items }
+        ensures one { result ≡ false → (p : Pair) × Contains self.now.items p × FnReturnsAt F.Fn test.now p false }
+    {
+        for at in 0..self.len() {
+            if !test(&self.get(at)) {
+                return false;
+            }
+        }
+        true
     }
 
     /// The last entry before a place, if there is one.

@@ -15,7 +15,7 @@ pub enum HeldTable {
     Nothing,
     /// The table of this name.
     Table(Name),
-    /// Ways leave it with other tables, indexes, orders or filters, or closed.
+    /// Different ways leave it with different tables, indexes, orders or filters, or closed.
     Unsure,
 }
 
@@ -25,7 +25,7 @@ pub struct MetAreas {
     /// What they hold.
     pub areas: Vec<HeldTable>,
     /// What each of them holds on a way to the command on which it is selected; none where it is selected on no way.
-    /// It is one work area, but for ways that meet with different ones.
+    /// One alone is selected, unless ways meet that select different ones.
     pub ways: Vec<Option<HeldTable>>,
 }
 
@@ -52,7 +52,7 @@ fn held_on(tables: &[TableShape], way: Option<AreaState>) -> Option<HeldTable>
     }
 }
 
-/// What work areas hold that are in these states.
+/// What work areas in these states hold.
 fn all_held(
     alloc: Global,
     tables: &[TableShape],
@@ -66,7 +66,7 @@ fn all_held(
         .collect(alloc)
 }
 
-/// What work areas hold that are selected on these ways.
+/// What the work areas hold that are selected on these ways.
 fn all_held_on(
     alloc: Global,
     tables: &[TableShape],

@@ -10,7 +10,7 @@ use Rattle.ndx_page.specs.declared.page.PageFault.{PageFault}
 use Rattle.ndx_page.specs.Numbers.{number_at}
 use Rattle.ndx_page.specs.Layout.{most_entries}
 use Rattle.ndx_page.specs.PageLayout.{IsPage, told_entries, told_last, is_told_leaf, page_of, PagesAreTold}
-use Rattle.ndx_page.proofs.ReadLemmas.{Told, told_of, page_told, same_pages}
+use Rattle.ndx_page.proofs.ReadLemmas.{Told, told_of, page_told, same_pages, or_false}
 
 -- of three tests none holds
 none_of : (a b c : Bool) (x y z : PageFault) → is_none (cond a (Some x) (cond b (Some y) (cond c (Some z) None))) ≡ true
@@ -23,10 +23,6 @@ none_of false false false x y z e = (refl, refl, refl)
 some_of : (b : Bool) (q p : Page) → (if b then Some q else None) ≡ Some p → (b ≡ true) × (q ≡ p)
 some_of true q p e = (refl, cc)
 some_of false q p e = absurd cc
-
-parts_false : (a b : Bool) → (a || b) ≡ false → (a ≡ false) × (b ≡ false)
-parts_false true b e = absurd cc
-parts_false false b e = (refl, e)
 
 and_false : (a b : Bool) → a ≡ true → (a && b) ≡ false → b ≡ false
 and_false a b e f = rw e at f
@@ -56,7 +52,7 @@ told_from l bytes count child number = record {
     ap (λ b. if b then 0 else told_last l bytes) leaf,
   );
   inner = λ n. let inner : is_told_leaf bytes ≡ false = ne_eqb (number_at 4 4 bytes) 0 n in
-      let both = parts_false (told_last l bytes == 0) _
+      let both = or_false (told_last l bytes == 0) _
       (subst (λ b. (if b then list_any (λ (e : PageEntry). not (e.child == 0)) (told_entries l bytes)
       else (told_last l bytes == 0 || list_any (λ (e : PageEntry). e.child == 0) (told_entries l bytes))) ≡ false)
       inner child) in

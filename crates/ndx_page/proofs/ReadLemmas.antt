@@ -35,7 +35,7 @@ positive (suc n) some = omega arith
 not_zero : (n : ℕ) → 0 < n → n ≡ 0 → ⊥
 not_zero n some none = omega (arith, some, none)
 
-or_false : (a b : Bool) → (a || b) ≡ false → (a ≡ false) × (b ≡ false)
+pub or_false : (a b : Bool) → (a || b) ≡ false → (a ≡ false) × (b ≡ false)
 or_false true b none = cc
 or_false false b none = (refl, none)
 

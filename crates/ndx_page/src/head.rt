@@ -24,7 +24,7 @@ pub struct Head {
     ghost no_zero: { ¬ (Contains text.items 0) },
 }
 
-/// Why bytes begin with no page 0. Of several faults the first in this order is told.
+/// Why bytes begin with no page 0. The first of several faults in this order is told.
 #[derive(Clone, Copy, Debug, PartialEq, Eq, Error)]
 pub enum HeadFault {
     /// There are fewer than 512 bytes.

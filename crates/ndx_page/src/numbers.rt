@@ -67,7 +67,7 @@ pub(crate) fn append_four(sheet: &mut Sheet, number: u32)
     append(sheet, &bytes);
 }
 
-/// Writes bytes 0, as many.
+/// Writes so many bytes 0.
 pub(crate) fn append_zeros(sheet: &mut Sheet, count: usize)
     requires { array_vec_len sheet.old + count ≤ 512 }
     ensures items { sheet.new.items ≡ sheet.old.items ++ replicate count 0 }

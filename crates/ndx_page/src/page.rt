@@ -24,7 +24,7 @@ pub struct Page {
     pub last: u32,
 }
 
-/// Why 512 bytes are no page. Of several faults the first in this order is told.
+/// Why 512 bytes are no page. The first of several faults in this order is told.
 #[derive(Clone, Copy, Debug, PartialEq, Eq, Error)]
 pub enum PageFault {
     /// The count of entries is above the most.

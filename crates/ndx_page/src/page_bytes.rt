@@ -75,7 +75,7 @@ fn any_recordless(entries: &[PageEntry]) -> bool
 
 /// The page that 512 bytes hold, in a file of this head.
 ///
-/// Not read are the bytes that pad a key, the child after the entries of a leaf, and all bytes after the last child.
+/// The bytes that pad a key, the child after the entries of a leaf, and all bytes after the last child aren't read.
 pub fn read_page(head: &Head, bytes: &[u8; PAGE_SIZE]) -> Result<Page, PageFault>
     // What is read stands in the bytes.
     ensures read { IfOk result (IsPage head.now.length bytes.now) }
@@ -123,8 +123,8 @@ fn append_entry(sheet: &mut Sheet, key_length: usize, entry: &PageEntry)
 
 /// The 512 bytes of a page in a file of this head, with 0 in each byte that has no meaning.
 ///
-/// Of a page that isn't one of such a file, with more entries or longer keys, the entries and the bytes of keys that
-/// there is no room for are left out.
+/// A page with more entries or longer keys isn't one of such a file: the entries and the bytes of keys that there is no
+/// room for are left out.
 pub fn write_page(head: &Head, page: &Page) -> [u8; PAGE_SIZE]
     ensures exact { result ≡ page_text head.now.length page.now }
     // What is written reads as that page.

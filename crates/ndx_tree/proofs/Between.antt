@@ -10,7 +10,7 @@ use Rattle.key_lists.specs.Rising.{IsRising, AllBefore, last_of}
 use Rattle.ndx_tree.specs.IndexFile.{Item, Listed, Between, listed, AreBounds, AreInOrder}
 use Rattle.ndx_tree.specs.Reads.{IsBetween, AreInside, separators_at}
 use Rattle.ndx_tree.specs.declared.walk.Separator.{Separator}
-use Rattle.key_lists.proofs.Ordered.{Each-map, Each-at, Each-append, ascending_at, IsAscending-append, Each-take}
+use Rattle.key_lists.proofs.Ordered.{Each-map, Each-at, ascending_at, IsAscending-append, Each-take}
 use Rattle.key_lists.proofs.Ordered.{Each-drop}
 use Rattle.key_lists.proofs.PairOrder.{key_before_down, key_before_up, not_true}
 use Rattle.std.proofs.Common.{not}
@@ -38,10 +38,6 @@ rising_more l i d some within r e =
     subst IsRising (sym (ap (λ n. take n l) (add-one i) ∙ take_more l i d within))
     (rising_end (take i l) (get_or l i d) r
     (rising_before_last (get_or l (i - 1) d) (get_or l i d) (take i l) last r e))
-
-pub rising_one : (l : List Pair) → IsRising (take 1 l)
-rising_one [] = tt
-rising_one (x ∷ l) = (tt, tt)
 
 -- the keys up to the one before a place
 pub left_from : (l : List Pair) (n : ℕ) (key : List ℕ) (d : Pair) → IsRising l → 0 < n → n ≤ length l
@@ -81,20 +77,6 @@ pub right_to : (l : List Pair) (n : ℕ) (key : List ℕ) (d : Pair) → n < len
 right_to [] n key d within a = absurd (omega arith)
 right_to (x ∷ l) zero key d within a = a.0
 right_to (x ∷ l) (suc n) key d within a = right_to l n key d (omega arith) a
-
-pub right_none : (l : List Pair) (n : ℕ) (key : List ℕ) → length l ≤ n
-    → Each (λ p. key_before p.0 key ≡ false) (drop n l)
-right_none [] zero key le = tt
-right_none [] (suc n) key le = tt
-right_none (x ∷ l) zero key le = absurd (omega arith)
-right_none (x ∷ l) (suc n) key le = right_none l n key (omega arith)
-
--- one more element of which it holds
-pub each_next : {X : Type 0} (P : X → Type 0) (l : List X) (i : ℕ) (x : X) → i < length l → x ≡ get_or l i x
-    → Each P (take i l) → P x → Each P (take (i + 1) l)
-each_next P l i x within is a p = subst (Each P)
-    (sym (ap (λ n. take n l) (add-one i) ∙ take_more l i x within ∙ ap (λ y. take i l ++ y ∷ []) (sym is)))
-    (Each-append P (take i l) (x ∷ []) a (p, tt))
 
 -- ---- separators as items
 

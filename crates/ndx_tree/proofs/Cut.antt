@@ -160,12 +160,6 @@ pub cut_from : (m : ℕ) (es : List Pair) (cs : List PageView) → IsFramed m es
 cut_from m es [] f p = absurd (omega arith)
 cut_from m es (c ∷ cs) f p = f.0
 
-pub children_from : (height m : ℕ) (es : List Pair) (cs : List PageView) → IsFramed m es cs → height_of cs ≡ height + 1
-    → AreChildren height m cs
-children_from height m es [] f e = tt
-children_from height m es (c ∷ cs) f e =
-    let q : c.height ≡ height = omega (arith, e) in subst (λ n. AreChildren n m (c ∷ cs)) q f.1
-
 pub height_of-pos : (cs : List PageView) → 1 ≤ height_of cs
 height_of-pos [] = omega arith
 height_of-pos (c ∷ cs) = omega arith

@@ -60,7 +60,7 @@ followed_ok : (r : Result Seen TreeFault) (f : Seen → Result Seen TreeFault) (
 followed_ok (Ok m) f t e = (m, refl, e)
 followed_ok (Err x) f t e = absurd cc
 
-ok_is : (s t : Seen) → (let o : Result Seen TreeFault = Ok s in o) ≡ Ok t → s ≡ t
+pub ok_is : (s t : Seen) → (let o : Result Seen TreeFault = Ok s in o) ≡ Ok t → s ≡ t
 ok_is s t e = cc
 
 -- three lists side by side

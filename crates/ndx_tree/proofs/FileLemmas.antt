@@ -14,11 +14,11 @@ use Rattle.ndx_page.specs.declared.head.HeadFault.{HeadFault}
 use Rattle.ndx_page.specs.HeadLayout.{IsHead, HeadsAreTold}
 use Rattle.ndx_tree.specs.IndexText.{HoldsOneList}
 use Rattle.ndx_tree.specs.declared.fault.TreeFault.TheVariants as faults
-use Rattle.ndx_tree.proofs.Reading.{IsWalkFault, walk_told}
+use Rattle.ndx_tree.proofs.Reading.{IsWalkFault, walk_told, ok_no}
 use Rattle.key_lists.specs.Pairs.{Pair}
 use Rattle.ndx_tree.specs.Walk.{Seen, pages_of, walk, walk_file, unseen, IsFirstFault}
 use Rattle.ndx_tree.specs.declared.fault.TreeFault.{TreeFault}
-use Rattle.ndx_tree.proofs.Exact.{IsUnder, walk_sound, walk_complete, fresh_front, fresh_back}
+use Rattle.ndx_tree.proofs.Exact.{IsUnder, walk_sound, walk_complete, fresh_front, fresh_back, ok_is}
 
 -- a page in the file is 512 bytes
 pub length-page_at : (n : ℕ) (bytes : List ℕ) → n < page_count bytes → length (page_at n bytes) ≡ 512
@@ -139,12 +139,6 @@ tree_walked laws k root bytes pairs t = (
 
 -- ---- the whole file
 
-ok_same : (s t : Seen) → (let r : Result Seen TreeFault = Ok s in r) ≡ Ok t → s ≡ t
-ok_same s t e = cc
-
-not_both : (s : Seen) (f : TreeFault) → (let r : Result Seen TreeFault = Ok s in r) ≡ Err f → ⊥
-not_both s f e = cc
-
 -- what a walk of an index file meets
 pub record IsMet (bytes : List ℕ) (form : KeyForm) (pairs : List Pair) (head : Head) : Type 0 where
   pub seen : Seen
@@ -206,14 +200,14 @@ pub fault_no_index : PagesAreTold → (bytes : List ℕ) (head : Head) (fault : 
     → IsIndexFile bytes form pairs → ⊥
 fault_no_index laws bytes head fault same w form pairs f =
     let m = index_walked laws bytes form pairs f head same in
-    not_both m.seen fault (sym m.walked ∙ w)
+    ok_no m.seen fault (sym m.walked ∙ w)
 
 pub order_no_index : PagesAreTold → (bytes : List ℕ) (head : Head) (t : Seen) → ((h : Head) → IsHead bytes h → h ≡ head)
     → walk_file head bytes ≡ Ok t → (AreInOrder t.items → ⊥) → (form : KeyForm) (pairs : List Pair)
     → IsIndexFile bytes form pairs → ⊥
 order_no_index laws bytes head t same w none form pairs f =
     let m = index_walked laws bytes form pairs f head same in
-    none (subst (λ (s : Seen). AreInOrder s.items) (ok_same m.seen t (sym m.walked ∙ w)) m.order)
+    none (subst (λ (s : Seen). AreInOrder s.items) (ok_is m.seen t (sym m.walked ∙ w)) m.order)
 
 pub same_list : PagesAreTold → (bytes : List ℕ) (head : Head) (t : Seen) → ((h : Head) → IsHead bytes h → h ≡ head)
     → walk_file head bytes ≡ Ok t → (form other : KeyForm) (pairs others : List Pair) → IsIndexFile bytes form pairs
@@ -224,7 +218,7 @@ same_list laws bytes head t same w form other pairs others f p l x =
       ap (λ n. let k : KeyForm = record { key_length = n; key_text = other.key_text } in k) (l ∙ m.key_length)
           ∙ ap (λ (n : List ℕ). let k : KeyForm = record { key_length = form.key_length; key_text = n } in k)
           (x ∙ m.key_text),
-      p ∙ ap (λ (s : Seen). listed s.items) (sym (ok_same m.seen t (sym m.walked ∙ w))) ∙ sym m.pairs_are,
+      p ∙ ap (λ (s : Seen). listed s.items) (sym (ok_is m.seen t (sym m.walked ∙ w))) ∙ sym m.pairs_are,
     )
 
 pub heads_same : (bytes : List ℕ) (r : Result Head HeadFault) (head : Head) → ((h : Head) → IsHead bytes h → r ≡ Ok h)
@@ -243,6 +237,6 @@ one_list laws heads bytes form other pairs others f g =
           (sym n.key_length ∙ m.key_length) ∙ ap
           (λ (x : List ℕ). let k : KeyForm = record { key_length = form.key_length; key_text = x } in k)
           (sym n.key_text ∙ m.key_text),
-      n.pairs_are ∙ ap (λ (s : Seen). listed s.items) (ok_same n.seen m.seen (sym n.walked ∙ m.walked))
+      n.pairs_are ∙ ap (λ (s : Seen). listed s.items) (ok_is n.seen m.seen (sym n.walked ∙ m.walked))
           ∙ sym m.pairs_are,
     )

@@ -1,6 +1,6 @@
 -- Two pages side by side become one or are parted anew.
 use Rattle.std.proofs.Common.{◌≡◌, ℕ, Some, None, ◌+◌, ◌*◌, ◌<◌, ◌≤◌, ◌/◌, ⊎_elim, List, [], ◌∷◌, ◌++◌, length, refl}
-use Rattle.std.proofs.Common.{ap, sym, ◌∙◌, subst, arith, append_assoc, length-append}
+use Rattle.std.proofs.Common.{ap, sym, ◌∙◌, subst, arith, length-append}
 use Rattle.key_lists.specs.Pairs.{Pair}
 use Rattle.key_lists.specs.Rising.{IsRising, last_of}
 use Rattle.ndx_tree.specs.Pages.{PageView, pairs_of_pages, pairs_of, height_of, view_of, IsCut, IsChild, AreChildren}
@@ -9,7 +9,7 @@ use Rattle.ndx_tree.proofs.Cut.{cut_length, framed_from}
 use Rattle.key_rows.specs.Flat.{HaveKeys}
 use Rattle.ndx_tree.specs.Rooms.{AreKeyed, room_for}
 use Rattle.key_lists.proofs.Ordered.{Each-append, Each-append_left, Each-append_right}
-use Rattle.ndx_tree.proofs.Divide.{IsFair, least_pairs_one, filled_from, leaf_parts, inner_parts}
+use Rattle.ndx_tree.proofs.Divide.{IsFair, least_pairs_one, filled_from, leaf_parts, inner_parts, joined_append}
 use Rattle.ndx_tree.proofs.Keyed.{page_keyed, last_keyed, entries_room, most_is}
 use Rattle.ndx_tree.proofs.Remove.{cut_append}
 
@@ -51,11 +51,6 @@ children_append : (h m : ℕ) (cs ds : List PageView) → AreChildren h m cs →
     → AreChildren h m (cs ++ ds)
 children_append h m [] ds a b = b
 children_append h m (c ∷ cs) ds a b = (a.0, children_append h m cs ds a.1 b)
-
-joined_append : (cs ds : List PageView) → pairs_of_pages (cs ++ ds) ≡ pairs_of_pages cs ++ pairs_of_pages ds
-joined_append [] ds = refl
-joined_append (c ∷ cs) ds = ap (λ (m : List Pair). c.pairs ++ m) (joined_append cs ds)
-    ∙ sym (append_assoc c.pairs (pairs_of_pages cs) (pairs_of_pages ds))
 
 -- what an inner page is with the one beside it
 pub record IsJoined (l r : PageView) (most : ℕ) (es : List Pair) (cs : List PageView) : Type 0 where

@@ -1,12 +1,12 @@
 -- A page loses an entry.
 use Rattle.std.proofs.Common.{◌≡◌, ℕ, zero, suc, true, false, Some, ◌+◌, ◌<◌, ◌≤◌, List, [], ◌∷◌, ◌++◌, length, take}
 use Rattle.std.proofs.Common.{drop, set, get_or, refl, ap, sym, ◌∙◌, subst, arith, length-append, length-set}
-use Rattle.std.proofs.lemmas.List.{append-nil, get_or-set_same, set-get_or}
+use Rattle.std.proofs.lemmas.List.{get_or-set_same, set-get_or}
 use Rattle.std.proofs.lemmas.List.Edits.{length-remove}
 use Rattle.std.proofs.Math.Nat.{mul-le-mul_left}
 use Rattle.key_lists.specs.Pairs.{Pair, is_before}
 use Rattle.key_lists.specs.Rising.{IsRising, last_of, has, without_pair, place_of}
-use Rattle.ndx_tree.specs.Pages.{PageView, pairs_of_pages, pairs_of, height_of, view_of, IsCut, IsChild, AreChildren}
+use Rattle.ndx_tree.specs.Pages.{PageView, pairs_of_pages, height_of, view_of, IsCut, IsChild, AreChildren}
 use Rattle.ndx_tree.specs.Pages.{IsFramedPage, IsWell, IsLight, Removes, IsMending, Mends, least_pairs, least_root}
 use Rattle.ndx_tree.proofs.Cut.{cut_length, pairs_from, cut_from}
 use Rattle.ndx_tree.proofs.Divide.{least_root_one, least_root_two, joined_length, least_pairs_one, least_pairs_pos}
@@ -159,11 +159,3 @@ child_loses now most es (c ∷ cs) x at old a e p n two full g is r =
             cs2 m.page,
       );
     }
-
--- a page without entries of its own, and its one child
-pub only_child : (most : ℕ) (es : List Pair) (cs : List PageView) (d : PageView) → IsFramedPage most es cs
-    → length es ≡ 0 → 1 < height_of cs → (length cs ≡ 1) × (pairs_of es cs ≡ (get_or cs 0 d).pairs)
-    × (height_of cs ≡ (get_or cs 0 d).height + 1) × IsChild (get_or cs 0 d).height most (get_or cs 0 d)
-only_child most es [] d p n h = absurd (omega arith)
-only_child most es (c ∷ []) d p n h = (refl, append-nil c.pairs, refl, p.framed.1.0)
-only_child most es (c ∷ f ∷ cs) d p n h = absurd (omega (arith, cut_length es (c ∷ f ∷ cs) p.framed.0))

@@ -159,17 +159,6 @@ leaf_given k count d page f old new s e h bits level entries separators fits = (
       (Each-append (IsPairOf k) old.entries.items (leaf_pairs page.entries.items) h.fits fits)),
 )
 
-pub leaf_refused : (k count d : ℕ) (page : Page) (f : ℕ → Seen → Result Seen TreeFault) (old new : Found) (s : Seen)
-    → is_level d old.level ≡ false → ShowsSeen k count old s → WalkGives k count (Err faults.Depth) new
-    (visit f d page 0 s)
-leaf_refused k count d page f old new s e h = inr
-    (ap (λ b. cond b
-    (Ok (let t : Seen = record {
-      reached = s.reached;
-      items = s.items ++ all_listed (leaf_pairs page.entries.items);
-      level = Some d;
-    } in t)) (Err faults.Depth)) (sym (ap (is_level d) h.level) ∙ e))
-
 -- ---- a page of the walk
 
 each_from : (P : PageEntry → Type 0) (Q : Pair → Type 0) → ((e : PageEntry) → P e → Q (e.key.items, e.number))
@@ -227,13 +216,6 @@ walk_refused k bytes (suc d) n s fault (inr h) = ap
     (λ page. visit (walk (pages_of k bytes) (page_count bytes) d) d page page.last
     (record { reached = s.reached ++ n ∷ []; items = s.items; level = s.level }))) h.1
     ∙ ap (λ f. let r : Result Seen TreeFault = Err f in r) (sym h.2)
-
--- a page that lies too deep
-pub walk_deep : (k : ℕ) (bytes : List ℕ) (n : ℕ) (s : Seen) (page : Page) → Opens k bytes n s.reached (Ok page)
-    → walk (pages_of k bytes) (page_count bytes) 0 n s ≡ Err faults.Depth
-walk_deep k bytes n s page h = ap (λ b. cond b (Err faults.Reach)
-    (open_page (pages_of k bytes n) (λ _. Err faults.Depth))) h.0 ∙ ap
-    (λ (o : Option Page). open_page o (λ _. Err faults.Depth)) h.1
 
 -- a page that was opened
 pub walk_opened : (k : ℕ) (bytes : List ℕ) (left n : ℕ) (s : Seen) (page : Page) → 0 < left
@@ -356,7 +338,7 @@ IsWalkFault faults.Memory = ⊥
 told : (f g : TreeFault) → IsWalkFault f → (let r : Result Seen TreeFault = Err f in r) ≡ Err g → IsWalkFault g
 told f g h e = let same : f ≡ g = cc in subst IsWalkFault same h
 
-ok_no : (s : Seen) (g : TreeFault) → (let r : Result Seen TreeFault = Ok s in r) ≡ Err g → ⊥
+pub ok_no : (s : Seen) (g : TreeFault) → (let r : Result Seen TreeFault = Ok s in r) ≡ Err g → ⊥
 ok_no s g e = cc
 
 all_told : (f : ℕ → Seen → Result Seen TreeFault) → ((n : ℕ) (s : Seen) (g : TreeFault) → f n s ≡ Err g → IsWalkFault g)

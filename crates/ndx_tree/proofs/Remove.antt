@@ -10,7 +10,7 @@ use Rattle.ndx_tree.specs.Pages.{PageView, pairs_of_pages, pairs_of, height_of, 
 use Rattle.ndx_tree.specs.Pages.{IsFramedPage, AreBut, AreChildrenBesides}
 use Rattle.key_lists.proofs.Rises.{rising_front, rising_back, rising_before_last, last_back, last_some, last_rest}
 use Rattle.key_lists.proofs.Rises.{last_of_take}
-use Rattle.ndx_tree.proofs.Cut.{cut_length}
+use Rattle.ndx_tree.proofs.Cut.{cut_length, child_at}
 use Rattle.ndx_tree.proofs.Divide.{least_pairs_pos}
 
 -- lists
@@ -196,11 +196,6 @@ reparted_cut (suc i) (s ∷ ss) (c ∷ f ∷ cs) a b d t h p e l n =
 
 -- children
 
-pub but_from : (h m i : ℕ) (cs : List PageView) → AreChildren h m cs → AreBut h m i cs
-but_from h m i [] a = tt
-but_from h m zero (c ∷ cs) a = a.1
-but_from h m (suc i) (c ∷ cs) a = (a.0, but_from h m i cs a.1)
-
 pub but_set : (h m i : ℕ) (cs : List PageView) (a : PageView) → AreChildren h m cs → AreBut h m i (set cs i a)
 but_set h m i [] a q = tt
 but_set h m zero (c ∷ cs) a q = q.1
@@ -212,17 +207,11 @@ but_fix h m i [] d a q = tt
 but_fix h m zero (c ∷ cs) d a q = (q (omega arith), a)
 but_fix h m (suc i) (c ∷ cs) d a q = (a.0, but_fix h m i cs d a.1 (λ p. q (omega arith)))
 
-child_there : (h m : ℕ) (cs : List PageView) (i : ℕ) (d : PageView) → AreChildren h m cs → i < length cs
-    → IsChild h m (get_or cs i d)
-child_there h m [] i d a p = absurd (omega arith)
-child_there h m (c ∷ cs) zero d a p = a.0
-child_there h m (c ∷ cs) (suc i) d a p = child_there h m cs i d a.1 (omega arith)
-
 pub but_other : (h m i j : ℕ) (cs : List PageView) (d : PageView) → AreBut h m i cs → j < length cs → (i ≡ j → ⊥)
     → IsChild h m (get_or cs j d)
 but_other h m i j [] d a p n = absurd (omega arith)
 but_other h m zero zero (c ∷ cs) d a p n = absurd (n refl)
-but_other h m zero (suc j) (c ∷ cs) d a p n = child_there h m cs j d a (omega arith)
+but_other h m zero (suc j) (c ∷ cs) d a p n = child_at h m cs j d a (omega arith)
 but_other h m (suc i) zero (c ∷ cs) d a p n = a.0
 but_other h m (suc i) (suc j) (c ∷ cs) d a p n = but_other h m i j cs d a.1 (omega arith) (λ e. n (ap suc e))
 
@@ -288,7 +277,7 @@ last_child m es [] d p n = absurd (omega arith)
 last_child m es (c ∷ cs) d p n =
     let i : length (c ∷ cs) - 1 ≡ length cs = omega arith in
     let one : IsChild c.height m (get_or (c ∷ cs) (length cs) d) =
-    child_there c.height m (c ∷ cs) (length cs) d p.framed.1 (omega arith) in
+    child_at c.height m (c ∷ cs) (length cs) d p.framed.1 (omega arith) in
     let some : 0 < length (get_or (c ∷ cs) (length cs) d).pairs =
     omega (arith, one.filled, least_pairs_pos c.height) in (
       last_of_joined c.height m c cs d p.framed.1 ∙ ap (λ k. last_of (get_or (c ∷ cs) k d).pairs) (sym i),

@@ -12,10 +12,10 @@ use Rattle.std.proofs.Common.{false, cond, [], ◌∷◌, ◌-◌, ◌||◌}
 use Rattle.std.proofs.lemmas.Bool.{false≢true, or_left, or_right}
 use Rattle.std.proofs.Math.Nat.{le-div_iff_mul-le, div-le_self}
 use Rattle.ndx_page.specs.Layout.{entry_size, most_entries}
-use Rattle.key_lists.specs.Order.{Each, without}
+use Rattle.key_lists.specs.Order.{without}
 use Rattle.key_lists.specs.Rising.{has}
-use Rattle.key_lists.specs.KeyForm.{KeyForm, IsKeyList, IsKeyLength, IsPairOf}
-use Rattle.ndx_tree.specs.Blanks.{IsPool, IsBlank, IsInnerBlank}
+use Rattle.key_lists.specs.KeyForm.{KeyForm, IsKeyList, IsPairOf}
+use Rattle.ndx_tree.specs.Blanks.{IsPool}
 use Rattle.ndx_tree.specs.declared.page.SparePages.{SparePages}
 use Rattle.key_lists.proofs.Ordered.{Each-map, absent-Each, filter-all, differs, without-absent}
 use Rattle.key_lists.proofs.PairOrder.{is_before_strict}
@@ -108,27 +108,6 @@ tree_most form root pool n t = (
   omega
       (arith, t.most, most_high form.key_length),
 )
-
--- a root over pairs that rise, with no page that stands ready
-pub tree_built : (form : KeyForm) (root : PageView) (pool : SparePages) (pairs : List Pair)
-    → IsKeyLength form.key_length → (Contains form.key_text 0 → ⊥) → Each (IsPairOf form.key_length) pairs
-    → IsRising pairs → length pairs < 2 ^ 32 → IsRoot root → root.pairs ≡ pairs
-    → root.most ≡ most_entries form.key_length → pool.leaves.items ≡ [] → pool.inner.items ≡ []
-    → IsTree form root pool 0
-tree_built form root pool pairs fits text keys rising few top is most leaves inner = record {
-  list = subst (IsKeyList form) (sym is) (record { key_length = fits; ordered = rising; keys = keys });
-  text = text;
-  top = top;
-  most = most;
-  stock = record {
-    leaves = subst (Each (IsBlank root.most)) (sym leaves) tt;
-    inner = subst
-        (Each (IsInnerBlank root.most)) (sym inner) tt;
-  };
-  one = omega arith;
-  ready = λ p. absurd (omega arith);
-  few = subst (λ (m : List Pair). length m + 0 < 2 ^ 32) (sym is) (omega (arith, few));
-}
 
 -- a root that took a pair
 pub tree_kept : (form : KeyForm) (root new : PageView) (pool pool2 : SparePages) (n m : ℕ) (x : Pair)

@@ -91,11 +91,6 @@ Divides most es cs es2 cs2 p = (pairs_of es2 cs2 ++ p.1.pairs ≡ pairs_of es cs
     × (last_of (pairs_of es2 cs2) ≡ Some p.0) × IsChild (height_of cs) most (view_of most es2 cs2)
     × IsChild (height_of cs) most p.1 × IsFramedPage most es2 cs2
 
--- what a page's parts are seen as and what holds of them, where there may be one entry too many
-pub record IsOver (most : ℕ) (es : List Pair) (cs : List PageView) : Type 0 where
-  pub parts : IsFramedPage most es cs
-  pub one_more : length es ≡ most + 1
-
 -- a page has as many pairs as its entries ask for
 pub record IsWell (v : PageView) : Type 0 where
   pub filled : v.most / 2 ≤ v.count → least_pairs v.height ≤ length v.pairs

@@ -24,7 +24,7 @@ AreGiven first last numbers = Each (λ n. (first < n) × (n ≤ last)) numbers
 abbrev pub AreOthers : ℕ → ℕ → List ℕ → Type 0
 AreOthers first last numbers = Each (λ n. (n ≤ first) ⊎ (last < n)) numbers
 
--- Behind page 0 and so many pages first, the page and those below it stand, up to the page n, which is the page itself.
+-- The page and those below it stand behind page 0 and so many first pages, up to the page n, which is the page itself.
 -- More may follow.
 pub record IsWritten (key_length first n : ℕ) (body : List ℕ) (view : PageView) : Type 0 where
   pub reached : List ℕ
@@ -76,7 +76,7 @@ pub record ArePages (key_length first n : ℕ) (old new : List ℕ) : Type 0 whe
   pub own : Each (IsOwnPage key_length) pages
   pub half : Each (IsHalfFull key_length) pages
 
--- So do a page with so many entries, as the last, and the pages below it.
+-- The pages below a page with so many entries stand so too, and that page is the last.
 pub record IsPageText (key_length first n : ℕ) (old new : List ℕ) (entry_count : ℕ) : Type 0 where
   pub pages : List Page
   pub page : Page

@@ -5,7 +5,7 @@ ghost use Rattle.std.specs.Prelude.{◌≡◌};
 use std::alloc::AllocError;
 use thiserror::Error;
 
-/// Why bytes are no index file. Of several faults the first is told: that of page 0, then those of the pages in the
+/// Why bytes are no index file. The first of several faults is told: that of page 0, then those of the pages in the
 /// order of a walk from the root, each page's children from the left, and then that of the order of the keys.
 #[derive(Clone, Copy, Debug, PartialEq, Eq, Drop, Error)]
 pub enum TreeFault {

@@ -36,9 +36,9 @@ fn tree_of(alloc: Global, head: Head, entries: Entries) -> Result<NdxTree, Alloc
 impl NdxTree {
     /// The tree that an index file of at most 64 MiB holds, built anew from its leaves.
     ///
-    /// Not judged are the bytes of page 0 that have no meaning and its number of pages, pages that the root doesn't
-    /// lead to, and bytes of a page that nothing uses. Where memory is missing, that may be told in place of a fault
-    /// that would have been found later.
+    /// The bytes of page 0 that have no meaning, its number of pages, pages that the root doesn't lead to, and bytes of
+    /// a page that nothing uses aren't judged. Where memory is missing, that may be told in place of a fault that would
+    /// have been found later.
     pub fn read(alloc: Global, bytes: &[u8]) -> Result<NdxTree, TreeFault>
         requires { length bytes.now ≤ 67108864 }
         // What is read stands in the bytes.

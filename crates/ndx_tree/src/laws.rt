@@ -5,7 +5,7 @@ ghost use Rattle.ndx_tree.specs.IndexText.{HoldsOneList};
 
 use ndx_page::laws::{heads_are_told, pages_are_told};
 
-/// Of bytes that are an index file, the list is known, and so is its keys' form.
+/// Bytes that are an index file hold one list alone, whose keys have one form.
 pub fn holds_one_list()
     ensures { HoldsOneList }
 {

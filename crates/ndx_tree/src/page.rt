@@ -4,7 +4,8 @@
 //! the last pair of the child before it. So a search goes into one child alone, and what it looks for is there.
 
 ghost use Rattle.std.specs.Prelude.{◌≡◌, ◌+◌, ◌<◌, ◌≤◌, [], ◌∷◌, ◌++◌, ◌*◌, ◌^◌, length, IsTrue, ◌↔◌, Some, IfOk};
-ghost use Rattle.std.specs.Prelude.{OnOk, ℕ, ◌⊎◌, slice_index_or, slice_set};
+ghost use Rattle.std.specs.Prelude.{OnOk, ℕ, ◌⊎◌, slice_index_or, slice_set, true, false, Contains};
+ghost use Rattle.std.specs.Fn.{FnReturnsAt};
 ghost use Rattle.std.specs.Vec.{vec_capacity, vec_len};
 ghost use Rattle.key_lists.specs.Order.{Each};
 ghost use Rattle.key_lists.specs.Rising.{IsAbsent, IsRising, last_of, first_from, last_below};
@@ -149,6 +150,25 @@ impl TreePage {
             return self.entries.get(self.entries.len() - 1);
         }
         self.children[self.children.len() - 1].last_pair(seen)
+    }
+
+    /// Whether a test holds of each pair. It is asked of the pairs in order, up to the first of which it doesn't hold.
+    pub fn all<F: Fn(&Entry) -> bool>(&self, test: &F) -> bool
+        requires { F.IsAlwaysCallable test.now }
+        ensures all { IsTrue result → Each (λ p. FnReturnsAt F.Fn test.now p true) self.now.pairs }
+        ensures one { result ≡ false → (p : Pair) × Contains self.now.pairs p × FnReturnsAt F.Fn test.now p false }
+    {
+        if self.children.is_empty() {
+            return self.entries.all(test);
+        }
+        let mut rest = self.children.as_slice();
+        while let Some((child, others)) = rest.split_first() {
+            if !child.all(test) {
+                return false;
+            }
+            rest = others;
+        }
+        true
     }
 
     /// Takes a pair out, where it is there.

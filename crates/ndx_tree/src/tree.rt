@@ -237,6 +237,10 @@ impl KeyList for NdxTree {
         true
     }
 
+    fn all<F: Fn(&Entry) -> bool>(&self, test: &F) -> bool {
+        self.root.all(test)
+    }
+
     fn first(&mut self) -> Option<Entry> {
         self.first()
     }

@@ -2,7 +2,7 @@
 use Rattle.std.proofs.Common.{◌≡◌, ℕ, zero, suc, ◌+◌, ◌-◌, ◌<◌, Bool, true, false, not, Option, Some, None, List, []}
 use Rattle.std.proofs.Common.{◌∷◌, ◌++◌, length, filter, take, cond, refl, sym, ap, ◌∙◌, subst, arith, append-nil}
 use Rattle.std.proofs.lemmas.Bool.{false≢true}
-use Rattle.dbf_file.specs.Rows.{Row, row_at, no_row}
+use Rattle.dbf_file.specs.Rows.{Row, row_at}
 use Rattle.dbf_file.specs.Tables.{StructureState}
 use Rattle.open_table.specs.Tried.{tried}
 use Rattle.shape.specs.declared.parts.KeyPart.{KeyPart}

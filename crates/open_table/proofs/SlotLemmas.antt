@@ -131,16 +131,6 @@ left_mark numbers a b e =
     (sym (stale_left (is_among numbers a.number) a.index))
     ∙ ap mark_of (sym e)
 
-room_if : (open_one : Bool) (P : IndexState → Type 0) (a : Option IndexState) → (open_one ≡ true → IfSome a P)
-    → IfSome (cond open_one a None) P
-room_if true P a h = h refl
-room_if false P a h = tt
-
--- those that are left are open, and have room
-pub left_room : (numbers : List ℕ) (a : SlotState) (P : IndexState → Type 0)
-    → (is_among numbers a.number ≡ true → IfSome a.index P) → IfSome (left_if_open numbers a).index P
-left_room numbers a P h = room_if (is_among numbers a.number) P a.index h
-
 -- ---- a loop over all indexes
 
 -- so many have gone, and the others are as they were
@@ -148,9 +138,6 @@ pub record Turned (R : SlotState → SlotState → Type 0) (old items : List Slo
   pub len : length items ≡ length old
   pub done : (i : ℕ) (d : SlotState) → i < n → R (get_or old i d) (get_or items i d)
   pub left : (i : ℕ) (d : SlotState) → n ≤ i → i < length items → get_or items i d ≡ get_or old i d
-
-pub begun : (R : SlotState → SlotState → Type 0) (old : List SlotState) → Turned R old old 0
-begun R old = record { len = refl; done = λ i d lt. absurd (omega arith); left = λ i d le lt. refl }
 
 pub turned : (R : SlotState → SlotState → Type 0) (old items : List SlotState) (n : ℕ) (a b : SlotState)
     → Turned R old items n → n < length items → R (get_or items n a) b → Turned R old (set items n b) (n + 1)

@@ -11,6 +11,7 @@ use Rattle.shape.specs.declared.parts.KeyPart.{KeyPart}
 use Rattle.shape.specs.Keys.{key_of, cased}
 use Rattle.row_keys.specs.Lists.{IndexState, IsExact, index_list, row_pair}
 use Rattle.row_keys.proofs.IndexLemmas.{ListLaw}
+use Rattle.row_moves.proofs.RecordOrder.{length-records}
 use Rattle.row_moves.specs.Orders.{records_from, record_order}
 use Rattle.open_table.specs.Slots.{SlotState, IsSlot, IsListed}
 use Rattle.open_table.proofs.SlotLemmas.{some_weaker}
@@ -21,14 +22,10 @@ records_at n (suc count) zero d lt = (let e : n ≡ n + 0 = omega arith in ap (�
 records_at n (suc count) (suc k) d lt =
     (let e : n + 1 + k ≡ n + suc k = omega arith in records_at (n + 1) count k d (omega arith) ∙ ap (λ m. ([], m)) e)
 
-records_length : (n count : ℕ) → length (records_from n count) ≡ count
-records_length n zero = refl
-records_length n (suc count) = ap suc (records_length (n + 1) count)
-
 -- the records are those from 1 to their count
 pub in_records : (count : ℕ) (p : Pair) → Contains (record_order count) p → (1 ≤ p.1) × (p.1 ≤ count)
 in_records count p there =
-    let within : there.0 < count = omega (arith, there.1, records_length 1 count) in
+    let within : there.0 < count = omega (arith, there.1, length-records 1 count) in
     let number : p.1 ≡ 1 + there.0 = ap (λ (q : Pair). q.1) (sym there.2 ∙ records_at 1 count there.0 p within) in
     (omega arith, omega arith)
 

@@ -45,7 +45,7 @@ form_in structure mark =
 abbrev pub with_stale : IndexMark → Bool → IndexMark
 with_stale m stale = record { number = m.number; parts = m.parts; text = m.text; stale = stale }
 
--- a change of the rows leaves stale each index but the open ones
+-- a change of the rows leaves each index but the open ones stale
 abbrev pub left_stale : List ℕ → List IndexMark → List IndexMark
 left_stale open_numbers marks = map (λ m. with_stale m (m.stale || not (is_among open_numbers m.number))) marks
 

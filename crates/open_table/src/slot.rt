@@ -58,8 +58,8 @@ fn exact_list<K: KeyList>(table: &Table, key: &KeyParts, list: Option<K>) -> Opt
     ensures form { (form : KeyForm) → IfSome list (λ k. K.form k ≡ form) → IfSome result (λ k. K.form k ≡ form) }
 {
     match list {
-        Some(mut keys) => {
-            if lists_rows(table, key, &mut keys) {
+        Some(keys) => {
+            if lists_rows(table, key, &keys) {
                 return Some(keys);
             }
             None

@@ -60,8 +60,8 @@ pub trait Operator {
         ensures answer { IfOk result (λ answer. answered self.new ≡ answered self.old ++ answer_bytes answer) }
         ensures failed { OnErr result (answered self.new ≡ answered self.old) };
 
-    /// The next instruction takes a line, and the input has ended before: the line is empty. The first such line is
-    /// that for which the end was answered, and isn't told so.
+    /// The next instruction takes a line, and the input ended before: the line is empty. This isn't told of the first
+    /// such line, for which `ask` answered the end.
     fn miss(&mut self, view: &Scene<'_>) -> Result<(), OperatorFailed>
         ensures { answered self.new ≡ answered self.old };
 

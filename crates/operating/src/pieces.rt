@@ -46,7 +46,7 @@ fn is_stuck(leg: &Leg, budget: u64, left: u64) -> bool
     }
 }
 
-/// What the end of a leg is, of a run with so much of its budget left.
+/// What the end of a leg is for a run that has so much of its budget left.
 fn end_of(outcome: Outcome, budget: u64, left: u64) -> Piece
     requires within { budget ≤ left }
     ensures { IsEndOf outcome budget left result }

@@ -337,6 +337,7 @@ fn begun<K: KeyList>(
 pub fn can_go_on(handed: &[u8], most: usize) -> bool
     ensures ended { result ≡ true → is_ended_text handed.now ≡ true }
     ensures few { result ≡ true → length handed.now ≤ most }
+    ensures only { is_ended_text handed.now ≡ true → length handed.now ≤ most → result ≡ true }
 {
     if handed.len() > most {
         return false;

@@ -1,5 +1,6 @@
 -- What is told of an answer is what a run makes of it.
-use Rattle.std.proofs.Common.{◌≡◌, ◌∙◌, ◌∷◌, arith, inl, inr, ap, cond, length, not, refl, subst, sym, ℕ, Bool, true, false, List, [], Option, Some, None, ◌||◌}
+use Rattle.std.proofs.Common.{◌≡◌, ◌∙◌, ◌∷◌, arith, inl, inr, ap, cond, length, not, refl, subst, sym, ℕ, Bool, true}
+use Rattle.std.proofs.Common.{false, List, [], Option, Some, None, ◌||◌}
 use Rattle.std.specs.Prelude.{IfSome, is_none}
 use Rattle.std.proofs.lemmas.Bool.{ne_eqb}
 use Rattle.calendar.specs.DateTexts.{date_read}

@@ -1,5 +1,6 @@
 -- Lines without a line end, put together from parts.
-use Rattle.std.proofs.Common.{◌≡◌, ◌+◌, ◌++◌, ◌==◌, not, arith, cond, length, refl, suc, subst, sym, take, ℕ, List, [], ◌∷◌, Bool, true, false}
+use Rattle.std.proofs.Common.{◌≡◌, ◌+◌, ◌++◌, ◌==◌, not, arith, cond, length, refl, suc, subst, sym, take, ℕ, List, []}
+use Rattle.std.proofs.Common.{◌∷◌, Bool, true, false}
 use Rattle.operator_desk.specs.Held.{line_length, first_line}
 
 passes_more : (t : Bool) (a b n m : ℕ) → cond t (1 + a) 0 ≡ 1 + n → (a ≡ n → b ≡ m) → cond t (1 + b) 0 ≡ 1 + m

@@ -141,7 +141,8 @@ AsksTheSame before after =
 abbrev pub rows_gone : Gets → ℕ
 rows_gone gets = gets.sent.rows
 
--- a field on the screen, whose row counted from the first row that was ever sent out
+-- a field whose row is counted from the first row that was ever sent out, on the screen; none where its row was sent
+-- out
 abbrev pub field_on_screen : ℕ → ShownField → Option ShownField
 field_on_screen sent field =
     if nat_lt field.row sent then None

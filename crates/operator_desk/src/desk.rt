@@ -25,7 +25,7 @@ use std::str;
 use terminal_screen::{Drawing, Window, drawn, left, plain_lines, sent_lines};
 use text_lines::without_return;
 
-/// What a person at a terminal is told who ends the input.
+/// What a person at a terminal is told where they end the input.
 const AT_END: &str =
     "Ctrl-C leaves everything for --continue; END typed makes each later line empty";
 

@@ -1,11 +1,11 @@
 -- What grows and grows again has grown.
-use Rattle.std.proofs.Common.{◌≡◌, ℕ, ◌≤◌, List, [], ◌∷◌, ◌++◌, map, length, take, get_or, ◌+◌, ◌<◌, add-one, subst, sym, ap, ◌∙◌, refl}
+use Rattle.std.proofs.Common.{◌≡◌, ℕ, List, [], ◌∷◌, ◌++◌, map, length, take, get_or, ◌+◌, ◌<◌, add-one, subst, sym, ap}
+use Rattle.std.proofs.Common.{◌∙◌, refl}
 use Rattle.std.proofs.lemmas.List.{append_assoc, append-nil, map-append}
 use Rattle.std.proofs.Math.Nat.{le_refl, le_trans}
 use Rattle.std.proofs.Math.Seq.{take-suc}
 use Rattle.code_items.specs.declared.instr.Instr.{Instr}
 use Rattle.code_items.specs.declared.state.State.{State}
-use Rattle.prg_code.specs.declared.block.Draft.{Draft}
 use Rattle.prg_code.specs.declared.block.Draft.TheVariants as draft
 use Rattle.prg_code.specs.declared.block.DraftBlock.{DraftBlock}
 use Rattle.prg_code.specs.declared.work.Output.{Output}
@@ -89,9 +89,6 @@ in_block w b g = record {
 
 -- ---- both
 
-pub same : (o : Output) (w : Work) → Grown o w o w
-same o w = record { output = same_output o; work = same_work w }
-
 pub more : {o p q : Output} {u v w : Work} → Grown o u p v → Grown p v q w → Grown o u q w
 more g h = record { output = more_output g.output h.output; work = more_work g.work h.work }
 
@@ -116,14 +113,7 @@ put_behind {a} {b} {c} is js g h = record {
   known = h.known ∙ ap (λ (s : State). known_behind js s) g.known ∙ sym (known_twice is js a.state);
 }
 
--- none
-pub put_none : (b : DraftBlock) → Puts [] b b
-put_none b = record { drafts = sym (append-nil (drafts_of b)); known = refl }
-
 -- the next of some instructions
 pub put_next : {a b c : DraftBlock} (xs : List Instr) (i : ℕ) (d : Instr) → i < length xs → Puts (take i xs) a b → Puts (get_or xs i d ∷ []) b c → Puts (take (i + 1) xs) a c
 put_next {a} {b} {c} xs i d low g h =
     subst (λ (is : List Instr). Puts is a c) (sym (ap (λ n. take n xs) (add-one i) ∙ take-suc xs i d low)) (put_behind (take i xs) (get_or xs i d ∷ []) g h)
-
--- by these a chain of calls grows
-pub ruleset growth = (same_output, more_output, same_block, more_block, same_work, more_work, in_block, same, more, by_work, by_output)

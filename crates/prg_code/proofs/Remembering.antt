@@ -1,6 +1,6 @@
 -- What is kept of a list in little room is the list again.
-use Rattle.std.proofs.Common.{◌≡◌, ℕ, suc, ◌+◌, ◌-◌, ◌≤◌, List, [], ◌∷◌, ◌++◌, Option, None, take, length, replicate, ap, sym, ◌∙◌, subst, arith}
-use Rattle.std.specs.List.{IsLastAndRest}
+use Rattle.std.proofs.Common.{◌≡◌, ℕ, suc, ◌+◌, ◌-◌, ◌≤◌, List, [], ◌∷◌, ◌++◌, None, length, replicate, ap, sym, ◌∙◌}
+use Rattle.std.proofs.Common.{arith}
 use Rattle.std.proofs.lemmas.List.{append_assoc, append-nil, length-append, length-replicate, take_all}
 use Rattle.code_items.specs.declared.desk.AreaState.TheVariants.{Closed}
 use Rattle.code_items.specs.declared.state.State.{State}

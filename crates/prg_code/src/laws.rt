@@ -11,7 +11,7 @@ pub fn ways_merge()
     ensures { (one two : AnyState) → DoMeet one two → MergesWays one two }
 {}
 
-/// Of a state of ten work areas all but the stack is known again.
+/// A state of ten work areas that was seen is known again, with an empty stack.
 pub fn states_are_known_again()
     ensures { (seen : AnySeen) (state : AnyState) → Remembers seen state → length state.desk.areas ≡ 10
         → state_remembered seen (length state.slots) ≡ record state { stack = [] } }

@@ -1,7 +1,6 @@
 -- What the code of a command of one line adds to what stood.
 use Rattle.std.specs.Prelude.{◌≡◌, ℕ, Bool, List, [], ◌∷◌, Option, Some, None, map, slice_get}
 use Rattle.std.specs.List.{AllZip}
-use Rattle.arrayvec.specs.ArrayVec.{ArrayVec}
 use Rattle.xvalue.specs.declared.kind.Kind.{Kind}
 use Rattle.xvalue.specs.declared.value.Value.{Value}
 use Rattle.shape.specs.declared.whole.Shape.{Shape}
@@ -41,7 +40,7 @@ abbrev pub PutsIf : Option Instr → DraftBlock → DraftBlock → Type 0
 PutsIf None earlier later = Unit {0}
 PutsIf (Some i) earlier later = Puts (i ∷ []) earlier later
 
--- the instruction is put that is all of a command's code, if the command alone tells it
+-- where a command alone decides its code, and that is one instruction, this instruction is put
 abbrev pub PutsAlone : Act → DraftBlock → DraftBlock → Type 0
 PutsAlone act earlier later = PutsIf (only_instr act) earlier later
 

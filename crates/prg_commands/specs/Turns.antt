@@ -1,5 +1,5 @@
 -- What a command of one line does to the way that the commands take.
-use Rattle.std.specs.Prelude.{◌≡◌, ◌⊎◌, Bool, true, false, List, Option, Some, None, map}
+use Rattle.std.specs.Prelude.{◌≡◌, ◌⊎◌, Bool, true, false, Option, Some, None, map}
 use Rattle.prg_expr.specs.Tree.{tree_of}
 use Rattle.prg_line.specs.Act.{Act}
 use Rattle.prg_line.specs.Act as act

@@ -239,7 +239,7 @@ fn all_faults(
 /// The faults for which command files aren't compiled, one of each line: first the one that `compile` tells, then those
 /// that are found behind it, in the order in which code is written. Nothing of a faulty command is written then, a
 /// faulty condition counts as .T., and ways that don't fit together meet all the same; so a line may be faulty only
-/// since an earlier one is. None where `compile` answers a code.
+/// because an earlier one is. None where `compile` answers a code.
 ///
 /// # Errors
 ///

@@ -13,7 +13,8 @@ use std::alloc::{AllocError, Global};
 /// The work areas that there are.
 const AREAS: usize = 10;
 
-/// The work areas that are selected on ways to a place, by their numbers less one: the state of each on one of them.
+/// The work areas that are selected on ways to a place, by their numbers less one. The state of each is that on the
+/// first of the ways that selects it.
 #[derive(Drop)]
 struct Ways {
     selected: Vec<Option<AreaState>>,

@@ -131,7 +131,7 @@ fn names_in(w: &Writer, parameters: &[Name], slots: &[u8]) -> Result<Names, Allo
     Ok(names)
 }
 
-/// Lets the parameters stand for these slots, of two of one name the last one.
+/// Lets the parameters stand for these slots. Where two parameters have one name, the last one counts.
 #[tactic(auto, using(crate::proofs::Naming::named_first))]
 fn name_all(names: &mut Names, parameters: &[Name], slots: &[u8]) -> Result<(), AllocError>
     ensures { OnOk result (SeesParameters parameters.now slots.now names.old names.new) }

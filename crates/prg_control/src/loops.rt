@@ -243,7 +243,7 @@ fn known_again(w: &mut Writer, round: &Round) -> Result<Option<State>, CompileRe
     Ok(Some(state))
 }
 
-/// Remembers what held at the head of a loop that is written, if that took more than one round.
+/// Remembers what held at the head of a loop that is written, if the loop took more than one round.
 fn end_loop(w: &mut Writer, of: Loop) -> Result<(), AllocError>
     ensures same { w.new.out ≡ w.old.out }
 {

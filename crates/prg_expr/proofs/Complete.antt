@@ -1,5 +1,6 @@
 -- What the grammar has, reading finds.
-use Rattle.std.proofs.Common.{◌≡◌, ◌≢◌, ℕ, zero, suc, ◌<◌, ◌⊎◌, inl, inr, List, [], ◌∷◌, ◌++◌, length, take, true, Some, Ok, Err, refl, sym, ap, ◌∙◌, subst, arith, append_assoc, length-append}
+use Rattle.std.proofs.Common.{◌≡◌, ◌≢◌, ℕ, zero, suc, ◌<◌, ◌⊎◌, inl, inr, List, [], ◌∷◌, ◌++◌, length, take, true, Some}
+use Rattle.std.proofs.Common.{Ok, Err, refl, sym, ap, ◌∙◌, subst, arith, append_assoc, length-append}
 use Rattle.std.proofs.lemmas.List.{append-nil}
 use Rattle.prg_expr.specs.declared.fault.ParseFaultKind.{ParseFaultKind}
 use Rattle.prg_expr.specs.declared.function.Function.{Function}
@@ -10,9 +11,15 @@ use Rattle.prg_expr.specs.Tree.{Tree, Trees, count}
 use Rattle.prg_expr.specs.Tree as tree
 use Rattle.prg_expr.specs.Word.{Word}
 use Rattle.prg_expr.specs.Word as word
-use Rattle.prg_expr.specs.Grammar.{looseness, prefix_of, prefix_level, Free, Stands, number, text, logical, name, qualified, parentheses, looser, grouped, compared, prefixed, called, called_bare, Arguments, last, more, max_depth, Spells}
-use Rattle.prg_expr.specs.Reading.{TreeRead, TreeReader, turns, chain, comparison_read, prefix_at, prefixes, parenthesis_closed, separator, arguments, call_read, called_at, qualified_at, named, operand, stage, reader, inside, level_at, parse}
-use Rattle.prg_expr.proofs.Grammar.{free_less, no_operator, an_operator, Plain, plain_append, prefixes_plain, plain, some_at, prefix_levels, never_one, never_five, Unclosed, unclosed_append, unclosed_all, called_unclosed, named_free}
+use Rattle.prg_expr.specs.Grammar.{looseness, prefix_of, prefix_level, Free, Stands, number, text, logical, name}
+use Rattle.prg_expr.specs.Grammar.{qualified, parentheses, looser, grouped, compared, prefixed, called, called_bare}
+use Rattle.prg_expr.specs.Grammar.{Arguments, last, more, max_depth, Spells}
+use Rattle.prg_expr.specs.Reading.{TreeRead, TreeReader, turns, chain, comparison_read, prefix_at, prefixes}
+use Rattle.prg_expr.specs.Reading.{parenthesis_closed, separator, arguments, call_read, called_at, qualified_at, named}
+use Rattle.prg_expr.specs.Reading.{operand, stage, reader, inside, level_at, parse}
+use Rattle.prg_expr.proofs.Grammar.{free_less, no_operator, an_operator, Plain, plain_append, prefixes_plain, plain}
+use Rattle.prg_expr.proofs.Grammar.{some_at, prefix_levels, never_one, never_five, Unclosed, unclosed_append}
+use Rattle.prg_expr.proofs.Grammar.{unclosed_all, called_unclosed, named_free}
 use Rattle.prg_expr.proofs.Sound.{Shorter, shorter, operator_tells, reader_sound, stage_chain}
 
 result_tells : (r : TreeRead) → ((x : Tree × List Word) × (r ≡ Ok x)) ⊎ ((f : ParseFaultKind) × (r ≡ Err f))

@@ -1,66 +1,80 @@
 -- Each function's words name it.
-use Rattle.std.proofs.Common.{◌≡◌, ℕ, zero, suc, ◌<◌, inl, inr, List, [], ◌∷◌, ◌++◌, length, Bool, true, false, Option, Some, refl, sym, ap, ◌∙◌, subst, arith, eq-eqb, cond}
+use Rattle.std.proofs.Common.{◌≡◌, ℕ, zero, suc, ◌<◌, ◌⊎◌, inl, inr, List, [], ◌∷◌, ◌++◌, length, Bool, true, false}
+use Rattle.std.proofs.Common.{Option, Some, refl, sym, ap, ◌∙◌, subst, arith, eq-eqb, cond}
 use Rattle.std.specs.Prelude.{◌==◌, ◌&&◌, ◌||◌, nat_le}
 use Rattle.std.proofs.lemmas.Bool.Decides.{eqb_tells, nat_tests}
 use Rattle.prg_expr.specs.declared.function.Function.{Function}
-use Rattle.prg_expr.specs.Functions.{is_front, is_cut, FunctionWord, function_of_word, or_function, of_texts, of_parts, of_bytes, of_numbers, of_dates, of_tables, function_words, function_named}
+use Rattle.prg_expr.specs.Functions.{is_front, is_cut, FunctionWord, function_of_word, or_function, of_texts, of_parts}
+use Rattle.prg_expr.specs.Functions.{of_bytes, of_numbers, of_dates, of_tables, function_words, function_named}
 use Rattle.prg_expr.specs.Lexicon.{IsOneOf}
 use Rattle.prg_expr.proofs.Sound.{bool_tells}
 use Rattle.prg_expr.proofs.Bytes.{cond_true, cond_false}
 
--- two words differ within so many letters
-unfoldable splits : ℕ → List ℕ → List ℕ → Bool
+-- within so many letters two words differ, or one of them ends
+unfoldable pub splits : ℕ → List ℕ → List ℕ → Bool
 splits zero u v = false
-splits (suc n) [] v = false
-splits (suc n) (c ∷ u) [] = false
+splits (suc n) [] [] = false
+splits (suc n) [] (d ∷ v) = true
+splits (suc n) (c ∷ u) [] = true
 splits (suc n) (c ∷ u) (d ∷ v) = cond (c == d) (splits n u v) true
 
 pub and_true : (a b : Bool) → (a && b) ≡ true → (a ≡ true) × (b ≡ true)
 and_true true b h = (refl, h)
 and_true false b h = absurd cc
 
-pub is_equal : (b c : ℕ) → (b == c) ≡ true → b ≡ c
+is_equal : (b c : ℕ) → (b == c) ≡ true → b ≡ c
 is_equal b c h = elim (eqb_tells b c) [ inl p ↦ p.1 | inr p ↦ absurd (let f = sym h ∙ p.0 in cc) ]
 
--- first letters of both end before the words differ
-short : (n : ℕ) (s u v : List ℕ) → splits n u v ≡ true → is_front s u ≡ true → is_front s v ≡ true → (length s < n) × (length s < length u)
+-- first letters of both are few, and not all of one of the words
+short : (n : ℕ) (s u v : List ℕ) → splits n u v ≡ true → is_front s u ≡ true → is_front s v ≡ true
+    → (length s < n) × ((length s < length u) ⊎ (length s < length v))
 unfolding splits is_front
 short zero s u v p i j = absurd cc
-short (suc n) s [] v p i j = absurd cc
-short (suc n) s (c ∷ u) [] p i j = absurd cc
-short (suc n) [] (c ∷ u) (d ∷ v) p i j = (omega arith, omega arith)
+short (suc n) s [] [] p i j = absurd cc
+short (suc n) [] [] (d ∷ v) p i j = (omega arith, inr (omega arith))
+short (suc n) (b ∷ s) [] (d ∷ v) p i j = absurd cc
+short (suc n) [] (c ∷ u) [] p i j = (omega arith, inl (omega arith))
+short (suc n) (b ∷ s) (c ∷ u) [] p i j = absurd cc
+short (suc n) [] (c ∷ u) (d ∷ v) p i j = (omega arith, inl (omega arith))
 short (suc n) (b ∷ s) (c ∷ u) (d ∷ v) p i j =
     let x = and_true (b == c) (is_front s u) i in
     let y = and_true (b == d) (is_front s v) j in
     let same : c ≡ d = sym (is_equal b c x.0) ∙ is_equal b d y.0 in
     let r = short n s u v (sym (cond_true (c == d) (splits n u v) true (eq-eqb c d same)) ∙ p) x.1 y.1 in
-    (omega (arith, r.0), omega (arith, r.1))
+    (omega (arith, r.0), elim r.1 [ inl a ↦ inl (omega (arith, a)) | inr a ↦ inr (omega (arith, a)) ])
 
-pub cut_long : (s u : List ℕ) → length s < 4 → length s < length u → ((length s == length u) || nat_le 4 (length s)) ≡ false
+cut_long : (s u : List ℕ) → length s < 4 → length s < length u
+    → ((length s == length u) || nat_le 4 (length s)) ≡ false
 cut_long s u p q = grind (arith, nat_tests)
 
 -- what is cut from one word isn't cut from another
-not_cut : (s u v : List ℕ) → splits 4 u v ≡ true → is_cut s v ≡ true → is_cut s u ≡ false
+pub not_cut : (s u v : List ℕ) → splits 4 u v ≡ true → is_cut s v ≡ true → is_cut s u ≡ false
 not_cut s u v p c = elim (bool_tells (is_cut s u)) [
   | inr n ↦ n
   | inl y ↦ (let a = and_true (is_front s u) _ y in
       let b = and_true (is_front s v) _ c in
       let r = short 4 s u v p a.0 b.0 in
-      absurd (let f = sym a.1 ∙ cut_long s u r.0 r.1 in cc))
+      elim r.1 [
+        | inl few ↦ absurd (let f = sym a.1 ∙ cut_long s u r.0 few in cc)
+        | inr few ↦ absurd (let f = sym b.1 ∙ cut_long s v r.0 few in cc)
+      ])
 ]
 
-abbrev splits_all : List ℕ → List FunctionWord → Bool
+abbrev pub splits_all : {A : Type 0} → List ℕ → List (List ℕ × A) → Bool
 splits_all u [] = true
 splits_all u (y ∷ ys) = splits 4 u y.0 && splits_all u ys
 
-abbrev apart : List FunctionWord → Bool
+abbrev pub apart : {A : Type 0} → List (List ℕ × A) → Bool
 apart [] = true
 apart (x ∷ xs) = splits_all x.0 xs && apart xs
 
-splits_listed : (u : List ℕ) (y : FunctionWord) (ys : List FunctionWord) → splits_all u ys ≡ true → IsOneOf y ys → splits 4 u y.0 ≡ true
-splits_listed u y [] h i = absurd i
-splits_listed u y (z ∷ ys) h (inl i) = subst (λ (z : FunctionWord). splits 4 u z.0 ≡ true) (sym i) (and_true (splits 4 u z.0) (splits_all u ys) h).0
-splits_listed u y (z ∷ ys) h (inr i) = splits_listed u y ys (and_true (splits 4 u z.0) (splits_all u ys) h).1 i
+pub splits_listed : {A : Type 0} (u : List ℕ) (y : List ℕ × A) (ys : List (List ℕ × A)) → splits_all u ys ≡ true
+    → IsOneOf y ys → splits 4 u y.0 ≡ true
+splits_listed {A} u y [] h i = absurd i
+splits_listed {A} u y (z ∷ ys) h (inl i) = subst (λ (z : List ℕ × A). splits 4 u z.0 ≡ true) (sym i)
+    (and_true (splits 4 u z.0) (splits_all u ys) h).0
+splits_listed {A} u y (z ∷ ys) h (inr i) =
+    splits_listed u y ys (and_true (splits 4 u z.0) (splits_all u ys) h).1 i
 
 called_finds : (s : List ℕ) (x : FunctionWord) (table : List FunctionWord) → apart table ≡ true → IsOneOf x table → is_cut s x.0 ≡ true → function_of_word table s ≡ Some x.1
 called_finds s x [] a i c = absurd i

@@ -11,7 +11,10 @@ use Rattle.prg_expr.specs.declared.tree.BinaryOperator.{BinaryOperator}
 use Rattle.prg_expr.specs.declared.tree.Prefix.{Prefix}
 use Rattle.prg_expr.specs.declared.tree.AliasedName.{AliasedName}
 use Rattle.prg_expr.specs.declared.tree.Expr.{Expr, Expr-F, fold-roll-Expr}
-use Rattle.prg_expr.specs.declared.tree.Expr.TheVariants.{Number, Text, Logical, Name, Qualified, Call, Parentheses, Prefixed, Binary, rolls-Number, rolls-Text, rolls-Logical, rolls-Name, rolls-Qualified, rolls-Call, rolls-Parentheses, rolls-Prefixed, rolls-Binary}
+use Rattle.prg_expr.specs.declared.tree.Expr.TheVariants.{Number, Text, Logical, Name, Qualified, Call, Parentheses}
+use Rattle.prg_expr.specs.declared.tree.Expr.TheVariants.{Prefixed, Binary, rolls-Number, rolls-Text, rolls-Logical}
+use Rattle.prg_expr.specs.declared.tree.Expr.TheVariants.{rolls-Name, rolls-Qualified, rolls-Call, rolls-Parentheses}
+use Rattle.prg_expr.specs.declared.tree.Expr.TheVariants.{rolls-Prefixed, rolls-Binary}
 
 pub tree_logical : (b : Bool) → tree_of (Logical b) ≡ tree.Logical b
 tree_logical b = ap tree_of (sym (rolls-Logical b)) ∙ fold-roll-Expr Tree node_tree (Expr-F.Logical b)

@@ -1,5 +1,6 @@
 -- What reading finds where a word stands.
-use Rattle.std.proofs.Common.{◌≡◌, ℕ, zero, suc, ◌<◌, ◌≤◌, inl, inr, List, [], ◌∷◌, ◌++◌, length, take, drop, map, false, not, Option, Some, None, refl, sym, ap, ◌∙◌, subst, arith, eq-eqb, eqb, cond}
+use Rattle.std.proofs.Common.{◌≡◌, ℕ, zero, suc, ◌<◌, ◌≤◌, inl, inr, List, [], ◌∷◌, ◌++◌, length, take, drop, map}
+use Rattle.std.proofs.Common.{false, not, Option, Some, None, refl, sym, ap, ◌∙◌, subst, arith, eq-eqb, eqb, cond}
 use Rattle.std.specs.Prelude.{◌==◌, ◌+◌}
 use Rattle.std.specs.Char.{is_ascii_digit, is_ascii_alphabetic, to_ascii_lowercase, to_ascii_uppercase}
 use Rattle.std.specs.List.{prefix_len}
@@ -10,10 +11,14 @@ use Rattle.std.proofs.lemmas.Bool.Decides.{nat_tests}
 use Rattle.std.proofs.lemmas.Bool.{ne_eqb}
 use Rattle.prg_expr.specs.declared.fault.ParseFaultKind.TheVariants as fault
 use Rattle.prg_expr.specs.Word.{Word, Number, Text, Name, Outside, Point, Macro, Faulty}
-use Rattle.prg_expr.specs.Lexicon.{goes_on_name, is_blank_or_tab, is_quote, digit_first, decimals, singles, single_in, pairs, pair_in, pointed, IsOneOf, NoneInFront, EachPasses, FirstFails, Alone, over, number_fault}
-use Rattle.prg_expr.specs.Scanning.{found, clean_at, number_len, number_scanned, name_scanned, text_end, text_scanned, pick, single_at, symbol_at, word_at}
+use Rattle.prg_expr.specs.Lexicon.{goes_on_name, is_blank_or_tab, is_quote, digit_first, decimals, singles, single_in}
+use Rattle.prg_expr.specs.Lexicon.{pairs, pair_in, pointed, IsOneOf, NoneInFront, EachPasses, FirstFails, Alone, over}
+use Rattle.prg_expr.specs.Lexicon.{number_fault}
+use Rattle.prg_expr.specs.Scanning.{found, clean_at, number_len, number_scanned, name_scanned, text_end, text_scanned}
+use Rattle.prg_expr.specs.Scanning.{pick, single_at, symbol_at, word_at}
 use Rattle.prg_expr.specs.Reading.{if_some}
-use Rattle.prg_expr.proofs.Bytes.{prefix_is, cond_false, Entry, entry, after_finds, differs, Apart, differs_listed, after_differs}
+use Rattle.prg_expr.proofs.Bytes.{prefix_is, cond_false, Entry, entry, after_finds, differs, Apart, differs_listed}
+use Rattle.prg_expr.proofs.Bytes.{after_differs}
 
 -- numbers
 take_over : (xs ys : List ℕ) (m n : ℕ) → n ≡ length xs + m → take n (xs ++ ys) ≡ xs ++ take m ys

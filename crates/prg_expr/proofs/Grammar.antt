@@ -1,19 +1,24 @@
 -- What reading does at words that the grammar has.
-use Rattle.std.proofs.Common.{◌≡◌, ◌≢◌, ℕ, suc, ◌≤◌, ◌⊎◌, inl, inr, List, [], ◌∷◌, ◌++◌, length, take, true, false, Option, Some, None, Ok, refl, sym, ap, ◌∙◌, subst, arith, eq-eqb, eqb}
+use Rattle.std.proofs.Common.{◌≡◌, ◌≢◌, ℕ, suc, ◌≤◌, ◌⊎◌, inl, inr, List, [], ◌∷◌, ◌++◌, length, take, true, false}
+use Rattle.std.proofs.Common.{Option, Some, None, Ok, refl, sym, ap, ◌∙◌, subst, arith, eq-eqb, eqb}
 use Rattle.std.specs.Prelude.{◌==◌, if◌then◌else◌}
 use Rattle.std.proofs.lemmas.Bool.{ne_eqb}
 use Rattle.std.proofs.lemmas.Bool.Decides.{eqb_tells}
 use Rattle.prg_expr.specs.declared.function.Function.{Function}
 use Rattle.prg_expr.specs.declared.tree.BinaryOperator.{BinaryOperator}
-use Rattle.prg_expr.specs.declared.tree.BinaryOperator.TheVariants.{Or, And, Equal, NotEqual, Less, Greater, AtMost, AtLeast, Contains, Plus, Minus, Times, Over}
+use Rattle.prg_expr.specs.declared.tree.BinaryOperator.TheVariants.{Or, And, Equal, NotEqual, Less, Greater, AtMost}
+use Rattle.prg_expr.specs.declared.tree.BinaryOperator.TheVariants.{AtLeast, Contains, Plus, Minus, Times, Over}
 use Rattle.prg_expr.specs.declared.tree.Prefix.{Prefix}
 use Rattle.prg_expr.specs.declared.tree.Prefix.TheVariants as prefix
-use Rattle.prg_expr.specs.Tree.{Tree, Trees, count}
+use Rattle.prg_expr.specs.Tree.{Tree, Trees}
 use Rattle.prg_expr.specs.Tree as tree
 use Rattle.prg_expr.specs.Word.{Word}
 use Rattle.prg_expr.specs.Word as word
-use Rattle.prg_expr.specs.Grammar.{looseness, prefix_of, prefix_level, Free, Stands, number, text, logical, name, qualified, parentheses, looser, grouped, compared, prefixed, called, called_bare, Arguments, last, more}
-use Rattle.prg_expr.specs.Reading.{TreeReader, ◌>>=◌, if_some, operator_at, prefix_at, prefixes, arguments, call_read, called_at, named}
+use Rattle.prg_expr.specs.Grammar.{looseness, prefix_of, prefix_level, Free, Stands, number, text, logical, name}
+use Rattle.prg_expr.specs.Grammar.{qualified, parentheses, looser, grouped, compared, prefixed, called, called_bare}
+use Rattle.prg_expr.specs.Grammar.{Arguments, last, more}
+use Rattle.prg_expr.specs.Reading.{TreeReader, ◌>>=◌, if_some, operator_at, prefix_at, prefixes, arguments, call_read}
+use Rattle.prg_expr.specs.Reading.{called_at, named}
 
 pub free_less : (l m : ℕ) (ws : List Word) → l ≤ m → Free m ws → Free l ws
 free_less l m (word.Sign o ∷ ws) le f = omega arith

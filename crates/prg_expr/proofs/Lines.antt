@@ -1,5 +1,6 @@
 -- A line has the words that scanning finds.
-use Rattle.std.proofs.Common.{◌≡◌, ℕ, zero, suc, ◌≤◌, ◌<◌, inl, inr, List, [], ◌∷◌, ◌++◌, length, Bool, true, false, Option, Some, None, refl, sym, ap, ◌∙◌, subst, arith, append_assoc, length-append}
+use Rattle.std.proofs.Common.{◌≡◌, ℕ, zero, suc, ◌≤◌, ◌<◌, inl, inr, List, [], ◌∷◌, ◌++◌, length, Bool, true, false}
+use Rattle.std.proofs.Common.{Option, Some, None, refl, sym, ap, ◌∙◌, subst, arith, append_assoc, length-append}
 use Rattle.std.specs.Prelude.{◌==◌, ◌&&◌}
 use Rattle.std.specs.Char.{is_ascii_digit, is_ascii_alphabetic}
 use Rattle.std.proofs.lemmas.List.{append-nil}
@@ -11,12 +12,18 @@ use Rattle.prg_expr.specs.declared.token.Line.{Line}
 use Rattle.prg_expr.specs.Scanning.{IsScanned, IsWordsOf}
 use Rattle.prg_expr.specs.declared.fault.ParseFaultKind.{ParseFaultKind}
 use Rattle.prg_expr.specs.Word.{Word}
-use Rattle.prg_expr.specs.Lexicon.{is_blank_or_tab, is_quote, is_comment, digit_first, closing, singles, single_in, pairs, pair_in, pointed, EachPasses, FirstFails, IsWord, whole, decimal, name, text, unended, behind_point, lone_point, pair, single, macro, strange, Spot, spot, IsLine, nothing, comment, blank, word}
-use Rattle.prg_expr.specs.Scanning.{found, number_scanned, name_scanned, text_scanned, pick, symbol_at, word_at, with_word, spots_at, scan}
+use Rattle.prg_expr.specs.Lexicon.{is_blank_or_tab, is_quote, is_comment, digit_first, closing, singles, single_in}
+use Rattle.prg_expr.specs.Lexicon.{pairs, pair_in, pointed, EachPasses, FirstFails, IsWord, whole, decimal, name, text}
+use Rattle.prg_expr.specs.Lexicon.{unended, behind_point, lone_point, pair, single, macro, strange, Spot, spot, IsLine}
+use Rattle.prg_expr.specs.Lexicon.{nothing, comment, blank, word}
+use Rattle.prg_expr.specs.Scanning.{found, number_scanned, name_scanned, text_scanned, pick, symbol_at, word_at}
+use Rattle.prg_expr.specs.Scanning.{with_word, spots_at, scan}
 use Rattle.prg_expr.proofs.Sound.{bool_tells}
 use Rattle.prg_expr.proofs.Bytes.{cond_true, cond_false}
 use Rattle.prg_expr.proofs.Cuts.{and_true}
-use Rattle.prg_expr.proofs.Finds.{whole_read, decimal_read, name_read, text_read, unended_read, pick_finds, pointed_apart, pointed_digit, pick_none, single_read, other_read, symbol_alone, symbol_pair, macro_read, Other, other_word}
+use Rattle.prg_expr.proofs.Finds.{whole_read, decimal_read, name_read, text_read, unended_read, pick_finds}
+use Rattle.prg_expr.proofs.Finds.{pointed_apart, pointed_digit, pick_none, single_read, other_read, symbol_alone}
+use Rattle.prg_expr.proofs.Finds.{symbol_pair, macro_read, Other, other_word}
 use Rattle.prg_expr.proofs.Takes.{letter_is_name, takes_word, word_shorter}
 
 digit_blank : (b : ℕ) → is_ascii_digit b ≡ true → is_blank_or_tab b ≡ false

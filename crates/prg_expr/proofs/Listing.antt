@@ -1,5 +1,6 @@
 -- Arguments, as a loop reads them.
-use Rattle.std.proofs.Common.{◌≡◌, ℕ, zero, suc, ◌<◌, List, [], ◌∷◌, ◌++◌, length, Bool, true, false, Ok, Err, refl, sym, ap, ◌∙◌, arith}
+use Rattle.std.proofs.Common.{◌≡◌, ℕ, zero, suc, ◌<◌, List, [], ◌∷◌, ◌++◌, length, Bool, true, false, Ok, Err, refl}
+use Rattle.std.proofs.Common.{sym, ap, ◌∙◌, arith}
 use Rattle.prg_expr.specs.declared.fault.FormFault.{FormFault}
 use Rattle.prg_expr.specs.declared.fault.FormFault.TheVariants as form_fault
 use Rattle.prg_expr.specs.declared.tree.Expr.{Expr}

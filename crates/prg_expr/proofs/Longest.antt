@@ -1,5 +1,6 @@
 -- Reading goes as far as an expression can.
-use Rattle.std.proofs.Common.{◌≡◌, ℕ, zero, suc, ◌≤◌, inl, inr, List, ◌∷◌, ◌++◌, length, take, Some, Result, Ok, Err, refl, sym, ap, ◌∙◌, subst, arith, append_assoc, length-append}
+use Rattle.std.proofs.Common.{◌≡◌, ℕ, zero, suc, ◌≤◌, inl, inr, List, ◌∷◌, ◌++◌, length, take, Some, Result, Ok, Err}
+use Rattle.std.proofs.Common.{refl, sym, ap, ◌∙◌, subst, arith, append_assoc, length-append}
 use Rattle.std.specs.Prelude.{IfOk}
 use Rattle.prg_expr.specs.declared.fault.FormFault.{FormFault}
 use Rattle.prg_expr.specs.declared.tree.BinaryOperator.{BinaryOperator}
@@ -8,12 +9,16 @@ use Rattle.prg_expr.specs.Tree.{Tree}
 use Rattle.prg_expr.specs.Tree as tree
 use Rattle.prg_expr.specs.Word.{Word}
 use Rattle.prg_expr.specs.Word as word
-use Rattle.prg_expr.specs.Grammar.{looseness, prefix_of, prefix_level, Stands, number, text, logical, name, qualified, parentheses, looser, grouped, compared, prefixed, called, called_bare, max_depth}
-use Rattle.prg_expr.specs.Reading.{TreeRead, TreeReader, WordsGive, ◌>>=◌, if_some, operator_at, turns, chain, comparison_read, prefix_at, prefixes, named, operand, reader, inside, level_at}
+use Rattle.prg_expr.specs.Grammar.{looseness, prefix_of, prefix_level, Stands, number, text, logical, name, qualified}
+use Rattle.prg_expr.specs.Grammar.{parentheses, looser, grouped, compared, prefixed, called, called_bare, max_depth}
+use Rattle.prg_expr.specs.Reading.{TreeRead, TreeReader, WordsGive, ◌>>=◌, if_some, operator_at, turns, chain}
+use Rattle.prg_expr.specs.Reading.{comparison_read, prefix_at, prefixes, named, operand, reader, inside, level_at}
 use Rattle.prg_expr.specs.Spelling.{NoneLonger}
-use Rattle.prg_expr.proofs.Grammar.{an_operator, Plain, unclosed_all, plain, plain_append, prefixes_plain, some_at, prefix_levels}
+use Rattle.prg_expr.proofs.Grammar.{an_operator, Plain, unclosed_all, plain, plain_append, prefixes_plain, some_at}
+use Rattle.prg_expr.proofs.Grammar.{prefix_levels}
 use Rattle.prg_expr.proofs.Sound.{Shorter, bind_ok, operator_tells}
-use Rattle.prg_expr.proofs.Complete.{complete, loops, lists, joins, bare_calls, calls, closes, reader_shorter, reader_chain, not_one, not_five, first, fourth, fifth}
+use Rattle.prg_expr.proofs.Complete.{complete, loops, lists, joins, bare_calls, calls, closes, reader_shorter}
+use Rattle.prg_expr.proofs.Complete.{reader_chain, not_one, not_five, first, fourth, fifth}
 
 abbrev ok : Tree × List Word → TreeRead
 ok x = Ok x

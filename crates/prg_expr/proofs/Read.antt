@@ -1,5 +1,6 @@
 -- Reading a text finds exactly what it spells.
-use Rattle.std.proofs.Common.{◌≡◌, ℕ, ◌≤◌, inl, inr, List, [], ◌∷◌, length, map, false, Option, Some, None, Result, Ok, Err, refl, sym, ap, ◌∙◌, subst, arith}
+use Rattle.std.proofs.Common.{◌≡◌, ℕ, ◌≤◌, inl, inr, List, [], ◌∷◌, length, map, false, Option, Some, None, Result, Ok}
+use Rattle.std.proofs.Common.{Err, refl, sym, ap, ◌∙◌, subst, arith}
 use Rattle.std.specs.Prelude.{IfErr, IfOk, nat_lt, nat_le}
 use Rattle.std.proofs.lemmas.List.{length-map}
 use Rattle.std.proofs.lemmas.Bool.{le-ltb, ltb-false}
@@ -15,7 +16,8 @@ use Rattle.prg_expr.specs.Word.{Word}
 use Rattle.prg_expr.specs.Lexicon.{Spot, spot, spot_word, spot_fault, clean, IsLine}
 use Rattle.prg_expr.specs.Reading.{parse}
 use Rattle.prg_expr.specs.Scanning.{scan}
-use Rattle.prg_expr.specs.Spelling.{Spells, refuse, told_of, tree_of_words, text_fault, read, in_first_line, fault_told, Answered, Answers}
+use Rattle.prg_expr.specs.Spelling.{Spells, refuse, told_of, tree_of_words, text_fault, read, in_first_line, fault_told}
+use Rattle.prg_expr.specs.Spelling.{Answered, Answers}
 use Rattle.prg_expr.proofs.Sound.{bool_tells, parse_sound}
 use Rattle.prg_expr.proofs.Complete.{parse_complete}
 use Rattle.prg_expr.proofs.Lines.{scan_sound, scan_complete, few_spots}

@@ -1,5 +1,7 @@
 -- What reading finds, the grammar has.
-use Rattle.std.proofs.Common.{◌≡◌, ◌≢◌, ℕ, zero, suc, ◌<◌, ◌⊎◌, inl, inr, List, [], ◌∷◌, ◌++◌, length, take, Bool, true, false, Option, Some, None, Result, Ok, Err, refl, sym, ap, ◌∙◌, subst, arith, append_assoc, length-append, eqb}
+use Rattle.std.proofs.Common.{◌≡◌, ◌≢◌, ℕ, zero, suc, ◌<◌, ◌⊎◌, inl, inr, List, [], ◌∷◌, ◌++◌, length, take, Bool, true}
+use Rattle.std.proofs.Common.{false, Option, Some, None, Result, Ok, Err, refl, sym, ap, ◌∙◌, subst, arith}
+use Rattle.std.proofs.Common.{append_assoc, length-append, eqb}
 use Rattle.std.proofs.lemmas.List.{append-nil}
 use Rattle.std.proofs.lemmas.Bool.Decides.{eqb_tells}
 use Rattle.std.proofs.lemmas.Bool.{ne_eqb}
@@ -12,8 +14,13 @@ use Rattle.prg_expr.specs.Tree.{Tree, Trees, count}
 use Rattle.prg_expr.specs.Tree as tree
 use Rattle.prg_expr.specs.Word.{Word}
 use Rattle.prg_expr.specs.Word as word
-use Rattle.prg_expr.specs.Grammar.{looseness, Stands, number, text, logical, name, qualified, parentheses, looser, grouped, compared, prefixed, called, called_bare, Arguments, last, more, max_depth, Spells}
-use Rattle.prg_expr.specs.Reading.{TreeRead, TreeReader, ◌>>=◌, if_some, operator_at, turns, chain, comparison_read, prefixes, parenthesis_closed, separator, after_argument, arguments, call_read, called_at, qualified_at, named, operand, stage, reader, inside, level_at, whole_tree, all_read, parse}
+use Rattle.prg_expr.specs.Grammar.{looseness, Stands, number, text, logical, name, qualified, parentheses, looser}
+use Rattle.prg_expr.specs.Grammar.{grouped, compared, prefixed, called, called_bare, Arguments, last, more, max_depth}
+use Rattle.prg_expr.specs.Grammar.{Spells}
+use Rattle.prg_expr.specs.Reading.{TreeRead, TreeReader, ◌>>=◌, if_some, operator_at, turns, chain, comparison_read}
+use Rattle.prg_expr.specs.Reading.{prefixes, parenthesis_closed, separator, after_argument, arguments, call_read}
+use Rattle.prg_expr.specs.Reading.{called_at, qualified_at, named, operand, stage, reader, inside, level_at, whole_tree}
+use Rattle.prg_expr.specs.Reading.{all_read, parse}
 use Rattle.prg_expr.proofs.Grammar.{prefix_tells}
 
 pub bind_ok : {A B : Type 0} → (r : Result A ParseFaultKind) (f : A → Result B ParseFaultKind) (y : B) → (r >>= f) ≡ Ok y → (x : A) × (r ≡ Ok x) × (f x ≡ Ok y)

@@ -1,5 +1,7 @@
 -- Reading finds words that stand there.
-use Rattle.std.proofs.Common.{◌≡◌, ℕ, suc, ◌<◌, ◌≤◌, ◌⊎◌, inl, inr, List, [], ◌∷◌, ◌++◌, length, take, drop, map, Bool, true, false, not, Option, Some, None, refl, sym, ap, ◌∙◌, subst, arith, append_assoc, length-append, cond}
+use Rattle.std.proofs.Common.{◌≡◌, ℕ, suc, ◌<◌, ◌≤◌, ◌⊎◌, inl, inr, List, [], ◌∷◌, ◌++◌, length, take, drop, map, Bool}
+use Rattle.std.proofs.Common.{true, false, not, Option, Some, None, refl, sym, ap, ◌∙◌, subst, arith, append_assoc}
+use Rattle.std.proofs.Common.{length-append, cond}
 use Rattle.std.specs.Prelude.{◌==◌, ◌||◌}
 use Rattle.std.specs.Char.{is_ascii_digit, is_ascii_alphabetic, to_ascii_lowercase}
 use Rattle.std.specs.List.{prefix_len}
@@ -10,11 +12,17 @@ use Rattle.std.proofs.lemmas.Bool.Decides.{eqb_tells}
 use Rattle.prg_expr.specs.declared.fault.ParseFaultKind.{ParseFaultKind}
 use Rattle.prg_expr.specs.declared.fault.ParseFaultKind.TheVariants as fault
 use Rattle.prg_expr.specs.Word.{Word, Number, Text, Name, Outside, Point, Macro, Faulty}
-use Rattle.prg_expr.specs.Lexicon.{goes_on_name, is_blank_or_tab, is_quote, is_comment, digit_first, decimals, closing, singles, single_in, pairs, pair_in, pointed, after_word, IsOneOf, NoneInFront, EachPasses, FirstFails, Alone, Strange, IsWord, whole, decimal, name, text, unended, behind_point, lone_point, pair, single, macro, strange}
-use Rattle.prg_expr.specs.Scanning.{FoundWord, found, clean_at, number_scanned, name_scanned, text_scanned, pick, symbol_at, word_at}
+use Rattle.prg_expr.specs.Lexicon.{goes_on_name, is_blank_or_tab, is_quote, is_comment, digit_first, decimals, closing}
+use Rattle.prg_expr.specs.Lexicon.{singles, single_in, pairs, pair_in, pointed, after_word, IsOneOf, NoneInFront}
+use Rattle.prg_expr.specs.Lexicon.{EachPasses, FirstFails, Alone, Strange, IsWord, whole, decimal, name, text, unended}
+use Rattle.prg_expr.specs.Lexicon.{behind_point, lone_point, pair, single, macro, strange}
+use Rattle.prg_expr.specs.Scanning.{FoundWord, found, clean_at, number_scanned, name_scanned, text_scanned, pick}
+use Rattle.prg_expr.specs.Scanning.{symbol_at, word_at}
 use Rattle.prg_expr.proofs.Sound.{bool_tells, option_tells}
-use Rattle.prg_expr.proofs.Bytes.{one_more, front_each, back_stops, cond_true, cond_false, after_is, Entry, entry, pair_is}
-use Rattle.prg_expr.proofs.Finds.{whole_read, decimal_read, name_read, text_read, unended_read, pick_none, single_read, other_read, symbol_alone, symbol_pair, macro_read}
+use Rattle.prg_expr.proofs.Bytes.{one_more, front_each, back_stops, cond_true, cond_false, after_is, Entry, entry}
+use Rattle.prg_expr.proofs.Bytes.{pair_is}
+use Rattle.prg_expr.proofs.Finds.{whole_read, decimal_read, name_read, text_read, unended_read, pick_none, single_read}
+use Rattle.prg_expr.proofs.Finds.{other_read, symbol_alone, symbol_pair, macro_read}
 
 -- the bytes begin with a word, and the rest follows
 pub record Takes (bytes : List ℕ) (x : FoundWord) : Type 0 where

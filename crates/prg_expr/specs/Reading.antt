@@ -45,6 +45,7 @@ unfoldable pub operator_at : ℕ → List Word → Option (BinaryOperator × Lis
 operator_at l (word.Sign o ∷ ws) = if looseness o == l then Some (o, ws) else None
 operator_at l _ = None
 
+-- what is made of something that is there
 abbrev pub if_some : {A B : Type 0} → Option A → B → (A → B) → B
 if_some None b f = b
 if_some (Some a) b f = f a

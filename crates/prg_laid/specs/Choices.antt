@@ -26,7 +26,7 @@ ComesBack f w chooses again top b =
 abbrev pub Finishes : Laying → ℕ → Way → Type 0
 Finishes f a w = (b : ℕ) × InstrStands f.text a (Flow End) b × (w ≡ stopped b false)
 
--- each command behind which the way goes on there stands there, where no GET waits
+-- each command behind which the way goes on there is laid out from this place on, where no GET waits
 abbrev pub LeaptBy : Laying → Option Leaps → ℕ → Leap → Way → Type 0
 LeaptBy f l a leap w = (n : ℕ) (act : Act) → IsLeap leap act → Laid f l [] a (Single n act) w
 

@@ -114,6 +114,12 @@ IsLeap leap.Again act = act ≡ loop_act
 IsLeap leap.Out act = act ≡ exit_act
 IsLeap leap.End act = ends_run act ≡ true
 
+-- whether a command leads the way elsewhere, as LOOP, EXIT and those that end the run do
+abbrev pub leads_elsewhere : Act → Bool
+leads_elsewhere Loop = true
+leads_elsewhere Exit = true
+leads_elsewhere act = ends_run act
+
 mutual
   -- a command in a loop whose LOOP and EXIT lead there, or in none, where these GETs wait
   pub data Laid (f : Laying) : Option Leaps → List Letters → ℕ → Cmd → Way → Type 0 where

@@ -79,7 +79,7 @@ fn known_places(alloc: Global, code: &Code, count: usize) -> Result<KnownStates,
     Ok(known)
 }
 
-/// Whether the block, which the place is in, begins there and is that of the filter of this number, counted from 0.
+/// Whether the block that holds the place begins at it, and is that of the filter of this number, counted from 0.
 fn is_filter_block(code: &Code, place: usize, number: usize, block: Block) -> bool
     requires { block ≡ block_at_of code.now place }
     ensures { result ≡ true → spec.IsFilterBlock code.now number block }

@@ -9,7 +9,7 @@ use std::alloc::{AllocError, Global};
 use std::marker::Model;
 use xvalue::Kind;
 
-/// Among how many of the states that were kept last an equal one is sought.
+/// How many of the states that were kept last are looked through for an equal one.
 const NEAR: usize = 32;
 
 /// What is known before each of the first places of a code, seen as the list of these states. Equal states near each

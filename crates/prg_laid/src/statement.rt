@@ -1,8 +1,8 @@
 //! Commands of one line.
 
-ghost use Rattle.std.specs.Prelude.{◌≡◌, IfOk, IfSome, OnOk};
+ghost use Rattle.std.specs.Prelude.{◌≡◌, IfOk, MatchOption, OnOk, false};
 ghost use Rattle.prg_laid.specs.Acts as acts;
-ghost use Rattle.prg_laid.specs.Commands.{IsLeap};
+ghost use Rattle.prg_laid.specs.Commands.{IsLeap, leads_elsewhere};
 ghost use Rattle.prg_laid.specs.Layout.{laying};
 ghost use Rattle.prg_line.specs.Act.{act_of};
 
@@ -87,7 +87,8 @@ pub enum Leap {
 
 /// Where the way goes on behind the command, if it leads it elsewhere.
 pub fn leap_of(statement: &Statement) -> Option<Leap>
-    ensures { IfSome result (λ leap. IsLeap leap (act_of statement.now)) }
+    ensures { MatchOption result (leads_elsewhere (act_of statement.now) ≡ false)
+        (λ leap. IsLeap leap (act_of statement.now)) }
 {
     match statement {
         Statement::Loop => Some(Leap::Again),

@@ -4,13 +4,16 @@ use Rattle.prg_expr.specs.Grammar.{Spells, Free}
 use Rattle.prg_expr.specs.Tree.{Tree}
 use Rattle.prg_line.specs.declared.statement.Toggle.{Toggle}
 use Rattle.prg_line.specs.declared.statement.Toggle.TheVariants.{Exact, Deleted, Century}
-use Rattle.prg_line.specs.Act.{Act, Letters}
 use Rattle.prg_line.specs.Act as act
 use Rattle.prg_line.specs.Forms as f
-use Rattle.prg_line.specs.Forms.{change, is_at_end, is_at_number}
+use Rattle.prg_line.specs.Forms.{change}
 use Rattle.prg_line.specs.Commands as c
 use Rattle.prg_line.proofs.Full.{Full, Ended, Anything, is_full, key_full, where_full, end_full, refused_full}
-use Rattle.prg_line.proofs.PartsFull.{FoundLaw, expression_full, name_full, whole_full, number_full, comma_full, equal_full, several_full, spells_filled, several_filled, name_filled, then_filled, free_open, list_open, names_open, any_begins, is_begins, same_begins, key_begins, comma_begins, where_begins, both_full, BehindPrompt, prompted, prompt_begins, to_begins, to_or_end, choice_full}
+use Rattle.prg_line.proofs.PartsFull.{FoundLaw, expression_full, name_full, whole_full, number_full, comma_full}
+use Rattle.prg_line.proofs.PartsFull.{equal_full, several_full, spells_filled, several_filled, name_filled, then_filled}
+use Rattle.prg_line.proofs.PartsFull.{free_open, list_open, names_open, any_begins, is_begins, same_begins, key_begins}
+use Rattle.prg_line.proofs.PartsFull.{comma_begins, where_begins, both_full, BehindPrompt, prompted, prompt_begins}
+use Rattle.prg_line.proofs.PartsFull.{to_begins, to_or_end, choice_full}
 
 pub replacement_full : FoundLaw → Full f.replacement c.Replacement (Free 7)
 unfolding f.replacement

@@ -9,7 +9,8 @@ use Rattle.prg_line.specs.Forms as f
 use Rattle.prg_line.specs.Forms.{change, is_at_end, is_at_number}
 use Rattle.prg_line.specs.Commands as c
 use Rattle.prg_line.proofs.Sound.{Sound, is_sound, then_sound, if_sound, taken_sound, clause_sound}
-use Rattle.prg_line.proofs.PartsSound.{Law, expression_sound, name_sound, whole_sound, number_sound, comma_sound, equal_sound, several_sound, refused_sound, prompt_sound as prompted}
+use Rattle.prg_line.proofs.PartsSound.{Law, expression_sound, name_sound, whole_sound, number_sound, comma_sound}
+use Rattle.prg_line.proofs.PartsSound.{equal_sound, several_sound, refused_sound, prompt_sound as prompted}
 
 pub replacement_sound : Law → Sound f.replacement c.Replacement
 unfolding f.replacement

@@ -1,5 +1,6 @@
 -- What the grammar allows is found by reading from left to right.
-use Rattle.std.proofs.Common.{◌≡◌, ℕ, List, [], ◌∷◌, ◌++◌, Bool, true, false, Result, Ok, refl, sym, ap, ◌∙◌, append_assoc, inl, inr}
+use Rattle.std.proofs.Common.{◌≡◌, ℕ, List, [], ◌∷◌, ◌++◌, Bool, true, false, Result, Ok, refl, sym, ap, ◌∙◌}
+use Rattle.std.proofs.Common.{append_assoc, inl, inr}
 use Rattle.std.specs.Prelude.{if◌then◌else◌}
 use Rattle.std.proofs.lemmas.List.{append-nil}
 use Rattle.prg_expr.specs.Functions.{is_cut}
@@ -7,7 +8,8 @@ use Rattle.prg_expr.specs.Word.{Word}
 use Rattle.prg_expr.specs.Word as word
 use Rattle.prg_expr.specs.declared.fault.ParseFaultKind.{ParseFaultKind}
 use Rattle.prg_expr.specs.declared.fault.ParseFaultKind.TheVariants as kind
-use Rattle.prg_line.specs.Forms.{At, at, FormReader, WordTaken, on_taken, takes, takes_in, is_at, is_at_end, is_nil, is_word_in, clause, unexpected, ◌>>=◌}
+use Rattle.prg_line.specs.Forms.{At, at, FormReader, WordTaken, on_taken, takes, takes_in, is_at, is_at_end, is_nil}
+use Rattle.prg_line.specs.Forms.{is_word_in, clause, unexpected, ◌>>=◌}
 use Rattle.prg_line.specs.Commands.{Phrase, Is, Then, Key, MarkThen, Either, But, Where}
 use Rattle.prg_line.proofs.Sound.{ok, fine, failed, taken}
 

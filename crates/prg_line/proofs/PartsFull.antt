@@ -1,5 +1,6 @@
 -- The parts of forms are found: expressions, names, numbers, marks and lists.
-use Rattle.std.proofs.Common.{◌≡◌, ℕ, zero, suc, ◌<◌, ◌⊎◌, List, [], ◌∷◌, ◌++◌, length, take, codes, Bool, true, false, Option, None, Result, Ok, Err, refl, sym, ap, ◌∙◌, subst, append_assoc, arith, inl, inr}
+use Rattle.std.proofs.Common.{◌≡◌, ℕ, zero, suc, ◌<◌, ◌⊎◌, List, [], ◌∷◌, ◌++◌, length, take, codes, Bool, true, false}
+use Rattle.std.proofs.Common.{Option, None, Result, Ok, Err, refl, sym, ap, ◌∙◌, subst, append_assoc, arith, inl, inr}
 use Rattle.std.specs.Prelude.{if◌then◌else◌, ◌&&◌, ◌||◌, nat_le}
 use Rattle.std.proofs.lemmas.Bool.{le-leb}
 use Rattle.std.proofs.lemmas.List.{length-append}
@@ -15,11 +16,14 @@ use Rattle.prg_expr.specs.declared.fault.ParseFaultKind.TheVariants as kind
 use Rattle.prg_line.specs.Act.{Act, Letters}
 use Rattle.prg_line.specs.Act as act
 use Rattle.prg_line.specs.Forms as f
-use Rattle.prg_line.specs.Forms.{At, at, FormReader, WordTaken, on_taken, unexpected, is_at, is_at_end, is_nil, is_word_in, ◌>>=◌}
+use Rattle.prg_line.specs.Forms.{At, at, FormReader, WordTaken, on_taken, unexpected, is_at, is_at_end, is_nil}
+use Rattle.prg_line.specs.Forms.{is_word_in, ◌>>=◌}
 use Rattle.prg_line.specs.Commands as c
-use Rattle.prg_line.specs.Commands.{Phrase, Is, Then, Key, MarkThen, But, Where, Either, Name, Whole, Several, SelectNumber}
+use Rattle.prg_line.specs.Commands.{Phrase, Is, Then, Key, MarkThen, But, Where, Either, Name, Whole, Several}
+use Rattle.prg_line.specs.Commands.{SelectNumber}
 use Rattle.prg_line.proofs.Sound.{ok, fine, failed, taken, apart}
-use Rattle.prg_line.proofs.Full.{Reaches, Full, Ended, Anything, Filled, bind_to, mark_finds, test_to, taken_to, then_full}
+use Rattle.prg_line.proofs.Full.{Reaches, Full, Ended, Anything, Filled, bind_to, mark_finds, test_to, taken_to}
+use Rattle.prg_line.proofs.Full.{then_full}
 
 -- that what words spell is found in front of what can't go on with it, which the crate of expressions proves
 abbrev pub FoundLaw : Type 0

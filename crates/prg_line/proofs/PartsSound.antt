@@ -1,10 +1,12 @@
 -- The parts of forms: expressions, names, numbers, marks and lists.
-use Rattle.std.proofs.Common.{◌≡◌, ℕ, zero, suc, List, [], ◌∷◌, ◌++◌, length, take, Bool, true, false, Option, None, Result, Ok, Err, refl, sym, ap, ◌∙◌, subst, append_assoc, inl, inr}
+use Rattle.std.proofs.Common.{◌≡◌, ℕ, zero, suc, List, [], ◌∷◌, ◌++◌, length, take, Bool, true, false, Option, None}
+use Rattle.std.proofs.Common.{Result, Ok, Err, refl, sym, ap, ◌∙◌, subst, append_assoc, inl, inr}
 use Rattle.std.specs.Prelude.{if◌then◌else◌, nat_le, ◌&&◌, ◌||◌}
 use Rattle.std.proofs.lemmas.Bool.{leb-true}
 use Rattle.std.proofs.lemmas.List.{append-nil}
 use Rattle.fixed_num.specs.Number.{Number as Decimal}
-use Rattle.prg_expr.specs.declared.tree.BinaryOperator.TheVariants.{Or, And, Equal, NotEqual, Less, Greater, AtMost, AtLeast, Contains, Plus, Minus, Times, Over}
+use Rattle.prg_expr.specs.declared.tree.BinaryOperator.TheVariants.{Or, And, Equal, NotEqual, Less, Greater, AtMost}
+use Rattle.prg_expr.specs.declared.tree.BinaryOperator.TheVariants.{AtLeast, Contains, Plus, Minus, Times, Over}
 use Rattle.prg_expr.specs.Grammar.{Spells}
 use Rattle.prg_expr.specs.Reading.{front}
 use Rattle.prg_expr.specs.Spelling.{InFront}
@@ -16,10 +18,12 @@ use Rattle.prg_expr.specs.declared.fault.ParseFaultKind.TheVariants as kind
 use Rattle.prg_line.specs.Act.{Act, Letters}
 use Rattle.prg_line.specs.Act as act
 use Rattle.prg_line.specs.Forms as f
-use Rattle.prg_line.specs.Forms.{At, at, FormReader, WordTaken, on_taken, unexpected, is_at, is_at_end, is_nil, is_it, is_word_in, ◌>>=◌}
+use Rattle.prg_line.specs.Forms.{At, at, FormReader, on_taken, unexpected, is_at, is_at_end, is_word_in, ◌>>=◌}
 use Rattle.prg_line.specs.Commands as c
-use Rattle.prg_line.specs.Commands.{Phrase, Is, Then, MarkThen, But, Either, Name, Whole, Several, Expressions, Names, Prompt, SelectNumber}
-use Rattle.prg_line.proofs.Sound.{Sound, Front, ok, fine, failed, taken, not_ok, ok_same, bind_ok, same_said, same_place, same_words, but_front, is_sound, mark_sound, apart, not-taken, not-left, same-taken}
+use Rattle.prg_line.specs.Commands.{Phrase, Is, MarkThen, But, Either, Name, Whole, Several, SelectNumber}
+use Rattle.prg_line.proofs.Sound.{Sound, Front, ok, fine, failed, taken, not_ok, ok_same, bind_ok, same_said}
+use Rattle.prg_line.proofs.Sound.{same_place, same_words, but_front, is_sound, mark_sound, apart, not-taken, not-left}
+use Rattle.prg_line.proofs.Sound.{same-taken}
 
 -- that reading finds what words spell, which the crate of expressions proves
 abbrev pub Law : Type 0

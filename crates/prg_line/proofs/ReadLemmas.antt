@@ -1,5 +1,6 @@
 -- Of a line without a fault the words say what is read, and the other way.
-use Rattle.std.proofs.Common.{◌≡◌, ℕ, ◌≤◌, List, [], ◌∷◌, Option, Some, None, Bool, true, false, Result, Ok, Err, length, map, refl, ◌∙◌, ap, arith, subst}
+use Rattle.std.proofs.Common.{◌≡◌, ℕ, ◌≤◌, List, [], ◌∷◌, Option, Some, None, Bool, true, false, Result, Ok, Err}
+use Rattle.std.proofs.Common.{length, map, refl, ◌∙◌, ap, arith, subst}
 use Rattle.std.specs.Prelude.{if◌then◌else◌, nat_lt, nat_le, ◌&&◌}
 use Rattle.std.proofs.lemmas.List.{length-map}
 use Rattle.std.proofs.lemmas.Bool.{ltb-false, le-ltb}
@@ -12,7 +13,7 @@ use Rattle.prg_line.specs.declared.verb.Verb.{Verb}
 use Rattle.prg_line.specs.Commands.{Says}
 use Rattle.prg_line.specs.Forms.{At, at, sentence}
 use Rattle.prg_line.specs.LineSays.{Faultless, Counts, LineSays, verb_begun}
-use Rattle.prg_line.specs.OneLine.{form, saying_fault, saying_in, found_in, role_at, fault_at, saying_at, word_fault}
+use Rattle.prg_line.specs.OneLine.{form, saying_fault, saying_in, role_at, fault_at, saying_at, word_fault}
 use Rattle.prg_line.specs.Saying.{Saying, role_of}
 use Rattle.prg_line.specs.Verbs.{FoundVerb, ignores_rest, has_expressions}
 use Rattle.prg_line.proofs.PartsFull.{FoundLaw}
@@ -96,7 +97,7 @@ pub line_says : Law → CutLaw → (text : List ℕ) → fault_at text ≡ None 
 unfolding fault_at saying_at
 line_says law cut text h =
     let spots = scan text in
-    let f = found_in spots in
+    let f = verb_begun spots in
     let own = own_fault (least (word_fault f.0 spots) (saying_fault (form (length (map spot_word (scan text))) f))) (length_fault (length text)) h in
     record {
       spots = spots;
@@ -110,7 +111,7 @@ pub line_placed : Law → (text : List ℕ) → fault_at text ≡ None → role_
 unfolding fault_at role_at saying_at
 line_placed law text h =
     let spots = scan text in
-    let f = found_in spots in
+    let f = verb_begun spots in
     let own = own_fault (least (word_fault f.0 spots) (saying_fault (form (length (map spot_word (scan text))) f))) (length_fault (length text)) h in
     role_agrees f.0 (saying_in (form (length (map spot_word (scan text))) f)) f.1 (says_form law (length (map spot_word (scan text))) f (no_fault (word_fault f.0 spots) (saying_fault (form (length (map spot_word (scan text))) f)) own))
 
@@ -156,7 +157,7 @@ pub line_found : FoundLaw → CutLaw → FewLaw → OneLaw → (text : List ℕ)
 unfolding fault_at saying_at
 line_found found cut few one text s l =
     let spots = scan text in
-    let f = found_in spots in
+    let f = verb_begun spots in
     let same : l.spots ≡ spots = one text l.spots spots l.are_words (cut text) in
     let says = subst (λ (ss : List Spot). Says (verb_begun ss).0 s (verb_begun ss).1) same l.says in
     let counts = subst (λ (ss : List Spot). Counts (ignores_rest (verb_begun ss).0) ss) same l.counts in

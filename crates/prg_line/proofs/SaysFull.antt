@@ -14,7 +14,8 @@ use Rattle.prg_line.specs.Commands as c
 use Rattle.prg_line.specs.Commands.{Phrase}
 use Rattle.prg_line.proofs.Sound.{fine, failed}
 use Rattle.prg_line.proofs.Full.{Full, Ended, is_full, bind_to}
-use Rattle.prg_line.proofs.PartsFull.{FoundLaw, expression_full, name_full, any_begins, is_begins, end_begins, free_open, both_full}
+use Rattle.prg_line.proofs.PartsFull.{FoundLaw, expression_full, name_full, any_begins, is_begins, end_begins}
+use Rattle.prg_line.proofs.PartsFull.{free_open, both_full}
 use Rattle.prg_line.proofs.FormsFull as form
 
 -- what nothing says

@@ -1,5 +1,6 @@
 -- What a line is read to say is what its phrase says.
-use Rattle.std.proofs.Common.{◌≡◌, List, [], ◌∷◌, ◌++◌, Bool, true, false, Option, Some, None, Ok, refl, sym, ap, ◌∙◌, subst}
+use Rattle.std.proofs.Common.{◌≡◌, List, [], ◌∷◌, ◌++◌, Bool, true, false, Option, Some, None, Ok, refl, sym, ap, ◌∙◌}
+use Rattle.std.proofs.Common.{subst}
 use Rattle.std.specs.Prelude.{if◌then◌else◌}
 use Rattle.std.proofs.lemmas.List.{append-nil}
 use Rattle.prg_expr.specs.Word.{Word}
@@ -10,9 +11,10 @@ use Rattle.prg_line.specs.Act.{Act}
 use Rattle.prg_line.specs.Saying.{Saying}
 use Rattle.prg_line.specs.Saying as saying
 use Rattle.prg_line.specs.Forms as f
-use Rattle.prg_line.specs.Forms.{At, is_nil, unexpected, ◌>>=◌}
+use Rattle.prg_line.specs.Forms.{At, is_nil, unexpected}
 use Rattle.prg_line.specs.Commands as c
-use Rattle.prg_line.proofs.Sound.{Sound, fine, failed, not_ok, ok_same, bind_ok, is_sound, then_sound, fails_sound, apart}
+use Rattle.prg_line.proofs.Sound.{Sound, fine, failed, not_ok, ok_same, bind_ok, is_sound, then_sound, fails_sound}
+use Rattle.prg_line.proofs.Sound.{apart}
 use Rattle.prg_line.proofs.PartsSound.{Law, expression_sound, name_sound}
 use Rattle.prg_line.proofs.FormsSound as form
 

@@ -1,5 +1,6 @@
 -- One or more with commas between, as a loop reads them.
-use Rattle.std.proofs.Common.{◌≡◌, ℕ, zero, suc, ◌<◌, ◌≤◌, List, [], ◌∷◌, ◌++◌, length, take, drop, ◌-◌, map, true, false, Ok, refl, sym, ap, ◌∙◌, arith}
+use Rattle.std.proofs.Common.{◌≡◌, ℕ, zero, suc, ◌<◌, ◌≤◌, List, [], ◌∷◌, ◌++◌, length, take, drop, ◌-◌, map, true}
+use Rattle.std.proofs.Common.{false, Ok, refl, sym, ap, ◌∙◌, arith}
 use Rattle.std.proofs.lemmas.List.{drop-map, length-map, take_all, length-drop, map-append}
 use Rattle.prg_expr.specs.declared.token.Token.{Token}
 use Rattle.prg_expr.specs.Reading.{WordsFail, front}

@@ -1,11 +1,13 @@
 -- What reading from left to right finds is what the grammar allows.
-use Rattle.std.proofs.Common.{◌≡◌, ℕ, List, [], ◌∷◌, ◌++◌, Bool, true, false, Result, Ok, Err, refl, sym, ap, ◌∙◌, subst, append_assoc, inl, inr}
+use Rattle.std.proofs.Common.{◌≡◌, ℕ, List, [], ◌∷◌, ◌++◌, Bool, true, false, Result, Ok, Err, refl, sym, ap, ◌∙◌}
+use Rattle.std.proofs.Common.{subst, append_assoc, inl, inr}
 use Rattle.std.specs.Prelude.{if◌then◌else◌}
 use Rattle.prg_expr.specs.Functions.{is_cut}
 use Rattle.prg_expr.specs.Word.{Word}
 use Rattle.prg_expr.specs.Word as word
 use Rattle.prg_expr.specs.declared.fault.ParseFaultKind.{ParseFaultKind}
-use Rattle.prg_line.specs.Forms.{At, at, FormReader, WordTaken, on_taken, takes, takes_in, is_word_in, clause, unexpected, ◌>>=◌}
+use Rattle.prg_line.specs.Forms.{At, at, FormReader, WordTaken, on_taken, takes, takes_in, is_word_in, clause}
+use Rattle.prg_line.specs.Forms.{unexpected, ◌>>=◌}
 use Rattle.prg_line.specs.Commands.{Phrase, Is, Then, Key, MarkThen, Either, But, Where}
 
 -- words in front of a rest that are as they have to be

@@ -14,7 +14,7 @@ use Rattle.prg_line.specs.declared.statement.Toggle.{Toggle}
 use Rattle.prg_line.specs.declared.statement.Toggle.TheVariants.{Exact, Deleted, Century}
 use Rattle.prg_line.specs.declared.verb.Verb.{Verb}
 use Rattle.prg_line.specs.declared.verb.Verb.TheVariants as verb
-use Rattle.prg_line.specs.Act.{Act, Letters, Area, Goal, Change}
+use Rattle.prg_line.specs.Act.{Act, Letters, Change}
 use Rattle.prg_line.specs.Act as act
 use Rattle.prg_line.specs.Saying.{Saying}
 use Rattle.prg_line.specs.Saying as saying

@@ -9,8 +9,9 @@ use Rattle.prg_expr.specs.declared.fault.ParseFaultKind.TheVariants as kind
 use Rattle.prg_line.specs.declared.role.Role.{Role}
 use Rattle.prg_line.specs.declared.verb.Verb.{Verb}
 use Rattle.prg_line.specs.Forms.{sentence, at}
+use Rattle.prg_line.specs.LineSays.{verb_begun}
 use Rattle.prg_line.specs.Saying.{Saying, Nothing}
-use Rattle.prg_line.specs.Verbs.{FoundVerb, verb_of, role_of, ignores_rest, has_expressions}
+use Rattle.prg_line.specs.Verbs.{FoundVerb, role_of, ignores_rest, has_expressions}
 
 -- the least fault of the words, where they count
 abbrev pub word_fault : Verb → List Spot → Option ParseFaultKind
@@ -35,17 +36,14 @@ abbrev pub fault_with : ℕ → List Spot → FoundVerb → Option ParseFaultKin
 fault_with bytes spots f =
     least (least (word_fault f.0 spots) (saying_fault (form (length (map spot_word spots)) f))) (length_fault bytes)
 
-abbrev pub found_in : List Spot → FoundVerb
-found_in spots = verb_of (map spot_word spots)
-
 -- what a line of these bytes is to the blocks around it
 unfoldable pub role_at : List ℕ → Role
-role_at text = role_of (found_in (scan text)).0
+role_at text = role_of (verb_begun (scan text)).0
 
 -- the least fault of its words, its form and its length
 unfoldable pub fault_at : List ℕ → Option ParseFaultKind
-fault_at text = fault_with (length text) (scan text) (found_in (scan text))
+fault_at text = fault_with (length text) (scan text) (verb_begun (scan text))
 
 -- what it says
 unfoldable pub saying_at : List ℕ → Saying
-saying_at text = saying_in (form (length (map spot_word (scan text))) (found_in (scan text)))
+saying_at text = saying_in (form (length (map spot_word (scan text))) (verb_begun (scan text)))

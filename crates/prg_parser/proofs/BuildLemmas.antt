@@ -1,5 +1,7 @@
 -- Lemmas on programs that are put together.
-use Rattle.std.proofs.Common.{◌≡◌, ℕ, ◌+◌, ◌-◌, ◌<◌, List, [], ◌∷◌, ◌++◌, map, length, take, Option, Some, None, Bool, true, false, Result, Ok, Err, IfOk, Vec, Global, subst, refl, sym, ap, ◌∙◌, arith, append_assoc, length-append}
+use Rattle.std.proofs.Common.{◌≡◌, ℕ, ◌+◌, ◌-◌, ◌<◌, List, [], ◌∷◌, ◌++◌, map, length, take, Option, Some, None, Bool}
+use Rattle.std.proofs.Common.{true, false, Result, Ok, Err, IfOk, Vec, Global, subst, refl, sym, ap, ◌∙◌, arith}
+use Rattle.std.proofs.Common.{append_assoc, length-append}
 use Rattle.std.specs.Prelude.{option_map, slice_get, if◌then◌else◌, not}
 use Rattle.std.proofs.lemmas.List.{append-nil, map-append}
 use Rattle.std.proofs.lemmas.Option.{slice_get-get_or}
@@ -17,7 +19,7 @@ use Rattle.prg_parser.specs.declared.builder.Current.{Current}
 use Rattle.prg_parser.specs.declared.builder.Current.TheVariants.{Commands, DoCase}
 use Rattle.prg_line.specs.Act.{Act, act_of}
 use Rattle.prg_line.specs.Act as act
-use Rattle.prg_line.specs.Saying.{Saying, Line, line, role_of, saying_of}
+use Rattle.prg_line.specs.Saying.{Saying, line, role_of, saying_of}
 use Rattle.prg_line.specs.Saying as saying
 use Rattle.arrayvec.specs.ArrayVec.{ArrayVec}
 use Rattle.prg_parser.specs.declared.builder.Builder.{Builder}
@@ -33,11 +35,14 @@ use Rattle.prg_parser.specs.declared.program.Procedure.{Procedure}
 use Rattle.prg_parser.specs.declared.program.Program.{Program}
 use Rattle.prg_line.specs.declared.statement.Statement.{Statement as Single}
 use Rattle.prg_parser.specs.declared.command.Form.TheVariants.{Statement}
-use Rattle.prg_parser.specs.Layout.{Lines, all_of, body_lines, cases_lines, form_lines, procedure_lines, procedures_lines, program_lines}
+use Rattle.prg_parser.specs.Layout.{Lines, all_of, body_lines, cases_lines, form_lines, procedure_lines}
+use Rattle.prg_parser.specs.Layout.{procedures_lines, program_lines}
 use Rattle.prg_parser.proofs.LayoutLemmas.{form_statement, procedures_more}
 use Rattle.prg_parser.specs.Blocks as spec
 use Rattle.prg_parser.specs.Blocks.{fault_of_place, parts_after, innermost, outer, may_stand}
-use Rattle.prg_parser.specs.Building.{IsChoice, Took, current_lines, finished_lines, open_lines, opens_lines, built_lines, built_parts, head_lines, block_ending, is_ending, place_of_open, part_of_block, awaited}
+use Rattle.prg_parser.specs.Building.{IsChoice, Took, current_lines, finished_lines, open_lines, opens_lines}
+use Rattle.prg_parser.specs.Building.{built_lines, built_parts, head_lines, block_ending, is_ending, place_of_open}
+use Rattle.prg_parser.specs.Building.{part_of_block, awaited}
 use Rattle.prg_parser.specs.Layout.{lines_of_saying}
 
 -- one more at the end
@@ -57,9 +62,6 @@ outer_last ps p =
     let n : length (ps ++ p ∷ []) ≡ length ps + 1 = length-append ps (p ∷ []) in
     let e : length (ps ++ p ∷ []) - 1 ≡ length ps = omega arith in
     ap (λ k. take k (ps ++ p ∷ [])) e ∙ take-append_seam ps (p ∷ [])
-
-place_at : List Part → Option Place
-place_at ps = option_map (λ part. part.place) (innermost ps)
 
 passes : (b : Bool) (k : ParseFaultKind) (o : Option ParseFaultKind) → (if not b then Some k else o) ≡ None → b ≡ true
 passes true k o e = refl

@@ -1,12 +1,12 @@
 -- Lemmas on a file that is read line by line.
-use Rattle.std.proofs.Common.{◌≡◌, ◌≤◌, ◌==◌, not, ℕ, zero, suc, List, [], ◌∷◌, ◌++◌, length, take, map, arith, Option, Some, None, Bool, true, false, Result, Ok, Err, IfOk, IfErr, subst, refl, sym, ap, ◌∙◌, append_assoc}
+use Rattle.std.proofs.Common.{◌≡◌, ◌≤◌, ◌==◌, not, ℕ, zero, suc, List, [], ◌∷◌, ◌++◌, length, take, map, arith, Option}
+use Rattle.std.proofs.Common.{Some, None, Bool, true, false, subst, refl, sym, ap, ◌∙◌, append_assoc}
 use Rattle.std.specs.Prelude.{option_map, is_some, if◌then◌else◌}
 use Rattle.std.specs.List.{prefix_len}
 use Rattle.std.proofs.lemmas.List.{append-nil}
 use Rattle.prg_expr.specs.declared.fault.ParseFault.{ParseFault}
 use Rattle.prg_expr.specs.declared.fault.ParseFaultKind.{ParseFaultKind}
 use Rattle.prg_expr.specs.declared.fault.ParseRefusal.{ParseRefusal}
-use Rattle.prg_expr.specs.declared.fault.ParseRefusal.TheVariants.{Fault, Memory}
 use Rattle.prg_expr.specs.Faults.{Tells}
 use Rattle.prg_line.specs.OneLine.{role_at, fault_at, saying_at}
 use Rattle.prg_line.specs.Saying.{Saying, role_of}
@@ -17,7 +17,7 @@ use Rattle.prg_parser.specs.declared.program.Program.{Program}
 use Rattle.prg_parser.specs.Blocks.{fault_of_place, parts_after, begins_procedure}
 use Rattle.prg_parser.specs.Building.{Took, built_lines, built_parts}
 use Rattle.prg_parser.specs.Files.{numbers}
-use Rattle.prg_parser.specs.HalfRead.{Passes, Stands, Ended, sayings}
+use Rattle.prg_parser.specs.HalfRead.{Passes, IsHalfRead, Ended, sayings}
 use Rattle.prg_parser.specs.Layout.{Lines, program_lines, lines_of_saying, said_lines}
 use Rattle.prg_parser.specs.Lines.{Joined, before_end, joined}
 use Rattle.prg_parser.specs.Marks.{line_mark}
@@ -70,7 +70,8 @@ pub told_first : (ps : List Part) (o : Option ℕ) (j : Joined) (kind : ParseFau
     → verdict ps o (line_mark j ∷ others) ≡ Some (record { line = j.first; kind = kind })
 told_first ps o j kind others w = front-told ps o (line_mark j) others kind w
 
-pub begins : (all : List Joined) (ps : List Part) (o : Option ℕ) (b : Builder) → ps ≡ [] → o ≡ None → built_parts b ≡ [] → built_lines b ≡ [] → Stands all all ps o b
+pub begins : (all : List Joined) (ps : List Part) (o : Option ℕ) (b : Builder) → ps ≡ [] → o ≡ None → built_parts b ≡ []
+    → built_lines b ≡ [] → IsHalfRead all all ps o b
 begins all ps o b p n bp bl = record {
   fault = ap (λ (x : List Part). verdict x o (map line_mark all)) p ∙ ap (λ (x : Option ℕ). verdict [] x (map line_mark all)) n;
   opened = λ _. bp ∙ sym p;
@@ -78,7 +79,8 @@ begins all ps o b p n bp bl = record {
 }
 
 -- the loop's step
-pub goes_on : (all left : List Joined) (j : Joined) (ps qs : List Part) (o u : Option ℕ) (b c : Builder) → Passes ps o b j qs u c → Stands all (j ∷ left) ps o b → Stands all left qs u c
+pub goes_on : (all left : List Joined) (j : Joined) (ps qs : List Part) (o u : Option ℕ) (b c : Builder)
+    → Passes ps o b j qs u c → IsHalfRead all (j ∷ left) ps o b → IsHalfRead all left qs u c
 goes_on all left j ps qs o u b c p h = record {
   fault = sym (p.fault (map line_mark left)) ∙ h.fault;
   opened = λ n. p.opened n (h.opened (p.before n));
@@ -117,7 +119,8 @@ pub tells_end : (whole : Option ParseFault) (ps : List Part) (o : Option ℕ) (r
 tells_end whole ps o r e h = subst (λ (v : Option ParseFault). Tells v r) e h
 
 -- all that was put together
-pub all_said : (all : List Joined) (ps : List Part) (o : Option ℕ) (b : Builder) (p : Program) → Stands all [] ps o b → Ended ps o b p → program_lines p ≡ said_lines (numbers all) (sayings all)
+pub all_said : (all : List Joined) (ps : List Part) (o : Option ℕ) (b : Builder) (p : Program)
+    → IsHalfRead all [] ps o b → Ended ps o b p → program_lines p ≡ said_lines (numbers all) (sayings all)
 all_said all ps o b p h e = e.laid_out (h.opened e.none_left) ∙ sym (append-nil (built_lines b)) ∙ h.said e.none_left
 
 -- the marks of all lines, where no bytes are left
@@ -125,8 +128,10 @@ pub all_marked : (done : List LineMark) (line : ℕ) (rest : List ℕ) (all : Li
 all_marked done line rest all e nothing = sym (append-nil done) ∙ ap (λ (l : List Joined). done ++ map line_mark l) (sym (none_left line rest nothing)) ∙ e
 
 -- and what stands of the lines then
-pub all_stand : (all : List Joined) (line : ℕ) (rest : List ℕ) (ps : List Part) (o : Option ℕ) (b : Builder) → Stands all (joined line (files.lines rest)) ps o b → rest ≡ [] → Stands all [] ps o b
-all_stand all line rest ps o b h nothing = subst (λ (left : List Joined). Stands all left ps o b) (none_left line rest nothing) h
+pub all_stand : (all : List Joined) (line : ℕ) (rest : List ℕ) (ps : List Part) (o : Option ℕ) (b : Builder)
+    → IsHalfRead all (joined line (files.lines rest)) ps o b → rest ≡ [] → IsHalfRead all [] ps o b
+all_stand all line rest ps o b h nothing = subst (λ (left : List Joined). IsHalfRead all left ps o b)
+    (none_left line rest nothing) h
 
 front_within : (k : ℕ) (xs : List ℕ) → length (take k xs) ≤ length xs
 front_within zero xs = omega arith

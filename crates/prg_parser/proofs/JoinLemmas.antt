@@ -1,8 +1,8 @@
 -- Lemmas on joined lines.
 
-use Rattle.std.proofs.Common.{◌≡◌, ℕ, ◌+◌, ◌<◌, List, [], ◌∷◌, ◌++◌, Option, Some, None, length, refl, sym, ◌∙◌, ap, arith, append_assoc, Bool, true, false, ◌==◌, ◌&&◌, suc}
+use Rattle.std.proofs.Common.{◌≡◌, ℕ, ◌+◌, ◌<◌, List, [], ◌∷◌, ◌++◌, Option, Some, None, length, refl, sym, ◌∙◌, arith}
+use Rattle.std.proofs.Common.{append_assoc, Bool, true, false, ◌==◌, ◌&&◌, suc}
 use Rattle.std.proofs.lemmas.Bool.{eqb-true}
-use Rattle.std.proofs.lemmas.List.{append-nil}
 use Rattle.prg_parser.specs.Lines as spec
 use Rattle.prg_parser.specs.Lines.{Joined}
 use Rattle.text_lines.specs.Lines as files
@@ -81,6 +81,3 @@ too_long n e = omega arith
 pub is_nothing : (rest : List ℕ) (b : Bool) → b ≡ true → b ≡ (length rest == 0) → rest ≡ []
 is_nothing [] b n e = refl
 is_nothing (x ∷ rest) b n e = let z : length (x ∷ rest) ≡ 0 = eqb-true (length (x ∷ rest)) 0 (sym e ∙ n) in absurd (too_long (length rest) z)
-
-pub all_joined : (done : List Joined) (line : ℕ) (rest : List ℕ) (all : List Joined) → done ++ spec.joined line (files.lines rest) ≡ all → rest ≡ [] → done ≡ all
-all_joined done line rest all e nothing = sym (append-nil done) ∙ ap (λ (l : List Joined). done ++ l) (sym (none_left line rest nothing)) ∙ e

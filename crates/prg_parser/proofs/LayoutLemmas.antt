@@ -1,5 +1,6 @@
 -- The lines of a tree, one equation for each kind of command.
-use Rattle.std.proofs.Common.{◌≡◌, ℕ, List, [], ◌∷◌, ◌++◌, Option, Some, None, Vec, Global, refl, sym, ap, ◌∙◌, append_assoc}
+use Rattle.std.proofs.Common.{◌≡◌, ℕ, List, [], ◌∷◌, ◌++◌, Option, Some, None, Vec, Global, refl, sym, ap, ◌∙◌}
+use Rattle.std.proofs.Common.{append_assoc}
 use Rattle.std.specs.Prelude.{option_map}
 use Rattle.std.proofs.lemmas.List.{append-nil}
 use Rattle.prg_expr.specs.Tree.{Tree, tree_of}
@@ -7,17 +8,22 @@ use Rattle.prg_expr.specs.declared.tree.Expr.{Expr}
 use Rattle.prg_line.specs.Act.{act_of}
 use Rattle.prg_line.specs.Saying.{Saying, line}
 use Rattle.prg_line.specs.Saying as saying
-use Rattle.prg_parser.specs.Commands.{Cmd, Cmds, Cases, Neither, When, Part, form_node, branch_node, case_node, command_node, case_of}
-use Rattle.prg_parser.specs.Layout.{Lines, laid, laid_in_turn, laid_cases, laid_part, form_lines, part_lines, case_lines, command_lines, body_lines, cases_lines, procedure_lines, procedures_lines}
+use Rattle.prg_parser.specs.Commands.{Cmd, Cmds, Cases, Neither, When, Part, form_node, branch_node, case_node}
+use Rattle.prg_parser.specs.Commands.{command_node, case_of}
+use Rattle.prg_parser.specs.Layout.{Lines, laid, laid_in_turn, laid_cases, laid_part, form_lines, part_lines}
+use Rattle.prg_parser.specs.Layout.{case_lines, command_lines, body_lines, cases_lines, procedure_lines}
+use Rattle.prg_parser.specs.Layout.{procedures_lines}
 use Rattle.prg_line.specs.declared.statement.Statement.{Statement as Single}
 use Rattle.prg_parser.specs.declared.command.Command.{Command}
 use Rattle.prg_parser.specs.declared.command.Case.{Case}
 use Rattle.prg_parser.specs.declared.command.Branch.{Branch}
 use Rattle.prg_parser.specs.declared.command.Form.{Form, Form-F, fold-roll-Form}
-use Rattle.prg_parser.specs.declared.command.Form.TheFolds.{fold-roll-Branch, fold-roll-Case, fold_out-Command, fold_out-Case}
+use Rattle.prg_parser.specs.declared.command.Form.TheFolds.{fold-roll-Branch, fold-roll-Case, fold_out-Command}
+use Rattle.prg_parser.specs.declared.command.Form.TheFolds.{fold_out-Case}
 use Rattle.prg_parser.specs.declared.command.Form.TheViews.{roll-Branch, roll-Case}
 use Rattle.prg_parser.specs.declared.command.Form.TheOpen.{Case-F, Branch-F}
-use Rattle.prg_parser.specs.declared.command.Form.TheVariants.{Statement, If, DoCase, DoWhile, Scan, rolls-Statement, rolls-If, rolls-DoCase, rolls-DoWhile, rolls-Scan}
+use Rattle.prg_parser.specs.declared.command.Form.TheVariants.{Statement, If, DoCase, DoWhile, Scan, rolls-Statement}
+use Rattle.prg_parser.specs.declared.command.Form.TheVariants.{rolls-If, rolls-DoCase, rolls-DoWhile, rolls-Scan}
 use Rattle.prg_parser.specs.declared.program.Procedure.{Procedure}
 
 pub form_statement : (s : Single) (n : ℕ) → form_lines (Statement s) n ≡ line n (saying.Whole (act_of s)) ∷ []

@@ -1,6 +1,7 @@
 -- Lemmas on the list of all faults.
 
-use Rattle.std.proofs.Common.{◌≡◌, ℕ, ◌+◌, ◌-◌, ◌<◌, ◌≤◌, List, [], ◌∷◌, ◌++◌, Option, Some, None, Bool, true, false, length, drop, get_or, refl, sym, ◌∙◌, ap, subst, append_assoc, arith}
+use Rattle.std.proofs.Common.{◌≡◌, ℕ, ◌+◌, ◌-◌, ◌<◌, ◌≤◌, List, [], ◌∷◌, ◌++◌, Option, Some, None, Bool, true, false}
+use Rattle.std.proofs.Common.{length, drop, get_or, refl, sym, ◌∙◌, ap, subst, append_assoc, arith}
 use Rattle.std.specs.Prelude.{option_map, slice_get, not, nat_le, ◌&&◌, is_some, if◌then◌else◌}
 use Rattle.std.proofs.lemmas.List.{append-nil}
 use Rattle.prg_expr.specs.declared.fault.ParseFaultKind.{ParseFaultKind}
@@ -12,7 +13,8 @@ use Rattle.prg_parser.specs.declared.judging.LineMark.{LineMark}
 use Rattle.prg_parser.specs.Verdict as spec
 use Rattle.prg_parser.specs.Verdict.{verdict}
 use Rattle.prg_parser.specs.Blocks.{fault_of_place, ends_block, begins_procedure, place_opened, parts_after}
-use Rattle.prg_parser.specs.Listing.{all_faults, deeper_behind, left_open, line_faults, listed_fault, parts_behind, unended, unended_before, wrong_at}
+use Rattle.prg_parser.specs.Listing.{all_faults, deeper_behind, left_open, line_faults, listed_fault, parts_behind}
+use Rattle.prg_parser.specs.Listing.{unended, unended_before, wrong_at}
 use Rattle.prg_line.proofs.ReadLemmas.{no_fault}
 use Rattle.prg_parser.proofs.VerdictLemmas.{split}
 

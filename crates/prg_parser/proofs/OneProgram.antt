@@ -2,9 +2,10 @@
 -- begins none.
 use Rattle.std.proofs.Common.{◌≡◌, ℕ, List, [], ◌∷◌, ◌++◌, Bool, true, false, refl, sym, ap, ◌∙◌, append_assoc}
 use Rattle.prg_line.specs.LineSays.{LineSays}
-use Rattle.prg_line.specs.Saying.{Saying, Line, line}
+use Rattle.prg_line.specs.Saying.{Saying, line}
 use Rattle.prg_line.specs.Saying as saying
-use Rattle.prg_parser.specs.Commands.{Cmd, Cmds, Cases, Part, ProcedureTree, ProgramTree, Single, If, DoCase, DoWhile, Scan, Done, Then, Neither, When, Absent, Otherwise}
+use Rattle.prg_parser.specs.Commands.{Cmd, Cmds, Cases, Part, ProcedureTree, ProgramTree, Single, If, DoCase, DoWhile}
+use Rattle.prg_parser.specs.Commands.{Scan, Done, Then, Neither, When, Absent, Otherwise}
 use Rattle.prg_parser.specs.Files.{SaysAll}
 use Rattle.prg_parser.specs.Layout.{Lines, laid, laid_in_turn, laid_cases, laid_part, laid_procedures, laid_program}
 use Rattle.prg_parser.specs.Lines.{Joined}

@@ -1,11 +1,11 @@
 -- What the reading of a whole file tells.
-use Rattle.std.proofs.Common.{◌≡◌, ℕ, List, [], None, map, length, sym, ◌∙◌}
+use Rattle.std.proofs.Common.{◌≡◌, ℕ, List, [], None, length, sym, ◌∙◌}
 use Rattle.prg_expr.specs.declared.fault.ParseRefusal.{ParseRefusal}
 use Rattle.prg_expr.specs.declared.fault.ParseRefusal.TheVariants.{Fault, Memory}
 use Rattle.prg_expr.specs.Faults.{OnFault, Tells}
 use Rattle.prg_line.specs.Saying.{Saying}
 use Rattle.prg_parser.specs.Files.{LinesFit, IsProgramOf}
-use Rattle.prg_parser.specs.HalfRead.{Ended, Stands}
+use Rattle.prg_parser.specs.HalfRead.{Ended, IsHalfRead}
 use Rattle.prg_parser.specs.Lines.{before_end, joined_lines}
 use Rattle.prg_parser.specs.Marks.{marks}
 use Rattle.prg_parser.specs.Verdict.{NamesLine, verdict}
@@ -26,9 +26,11 @@ pub refused : PlacedLaw → FullLaw → (bytes : List ℕ) (r : ParseRefusal) �
 refused placed full bytes (Fault fault) h = not_refused placed full bytes fault h
 refused placed full bytes Memory h = tt
 
-pub faultless : (bytes : List ℕ) (ps : List Part) (o : Option ℕ) (b : Builder) (p : Program) → Stands (joined_lines bytes) [] ps o b → Ended ps o b p → verdict [] None (marks bytes) ≡ None
+pub faultless : (bytes : List ℕ) (ps : List Part) (o : Option ℕ) (b : Builder) (p : Program)
+    → IsHalfRead (joined_lines bytes) [] ps o b → Ended ps o b p → verdict [] None (marks bytes) ≡ None
 faultless bytes ps o b p s e = sym s.fault ∙ e.faultless
 
-pub spelled : SoundLaw → PlacedLaw → (bytes : List ℕ) (ps : List Part) (o : Option ℕ) (b : Builder) (p : Program) → Stands (joined_lines bytes) [] ps o b → Ended ps o b p → IsProgramOf bytes p
+pub spelled : SoundLaw → PlacedLaw → (bytes : List ℕ) (ps : List Part) (o : Option ℕ) (b : Builder) (p : Program)
+    → IsHalfRead (joined_lines bytes) [] ps o b → Ended ps o b p → IsProgramOf bytes p
 spelled sound placed bytes ps o b p s e =
     is_program sound placed bytes p (faultless bytes ps o b p s e) e.unnamed (all_said (joined_lines bytes) ps o b p s e)

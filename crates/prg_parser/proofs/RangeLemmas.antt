@@ -1,17 +1,21 @@
 -- The line that a fault names is a line of the file.
 
-use Rattle.std.proofs.Common.{◌≡◌, ℕ, suc, ◌+◌, ◌-◌, ◌<◌, ◌≤◌, List, [], ◌∷◌, ◌++◌, Option, Some, None, Bool, true, false, length, get_or, map, refl, sym, ap, subst, arith}
+use Rattle.std.proofs.Common.{◌≡◌, ℕ, suc, ◌+◌, ◌-◌, ◌<◌, ◌≤◌, List, [], ◌∷◌, ◌++◌, Option, Some, None, Bool, true}
+use Rattle.std.proofs.Common.{false, length, get_or, map, refl, sym, ap, subst, arith}
 use Rattle.std.specs.Prelude.{slice_get, option_map, if◌then◌else◌, is_none, nat_le, nat_lt}
 use Rattle.std.specs.List.{All}
 use Rattle.std.proofs.lemmas.Option.{slice_get_within, get_or_from_slice_get}
-use Rattle.std.proofs.lemmas.List.Elements.{All-nil, All-cons, All-head, All-tail, All-weaker, All-push, All-take, All-get_or, All-append, All-map, All-same}
+use Rattle.std.proofs.lemmas.List.Elements.{All-nil, All-cons, All-head, All-tail, All-weaker, All-push, All-take}
+use Rattle.std.proofs.lemmas.List.Elements.{All-get_or, All-append, All-map, All-same}
 use Rattle.prg_expr.specs.declared.fault.ParseFaultKind.{ParseFaultKind}
 use Rattle.prg_expr.specs.declared.fault.ParseFault.{ParseFault}
 use Rattle.prg_parser.specs.declared.blocks.Part.{Part}
 use Rattle.prg_parser.specs.declared.blocks.Place.{Place}
-use Rattle.prg_parser.specs.declared.blocks.Place.TheVariants.{InThen, InElse, BeforeCases, InCase, InOtherwise, InWhile, InScan}
+use Rattle.prg_parser.specs.declared.blocks.Place.TheVariants.{InThen, InElse, BeforeCases, InCase, InOtherwise}
+use Rattle.prg_parser.specs.declared.blocks.Place.TheVariants.{InWhile, InScan}
 use Rattle.prg_line.specs.declared.role.Role.{Role}
-use Rattle.prg_line.specs.declared.role.Role.TheVariants.{Nothing, Plain, Leap, Procedure, If, Else, EndIf, DoCase, Case, Otherwise, EndCase, DoWhile, EndDo, Scan, EndScan}
+use Rattle.prg_line.specs.declared.role.Role.TheVariants.{Nothing, Plain, Leap, Procedure, If, Else, EndIf, DoCase}
+use Rattle.prg_line.specs.declared.role.Role.TheVariants.{Case, Otherwise, EndCase, DoWhile, EndDo, Scan, EndScan}
 use Rattle.prg_parser.specs.declared.judging.LineMark.{LineMark}
 use Rattle.prg_parser.specs.Lines as lines
 use Rattle.text_lines.specs.Lines as text

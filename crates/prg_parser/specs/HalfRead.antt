@@ -17,9 +17,9 @@ use Rattle.prg_parser.specs.Verdict.{verdict}
 abbrev pub sayings : List Joined → List Saying
 sayings lines = map (λ line. saying_at line.text) lines
 
--- One line is passed, from open parts, the first block that was left open, and what was put together, to those behind
--- it. The fault that is told of the lines is that of the others. Where no block was left open, what the line says is
--- taken, and the blocks that are open in what was put together are those that are open.
+-- One line is passed: it leads from open parts, the first block that was left open, and what was put together, to the
+-- same behind it. The fault that is told of all lines is that of the others. Where no block was left open, what the
+-- line says is taken, and the blocks that are open in what was put together are those that are open.
 pub record Passes (parts : List Part) (unended : Option ℕ) (builder : Builder) (line : Joined) (next : List Part)
     (unended_then : Option ℕ) (built : Builder) : Type 0 where
   pub fault : (others : List LineMark)
@@ -30,7 +30,7 @@ pub record Passes (parts : List Part) (unended : Option ℕ) (builder : Builder)
 
 -- Of these lines, some are left. The fault that is told of all of them is that of those that are left. Where no block
 -- was left open, what was put together are the lines that aren't left.
-pub record Stands (lines left : List Joined) (parts : List Part) (unended : Option ℕ) (builder : Builder)
+pub record IsHalfRead (lines left : List Joined) (parts : List Part) (unended : Option ℕ) (builder : Builder)
     : Type 0 where
   pub fault : verdict parts unended (map line_mark left) ≡ verdict [] None (map line_mark lines)
   pub opened : unended ≡ None → built_parts builder ≡ parts

@@ -1,5 +1,5 @@
-//! Commands and blocks put together, line by line. The lines were judged before: each fits the block that is open where
-//! it stands, and a line that doesn't, which isn't met, would be passed over.
+//! Commands and blocks put together, line by line. The lines were judged before, so each fits the block that is open
+//! where it stands. A line that didn't fit would be passed over.
 
 ghost use Rattle.std.specs.Prelude.{◌≡◌, ◌++◌, ◌∷◌, [], ℕ, true, None, Some, IfOk, map, option_map};
 ghost use Rattle.prg_expr.specs.Tree.{tree_of};

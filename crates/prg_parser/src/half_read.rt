@@ -34,7 +34,7 @@ pub struct HalfRead {
 
 /// A file of which no line is read.
 fn unread(alloc: Global) -> HalfRead
-    ensures { (all : List Joined) → spec.Stands all all result.parts.items result.unended result.builder }
+    ensures { (all : List Joined) → spec.IsHalfRead all all result.parts.items result.unended result.builder }
 {
     HalfRead {
         parts: OpenParts::new(),
@@ -95,7 +95,7 @@ fn pass(alloc: Global, half: HalfRead, line: &JoinedLine) -> Result<HalfRead, Pa
 /// Reads the lines of a file up to its end, or up to the first one with a fault.
 pub fn read_file(alloc: Global, bytes: &[u8]) -> Result<HalfRead, ParseRefusal>
     ensures told { IfErr result (Tells (verdict [] None (marks bytes.now))) }
-    ensures read { IfOk result (λ half. spec.Stands (joined_lines bytes.now) [] half.parts.items half.unended
+    ensures read { IfOk result (λ half. spec.IsHalfRead (joined_lines bytes.now) [] half.parts.items half.unended
         half.builder) }
 {
     let mut rest = before_end(bytes);

@@ -21,6 +21,7 @@ use Rattle.prg_code.specs.Bindings.{NamedVariables, slot_named}
 use Rattle.prg_values.specs.declared.scope.Scope.{Scope}
 use Rattle.prg_values.specs.declared.scope.Reading.{Reading}
 use Rattle.prg_values.specs.declared.scope.FieldPlace.{FieldPlace}
+pub use Rattle.prg_expr.specs.Reading.{if_some as on_some}
 
 -- what names are looked up in: the declared tables, what is known, the variables' slots, and whether it is a filter's
 -- condition
@@ -32,11 +33,6 @@ pub record Scoped : Type 0 where
 
 abbrev pub scoped : Scope → Scoped
 scoped s = record { shape = s.shape.now; state = s.state.now; names = s.names.now; in_filter = s.in_filter }
-
--- what is made of something that is there
-abbrev pub on_some : {A B : Type 0} → Option A → B → (A → B) → B
-on_some None b f = b
-on_some (Some a) b f = f a
 
 -- what was found is the definition's, and there is none of it where nothing was found
 abbrev pub FindsReading : {A : Type 0} → Result A CompileFaultKind → Option A → Type 0
@@ -84,7 +80,7 @@ area_at desk (suc n) = or_closed (slice_get desk.areas n)
 abbrev pub number_below : ℕ → ℕ → Option ℕ
 number_below limit number = if nat_lt number limit then Some number else None
 
--- the declared table of this name: its number, where the first of these has this one
+-- the number of the first table of this name, where the first of these tables has this number
 abbrev pub table_from : ℕ → List TableShape → List ℕ → Option ℕ
 table_from number [] name = None
 table_from number (s ∷ ss) name = if bytes_eq s.name.items name then number_below 65536 number

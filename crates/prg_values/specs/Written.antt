@@ -140,13 +140,10 @@ may_ask in_filter Deleted = true
 may_ask true q = false
 may_ask false q = true
 
-abbrev pub answer_kind : Question → Kind
-answer_kind q = kind_asked q
-
 -- of the selected area, which is known to be open
 abbrev pub question_kind : Scoped → Question → Option Kind
 question_kind s q = if is_none (open_at s.state.desk s.state.desk.selected) then None else if may_ask s.in_filter q
-    then Some (answer_kind q) else None
+    then Some (kind_asked q) else None
 
 -- what takes no arguments
 abbrev pub of_none : List Kind → Option Kind → Option Kind

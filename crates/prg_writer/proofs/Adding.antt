@@ -1,5 +1,6 @@
 -- A procedure goes behind the others, unless its name is there.
-use Rattle.std.proofs.Common.{◌≡◌, Bool, true, false, true≢false, if◌then◌else◌, is_some, List, [], ◌∷◌, ◌++◌, Option, Some, None, ap, sym, refl, ◌∙◌, ℕ}
+use Rattle.std.proofs.Common.{◌≡◌, false, true≢false, if◌then◌else◌, is_some, [], ◌∷◌, ◌++◌, Option, Some, None, ap}
+use Rattle.std.proofs.Common.{sym, refl, ◌∙◌, ℕ}
 use Rattle.arrayvec.specs.ArrayVec.{ArrayVec}
 use Rattle.prg_writer.specs.declared.writer.Target.{Target}
 use Rattle.prg_writer.specs.Targets.{NamedTargets, target_named, with_target}

@@ -1,5 +1,6 @@
 -- What a mark is behind still stands where all is given up that was written since.
-use Rattle.std.proofs.Common.{◌≡◌, ℕ, zero, suc, ◌≤◌, true, List, [], ◌∷◌, ◌++◌, take, length, refl, sym, ap, subst, ◌∙◌, arith, length-append}
+use Rattle.std.proofs.Common.{◌≡◌, ℕ, zero, suc, ◌≤◌, List, [], ◌∷◌, ◌++◌, take, length, refl, sym, ap, subst, ◌∙◌}
+use Rattle.std.proofs.Common.{arith, length-append}
 use Rattle.prg_code.specs.declared.work.Output.{Output}
 use Rattle.prg_code.specs.Growth.{OutputGrows}
 use Rattle.prg_code.specs.Numbers.{Grows}

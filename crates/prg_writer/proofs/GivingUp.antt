@@ -1,5 +1,5 @@
 -- What was written since a mark is given up whole.
-use Rattle.std.proofs.Common.{◌≡◌, ℕ, List, ◌++◌, take, length, ap, sym, ◌∙◌}
+use Rattle.std.proofs.Common.{◌≡◌, ℕ, List, take, length, ap, sym, ◌∙◌}
 use Rattle.std.proofs.lemmas.List.{take_at}
 use Rattle.code_items.specs.declared.state.State.{State}
 use Rattle.prg_code.specs.Numbers.{Grows}

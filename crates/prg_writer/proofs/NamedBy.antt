@@ -3,14 +3,16 @@ use Rattle.std.proofs.Common.{◌≡◌, ℕ, Option, Some, None, Vec, Global, a
 use Rattle.prg_expr.specs.declared.tree.Expr.{Expr}
 use Rattle.prg_line.specs.Act.{act_of}
 use Rattle.prg_line.specs.declared.statement.Statement.{Statement as Line}
-use Rattle.prg_parser.specs.Commands.{Cmd, Cases, Part, form_node, branch_node, case_node, command_node, form_command, command_of}
+use Rattle.prg_parser.specs.Commands.{Cmd, Cases, Part, form_node, branch_node, case_node, command_node, form_command}
+use Rattle.prg_parser.specs.Commands.{command_of}
 use Rattle.prg_parser.specs.declared.command.Branch.{Branch}
 use Rattle.prg_parser.specs.declared.command.Case.{Case}
 use Rattle.prg_parser.specs.declared.command.Command.{Command}
 use Rattle.prg_parser.specs.declared.command.Form.{Form-F, fold-roll-Form}
 use Rattle.prg_parser.specs.declared.command.Form.TheFolds.{fold_out-Command}
 use Rattle.prg_parser.specs.declared.command.Form.TheVariants as form
-use Rattle.prg_parser.specs.declared.command.Form.TheVariants.{rolls-Statement, rolls-If, rolls-DoCase, rolls-DoWhile, rolls-Scan}
+use Rattle.prg_parser.specs.declared.command.Form.TheVariants.{rolls-Statement, rolls-If, rolls-DoCase, rolls-DoWhile}
+use Rattle.prg_parser.specs.declared.command.Form.TheVariants.{rolls-Scan}
 use Rattle.prg_writer.specs.Writing.{parameters_said, parameters_named}
 
 pub of_statement : (s : Line) (n : ℕ) → parameters_named (form_command (form.Statement s) n) ≡ parameters_said (act_of s)

@@ -1,5 +1,5 @@
 -- What is written, and what is given up.
-use Rattle.std.specs.Prelude.{◌≡◌, ℕ, ◌-◌, ◌≤◌, Bool, true, false, ◌⊎◌, List, [], ◌∷◌, ◌++◌, Option, Some, None}
+use Rattle.std.specs.Prelude.{◌≡◌, ℕ, ◌-◌, ◌≤◌, true, false, ◌⊎◌, List, [], ◌∷◌, ◌++◌, Option, Some, None}
 use Rattle.std.specs.Prelude.{take, length, map, slice_get}
 use Rattle.std.specs.Option.{option_map_or}
 use Rattle.arrayvec.specs.ArrayVec.{ArrayVec}

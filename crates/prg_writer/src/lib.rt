@@ -1,4 +1,4 @@
-//! The copies of procedures that are being written, what a round of a loop is given up to, and the finished code.
+//! The copies of procedures that are being written, how a round of a loop is given up, and the finished code.
 #![tactic(auto)]
 
 mod assembling;

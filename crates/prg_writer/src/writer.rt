@@ -1,4 +1,4 @@
-//! The copies of procedures that are written, and what a round of a loop is given up to.
+//! The copies of procedures that are written, and how a round of a loop is given up.
 
 ghost use Rattle.std.specs.Prelude.{◌≡◌, [], ◌∷◌, ◌++◌, None, Ok, Err, false, is_some, map, option_map, take};
 ghost use Rattle.std.specs.Prelude.{IfOk, IfErr, IfSome, OnOk, MatchResult};

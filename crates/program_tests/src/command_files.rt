@@ -189,6 +189,7 @@ TABLE BILL
 %table BILL.DBF AMT N 5 2
  10.00|
 %each 14
+%sorted 1
 %source
 USE BILL
 REPLACE AMT WITH 123.456
@@ -207,6 +208,7 @@ TABLE T
 %each 4
 %full again
 %limit 2
+%sorted 2
 %source
 USE T
 APPEND BLANK
@@ -226,6 +228,7 @@ INDEX KI ON T KEY K
  A| B| C|
 %each 37
 %parts
+%sorted 1
 %source
 USE T
 INDEX ON K TO KI
@@ -266,6 +269,7 @@ INDEX PN ON P KEY NAME
  SMITH     | SMITH     | SMITH     | SMITH     | SMITH     | SMITH     | SMITH     | SMITH     | SMITH     | SMITH     |
 %each 48
 %parts
+%sorted 3
 %source
 USE P
 INDEX ON NAME TO PN
@@ -339,6 +343,7 @@ INDEX KI ON T KEY K
 %each 23
 %parts
 %lends
+%sorted 1
 %calls 5
 %untold disk MAIN.DCL|disk T.DBF|disk MAIN.PRG|disk MAIN.XBC
 %source

@@ -1,4 +1,4 @@
-// Runs of the checking machine over an index that is kept in memory as sorted keys.
+// Runs of the checking machine over a table, whose index, if it has one, is kept in memory as sorted keys.
 #![tactic(auto)]
 
 ghost use Rattle.std.specs.Prelude.{IsTrue, IsSome};
@@ -21,20 +21,36 @@ use work_area::handed::{are_lists, are_of_shape};
 use xcode::LegalCode;
 
 /// The most records of the table.
-const LIMIT: u32 = 1000;
+fn limit_of(case: RunCase<'_>) -> u32 {
+    u32::try_from(case.number("limit ", 1000)).unwrap_or(0)
+}
 
-/// A table with these bytes of its file, and its index, which is stale.
+/// How many indexes a case declares.
+fn index_count(case: RunCase<'_>) -> usize {
+    let mut count = 0_usize;
+    for line in case.says("declarations\n").lines() {
+        if line.starts_with("INDEX") {
+            count = count.saturating_add(1);
+        }
+    }
+    count
+}
+
+/// The table of a case with these bytes of its file, and its indexes, which are stale.
 fn handed(
     alloc: Global,
     bytes: &[u8],
+    case: RunCase<'_>,
 ) -> Result<Option<(Vec<Table>, Vec<Option<SortedKeys>>)>, AllocError> {
-    let Ok(table) = read(alloc, bytes, LIMIT as usize) else {
+    let Ok(table) = read(alloc, bytes, limit_of(case) as usize) else {
         return Ok(None);
     };
     let mut tables = Vec::new(alloc);
     tables.push(table)?;
     let mut lists = Vec::new(alloc);
-    lists.push(None)?;
+    for _ in 0..index_count(case) {
+        lists.push(None)?;
+    }
     Ok(Some((tables, lists)))
 }
 
@@ -49,10 +65,11 @@ fn run_over(
     legal_codes();
     new_stores_fit();
     let shape = &code.code().declared.shape;
-    if !shape.is_legal() || !are_of_shape(shape, &tables, LIMIT) || !are_lists(shape, &lists) {
+    let limit = limit_of(case);
+    if !shape.is_legal() || !are_of_shape(shape, &tables, limit) || !are_lists(shape, &lists) {
         return None;
     }
-    let Ok(store) = Store::new(alloc, shape, tables, lists, LIMIT) else {
+    let Ok(store) = Store::new(alloc, shape, tables, lists, limit) else {
         return None;
     };
     let day = day_in(case)?.day();
@@ -83,12 +100,12 @@ fn is_line(line: &str, key: &[u8], record: u32) -> bool {
     number.parse() == Ok(record) && text.as_bytes() == key
 }
 
-/// Whether the index isn't stale, and its list is just this.
+/// Whether the index isn't stale, and its list is just this, behind the names of its file and its key.
 fn lists_just(store: &Store<SortedKeys>, list: &str) -> bool {
     let Some(keys) = store.keys(0) else {
         return false;
     };
-    let mut lines = list.lines().skip(1);
+    let mut lines = list.lines().skip(2);
     for entry in keys.pairs() {
         match lines.next() {
             Some(line) if is_line(line, entry.key(), entry.number()) => {}
@@ -104,16 +121,18 @@ fn has_ended(outcome: Outcome, case: RunCase<'_>) -> bool {
     let word = match outcome.end {
         End::Finished => "finished",
         End::Spent => "spent",
+        End::Full(_) => "full",
         _ => "",
     };
-    ended.split_whitespace().next() == Some(word) && number_at(ended, 1) == outcome.steps
+    let place = if word == "full" { 2 } else { 1 };
+    ended.split_whitespace().next() == Some(word) && number_at(ended, place) == outcome.steps
 }
 
 /// Whether a world is left as a case says.
 fn is_left(alloc: Global, world: &World<SortedKeys>, case: RunCase<'_>) -> bool {
     are_bytes(world.finish(alloc), case.says("rows\n").as_bytes())
         && points_to(world.store(), case.number("sorted ", 0))
-        && lists_just(world.store(), case.says("keys KI.NDX\n"))
+        && (!case.has("keys ") || lists_just(world.store(), case.says("keys ")))
 }
 
 /// Whether the run of a case over sorted keys prints, ends and leaves what it says.
@@ -122,8 +141,9 @@ fn runs_so(alloc: Global, files: &mut MemoryFiles<'_>, case: RunCase<'_>) -> Opt
         return None;
     }
     let code = read_code(alloc, files, CODE).ok()?;
-    let bytes = files.bytes_of("T.DBF")?;
-    let (tables, lists) = handed(alloc, bytes).ok()??;
+    let name = case.line("table ").split_whitespace().next()?;
+    let bytes = files.bytes_of(name)?;
+    let (tables, lists) = handed(alloc, bytes, case).ok()??;
     let (outcome, world) = run_over(alloc, &code, tables, lists, case)?;
     Some(has_ended(outcome, case) && is_left(alloc, &world, case))
 }

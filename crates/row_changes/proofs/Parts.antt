@@ -179,18 +179,6 @@ stays_leads row other before after m n up on same = record {
   };
 }
 
-pub leads_itself : (before after : List (List ℕ)) (m n : ℕ) → Rising before → Rising after
-    → LeadsOn before after m n before after m n
-leads_itself before after m n up on = record { left_rises = up; right_rises = on; back = λ M N h. h }
-
-pub leads_through : (a b : List (List ℕ)) (m n : ℕ) (c d : List (List ℕ)) (i j : ℕ) (e f : List (List ℕ)) (k l : ℕ)
-    → LeadsOn a b m n c d i j → LeadsOn c d i j e f k l → LeadsOn a b m n e f k l
-leads_through a b m n c d i j e f k l ac ce = record {
-  left_rises = ce.left_rises;
-  right_rises = ce.right_rises;
-  back = λ M N h. ac.back M N (ce.back M N h);
-}
-
 counted_so : (before after : List (List ℕ)) (i j : ℕ) → AddUp before after 0 0 i j → GoesAndComes before after i j
 counted_so before after i j h =
     let gone : h.goes ≡ i = omega (arith, h.gone) in
@@ -280,7 +268,3 @@ both_stay before after later others first other m n up on e f same =
     n) (sym f)
     (λ on. stays_leads first.items other.items (texts later) (texts others) m n up on
     (same_row first.items other.items same)) on) up
-
-pub no_texts : (rows : List (Vec ℕ)) → length rows ≡ 0 → texts rows ≡ []
-no_texts [] e = refl
-no_texts (row ∷ rows) e = absurd (omega (arith, e))

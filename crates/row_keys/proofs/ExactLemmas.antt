@@ -1,11 +1,11 @@
 -- A list of as many pairs as rows, each of which is a row's, lists the rows.
-use Rattle.std.proofs.Common.{◌≡◌, ℕ, zero, suc, ◌+◌, ◌<◌, ◌≤◌, true, ◌↔◌, ◌⊎◌, inl, inr, Option, Some, None, List, []}
+use Rattle.std.proofs.Common.{◌≡◌, ℕ, zero, suc, ◌+◌, ◌<◌, ◌≤◌, true, ◌↔◌, ◌⊎◌, inl, inr, List, []}
 use Rattle.std.proofs.Common.{◌∷◌, ◌++◌, length, get_or, refl, sym, ap, ◌∙◌, subst, arith}
 use Rattle.std.specs.List.{Contains}
 use Rattle.std.proofs.lemmas.Bool.{false≢true}
 use Rattle.dbf_file.specs.Rows.{Row, row_at}
-use Rattle.key_lists.specs.Laws.{OrdersPairs, MeetsEach}
-use Rattle.key_lists.specs.Order.{Each, IsAscending, IsStrictOrder, above, first}
+use Rattle.key_lists.specs.Laws.{OrdersPairs}
+use Rattle.key_lists.specs.Order.{Each, IsAscending, IsStrictOrder}
 use Rattle.key_lists.specs.Pairs.{Pair, is_before}
 use Rattle.row_keys.specs.Lists.{index_list, row_pair, IsIndexList}
 use Rattle.shape.specs.declared.parts.KeyPart.{KeyPart}
@@ -78,98 +78,6 @@ pub lists_all : OrdersPairs → (parts : List KeyPart) (rows : List Row) (pairs 
     → pairs ≡ index_list parts rows
 lists_all orders parts rows pairs law ordered count each = sym
     (same_lists orders.strict (index_list parts rows) pairs law.ordered ordered each (omega (arith, count, law.count)))
-
-pub lists_count : (parts : List KeyPart) (rows : List Row) (pairs : List Pair) → IsIndexList parts rows
-    → (length pairs ≡ length rows → ⊥) → pairs ≡ index_list parts rows → ⊥
-lists_count parts rows pairs law differ e = differ (ap (λ (ps : List Pair). length ps) e ∙ law.count)
-
--- ---- a walk along the list
-
--- so many pairs were met, all of them in another list, and next is the first of those that are left
-pub record Walked (index pairs : List Pair) (k : ℕ) (next : Option Pair) : Type 0 where
-  pub met : List Pair
-  pub left : List Pair
-  pub whole : pairs ≡ met ++ left
-  pub here : next ≡ first left
-  pub on : (q : Pair) → next ≡ Some q → left ≡ q ∷ above is_before q pairs
-  pub each : Each (Contains index) met
-  pub count : length met ≡ k
-
-pub walk_starts : (index pairs : List Pair) (next : Option Pair) → MeetsEach pairs → next ≡ first pairs
-    → Walked index pairs 0 next
-walk_starts index pairs next meets e =
-    record {
-      met = [];
-      left = pairs;
-      whole = refl;
-      here = e;
-      on = λ q f. meets.least q (sym e ∙ f);
-      each = tt;
-      count =
-          refl;
-    }
-
-each_more : (P : Pair → Type 0) (xs : List Pair) (q : Pair) → Each P xs → P q → Each P (xs ++ q ∷ [])
-each_more P [] q h p = (p, tt)
-each_more P (x ∷ xs) q h p = (h.0, each_more P xs q h.1 p)
-
-one_more : (xs : List Pair) (q : Pair) (ys : List Pair) → xs ++ q ∷ ys ≡ (xs ++ q ∷ []) ++ ys
-one_more [] q ys = refl
-one_more (x ∷ xs) q ys = ap (λ zs. x ∷ zs) (one_more xs q ys)
-
-one_longer : (xs : List Pair) (q : Pair) → length (xs ++ q ∷ []) ≡ length xs + 1
-one_longer [] q = refl
-one_longer (x ∷ xs) q = omega (arith, one_longer xs q)
-
-pub walk_goes : (index pairs : List Pair) (k : ℕ) (q : Pair) (next : Option Pair) → MeetsEach pairs
-    → Walked index pairs k (Some q) → Contains index q → next ≡ first (above is_before q pairs)
-    → Walked index pairs (k + 1) next
-walk_goes index pairs k q next meets w there e = record {
-  met = w.met ++ q ∷ [];
-  left = above is_before q pairs;
-  whole = w.whole ∙ ap (λ zs. w.met ++ zs) (w.on q refl) ∙ one_more w.met q (above is_before q pairs);
-  here = e;
-  on = λ p f. meets.next q p (sym e ∙ f);
-  each = each_more (Contains index) w.met q w.each there;
-  count = omega (arith, one_longer w.met q, w.count);
-}
-
-there_between : (xs : List Pair) (q : Pair) (ys : List Pair) → Contains (xs ++ q ∷ ys) q
-there_between [] q ys = (0, omega arith, refl)
-there_between (x ∷ xs) q ys = let c = there_between xs q ys in (suc c.0, omega (arith, c.1), c.2)
-
--- what is next is in the list
-pub next_is_there : (index pairs : List Pair) (k : ℕ) (q : Pair) → Walked index pairs k (Some q) → Contains pairs q
-next_is_there index pairs k q w = subst (λ (ps : List Pair). Contains ps q)
-    (sym (w.whole ∙ ap (λ zs. w.met ++ zs) (w.on q refl))) (there_between w.met q (above is_before q pairs))
-
-length_both : (xs ys : List Pair) → length (xs ++ ys) ≡ length xs + length ys
-length_both [] ys = omega arith
-length_both (x ∷ xs) ys = omega (arith, length_both xs ys)
-
-none_first : (xs : List Pair) → None ≡ first xs → length xs ≡ 0
-none_first [] e = refl
-none_first (x ∷ xs) e =
-    absurd (subst (λ (o : Option Pair). elim o as (λ _. Type 0) [ None ↦ Unit {0} | Some q ↦ ⊥ ]) e tt)
-
--- the walk ends at the end of the list
-pub walk_ends : (index pairs : List Pair) (k : ℕ) → Walked index pairs k None → k < length pairs → ⊥
-walk_ends index pairs k w lt = omega
-    (arith, lt, w.count, none_first w.left w.here, length_both w.met w.left, ap (λ (ps : List Pair). length ps) w.whole)
-
-each_whole : (P : Pair → Type 0) (xs ys : List Pair) → Each P xs → length ys ≡ 0 → Each P (xs ++ ys)
-each_whole P [] [] h e = tt
-each_whole P [] (y ∷ ys) h e = absurd (omega (arith, e))
-each_whole P (x ∷ xs) ys h e = (h.0, each_whole P xs ys h.1 e)
-
--- and has met each pair where it met as many as there are
-pub walk_met_all : (index pairs : List Pair) (k : ℕ) (next : Option Pair) → Walked index pairs k next → length pairs ≤ k
-    → Each (Contains index) pairs
-walk_met_all index pairs k next w le =
-    let e : length w.left ≡ 0 =
-    omega (arith, le, w.count, length_both w.met w.left, ap (λ (ps : List Pair). length ps) w.whole) in
-    subst (λ (ps : List Pair). Each (Contains index) ps) (sym w.whole)
-    (each_whole (Contains index) w.met w.left w.each e)
 
 -- ---- one pair
 

@@ -84,11 +84,11 @@ module _ (law : ListLaw) (s : StructureState) (rows : List Row) (row : Row) wher
 
 -- ---- a row of which field f had this text before
 
--- a key that isn't made of the field is as it was
 or_false : (a b : Bool) → (a || b) ≡ false → (a ≡ false) × (b ≡ false)
 or_false true b e = cc
 or_false false b e = (refl, e)
 
+-- a key that isn't made of the field is as it was
 pub unnamed : (parts : List KeyPart) (texts : List (List ℕ)) (f : ℕ) (text : List ℕ) → names_field parts f ≡ false
     → key_of parts (set texts f text) ≡ key_of parts texts
 unnamed [] texts f text e = refl

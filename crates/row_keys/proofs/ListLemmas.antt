@@ -8,7 +8,7 @@ use Rattle.dbf_file.specs.Rows.{Row, row_at, no_row, with_mark}
 use Rattle.key_lists.specs.Order.{Each, IsAscending, IsDistinct, in_order, inserted, without}
 use Rattle.key_lists.specs.Pairs.{Pair, is_before}
 use Rattle.key_lists.specs.Laws.{PutsInOrder, ChangesRows}
-use Rattle.key_lists.proofs.Ordered.{Each-append, Each-at, absent-Each}
+use Rattle.key_lists.proofs.Ordered.{Each-append, absent-Each, take_drop_at, set_at}
 use Rattle.row_keys.specs.declared.building.Kept.{Kept}
 use Rattle.row_keys.specs.declared.building.Kept.TheVariants.{Nothing}
 use Rattle.shape.specs.declared.parts.KeyPart.{KeyPart}
@@ -60,18 +60,6 @@ module _ (parts : List KeyPart) where
   get_or-row_pairs n (row ∷ rows) (suc k) d lt = get_or-row_pairs (n + 1) rows k d (omega arith)
       ∙ ap (λ m. (key_of parts (get_or rows k no_row).texts, m)) (omega arith)
 
--- a list around one of its elements
-split_at : {X : Type 0} (xs : List X) (i : ℕ) (d : X) → i < length xs
-    → xs ≡ take i xs ++ get_or xs i d ∷ drop (suc i) xs
-split_at [] i d lt = absurd (omega arith)
-split_at (x ∷ xs) zero d lt = refl
-split_at (x ∷ xs) (suc i) d lt = ap (λ ys. x ∷ ys) (split_at xs i d (omega arith))
-
-set_split : {X : Type 0} (xs : List X) (i : ℕ) (y : X) → i < length xs → set xs i y ≡ take i xs ++ y ∷ drop (suc i) xs
-set_split [] i y lt = absurd (omega arith)
-set_split (x ∷ xs) zero y lt = refl
-set_split (x ∷ xs) (suc i) y lt = ap (λ ys. x ∷ ys) (set_split xs i y (omega arith))
-
 length_take : {X : Type 0} (xs : List X) (i : ℕ) → i < length xs → length (take i xs) ≡ i
 length_take [] i lt = absurd (omega arith)
 length_take (x ∷ xs) zero lt = refl
@@ -109,15 +97,6 @@ module _ (order : OrderLaw) (parts : List KeyPart) (rows : List Row) where
         sym c.2 ∙ get_or-row_pairs parts 1 rows c.0 (key, n) lt
             ∙ ap (λ m. (key_of parts (get_or rows c.0 no_row).texts, m)) {x = 1 + c.0} {y = c.0 + 1} (omega arith),
       )
-
-  -- a number past the last is not in the index
-  pub not_listed : (key : List ℕ) (n : ℕ) → length rows < n → Contains (index_list parts rows) (key, n) → ⊥
-  unfolding index_list
-  not_listed key n past there =
-      absent-Each (row_pairs parts 1 rows) (key, n)
-      (Each-row_pairs parts (λ p. p ≡ (key, n) → ⊥) 1 (length rows + 1) rows (omega arith)
-      (λ k r a b e. let same : k ≡ n = ap (λ (p : Pair). p.1) e in omega arith))
-      (((order (row_pairs parts 1 rows)).members (key, n)).0 there)
 
 -- a row at the end goes into the index
 pub index_list-push : (law : RowsLaw) (parts : List KeyPart) (rows : List Row) (row : Row)
@@ -158,7 +137,7 @@ module _ (law : RowsLaw) (parts : List KeyPart) (rows : List Row) (i : ℕ) (lt 
 
   whole_list : in_order is_before (row_pairs parts 1 rows) ≡ in_order is_before
       (pairs_before ++ (key_of parts (row_at rows i).texts, i + 1) ∷ pairs_after)
-  whole_list = ap (λ rs. in_order is_before (row_pairs parts 1 rs)) (split_at rows i no_row lt)
+  whole_list = ap (λ rs. in_order is_before (row_pairs parts 1 rs)) (take_drop_at rows i no_row lt)
       ∙ ap (in_order is_before) (around (row_at rows i))
 
   apart : (key : List ℕ) → Each (λ p. p ≡ (key, i + 1) → ⊥) (pairs_before ++ pairs_after)
@@ -170,7 +149,7 @@ module _ (law : RowsLaw) (parts : List KeyPart) (rows : List Row) (i : ℕ) (lt 
       (without is_before (row_pair parts rows i) (index_list parts rows))
   unfolding index_list row_pair
   index_list-set row =
-      ap (λ rs. in_order is_before (row_pairs parts 1 rs)) (set_split rows i row lt)
+      ap (λ rs. in_order is_before (row_pairs parts 1 rs)) (set_at rows i row lt)
       ∙ ap (in_order is_before) (around row)
       ∙ (law pairs_before (key_of parts (row_at rows i).texts, i + 1) pairs_after).replaced
       (apart (key_of parts (row_at rows i).texts)) (key_of parts row.texts, i + 1)

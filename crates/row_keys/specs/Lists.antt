@@ -1,5 +1,5 @@
 -- What an index lists, and what a change of the rows does to it.
-use Rattle.std.specs.Prelude.{◌≡◌, ℕ, Bool, ◌+◌, ◌<◌, ◌≤◌, List, [], ◌∷◌, ◌++◌, length, slice_set}
+use Rattle.std.specs.Prelude.{◌≡◌, ℕ, Bool, ◌+◌, ◌<◌, List, [], ◌∷◌, ◌++◌, length, slice_set}
 use Rattle.std.specs.Prelude.{Contains, filter, true, false, not, ◌==◌}
 use Rattle.std.specs.List.{list_any}
 use Rattle.dbf_file.specs.Rows.{Row, row_at, with_mark}

@@ -7,7 +7,7 @@ ghost use Rattle.shape.specs.Keys.{IsKey, key_of};
 
 use crate::laws::index_lists;
 use dbf_file::Table;
-use key_lists::laws::{meets_each, orders_pairs};
+use key_lists::laws::orders_pairs;
 use key_lists::{Entry, KeyList};
 use shape::KeyParts;
 
@@ -34,29 +34,20 @@ fn is_row(table: &Table, key: &KeyParts, entry: &Entry) -> bool
 }
 
 /// Whether a list lists just the rows of a table, by their keys: it is as long as the table, and a walk along it meets
-/// pairs of rows alone. The list stays as it is.
-pub fn lists_rows<K: KeyList>(table: &Table, key: &KeyParts, list: &mut K) -> bool
+/// pairs of rows alone.
+pub fn lists_rows<K: KeyList>(table: &Table, key: &KeyParts, list: &K) -> bool
     requires few { length table.now.rows ≤ 1000000 }
     requires key { IsKey table.now.structure key.now }
-    ensures exact { IsTrue result ↔ (K.pairs list.old ≡ index_list key.now table.now.rows) }
-    ensures pairs { K.pairs list.new ≡ K.pairs list.old }
-    ensures form { K.form list.new ≡ K.form list.old }
+    ensures { IsTrue result ↔ (K.pairs list.now ≡ index_list key.now table.now.rows) }
 {
     index_lists();
     orders_pairs();
-    meets_each();
     if list.len() != table.rows() {
         return false;
     }
-    let mut next = list.first();
-    for met in 0..table.rows() {
-        let Some(entry) = next else {
-            return false;
-        };
-        if !is_row(table, key, &entry) {
-            return false;
-        }
-        next = list.after(entry.key(), entry.number());
-    }
-    true
+    let test = |entry: &Entry| -> bool
+        requires { IsKey table.now.structure key.now }
+        ensures { IsTrue result ↔ Contains (index_list key.entry.now table.entry.now.rows) entry.now }
+    { is_row(table, key, entry) };
+    list.all(&test)
 }

@@ -1,4 +1,4 @@
-//! What a text that is sought must be at the front of keys.
+//! What must stand at the front of keys for a text that is sought.
 
 ghost use Rattle.std.specs.Prelude.{◌≡◌, ◌≤◌, drop, slice_index_or};
 ghost use Rattle.row_moves.specs.Moves.{is_all_blanks};

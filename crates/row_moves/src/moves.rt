@@ -169,7 +169,7 @@ fn first_met<O: RowOrder>(order: &mut O, forward: bool, from: &Option<O::Place>)
     }
 }
 
-// Where a move led that sought nothing.
+// Where a move that sought nothing led.
 fn landed(row: Option<u32>, cost: u64, bof: bool) -> Landed
     ensures { result ≡ record { row = row; cost = cost; bof = bof; found = false } }
 {

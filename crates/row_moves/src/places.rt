@@ -21,7 +21,7 @@ pub(crate) fn is_past<P>(forward: bool, at: &Option<P>) -> bool
     forward && at.is_none()
 }
 
-/// The record where a move ends that finds no row. A move forward ends at the end of file, where there is none; a move
+/// The record where a move that finds no row ends. A move forward ends at the end of file, where there is none; a move
 /// back ends at the place that it came to.
 pub(crate) fn end_from<O: RowOrder>(forward: bool, at: &Option<O::Place>) -> Option<u32>
     ensures { result ≡ (if forward then None else option_map (λ p. (O.pair p).1) at.now) }

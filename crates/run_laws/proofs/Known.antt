@@ -51,6 +51,13 @@ declared_table d a e =
     let z = and_parts (nat_lt a.table (length d.shape.tables)) (a.list == 0 || is_list_of d a.table a.list) y.0 in
     ltb-true a.table (length d.shape.tables) z.0
 
+-- its filter is one of that table, if it has one
+own_filter : (d : Declared) (a : OpenArea) → is_open d a ≡ true
+    → (a.filter == 0 || is_filter_of d a.table a.filter) ≡ true
+own_filter d a e =
+    (and_parts (nat_lt a.table (length d.shape.tables) && (a.list == 0 || is_list_of d a.table a.list)
+    && nat_le a.order (opened_by d a.list)) (a.filter == 0 || is_filter_of d a.table a.filter) e).1
+
 -- what is known of an area that holds a table, by the table's order
 abbrev pub area_by : Use → ℕ → OpenArea
 area_by u order = record { table = u.table; list = u.list; order = order; filter = u.filter }
@@ -64,6 +71,7 @@ pub record OpenThere (d : Declared) (s : StoreState) (a : ℕ) : Type 0 where
   pub there : area_table s a ≡ Some table
   pub known : open_at (desk_of s) a ≡ Some (area_by use_of table.order)
   pub declared : use_of.table < length d.shape.tables
+  pub filter : (use_of.filter == 0 || is_filter_of d use_of.table use_of.filter) ≡ true
   pub list : table.list ≡ list_numbers d use_of.list
 
 use_found : (tables : List OpenState) (areas : List (Option Use)) (n : ℕ) → is_none (open_in (slice_get (map (area_state tables) areas) n)) ≡ false → (u : Use) × (slice_get areas n ≡ Some (Some u))
@@ -78,8 +86,10 @@ open_there d s (suc n) all fits e =
     let p = use_found s.tables s.areas n e in
     let u : Use = p.0 in
     let seen = mapped_at (area_state s.tables) s.areas n (Some u) p.1 in
-    let declared : u.table < length d.shape.tables = declared_table d (area_by u (order_of (slice_get s.tables u.table)))
-    (all_at (is_area_state d) (map (area_state s.tables) s.areas) n (area_state s.tables (Some u)) all seen) in
+    let is_one = all_at (is_area_state d) (map (area_state s.tables) s.areas) n
+    (area_state s.tables (Some u)) all seen in
+    let area = area_by u (order_of (slice_get s.tables u.table)) in
+    let declared : u.table < length d.shape.tables = declared_table d area is_one in
     let t = is_there s.tables u.table (omega (arith, declared, fits.count)) in
     let same : suc n - 1 ≡ n = omega arith in
     let held : use_at s (suc n) ≡ Some u = ap (λ k. slice_index_or s.areas k None) same ∙ get_or_from_slice_get s.areas n (Some u) None p.1 in
@@ -92,5 +102,6 @@ open_there d s (suc n) all fits e =
       there = there;
       known = ap open_in seen ∙ ap (λ (x : Option OpenState). Some (area_by u (order_of x))) t.1;
       declared = declared;
+      filter = own_filter d area is_one;
       list = subst (λ (x : Option OpenState). IfSome x (ListStands d u)) there (subst (λ (x : Option Use). IfSome x (λ (v : Use). IfSome (area_table s (suc n)) (ListStands d v))) held (fits.lists (suc n)));
     }

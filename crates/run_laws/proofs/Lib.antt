@@ -1,6 +1,8 @@
 pub mod Clear
 pub mod Tests
 pub mod Known
+pub mod AlikeFields
+pub mod FilterBlocks
 pub mod OnValues
 pub mod OnAreas
 pub mod OnMoves

@@ -1,125 +1,102 @@
 -- What moves need is there where their tests come out well: among it, that the filter can be run.
-use Rattle.std.proofs.Common.{◌≡◌, ℕ, zero, suc, ◌≤◌, true, false, List, [], ◌∷◌, length, Option, Some, None, refl, sym, ap, subst, ◌∙◌, arith}
-use Rattle.std.specs.Prelude.{not, ◌||◌, ◌==◌, nat_lt, map, slice_get, IfSome}
+use Rattle.std.proofs.Common.{◌≡◌, ℕ, zero, suc, ◌≤◌, true, false, [], ◌∷◌, length, Option, Some, None, refl, sym, ap}
+use Rattle.std.proofs.Common.{subst, ◌∙◌, arith}
+use Rattle.std.specs.Prelude.{not, ◌||◌, ◌==◌, map, slice_get, IfSome}
 use Rattle.std.specs.List.{AllByRecursion}
-use Rattle.std.proofs.lemmas.Bool.{leb-false, eqb-false, not-false, not-true, and_parts, or_parts}
+use Rattle.std.proofs.lemmas.Bool.{eqb-false, eqb-true, not-false, and_parts}
 use Rattle.std.proofs.lemmas.List.{length-map}
-use Rattle.xvalue.specs.declared.kind.Kind.{Kind}
 use Rattle.xvalue.specs.declared.kind.Kind.TheVariants.{Number as OfNumber, Text as OfText}
+use Rattle.dbf_file.specs.Tables.{StructureState}
+use Rattle.open_table.specs.Open.{OpenState}
+use Rattle.open_table.specs.Tried.{TriedRow, tried}
+use Rattle.work_area.specs.Making.{HaveAlikeFields}
 use Rattle.code_items.specs.declared.code.Code.{Code}
 use Rattle.code_items.specs.declared.declared.Filter.{Filter as FilterItem}
-use Rattle.code_items.specs.declared.instr.Instr.{Instr}
-use Rattle.code_items.specs.declared.instr.Instr.TheVariants.{Values, Flow, Screen, Areas, Moves, Records}
-use Rattle.code_items.specs.declared.instr.ValueInstr.TheVariants.{Constant, Load, Store, Unset, Discard, Function, Today, Set}
+use Rattle.code_items.specs.declared.instr.Instr.TheVariants.{Moves}
 use Rattle.code_items.specs.declared.instr.MoveInstr.{MoveInstr}
 use Rattle.code_items.specs.declared.instr.MoveInstr.TheVariants.{Top, Bottom, Skip, Go, Seek}
-use Rattle.code_items.specs.declared.state.State.{State}
 use Rattle.code_items.specs.Declarations.{filter_of}
 use Rattle.code_items.specs.Desks.{open_at}
+use Rattle.code_items.specs.Facts.{Facts}
 use Rattle.code_items.specs.Kinds.{clashes}
+use Rattle.code_items.specs.States.{filters_table, is_filter_of}
 use Rattle.code_rules.specs.Signature.{signature}
-use Rattle.code_rules.specs.Wants.{wants}
-use Rattle.code_rules.specs.Flow.{slots_after, left_by}
-use Rattle.code_rules.specs.Rules.{filters, height_after, has_other, is_free, loads_other, loads_free, filter_lacks, undeclared, fails_if_open}
-use Rattle.run_values.specs.Tagged.{TaggedValues}
+use Rattle.code_rules.specs.Rules.{filter_lacks, fails_if_open}
+use Rattle.code_rules.specs.Wants.{fields_declared}
 use Rattle.run_steps.specs.World.{World, state_of, desk_of, kind_held}
 use Rattle.run_steps.specs.Effects.{filter_in, filter_here}
-use Rattle.run_steps.specs.Filters.{instructions_of, block_fails, block_sound, block_start, is_sound_filter, is_sound}
+use Rattle.run_steps.specs.Filters.{viewer, instructions_of, block_sound, block_start, is_sound_filter, is_sound}
+use Rattle.run_steps.specs.Filters.{BlockFits, RunsOnRows}
 use Rattle.run_steps.specs.Faults.{IsClear}
 use Rattle.run_steps.specs.Needs.{BlockNeeds, FilterNeeds, Walks, GivenNeeds, SeekNeeds, MoveNeeds}
 use Rattle.run_steps.specs.Shapes.{StoreFits}
+use Rattle.run_laws.proofs.AlikeFields.{fields_alike}
+use Rattle.run_laws.proofs.FilterBlocks.{BlockRuns, block_runs}
 use Rattle.run_laws.proofs.Known.{Known, OpenThere}
-use Rattle.run_laws.proofs.Tests.{Same, first_no, then_no, else_yes, not_zero, on_top, slot_holds, enough}
+use Rattle.run_laws.proofs.Tests.{Same, ResultLaw, first_no, then_no, else_yes, not_zero, on_top, enough}
 use Rattle.run_laws.proofs.OnAreas.{selected_there, is_here}
 
--- ---- a filter's block
+-- ---- a filter
 
--- what a filter's block may have leaves the slots alone
-pub slots_stay : (i : Instr) (slots : List (Option Kind)) → filters i ≡ true → slots_after i slots ≡ slots
-slots_stay (Values (Constant n)) slots e = refl
-slots_stay (Values (Load k s)) slots e = refl
-slots_stay (Values (Store k s)) slots e = absurd (cc)
-slots_stay (Values (Unset s)) slots e = absurd (cc)
-slots_stay (Values (Discard k)) slots e = refl
-slots_stay (Values (Function f)) slots e = refl
-slots_stay (Values Today) slots e = refl
-slots_stay (Values (Set x on)) slots e = refl
-slots_stay (Flow i) slots e = refl
-slots_stay (Screen i) slots e = refl
-slots_stay (Areas i) slots e = refl
-slots_stay (Moves i) slots e = refl
-slots_stay (Records i) slots e = refl
-
--- the tests of one instruction of it, of those that are wanted here
-pub record IsSoundThere (code : Code) (s : State) (i : Instr) : Type 0 where
-  pub may : filters i ≡ true
-  pub kind : loads_other s i ≡ false
-  pub set : loads_free s i ≡ false
-  pub declared : undeclared code s.desk i ≡ false
-
-sound_there : (code : Code) (s : State) (i : Instr) → block_fails code s i ≡ false → IsSoundThere code s i
-sound_there code s i e =
-    let g = undeclared code s.desk i in
-    let f = nat_lt code.declared.stack_bound (height_after (length s.stack) i) in
-    let d = nat_lt (length s.stack) (signature i).taken in
-    let c = loads_free s i in
-    let b = loads_other s i in
-    let a = clashes (wants code.declared s.desk i) s.stack in
-    let p = or_parts (not (filters i)) (a || (b || (c || (d || (f || g))))) e in
-    let q = or_parts a (b || (c || (d || (f || g)))) p.1 in
-    let r = or_parts b (c || (d || (f || g))) q.1 in
-    let t = or_parts c (d || (f || g)) r.1 in
-    let u = or_parts d (f || g) t.1 in
-    let v = or_parts f g u.1 in
-    record { may = not-false (filters i) p.0; kind = r.0; set = t.0; declared = v.1 }
-
-load_ready : Same → (code : Code) (t : TaggedValues) (s : State) → s.slots ≡ map kind_held t.slots → length t.slots ≡ code.declared.slots → (i : Instr) → IsSoundThere code s i → BlockNeeds t i
-load_ready same code t s e n (Values (Load kind k)) h =
-    slot_holds same kind t.slots k (omega (arith, n, leb-false code.declared.slots k h.declared))
-    (ap (λ (x : List (Option Kind)). has_other kind (slice_get x k)) (sym e) ∙ h.kind)
-    (ap (λ (x : List (Option Kind)). is_free (slice_get x k)) (sym e) ∙ h.set)
-load_ready same code t s e n (Values (Constant k)) h = tt
-load_ready same code t s e n (Values (Store kind k)) h = tt
-load_ready same code t s e n (Values (Unset k)) h = tt
-load_ready same code t s e n (Values (Discard kind)) h = tt
-load_ready same code t s e n (Values (Function f)) h = tt
-load_ready same code t s e n (Values Today) h = tt
-load_ready same code t s e n (Values (Set x on)) h = tt
-load_ready same code t s e n (Flow i) h = tt
-load_ready same code t s e n (Screen i) h = tt
-load_ready same code t s e n (Areas i) h = tt
-load_ready same code t s e n (Moves i) h = tt
-load_ready same code t s e n (Records i) h = tt
-
-block_ready : Same → (code : Code) (t : TaggedValues) → length t.slots ≡ code.declared.slots → (is : List Instr) (s : State) → s.slots ≡ map kind_held t.slots → block_sound code s is ≡ true → AllByRecursion (BlockNeeds t) is
-block_ready same code t n [] s e h = tt
-block_ready same code t n (i ∷ is) s e h =
-    let p = and_parts (not (block_fails code s i)) (block_sound code (left_by code i s) is) h in
-    let sound = sound_there code s i (not-true (block_fails code s i) p.0) in
-    (load_ready same code t s e n i sound, block_ready same code t n is (left_by code i s) (slots_stay i s.slots sound.may ∙ e) p.1)
-
--- a filter that can be asked has what its block needs
-filter_ready : Same → (code : Code) (t : TaggedValues) → length t.slots ≡ code.declared.slots → (number : ℕ) → is_sound code (map kind_held t.slots) number ≡ true → FilterNeeds code t number
-filter_ready same code t n zero e = tt
-filter_ready same code t n (suc number) e = from (filter_of code.declared (suc number)) (else_yes (suc number == 0) (is_sound_filter code (map kind_held t.slots) (suc number) (filter_of code.declared (suc number))) (not_zero number) e)
+-- a filter that can be asked has what its block needs, and its table is the one in use
+filter_ready : Same → ResultLaw → (code : Code) (w : World) → Facts code → StoreFits code.declared w.env.store
+    → (o : OpenThere code.declared w.env.store w.env.store.selected) → length w.values.slots ≡ code.declared.slots
+    → (number : ℕ) → number ≡ o.use_of.filter → is_sound code (map kind_held w.values.slots) number ≡ true
+    → FilterNeeds code w.values number × RunsOnRows code (viewer w.values w.env) number o.table.table.structure
+filter_ready same law code w facts fits o n zero at e = (tt, tt)
+filter_ready same law code w facts fits o n (suc number) at e =
+    from (filter_of code.declared (suc number))
+    (else_yes (suc number == 0)
+    (is_sound_filter code (map kind_held w.values.slots) (suc number) (filter_of code.declared (suc number)))
+    (not_zero number) e)
+    (else_yes (suc number == 0) (is_filter_of code.declared o.use_of.table (suc number)) (not_zero number)
+    (subst (λ (k : ℕ). (k == 0 || is_filter_of code.declared o.use_of.table k) ≡ true) (sym at) o.filter))
   where
-    from : (x : Option FilterItem) → is_sound_filter code (map kind_held t.slots) (suc number) x ≡ true → AllByRecursion (BlockNeeds t) (instructions_of code (suc number) x)
-    from None h = tt
-    from (Some f) h =
-        let p = and_parts (not (filter_lacks (map kind_held t.slots) (Some f))) (block_sound code (block_start f.table (map kind_held t.slots)) (instructions_of code (suc number) (Some f))) h in
-        block_ready same code t n (instructions_of code (suc number) (Some f)) (block_start f.table (map kind_held t.slots)) refl p.1
+    from : (x : Option FilterItem) → is_sound_filter code (map kind_held w.values.slots) (suc number) x ≡ true
+        → filters_table o.use_of.table x ≡ true
+        → AllByRecursion (BlockNeeds w.values) (instructions_of code (suc number) x)
+        × ((r : TriedRow) → r.structure ≡ o.table.table.structure
+        → BlockFits code (viewer w.values w.env) r (instructions_of code (suc number) x) [])
+    from None h own = absurd (cc)
+    from (Some f) h own =
+        let structure = o.table.table.structure in
+        let is = instructions_of code (suc number) (Some f) in
+        let p = and_parts (not (filter_lacks (map kind_held w.values.slots) (Some f)))
+        (block_sound code (block_start f.table (map kind_held w.values.slots)) is) h in
+        let alike : HaveAlikeFields structure.fields
+        (fields_declared (slice_get code.declared.shape.tables f.table)) =
+        subst (λ (t : ℕ). HaveAlikeFields structure.fields
+        (fields_declared (slice_get code.declared.shape.tables t))) (sym (eqb-true f.table o.use_of.table own))
+        (fields_alike code.declared w.env.store w.env.store.selected fits o) in
+        let runs : (r : TriedRow) → r.structure ≡ structure → BlockRuns code w.values w.env r is [] =
+        λ r same_structure. block_runs same law code w.values w.env r f.table facts.stack_bound n
+        (subst (λ (t : StructureState). HaveAlikeFields t.fields
+        (fields_declared (slice_get code.declared.shape.tables f.table))) (sym same_structure) alike) is p.1 in (
+          (runs (tried structure o.table.table.rows 1) refl).needs,
+          λ r same_structure. (runs r same_structure).fits,
+        )
 
 -- ---- moves
 
 -- a table is in use, and its filter can be run, where an instruction that may move the pointer has no fault
-pub walks : Same → (code : Code) (w : World) → Known code.declared (state_of w) → OpenThere code.declared w.env.store w.env.store.selected → fails_if_open (λ a. not (is_sound code (state_of w).slots a.filter)) (open_at (desk_of w.env.store) w.env.store.selected) ≡ false → Walks code w.values w.env
-walks same code w k o e =
+pub walks : Same → ResultLaw → (code : Code) (w : World) → Facts code → Known code.declared (state_of w)
+    → StoreFits code.declared w.env.store → OpenThere code.declared w.env.store w.env.store.selected
+    → fails_if_open (λ a. not (is_sound code (state_of w).slots a.filter))
+    (open_at (desk_of w.env.store) w.env.store.selected) ≡ false
+    → Walks code w.values w.env
+walks same law code w facts k fits o e =
     let s = w.env.store in
     let sound : is_sound code (map kind_held w.values.slots) o.use_of.filter ≡ true =
     not-false (is_sound code (map kind_held w.values.slots) o.use_of.filter) (ap (fails_if_open (λ a. not (is_sound code (map kind_held w.values.slots) a.filter))) (sym o.known) ∙ e) in
     let number : filter_here s ≡ o.use_of.filter = ap filter_in o.held in
     let slots : length w.values.slots ≡ code.declared.slots = omega (arith, k.slots, length-map w.values.slots kind_held) in
-    (is_here code.declared s o, subst (FilterNeeds code w.values) (sym number) (filter_ready same code w.values slots o.use_of.filter sound))
+    let ready = filter_ready same law code w facts fits o slots o.use_of.filter refl sound in (
+      is_here code.declared s o,
+      subst (FilterNeeds code w.values) (sym number) ready.0,
+      subst (λ (x : Option OpenState). IfSome x
+          (λ (p : OpenState). RunsOnRows code (viewer w.values w.env) (filter_here s) p.table.structure)) (sym o.there)
+          (subst (λ (n : ℕ). RunsOnRows code (viewer w.values w.env) n o.table.table.structure) (sym number) ready.1),
+    )
 
 given_ready : Same → (code : Code) (w : World) (i : MoveInstr) → IsClear code w (Moves i) → GivenNeeds i w.values
 given_ready same code w Top c = tt
@@ -148,8 +125,13 @@ moves_of Skip = refl
 moves_of Go = refl
 moves_of Seek = refl
 
-pub move_ready : Same → (code : Code) (w : World) → Known code.declared (state_of w) → StoreFits code.declared w.env.store → (i : MoveInstr) → IsClear code w (Moves i) → MoveNeeds code i w.values w.env
-move_ready same code w k fits i c =
+pub move_ready : Same → ResultLaw → (code : Code) (w : World) → Facts code → Known code.declared (state_of w)
+    → StoreFits code.declared w.env.store → (i : MoveInstr) → IsClear code w (Moves i) → MoveNeeds code i w.values w.env
+move_ready same law code w facts k fits i c =
     let o = selected_there code w k fits c.area in
-    let blind = fails_if_open (λ a. not (is_sound code (state_of w).slots a.filter)) (open_at (desk_of w.env.store) w.env.store.selected) in
-    (walks same code w k o (then_no (signature (Moves i)).moves blind (moves_of i) c.filter), given_ready same code w i c, seek_ready code w i o c)
+    let blind = fails_if_open (λ a. not (is_sound code (state_of w).slots a.filter))
+    (open_at (desk_of w.env.store) w.env.store.selected) in (
+      walks same law code w facts k fits o (then_no (signature (Moves i)).moves blind (moves_of i) c.filter),
+      given_ready same code w i c,
+      seek_ready code w i o c,
+    )

@@ -1,18 +1,15 @@
 -- What instructions on records need is there where their tests come out well.
-use Rattle.std.proofs.Common.{◌≡◌, ℕ, zero, suc, ◌<◌, ◌≤◌, Bool, true, false, List, [], ◌∷◌, length, Option, Some, refl, sym, ap, subst, ◌∙◌, arith}
-use Rattle.std.specs.Prelude.{nat_lt, nat_le, map, slice_get, slice_index_or, unwrap_or, is_some, IfSome}
+use Rattle.std.proofs.Common.{◌≡◌, ℕ, ◌<◌, ◌≤◌, Bool, true, false, List, [], ◌∷◌, length, Option, Some, refl, sym, ap}
+use Rattle.std.proofs.Common.{subst, ◌∙◌, arith}
+use Rattle.std.specs.Prelude.{nat_lt, nat_le, slice_get, unwrap_or, is_some, IfSome}
 use Rattle.std.specs.List.{list_all}
 use Rattle.std.proofs.lemmas.Bool.{leb-true, leb-false, and_parts, or_parts}
 use Rattle.xvalue.specs.declared.kind.Kind.{Kind}
 use Rattle.dbf_file.specs.declared.field.Field.{Field as TableField}
-use Rattle.dbf_file.specs.declared.field.Letter.{Letter}
-use Rattle.dbf_file.specs.declared.field.Letter.TheVariants.{C}
 use Rattle.dbf_file.specs.Tables.{letter_at}
 use Rattle.dbf_file.specs.Values.{kind_for}
-use Rattle.shape.specs.declared.tables.TableShape.{TableShape}
 use Rattle.open_table.specs.Marks.{mark_at}
 use Rattle.open_table.specs.Open.{OpenState}
-use Rattle.work_area.specs.Making.{HaveAlikeFields}
 use Rattle.work_area.specs.Areas.{StoreState, area_table, here}
 use Rattle.code_items.specs.declared.code.Code.{Code}
 use Rattle.code_items.specs.declared.declared.Declared.{Declared}
@@ -31,21 +28,13 @@ use Rattle.run_steps.specs.Effects.{list_numbers, index_in}
 use Rattle.run_steps.specs.Faults.{IsClear}
 use Rattle.run_steps.specs.Needs.{ClosingNeeds, HasField, TakesField, RecordNeeds}
 use Rattle.run_steps.specs.Shapes.{StoreFits}
+use Rattle.run_laws.proofs.AlikeFields.{fields_alike, alike_kind}
 use Rattle.run_laws.proofs.Known.{Known, OpenThere, open_there}
-use Rattle.run_laws.proofs.Tests.{Same, first_no, is_there, on_top, enough, room_for}
+use Rattle.run_laws.proofs.Tests.{Same, ResultLaw, first_no, on_top, enough, room_for}
 use Rattle.run_laws.proofs.OnAreas.{marks_there, own_indexes, some_index, selected_there, is_here}
 use Rattle.run_laws.proofs.OnMoves.{walks}
 
 -- ---- fields
-
--- the fields of an open area's table hold what the declared ones do
-fields_alike : (d : Declared) (s : StoreState) (a : ℕ) → StoreFits d s → (o : OpenThere d s a) → HaveAlikeFields o.table.table.structure.fields (fields_declared (slice_get d.shape.tables o.use_of.table))
-fields_alike d s a fits o =
-    let shape = is_there d.shape.tables o.use_of.table o.declared in
-    let stands = fits.fields o.use_of.table (omega (arith, o.declared, fits.count)) in
-    let by_table = subst (λ x. IfSome x (λ (p : OpenState). IfSome (slice_get d.shape.tables o.use_of.table) (λ (t : TableShape). HaveAlikeFields p.table.structure.fields t.fields))) o.at stands in
-    let alike : HaveAlikeFields o.table.table.structure.fields shape.0.fields = subst (λ x. IfSome x (λ (t : TableShape). HaveAlikeFields o.table.table.structure.fields t.fields)) shape.1 by_table in
-    subst (λ (fs : List TableField). HaveAlikeFields o.table.table.structure.fields fs) (sym (ap fields_declared shape.1)) alike
 
 fields_known : (d : Declared) (s : StoreState) (a : ℕ) → (o : OpenThere d s a) → fields_at d (open_at (desk_of s) a) ≡ fields_declared (slice_get d.shape.tables o.use_of.table)
 fields_known d s a o = ap (fields_at d) o.known
@@ -59,29 +48,13 @@ field_there d s a f fits o e =
 has_field : (s : StoreState) (f : ℕ) (x : Option OpenState) (o : OpenState) → x ≡ Some o → f < length o.table.structure.fields → HasField f x
 has_field s f x o e lt = subst (HasField f) (sym e) (refl, lt)
 
--- the kind of a field, by its letter
-kind_there : (fs : List TableField) (f : ℕ) → f < length fs → kind_of_field (slice_get fs f) ≡ Some (kind_for (slice_index_or (map (λ g. g.letter) fs) f C))
-kind_there [] f lt = absurd (omega (arith, lt))
-kind_there (g ∷ fs) zero lt = refl
-kind_there (g ∷ fs) (suc f) lt = kind_there fs f (omega (arith, lt))
-
-letter_there : (fs : List TableField) (f : ℕ) (d : TableField) → f < length fs → slice_index_or (map (λ g. g.letter) fs) f C ≡ (slice_index_or fs f d).letter
-letter_there [] f d lt = absurd (omega (arith, lt))
-letter_there (g ∷ fs) zero d lt = refl
-letter_there (g ∷ fs) (suc f) d lt = letter_there fs f d (omega (arith, lt))
-
 -- the kind that is declared for a field of an open area's table
 pub field_known : (d : Declared) (s : StoreState) (a f : ℕ) → StoreFits d s → (o : OpenThere d s a) → no_field d (desk_of s) a f ≡ false → field_kind d (desk_of s) a f ≡ Some (kind_for (letter_at o.table.table.structure f))
 field_known d s a f fits o e =
     let lt = field_there d s a f fits o e in
-    let fs = fields_declared (slice_get d.shape.tables o.use_of.table) in
-    let gs = o.table.table.structure.fields in
-    let alike = fields_alike d s a fits o in
-    let within : f < length fs = omega (arith, lt, alike.count) in
-    let g = (is_there gs f lt).0 in
-    let each = alike.each f g lt in
-    let letters : slice_index_or (map (λ (h : TableField). h.letter) fs) f C ≡ letter_at o.table.table.structure f = letter_there fs f g within ∙ sym each.letter ∙ sym (letter_there gs f g lt) in
-    ap (λ (hs : List TableField). kind_of_field (slice_get hs f)) (fields_known d s a o) ∙ kind_there fs f within ∙ ap (λ (l : Letter). Some (kind_for l)) letters
+    ap (λ (fs : List TableField). kind_of_field (slice_get fs f)) (fields_known d s a o)
+    ∙ alike_kind o.table.table.structure (fields_declared (slice_get d.shape.tables o.use_of.table)) f lt
+    (fields_alike d s a fits o)
 
 replace_ready : Same → (code : Code) (w : World) → StoreFits code.declared w.env.store → (f : ℕ) → OpenThere code.declared w.env.store w.env.store.selected → IsClear code w (Records (Replace f)) → HasField f (here w.env.store) × IfSome (here w.env.store) (TakesField f w.values)
 replace_ready same code w fits f o c =
@@ -116,8 +89,10 @@ index_ready code w f fits l o c =
 
 -- ---- together
 
-pub record_ready : Same → (code : Code) (w : World) → Facts code → Known code.declared (state_of w) → StoreFits code.declared w.env.store → (i : RecordInstr) → is_instr code.declared.version (Records i) ≡ true → IsClear code w (Records i) → RecordNeeds code i w.values w.env
-record_ready same code w f k fits (Field a n) legal c =
+pub record_ready : Same → ResultLaw → (code : Code) (w : World) → Facts code → Known code.declared (state_of w)
+    → StoreFits code.declared w.env.store → (i : RecordInstr) → is_instr code.declared.version (Records i) ≡ true
+    → IsClear code w (Records i) → RecordNeeds code i w.values w.env
+record_ready same law code w f k fits (Field a n) legal c =
     let o = open_there code.declared w.env.store a k.areas fits c.area in
     let p = and_parts (is_area a) (is_two n) legal in
     let q = and_parts (nat_le 1 a) (nat_le a 10) p.0 in (
@@ -126,13 +101,25 @@ record_ready same code w f k fits (Field a n) legal c =
       has_field w.env.store n (area_table w.env.store a) o.table o.there (field_there code.declared w.env.store a n fits o (first_no (no_field code.declared (desk_of w.env.store) a n) false c.declared)),
       room_for code.declared.stack_bound w.values.stack f.stack_bound c.room,
     )
-record_ready same code w f k fits (RowField n) legal c = absurd (let e : true ≡ false = c.filter in cc)
-record_ready same code w f k fits (Ask q) legal c = (is_here code.declared w.env.store (selected_there code w k fits c.area), room_for code.declared.stack_bound w.values.stack f.stack_bound c.room)
-record_ready same code w f k fits Append legal c = is_here code.declared w.env.store (selected_there code w k fits c.area)
-record_ready same code w f k fits (Replace n) legal c = replace_ready same code w fits n (selected_there code w k fits c.area) c
-record_ready same code w f k fits Delete legal c = is_here code.declared w.env.store (selected_there code w k fits c.area)
-record_ready same code w f k fits Recall legal c = is_here code.declared w.env.store (selected_there code w k fits c.area)
-record_ready same code w f k fits Pack legal c = (walks same code w k (selected_there code w k fits c.area) c.filter, tt)
-record_ready same code w f k fits Zap legal c = (walks same code w k (selected_there code w k fits c.area) c.filter, tt)
-record_ready same code w f k fits Reindex legal c = (walks same code w k (selected_there code w k fits c.area) c.filter, tt)
-record_ready same code w f k fits (Index l) legal c = (let o = selected_there code w k fits c.area in (walks same code w k o c.filter, index_ready code w f fits l o c))
+record_ready same law code w f k fits (RowField n) legal c = absurd (let e : true ≡ false = c.filter in cc)
+record_ready same law code w f k fits (Ask q) legal c = (
+  is_here code.declared w.env.store (selected_there code w k fits c.area),
+  room_for code.declared.stack_bound w.values.stack f.stack_bound c.room,
+)
+record_ready same law code w f k fits Append legal c = is_here code.declared w.env.store
+    (selected_there code w k fits c.area)
+record_ready same law code w f k fits (Replace n) legal c = replace_ready same code w fits n
+    (selected_there code w k fits c.area) c
+record_ready same law code w f k fits Delete legal c = is_here code.declared w.env.store
+    (selected_there code w k fits c.area)
+record_ready same law code w f k fits Recall legal c = is_here code.declared w.env.store
+    (selected_there code w k fits c.area)
+record_ready same law code w f k fits Pack legal c =
+    (walks same law code w f k fits (selected_there code w k fits c.area) c.filter, tt)
+record_ready same law code w f k fits Zap legal c =
+    (walks same law code w f k fits (selected_there code w k fits c.area) c.filter, tt)
+record_ready same law code w f k fits Reindex legal c =
+    (walks same law code w f k fits (selected_there code w k fits c.area) c.filter, tt)
+record_ready same law code w f k fits (Index l) legal c =
+    (let o = selected_there code w k fits c.area in
+    (walks same law code w f k fits o c.filter, index_ready code w f fits l o c))

@@ -15,6 +15,7 @@ use Rattle.work_area.specs.Areas.{StoreState, AreApart, selected_use, used_table
 use Rattle.work_area.specs.Calls.{used_here}
 use Rattle.work_area.specs.Making.{HaveAlikeFields}
 use Rattle.work_area.specs.Shapes.{still, IsSameKind, KindsStay}
+use Rattle.work_area.proofs.ShapeLemmas.{closed_got}
 use Rattle.code_items.specs.declared.declared.Declared.{Declared}
 use Rattle.code_items.specs.States.{is_list_of, is_filter_of, opened_by, is_open}
 use Rattle.run_steps.specs.World.{order_of}
@@ -191,7 +192,8 @@ abbrev pub put_closed : Option Use → Option OpenState → StoreState → Store
 put_closed x None s = s
 put_closed x (Some o) s = with_used x (closed o) s
 
-pub put_is : (found : Option OpenState) (s : StoreState) → changed_found closed found s ≡ put_closed (selected_use s) found s
+pub put_is : (found : Option OpenState) (s : StoreState)
+    → changed_found closed found s ≡ put_closed (selected_use s) found s
 put_is None s = refl
 put_is (Some o) s = refl
 
@@ -218,16 +220,12 @@ none_held zero n u e = cc
 none_held (suc k) zero u e = cc
 none_held (suc k) (suc n) u e = none_held k n u e
 
-got_map : (tables : List OpenState) (t : ℕ) (a : OpenState) → slice_get (map closed tables) t ≡ Some a → (o : OpenState) × (slice_get tables t ≡ Some o) × (a ≡ closed o)
-got_map [] t a e = absurd (cc)
-got_map (o ∷ tables) zero a e = (o, refl, (let same : a ≡ closed o = cc in same))
-got_map (o ∷ tables) (suc t) a e = got_map tables t a e
-
 -- all areas closed, whatever they held
 pub closes_all : (d : Declared) (s : StoreState) → ((o : OpenState) → KindsStay o) → length s.tables ≡ length d.shape.tables → ((t : ℕ) (o : OpenState) → slice_get s.tables t ≡ Some o → KindFits d t o) → IsSound d (closed_all s)
 closes_all d s stay count kinds = record {
   count = length-map s.tables closed ∙ count;
-  kinds = λ t a e. (let w = got_map s.tables t a e in subst (KindFits d t) (sym w.2) (kind_stays d t w.0 (closed w.0) (stay w.0).by_close (kinds t w.0 w.1)));
+  kinds = λ t a e. (let w = closed_got s.tables t a e in subst (KindFits d t) (sym w.2)
+      (kind_stays d t w.0 (closed w.0) (stay w.0).by_close (kinds t w.0 w.1)));
   held = λ n u e. absurd (none_held 10 n u e);
   ten = refl;
   one = omega arith;

@@ -25,7 +25,7 @@ ghost use Rattle.calendar.specs.declared.day.DayParts.{DayParts};
 
 use code_items::laws::legal_codes;
 use work_area::laws::{stores_keep_their_shape, tables_keep_their_kind};
-use xvalue::laws::same_kinds_are_equal;
+use xvalue::laws::{results_have_their_kind, same_kinds_are_equal};
 
 /// An instruction has no fault where each of its tests comes out well, and nowhere else.
 pub fn faultless_instructions_are_clear()
@@ -40,10 +40,10 @@ pub fn clear_instructions_are_ready()
 {
     legal_codes();
     same_kinds_are_equal();
+    results_have_their_kind();
 }
 
-/// So a world of a code's shape whose next instruction has no fault is one from which that instruction can be carried
-/// out.
+/// So in a world of a code's shape the next instruction can be carried out if it has no fault.
 pub fn faultless_worlds_go_on()
     ensures { (code : AnyCode) (w : World) → IsCode code → HasShape code w
         → fault_of code w (instr_at code w.place) ≡ None → IsSafeHere code w }
@@ -61,6 +61,7 @@ pub fn steps_keep_the_shape()
 {
     legal_codes();
     same_kinds_are_equal();
+    results_have_their_kind();
     tables_keep_their_kind();
 }
 
@@ -95,25 +96,25 @@ pub fn runs_make_few_steps()
         → (ran : Ran code w budget outcome v) → steps_made ran.count outcome.end ≤ budget }
 {}
 
-/// A run in parts is one run: where a part was spent and the next one goes on from the world that it left, both are the
-/// run of so much budget as the first part used and the second was given, with the steps of both added, to the same end
-/// and world.
+/// A run in parts is one run. Where the first part ended for want of budget, and the second one went on from the world
+/// that it left, both are one run. Its budget is what the first part used and what the second one was given. Its steps
+/// are those of both, and its end and its world are those of the second part.
 pub fn parts_make_the_whole()
     ensures { (code : AnyCode) (w v u : World) (budget more : ℕ) (first second : AnyOutcome)
         → Ran code w budget first v → first.end ≡ Spent → Ran code v more second u
         → Ran code w (first.steps + more) (record { end = second.end; steps = first.steps + second.steps }) u }
 {}
 
-/// Lines behind those that are left change no step that finds the line that it takes: where no step took a line when
-/// none was left, the same steps over more lines lead to the same world, with these lines behind those that are left
-/// there, at the same cost.
+/// Further lines change no step that finds the line that it takes. Where steps lead to a world, and none of them took a
+/// line when none was left, the same steps over more lines lead to the same world at the same cost. The further lines
+/// stand behind those that are left, in both worlds.
 pub fn lines_behind_change_no_step()
     ensures { (code : AnyCode) (a b : World) (steps : ℕ) (more : List (List ℕ)) → Came code a steps b
         → Came code (with_more more a) steps (with_more more b) }
 {}
 
-/// Pieces of a run make one: steps that lead on to where further steps begin are steps that lead on to where those
-/// lead, and with the run that ends from there they are the run that ends so, of the whole budget.
+/// Pieces of a run make one. Steps to a world and steps from there are together steps to where the second ones lead.
+/// Steps to a world and a run from there are together a run to the same end, of the whole budget.
 pub fn pieces_make_the_whole()
     ensures joined { (code : AnyCode) (a b c : World) (first second : ℕ) → Came code a first b → Came code b second c
         → Came code a (first + second) c }

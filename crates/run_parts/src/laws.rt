@@ -7,7 +7,7 @@ ghost use Rattle.run_steps.specs.declared.ending.End.TheVariants.{Spent};
 ghost use Rattle.run_steps.specs.declared.ending.Outcome.{Outcome as AnyOutcome};
 ghost use Rattle.std.specs.Prelude.{◌≡◌, ◌≤◌, ℕ};
 
-/// A run that ended within a budget, and not since that was spent, ends so within each greater one.
+/// A run that ended for another cause than a spent budget ends so within each greater budget.
 pub fn greater_budgets_change_no_end()
     ensures { (code : AnyCode) (w v : World) (budget more : ℕ) (outcome : AnyOutcome) → budget ≤ more
         → (outcome.end ≡ Spent → budget ≡ more) → Ran code w budget outcome v → Ran code w more outcome v }

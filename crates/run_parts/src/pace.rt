@@ -8,8 +8,9 @@ use std::time::Duration;
 /// What the first part of a run is to cost at most.
 pub const FIRST_PART: u64 = 1_000_000;
 
-/// What a part is to cost at most behind one that cost so much and took so long: twice as much where that took less
-/// than a quarter of a second, half as much where it took more than a second, and as much else.
+/// What a part is to cost at most, behind one that was to cost `part` at most and took this long. It is twice as much
+/// where that one took less than a quarter of a second, half as much where it took more than a second, and else as
+/// much.
 pub fn next_part(part: u64, took: Duration) -> u64
     requires { 1 ≤ part }
     ensures some { 1 ≤ result }

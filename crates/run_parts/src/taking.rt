@@ -21,7 +21,7 @@ pub struct RunPart {
     pub budget: u64,
 }
 
-/// Whether a run ended since its budget was spent.
+/// Whether a run ended because its budget was spent.
 pub fn is_spent(end: End) -> bool
     ensures spent { result ≡ true → end ≡ Spent }
     ensures other { result ≡ false → end ≡ Spent → ⊥ }
@@ -49,7 +49,7 @@ pub fn is_last(part: RunPart, left: u64) -> bool
     !is_spent(part.outcome.end) || part.budget == left
 }
 
-/// A greater budget, up to all that is left: twice as great where that is left.
+/// A greater budget, of all that is left at most: twice this one where that fits.
 pub fn wider(budget: u64, left: u64) -> u64
     requires { budget < left }
     ensures wider { budget < result }

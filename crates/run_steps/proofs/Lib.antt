@@ -3,6 +3,7 @@ pub mod LeadingSteps
 mod Rows
 mod BlockSteps
 mod Drafts
+pub mod FilterRuns
 pub mod Walks
 pub mod Steps
 pub mod Runs

@@ -182,7 +182,7 @@ impl<K: KeyList> Environment<K> {
         self.lines.is_empty()
     }
 
-    /// These lines in place of those that are left, of which there are none.
+    /// From now on these lines are left. None was before.
     pub fn add_lines(&mut self, lines: TypedLines)
         requires { is_out self.old.lines ≡ true }
         ensures { self.new ≡ with_lines lines self.old }

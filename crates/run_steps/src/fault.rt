@@ -1,6 +1,6 @@
 //! What can be wrong with an instruction.
 
-/// The faults, the one that is tested first first.
+/// The faults, in the order in which they are tested.
 #[derive(Clone, Copy, PartialEq, Eq, Debug)]
 pub enum FaultKind {
     /// A value taken or loaded has another kind.

@@ -186,8 +186,8 @@ fn turn(returns: &mut ReturnPlaces, place: usize, instr: Instr)
 }
 
 /// Carries out an instruction that doesn't finish the run. For each world that the machine stands for, it answers what
-/// the instruction costs there, and stands for the world after it; where it answers why not, the machine stands for
-/// what it stood for.
+/// the instruction costs there, and stands for the world after it. Where it answers why the instruction was not carried
+/// out, the machine stands for what it stood for.
 pub fn execute<V: Values, K: KeyList>(
     alloc: Global,
     code: &Code,

@@ -12,8 +12,8 @@ ghost use Rattle.code_items.specs.declared.instr.Instr.TheVariants.{Moves as OfM
 ghost use Rattle.run_values.specs.Tagged.{TaggedValues, dropped};
 ghost use Rattle.run_steps.specs.Effects.{whole_on_top, given_text, record_number};
 ghost use Rattle.run_steps.specs.Executed.{Executed};
-ghost use Rattle.run_steps.specs.Filters.{viewing, shown_by, filter_block, is_visible as visible};
-ghost use Rattle.run_steps.specs.Needs.{FilterNeeds, MoveNeeds, SeekNeeds, GivenNeeds, given_of};
+ghost use Rattle.run_steps.specs.Filters.{viewing, shown_by, filter_block, is_visible as visible, RunsOnRows};
+ghost use Rattle.run_steps.specs.Needs.{FilterNeeds, FitsThere, MoveNeeds, SeekNeeds, GivenNeeds, given_of};
 ghost use Rattle.run_steps.specs.Walking.{HasWalked, HasChanged};
 
 use crate::ending::Stop;
@@ -170,6 +170,7 @@ fn look_and_walk<V: Values, K: KeyList>(
     requires filter { (t : TaggedValues)
         × (V.stands view.now.values.now t × FilterNeeds view.now.code.now t view.now.filter) }
     ensures { (t : TaggedValues) → V.stands view.now.values.now t → FilterNeeds view.now.code.now t view.now.filter
+        → FitsThere view.now.code.now (viewing t view.now.moment) view.now.filter (here store.old)
         → IfSome (here store.old) (λ o. HasWalked instr given.now view.now.moment.settings.exact store.old o
         (shown_by view.now.code.now (viewing t view.now.moment) view.now.filter o.table.structure o.table.rows) left
         result store.new) }
@@ -185,7 +186,8 @@ fn look_and_walk<V: Values, K: KeyList>(
                 × (V.stands view.now.values.now t × FilterNeeds view.now.code.now t view.now.filter) }
             ensures { (t : TaggedValues) → V.stands view.entry.now.values.now t
                 → FilterNeeds view.entry.now.code.now t view.entry.now.filter
-                → result ≡ visible view.entry.now.code.now
+                → RunsOnRows view.entry.now.code.now (viewing t view.entry.now.moment) view.entry.now.filter
+                row.now.structure → result ≡ visible view.entry.now.code.now
                 (viewing t view.entry.now.moment) view.entry.now.filter row.now }
         { view.shows(row) },
         left,

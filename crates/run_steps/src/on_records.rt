@@ -14,9 +14,9 @@ ghost use Rattle.code_items.specs.declared.code.Code.{Code as AnyCode};
 ghost use Rattle.run_values.specs.Tagged.{TaggedValues, pushed};
 ghost use Rattle.run_steps.specs.Effects.{answer as answer_of, index_in, closing_store, closing_met};
 ghost use Rattle.run_steps.specs.Executed.{Executed};
-ghost use Rattle.run_steps.specs.Filters.{viewing, shown_by, filter_block, is_visible as visible};
+ghost use Rattle.run_steps.specs.Filters.{viewing, shown_by, filter_block, is_visible as visible, RunsOnRows};
 ghost use Rattle.run_steps.specs.Needs.{FilterNeeds, HasField, TakesField, RecordNeeds, ClosingNeeds, IsClosing};
-ghost use Rattle.run_steps.specs.Needs.{IsPlain, HasRoom};
+ghost use Rattle.run_steps.specs.Needs.{IsPlain, HasRoom, FitsThere, Walks};
 ghost use Rattle.run_steps.specs.Walking.{HasChanged, HasReplaced, ShowsAll};
 
 use crate::ending::Stop;
@@ -142,7 +142,7 @@ fn close_with<K: KeyList, F: Fn(&Row<'_>) -> bool>(
     requires closes { IsClosing instr }
     requires callable { F.IsAlwaysCallable see }
     ensures { IfSome (here store.old) (λ o. (shown : StructureState → List TheRow → ℕ → Bool)
-        → ShowsAll (FnReturnsAt F.Fn) see shown
+        → ShowsAll (FnReturnsAt F.Fn) see o.table.structure shown
         → HasChanged (closing_store code.now.declared instr shown o store.old)
         (closing_met code.now.declared instr shown o) store.old left result store.new) }
 {
@@ -177,6 +177,7 @@ fn look_and_close<V: Values, K: KeyList>(
     requires filter { (t : TaggedValues)
         × (V.stands view.now.values.now t × FilterNeeds view.now.code.now t view.now.filter) }
     ensures { (t : TaggedValues) → V.stands view.now.values.now t → FilterNeeds view.now.code.now t view.now.filter
+        → FitsThere view.now.code.now (viewing t view.now.moment) view.now.filter (here store.old)
         → IfSome (here store.old) (λ o. HasChanged
         (closing_store view.now.code.now.declared instr
         (shown_by view.now.code.now (viewing t view.now.moment) view.now.filter) o store.old)
@@ -194,7 +195,8 @@ fn look_and_close<V: Values, K: KeyList>(
                 × (V.stands view.now.values.now t × FilterNeeds view.now.code.now t view.now.filter) }
             ensures { (t : TaggedValues) → V.stands view.entry.now.values.now t
                 → FilterNeeds view.entry.now.code.now t view.entry.now.filter
-                → result ≡ visible view.entry.now.code.now
+                → RunsOnRows view.entry.now.code.now (viewing t view.entry.now.moment) view.entry.now.filter
+                row.now.structure → result ≡ visible view.entry.now.code.now
                 (viewing t view.entry.now.moment) view.entry.now.filter row.now }
         { view.shows(row) },
         left,
@@ -212,8 +214,9 @@ fn close<V: Values, K: KeyList>(
 ) -> Result<u64, Stop>
     requires legal { IsCode code.now }
     requires closes { IsClosing instr }
-    requires needs { (t : TaggedValues) × (V.stands values.now t × RecordNeeds code.now instr t env.old) }
-    ensures { (t : TaggedValues) → V.stands values.now t → RecordNeeds code.now instr t env.old
+    requires closing { ClosingNeeds code.now instr env.old.store }
+    requires needs { (t : TaggedValues) × (V.stands values.now t × Walks code.now t env.old) }
+    ensures { (t : TaggedValues) → V.stands values.now t → Walks code.now t env.old
         → Executed code.now (OfRecords instr) t env.old left result (V.stands values.now) env.new }
 {
     let view = View::new(code, values, env.moment(), env.filter_here());

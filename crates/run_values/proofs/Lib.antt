@@ -7,3 +7,4 @@ pub mod TextTops
 pub mod CutBytes
 pub mod Said
 pub mod Keeping
+pub mod BlockTops

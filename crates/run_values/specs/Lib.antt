@@ -1,7 +1,8 @@
 pub mod KindStacks
 pub mod Kept
 pub mod Places
-pub mod Scratch
+pub mod BlockStack
+pub mod Calling
 pub mod Standing
 pub mod Tagged
 pub mod TextPile

@@ -1,18 +1,18 @@
 //! What a function gives of values.
 
-ghost use Rattle.std.specs.Prelude.{◌≡◌, ◌≤◌, [], ◌∷◌, IfSome, length};
+ghost use Rattle.std.specs.Prelude.{◌≤◌, [], ◌∷◌, IfSome, length};
 ghost use Rattle.xvalue.specs.declared.settings.Settings.{Settings as AnySettings};
 ghost use Rattle.xvalue.specs.declared.value.Value.TheVariants.{Number as IsNumber, Text as IsText};
 ghost use Rattle.xvalue.specs.declared.value.Value.TheVariants.{Date as IsDate, Logical as IsLogical};
-ghost use Rattle.xvalue.specs.Functions.{applied};
-ghost use Rattle.xvalue.specs.Given.{by_kind};
-ghost use Rattle.run_values.specs.Scratch.{IsGiven};
+ghost use Rattle.run_values.specs.Calling.{IsGiven};
 
 use calendar::Day;
 use fixed_num::{Num, without_blanks, without_last_blanks};
-use std::slice;
-use xvalue::apply::{apply, number_of_two, truth_of_two};
-use xvalue::{Arguments, Fun, Gathered, Settings, Text, Value, eq_text, less_text};
+use xvalue::apply::{number_of_two, truth_of_two};
+use xvalue::{
+    Fun, Settings, begins_with_capital, begins_with_letter, begins_with_small, count_of, eq_text,
+    first_byte, first_place, front, last_part, less_text, part_from, place_of,
+};
 
 /// The number that a function gives of two numbers; none of another function.
 pub fn number_of_numbers(fun: Fun, first: Num, second: Num) -> Option<Num>
@@ -41,7 +41,7 @@ pub fn truth_of_numbers(fun: Fun, first: Num, second: Num) -> Option<bool>
     }
 }
 
-/// Whether a comparison of two texts holds; none of another function.
+/// Whether a comparison of two texts holds, or the first stands in the second; none of another function.
 #[tactic(auto, unfolding(xvalue::specs::Functions::applied))]
 pub fn truth_of_texts(fun: Fun, settings: Settings, first: &[u8], second: &[u8]) -> Option<bool>
     ensures { IfSome result (λ truth. IsGiven fun settings
@@ -51,6 +51,7 @@ pub fn truth_of_texts(fun: Fun, settings: Settings, first: &[u8], second: &[u8])
         Fun::TextEq => Some(eq_text(first, second, settings.exact)),
         Fun::TextLess => Some(less_text(first, second)),
         Fun::TextGreater => Some(less_text(second, first)),
+        Fun::In => Some(first_place(first, second).is_some()),
         _ => None,
     }
 }
@@ -177,104 +178,74 @@ pub fn part_of_text(fun: Fun, text: &[u8]) -> Option<&[u8]>
     }
 }
 
-/// What a function gives of a text and a number.
-fn of_text_and_number(fun: Fun, settings: Settings, text: &Text, number: &Num) -> Value
-    ensures { result ≡ applied fun settings (by_kind (IsText text.now ∷ IsNumber number.now ∷ [])) }
+/// What LEFT or RIGHT leaves of a text, lent from there; none of another function.
+#[tactic(auto, unfolding(xvalue::specs::Functions::applied))]
+pub fn end_of_text(fun: Fun, text: &[u8], count: Num) -> Option<&[u8]>
+    requires { length text.now ≤ 254 }
+    ensures given { (settings : AnySettings) → IfSome result (λ part. IsGiven fun settings
+        (IsText (record { items = text.now }) ∷ IsNumber count ∷ []) (IsText (record { items = part.now }))) }
+    ensures short { IfSome result (λ part. length part.now ≤ 254) }
 {
-    let arguments = Arguments {
-        numbers: slice::from_ref(number),
-        texts: slice::from_ref(text),
-        dates: &[],
-        truths: &[],
-    };
-    apply(fun, settings, &arguments)
-}
-
-/// What a function gives of two values that needn't be gathered; none of others.
-fn of_pair(fun: Fun, settings: Settings, first: &Value, second: &Value) -> Option<Value>
-    ensures { IfSome result (λ value. value ≡ applied fun settings (by_kind (first.now ∷ second.now ∷ []))) }
-{
-    match (first, second) {
-        (Value::Text(first), Value::Text(second)) => {
-            let truth = truth_of_texts(fun, settings, first.as_slice(), second.as_slice())?;
-            Some(Value::Logical(truth))
-        }
-        (Value::Text(text), Value::Number(number)) => {
-            Some(of_text_and_number(fun, settings, text, number))
-        }
+    match fun {
+        Fun::Left => Some(front(text, count_of(count))),
+        Fun::Right => Some(last_part(text, count_of(count))),
         _ => None,
     }
 }
 
-/// What a function gives of one value.
-fn of_one(fun: Fun, settings: Settings, value: &Value) -> Value
-    ensures { result ≡ applied fun settings (by_kind (value.now ∷ [])) }
+/// What SUBSTR leaves of a text, lent from there; none of another function.
+#[tactic(auto, unfolding(xvalue::specs::Functions::applied))]
+pub fn piece_of_text(fun: Fun, text: &[u8], place: Num, count: Num) -> Option<&[u8]>
+    requires { length text.now ≤ 254 }
+    ensures given { (settings : AnySettings) → IfSome result (λ part. IsGiven fun settings
+        (IsText (record { items = text.now }) ∷ IsNumber place ∷ IsNumber count ∷ [])
+        (IsText (record { items = part.now }))) }
+    ensures short { IfSome result (λ part. length part.now ≤ 254) }
 {
-    let mut arguments = Arguments {
-        numbers: &[],
-        texts: &[],
-        dates: &[],
-        truths: &[],
-    };
-    match value {
-        Value::Number(number) => arguments.numbers = slice::from_ref(number),
-        Value::Text(text) => arguments.texts = slice::from_ref(text),
-        Value::Date(date) => arguments.dates = slice::from_ref(date),
-        Value::Logical(truth) => arguments.truths = slice::from_ref(truth),
-    }
-    apply(fun, settings, &arguments)
-}
-
-/// What a function gives of a text and two numbers; none of others.
-fn of_part(fun: Fun, settings: Settings, values: &[Value]) -> Option<Value>
-    ensures { IfSome result (λ value. value ≡ applied fun settings (by_kind values.now)) }
-{
-    match values {
-        [
-            Value::Text(text),
-            Value::Number(first),
-            Value::Number(second),
-        ] => {
-            let arguments = Arguments {
-                numbers: &[*first, *second],
-                texts: slice::from_ref(text),
-                dates: &[],
-                truths: &[],
-            };
-            Some(apply(fun, settings, &arguments))
-        }
+    match fun {
+        Fun::Substr => Some(part_from(text, count_of(place), count_of(count))),
         _ => None,
     }
 }
 
-/// What a function gives of values that needn't be gathered; none of others.
-fn soon_given(fun: Fun, settings: Settings, values: &[Value]) -> Option<Value>
-    ensures { IfSome result (λ value. value ≡ applied fun settings (by_kind values.now)) }
+/// The number that a function gives of a text; none of another function.
+#[tactic(auto, unfolding(xvalue::specs::Functions::applied))]
+pub fn number_of_text(fun: Fun, text: &[u8]) -> Option<Num>
+    requires { length text.now ≤ 254 }
+    ensures { (settings : AnySettings) → IfSome result (λ number.
+        IsGiven fun settings (IsText (record { items = text.now }) ∷ []) (IsNumber number)) }
 {
-    match values {
-        [value] => Some(of_one(fun, settings, value)),
-        [first, second] => of_pair(fun, settings, first, second),
-        _ => of_part(fun, settings, values),
+    match fun {
+        Fun::Len => Some(Num::from(text.len() as u32)),
+        Fun::Asc => Some(Num::from(u32::from(first_byte(text)))),
+        Fun::Val => Some(Num::parse_prefix(text)),
+        _ => None,
     }
 }
 
-/// What a function gives of at most four arguments. It takes no memory. Arguments are gathered only where nothing else
-/// will do: to gather them takes longer than what is done with them.
-pub(crate) fn result_of(fun: Fun, settings: Settings, values: &[Value]) -> Value
-    requires { length values.now ≤ 4 }
-    ensures { result ≡ applied fun settings (by_kind values.now) }
+/// The number that a function gives of two texts; none of another function.
+#[tactic(auto, unfolding(xvalue::specs::Functions::applied))]
+pub fn number_of_texts(fun: Fun, first: &[u8], second: &[u8]) -> Option<Num>
+    requires { length second.now ≤ 254 }
+    ensures { (settings : AnySettings) → IfSome result (λ number. IsGiven fun settings
+        (IsText (record { items = first.now }) ∷ IsText (record { items = second.now }) ∷ []) (IsNumber number)) }
 {
-    match soon_given(fun, settings, values) {
-        Some(value) => value,
-        None => gathered_first(fun, settings, values),
+    match fun {
+        Fun::At => Some(Num::from(place_of(first, second) as u32)),
+        _ => None,
     }
 }
 
-/// The same, by arguments that are gathered. It stands apart, since a function's locals are zeroed on entry.
-fn gathered_first(fun: Fun, settings: Settings, values: &[Value]) -> Value
-    requires { length values.now ≤ 4 }
-    ensures { result ≡ applied fun settings (by_kind values.now) }
+/// Whether a text begins as a function asks; none of another function.
+#[tactic(auto, unfolding(xvalue::specs::Functions::applied))]
+pub fn truth_of_text(fun: Fun, text: &[u8]) -> Option<bool>
+    ensures { (settings : AnySettings) → IfSome result (λ truth.
+        IsGiven fun settings (IsText (record { items = text.now }) ∷ []) (IsLogical truth)) }
 {
-    let gathered = Gathered::of(values);
-    apply(fun, settings, &gathered.arguments())
+    match fun {
+        Fun::IsAlpha => Some(begins_with_letter(text)),
+        Fun::IsUpper => Some(begins_with_capital(text)),
+        Fun::IsLower => Some(begins_with_small(text)),
+        _ => None,
+    }
 }

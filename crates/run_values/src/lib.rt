@@ -6,9 +6,9 @@
 
 pub mod calling;
 mod cells;
+mod kind_piles;
 mod lent;
 mod pile;
-mod scratch;
 mod stacks;
 mod tagged;
 mod text_pile;
@@ -16,9 +16,9 @@ mod untagged;
 mod values;
 
 pub use cells::{Cell, Cells};
+pub use kind_piles::KindPiles;
 pub use lent::Lent;
 pub use pile::{Pile, STACK_LIMIT};
-pub use scratch::Scratch;
 pub use stacks::Stacks;
 pub use tagged::Tagged;
 pub use untagged::{SaidPlace, Untagged};

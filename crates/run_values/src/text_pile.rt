@@ -148,7 +148,7 @@ pub(crate) fn copy_into(text: &Text, copy: &mut Text)
     write_over(text.as_slice(), copy);
 }
 
-/// Makes a text that of these bytes.
+/// Writes these bytes over a text, which has no others then.
 fn write_over(bytes: &[u8], text: &mut Text)
     requires { length bytes.now ≤ 254 }
     ensures { text.new ≡ record { items = bytes.now } }

@@ -1,27 +1,25 @@
 -- A whole paper that is read is spelled so, and one that is spelled so is read.
-use Rattle.std.proofs.Common.{◌≡◌, ℕ, zero, suc, ◌+◌, ◌-◌, ◌^◌, ◌<◌, ◌≤◌, Bool, true, false, cond, eqb, ltb, List, []}
-use Rattle.std.proofs.Common.{◌∷◌, ◌++◌, length, take, drop, Option, Some, None, Result, Ok, Err, refl, sym, ap, subst}
+use Rattle.std.proofs.Common.{◌≡◌, ℕ, zero, suc, ◌-◌, ◌≤◌, Bool, true, false, cond, eqb, ltb, List, []}
+use Rattle.std.proofs.Common.{◌∷◌, ◌++◌, length, take, drop, Some, None, Result, Ok, Err, refl, sym, ap, subst}
 use Rattle.std.proofs.Common.{◌∙◌, append_assoc, arith, rules}
 use Rattle.std.specs.Prelude.{IfOk}
-use Rattle.std.specs.List.{flat_map, AllByRecursion}
+use Rattle.std.specs.List.{flat_map}
 use Rattle.std.specs.Int.{w32, to_be_bytes}
 use Rattle.std.specs.Str.{bytes_eq}
 use Rattle.std.proofs.lemmas.Bool.{eqb-true, ltb-false, le-ltb}
 use Rattle.std.proofs.lemmas.List.{append-nil, nil_from_length, take_at, drop_at, take-append-drop, length-append}
-use Rattle.std.proofs.lemmas.List.{length-take, length-drop}
+use Rattle.std.proofs.lemmas.List.{length-drop}
 use Rattle.std.proofs.lemmas.Slice.Eq.{bytes_eq-Decides}
+use Rattle.save_steps.proofs.Judged.{same_bytes}
 use Rattle.save_papers.specs.declared.paper.PaperError.{PaperError}
 use Rattle.save_papers.specs.declared.paper.SavePaper.{SavePaper}
-use Rattle.save_papers.specs.Papers.{EntrySays, PaperSays, head, seal_of, noted_text, paper_entry_text, sealed_text}
-use Rattle.save_papers.specs.Papers.{paper_view, IsPaper, IsPaperText, FitsEntry}
+use Rattle.save_papers.specs.Papers.{PaperSays, head, seal_of, noted_text, paper_entry_text, sealed_text}
+use Rattle.save_papers.specs.Papers.{paper_view, IsPaper, IsPaperText}
 use Rattle.save_papers.specs.Reading.{◌>>=◌, PaperGives, number_in_front, noted_at, after_head, paper_entries_at}
 use Rattle.save_papers.specs.Reading.{body_of, unsealed, paper_of}
-use Rattle.save_papers.proofs.Fields.{IsBytes, IsBytes-take, IsBytes-drop, bind_some, guard_some, some_is, Takes}
+use Rattle.save_papers.proofs.Fields.{IsBytes, IsBytes-take, IsBytes-drop, bind_some, some_is, Takes}
 use Rattle.save_papers.proofs.Fields.{Takes-then, number_takes, number_again}
 use Rattle.save_papers.proofs.Entries.{entries_take, entries_again}
-
-same_bytes : (s : List ℕ) → bytes_eq s s ≡ true
-same_bytes s = search (rules, bytes_eq-Decides)
 
 bytes_are : (a b : List ℕ) → bytes_eq a b ≡ true → a ≡ b
 bytes_are a b e = search (rules, bytes_eq-Decides)

@@ -76,8 +76,8 @@ fn begins_with(name: &[u8], front: &[u8]) -> bool
     &name[..front.len().min(name.len())] == front
 }
 
-/// What a file of this name is, where the files that tell of a save have names that begin with `paper`, and where a
-/// conversation has been `recorded` beside a file of this name or hasn't.
+/// What a file of this name is. The files that tell of a save have names that begin with `paper`. A conversation has
+/// been `recorded` beside a file of this name, or hasn't.
 #[tactic(auto, unfolding(crate::specs::Overwriting::by_name))]
 fn by_name(name: &str, paper: &str, recorded: bool) -> Option<Overwritten>
     ensures { result ≡ spec.by_name name.now paper.now recorded }

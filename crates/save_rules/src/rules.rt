@@ -86,8 +86,8 @@ fn is_guarded(file: &Standing, folder: &FileFolder, user: &User<'_>) -> bool
         && user.id != file.owner
 }
 
-/// Why a file of a folder can't be replaced as it was, if it can't. Who takes files over doesn't ask for their owners
-/// and groups.
+/// Why a file of a folder can't be replaced as it was, if it can't. A user who takes files over needn't give them their
+/// owners and groups.
 #[tactic(auto, unfolding(crate::specs::Rules::harm_of))]
 pub fn harm_of(
     file: &Standing,

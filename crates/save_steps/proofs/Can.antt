@@ -1,14 +1,17 @@
 -- Each step can be done: what the law says of steps in a row isn't said of none.
-use Rattle.std.proofs.Common.{◌≡◌, ◌≢◌, ℕ, zero, suc, ◌<◌, false, List, [], ◌∷◌, ◌++◌, Option, Some, None, length, slice_get, refl, sym, arith, rules}
+use Rattle.std.proofs.Common.{◌≡◌, ◌≢◌, ℕ, zero, suc, ◌<◌, false, List, [], ◌∷◌, ◌++◌, Option, Some, None, length}
+use Rattle.std.proofs.Common.{slice_get, refl, sym, arith, rules}
 use Rattle.std.specs.List.{AllByRecursion}
 use Rattle.std.specs.Str.{bytes_eq}
 use Rattle.std.specs.Prelude.{if◌then◌else◌, MatchOption, ◌≤◌}
 use Rattle.std.proofs.lemmas.Slice.Eq.{bytes_eq-Decides}
 use Rattle.save_steps.specs.declared.steps.Paper.TheVariants.{Absent, Plan, Note}
 use Rattle.save_steps.specs.declared.steps.Step.{Step}
-use Rattle.save_steps.specs.declared.steps.Step.TheVariants.{WritePlan, Make, Sync, WriteNote, Place, Unmake, RemovePaper, RemoveDraft}
+use Rattle.save_steps.specs.declared.steps.Step.TheVariants.{WritePlan, Make, Sync, WriteNote, Place, Unmake}
+use Rattle.save_steps.specs.declared.steps.Step.TheVariants.{RemovePaper, RemoveDraft}
 use Rattle.save_steps.specs.Folders.{Files, FolderStands, Renewal, NamesAreApart, Same, IsPut, IsRenamed, Did, DidAll}
-use Rattle.save_steps.specs.Steps.{for_each, make_steps, places, unmakes, place_steps, save_steps, back_steps, on_steps, without_steps}
+use Rattle.save_steps.specs.Steps.{for_each, make_steps, places, unmakes, place_steps, save_steps, back_steps, on_steps}
+use Rattle.save_steps.specs.Steps.{without_steps}
 use Rattle.save_steps.proofs.Judged.{same_bytes}
 use Rattle.save_steps.proofs.Runs.{all_and}
 

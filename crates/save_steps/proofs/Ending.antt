@@ -1,23 +1,29 @@
 -- What the next command makes of what stands.
-use Rattle.std.proofs.Common.{◌≡◌, ◌⊎◌, inl, inr, ℕ, zero, suc, ◌+◌, false, List, [], ◌∷◌, ◌++◌, Some, None, length, map, slice_get, refl, sym, ◌∙◌, ap, subst}
+use Rattle.std.proofs.Common.{◌≡◌, ◌⊎◌, inl, inr, ℕ, zero, suc, false, List, [], ◌∷◌, ◌++◌, Some, None, length, map}
+use Rattle.std.proofs.Common.{slice_get, refl, sym, ◌∙◌, ap, subst}
 use Rattle.std.specs.List.{AllByRecursion, list_any}
 use Rattle.std.specs.Option.{option_map}
 use Rattle.std.proofs.lemmas.List.{length-map}
 use Rattle.std.proofs.lemmas.Option.{same_Some, slice_get_within}
-use Rattle.save_steps.specs.declared.slots.Slot.{Slot}
 use Rattle.save_steps.specs.declared.slots.Slot.TheVariants.{Waiting, Placed}
 use Rattle.save_steps.specs.declared.steps.Paper.{Paper}
 use Rattle.save_steps.specs.declared.steps.Paper.TheVariants.{Absent, Plan}
 use Rattle.save_steps.specs.declared.steps.Step.{Step}
-use Rattle.save_steps.specs.declared.steps.Step.TheVariants.{Make, Sync, WriteNote, Place, Unmake, RemovePaper, RemoveDraft}
+use Rattle.save_steps.specs.declared.steps.Step.TheVariants.{Make, Sync, WriteNote, Place, Unmake, RemovePaper}
+use Rattle.save_steps.specs.declared.steps.Step.TheVariants.{RemoveDraft}
 use Rattle.save_steps.specs.Finishing.{finish_of, is_foreign}
 use Rattle.save_steps.specs.Folders.{FolderStands, Renewal, NamesAreApart, Same, Did, DidAll, MayLeave, StopsAt}
-use Rattle.save_steps.specs.Points.{IsReady, IsAllOld, IsPlaced, IsAllNew, slot_now, next_steps, StopsAgain, NextEnds, IsAllOrNothing}
-use Rattle.save_steps.specs.Steps.{make_steps, places, unmakes, plan_steps, place_steps, save_steps, back_steps, on_steps, without_steps}
+use Rattle.save_steps.specs.Points.{IsReady, IsAllOld, IsPlaced, IsAllNew, slot_now, next_steps, StopsAgain, NextEnds}
+use Rattle.save_steps.specs.Points.{IsAllOrNothing}
+use Rattle.save_steps.specs.Steps.{make_steps, places, unmakes, plan_steps, place_steps, save_steps, back_steps}
+use Rattle.save_steps.specs.Steps.{on_steps, without_steps}
 use Rattle.save_steps.proofs.Runs.{did_cut, stops_cut, KeepsWhole, Keeps, all_and, all_each, did_keeps, stops_keeps}
 use Rattle.save_steps.proofs.Can.{can_all, on_within, back_within, without_within, save_within}
 use Rattle.save_steps.proofs.Judged.{waits, is_placed, none_foreign}
-use Rattle.save_steps.proofs.Kept.{IsPlanned, IsNoted, IsWaiting, IsBefore, IsBehind, old_same, planned_same, noted_same, make_keeps, unmake_keeps, sync_keeps, draft_keeps, draft_keeps_old, draft_keeps_new, draft_keeps_noted, sync_keeps_noted, all_made, all_unmade, place_keeps, places_keep, all_placed, HoldBeside, ArePlaced}
+use Rattle.save_steps.proofs.Kept.{IsPlanned, IsNoted, IsWaiting, IsBefore, IsBehind, old_same, planned_same}
+use Rattle.save_steps.proofs.Kept.{noted_same, make_keeps, unmake_keeps, sync_keeps, draft_keeps, draft_keeps_old}
+use Rattle.save_steps.proofs.Kept.{draft_keeps_new, draft_keeps_noted, sync_keeps_noted, all_made, all_unmade}
+use Rattle.save_steps.proofs.Kept.{place_keeps, places_keep, all_placed, HoldBeside, ArePlaced}
 
 -- ---- no draft is left
 
@@ -42,9 +48,6 @@ on_draft cs n = all_and (KeepsDraft cs) (places n) (Sync ∷ RemovePaper ∷ [])
 
 module _ (sum : List ℕ → List ℕ) (cs : List Renewal) (start : FolderStands) where
   -- ---- which steps the next command takes
-
-  slots : FolderStands → List Slot
-  slots s = map (slot_now sum s) cs
 
   known_absent : (s : FolderStands) → s.paper ≡ Absent → next_steps sum cs s ≡ Some without_steps
   known_absent s e = ap (λ (p : Paper). finish_of p (map (slot_now sum s) cs)) e
@@ -74,10 +77,6 @@ module _ (sum : List ℕ → List ℕ) (cs : List Renewal) (start : FolderStands
 
   module _ (apart : NamesAreApart cs) where
     -- ---- a planned save taken away
-
-    -- a plan stands, and no new file does
-    ready_to_go : FolderStands → Type 0
-    ready_to_go s = IsPlanned cs start s × HoldBeside cs (λ _. None) (length cs) s
 
     freed : (s : FolderStands) → HoldBeside cs (λ _. None) (length cs) s → (k : ℕ) (c : Renewal) → slice_get cs k ≡ Some c
         → s.file c.beside ≡ None

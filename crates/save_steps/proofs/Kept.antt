@@ -1,5 +1,6 @@
 -- What each step keeps, and where steps in a row lead.
-use Rattle.std.proofs.Common.{◌≡◌, ◌≢◌, ◌⊎◌, inl, inr, ℕ, zero, suc, ◌<◌, List, [], ◌∷◌, Option, Some, None, slice_get, sym, ◌∙◌, ap, subst, arith}
+use Rattle.std.proofs.Common.{◌≡◌, ◌≢◌, ◌⊎◌, inl, inr, ℕ, zero, suc, ◌<◌, List, [], ◌∷◌, Option, Some, None, slice_get}
+use Rattle.std.proofs.Common.{sym, ◌∙◌, ap, subst, arith}
 use Rattle.std.proofs.lemmas.Bool.{cases_eq}
 use Rattle.std.proofs.lemmas.Option.{same_Some, MatchOption-at_some, MatchOption-at_none}
 use Rattle.save_steps.specs.declared.steps.Paper.TheVariants.{Plan, Note}
@@ -128,8 +129,9 @@ module _ (cs : List Renewal) (start : FolderStands) where
     all_made (suc n) s t h =
         let cut = did_cut cs (make_steps n) (Make n ∷ []) s t h in
         let last = cut.2 in
+        let made = last.1.1 in
         let more : HoldBeside cs (λ c. Some c.new) (suc n) last.0 =
-        one_more (λ c. Some c.new) n cut.0 last.0 last.1.1.0 (all_made n s cut.0 cut.1) last.1.1.1 last.1.1.2 in
+        one_more (λ c. Some c.new) n cut.0 last.0 made.0 (all_made n s cut.0 cut.1) made.1 made.2 in
         subst (HoldBeside cs (λ c. Some c.new) (suc n)) (sym last.2) more
 
     pub all_unmade : (n : ℕ) (s t : FolderStands) → DidAll cs (unmakes n) s t → HoldBeside cs (λ _. None) n t
@@ -137,8 +139,9 @@ module _ (cs : List Renewal) (start : FolderStands) where
     all_unmade (suc n) s t h =
         let cut = did_cut cs (unmakes n) (Unmake n ∷ []) s t h in
         let last = cut.2 in
+        let unmade = last.1.1 in
         let more : HoldBeside cs (λ _. None) (suc n) last.0 =
-        one_more (λ _. None) n cut.0 last.0 last.1.1.0 (all_unmade n s cut.0 cut.1) last.1.1.1 last.1.1.2 in
+        one_more (λ _. None) n cut.0 last.0 unmade.0 (all_unmade n s cut.0 cut.1) unmade.1 unmade.2 in
         subst (HoldBeside cs (λ _. None) (suc n)) (sym last.2) more
 
     -- ---- a new file takes its place
@@ -213,6 +216,8 @@ module _ (cs : List Renewal) (start : FolderStands) where
     all_placed (suc n) s t p h =
         let cut = did_cut cs (places n) (Place n ∷ []) s t h in
         let last = cut.2 in
+        let placed = last.1.1 in
         let more : ArePlaced cs (suc n) last.0 =
-        place_more cut.0 last.0 n last.1.1.0 (places_keep n s cut.0 p cut.1) last.1.1.1 last.1.1.2 (all_placed n s cut.0 p cut.1) in
+        place_more cut.0 last.0 n placed.0 (places_keep n s cut.0 p cut.1) placed.1 placed.2
+        (all_placed n s cut.0 p cut.1) in
         subst (ArePlaced cs (suc n)) (sym last.2) more

@@ -15,7 +15,8 @@ use Rattle.save_steps.specs.Steps.{without_steps, back_steps, on_steps}
 abbrev pub same_sum : Option (List ℕ) → Option (List ℕ) → Bool
 same_sum a b = option_eq bytes_eq a b
 
--- What stands at a file: the sums under its name and under its new file's name, beside what it was and is to be.
+-- What stands at a file, by the sums under its name and under its new file's name, and by those of what it was and is
+-- to be.
 unfoldable pub slot_of : Option (List ℕ) → Option (List ℕ) → Option (List ℕ) → List ℕ → Slot
 slot_of target beside old new =
     if same_sum beside (Some new)

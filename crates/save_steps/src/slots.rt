@@ -10,7 +10,7 @@ pub type Sum = [u8; 32];
 /// What stands at a file that a note names.
 #[derive(Clone, Copy, PartialEq, Eq, Debug)]
 pub enum Slot {
-    /// The file is as it was, and its new file stands beside it.
+    /// The new file stands beside the file, which is as it was, or as it is to be already.
     Waiting,
     /// The new file has taken the file's place.
     Placed,
@@ -18,9 +18,9 @@ pub enum Slot {
     Foreign,
 }
 
+/// What stands at a file. `target` and `beside` are the sums of what stands now under its name and under its new file's
+/// name. `old` and `new` are the sums of what it was and of what it is to be.
 #[tactic(auto, unfolding(crate::specs::Finishing::slot_of))]
-/// What stands at a file, by the sums of what now stands under its name and under its new file's name, and by those of
-/// what it was and of what it is to be.
 pub fn slot_of(target: Option<Sum>, beside: Option<Sum>, old: Option<Sum>, new: Sum) -> Slot
     ensures { result ≡ slot_between target beside old new }
 {

@@ -13,7 +13,7 @@ use Rattle.shape.specs.declared.parts.KeyPart.{KeyPart}
 use Rattle.shape.specs.Keys.{IsKey, IsTextField, key_length, is_text_field, holds_text, width_of, names_text, key_bytes}
 use Rattle.shape.specs.Keys.{is_key}
 
-both : (a b : Bool) → a && b ≡ true → (a ≡ true) × (b ≡ true)
+pub both : (a b : Bool) → a && b ≡ true → (a ≡ true) × (b ≡ true)
 both true b e = (refl, e)
 both false b e = absurd (cc)
 

@@ -14,12 +14,9 @@ use Rattle.shape.specs.Keys.{is_key, name_of, part_spelled, more_spelled, key_te
 use Rattle.shape.specs.Names.{is_capital_byte, is_capital_name, begins_with_capital}
 use Rattle.shape.specs.Tables.{is_table, is_next_table, tables_go_on}
 use Rattle.shape.specs.Whole.{is_shape, IsLegal}
+use Rattle.shape.proofs.KeyLemmas.{both}
 
-both : (a b : Bool) → a && b ≡ true → (a ≡ true) × (b ≡ true)
-both true b e = (refl, e)
-both false b e = absurd (cc)
-
-joined : (a b : Bool) → a ≡ true → b ≡ true → a && b ≡ true
+pub joined : (a b : Bool) → a ≡ true → b ≡ true → a && b ≡ true
 joined a b e f = rw (e, f) refl
 
 -- ---- texts without a zero

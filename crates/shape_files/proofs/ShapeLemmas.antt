@@ -1,5 +1,5 @@
 -- A shape stays legal where what may be declared next is added to it.
-use Rattle.std.proofs.Common.{◌≡◌, ◌<◌, ℕ, zero, suc, Bool, true, false, not, ◌&&◌, nat_le, List, [], ◌∷◌, ◌++◌, length}
+use Rattle.std.proofs.Common.{◌≡◌, ◌<◌, ℕ, zero, suc, Bool, true, not, ◌&&◌, nat_le, List, [], ◌∷◌, ◌++◌, length}
 use Rattle.std.proofs.Common.{length-append, refl, sym, subst, append_assoc, append-nil, arith}
 use Rattle.std.specs.Prelude.{slice_get}
 use Rattle.std.specs.List.{list_any}
@@ -12,14 +12,9 @@ use Rattle.shape.specs.Indexes.{fits_table, has_declared_key, has_index_name, is
 use Rattle.shape.specs.Names.{is_file_name}
 use Rattle.shape.specs.Tables.{is_next_table, tables_go_on}
 use Rattle.shape.specs.Whole.{is_shape}
+use Rattle.shape.proofs.KeyLemmas.{both}
+use Rattle.shape.proofs.LegalLemmas.{joined}
 use Rattle.shape_files.specs.Shapes.{no_shape, with_index, with_declared_table}
-
-pub both : (a b : Bool) → a && b ≡ true → (a ≡ true) × (b ≡ true)
-both true b e = (refl, e)
-both false b e = absurd (cc)
-
-pub joined : (a b : Bool) → a ≡ true → b ≡ true → a && b ≡ true
-joined a b e f = rw (e, f) refl
 
 -- ---- tables
 

@@ -20,8 +20,8 @@ pub record IsTooLong (holds : Option (List ℕ) → Type 0) : Type 0 where
   pub held : holds (Some bytes)
   pub long : 67108864 < length bytes
 
--- Which faults a line may have by what it says, behind lines that declare the shape: one that says none of what a line
--- may say has Word alone, a table no Key, an index no Table, and Limit only what is one too many.
+-- Which faults a line may have by what it says, behind lines that declare the shape. A line that says none of what a
+-- line may say has Word alone. A table has no Key, and an index no Table. Limit is the fault of what is one too many.
 abbrev pub LineFaultIs : Shape → Said → LineFault → Type 0
 LineFaultIs before Nothing f = ⊥
 LineFaultIs before (Table name) fault.Word = ⊥

@@ -77,7 +77,7 @@ impl Declarations {
         name_in(word)
     }
 
-    /// Adds a table, for which there is room. Table where it can't be declared.
+    /// Adds a table, for which there is room. The fault is Table where it can't be declared.
     pub fn add_table(&mut self, table: TableShape) -> Result<(), LineRefusal>
         requires { length self.old.tables.items < 32 }
         ensures added { OnOk result (shape_of self.new ≡ with_declared_table (shape_of self.old) table) }
@@ -93,7 +93,8 @@ impl Declarations {
         Ok(())
     }
 
-    /// Adds an index whose name no other has. Key where it can't be declared, and then Limit.
+    /// Adds an index whose name no other has. The fault is Key where it can't be declared, and else Limit where there
+    /// is no room.
     pub fn add_index(&mut self, index: IndexShape) -> Result<(), LineRefusal>
         ensures added { OnOk result (shape_of self.new ≡ with_index (shape_of self.old) index) }
         ensures legal { is_shape (shape_of self.old) ≡ true → OnOk result (is_shape (shape_of self.new) ≡ true) }

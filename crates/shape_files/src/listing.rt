@@ -83,7 +83,7 @@ fn judge_all<F: Files>(
 }
 
 /// All faults of the lines of a declaration file, and what its other lines declare. A line that has a fault declares
-/// nothing; so a line may be faulty only since an earlier one is. No file changes.
+/// nothing; so a line may be faulty only because an earlier one is. No file changes.
 ///
 /// # Errors
 ///

@@ -19,7 +19,7 @@ use shape::{IndexShape, Items, Shape, TableShape};
 use std::alloc::Global;
 use text_lines::first_line;
 
-/// `TABLE name`: Name, Limit and Table, in this order.
+/// `TABLE name`. The faults Name, Limit and Table are tested in this order.
 fn declare_table<F: Files>(
     alloc: Global,
     files: &mut F,
@@ -51,7 +51,7 @@ fn declare_table<F: Files>(
     }
 }
 
-/// `INDEX name ON table KEY key`: Name, Key and Limit, in this order.
+/// `INDEX name ON table KEY key`. The faults Name, Key and Limit are tested in this order.
 fn declare_index(
     alloc: Global,
     declarations: &mut Declarations,

@@ -13,7 +13,7 @@ pub enum LineFault {
     /// It is neither `TABLE name` nor `INDEX name ON table KEY key`.
     #[error("Word")]
     Word,
-    /// A table or an index can't have the name or another one has it, or no table has the name behind ON.
+    /// A table or an index can't have the name, another one has it, or no table has the name behind ON.
     #[error("Name")]
     Name,
     /// The key isn't one that rows of the table can have, or is spelled in more than 100 bytes.

@@ -1,12 +1,9 @@
 -- A list that grows: what holds of each element by its place.
-use Rattle.std.proofs.Common.{◌≡◌, ◌<◌, ◌+◌, ◌∙◌, ℕ, Bool, zero, suc, List, [], ◌∷◌, ◌++◌, length, map, take, get_or}
-use Rattle.std.proofs.Common.{Option, Some, None, ap, sym, subst, arith}
-use Rattle.std.proofs.lemmas.List.{map-append, take_more}
+use Rattle.std.proofs.Common.{◌≡◌, ◌+◌, ◌∙◌, ℕ, Bool, zero, suc, List, [], ◌∷◌, ◌++◌, length}
+use Rattle.std.proofs.Common.{Some, ap, sym, subst, arith}
 use Rattle.std.proofs.lemmas.List.FromFn.{map-range_with_len_more}
-use Rattle.std.specs.Global.{Vec}
 use Rattle.std.specs.Prelude.{slice_get, MatchOption, IfSome, ⊤}
 use Rattle.table_changes.specs.Rows.{fresh_of, is_fresh_in}
-use Rattle.table_changes.specs.Stores.{bytes_of_rows}
 use Rattle.work_area.specs.Areas.{StoreState}
 
 pub each_more : {x : Type 0} (P : ℕ → x → Type 0) (xs : List x) (z : x)
@@ -16,12 +13,6 @@ each_more P [] z h p zero y e = subst (λ o. IfSome o (P 0)) e p
 each_more P [] z h p (suc t) y e = absurd (subst (λ o. MatchOption o ⊤ (λ _. ⊥)) e tt)
 each_more P (w ∷ xs) z h p zero y e = h 0 y e
 each_more P (w ∷ xs) z h p (suc t) y e = each_more (λ t. P (suc t)) xs z (λ t. h (suc t)) p t y e
-
-pub rows_more : (rows : List (Vec (Vec ℕ))) (r : Vec (Vec ℕ)) (all : List (List (List ℕ))) (t : ℕ) → t < length all
-    → map bytes_of_rows rows ≡ take t all → bytes_of_rows r ≡ get_or all t []
-    → map bytes_of_rows (rows ++ r ∷ []) ≡ take (t + 1) all
-rows_more rows r all t h e f = map-append bytes_of_rows rows (r ∷ []) ∙ ap (λ front. front ++ bytes_of_rows r ∷ []) e
-    ∙ ap (λ x. take t all ++ x ∷ []) f ∙ sym (take_more all t [] h)
 
 pub fresh_more : (s : StoreState) (n : ℕ) (fresh : List Bool) (b : Bool) → fresh ≡ fresh_of s n → b ≡ is_fresh_in s n
     → fresh ++ b ∷ [] ≡ fresh_of s (n + 1)

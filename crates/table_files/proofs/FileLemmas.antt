@@ -21,7 +21,7 @@ use Rattle.table_files.specs.declared.refusal.TableFault.{TableFault}
 use Rattle.table_files.specs.declared.refusal.TableFault.TheVariants.{Absent, TooLong, OfTable, Structure}
 use Rattle.table_files.specs.Loading.{IsTableOf, IsListOf, AreListsOf}
 use Rattle.table_files.specs.Names.{table_file, index_file, files_of}
-use Rattle.table_files.specs.Refusals.{FaultIn, IsShort, IsTableFault, IsMissing, RefusedIn, BytesRefused, TableRefused}
+use Rattle.table_files.specs.Refusals.{IsTableFault, TableRefused}
 use Rattle.table_files.specs.Refusals.{LoadRefused, ListRefused, ListsRefused}
 
 pub kept_on : (a b c : Holds) → SameFiles a b → SameFiles b c → SameFiles a c
@@ -102,35 +102,6 @@ load_refused holds shape limit t s tables B here earlier (Disk name) h =
     (t, table_place shape t s here ∙ ap Some (sym h.0), h.1)
 load_refused holds shape limit t s tables B here earlier Memory h = tt
 
-missing_fault : (holds : Option (List ℕ) → Type 0) (limit : ℕ) (s : TableShape) (fault : TableFault)
-    → IsMissing holds fault → IsTableFault holds limit s fault
-missing_fault holds limit s Absent h = h
-missing_fault holds limit s TooLong h = h
-missing_fault holds limit s (OfTable fault) h = absurd h
-missing_fault holds limit s Structure h = absurd h
-
-pub bytes_refused : (holds : Holds) (limit : ℕ) (s : TableShape) (file : List ℕ) (B : Type 0) → file ≡ table_file s
-    → (r : FilesRefusal) → BytesRefused holds file B r → TableRefused holds limit s B r
-bytes_refused holds limit s file B same (Refused name fault) h =
-    (h.0 ∙ same, missing_fault (holds (table_file s)) limit s fault (subst (λ f. IsMissing (holds f) fault) same h.1))
-bytes_refused holds limit s file B same (Disk name) h = (h.0 ∙ same, h.1)
-bytes_refused holds limit s file B same Memory h = tt
-
-inside_fault : (holds : Option (List ℕ) → Type 0) (limit : ℕ) (s : TableShape) (bytes : List ℕ) → holds (Some bytes)
-    → IsShort bytes → (fault : TableFault) → FaultIn limit s bytes fault → IsTableFault holds limit s fault
-inside_fault holds limit s bytes held short Absent h = absurd h
-inside_fault holds limit s bytes held short TooLong h = absurd h
-inside_fault holds limit s bytes held short (OfTable fault) h = record { bytes = bytes; held = held; fact = (short, h) }
-inside_fault holds limit s bytes held short Structure h = record { bytes = bytes; held = held; fact = (short, h) }
-
-pub inside_refused : (holds : Holds) (limit : ℕ) (s : TableShape) (bytes : List ℕ) (B : Type 0)
-    → holds (table_file s) (Some bytes) → IsShort bytes → (r : FilesRefusal) → RefusedIn limit s (table_file s) bytes r
-    → TableRefused holds limit s B r
-inside_refused holds limit s bytes B held short (Refused name fault) h =
-    (h.0, inside_fault (holds (table_file s)) limit s bytes held short fault h.1)
-inside_refused holds limit s bytes B held short (Disk name) h = absurd h
-inside_refused holds limit s bytes B held short Memory h = tt
-
 pub lists_refused : (shape : Shape) (n : ℕ) (x : IndexShape) (B C : Type 0) → slice_get shape.indexes n ≡ Some x
     → (B → C) → (r : FilesRefusal) → ListRefused x B r → ListsRefused shape C r
 lists_refused shape n x B C here to (Refused name fault) h = h
@@ -164,10 +135,6 @@ pub record ReadLists (holds : Holds) (shape : Shape) (n : ℕ) (lists : List (Op
   pub count : length lists ≡ n
   pub each : (k : ℕ) → k < n → (x : IndexShape) (s : TableShape) → slice_get shape.indexes k ≡ Some x
       → slice_get shape.tables x.table ≡ Some s → IsListOf holds s x (get_or lists k None)
-
-pub no_lists : (holds : Holds) (shape : Shape) (lists : List (Option TreeView)) → lists ≡ []
-    → ReadLists holds shape 0 lists
-no_lists holds shape lists e = record { count = ap length e; each = λ k lt. absurd (omega (arith, lt)) }
 
 pub lists_more : (before mid : Holds) (shape : Shape) (n : ℕ) (lists : List (Option TreeView)) (list : Option TreeView)
     (x : IndexShape) (s : TableShape) → SameFiles before mid → slice_get shape.indexes n ≡ Some x

@@ -1,16 +1,12 @@
 -- Bytes hold one table.
-use Rattle.std.proofs.Common.{◌≡◌, ℕ, List, length, drop, Result, Ok, sym, ap, ◌∙◌}
-use Rattle.dbf_file.specs.declared.fault.DbfFault.{DbfFault}
+use Rattle.std.proofs.Common.{◌≡◌, ℕ, List, length, drop, sym, ap, ◌∙◌}
 use Rattle.dbf_file.specs.declared.field.Field.{Field}
 use Rattle.dbf_file.specs.declared.stamp.Stamp.{Stamp}
 use Rattle.dbf_file.specs.Faults.{told_header, told_fields}
 use Rattle.dbf_file.specs.Fields.{widths_of}
 use Rattle.dbf_file.specs.Rows.{Row, rows_in}
 use Rattle.dbf_file.specs.Tables.{StructureState, DbfText}
-use Rattle.dbf_file.proofs.FileLemmas.{parts_of}
-
-ok_same : (told : Result (List Field) DbfFault) (a b : List Field) → told ≡ Ok a → told ≡ Ok b → a ≡ b
-ok_same told a b e f = cc
+use Rattle.dbf_file.proofs.FileLemmas.{parts_of, ok_same}
 
 -- a structure is its fields and its head
 same_structures : (one other : StructureState) → one.fields ≡ other.fields → one.head ≡ other.head → one ≡ other

@@ -33,9 +33,9 @@ pub fn loads_find_what_was_saved<F: Files>()
         → FindsSaved (F.holds before) shape store k limit loaded }
 {}
 
-/// After a save of a store of a shape, whole or ended behind the first k files, the file of each index among them that
-/// isn't stale lists the rows of its table under the key that is declared: its length, and the text that says how it is
-/// made.
+/// A save of a store of a shape ended behind the first k declared files, or behind all of them. The file of each index
+/// among these that isn't stale then lists the rows of its table under the declared key: its length, and the text that
+/// says how it is made.
 pub fn saved_indexes_have_their_declared_keys<F: Files>()
     ensures { (before after : F) (shape : TheShape) (store : StoreState) (stamp : TheStamp) (k : ℕ)
         → StoreHasShape shape store
@@ -44,8 +44,8 @@ pub fn saved_indexes_have_their_declared_keys<F: Files>()
     indexes_have_their_declared_keys();
 }
 
-/// A load after such a save finds none of these indexes stale, but where its file is above 64 MiB. That is so where
-/// each name holds one thing alone.
+/// A load after such a save finds none of these indexes stale whose file has at most 64 MiB. That is so where each name
+/// holds one thing alone.
 pub fn loads_find_saved_indexes<F: Files>()
     ensures { (before after : F) (shape : TheShape) (store loaded : StoreState) (stamp : TheStamp) (k limit : ℕ)
         → HoldsOneThing (F.holds after) → is_shape shape ≡ true

@@ -23,7 +23,7 @@ struct NewFile {
 }
 
 /// The name and the bytes of the declared file of number k. The numbers begin at 0 and count the files of the tables
-/// first, and those of the indexes behind them. A stale index has no list, so its file isn't written and there is none.
+/// first, and those of the indexes behind them. The file of a stale index isn't written, and the answer is `None` then.
 fn new_file(
     alloc: Global,
     shape: &Shape,

@@ -3,6 +3,7 @@
 use Rattle.std.proofs.Common.{◌≡◌, ◌≤◌, ◌<◌, ◌-◌, suc, arith, length, sym, nat_eq, slice_index_or, ℕ, ◌==◌, ◌&&◌, Bool}
 use Rattle.std.proofs.Common.{true, false, List, [], ◌∷◌, ◌++◌, map, take, refl, ◌∙◌, ap, if◌then◌else◌}
 use Rattle.text_lines.specs.Lines as spec
+use Rattle.text_lines.proofs.LineLemmas.{and_false}
 
 -- what a byte makes of the lines behind it
 abbrev pub with_byte : ℕ → Bool → Bool → List (List ℕ) → List (List ℕ)
@@ -21,14 +22,10 @@ some_more x false true ls e = e
 some_more x false false [] e = refl
 some_more x false false (l ∷ ls) e = refl
 
-and_none : (x : Bool) → (x && false) ≡ false
-and_none true = refl
-and_none false = refl
-
 -- a text with a byte has a line
 pub some_lines : (x : ℕ) (rest : List ℕ) → spec.is_out (spec.lines (x ∷ rest)) ≡ false
 unfolding spec.lines
-some_lines x [] = some_last x (x == 10) (x == 13 && false) [] (and_none (x == 13))
+some_lines x [] = some_last x (x == 10) (x == 13 && false) [] (and_false (x == 13))
 some_lines x (c ∷ rest) = some_more x (x == 10) (x == 13 && (c == 10)) (spec.lines (c ∷ rest)) (some_lines c rest)
 
 cut_some : (ls : List (List ℕ)) → spec.is_out (map (take 254) ls) ≡ spec.is_out ls

@@ -15,7 +15,7 @@ has_end (b ∷ rest) = if b == 10 then true else has_end rest
 abbrev pub is_other : ℕ → Bool
 is_other b = not (b == 10)
 
-and_false : (x : Bool) → (x && false) ≡ false
+pub and_false : (x : Bool) → (x && false) ≡ false
 and_false true = refl
 and_false false = refl
 

@@ -19,7 +19,7 @@ lines (b ∷ rest) =
     else if b == 13 && begins_with_line_end rest then lines rest
     else put_in_front b (lines rest)
 
--- a line, seen from its end as well, without a return as its last byte
+-- a line without a return as its last byte; the second list is the line from its end
 abbrev pub strip_return : List ℕ → List ℕ → List ℕ
 strip_return line [] = line
 strip_return line (last ∷ others) = if last == 13 then reverse others else line

@@ -4,7 +4,7 @@
 ghost use Rattle.std.specs.Prelude.{◌≡◌, ◌++◌, ◌∷◌, [], ℕ, List, true};
 ghost use Rattle.text_lines.specs.Lines.{is_ended, short_lines};
 
-/// Behind a text whose last line has its end, the lines of a further text follow: none is lost, cut or joined. Texts
+/// The lines of a further text follow behind a text whose last line has its end: none is lost, cut or joined. Two texts
 /// that end so make one that does, and a line with its end is such a text.
 pub fn texts_join_at_line_ends()
     ensures lines { (a b : List ℕ) → is_ended a ≡ true → short_lines (a ++ b) ≡ short_lines a ++ short_lines b }

@@ -24,30 +24,6 @@ at_set areas p a x u lt e =
           (differ, sym (get_or-set_other areas p a x None differ) ∙ e))
     ] refl
 
--- an area closed
-pub closed_sound : (tables tables' : List OpenState) (areas : List (Option Use)) (selected limit : ℕ)
-    → length tables' ≡ length tables → IsStore tables areas selected limit
-    → IsStore tables' (set areas (selected - 1) None) selected limit
-closed_sound tables tables' areas selected limit count h = record {
-  ten = length-set areas (selected - 1) None ∙ h.ten;
-  one = h.one;
-  last = h.last;
-  few = h.few;
-  declared = λ a u e. elim (at_set areas (selected - 1) a None u (omega (arith, h.ten, h.one, h.last)) e) as
-      (λ _. u.table < length tables') [
-        | inl f ↦ absurd (let g : None ≡ Some u = f.1 in cc)
-        | inr f ↦ omega (arith, h.declared a u f.1)
-      ];
-  apart = λ a b u v e f same. elim (at_set areas (selected - 1) a None u (omega (arith, h.ten, h.one, h.last)) e) as
-      (λ _. a ≡ b) [
-        | inl k ↦ absurd (let g : None ≡ Some u = k.1 in cc)
-        | inr k ↦ elim (at_set areas (selected - 1) b None v (omega (arith, h.ten, h.one, h.last)) f) as (λ _. a ≡ b) [
-          | inl l ↦ absurd (let g : None ≡ Some v = l.1 in cc)
-          | inr l ↦ h.apart a b u v k.1 l.1 same
-        ]
-      ];
-}
-
 held_at : (areas : List (Option Use)) (a t : ℕ) (u : Use) → get_or areas a None ≡ Some u → u.table ≡ t
     → list_any (holds t) areas ≡ true
 held_at areas a t u e same =

@@ -11,7 +11,7 @@ use Rattle.open_table.specs.Tried.{TriedRow, ShowsRows}
 use Rattle.open_table.specs.Open.{OpenState, IsMoved, IsEnded, landed, opened}
 use Rattle.work_area.specs.declared.uses.Use.{Use}
 use Rattle.work_area.specs.Areas.{StoreState, selected_use, used_table, table_at, here, with_table, with_used}
-use Rattle.work_area.specs.Areas.{with_here, changed_found, change_here, with_use, closed_other, closed_at}
+use Rattle.work_area.specs.Areas.{with_here, with_use, closed_other, closed_at}
 use Rattle.work_area.specs.Calls.{MovesHere, EndsHere, put_landed, with_list, indexed_here, used_here}
 use Rattle.work_area.proofs.AreaLemmas.{let_go}
 
@@ -82,17 +82,6 @@ pub ended : {F : Type 0} (answers : F → TriedRow → Bool → Type 0) (see : F
 ended answers see rows change landing old new t o fresh budget r h e said = from_here old t o _ h
     (λ shown sees. ended_by old new o (change o) fresh (landing o shown) budget r (put_back old t o h)
     (e ∙ sym (put_here old t o fresh h)) (said shown sees))
-
--- a change of the table that can't be refused
-pub changed : (f : OpenState → OpenState) (old new : StoreState) (t : ℕ) (o fresh : OpenState) → IsHere old t o
-    → new ≡ with_table old t fresh → fresh ≡ f o → new ≡ change_here f old
-changed f old new t o fresh h e made = e ∙ sym (put_here old t o fresh h) ∙ ap (λ p. with_here p old) made
-    ∙ ap (λ x. changed_found f x old) (sym (here_is old t o h))
-
-pub kept : (old new : StoreState) (t : ℕ) (o fresh : OpenState) → IsHere old t o → new ≡ with_table old t fresh
-    → fresh ≡ o → new ≡ old
-kept old new t o fresh h e same =
-    e ∙ sym (put_here old t o fresh h) ∙ ap (λ p. with_here p old) same ∙ put_back old t o h
 
 pub stands : (inside s : StoreState) (t : ℕ) (o : OpenState) → inside ≡ s → IsSome (here s)
     → IfSome (selected_use s) (λ u. u.table ≡ t) → here s ≡ table_at s t → t < length s.tables

@@ -33,9 +33,6 @@ still_mapped : (f : IndexMark → Bool) (marks : List IndexMark) → map still (
 still_mapped f [] = refl
 still_mapped f (m ∷ marks) = ap (λ ms. still m ∷ ms) (still_mapped f marks)
 
-same_kind : (o : OpenState) → IsSameKind o o
-same_kind o = record { structure = refl; marks = refl }
-
 pub kinds_stay : (o : OpenState) → KindsStay o
 kinds_stay o = record {
   by_move = λ landing. record { structure = refl; marks = refl };
@@ -78,6 +75,13 @@ kinds_stay o = record {
 }
 
 -- ---- the store
+
+-- a table among those that are closed
+pub closed_got : (tables : List OpenState) (t : ℕ) (a : OpenState) → slice_get (map closed tables) t ≡ Some a
+    → (o : OpenState) × (slice_get tables t ≡ Some o) × (a ≡ closed o)
+closed_got [] t a e = absurd (cc)
+closed_got (o ∷ tables) zero a e = (o, refl, (let same : a ≡ closed o = cc in same))
+closed_got (o ∷ tables) (suc t) a e = closed_got tables t a e
 
 module _ (shape : Shape) where
   same_tables : (s s' : StoreState) → s'.tables ≡ s.tables → StoreHasShape shape s → StoreHasShape shape s'
@@ -134,12 +138,6 @@ module _ (shape : Shape) where
   by_close : (s : StoreState) → StoreHasShape shape s → StoreHasShape shape (closed_here s)
   by_close s h = same_tables (change_here closed s) (closed_here s) refl
       (by_change s closed (λ o. record { structure = refl; marks = refl }) h)
-
-  closed_got : (tables : List OpenState) (t : ℕ) (a : OpenState) → slice_get (map closed tables) t ≡ Some a
-      → (o : OpenState) × (slice_get tables t ≡ Some o) × (a ≡ closed o)
-  closed_got [] t a e = absurd (cc)
-  closed_got (o ∷ tables) zero a e = (o, refl, (let same : a ≡ closed o = cc in same))
-  closed_got (o ∷ tables) (suc t) a e = closed_got tables t a e
 
   by_close_all : (s : StoreState) → StoreHasShape shape s → StoreHasShape shape (closed_all s)
   by_close_all s h = record {

@@ -1,5 +1,5 @@
 -- What the moves and changes of the selected area's table do.
-use Rattle.std.specs.Prelude.{◌≡◌, ℕ, ◌+◌, ◌*◌, ◌<◌, ◌≤◌, Bool, true, false, Option, Some, None, List, length}
+use Rattle.std.specs.Prelude.{ℕ, ◌+◌, ◌*◌, Bool, true, false, Option, Some, None, List, length}
 use Rattle.std.specs.Prelude.{slice_get, Result, IfSome, ℤ}
 use Rattle.dbf_file.specs.Rows.{Row, unmarked}
 use Rattle.row_moves.specs.declared.landed.Spent.{Spent}
@@ -41,7 +41,7 @@ MovesHere answers see landing old new budget result =
 
 -- ---- changes that end with TOP
 
--- PACK, ZAP, REINDEX; the rows that TOP is judged on, and at which cost it comes to which
+-- PACK, ZAP and REINDEX: the rows that TOP is judged on, and where it leads at which cost
 abbrev pub packed_rows : OpenState → List Row
 packed_rows o = unmarked o.table.rows
 

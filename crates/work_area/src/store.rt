@@ -311,7 +311,7 @@ impl<K: KeyList> Store<K> {
         self.tables[t].set_mark(true);
     }
 
-    /// RECALL: takes the mark of the record away that is pointed to; at the end of file nothing changes. The pointer
+    /// RECALL: takes away the mark of the record that is pointed to; at the end of file nothing changes. The pointer
     /// and the answers stay.
     pub fn recall(&mut self)
         requires { IsSome (here self.old) }

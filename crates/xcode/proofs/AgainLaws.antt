@@ -1,5 +1,6 @@
 -- A code's file is read as that code.
-use Rattle.std.proofs.Common.{◌≡◌, ℕ, suc, ◌+◌, ◌^◌, ◌<◌, ◌≤◌, Bool, true, List, [], ◌∷◌, ◌++◌, length, map, Result, Ok, Err, refl, sym, ap, ◌∙◌, arith}
+use Rattle.std.proofs.Common.{◌≡◌, ℕ, suc, ◌+◌, ◌^◌, ◌<◌, ◌≤◌, Bool, true, List, [], ◌∷◌, ◌++◌, length, map, Result, Ok}
+use Rattle.std.proofs.Common.{Err, refl, sym, ap, ◌∙◌, arith}
 use Rattle.std.specs.Prelude.{◌&&◌, ◌==◌, nat_le}
 use Rattle.std.specs.List.{AllByRecursion, list_all}
 use Rattle.std.proofs.lemmas.Bool.{eqb-true, leb-true, le-leb, and_parts, and_from}
@@ -13,10 +14,12 @@ use Rattle.code_items.specs.declared.declared.Declared.{Declared}
 use Rattle.code_items.specs.declared.code.Proc.{Proc}
 use Rattle.code_items.specs.declared.code.Code.{Code}
 use Rattle.code_items.specs.Constants.{is_constant}
-use Rattle.code_items.specs.Declarations.{is_filter, lists_are_legal, constants_are_legal, filters_are_legal, are_declared}
+use Rattle.code_items.specs.Declarations.{is_filter, lists_are_legal, constants_are_legal, filters_are_legal}
+use Rattle.code_items.specs.Declarations.{are_declared}
 use Rattle.code_items.specs.Instrs.{is_instr}
 use Rattle.code_items.specs.States.{is_state_of_start}
-use Rattle.code_items.specs.Legal.{is_procedure, is_map, places_in_all, places_of, blocks_of, blocks_fill, maps_rise, begins_blank, procedures_are_legal, maps_are_legal, instructions_are_legal, is_code}
+use Rattle.code_items.specs.Legal.{is_procedure, is_map, places_in_all, places_of, blocks_of, blocks_fill, maps_rise}
+use Rattle.code_items.specs.Legal.{begins_blank, procedures_are_legal, maps_are_legal, instructions_are_legal, is_code}
 use Rattle.xcode.specs.declared.fault.CodeFault.TheVariants.{Shape, Extra}
 use Rattle.xcode.specs.Decoding.{bind, checked, procedure_follows, is_laid, whole_at, code_at}
 use Rattle.xcode.specs.declared.fault.CodeFault.{CodeFault}
@@ -26,7 +29,8 @@ use Rattle.xcode.proofs.PartLaws.{fine, fine_is, not_both, pair_is, bind_fine, c
 use Rattle.xcode.proofs.WholeLaws.{WithinLimits, CountsFit}
 use Rattle.xcode.proofs.CodeLaws.{ItemLaws, WholeFits, whole_spelled}
 use Rattle.xcode.proofs.FileLaws.{faults_stay, tables_same, indexes_same, each_same, further_same}
-use Rattle.xcode.proofs.LegalLaws.{front_blocks, tables_fit, indexes_fit, lists_fit, filters_fit, procedures_fit, maps_fit}
+use Rattle.xcode.proofs.LegalLaws.{front_blocks, tables_fit, indexes_fit, lists_fit, filters_fit, procedures_fit}
+use Rattle.xcode.proofs.LegalLaws.{maps_fit}
 
 passes : {A : Type 0} (p : A → Bool) (xs : List A) → list_all p xs ≡ true → AllByRecursion (λ (x : A). p x ≡ true) xs
 passes p [] h = tt
@@ -108,7 +112,7 @@ within code k =
     and_from _ (nat_le 1 (length code.instructions)) (and_from _ (nat_le (length code.maps) 4096) (and_from _ (nat_le (length code.procedures) 256) (and_from _ (nat_le 1 (length code.procedures)) (and_from _ (nat_le (length code.declared.filters) 64) (and_from _ (nat_le (length code.declared.constants) 4096) (and_from _ (nat_le (length code.declared.lists) 64) (and_from _ (nat_le (length code.declared.shape.indexes) 64) (and_from _ (nat_le (length code.declared.shape.tables) 32) (and_from (nat_le code.declared.stack_bound 64) (nat_le code.declared.slots 256)
     d.stack_bound d.slots) d.few_tables) d.few_indexes) d.few_lists) d.few_constants) d.few_filters) (some_procedure code.procedures k.blank)) k.few_procedures) k.few_maps) k.some_instruction
 
-small : (n bound : ℕ) → bound ≤ 65535 → nat_le n bound ≡ true → n < 2 ^ 16
+pub small : (n bound : ℕ) → bound ≤ 65535 → nat_le n bound ≡ true → n < 2 ^ 16
 small n bound low h = let le = leb-true n bound h in omega (arith, le, low)
 
 counts_fit : (code : Code) → Keeps code → CountsFit (counts_of code)

@@ -13,13 +13,17 @@ use Rattle.code_items.specs.declared.code.Proc.{Proc}
 use Rattle.code_items.specs.declared.code.Map.{Map}
 use Rattle.code_items.specs.declared.code.Code.{Code}
 use Rattle.code_items.specs.declared.instr.Instr.{Instr}
-use Rattle.code_parts.specs.Laws.{Spells, Any, TableFits, IndexFits, ListFits, IsLegalConstant, FilterFits, ProcedureFits, MapFits, IsLegalInstr}
-use Rattle.code_parts.specs.Texts.{table_text, index_text, list_text, constant_text, filter_text, procedure_text, map_text}
-use Rattle.code_parts.specs.Items.{table_read_at, index_at, list_at, constant_at, filter_at, procedure_read_at, map_read_at}
+use Rattle.code_parts.specs.Laws.{Spells, Any, TableFits, IndexFits, ListFits, IsLegalConstant, FilterFits}
+use Rattle.code_parts.specs.Laws.{ProcedureFits, MapFits, IsLegalInstr}
+use Rattle.code_parts.specs.Texts.{table_text, index_text, list_text, constant_text, filter_text, procedure_text}
+use Rattle.code_parts.specs.Texts.{map_text}
+use Rattle.code_parts.specs.Items.{table_read_at, index_at, list_at, constant_at, filter_at, procedure_read_at}
+use Rattle.code_parts.specs.Items.{map_read_at}
 use Rattle.code_parts.specs.Instructions.{instr_read_at, instr_text}
 use Rattle.xcode.specs.declared.header.Counts.{Counts}
 use Rattle.xcode.specs.declared.header.Header.{Header}
-use Rattle.xcode.specs.Decoding.{always, list_follows, filter_follows, declared_from, declared_at, procedure_follows, map_follows, code_from, body_at, whole_at}
+use Rattle.xcode.specs.Decoding.{always, list_follows, filter_follows, declared_from, declared_at, procedure_follows}
+use Rattle.xcode.specs.Decoding.{map_follows, code_from, body_at, whole_at}
 use Rattle.xcode.specs.CodeFile.{header_text, header_of, counts_of, declared_text, body_text, code_text}
 use Rattle.xcode.specs.Laws.{IsSpelled}
 use Rattle.xcode.proofs.PartLaws.{joint_spelled, shaped_spelled, items_spelled, AreItems}
@@ -119,7 +123,8 @@ headers : (v v' : Version) (a a' b b' c c' d d' e e' f f' g g' h h' i i' j j' : 
 headers v v' a a' b b' c c' d d' e e' f f' g g' h h' i i' j j' p0 p1 p2 p3 p4 p5 p6 p7 p8 p9 p10 = rw (p0, p1, p2, p3, p4, p5, p6, p7, p8, p9, p10) refl
 
 header_is : (h : Header) (code : Code) → DeclaredRead h code.declared → BodyRead h.counts code.declared code → header_of code ≡ h
-header_is h code (declared, (tables, (indexes, (lists, (constants, filters))))) (body, (procedures, (maps, instructions))) =
+header_is h code (declared, (tables, (indexes, (lists, (constants, filters)))))
+    (body, (procedures, (maps, instructions))) =
     headers code.declared.version h.version
     code.declared.stack_bound h.counts.stack_bound
     code.declared.slots h.counts.slots
@@ -131,7 +136,8 @@ header_is h code (declared, (tables, (indexes, (lists, (constants, filters))))) 
     (length code.procedures) h.counts.procedures
     (length code.maps) h.counts.maps
     (length code.instructions) h.counts.instructions
-    (sym (ap (λ (x : Declared). x.version) declared)) (sym (ap (λ (x : Declared). x.stack_bound) declared)) (sym (ap (λ (x : Declared). x.slots) declared))
+    (sym (ap (λ (x : Declared). x.version) declared)) (sym (ap (λ (x : Declared). x.stack_bound) declared))
+    (sym (ap (λ (x : Declared). x.slots) declared))
     tables.0 indexes.0 lists.0 constants.0 filters.0 procedures.0 maps.0 instructions.0
 
 whole_was : (h : Header) (d : Declared) (code : Code) → CountsRead h.counts → DeclaredRead h d → BodyRead h.counts d code → (header_text h ++ (declared_text d ++ body_text code) ≡ code_text code) × WholeRead code
@@ -154,6 +160,7 @@ whole_was h d code within dr br =
 
 pub whole_spelled : ItemLaws → IsSpelled whole_at code_text WholeFits WholeRead
 unfolding whole_at code_text
-whole_spelled laws = shaped_spelled (joint_spelled (header_spelled laws.numbers) (λ h. joint_spelled (declared_spelled laws h) (body_spelled laws h.counts))) _ code_text WholeFits WholeRead
+whole_spelled laws = shaped_spelled (joint_spelled (header_spelled laws.numbers)
+    (λ h. joint_spelled (declared_spelled laws h) (body_spelled laws h.counts))) _ code_text WholeFits WholeRead
     (λ (header, (declared, code)) (counts, (lists, body)). whole_was header declared code counts lists body)
     (λ code f. ((header_of code, (code.declared, code)), (f.header, (f.declared, f.body)), refl, refl))

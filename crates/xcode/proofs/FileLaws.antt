@@ -1,5 +1,6 @@
 -- Laws of code files: what is read is legal, and its file is the bytes.
-use Rattle.std.proofs.Common.{inl, inr, ◌≡◌, ℕ, suc, Bool, true, eqb, List, [], ◌∷◌, ◌++◌, length, Result, Ok, Err, refl, ap, subst, ◌∙◌, arith}
+use Rattle.std.proofs.Common.{inl, inr, ◌≡◌, ℕ, suc, Bool, true, eqb, List, [], ◌∷◌, ◌++◌, length, Result, Ok, Err}
+use Rattle.std.proofs.Common.{refl, ap, subst, ◌∙◌, arith}
 use Rattle.std.specs.Prelude.{◌&&◌, ◌==◌, nat_le}
 use Rattle.std.specs.List.{AllByRecursion, list_all}
 use Rattle.std.proofs.lemmas.Bool.{eqb-true, le-leb, and_parts, and_from}
@@ -15,10 +16,12 @@ use Rattle.code_items.specs.declared.declared.Declared.{Declared}
 use Rattle.code_items.specs.declared.code.Proc.{Proc}
 use Rattle.code_items.specs.declared.code.Code.{Code}
 use Rattle.code_items.specs.Constants.{is_constant}
-use Rattle.code_items.specs.Declarations.{is_filter, lists_are_legal, constants_are_legal, filters_are_legal, are_declared}
+use Rattle.code_items.specs.Declarations.{is_filter, lists_are_legal, constants_are_legal, filters_are_legal}
+use Rattle.code_items.specs.Declarations.{are_declared}
 use Rattle.code_items.specs.Instrs.{is_instr}
 use Rattle.code_items.specs.States.{is_state_of_start}
-use Rattle.code_items.specs.Legal.{is_procedure, is_map, places_of, blocks_of, blocks_fill, maps_rise, begins_blank, procedures_are_legal, maps_are_legal, instructions_are_legal, is_code}
+use Rattle.code_items.specs.Legal.{is_procedure, is_map, places_of, blocks_of, blocks_fill, maps_rise, begins_blank}
+use Rattle.code_items.specs.Legal.{procedures_are_legal, maps_are_legal, instructions_are_legal, is_code}
 use Rattle.code_parts.specs.Laws.{AreBytes}
 use Rattle.xcode.specs.declared.fault.CodeFault.{CodeFault}
 use Rattle.xcode.specs.declared.fault.CodeFault.TheVariants.{Shape, Extra}
@@ -104,9 +107,13 @@ declared_legal code r =
     let tables = tables_same [] d.shape.tables ∙ read_tables.1 in
     let indexes = indexes_same d.shape.tables [] d.shape.indexes ∙ read_indexes.1 in
     let shape = and_from _ (indexes_go_on d.shape.tables [] d.shape.indexes) (and_from _ (tables_go_on [] d.shape.tables) (and_from (nat_le (length d.shape.tables) 32) (nat_le (length d.shape.indexes) 64) l.tables l.indexes) tables) indexes in
-    let lists = and_from (nat_le (length d.lists) 64) (list_all (is_list d.shape.indexes) d.lists) l.lists (each_same (is_list d.shape.indexes) [] d.lists ∙ read_lists.1) in
-    let constants = and_from (nat_le (length d.constants) 4096) (list_all is_constant d.constants) l.constants (all_pass is_constant d.constants read_constants.2) in
-    let filters = and_from (nat_le (length d.filters) 64) (list_all (is_filter (length d.shape.tables) d.slots) d.filters) l.filters (each_same (is_filter (length d.shape.tables) d.slots) [] d.filters ∙ read_filters.1) in
+    let lists = and_from (nat_le (length d.lists) 64) (list_all (is_list d.shape.indexes) d.lists) l.lists
+    (each_same (is_list d.shape.indexes) [] d.lists ∙ read_lists.1) in
+    let constants = and_from (nat_le (length d.constants) 4096) (list_all is_constant d.constants) l.constants
+    (all_pass is_constant d.constants read_constants.2) in
+    let filters = and_from (nat_le (length d.filters) 64)
+    (list_all (is_filter (length d.shape.tables) d.slots) d.filters) l.filters
+    (each_same (is_filter (length d.shape.tables) d.slots) [] d.filters ∙ read_filters.1) in
     and_from _ (filters_are_legal d) (and_from _ (constants_are_legal d) (and_from _ (lists_are_legal d) (and_from _ (is_shape d.shape) (and_from (nat_le d.stack_bound 64) (nat_le d.slots 256) l.stack_bound l.slots) shape) lists) constants) filters
 
 code_legal : (code : Code) → WholeRead code → is_laid code ≡ true → is_code code ≡ true
@@ -118,9 +125,14 @@ code_legal code r h =
     let (read_procedures, (read_maps, read_instructions)) = r.body.1 in
     let p = procedures_pass d code.procedures l.some_procedure read_procedures.1 in
     let procedures = and_from _ (begins_blank code.procedures) (and_from (nat_le (length code.procedures) 256) (list_all (is_procedure d) code.procedures) l.procedures p.0) p.1 in
-    let maps = and_from _ (maps_rise 0 (places_of code.procedures) code.maps) (and_from (nat_le (length code.maps) 4096) (list_all (is_map d) code.maps) l.maps (each_same (is_map d) [] code.maps ∙ read_maps.1)) laid.1 in
+    let maps = and_from _ (maps_rise 0 (places_of code.procedures) code.maps)
+    (and_from (nat_le (length code.maps) 4096) (list_all (is_map d) code.maps) l.maps
+    (each_same (is_map d) [] code.maps ∙ read_maps.1)) laid.1 in
     let few : nat_le (length code.instructions) 65535 ≡ true = (let lt = r.header.0 in le-leb (length code.instructions) 65535 (omega (arith, lt))) in
-    let instructions = and_from _ (blocks_fill (length code.instructions) (blocks_of code.procedures d.filters)) (and_from _ (list_all (is_instr d.version) code.instructions) (and_from (nat_le 1 (length code.instructions)) (nat_le (length code.instructions) 65535) l.some_instruction few) (all_pass (is_instr d.version) code.instructions read_instructions.2)) laid.0 in
+    let instructions = and_from _ (blocks_fill (length code.instructions) (blocks_of code.procedures d.filters))
+    (and_from _ (list_all (is_instr d.version) code.instructions)
+    (and_from (nat_le 1 (length code.instructions)) (nat_le (length code.instructions) 65535) l.some_instruction few)
+    (all_pass (is_instr d.version) code.instructions read_instructions.2)) laid.0 in
     and_from _ (instructions_are_legal code) (and_from _ (maps_are_legal code) (and_from (are_declared d) (procedures_are_legal code) (declared_legal code r) procedures) maps) instructions
 
 -- ---- found

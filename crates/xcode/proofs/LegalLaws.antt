@@ -1,5 +1,6 @@
 -- Legal codes fit their bytes, so that they are read from their files.
-use Rattle.std.proofs.Common.{◌≡◌, ℕ, ◌+◌, ◌-◌, ◌<◌, ◌≤◌, Bool, true, false, eqb, List, [], ◌∷◌, ◌++◌, length, map, Option, Some, None, refl, arith}
+use Rattle.std.proofs.Common.{◌≡◌, ℕ, ◌+◌, ◌-◌, ◌<◌, ◌≤◌, Bool, true, false, eqb, List, [], ◌∷◌, ◌++◌, length, map}
+use Rattle.std.proofs.Common.{Option, Some, None, refl, arith}
 use Rattle.std.specs.Prelude.{◌&&◌, nat_le, nat_lt, slice_get}
 use Rattle.std.specs.List.{AllByRecursion, list_all}
 use Rattle.std.proofs.lemmas.Bool.{eqb-true, leb-true, ltb-true, and_parts}
@@ -26,13 +27,14 @@ use Rattle.code_items.specs.declared.code.Map.{Map}
 use Rattle.code_items.specs.Declarations.{needs_rise, is_filter}
 use Rattle.code_items.specs.States.{may_be_unsure, is_area_state, is_desk, is_state}
 use Rattle.code_items.specs.Legal.{is_procedure, is_map, places_in_all, blocks_fill, maps_rise}
-use Rattle.code_parts.specs.Laws.{FieldFits, TableFits, IndexFits, ListFits, FilterFits, AreaFits, StateFits, ProcedureFits, MapFits}
+use Rattle.code_parts.specs.Laws.{FieldFits, TableFits, IndexFits, ListFits, FilterFits, AreaFits, StateFits}
+use Rattle.code_parts.specs.Laws.{ProcedureFits, MapFits}
 
 -- the first of tests joined is the outermost left
-first_true : (a b : Bool) → (a && b) ≡ true → a ≡ true
+pub first_true : (a b : Bool) → (a && b) ≡ true → a ≡ true
 first_true a b h = (and_parts a b h).0
 
-second_true : (a b : Bool) → (a && b) ≡ true → b ≡ true
+pub second_true : (a b : Bool) → (a && b) ≡ true → b ≡ true
 second_true a b h = (and_parts a b h).1
 
 -- ---- tables and indexes

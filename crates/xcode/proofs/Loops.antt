@@ -1,13 +1,11 @@
 -- Reading one item after the other, as a loop does.
-use Rattle.std.proofs.Common.{◌≡◌, ℕ, suc, ◌-◌, ◌+◌, ◌≤◌, ◌<◌, Bool, true, false, List, [], ◌∷◌, ◌++◌, Result, Ok, Err, refl, sym, ◌∙◌, arith}
+use Rattle.std.proofs.Common.{◌≡◌, ℕ, suc, ◌-◌, ◌+◌, ◌≤◌, ◌<◌, Bool, true, false, List, [], ◌∷◌, ◌++◌, Result, Ok, Err}
+use Rattle.std.proofs.Common.{refl, sym, ◌∙◌, arith}
 use Rattle.code_parts.specs.Reading.{Reader, Judged}
 use Rattle.xcode.specs.declared.fault.CodeFault.{CodeFault}
-use Rattle.xcode.specs.declared.fault.CodeFault.TheVariants.{Magic, Version, Short, Limit, Operation, Shape, Extra, Memory}
+use Rattle.xcode.specs.declared.fault.CodeFault.TheVariants.{Magic, Version, Short, Limit, Operation, Shape, Extra}
+use Rattle.xcode.specs.declared.fault.CodeFault.TheVariants.{Memory}
 use Rattle.xcode.specs.Decoding.{FileFails, bind, checked, item_told, items_at}
-
--- what is still read behind the items so far
-abbrev pub LeadsTo : {A : Type 0} → Reader (Judged A) → (List A → A → Bool) → ℕ → List A → List ℕ → Result (List A × List ℕ) CodeFault → Type 0
-LeadsTo one follows left earlier bytes total = items_at one follows left earlier bytes ≡ total
 
 pub goes_on : {A : Type 0} (one : Reader (Judged A)) (follows : List A → A → Bool) (count i : ℕ) (earlier : List A) (bytes : List ℕ) (n : A) (after : List ℕ) (total : Result (List A × List ℕ) CodeFault) → i < count → item_told (one bytes) ≡ Ok (n, after) → follows earlier n ≡ true
     → items_at one follows (count - i) earlier bytes ≡ total → items_at one follows (count - (i + 1)) (earlier ++ n ∷ []) after ≡ total

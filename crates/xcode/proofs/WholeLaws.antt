@@ -1,5 +1,6 @@
 -- Laws of whole code files.
-use Rattle.std.proofs.Common.{◌≡◌, ℕ, ◌^◌, ◌<◌, Bool, true, false, cond, eqb, List, ◌++◌, Option, Some, None, Ok, Err, refl, sym, ap, subst, ◌∙◌, arith}
+use Rattle.std.proofs.Common.{◌≡◌, ℕ, ◌^◌, ◌<◌, Bool, true, false, cond, eqb, List, ◌++◌, Some, None, Ok, Err}
+use Rattle.std.proofs.Common.{refl, sym, ap, subst, ◌∙◌, arith}
 use Rattle.std.specs.Prelude.{◌==◌}
 use Rattle.std.specs.Int.{w16, w32, to_le_bytes}
 use Rattle.std.proofs.lemmas.Bool.{eqb-true}
@@ -8,34 +9,26 @@ use Rattle.code_items.specs.declared.declared.Version.TheVariants.{One, Two}
 use Rattle.code_parts.specs.Reading.{Front, Reader, Judged, read_behind, give, sure, number_read_at}
 use Rattle.code_parts.specs.Laws.{Spells, Any}
 use Rattle.code_parts.specs.Texts.{two}
+use Rattle.code_parts.proofs.Combine.{some_is, done, ok_is}
 use Rattle.xcode.specs.declared.fault.CodeFault.{CodeFault}
 use Rattle.xcode.specs.declared.fault.CodeFault.TheVariants.{Magic, Version as OtherVersion, Short, Limit}
 use Rattle.xcode.specs.declared.header.Counts.{Counts}
 use Rattle.xcode.specs.declared.header.Header.{Header}
-use Rattle.xcode.specs.Decoding.{there_or, within_limits, number_at_front, counts_from, counts_at, version_from, magic_at, version_at, limited_at, header_at}
+use Rattle.xcode.specs.Decoding.{there_or, within_limits, number_at_front, counts_from, counts_at, version_from}
+use Rattle.xcode.specs.Decoding.{magic_at, version_at, limited_at, header_at}
 use Rattle.xcode.specs.CodeFile.{version_number, counts_text, header_text}
 use Rattle.xcode.specs.Laws.{Lasts, IsSpelled}
-use Rattle.xcode.proofs.PartLaws.{bad, fine_is, bad_is, not_both, joint_spelled, made_spelled, shaped_spelled, checked_spelled}
+use Rattle.xcode.proofs.PartLaws.{bad, fine_is, bad_is, not_both, joint_spelled, made_spelled, shaped_spelled}
+use Rattle.xcode.proofs.PartLaws.{checked_spelled}
 
 -- ---- numbers of the header
-
-abbrev some : {A : Type 0} → A → Option A
-some x = Some x
-
-some_is : {A : Type 0} (x y : A) → some x ≡ some y → x ≡ y
-some_is x y e = cc
-
-abbrev done : {A : Type 0} → A → Judged A
-done x = Ok x
-
-done_is : {A : Type 0} (x y : A) → done x ≡ done y → x ≡ y
-done_is x y e = cc
 
 surely : {A : Type 0} (front : Front A) (x : A) (rest : List ℕ) → read_behind {B = Judged A} front (λ y. give (done y)) ≡ Some (Ok x, rest) → front ≡ Some (x, rest)
 surely None x rest e = absurd cc
 surely {A} (Some p) x rest e =
     let same : (done p.0, p.1) ≡ (done x, rest) = some_is {A = Judged A × List ℕ} (done p.0, p.1) (done x, rest) e in
-    ap (λ (y : A). Some (y, p.1)) (done_is p.0 x (ap (λ (q : Judged A × List ℕ). q.0) same)) ∙ ap (λ (l : List ℕ). Some (x, l)) (ap (λ (q : Judged A × List ℕ). q.1) same)
+    ap (λ (y : A). Some (y, p.1)) (ok_is p.0 x (ap (λ (q : Judged A × List ℕ). q.0) same))
+    ∙ ap (λ (l : List ℕ). Some (x, l)) (ap (λ (q : Judged A × List ℕ). q.1) same)
 
 there_fine : {A : Type 0} (fault : CodeFault) (front : Front A) (x : A) (rest : List ℕ) → there_or fault front ≡ Ok (x, rest) → read_behind {B = Judged A} front (λ y. give (done y)) ≡ Some (Ok x, rest)
 there_fine fault None x rest e = absurd cc
@@ -122,6 +115,12 @@ pub record HeaderFits (h : Header) : Type 0 where
 
 pub header_spelled : NumberLaws → IsSpelled header_at header_text HeaderFits (λ h. CountsRead h.counts)
 unfolding header_at
-header_spelled laws = shaped_spelled (joint_spelled (magic_spelled laws) (λ _. joint_spelled (version_spelled laws) (λ _. limited_spelled laws))) _ header_text HeaderFits (λ h. CountsRead h.counts)
-    (λ (magic, (version, counts)) (is_magic, (_, within)). (ap (λ (n : ℕ). to_le_bytes w32 n ++ (two (version_number version) ++ counts_text counts)) (eqb-true magic 0x46434258 is_magic.1), within))
+header_spelled laws = shaped_spelled (joint_spelled (magic_spelled laws)
+    (λ _. joint_spelled (version_spelled laws) (λ _. limited_spelled laws))) _ header_text HeaderFits
+    (λ h. CountsRead h.counts)
+    (λ (magic, (version, counts)) (is_magic, (_, within)). (
+      ap (λ (n : ℕ). to_le_bytes w32 n ++ (two (version_number version) ++ counts_text counts))
+          (eqb-true magic 0x46434258 is_magic.1),
+      within,
+    ))
     (λ y h. ((0x46434258, (y.version, y.counts)), ((omega arith, refl), (tt, (h.fit, h.within))), refl, refl))

@@ -1,5 +1,6 @@
 -- Numbers and counts of legal codes fit their bytes.
-use Rattle.std.proofs.Common.{◌⊎◌, inl, inr, ◌≡◌, ℕ, zero, suc, ◌^◌, ◌<◌, ◌≤◌, Bool, true, false, eqb, List, [], ◌∷◌, ◌++◌, length, Option, Some, None, refl, arith}
+use Rattle.std.proofs.Common.{◌⊎◌, inl, inr, ◌≡◌, ℕ, zero, suc, ◌^◌, ◌<◌, ◌≤◌, true, eqb, List, [], ◌∷◌, ◌++◌}
+use Rattle.std.proofs.Common.{length, Option, Some, None, refl, arith}
 use Rattle.std.specs.Prelude.{◌&&◌, ◌||◌, nat_le, nat_lt, slice_get, All}
 use Rattle.std.specs.List.{AllByRecursion, list_all}
 use Rattle.std.proofs.lemmas.Bool.{eqb-true, leb-true, ltb-true, and_parts}
@@ -18,20 +19,15 @@ use Rattle.code_items.specs.declared.code.Proc.{Proc}
 use Rattle.code_items.specs.declared.code.Map.{Map}
 use Rattle.code_items.specs.declared.code.Code.{Code}
 use Rattle.code_items.specs.Declarations.{is_filter}
-use Rattle.code_items.specs.States.{lists_table, is_list_of, filters_table, is_filter_of, how_many, opened_by, is_area_state, is_desk, is_state}
+use Rattle.code_items.specs.States.{lists_table, is_list_of, filters_table, is_filter_of, how_many, opened_by}
+use Rattle.code_items.specs.States.{is_area_state, is_desk, is_state}
 use Rattle.code_items.specs.Legal.{is_procedure, is_map, is_code}
 use Rattle.code_parts.specs.Laws.{ListFits}
 use Rattle.code_parts.proofs.Choices.{either_true}
 use Rattle.xcode.specs.Fitting.{AreaFitsBytes, StateFitsBytes, ProcedureFitsBytes}
 use Rattle.xcode.specs.Writing.{Writable}
-use Rattle.xcode.proofs.LegalLaws.{needs_few, lists_fit}
-use Rattle.xcode.proofs.AgainLaws.{keeps}
-
-first_true : (a b : Bool) → (a && b) ≡ true → a ≡ true
-first_true a b h = (and_parts a b h).0
-
-second_true : (a b : Bool) → (a && b) ≡ true → b ≡ true
-second_true a b h = (and_parts a b h).1
+use Rattle.xcode.proofs.LegalLaws.{first_true, second_true, needs_few, lists_fit}
+use Rattle.xcode.proofs.AgainLaws.{keeps, small}
 
 few_fields : (t : TableShape) → is_table t ≡ true → length t.fields < 256
 unfolding is_table are_fields
@@ -129,9 +125,6 @@ maps_write : (d : Declared) (ms : List Map) → Few d → list_all (is_map d) ms
 maps_write d [] few h = All-nil (λ m. StateFitsBytes m.state)
 maps_write d (m ∷ ms) few h = All-cons (λ m. StateFitsBytes m.state) m ms (state_writes d m.state few (first_true _ _ h)) (maps_write d ms few (second_true _ _ h))
 
-up_to : (n bound : ℕ) → bound ≤ 65535 → nat_le n bound ≡ true → n < 2 ^ 16
-up_to n bound low h = let le = leb-true n bound h in omega (arith, le, low)
-
 pub writable : (code : Code) → is_code code ≡ true → Writable code
 writable code h =
     let k = keeps code h in
@@ -139,14 +132,14 @@ writable code h =
     let d = code.declared in
     let few : Few d = record { tables = leb-true (length d.shape.tables) 32 e.few_tables; lists = leb-true (length d.lists) 64 e.few_lists; filters = leb-true (length d.filters) 64 e.few_filters; bound = leb-true d.stack_bound 64 e.stack_bound; each = lists_fit d.shape.indexes d.lists e.lists } in
     record {
-      tables = up_to (length d.shape.tables) 32 (omega arith) e.few_tables;
-      indexes = up_to (length d.shape.indexes) 64 (omega arith) e.few_indexes;
-      lists = up_to (length d.lists) 64 (omega arith) e.few_lists;
-      constants = up_to (length d.constants) 4096 (omega arith) e.few_constants;
-      filters = up_to (length d.filters) 64 (omega arith) e.few_filters;
-      procedures = up_to (length code.procedures) 256 (omega arith) k.few_procedures;
-      maps = up_to (length code.maps) 4096 (omega arith) k.few_maps;
-      instructions = up_to (length code.instructions) 65535 (omega arith) k.few_instructions;
+      tables = small (length d.shape.tables) 32 (omega arith) e.few_tables;
+      indexes = small (length d.shape.indexes) 64 (omega arith) e.few_indexes;
+      lists = small (length d.lists) 64 (omega arith) e.few_lists;
+      constants = small (length d.constants) 4096 (omega arith) e.few_constants;
+      filters = small (length d.filters) 64 (omega arith) e.few_filters;
+      procedures = small (length code.procedures) 256 (omega arith) k.few_procedures;
+      maps = small (length code.maps) 4096 (omega arith) k.few_maps;
+      instructions = small (length code.instructions) 65535 (omega arith) k.few_instructions;
       each_table = tables_write [] d.shape.tables e.tables;
       each_filter = filters_write (length d.shape.tables) d.slots d.filters (leb-true d.slots 256 e.slots) e.filters;
       each_procedure = procedures_write d code.procedures few k.procedures;

@@ -22,7 +22,7 @@ pub use code_items::{
     Items, KeyPart, KeyParts, KindSlots, KindStack, Map, MoveInstr, Name, Need, OpenArea, Proc,
     Question, RecordInstr, ScreenInstr, Setting, Shape, State, TableShape, ValueInstr, Version,
 };
-pub use code_rules::{Signature, blocks, flow, kinds, laws, signature};
+pub use code_rules::{Signature, flow, kinds, laws, signature};
 pub use decoding::{decode, faults_stay, files_end_where_they_end, one_file_each};
 pub use encoding::encode;
 pub use fault::CodeFault;

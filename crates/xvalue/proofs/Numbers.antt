@@ -1,6 +1,6 @@
 -- Functions by their numbers.
 use Rattle.std.specs.Prelude.{◌≡◌, ℕ, zero, suc, ◌+◌, List, [], ◌∷◌, Some, IfSome, slice_get, refl}
-use Rattle.std.proofs.Common.{Option, Some, None, arith, ◌∙◌, subst}
+use Rattle.std.proofs.Common.{Option, None, arith, ◌∙◌, subst}
 use Rattle.xvalue.specs.declared.fun.Fun.{Fun}
 use Rattle.xvalue.specs.declared.fun.Fun.TheVariants.{Add, Sub, Mul, Div, Neg, NumberEq, NumberLess, NumberGreater}
 use Rattle.xvalue.specs.declared.fun.Fun.TheVariants.{TextEq, TextLess, TextGreater, DateEq, DateLess, DateGreater, Not}

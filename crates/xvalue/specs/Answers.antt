@@ -22,7 +22,7 @@ abbrev pub number_or : Decimal → Decimal → Decimal
 number_or old asterisk = old
 number_or old (finite m d) = finite m d
 
--- a line is bad that is read as the asterisk value
+-- a line that is read as the asterisk value is bad
 abbrev pub number_answered : Decimal → List ℕ → Decimal
 number_answered old [] = old
 number_answered old (c ∷ cs) = number_or old (parsed (c ∷ cs))
@@ -32,7 +32,7 @@ abbrev pub date_or : Option DayParts → Option DayParts → Option DayParts
 date_or old None = old
 date_or old (Some parts) = Some parts
 
--- a line is bad that spells no day
+-- a line that spells no day is bad
 abbrev pub date_answered : Option DayParts → List ℕ → Option DayParts
 date_answered old [] = old
 date_answered old (c ∷ cs) = date_or old (date_read (c ∷ cs))

@@ -26,7 +26,7 @@ HasShortText (Logical truth) = Unit {0}
 abbrev pub of_written : Fun → Settings → List Value → Value
 of_written fun settings values = applied fun settings (by_kind values)
 
--- how many a number argument says
+-- the count that a number argument says
 abbrev pub count_said : Decimal → ℕ
 count_said number = count_of (whole_part number)
 

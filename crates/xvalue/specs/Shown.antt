@@ -27,7 +27,7 @@ year_places false = 2
 abbrev pub day_text : List ℕ → List ℕ → List ℕ → List ℕ
 day_text month day year = month ++ 47 ∷ day ++ 47 ∷ year
 
--- a day's two, two, and two or four digits; blanks in their places of the blank date
+-- a day's two, two, and two or four digits; the blank date has blanks in their places
 unfoldable pub shown_day : Settings → Option DayParts → List ℕ
 shown_day settings None = day_text (replicate 2 32) (replicate 2 32) (replicate (year_places settings.century) 32)
 shown_day settings (Some parts) =

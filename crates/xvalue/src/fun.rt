@@ -111,7 +111,7 @@ pub enum Fun {
     Round,
     /// MAX: the greater number.
     Max,
-    /// MIN: the less number.
+    /// MIN: the lesser number.
     Min,
     /// CTOD: the date that a text spells.
     Ctod,

@@ -36,12 +36,12 @@ pub fn texts_are_short()
     ensures { (fun : AnyFun) (settings : AnySettings) (given : Given) → HasShortText (applied fun settings given) }
 {}
 
-/// With EXACT on two texts are equal where they are the same without the blanks at their ends.
+/// Two texts are equal with EXACT on where they are the same without the blanks at their ends.
 pub fn equals_exactly()
     ensures { (cs ds : List ℕ) → (equal_texts true cs ds ≡ true) ↔ (without_last_blanks cs ≡ without_last_blanks ds) }
 {}
 
-/// With EXACT off a text equals those that it begins with.
+/// A text equals with EXACT off those that it begins with.
 pub fn equals_what_it_begins_with()
     ensures { (cs ds : List ℕ) → (equal_texts false cs ds ≡ true) ↔ ((rest : List ℕ) × (cs ≡ ds ++ rest)) }
 {}
@@ -51,7 +51,7 @@ pub fn order_is_strict()
     ensures { (cs : List ℕ) → is_text_before cs cs ≡ false }
 {}
 
-/// What is before a text that is before another is before that one.
+/// A first text is before a third where it is before a second that is before the third.
 pub fn order_goes_on()
     ensures { (cs ds es : List ℕ) → is_text_before cs ds ≡ true → is_text_before ds es ≡ true
         → is_text_before cs es ≡ true }
@@ -71,15 +71,15 @@ pub fn first_place_is_least()
         → text_begins_with (drop k cs) part ≡ false }
 {}
 
-/// Of two texts neither is before the other where they are the same but for the blanks at their ends, and nowhere else.
+/// Neither of two texts is before the other exactly where they are the same but for the blanks at their ends.
 pub fn order_leaves_blanks_alone()
     ensures { (cs ds : List ℕ)
         → ((is_text_before cs ds ≡ false)
         × (is_text_before ds cs ≡ false)) ↔ (without_last_blanks cs ≡ without_last_blanks ds) }
 {}
 
-/// A text stands at a place of another exactly where it has a first place: AT gives 0 and `$` false where the rest
-/// begins with it nowhere.
+/// A text has a first place in another exactly where it stands in it. AT gives 0, and `$` false, exactly where it has
+/// none.
 pub fn nowhere_is_no_place()
     ensures nowhere { (part cs : List ℕ)
         → (first_place part cs ≡ None) ↔ ((k : ℕ) → text_begins_with (drop k cs) part ≡ false) }

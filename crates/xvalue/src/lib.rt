@@ -23,5 +23,8 @@ pub use kind::Kind;
 pub use settings::{Setting, Settings};
 pub use shown::shown_day;
 pub use text::{Text, copy_of, text_from};
-pub use texts::{append, eq_text, less_text};
+pub use texts::{
+    append, begins_with_capital, begins_with_letter, begins_with_small, count_of, eq_text,
+    first_byte, first_place, front, last_part, less_text, part_from, place_of,
+};
 pub use value::Value;

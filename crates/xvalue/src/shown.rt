@@ -35,8 +35,8 @@ pub(crate) fn shown_number(number: Num) -> Text
     )
 }
 
-/// A date's text as the screen shows it under the settings: `MM/DD/YY`, and with CENTURY on `MM/DD/YYYY`; of the blank
-/// date blanks in the places of digits.
+/// A date's text as the screen shows it under the settings: `MM/DD/YY`, and with CENTURY on `MM/DD/YYYY`; the blank
+/// date has blanks in the places of digits.
 pub fn shown_day(day: Day, settings: Settings) -> Text
     ensures { result.items ≡ shown_day settings day }
 {

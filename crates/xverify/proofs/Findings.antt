@@ -1,5 +1,6 @@
 -- What the verifier finds at one place.
-use Rattle.std.proofs.Common.{◌≡◌, ℕ, zero, suc, ◌+◌, List, [], ◌∷◌, ◌==◌, true, Option, Some, refl, ap, ◌∙◌, add-one, eq-eqb}
+use Rattle.std.proofs.Common.{◌≡◌, ℕ, zero, suc, ◌+◌, List, [], ◌∷◌, ◌==◌, true, Option, Some, refl, ap, ◌∙◌, add-one}
+use Rattle.std.proofs.Common.{eq-eqb}
 use Rattle.std.specs.Prelude.{slice_get, slice_index_or}
 use Rattle.code_items.specs.declared.instr.FlowInstr.TheVariants.{End}
 use Rattle.code_items.specs.declared.instr.Instr.TheVariants.{Flow}
@@ -9,7 +10,8 @@ use Rattle.code_items.specs.declared.state.State.{State}
 use Rattle.code_rules.specs.declared.blocks.Block.{Block}
 use Rattle.code_rules.specs.declared.rule.Rule.{Rule}
 use Rattle.code_rules.specs.Flow.{flow}
-use Rattle.code_rules.specs.Places.{instr_at, block_at, or_state, map_at, start_of, state_entered, incoming_at, state_at}
+use Rattle.code_rules.specs.Places.{instr_at, block_at, or_state, map_at, start_of, state_entered, incoming_at}
+use Rattle.code_rules.specs.Places.{state_at}
 use Rattle.code_rules.specs.Rules.{Here, refusal_of, refusal_at}
 
 -- what is found at a place, as the rules see it

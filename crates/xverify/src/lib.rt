@@ -1,8 +1,8 @@
 //! The verifier of code files: `verify` says yes exactly where no rule fails at any place.
 //!
-//! The rules are definitions of the crate `code_rules`; here they are tested place by place, each place once. A rule is
-//! a function of its own, by groups of instructions, and the tests that the checking machine has too are those of
-//! `code_rules`; `refusal` asks the rules in their order.
+//! The rules are definitions of the crate `code_rules`. Here they are tested place by place, each place once. Each rule
+//! is a function of its own, which goes by groups of instructions. The tests that the checking machine has too are
+//! those of `code_rules`. `refusal` asks the rules in their order.
 #![tactic(auto)]
 
 mod covering;

@@ -12,8 +12,8 @@ fn put_times(bytes: &mut Vec<u8>, text: &str, times: usize) -> Result<(), AllocE
     Ok(())
 }
 
-/// The bytes of an example, in which `~` stands for a line's end, and how often and a text between two backquotes for
-/// so many of them.
+/// The bytes of an example. `~` stands for a line's end. A number and a text between two backquotes stand for the text
+/// so many times.
 pub(crate) fn bytes_of(alloc: Global, example: &str) -> Result<Vec<u8>, AllocError> {
     let mut bytes = Vec::new(alloc);
     for (place, part) in example.split('`').enumerate() {

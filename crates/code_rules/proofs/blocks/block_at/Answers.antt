@@ -1,7 +1,5 @@
-use Rattle.std.proofs.Common.{◌≡◌, ◌∙◌, map, rules, arith, ap, nat_lt, true, false}
-use Rattle.std.proofs.lemmas.Bool.{lt-leb}
-use Rattle.std.proofs.lemmas.Bool.Decides.{nat_tests}
-use Rattle.code_rules.specs.Places.{block_from, block_at}
+use Rattle.std.proofs.Common.{map, rules}
+use Rattle.code_rules.specs.Places.{block_at}
 use Rattle.code_rules.proofs.BlockLists.{first_case, rest_case}
 use Rattle.code_rules.proofs.blocks.block_at.Goals as goal
 

@@ -1,4 +1,4 @@
-use Rattle.std.proofs.Common.{◌≡◌, true, false, rules, arith, nat_lt}
+use Rattle.std.proofs.Common.{rules, arith, nat_lt}
 use Rattle.std.proofs.lemmas.List.Sorted.{IsPartitionPoint-from_clause}
 use Rattle.code_items.specs.declared.code.Map.{Map}
 use Rattle.code_rules.proofs.BlockLists.{found, parted}

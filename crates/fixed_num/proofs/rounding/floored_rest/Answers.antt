@@ -1,6 +1,7 @@
 use Rattle.fixed_num.proofs.RemainderLemmas.{rest_differs, rest_equal, rest_without}
 use Rattle.fixed_num.proofs.rounding.floored_rest.Goals as goal
-use Rattle.fixed_num.proofs.rounding.floored_rest.Goals.{else-dividend_negative-divisor_negative-via-then-dividend_negative-divisor_negative+else-rest-ne0, else-dividend_negative-divisor_negative-via-else-dividend_negative-divisor_negative}
+use Rattle.fixed_num.proofs.rounding.floored_rest.Goals.{else-dividend_negative-divisor_negative-via-then-dividend_negative-divisor_negative+else-rest-ne0}
+use Rattle.fixed_num.proofs.rounding.floored_rest.Goals.{else-dividend_negative-divisor_negative-via-else-dividend_negative-divisor_negative}
 
 pub returns-then-rest-ne0 : goal.returns-then-rest-ne0
 returns-then-rest-ne0 c =

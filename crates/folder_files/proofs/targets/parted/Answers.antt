@@ -1,4 +1,4 @@
-use Rattle.std.proofs.Common.{◌∙◌, ◌≡◌, ◌+◌, None, Some, arith, lit<, ap, take, drop}
+use Rattle.std.proofs.Common.{◌∙◌, None, Some, arith, lit<}
 use Rattle.std.proofs.lemmas.Str.Pattern.{rfind_char}
 use Rattle.folder_files.proofs.LastSlash.{folder_none, folder_to, name_from, name_whole}
 use Rattle.folder_files.proofs.targets.parted.Goals as goal

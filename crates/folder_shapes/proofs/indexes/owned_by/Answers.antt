@@ -9,7 +9,7 @@ owner_key-requires c =
     let tables = c.args.found.now in
     maker_at tables c.key_length.result form.key_length c.as_slice-in-Table.result.now (plain_text form.key_text)
     c.in-Table.table
-    (c.key_length.ensures ∙ ap (λ f. f.key_length) c.owner_of.ensures.form)
+    c.key_length.ensures
     (c.as_slice-in-Table.ensures.value ∙ c.in_ok-plain.ensures ∙ ap plain_text c.key_text.ensures)
     (maker_of tables form c.args.tree.now.pairs c.in-Table.table (sym c.in_ok-owner.ensures.owner ∙ c.in-Table.is))
 
@@ -18,6 +18,6 @@ returns-clause-key c =
     let form = c.args.tree.now.form in
     key_at c.args.found.now c.key_length.result form.key_length c.as_slice-in-Table.result.now
     (plain_text form.key_text) c.in-Table.table c.in_ok-key-in-Table.key
-    (c.key_length.ensures ∙ ap (λ f. f.key_length) c.owner_of.ensures.form)
+    c.key_length.ensures
     (c.as_slice-in-Table.ensures.value ∙ c.in_ok-plain.ensures ∙ ap plain_text c.key_text.ensures)
     c.in_ok-key-in-Table.ensures

@@ -1,4 +1,4 @@
-use Rattle.std.proofs.Common.{◌≡◌, ◌-◌, Option, None, Some, length, get_or, sym, ap, ◌∙◌, subst, rules}
+use Rattle.std.proofs.Common.{◌≡◌, ◌-◌, Option, Some, get_or, sym, ap, ◌∙◌, subst, rules}
 use Rattle.std.specs.Option.{option_map}
 use Rattle.dbf_file.specs.Rows.{row_at}
 use Rattle.shape.specs.Keys.{key_of}

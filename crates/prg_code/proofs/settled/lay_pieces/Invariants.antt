@@ -1,4 +1,3 @@
-use Rattle.std.proofs.Common.{}
 use Rattle.prg_code.specs.Numbers.{Grows}
 use Rattle.prg_code.proofs.settled.lay_pieces.Given as goal
 

@@ -1,4 +1,3 @@
-use Rattle.std.proofs.Common.{}
 use Rattle.prg_code.specs.Growth.{WorkGrows}
 use Rattle.prg_commands.proofs.screen.read_all.Given as goal
 

@@ -1,4 +1,3 @@
-use Rattle.std.proofs.Common.{}
 use Rattle.prg_code.proofs.Growth.{in_block}
 use Rattle.prg_commands.proofs.screen.read_one.Goals as goal
 

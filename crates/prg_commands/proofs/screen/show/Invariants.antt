@@ -1,4 +1,3 @@
-use Rattle.std.proofs.Common.{}
 use Rattle.prg_code.specs.Growth.{Grown}
 use Rattle.prg_commands.proofs.screen.show.Given as goal
 

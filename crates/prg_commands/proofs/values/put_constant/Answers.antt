@@ -1,4 +1,3 @@
-use Rattle.std.proofs.Common.{}
 use Rattle.prg_code.proofs.Growth.{by_output, in_block}
 use Rattle.prg_values.proofs.Emitting.{on_ok}
 use Rattle.prg_commands.proofs.Pooling.{in_pool}

@@ -1,4 +1,3 @@
-use Rattle.std.specs.Prelude.{Some, None}
 use Rattle.prg_code.proofs.Growth.{same_output}
 use Rattle.prg_control.proofs.steps.put_test.Goals as goal
 

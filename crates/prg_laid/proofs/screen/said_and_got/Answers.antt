@@ -1,4 +1,3 @@
-use Rattle.std.proofs.Common.{}
 use Rattle.prg_laid.proofs.Finding.{on_done}
 use Rattle.prg_laid.proofs.screen.said_and_got.Goals as goal
 

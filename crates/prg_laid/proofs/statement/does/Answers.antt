@@ -1,4 +1,3 @@
-use Rattle.std.proofs.Common.{}
 use Rattle.prg_laid.proofs.statement.does.Goals as goal
 
 pub returns-in-SayGet : goal.returns-in-SayGet

@@ -2,9 +2,7 @@ use Rattle.std.proofs.Common.{◌≡◌, ◌++◌, ◌∷◌, [], map, option_ma
 use Rattle.prg_parser.specs.Blocks.{divide_at, innermost, takes_cases}
 use Rattle.prg_parser.specs.Building.{head_lines, opens_lines, part_of_block}
 use Rattle.prg_parser.specs.Layout.{body_lines, cases_lines}
-use Rattle.prg_line.specs.Saying.{Saying}
 use Rattle.prg_line.specs.Saying.{line as said_line}
-use Rattle.prg_line.specs.Saying.{role_of, saying_of}
 use Rattle.prg_line.specs.Saying as saying
 use Rattle.prg_parser.proofs.BuildLemmas.{put_more}
 use Rattle.std.proofs.Common.{Option, refl, sym, ap, ◌∙◌}

@@ -1,4 +1,3 @@
-use Rattle.prg_parser.proofs.BuildLemmas.{put_more}
 use Rattle.prg_parser.proofs.BuildLemmas as by
 use Rattle.prg_parser.proofs.builder.open_choice.Goals as goal
 

@@ -1,9 +1,7 @@
 use Rattle.std.proofs.Common.{◌∷◌}
 use Rattle.prg_expr.specs.Tree.{tree_of}
 use Rattle.prg_parser.specs.Layout.{body_lines, cases_lines, case_lines}
-use Rattle.prg_line.specs.Saying.{Saying}
 use Rattle.prg_line.specs.Saying.{line as said_line}
-use Rattle.prg_line.specs.Saying.{role_of, saying_of}
 use Rattle.prg_line.specs.Saying as saying
 use Rattle.prg_parser.proofs.BuildLemmas.{put_by}
 use Rattle.prg_parser.proofs.LayoutLemmas.{cases_more}

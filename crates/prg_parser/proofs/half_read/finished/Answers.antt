@@ -1,6 +1,5 @@
-use Rattle.std.proofs.Common.{◌≡◌, ◌∙◌, ap, sym, ℕ, List, Option}
+use Rattle.std.proofs.Common.{◌≡◌, ◌∙◌, ap, sym, ℕ, Option}
 use Rattle.std.specs.Prelude.{option_map}
-use Rattle.prg_parser.specs.declared.blocks.Part.{Part}
 use Rattle.prg_parser.specs.Verdict as spec
 use Rattle.prg_parser.proofs.VerdictLemmas.{at-end}
 use Rattle.prg_parser.proofs.HalfReadLemmas.{ends}

@@ -1,6 +1,6 @@
-use Rattle.std.proofs.Common.{◌≡◌, ◌≤◌, ◌+◌, ◌∙◌, ap, subst, sym, length, map, List, ℕ, None, [], arith}
+use Rattle.std.proofs.Common.{◌≤◌, ◌+◌, ◌∙◌, ap, subst, sym, length, map, List, ℕ, None, [], arith}
 use Rattle.std.proofs.lemmas.Result.{err_from_is_err_and}
-use Rattle.prg_parser.specs.HalfRead.{Stands}
+use Rattle.prg_parser.specs.HalfRead.{IsHalfRead}
 use Rattle.prg_parser.specs.Joined.{joined_of}
 use Rattle.prg_parser.specs.Lines as spec
 use Rattle.prg_parser.specs.Lines.{Joined}
@@ -13,7 +13,9 @@ use Rattle.prg_parser.proofs.half_read.read_file.Goals as goal
 
 pub loop-rest-init : goal.loop-rest-init
 loop-rest-init c = record {
-  stands = subst (λ (r : List ℕ). Stands (spec.joined_lines c.args.bytes.now) (spec.joined 1 (text.lines r)) c.unread-half.result.parts.items c.unread-half.result.unended c.unread-half.result.builder)
+  stands = subst (λ (r : List ℕ). IsHalfRead (spec.joined_lines c.args.bytes.now)
+      (spec.joined 1 (text.lines r)) c.unread-half.result.parts.items c.unread-half.result.unended
+      c.unread-half.result.builder)
       (sym c.before_end-rest.ensures) (c.unread-half.ensures (spec.joined_lines c.args.bytes.now));
   numbered = subst (λ (r : List ℕ). 1 + length r ≤ 1 + length c.args.bytes.now) (sym c.before_end-rest.ensures)
       (let within : length (spec.before_end c.args.bytes.now) ≤ length c.args.bytes.now = before_within c.args.bytes.now in omega (arith, within));
@@ -34,7 +36,8 @@ loop-rest-preserved c =
     record {
       stands = goes_on all (spec.joined c.in_ok-found.found.line (text.lines c.in_ok-found.found.rest.now)) (joined_of c.in_ok-found.found.joined)
           half.parts.items c.in_ok-half.half.parts.items half.unended c.in_ok-half.half.unended half.builder c.in_ok-half.half.builder c.in_ok-half.ensures.passed
-          (subst (λ (js : List Joined). Stands all js half.parts.items half.unended half.builder) c.in_ok-found.ensures.joined c.loop-rest.invariant.stands);
+          (subst (λ (js : List Joined). IsHalfRead all js half.parts.items half.unended half.builder)
+          c.in_ok-found.ensures.joined c.loop-rest.invariant.stands);
       numbered = omega (arith, c.in_ok-found.ensures.numbered, c.loop-rest.invariant.numbered);
     }
 

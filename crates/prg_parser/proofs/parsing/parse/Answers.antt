@@ -1,4 +1,4 @@
-use Rattle.std.proofs.Common.{◌≡◌, ◌∙◌, sym, None, []}
+use Rattle.std.proofs.Common.{None, []}
 use Rattle.std.proofs.lemmas.Result.{IfOk-weaker, IfErr-weaker}
 use Rattle.prg_parser.specs.Marks.{marks}
 use Rattle.prg_parser.specs.Verdict.{verdict}

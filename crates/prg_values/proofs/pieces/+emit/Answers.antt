@@ -1,9 +1,7 @@
-use Rattle.std.proofs.Common.{List, ◌++◌, take, sym, ap, ◌∙◌, length, true, false}
-use Rattle.prg_expr.specs.Tree.{tree_of, trees_of}
-use Rattle.prg_expr.specs.declared.tree.Expr.{Expr}
+use Rattle.std.proofs.Common.{true, false}
+use Rattle.prg_expr.specs.Tree.{tree_of}
 use Rattle.prg_values.specs.Readings.{scoped}
-use Rattle.prg_values.specs.Written.{pieces_in, all_pieces, prefix_pieces, constants, defaults, call_pieces, meaning}
-use Rattle.prg_values.specs.Written.{operation_in, kind_in}
+use Rattle.prg_values.specs.Written.{pieces_in, operation_in, kind_in}
 use Rattle.prg_expr.proofs.Equations.{tree_binary}
 use Rattle.prg_values.proofs.Emitting.{then, on_ok, both_put, next_put}
 use Rattle.prg_values.proofs.pieces.+emit.Goals as goal

@@ -1,5 +1,4 @@
 use Rattle.std.proofs.Common.{sym, ap, ◌∙◌}
-use Rattle.row_keys.specs.declared.building.Kept.TheVariants.{Nothing}
 use Rattle.row_keys.specs.Lists.{row_pairs, kept_rows}
 use Rattle.row_keys.proofs.ListLemmas.{nothing_kept}
 use Rattle.row_keys.proofs.building.entries_of.Goals as goal

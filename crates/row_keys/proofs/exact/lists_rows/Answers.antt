@@ -1,40 +1,40 @@
-use Rattle.std.proofs.Common.{◌≡◌, ◌≤◌, ℕ, Option, List, length, sym, ◌∙◌, ap, subst, arith, refl}
-use Rattle.key_lists.specs.Order.{above, first}
-use Rattle.key_lists.specs.Pairs.{Pair, is_before}
+use Rattle.std.proofs.Common.{◌≡◌, Bool, true, false, ◌↔◌, IsTrue, List, length, refl, sym, ◌∙◌, subst, Bor}
+use Rattle.std.specs.Fn.{FnReturnsAt, Shared}
+use Rattle.std.specs.List.{Contains}
+use Rattle.std.proofs.lemmas.Bool.{false≢true}
+use Rattle.key_lists.specs.Order.{Each}
+use Rattle.key_lists.specs.Pairs.{Pair}
+use Rattle.key_lists.proofs.Ordered.{Each-map}
 use Rattle.row_keys.specs.Lists.{index_list}
-use Rattle.row_keys.proofs.ExactLemmas.{Walked, lists_all, walk_goes, walk_met_all}
+use Rattle.row_keys.proofs.ExactLemmas.{lists_all}
 use Rattle.row_keys.proofs.exact.lists_rows.Goals as goal
 
-pub loop-met-preserved : goal.loop-met-preserved
-loop-met-preserved g c =
-    let pairs : List Pair = g.K.KeyList.pairs c.args.list.now in
-    let there : List Pair = g.K.KeyList.pairs c.loop-met.list in
-    let index : List Pair = index_list c.args.key.now c.args.table.now.rows in
-    let q : Pair = c.in-Some.entry in
-    let walked = subst (λ (o : Option Pair). Walked index pairs c.loop-met.met o) c.in-Some.is
-    c.loop-met.invariant.walked in
-    let found : c.after-next.result ≡ first (above is_before q pairs) =
-    c.after-next.ensures.found ∙ ap (λ (k : List ℕ). first (above is_before (k, c.number.result) there))
-    c.key.ensures.value ∙ ap (λ (n : ℕ). first (above is_before (q.0, n) there)) c.number.ensures
-    ∙ ap (λ (ps : List Pair). first (above is_before q ps)) c.loop-met.invariant.pairs in
-    record {
-      pairs = c.after-next.ensures.pairs ∙ c.loop-met.invariant.pairs;
-      form = c.after-next.ensures.form ∙ c.loop-met.invariant.form;
-      walked = walk_goes index pairs c.loop-met.met q c.after-next.result
-          (c.meets_each.ensures pairs c.len.ensures.sound.ordered) walked (c.is_row.ensures.0 c.if-not-is_row.false)
-          found;
-    }
+-- what a test says of which pairs are in an index
+abbrev Tells : {F : Type 0} → Shared F (Bor Pair × Unit {0}) Bool → F → List Pair → Type 0
+Tells g f index = (p : Bor Pair) (r : Bool) → g.post f (p, tt) r → IsTrue r ↔ Contains index p.now
 
-pub returns-clause-exact : goal.returns-clause-exact
-returns-clause-exact g c =
+all_in : {F : Type 0} (g : Shared F (Bor Pair × Unit {0}) Bool) (f : F) (index pairs : List Pair)
+    → Each (λ p. FnReturnsAt g f p true) pairs → Tells g f index → Each (Contains index) pairs
+all_in g f index pairs each tells = Each-map (λ p. FnReturnsAt g f p true) (Contains index)
+    (λ p said. subst (Contains index) said.shows ((tells said.shown true said.says.met).0 refl)) pairs each
+
+one_out : {F : Type 0} (g : Shared F (Bor Pair × Unit {0}) Bool) (f : F) (index pairs : List Pair)
+    → (p : Pair) × Contains pairs p × FnReturnsAt g f p false → Tells g f index → pairs ≡ index → ⊥
+one_out g f index pairs one tells e = false≢true ((tells one.2.shown false one.2.says.met).1
+    (subst (Contains index) (sym one.2.shows) (subst (λ (ps : List Pair). Contains ps one.0) e one.1)))
+
+holds : (b : Bool) → (b ≡ false → ⊥) → b ≡ true
+holds true f = refl
+holds false f = absurd (f refl)
+
+pub returns : goal.returns
+returns g c =
     let rows = c.args.table.now.rows in
     let key = c.args.key.now in
     let pairs : List Pair = g.K.KeyList.pairs c.args.list.now in
-    let count : length pairs ≡ length rows = sym c.len.ensures.count ∙ c.if-len-rows.false ∙ c.rows.ensures.count in
-    let all : length pairs ≤ c.loop-met.met =
-    omega (arith, count, c.loop-met-test.false, c.rows-met-end.ensures.count) in (
+    let index : List Pair = index_list key rows in
+    let count : length pairs ≡ length rows = sym c.len.ensures.count ∙ c.if-len-rows.false ∙ c.rows.ensures.count in (
       λ f. lists_all c.orders_pairs.ensures key rows pairs (c.index_lists.ensures key rows) c.len.ensures.sound.ordered
-          count (walk_met_all (index_list key rows) pairs c.loop-met.met c.loop-met.next c.loop-met.invariant.walked
-          all),
-      λ e. refl,
+          count (all_in _ _ index pairs (c.all.ensures.all f) (λ p r said. said)),
+      λ e. holds c.all.result (λ f. one_out _ _ index pairs (c.all.ensures.one f) (λ p r said. said) e),
     )

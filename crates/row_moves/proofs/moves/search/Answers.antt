@@ -1,4 +1,4 @@
-use Rattle.std.proofs.Common.{◌≡◌, ℕ, Bool, true, Option, Some, List, refl, sym, ap, ◌∙◌, arith, of_calls, option_map}
+use Rattle.std.proofs.Common.{◌≡◌, ℕ, Bool, true, Some, List, refl, sym, ap, ◌∙◌, arith, of_calls, option_map}
 use Rattle.key_lists.specs.Order.{first}
 use Rattle.key_lists.specs.Pairs.{Pair}
 use Rattle.row_moves.specs.Orders.{candidates, Sees}

@@ -1,7 +1,7 @@
 use Rattle.operating.proofs.AnswerLemmas.{on_err, unkept_none}
-use Rattle.std.proofs.Common.{◌≡◌, IfOk, IfErr, length, subst, sym, refl}
+use Rattle.std.proofs.Common.{◌≡◌, length, subst, sym, refl}
 use Rattle.code_items.specs.declared.code.Code.{Code}
-use Rattle.run_commands.proofs.Operated.{Prepared, saved_over, stopped_over}
+use Rattle.run_commands.proofs.Operated.{saved_over, stopped_over}
 use Rattle.run_commands.proofs.conversation.full_operation.Goals as goal
 
 pub returns-clause-done : goal.returns-clause-done

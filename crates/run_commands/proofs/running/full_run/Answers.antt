@@ -1,5 +1,4 @@
-use Rattle.std.proofs.Common.{IfOk, IfErr}
-use Rattle.run_commands.proofs.Reported.{IsDone, saved_run, stopped_run}
+use Rattle.run_commands.proofs.Reported.{saved_run, stopped_run}
 use Rattle.run_commands.proofs.running.full_run.Goals as goal
 
 pub returns-clause-done : goal.returns-clause-done

@@ -1,7 +1,6 @@
 use Rattle.std.proofs.Common.{subst, arith}
-use Rattle.std.specs.Prelude.{Some}
 use Rattle.save_papers.specs.Papers.{paper_view}
-use Rattle.save_papers.specs.Reading.{PaperGives, paper_of}
+use Rattle.save_papers.specs.Reading.{PaperGives}
 use Rattle.save_papers.proofs.Whole.{is_found, paper_again}
 use Rattle.save_papers.proofs.reading.read.Goals as goal
 

@@ -1,4 +1,4 @@
-use Rattle.std.proofs.Common.{◌≡◌, subst, sym, ap, ◌∙◌, Result, Ok, Err, arith}
+use Rattle.std.proofs.Common.{◌≡◌, subst, sym, ap, ◌∙◌, Result, Ok, arith}
 use Rattle.code_items.specs.declared.code.Code.{Code}
 use Rattle.xcode.specs.CodeFile.{CodeText}
 use Rattle.xcode.specs.Decoding.{FileFails, code_at}

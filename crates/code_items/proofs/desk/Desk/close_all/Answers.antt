@@ -1,4 +1,4 @@
-use Rattle.std.proofs.Common.{◌≡◌, ◌∙◌, ◌<◌, ap, arith, set, length, add-one}
+use Rattle.std.proofs.Common.{◌∙◌, ap, arith, set, add-one}
 use Rattle.code_items.specs.declared.desk.AreaState.TheVariants.{Closed}
 use Rattle.code_items.proofs.PairLists.{fill_next}
 use Rattle.code_items.proofs.desk.Desk.close_all.Goals as goal

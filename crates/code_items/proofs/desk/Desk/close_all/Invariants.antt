@@ -1,4 +1,4 @@
-use Rattle.std.proofs.Common.{◌≡◌, ◌++◌, length, drop, replicate}
+use Rattle.std.proofs.Common.{◌≡◌, ◌++◌, drop, replicate}
 use Rattle.code_items.specs.declared.desk.AreaState.TheVariants.{Closed}
 use Rattle.code_items.proofs.desk.Desk.close_all.Given as goal
 

@@ -1,11 +1,8 @@
 use Rattle.std.proofs.Common.{◌++◌, ◌∷◌, [], map}
 use Rattle.prg_parser.specs.Building.{awaited, built_parts, current_lines, finished_lines, opens_lines, part_of_block}
 use Rattle.prg_parser.specs.Layout.{body_lines}
-use Rattle.prg_line.specs.Saying.{Saying}
 use Rattle.prg_line.specs.Saying.{line as said_line}
-use Rattle.prg_line.specs.Saying.{role_of, saying_of}
 use Rattle.prg_line.specs.Saying as saying
-use Rattle.prg_parser.proofs.BuildLemmas.{put_more}
 use Rattle.std.proofs.Common.{sym, ap, ◌∙◌}
 use Rattle.prg_parser.proofs.BuildLemmas as by
 use Rattle.prg_parser.specs.declared.blocks.Place.TheVariants as within

@@ -1,10 +1,9 @@
 use Rattle.std.proofs.Common.{◌++◌, ◌∷◌, [], map}
 use Rattle.prg_expr.specs.Tree.{tree_of}
-use Rattle.prg_parser.specs.Building.{IsChoice, built_parts, current_lines, finished_lines, head_lines, opens_lines, part_of_block}
+use Rattle.prg_parser.specs.Building.{IsChoice, built_parts, current_lines, finished_lines, head_lines, opens_lines}
+use Rattle.prg_parser.specs.Building.{part_of_block}
 use Rattle.prg_parser.specs.Layout.{body_lines, cases_lines}
-use Rattle.prg_line.specs.Saying.{Saying}
 use Rattle.prg_line.specs.Saying.{line as said_line}
-use Rattle.prg_line.specs.Saying.{role_of, saying_of}
 use Rattle.prg_line.specs.Saying as saying
 use Rattle.prg_parser.proofs.BuildLemmas.{put_more}
 use Rattle.std.proofs.Common.{refl, sym, ap, ◌∙◌}

@@ -1,11 +1,7 @@
 use Rattle.std.proofs.Common.{option_map}
 use Rattle.prg_expr.specs.Tree.{tree_of}
 use Rattle.prg_parser.specs.Building.{built_parts}
-use Rattle.prg_line.specs.Saying.{Saying}
-use Rattle.prg_line.specs.Saying.{line as said_line}
-use Rattle.prg_line.specs.Saying.{role_of, saying_of}
 use Rattle.prg_line.specs.Saying as saying
-use Rattle.prg_parser.proofs.BuildLemmas.{put_more}
 use Rattle.std.proofs.Common.{refl, sym, subst}
 use Rattle.prg_parser.proofs.BuildLemmas as by
 use Rattle.prg_line.specs.declared.role.Role.TheVariants as role

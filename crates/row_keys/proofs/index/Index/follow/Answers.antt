@@ -1,8 +1,7 @@
-use Rattle.std.proofs.Common.{◌≡◌, ◌+◌, false, List, ℕ, set, sym, ap, ◌∙◌, refl, subst, rules, arith}
-use Rattle.std.specs.List.{Contains}
+use Rattle.std.proofs.Common.{◌≡◌, ◌+◌, false, set, sym, ap, ◌∙◌, refl, subst, rules}
 use Rattle.dbf_file.specs.Rows.{row_at, with_text}
-use Rattle.key_lists.specs.Order.{inserted, without}
-use Rattle.key_lists.specs.Pairs.{Pair, is_before}
+use Rattle.key_lists.specs.Order.{without}
+use Rattle.key_lists.specs.Pairs.{is_before}
 use Rattle.shape.specs.Keys.{key_of}
 use Rattle.row_keys.specs.Lists.{IndexState, IsExact, IsSameIndex, HasFollowed, names_field}
 use Rattle.row_keys.proofs.IndexLemmas.{unnamed, exact-left, followed-absent, followed}

@@ -18,7 +18,10 @@ differ p q m n e f other same = other (search (e, f, ap (λ (r : Pair). r.1) sam
 distinct : IsDistinct entries
 unfolding entries
 distinct = (
-  (differ _ _ 3 9 refl refl (λ e. omega arith), (differ _ _ 12 9 refl refl (λ e. omega arith), (differ _ _ 7 9 refl refl (λ e. omega arith), tt))),
+  (
+    differ _ _ 3 9 refl refl (λ e. omega arith),
+    (differ _ _ 12 9 refl refl (λ e. omega arith), (differ _ _ 7 9 refl refl (λ e. omega arith), tt)),
+  ),
   (
     (differ _ _ 12 3 refl refl (λ e. omega arith), (differ _ _ 7 3 refl refl (λ e. omega arith), tt)),
     (
@@ -33,7 +36,8 @@ unfolding entries
 few = lit< tt
 
 -- what the test puts in order
-same : (g : Rattle.tables_tests.proofs.files.lists.puts_pairs_in_order.Given.Over) (c : goal.After-rebuild-arg-2-1 g) → entries ≡ c.in_ok-entries.entries.items
+same : (g : Rattle.tables_tests.proofs.files.lists.puts_pairs_in_order.Given.Over) (c : goal.After-rebuild-arg-2-1 g)
+    → entries ≡ c.in_ok-entries.entries.items
 unfolding entries
 same g c = sym c.in_ok-entries.ensures
 

@@ -1,5 +1,5 @@
 use Rattle.std.proofs.Common.{◌≡◌, ℕ, get_or, ap, ◌∙◌, subst}
-use Rattle.std.specs.Prelude.{List, ℕ, ◌<◌, length, Bool, true, is_some, IfSome}
+use Rattle.std.specs.Prelude.{List, ◌<◌, length, Bool, true, is_some, IfSome}
 use Rattle.std.specs.List.{list_all}
 use Rattle.std.proofs.lemmas.List.Sums.{AllPass-from_list_all}
 use Rattle.open_table.specs.Marks.{mark_at}
