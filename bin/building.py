@@ -152,15 +152,18 @@ def room_left(place=TEMPORARY):
 
 
 def parts_of(crates, *kinds):
-    """crates.txt, and the folders of these kinds that these crates have."""
-    parts = [f"crates/{name}/{kind}" for name in crates for kind in kinds]
-    return ["crates.txt", *(it for it in parts if os.path.isdir(f"{TOP}/{it}"))]
+    """crates.txt, and the folders of these kinds that these crates have or may come to have."""
+    return ["crates.txt", *(f"crates/{name}/{kind}" for name in crates for kind in kinds)]
+
+
+def there(parts):
+    return [it for it in parts if os.path.exists(f"{TOP}/{it}")]
 
 
 def state_of(parts):
     """What any change of these parts of the repository changes: each file and folder, and when its state changed last.
     bin/dbrun asks the same. (No ages are compared: a file may be dated in the future, or as another is.)"""
-    words = ["find", *parts, "-printf", r"%p %C@\n"]
+    words = ["find", *there(parts), "-printf", r"%p %C@\n"]
     ran = subprocess.run(words, cwd=TOP, stdin=subprocess.DEVNULL, capture_output=True, text=True, check=False)
     return "".join(sorted(ran.stdout.splitlines(True)))
 
@@ -168,7 +171,8 @@ def state_of(parts):
 def sum_of(parts):
     """The sum of the names and bytes of these parts, which another owner, date or copy of theirs leaves. bin/dbrun asks
     the same of sha256sum."""
-    words = ["tar", "-c", "--sort=name", "--mtime=@0", "--numeric-owner", "--owner=0", "--group=0", "--mode=0", *parts]
+    words = ["tar", "-c", "--sort=name", "--mtime=@0", "--numeric-owner", "--owner=0", "--group=0", "--mode=0"]
+    words += there(parts)
     ran = subprocess.run(words, cwd=TOP, stdin=subprocess.DEVNULL, capture_output=True, check=False)
     return f"{hashlib.sha256(ran.stdout).hexdigest()}  -\n"
 

@@ -2,6 +2,8 @@
 
 import os
 import pty
+import re
+import shutil
 import subprocess
 import sys
 import time
@@ -43,6 +45,18 @@ def at_terminal(words, folder):
     with subprocess.Popen(words, cwd=folder, stdin=at_it, stdout=at_it, stderr=at_it):
         os.close(at_it)
         return shown_at(terminal)
+
+
+def instructions(words, **named):
+    """How many instructions a command takes, by callgrind, which counts the same on a busy machine; none where it fails, or
+    where valgrind isn't installed."""
+    if not shutil.which("valgrind"):
+        return None
+    counted = ["valgrind", "--tool=callgrind", "--callgrind-out-file=/dev/null", *words]
+    named = {"stdin": subprocess.DEVNULL, "stdout": subprocess.DEVNULL, "stderr": subprocess.PIPE, "text": True, **named}
+    ran = subprocess.run(counted, check=False, **named)
+    found = re.findall(r"Collected : (\d+)", ran.stderr)
+    return int(found[-1]) if found and not ran.returncode else None
 
 
 def verdict(passed, failed):
