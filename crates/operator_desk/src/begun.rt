@@ -2,7 +2,7 @@
 //! no file's name is, and names of files.
 #![tactic(auto)]
 
-ghost use Rattle.std.specs.Prelude.{◌≡◌, IfSome, codes};
+ghost use Rattle.std.specs.Prelude.{◌≡◌, IfSome, OnOk, Some, codes};
 ghost use Rattle.operator_desk.specs.Talked.{IsOutcomeSaid, IsSaveSaid, IsTalkSaid, flag_said, page_said};
 ghost use Rattle.operator_desk.specs.Talked.{save_without_lock, word_said};
 
@@ -53,12 +53,16 @@ impl Talk {
 }
 
 /// A yes or a no.
-fn yes_no(is: bool) -> &'static str {
+fn yes_no(is: bool) -> &'static str
+    ensures { flag_said (Some result.now) ≡ Some is }
+{
     if is { "yes" } else { "no" }
 }
 
 /// The word of a code page.
-fn page_word(page: Option<CodePage>) -> &'static str {
+fn page_word(page: Option<CodePage>) -> &'static str
+    ensures { page_said (Some result.now) ≡ Some page }
+{
     match page {
         Some(CodePage::Cp437) => "cp437",
         Some(CodePage::Cp850) => "cp850",
@@ -66,8 +70,13 @@ fn page_word(page: Option<CodePage>) -> &'static str {
     }
 }
 
-/// Puts the terms of a save.
-fn put_save(alloc: Global, paper: &mut JournalPaper, save: &TalkSave) -> Result<(), AllocError> {
+/// Puts the terms of a save, and leaves the words that say what becomes of the tables, and the code page.
+fn put_save(alloc: Global, paper: &mut JournalPaper, save: &TalkSave) -> Result<(), AllocError>
+    ensures said { OnOk result (IsSaveSaid paper.new save.now) }
+    ensures rehearsed { OnOk result (word_said paper.new (codes "--rehearse")
+        ≡ word_said paper.old (codes "--rehearse")) }
+    ensures page { OnOk result (word_said paper.new (codes "--from") ≡ word_said paper.old (codes "--from")) }
+{
     let backup = match &save.backup {
         Some(path) => path.as_str(),
         None => "",
@@ -90,7 +99,9 @@ fn put_shown<D: Display>(
 }
 
 /// Puts the words of a conversation.
-pub fn put_talk(alloc: Global, paper: &mut JournalPaper, talk: &Talk) -> Result<(), AllocError> {
+pub fn put_talk(alloc: Global, paper: &mut JournalPaper, talk: &Talk) -> Result<(), AllocError>
+    ensures { OnOk result (IsTalkSaid paper.new talk.now) }
+{
     put_shown(alloc, paper, "--today", &talk.day)?;
     put_shown(alloc, paper, "--budget", &talk.budget)?;
     put_shown(alloc, paper, "--limit", &talk.limit.records())?;

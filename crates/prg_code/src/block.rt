@@ -46,7 +46,7 @@ pub struct SourceLine {
 #[derive(Clone, Copy)]
 pub struct BlockPiece {
     pub draft: Draft,
-    line: u32,
+    pub line: u32,
 }
 
 /// A number of a line or of a label, in four bytes. No file has so many lines that one doesn't fit.
@@ -54,13 +54,6 @@ fn four_bytes(number: usize) -> u32
     ensures { number < 2 ^ 32 → result ≡ number }
 {
     u32::try_from(number).unwrap_or(u32::MAX)
-}
-
-impl BlockPiece {
-    /// The line of the command whose code it is.
-    pub fn line(&self) -> usize {
-        self.line as usize
-    }
 }
 
 /// A place to which jumps may lead.

@@ -248,7 +248,7 @@ fn lay_pieces(
 {
     for piece in &block.pieces {
         put(alloc, laid, block, places, own, piece.draft)?;
-        let line = piece.line();
+        let line = piece.line as usize;
         laid.fits(SourceLine { file, line })?;
     }
     Ok(())

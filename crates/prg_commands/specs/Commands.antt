@@ -1,8 +1,11 @@
 -- What the code of a command of one line adds to what stood.
 use Rattle.std.specs.Prelude.{◌≡◌, ℕ, Bool, List, [], ◌∷◌, Option, Some, None, map, slice_get}
+use Rattle.std.specs.Prelude.{option_and_then, position}
 use Rattle.std.specs.List.{AllZip}
+use Rattle.std.specs.Str.{bytes_eq}
 use Rattle.xvalue.specs.declared.kind.Kind.{Kind}
 use Rattle.xvalue.specs.declared.value.Value.{Value}
+use Rattle.shape.specs.declared.indexes.IndexShape.{IndexShape}
 use Rattle.shape.specs.declared.whole.Shape.{Shape}
 use Rattle.code_items.specs.declared.instr.ValueInstr.TheVariants as value_instr
 use Rattle.code_items.specs.declared.instr.Instr.{Instr}
@@ -14,13 +17,17 @@ use Rattle.prg_code.specs.declared.block.DraftBlock.{DraftBlock}
 use Rattle.prg_code.specs.declared.work.Work.{Work}
 use Rattle.prg_code.specs.Growth.{Puts}
 use Rattle.prg_values.specs.OneInstr.{only_instr}
-use Rattle.prg_values.specs.Readings.{Scoped}
+use Rattle.prg_values.specs.Readings.{Scoped, number_below}
 use Rattle.prg_values.specs.Written.{IsWrittenExpr}
 
 -- what names mean behind the code that stands
 abbrev pub scope_at : Shape → Work → Bool → Scoped
 scope_at shape work in_filter =
     record { shape = shape; state = work.block.state; names = work.names; in_filter = in_filter }
+
+-- the number of the first index of this name, if an instruction can name it
+abbrev pub index_named : List IndexShape → List ℕ → Option ℕ
+index_named indexes name = option_and_then (number_below 256) (position (λ x. bytes_eq x.name.items name) indexes)
 
 -- the code of an expression of this kind, with these constants, is put
 pub record PutsExpr (s : Scoped) (e : Tree) (kind : Kind) (constants : List Value)

@@ -9,7 +9,8 @@ ghost use Rattle.prg_expr.specs.Tree.{tree_of};
 ghost use Rattle.prg_line.specs.Act as act;
 ghost use Rattle.prg_line.specs.Act.{area_said};
 ghost use Rattle.prg_values.specs.Readings.{table_named as table_named_in, alias_area};
-ghost use Rattle.prg_commands.specs.Commands.{scope_at, PutsAlone};
+ghost use Rattle.prg_commands.specs.Commands.{index_named as index_named_in, scope_at, PutsAlone};
+ghost use Rattle.shape.specs.Lists.{is_index_of};
 
 use crate::values::{demand, scope_of};
 use arrayvec::ArrayVec;
@@ -44,20 +45,23 @@ pub(crate) fn put_area(work: &mut Work, instr: AreaInstr) -> Result<(), CompileE
     work.block.put(Instr::Areas(instr))
 }
 
-/// The number of the declared index of this name, counted from 0.
-pub fn index_named(indexes: &[IndexShape], name: &[u8]) -> Option<u8> {
-    let mut number = 0u8;
-    for index in indexes {
-        if index.name.as_slice() == name {
-            return Some(number);
-        }
-        number = number.saturating_add(1);
+/// The number of the declared index of this name, counted from 0; none where a byte doesn't hold it.
+pub fn index_named(indexes: &[IndexShape], name: &[u8]) -> Option<u8>
+    ensures { result ≡ index_named_in indexes.now name.now }
+{
+    let number = indexes
+        .iter()
+        .position(|index| index.name.as_slice() == name)?;
+    match u8::try_from(number) {
+        Ok(number) => Some(number),
+        Err(_) => None,
     }
-    None
 }
 
 /// Whether the index of this number is one of the table of this number.
-pub fn is_of_table(indexes: &[IndexShape], number: u8, table: u16) -> bool {
+pub fn is_of_table(indexes: &[IndexShape], number: u8, table: u16) -> bool
+    ensures { result ≡ is_index_of indexes.now table number }
+{
     match indexes.get(usize::from(number)) {
         Some(index) => u16::from(index.table) == table,
         None => false,

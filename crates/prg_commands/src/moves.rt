@@ -1,9 +1,12 @@
 //! Moves, and commands on records.
 
-ghost use Rattle.std.specs.Prelude.{[], ◌∷◌, OnOk};
+ghost use Rattle.std.specs.Prelude.{◌≡◌, [], ◌∷◌, true, false, IfErr, OnOk};
 ghost use Rattle.code_items.specs.declared.instr.Instr.TheVariants.{Moves, Records};
 ghost use Rattle.code_items.specs.declared.instr.MoveInstr.TheVariants as move_instr;
 ghost use Rattle.prg_code.specs.Growth.{Grown, WorkGrows, Puts};
+ghost use Rattle.prg_code.specs.Parts.{has_unmet_needs as has_unmet};
+ghost use Rattle.prg_code.specs.declared.fault.CompileError.TheVariants as error;
+ghost use Rattle.prg_code.specs.declared.fault.CompileFaultKind.TheVariants as kind;
 ghost use Rattle.prg_line.specs.Act as act;
 ghost use Rattle.prg_line.specs.Act.{goal_of};
 ghost use Rattle.prg_commands.specs.Commands.{PutsAlone};
@@ -18,7 +21,11 @@ use prg_values::field_of;
 use xvalue::Kind;
 
 /// Filter where the area's filter needs a variable that isn't known to have its value.
-pub fn meets_filter(out: &Output, work: &Work, area: OpenArea) -> Result<(), CompileError> {
+pub fn meets_filter(out: &Output, work: &Work, area: OpenArea) -> Result<(), CompileError>
+    ensures met { OnOk result (has_unmet out.now.filters area.filter work.now.block.state.slots ≡ false) }
+    ensures unmet { IfErr result (λ e. (e ≡ error.Fault kind.Filter)
+        × (has_unmet out.now.filters area.filter work.now.block.state.slots ≡ true)) }
+{
     if has_unmet_needs(&out.filters, area.filter, work.block.state.slots.kinds()) {
         return Err(CompileError::Fault(CompileFaultKind::Filter));
     }

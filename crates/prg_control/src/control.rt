@@ -12,7 +12,7 @@ ghost use Rattle.prg_writer.specs.Writing.{IsBegunBehind};
 use crate::body::{Behind, Body};
 use crate::calling::{end_call, open_call};
 use crate::choices::{end_choice, end_part, open_do_case, open_if};
-use crate::ends::{again_of, leap, no_get_waits, out_of, put_return};
+use crate::ends::{leap, no_get_waits, put_return};
 use crate::loops::{LoopTest, end_round, open_loop};
 use crate::steps::{LeapLabels, Span};
 use prg_code::{CompileFaultKind, CompileRefusal};
@@ -229,7 +229,10 @@ fn opened<'a>(
             otherwise,
             end,
         } => {
-            let span = Span::new(line, *end);
+            let span = Span {
+                first: line,
+                end: *end,
+            };
             open_if(s, w, leaps, span, condition, then, otherwise)
         }
         Form::DoCase {
@@ -241,18 +244,24 @@ fn opened<'a>(
             condition,
             body,
             end,
-        } => open_loop(
-            s,
-            w,
-            Span::new(line, *end),
-            LoopTest::While(condition),
-            body,
-        ),
+        } => {
+            let span = Span {
+                first: line,
+                end: *end,
+            };
+            open_loop(s, w, span, LoopTest::While(condition), body)
+        }
         Form::Scan {
             condition,
             body,
             end,
-        } => open_loop(s, w, Span::new(line, *end), LoopTest::Rows(condition), body),
+        } => {
+            let span = Span {
+                first: line,
+                end: *end,
+            };
+            open_loop(s, w, span, LoopTest::Rows(condition), body)
+        }
     }
 }
 
@@ -284,8 +293,8 @@ fn open_statement<'a>(
     };
     let result = match turn {
         Turn::Call(procedure, arguments) => return open_call(s, w, line, procedure, arguments),
-        Turn::Again => leap(&mut w.work, again_of(leaps)),
-        Turn::Out => leap(&mut w.work, out_of(leaps)),
+        Turn::Again => leap(&mut w.work, leaps.map(|labels| labels.again)),
+        Turn::Out => leap(&mut w.work, leaps.map(|labels| labels.out)),
         Turn::Return => put_return(&mut w.work),
         Turn::End => w.work.block.put_end(),
     };

@@ -1,9 +1,11 @@
 //! Where ways end: LOOP and EXIT, RETURN, and the end of a procedure.
 
-ghost use Rattle.std.specs.Prelude.{◌≡◌};
-ghost use Rattle.prg_code.specs.Growth.{WorkGrows};
+ghost use Rattle.std.specs.Prelude.{◌≡◌, ◌<◌, ◌^◌, ℕ, [], ◌∷◌, ◌++◌, true, Some, None, Err, OnOk};
+ghost use Rattle.prg_code.specs.Growth.{WorkGrows, drafts_of};
+ghost use Rattle.prg_code.specs.declared.block.Draft.TheVariants as draft;
+ghost use Rattle.prg_code.specs.declared.fault.CompileError.TheVariants as error;
+ghost use Rattle.prg_code.specs.declared.fault.CompileFaultKind.TheVariants as kind;
 
-use crate::steps::LeapLabels;
 use code_items::State;
 use prg_code::{CompileError, CompileFaultKind, CompileRefusal, Work, is_selection_same, merged};
 use prg_writer::Writer;
@@ -34,26 +36,15 @@ pub fn put_return(work: &mut Work) -> Result<(), CompileError>
 }
 
 /// `LOOP` or `EXIT`, which leads to the label. Limit where there is no loop around it.
-pub fn leap(work: &mut Work, label: Option<usize>) -> Result<(), CompileError> {
+pub fn leap(work: &mut Work, label: Option<usize>) -> Result<(), CompileError>
+    ensures put { (to : ℕ) → label ≡ Some to → OnOk result (to < 2 ^ 32 → work.old.block.reached ≡ true
+        → drafts_of work.new.block ≡ drafts_of work.old.block ++ draft.Jump to ∷ []) }
+    ensures outside { label ≡ None → result ≡ Err (error.Fault kind.Limit) }
+    ensures grown { WorkGrows work.old work.new }
+{
     match label {
         Some(label) => work.block.jump(label),
         None => Err(CompileError::Fault(CompileFaultKind::Limit)),
-    }
-}
-
-/// Where LOOP leads, in a loop.
-pub fn again_of(leaps: Option<LeapLabels>) -> Option<usize> {
-    match leaps {
-        Some(leaps) => Some(leaps.again),
-        None => None,
-    }
-}
-
-/// Where EXIT leads, in a loop.
-pub fn out_of(leaps: Option<LeapLabels>) -> Option<usize> {
-    match leaps {
-        Some(leaps) => Some(leaps.out),
-        None => None,
     }
 }
 

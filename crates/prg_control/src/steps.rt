@@ -25,12 +25,6 @@ pub struct Span {
     pub end: usize,
 }
 
-impl Span {
-    pub fn new(first: usize, end: usize) -> Span {
-        Span { first, end }
-    }
-}
-
 /// A condition and a JUMPF to the label. Where faults are listed, a faulty condition counts as .T.
 pub fn put_condition(
     s: &Source,

@@ -1,9 +1,9 @@
 //! The ten work areas as tests see them, filled anew without taking memory.
 
-ghost use Rattle.std.specs.Prelude.{◌≡◌, ◌≤◌, length};
+ghost use Rattle.std.specs.Prelude.{◌≡◌, ◌≤◌, length, IfOk};
 ghost use Rattle.code_rules.specs.Places.{filter_desk};
 ghost use Rattle.run_steps.specs.World.{area_state, desk_of};
-ghost use Rattle.tagged_machine.specs.Seen.{LeavesStore};
+ghost use Rattle.tagged_machine.specs.Seen.{LeavesStore, ten_closed};
 ghost use Rattle.work_area.specs.Areas.{use_at, StoreState};
 
 use code_items::{AreaState, Desk, Instr, Items, OpenArea};
@@ -48,7 +48,9 @@ fn area_seen<K: KeyList>(store: &Store<K>, area: u8) -> AreaState
 
 impl TenAreas {
     /// Ten closed areas.
-    pub fn new(alloc: Global) -> Result<TenAreas, AllocError> {
+    pub fn new(alloc: Global) -> Result<TenAreas, AllocError>
+        ensures { IfOk result (λ areas. areas ≡ ten_closed) }
+    {
         let closed = [AreaState::Closed; 10];
         Ok(TenAreas {
             desk: Desk {

@@ -1,5 +1,8 @@
 //! Room for the tests, taken once for a run.
 
+ghost use Rattle.std.specs.Prelude.{◌≡◌, [], IfOk};
+ghost use Rattle.tagged_machine.specs.Seen.{ten_closed};
+
 use crate::areas::TenAreas;
 use run_values::Pile;
 use std::alloc::{AllocError, Global};
@@ -21,7 +24,11 @@ pub struct TestScratch {
 
 impl TestScratch {
     /// All the room that the tests of a run need.
-    pub fn new(alloc: Global) -> Result<TestScratch, AllocError> {
+    pub fn new(alloc: Global) -> Result<TestScratch, AllocError>
+        ensures areas { IfOk result (λ room. room.areas ≡ ten_closed) }
+        ensures block { IfOk result (λ room. room.block.areas ≡ ten_closed) }
+        ensures kinds { IfOk result (λ room. room.block.kinds ≡ []) }
+    {
         Ok(TestScratch {
             areas: TenAreas::new(alloc)?,
             block: BlockScratch {
