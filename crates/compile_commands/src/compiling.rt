@@ -71,7 +71,7 @@ pub fn compile_files<F: Files>(
     };
     let programs = programs_of(alloc, files, names)?;
     let bytes = compiled(alloc, &programs, &shape)?;
-    match files.replace(out, bytes.as_slice()) {
+    match files.replace(out, bytes) {
         Ok(()) => Ok(()),
         Err(_) => Err(CompileFilesRefusal::CodeDisk),
     }

@@ -640,7 +640,7 @@ fn hand_in_done<R: Runtime<A = Global, File = File>, L: Listener>(
     };
     let handed_in = match text {
         Ok(text) => saving
-            .replace(open.names.done.as_str(), text.as_bytes())
+            .replace(open.names.done.as_str(), text.into_bytes())
             .is_ok(),
         Err(_) => false,
     };

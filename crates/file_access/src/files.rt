@@ -50,8 +50,8 @@ pub trait Files {
 
     /// Replaces a file by these bytes, or makes it, whole or not at all: on a refusal no file changes, and the count of
     /// device failures rose in this call, or is at its greatest. Refused memory is a failure of the device.
-    fn replace(&mut self, name: &str, bytes: &[u8]) -> Result<(), Device>
-        ensures replaced { OnOk result (IsReplaced (holds self.old) name.now bytes.now (holds self.new)) }
+    fn replace(&mut self, name: &str, bytes: Vec<u8>) -> Result<(), Device>
+        ensures replaced { OnOk result (IsReplaced (holds self.old) name.now bytes.items (holds self.new)) }
         ensures device { OnErr result (Rose (failed self.old) (failed self.new)) }
         ensures counted { failed self.old ≤ failed self.new }
         ensures kept { OnErr result (SameFiles (holds self.old) (holds self.new)) };

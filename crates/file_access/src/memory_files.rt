@@ -63,14 +63,12 @@ fn find_written<'b>(written: &'b [WrittenFile], name: &str) -> Option<&'b [u8]>
     None
 }
 
-fn written_file(alloc: Global, name: &str, bytes: &[u8]) -> Result<WrittenFile, AllocError>
+fn written_file(alloc: Global, name: &str, bytes: Vec<u8>) -> Result<WrittenFile, AllocError>
     ensures name { IfOk result (λ file. string_bytes file.name ≡ name.now) }
-    ensures bytes { IfOk result (λ file. file.bytes.items ≡ bytes.now) }
+    ensures bytes { IfOk result (λ file. file.bytes.items ≡ bytes.items) }
 {
-    Ok(WrittenFile {
-        name: String::from_str(alloc, name)?,
-        bytes: Vec::from_slice(alloc, bytes)?,
-    })
+    let name = String::from_str(alloc, name)?;
+    Ok(WrittenFile { name, bytes })
 }
 
 impl<'a> MemoryFiles<'a> {
@@ -135,11 +133,11 @@ impl<'a> MemoryFiles<'a> {
     }
 
     /// Puts a file in front of those that were written.
-    fn put(&mut self, name: &str, bytes: &[u8]) -> Result<(), AllocError>
+    fn put(&mut self, name: &str, bytes: Vec<u8>) -> Result<(), AllocError>
         ensures entries { self.new.entries.now ≡ self.old.entries.now }
         ensures failures { self.new.failures ≡ self.old.failures }
         ensures put { OnOk result ((file : WrittenFile) × (string_bytes file.name ≡ name.now)
-            × (file.bytes.items ≡ bytes.now) × (self.new.written.items ≡ file ∷ self.old.written.items)) }
+            × (file.bytes.items ≡ bytes.items) × (self.new.written.items ≡ file ∷ self.old.written.items)) }
         ensures kept { OnErr result (self.new.written.items ≡ self.old.written.items) }
     {
         let alloc = *self.written.allocator();
@@ -170,7 +168,7 @@ impl Files for MemoryFiles<'_> {
         }
     }
 
-    fn replace(&mut self, name: &str, bytes: &[u8]) -> Result<(), Device> {
+    fn replace(&mut self, name: &str, bytes: Vec<u8>) -> Result<(), Device> {
         if !self.works() {
             return Err(Device);
         }

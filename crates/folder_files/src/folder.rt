@@ -137,9 +137,9 @@ impl<R: Disk + Alloc<A = Global>, L: Listener> Files for Folder<'_, R, L> {
         }
     }
 
-    fn replace(&mut self, name: &str, bytes: &[u8]) -> Result<(), Device> {
+    fn replace(&mut self, name: &str, bytes: Vec<u8>) -> Result<(), Device> {
         self.listener.hear(Doing::Writing, name, bytes.len() as u64);
-        match replace_file(self.rt, name, bytes) {
+        match replace_file(self.rt, name, bytes.as_slice()) {
             Ok(()) => Ok(()),
             Err(unreplaced) => {
                 self.unreplaced = Some(unreplaced);

@@ -233,13 +233,12 @@ impl<'a, R: Disk + Alloc<A = Global>, L: Listener> SavingFolder<'a, R, L> {
     }
 
     /// Remembers what a file is to hold.
-    fn hand_in(&mut self, name: &str, bytes: &[u8]) -> Result<(), AllocError>
+    fn hand_in(&mut self, name: &str, bytes: Vec<u8>) -> Result<(), AllocError>
         ensures { self.new.folder.failures ≡ self.old.folder.failures }
     {
         let alloc = self.folder.rt.alloc();
         let target = self.target_name(name)?;
         let name = String::from_str(alloc, name)?;
-        let bytes = Vec::from_slice(alloc, bytes)?;
         self.pending.push(Pending {
             name,
             target,
@@ -651,7 +650,7 @@ impl<R: Disk + Alloc<A = Global>, L: Listener> Files for SavingFolder<'_, R, L> 
         read
     }
 
-    fn replace(&mut self, name: &str, bytes: &[u8]) -> Result<(), Device> {
+    fn replace(&mut self, name: &str, bytes: Vec<u8>) -> Result<(), Device> {
         if self.hand_in(name, bytes).is_err() {
             self.folder.fail();
             return Err(Device);

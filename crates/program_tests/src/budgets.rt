@@ -39,7 +39,7 @@ fn run_alike(
 
 /// Makes the tables and the code of a case; whether that was done.
 fn ready(alloc: Global, files: &mut MemoryFiles<'_>, case: RunCase<'_>, code: &[u8]) -> bool {
-    lay(alloc, files, case) && put_file(files, CODE, code)
+    lay(alloc, files, case) && put_file(alloc, files, CODE, code)
 }
 
 /// Whether both machines run the code of a case alike within a budget, and leave the same tables and the same indexes,

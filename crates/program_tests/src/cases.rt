@@ -33,7 +33,7 @@ fn declarations(alloc: Global, case: RunCase<'_>) -> Result<Vec<u8>, AllocError>
 /// Makes the declaration file of a case, unless there is none; whether that was done.
 fn is_declared(alloc: Global, files: &mut MemoryFiles<'_>, case: RunCase<'_>) -> bool {
     match declarations(alloc, case) {
-        Ok(lines) => case.has("absent") || put_file(files, DECLARATIONS, &lines),
+        Ok(lines) => case.has("absent") || put_file(alloc, files, DECLARATIONS, &lines),
         Err(_) => false,
     }
 }
@@ -41,7 +41,7 @@ fn is_declared(alloc: Global, files: &mut MemoryFiles<'_>, case: RunCase<'_>) ->
 /// Makes the files of a case; whether that was done.
 pub fn laid(alloc: Global, files: &mut MemoryFiles<'_>, case: RunCase<'_>) -> bool {
     is_declared(alloc, files, case)
-        && put_file(files, SOURCE, case.says("source\n").as_bytes())
+        && put_file(alloc, files, SOURCE, case.says("source\n").as_bytes())
         && lay(alloc, files, case)
 }
 

@@ -134,7 +134,7 @@ fn takes_steps(alloc: Global, files: &mut MemoryFiles<'_>, case: RunCase<'_>) ->
 
 /// Whether the file of a code comes to what its case says.
 fn is_well(alloc: Global, files: &mut MemoryFiles<'_>, bytes: &[u8], case: RunCase<'_>) -> bool {
-    if !case.has("absent") && !put_file(files, NAME, bytes) || !lay(alloc, files, case) {
+    if !case.has("absent") && !put_file(alloc, files, NAME, bytes) || !lay(alloc, files, case) {
         return false;
     }
     let reads = has_length(bytes, case)

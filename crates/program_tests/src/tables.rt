@@ -97,8 +97,11 @@ fn index(alloc: Global, page: &str) -> Result<Vec<u8>, AllocError> {
 }
 
 /// Puts a file among the others; whether that was done.
-pub fn put_file(files: &mut MemoryFiles<'_>, name: &str, bytes: &[u8]) -> bool {
-    files.replace(name, bytes).is_ok()
+pub fn put_file(alloc: Global, files: &mut MemoryFiles<'_>, name: &str, bytes: &[u8]) -> bool {
+    match Vec::from_slice(alloc, bytes) {
+        Ok(bytes) => files.replace(name, bytes).is_ok(),
+        Err(_) => false,
+    }
 }
 
 /// The file that a part describes by a word, a name and more; nothing where it describes none.
@@ -125,7 +128,7 @@ fn lay_part(alloc: Global, files: &mut MemoryFiles<'_>, part: &str) -> bool {
     let (word, told) = line.split_once(' ').unwrap_or((line, ""));
     let (name, columns) = told.split_once(' ').unwrap_or((told, ""));
     match made(alloc, word, columns, behind) {
-        Ok(bytes) => bytes.is_empty() || put_file(files, name, &bytes),
+        Ok(bytes) => bytes.is_empty() || put_file(alloc, files, name, &bytes),
         Err(_) => false,
     }
 }
@@ -152,7 +155,7 @@ fn lay_numbered(alloc: Global, files: &mut MemoryFiles<'_>, count: u64) -> bool 
         let Ok((name, bytes)) = numbered(alloc, number) else {
             return false;
         };
-        if !put_file(files, name.as_str(), &bytes) {
+        if !put_file(alloc, files, name.as_str(), &bytes) {
             return false;
         }
     }

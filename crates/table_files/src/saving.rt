@@ -79,9 +79,10 @@ pub fn save<F: Files>(
         let Some(file) = new_file(alloc, shape, store, stamp, k)? else {
             continue;
         };
-        match files.replace(file.name.as_str(), file.bytes.as_slice()) {
+        let NewFile { name, bytes } = file;
+        match files.replace(name.as_str(), bytes) {
             Ok(()) => {}
-            Err(_) => return Err(FilesRefusal::Disk { name: file.name }),
+            Err(_) => return Err(FilesRefusal::Disk { name }),
         }
     }
     Ok(())

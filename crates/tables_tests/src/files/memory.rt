@@ -38,17 +38,25 @@ fn reads(
     }
 }
 
-fn replaces(files: &mut MemoryFiles<'_>, name: &str, bytes: &[u8]) -> Result<(), Device> {
-    files.replace(name, bytes)
+fn replaces(
+    alloc: Global,
+    files: &mut MemoryFiles<'_>,
+    name: &str,
+    bytes: &[u8],
+) -> Result<(), Device> {
+    match Vec::from_slice(alloc, bytes) {
+        Ok(bytes) => files.replace(name, bytes),
+        Err(_) => Err(Device),
+    }
 }
 
 /// Whether what was written last is what a file holds.
 fn last_written_is_held(alloc: Global) -> bool {
     let entries = entries();
     let mut files = MemoryFiles::new(alloc, &entries, WORKS_FOR_EVER);
-    let written = replaces(&mut files, "A", b"three").is_ok()
-        && replaces(&mut files, "C", b"").is_ok()
-        && replaces(&mut files, "A", b"four").is_ok();
+    let written = replaces(alloc, &mut files, "A", b"three").is_ok()
+        && replaces(alloc, &mut files, "C", b"").is_ok()
+        && replaces(alloc, &mut files, "A", b"four").is_ok();
     written
         && holds(&files, "A", b"four")
         && holds(&files, "B", b"two")
@@ -64,9 +72,9 @@ fn fails_behind_its_calls(alloc: Global) -> bool {
     let entries = entries();
     let mut files = MemoryFiles::new(alloc, &entries, 2);
     let failed = reads(alloc, &mut files, "A", 3) == Ok(3)
-        && replaces(&mut files, "A", b"x") == Ok(())
+        && replaces(alloc, &mut files, "A", b"x") == Ok(())
         && reads(alloc, &mut files, "A", 3) == Err(ReadFault::Device)
-        && replaces(&mut files, "B", b"y") == Err(Device)
+        && replaces(alloc, &mut files, "B", b"y") == Err(Device)
         && holds(&files, "A", b"x")
         && holds(&files, "B", b"two")
         && files.failures() == 2;

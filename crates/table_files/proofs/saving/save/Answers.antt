@@ -41,7 +41,7 @@ loop-k-preserved g c =
     rw c.in-Some.is at c.in_ok-file.ensures.text in
     let replaced : IsReplaced (holds c.loop-k.files) c.in-Some.file.name.bytes c.in-Some.file.bytes.items
     (holds c.replace.new.self) =
-    rw (c.as_str.ensures.value, c.as_slice.ensures.value) at c.in-Ok.ensures.replaced in (
+    rw (c.as_str.ensures.value) at c.in-Ok.ensures.replaced in (
       saved_more shape store c.args.stamp c.loop-k.k c.in-Some.file.name.bytes c.in-Some.file.bytes.items
           (holds c.args.files.now) (holds c.loop-k.files) (holds c.replace.new.self) c.requires.legal is named text
           replaced c.loop-k.invariant.0,
