@@ -98,6 +98,11 @@ pub const VALUES: &str = "%stack 2
 %code 0x01 0 0 0; 0x01 0 1 0; 0x08 4 0 0; 0x40 0 0 0; 0x41 1 0 0; 0x14 0 0 0;
 %rows
       0.33
+#a value that waits while its slot changes
+%slots 1%steps 8%constants N 1|N 2|
+%code 0x01 0 0 0; 0x03 1 0 0; 0x02 1 0 0; 0x01 0 1 0; 0x03 1 0 0; 0x40 0 0 0; 0x41 1 0 0; 0x14 0 0 0;
+%rows
+         1
 #the day
 %steps 4%day 1988 2 29
 %code 0x40 0 0 0; 0x09 7 0 0; 0x41 3 0 0; 0x14 0 0 0;

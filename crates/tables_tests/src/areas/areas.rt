@@ -144,6 +144,14 @@ delete|done|1
 pack|cost 6|3 eb
 append|done|3
 top|cost 2|1
+#1|9|A,B,B,
+* Records that hold B are shown alone.
+shows b
+use 0|cost 3|2
+skip 1|cost 2|3
+skip -1|cost 2|2
+skip -1|cost 2|2 b
+top|cost 3|2
 #1|9|A,B,C,
 * Nothing is shown.
 shows nothing
@@ -225,6 +233,7 @@ fn shows_of(word: &str) -> Shows<'static> {
         ("nothing", Shows::Nothing),
         ("from", Shows::From(3)),
         ("three", Shows::Of(3)),
+        ("b", Shows::Holding(b"B")),
     ];
     for (name, shows) in &made {
         if *name == word {

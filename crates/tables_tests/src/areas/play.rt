@@ -146,6 +146,16 @@ pub(crate) enum Shows<'a> {
     From(u32),
     /// All, where there are so many.
     Of(u32),
+    /// Those whose first field holds this text.
+    Holding(&'a [u8]),
+}
+
+/// Whether a value is this text.
+fn is_text(value: &Value, text: &[u8]) -> bool {
+    match value {
+        Value::Text(held) => held.as_slice() == text,
+        _ => false,
+    }
 }
 
 fn sees(shows: Shows<'_>, row: &Row<'_>) -> bool {
@@ -159,6 +169,7 @@ fn sees(shows: Shows<'_>, row: &Row<'_>) -> bool {
         Shows::Nothing => false,
         Shows::From(number) => row.record() >= number,
         Shows::Of(count) => row.count() == count,
+        Shows::Holding(text) => 0 < row.fields() && is_text(&row.value(0), text),
     }
 }
 
