@@ -3,6 +3,7 @@ use Rattle.std.proofs.Common.{◌≡◌, ℕ, zero, suc, ◌≤◌, Bool, true, 
 use Rattle.std.proofs.Common.{[], ◌∷◌, ◌++◌, length, get_or, drop, refl, sym, ap, ◌∙◌, subst, arith}
 use Rattle.std.specs.List.{filter, starts_with, Contains}
 use Rattle.std.specs.Prelude.{nat_eq}
+use Rattle.std.proofs.lemmas.Bool.{not-true}
 use Rattle.key_lists.specs.KeyForm.{IsPairOf}
 use Rattle.key_lists.specs.Laws.{MeetsEach, StandTogether, begins_with}
 use Rattle.key_lists.specs.Order.{Each, above, first}
@@ -80,14 +81,10 @@ filter_pass p (x ∷ xs) = elim (p x) as
       | false ↦ λ e. filter_pass p xs
     ] refl
 
-not_true : {b : Bool} → not b ≡ true → b ≡ false
-not_true {b = true} e = cc
-not_true {b = false} e = refl
-
 run_of : (start : List ℕ) (xs ys : List Pair) → Each (λ p. begins_with start p.0 ≡ true) xs
     → Each (λ p. not (begins_with start p.0) ≡ true) ys → front_run start (xs ++ ys) ≡ xs
 run_of start [] [] e f = refl
-run_of start [] (y ∷ ys) e f = rw (not_true f.0) refl
+run_of start [] (y ∷ ys) e f = rw (not-true (begins_with start y.0) f.0) refl
 run_of start (x ∷ xs) ys e f = rw e.0 (ap (λ (ps : List Pair). x ∷ ps) (run_of start xs ys e.1 f))
 
 pub starting_all : (start : List ℕ) (pairs : List Pair) → StandTogether pairs
