@@ -43,10 +43,10 @@ use Rattle.run_values.specs.BlockStack.{is_true}
 use Rattle.run_steps.specs.World.{kind_held}
 use Rattle.run_steps.specs.Filters.{Viewer, row_field, asked_of, block_run, filter_block, instructions_of, block_start}
 use Rattle.run_steps.specs.Filters.{block_sound, is_sound_filter, is_sound, is_unhidden, is_visible}
+use Rattle.run_steps.proofs.Results.{ResultLaw}
 use Rattle.run_laws.proofs.AlikeFields.{letter_there}
 use Rattle.run_laws.proofs.FilterBlocks.{field_kind_is}
 use Rattle.run_laws.proofs.Tests.{Same, else_yes, not_zero}
-use Rattle.run_laws.proofs.Tests.{ResultLaw}
 use Rattle.expr_laws.specs.Meaning.{nothing, value_in, is_truth, holds_in}
 use Rattle.expr_laws.specs.Seeing.{slot_value, variable_value}
 use Rattle.expr_laws.specs.Rows.{row_value, row_sight, IsOfFilter, IsOfTable}

@@ -28,7 +28,7 @@ use Rattle.run_values.specs.Tagged.{TaggedValues, HoldsKind, pushed, dropped, lo
 use Rattle.run_steps.specs.World.{World, EnvState, state_of, kind_held}
 use Rattle.run_steps.specs.Effects.{on_value, with_pushed, value_values, screen_values}
 use Rattle.run_steps.specs.Needs.{LoadNeeds}
-use Rattle.run_laws.proofs.Tests.{ResultLaw}
+use Rattle.run_steps.proofs.Results.{ResultLaw}
 use Rattle.fit_laws.proofs.Covered.{kinds_same, joined}
 use Rattle.fit_laws.proofs.Covering.{kind_self}
 use Rattle.fit_laws.proofs.Filters.{Legal}

@@ -41,8 +41,9 @@ use Rattle.run_steps.specs.Filters.{block_sound, block_start, function_of, StepF
 use Rattle.run_steps.specs.Needs.{BlockNeeds}
 use Rattle.run_steps.specs.World.{EnvState, kind_held}
 use Rattle.run_values.proofs.BlockTops.{put_there}
+use Rattle.run_steps.proofs.Results.{ResultLaw}
 use Rattle.run_laws.proofs.AlikeFields.{alike_kind, value_kind}
-use Rattle.run_laws.proofs.Tests.{Same, ResultLaw, on_top, slot_holds}
+use Rattle.run_laws.proofs.Tests.{Same, on_top, slot_holds}
 
 -- the tests of one instruction of it
 pub record IsSoundThere (code : Code) (s : State) (i : Instr) : Type 0 where
