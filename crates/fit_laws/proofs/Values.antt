@@ -30,7 +30,7 @@ use Rattle.run_steps.specs.Effects.{on_value, with_pushed, value_values, screen_
 use Rattle.run_steps.specs.Needs.{LoadNeeds}
 use Rattle.run_steps.proofs.Results.{ResultLaw}
 use Rattle.fit_laws.proofs.Covered.{kinds_same, joined}
-use Rattle.fit_laws.proofs.Covering.{kind_self}
+use Rattle.code_rules.proofs.Covering.{kind_self}
 use Rattle.fit_laws.proofs.Filters.{Legal}
 use Rattle.fit_laws.proofs.Loads.{LoadsWell}
 
