@@ -10,7 +10,7 @@ use Rattle.xvalue.specs.declared.kind.Kind.TheVariants.{Number as OfNumber, Text
 use Rattle.xvalue.specs.declared.kind.Kind.TheVariants.{Logical as OfLogical}
 use Rattle.code_parts.specs.declared.flaw.Flaw.{Flaw}
 use Rattle.code_parts.specs.Reading.{Reader, Judged}
-use Rattle.code_parts.specs.Laws.{Spells}
+use Rattle.code_parts.specs.Laws.{ReadsTexts}
 use Rattle.code_parts.specs.Texts.{kind_number, truth_number}
 use Rattle.code_parts.specs.Items.{wanted, there, kind_of_byte, truth_of_byte}
 use Rattle.code_parts.proofs.Combine.{some, some_is}
@@ -71,6 +71,6 @@ truth_is false = refl
 
 -- a reader chosen by a test
 pub if_spells : {X : Type 0} {r s : Reader (Judged X)} {t : X → List ℕ} {P G : X → Type 0} (test : Bool)
-    → (test ≡ true → Spells r t P G) → (test ≡ false → Spells s t P G) → Spells (cond test r s) t P G
+    → (test ≡ true → ReadsTexts r t P G) → (test ≡ false → ReadsTexts s t P G) → ReadsTexts (cond test r s) t P G
 if_spells true holds fails = holds refl
 if_spells false holds fails = fails refl

@@ -13,7 +13,7 @@ use Rattle.xvalue.specs.declared.value.Value.{Value}
 use Rattle.xvalue.specs.declared.value.Value.TheVariants.{Number, Text, Date, Logical}
 use Rattle.code_items.specs.Constants.{is_byte, is_decimal, is_constant}
 use Rattle.code_parts.specs.declared.flaw.Flaw.TheVariants.{Shape}
-use Rattle.code_parts.specs.Laws.{Spells, IsLegalConstant}
+use Rattle.code_parts.specs.Laws.{ReadsTexts, IsLegalConstant}
 use Rattle.code_parts.specs.Texts.{two, kind_number, truth_number, kind_of_value, decimal_text, counted_text}
 use Rattle.code_parts.specs.Texts.{value_text, constant_text}
 use Rattle.code_parts.specs.Items.{wanted, truth_of_byte, is_stored_number, decimal_from, decimal_at, date_from}
@@ -102,7 +102,7 @@ parts_of_decimal (Text text) h = absurd (let e : 2 ≡ 1 = h.1 in omega arith)
 parts_of_decimal (Date day) h = absurd (let e : 3 ≡ 1 = h.1 in omega arith)
 parts_of_decimal (Logical truth) h = absurd (let e : 4 ≡ 1 = h.1 in omega arith)
 
-decimal_spells : Spells decimal_at value_text (Of 1) (Of 1)
+decimal_spells : ReadsTexts decimal_at value_text (Of 1) (Of 1)
 unfolding decimal_at is_constant
 decimal_spells = made_spells (pair_spells byte_spells (pair_spells byte_spells eight_spells)) decimal_from value_text
     (Of 1) (Of 1)
@@ -168,7 +168,7 @@ parts_of_date (Date (Some p)) h = let year =
     (year_is p h.0).1 in ((p.year, (p.month, p.day)), (omega (arith, year), (tt, tt)), some_date p h.0, refl)
 parts_of_date (Logical truth) h = absurd (let e : 4 ≡ 3 = h.1 in omega arith)
 
-date_spells : Spells date_at value_text (Of 3) (Of 3)
+date_spells : ReadsTexts date_at value_text (Of 3) (Of 3)
 unfolding date_at
 date_spells = made_spells (pair_spells two_spells (pair_spells byte_spells byte_spells)) _ value_text (Of 3) (Of 3)
     (λ p v fit e. date_spelled _ v e)
@@ -191,7 +191,7 @@ bytes_of_text (Text text) h = let p =
 bytes_of_text (Date day) h = absurd (let e : 3 ≡ 2 = h.1 in omega arith)
 bytes_of_text (Logical truth) h = absurd (let e : 4 ≡ 2 = h.1 in omega arith)
 
-text_value_spells : Spells text_value_at value_text (Of 2) (Of 2)
+text_value_spells : ReadsTexts text_value_at value_text (Of 2) (Of 2)
 unfolding text_value_at is_constant
 text_value_spells = made_spells text_spells text_from value_text (Of 2) (Of 2)
     (λ bytes v fit e.
@@ -210,7 +210,7 @@ byte_of_truth (Text text) h = absurd (let e : 2 ≡ 4 = h.1 in omega arith)
 byte_of_truth (Date day) h = absurd (let e : 3 ≡ 4 = h.1 in omega arith)
 byte_of_truth (Logical truth) h = (truth_number truth, tt, rw (truth_is truth) refl, refl)
 
-truth_spells : Spells truth_at value_text (Of 4) (Of 4)
+truth_spells : ReadsTexts truth_at value_text (Of 4) (Of 4)
 unfolding truth_at is_constant
 truth_spells = made_spells byte_spells truth_from value_text (Of 4) (Of 4)
     (λ byte v fit e.
@@ -230,19 +230,19 @@ other_kind b one two three four (Text text) h = let e : eqb b 2 ≡ true = rw (�
 other_kind b one two three four (Date day) h = let e : eqb b 3 ≡ true = rw (← h.1) refl in cc
 other_kind b one two three four (Logical truth) h = let e : eqb b 4 ≡ true = rw (← h.1) refl in cc
 
-value_spells : (b : ℕ) → Spells (value_at b) value_text (Of b) (Of b)
+value_spells : (b : ℕ) → ReadsTexts (value_at b) value_text (Of b) (Of b)
 value_spells b =
-    if_spells (eqb b 1) (λ is. subst (λ (n : ℕ). Spells decimal_at value_text (Of n) (Of n)) (sym (eqb-true b 1 is))
+    if_spells (eqb b 1) (λ is. subst (λ (n : ℕ). ReadsTexts decimal_at value_text (Of n) (Of n)) (sym (eqb-true b 1 is))
     decimal_spells)
-    (λ one. if_spells (eqb b 2) (λ is. subst (λ (n : ℕ). Spells text_value_at value_text (Of n) (Of n))
+    (λ one. if_spells (eqb b 2) (λ is. subst (λ (n : ℕ). ReadsTexts text_value_at value_text (Of n) (Of n))
     (sym (eqb-true b 2 is)) text_value_spells)
-    (λ two. if_spells (eqb b 3) (λ is. subst (λ (n : ℕ). Spells date_at value_text (Of n) (Of n))
+    (λ two. if_spells (eqb b 3) (λ is. subst (λ (n : ℕ). ReadsTexts date_at value_text (Of n) (Of n))
     (sym (eqb-true b 3 is)) date_spells)
-    (λ three. if_spells (eqb b 4) (λ is. subst (λ (n : ℕ). Spells truth_at value_text (Of n) (Of n))
+    (λ three. if_spells (eqb b 4) (λ is. subst (λ (n : ℕ). ReadsTexts truth_at value_text (Of n) (Of n))
     (sym (eqb-true b 4 is)) truth_spells)
     (λ four. flawed_spells Shape value_text (Of b) (Of b) (other_kind b one two three four)))))
 
-pub constant_spells : Spells constant_at constant_text IsLegalConstant IsLegalConstant
+pub constant_spells : ReadsTexts constant_at constant_text IsLegalConstant IsLegalConstant
 unfolding constant_at
 constant_spells = choice_spells value_at (λ v. kind_number (kind_of_value v)) value_text IsLegalConstant IsLegalConstant
     value_spells

@@ -25,7 +25,7 @@ use Rattle.code_items.specs.declared.instr.Instr.TheVariants.{Values, Flow, Scre
 use Rattle.code_items.specs.Instrs.{is_instr, is_two, is_four, is_area}
 use Rattle.code_parts.specs.declared.flaw.Flaw.TheVariants.{Operation}
 use Rattle.code_parts.specs.declared.operands.InstrParts.{InstrParts}
-use Rattle.code_parts.specs.Laws.{Spells, IsLegalInstr}
+use Rattle.code_parts.specs.Laws.{ReadsTexts, IsLegalInstr}
 use Rattle.code_parts.specs.Texts.{kind_number, truth_number}
 use Rattle.code_parts.specs.Items.{wanted}
 use Rattle.code_parts.specs.Instructions.{setting_number, question_number, instr_parts, parts_of, parts_text}
@@ -238,7 +238,7 @@ was_made version p i e =
     (parts_same p (parts_of j.0) both.1, both.0)
 
 pub instr_spells : NumbersAgree → (version : Version)
-    → Spells (instr_read_at version) instr_text (IsLegalInstr version) (IsLegalInstr version)
+    → ReadsTexts (instr_read_at version) instr_text (IsLegalInstr version) (IsLegalInstr version)
 unfolding instr_read_at
 instr_spells agree version = made_spells
     (pair_spells byte_spells (pair_spells byte_spells (pair_spells two_spells four_spells))) _ instr_text
