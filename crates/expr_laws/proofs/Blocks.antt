@@ -21,7 +21,7 @@ use Rattle.code_items.specs.declared.instr.ValueInstr.TheVariants as value_instr
 use Rattle.code_items.specs.declared.instr.RecordInstr.{RecordInstr}
 use Rattle.code_items.specs.declared.instr.RecordInstr.TheVariants as record_instr
 use Rattle.code_items.specs.declared.state.State.{State}
-use Rattle.code_rules.specs.Wants.{gives, known, constant_kind, kind_of_field, fields_at}
+use Rattle.code_rules.specs.Wants.{gives, known, kind_of_field, fields_at}
 use Rattle.code_rules.specs.Flow.{left_by, just_opened}
 use Rattle.code_rules.specs.Places.{filter_desk}
 use Rattle.code_rules.specs.Rules.{has_other, is_free, undeclared}
@@ -98,7 +98,8 @@ field_is_there : {A : Type 0} (xs : List A) (n : ℕ) → nat_le (length xs) n �
 field_is_there xs n e = is_there xs n (omega (arith, leb-false (length xs) n e))
 
 constant_steps : (code : Code) (v : Viewer) (r : TriedRow) (table : ℕ) (s : State) (st : List Value) (x : Option Value) → length st < 64 → Stands v table s st
-    → (with_constant x st ≡ put_some x st) × Stands v table (record { desk = s.desk; slots = s.slots; stack = known (Some (constant_kind x)) ++ s.stack }) (put_some x st)
+    → (with_constant x st ≡ put_some x st) × Stands v table
+    (record { desk = s.desk; slots = s.slots; stack = known (Some (kind_held x)) ++ s.stack }) (put_some x st)
 constant_steps code v r table s st None lt h = (refl, h)
 constant_steps code v r table s st (Some c) lt h = (put_there c st lt, pushed_stands v table s st _ c h)
 

@@ -33,7 +33,7 @@ use Rattle.code_rules.specs.Flow.{left_by}
 use Rattle.code_rules.specs.Places.{filter_desk}
 use Rattle.code_rules.specs.Rules.{filters, height_after, has_other, is_free, loads_other, loads_free, undeclared}
 use Rattle.code_rules.specs.Signature.{signature}
-use Rattle.code_rules.specs.Wants.{wants, gives, known, fields_declared, constant_kind, kind_asked}
+use Rattle.code_rules.specs.Wants.{wants, gives, known, fields_declared, kind_asked}
 use Rattle.run_values.specs.BlockStack.{put_on}
 use Rattle.run_values.specs.Tagged.{TaggedValues, HasOnTop, HoldsKind, arguments_on}
 use Rattle.run_steps.specs.Filters.{Viewer, viewer, with_constant, with_held, row_run, row_field, asked_of, block_fails}
@@ -119,7 +119,7 @@ constant_after : (v : Viewer) (table : ℕ) (s : State) (st : List Value) (x : O
     → Stands v table (record {
       desk = s.desk;
       slots = s.slots;
-      stack = known (Some (constant_kind x)) ++ s.stack;
+      stack = known (Some (kind_held x)) ++ s.stack;
     }) (with_constant x st)
 constant_after v table s st None h lt = h
 constant_after v table s st (Some c) h lt = pushed v table s st (kind_of c) c h lt refl
