@@ -4,7 +4,7 @@ use Rattle.std.proofs.Common.{List, [], ◌∷◌, ◌++◌, length, Some, None,
 use Rattle.std.specs.Prelude.{◌&&◌, ◌||◌}
 use Rattle.std.specs.Int.{w64, to_le_bytes}
 use Rattle.std.specs.List.{AllByRecursion, list_all}
-use Rattle.std.proofs.lemmas.Bool.{eqb-true, leb-true, le-leb, ltb-true, lt-ltb}
+use Rattle.std.proofs.lemmas.Bool.{eqb-true, leb-true, le-leb, ltb-true, lt-ltb, and_parts, and_from}
 use Rattle.std.proofs.Math.Dec.{eqb-suc-zero}
 use Rattle.calendar.specs.Calendar.{is_day}
 use Rattle.fixed_num.specs.Number.{asterisk, finite, signed}
@@ -18,10 +18,10 @@ use Rattle.code_parts.specs.Texts.{two, kind_number, truth_number, kind_of_value
 use Rattle.code_parts.specs.Texts.{value_text, constant_text}
 use Rattle.code_parts.specs.Items.{wanted, truth_of_byte, is_stored_number, decimal_from, decimal_at, date_from}
 use Rattle.code_parts.specs.Items.{date_at, text_from, text_value_at, truth_from, truth_at, value_at, constant_at}
-use Rattle.dbf_file.proofs.ChoiceLemmas.{chosen, both_true}
+use Rattle.dbf_file.proofs.ChoiceLemmas.{chosen}
 use Rattle.code_parts.proofs.Combine.{done, ok_is, pair_spells, made_spells, byte_spells, choice_spells, flawed_spells}
 use Rattle.code_parts.proofs.Numbers.{text_spells, two_spells, eight_spells}
-use Rattle.code_parts.proofs.Choices.{both_from, either_true, wanted_ok, there_ok, truth_was}
+use Rattle.code_parts.proofs.Choices.{either_true, wanted_ok, there_ok, truth_was}
 use Rattle.code_parts.proofs.Choices.{truth_is, if_spells}
 
 -- a legal constant of the kind of this number
@@ -35,10 +35,10 @@ below_text d zero h = absurd (omega (arith, h))
 below_text d (suc m) h = refl
 
 in_range : (negative : Bool) (d m : ℕ) → d ≤ 15 → m < 10 ^ 19 → is_decimal (finite (signed negative m) d) ≡ true
-in_range false d m few small = both_from (ltb m (10 ^ 19)) (leb d 15) (lt-ltb m (10 ^ 19) small) (le-leb d 15 few)
-in_range true d zero few small = both_from (ltb 0 (10 ^ 19)) (leb d 15) (lt-ltb 0 (10 ^ 19) small) (le-leb d 15 few)
+in_range false d m few small = and_from (ltb m (10 ^ 19)) (leb d 15) (lt-ltb m (10 ^ 19) small) (le-leb d 15 few)
+in_range true d zero few small = and_from (ltb 0 (10 ^ 19)) (leb d 15) (lt-ltb 0 (10 ^ 19) small) (le-leb d 15 few)
 in_range true d (suc m) few small =
-    both_from (ltb (suc m) (10 ^ 19)) (leb d 15) (lt-ltb (suc m) (10 ^ 19) small) (le-leb d 15 few)
+    and_from (ltb (suc m) (10 ^ 19)) (leb d 15) (lt-ltb (suc m) (10 ^ 19) small) (le-leb d 15 few)
 
 -- what is read of a number is its text
 abbrev Spelled : ℕ → ℕ → ℕ → Type 0
@@ -47,27 +47,27 @@ Spelled d s m = (d ∷ s ∷ to_le_bytes w64 m ≡ decimal_text (finite (signed 
 
 number_spelled : (d s m : ℕ) → is_stored_number d s m ≡ true → Spelled d s m
 number_spelled d s m e =
-    let p = both_true (leb d 15 && ltb m (10 ^ 19)) (eqb s 0 || (eqb s 1 && ltb 0 m)) e in
-    let q = both_true (leb d 15) (ltb m (10 ^ 19)) p.0 in
+    let p = and_parts (leb d 15 && ltb m (10 ^ 19)) (eqb s 0 || (eqb s 1 && ltb 0 m)) e in
+    let q = and_parts (leb d 15) (ltb m (10 ^ 19)) p.0 in
     let few = leb-true d 15 q.0 in
     let small = ltb-true m (10 ^ 19) q.1 in
     elim (either_true (eqb s 0) (eqb s 1 && ltb 0 m) p.1) [
       | inl h ↦ subst (λ (n : ℕ). Spelled d n m) (sym (eqb-true s 0 h)) (refl, in_range false d m few small)
       | inr h ↦
-          let r = both_true (eqb s 1) (ltb 0 m) h in
+          let r = and_parts (eqb s 1) (ltb 0 m) h in
           subst (λ (n : ℕ). Spelled d n m) (sym (eqb-true s 1 r.0))
           (sym (below_text d m (ltb-true 0 m r.1)), in_range true d m few small)
     ]
 
 is_number_above : (d m : ℕ) → d ≤ 15 → m < 10 ^ 19 → is_stored_number d 0 m ≡ true
 is_number_above d m few small =
-    both_from (leb d 15 && ltb m (10 ^ 19)) true
-    (both_from (leb d 15) (ltb m (10 ^ 19)) (le-leb d 15 few) (lt-ltb m (10 ^ 19) small)) refl
+    and_from (leb d 15 && ltb m (10 ^ 19)) true
+    (and_from (leb d 15) (ltb m (10 ^ 19)) (le-leb d 15 few) (lt-ltb m (10 ^ 19) small)) refl
 
 is_number_below : (d m : ℕ) → d ≤ 15 → m < 10 ^ 19 → 0 < m → is_stored_number d 1 m ≡ true
 is_number_below d m few small some =
-    both_from (leb d 15 && ltb m (10 ^ 19)) (ltb 0 m)
-    (both_from (leb d 15) (ltb m (10 ^ 19)) (le-leb d 15 few) (lt-ltb m (10 ^ 19) small)) (lt-ltb 0 m some)
+    and_from (leb d 15 && ltb m (10 ^ 19)) (ltb 0 m)
+    (and_from (leb d 15) (ltb m (10 ^ 19)) (le-leb d 15 few) (lt-ltb m (10 ^ 19) small)) (lt-ltb 0 m some)
 
 abbrev FromParts : Value → Type 0
 FromParts v = (p : ℕ × (ℕ × ℕ)) × (Unit {0} × (Unit {0} × (p.1.1 < 2 ^ 64))) × (decimal_from p ≡ Ok v)
@@ -94,9 +94,9 @@ parts_of_decimal : (v : Value) → Of 1 v → FromParts v
 unfolding is_constant
 parts_of_decimal (Number asterisk) h = absurd (let e : false ≡ true = h.0 in cc)
 parts_of_decimal (Number (finite (pos m) d)) h = let p =
-    both_true (ltb m (10 ^ 19)) (leb d 15) h.0 in parts_above d m (leb-true d 15 p.1) (ltb-true m (10 ^ 19) p.0)
+    and_parts (ltb m (10 ^ 19)) (leb d 15) h.0 in parts_above d m (leb-true d 15 p.1) (ltb-true m (10 ^ 19) p.0)
 parts_of_decimal (Number (finite (negsuc m) d)) h = let p =
-    both_true (ltb (suc m) (10 ^ 19)) (leb d 15) h.0 in
+    and_parts (ltb (suc m) (10 ^ 19)) (leb d 15) h.0 in
     parts_below d m (leb-true d 15 p.1) (ltb-true (suc m) (10 ^ 19) p.0)
 parts_of_decimal (Text text) h = absurd (let e : 2 ≡ 1 = h.1 in omega arith)
 parts_of_decimal (Date day) h = absurd (let e : 3 ≡ 1 = h.1 in omega arith)
@@ -126,8 +126,8 @@ parts_text_same y m d y' m' d' e f g = rw (e, f, g) refl
 -- the year of a day
 year_is : (p : DayParts) → is_day p ≡ true → (1 ≤ p.year) × (p.year ≤ 9999)
 year_is p e =
-    let all = both_true (leb 1 p.year && leb p.year 9999) _ e in
-    let year = both_true (leb 1 p.year) (leb p.year 9999) all.0 in
+    let all = and_parts (leb 1 p.year && leb p.year 9999) _ e in
+    let year = and_parts (leb 1 p.year) (leb p.year 9999) all.0 in
     (leb-true 1 p.year year.0, leb-true p.year 9999 year.1)
 
 date_spelled : (p : DayParts) (v : Value) → date_from p ≡ Ok v
@@ -139,8 +139,8 @@ date_spelled p v e =
     elim (chosen (eqb p.year 0 && eqb p.month 0 && eqb p.day 0) (done blank) (wanted Shape (is_day p) some_day) (Ok v)
     e) [
       | inl h ↦
-          let q = both_true (eqb p.year 0 && eqb p.month 0) (eqb p.day 0) h.0 in
-          let r = both_true (eqb p.year 0) (eqb p.month 0) q.0 in
+          let q = and_parts (eqb p.year 0 && eqb p.month 0) (eqb p.day 0) h.0 in
+          let r = and_parts (eqb p.year 0) (eqb p.month 0) q.0 in
           subst (λ (x : Value). (two p.year ++ (p.month ∷ p.day ∷ []) ≡ value_text x) × Of 3 x) (ok_is blank v h.1) (
             parts_text_same p.year p.month p.day 0 0 0 (eqb-true p.year 0 r.0) (eqb-true p.month 0 r.1)
                 (eqb-true p.day 0 q.1),
@@ -178,7 +178,7 @@ date_spells = made_spells (pair_spells two_spells (pair_spells byte_spells byte_
 
 bytes_pass : (bytes : List ℕ) → AllByRecursion (λ byte. byte < 256) bytes → list_all is_byte bytes ≡ true
 bytes_pass [] h = refl
-bytes_pass (b ∷ bytes) h = both_from (ltb b 256) (list_all is_byte bytes) (lt-ltb b 256 h.0) (bytes_pass bytes h.1)
+bytes_pass (b ∷ bytes) h = and_from (ltb b 256) (list_all is_byte bytes) (lt-ltb b 256 h.0) (bytes_pass bytes h.1)
 
 abbrev FromText : Value → Type 0
 FromText v = (bytes : List ℕ) × Unit {0} × (text_from bytes ≡ Ok v) × (value_text v ≡ counted_text bytes)
@@ -187,7 +187,7 @@ bytes_of_text : (v : Value) → Of 2 v → FromText v
 unfolding is_constant
 bytes_of_text (Number number) h = absurd (let e : 1 ≡ 2 = h.1 in omega arith)
 bytes_of_text (Text text) h = let p =
-    both_true (leb (length text.items) 254) (list_all is_byte text.items) h.0 in (text.items, tt, rw p.0 refl, refl)
+    and_parts (leb (length text.items) 254) (list_all is_byte text.items) h.0 in (text.items, tt, rw p.0 refl, refl)
 bytes_of_text (Date day) h = absurd (let e : 3 ≡ 2 = h.1 in omega arith)
 bytes_of_text (Logical truth) h = absurd (let e : 4 ≡ 2 = h.1 in omega arith)
 
@@ -198,7 +198,7 @@ text_value_spells = made_spells text_spells text_from value_text (Of 2) (Of 2)
     let made : Value = Text (record { items = bytes }) in
     let w = wanted_ok Shape (leb (length bytes) 254) made v e in
     subst (λ (x : Value). (counted_text bytes ≡ value_text x) × Of 2 x) {x = made} {y = v} w.1
-    (refl, (both_from (leb (length bytes) 254) (list_all is_byte bytes) w.0 (bytes_pass bytes fit.1), refl)))
+    (refl, (and_from (leb (length bytes) 254) (list_all is_byte bytes) w.0 (bytes_pass bytes fit.1), refl)))
     (λ v h. bytes_of_text v h)
 
 abbrev FromByte : Value → Type 0

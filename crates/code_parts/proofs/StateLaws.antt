@@ -4,7 +4,7 @@ use Rattle.std.proofs.Common.{length, reverse, Option, Some, Ok, refl, sym, ap, 
 use Rattle.std.specs.Prelude.{◌&&◌}
 use Rattle.std.specs.Int.{w16}
 use Rattle.std.specs.List.{flat_map}
-use Rattle.std.proofs.lemmas.Bool.{eqb-true, le-leb}
+use Rattle.std.proofs.lemmas.Bool.{eqb-true, le-leb, and_parts}
 use Rattle.std.proofs.lemmas.List.{reverse-reverse, length-reverse}
 use Rattle.xvalue.specs.declared.kind.Kind.{Kind}
 use Rattle.code_items.specs.declared.declared.Version.{Version}
@@ -22,7 +22,6 @@ use Rattle.code_parts.specs.Texts.{area_text, state_text, procedure_text, map_te
 use Rattle.code_parts.specs.Items.{kind_of_byte, need_from, need_at, needs_at, filter_at, open_from, open_read_at}
 use Rattle.code_parts.specs.Items.{area_behind, area_read_at, state_from, state_read_at, level_from, procedure_read_at}
 use Rattle.code_parts.specs.Items.{map_read_at}
-use Rattle.dbf_file.proofs.ChoiceLemmas.{both_true}
 use Rattle.code_parts.proofs.Combine.{behind_some, given, are_left, done, ok_is, steady_then, steady_give, pair_spells}
 use Rattle.code_parts.proofs.Combine.{made_spells, byte_spells, choice_spells}
 use Rattle.code_parts.proofs.Numbers.{steady_number, steady_several, several_spells, counted_spells, two_spells}
@@ -174,7 +173,7 @@ area_spells version = choice_spells (area_behind version) area_byte open_text (A
     (λ (n : ℕ). ReadsTexts (give (Ok Closed)) open_text (Numbered version n) (λ area. Unit {0} × (area_byte area ≡ n)))
     (sym (eqb-true b 0 is)) (closed_spells version))
     (λ some. if_spells (eqb b 255 && may_be_unsure version) (λ is.
-    let both = both_true (eqb b 255) (may_be_unsure version) is in
+    let both = and_parts (eqb b 255) (may_be_unsure version) is in
     subst (λ (n : ℕ). ReadsTexts (give (Ok Unsure)) open_text (Numbered version n)
     (λ area. Unit {0} × (area_byte area ≡ n))) (sym (eqb-true b 255 both.0)) (unsure_spells version both.1))
     (λ known. open_spells version b some known)))
