@@ -1,23 +1,9 @@
-// The same insertions and searches by libxbase64, whose index lies in a file beside its table.
-#include <xbase64/xbase64.h>
+// The same insertions and searches by libxbase64, whose index lies in a file beside its table. It doesn't find some keys
+// of ten bytes again.
+#include "../../tests/exchange/xbase_numbers.h"
 #include <chrono>
 #include <cstdint>
 #include <cstdio>
-#include <cstring>
-
-// The library reads numbers of four bytes as its long, which has eight on this processor, so that it can't read its own
-// index. These take the place of its two readers. Even so it doesn't find some keys of ten bytes again.
-xbLong xbXBase::GetLong(const char *p) {
-    int32_t number;
-    std::memcpy(&number, p, sizeof number);
-    return number;
-}
-
-xbULong xbXBase::GetULong(const char *p) {
-    uint32_t number;
-    std::memcpy(&number, p, sizeof number);
-    return number;
-}
 
 static const uint32_t KEYS = 100000;
 

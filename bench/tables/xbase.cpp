@@ -1,25 +1,11 @@
 // The works of bench/tables in libxbase64, in a folder that has its tables and indexes: xbase WORK, or xbase make, which makes the indexes.
-#include <xbase64/xbase64.h>
-#include <cstdint>
+#include "../../tests/exchange/xbase_numbers.h"
 #include <cstdio>
 #include <cstdlib>
 #include <cstring>
 #include <memory>
 #include <string>
 #include <vector>
-
-// The library reads numbers of four bytes as its long, which has eight on this processor. These take the place of its readers.
-xbLong xbXBase::GetLong(const char *p) {
-    int32_t number;
-    std::memcpy(&number, p, sizeof number);
-    return number;
-}
-
-xbULong xbXBase::GetULong(const char *p) {
-    uint32_t number;
-    std::memcpy(&number, p, sizeof number);
-    return number;
-}
 
 static xbXBase base;
 

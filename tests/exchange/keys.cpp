@@ -1,23 +1,9 @@
 // Indexes of libxbase64: makes one, or lists the records of one in its order.
-#include <xbase64/xbase64.h>
-#include <cstdint>
+#include "xbase_numbers.h"
 #include <cstdio>
 #include <cstdlib>
 #include <cstring>
 #include <string>
-
-// The library reads numbers of four bytes as its long, which has eight on this processor. These take the place of its readers.
-xbLong xbXBase::GetLong(const char *p) {
-    int32_t number;
-    std::memcpy(&number, p, sizeof number);
-    return number;
-}
-
-xbULong xbXBase::GetULong(const char *p) {
-    uint32_t number;
-    std::memcpy(&number, p, sizeof number);
-    return number;
-}
 
 // make LENGTH: a table OTHER.DBF and an index OTHER.NDX on its field K, of the keys on standard input
 static int make(int length) {

@@ -8,14 +8,14 @@ ghost use Rattle.calendar.specs.Days.{IsDay, HasDay};
 ghost use Rattle.calendar.specs.Calendar.{day_number, days_on, is_day, is_earlier};
 ghost use Rattle.calendar.specs.Laws.{LiesThere, IsSooner};
 
-/// The date so many days on is the day with the number that is so much greater, and blank where that is not a day's of
-/// the years 1 to 9999.
+/// A date some days on is the day whose day number is greater by so many. It is blank where no day of the years 1 to
+/// 9999 has that number.
 pub fn days_go_by_number()
     ensures { (days : ℤ) (parts : Parts) → IsDay parts
         → LiesThere (days_on days (Some parts)) (day_number parts +ℤ days) }
 {}
 
-/// A day is its day number: days with one number are the same, and the sooner day has the lesser number.
+/// Two days with the same day number are the same day. The sooner of two days has the lesser number.
 pub fn days_are_their_numbers()
     ensures same { (p q : Parts) → IsDay p → IsDay q → day_number p ≡ day_number q → p ≡ q }
     ensures sooner { (p q : Parts) → IsDay p → IsDay q → (day_number p <ℤ day_number q) ↔ IsSooner p q }

@@ -1,10 +1,10 @@
 -- What is known of a legal code.
-use Rattle.std.proofs.Common.{◌≡◌, ℕ, ◌≤◌, ◌-◌, Bool, true, false, ◌&&◌, nat_le, List, [], ◌∷◌, ◌++◌, length, refl}
+use Rattle.std.proofs.Common.{◌≡◌, ℕ, ◌≤◌, ◌-◌, true, ◌&&◌, nat_le, List, [], ◌∷◌, ◌++◌, length}
 use Rattle.std.proofs.Common.{arith}
 use Rattle.std.specs.Prelude.{map}
 use Rattle.shape.specs.Lists.{is_list}
 use Rattle.std.specs.List.{list_all}
-use Rattle.std.proofs.lemmas.Bool.{leb-true}
+use Rattle.std.proofs.lemmas.Bool.{leb-true, and_parts}
 use Rattle.shape.specs.Whole.{is_shape}
 use Rattle.code_items.specs.declared.code.Proc.{Proc}
 use Rattle.code_items.specs.declared.code.Code.{Code}
@@ -16,10 +16,6 @@ use Rattle.code_items.specs.Legal.{maps_rise, procedures_are_legal, maps_are_leg
 use Rattle.code_items.specs.Legal.{IsCode}
 use Rattle.code_items.specs.Facts.{Facts}
 
-both : (a b : Bool) → a && b ≡ true → (a ≡ true) × (b ≡ true)
-both true b e = (refl, e)
-both false b e = absurd (cc)
-
 some_there : (procedures : List Proc) → begins_blank procedures ≡ true → 1 ≤ length procedures
 some_there [] e = absurd (cc)
 some_there (p ∷ ps) e = omega arith
@@ -28,30 +24,48 @@ some_there (p ∷ ps) e = omega arith
 filled_within : (left : ℕ) (ns ms : List ℕ) → blocks_fill left (ns ++ ms) ≡ true → places_in_all ns ≤ left
 filled_within left [] ms e = omega arith
 filled_within left (n ∷ ns) ms e =
-    let a = both (nat_le 1 n && nat_le n left) (blocks_fill (left - n) (ns ++ ms)) e in
-    let b = both (nat_le 1 n) (nat_le n left) a.0 in
+    let a = and_parts (nat_le 1 n && nat_le n left) (blocks_fill (left - n) (ns ++ ms)) e in
+    let b = and_parts (nat_le 1 n) (nat_le n left) a.0 in
     omega (arith, leb-true n left b.1, filled_within (left - n) ns ms a.1)
 
 pub facts : (code : Code) → IsCode code → Facts code
 unfolding is_code are_declared
 facts code e =
-    let a = both (are_declared code.declared && procedures_are_legal code && maps_are_legal code) (instructions_are_legal code) e in
-    let b = both (are_declared code.declared && procedures_are_legal code) (maps_are_legal code) a.0 in
-    let c = both (are_declared code.declared) (procedures_are_legal code) b.0 in
-    let d = both (nat_le code.declared.stack_bound 64 && nat_le code.declared.slots 256 && is_shape code.declared.shape && lists_are_legal code.declared && constants_are_legal code.declared) (filters_are_legal code.declared) c.0 in
-    let f = both (nat_le code.declared.stack_bound 64 && nat_le code.declared.slots 256 && is_shape code.declared.shape && lists_are_legal code.declared) (constants_are_legal code.declared) d.0 in
-    let g = both (nat_le code.declared.stack_bound 64 && nat_le code.declared.slots 256 && is_shape code.declared.shape) (lists_are_legal code.declared) f.0 in
-    let h = both (nat_le code.declared.stack_bound 64 && nat_le code.declared.slots 256) (is_shape code.declared.shape) g.0 in
-    let k = both (nat_le code.declared.stack_bound 64) (nat_le code.declared.slots 256) h.0 in
-    let l = both (nat_le (length code.declared.filters) 64) (list_all (is_filter (length code.declared.shape.tables) code.declared.slots) code.declared.filters) d.1 in
-    let m = both (nat_le (length code.procedures) 256 && list_all (is_procedure code.declared) code.procedures) (begins_blank code.procedures) c.1 in
-    let n = both (nat_le (length code.procedures) 256) (list_all (is_procedure code.declared) code.procedures) m.0 in
-    let o = both (nat_le (length code.maps) 4096 && list_all (is_map code.declared) code.maps) (maps_rise 0 (places_of code.procedures) code.maps) b.1 in
-    let ls = both (nat_le (length code.declared.lists) 64) (list_all (is_list code.declared.shape.indexes) code.declared.lists) g.1 in
-    let w = both (nat_le 1 (length code.instructions) && nat_le (length code.instructions) 65535 && list_all (is_instr code.declared.version) code.instructions) (blocks_fill (length code.instructions) (blocks_of code.procedures code.declared.filters)) a.1 in
-    let p = both (nat_le 1 (length code.instructions) && nat_le (length code.instructions) 65535) (list_all (is_instr code.declared.version) code.instructions) w.0 in
-    let q = both (nat_le 1 (length code.instructions) && nat_le (length code.instructions) 65535) (list_all (is_instr code.declared.version) code.instructions) w.0 in
-    let r = both (nat_le 1 (length code.instructions)) (nat_le (length code.instructions) 65535) q.0 in
+    let a = and_parts (are_declared code.declared && procedures_are_legal code && maps_are_legal code)
+    (instructions_are_legal code) e in
+    let b = and_parts (are_declared code.declared && procedures_are_legal code) (maps_are_legal code) a.0 in
+    let c = and_parts (are_declared code.declared) (procedures_are_legal code) b.0 in
+    let d = and_parts
+    (nat_le code.declared.stack_bound 64 && nat_le code.declared.slots 256 && is_shape code.declared.shape
+    && lists_are_legal code.declared && constants_are_legal code.declared) (filters_are_legal code.declared) c.0 in
+    let f = and_parts
+    (nat_le code.declared.stack_bound 64 && nat_le code.declared.slots 256 && is_shape code.declared.shape
+    && lists_are_legal code.declared) (constants_are_legal code.declared) d.0 in
+    let g = and_parts
+    (nat_le code.declared.stack_bound 64 && nat_le code.declared.slots 256 && is_shape code.declared.shape)
+    (lists_are_legal code.declared) f.0 in
+    let h = and_parts (nat_le code.declared.stack_bound 64 && nat_le code.declared.slots 256)
+    (is_shape code.declared.shape) g.0 in
+    let k = and_parts (nat_le code.declared.stack_bound 64) (nat_le code.declared.slots 256) h.0 in
+    let l = and_parts (nat_le (length code.declared.filters) 64)
+    (list_all (is_filter (length code.declared.shape.tables) code.declared.slots) code.declared.filters) d.1 in
+    let m = and_parts (nat_le (length code.procedures) 256 && list_all (is_procedure code.declared) code.procedures)
+    (begins_blank code.procedures) c.1 in
+    let n = and_parts (nat_le (length code.procedures) 256)
+    (list_all (is_procedure code.declared) code.procedures) m.0 in
+    let o = and_parts (nat_le (length code.maps) 4096 && list_all (is_map code.declared) code.maps)
+    (maps_rise 0 (places_of code.procedures) code.maps) b.1 in
+    let ls = and_parts (nat_le (length code.declared.lists) 64)
+    (list_all (is_list code.declared.shape.indexes) code.declared.lists) g.1 in
+    let w = and_parts
+    (nat_le 1 (length code.instructions) && nat_le (length code.instructions) 65535
+    && list_all (is_instr code.declared.version) code.instructions)
+    (blocks_fill (length code.instructions) (blocks_of code.procedures code.declared.filters)) a.1 in
+    let p = and_parts (nat_le 1 (length code.instructions) && nat_le (length code.instructions) 65535)
+    (list_all (is_instr code.declared.version) code.instructions) w.0 in
+    let q = and_parts (nat_le 1 (length code.instructions) && nat_le (length code.instructions) 65535)
+    (list_all (is_instr code.declared.version) code.instructions) w.0 in
+    let r = and_parts (nat_le 1 (length code.instructions)) (nat_le (length code.instructions) 65535) q.0 in
     record {
       stack_bound = leb-true code.declared.stack_bound 64 k.0;
       slots = leb-true code.declared.slots 256 k.1;

@@ -1,17 +1,14 @@
 -- Tests along two lists, as chains of iterators make them.
-use Rattle.std.proofs.Common.{◌≡◌, ◌≢◌, ◌<◌, ◌≤◌, ◌-◌, ℕ, zero, suc, refl, ap, sym, ◌∙◌, Bool, true, false, not, ◌||◌}
+use Rattle.std.proofs.Common.{◌≡◌, ◌≢◌, ◌<◌, ◌≤◌, ◌-◌, ℕ, zero, suc, refl, ap, sym, ◌∙◌, Bool, false, not, ◌||◌}
 use Rattle.std.proofs.Common.{◌&&◌, List, [], ◌∷◌, ◌++◌, ◌+◌, length, take, drop, set, replicate, arith}
 use Rattle.std.proofs.lemmas.List.{length-reverse, length-drop, take-append-drop, reverse-append}
 use Rattle.std.specs.Prelude.{reverse}
 use Rattle.std.specs.List.{list_any, list_all, zip}
+use Rattle.std.proofs.lemmas.Bool.{and_right}
 use Rattle.xvalue.specs.declared.kind.Kind.{Kind}
 use Rattle.xvalue.specs.Kinds.{same_kind}
 use Rattle.code_items.specs.Pairs.{along}
 use Rattle.code_items.specs.Kinds.{clashes, other_kind, same_kinds, same_pair, kinds_covered}
-
-and_false : (b : Bool) → (b && false) ≡ false
-and_false true = refl
-and_false false = refl
 
 pub all_along : {A : Type 0} (test : A × A → Bool) (as' bs : List A) → length as' ≡ length bs → list_all test (zip as' bs) ≡ along test as' bs
 all_along test [] [] e = refl
@@ -23,7 +20,8 @@ pub not_along : {A : Type 0} (test : A × A → Bool) (as' bs : List A) → leng
 not_along test [] [] e = absurd (e refl)
 not_along test (a ∷ as') [] e = refl
 not_along test [] (b ∷ bs) e = refl
-not_along test (a ∷ as') (b ∷ bs) e = rw (not_along test as' bs (λ f. e (omega (arith, f)))) (and_false (test (a, b)))
+not_along test (a ∷ as') (b ∷ bs) e =
+    rw (not_along test as' bs (λ f. e (omega (arith, f)))) (and_right (test (a, b)) false refl)
 
 pub any_other : (kinds there : List Kind) → list_any other_kind (zip there kinds) ≡ clashes kinds there
 any_other [] [] = refl

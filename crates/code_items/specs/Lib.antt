@@ -6,4 +6,5 @@ pub mod Instrs
 pub mod Kinds
 pub mod Legal
 pub mod Pairs
+pub mod Showing
 pub mod States

@@ -9,8 +9,8 @@ ghost use Rattle.code_items.specs.Desks.{all_closed};
 use shape::Items;
 use std::alloc::{AllocError, Global};
 
-/// What an open work area holds: a table, counted from 0; a list of indexes and a filter, counted from 1, or 0 for
-/// none; and the order, 0 for that of the records and else one of the list's indexes, counted from 1.
+/// What an open work area holds. Its table is counted from 0. Its list of indexes and its filter are counted from 1,
+/// and 0 is none. Its order is 0 for that of the records, and else one of the list's indexes, counted from 1.
 #[derive(Clone, Copy, PartialEq)]
 pub struct OpenArea {
     pub table: u16,

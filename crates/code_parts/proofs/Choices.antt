@@ -1,7 +1,7 @@
 -- What tests and look-ups that didn't fail say.
 use Rattle.std.proofs.Common.{◌⊎◌, inl, inr, ◌≡◌, ℕ, Bool, true, false, cond, eqb, List, [], ◌∷◌, Option, Some, None}
 use Rattle.std.proofs.Common.{Ok, refl, ap, ◌∙◌}
-use Rattle.std.specs.Prelude.{◌&&◌, ◌||◌}
+use Rattle.std.specs.Prelude.{◌||◌}
 use Rattle.std.specs.List.{AllByRecursion}
 use Rattle.std.proofs.lemmas.Bool.{eqb-true}
 use Rattle.dbf_file.proofs.ChoiceLemmas.{chosen}
@@ -10,7 +10,7 @@ use Rattle.xvalue.specs.declared.kind.Kind.TheVariants.{Number as OfNumber, Text
 use Rattle.xvalue.specs.declared.kind.Kind.TheVariants.{Logical as OfLogical}
 use Rattle.code_parts.specs.declared.flaw.Flaw.{Flaw}
 use Rattle.code_parts.specs.Reading.{Reader, Judged}
-use Rattle.code_parts.specs.Laws.{Spells}
+use Rattle.code_parts.specs.Laws.{ReadsTexts}
 use Rattle.code_parts.specs.Texts.{kind_number, truth_number}
 use Rattle.code_parts.specs.Items.{wanted, there, kind_of_byte, truth_of_byte}
 use Rattle.code_parts.proofs.Combine.{some, some_is}
@@ -18,9 +18,6 @@ use Rattle.code_parts.proofs.Combine.{some, some_is}
 pub all_any : {A : Type 0} (xs : List A) → AllByRecursion (λ (x : A). Unit {0}) xs
 all_any [] = tt
 all_any (x ∷ xs) = (tt, all_any xs)
-
-pub both_from : (a b : Bool) → a ≡ true → b ≡ true → (a && b) ≡ true
-both_from a b e f = rw (e, f) refl
 
 pub either_true : (a b : Bool) → (a || b) ≡ true → (a ≡ true) ⊎ (b ≡ true)
 either_true true b e = inl refl
@@ -71,6 +68,6 @@ truth_is false = refl
 
 -- a reader chosen by a test
 pub if_spells : {X : Type 0} {r s : Reader (Judged X)} {t : X → List ℕ} {P G : X → Type 0} (test : Bool)
-    → (test ≡ true → Spells r t P G) → (test ≡ false → Spells s t P G) → Spells (cond test r s) t P G
+    → (test ≡ true → ReadsTexts r t P G) → (test ≡ false → ReadsTexts s t P G) → ReadsTexts (cond test r s) t P G
 if_spells true holds fails = holds refl
 if_spells false holds fails = fails refl

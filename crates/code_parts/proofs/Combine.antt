@@ -5,7 +5,7 @@ use Rattle.std.proofs.lemmas.List.{get_or-append-add}
 use Rattle.code_parts.specs.declared.flaw.Flaw.{Flaw}
 use Rattle.code_parts.specs.Reading.{Front, Reader, ◌>>=◌, read_behind, give, byte_at, Judged, judge, both_judged, sure}
 use Rattle.code_parts.specs.Reading.{pair_read_at, made_at, by_byte}
-use Rattle.code_parts.specs.Laws.{AreBytes, IsSteady, Spells}
+use Rattle.code_parts.specs.Laws.{AreBytes, IsSteady, ReadsTexts}
 
 -- ---- steady readers
 
@@ -66,8 +66,8 @@ both_ok (Ok a) (Err f) x e = absurd cc
 both_ok (Err f) second x e = absurd cc
 
 pub pair_spells : {A B : Type 0} {r : Reader (Judged A)} {s : Reader (Judged B)} {t : A → List ℕ} {u : B → List ℕ}
-    {P G : A → Type 0} {Q H : B → Type 0} → Spells r t P G → Spells s u Q H
-    → Spells (pair_read_at r s) (λ p. t p.0 ++ u p.1) (λ p. P p.0 × Q p.1) (λ p. G p.0 × H p.1)
+    {P G : A → Type 0} {Q H : B → Type 0} → ReadsTexts r t P G → ReadsTexts s u Q H
+    → ReadsTexts (pair_read_at r s) (λ p. t p.0 ++ u p.1) (λ p. P p.0 × Q p.1) (λ p. G p.0 × H p.1)
 pair_spells {A} {B} {r} {s} {t} {u} {P} {G} {Q} {H} first second = record {
   again = λ p rest h. ap (pair_read_at r s) (append_assoc (t p.0) (u p.1) rest)
       ∙ rw (first.again p.0 (u p.1 ++ rest) h.0, second.again p.1 rest h.1) refl;
@@ -92,11 +92,11 @@ judge_ok : {A B : Type 0} (first : Judged A) (make : A → Judged B) (y : B) →
 judge_ok (Ok x) make y e = (x, refl, e)
 judge_ok (Err f) make y e = absurd cc
 
-pub made_spells : {A B : Type 0} {r : Reader (Judged A)} {t : A → List ℕ} {P G : A → Type 0} → Spells r t P G
+pub made_spells : {A B : Type 0} {r : Reader (Judged A)} {t : A → List ℕ} {P G : A → Type 0} → ReadsTexts r t P G
     → (make : A → Judged B) (u : B → List ℕ) (Q H : B → Type 0)
     → ((x : A) (y : B) → G x → make x ≡ Ok y → (t x ≡ u y) × H y)
     → ((y : B) → Q y → (x : A) × P x × (make x ≡ Ok y) × (u y ≡ t x))
-    → Spells (made_at r make) u Q H
+    → ReadsTexts (made_at r make) u Q H
 made_spells {A} {B} {r} {t} {P} {G} law make u Q H back forth = record {
   again = λ y rest h.
       let x = forth y h in
@@ -114,7 +114,7 @@ made_spells {A} {B} {r} {t} {P} {G} law make u Q H back forth = record {
 }
 
 pub flawed_spells : {X : Type 0} (f : Flaw) (t : X → List ℕ) (P G : X → Type 0) → ((x : X) → P x → ⊥)
-    → Spells (give (Err f)) t P G
+    → ReadsTexts (give (Err f)) t P G
 flawed_spells {X} f t P G none = record {
   again = λ x rest h. absurd (none x h);
   takes = λ bytes rest x fit e. absurd (never x bytes rest e);
@@ -137,7 +137,7 @@ steady_byte = record { stays = λ bytes more rest x e. step bytes more rest x (b
     step : (bytes more rest : List ℕ) (x : ℕ) → bytes ≡ x ∷ rest → byte_at (bytes ++ more) ≡ Some (x, rest ++ more)
     step bytes more rest x e = rw e refl
 
-pub byte_spells : Spells (sure byte_at) (λ b. b ∷ []) (λ b. Unit {0}) (λ b. b < 256)
+pub byte_spells : ReadsTexts (sure byte_at) (λ b. b ∷ []) (λ b. Unit {0}) (λ b. b < 256)
 byte_spells = record {
   again = λ b rest h. refl;
   takes = λ bytes rest b fit e.
@@ -151,8 +151,8 @@ byte_spells = record {
 }
 
 pub choice_spells : {X : Type 0} (choose : ℕ → Reader (Judged X)) (tag : X → ℕ) (t : X → List ℕ) (P G : X → Type 0)
-    → ((b : ℕ) → Spells (choose b) t (λ x. P x × (tag x ≡ b)) (λ x. G x × (tag x ≡ b)))
-    → Spells (by_byte choose) (λ x. tag x ∷ t x) P G
+    → ((b : ℕ) → ReadsTexts (choose b) t (λ x. P x × (tag x ≡ b)) (λ x. G x × (tag x ≡ b)))
+    → ReadsTexts (by_byte choose) (λ x. tag x ∷ t x) P G
 choice_spells {X} choose tag t P G each = record {
   again = λ x rest h. (each (tag x)).again x rest (h, refl);
   takes = λ bytes rest x fit e.

@@ -1,7 +1,7 @@
 -- Laws of the reader of instructions.
 use Rattle.std.proofs.Common.{◌≡◌, ℕ, ◌^◌, ◌<◌, Bool, true, false, eqb, eq-eqb, Some, Ok, refl, subst, arith}
 use Rattle.std.specs.Prelude.{◌&&◌}
-use Rattle.std.proofs.lemmas.Bool.{eqb-true, ltb-true}
+use Rattle.std.proofs.lemmas.Bool.{eqb-true, ltb-true, and_parts, and_from}
 use Rattle.xvalue.specs.Signature.{function_number, NumbersAgree}
 use Rattle.code_items.specs.declared.declared.Version.{Version}
 use Rattle.xvalue.specs.declared.settings.Setting.TheVariants.{Exact, Deleted, Century}
@@ -25,22 +25,21 @@ use Rattle.code_items.specs.declared.instr.Instr.TheVariants.{Values, Flow, Scre
 use Rattle.code_items.specs.Instrs.{is_instr, is_two, is_four, is_area}
 use Rattle.code_parts.specs.declared.flaw.Flaw.TheVariants.{Operation}
 use Rattle.code_parts.specs.declared.operands.InstrParts.{InstrParts}
-use Rattle.code_parts.specs.Laws.{Spells, IsLegalInstr}
+use Rattle.code_parts.specs.Laws.{ReadsTexts, IsLegalInstr}
 use Rattle.code_parts.specs.Texts.{kind_number, truth_number}
 use Rattle.code_parts.specs.Items.{wanted}
 use Rattle.code_parts.specs.Instructions.{setting_number, question_number, instr_parts, parts_of, parts_text}
 use Rattle.code_parts.specs.Instructions.{instr_text, low_instr, flow_instr, area_instr, record_instr, screen_instr}
 use Rattle.code_parts.specs.Instructions.{any_instr, same_parts, is_just, instr_from, instr_read_at}
-use Rattle.dbf_file.proofs.ChoiceLemmas.{both_true}
 use Rattle.code_parts.proofs.Combine.{pair_spells, made_spells, byte_spells}
 use Rattle.code_parts.proofs.Numbers.{two_spells, four_spells}
-use Rattle.code_parts.proofs.Choices.{both_from, wanted_ok, there_ok, kind_is}
+use Rattle.code_parts.proofs.Choices.{wanted_ok, there_ok, kind_is}
 
 parts_same : (p q : InstrParts) → same_parts p q ≡ true → parts_text p ≡ parts_text q
 parts_same p q e =
-    let x = both_true (eqb p.operation q.operation && eqb p.a q.a && eqb p.b q.b) (eqb p.c q.c) e in
-    let y = both_true (eqb p.operation q.operation && eqb p.a q.a) (eqb p.b q.b) x.0 in
-    let z = both_true (eqb p.operation q.operation) (eqb p.a q.a) y.0 in
+    let x = and_parts (eqb p.operation q.operation && eqb p.a q.a && eqb p.b q.b) (eqb p.c q.c) e in
+    let y = and_parts (eqb p.operation q.operation && eqb p.a q.a) (eqb p.b q.b) x.0 in
+    let z = and_parts (eqb p.operation q.operation) (eqb p.a q.a) y.0 in
     texts p.operation p.a p.b p.c q.operation q.a q.b q.c (eqb-true p.operation q.operation z.0) (eqb-true p.a q.a z.1)
     (eqb-true p.b q.b y.1) (eqb-true p.c q.c x.1)
   where
@@ -148,7 +147,7 @@ place_fits o c e = let lt = ltb-true c 4294967296 e in (omega arith, omega (arit
 
 open_fits : (b c : ℕ) → (is_two b && is_four c) ≡ true → Fit (instr_parts 0x20 0 b c)
 open_fits b c e =
-    let p = both_true (is_two b) (is_four c) e in
+    let p = and_parts (is_two b) (is_four c) e in
     let lt = ltb-true b 65536 p.0 in
     let lt' = ltb-true c 4294967296 p.1 in
     (omega (arith, lt), omega (arith, lt'))
@@ -199,7 +198,7 @@ moves_fit Go = no_numbers 0x29 0
 moves_fit Seek = no_numbers 0x2A 0
 
 records_fit : (version : Version) (i : RecordInstr) → is_instr version (Records i) ≡ true → Fit (parts_of (Records i))
-records_fit version (Field area field) h = number_fits 0x06 area field (both_true (is_area area) (is_two field) h).1
+records_fit version (Field area field) h = number_fits 0x06 area field (and_parts (is_area area) (is_two field) h).1
 records_fit version (RowField field) h = number_fits 0x07 0 field h
 records_fit version (Ask question) h = no_numbers 0x09 (question_number question)
 records_fit version Append h = no_numbers 0x30 0
@@ -223,7 +222,7 @@ made_of : NumbersAgree → (version : Version) (i : Instr) → is_instr version 
     → instr_from version (parts_of i) ≡ Ok i
 unfolding instr_from
 made_of agree version i h = rw
-    (found agree i, both_from (is_instr version i) (same_parts (parts_of i) (parts_of i)) h (same_again (parts_of i)))
+    (found agree i, and_from (is_instr version i) (same_parts (parts_of i) (parts_of i)) h (same_again (parts_of i)))
     refl
 
 was_made : (version : Version) (p : InstrParts) (i : Instr) → instr_from version p ≡ Ok i
@@ -233,12 +232,12 @@ was_made version p i e =
     let make = λ (j : Instr). wanted Operation (is_just version p j) j in
     let j = there_ok Operation (any_instr p) make i e in
     let w = wanted_ok Operation (is_just version p j.0) j.0 i j.2 in
-    let both = both_true (is_instr version j.0) (same_parts p (parts_of j.0)) w.0 in
+    let both = and_parts (is_instr version j.0) (same_parts p (parts_of j.0)) w.0 in
     subst (λ (k : Instr). (parts_text p ≡ instr_text k) × IsLegalInstr version k) w.1
     (parts_same p (parts_of j.0) both.1, both.0)
 
 pub instr_spells : NumbersAgree → (version : Version)
-    → Spells (instr_read_at version) instr_text (IsLegalInstr version) (IsLegalInstr version)
+    → ReadsTexts (instr_read_at version) instr_text (IsLegalInstr version) (IsLegalInstr version)
 unfolding instr_read_at
 instr_spells agree version = made_spells
     (pair_spells byte_spells (pair_spells byte_spells (pair_spells two_spells four_spells))) _ instr_text

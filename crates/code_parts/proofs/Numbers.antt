@@ -11,7 +11,7 @@ use Rattle.std.proofs.lemmas.Nat.{le_bytes_2, le_bytes_4, le_bytes_8, from_le_by
 use Rattle.std.proofs.lemmas.Nat.{from_le_bytes-to_le_bytes_4, from_le_bytes-to_le_bytes_8}
 use Rattle.code_parts.specs.Reading.{Front, Reader, ◌>>=◌, give, byte_at, bytes_at, number_read_at, text_read_at}
 use Rattle.code_parts.specs.Reading.{Judged, put_before, several, sure, counted_at}
-use Rattle.code_parts.specs.Laws.{AreBytes, IsSteady, Spells}
+use Rattle.code_parts.specs.Laws.{AreBytes, IsSteady, ReadsTexts}
 use Rattle.code_parts.proofs.Combine.{ok_is, done, given, are_left, behind_some, byte_takes, steady_then, steady_give}
 use Rattle.code_parts.proofs.Combine.{steady_byte}
 use Rattle.std.proofs.Common.{inl, inr}
@@ -104,7 +104,7 @@ steady_number w = record {
         ) refl
 
 pub number_spells : (w : Width) (limit : ℕ) → IsWide w limit
-    → Spells (sure (number_read_at w)) (to_le_bytes w) (λ n. n < limit) (λ n. n < limit)
+    → ReadsTexts (sure (number_read_at w)) (to_le_bytes w) (λ n. n < limit) (λ n. n < limit)
 number_spells w limit wide = record {
   again = λ n rest lt.
       let len = wide.len n in
@@ -134,13 +134,13 @@ number_spells w limit wide = record {
   steady = steady_then (steady_number w) (λ x. steady_give (Ok x));
 }
 
-pub two_spells : Spells (sure (number_read_at w16)) (to_le_bytes w16) (λ n. n < 2 ^ 16) (λ n. n < 2 ^ 16)
+pub two_spells : ReadsTexts (sure (number_read_at w16)) (to_le_bytes w16) (λ n. n < 2 ^ 16) (λ n. n < 2 ^ 16)
 two_spells = number_spells w16 (2 ^ 16) wide16
 
-pub four_spells : Spells (sure (number_read_at w32)) (to_le_bytes w32) (λ n. n < 2 ^ 32) (λ n. n < 2 ^ 32)
+pub four_spells : ReadsTexts (sure (number_read_at w32)) (to_le_bytes w32) (λ n. n < 2 ^ 32) (λ n. n < 2 ^ 32)
 four_spells = number_spells w32 (2 ^ 32) wide32
 
-pub eight_spells : Spells (sure (number_read_at w64)) (to_le_bytes w64) (λ n. n < 2 ^ 64) (λ n. n < 2 ^ 64)
+pub eight_spells : ReadsTexts (sure (number_read_at w64)) (to_le_bytes w64) (λ n. n < 2 ^ 64) (λ n. n < 2 ^ 64)
 eight_spells = number_spells w64 (2 ^ 64) wide64
 
 -- ---- texts
@@ -162,7 +162,7 @@ each_byte : (bytes : List ℕ) → AreBytes bytes → AllByRecursion (λ byte. b
 each_byte [] fits = tt
 each_byte (b ∷ bytes) fits = (fits 0, each_byte bytes (λ i. fits (suc i)))
 
-pub text_spells : Spells (sure text_read_at) (λ xs. length xs ∷ xs) (λ xs. Unit {0})
+pub text_spells : ReadsTexts (sure text_read_at) (λ xs. length xs ∷ xs) (λ xs. Unit {0})
     (λ xs. (length xs < 256) × AllByRecursion (λ byte. byte < 256) xs)
 text_spells = record {
   again = λ xs rest h.
@@ -210,7 +210,7 @@ steady_several law zero = steady_give (Ok [])
 steady_several law (suc n) = steady_then law
     (λ first. steady_then (steady_several law n) (λ others. steady_give (put_before first others)))
 
-several_again : {A : Type 0} {one : Reader (Judged A)} {text : A → List ℕ} {P G : A → Type 0} → Spells one text P G
+several_again : {A : Type 0} {one : Reader (Judged A)} {text : A → List ℕ} {P G : A → Type 0} → ReadsTexts one text P G
     → (xs : List A) (rest : List ℕ) → AllByRecursion P xs
     → several one (length xs) (flat_map text xs ++ rest) ≡ Some (Ok xs, rest)
 unfolding several
@@ -221,7 +221,7 @@ several_again {A} {one} {text} {P} {G} law (x ∷ xs) rest h =
     ap (several one (suc (length xs))) regrouped
     ∙ rw (law.again x (flat_map text xs ++ rest) h.0, several_again law xs rest h.1) refl
 
-several_takes : {A : Type 0} {one : Reader (Judged A)} {text : A → List ℕ} {P G : A → Type 0} → Spells one text P G
+several_takes : {A : Type 0} {one : Reader (Judged A)} {text : A → List ℕ} {P G : A → Type 0} → ReadsTexts one text P G
     → (n : ℕ) (bytes rest : List ℕ) (all : List A) → AreBytes bytes → several one n bytes ≡ Some (Ok all, rest)
     → (bytes ≡ flat_map text all ++ rest) × (length all ≡ n) × AllByRecursion G all
 unfolding several
@@ -247,8 +247,9 @@ several_takes {A} {one} {text} {P} {G} law (suc n) bytes rest all fit e =
     subst (λ (ys : List A). (bytes ≡ flat_map text ys ++ rest) × (length ys ≡ suc n) × AllByRecursion G ys) made.4
     (whole, ap suc back.1, (front.1, back.2))
 
-pub several_spells : {A : Type 0} {one : Reader (Judged A)} {text : A → List ℕ} {P G : A → Type 0} → Spells one text P G
-    → (n : ℕ) → Spells (several one n) (flat_map text) (λ xs. (length xs ≡ n) × AllByRecursion P xs)
+pub several_spells : {A : Type 0} {one : Reader (Judged A)} {text : A → List ℕ} {P G : A → Type 0}
+    → ReadsTexts one text P G
+    → (n : ℕ) → ReadsTexts (several one n) (flat_map text) (λ xs. (length xs ≡ n) × AllByRecursion P xs)
     (λ xs. (length xs ≡ n) × AllByRecursion G xs)
 several_spells {A} {one} {text} {P} {G} law n = record {
   again = λ xs rest h. ap (λ (k : ℕ). several one k (flat_map text xs ++ rest)) (sym h.0)
@@ -257,8 +258,9 @@ several_spells {A} {one} {text} {P} {G} law n = record {
   steady = steady_several law.steady n;
 }
 
-pub counted_spells : {A : Type 0} {one : Reader (Judged A)} {text : A → List ℕ} {P G : A → Type 0} → Spells one text P G
-    → Spells (counted_at one) (λ xs. length xs ∷ flat_map text xs) (λ xs. AllByRecursion P xs)
+pub counted_spells : {A : Type 0} {one : Reader (Judged A)} {text : A → List ℕ} {P G : A → Type 0}
+    → ReadsTexts one text P G
+    → ReadsTexts (counted_at one) (λ xs. length xs ∷ flat_map text xs) (λ xs. AllByRecursion P xs)
     (λ xs. (length xs < 256) × AllByRecursion G xs)
 counted_spells {A} {one} {text} {P} {G} law = record {
   again = λ xs rest h. several_again law xs rest h;

@@ -12,7 +12,7 @@ use Rattle.dbf_file.specs.Fields.{code_of, letter_of}
 use Rattle.shape.specs.declared.parts.KeyPart.{KeyPart}
 use Rattle.shape.specs.declared.lists.IndexList.{IndexList}
 use Rattle.code_parts.specs.declared.flaw.Flaw.TheVariants.{Shape}
-use Rattle.code_parts.specs.Laws.{Spells, Any, HasName, FieldFits, TableFits, IndexFits, ListFits}
+use Rattle.code_parts.specs.Laws.{ReadsTexts, Any, HasName, FieldFits, TableFits, IndexFits, ListFits}
 use Rattle.code_parts.specs.Texts.{kind_number, slot_number, truth_number, kind_text, slot_text, name_text, field_text}
 use Rattle.code_parts.specs.Texts.{table_text, key_part_text, index_text, list_text}
 use Rattle.code_parts.specs.Items.{there, kind_of_byte, kind_from, slot_from, truth_of_byte, kind_at, slot_at}
@@ -24,7 +24,7 @@ use Rattle.code_parts.proofs.Choices.{all_any, wanted_ok, there_ok, kind_was, ki
 use Rattle.dbf_file.proofs.ChoiceLemmas.{chosen}
 use Rattle.dbf_file.proofs.DescriptorLemmas.{letter_told, letter_again}
 
-pub kind_spells : Spells kind_at kind_text Any Any
+pub kind_spells : ReadsTexts kind_at kind_text Any Any
 unfolding kind_at
 kind_spells = made_spells byte_spells kind_from kind_text Any Any
     (λ b kind fit e.
@@ -49,13 +49,13 @@ slot_is (Some OfText) = refl
 slot_is (Some OfDate) = refl
 slot_is (Some OfLogical) = refl
 
-pub slot_spells : Spells slot_at slot_text Any Any
+pub slot_spells : ReadsTexts slot_at slot_text Any Any
 unfolding slot_at
 slot_spells = made_spells byte_spells slot_from slot_text Any Any
     (λ b slot fit e. (ap (λ (n : ℕ). n ∷ []) (slot_was b slot e), tt))
     (λ slot h. (slot_number slot, tt, slot_is slot, refl))
 
-name_spells : Spells name_read_at name_text HasName Any
+name_spells : ReadsTexts name_read_at name_text HasName Any
 unfolding name_read_at
 name_spells = made_spells text_spells name_from name_text HasName Any
     (λ bytes name fit e.
@@ -63,7 +63,7 @@ name_spells = made_spells text_spells name_from name_text HasName Any
     (ap name_text (wanted_ok Shape (leb (length bytes) 10) made name e).1, tt))
     (λ name h. (name.items, tt, rw (le-leb (length name.items) 10 h) refl, refl))
 
-pub field_spells : Spells field_at field_text FieldFits Any
+pub field_spells : ReadsTexts field_at field_text FieldFits Any
 unfolding field_at
 field_spells = made_spells (pair_spells name_spells (pair_spells byte_spells (pair_spells byte_spells byte_spells)))
     field_from field_text FieldFits Any
@@ -82,13 +82,13 @@ field_spells = made_spells (pair_spells name_spells (pair_spells byte_spells (pa
       refl,
     ))
 
-pub table_spells : Spells table_read_at table_text TableFits Any
+pub table_spells : ReadsTexts table_read_at table_text TableFits Any
 unfolding table_read_at
 table_spells = made_spells (pair_spells name_spells (counted_spells field_spells)) _ table_text TableFits Any
     (λ p t fit e. (ap table_text (ok_is _ t e), tt))
     (λ t h. ((t.name, t.fields), (h.name, h.fields), refl, refl))
 
-part_spells : Spells part_at key_part_text Any Any
+part_spells : ReadsTexts part_at key_part_text Any Any
 unfolding part_at
 part_spells = made_spells (pair_spells byte_spells byte_spells) part_from key_part_text Any Any
     (λ (field, number) part fit e.
@@ -97,14 +97,14 @@ part_spells = made_spells (pair_spells byte_spells byte_spells) part_from key_pa
     (ap (λ (n : ℕ). field ∷ n ∷ []) (truth_was number u.0 u.1) ∙ ap key_part_text (ok_is (make u.0) part u.2), tt))
     (λ part h. ((part.field, truth_number part.upper), (tt, tt), rw (truth_is part.upper) refl, refl))
 
-pub index_spells : Spells index_at index_text IndexFits Any
+pub index_spells : ReadsTexts index_at index_text IndexFits Any
 unfolding index_at
 index_spells = made_spells (pair_spells name_spells (pair_spells byte_spells (counted_spells part_spells))) index_from
     index_text IndexFits Any
     (λ (name, (table, parts)) x fit e. (ap index_text (wanted_ok Shape (leb (length parts) 8) _ x e).1, tt))
     (λ x h. ((x.name, (x.table, x.key)), (h.name, (tt, all_any x.key)), rw (le-leb (length x.key) 8 h.few) refl, refl))
 
-pub list_spells : Spells list_at list_text ListFits Any
+pub list_spells : ReadsTexts list_at list_text ListFits Any
 unfolding list_at
 list_spells = made_spells text_spells list_from list_text ListFits Any
     (λ bytes l fit e.

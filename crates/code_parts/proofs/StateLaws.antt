@@ -4,7 +4,7 @@ use Rattle.std.proofs.Common.{length, reverse, Option, Some, Ok, refl, sym, ap, 
 use Rattle.std.specs.Prelude.{◌&&◌}
 use Rattle.std.specs.Int.{w16}
 use Rattle.std.specs.List.{flat_map}
-use Rattle.std.proofs.lemmas.Bool.{eqb-true, le-leb}
+use Rattle.std.proofs.lemmas.Bool.{eqb-true, le-leb, and_parts}
 use Rattle.std.proofs.lemmas.List.{reverse-reverse, length-reverse}
 use Rattle.xvalue.specs.declared.kind.Kind.{Kind}
 use Rattle.code_items.specs.declared.declared.Version.{Version}
@@ -16,13 +16,12 @@ use Rattle.code_items.specs.States.{may_be_unsure}
 use Rattle.code_parts.specs.declared.flaw.Flaw.TheVariants.{Shape, Limit}
 use Rattle.code_parts.specs.Reading.{Front, Reader, ◌>>=◌, read_behind, Judged, give, number_read_at, several, sure}
 use Rattle.code_parts.specs.Reading.{byte_at, made_at}
-use Rattle.code_parts.specs.Laws.{Spells, Any, FilterFits, AreaFits, StateFits, ProcedureFits, MapFits}
+use Rattle.code_parts.specs.Laws.{ReadsTexts, Any, FilterFits, AreaFits, StateFits, ProcedureFits, MapFits}
 use Rattle.code_parts.specs.Texts.{two, kind_number, kind_text, slot_text, need_text, filter_text, area_byte, open_text}
 use Rattle.code_parts.specs.Texts.{area_text, state_text, procedure_text, map_text}
 use Rattle.code_parts.specs.Items.{kind_of_byte, need_from, need_at, needs_at, filter_at, open_from, open_read_at}
 use Rattle.code_parts.specs.Items.{area_behind, area_read_at, state_from, state_read_at, level_from, procedure_read_at}
 use Rattle.code_parts.specs.Items.{map_read_at}
-use Rattle.dbf_file.proofs.ChoiceLemmas.{both_true}
 use Rattle.code_parts.proofs.Combine.{behind_some, given, are_left, done, ok_is, steady_then, steady_give, pair_spells}
 use Rattle.code_parts.proofs.Combine.{made_spells, byte_spells, choice_spells}
 use Rattle.code_parts.proofs.Numbers.{steady_number, steady_several, several_spells, counted_spells, two_spells}
@@ -31,7 +30,7 @@ use Rattle.code_parts.proofs.ShapeLaws.{kind_spells, slot_spells}
 
 -- ---- filters
 
-need_spells : Spells need_at need_text Any Any
+need_spells : ReadsTexts need_at need_text Any Any
 unfolding need_at
 need_spells = made_spells (pair_spells byte_spells byte_spells) need_from need_text Any Any
     (λ (slot, number) need fit e.
@@ -56,7 +55,7 @@ and_surely r bytes rest x e = rw e refl
 abbrev needs_text : List Need → List ℕ
 needs_text needs = two (length needs) ++ flat_map need_text needs
 
-needs_spells : Spells needs_at needs_text (λ needs. length needs < 2 ^ 16) Any
+needs_spells : ReadsTexts needs_at needs_text (λ needs. length needs < 2 ^ 16) Any
 unfolding needs_at
 needs_spells = record {
   again = λ needs rest h.
@@ -81,7 +80,7 @@ needs_spells = record {
   steady = steady_then (steady_number w16) (steady_several need_spells.steady);
 }
 
-pub filter_spells : Spells filter_at filter_text FilterFits Any
+pub filter_spells : ReadsTexts filter_at filter_text FilterFits Any
 unfolding filter_at
 filter_spells = made_spells (pair_spells byte_spells (pair_spells two_spells needs_spells)) _ filter_text FilterFits Any
     (λ p f fit e. (ap filter_text (ok_is _ f e), tt))
@@ -94,7 +93,7 @@ abbrev Numbered : Version → ℕ → AreaState → Type 0
 Numbered version b area = AreaFits version area × (area_byte area ≡ b)
 
 closed_spells : (version : Version)
-    → Spells (give (Ok Closed)) open_text (Numbered version 0) (λ area. Unit {0} × (area_byte area ≡ 0))
+    → ReadsTexts (give (Ok Closed)) open_text (Numbered version 0) (λ area. Unit {0} × (area_byte area ≡ 0))
 closed_spells version = record {
   again = λ area rest h. closed_again area rest h.1;
   takes = λ bytes rest area fit e.
@@ -111,7 +110,7 @@ closed_spells version = record {
     closed_again Unsure rest h = absurd (let e : 255 ≡ 0 = h in omega arith)
 
 unsure_spells : (version : Version) → may_be_unsure version ≡ true
-    → Spells (give (Ok Unsure)) open_text (Numbered version 255) (λ area. Unit {0} × (area_byte area ≡ 255))
+    → ReadsTexts (give (Ok Unsure)) open_text (Numbered version 255) (λ area. Unit {0} × (area_byte area ≡ 255))
 unsure_spells version may = record {
   again = λ area rest h. unsure_again area rest h;
   takes = λ bytes rest area fit e.
@@ -137,7 +136,7 @@ FromParts b area = (p : ℕ × (ℕ × ℕ)) × (Unit {0} × (Unit {0} × Unit {
     × (open_text area ≡ p.0 ∷ p.1.0 ∷ p.1.1 ∷ [])
 
 open_spells : (version : Version) (b : ℕ) → eqb b 0 ≡ false → (eqb b 255 && may_be_unsure version) ≡ false
-    → Spells (open_read_at b) open_text (Numbered version b) (λ area. Unit {0} × (area_byte area ≡ b))
+    → ReadsTexts (open_read_at b) open_text (Numbered version b) (λ area. Unit {0} × (area_byte area ≡ b))
 unfolding open_read_at
 open_spells version b some known =
     made_spells (pair_spells byte_spells (pair_spells byte_spells byte_spells)) (open_from b) open_text
@@ -167,15 +166,15 @@ open_spells version b some known =
         let may : may_be_unsure version ≡ true = h.0 in
         let f : true ≡ false = rw may at e in cc)
 
-area_spells : (version : Version) → Spells (area_read_at version) area_text (AreaFits version) Any
+area_spells : (version : Version) → ReadsTexts (area_read_at version) area_text (AreaFits version) Any
 unfolding area_read_at
 area_spells version = choice_spells (area_behind version) area_byte open_text (AreaFits version) Any (λ b.
     if_spells (eqb b 0) (λ is. subst
-    (λ (n : ℕ). Spells (give (Ok Closed)) open_text (Numbered version n) (λ area. Unit {0} × (area_byte area ≡ n)))
+    (λ (n : ℕ). ReadsTexts (give (Ok Closed)) open_text (Numbered version n) (λ area. Unit {0} × (area_byte area ≡ n)))
     (sym (eqb-true b 0 is)) (closed_spells version))
     (λ some. if_spells (eqb b 255 && may_be_unsure version) (λ is.
-    let both = both_true (eqb b 255) (may_be_unsure version) is in
-    subst (λ (n : ℕ). Spells (give (Ok Unsure)) open_text (Numbered version n)
+    let both = and_parts (eqb b 255) (may_be_unsure version) is in
+    subst (λ (n : ℕ). ReadsTexts (give (Ok Unsure)) open_text (Numbered version n)
     (λ area. Unit {0} × (area_byte area ≡ n))) (sym (eqb-true b 255 both.0)) (unsure_spells version both.1))
     (λ known. open_spells version b some known)))
 
@@ -194,7 +193,7 @@ state_again : (s : State) → state_from (s.desk.selected, (s.desk.areas, (s.slo
 state_again s = rw (reverse-reverse s.stack) refl
 
 state_spells : (version : Version) (slots : ℕ)
-    → Spells (state_read_at version slots) state_text (StateFits version slots) Any
+    → ReadsTexts (state_read_at version slots) state_text (StateFits version slots) Any
 unfolding state_read_at
 state_spells version slots = made_spells
     (pair_spells byte_spells (pair_spells (several_spells (area_spells version) 10)
@@ -209,13 +208,13 @@ state_spells version slots = made_spells
           (state_spelled s.desk.selected s.desk.areas s.slots (reverse s.stack) s (state_again s)),
     ))
 
-level_spells : Spells (made_at (sure byte_at) level_from) (λ level. level ∷ []) (λ level. level ≤ 20) Any
+level_spells : ReadsTexts (made_at (sure byte_at) level_from) (λ level. level ∷ []) (λ level. level ≤ 20) Any
 level_spells = made_spells byte_spells level_from (λ level. level ∷ []) (λ level. level ≤ 20) Any
     (λ byte level fit e. (ap (λ (n : ℕ). n ∷ []) (wanted_ok Limit (leb byte 20) byte level e).1, tt))
     (λ level h. (level, tt, rw (le-leb level 20 h) refl, refl))
 
 pub procedure_spells : (version : Version) (slots : ℕ)
-    → Spells (procedure_read_at version slots) procedure_text (ProcedureFits version slots) Any
+    → ReadsTexts (procedure_read_at version slots) procedure_text (ProcedureFits version slots) Any
 unfolding procedure_read_at
 procedure_spells version slots =
     made_spells (pair_spells two_spells
@@ -225,7 +224,7 @@ procedure_spells version slots =
     (λ x h. ((x.length, (x.level, (x.entry, x.exit))), (h.short, (h.level, (h.entry, h.exit))), refl, refl))
 
 pub map_spells : (version : Version) (slots : ℕ)
-    → Spells (map_read_at version slots) map_text (MapFits version slots) Any
+    → ReadsTexts (map_read_at version slots) map_text (MapFits version slots) Any
 unfolding map_read_at
 map_spells version slots = made_spells (pair_spells two_spells (state_spells version slots)) _ map_text
     (MapFits version slots) Any

@@ -29,7 +29,8 @@ pub record IsSteady {A : Type 0} (r : Reader A) : Type 0 where
   pub stays : (bytes more rest : List ℕ) (x : A) → r bytes ≡ Some (x, rest) → r (bytes ++ more) ≡ Some (x, rest ++ more)
 
 -- the reader reads things from their texts: those that are legal, and what is read has the second property
-pub record Spells {X : Type 0} (r : Reader (Judged X)) (text : X → List ℕ) (IsLegal IsRead : X → Type 0) : Type 0 where
+pub record ReadsTexts {X : Type 0} (r : Reader (Judged X)) (text : X → List ℕ)
+    (IsLegal IsRead : X → Type 0) : Type 0 where
   -- what is written is read
   pub again : (x : X) (rest : List ℕ) → IsLegal x → r (text x ++ rest) ≡ Some (Ok x, rest)
   -- what is read was written

@@ -9,7 +9,7 @@ ghost use Rattle.code_parts.specs.Items.{map_read_at};
 ghost use Rattle.code_parts.specs.Instructions.{instr_read_at, instr_text};
 ghost use Rattle.code_parts.specs.Texts.{table_text, index_text, list_text, constant_text, filter_text, procedure_text};
 ghost use Rattle.code_parts.specs.Texts.{map_text};
-ghost use Rattle.code_parts.specs.Laws.{Spells, Any, TableFits, IndexFits, ListFits, IsLegalConstant, FilterFits};
+ghost use Rattle.code_parts.specs.Laws.{ReadsTexts, Any, TableFits, IndexFits, ListFits, IsLegalConstant, FilterFits};
 ghost use Rattle.code_parts.specs.Laws.{ProcedureFits, MapFits, IsLegalInstr};
 
 use xvalue::laws::functions_have_their_numbers;
@@ -17,36 +17,36 @@ use xvalue::laws::functions_have_their_numbers;
 /// Numbers that fit are read from their two or four bytes, and what is read of one fits and stays where bytes are
 /// appended.
 pub fn numbers_are_spelled()
-    ensures two { Spells (sure (number_read_at w16)) (to_le_bytes w16) (λ n. n < 2 ^ 16) (λ n. n < 2 ^ 16) }
-    ensures four { Spells (sure (number_read_at w32)) (to_le_bytes w32) (λ n. n < 2 ^ 32) (λ n. n < 2 ^ 32) }
+    ensures two { ReadsTexts (sure (number_read_at w16)) (to_le_bytes w16) (λ n. n < 2 ^ 16) (λ n. n < 2 ^ 16) }
+    ensures four { ReadsTexts (sure (number_read_at w32)) (to_le_bytes w32) (λ n. n < 2 ^ 32) (λ n. n < 2 ^ 32) }
 {}
 
 /// Tables, indexes and lists of indexes that their types can hold are read from their texts, and what is read of one
 /// stays where bytes are appended.
 pub fn declarations_are_spelled()
-    ensures tables { Spells table_read_at table_text TableFits Any }
-    ensures indexes { Spells index_at index_text IndexFits Any }
-    ensures lists { Spells list_at list_text ListFits Any }
+    ensures tables { ReadsTexts table_read_at table_text TableFits Any }
+    ensures indexes { ReadsTexts index_at index_text IndexFits Any }
+    ensures lists { ReadsTexts list_at list_text ListFits Any }
 {}
 
 /// Legal constants, and filters that their types can hold, likewise; a constant that is read is legal.
 pub fn constants_and_filters_are_spelled()
-    ensures constants { Spells constant_at constant_text IsLegalConstant IsLegalConstant }
-    ensures filters { Spells filter_at filter_text FilterFits Any }
+    ensures constants { ReadsTexts constant_at constant_text IsLegalConstant IsLegalConstant }
+    ensures filters { ReadsTexts filter_at filter_text FilterFits Any }
 {}
 
 /// Procedures and maps with states of a version of so many slots likewise.
 pub fn procedures_and_maps_are_spelled()
     ensures procedures { (version : AnyVersion) (slots : ℕ)
-        → Spells (procedure_read_at version slots) procedure_text (ProcedureFits version slots) Any }
+        → ReadsTexts (procedure_read_at version slots) procedure_text (ProcedureFits version slots) Any }
     ensures maps { (version : AnyVersion) (slots : ℕ)
-        → Spells (map_read_at version slots) map_text (MapFits version slots) Any }
+        → ReadsTexts (map_read_at version slots) map_text (MapFits version slots) Any }
 {}
 
 /// Legal instructions of a version likewise; an instruction that is read is legal.
 pub fn instructions_are_spelled()
     ensures { (version : AnyVersion)
-        → Spells (instr_read_at version) instr_text (IsLegalInstr version) (IsLegalInstr version) }
+        → ReadsTexts (instr_read_at version) instr_text (IsLegalInstr version) (IsLegalInstr version) }
 {
     functions_have_their_numbers();
 }

@@ -3,7 +3,7 @@ use Rattle.std.proofs.Common.{◌≡◌, ◌≤◌, ◌<◌, ℕ, zero, suc, ◌
 use Rattle.std.proofs.Common.{if◌then◌else◌, List, [], ◌∷◌, ◌++◌, length, get_or, Some, None, refl, sym, ap, ◌∙◌, arith}
 use Rattle.std.specs.Prelude.{slice_get}
 use Rattle.std.proofs.lemmas.Bool.Decides.{nat_tests}
-use Rattle.std.proofs.lemmas.Bool.{leb-true}
+use Rattle.std.proofs.lemmas.Bool.{leb-true, and_parts}
 use Rattle.code_items.specs.declared.code.Map.{Map}
 use Rattle.code_items.specs.Legal.{maps_rise}
 use Rattle.code_rules.specs.declared.blocks.Block.{Block}
@@ -43,16 +43,12 @@ rest_case ms ns place b r e t f =
 
 -- ---- maps at rising places
 
-both : (a b : Bool) → a && b ≡ true → (a ≡ true) × (b ≡ true)
-both true b e = (refl, e)
-both false b e = absurd (cc)
-
 -- a place below the least is that of no map
 absent : (maps : List Map) (least places place : ℕ) → maps_rise least places maps ≡ true → place < least → map_in maps place ≡ None
 absent [] least places place e lt = refl
 absent (m ∷ maps) least places place e lt =
-    let a = both (nat_le least m.place && nat_lt m.place places) (maps_rise (m.place + 1) places maps) e in
-    let b = both (nat_le least m.place) (nat_lt m.place places) a.0 in
+    let a = and_parts (nat_le least m.place && nat_lt m.place places) (maps_rise (m.place + 1) places maps) e in
+    let b = and_parts (nat_le least m.place) (nat_lt m.place places) a.0 in
     let le : least ≤ m.place = leb-true least m.place b.0 in
     let other : (m.place == place) ≡ false = unlike m.place place (omega arith) in
     let rest : map_in maps place ≡ None = absent maps (m.place + 1) places place a.1 (omega arith) in
@@ -70,12 +66,14 @@ found (m ∷ maps) least places place zero e front rest = here (m.place == place
 
   here : (b : Bool) → (m.place == place) ≡ b → cond b (Some m.state) (map_in maps place) ≡ cond b (Some m.state) None
   here true f = refl
-  here false f = absent maps (m.place + 1) places place (both (nat_le least m.place && nat_lt m.place places) (maps_rise (m.place + 1) places maps) e).1 (differs m.place place f le) where
-    differs : (x y : ℕ) → (x == y) ≡ false → y ≤ x → y < x + 1
-    differs x y f le = omega (arith, le)
+  here false f = absent maps (m.place + 1) places place
+      (and_parts (nat_le least m.place && nat_lt m.place places) (maps_rise (m.place + 1) places maps) e).1
+      (differs m.place place f le) where
+        differs : (x y : ℕ) → (x == y) ≡ false → y ≤ x → y < x + 1
+        differs x y f le = omega (arith, le)
 found (m ∷ maps) least places place (suc at) e front rest =
     let other : (m.place == place) ≡ false = below m.place place (front 0 m (omega arith)) in
-    let a = both (nat_le least m.place && nat_lt m.place places) (maps_rise (m.place + 1) places maps) e in
+    let a = and_parts (nat_le least m.place && nat_lt m.place places) (maps_rise (m.place + 1) places maps) e in
     let more : map_in maps place ≡ found_at place (slice_get maps at) = found maps (m.place + 1) places place at a.1 (λ k d lt. front (suc k) d (omega arith)) (λ k d ge lt. rest (suc k) d (omega arith) (omega arith)) in
     rw other more where
       below : (x y : ℕ) → nat_lt x y ≡ true → (x == y) ≡ false
@@ -85,10 +83,12 @@ found (m ∷ maps) least places place (suc at) e front rest =
 rise_at : (maps : List Map) (least places k : ℕ) (d : Map) → maps_rise least places maps ≡ true → k < length maps → least ≤ (get_or maps k d).place
 rise_at [] least places k d e lt = absurd (omega arith)
 rise_at (m ∷ maps) least places zero d e lt =
-    leb-true least m.place (both (nat_le least m.place) (nat_lt m.place places) (both (nat_le least m.place && nat_lt m.place places) (maps_rise (m.place + 1) places maps) e).0).0
+    leb-true least m.place
+    (and_parts (nat_le least m.place) (nat_lt m.place places)
+    (and_parts (nat_le least m.place && nat_lt m.place places) (maps_rise (m.place + 1) places maps) e).0).0
 rise_at (m ∷ maps) least places (suc k) d e lt =
-    let a = both (nat_le least m.place && nat_lt m.place places) (maps_rise (m.place + 1) places maps) e in
-    let b : least ≤ m.place = leb-true least m.place (both (nat_le least m.place) (nat_lt m.place places) a.0).0 in
+    let a = and_parts (nat_le least m.place && nat_lt m.place places) (maps_rise (m.place + 1) places maps) e in
+    let b : least ≤ m.place = leb-true least m.place (and_parts (nat_le least m.place) (nat_lt m.place places) a.0).0 in
     let c : m.place + 1 ≤ (get_or maps k d).place = rise_at maps (m.place + 1) places k d a.1 (omega arith) in
     omega arith
 
@@ -96,12 +96,14 @@ rising : (maps : List Map) (least places i j : ℕ) (d : Map) → maps_rise leas
 rising [] least places i j d e le lt = absurd (omega arith)
 rising (m ∷ maps) least places zero zero d e le lt = omega arith
 rising (m ∷ maps) least places zero (suc j) d e le lt =
-    let a = both (nat_le least m.place && nat_lt m.place places) (maps_rise (m.place + 1) places maps) e in
+    let a = and_parts (nat_le least m.place && nat_lt m.place places) (maps_rise (m.place + 1) places maps) e in
     let c : m.place + 1 ≤ (get_or maps j d).place = rise_at maps (m.place + 1) places j d a.1 (omega arith) in
     omega arith
 rising (m ∷ maps) least places (suc i) zero d e le lt = absurd (omega arith)
 rising (m ∷ maps) least places (suc i) (suc j) d e le lt =
-    rising maps (m.place + 1) places i j d (both (nat_le least m.place && nat_lt m.place places) (maps_rise (m.place + 1) places maps) e).1 (omega arith) (omega arith)
+    rising maps (m.place + 1) places i j d
+    (and_parts (nat_le least m.place && nat_lt m.place places) (maps_rise (m.place + 1) places maps) e).1 (omega arith)
+    (omega arith)
 
 down : (x y place : ℕ) → x ≤ y → nat_lt y place ≡ true → nat_lt x place ≡ true
 down x y place le e = grind (arith, nat_tests)

@@ -1,2 +1,3 @@
 pub mod BlockLists
 pub mod Keeping
+pub mod Covering

@@ -3,8 +3,7 @@ use Rattle.std.specs.Prelude.{ℕ, List, [], ◌∷◌, Option, Some, None, reve
 use Rattle.xvalue.specs.declared.kind.Kind.{Kind}
 use Rattle.xvalue.specs.declared.kind.Kind.TheVariants.{Number as OfNumber, Text as OfText, Date as OfDate}
 use Rattle.xvalue.specs.declared.kind.Kind.TheVariants.{Logical as OfLogical}
-use Rattle.xvalue.specs.declared.value.Value.{Value}
-use Rattle.xvalue.specs.Kinds.{kind_of}
+use Rattle.xvalue.specs.Kinds.{kind_held}
 use Rattle.xvalue.specs.Signature.{takes_of, gives_of}
 use Rattle.dbf_file.specs.declared.field.Field.{Field as TableField}
 use Rattle.dbf_file.specs.Values.{kind_for}
@@ -90,10 +89,6 @@ wants d desk (Records i) = record_wants d desk i
 
 -- the kind of the value that it gives; None inside where it isn't known
 
-abbrev pub constant_kind : Option Value → Option Kind
-constant_kind None = None
-constant_kind (Some value) = Some (kind_of value)
-
 abbrev pub kind_asked : Question → Kind
 kind_asked Recno = OfNumber
 kind_asked Reccount = OfNumber
@@ -103,7 +98,7 @@ kind_asked Found = OfLogical
 kind_asked Deleted = OfLogical
 
 abbrev pub value_gives : Declared → ValueInstr → Option (Option Kind)
-value_gives d (Constant n) = Some (constant_kind (slice_get d.constants n))
+value_gives d (Constant n) = Some (kind_held (slice_get d.constants n))
 value_gives d (Load k s) = Some (Some k)
 value_gives d (Function f) = Some (Some (gives_of f))
 value_gives d Today = Some (Some OfDate)

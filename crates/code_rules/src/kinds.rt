@@ -2,10 +2,11 @@
 
 ghost use Rattle.std.specs.Prelude.{◌≡◌, [], ◌∷◌, reverse, slice_get};
 ghost use Rattle.xvalue.specs.declared.kind.Kind.TheVariants.{Number};
+ghost use Rattle.xvalue.specs.Kinds.{kind_held};
 ghost use Rattle.code_rules.specs.Wants.{fields_at as fields_at_of, field_kind as field_kind_of};
 ghost use Rattle.code_rules.specs.Wants.{if_known as known_kind, value_wants, flow_wants, screen_wants, move_wants};
 ghost use Rattle.code_rules.specs.Wants.{record_wants, wants as wants_of, kind_asked as kind_of_answer};
-ghost use Rattle.code_rules.specs.Wants.{constant_kind as constant_kind_of, value_gives, screen_gives, record_gives};
+ghost use Rattle.code_rules.specs.Wants.{value_gives, screen_gives, record_gives};
 ghost use Rattle.code_rules.specs.Wants.{gives as gives_of_instr};
 
 use code_items::{
@@ -150,7 +151,7 @@ pub fn kind_asked(question: Question) -> Kind
 }
 
 fn constant_kind(declared: &Declared, number: u16) -> Option<Kind>
-    ensures { result ≡ constant_kind_of (slice_get declared.now.constants number) }
+    ensures { result ≡ kind_held (slice_get declared.now.constants number) }
 {
     match declared.constants.as_slice().get(usize::from(number)) {
         Some(value) => Some(value.kind()),

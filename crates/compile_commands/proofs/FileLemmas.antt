@@ -1,7 +1,7 @@
 -- What is told of command files that stay the same.
 use Rattle.std.proofs.Common.{◌≡◌, ◌<◌, ◌≤◌, ℕ, List, Some, None, length, sym, ap, ◌∙◌, subst}
 use Rattle.file_access.specs.Holding.{Holds, SameFiles}
-use Rattle.shape_files.proofs.FileLemmas.{rose_later}
+use Rattle.file_access.proofs.Holding.{rose_later}
 use Rattle.compile_commands.specs.declared.refusal.CompileFilesRefusal.{CompileFilesRefusal}
 use Rattle.compile_commands.specs.declared.refusal.CompileFilesRefusal.TheVariants.{Declarations, Source, SourceDisk}
 use Rattle.compile_commands.specs.declared.refusal.CompileFilesRefusal.TheVariants.{CodeDisk, Memory}

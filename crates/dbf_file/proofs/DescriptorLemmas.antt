@@ -7,14 +7,14 @@ use Rattle.dbf_file.specs.declared.field.Letter.TheVariants.{C, N, D, L}
 use Rattle.dbf_file.specs.declared.field.Field.{Field}
 use Rattle.dbf_file.specs.declared.fault.DbfFault.{DbfFault}
 use Rattle.dbf_file.specs.declared.fault.DbfFault.TheVariants.{FieldShape, NoEnd}
-use Rattle.std.proofs.lemmas.Bool.{leb-false, ltb-false}
+use Rattle.std.proofs.lemmas.Bool.{leb-false, ltb-false, and_parts}
 use Rattle.std.proofs.lemmas.List.{take-take, take_at, length-take-le}
 use Rattle.std.proofs.lemmas.List.Quantifiers.{position-Some}
 use Rattle.dbf_file.specs.Fields.{code_of, letter_of, is_field, is_new}
 use Rattle.dbf_file.specs.Names.{is_name}
 use Rattle.dbf_file.specs.Descriptors.{field_with, if_field, with_letter, with_end, IsDescriptor, after_step, next_told}
 use Rattle.dbf_file.specs.Descriptors.{fields_from, told_field, if_new}
-use Rattle.dbf_file.proofs.ChoiceLemmas.{chosen, both_true}
+use Rattle.dbf_file.proofs.ChoiceLemmas.{chosen}
 use Rattle.dbf_file.proofs.TextLemmas.{ended_at, zero_behind}
 use Rattle.dbf_file.proofs.NameLemmas.{no_zero}
 
@@ -211,7 +211,7 @@ same_field name letter width decimals f a b c d =
 
 pub name_of_field : (f : Field) → is_field f ≡ true → is_name f.name.items ≡ true
 unfolding is_field
-name_of_field f good = (both_true _ _ good).0
+name_of_field f good = (and_parts _ _ good).0
 
 pub told_again : (bytes : List ℕ) (f : Field) → IsDescriptor bytes f → is_field f ≡ true → told_field bytes ≡ Some f
 unfolding told_field

@@ -3,6 +3,7 @@ use Rattle.std.proofs.Common.{◌≡◌, ℕ, suc, ◌+◌, ◌*◌, ◌-◌, �
 use Rattle.std.proofs.Common.{refl, sym, ap, ◌∙◌, subst, arith, length-append, append_assoc, replicate, eqb-true}
 use Rattle.std.proofs.lemmas.List.{drop_at, take_at, length-replicate, get_or-append_right}
 use Rattle.std.proofs.lemmas.List.Concat.{flat_map-cons}
+use Rattle.std.proofs.lemmas.Bool.{and_parts}
 use Rattle.dbf_file.specs.declared.field.Letter.{Letter}
 use Rattle.dbf_file.specs.declared.field.Letter.TheVariants.{C, N, D, L}
 use Rattle.dbf_file.specs.declared.field.Field.{Field}
@@ -11,7 +12,6 @@ use Rattle.dbf_file.specs.Descriptors.{IsDescriptor, Describes, decimals_of, des
 use Rattle.dbf_file.specs.Descriptors.{field_head_text}
 use Rattle.dbf_file.specs.Tables.{StructureState, IsStructure, structure_of}
 use Rattle.dbf_file.specs.Kept.{IsKept}
-use Rattle.dbf_file.proofs.ChoiceLemmas.{both_true}
 use Rattle.dbf_file.proofs.NameLemmas.{short_name}
 use Rattle.dbf_file.proofs.DescriptorLemmas.{name_of_field}
 use Rattle.dbf_file.proofs.FileLemmas.{good_fields}
@@ -42,10 +42,10 @@ length_name_part f short =
 
 same_decimals : (letter : Letter) (width decimals : ℕ) → has_shape letter width decimals ≡ true
     → decimals ≡ decimals_of letter decimals
-same_decimals C width decimals good = eqb-true decimals 0 (both_true _ _ good).1
+same_decimals C width decimals good = eqb-true decimals 0 (and_parts _ _ good).1
 same_decimals N width decimals good = refl
-same_decimals D width decimals good = eqb-true decimals 0 (both_true _ _ good).1
-same_decimals L width decimals good = eqb-true decimals 0 (both_true _ _ good).1
+same_decimals D width decimals good = eqb-true decimals 0 (and_parts _ _ good).1
+same_decimals L width decimals good = eqb-true decimals 0 (and_parts _ _ good).1
 
 length_behind : (f : Field) → length (behind_name f) ≡ 21
 unfolding behind_name
@@ -92,8 +92,8 @@ pub descriptors_read : (fs earlier : List Field) → fields_go_on earlier fs ≡
     → Describes (descriptors_text fs ++ 13 ∷ []) fs
 descriptors_read [] earlier good = ([], refl)
 descriptors_read (f ∷ fs) earlier good =
-    let parts = both_true _ _ good in
-    let here = (both_true _ _ parts.0).0 in
+    let parts = and_parts _ _ good in
+    let here = (and_parts _ _ parts.0).0 in
     let long = length_descriptor f (short_name f.name.items (name_of_field f here)) in
     let rest : List ℕ = descriptors_text fs ++ 13 ∷ [] in
     let split : descriptors_text (f ∷ fs) ++ 13 ∷ [] ≡ descriptor_text f ++ rest =
@@ -109,8 +109,8 @@ length_descriptors : (fs earlier : List Field) → fields_go_on earlier fs ≡ t
     → length (descriptors_text fs) ≡ 32 * length fs
 length_descriptors [] earlier good = refl
 length_descriptors (f ∷ fs) earlier good =
-    let parts = both_true _ _ good in
-    let here = (both_true _ _ parts.0).0 in
+    let parts = and_parts _ _ good in
+    let here = (and_parts _ _ parts.0).0 in
     let long = length_descriptor f (short_name f.name.items (name_of_field f here)) in
     let more = length_descriptors fs (earlier ++ f ∷ []) parts.1 in
     let both = length-append (descriptor_text f) (descriptors_text fs) in

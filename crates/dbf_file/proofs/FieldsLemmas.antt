@@ -3,14 +3,13 @@ use Rattle.std.proofs.Common.{◌≡◌, ◌==◌, ℕ, zero, suc, ◌+◌, ◌*
 use Rattle.std.proofs.Common.{drop, Bool, true, false, nat_lt, nat_le, cond, Option, Some, None, Result, Ok, Err, ◌⊎◌}
 use Rattle.std.proofs.Common.{inl, inr, ⊎_elim, refl, sym, ap, ◌∙◌, subst, arith, length-append, length-drop}
 use Rattle.std.proofs.Common.{append_assoc, eq-eqb}
-use Rattle.std.proofs.lemmas.Bool.{lt-leb, le-ltb, ne_eqb}
+use Rattle.std.proofs.lemmas.Bool.{lt-leb, le-ltb, ne_eqb, and_parts, and_from}
 use Rattle.std.proofs.lemmas.List.{length-take, get_or_append_left, append-nil}
 use Rattle.dbf_file.specs.declared.field.Field.{Field}
 use Rattle.dbf_file.specs.declared.fault.DbfFault.{DbfFault}
 use Rattle.dbf_file.specs.declared.fault.DbfFault.TheVariants.{FieldShape, NoEnd}
 use Rattle.dbf_file.specs.Fields.{is_field, is_new, fields_go_on}
 use Rattle.dbf_file.specs.Descriptors.{IsDescriptor, Describes, after_step, next_told, fields_from, told_field, if_new}
-use Rattle.dbf_file.proofs.ChoiceLemmas.{both_true, true_both}
 use Rattle.dbf_file.proofs.NameLemmas.{first_of_name}
 use Rattle.dbf_file.proofs.DescriptorLemmas.{step_more, step_end, one_more, at_end, told_is, told_again, name_of_field}
 
@@ -59,7 +58,7 @@ fields_told (suc n) earlier bytes all few e =
       more = f ∷ next.more;
       together = next.together ∙ append_assoc earlier (f ∷ []) next.more;
       described = (is.0, next.described);
-      good = true_both _ _ (true_both _ _ is.1 one.new) next.good;
+      good = and_from _ _ (and_from _ _ is.1 one.new) next.good;
       some = next.some;
       most = next.most;
     })
@@ -112,8 +111,8 @@ fields_again fs zero earlier bytes described good steps some most = absurd (omeg
 fields_again [] (suc n) earlier bytes (behind, there) good steps some most =
     step_end n earlier bytes (next_is_end earlier bytes behind (omega arith) there) ∙ ap Ok (sym (append-nil earlier))
 fields_again (f ∷ fs) (suc n) earlier bytes (d, described) good steps some most =
-    let parts = both_true _ _ good in
-    let here = both_true _ _ parts.0 in
+    let parts = and_parts _ _ good in
+    let here = and_parts _ _ parts.0 in
     let longer = length-append earlier (f ∷ []) in
     step_more n earlier bytes f (next_is_field earlier bytes f (omega arith) d here.0 here.1)
     ∙ fields_again fs n (earlier ++ f ∷ []) (drop 32 bytes) described parts.1 (omega arith) (omega arith) (omega arith)

@@ -3,7 +3,7 @@ use Rattle.std.proofs.Common.{◌≡◌, ◌==◌, ℕ, ◌+◌, ◌*◌, ◌-�
 use Rattle.std.proofs.Common.{true, false, not, Some, None, Result, Ok, refl, sym, ap, ◌∙◌, subst, arith, eq-eqb}
 use Rattle.std.proofs.Common.{length-append, length-drop}
 use Rattle.std.specs.List.{slice_range}
-use Rattle.std.proofs.lemmas.Bool.{le-ltb, leb-true, le-leb}
+use Rattle.std.proofs.lemmas.Bool.{le-ltb, leb-true, le-leb, and_parts, and_from}
 use Rattle.std.proofs.lemmas.List.{take_at, drop_at, drop-drop, drop-take, take-append-drop, drop-append-le}
 use Rattle.std.proofs.lemmas.List.{length-take-le}
 use Rattle.dbf_file.specs.declared.field.Field.{Field}
@@ -20,7 +20,6 @@ use Rattle.dbf_file.specs.Faults.{told_count, told_header, told_size, told_field
 use Rattle.dbf_file.specs.Faults.{is_no_end, has_fault, first_fault}
 use Rattle.dbf_file.specs.Kept.{IsKept}
 use Rattle.dbf_file.specs.Layouts.{IsLayout, structure_told, rows_told}
-use Rattle.dbf_file.proofs.ChoiceLemmas.{both_true, true_both}
 use Rattle.dbf_file.proofs.FieldsLemmas.{fields_told, fields_again, length_described}
 use Rattle.dbf_file.proofs.RowLemmas.{length-rows_in, rows_of_front}
 use Rattle.dbf_file.proofs.TextRowLemmas.{rows_back, rows_again, rows_have_widths}
@@ -38,14 +37,14 @@ pub record GoodFields (fields : List Field) : Type 0 where
 pub good_fields : (fields : List Field) → are_fields fields ≡ true → GoodFields fields
 unfolding are_fields
 good_fields fields good =
-    let a = both_true _ _ good in
-    let b = both_true _ _ a.0 in
-    let d = both_true _ _ b.0 in
+    let a = and_parts _ _ good in
+    let b = and_parts _ _ a.0 in
+    let d = and_parts _ _ b.0 in
     record { some = leb-true 1 _ d.0; most = leb-true _ 128 d.1; good = b.1; small = leb-true _ 4000 a.1 }
 
 pub fields_good : (fields : List Field) → GoodFields fields → are_fields fields ≡ true
 unfolding are_fields
-fields_good fields g = true_both _ _ (true_both _ _ (true_both _ _ (le-leb 1 _ g.some) (le-leb _ 128 g.most)) g.good)
+fields_good fields g = and_from _ _ (and_from _ _ (and_from _ _ (le-leb 1 _ g.some) (le-leb _ 128 g.most)) g.good)
     (le-leb _ 4000 g.small)
 
 -- a table's text, taken apart

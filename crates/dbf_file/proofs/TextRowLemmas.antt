@@ -6,10 +6,10 @@ use Rattle.std.specs.List.{concat, flat_map, AllByRecursion}
 use Rattle.std.proofs.Math.Seq.{take-add}
 use Rattle.std.proofs.lemmas.List.{take_at, drop_at, length-take-le}
 use Rattle.std.proofs.lemmas.List.Concat.{flat_map-cons, concat_is}
+use Rattle.std.proofs.lemmas.Bool.{and_parts, and_from}
 use Rattle.dbf_file.specs.Fields.{total, size_of}
 use Rattle.dbf_file.specs.Rows.{Row, HasWidths, mark_byte, row_text, rows_text, texts_cut, row_in, rows_in, is_mark}
 use Rattle.dbf_file.specs.Rows.{are_marked}
-use Rattle.dbf_file.proofs.ChoiceLemmas.{both_true, true_both}
 
 -- ---- rows cut out of bytes are written as those
 
@@ -50,9 +50,9 @@ rows_back ws (suc n) bytes marks within =
     let less = length-drop (size_of ws) bytes in
     flat_map-cons row_text (row_in ws bytes) (rows_in ws n (drop (size_of ws) bytes))
     ∙ ap (λ (front : List ℕ). front ++ flat_map row_text (rows_in ws n (drop (size_of ws) bytes)))
-    (row_back ws bytes (both_true _ _ marks).0 (omega arith))
+    (row_back ws bytes (and_parts _ _ marks).0 (omega arith))
     ∙ ap (λ (rest : List ℕ). take (size_of ws) bytes ++ rest)
-    (rows_back ws n (drop (size_of ws) bytes) (both_true _ _ marks).1 (omega arith))
+    (rows_back ws n (drop (size_of ws) bytes) (and_parts _ _ marks).1 (omega arith))
     ∙ sym (take-add (size_of ws) (n * size_of ws) bytes) ∙ ap (λ k. take k bytes) (sym next)
 
 -- ---- rows that are written are cut out again
@@ -136,7 +136,7 @@ rows_again ws (row ∷ rows) rest each =
       marks =
           ap (λ (bytes : List ℕ). is_mark (get_or bytes 0 0) && are_marked (size_of ws) (length rows)
           (drop (size_of ws) bytes)) split
-          ∙ true_both _ _ (first_mark row (rows_text rows ++ rest))
+          ∙ and_from _ _ (first_mark row (rows_text rows ++ rest))
           (ap (are_marked (size_of ws) (length rows)) behind ∙ more.marks);
       whole = ap length (flat_map-cons row_text row rows) ∙ longer ∙ ap (λ n. n + length (rows_text rows)) size
           ∙ omega (arith, more.whole);

@@ -3,7 +3,7 @@ use Rattle.std.proofs.Common.{◌≡◌, ◌==◌, ℕ, zero, suc, ◌+◌, ◌-
 use Rattle.std.proofs.Common.{length, get_or, min, Bool, true, false, ◌&&◌, cond, Option, Some, None, refl, sym, ap}
 use Rattle.std.proofs.Common.{◌∙◌, arith, replicate, reverse, take, eq-eqb, length-append}
 use Rattle.std.specs.List.{AllByRecursion}
-use Rattle.std.proofs.lemmas.Bool.{le-leb}
+use Rattle.std.proofs.lemmas.Bool.{le-leb, and_parts, and_from}
 use Rattle.std.proofs.lemmas.List.{take_all, length-take, length-replicate}
 use Rattle.fixed_num.specs.Number.{Number as Decimal, asterisk, finite, IsInRange}
 use Rattle.fixed_num.specs.Rounding.{rounded_at}
@@ -25,7 +25,6 @@ use Rattle.dbf_file.specs.Values.{kind_for, is_all_blanks, is_yes, number_in, da
 use Rattle.dbf_file.specs.Values.{stored_day, logical_text, text_by, text_for, FitsWidth, FitsField, kept_of}
 use Rattle.dbf_file.specs.Tables.{TableState, row_widths}
 use Rattle.dbf_file.proofs.TableLemmas.{state}
-use Rattle.dbf_file.proofs.ChoiceLemmas.{both_true, true_both}
 use Rattle.dbf_file.proofs.FileLemmas.{good_fields}
 
 -- ---- laws on fields and rows
@@ -34,7 +33,7 @@ each_good : (fields earlier : List Field) → fields_go_on earlier fields ≡ tr
     → AllByRecursion (λ f. is_field f ≡ true) fields
 each_good [] earlier good = tt
 each_good (f ∷ fs) earlier good =
-    let parts = both_true _ _ good in ((both_true _ _ parts.0).0, each_good fs (earlier ++ f ∷ []) parts.1)
+    let parts = and_parts _ _ good in ((and_parts _ _ parts.0).0, each_good fs (earlier ++ f ∷ []) parts.1)
 
 pub fields_are_good : (fields : List Field) → are_fields fields ≡ true → AllByRecursion (λ f. is_field f ≡ true) fields
 fields_are_good fields are = each_good fields [] (good_fields fields are).good
@@ -63,7 +62,7 @@ blank_behind (suc n) text = blank_behind n text
 only_blanks : (text : List ℕ) → is_all_blanks text ≡ true → without_blanks text ≡ []
 only_blanks [] blank = refl
 only_blanks (c ∷ cs) blank =
-    let parts = both_true (c == 32) (is_all_blanks cs) blank in
+    let parts = and_parts (c == 32) (is_all_blanks cs) blank in
     ap (λ (b : Bool). cond b (without_blanks cs) (c ∷ cs)) parts.0 ∙ only_blanks cs parts.1
 
 blank_is_zero : (text : List ℕ) → is_all_blanks text ≡ true → parsed text ≡ finite (pos 0) 0
@@ -103,7 +102,7 @@ number_kept width decimals (finite m d) reads good room = number_back width deci
 -- ---- days
 
 digit_is : (r : ℕ) → r < 10 → is_digit (48 + r) ≡ true
-digit_is r below = true_both _ _ (le-leb 48 (48 + r) (omega arith)) (le-leb (48 + r) 57 (omega arith))
+digit_is r below = and_from _ _ (le-leb 48 (48 + r) (omega arith)) (le-leb (48 + r) 57 (omega arith))
 
 four_read : (y : ℕ) → y < 10000 → with_digits 0 (last_digits 4 y) ≡ y
 four_read y below = omega arith
@@ -118,9 +117,9 @@ short_month false b true = omega arith
 short_month false b false = omega arith
 
 day_good : (parts : DayParts) → IsDay parts → is_day parts ≡ true
-day_good parts is = true_both _ _ (true_both _ _ (le-leb 1 _ is.year.0) (le-leb _ 9999 is.year.1))
-    (true_both _ _ (true_both _ _ (le-leb 1 _ is.month.0) (le-leb _ 12 is.month.1))
-    (true_both _ _ (le-leb 1 _ is.day.0) (le-leb parts.day (month_length parts) is.day.1)))
+day_good parts is = and_from _ _ (and_from _ _ (le-leb 1 _ is.year.0) (le-leb _ 9999 is.year.1))
+    (and_from _ _ (and_from _ _ (le-leb 1 _ is.month.0) (le-leb _ 12 is.month.1))
+    (and_from _ _ (le-leb 1 _ is.day.0) (le-leb parts.day (month_length parts) is.day.1)))
 
 pub day_back : (day : Option DayParts) → HasDay day → day_in (stored_day day) ≡ day
 day_back None is = refl
@@ -130,13 +129,13 @@ day_back (Some parts) is =
     let d : ℕ = parts.day in
     let short : month_length parts ≤ 31 = short_month _ _ _ in
     let digits : are_digits (stored_day (Some parts)) ≡ true =
-    true_both _ _ (digit_is (y / 1000 % 10) (omega arith))
-    (true_both _ _ (digit_is (y / 100 % 10) (omega arith))
-    (true_both _ _ (digit_is (y / 10 % 10) (omega arith)) (true_both _ _ (digit_is (y / 1 % 10) (omega arith))
-    (true_both _ _ (digit_is (m / 10 % 10) (omega arith))
-    (true_both _ _ (digit_is (m / 1 % 10) (omega arith))
-    (true_both _ _ (digit_is (d / 10 % 10) (omega arith))
-    (true_both _ _ (digit_is (d / 1 % 10) (omega arith)) refl))))))) in
+    and_from _ _ (digit_is (y / 1000 % 10) (omega arith))
+    (and_from _ _ (digit_is (y / 100 % 10) (omega arith))
+    (and_from _ _ (digit_is (y / 10 % 10) (omega arith)) (and_from _ _ (digit_is (y / 1 % 10) (omega arith))
+    (and_from _ _ (digit_is (m / 10 % 10) (omega arith))
+    (and_from _ _ (digit_is (m / 1 % 10) (omega arith))
+    (and_from _ _ (digit_is (d / 10 % 10) (omega arith))
+    (and_from _ _ (digit_is (d / 1 % 10) (omega arith)) refl))))))) in
     let read : ℕ → ℕ → ℕ → Option DayParts = λ a b c. day_or_blank (day_at a b c) in
     ap (λ (t : Bool). cond (t && true)
     (read (with_digits 0 (last_digits 4 y)) (with_digits 0 (last_digits 2 m)) (with_digits 0 (last_digits 2 d)))
@@ -192,7 +191,7 @@ read_back law f v kind fits = value_back law f v f.letter refl kind fits
 
 pub shape_of : (f : Field) → is_field f ≡ true → has_shape f.letter f.width f.decimals ≡ true
 unfolding is_field
-shape_of f good = (both_true _ _ good).1
+shape_of f good = (and_parts _ _ good).1
 
 -- ---- the fields of a table
 

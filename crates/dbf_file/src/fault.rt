@@ -2,8 +2,8 @@
 
 use thiserror::Error;
 
-/// Why bytes are no table's file. The first of several faults in this order is told, but of `FieldShape` and `NoEnd`
-/// the one that comes first in the file.
+/// Why bytes are no table's file. Of several faults the first in this order is told. `FieldShape` and `NoEnd` share a
+/// place in it: of these two the one that comes first in the file is told.
 #[derive(Clone, Copy, Debug, PartialEq, Eq, Error)]
 pub enum DbfFault {
     /// There are fewer than 65 bytes.

@@ -8,7 +8,6 @@ use Rattle.std.proofs.lemmas.Bool.{and_parts, or_parts, leb-true}
 use Rattle.std.proofs.lemmas.Option.{slice_get_within}
 use Rattle.xvalue.specs.Kinds.{kind_of}
 use Rattle.dbf_file.specs.declared.field.Field.{Field}
-use Rattle.dbf_file.specs.declared.field.Letter.TheVariants.{C}
 use Rattle.dbf_file.specs.Tables.{letter_at}
 use Rattle.dbf_file.specs.Values.{kind_for}
 use Rattle.shape.specs.declared.tables.TableShape.{TableShape}
@@ -130,11 +129,6 @@ in_no_table (x ∷ tables) zero name e = is_none_there (field_named x.fields nam
 in_no_table (x ∷ tables) (suc t) name e = in_no_table tables t name (or_parts (has_field name x) (list_any (has_field name) tables) e).1
 
 -- ---- the value of a field
-
-pub letter_there : (fs : List Field) (f : ℕ) (d : Field) → f < length fs → slice_index_or (map (λ g. g.letter) fs) f C ≡ (slice_index_or fs f d).letter
-letter_there [] f d lt = absurd (omega (arith, lt))
-letter_there (g ∷ fs) zero d lt = refl
-letter_there (g ∷ fs) (suc f) d lt = letter_there fs f d (omega (arith, lt))
 
 table_is : (x : Option TableShape) → on_some x [] (λ t. t.fields) ≡ fields_declared x
 table_is None = refl

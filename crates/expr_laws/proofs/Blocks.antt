@@ -1,9 +1,9 @@
 -- A filter's block that is sound never fills its stack, and loads only slots that hold what is loaded.
-use Rattle.std.proofs.Common.{◌≡◌, ◌<◌, ◌≤◌, ℕ, suc, ◌+◌, ◌-◌, Bool, true, false, not, ◌||◌, List, [], ◌∷◌, ◌++◌}
+use Rattle.std.proofs.Common.{◌≡◌, ◌<◌, ◌≤◌, ℕ, suc, ◌+◌, ◌-◌, true, false, not, List, [], ◌∷◌, ◌++◌}
 use Rattle.std.proofs.Common.{length, map, drop, Option, Some, None, refl, sym, ap, ◌∙◌, subst, arith}
 use Rattle.std.specs.Prelude.{slice_get, nat_lt, nat_le}
 use Rattle.std.specs.List.{AllZip}
-use Rattle.std.proofs.lemmas.Bool.{and_parts, or_parts, not-false, ltb-false, leb-false}
+use Rattle.std.proofs.lemmas.Bool.{and_parts, not-true, ltb-false, leb-false}
 use Rattle.std.proofs.lemmas.List.{length-drop}
 use Rattle.xvalue.specs.declared.kind.Kind.{Kind}
 use Rattle.xvalue.specs.declared.value.Value.{Value}
@@ -21,17 +21,16 @@ use Rattle.code_items.specs.declared.instr.ValueInstr.TheVariants as value_instr
 use Rattle.code_items.specs.declared.instr.RecordInstr.{RecordInstr}
 use Rattle.code_items.specs.declared.instr.RecordInstr.TheVariants as record_instr
 use Rattle.code_items.specs.declared.state.State.{State}
-use Rattle.code_items.specs.Kinds.{clashes}
-use Rattle.code_rules.specs.Signature.{signature}
-use Rattle.code_rules.specs.Wants.{wants, gives, known, constant_kind, kind_of_field, fields_at}
+use Rattle.code_rules.specs.Wants.{gives, known, kind_of_field, fields_at}
 use Rattle.code_rules.specs.Flow.{left_by, just_opened}
 use Rattle.code_rules.specs.Places.{filter_desk}
-use Rattle.code_rules.specs.Rules.{filters, height_after, has_other, is_free, loads_other, loads_free, undeclared}
+use Rattle.code_rules.specs.Rules.{has_other, is_free, undeclared}
 use Rattle.run_values.specs.Tagged.{arguments_on, HoldsKind}
 use Rattle.run_steps.specs.World.{kind_held}
 use Rattle.run_steps.specs.Filters.{Viewer, with_constant, with_held, row_field, asked_of, row_run, block_run}
 use Rattle.run_steps.specs.Filters.{block_fails, block_sound, block_start}
 use Rattle.run_values.proofs.BlockTops.{put_there}
+use Rattle.run_laws.proofs.FilterBlocks.{IsSoundThere, sound_there}
 use Rattle.run_laws.proofs.Tests.{Same, slot_holds, is_there}
 use Rattle.prg_values.specs.declared.pieces.Piece.{Piece}
 use Rattle.prg_values.specs.declared.pieces.Piece.TheVariants.{Constant, Does}
@@ -76,29 +75,6 @@ slot_fits slots _ = Unit {0}
 
 -- ---- one instruction
 
--- what a sound step says
-record Sound (code : Code) (s : State) (i : Instr) : Type 0 where
-  stands : filters i ≡ true
-  other : loads_other s i ≡ false
-  set : loads_free s i ≡ false
-  within : nat_lt code.declared.stack_bound (height_after (length s.stack) i) ≡ false
-  declared : undeclared code s.desk i ≡ false
-
-sound : (code : Code) (s : State) (i : Instr) → not (block_fails code s i) ≡ true → Sound code s i
-sound code s i e =
-    let fails : block_fails code s i ≡ false = not-true' (block_fails code s i) e in
-    let a = or_parts (not (filters i)) (clashes (wants code.declared s.desk i) s.stack || (loads_other s i || (loads_free s i || (nat_lt (length s.stack) (signature i).taken || (nat_lt code.declared.stack_bound (height_after (length s.stack) i) || undeclared code s.desk i))))) fails in
-    let b = or_parts (clashes (wants code.declared s.desk i) s.stack) (loads_other s i || (loads_free s i || (nat_lt (length s.stack) (signature i).taken || (nat_lt code.declared.stack_bound (height_after (length s.stack) i) || undeclared code s.desk i)))) a.1 in
-    let c = or_parts (loads_other s i) (loads_free s i || (nat_lt (length s.stack) (signature i).taken || (nat_lt code.declared.stack_bound (height_after (length s.stack) i) || undeclared code s.desk i))) b.1 in
-    let d = or_parts (loads_free s i) (nat_lt (length s.stack) (signature i).taken || (nat_lt code.declared.stack_bound (height_after (length s.stack) i) || undeclared code s.desk i)) c.1 in
-    let f = or_parts (nat_lt (length s.stack) (signature i).taken) (nat_lt code.declared.stack_bound (height_after (length s.stack) i) || undeclared code s.desk i) d.1 in
-    let g = or_parts (nat_lt code.declared.stack_bound (height_after (length s.stack) i)) (undeclared code s.desk i) f.1 in
-    record { stands = not-false (filters i) a.0; other = c.0; set = d.0; within = g.0; declared = g.1 }
-  where
-    not-true' : (b : Bool) → not b ≡ true → b ≡ false
-    not-true' true e = absurd (cc)
-    not-true' false e = refl
-
 -- where the block is: these slots, this desk, and a stack of this height
 record Stands (v : Viewer) (table : ℕ) (s : State) (st : List Value) : Type 0 where
   slots : s.slots ≡ map kind_held v.slots
@@ -122,7 +98,8 @@ field_is_there : {A : Type 0} (xs : List A) (n : ℕ) → nat_le (length xs) n �
 field_is_there xs n e = is_there xs n (omega (arith, leb-false (length xs) n e))
 
 constant_steps : (code : Code) (v : Viewer) (r : TriedRow) (table : ℕ) (s : State) (st : List Value) (x : Option Value) → length st < 64 → Stands v table s st
-    → (with_constant x st ≡ put_some x st) × Stands v table (record { desk = s.desk; slots = s.slots; stack = known (Some (constant_kind x)) ++ s.stack }) (put_some x st)
+    → (with_constant x st ≡ put_some x st) × Stands v table
+    (record { desk = s.desk; slots = s.slots; stack = known (Some (kind_held x)) ++ s.stack }) (put_some x st)
 constant_steps code v r table s st None lt h = (refl, h)
 constant_steps code v r table s st (Some c) lt h = (put_there c st lt, pushed_stands v table s st _ c h)
 
@@ -132,7 +109,9 @@ load_steps v table s st k None held lt h = absurd held
 load_steps v table s st k (Some None) held lt h = absurd held
 load_steps v table s st k (Some (Some c)) held lt h = (put_there c st lt, pushed_stands v table s st k c h)
 
-value_steps : (code : Code) → Same → code.declared.stack_bound ≤ 64 → (v : Viewer) (r : TriedRow) (table : ℕ) (s : State) (i : ValueInstr) (st : List Value) → length v.slots ≡ code.declared.slots → Stands v table s st → Sound code s (Values i) → Stepped code v r table s (Values i) st
+value_steps : (code : Code) → Same → code.declared.stack_bound ≤ 64 → (v : Viewer) (r : TriedRow) (table : ℕ)
+    (s : State) (i : ValueInstr) (st : List Value) → length v.slots ≡ code.declared.slots → Stands v table s st
+    → IsSoundThere code s (Values i) → Stepped code v r table s (Values i) st
 value_steps code same few v r table s (value_instr.Constant n) st l h e =
     let c = constant_steps code v r table s st (slice_get code.declared.constants n) (has_room code s v table 0 st few h e.within) h in
     record { same = c.0; fits = tt; after = c.1 }
@@ -154,12 +133,14 @@ value_steps code same few v r table s value_instr.Today st l h e =
       fits = tt;
       after = pushed_stands v table s st _ (value.Date v.today) h;
     }
-value_steps code same few v r table s (value_instr.Store k n) st l h e = absurd (let x = e.stands in cc)
-value_steps code same few v r table s (value_instr.Unset n) st l h e = absurd (let x = e.stands in cc)
-value_steps code same few v r table s (value_instr.Discard k) st l h e = absurd (let x = e.stands in cc)
-value_steps code same few v r table s (value_instr.Set x on) st l h e = absurd (let y = e.stands in cc)
+value_steps code same few v r table s (value_instr.Store k n) st l h e = absurd (let x = e.may in cc)
+value_steps code same few v r table s (value_instr.Unset n) st l h e = absurd (let x = e.may in cc)
+value_steps code same few v r table s (value_instr.Discard k) st l h e = absurd (let x = e.may in cc)
+value_steps code same few v r table s (value_instr.Set x on) st l h e = absurd (let y = e.may in cc)
 
-record_steps : (code : Code) → code.declared.stack_bound ≤ 64 → (v : Viewer) (r : TriedRow) (table : ℕ) (s : State) (i : RecordInstr) (st : List Value) → Stands v table s st → Sound code s (Records i) → Stepped code v r table s (Records i) st
+record_steps : (code : Code) → code.declared.stack_bound ≤ 64 → (v : Viewer) (r : TriedRow) (table : ℕ) (s : State)
+    (i : RecordInstr) (st : List Value) → Stands v table s st → IsSoundThere code s (Records i)
+    → Stepped code v r table s (Records i) st
 record_steps code few v r table s (record_instr.RowField f) st h e =
     let there = field_is_there (fields_at code.declared (Some (just_opened table 0))) f (subst (λ d. undeclared code d (Records (record_instr.RowField f)) ≡ false) h.desk e.declared) in
     let kind : gives code.declared s.desk (Records (record_instr.RowField f)) ≡ Some (Some (kind_for there.0.letter)) = ap (λ d. gives code.declared d (Records (record_instr.RowField f))) h.desk ∙ ap (λ x. Some (kind_of_field x)) there.1 in
@@ -174,23 +155,25 @@ record_steps code few v r table s (record_instr.Ask q) st h e =
       fits = tt;
       after = pushed_stands v table s st _ (asked_of q r) h;
     }
-record_steps code few v r table s (record_instr.Field a f) st h e = absurd (let x = e.stands in cc)
-record_steps code few v r table s record_instr.Append st h e = absurd (let x = e.stands in cc)
-record_steps code few v r table s (record_instr.Replace f) st h e = absurd (let x = e.stands in cc)
-record_steps code few v r table s record_instr.Delete st h e = absurd (let x = e.stands in cc)
-record_steps code few v r table s record_instr.Recall st h e = absurd (let x = e.stands in cc)
-record_steps code few v r table s record_instr.Pack st h e = absurd (let x = e.stands in cc)
-record_steps code few v r table s record_instr.Zap st h e = absurd (let x = e.stands in cc)
-record_steps code few v r table s record_instr.Reindex st h e = absurd (let x = e.stands in cc)
-record_steps code few v r table s (record_instr.Index n) st h e = absurd (let x = e.stands in cc)
+record_steps code few v r table s (record_instr.Field a f) st h e = absurd (let x = e.may in cc)
+record_steps code few v r table s record_instr.Append st h e = absurd (let x = e.may in cc)
+record_steps code few v r table s (record_instr.Replace f) st h e = absurd (let x = e.may in cc)
+record_steps code few v r table s record_instr.Delete st h e = absurd (let x = e.may in cc)
+record_steps code few v r table s record_instr.Recall st h e = absurd (let x = e.may in cc)
+record_steps code few v r table s record_instr.Pack st h e = absurd (let x = e.may in cc)
+record_steps code few v r table s record_instr.Zap st h e = absurd (let x = e.may in cc)
+record_steps code few v r table s record_instr.Reindex st h e = absurd (let x = e.may in cc)
+record_steps code few v r table s (record_instr.Index n) st h e = absurd (let x = e.may in cc)
 
-instr_steps : (code : Code) → Same → code.declared.stack_bound ≤ 64 → (v : Viewer) (r : TriedRow) (table : ℕ) (s : State) (i : Instr) (st : List Value) → length v.slots ≡ code.declared.slots → Stands v table s st → Sound code s i → Stepped code v r table s i st
+instr_steps : (code : Code) → Same → code.declared.stack_bound ≤ 64 → (v : Viewer) (r : TriedRow) (table : ℕ)
+    (s : State) (i : Instr) (st : List Value) → length v.slots ≡ code.declared.slots → Stands v table s st
+    → IsSoundThere code s i → Stepped code v r table s i st
 instr_steps code same few v r table s (Values i) st l h e = value_steps code same few v r table s i st l h e
 instr_steps code same few v r table s (Records i) st l h e = record_steps code few v r table s i st h e
-instr_steps code same few v r table s (Flow i) st l h e = absurd (let x = e.stands in cc)
-instr_steps code same few v r table s (Screen i) st l h e = absurd (let x = e.stands in cc)
-instr_steps code same few v r table s (Areas i) st l h e = absurd (let x = e.stands in cc)
-instr_steps code same few v r table s (Moves i) st l h e = absurd (let x = e.stands in cc)
+instr_steps code same few v r table s (Flow i) st l h e = absurd (let x = e.may in cc)
+instr_steps code same few v r table s (Screen i) st l h e = absurd (let x = e.may in cc)
+instr_steps code same few v r table s (Areas i) st l h e = absurd (let x = e.may in cc)
+instr_steps code same few v r table s (Moves i) st l h e = absurd (let x = e.may in cc)
 
 -- ---- the block
 
@@ -207,7 +190,8 @@ walked_from : (code : Code) → Same → code.declared.stack_bound ≤ 64 → (v
 walked_from code same few v r table l s [] st h e = record { same = refl; fits = tt }
 walked_from code same few v r table l s (i ∷ block) st h e =
     let p = and_parts (not (block_fails code s i)) (block_sound code (left_by code i s) block) e in
-    let w = instr_steps code same few v r table s i st l h (sound code s i p.0) in
+    let w = instr_steps code same few v r table s i st l h
+    (sound_there code s i (not-true (block_fails code s i) p.0)) in
     let rest = walked_from code same few v r table l (left_by code i s) block (row_puts code v r i st) w.after p.1 in
     record { same = ap (block_run code v r block) w.same ∙ rest.same; fits = (w.fits, rest.fits) }
 

@@ -1,18 +1,18 @@
 -- A filter shows the rows for which its condition holds.
 use Rattle.std.proofs.Common.{◌≡◌, ◌<◌, ◌≤◌, ℕ, suc, Bool, true, false, not, ◌&&◌, ◌==◌, List, [], ◌∷◌, length, map}
 use Rattle.std.proofs.Common.{Option, Some, None, refl, sym, ap, ◌∙◌, subst, arith}
-use Rattle.std.specs.Prelude.{slice_get, slice_index_or, codes, if◌then◌else◌}
+use Rattle.std.specs.Prelude.{slice_get, codes, if◌then◌else◌}
 use Rattle.std.specs.Str.{bytes_eq}
 use Rattle.std.proofs.lemmas.Option.{slice_get_within, get_or_from_slice_get}
-use Rattle.std.proofs.lemmas.Bool.{and_parts, lt-ltb, eqb-true}
+use Rattle.std.proofs.lemmas.Bool.{and_parts, eqb-true}
 use Rattle.xvalue.specs.declared.kind.Kind.{Kind}
 use Rattle.xvalue.specs.declared.kind.Kind.TheVariants as kind
 use Rattle.xvalue.specs.declared.value.Value.{Value}
 use Rattle.xvalue.specs.declared.value.Value.TheVariants as value
 use Rattle.xvalue.specs.Kinds.{kind_of}
 use Rattle.dbf_file.specs.declared.field.Field.{Field}
-use Rattle.dbf_file.specs.Tables.{letter_at, decimals_at}
-use Rattle.dbf_file.specs.Values.{kind_for, value_by}
+use Rattle.dbf_file.specs.Tables.{letter_at}
+use Rattle.dbf_file.specs.Values.{kind_for}
 use Rattle.shape.specs.declared.whole.Shape.{Shape}
 use Rattle.open_table.specs.Tried.{TriedRow}
 use Rattle.work_area.specs.Making.{HaveAlikeFields}
@@ -43,19 +43,20 @@ use Rattle.run_values.specs.BlockStack.{is_true}
 use Rattle.run_steps.specs.World.{kind_held}
 use Rattle.run_steps.specs.Filters.{Viewer, row_field, asked_of, block_run, filter_block, instructions_of, block_start}
 use Rattle.run_steps.specs.Filters.{block_sound, is_sound_filter, is_sound, is_unhidden, is_visible}
+use Rattle.run_steps.proofs.Results.{ResultLaw}
+use Rattle.run_laws.proofs.AlikeFields.{letter_there}
+use Rattle.run_laws.proofs.FilterBlocks.{field_kind_is}
 use Rattle.run_laws.proofs.Tests.{Same, else_yes, not_zero}
-use Rattle.run_laws.proofs.Tests.{ResultLaw}
 use Rattle.expr_laws.specs.Meaning.{nothing, value_in, is_truth, holds_in}
 use Rattle.expr_laws.specs.Seeing.{slot_value, variable_value}
 use Rattle.expr_laws.specs.Rows.{row_value, row_sight, IsOfFilter, IsOfTable}
-use Rattle.expr_laws.proofs.Areas.{field_there, letter_there}
+use Rattle.expr_laws.proofs.Areas.{field_there}
 use Rattle.expr_laws.proofs.Blocks.{row_puts, slot_fits, walked, pieces_fit, put_some, put_held}
 use Rattle.expr_laws.proofs.Machines.{Machine, Puts, Goes, through}
 use Rattle.expr_laws.proofs.Names.{is_load, is_asked}
 use Rattle.fit_laws.proofs.Runs.{some_same, none_some}
 use Rattle.expr_laws.proofs.Options.{found}
 use Rattle.expr_laws.proofs.Trees.{leads}
-use Rattle.fit_laws.proofs.Fields.{value_kind}
 
 -- the block's tests are made before it runs
 abbrev untested : Instr → List Value → Type 0
@@ -85,8 +86,7 @@ row_kind r fields n f alike at =
     let lt' : n < length r.structure.fields = omega (arith, lt, alike.count) in
     let letters : letter_at r.structure n ≡ f.letter =
     letter_there r.structure.fields n f lt' ∙ (alike.each n f lt').letter ∙ ap (λ (x : Field). x.letter) (get_or_from_slice_get fields n f f at) in
-    ap (λ (b : Bool). kind_of (if b then value_by (letter_at r.structure n) (decimals_at r.structure n) (slice_index_or r.row.texts n []) else value.Logical false)) (lt-ltb n (length r.structure.fields) lt')
-    ∙ value_kind (letter_at r.structure n) (decimals_at r.structure n) (slice_index_or r.row.texts n []) ∙ ap kind_for letters
+    field_kind_is n r lt' ∙ ap kind_for letters
 
 -- the reading is of the row, and of the selected area
 record OfRow (s : Scoped) (area : ℕ) (f : FieldPlace) (x : Reading) : Type 0 where

@@ -31,7 +31,7 @@ use Rattle.run_laws.proofs.Tests.{mapped_at}
 use Rattle.expr_laws.specs.Seeing.{StaysWithin}
 use Rattle.expr_laws.proofs.Areas.{past}
 use Rattle.expr_laws.proofs.Machines.{Run, onto, through}
-use Rattle.fit_laws.proofs.Covering.{kind_self}
+use Rattle.code_rules.proofs.Covering.{kind_self}
 use Rattle.fit_laws.proofs.Runs.{some_same, none_some}
 use Rattle.expr_laws.proofs.Stacks.{onto_is}
 

@@ -33,8 +33,8 @@ use Rattle.prg_values.specs.Written.{IsPiece, calls, meaning, choice, question_k
 use Rattle.prg_values.specs.Written.{prefixed_kind, operated_kind, kind_in, kinds_in, reading_pieces, constants, chosen}
 use Rattle.prg_values.specs.Written.{call_pieces, prefix_pieces, denial, operation_pieces, operator_pieces}
 use Rattle.prg_values.specs.Written.{turned as in_turn, pieces_in, all_pieces, defaults}
+use Rattle.run_steps.proofs.Results.{ResultLaw}
 use Rattle.fit_laws.proofs.Covered.{kinds_same}
-use Rattle.run_laws.proofs.Tests.{ResultLaw}
 use Rattle.expr_laws.specs.Meaning.{Sight, applied_to, operands, value_in, values_in}
 use Rattle.expr_laws.proofs.Defaults.{alone, all_kinds}
 use Rattle.expr_laws.proofs.Machines.{Run, Machine, Puts, Goes, parts_of, onto, onto_both, through, all_fit}

@@ -32,8 +32,8 @@ use Rattle.prg_values.specs.Written.{meaning, choice, reading_kind, completed, f
 use Rattle.prg_values.specs.Written.{called_kind, prefixed_kind, operated_kind, kind_in, kinds_in, reading_pieces}
 use Rattle.prg_values.specs.Written.{constants, chosen, call_pieces, prefix_pieces, operation_pieces, operation_in}
 use Rattle.prg_values.specs.Written.{operator_pieces, turned as in_turn, pieces_in, all_pieces, defaults}
+use Rattle.run_steps.proofs.Results.{ResultLaw}
 use Rattle.fit_laws.proofs.Covered.{kinds_same, joined}
-use Rattle.run_laws.proofs.Tests.{ResultLaw}
 use Rattle.expr_laws.specs.Meaning.{Sight, nothing, applied_to, denied_if, operands, operation_value, operated_value}
 use Rattle.expr_laws.specs.Meaning.{prefixed_value, chosen_value, called_value, value_in, values_in}
 use Rattle.expr_laws.proofs.Operands.{operated_sound}

@@ -34,7 +34,7 @@ use Rattle.prg_values.specs.Written.{calls, meaning, choice, reading_kind, funct
 use Rattle.prg_values.specs.Written.{called_kind, prefixed_kind, operated_kind, kind_in, kinds_in, reading_pieces}
 use Rattle.prg_values.specs.Written.{constants, chosen, call_pieces, prefix_pieces, denial, operation_pieces}
 use Rattle.prg_values.specs.Written.{operator_pieces, turned as in_turn, pieces_in, all_pieces, defaults}
-use Rattle.run_laws.proofs.Tests.{ResultLaw}
+use Rattle.run_steps.proofs.Results.{ResultLaw}
 use Rattle.expr_laws.specs.Meaning.{Sight, nothing, applied_to, denied_if, operands, operation_value, prefixed_value}
 use Rattle.expr_laws.specs.Meaning.{chosen_value, called_value, value_in, values_in}
 use Rattle.expr_laws.proofs.Machines.{Run, Machine, Puts, Goes, parted, goes_nowhere, goes_by, goes_constant, onto}

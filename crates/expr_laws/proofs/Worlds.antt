@@ -24,9 +24,9 @@ use Rattle.run_steps.specs.Faults.{fault_of, IsClear}
 use Rattle.run_steps.specs.Run.{after, spent}
 use Rattle.run_steps.specs.Safe.{IsSafe}
 use Rattle.run_steps.specs.Shapes.{HasShape}
+use Rattle.run_steps.proofs.Results.{ResultLaw}
 use Rattle.run_laws.proofs.Known.{known_of}
 use Rattle.fit_laws.specs.Fits.{IsFitting}
-use Rattle.run_laws.proofs.Tests.{ResultLaw}
 use Rattle.expr_laws.specs.Meaning.{value_in}
 use Rattle.expr_laws.specs.Seeing.{sight, StandsAt, HasWay, IsThere, with_value}
 use Rattle.expr_laws.proofs.Machines.{Run, Machine, Goes, all_fit}

@@ -28,7 +28,7 @@ use run_laws::laws::faultless_instructions_are_clear;
 use xvalue::laws::{results_have_their_kind, same_kinds_are_equal};
 
 /// The code of an expression, wherever it stands in accepted code, leaves the expression's value on top after one step
-/// an instruction; the value has the kind that was known, and nothing else is changed but the place. What was known
+/// an instruction. The value has the kind that was known, and nothing else is changed but the place. What was known
 /// where the expression was compiled has to be true of the world.
 pub fn expressions_leave_their_values()
     ensures world { (code : AnyCode) (s : Scoped) (w : AnyWorld) (e : Tree) (kind : AnyKind) (block : List AnyInstr)
@@ -49,11 +49,11 @@ pub fn expressions_leave_their_values()
     fitting_worlds_are_safe();
 }
 
-/// The code of an expression leaves the expression's value on top after one step an instruction wherever it stands in a
-/// code, accepted or not: each name is read as its slot or field, the value has the kind that was known, and nothing
+/// The code of an expression leaves the expression's value on top after one step an instruction, wherever it stands in
+/// a code, accepted or not. Each name is read as its slot or field. The value has the kind that was known, and nothing
 /// else is changed but the place. The code holds at least the constants with which the expression was compiled. The
-/// world has the code's shape, what was known where the expression was compiled is true of it, its stack has room, and
-/// the place behind the expression's code stands in a procedure.
+/// world has the code's shape, and what was known where the expression was compiled is true of it. Its stack has room,
+/// and the place behind the expression's code stands in a procedure.
 pub fn expressions_leave_their_values_anywhere()
     ensures world { (code : AnyCode) (s : Scoped) (w : AnyWorld) (e : Tree) (kind : AnyKind)
         (constants : List AnyValue) (block : List AnyInstr) → HasWay code w block → StandsAt code s w
@@ -74,9 +74,9 @@ pub fn expressions_leave_their_values_anywhere()
     faultless_instructions_are_clear();
 }
 
-/// A filter compiled from a condition, where its needs are met and its block can be run, shows just the rows that
-/// aren't hidden by their mark and for which the condition holds: fields read from the row tried, variables, settings
-/// and day as they are then.
+/// A filter compiled from a condition shows just the rows that aren't hidden by their mark and for which the condition
+/// holds, where its needs are met and its block can be run. The condition reads fields from the row tried, and
+/// variables, settings and the day as they are then.
 pub fn filters_hold_where_their_conditions_do()
     ensures { (code : AnyCode) (s : Scoped) (v : Viewer) (number table : ℕ) (row : TriedRow) (e : Tree) → IsCode code
         → IsOfFilter code s (suc number) table → IsOfTable code v table row

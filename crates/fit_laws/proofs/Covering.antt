@@ -2,7 +2,6 @@
 use Rattle.std.proofs.Common.{◌≡◌, ℕ, Bool, true, ◌&&◌, ◌==◌, List, [], ◌∷◌, Option, Some, None, refl, sym, ◌∙◌, subst}
 use Rattle.std.proofs.lemmas.Bool.{and_parts, and_from, eqb-true, eq-eqb}
 use Rattle.xvalue.specs.declared.kind.Kind.{Kind}
-use Rattle.xvalue.specs.declared.kind.Kind.TheVariants.{Number as OfNumber, Text as OfText, Date as OfDate, Logical as OfLogical}
 use Rattle.xvalue.specs.Kinds.{same_kind}
 use Rattle.code_items.specs.declared.desk.OpenArea.{OpenArea}
 use Rattle.code_items.specs.declared.desk.AreaState.{AreaState}
@@ -13,6 +12,7 @@ use Rattle.code_items.specs.Pairs.{along}
 use Rattle.code_items.specs.Desks.{same_area, area_covered, areas_covered, desk_covered}
 use Rattle.code_items.specs.Kinds.{same_pair, same_kinds, slot_covered, slots_covered}
 use Rattle.code_rules.specs.Rules.{covers}
+use Rattle.code_rules.proofs.Covering.{kind_self, slot_self, number_self, area_self}
 use Rattle.fit_laws.proofs.Covered.{kinds_same}
 
 -- ---- each is covered by itself
@@ -21,34 +21,8 @@ along_self : {A : Type 0} (test : A × A → Bool) → ((a : A) → test (a, a) 
 along_self test each [] = refl
 along_self test each (x ∷ xs) = and_from (test (x, x)) (along test xs xs) (each x) (along_self test each xs)
 
-pub kind_self : (k : Kind) → same_kind k k ≡ true
-kind_self OfNumber = refl
-kind_self OfText = refl
-kind_self OfDate = refl
-kind_self OfLogical = refl
-
 pair_self : (k : Kind) → same_pair (k, k) ≡ true
 pair_self k = kind_self k
-
-slot_self : (o : Option Kind) → slot_covered (o, o) ≡ true
-slot_self None = refl
-slot_self (Some k) = kind_self k
-
-number_self : (n : ℕ) → (n == n) ≡ true
-number_self n = eq-eqb n n refl
-
-open_self : (a : OpenArea) → same_area a a ≡ true
-open_self a =
-    and_from (a.table == a.table && a.list == a.list && a.order == a.order) (a.filter == a.filter)
-    (and_from (a.table == a.table && a.list == a.list) (a.order == a.order)
-    (and_from (a.table == a.table) (a.list == a.list) (number_self a.table) (number_self a.list))
-    (number_self a.order))
-    (number_self a.filter)
-
-area_self : (a : AreaState) → area_covered (a, a) ≡ true
-area_self Closed = refl
-area_self (IsOpen a) = open_self a
-area_self Unsure = refl
 
 pub slots_self : (slots : List (Option Kind)) → slots_covered slots slots ≡ true
 slots_self slots = along_self slot_covered slot_self slots

@@ -1,5 +1,6 @@
 -- What an instruction makes of work areas that are covered is covered too.
-use Rattle.std.proofs.Common.{◌≡◌, ℕ, zero, suc, true, false, ◌&&◌, ◌==◌, List, [], ◌∷◌, length, Option, Some, None, refl, subst, arith}
+use Rattle.std.proofs.Common.{◌≡◌, ℕ, zero, suc, true, false, ◌==◌, List, [], ◌∷◌, length, Option, Some, None}
+use Rattle.std.proofs.Common.{refl, subst, arith}
 use Rattle.std.specs.Prelude.{is_none, replicate, slice_set}
 use Rattle.std.proofs.lemmas.Bool.{and_parts, and_from, eq-eqb}
 use Rattle.code_items.specs.declared.desk.OpenArea.{OpenArea}
@@ -15,6 +16,7 @@ use Rattle.code_items.specs.declared.instr.Instr.{Instr}
 use Rattle.code_items.specs.declared.instr.Instr.TheVariants.{Values, Flow, Screen, Areas, Moves, Records}
 use Rattle.code_rules.specs.Flow.{just_opened, ordered, filtered, in_list_order, if_area, on_selected, desk_after_area, desk_after_record, desk_after}
 use Rattle.code_rules.specs.Rules.{selected_in}
+use Rattle.code_rules.proofs.Covering.{area_self}
 use Rattle.fit_laws.proofs.Covered.{Desks, selects}
 use Rattle.fit_laws.proofs.Desks.{IsKnown}
 
@@ -41,13 +43,6 @@ closed_covered : (n : ℕ) → areas_covered (replicate n Closed) (replicate n C
 closed_covered zero = refl
 closed_covered (suc n) = closed_covered n
 
-area_self : (a : OpenArea) → area_covered (IsOpen a, IsOpen a) ≡ true
-area_self a =
-    and_from (a.table == a.table && a.list == a.list && a.order == a.order) (a.filter == a.filter)
-    (and_from (a.table == a.table && a.list == a.list) (a.order == a.order)
-    (and_from (a.table == a.table) (a.list == a.list) (eq-eqb a.table a.table refl) (eq-eqb a.list a.list refl))
-    (eq-eqb a.order a.order refl)) (eq-eqb a.filter a.filter refl)
-
 put_selected : (m s : Desk) → Desks m s → (x y : AreaState) → area_covered (x, y) ≡ true → Desks (with_selected_area x m) (with_selected_area y s)
 put_selected m s d x y e = record {
   selected = d.selected;
@@ -60,13 +55,15 @@ on_both change m s d None y e n = absurd (cc)
 on_both change m s d (Some a) None e n = absurd (cc)
 on_both change m s d (Some a) (Some b) e n =
     let same : a ≡ b = cc in
-    put_selected m s d (IsOpen (change a)) (IsOpen (change b)) (subst (λ z. area_covered (IsOpen (change a), IsOpen (change z)) ≡ true) same (area_self (change a)))
+    put_selected m s d (IsOpen (change a)) (IsOpen (change b))
+    (subst (λ z. area_covered (IsOpen (change a), IsOpen (change z)) ≡ true) same (area_self (IsOpen (change a))))
 
 selected_on : (change : OpenArea → OpenArea) (m s : Desk) → Desks m s → is_none (selected_in m) ≡ false → Desks (on_selected change m) (on_selected change s)
 selected_on change m s d n = on_both change m s d (selected_in m) (selected_in s) (selects m s d n) n
 
 area_on : (m s : Desk) → Desks m s → (i : AreaInstr) → IsKnown m (Areas i) → Desks (desk_after_area i m) (desk_after_area i s)
-area_on m s d (Open t l) k = put_selected m s d (IsOpen (just_opened t l)) (IsOpen (just_opened t l)) (area_self (just_opened t l))
+area_on m s d (Open t l) k =
+    put_selected m s d (IsOpen (just_opened t l)) (IsOpen (just_opened t l)) (area_self (IsOpen (just_opened t l)))
 area_on m s d Close k = put_selected m s d Closed Closed refl
 area_on m s d CloseAll k = record {
   selected = refl;

@@ -3,10 +3,8 @@ use Rattle.std.proofs.Common.{◌≡◌, ℕ, true, false, List, [], ◌∷◌, 
 use Rattle.std.specs.Prelude.{slice_get, slice_index_or, is_none}
 use Rattle.xvalue.specs.declared.kind.Kind.{Kind}
 use Rattle.xvalue.specs.Kinds.{kind_of}
-use Rattle.dbf_file.specs.declared.field.Letter.{Letter}
-use Rattle.dbf_file.specs.declared.field.Letter.TheVariants.{C, N, D, L}
 use Rattle.dbf_file.specs.Tables.{letter_at, decimals_at}
-use Rattle.dbf_file.specs.Values.{kind_for, value_by}
+use Rattle.dbf_file.specs.Values.{kind_for}
 use Rattle.open_table.specs.Open.{OpenState, current_row, field_of}
 use Rattle.work_area.specs.Areas.{StoreState, area_table, here}
 use Rattle.code_items.specs.declared.code.Code.{Code}
@@ -26,6 +24,7 @@ use Rattle.run_steps.specs.World.{World, desk_of}
 use Rattle.run_steps.specs.Effects.{answer, on_table, record_values}
 use Rattle.run_steps.specs.Faults.{IsClear}
 use Rattle.run_steps.specs.Shapes.{StoreFits}
+use Rattle.run_laws.proofs.AlikeFields.{value_kind}
 use Rattle.run_laws.proofs.Known.{OpenThere}
 use Rattle.run_laws.proofs.OnRecords.{field_known}
 use Rattle.run_laws.proofs.Tests.{first_no}
@@ -34,12 +33,6 @@ use Rattle.fit_laws.proofs.Desks.{IsKnown}
 use Rattle.fit_laws.proofs.Values.{Tells, push_told, drop_told}
 
 -- ---- the kind of a field
-
-pub value_kind : (l : Letter) (decimals : ℕ) (text : List ℕ) → kind_of (value_by l decimals text) ≡ kind_for l
-value_kind C decimals text = refl
-value_kind N decimals text = refl
-value_kind D decimals text = refl
-value_kind L decimals text = refl
 
 pub value_of_field : (o : OpenState) (f : ℕ) → kind_of (field_of f o) ≡ kind_for (letter_at o.table.structure f)
 value_of_field o f = value_kind (letter_at o.table.structure f) (decimals_at o.table.structure f) (slice_index_or (current_row o).texts f [])

@@ -3,6 +3,7 @@ use Rattle.std.proofs.Common.{◌≡◌, ℕ, true, false, List, length, Option,
 use Rattle.std.specs.Prelude.{is_none, slice_get, nat_le}
 use Rattle.std.proofs.lemmas.Bool.{leb-false}
 use Rattle.xvalue.specs.declared.value.Value.{Value}
+use Rattle.xvalue.specs.Kinds.{kind_held}
 use Rattle.dbf_file.specs.declared.field.Field.{Field as TableField}
 use Rattle.code_items.specs.declared.declared.Declared.{Declared}
 use Rattle.code_items.specs.declared.code.Code.{Code}
@@ -18,11 +19,12 @@ use Rattle.code_items.specs.declared.instr.RecordInstr.TheVariants.{Field, RowFi
 use Rattle.code_items.specs.declared.instr.Instr.{Instr}
 use Rattle.code_items.specs.declared.instr.Instr.TheVariants.{Values, Flow, Screen, Areas, Moves, Records}
 use Rattle.code_rules.specs.Signature.{area_of, record_area, call_of}
-use Rattle.code_rules.specs.Wants.{fields_at, kind_of_field, constant_kind, value_gives, screen_gives, record_gives, gives, unknown}
+use Rattle.code_rules.specs.Wants.{fields_at, kind_of_field, value_gives, screen_gives, record_gives, gives, unknown}
 use Rattle.code_rules.specs.Rules.{fails_if_named, fails_if_open, is_rows, record_is_rows, no_procedure, value_undeclared, record_undeclared, undeclared}
 use Rattle.run_laws.proofs.Tests.{is_there}
 
-constant_known : (values : List Value) (n : ℕ) → nat_le (length values) n ≡ false → unknown (Some (constant_kind (slice_get values n))) ≡ 0
+constant_known : (values : List Value) (n : ℕ) → nat_le (length values) n ≡ false
+    → unknown (Some (kind_held (slice_get values n))) ≡ 0
 constant_known values n e =
     let t = is_there values n (leb-false (length values) n e) in
     rw t.1 refl

@@ -35,9 +35,10 @@ use Rattle.run_steps.specs.Effects.{top, values_after, env_after}
 use Rattle.run_steps.specs.Faults.{IsClear}
 use Rattle.run_steps.specs.Needs.{Needs}
 use Rattle.run_steps.specs.Shapes.{StoreFits, HasShape}
+use Rattle.run_steps.proofs.Results.{ResultLaw}
 use Rattle.run_laws.proofs.Known.{Known, known_of, OpenThere, open_there}
 use Rattle.run_laws.proofs.Ready.{ready}
-use Rattle.run_laws.proofs.Tests.{ResultLaw, all_within}
+use Rattle.run_laws.proofs.Tests.{all_within}
 use Rattle.fit_laws.specs.Fits.{Fits, procedure_at, Awaits, IsFitting}
 use Rattle.fit_laws.proofs.Clear.{Rules, rules, outside}
 use Rattle.fit_laws.proofs.Covered.{Covered, covered, Desks, kinds_same}

@@ -21,16 +21,16 @@ use Rattle.code_items.specs.declared.instr.ScreenInstr.{ScreenInstr}
 use Rattle.code_items.specs.declared.instr.ScreenInstr.TheVariants.{NewLine, Print, Say, SayOn, Input, Line, Clear}
 use Rattle.code_items.specs.declared.instr.Instr.TheVariants.{Values}
 use Rattle.code_rules.specs.Signature.{value_signature, screen_signature}
-use Rattle.code_rules.specs.Wants.{value_wants, screen_wants, constant_kind, value_gives, screen_gives, known}
+use Rattle.code_rules.specs.Wants.{value_wants, screen_wants, value_gives, screen_gives, known}
 use Rattle.code_rules.specs.Flow.{slots_after_value}
 use Rattle.code_rules.specs.Rules.{has_other, is_free, value_undeclared}
 use Rattle.run_values.specs.Tagged.{TaggedValues, HoldsKind, pushed, dropped, loaded_value, stored_top, arguments_on}
 use Rattle.run_steps.specs.World.{World, EnvState, state_of, kind_held}
 use Rattle.run_steps.specs.Effects.{on_value, with_pushed, value_values, screen_values}
 use Rattle.run_steps.specs.Needs.{LoadNeeds}
-use Rattle.run_laws.proofs.Tests.{ResultLaw}
+use Rattle.run_steps.proofs.Results.{ResultLaw}
 use Rattle.fit_laws.proofs.Covered.{kinds_same, joined}
-use Rattle.fit_laws.proofs.Covering.{kind_self}
+use Rattle.code_rules.proofs.Covering.{kind_self}
 use Rattle.fit_laws.proofs.Filters.{Legal}
 use Rattle.fit_laws.proofs.Loads.{LoadsWell}
 
@@ -119,7 +119,8 @@ stored_told slots stack t k n h o =
 
 -- ---- instructions on values
 
-constant_told : (slots : List (Option Kind)) (stack : List Kind) (t : TaggedValues) (o : Option Value) → Tells slots stack t → Tells slots (known (Some (constant_kind o)) ++ stack) (with_pushed o t)
+constant_told : (slots : List (Option Kind)) (stack : List Kind) (t : TaggedValues) (o : Option Value)
+    → Tells slots stack t → Tells slots (known (Some (kind_held o)) ++ stack) (with_pushed o t)
 constant_told slots stack t None h = h
 constant_told slots stack t (Some value) h = push_told slots stack t (kind_of value) value refl h
 

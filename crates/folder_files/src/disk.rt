@@ -80,7 +80,7 @@ fn make<R: Disk>(rt: &R, path: &str, mode: u32) -> io::Result<R::File> {
 #[derive(Clone, Copy)]
 pub(crate) struct Old<'a> {
     data: &'a Metadata,
-    /// Whether the new file is the user's where its owner or group can't be given to it.
+    /// Whether the new file may stay the user's where this file's owner or group can't be given to it.
     taken_over: bool,
 }
 
@@ -129,8 +129,9 @@ pub(crate) fn write_new<R: Disk>(
     filled
 }
 
-/// Makes the whole new file of a target beside it, down to the device, with the owner and the mode of what stands
-/// there. Where it is taken over, it may stay the user's if it can't be given to the old owner and group.
+/// Makes the whole new file of a target beside it, down to the device. It gets the owner, the group and the mode of the
+/// file that stands under the target's name. If that file is taken over, the new one may stay the user's where its
+/// owner and group can't be given to it.
 pub(crate) fn write_beside<R: Disk>(
     rt: &R,
     target: &str,

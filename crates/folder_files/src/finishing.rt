@@ -254,8 +254,8 @@ fn unread(fault: PaperFault) -> UnfinishedSave
     }
 }
 
-/// Finishes the save that was cut off in the folder in which the program runs, if one was: takes it away where it
-/// hadn't come to its note, and carries it to its end where it had.
+/// Finishes the save that was cut off in the folder in which the program runs, if one was. A save that hadn't come to
+/// its note is taken away. One that had is carried to its end.
 ///
 /// # Errors
 /// A file that is told is one of the folder.

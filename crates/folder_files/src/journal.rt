@@ -53,11 +53,16 @@ pub struct Tail {
     pub bytes: Vec<u8>,
 }
 
+/// Cuts off what stands behind so many bytes of a file, down to the device.
+fn cut(file: &File, length: u64) -> io::Result<()> {
+    file.set_len(length)?;
+    file.sync_all()
+}
+
 impl Tail {
     /// Cuts it off, down to the device.
     pub fn cut_off(&self) -> io::Result<()> {
-        self.file.set_len(self.length)?;
-        self.file.sync_all()
+        cut(&self.file, self.length)
     }
 }
 
@@ -311,12 +316,6 @@ impl JournalFile {
         }
     }
 
-    /// Cuts off all that doesn't count.
-    fn cut(&self) -> io::Result<()> {
-        self.file.set_len(self.length)?;
-        self.file.sync_all()
-    }
-
     /// Puts bytes behind the others, down to the device.
     fn put(&mut self, bytes: &[u8]) -> io::Result<()>
         ensures { bytes_counted self.new ≡ bytes_counted self.old }
@@ -339,7 +338,7 @@ impl JournalFile {
                 Ok(())
             }
             Err(error) => {
-                let _ = self.cut();
+                let _ = cut(&self.file, self.length);
                 Err(error)
             }
         }

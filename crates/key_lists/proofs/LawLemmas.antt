@@ -1,6 +1,7 @@
 -- The laws of lists in order.
 use Rattle.std.proofs.Common.{◌≡◌, ℕ, suc, true, false, not, cond, List, [], ◌∷◌, reverse, refl, ap, sym, subst}
 use Rattle.std.specs.List.{insert}
+use Rattle.std.proofs.lemmas.Bool.{not-true}
 use Rattle.std.specs.List.Sorted.{IsPermutation}
 use Rattle.std.proofs.lemmas.List.Sorted.{IsPermutation-refl, IsPermutation-trans, IsPermutation-cons}
 use Rattle.std.proofs.lemmas.List.Sorted.{IsPermutation-insert}
@@ -11,7 +12,7 @@ use Rattle.key_lists.proofs.Ordered.{IsAscending-reverse, flip_strict, IsAscendi
 use Rattle.key_lists.proofs.Ordered.{IsAscending-in_order, without-inserted, in_order-permutation, in_order-middle}
 use Rattle.key_lists.proofs.Ordered.{in_order-replaced, without-middle, without-absent, step_all, step_above}
 use Rattle.key_lists.proofs.Filling.{length-in_order, rising_in_order}
-use Rattle.key_lists.proofs.PairOrder.{is_before_strict, key_before_down, not_true}
+use Rattle.key_lists.proofs.PairOrder.{is_before_strict, key_before_down}
 use Rattle.key_lists.proofs.Members.{Contains-inserted, inserted-Contains, Contains-without, without-Contains}
 use Rattle.key_lists.proofs.Members.{Contains-in_order, in_order-Contains}
 use Rattle.key_lists.proofs.Nearest.{IsLeastOf-reverse, IsLeastOf-map, filter-least, first-least, step_from}
@@ -34,7 +35,7 @@ finds_nearest pairs a = record {
   greatest = IsLeastOf-reverse (flip is_before) (λ _. Rattle.std.specs.Prelude.⊤) pairs (first (reverse pairs))
       (first-least (flip is_before) backward (reverse pairs) (IsAscending-reverse is_before pairs a));
   least_from = λ key. IsLeastOf-map is_before (λ (q : Pair). not (key_before q.0 key) ≡ true)
-      (λ q. key_before q.0 key ≡ false) pairs (first (pairs_from key pairs)) (λ q e. not_true e) (λ q e. ap not e)
+      (λ q. key_before q.0 key ≡ false) pairs (first (pairs_from key pairs)) (λ q e. not-true _ e) (λ q e. ap not e)
       (filter-least is_before is_before_strict (λ q. not (key_before q.0 key)) pairs a);
   next = λ p. filter-least is_before is_before_strict (is_before p) pairs a;
   previous = λ p. IsLeastOf-reverse (flip is_before) (λ q. is_before q p ≡ true) pairs (first (below is_before p pairs))

@@ -1,5 +1,5 @@
 -- Pairs are in a strict order.
-use Rattle.std.proofs.Common.{◌≡◌, ℕ, Bool, true, false, not, List, refl, sym, ap, ◌∙◌}
+use Rattle.std.proofs.Common.{◌≡◌, ℕ, true, false, not, List, refl, sym, ap, ◌∙◌}
 use Rattle.std.specs.declared.cmp.Ordering.{Ordering}
 use Rattle.std.specs.declared.cmp.Ordering.TheVariants.{Less, Equal, Greater}
 use Rattle.std.specs.Ordering.{is_lt, nat_cmp, ordering_reverse}
@@ -69,14 +69,6 @@ key_before_up k p q e f =
           exact_bytes p.0 q.0 g in ap (λ (m : List ℕ). is_lt (slice_cmp nat_cmp k m)) (sym same) ∙ f
       | Greater ↦ λ g. let h = rw g at e in cc
     ] refl
-
-pub not_true : {b : Bool} → not b ≡ true → b ≡ false
-not_true {b = true} e = cc
-not_true {b = false} e = refl
-
-pub not_false : {b : Bool} → not b ≡ false → b ≡ true
-not_false {b = true} e = refl
-not_false {b = false} e = cc
 
 pub is_before_is : (p q : Pair) → is_before p q ≡ is_lt (pair_cmp p q)
 unfolding is_before

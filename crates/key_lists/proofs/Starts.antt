@@ -1,24 +1,19 @@
 -- Keys that begin alike.
-use Rattle.std.proofs.Common.{◌≡◌, ◌∙◌, ℕ, ◌<◌, inl, inr, Bool, true, false, not, ◌&&◌, eqb, cond, List, [], ◌∷◌, ◌++◌}
+use Rattle.std.proofs.Common.{◌≡◌, ◌∙◌, ℕ, ◌<◌, inl, inr, true, false, not, eqb, cond, List, [], ◌∷◌, ◌++◌}
 use Rattle.std.proofs.Common.{refl, ap, sym, subst, arith}
 use Rattle.std.specs.List.{filter}
-use Rattle.std.proofs.lemmas.Bool.{cases_lt, eqb-true, eq-eqb, false≢true, false_from_ne_true}
+use Rattle.std.proofs.lemmas.Bool.{cases_lt, eqb-true, eq-eqb, false≢true, false_from_ne_true, not-true, and_parts}
 use Rattle.key_lists.specs.Order.{Each, IsAscending}
 use Rattle.key_lists.specs.Pairs.{Pair, is_before, key_before, pairs_from}
 use Rattle.key_lists.specs.Laws.{begins_with, StandTogether}
 use Rattle.key_lists.proofs.Ordered.{Each-map, Each-filter, filter-all, filter-none}
 use Rattle.key_lists.proofs.KeyOrder.{orders_pairs}
-use Rattle.key_lists.proofs.PairOrder.{not_true}
 use Rattle.key_lists.proofs.Rises.{before_asym}
 
 -- keys go up with the pairs
 pub not_below : (p q : Pair) → is_before p q ≡ true → key_before q.0 p.0 ≡ false
 not_below p q e = false_from_ne_true (key_before q.0 p.0)
     (λ g. false≢true (sym (before_asym p q e) ∙ orders_pairs.by_key q.0 p.0 q.1 p.1 g))
-
-and_parts : (a b : Bool) → (a && b) ≡ true → (a ≡ true) × (b ≡ true)
-and_parts true b e = (refl, e)
-and_parts false b e = absurd cc
 
 -- keys of one first byte are ordered by the others
 behind_byte : (a : ℕ) (k l : List ℕ) → key_before (a ∷ k) (a ∷ l) ≡ key_before k l
@@ -69,7 +64,8 @@ between_starts (a ∷ start) (x ∷ low) (y ∷ high) e f b =
 none_behind : (start : List ℕ) (p q : Pair) → not (key_before p.0 start) ≡ true → begins_with start p.0 ≡ false
     → is_before p q ≡ true → begins_with start q.0 ≡ false
 none_behind start p q from other e = elim (begins_with start q.0) as (λ b. begins_with start q.0 ≡ b → b ≡ false) [
-  | true ↦ λ f. absurd (false≢true (sym other ∙ between_starts start p.0 q.0 (not_true from) (not_below p q e) f))
+  | true ↦ λ f. absurd (false≢true (sym other ∙ between_starts start p.0 q.0
+      (not-true (key_before p.0 start) from) (not_below p q e) f))
   | false ↦ λ f. refl
 ] refl
 

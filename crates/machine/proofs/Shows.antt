@@ -8,6 +8,7 @@ use Rattle.code_items.specs.declared.instr.Instr.{Instr}
 use Rattle.code_items.specs.declared.instr.Instr.TheVariants.{Values, Flow, Screen, Areas, Moves, Records}
 use Rattle.code_items.specs.declared.instr.ScreenInstr.{ScreenInstr}
 use Rattle.code_items.specs.declared.instr.ScreenInstr.TheVariants.{NewLine, Print, Say, SayOn, Input, Line, Clear}
+use Rattle.code_items.specs.Showing.{screen_shows, shows_value}
 use Rattle.code_rules.specs.Places.{instr_at}
 use Rattle.run_steps.specs.Control.{effect}
 use Rattle.run_steps.specs.Effects.{on_value, whole_on_top}
@@ -17,7 +18,8 @@ use Rattle.screen_lines.specs.State.{ScreenState, said as said_on_screen, said_o
 use Rattle.screen_lines.specs.declared.cursor.Cursor.{Cursor}
 use Rattle.screen_lines.specs.declared.cursor.Cursor.TheVariants.{BeforeFirst, At}
 use Rattle.machine.specs.declared.showing.ShownAt.{ShownAt}
-use Rattle.machine.specs.Showing.{ShowsAt, StepShows, placed, said_at, said_behind, says, screen_says, place_shown_by, shown_by_instr, shown_next}
+use Rattle.machine.specs.Showing.{ShowsAt, StepShows, placed, said_at, said_behind, place_shown_by}
+use Rattle.machine.specs.Showing.{shown_by_instr, shown_next}
 
 by_test : (b : Bool) (row column : ℕ) (text : List ℕ) (s : ScreenState) → ShowsAt s (if b then Some (placed row column (length text)) else None) (record s { roll = if b then shown_at row column text s.roll else s.roll })
 by_test true row column text s = (text, (refl, refl))
@@ -47,7 +49,8 @@ saying_on : (e : EnvState) (x : Option Value) → ShowsAt e.screen (on_value x N
 saying_on e None = refl
 saying_on e (Some v) = by_say_on (shown e.settings v) e.screen
 
-by_screen : (code : Code) (w : World) (i : ScreenInstr) → screen_says i ≡ true → ShowsAt w.env.screen (place_shown_by i w.values w.env) (effect code w (Screen i)).env.screen
+by_screen : (code : Code) (w : World) (i : ScreenInstr) → screen_shows i ≡ true
+    → ShowsAt w.env.screen (place_shown_by i w.values w.env) (effect code w (Screen i)).env.screen
 by_screen code w (Say k) is = saying w.env (slice_get w.values.stack 0) (slice_get w.values.stack 1) (slice_get w.values.stack 2)
 by_screen code w (SayOn k) is = saying_on w.env (slice_get w.values.stack 0)
 by_screen code w NewLine is = absurd (cc)
@@ -56,7 +59,8 @@ by_screen code w (Input k) is = absurd (cc)
 by_screen code w Line is = absurd (cc)
 by_screen code w Clear is = absurd (cc)
 
-by_instr : (code : Code) (w : World) (i : Instr) → says i ≡ true → ShowsAt w.env.screen (shown_by_instr i w.values w.env) (effect code w i).env.screen
+by_instr : (code : Code) (w : World) (i : Instr) → shows_value i ≡ true
+    → ShowsAt w.env.screen (shown_by_instr i w.values w.env) (effect code w i).env.screen
 by_instr code w (Screen i) is = by_screen code w i is
 by_instr code w (Values i) is = absurd (cc)
 by_instr code w (Flow i) is = absurd (cc)

@@ -1,5 +1,5 @@
 -- Where the next instruction shows a value on the screen.
-use Rattle.std.specs.Prelude.{◌≡◌, ◌+◌, ◌-◌, ◌&&◌, ℕ, ℤ, pos, negsuc, Bool, true, false, List, Option, Some, None}
+use Rattle.std.specs.Prelude.{◌≡◌, ◌+◌, ◌-◌, ◌&&◌, ℕ, ℤ, pos, negsuc, true, List, Option, Some, None}
 use Rattle.std.specs.Prelude.{if◌then◌else◌, length, min, nat_lt, slice_get}
 use Rattle.xvalue.specs.Shown.{shown}
 use Rattle.screen_lines.specs.Roll.{shown_at}
@@ -11,6 +11,7 @@ use Rattle.code_items.specs.declared.instr.Instr.{Instr}
 use Rattle.code_items.specs.declared.instr.Instr.TheVariants.{Screen}
 use Rattle.code_items.specs.declared.instr.ScreenInstr.{ScreenInstr}
 use Rattle.code_items.specs.declared.instr.ScreenInstr.TheVariants.{Say, SayOn}
+use Rattle.code_items.specs.Showing.{shows_value}
 use Rattle.code_rules.specs.Places.{instr_at}
 use Rattle.run_values.specs.Tagged.{TaggedValues}
 use Rattle.run_steps.specs.Control.{effect}
@@ -53,15 +54,6 @@ shown_next code w = shown_by_instr (instr_at code w.place) w.values w.env
 
 -- ---- and what that makes of the screen
 
-abbrev pub screen_says : ScreenInstr → Bool
-screen_says (Say k) = true
-screen_says (SayOn k) = true
-screen_says _ = false
-
-abbrev pub says : Instr → Bool
-says (Screen i) = screen_says i
-says _ = false
-
 -- at the place a text stands that has so many columns there, with the cursor behind it; without a place all stays
 abbrev pub ShowsAt : ScreenState → Option ShownAt → ScreenState → Type 0
 ShowsAt old None new = new ≡ old
@@ -70,5 +62,5 @@ ShowsAt old (Some at) new = (text : List ℕ) × ((new.roll ≡ shown_at at.row 
 
 -- so does the step of the next instruction, if it is SAY or SAYON
 abbrev pub StepShows : Code → World → Option ShownAt → Type 0
-StepShows code w at = says (instr_at code w.place) ≡ true
+StepShows code w at = shows_value (instr_at code w.place) ≡ true
     → ShowsAt w.env.screen at (effect code w (instr_at code w.place)).env.screen

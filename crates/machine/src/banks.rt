@@ -119,8 +119,8 @@ impl<K: KeyList> Banks<K> {
             .add_lines(TypedLines::new(line.into_bytes()));
     }
 
-    /// Where the next instruction of the code shows a value at a place of the screen; none where it is another one, or
-    /// the place lies outside the screen, or is to be behind a cursor that is before the first row.
+    /// Where the next instruction of the code shows a value at a place of the screen. None where it is another
+    /// instruction, where the place lies outside the screen, or where it is to be behind a cursor before the first row.
     pub fn next_shown(&self, verified: &Verified) -> Option<ShownAt>
         requires { (w : World) × Twin verified.now w self.now }
         ensures place { (w : World) → Twin verified.now w self.now → result ≡ shown_next_of verified.now w }

@@ -2,7 +2,7 @@
 use Rattle.std.proofs.Common.{◌≡◌, ℕ, zero, suc, add-one, ◌+◌, ◌-◌, ◌<◌, ◌≤◌, Bool, true, false, Some, List, [], ◌∷◌}
 use Rattle.std.proofs.Common.{◌++◌, length, take, drop, get_or, refl, ap, sym, ◌∙◌, subst, arith, ⊎_elim, append_assoc}
 use Rattle.std.proofs.Common.{length-append}
-use Rattle.std.proofs.lemmas.Bool.{false_from_ne_true, false≢true, cases_lt}
+use Rattle.std.proofs.lemmas.Bool.{false_from_ne_true, false≢true, cases_lt, not-true}
 use Rattle.std.proofs.lemmas.List.{get_or_default, get_or-take, length-take-le}
 use Rattle.key_lists.specs.Order.{Each}
 use Rattle.key_lists.specs.Pairs.{Pair, is_before, key_before}
@@ -12,7 +12,7 @@ use Rattle.ndx_tree.specs.Reads.{IsBetween, AreInside, separators_at}
 use Rattle.ndx_tree.specs.declared.walk.Separator.{Separator}
 use Rattle.key_lists.proofs.Ordered.{Each-map, Each-at, ascending_at, IsAscending-append, Each-take}
 use Rattle.key_lists.proofs.Ordered.{Each-drop}
-use Rattle.key_lists.proofs.PairOrder.{key_before_down, key_before_up, not_true}
+use Rattle.key_lists.proofs.PairOrder.{key_before_down, key_before_up}
 use Rattle.std.proofs.Common.{not}
 use Rattle.std.specs.Bool.{IsTrue}
 use Rattle.std.specs.Prelude.{◌↔◌}
@@ -169,7 +169,7 @@ pub left_test : (l : List Pair) (n : ℕ) (key : List ℕ) (a : Pair) (answer : 
     → a ≡ get_or l (n - 1) a → answer ≡ key_before key a.0 → IsTrue (not answer) ↔ Each
     (λ p. key_before key p.0 ≡ false) (take n l)
 left_test l n key a answer r some within g e = (
-  λ t. left_from l n key a r some within (ap (λ (p : Pair). key_before key p.0) (sym g) ∙ sym e ∙ not_true t),
+  λ t. left_from l n key a r some within (ap (λ (p : Pair). key_before key p.0) (sym g) ∙ sym e ∙ not-true answer t),
   λ each. ap not (e ∙ ap (λ (p : Pair). key_before key p.0) g ∙ left_to l n key a some within each),
 )
 
@@ -177,7 +177,7 @@ pub right_test : (l : List Pair) (n : ℕ) (key : List ℕ) (a : Pair) (answer :
     → a ≡ get_or l n a → answer ≡ key_before a.0 key → IsTrue (not answer) ↔ Each (λ p. key_before p.0 key ≡ false)
     (drop n l)
 right_test l n key a answer r within g e = (
-  λ t. right_from l n key a r within (ap (λ (p : Pair). key_before p.0 key) (sym g) ∙ sym e ∙ not_true t),
+  λ t. right_from l n key a r within (ap (λ (p : Pair). key_before p.0 key) (sym g) ∙ sym e ∙ not-true answer t),
   λ each. ap not (e ∙ ap (λ (p : Pair). key_before p.0 key) g ∙ right_to l n key a within each),
 )
 

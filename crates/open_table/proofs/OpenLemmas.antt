@@ -9,7 +9,7 @@ use Rattle.row_moves.specs.Moves.{Landing}
 use Rattle.open_table.specs.declared.refused.Refused.{Refused}
 use Rattle.open_table.specs.Open.{OpenState, IsOpen, IsEnded, landed}
 use Rattle.std.specs.List.{All}
-use Rattle.std.proofs.lemmas.Bool.{eqb-true, eq-eqb}
+use Rattle.std.proofs.lemmas.Bool.{eqb-true, eq-eqb, and_right}
 use Rattle.std.proofs.lemmas.List.Folds.{list_any_at}
 use Rattle.open_table.specs.Marks.{IndexMark, is_among, mark_at, is_fresh, with_stale, parts_in}
 use Rattle.open_table.specs.Marks.{left_stale, only_fresh, made_fresh}
@@ -109,10 +109,6 @@ made_one f [] n step h = h
 made_one f (m ∷ marks) n step h = made_step (m.number == n) (f m) m (mark_at marks n)
     (mark_at (map (λ m. with_stale m (f m)) marks) n) h (λ e. step m (eqb-true m.number n e)) (made_one f marks n step)
 
-and_false : (b : Bool) → (b && false) ≡ false
-and_false true = refl
-and_false false = refl
-
 -- indexes that were made anew are open
 pub open_made : (t u : IndexedState) (list : List ℕ) (order : ℕ) → length list ≤ 7 → order ≤ length list
     → All (λ n. is_some (mark_at t.marks n) ≡ true) list → u.marks ≡ made_fresh list t.marks → IsOpen u list order
@@ -121,7 +117,7 @@ open_made t u list order few within declared e = record {
   fresh = subst (λ ms. All (λ n. is_fresh (mark_at ms n) ≡ true) list) (sym e)
       (λ k d lt. made_one (λ m. m.stale && not (is_among list m.number)) t.marks (get_or list k d)
       (λ m at. ap (λ x. m.stale && not (is_among list x)) at ∙ ap (λ b. m.stale && not b) (among list k d lt)
-      ∙ and_false m.stale) (declared k d lt));
+      ∙ and_right m.stale false refl) (declared k d lt));
   order_within = within;
 }
 

@@ -1,7 +1,7 @@
 -- TOP found by passes over rows.
 use Rattle.std.proofs.Common.{◌≡◌, ℕ, zero, suc, ◌+◌, ◌-◌, ◌<◌, Bool, true, false, not, Option, Some, None, List, []}
 use Rattle.std.proofs.Common.{◌∷◌, ◌++◌, length, filter, take, cond, refl, sym, ap, ◌∙◌, subst, arith, append-nil}
-use Rattle.std.proofs.lemmas.Bool.{false≢true}
+use Rattle.std.proofs.lemmas.Bool.{both_ways, false_from_ne_true}
 use Rattle.dbf_file.specs.Rows.{Row, row_at}
 use Rattle.dbf_file.specs.Tables.{StructureState}
 use Rattle.open_table.specs.Tried.{tried}
@@ -17,13 +17,6 @@ use Rattle.row_moves.specs.Moves.{first_shown, met}
 use Rattle.open_table.specs.Passes.{lesser, with_tried, is_met, count_met}
 
 -- ---- cases of one test
-
-true≢false' : {b : Bool} → b ≡ true → b ≡ false → ⊥
-true≢false' e f = false≢true (sym f ∙ e)
-
-not_true : (b : Bool) → (b ≡ true → ⊥) → b ≡ false
-not_true true h = absurd (h refl)
-not_true false h = refl
 
 moved : (b : Bool) (row : Row) (front whole : List Row) (this : Row)
     → (length front < length whole) × (row_at whole (length front) ≡ this)
@@ -109,8 +102,10 @@ lesser_itself p (y ∷ ys) shown none =
 each_after : IsStrictOrder is_before → (p y : Pair) (ys : List Pair) → is_before y p ≡ false
     → Each (λ z. is_before y z ≡ true) ys → Each (λ q. is_before q p ≡ false) ys
 each_after order p y [] e after = tt
-each_after order p y (z ∷ zs) e after =
-    (not_true (is_before z p) (λ t. true≢false' (order.trans y z p after.0 t) e), each_after order p y zs e after.1)
+each_after order p y (z ∷ zs) e after = (
+  false_from_ne_true (is_before z p) (λ t. both_ways (is_before y p) e (order.trans y z p after.0 t)),
+  each_after order p y zs e after.1,
+)
 
 pub first_inserted : IsStrictOrder is_before → (shown : ℕ → Bool) (p : Pair) (pairs : List Pair)
     → IsAscending is_before pairs → first_shown shown (inserted is_before p pairs)
@@ -138,7 +133,8 @@ met_first : IsStrictOrder is_before → (shown : ℕ → Bool) (y : Pair) (ys : 
     → Each (λ z. is_before y z ≡ true) ys → is_met (first_shown shown ys) y ≡ true
 met_first order shown y [] after = refl
 met_first order shown y (z ∷ zs) after = met_or (shown z.1) y z (first_shown shown zs)
-    (not_true (is_before z y) (λ t. true≢false' (order.trans y z y after.0 t) (order.irrefl y)))
+    (false_from_ne_true (is_before z y)
+    (λ t. both_ways (is_before y y) (order.irrefl y) (order.trans y z y after.0 t)))
     (met_first order shown y zs after.1)
 
 pub met_count : IsStrictOrder is_before → (shown : ℕ → Bool) (pairs : List Pair) → IsAscending is_before pairs

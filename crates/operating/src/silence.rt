@@ -79,8 +79,8 @@ fn take_empty<O: Operator, K: KeyList>(
     Ok(take_step(alloc, verified, banks, budget, steps))
 }
 
-/// One turn behind the end of the input: the run goes on to where it ends, takes an empty line, or stands at a marked
-/// place, and the operator is told of the line or shown what stands there.
+/// One turn behind the end of the input. The run goes on to where it ends, takes an empty line, or stands at a marked
+/// place. Then the operator is told of the line or shown what stands there.
 fn take_quiet_turn<O: Operator, K: KeyList>(
     alloc: Global,
     verified: &Verified,

@@ -191,8 +191,8 @@ fn answer<J: Journal, O: Operator, K: KeyList>(
     }
 }
 
-/// One turn of the conversation: the run goes on to where it ends, waits, stands at a marked place, or has gone on for
-/// as much as the operator said, and the operator is asked or shown what stands there.
+/// One turn of the conversation. The run goes on to where it ends, waits, stands at a marked place, or has gone on for
+/// as much as the operator said. Then the operator is asked or shown what stands there.
 fn take_turn<J: Journal, O: Operator, K: KeyList>(
     alloc: Global,
     verified: &Verified,

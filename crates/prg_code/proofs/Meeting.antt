@@ -1,7 +1,8 @@
 -- What is known where two ways meet: no more and no less than is known on both.
-use Rattle.std.proofs.Common.{◌≡◌, ℕ, refl, ap, sym, ◌∙◌, Bool, true, false, ◌&&◌, ◌==◌, if◌then◌else◌, List, [], ◌∷◌}
+use Rattle.std.proofs.Common.{◌≡◌, refl, ap, sym, ◌∙◌, Bool, true, false, ◌==◌, if◌then◌else◌, List, [], ◌∷◌}
 use Rattle.std.proofs.Common.{length, map, Option, Some, None, arith}
 use Rattle.std.specs.List.{zip}
+use Rattle.std.proofs.lemmas.Bool.{and_from, and_parts}
 use Rattle.std.proofs.lemmas.Bool.Decides.{nat_tests}
 use Rattle.xvalue.specs.declared.kind.Kind.{Kind}
 use Rattle.xvalue.specs.declared.kind.Kind.TheVariants.{Number as OfNumber, Text as OfText, Date as OfDate}
@@ -12,34 +13,15 @@ use Rattle.code_items.specs.declared.desk.AreaState.{AreaState}
 use Rattle.code_items.specs.declared.desk.AreaState.TheVariants.{Closed, Open, Unsure}
 use Rattle.code_items.specs.declared.state.State.{State}
 use Rattle.code_items.specs.Pairs.{along}
-use Rattle.code_items.specs.Desks.{area_covered, same_area}
+use Rattle.code_items.specs.Desks.{area_covered, areas_covered, same_area}
 use Rattle.code_items.specs.Kinds.{slot_covered}
+use Rattle.code_rules.proofs.Covering.{slot_self, number_self, area_self}
 use Rattle.prg_code.specs.Merging.{merged_area, merged_kind, DoMeet, MergesWays}
-
-and_true : (a b : Bool) → a ≡ true → b ≡ true → (a && b) ≡ true
-and_true a b e f = rw (e, f) refl
-
-left_true : (a b : Bool) → (a && b) ≡ true → a ≡ true
-left_true true b e = refl
-left_true false b e = e
-
-right_true : (a b : Bool) → (a && b) ≡ true → b ≡ true
-right_true true b e = e
-right_true false true e = refl
-right_true false false e = e
-
-eq_self : (n : ℕ) → (n == n) ≡ true
-eq_self n = grind (arith, nat_tests)
 
 -- one of two by a test
 picked : {A : Type 0} (P : A → Type 0) (t : Bool) (a b : A) → (t ≡ true → P a) → (t ≡ false → P b) → P (if t then a else b)
 picked P true a b f g = f refl
 picked P false a b f g = g refl
-
-area_self : (a : AreaState) → area_covered (a, a) ≡ true
-area_self Closed = refl
-area_self (Open a) = and_true _ _ (and_true _ _ (and_true _ _ (eq_self a.table) (eq_self a.list)) (eq_self a.order)) (eq_self a.filter)
-area_self Unsure = refl
 
 area_first : (a b : AreaState) → area_covered (merged_area (a, b), a) ≡ true
 area_first a b = picked (λ m. area_covered (m, a) ≡ true) (area_covered (a, b)) a Unsure (λ _. area_self a) (λ _. refl)
@@ -66,12 +48,6 @@ covered_two (Open x) Unsure b e f n = e
 area_most : (m a b : AreaState) → area_covered (m, a) ≡ true → area_covered (m, b) ≡ true → area_covered (m, merged_area (a, b)) ≡ true
 area_most m a b e f = picked (λ x. area_covered (m, x) ≡ true) (area_covered (a, b)) a Unsure (λ _. e) (covered_two m a b e f)
 
-kind_self : (k : Kind) → same_kind k k ≡ true
-kind_self OfNumber = refl
-kind_self OfText = refl
-kind_self OfDate = refl
-kind_self OfLogical = refl
-
 kind_two : (x y z : Kind) → same_kind x y ≡ true → same_kind x z ≡ true → same_kind y z ≡ true
 kind_two OfNumber OfNumber z e f = f
 kind_two OfNumber OfText z e f = grind (arith, e)
@@ -89,10 +65,6 @@ kind_two OfLogical OfLogical z e f = f
 kind_two OfLogical OfNumber z e f = grind (arith, e)
 kind_two OfLogical OfText z e f = grind (arith, e)
 kind_two OfLogical OfDate z e f = grind (arith, e)
-
-slot_self : (o : Option Kind) → slot_covered (o, o) ≡ true
-slot_self None = refl
-slot_self (Some k) = kind_self k
 
 slot_first : (a b : Option Kind) → slot_covered (merged_kind (a, b), a) ≡ true
 slot_first a b = picked (λ m. slot_covered (m, a) ≡ true) (slot_covered (a, b)) a None (λ _. slot_self a) (λ _. refl)
@@ -115,13 +87,15 @@ all_first : {A : Type 0} (test : A × A → Bool) (merge : A × A → A) → ((a
 all_first test merge law [] [] e = refl
 all_first test merge law [] (b ∷ bs) e = absurd (omega (arith, e))
 all_first test merge law (a ∷ as') [] e = absurd (omega (arith, e))
-all_first test merge law (a ∷ as') (b ∷ bs) e = and_true _ _ (law a b) (all_first test merge law as' bs (omega (arith, e)))
+all_first test merge law (a ∷ as') (b ∷ bs) e =
+    and_from _ _ (law a b) (all_first test merge law as' bs (omega (arith, e)))
 
 all_second : {A : Type 0} (test : A × A → Bool) (merge : A × A → A) → ((a b : A) → test (merge (a, b), b) ≡ true) → (as' bs : List A) → length as' ≡ length bs → along test (map merge (zip as' bs)) bs ≡ true
 all_second test merge law [] [] e = refl
 all_second test merge law [] (b ∷ bs) e = absurd (omega (arith, e))
 all_second test merge law (a ∷ as') [] e = absurd (omega (arith, e))
-all_second test merge law (a ∷ as') (b ∷ bs) e = and_true _ _ (law a b) (all_second test merge law as' bs (omega (arith, e)))
+all_second test merge law (a ∷ as') (b ∷ bs) e =
+    and_from _ _ (law a b) (all_second test merge law as' bs (omega (arith, e)))
 
 all_most : {A : Type 0} (test : A × A → Bool) (merge : A × A → A) → ((m a b : A) → test (m, a) ≡ true → test (m, b) ≡ true → test (m, merge (a, b)) ≡ true) → (ms as' bs : List A) → along test ms as' ≡ true → along test ms bs ≡ true → along test ms (map merge (zip as' bs)) ≡ true
 all_most test merge law [] [] bs e f = refl
@@ -129,20 +103,28 @@ all_most test merge law [] (a ∷ as') bs e f = grind (arith, e)
 all_most test merge law (m ∷ ms) [] bs e f = grind (arith, e)
 all_most test merge law (m ∷ ms) (a ∷ as') [] e f = f
 all_most test merge law (m ∷ ms) (a ∷ as') (b ∷ bs) e f =
-    and_true _ _ (law m a b (left_true _ _ e) (left_true _ _ f)) (all_most test merge law ms as' bs (right_true (test (m, a)) _ e) (right_true (test (m, b)) _ f))
+    let p = and_parts (test (m, a)) (along test ms as') e in
+    let q = and_parts (test (m, b)) (along test ms bs) f in
+    and_from _ _ (law m a b p.0 q.0) (all_most test merge law ms as' bs p.1 q.1)
 
 pub merges : (one two : State) → DoMeet one two → MergesWays one two
 merges one two meet = record {
   first = record {
-    desk = and_true _ _ (eq_self one.desk.selected) (all_first area_covered merged_area area_first one.desk.areas two.desk.areas meet.areas);
+    desk = and_from _ _ (number_self one.desk.selected)
+        (all_first area_covered merged_area area_first one.desk.areas two.desk.areas meet.areas);
     slots = all_first slot_covered merged_kind slot_first one.slots two.slots meet.slots;
   };
   second = record {
-    desk = and_true _ _ (ap (λ n. one.desk.selected == n) (sym meet.selected) ∙ eq_self one.desk.selected) (all_second area_covered merged_area area_second one.desk.areas two.desk.areas meet.areas);
+    desk = and_from _ _ (ap (λ n. one.desk.selected == n) (sym meet.selected) ∙ number_self one.desk.selected)
+        (all_second area_covered merged_area area_second one.desk.areas two.desk.areas meet.areas);
     slots = all_second slot_covered merged_kind slot_second one.slots two.slots meet.slots;
   };
-  most = λ map a b. record {
-    desk = and_true _ _ (left_true _ _ a.desk) (all_most area_covered merged_area area_most map.desk.areas one.desk.areas two.desk.areas (right_true (map.desk.selected == one.desk.selected) _ a.desk) (right_true (map.desk.selected == two.desk.selected) _ b.desk));
-    slots = all_most slot_covered merged_kind slot_most map.slots one.slots two.slots a.slots b.slots;
-  };
+  most = λ map a b.
+      let p = and_parts (map.desk.selected == one.desk.selected) (areas_covered map.desk.areas one.desk.areas) a.desk in
+      let q = and_parts (map.desk.selected == two.desk.selected) (areas_covered map.desk.areas two.desk.areas) b.desk in
+      record {
+        desk = and_from _ _ p.0
+            (all_most area_covered merged_area area_most map.desk.areas one.desk.areas two.desk.areas p.1 q.1);
+        slots = all_most slot_covered merged_kind slot_most map.slots one.slots two.slots a.slots b.slots;
+      };
 }

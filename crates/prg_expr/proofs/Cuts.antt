@@ -3,6 +3,7 @@ use Rattle.std.proofs.Common.{◌≡◌, ℕ, zero, suc, ◌<◌, ◌⊎◌, inl
 use Rattle.std.proofs.Common.{Option, Some, refl, sym, ap, ◌∙◌, subst, arith, eq-eqb, cond}
 use Rattle.std.specs.Prelude.{◌==◌, ◌&&◌, ◌||◌, nat_le}
 use Rattle.std.proofs.lemmas.Bool.Decides.{eqb_tells, nat_tests}
+use Rattle.std.proofs.lemmas.Bool.{and_parts}
 use Rattle.prg_expr.specs.declared.function.Function.{Function}
 use Rattle.prg_expr.specs.Functions.{is_front, is_cut, FunctionWord, function_of_word, or_function, of_texts, of_parts}
 use Rattle.prg_expr.specs.Functions.{of_bytes, of_numbers, of_dates, of_tables, function_words, function_named}
@@ -17,10 +18,6 @@ splits (suc n) [] [] = false
 splits (suc n) [] (d ∷ v) = true
 splits (suc n) (c ∷ u) [] = true
 splits (suc n) (c ∷ u) (d ∷ v) = cond (c == d) (splits n u v) true
-
-pub and_true : (a b : Bool) → (a && b) ≡ true → (a ≡ true) × (b ≡ true)
-and_true true b h = (refl, h)
-and_true false b h = absurd cc
 
 is_equal : (b c : ℕ) → (b == c) ≡ true → b ≡ c
 is_equal b c h = elim (eqb_tells b c) [ inl p ↦ p.1 | inr p ↦ absurd (let f = sym h ∙ p.0 in cc) ]
@@ -37,8 +34,8 @@ short (suc n) [] (c ∷ u) [] p i j = (omega arith, inl (omega arith))
 short (suc n) (b ∷ s) (c ∷ u) [] p i j = absurd cc
 short (suc n) [] (c ∷ u) (d ∷ v) p i j = (omega arith, inl (omega arith))
 short (suc n) (b ∷ s) (c ∷ u) (d ∷ v) p i j =
-    let x = and_true (b == c) (is_front s u) i in
-    let y = and_true (b == d) (is_front s v) j in
+    let x = and_parts (b == c) (is_front s u) i in
+    let y = and_parts (b == d) (is_front s v) j in
     let same : c ≡ d = sym (is_equal b c x.0) ∙ is_equal b d y.0 in
     let r = short n s u v (sym (cond_true (c == d) (splits n u v) true (eq-eqb c d same)) ∙ p) x.1 y.1 in
     (omega (arith, r.0), elim r.1 [ inl a ↦ inl (omega (arith, a)) | inr a ↦ inr (omega (arith, a)) ])
@@ -51,8 +48,8 @@ cut_long s u p q = grind (arith, nat_tests)
 pub not_cut : (s u v : List ℕ) → splits 4 u v ≡ true → is_cut s v ≡ true → is_cut s u ≡ false
 not_cut s u v p c = elim (bool_tells (is_cut s u)) [
   | inr n ↦ n
-  | inl y ↦ (let a = and_true (is_front s u) _ y in
-      let b = and_true (is_front s v) _ c in
+  | inl y ↦ (let a = and_parts (is_front s u) _ y in
+      let b = and_parts (is_front s v) _ c in
       let r = short 4 s u v p a.0 b.0 in
       elim r.1 [
         | inl few ↦ absurd (let f = sym a.1 ∙ cut_long s u r.0 few in cc)
@@ -72,15 +69,15 @@ pub splits_listed : {A : Type 0} (u : List ℕ) (y : List ℕ × A) (ys : List (
     → IsOneOf y ys → splits 4 u y.0 ≡ true
 splits_listed {A} u y [] h i = absurd i
 splits_listed {A} u y (z ∷ ys) h (inl i) = subst (λ (z : List ℕ × A). splits 4 u z.0 ≡ true) (sym i)
-    (and_true (splits 4 u z.0) (splits_all u ys) h).0
+    (and_parts (splits 4 u z.0) (splits_all u ys) h).0
 splits_listed {A} u y (z ∷ ys) h (inr i) =
-    splits_listed u y ys (and_true (splits 4 u z.0) (splits_all u ys) h).1 i
+    splits_listed u y ys (and_parts (splits 4 u z.0) (splits_all u ys) h).1 i
 
 called_finds : (s : List ℕ) (x : FunctionWord) (table : List FunctionWord) → apart table ≡ true → IsOneOf x table → is_cut s x.0 ≡ true → function_of_word table s ≡ Some x.1
 called_finds s x [] a i c = absurd i
 called_finds s x (y ∷ ys) a (inl i) c = let d : is_cut s y.0 ≡ true = subst (λ (z : FunctionWord). is_cut s z.0 ≡ true) i c in cond_true (is_cut s y.0) (Some y.1) (function_of_word ys s) d ∙ ap (λ (z : FunctionWord). Some z.1) (sym i)
 called_finds s x (y ∷ ys) a (inr i) c =
-    let t = and_true (splits_all y.0 ys) (apart ys) a in
+    let t = and_parts (splits_all y.0 ys) (apart ys) a in
     cond_false (is_cut s y.0) (Some y.1) (function_of_word ys s) (not_cut s y.0 x.0 (splits_listed y.0 x ys t.0 i) c) ∙ called_finds s x ys t.1 i c
 
 called_append : (s : List ℕ) (t u : List FunctionWord) → function_of_word (t ++ u) s ≡ or_function (function_of_word t s) (function_of_word u s)

@@ -1,5 +1,5 @@
 -- A line has the words that scanning finds.
-use Rattle.std.proofs.Common.{◌≡◌, ℕ, zero, suc, ◌≤◌, ◌<◌, inl, inr, List, [], ◌∷◌, ◌++◌, length, Bool, true, false}
+use Rattle.std.proofs.Common.{◌≡◌, ℕ, zero, suc, ◌≤◌, ◌<◌, inl, inr, List, [], ◌∷◌, ◌++◌, length, true, false}
 use Rattle.std.proofs.Common.{Option, Some, None, refl, sym, ap, ◌∙◌, subst, arith, append_assoc, length-append}
 use Rattle.std.specs.Prelude.{◌==◌, ◌&&◌}
 use Rattle.std.specs.Char.{is_ascii_digit, is_ascii_alphabetic}
@@ -8,6 +8,7 @@ use Rattle.std.proofs.lemmas.Bool.Decides.{eqb_tells, nat_tests}
 use Rattle.std.proofs.Common.{Result, Ok, Err}
 use Rattle.std.specs.declared.alloc.AllocError.{AllocError}
 use Rattle.std.specs.Prelude.{IfOk}
+use Rattle.std.proofs.lemmas.Bool.{and_parts, and_left}
 use Rattle.prg_expr.specs.declared.token.Line.{Line}
 use Rattle.prg_expr.specs.Scanning.{IsScanned, IsWordsOf}
 use Rattle.prg_expr.specs.declared.fault.ParseFaultKind.{ParseFaultKind}
@@ -20,7 +21,6 @@ use Rattle.prg_expr.specs.Scanning.{found, number_scanned, name_scanned, text_sc
 use Rattle.prg_expr.specs.Scanning.{with_word, spots_at, scan}
 use Rattle.prg_expr.proofs.Sound.{bool_tells}
 use Rattle.prg_expr.proofs.Bytes.{cond_true, cond_false}
-use Rattle.prg_expr.proofs.Cuts.{and_true}
 use Rattle.prg_expr.proofs.Finds.{whole_read, decimal_read, name_read, text_read, unended_read, pick_finds}
 use Rattle.prg_expr.proofs.Finds.{pointed_apart, pointed_digit, pick_none, single_read, other_read, symbol_alone}
 use Rattle.prg_expr.proofs.Finds.{symbol_pair, macro_read, Other, other_word}
@@ -80,14 +80,12 @@ abbrev EachPair : (ℕ → Type 0) → List (ℕ × ℕ × Word) → Type 0
 EachPair P [] = Unit {0}
 EachPair P (x ∷ xs) = P x.0 × EachPair P xs
 
-and_false : (a b : Bool) → a ≡ false → (a && b) ≡ false
-and_false a b h = rw h refl
-
 paired_up : (P : ℕ → Type 0) (table : List (ℕ × ℕ × Word)) (b c : ℕ) (w : Word) → EachPair P table → pair_in table b c ≡ Some w → P b
 paired_up P [] b c w e h = absurd cc
 paired_up P (x ∷ xs) b c w e h = elim (eqb_tells b x.0) [
   | inl p ↦ subst P (sym p.1) e.0
-  | inr p ↦ paired_up P xs b c w e.1 (sym (cond_false (b == x.0 && c == x.1) (Some x.2) (pair_in xs b c) (and_false (b == x.0) (c == x.1) p.0)) ∙ h)
+  | inr p ↦ paired_up P xs b c w e.1
+      (sym (cond_false (b == x.0 && c == x.1) (Some x.2) (pair_in xs b c) (and_left (b == x.0) (c == x.1) p.0)) ∙ h)
 ]
 
 singles_other : EachSingle Other singles
@@ -207,7 +205,7 @@ word_on n b bytes h c = cond_false (is_blank_or_tab b) _ _ h ∙ cond_false (is_
 comment_is : (b : ℕ) (bytes : List ℕ) → is_comment b bytes ≡ true → (rest : List ℕ) × (b ∷ bytes ≡ 38 ∷ 38 ∷ rest)
 comment_is b [] h = absurd cc
 comment_is b (c ∷ rest) h =
-    let t = and_true (b == 38) (c == 38) h in
+    let t = and_parts (b == 38) (c == 38) h in
     elim (eqb_tells b 38) [
       | inl p ↦ elim (eqb_tells c 38) [ inl q ↦ (rest, let i = p.1 in let j = q.1 in cc) | inr q ↦ absurd (let f = sym t.1 ∙ q.0 in cc) ]
       | inr p ↦ absurd (let f = sym t.0 ∙ p.0 in cc)

@@ -249,7 +249,7 @@ call_ok : (f : Function) (es : Trees) (ws : List Word) (x : Tree × List Word) �
 unfolding call_read
 call_ok f es ws x h = elim (bool_tells (takes_so_many f (count es))) [
   | inl y ↦ (y, sym (rw y refl) ∙ h)
-  | inr n ↦ (let g : call_read f es ws ≡ Err Rattle.prg_expr.specs.declared.fault.ParseFaultKind.TheVariants.Expression = rw n refl in absurd (let k = sym g ∙ h in cc))
+  | inr n ↦ (let g : call_read f es ws ≡ Err fault.Expression = rw n refl in absurd (let k = sym g ∙ h in cc))
 ]
 
 call_takes : (d : ℕ) (r : TreeReader) → IsInside d r → (s : List ℕ) (f : Function) → function_named s ≡ Some f → (ws : List Word) (x : Tree × List Word) → (arguments (suc (length ws)) r ws >>= λ x. call_read f x.0 x.1) ≡ Ok x → Takes d 0 (word.Name s ∷ word.Open ∷ ws) x
@@ -299,7 +299,8 @@ qualified_takes d a (word.Outside mk ∷ ws) x h = absurd cc
 named_takes : (d : ℕ) (r : TreeReader) → IsInside d r → (s : List ℕ) (ws : List Word) (x : Tree × List Word) → named d r s ws ≡ Ok x → Takes d 0 (word.Name s ∷ ws) x
 unfolding named
 named_takes d r ins s (word.Open ∷ ws) x h = elim (option_tells (function_named s)) [
-  | inl none ↦ absurd (let g : named d r s (word.Open ∷ ws) ≡ Err Rattle.prg_expr.specs.declared.fault.ParseFaultKind.TheVariants.Expression = rw none refl in let k = sym g ∙ h in cc)
+  | inl none ↦ absurd (let g : named d r s (word.Open ∷ ws) ≡ Err fault.Expression = rw none refl in
+      let k = sym g ∙ h in cc)
   | inr f ↦ called_takes d r ins s f.0 f.1 ws x (sym (rw f.1 refl) ∙ h)
 ]
 named_takes d r ins s (word.Arrow ∷ ws) x h = qualified_takes d s ws x h

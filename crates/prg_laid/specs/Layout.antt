@@ -9,7 +9,7 @@ use Rattle.prg_code.specs.Bindings.{NamedVariables}
 use Rattle.prg_values.specs.declared.scope.Reading.{Reading}
 use Rattle.prg_values.specs.Readings.{Scoped, read_name}
 use Rattle.prg_values.specs.Placed as placed
-use Rattle.prg_values.specs.Placed.{Text, text, Leaves}
+use Rattle.prg_values.specs.Placed.{Text, Leaves}
 use Rattle.prg_laid.specs.declared.layout.Layout.{Layout}
 
 -- instructions and constants, what is declared, the slots of the variables, what is known before each place, and the

@@ -2,9 +2,10 @@
 use Rattle.std.proofs.Common.{◌≡◌, ℕ, inl, inr, List, [], ◌∷◌, ◌++◌, codes, Bool, true, false, Option, Some, refl, sym}
 use Rattle.std.proofs.Common.{ap, ◌∙◌, subst}
 use Rattle.std.specs.Prelude.{if◌then◌else◌}
+use Rattle.std.proofs.lemmas.Bool.{and_parts}
 use Rattle.prg_expr.specs.Functions.{is_cut}
 use Rattle.prg_expr.specs.Lexicon.{IsOneOf}
-use Rattle.prg_expr.proofs.Cuts.{and_true, splits, not_cut, splits_all, apart, splits_listed}
+use Rattle.prg_expr.proofs.Cuts.{splits, not_cut, splits_all, apart, splits_listed}
 use Rattle.prg_expr.proofs.Sound.{bool_tells}
 use Rattle.prg_line.specs.declared.verb.Verb.{Verb}
 use Rattle.prg_line.specs.Verbs.{VerbWord, verb_of_table, or_verb, or_unknown, of_screen, of_variables, of_branches}
@@ -20,7 +21,7 @@ called_finds : (s : List ℕ) (x : VerbWord) (table : List VerbWord) → apart t
 called_finds s x [] a i c = absurd i
 called_finds s x (y ∷ ys) a (inl i) c = let d : is_cut s y.0 ≡ true = subst (λ (z : VerbWord). is_cut s z.0 ≡ true) i c in on_true (is_cut s y.0) (Some y.1) (verb_of_table ys s) d ∙ ap (λ (z : VerbWord). Some z.1) (sym i)
 called_finds s x (y ∷ ys) a (inr i) c =
-    let t = and_true (splits_all y.0 ys) (apart ys) a in
+    let t = and_parts (splits_all y.0 ys) (apart ys) a in
     on_false (is_cut s y.0) (Some y.1) (verb_of_table ys s) (not_cut s y.0 x.0 (splits_listed y.0 x ys t.0 i) c) ∙ called_finds s x ys t.1 i c
 
 called_append : (s : List ℕ) (t u : List VerbWord) → verb_of_table (t ++ u) s ≡ or_verb (verb_of_table t s) (verb_of_table u s)

@@ -2,7 +2,7 @@
 use Rattle.std.proofs.Common.{◌≡◌, ℕ, zero, suc, ◌<◌, ◌⊎◌, List, [], ◌∷◌, ◌++◌, length, take, codes, Bool, true, false}
 use Rattle.std.proofs.Common.{Option, None, Result, Ok, Err, refl, sym, ap, ◌∙◌, subst, append_assoc, arith, inl, inr}
 use Rattle.std.specs.Prelude.{if◌then◌else◌, ◌&&◌, ◌||◌, nat_le}
-use Rattle.std.proofs.lemmas.Bool.{le-leb}
+use Rattle.std.proofs.lemmas.Bool.{le-leb, and_from}
 use Rattle.std.proofs.lemmas.List.{length-append}
 use Rattle.fixed_num.specs.Number.{Number as Decimal}
 use Rattle.prg_expr.specs.declared.tree.BinaryOperator.TheVariants.{Equal}
@@ -65,15 +65,17 @@ whole_finds a n ws rest (d, h, i) w g =
 pub whole_full : Full f.whole_number Whole Anything
 whole_full = record { finds = whole_finds }
 
-and_to : (x y : Bool) → x ≡ true → y ≡ true → (x && y) ≡ true
-and_to x y e h = ap (λ (z : Bool). z && y) e ∙ h
-
 area_to : (n : ℕ) (x : Bool) (a : At) → x ≡ true → ((if x then fine n else failed kind.Word) >>= λ k. ok (act.Select (act.Number k)) a) ≡ fine (act.Select (act.Number n), a)
 area_to n x a e = ap (λ (z : Bool). (if z then fine n else failed kind.Word) >>= λ k. ok (act.Select (act.Number k)) a) e
 
 number_finds : (n : ℕ) (a : At) (y : Act) (ws rest : List Word) → SelectNumber n y ws → a.words ≡ ws ++ rest → Ended rest → Reaches (λ a. f.area_number n >>= λ k. ok (act.Select (act.Number k)) a) a y rest
 number_finds n a y ws rest (l, m, i) w g =
-    record { place = a; reads = area_to n (nat_le 1 n && nat_le n 10) a (and_to (nat_le 1 n) (nat_le n 10) (le-leb 1 n l) (le-leb n 10 m)) ∙ ap (λ z. fine (z, a)) (sym i.0); left = w ∙ ap (λ (l : List Word). l ++ rest) i.1 }
+    record {
+      place = a;
+      reads = area_to n (nat_le 1 n && nat_le n 10) a
+          (and_from (nat_le 1 n) (nat_le n 10) (le-leb 1 n l) (le-leb n 10 m)) ∙ ap (λ z. fine (z, a)) (sym i.0);
+      left = w ∙ ap (λ (l : List Word). l ++ rest) i.1;
+    }
 
 pub number_full : (n : ℕ) → Full (λ a. f.area_number n >>= λ k. ok (act.Select (act.Number k)) a) (SelectNumber n) Ended
 number_full n = record { finds = number_finds n }

@@ -2,7 +2,7 @@
 use Rattle.std.proofs.Common.{◌≡◌, ℕ, zero, suc, List, [], ◌∷◌, ◌++◌, length, take, Bool, true, false, Option, None}
 use Rattle.std.proofs.Common.{Result, Ok, Err, refl, sym, ap, ◌∙◌, subst, append_assoc, inl, inr}
 use Rattle.std.specs.Prelude.{if◌then◌else◌, nat_le, ◌&&◌, ◌||◌}
-use Rattle.std.proofs.lemmas.Bool.{leb-true}
+use Rattle.std.proofs.lemmas.Bool.{leb-true, and_parts}
 use Rattle.std.proofs.lemmas.List.{append-nil}
 use Rattle.fixed_num.specs.Number.{Number as Decimal}
 use Rattle.prg_expr.specs.declared.tree.BinaryOperator.TheVariants.{Or, And, Equal, NotEqual, Less, Greater, AtMost}
@@ -22,7 +22,7 @@ use Rattle.prg_line.specs.Forms.{At, at, FormReader, on_taken, unexpected, is_at
 use Rattle.prg_line.specs.Commands as c
 use Rattle.prg_line.specs.Commands.{Phrase, Is, MarkThen, But, Either, Name, Whole, Several, SelectNumber}
 use Rattle.prg_line.proofs.Sound.{Sound, Front, ok, fine, failed, taken, not_ok, ok_same, bind_ok, same_said}
-use Rattle.prg_line.proofs.Sound.{same_place, same_words, but_front, is_sound, mark_sound, apart, not-taken, not-left}
+use Rattle.prg_line.proofs.Sound.{same_place, same_words, but_front, is_sound, mark_sound, not-taken, not-left}
 use Rattle.prg_line.proofs.Sound.{same-taken}
 
 -- that reading finds what words spell, which the crate of expressions proves
@@ -94,14 +94,10 @@ number_front (word.Outside m ∷ ws) n b h = absurd (not_ok _ (n, b) h)
 pub whole_sound : Sound f.whole_number Whole
 whole_sound = record { reads = λ a n b h. number_front a.words n b h }
 
-and_both : (x y : Bool) → (x && y) ≡ true → (x ≡ true) × (y ≡ true)
-and_both true y h = (refl, h)
-and_both false y h = absurd (apart h)
-
 area_front : (n : ℕ) (x : Bool) → (nat_le 1 n && nat_le n 10) ≡ x → (a : At) (y : Act) (b : At) → ((if x then fine n else failed kind.Word) >>= λ k. ok (act.Select (act.Number k)) a) ≡ Ok (y, b)
     → Front (SelectNumber n y) a.words b.words
 area_front n true i a y b h =
-    let p = and_both (nat_le 1 n) (nat_le n 10) i in
+    let p = and_parts (nat_le 1 n) (nat_le n 10) i in
     record { front = []; holds = (leb-true 1 n p.0, leb-true n 10 p.1, (sym (same_said (act.Select (act.Number n)) y a b h), refl)); splits = same_words a b (same_place (act.Select (act.Number n)) y a b h) }
 area_front n false i a y b h = absurd (not_ok kind.Word (y, b) h)
 

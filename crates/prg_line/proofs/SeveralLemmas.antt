@@ -1,7 +1,7 @@
 -- One or more with commas between, as a loop reads them.
 use Rattle.std.proofs.Common.{◌≡◌, ℕ, zero, suc, ◌<◌, ◌≤◌, List, [], ◌∷◌, ◌++◌, length, take, drop, ◌-◌, map, true}
 use Rattle.std.proofs.Common.{false, Ok, refl, sym, ap, ◌∙◌, arith}
-use Rattle.std.proofs.lemmas.List.{drop-map, length-map, take_all, length-drop, map-append}
+use Rattle.std.proofs.lemmas.List.{drop-map, take_all, length-drop, map-append}
 use Rattle.prg_expr.specs.declared.token.Token.{Token}
 use Rattle.prg_expr.specs.Reading.{WordsFail, front}
 use Rattle.prg_expr.specs.Tree.{Tree}
@@ -68,7 +68,3 @@ shorter xs ys h = omega (arith, words_length xs, words_length ys, h)
 -- a list that was pushed to, seen by a function
 pub seen_pushed : {X Y : Type 0} (view : X → Y) (xs ys : List X) (x : X) → ys ≡ xs ++ x ∷ [] → map view xs ++ view x ∷ [] ≡ map view ys
 seen_pushed view xs ys x e = sym (map-append view xs (x ∷ [])) ∙ ap (map view) (sym e)
-
--- words are as many as their tokens
-pub token_count : (ts : List Token) → length (words ts) ≡ length ts
-token_count ts = length-map ts word_of

@@ -32,7 +32,7 @@ pub struct ReadLine {
 }
 
 /// How many words there are.
-#[tactic(auto, using(crate::proofs::SeveralLemmas::token_count))]
+#[tactic(auto, using(prg_expr::proofs::Turns::words_length))]
 fn count(tokens: &[Token<'_>]) -> usize
     ensures { result ≡ length (tokens_of tokens.now) }
 {

@@ -1,7 +1,7 @@
 -- How indexes go along with a change of their table.
-use Rattle.std.proofs.Common.{◌≡◌, ◌≢◌, ℕ, zero, suc, ◌+◌, ◌<◌, Bool, true, false, ◌||◌, ◌==◌, List, [], ◌∷◌, ◌++◌}
+use Rattle.std.proofs.Common.{◌≡◌, ◌≢◌, ℕ, zero, suc, ◌+◌, ◌<◌, false, ◌==◌, List, [], ◌∷◌, ◌++◌}
 use Rattle.std.proofs.Common.{length, set, refl, sym, ap, ◌∙◌, subst, arith}
-use Rattle.std.proofs.lemmas.Bool.{eqb-false}
+use Rattle.std.proofs.lemmas.Bool.{eqb-false, or_parts}
 use Rattle.std.proofs.lemmas.List.{set-set, set-get_or, get_or-set_other, length-set}
 use Rattle.std.specs.List.{Contains}
 use Rattle.dbf_file.specs.Rows.{Row, row_at, no_row, with_text}
@@ -84,16 +84,12 @@ module _ (law : ListLaw) (s : StructureState) (rows : List Row) (row : Row) wher
 
 -- ---- a row of which field f had this text before
 
-or_false : (a b : Bool) → (a || b) ≡ false → (a ≡ false) × (b ≡ false)
-or_false true b e = cc
-or_false false b e = (refl, e)
-
 -- a key that isn't made of the field is as it was
 pub unnamed : (parts : List KeyPart) (texts : List (List ℕ)) (f : ℕ) (text : List ℕ) → names_field parts f ≡ false
     → key_of parts (set texts f text) ≡ key_of parts texts
 unnamed [] texts f text e = refl
 unnamed (part ∷ parts) texts f text e =
-    let both = or_false (part.field == f) (names_field parts f) e in
+    let both = or_parts (part.field == f) (names_field parts f) e in
     let other : part.field ≢ f = eqb-false part.field f both.0 in
     ap (λ ts. cased part.upper ts ++ key_of parts (set texts f text))
     (get_or-set_other texts f part.field text [] other)

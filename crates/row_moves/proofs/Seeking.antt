@@ -3,6 +3,7 @@ use Rattle.std.proofs.Common.{◌≡◌, ℕ, zero, suc, ◌≤◌, Bool, true, 
 use Rattle.std.proofs.Common.{[], ◌∷◌, ◌++◌, length, get_or, drop, refl, sym, ap, ◌∙◌, subst, arith}
 use Rattle.std.specs.List.{filter, starts_with, Contains}
 use Rattle.std.specs.Prelude.{nat_eq}
+use Rattle.std.proofs.lemmas.Bool.{not-true, and_right}
 use Rattle.key_lists.specs.KeyForm.{IsPairOf}
 use Rattle.key_lists.specs.Laws.{MeetsEach, StandTogether, begins_with}
 use Rattle.key_lists.specs.Order.{Each, above, first}
@@ -80,14 +81,10 @@ filter_pass p (x ∷ xs) = elim (p x) as
       | false ↦ λ e. filter_pass p xs
     ] refl
 
-not_true : {b : Bool} → not b ≡ true → b ≡ false
-not_true {b = true} e = cc
-not_true {b = false} e = refl
-
 run_of : (start : List ℕ) (xs ys : List Pair) → Each (λ p. begins_with start p.0 ≡ true) xs
     → Each (λ p. not (begins_with start p.0) ≡ true) ys → front_run start (xs ++ ys) ≡ xs
 run_of start [] [] e f = refl
-run_of start [] (y ∷ ys) e f = rw (not_true f.0) refl
+run_of start [] (y ∷ ys) e f = rw (not-true (begins_with start y.0) f.0) refl
 run_of start (x ∷ xs) ys e f = rw e.0 (ap (λ (ps : List Pair). x ∷ ps) (run_of start xs ys e.1 f))
 
 pub starting_all : (start : List ℕ) (pairs : List Pair) → StandTogether pairs
@@ -149,13 +146,9 @@ matching_each n text (p ∷ pairs) e true t =
 matching_each n text (p ∷ pairs) e false t =
     let one : is_same text p.0 ≡ false = same_cut_or_filled text p.0
     ∙ ap (λ k. begins_with (cut_or_filled k text) p.0 && is_all_blanks (drop k text)) e.0.0
-    ∙ ap (λ b. begins_with (cut_or_filled n text) p.0 && b) t ∙ and_false
-    (begins_with (cut_or_filled n text) p.0) in
+    ∙ ap (λ b. begins_with (cut_or_filled n text) p.0 && b) t
+    ∙ and_right (begins_with (cut_or_filled n text) p.0) false refl in
     rw one (matching_each n text pairs e.1 false t)
-  where
-    and_false : (a : Bool) → (a && false) ≡ false
-    and_false true = refl
-    and_false false = refl
 
 pub matching_cut_or_filled : (n : ℕ) (text : List ℕ) (pairs : List Pair) → Each (IsPairOf n) pairs
     → is_all_blanks (drop n text) ≡ true → matching true text pairs ≡ all_starting (cut_or_filled n text) pairs

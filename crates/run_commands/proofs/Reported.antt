@@ -14,7 +14,7 @@ use Rattle.run_commands.specs.Parts.{CodeRefused, SavedAll, SavedSome, Stopped, 
 use Rattle.run_commands.specs.Reports.{CodeRan, HasRun, IsTold, IsSavedRun, RefusedBefore, SavingStopped}
 use Rattle.run_commands.specs.Runs.{IsSoundRun}
 use Rattle.run_commands.proofs.Same.{saved_same, ended_same, ran_same, refused_same, stopped_same}
-use Rattle.table_files.proofs.FileLemmas.{rose_on}
+use Rattle.file_access.proofs.Holding.{rose_later}
 use Rattle.run_steps.specs.declared.ending.Outcome.{Outcome}
 use Rattle.table_files.specs.Loading.{Loaded}
 use Rattle.work_area.specs.Areas.{StoreState}
@@ -71,7 +71,7 @@ stopped_run a b e f g h fg gh job code seen outcome rows shown tables d is (Err 
         stamped = here.stamped;
       };
       stopped = ended_same a b e d.same code.declared.shape tables here.stamp (Rose f h) (Rose g h)
-          (rose_on f g h fg gh) refusal here.stopped;
+          (rose_later f g h fg gh) refusal here.stopped;
     }
 stopped_run a b e f g h fg gh job code seen outcome rows shown tables d is (Err Memory) s = s
 

@@ -17,7 +17,7 @@ use Rattle.run_steps.specs.declared.ending.Outcome.{Outcome}
 use Rattle.shape.specs.declared.indexes.IndexShape.{IndexShape}
 use Rattle.shape.specs.declared.tables.TableShape.{TableShape}
 use Rattle.shape.specs.declared.whole.Shape.{Shape}
-use Rattle.table_files.proofs.FileLemmas.{kept_on}
+use Rattle.file_access.proofs.Holding.{same_then}
 use Rattle.table_files.specs.declared.refusal.FilesRefusal.{FilesRefusal}
 use Rattle.table_files.specs.declared.refusal.FilesRefusal.TheVariants.{Refused, Disk as FileDisk, Memory as FileMemory}
 use Rattle.table_files.specs.declared.refusal.TableFault.{TableFault}
@@ -157,7 +157,7 @@ either_same false f g h = g h
 
 pub ran_same : (a b c : Holds) → SameFiles a b → (job : Job) (code : Code) (ended : Ended) (rows : List ℕ) → CodeRan b c job ended rows code → CodeRan a c job ended rows code
 ran_same a b c same job code ended rows h = either_same job.checked
-    (λ t. (tested_same a b same job code ended rows t.0, kept_on a b c same t.1))
+    (λ t. (tested_same a b same job code ended rows t.0, same_then a b c same t.1))
     (saved_run_same a b c same job code ended rows) h
 
 pub stopped_same : (a b c : Holds) → SameFiles a b → (broke breaks : Type 0) → (breaks → broke) → (job : Job) (code : Code) (rows : List ℕ) (refusal : RunRefusal) → Stopped b c breaks job code rows refusal → Stopped a c broke job code rows refusal

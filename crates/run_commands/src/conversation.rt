@@ -249,12 +249,12 @@ fn told(run: Result<Ended, RunRefusal>) -> Result<Ended, OperateRefusal>
 }
 
 /// Runs the code in a file, if it is accepted, over the tables and indexes that it declares, while an operator types
-/// its lines, and saves the tables at each of the run's ends. It begins with the lines that the journal holds, which
-/// are the job's input, and goes on with those that the operator answers; each is kept in the journal before the run
-/// sees it, and behind the end of the input each further line is empty. What is printed and saved is what `run_files`
-/// prints and saves for the same job with what the journal holds then as its input. Where the operator or the journal
-/// fails, or a line isn't one, nothing is printed or saved. All lines together have at most `most` bytes, each with its
-/// end: where a line would pass that, the end of the input alone is left to answer.
+/// its lines. The tables are saved at each of the run's ends. The run begins with the lines that the journal holds,
+/// which are the job's input, and goes on with those that the operator answers. Each of these is kept in the journal
+/// before the run sees it. Behind the end of the input each further line is empty. What is printed and saved is what
+/// `run_files` prints and saves for the same job with what the journal holds then as its input. Where the operator or
+/// the journal fails, or a line isn't one, nothing is printed or saved. All lines together have at most `most` bytes,
+/// each with its end: where a line would pass that, the end of the input alone is left to answer.
 pub fn operate_files<F: Files, J: Journal, O: Operator>(
     alloc: Global,
     files: &mut F,

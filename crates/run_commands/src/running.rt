@@ -210,10 +210,10 @@ pub fn run_files_watched<F: Files, W: Watcher>(
     }
 }
 
-/// Runs the code in a file over the tables and indexes that it declares: on the checking machine if the job is to be
-/// tested, the code accepted or not, and then no file changes; else, if the code is accepted, on the machine without
-/// tags, and then the tables are saved at each of the run's ends. The rows are what the run sends, also where not all
-/// is saved.
+/// Runs the code in a file over the tables and indexes that it declares. If the job is to be tested, the code runs on
+/// the checking machine, accepted or not, and no file changes. Else it runs only if it is accepted, on the machine
+/// without tags, and the tables are saved at each of the run's ends. The rows are what the run sends, also where not
+/// all is saved.
 pub fn run_files<F: Files>(alloc: Global, files: &mut F, job: &Job<'_>) -> Report
     ensures run { IfOk result.result (λ ended. HasRun (F.holds files.old)
         (F.holds files.new) job.now ended result.rows.items) }

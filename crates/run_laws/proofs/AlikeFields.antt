@@ -1,11 +1,12 @@
 -- The fields of a table in use, and those that are declared for it.
 use Rattle.std.proofs.Common.{◌≡◌, ℕ, zero, suc, ◌<◌, List, [], ◌∷◌, length, Some, refl, sym, ap, subst, ◌∙◌, arith}
 use Rattle.std.specs.Prelude.{map, slice_get, slice_index_or, IfSome}
+use Rattle.xvalue.specs.Kinds.{kind_of}
 use Rattle.dbf_file.specs.declared.field.Field.{Field as TableField}
 use Rattle.dbf_file.specs.declared.field.Letter.{Letter}
-use Rattle.dbf_file.specs.declared.field.Letter.TheVariants.{C}
+use Rattle.dbf_file.specs.declared.field.Letter.TheVariants.{C, N, D, L}
 use Rattle.dbf_file.specs.Tables.{StructureState, letter_at}
-use Rattle.dbf_file.specs.Values.{kind_for}
+use Rattle.dbf_file.specs.Values.{kind_for, value_by}
 use Rattle.shape.specs.declared.tables.TableShape.{TableShape}
 use Rattle.open_table.specs.Open.{OpenState}
 use Rattle.work_area.specs.Areas.{StoreState}
@@ -30,6 +31,13 @@ fields_alike d s a fits o =
     subst (λ (fs : List TableField). HaveAlikeFields o.table.table.structure.fields fs)
     (sym (ap fields_declared shape.1)) alike
 
+-- the kind of a field's value, by its letter
+pub value_kind : (l : Letter) (decimals : ℕ) (text : List ℕ) → kind_of (value_by l decimals text) ≡ kind_for l
+value_kind C decimals text = refl
+value_kind N decimals text = refl
+value_kind D decimals text = refl
+value_kind L decimals text = refl
+
 -- the kind of a field, by its letter
 kind_there : (fs : List TableField) (f : ℕ) → f < length fs
     → kind_of_field (slice_get fs f) ≡ Some (kind_for (slice_index_or (map (λ g. g.letter) fs) f C))
@@ -37,7 +45,8 @@ kind_there [] f lt = absurd (omega (arith, lt))
 kind_there (g ∷ fs) zero lt = refl
 kind_there (g ∷ fs) (suc f) lt = kind_there fs f (omega (arith, lt))
 
-letter_there : (fs : List TableField) (f : ℕ) (d : TableField) → f < length fs
+-- and its letter
+pub letter_there : (fs : List TableField) (f : ℕ) (d : TableField) → f < length fs
     → slice_index_or (map (λ g. g.letter) fs) f C ≡ (slice_index_or fs f d).letter
 letter_there [] f d lt = absurd (omega (arith, lt))
 letter_there (g ∷ fs) zero d lt = refl

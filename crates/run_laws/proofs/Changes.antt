@@ -8,7 +8,6 @@ use Rattle.screen_lines.specs.State.{printed, said, said_on}
 use Rattle.dbf_file.specs.Rows.{Row}
 use Rattle.dbf_file.specs.Tables.{StructureState}
 use Rattle.row_moves.specs.Moves.{Landing}
-use Rattle.shape.specs.declared.lists.IndexList.{IndexList}
 use Rattle.open_table.specs.Open.{OpenState, landed, reordered, first_order, with_blank, replaced_here, remarked_here, opened as opened_with}
 use Rattle.work_area.specs.declared.uses.Use.{Use}
 use Rattle.work_area.specs.Areas.{StoreState, selected_use, here, with_here, with_used, with_use, changed_found, change_here}
@@ -31,16 +30,18 @@ use Rattle.code_items.specs.declared.instr.RecordInstr.TheVariants.{Field, RowFi
 use Rattle.code_items.specs.Declarations.{list_of, filter_of}
 use Rattle.code_items.specs.Desks.{open_at}
 use Rattle.code_items.specs.Facts.{Facts}
-use Rattle.code_items.specs.States.{is_list_of, is_filter_of, how_many, opened_by}
+use Rattle.code_items.specs.States.{is_list_of, is_filter_of, opened_by}
 use Rattle.code_rules.specs.Rules.{declares_table, is_no_list, is_no_index, is_other_list, is_other_filter, fails_if_open}
 use Rattle.run_values.specs.Tagged.{TaggedValues}
 use Rattle.run_steps.specs.World.{World, EnvState, desk_of, with_screen}
-use Rattle.run_steps.specs.Effects.{top, whole_on_top, record_number, move_landing, on_value, on_table, indexes_in, list_numbers, index_in, value_env, screen_env, open_landing, store_opened, store_by_area, moved, store_by_move, shown_here, closing_store, store_by_record, env_after, filter_here}
+use Rattle.run_steps.specs.Effects.{top, whole_on_top, record_number, move_landing, on_value, on_table, list_numbers}
+use Rattle.run_steps.specs.Effects.{index_in, value_env, screen_env, open_landing, store_opened, store_by_area, moved}
+use Rattle.run_steps.specs.Effects.{store_by_move, shown_here, closing_store, store_by_record, env_after, filter_here}
 use Rattle.run_steps.specs.Filters.{shown_by, viewer}
 use Rattle.run_steps.specs.Faults.{IsClear}
 use Rattle.run_steps.specs.Needs.{AreaNeeds, Needs}
 use Rattle.run_laws.proofs.Known.{OpenThere}
-use Rattle.run_laws.proofs.OnAreas.{some_index}
+use Rattle.run_laws.proofs.OnAreas.{counts, some_index}
 use Rattle.run_laws.proofs.Stores.{HeldBy, IsSound, like, at_used, selects, put_both, put_use, closes, closes_all, opens, legal_from, legal_parts}
 use Rattle.run_laws.proofs.Tests.{first_no, then_no, not_zero, is_there}
 
@@ -98,10 +99,6 @@ screen_store Line t e = refl
 screen_store Clear t e = refl
 
 -- ---- work areas
-
-counts : (x : Option IndexList) → how_many x ≡ length (indexes_in x)
-counts None = refl
-counts (Some l) = refl
 
 first_within : (ns : List ℕ) → first_order ns ≤ length ns
 first_within [] = omega arith

@@ -13,8 +13,6 @@ use Rattle.xvalue.specs.Functions.{applied}
 use Rattle.xvalue.specs.Given.{by_kind}
 use Rattle.xvalue.specs.Kinds.{kind_of, same_kind}
 use Rattle.xvalue.specs.Signature.{takes_of, gives_of}
-use Rattle.dbf_file.specs.declared.field.Letter.{Letter}
-use Rattle.dbf_file.specs.declared.field.Letter.TheVariants.{C, N, D, L}
 use Rattle.dbf_file.specs.Tables.{letter_at, decimals_at}
 use Rattle.dbf_file.specs.Values.{kind_for, value_by}
 use Rattle.open_table.specs.Tried.{TriedRow}
@@ -35,7 +33,7 @@ use Rattle.code_rules.specs.Flow.{left_by}
 use Rattle.code_rules.specs.Places.{filter_desk}
 use Rattle.code_rules.specs.Rules.{filters, height_after, has_other, is_free, loads_other, loads_free, undeclared}
 use Rattle.code_rules.specs.Signature.{signature}
-use Rattle.code_rules.specs.Wants.{wants, gives, known, fields_declared, constant_kind, kind_asked}
+use Rattle.code_rules.specs.Wants.{wants, gives, known, fields_declared, kind_asked}
 use Rattle.run_values.specs.BlockStack.{put_on}
 use Rattle.run_values.specs.Tagged.{TaggedValues, HasOnTop, HoldsKind, arguments_on}
 use Rattle.run_steps.specs.Filters.{Viewer, viewer, with_constant, with_held, row_run, row_field, asked_of, block_fails}
@@ -43,20 +41,21 @@ use Rattle.run_steps.specs.Filters.{block_sound, block_start, function_of, StepF
 use Rattle.run_steps.specs.Needs.{BlockNeeds}
 use Rattle.run_steps.specs.World.{EnvState, kind_held}
 use Rattle.run_values.proofs.BlockTops.{put_there}
-use Rattle.run_laws.proofs.AlikeFields.{alike_kind}
-use Rattle.run_laws.proofs.Tests.{Same, ResultLaw, on_top, slot_holds}
+use Rattle.run_steps.proofs.Results.{ResultLaw}
+use Rattle.run_laws.proofs.AlikeFields.{alike_kind, value_kind}
+use Rattle.run_laws.proofs.Tests.{Same, on_top, slot_holds}
 
 -- the tests of one instruction of it
-record IsSoundThere (code : Code) (s : State) (i : Instr) : Type 0 where
-  may : filters i ≡ true
-  clash : clashes (wants code.declared s.desk i) s.stack ≡ false
-  other : loads_other s i ≡ false
-  set : loads_free s i ≡ false
-  there : nat_lt (length s.stack) (signature i).taken ≡ false
-  within : nat_lt code.declared.stack_bound (height_after (length s.stack) i) ≡ false
-  declared : undeclared code s.desk i ≡ false
+pub record IsSoundThere (code : Code) (s : State) (i : Instr) : Type 0 where
+  pub may : filters i ≡ true
+  pub clash : clashes (wants code.declared s.desk i) s.stack ≡ false
+  pub other : loads_other s i ≡ false
+  pub set : loads_free s i ≡ false
+  pub there : nat_lt (length s.stack) (signature i).taken ≡ false
+  pub within : nat_lt code.declared.stack_bound (height_after (length s.stack) i) ≡ false
+  pub declared : undeclared code s.desk i ≡ false
 
-sound_there : (code : Code) (s : State) (i : Instr) → block_fails code s i ≡ false → IsSoundThere code s i
+pub sound_there : (code : Code) (s : State) (i : Instr) → block_fails code s i ≡ false → IsSoundThere code s i
 sound_there code s i e =
     let g = undeclared code s.desk i in
     let f = nat_lt code.declared.stack_bound (height_after (length s.stack) i) in
@@ -120,7 +119,7 @@ constant_after : (v : Viewer) (table : ℕ) (s : State) (st : List Value) (x : O
     → Stands v table (record {
       desk = s.desk;
       slots = s.slots;
-      stack = known (Some (constant_kind x)) ++ s.stack;
+      stack = known (Some (kind_held x)) ++ s.stack;
     }) (with_constant x st)
 constant_after v table s st None h lt = h
 constant_after v table s st (Some c) h lt = pushed v table s st (kind_of c) c h lt refl
@@ -150,18 +149,12 @@ asked_kind Bof r = refl
 asked_kind Found r = refl
 asked_kind Deleted r = refl
 
-letter_kind : (l : Letter) (decimals : ℕ) (text : List ℕ) → kind_of (value_by l decimals text) ≡ kind_for l
-letter_kind C decimals text = refl
-letter_kind N decimals text = refl
-letter_kind D decimals text = refl
-letter_kind L decimals text = refl
-
-field_kind_is : (f : ℕ) (r : TriedRow) → f < length r.structure.fields
+pub field_kind_is : (f : ℕ) (r : TriedRow) → f < length r.structure.fields
     → kind_of (row_field f r) ≡ kind_for (letter_at r.structure f)
 field_kind_is f r lt =
     let value = value_by (letter_at r.structure f) (decimals_at r.structure f) (slice_index_or r.row.texts f []) in
     ap (λ (b : Bool). kind_of (if b then value else Logical false)) (lt-ltb f (length r.structure.fields) lt)
-    ∙ letter_kind (letter_at r.structure f) (decimals_at r.structure f) (slice_index_or r.row.texts f [])
+    ∙ value_kind (letter_at r.structure f) (decimals_at r.structure f) (slice_index_or r.row.texts f [])
 
 -- ---- one instruction
 

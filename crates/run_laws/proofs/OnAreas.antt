@@ -144,6 +144,11 @@ selected_there code w k fits e = open_there code.declared w.env.store w.env.stor
 pub is_here : (d : Declared) (s : StoreState) → OpenThere d s s.selected → IsSome (here s)
 is_here d s o = ap is_some o.there
 
+-- a list has as many indexes as are counted
+pub counts : (x : Option IndexList) → how_many x ≡ length (indexes_in x)
+counts None = refl
+counts (Some l) = refl
+
 pub order_ready : (code : Code) (w : World) → Facts code → (o : OpenThere code.declared w.env.store w.env.store.selected) → (n : ℕ) → fails_if_open (λ a. nat_lt (opened_by code.declared a.list) n) (open_at (desk_of w.env.store) w.env.store.selected) ≡ false → ChangeNeeds (Order n) w.env.store
 order_ready code w f o n e =
     let d = code.declared in
@@ -153,10 +158,6 @@ order_ready code w f o n e =
     let count = counts (list_of d u.list) in
     let same = ap (λ (ns : List ℕ). length ns) o.list in
     (is_here d w.env.store o, omega (arith, le, count, few_numbers d u.list f.lists), subst (λ (x : Option OpenState). IfSome x (λ (o : OpenState). n ≤ length o.list)) (sym o.there) (omega (arith, le, count, same)))
-  where
-    counts : (x : Option IndexList) → how_many x ≡ length (indexes_in x)
-    counts None = refl
-    counts (Some l) = refl
 
 pub area_ready : (code : Code) (w : World) → Facts code → Known code.declared (state_of w) → StoreFits code.declared w.env.store → (i : AreaInstr) → is_instr code.declared.version (Areas i) ≡ true → IsClear code w (Areas i) → AreaNeeds code i w.env
 area_ready code w f k fits (Open t l) legal c = open_ready code w f k fits t l c

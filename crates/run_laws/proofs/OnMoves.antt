@@ -30,10 +30,11 @@ use Rattle.run_steps.specs.Filters.{BlockFits, RunsOnRows}
 use Rattle.run_steps.specs.Faults.{IsClear}
 use Rattle.run_steps.specs.Needs.{BlockNeeds, FilterNeeds, Walks, GivenNeeds, SeekNeeds, MoveNeeds}
 use Rattle.run_steps.specs.Shapes.{StoreFits}
+use Rattle.run_steps.proofs.Results.{ResultLaw}
 use Rattle.run_laws.proofs.AlikeFields.{fields_alike}
 use Rattle.run_laws.proofs.FilterBlocks.{BlockRuns, block_runs}
 use Rattle.run_laws.proofs.Known.{Known, OpenThere}
-use Rattle.run_laws.proofs.Tests.{Same, ResultLaw, first_no, then_no, else_yes, not_zero, on_top, enough}
+use Rattle.run_laws.proofs.Tests.{Same, first_no, then_no, else_yes, not_zero, on_top, enough}
 use Rattle.run_laws.proofs.OnAreas.{selected_there, is_here}
 
 -- ---- a filter

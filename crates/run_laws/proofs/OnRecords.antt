@@ -28,9 +28,10 @@ use Rattle.run_steps.specs.Effects.{list_numbers, index_in}
 use Rattle.run_steps.specs.Faults.{IsClear}
 use Rattle.run_steps.specs.Needs.{ClosingNeeds, HasField, TakesField, RecordNeeds}
 use Rattle.run_steps.specs.Shapes.{StoreFits}
+use Rattle.run_steps.proofs.Results.{ResultLaw}
 use Rattle.run_laws.proofs.AlikeFields.{fields_alike, alike_kind}
 use Rattle.run_laws.proofs.Known.{Known, OpenThere, open_there}
-use Rattle.run_laws.proofs.Tests.{Same, ResultLaw, first_no, on_top, enough, room_for}
+use Rattle.run_laws.proofs.Tests.{Same, first_no, on_top, enough, room_for}
 use Rattle.run_laws.proofs.OnAreas.{marks_there, own_indexes, some_index, selected_there, is_here}
 use Rattle.run_laws.proofs.OnMoves.{walks}
 

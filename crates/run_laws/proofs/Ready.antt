@@ -13,8 +13,9 @@ use Rattle.run_steps.specs.Faults.{fault_of, IsClear}
 use Rattle.run_steps.specs.Needs.{Needs, CallFits, IsReadyFor}
 use Rattle.run_steps.specs.Safe.{IsSafeHere}
 use Rattle.run_steps.specs.Shapes.{StoreFits, HasShape}
+use Rattle.run_steps.proofs.Results.{ResultLaw}
 use Rattle.run_laws.proofs.Known.{Known, known_of}
-use Rattle.run_laws.proofs.Tests.{Same, ResultLaw, all_within}
+use Rattle.run_laws.proofs.Tests.{Same, all_within}
 use Rattle.run_laws.proofs.OnValues.{value_ready, flow_ready, flow_fits, screen_ready}
 use Rattle.run_laws.proofs.OnAreas.{area_ready}
 use Rattle.run_laws.proofs.OnMoves.{move_ready}

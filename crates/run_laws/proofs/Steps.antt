@@ -14,7 +14,8 @@ use Rattle.run_steps.specs.World.{World, state_of, kind_held}
 use Rattle.run_steps.specs.Control.{effect, finishes}
 use Rattle.run_steps.specs.Faults.{IsClear}
 use Rattle.run_steps.specs.Shapes.{HasShape}
-use Rattle.run_laws.proofs.Tests.{Same, ResultLaw}
+use Rattle.run_steps.proofs.Results.{ResultLaw}
+use Rattle.run_laws.proofs.Tests.{Same}
 use Rattle.run_laws.proofs.Known.{known_of, open_there}
 use Rattle.run_laws.proofs.Ready.{ready}
 use Rattle.run_laws.proofs.Shaped.{sound_from, fits_of, desk_is, state_is}

@@ -4,14 +4,9 @@ use Rattle.std.specs.Prelude.{not, ◌||◌, ◌&&◌, slice_get, slice_index_or
 use Rattle.std.specs.List.{list_all}
 use Rattle.std.proofs.lemmas.Bool.{ltb-false, ne_eqb, or_parts, and_parts, not-false}
 use Rattle.std.proofs.lemmas.List.{length-map}
-use Rattle.xvalue.specs.declared.fun.Fun.{Fun}
 use Rattle.xvalue.specs.declared.kind.Kind.{Kind}
-use Rattle.xvalue.specs.declared.settings.Settings.{Settings}
 use Rattle.xvalue.specs.declared.value.Value.{Value}
-use Rattle.xvalue.specs.Functions.{applied}
-use Rattle.xvalue.specs.Given.{Given}
 use Rattle.xvalue.specs.Kinds.{kind_of, same_kind}
-use Rattle.xvalue.specs.Signature.{gives_of}
 use Rattle.code_items.specs.Kinds.{clashes}
 use Rattle.code_rules.specs.Rules.{has_other, is_free}
 use Rattle.run_values.specs.Tagged.{HasOnTop, HoldsKind}
@@ -20,10 +15,6 @@ use Rattle.run_steps.specs.World.{kind_held}
 -- kinds that are found the same are the same
 abbrev pub Same : Type 0
 Same = (one other : Kind) → same_kind one other ≡ true → one ≡ other
-
--- a function gives a value of its kind
-abbrev pub ResultLaw : Type 0
-ResultLaw = (fun : Fun) (settings : Settings) (given : Given) → kind_of (applied fun settings given) ≡ gives_of fun
 
 -- the first and the second of two tests that both fail
 pub first_no : (x y : Bool) → x || y ≡ false → x ≡ false

@@ -1,6 +1,7 @@
 pub mod Lasts
 pub mod LeadingSteps
 mod Rows
+pub mod Results
 mod BlockSteps
 mod Drafts
 pub mod FilterRuns

@@ -2,8 +2,8 @@
 
 ghost use Rattle.std.specs.Prelude.{◌≡◌, IfOk, [], length, map, replicate, reverse, slice_get, None};
 ghost use Rattle.run_values.specs.Standing.{IsTagged};
-ghost use Rattle.run_values.specs.Tagged.{TaggedValues, kind_held};
-ghost use Rattle.xvalue.specs.Kinds.{kind_of};
+ghost use Rattle.run_values.specs.Tagged.{TaggedValues};
+ghost use Rattle.xvalue.specs.Kinds.{kind_of, kind_held};
 
 use crate::lent::Lent;
 use crate::pile::Pile;

@@ -5,7 +5,7 @@ use Rattle.std.specs.Prelude.{ℤ, pos, negsuc, if◌then◌else◌, nat_lt, ◌
 use Rattle.std.specs.List.{All}
 use Rattle.std.proofs.lemmas.List.{length-set, take-append-le, take-set-le, take-take, take_at, append_assoc}
 use Rattle.std.proofs.lemmas.List.Elements.{All-set, All-get_or, All-append, All-take, All-drop}
-use Rattle.std.proofs.lemmas.Bool.{false≢true}
+use Rattle.std.proofs.lemmas.Bool.{and_parts}
 use borrow.Author.Tests.{ltb-true}
 use Rattle.screen_lines.specs.declared.cursor.Cursor.{Cursor}
 use Rattle.screen_lines.specs.declared.cursor.Cursor.TheVariants.{BeforeFirst, At}
@@ -43,10 +43,6 @@ stays roll whole = record { whole = whole; kept = KeepsSent-same roll }
 
 on : (old mid new : Roll) → Steps old mid → Steps mid new → Steps old new
 on old mid new first next = record { whole = next.whole; kept = KeepsSent-on old mid new first.kept next.kept }
-
-both_true : (a b : Bool) → (a && b) ≡ true → (a ≡ true) × (b ≡ true)
-both_true true b h = (refl, h)
-both_true false b h = absurd (false≢true h)
 
 either : (b : Bool) (old x y : Roll) → (b ≡ true → Steps old x) → (b ≡ false → Steps old y)
     → Steps old (if b then x else y)
@@ -133,7 +129,7 @@ text_said-Steps : (row column : ℤ) (text : List ℕ) (roll : Roll) → IsWhole
 unfolding text_said
 text_said-Steps (pos row) (pos column) text roll whole =
     either (nat_lt row 25 && nat_lt column 80) roll _ _
-    (λ is. let both = both_true (nat_lt row 25) (nat_lt column 80) is in
+    (λ is. let both = and_parts (nat_lt row 25) (nat_lt column 80) is in
     shown_at-Steps row column text roll (ltb-true row 25 both.0) (let c = ltb-true column 80 both.1 in omega arith)
     whole)
     (λ _. stays roll whole)

@@ -9,8 +9,8 @@ ghost use Rattle.screen_lines.specs.Commands.{screen_after, bytes_sent};
 ghost use Rattle.screen_lines.specs.Shape.{IsWhole, KeepsSent, IsListing};
 ghost use Rattle.screen_lines.specs.declared.commands.ScreenCommand.{ScreenCommand};
 
-/// How a text is printed: what fits in the row is shown there as it stands; behind column 79, and before the first
-/// row, what is printed goes to the next line; a text in two parts is one part printed after the other.
+/// How a text is printed. What fits in the row is shown there as it stands. Behind column 79, and before the first row,
+/// what is printed goes to the next line. A text in two parts is one part printed after the other.
 pub fn print_fills_rows()
     ensures fits { (text : List ℕ) (roll : Roll) (row column : ℕ) → IsWhole roll → roll.cursor ≡ At row column
         → column + length text ≤ 80 → text_printed text roll ≡ shown_at row column text roll }

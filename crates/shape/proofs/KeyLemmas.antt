@@ -1,9 +1,9 @@
 -- Keys that fit fields are keys that rows can have.
-use Rattle.std.proofs.Common.{◌≡◌, ◌≤◌, ◌<◌, ℕ, zero, suc, Bool, true, false, ◌&&◌, nat_le, List, [], ◌∷◌, length, map}
+use Rattle.std.proofs.Common.{◌≡◌, ◌≤◌, ◌<◌, ℕ, zero, suc, true, nat_le, List, [], ◌∷◌, length, map}
 use Rattle.std.proofs.Common.{refl, subst, arith}
 use Rattle.std.specs.Prelude.{slice_get, slice_index, slice_index_or}
 use Rattle.std.specs.List.{AllByRecursion, list_all}
-use Rattle.std.proofs.lemmas.Bool.{leb-true}
+use Rattle.std.proofs.lemmas.Bool.{leb-true, and_parts}
 use Rattle.dbf_file.specs.declared.field.Letter.{Letter}
 use Rattle.dbf_file.specs.declared.field.Letter.TheVariants.{C, N, D, L}
 use Rattle.dbf_file.specs.declared.field.Field.{Field}
@@ -12,10 +12,6 @@ use Rattle.dbf_file.specs.Tables.{StructureState, row_widths}
 use Rattle.shape.specs.declared.parts.KeyPart.{KeyPart}
 use Rattle.shape.specs.Keys.{IsKey, IsTextField, key_length, is_text_field, holds_text, width_of, names_text, key_bytes}
 use Rattle.shape.specs.Keys.{is_key}
-
-pub both : (a b : Bool) → a && b ≡ true → (a ≡ true) × (b ≡ true)
-both true b e = (refl, e)
-both false b e = absurd (cc)
 
 letter : (f : Letter) → holds_text f ≡ true → f ≡ C
 letter C e = refl
@@ -39,7 +35,7 @@ fields_there : (s : StructureState) (parts : List KeyPart) → list_all (names_t
     → AllByRecursion (IsTextField s) parts
 fields_there s [] e = record {}
 fields_there s (part ∷ parts) e =
-    let b = both (names_text s.fields part) (list_all (names_text s.fields) parts) e in
+    let b = and_parts (names_text s.fields part) (list_all (names_text s.fields) parts) e in
     let t = text_there s.fields part.field b.0 in
     (record { within = t.0; letter = t.1 }, fields_there s parts b.1)
 
@@ -47,7 +43,7 @@ bytes_there : (s : StructureState) (parts : List KeyPart) → list_all (names_te
     → key_bytes s.fields parts ≡ key_length parts (row_widths s)
 bytes_there s [] e = refl
 bytes_there s (part ∷ parts) e =
-    let b = both (names_text s.fields part) (list_all (names_text s.fields) parts) e in
+    let b = and_parts (names_text s.fields part) (list_all (names_text s.fields) parts) e in
     let t = text_there s.fields part.field b.0 in
     let here : width_of (slice_get s.fields part.field) ≡ slice_index (row_widths s) part.field =
     width_there s.fields part.field t.0 in
@@ -57,10 +53,10 @@ bytes_there s (part ∷ parts) e =
 pub keys_there : (s : StructureState) (parts : List KeyPart) → is_key s.fields parts ≡ true → IsKey s parts
 unfolding is_key
 keys_there s parts e =
-    let a = both _ (nat_le (key_bytes s.fields parts) 100) e in
-    let b = both _ (nat_le 1 (key_bytes s.fields parts)) a.0 in
-    let c = both _ (list_all (names_text s.fields) parts) b.0 in
-    let d = both (nat_le 1 (length parts)) (nat_le (length parts) 8) c.0 in
+    let a = and_parts _ (nat_le (key_bytes s.fields parts) 100) e in
+    let b = and_parts _ (nat_le 1 (key_bytes s.fields parts)) a.0 in
+    let c = and_parts _ (list_all (names_text s.fields) parts) b.0 in
+    let d = and_parts (nat_le 1 (length parts)) (nat_le (length parts) 8) c.0 in
     let same = bytes_there s parts c.1 in
     record {
       some = leb-true 1 (length parts) d.0;

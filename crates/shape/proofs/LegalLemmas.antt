@@ -3,7 +3,7 @@ use Rattle.std.proofs.Common.{◌≡◌, ◌<◌, ℕ, zero, suc, Bool, true, fa
 use Rattle.std.proofs.Common.{Option, Some, length, get_or, cond, refl, sym, ap, ◌∙◌, subst, arith}
 use Rattle.std.specs.Prelude.{slice_get, codes}
 use Rattle.std.specs.List.{list_all}
-use Rattle.std.proofs.lemmas.Bool.{leb-true, eqb-true, false≢true}
+use Rattle.std.proofs.lemmas.Bool.{leb-true, eqb-true, false≢true, and_parts, and_from}
 use Rattle.dbf_file.specs.declared.field.Field.{Field}
 use Rattle.shape.specs.declared.indexes.IndexShape.{IndexShape}
 use Rattle.shape.specs.declared.tables.TableShape.{TableShape}
@@ -14,10 +14,6 @@ use Rattle.shape.specs.Keys.{is_key, name_of, part_spelled, more_spelled, key_te
 use Rattle.shape.specs.Names.{is_capital_byte, is_capital_name, begins_with_capital}
 use Rattle.shape.specs.Tables.{is_table, is_next_table, tables_go_on}
 use Rattle.shape.specs.Whole.{is_shape, IsLegal}
-use Rattle.shape.proofs.KeyLemmas.{both}
-
-pub joined : (a b : Bool) → a ≡ true → b ≡ true → a && b ≡ true
-joined a b e f = rw (e, f) refl
 
 -- ---- texts without a zero
 
@@ -29,14 +25,15 @@ no_zero-append : (a b : List ℕ) → no_zero a ≡ true → no_zero b ≡ true 
 unfolding no_zero
 no_zero-append [] b e f = f
 no_zero-append (x ∷ a) b e f =
-    let p = both (not (x == 0)) (no_zero a) e in joined (not (x == 0)) (no_zero (a ++ b)) p.0 (no_zero-append a b p.1 f)
+    let p = and_parts (not (x == 0)) (no_zero a) e in and_from (not (x == 0)) (no_zero (a ++ b)) p.0
+    (no_zero-append a b p.1 f)
 
 none_at : (text : List ℕ) (k : ℕ) → no_zero text ≡ true → k < length text → get_or text k 0 ≡ 0 → ⊥
 unfolding no_zero
 none_at [] k e lt z = omega arith
-none_at (b ∷ text) zero e lt z = (let p = both (not (b == 0)) (no_zero text) e in let f : not (b == 0)
+none_at (b ∷ text) zero e lt z = (let p = and_parts (not (b == 0)) (no_zero text) e in let f : not (b == 0)
     ≡ false = ap (λ n. not (n == 0)) {y = 0} z in false≢true (sym f ∙ p.0))
-none_at (b ∷ text) (suc k) e lt z = none_at text k (both (not (b == 0)) (no_zero text) e).1 (omega arith) z
+none_at (b ∷ text) (suc k) e lt z = none_at text k (and_parts (not (b == 0)) (no_zero text) e).1 (omega arith) z
 
 capital : (b : ℕ) → is_capital_byte b ≡ true → not (b == 0) ≡ true
 capital b e = elim (b == 0) as (λ t. b == 0 ≡ t → not t ≡ true) [
@@ -47,7 +44,8 @@ capital b e = elim (b == 0) as (λ t. b == 0 ≡ t → not t ≡ true) [
 capitals : (name : List ℕ) → list_all is_capital_byte name ≡ true → no_zero name ≡ true
 unfolding no_zero
 capitals [] e = refl
-capitals (b ∷ name) e = let p = both (is_capital_byte b) (list_all is_capital_byte name) e in joined (not (b == 0))
+capitals (b ∷ name) e =
+    let p = and_parts (is_capital_byte b) (list_all is_capital_byte name) e in and_from (not (b == 0))
     (no_zero name) (capital b p.0) (capitals name p.1)
 
 named : (fields : List Field) (k : ℕ) → list_all (λ f. is_capital_name f.name.items) fields ≡ true
@@ -55,10 +53,10 @@ named : (fields : List Field) (k : ℕ) → list_all (λ f. is_capital_name f.na
 unfolding no_zero
 named [] k e = refl
 named (f ∷ fields) zero e = capitals f.name.items
-    (both (begins_with_capital f.name.items) (list_all is_capital_byte f.name.items)
-    (both (is_capital_name f.name.items) (list_all (λ g. is_capital_name g.name.items) fields) e).0).1
+    (and_parts (begins_with_capital f.name.items) (list_all is_capital_byte f.name.items)
+    (and_parts (is_capital_name f.name.items) (list_all (λ g. is_capital_name g.name.items) fields) e).0).1
 named (f ∷ fields) (suc k) e =
-    named fields k (both (is_capital_name f.name.items) (list_all (λ g. is_capital_name g.name.items) fields) e).1
+    named fields k (and_parts (is_capital_name f.name.items) (list_all (λ g. is_capital_name g.name.items) fields) e).1
 
 upper_text : no_zero (codes "UPPER(") ≡ true
 unfolding no_zero
@@ -98,31 +96,32 @@ table_there : (earlier ts : List TableShape) (k : ℕ) (t : TableShape) → tabl
 unfolding is_next_table
 table_there earlier [] k t e f = absurd (cc)
 table_there earlier (u ∷ ts) zero t e f =
-    let p = both (is_next_table earlier u) (tables_go_on (earlier ++ u ∷ []) ts) e in
+    let p = and_parts (is_next_table earlier u) (tables_go_on (earlier ++ u ∷ []) ts) e in
     let here : u ≡ t = cc in
-    subst (λ (w : TableShape). is_table w ≡ true) here (both (is_table u) _ p.0).0
+    subst (λ (w : TableShape). is_table w ≡ true) here (and_parts (is_table u) _ p.0).0
 table_there earlier (u ∷ ts) (suc k) t e f =
-    table_there (earlier ++ u ∷ []) ts k t (both (is_next_table earlier u) (tables_go_on (earlier ++ u ∷ []) ts) e).1 f
+    table_there (earlier ++ u ∷ []) ts k t
+    (and_parts (is_next_table earlier u) (tables_go_on (earlier ++ u ∷ []) ts) e).1 f
 
 index_there : (tables : List TableShape) (earlier xs : List IndexShape) (n : ℕ) (x : IndexShape)
     → indexes_go_on tables earlier xs ≡ true → slice_get xs n ≡ Some x → is_index tables x ≡ true
 unfolding is_next_index
 index_there tables earlier [] n x e f = absurd (cc)
 index_there tables earlier (y ∷ xs) zero x e f =
-    let p = both (is_next_index tables earlier y) (indexes_go_on tables (earlier ++ y ∷ []) xs) e in
+    let p = and_parts (is_next_index tables earlier y) (indexes_go_on tables (earlier ++ y ∷ []) xs) e in
     let here : y ≡ x = cc in
-    subst (λ (w : IndexShape). is_index tables w ≡ true) here (both (is_index tables y) _ p.0).0
+    subst (λ (w : IndexShape). is_index tables w ≡ true) here (and_parts (is_index tables y) _ p.0).0
 index_there tables earlier (y ∷ xs) (suc n) x e f = index_there tables (earlier ++ y ∷ []) xs n x
-    (both (is_next_index tables earlier y) (indexes_go_on tables (earlier ++ y ∷ []) xs) e).1 f
+    (and_parts (is_next_index tables earlier y) (indexes_go_on tables (earlier ++ y ∷ []) xs) e).1 f
 
 capital_fields : (t : TableShape) → is_table t ≡ true → list_all (λ f. is_capital_name f.name.items) t.fields ≡ true
 unfolding is_table
-capital_fields t e = (both _ (list_all (λ f. is_capital_name f.name.items) t.fields) e).1
+capital_fields t e = (and_parts _ (list_all (λ f. is_capital_name f.name.items) t.fields) e).1
 
 declared_key : (tables : List TableShape) (x : IndexShape) → is_index tables x ≡ true
     → fits_table (slice_get tables x.table) x.key ≡ true
 unfolding is_index
-declared_key tables x e = (both _ (has_declared_key tables x) e).1
+declared_key tables x e = (and_parts _ (has_declared_key tables x) e).1
 
 fits_within : (tables : List TableShape) (n : ℕ) (parts : List KeyPart) → fits_table (slice_get tables n) parts ≡ true
     → n < length tables
@@ -133,9 +132,9 @@ fits_within (t ∷ tables) (suc n) parts e = omega (arith, fits_within tables n 
 pub legal : (s : Shape) → is_shape s ≡ true → IsLegal s
 unfolding is_shape
 legal s e =
-    let a = both _ (indexes_go_on s.tables [] s.indexes) e in
-    let b = both _ (tables_go_on [] s.tables) a.0 in
-    let c = both (nat_le (length s.tables) 32) (nat_le (length s.indexes) 64) b.0 in
+    let a = and_parts _ (indexes_go_on s.tables [] s.indexes) e in
+    let b = and_parts _ (tables_go_on [] s.tables) a.0 in
+    let c = and_parts (nat_le (length s.tables) 32) (nat_le (length s.indexes) 64) b.0 in
     record {
       few_tables = leb-true (length s.tables) 32 c.0;
       few_indexes = leb-true (length s.indexes) 64 c.1;
@@ -146,7 +145,7 @@ legal s e =
             key = λ t is.
                 let at : fits_table (Some t) x.key ≡ true =
                 subst (λ (o : Option TableShape). fits_table o x.key ≡ true) is fits in
-                let p = both (is_key t.fields x.key) (nat_le (length (key_text t.fields x.key)) 100) at in
+                let p = and_parts (is_key t.fields x.key) (nat_le (length (key_text t.fields x.key)) 100) at in
                 record {
                   key = p.0;
                   short = leb-true (length (key_text t.fields x.key)) 100 p.1;

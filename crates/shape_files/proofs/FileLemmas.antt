@@ -1,7 +1,8 @@
--- Files that stay the same, counts of failures that rise, and what is told of them.
+-- What lines declare of files that stay the same, lines that were taken, and what is told.
 use Rattle.std.proofs.Common.{◌≡◌, ◌≤◌, ◌+◌, ℕ, List, [], ◌∷◌, ◌++◌, Some, length, length-append, append_assoc}
-use Rattle.std.proofs.Common.{append-nil, inl, inr, refl, sym, ap, ◌∙◌, subst, arith}
-use Rattle.file_access.specs.Holding.{Holds, Rose, SameFiles}
+use Rattle.std.proofs.Common.{append-nil, refl, sym, ap, ◌∙◌, subst, arith}
+use Rattle.file_access.specs.Holding.{Holds, SameFiles}
+use Rattle.file_access.proofs.Holding.{rose_later}
 use Rattle.shape.specs.declared.whole.Shape.{Shape}
 use Rattle.text_lines.specs.Lines.{lines}
 use Rattle.shape_files.specs.declared.refusal.DeclFault.TheVariants.{Absent, TooLong, Line}
@@ -10,18 +11,6 @@ use Rattle.shape_files.specs.declared.refusal.ShapeRefusal.TheVariants.{Refused,
 use Rattle.shape_files.specs.Lines.{Said, Nothing, Table, Index, Other, said_in_line}
 use Rattle.shape_files.specs.Refusals.{AtLineIs, LinesRefusalIs, ShapeRefusalIs}
 use Rattle.shape_files.specs.Shapes.{Declare, LineDeclares, DeclaresTable, file_name, no_shape}
-
-pub same_self : (a : Holds) → SameFiles a a
-same_self a name found = (λ h. h, λ h. h)
-
-pub same_then : (a b c : Holds) → SameFiles a b → SameFiles b c → SameFiles a c
-same_then a b c s t name found =
-    (λ h. (t name found).0 ((s name found).0 h), λ h. (s name found).1 ((t name found).1 h))
-
--- a count that rose later rose
-pub rose_later : (a b c : ℕ) → a ≤ b → b ≤ c → Rose b c → Rose a c
-rose_later a b c l m (inl r) = inl (omega (arith, l, m, r))
-rose_later a b c l m (inr r) = grind (arith, l, m, r)
 
 -- ---- what lines declare of the same files
 

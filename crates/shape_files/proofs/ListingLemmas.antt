@@ -11,7 +11,8 @@ use Rattle.shape_files.specs.Lines.{said_in_line}
 use Rattle.shape_files.specs.Listing.{Faulty, Further, Good, IsNoLine, IsOfDevice, JudgedLine, JudgedLines, NoLines}
 use Rattle.shape_files.specs.Refusals.{ShapeRefusalIs}
 use Rattle.shape_files.specs.Shapes.{Declare, no_shape}
-use Rattle.shape_files.proofs.FileLemmas.{declare_more, declares_before, rose_later}
+use Rattle.file_access.proofs.Holding.{rose_later}
+use Rattle.shape_files.proofs.FileLemmas.{declare_more, declares_before}
 
 -- of all lines so many are judged, and the rest are left
 pub record Judged (holds : Holds) (all rest : List (List ℕ)) (number : ℕ) (shape : Shape)

@@ -3,7 +3,7 @@ use Rattle.std.proofs.Common.{◌≡◌, ◌<◌, ℕ, zero, suc, Bool, true, no
 use Rattle.std.proofs.Common.{length-append, refl, sym, subst, append_assoc, append-nil, arith}
 use Rattle.std.specs.Prelude.{slice_get}
 use Rattle.std.specs.List.{list_any}
-use Rattle.std.proofs.lemmas.Bool.{le-leb}
+use Rattle.std.proofs.lemmas.Bool.{le-leb, and_parts, and_from}
 use Rattle.shape.specs.declared.indexes.IndexShape.{IndexShape}
 use Rattle.shape.specs.declared.parts.KeyPart.{KeyPart}
 use Rattle.shape.specs.declared.tables.TableShape.{TableShape}
@@ -12,8 +12,6 @@ use Rattle.shape.specs.Indexes.{fits_table, has_declared_key, has_index_name, is
 use Rattle.shape.specs.Names.{is_file_name}
 use Rattle.shape.specs.Tables.{is_next_table, tables_go_on}
 use Rattle.shape.specs.Whole.{is_shape}
-use Rattle.shape.proofs.KeyLemmas.{both}
-use Rattle.shape.proofs.LegalLemmas.{joined}
 use Rattle.shape_files.specs.Shapes.{no_shape, with_index, with_declared_table}
 
 -- ---- tables
@@ -21,10 +19,10 @@ use Rattle.shape_files.specs.Shapes.{no_shape, with_index, with_declared_table}
 tables_more : (earlier ts : List TableShape) (t : TableShape) → tables_go_on earlier ts ≡ true
     → is_next_table (earlier ++ ts) t ≡ true → tables_go_on earlier (ts ++ t ∷ []) ≡ true
 tables_more earlier [] t g n =
-    joined (is_next_table earlier t) true (subst (λ l. is_next_table l t ≡ true) (append-nil earlier) n) refl
+    and_from (is_next_table earlier t) true (subst (λ l. is_next_table l t ≡ true) (append-nil earlier) n) refl
 tables_more earlier (x ∷ ts) t g n =
-    let p = both (is_next_table earlier x) (tables_go_on (earlier ++ x ∷ []) ts) g in
-    joined (is_next_table earlier x) (tables_go_on (earlier ++ x ∷ []) (ts ++ t ∷ [])) p.0
+    let p = and_parts (is_next_table earlier x) (tables_go_on (earlier ++ x ∷ []) ts) g in
+    and_from (is_next_table earlier x) (tables_go_on (earlier ++ x ∷ []) (ts ++ t ∷ [])) p.0
     (tables_more (earlier ++ x ∷ []) ts t p.1
     (subst (λ l. is_next_table l t ≡ true) (sym (append_assoc earlier (x ∷ []) ts)) n))
 
@@ -33,11 +31,11 @@ tables_more earlier (x ∷ ts) t g n =
 indexes_more : (tables : List TableShape) (earlier xs : List IndexShape) (x : IndexShape)
     → indexes_go_on tables earlier xs ≡ true → is_next_index tables (earlier ++ xs) x ≡ true
     → indexes_go_on tables earlier (xs ++ x ∷ []) ≡ true
-indexes_more tables earlier [] x g n = joined (is_next_index tables earlier x) true
+indexes_more tables earlier [] x g n = and_from (is_next_index tables earlier x) true
     (subst (λ l. is_next_index tables l x ≡ true) (append-nil earlier) n) refl
 indexes_more tables earlier (y ∷ xs) x g n =
-    let p = both (is_next_index tables earlier y) (indexes_go_on tables (earlier ++ y ∷ []) xs) g in
-    joined (is_next_index tables earlier y) (indexes_go_on tables (earlier ++ y ∷ []) (xs ++ x ∷ [])) p.0
+    let p = and_parts (is_next_index tables earlier y) (indexes_go_on tables (earlier ++ y ∷ []) xs) g in
+    and_from (is_next_index tables earlier y) (indexes_go_on tables (earlier ++ y ∷ []) (xs ++ x ∷ [])) p.0
     (indexes_more tables (earlier ++ y ∷ []) xs x p.1
     (subst (λ l. is_next_index tables l x ≡ true) (sym (append_assoc earlier (y ∷ []) xs)) n))
 
@@ -52,10 +50,10 @@ next_stays : (tables : List TableShape) (t : TableShape) (earlier : List IndexSh
     → is_next_index tables earlier x ≡ true → is_next_index (tables ++ t ∷ []) earlier x ≡ true
 unfolding is_index is_next_index
 next_stays tables t earlier x e =
-    let p = both (is_index tables x) (not (list_any (has_index_name x.name.items) earlier)) e in
-    let q = both (is_file_name x.name.items) (has_declared_key tables x) p.0 in
-    joined (is_index (tables ++ t ∷ []) x) (not (list_any (has_index_name x.name.items) earlier))
-    (joined (is_file_name x.name.items) (has_declared_key (tables ++ t ∷ []) x) q.0
+    let p = and_parts (is_index tables x) (not (list_any (has_index_name x.name.items) earlier)) e in
+    let q = and_parts (is_file_name x.name.items) (has_declared_key tables x) p.0 in
+    and_from (is_index (tables ++ t ∷ []) x) (not (list_any (has_index_name x.name.items) earlier))
+    (and_from (is_file_name x.name.items) (has_declared_key (tables ++ t ∷ []) x) q.0
     (fits_stays tables t x.table x.key q.1))
     p.1
 
@@ -63,8 +61,8 @@ indexes_stay : (tables : List TableShape) (t : TableShape) (earlier xs : List In
     → indexes_go_on tables earlier xs ≡ true → indexes_go_on (tables ++ t ∷ []) earlier xs ≡ true
 indexes_stay tables t earlier [] e = refl
 indexes_stay tables t earlier (x ∷ xs) e =
-    let p = both (is_next_index tables earlier x) (indexes_go_on tables (earlier ++ x ∷ []) xs) e in
-    joined (is_next_index (tables ++ t ∷ []) earlier x) (indexes_go_on (tables ++ t ∷ []) (earlier ++ x ∷ []) xs)
+    let p = and_parts (is_next_index tables earlier x) (indexes_go_on tables (earlier ++ x ∷ []) xs) e in
+    and_from (is_next_index (tables ++ t ∷ []) earlier x) (indexes_go_on (tables ++ t ∷ []) (earlier ++ x ∷ []) xs)
     (next_stays tables t earlier x p.0)
     (indexes_stay tables t (earlier ++ x ∷ []) xs p.1)
 
@@ -83,9 +81,9 @@ parts_of s e =
     let b : Bool = nat_le (length s.indexes) 64 in
     let c : Bool = tables_go_on [] s.tables in
     let d : Bool = indexes_go_on s.tables [] s.indexes in
-    let p = both (a && b && c) d e in
-    let q = both (a && b) c p.0 in
-    let r = both a b q.0 in
+    let p = and_parts (a && b && c) d e in
+    let q = and_parts (a && b) c p.0 in
+    let r = and_parts a b q.0 in
     record { few_tables = r.0; few_indexes = r.1; tables = q.1; indexes = p.1 }
 
 whole_of : (s : Shape) → IsShape s → is_shape s ≡ true
@@ -95,7 +93,7 @@ whole_of s h =
     let b : Bool = nat_le (length s.indexes) 64 in
     let c : Bool = tables_go_on [] s.tables in
     let d : Bool = indexes_go_on s.tables [] s.indexes in
-    joined (a && b && c) d (joined (a && b) c (joined a b h.few_tables h.few_indexes) h.tables) h.indexes
+    and_from (a && b && c) d (and_from (a && b) c (and_from a b h.few_tables h.few_indexes) h.tables) h.indexes
 
 one_more : {X : Type 0} → (xs : List X) (x : X) (most : ℕ) → length xs < most
     → nat_le (length (xs ++ x ∷ [])) most ≡ true

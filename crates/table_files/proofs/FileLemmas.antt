@@ -1,14 +1,13 @@
--- Files that stay as they are, counts of failures, and refusals handed on.
+-- Places of files, what was held before, and refusals handed on.
 use Rattle.std.proofs.Common.{◌≡◌, ◌≤◌, ◌<◌, ◌+◌, get_or, below_more, ℕ, zero, suc, List, take, add-one, [], ◌∷◌, ◌++◌}
-use Rattle.std.proofs.Common.{Option, Some, None, length, map, refl, sym, ap, ◌∙◌, subst, arith, inl, inr, zero-add}
+use Rattle.std.proofs.Common.{Option, Some, None, length, map, refl, sym, ap, ◌∙◌, subst, arith, zero-add}
 use Rattle.std.proofs.lemmas.List.{length-map, length_push, get_or_push}
 use Rattle.std.proofs.lemmas.List.Elements.{All-nil, All-cons}
 use Rattle.std.proofs.lemmas.Option.{slice_get_within}
 use Rattle.std.proofs.Math.ListN.{get_or-append}
 use Rattle.std.specs.List.{All, AllZip}
-use Rattle.std.proofs.Math.Nat.{eq-or-lt_of_le}
 use Rattle.std.specs.Prelude.{slice_get}
-use Rattle.file_access.specs.Holding.{Rose, Holds, SameFiles}
+use Rattle.file_access.specs.Holding.{Holds, SameFiles}
 use Rattle.shape.specs.declared.indexes.IndexShape.{IndexShape}
 use Rattle.shape.specs.declared.tables.TableShape.{TableShape}
 use Rattle.shape.specs.declared.whole.Shape.{Shape}
@@ -23,14 +22,6 @@ use Rattle.table_files.specs.Loading.{IsTableOf, IsListOf, AreListsOf}
 use Rattle.table_files.specs.Names.{table_file, index_file, files_of}
 use Rattle.table_files.specs.Refusals.{IsTableFault, TableRefused}
 use Rattle.table_files.specs.Refusals.{LoadRefused, ListRefused, ListsRefused}
-
-pub kept_on : (a b c : Holds) → SameFiles a b → SameFiles b c → SameFiles a c
-kept_on a b c f g name found = (λ h. (g name found).0 ((f name found).0 h), λ h. (f name found).1 ((g name found).1 h))
-
-pub rose_on : (a b c : ℕ) → a ≤ b → b ≤ c → Rose b c → Rose a c
-rose_on a b c low high (inl rose) = inl (omega arith)
-rose_on a b c low high (inr most) =
-    elim (eq-or-lt_of_le low) [ inl same ↦ inr (same ∙ most) | inr below ↦ inl (omega arith) ]
 
 -- ---- places of files
 

@@ -1,5 +1,5 @@
 -- The files of a shape that may be declared: names of ASCII bytes, and no two alike.
-use Rattle.std.proofs.Common.{◌≡◌, ◌≢◌, ◌≤◌, ◌<◌, ◌+◌, ℕ, zero, suc, Bool, true, false, not, ◌&&◌, ◌||◌, ◌==◌, ◌⊎◌, inl}
+use Rattle.std.proofs.Common.{◌≡◌, ◌≢◌, ◌≤◌, ◌<◌, ◌+◌, ℕ, zero, suc, Bool, true, false, not, ◌||◌, ◌==◌, ◌⊎◌, inl}
 use Rattle.std.proofs.Common.{inr, lit<, nat_le, List, [], ◌∷◌, ◌++◌, Some, length, take, map, reverse, get_or, refl}
 use Rattle.std.proofs.Common.{sym, ap, ◌∙◌, subst, arith, append_assoc, append-nil}
 use Rattle.std.specs.Prelude.{slice_get, codes, IsUtf8}
@@ -8,7 +8,7 @@ use Rattle.std.specs.Cmp.Derive.{both_true}
 use Rattle.std.specs.Int.{is_in_range}
 use Rattle.std.specs.List.{AllByRecursion, list_all, list_any}
 use Rattle.std.specs.Str.{IsAscii, bytes_eq, str_eq_ignore_ascii_case}
-use Rattle.std.proofs.lemmas.Bool.{leb-true, eqb-true, eq-eqb, not-true, false≢true}
+use Rattle.std.proofs.lemmas.Bool.{leb-true, eqb-true, eq-eqb, not-true, false≢true, and_parts}
 use Rattle.std.proofs.lemmas.List.{append_cancel_right, reverse-append}
 use Rattle.std.proofs.lemmas.Option.{slice_get_within}
 use Rattle.std.proofs.lemmas.Str.{IsUtf8-from_ascii}
@@ -23,10 +23,6 @@ use Rattle.shape.specs.Whole.{is_shape}
 use Rattle.table_files.specs.Names.{table_file, index_file, files_of}
 use Rattle.table_files.proofs.FileLemmas.{some_same}
 
-both : (a b : Bool) → a && b ≡ true → (a ≡ true) × (b ≡ true)
-both true b e = (refl, e)
-both false b e = absurd (cc)
-
 -- ---- bytes of names
 
 either : (a b : Bool) → a || b ≡ true → (a ≡ true) ⊎ (b ≡ true)
@@ -34,7 +30,7 @@ either true b e = inl refl
 either false b e = inr e
 
 in_range_below : (lo hi c : ℕ) → is_in_range lo hi c ≡ true → c ≤ hi
-in_range_below lo hi c e = leb-true c hi (both (nat_le lo c) (nat_le c hi) e).1
+in_range_below lo hi c e = leb-true c hi (and_parts (nat_le lo c) (nat_le c hi) e).1
 
 capital_below : (c : ℕ) → is_capital_byte c ≡ true → c < 128
 capital_below c e = elim (either (is_ascii_uppercase c || is_ascii_digit c) (c == 95) e) [
@@ -47,17 +43,17 @@ capital_below c e = elim (either (is_ascii_uppercase c || is_ascii_digit c) (c =
 
 capitals_below : (name : List ℕ) → list_all is_capital_byte name ≡ true → IsAscii name
 capitals_below [] e i = lit< tt
-capitals_below (c ∷ name) e zero = capital_below c (both (is_capital_byte c) (list_all is_capital_byte name) e).0
+capitals_below (c ∷ name) e zero = capital_below c (and_parts (is_capital_byte c) (list_all is_capital_byte name) e).0
 capitals_below (c ∷ name) e (suc i) =
-    capitals_below name (both (is_capital_byte c) (list_all is_capital_byte name) e).1 i
+    capitals_below name (and_parts (is_capital_byte c) (list_all is_capital_byte name) e).1 i
 
 -- a file's name is text of at most eight bytes
 pub name_is_text : (name : List ℕ) → is_file_name name ≡ true → IsUtf8 name × (length name ≤ 8)
 unfolding is_file_name
 name_is_text name e =
-    let a = both _ (not (is_area_letter name)) e in
-    let b = both (nat_le (length name) 8) (is_capital_name name) a.0 in
-    let c = both (begins_with_capital name) (list_all is_capital_byte name) b.1 in
+    let a = and_parts _ (not (is_area_letter name)) e in
+    let b = and_parts (nat_le (length name) 8) (is_capital_name name) a.0 in
+    let c = and_parts (begins_with_capital name) (list_all is_capital_byte name) b.1 in
     (IsUtf8-from_ascii name (capitals_below name c.1), leb-true (length name) 8 b.0)
 
 -- ---- declared tables
@@ -68,16 +64,17 @@ tables_next earlier [] h t s e = absurd (cc)
 tables_next earlier (r ∷ ts) h zero s e =
     subst (λ l. is_next_table l s ≡ true) (sym (append-nil earlier))
     (subst (λ t. is_next_table earlier t ≡ true) (some_same r s e)
-    (both (is_next_table earlier r) (tables_go_on (earlier ++ r ∷ []) ts) h).0)
+    (and_parts (is_next_table earlier r) (tables_go_on (earlier ++ r ∷ []) ts) h).0)
 tables_next earlier (r ∷ ts) h (suc t) s e =
     subst (λ l. is_next_table l s ≡ true) (append_assoc earlier (r ∷ []) (take t ts))
-    (tables_next (earlier ++ r ∷ []) ts (both (is_next_table earlier r) (tables_go_on (earlier ++ r ∷ []) ts) h).1 t s
+    (tables_next (earlier ++ r ∷ []) ts
+    (and_parts (is_next_table earlier r) (tables_go_on (earlier ++ r ∷ []) ts) h).1 t s
     e)
 
 shape_tables : (shape : Shape) → is_shape shape ≡ true → tables_go_on [] shape.tables ≡ true
 unfolding is_shape
 shape_tables shape e =
-    (both _ (tables_go_on [] shape.tables) (both _ (indexes_go_on shape.tables [] shape.indexes) e).0).1
+    (and_parts _ (tables_go_on [] shape.tables) (and_parts _ (indexes_go_on shape.tables [] shape.indexes) e).0).1
 
 table_next : (shape : Shape) → is_shape shape ≡ true → (t : ℕ) (s : TableShape) → slice_get shape.tables t ≡ Some s
     → is_next_table (take t shape.tables) s ≡ true
@@ -86,8 +83,8 @@ table_next shape e = tables_next [] shape.tables (shape_tables shape e)
 next_named : (earlier : List TableShape) (s : TableShape) → is_next_table earlier s ≡ true
     → is_file_name s.name.items ≡ true
 unfolding is_next_table is_table
-next_named earlier s e = (both (is_file_name s.name.items) (are_fields s.fields)
-    (both _ (list_all (λ f. is_capital_name f.name.items) s.fields) (both (is_table s) _ e).0).0).0
+next_named earlier s e = (and_parts (is_file_name s.name.items) (are_fields s.fields)
+    (and_parts _ (list_all (λ f. is_capital_name f.name.items) s.fields) (and_parts (is_table s) _ e).0).0).0
 
 pub table_named : (shape : Shape) → is_shape shape ≡ true → (t : ℕ) (s : TableShape) → slice_get shape.tables t ≡ Some s
     → is_file_name s.name.items ≡ true
@@ -101,23 +98,23 @@ indexes_next tables earlier [] h n x e = absurd (cc)
 indexes_next tables earlier (y ∷ xs) h zero x e =
     subst (λ l. is_next_index tables l x ≡ true) (sym (append-nil earlier))
     (subst (λ z. is_next_index tables earlier z ≡ true) (some_same y x e)
-    (both (is_next_index tables earlier y) (indexes_go_on tables (earlier ++ y ∷ []) xs) h).0)
+    (and_parts (is_next_index tables earlier y) (indexes_go_on tables (earlier ++ y ∷ []) xs) h).0)
 indexes_next tables earlier (y ∷ xs) h (suc n) x e =
     subst (λ l. is_next_index tables l x ≡ true) (append_assoc earlier (y ∷ []) (take n xs))
     (indexes_next tables (earlier ++ y ∷ []) xs
-    (both (is_next_index tables earlier y) (indexes_go_on tables (earlier ++ y ∷ []) xs) h).1 n x e)
+    (and_parts (is_next_index tables earlier y) (indexes_go_on tables (earlier ++ y ∷ []) xs) h).1 n x e)
 
 index_next : (shape : Shape) → is_shape shape ≡ true → (n : ℕ) (x : IndexShape) → slice_get shape.indexes n ≡ Some x
     → is_next_index shape.tables (take n shape.indexes) x ≡ true
 unfolding is_shape
 index_next shape e = indexes_next shape.tables [] shape.indexes
-    (both _ (indexes_go_on shape.tables [] shape.indexes) e).1
+    (and_parts _ (indexes_go_on shape.tables [] shape.indexes) e).1
 
 next_index_named : (tables : List TableShape) (earlier : List IndexShape) (x : IndexShape)
     → is_next_index tables earlier x ≡ true → is_file_name x.name.items ≡ true
 unfolding is_next_index is_index
 next_index_named tables earlier x e =
-    (both (is_file_name x.name.items) (has_declared_key tables x) (both (is_index tables x) _ e).0).0
+    (and_parts (is_file_name x.name.items) (has_declared_key tables x) (and_parts (is_index tables x) _ e).0).0
 
 pub index_named : (shape : Shape) → is_shape shape ≡ true → (n : ℕ) (x : IndexShape)
     → slice_get shape.indexes n ≡ Some x → is_file_name x.name.items ≡ true
@@ -149,7 +146,7 @@ other_tables shape e t s here =
     not_any (has_table_name s.name.items) (λ r. table_file r ≢ table_file s) (take t shape.tables)
     (λ r other same. false≢true (sym other ∙ subst (λ name. str_eq_ignore_ascii_case r.name.items name ≡ true)
     (append_cancel_right r.name.items s.name.items (codes ".DBF") same) (same_text r.name.items)))
-    (not-true _ (both (is_table s) _ (table_next shape e t s here)).1)
+    (not-true _ (and_parts (is_table s) _ (table_next shape e t s here)).1)
 
 other_indexes : (shape : Shape) → is_shape shape ≡ true → (n : ℕ) (x : IndexShape) → slice_get shape.indexes n ≡ Some x
     → AllByRecursion (λ y. index_file y ≢ index_file x) (take n shape.indexes)
@@ -158,7 +155,7 @@ other_indexes shape e n x here =
     not_any (has_index_name x.name.items) (λ y. index_file y ≢ index_file x) (take n shape.indexes)
     (λ y other same. false≢true (sym other ∙ subst (λ name. str_eq_ignore_ascii_case y.name.items name ≡ true)
     (append_cancel_right y.name.items x.name.items (codes ".NDX") same) (same_text y.name.items)))
-    (not-true _ (both (is_index shape.tables x) _ (index_next shape e n x here)).1)
+    (not-true _ (and_parts (is_index shape.tables x) _ (index_next shape e n x here)).1)
 
 other_numbers : (a b : ℕ) → a ≡ 70 → b ≡ 88 → a ≡ b → ⊥
 other_numbers a b e f g = omega arith
@@ -231,6 +228,7 @@ files_differ shape legal j k file lt e f = elim (file_at shape.tables shape.inde
 pub few_declared : (shape : Shape) → is_shape shape ≡ true → (length shape.tables ≤ 32) × (length shape.indexes ≤ 64)
 unfolding is_shape
 few_declared shape e =
-    let counts = (both _ (tables_go_on [] shape.tables) (both _ (indexes_go_on shape.tables [] shape.indexes) e).0).0 in
-    let c = both (nat_le (length shape.tables) 32) (nat_le (length shape.indexes) 64) counts in
+    let counts =
+    (and_parts _ (tables_go_on [] shape.tables) (and_parts _ (indexes_go_on shape.tables [] shape.indexes) e).0).0 in
+    let c = and_parts (nat_le (length shape.tables) 32) (nat_le (length shape.indexes) 64) counts in
     (leb-true (length shape.tables) 32 c.0, leb-true (length shape.indexes) 64 c.1)

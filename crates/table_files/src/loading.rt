@@ -19,12 +19,12 @@ use work_area::{MOST_RECORDS, Store};
 /// The store of the tables and indexes that a shape declares, as their files hold them, all work areas closed. No table
 /// may have more records than the smaller of `limit` and 1,000,000.
 ///
-/// An index is stale if its file is absent, above 64 MiB, no index file, one of another key, or one of other pairs than
+/// An index is stale if its file is absent, is above 64 MiB, is no index file, has another key, or has other pairs than
 /// those of its table's rows.
 ///
 /// # Errors
-/// `Refused` names the first table whose file is absent, above 64 MiB, no table's file, or has other fields than those
-/// declared; `Disk` is a failure of the device.
+/// `Refused` names the first table whose file is absent, is above 64 MiB, is no table's file, or has other fields than
+/// those declared. `Disk` is a failure of the device.
 pub fn load<F: Files>(
     alloc: Global,
     files: &mut F,

@@ -87,8 +87,8 @@ fn run_on<K: KeyList>(
     }
 }
 
-/// Runs a code, accepted or not, until it ends, within the budget: the run takes the steps that the definition gives,
-/// costs what they cost, and the world is that before the step at which it ended. A fault of the next step is told
+/// Runs a code, accepted or not, until it ends, within the budget. The run takes the steps that the definition gives,
+/// and costs what they cost. The world is then that before the step at which it ended. A fault of the next step is told
 /// before anything else, at any budget. Accepted code meets none from a world that fits what is known at its place, and
 /// where it ends levels fall from call to call. Every open index lists its table's keys in order then. The world keeps
 /// the code's shape, so that a run that ended may be taken up again.

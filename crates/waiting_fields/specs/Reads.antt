@@ -7,9 +7,10 @@ use Rattle.code_items.specs.declared.instr.Instr.TheVariants.{Values, Screen, Re
 use Rattle.code_items.specs.declared.instr.RecordInstr.{RecordInstr}
 use Rattle.code_items.specs.declared.instr.RecordInstr.TheVariants.{Field}
 use Rattle.code_items.specs.declared.instr.ScreenInstr.{ScreenInstr}
-use Rattle.code_items.specs.declared.instr.ScreenInstr.TheVariants.{Say, SayOn, Input}
+use Rattle.code_items.specs.declared.instr.ScreenInstr.TheVariants.{Input}
 use Rattle.code_items.specs.declared.instr.ValueInstr.{ValueInstr}
 use Rattle.code_items.specs.declared.instr.ValueInstr.TheVariants.{Load}
+use Rattle.code_items.specs.Showing.{shows_value}
 use Rattle.waiting_fields.specs.declared.reads.Read.{Read}
 
 -- ---- instructions
@@ -37,16 +38,6 @@ abbrev pub is_input : Instr → Bool
 is_input (Screen i) = screen_is_input i
 is_input _ = false
 
-abbrev pub screen_shows : ScreenInstr → Bool
-screen_shows (Say k) = true
-screen_shows (SayOn k) = true
-screen_shows _ = false
-
--- shows a value at a place of the screen
-abbrev pub shows : Instr → Bool
-shows (Screen i) = screen_shows i
-shows _ = false
-
 -- ---- places
 
 -- the instruction before a place
@@ -62,7 +53,7 @@ abbrev pub takes_at : List Instr → ℕ → Bool
 takes_at code place = passes is_source (before code place) && passes is_input (slice_get code place)
 
 abbrev pub shows_at : List Instr → ℕ → Bool
-shows_at code place = passes shows (slice_get code place)
+shows_at code place = passes shows_value (slice_get code place)
 
 -- ---- READs
 

@@ -2,6 +2,7 @@
 
 ghost use Rattle.std.specs.Prelude.{◌≡◌, true, IfOk};
 ghost use Rattle.std.specs.List.{All};
+ghost use Rattle.code_items.specs.Showing.{shows_value};
 ghost use Rattle.waiting_fields.specs.Reads as spec;
 ghost use Rattle.waiting_fields.specs.Reads.{AreMatched, IsReadOfCode};
 
@@ -113,7 +114,7 @@ fn ends_straight(instr: Instr) -> bool {
 
 /// Whether an instruction shows a value at a place of the screen.
 fn shows(instr: Instr) -> bool
-    ensures { result ≡ spec.shows instr }
+    ensures { result ≡ shows_value instr }
 {
     matches!(
         instr,

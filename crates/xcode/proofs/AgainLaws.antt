@@ -18,7 +18,7 @@ use Rattle.code_items.specs.Declarations.{is_filter, lists_are_legal, constants_
 use Rattle.code_items.specs.Declarations.{are_declared}
 use Rattle.code_items.specs.Instrs.{is_instr}
 use Rattle.code_items.specs.States.{is_state_of_start}
-use Rattle.code_items.specs.Legal.{is_procedure, is_map, places_in_all, places_of, blocks_of, blocks_fill, maps_rise}
+use Rattle.code_items.specs.Legal.{is_procedure, is_map, places_of, blocks_of, blocks_fill, maps_rise}
 use Rattle.code_items.specs.Legal.{begins_blank, procedures_are_legal, maps_are_legal, instructions_are_legal, is_code}
 use Rattle.xcode.specs.declared.fault.CodeFault.TheVariants.{Shape, Extra}
 use Rattle.xcode.specs.Decoding.{bind, checked, procedure_follows, is_laid, whole_at, code_at}

@@ -13,7 +13,7 @@ use Rattle.code_items.specs.declared.code.Proc.{Proc}
 use Rattle.code_items.specs.declared.code.Map.{Map}
 use Rattle.code_items.specs.declared.code.Code.{Code}
 use Rattle.code_items.specs.declared.instr.Instr.{Instr}
-use Rattle.code_parts.specs.Laws.{Spells, Any, TableFits, IndexFits, ListFits, IsLegalConstant, FilterFits}
+use Rattle.code_parts.specs.Laws.{ReadsTexts, Any, TableFits, IndexFits, ListFits, IsLegalConstant, FilterFits}
 use Rattle.code_parts.specs.Laws.{ProcedureFits, MapFits, IsLegalInstr}
 use Rattle.code_parts.specs.Texts.{table_text, index_text, list_text, constant_text, filter_text, procedure_text}
 use Rattle.code_parts.specs.Texts.{map_text}
@@ -32,14 +32,17 @@ use Rattle.xcode.proofs.WholeLaws.{NumberLaws, HeaderFits, CountsRead, header_sp
 -- the lower crate's laws of items
 pub record ItemLaws : Type 0 where
   pub numbers : NumberLaws
-  pub tables : Spells table_read_at table_text TableFits Any
-  pub indexes : Spells index_at index_text IndexFits Any
-  pub lists : Spells list_at list_text ListFits Any
-  pub constants : Spells constant_at constant_text IsLegalConstant IsLegalConstant
-  pub filters : Spells filter_at filter_text FilterFits Any
-  pub procedures : (version : Version) (slots : ℕ) → Spells (procedure_read_at version slots) procedure_text (ProcedureFits version slots) Any
-  pub maps : (version : Version) (slots : ℕ) → Spells (map_read_at version slots) map_text (MapFits version slots) Any
-  pub instructions : (version : Version) → Spells (instr_read_at version) instr_text (IsLegalInstr version) (IsLegalInstr version)
+  pub tables : ReadsTexts table_read_at table_text TableFits Any
+  pub indexes : ReadsTexts index_at index_text IndexFits Any
+  pub lists : ReadsTexts list_at list_text ListFits Any
+  pub constants : ReadsTexts constant_at constant_text IsLegalConstant IsLegalConstant
+  pub filters : ReadsTexts filter_at filter_text FilterFits Any
+  pub procedures : (version : Version) (slots : ℕ)
+      → ReadsTexts (procedure_read_at version slots) procedure_text (ProcedureFits version slots) Any
+  pub maps : (version : Version) (slots : ℕ)
+      → ReadsTexts (map_read_at version slots) map_text (MapFits version slots) Any
+  pub instructions : (version : Version)
+      → ReadsTexts (instr_read_at version) instr_text (IsLegalInstr version) (IsLegalInstr version)
 
 -- ---- what is declared
 

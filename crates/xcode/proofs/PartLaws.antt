@@ -6,7 +6,7 @@ use Rattle.std.proofs.lemmas.List.{append-nil}
 use Rattle.std.proofs.lemmas.Bool.{and_parts, and_from}
 use Rattle.code_parts.specs.declared.flaw.Flaw.{Flaw}
 use Rattle.code_parts.specs.Reading.{Front, Reader, Judged}
-use Rattle.code_parts.specs.Laws.{AreBytes, Spells}
+use Rattle.code_parts.specs.Laws.{AreBytes, ReadsTexts}
 use Rattle.code_parts.proofs.Combine.{are_left}
 use Rattle.xcode.specs.declared.fault.CodeFault.{CodeFault}
 use Rattle.xcode.specs.declared.fault.CodeFault.TheVariants.{Short, Shape}
@@ -143,7 +143,8 @@ checked_spelled {A} {r} {t} {P} {G} law fault test = record {
 
 -- ---- items
 
-pub told_spelled : {A : Type 0} {one : Reader (Judged A)} {t : A → List ℕ} {P G : A → Type 0} → Spells one t P G → IsSpelled (λ bytes. item_told (one bytes)) t P G
+pub told_spelled : {A : Type 0} {one : Reader (Judged A)} {t : A → List ℕ} {P G : A → Type 0} → ReadsTexts one t P G
+    → IsSpelled (λ bytes. item_told (one bytes)) t P G
 told_spelled {A} {one} {t} {P} {G} law = record {
   again = λ x rest h. rw (law.again x rest h) refl;
   takes = λ bytes rest x fit e. law.takes bytes rest x fit (front_fine (one bytes) (x, rest) e);
@@ -163,7 +164,9 @@ told_spelled {A} {one} {t} {P} {G} law = record {
     front_bad (Some (Ok y, rest)) e lasts h = absurd (not_both (y, rest) e h)
     front_bad {B} (Some (Err f, rest)) e lasts h = (f, rest, refl, bad_is {A = B × List ℕ} (flaw_fault f) e h)
 
-items_again : {A : Type 0} {one : Reader (Judged A)} {t : A → List ℕ} {P G : A → Type 0} → Spells one t P G → (follows : List A → A → Bool) (xs earlier : List A) (rest : List ℕ) → go_on follows earlier xs ≡ true → AllByRecursion P xs → items_at one follows (length xs) earlier (flat_map t xs ++ rest) ≡ Ok (earlier ++ xs, rest)
+items_again : {A : Type 0} {one : Reader (Judged A)} {t : A → List ℕ} {P G : A → Type 0} → ReadsTexts one t P G
+    → (follows : List A → A → Bool) (xs earlier : List A) (rest : List ℕ) → go_on follows earlier xs ≡ true
+    → AllByRecursion P xs → items_at one follows (length xs) earlier (flat_map t xs ++ rest) ≡ Ok (earlier ++ xs, rest)
 unfolding items_at
 items_again {A} law follows [] earlier rest legal h = ap (λ (l : List A). fine (l, rest)) (sym (append-nil earlier))
 items_again {A} {one} {t} law follows (x ∷ xs) earlier rest legal h =
@@ -180,7 +183,9 @@ record AreRead {A : Type 0} (t : A → List ℕ) (G : A → Type 0) (follows : L
   legal : go_on follows earlier xs ≡ true
   each : AllByRecursion G xs
 
-items_take : {A : Type 0} {one : Reader (Judged A)} {t : A → List ℕ} {P G : A → Type 0} → Spells one t P G → (follows : List A → A → Bool) (n : ℕ) (earlier : List A) (bytes rest : List ℕ) (all : List A) → AreBytes bytes → items_at one follows n earlier bytes ≡ Ok (all, rest) → AreRead t G follows n earlier bytes rest all
+items_take : {A : Type 0} {one : Reader (Judged A)} {t : A → List ℕ} {P G : A → Type 0} → ReadsTexts one t P G
+    → (follows : List A → A → Bool) (n : ℕ) (earlier : List A) (bytes rest : List ℕ) (all : List A) → AreBytes bytes
+    → items_at one follows n earlier bytes ≡ Ok (all, rest) → AreRead t G follows n earlier bytes rest all
 unfolding items_at
 items_take {A} {one} {t} law follows zero earlier bytes rest all fit e =
     let end = pair_is earlier all bytes rest e in
@@ -202,7 +207,10 @@ items_take {A} {one} {t} law follows (suc n) earlier bytes rest all fit e =
       each = (front.1, back.each);
     }
 
-items_stay : {A : Type 0} {one : Reader (Judged A)} {t : A → List ℕ} {P G : A → Type 0} → Spells one t P G → (follows : List A → A → Bool) (n : ℕ) (earlier : List A) (bytes more rest : List ℕ) (all : List A) → items_at one follows n earlier bytes ≡ Ok (all, rest) → items_at one follows n earlier (bytes ++ more) ≡ Ok (all, rest ++ more)
+items_stay : {A : Type 0} {one : Reader (Judged A)} {t : A → List ℕ} {P G : A → Type 0} → ReadsTexts one t P G
+    → (follows : List A → A → Bool) (n : ℕ) (earlier : List A) (bytes more rest : List ℕ) (all : List A)
+    → items_at one follows n earlier bytes ≡ Ok (all, rest)
+    → items_at one follows n earlier (bytes ++ more) ≡ Ok (all, rest ++ more)
 unfolding items_at
 items_stay {A} law follows zero earlier bytes more rest all e =
     let end = pair_is earlier all bytes rest e in
@@ -215,7 +223,9 @@ items_stay {A} {one} law follows (suc n) earlier bytes more rest all e =
     let others : items_at one follows n (earlier ++ a.0.0 ∷ []) a.0.1 ≡ Ok (all, rest) = ap next c.1 ∙ b.2 in
     rw ((told_spelled law).stays bytes more a.0.1 a.0.0 a.1, c.0) (items_stay law follows n (earlier ++ a.0.0 ∷ []) a.0.1 more rest all others)
 
-items_fail : {A : Type 0} {one : Reader (Judged A)} {t : A → List ℕ} {P G : A → Type 0} → Spells one t P G → (follows : List A → A → Bool) (n : ℕ) (earlier : List A) (bytes more : List ℕ) (f : CodeFault) → Lasts f → items_at one follows n earlier bytes ≡ Err f → items_at one follows n earlier (bytes ++ more) ≡ Err f
+items_fail : {A : Type 0} {one : Reader (Judged A)} {t : A → List ℕ} {P G : A → Type 0} → ReadsTexts one t P G
+    → (follows : List A → A → Bool) (n : ℕ) (earlier : List A) (bytes more : List ℕ) (f : CodeFault) → Lasts f
+    → items_at one follows n earlier bytes ≡ Err f → items_at one follows n earlier (bytes ++ more) ≡ Err f
 unfolding items_at
 items_fail law follows zero earlier bytes more f lasts e = absurd (not_both (earlier, bytes) f e)
 items_fail {A} {one} law follows (suc n) earlier bytes more f lasts e =
@@ -235,7 +245,9 @@ items_fail {A} {one} law follows (suc n) earlier bytes more f lasts e =
 abbrev pub AreItems : {A : Type 0} → ℕ → (List A → A → Bool) → (A → Type 0) → List A → Type 0
 AreItems n follows P xs = (length xs ≡ n) × (go_on follows [] xs ≡ true) × AllByRecursion P xs
 
-pub items_spelled : {A : Type 0} {one : Reader (Judged A)} {t : A → List ℕ} {P G : A → Type 0} → Spells one t P G → (follows : List A → A → Bool) (n : ℕ) → IsSpelled (items_at one follows n []) (flat_map t) (AreItems n follows P) (AreItems n follows G)
+pub items_spelled : {A : Type 0} {one : Reader (Judged A)} {t : A → List ℕ} {P G : A → Type 0} → ReadsTexts one t P G
+    → (follows : List A → A → Bool) (n : ℕ)
+    → IsSpelled (items_at one follows n []) (flat_map t) (AreItems n follows P) (AreItems n follows G)
 items_spelled {A} {one} {t} {P} {G} law follows n = record {
   again = λ xs rest h. ap (λ (k : ℕ). items_at one follows k [] (flat_map t xs ++ rest)) (sym h.0) ∙ items_again law follows xs [] rest h.1 h.2;
   takes = λ bytes rest xs fit e.

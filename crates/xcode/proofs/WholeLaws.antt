@@ -7,7 +7,7 @@ use Rattle.std.proofs.lemmas.Bool.{eqb-true}
 use Rattle.code_items.specs.declared.declared.Version.{Version}
 use Rattle.code_items.specs.declared.declared.Version.TheVariants.{One, Two}
 use Rattle.code_parts.specs.Reading.{Front, Reader, Judged, read_behind, give, sure, number_read_at}
-use Rattle.code_parts.specs.Laws.{Spells, Any}
+use Rattle.code_parts.specs.Laws.{ReadsTexts, Any}
 use Rattle.code_parts.specs.Texts.{two}
 use Rattle.code_parts.proofs.Combine.{some_is, done, ok_is}
 use Rattle.xcode.specs.declared.fault.CodeFault.{CodeFault}
@@ -38,7 +38,8 @@ there_bad : {A : Type 0} (fault : CodeFault) (front : Front A) (e : CodeFault) �
 there_bad {A} fault None e h = bad_is {A = A × List ℕ} fault e h
 there_bad fault (Some p) e h = absurd (not_both p e h)
 
-there_spelled : {A : Type 0} (r : Reader A) {t : A → List ℕ} {P G : A → Type 0} → Spells (sure r) t P G → (fault : CodeFault) → (Lasts fault → ⊥) → IsSpelled (λ bytes. there_or fault (r bytes)) t P G
+there_spelled : {A : Type 0} (r : Reader A) {t : A → List ℕ} {P G : A → Type 0} → ReadsTexts (sure r) t P G
+    → (fault : CodeFault) → (Lasts fault → ⊥) → IsSpelled (λ bytes. there_or fault (r bytes)) t P G
 there_spelled {A} r {t} {P} {G} law fault brief = record {
   again = λ x rest h. rw (surely (r (t x ++ rest)) x rest (law.again x rest h)) refl;
   takes = λ bytes rest x fit e. law.takes bytes rest x fit (there_fine fault (r bytes) x rest e);
@@ -48,8 +49,8 @@ there_spelled {A} r {t} {P} {G} law fault brief = record {
 
 -- numbers of two and four bytes, by the lower crate's law
 pub record NumberLaws : Type 0 where
-  pub two : Spells (sure (number_read_at w16)) (to_le_bytes w16) (λ n. n < 2 ^ 16) (λ n. n < 2 ^ 16)
-  pub four : Spells (sure (number_read_at w32)) (to_le_bytes w32) (λ n. n < 2 ^ 32) (λ n. n < 2 ^ 32)
+  pub two : ReadsTexts (sure (number_read_at w16)) (to_le_bytes w16) (λ n. n < 2 ^ 16) (λ n. n < 2 ^ 16)
+  pub four : ReadsTexts (sure (number_read_at w32)) (to_le_bytes w32) (λ n. n < 2 ^ 32) (λ n. n < 2 ^ 32)
 
 abbrev pub Small : ℕ → Type 0
 Small n = n < 2 ^ 16

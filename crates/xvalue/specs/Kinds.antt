@@ -1,5 +1,5 @@
 -- Kinds of values.
-use Rattle.std.specs.Prelude.{Bool, true, false}
+use Rattle.std.specs.Prelude.{Bool, true, false, Option, Some, None}
 use Rattle.xvalue.specs.declared.kind.Kind.{Kind}
 use Rattle.xvalue.specs.declared.kind.Kind.TheVariants.{Number as OfNumber, Text as OfText, Date as OfDate}
 use Rattle.xvalue.specs.declared.kind.Kind.TheVariants.{Logical as OfLogical}
@@ -12,6 +12,11 @@ kind_of (Number number) = OfNumber
 kind_of (Text text) = OfText
 kind_of (Date day) = OfDate
 kind_of (Logical truth) = OfLogical
+
+-- the kind of what is held; none where nothing is
+abbrev pub kind_held : Option Value → Option Kind
+kind_held None = None
+kind_held (Some value) = Some (kind_of value)
 
 -- both are one kind
 abbrev pub same_kind : Kind → Kind → Bool

@@ -182,8 +182,8 @@ fn ends_untrue(h: &Here) -> bool
     h.block.end == h.place + 1 && !is_truth(unknown(h), &h.after.stack)
 }
 
-/// Whether a filter's block has an instruction that it may not have, or doesn't leave just a truth value; or a
-/// procedure moves under a filter whose needs aren't met, or reads a field of the row tried.
+/// In a filter's block: whether it has an instruction that it may not have, or doesn't leave just a truth value. In a
+/// procedure: whether it moves under a filter whose needs aren't met, or reads a field of the row tried.
 pub fn filter_fails(h: &Here) -> bool
     requires { IsPlace h.now }
     ensures { result ≡ filter_fails_of h.now.code.now (place_told h.now) }

@@ -5,7 +5,7 @@ use Rattle.std.proofs.lemmas.Result.{err_from_is_err_and}
 use Rattle.compile_commands.specs.Compiling.{name_at}
 use Rattle.compile_commands.specs.Listing.{AreListed, IsListedBehind, NoFiles}
 use Rattle.compile_commands.specs.Refusals.{SourceRefusalIs}
-use Rattle.shape_files.proofs.FileLemmas.{same_self, same_then}
+use Rattle.file_access.proofs.Holding.{same_self, same_then}
 use Rattle.compile_commands.proofs.FileLemmas.{source_told}
 use Rattle.compile_commands.proofs.ListingLemmas.{further_listed}
 use Rattle.compile_commands.proofs.listing.list_files.Goals as goal

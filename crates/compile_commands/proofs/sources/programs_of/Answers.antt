@@ -5,7 +5,7 @@ use Rattle.std.proofs.lemmas.List.{get_or-map, length-map}
 use Rattle.std.proofs.lemmas.Result.{err_from_is_err_and}
 use Rattle.compile_commands.specs.Compiling.{IsRead, name_at}
 use Rattle.compile_commands.specs.Refusals.{SourceRefusalIs}
-use Rattle.shape_files.proofs.FileLemmas.{same_self, same_then}
+use Rattle.file_access.proofs.Holding.{same_self, same_then}
 use Rattle.compile_commands.proofs.FileLemmas.{read_before, source_told}
 use Rattle.compile_commands.proofs.sources.programs_of.Goals as goal
 

@@ -2,7 +2,7 @@ use Rattle.std.proofs.Common.{◌<◌, ℕ, List, [], length, get_or, rules, Bor
 use Rattle.folder_shapes.specs.Names.{sort_of}
 use Rattle.folder_shapes.specs.States.{taken_state}
 use Rattle.folder_shapes.specs.Told.{TakeIndexes}
-use Rattle.shape_files.proofs.FileLemmas.{same_then}
+use Rattle.file_access.proofs.Holding.{same_then}
 use Rattle.folder_shapes.proofs.FolderLemmas.{few_kept, goes_indexes, texts}
 use Rattle.folder_shapes.proofs.folder.take_all.Goals as goal
 

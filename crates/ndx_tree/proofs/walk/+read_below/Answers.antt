@@ -10,7 +10,7 @@ use Rattle.key_rows.specs.Flat.{HaveKeys}
 use Rattle.ndx_tree.specs.Reads.{ShowsSeen, Marks, WalkGives, unset}
 use Rattle.ndx_tree.specs.declared.fault.TreeFault.{TreeFault}
 use Rattle.ndx_tree.specs.declared.walk.Found.{Found}
-use Rattle.ndx_tree.proofs.PageOf.{most_entries-bound}
+use Rattle.ndx_page.proofs.LayoutLemmas.{most_entries-bound}
 use Rattle.ndx_tree.proofs.Reading.{shows_reached, unset_set, leaf_fits, leaf_keys, walk_refused, walk_opened}
 use Rattle.ndx_tree.proofs.Reading.{visit_inner, links_end, gives_last, left_step, left_fault}
 use Rattle.ndx_tree.proofs.walk.+read_below.Goals as goal

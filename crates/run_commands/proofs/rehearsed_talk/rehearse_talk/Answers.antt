@@ -1,7 +1,7 @@
 use Rattle.std.proofs.Common.{refl}
 use Rattle.operating.proofs.AnswerLemmas.{unkept_none}
 use Rattle.run_commands.proofs.Operated.{rehearsal_over, refused_over}
-use Rattle.table_files.proofs.FileLemmas.{rose_on}
+use Rattle.file_access.proofs.Holding.{rose_later}
 use Rattle.run_commands.proofs.rehearsed_talk.rehearse_talk.Goals as goal
 
 pub returns-in-Ok-clause-done : goal.returns-in-Ok-clause-done
@@ -9,7 +9,7 @@ returns-in-Ok-clause-done g c = rehearsal_over _ _ c.in-Ok.ensures.kept c.args.j
 
 pub returns-in-Ok-clause-refused : goal.returns-in-Ok-clause-refused
 returns-in-Ok-clause-refused g c = refused_over _ _ c.in-Ok.ensures.kept _ _
-    (rose_on _ _ _ c.in-Ok.ensures.counted c.rehearse_code_talk.ensures.counted)
+    (rose_later _ _ _ c.in-Ok.ensures.counted c.rehearse_code_talk.ensures.counted)
     c.args.job.now _ c.in-Ok.ensures.found c.rehearse_code_talk.result c.rehearse_code_talk.ensures.refused
 
 pub returns-then-not-can_go_on-clause-unkept : goal.returns-then-not-can_go_on-clause-unkept

@@ -9,7 +9,8 @@ use Rattle.text_lines.specs.Lines.{lines}
 use Rattle.shape_files.specs.declared.refusal.DeclFault.{DeclFault}
 use Rattle.shape_files.specs.Listing.{JudgedLines}
 use Rattle.shape_files.specs.Shapes.{no_shape, shape_of}
-use Rattle.shape_files.proofs.FileLemmas.{no_lines, same_self, same_then}
+use Rattle.file_access.proofs.Holding.{same_self, same_then}
+use Rattle.shape_files.proofs.FileLemmas.{no_lines}
 use Rattle.shape_files.proofs.ListingLemmas.{Judged, all_judged, device_later, line_before, none_judged, one_judged}
 use Rattle.shape_files.proofs.ShapeLemmas.{nothing_legal}
 use Rattle.shape_files.proofs.listing.judge_all.Goals as goal

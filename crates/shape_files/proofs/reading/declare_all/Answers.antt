@@ -8,7 +8,8 @@ use Rattle.shape.specs.Whole.{is_shape}
 use Rattle.text_lines.specs.Lines.{lines}
 use Rattle.shape_files.specs.Lines.{said_in_line}
 use Rattle.shape_files.specs.Shapes.{shape_of}
-use Rattle.shape_files.proofs.FileLemmas.{Passed, same_self, same_then, declares_before, no_lines, none_passed}
+use Rattle.file_access.proofs.Holding.{same_self, same_then}
+use Rattle.shape_files.proofs.FileLemmas.{Passed, declares_before, no_lines, none_passed}
 use Rattle.shape_files.proofs.FileLemmas.{one_passed, all_passed, line_told}
 use Rattle.shape_files.proofs.ShapeLemmas.{nothing_legal}
 use Rattle.shape_files.proofs.reading.declare_all.Goals as goal

@@ -2,7 +2,8 @@ use Rattle.std.proofs.Common.{◌≡◌, ◌+◌, List, ℕ, Option, Some, lengt
 use Rattle.std.proofs.lemmas.Result.{err_from_is_err_and}
 use Rattle.std.specs.Prelude.{slice_get}
 use Rattle.ndx_tree.specs.Trees.{TreeView}
-use Rattle.table_files.proofs.FileLemmas.{kept_on, rose_on, lists_refused, ReadLists, lists_more, lists_whole}
+use Rattle.file_access.proofs.Holding.{same_then, rose_later}
+use Rattle.table_files.proofs.FileLemmas.{lists_refused, ReadLists, lists_more, lists_whole}
 use Rattle.table_files.proofs.ShapeLemmas.{index_named}
 use Rattle.table_files.proofs.lists.load_lists.Goals as goal
 
@@ -14,8 +15,8 @@ returns-in_err-list-clause-refused g c =
     let p = err_from_is_err_and c.from_residual-in_err-list.result c.from_residual-in_err-list.ensures.1 in
     let failed = g.F.Files.failed in
     rw (p.1, p.2) (lists_refused c.args.shape.now c.loop-n.n c.get-index.result.now _ _ c.get-index.ensures
-    (rose_on (failed c.args.files.now) (failed c.loop-n.files) (failed c.load_list.new.files) c.loop-n.invariant.count
-    c.in_err-list.ensures.counted)
+    (rose_later (failed c.args.files.now) (failed c.loop-n.files) (failed c.load_list.new.files)
+    c.loop-n.invariant.count c.in_err-list.ensures.counted)
     c.in_err-list.field-0.0 c.in_err-list.ensures.refused)
 
 pub loop-n-preserved : goal.loop-n-preserved
@@ -30,7 +31,7 @@ loop-n-preserved g c =
           c.loop-n.invariant.same c.get-index.ensures
           (subst (λ (n : ℕ). slice_get c.args.shape.now.tables n ≡ Some c.get-table.result.now) c.from.ensures
           c.get-table.ensures) c.loop-n.invariant.taken c.in_ok-list.ensures.loaded);
-      same = kept_on (holds c.args.files.now) (holds c.loop-n.files) (holds c.load_list.new.files)
+      same = same_then (holds c.args.files.now) (holds c.loop-n.files) (holds c.load_list.new.files)
           c.loop-n.invariant.same c.in_ok-list.ensures.kept;
       count = omega (arith, c.loop-n.invariant.count, c.in_ok-list.ensures.counted);
     }

@@ -3,7 +3,7 @@ use Rattle.std.specs.Prelude.{slice_get}
 use Rattle.file_access.specs.Holding.{IsReplaced}
 use Rattle.table_files.specs.Names.{files_of}
 use Rattle.table_files.specs.Saving.{is_written, IsTextOf}
-use Rattle.table_files.proofs.FileLemmas.{rose_on}
+use Rattle.file_access.proofs.Holding.{rose_later}
 use Rattle.table_files.proofs.ShapeLemmas.{few_declared}
 use Rattle.table_files.proofs.WriteLemmas.{files_count, saved_kept, saved_more}
 use Rattle.table_files.proofs.saving.save.Goals as goal
@@ -24,7 +24,7 @@ returns-in-Err-clause-ended g c =
           (holds c.loop-k.files) (holds c.replace.new.self) c.in-Err.ensures.kept c.loop-k.invariant.0;
       why = (
         named,
-        rose_on (failed c.args.files.now) (failed c.loop-k.files) (failed c.replace.new.self)
+        rose_later (failed c.args.files.now) (failed c.loop-k.files) (failed c.replace.new.self)
             c.loop-k.invariant.1 c.replace.ensures.counted c.in-Err.ensures.device,
       );
     }

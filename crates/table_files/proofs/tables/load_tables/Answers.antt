@@ -5,7 +5,8 @@ use Rattle.std.specs.List.{AllZip}
 use Rattle.dbf_file.specs.Tables.{TableState}
 use Rattle.shape.specs.declared.tables.TableShape.{TableShape}
 use Rattle.table_files.specs.Loading.{IsTableOf}
-use Rattle.table_files.proofs.FileLemmas.{kept_on, rose_on, load_refused, table_refused_before, table_before, take_next}
+use Rattle.file_access.proofs.Holding.{same_then, rose_later}
+use Rattle.table_files.proofs.FileLemmas.{load_refused, table_refused_before, table_before, take_next}
 use Rattle.table_files.proofs.ShapeLemmas.{table_named}
 use Rattle.table_files.proofs.tables.load_tables.Goals as goal
 
@@ -21,8 +22,8 @@ returns-in_err-table-clause-refused g c =
     c.loop-t.tables.items _ c.get.ensures c.loop-t.invariant.taken c.in_err-table.field-0.0
     (table_refused_before (holds c.args.files.now) (holds c.loop-t.files) c.args.limit c.get.result.now _ _
     c.loop-t.invariant.same
-    (rose_on (failed c.args.files.now) (failed c.loop-t.files) (failed c.load_table.new.files) c.loop-t.invariant.count
-    c.in_err-table.ensures.counted)
+    (rose_later (failed c.args.files.now) (failed c.loop-t.files) (failed c.load_table.new.files)
+    c.loop-t.invariant.count c.in_err-table.ensures.counted)
     c.in_err-table.field-0.0 c.in_err-table.ensures.refused))
 
 pub loop-t-preserved : goal.loop-t-preserved
@@ -39,7 +40,7 @@ loop-t-preserved g c =
           c.in_ok-table.table c.loop-t.invariant.taken
           (table_before (holds c.args.files.now) (holds c.loop-t.files) c.args.limit c.get.result.now
           c.in_ok-table.table c.loop-t.invariant.same c.in_ok-table.ensures.loaded)));
-      same = kept_on (holds c.args.files.now) (holds c.loop-t.files) (holds c.load_table.new.files)
+      same = same_then (holds c.args.files.now) (holds c.loop-t.files) (holds c.load_table.new.files)
           c.loop-t.invariant.same c.in_ok-table.ensures.kept;
       count = omega (arith, c.loop-t.invariant.count, c.in_ok-table.ensures.counted);
     }

@@ -11,7 +11,7 @@ use Rattle.ndx_tree.specs.Pages.{PageView, view_of, pairs_of, IsFramedPage, pair
 use Rattle.ndx_tree.specs.Writes.{AreWritten, IsWritten, IsPageText}
 use Rattle.ndx_tree.proofs.Cut.{cut_length, cut_from, pairs_from}
 use Rattle.ndx_tree.proofs.Between.{take_next}
-use Rattle.ndx_tree.proofs.PageOf.{most_entries-bound}
+use Rattle.ndx_page.proofs.LayoutLemmas.{most_entries-bound}
 use Rattle.ndx_tree.proofs.Writing.{leaf_written, inner_written, none_written, child_written, child_at_place}
 use Rattle.ndx_tree.proofs.Writing.{inner_fits, leaf_page_fits, inner_own, leaf_own}
 use Rattle.ndx_tree.proofs.TextPages.{no_pages, more_pages, page_behind_pages}

@@ -4,7 +4,6 @@ use Rattle.prg_parser.specs.Building.{part_of_block}
 use Rattle.prg_parser.specs.Layout.{body_lines}
 use Rattle.prg_line.specs.Saying.{line as said_line}
 use Rattle.prg_line.specs.Saying as saying
-use Rattle.prg_parser.proofs.BuildLemmas.{put_more}
 use Rattle.std.proofs.Common.{Option, refl, sym, ap, ◌∙◌, arith}
 use Rattle.std.proofs.lemmas.List.{nil_from_length}
 use Rattle.prg_parser.proofs.BuildLemmas as by

@@ -1,7 +1,6 @@
 use Rattle.std.proofs.Common.{◌++◌}
 use Rattle.prg_parser.specs.Building.{awaited, current_lines, finished_lines, head_lines, opens_lines}
 use Rattle.prg_parser.specs.Layout.{body_lines}
-use Rattle.prg_parser.proofs.BuildLemmas.{put_more}
 use Rattle.std.proofs.Common.{refl, ap}
 use Rattle.prg_parser.proofs.BuildLemmas as by
 use Rattle.prg_parser.specs.Building.{open_lines}

@@ -4,7 +4,6 @@ use Rattle.prg_parser.specs.Building.{part_of_block}
 use Rattle.prg_parser.specs.Layout.{body_lines, cases_lines}
 use Rattle.prg_line.specs.Saying.{line as said_line}
 use Rattle.prg_line.specs.Saying as saying
-use Rattle.prg_parser.proofs.BuildLemmas.{put_more}
 use Rattle.std.proofs.Common.{refl, sym, ap, ◌∙◌}
 use Rattle.std.proofs.lemmas.List.{append-nil}
 use Rattle.prg_parser.proofs.BuildLemmas as by
