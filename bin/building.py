@@ -60,6 +60,13 @@ def spelled(seconds):
     return f"{minutes} min {seconds} s" if minutes else f"{seconds} s"
 
 
+def answer_help(words=None):
+    """Ends a script that is asked for help, before it builds or runs anything, with what it says of itself: on standard
+    error and with status 1, as the program does. The words are those of its caller where none are given."""
+    if {"--help", "-h"} & set(sys.argv[1:] if words is None else words):
+        sys.exit(sys.modules["__main__"].__doc__.strip())
+
+
 def uses_in(folder):
     """The libraries that each crate of a folder's crates.txt names."""
     with open(f"{folder}/crates.txt", encoding="utf-8") as it:
@@ -302,7 +309,8 @@ def told_of(error):
 
 def end_with(build, interrupted, instead=""):
     """Runs a build, and ends with its status; a failure is told in one line, and what may be done instead. A signal
-    that the caller ignores stays ignored, as a hangup under nohup."""
+    that the caller ignores stays ignored, as a hangup under nohup. Help is told in place of a build."""
+    answer_help()
     for it in (signal.SIGTERM, signal.SIGHUP):
         if signal.getsignal(it) != signal.SIG_IGN:
             signal.signal(it, interrupt)

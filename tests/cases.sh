@@ -1,7 +1,10 @@
-# For scripts of sh that try the program: they read this file first, in an empty folder. It leaves the program in $program,
-# and has them end with `verdict`.
+# For scripts of sh that try the program: they read this file first. It leaves the program in $program and a folder of
+# their own in $room, and has them end with `verdict`.
+. "$top/bin/help"
 program=$("$top/bin/dbrun" --which ${DBRUN_KIND:+"$DBRUN_KIND"}) || exit 1
 echo "the program: $program"
+room=$(mktemp -d) || exit 1
+trap 'rm -rf "$room"' EXIT
 passed=0
 failed=0
 

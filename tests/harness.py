@@ -9,10 +9,15 @@ import sys
 import time
 
 TOP = os.path.dirname(os.path.dirname(os.path.realpath(__file__)))
+sys.path.append(f"{TOP}/bin")
+
+from building import answer_help
 
 
 def program(kind=None):
-    """The program that is tried, built first where need be: of a kind, or of the one that DBRUN_KIND names, or any."""
+    """The program that is tried, built first where need be: of a kind, or of the one that DBRUN_KIND names, or any. A
+    script that is asked for help ends here."""
+    answer_help()
     kind = kind or os.environ.get("DBRUN_KIND")
     found = subprocess.run([f"{TOP}/bin/dbrun", "--which", *([kind] if kind else [])], stdout=subprocess.PIPE, text=True, check=False)
     if found.returncode:
