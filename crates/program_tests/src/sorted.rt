@@ -20,6 +20,9 @@ use work_area::Store;
 use work_area::handed::{are_lists, are_of_shape};
 use xcode::LegalCode;
 
+/// The most records that any table may have.
+const MOST_RECORDS: u32 = 1_000_000;
+
 /// The most records of the table.
 fn limit_of(case: RunCase<'_>) -> u32 {
     u32::try_from(case.number("limit ", 1000)).unwrap_or(0)
@@ -66,7 +69,10 @@ fn run_over(
     new_stores_fit();
     let shape = &code.code().declared.shape;
     let limit = limit_of(case);
-    if !shape.is_legal() || !are_of_shape(shape, &tables, limit) || !are_lists(shape, &lists) {
+    if !shape.is_legal()
+        || !are_of_shape(shape, &tables, limit.min(MOST_RECORDS))
+        || !are_lists(shape, &lists)
+    {
         return None;
     }
     let Ok(store) = Store::new(alloc, shape, tables, lists, limit) else {
