@@ -29,7 +29,7 @@ use Rattle.code_items.specs.declared.code.Map.{Map}
 use Rattle.code_items.specs.States.{may_be_unsure}
 use Rattle.code_parts.specs.declared.flaw.Flaw.{Flaw}
 use Rattle.code_parts.specs.declared.flaw.Flaw.TheVariants.{Limit, Shape}
-use Rattle.code_parts.specs.Reading.{Reader, give, byte_at, number_read_at, text_read_at, Judged, several, sure}
+use Rattle.code_parts.specs.Reading.{Reader, ◌>>=◌, give, byte_at, number_read_at, text_read_at, Judged, several, sure}
 use Rattle.code_parts.specs.Reading.{pair_read_at}
 use Rattle.code_parts.specs.Reading.{made_at, counted_at, by_byte}
 

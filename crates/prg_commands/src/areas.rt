@@ -1,6 +1,7 @@
 //! Commands on work areas.
 
-ghost use Rattle.std.specs.Prelude.{◌≡◌, [], ◌∷◌, ℕ, false, IfOk, OnOk, Some, option_map};
+ghost use Rattle.std.specs.Prelude.{◌≡◌, [], ◌∷◌, ℕ, false, IfOk, OnOk, Some, option_map, position};
+ghost use Rattle.std.specs.Str.{bytes_eq};
 ghost use Rattle.code_items.specs.Desks.{open_at};
 ghost use Rattle.code_items.specs.declared.instr.AreaInstr.TheVariants as area_instr;
 ghost use Rattle.code_items.specs.declared.instr.Instr.TheVariants.{Areas};
@@ -22,7 +23,7 @@ use prg_code::{
 };
 use prg_expr::Expr;
 use prg_line::Selected;
-use prg_values::{Scope, area_of_alias, compile_expr, kind_of, table_named};
+use prg_values::{Scope, area_of_alias, compile_expr, kind_of, number_in_byte, table_named};
 use xvalue::Kind;
 
 /// The most values on the stack.
@@ -45,16 +46,22 @@ pub(crate) fn put_area(work: &mut Work, instr: AreaInstr) -> Result<(), CompileE
     work.block.put(Instr::Areas(instr))
 }
 
+/// The place of the first declared index of this name.
+fn place_named(indexes: &[IndexShape], name: &[u8]) -> Option<usize>
+    ensures { result ≡ position (λ index. bytes_eq index.name.items name.now) indexes.now }
+{
+    indexes
+        .iter()
+        .position(|index| index.name.as_slice() == name)
+}
+
 /// The number of the declared index of this name, counted from 0; none where a byte doesn't hold it.
 pub fn index_named(indexes: &[IndexShape], name: &[u8]) -> Option<u8>
     ensures { result ≡ index_named_in indexes.now name.now }
 {
-    let number = indexes
-        .iter()
-        .position(|index| index.name.as_slice() == name)?;
-    match u8::try_from(number) {
-        Ok(number) => Some(number),
-        Err(_) => None,
+    match place_named(indexes, name) {
+        Some(place) => number_in_byte(place),
+        None => None,
     }
 }
 

@@ -17,7 +17,7 @@ pub use compiling::compile_expr;
 pub use kinds::kind_of;
 pub use operators::{OperatorMeaning, operated};
 pub use scope::{
-    FieldPlace, Reading, Scope, area_of_alias, field_of, read_name, read_qualified, selected_field,
-    table_named, variable_slot,
+    FieldPlace, Reading, Scope, area_of_alias, field_of, number_in_byte, read_name, read_qualified,
+    selected_field, table_named, variable_slot,
 };
 pub use standing::{Finished, Given, behind, behind_constant, given_at};

@@ -216,8 +216,8 @@ pub fn table_named(shape: &Shape, name: &[u8]) -> Option<u16>
     None
 }
 
-/// A number, if an instruction can name a work area by it.
-fn area_number(number: usize) -> Option<u8>
+/// A number that a byte of an instruction holds.
+pub fn number_in_byte(number: usize) -> Option<u8>
     ensures { result ≡ readings.number_below 256 number }
 {
     match u8::try_from(number) {
@@ -245,7 +245,7 @@ fn area_holding(areas: &[AreaState], table: u16) -> Option<u8>
     while let Some((area, others)) = rest.split_first() {
         before += 1;
         if is_of(table, *area) {
-            return area_number(before);
+            return number_in_byte(before);
         }
         rest = others;
     }

@@ -31,20 +31,21 @@ use open_table::{AppendError, Row};
 use run_values::Values;
 use std::alloc::Global;
 use work_area::Store;
-use xvalue::{Kind, Value};
+use xvalue::Kind;
 
-/// What a question answers of the selected area, which is open.
-fn answer<K: KeyList>(store: &Store<K>, question: Question) -> Value
-    requires { IsSome (here store.now) }
-    ensures { IfSome (here store.now) (λ o. result ≡ answer_of question o) }
+/// Puts what a question answers of the selected area, which is open, on the stack.
+fn push_answer<V: Values, K: KeyList>(values: &mut V, store: &Store<K>, question: Question)
+    requires { (t : TaggedValues) × (V.stands values.old t × IsSome (here store.now) × HasRoom t) }
+    ensures { (t : TaggedValues) → V.stands values.old t
+        → IfSome (here store.now) (λ o. V.stands values.new (pushed (answer_of question o) t)) }
 {
     match question {
-        Question::Recno => Value::Number(store.recno().into()),
-        Question::Reccount => Value::Number(store.reccount().into()),
-        Question::Eof => Value::Logical(store.eof()),
-        Question::Bof => Value::Logical(store.bof()),
-        Question::Found => Value::Logical(store.found()),
-        Question::Deleted => Value::Logical(store.deleted()),
+        Question::Recno => values.push_number(store.recno().into()),
+        Question::Reccount => values.push_number(store.reccount().into()),
+        Question::Eof => values.push_truth(store.eof()),
+        Question::Bof => values.push_truth(store.bof()),
+        Question::Found => values.push_truth(store.found()),
+        Question::Deleted => values.push_truth(store.deleted()),
     }
 }
 
@@ -249,7 +250,7 @@ pub fn on_records<V: Values, K: KeyList>(
             Ok(1)
         }
         RecordInstr::Ask(question) => {
-            values.push(answer(&env.store, question));
+            push_answer(values, &env.store, question);
             Ok(1)
         }
         RecordInstr::Append => append(values, env),
