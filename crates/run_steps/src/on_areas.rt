@@ -110,7 +110,9 @@ fn change_areas<K: KeyList>(store: &mut Store<K>, instr: AreaInstr)
     }
 }
 
-/// Carries out an instruction on work areas.
+/// Carries out an instruction on work areas. This, records and screen stand apart from `execute`, since a function's locals
+/// are cleared on entry, and moves need few.
+#[inline(never)]
 pub fn on_areas<V: Values, K: KeyList>(
     alloc: Global,
     code: &Code,

@@ -84,6 +84,7 @@ fn grown(done: Result<(), AllocError>) -> Result<u64, Stop>
 }
 
 /// Carries out an instruction on the screen and the operator's lines.
+#[inline(never)]
 pub fn on_screen<V: Values, K: KeyList>(
     values: &mut V,
     env: &mut Environment<K>,
