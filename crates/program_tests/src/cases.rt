@@ -1,7 +1,7 @@
 // Command files compiled and run, from files to files.
 #![tactic(auto)]
 
-use super::parts::{RunCase, is_text};
+use super::parts::{RunCase, is_text, number_at};
 use super::stored::{came_to, run_case};
 use super::tables::{lay, put_file, table};
 use compile_commands::{CompileFilesRefusal, CompileTold, CompileWords, compile_files};
@@ -173,6 +173,18 @@ pub fn are_lists(alloc: Global, files: &mut MemoryFiles<'_>, case: RunCase<'_>) 
     true
 }
 
+/// Whether the file of which a case says the size, if it does, has so many bytes.
+fn has_size(files: &MemoryFiles<'_>, case: RunCase<'_>) -> bool {
+    let (name, size) = case.line("size ").split_once(' ').unwrap_or(("", ""));
+    if name.is_empty() {
+        return true;
+    }
+    match files.bytes_of(name) {
+        Some(bytes) => bytes.len() as u64 == number_at(size, 0),
+        None => false,
+    }
+}
+
 /// The table of these fields and records with the first day of 1985 as its stamp.
 fn stamped(alloc: Global, columns: &str, records: &str) -> Result<Vec<u8>, AllocError> {
     let mut bytes = table(alloc, columns, records)?;
@@ -214,4 +226,5 @@ pub fn runs_well(alloc: Global, case: RunCase<'_>) -> bool {
             && runs_so(alloc, &mut files, case, false)
             && are_lists(alloc, &mut files, case)
             && is_saved(alloc, &files, case)
+            && has_size(&files, case)
 }

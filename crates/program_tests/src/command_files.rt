@@ -1,7 +1,7 @@
 // Command files with their tables, and what comes of them. `each` says the budget up to which both machines run a case
 // alike, `parts` that it runs in parts, `full again` that the table stays full, `lends` that its one index is open,
 // `calls` how many calls of the device a run makes, `untold` what is told where a call of the device fails while it is
-// compiled, and `sorted` the record at which a run over sorted keys ends.
+// compiled, `sorted` the record at which a run over sorted keys ends, and `size` how many bytes a saved file has.
 #![tactic(auto)]
 
 pub const CASES: &str = r#"
@@ -357,6 +357,7 @@ SEEK "Z"
 %rows
 .T.
 %ended finished 23
+%size KI.NDX 1024
 %keys KI.NDX
 K 1
       2 B

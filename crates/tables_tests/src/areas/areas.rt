@@ -391,6 +391,26 @@ fn is_text<K: KeyList>(store: &Store<K>, wanted: &[u8]) -> bool {
     }
 }
 
+// Whether a USE that the budget doesn't pay leaves the area as it was: with another table, at its second record.
+fn is_left_by_a_spent_use<K: KeyList>(alloc: Global) -> Result<bool, AllocError> {
+    let shape = shape_of(alloc, 2, 3, "-")?;
+    let Some(mut store) = plain_store::<K>(alloc, &shape, 3, "X,Y,", 7)? else {
+        return Ok(false);
+    };
+    play(&mut store, alloc, Call::Use(0, "0"), Shows::Every, BIG);
+    play(&mut store, alloc, Call::Skip(1), Shows::Every, BIG);
+    let before = place_of(&store);
+    let answer = play(&mut store, alloc, Call::Use(1, ""), Shows::Every, 0);
+    Ok(answer == Answer::Spent && place_of(&store) == before && is_text(&store, b"Y  "))
+}
+
+#[test]
+fn a_spent_use_leaves_the_area(rt: HostRuntime) -> Result<(), Fail> {
+    assert!(rt; is_left_by_a_spent_use::<SortedKeys>(rt.alloc())?);
+    assert!(rt; is_left_by_a_spent_use::<NdxTree>(rt.alloc())?);
+    Ok(())
+}
+
 // A number that seems random, by a linear rule; the high bits are used.
 fn next(state: u64) -> u64 {
     state

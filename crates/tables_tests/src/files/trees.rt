@@ -451,6 +451,21 @@ fn every_byte_counts_or_is_free(rt: HostRuntime) -> Result<(), Fail> {
     Ok(())
 }
 
+// Whether the file is refused where this byte begins the separator in its root.
+fn is_out_of_order(alloc: Global, tree: &NdxTree, byte: u8) -> Result<bool, AllocError> {
+    let bytes = changed(alloc, tree, &[(3 * PAGE + 12, byte)])?;
+    Ok(fault_of(alloc, &bytes) == Some(TreeFault::Order))
+}
+
+#[test]
+fn separators_stand_between_their_sides(rt: HostRuntime) -> Result<(), Fail> {
+    let tree = five(rt.alloc())?;
+    assert!(rt; is_out_of_order(rt.alloc(), &tree, b'J')?);
+    assert!(rt; is_out_of_order(rt.alloc(), &tree, b'L')?);
+    assert!(rt; !is_out_of_order(rt.alloc(), &tree, b'K')?);
+    Ok(())
+}
+
 // The first length to which the file can be cut without the fault that is wanted.
 fn first_wrong_cut(alloc: Global, bytes: &[u8]) -> Option<usize> {
     for length in 0..bytes.len() {
