@@ -24,6 +24,13 @@ SourceFaultIs holds TooLong = IsTooLong holds
 SourceFaultIs holds (Parse line kind) = HasLineFault holds line kind
 SourceFaultIs holds (Compile line _) = Unit {0}
 
+-- the file is one of those named, unless the compiler found the fault
+abbrev pub IsOfFiles : List (List ℕ) → ℕ → SourceFault → Type 0
+IsOfFiles names file Absent = file < length names
+IsOfFiles names file TooLong = file < length names
+IsOfFiles names file (Parse line kind) = file < length names
+IsOfFiles names file (Compile line _) = Unit {0}
+
 -- what is told of one command file, that of this number
 abbrev pub SourceRefusalIs : ℕ → (Option (List ℕ) → Type 0) → ℕ → ℕ → CompileFilesRefusal → Type 0
 SourceRefusalIs number holds before after (Declarations refusal) = ⊥
@@ -35,7 +42,8 @@ SourceRefusalIs number holds before after Memory = Unit {0}
 -- what is told of all command files
 abbrev pub SourcesRefusalIs : Holds → List (List ℕ) → ℕ → ℕ → CompileFilesRefusal → Type 0
 SourcesRefusalIs holds names before after (Declarations refusal) = ⊥
-SourcesRefusalIs holds names before after (Source file fault) = SourceFaultIs (holds (name_at names file)) fault
+SourcesRefusalIs holds names before after (Source file fault) =
+    IsOfFiles names file fault × SourceFaultIs (holds (name_at names file)) fault
 SourcesRefusalIs holds names before after (SourceDisk file) = (file < length names) × Rose before after
 SourcesRefusalIs holds names before after CodeDisk = ⊥
 SourcesRefusalIs holds names before after Memory = Unit {0}
@@ -46,7 +54,7 @@ abbrev pub CompileFilesRefusalIs : Holds → List ℕ → List (List ℕ) → �
 CompileFilesRefusalIs holds decl names before after (Declarations refusal) =
     ShapeRefusalIs holds decl before after refusal
 CompileFilesRefusalIs holds decl names before after (Source file fault) =
-    SourceFaultIs (holds (name_at names file)) fault
+    IsOfFiles names file fault × SourceFaultIs (holds (name_at names file)) fault
 CompileFilesRefusalIs holds decl names before after (SourceDisk file) = (file < length names) × Rose before after
 CompileFilesRefusalIs holds decl names before after CodeDisk = Rose before after
 CompileFilesRefusalIs holds decl names before after Memory = Unit {0}

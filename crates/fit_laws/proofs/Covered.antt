@@ -3,7 +3,8 @@ use Rattle.std.proofs.Common.{◌≡◌, ℕ, zero, suc, true, false, ◌&&◌, 
 use Rattle.std.specs.Prelude.{is_none, slice_get}
 use Rattle.std.proofs.lemmas.Bool.{and_parts, eqb-true}
 use Rattle.xvalue.specs.declared.kind.Kind.{Kind}
-use Rattle.xvalue.specs.declared.kind.Kind.TheVariants.{Number as OfNumber, Text as OfText, Date as OfDate, Logical as OfLogical}
+use Rattle.xvalue.specs.declared.kind.Kind.TheVariants.{Number as OfNumber, Text as OfText, Date as OfDate}
+use Rattle.xvalue.specs.declared.kind.Kind.TheVariants.{Logical as OfLogical}
 use Rattle.xvalue.specs.Kinds.{same_kind}
 use Rattle.code_items.specs.declared.desk.OpenArea.{OpenArea}
 use Rattle.code_items.specs.declared.desk.AreaState.{AreaState}
@@ -34,7 +35,7 @@ kinds_same OfLogical OfText e = absurd (cc)
 kinds_same OfLogical OfDate e = absurd (cc)
 kinds_same OfLogical OfLogical e = refl
 
-pub joined : (k l : Kind) (ks ls : List Kind) → k ≡ l → ks ≡ ls → k ∷ ks ≡ l ∷ ls
+pub joined : {A : Type 0} (k l : A) (ks ls : List A) → k ≡ l → ks ≡ ls → k ∷ ks ≡ l ∷ ls
 joined k l ks ls e f = rw (e, f) refl
 
 pub stacks_same : (ks ls : List Kind) → same_kinds ks ls ≡ true → ks ≡ ls
@@ -58,19 +59,22 @@ area_same a b e =
     let f : a.filter ≡ b.filter = eqb-true a.filter b.filter e3.1 in
     λ i. record { table = t i; list = l i; order = o i; filter = f i }
 
-state_open : (a b : AreaState) → area_covered (a, b) ≡ true → is_none (opened_of (Some a)) ≡ false → opened_of (Some a) ≡ opened_of (Some b)
+state_open : (a b : AreaState) → area_covered (a, b) ≡ true → is_none (opened_of (Some a)) ≡ false
+    → opened_of (Some a) ≡ opened_of (Some b)
 state_open Unsure b c e = absurd (cc)
 state_open Closed b c e = absurd (cc)
 state_open (IsOpen a) Closed c e = absurd (cc)
 state_open (IsOpen a) Unsure c e = absurd (cc)
 state_open (IsOpen a) (IsOpen b) c e = ap Some (area_same a b c)
 
-areas_open : (as' bs : List AreaState) (n : ℕ) → areas_covered as' bs ≡ true → is_none (opened_of (slice_get as' n)) ≡ false → opened_of (slice_get as' n) ≡ opened_of (slice_get bs n)
+areas_open : (as' bs : List AreaState) (n : ℕ) → areas_covered as' bs ≡ true
+    → is_none (opened_of (slice_get as' n)) ≡ false → opened_of (slice_get as' n) ≡ opened_of (slice_get bs n)
 areas_open [] [] n c e = refl
 areas_open [] (b ∷ bs) n c e = absurd (cc)
 areas_open (a ∷ as') [] n c e = absurd (cc)
 areas_open (a ∷ as') (b ∷ bs) zero c e = state_open a b (and_parts (area_covered (a, b)) (areas_covered as' bs) c).0 e
-areas_open (a ∷ as') (b ∷ bs) (suc n) c e = areas_open as' bs n (and_parts (area_covered (a, b)) (areas_covered as' bs) c).1 e
+areas_open (a ∷ as') (b ∷ bs) (suc n) c e =
+    areas_open as' bs n (and_parts (area_covered (a, b)) (areas_covered as' bs) c).1 e
 
 -- ---- desks
 

@@ -17,7 +17,8 @@ use Rattle.fit_laws.proofs.Covered.{kinds_same}
 
 -- ---- each is covered by itself
 
-along_self : {A : Type 0} (test : A × A → Bool) → ((a : A) → test (a, a) ≡ true) → (xs : List A) → along test xs xs ≡ true
+along_self : {A : Type 0} (test : A × A → Bool) → ((a : A) → test (a, a) ≡ true) → (xs : List A)
+    → along test xs xs ≡ true
 along_self test each [] = refl
 along_self test each (x ∷ xs) = and_from (test (x, x)) (along test xs xs) (each x) (along_self test each xs)
 
@@ -28,20 +29,27 @@ pub slots_self : (slots : List (Option Kind)) → slots_covered slots slots ≡ 
 slots_self slots = along_self slot_covered slot_self slots
 
 pub desk_self : (desk : Desk) → desk_covered desk desk ≡ true
-desk_self desk = and_from (desk.selected == desk.selected) (areas_covered desk.areas desk.areas) (number_self desk.selected) (along_self area_covered area_self desk.areas)
+desk_self desk =
+    and_from (desk.selected == desk.selected) (areas_covered desk.areas desk.areas) (number_self desk.selected)
+    (along_self area_covered area_self desk.areas)
 
 pub stack_self : (kinds : List Kind) → same_kinds kinds kinds ≡ true
 stack_self kinds = along_self same_pair pair_self kinds
 
-pub covers_from : (m s : State) → slots_covered m.slots s.slots ≡ true → desk_covered m.desk s.desk ≡ true → same_kinds m.stack s.stack ≡ true → covers m s ≡ true
-covers_from m s a b c = and_from (slots_covered m.slots s.slots && desk_covered m.desk s.desk) (same_kinds m.stack s.stack) (and_from (slots_covered m.slots s.slots) (desk_covered m.desk s.desk) a b) c
+pub covers_from : (m s : State) → slots_covered m.slots s.slots ≡ true → desk_covered m.desk s.desk ≡ true
+    → same_kinds m.stack s.stack ≡ true → covers m s ≡ true
+covers_from m s a b c =
+    and_from (slots_covered m.slots s.slots && desk_covered m.desk s.desk) (same_kinds m.stack s.stack)
+    (and_from (slots_covered m.slots s.slots) (desk_covered m.desk s.desk) a b) c
 
 pub covers_self : (s : State) → covers s s ≡ true
 covers_self s = covers_from s s (slots_self s.slots) (desk_self s.desk) (stack_self s.stack)
 
 -- ---- what covers a cover covers what that covers
 
-along_on : {A : Type 0} (test : A × A → Bool) → ((a b c : A) → test (a, b) ≡ true → test (b, c) ≡ true → test (a, c) ≡ true) → (xs ys zs : List A) → along test xs ys ≡ true → along test ys zs ≡ true → along test xs zs ≡ true
+along_on : {A : Type 0} (test : A × A → Bool)
+    → ((a b c : A) → test (a, b) ≡ true → test (b, c) ≡ true → test (a, c) ≡ true) → (xs ys zs : List A)
+    → along test xs ys ≡ true → along test ys zs ≡ true → along test xs zs ≡ true
 along_on test each [] [] zs e f = f
 along_on test each [] (y ∷ ys) zs e f = absurd (cc)
 along_on test each (x ∷ xs) [] zs e f = absurd (cc)
@@ -76,7 +84,8 @@ open_on a b c e f =
     let f1 = and_parts (b.table == c.table) (b.list == c.list) f2.0 in
     and_from (a.table == c.table && a.list == c.list && a.order == c.order) (a.filter == c.filter)
     (and_from (a.table == c.table && a.list == c.list) (a.order == c.order)
-    (and_from (a.table == c.table) (a.list == c.list) (number_on a.table b.table c.table e1.0 f1.0) (number_on a.list b.list c.list e1.1 f1.1))
+    (and_from (a.table == c.table) (a.list == c.list) (number_on a.table b.table c.table e1.0 f1.0)
+    (number_on a.list b.list c.list e1.1 f1.1))
     (number_on a.order b.order c.order e2.1 f2.1))
     (number_on a.filter b.filter c.filter e3.1 f3.1)
 
@@ -95,7 +104,9 @@ desk_on : (a b c : Desk) → desk_covered a b ≡ true → desk_covered b c ≡ 
 desk_on a b c e f =
     let e1 = and_parts (a.selected == b.selected) (areas_covered a.areas b.areas) e in
     let f1 = and_parts (b.selected == c.selected) (areas_covered b.areas c.areas) f in
-    and_from (a.selected == c.selected) (areas_covered a.areas c.areas) (number_on a.selected b.selected c.selected e1.0 f1.0) (along_on area_covered area_on a.areas b.areas c.areas e1.1 f1.1)
+    and_from (a.selected == c.selected) (areas_covered a.areas c.areas)
+    (number_on a.selected b.selected c.selected e1.0 f1.0)
+    (along_on area_covered area_on a.areas b.areas c.areas e1.1 f1.1)
 
 pub covers_on : (a b c : State) → covers a b ≡ true → covers b c ≡ true → covers a c ≡ true
 covers_on a b c e f =
@@ -103,4 +114,5 @@ covers_on a b c e f =
     let e1 = and_parts (slots_covered a.slots b.slots) (desk_covered a.desk b.desk) e2.0 in
     let f2 = and_parts (slots_covered b.slots c.slots && desk_covered b.desk c.desk) (same_kinds b.stack c.stack) f in
     let f1 = and_parts (slots_covered b.slots c.slots) (desk_covered b.desk c.desk) f2.0 in
-    covers_from a c (along_on slot_covered slot_on a.slots b.slots c.slots e1.0 f1.0) (desk_on a.desk b.desk c.desk e1.1 f1.1) (along_on same_pair pair_on a.stack b.stack c.stack e2.1 f2.1)
+    covers_from a c (along_on slot_covered slot_on a.slots b.slots c.slots e1.0 f1.0)
+    (desk_on a.desk b.desk c.desk e1.1 f1.1) (along_on same_pair pair_on a.stack b.stack c.stack e2.1 f2.1)

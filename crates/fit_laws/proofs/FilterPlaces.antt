@@ -1,5 +1,6 @@
 -- The blocks of a legal code's filters.
-use Rattle.std.proofs.Common.{◌≡◌, ◌≤◌, ◌<◌, ℕ, zero, suc, ◌+◌, ◌-◌, true, false, ◌&&◌, ◌==◌, nat_le, nat_lt, List, [], ◌∷◌, ◌++◌, length, map, take, get_or, Option, Some, None, refl, ap, ◌∙◌, subst, arith}
+use Rattle.std.proofs.Common.{◌≡◌, ◌≤◌, ◌<◌, ℕ, zero, suc, ◌+◌, ◌-◌, true, false, ◌&&◌, ◌==◌, nat_le, nat_lt, List, []}
+use Rattle.std.proofs.Common.{◌∷◌, ◌++◌, length, map, take, get_or, Option, Some, None, refl, ap, ◌∙◌, subst, arith}
 use Rattle.std.specs.Prelude.{slice_get}
 use Rattle.std.proofs.lemmas.Bool.{and_parts, ltb-true, ne_eqb}
 use Rattle.std.proofs.lemmas.List.{append-nil, length-map, length-append, take-map, get_or-append-add}
@@ -24,7 +25,8 @@ length_of [] n = refl
 length_of (f ∷ fs) zero = refl
 length_of (f ∷ fs) (suc n) = length_of fs n
 
-length_at : (fs : List Filter) (n : ℕ) (f : Filter) → slice_get fs n ≡ Some f → get_or (filter_lengths fs) n 0 ≡ f.length
+length_at : (fs : List Filter) (n : ℕ) (f : Filter) → slice_get fs n ≡ Some f
+    → get_or (filter_lengths fs) n 0 ≡ f.length
 unfolding length_in
 length_at fs n f e = length_of fs n ∙ ap length_in e
 
@@ -43,32 +45,47 @@ pub record Place (code : Code) (n : ℕ) (f : Filter) : Type 0 where
   pub some : 1 ≤ f.length
   pub last : first_place code n + f.length ≤ length code.instructions
 
-before : (code : Code) (n : ℕ) → places_in_all (take (length code.procedures + n) (all_lengths code)) ≡ first_place code n
+before : (code : Code) (n : ℕ)
+    → places_in_all (take (length code.procedures + n) (all_lengths code)) ≡ first_place code n
 before code n =
     let e : length code.procedures + n ≡ length (lengths code.procedures) + n = rw length-map refl in
-    taken_both (lengths code.procedures) (filter_lengths code.declared.filters) n (length code.procedures + n) e ∙ ap (λ t. places_of code.procedures + places_in_all t) (take-map (λ (f : Filter). f.length) n code.declared.filters)
+    taken_both (lengths code.procedures) (filter_lengths code.declared.filters) n (length code.procedures + n) e
+    ∙ ap (λ t. places_of code.procedures + places_in_all t)
+    (take-map (λ (f : Filter). f.length) n code.declared.filters)
 
-length_here : (code : Code) (n : ℕ) (f : Filter) → slice_get code.declared.filters n ≡ Some f → get_or (all_lengths code) (length code.procedures + n) 0 ≡ f.length
+length_here : (code : Code) (n : ℕ) (f : Filter) → slice_get code.declared.filters n ≡ Some f
+    → get_or (all_lengths code) (length code.procedures + n) 0 ≡ f.length
 length_here code n f e =
-    let m : length (lengths code.procedures) ≡ length code.procedures = length-map code.procedures (λ (p : Proc). p.length) in
-    subst (λ k. get_or (all_lengths code) (k + n) 0 ≡ f.length) m (get_or-append-add (lengths code.procedures) (filter_lengths code.declared.filters) n 0 ∙ length_at code.declared.filters n f e)
+    let m : length (lengths code.procedures) ≡ length code.procedures =
+    length-map code.procedures (λ (p : Proc). p.length) in
+    subst (λ k. get_or (all_lengths code) (k + n) 0 ≡ f.length) m
+    (get_or-append-add (lengths code.procedures) (filter_lengths code.declared.filters) n 0
+    ∙ length_at code.declared.filters n f e)
 
-number_there : (code : Code) (n : ℕ) (f : Filter) → slice_get code.declared.filters n ≡ Some f → length code.procedures + n < length (all_lengths code)
+number_there : (code : Code) (n : ℕ) (f : Filter) → slice_get code.declared.filters n ≡ Some f
+    → length code.procedures + n < length (all_lengths code)
 number_there code n f e =
     let a = length-append (lengths code.procedures) (filter_lengths code.declared.filters) in
     let b = length-map code.procedures (λ (p : Proc). p.length) in
     let c = length-map code.declared.filters (λ (f : Filter). f.length) in
     omega (arith, a, b, c, slice_get_within code.declared.filters n f e)
 
-begun_in : (code : Code) (n : ℕ) → length code.procedures + n < length (all_lengths code) → 1 ≤ get_or (all_lengths code) (length code.procedures + n) 0 → Begun 0 0 (all_lengths code) (length code.procedures + n) (block_at code (first_place code n))
+begun_in : (code : Code) (n : ℕ) → length code.procedures + n < length (all_lengths code)
+    → 1 ≤ get_or (all_lengths code) (length code.procedures + n) 0
+    → Begun 0 0 (all_lengths code) (length code.procedures + n) (block_at code (first_place code n))
 unfolding block_at
 begun_in code n lt some =
-    subst (λ ns. Begun 0 0 (all_lengths code) (length code.procedures + n) (block_from 0 0 ns (first_place code n))) (append-nil (all_lengths code)) (begun_at 0 0 (all_lengths code) [] (length code.procedures + n) (first_place code n) lt some (omega (arith, before code n)))
+    subst (λ ns. Begun 0 0 (all_lengths code) (length code.procedures + n) (block_from 0 0 ns (first_place code n)))
+    (append-nil (all_lengths code))
+    (begun_at 0 0 (all_lengths code) [] (length code.procedures + n) (first_place code n) lt some
+    (omega (arith, before code n)))
 
-pub place_of_filter : (code : Code) → IsCode code → (n : ℕ) (f : Filter) → slice_get code.declared.filters n ≡ Some f → Place code n f
+pub place_of_filter : (code : Code) → IsCode code → (n : ℕ) (f : Filter) → slice_get code.declared.filters n ≡ Some f
+    → Place code n f
 place_of_filter code ok n f e =
     let lt = number_there code n f e in
-    let full : blocks_fill (length code.instructions) (all_lengths code ++ []) ≡ true = rw append-nil (filled code ok) in
+    let full : blocks_fill (length code.instructions) (all_lengths code ++ []) ≡ true =
+    rw append-nil (filled code ok) in
     let some = some_each (length code.instructions) (all_lengths code) [] (length code.procedures + n) full lt in
     let b = begun_in code n lt some in
     let l = length_here code n f e in
@@ -78,18 +95,29 @@ place_of_filter code ok n f e =
       first = omega (arith, b.begun, w);
       end = omega (arith, b.ended, w, l);
       some = omega (arith, some, l);
-      last = omega (arith, part (all_lengths code) (length code.procedures + n) lt, filled_within (length code.instructions) (all_lengths code) (filled code ok), w, l);
+      last =
+          omega (
+            arith,
+            part (all_lengths code) (length code.procedures + n) lt,
+            filled_within
+                (length code.instructions) (all_lengths code) (filled code ok),
+            w,
+            l,
+          );
     }
 
-pub start_is : (code : Code) (n : ℕ) (f : Filter) → slice_get code.declared.filters n ≡ Some f → start_of code (length code.procedures + n) ≡ filter_start code.declared.slots f
+pub start_is : (code : Code) (n : ℕ) (f : Filter) → slice_get code.declared.filters n ≡ Some f
+    → start_of code (length code.procedures + n) ≡ filter_start code.declared.slots f
 unfolding start_of
 start_is code n f e =
-    let none : slice_get code.procedures (length code.procedures + n) ≡ None = slice_get_past code.procedures (length code.procedures + n) (omega arith) in
+    let none : slice_get code.procedures (length code.procedures + n) ≡ None =
+    slice_get_past code.procedures (length code.procedures + n) (omega arith) in
     let m : length code.procedures + n - length code.procedures ≡ n = omega arith in
     rw (none, m, e) refl
 
 -- no map stands behind the procedures' places
-absent : (maps : List Map) (least places place : ℕ) → maps_rise least places maps ≡ true → places ≤ place → map_in maps place ≡ None
+absent : (maps : List Map) (least places place : ℕ) → maps_rise least places maps ≡ true → places ≤ place
+    → map_in maps place ≡ None
 absent [] least places place e le = refl
 absent (m ∷ maps) least places place e le =
     let a = and_parts (nat_le least m.place && nat_lt m.place places) (maps_rise (m.place + 1) places maps) e in

@@ -11,16 +11,19 @@ use Rattle.code_items.specs.declared.desk.Desk.{Desk}
 use Rattle.code_items.specs.declared.desk.OpenArea.{OpenArea}
 use Rattle.code_items.specs.Desks.{open_at}
 use Rattle.code_items.specs.declared.instr.ValueInstr.{ValueInstr}
-use Rattle.code_items.specs.declared.instr.ValueInstr.TheVariants.{Constant, Load, Store, Unset, Discard, Function, Today, Set}
+use Rattle.code_items.specs.declared.instr.ValueInstr.TheVariants.{Constant, Load, Store, Unset, Discard, Function}
+use Rattle.code_items.specs.declared.instr.ValueInstr.TheVariants.{Today, Set}
 use Rattle.code_items.specs.declared.instr.ScreenInstr.{ScreenInstr}
 use Rattle.code_items.specs.declared.instr.ScreenInstr.TheVariants.{NewLine, Print, Say, SayOn, Input, Line, Clear}
 use Rattle.code_items.specs.declared.instr.RecordInstr.{RecordInstr}
-use Rattle.code_items.specs.declared.instr.RecordInstr.TheVariants.{Field, RowField, Ask, Append, Replace, Delete, Recall, Pack, Zap, Reindex, Index}
+use Rattle.code_items.specs.declared.instr.RecordInstr.TheVariants.{Field, RowField, Ask, Append, Replace, Delete}
+use Rattle.code_items.specs.declared.instr.RecordInstr.TheVariants.{Recall, Pack, Zap, Reindex, Index}
 use Rattle.code_items.specs.declared.instr.Instr.{Instr}
 use Rattle.code_items.specs.declared.instr.Instr.TheVariants.{Values, Flow, Screen, Areas, Moves, Records}
 use Rattle.code_rules.specs.Signature.{area_of, record_area, call_of}
 use Rattle.code_rules.specs.Wants.{fields_at, kind_of_field, value_gives, screen_gives, record_gives, gives, unknown}
-use Rattle.code_rules.specs.Rules.{fails_if_named, fails_if_open, is_rows, record_is_rows, no_procedure, value_undeclared, record_undeclared, undeclared}
+use Rattle.code_rules.specs.Rules.{fails_if_named, fails_if_open, is_rows, record_is_rows, no_procedure}
+use Rattle.code_rules.specs.Rules.{value_undeclared, record_undeclared, undeclared}
 use Rattle.run_laws.proofs.Tests.{is_there}
 
 constant_known : (values : List Value) (n : ℕ) → nat_le (length values) n ≡ false
@@ -29,12 +32,15 @@ constant_known values n e =
     let t = is_there values n (leb-false (length values) n e) in
     rw t.1 refl
 
-field_there : (fields : List TableField) (n : ℕ) → nat_le (length fields) n ≡ false → unknown (Some (kind_of_field (slice_get fields n))) ≡ 0
+field_there : (fields : List TableField) (n : ℕ) → nat_le (length fields) n ≡ false
+    → unknown (Some (kind_of_field (slice_get fields n))) ≡ 0
 field_there fields n e =
     let t = is_there fields n (leb-false (length fields) n e) in
     rw t.1 refl
 
-field_known : (d : Declared) (o : Option OpenArea) (n : ℕ) → is_none o ≡ false → fails_if_open (λ a. nat_le (length (fields_at d (Some a))) n) o ≡ false → unknown (Some (kind_of_field (slice_get (fields_at d o) n))) ≡ 0
+field_known : (d : Declared) (o : Option OpenArea) (n : ℕ) → is_none o ≡ false
+    → fails_if_open (λ a. nat_le (length (fields_at d (Some a))) n) o ≡ false
+    → unknown (Some (kind_of_field (slice_get (fields_at d o) n))) ≡ 0
 field_known d None n e f = absurd (cc)
 field_known d (Some a) n e f = field_there (fields_at d (Some a)) n f
 
@@ -57,7 +63,9 @@ screen_known (Input k) = refl
 screen_known Line = refl
 screen_known Clear = refl
 
-record_known : (d : Declared) (desk : Desk) (i : RecordInstr) → fails_if_named (λ n. is_none (open_at desk n)) (record_area desk.selected i) ≡ false → record_undeclared d desk i ≡ false
+record_known : (d : Declared) (desk : Desk) (i : RecordInstr)
+    → fails_if_named (λ n. is_none (open_at desk n)) (record_area desk.selected i) ≡ false
+    → record_undeclared d desk i ≡ false
     → (record_is_rows i ≡ true → is_none (open_at desk desk.selected) ≡ false) → unknown (record_gives d desk i) ≡ 0
 record_known d desk (Field a f) open' e rows = field_known d (open_at desk a) f open' e
 record_known d desk (RowField f) open' e rows = field_known d (open_at desk desk.selected) f (rows refl) e
@@ -71,7 +79,8 @@ record_known d desk Zap open' e rows = refl
 record_known d desk Reindex open' e rows = refl
 record_known d desk (Index l) open' e rows = refl
 
-pub gives_known : (code : Code) (desk : Desk) (i : Instr) → fails_if_named (λ n. is_none (open_at desk n)) (area_of desk i) ≡ false → undeclared code desk i ≡ false
+pub gives_known : (code : Code) (desk : Desk) (i : Instr)
+    → fails_if_named (λ n. is_none (open_at desk n)) (area_of desk i) ≡ false → undeclared code desk i ≡ false
     → (is_rows i ≡ true → is_none (open_at desk desk.selected) ≡ false) → unknown (gives code.declared desk i) ≡ 0
 gives_known code desk (Values i) open' e rows = value_known code.declared i e
 gives_known code desk (Flow i) open' e rows = refl
@@ -81,7 +90,8 @@ gives_known code desk (Moves i) open' e rows = refl
 gives_known code desk (Records i) open' e rows = record_known code.declared desk i open' e rows
 
 -- what it calls is there
-pub call_known : (code : Code) (desk : Desk) (i : Instr) → undeclared code desk i ≡ false → fails_if_named (no_procedure code) (call_of i) ≡ false
+pub call_known : (code : Code) (desk : Desk) (i : Instr) → undeclared code desk i ≡ false
+    → fails_if_named (no_procedure code) (call_of i) ≡ false
 call_known code desk (Values i) e = refl
 call_known code desk (Flow i) e = e
 call_known code desk (Screen i) e = refl

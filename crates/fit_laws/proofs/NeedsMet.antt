@@ -1,5 +1,6 @@
 -- A filter's block with slots that meet its needs: what is known of more slots is enough too.
-use Rattle.std.proofs.Common.{◌≡◌, ℕ, zero, suc, true, false, List, [], ◌∷◌, length, replicate, Option, Some, None, refl, sym, ap, ◌∙◌, subst, arith}
+use Rattle.std.proofs.Common.{◌≡◌, ℕ, zero, suc, true, false, List, [], ◌∷◌, length, replicate, Option, Some, None}
+use Rattle.std.proofs.Common.{refl, sym, ap, ◌∙◌, subst, arith}
 use Rattle.std.specs.Prelude.{slice_get, slice_set}
 use Rattle.std.specs.List.{list_any}
 use Rattle.std.proofs.lemmas.Bool.{and_parts, and_from, or_parts, not-false}
@@ -17,7 +18,9 @@ use Rattle.code_items.specs.declared.instr.ValueInstr.TheVariants.{Today, Set}
 use Rattle.code_rules.specs.Flow.{flow, left_by, slots_after}
 use Rattle.code_rules.specs.Places.{needed, filter_start}
 use Rattle.code_rules.specs.Rules.{filters, has_other, is_free, lacks, filter_lacks}
-use Rattle.fit_laws.specs.FilterWalks.{Steps, BlockWalks, filter_begun}
+use Rattle.run_steps.specs.Filters.{block_start}
+use Rattle.run_laws.proofs.FilterBlocks.{sound_here, sound_there}
+use Rattle.fit_laws.specs.FilterWalks.{Steps, BlockWalks}
 use Rattle.fit_laws.proofs.Covered.{kinds_same}
 use Rattle.fit_laws.proofs.Filtering.{left_is}
 use Rattle.fit_laws.proofs.Loads.{Loads, impossible, loads_well}
@@ -39,15 +42,19 @@ slot_met : (k : Kind) (b : Option Kind) → Loads k (Some b) → slot_covered (S
 slot_met k None e = impossible e.set
 slot_met k (Some m) e = same_turned m k (not-false (same_kind m k) e.same)
 
-one_met : (k : Kind) (as' bs : List (Option Kind)) (n : ℕ) → slots_covered as' bs ≡ true → Loads k (slice_get bs n) → slots_covered (slice_set as' n (Some k)) bs ≡ true
+one_met : (k : Kind) (as' bs : List (Option Kind)) (n : ℕ) → slots_covered as' bs ≡ true → Loads k (slice_get bs n)
+    → slots_covered (slice_set as' n (Some k)) bs ≡ true
 one_met k [] bs n c e = c
 one_met k (a ∷ as') [] n c e = absurd (cc)
-one_met k (a ∷ as') (b ∷ bs) zero c e = and_from (slot_covered (Some k, b)) (slots_covered as' bs) (slot_met k b e) (and_parts (slot_covered (a, b)) (slots_covered as' bs) c).1
+one_met k (a ∷ as') (b ∷ bs) zero c e =
+    and_from (slot_covered (Some k, b)) (slots_covered as' bs) (slot_met k b e)
+    (and_parts (slot_covered (a, b)) (slots_covered as' bs) c).1
 one_met k (a ∷ as') (b ∷ bs) (suc n) c e =
     let p = and_parts (slot_covered (a, b)) (slots_covered as' bs) c in
     and_from (slot_covered (a, b)) (slots_covered (slice_set as' n (Some k)) bs) p.0 (one_met k as' bs n p.1 e)
 
-all_met : (needs : List Need) (known slots : List (Option Kind)) → slots_covered known slots ≡ true → list_any (lacks slots) needs ≡ false → slots_covered (needed needs known) slots ≡ true
+all_met : (needs : List Need) (known slots : List (Option Kind)) → slots_covered known slots ≡ true
+    → list_any (lacks slots) needs ≡ false → slots_covered (needed needs known) slots ≡ true
 all_met [] known slots c e = c
 all_met (need ∷ needs) known slots c e =
     let p = or_parts (lacks slots need) (list_any (lacks slots) needs) e in
@@ -76,36 +83,48 @@ slots_stay (Records i) slots e = refl
 abbrev with_slots : List (Option Kind) → State → State
 with_slots slots s = record s { slots = slots }
 
-steps_more : (code : Code) (s : State) (slots : List (Option Kind)) (i : Instr) → slots_covered s.slots slots ≡ true → Steps code s i → Steps code (with_slots slots s) i
+steps_more : (code : Code) (s : State) (slots : List (Option Kind)) (i : Instr) → slots_covered s.slots slots ≡ true
+    → Steps code s i → Steps code (with_slots slots s) i
 steps_more code s slots i c h =
-    let l = loads_well s (with_slots slots s) c i (record { other = h.other; set = h.set }) in
+    let is = sound_there code s i h.sound in
+    let l = loads_well s (with_slots slots s) c i (record { other = is.other; set = is.set }) in
     record {
-      stands = h.stands;
-      kind = h.kind;
-      other = l.other;
-      set = l.set;
-      under = h.under;
-      over = h.over;
-      declared = h.declared;
+      sound = sound_here code (with_slots slots s) i (record {
+        may = is.may;
+        clash = is.clash;
+        other = l.other;
+        set = l.set;
+        there = is.there;
+        within = is.within;
+        declared = is.declared;
+      });
       given = h.given;
-      left = left_is code i (with_slots slots s) h.stands;
+      left = left_is code i (with_slots slots s) is.may;
     }
 
 -- what is left where more slots are known is what was left, with those slots
-left_more : (code : Code) (s : State) (slots : List (Option Kind)) (i : Instr) → Steps code s i → with_slots slots (flow code i s) ≡ flow code i (with_slots slots s)
+left_more : (code : Code) (s : State) (slots : List (Option Kind)) (i : Instr) → Steps code s i
+    → with_slots slots (flow code i s) ≡ flow code i (with_slots slots s)
 left_more code s slots i h =
+    let may = (sound_there code s i h.sound).may in
     let a : with_slots slots (flow code i s) ≡ with_slots slots (left_by code i s) = ap (with_slots slots) h.left in
     let b : with_slots slots (left_by code i s) ≡ left_by code i (with_slots slots s) =
     ap (λ x. record { desk = (left_by code i s).desk; slots = x; stack = (left_by code i s).stack })
-    (sym (slots_stay i slots h.stands)) in
-    a ∙ (b ∙ sym (left_is code i (with_slots slots s) h.stands))
+    (sym (slots_stay i slots may)) in
+    a ∙ (b ∙ sym (left_is code i (with_slots slots s) may))
 
-walks_more : (code : Code) (instrs : List Instr) (s : State) (slots : List (Option Kind)) → slots_covered s.slots slots ≡ true → BlockWalks code s instrs → BlockWalks code (with_slots slots s) instrs
+walks_more : (code : Code) (instrs : List Instr) (s : State) (slots : List (Option Kind))
+    → slots_covered s.slots slots ≡ true → BlockWalks code s instrs → BlockWalks code (with_slots slots s) instrs
 walks_more code [] s slots c w = w
 walks_more code (i ∷ instrs) s slots c w =
-    let e : (flow code i s).slots ≡ s.slots = ap (λ x. x.slots) w.0.left ∙ slots_stay i s.slots w.0.stands in
+    let e : (flow code i s).slots ≡ s.slots =
+    ap (λ x. x.slots) w.0.left ∙ slots_stay i s.slots (sound_there code s i w.0.sound).may in
     let rest = walks_more code instrs (flow code i s) slots (subst (λ x. slots_covered x slots ≡ true) (sym e) c) w.1 in
     (steps_more code s slots i c w.0, subst (λ x. BlockWalks code x instrs) (left_more code s slots i w.0) rest)
 
-pub walks_with : (code : Code) (f : Filter) (instrs : List Instr) (slots : List (Option Kind)) → length slots ≡ code.declared.slots → filter_lacks slots (Some f) ≡ false → BlockWalks code (filter_start code.declared.slots f) instrs → BlockWalks code (filter_begun f slots) instrs
-walks_with code f instrs slots l e w = walks_more code instrs (filter_start code.declared.slots f) slots (all_met f.needs (replicate code.declared.slots None) slots (nothing_covers slots code.declared.slots l) e) w
+pub walks_with : (code : Code) (f : Filter) (instrs : List Instr) (slots : List (Option Kind))
+    → length slots ≡ code.declared.slots → filter_lacks slots (Some f) ≡ false
+    → BlockWalks code (filter_start code.declared.slots f) instrs → BlockWalks code (block_start f.table slots) instrs
+walks_with code f instrs slots l e w =
+    walks_more code instrs (filter_start code.declared.slots f) slots
+    (all_met f.needs (replicate code.declared.slots None) slots (nothing_covers slots code.declared.slots l) e) w

@@ -1,5 +1,6 @@
 -- A run from a world that fits stays among worlds that fit, and so meets no fault.
-use Rattle.std.proofs.Common.{◌≡◌, ◌≤◌, ℕ, zero, suc, true, false, Option, Some, None, length, refl, sym, ap, ◌∙◌, subst, arith}
+use Rattle.std.proofs.Common.{◌≡◌, ◌≤◌, ℕ, zero, suc, true, false, Option, Some, None, length, refl, sym, ap, ◌∙◌}
+use Rattle.std.proofs.Common.{subst, arith}
 use Rattle.std.specs.Prelude.{option_and_then}
 use Rattle.std.proofs.lemmas.List.{length-map}
 use Rattle.xvalue.specs.Kinds.{kind_of}
@@ -15,7 +16,8 @@ use Rattle.fit_laws.specs.Fits.{IsFitting}
 -- a world that fits can go on, and a step from it leads to one that fits
 pub record Goes (code : Code) : Type 0 where
   pub safe : (w : World) → IsFitting code w → IsSafeHere code w
-  pub on : (w : World) → IsFitting code w → finishes w (instr_at code w.place) ≡ false → IsFitting code (effect code w (instr_at code w.place))
+  pub on : (w : World) → IsFitting code w → finishes w (instr_at code w.place) ≡ false
+      → IsFitting code (effect code w (instr_at code w.place))
 
 pub some_same : {A : Type 0} (a b : A) → Some a ≡ Some b → a ≡ b
 some_same a b e = cc
@@ -23,30 +25,38 @@ some_same a b e = cc
 pub none_some : {A : Type 0} (P : Type 0) (b : A) → None ≡ Some b → P
 none_some P b e = absurd (cc)
 
-steps_on : (code : Code) (w : World) → IsSafeHere code w → finishes w (instr_at code w.place) ≡ false → step_of code w ≡ Next (effect code w (instr_at code w.place))
+steps_on : (code : Code) (w : World) → IsSafeHere code w → finishes w (instr_at code w.place) ≡ false
+    → step_of code w ≡ Next (effect code w (instr_at code w.place))
 unfolding step_of
 steps_on code w s e = rw (s.sound, e) refl
 
-steps_out : (code : Code) (w : World) → IsSafeHere code w → finishes w (instr_at code w.place) ≡ true → step_of code w ≡ Finished
+steps_out : (code : Code) (w : World) → IsSafeHere code w → finishes w (instr_at code w.place) ≡ true
+    → step_of code w ≡ Finished
 unfolding step_of
 steps_out code w s e = rw (s.sound, e) refl
 
-step_fits : (code : Code) → Goes code → (w v : World) → IsFitting code w → next_world (step_of code w) ≡ Some v → IsFitting code v
-step_fits code g w v f e = elim (finishes w (instr_at code w.place)) as (λ b. finishes w (instr_at code w.place) ≡ b → IsFitting code v) [
-  | true ↦ λ ends. none_some (IsFitting code v) v (sym (ap next_world (steps_out code w (g.safe w f) ends)) ∙ e)
-  | false ↦ λ goes. (let next : Some (effect code w (instr_at code w.place)) ≡ Some v = sym (ap next_world (steps_on code w (g.safe w f) goes)) ∙ e in
-      subst (IsFitting code) (some_same (effect code w (instr_at code w.place)) v next) (g.on w f goes))
-] refl
+step_fits : (code : Code) → Goes code → (w v : World) → IsFitting code w → next_world (step_of code w) ≡ Some v
+    → IsFitting code v
+step_fits code g w v f e =
+    elim (finishes w (instr_at code w.place)) as (λ b. finishes w (instr_at code w.place) ≡ b → IsFitting code v) [
+      | true ↦ λ ends. none_some (IsFitting code v) v (sym (ap next_world (steps_out code w (g.safe w f) ends)) ∙ e)
+      | false ↦ λ goes. (let next : Some (effect code w (instr_at code w.place)) ≡ Some v = sym
+          (ap next_world (steps_on code w (g.safe w f) goes)) ∙ e in
+          subst (IsFitting code) (some_same (effect code w (instr_at code w.place)) v next) (g.on w f goes))
+    ] refl
 
-then_fits : (code : Code) → Goes code → (x : Option World) (v : World) → ((w : World) → x ≡ Some w → IsFitting code w) → option_and_then (λ w. next_world (step_of code w)) x ≡ Some v → IsFitting code v
+then_fits : (code : Code) → Goes code → (x : Option World) (v : World) → ((w : World) → x ≡ Some w → IsFitting code w)
+    → option_and_then (λ w. next_world (step_of code w)) x ≡ Some v → IsFitting code v
 then_fits code g None v h e = none_some (IsFitting code v) v e
 then_fits code g (Some w) v h e = step_fits code g w v (h w refl) e
 
-pub run_fits : (code : Code) → Goes code → (w : World) → IsFitting code w → (n : ℕ) (v : World) → after code w n ≡ Some v → IsFitting code v
+pub run_fits : (code : Code) → Goes code → (w : World) → IsFitting code w → (n : ℕ) (v : World)
+    → after code w n ≡ Some v → IsFitting code v
 run_fits code g w f zero v e = subst (IsFitting code) (some_same w v e) f
 run_fits code g w f (suc n) v e = then_fits code g (after code w n) v (λ u at. run_fits code g w f n u at) e
 
 -- ---- bounds
 
 pub stack_within : (code : Code) (w : World) → IsFitting code w → length w.values.stack ≤ code.declared.stack_bound
-stack_within code w f = omega (arith, (known_of code.declared (state_of w) f.shape.state).stack, length-map w.values.stack kind_of)
+stack_within code w f =
+    omega (arith, (known_of code.declared (state_of w) f.shape.state).stack, length-map w.values.stack kind_of)

@@ -11,7 +11,8 @@ use Rattle.code_rules.specs.Wants.{gives, unknown}
 use Rattle.code_rules.specs.Flow.{flow}
 use Rattle.code_rules.specs.Places.{instr_at, block_at, filter_start, state_at}
 use Rattle.code_rules.specs.Rules.{covers, level_of, returns as is_return}
-use Rattle.fit_laws.specs.FilterWalks.{filter_instrs, BlockWalks}
+use Rattle.run_steps.specs.Filters.{instructions_of}
+use Rattle.fit_laws.specs.FilterWalks.{BlockWalks}
 
 -- where the block of a procedure begins: behind those of the procedures before it
 abbrev pub first_of : Code → ℕ → ℕ
@@ -71,4 +72,4 @@ pub record Connects (code : Code) : Type 0 where
   pub gives : (place : ℕ) → IsOfProcedures code place
       → unknown (gives code.declared (state_at code place).desk (instr_at code place)) ≡ 0
   pub filters : (number : ℕ) (f : Filter) → filter_of code.declared number ≡ Some f
-      → BlockWalks code (filter_start code.declared.slots f) (filter_instrs code number f)
+      → BlockWalks code (filter_start code.declared.slots f) (instructions_of code number (Some f))

@@ -32,26 +32,30 @@ behind_none path only =
 -- ---- a path that is cut there
 
 pub folder_to : (path : List ℕ) (slash cut : ℕ) → slash < length path → get_or path slash 0 ≡ 47
-    → ((place : ℕ) → slash < place → place < length path → get_or path place 0 ≢ 47) → cut ≡ slash + 1 → take cut path ≡ folder_of_path path
+    → ((place : ℕ) → slash < place → place < length path → get_or path place 0 ≢ 47) → cut ≡ slash + 1
+    → take cut path ≡ folder_of_path path
 folder_to path slash cut there here only is =
     let behind = behind_last path slash there here only in
     let same : cut ≡ length path - suffix_len (λ byte. not (byte == 47)) path = omega arith in
     ap (λ n. take n path) same
 
 pub name_from : (path : List ℕ) (slash cut : ℕ) → slash < length path → get_or path slash 0 ≡ 47
-    → ((place : ℕ) → slash < place → place < length path → get_or path place 0 ≢ 47) → cut ≡ slash + 1 → drop cut path ≡ name_of_path path
+    → ((place : ℕ) → slash < place → place < length path → get_or path place 0 ≢ 47) → cut ≡ slash + 1
+    → drop cut path ≡ name_of_path path
 name_from path slash cut there here only is =
     let behind = behind_last path slash there here only in
     let same : cut ≡ length path - suffix_len (λ byte. not (byte == 47)) path = omega arith in
     ap (λ n. drop n path) same
 
-pub folder_none : (path : List ℕ) → ((place : ℕ) → place < length path → get_or path place 0 ≢ 47) → [] ≡ folder_of_path path
+pub folder_none : (path : List ℕ) → ((place : ℕ) → place < length path → get_or path place 0 ≢ 47)
+    → [] ≡ folder_of_path path
 folder_none path only =
     let behind = behind_none path only in
     let same : 0 ≡ length path - suffix_len (λ byte. not (byte == 47)) path = omega arith in
     ap (λ n. take n path) same
 
-pub name_whole : (path : List ℕ) → ((place : ℕ) → place < length path → get_or path place 0 ≢ 47) → path ≡ name_of_path path
+pub name_whole : (path : List ℕ) → ((place : ℕ) → place < length path → get_or path place 0 ≢ 47)
+    → path ≡ name_of_path path
 name_whole path only =
     let behind = behind_none path only in
     let same : 0 ≡ length path - suffix_len (λ byte. not (byte == 47)) path = omega arith in

@@ -114,6 +114,8 @@ put_behind {a} {b} {c} is js g h = record {
 }
 
 -- the next of some instructions
-pub put_next : {a b c : DraftBlock} (xs : List Instr) (i : ℕ) (d : Instr) → i < length xs → Puts (take i xs) a b → Puts (get_or xs i d ∷ []) b c → Puts (take (i + 1) xs) a c
+pub put_next : {a b c : DraftBlock} (xs : List Instr) (i : ℕ) (d : Instr) → i < length xs → Puts (take i xs) a b
+    → Puts (get_or xs i d ∷ []) b c → Puts (take (i + 1) xs) a c
 put_next {a} {b} {c} xs i d low g h =
-    subst (λ (is : List Instr). Puts is a c) (sym (ap (λ n. take n xs) (add-one i) ∙ take-suc xs i d low)) (put_behind (take i xs) (get_or xs i d ∷ []) g h)
+    subst (λ (is : List Instr). Puts is a c) (sym (ap (λ n. take n xs) (add-one i) ∙ take-suc xs i d low))
+    (put_behind (take i xs) (get_or xs i d ∷ []) g h)

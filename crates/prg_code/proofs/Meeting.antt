@@ -1,8 +1,8 @@
 -- What is known where two ways meet: no more and no less than is known on both.
-use Rattle.std.proofs.Common.{◌≡◌, refl, ap, sym, ◌∙◌, Bool, true, false, ◌==◌, if◌then◌else◌, List, [], ◌∷◌}
+use Rattle.std.proofs.Common.{◌≡◌, refl, ap, sym, ◌∙◌, Bool, true, false, ◌==◌, List, [], ◌∷◌}
 use Rattle.std.proofs.Common.{length, map, Option, Some, None, arith}
 use Rattle.std.specs.List.{zip}
-use Rattle.std.proofs.lemmas.Bool.{and_from, and_parts}
+use Rattle.std.proofs.lemmas.Bool.{and_from, and_parts, cond_both}
 use Rattle.std.proofs.lemmas.Bool.Decides.{nat_tests}
 use Rattle.xvalue.specs.declared.kind.Kind.{Kind}
 use Rattle.xvalue.specs.declared.kind.Kind.TheVariants.{Number as OfNumber, Text as OfText, Date as OfDate}
@@ -18,21 +18,18 @@ use Rattle.code_items.specs.Kinds.{slot_covered}
 use Rattle.code_rules.proofs.Covering.{slot_self, number_self, area_self}
 use Rattle.prg_code.specs.Merging.{merged_area, merged_kind, DoMeet, MergesWays}
 
--- one of two by a test
-picked : {A : Type 0} (P : A → Type 0) (t : Bool) (a b : A) → (t ≡ true → P a) → (t ≡ false → P b) → P (if t then a else b)
-picked P true a b f g = f refl
-picked P false a b f g = g refl
-
 area_first : (a b : AreaState) → area_covered (merged_area (a, b), a) ≡ true
-area_first a b = picked (λ m. area_covered (m, a) ≡ true) (area_covered (a, b)) a Unsure (λ _. area_self a) (λ _. refl)
+area_first a b =
+    cond_both (area_covered (a, b)) a Unsure (λ m. area_covered (m, a) ≡ true) (λ _. area_self a) (λ _. refl)
 
 area_second : (a b : AreaState) → area_covered (merged_area (a, b), b) ≡ true
-area_second a b = picked (λ m. area_covered (m, b) ≡ true) (area_covered (a, b)) a Unsure (λ e. e) (λ _. refl)
+area_second a b = cond_both (area_covered (a, b)) a Unsure (λ m. area_covered (m, b) ≡ true) (λ e. e) (λ _. refl)
 
 same_two : (x y z : OpenArea) → same_area x y ≡ true → same_area x z ≡ true → same_area y z ≡ true
 same_two x y z e f = grind (arith, nat_tests)
 
-covered_two : (m a b : AreaState) → area_covered (m, a) ≡ true → area_covered (m, b) ≡ true → area_covered (a, b) ≡ false → area_covered (m, Unsure) ≡ true
+covered_two : (m a b : AreaState) → area_covered (m, a) ≡ true → area_covered (m, b) ≡ true
+    → area_covered (a, b) ≡ false → area_covered (m, Unsure) ≡ true
 covered_two Unsure a b e f n = refl
 covered_two Closed Closed Closed e f n = sym n
 covered_two Closed Closed (Open z) e f n = f
@@ -45,8 +42,10 @@ covered_two (Open x) (Open y) (Open z) e f n = sym n ∙ same_two x y z e f
 covered_two (Open x) (Open y) Unsure e f n = f
 covered_two (Open x) Unsure b e f n = e
 
-area_most : (m a b : AreaState) → area_covered (m, a) ≡ true → area_covered (m, b) ≡ true → area_covered (m, merged_area (a, b)) ≡ true
-area_most m a b e f = picked (λ x. area_covered (m, x) ≡ true) (area_covered (a, b)) a Unsure (λ _. e) (covered_two m a b e f)
+area_most : (m a b : AreaState) → area_covered (m, a) ≡ true → area_covered (m, b) ≡ true
+    → area_covered (m, merged_area (a, b)) ≡ true
+area_most m a b e f =
+    cond_both (area_covered (a, b)) a Unsure (λ x. area_covered (m, x) ≡ true) (λ _. e) (covered_two m a b e f)
 
 kind_two : (x y z : Kind) → same_kind x y ≡ true → same_kind x z ≡ true → same_kind y z ≡ true
 kind_two OfNumber OfNumber z e f = f
@@ -67,37 +66,44 @@ kind_two OfLogical OfText z e f = grind (arith, e)
 kind_two OfLogical OfDate z e f = grind (arith, e)
 
 slot_first : (a b : Option Kind) → slot_covered (merged_kind (a, b), a) ≡ true
-slot_first a b = picked (λ m. slot_covered (m, a) ≡ true) (slot_covered (a, b)) a None (λ _. slot_self a) (λ _. refl)
+slot_first a b = cond_both (slot_covered (a, b)) a None (λ m. slot_covered (m, a) ≡ true) (λ _. slot_self a) (λ _. refl)
 
 slot_second : (a b : Option Kind) → slot_covered (merged_kind (a, b), b) ≡ true
-slot_second a b = picked (λ m. slot_covered (m, b) ≡ true) (slot_covered (a, b)) a None (λ e. e) (λ _. refl)
+slot_second a b = cond_both (slot_covered (a, b)) a None (λ m. slot_covered (m, b) ≡ true) (λ e. e) (λ _. refl)
 
-slots_two : (m a b : Option Kind) → slot_covered (m, a) ≡ true → slot_covered (m, b) ≡ true → slot_covered (a, b) ≡ false → slot_covered (m, None) ≡ true
+slots_two : (m a b : Option Kind) → slot_covered (m, a) ≡ true → slot_covered (m, b) ≡ true
+    → slot_covered (a, b) ≡ false → slot_covered (m, None) ≡ true
 slots_two None a b e f n = refl
 slots_two (Some x) None b e f n = e
 slots_two (Some x) (Some y) None e f n = f
 slots_two (Some x) (Some y) (Some z) e f n = sym n ∙ kind_two x y z e f
 
-slot_most : (m a b : Option Kind) → slot_covered (m, a) ≡ true → slot_covered (m, b) ≡ true → slot_covered (m, merged_kind (a, b)) ≡ true
-slot_most m a b e f = picked (λ x. slot_covered (m, x) ≡ true) (slot_covered (a, b)) a None (λ _. e) (slots_two m a b e f)
+slot_most : (m a b : Option Kind) → slot_covered (m, a) ≡ true → slot_covered (m, b) ≡ true
+    → slot_covered (m, merged_kind (a, b)) ≡ true
+slot_most m a b e f =
+    cond_both (slot_covered (a, b)) a None (λ x. slot_covered (m, x) ≡ true) (λ _. e) (slots_two m a b e f)
 
 -- along lists
 
-all_first : {A : Type 0} (test : A × A → Bool) (merge : A × A → A) → ((a b : A) → test (merge (a, b), a) ≡ true) → (as' bs : List A) → length as' ≡ length bs → along test (map merge (zip as' bs)) as' ≡ true
+all_first : {A : Type 0} (test : A × A → Bool) (merge : A × A → A) → ((a b : A) → test (merge (a, b), a) ≡ true)
+    → (as' bs : List A) → length as' ≡ length bs → along test (map merge (zip as' bs)) as' ≡ true
 all_first test merge law [] [] e = refl
 all_first test merge law [] (b ∷ bs) e = absurd (omega (arith, e))
 all_first test merge law (a ∷ as') [] e = absurd (omega (arith, e))
 all_first test merge law (a ∷ as') (b ∷ bs) e =
     and_from _ _ (law a b) (all_first test merge law as' bs (omega (arith, e)))
 
-all_second : {A : Type 0} (test : A × A → Bool) (merge : A × A → A) → ((a b : A) → test (merge (a, b), b) ≡ true) → (as' bs : List A) → length as' ≡ length bs → along test (map merge (zip as' bs)) bs ≡ true
+all_second : {A : Type 0} (test : A × A → Bool) (merge : A × A → A) → ((a b : A) → test (merge (a, b), b) ≡ true)
+    → (as' bs : List A) → length as' ≡ length bs → along test (map merge (zip as' bs)) bs ≡ true
 all_second test merge law [] [] e = refl
 all_second test merge law [] (b ∷ bs) e = absurd (omega (arith, e))
 all_second test merge law (a ∷ as') [] e = absurd (omega (arith, e))
 all_second test merge law (a ∷ as') (b ∷ bs) e =
     and_from _ _ (law a b) (all_second test merge law as' bs (omega (arith, e)))
 
-all_most : {A : Type 0} (test : A × A → Bool) (merge : A × A → A) → ((m a b : A) → test (m, a) ≡ true → test (m, b) ≡ true → test (m, merge (a, b)) ≡ true) → (ms as' bs : List A) → along test ms as' ≡ true → along test ms bs ≡ true → along test ms (map merge (zip as' bs)) ≡ true
+all_most : {A : Type 0} (test : A × A → Bool) (merge : A × A → A)
+    → ((m a b : A) → test (m, a) ≡ true → test (m, b) ≡ true → test (m, merge (a, b)) ≡ true) → (ms as' bs : List A)
+    → along test ms as' ≡ true → along test ms bs ≡ true → along test ms (map merge (zip as' bs)) ≡ true
 all_most test merge law [] [] bs e f = refl
 all_most test merge law [] (a ∷ as') bs e f = grind (arith, e)
 all_most test merge law (m ∷ ms) [] bs e f = grind (arith, e)

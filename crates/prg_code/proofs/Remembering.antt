@@ -11,19 +11,28 @@ pub all_kept : {A : Type 0} (blank : A) (all : List A) → AreAllBut blank all a
 all_kept blank all = (0, sym (append-nil all))
 
 -- the last of what is kept is left out
-pub one_less : {A : Type 0} (blank : A) (kept all : List A) (last : A) (others : List A) → AreAllBut blank kept all → kept ≡ others ++ last ∷ [] → last ≡ blank → AreAllBut blank others all
-one_less blank kept all last others h cut is =
-    (suc h.0, h.1 ∙ ap (λ xs. xs ++ replicate h.0 blank) (cut ∙ ap (λ x. others ++ x ∷ []) is) ∙ append_assoc others (blank ∷ []) (replicate h.0 blank))
+pub one_less : {A : Type 0} (blank : A) (kept all : List A) (last : A) (others : List A) → AreAllBut blank kept all
+    → kept ≡ others ++ last ∷ [] → last ≡ blank → AreAllBut blank others all
+one_less blank kept all last others h cut is = (
+  suc h.0,
+  h.1 ∙ ap (λ xs. xs ++ replicate h.0 blank) (cut ∙ ap (λ x. others ++ x ∷ []) is)
+      ∙ append_assoc others (blank ∷ []) (replicate h.0 blank),
+)
 
-filled : {A : Type 0} (blank : A) (kept all : List A) (size : ℕ) → AreAllBut blank kept all → length all ≡ size → filled_up blank size kept ≡ all
+filled : {A : Type 0} (blank : A) (kept all : List A) (size : ℕ) → AreAllBut blank kept all → length all ≡ size
+    → filled_up blank size kept ≡ all
 filled blank kept all size h long =
-    let many : size ≡ length kept + h.0 = sym long ∙ ap length h.1 ∙ length-append kept (replicate h.0 blank) ∙ ap (λ n. length kept + n) (length-replicate h.0 blank) in
+    let many : size ≡ length kept + h.0 =
+    sym long ∙ ap length h.1 ∙ length-append kept (replicate h.0 blank)
+    ∙ ap (λ n. length kept + n) (length-replicate h.0 blank) in
     let low : length kept ≤ size = omega arith in
     let rest : size - length kept ≡ h.0 = omega arith in
-    ap (λ xs. xs ++ replicate (size - length kept) blank) (take_all size kept low) ∙ ap (λ n. kept ++ replicate n blank) rest ∙ sym h.1
+    ap (λ xs. xs ++ replicate (size - length kept) blank) (take_all size kept low)
+    ∙ ap (λ n. kept ++ replicate n blank) rest ∙ sym h.1
 
 -- with ten work areas and so many slots, all is known again but the stack
-pub known_again : (seen : Seen) (state : State) → Remembers seen state → length state.desk.areas ≡ 10 → state_remembered seen (length state.slots) ≡ record state { stack = [] }
+pub known_again : (seen : Seen) (state : State) → Remembers seen state → length state.desk.areas ≡ 10
+    → state_remembered seen (length state.slots) ≡ record state { stack = [] }
 known_again seen state h ten = λ i. record {
   desk = record {
     selected = h.selected i;

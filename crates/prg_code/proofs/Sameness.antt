@@ -18,7 +18,8 @@ apart r e never = (λ yes. absurd (false≢true (sym e ∙ yes)), λ p. absurd (
 pub record ComparesAreas (E : AreaState → AreaState → Bool) : Type 0 where
   pub closed : E Closed Closed ≡ true
   pub unsure : E Unsure Unsure ≡ true
-  pub both : (a b : OpenArea) → E (Open a) (Open b) ≡ (a.table == b.table && (a.list == b.list && (a.order == b.order && a.filter == b.filter)))
+  pub both : (a b : OpenArea)
+      → E (Open a) (Open b) ≡ (a.table == b.table && (a.list == b.list && (a.order == b.order && a.filter == b.filter)))
   pub closed_open : (b : OpenArea) → E Closed (Open b) ≡ false
   pub closed_unsure : E Closed Unsure ≡ false
   pub open_closed : (a : OpenArea) → E (Open a) Closed ≡ false
@@ -26,7 +27,9 @@ pub record ComparesAreas (E : AreaState → AreaState → Bool) : Type 0 where
   pub unsure_closed : E Unsure Closed ≡ false
   pub unsure_open : (b : OpenArea) → E Unsure (Open b) ≡ false
 
-same_open : (a b : OpenArea) → Decides (a.table == b.table && (a.list == b.list && (a.order == b.order && a.filter == b.filter))) (Open a ≡ Open b)
+same_open : (a b : OpenArea)
+    → Decides (a.table == b.table && (a.list == b.list && (a.order == b.order && a.filter == b.filter)))
+    (Open a ≡ Open b)
 same_open a b = search (rules, nat_tests)
 
 areas_decide : {E : AreaState → AreaState → Bool} → ComparesAreas E → (a b : AreaState) → Decides (E a b) (a ≡ b)
@@ -40,7 +43,8 @@ areas_decide m Unsure Closed = apart _ m.unsure_closed (λ e. search rules)
 areas_decide m Unsure (Open b) = apart _ (m.unsure_open b) (λ e. search rules)
 areas_decide m Unsure Unsure = (λ _. refl, λ _. m.unsure)
 
-pub areas_same : {E : AreaState → AreaState → Bool} (xs ys : List AreaState) (r : Bool) → r ≡ pointwise E xs ys → ComparesAreas E → IsTrue r ↔ (xs ≡ ys)
+pub areas_same : {E : AreaState → AreaState → Bool} (xs ys : List AreaState) (r : Bool) → r ≡ pointwise E xs ys
+    → ComparesAreas E → IsTrue r ↔ (xs ≡ ys)
 areas_same {E} xs ys r e m = slice_eq-Decides (areas_decide m) xs ys r e
 
 -- a test of slots' kinds, case by case
@@ -56,5 +60,6 @@ kinds_decide m None (Some b) = apart _ (m.none_some b) (λ e. search rules)
 kinds_decide m (Some a) None = apart _ (m.some_none a) (λ e. search rules)
 kinds_decide m (Some a) (Some b) = (λ e. ap Some ((m.both a b).0 e), λ e. (m.both a b).1 (search rules))
 
-pub kinds_same : {E : Option Kind → Option Kind → Bool} (xs ys : List (Option Kind)) (r : Bool) → r ≡ pointwise E xs ys → ComparesKinds E → IsTrue r ↔ (xs ≡ ys)
+pub kinds_same : {E : Option Kind → Option Kind → Bool} (xs ys : List (Option Kind)) (r : Bool) → r ≡ pointwise E xs ys
+    → ComparesKinds E → IsTrue r ↔ (xs ≡ ys)
 kinds_same {E} xs ys r e m = slice_eq-Decides (kinds_decide m) xs ys r e

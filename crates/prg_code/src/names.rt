@@ -1,6 +1,6 @@
 //! Variables by their names.
 
-ghost use Rattle.std.specs.Prelude.{◌≡◌, [], Some, true, false, IfOk, OnOk, OnErr, List, ℕ};
+ghost use Rattle.std.specs.Prelude.{◌≡◌, ◌↔◌, [], Some, true, false, IfOk, IsTrue, OnOk, OnErr, List, ℕ};
 ghost use Rattle.std.specs.Map.{values_of};
 ghost use Rattle.std.specs.Str.{bytes_eq};
 ghost use Rattle.prg_code.specs.Bindings.{slot_named, as_caller, as_callers, is_left, without_caller, DoNameSame};
@@ -110,7 +110,7 @@ impl Names {
 
     /// Whether both name the same variables.
     pub fn is_same(&self, other: &Names) -> bool
-        ensures { result ≡ true → DoNameSame self.now other.now }
+        ensures { IsTrue result ↔ DoNameSame self.now other.now }
     {
         if self.variables.len() != other.variables.len() {
             return false;

@@ -228,13 +228,15 @@ fn opened<'a>(
             then,
             otherwise,
             end,
-        } => {
-            let span = Span {
-                first: line,
-                end: *end,
-            };
-            open_if(s, w, leaps, span, condition, then, otherwise)
-        }
+        } => open_if(
+            s,
+            w,
+            leaps,
+            Span::of(line, *end),
+            condition,
+            then,
+            otherwise,
+        ),
         Form::DoCase {
             cases,
             otherwise,
@@ -244,24 +246,12 @@ fn opened<'a>(
             condition,
             body,
             end,
-        } => {
-            let span = Span {
-                first: line,
-                end: *end,
-            };
-            open_loop(s, w, span, LoopTest::While(condition), body)
-        }
+        } => open_loop(s, w, Span::of(line, *end), LoopTest::While(condition), body),
         Form::Scan {
             condition,
             body,
             end,
-        } => {
-            let span = Span {
-                first: line,
-                end: *end,
-            };
-            open_loop(s, w, span, LoopTest::Rows(condition), body)
-        }
+        } => open_loop(s, w, Span::of(line, *end), LoopTest::Rows(condition), body),
     }
 }
 

@@ -25,6 +25,14 @@ pub struct Span {
     pub end: usize,
 }
 
+impl Span {
+    pub fn of(first: usize, end: usize) -> Span
+        ensures { (result.first ≡ first) × (result.end ≡ end) }
+    {
+        Span { first, end }
+    }
+}
+
 /// A condition and a JUMPF to the label. Where faults are listed, a faulty condition counts as .T.
 pub fn put_condition(
     s: &Source,

@@ -36,7 +36,8 @@ mark_plain w h = record { plain = λ y ws p. h.plain y p.0 p.1 }
 but_plain : (whole : List ℕ) {P : Phrase Act} → Plain P → Plain (But whole P)
 but_plain whole h = record { plain = λ y ws p. h.plain y ws p.1 }
 
-one_of : (P Q : Phrase Act) → Plain P → Plain Q → (y : Act) (ws : List Word) → P y ws ⊎ Q y ws → role_of (saying.Whole y) ≡ role.Plain
+one_of : (P Q : Phrase Act) → Plain P → Plain Q → (y : Act) (ws : List Word) → P y ws ⊎ Q y ws
+    → role_of (saying.Whole y) ≡ role.Plain
 one_of P Q g h y ws (inl p) = g.plain y ws p
 one_of P Q g h y ws (inr q) = h.plain y ws q
 
@@ -59,10 +60,17 @@ longer_plain verb.Unknown = impossible (λ y ws p. p)
 longer_plain verb.Macro = impossible (λ y ws p. p)
 longer_plain verb.Show = either_plain (is_plain (act.Show []) refl) (then_plain (λ es. is_plain (act.Show es) refl))
 longer_plain verb.ShowOn = then_plain (λ es. is_plain (act.ShowOn es) refl)
-longer_plain verb.At = then_plain (λ row. mark_plain _ (then_plain (λ column. where_plain _ (then_plain (λ v. is_plain (act.Get row column v) refl)) (key_plain _ (then_plain (λ e. where_plain _ (then_plain (λ v. is_plain (act.SayGet row column e v) refl)) (is_plain (act.Say row column e) refl)))))))
+longer_plain verb.At =
+    then_plain (λ row. mark_plain _
+    (then_plain (λ column. where_plain _ (then_plain (λ v. is_plain (act.Get row column v) refl))
+    (key_plain _ (then_plain
+    (λ e. where_plain _ (then_plain (λ v. is_plain (act.SayGet row column e v) refl))
+    (is_plain (act.Say row column e) refl)))))))
 longer_plain verb.Read = impossible (λ y ws p. p)
 longer_plain verb.Accept = then_plain (λ p. key_plain _ (then_plain (λ v. is_plain (act.Accept p v) refl)))
-longer_plain verb.Wait = then_plain (λ p. where_plain _ (then_plain (λ v. is_plain (act.Wait p (Some v)) refl)) (is_plain (act.Wait p None) refl))
+longer_plain verb.Wait =
+    then_plain (λ p. where_plain _ (then_plain (λ v. is_plain (act.Wait p (Some v)) refl))
+    (is_plain (act.Wait p None) refl))
 longer_plain verb.Clear = impossible (λ y ws p. p)
 longer_plain verb.Assign = then_plain (λ v. mark_plain _ (then_plain (λ e. is_plain (act.Assign v e) refl)))
 longer_plain verb.Store = then_plain (λ e. key_plain _ (then_plain (λ vs. is_plain (act.Store e vs) refl)))
@@ -83,16 +91,32 @@ longer_plain verb.EndScan = impossible (λ y ws p. p)
 longer_plain verb.Loop = impossible (λ y ws p. p)
 longer_plain verb.Exit = impossible (λ y ws p. p)
 longer_plain verb.Procedure = impossible (λ y ws p. p)
-longer_plain verb.Do = then_plain (λ p. where_plain _ (then_plain (λ es. is_plain (act.Do p es) refl)) (is_plain (act.Do p []) refl))
+longer_plain verb.Do =
+    then_plain (λ p. where_plain _ (then_plain (λ es. is_plain (act.Do p es) refl)) (is_plain (act.Do p []) refl))
 longer_plain verb.Return = impossible (λ y ws p. p)
 longer_plain verb.Quit = impossible (λ y ws p. p)
 longer_plain verb.Cancel = impossible (λ y ws p. p)
-longer_plain verb.Use = either_plain (is_plain act.Close refl) (then_plain (λ t. where_plain _ (then_plain (λ is. is_plain (act.Use t is) refl)) (is_plain (act.Use t []) refl)))
-longer_plain verb.Select = either_plain (then_plain (λ n. number_plain n)) (then_plain (λ s. is_plain (act.Select (act.Named s)) refl))
+longer_plain verb.Use =
+    either_plain (is_plain act.Close refl)
+    (then_plain (λ t. where_plain _ (then_plain (λ is. is_plain (act.Use t is) refl)) (is_plain (act.Use t []) refl)))
+longer_plain verb.Select =
+    either_plain (then_plain (λ n. number_plain n)) (then_plain (λ s. is_plain (act.Select (act.Named s)) refl))
 longer_plain verb.Close = where_plain _ (is_plain act.CloseAll refl) (key_plain _ (is_plain act.CloseAll refl))
-longer_plain verb.Set = where_plain _ (key_plain _ (then_plain (λ n. is_plain (act.SetOrder n) refl))) (where_plain _ (key_plain _ (either_plain (is_plain (act.SetFilter None) refl) (then_plain (λ e. is_plain (act.SetFilter (Some e)) refl)))) (where_plain _ (where_plain _ (is_plain (act.Set Exact true) refl) (key_plain _ (is_plain (act.Set Exact false) refl))) (where_plain _ (where_plain _ (is_plain (act.Set Deleted true) refl) (key_plain _ (is_plain (act.Set Deleted false) refl))) (key_plain _ (where_plain _ (is_plain (act.Set Century true) refl) (key_plain _ (is_plain (act.Set Century false) refl)))))))
-longer_plain verb.Go = where_plain _ (is_plain (act.Go act.Top) refl) (where_plain _ (is_plain (act.Go act.Bottom) refl) (then_plain (λ e. is_plain (act.Go (act.Record e)) refl)))
-longer_plain verb.Skip = either_plain (is_plain (act.Skip None) refl) (then_plain (λ e. is_plain (act.Skip (Some e)) refl))
+longer_plain verb.Set =
+    where_plain _ (key_plain _ (then_plain (λ n. is_plain (act.SetOrder n) refl)))
+    (where_plain _ (key_plain _
+    (either_plain (is_plain (act.SetFilter None) refl) (then_plain (λ e. is_plain (act.SetFilter (Some e)) refl))))
+    (where_plain _ (where_plain _ (is_plain (act.Set Exact true) refl)
+    (key_plain _ (is_plain (act.Set Exact false) refl)))
+    (where_plain _ (where_plain _ (is_plain (act.Set Deleted true) refl)
+    (key_plain _ (is_plain (act.Set Deleted false) refl)))
+    (key_plain _ (where_plain _ (is_plain (act.Set Century true) refl)
+    (key_plain _ (is_plain (act.Set Century false) refl)))))))
+longer_plain verb.Go =
+    where_plain _ (is_plain (act.Go act.Top) refl)
+    (where_plain _ (is_plain (act.Go act.Bottom) refl) (then_plain (λ e. is_plain (act.Go (act.Record e)) refl)))
+longer_plain verb.Skip =
+    either_plain (is_plain (act.Skip None) refl) (then_plain (λ e. is_plain (act.Skip (Some e)) refl))
 longer_plain verb.Seek = then_plain (λ e. is_plain (act.Seek e) refl)
 longer_plain verb.Append = key_plain _ (is_plain act.AppendBlank refl)
 longer_plain verb.Replace = then_plain (λ cs. is_plain (act.Replace cs) refl)
@@ -101,18 +125,22 @@ longer_plain verb.Recall = impossible (λ y ws p. p)
 longer_plain verb.Pack = impossible (λ y ws p. p)
 longer_plain verb.Zap = impossible (λ y ws p. p)
 longer_plain verb.Reindex = impossible (λ y ws p. p)
-longer_plain verb.Index = key_plain _ (then_plain (λ e. key_plain _ (then_plain (λ s. is_plain (act.IndexOn e s) refl))))
+longer_plain verb.Index =
+    key_plain _ (then_plain (λ e. key_plain _ (then_plain (λ s. is_plain (act.IndexOn e s) refl))))
 
 -- a command that is one word
-one_word : (x : Act) (s : Saying) (ws : List Word) → Then (Is x) (λ y. Is (saying.Whole y)) s ws → role_said x ≡ role_of s
+one_word : (x : Act) (s : Saying) (ws : List Word) → Then (Is x) (λ y. Is (saying.Whole y)) s ws
+    → role_said x ≡ role_of s
 one_word x s ws (y, front, rest, p, q, e) = sym (ap role_of q.0 ∙ ap role_said p.0)
 
 -- a command of more words
-longer : (v : Verb) (s : Saying) (ws : List Word) → Then (c.Longer v) (λ y. Is (saying.Whole y)) s ws → role.Plain ≡ role_of s
+longer : (v : Verb) (s : Saying) (ws : List Word) → Then (c.Longer v) (λ y. Is (saying.Whole y)) s ws
+    → role.Plain ≡ role_of s
 longer v s ws (y, front, rest, p, q, e) = sym (ap role_of q.0 ∙ (longer_plain v).plain y front p)
 
 -- a line with one part
-with_part : {A : Type 0} (P : Phrase A) (f : A → Saying) (r : Role) → ((x : A) → role_of (f x) ≡ r) → (s : Saying) (ws : List Word) → Then P (λ x. Is (f x)) s ws → r ≡ role_of s
+with_part : {A : Type 0} (P : Phrase A) (f : A → Saying) (r : Role) → ((x : A) → role_of (f x) ≡ r)
+    → (s : Saying) (ws : List Word) → Then P (λ x. Is (f x)) s ws → r ≡ role_of s
 with_part P f r h s ws (x, front, rest, p, q, e) = sym (ap role_of q.0 ∙ h x)
 
 pub role_agrees : (v : Verb) (s : Saying) (ws : List Word) → c.Says v s ws → verbs.role_of v ≡ role_of s

@@ -110,7 +110,8 @@ line_full law verb.DoCase = is_full saying.DoCase
 line_full law verb.Case = both_full (expression_full law) (λ e. is_full (saying.Case e)) (λ e. is_begins free_open)
 line_full law verb.Otherwise = is_full saying.Otherwise
 line_full law verb.EndCase = whole_full law verb.EndCase
-line_full law verb.DoWhile = both_full (expression_full law) (λ e. is_full (saying.DoWhile e)) (λ e. is_begins free_open)
+line_full law verb.DoWhile =
+    both_full (expression_full law) (λ e. is_full (saying.DoWhile e)) (λ e. is_begins free_open)
 line_full law verb.EndDo = whole_full law verb.EndDo
 line_full law verb.Scan = both_full (form.scan_condition_full law) (λ e. is_full (saying.Scan e)) (λ e. end_begins)
 line_full law verb.EndScan = whole_full law verb.EndScan

@@ -133,7 +133,8 @@ line_sound law verb.Zap = whole_sound law verb.Zap
 line_sound law verb.Reindex = whole_sound law verb.Reindex
 line_sound law verb.Index = whole_sound law verb.Index
 
-ended_by : (s t : Saying) (a : At) (ws : List Word) (x : Bool) → is_nil ws ≡ x → (if x then fine s else failed (unexpected a)) ≡ Ok t → (s ≡ t) × (ws ≡ [])
+ended_by : (s t : Saying) (a : At) (ws : List Word) (x : Bool) → is_nil ws ≡ x
+    → (if x then fine s else failed (unexpected a)) ≡ Ok t → (s ≡ t) × (ws ≡ [])
 ended_by s t a [] true n h = (ok_same s t h, refl)
 ended_by s t a [] false n h = absurd (not_ok (unexpected a) t h)
 ended_by s t a (w ∷ ws) true n h = absurd (apart n)

@@ -1,9 +1,9 @@
 pub mod Act
+pub mod Alone
 pub mod Beginning
 pub mod Commands
 pub mod Forms
 pub mod Gives
 pub mod LineSays
-pub mod OneLine
 pub mod Saying
 pub mod Verbs

@@ -4,7 +4,7 @@ ghost use Rattle.std.specs.Prelude.{◌≡◌, ℕ, List, length, IfOk, Result, 
 ghost use Rattle.prg_expr.specs.Reading.{WordsGive};
 ghost use Rattle.prg_expr.specs.Word.{words as tokens_of};
 ghost use Rattle.prg_line.specs.LineSays.{LineSays};
-ghost use Rattle.prg_line.specs.OneLine as spec;
+ghost use Rattle.prg_line.specs.Alone as spec;
 ghost use Rattle.prg_line.specs.Saying.{Saying, role_of, saying_of};
 ghost use Rattle.prg_line.specs.Verbs.{ignores_rest};
 ghost use Rattle.prg_expr.specs.declared.fault.ParseFaultKind.{ParseFaultKind as AnyKind};
@@ -40,7 +40,7 @@ fn count(tokens: &[Token<'_>]) -> usize
 }
 
 /// Reads what the words of a command say, the first ones apart, in a line of so many words.
-#[tactic(auto, unfolding(crate::specs::OneLine::form))]
+#[tactic(auto, unfolding(crate::specs::Alone::form))]
 fn read_form(
     alloc: Global,
     verb: Verb,
@@ -84,7 +84,7 @@ fn told(form: Result<Sentence, FormFault>) -> Result<(Sentence, Option<ParseFaul
 /// # Errors
 ///
 /// Want of memory.
-#[tactic(auto, unfolding(crate::specs::OneLine::role_at, crate::specs::OneLine::fault_at, crate::specs::OneLine::saying_at))]
+#[tactic(auto, unfolding(crate::specs::Alone::role_at, crate::specs::Alone::fault_at, crate::specs::Alone::saying_at))]
 pub fn read_line(alloc: Global, text: &[u8]) -> Result<ReadLine, AllocError>
     // What the line is to the blocks around it.
     ensures role { IfOk result (λ read. read.role ≡ spec.role_at text.now) }

@@ -46,16 +46,19 @@ use Rattle.prg_parser.specs.Building.{part_of_block, awaited}
 use Rattle.prg_parser.specs.Layout.{lines_of_saying}
 
 -- one more at the end
-pub lines_more : {A : Type 0} (f : A → Lines) (xs : List A) (x : A) → all_of (map f (xs ++ x ∷ [])) ≡ all_of (map f xs) ++ f x
+pub lines_more : {A : Type 0} (f : A → Lines) (xs : List A) (x : A)
+    → all_of (map f (xs ++ x ∷ [])) ≡ all_of (map f xs) ++ f x
 lines_more f [] x = append-nil (f x)
-lines_more f (y ∷ xs) x = ap (λ (ls : Lines). f y ++ ls) (lines_more f xs x) ∙ sym (append_assoc (f y) (all_of (map f xs)) (f x))
+lines_more f (y ∷ xs) x =
+    ap (λ (ls : Lines). f y ++ ls) (lines_more f xs x) ∙ sym (append_assoc (f y) (all_of (map f xs)) (f x))
 
 pub innermost_last : (ps : List Part) (p : Part) → innermost (ps ++ p ∷ []) ≡ Some p
 innermost_last ps p =
     let n : length (ps ++ p ∷ []) ≡ length ps + 1 = length-append ps (p ∷ []) in
     let e : length (ps ++ p ∷ []) - 1 ≡ length ps = omega arith in
     let below : length ps < length (ps ++ p ∷ []) = omega arith in
-    ap (slice_get (ps ++ p ∷ [])) e ∙ slice_get-get_or (ps ++ p ∷ []) (length ps) p below ∙ ap Some (get_or-append_seam ps p [] p)
+    ap (slice_get (ps ++ p ∷ [])) e ∙ slice_get-get_or (ps ++ p ∷ []) (length ps) p below
+    ∙ ap Some (get_or-append_seam ps p [] p)
 
 pub outer_last : (ps : List Part) (p : Part) → outer (ps ++ p ∷ []) ≡ ps
 outer_last ps p =
@@ -68,7 +71,8 @@ passes true k o e = refl
 passes false k o e = cc
 
 -- a line without fault may stand where it does
-pub standing : (ps : List Part) (r : Role) → fault_of_place ps r ≡ None → may_stand r (option_map (λ part. part.place) (innermost ps)) ≡ true
+pub standing : (ps : List Part) (r : Role) → fault_of_place ps r ≡ None
+    → may_stand r (option_map (λ part. part.place) (innermost ps)) ≡ true
 unfolding fault_of_place
 standing ps r e = passes (may_stand r (option_map (λ part. part.place) (innermost ps))) _ _ e
 
@@ -126,19 +130,23 @@ after_leap ps n false = refl
 pub after_whole : (ps : List Part) (n : ℕ) (a : Act) → parts_after ps n (role_of (saying.Whole a)) ≡ ps
 after_whole ps n a = let w = whole_role a in ap (parts_after ps n) w.1 ∙ after_leap ps n w.0
 
-pub after_if : (ps : List Part) (n : ℕ) → parts_after ps n role.If ≡ ps ++ (record { place = place.InThen; line = n }) ∷ []
+pub after_if : (ps : List Part) (n : ℕ)
+    → parts_after ps n role.If ≡ ps ++ (record { place = place.InThen; line = n }) ∷ []
 unfolding parts_after
 after_if ps n = refl
 
-pub after_do_case : (ps : List Part) (n : ℕ) → parts_after ps n role.DoCase ≡ ps ++ (record { place = place.BeforeCases; line = n }) ∷ []
+pub after_do_case : (ps : List Part) (n : ℕ)
+    → parts_after ps n role.DoCase ≡ ps ++ (record { place = place.BeforeCases; line = n }) ∷ []
 unfolding parts_after
 after_do_case ps n = refl
 
-pub after_do_while : (ps : List Part) (n : ℕ) → parts_after ps n role.DoWhile ≡ ps ++ (record { place = place.InWhile; line = n }) ∷ []
+pub after_do_while : (ps : List Part) (n : ℕ)
+    → parts_after ps n role.DoWhile ≡ ps ++ (record { place = place.InWhile; line = n }) ∷ []
 unfolding parts_after
 after_do_while ps n = refl
 
-pub after_scan : (ps : List Part) (n : ℕ) → parts_after ps n role.Scan ≡ ps ++ (record { place = place.InScan; line = n }) ∷ []
+pub after_scan : (ps : List Part) (n : ℕ)
+    → parts_after ps n role.Scan ≡ ps ++ (record { place = place.InScan; line = n }) ∷ []
 unfolding parts_after
 after_scan ps n = refl
 
@@ -150,7 +158,8 @@ pub after_case : (ps : List Part) (n : ℕ) → parts_after ps n role.Case ≡ s
 unfolding parts_after
 after_case ps n = refl
 
-pub after_otherwise : (ps : List Part) (n : ℕ) → parts_after ps n role.Otherwise ≡ spec.divide_at ps (innermost ps) place.InOtherwise
+pub after_otherwise : (ps : List Part) (n : ℕ)
+    → parts_after ps n role.Otherwise ≡ spec.divide_at ps (innermost ps) place.InOtherwise
 unfolding parts_after
 after_otherwise ps n = refl
 
@@ -176,20 +185,28 @@ after_ending ps n (saying.Scan _) e = absurd cc
 after_ending ps n (saying.Procedure _) e = absurd cc
 
 -- the innermost part goes on as another one of its block
-pub divided_last : (ps : List Part) (p : Part) (next : Place) → spec.divide_at (ps ++ p ∷ []) (innermost (ps ++ p ∷ [])) next ≡ ps ++ (record { place = next; line = p.line }) ∷ []
+pub divided_last : (ps : List Part) (p : Part) (next : Place)
+    → spec.divide_at (ps ++ p ∷ []) (innermost (ps ++ p ∷ [])) next
+    ≡ ps ++ (record { place = next; line = p.line }) ∷ []
 divided_last ps p next =
     ap (λ (o : Option Part). spec.divide_at (ps ++ p ∷ []) o next) (innermost_last ps p)
     ∙ ap (λ (qs : List Part). qs ++ (record { place = next; line = p.line }) ∷ []) (outer_last ps p)
 
 -- where commands may stand, no CASE is awaited
-pub no_case : (ps : List Part) (c : Current) → spec.holds_commands (option_map (λ part. part.place) (innermost (ps ++ awaited c))) ≡ true → awaited c ≡ []
+pub no_case : (ps : List Part) (c : Current)
+    → spec.holds_commands (option_map (λ part. part.place) (innermost (ps ++ awaited c))) ≡ true → awaited c ≡ []
 no_case ps (Commands cs) e = refl
-no_case ps (DoCase n cs) e = let i = ap (λ (o : Option Part). spec.holds_commands (option_map (λ part. part.place) o)) (innermost_last ps (record { place = place.BeforeCases; line = n })) in cc
+no_case ps (DoCase n cs) e =
+    let i = ap (λ (o : Option Part). spec.holds_commands (option_map (λ part. part.place) o))
+    (innermost_last ps (record { place = place.BeforeCases; line = n })) in cc
 
 -- behind IF no CASE is awaited
-pub no_case_then : (ps : List Part) (c : Current) → spec.is_then (option_map (λ part. part.place) (innermost (ps ++ awaited c))) ≡ true → awaited c ≡ []
+pub no_case_then : (ps : List Part) (c : Current)
+    → spec.is_then (option_map (λ part. part.place) (innermost (ps ++ awaited c))) ≡ true → awaited c ≡ []
 no_case_then ps (Commands cs) e = refl
-no_case_then ps (DoCase n cs) e = let i = ap (λ (o : Option Part). spec.is_then (option_map (λ part. part.place) o)) (innermost_last ps (record { place = place.BeforeCases; line = n })) in cc
+no_case_then ps (DoCase n cs) e =
+    let i = ap (λ (o : Option Part). spec.is_then (option_map (λ part. part.place) o))
+    (innermost_last ps (record { place = place.BeforeCases; line = n })) in cc
 
 pub then_open : (h : Open) → spec.is_then (Some (place_of_open h)) ≡ true → place_of_open h ≡ place.InThen
 then_open (begun.Then _) e = refl
@@ -240,7 +257,8 @@ ends_scan (begun.While _) e = cc
 ends_scan (begun.Scan _) e = refl
 
 -- what ends a block where it may stand is the block's ending
-pub ending_said : (h : Open) (s : Saying) (n : ℕ) → is_ending s ≡ true → may_stand (role_of s) (Some (place_of_open h)) ≡ true → lines_of_saying n s ≡ line n (block_ending h) ∷ []
+pub ending_said : (h : Open) (s : Saying) (n : ℕ) → is_ending s ≡ true
+    → may_stand (role_of s) (Some (place_of_open h)) ≡ true → lines_of_saying n s ≡ line n (block_ending h) ∷ []
 ending_said h saying.Nothing n e m = absurd cc
 ending_said h (saying.Whole _) n e m = absurd cc
 ending_said h (saying.If _) n e m = absurd cc
@@ -257,7 +275,8 @@ ending_said h saying.EndScan n e m = ap (λ s. line n s ∷ []) (sym (ends_scan 
 ending_said h (saying.Procedure _) n e m = absurd cc
 
 -- behind DO CASE only ENDCASE ends the block
-pub choice_ending : (s : Saying) (n : ℕ) → is_ending s ≡ true → may_stand (role_of s) (Some place.BeforeCases) ≡ true → lines_of_saying n s ≡ line n saying.EndCase ∷ []
+pub choice_ending : (s : Saying) (n : ℕ) → is_ending s ≡ true → may_stand (role_of s) (Some place.BeforeCases) ≡ true
+    → lines_of_saying n s ≡ line n saying.EndCase ∷ []
 choice_ending saying.Nothing n e m = absurd cc
 choice_ending (saying.Whole _) n e m = absurd cc
 choice_ending (saying.If _) n e m = absurd cc
@@ -275,11 +294,15 @@ choice_ending (saying.Procedure _) n e m = absurd cc
 
 -- one more at the end, with these lines
 -- the lines of a list, and of one more behind it
-pub put_by : {A : Type 0} (all : List A → Lines) (f : A → Lines) → ((xs : List A) (x : A) → all (xs ++ x ∷ []) ≡ all xs ++ f x) → (xs ys : List A) (x : A) (ls : Lines) → ys ≡ xs ++ x ∷ [] → f x ≡ ls → all ys ≡ all xs ++ ls
+pub put_by : {A : Type 0} (all : List A → Lines) (f : A → Lines)
+    → ((xs : List A) (x : A) → all (xs ++ x ∷ []) ≡ all xs ++ f x) → (xs ys : List A) (x : A) (ls : Lines)
+    → ys ≡ xs ++ x ∷ [] → f x ≡ ls → all ys ≡ all xs ++ ls
 put_by all f more xs ys x ls e l = ap all e ∙ more xs x ∙ ap (λ (behind : Lines). all xs ++ behind) l
 
-pub put_more : {A : Type 0} (f : A → Lines) (xs ys : List A) (x : A) (ls : Lines) → ys ≡ xs ++ x ∷ [] → f x ≡ ls → all_of (map f ys) ≡ all_of (map f xs) ++ ls
-put_more f xs ys x ls e l = ap (λ zs. all_of (map f zs)) e ∙ lines_more f xs x ∙ ap (λ more. all_of (map f xs) ++ more) l
+pub put_more : {A : Type 0} (f : A → Lines) (xs ys : List A) (x : A) (ls : Lines) → ys ≡ xs ++ x ∷ [] → f x ≡ ls
+    → all_of (map f ys) ≡ all_of (map f xs) ++ ls
+put_more f xs ys x ls e l =
+    ap (λ zs. all_of (map f zs)) e ∙ lines_more f xs x ∙ ap (λ more. all_of (map f xs) ++ more) l
 
 -- what is built grows by these lines
 pub grown : (f o c p d more : Lines) → p ++ d ≡ (o ++ c) ++ more → f ++ (p ++ d) ≡ (f ++ (o ++ c)) ++ more
@@ -293,46 +316,65 @@ regrouped : (o b h t e : Lines) → o ++ (b ++ (h ++ (t ++ e))) ≡ ((o ++ (b ++
 regrouped o b h t e = simp append_assoc
 
 -- another part of the innermost block
-pub divided_lines : (n o p b c d h g t e : Lines) → p ≡ n ++ (b ++ g) → d ≡ [] → o ≡ n ++ (b ++ h) → c ≡ t → g ≡ h ++ (t ++ e) → p ++ d ≡ (o ++ c) ++ e
-divided_lines n o p b c d h g t e ep ed eo ec eg = rw (ep, ed, eo, ec, eg) (append-nil (n ++ (b ++ (h ++ (t ++ e)))) ∙ regrouped n b h t e)
+pub divided_lines : (n o p b c d h g t e : Lines) → p ≡ n ++ (b ++ g) → d ≡ [] → o ≡ n ++ (b ++ h) → c ≡ t
+    → g ≡ h ++ (t ++ e) → p ++ d ≡ (o ++ c) ++ e
+divided_lines n o p b c d h g t e ep ed eo ec eg =
+    rw (ep, ed, eo, ec, eg) (append-nil (n ++ (b ++ (h ++ (t ++ e)))) ∙ regrouped n b h t e)
 
 regrouped_choice : (n b x e : Lines) → n ++ (b ++ (x ++ e)) ≡ (n ++ (b ++ x)) ++ e
 regrouped_choice n b x e = simp append_assoc
 
 -- another part of the innermost DO CASE
-pub chosen_lines : (n p b d g x e all : Lines) → p ≡ n ++ (b ++ g) → d ≡ [] → all ≡ n ++ (b ++ x) → g ≡ x ++ e → p ++ d ≡ all ++ e
-chosen_lines n p b d g x e all ep ed ea eg = rw (ep, ed, ea, eg) (append-nil (n ++ (b ++ (x ++ e))) ∙ regrouped_choice n b x e)
+pub chosen_lines : (n p b d g x e all : Lines) → p ≡ n ++ (b ++ g) → d ≡ [] → all ≡ n ++ (b ++ x) → g ≡ x ++ e
+    → p ++ d ≡ all ++ e
+chosen_lines n p b d g x e all ep ed ea eg =
+    rw (ep, ed, ea, eg) (append-nil (n ++ (b ++ (x ++ e))) ∙ regrouped_choice n b x e)
 
 -- the innermost block ends
-pub ended_lines : (n o p b h t e form : Lines) → p ≡ b ++ form → form ≡ h ++ (t ++ e) → o ≡ n ++ (b ++ h) → n ++ p ≡ (o ++ t) ++ e
+pub ended_lines : (n o p b h t e form : Lines) → p ≡ b ++ form → form ≡ h ++ (t ++ e) → o ≡ n ++ (b ++ h)
+    → n ++ p ≡ (o ++ t) ++ e
 ended_lines n o p b h t e form ep ef eo = rw (ep, ef, eo) (regrouped n b h t e)
 
-pub part_more : (bs cs : List OpenBlock) (b : OpenBlock) → cs ≡ bs ++ b ∷ [] → map part_of_block cs ≡ map part_of_block bs ++ part_of_block b ∷ []
+pub part_more : (bs cs : List OpenBlock) (b : OpenBlock) → cs ≡ bs ++ b ∷ []
+    → map part_of_block cs ≡ map part_of_block bs ++ part_of_block b ∷ []
 part_more bs cs b e = ap (map part_of_block) e ∙ map-append part_of_block bs (b ∷ [])
 
-pub parts_here : (bs cs : List OpenBlock) (b : OpenBlock) (others : List Part) → cs ≡ bs ++ b ∷ [] → others ≡ [] → map part_of_block cs ++ others ≡ map part_of_block bs ++ part_of_block b ∷ []
-parts_here bs cs b others e n = ap (λ (ps : List Part). map part_of_block cs ++ ps) n ∙ append-nil (map part_of_block cs) ∙ part_more bs cs b e
+pub parts_here : (bs cs : List OpenBlock) (b : OpenBlock) (others : List Part) → cs ≡ bs ++ b ∷ [] → others ≡ []
+    → map part_of_block cs ++ others ≡ map part_of_block bs ++ part_of_block b ∷ []
+parts_here bs cs b others e n =
+    ap (λ (ps : List Part). map part_of_block cs ++ ps) n ∙ append-nil (map part_of_block cs) ∙ part_more bs cs b e
 
-pub inner_here : (bs cs : List OpenBlock) (b : OpenBlock) (others : List Part) → cs ≡ bs ++ b ∷ [] → others ≡ [] → innermost (map part_of_block cs ++ others) ≡ Some (part_of_block b)
-inner_here bs cs b others e n = ap innermost (parts_here bs cs b others e n) ∙ innermost_last (map part_of_block bs) (part_of_block b)
+pub inner_here : (bs cs : List OpenBlock) (b : OpenBlock) (others : List Part) → cs ≡ bs ++ b ∷ [] → others ≡ []
+    → innermost (map part_of_block cs ++ others) ≡ Some (part_of_block b)
+inner_here bs cs b others e n =
+    ap innermost (parts_here bs cs b others e n) ∙ innermost_last (map part_of_block bs) (part_of_block b)
 
-pub part_opened : (bs cs : List OpenBlock) (b : OpenBlock) (others : List Part) → cs ≡ bs ++ b ∷ [] → others ≡ [] → map part_of_block cs ++ [] ≡ (map part_of_block bs ++ others) ++ part_of_block b ∷ []
-part_opened bs cs b others e n = append-nil (map part_of_block cs) ∙ part_more bs cs b e ∙ sym (ap (λ (ps : List Part). ps ++ part_of_block b ∷ []) (ap (λ (ps : List Part). map part_of_block bs ++ ps) n ∙ append-nil (map part_of_block bs)))
+pub part_opened : (bs cs : List OpenBlock) (b : OpenBlock) (others : List Part) → cs ≡ bs ++ b ∷ [] → others ≡ []
+    → map part_of_block cs ++ [] ≡ (map part_of_block bs ++ others) ++ part_of_block b ∷ []
+part_opened bs cs b others e n =
+    append-nil (map part_of_block cs) ∙ part_more bs cs b e
+    ∙ sym (ap (λ (ps : List Part). ps ++ part_of_block b ∷ [])
+    (ap (λ (ps : List Part). map part_of_block bs ++ ps) n ∙ append-nil (map part_of_block bs)))
 
 pub part_awaited : (ps others : List Part) (p : Part) → others ≡ [] → ps ++ p ∷ [] ≡ (ps ++ others) ++ p ∷ []
-part_awaited ps others p n = sym (ap (λ (qs : List Part). qs ++ p ∷ []) (ap (λ (qs : List Part). ps ++ qs) n ∙ append-nil ps))
+part_awaited ps others p n =
+    sym (ap (λ (qs : List Part). qs ++ p ∷ []) (ap (λ (qs : List Part). ps ++ qs) n ∙ append-nil ps))
 
 -- the innermost block goes on with another part
-pub parts_divided : (n bs cs : List OpenBlock) (b c : OpenBlock) (others : List Part) (next : Place) → bs ≡ n ++ b ∷ [] → others ≡ [] → cs ≡ n ++ c ∷ [] → place_of_open c.head ≡ next → c.line ≡ b.line
-    → map part_of_block cs ++ [] ≡ spec.divide_at (map part_of_block bs ++ others) (innermost (map part_of_block bs ++ others)) next
+pub parts_divided : (n bs cs : List OpenBlock) (b c : OpenBlock) (others : List Part) (next : Place) → bs ≡ n ++ b ∷ []
+    → others ≡ [] → cs ≡ n ++ c ∷ [] → place_of_open c.head ≡ next → c.line ≡ b.line
+    → map part_of_block cs ++ []
+    ≡ spec.divide_at (map part_of_block bs ++ others) (innermost (map part_of_block bs ++ others)) next
 parts_divided n bs cs b c others next e o f p l =
     append-nil (map part_of_block cs) ∙ part_more n cs c f
     ∙ ap (λ (q : Place). map part_of_block n ++ (record { place = q; line = c.line }) ∷ []) p
     ∙ ap (λ (k : ℕ). map part_of_block n ++ (record { place = next; line = k }) ∷ []) l
-    ∙ sym (ap (λ (ps : List Part). spec.divide_at ps (innermost ps) next) (parts_here n bs b others e o) ∙ divided_last (map part_of_block n) (part_of_block b) next)
+    ∙ sym (ap (λ (ps : List Part). spec.divide_at ps (innermost ps) next) (parts_here n bs b others e o) ∙ divided_last
+    (map part_of_block n) (part_of_block b) next)
 
 -- where no block is open
-pub none_open : (test : Option Place → Bool) → test None ≡ false → (ps others : List Part) → ps ≡ [] → others ≡ [] → test (option_map (λ part. part.place) (innermost (ps ++ others))) ≡ true → ⊥
+pub none_open : (test : Option Place → Bool) → test None ≡ false → (ps others : List Part) → ps ≡ [] → others ≡ []
+    → test (option_map (λ part. part.place) (innermost (ps ++ others))) ≡ true → ⊥
 none_open test f [] [] e o t = cc
 none_open test f [] (q ∷ qs) e o t = cc
 none_open test f (p ∷ ps) others e o t = cc
@@ -350,145 +392,226 @@ map_nil f [] e = refl
 map_nil f (x ∷ xs) e = cc
 
 -- a command of one line was taken
-pub whole_stands : (ps : List Part) (a : Act) → fault_of_place ps (role_of (saying.Whole a)) ≡ None → spec.holds_commands (option_map (λ part. part.place) (innermost ps)) ≡ true
+pub whole_stands : (ps : List Part) (a : Act) → fault_of_place ps (role_of (saying.Whole a)) ≡ None
+    → spec.holds_commands (option_map (λ part. part.place) (innermost ps)) ≡ true
 whole_stands ps a e = let w = whole_role a in stands w.0 (ap (fault_of_place ps) (sym w.1) ∙ e)
   where
-    stands : (b : Bool) → fault_of_place ps (if b then role.Leap else role.Plain) ≡ None → spec.holds_commands (option_map (λ part. part.place) (innermost ps)) ≡ true
+    stands : (b : Bool) → fault_of_place ps (if b then role.Leap else role.Plain) ≡ None
+        → spec.holds_commands (option_map (λ part. part.place) (innermost ps)) ≡ true
     stands true e = standing ps role.Leap e
     stands false e = standing ps role.Plain e
 
-pub whole_took : {E : Type 0} (b : Builder) (n : ℕ) (s : Single) (r : Result Builder E) → fault_of_place (built_parts b) (role_of (saying.Whole (act_of s))) ≡ None
-    → (awaited b.current ≡ [] → IfOk r (λ c. (built_lines c ≡ built_lines b ++ form_lines (Statement s) n) × (built_parts c ≡ built_parts b)))
+pub whole_took : {E : Type 0} (b : Builder) (n : ℕ) (s : Single) (r : Result Builder E)
+    → fault_of_place (built_parts b) (role_of (saying.Whole (act_of s))) ≡ None
+    → (awaited b.current ≡ []
+    → IfOk r (λ c. (built_lines c ≡ built_lines b ++ form_lines (Statement s) n) × (built_parts c ≡ built_parts b)))
     → IfOk r (Took b n (saying.Whole (act_of s)))
 whole_took b n s (Ok c) e h =
-    let w : (built_lines c ≡ built_lines b ++ form_lines (Statement s) n) × (built_parts c ≡ built_parts b) = h (no_case (map part_of_block b.blocks.items) b.current (whole_stands (built_parts b) (act_of s) e)) in
-    record { lines = w.0 ∙ ap (λ (ls : Lines). built_lines b ++ ls) (form_statement s n); parts = w.1 ∙ sym (after_whole (built_parts b) n (act_of s)) }
+    let w : (built_lines c ≡ built_lines b ++ form_lines (Statement s) n) × (built_parts c ≡ built_parts b) =
+    h (no_case (map part_of_block b.blocks.items) b.current (whole_stands (built_parts b) (act_of s) e)) in
+    record {
+      lines = w.0 ∙ ap (λ (ls : Lines). built_lines b ++ ls) (form_statement s n);
+      parts = w.1 ∙ sym (after_whole (built_parts b) n (act_of s));
+    }
 whole_took b n s (Err x) e h = tt
 
 -- a line that opens a block was taken
-pub open_took : {E : Type 0} (b : Builder) (n : ℕ) (h : Open) (s : Saying) (r : Result Builder E) → spec.holds_commands (option_map (λ part. part.place) (innermost (built_parts b))) ≡ true
-    → lines_of_saying n s ≡ head_lines n h → parts_after (built_parts b) n (role_of s) ≡ built_parts b ++ (record { place = place_of_open h; line = n }) ∷ []
-    → (awaited b.current ≡ [] → IfOk r (λ c. (built_lines c ≡ built_lines b ++ head_lines n h) × (built_parts c ≡ built_parts b ++ (record { place = place_of_open h; line = n }) ∷ [])))
+pub open_took : {E : Type 0} (b : Builder) (n : ℕ) (h : Open) (s : Saying) (r : Result Builder E)
+    → spec.holds_commands (option_map (λ part. part.place) (innermost (built_parts b))) ≡ true
+    → lines_of_saying n s ≡ head_lines n h
+    → parts_after (built_parts b) n (role_of s)
+    ≡ built_parts b ++ (record { place = place_of_open h; line = n }) ∷ []
+    → (awaited b.current ≡ []
+    → IfOk r
+    (λ c. (built_lines c ≡ built_lines b ++ head_lines n h)
+    × (built_parts c ≡ built_parts b ++ (record { place = place_of_open h; line = n }) ∷ [])))
     → IfOk r (Took b n s)
 open_took b n h s (Ok c) m e p k =
-    let w : (built_lines c ≡ built_lines b ++ head_lines n h) × (built_parts c ≡ built_parts b ++ (record { place = place_of_open h; line = n }) ∷ []) = k (no_case (map part_of_block b.blocks.items) b.current m) in
+    let w : (built_lines c ≡ built_lines b ++ head_lines n h)
+    × (built_parts c ≡ built_parts b ++ (record { place = place_of_open h; line = n }) ∷ []) = k
+    (no_case (map part_of_block b.blocks.items) b.current m) in
     record { lines = w.0 ∙ ap (λ (ls : Lines). built_lines b ++ ls) (sym e); parts = w.1 ∙ sym p }
 open_took b n h s (Err x) m e p k = tt
 
 -- the contract of a line that is taken
 abbrev pub Takes : {E : Type 0} → Builder → ℕ → Result Builder E → Sentence → Type 0
-Takes b n r s = fault_of_place (built_parts b) (role_of (saying_of s)) ≡ None → (spec.begins_procedure (role_of (saying_of s)) ≡ true → built_parts b ≡ []) → IfOk r (Took b n (saying_of s))
+Takes b n r s =
+    fault_of_place (built_parts b) (role_of (saying_of s)) ≡ None
+    → (spec.begins_procedure (role_of (saying_of s)) ≡ true → built_parts b ≡ []) → IfOk r (Took b n (saying_of s))
 
 pub nothing_took : (b : Builder) (n : ℕ) (s : Sentence) → s ≡ sentence.Nothing
-    → fault_of_place (built_parts b) (role_of (saying_of s)) ≡ None → (spec.begins_procedure (role_of (saying_of s)) ≡ true → built_parts b ≡ []) → Took b n (saying_of s) b
-nothing_took b n s i e p = subst (λ (t : Sentence). Took b n (saying_of t) b) (sym i) (record { lines = sym (append-nil (built_lines b)); parts = sym (after_nothing (built_parts b) n) })
+    → fault_of_place (built_parts b) (role_of (saying_of s)) ≡ None
+    → (spec.begins_procedure (role_of (saying_of s)) ≡ true → built_parts b ≡ []) → Took b n (saying_of s) b
+nothing_took b n s i e p =
+    subst (λ (t : Sentence). Took b n (saying_of t) b) (sym i)
+    (record { lines = sym (append-nil (built_lines b)); parts = sym (after_nothing (built_parts b) n) })
 
-pub choice_took : (b : Builder) (n : ℕ) (s : Sentence) (c : Builder) → s ≡ sentence.DoCase → (awaited b.current ≡ [] → Took b n saying.DoCase c)
-    → fault_of_place (built_parts b) (role_of (saying_of s)) ≡ None → (spec.begins_procedure (role_of (saying_of s)) ≡ true → built_parts b ≡ []) → Took b n (saying_of s) c
+pub choice_took : (b : Builder) (n : ℕ) (s : Sentence) (c : Builder) → s ≡ sentence.DoCase
+    → (awaited b.current ≡ [] → Took b n saying.DoCase c)
+    → fault_of_place (built_parts b) (role_of (saying_of s)) ≡ None
+    → (spec.begins_procedure (role_of (saying_of s)) ≡ true → built_parts b ≡ []) → Took b n (saying_of s) c
 choice_took b n s c i h e p =
     subst (λ (t : Sentence). Took b n (saying_of t) c) (sym i)
-    (h (no_case (map part_of_block b.blocks.items) b.current (standing (built_parts b) role.DoCase (subst (λ (t : Sentence). fault_of_place (built_parts b) (role_of (saying_of t)) ≡ None) i e))))
+    (h (no_case (map part_of_block b.blocks.items) b.current
+    (standing (built_parts b) role.DoCase
+    (subst (λ (t : Sentence). fault_of_place (built_parts b) (role_of (saying_of t)) ≡ None) i e))))
 
 pub last_case : (n o b h t x : Lines) → o ≡ n ++ (b ++ h) → h ++ t ≡ x → o ++ t ≡ n ++ (b ++ x)
 last_case n o b h t x eo ex = rw (eo, ← ex) (simp append_assoc)
 
-pub choice_behind : {E : Type 0} (bs : Vec OpenBlock Global) (current : Current) (body : Vec Command Global) (r : Result Choice E) → current ≡ Commands body
+pub choice_behind : {E : Type 0} (bs : Vec OpenBlock Global) (current : Current) (body : Vec Command Global)
+    (r : Result Choice E) → current ≡ Commands body
     → (spec.takes_cases (option_map (λ part. part.place) (innermost (map part_of_block bs.items))) ≡ true
-    → IfOk r (λ c. (opens_lines bs.items ++ body_lines body.items ≡ opens_lines c.blocks.items ++ (body_lines c.before.items ++ line c.line saying.DoCase ∷ cases_lines c.cases.items))
-    × ((next : Place) → spec.divide_at (map part_of_block bs.items) (innermost (map part_of_block bs.items)) next ≡ map part_of_block c.blocks.items ++ (record { place = next; line = c.line }) ∷ [])))
-    → spec.takes_cases (option_map (λ part. part.place) (innermost (map part_of_block bs.items ++ awaited current))) ≡ true
+    → IfOk r
+    (λ c. (opens_lines bs.items ++ body_lines body.items ≡ opens_lines c.blocks.items
+    ++ (body_lines c.before.items ++ line c.line saying.DoCase ∷ cases_lines c.cases.items))
+    × ((next : Place) → spec.divide_at (map part_of_block bs.items) (innermost (map part_of_block bs.items)) next ≡ map
+    part_of_block c.blocks.items ++ (record { place = next; line = c.line }) ∷ [])))
+    → spec.takes_cases (option_map (λ part. part.place) (innermost (map part_of_block bs.items ++ awaited current)))
+    ≡ true
     → IfOk r (IsChoice bs current)
 choice_behind bs current body (Err x) i h t = tt
 choice_behind bs current body (Ok c) i h t =
-    let p : map part_of_block bs.items ++ awaited current ≡ map part_of_block bs.items = ap (λ (k : Current). map part_of_block bs.items ++ awaited k) i ∙ append-nil (map part_of_block bs.items) in
-    let w : (opens_lines bs.items ++ body_lines body.items ≡ opens_lines c.blocks.items ++ (body_lines c.before.items ++ line c.line saying.DoCase ∷ cases_lines c.cases.items))
-    × ((next : Place) → spec.divide_at (map part_of_block bs.items) (innermost (map part_of_block bs.items)) next ≡ map part_of_block c.blocks.items ++ (record { place = next; line = c.line }) ∷ [])
+    let p : map part_of_block bs.items ++ awaited current ≡ map part_of_block bs.items =
+    ap (λ (k : Current). map part_of_block bs.items ++ awaited k) i ∙ append-nil (map part_of_block bs.items) in
+    let w : (opens_lines bs.items ++ body_lines body.items ≡ opens_lines c.blocks.items
+    ++ (body_lines c.before.items ++ line c.line saying.DoCase ∷ cases_lines c.cases.items))
+    × ((next : Place) → spec.divide_at (map part_of_block bs.items) (innermost (map part_of_block bs.items)) next ≡ map
+    part_of_block c.blocks.items ++ (record { place = next; line = c.line }) ∷ [])
     = h (ap (λ (ps : List Part). spec.takes_cases (option_map (λ part. part.place) (innermost ps))) (sym p) ∙ t) in
     record {
       lines = ap (λ (k : Current). opens_lines bs.items ++ current_lines k) i ∙ w.0;
       parts = λ next. ap (λ (ps : List Part). spec.divide_at ps (innermost ps) next) p ∙ w.1 next;
     }
 
-pub choice_first : (bs : Vec OpenBlock Global) (current : Current) (n : ℕ) (before : Vec Command Global) (cases : Vec Case Global) → current ≡ DoCase n before → cases.items ≡ []
+pub choice_first : (bs : Vec OpenBlock Global) (current : Current) (n : ℕ) (before : Vec Command Global)
+    (cases : Vec Case Global) → current ≡ DoCase n before → cases.items ≡ []
     → IsChoice bs current (record { blocks = bs; line = n; cases = cases; before = before })
 choice_first bs current n before cases i e = record {
-  lines = ap (λ (k : Current). opens_lines bs.items ++ current_lines k) i ∙ ap (λ (cs : List Case). opens_lines bs.items ++ (body_lines before.items ++ line n saying.DoCase ∷ cases_lines cs)) (sym e);
-  parts = λ next. ap (λ (k : Current). spec.divide_at (map part_of_block bs.items ++ awaited k) (innermost (map part_of_block bs.items ++ awaited k)) next) i
+  lines =
+      ap (λ (k : Current). opens_lines bs.items ++ current_lines k) i
+      ∙ ap (λ (cs : List Case). opens_lines bs.items
+      ++ (body_lines before.items ++ line n saying.DoCase ∷ cases_lines cs)) (sym e);
+  parts =
+      λ next. ap (λ (k : Current). spec.divide_at (map part_of_block bs.items ++ awaited k)
+      (innermost (map part_of_block bs.items ++ awaited k)) next) i
       ∙ divided_last (map part_of_block bs.items) (record { place = place.BeforeCases; line = n }) next;
 }
 
 regrouped_procedure : (m p l b : Lines) → m ++ (p ++ (l ++ b)) ≡ ((m ++ p) ++ l) ++ b
 regrouped_procedure m p l b = simp append_assoc
 
-pub procedure_ended : (f : Finished) (main : Vec Command Global) (procedures others : Vec Procedure Global) (n : ℕ) (name : ArrayVec ℕ) (body : Vec Command Global) → f ≡ Main main procedures n name
+pub procedure_ended : (f : Finished) (main : Vec Command Global) (procedures others : Vec Procedure Global) (n : ℕ)
+    (name : ArrayVec ℕ) (body : Vec Command Global) → f ≡ Main main procedures n name
     → others.items ≡ procedures.items ++ (record { line = n; name = name; body = body }) ∷ []
     → body_lines main.items ++ procedures_lines others.items ≡ finished_lines f ++ body_lines body.items
 procedure_ended f main procedures others n name body i e =
-    ap (λ (ls : Lines). body_lines main.items ++ ls) (put_by procedures_lines procedure_lines procedures_more procedures.items others.items (record { line = n; name = name; body = body }) (line n (saying.Procedure name.items) ∷ body_lines body.items) e refl)
-    ∙ regrouped_procedure (body_lines main.items) (procedures_lines procedures.items) (line n (saying.Procedure name.items) ∷ []) (body_lines body.items)
+    ap (λ (ls : Lines). body_lines main.items ++ ls)
+    (put_by procedures_lines procedure_lines procedures_more procedures.items others.items
+    (record { line = n; name = name; body = body }) (line n (saying.Procedure name.items) ∷ body_lines body.items) e
+    refl)
+    ∙ regrouped_procedure (body_lines main.items) (procedures_lines procedures.items)
+    (line n (saying.Procedure name.items) ∷ []) (body_lines body.items)
     ∙ ap (λ (g : Finished). finished_lines g ++ body_lines body.items) (sym i)
 
-pub all_finished : {E : Type 0} (b : Builder) (body : Vec Command Global) (r : Result Program E) → built_parts b ≡ [] → (awaited b.current ≡ [] → current_lines b.current ≡ body_lines body.items)
-    → IfOk r (λ p. program_lines p ≡ finished_lines b.finished ++ body_lines body.items) → IfOk r (λ p. program_lines p ≡ built_lines b)
+pub all_finished : {E : Type 0} (b : Builder) (body : Vec Command Global) (r : Result Program E) → built_parts b ≡ []
+    → (awaited b.current ≡ [] → current_lines b.current ≡ body_lines body.items)
+    → IfOk r (λ p. program_lines p ≡ finished_lines b.finished ++ body_lines body.items)
+    → IfOk r (λ p. program_lines p ≡ built_lines b)
 all_finished b body (Err x) e h k = tt
 all_finished b body (Ok p) e h k =
-    let none : b.blocks.items ≡ [] = map_nil part_of_block b.blocks.items (left_nil (map part_of_block b.blocks.items) (awaited b.current) e) in
-    let same : current_lines b.current ≡ body_lines body.items = h (right_nil (map part_of_block b.blocks.items) (awaited b.current) e) in
-    k ∙ ap (λ (ls : Lines). finished_lines b.finished ++ ls) (sym same) ∙ ap (λ (bs : List OpenBlock). finished_lines b.finished ++ (opens_lines bs ++ current_lines b.current)) (sym none)
+    let none : b.blocks.items ≡ [] =
+    map_nil part_of_block b.blocks.items (left_nil (map part_of_block b.blocks.items) (awaited b.current) e) in
+    let same : current_lines b.current ≡ body_lines body.items =
+    h (right_nil (map part_of_block b.blocks.items) (awaited b.current) e) in
+    k ∙ ap (λ (ls : Lines). finished_lines b.finished ++ ls) (sym same)
+    ∙ ap (λ (bs : List OpenBlock). finished_lines b.finished ++ (opens_lines bs ++ current_lines b.current))
+    (sym none)
 
 pub started : (p b o c l : Lines) → p ≡ b → o ≡ [] → c ≡ [] → (p ++ l) ++ (o ++ c) ≡ b ++ l
 started p b o c l ep eo ec = rw (ep, eo, ec) (append-nil (b ++ l))
 
 -- the innermost block was ended
-pub block_ended : {E : Type 0} (bs n : Vec OpenBlock Global) (b : OpenBlock) (body : Vec Command Global) (end : ℕ) (s : Saying) (f : Form) (r : Result (Vec Command Global) E) → bs.items ≡ n.items ++ b ∷ []
-    → is_ending s ≡ true → may_stand (role_of s) (option_map (λ part. part.place) (innermost (map part_of_block bs.items))) ≡ true
+pub block_ended : {E : Type 0} (bs n : Vec OpenBlock Global) (b : OpenBlock) (body : Vec Command Global) (end : ℕ)
+    (s : Saying) (f : Form) (r : Result (Vec Command Global) E) → bs.items ≡ n.items ++ b ∷ []
+    → is_ending s ≡ true
+    → may_stand (role_of s) (option_map (λ part. part.place) (innermost (map part_of_block bs.items))) ≡ true
     → ((k : ℕ) → form_lines f k ≡ head_lines k b.head ++ (body_lines body.items ++ line end (block_ending b.head) ∷ []))
     → IfOk r (λ cs. body_lines cs.items ≡ body_lines b.before.items ++ form_lines f b.line)
-    → IfOk r (λ cs. (opens_lines n.items ++ body_lines cs.items ≡ (opens_lines bs.items ++ body_lines body.items) ++ lines_of_saying end s)
+    → IfOk r
+    (λ cs. (opens_lines n.items ++ body_lines cs.items ≡ (opens_lines bs.items ++ body_lines body.items)
+    ++ lines_of_saying end s)
     × (map part_of_block n.items ≡ outer (map part_of_block bs.items)))
 block_ended bs n b body end s f (Err x) o e m g h = tt
 block_ended bs n b body end s f (Ok cs) o e m g h =
     let p = part_more n.items bs.items b o in
     let i = ap innermost p ∙ innermost_last (map part_of_block n.items) (part_of_block b) in
-    let w = ending_said b.head s end e (ap (λ (x : Option Part). may_stand (role_of s) (option_map (λ part. part.place) x)) (sym i) ∙ m) in (
-      ended_lines (opens_lines n.items) (opens_lines bs.items) (body_lines cs.items) (body_lines b.before.items) (head_lines b.line b.head) (body_lines body.items) (lines_of_saying end s) (form_lines f b.line)
+    let w =
+    ending_said b.head s end e (ap (λ (x : Option Part). may_stand (role_of s) (option_map (λ part. part.place) x))
+    (sym i) ∙ m) in (
+      ended_lines (opens_lines n.items) (opens_lines bs.items) (body_lines cs.items) (body_lines b.before.items)
+          (head_lines b.line b.head) (body_lines body.items) (lines_of_saying end s) (form_lines f b.line)
           h (g b.line ∙ ap (λ (ls : Lines). head_lines b.line b.head ++ (body_lines body.items ++ ls)) (sym w))
           (put_more open_lines n.items bs.items b (body_lines b.before.items ++ head_lines b.line b.head) o refl),
       sym (ap outer p ∙ outer_last (map part_of_block n.items) (part_of_block b)),
     )
 
 -- an ending line was taken, behind commands
-pub ended_last : (b : Builder) (bs : Vec OpenBlock Global) (body commands : Vec Command Global) (n : ℕ) (s : Saying) → b.current ≡ Commands body → is_ending s ≡ true → fault_of_place (built_parts b) (role_of s) ≡ None
+pub ended_last : (b : Builder) (bs : Vec OpenBlock Global) (body commands : Vec Command Global) (n : ℕ) (s : Saying)
+    → b.current ≡ Commands body → is_ending s ≡ true → fault_of_place (built_parts b) (role_of s) ≡ None
     → (may_stand (role_of s) (option_map (λ part. part.place) (innermost (map part_of_block b.blocks.items))) ≡ true
-    → (opens_lines bs.items ++ body_lines commands.items ≡ (opens_lines b.blocks.items ++ body_lines body.items) ++ lines_of_saying n s) × (map part_of_block bs.items ≡ outer (map part_of_block b.blocks.items)))
+    → (opens_lines bs.items ++ body_lines commands.items
+    ≡ (opens_lines b.blocks.items ++ body_lines body.items) ++ lines_of_saying n s)
+    × (map part_of_block bs.items ≡ outer (map part_of_block b.blocks.items)))
     → Took b n s (record { alloc = b.alloc; finished = b.finished; blocks = bs; current = Commands commands })
 ended_last b bs body commands n s i e f h =
-    let p : built_parts b ≡ map part_of_block b.blocks.items = ap (λ (k : Current). map part_of_block b.blocks.items ++ awaited k) i ∙ append-nil (map part_of_block b.blocks.items) in
-    let w : (opens_lines bs.items ++ body_lines commands.items ≡ (opens_lines b.blocks.items ++ body_lines body.items) ++ lines_of_saying n s) × (map part_of_block bs.items ≡ outer (map part_of_block b.blocks.items))
-    = h (ap (λ (ps : List Part). may_stand (role_of s) (option_map (λ part. part.place) (innermost ps))) (sym p) ∙ standing (built_parts b) (role_of s) f) in
+    let p : built_parts b ≡ map part_of_block b.blocks.items =
+    ap (λ (k : Current). map part_of_block b.blocks.items ++ awaited k) i
+    ∙ append-nil (map part_of_block b.blocks.items) in
+    let w : (opens_lines bs.items ++ body_lines commands.items ≡ (opens_lines b.blocks.items ++ body_lines body.items)
+    ++ lines_of_saying n s) × (map part_of_block bs.items ≡ outer (map part_of_block b.blocks.items))
+    = h (ap (λ (ps : List Part). may_stand (role_of s) (option_map (λ part. part.place) (innermost ps))) (sym p)
+    ∙ standing (built_parts b) (role_of s) f) in
     record {
-      lines = grown (finished_lines b.finished) (opens_lines b.blocks.items) (current_lines b.current) (opens_lines bs.items) (body_lines commands.items) (lines_of_saying n s)
+      lines =
+          grown (finished_lines b.finished) (opens_lines b.blocks.items) (current_lines b.current)
+          (opens_lines bs.items) (body_lines commands.items) (lines_of_saying n s)
           (w.0 ∙ ap (λ (k : Current). (opens_lines b.blocks.items ++ current_lines k) ++ lines_of_saying n s) (sym i));
-      parts = append-nil (map part_of_block bs.items) ∙ w.1 ∙ ap outer (sym p) ∙ sym (after_ending (built_parts b) n s e);
+      parts =
+          append-nil (map part_of_block bs.items) ∙ w.1 ∙ ap outer (sym p) ∙ sym (after_ending (built_parts b) n s e);
     }
 
 choice_lines : (o p b f d y : Lines) → p ≡ b ++ f → f ≡ d ++ y → o ++ p ≡ (o ++ (b ++ d)) ++ y
 choice_lines o p b f d y ep ef = rw (ep, ef) (regrouped_choice o b d y)
 
 -- ENDCASE was taken directly behind DO CASE
-pub ended_choice : (b : Builder) (opening : ℕ) (before commands : Vec Command Global) (cases : Vec Case Global) (f : Form) (n : ℕ) (s : Saying) → b.current ≡ DoCase opening before → is_ending s ≡ true → fault_of_place (built_parts b) (role_of s) ≡ None
-    → cases.items ≡ [] → ((k : ℕ) → form_lines f k ≡ line k saying.DoCase ∷ (cases_lines cases.items ++ line n saying.EndCase ∷ []))
+pub ended_choice : (b : Builder) (opening : ℕ) (before commands : Vec Command Global) (cases : Vec Case Global)
+    (f : Form) (n : ℕ) (s : Saying) → b.current ≡ DoCase opening before → is_ending s ≡ true
+    → fault_of_place (built_parts b) (role_of s) ≡ None
+    → cases.items ≡ []
+    → ((k : ℕ) → form_lines f k ≡ line k saying.DoCase ∷ (cases_lines cases.items ++ line n saying.EndCase ∷ []))
     → body_lines commands.items ≡ body_lines before.items ++ form_lines f opening
     → Took b n s (record { alloc = b.alloc; finished = b.finished; blocks = b.blocks; current = Commands commands })
 ended_choice b opening before commands cases f n s i e t none g h =
-    let p : built_parts b ≡ map part_of_block b.blocks.items ++ (record { place = place.BeforeCases; line = opening }) ∷ [] = ap (λ (k : Current). map part_of_block b.blocks.items ++ awaited k) i in
-    let last = ap innermost p ∙ innermost_last (map part_of_block b.blocks.items) (record { place = place.BeforeCases; line = opening }) in
-    let w = choice_ending s n e (ap (λ (o : Option Part). may_stand (role_of s) (option_map (λ part. part.place) o)) (sym last) ∙ standing (built_parts b) (role_of s) t) in
-    let form : form_lines f opening ≡ line opening saying.DoCase ∷ lines_of_saying n s = g opening ∙ ap (λ (cs : List Case). line opening saying.DoCase ∷ (cases_lines cs ++ line n saying.EndCase ∷ [])) none ∙ ap (λ (ls : Lines). line opening saying.DoCase ∷ ls) (sym w) in
+    let p : built_parts b ≡ map part_of_block b.blocks.items ++ (record { place = place.BeforeCases; line = opening })
+    ∷ [] = ap (λ (k : Current). map part_of_block b.blocks.items ++ awaited k) i in
+    let last =
+    ap innermost p ∙ innermost_last (map part_of_block b.blocks.items)
+    (record { place = place.BeforeCases; line = opening }) in
+    let w =
+    choice_ending s n e (ap (λ (o : Option Part). may_stand (role_of s) (option_map (λ part. part.place) o))
+    (sym last) ∙ standing (built_parts b) (role_of s) t) in
+    let form : form_lines f opening ≡ line opening saying.DoCase ∷ lines_of_saying n s =
+    g opening ∙ ap (λ (cs : List Case). line opening saying.DoCase ∷ (cases_lines cs ++ line n saying.EndCase ∷ []))
+    none ∙ ap (λ (ls : Lines). line opening saying.DoCase ∷ ls) (sym w) in
     record {
-      lines = grown (finished_lines b.finished) (opens_lines b.blocks.items) (current_lines b.current) (opens_lines b.blocks.items) (body_lines commands.items) (lines_of_saying n s)
-          (choice_lines (opens_lines b.blocks.items) (body_lines commands.items) (body_lines before.items) (form_lines f opening) (line opening saying.DoCase ∷ []) (lines_of_saying n s) h form
+      lines =
+          grown (finished_lines b.finished) (opens_lines b.blocks.items) (current_lines b.current)
+          (opens_lines b.blocks.items) (body_lines commands.items) (lines_of_saying n s)
+          (choice_lines (opens_lines b.blocks.items) (body_lines commands.items) (body_lines before.items)
+          (form_lines f opening) (line opening saying.DoCase ∷ []) (lines_of_saying n s) h form
           ∙ ap (λ (k : Current). (opens_lines b.blocks.items ++ current_lines k) ++ lines_of_saying n s) (sym i));
       parts = append-nil (map part_of_block b.blocks.items)
-          ∙ sym (after_ending (built_parts b) n s e ∙ ap outer p ∙ outer_last (map part_of_block b.blocks.items) (record { place = place.BeforeCases; line = opening }));
+          ∙ sym (after_ending (built_parts b) n s e ∙ ap outer p ∙ outer_last (map part_of_block b.blocks.items)
+          (record { place = place.BeforeCases; line = opening }));
     }

@@ -1,5 +1,5 @@
--- Programs of the same lines are the same tree: each command ends where its own words say so, and what may follow commands
--- begins none.
+-- Programs of the same lines are the same tree: each command ends where its own words say so, and what may follow
+-- commands begins none.
 use Rattle.std.proofs.Common.{◌≡◌, ℕ, List, [], ◌∷◌, ◌++◌, Bool, true, false, refl, sym, ap, ◌∙◌, append_assoc}
 use Rattle.prg_line.specs.LineSays.{LineSays}
 use Rattle.prg_line.specs.Saying.{Saying, line}
@@ -62,11 +62,13 @@ record Cut {A : Type 0} (a b : A) (r s : Lines) : Type 0 where
   rest : r ≡ s
 
 -- the part behind commands, and the line that ends it
-stops_part : (word end : Saying) (p : Part) (n : ℕ) (r : Lines) → begins word ≡ false → begins end ≡ false → goes_on (laid_part word p ++ (line n end ∷ r)) ≡ false
+stops_part : (word end : Saying) (p : Part) (n : ℕ) (r : Lines) → begins word ≡ false → begins end ≡ false
+    → goes_on (laid_part word p ++ (line n end ∷ r)) ≡ false
 stops_part word end Absent n r w e = e
 stops_part word end (Otherwise m body) n r w e = w
 
-no_case_part : (word end : Saying) (p : Part) (n : ℕ) (r : Lines) → is_case word ≡ false → is_case end ≡ false → more_cases (laid_part word p ++ (line n end ∷ r)) ≡ false
+no_case_part : (word end : Saying) (p : Part) (n : ℕ) (r : Lines) → is_case word ≡ false → is_case end ≡ false
+    → more_cases (laid_part word p ++ (line n end ∷ r)) ≡ false
 no_case_part word end Absent n r w e = e
 no_case_part word end (Otherwise m body) n r w e = w
 
@@ -101,7 +103,8 @@ mutual
       let act : x ≡ x' = (let i = p.saying in cc) in
       record { same = cc; rest = p.others }
   same_command (Single n x) (If n' e' body' otherwise' end') r s h = apart (λ (i : saying.Whole x ≡ saying.If e'). cc) h
-  same_command (Single n x) (DoCase n' cases' otherwise' end') r s h = apart (λ (i : saying.Whole x ≡ saying.DoCase). cc) h
+  same_command (Single n x) (DoCase n' cases' otherwise' end') r s h =
+      apart (λ (i : saying.Whole x ≡ saying.DoCase). cc) h
   same_command (Single n x) (DoWhile n' e' body' end') r s h = apart (λ (i : saying.Whole x ≡ saying.DoWhile e'). cc) h
   same_command (Single n x) (Scan n' e' body' end') r s h = apart (λ (i : saying.Whole x ≡ saying.Scan e'). cc) h
   same_command (If n e body otherwise end) (Single n' x') r s h = apart (λ (i : saying.If e ≡ saying.Whole x'). cc) h
@@ -109,76 +112,110 @@ mutual
       let p = parted n n' (saying.If e) (saying.If e') _ _ h in
       let number = p.number in
       let condition : e ≡ e' = (let i = p.saying in cc) in
-      let q = same_commands body body' (laid_part saying.Else otherwise ++ (line end saying.EndIf ∷ r)) (laid_part saying.Else otherwise' ++ (line end' saying.EndIf ∷ s))
-      (stops_part saying.Else saying.EndIf otherwise end r refl refl) (stops_part saying.Else saying.EndIf otherwise' end' s refl refl)
-      (regroup (parts (laid_in_turn body) (laid_part saying.Else otherwise) (line end saying.EndIf ∷ []) r) (parts (laid_in_turn body') (laid_part saying.Else otherwise') (line end' saying.EndIf ∷ []) s) p.others) in
-      let t = same_part saying.Else saying.EndIf (λ (i : saying.Else ≡ saying.EndIf). cc) refl otherwise otherwise' end end' r s q.rest in
+      let q =
+      same_commands body body' (laid_part saying.Else otherwise ++ (line end saying.EndIf ∷ r))
+      (laid_part saying.Else otherwise' ++ (line end' saying.EndIf ∷ s))
+      (stops_part saying.Else saying.EndIf otherwise end r refl refl)
+      (stops_part saying.Else saying.EndIf otherwise' end' s refl refl)
+      (regroup (parts (laid_in_turn body) (laid_part saying.Else otherwise) (line end saying.EndIf ∷ []) r)
+      (parts (laid_in_turn body') (laid_part saying.Else otherwise') (line end' saying.EndIf ∷ []) s) p.others) in
+      let t =
+      same_part saying.Else saying.EndIf (λ (i : saying.Else ≡ saying.EndIf). cc) refl otherwise otherwise' end end'
+      r s q.rest in
       let u = parted end end' saying.EndIf saying.EndIf r s t.rest in
       let bodies = q.same in
       let others = t.same in
       let ends = u.number in
       record { same = cc; rest = u.others }
-  same_command (If n e body otherwise end) (DoCase n' cases' otherwise' end') r s h = apart (λ (i : saying.If e ≡ saying.DoCase). cc) h
-  same_command (If n e body otherwise end) (DoWhile n' e' body' end') r s h = apart (λ (i : saying.If e ≡ saying.DoWhile e'). cc) h
-  same_command (If n e body otherwise end) (Scan n' e' body' end') r s h = apart (λ (i : saying.If e ≡ saying.Scan e'). cc) h
-  same_command (DoCase n cases otherwise end) (Single n' x') r s h = apart (λ (i : saying.DoCase ≡ saying.Whole x'). cc) h
-  same_command (DoCase n cases otherwise end) (If n' e' body' otherwise' end') r s h = apart (λ (i : saying.DoCase ≡ saying.If e'). cc) h
+  same_command (If n e body otherwise end) (DoCase n' cases' otherwise' end') r s h =
+      apart (λ (i : saying.If e ≡ saying.DoCase). cc) h
+  same_command (If n e body otherwise end) (DoWhile n' e' body' end') r s h =
+      apart (λ (i : saying.If e ≡ saying.DoWhile e'). cc) h
+  same_command (If n e body otherwise end) (Scan n' e' body' end') r s h =
+      apart (λ (i : saying.If e ≡ saying.Scan e'). cc) h
+  same_command (DoCase n cases otherwise end) (Single n' x') r s h =
+      apart (λ (i : saying.DoCase ≡ saying.Whole x'). cc) h
+  same_command (DoCase n cases otherwise end) (If n' e' body' otherwise' end') r s h =
+      apart (λ (i : saying.DoCase ≡ saying.If e'). cc) h
   same_command (DoCase n cases otherwise end) (DoCase n' cases' otherwise' end') r s h =
       let p = parted n n' saying.DoCase saying.DoCase _ _ h in
       let number = p.number in
-      let q = same_cases cases cases' (laid_part saying.Otherwise otherwise ++ (line end saying.EndCase ∷ r)) (laid_part saying.Otherwise otherwise' ++ (line end' saying.EndCase ∷ s))
-      (stops_part saying.Otherwise saying.EndCase otherwise end r refl refl) (stops_part saying.Otherwise saying.EndCase otherwise' end' s refl refl)
-      (no_case_part saying.Otherwise saying.EndCase otherwise end r refl refl) (no_case_part saying.Otherwise saying.EndCase otherwise' end' s refl refl)
-      (regroup (parts (laid_cases cases) (laid_part saying.Otherwise otherwise) (line end saying.EndCase ∷ []) r) (parts (laid_cases cases') (laid_part saying.Otherwise otherwise') (line end' saying.EndCase ∷ []) s) p.others) in
-      let t = same_part saying.Otherwise saying.EndCase (λ (i : saying.Otherwise ≡ saying.EndCase). cc) refl otherwise otherwise' end end' r s q.rest in
+      let q =
+      same_cases cases cases' (laid_part saying.Otherwise otherwise ++ (line end saying.EndCase ∷ r))
+      (laid_part saying.Otherwise otherwise' ++ (line end' saying.EndCase ∷ s))
+      (stops_part saying.Otherwise saying.EndCase otherwise end r refl refl)
+      (stops_part saying.Otherwise saying.EndCase otherwise' end' s refl refl)
+      (no_case_part saying.Otherwise saying.EndCase otherwise end r refl refl)
+      (no_case_part saying.Otherwise saying.EndCase otherwise' end' s refl refl)
+      (regroup (parts (laid_cases cases) (laid_part saying.Otherwise otherwise) (line end saying.EndCase ∷ []) r)
+      (parts (laid_cases cases') (laid_part saying.Otherwise otherwise') (line end' saying.EndCase ∷ []) s)
+      p.others) in
+      let t =
+      same_part saying.Otherwise saying.EndCase (λ (i : saying.Otherwise ≡ saying.EndCase). cc) refl otherwise
+      otherwise' end end' r s q.rest in
       let u = parted end end' saying.EndCase saying.EndCase r s t.rest in
       let chosen = q.same in
       let others = t.same in
       let ends = u.number in
       record { same = cc; rest = u.others }
-  same_command (DoCase n cases otherwise end) (DoWhile n' e' body' end') r s h = apart (λ (i : saying.DoCase ≡ saying.DoWhile e'). cc) h
-  same_command (DoCase n cases otherwise end) (Scan n' e' body' end') r s h = apart (λ (i : saying.DoCase ≡ saying.Scan e'). cc) h
+  same_command (DoCase n cases otherwise end) (DoWhile n' e' body' end') r s h =
+      apart (λ (i : saying.DoCase ≡ saying.DoWhile e'). cc) h
+  same_command (DoCase n cases otherwise end) (Scan n' e' body' end') r s h =
+      apart (λ (i : saying.DoCase ≡ saying.Scan e'). cc) h
   same_command (DoWhile n e body end) (Single n' x') r s h = apart (λ (i : saying.DoWhile e ≡ saying.Whole x'). cc) h
-  same_command (DoWhile n e body end) (If n' e' body' otherwise' end') r s h = apart (λ (i : saying.DoWhile e ≡ saying.If e'). cc) h
-  same_command (DoWhile n e body end) (DoCase n' cases' otherwise' end') r s h = apart (λ (i : saying.DoWhile e ≡ saying.DoCase). cc) h
+  same_command (DoWhile n e body end) (If n' e' body' otherwise' end') r s h =
+      apart (λ (i : saying.DoWhile e ≡ saying.If e'). cc) h
+  same_command (DoWhile n e body end) (DoCase n' cases' otherwise' end') r s h =
+      apart (λ (i : saying.DoWhile e ≡ saying.DoCase). cc) h
   same_command (DoWhile n e body end) (DoWhile n' e' body' end') r s h =
       let p = parted n n' (saying.DoWhile e) (saying.DoWhile e') _ _ h in
       let number = p.number in
       let condition : e ≡ e' = (let i = p.saying in cc) in
       let q = same_commands body body' (line end saying.EndDo ∷ r) (line end' saying.EndDo ∷ s) refl refl
-      (regroup (append_assoc (laid_in_turn body) (line end saying.EndDo ∷ []) r) (append_assoc (laid_in_turn body') (line end' saying.EndDo ∷ []) s) p.others) in
+      (regroup (append_assoc (laid_in_turn body) (line end saying.EndDo ∷ []) r)
+      (append_assoc (laid_in_turn body') (line end' saying.EndDo ∷ []) s) p.others) in
       let u = parted end end' saying.EndDo saying.EndDo r s q.rest in
       let bodies = q.same in
       let ends = u.number in
       record { same = cc; rest = u.others }
-  same_command (DoWhile n e body end) (Scan n' e' body' end') r s h = apart (λ (i : saying.DoWhile e ≡ saying.Scan e'). cc) h
+  same_command (DoWhile n e body end) (Scan n' e' body' end') r s h =
+      apart (λ (i : saying.DoWhile e ≡ saying.Scan e'). cc) h
   same_command (Scan n e body end) (Single n' x') r s h = apart (λ (i : saying.Scan e ≡ saying.Whole x'). cc) h
-  same_command (Scan n e body end) (If n' e' body' otherwise' end') r s h = apart (λ (i : saying.Scan e ≡ saying.If e'). cc) h
-  same_command (Scan n e body end) (DoCase n' cases' otherwise' end') r s h = apart (λ (i : saying.Scan e ≡ saying.DoCase). cc) h
-  same_command (Scan n e body end) (DoWhile n' e' body' end') r s h = apart (λ (i : saying.Scan e ≡ saying.DoWhile e'). cc) h
+  same_command (Scan n e body end) (If n' e' body' otherwise' end') r s h =
+      apart (λ (i : saying.Scan e ≡ saying.If e'). cc) h
+  same_command (Scan n e body end) (DoCase n' cases' otherwise' end') r s h =
+      apart (λ (i : saying.Scan e ≡ saying.DoCase). cc) h
+  same_command (Scan n e body end) (DoWhile n' e' body' end') r s h =
+      apart (λ (i : saying.Scan e ≡ saying.DoWhile e'). cc) h
   same_command (Scan n e body end) (Scan n' e' body' end') r s h =
       let p = parted n n' (saying.Scan e) (saying.Scan e') _ _ h in
       let number = p.number in
       let condition : e ≡ e' = (let i = p.saying in cc) in
       let q = same_commands body body' (line end saying.EndScan ∷ r) (line end' saying.EndScan ∷ s) refl refl
-      (regroup (append_assoc (laid_in_turn body) (line end saying.EndScan ∷ []) r) (append_assoc (laid_in_turn body') (line end' saying.EndScan ∷ []) s) p.others) in
+      (regroup (append_assoc (laid_in_turn body) (line end saying.EndScan ∷ []) r)
+      (append_assoc (laid_in_turn body') (line end' saying.EndScan ∷ []) s) p.others) in
       let u = parted end end' saying.EndScan saying.EndScan r s q.rest in
       let bodies = q.same in
       let ends = u.number in
       record { same = cc; rest = u.others }
 
-  same_commands : (a b : Cmds) (r s : Lines) → goes_on r ≡ false → goes_on s ≡ false → (laid_in_turn a ++ r) ≡ (laid_in_turn b ++ s) → Cut a b r s
+  same_commands : (a b : Cmds) (r s : Lines) → goes_on r ≡ false → goes_on s ≡ false
+      → (laid_in_turn a ++ r) ≡ (laid_in_turn b ++ s) → Cut a b r s
   same_commands Done Done r s p q h = record { same = refl; rest = h }
-  same_commands Done (Then c cs) r s p q h = absurd (differ (sym (begun c (laid_in_turn cs) s) ∙ sym (ap goes_on h) ∙ p))
+  same_commands Done (Then c cs) r s p q h =
+      absurd (differ (sym (begun c (laid_in_turn cs) s) ∙ sym (ap goes_on h) ∙ p))
   same_commands (Then c cs) Done r s p q h = absurd (differ (sym (begun c (laid_in_turn cs) r) ∙ ap goes_on h ∙ q))
   same_commands (Then c cs) (Then d ds) r s p q h =
-      let x = same_command c d (laid_in_turn cs ++ r) (laid_in_turn ds ++ s) (regroup (append_assoc (laid c) (laid_in_turn cs) r) (append_assoc (laid d) (laid_in_turn ds) s) h) in
+      let x =
+      same_command c d (laid_in_turn cs ++ r) (laid_in_turn ds ++ s)
+      (regroup (append_assoc (laid c) (laid_in_turn cs) r) (append_assoc (laid d) (laid_in_turn ds) s) h) in
       let y = same_commands cs ds r s p q x.rest in
       let one = x.same in
       let others = y.same in
       record { same = cc; rest = y.rest }
 
-  same_cases : (a b : Cases) (r s : Lines) → goes_on r ≡ false → goes_on s ≡ false → more_cases r ≡ false → more_cases s ≡ false → (laid_cases a ++ r) ≡ (laid_cases b ++ s) → Cut a b r s
+  same_cases : (a b : Cases) (r s : Lines) → goes_on r ≡ false → goes_on s ≡ false → more_cases r ≡ false
+      → more_cases s ≡ false → (laid_cases a ++ r) ≡ (laid_cases b ++ s) → Cut a b r s
   same_cases Neither Neither r s p q i j h = record { same = refl; rest = h }
   same_cases Neither (When n e body others) r s p q i j h = absurd (differ (sym (ap more_cases h) ∙ i))
   same_cases (When n e body others) Neither r s p q i j h = absurd (differ (ap more_cases h ∙ j))
@@ -186,14 +223,18 @@ mutual
       let t = parted n n' (saying.Case e) (saying.Case e') _ _ h in
       let number = t.number in
       let condition : e ≡ e' = (let k = t.saying in cc) in
-      let x = same_commands body body' (laid_cases others ++ r) (laid_cases others' ++ s) (stops_cases others r p) (stops_cases others' s q)
-      (regroup (append_assoc (laid_in_turn body) (laid_cases others) r) (append_assoc (laid_in_turn body') (laid_cases others') s) t.others) in
+      let x =
+      same_commands body body' (laid_cases others ++ r) (laid_cases others' ++ s) (stops_cases others r p)
+      (stops_cases others' s q)
+      (regroup (append_assoc (laid_in_turn body) (laid_cases others) r)
+      (append_assoc (laid_in_turn body') (laid_cases others') s) t.others) in
       let y = same_cases others others' r s p q i j x.rest in
       let bodies = x.same in
       let further = y.same in
       record { same = cc; rest = y.rest }
 
-  same_part : (word end : Saying) → (word ≡ end → ⊥) → begins end ≡ false → (a b : Part) (n m : ℕ) (r s : Lines) → (laid_part word a ++ (line n end ∷ r)) ≡ (laid_part word b ++ (line m end ∷ s))
+  same_part : (word end : Saying) → (word ≡ end → ⊥) → begins end ≡ false → (a b : Part) (n m : ℕ) (r s : Lines)
+      → (laid_part word a ++ (line n end ∷ r)) ≡ (laid_part word b ++ (line m end ∷ s))
       → Cut a b (line n end ∷ r) (line m end ∷ s)
   same_part word end ne e Absent Absent n m r s h = record { same = refl; rest = h }
   same_part word end ne e Absent (Otherwise k body) n m r s h = apart (λ (i : end ≡ word). ne (sym i)) h
@@ -223,24 +264,30 @@ same_procedures (p ∷ ps) [] h = absurd (differ (ap some_line h))
 same_procedures (p ∷ ps) (q ∷ qs) h =
     let t = parted p.line q.line (saying.Procedure p.name) (saying.Procedure q.name) _ _ h in
     let name : p.name ≡ q.name = (let k = t.saying in cc) in
-    let x = same_commands p.body q.body (laid_procedures ps) (laid_procedures qs) (stops_procedures ps) (stops_procedures qs) t.others in
+    let x =
+    same_commands p.body q.body (laid_procedures ps) (laid_procedures qs) (stops_procedures ps)
+    (stops_procedures qs) t.others in
     let one = same_procedure p q t.number name x.same in
     let others = same_procedures ps qs x.rest in
     cc
 
 pub same_program : (a b : ProgramTree) → laid_program a ≡ laid_program b → a ≡ b
 same_program a b h =
-    let x = same_commands a.main b.main (laid_procedures a.procedures) (laid_procedures b.procedures) (stops_procedures a.procedures) (stops_procedures b.procedures) h in
+    let x =
+    same_commands a.main b.main (laid_procedures a.procedures) (laid_procedures b.procedures)
+    (stops_procedures a.procedures) (stops_procedures b.procedures) h in
     both a b x.same (same_procedures a.procedures b.procedures x.rest)
   where
     both : (a b : ProgramTree) → a.main ≡ b.main → a.procedures ≡ b.procedures → a ≡ b
     both a b p q = λ i. record { main = p i; procedures = q i }
 
 -- one saying for each line, one list of them for a file
-pub same_sayings : ((text : List ℕ) (a b : Saying) → LineSays a text → LineSays b text → a ≡ b) → (lines : List Joined) (xs ys : List Saying) → SaysAll xs lines → SaysAll ys lines → xs ≡ ys
+pub same_sayings : ((text : List ℕ) (a b : Saying) → LineSays a text → LineSays b text → a ≡ b)
+    → (lines : List Joined) (xs ys : List Saying) → SaysAll xs lines → SaysAll ys lines → xs ≡ ys
 same_sayings law [] [] [] p q = refl
 same_sayings law [] (a ∷ xs) ys p q = absurd p
 same_sayings law [] [] (b ∷ ys) p q = absurd q
 same_sayings law (l ∷ ls) [] ys p q = absurd p
 same_sayings law (l ∷ ls) (a ∷ xs) [] p q = absurd q
-same_sayings law (l ∷ ls) (a ∷ xs) (b ∷ ys) p q = let one = law l.text a b p.0 q.0 in let others = same_sayings law ls xs ys p.1 q.1 in cc
+same_sayings law (l ∷ ls) (a ∷ xs) (b ∷ ys) p q =
+    let one = law l.text a b p.0 q.0 in let others = same_sayings law ls xs ys p.1 q.1 in cc

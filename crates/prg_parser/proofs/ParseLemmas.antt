@@ -18,11 +18,13 @@ use Rattle.prg_parser.proofs.FileLemmas.{FullLaw, PlacedLaw, SoundLaw, is_progra
 use Rattle.prg_parser.proofs.HalfReadLemmas.{all_said}
 use Rattle.prg_parser.proofs.RangeLemmas.{names_line}
 
-pub named : (bytes : List ℕ) (r : ParseRefusal) → Tells (verdict [] None (marks bytes)) r → NamesLine (length (lines (before_end bytes))) r
+pub named : (bytes : List ℕ) (r : ParseRefusal) → Tells (verdict [] None (marks bytes)) r
+    → NamesLine (length (lines (before_end bytes))) r
 named bytes (Fault fault) h = names_line bytes fault h
 named bytes Memory h = tt
 
-pub refused : PlacedLaw → FullLaw → (bytes : List ℕ) (r : ParseRefusal) → Tells (verdict [] None (marks bytes)) r → OnFault r ((says : List Saying) → LinesFit bytes says → ⊥)
+pub refused : PlacedLaw → FullLaw → (bytes : List ℕ) (r : ParseRefusal) → Tells (verdict [] None (marks bytes)) r
+    → OnFault r ((says : List Saying) → LinesFit bytes says → ⊥)
 refused placed full bytes (Fault fault) h = not_refused placed full bytes fault h
 refused placed full bytes Memory h = tt
 
@@ -33,4 +35,5 @@ faultless bytes ps o b p s e = sym s.fault ∙ e.faultless
 pub spelled : SoundLaw → PlacedLaw → (bytes : List ℕ) (ps : List Part) (o : Option ℕ) (b : Builder) (p : Program)
     → IsHalfRead (joined_lines bytes) [] ps o b → Ended ps o b p → IsProgramOf bytes p
 spelled sound placed bytes ps o b p s e =
-    is_program sound placed bytes p (faultless bytes ps o b p s e) e.unnamed (all_said (joined_lines bytes) ps o b p s e)
+    is_program sound placed bytes p (faultless bytes ps o b p s e) e.unnamed
+    (all_said (joined_lines bytes) ps o b p s e)

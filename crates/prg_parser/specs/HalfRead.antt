@@ -1,6 +1,6 @@
 -- A file of which some lines are read.
 use Rattle.std.specs.Prelude.{◌≡◌, ℕ, List, [], ◌∷◌, ◌++◌, map, Option, None}
-use Rattle.prg_line.specs.OneLine.{saying_at}
+use Rattle.prg_line.specs.Alone.{saying_at}
 use Rattle.prg_line.specs.Saying.{Saying}
 use Rattle.prg_parser.specs.declared.blocks.Part.{Part}
 use Rattle.prg_parser.specs.declared.builder.Builder.{Builder}

@@ -2,7 +2,7 @@
 use Rattle.std.specs.Prelude.{ℕ, List, map}
 use Rattle.prg_parser.specs.declared.judging.LineMark.{LineMark}
 use Rattle.prg_parser.specs.Lines.{Joined, joined_lines}
-use Rattle.prg_line.specs.OneLine.{role_at, fault_at}
+use Rattle.prg_line.specs.Alone.{role_at, fault_at}
 
 -- a line's number, what it is to the blocks around it, and its own fault
 abbrev pub line_mark : Joined → LineMark

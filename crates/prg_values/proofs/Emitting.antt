@@ -1,9 +1,8 @@
 -- Pieces behind pieces.
-use native.Mathlib.Omega.{arith}
 use Rattle.std.proofs.Common.{◌≡◌, ℕ, zero, suc, Bool, List, [], ◌∷◌, ◌++◌, Option, Some, slice_get, ◌+◌, ◌<◌, length}
-use Rattle.std.proofs.Common.{take, get_or, add-one, Result, Ok, Err, OnOk, sym, ap, ◌∙◌, subst}
+use Rattle.std.proofs.Common.{take, get_or, sym, ap, ◌∙◌, subst}
 use Rattle.std.specs.List.{AllZip}
-use Rattle.std.proofs.lemmas.List.{append_assoc, append-nil}
+use Rattle.std.proofs.lemmas.List.{append_assoc, append-nil, take_more}
 use Rattle.xvalue.specs.declared.value.Value.{Value}
 use Rattle.code_items.specs.declared.instr.Instr.{Instr}
 use Rattle.prg_code.specs.Numbers.{Grows}
@@ -45,18 +44,9 @@ one_more earlier later ps is p i qs js e f grown h last =
     (subst (λ (cs : List Value). AllZip (IsPiece cs) (ps ++ p ∷ []) (is ++ i ∷ [])) (sym grown.1)
     (both_kept earlier grown.0 ps is p i h (subst (λ (cs : List Value). IsPiece cs p i) grown.1 last))))
 
--- constants that grow and grow again
-pub grown_twice : (a b c : List Value) → Grows a b → Grows b c → Grows a c
-grown_twice a b c g h = (g.0 ++ h.0, h.1 ∙ ap (λ (vs : List Value). vs ++ h.0) g.1 ∙ append_assoc a g.0 h.0)
-
 -- some pieces, and others behind them
 pub then : (ps qs old between new : List Piece) → between ≡ old ++ ps → new ≡ between ++ qs → new ≡ old ++ (ps ++ qs)
 then ps qs old between new a b = b ∙ ap (λ (xs : List Piece). xs ++ qs) a ∙ append_assoc old ps qs
-
--- what is told of a call that went well
-pub on_ok : {T E P Q : Type 0} (r : Result T E) → (P → Q) → OnOk r P → OnOk r Q
-on_ok (Ok t) f p = f p
-on_ok (Err e) f p = p
 
 -- two operands and the function, in either order
 pub both_put : (o : Option OperatorMeaning) (op : OperatorMeaning) (swapped : Bool) (a b old between new : List Piece)
@@ -74,15 +64,9 @@ pieces_behind s [] e = append-nil (pieces_in s (tree_of e))
 pieces_behind s (x ∷ es) e = ap (λ (ps : List Piece). pieces_in s (tree_of x) ++ ps) (pieces_behind s es e)
     ∙ sym (append_assoc (pieces_in s (tree_of x)) (all_pieces s (trees_of es)) (pieces_in s (tree_of e)))
 
-next : {A : Type 0} (es : List A) (i : ℕ) (e : A) → i < length es → e ≡ get_or es i e
-    → take (suc i) es ≡ take i es ++ e ∷ []
-next [] i e low there = absurd (omega (arith, low))
-next (x ∷ es) zero e low there = ap (λ y. y ∷ []) (sym there)
-next (x ∷ es) (suc i) e low there = ap (λ ys. x ∷ ys) (next es i e (omega (arith, low)) there)
-
 pub take_next : {A : Type 0} (es : List A) (i : ℕ) (e : A) → i < length es → e ≡ get_or es i e
     → take (i + 1) es ≡ take i es ++ e ∷ []
-take_next es i e low there = rw add-one (next es i e low there)
+take_next es i e low there = take_more es i e low ∙ ap (λ y. take i es ++ y ∷ []) (sym there)
 
 -- one more expression
 pub next_put : (s : Scoped) (es : List Expr) (i : ℕ) (e : Expr) (old between new : List Piece) → i < length es

@@ -9,8 +9,10 @@ pub none_from : {A : Type 0} (o : Option A) → is_some o ≡ false → o ≡ No
 none_from None e = refl
 none_from (Some x) e = absurd (true≢false e)
 
-pub added : (inside targets : NamedTargets) (copy name : ArrayVec ℕ) (target : Target) → inside ≡ targets → copy ≡ name → target_named name.items inside ≡ None → inside ++ (copy, target) ∷ [] ≡ with_target name target targets
+pub added : (inside targets : NamedTargets) (copy name : ArrayVec ℕ) (target : Target) → inside ≡ targets → copy ≡ name
+    → target_named name.items inside ≡ None → inside ++ (copy, target) ∷ [] ≡ with_target name target targets
 added inside targets copy name target same is none =
     ap (λ (ts : NamedTargets). ts ++ (copy, target) ∷ []) same
     ∙ ap (λ (n : ArrayVec ℕ). targets ++ (n, target) ∷ []) is
-    ∙ sym (ap (λ (o : Option Target). if is_some o then targets else targets ++ (name, target) ∷ []) (ap (target_named name.items) (sym same) ∙ none))
+    ∙ sym (ap (λ (o : Option Target). if is_some o then targets else targets ++ (name, target) ∷ [])
+    (ap (target_named name.items) (sym same) ∙ none))

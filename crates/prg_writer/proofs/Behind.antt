@@ -19,12 +19,14 @@ kept (suc n) (x ∷ xs) more low =
     (h.0, ap (λ ys. x ∷ ys) h.1)
 
 -- so many of a list, at least those that were there
-left : {A : Type 0} (n : ℕ) (base earlier later : List A) → length base ≤ n → Grows base earlier → later ≡ take n earlier → Grows base later
+left : {A : Type 0} (n : ℕ) (base earlier later : List A) → length base ≤ n → Grows base earlier
+    → later ≡ take n earlier → Grows base later
 left n base earlier later low g is =
     subst (Grows base) (sym (is ∙ ap (λ ys. take n ys) g.1)) (kept n base g.0 low)
 
 -- a mark is behind all that stands where it is made
-pub marked : (base : Output) (w : Writer) (mark : WrittenMark) → OutputGrows base w.out → IsMark w mark → IsMarkBehind base mark
+pub marked : (base : Output) (w : Writer) (mark : WrittenMark) → OutputGrows base w.out → IsMark w mark
+    → IsMarkBehind base mark
 marked base w mark g m = record {
   constants = subst (λ n. length base.pool ≤ n) (sym m.constants) (longer base.pool w.out.pool g.constants);
   lists = subst (λ n. length base.lists ≤ n) (sym m.lists) (longer base.lists w.out.lists g.lists);
@@ -33,8 +35,10 @@ marked base w mark g m = record {
   century = λ set. m.century ∙ g.century set;
 }
 
-pub still_behind : (base : Output) (mark : WrittenMark) (earlier later : Output) → IsMarkBehind base mark → OutputGrows base earlier
-    → later.pool ≡ take mark.constants earlier.pool → later.lists ≡ take mark.lists earlier.lists → later.filters ≡ take mark.filters earlier.filters
+pub still_behind : (base : Output) (mark : WrittenMark) (earlier later : Output) → IsMarkBehind base mark
+    → OutputGrows base earlier
+    → later.pool ≡ take mark.constants earlier.pool → later.lists ≡ take mark.lists earlier.lists
+    → later.filters ≡ take mark.filters earlier.filters
     → later.slots ≡ mark.slots → later.century ≡ mark.century → later.highest ≡ earlier.highest → OutputGrows base later
 still_behind base mark earlier later m g constants lists filters slots century highest = record {
   constants = left mark.constants base.pool earlier.pool later.pool m.constants g.constants constants;

@@ -22,8 +22,16 @@ any_order false true false = refl
 any_order false false true = refl
 any_order false false false = refl
 
-pub one_more : (old new : BTreeSet (ℕ × ℕ)) (told fault : CompileFault) (others more : List CompileFault) → ArePlaces old told others → more ≡ others ++ fault ∷ [] → ((q : ℕ × ℕ) → contains place_cmp new q ≡ cond (is_at (place_cmp (fault.file, fault.line)) q) true (contains place_cmp old q)) → ArePlaces new told more
+pub one_more : (old new : BTreeSet (ℕ × ℕ)) (told fault : CompileFault) (others more : List CompileFault)
+    → ArePlaces old told others → more ≡ others ++ fault ∷ []
+    → ((q : ℕ × ℕ)
+    → contains place_cmp new q ≡ cond (is_at (place_cmp (fault.file, fault.line)) q) true (contains place_cmp old q))
+    → ArePlaces new told more
 one_more old new told fault others more places e added f =
     let place : ℕ × ℕ = (f.file, f.line) in
-    let here : contains place_cmp new place ≡ cond (same_line f fault) true (has_line f told others) = added place ∙ ap (λ b. cond b true (contains place_cmp old place)) (one_place fault.file fault.line f.file f.line) ∙ ap (λ b. cond (same_line f fault) true b) (places f) in
-    here ∙ any_order (same_line f told) (list_any (same_line f) others) (same_line f fault) ∙ ap (λ b. same_line f told || b) (sym (list_any-append (same_line f) others (fault ∷ []))) ∙ ap (λ xs. has_line f told xs) (sym e)
+    let here : contains place_cmp new place ≡ cond (same_line f fault) true (has_line f told others) =
+    added place ∙ ap (λ b. cond b true (contains place_cmp old place))
+    (one_place fault.file fault.line f.file f.line) ∙ ap (λ b. cond (same_line f fault) true b) (places f) in
+    here ∙ any_order (same_line f told) (list_any (same_line f) others) (same_line f fault)
+    ∙ ap (λ b. same_line f told || b) (sym (list_any-append (same_line f) others (fault ∷ [])))
+    ∙ ap (λ xs. has_line f told xs) (sym e)

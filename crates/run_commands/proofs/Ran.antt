@@ -16,30 +16,39 @@ use Rattle.text_lines.specs.Lines.{short_lines}
 use Rattle.work_area.specs.Areas.{StoreState}
 
 -- the opening over these lines and this day is where the job's run begins
-begins : (code : Code) (store : StoreState) (job : Job) (lines : List (List ℕ)) (today : Option DayParts) → lines ≡ short_lines job.input.now → today ≡ job.day → opening code store lines today ≡ begun code store job
+begins : (code : Code) (store : StoreState) (job : Job) (lines : List (List ℕ)) (today : Option DayParts)
+    → lines ≡ short_lines job.input.now → today ≡ job.day → opening code store lines today ≡ begun code store job
 begins code store job lines today el et = λ i. opening code store (el i) (et i)
 
-abbrev run_from : (code : Code) (store : StoreState) (job : Job) (outcome : Outcome) (rows : List ℕ) (first last : World) (lines : List (List ℕ)) (today : Option DayParts)
-    → first ≡ opening code store lines today → lines ≡ short_lines job.input.now → today ≡ job.day → Ran code first job.budget outcome last → rows ≡ sent last.env.screen → IsRun code store job outcome rows
+abbrev run_from : (code : Code) (store : StoreState) (job : Job) (outcome : Outcome) (rows : List ℕ)
+    (first last : World) (lines : List (List ℕ)) (today : Option DayParts)
+    → first ≡ opening code store lines today → lines ≡ short_lines job.input.now → today ≡ job.day
+    → Ran code first job.budget outcome last → rows ≡ sent last.env.screen → IsRun code store job outcome rows
 run_from code store job outcome rows first last lines today e el et ran r = record {
   last = last;
   ran = subst (λ w. Ran code w job.budget outcome last) (e ∙ begins code store job lines today el et) ran;
   rows_are = r;
 }
 
-pub left_from : (code : Code) (store : StoreState) (job : Job) (outcome : Outcome) (rows : List ℕ) (first last : World) (lines : List (List ℕ)) (today : Option DayParts)
-    → first ≡ opening code store lines today → lines ≡ short_lines job.input.now → today ≡ job.day → Ran code first job.budget outcome last → rows ≡ sent last.env.screen → StoreFits code.declared last.env.store → IsLeft code store job outcome rows last.env.store
+pub left_from : (code : Code) (store : StoreState) (job : Job) (outcome : Outcome) (rows : List ℕ) (first last : World)
+    (lines : List (List ℕ)) (today : Option DayParts)
+    → first ≡ opening code store lines today → lines ≡ short_lines job.input.now → today ≡ job.day
+    → Ran code first job.budget outcome last → rows ≡ sent last.env.screen → StoreFits code.declared last.env.store
+    → IsLeft code store job outcome rows last.env.store
 left_from code store job outcome rows first last lines today e el et ran r fits = record {
   run = run_from code store job outcome rows first last lines today e el et ran r;
   tables_are = refl;
   fits = fits;
 }
 
-pub left_soundly : (code : Code) (store : StoreState) (job : Job) (outcome : Outcome) (rows : List ℕ) (tables : StoreState) → IsSoundRun code store job outcome rows tables → IsLeft code store job outcome rows tables
+pub left_soundly : (code : Code) (store : StoreState) (job : Job) (outcome : Outcome) (rows : List ℕ)
+    (tables : StoreState) → IsSoundRun code store job outcome rows tables → IsLeft code store job outcome rows tables
 left_soundly code store job outcome rows tables h = record { run = h.run; tables_are = h.tables_are; fits = h.fits }
 
-pub sound_from : (code : Code) (store : StoreState) (job : Job) (outcome : Outcome) (rows : List ℕ) (lines : List (List ℕ)) (today : Option DayParts) (b : BankState)
-    → RunsTo code (opening code store lines today) job.budget outcome b → lines ≡ short_lines job.input.now → today ≡ job.day → rows ≡ sent b.env.screen → IsSoundRun code store job outcome rows b.env.store
+pub sound_from : (code : Code) (store : StoreState) (job : Job) (outcome : Outcome) (rows : List ℕ)
+    (lines : List (List ℕ)) (today : Option DayParts) (b : BankState)
+    → RunsTo code (opening code store lines today) job.budget outcome b → lines ≡ short_lines job.input.now
+    → today ≡ job.day → rows ≡ sent b.env.screen → IsSoundRun code store job outcome rows b.env.store
 sound_from code store job outcome rows lines today b h el et r = record {
   run = record {
     last = h.world;

@@ -4,9 +4,12 @@ use Rattle.code_items.specs.declared.code.Code.{Code}
 use Rattle.code_items.specs.declared.instr.Instr.{Instr}
 use Rattle.code_rules.specs.Rules.{loads_free, order_fails, opens_twice}
 use Rattle.run_steps.specs.declared.fault.FaultKind.{FaultKind}
-use Rattle.run_steps.specs.declared.fault.FaultKind.TheVariants.{WrongKind, Unset, ClosedArea, EmptyStack, StackOver, BadJump, NoOrder, OpenTwice, DeepCall, BadField, BadFilter}
+use Rattle.run_steps.specs.declared.fault.FaultKind.TheVariants.{WrongKind, Unset, ClosedArea, EmptyStack, StackOver}
+use Rattle.run_steps.specs.declared.fault.FaultKind.TheVariants.{BadJump, NoOrder, OpenTwice, DeepCall, BadField}
+use Rattle.run_steps.specs.declared.fault.FaultKind.TheVariants.{BadFilter}
 use Rattle.run_steps.specs.World.{World, state_of}
-use Rattle.run_steps.specs.Faults.{wrong_kind, closed_area, empty_stack, stack_over, bad_jump, deep_call, bad_field, bad_filter, fault_of, IsClear}
+use Rattle.run_steps.specs.Faults.{wrong_kind, closed_area, empty_stack, stack_over, bad_jump, deep_call, bad_field}
+use Rattle.run_steps.specs.Faults.{bad_filter, fault_of, IsClear}
 
 -- a chain of tests that comes to its end passed each of them
 passes : (b : Bool) (k : FaultKind) (o : Option FaultKind) → cond b (Some k) o ≡ None → (b ≡ false) × (o ≡ None)
@@ -27,7 +30,19 @@ clear_from code w i e =
     let k = passes (deep_call w i) DeepCall _ j.1 in
     let l = passes (bad_field code (state_of w) i) BadField _ k.1 in
     let m = passes (bad_filter code (state_of w) i) BadFilter _ l.1 in
-    record { kind = a.0; set = b.0; area = c.0; there = d.0; room = f.0; jump = g.0; order = h.0; once = j.0; deep = k.0; declared = l.0; filter = m.0 }
+    record {
+      kind = a.0;
+      set = b.0;
+      area = c.0;
+      there = d.0;
+      room = f.0;
+      jump = g.0;
+      order = h.0;
+      once = j.0;
+      deep = k.0;
+      declared = l.0;
+      filter = m.0;
+    }
 
 -- a test that passes leaves what the others say
 skips : (b : Bool) (k : FaultKind) (o : Option FaultKind) → b ≡ false → o ≡ None → cond b (Some k) o ≡ None

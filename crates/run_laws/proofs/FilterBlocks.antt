@@ -3,7 +3,9 @@ use Rattle.std.proofs.Common.{◌≡◌, ℕ, ◌+◌, ◌-◌, ◌<◌, ◌≤�
 use Rattle.std.proofs.Common.{Some, None, refl, sym, ap, subst, ◌∙◌, arith}
 use Rattle.std.specs.Prelude.{not, ◌||◌, nat_lt, nat_le, map, slice_get, slice_index_or, reverse, if◌then◌else◌}
 use Rattle.std.specs.List.{AllByRecursion}
-use Rattle.std.proofs.lemmas.Bool.{leb-false, ltb-false, lt-ltb, not-false, not-true, and_parts, or_parts}
+use Rattle.std.proofs.lemmas.Bool.{leb-false, ltb-false, lt-ltb, not-false, not-true, not_from_true, and_parts}
+use Rattle.std.proofs.lemmas.Bool.{or_parts}
+use Rattle.std.proofs.lemmas.Bool.{or_from}
 use Rattle.std.proofs.lemmas.List.{length-map, length-drop, length-reverse, drop-map}
 use Rattle.xvalue.specs.declared.kind.Kind.{Kind}
 use Rattle.xvalue.specs.declared.kind.Kind.TheVariants.{Logical as OfLogical}
@@ -78,6 +80,19 @@ sound_there code s i e =
       within = v.0;
       declared = v.1;
     }
+
+none_fails : (a b c d e f g : Bool) → a ≡ true → b ≡ false → c ≡ false → d ≡ false → e ≡ false → f ≡ false → g ≡ false
+    → (not a || (b || (c || (d || (e || (f || g)))))) ≡ false
+none_fails a b c d e f g ha hb hc hd he hf hg =
+    or_from (not a) (b || (c || (d || (e || (f || g))))) (not_from_true a ha)
+    (or_from b (c || (d || (e || (f || g)))) hb
+    (or_from c (d || (e || (f || g))) hc
+    (or_from d (e || (f || g)) hd
+    (or_from e (f || g) he
+    (or_from f g hf hg)))))
+
+pub sound_here : (code : Code) (s : State) (i : Instr) → IsSoundThere code s i → block_fails code s i ≡ false
+sound_here code s i is = none_fails _ _ _ _ _ _ _ is.may is.clash is.other is.set is.there is.within is.declared
 
 -- where the block's run is: these slots, this desk, and a stack of few values of these kinds
 record Stands (v : Viewer) (table : ℕ) (s : State) (st : List Value) : Type 0 where

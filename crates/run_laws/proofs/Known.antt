@@ -1,5 +1,6 @@
--- What a world of a code's shape has: what its state says, and the table, list, order and filter of each open work area.
-use Rattle.std.proofs.Common.{◌≡◌, ℕ, zero, suc, ◌-◌, ◌<◌, ◌≤◌, true, false, List, [], ◌∷◌, length, Option, Some, None, refl, ap, subst, ◌∙◌, arith}
+-- What a world of a code's shape has: what its state says, and the table, list, order and filter of each open area.
+use Rattle.std.proofs.Common.{◌≡◌, ℕ, zero, suc, ◌-◌, ◌<◌, ◌≤◌, true, false, List, [], ◌∷◌, length, Option, Some, None}
+use Rattle.std.proofs.Common.{refl, ap, subst, ◌∙◌, arith}
 use Rattle.std.specs.Prelude.{◌&&◌, ◌||◌, ◌==◌, slice_get, slice_index_or, map, nat_lt, nat_le, is_none, IfSome}
 use Rattle.std.specs.List.{list_all}
 use Rattle.std.proofs.lemmas.Bool.{leb-true, ltb-true, eqb-true, and_parts}
@@ -31,7 +32,9 @@ unfolding is_state is_desk
 known_of d s e =
     let a = and_parts (is_desk d s.desk && length s.slots == d.slots) (nat_le (length s.stack) d.stack_bound) e in
     let b = and_parts (is_desk d s.desk) (length s.slots == d.slots) a.0 in
-    let c = and_parts (nat_le 1 s.desk.selected && nat_le s.desk.selected 10 && length s.desk.areas == 10) (list_all (is_area_state d) s.desk.areas) b.0 in
+    let c =
+    and_parts (nat_le 1 s.desk.selected && nat_le s.desk.selected 10 && length s.desk.areas == 10)
+    (list_all (is_area_state d) s.desk.areas) b.0 in
     let f = and_parts (nat_le 1 s.desk.selected && nat_le s.desk.selected 10) (length s.desk.areas == 10) c.0 in
     let g = and_parts (nat_le 1 s.desk.selected) (nat_le s.desk.selected 10) f.0 in
     record {
@@ -46,8 +49,12 @@ known_of d s e =
 -- a declared table
 pub declared_table : (d : Declared) (a : OpenArea) → is_open d a ≡ true → a.table < length d.shape.tables
 declared_table d a e =
-    let x = and_parts (nat_lt a.table (length d.shape.tables) && (a.list == 0 || is_list_of d a.table a.list) && nat_le a.order (opened_by d a.list)) (a.filter == 0 || is_filter_of d a.table a.filter) e in
-    let y = and_parts (nat_lt a.table (length d.shape.tables) && (a.list == 0 || is_list_of d a.table a.list)) (nat_le a.order (opened_by d a.list)) x.0 in
+    let x =
+    and_parts (nat_lt a.table (length d.shape.tables) && (a.list == 0 || is_list_of d a.table a.list) && nat_le
+    a.order (opened_by d a.list)) (a.filter == 0 || is_filter_of d a.table a.filter) e in
+    let y =
+    and_parts (nat_lt a.table (length d.shape.tables) && (a.list == 0 || is_list_of d a.table a.list))
+    (nat_le a.order (opened_by d a.list)) x.0 in
     let z = and_parts (nat_lt a.table (length d.shape.tables)) (a.list == 0 || is_list_of d a.table a.list) y.0 in
     ltb-true a.table (length d.shape.tables) z.0
 
@@ -74,13 +81,16 @@ pub record OpenThere (d : Declared) (s : StoreState) (a : ℕ) : Type 0 where
   pub filter : (use_of.filter == 0 || is_filter_of d use_of.table use_of.filter) ≡ true
   pub list : table.list ≡ list_numbers d use_of.list
 
-use_found : (tables : List OpenState) (areas : List (Option Use)) (n : ℕ) → is_none (open_in (slice_get (map (area_state tables) areas) n)) ≡ false → (u : Use) × (slice_get areas n ≡ Some (Some u))
+use_found : (tables : List OpenState) (areas : List (Option Use)) (n : ℕ)
+    → is_none (open_in (slice_get (map (area_state tables) areas) n)) ≡ false
+    → (u : Use) × (slice_get areas n ≡ Some (Some u))
 use_found tables [] n e = absurd (cc)
 use_found tables (None ∷ areas) zero e = absurd (cc)
 use_found tables (Some u ∷ areas) zero e = (u, refl)
 use_found tables (a ∷ areas) (suc n) e = use_found tables areas n e
 
-pub open_there : (d : Declared) (s : StoreState) (a : ℕ) → list_all (is_area_state d) (desk_of s).areas ≡ true → StoreFits d s → is_none (open_at (desk_of s) a) ≡ false → OpenThere d s a
+pub open_there : (d : Declared) (s : StoreState) (a : ℕ) → list_all (is_area_state d) (desk_of s).areas ≡ true
+    → StoreFits d s → is_none (open_at (desk_of s) a) ≡ false → OpenThere d s a
 open_there d s zero all fits e = absurd (cc)
 open_there d s (suc n) all fits e =
     let p = use_found s.tables s.areas n e in
@@ -92,7 +102,8 @@ open_there d s (suc n) all fits e =
     let declared : u.table < length d.shape.tables = declared_table d area is_one in
     let t = is_there s.tables u.table (omega (arith, declared, fits.count)) in
     let same : suc n - 1 ≡ n = omega arith in
-    let held : use_at s (suc n) ≡ Some u = ap (λ k. slice_index_or s.areas k None) same ∙ get_or_from_slice_get s.areas n (Some u) None p.1 in
+    let held : use_at s (suc n) ≡ Some u =
+    ap (λ k. slice_index_or s.areas k None) same ∙ get_or_from_slice_get s.areas n (Some u) None p.1 in
     let there : area_table s (suc n) ≡ Some t.0 = ap (used_table s) held ∙ t.1 in
     record {
       use_of = u;
@@ -103,5 +114,8 @@ open_there d s (suc n) all fits e =
       known = ap open_in seen ∙ ap (λ (x : Option OpenState). Some (area_by u (order_of x))) t.1;
       declared = declared;
       filter = own_filter d area is_one;
-      list = subst (λ (x : Option OpenState). IfSome x (ListStands d u)) there (subst (λ (x : Option Use). IfSome x (λ (v : Use). IfSome (area_table s (suc n)) (ListStands d v))) held (fits.lists (suc n)));
+      list =
+          subst (λ (x : Option OpenState). IfSome x (ListStands d u)) there
+          (subst (λ (x : Option Use). IfSome x (λ (v : Use). IfSome (area_table s (suc n)) (ListStands d v))) held
+          (fits.lists (suc n)));
     }

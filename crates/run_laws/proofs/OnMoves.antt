@@ -88,9 +88,11 @@ pub walks : Same → ResultLaw → (code : Code) (w : World) → Facts code → 
 walks same law code w facts k fits o e =
     let s = w.env.store in
     let sound : is_sound code (map kind_held w.values.slots) o.use_of.filter ≡ true =
-    not-false (is_sound code (map kind_held w.values.slots) o.use_of.filter) (ap (fails_if_open (λ a. not (is_sound code (map kind_held w.values.slots) a.filter))) (sym o.known) ∙ e) in
+    not-false (is_sound code (map kind_held w.values.slots) o.use_of.filter)
+    (ap (fails_if_open (λ a. not (is_sound code (map kind_held w.values.slots) a.filter))) (sym o.known) ∙ e) in
     let number : filter_here s ≡ o.use_of.filter = ap filter_in o.held in
-    let slots : length w.values.slots ≡ code.declared.slots = omega (arith, k.slots, length-map w.values.slots kind_held) in
+    let slots : length w.values.slots ≡ code.declared.slots =
+    omega (arith, k.slots, length-map w.values.slots kind_held) in
     let ready = filter_ready same law code w facts fits o slots o.use_of.filter refl sound in (
       is_here code.declared s o,
       subst (FilterNeeds code w.values) (sym number) ready.0,
@@ -102,15 +104,22 @@ walks same law code w facts k fits o e =
 given_ready : Same → (code : Code) (w : World) (i : MoveInstr) → IsClear code w (Moves i) → GivenNeeds i w.values
 given_ready same code w Top c = tt
 given_ready same code w Bottom c = tt
-given_ready same code w Skip c = on_top same (OfNumber ∷ []) w.values.stack (first_no (clashes (OfNumber ∷ []) (state_of w).stack) false c.kind) (omega (arith, enough w.values.stack 1 c.there))
-given_ready same code w Go c = on_top same (OfNumber ∷ []) w.values.stack (first_no (clashes (OfNumber ∷ []) (state_of w).stack) false c.kind) (omega (arith, enough w.values.stack 1 c.there))
-given_ready same code w Seek c = on_top same (OfText ∷ []) w.values.stack (first_no (clashes (OfText ∷ []) (state_of w).stack) false c.kind) (omega (arith, enough w.values.stack 1 c.there))
+given_ready same code w Skip c =
+    on_top same (OfNumber ∷ []) w.values.stack (first_no (clashes (OfNumber ∷ []) (state_of w).stack) false c.kind)
+    (omega (arith, enough w.values.stack 1 c.there))
+given_ready same code w Go c =
+    on_top same (OfNumber ∷ []) w.values.stack (first_no (clashes (OfNumber ∷ []) (state_of w).stack) false c.kind)
+    (omega (arith, enough w.values.stack 1 c.there))
+given_ready same code w Seek c =
+    on_top same (OfText ∷ []) w.values.stack (first_no (clashes (OfText ∷ []) (state_of w).stack) false c.kind)
+    (omega (arith, enough w.values.stack 1 c.there))
 
 some_order : (n : ℕ) → n == 0 ≡ false → 1 ≤ n
 some_order zero e = absurd (eqb-false 0 0 e refl)
 some_order (suc n) e = omega arith
 
-seek_ready : (code : Code) (w : World) (i : MoveInstr) → OpenThere code.declared w.env.store w.env.store.selected → IsClear code w (Moves i) → SeekNeeds i w.env.store
+seek_ready : (code : Code) (w : World) (i : MoveInstr) → OpenThere code.declared w.env.store w.env.store.selected
+    → IsClear code w (Moves i) → SeekNeeds i w.env.store
 seek_ready code w Top o c = tt
 seek_ready code w Bottom o c = tt
 seek_ready code w Skip o c = tt

@@ -15,7 +15,8 @@ use Rattle.code_items.specs.declared.code.Code.{Code}
 use Rattle.code_items.specs.declared.declared.Declared.{Declared}
 use Rattle.code_items.specs.declared.instr.Instr.TheVariants.{Records}
 use Rattle.code_items.specs.declared.instr.RecordInstr.{RecordInstr}
-use Rattle.code_items.specs.declared.instr.RecordInstr.TheVariants.{Field, RowField, Ask, Append, Replace, Delete, Recall, Pack, Zap, Reindex, Index}
+use Rattle.code_items.specs.declared.instr.RecordInstr.TheVariants.{Field, RowField, Ask, Append, Replace, Delete}
+use Rattle.code_items.specs.declared.instr.RecordInstr.TheVariants.{Recall, Pack, Zap, Reindex, Index}
 use Rattle.code_items.specs.Desks.{open_at}
 use Rattle.code_items.specs.Facts.{Facts}
 use Rattle.code_items.specs.Instrs.{is_instr, is_area, is_two}
@@ -37,27 +38,35 @@ use Rattle.run_laws.proofs.OnMoves.{walks}
 
 -- ---- fields
 
-fields_known : (d : Declared) (s : StoreState) (a : ℕ) → (o : OpenThere d s a) → fields_at d (open_at (desk_of s) a) ≡ fields_declared (slice_get d.shape.tables o.use_of.table)
+fields_known : (d : Declared) (s : StoreState) (a : ℕ) → (o : OpenThere d s a)
+    → fields_at d (open_at (desk_of s) a) ≡ fields_declared (slice_get d.shape.tables o.use_of.table)
 fields_known d s a o = ap (fields_at d) o.known
 
-field_there : (d : Declared) (s : StoreState) (a f : ℕ) → StoreFits d s → (o : OpenThere d s a) → no_field d (desk_of s) a f ≡ false → f < length o.table.table.structure.fields
+field_there : (d : Declared) (s : StoreState) (a f : ℕ) → StoreFits d s → (o : OpenThere d s a)
+    → no_field d (desk_of s) a f ≡ false → f < length o.table.table.structure.fields
 field_there d s a f fits o e =
-    let fails : nat_le (length (fields_declared (slice_get d.shape.tables o.use_of.table))) f ≡ false = ap (fails_if_open (λ b. nat_le (length (fields_at d (Some b))) f)) (sym o.known) ∙ e in
+    let fails : nat_le (length (fields_declared (slice_get d.shape.tables o.use_of.table))) f ≡ false =
+    ap (fails_if_open (λ b. nat_le (length (fields_at d (Some b))) f)) (sym o.known) ∙ e in
     let alike = fields_alike d s a fits o in
     omega (arith, leb-false (length (fields_declared (slice_get d.shape.tables o.use_of.table))) f fails, alike.count)
 
-has_field : (s : StoreState) (f : ℕ) (x : Option OpenState) (o : OpenState) → x ≡ Some o → f < length o.table.structure.fields → HasField f x
+has_field : (s : StoreState) (f : ℕ) (x : Option OpenState) (o : OpenState) → x ≡ Some o
+    → f < length o.table.structure.fields → HasField f x
 has_field s f x o e lt = subst (HasField f) (sym e) (refl, lt)
 
 -- the kind that is declared for a field of an open area's table
-pub field_known : (d : Declared) (s : StoreState) (a f : ℕ) → StoreFits d s → (o : OpenThere d s a) → no_field d (desk_of s) a f ≡ false → field_kind d (desk_of s) a f ≡ Some (kind_for (letter_at o.table.table.structure f))
+pub field_known : (d : Declared) (s : StoreState) (a f : ℕ) → StoreFits d s → (o : OpenThere d s a)
+    → no_field d (desk_of s) a f ≡ false
+    → field_kind d (desk_of s) a f ≡ Some (kind_for (letter_at o.table.table.structure f))
 field_known d s a f fits o e =
     let lt = field_there d s a f fits o e in
     ap (λ (fs : List TableField). kind_of_field (slice_get fs f)) (fields_known d s a o)
     ∙ alike_kind o.table.table.structure (fields_declared (slice_get d.shape.tables o.use_of.table)) f lt
     (fields_alike d s a fits o)
 
-replace_ready : Same → (code : Code) (w : World) → StoreFits code.declared w.env.store → (f : ℕ) → OpenThere code.declared w.env.store w.env.store.selected → IsClear code w (Records (Replace f)) → HasField f (here w.env.store) × IfSome (here w.env.store) (TakesField f w.values)
+replace_ready : Same → (code : Code) (w : World) → StoreFits code.declared w.env.store → (f : ℕ)
+    → OpenThere code.declared w.env.store w.env.store.selected → IsClear code w (Records (Replace f))
+    → HasField f (here w.env.store) × IfSome (here w.env.store) (TakesField f w.values)
 replace_ready same code w fits f o c =
     let d = code.declared in
     let s = w.env.store in
@@ -65,28 +74,40 @@ replace_ready same code w fits f o c =
     let lt = field_there d s s.selected f fits o named in
     let kind = field_known d s s.selected f fits o named in
     let clash : clashes (kind_for (letter_at o.table.table.structure f) ∷ []) (state_of w).stack ≡ false =
-    ap (λ (k : Option Kind). clashes (if_known k) (state_of w).stack) (sym kind) ∙ first_no (clashes (if_known (field_kind d (desk_of s) s.selected f)) (state_of w).stack) false c.kind in (
+    ap (λ (k : Option Kind). clashes (if_known k) (state_of w).stack) (sym kind)
+    ∙ first_no (clashes (if_known (field_kind d (desk_of s) s.selected f)) (state_of w).stack) false c.kind in (
       has_field s f (here s) o.table o.there lt,
-      subst (λ x. IfSome x (TakesField f w.values)) (sym o.there) (on_top same (kind_for (letter_at o.table.table.structure f) ∷ []) w.values.stack clash (omega (arith, enough w.values.stack 1 c.there))),
+      subst (λ x. IfSome x (TakesField f w.values)) (sym o.there)
+          (on_top same (kind_for (letter_at o.table.table.structure f) ∷ []) w.values.stack clash
+          (omega (arith, enough w.values.stack 1 c.there))),
     )
 
 -- ---- INDEX
 
 -- the first of some numbers that all pass a test
-first_passes : (test : ℕ → Bool) (ns : List ℕ) → 1 ≤ length ns → list_all test ns ≡ true → test (unwrap_or (slice_get ns 0) 0) ≡ true
+first_passes : (test : ℕ → Bool) (ns : List ℕ) → 1 ≤ length ns → list_all test ns ≡ true
+    → test (unwrap_or (slice_get ns 0) 0) ≡ true
 first_passes test [] le all = absurd (omega (arith, le))
 first_passes test (n ∷ ns) le all = (and_parts (test n) (list_all test ns) all).0
 
-index_ready : (code : Code) (w : World) → Facts code → StoreFits code.declared w.env.store → (l : ℕ) → OpenThere code.declared w.env.store w.env.store.selected → IsClear code w (Records (Index l)) → ClosingNeeds code (Index l) w.env.store
+index_ready : (code : Code) (w : World) → Facts code → StoreFits code.declared w.env.store → (l : ℕ)
+    → OpenThere code.declared w.env.store w.env.store.selected → IsClear code w (Records (Index l))
+    → ClosingNeeds code (Index l) w.env.store
 index_ready code w f fits l o c =
     let d = code.declared in
     let s = w.env.store in
     let p = or_parts (is_no_list d l) (is_no_index d (desk_of s) l) c.declared in
-    let q = or_parts (nat_lt 1 (opened_by d l)) (fails_if_open (λ a. is_other_list d a.table l) (open_at (desk_of s) s.selected)) p.1 in
-    let own : is_other_list d o.use_of.table l ≡ false = ap (fails_if_open (λ a. is_other_list d a.table l)) (sym o.known) ∙ q.1 in
-    let marks = marks_there d s o.use_of.table o.table (list_numbers d l) fits o.at (own_indexes d o.use_of.table l f.lists own) in
+    let q =
+    or_parts (nat_lt 1 (opened_by d l))
+    (fails_if_open (λ a. is_other_list d a.table l) (open_at (desk_of s) s.selected)) p.1 in
+    let own : is_other_list d o.use_of.table l ≡ false =
+    ap (fails_if_open (λ a. is_other_list d a.table l)) (sym o.known) ∙ q.1 in
+    let marks =
+    marks_there d s o.use_of.table o.table (list_numbers d l) fits o.at
+    (own_indexes d o.use_of.table l f.lists own) in
     subst (λ x. IfSome x (λ (o : OpenState). is_some (mark_at o.table.marks (index_in d l)) ≡ true)) (sym o.there)
-    (first_passes (λ n. is_some (mark_at o.table.table.marks n)) (list_numbers d l) (some_index d l o.use_of.table p.0 own) marks)
+    (first_passes (λ n. is_some (mark_at o.table.table.marks n)) (list_numbers d l)
+    (some_index d l o.use_of.table p.0 own) marks)
 
 -- ---- together
 
@@ -99,7 +120,9 @@ record_ready same law code w f k fits (Field a n) legal c =
     let q = and_parts (nat_le 1 a) (nat_le a 10) p.0 in (
       leb-true 1 a q.0,
       leb-true a 10 q.1,
-      has_field w.env.store n (area_table w.env.store a) o.table o.there (field_there code.declared w.env.store a n fits o (first_no (no_field code.declared (desk_of w.env.store) a n) false c.declared)),
+      has_field w.env.store n (area_table w.env.store a) o.table o.there
+          (field_there code.declared w.env.store a n fits o
+          (first_no (no_field code.declared (desk_of w.env.store) a n) false c.declared)),
       room_for code.declared.stack_bound w.values.stack f.stack_bound c.room,
     )
 record_ready same law code w f k fits (RowField n) legal c = absurd (let e : true ≡ false = c.filter in cc)

@@ -7,7 +7,8 @@ use Rattle.run_steps.specs.Pausing.{Came}
 use Rattle.run_steps.specs.Run.{spent, Ran, Stops}
 use Rattle.run_steps.proofs.LeadingSteps.{after_more, spent_more, finds_more}
 
-pub joined : (code : Code) (a b c : World) (first second : ℕ) → Came code a first b → Came code b second c → Came code a (first + second) c
+pub joined : (code : Code) (a b c : World) (first second : ℕ) → Came code a first b → Came code b second c
+    → Came code a (first + second) c
 joined code a b c first second one two =
     let all = spent_more code a b one.count two.count one.reached in
     record {
@@ -17,11 +18,13 @@ joined code a b c first second one two =
       finds = finds_more code a b one.count two.count one.reached one.finds two.finds;
     }
 
-pub ended : (code : Code) (a b c : World) (budget steps : ℕ) (outcome : Outcome) → Came code a steps b → steps ≤ budget → Ran code b (budget - steps) outcome c
+pub ended : (code : Code) (a b c : World) (budget steps : ℕ) (outcome : Outcome) → Came code a steps b → steps ≤ budget
+    → Ran code b (budget - steps) outcome c
     → Ran code a budget (record { end = outcome.end; steps = steps + outcome.steps }) c
 ended code a b c budget steps outcome one le two =
     let all = spent_more code a b one.count two.count one.reached in
-    let left : (budget - steps) - spent code b two.count ≡ budget - spent code a (one.count + two.count) = omega (arith, one.steps_are, all) in
+    let left : (budget - steps) - spent code b two.count ≡ budget - spent code a (one.count + two.count) =
+    omega (arith, one.steps_are, all) in
     record {
       count = one.count + two.count;
       reached = after_more code a b one.count two.count one.reached ∙ two.reached;

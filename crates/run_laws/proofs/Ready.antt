@@ -48,13 +48,18 @@ ready same law code w i f h legal c = record {
 }
 
 abbrev pub AreReady : Type 0
-AreReady = (code : Code) (w : World) (i : Instr) → IsCode code → HasShape code w → is_instr code.declared.version i ≡ true → IsClear code w i → IsReadyFor code w i
+AreReady =
+    (code : Code) (w : World) (i : Instr) → IsCode code → HasShape code w → is_instr code.declared.version i ≡ true
+    → IsClear code w i → IsReadyFor code w i
 
-pub goes_on : AreReady → (code : Code) (w : World) → IsCode code → Facts code → HasShape code w → fault_of code w (instr_at code w.place) ≡ None → IsClear code w (instr_at code w.place) → IsSafeHere code w
+pub goes_on : AreReady → (code : Code) (w : World) → IsCode code → Facts code → HasShape code w
+    → fault_of code w (instr_at code w.place) ≡ None → IsClear code w (instr_at code w.place) → IsSafeHere code w
 goes_on are_ready code w legal f h sound clear =
     let place : w.place < length code.instructions = omega (arith, h.place, f.places) in
     record {
       place = place;
       sound = sound;
-      ready = λ _. are_ready code w (instr_at code w.place) legal h (all_within (is_instr code.declared.version) code.instructions w.place (Flow End) f.legal place) clear;
+      ready =
+          λ _. are_ready code w (instr_at code w.place) legal h
+          (all_within (is_instr code.declared.version) code.instructions w.place (Flow End) f.legal place) clear;
     }

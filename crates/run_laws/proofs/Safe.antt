@@ -10,23 +10,31 @@ use Rattle.run_steps.specs.Control.{effect, finishes}
 use Rattle.run_steps.specs.Run.{Next, Finished, judged, step_of, after, IsNoFault, IsFault, Stops, Ran}
 use Rattle.run_steps.specs.Safe.{IsSafe, IsSafeHere}
 
-no_fault_by : (code : Code) (w : World) (b : Bool) → IsNoFault (if b then Finished else Next (effect code w (instr_at code w.place)))
+no_fault_by : (code : Code) (w : World) (b : Bool)
+    → IsNoFault (if b then Finished else Next (effect code w (instr_at code w.place)))
 no_fault_by code w true = tt
 no_fault_by code w false = tt
 
 no_fault : (code : Code) (w : World) → IsSafeHere code w → IsNoFault (step_of code w)
 unfolding step_of
-no_fault code w s = subst (λ f. IsNoFault (judged f (if finishes w (instr_at code w.place) then Finished else Next (effect code w (instr_at code w.place))))) (sym s.sound) (no_fault_by code w (finishes w (instr_at code w.place)))
+no_fault code w s =
+    subst (λ f. IsNoFault
+    (judged f (if finishes w (instr_at code w.place) then Finished else Next (effect code w (instr_at code w.place)))))
+    (sym s.sound) (no_fault_by code w (finishes w (instr_at code w.place)))
 
-ends_well : (code : Code) (w : World) (left : ℕ) (end : End) → IsNoFault (step_of code w) → Stops code w left end → ¬ IsFault end
+ends_well : (code : Code) (w : World) (left : ℕ) (end : End) → IsNoFault (step_of code w) → Stops code w left end
+    → ¬ IsFault end
 ends_well code w left EndFinished sound stops = λ x. x
 ends_well code w left Spent sound stops = λ x. x
 ends_well code w left (Full table) sound stops = λ x. x
 ends_well code w left NoMemory sound stops = λ x. x
 ends_well code w left (Fault kind at) sound stops = λ x. subst IsNoFault stops.0 sound
 
-pub steps_well : (code : Code) (w : World) → IsSafe code w → (n : ℕ) (v : World) → after code w n ≡ Some v → IsNoFault (step_of code v)
+pub steps_well : (code : Code) (w : World) → IsSafe code w → (n : ℕ) (v : World) → after code w n ≡ Some v
+    → IsNoFault (step_of code v)
 steps_well code w safe n v e = no_fault code v (safe n v e)
 
-pub run_ends_well : (code : Code) (w : World) (budget : ℕ) (outcome : Outcome) (v : World) → IsSafe code w → Ran code w budget outcome v → ¬ IsFault outcome.end
-run_ends_well code w budget outcome v safe ran = ends_well code v _ outcome.end (no_fault code v (safe ran.count v ran.reached)) ran.stops
+pub run_ends_well : (code : Code) (w : World) (budget : ℕ) (outcome : Outcome) (v : World) → IsSafe code w
+    → Ran code w budget outcome v → ¬ IsFault outcome.end
+run_ends_well code w budget outcome v safe ran =
+    ends_well code v _ outcome.end (no_fault code v (safe ran.count v ran.reached)) ran.stops

@@ -1,5 +1,6 @@
 -- A store of a code's shape, seen table by table and area by area, and back again.
-use Rattle.std.proofs.Common.{◌≡◌, ℕ, zero, suc, ◌-◌, ◌≤◌, true, List, [], ◌∷◌, length, Option, Some, None, refl, sym, ap, subst, ◌∙◌, arith}
+use Rattle.std.proofs.Common.{◌≡◌, ℕ, zero, suc, ◌-◌, ◌≤◌, true, List, [], ◌∷◌, length, Option, Some, None, refl, sym}
+use Rattle.std.proofs.Common.{ap, subst, ◌∙◌, arith}
 use Rattle.std.specs.Prelude.{◌==◌, ◌&&◌, nat_le, map, slice_get, slice_index_or, is_some, IfSome}
 use Rattle.std.specs.List.{list_all}
 use Rattle.std.proofs.lemmas.Bool.{eq-eqb, le-leb, and_from}
@@ -21,26 +22,39 @@ use Rattle.run_laws.proofs.Known.{area_by}
 use Rattle.run_laws.proofs.Stores.{KindFits, IsSound}
 use Rattle.run_laws.proofs.Tests.{all_at, mapped_at}
 
-use_there : (areas : List (Option Use)) (n : ℕ) (u : Use) → slice_index_or areas n None ≡ Some u → slice_get areas n ≡ Some (Some u)
+use_there : (areas : List (Option Use)) (n : ℕ) (u : Use) → slice_index_or areas n None ≡ Some u
+    → slice_get areas n ≡ Some (Some u)
 use_there [] n u e = absurd (cc)
 use_there (x ∷ areas) zero u e = ap (λ (y : Option Use). Some y) e
 use_there (x ∷ areas) (suc n) u e = use_there areas n u e
 
-pub kinds_from : (d : Declared) (s : StoreState) → StoreFits d s → (t : ℕ) (o : OpenState) → slice_get s.tables t ≡ Some o → KindFits d t o
+pub kinds_from : (d : Declared) (s : StoreState) → StoreFits d s → (t : ℕ) (o : OpenState)
+    → slice_get s.tables t ≡ Some o → KindFits d t o
 kinds_from d s fits t o at = record {
-  fields = subst (λ x. IfSome x (λ (p : OpenState). IfSome (slice_get d.shape.tables t) (λ (declared : TableShape). HaveAlikeFields p.table.structure.fields declared.fields))) at (fits.fields t (slice_get_within s.tables t o at));
-  indexes = λ n x is same. subst (λ y. IfSome y (λ (p : OpenState). is_some (mark_at p.table.marks n) ≡ true)) (ap (slice_get s.tables) same ∙ at)
-      (subst (λ y. IfSome y (λ (x : IndexShape). IfSome (table_at s x.table) (λ (p : OpenState). is_some (mark_at p.table.marks n) ≡ true))) is (fits.indexes n));
+  fields =
+      subst (λ x. IfSome x
+      (λ (p : OpenState). IfSome (slice_get d.shape.tables t)
+      (λ (declared : TableShape). HaveAlikeFields p.table.structure.fields declared.fields)))
+      at (fits.fields t (slice_get_within s.tables t o at));
+  indexes =
+      λ n x is same. subst (λ y. IfSome y (λ (p : OpenState). is_some (mark_at p.table.marks n) ≡ true))
+      (ap (slice_get s.tables) same ∙ at)
+      (subst (λ y. IfSome y
+      (λ (x : IndexShape). IfSome (table_at s x.table)
+      (λ (p : OpenState). is_some (mark_at p.table.marks n) ≡ true))) is (fits.indexes n));
 }
 
-pub sound_from : (d : Declared) (s : StoreState) → list_all (is_area_state d) (desk_of s).areas ≡ true → length (desk_of s).areas ≡ 10 → 1 ≤ s.selected → s.selected ≤ 10 → StoreFits d s → AreApart s.areas → IsSound d s
+pub sound_from : (d : Declared) (s : StoreState) → list_all (is_area_state d) (desk_of s).areas ≡ true
+    → length (desk_of s).areas ≡ 10 → 1 ≤ s.selected → s.selected ≤ 10 → StoreFits d s → AreApart s.areas → IsSound d s
 sound_from d s all ten least most fits apart = record {
   count = fits.count;
   kinds = kinds_from d s fits;
   held = λ n u e. (let same : suc n - 1 ≡ n = omega arith in
       let held : use_at s (suc n) ≡ Some u = ap (λ k. slice_index_or s.areas k None) same ∙ e in record {
         list = subst (λ x. IfSome x (λ (v : Use). IfSome (used_table s x) (ListStands d v))) held (fits.lists (suc n));
-        legal = all_at (is_area_state d) (map (area_state s.tables) s.areas) n (area_state s.tables (Some u)) all (mapped_at (area_state s.tables) s.areas n (Some u) (use_there s.areas n u e));
+        legal =
+            all_at (is_area_state d) (map (area_state s.tables) s.areas) n (area_state s.tables (Some u)) all
+            (mapped_at (area_state s.tables) s.areas n (Some u) (use_there s.areas n u e));
       });
   ten = sym (length-map s.areas (area_state s.tables)) ∙ ten;
   one = least;
@@ -56,27 +70,39 @@ fits_of d s h = record {
   lists = λ a. list_at a (use_at s a) refl;
 }
   where
-    fields_at : (t : ℕ) (x : Option OpenState) → slice_get s.tables t ≡ x → IfSome x (λ (o : OpenState). IfSome (slice_get d.shape.tables t) (λ (declared : TableShape). HaveAlikeFields o.table.structure.fields declared.fields))
+    fields_at : (t : ℕ) (x : Option OpenState) → slice_get s.tables t ≡ x
+        → IfSome x
+        (λ (o : OpenState). IfSome (slice_get d.shape.tables t)
+        (λ (declared : TableShape). HaveAlikeFields o.table.structure.fields declared.fields))
     fields_at t None e = tt
     fields_at t (Some o) e = (h.kinds t o e).fields
 
-    mark_in : (n : ℕ) (x : IndexShape) → slice_get d.shape.indexes n ≡ Some x → (y : Option OpenState) → slice_get s.tables x.table ≡ y → IfSome y (λ (o : OpenState). is_some (mark_at o.table.marks n) ≡ true)
+    mark_in : (n : ℕ) (x : IndexShape) → slice_get d.shape.indexes n ≡ Some x → (y : Option OpenState)
+        → slice_get s.tables x.table ≡ y → IfSome y (λ (o : OpenState). is_some (mark_at o.table.marks n) ≡ true)
     mark_in n x is None e = tt
     mark_in n x is (Some o) e = (h.kinds x.table o e).indexes n x is refl
 
-    index_at : (n : ℕ) (x : Option IndexShape) → slice_get d.shape.indexes n ≡ x → IfSome x (λ (x : IndexShape). IfSome (table_at s x.table) (λ (o : OpenState). is_some (mark_at o.table.marks n) ≡ true))
+    index_at : (n : ℕ) (x : Option IndexShape) → slice_get d.shape.indexes n ≡ x
+        → IfSome x
+        (λ (x : IndexShape). IfSome (table_at s x.table) (λ (o : OpenState). is_some (mark_at o.table.marks n) ≡ true))
     index_at n None e = tt
     index_at n (Some x) e = mark_in n x e (slice_get s.tables x.table) refl
 
-    list_at : (a : ℕ) (x : Option Use) → use_at s a ≡ x → IfSome x (λ (u : Use). IfSome (used_table s x) (ListStands d u))
+    list_at : (a : ℕ) (x : Option Use) → use_at s a ≡ x
+        → IfSome x (λ (u : Use). IfSome (used_table s x) (ListStands d u))
     list_at a None e = tt
     list_at a (Some u) e = (h.held (a - 1) u e).list
 
-areas_legal : (d : Declared) (tables : List OpenState) (areas : List (Option Use)) → ((n : ℕ) (u : Use) → slice_index_or areas n None ≡ Some u → is_open d (area_by u (order_of (slice_get tables u.table))) ≡ true) → list_all (is_area_state d) (map (area_state tables) areas) ≡ true
+areas_legal : (d : Declared) (tables : List OpenState) (areas : List (Option Use))
+    → ((n : ℕ) (u : Use) → slice_index_or areas n None ≡ Some u
+    → is_open d (area_by u (order_of (slice_get tables u.table))) ≡ true)
+    → list_all (is_area_state d) (map (area_state tables) areas) ≡ true
 areas_legal d tables [] h = refl
 areas_legal d tables (None ∷ areas) h = areas_legal d tables areas (λ n u e. h (suc n) u e)
 areas_legal d tables (Some u ∷ areas) h =
-    and_from (is_open d (area_by u (order_of (slice_get tables u.table)))) (list_all (is_area_state d) (map (area_state tables) areas)) (h 0 u refl) (areas_legal d tables areas (λ n u e. h (suc n) u e))
+    and_from (is_open d (area_by u (order_of (slice_get tables u.table))))
+    (list_all (is_area_state d) (map (area_state tables) areas)) (h 0 u refl)
+    (areas_legal d tables areas (λ n u e. h (suc n) u e))
 
 pub desk_is : (d : Declared) (s : StoreState) → IsSound d s → is_desk d (desk_of s) ≡ true
 unfolding is_desk
@@ -88,8 +114,10 @@ desk_is d s h =
     (eq-eqb (length areas) 10 (length-map s.areas (area_state s.tables) ∙ h.ten)))
     (areas_legal d s.tables s.areas (λ n u e. (h.held n u e).legal))
 
-pub state_is : (d : Declared) (s : State) → is_desk d s.desk ≡ true → length s.slots ≡ d.slots → length s.stack ≤ d.stack_bound → is_state d s ≡ true
+pub state_is : (d : Declared) (s : State) → is_desk d s.desk ≡ true → length s.slots ≡ d.slots
+    → length s.stack ≤ d.stack_bound → is_state d s ≡ true
 unfolding is_state
 state_is d s desk slots stack =
     and_from (is_desk d s.desk && length s.slots == d.slots) (nat_le (length s.stack) d.stack_bound)
-    (and_from (is_desk d s.desk) (length s.slots == d.slots) desk (eq-eqb (length s.slots) d.slots slots)) (le-leb (length s.stack) d.stack_bound stack)
+    (and_from (is_desk d s.desk) (length s.slots == d.slots) desk (eq-eqb (length s.slots) d.slots slots))
+    (le-leb (length s.stack) d.stack_bound stack)

@@ -33,13 +33,19 @@ steps_kept same law stay code w i f h apart legal c goes =
     let needs = (ready same law code w i f h legal c).needs in
     let sound = sound_from d s k.areas k.ten k.one k.last h.store apart in
     let after = leaves code w i f stay sound (open_there d s s.selected k.areas h.store) c needs in
-    let slots : length (map kind_held v.values.slots) ≡ d.slots = length-map v.values.slots kind_held ∙ slots_stay code i w.values w.env ∙ sym (length-map w.values.slots kind_held) ∙ k.slots in
+    let slots : length (map kind_held v.values.slots) ≡ d.slots =
+    length-map v.values.slots kind_held ∙ slots_stay code i w.values w.env
+    ∙ sym (length-map w.values.slots kind_held) ∙ k.slots in
     let height : length (map kind_of v.values.stack) ≡ height_after (length (map kind_of w.values.stack)) i =
-    length-map v.values.stack kind_of ∙ height_is code i w.values w.env needs ∙ ap (λ n. height_after n i) (sym (length-map w.values.stack kind_of)) in
-    let bound : height_after (length (map kind_of w.values.stack)) i ≤ d.stack_bound = ltb-false d.stack_bound (height_after (length (map kind_of w.values.stack)) i) c.room in (
+    length-map v.values.stack kind_of ∙ height_is code i w.values w.env needs
+    ∙ ap (λ n. height_after n i) (sym (length-map w.values.stack kind_of)) in
+    let bound : height_after (length (map kind_of w.values.stack)) i ≤ d.stack_bound =
+    ltb-false d.stack_bound (height_after (length (map kind_of w.values.stack)) i) c.room in (
       record {
         place = goes_within code w i c goes;
-        state = state_is d (state_of v) (desk_is d v.env.store after) slots (subst (λ n. n ≤ d.stack_bound) (sym height) bound);
+        state =
+            state_is d (state_of v) (desk_is d v.env.store after) slots
+            (subst (λ n. n ≤ d.stack_bound) (sym height) bound);
         calls = few_calls code w i h.calls c;
         store = fits_of d v.env.store after;
       },

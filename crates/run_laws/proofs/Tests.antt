@@ -1,5 +1,6 @@
 -- What tests of kinds, heights and numbers say of values, stacks and lists.
-use Rattle.std.proofs.Common.{◌≡◌, ℕ, zero, suc, ◌+◌, ◌-◌, ◌<◌, ◌≤◌, Bool, true, false, List, [], ◌∷◌, length, Option, Some, None, refl, ap, subst, arith}
+use Rattle.std.proofs.Common.{◌≡◌, ℕ, zero, suc, ◌+◌, ◌-◌, ◌<◌, ◌≤◌, Bool, true, false, List, [], ◌∷◌, length, Option}
+use Rattle.std.proofs.Common.{Some, None, refl, ap, subst, arith}
 use Rattle.std.specs.Prelude.{not, ◌||◌, ◌&&◌, slice_get, slice_index_or, map, ◌==◌, nat_lt}
 use Rattle.std.specs.List.{list_all}
 use Rattle.std.proofs.lemmas.Bool.{ltb-false, ne_eqb, or_parts, and_parts, not-false}
@@ -37,7 +38,8 @@ pub not_zero : (n : ℕ) → suc n == 0 ≡ false
 not_zero n = ne_eqb (suc n) 0 (λ e. absurd (omega (arith, e)))
 
 -- the kinds wanted are on top, where none that is there is another, and there are as many
-pub on_top : Same → (kinds : List Kind) (vs : List Value) → clashes kinds (map kind_of vs) ≡ false → length kinds ≤ length vs → HasOnTop kinds vs
+pub on_top : Same → (kinds : List Kind) (vs : List Value) → clashes kinds (map kind_of vs) ≡ false
+    → length kinds ≤ length vs → HasOnTop kinds vs
 on_top same [] vs h le = tt
 on_top same (k ∷ kinds) [] h le = absurd (omega (arith, le))
 on_top same (k ∷ kinds) (v ∷ vs) h le =
@@ -45,7 +47,9 @@ on_top same (k ∷ kinds) (v ∷ vs) h le =
     (same (kind_of v) k (not-false (same_kind (kind_of v) k) p.0), on_top same kinds vs p.1 (omega (arith, le)))
 
 -- a slot that is there, isn't free and has no other kind holds the kind
-pub slot_holds : Same → (k : Kind) (slots : List (Option Value)) (n : ℕ) → n < length slots → has_other k (slice_get (map kind_held slots) n) ≡ false → is_free (slice_get (map kind_held slots) n) ≡ false → HoldsKind k (slice_get slots n)
+pub slot_holds : Same → (k : Kind) (slots : List (Option Value)) (n : ℕ) → n < length slots
+    → has_other k (slice_get (map kind_held slots) n) ≡ false → is_free (slice_get (map kind_held slots) n) ≡ false
+    → HoldsKind k (slice_get slots n)
 slot_holds same k [] n lt other free = absurd (omega (arith, lt))
 slot_holds same k (None ∷ slots) zero lt other free = absurd (cc)
 slot_holds same k (Some v ∷ slots) zero lt other free = same (kind_of v) k (not-false (same_kind (kind_of v) k) other)
@@ -56,21 +60,25 @@ pub enough : (vs : List Value) (n : ℕ) → nat_lt (length (map kind_of vs)) n 
 enough vs n h = omega (arith, ltb-false (length (map kind_of vs)) n h, length-map vs kind_of)
 
 -- room for one more
-pub room_for : (bound : ℕ) (vs : List Value) → bound ≤ 64 → nat_lt bound (length (map kind_of vs) - 0 + 1) ≡ false → length vs < 64
+pub room_for : (bound : ℕ) (vs : List Value) → bound ≤ 64 → nat_lt bound (length (map kind_of vs) - 0 + 1) ≡ false
+    → length vs < 64
 room_for bound vs le h = omega (arith, ltb-false bound (length (map kind_of vs) - 0 + 1) h, length-map vs kind_of, le)
 
 -- an element of a list that passes a test passes it
-pub all_at : {A : Type 0} (test : A → Bool) (xs : List A) (n : ℕ) (x : A) → list_all test xs ≡ true → slice_get xs n ≡ Some x → test x ≡ true
+pub all_at : {A : Type 0} (test : A → Bool) (xs : List A) (n : ℕ) (x : A) → list_all test xs ≡ true
+    → slice_get xs n ≡ Some x → test x ≡ true
 all_at test [] n x all e = absurd (cc)
 all_at test (y ∷ xs) zero x all e =
     let same : y ≡ x = cc in
     subst (λ z. test z ≡ true) same (and_parts (test y) (list_all test xs) all).0
 all_at test (y ∷ xs) (suc n) x all e = all_at test xs n x (and_parts (test y) (list_all test xs) all).1 e
 
-pub all_within : {A : Type 0} (test : A → Bool) (xs : List A) (n : ℕ) (d : A) → list_all test xs ≡ true → n < length xs → test (slice_index_or xs n d) ≡ true
+pub all_within : {A : Type 0} (test : A → Bool) (xs : List A) (n : ℕ) (d : A) → list_all test xs ≡ true → n < length xs
+    → test (slice_index_or xs n d) ≡ true
 all_within test [] n d all lt = absurd (omega (arith, lt))
 all_within test (y ∷ xs) zero d all lt = (and_parts (test y) (list_all test xs) all).0
-all_within test (y ∷ xs) (suc n) d all lt = all_within test xs n d (and_parts (test y) (list_all test xs) all).1 (omega (arith, lt))
+all_within test (y ∷ xs) (suc n) d all lt =
+    all_within test xs n d (and_parts (test y) (list_all test xs) all).1 (omega (arith, lt))
 
 -- an element that is there
 pub is_there : {A : Type 0} (xs : List A) (n : ℕ) → n < length xs → (x : A) × (slice_get xs n ≡ Some x)
@@ -78,7 +86,8 @@ is_there [] n lt = absurd (omega (arith, lt))
 is_there (x ∷ xs) zero lt = (x, refl)
 is_there (x ∷ xs) (suc n) lt = is_there xs n (omega (arith, lt))
 
-pub mapped_at : {A B : Type 0} (f : A → B) (xs : List A) (n : ℕ) (x : A) → slice_get xs n ≡ Some x → slice_get (map f xs) n ≡ Some (f x)
+pub mapped_at : {A B : Type 0} (f : A → B) (xs : List A) (n : ℕ) (x : A) → slice_get xs n ≡ Some x
+    → slice_get (map f xs) n ≡ Some (f x)
 mapped_at f [] n x e = absurd (cc)
 mapped_at f (y ∷ xs) zero x e = (let same : y ≡ x = cc in ap (λ z. Some (f z)) same)
 mapped_at f (y ∷ xs) (suc n) x e = mapped_at f xs n x e

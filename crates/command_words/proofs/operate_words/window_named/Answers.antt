@@ -29,9 +29,14 @@ returns c size =
     let high = (c.number_said.ensures c.in_ok-number_said.field-0).0 rows in
     let wide = (c.number_said-2.ensures c.in_ok-number_said-2.field-0).0 columns in (
       λ e. (let same = size_parts c.in_ok-number_said.field-0 c.in_ok-number_said-2.field-0 size e in
-          joined c.args.word.now (c.in_ok-rows.rows, c.in_ok-rows.columns) c.in_ok-rows.ensures.cases size (subst (λ n. IsNumber c.in_ok-rows.rows.now n) same.0 high) (subst (λ n. IsNumber c.in_ok-rows.columns.now n) same.1 wide)),
-      λ s. (let here = cut c.args.word.now (c.in_ok-rows.rows, c.in_ok-rows.columns) c.in_ok-rows.ensures.cases size s in
+          joined c.args.word.now (c.in_ok-rows.rows, c.in_ok-rows.columns) c.in_ok-rows.ensures.cases size
+          (subst (λ n. IsNumber c.in_ok-rows.rows.now n) same.0 high)
+          (subst (λ n. IsNumber c.in_ok-rows.columns.now n) same.1 wide)),
+      λ s. (let here = cut c.args.word.now (c.in_ok-rows.rows, c.in_ok-rows.columns) c.in_ok-rows.ensures.cases size
+          s in
           same_size c.in_ok-number_said.field-0 c.in_ok-number_said-2.field-0 size
-          (one_number c.number_said.result c.in_ok-number_said.field-0 size.rows rows ((c.number_said.ensures size.rows).1 here.0))
-          (one_number c.number_said-2.result c.in_ok-number_said-2.field-0 size.columns columns ((c.number_said-2.ensures size.columns).1 here.1))),
+          (one_number c.number_said.result c.in_ok-number_said.field-0 size.rows rows
+          ((c.number_said.ensures size.rows).1 here.0))
+          (one_number c.number_said-2.result c.in_ok-number_said-2.field-0 size.columns columns
+          ((c.number_said-2.ensures size.columns).1 here.1))),
     )

@@ -7,4 +7,5 @@ use Rattle.command_words.proofs.operate_words.window_of.Goals as goal
 
 pub returns-in-None-window_named-clause-refused : goal.returns-in-None-window_named-clause-refused
 returns-in-None-window_named-clause-refused c =
-    no_window c.in-Some.word (word_given (codes "window") (rows_of (found_of c.args.matches.now))) c.in-Some.ensures c.in-None-window_named.ensures
+    no_window c.in-Some.word (word_given (codes "window") (rows_of (found_of c.args.matches.now))) c.in-Some.ensures
+    c.in-None-window_named.ensures

@@ -11,4 +11,5 @@ returns-clause-refused c =
     let name = c.in_ok-command.command.now in
     let rows = rows_of (found_of c.in_ok-command.matches.now) in
     let here = command_said c.args.matches.now name rows (search rules) (search rules) in
-    IfErr-weaker c.words_behind.result _ _ (λ told h. subst (λ said. RefusesWords said told) (sym here) h) c.words_behind.ensures.refused
+    IfErr-weaker c.words_behind.result _ _ (λ told h. subst (λ said. RefusesWords said told) (sym here) h)
+    c.words_behind.ensures.refused

@@ -1,12 +1,11 @@
 -- One command file after the other.
-use Rattle.std.proofs.Common.{◌<◌, ◌≤◌, ◌+◌, ℕ, List, [], length, map, Bor, below_more, refl, sym, ap, ◌∙◌, subst}
+use Rattle.std.proofs.Common.{◌<◌, ◌≤◌, ◌+◌, ℕ, List, [], length, map, Bor, below_more, sym, ap, ◌∙◌, subst}
 use Rattle.std.proofs.Common.{arith}
 use Rattle.std.proofs.lemmas.List.{get_or-map, length-map}
 use Rattle.std.proofs.lemmas.Result.{err_from_is_err_and}
 use Rattle.compile_commands.specs.Compiling.{IsRead, name_at}
-use Rattle.compile_commands.specs.Refusals.{SourceRefusalIs}
 use Rattle.file_access.proofs.Holding.{same_self, same_then}
-use Rattle.compile_commands.proofs.FileLemmas.{read_before, source_told}
+use Rattle.compile_commands.proofs.FileLemmas.{read_before, told_at}
 use Rattle.compile_commands.proofs.sources.programs_of.Goals as goal
 
 pub loop-file-init : goal.loop-file-init
@@ -21,23 +20,20 @@ pub returns-in_err-add_program-clause-refused : goal.returns-in_err-add_program-
 returns-in_err-add_program-clause-refused g c =
     let p = err_from_is_err_and c.from_residual.result c.from_residual.ensures.1 in
     let i = c.loop-file.invariant in
-    let names = map (λ (name : Bor (List ℕ)). name.now) c.args.names.now in
-    let number = c.loop-file.file in
-    let first = g.F.Files.holds c.args.files.now in
-    let before = g.F.Files.holds c.loop-file.files in
-    let within : number < length names = subst (λ n. number < n) (sym (length-map c.args.names.now (λ (name : Bor (List ℕ)). name.now))) c.loop-file-test.true in
-    let e = get_or-map (λ (name : Bor (List ℕ)). name.now) c.args.names.now number _ [] c.loop-file-test.true in
-    let told = subst (λ (x : List ℕ). SourceRefusalIs number (before x) (g.F.Files.failed c.loop-file.files) (g.F.Files.failed c.add_program.new.files) c.in_err-add_program.field-0.0) (sym e) c.in_err-add_program.ensures.refused in
     rw (p.1, p.2)
-    (source_told c.in_err-add_program.field-0.0 first before names (name_at names number) number (g.F.Files.failed c.args.files.now) (g.F.Files.failed c.loop-file.files) (g.F.Files.failed c.add_program.new.files)
-    i.kept refl within i.counted c.add_program.ensures.counted told)
+    (told_at c.in_err-add_program.field-0.0 (g.F.Files.holds c.args.files.now) (g.F.Files.holds c.loop-file.files)
+    c.args.names.now _ c.loop-file.file
+    (g.F.Files.failed c.args.files.now) (g.F.Files.failed c.loop-file.files) (g.F.Files.failed c.add_program.new.files)
+    i.kept c.loop-file-test.true i.counted c.add_program.ensures.counted c.in_err-add_program.ensures.refused)
 
 pub returns-in_err-add_program-clause-counted : goal.returns-in_err-add_program-clause-counted
-returns-in_err-add_program-clause-counted g c = omega (arith, c.loop-file.invariant.counted, c.add_program.ensures.counted)
+returns-in_err-add_program-clause-counted g c =
+    omega (arith, c.loop-file.invariant.counted, c.add_program.ensures.counted)
 
 pub returns-in_err-add_program-clause-kept : goal.returns-in_err-add_program-clause-kept
 returns-in_err-add_program-clause-kept g c =
-    same_then (g.F.Files.holds c.args.files.now) (g.F.Files.holds c.loop-file.files) (g.F.Files.holds c.add_program.new.files) c.loop-file.invariant.kept c.add_program.ensures.kept
+    same_then (g.F.Files.holds c.args.files.now) (g.F.Files.holds c.loop-file.files)
+    (g.F.Files.holds c.add_program.new.files) c.loop-file.invariant.kept c.add_program.ensures.kept
 
 pub loop-file-preserved : goal.loop-file-preserved
 loop-file-preserved g c =
@@ -58,7 +54,8 @@ loop-file-preserved g c =
 pub returns-clause-read : goal.returns-clause-read
 returns-clause-read g c = λ n h.
     let i = c.loop-file.invariant in
-    let within : n < length c.args.names.now = subst (λ l. n < l) (length-map c.args.names.now (λ (name : Bor (List ℕ)). name.now)) h in
+    let within : n < length c.args.names.now =
+    subst (λ l. n < l) (length-map c.args.names.now (λ (name : Bor (List ℕ)). name.now)) h in
     let behind : length c.args.names.now ≤ c.loop-file.file = omega (arith, c.loop-file-test.false) in
     let below : n < c.loop-file.file = omega (arith, within, behind) in
     i.read n below

@@ -8,5 +8,6 @@ invariant-loop-file g l = record {
   kept : SameFiles (g.F.Files.holds l.fn.files) (g.F.Files.holds l.files);
   counted : g.F.Files.failed l.fn.files ≤ g.F.Files.failed l.files;
   all : length l.programs.items ≡ l.file;
-  read : (number : ℕ) → number < l.file → IsRead (g.F.Files.holds l.fn.files (name_at (map (λ name. name.now) l.fn.names) number));
+  read : (number : ℕ) → number < l.file
+      → IsRead (g.F.Files.holds l.fn.files (name_at (map (λ name. name.now) l.fn.names) number));
 }

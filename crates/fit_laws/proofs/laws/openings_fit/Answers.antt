@@ -8,6 +8,8 @@ returns c = λ code store lines today ok accepted fits.
     record {
       shape = kept.0;
       apart = kept.1;
-      fits = opening_fits code c.covers_goes_on.ensures (c.states_connect.ensures code ok accepted) (procedures_of code ok) store lines today;
+      fits =
+          opening_fits code c.covers_goes_on.ensures (c.states_connect.ensures code ok accepted) (procedures_of code ok)
+          store lines today;
       awaits = tt;
     })

@@ -6,4 +6,5 @@ use Rattle.operator_desk.proofs.gets.bad_answer.Goals as goal
 
 pub returns-clause-run : goal.returns-clause-run
 returns-clause-run c =
-    told_if_wanted c.args.kind (is_some c.told_of.result) (take 254 c.args.line.now) (c.told_of.ensures ∙ ap (leaves_old c.args.kind) c.front.ensures)
+    told_if_wanted c.args.kind (is_some c.told_of.result) (take 254 c.args.line.now)
+    (c.told_of.ensures ∙ ap (leaves_old c.args.kind) c.front.ensures)

@@ -5,5 +5,8 @@ use Rattle.operator_desk.proofs.typing.take_part.Goals as goal
 
 pub returns : goal.returns
 returns g c = λ h.
-    let put : c.extend_from_slice.new.self.items ≡ c.args.line.now.items ++ first_line c.in_ok-ready.ready.now = search rules in
-    subst (λ (t : List ℕ). line_length t ≡ length t) (sym put) (no_end_joined c.args.line.now.items (first_line c.in_ok-ready.ready.now) h (no_end_in_first c.in_ok-ready.ready.now))
+    let put : c.extend_from_slice.new.self.items ≡ c.args.line.now.items ++ first_line c.in_ok-ready.ready.now =
+    search rules in
+    subst (λ (t : List ℕ). line_length t ≡ length t) (sym put)
+    (no_end_joined c.args.line.now.items (first_line c.in_ok-ready.ready.now) h
+    (no_end_in_first c.in_ok-ready.ready.now))

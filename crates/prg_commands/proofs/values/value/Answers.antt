@@ -3,7 +3,8 @@ use Rattle.prg_commands.proofs.Pooling.{in_pool}
 use Rattle.prg_commands.proofs.values.value.Goals as goal
 
 pub returns-in_err-code-clause-grown : goal.returns-in_err-code-clause-grown
-returns-in_err-code-clause-grown c = by_output (in_pool c.args.out.now c.compile_expr.new.pool c.in_err-code.ensures.grown)
+returns-in_err-code-clause-grown c =
+    by_output (in_pool c.args.out.now c.compile_expr.new.pool c.in_err-code.ensures.grown)
 
 pub returns-in_err-put_all-clause-grown : goal.returns-in_err-put_all-clause-grown
 returns-in_err-put_all-clause-grown c = record {

@@ -10,10 +10,12 @@ pub loop-name-preserved : goal.loop-name-preserved
 loop-name-preserved c = record {
   put = (
     c.loop-name.invariant.put.0 ++ c.in-Some.slot ∷ [],
-    one_more c.loop-name.work.names c.args.names.now c.loop-name.name-index c.name-item.result c.loop-name.invariant.put.0 c.in-Some.slot c.loop-name-test.true c.name-item.is
+    one_more c.loop-name.work.names c.args.names.now c.loop-name.name-index c.name-item.result
+        c.loop-name.invariant.put.0 c.in-Some.slot c.loop-name-test.true c.name-item.is
         c.loop-name.invariant.put.1 (sym c.in-Some.ensures),
     unset_one c.loop-name.invariant.put.0 c.in-Some.slot c.loop-name.invariant.put.2
-        (subst (λ (n : ℕ). Puts (Values (value_instr.Unset n) ∷ []) c.loop-name.work.block c.put.new.self) c.from.ensures c.in_ok-put.ensures.put),
+        (subst (λ (n : ℕ). Puts (Values (value_instr.Unset n) ∷ []) c.loop-name.work.block c.put.new.self)
+        c.from.ensures c.in_ok-put.ensures.put),
   );
   names = c.loop-name.invariant.names;
   grown = more_work c.loop-name.invariant.grown (in_block c.loop-name.work c.put.new.self c.in_ok-put.ensures.grown);

@@ -1,5 +1,6 @@
+use Rattle.std.proofs.Common.{Some}
+use Rattle.std.proofs.lemmas.List.Elements.{All-pop}
 use Rattle.prg_control.specs.Begun.{IsOpenBehind}
-use Rattle.prg_control.proofs.Opened.{last_apart}
 use Rattle.prg_control.proofs.control.put_all.Goals as goal
 
 pub loop-init : goal.loop-init
@@ -11,17 +12,23 @@ returns-in_default c = record { grown = λ base grows all. c.loop.invariant.grow
 pub returns-in_err-go_on : goal.returns-in_err-go_on
 returns-in_err-go_on c = record {
   grown = λ base grows all.
-      let both = last_apart (IsOpenBehind base) c.pop.new.self.items c.loop.nested.items c.in-Some.innermost c.in-Some.ensures.items (c.loop.invariant.behind base grows all) in
+      let both =
+      All-pop (IsOpenBehind base) c.loop.nested.items c.pop.new.self.items (Some c.in-Some.innermost)
+      c.in-Some.ensures.items (c.loop.invariant.behind base grows all) in
       c.go_on.ensures.grown base (c.loop.invariant.grown base grows all) both.0 both.1;
 }
 
 pub loop-preserved : goal.loop-preserved
 loop-preserved c = record {
   grown = λ base grows all.
-      let both = last_apart (IsOpenBehind base) c.pop.new.self.items c.loop.nested.items c.in-Some.innermost c.in-Some.ensures.items (c.loop.invariant.behind base grows all) in
+      let both =
+      All-pop (IsOpenBehind base) c.loop.nested.items c.pop.new.self.items (Some c.in-Some.innermost)
+      c.in-Some.ensures.items (c.loop.invariant.behind base grows all) in
       c.go_on.ensures.grown base (c.loop.invariant.grown base grows all) both.0 both.1;
   behind = λ base grows all.
-      let both = last_apart (IsOpenBehind base) c.pop.new.self.items c.loop.nested.items c.in-Some.innermost c.in-Some.ensures.items (c.loop.invariant.behind base grows all) in
+      let both =
+      All-pop (IsOpenBehind base) c.loop.nested.items c.pop.new.self.items (Some c.in-Some.innermost)
+      c.in-Some.ensures.items (c.loop.invariant.behind base grows all) in
       c.in_ok-go_on.ensures.behind base (c.loop.invariant.grown base grows all) both.0 both.1;
 }
 

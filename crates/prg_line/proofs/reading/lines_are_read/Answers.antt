@@ -8,4 +8,6 @@ pub returns-clause-placed : goal.returns-clause-placed
 returns-clause-placed c = line_placed c.expressions_are_read.ensures.sound
 
 pub returns-clause-complete : goal.returns-clause-complete
-returns-clause-complete c = line_found c.expressions_are_read.ensures.complete c.lines_are_cut.ensures.cut c.lines_are_cut.ensures.few c.one_line.ensures
+returns-clause-complete c =
+    line_found c.expressions_are_read.ensures.complete c.lines_are_cut.ensures.cut c.lines_are_cut.ensures.few
+    c.one_line.ensures

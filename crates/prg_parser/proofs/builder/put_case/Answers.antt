@@ -8,4 +8,7 @@ use Rattle.prg_parser.proofs.LayoutLemmas.{cases_more}
 use Rattle.prg_parser.proofs.builder.put_case.Goals as goal
 
 pub returns : goal.returns
-returns c = put_by cases_lines case_lines cases_more c.args.cases.items c.push.new.self.items c.one_case.result (said_line c.args.line (saying.Case (tree_of c.args.condition)) ∷ body_lines c.args.body.items) c.in_ok-push.ensures.items c.one_case.ensures
+returns c =
+    put_by cases_lines case_lines cases_more c.args.cases.items c.push.new.self.items c.one_case.result
+    (said_line c.args.line (saying.Case (tree_of c.args.condition)) ∷ body_lines c.args.body.items)
+    c.in_ok-push.ensures.items c.one_case.ensures

@@ -5,7 +5,8 @@ use Rattle.prg_parser.proofs.lines.join_line.Given as goal
 
 abbrev pub invariant-loop-rest : goal.invariant-loop-rest
 invariant-loop-rest l = record {
-  joined : spec.glue l.first l.text.items (spec.joined l.line (text.lines l.rest)) ≡ spec.joined l.first (text.lines l.bytes);
+  joined : spec.glue l.first l.text.items (spec.joined l.line (text.lines l.rest))
+      ≡ spec.joined l.first (text.lines l.bytes);
   within : length l.rest ≤ length l.bytes;
   numbered : l.line + length l.rest ≤ l.first + length l.bytes;
 }

@@ -15,12 +15,19 @@ use Rattle.prg_parser.proofs.parsing.line_faults.Goals as goal
 
 pub returns-clause-all : goal.returns-clause-all
 returns-clause-all c =
-    IfOk-weaker c.list_faults.result _ _ (λ faults e. e ∙ ap (λ (ms : List LineMark). all_faults ms) (c.deref.ensures.value ∙ c.in_ok-marks.ensures)) c.list_faults.ensures
+    IfOk-weaker c.list_faults.result _ _
+    (λ faults e. e ∙ ap (λ (ms : List LineMark). all_faults ms) (c.deref.ensures.value ∙ c.in_ok-marks.ensures))
+    c.list_faults.ensures
 
 pub returns-clause-told : goal.returns-clause-told
 returns-clause-told c =
-    IfOk-weaker c.list_faults.result _ _ (λ faults e. ap (λ (fs : List ParseFault). slice_get fs 0) e ∙ first_told (marks c.args.bytes.now)) (returns-clause-all c)
+    IfOk-weaker c.list_faults.result _ _
+    (λ faults e. ap (λ (fs : List ParseFault). slice_get fs 0) e ∙ first_told (marks c.args.bytes.now))
+    (returns-clause-all c)
 
 pub returns-clause-named : goal.returns-clause-named
 returns-clause-named c =
-    IfOk-weaker c.list_faults.result _ _ (λ faults e. subst (λ (fs : List ParseFault). All (λ (fault : ParseFault). IsLineOf (length (lines (before_end c.args.bytes.now))) fault.line) fs) (sym e) (names_lines c.args.bytes.now)) (returns-clause-all c)
+    IfOk-weaker c.list_faults.result _ _
+    (λ faults e. subst (λ (fs : List ParseFault). All
+    (λ (fault : ParseFault). IsLineOf (length (lines (before_end c.args.bytes.now))) fault.line) fs) (sym e)
+    (names_lines c.args.bytes.now)) (returns-clause-all c)

@@ -12,4 +12,6 @@ returns-clause-same c = same_program
 pub returns-clause-one : goal.returns-clause-one
 returns-clause-one c bytes a b p q =
     same_program (program_of a) (program_of b)
-    (p.laid_out ∙ ap (said_lines (numbers (joined_lines bytes))) (same_sayings c.one_saying.ensures (joined_lines bytes) p.sayings q.sayings p.fits.said q.fits.said) ∙ sym q.laid_out)
+    (p.laid_out ∙ ap (said_lines (numbers (joined_lines bytes)))
+    (same_sayings c.one_saying.ensures (joined_lines bytes) p.sayings q.sayings p.fits.said q.fits.said)
+    ∙ sym q.laid_out)

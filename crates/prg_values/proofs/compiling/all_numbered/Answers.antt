@@ -1,5 +1,6 @@
 use Rattle.std.proofs.Common.{◌+◌, take}
-use Rattle.prg_values.proofs.Emitting.{grown_twice, one_more, take_next}
+use Rattle.prg_code.proofs.Growth.{grown_twice}
+use Rattle.prg_values.proofs.Emitting.{one_more, take_next}
 use Rattle.prg_values.proofs.compiling.all_numbered.Goals as goal
 
 pub loop-piece-preserved : goal.loop-piece-preserved

@@ -1,15 +1,16 @@
 use Rattle.std.proofs.Common.{true, false}
+use Rattle.std.proofs.lemmas.Result.{on_ok_weaker}
 use Rattle.prg_expr.specs.Tree.{tree_of}
 use Rattle.prg_values.specs.Readings.{scoped}
 use Rattle.prg_values.specs.Written.{pieces_in, operation_in, kind_in}
 use Rattle.prg_expr.proofs.Equations.{tree_binary}
-use Rattle.prg_values.proofs.Emitting.{then, on_ok, both_put, next_put}
+use Rattle.prg_values.proofs.Emitting.{then, both_put, next_put}
 use Rattle.prg_values.proofs.pieces.+emit.Goals as goal
 
 pub emit-returns-in_ok-emit-in-Binary-2 : goal.emit-returns-in_ok-emit-in-Binary-2
 emit-returns-in_ok-emit-in-Binary-2 t c =
     let s = scoped c.args.scope.now in
-    on_ok c.put_operation.result (λ puts.
+    on_ok_weaker c.put_operation.result (λ puts.
     rw (c.in-Binary.is, tree_binary c.in-Binary.operator c.in-Binary.left c.in-Binary.right)
     (both_put (operation_in c.in-Binary.operator (kind_in s (tree_of c.in-Binary.left.value))
     (kind_in s (tree_of c.in-Binary.right.value))) c.in_ok-operation-in-Binary.operation true
@@ -25,7 +26,7 @@ emit-returns-in_ok-emit-in-Binary-2 t c =
 pub emit-returns-in_ok-emit-in-Binary-4 : goal.emit-returns-in_ok-emit-in-Binary-4
 emit-returns-in_ok-emit-in-Binary-4 t c =
     let s = scoped c.args.scope.now in
-    on_ok c.put_operation-else-operation.result (λ puts.
+    on_ok_weaker c.put_operation-else-operation.result (λ puts.
     rw (c.in-Binary.is, tree_binary c.in-Binary.operator c.in-Binary.left c.in-Binary.right)
     (both_put (operation_in c.in-Binary.operator (kind_in s (tree_of c.in-Binary.left.value))
     (kind_in s (tree_of c.in-Binary.right.value))) c.in_ok-operation-in-Binary.operation false

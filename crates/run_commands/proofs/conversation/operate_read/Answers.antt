@@ -5,7 +5,9 @@ use Rattle.file_access.proofs.Holding.{rose_later}
 use Rattle.run_commands.proofs.conversation.operate_read.Goals as goal
 
 pub returns-in-Ok-clause-done : goal.returns-in-Ok-clause-done
-returns-in-Ok-clause-done g c = read_over _ _ _ c.in-Ok.ensures.kept c.args.job.now _ _ c.in-Ok.ensures.found c.operate_code.result c.operate_code.ensures.done
+returns-in-Ok-clause-done g c =
+    read_over _ _ _ c.in-Ok.ensures.kept c.args.job.now _ _ c.in-Ok.ensures.found c.operate_code.result
+    c.operate_code.ensures.done
 
 pub returns-in-Ok-clause-stopped : goal.returns-in-Ok-clause-stopped
 returns-in-Ok-clause-stopped g c = halt_over _ _ _ c.in-Ok.ensures.kept _ _

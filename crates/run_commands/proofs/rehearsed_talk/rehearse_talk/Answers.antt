@@ -5,7 +5,9 @@ use Rattle.file_access.proofs.Holding.{rose_later}
 use Rattle.run_commands.proofs.rehearsed_talk.rehearse_talk.Goals as goal
 
 pub returns-in-Ok-clause-done : goal.returns-in-Ok-clause-done
-returns-in-Ok-clause-done g c = rehearsal_over _ _ c.in-Ok.ensures.kept c.args.job.now _ _ c.in-Ok.ensures.found c.rehearse_code_talk.result c.rehearse_code_talk.ensures.done
+returns-in-Ok-clause-done g c =
+    rehearsal_over _ _ c.in-Ok.ensures.kept c.args.job.now _ _ c.in-Ok.ensures.found c.rehearse_code_talk.result
+    c.rehearse_code_talk.ensures.done
 
 pub returns-in-Ok-clause-refused : goal.returns-in-Ok-clause-refused
 returns-in-Ok-clause-refused g c = refused_over _ _ c.in-Ok.ensures.kept _ _

@@ -1,5 +1,5 @@
 use Rattle.std.proofs.Common.{◌≤◌, ◌-◌}
-use Rattle.run_commands.proofs.TestedParts.{LeadsTo}
+use Rattle.operating.specs.Pieces.{LeadsTo}
 use Rattle.run_steps.specs.Shapes.{HasShape}
 use Rattle.work_area.specs.Areas.{AreApart}
 use Rattle.run_commands.proofs.testing.run_checked_in_parts.Given as goal

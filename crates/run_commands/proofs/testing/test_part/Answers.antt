@@ -9,7 +9,8 @@ loop-outcome-preserved c =
     let spent : c.loop-outcome.outcome.end ≡ Spent = c.is_spent.ensures.spent c.if-is_spent.true in
     let next = c.run_checked-outcome-in-loop-outcome.ensures in
     record {
-      ran = ran_once_more _ _ _ _ _ _ _ _ c.parts_make_the_whole.ensures c.loop-outcome.invariant.ran spent none next.ran;
+      ran =
+          ran_once_more _ _ _ _ _ _ _ _ c.parts_make_the_whole.ensures c.loop-outcome.invariant.ran spent none next.ran;
       within = c.wider-budget.ensures.within;
       shape = next.shape;
       apart = next.apart;

@@ -1,4 +1,4 @@
-use Rattle.std.proofs.Common.{◌≡◌, ℕ, map, rules, Some, subst, ◌∙◌}
+use Rattle.std.proofs.Common.{◌≡◌, ℕ, map, refl, rules, Some, subst, ◌∙◌}
 use Rattle.std.specs.List.{All}
 use Rattle.std.specs.Map.Iter.{deref_pair}
 use Rattle.std.proofs.lemmas.List.Elements.{All-map}
@@ -9,10 +9,12 @@ use Rattle.prg_code.specs.Bindings.{NamedVariables, slot_named}
 use Rattle.prg_code.proofs.names.Names.is_same.Goals as goal
 
 pub returns : goal.returns
-returns c same =
+returns c =
     let all : map deref_pair c.loop-name.yielded ≡ c.self.inside.variables.entries = search (rules, iter_end) in
-    record {
-      many = search rules;
-      slots = subst (λ (names : NamedVariables). All (λ (e : ArrayVec ℕ × Variable). slot_named c.args.other.now e.0.items ≡ Some e.1.slot) names) (all ∙ c.self.view_is)
-          (All-map (λ (e : ArrayVec ℕ × Variable). slot_named c.args.other.now e.0.items ≡ Some e.1.slot) deref_pair c.loop-name.yielded c.loop-name.invariant);
-    }
+    let slots =
+    subst (λ (names : NamedVariables). All
+    (λ (e : ArrayVec ℕ × Variable). slot_named c.args.other.now e.0.items ≡ Some e.1.slot) names)
+    (all ∙ c.self.view_is)
+    (All-map (λ (e : ArrayVec ℕ × Variable). slot_named c.args.other.now e.0.items ≡ Some e.1.slot) deref_pair
+    c.loop-name.yielded c.loop-name.invariant) in
+    (λ same. record { many = search rules; slots = slots }, λ same. refl)

@@ -9,4 +9,6 @@ abbrev pub decreases-loop-reader : goal.decreases-loop-reader
 decreases-loop-reader l = length l.reader.words.now
 
 abbrev pub invariant-loop-reader : goal.invariant-loop-reader
-invariant-loop-reader l = SoFar replacement (map change_of l.initial.all.items) (at_of l.initial.reader) (map change_of l.all.items) (at_of l.reader)
+invariant-loop-reader l =
+    SoFar replacement (map change_of l.initial.all.items) (at_of l.initial.reader) (map change_of l.all.items)
+    (at_of l.reader)

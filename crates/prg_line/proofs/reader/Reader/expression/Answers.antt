@@ -7,4 +7,5 @@ use Rattle.prg_line.proofs.reader.Reader.expression.Goals as goal
 pub returns-clause-reads : goal.returns-clause-reads
 returns-clause-reads c =
     let ts = c.args.self.now.words.now in
-    read_on (at_of c.args.self.now) (tree_of c.in_ok-found.found) _ _ c.in_ok-found.ensures.gives (words_behind (length ts - c.in_ok-found.left) ts)
+    read_on (at_of c.args.self.now) (tree_of c.in_ok-found.found) _ _ c.in_ok-found.ensures.gives
+    (words_behind (length ts - c.in_ok-found.left) ts)

@@ -13,19 +13,23 @@ pub returns-in_err-next : goal.returns-in_err-next
 returns-in_err-next c =
     let p = err_from_is_err_and c.from_residual.result c.from_residual.ensures.1 in
     rw (p.1, p.2)
-    (fails expression (map tree_of c.args.found.items) (at_of c.args.self.now) c.in_err-next.field-0.0 (map tree_of c.loop-self.all.items) (at_of c.loop-self.self) (at_of c.comma.new.self)
+    (fails expression (map tree_of c.args.found.items) (at_of c.args.self.now) c.in_err-next.field-0.0
+    (map tree_of c.loop-self.all.items) (at_of c.loop-self.self) (at_of c.comma.new.self)
     c.loop-self.invariant (c.loop-self-test.ensures.taken) c.in_err-next.ensures.reads)
 
 pub loop-self-preserved : goal.loop-self-preserved
 loop-self-preserved c =
-    subst (λ (xs : List Tree). SoFar expression (map tree_of c.args.found.items) (at_of c.args.self.now) xs (at_of c.expression.new.self))
+    subst (λ (xs : List Tree). SoFar expression (map tree_of c.args.found.items) (at_of c.args.self.now) xs
+    (at_of c.expression.new.self))
     (seen_pushed tree_of c.loop-self.all.items c.push.new.self.items c.in_ok-next.next c.in_ok-push.ensures.items)
-    (steps expression (map tree_of c.args.found.items) (at_of c.args.self.now) (map tree_of c.loop-self.all.items) (at_of c.loop-self.self) (at_of c.comma.new.self) (at_of c.expression.new.self) (tree_of c.in_ok-next.next)
+    (steps expression (map tree_of c.args.found.items) (at_of c.args.self.now) (map tree_of c.loop-self.all.items)
+    (at_of c.loop-self.self) (at_of c.comma.new.self) (at_of c.expression.new.self) (tree_of c.in_ok-next.next)
     c.loop-self.invariant c.loop-self-test.ensures.taken c.in_ok-next.ensures.reads
     (no_longer c.comma.new.self.words.now c.loop-self.self.words.now c.loop-self-test.ensures.no_longer)
     (shorter c.expression.new.self.words.now c.comma.new.self.words.now c.in_ok-next.ensures.shorter))
 
 pub returns : goal.returns
 returns c =
-    ends expression (map tree_of c.args.found.items) (at_of c.args.self.now) (map tree_of c.loop-self.all.items) (at_of c.loop-self.self) (at_of c.comma.new.self)
+    ends expression (map tree_of c.args.found.items) (at_of c.args.self.now) (map tree_of c.loop-self.all.items)
+    (at_of c.loop-self.self) (at_of c.comma.new.self)
     c.loop-self.invariant (c.loop-self-test.ensures.taken)

@@ -9,4 +9,5 @@ abbrev pub decreases-loop-self : goal.decreases-loop-self
 decreases-loop-self l = length l.self.words.now
 
 abbrev pub invariant-loop-self : goal.invariant-loop-self
-invariant-loop-self l = SoFar name (map letters_of l.initial.all.items) (at_of l.initial.self) (map letters_of l.all.items) (at_of l.self)
+invariant-loop-self l =
+    SoFar name (map letters_of l.initial.all.items) (at_of l.initial.self) (map letters_of l.all.items) (at_of l.self)

@@ -8,9 +8,17 @@ use Rattle.prg_parser.proofs.builder.Builder.open.Goals as goal
 
 pub returns : goal.returns
 returns c = λ e. (
-  by.grown (finished_lines c.args.self.finished) (opens_lines c.args.self.blocks.items) (current_lines c.args.self.current) (opens_lines c.in_ok-blocks.blocks.items) (body_lines c.new.result.items) (head_lines c.args.line c.args.head)
-      (by.opened_lines (opens_lines c.args.self.blocks.items) (opens_lines c.in_ok-blocks.blocks.items) (body_lines c.commands_of.result.items) (current_lines c.args.self.current) (body_lines c.new.result.items) (head_lines c.args.line c.args.head)
-      (by.put_more open_lines c.args.self.blocks.items c.in_ok-blocks.blocks.items (record { line = c.args.line; head = c.args.head; before = c.commands_of.result }) (body_lines c.commands_of.result.items ++ head_lines c.args.line c.args.head) c.in_ok-blocks.ensures refl)
+  by.grown (finished_lines c.args.self.finished) (opens_lines c.args.self.blocks.items)
+      (current_lines c.args.self.current) (opens_lines c.in_ok-blocks.blocks.items) (body_lines c.new.result.items)
+      (head_lines c.args.line c.args.head)
+      (by.opened_lines (opens_lines c.args.self.blocks.items) (opens_lines c.in_ok-blocks.blocks.items)
+      (body_lines c.commands_of.result.items) (current_lines c.args.self.current) (body_lines c.new.result.items)
+      (head_lines c.args.line c.args.head)
+      (by.put_more open_lines c.args.self.blocks.items c.in_ok-blocks.blocks.items
+      (record { line = c.args.line; head = c.args.head; before = c.commands_of.result })
+      (body_lines c.commands_of.result.items ++ head_lines c.args.line c.args.head) c.in_ok-blocks.ensures refl)
       (ap body_lines c.new.ensures.items) (c.commands_of.ensures e)),
-  by.part_opened c.args.self.blocks.items c.in_ok-blocks.blocks.items (record { line = c.args.line; head = c.args.head; before = c.commands_of.result }) (awaited c.args.self.current) c.in_ok-blocks.ensures e,
+  by.part_opened c.args.self.blocks.items c.in_ok-blocks.blocks.items
+      (record { line = c.args.line; head = c.args.head; before = c.commands_of.result }) (awaited c.args.self.current)
+      c.in_ok-blocks.ensures e,
 )

@@ -16,15 +16,30 @@ use Rattle.prg_parser.proofs.builder.Builder.otherwise.Goals as goal
 
 pub returns : goal.returns
 returns c = λ e.
-    let ch : IsChoice c.args.self.blocks c.args.self.current c.in_ok-blocks.field-0 = c.in_ok-blocks.ensures (by.standing (built_parts c.args.self) role.Otherwise e) in
-    let b : OpenBlock = record { line = c.in_ok-blocks.field-0.line; head = (begun.Otherwise c.in_ok-blocks.field-0.cases c.args.line); before = c.in_ok-blocks.field-0.before } in
+    let ch : IsChoice c.args.self.blocks c.args.self.current c.in_ok-blocks.field-0 =
+    c.in_ok-blocks.ensures (by.standing (built_parts c.args.self) role.Otherwise e) in
+    let b : OpenBlock = record {
+      line = c.in_ok-blocks.field-0.line;
+      head = (begun.Otherwise c.in_ok-blocks.field-0.cases c.args.line);
+      before = c.in_ok-blocks.field-0.before;
+    } in
     record {
-      lines = by.grown (finished_lines c.args.self.finished) (opens_lines c.args.self.blocks.items) (current_lines c.args.self.current) (opens_lines c.in_ok-blocks-2.blocks.items) (body_lines c.new.result.items) (said_line c.args.line saying.Otherwise ∷ [])
-          (by.chosen_lines (opens_lines c.in_ok-blocks.field-0.blocks.items) (opens_lines c.in_ok-blocks-2.blocks.items) (body_lines c.in_ok-blocks.field-0.before.items) (body_lines c.new.result.items)
-          (head_lines c.in_ok-blocks.field-0.line (begun.Otherwise c.in_ok-blocks.field-0.cases c.args.line)) (said_line c.in_ok-blocks.field-0.line saying.DoCase ∷ cases_lines c.in_ok-blocks.field-0.cases.items) (said_line c.args.line saying.Otherwise ∷ [])
+      lines =
+          by.grown (finished_lines c.args.self.finished) (opens_lines c.args.self.blocks.items)
+          (current_lines c.args.self.current) (opens_lines c.in_ok-blocks-2.blocks.items)
+          (body_lines c.new.result.items) (said_line c.args.line saying.Otherwise ∷ [])
+          (by.chosen_lines (opens_lines c.in_ok-blocks.field-0.blocks.items) (opens_lines c.in_ok-blocks-2.blocks.items)
+          (body_lines c.in_ok-blocks.field-0.before.items) (body_lines c.new.result.items)
+          (head_lines c.in_ok-blocks.field-0.line (begun.Otherwise c.in_ok-blocks.field-0.cases c.args.line))
+          (said_line c.in_ok-blocks.field-0.line saying.DoCase ∷ cases_lines c.in_ok-blocks.field-0.cases.items)
+          (said_line c.args.line saying.Otherwise ∷ [])
           (opens_lines c.args.self.blocks.items ++ current_lines c.args.self.current)
-          (by.put_more open_lines c.in_ok-blocks.field-0.blocks.items c.in_ok-blocks-2.blocks.items b (body_lines c.in_ok-blocks.field-0.before.items ++ head_lines c.in_ok-blocks.field-0.line (begun.Otherwise c.in_ok-blocks.field-0.cases c.args.line)) c.in_ok-blocks-2.ensures refl)
+          (by.put_more open_lines c.in_ok-blocks.field-0.blocks.items c.in_ok-blocks-2.blocks.items b
+          (body_lines c.in_ok-blocks.field-0.before.items ++ head_lines c.in_ok-blocks.field-0.line
+          (begun.Otherwise c.in_ok-blocks.field-0.cases c.args.line)) c.in_ok-blocks-2.ensures refl)
           (ap body_lines c.new.ensures.items) ch.lines refl);
-      parts = append-nil (map part_of_block c.in_ok-blocks-2.blocks.items) ∙ by.part_more c.in_ok-blocks.field-0.blocks.items c.in_ok-blocks-2.blocks.items b c.in_ok-blocks-2.ensures
+      parts =
+          append-nil (map part_of_block c.in_ok-blocks-2.blocks.items)
+          ∙ by.part_more c.in_ok-blocks.field-0.blocks.items c.in_ok-blocks-2.blocks.items b c.in_ok-blocks-2.ensures
           ∙ sym (by.after_otherwise (built_parts c.args.self) c.args.line ∙ ch.parts within.InOtherwise);
     }
