@@ -29,6 +29,8 @@ FULL, FULL_FOR_RT = os.strerror(errno.ENOSPC), "rt: the disk is full"
 # kit writes them otherwise. Of `rt ci`: a crate that was proved, one that was taken over, and what it notes.
 PROVED, KEPT = re.compile(r"rt: (\w+) proved"), re.compile(r"rt: (\w+) is kept: .*")
 NOTE = re.compile(r"rt: note: (.*)")
+# Of `rt`, of itself: that it proves some crates by name, and keeps what passes.
+KEEPS = "rt ci NAME.."
 # Of `rt must-fail`: an edit that was refused.
 REFUSED = re.compile(r"rt: (.+?): refused, as it must be.*")
 # Of the tests' runner: a test that passed, and how many there are.
@@ -108,6 +110,12 @@ def kit(parts=()):
     return whole(os.path.dirname(ran.stdout.strip()), parts)
 
 
+def keeps():
+    """Whether the toolchain proves some crates by name and keeps what passes."""
+    ran = subprocess.run(["rt"], stdin=subprocess.DEVNULL, capture_output=True, text=True, check=False)
+    return KEEPS in ran.stdout + ran.stderr
+
+
 def kit_libraries(kit, crates, uses):
     """The toolchain's libraries below these crates, std first, and what each of them uses."""
     found, names = {}, list(dict.fromkeys(["std", *(it for name in crates for it in uses[name] if it not in uses)]))
@@ -156,6 +164,12 @@ def replace(file, to):
 def room_left(place=TEMPORARY):
     """How many MB the disk of a place has left, else that of temporary files."""
     return shutil.disk_usage(place).free >> 20
+
+
+def free_memory():
+    """How many MB of memory the system has left."""
+    with open("/proc/meminfo", encoding="ascii") as it:
+        return next(int(line.split()[1]) >> 10 for line in it if line.startswith("MemAvailable:"))
 
 
 def parts_of(crates, *kinds):
