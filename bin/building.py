@@ -29,8 +29,13 @@ FULL, FULL_FOR_RT = os.strerror(errno.ENOSPC), "rt: the disk is full"
 # kit writes them otherwise. Of `rt ci`: a crate that was proved, one that was taken over, and what it notes.
 PROVED, KEPT = re.compile(r"rt: (\w+) proved"), re.compile(r"rt: (\w+) is kept: .*")
 NOTE = re.compile(r"rt: note: (.*)")
-# Of `rt`, of itself: that it proves some crates by name, and keeps what passes.
-KEEPS = "rt ci NAME.."
+# Of `rt`, of itself: that it proves some crates by name, and keeps what passes. It keeps that in this folder beside the
+# kit, which is its user's, as long as the disk has so many MB left. The other word says how many crates are proved at
+# once.
+KEEPS, STORE, STORE_LEAVES, LANES = "rt ci NAME..", "rattle-kept", 5000, "RT_JOBS"
+# The files of a control group's limit of memory and of what it uses, in bytes.
+GROUPS = [tuple(f"/sys/fs/cgroup/memory.{it}" for it in ("max", "current"))]
+GROUPS += [tuple(f"/sys/fs/cgroup/memory/memory.{it}_in_bytes" for it in ("limit", "usage"))]
 # Of `rt must-fail`: an edit that was refused.
 REFUSED = re.compile(r"rt: (.+?): refused, as it must be.*")
 # Of the tests' runner: a test that passed, and how many there are.
@@ -110,10 +115,14 @@ def kit(parts=()):
     return whole(os.path.dirname(ran.stdout.strip()), parts)
 
 
-def keeps():
-    """Whether the toolchain proves some crates by name and keeps what passes."""
+def keeps(kit):
+    """Whether the toolchain proves some crates by name, and can keep what passes: its store is this user's, or may be
+    made, and there is room."""
     ran = subprocess.run(["rt"], stdin=subprocess.DEVNULL, capture_output=True, text=True, check=False)
-    return KEEPS in ran.stdout + ran.stderr
+    beside = os.path.dirname(kit)
+    store = f"{beside}/{STORE}"
+    is_ours = os.stat(store).st_uid == os.geteuid() if os.path.exists(store) else os.access(beside, os.W_OK)
+    return KEEPS in ran.stdout + ran.stderr and is_ours and room_left(beside) >= STORE_LEAVES
 
 
 def kit_libraries(kit, crates, uses):
@@ -167,9 +176,14 @@ def room_left(place=TEMPORARY):
 
 
 def free_memory():
-    """How many MB of memory the system has left."""
+    """How many MB of memory are left, also under the limit of the process's control group."""
     with open("/proc/meminfo", encoding="ascii") as it:
-        return next(int(line.split()[1]) >> 10 for line in it if line.startswith("MemAvailable:"))
+        found = [next(int(line.split()[1]) >> 10 for line in it if line.startswith("MemAvailable:"))]
+    for limit, used in GROUPS:
+        # (a group without a limit has a word there, or no such files)
+        with contextlib.suppress(OSError, ValueError):
+            found.append((int(read(limit)) - int(read(used))) >> 20)
+    return min(found)
 
 
 def parts_of(crates, *kinds):
