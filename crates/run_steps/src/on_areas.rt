@@ -110,8 +110,8 @@ fn change_areas<K: KeyList>(store: &mut Store<K>, instr: AreaInstr)
     }
 }
 
-/// Carries out an instruction on work areas. This, records and screen stand apart from `execute`, since a function's locals
-/// are cleared on entry, and moves need few.
+/// Carries out an instruction on work areas. This, records and screen stand apart from `execute`: the locals of a
+/// function are cleared on entry, and moves need few.
 #[inline(never)]
 pub fn on_areas<V: Values, K: KeyList>(
     alloc: Global,

@@ -1,21 +1,18 @@
 //! Instructions on records.
 
-ghost use Rattle.std.specs.Prelude.{◌≡◌, ◌≤◌, ◌∷◌, [], ℕ, Bool, List, IfSome, IsSome, MatchBool, OnOk, OnErr};
-ghost use Rattle.xvalue.specs.declared.kind.Kind.TheVariants.{Number as OfNumber, Text as OfText, Date as OfDate};
-ghost use Rattle.xvalue.specs.declared.kind.Kind.TheVariants.{Logical as OfLogical};
+ghost use Rattle.std.specs.Prelude.{◌≡◌, ◌≤◌, ℕ, Bool, List, IfSome, IsSome, MatchBool};
 ghost use Rattle.std.specs.Fn.{FnReturnsAt};
 ghost use Rattle.dbf_file.specs.Rows.{Row as TheRow};
 ghost use Rattle.dbf_file.specs.Tables.{StructureState, letter_at};
 ghost use Rattle.dbf_file.specs.Values.{kind_for};
-ghost use Rattle.open_table.specs.Open.{field_of, replaced_here};
-ghost use Rattle.work_area.specs.Areas.{here, area_table, change_here};
+ghost use Rattle.open_table.specs.Open.{field_of};
+ghost use Rattle.work_area.specs.Areas.{here, area_table};
 ghost use Rattle.code_items.specs.Legal.{IsCode};
 ghost use Rattle.code_items.specs.declared.instr.Instr.TheVariants.{Records as OfRecords};
 ghost use Rattle.code_items.specs.declared.instr.RecordInstr.TheVariants.{Append as OfAppend};
 ghost use Rattle.code_items.specs.declared.code.Code.{Code as AnyCode};
-ghost use Rattle.run_values.specs.Tagged.{TaggedValues, HasOnTop, pushed};
-ghost use Rattle.run_steps.specs.Effects.{answer as answer_of, top as top_of, on_value};
-ghost use Rattle.run_steps.specs.Effects.{index_in, closing_store, closing_met};
+ghost use Rattle.run_values.specs.Tagged.{TaggedValues, pushed};
+ghost use Rattle.run_steps.specs.Effects.{answer as answer_of, index_in, closing_store, closing_met};
 ghost use Rattle.run_steps.specs.Executed.{Executed};
 ghost use Rattle.run_steps.specs.Filters.{viewing, shown_by, filter_block, is_visible as visible, RunsOnRows};
 ghost use Rattle.run_steps.specs.Needs.{FilterNeeds, HasField, TakesField, RecordNeeds, ClosingNeeds, IsClosing};
@@ -32,9 +29,9 @@ use code_items::instr::{Question, RecordInstr};
 use key_lists::KeyList;
 use open_table::{AppendError, Row};
 use run_values::Values;
-use std::alloc::{AllocError, Global};
+use std::alloc::Global;
 use work_area::Store;
-use xvalue::{Kind, Value};
+use xvalue::Kind;
 
 /// Puts what a question answers of the selected area, which is open, on the stack.
 pub(crate) fn push_answer<V: Values, K: KeyList>(
@@ -117,100 +114,6 @@ fn append<V: Values, K: KeyList>(values: &V, env: &mut Environment<K>) -> Result
     }
 }
 
-/// Puts the number on top into a field of the current record. This and the next three stand apart, since a function's locals
-/// are cleared on entry, and a value has room for a text.
-#[inline(never)]
-fn put_number<V: Values, K: KeyList>(
-    values: &V,
-    store: &mut Store<K>,
-    field: u16,
-) -> Result<(), AllocError>
-    requires field { HasField field (here store.old) }
-    requires kind { IfSome (here store.old) (λ o. OfNumber ≡ kind_for (letter_at o.table.structure field)) }
-    requires top { (t : TaggedValues) × (V.stands values.now t × HasOnTop (OfNumber ∷ []) t.stack) }
-    ensures ok { (t : TaggedValues) → V.stands values.now t → HasOnTop (OfNumber ∷ []) t.stack → OnOk result
-        (store.new ≡ on_value (top_of t) store.old (λ value. change_here (replaced_here field value) store.old)) }
-    ensures err { OnErr result (store.new ≡ store.old) }
-{
-    let number = values.top_lent(Kind::Number).number();
-    store.replace(usize::from(field), &Value::Number(number))
-}
-
-/// The same with the text on top.
-#[inline(never)]
-fn put_text<V: Values, K: KeyList>(
-    values: &V,
-    store: &mut Store<K>,
-    field: u16,
-) -> Result<(), AllocError>
-    requires field { HasField field (here store.old) }
-    requires kind { IfSome (here store.old) (λ o. OfText ≡ kind_for (letter_at o.table.structure field)) }
-    requires top { (t : TaggedValues) × (V.stands values.now t × HasOnTop (OfText ∷ []) t.stack) }
-    ensures ok { (t : TaggedValues) → V.stands values.now t → HasOnTop (OfText ∷ []) t.stack → OnOk result
-        (store.new ≡ on_value (top_of t) store.old (λ value. change_here (replaced_here field value) store.old)) }
-    ensures err { OnErr result (store.new ≡ store.old) }
-{
-    store.replace(usize::from(field), &values.top(Kind::Text))
-}
-
-/// The same with the date on top.
-#[inline(never)]
-fn put_date<V: Values, K: KeyList>(
-    values: &V,
-    store: &mut Store<K>,
-    field: u16,
-) -> Result<(), AllocError>
-    requires field { HasField field (here store.old) }
-    requires kind { IfSome (here store.old) (λ o. OfDate ≡ kind_for (letter_at o.table.structure field)) }
-    requires top { (t : TaggedValues) × (V.stands values.now t × HasOnTop (OfDate ∷ []) t.stack) }
-    ensures ok { (t : TaggedValues) → V.stands values.now t → HasOnTop (OfDate ∷ []) t.stack → OnOk result
-        (store.new ≡ on_value (top_of t) store.old (λ value. change_here (replaced_here field value) store.old)) }
-    ensures err { OnErr result (store.new ≡ store.old) }
-{
-    let day = values.top_lent(Kind::Date).day();
-    store.replace(usize::from(field), &Value::Date(day))
-}
-
-/// The same with the truth value on top.
-#[inline(never)]
-fn put_truth<V: Values, K: KeyList>(
-    values: &V,
-    store: &mut Store<K>,
-    field: u16,
-) -> Result<(), AllocError>
-    requires field { HasField field (here store.old) }
-    requires kind { IfSome (here store.old) (λ o. OfLogical ≡ kind_for (letter_at o.table.structure field)) }
-    requires top { (t : TaggedValues) × (V.stands values.now t × HasOnTop (OfLogical ∷ []) t.stack) }
-    ensures ok { (t : TaggedValues) → V.stands values.now t → HasOnTop (OfLogical ∷ []) t.stack → OnOk result
-        (store.new ≡ on_value (top_of t) store.old (λ value. change_here (replaced_here field value) store.old)) }
-    ensures err { OnErr result (store.new ≡ store.old) }
-{
-    let truth = values.top_lent(Kind::Logical).truth();
-    store.replace(usize::from(field), &Value::Logical(truth))
-}
-
-/// The same with the value on top, of this kind.
-fn put_top<V: Values, K: KeyList>(
-    values: &V,
-    store: &mut Store<K>,
-    field: u16,
-    kind: Kind,
-) -> Result<(), AllocError>
-    requires field { HasField field (here store.old) }
-    requires kind { IfSome (here store.old) (λ o. kind ≡ kind_for (letter_at o.table.structure field)) }
-    requires top { (t : TaggedValues) × (V.stands values.now t × HasOnTop (kind ∷ []) t.stack) }
-    ensures ok { (t : TaggedValues) → V.stands values.now t → HasOnTop (kind ∷ []) t.stack → OnOk result
-        (store.new ≡ on_value (top_of t) store.old (λ value. change_here (replaced_here field value) store.old)) }
-    ensures err { OnErr result (store.new ≡ store.old) }
-{
-    match kind {
-        Kind::Number => put_number(values, store, field),
-        Kind::Text => put_text(values, store, field),
-        Kind::Date => put_date(values, store, field),
-        Kind::Logical => put_truth(values, store, field),
-    }
-}
-
 /// REPLACE: puts the value on top into a field of the current record, and takes it. Where memory is refused nothing
 /// changes.
 fn replace<V: Values, K: KeyList>(
@@ -225,7 +128,8 @@ fn replace<V: Values, K: KeyList>(
         → HasReplaced field t store.old result (V.stands values.new) store.new }
 {
     let kind = kind_here(store, field);
-    match put_top(values, store, field, kind) {
+    let value = values.top(kind);
+    match store.replace(usize::from(field), &value) {
         Ok(()) => {
             values.discard(kind);
             Ok(1)

@@ -1,9 +1,10 @@
-use Rattle.std.proofs.Common.{refl}
-use Rattle.work_area.specs.Areas.{here}
-use Rattle.run_steps.proofs.Walks.{takes_here}
+use Rattle.std.proofs.Common.{refl, sym, ◌∙◌}
+use Rattle.open_table.specs.Open.{replaced_here}
+use Rattle.work_area.specs.Areas.{here, change_here}
+use Rattle.run_steps.proofs.Walks.{takes_here, with_top}
 use Rattle.run_steps.proofs.on_records.replace.Goals as goal
 
 pub returns-in-Ok : goal.returns-in-Ok
 returns-in-Ok g c = λ t s f k.
     let there = takes_here (here c.args.store.now) c.args.field c.kind_here-kind.result t f.0 c.kind_here-kind.ensures k in
-    (c.discard.ensures t s there, c.in-Ok.ensures.ok t s there, refl)
+    (c.discard.ensures t s there, (rw c.from.ensures at c.in-Ok.ensures.ok) ∙ sym (with_top t c.top-value.result c.args.store.now (λ value. change_here (replaced_here c.args.field value) c.args.store.now) (c.top-value.ensures t s there)), refl)
