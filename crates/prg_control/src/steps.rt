@@ -26,6 +26,7 @@ pub struct Span {
 }
 
 impl Span {
+    /// The lines from the first to the end.
     pub fn of(first: usize, end: usize) -> Span
         ensures { (result.first ≡ first) × (result.end ≡ end) }
     {
