@@ -6,11 +6,11 @@ pub mod Filters
 pub mod Needs
 pub mod Opening
 pub mod Pausing
-pub mod Lasts
 pub mod Leading
 pub mod Blocks
 pub mod Registers
 pub mod Tables
+pub mod RowWorks
 pub mod Run
 pub mod Safe
 pub mod Shapes

@@ -10,6 +10,7 @@ ghost use Rattle.run_steps.specs.Control.{place_after as place_after_of, returns
 ghost use Rattle.run_steps.specs.Executed.{Executed, Stepped};
 ghost use Rattle.run_steps.specs.Needs.{FlowNeeds, JumpNeeds, Needs, CallFits, IsReadyFor};
 ghost use Rattle.run_steps.specs.Opening.{no_values, opening};
+ghost use Rattle.run_steps.specs.RowWorks.{AreRowWorks};
 ghost use Rattle.run_steps.specs.Run.{StandsForWorld};
 ghost use Rattle.screen_lines.specs.State.{sent};
 ghost use Rattle.run_steps.specs.World.{World, EnvState};
@@ -23,6 +24,7 @@ use crate::on_records::on_records;
 use crate::on_screen::on_screen;
 use crate::on_values::on_values;
 use crate::returns::ReturnPlaces;
+use crate::row_works::Filters;
 use calendar::Day;
 use code_items::Code;
 use code_items::instr::{FlowInstr, Instr};
@@ -152,12 +154,14 @@ fn on_flow<V: Values>(values: &mut V, instr: FlowInstr, left: u64) -> Result<u64
 fn carry_out<V: Values, K: KeyList>(
     alloc: Global,
     code: &Code,
+    filters: &Filters,
     values: &mut V,
     env: &mut Environment<K>,
     instr: Instr,
     left: u64,
 ) -> Result<u64, Stop>
     requires legal { IsCode code.now }
+    requires filters { AreRowWorks code.now filters.now }
     requires needs { (t : TaggedValues) × (V.stands values.old t × Needs code.now instr t env.old) }
     ensures { (t : TaggedValues) → V.stands values.old t → Needs code.now instr t env.old
         → Executed code.now instr t env.old left result (V.stands values.new) env.new }
@@ -167,8 +171,8 @@ fn carry_out<V: Values, K: KeyList>(
         Instr::Flow(instr) => on_flow(values, instr, left),
         Instr::Screen(instr) => on_screen(values, env, instr, left),
         Instr::Areas(instr) => on_areas(alloc, code, values, env, instr, left),
-        Instr::Moves(instr) => on_moves(code, values, env, instr, left),
-        Instr::Records(instr) => on_records(alloc, code, values, env, instr, left),
+        Instr::Moves(instr) => on_moves(code, filters, values, env, instr, left),
+        Instr::Records(instr) => on_records(alloc, code, filters, values, env, instr, left),
     }
 }
 
@@ -191,11 +195,13 @@ fn turn(returns: &mut ReturnPlaces, place: usize, instr: Instr)
 pub fn execute<V: Values, K: KeyList>(
     alloc: Global,
     code: &Code,
+    filters: &Filters,
     machine: &mut Machine<V, K>,
     instr: Instr,
     left: u64,
 ) -> Result<u64, Stop>
     requires legal { IsCode code.now }
+    requires filters { AreRowWorks code.now filters.now }
     requires ready { (w : World)
         × (StandsForWorld (V.stands machine.old.values) machine.old.place machine.old.returns machine.old.env w
         × IsReadyFor code.now w instr) }
@@ -214,6 +220,7 @@ pub fn execute<V: Values, K: KeyList>(
     match carry_out(
         alloc,
         code,
+        filters,
         &mut machine.values,
         &mut machine.env,
         instr,

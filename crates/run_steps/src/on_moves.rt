@@ -14,11 +14,13 @@ ghost use Rattle.run_steps.specs.Effects.{whole_on_top, given_text, record_numbe
 ghost use Rattle.run_steps.specs.Executed.{Executed};
 ghost use Rattle.run_steps.specs.Filters.{viewing, shown_by, filter_block, is_visible as visible, RunsOnRows};
 ghost use Rattle.run_steps.specs.Needs.{FilterNeeds, FitsThere, MoveNeeds, SeekNeeds, GivenNeeds, given_of};
+ghost use Rattle.run_steps.specs.RowWorks.{IsRowWork, AreRowWorks};
 ghost use Rattle.run_steps.specs.Walking.{HasWalked, HasChanged};
 
 use crate::ending::Stop;
 use crate::environment::Environment;
 use crate::filtering::View;
+use crate::row_works::Filters;
 use code_items::Code;
 use code_items::instr::MoveInstr;
 use key_lists::KeyList;
@@ -165,6 +167,7 @@ fn look_and_walk<V: Values, K: KeyList>(
     left: u64,
 ) -> Result<u64, Stop>
     requires block { view.now.block.now ≡ filter_block view.now.code.now view.now.filter }
+    requires work { IfSome view.now.work (λ work. IsRowWork view.now.code.now view.now.block.now work.now) }
     requires open { IsSome (here store.old) }
     requires order { SeekNeeds instr store.old }
     requires filter { (t : TaggedValues)
@@ -182,6 +185,7 @@ fn look_and_walk<V: Values, K: KeyList>(
         given,
         |row: &Row<'_>| -> bool
             requires block { view.now.block.now ≡ filter_block view.now.code.now view.now.filter }
+            requires work { IfSome view.now.work (λ work. IsRowWork view.now.code.now view.now.block.now work.now) }
             requires filter { (t : TaggedValues)
                 × (V.stands view.now.values.now t × FilterNeeds view.now.code.now t view.now.filter) }
             ensures { (t : TaggedValues) → V.stands view.entry.now.values.now t
@@ -197,18 +201,20 @@ fn look_and_walk<V: Values, K: KeyList>(
 /// Carries out a move.
 pub fn on_moves<V: Values, K: KeyList>(
     code: &Code,
+    filters: &Filters,
     values: &mut V,
     env: &mut Environment<K>,
     instr: MoveInstr,
     left: u64,
 ) -> Result<u64, Stop>
     requires legal { IsCode code.now }
+    requires filters { AreRowWorks code.now filters.now }
     requires needs { (t : TaggedValues) × (V.stands values.old t × MoveNeeds code.now instr t env.old) }
     ensures { (t : TaggedValues) → V.stands values.old t → MoveNeeds code.now instr t env.old
         → Executed code.now (OfMoves instr) t env.old left result (V.stands values.new) env.new }
 {
     let given = operand(values, instr);
-    let view = View::new(code, values, env.moment(), env.filter_here());
+    let view = View::new(code, filters, values, env.moment(), env.filter_here());
     let cost = look_and_walk(&view, &mut env.store, instr, &given, left)?;
     take_operand(values, instr);
     Ok(cost)

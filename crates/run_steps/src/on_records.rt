@@ -17,13 +17,15 @@ ghost use Rattle.run_steps.specs.Executed.{Executed};
 ghost use Rattle.run_steps.specs.Filters.{viewing, shown_by, filter_block, is_visible as visible, RunsOnRows};
 ghost use Rattle.run_steps.specs.Needs.{FilterNeeds, HasField, TakesField, RecordNeeds, ClosingNeeds, IsClosing};
 ghost use Rattle.run_steps.specs.Needs.{IsPlain, HasRoom, FitsThere, Walks};
+ghost use Rattle.run_steps.specs.RowWorks.{IsRowWork, AreRowWorks};
 ghost use Rattle.run_steps.specs.Walking.{HasChanged, HasReplaced, ShowsAll};
 
 use crate::ending::Stop;
 use crate::environment::Environment;
 use crate::filtering::View;
-use crate::last_values::lent_field;
 use crate::on_areas::{list_of, refused};
+use crate::row_values::lent_field;
+use crate::row_works::Filters;
 use code_items::Code;
 use code_items::instr::{Question, RecordInstr};
 use key_lists::KeyList;
@@ -181,6 +183,7 @@ fn look_and_close<V: Values, K: KeyList>(
     left: u64,
 ) -> Result<u64, Stop>
     requires block { view.now.block.now ≡ filter_block view.now.code.now view.now.filter }
+    requires work { IfSome view.now.work (λ work. IsRowWork view.now.code.now view.now.block.now work.now) }
     requires open { IsSome (here store.old) }
     requires needs { ClosingNeeds view.now.code.now instr store.old }
     requires closes { IsClosing instr }
@@ -201,6 +204,7 @@ fn look_and_close<V: Values, K: KeyList>(
         instr,
         |row: &Row<'_>| -> bool
             requires block { view.now.block.now ≡ filter_block view.now.code.now view.now.filter }
+            requires work { IfSome view.now.work (λ work. IsRowWork view.now.code.now view.now.block.now work.now) }
             requires filter { (t : TaggedValues)
                 × (V.stands view.now.values.now t × FilterNeeds view.now.code.now t view.now.filter) }
             ensures { (t : TaggedValues) → V.stands view.entry.now.values.now t
@@ -217,19 +221,21 @@ fn look_and_close<V: Values, K: KeyList>(
 fn close<V: Values, K: KeyList>(
     alloc: Global,
     code: &Code,
+    filters: &Filters,
     values: &V,
     env: &mut Environment<K>,
     instr: RecordInstr,
     left: u64,
 ) -> Result<u64, Stop>
     requires legal { IsCode code.now }
+    requires filters { AreRowWorks code.now filters.now }
     requires closes { IsClosing instr }
     requires closing { ClosingNeeds code.now instr env.old.store }
     requires needs { (t : TaggedValues) × (V.stands values.now t × Walks code.now t env.old) }
     ensures { (t : TaggedValues) → V.stands values.now t → Walks code.now t env.old
         → Executed code.now (OfRecords instr) t env.old left result (V.stands values.now) env.new }
 {
-    let view = View::new(code, values, env.moment(), env.filter_here());
+    let view = View::new(code, filters, values, env.moment(), env.filter_here());
     look_and_close(alloc, &view, &mut env.store, instr, left)
 }
 
@@ -238,18 +244,20 @@ fn close<V: Values, K: KeyList>(
 pub fn on_records<V: Values, K: KeyList>(
     alloc: Global,
     code: &Code,
+    filters: &Filters,
     values: &mut V,
     env: &mut Environment<K>,
     instr: RecordInstr,
     left: u64,
 ) -> Result<u64, Stop>
     requires legal { IsCode code.now }
+    requires filters { AreRowWorks code.now filters.now }
     requires needs { (t : TaggedValues) × (V.stands values.old t × RecordNeeds code.now instr t env.old) }
     ensures { (t : TaggedValues) → V.stands values.old t → RecordNeeds code.now instr t env.old
         → Executed code.now (OfRecords instr) t env.old left result (V.stands values.new) env.new }
 {
     if closes(instr) {
-        return close(alloc, code, values, env, instr, left);
+        return close(alloc, code, filters, values, env, instr, left);
     }
     if left == 0 {
         return Err(Stop::Spent);
