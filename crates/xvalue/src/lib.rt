@@ -21,7 +21,7 @@ pub use calendar::Day;
 pub use fun::{FUNS, Fun, signature};
 pub use kind::Kind;
 pub use settings::{Setting, Settings};
-pub use shown::shown_day;
+pub use shown::{shown_day, shown_logical, shown_number};
 pub use text::{Text, copy_of, text_from};
 pub use texts::{
     append, begins_with_capital, begins_with_letter, begins_with_small, count_of, eq_text,

@@ -13,7 +13,7 @@ use calendar::Day;
 use fixed_num::Num;
 
 /// A truth value's text as the screen shows it: `.T.` or `.F.`.
-pub(crate) fn shown_logical(truth: bool) -> Text
+pub fn shown_logical(truth: bool) -> Text
     ensures { result.items ≡ shown_logical truth }
 {
     if truth {
@@ -25,7 +25,7 @@ pub(crate) fn shown_logical(truth: bool) -> Text
 
 /// A number's text as the screen shows it: right in ten places, or whole where it is longer.
 #[tactic(auto, unfolding(crate::specs::Shown::shown_number))]
-pub(crate) fn shown_number(number: Num) -> Text
+pub fn shown_number(number: Num) -> Text
     ensures { result.items ≡ shown_number number }
 {
     let digits = number.text();

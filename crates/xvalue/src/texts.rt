@@ -8,7 +8,7 @@ ghost use Rattle.fixed_num.specs.Rounding.{whole_part};
 ghost use Rattle.fixed_num.specs.Text.{printed_in};
 ghost use Rattle.xvalue.specs.Texts.{fitting, equal_texts, first_or_blank, is_text_before};
 ghost use Rattle.xvalue.specs.Texts.{joined_moved, count_of, bytes_cut_from, last_part, repeated, stuffed, first_place};
-ghost use Rattle.xvalue.specs.Texts.{place_number, first_is, first_byte, byte_text};
+ghost use Rattle.xvalue.specs.Texts.{place_number, first_is, first_byte, byte_text, text_begins_with};
 
 use crate::text::{Text, text_from};
 use fixed_num::laws::print_fills_its_field;
@@ -25,7 +25,7 @@ pub fn eq_text(left: &[u8], right: &[u8], exact: bool) -> bool
     if exact {
         without_last_blanks(left) == without_last_blanks(right)
     } else {
-        left.starts_with(right)
+        begins_with(left, right)
     }
 }
 
@@ -182,13 +182,28 @@ pub fn lower(bytes: &[u8]) -> Text
     small
 }
 
+/// Whether a text begins with another. The first bytes are compared without a call, since they mostly tell.
+#[inline(always)]
+fn begins_with(bytes: &[u8], part: &[u8]) -> bool
+    ensures { result ≡ text_begins_with bytes.now part.now }
+{
+    if let [first, ..] = bytes {
+        if let [wanted, ..] = part {
+            if *first != *wanted {
+                return false;
+            }
+        }
+    }
+    bytes.starts_with(part)
+}
+
 /// How many bytes stand before the first place at which a text stands in another, or `None` where it doesn't.
 pub fn first_place(part: &[u8], bytes: &[u8]) -> Option<usize>
     ensures value { result ≡ first_place part.now bytes.now }
     ensures bound { place_number result ≤ length bytes.now + 1 }
 {
     for place in 0..bytes.len() {
-        if behind(bytes, place).starts_with(part) {
+        if begins_with(behind(bytes, place), part) {
             return Some(place);
         }
     }
