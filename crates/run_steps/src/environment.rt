@@ -143,28 +143,26 @@ impl<K: KeyList> Environment<K> {
         self.screen.try_new_line()
     }
 
-    /// Shows a value at the cursor. Where memory is refused nothing changes.
-    pub(crate) fn print(&mut self, value: &Value) -> Result<(), AllocError>
-        ensures ok { OnOk result (self.new
-            ≡ with_screen (printed (shown self.old.settings value.now) self.old.screen) self.old) }
+    /// Shows a text at the cursor. Where memory is refused nothing changes.
+    pub(crate) fn print(&mut self, text: &Text) -> Result<(), AllocError>
+        ensures ok { OnOk result (self.new ≡ with_screen (printed text.now.items self.old.screen) self.old) }
         ensures err { OnErr result (self.new ≡ self.old) }
     {
-        self.screen.try_print(&value.shown(self.settings))
+        self.screen.try_print(text)
     }
 
-    /// Shows a value from this row and column on.
-    pub(crate) fn say(&mut self, row: i128, column: i128, value: &Value)
-        ensures { self.new ≡ with_screen (said row column
-            (shown self.old.settings value.now) self.old.screen) self.old }
+    /// Shows a text from this row and column on.
+    pub(crate) fn say(&mut self, row: i128, column: i128, text: &Text)
+        ensures { self.new ≡ with_screen (said row column text.now.items self.old.screen) self.old }
     {
-        self.screen.say(row, column, &value.shown(self.settings));
+        self.screen.say(row, column, text);
     }
 
-    /// Shows a value one column behind the cursor.
-    pub(crate) fn say_on(&mut self, value: &Value)
-        ensures { self.new ≡ with_screen (said_on (shown self.old.settings value.now) self.old.screen) self.old }
+    /// Shows a text one column behind the cursor.
+    pub(crate) fn say_on(&mut self, text: &Text)
+        ensures { self.new ≡ with_screen (said_on text.now.items self.old.screen) self.old }
     {
-        self.screen.say_on(&value.shown(self.settings));
+        self.screen.say_on(text);
     }
 
     /// Clears the screen. Where memory is refused nothing changes.

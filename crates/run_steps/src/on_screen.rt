@@ -25,11 +25,11 @@ fn say<V: Values, K: KeyList>(values: &mut V, env: &mut Environment<K>, kind: Ki
     ensures { (t : TaggedValues) → V.stands values.old t → HasOnTop (kind ∷ OfNumber ∷ OfNumber ∷ []) t.stack
         → V.stands values.new (dropped 3 t) × (env.new ≡ screen_env (OfSay kind) t env.old) }
 {
-    let value = values.top(kind);
+    let text = values.top_lent(kind).shown(env.settings());
     values.discard(kind);
     let column = values.pop_number().whole();
     let row = values.pop_number().whole();
-    env.say(row, column, &value);
+    env.say(row, column, &text);
 }
 
 /// SAYON: takes the value and shows it one column behind the cursor.
@@ -38,8 +38,9 @@ fn say_on<V: Values, K: KeyList>(values: &mut V, env: &mut Environment<K>, kind:
     ensures { (t : TaggedValues) → V.stands values.old t → HasOnTop (kind ∷ []) t.stack
         → V.stands values.new (dropped 1 t) × (env.new ≡ screen_env (OfSayOn kind) t env.old) }
 {
-    env.say_on(&values.top(kind));
+    let text = values.top_lent(kind).shown(env.settings());
     values.discard(kind);
+    env.say_on(&text);
 }
 
 /// INPUT: takes the old value, and puts what the operator's next line makes of it.
@@ -66,7 +67,8 @@ fn print<V: Values, K: KeyList>(
         → HasOnTop (kind ∷ []) t.stack
         → Executed code (OfScreen (OfPrint kind)) t env.old left result (V.stands values.new) env.new }
 {
-    if env.print(&values.top(kind)).is_err() {
+    let text = values.top_lent(kind).shown(env.settings());
+    if env.print(&text).is_err() {
         return Err(Stop::NoMemory);
     }
     values.discard(kind);
