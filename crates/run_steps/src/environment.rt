@@ -4,7 +4,6 @@ ghost use Rattle.std.specs.Prelude.{◌≡◌, true, OnOk, OnErr, IfSome, IsSome
 ghost use Rattle.screen_lines.specs.State.{new_line, printed, said, said_on, cleared};
 ghost use Rattle.text_lines.specs.Lines.{is_out, next_line, lines_behind};
 ghost use Rattle.xvalue.specs.Setting.{with_setting};
-ghost use Rattle.xvalue.specs.Shown.{shown};
 ghost use Rattle.work_area.specs.Areas.{here, selected_use};
 ghost use Rattle.run_steps.specs.Effects.{filter_here};
 ghost use Rattle.run_steps.specs.World.{with_screen, with_lines, with_settings};
@@ -17,7 +16,7 @@ use std::alloc::AllocError;
 use std::marker::Model;
 use text_lines::TypedLines;
 use work_area::Store;
-use xvalue::{Setting, Settings, Text, Value};
+use xvalue::{Setting, Settings, Text};
 
 /// The tables and work areas, the screen, the operator's lines that are left, the settings, and the day of the run.
 #[derive(Drop)]
