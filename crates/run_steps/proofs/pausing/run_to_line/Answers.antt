@@ -85,7 +85,11 @@ loop-alloc-preserved g c =
           let wet = dry_there _ w _ _ _ _ _ _ c.get-instr.result.now p h ∙ c.wants_line.ensures.wet c.if-wants_line.false (omega (arith, x.1, x.2, some)) in
           onward _ w _ _ _ _ _ _ _ _ _ _ _ c.get-instr.result.now p h on wet p.within x;
       within = omega (arith, x.2, c.loop-alloc.invariant.within, c.take_blocks-steps.ensures.within);
-      decoded = record { known = c.loop-alloc.invariant.decoded.known; served = c.take_blocks-steps.ensures.served };
+      decoded = record {
+        known = c.loop-alloc.invariant.decoded.known;
+        served = c.take_blocks-steps.ensures.served;
+        filters = c.loop-alloc.invariant.decoded.filters;
+      };
     }
 
 pub returns-in-Err-clause-leg : goal.returns-in-Err-clause-leg
