@@ -382,10 +382,13 @@ impl<K: KeyList> OpenTable<K> {
         }
     }
 
-    /// The record that is pointed to, as a row; none at the end of file.
+    /// The record that is pointed to, as a row with that record's number and the count of the table's records; none at
+    /// the end of file.
     pub fn row(&self) -> Option<Row<'_>>
-        ensures { MatchOption result (place_in (length self.now.table.rows) self.now.pointer ≡ None)
+        ensures row { MatchOption result (place_in (length self.now.table.rows) self.now.pointer ≡ None)
             (λ row. (row.structure ≡ self.now.table.structure) × (row.row ≡ current_row self.now)) }
+        ensures number { IfSome result (λ row. Some row.number ≡ self.now.pointer) }
+        ensures count { IfSome result (λ row. row.count ≡ length self.now.table.rows) }
     {
         match self.place() {
             Some(r) => Some(Row::new(self.table.table(), r, self.recno(), self.table.count())),

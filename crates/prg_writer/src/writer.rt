@@ -363,11 +363,21 @@ impl Writer {
         Ok(())
     }
 
-    /// Nothing yet but this copy, of which nothing is written.
+    /// Nothing yet but this copy, of which nothing is written, and the procedures that calls may name.
     pub fn new(alloc: Global, work: Work, procedures: NamedProcedures) -> Writer
+        ensures out { result.out ≡ record {
+          pool = [];
+          lists = [];
+          filters = [];
+          slots = 0;
+          highest = 0;
+          century = false;
+        } }
         ensures work { result.work ≡ work }
         ensures copies { result.copies.items ≡ [] }
+        ensures procedures { result.procedures ≡ procedures }
         ensures active { result.active.items ≡ [] }
+        ensures heads { result.heads.items ≡ [] }
         ensures listed { result.listed ≡ None }
     {
         Writer {

@@ -543,14 +543,18 @@ impl<K: KeyList> Store<K> {
         self.tables[self.place(area)].field(f)
     }
 
-    /// The current record of an area, 1 to 10, which is open, as a row; none at its end of file.
+    /// The current record of an area, 1 to 10, which is open, as a row with that record's number and the count of the
+    /// table's records; none at its end of file.
     pub fn row(&self, area: u8) -> Option<Row<'_>>
         requires first { 1 ≤ area }
         requires last { area ≤ 10 }
         requires open { IsSome (area_table self.now area) }
-        ensures { IfSome (area_table self.now area) (λ o. MatchOption result
+        ensures row { IfSome (area_table self.now area) (λ o. MatchOption result
             (place_in (length o.table.rows) o.pointer ≡ None)
             (λ row. (row.structure ≡ o.table.structure) × (row.row ≡ current_row o))) }
+        ensures number { IfSome (area_table self.now area) (λ o. IfSome result (λ row. Some row.number ≡ o.pointer)) }
+        ensures count { IfSome (area_table self.now area)
+            (λ o. IfSome result (λ row. row.count ≡ length o.table.rows)) }
     {
         self.tables[self.place(area)].row()
     }
